@@ -1,0 +1,5 @@
+use Rattle.jc_rules.proofs.Network.{one_after}
+use Rattle.jc_rules.proofs.laws.one_after.Goals as goal
+
+pub returns : goal.returns
+returns c = one_after

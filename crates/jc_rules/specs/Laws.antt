@@ -1,0 +1,57 @@
+-- What the definitions promise by themselves.
+use Rattle.std.specs.Prelude.{◌≡◌, ℕ, List, [], ◌∷◌, not, ◌||◌, ◌&&◌}
+use Rattle.std.specs.Cmp.{IsTotalOrder}
+use Rattle.std.specs.declared.cmp.Ordering.{Ordering}
+use Rattle.std.specs.declared.cmp.Ordering.TheVariants.{Equal}
+use Rattle.jc_rules.specs.declared.id.Id.{Id}
+use Rattle.jc_rules.specs.declared.operation.Event.{Event}
+use Rattle.jc_rules.specs.declared.rule.Rule.{Rule}
+use Rattle.jc_rules.specs.declared.refusal.Refusal.{Refusal}
+use Rattle.jc_rules.specs.Order.{id_cmp, name_cmp, key_cmp, same_id}
+use Rattle.jc_rules.specs.Ids.{AreRising, has_id, with_id, union, without}
+use Rattle.jc_rules.specs.RuleNames.{rule_name}
+use Rattle.jc_rules.specs.Refusals.{number_of}
+use Rattle.jc_rules.specs.State.{State}
+use Rattle.jc_rules.specs.Derivation.{Derivation, conclusion, asked}
+use Rattle.jc_rules.specs.Table.{Holds}
+use Rattle.jc_rules.specs.Step.{Step, After}
+
+-- Two derivations that hold and answer one question are one.
+abbrev pub OneDerivation : Type 0
+OneDerivation = (d e : Derivation) → Holds d → Holds e → asked (conclusion d) ≡ asked (conclusion e) → d ≡ e
+
+-- An event leads a network to one network at most, by one trace.
+abbrev pub OneStep : Type 0
+OneStep =
+    (network : List State) (event : Event) (new other : List State) (rows other_rows : List (Rule × ℕ))
+    → Step network event new rows → Step network event other other_rows → (new ≡ other) × (rows ≡ other_rows)
+
+-- The same events lead a network to one network at most.
+abbrev pub OneAfter : Type 0
+OneAfter = (network : List State) (events : List Event) (last other : List State) → After network events last → After network events other → last ≡ other
+
+-- an order that tells different keys apart
+pub record IsExactOrder {K : Type 0} (R : K → K → Ordering) : Type 0 where
+  pub total : IsTotalOrder R
+  pub exact : (j k : K) → R j k ≡ Equal → j ≡ k
+
+pub record AreExactOrders : Type 0 where
+  pub ids : IsExactOrder id_cmp
+  pub names : IsExactOrder name_cmp
+  pub keys : IsExactOrder key_cmp
+
+-- The rising lists that sets of identifiers are kept as: what is in them, that they rise, and that equal members make equal lists.
+pub record AreSets : Type 0 where
+  pub with_one : (k i : Id) (s : List Id) → has_id k (with_id i s) ≡ same_id k i || has_id k s
+  pub in_either : (k : Id) (s t : List Id) → has_id k (union s t) ≡ has_id k s || has_id k t
+  pub in_first : (k : Id) (s t : List Id) → has_id k (without s t) ≡ has_id k s && not (has_id k t)
+  pub with_rises : (i : Id) (s : List Id) → AreRising s → AreRising (with_id i s)
+  pub union_rises : (s t : List Id) → AreRising (union s t)
+  pub without_rises : (s t : List Id) → AreRising s → AreRising (without s t)
+  pub extensional : (s t : List Id) → AreRising s → AreRising t → ((k : Id) → has_id k s ≡ has_id k t) → s ≡ t
+
+abbrev pub NamesDiffer : Type 0
+NamesDiffer = (r s : Rule) → rule_name r ≡ rule_name s → r ≡ s
+
+abbrev pub NumbersDiffer : Type 0
+NumbersDiffer = (r s : Refusal) → number_of r ≡ number_of s → r ≡ s

@@ -1,0 +1,17 @@
+pub mod Order
+pub mod Entries
+pub mod Ids
+pub mod Context
+pub mod Places
+pub mod Shape
+pub mod Syntax
+pub mod State
+pub mod Derivation
+pub mod Table
+pub mod Trace
+pub mod Derives
+pub mod Step
+pub mod Sound
+pub mod RuleNames
+pub mod Refusals
+pub mod Laws

@@ -1,0 +1,65 @@
+-- The refusals: the number and the name of each.
+use Rattle.std.specs.Prelude.{ℕ, List, codes}
+use Rattle.jc_rules.specs.declared.refusal.Refusal.{Refusal}
+use Rattle.jc_rules.specs.declared.refusal.Refusal.TheVariants as F
+
+abbrev pub row_of : Refusal → ℕ × List ℕ
+row_of F.BadByte = (1, codes "BadByte")
+row_of F.OpenString = (2, codes "OpenString")
+row_of F.BadEscape = (3, codes "BadEscape")
+row_of F.LoneSurrogate = (4, codes "LoneSurrogate")
+row_of F.BadNumber = (5, codes "BadNumber")
+row_of F.TextTooLong = (6, codes "TextTooLong")
+row_of F.Unexpected = (7, codes "Unexpected")
+row_of F.EndOfText = (8, codes "EndOfText")
+row_of F.IndexTooLarge = (9, codes "IndexTooLarge")
+row_of F.ReservedName = (10, codes "ReservedName")
+row_of F.TooManyCommands = (11, codes "TooManyCommands")
+row_of F.TooLongExpression = (12, codes "TooLongExpression")
+row_of F.NotUtf8 = (13, codes "NotUtf8")
+row_of F.NoHeader = (14, codes "NoHeader")
+row_of F.SameName = (15, codes "SameName")
+row_of F.NoReplica = (16, codes "NoReplica")
+row_of F.TooManyReplicas = (17, codes "TooManyReplicas")
+row_of F.UnknownReplica = (18, codes "UnknownReplica")
+row_of F.TooManyEvents = (19, codes "TooManyEvents")
+row_of F.NotInList = (20, codes "NotInList")
+row_of F.UnboundVariable = (22, codes "UnboundVariable")
+row_of F.GetOnHead = (23, codes "GetOnHead")
+row_of F.NotACursor = (24, codes "NotACursor")
+row_of F.NoSuchNode = (25, codes "NoSuchNode")
+row_of F.PastEnd = (26, codes "PastEnd")
+row_of F.NoMap = (27, codes "NoMap")
+row_of F.NoRegister = (28, codes "NoRegister")
+row_of F.TooDeep = (29, codes "TooDeep")
+row_of F.NoCommand = (30, codes "NoCommand")
+row_of F.AtYield = (31, codes "AtYield")
+row_of F.NotAtYield = (32, codes "NotAtYield")
+row_of F.NotActed = (33, codes "NotActed")
+row_of F.NotReceived = (34, codes "NotReceived")
+row_of F.AlreadyApplied = (35, codes "AlreadyApplied")
+row_of F.DepsMissing = (36, codes "DepsMissing")
+row_of F.NoSuchReplica = (37, codes "NoSuchReplica")
+row_of F.Full = (38, codes "Full")
+row_of F.NoPasses = (40, codes "NoPasses")
+row_of F.TooManyTakes = (41, codes "TooManyTakes")
+row_of F.Spent = (42, codes "Spent")
+row_of F.MissingPass = (43, codes "MissingPass")
+row_of F.GateCount = (45, codes "GateCount")
+row_of F.LimitTooLarge = (46, codes "LimitTooLarge")
+row_of F.NoThread = (47, codes "NoThread")
+row_of F.AtStart = (50, codes "AtStart")
+row_of F.AtEnd = (51, codes "AtEnd")
+row_of F.PastSchedule = (52, codes "PastSchedule")
+row_of F.NoSuchBreak = (53, codes "NoSuchBreak")
+row_of F.TooManyBreaks = (54, codes "TooManyBreaks")
+row_of F.ReadFailed = (55, codes "ReadFailed")
+row_of F.WriteFailed = (56, codes "WriteFailed")
+row_of F.TooManyLines = (57, codes "TooManyLines")
+row_of F.BadLine = (58, codes "BadLine")
+
+abbrev pub number_of : Refusal → ℕ
+number_of refusal = (row_of refusal).0
+
+abbrev pub name_of : Refusal → List ℕ
+name_of refusal = (row_of refusal).1

@@ -1,0 +1,29 @@
+//! The rules of the JSON CRDT: one table, what it speaks of, and the small types that every layer shares.
+#![tactic(auto)]
+
+mod id;
+mod id_set;
+mod key;
+mod operation;
+mod path;
+mod refusal;
+mod rule;
+mod text;
+mod trace;
+mod value;
+
+pub mod laws;
+
+pub use id::Id;
+pub use id_set::IdSet;
+pub use key::{Key, Next, Tagged, compare_ids, compare_keys};
+pub use operation::{Cursor, Event, Mutation, Op};
+pub use path::Path;
+pub use refusal::Refusal;
+pub use rule::Rule;
+pub use text::Text;
+pub use trace::{Trace, TraceMark};
+pub use value::Value;
+
+#[cfg(test)]
+mod tests;
