@@ -44,7 +44,6 @@ two ps qs q r x y q2 r2 x2 y2 e f s t = rw (e, f) (s, λ p. (t (cc), λ _. tt))
 three : (ps qs : List Judgement) (q r : Question) (x y : Answer) (q2 r2 : Question) (x2 y2 : Answer) (q3 r3 : Question) (x3 y3 : Answer) → ps ≡ gives q x ∷ gives q2 x2 ∷ gives q3 x3 ∷ [] → qs ≡ gives r y ∷ gives r2 y2 ∷ gives r3 y3 ∷ [] → q ≡ r → (x ≡ y → q2 ≡ r2) → (x ≡ y → x2 ≡ y2 → q3 ≡ r3) → Matched ps qs
 three ps qs q r x y q2 r2 x2 y2 q3 r3 x3 y3 e f s t u = rw (e, f) (s, λ p. (t (cc), λ p2. (u (cc) (cc), λ _. tt)))
 
-
 -- two uses of one rule for one question
 pub same_answer : (r : Rule) (q : Question) (a b : Answer) (ps qs : List Judgement) → Follows r q a ps → Follows r q b qs → Same a b ps qs
 same_answer R.Exec (Occur A (E.Exec p) _) a b ps qs (x0, x1, x2, x3, x4, x5, x6) (y0, y1, y2, y3, y4, y5, y6) = (one _ _ _ _ _ _ x5 y5 (cc), λ p. cc)
@@ -280,4 +279,3 @@ mutual
   same_premises (premise d ps) (premise e qs) h k m =
       let first : d ≡ e = same_derivation d e h.0 k.0 m.0 in
       λ i. premise (first i) (same_premises ps qs h.1 k.1 (m.1 (ap conclusion first)) i)
-

@@ -6,3 +6,5 @@ pub mod Ids
 pub mod Determined
 pub mod Listed
 pub mod Network
+pub mod Steps
+pub mod Shown

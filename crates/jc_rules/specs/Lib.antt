@@ -15,3 +15,4 @@ pub mod Sound
 pub mod RuleNames
 pub mod Refusals
 pub mod Laws
+pub mod Worked

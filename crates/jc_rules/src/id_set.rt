@@ -2,7 +2,7 @@
 
 ghost use Rattle.std.specs.Prelude.{◌≡◌, ◌↔◌, [], IfOk, OnOk, OnErr, IsTrue};
 ghost use Rattle.std.specs.List.{list_all};
-ghost use Rattle.jc_rules.specs.Ids.{has_id, with_id, greatest, AreIn};
+ghost use Rattle.jc_rules.specs.Ids.{has_id, with_id, greatest, AreIn, AreRising};
 
 use crate::id::Id;
 use std::alloc::{AllocError, Global};
@@ -48,10 +48,7 @@ impl IdSet {
         ensures ok { OnOk result (self.new ≡ with_id id self.old) }
         ensures err { OnErr result (self.new ≡ self.old) }
     {
-        if let Err(place) = self.ids.binary_search(&id) {
-            self.ids.insert(place, id)?;
-        }
-        Ok(())
+        insert_id(&mut self.ids, id)
     }
 
     /// Whether each identifier of this set is in the other one.
@@ -79,6 +76,20 @@ impl IdSet {
             ids: self.ids.clone()?,
         })
     }
+}
+
+/// Adds the identifier to a rising list, if it isn't there already. After a refusal the list is as it
+/// was.
+pub fn insert_id(ids: &mut Vec<Id>, id: Id) -> Result<(), AllocError>
+    requires { AreRising ids.old.items }
+    ensures ok { OnOk result (ids.new.items ≡ with_id id ids.old.items) }
+    ensures err { OnErr result (ids.new.items ≡ ids.old.items) }
+    ensures rises { AreRising ids.new.items }
+{
+    if let Err(place) = ids.binary_search(&id) {
+        ids.insert(place, id)?;
+    }
+    Ok(())
 }
 
 fn are_in(ids: &[Id], set: &IdSet) -> bool

@@ -4,6 +4,7 @@
 mod id;
 mod id_set;
 mod key;
+pub mod laws;
 mod operation;
 mod path;
 mod refusal;
@@ -11,11 +12,10 @@ mod rule;
 mod text;
 mod trace;
 mod value;
-
-pub mod laws;
+pub mod worked;
 
 pub use id::Id;
-pub use id_set::IdSet;
+pub use id_set::{IdSet, insert_id};
 pub use key::{Key, Next, Tagged, compare_ids, compare_keys};
 pub use operation::{Cursor, Event, Mutation, Op};
 pub use path::Path;

@@ -10,9 +10,9 @@ pub loop-refusal-preserved : goal.loop-refusal-preserved
 loop-refusal-preserved c =
     below_more _ _ c.loop-refusal.invariant
     (λ r e same.
-        let here : get_or REFUSALS c.loop-refusal.refusal-index R.BadByte ≡ r = ap (λ i. get_or REFUSALS i R.BadByte) (sym e) ∙ refusal_at r R.BadByte in
-        let value : c.number.result ≡ number_of (get_or REFUSALS c.loop-refusal.refusal-index R.BadByte) = c.number.ensures in
-        c.if-number.false (value ∙ (ap number_of here ∙ same)))
+    let here : get_or REFUSALS c.loop-refusal.refusal-index R.BadByte ≡ r = ap (λ i. get_or REFUSALS i R.BadByte) (sym e) ∙ refusal_at r R.BadByte in
+    let value : c.number.result ≡ number_of (get_or REFUSALS c.loop-refusal.refusal-index R.BadByte) = c.number.ensures in
+    c.if-number.false (value ∙ (ap number_of here ∙ same)))
 
 pub returns-clause-unknown : goal.returns-clause-unknown
 returns-clause-unknown c = λ r same. c.loop-refusal.invariant (refusal_place r) (omega (arith, refusal_within r)) r refl same

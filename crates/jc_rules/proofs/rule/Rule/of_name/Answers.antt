@@ -16,9 +16,9 @@ pub loop-rule-preserved : goal.loop-rule-preserved
 loop-rule-preserved c =
     below_more _ _ c.loop-rule.invariant
     (λ r e same.
-        let here : get_or RULES c.loop-rule.rule-index R.Exec ≡ r = ap (λ i. get_or RULES i R.Exec) (sym e) ∙ rule_at r R.Exec in
-        let value : c.name.result.now ≡ rule_name (get_or RULES c.loop-rule.rule-index R.Exec) = c.name.ensures in
-        differ c.name.result.now c.args.name.now (sym c.eq.ensures ∙ c.if-eq.false) (value ∙ (ap rule_name here ∙ same)))
+    let here : get_or RULES c.loop-rule.rule-index R.Exec ≡ r = ap (λ i. get_or RULES i R.Exec) (sym e) ∙ rule_at r R.Exec in
+    let value : c.name.result.now ≡ rule_name (get_or RULES c.loop-rule.rule-index R.Exec) = c.name.ensures in
+    differ c.name.result.now c.args.name.now (sym c.eq.ensures ∙ c.if-eq.false) (value ∙ (ap rule_name here ∙ same)))
 
 pub returns-clause-unknown : goal.returns-clause-unknown
 returns-clause-unknown c = λ r same. c.loop-rule.invariant (rule_place r) (omega (arith, rule_within r)) r refl same
