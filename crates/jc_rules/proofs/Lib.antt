@@ -8,3 +8,5 @@ pub mod Listed
 pub mod Network
 pub mod Steps
 pub mod Shown
+pub mod Fronts
+pub mod Wrote

@@ -29,6 +29,7 @@ use Rattle.jc_rules.specs.Derivation.{Question, Occur, Run, Evaluate, SelectInde
 use Rattle.jc_rules.specs.Table.{Holds, AllHold, Follows, cursor, moved, IsEmptyIds, IsBefore, bind, kept, least_left, names_in, op_of, with_op, both, after}
 use Rattle.jc_rules.specs.Step.{replica_of, read_by, After}
 use Rattle.jc_rules.specs.Worked.{IsWorked}
+pub mod Stuck
 
 -- a derivation of the answer, with these rows from the depth on
 pub record Shown (n : ℕ) (q : Question) (a : Answer) (rows : List (Rule × ℕ)) : Type 0 where

@@ -16,3 +16,5 @@ pub mod RuleNames
 pub mod Refusals
 pub mod Laws
 pub mod Worked
+pub mod Told
+pub mod Fakes

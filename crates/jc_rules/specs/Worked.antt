@@ -15,6 +15,7 @@ pub mod Lists
 pub mod Inserts
 pub mod Deletions
 pub mod Schedules
+pub mod Stuck
 
 -- In the first state the event, which reads these operations, has a derivation that leads to the second state and whose trace is these rows.
 pub record IsWorked (before : State) (event : Event) (read : List Op) (after : State) (rows : List (Rule × ℕ)) : Type 0 where

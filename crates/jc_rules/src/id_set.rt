@@ -68,6 +68,14 @@ impl IdSet {
         }
     }
 
+    /// The identifiers, rising.
+    pub fn as_slice(&self) -> &[Id]
+        ensures value { result.now ≡ self.now }
+        ensures rises { AreRising result.now }
+    {
+        self.ids.as_slice()
+    }
+
     /// The same set once more.
     pub fn copy(&self) -> Result<Self, AllocError>
         ensures { IfOk result (λ set. set ≡ self.now) }

@@ -1,8 +1,10 @@
 //! The rules of the JSON CRDT: one table, what it speaks of, and the small types that every layer shares.
 #![tactic(auto)]
 
+pub mod fakes;
 mod id;
 mod id_set;
+pub mod io;
 mod key;
 pub mod laws;
 mod operation;

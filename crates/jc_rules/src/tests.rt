@@ -100,6 +100,7 @@ fn sets(rt: HostRuntime) -> Result<(), Fail> {
     assert!(rt; !set.contains(id(1, 0)) && !smaller.contains(id(2, 0)));
     assert!(rt; smaller.is_subset(&set) && !set.is_subset(&smaller));
     assert_eq!(rt; set.greatest(), 2);
+    assert_eq!(rt; set.as_slice(), [id(1, 5), id(2, 0), id(2, 1)].as_slice());
     let mut list = Vec::new(rt.alloc());
     insert_id(&mut list, id(2, 0))?;
     insert_id(&mut list, id(1, 1))?;

@@ -1,10 +1,11 @@
-//! Worked derivations, as laws. Each function does nothing: its contract is one event with the states before and after and its trace, or a whole schedule with the states at its start and its end.
+//! Worked derivations, as laws. Each function does nothing: its contract is one event with the states before and after and its trace, an event that has no derivation, or a whole schedule with the states at its start and its end.
 
 ghost use Rattle.jc_rules.specs.Worked.Registers.{FirstAssignment, KeysOfDocument, ValuesOfRegister, VariableGoesOn, RegisterDeleted, LaterAssignment};
-ghost use Rattle.jc_rules.specs.Worked.Maps.{FirstMap, AssignmentOverMap, MapOverAssignment, ValuesUnderMap, KeysOfInnerMap};
-ghost use Rattle.jc_rules.specs.Worked.Lists.{FirstList, InsertAtHead, InsertAfterElement, DeleteElement, IndexPastTombstone};
-ghost use Rattle.jc_rules.specs.Worked.Inserts.{SendsMade, YieldEnds, ReceivesOffered, AppliesReceived, ConcurrentInsert, InsertBeforeLesser};
+ghost use Rattle.jc_rules.specs.Worked.Maps.{FirstMap, AssignmentOverMap, MapOverAssignment, ValuesUnderMap, KeysOfInnerMap, MapOfTwoDeleted};
+ghost use Rattle.jc_rules.specs.Worked.Lists.{FirstList, InsertAtHead, InsertAfterElement, DeleteElement, IndexPastTombstone, WholeListDeleted};
+ghost use Rattle.jc_rules.specs.Worked.Inserts.{SendsMade, YieldEnds, ReceivesOffered, AppliesReceived, ConcurrentInsert, InsertBeforeLesser, InsertLater};
 ghost use Rattle.jc_rules.specs.Worked.Deletions.{MapDeletion, AssignmentInDeletedMap, ListDeletion, ListAfterDeletion};
+ghost use Rattle.jc_rules.specs.Worked.Stuck.{SendBeforeYield, RunAtYield, DoneTooEarly, ApplyTwice, ApplyUnreceived, RunPastScript, DonePastScript, DependencyMissing, IndexInNothing, IndexInMap, IndexPastEnd, VariableUnbound, KeysOfNothing, ValuesOfNothing, InsertInNothing, AssignmentToNames, KeyOfHead, KeyTooDeep};
 ghost use Rattle.jc_rules.specs.Worked.Schedules.{InsertsMeet, MapDeletionMeets, ListDeletionMeets};
 
 /// One assignment on a fresh replica.
@@ -62,6 +63,11 @@ pub fn keys_of_inner_map()
     ensures { KeysOfInnerMap }
 {}
 
+/// A map with two keys is deleted: the lesser key is cleared first.
+pub fn map_of_two_deleted()
+    ensures { MapOfTwoDeleted }
+{}
+
 /// A list assigned as the whole document.
 pub fn first_list()
     ensures { FirstList }
@@ -85,6 +91,11 @@ pub fn delete_element()
 /// A variable bound past a deleted element.
 pub fn index_past_tombstone()
     ensures { IndexPastTombstone }
+{}
+
+/// A whole list is deleted: its head and its elements are cleared along the links.
+pub fn whole_list_deleted()
+    ensures { WholeListDeleted }
 {}
 
 /// A replica offers what it has made.
@@ -127,6 +138,11 @@ pub fn assignment_in_deleted_map()
     ensures { AssignmentInDeletedMap }
 {}
 
+/// An insert made after one of another replica was applied: it comes before that one.
+pub fn insert_later()
+    ensures { InsertLater }
+{}
+
 /// A list is deleted elsewhere, by a replica that hadn't seen it: it stays.
 pub fn list_deletion()
     ensures { ListDeletion }
@@ -150,4 +166,94 @@ pub fn map_deletion_meets()
 /// A key is deleted by one replica while the other assigns a list there.
 pub fn list_deletion_meets()
     ensures { ListDeletionMeets }
+{}
+
+/// Stuck: a send where the next command is no yield.
+pub fn send_before_yield()
+    ensures { SendBeforeYield }
+{}
+
+/// Stuck: a command is to run where the next one is a yield.
+pub fn run_at_yield()
+    ensures { RunAtYield }
+{}
+
+/// Stuck: a yield is to end before any of its events.
+pub fn done_too_early()
+    ensures { DoneTooEarly }
+{}
+
+/// Stuck: an operation is to be applied again.
+pub fn apply_twice()
+    ensures { ApplyTwice }
+{}
+
+/// Stuck: an operation is to be applied that was not received.
+pub fn apply_unreceived()
+    ensures { ApplyUnreceived }
+{}
+
+/// Stuck: a command is to run after the last one.
+pub fn run_past_script()
+    ensures { RunPastScript }
+{}
+
+/// Stuck: a yield is to end after the last command.
+pub fn done_past_script()
+    ensures { DonePastScript }
+{}
+
+/// Stuck: an operation is to be applied before one that it depends on.
+pub fn dependency_missing()
+    ensures { DependencyMissing }
+{}
+
+/// Stuck: an index where there is nothing yet.
+pub fn index_in_nothing()
+    ensures { IndexInNothing }
+{}
+
+/// Stuck: an index under a key that has nothing.
+pub fn index_in_map()
+    ensures { IndexInMap }
+{}
+
+/// Stuck: an index past the end of a list.
+pub fn index_past_end()
+    ensures { IndexPastEnd }
+{}
+
+/// Stuck: a variable that is not bound.
+pub fn variable_unbound()
+    ensures { VariableUnbound }
+{}
+
+/// Stuck: the keys of a document without a map.
+pub fn keys_of_nothing()
+    ensures { KeysOfNothing }
+{}
+
+/// Stuck: the values of a document without a register.
+pub fn values_of_nothing()
+    ensures { ValuesOfNothing }
+{}
+
+/// Stuck: an insert after a key that is in no list.
+pub fn insert_in_nothing()
+    ensures { InsertInNothing }
+{}
+
+/// Stuck: an assignment to what is no cursor.
+pub fn assignment_to_names()
+    ensures { AssignmentToNames }
+{}
+
+/// Stuck: a key of a list's head.
+pub fn key_of_head()
+    ensures { KeyOfHead }
+{}
+
+/// Stuck: a key below a path of 512 keys.
+pub fn key_too_deep()
+    ensures { KeyTooDeep }
 {}

@@ -140,3 +140,31 @@ InsertBeforeLesser = IsWorked
     ∷ (R.Insert1, 3) ∷ (R.Assign, 4) ∷ (R.ClearNone, 5) ∷ (R.AddId1, 5) ∷ (R.Presence2, 6) ∷ (R.ChildReg, 5)
     ∷ (R.AddId1, 3) ∷ (R.Presence1, 4)
     ∷ (R.AddId1, 2) ∷ (R.Presence1, 3) ∷ [])
+
+-- a, had it applied b's insert before its own: its identifier is above each that it applied, so its element goes before b's
+abbrev pub insert_later : Op
+insert_later = record { id = by_a 3; deps = by_a 1 ∷ by_b 2 ∷ []; cursor = cursor (MapT Doc ∷ ListT key_l ∷ []) Head; mutation = M.Insert text_x }
+
+abbrev pub tree_later : Context
+tree_later = tree_of
+    (context no_child no_child
+    ((Elem (by_b 2), (by_b 2, text_y) ∷ []) ∷ (Elem (by_a 3), (by_a 3, text_x) ∷ []) ∷ [])
+    ((Elem (by_b 2), by_b 2 ∷ []) ∷ (Elem (by_a 3), by_a 3 ∷ []) ∷ [])
+    ((Head, To (by_a 3)) ∷ (Elem (by_b 2), Tail) ∷ (Elem (by_a 3), To (by_b 2)) ∷ []))
+    (by_a 1 ∷ by_b 2 ∷ by_a 3 ∷ [])
+
+abbrev pub a_applied : State
+a_applied = record a_went_on { tree = tree_of_y; ops = by_a 1 ∷ by_b 2 ∷ []; recv = insert_y ∷ [] }
+
+abbrev pub InsertLater : Type 0
+InsertLater = IsWorked
+    a_applied (E.Exec 0) []
+    (record a_applied { left = Yield ∷ []; tree = tree_later; ops = by_a 1 ∷ by_b 2 ∷ by_a 3 ∷ []; queue = make_list ∷ insert_later ∷ [] })
+    ((R.Exec, 0) ∷ (R.MakeInsert, 1)
+    ∷ (R.Idx1, 2) ∷ (R.Get, 3) ∷ (R.Doc, 4) ∷ (R.Idx2, 3) ∷ (R.Idx2, 4) ∷ (R.Idx5, 5)
+    ∷ (R.MakeOp, 2) ∷ (R.ApplyLocal, 3)
+    ∷ (R.Descend, 4) ∷ (R.ChildGet, 5)
+    ∷ (R.Descend, 5) ∷ (R.ChildGet, 6)
+    ∷ (R.Insert1, 6) ∷ (R.Assign, 7) ∷ (R.ClearNone, 8) ∷ (R.AddId1, 8) ∷ (R.Presence2, 9) ∷ (R.ChildReg, 8)
+    ∷ (R.AddId1, 6) ∷ (R.Presence1, 7)
+    ∷ (R.AddId1, 5) ∷ (R.Presence1, 6) ∷ [])

@@ -142,3 +142,35 @@ abbrev pub IndexPastTombstone : Type 0
 IndexPastTombstone = IsWorked after_4 (E.Exec 0) [] after_5
     ((R.Exec, 0) ∷ (R.Let, 1)
     ∷ (R.Idx1, 2) ∷ (R.Doc, 3) ∷ (R.Idx2, 3) ∷ (R.Idx4, 4) ∷ (R.Idx3, 5) ∷ (R.Idx5, 6) ∷ [])
+
+-- `doc.delete` in the place of `doc.idx(1).delete`
+abbrev pub delete_all : Op
+delete_all = record { id = by_a 4; deps = by_a 1 ∷ by_a 2 ∷ by_a 3 ∷ []; cursor = cursor [] Doc; mutation = M.Delete }
+
+abbrev pub tree_of_none : Context
+tree_of_none = context no_child
+    (child Doc (context no_child no_child
+    ((Elem (by_a 2), []) ∷ (Elem (by_a 3), []) ∷ [])
+    ((Head, []) ∷ (Elem (by_a 2), []) ∷ (Elem (by_a 3), []) ∷ [])
+    ((Head, To (by_a 2)) ∷ (Elem (by_a 2), To (by_a 3)) ∷ (Elem (by_a 3), Tail) ∷ [])) no_child)
+    [] ((Doc, []) ∷ []) []
+
+abbrev pub WholeListDeleted : Type 0
+WholeListDeleted = IsWorked
+    (record after_3 { left = DeleteAt TheDoc ∷ left_4 }) (E.Exec 0) []
+    (record after_4 { tree = tree_of_none; queue = make_list ∷ insert_x ∷ insert_y ∷ delete_all ∷ [] })
+    ((R.Exec, 0) ∷ (R.MakeDelete, 1)
+    ∷ (R.Doc, 2)
+    ∷ (R.MakeOp, 2) ∷ (R.ApplyLocal, 3)
+    ∷ (R.Delete, 4) ∷ (R.ClearElem, 5)
+    ∷ (R.ClearAny, 6) ∷ (R.ClearNone, 7)
+    ∷ (R.ClearList1, 7)
+    ∷ (R.ClearList2, 8)
+    ∷ (R.ClearElem, 9) ∷ (R.ClearAny, 10) ∷ (R.ClearNone, 11) ∷ (R.ClearNone, 11) ∷ (R.ClearNone, 11) ∷ (R.Presence2, 10)
+    ∷ (R.ClearList2, 9)
+    ∷ (R.ClearElem, 10) ∷ (R.ClearAny, 11) ∷ (R.ClearNone, 12) ∷ (R.ClearNone, 12) ∷ (R.ClearReg, 12) ∷ (R.Presence1, 11)
+    ∷ (R.ClearList2, 10)
+    ∷ (R.ClearElem, 11) ∷ (R.ClearAny, 12) ∷ (R.ClearNone, 13) ∷ (R.ClearNone, 13) ∷ (R.ClearReg, 13) ∷ (R.Presence1, 12)
+    ∷ (R.ClearList3, 11)
+    ∷ (R.ClearNone, 7)
+    ∷ (R.Presence1, 6) ∷ [])

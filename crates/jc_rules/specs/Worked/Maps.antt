@@ -11,7 +11,7 @@ use Rattle.jc_rules.specs.declared.rule.Rule.TheVariants as R
 use Rattle.jc_rules.specs.declared.value.Value.{Value}
 use Rattle.jc_rules.specs.declared.value.Value.TheVariants as V
 use Rattle.jc_rules.specs.Context.{Context, context, no_child, child, empty}
-use Rattle.jc_rules.specs.Syntax.{Cmd, TheDoc, GetKey, KeysOf, ValuesOf, LetIn, SetTo}
+use Rattle.jc_rules.specs.Syntax.{Cmd, TheDoc, GetKey, KeysOf, ValuesOf, LetIn, SetTo, DeleteAt}
 use Rattle.jc_rules.specs.State.{start, Names, Pairs}
 use Rattle.jc_rules.specs.Table.{cursor}
 use Rattle.jc_rules.specs.Worked.{IsWorked, by_a, alone}
@@ -128,3 +128,49 @@ KeysOfInnerMap = IsWorked
     (alone (LetIn (codes "s") (KeysOf (GetKey TheDoc (codes "m"))) ∷ []) [] tree_of_inner (by_a 1 ∷ []) (assign_inside ∷ [])) (E.Exec 0) []
     (alone [] ((codes "s", Names (codes "k" ∷ [])) ∷ []) tree_of_inner (by_a 1 ∷ []) (assign_inside ∷ []))
     ((R.Exec, 0) ∷ (R.Let, 1) ∷ (R.Keys1, 2) ∷ (R.Get, 3) ∷ (R.Doc, 4) ∷ (R.Keys3, 3) ∷ (R.Keys2, 4) ∷ [])
+
+-- A map under "m" with a map under "a" and 1 under "b", and `doc.get("m").delete`: the lesser key is cleared first.
+abbrev pub key_a : Key
+key_a = K.Name (codes "a")
+
+abbrev pub key_b : Key
+key_b = K.Name (codes "b")
+
+abbrev pub assign_a : Op
+assign_a = record { id = by_a 1; deps = []; cursor = cursor (MapT K.Doc ∷ MapT key_m ∷ []) key_a; mutation = M.Assign V.EmptyMap }
+
+abbrev pub assign_b : Op
+assign_b = record { id = by_a 2; deps = by_a 1 ∷ []; cursor = cursor (MapT K.Doc ∷ MapT key_m ∷ []) key_b; mutation = M.Assign one }
+
+abbrev pub delete_m : Op
+delete_m = record { id = by_a 3; deps = by_a 1 ∷ by_a 2 ∷ []; cursor = cursor (MapT K.Doc ∷ []) key_m; mutation = M.Delete }
+
+abbrev pub tree_of_two : Context
+tree_of_two = context
+    (child K.Doc (context (child key_m (context (child key_a empty no_child) no_child ((key_b, (by_a 2, one) ∷ []) ∷ []) ((key_a, by_a 1 ∷ []) ∷ (key_b, by_a 2 ∷ []) ∷ []) []) no_child) no_child [] ((key_m, by_a 1 ∷ by_a 2 ∷ []) ∷ []) []) no_child)
+    no_child [] ((K.Doc, by_a 1 ∷ by_a 2 ∷ []) ∷ []) []
+
+abbrev pub tree_of_none : Context
+tree_of_none = context
+    (child K.Doc (context (child key_m (context (child key_a empty no_child) no_child ((key_b, []) ∷ []) ((key_a, []) ∷ (key_b, []) ∷ []) []) no_child) no_child [] ((key_m, []) ∷ []) []) no_child)
+    no_child [] ((K.Doc, by_a 1 ∷ by_a 2 ∷ []) ∷ []) []
+
+abbrev pub MapOfTwoDeleted : Type 0
+MapOfTwoDeleted = IsWorked
+    (alone (DeleteAt (GetKey TheDoc (codes "m")) ∷ []) [] tree_of_two (by_a 1 ∷ by_a 2 ∷ []) (assign_a ∷ assign_b ∷ [])) (E.Exec 0) []
+    (alone [] [] tree_of_none (by_a 1 ∷ by_a 2 ∷ by_a 3 ∷ []) (assign_a ∷ assign_b ∷ delete_m ∷ []))
+    ((R.Exec, 0) ∷ (R.MakeDelete, 1)
+    ∷ (R.Get, 2) ∷ (R.Doc, 3)
+    ∷ (R.MakeOp, 2) ∷ (R.ApplyLocal, 3)
+    ∷ (R.Descend, 4) ∷ (R.ChildGet, 5)
+    ∷ (R.Delete, 5) ∷ (R.ClearElem, 6)
+    ∷ (R.ClearAny, 7)
+    ∷ (R.ClearMap1, 8)
+    ∷ (R.ClearMap2, 9)
+    ∷ (R.ClearElem, 10) ∷ (R.ClearAny, 11) ∷ (R.ClearMap1, 12) ∷ (R.ClearMap3, 13) ∷ (R.ClearNone, 12) ∷ (R.ClearNone, 12) ∷ (R.Presence1, 11)
+    ∷ (R.ClearMap2, 10)
+    ∷ (R.ClearElem, 11) ∷ (R.ClearAny, 12) ∷ (R.ClearNone, 13) ∷ (R.ClearNone, 13) ∷ (R.ClearReg, 13) ∷ (R.Presence1, 12)
+    ∷ (R.ClearMap3, 11)
+    ∷ (R.ClearNone, 8) ∷ (R.ClearNone, 8)
+    ∷ (R.Presence1, 7)
+    ∷ (R.AddId2, 5) ∷ [])
