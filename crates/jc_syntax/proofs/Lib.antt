@@ -1,0 +1,7 @@
+pub mod Bounds
+pub mod Contents
+pub mod Decoding
+pub mod Escapes
+pub mod Pieces
+pub mod Reading
+pub mod Tokens

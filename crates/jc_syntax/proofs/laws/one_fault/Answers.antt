@@ -1,0 +1,5 @@
+use Rattle.jc_syntax.proofs.Tokens as tokens
+use Rattle.jc_syntax.proofs.laws.one_fault.Goals as goal
+
+pub returns : goal.returns
+returns c = tokens.one_fault

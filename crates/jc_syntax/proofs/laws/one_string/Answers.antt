@@ -1,0 +1,5 @@
+use Rattle.jc_syntax.proofs.Pieces as pieces
+use Rattle.jc_syntax.proofs.laws.one_string.Goals as goal
+
+pub returns : goal.returns
+returns c = pieces.one_string

@@ -1,0 +1,27 @@
+use Rattle.std.proofs.Common.{◌<◌, ◌≤◌, length, arith}
+use Rattle.jc_syntax.proofs.Tokens.{tokens_more, lexeme_later, each_token}
+use Rattle.jc_syntax.proofs.lexer.lex.Goals as goal
+
+-- the token is the next lexeme
+pub tokens-preserved : goal.tokens-preserved
+tokens-preserved c =
+    let t = c.in_ok-token.token in
+    let is = c.in_ok-token.ensures.token in
+    let so_far = c.tokens.invariant in
+    let skipped = c.skip_blanks-at-in-tokens.ensures in (
+      skipped.within,
+      rw (c.in_ok-push.ensures.items, skipped.place) (tokens_more c.as_bytes-bytes.result.now 0 c.tokens.at t c.tokens.tokens.items so_far.1 is.0 c.tokens-test.true is.1),
+    )
+
+-- the token has at least one byte
+pub tokens-smaller : goal.tokens-smaller
+tokens-smaller c =
+    let t = c.in_ok-token.token in
+    let is = c.in_ok-token.ensures.token in
+    let inside : t.start < length c.as_bytes-bytes.result.now = omega (arith, is.0) in
+    omega (arith, is.0, lexeme_later c.as_bytes-bytes.result.now t inside is.1, c.skip_blanks-at-in-tokens.ensures.from)
+
+pub returns-clause-each : goal.returns-clause-each
+returns-clause-each c =
+    let room : length c.as_bytes-bytes.result.now ≤ 8388608 = omega (arith, c.if-bytes-gt-MAX_TEXT.false) in
+    rw c.as_bytes-bytes.ensures.value at (each_token c.as_bytes-bytes.result.now 0 c.tokens.at c.tokens.tokens.items room c.tokens.invariant.1)

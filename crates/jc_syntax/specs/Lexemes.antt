@@ -1,0 +1,119 @@
+-- What the tokens of a text are.
+use Rattle.std.specs.Prelude.{◌≡◌, ℕ, ◌+◌, ◌-◌, ◌<◌, ◌≤◌, ◌⊎◌, List, [], ◌∷◌, ◌&&◌, ◌==◌, if◌then◌else◌, length, drop, slice_index, slice_range, Option, Some, None}
+use Rattle.std.specs.List.{prefix_len}
+use Rattle.jc_syntax.specs.declared.token.Token.{Token}
+use Rattle.jc_syntax.specs.declared.token.TokenKind.{TokenKind}
+use Rattle.jc_syntax.specs.declared.token.TokenKind.TheVariants.{Name, Number, Str, Dot, ParenL, ParenR, BraceL, BraceR, BracketL, BracketR, Comma, Semi, Assign, Equals}
+use Rattle.jc_syntax.specs.declared.fault.LexFault.{LexFault}
+use Rattle.jc_syntax.specs.declared.fault.LexFault.TheVariants.{BadByte, BadNumber, TextTooLong}
+use Rattle.jc_syntax.specs.Bytes.{is_blank, is_name_start, is_name_byte, is_number_start, is_number_byte}
+use Rattle.jc_syntax.specs.Numbers.{IsNumber}
+use Rattle.jc_syntax.specs.Strings.{IsString, IsStringFault, spelled_from}
+
+-- the place after the blanks from a place on
+abbrev pub after_blanks : List ℕ → ℕ → ℕ
+after_blanks text at = at + prefix_len is_blank (drop at text)
+
+abbrev pub after_name : List ℕ → ℕ → ℕ
+after_name text at = at + prefix_len is_name_byte (drop at text)
+
+-- the place after the longest run of bytes that a number may have
+abbrev pub after_number_run : List ℕ → ℕ → ℕ
+after_number_run text at = at + prefix_len is_number_byte (drop at text)
+
+-- the kind of a token, by its first two bytes: 34 is `"`, 46 `.`, 40 `(`, 41 `)`, 123 `{`, 125 `}`, 91 `[`, 93 `]`, 44 `,`, 59 `;`, 61 `=` and 58 `:`
+abbrev pub kind_of : ℕ → ℕ → Option TokenKind
+kind_of b next =
+    if is_name_start b then Some Name
+    else (if is_number_start b then Some Number
+    else (if b == 34 then Some Str
+    else (if b == 46 then Some Dot
+    else (if b == 40 then Some ParenL
+    else (if b == 41 then Some ParenR
+    else (if b == 123 then Some BraceL
+    else (if b == 125 then Some BraceR
+    else (if b == 91 then Some BracketL
+    else (if b == 93 then Some BracketR
+    else (if b == 44 then Some Comma
+    else (if b == 59 then Some Semi
+    else (if b == 61 then Some Equals
+    else (if b == 58 && next == 61 then Some Assign
+    else None)))))))))))))
+
+abbrev pub kind_at : List ℕ → ℕ → Option TokenKind
+kind_at text at = kind_of (slice_index text at) (slice_index text (at + 1))
+
+-- how long a mark is, a token that has one form
+abbrev pub mark_len : TokenKind → ℕ
+mark_len Assign = 2
+mark_len kind = 1
+
+-- where a token of a kind that begins at `at` ends, and its size: its length, or that of what a string spells
+abbrev pub EndsAt : TokenKind → List ℕ → ℕ → ℕ → ℕ → Type 0
+EndsAt Name text at stop size = (stop ≡ after_name text at) × (stop ≡ at + size)
+EndsAt Number text at stop size = (stop ≡ after_number_run text at) × (stop ≡ at + size) × IsNumber (slice_range text at stop)
+EndsAt Str text at stop size = (content : List ℕ) × IsString text at stop content × (size ≡ length content)
+EndsAt kind text at stop size = (size ≡ mark_len kind) × (stop ≡ at + size)
+
+-- how large a token may be, which no mark comes near
+abbrev pub limit_of : TokenKind → ℕ
+limit_of Name = 255
+limit_of kind = 65535
+
+-- a token stands in the text, no larger than it may be
+pub record IsLexeme (text : List ℕ) (t : Token) : Type 0 where
+  pub size : ℕ
+  pub begins : kind_at text t.start ≡ Some t.kind
+  pub ends : EndsAt t.kind text t.start t.stop size
+  pub within : size ≤ limit_of t.kind
+
+-- what is wrong with a token of this kind, or with a byte that begins none
+abbrev pub IsMalformed : Option TokenKind → List ℕ → ℕ → LexFault → Type 0
+IsMalformed None text at fault = fault ≡ BadByte at
+IsMalformed (Some Number) text at fault = (¬ IsNumber (slice_range text at (after_number_run text at))) × (fault ≡ BadNumber at)
+IsMalformed (Some Str) text at fault = IsStringFault text at fault
+IsMalformed (Some kind) text at fault = ⊥
+
+-- what stands at a place is a well-formed token, and larger than it may be
+pub record IsTooLong (text : List ℕ) (at : ℕ) (fault : LexFault) : Type 0 where
+  pub kind : TokenKind
+  pub stop : ℕ
+  pub size : ℕ
+  pub begins : kind_at text at ≡ Some kind
+  pub ends : EndsAt kind text at stop size
+  pub beyond : limit_of kind < size
+  pub is : fault ≡ TextTooLong at
+
+-- the fault of what stands at a place
+abbrev pub IsLexFault : List ℕ → ℕ → LexFault → Type 0
+IsLexFault text at fault = IsMalformed (kind_at text at) text at fault ⊎ IsTooLong text at fault
+
+-- from a place on stand blanks and these tokens, up to another place, which is the text's end or a byte that is no blank
+abbrev pub AreTokens : List ℕ → ℕ → List Token → ℕ → Type 0
+AreTokens text at [] place = place ≡ after_blanks text at
+AreTokens text at (t ∷ ts) place = (t.start ≡ after_blanks text at) × (t.start < length text) × IsLexeme text t × AreTokens text t.stop ts place
+
+-- the tokens of a text
+abbrev pub AreTokensOf : List ℕ → List Token → Type 0
+AreTokensOf text ts = (length text ≤ 8388608) × (place : ℕ) × AreTokens text 0 ts place × (length text ≤ place)
+
+-- the fault of a text: that it is too long, else that of what stands after some of its tokens
+abbrev pub IsFaultOf : List ℕ → LexFault → Type 0
+IsFaultOf text fault =
+    ((8388608 < length text) × (fault ≡ TextTooLong 8388608))
+    ⊎ ((length text ≤ 8388608) × (ts : List Token) × (place : ℕ) × AreTokens text 0 ts place × (place < length text) × IsLexFault text place fault)
+
+-- a token that stands in a text, which is no longer than it may be
+abbrev pub IsTokenOf : List ℕ → Token → Type 0
+IsTokenOf text t = (length text ≤ 8388608) × IsLexeme text t
+
+abbrev pub IsStringToken : List ℕ → Token → Type 0
+IsStringToken text t = (t.kind ≡ Str) × IsTokenOf text t
+
+-- the bytes of a token
+abbrev pub bytes_of : List ℕ → Token → List ℕ
+bytes_of text t = slice_range text t.start t.stop
+
+-- what a string token spells
+unfoldable pub content_of : List ℕ → Token → List ℕ
+content_of text t = spelled_from (t.stop - t.start) text (t.start + 1)

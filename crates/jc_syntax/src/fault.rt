@@ -1,0 +1,82 @@
+//! Why a text has no list of tokens.
+
+ghost use Rattle.std.specs.Prelude.{◌≡◌};
+ghost use Rattle.jc_syntax.specs.declared.fault.LexFault.TheVariants.{Memory};
+ghost use Rattle.jc_syntax.specs.Faults.{number_of, place_of};
+
+use std::alloc::{AllocError, AllocFailed};
+use thiserror::Error;
+
+/// Why a text has no list of tokens. Places are byte numbers from 0.
+#[derive(Clone, Copy, Debug, PartialEq, Eq, Error)]
+pub enum LexFault {
+    /// A byte that begins no token, or a control byte inside a string.
+    #[error("BadByte at {place}")]
+    BadByte { place: usize },
+    /// A string without a closing quote; the place is its opening quote.
+    #[error("OpenString at {place}")]
+    OpenString { place: usize },
+    /// A backslash that begins no escape.
+    #[error("BadEscape at {place}")]
+    BadEscape { place: usize },
+    /// The escape of a surrogate that is no half of a pair; the place is its backslash.
+    #[error("LoneSurrogate at {place}")]
+    LoneSurrogate { place: usize },
+    /// What begins like a number and is no JSON number.
+    #[error("BadNumber at {place}")]
+    BadNumber { place: usize },
+    /// A text or a token that is longer than its limit; for a token the place is its start.
+    #[error("TextTooLong at {place}")]
+    TextTooLong { place: usize },
+    /// A request for memory was refused.
+    #[error("no memory")]
+    Memory,
+}
+
+impl LexFault {
+    /// The number of the refusal, from 1 to 6; want of memory has none.
+    pub fn number(&self) -> Option<u8>
+        ensures { result ≡ number_of self.now }
+    {
+        match self {
+            LexFault::BadByte { .. } => Some(1),
+            LexFault::OpenString { .. } => Some(2),
+            LexFault::BadEscape { .. } => Some(3),
+            LexFault::LoneSurrogate { .. } => Some(4),
+            LexFault::BadNumber { .. } => Some(5),
+            LexFault::TextTooLong { .. } => Some(6),
+            LexFault::Memory => None,
+        }
+    }
+
+    /// Where the fault stands in the text; want of memory stands nowhere.
+    pub fn place(&self) -> Option<usize>
+        ensures { result ≡ place_of self.now }
+    {
+        match self {
+            LexFault::BadByte { place }
+            | LexFault::OpenString { place }
+            | LexFault::BadEscape { place }
+            | LexFault::LoneSurrogate { place }
+            | LexFault::BadNumber { place }
+            | LexFault::TextTooLong { place } => Some(*place),
+            LexFault::Memory => None,
+        }
+    }
+}
+
+impl From<AllocError> for LexFault {
+    ghost from_gives = { λ _ e. e ≡ Memory };
+
+    fn from(_e: AllocError) -> LexFault {
+        LexFault::Memory
+    }
+}
+
+impl<T: Drop> From<AllocFailed<T>> for LexFault {
+    ghost from_gives = { λ _ e. e ≡ Memory };
+
+    fn from(_e: AllocFailed<T>) -> LexFault {
+        LexFault::Memory
+    }
+}

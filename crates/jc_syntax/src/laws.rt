@@ -1,0 +1,28 @@
+//! Laws of the definitions of tokens and faults: a text has one list of tokens or one fault, and not both.
+//! A string spells one content.
+
+ghost use Rattle.std.specs.Prelude.{◌≡◌, List, ℕ};
+ghost use Rattle.jc_syntax.specs.declared.fault.LexFault.{LexFault as AnyFault};
+ghost use Rattle.jc_syntax.specs.declared.token.Token.{Token as AnyToken};
+ghost use Rattle.jc_syntax.specs.Lexemes.{AreTokensOf, IsFaultOf};
+ghost use Rattle.jc_syntax.specs.Strings.{IsString};
+
+/// A text has at most one list of tokens.
+pub fn one_list_of_tokens()
+    ensures { (text : List ℕ) (ts us : List AnyToken) → AreTokensOf text ts → AreTokensOf text us → ts ≡ us }
+{}
+
+/// A text has at most one fault.
+pub fn one_fault()
+    ensures { (text : List ℕ) (e f : AnyFault) → IsFaultOf text e → IsFaultOf text f → e ≡ f }
+{}
+
+/// A text that has tokens has no fault.
+pub fn tokens_or_fault()
+    ensures { (text : List ℕ) (ts : List AnyToken) (e : AnyFault) → AreTokensOf text ts → IsFaultOf text e → ⊥ }
+{}
+
+/// The string that begins at a place ends at one place, and spells one content.
+pub fn one_string()
+    ensures { (text : List ℕ) (quote p q : ℕ) (c d : List ℕ) → IsString text quote p c → IsString text quote q d → (p ≡ q) × (c ≡ d) }
+{}

@@ -1,0 +1,111 @@
+//! From a text to its tokens.
+
+ghost use Rattle.std.specs.Prelude.{◌≡◌, ◌≢◌, ◌+◌, ◌<◌, ◌≤◌, length, All, IfOk, IfErr};
+ghost use Rattle.std.specs.List.{prefix_len};
+ghost use Rattle.jc_syntax.specs.Bytes as spec;
+ghost use Rattle.jc_syntax.specs.Lexemes.{after_blanks, kind_at, IsLexeme, IsTokenOf, IsLexFault, AreTokensOf, IsFaultOf};
+
+use crate::extent::{extent_of, is_name_start, limit_of};
+use crate::fault::LexFault;
+use crate::piece::byte_at;
+use crate::token::{Token, TokenKind};
+use std::alloc::Global;
+
+/// How many bytes a text may have.
+pub const MAX_TEXT: usize = 8388608;
+
+fn is_blank(byte: u8) -> bool
+    ensures { result ≡ spec.is_blank byte }
+{
+    byte == b' ' || byte == b'\t' || byte == b'\r' || byte == b'\n'
+}
+
+fn blank_run(bytes: &[u8]) -> usize
+    ensures run { result ≡ prefix_len spec.is_blank bytes.now }
+    ensures within { result ≤ length bytes.now }
+{
+    bytes.iter().take_while(|b| is_blank(**b)).count()
+}
+
+/// The place of the first byte from `at` on that is no blank, or the end.
+fn skip_blanks(bytes: &[u8], at: usize) -> usize
+    requires { at ≤ length bytes.now }
+    ensures place { result ≡ after_blanks bytes.now at }
+    ensures from { at ≤ result }
+    ensures within { result ≤ length bytes.now }
+{
+    at + blank_run(&bytes[at..])
+}
+
+/// The kind of the token that begins at `at`, if one does.
+fn kind_at(bytes: &[u8], at: usize) -> Option<TokenKind>
+    requires { at < length bytes.now }
+    ensures { result ≡ kind_at bytes.now at }
+{
+    Some(match bytes[at] {
+        byte if is_name_start(byte) => TokenKind::Name,
+        b'0'..=b'9' | b'-' => TokenKind::Number,
+        b'"' => TokenKind::Str,
+        b'.' => TokenKind::Dot,
+        b'(' => TokenKind::ParenL,
+        b')' => TokenKind::ParenR,
+        b'{' => TokenKind::BraceL,
+        b'}' => TokenKind::BraceR,
+        b'[' => TokenKind::BracketL,
+        b']' => TokenKind::BracketR,
+        b',' => TokenKind::Comma,
+        b';' => TokenKind::Semi,
+        b'=' => TokenKind::Equals,
+        b':' if byte_at(bytes, at + 1) == b'=' => TokenKind::Assign,
+        _ => return None,
+    })
+}
+
+/// The token that begins at `at`.
+fn token_at(bytes: &[u8], at: usize) -> Result<Token, LexFault>
+    requires inside { at < length bytes.now }
+    requires room { length bytes.now ≤ 8388608 }
+    ensures token { IfOk result (λ t. (t.start ≡ at) × IsLexeme bytes.now t) }
+    ensures inside { IfOk result (λ t. t.stop ≤ length bytes.now) }
+    ensures fault { IfErr result (IsLexFault bytes.now at) }
+{
+    let Some(kind) = kind_at(bytes, at) else {
+        return Err(LexFault::BadByte { place: at });
+    };
+    let extent = extent_of(kind, bytes, at)?;
+    if extent.size > limit_of(kind) {
+        return Err(LexFault::TextTooLong { place: at });
+    }
+    Ok(Token {
+        kind,
+        start: at,
+        stop: extent.stop,
+    })
+}
+
+/// The tokens of a text.
+///
+/// A text that has no tokens is refused with its fault: that it has more than 8,388,608 bytes, else
+/// that of its first token or stray byte that has one. In a string this is the first control byte, bad
+/// escape or lone surrogate from the left, else that the string is open, else that it spells more than
+/// 65,535 bytes; a number is no JSON number, or has more than 65,535 bytes; a name has more than 255.
+pub fn lex(alloc: Global, text: &str) -> Result<Vec<Token>, LexFault>
+    ensures tokens { IfOk result (λ v. AreTokensOf text.now v.items) }
+    ensures each { IfOk result (λ v. All (IsTokenOf text.now) v.items) }
+
+    // The fault is the text's, unless memory ran out.
+    ensures fault { IfErr result (λ e. e ≢ LexFault.Memory → IsFaultOf text.now e) }
+{
+    let bytes = text.as_bytes();
+    if bytes.len() > MAX_TEXT {
+        return Err(LexFault::TextTooLong { place: MAX_TEXT });
+    }
+    let mut tokens = Vec::new(alloc);
+    let mut at = skip_blanks(bytes, 0);
+    'tokens: while at < bytes.len() {
+        let token = token_at(bytes, at)?;
+        tokens.push(token)?;
+        at = skip_blanks(bytes, token.stop);
+    }
+    Ok(tokens)
+}

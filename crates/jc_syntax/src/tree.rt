@@ -1,0 +1,131 @@
+//! Trees of commands, expressions and events, as they are read.
+
+ghost use Rattle.std.specs.Prelude.{◌≡◌, IfOk};
+ghost use Rattle.jc_syntax.specs.Trees.{expr_of, cmd_of};
+
+use jc_rules::{Text, Value};
+use std::alloc::{AllocError, Global};
+
+/// An expression. Keys of `Get` are decoded.
+#[derive(Debug, Drop, PartialEq, Eq)]
+pub enum Expr {
+    /// `doc`
+    Doc,
+    /// A variable.
+    Var(Text),
+    /// `expr.get(key)`
+    Get(Box<Expr>, Text),
+    /// `expr.idx(i)`
+    Idx(Box<Expr>, u32),
+    /// `expr.keys`
+    Keys(Box<Expr>),
+    /// `expr.values`
+    Values(Box<Expr>),
+}
+
+/// A command.
+#[derive(Debug, Drop, PartialEq, Eq)]
+pub enum Cmd {
+    /// `let x = expr`
+    Let(Text, Expr),
+    /// `expr := value`
+    Set(Expr, Value),
+    /// `expr.insertAfter(value)`
+    InsertAfter(Expr, Value),
+    /// `expr.delete`
+    Delete(Expr),
+    /// `yield`
+    Yield,
+}
+
+/// The name of a replica, and where it stands in the text: a byte number from 0.
+#[derive(Debug, Drop, PartialEq, Eq)]
+pub struct Named {
+    pub name: Text,
+    pub place: usize,
+}
+
+/// An event, with names for its replicas. The first is the replica that acts.
+#[derive(Debug, Drop, PartialEq, Eq)]
+pub enum NamedEvent {
+    /// `p.exec`
+    Exec(Named),
+    /// `p.send`
+    Send(Named),
+    /// `p.recv(q)`
+    Recv(Named, Named),
+    /// `p.apply(counter, author)`, which names an identifier.
+    Apply {
+        replica: Named,
+        counter: u32,
+        author: Named,
+    },
+    /// `p.done`
+    Done(Named),
+}
+
+impl Expr {
+    /// The same expression once more.
+    pub fn copy(&self, alloc: Global) -> Result<Expr, AllocError>
+        ensures { IfOk result (λ e. expr_of e ≡ expr_of self.now) }
+    {
+        Ok(match self {
+            Expr::Doc => Expr::Doc,
+            Expr::Var(name) => Expr::Var(name.copy()?),
+            Expr::Get(from, key) => Expr::Get(Box::new(alloc, from.copy(alloc)?)?, key.copy()?),
+            Expr::Idx(from, index) => Expr::Idx(Box::new(alloc, from.copy(alloc)?)?, *index),
+            Expr::Keys(from) => Expr::Keys(Box::new(alloc, from.copy(alloc)?)?),
+            Expr::Values(from) => Expr::Values(Box::new(alloc, from.copy(alloc)?)?),
+        })
+    }
+}
+
+impl Cmd {
+    /// The same command once more.
+    pub fn copy(&self, alloc: Global) -> Result<Cmd, AllocError>
+        ensures { IfOk result (λ c. cmd_of c ≡ cmd_of self.now) }
+    {
+        Ok(match self {
+            Cmd::Let(name, expr) => Cmd::Let(name.copy()?, expr.copy(alloc)?),
+            Cmd::Set(expr, value) => Cmd::Set(expr.copy(alloc)?, value.copy()?),
+            Cmd::InsertAfter(expr, value) => Cmd::InsertAfter(expr.copy(alloc)?, value.copy()?),
+            Cmd::Delete(expr) => Cmd::Delete(expr.copy(alloc)?),
+            Cmd::Yield => Cmd::Yield,
+        })
+    }
+}
+
+impl Named {
+    /// The same name and place once more.
+    pub fn copy(&self) -> Result<Named, AllocError>
+        ensures { IfOk result (λ named. named ≡ self.now) }
+    {
+        Ok(Named {
+            name: self.name.copy()?,
+            place: self.place,
+        })
+    }
+}
+
+impl NamedEvent {
+    /// The same event once more.
+    pub fn copy(&self) -> Result<NamedEvent, AllocError>
+        ensures { IfOk result (λ event. event ≡ self.now) }
+    {
+        Ok(match self {
+            NamedEvent::Exec(p) => NamedEvent::Exec(p.copy()?),
+            NamedEvent::Send(p) => NamedEvent::Send(p.copy()?),
+            NamedEvent::Recv(p, q) => NamedEvent::Recv(p.copy()?, q.copy()?),
+            NamedEvent::Apply {
+                replica,
+                counter,
+                author,
+            } => NamedEvent::Apply {
+                replica: replica.copy()?,
+                counter: *counter,
+                author: author.copy()?,
+            },
+            NamedEvent::Done(p) => NamedEvent::Done(p.copy()?),
+        })
+    }
+}
