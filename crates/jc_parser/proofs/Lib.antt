@@ -1,0 +1,15 @@
+mod Exactly
+mod Excess
+mod Expressions
+mod Items
+mod Loops
+mod OneTree
+mod Readers
+mod Refused
+mod Resolved
+mod Scenarios
+mod Spelled
+mod SpelledLists
+mod SpelledScenarios
+mod SymbolTests
+mod Whole

@@ -1,0 +1,54 @@
+-- The number and the place of a fault.
+use Rattle.std.specs.Prelude.{ℕ, Option, Some, None}
+use Rattle.jc_syntax.specs.declared.fault.LexFault.{LexFault}
+use Rattle.jc_syntax.specs.declared.fault.LexFault.TheVariants as lexical
+use Rattle.jc_parser.specs.declared.fault.ScenarioFault.{ScenarioFault}
+use Rattle.jc_parser.specs.declared.fault.ScenarioFault.TheVariants.{BadByte, OpenString, BadEscape, LoneSurrogate, BadNumber, TextTooLong, Unexpected, EndOfText, ReservedName, TooManyCommands, TooLongExpression, NotUtf8, NoHeader, NoReplica, UnknownReplica, TooManyEvents, Memory}
+
+abbrev pub number_of : ScenarioFault → Option ℕ
+number_of (BadByte place) = Some 1
+number_of (OpenString place) = Some 2
+number_of (BadEscape place) = Some 3
+number_of (LoneSurrogate place) = Some 4
+number_of (BadNumber place) = Some 5
+number_of (TextTooLong place) = Some 6
+number_of (Unexpected place) = Some 7
+number_of (EndOfText place) = Some 8
+number_of (ReservedName place) = Some 10
+number_of (TooManyCommands place) = Some 11
+number_of (TooLongExpression place) = Some 12
+number_of (NotUtf8 place) = Some 13
+number_of (NoHeader place) = Some 14
+number_of (NoReplica place) = Some 16
+number_of (UnknownReplica place) = Some 18
+number_of (TooManyEvents place) = Some 19
+number_of Memory = None
+
+abbrev pub place_of : ScenarioFault → Option ℕ
+place_of (BadByte place) = Some place
+place_of (OpenString place) = Some place
+place_of (BadEscape place) = Some place
+place_of (LoneSurrogate place) = Some place
+place_of (BadNumber place) = Some place
+place_of (TextTooLong place) = Some place
+place_of (Unexpected place) = Some place
+place_of (EndOfText place) = Some place
+place_of (ReservedName place) = Some place
+place_of (TooManyCommands place) = Some place
+place_of (TooLongExpression place) = Some place
+place_of (NotUtf8 place) = Some place
+place_of (NoHeader place) = Some place
+place_of (NoReplica place) = Some place
+place_of (UnknownReplica place) = Some place
+place_of (TooManyEvents place) = Some place
+place_of Memory = None
+
+-- a lexical fault of a scenario's text
+abbrev pub from_lexer : LexFault → ScenarioFault
+from_lexer (lexical.BadByte place) = BadByte place
+from_lexer (lexical.OpenString place) = OpenString place
+from_lexer (lexical.BadEscape place) = BadEscape place
+from_lexer (lexical.LoneSurrogate place) = LoneSurrogate place
+from_lexer (lexical.BadNumber place) = BadNumber place
+from_lexer (lexical.TextTooLong place) = TextTooLong place
+from_lexer lexical.Memory = Memory

@@ -1,0 +1,242 @@
+//! The lexemes of a text that are left.
+
+ghost use Rattle.std.specs.Prelude.{◌≡◌, All, IfOk};
+ghost use Rattle.jc_syntax.specs.declared.token.TokenKind.TheVariants.{Number, Str};
+ghost use Rattle.jc_syntax.specs.Lexemes.{IsTokenOf};
+ghost use Rattle.jc_parser.specs.Reading.{Gives, reading, place, stuck, begins, has_kind, is_word, is_number, reserved, skip, take, named_at, is_at_end};
+ghost use Rattle.jc_parser.specs.Parts.{extra_selector};
+ghost use Rattle.jc_parser.specs.Grammar as grammar;
+
+use crate::fault::ScenarioFault;
+use jc_rules::Text;
+use jc_syntax::{Named, Token, TokenKind, slice_of, string_of};
+use std::alloc::{AllocError, Global};
+use std::marker::Model;
+
+/// The lexemes of a text that are left, from the first one on.
+#[derive(Drop)]
+pub(crate) struct Cursor<'a> {
+    text: &'a str,
+    tokens: &'a [Token],
+}
+
+impl<'a> Model for Cursor<'a> {
+    ghost use Rattle.std.specs.Prelude.{All};
+    ghost use Rattle.jc_syntax.specs.Lexemes.{IsTokenOf};
+    ghost use Rattle.jc_parser.specs.Reading.{Reading, reading};
+
+    ghost Value = { Reading };
+
+    ghost view = { λ c. reading c.text.now c.tokens.now };
+
+    ghost invariant = { λ c. All (IsTokenOf c.text.now) c.tokens.now };
+}
+
+impl<'a> Cursor<'a> {
+    pub(crate) fn new(text: &'a str, tokens: &'a [Token]) -> Cursor<'a>
+        requires { All (IsTokenOf text.now) tokens.now }
+        ensures { result ≡ reading text.now tokens.now }
+    {
+        Cursor { text, tokens }
+    }
+
+    /// Where the next token stands, or the text's end.
+    pub(crate) fn place(&self) -> usize
+        ensures { result ≡ place self.now }
+    {
+        match self.tokens {
+            [] => self.text.len(),
+            [first, ..] => first.start,
+        }
+    }
+
+    /// The fault that the next token fits nothing.
+    pub(crate) fn stuck(&self) -> ScenarioFault
+        ensures { result ≡ stuck self.now }
+    {
+        let place = self.place();
+        match self.tokens {
+            [] => ScenarioFault::EndOfText { place },
+            [_, ..] => ScenarioFault::Unexpected { place },
+        }
+    }
+
+    /// Whether no token is left.
+    pub(crate) fn is_at_end(&self) -> bool
+        ensures { result ≡ is_at_end self.now }
+    {
+        self.tokens.is_empty()
+    }
+
+    /// Whether a token of this kind comes next.
+    #[tactic(auto, using(crate::proofs::SymbolTests::kinds))]
+    pub(crate) fn begins(&self, kind: TokenKind) -> bool
+        ensures { result ≡ begins (has_kind kind) self.now }
+    {
+        match self.tokens {
+            [] => false,
+            [first, ..] => first.kind == kind,
+        }
+    }
+
+    /// Whether this word comes next.
+    #[tactic(auto, using(crate::proofs::SymbolTests::kinds))]
+    pub(crate) fn begins_word(&self, word: &str) -> bool
+        ensures { result ≡ begins (is_word word.now) self.now }
+    {
+        match self.tokens {
+            [first, ..] if first.kind == TokenKind::Name => slice_of(self.text, first) == word,
+            _ => false,
+        }
+    }
+
+    /// Whether this number comes next, spelled so.
+    #[tactic(auto, using(crate::proofs::SymbolTests::kinds))]
+    pub(crate) fn begins_number(&self, digits: &str) -> bool
+        ensures { result ≡ begins (is_number digits.now) self.now }
+    {
+        match self.tokens {
+            [first, ..] if first.kind == TokenKind::Number => slice_of(self.text, first) == digits,
+            _ => false,
+        }
+    }
+
+    /// Whether a reserved word comes next.
+    #[tactic(auto, using(crate::proofs::SymbolTests::kinds))]
+    pub(crate) fn begins_reserved(&self) -> bool
+        ensures { result ≡ begins reserved self.now }
+    {
+        match self.tokens {
+            [first, ..] if first.kind == TokenKind::Name => is_reserved(slice_of(self.text, first)),
+            _ => false,
+        }
+    }
+
+    /// The fault of a dot after as many selectors as there may be: its own, if a selector's word
+    /// follows it, else that of what follows.
+    pub(crate) fn extra_selector(&self) -> ScenarioFault
+        ensures { result ≡ extra_selector self.now }
+    {
+        match self.tokens {
+            [] => self.stuck(),
+            [dot, rest @ ..] => {
+                let after = Cursor::new(self.text, rest);
+                if after.begins_word("get") {
+                    ScenarioFault::TooLongExpression { place: dot.start }
+                } else {
+                    after.stuck()
+                }
+            }
+        }
+    }
+
+    /// Takes a token of this kind.
+    #[tactic(auto, unfolding(crate::specs::Reading::one), using(crate::proofs::SymbolTests::kinds))]
+    pub(crate) fn mark(&mut self, kind: TokenKind) -> Result<(), ScenarioFault>
+        ensures { Gives (λ _. (tt, self.new)) result (skip (has_kind kind) self.old) }
+    {
+        if !self.begins(kind) {
+            return Err(self.stuck());
+        }
+        self.tokens = &self.tokens[1..];
+        Ok(())
+    }
+
+    /// Takes this word.
+    #[tactic(auto, unfolding(crate::specs::Reading::one), using(crate::proofs::SymbolTests::kinds))]
+    pub(crate) fn word(&mut self, word: &str) -> Result<(), ScenarioFault>
+        ensures { Gives (λ _. (tt, self.new)) result (skip (is_word word.now) self.old) }
+    {
+        if !self.begins_word(word) {
+            return Err(self.stuck());
+        }
+        self.tokens = &self.tokens[1..];
+        Ok(())
+    }
+
+    /// Takes this number, spelled so.
+    #[tactic(auto, unfolding(crate::specs::Reading::one), using(crate::proofs::SymbolTests::kinds))]
+    pub(crate) fn digits(&mut self, digits: &str) -> Result<(), ScenarioFault>
+        ensures { Gives (λ _. (tt, self.new)) result (skip (is_number digits.now) self.old) }
+    {
+        if !self.begins_number(digits) {
+            return Err(self.stuck());
+        }
+        self.tokens = &self.tokens[1..];
+        Ok(())
+    }
+
+    /// Takes a string, and gives what it spells.
+    #[tactic(auto, unfolding(crate::specs::Reading::one), using(crate::proofs::SymbolTests::kinds))]
+    pub(crate) fn string(&mut self, alloc: Global) -> Result<Text, ScenarioFault>
+        ensures { Gives (λ t. (t, self.new)) result (take (has_kind Str) self.old) }
+    {
+        match self.tokens {
+            [first, rest @ ..] if first.kind == TokenKind::Str => {
+                let value = string_of(alloc, self.text, first)?;
+                self.tokens = rest;
+                Ok(value)
+            }
+            _ => Err(self.stuck()),
+        }
+    }
+
+    /// Takes a number, and gives its text.
+    #[tactic(auto, unfolding(crate::specs::Reading::one), using(crate::proofs::SymbolTests::kinds))]
+    pub(crate) fn number(&mut self, alloc: Global) -> Result<Text, ScenarioFault>
+        ensures { Gives (λ t. (t, self.new)) result (take (has_kind Number) self.old) }
+    {
+        match self.tokens {
+            [first, rest @ ..] if first.kind == TokenKind::Number => {
+                let value = text_of(alloc, slice_of(self.text, first))?;
+                self.tokens = rest;
+                Ok(value)
+            }
+            _ => Err(self.stuck()),
+        }
+    }
+
+    /// Takes a name, and gives it with its place.
+    #[tactic(auto, unfolding(crate::specs::Reading::one, crate::specs::Reading::named_at), using(crate::proofs::SymbolTests::kinds))]
+    pub(crate) fn name(&mut self, alloc: Global) -> Result<Named, ScenarioFault>
+        ensures { Gives (λ n. (n, self.new)) result (named_at self.old) }
+    {
+        match self.tokens {
+            [first, rest @ ..] if first.kind == TokenKind::Name => {
+                let name = text_of(alloc, slice_of(self.text, first))?;
+                let place = first.start;
+                self.tokens = rest;
+                Ok(Named { name, place })
+            }
+            _ => Err(self.stuck()),
+        }
+    }
+}
+
+/// A text of its own with the same bytes.
+fn text_of(alloc: Global, text: &str) -> Result<Text, AllocError>
+    ensures { IfOk result (λ t. t ≡ text.now) }
+{
+    Ok(Text::new(String::from_str(alloc, text)?))
+}
+
+/// Whether a name is one of the language's words.
+fn is_reserved(name: &str) -> bool
+    ensures { result ≡ grammar.is_reserved name.now }
+{
+    match name {
+        "let"
+        | "doc"
+        | "yield"
+        | "get"
+        | "idx"
+        | "keys"
+        | "values"
+        | "insertAfter"
+        | "delete"
+        | "true"
+        | "false"
+        | "null" => true,
+        _ => false,
+    }
+}

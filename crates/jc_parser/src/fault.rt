@@ -1,0 +1,149 @@
+//! Why a text is no scenario.
+
+ghost use Rattle.std.specs.Prelude.{◌≡◌};
+ghost use Rattle.jc_parser.specs.declared.fault.ScenarioFault.TheVariants.{Memory};
+ghost use Rattle.jc_parser.specs.Faults.{number_of, place_of, from_lexer};
+
+use jc_syntax::LexFault;
+use std::alloc::{AllocError, AllocFailed};
+use thiserror::Error;
+
+/// Why a text is no scenario. Places are byte numbers from 0.
+#[derive(Clone, Copy, Debug, PartialEq, Eq, Error)]
+pub enum ScenarioFault {
+    /// A byte that begins no token, or a control byte inside a string.
+    #[error("BadByte at {place}")]
+    BadByte { place: usize },
+    /// A string without a closing quote; the place is its opening quote.
+    #[error("OpenString at {place}")]
+    OpenString { place: usize },
+    /// A backslash that begins no escape.
+    #[error("BadEscape at {place}")]
+    BadEscape { place: usize },
+    /// The escape of a surrogate that is no half of a pair; the place is its backslash.
+    #[error("LoneSurrogate at {place}")]
+    LoneSurrogate { place: usize },
+    /// What begins like a number and is no JSON number.
+    #[error("BadNumber at {place}")]
+    BadNumber { place: usize },
+    /// A text or a token that is longer than its limit; for a token the place is its start.
+    #[error("TextTooLong at {place}")]
+    TextTooLong { place: usize },
+    /// A token that does not fit.
+    #[error("Unexpected at {place}")]
+    Unexpected { place: usize },
+    /// The text ends too early; the place is its length.
+    #[error("EndOfText at {place}")]
+    EndOfText { place: usize },
+    /// A reserved word where a name must stand.
+    #[error("ReservedName at {place}")]
+    ReservedName { place: usize },
+    /// A command past the limit of 65,536; the place is its first token.
+    #[error("TooManyCommands at {place}")]
+    TooManyCommands { place: usize },
+    /// A selector past the limit of 256; the place is the dot before it.
+    #[error("TooLongExpression at {place}")]
+    TooLongExpression { place: usize },
+    /// The bytes are not UTF-8; the place is the length of their longest prefix that is.
+    #[error("NotUtf8 at {place}")]
+    NotUtf8 { place: usize },
+    /// A token that is not the header's, or the text's end in its place.
+    #[error("NoHeader at {place}")]
+    NoHeader { place: usize },
+    /// No replica follows the header.
+    #[error("NoReplica at {place}")]
+    NoReplica { place: usize },
+    /// An event names a replica that the scenario does not have; the place is the name.
+    #[error("UnknownReplica at {place}")]
+    UnknownReplica { place: usize },
+    /// An event past the limit of 100,000; the place is its first token.
+    #[error("TooManyEvents at {place}")]
+    TooManyEvents { place: usize },
+    /// A request for memory was refused.
+    #[error("no memory")]
+    Memory,
+}
+
+impl ScenarioFault {
+    /// The number of the refusal, from 1 to 19; want of memory has none.
+    pub fn number(&self) -> Option<u8>
+        ensures { result ≡ number_of self.now }
+    {
+        match self {
+            ScenarioFault::BadByte { .. } => Some(1),
+            ScenarioFault::OpenString { .. } => Some(2),
+            ScenarioFault::BadEscape { .. } => Some(3),
+            ScenarioFault::LoneSurrogate { .. } => Some(4),
+            ScenarioFault::BadNumber { .. } => Some(5),
+            ScenarioFault::TextTooLong { .. } => Some(6),
+            ScenarioFault::Unexpected { .. } => Some(7),
+            ScenarioFault::EndOfText { .. } => Some(8),
+            ScenarioFault::ReservedName { .. } => Some(10),
+            ScenarioFault::TooManyCommands { .. } => Some(11),
+            ScenarioFault::TooLongExpression { .. } => Some(12),
+            ScenarioFault::NotUtf8 { .. } => Some(13),
+            ScenarioFault::NoHeader { .. } => Some(14),
+            ScenarioFault::NoReplica { .. } => Some(16),
+            ScenarioFault::UnknownReplica { .. } => Some(18),
+            ScenarioFault::TooManyEvents { .. } => Some(19),
+            ScenarioFault::Memory => None,
+        }
+    }
+
+    /// Where the fault stands in the text; want of memory stands nowhere.
+    pub fn place(&self) -> Option<usize>
+        ensures { result ≡ place_of self.now }
+    {
+        match self {
+            ScenarioFault::BadByte { place }
+            | ScenarioFault::OpenString { place }
+            | ScenarioFault::BadEscape { place }
+            | ScenarioFault::LoneSurrogate { place }
+            | ScenarioFault::BadNumber { place }
+            | ScenarioFault::TextTooLong { place }
+            | ScenarioFault::Unexpected { place }
+            | ScenarioFault::EndOfText { place }
+            | ScenarioFault::ReservedName { place }
+            | ScenarioFault::TooManyCommands { place }
+            | ScenarioFault::TooLongExpression { place }
+            | ScenarioFault::NotUtf8 { place }
+            | ScenarioFault::NoHeader { place }
+            | ScenarioFault::NoReplica { place }
+            | ScenarioFault::UnknownReplica { place }
+            | ScenarioFault::TooManyEvents { place } => Some(*place),
+            ScenarioFault::Memory => None,
+        }
+    }
+}
+
+impl From<LexFault> for ScenarioFault {
+    ghost from_gives = { λ fault e. e ≡ from_lexer fault };
+
+    fn from(fault: LexFault) -> ScenarioFault {
+        match fault {
+            LexFault::BadByte { place } => ScenarioFault::BadByte { place },
+            LexFault::OpenString { place } => ScenarioFault::OpenString { place },
+            LexFault::BadEscape { place } => ScenarioFault::BadEscape { place },
+            LexFault::LoneSurrogate { place } => ScenarioFault::LoneSurrogate { place },
+            LexFault::BadNumber { place } => ScenarioFault::BadNumber { place },
+            LexFault::TextTooLong { place } => ScenarioFault::TextTooLong { place },
+            LexFault::Memory => ScenarioFault::Memory,
+        }
+    }
+}
+
+impl From<AllocError> for ScenarioFault {
+    ghost from_gives = { λ _ e. e ≡ Memory };
+
+    fn from(_e: AllocError) -> ScenarioFault {
+        ScenarioFault::Memory
+    }
+}
+
+impl<T: Drop> From<AllocFailed<T>> for ScenarioFault {
+    ghost from_gives = { λ _ e. e ≡ Memory };
+
+    fn from(_e: AllocFailed<T>) -> ScenarioFault {
+        ScenarioFault::Memory
+    }
+}

@@ -1,0 +1,101 @@
+-- Changes leave a content kept.
+use Rattle.std.proofs.Common.{◌≡◌, ◌≢◌, List, [], ◌∷◌, ◌++◌, Option, Some, None, refl}
+use Rattle.std.specs.List.{AllByRecursion}
+use Rattle.jc_rules.specs.declared.id.Id.{Id}
+use Rattle.jc_rules.specs.declared.key.Key.{Key}
+use Rattle.jc_rules.specs.declared.key.Tagged.{Tagged}
+use Rattle.jc_rules.specs.declared.key.Tagged.TheVariants.{MapT, ListT, RegT}
+use Rattle.jc_rules.specs.Order.{key_cmp}
+use Rattle.jc_rules.specs.Entries.{find, put}
+use Rattle.jc_rules.specs.Ids.{AreRising}
+use Rattle.jc_rules.specs.Context.{Context, context, Children, no_child, child, children, listed, Register, Content, Node, Values, values_of, content, with_content, presence, registers, empty, empty_list}
+use Rattle.jc_rules.specs.Places.{node_at, with_node_at, context_at}
+use Rattle.jc_rules.specs.Shape.{IsKept, AreKept, IsKeptRegister}
+use Rattle.jc_rules.proofs.Order.{keys_total, exact_keys}
+use Rattle.jc_rules.proofs.Entries.{rising-put, values-put, value-found}
+use Rattle.jc_rules.proofs.Places.{listed_children, node_found, there}
+use Rattle.jc_tree.specs.Change.{IsFit, changed_by, changed_at}
+use Rattle.jc_tree.specs.declared.node.Change.{Change}
+use Rattle.jc_tree.specs.declared.node.Change.TheVariants.{Child, Presence, Link, Register as Set}
+
+-- each child is kept
+all_kept : (cs : Children) → AreKept cs → AllByRecursion (λ e. IsKept e.1) (listed cs)
+all_kept no_child h = tt
+all_kept (child k c cs) h = (h.0, all_kept cs h.1)
+
+kept_all : (es : List (Key × Context)) → AllByRecursion (λ e. IsKept e.1) es → AreKept (children es)
+kept_all [] h = tt
+kept_all (e ∷ es) h = (h.0, kept_all es h.1)
+
+kept-child : (k : Key) (d : Context) (cs : Children) → AreKept cs → find key_cmp k (listed cs) ≡ Some d → IsKept d
+kept-child k d cs h f = value-found keys_total exact_keys IsKept k d (listed cs) (all_kept cs h) f
+
+kept-put : (k : Key) (d : Context) (cs : Children) → AreKept cs → IsKept d → AreKept (children (put key_cmp k d (listed cs)))
+kept-put k d cs h g = kept_all (put key_cmp k d (listed cs)) (values-put keys_total exact_keys IsKept k d (listed cs) g (all_kept cs h))
+
+no_node : {A : Type 0} (x : Option Register) (d : Context) → values_of x ≡ Some (Node d) → A
+no_node None d h = cc
+no_node (Some v) d h = cc
+
+-- a kept context holds kept ones
+kept-content : (t : Tagged) (c d : Context) → IsKept c → content t c ≡ Some (Node d) → IsKept d
+kept-content (MapT k) (context m l r p n) d h f = kept-child k d m h.7 (node_found _ d f)
+kept-content (ListT k) (context m l r p n) d h f = kept-child k d l h.8 (node_found _ d f)
+kept-content (RegT k) (context m l r p n) d h f = no_node (find key_cmp k r) d f
+
+-- a kept context with a kept one under a tagged key
+kept-with : (t : Tagged) (c d : Context) → IsKept c → IsKept d → IsKept (with_content t (Node d) c)
+kept-with (MapT k) (context m l r p n) d h g = rw listed_children (rising-put keys_total exact_keys k d (listed m) h.0, h.1, h.2, h.3, h.4, h.5, h.6, kept-put k d m h.7 g, h.8)
+kept-with (ListT k) (context m l r p n) d h g = rw listed_children (h.0, rising-put keys_total exact_keys k d (listed l) h.1, h.2, h.3, h.4, h.5, h.6, h.7, kept-put k d l h.8 g)
+kept-with (RegT k) (context m l r p n) d h g = h
+
+kept-register : (k : Key) (v : Register) (c : Context) → IsKept c → IsKeptRegister v → IsKept (with_content (RegT k) (Values v) c)
+kept-register k v (context m l r p n) h g = (h.0, h.1, rising-put keys_total exact_keys k v r h.2, h.3, h.4, values-put keys_total exact_keys IsKeptRegister k v r g h.5, h.6, h.7, h.8)
+
+-- what a fit change makes of a kept context
+kept-changed : (change : Change) (c : Context) → IsFit change → IsKept c → IsKept (changed_by change c)
+kept-changed (Child (MapT k)) c f h = kept-with (MapT k) c empty h (tt, tt, tt, tt, tt, tt, tt, tt, tt)
+kept-changed (Child (ListT k)) c f h = kept-with (ListT k) c empty_list h (tt, tt, tt, tt, (tt, tt), tt, tt, tt, tt)
+kept-changed (Child (RegT k)) c f h = kept-register k [] c h (tt, tt)
+kept-changed (Presence k s) (context m l r p n) f h = (h.0, h.1, h.2, rising-put keys_total exact_keys k s p h.3, h.4, h.5, values-put keys_total exact_keys AreRising k s p f h.6, h.7, h.8)
+kept-changed (Link k x) (context m l r p n) f h = (h.0, h.1, h.2, h.3, rising-put keys_total exact_keys k x n h.4, h.5, h.6, h.7, h.8)
+kept-changed (Set k v) c f h = kept-register k v c h f
+
+-- the context at a place of a kept one
+kept-node : (ks : List Tagged) (c d : Context) → IsKept c → node_at ks c ≡ Some d → IsKept d
+kept-node [] c d h e = let same : c ≡ d = cc in rw (← same) h
+kept-node (k ∷ ks) c d h e = go (content k c) refl (λ b f. kept-node ks b d f) e
+  where
+    go : (o : Option Content) → content k c ≡ o → ((b : Context) → IsKept b → node_at ks b ≡ Some d → IsKept d) → node_at (k ∷ ks) c ≡ Some d → IsKept d
+    go None f ih g = let no : None ≡ Some d = rw f at g in cc
+    go (Some (Values r)) f ih g = let no : None ≡ Some d = rw f at g in cc
+    go (Some (Node b)) f ih g = ih b (kept-content k c b h f) (rw f at g)
+
+kept-with_node : (ks : List Tagged) (y c : Context) → IsKept c → IsKept y → IsKept (with_node_at ks y c)
+kept-with_node [] y c h g = g
+kept-with_node (k ∷ ks) y c h g = go (content k c) refl (λ b f. kept-with_node ks y b f g)
+  where
+    go : (o : Option Content) → content k c ≡ o → ((b : Context) → IsKept b → IsKept (with_node_at ks y b)) → IsKept (with_node_at (k ∷ ks) y c)
+    go None f ih = rw f h
+    go (Some (Values r)) f ih = rw f h
+    go (Some (Node b)) f ih = rw f (kept-with k c (with_node_at ks y b) h (ih b (kept-content k c b h f)))
+
+pub kept-changed_at : (ks : List Tagged) (change : Change) (c : Context) → IsKept c → node_at ks c ≢ None → IsFit change → IsKept (changed_at ks change c)
+kept-changed_at ks change c h place f = kept-with_node ks (changed_by change (context_at ks c)) c h (kept-changed change (context_at ks c) f (kept-node ks c (context_at ks c) h (there ks c place)))
+
+pub kept-pushed : (cs : List Context) (c : Context) → AllByRecursion IsKept cs → IsKept c → AllByRecursion IsKept (cs ++ c ∷ [])
+kept-pushed [] c h g = (g, tt)
+kept-pushed (d ∷ cs) c h g = (h.0, kept-pushed cs c h.1 g)
+
+-- what is lent of a kept content
+pub presence_rises : (ks : List Tagged) (k : Key) (s : List Id) (c : Context) → IsKept c → node_at ks c ≢ None → presence k (context_at ks c) ≡ Some s → AreRising s
+presence_rises ks k s c h place f = rising (context_at ks c) (kept-node ks c (context_at ks c) h (there ks c place)) f
+  where
+    rising : (d : Context) → IsKept d → presence k d ≡ Some s → AreRising s
+    rising (context m l r p n) g e = value-found keys_total exact_keys AreRising k s p g.6 e
+
+pub register_kept : (ks : List Tagged) (k : Key) (v : Register) (c : Context) → IsKept c → node_at ks c ≢ None → find key_cmp k (registers (context_at ks c)) ≡ Some v → IsKeptRegister v
+register_kept ks k v c h place f = kept (context_at ks c) (kept-node ks c (context_at ks c) h (there ks c place)) f
+  where
+    kept : (d : Context) → IsKept d → find key_cmp k (registers d) ≡ Some v → IsKeptRegister v
+    kept (context m l r p n) g e = value-found keys_total exact_keys IsKeptRegister k v r g.5 e

@@ -1,0 +1,94 @@
+-- What the lists of a node say of the context that it is.
+use Rattle.std.proofs.Common.{◌≡◌, ◌≢◌, List, ◌∷◌, ◌++◌, Bool, Option, Some, None, Bor, Result, Ok, Err, is_err, true, false, is_some, option_copied, IfSome, IsSomeAnd, OnOk, refl, ◌∙◌, ap}
+use Rattle.jc_rules.specs.declared.id.Id.{Id}
+use Rattle.jc_rules.specs.declared.key.Key.{Key}
+use Rattle.jc_rules.specs.declared.key.Next.{Next}
+use Rattle.jc_rules.specs.declared.key.Tagged.{Tagged}
+use Rattle.jc_rules.specs.declared.key.Tagged.TheVariants.{MapT, ListT}
+use Rattle.jc_rules.specs.Order.{key_cmp}
+use Rattle.jc_rules.specs.Entries.{keys_of, find, put}
+use Rattle.jc_rules.specs.Context.{Context, context, children, Register, Content, Node, node_of, content, with_content, keys, empty, empty_list}
+use Rattle.jc_rules.specs.Places.{node_in, node_at}
+use Rattle.jc_rules.proofs.Places.{listed_children}
+use Rattle.jc_tree.specs.Tree.{least_after}
+use Rattle.jc_tree.specs.Change.{changed_by, changed_at}
+use Rattle.jc_tree.specs.declared.node.Change.{Change}
+use Rattle.jc_tree.specs.declared.node.Change.TheVariants.{Child}
+use Rattle.jc_tree.proofs.Least.{least_of, least_after-append}
+
+module _ (m l : List (Key × Context)) (r : List (Key × Register)) (p : List (Key × List Id)) (n : List (Key × Next)) (s : Context) (v : context (children m) (children l) r p n ≡ s) where
+  pub map_content : (k : Key) → content (MapT k) s ≡ node_of (find key_cmp k m)
+  map_content k = rw (← v, listed_children) refl
+
+  pub list_content : (k : Key) → content (ListT k) s ≡ node_of (find key_cmp k l)
+  list_content k = rw (← v, listed_children) refl
+
+  pub map_with : (k : Key) (y : Context) (m2 : List (Key × Context)) → m2 ≡ put key_cmp k y m → context (children m2) (children l) r p n ≡ with_content (MapT k) (Node y) s
+  map_with k y m2 w = rw (w, ← v, listed_children) refl
+
+  pub list_with : (k : Key) (y : Context) (l2 : List (Key × Context)) → l2 ≡ put key_cmp k y l → context (children m) (children l2) r p n ≡ with_content (ListT k) (Node y) s
+  list_with k y l2 w = rw (w, ← v, listed_children) refl
+
+  pub key_after : (k : Option Key) → least_after k (keys s) ≡ least_of (least_of (least_after k (keys_of m)) (least_after k (keys_of l))) (least_after k (keys_of r))
+  key_after k = rw (← v, listed_children m, listed_children l, least_after-append k (keys_of m ++ keys_of l) (keys_of r), least_after-append k (keys_of m) (keys_of l)) refl
+
+pub has_child : (b : Bool) (o : Option (Bor Context)) (f : Option Context) (x : Option Content) → b ≡ is_some o → option_copied o ≡ f → x ≡ node_of f → b ≡ is_some x
+has_child b None f x h g e = rw (h, e, ← g) refl
+has_child b (Some d) f x h g e = rw (h, e, ← g) refl
+
+pub lent_child : (o : Option (Bor Context)) (f : Option Context) (x : Option Content) → option_copied o ≡ f → x ≡ node_of f → option_copied o ≡ node_in x
+lent_child o None x g e = rw (g, e) refl
+lent_child o (Some d) x g e = rw (g, e) refl
+
+module _ (m l : List (Key × Context)) (r : List (Key × Register)) (p : List (Key × List Id)) (n : List (Key × Next)) (s : Context) (v : context (children m) (children l) r p n ≡ s) where
+  pub new_map : (c : Change) (t : Tagged) (k : Key) (new : Context) (m2 : List (Key × Context)) → c ≡ Child t → t ≡ MapT k → new ≡ empty → m2 ≡ put key_cmp k new m → context (children m2) (children l) r p n ≡ changed_by c s
+  new_map c t k new m2 a b e w = rw (a, b) (map_with m l r p n s v k empty m2 (rw (← e) w))
+
+  pub new_list : (c : Change) (t : Tagged) (k : Key) (new : Context) (l2 : List (Key × Context)) → c ≡ Child t → t ≡ ListT k → new ≡ empty_list → l2 ≡ put key_cmp k new l → context (children m) (children l2) r p n ≡ changed_by c s
+  new_list c t k new l2 a b e w = rw (a, b) (list_with m l r p n s v k empty_list l2 (rw (← e) w))
+
+  -- a place that begins under a map's key is in that child
+  pub map_child : (k : Key) (ks : List Tagged) → node_at (MapT k ∷ ks) s ≢ None → IsSomeAnd (find key_cmp k m) (λ d. node_at ks d ≢ None)
+  map_child k ks h = go (find key_cmp k m) refl
+    where
+      go : (o : Option Context) → find key_cmp k m ≡ o → IsSomeAnd o (λ d. node_at ks d ≢ None)
+      go None e = h (rw (map_content m l r p n s v k, e) refl)
+      go (Some d) e = λ f. h (rw (map_content m l r p n s v k, e) f)
+
+  pub list_child : (k : Key) (ks : List Tagged) → node_at (ListT k ∷ ks) s ≢ None → IsSomeAnd (find key_cmp k l) (λ d. node_at ks d ≢ None)
+  list_child k ks h = go (find key_cmp k l) refl
+    where
+      go : (o : Option Context) → find key_cmp k l ≡ o → IsSomeAnd o (λ d. node_at ks d ≢ None)
+      go None e = h (rw (list_content m l r p n s v k, e) refl)
+      go (Some d) e = λ f. h (rw (list_content m l r p n s v k, e) f)
+
+  -- a change in a child is a change below its key
+  pub map_changed : (k : Key) (ks : List Tagged) (c : Change) (m2 : List (Key × Context)) → IsSomeAnd (find key_cmp k m) (λ d. node_at ks d ≢ None) → IfSome (find key_cmp k m) (λ d. m2 ≡ put key_cmp k (changed_at ks c d) m) → context (children m2) (children l) r p n ≡ changed_at (MapT k ∷ ks) c s
+  map_changed k ks c m2 there = go (find key_cmp k m) refl there
+    where
+      go : (o : Option Context) → find key_cmp k m ≡ o → IsSomeAnd o (λ d. node_at ks d ≢ None) → IfSome o (λ d. m2 ≡ put key_cmp k (changed_at ks c d) m) → context (children m2) (children l) r p n ≡ changed_at (MapT k ∷ ks) c s
+      go None e f w = absurd f
+      go (Some d) e f w = map_with m l r p n s v k (changed_at ks c d) m2 w ∙ rw (map_content m l r p n s v k, e) refl
+
+  pub list_changed : (k : Key) (ks : List Tagged) (c : Change) (l2 : List (Key × Context)) → IsSomeAnd (find key_cmp k l) (λ d. node_at ks d ≢ None) → IfSome (find key_cmp k l) (λ d. l2 ≡ put key_cmp k (changed_at ks c d) l) → context (children m) (children l2) r p n ≡ changed_at (ListT k ∷ ks) c s
+  list_changed k ks c l2 there = go (find key_cmp k l) refl there
+    where
+      go : (o : Option Context) → find key_cmp k l ≡ o → IsSomeAnd o (λ d. node_at ks d ≢ None) → IfSome o (λ d. l2 ≡ put key_cmp k (changed_at ks c d) l) → context (children m) (children l2) r p n ≡ changed_at (ListT k ∷ ks) c s
+      go None e f w = absurd f
+      go (Some d) e f w = list_with m l r p n s v k (changed_at ks c d) l2 w ∙ rw (list_content m l r p n s v k, e) refl
+
+if_some : (P : Context → Type 0) (o : Option Context) (d : Context) → o ≡ Some d → P d → IfSome o P
+if_some P None d e h = tt
+if_some P (Some c) d e h = let same : c ≡ d = cc in rw same h
+
+-- a child at a key's place that was changed
+pub child_changed : (k : Key) (ks : List Tagged) (c : Change) (es : List (Key × Context)) (ds : Context → List (Key × Context)) (d e : Context) → find key_cmp k es ≡ Some d → ((y : Context) → ds y ≡ put key_cmp k y es) → e ≡ changed_at ks c d → IfSome (find key_cmp k es) (λ d. ds e ≡ put key_cmp k (changed_at ks c d) es)
+child_changed k ks c es ds d e found w h = if_some (λ d. ds e ≡ put key_cmp k (changed_at ks c d) es) (find key_cmp k es) d found (w e ∙ ap (λ y. put key_cmp k y es) h)
+
+pub on_ok : {A E P Q : Type 0} (r : Result A E) → (P → Q) → OnOk r P → OnOk r Q
+on_ok (Ok a) f h = f h
+on_ok (Err e) f h = h
+
+pub when_ok : {A E P : Type 0} (r : Result A E) → is_err r ≡ false → OnOk r P → P
+when_ok (Ok a) e h = h
+when_ok (Err x) e h = let no : true ≡ false = e in cc

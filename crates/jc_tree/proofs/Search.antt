@@ -1,0 +1,160 @@
+-- What a place in a sorted list of entries tells.
+use Rattle.std.proofs.Common.{◌≡◌, ℕ, zero, suc, ◌≤◌, List, [], ◌∷◌, length, take, drop, filter, get_or, slice_get, slice_set, insert, option_map, Option, Some, None, true, false, Result, Ok, Err, Bor, MatchOption, IsSomeAnd, option_copied, refl, sym, ◌∙◌, ap, arith}
+use Rattle.std.specs.List.{AllByRecursion, AllWithin}
+use Rattle.std.specs.Slice.{IsItemAt}
+use Rattle.std.specs.List.Sorted.{IsNonDecreasingBy, IsSearchInRange, IsBinarySearchResult}
+use Rattle.std.specs.Ordering.{ordering_index}
+use Rattle.std.specs.declared.cmp.Ordering.TheVariants.{Less, Greater}
+use Rattle.std.proofs.lemmas.List.{get_or-map, length-map}
+use Rattle.std.proofs.lemmas.Option.{slice_get-get_or, get_or_from_slice_get, slice_get_past, slice_get_read}
+use Rattle.std.specs.Cmp.{tied_itself}
+use Rattle.jc_rules.specs.declared.key.Key.{Key}
+use Rattle.jc_rules.specs.Order.{key_cmp}
+use Rattle.jc_rules.specs.Entries.{keys_of, find, replaced, placed, put}
+use Rattle.jc_rules.specs.Table.{least}
+use Rattle.jc_rules.proofs.Order.{keys_total, exact_keys}
+use Rattle.jc_rules.proofs.Rising.{non_decreasing, less_greater, greater_less}
+use Rattle.jc_rules.proofs.Entries.{same-self}
+use Rattle.jc_tree.specs.Tree.{is_after, least_after}
+use Rattle.jc_tree.specs.Sorted.{AreSorted, StandsAt, BelongsAt, IsPlace}
+
+module _ {X : Type 0} where
+  first_ones : (P : Key × X → Type 0) (es : List (Key × X)) (i : ℕ) → i ≤ length es → AllWithin P es 0 i → AllByRecursion P (take i es)
+  first_ones P es zero within h = tt
+  first_ones P [] (suc i) within h = absurd (omega arith)
+  first_ones P (e ∷ es) (suc i) within h = (h 0 e (omega arith) (omega arith), first_ones P es i (omega arith) (λ k d low high. h (suc k) d (omega arith) (omega arith)))
+
+  last_ones : (P : Key × X → Type 0) (es : List (Key × X)) (i : ℕ) → AllWithin P es i (length es) → AllByRecursion P (drop i es)
+  last_ones P [] zero h = tt
+  last_ones P [] (suc i) h = tt
+  last_ones P (e ∷ es) zero h = (h 0 e (omega arith) (omega arith), last_ones P es zero (λ k d low high. h (suc k) d (omega arith) (omega arith)))
+  last_ones P (e ∷ es) (suc i) h = last_ones P es i (λ k d low high. h (suc k) d (omega arith) (omega arith))
+
+  do_not_fall : (q : Key) (es : List (Key × X)) → AreSorted es → IsNonDecreasingBy (λ e. ordering_index (key_cmp e.0 q)) es
+  do_not_fall q es h i j d le within =
+      let n : length (keys_of es) ≡ length es = length-map es (λ e. e.0) in
+      rw (← get_or-map (λ (e : Key × X). e.0) es i d d.0 (omega arith), ← get_or-map (λ (e : Key × X). e.0) es j d d.0 within) (non_decreasing keys_total q (keys_of es) h i j d.0 le (omega arith))
+
+  back : (q : Key) (es : List (Key × X)) → AllByRecursion (λ e. key_cmp e.0 q ≡ Greater) es → AllByRecursion (λ e. key_cmp q e.0 ≡ Less) es
+  back q [] h = tt
+  back q (e ∷ es) h = (greater_less keys_total e.0 q h.0, back q es h.1)
+
+  -- what a binary search by key finds
+  pub searched : (q : Key) (es : List (Key × X)) (r : Result ℕ ℕ) → AreSorted es → IsSearchInRange r (length es) → IsBinarySearchResult (λ e. key_cmp e.0 q) es r → IsPlace q es r
+  searched q [] (Ok i) h b f = absurd (omega arith)
+  searched q (e ∷ es) (Ok i) h b f =
+      let x = get_or (e ∷ es) i e in
+      let same : x.0 ≡ q = exact_keys x.0 q (f e) in
+      record { value = x.1; entry = slice_get-get_or (e ∷ es) i e b ∙ ap (λ (k : Key). Some (k, x.1)) same }
+  searched q es (Err i) h b f =
+      let parts = f (do_not_fall q es h) in
+      record { within = b; lesser = first_ones (λ e. key_cmp e.0 q ≡ Less) es i b parts.0; greater = back q (drop i es) (last_ones (λ e. key_cmp e.0 q ≡ Greater) es i parts.1) }
+
+  -- the later ones of a sorted list are greater than the first
+  later : (e d : Key × X) (es : List (Key × X)) (i : ℕ) → AreSorted (e ∷ es) → slice_get es i ≡ Some d → key_cmp d.0 e.0 ≡ Greater
+  later e d [] i h g = cc
+  later e d (f ∷ es) zero h g = let same : f ≡ d = cc in rw (← same) (less_greater keys_total e.0 f.0 h.0.0)
+  later e d (f ∷ es) (suc i) h g = later e d es i (h.0.1, h.1.1) g
+
+  find-at : (q : Key) (es : List (Key × X)) (i : ℕ) (x : X) → AreSorted es → slice_get es i ≡ Some (q, x) → find key_cmp q es ≡ Some x
+  find-at q [] i x h g = cc
+  find-at q (e ∷ es) zero x h g = let same : e ≡ (q, x) = cc in rw same (rw (same-self keys_total exact_keys q) refl)
+  find-at q (e ∷ es) (suc i) x h g = rw (later e (q, x) es i h g) (find-at q es i x h.1 g)
+
+  replaced-at : (q : Key) (es : List (Key × X)) (i : ℕ) (x v : X) → AreSorted es → slice_get es i ≡ Some (q, x) → replaced key_cmp q v es ≡ slice_set es i (q, v)
+  replaced-at q [] i x v h g = cc
+  replaced-at q (e ∷ es) zero x v h g = let same : e ≡ (q, x) = cc in rw same (rw (same-self keys_total exact_keys q) refl)
+  replaced-at q (e ∷ es) (suc i) x v h g = rw (later e (q, x) es i h g) (ap (λ r. e ∷ r) (replaced-at q es i x v h.1 g))
+
+  put-at : (q : Key) (es : List (Key × X)) (i : ℕ) (x v : X) → AreSorted es → slice_get es i ≡ Some (q, x) → put key_cmp q v es ≡ slice_set es i (q, v)
+  put-at q es i x v h g = rw (find-at q es i x h g) (replaced-at q es i x v h g)
+
+  pub find-absent : (q : Key) (es : List (Key × X)) (i : ℕ) → BelongsAt q es i → find key_cmp q es ≡ None
+  find-absent q [] i b = refl
+  find-absent q (e ∷ es) zero b = rw b.greater.0 (find-absent q es zero (record { within = omega arith; lesser = tt; greater = b.greater.1 }))
+  find-absent q (e ∷ es) (suc i) b = rw (less_greater keys_total e.0 q b.lesser.0) (find-absent q es i (record { within = omega (arith, b.within); lesser = b.lesser.1; greater = b.greater }))
+
+  placed-at : (q : Key) (es : List (Key × X)) (i : ℕ) (v : X) → BelongsAt q es i → placed key_cmp q v es ≡ insert es i (q, v)
+  placed-at q [] zero v b = refl
+  placed-at q [] (suc i) v b = refl
+  placed-at q (e ∷ es) zero v b = rw b.greater.0 refl
+  placed-at q (e ∷ es) (suc i) v b = rw (less_greater keys_total e.0 q b.lesser.0) (ap (λ r. e ∷ r) (placed-at q es i v (record { within = omega (arith, b.within); lesser = b.lesser.1; greater = b.greater })))
+
+  pub put-absent : (q : Key) (es : List (Key × X)) (i : ℕ) (v : X) → BelongsAt q es i → put key_cmp q v es ≡ insert es i (q, v)
+  put-absent q es i v b = rw (find-absent q es i b) (placed-at q es i v b)
+
+  -- the entry at a key's place
+  standing : (q : Key) (es : List (Key × X)) (i : ℕ) (e : Key × X) (s : StandsAt q es i) → e ≡ get_or es i e → e ≡ (q, s.value)
+  standing q es i e s is = is ∙ get_or_from_slice_get es i (q, s.value) e s.entry
+
+  pub find-standing : (q : Key) (es : List (Key × X)) (i : ℕ) (e : Key × X) → AreSorted es → StandsAt q es i → e ≡ get_or es i e → find key_cmp q es ≡ Some e.1
+  find-standing q es i e h s is = find-at q es i s.value h s.entry ∙ ap (λ (d : Key × X). Some d.1) (sym (standing q es i e s is))
+
+  pub put-standing : (q : Key) (es : List (Key × X)) (i : ℕ) (e : Key × X) (v : X) → AreSorted es → StandsAt q es i → e ≡ get_or es i e → put key_cmp q v es ≡ slice_set es i (e.0, v)
+  put-standing q es i e v h s is = put-at q es i s.value v h s.entry ∙ ap (λ (d : Key × X). slice_set es i (d.0, v)) (sym (standing q es i e s is))
+
+  least-first : (e : Key × X) (es : List (Key × X)) → AreSorted (e ∷ es) → least (keys_of (e ∷ es)) ≡ Some e.0
+  least-first e [] h = refl
+  least-first e (d ∷ es) h = rw (least-first d es h.1) (rw h.0.0 refl)
+
+  all_after : (j : Option Key) (es : List (Key × X)) → AllByRecursion (λ e. is_after j e.0 ≡ true) es → filter (λ k. is_after j k) (keys_of es) ≡ keys_of es
+  all_after j [] h = refl
+  all_after j (e ∷ es) h = rw h.0 (ap (λ r. e.0 ∷ r) (all_after j es h.1))
+
+  least-all : (j : Option Key) (es : List (Key × X)) → AreSorted es → AllByRecursion (λ e. is_after j e.0 ≡ true) es → least_after j (keys_of es) ≡ option_map (λ e. e.0) (slice_get es 0)
+  least-all j [] h a = refl
+  least-all j (e ∷ es) h a = rw (all_after j (e ∷ es) a) (least-first e es h)
+
+  -- the least key after one that parts a sorted list at i
+  least-parted : (j : Option Key) (es : List (Key × X)) (i : ℕ) → AreSorted es → AllByRecursion (λ e. is_after j e.0 ≡ false) (take i es) → AllByRecursion (λ e. is_after j e.0 ≡ true) (drop i es) → least_after j (keys_of es) ≡ option_map (λ e. e.0) (slice_get es i)
+  least-parted j [] zero h b a = refl
+  least-parted j [] (suc i) h b a = refl
+  least-parted j (e ∷ es) zero h b a = least-all j (e ∷ es) h a
+  least-parted j (e ∷ es) (suc i) h b a = rw b.0 (least-parted j es i h.1 b.1 a)
+
+  pub least-none : (es : List (Key × X)) → AreSorted es → least_after None (keys_of es) ≡ option_map (λ e. e.0) (slice_get es 0)
+  least-none es h = least-all None es h (all es)
+    where
+      all : (es : List (Key × X)) → AllByRecursion (λ e. is_after None e.0 ≡ true) es
+      all [] = tt
+      all (e ∷ es) = (refl, all es)
+
+  lesser_before : (q : Key) (es : List (Key × X)) → AllByRecursion (λ e. key_cmp e.0 q ≡ Less) es → AllByRecursion (λ e. is_after (Some q) e.0 ≡ false) es
+  lesser_before q [] h = tt
+  lesser_before q (e ∷ es) h = (rw (less_greater keys_total e.0 q h.0) refl, lesser_before q es h.1)
+
+  greater_after : (q : Key) (es : List (Key × X)) → AllByRecursion (λ e. key_cmp q e.0 ≡ Less) es → AllByRecursion (λ e. is_after (Some q) e.0 ≡ true) es
+  greater_after q [] h = tt
+  greater_after q (e ∷ es) h = (rw h.0 refl, greater_after q es h.1)
+
+  -- after a key that has no entry: the entry where it belongs
+  pub least-belongs : (q : Key) (es : List (Key × X)) (i : ℕ) → AreSorted es → BelongsAt q es i → least_after (Some q) (keys_of es) ≡ option_map (λ e. e.0) (slice_get es i)
+  least-belongs q es i h b = least-parted (Some q) es i h (lesser_before q (take i es) b.lesser) (greater_after q (drop i es) b.greater)
+
+  greater_ones : (e : Key × X) (es : List (Key × X)) → AllByRecursion (λ k. key_cmp e.0 k ≡ Less) (keys_of es) → AllByRecursion (λ d. key_cmp e.0 d.0 ≡ Less) es
+  greater_ones e [] h = tt
+  greater_ones e (d ∷ es) h = (h.0, greater_ones e es h.1)
+
+  nowhere : (q : Key) (i : ℕ) → StandsAt {X = X} q [] i → ⊥
+  nowhere q i s = let x = s.value in let none : slice_get {X = Key × X} [] i ≡ Some (q, x) = s.entry in cc
+
+  -- after a key that has an entry: the next one
+  pub least-stands : (q : Key) (es : List (Key × X)) (i : ℕ) → AreSorted es → StandsAt q es i → least_after (Some q) (keys_of es) ≡ option_map (λ e. e.0) (slice_get es (suc i))
+  least-stands q [] i h s = absurd (nowhere q i s)
+  least-stands q (e ∷ es) zero h s =
+      let x = s.value in
+      let same : e ≡ (q, x) = cc (s.entry) in
+      let k : e.0 ≡ q = ap (λ (p : Key × X). p.0) same in
+      let not_after : is_after (Some q) e.0 ≡ false = rw (k, tied_itself keys_total q) refl in
+      rw not_after (least-all (Some q) es h.1 (greater_after q es (rw k at (greater_ones e es h.0))))
+  least-stands q (e ∷ es) (suc i) h s =
+      let x = s.value in
+      let there : slice_get es i ≡ Some (q, x) = s.entry in
+      let not_after : is_after (Some q) e.0 ≡ false = rw (later e (q, x) es i h there) refl in
+      rw not_after (least-stands q es i h.1 (record { value = x; entry = there }))
+
+  -- the key of an entry that is lent
+  pub lent_key : (es : List (Key × X)) (i : ℕ) (r : Option (Bor (Key × X))) (m : Option (Bor Key)) (P : Bor (Key × X) → Bor Key → Type 0) → IsItemAt es i r → MatchOption r (m ≡ None) (λ x. IsSomeAnd m (P x)) → ((x : Bor (Key × X)) (y : Bor Key) → P x y → y.now ≡ x.now.0) → option_copied m ≡ option_map (λ e. e.0) (slice_get es i)
+  lent_key es i None m P f h p = rw (h, slice_get_past es i f.3) refl
+  lent_key es i (Some x) None P f h p = absurd h
+  lent_key es i (Some x) (Some y) P f h p = rw (slice_get_read es (length es) i x.now refl f.3.0 (f.3.1 x.now), p x y h) refl

@@ -1,0 +1,5 @@
+use Rattle.jc_tree.proofs.History.{undo_law}
+use Rattle.jc_tree.proofs.laws.undo_gives_back.Goals as goal
+
+pub returns : goal.returns
+returns c = undo_law

@@ -1,0 +1,57 @@
+use Rattle.std.proofs.Common.{◌≡◌, ◌∷◌, Some, length, slice_set, sym, ◌∙◌, ap, subst, arith}
+use Rattle.jc_rules.specs.declared.key.Tagged.TheVariants.{MapT, ListT}
+use Rattle.jc_rules.specs.Order.{key_cmp}
+use Rattle.jc_rules.specs.Entries.{find}
+use Rattle.jc_rules.proofs.Order.{keys_total, exact_keys}
+use Rattle.jc_rules.proofs.Entries.{rising-put}
+use Rattle.jc_tree.specs.Sorted.{AreSorted}
+use Rattle.jc_tree.proofs.Nodes.{map_child, list_child, map_changed, list_changed, child_changed, on_ok}
+use Rattle.jc_tree.proofs.Search.{find-standing, find-absent, put-standing}
+use Rattle.jc_tree.proofs.node.+changing.Goals as goal
+
+pub Node::change_at-change_in-requires : goal.Node::change_at-change_in-requires
+Node::change_at-change_in-requires t c =
+    let cut : c.args.at.now ≡ MapT c.in-MapT.key ∷ c.in-Some.rest.now = c.in-Some.ensures.cases.0 ∙ ap (λ k. k ∷ c.in-Some.rest.now) c.in-MapT.is in
+    (omega (arith, ap length cut), (c.self.invariant.maps_rise, map_child _ _ _ _ _ _ c.self.view_is c.in-MapT.key c.in-Some.rest.now (rw cut at c.requires)))
+
+pub Node::change_at-change_in-requires-in-ListT : goal.Node::change_at-change_in-requires-in-ListT
+Node::change_at-change_in-requires-in-ListT t c =
+    let cut : c.args.at.now ≡ ListT c.in-ListT.key ∷ c.in-Some.rest.now = c.in-Some.ensures.cases.0 ∙ ap (λ k. k ∷ c.in-Some.rest.now) c.in-ListT.is in
+    (omega (arith, ap length cut), (c.self.invariant.lists_rise, list_child _ _ _ _ _ _ c.self.view_is c.in-ListT.key c.in-Some.rest.now (rw cut at c.requires)))
+
+pub Node::change_at-returns-in-MapT-clause-ok : goal.Node::change_at-returns-in-MapT-clause-ok
+Node::change_at-returns-in-MapT-clause-ok t c =
+    let cut : c.args.at.now ≡ MapT c.in-MapT.key ∷ c.in-Some.rest.now = c.in-Some.ensures.cases.0 ∙ ap (λ k. k ∷ c.in-Some.rest.now) c.in-MapT.is in
+    let there = map_child _ _ _ _ _ _ c.self.view_is c.in-MapT.key c.in-Some.rest.now (rw cut at c.requires) in
+    rw cut (on_ok _ (map_changed _ _ _ _ _ _ c.self.view_is c.in-MapT.key c.in-Some.rest.now c.args.change c.change_in.new.children.items there) c.change_in.ensures.ok)
+
+pub Node::change_at-returns-in-ListT-clause-ok : goal.Node::change_at-returns-in-ListT-clause-ok
+Node::change_at-returns-in-ListT-clause-ok t c =
+    let cut : c.args.at.now ≡ ListT c.in-ListT.key ∷ c.in-Some.rest.now = c.in-Some.ensures.cases.0 ∙ ap (λ k. k ∷ c.in-Some.rest.now) c.in-ListT.is in
+    let there = list_child _ _ _ _ _ _ c.self.view_is c.in-ListT.key c.in-Some.rest.now (rw cut at c.requires) in
+    rw cut (on_ok _ (list_changed _ _ _ _ _ _ c.self.view_is c.in-ListT.key c.in-Some.rest.now c.args.change c.change_in-in-ListT.new.children.items there) c.change_in-in-ListT.ensures.ok)
+
+-- the child that stands at the key's place
+pub change_in-change_at-requires : goal.change_in-change_at-requires
+change_in-change_at-requires t c =
+    let stands = rw c.as_slice.ensures.value at c.in-Ok.ensures in
+    let child : find key_cmp c.args.key.now c.args.children.now.items ≡ Some c.index_mut.result.now.1 = find-standing _ _ _ _ c.requires.sorted stands c.index_mut.ensures.value in
+    (omega arith, rw child at c.requires.there)
+
+pub change_in-unreachable-requires : goal.change_in-unreachable-requires
+change_in-unreachable-requires t c =
+    let belongs = rw c.as_slice.ensures.value at c.in-Err.ensures in
+    rw (find-absent _ _ _ belongs) at c.requires.there
+
+pub change_in-returns-clause-ok : goal.change_in-returns-clause-ok
+change_in-returns-clause-ok t c =
+    let entries = c.args.children.now.items in
+    let entry = c.index_mut.result.now in
+    let stands = rw c.as_slice.ensures.value at c.in-Ok.ensures in
+    let child : find key_cmp c.args.key.now entries ≡ Some entry.1 = find-standing _ _ _ _ c.requires.sorted stands c.index_mut.ensures.value in
+    on_ok _ (child_changed c.args.key.now c.args.at.now c.args.change entries (λ x. slice_set entries c.in-Ok.i (entry.0, x)) entry.1 c.change_at.new.self child (λ x. sym (put-standing _ _ _ entry x c.requires.sorted stands c.index_mut.ensures.value))) c.change_at.ensures.ok
+
+pub change_in-returns-clause-still_sorted : goal.change_in-returns-clause-still_sorted
+change_in-returns-clause-still_sorted t c =
+    let stands = rw c.as_slice.ensures.value at c.in-Ok.ensures in
+    subst AreSorted (put-standing _ _ _ _ c.change_at.new.self c.requires.sorted stands c.index_mut.ensures.value) (rising-put keys_total exact_keys c.args.key.now c.change_at.new.self c.args.children.now.items c.requires.sorted)

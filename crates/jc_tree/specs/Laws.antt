@@ -1,0 +1,27 @@
+-- Laws of stores.
+use Rattle.std.specs.Prelude.{◌≡◌, ◌≢◌, ◌≤◌, ◌+◌, List, length, take, None}
+use Rattle.jc_rules.specs.declared.id.Id.{Id}
+use Rattle.jc_rules.specs.declared.key.Key.{Key}
+use Rattle.jc_rules.specs.declared.key.Tagged.{Tagged}
+use Rattle.jc_rules.specs.declared.key.Tagged.TheVariants.{RegT}
+use Rattle.jc_rules.specs.Context.{Context, Register, Values, with_content, new_content, with_presence}
+use Rattle.jc_rules.specs.Places.{node_at, with_node_at, context_at}
+use Rattle.jc_rules.specs.Shape.{IsChained}
+use Rattle.jc_tree.specs.Tree.{Tree, history, IsChanged, IsLater}
+
+-- However many changes were made since a mark, the mark still counts, and going back to it gives the tree that was marked.
+pub record GivesBack (a b : Tree) : Type 0 where
+  pub counts : length a.earlier ≤ length b.earlier
+  pub undone : (c : Tree) → history c ≡ take (length a.earlier + 1) (history b) → c ≡ a
+
+pub record UndoLaw : Type 0 where
+  pub same : (a : Tree) → IsLater a a
+  pub later : (a b c : Tree) → IsLater a b → IsLater b c → IsLater a c
+  pub changed : (at : List Tagged) (y : Context) (a b : Tree) → IsChanged at y a b → IsLater a b
+  pub undone : (a b : Tree) → IsLater a b → GivesBack a b
+
+-- Each change but that of a link leaves the lists chained, and a new list is chained.
+pub record KeepsChained : Type 0 where
+  pub child : (at : List Tagged) (t : Tagged) (c : Context) → node_at at c ≢ None → IsChained c → IsChained (with_node_at at (with_content t (new_content t) (context_at at c)) c)
+  pub presence : (at : List Tagged) (k : Key) (s : List Id) (c : Context) → node_at at c ≢ None → IsChained c → IsChained (with_node_at at (with_presence k s (context_at at c)) c)
+  pub register : (at : List Tagged) (k : Key) (r : Register) (c : Context) → node_at at c ≢ None → IsChained c → IsChained (with_node_at at (with_content (RegT k) (Values r) (context_at at c)) c)

@@ -1,0 +1,45 @@
+-- What a store contains.
+use Rattle.std.specs.Prelude.{◌≡◌, ◌≢◌, List, [], ◌∷◌, ◌++◌, Option, Some, None, Bool, true, filter}
+use Rattle.std.specs.Ordering.{is_lt}
+use Rattle.jc_rules.specs.declared.key.Key.{Key}
+use Rattle.jc_rules.specs.declared.key.Tagged.{Tagged}
+use Rattle.jc_rules.specs.Order.{key_cmp}
+use Rattle.jc_rules.specs.Context.{Context}
+use Rattle.jc_rules.specs.Places.{node_at, with_node_at, context_at}
+use Rattle.jc_rules.specs.Table.{least}
+
+-- the content, and the contents before each change since the marks were last forgotten, the oldest first
+pub record Tree : Type 0 where
+  pub now : Context
+  pub earlier : List Context
+
+-- the contents from the oldest to the one now
+abbrev pub history : Tree → List Context
+history t = t.earlier ++ t.now ∷ []
+
+-- the path leads to a context
+abbrev pub HasPlace : List Tagged → Tree → Type 0
+HasPlace at t = node_at at t.now ≢ None
+
+-- the context that the path leads to
+abbrev pub here : List Tagged → Tree → Context
+here at t = context_at at t.now
+
+-- One change: y is now the context at the place, all else in the content is as it was, and the content before it is kept.
+pub record IsChanged (at : List Tagged) (y : Context) (old new : Tree) : Type 0 where
+  pub now : new.now ≡ with_node_at at y old.now
+  pub earlier : new.earlier ≡ history old
+
+-- Only changes have been made: what the history was is still its beginning.
+pub record IsLater (old new : Tree) : Type 0 where
+  pub added : List Context
+  pub is : history new ≡ history old ++ added
+
+-- whether the key comes after the given one, if one is given
+abbrev pub is_after : Option Key → Key → Bool
+is_after None k = true
+is_after (Some j) k = is_lt (key_cmp j k)
+
+-- the least of the keys that come after the given one
+abbrev pub least_after : Option Key → List Key → Option Key
+least_after j ks = least (filter (λ k. is_after j k) ks)

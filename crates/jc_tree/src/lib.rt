@@ -1,0 +1,15 @@
+//! Trees of contexts: what every store of a document's tree promises, and the plain store.
+#![tactic(auto)]
+
+mod entries;
+pub mod laws;
+mod lists;
+mod node;
+mod plain;
+mod store;
+
+pub use plain::PlainTree;
+pub use store::{Mark, TreeStore};
+
+#[cfg(test)]
+mod tests;

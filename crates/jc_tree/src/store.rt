@@ -1,0 +1,121 @@
+//! What every store of a document's tree promises.
+
+ghost use Rattle.std.specs.Prelude.{◌≡◌, ◌≤◌, ◌+◌, [], None, length, take, is_some, option_copied, OnOk, OnErr};
+ghost use Rattle.jc_rules.specs.declared.key.Tagged.TheVariants.{RegT};
+ghost use Rattle.jc_rules.specs.Order.{key_cmp};
+ghost use Rattle.jc_rules.specs.Entries.{find, keys_of};
+ghost use Rattle.jc_rules.specs.Ids.{AreRising};
+ghost use Rattle.jc_rules.specs.Context.{Values, content, with_content, new_content, presence, with_presence, presences, links, next as next_of, with_next, registers, keys};
+ghost use Rattle.jc_rules.specs.Shape.{IsKept, IsKeptRegister};
+ghost use Rattle.jc_tree.specs.Tree.{Tree, history, HasPlace, here, IsChanged, least_after};
+
+use jc_rules::{Id, Key, Next, Tagged, Value};
+use std::alloc::AllocError;
+
+/// A time in a store's history: the number of the contents before the one that was there then.
+#[derive(Clone, Copy, Debug, PartialEq, Eq)]
+pub struct Mark {
+    pub changes: usize,
+}
+
+/// A document's tree, with the contents that it had before each change since the marks were last
+/// forgotten. A place is the path of a context that is there. Each changing call changes the named
+/// entry and no other; after a refusal, for want of memory, the content and the earlier ones are as
+/// they were.
+pub trait TreeStore {
+    /// The content now and the earlier ones.
+    ghost tree: { Self → Tree };
+
+    /// Whether the tagged key is in the context.
+    fn has(&self, at: &[Tagged], key: &Tagged) -> bool
+        requires { HasPlace at.now (tree self.now) }
+        ensures { result ≡ is_some (content key.now (here at.now (tree self.now))) };
+
+    /// Makes a new map, list or register under the tagged key. A new list has its head linked to its end.
+    fn make_child(&mut self, at: &[Tagged], key: &Tagged) -> Result<(), AllocError>
+        requires there { HasPlace at.now (tree self.old) }
+        requires absent { content key.now (here at.now (tree self.old)) ≡ None }
+        ensures ok { OnOk result (IsChanged at.now
+            (with_content key.now (new_content key.now) (here at.now (tree self.old)))
+            (tree self.old) (tree self.new)) }
+        ensures err { OnErr result (tree self.new ≡ tree self.old) };
+
+    /// The presence set of the key, rising.
+    fn presence(&self, at: &[Tagged], key: &Key) -> Option<&[Id]>
+        requires { HasPlace at.now (tree self.now) }
+        ensures { option_copied result ≡ presence key.now (here at.now (tree self.now)) };
+
+    /// Gives the key this presence set. An empty one stays an entry.
+    fn set_presence(&mut self, at: &[Tagged], key: &Key, ids: &[Id]) -> Result<(), AllocError>
+        requires there { HasPlace at.now (tree self.old) }
+        requires rising { AreRising ids.now }
+        ensures ok { OnOk result (IsChanged at.now
+            (with_presence key.now ids.now (here at.now (tree self.old)))
+            (tree self.old) (tree self.new)) }
+        ensures err { OnErr result (tree self.new ≡ tree self.old) };
+
+    /// What follows the key in a list.
+    fn next(&self, at: &[Tagged], key: &Key) -> Option<Next>
+        requires { HasPlace at.now (tree self.now) }
+        ensures { result ≡ next_of key.now (here at.now (tree self.now)) };
+
+    /// Links the key to what follows it.
+    fn set_next(&mut self, at: &[Tagged], key: &Key, next: Next) -> Result<(), AllocError>
+        requires { HasPlace at.now (tree self.old) }
+        ensures ok { OnOk result (IsChanged at.now
+            (with_next key.now next (here at.now (tree self.old)))
+            (tree self.old) (tree self.new)) }
+        ensures err { OnErr result (tree self.new ≡ tree self.old) };
+
+    /// The values of the key's register, rising by identifier.
+    fn register(&self, at: &[Tagged], key: &Key) -> Option<&[(Id, Value)]>
+        requires { HasPlace at.now (tree self.now) }
+        ensures { option_copied result ≡ find key_cmp key.now (registers (here at.now (tree self.now))) };
+
+    /// Gives the key a register with these values. After a refusal the values are gone.
+    fn set_register(
+        &mut self,
+        at: &[Tagged],
+        key: &Key,
+        pairs: Vec<(Id, Value)>,
+    ) -> Result<(), AllocError>
+        requires there { HasPlace at.now (tree self.old) }
+        requires kept { IsKeptRegister pairs.items }
+        ensures ok { OnOk result (IsChanged at.now
+            (with_content (RegT key.now) (Values pairs.items) (here at.now (tree self.old)))
+            (tree self.old) (tree self.new)) }
+        ensures err { OnErr result (tree self.new ≡ tree self.old) };
+
+    /// The least key with a map, a list or a register, above the given one.
+    fn key_after(&self, at: &[Tagged], above: Option<&Key>) -> Option<&Key>
+        requires { HasPlace at.now (tree self.now) }
+        ensures { option_copied result ≡ least_after (option_copied above.entry) (keys (here at.now (tree self.now))) };
+
+    /// The least key with a presence set, above the given one. The set may be empty.
+    fn presence_after(&self, at: &[Tagged], above: Option<&Key>) -> Option<&Key>
+        requires { HasPlace at.now (tree self.now) }
+        ensures { option_copied result
+            ≡ least_after (option_copied above.entry) (keys_of (presences (here at.now (tree self.now)))) };
+
+    /// The least key that something follows in a list, above the given one.
+    fn link_after(&self, at: &[Tagged], above: Option<&Key>) -> Option<&Key>
+        requires { HasPlace at.now (tree self.now) }
+        ensures { option_copied result ≡ least_after (option_copied above.entry) (keys_of (links (here at.now (tree self.now)))) };
+
+    /// Marks the content.
+    fn mark(&self) -> Mark
+        ensures { result.changes ≡ length (tree self.now).earlier };
+
+    /// Goes back to the content at the mark.
+    fn undo_to(&mut self, mark: Mark)
+        requires { mark.changes ≤ length (tree self.old).earlier }
+        ensures { history (tree self.new) ≡ take (mark.changes + 1) (history (tree self.old)) };
+
+    /// Gives up the earlier contents, so that earlier marks count no more.
+    fn forget_marks(&mut self)
+        ensures { tree self.new ≡ record { now = (tree self.old).now; earlier = [] } };
+
+    /// At every depth the entries rise by key, presence sets and registers by identifier, and
+    /// registers have primitive values.
+    ghost kept: { (s : Self) → IsKept (tree s).now };
+}
