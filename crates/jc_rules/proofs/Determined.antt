@@ -1,5 +1,5 @@
 -- A question has one derivation.
-use Rattle.std.proofs.Common.{◌≡◌, ◌≢◌, ℕ, zero, suc, ◌+◌, ◌≤◌, List, [], ◌∷◌, ◌++◌, length, Bool, true, false, not, cond, Option, Some, None, refl, sym, ◌∙◌, ap, subst}
+use Rattle.std.proofs.Common.{◌≡◌, ◌≢◌, ℕ, zero, suc, List, [], ◌∷◌, Option, Some, None, refl, sym, ◌∙◌, ap, subst}
 use Rattle.jc_rules.specs.declared.key.Tagged.TheVariants.{MapT, ListT, RegT}
 use Rattle.std.specs.Ordering.{match_ordering}
 use Rattle.jc_rules.specs.declared.id.Id.{Id}
@@ -17,10 +17,9 @@ use Rattle.jc_rules.specs.Order.{id_cmp}
 use Rattle.jc_rules.specs.declared.rule.Rule.{Rule}
 use Rattle.jc_rules.specs.declared.rule.Rule.TheVariants as R
 use Rattle.jc_rules.specs.declared.operation.Event.TheVariants as E
-use Rattle.jc_rules.specs.Context.{Context, Content, Node, Values, IsPrimitive, content, presence, next}
-use Rattle.jc_rules.specs.Syntax.{Expr, TheDoc, Variable, GetKey, Index, KeysOf, ValuesOf, Cmd, LetIn, SetTo, InsertAfter, DeleteAt, Yield}
-use Rattle.jc_rules.specs.State.{State, Bound, ACursor, Names, Pairs}
-use Rattle.jc_rules.specs.Derivation.{Question, Occur, Run, Evaluate, SelectIndex, SelectKeys, SelectValues, Make, ApplyOp, Operate, Child, AddId, Presence, Clear, ClearAny, ClearElem, ClearMap, ClearList, Answer, ToState, ToBound, ToCursor, ToNames, ToPairs, ToContext, ToContent, ToIds, Cleared, Judgement, gives, asked, Derivation, derive, Premises, none, premise, conclusions, conclusion}
+use Rattle.jc_rules.specs.Context.{Context, IsPrimitive, content, presence, next}
+use Rattle.jc_rules.specs.Syntax.{TheDoc, Variable, GetKey, Index, KeysOf, ValuesOf, LetIn, SetTo, InsertAfter, DeleteAt, Yield}
+use Rattle.jc_rules.specs.Derivation.{Question, Occur, Run, Evaluate, SelectIndex, SelectKeys, SelectValues, Make, ApplyOp, Operate, Child, AddId, Presence, Clear, ClearAny, ClearElem, ClearMap, ClearList, Answer, Judgement, gives, asked, Derivation, derive, Premises, none, premise, conclusions, conclusion}
 use Rattle.jc_rules.specs.Table.{Follows, Holds, AllHold, IsEmptyIds, IsBefore, least_left}
 
 -- premises that ask the same as long as they have had the same answers

@@ -1,16 +1,15 @@
 -- Laws of sets of identifiers.
-use Rattle.std.proofs.Common.{◌≡◌, ◌≢◌, ℕ, zero, suc, ◌<◌, ◌≤◌, ◌-◌, sub-one, length, get_or, slice_get, Option, Some, None, insert, Result, Ok, Err, is_ok, IsTrue, ◌↔◌, List, [], ◌∷◌, Bool, true, false, not, ◌||◌, ◌&&◌, filter, max, refl, sym, ◌∙◌, ap, arith}
+use Rattle.std.proofs.Common.{◌≡◌, ℕ, zero, suc, ◌<◌, ◌≤◌, ◌-◌, length, get_or, slice_get, Some, None, insert, Result, Ok, Err, is_ok, List, [], ◌∷◌, Bool, true, false, not, ◌||◌, ◌&&◌, refl, sym, ◌∙◌, arith}
 use Rattle.std.specs.List.{AllByRecursion}
 use Rattle.std.specs.List.Sorted.{IsBinarySearchResult, IsSearchInRange}
-use Rattle.std.specs.Ordering.{match_ordering, nat_cmp}
+use Rattle.std.specs.Ordering.{nat_cmp}
 use Rattle.std.proofs.lemmas.Cmp.{ranked}
 use Rattle.std.specs.List.{list_all}
 use Rattle.std.specs.declared.cmp.Ordering.{Ordering}
 use Rattle.std.specs.declared.cmp.Ordering.TheVariants.{Less, Equal, Greater}
-use Rattle.std.specs.Cmp.{IsTotalOrder, tied_itself}
+use Rattle.std.specs.Cmp.{tied_itself}
 use Rattle.jc_rules.specs.declared.id.Id.{Id}
 use Rattle.jc_rules.specs.Order.{id_cmp, same_id}
-use Rattle.jc_rules.specs.Entries.{IsRising}
 use Rattle.jc_rules.specs.Ids.{AreRising, has_id, with_id, added, union, without, greatest, AreIn}
 use Rattle.jc_rules.proofs.Order.{ids_total, exact_ids}
 use Rattle.jc_rules.proofs.Rising as rising

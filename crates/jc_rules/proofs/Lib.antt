@@ -6,6 +6,7 @@ pub mod Ids
 pub mod Determined
 pub mod Listed
 pub mod Network
+pub mod Refusing
 pub mod Steps
 pub mod Shown
 pub mod Fronts

@@ -1,10 +1,9 @@
 -- An event has one step at most.
-use Rattle.std.proofs.Common.{◌≡◌, ℕ, List, [], ◌∷◌, Option, Some, None, refl, sym, ◌∙◌, ap, slice_get, slice_set}
-use Rattle.jc_rules.specs.declared.operation.Op.{Op}
+use Rattle.std.proofs.Common.{◌≡◌, ℕ, List, [], ◌∷◌, Some, sym, ◌∙◌, ap, slice_set}
 use Rattle.jc_rules.specs.declared.operation.Event.{Event}
 use Rattle.jc_rules.specs.declared.rule.Rule.{Rule}
 use Rattle.jc_rules.specs.State.{State}
-use Rattle.jc_rules.specs.Derivation.{Question, Occur, Answer, ToState, Judgement, gives, asked, Derivation, conclusion, trace}
+use Rattle.jc_rules.specs.Derivation.{Question, Occur, ToState, gives, asked, conclusion, trace}
 use Rattle.jc_rules.specs.Step.{Step, After, replica_of}
 use Rattle.jc_rules.proofs.Determined.{same_derivation}
 

@@ -1,10 +1,9 @@
 -- The orders of identifiers, names and keys are total, and tell different ones apart.
-use Rattle.std.proofs.Common.{◌≡◌, ℕ, List, refl, ap, subst}
+use Rattle.std.proofs.Common.{◌≡◌, ℕ, refl, ap, subst}
 use Rattle.std.specs.Cmp.{IsTotalOrder}
 use Rattle.std.specs.FinMap.{slice_cmp-IsAntisymmetric, nat_cmp-IsAntisymmetric}
 use Rattle.std.specs.Ordering.{nat_cmp}
 use Rattle.std.proofs.lemmas.Map.Lookups.{CmpEqualImpliesEq, exact_pairs, exact_unsigned}
-use Rattle.jc_rules.specs.declared.id.Id.{Id}
 use Rattle.jc_rules.specs.declared.key.Key.{Key}
 use Rattle.jc_rules.specs.declared.key.Key.TheVariants.{Doc, Head, Name, Elem}
 use Rattle.jc_rules.specs.contracts.id.IdOrd.TheImpl.Laws.{total-law as id-total-law}

@@ -27,9 +27,9 @@ use Rattle.jc_rules.specs.Syntax.{Expr, TheDoc, Variable, GetKey, Index, KeysOf,
 use Rattle.jc_rules.specs.State.{State, Bound, ACursor, Names, Pairs}
 use Rattle.jc_rules.specs.Derivation.{Question, Occur, Run, Evaluate, SelectIndex, SelectKeys, SelectValues, Make, ApplyOp, Operate, Child, AddId, Presence, Clear, ClearAny, ClearElem, ClearMap, ClearList, Answer, ToState, ToBound, ToCursor, ToNames, ToPairs, ToContext, ToContent, ToIds, Cleared, Judgement, gives, Derivation, derive, Premises, none, premise, conclusion, conclusions, trace, traces}
 use Rattle.jc_rules.specs.Table.{Holds, AllHold, Follows, cursor, moved, IsEmptyIds, IsBefore, bind, kept, least_left, names_in, op_of, with_op, both, after}
+use Rattle.jc_rules.specs.Refused.{IsAnswered}
 use Rattle.jc_rules.specs.Step.{replica_of, read_by, After}
 use Rattle.jc_rules.specs.Worked.{IsWorked}
-pub mod Stuck
 
 -- a derivation of the answer, with these rows from the depth on
 pub record Shown (n : ℕ) (q : Question) (a : Answer) (rows : List (Rule × ℕ)) : Type 0 where
@@ -37,6 +37,9 @@ pub record Shown (n : ℕ) (q : Question) (a : Answer) (rows : List (Rule × ℕ
   pub holds : Holds derivation
   pub concludes : conclusion derivation ≡ gives q a
   pub is_trace : trace n derivation ≡ rows
+
+pub answered : {n : ℕ} {q : Question} {a : Answer} {rows : List (Rule × ℕ)} → Shown n q a rows → IsAnswered q a
+answered s = record { derivation = s.derivation; holds = s.holds; concludes = s.concludes }
 
 -- premises with these conclusions
 pub record AllShown (n : ℕ) (js : List Judgement) (rows : List (Rule × ℕ)) : Type 0 where

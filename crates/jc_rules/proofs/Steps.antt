@@ -1,10 +1,10 @@
 -- A rule on top of the derivations of its premises, and what the trace gets.
-use Rattle.std.proofs.Common.{◌≡◌, ℕ, ◌+◌, ◌-◌, List, [], ◌∷◌, ◌++◌, refl, sym, ◌∙◌, ap, subst, arith, append_assoc, append-nil}
+use Rattle.std.proofs.Common.{◌≡◌, List, [], ◌∷◌, ◌++◌, refl, sym, ◌∙◌, subst, append_assoc, append-nil}
 use Rattle.jc_rules.specs.declared.rule.Rule.{Rule}
-use Rattle.jc_rules.specs.Derivation.{Question, Answer, Judgement, gives, Derivation, derive, Premises, none, premise, conclusion, conclusions, trace, traces}
-use Rattle.jc_rules.specs.Table.{Follows, Holds, AllHold}
+use Rattle.jc_rules.specs.Derivation.{Question, Answer, Judgement, gives, derive, Premises, none, premise, conclusions, traces}
+use Rattle.jc_rules.specs.Table.{Follows, AllHold}
 use Rattle.jc_rules.specs.Derives.{Derives}
-use Rattle.jc_rules.specs.Trace.{Rows, pushed, below, above, at_depth, IsLonger}
+use Rattle.jc_rules.specs.Trace.{Rows, pushed, below, at_depth, IsLonger}
 
 -- derivations of premises, one after another
 pub record DeriveAll (js : List Judgement) (t u : Rows) : Type 0 where

@@ -1,5 +1,5 @@
 -- What the definitions promise by themselves.
-use Rattle.std.specs.Prelude.{◌≡◌, ℕ, List, [], ◌∷◌, not, ◌||◌, ◌&&◌}
+use Rattle.std.specs.Prelude.{◌≡◌, ◌≢◌, ℕ, List, not, ◌||◌, ◌&&◌}
 use Rattle.std.specs.Cmp.{IsTotalOrder}
 use Rattle.std.specs.declared.cmp.Ordering.{Ordering}
 use Rattle.std.specs.declared.cmp.Ordering.TheVariants.{Equal}
@@ -12,9 +12,10 @@ use Rattle.jc_rules.specs.Ids.{AreRising, has_id, with_id, union, without}
 use Rattle.jc_rules.specs.RuleNames.{rule_name}
 use Rattle.jc_rules.specs.Refusals.{number_of}
 use Rattle.jc_rules.specs.State.{State}
-use Rattle.jc_rules.specs.Derivation.{Derivation, conclusion, asked}
+use Rattle.jc_rules.specs.Derivation.{Question, Derivation, conclusion, asked}
 use Rattle.jc_rules.specs.Table.{Holds}
 use Rattle.jc_rules.specs.Step.{Step, After}
+use Rattle.jc_rules.specs.Refused.{Cause, Refused, IsStuck}
 
 -- Two derivations that hold and answer one question are one.
 abbrev pub OneDerivation : Type 0
@@ -29,6 +30,22 @@ OneStep =
 -- The same events lead a network to one network at most.
 abbrev pub OneAfter : Type 0
 OneAfter = (network : List State) (events : List Event) (last other : List State) → After network events last → After network events other → last ≡ other
+
+-- A question that is refused has no derivation.
+abbrev pub RefusedHasNone : Type 0
+RefusedHasNone = (q : Question) (why : Cause) → Refused q why → (d : Derivation) → Holds d → asked (conclusion d) ≢ q
+
+-- A question is refused in one way only.
+abbrev pub OneCause : Type 0
+OneCause = (q : Question) (why other : Cause) → Refused q why → Refused q other → why ≡ other
+
+-- An event that is stuck leads to no network.
+abbrev pub StuckHasNone : Type 0
+StuckHasNone = (network new : List State) (event : Event) (why : Cause) (rows : List (Rule × ℕ)) → IsStuck network event why → Step network event new rows → ⊥
+
+-- An event is stuck in one way only.
+abbrev pub OneStuck : Type 0
+OneStuck = (network : List State) (event : Event) (why other : Cause) → IsStuck network event why → IsStuck network event other → why ≡ other
 
 -- an order that tells different keys apart
 pub record IsExactOrder {K : Type 0} (R : K → K → Ordering) : Type 0 where

@@ -11,6 +11,7 @@ pub mod Table
 pub mod Trace
 pub mod Derives
 pub mod Step
+pub mod Refused
 pub mod Sound
 pub mod RuleNames
 pub mod Refusals

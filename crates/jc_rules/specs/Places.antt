@@ -2,7 +2,7 @@
 use Rattle.std.specs.Prelude.{◌≡◌, List, [], ◌∷◌, ◌++◌, Option, Some, None}
 use Rattle.jc_rules.specs.declared.key.Key.{Key}
 use Rattle.jc_rules.specs.declared.key.Tagged.{Tagged}
-use Rattle.jc_rules.specs.Context.{Context, Content, Node, Values, content, with_content, empty, key_of}
+use Rattle.jc_rules.specs.Context.{Context, Content, Node, content, with_content, empty, key_of}
 
 -- by whether there is a context
 abbrev pub at_node : {A : Type 0} → Option Content → (Context → A) → A → A

@@ -5,7 +5,7 @@ ghost use Rattle.jc_rules.specs.Worked.Maps.{FirstMap, AssignmentOverMap, MapOve
 ghost use Rattle.jc_rules.specs.Worked.Lists.{FirstList, InsertAtHead, InsertAfterElement, DeleteElement, IndexPastTombstone, WholeListDeleted};
 ghost use Rattle.jc_rules.specs.Worked.Inserts.{SendsMade, YieldEnds, ReceivesOffered, AppliesReceived, ConcurrentInsert, InsertBeforeLesser, InsertLater};
 ghost use Rattle.jc_rules.specs.Worked.Deletions.{MapDeletion, AssignmentInDeletedMap, ListDeletion, ListAfterDeletion};
-ghost use Rattle.jc_rules.specs.Worked.Stuck.{SendBeforeYield, RunAtYield, DoneTooEarly, ApplyTwice, ApplyUnreceived, RunPastScript, DonePastScript, DependencyMissing, IndexInNothing, IndexInMap, IndexPastEnd, VariableUnbound, KeysOfNothing, ValuesOfNothing, InsertInNothing, AssignmentToNames, KeyOfHead, KeyTooDeep};
+ghost use Rattle.jc_rules.specs.Worked.Stuck.{SendBeforeYield, RunAtYield, DoneTooEarly, ApplyTwice, ApplyUnreceived, RunPastScript, DonePastScript, DependencyMissing, IndexInNothing, IndexInMap, IndexPastEnd, VariableUnbound, KeysOfNothing, ValuesOfNothing, InsertInNothing, AssignmentToNames, KeyOfHead, KeyTooDeep, FromNobody, ByNobody, OfNobody};
 ghost use Rattle.jc_rules.specs.Worked.Schedules.{InsertsMeet, MapDeletionMeets, ListDeletionMeets};
 
 /// One assignment on a fresh replica.
@@ -256,4 +256,19 @@ pub fn key_of_head()
 /// Stuck: a key below a path of 512 keys.
 pub fn key_too_deep()
     ensures { KeyTooDeep }
+{}
+
+/// Stuck: a receive from a replica that isn't there.
+pub fn from_nobody()
+    ensures { FromNobody }
+{}
+
+/// Stuck: a command of a replica that isn't there.
+pub fn by_nobody()
+    ensures { ByNobody }
+{}
+
+/// Stuck: an operation of a replica that isn't there is only missing among those received.
+pub fn of_nobody()
+    ensures { OfNobody }
 {}

@@ -1,22 +1,24 @@
--- Events that are stuck: they have no derivation.
-use Rattle.std.specs.Prelude.{◌≡◌, ◌<◌, List, [], ◌∷◌, length, codes, true, false}
+-- Events that are refused, and why.
+use Rattle.std.specs.Prelude.{◌<◌, List, [], ◌∷◌, length, codes, true, false}
 use Rattle.jc_rules.specs.declared.key.Key.TheVariants as K
 use Rattle.jc_rules.specs.declared.key.Tagged.{Tagged}
-use Rattle.jc_rules.specs.declared.operation.Op.{Op}
+use Rattle.jc_rules.specs.declared.key.Tagged.TheVariants.{MapT, ListT}
 use Rattle.jc_rules.specs.declared.operation.Event.{Event}
 use Rattle.jc_rules.specs.declared.operation.Event.TheVariants as E
 use Rattle.jc_rules.specs.Context.{empty}
 use Rattle.jc_rules.specs.Syntax.{Expr, TheDoc, Variable, GetKey, Index, KeysOf, ValuesOf, LetIn, SetTo, InsertAfter, Yield}
 use Rattle.jc_rules.specs.State.{State, start, ACursor, Names}
-use Rattle.jc_rules.specs.Derivation.{Derivation, conclusion, asked, Occur}
-use Rattle.jc_rules.specs.Table.{Holds, cursor}
+use Rattle.jc_rules.specs.Derivation.{Occur}
+use Rattle.jc_rules.specs.Refused.{Cause, because, no_node, Refused, IsStuck}
+use Rattle.jc_rules.specs.declared.refusal.Refusal.TheVariants as F
+use Rattle.jc_rules.specs.Table.{cursor}
 use Rattle.jc_rules.specs.Worked.{by_a, alone}
 use Rattle.jc_rules.specs.Worked.Registers.{one, assign_one, assign_two, assigned}
 use Rattle.jc_rules.specs.Worked.Lists.{make_list, tree_1, after_5}
 
--- In the state the event, which reads these operations, has no derivation.
-pub record IsStuck (before : State) (event : Event) (read : List Op) : Type 0 where
-  pub never : (d : Derivation) → Holds d → asked (conclusion d) ≡ Occur before event read → ⊥
+-- in the state the event, which reads nothing, is refused for this cause
+abbrev pub IsRefused : State → Event → Cause → Type 0
+IsRefused A event why = Refused (Occur A event []) why
 
 -- `doc.get("a")`
 abbrev pub at_a : Expr
@@ -27,62 +29,72 @@ abbrev pub exchanged : State
 exchanged = record (assigned (Yield ∷ []) []) { acted = true; send = assign_one ∷ []; recv = assign_one ∷ [] }
 
 abbrev pub SendBeforeYield : Type 0
-SendBeforeYield = IsStuck (start (SetTo at_a one ∷ Yield ∷ [])) (E.Send 0) []
+SendBeforeYield = IsRefused (start (SetTo at_a one ∷ Yield ∷ [])) (E.Send 0) (because F.NotAtYield)
 
 abbrev pub RunAtYield : Type 0
-RunAtYield = IsStuck (assigned (Yield ∷ []) []) (E.Exec 0) []
+RunAtYield = IsRefused (assigned (Yield ∷ []) []) (E.Exec 0) (because F.AtYield)
 
 abbrev pub DoneTooEarly : Type 0
-DoneTooEarly = IsStuck (assigned (Yield ∷ []) []) (E.Done 0) []
+DoneTooEarly = IsRefused (assigned (Yield ∷ []) []) (E.Done 0) (because F.NotActed)
 
 abbrev pub ApplyTwice : Type 0
-ApplyTwice = IsStuck exchanged (E.Apply 0 (by_a 1)) []
+ApplyTwice = IsRefused exchanged (E.Apply 0 (by_a 1)) (because F.AlreadyApplied)
 
 abbrev pub ApplyUnreceived : Type 0
-ApplyUnreceived = IsStuck exchanged (E.Apply 0 (by_a 9)) []
+ApplyUnreceived = IsRefused exchanged (E.Apply 0 (by_a 9)) (because F.NotReceived)
 
 abbrev pub RunPastScript : Type 0
-RunPastScript = IsStuck (record exchanged { left = []; acted = false }) (E.Exec 0) []
+RunPastScript = IsRefused (record exchanged { left = []; acted = false }) (E.Exec 0) (because F.NoCommand)
 
 abbrev pub DonePastScript : Type 0
-DonePastScript = IsStuck (record exchanged { left = []; acted = false }) (E.Done 0) []
+DonePastScript = IsRefused (record exchanged { left = []; acted = false }) (E.Done 0) (because F.NoCommand)
 
 -- `b.apply(2, a)` before `b.apply(1, a)`
 abbrev pub DependencyMissing : Type 0
-DependencyMissing = IsStuck (record (start (Yield ∷ [])) { acted = true; recv = assign_one ∷ assign_two ∷ [] }) (E.Apply 1 (by_a 2)) []
+DependencyMissing = IsRefused (record (start (Yield ∷ [])) { acted = true; recv = assign_one ∷ assign_two ∷ [] }) (E.Apply 1 (by_a 2)) (because F.DepsMissing)
 
 -- first commands on a fresh replica: `let x = doc.get("l").idx(0)`, `let s = x`, `let s = doc.keys`, `let s = doc.values` and `doc.get("a").insertAfter(1)`
 abbrev pub IndexInNothing : Type 0
-IndexInNothing = IsStuck (start (LetIn (codes "x") (Index (GetKey TheDoc (codes "l")) 0) ∷ [])) (E.Exec 0) []
+IndexInNothing = IsRefused (start (LetIn (codes "x") (Index (GetKey TheDoc (codes "l")) 0) ∷ [])) (E.Exec 0) (no_node (MapT K.Doc))
 
 abbrev pub VariableUnbound : Type 0
-VariableUnbound = IsStuck (start (LetIn (codes "s") (Variable (codes "x")) ∷ [])) (E.Exec 0) []
+VariableUnbound = IsRefused (start (LetIn (codes "s") (Variable (codes "x")) ∷ [])) (E.Exec 0) (because F.UnboundVariable)
 
 abbrev pub KeysOfNothing : Type 0
-KeysOfNothing = IsStuck (start (LetIn (codes "s") (KeysOf TheDoc) ∷ [])) (E.Exec 0) []
+KeysOfNothing = IsRefused (start (LetIn (codes "s") (KeysOf TheDoc) ∷ [])) (E.Exec 0) (because F.NoMap)
 
 abbrev pub ValuesOfNothing : Type 0
-ValuesOfNothing = IsStuck (start (LetIn (codes "s") (ValuesOf TheDoc) ∷ [])) (E.Exec 0) []
+ValuesOfNothing = IsRefused (start (LetIn (codes "s") (ValuesOf TheDoc) ∷ [])) (E.Exec 0) (because F.NoRegister)
 
 abbrev pub InsertInNothing : Type 0
-InsertInNothing = IsStuck (start (InsertAfter at_a one ∷ [])) (E.Exec 0) []
+InsertInNothing = IsRefused (start (InsertAfter at_a one ∷ [])) (E.Exec 0) (because F.NotInList)
 
 -- `let x = doc.get("l").idx(0)` where only "a" is
 abbrev pub IndexInMap : Type 0
-IndexInMap = IsStuck (assigned (LetIn (codes "x") (Index (GetKey TheDoc (codes "l")) 0) ∷ []) []) (E.Exec 0) []
+IndexInMap = IsRefused (assigned (LetIn (codes "x") (Index (GetKey TheDoc (codes "l")) 0) ∷ []) []) (E.Exec 0) (no_node (ListT (K.Name (codes "l"))))
 
 -- `let w = doc.idx(2)` where one element isn't deleted
 abbrev pub IndexPastEnd : Type 0
-IndexPastEnd = IsStuck after_5 (E.Exec 0) []
+IndexPastEnd = IsRefused after_5 (E.Exec 0) (because F.PastEnd)
 
 -- `s := 1` where s is a list of names
 abbrev pub AssignmentToNames : Type 0
-AssignmentToNames = IsStuck (assigned (SetTo (Variable (codes "s")) one ∷ []) ((codes "s", Names (codes "a" ∷ [])) ∷ [])) (E.Exec 0) []
+AssignmentToNames = IsRefused (assigned (SetTo (Variable (codes "s")) one ∷ []) ((codes "s", Names (codes "a" ∷ [])) ∷ [])) (E.Exec 0) (because F.NotACursor)
 
 -- `doc.idx(0).get("a") := 1` where the document is a list
 abbrev pub KeyOfHead : Type 0
-KeyOfHead = IsStuck (alone (SetTo (GetKey (Index TheDoc 0) (codes "a")) one ∷ []) [] tree_1 (by_a 1 ∷ []) (make_list ∷ [])) (E.Exec 0) []
+KeyOfHead = IsRefused (alone (SetTo (GetKey (Index TheDoc 0) (codes "a")) one ∷ []) [] tree_1 (by_a 1 ∷ []) (make_list ∷ [])) (E.Exec 0) (because F.GetOnHead)
 
 -- `let x = x.get("a")` where the path of x has more than 511 keys
 abbrev pub KeyTooDeep : Type 0
-KeyTooDeep = (path : List Tagged) → 511 < length path → IsStuck (alone (LetIn (codes "x") (GetKey (Variable (codes "x")) (codes "a")) ∷ []) ((codes "x", ACursor (cursor path (K.Name (codes "a")))) ∷ []) empty [] []) (E.Exec 0) []
+KeyTooDeep = (path : List Tagged) → 511 < length path → IsRefused (alone (LetIn (codes "x") (GetKey (Variable (codes "x")) (codes "a")) ∷ []) ((codes "x", ACursor (cursor path (K.Name (codes "a")))) ∷ []) empty [] []) (E.Exec 0) (because F.TooDeep)
+
+-- In a network of one replica that is at a yield: it receives from a second one, a second one runs, and it applies an operation of one that isn't there, which is asked for among the received ones alone.
+abbrev pub FromNobody : Type 0
+FromNobody = IsStuck (start (Yield ∷ []) ∷ []) (E.Recv 0 1) (because F.NoSuchReplica)
+
+abbrev pub ByNobody : Type 0
+ByNobody = IsStuck (start (Yield ∷ []) ∷ []) (E.Exec 1) (because F.NoSuchReplica)
+
+abbrev pub OfNobody : Type 0
+OfNobody = IsStuck (start (Yield ∷ []) ∷ []) (E.Apply 0 (record { counter = 1; replica = 1 })) (because F.NotReceived)

@@ -1,4 +1,4 @@
-use Rattle.std.proofs.Common.{◌≡◌, ◌∙◌, sym, refl, is_ok, true, ap}
+use Rattle.std.proofs.Common.{◌≡◌, ◌∙◌, sym, is_ok, true, ap}
 use Rattle.jc_rules.specs.Ids.{AreRising, has_id, with_id}
 use Rattle.jc_rules.proofs.Ids.{with-rises, with-present, searched, searched_place}
 use Rattle.jc_rules.proofs.id_set.insert_id.Goals as goal

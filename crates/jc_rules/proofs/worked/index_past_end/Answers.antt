@@ -1,7 +1,8 @@
 use Rattle.std.specs.Prelude.{refl}
-use Rattle.jc_rules.proofs.Shown.{doc}
-use Rattle.jc_rules.proofs.Shown.Stuck.{stuck, run_stuck, let_stuck, index_stuck, index_below, index_on, index_past, at_end}
+use Rattle.std.proofs.Common.{arith}
+use Rattle.jc_rules.specs.Refused.{in_command, in_first, in_index, index_below, in_passed, in_counted, past_end}
+use Rattle.jc_rules.proofs.Shown.{answered, doc}
 use Rattle.jc_rules.proofs.worked.index_past_end.Goals as goal
 
 pub returns : goal.returns
-returns c = stuck (run_stuck refl (let_stuck (index_stuck (doc {n = 0}) (index_below refl (index_past refl refl (index_on refl refl (at_end refl refl)))))))
+returns c = in_command refl (λ e. cc) (in_first refl (in_index (answered (doc {n = 0})) (omega arith) (index_below refl refl (in_passed refl refl tt (in_counted refl refl (λ h. h) (past_end refl (λ j e. cc)))))))

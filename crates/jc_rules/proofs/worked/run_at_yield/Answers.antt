@@ -1,6 +1,6 @@
 use Rattle.std.specs.Prelude.{refl}
-use Rattle.jc_rules.proofs.Shown.Stuck.{stuck, at_yield}
+use Rattle.jc_rules.specs.Refused.{at_yield}
 use Rattle.jc_rules.proofs.worked.run_at_yield.Goals as goal
 
 pub returns : goal.returns
-returns c = stuck (at_yield refl)
+returns c = at_yield refl

@@ -1,6 +1,6 @@
 use Rattle.std.specs.Prelude.{refl}
-use Rattle.jc_rules.proofs.Shown.Stuck.{stuck, run_stuck, let_stuck, unbound}
+use Rattle.jc_rules.specs.Refused.{in_command, in_first, unbound}
 use Rattle.jc_rules.proofs.worked.variable_unbound.Goals as goal
 
 pub returns : goal.returns
-returns c = stuck (run_stuck refl (let_stuck (unbound refl)))
+returns c = in_command refl (λ e. cc) (in_first refl (unbound refl))

@@ -1,4 +1,4 @@
-use Rattle.std.proofs.Common.{◌≡◌, ◌∙◌, ◌-◌, sym, refl, length, slice_get, Some}
+use Rattle.std.proofs.Common.{◌≡◌, ◌-◌, sym, length, slice_get, Some}
 use Rattle.jc_rules.specs.Ids.{AreRising}
 use Rattle.jc_rules.proofs.Ids.{greatest-last}
 use Rattle.jc_rules.proofs.id_set.IdSet.greatest.Goals as goal

@@ -1,0 +1,5 @@
+use Rattle.jc_rules.proofs.Refusing.{one_cause}
+use Rattle.jc_rules.proofs.laws.one_cause.Goals as goal
+
+pub returns : goal.returns
+returns c = one_cause

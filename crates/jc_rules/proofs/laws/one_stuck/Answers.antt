@@ -1,0 +1,5 @@
+use Rattle.jc_rules.proofs.Refusing.{one_stuck}
+use Rattle.jc_rules.proofs.laws.one_stuck.Goals as goal
+
+pub returns : goal.returns
+returns c = one_stuck
