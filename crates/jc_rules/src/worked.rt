@@ -5,7 +5,7 @@ ghost use Rattle.jc_rules.specs.Worked.Maps.{FirstMap, AssignmentOverMap, MapOve
 ghost use Rattle.jc_rules.specs.Worked.Lists.{FirstList, InsertAtHead, InsertAfterElement, DeleteElement, IndexPastTombstone, WholeListDeleted};
 ghost use Rattle.jc_rules.specs.Worked.Inserts.{SendsMade, YieldEnds, ReceivesOffered, AppliesReceived, ConcurrentInsert, InsertBeforeLesser, InsertLater};
 ghost use Rattle.jc_rules.specs.Worked.Deletions.{MapDeletion, AssignmentInDeletedMap, ListDeletion, ListAfterDeletion};
-ghost use Rattle.jc_rules.specs.Worked.Stuck.{SendBeforeYield, RunAtYield, DoneTooEarly, ApplyTwice, ApplyUnreceived, RunPastScript, DonePastScript, DependencyMissing, IndexInNothing, IndexInMap, IndexPastEnd, VariableUnbound, KeysOfNothing, ValuesOfNothing, InsertInNothing, AssignmentToNames, KeyOfHead, KeyTooDeep, FromNobody, ByNobody, OfNobody};
+ghost use Rattle.jc_rules.specs.Worked.Stuck.{SendBeforeYield, RunAtYield, DoneTooEarly, ApplyTwice, ApplyUnreceived, RunPastScript, DonePastScript, DependencyMissing, IndexInNothing, IndexInMap, IndexPastEnd, VariableUnbound, KeysOfNothing, ValuesOfNothing, InsertInNothing, AssignmentToNames, KeyOfHead, KeyTooDeep, KeysOfRegister, KeysInNothing, ValuesInNothing, FromNobody, ByNobody, OfNobody};
 ghost use Rattle.jc_rules.specs.Worked.Schedules.{InsertsMeet, MapDeletionMeets, ListDeletionMeets};
 
 /// One assignment on a fresh replica.
@@ -256,6 +256,21 @@ pub fn key_of_head()
 /// Stuck: a key below a path of 512 keys.
 pub fn key_too_deep()
     ensures { KeyTooDeep }
+{}
+
+/// Stuck: the keys of what has a value alone.
+pub fn keys_of_register()
+    ensures { KeysOfRegister }
+{}
+
+/// Stuck: the keys under a key where there is nothing yet.
+pub fn keys_in_nothing()
+    ensures { KeysInNothing }
+{}
+
+/// Stuck: the values under a key where there is nothing yet.
+pub fn values_in_nothing()
+    ensures { ValuesInNothing }
 {}
 
 /// Stuck: a receive from a replica that isn't there.

@@ -1,8 +1,9 @@
 -- What a change leaves at its place.
 use Rattle.std.proofs.Common.{ℕ, ◌+◌, length, take, [], ◌∷◌, ◌++◌, refl, sym, ◌≡◌, ◌≢◌, List, Option, Some, None, ◌∙◌, ap}
+use Rattle.jc_rules.specs.declared.key.Key.{Key}
 use Rattle.jc_rules.specs.declared.key.Tagged.{Tagged}
 use Rattle.jc_rules.specs.declared.key.Tagged.TheVariants.{MapT, ListT, RegT}
-use Rattle.jc_rules.specs.Context.{Context, context, Content, Node, Values, content, with_content, new_content}
+use Rattle.jc_rules.specs.Context.{Context, context, Content, Node, Values, content, with_content, new_content, empty}
 use Rattle.jc_rules.specs.Places.{at_node, node_in, node_at, or_empty}
 use Rattle.jc_rules.proofs.Order.{keys_total, exact_keys}
 use Rattle.jc_rules.proofs.Entries.{found-put}
@@ -52,6 +53,10 @@ node-further (j ∷ ks) k x c h = go (content j c) refl (λ d. node-further ks k
 pub node_entered : (at : List Tagged) (k : Tagged) (a b : Tree) → HasPlace at a → IsChanged at (with_content k (new_content k) (here at a)) a b → node_at (at ++ k ∷ []) b.now ≡ node_in (Some (new_content k))
 node_entered at k a b place c =
     node-further at k _ b.now (node_changed at _ a b place c) ∙ ap node_in (content-new k (here at a))
+
+-- a new map is a place
+pub below_new : (at : List Tagged) (k : Key) (a b : Tree) → HasPlace at a → IsChanged at (with_content (MapT k) (new_content (MapT k)) (here at a)) a b → HasPlace (at ++ MapT k ∷ []) b
+below_new at k a b place c = is_place (at ++ MapT k ∷ []) empty b.now (node_entered at (MapT k) a b place c)
 
 -- going back to a mark brings back its places
 pub place_back : (at : List Tagged) (y : Context) (a b c : Tree) (m : ℕ) → HasPlace at a → IsChanged at y a b → m ≡ length a.earlier → history c ≡ take (m + 1) (history b) → HasPlace at c

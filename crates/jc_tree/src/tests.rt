@@ -7,6 +7,8 @@ ghost use Rattle.jc_rules.specs.Shape.{IsKeptRegister};
 ghost use Rattle.jc_tree.specs.Tree.{HasPlace, here};
 ghost use Rattle.jc_tree.specs.Empty.{IsEmptyPlace};
 
+mod undo;
+
 use crate::{PlainTree, TreeStore};
 use jc_rules::{Id, Key, Next, Tagged, Text, Value};
 use std::alloc::{AllocError, Global};
@@ -187,6 +189,20 @@ fn presence_keys<S: TreeStore>(
 }
 
 #[tactic(auto, using(crate::proofs::Changed::still_place))]
+fn link_keys<S: TreeStore>(rt: &impl Abort, store: &mut S, at: &[Tagged]) -> Result<(), Fail>
+    requires { IsEmptyPlace at.now (S.tree store.old) }
+{
+    let element = Key::Elem(FIRST);
+    assert!(rt; store.link_after(at, None).is_none());
+    store.set_next(at, &element, Next::Tail)?;
+    store.set_next(at, &Key::Head, Next::Elem(FIRST))?;
+    assert_eq!(rt; store.link_after(at, None), Some(&Key::Head));
+    assert_eq!(rt; store.link_after(at, Some(&Key::Head)), Some(&element));
+    assert!(rt; store.link_after(at, Some(&element)).is_none());
+    Ok(())
+}
+
+#[tactic(auto, using(crate::proofs::Changed::still_place))]
 fn marks<S: TreeStore>(rt: &impl Abort, store: &mut S, at: &[Tagged]) -> Result<(), Fail>
     requires { IsEmptyPlace at.now (S.tree store.old) }
 {
@@ -336,6 +352,14 @@ fn plain_presence_keys(rt: HostRuntime) -> Result<(), Fail> {
     let mut store = PlainTree::new(alloc);
     let at = deep(alloc, &mut store)?;
     presence_keys(&rt, alloc, &mut store, at.as_slice())
+}
+
+#[test]
+fn plain_link_keys(rt: HostRuntime) -> Result<(), Fail> {
+    link_keys(&rt, &mut PlainTree::new(rt.alloc()), &[])?;
+    let mut store = PlainTree::new(rt.alloc());
+    let at = deep(rt.alloc(), &mut store)?;
+    link_keys(&rt, &mut store, at.as_slice())
 }
 
 #[test]

@@ -89,6 +89,16 @@ KeyOfHead = IsRefused (alone (SetTo (GetKey (Index TheDoc 0) (codes "a")) one �
 abbrev pub KeyTooDeep : Type 0
 KeyTooDeep = (path : List Tagged) → 511 < length path → IsRefused (alone (LetIn (codes "x") (GetKey (Variable (codes "x")) (codes "a")) ∷ []) ((codes "x", ACursor (cursor path (K.Name (codes "a")))) ∷ []) empty [] []) (E.Exec 0) (because F.TooDeep)
 
+-- the same below a path: `let s = doc.get("a").keys` where only a value is under "a", and on a fresh replica `let s = doc.get("a").keys` and `let s = doc.get("a").values`
+abbrev pub KeysOfRegister : Type 0
+KeysOfRegister = IsRefused (assigned (LetIn (codes "s") (KeysOf at_a) ∷ []) []) (E.Exec 0) (because F.NoMap)
+
+abbrev pub KeysInNothing : Type 0
+KeysInNothing = IsRefused (start (LetIn (codes "s") (KeysOf at_a) ∷ [])) (E.Exec 0) (no_node (MapT K.Doc))
+
+abbrev pub ValuesInNothing : Type 0
+ValuesInNothing = IsRefused (start (LetIn (codes "s") (ValuesOf at_a) ∷ [])) (E.Exec 0) (no_node (MapT K.Doc))
+
 -- In a network of one replica that is at a yield: it receives from a second one, a second one runs, and it applies an operation of one that isn't there, which is asked for among the received ones alone.
 abbrev pub FromNobody : Type 0
 FromNobody = IsStuck (start (Yield ∷ []) ∷ []) (E.Recv 0 1) (because F.NoSuchReplica)
