@@ -5,7 +5,7 @@ ghost use Rattle.jc_rules.specs.declared.key.Key.TheVariants.{Doc};
 ghost use Rattle.jc_rules.specs.declared.key.Tagged.TheVariants.{MapT};
 ghost use Rattle.jc_tree.specs.Tree.{HasPlace, IsLater};
 
-use super::{two_values, FIRST};
+use super::{FIRST, two_values};
 use crate::{PlainTree, TreeStore};
 use jc_rules::{Key, Next, Tagged};
 use std::alloc::{AllocError, Global};
@@ -114,7 +114,7 @@ fn undo_at_once<S: TreeStore>(rt: &impl Abort, alloc: Global, store: &mut S) -> 
     let mut at = Vec::new(alloc);
     change_all(rt, alloc, store, &mut at, CHANGES)?;
     assert_eq!(rt; at.len(), 5);
-    assert_eq!(rt; store.mark().changes, mark.changes + 20);
+    assert_eq!(rt; Some(store.mark().changes), mark.changes.checked_add(20));
     assert!(rt; entries(store, &[]) == (true, true, true, true));
     store.undo_to(mark);
     assert!(rt; entries(store, &[]) == before);
@@ -138,7 +138,13 @@ fn presence_undone<S: TreeStore>(rt: &impl Abort, store: &mut S) -> Result<(), F
 #[test]
 fn plain_undo_each(rt: HostRuntime) -> Result<(), Fail> {
     let alloc = rt.alloc();
-    undo_each(&rt, alloc, &mut PlainTree::new(alloc), &mut Vec::new(alloc), CHANGES)
+    undo_each(
+        &rt,
+        alloc,
+        &mut PlainTree::new(alloc),
+        &mut Vec::new(alloc),
+        CHANGES,
+    )
 }
 
 #[test]
