@@ -2,7 +2,9 @@ mod Exactly
 mod Excess
 mod Expressions
 mod Items
+mod Limits
 mod Loops
+mod OneFault
 mod OneTree
 mod Readers
 mod Refused
@@ -11,5 +13,6 @@ mod Scenarios
 mod Spelled
 mod SpelledLists
 mod SpelledScenarios
+mod Stopping
 mod SymbolTests
 mod Whole

@@ -11,9 +11,8 @@ use Rattle.jc_parser.specs.Parts.{whole_at, Parsed}
 use Rattle.jc_parser.specs.Grammar.{Tree, IsText, IsWithinLimits}
 use Rattle.jc_parser.specs.First.{Reads, IsOnly}
 use Rattle.jc_parser.proofs.Scenarios.{tree_of}
-use Rattle.jc_parser.proofs.Spelled.{reading as reading_of, not_past}
+use Rattle.jc_parser.proofs.Spelled.{reading as reading_of, lexed, symbols-lexed, not_past}
 use Rattle.jc_parser.proofs.SpelledScenarios.{ReadWhole, EventsOf, whole_again}
-use Rattle.jc_parser.proofs.Whole.{lexed, symbols-lexed}
 
 abbrev pub IsRead : Tree → List Lexeme → ℕ → Type 0
 IsRead t ls stop = (p : Parsed) × (tree_of p ≡ t) × EventsOf p.events t ls × (whole_at (reading_of stop ls) ≡ Ok p)

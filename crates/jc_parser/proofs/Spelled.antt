@@ -61,6 +61,16 @@ split_symbols (x ∷ w) (s ∷ a) b h =
 abbrev pub at_place : ℕ → Symbol → Lexeme
 at_place p s = record { place = p; symbol = s }
 
+-- symbols as lexemes, wherever they stand
+pub lexed : List Symbol → List Lexeme
+lexed [] = []
+lexed (s ∷ ss) = at_place 0 s ∷ lexed ss
+
+pub symbols-lexed : (ss : List Symbol) → symbols (lexed ss) ≡ ss
+unfolding lexed
+symbols-lexed [] = refl
+symbols-lexed (s ∷ ss) = ap (λ (l : List Symbol). s ∷ l) (symbols-lexed ss)
+
 -- the lexemes of a text that begins with a symbol
 abbrev pub First : List Lexeme → Symbol → List Symbol → Type 0
 First w s b = (p : ℕ) × (v : List Lexeme) × (w ≡ at_place p s ∷ v) × (symbols v ≡ b)

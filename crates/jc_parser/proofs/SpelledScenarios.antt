@@ -121,9 +121,9 @@ pub free_read : (m n : ℕ) (a b c d e : ℕ) (name : List ℕ) (stop : ℕ) (u 
 unfolding whole_with front_at replica_with name_at named_at one
 free_read m n a b c d e name stop u w free = rw free refl
 
-taken_read : (m n : ℕ) (a b c d e : ℕ) (name : List ℕ) (stop : ℕ) (u w : List Lexeme) → is_reserved name ≡ true → whole_with m n (reading stop (lines a b c d e name u w)) ≡ Err (ReservedName d)
+pub taken_read : (m n : ℕ) (a b c d : ℕ) (name : List ℕ) (stop : ℕ) (y : List Lexeme) → is_reserved name ≡ true → whole_with m n (reading stop (at_place a (word (codes "jsoncrdt")) ∷ at_place b (number (codes "1")) ∷ at_place c (word (codes "replica")) ∷ at_place d (word name) ∷ y)) ≡ Err (ReservedName d)
 unfolding whole_with front_at replica_with name_at named_at one
-taken_read m n a b c d e name stop u w taken = rw taken refl
+taken_read m n a b c d name stop y taken = rw taken refl
 
 -- where the events of a scenario stand
 abbrev pub EventsOf : List Named → Tree → List Lexeme → Type 0
@@ -150,7 +150,7 @@ within_name t l = l.name
 lines_again : (m n : ℕ) → m ≡ 65536 → n ≡ 100000 → (k : Bool) (a b c d e : ℕ) (t : Tree) (stop : ℕ) (u w : List Lexeme) → Within k (IsWithinLimits t) → IsListText IsCommandText t.script (symbols u) → IsScheduleText t.events (symbols w) → ReadWhole k t (lines a b c d e t.name u w) (whole_with m n (reading stop (lines a b c d e t.name u w)))
 lines_again m n em en k a b c d e t stop u w limits script schedule =
     elim (cases_Bool (is_reserved t.name)) [
-      | inl taken ↦ inr (no_name k t taken limits, ReservedName d, taken_read m n a b c d e t.name stop u w taken, tt)
+      | inl taken ↦ inr (no_name k t taken limits, ReservedName d, taken_read m n a b c d t.name stop (at_place e open_brace ∷ (u ++ w)) taken, tt)
       | inr free ↦
           let few_commands : Within k (length t.script ≤ m) = within-map k (λ (l : IsWithinLimits t). let le : length t.script ≤ 65536 = l.commands in let less : length t.script ≤ m = omega (arith, le) in less) limits in
           let few_events : Within k (length t.events ≤ n) = within-map k (λ (l : IsWithinLimits t). let le : length t.events ≤ 100000 = l.events in let less : length t.events ≤ n = omega (arith, le) in less) limits in

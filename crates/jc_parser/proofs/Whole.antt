@@ -14,7 +14,7 @@ use Rattle.jc_parser.specs.Stops.{IsPrefix, IsPrefixWithin, IsSound, IsMisfit, I
 use Rattle.jc_parser.proofs.Readers.{bind_ok, bind_err, chosen_ok, chosen_err, read_as, ok_parts, SameHead, same_stuck, symbols-append, IsKept, Begun}
 use Rattle.jc_parser.proofs.Expressions.{word_is, number_is}
 use Rattle.jc_parser.proofs.Scenarios.{tree_of, Replicas, reads_replica}
-use Rattle.jc_parser.proofs.Spelled.{reading, at_place, IsLimitFault}
+use Rattle.jc_parser.proofs.Spelled.{reading, lexed, symbols-lexed, IsLimitFault}
 use Rattle.jc_parser.proofs.SpelledScenarios.{whole_again}
 use Rattle.jc_parser.proofs.Excess.{front, replica_text, replica_limits, excess_of}
 
@@ -177,15 +177,6 @@ front_err r e h =
     }
 
 -- ---- from the replica's name on
-
-pub lexed : List Symbol → List Lexeme
-lexed [] = []
-lexed (s ∷ ss) = at_place 0 s ∷ lexed ss
-
-pub symbols-lexed : (ss : List Symbol) → symbols (lexed ss) ≡ ss
-unfolding lexed
-symbols-lexed [] = refl
-symbols-lexed (s ∷ ss) = ap (λ (l : List Symbol). s ∷ l) (symbols-lexed ss)
 
 -- a text is no scenario where its reading stops at what fits nothing
 no_scenario : (t : Tree) (ls : List Lexeme) (stop : ℕ) (e : ScenarioFault) → (IsLimitFault e → ⊥) → whole_at (reading stop ls) ≡ Err e → IsText t (symbols ls) → ⊥

@@ -6,3 +6,4 @@ pub mod Stops
 pub mod First
 pub mod Parts
 pub mod Views
+pub mod Laws
