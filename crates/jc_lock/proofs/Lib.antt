@@ -1,0 +1,5 @@
+pub mod Closing
+pub mod Dealing
+pub mod Keeping
+pub mod Marking
+pub mod Sums

@@ -1,0 +1,23 @@
+//! Whether each number is there once.
+ghost use Rattle.std.specs.Prelude.{◌≡◌, ◌↔◌, IsTrue, map, length};
+ghost use Rattle.jc_lock.specs.Numbers.{EachOnce};
+ghost use Rattle.jc_lock.specs.Shows.{pass_number};
+
+use crate::kept::Kept;
+use crate::lock::Pass;
+
+/// Marks the number of each pass, and answers whether all numbers below the count of marks are there, each once, and no
+/// others.
+pub(crate) fn each_is_there<K: Kept>(marks: &mut [bool], passes: &[Pass<K>]) -> bool
+    ensures { IsTrue result ↔ EachOnce (length marks.old) (map pass_number passes.now) }
+{
+    marks.fill(false);
+    for pass in passes {
+        let number = usize::from(pass.number);
+        if number >= marks.len() || marks[number] {
+            return false;
+        }
+        marks[number] = true;
+    }
+    !marks.contains(&false)
+}
