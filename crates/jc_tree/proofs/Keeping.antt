@@ -62,7 +62,7 @@ kept-changed (Link k x) (context m l r p n) f h = (h.0, h.1, h.2, h.3, rising-pu
 kept-changed (Set k v) c f h = kept-register k v c h f
 
 -- the context at a place of a kept one
-kept-node : (ks : List Tagged) (c d : Context) → IsKept c → node_at ks c ≡ Some d → IsKept d
+pub kept-node : (ks : List Tagged) (c d : Context) → IsKept c → node_at ks c ≡ Some d → IsKept d
 kept-node [] c d h e = let same : c ≡ d = cc in rw (← same) h
 kept-node (k ∷ ks) c d h e = go (content k c) refl (λ b f. kept-node ks b d f) e
   where

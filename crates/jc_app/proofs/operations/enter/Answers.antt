@@ -1,0 +1,17 @@
+use Rattle.std.proofs.Common.{sym, refl}
+use Rattle.jc_app.proofs.Kept.{then, rule_added, tree_changed}
+use Rattle.jc_app.proofs.Places.{none_found}
+use Rattle.jc_app.proofs.Rules.{entered_there, entered_new}
+use Rattle.jc_app.proofs.operations.enter.Goals as goal
+
+pub returns-in_ok-push-clause-ok : goal.returns-in_ok-push-clause-ok
+returns-in_ok-push-clause-ok g c =
+    entered_there _ _ _ _ _ _ c.requires.there c.requires.context (sym c.if-has.ensures) c.in_ok-push.ensures.ok refl
+
+pub returns-in_ok-make_child-clause-ok : goal.returns-in_ok-make_child-clause-ok
+returns-in_ok-make_child-clause-ok g c =
+    entered_new _ _ c.child_rule.result _ _ _ _ c.requires.context (c.child_rule.ensures _ (none_found _ (sym c.if-has.ensures))) c.in_ok-push-2.ensures.ok c.in_ok-make_child.ensures.ok
+
+pub returns-in_ok-make_child-clause-kept : goal.returns-in_ok-make_child-clause-kept
+returns-in_ok-make_child-clause-kept g c =
+    then _ _ _ _ _ _ (rule_added _ _ _ _ c.child_rule.result refl c.in_ok-push-2.ensures.ok) (tree_changed _ _ _ _ _ _ c.in_ok-make_child.ensures.ok refl)

@@ -1,0 +1,50 @@
+-- The text and the status of a run of a scenario's bytes.
+use Rattle.std.specs.Prelude.{◌≡◌, ℕ, List, [], ◌∷◌, ◌++◌, Option, Some, Result, Ok, Err}
+use Rattle.jc_rules.specs.declared.operation.Event.{Event}
+use Rattle.jc_rules.specs.declared.refusal.Refusal.{Refusal}
+use Rattle.jc_rules.specs.Refusals.{number_of as refusal_number}
+use Rattle.jc_rules.specs.Syntax.{Cmd}
+use Rattle.jc_rules.specs.State.{State, start}
+use Rattle.jc_parser.specs.declared.fault.ScenarioFault.{ScenarioFault}
+use Rattle.jc_parser.specs.Faults.{number_of, place_of}
+use Rattle.jc_parser.specs.First.{Reads, IsScenarioFault}
+use Rattle.jc_app.specs.Texts.{refused_text}
+use Rattle.jc_app.specs.Runs.{Plays, stuck_line, status_of}
+use Rattle.jc_dump.specs.Dump.{dump_line}
+
+-- a scenario of one replica: its name, its script and its schedule
+pub record Scenario : Type 0 where
+  pub name : List ℕ
+  pub script : List Cmd
+  pub schedule : List Event
+
+-- what bytes are: a scenario, or a text with this fault
+abbrev pub ReadsAs : List ℕ → Result Scenario ScenarioFault → Type 0
+ReadsAs bytes (Ok s) = Reads bytes s.name s.script s.schedule
+ReadsAs bytes (Err fault) = IsScenarioFault bytes fault
+
+-- The run of a scenario: the blocks of the events that are made from the start, the dump of the last state, and the line of the stuck event, if there is one.
+pub record RanThrough (s : Scenario) (out : List ℕ) (status : ℕ) : Type 0 where
+  pub last : State
+  pub stuck : Option Event
+  pub blocks : List ℕ
+  pub plays : Plays (s.name ∷ []) (start s.script ∷ []) s.schedule (last ∷ []) stuck blocks
+  pub written : out ≡ blocks ++ dump_line (s.name ∷ []) s.name last ++ stuck_line (s.name ∷ []) stuck
+  pub ends : status ≡ status_of stuck
+
+-- the line of a fault
+pub record IsRefused (fault : ScenarioFault) (out : List ℕ) (status : ℕ) : Type 0 where
+  pub refusal : Refusal
+  pub place : ℕ
+  pub number : number_of fault ≡ Some (refusal_number refusal)
+  pub stands : place_of fault ≡ Some place
+  pub written : out ≡ refused_text refusal place
+  pub ends : status ≡ 1
+
+abbrev pub RanOn : Result Scenario ScenarioFault → List ℕ → ℕ → Type 0
+RanOn (Ok s) out status = RanThrough s out status
+RanOn (Err fault) out status = IsRefused fault out status
+
+-- a run on these bytes writes this and ends with this status
+abbrev pub Ran : List ℕ → List ℕ → ℕ → Type 0
+Ran bytes out status = (read : Result Scenario ScenarioFault) × ReadsAs bytes read × RanOn read out status
