@@ -9,7 +9,6 @@ use Rattle.jc_rules.specs.declared.id.Id.{Id}
 use Rattle.jc_rules.specs.declared.operation.Op.{Op}
 use Rattle.jc_rules.specs.declared.operation.Event.TheVariants.{Exec}
 use Rattle.jc_rules.specs.declared.operation.Mutation.TheVariants.{Assign}
-use Rattle.jc_rules.specs.declared.rule.Rule.{Rule}
 use Rattle.jc_rules.specs.declared.rule.Rule.TheVariants as R
 use Rattle.jc_rules.specs.Order.{id_cmp}
 use Rattle.jc_rules.specs.Ids.{with_id, greatest}
@@ -22,16 +21,15 @@ use Rattle.jc_syntax.specs.declared.tree.Cmd.{Cmd as CmdTree}
 use Rattle.jc_syntax.specs.declared.tree.Cmd.TheVariants.{Let, Set, InsertAfter as Insert, Delete as Del, Yield as Wait}
 use Rattle.jc_syntax.specs.Trees.{expr_of, cmd_of}
 use Rattle.jc_rules.specs.State.{State, ACursor}
-use Rattle.jc_rules.specs.Derivation.{Occur, Run, Evaluate, Make, ApplyOp, Operate, Answer, ToState, ToBound, ToContext, Judgement, gives, derive, conclusions}
+use Rattle.jc_rules.specs.Derivation.{Occur, Run, Evaluate, Make, ApplyOp, Operate, ToState, ToBound, ToContext}
 use Rattle.jc_rules.specs.Derives.{Derives}
 use Rattle.jc_rules.specs.Trace.{Rows, at_depth}
-use Rattle.jc_rules.specs.Table.{Follows, Holds, with_op}
+use Rattle.jc_rules.specs.Table.{with_op}
 use Rattle.jc_rules.proofs.Order.{exact_ids}
 use Rattle.jc_rules.proofs.Steps.{one_premise, two_premises}
 use Rattle.jc_app.specs.FirstCmd.{IsFirstCmd, AreFirstCmds, AreCounted}
 use Rattle.jc_app.specs.Leads.{HasContext, IsPrimitiveAssign}
 use Rattle.jc_app.specs.Makes.{Evaluates, Makes, opened}
-use Rattle.jc_app.specs.Replicas.{IsStuck}
 
 not_yield : (c : Cmd) (e : _) (v : _) → c ≡ SetTo e v → c ≢ Yield
 not_yield c e v h g = cc
@@ -56,17 +54,6 @@ made_assigns A p o t u m = subst (λ (x : Op). IsPrimitiveAssign x.mutation) (sy
 
 pub made_counter : (A : State) (p : ℕ) (o : Op) (t u : Rows) → Makes A p o t u → o.id.counter ≡ greatest A.ops + 1
 made_counter A p o t u m = ap (λ (x : Op). x.id.counter) m.is
-
--- no command, no derivation
-no_exec : (r : Rule) (A : State) (p : ℕ) (a : Answer) (ps : List Judgement) → A.left ≡ [] → Follows r (Occur A (Exec p) []) a ps → ⊥
-no_exec R.Exec A p a ps e (c, rest, B, l, y, f, g) = let n : [] ≡ c ∷ rest = sym e ∙ l in cc
-no_exec _ A p a ps e h = absurd h
-
-pub no_event : (A : State) (p : ℕ) → A.left ≡ [] → IsStuck A (Exec p)
-no_event A p e (derive r j ps) a h c = go j c h
-  where
-    go : (g : Judgement) → g ≡ gives (Occur A (Exec p) []) a → Holds (derive r g ps) → ⊥
-    go g f w = no_exec r A p a (conclusions ps) e (subst (λ (v : Judgement). Holds (derive r v ps)) f w).0
 
 -- counters
 pub greatest_with : (i : Id) (s : List Id) → greatest (with_id i s) ≡ max i.counter (greatest s)
@@ -157,6 +144,11 @@ rest_after (x ∷ items) (suc n) c rest e = rest_after items n c rest e
 
 pub rest_is : (items : List CmdTree) (n : ℕ) (c : Cmd) (rest : List Cmd) → map cmd_of (drop n items) ≡ c ∷ rest → map cmd_of (drop (n + 1) items) ≡ rest
 rest_is items n c rest e = ap (λ (m : ℕ). map cmd_of (drop m items)) (add-one n) ∙ rest_after items n c rest e
+
+pub none_left : (items : List CmdTree) (n : ℕ) → n ≡ length items → map cmd_of (drop n items) ≡ []
+none_left [] n e = rw e refl
+none_left (x ∷ items) zero e = cc
+none_left (x ∷ items) (suc n) e = none_left items n (omega (arith, e))
 
 pub some_left : (items : List CmdTree) (n : ℕ) → n < length items → map cmd_of (drop n items) ≡ [] → ⊥
 some_left [] n l e = omega arith

@@ -7,10 +7,11 @@ use Rattle.jc_rules.specs.declared.rule.Rule.{Rule}
 use Rattle.jc_rules.specs.declared.refusal.Refusal.TheVariants.{NoCommand}
 use Rattle.jc_rules.specs.State.{State, start}
 use Rattle.jc_rules.specs.Step.{Step}
+use Rattle.jc_rules.specs.Refused.{Cause, because, IsStuck}
 use Rattle.jc_app.specs.Texts.{block_text, stuck_text}
 use Rattle.jc_dump.specs.Dump.{dump_line}
 use Rattle.jc_app.specs.Ran.{Scenario, RanThrough}
-use Rattle.jc_app.specs.Runs.{Made, GoesBy, Plays, IsStuck, HasEnded, events_of, blocks_text}
+use Rattle.jc_app.specs.Runs.{Made, GoesBy, Plays, at_script_end, events_of, blocks_text}
 
 pub goes_on : (network : List State) (made : List Made) (last : List State) (e : Event) (rows : List (Rule × ℕ)) (new : List State) → GoesBy network made last → Step last e new rows → GoesBy network (made ++ (e, rows) ∷ []) new
 goes_on network [] last e rows new a s = (new, subst (λ (n : List State). Step n e new rows) a s, refl)
@@ -34,8 +35,8 @@ made_count es i made h e = grind (arith, common_steps)
 pub split_here : (es : List Event) (i : ℕ) (made : List Made) (d : Event) → i < length es → take i es ≡ events_of made → es ≡ events_of made ++ get_or es i d ∷ drop (i + 1) es
 split_here es i made d h e = grind (arith, common_steps)
 
-pub stuck_here : (before after : State) (e : Event) → after ≡ before → e ≡ Exec 0 → IsStuck (before ∷ []) (Exec 0) → before.left ≡ [] → IsStuck (after ∷ []) e × HasEnded (after ∷ []) e
-stuck_here before after e same exec stuck ended = rw (same, exec) (stuck, (before, refl, ended))
+pub stuck_here : (before after : State) (e : Event) (why : Cause) → after ≡ before → e ≡ Exec 0 → IsStuck (before ∷ []) (Exec 0) why → IsStuck (after ∷ []) e why
+stuck_here before after e why same exec stuck = rw (same, exec) stuck
 
 -- one block more
 pub shown_more : (names : List (List ℕ)) (made : List Made) (e : Event) (rows : List (Rule × ℕ)) (n : ℕ) → n ≡ length made → e ≡ Exec 0 → blocks_text names 1 (made ++ (e, rows) ∷ []) ≡ blocks_text names 1 made ++ block_text names (n + 1) (Exec 0) rows
@@ -48,25 +49,25 @@ nth_is [] e more h = h 0 e (omega arith)
 nth_is (m ∷ made) e more h = nth_is made e more (λ k d l. h (suc k) d (omega arith))
 
 -- the run of a scenario whose events were all made
-pub ran_to_end : (s : Scenario) (first last : State) (schedule : List Event) (stuck : Option Event) (blocks : List ℕ) → Plays (s.name ∷ []) (first ∷ []) schedule (last ∷ []) stuck blocks → first ≡ start s.script → schedule ≡ s.schedule → stuck ≡ None → RanThrough s (blocks ++ dump_line (s.name ∷ []) s.name last) 0
+pub ran_to_end : (s : Scenario) (first last : State) (schedule : List Event) (stuck : Option Event) (blocks : List ℕ) → Plays (s.name ∷ []) (first ∷ []) schedule (last ∷ []) (at_script_end stuck) blocks → first ≡ start s.script → schedule ≡ s.schedule → stuck ≡ None → RanThrough s (blocks ++ dump_line (s.name ∷ []) s.name last) 0
 ran_to_end s first last schedule stuck blocks plays from events none =
     record {
       last = last;
       stuck = None;
       blocks = blocks;
-      plays = rw (← from, ← events, ← none) plays;
+      plays = rw (← from, ← events) (rw none at plays);
       written = sym (append-nil _);
       ends = refl;
     }
 
 -- the run of a scenario up to a stuck event
-pub ran_to_stuck : (s : Scenario) (first last : State) (schedule : List Event) (stuck : Option Event) (e : Event) (blocks : List ℕ) → Plays (s.name ∷ []) (first ∷ []) schedule (last ∷ []) stuck blocks → first ≡ start s.script → schedule ≡ s.schedule → stuck ≡ Some e → All (λ x. x ≡ Exec 0) s.schedule → RanThrough s (blocks ++ dump_line (s.name ∷ []) s.name last ++ stuck_text (s.name ∷ []) NoCommand (Exec 0)) 3
+pub ran_to_stuck : (s : Scenario) (first last : State) (schedule : List Event) (stuck : Option Event) (e : Event) (blocks : List ℕ) → Plays (s.name ∷ []) (first ∷ []) schedule (last ∷ []) (at_script_end stuck) blocks → first ≡ start s.script → schedule ≡ s.schedule → stuck ≡ Some e → All (λ x. x ≡ Exec 0) s.schedule → RanThrough s (blocks ++ dump_line (s.name ∷ []) s.name last ++ stuck_text (s.name ∷ []) (because NoCommand) (Exec 0)) 3
 ran_to_stuck s first last schedule stuck e blocks plays from events is all =
-    let p : Plays (s.name ∷ []) (start s.script ∷ []) s.schedule (last ∷ []) (Some e) blocks = rw (← from, ← events, ← is) plays in
+    let p : Plays (s.name ∷ []) (start s.script ∷ []) s.schedule (last ∷ []) (Some (e, because NoCommand)) blocks = rw (← from, ← events) (rw is at plays) in
     let exec : e ≡ Exec 0 = nth_is p.made e p.ends.0 (subst (All (λ x. x ≡ Exec 0)) p.ends.1 all) in
     record {
       last = last;
-      stuck = Some e;
+      stuck = Some (e, because NoCommand);
       blocks = blocks;
       plays = p;
       written = rw exec refl;

@@ -9,7 +9,7 @@ use Rattle.jc_parser.specs.declared.fault.ScenarioFault.{ScenarioFault}
 use Rattle.jc_parser.specs.Faults.{number_of, place_of}
 use Rattle.jc_parser.specs.First.{Reads, IsScenarioFault}
 use Rattle.jc_app.specs.Texts.{refused_text}
-use Rattle.jc_app.specs.Runs.{Plays, stuck_line, status_of}
+use Rattle.jc_app.specs.Runs.{Stuck, Plays, stuck_line, status_of}
 use Rattle.jc_dump.specs.Dump.{dump_line}
 
 -- a scenario of one replica: its name, its script and its schedule
@@ -26,7 +26,7 @@ ReadsAs bytes (Err fault) = IsScenarioFault bytes fault
 -- The run of a scenario: the blocks of the events that are made from the start, the dump of the last state, and the line of the stuck event, if there is one.
 pub record RanThrough (s : Scenario) (out : List ℕ) (status : ℕ) : Type 0 where
   pub last : State
-  pub stuck : Option Event
+  pub stuck : Option Stuck
   pub blocks : List ℕ
   pub plays : Plays (s.name ∷ []) (start s.script ∷ []) s.schedule (last ∷ []) stuck blocks
   pub written : out ≡ blocks ++ dump_line (s.name ∷ []) s.name last ++ stuck_line (s.name ∷ []) stuck

@@ -1,10 +1,7 @@
 -- What a replica shows.
-use Rattle.std.specs.Prelude.{◌≢◌, ℕ, List, [], map, drop, false}
-use Rattle.jc_rules.specs.declared.operation.Event.{Event}
+use Rattle.std.specs.Prelude.{ℕ, List, [], map, drop, false}
 use Rattle.jc_rules.specs.Syntax.{Cmd}
 use Rattle.jc_rules.specs.State.{State}
-use Rattle.jc_rules.specs.Derivation.{Occur, Answer, gives, Derivation, conclusion}
-use Rattle.jc_rules.specs.Table.{Holds}
 use Rattle.jc_rules.specs.Trace.{Rows}
 use Rattle.jc_syntax.specs.declared.tree.Cmd.{Cmd as CmdTree}
 use Rattle.jc_syntax.specs.Trees.{cmd_of}
@@ -30,7 +27,3 @@ state_of tree r = record { left = cmds_of (drop r.done r.script.items); acted = 
 -- a trace without a rule
 abbrev pub no_rows : Rows
 no_rows = record { rows = []; depth = 0 }
-
--- no derivation answers the event, whatever the answer
-abbrev pub IsStuck : State → Event → Type 0
-IsStuck A e = (d : Derivation) (a : Answer) → Holds d → conclusion d ≢ gives (Occur A e []) a

@@ -1,10 +1,11 @@
 -- Runs of a schedule: the events that were made, and what is shown of them.
-use Rattle.std.specs.Prelude.{◌≡◌, ℕ, ◌+◌, List, [], ◌∷◌, ◌++◌, map, Option, Some, None, slice_get}
+use Rattle.std.specs.Prelude.{◌≡◌, ℕ, ◌+◌, List, [], ◌∷◌, ◌++◌, map, Option, Some, None}
 use Rattle.jc_rules.specs.declared.operation.Event.{Event}
 use Rattle.jc_rules.specs.declared.refusal.Refusal.TheVariants.{NoCommand}
 use Rattle.jc_rules.specs.declared.rule.Rule.{Rule}
 use Rattle.jc_rules.specs.State.{State}
-use Rattle.jc_rules.specs.Step.{Step, replica_of}
+use Rattle.jc_rules.specs.Step.{Step}
+use Rattle.jc_rules.specs.Refused.{Cause, because, IsStuck}
 use Rattle.jc_app.specs.Texts.{block_text, stuck_text}
 
 -- an event that was made, with its trace
@@ -16,21 +17,17 @@ abbrev pub GoesBy : List State → List Made → List State → Type 0
 GoesBy network [] last = last ≡ network
 GoesBy network (m ∷ made) last = (between : List State) × Step network m.0 between m.1 × GoesBy between made last
 
--- no step of the event leads anywhere
-abbrev pub IsStuck : List State → Event → Type 0
-IsStuck network event = (new : List State) (rows : List (Rule × ℕ)) → Step network event new rows → ⊥
-
--- the script of the event's replica has ended
-abbrev pub HasEnded : List State → Event → Type 0
-HasEnded network event = (state : State) × (slice_get network (replica_of event) ≡ Some state) × (state.left ≡ [])
+-- an event that is stuck, with its cause
+abbrev pub Stuck : Type 0
+Stuck = Event × Cause
 
 abbrev pub events_of : List Made → List Event
 events_of made = map (λ m. m.0) made
 
--- All the events were made; or the next one is stuck, since its replica's script has ended.
-abbrev pub EndsAt : List Event → List Made → List State → Option Event → Type 0
+-- All the events were made; or the next one is stuck, for this cause.
+abbrev pub EndsAt : List Event → List Made → List State → Option Stuck → Type 0
 EndsAt events made last None = events ≡ events_of made
-EndsAt events made last (Some e) = (more : List Event) × (events ≡ events_of made ++ e ∷ more) × IsStuck last e × HasEnded last e
+EndsAt events made last (Some (event, why)) = (more : List Event) × (events ≡ events_of made ++ event ∷ more) × IsStuck last event why
 
 -- the blocks of the events, numbered from n on
 abbrev pub blocks_text : List (List ℕ) → ℕ → List Made → List ℕ
@@ -38,17 +35,22 @@ blocks_text names n [] = []
 blocks_text names n (m ∷ made) = block_text names n m.0 m.1 ++ blocks_text names (n + 1) made
 
 -- From a network the schedule is made up to its end or its first stuck event, and leads to the last network. The blocks of what was made are the text.
-pub record Plays (names : List (List ℕ)) (network : List State) (schedule : List Event) (last : List State) (stuck : Option Event) (text : List ℕ) : Type 0 where
+pub record Plays (names : List (List ℕ)) (network : List State) (schedule : List Event) (last : List State) (stuck : Option Stuck) (text : List ℕ) : Type 0 where
   pub made : List Made
   pub goes : GoesBy network made last
   pub ends : EndsAt schedule made last stuck
   pub shown : text ≡ blocks_text names 1 made
 
 -- the line of the stuck event, if there is one
-abbrev pub stuck_line : List (List ℕ) → Option Event → List ℕ
+abbrev pub stuck_line : List (List ℕ) → Option Stuck → List ℕ
 stuck_line names None = []
-stuck_line names (Some e) = stuck_text names NoCommand e
+stuck_line names (Some (event, why)) = stuck_text names why event
 
-abbrev pub status_of : Option Event → ℕ
+abbrev pub status_of : Option Stuck → ℕ
 status_of None = 0
-status_of (Some e) = 3
+status_of (Some s) = 3
+
+-- an event that is stuck where the script has ended, the one cause that a first command meets
+abbrev pub at_script_end : Option Event → Option Stuck
+at_script_end None = None
+at_script_end (Some event) = Some (event, because NoCommand)

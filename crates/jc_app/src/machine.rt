@@ -7,7 +7,8 @@ ghost use Rattle.jc_rules.specs.State.{State, start};
 ghost use Rattle.jc_rules.specs.Step.{Step};
 ghost use Rattle.jc_app.specs.FirstCmd.{AreFirstCmds};
 ghost use Rattle.jc_dump.specs.Dump.{dump_line};
-ghost use Rattle.jc_app.specs.Runs.{IsStuck};
+ghost use Rattle.jc_rules.specs.declared.refusal.Refusal.TheVariants.{NoCommand as ScriptEnded};
+ghost use Rattle.jc_rules.specs.Refused.{because, IsStuck};
 
 use crate::replica::ExecFault;
 use jc_rules::{Text, Trace};
@@ -24,11 +25,11 @@ pub trait Machine: Drop {
         requires { AreFirstCmds (map cmd_of script.items) }
         ensures { state result ≡ start (map cmd_of script.items) };
 
-    /// Runs the next command, and gives its trace. Where no command is left, no step is there. After a
-    /// refusal the state is as it was.
+    /// Runs the next command, and gives its trace. Where no command is left, the event is stuck.
+    /// After a refusal the state is as it was.
     fn exec(&mut self, alloc: Global) -> Result<Trace, ExecFault>
         ensures ok { IfOk result (λ trace. Step (state self.old ∷ []) (Exec 0) (state self.new ∷ []) trace.rows) }
-        ensures stuck { result ≡ Err ExecFault.NoCommand → IsStuck (state self.old ∷ []) (Exec 0) × ((state self.old).left ≡ []) }
+        ensures stuck { result ≡ Err ExecFault.NoCommand → IsStuck (state self.old ∷ []) (Exec 0) (because ScriptEnded) }
         ensures err { OnErr result (state self.new ≡ state self.old) };
 
     /// The dump line of the replica, which has this name.

@@ -7,6 +7,8 @@ ghost use Rattle.jc_rules.specs.Ids.{greatest};
 ghost use Rattle.jc_rules.specs.State.{start};
 ghost use Rattle.jc_rules.specs.Derivation.{Occur, ToState};
 ghost use Rattle.jc_rules.specs.Derives.{Derives};
+ghost use Rattle.jc_rules.specs.declared.refusal.Refusal.TheVariants.{NoCommand as ScriptEnded};
+ghost use Rattle.jc_rules.specs.Refused.{because, Refused};
 ghost use Rattle.jc_syntax.specs.Trees.{cmd_of};
 ghost use Rattle.jc_tree.specs.Tree.{IsLater};
 ghost use Rattle.jc_app.specs.FirstCmd.{AreFirstCmds, AreCounted};
@@ -51,7 +53,7 @@ pub struct Replica<S> {
 }
 
 impl<S: TreeStore> Replica<S> {
-    ghost use Rattle.jc_app.specs.Replicas.{cmds_of, number_of, tree_of, state_of, no_rows, IsStuck};
+    ghost use Rattle.jc_app.specs.Replicas.{cmds_of, number_of, tree_of, state_of, no_rows};
 
     /// The replica at its start.
     pub fn new(alloc: Global, number: u16, script: Vec<Cmd>, store: S) -> Self
@@ -71,12 +73,12 @@ impl<S: TreeStore> Replica<S> {
         }
     }
 
-    /// Runs the next command, and gives the trace of its derivation. Where no command is left, no
-    /// derivation has the event. After a refusal the replica is as it was.
+    /// Runs the next command, and gives the trace of its derivation. Where no command is left, the event
+    /// is refused. After a refusal the replica is as it was.
     pub fn exec(&mut self, alloc: Global) -> Result<Trace, ExecFault>
         ensures ok { IfOk result (λ trace. Derives (Occur (state_of S.tree self.old) (Exec (number_of self.old)) []) (ToState (state_of S.tree self.new)) no_rows trace) }
         ensures no_command { IsErrOf result ExecFault.NoCommand ↔ ((state_of S.tree self.old).left ≡ []) }
-        ensures stuck { IsErrOf result ExecFault.NoCommand → IsStuck (state_of S.tree self.old) (Exec (number_of self.old)) }
+        ensures stuck { IsErrOf result ExecFault.NoCommand → Refused (Occur (state_of S.tree self.old) (Exec (number_of self.old)) []) (because ScriptEnded) }
         ensures refused_state { OnErr result (state_of S.tree self.new ≡ state_of S.tree self.old) }
         ensures refused_store { OnErr result (tree_of S.tree self.new ≡ tree_of S.tree self.old) }
         ensures earlier { OnOk result ((tree_of S.tree self.new).earlier ≡ []) }

@@ -3,7 +3,7 @@
 ghost use Rattle.std.specs.Prelude.{◌≡◌, ℕ, ◌<◌, ◌≤◌, ◌^◌, List, [], ◌∷◌, length, IfOk, IfErr, OnOk, IsErrOf, All};
 ghost use Rattle.std.specs.Io.KnownBytes.{Appends};
 ghost use Rattle.jc_rules.specs.declared.operation.Event.TheVariants.{Exec};
-ghost use Rattle.jc_app.specs.Runs.{Plays};
+ghost use Rattle.jc_app.specs.Runs.{Plays, at_script_end};
 ghost use Rattle.jc_app.specs.declared.run.RunFault.TheVariants.{Memory as NoMemory};
 
 use crate::machine::Machine;
@@ -52,7 +52,7 @@ pub fn play<M: Machine, K: Sink>(
 ) -> Result<Option<Event>, RunFault>
     requires { All (λ e. e ≡ Event.Exec 0) schedule.now }
     ensures ok { IfOk result (λ stuck. (text : List ℕ)
-        × Plays (name.now ∷ []) (M.state machine.old ∷ []) schedule.now (M.state machine.new ∷ []) stuck text
+        × Plays (name.now ∷ []) (M.state machine.old ∷ []) schedule.now (M.state machine.new ∷ []) (at_script_end stuck) text
         × Appends (K.taken out.old) (K.taken out.new) text) }
     ensures same { OnOk result (K.failures out.new ≡ K.failures out.old) }
     ensures memory { IsErrOf result RunFault.Memory → K.failures out.new ≡ K.failures out.old }

@@ -3,6 +3,7 @@
 ghost use Rattle.std.specs.Prelude.{◌≡◌, [], ◌∷◌, ◌++◌, IfOk, string_bytes, codes, decimal};
 ghost use Rattle.jc_rules.specs.declared.operation.Event.TheVariants.{Exec};
 ghost use Rattle.jc_rules.specs.RuleNames.{rule_name};
+ghost use Rattle.jc_rules.specs.Refused.{because};
 ghost use Rattle.jc_app.specs.Texts.{row_text, trace_text, block_text, stuck_text, refused_text};
 
 use jc_rules::{Refusal, Rule, Text};
@@ -39,7 +40,7 @@ fn row_of(alloc: Global, depth: u64, name: &str) -> Result<String, AllocError>
 
 /// The line of a stuck `exec` of the only replica.
 pub fn stuck_of(alloc: Global, name: &Text, refusal: Refusal) -> Result<String, AllocError>
-    ensures { IfOk result (λ text. string_bytes text ≡ stuck_text (name.now ∷ []) refusal (Exec 0)) }
+    ensures { IfOk result (λ text. string_bytes text ≡ stuck_text (name.now ∷ []) (because refusal) (Exec 0)) }
 {
     stuck_line(alloc, refusal.number(), refusal.name(), name.as_str())
 }

@@ -17,10 +17,9 @@ returns-in-Err-NoCommand-clause-ok g c =
     let inside : i < length es = omega arith in
     let exec : get_or es i (Exec 0) ≡ Exec 0 = c.requires i (Exec 0) inside in
     let same : g.M.Machine.state c.exec.new.self ≡ g.M.Machine.state c.loop-event.machine = search rules in
-    let none = c.in-Err-NoCommand.ensures.stuck (ap Err c.in-Err-NoCommand.field-0-is) in
     let whole : es ≡ events_of so_far.0 ++ get_or es i (Exec 0) ∷ drop (i + 1) es = split_here es i so_far.0 (Exec 0) inside so_far.2 in
-    let stuck = stuck_here (g.M.Machine.state c.loop-event.machine) (g.M.Machine.state c.exec.new.self) (get_or es i (Exec 0)) same exec none.0 none.1 in
-    (blocks_text (c.args.name.now ∷ []) 1 so_far.0, record { made = so_far.0; goes = rw same so_far.1; ends = (drop (i + 1) es, whole, stuck.0, stuck.1); shown = refl }, so_far.3)
+    let stuck = stuck_here (g.M.Machine.state c.loop-event.machine) (g.M.Machine.state c.exec.new.self) (get_or es i (Exec 0)) _ same exec (c.in-Err-NoCommand.ensures.stuck (ap Err c.in-Err-NoCommand.field-0-is)) in
+    (blocks_text (c.args.name.now ∷ []) 1 so_far.0, record { made = so_far.0; goes = rw same so_far.1; ends = (drop (i + 1) es, whole, stuck); shown = refl }, so_far.3)
 
 pub loop-event-preserved : goal.loop-event-preserved
 loop-event-preserved g c =

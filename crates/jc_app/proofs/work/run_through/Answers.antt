@@ -4,6 +4,7 @@ use Rattle.std.proofs.KnownBytes.{Appends-trans}
 use Rattle.jc_rules.specs.declared.operation.Event.TheVariants.{Exec}
 use Rattle.jc_rules.specs.declared.refusal.Refusal.TheVariants.{NoCommand}
 use Rattle.jc_syntax.specs.Trees.{cmd_of}
+use Rattle.jc_rules.specs.Refused.{because}
 use Rattle.jc_app.specs.Texts.{stuck_text}
 use Rattle.jc_dump.specs.Dump.{dump_line}
 use Rattle.jc_app.specs.Ran.{Scenario}
@@ -38,9 +39,9 @@ returns-clause-ok g c =
     let last = g.M.Machine.state c.play.new.machine in
     let dumped : Appends (g.K.Sink.taken c.play.new.out) (g.K.Sink.taken c.send.new.out) (dump_line (s.name ∷ []) s.name last) =
     subst (λ (t : List ℕ). Appends (g.K.Sink.taken c.play.new.out) (g.K.Sink.taken c.send.new.out) t) (c.as_str.ensures.value ∙ c.in_ok-dump.ensures) c.in_ok-send.ensures.ok in
-    let told : Appends (g.K.Sink.taken c.send.new.out) (g.K.Sink.taken c.send-in-Some.new.out) (stuck_text (s.name ∷ []) NoCommand (Exec 0)) =
+    let told : Appends (g.K.Sink.taken c.send.new.out) (g.K.Sink.taken c.send-in-Some.new.out) (stuck_text (s.name ∷ []) (because NoCommand) (Exec 0)) =
     subst (λ (t : List ℕ). Appends (g.K.Sink.taken c.send.new.out) (g.K.Sink.taken c.send-in-Some.new.out) t) (c.as_str-in-Some.ensures.value ∙ c.in_ok-line-in-Some.ensures) c.in_ok-send-in-Some.ensures.ok in (
-      played.0 ++ dump_line (s.name ∷ []) s.name last ++ stuck_text (s.name ∷ []) NoCommand (Exec 0),
+      played.0 ++ dump_line (s.name ∷ []) s.name last ++ stuck_text (s.name ∷ []) (because NoCommand) (Exec 0),
       ran_to_stuck s _ last _ _ _ played.0 played.1 c.make-machine.ensures c.deref.ensures.value c.in-Some.is (reads_events c.requires.0 _ _ _ c.requires.1),
       Appends-trans _ _ _ _ _ (Appends-trans _ _ _ _ _ played.2 dumped) told,
     )
