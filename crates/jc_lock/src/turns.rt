@@ -55,6 +55,7 @@ impl<K: Kept> HistoryLock<K> {
         ensures seen { pass_seen result ≡ K.list (turn_value turn) }
         // the new entry, where there is one
         ensures mine { pass_mine result ≡ turn_mine turn ++ drop (length (turn_seen turn)) (K.list (turn_value turn)) }
+        ensures own { own K.maker (pass_seen result) (pass_number result) ≡ pass_mine result }
     {
         let Turn { value, held } = turn;
         let Held {
@@ -81,6 +82,7 @@ impl<K: Kept> HistoryLock<K> {
         ensures number { (pass_number pass.new ≡ pass_number pass.old) × (pass_left pass.new ≡ pass_left pass.old) }
         ensures origin { pass_origin pass.new ≡ pass_origin pass.old }
         ensures mine { pass_mine pass.new ≡ pass_mine pass.old }
+        ensures own { own K.maker (pass_seen pass.new) (pass_number pass.new) ≡ pass_mine pass.new }
     {
         self.read(&mut pass.seat)
     }
