@@ -1,6 +1,5 @@
 -- An `exec` event of a command that assigns.
 use Rattle.std.proofs.Common.{◌≡◌, ◌≢◌, ℕ, zero, suc, ◌+◌, ◌<◌, ◌≤◌, max, List, [], ◌∷◌, ◌++◌, length, map, drop, get_or, refl, sym, ◌∙◌, ap, subst, arith, add-one, drop-cons}
-use Rattle.std.specs.List.{AllByRecursion}
 use Rattle.std.specs.Ordering.{nat_cmp}
 use Rattle.std.specs.declared.cmp.Ordering.{Ordering}
 use Rattle.std.specs.declared.cmp.Ordering.TheVariants.{Less, Equal, Greater}
@@ -28,7 +27,6 @@ use Rattle.jc_rules.specs.Table.{with_op}
 use Rattle.jc_rules.proofs.Order.{exact_ids}
 use Rattle.jc_rules.proofs.Steps.{one_premise, two_premises}
 use Rattle.jc_app.specs.FirstCmd.{IsFirstCmd, AreFirstCmds, AreCounted}
-use Rattle.jc_app.specs.Leads.{HasContext, IsPrimitiveAssign}
 use Rattle.jc_app.specs.Makes.{Evaluates, Makes, opened}
 
 not_yield : (c : Cmd) (e : _) (v : _) → c ≡ SetTo e v → c ≢ Yield
@@ -44,13 +42,6 @@ executed A p o left tree new ops queue t u v w m d le ne oe qe we =
     let d4 = one_premise R.MakeOp (Make p A m.cursor (Assign m.value)) (ToState B) (ApplyOp p A made) (ToState B) m.between (at_depth (m.between.depth + 1) v) d3 (B, refl, refl) in
     let d5 = two_premises R.MakeAssign (Run p A (SetTo m.expr m.value)) (ToState B) (Evaluate A m.expr) (ToBound (ACursor m.cursor)) (Make p A m.cursor (Assign m.value)) (ToState B) (opened t R.Exec) m.between (at_depth m.between.depth v) (m.evaluates.derives A) d4 (m.cursor, B, refl, refl) in
     rw (we, le, ne, oe, qe) (one_premise R.Exec (Occur A (Exec p) []) (ToState (record B { left = m.rest })) (Run p A (SetTo m.expr m.value)) (ToState B) t (at_depth (t.depth + 1) v) d5 (SetTo m.expr m.value, m.rest, B, m.left, not_yield _ m.expr m.value refl, refl, refl))
-
--- what the operation's own rules ask of it
-pub made_contexts : (A : State) (p : ℕ) (o : Op) (t u : Rows) → Makes A p o t u → AllByRecursion HasContext o.cursor.path
-made_contexts A p o t u m = subst (λ (x : Op). AllByRecursion HasContext x.cursor.path) (sym m.is) m.evaluates.contexts
-
-pub made_assigns : (A : State) (p : ℕ) (o : Op) (t u : Rows) → Makes A p o t u → IsPrimitiveAssign o.mutation
-made_assigns A p o t u m = subst (λ (x : Op). IsPrimitiveAssign x.mutation) (sym m.is) m.primitive
 
 pub made_counter : (A : State) (p : ℕ) (o : Op) (t u : Rows) → Makes A p o t u → o.id.counter ≡ greatest A.ops + 1
 made_counter A p o t u m = ap (λ (x : Op). x.id.counter) m.is
