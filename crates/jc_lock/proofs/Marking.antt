@@ -9,7 +9,7 @@ use native.Mathlib.Decide.{ℕ_discrete, dec_le}
 use Rattle.jc_lock.specs.Numbers.{times, EachOnce}
 use Rattle.jc_lock.proofs.Sums.{one_if, one_if-same, one_if-other}
 
-abbrev is_this : ℕ → ℕ → ℕ
+abbrev pub is_this : ℕ → ℕ → ℕ
 is_this p k = one_if (eqb k p)
 
 -- the marks say which numbers were met, and each was met once at most

@@ -45,6 +45,17 @@ fn opened(
         .expect(rt, "a lock")
 }
 
+// With the passes as `open` gave them a lock closes. It is proved that it does.
+fn opened_and_closed(alloc: Global, passes: u16) -> Option<Counter> {
+    let Ok((lock, passes)) = HistoryLock::open(alloc, Counter { count: 0 }, passes, 1) else {
+        return None;
+    };
+    match lock.close(passes) {
+        Ok(counter) => Some(counter),
+        Err(_) => unreachable!(),
+    }
+}
+
 // Takes turns until the pass is spent, and adds 1 in each. Answers how often, with the pass.
 fn add_all<R: Wait>(
     rt: &R,
@@ -137,6 +148,11 @@ fn two_threads_take_in_turn(rt: HostRuntime) {
     hand_in(&rt, &lock, &mut passes, a.1);
     let counter = lock.close(passes).ok().expect(&rt, "both passes");
     assert!(rt; counter.count == 200);
+}
+
+#[test]
+fn closes_as_opened(rt: HostRuntime) {
+    assert!(rt; opened_and_closed(rt.alloc(), 300).is_some());
 }
 
 #[test]
