@@ -70,10 +70,6 @@ with_op-last n o (p ∷ os) h l = go (nat_cmp o.id.counter p.id.counter) refl (w
     go Equal e ih = absurd (let m = ranked o.id.counter p.id.counter Equal (sym e) in omega (arith, h.0))
     go Greater e ih = rw e (ap (λ r. p ∷ r) ih)
 
--- the state of a store that went back
-pub restored : (A B : State) (tree : Context) → B ≡ record A { tree = B.tree } → tree ≡ A.tree → record B { tree = tree } ≡ A
-restored A B tree e f = λ i. record { left = (e i).left; acted = (e i).acted; vars = (e i).vars; tree = f i; ops = (e i).ops; queue = (e i).queue; send = (e i).send; recv = (e i).recv }
-
 -- the operation that an assignment makes
 pub made : (A : State) (p : ℕ) (e : Expr) (v w : Value) (rest : List Cmd) (cursor : Cursor) (most : ℕ) (deps : List Id) (t t1 t2 t3 t4 t5 : Rows) → A.left ≡ SetTo e v ∷ rest → IsPrimitive v → t1 ≡ opened t R.Exec → t2 ≡ opened t1 R.MakeAssign → Evaluates e cursor t2 t3 → t4 ≡ opened t3 R.MakeOp → t5 ≡ opened t4 R.ApplyLocal → most ≡ greatest A.ops → deps ≡ A.ops → w ≡ v → Makes A p (record { id = record { counter = most + 1; replica = p }; deps = deps; cursor = cursor; mutation = Assign w }) t t5
 made A p e v w rest cursor most deps t t1 t2 t3 t4 t5 l prim e1 e2 x e4 e5 me de ve =
