@@ -70,7 +70,7 @@ module _ {K E O : Type 0} {g : Ghosts K E O} where
 
   -- a pass of the lock that has made no take and has seen nothing
   pub record IsNewPass (lock : HistoryLock K E O) (takes : ℕ) (o : O) (pass : Pass K E O g) : Type 0 where
-    pub lock_of : IsPassOf lock pass
+    pub of_lock : IsPassOf lock pass
     pub left : pass_left pass ≡ takes
     pub origin : pass_origin pass ≡ Some o
     pub seen : pass_seen pass ≡ []

@@ -150,6 +150,17 @@ fn two_threads_take_in_turn(rt: HostRuntime) {
     assert!(rt; counter.count == 200);
 }
 
+// Each allocation is refused in turn by `rt try --test --fail-alloc N`.
+#[test]
+fn opens_or_gives_the_value_back(rt: HostRuntime) {
+    match HistoryLock::open(rt.alloc(), Counter { count: 7 }, 3, 1) {
+        Ok((_, passes)) => assert!(rt; passes.len() == 3),
+        Err(OpenRefused { value, why }) => {
+            assert!(rt; matches!(why, OpenFault::Memory) && value.count == 7);
+        }
+    }
+}
+
 #[test]
 fn closes_as_opened(rt: HostRuntime) {
     assert!(rt; opened_and_closed(rt.alloc(), 300).is_some());

@@ -1,4 +1,4 @@
-use Rattle.std.proofs.Common.{◌≡◌, sym}
+use Rattle.std.proofs.Common.{sym}
 use Rattle.std.proofs.lemmas.Bool.{false≢true}
 use Rattle.jc_lock.proofs.Closing.{each_of}
 use Rattle.jc_lock.proofs.Numbering.{each_once_in_order}

@@ -1,4 +1,4 @@
-use Rattle.std.proofs.Common.{rules, arith, ◌≡◌, ◌≤◌, ℕ, List, ◌++◌, ◌∷◌, [], map, length, get_or, sym, ap, subst, length-append}
+use Rattle.std.proofs.Common.{arith, ◌≡◌, ℕ, List, ◌++◌, ◌∷◌, [], map, length, get_or, ap, subst, length-append}
 use Rattle.std.specs.Prelude.{All}
 use Rattle.std.proofs.lemmas.List.{length-map}
 use Rattle.jc_lock.specs.Shows.{pass_number, IsNewPass}
@@ -23,9 +23,9 @@ module _ {X : Type 0} where
 pub returns-clause-first : goal.returns-clause-first
 returns-clause-first c =
     let both = two (IsNewPass c.in-Ok.lock 1000 c.args.title) pass_number c.in-Ok.passes.items _ _ c.in_ok-first.first c.in_ok-second.second c.in_ok-second.ensures.items c.in_ok-first.ensures.items c.in-Ok.ensures.numbers c.in-Ok.ensures.new in
-    (both.0.0.lock_of, both.0.1, both.0.0.mine)
+    (both.0.0.of_lock, both.0.1, both.0.0.mine)
 
 pub returns-clause-second : goal.returns-clause-second
 returns-clause-second c =
     let both = two (IsNewPass c.in-Ok.lock 1000 c.args.title) pass_number c.in-Ok.passes.items _ _ c.in_ok-first.first c.in_ok-second.second c.in_ok-second.ensures.items c.in_ok-first.ensures.items c.in-Ok.ensures.numbers c.in-Ok.ensures.new in
-    (both.1.0.lock_of, both.1.1, both.1.0.mine)
+    (both.1.0.of_lock, both.1.1, both.1.0.mine)
