@@ -39,7 +39,7 @@ replica_limits m n p w em en (y, text, free, (u, v, same, parts, script, schedul
 
 -- ---- what is in excess
 
-reserved_is : (s : Symbol) → reserved s ≡ true → (name : List ℕ) × (is_reserved name ≡ true) × (s ≡ word name)
+pub reserved_is : (s : Symbol) → reserved s ≡ true → (name : List ℕ) × (is_reserved name ≡ true) × (s ≡ word name)
 reserved_is (word name) e = (name, e, refl)
 reserved_is s e = absurd cc
 

@@ -94,8 +94,12 @@ within-map true f p = f p
 within-map false f p = tt
 
 -- the fault is that of one more symbol, which comes next
+abbrev pub OneMoreBy : (Lexeme → ScenarioFault) → (List Symbol → Symbol → Type 0) → Excess
+OneMoreBy fault P d xs after = (x : Lexeme) × (others : List Lexeme) × (after ≡ x ∷ others) × (d ≡ fault x) × P xs x.symbol
+
+-- which its place determines
 abbrev pub OneMore : (ℕ → ScenarioFault) → (List Symbol → Symbol → Type 0) → Excess
-OneMore fault P d xs after = (x : Lexeme) × (others : List Lexeme) × (after ≡ x ∷ others) × (d ≡ fault x.place) × P xs x.symbol
+OneMore fault P = OneMoreBy (λ x. fault x.place) P
 
 -- a selector comes next, and is one too many after the symbols so far
 abbrev pub IsFull : (List Symbol → Type 0) → Excess
@@ -103,7 +107,7 @@ IsFull P d xs after = (x : Lexeme) × (y : Lexeme) × (others : List Lexeme) × 
 
 -- ---- selectors
 
-reads_get : Reads (λ _ key w. dot ∷ w ≡ get_text key) Never get_at
+pub reads_get : Reads (λ _ key w. dot ∷ w ≡ get_text key) Never get_at
 unfolding get_at
 reads_get =
     reads_symbol (is_word (codes "get")) (word (codes "get")) refl (word_is (codes "get"))

@@ -9,8 +9,8 @@ use Rattle.jc_parser.specs.Symbols.{Symbol, semicolon, Lexeme}
 use Rattle.jc_parser.specs.Reading.{Reading, Outcome, ◌>>=◌, has_kind, begins_with, skip}
 use Rattle.jc_parser.specs.Parts.{items_at}
 use Rattle.jc_parser.specs.Grammar.{IsListText, IsStartText}
-use Rattle.jc_parser.proofs.Readers.{Language, Excess, Reads, reads_symbol, reads_then, reads_if, reads_done, reads_map, reads_refused}
-use Rattle.jc_parser.proofs.Expressions.{kind_is, Within, within, within-map, OneMore}
+use Rattle.jc_parser.proofs.Readers.{Language, Excess, Reads, reads_symbol, reads_then, reads_if, reads_done, reads_map, reads_refused_by}
+use Rattle.jc_parser.proofs.Expressions.{kind_is, Within, within, within-map, OneMoreBy}
 
 -- at most n items
 abbrev pub Lists : {A : Type 0} → Language A → ℕ → Language (List A)
@@ -25,8 +25,8 @@ abbrev pub AfterItems : {A : Type 0} → Language A → ℕ → Excess → Exces
 AfterItems {A} L n V d xs after =
     (items : List A) × (u : List Symbol) × (v : List Symbol) × (length items < n) × IsStartText (L true) items u × (xs ≡ u ++ v) × V d v after
 
-abbrev pub ListExcess : {A : Type 0} → Language A → (Symbol → Bool) → (ℕ → ScenarioFault) → Excess → ℕ → Excess
-ListExcess L p beyond V n d xs after = OneMore beyond (Crowded L p n) d xs after ⊎ AfterItems L n V d xs after
+abbrev pub ListExcess : {A : Type 0} → Language A → (Symbol → Bool) → (Lexeme → ScenarioFault) → Excess → ℕ → Excess
+ListExcess L p beyond V n d xs after = OneMoreBy beyond (Crowded L p n) d xs after ⊎ AfterItems L n V d xs after
 
 -- what may follow the item x
 abbrev AfterItem : {A : Type 0} → Language A → ℕ → A → Language (List A)
@@ -42,7 +42,7 @@ joined L n k x xs u w l (inl (same, none)) = rw (same, none) ((u, l, inl (refl, 
 joined L n k x xs u w l (inr (rest, v, same, text, list)) =
     rw (same, text) ((u, l, inr (v, refl, list.0)), within-map k (λ le. let less : length rest ≤ n = le in omega arith) list.1)
 
-passed_on : {A : Type 0} (L : Language A) (p : Symbol → Bool) (beyond : ℕ → ScenarioFault) (V : Excess) (n : ℕ) (x : A) (d : ScenarioFault) (u y : List Symbol) (after : List Lexeme)
+passed_on : {A : Type 0} (L : Language A) (p : Symbol → Bool) (beyond : Lexeme → ScenarioFault) (V : Excess) (n : ℕ) (x : A) (d : ScenarioFault) (u y : List Symbol) (after : List Lexeme)
     → L true x u → AfterSemicolon (ListExcess L p beyond V n) d y after → ListExcess L p beyond V (suc n) d (u ++ y) after
 passed_on L p beyond V n x d u y after l (v, text, inl (z, others, next, fault, (items, full, start, fits))) =
     inl (z, others, next, fault, (x ∷ items, ap suc full, (u, v, l, ap (λ (s : List Symbol). u ++ s) text, start), fits))
@@ -50,31 +50,31 @@ passed_on L p beyond V n x d u y after l (v, text, inr (items, a, b, few, start,
     let whole : u ++ y ≡ (u ++ semicolon ∷ a) ++ b = rw (text, parts) (sym (append_assoc u (semicolon ∷ a) b)) in
     inr (x ∷ items, u ++ semicolon ∷ a, b, omega arith, (u, a, l, refl, start), whole, o)
 
-pub reads_items : {A : Type 0} {L : Language A} {V : Excess} {item : Reading → Outcome A} (p : Symbol → Bool) (beyond : ℕ → ScenarioFault) → Reads L V item → (n : ℕ) → Reads (Lists L n) (ListExcess L p beyond V n) (items_at p item beyond n)
+pub reads_items : {A : Type 0} {L : Language A} {V : Excess} {item : Reading → Outcome A} (p : Symbol → Bool) (beyond : Reading → ScenarioFault) (fault : Lexeme → ScenarioFault) → ((n : ℕ) (x : Lexeme) (xs : List Lexeme) → beyond (record { left = x ∷ xs; stop = n }) ≡ fault x) → Reads L V item → (n : ℕ) → Reads (Lists L n) (ListExcess L p fault V n) (items_at p item beyond n)
 unfolding items_at
-reads_items p beyond F zero =
-    reads_refused p beyond (λ x after fits. inl (x, after, refl, refl, ([], refl, refl, fits))) (reads_done [] (λ k. (refl, within k (le_refl 0))))
-reads_items {L} {V} {item} p beyond F (suc n) =
+reads_items p beyond fault agree F zero =
+    reads_refused_by p beyond fault agree (λ x after fits. inl (x, after, refl, refl, ([], refl, refl, fits))) (reads_done [] (λ k. (refl, within k (le_refl 0))))
+reads_items {L} {V} {item} p beyond fault agree F (suc n) =
     reads_if p
-    (reads_then (λ x. AfterItem L n x) (λ _. AfterSemicolon (ListExcess L p beyond V n))
+    (reads_then (λ x. AfterItem L n x) (λ _. AfterSemicolon (ListExcess L p fault V n))
     (λ x r. cond (begins_with (has_kind Semi) r.left) (skip (has_kind Semi) r >>= λ a. items_at p item beyond n a.1 >>= λ rest. Ok (x ∷ rest.0, rest.1)) (Ok (x ∷ [], r)))
-    (Lists L (suc n)) (ListExcess L p beyond V (suc n))
+    (Lists L (suc n)) (ListExcess L p fault V (suc n))
     F
     (λ x.
     reads_if (has_kind Semi)
     (reads_symbol (has_kind Semi) semicolon refl (kind_is Semi)
-    (λ k xs w. (rest : List _) × (xs ≡ x ∷ rest) × Lists L n k rest w) (ListExcess L p beyond V n)
+    (λ k xs w. (rest : List _) × (xs ≡ x ∷ rest) × Lists L n k rest w) (ListExcess L p fault V n)
     (λ r. items_at p item beyond n r >>= λ rest. Ok (x ∷ rest.0, rest.1))
-    (reads_map (λ rest. x ∷ rest) (λ k xs w. (rest : List _) × (xs ≡ x ∷ rest) × Lists L n k rest w) (reads_items p beyond F n) (λ k rest w l. (rest, refl, l)))
+    (reads_map (λ rest. x ∷ rest) (λ k xs w. (rest : List _) × (xs ≡ x ∷ rest) × Lists L n k rest w) (reads_items p beyond fault agree F n) (λ k rest w l. (rest, refl, l)))
     (x ∷ [], [], λ k. ([], refl, (refl, within k (omega arith))))
-    (AfterItem L n x) (AfterSemicolon (ListExcess L p beyond V n))
+    (AfterItem L n x) (AfterSemicolon (ListExcess L p fault V n))
     (λ k xs y m. inr (m.0, y, m.1, refl, m.2))
     (λ d y after o. (y, refl, o)))
     (reads_done (x ∷ []) (λ k. inl (refl, refl))))
     (λ x. (x ∷ [], [], λ k. inl (refl, refl)))
     (λ k x xs u w l m. joined L n k x xs u w l m)
     (λ d x after o. inr ([], [], x, omega arith, refl, refl, o))
-    (λ x d u y after l o. passed_on L p beyond V n x d u y after l o))
+    (λ x d u y after l o. passed_on L p fault V n x d u y after l o))
     (reads_done [] (λ k. (refl, within k (omega arith))))
 
 -- ---- lists of other things

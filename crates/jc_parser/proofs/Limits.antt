@@ -8,7 +8,7 @@ use Rattle.jc_rules.specs.Syntax.{Expr, TheDoc, GetKey, Cmd, SetTo}
 use Rattle.jc_parser.specs.declared.fault.ScenarioFault.{ScenarioFault}
 use Rattle.jc_parser.specs.declared.fault.ScenarioFault.TheVariants.{ReservedName, TooManyCommands, TooLongExpression, UnknownReplica, TooManyEvents}
 use Rattle.jc_parser.specs.Symbols.{Symbol, word, number, string, dot, open_paren, close_paren, open_brace, close_brace, semicolon, assign, Lexeme, symbols}
-use Rattle.jc_parser.specs.Reading.{Reading, is_word, has_kind, begins_with, one}
+use Rattle.jc_parser.specs.Reading.{Reading, is_word, has_kind, begins_with, place, one}
 use Rattle.jc_parser.specs.Parts.{command_at, event_at, commands_at, events_at, whole_at, replica_at, schedule_at, block_at}
 use Rattle.jc_parser.specs.Grammar.{is_reserved, IsExpressionText, IsCommandText, IsEventText, IsListText, IsStartText, IsText, Tree, IsWithinLimits, selector_count, head_text, schedule_head}
 use Rattle.jc_parser.specs.Stops.{IsPrefix, IsPrefixWithin, IsReservedName, IsCommandTooMany, IsSelectorTooMany, IsEventTooMany, IsStranger, IsExcess}
@@ -60,7 +60,7 @@ commands_over m n em t stop before after x b within full start text is = by_head
     by_head : Headed t.name before b → whole_with m n (reading stop (before ++ x ∷ after)) ≡ Err (TooManyCommands x.place)
     by_head (p, q, r, s, u, w, parts, rest) =
         let fits : is_word (codes "doc") x.symbol ≡ true = ap (is_word (codes "doc")) is in
-        let over : commands_at m (reading stop (w ++ x ∷ after)) ≡ Err (TooManyCommands x.place) = crowded (is_word (codes "doc")) command_at (λ at. TooManyCommands at) commands_are m t.script w x after stop (subst (IsStartText IsCommandText t.script) (sym rest) start) (full ∙ sym em) within.selectors fits in
+        let over : commands_at m (reading stop (w ++ x ∷ after)) ≡ Err (TooManyCommands x.place) = crowded (is_word (codes "doc")) command_at (λ r. TooManyCommands (place r)) commands_are m t.script w x after stop (subst (IsStartText IsCommandText t.script) (sym rest) start) (full ∙ sym em) within.selectors fits in
         let here : before ++ x ∷ after ≡ lines p q r s u t.name [] (w ++ x ∷ after) = ap (λ (l : List Lexeme). l ++ x ∷ after) parts in
         ap (λ (l : List Lexeme). whole_with m n (reading stop l)) here ∙ body_refused m n p q r s u t.name stop (w ++ x ∷ after) (TooManyCommands x.place) within.name (script_refused m n t.name (reading stop (w ++ x ∷ after)) (TooManyCommands x.place) over)
 
@@ -72,7 +72,7 @@ selectors_over m n em t stop before after x z b e v within room start full writt
         let own : IsExpressionText e (symbols wv) = subst (IsExpressionText e) (sym right) written in
         let long : command_at (reading stop (wv ++ x ∷ z ∷ after)) ≡ Err (TooLongExpression x.place) = long_command e wv x z after stop full own is_dot is_get in
         let first : begins_with (is_word (codes "doc")) (wv ++ x ∷ z ∷ after) ≡ true = begins_expression e wv (x ∷ z ∷ after) own in
-        let over : commands_at m (reading stop (wb ++ (wv ++ x ∷ z ∷ after))) ≡ Err (TooLongExpression x.place) = broken (is_word (codes "doc")) command_at (λ at. TooManyCommands at) commands_are m t.script wb (wv ++ x ∷ z ∷ after) stop (TooLongExpression x.place) (subst (IsStartText IsCommandText t.script) (sym left) start) (omega (arith, room, em)) within.selectors first long in
+        let over : commands_at m (reading stop (wb ++ (wv ++ x ∷ z ∷ after))) ≡ Err (TooLongExpression x.place) = broken (is_word (codes "doc")) command_at (λ r. TooManyCommands (place r)) commands_are m t.script wb (wv ++ x ∷ z ∷ after) stop (TooLongExpression x.place) (subst (IsStartText IsCommandText t.script) (sym left) start) (omega (arith, room, em)) within.selectors first long in
         let here : before ++ x ∷ z ∷ after ≡ lines p q r s u t.name [] (wb ++ (wv ++ x ∷ z ∷ after)) =
         ap (λ (l : List Lexeme). l ++ x ∷ z ∷ after) parts ∙ ap (λ (l : List Lexeme). lines p q r s u t.name [] (l ++ x ∷ z ∷ after)) split ∙ ap (λ (l : List Lexeme). lines p q r s u t.name [] l) (append_assoc wb wv (x ∷ z ∷ after)) in
         ap (λ (l : List Lexeme). whole_with m n (reading stop l)) here ∙ body_refused m n p q r s u t.name stop (wb ++ (wv ++ x ∷ z ∷ after)) (TooLongExpression x.place) within.name (script_refused m n t.name (reading stop (wb ++ (wv ++ x ∷ z ∷ after))) (TooLongExpression x.place) over)
@@ -110,11 +110,11 @@ events_over m n em en t stop before after x sc b name within full list start tex
     by_parts p q r s u a c d w ws wr wb parts split joins script events =
         let tail : List Lexeme = at_place a close_brace ∷ at_place c (word (codes "schedule")) ∷ at_place d open_brace ∷ (wb ++ x ∷ after) in
         let fits : has_kind Name x.symbol ≡ true = ap (has_kind Name) is in
-        let over : events_at n (reading stop (wb ++ x ∷ after)) ≡ Err (TooManyEvents x.place) = crowded {P = Any} (has_kind Name) event_at (λ at. TooManyEvents at) events_are n t.events wb x after stop events (full ∙ sym en) (λ i k h. tt) fits in
+        let over : events_at n (reading stop (wb ++ x ∷ after)) ≡ Err (TooManyEvents x.place) = crowded {P = Any} (has_kind Name) event_at (λ r. TooManyEvents (place r)) events_are n t.events wb x after stop events (full ∙ sym en) (λ i k h. tt) fits in
         let fails : tail_at n (reading stop tail) ≡ Err (TooManyEvents x.place) = events_refused n stop a c d (wb ++ x ∷ after) (TooManyEvents x.place) over in
         let few : length t.script ≤ 65536 = within.commands in
         let body : body_with m n t.name (reading stop (ws ++ tail)) ≡ Err (TooManyEvents x.place) =
-        by_script ws tail (items_again (is_word (codes "doc")) command_at (λ at. TooManyCommands at) commands_are (λ at. tt) m true t.script ws tail stop script (omega (arith, few, em)) within.selectors (record { no_item = refl; no_semicolon = refl; no_dot = refl })) fails in
+        by_script ws tail (items_again (is_word (codes "doc")) command_at (λ r. TooManyCommands (place r)) commands_are (λ r. tt) m true t.script ws tail stop script (omega (arith, few, em)) within.selectors (record { no_item = refl; no_semicolon = refl; no_dot = refl })) fails in
         let here : before ++ x ∷ after ≡ lines p q r s u t.name [] (ws ++ tail) =
         ap (λ (l : List Lexeme). l ++ x ∷ after) parts ∙ ap (λ (l : List Lexeme). lines p q r s u t.name [] (l ++ x ∷ after)) split ∙ ap (λ (l : List Lexeme). lines p q r s u t.name [] l) (append_assoc ws wr (x ∷ after)) ∙ ap (λ (l : List Lexeme). lines p q r s u t.name [] (ws ++ (l ++ x ∷ after))) joins in
         ap (λ (l : List Lexeme). whole_with m n (reading stop l)) here ∙ body_refused m n p q r s u t.name stop (ws ++ tail) (TooManyEvents x.place) within.name body
@@ -136,7 +136,7 @@ whole_is r = refl
 -- ---- what passes a limit begins a scenario
 
 -- items, each with its `;`, and a list after them
-list_more : {A : Type 0} (L : A → List Symbol → Type 0) (xs ys : List A) (u w : List Symbol) → IsStartText L xs u → IsListText L ys w → IsListText L (xs ++ ys) (u ++ w)
+pub list_more : {A : Type 0} (L : A → List Symbol → Type 0) (xs ys : List A) (u w : List Symbol) → IsStartText L xs u → IsListText L ys w → IsListText L (xs ++ ys) (u ++ w)
 list_more L [] ys u w start list = rw start list
 list_more L (x ∷ xs) ys u w (a, b, l, text, rest) list = (a, l, inr (b ++ w, ap (λ (s : List Symbol). s ++ w) text ∙ append_assoc a (semicolon ∷ b) w, list_more L xs ys b w rest list))
 

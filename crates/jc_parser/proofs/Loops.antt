@@ -10,7 +10,7 @@ use Rattle.jc_rules.specs.declared.operation.Event.TheVariants.{Exec}
 use Rattle.jc_parser.specs.declared.fault.ScenarioFault.{ScenarioFault}
 use Rattle.jc_parser.specs.declared.fault.ScenarioFault.TheVariants.{UnknownReplica}
 use Rattle.jc_parser.specs.Symbols.{Symbol}
-use Rattle.jc_parser.specs.Reading.{Reading, Outcome, ◌>>=◌, begins, has_kind, skip, place}
+use Rattle.jc_parser.specs.Reading.{Reading, Outcome, ◌>>=◌, begins, has_kind, skip}
 use Rattle.jc_parser.specs.Parts.{selector_at, extra_selector, selectors_at, items_at, resolved}
 
 -- ---- selectors
@@ -45,27 +45,27 @@ pub with_front-nil : {A : Type 0} (read : Outcome (List A)) → with_front [] re
 with_front-nil (Ok x) = refl
 with_front-nil (Err e) = refl
 
-pub items_done : {A : Type 0} (p : Symbol → Bool) (item : Reading → Outcome A) (beyond : ℕ → ScenarioFault) (n : ℕ) (r : Reading) (front : List A) → begins p r ≡ false → with_front front (items_at p item beyond n r) ≡ Ok (front, r)
+pub items_done : {A : Type 0} (p : Symbol → Bool) (item : Reading → Outcome A) (beyond : Reading → ScenarioFault) (n : ℕ) (r : Reading) (front : List A) → begins p r ≡ false → with_front front (items_at p item beyond n r) ≡ Ok (front, r)
 unfolding items_at
 items_done p item beyond zero r front none = rw none (ap (λ l. Ok (l, r)) (append-nil front))
 items_done p item beyond (suc n) r front none = rw none (ap (λ l. Ok (l, r)) (append-nil front))
 
-pub items_full : {A : Type 0} (p : Symbol → Bool) (item : Reading → Outcome A) (beyond : ℕ → ScenarioFault) (n : ℕ) (r : Reading) (front : List A) → n ≡ 0 → begins p r ≡ true → with_front front (items_at p item beyond n r) ≡ Err (beyond (place r))
+pub items_full : {A : Type 0} (p : Symbol → Bool) (item : Reading → Outcome A) (beyond : Reading → ScenarioFault) (n : ℕ) (r : Reading) (front : List A) → n ≡ 0 → begins p r ≡ true → with_front front (items_at p item beyond n r) ≡ Err (beyond r)
 unfolding items_at
 items_full p item beyond zero r front z some = rw some refl
 items_full p item beyond (suc n) r front z some = absurd (omega arith)
 
-pub items_fail : {A : Type 0} (p : Symbol → Bool) (item : Reading → Outcome A) (beyond : ℕ → ScenarioFault) (n : ℕ) (r : Reading) (front : List A) (f : ScenarioFault) → n ≢ 0 → begins p r ≡ true → item r ≡ Err f → with_front front (items_at p item beyond n r) ≡ Err f
+pub items_fail : {A : Type 0} (p : Symbol → Bool) (item : Reading → Outcome A) (beyond : Reading → ScenarioFault) (n : ℕ) (r : Reading) (front : List A) (f : ScenarioFault) → n ≢ 0 → begins p r ≡ true → item r ≡ Err f → with_front front (items_at p item beyond n r) ≡ Err f
 unfolding items_at
 items_fail p item beyond zero r front f z some fails = absurd (z refl)
 items_fail p item beyond (suc n) r front f z some fails = rw (some, fails) refl
 
-pub items_last : {A : Type 0} (p : Symbol → Bool) (item : Reading → Outcome A) (beyond : ℕ → ScenarioFault) (n : ℕ) (r after : Reading) (x : A) (front : List A) → n ≢ 0 → begins p r ≡ true → item r ≡ Ok (x, after) → begins (has_kind Semi) after ≡ false → with_front front (items_at p item beyond n r) ≡ Ok (front ++ x ∷ [], after)
+pub items_last : {A : Type 0} (p : Symbol → Bool) (item : Reading → Outcome A) (beyond : Reading → ScenarioFault) (n : ℕ) (r after : Reading) (x : A) (front : List A) → n ≢ 0 → begins p r ≡ true → item r ≡ Ok (x, after) → begins (has_kind Semi) after ≡ false → with_front front (items_at p item beyond n r) ≡ Ok (front ++ x ∷ [], after)
 unfolding items_at
 items_last p item beyond zero r after x front z some reads ends = absurd (z refl)
 items_last p item beyond (suc n) r after x front z some reads ends = rw (some, reads, ends) refl
 
-pub items_cut : {A : Type 0} (p : Symbol → Bool) (item : Reading → Outcome A) (beyond : ℕ → ScenarioFault) (n : ℕ) (r after : Reading) (x : A) (front : List A) (f : ScenarioFault) → n ≢ 0 → begins p r ≡ true → item r ≡ Ok (x, after) → begins (has_kind Semi) after ≡ true → skip (has_kind Semi) after ≡ Err f → with_front front (items_at p item beyond n r) ≡ Err f
+pub items_cut : {A : Type 0} (p : Symbol → Bool) (item : Reading → Outcome A) (beyond : Reading → ScenarioFault) (n : ℕ) (r after : Reading) (x : A) (front : List A) (f : ScenarioFault) → n ≢ 0 → begins p r ≡ true → item r ≡ Ok (x, after) → begins (has_kind Semi) after ≡ true → skip (has_kind Semi) after ≡ Err f → with_front front (items_at p item beyond n r) ≡ Err f
 unfolding items_at
 items_cut p item beyond zero r after x front f z some reads goes fails = absurd (z refl)
 items_cut p item beyond (suc n) r after x front f z some reads goes fails = rw (some, reads, goes, fails) refl
@@ -74,7 +74,7 @@ regroup : {A : Type 0} (read : Outcome (List A)) (x : A) (front : List A) → wi
 regroup (Ok y) x front = ap (λ l. Ok (l, y.1)) (sym (append_assoc front (x ∷ []) y.0))
 regroup (Err e) x front = refl
 
-pub items_next : {A : Type 0} (p : Symbol → Bool) (item : Reading → Outcome A) (beyond : ℕ → ScenarioFault) (n : ℕ) (r after next : Reading) (x : A) (front : List A) → n ≢ 0 → begins p r ≡ true → item r ≡ Ok (x, after) → begins (has_kind Semi) after ≡ true → skip (has_kind Semi) after ≡ Ok (tt, next) → with_front front (items_at p item beyond n r) ≡ with_front (front ++ x ∷ []) (items_at p item beyond (n - 1) next)
+pub items_next : {A : Type 0} (p : Symbol → Bool) (item : Reading → Outcome A) (beyond : Reading → ScenarioFault) (n : ℕ) (r after next : Reading) (x : A) (front : List A) → n ≢ 0 → begins p r ≡ true → item r ≡ Ok (x, after) → begins (has_kind Semi) after ≡ true → skip (has_kind Semi) after ≡ Ok (tt, next) → with_front front (items_at p item beyond n r) ≡ with_front (front ++ x ∷ []) (items_at p item beyond (n - 1) next)
 unfolding items_at
 items_next p item beyond zero r after next x front z some reads goes skips = absurd (z refl)
 items_next p item beyond (suc n) r after next x front z some reads goes skips = rw (some, reads, goes, skips, sub-one) (regroup (items_at p item beyond n next) x front)

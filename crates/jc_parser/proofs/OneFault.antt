@@ -10,7 +10,7 @@ use Rattle.jc_parser.specs.declared.fault.ScenarioFault.{ScenarioFault}
 use Rattle.jc_parser.specs.declared.fault.ScenarioFault.TheVariants.{TooManyCommands, UnknownReplica}
 use Rattle.jc_parser.specs.Faults.{from_lexer}
 use Rattle.jc_parser.specs.Symbols.{Symbol, word, open_brace, close_brace, semicolon, Lexeme, symbols}
-use Rattle.jc_parser.specs.Reading.{Reading, reading as read_from, is_word}
+use Rattle.jc_parser.specs.Reading.{Reading, reading as read_from, is_word, place}
 use Rattle.jc_parser.specs.Parts.{command_at, commands_at}
 use Rattle.jc_parser.specs.Grammar.{IsCommandText, IsEventText, IsListText, IsStartText, Tree, IsWithinLimits, head_text, schedule_head}
 use Rattle.jc_parser.specs.Stops.{misfit_fault, IsFault}
@@ -75,7 +75,7 @@ after_script m em t ls before rest u v within list text parts = by_head (headed 
     by_script : (a b c : ℕ) (wu w : List Lexeme) → symbols w ≡ v → drop 5 ls ≡ wu ++ block a b c (w ++ rest) → IsListText IsCommandText t.script (symbols wu) → AfterScript m ls v rest
     by_script a b c wu w is here script =
         let few : length t.script ≤ 65536 = within.commands in
-        by_read a b c wu w is here (items_again (is_word (codes "doc")) command_at (λ at. TooManyCommands at) commands_are (λ at. tt) m true t.script wu (block a b c (w ++ rest)) 0 script (omega (arith, few, em)) within.selectors (record { no_item = refl; no_semicolon = refl; no_dot = refl }))
+        by_read a b c wu w is here (items_again (is_word (codes "doc")) command_at (λ r. TooManyCommands (place r)) commands_are (λ r. tt) m true t.script wu (block a b c (w ++ rest)) 0 script (omega (arith, few, em)) within.selectors (record { no_item = refl; no_semicolon = refl; no_dot = refl }))
 
     by_between : (wu wr w : List Lexeme) → drop 5 ls ≡ (wu ++ wr) ++ rest → IsListText IsCommandText t.script (symbols wu) → Between wr v → AfterScript m ls v rest
     by_between wu wr w here script (a, b, c, wv, joins, is) =

@@ -17,6 +17,10 @@ pub bind_err : {A B : Type 0} (r : Result A ScenarioFault) (f : A → Result B S
 bind_err (Ok x) f e h = inr (x, refl, h)
 bind_err (Err d) f e h = inl cc
 
+pub bind_assoc : {A B C : Type 0} (r : Result A ScenarioFault) (f : A → Result B ScenarioFault) (g : B → Result C ScenarioFault) → ((r >>= f) >>= g) ≡ (r >>= λ x. f x >>= g)
+bind_assoc (Ok x) f g = refl
+bind_assoc (Err e) f g = refl
+
 -- ---- lists
 
 -- the same first lexeme, or none in both
@@ -339,28 +343,35 @@ reads_done {L} a empty = record {
 }
 
 -- Refuses a symbol that passes the test, with a fault of its own.
-pub reads_refused : {A : Type 0} {L : Language A} {V : Excess} {f : Reading → Outcome A} (p : Symbol → Bool) (fault : ℕ → ScenarioFault) → ((x : Lexeme) (after : List Lexeme) → p x.symbol ≡ true → V (fault x.place) [] (x ∷ after)) → Reads L V f
-    → Reads L V (λ r. cond (begins_with p r.left) (Err (fault (place_at r.stop r.left))) (f r))
-reads_refused {L} {V} {f} p fault over F = record {
+pub reads_refused_by : {A : Type 0} {L : Language A} {V : Excess} {f : Reading → Outcome A} (p : Symbol → Bool) (beyond : Reading → ScenarioFault) (fault : Lexeme → ScenarioFault) → ((n : ℕ) (x : Lexeme) (xs : List Lexeme) → beyond (record { left = x ∷ xs; stop = n }) ≡ fault x) → ((x : Lexeme) (after : List Lexeme) → p x.symbol ≡ true → V (fault x) [] (x ∷ after)) → Reads L V f
+    → Reads L V (λ r. cond (begins_with p r.left) (Err (beyond r)) (f r))
+reads_refused_by {L} {V} {f} p beyond fault agree over F = record {
   ok = λ r a rest e.
       elim (cases_Bool (begins_with p r.left)) [
-        | inl fits ↦ let bad : fault_as (fault (place_at r.stop r.left)) ≡ read_as a rest = rw fits at e in absurd cc
+        | inl fits ↦ let bad : fault_as (beyond r) ≡ read_as a rest = rw fits at e in absurd cc
         | inr other ↦ took_if p false f _ r a rest other (λ s t. rw t refl) (F.ok r a rest (rw other at e))
       ];
   err = λ r e h.
       elim (cases_Bool (begins_with p r.left)) [
-        | inl fits ↦ refused_at p fault over r.stop r.left e fits (rw fits at h)
+        | inl fits ↦ refused_at p beyond fault agree over r.stop r.left e fits (rw fits at h)
         | inr other ↦ stopped_if p false f _ r e other (λ s t. rw t refl) (F.err r e (rw other at h))
       ];
 }
   where
-    refused_at : {A : Type 0} {L : Language A} {V : Excess} {f : Reading → Outcome A} (p : Symbol → Bool) (fault : ℕ → ScenarioFault) → ((x : Lexeme) (after : List Lexeme) → p x.symbol ≡ true → V (fault x.place) [] (x ∷ after))
-        → (n : ℕ) (ls : List Lexeme) (e : ScenarioFault) → begins_with p ls ≡ true → fault_as {A = A} (fault (place_at n ls)) ≡ fault_as {A = A} e
-        → Stopped L V (λ r. cond (begins_with p r.left) (Err (fault (place_at r.stop r.left))) (f r)) (record { left = ls; stop = n }) e
-    refused_at p fault over n [] e fits h = absurd cc
-    refused_at {V} p fault over n (x ∷ xs) e fits h =
-        let same : fault x.place ≡ e = cc in
+    refused_at : {A : Type 0} {L : Language A} {V : Excess} {f : Reading → Outcome A} (p : Symbol → Bool) (beyond : Reading → ScenarioFault) (fault : Lexeme → ScenarioFault) → ((n : ℕ) (x : Lexeme) (xs : List Lexeme) → beyond (record { left = x ∷ xs; stop = n }) ≡ fault x)
+        → ((x : Lexeme) (after : List Lexeme) → p x.symbol ≡ true → V (fault x) [] (x ∷ after))
+        → (n : ℕ) (ls : List Lexeme) (e : ScenarioFault) → begins_with p ls ≡ true → fault_as {A = A} (beyond (record { left = ls; stop = n })) ≡ fault_as {A = A} e
+        → Stopped L V (λ r. cond (begins_with p r.left) (Err (beyond r)) (f r)) (record { left = ls; stop = n }) e
+    refused_at p beyond fault agree over n [] e fits h = absurd cc
+    refused_at {V} p beyond fault agree over n (x ∷ xs) e fits h =
+        let here : beyond (record { left = x ∷ xs; stop = n }) ≡ e = cc in
+        let same : fault x ≡ e = sym (agree n x xs) ∙ here in
         record { before = []; after = x ∷ xs; parts = refl; reason = inr (subst (λ d. V d [] (x ∷ xs)) same (over x xs fits)) }
+
+-- where the place determines the fault
+pub reads_refused : {A : Type 0} {L : Language A} {V : Excess} {f : Reading → Outcome A} (p : Symbol → Bool) (fault : ℕ → ScenarioFault) → ((x : Lexeme) (after : List Lexeme) → p x.symbol ≡ true → V (fault x.place) [] (x ∷ after)) → Reads L V f
+    → Reads L V (λ r. cond (begins_with p r.left) (Err (fault (place_at r.stop r.left))) (f r))
+reads_refused p fault over F = reads_refused_by p (λ r. fault (place_at r.stop r.left)) (λ x. fault x.place) (λ n x xs. refl) over F
 
 -- ---- a symbol that is known
 
@@ -412,6 +423,29 @@ reads_same h agree F = record {
         reason =
             elim t.reason [
               | inl m ↦ inl (record { kept = m.kept; rest = m.rest; within = m.within; begun = m.begun; fault = m.fault; again = λ y same. agree (at r (t.before ++ y)) ∙ m.again y same })
+              | inr o ↦ inr o
+            ];
+      };
+}
+
+-- the same reader, of a larger language
+pub reads_as : {A : Type 0} {L : Language A} {V : Excess} {f : Reading → Outcome A} (M : Language A) → ((k : Bool) (a : A) (w : List Symbol) → L k a w → M k a w) → Reads L V f → Reads M V f
+reads_as M give F = record {
+  ok = λ r a rest e.
+      let t = F.ok r a rest e in
+      record { text = t.text; parts = t.parts; stop = t.stop; spells = λ k. give k a (symbols t.text) (t.spells k); again = λ y same. t.again y same };
+  err = λ r e h.
+      let t = F.err r e h in
+      record {
+        before = t.before;
+        after = t.after;
+        parts = t.parts;
+        reason =
+            elim t.reason [
+              | inl m ↦
+                  let (a, more, text) = m.within in
+                  let (b, others, longer) = m.begun in
+                  inl (record { kept = m.kept; rest = m.rest; within = (a, more, give true a (symbols m.kept ++ more) text); begun = (b, others, give false b (symbols t.before ++ others) longer); fault = m.fault; again = λ y same. m.again y same })
               | inr o ↦ inr o
             ];
       };

@@ -18,14 +18,14 @@ use Rattle.jc_parser.proofs.SpelledLists.{Given, IsItem}
 -- ---- items, each with its `;`
 
 -- these items were read, and the rest is read after them
-abbrev pub Started : {A : Type 0} → (Symbol → Bool) → (Reading → Outcome A) → (ℕ → ScenarioFault) → ℕ → ℕ → ℕ → List Lexeme → List Lexeme → Type 0
+abbrev pub Started : {A : Type 0} → (Symbol → Bool) → (Reading → Outcome A) → (Reading → ScenarioFault) → ℕ → ℕ → ℕ → List Lexeme → List Lexeme → Type 0
 Started {A} p item beyond n done stop ls y = (rs : List A) × (items_at p item beyond n (reading stop ls) ≡ with_front rs (items_at p item beyond (n - done) (reading stop y)))
 
 front_twice : {A : Type 0} (a : A) (rs : List A) (read : Outcome (List A)) → with_front (a ∷ []) (with_front rs read) ≡ with_front (a ∷ rs) read
 front_twice a rs (Ok x) = refl
 front_twice a rs (Err e) = refl
 
-one_more_read : {A : Type 0} (p : Symbol → Bool) (item : Reading → Outcome A) (beyond : ℕ → ScenarioFault) (n done : ℕ) (a : A) (u v y : List Lexeme) (q stop : ℕ) → done < n → begins_with p (u ++ at_place q semicolon ∷ (v ++ y)) ≡ true → item (reading stop (u ++ at_place q semicolon ∷ (v ++ y))) ≡ Ok (a, reading stop (at_place q semicolon ∷ (v ++ y)))
+one_more_read : {A : Type 0} (p : Symbol → Bool) (item : Reading → Outcome A) (beyond : Reading → ScenarioFault) (n done : ℕ) (a : A) (u v y : List Lexeme) (q stop : ℕ) → done < n → begins_with p (u ++ at_place q semicolon ∷ (v ++ y)) ≡ true → item (reading stop (u ++ at_place q semicolon ∷ (v ++ y))) ≡ Ok (a, reading stop (at_place q semicolon ∷ (v ++ y)))
     → Started p item beyond (n - 1) done stop (v ++ y) y → Started p item beyond n (suc done) stop (u ++ at_place q semicolon ∷ (v ++ y)) y
 unfolding one
 one_more_read p item beyond n done a u v y q stop lt fits read (rs, rest) =
@@ -39,7 +39,7 @@ one_more_read p item beyond n done a u v y q stop lt fits read (rs, rest) =
           ∙ ap (λ k. with_front (a ∷ rs) (items_at p item beyond k (reading stop y))) count,
     )
 
-pub start_read : {A B : Type 0} {L : B → List Symbol → Type 0} {V : Given A B} {P : B → Type 0} (p : Symbol → Bool) (item : Reading → Outcome A) (beyond : ℕ → ScenarioFault) → IsItem p item L V P
+pub start_read : {A B : Type 0} {L : B → List Symbol → Type 0} {V : Given A B} {P : B → Type 0} (p : Symbol → Bool) (item : Reading → Outcome A) (beyond : Reading → ScenarioFault) → IsItem p item L V P
     → (n : ℕ) (bs : List B) (w y : List Lexeme) (stop : ℕ) → IsStartText L bs (symbols w) → length bs ≤ n → All P bs → Started p item beyond n (length bs) stop (w ++ y) y
 start_read p item beyond I n [] w y stop text le all =
     let none : w ≡ [] = split_none w text in
@@ -62,15 +62,15 @@ start_read {A} {L} {V} {P} p item beyond I n (b ∷ bs) w y stop (u, v, l, text,
         (by_item wu wv q own (later (n - 1) wv less (subst (IsStartText L bs) (sym right) rest)) (I.again true b wu (at_place q semicolon ∷ (wv ++ y)) stop own (All-head P b bs all) refl))
 
 -- one item more than there may be
-pub crowded : {A B : Type 0} {L : B → List Symbol → Type 0} {V : Given A B} {P : B → Type 0} (p : Symbol → Bool) (item : Reading → Outcome A) (beyond : ℕ → ScenarioFault) → IsItem p item L V P
-    → (n : ℕ) (bs : List B) (w : List Lexeme) (x : Lexeme) (xs : List Lexeme) (stop : ℕ) → IsStartText L bs (symbols w) → length bs ≡ n → All P bs → p x.symbol ≡ true → items_at p item beyond n (reading stop (w ++ x ∷ xs)) ≡ Err (beyond x.place)
+pub crowded : {A B : Type 0} {L : B → List Symbol → Type 0} {V : Given A B} {P : B → Type 0} (p : Symbol → Bool) (item : Reading → Outcome A) (beyond : Reading → ScenarioFault) → IsItem p item L V P
+    → (n : ℕ) (bs : List B) (w : List Lexeme) (x : Lexeme) (xs : List Lexeme) (stop : ℕ) → IsStartText L bs (symbols w) → length bs ≡ n → All P bs → p x.symbol ≡ true → items_at p item beyond n (reading stop (w ++ x ∷ xs)) ≡ Err (beyond (reading stop (x ∷ xs)))
 crowded p item beyond I n bs w x xs stop text full all fits =
     let (rs, read) = start_read p item beyond I n bs w (x ∷ xs) stop text (omega (arith, full)) all in
     let none : n - length bs ≡ 0 = omega (arith, full) in
     read ∙ items_full p item beyond (n - length bs) (reading stop (x ∷ xs)) rs none fits
 
 -- an item that is refused
-pub broken : {A B : Type 0} {L : B → List Symbol → Type 0} {V : Given A B} {P : B → Type 0} (p : Symbol → Bool) (item : Reading → Outcome A) (beyond : ℕ → ScenarioFault) → IsItem p item L V P
+pub broken : {A B : Type 0} {L : B → List Symbol → Type 0} {V : Given A B} {P : B → Type 0} (p : Symbol → Bool) (item : Reading → Outcome A) (beyond : Reading → ScenarioFault) → IsItem p item L V P
     → (n : ℕ) (bs : List B) (w y : List Lexeme) (stop : ℕ) (e : ScenarioFault) → IsStartText L bs (symbols w) → length bs < n → All P bs → begins_with p y ≡ true → item (reading stop y) ≡ Err e → items_at p item beyond n (reading stop (w ++ y)) ≡ Err e
 broken p item beyond I n bs w y stop e text few all fits fails =
     let (rs, read) = start_read p item beyond I n bs w y stop text (omega (arith, few)) all in

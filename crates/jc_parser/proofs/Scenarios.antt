@@ -10,7 +10,7 @@ use Rattle.jc_rules.specs.Syntax.{Expr, Cmd, SetTo}
 use Rattle.jc_parser.specs.declared.fault.ScenarioFault.{ScenarioFault}
 use Rattle.jc_parser.specs.declared.fault.ScenarioFault.TheVariants.{ReservedName, TooManyCommands, TooManyEvents}
 use Rattle.jc_parser.specs.Symbols.{Symbol, word, dot, open_brace, close_brace, assign, Lexeme}
-use Rattle.jc_parser.specs.Reading.{Reading, Outcome, ◌>>=◌, has_kind, value_of, is_word, reserved, begins_with, begins, place_at, one, skip, named_at}
+use Rattle.jc_parser.specs.Reading.{Reading, Outcome, ◌>>=◌, has_kind, value_of, is_word, reserved, begins_with, begins, place_at, place, one, skip, named_at}
 use Rattle.jc_parser.specs.Parts.{value_at, command_at, commands_at, event_at, events_at, block_at, schedule_at, name_at, replica_at, Parsed}
 use Rattle.jc_parser.specs.Grammar.{is_reserved, IsValueText, IsCommandText, IsEventText, IsScheduleText, schedule_head, IsShort, Tree}
 use Rattle.jc_parser.proofs.Readers.{Language, Excess, Never, Reads, reads_one, reads_symbol, reads_then, reads_if, reads_done, reads_map, reads_refused, reads_same, reads_more}
@@ -49,17 +49,17 @@ reads_command =
     (λ e d x y after l o. absurd o)
 
 abbrev pub CommandExcess : ℕ → Excess
-CommandExcess n = ListExcess Commands (is_word (codes "doc")) (λ at. TooManyCommands at) (IsFull FullExpression) n
+CommandExcess n = ListExcess Commands (is_word (codes "doc")) (λ x. TooManyCommands x.place) (IsFull FullExpression) n
 
 pub reads_commands : (n : ℕ) → Reads (Lists Commands n) (CommandExcess n) (commands_at n)
-reads_commands n = reads_items (is_word (codes "doc")) (λ at. TooManyCommands at) reads_command n
+reads_commands n = reads_items (is_word (codes "doc")) (λ r. TooManyCommands (place r)) (λ x. TooManyCommands x.place) (λ n x xs. refl) reads_command n
 
 -- ---- events
 
 abbrev pub Events : Language Named
 Events k e w = IsEventText e.name w
 
-reads_named : Reads (λ k n w. w ≡ word n.name ∷ []) Never named_at
+pub reads_named : Reads (λ k n w. w ≡ word n.name ∷ []) Never named_at
 unfolding named_at
 reads_named =
     reads_map (λ (x : Lexeme). record { name = value_of x.symbol; place = x.place }) (λ k n w. w ≡ word n.name ∷ []) (reads_one (has_kind Name) (word []) refl)
@@ -85,10 +85,10 @@ reads_event =
     (λ d x after o. o) (λ n d x y after l o. o)
 
 abbrev pub EventExcess : ℕ → Excess
-EventExcess n = ListExcess Events (has_kind Name) (λ at. TooManyEvents at) Never n
+EventExcess n = ListExcess Events (has_kind Name) (λ x. TooManyEvents x.place) Never n
 
 pub reads_events : (n : ℕ) → Reads (Lists Events n) (EventExcess n) (events_at n)
-reads_events n = reads_items (has_kind Name) (λ at. TooManyEvents at) reads_event n
+reads_events n = reads_items (has_kind Name) (λ r. TooManyEvents (place r)) (λ x. TooManyEvents x.place) (λ n x xs. refl) reads_event n
 
 abbrev pub name_in : Named → List ℕ
 name_in e = e.name
@@ -158,11 +158,11 @@ reads_schedule = reads_schedules 100000
 
 -- ---- the replica's name
 
-abbrev is_free : Symbol → Bool
+abbrev pub is_free : Symbol → Bool
 is_free (word name) = not (is_reserved name)
 is_free s = false
 
-free_is : (s : Symbol) → is_free s ≡ true → (s ≡ word (value_of s)) × (is_reserved (value_of s) ≡ false)
+pub free_is : (s : Symbol) → is_free s ≡ true → (s ≡ word (value_of s)) × (is_reserved (value_of s) ≡ false)
 free_is (word name) e = (refl, not-true (is_reserved name) e)
 free_is s e = absurd cc
 
@@ -170,7 +170,7 @@ abbrev pub Names : Language (List ℕ)
 Names k name w = (w ≡ word name ∷ []) × Within k (is_reserved name ≡ false)
 
 -- a name, if no reserved word comes
-free_name_at : Reading → Outcome (List ℕ)
+unfoldable pub free_name_at : Reading → Outcome (List ℕ)
 free_name_at r = one is_free r >>= λ x. Ok (value_of x.0.symbol, x.1)
 
 reads_free : Reads Names Never free_name_at
@@ -179,7 +179,7 @@ reads_free =
     reads_map (λ (x : Lexeme). value_of x.symbol) Names (reads_one is_free (word (codes "a")) refl)
     (λ k x w l. let (is, free) = free_is x.symbol l.0 in (l.1 ∙ ap (λ (s : Symbol). s ∷ []) is, within k free))
 
-guarded : Reading → Outcome (List ℕ)
+unfoldable pub guarded : Reading → Outcome (List ℕ)
 guarded r = cond (begins_with reserved r.left) (Err (ReservedName (place_at r.stop r.left))) (free_name_at r)
 
 same_name : (stop at : ℕ) (s : Symbol) (xs : List Lexeme) → name_at (record { left = record { place = at; symbol = s } ∷ xs; stop = stop }) ≡ guarded (record { left = record { place = at; symbol = s } ∷ xs; stop = stop })
@@ -187,7 +187,7 @@ unfolding name_at guarded free_name_at named_at one
 same_name stop at (word name) xs = elim (cases_Bool (is_reserved name)) [ inl taken ↦ rw taken refl | inr other ↦ rw other refl ]
 same_name stop at s xs = refl
 
-same_names : (stop : ℕ) (ls : List Lexeme) → name_at (record { left = ls; stop = stop }) ≡ guarded (record { left = ls; stop = stop })
+pub same_names : (stop : ℕ) (ls : List Lexeme) → name_at (record { left = ls; stop = stop }) ≡ guarded (record { left = ls; stop = stop })
 unfolding name_at guarded free_name_at named_at one
 same_names stop [] = refl
 same_names stop (x ∷ xs) = same_name stop x.place x.symbol xs

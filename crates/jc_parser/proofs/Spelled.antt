@@ -9,7 +9,7 @@ use Rattle.jc_rules.specs.declared.value.Value.{Value}
 use Rattle.jc_rules.specs.declared.value.Value.TheVariants as values
 use Rattle.jc_rules.specs.Syntax.{Expr, TheDoc, Variable, GetKey, Index, KeysOf, ValuesOf, Cmd, LetIn, SetTo, InsertAfter, DeleteAt, Yield}
 use Rattle.jc_parser.specs.declared.fault.ScenarioFault.{ScenarioFault}
-use Rattle.jc_parser.specs.declared.fault.ScenarioFault.TheVariants.{ReservedName, TooManyCommands, TooLongExpression, TooManyEvents}
+use Rattle.jc_parser.specs.declared.fault.ScenarioFault.TheVariants.{IndexTooLarge, ReservedName, TooManyCommands, TooLongExpression, TooManyEvents}
 use Rattle.jc_parser.specs.Symbols.{Symbol, word, number, string, dot, open_paren, close_paren, assign, Lexeme, symbols}
 use Rattle.jc_parser.specs.Reading.{Reading, Outcome, ◌>>=◌, has_kind, is_word, begins_with, one, skip, named_at}
 use Rattle.jc_parser.specs.Parts.{get_at, selector_at, selectors_at, expression_at, number_at, string_at, value_at, command_at, event_at}
@@ -23,6 +23,7 @@ reading stop ls = record { left = ls; stop = stop }
 -- ---- a fault of a limit
 
 abbrev pub IsLimitFault : ScenarioFault → Type 0
+IsLimitFault (IndexTooLarge p) = Unit {0}
 IsLimitFault (ReservedName p) = Unit {0}
 IsLimitFault (TooManyCommands p) = Unit {0}
 IsLimitFault (TooLongExpression p) = Unit {0}
@@ -211,10 +212,10 @@ expression_again k e w y stop written few no_dot = expression_with 256 k e w y s
 
 -- ---- values
 
-abbrev Single : List Lexeme → Symbol → Type 0
+abbrev pub Single : List Lexeme → Symbol → Type 0
 Single w s = (p : ℕ) × (w ≡ at_place p s ∷ [])
 
-single : (w : List Lexeme) (s : Symbol) → symbols w ≡ s ∷ [] → Single w s
+pub single : (w : List Lexeme) (s : Symbol) → symbols w ≡ s ∷ [] → Single w s
 single w s h = alone w s (split_one w s [] h)
   where
     alone : (w : List Lexeme) (s : Symbol) → First w s [] → Single w s
@@ -263,7 +264,7 @@ command_again k (InsertAfter e v) w y stop h few = absurd h
 command_again k (DeleteAt e) w y stop h few = absurd h
 command_again k Yield w y stop h few = absurd h
 
-begins_as : (p : Symbol → Bool) (s : Symbol) (b : List Symbol) (w y : List Lexeme) → p s ≡ true → First w s b → begins_with p (w ++ y) ≡ true
+pub begins_as : (p : Symbol → Bool) (s : Symbol) (b : List Symbol) (w y : List Lexeme) → p s ≡ true → First w s b → begins_with p (w ++ y) ≡ true
 begins_as p s b w y fits (at, v, parts, rest) = rw parts fits
 
 command_first_by : (e : Expr) (a b : List Symbol) (w y : List Lexeme) → symbols w ≡ a ++ b → HasKeys e a → begins_with (is_word (codes "doc")) (w ++ y) ≡ true

@@ -4,10 +4,9 @@ use Rattle.std.specs.Prelude.{codes, All}
 use Rattle.std.proofs.lemmas.List.Elements.{All-head, All-tail}
 use Rattle.jc_syntax.specs.declared.token.TokenKind.TheVariants.{Name, Dot, Semi}
 use Rattle.jc_syntax.specs.declared.tree.Named.{Named}
-use Rattle.jc_rules.specs.Syntax.{Cmd}
 use Rattle.jc_parser.specs.declared.fault.ScenarioFault.{ScenarioFault}
 use Rattle.jc_parser.specs.Symbols.{Symbol, semicolon, Lexeme, symbols}
-use Rattle.jc_parser.specs.Reading.{Reading, Outcome, has_kind, is_word, begins_with, place_at, one}
+use Rattle.jc_parser.specs.Reading.{Reading, Outcome, has_kind, is_word, begins_with, one}
 use Rattle.jc_parser.specs.Parts.{command_at, event_at, items_at}
 use Rattle.jc_parser.specs.Grammar.{IsCommandText, IsEventText, IsListText, IsShort}
 use Rattle.jc_parser.proofs.Expressions.{Within, within-map}
@@ -46,27 +45,27 @@ pub record IsAfterList (p : Symbol → Bool) (y : List Lexeme) : Type 0 where
 abbrev pub ReadList : {A B : Type 0} → Given A B → (B → List Symbol → Type 0) → Bool → List B → List Lexeme → Outcome (List A) → Reading → Type 0
 ReadList {A} V L k bs w r rest = ((rs : List A) × Stands V L rs bs w × (r ≡ Ok (rs, rest))) ⊎ IsPast k r
 
-none_again : {A : Type 0} (p : Symbol → Bool) (item : Reading → Outcome A) (beyond : ℕ → ScenarioFault) (n : ℕ) (y : List Lexeme) (stop : ℕ) → begins_with p y ≡ false → items_at p item beyond n (reading stop y) ≡ Ok ([], reading stop y)
+none_again : {A : Type 0} (p : Symbol → Bool) (item : Reading → Outcome A) (beyond : Reading → ScenarioFault) (n : ℕ) (y : List Lexeme) (stop : ℕ) → begins_with p y ≡ false → items_at p item beyond n (reading stop y) ≡ Ok ([], reading stop y)
 none_again p item beyond n y stop none = sym (with_front-nil (items_at p item beyond n (reading stop y))) ∙ items_done p item beyond n (reading stop y) [] none
 
-too_many : {A : Type 0} (p : Symbol → Bool) (item : Reading → Outcome A) (beyond : ℕ → ScenarioFault) (k : Bool) (a : ℕ) (ls : List Lexeme) (stop : ℕ) → ((at : ℕ) → IsLimitFault (beyond at)) → begins_with p ls ≡ true → Within k (suc a ≤ zero) → IsPast k (items_at p item beyond zero (reading stop ls))
+too_many : {A : Type 0} (p : Symbol → Bool) (item : Reading → Outcome A) (beyond : Reading → ScenarioFault) (k : Bool) (a : ℕ) (ls : List Lexeme) (stop : ℕ) → ((r : Reading) → IsLimitFault (beyond r)) → begins_with p ls ≡ true → Within k (suc a ≤ zero) → IsPast k (items_at p item beyond zero (reading stop ls))
 unfolding items_at
 too_many p item beyond true a ls stop limits fits few = absurd (omega (arith, few))
-too_many p item beyond false a ls stop limits fits few = (refl, beyond (place_at stop ls), rw fits refl, limits (place_at stop ls))
+too_many p item beyond false a ls stop limits fits few = (refl, beyond (reading stop ls), rw fits refl, limits (reading stop ls))
 
-last_again : {A B : Type 0} {V : Given A B} (L : B → List Symbol → Type 0) (p : Symbol → Bool) (item : Reading → Outcome A) (beyond : ℕ → ScenarioFault) (k : Bool) (n : ℕ) (b : B) (bs : List B) (w y : List Lexeme) (stop : ℕ) → begins_with p (w ++ y) ≡ true → begins_with (has_kind Semi) y ≡ false → bs ≡ [] → L b (symbols w) → Read V k b w (item (reading stop (w ++ y))) (reading stop y) → ReadList V L k (b ∷ bs) w (items_at p item beyond (suc n) (reading stop (w ++ y))) (reading stop y)
+last_again : {A B : Type 0} {V : Given A B} (L : B → List Symbol → Type 0) (p : Symbol → Bool) (item : Reading → Outcome A) (beyond : Reading → ScenarioFault) (k : Bool) (n : ℕ) (b : B) (bs : List B) (w y : List Lexeme) (stop : ℕ) → begins_with p (w ++ y) ≡ true → begins_with (has_kind Semi) y ≡ false → bs ≡ [] → L b (symbols w) → Read V k b w (item (reading stop (w ++ y))) (reading stop y) → ReadList V L k (b ∷ bs) w (items_at p item beyond (suc n) (reading stop (w ++ y))) (reading stop y)
 unfolding items_at
 last_again L p item beyond k n b bs w y stop fits ends none l (inl (a, v, read)) = inl (a ∷ [], (w, v, l, inl (refl, none, refl)), rw (fits, read, ends) refl)
 last_again L p item beyond k n b bs w y stop fits ends none l (inr past) = inr (rw fits (past_then k _ _ past))
 
-next_again : {A B : Type 0} {V : Given A B} (L : B → List Symbol → Type 0) (p : Symbol → Bool) (item : Reading → Outcome A) (beyond : ℕ → ScenarioFault) (k : Bool) (n : ℕ) (b : B) (bs : List B) (u v y : List Lexeme) (q : ℕ) (stop : ℕ) → begins_with p (u ++ at_place q semicolon ∷ (v ++ y)) ≡ true → L b (symbols u) → Read V k b u (item (reading stop (u ++ at_place q semicolon ∷ (v ++ y)))) (reading stop (at_place q semicolon ∷ (v ++ y))) → ReadList V L k bs v (items_at p item beyond n (reading stop (v ++ y))) (reading stop y)
+next_again : {A B : Type 0} {V : Given A B} (L : B → List Symbol → Type 0) (p : Symbol → Bool) (item : Reading → Outcome A) (beyond : Reading → ScenarioFault) (k : Bool) (n : ℕ) (b : B) (bs : List B) (u v y : List Lexeme) (q : ℕ) (stop : ℕ) → begins_with p (u ++ at_place q semicolon ∷ (v ++ y)) ≡ true → L b (symbols u) → Read V k b u (item (reading stop (u ++ at_place q semicolon ∷ (v ++ y)))) (reading stop (at_place q semicolon ∷ (v ++ y))) → ReadList V L k bs v (items_at p item beyond n (reading stop (v ++ y))) (reading stop y)
     → ReadList V L k (b ∷ bs) (u ++ at_place q semicolon ∷ v) (items_at p item beyond (suc n) (reading stop (u ++ at_place q semicolon ∷ (v ++ y)))) (reading stop y)
 unfolding items_at one
 next_again L p item beyond k n b bs u v y q stop fits l (inl (a, given, read)) (inl (rs, stands, rest)) = inl (a ∷ rs, (u, given, l, inr (q, v, refl, stands)), rw (fits, read, rest) refl)
 next_again L p item beyond k n b bs u v y q stop fits l (inl (a, given, read)) (inr past) = inr (rw (fits, read) (past_then k _ _ past))
 next_again L p item beyond k n b bs u v y q stop fits l (inr past) rest = inr (rw fits (past_then k _ _ past))
 
-pub items_again : {A B : Type 0} {L : B → List Symbol → Type 0} {V : Given A B} {P : B → Type 0} (p : Symbol → Bool) (item : Reading → Outcome A) (beyond : ℕ → ScenarioFault) → IsItem p item L V P → ((at : ℕ) → IsLimitFault (beyond at))
+pub items_again : {A B : Type 0} {L : B → List Symbol → Type 0} {V : Given A B} {P : B → Type 0} (p : Symbol → Bool) (item : Reading → Outcome A) (beyond : Reading → ScenarioFault) → IsItem p item L V P → ((r : Reading) → IsLimitFault (beyond r))
     → (n : ℕ) (k : Bool) (bs : List B) (w y : List Lexeme) (stop : ℕ) → IsListText L bs (symbols w) → Within k (length bs ≤ n) → Within k (All P bs) → IsAfterList p y → ReadList V L k bs w (items_at p item beyond n (reading stop (w ++ y))) (reading stop y)
 items_again p item beyond I limits n k [] w y stop text few short ends = let none : w ≡ [] = split_none w text in inl ([], none, rw none (none_again p item beyond n y stop ends.no_item))
 items_again {L} p item beyond I limits zero k (b ∷ bs) w y stop (u, l, inl (none, text)) few short ends =
@@ -112,12 +111,12 @@ events_are = record {
   first = λ name w y l. event_first name w y l;
 }
 
-pub same_commands : (rs bs : List Cmd) (w : List Lexeme) → Stands Same IsCommandText rs bs w → rs ≡ bs
-same_commands [] [] w s = refl
-same_commands [] (b ∷ bs) w s = absurd s
-same_commands (a ∷ rs) [] w s = absurd s
-same_commands (a ∷ rs) (b ∷ bs) w (u, same, l, inl (e, f, text)) = rw (same, e, f) refl
-same_commands (a ∷ rs) (b ∷ bs) w (u, same, l, inr (q, v, text, rest)) = rw (same, same_commands rs bs v rest) refl
+pub same_items : {A : Type 0} (L : A → List Symbol → Type 0) (rs bs : List A) (w : List Lexeme) → Stands Same L rs bs w → rs ≡ bs
+same_items L [] [] w s = refl
+same_items L [] (b ∷ bs) w s = absurd s
+same_items L (a ∷ rs) [] w s = absurd s
+same_items L (a ∷ rs) (b ∷ bs) w (u, same, l, inl (e, f, text)) = rw (same, e, f) refl
+same_items L (a ∷ rs) (b ∷ bs) w (u, same, l, inr (q, v, text, rest)) = rw (same, same_items L rs bs v rest) refl
 
 pub same_names : (es : List Named) (ns : List (List ℕ)) (w : List Lexeme) → Stands Calls IsEventText es ns w → names es ≡ ns
 same_names [] [] w s = refl

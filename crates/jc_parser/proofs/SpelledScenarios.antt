@@ -8,18 +8,14 @@ use Rattle.jc_rules.specs.Syntax.{Cmd}
 use Rattle.jc_parser.specs.declared.fault.ScenarioFault.{ScenarioFault}
 use Rattle.jc_parser.specs.declared.fault.ScenarioFault.TheVariants.{ReservedName, TooManyCommands, TooManyEvents}
 use Rattle.jc_parser.specs.Symbols.{Symbol, word, number, open_brace, close_brace, Lexeme, symbols}
-use Rattle.jc_parser.specs.Reading.{Reading, Outcome, ◌>>=◌, has_kind, is_word, skip, one, named_at}
+use Rattle.jc_parser.specs.Reading.{Reading, Outcome, ◌>>=◌, has_kind, is_word, place, skip, one, named_at}
 use Rattle.jc_parser.specs.Parts.{command_at, event_at, commands_at, events_at, name_at, front_at, replica_at, schedule_at, block_at, ended, whole_at, Parsed}
 use Rattle.jc_parser.specs.Grammar.{is_reserved, IsCommandText, IsEventText, IsListText, IsScheduleText, IsText, Tree, IsWithinLimits, head_text, schedule_head}
-use Rattle.jc_parser.proofs.Readers.{symbols-append}
+use Rattle.jc_parser.proofs.Readers.{bind_assoc, symbols-append}
 use Rattle.jc_parser.proofs.Expressions.{Within, within, within-map}
 use Rattle.jc_parser.proofs.Scenarios.{names, tree_of, parsed, block_with, schedule_with, body_with, replica_with}
 use Rattle.jc_parser.proofs.Spelled.{reading, at_place, First, split_one, split_around, split_symbols, split_none, IsPast, past_then}
-use Rattle.jc_parser.proofs.SpelledLists.{Stands, ReadList, IsAfterList, items_again, Same, Calls, Any, commands_are, events_are, same_commands, same_names}
-
-bind_assoc : {A B C : Type 0} (r : Result A ScenarioFault) (f : A → Result B ScenarioFault) (g : B → Result C ScenarioFault) → ((r >>= f) >>= g) ≡ (r >>= λ x. f x >>= g)
-bind_assoc (Ok x) f g = refl
-bind_assoc (Err e) f g = refl
+use Rattle.jc_parser.proofs.SpelledLists.{Stands, ReadList, IsAfterList, items_again, Same, Calls, Any, commands_are, events_are, same_items, same_names}
 
 -- ---- schedules
 
@@ -56,7 +52,7 @@ block_again k n events stop a b c d u (inr past) = inr (past_then k _ _ past)
 
 events_again : (k : Bool) (n : ℕ) (events : List (List ℕ)) (stop d : ℕ) (u : List Lexeme) → IsListText IsEventText events (symbols u) → Within k (length events ≤ n) → ReadList Calls IsEventText k events u (events_at n (reading stop (u ++ at_place d close_brace ∷ []))) (reading stop (at_place d close_brace ∷ []))
 events_again k n events stop d u text few =
-    items_again {P = Any} (has_kind Name) event_at (λ at. TooManyEvents at) events_are (λ at. tt) n k events u (at_place d close_brace ∷ []) stop text few (within k (λ i x h. tt)) (record { no_item = refl; no_semicolon = refl; no_dot = refl })
+    items_again {P = Any} (has_kind Name) event_at (λ r. TooManyEvents (place r)) events_are (λ r. tt) n k events u (at_place d close_brace ∷ []) stop text few (within k (λ i x h. tt)) (record { no_item = refl; no_semicolon = refl; no_dot = refl })
 
 some_schedule : (k : Bool) (n : ℕ) (events : List (List ℕ)) (stop : ℕ) (x : List Symbol) (w : List Lexeme) → IsListText IsEventText events x → Within k (length events ≤ n) → symbols w ≡ schedule_head ++ (x ++ close_brace ∷ []) → Scheduled k n events stop w
 some_schedule k n events stop x w list few text =
@@ -103,7 +99,7 @@ body_past k m n name r past = past_then k (commands_at m r) _ past
 
 body_again : (k : Bool) (m n : ℕ) (name : List ℕ) (t : Tree) (stop : ℕ) (u w : List Lexeme) → ReadList Same IsCommandText k t.script u (commands_at m (reading stop (u ++ w))) (reading stop w) → Scheduled k n t.events stop w → Bodied k m n name t stop u w
 body_again k m n name t stop u w (inl (cs, stands, read)) (inl (es, same, found, rest)) =
-    let script : cs ≡ t.script = same_commands cs t.script u stands in
+    let script : cs ≡ t.script = same_items IsCommandText cs t.script u stands in
     inl (es, same, found, body_tail m n name cs (reading stop (u ++ w)) (reading stop w) read ∙ rw (rest, script) refl)
 body_again k m n name t stop u w (inl (cs, stands, read)) (inr past) =
     inr (subst (IsPast k) (sym (body_tail m n name cs (reading stop (u ++ w)) (reading stop w) read)) (past_then k (tail_at n (reading stop w)) _ past))
@@ -154,7 +150,7 @@ lines_again m n em en k a b c d e t stop u w limits script schedule =
       | inr free ↦
           let few_commands : Within k (length t.script ≤ m) = within-map k (λ (l : IsWithinLimits t). let le : length t.script ≤ 65536 = l.commands in let less : length t.script ≤ m = omega (arith, le) in less) limits in
           let few_events : Within k (length t.events ≤ n) = within-map k (λ (l : IsWithinLimits t). let le : length t.events ≤ 100000 = l.events in let less : length t.events ≤ n = omega (arith, le) in less) limits in
-          let read = items_again (is_word (codes "doc")) command_at (λ at. TooManyCommands at) commands_are (λ at. tt) m k t.script u w stop script few_commands (within-map k (λ (l : IsWithinLimits t). l.selectors) limits) (after_script t.events w schedule) in
+          let read = items_again (is_word (codes "doc")) command_at (λ r. TooManyCommands (place r)) commands_are (λ r. tt) m k t.script u w stop script few_commands (within-map k (λ (l : IsWithinLimits t). l.selectors) limits) (after_script t.events w schedule) in
           free_again k m n a b c d e t stop u w free script (body_again k m n t.name t stop u w read (schedule_again k n t.events stop w schedule few_events))
     ]
   where

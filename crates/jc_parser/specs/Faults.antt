@@ -1,9 +1,11 @@
 -- The number and the place of a fault.
-use Rattle.std.specs.Prelude.{ℕ, Option, Some, None}
+use Rattle.std.specs.Prelude.{◌≡◌, ℕ, Option, Some, None}
 use Rattle.jc_syntax.specs.declared.fault.LexFault.{LexFault}
 use Rattle.jc_syntax.specs.declared.fault.LexFault.TheVariants as lexical
+use Rattle.jc_parser.specs.declared.parse_fault.ParseFault.{ParseFault}
+use Rattle.jc_parser.specs.declared.parse_fault.ParseFault.TheVariants as sentence
 use Rattle.jc_parser.specs.declared.fault.ScenarioFault.{ScenarioFault}
-use Rattle.jc_parser.specs.declared.fault.ScenarioFault.TheVariants.{BadByte, OpenString, BadEscape, LoneSurrogate, BadNumber, TextTooLong, Unexpected, EndOfText, ReservedName, TooManyCommands, TooLongExpression, NotUtf8, NoHeader, NoReplica, UnknownReplica, TooManyEvents, Memory}
+use Rattle.jc_parser.specs.declared.fault.ScenarioFault.TheVariants.{BadByte, OpenString, BadEscape, LoneSurrogate, BadNumber, TextTooLong, Unexpected, EndOfText, IndexTooLarge, ReservedName, TooManyCommands, TooLongExpression, NotUtf8, NoHeader, NoReplica, UnknownReplica, TooManyEvents, Memory}
 
 abbrev pub number_of : ScenarioFault → Option ℕ
 number_of (BadByte place) = Some 1
@@ -14,6 +16,7 @@ number_of (BadNumber place) = Some 5
 number_of (TextTooLong place) = Some 6
 number_of (Unexpected place) = Some 7
 number_of (EndOfText place) = Some 8
+number_of (IndexTooLarge place) = Some 9
 number_of (ReservedName place) = Some 10
 number_of (TooManyCommands place) = Some 11
 number_of (TooLongExpression place) = Some 12
@@ -33,6 +36,7 @@ place_of (BadNumber place) = Some place
 place_of (TextTooLong place) = Some place
 place_of (Unexpected place) = Some place
 place_of (EndOfText place) = Some place
+place_of (IndexTooLarge place) = Some place
 place_of (ReservedName place) = Some place
 place_of (TooManyCommands place) = Some place
 place_of (TooLongExpression place) = Some place
@@ -52,3 +56,23 @@ from_lexer (lexical.LoneSurrogate place) = LoneSurrogate place
 from_lexer (lexical.BadNumber place) = BadNumber place
 from_lexer (lexical.TextTooLong place) = TextTooLong place
 from_lexer lexical.Memory = Memory
+
+-- a fault of a sentence, among all faults
+abbrev pub from_sentence : ParseFault → ScenarioFault
+from_sentence (sentence.BadByte place) = BadByte place
+from_sentence (sentence.OpenString place) = OpenString place
+from_sentence (sentence.BadEscape place) = BadEscape place
+from_sentence (sentence.LoneSurrogate place) = LoneSurrogate place
+from_sentence (sentence.BadNumber place) = BadNumber place
+from_sentence (sentence.TextTooLong place) = TextTooLong place
+from_sentence (sentence.Unexpected place) = Unexpected place
+from_sentence (sentence.EndOfText place) = EndOfText place
+from_sentence (sentence.IndexTooLarge place) = IndexTooLarge place
+from_sentence (sentence.ReservedName place) = ReservedName place
+from_sentence (sentence.TooManyCommands place) = TooManyCommands place
+from_sentence (sentence.TooLongExpression place) = TooLongExpression place
+from_sentence sentence.Memory = Memory
+
+-- a fault that a sentence can have
+abbrev pub IsOfSentence : ScenarioFault → Type 0
+IsOfSentence fault = (own : ParseFault) × (fault ≡ from_sentence own)

@@ -7,3 +7,13 @@ pub mod First
 pub mod Parts
 pub mod Views
 pub mod Laws
+pub mod Language
+pub mod LanguageParts
+pub mod Sentences
+pub mod LanguageFaults
+pub mod Scripts
+pub mod ScriptParts
+pub mod ClosedScripts
+pub mod Calls
+pub mod CallParts
+pub mod CallLaws

@@ -81,16 +81,16 @@ command_at r = do
   v ← value_at a.1
   Ok (SetTo e.0 v.0, v.1)
 
--- at most n items that begin with a symbol that passes the test, parted by `;`, with or without one after the last
-unfoldable pub items_at : {A : Type 0} → (Symbol → Bool) → (Reading → Outcome A) → (ℕ → ScenarioFault) → ℕ → Reading → Outcome (List A)
-items_at p item beyond zero r = if begins p r then Err (beyond (place r)) else Ok ([], r)
+-- At most n items that begin with a symbol that passes the test, parted by `;`, with or without one after the last. One more has the fault beyond.
+unfoldable pub items_at : {A : Type 0} → (Symbol → Bool) → (Reading → Outcome A) → (Reading → ScenarioFault) → ℕ → Reading → Outcome (List A)
+items_at p item beyond zero r = if begins p r then Err (beyond r) else Ok ([], r)
 items_at p item beyond (suc n) r =
     if begins p r
     then (item r >>= λ x. if begins (has_kind Semi) x.1 then (skip (has_kind Semi) x.1 >>= λ a. items_at p item beyond n a.1 >>= λ rest. Ok (x.0 ∷ rest.0, rest.1)) else Ok (x.0 ∷ [], x.1))
     else Ok ([], r)
 
 abbrev pub commands_at : ℕ → Reading → Outcome (List Cmd)
-commands_at n r = items_at (is_word (codes "doc")) command_at (λ at. TooManyCommands at) n r
+commands_at n r = items_at (is_word (codes "doc")) command_at (λ s. TooManyCommands (place s)) n r
 
 -- ---- events
 
@@ -102,7 +102,7 @@ event_at r = do
   Ok (x.0, b.1)
 
 abbrev pub events_at : ℕ → Reading → Outcome (List Named)
-events_at n r = items_at (has_kind Name) event_at (λ at. TooManyEvents at) n r
+events_at n r = items_at (has_kind Name) event_at (λ s. TooManyEvents (place s)) n r
 
 unfoldable pub block_at : Reading → Outcome (List Named)
 block_at r = do
@@ -133,7 +133,7 @@ unfoldable pub name_at : Reading → Outcome (List ℕ)
 name_at r = if begins reserved r then Err (ReservedName (place r)) else own_name_at r
 
 -- nothing more
-abbrev pub ended : Parsed × Reading → Result Parsed ScenarioFault
+abbrev pub ended : {A : Type 0} → A × Reading → Result A ScenarioFault
 ended x = if is_at_end x.1 then Ok x.0 else Err (stuck x.1)
 
 unfoldable pub replica_at : Reading → Outcome Parsed

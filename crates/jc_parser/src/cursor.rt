@@ -1,11 +1,17 @@
 //! The lexemes of a text that are left.
 
-ghost use Rattle.std.specs.Prelude.{◌≡◌, All, IfOk};
+ghost use Rattle.std.specs.Prelude.{◌≡◌, All, IfOk, true, nat_lt, if◌then◌else◌, length, Some, None};
+ghost use Rattle.std.specs.Str.{all_ascii_digits};
 ghost use Rattle.jc_syntax.specs.declared.token.TokenKind.TheVariants.{Number, Str};
 ghost use Rattle.jc_syntax.specs.Lexemes.{IsTokenOf};
 ghost use Rattle.jc_parser.specs.Reading.{Gives, reading, place, stuck, begins, has_kind, is_word, is_number, reserved, skip, take, named_at, is_at_end};
 ghost use Rattle.jc_parser.specs.Parts.{extra_selector};
 ghost use Rattle.jc_parser.specs.Grammar as grammar;
+ghost use Rattle.jc_parser.specs.Language as language;
+ghost use Rattle.jc_parser.specs.Language.{numeral_value};
+ghost use Rattle.jc_parser.specs.LanguageParts.{index_at};
+ghost use Rattle.jc_parser.specs.ScriptParts.{is_misused as misused};
+ghost use Rattle.jc_parser.specs.Symbols.{word};
 
 use crate::fault::ScenarioFault;
 use jc_rules::Text;
@@ -61,6 +67,13 @@ impl<'a> Cursor<'a> {
         }
     }
 
+    /// How many tokens are left.
+    pub(crate) fn left(&self) -> usize
+        ensures { result ≡ length self.now.left }
+    {
+        self.tokens.len()
+    }
+
     /// Whether no token is left.
     pub(crate) fn is_at_end(&self) -> bool
         ensures { result ≡ is_at_end self.now }
@@ -108,6 +121,30 @@ impl<'a> Cursor<'a> {
     {
         match self.tokens {
             [first, ..] if first.kind == TokenKind::Name => is_reserved(slice_of(self.text, first)),
+            _ => false,
+        }
+    }
+
+    /// Whether a reserved word comes next that is no keyword at a command's start.
+    #[tactic(auto, using(crate::proofs::SymbolTests::kinds))]
+    pub(crate) fn begins_misused(&self) -> bool
+        ensures { result ≡ begins misused self.now }
+    {
+        match self.tokens {
+            [first, ..] if first.kind == TokenKind::Name => is_misused(slice_of(self.text, first)),
+            _ => false,
+        }
+    }
+
+    /// Whether the word of a selector comes next.
+    #[tactic(auto, using(crate::proofs::SymbolTests::kinds))]
+    pub(crate) fn begins_selector(&self) -> bool
+        ensures { result ≡ begins language.is_selector self.now }
+    {
+        match self.tokens {
+            [first, ..] if first.kind == TokenKind::Name => {
+                is_selector(slice_of(self.text, first))
+            }
             _ => false,
         }
     }
@@ -196,6 +233,27 @@ impl<'a> Cursor<'a> {
         }
     }
 
+    /// Takes a number of digits alone, below 2 to the 32.
+    #[tactic(auto, unfolding(crate::specs::Reading::one, crate::specs::LanguageParts::index_at), using(crate::proofs::SymbolTests::kinds))]
+    pub(crate) fn index(&mut self) -> Result<u32, ScenarioFault>
+        ensures { Gives (λ i. (i, self.new)) result (index_at self.old) }
+    {
+        match self.tokens {
+            [first, rest @ ..] if first.kind == TokenKind::Number => {
+                let digits = slice_of(self.text, first);
+                if !is_numeral(digits) {
+                    return Err(self.stuck());
+                }
+                let Some(index) = index_of(digits) else {
+                    return Err(ScenarioFault::IndexTooLarge { place: first.start });
+                };
+                self.tokens = rest;
+                Ok(index)
+            }
+            _ => Err(self.stuck()),
+        }
+    }
+
     /// Takes a name, and gives it with its place.
     #[tactic(auto, unfolding(crate::specs::Reading::one, crate::specs::Reading::named_at), using(crate::proofs::SymbolTests::kinds))]
     pub(crate) fn name(&mut self, alloc: Global) -> Result<Named, ScenarioFault>
@@ -238,5 +296,50 @@ fn is_reserved(name: &str) -> bool
         | "false"
         | "null" => true,
         _ => false,
+    }
+}
+
+/// Whether a reserved word is no keyword at a command's start.
+fn is_misused(name: &str) -> bool
+    ensures { result ≡ misused (word name.now) }
+{
+    match name {
+        "let" | "yield" | "doc" => false,
+        _ => is_reserved(name),
+    }
+}
+
+/// Whether a name begins a selector.
+fn is_selector(name: &str) -> bool
+    ensures { result ≡ language.is_selector (word name.now) }
+{
+    match name {
+        "get" | "idx" | "keys" | "values" => true,
+        _ => false,
+    }
+}
+
+/// Whether each byte is a digit.
+fn all_digits(bytes: &[u8]) -> bool
+    ensures { result ≡ all_ascii_digits bytes.now }
+{
+    bytes.iter().all(|b| b.is_ascii_digit())
+}
+
+/// Whether a text is one digit or more, and nothing else.
+fn is_numeral(text: &str) -> bool
+    ensures { result ≡ language.is_numeral text.now }
+{
+    !text.is_empty() && all_digits(text.as_bytes())
+}
+
+/// The number that digits write, if it is below 2 to the 32.
+fn index_of(digits: &str) -> Option<u32>
+    requires { language.is_numeral digits.now ≡ true }
+    ensures { result ≡ (if nat_lt (numeral_value digits.now) 4294967296 then Some (numeral_value digits.now) else None) }
+{
+    match digits.parse::<u32>() {
+        Ok(index) => Some(index),
+        Err(_) => None,
     }
 }

@@ -35,6 +35,9 @@ pub enum ScenarioFault {
     /// The text ends too early; the place is its length.
     #[error("EndOfText at {place}")]
     EndOfText { place: usize },
+    /// A number of 4,294,967,296 or more where an index must stand.
+    #[error("IndexTooLarge at {place}")]
+    IndexTooLarge { place: usize },
     /// A reserved word where a name must stand.
     #[error("ReservedName at {place}")]
     ReservedName { place: usize },
@@ -78,6 +81,7 @@ impl ScenarioFault {
             ScenarioFault::TextTooLong { .. } => Some(6),
             ScenarioFault::Unexpected { .. } => Some(7),
             ScenarioFault::EndOfText { .. } => Some(8),
+            ScenarioFault::IndexTooLarge { .. } => Some(9),
             ScenarioFault::ReservedName { .. } => Some(10),
             ScenarioFault::TooManyCommands { .. } => Some(11),
             ScenarioFault::TooLongExpression { .. } => Some(12),
@@ -103,6 +107,7 @@ impl ScenarioFault {
             | ScenarioFault::TextTooLong { place }
             | ScenarioFault::Unexpected { place }
             | ScenarioFault::EndOfText { place }
+            | ScenarioFault::IndexTooLarge { place }
             | ScenarioFault::ReservedName { place }
             | ScenarioFault::TooManyCommands { place }
             | ScenarioFault::TooLongExpression { place }

@@ -1,6 +1,9 @@
-//! Laws of the definitions: a text is one scenario at most, or has one fault at most, and not both.
+//! Laws of the definitions: a text is one scenario, expression, script or event at most, or has one fault
+//! at most, and not both.
 
-ghost use Rattle.jc_parser.specs.Laws.{OneTree, OneScenario, ScenarioOrFault, OneFault};
+ghost use Rattle.jc_parser.specs.Laws.{OneTree, OneScenario, ScenarioOrFault, OneFault, OneExpression, ExpressionOrFault, OneExpressionFault, OneScript, ScriptOrFault, OneScriptFault};
+ghost use Rattle.jc_parser.specs.ClosedScripts.{OneScriptAt, ScriptOrFaultAt, OneScriptFaultAt};
+ghost use Rattle.jc_parser.specs.CallLaws.{OneEvent, EventOrFault, OneEventFault, OneEventAt, EventOrFaultAt, OneEventFaultAt};
 
 use jc_syntax::laws as lexemes;
 
@@ -32,3 +35,105 @@ pub fn one_fault()
     lexemes::one_fault();
     lexemes::tokens_or_fault();
 }
+
+/// A text is one expression at most.
+pub fn one_expression()
+    ensures { OneExpression }
+{
+    lexemes::one_list_of_tokens();
+}
+
+/// A text that is an expression has no fault.
+pub fn expression_or_fault()
+    ensures { ExpressionOrFault }
+{
+    lexemes::one_list_of_tokens();
+    lexemes::tokens_or_fault();
+}
+
+/// A text has one fault at most as an expression: its number and its place are determined.
+pub fn one_expression_fault()
+    ensures { OneExpressionFault }
+{
+    lexemes::one_list_of_tokens();
+    lexemes::one_fault();
+    lexemes::tokens_or_fault();
+}
+
+/// A text is one script at most.
+pub fn one_script()
+    ensures { OneScript }
+{
+    lexemes::one_list_of_tokens();
+}
+
+/// A text that is a script has no fault.
+pub fn script_or_fault()
+    ensures { ScriptOrFault }
+{
+    lexemes::one_list_of_tokens();
+    lexemes::tokens_or_fault();
+}
+
+/// A text has one fault at most as a script: its number and its place are determined.
+pub fn one_script_fault()
+    ensures { OneScriptFault }
+{
+    lexemes::one_list_of_tokens();
+    lexemes::one_fault();
+    lexemes::tokens_or_fault();
+}
+
+/// A text is one event at most, with one place for each of its names.
+pub fn one_event()
+    ensures { OneEvent }
+{
+    lexemes::one_list_of_tokens();
+}
+
+/// A text that is an event has no fault.
+pub fn event_or_fault()
+    ensures { EventOrFault }
+{
+    lexemes::one_list_of_tokens();
+    lexemes::tokens_or_fault();
+}
+
+/// A text has one fault at most as an event: its number and its place are determined.
+pub fn one_event_fault()
+    ensures { OneEventFault }
+{
+    lexemes::one_list_of_tokens();
+    lexemes::one_fault();
+    lexemes::tokens_or_fault();
+}
+
+/// From one token on stands one event at most, and one token comes behind it.
+pub fn one_event_at()
+    ensures { OneEventAt }
+{}
+
+/// Where an event stands among the tokens, there is no fault.
+pub fn event_or_fault_at()
+    ensures { EventOrFaultAt }
+{}
+
+/// Where no event stands among the tokens, there is one fault at most.
+pub fn one_event_fault_at()
+    ensures { OneEventFaultAt }
+{}
+
+/// From one token on stands one script with a closing brace at most, and its brace has one number.
+pub fn one_script_at()
+    ensures { OneScriptAt }
+{}
+
+/// Where a script with a closing brace stands among the tokens, there is no fault.
+pub fn script_or_fault_at()
+    ensures { ScriptOrFaultAt }
+{}
+
+/// Where no script with a closing brace stands among the tokens, there is one fault at most.
+pub fn one_script_fault_at()
+    ensures { OneScriptFaultAt }
+{}

@@ -2,13 +2,27 @@
 #![tactic(auto)]
 
 mod cursor;
+mod events;
 mod fault;
 mod first;
+mod language;
 pub mod laws;
+mod parse_fault;
 mod parser;
+mod scripts;
 
+pub use events::{event_at, parse_event};
 pub use fault::ScenarioFault;
 pub use first::{First, first_read};
+pub use language::parse_expr;
+pub use parse_fault::ParseFault;
+pub use scripts::{parse_script, script_at};
 
+#[cfg(test)]
+mod event_tests;
+#[cfg(test)]
+mod language_tests;
+#[cfg(test)]
+mod script_tests;
 #[cfg(test)]
 mod tests;

@@ -30,7 +30,7 @@ pub(crate) struct Parsed {
 
 /// The key of a selector `get`, from its word on.
 #[tactic(auto, unfolding(crate::specs::Parts::get_at))]
-fn get(alloc: Global, cursor: &mut Cursor) -> Result<Text, ScenarioFault>
+pub(crate) fn get(alloc: Global, cursor: &mut Cursor) -> Result<Text, ScenarioFault>
     ensures { Gives (λ k. (k, cursor.new)) result (get_at cursor.old) }
 {
     cursor.word("get")?;
@@ -77,7 +77,7 @@ fn expression(alloc: Global, cursor: &mut Cursor) -> Result<Expr, ScenarioFault>
 
 /// A value.
 #[tactic(auto, unfolding(crate::specs::Parts::value_at, crate::specs::Parts::number_at, crate::specs::Parts::string_at))]
-fn value(alloc: Global, cursor: &mut Cursor) -> Result<Value, ScenarioFault>
+pub(crate) fn value(alloc: Global, cursor: &mut Cursor) -> Result<Value, ScenarioFault>
     ensures { Gives (λ v. (v, cursor.new)) result (value_at cursor.old) }
 {
     if cursor.begins(TokenKind::Number) {
@@ -194,7 +194,7 @@ fn schedule(alloc: Global, cursor: &mut Cursor) -> Result<Vec<Named>, ScenarioFa
 
 /// The name of a replica.
 #[tactic(auto, unfolding(crate::specs::Parts::name_at))]
-fn name(alloc: Global, cursor: &mut Cursor) -> Result<Text, ScenarioFault>
+pub(crate) fn name(alloc: Global, cursor: &mut Cursor) -> Result<Text, ScenarioFault>
     ensures { Gives (λ n. (n, cursor.new)) result (name_at cursor.old) }
 {
     if cursor.begins_reserved() {

@@ -1,0 +1,9 @@
+use Rattle.jc_parser.specs.Scripts.{IsScriptSpelled, IsScriptWellFormed, IsScriptExcess}
+use Rattle.jc_parser.specs.ScriptParts.{script_at}
+use Rattle.jc_parser.proofs.ScriptLimits.{has_limits}
+use Rattle.jc_parser.proofs.ScriptSpelled.{reads_spelled}
+use Rattle.jc_parser.proofs.SentenceLaws.{no_fault_of_text}
+use Rattle.jc_parser.proofs.laws.script_or_fault.Goals as goal
+
+pub returns : goal.returns
+returns c = no_fault_of_text IsScriptSpelled IsScriptWellFormed IsScriptExcess script_at reads_spelled has_limits c.one_list_of_tokens.ensures c.tokens_or_fault.ensures

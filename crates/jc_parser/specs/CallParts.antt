@@ -1,0 +1,56 @@
+-- The parts of an event of the whole language, read from left to right.
+use Rattle.std.specs.Prelude.{codes, if◌then◌else◌, Result, Ok}
+use Rattle.jc_syntax.specs.declared.token.TokenKind.TheVariants.{Dot, ParenL, ParenR, Comma}
+use Rattle.jc_syntax.specs.declared.tree.Named.{Named}
+use Rattle.jc_syntax.specs.declared.tree.NamedEvent.{NamedEvent}
+use Rattle.jc_syntax.specs.declared.tree.NamedEvent.TheVariants.{Exec, Send, Recv, Apply, Done}
+use Rattle.jc_parser.specs.declared.fault.ScenarioFault.{ScenarioFault}
+use Rattle.jc_parser.specs.Reading.{Reading, Outcome, ◌>>=◌, begins, has_kind, is_word, skip, named_at}
+use Rattle.jc_parser.specs.Parts.{ended}
+use Rattle.jc_parser.specs.LanguageParts.{index_at}
+
+-- a name and the closing parenthesis
+unfoldable pub last_name_at : Reading → Outcome Named
+last_name_at r = do
+  q ← named_at r
+  a ← skip (has_kind ParenR) q.1
+  Ok (q.0, a.1)
+
+-- the sender of `recv`, from its word on
+unfoldable pub sender_at : Reading → Outcome Named
+sender_at r = do
+  a ← skip (is_word (codes "recv")) r
+  b ← skip (has_kind ParenL) a.1
+  last_name_at b.1
+
+-- the event `apply` of a replica, from its word on
+unfoldable pub application_at : Named → Reading → Outcome NamedEvent
+application_at p r = do
+  a ← skip (is_word (codes "apply")) r
+  b ← skip (has_kind ParenL) a.1
+  i ← index_at b.1
+  c ← skip (has_kind Comma) i.1
+  q ← last_name_at c.1
+  Ok (Apply p i.0 q.0, q.1)
+
+-- the event of a replica, after its dot
+unfoldable pub action_at : Named → Reading → Outcome NamedEvent
+action_at p r =
+    if begins (is_word (codes "exec")) r then (skip (is_word (codes "exec")) r >>= λ a. Ok (Exec p, a.1))
+    else (if begins (is_word (codes "send")) r then (skip (is_word (codes "send")) r >>= λ a. Ok (Send p, a.1))
+    else (if begins (is_word (codes "recv")) r then (sender_at r >>= λ q. Ok (Recv p q.0, q.1))
+    else (if begins (is_word (codes "apply")) r then application_at p r
+    else (skip (is_word (codes "done")) r >>= λ a. Ok (Done p, a.1)))))
+
+-- an event of any kind
+unfoldable pub any_event_at : Reading → Outcome NamedEvent
+any_event_at r = do
+  p ← named_at r
+  a ← skip (has_kind Dot) p.1
+  action_at p.0 a.1
+
+-- an event and nothing more
+unfoldable pub only_event_at : Reading → Result NamedEvent ScenarioFault
+only_event_at r = do
+  e ← any_event_at r
+  ended e

@@ -1,0 +1,58 @@
+-- A script among the tokens of a text, with the closing brace behind it.
+use Rattle.std.specs.Prelude.{◌≡◌, ℕ, ◌+◌, ◌≤◌, ◌<◌, List, [], ◌∷◌, ◌++◌, length, drop, slice_range}
+use Rattle.jc_syntax.specs.declared.token.Token.{Token}
+use Rattle.jc_rules.specs.Syntax.{Cmd}
+use Rattle.jc_parser.specs.declared.fault.ScenarioFault.{ScenarioFault}
+use Rattle.jc_parser.specs.Symbols.{Symbol, close_brace, Lexeme, lexemes, symbols}
+use Rattle.jc_parser.specs.Reading.{Reading, reading}
+use Rattle.jc_parser.specs.Sentences.{IsStopped}
+use Rattle.jc_parser.specs.Scripts.{IsScriptSpelled, IsScriptWellFormed, IsScriptExcess}
+
+abbrev pub IsClosedSpelled : List Cmd → List Symbol → Type 0
+IsClosedSpelled script w = (u : List Symbol) × IsScriptSpelled script u × (w ≡ u ++ close_brace ∷ [])
+
+-- these lexemes are this script and a closing brace
+pub record IsClosed (script : List Cmd) (ls : List Lexeme) : Type 0 where
+  pub spelled : IsClosedSpelled script (symbols ls)
+  pub within : IsScriptWellFormed script
+
+-- these lexemes begin with this script and a closing brace, and behind it so many are left
+pub record IsClosedAhead (ls : List Lexeme) (script : List Cmd) (left : ℕ) : Type 0 where
+  pub before : List Lexeme
+  pub after : List Lexeme
+  pub parts : ls ≡ before ++ after
+  pub closed : IsClosed script before
+  pub count : left ≡ length after
+
+-- the tokens from the number `from` up to the number `brace` are this script, and at that number stands a closing brace
+pub record IsScriptAt (text : List ℕ) (tokens : List Token) (from : ℕ) (script : List Cmd) (brace : ℕ) : Type 0 where
+  pub ordered : from ≤ brace
+  pub inside : brace < length tokens
+  pub closed : IsClosed script (lexemes text (slice_range tokens from (brace + 1)))
+
+-- no script with a closing brace stands at the front of these lexemes
+abbrev pub NoneClosed : List Lexeme → Type 0
+NoneClosed ls = (script : List Cmd) (before after : List Lexeme) → ls ≡ before ++ after → IsClosed script before → ⊥
+
+-- no script with a closing brace stands at the front of what is left, and its fault is this
+pub record HasNoScript (r : Reading) (fault : ScenarioFault) : Type 0 where
+  pub none : NoneClosed r.left
+  pub stops : IsStopped IsClosedSpelled IsScriptWellFormed IsScriptExcess r fault
+
+-- from the token of this number on stands no script with a closing brace
+abbrev pub IsScriptFaultAt : List ℕ → List Token → ℕ → ScenarioFault → Type 0
+IsScriptFaultAt text tokens from fault = HasNoScript (reading text (drop from tokens)) fault
+
+-- ---- what these definitions promise
+
+-- From one token on stands one script at most, and its brace has one number.
+abbrev pub OneScriptAt : Type 0
+OneScriptAt = (text : List ℕ) (tokens : List Token) (from brace other_brace : ℕ) (script other : List Cmd) → IsScriptAt text tokens from script brace → IsScriptAt text tokens from other other_brace → (script ≡ other) × (brace ≡ other_brace)
+
+-- Where a script stands among the tokens, there is no fault.
+abbrev pub ScriptOrFaultAt : Type 0
+ScriptOrFaultAt = (text : List ℕ) (tokens : List Token) (from brace : ℕ) (script : List Cmd) (fault : ScenarioFault) → IsScriptAt text tokens from script brace → IsScriptFaultAt text tokens from fault → ⊥
+
+-- Where no script stands among the tokens, there is one fault at most, at one place.
+abbrev pub OneScriptFaultAt : Type 0
+OneScriptFaultAt = (text : List ℕ) (tokens : List Token) (from : ℕ) (fault other : ScenarioFault) → IsScriptFaultAt text tokens from fault → IsScriptFaultAt text tokens from other → fault ≡ other

@@ -1,0 +1,180 @@
+//! Events of the whole language.
+
+ghost use Rattle.std.specs.Prelude.{◌≡◌, ◌≢◌, ◌≤◌, IfOk, IfErr, All, length};
+ghost use Rattle.jc_syntax.specs.Lexemes.{IsTokenOf};
+ghost use Rattle.jc_parser.specs.Symbols.{lexemes};
+ghost use Rattle.jc_parser.specs.Reading.{Gives, reading};
+ghost use Rattle.jc_parser.specs.Calls.{IsEvent, IsEventOf, IsEventFault, IsAhead, HasNoEvent, IsEventAt, IsEventFaultAt, IsCallSpelled, IsCallWellFormed, IsCallExcess};
+ghost use Rattle.jc_parser.specs.CallParts.{last_name_at, sender_at, application_at, action_at, any_event_at, only_event_at};
+ghost use Rattle.jc_parser.specs.Sentences.{IsStopped};
+ghost use Rattle.jc_parser.specs.Faults.{from_sentence, IsOfSentence};
+
+use crate::cursor::Cursor;
+use crate::fault::ScenarioFault;
+use crate::parse_fault::{ParseFault, of_sentence};
+use jc_syntax::{Named, NamedEvent, Token, TokenKind, lex};
+use std::alloc::Global;
+
+/// A name and the closing parenthesis.
+#[tactic(auto, unfolding(crate::specs::CallParts::last_name_at))]
+fn last_name(alloc: Global, cursor: &mut Cursor) -> Result<Named, ScenarioFault>
+    ensures { Gives (λ n. (n, cursor.new)) result (last_name_at cursor.old) }
+{
+    let name = cursor.name(alloc)?;
+    cursor.mark(TokenKind::ParenR)?;
+    Ok(name)
+}
+
+/// The sender of `recv`, from its word on.
+#[tactic(auto, unfolding(crate::specs::CallParts::sender_at))]
+fn sender(alloc: Global, cursor: &mut Cursor) -> Result<Named, ScenarioFault>
+    ensures { Gives (λ n. (n, cursor.new)) result (sender_at cursor.old) }
+{
+    cursor.word("recv")?;
+    cursor.mark(TokenKind::ParenL)?;
+    last_name(alloc, cursor)
+}
+
+/// The event `apply` of a replica, from its word on.
+#[tactic(auto, unfolding(crate::specs::CallParts::application_at))]
+fn application(
+    alloc: Global,
+    cursor: &mut Cursor,
+    replica: Named,
+) -> Result<NamedEvent, ScenarioFault>
+    ensures { Gives (λ e. (e, cursor.new)) result (application_at replica cursor.old) }
+{
+    cursor.word("apply")?;
+    cursor.mark(TokenKind::ParenL)?;
+    let counter = cursor.index()?;
+    cursor.mark(TokenKind::Comma)?;
+    let author = last_name(alloc, cursor)?;
+    Ok(NamedEvent::Apply {
+        replica,
+        counter,
+        author,
+    })
+}
+
+/// The event of a replica, after its dot.
+#[tactic(auto, unfolding(crate::specs::CallParts::action_at))]
+fn action(alloc: Global, cursor: &mut Cursor, replica: Named) -> Result<NamedEvent, ScenarioFault>
+    ensures { Gives (λ e. (e, cursor.new)) result (action_at replica cursor.old) }
+{
+    if cursor.begins_word("exec") {
+        cursor.word("exec")?;
+        return Ok(NamedEvent::Exec(replica));
+    }
+    if cursor.begins_word("send") {
+        cursor.word("send")?;
+        return Ok(NamedEvent::Send(replica));
+    }
+    if cursor.begins_word("recv") {
+        let sender = sender(alloc, cursor)?;
+        return Ok(NamedEvent::Recv(replica, sender));
+    }
+    if cursor.begins_word("apply") {
+        return application(alloc, cursor, replica);
+    }
+    cursor.word("done")?;
+    Ok(NamedEvent::Done(replica))
+}
+
+/// An event.
+#[tactic(auto, unfolding(crate::specs::CallParts::any_event_at))]
+fn event(alloc: Global, cursor: &mut Cursor) -> Result<NamedEvent, ScenarioFault>
+    ensures { Gives (λ e. (e, cursor.new)) result (any_event_at cursor.old) }
+{
+    let replica = cursor.name(alloc)?;
+    cursor.mark(TokenKind::Dot)?;
+    action(alloc, cursor, replica)
+}
+
+/// The event that all of the tokens are.
+#[tactic(auto, unfolding(crate::specs::CallParts::only_event_at))]
+fn only_event(alloc: Global, cursor: &mut Cursor) -> Result<NamedEvent, ScenarioFault>
+    ensures { Gives (λ e. e) result (only_event_at cursor.old) }
+{
+    let event = event(alloc, cursor)?;
+    if !cursor.is_at_end() {
+        return Err(cursor.stuck());
+    }
+    Ok(event)
+}
+
+/// The event of a text, from its tokens.
+fn event_of(alloc: Global, text: &str, tokens: &[Token]) -> Result<NamedEvent, ScenarioFault>
+    requires { All (IsTokenOf text.now) tokens.now }
+    ensures tree { IfOk result (λ e. IsEvent e (lexemes text.now tokens.now)) }
+    ensures fault { IfErr result (λ e. e ≢ ScenarioFault.Memory → IsStopped IsCallSpelled IsCallWellFormed IsCallExcess (reading text.now tokens.now) e) }
+    ensures kind { IfErr result IsOfSentence }
+{
+    let mut cursor = Cursor::new(text, tokens);
+    only_event(alloc, &mut cursor)
+}
+
+/// The event that a text is.
+fn event_in(alloc: Global, text: &str) -> Result<NamedEvent, ScenarioFault>
+    ensures tree { IfOk result (λ e. IsEventOf text.now e) }
+    ensures fault { IfErr result (λ e. e ≢ ScenarioFault.Memory → IsEventFault text.now e) }
+    ensures kind { IfErr result IsOfSentence }
+{
+    let tokens = lex(alloc, text)?;
+    event_of(alloc, text, &tokens)
+}
+
+/// Reads an event that is the whole text. Names of replicas are not looked up.
+///
+/// Refusals: `TextTooLong` for a text over 8,388,608 bytes; then the first fault of a token; then
+/// the first by place of `Unexpected`, `EndOfText` and `IndexTooLarge`, at one place that with the
+/// smaller number.
+pub fn parse_event(alloc: Global, text: &str) -> Result<NamedEvent, ParseFault>
+    // What is read is the event that the text is, each name with its place.
+    ensures tree { IfOk result (λ e. IsEventOf text.now e) }
+    // What is refused has this fault.
+    ensures fault { IfErr result (λ e. e ≢ ParseFault.Memory → IsEventFault text.now (from_sentence e)) }
+{
+    match event_in(alloc, text) {
+        Ok(event) => Ok(event),
+        Err(fault) => Err(of_sentence(fault)),
+    }
+}
+
+/// The event at the front of the tokens, and how many tokens are left behind it.
+fn event_before(
+    alloc: Global,
+    text: &str,
+    tokens: &[Token],
+) -> Result<(NamedEvent, usize), ScenarioFault>
+    requires { All (IsTokenOf text.now) tokens.now }
+    ensures tree { IfOk result (λ x. IsAhead (lexemes text.now tokens.now) x.0 x.1) }
+    ensures fault { IfErr result (λ e. e ≢ ScenarioFault.Memory → HasNoEvent (reading text.now tokens.now) e) }
+    ensures kind { IfErr result IsOfSentence }
+{
+    let mut cursor = Cursor::new(text, tokens);
+    let event = event(alloc, &mut cursor)?;
+    Ok((event, cursor.left()))
+}
+
+/// Reads the event that stands in the tokens of a text from the token of the number `from` on, and
+/// gives the number of the token behind it. Names of replicas are not looked up.
+///
+/// Refusals: the first by place of `Unexpected`, `EndOfText` and `IndexTooLarge`.
+pub fn event_at(
+    alloc: Global,
+    text: &str,
+    tokens: &[Token],
+    from: usize,
+) -> Result<(NamedEvent, usize), ParseFault>
+    requires lexed { All (IsTokenOf text.now) tokens.now }
+    requires within { from ≤ length tokens.now }
+    // What is read is the event that these tokens are, each name with its place.
+    ensures tree { IfOk result (λ x. IsEventAt text.now tokens.now from x.0 x.1) }
+    // Where it refuses no event stands there, and reading stops so.
+    ensures fault { IfErr result (λ e. e ≢ ParseFault.Memory → IsEventFaultAt text.now tokens.now from (from_sentence e)) }
+{
+    match event_before(alloc, text, &tokens[from..]) {
+        Ok((event, left)) => Ok((event, tokens.len() - left)),
+        Err(fault) => Err(of_sentence(fault)),
+    }
+}

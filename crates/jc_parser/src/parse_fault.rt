@@ -1,0 +1,115 @@
+//! Why a text is no sentence of the language.
+
+ghost use Rattle.std.specs.Prelude.{◌≡◌};
+ghost use Rattle.jc_parser.specs.Faults.{number_of, place_of, from_sentence, IsOfSentence};
+
+use crate::fault::ScenarioFault;
+use thiserror::Error;
+
+/// Why a text is no script, expression or event. Places are byte numbers from 0.
+#[derive(Clone, Copy, Debug, PartialEq, Eq, Error)]
+pub enum ParseFault {
+    /// A byte that begins no token, or a control byte inside a string.
+    #[error("BadByte at {place}")]
+    BadByte { place: usize },
+    /// A string without a closing quote; the place is its opening quote.
+    #[error("OpenString at {place}")]
+    OpenString { place: usize },
+    /// A backslash that begins no escape.
+    #[error("BadEscape at {place}")]
+    BadEscape { place: usize },
+    /// The escape of a surrogate that is no half of a pair; the place is its backslash.
+    #[error("LoneSurrogate at {place}")]
+    LoneSurrogate { place: usize },
+    /// What begins like a number and is no JSON number.
+    #[error("BadNumber at {place}")]
+    BadNumber { place: usize },
+    /// A text or a token that is longer than its limit; for a token the place is its start.
+    #[error("TextTooLong at {place}")]
+    TextTooLong { place: usize },
+    /// A token that does not fit.
+    #[error("Unexpected at {place}")]
+    Unexpected { place: usize },
+    /// The text ends too early; the place is its length.
+    #[error("EndOfText at {place}")]
+    EndOfText { place: usize },
+    /// A number of 4,294,967,296 or more where an index must stand.
+    #[error("IndexTooLarge at {place}")]
+    IndexTooLarge { place: usize },
+    /// A reserved word where a name must stand.
+    #[error("ReservedName at {place}")]
+    ReservedName { place: usize },
+    /// A command past the limit of 65,536; the place is its first token.
+    #[error("TooManyCommands at {place}")]
+    TooManyCommands { place: usize },
+    /// A selector past the limit of 256; the place is the dot before it.
+    #[error("TooLongExpression at {place}")]
+    TooLongExpression { place: usize },
+    /// A request for memory was refused.
+    #[error("no memory")]
+    Memory,
+}
+
+impl ParseFault {
+    /// The same fault, among all that a scenario can have.
+    fn of_scenario(&self) -> ScenarioFault
+        ensures { result ≡ from_sentence self.now }
+    {
+        match *self {
+            ParseFault::BadByte { place } => ScenarioFault::BadByte { place },
+            ParseFault::OpenString { place } => ScenarioFault::OpenString { place },
+            ParseFault::BadEscape { place } => ScenarioFault::BadEscape { place },
+            ParseFault::LoneSurrogate { place } => ScenarioFault::LoneSurrogate { place },
+            ParseFault::BadNumber { place } => ScenarioFault::BadNumber { place },
+            ParseFault::TextTooLong { place } => ScenarioFault::TextTooLong { place },
+            ParseFault::Unexpected { place } => ScenarioFault::Unexpected { place },
+            ParseFault::EndOfText { place } => ScenarioFault::EndOfText { place },
+            ParseFault::IndexTooLarge { place } => ScenarioFault::IndexTooLarge { place },
+            ParseFault::ReservedName { place } => ScenarioFault::ReservedName { place },
+            ParseFault::TooManyCommands { place } => ScenarioFault::TooManyCommands { place },
+            ParseFault::TooLongExpression { place } => ScenarioFault::TooLongExpression { place },
+            ParseFault::Memory => ScenarioFault::Memory,
+        }
+    }
+
+    /// The number of the refusal, from 1 to 12; want of memory has none.
+    pub fn number(&self) -> Option<u8>
+        ensures { result ≡ number_of (from_sentence self.now) }
+    {
+        self.of_scenario().number()
+    }
+
+    /// Where the fault stands in the text; want of memory stands nowhere.
+    pub fn place(&self) -> Option<usize>
+        ensures { result ≡ place_of (from_sentence self.now) }
+    {
+        self.of_scenario().place()
+    }
+}
+
+/// A fault that a sentence can have, as such.
+pub(crate) fn of_sentence(fault: ScenarioFault) -> ParseFault
+    requires { IsOfSentence fault }
+    ensures { from_sentence result ≡ fault }
+{
+    match fault {
+        ScenarioFault::BadByte { place } => ParseFault::BadByte { place },
+        ScenarioFault::OpenString { place } => ParseFault::OpenString { place },
+        ScenarioFault::BadEscape { place } => ParseFault::BadEscape { place },
+        ScenarioFault::LoneSurrogate { place } => ParseFault::LoneSurrogate { place },
+        ScenarioFault::BadNumber { place } => ParseFault::BadNumber { place },
+        ScenarioFault::TextTooLong { place } => ParseFault::TextTooLong { place },
+        ScenarioFault::Unexpected { place } => ParseFault::Unexpected { place },
+        ScenarioFault::EndOfText { place } => ParseFault::EndOfText { place },
+        ScenarioFault::IndexTooLarge { place } => ParseFault::IndexTooLarge { place },
+        ScenarioFault::ReservedName { place } => ParseFault::ReservedName { place },
+        ScenarioFault::TooManyCommands { place } => ParseFault::TooManyCommands { place },
+        ScenarioFault::TooLongExpression { place } => ParseFault::TooLongExpression { place },
+        ScenarioFault::Memory => ParseFault::Memory,
+        ScenarioFault::NotUtf8 { .. }
+        | ScenarioFault::NoHeader { .. }
+        | ScenarioFault::NoReplica { .. }
+        | ScenarioFault::UnknownReplica { .. }
+        | ScenarioFault::TooManyEvents { .. } => unreachable!(),
+    }
+}
