@@ -6,8 +6,10 @@ ghost use Rattle.jc_rules.specs.RuleNames.{rule_name};
 ghost use Rattle.jc_rules.specs.Refused.{because};
 ghost use Rattle.jc_app.specs.Texts.{row_text, trace_text, block_text, stuck_text, refused_text};
 
-use jc_rules::{Refusal, Rule, Text};
+use jc_printer::print_event;
+use jc_rules::{Event, Refusal, Rule, Text};
 use std::alloc::{AllocError, Global};
+use std::slice;
 
 /// The trace block of an `exec` of the only replica.
 pub fn block_of(
@@ -18,7 +20,8 @@ pub fn block_of(
 ) -> Result<String, AllocError>
     ensures { IfOk result (λ text. string_bytes text ≡ block_text (name.now ∷ []) n (Exec 0) rows.now) }
 {
-    let mut text = head_of(alloc, n, name.as_str())?;
+    let event = print_event(alloc, slice::from_ref(name), &Event::Exec(0))?;
+    let mut text = head_of(alloc, n, event.as_str())?;
     for (rule, depth) in rows {
         let row = row_of(alloc, *depth, rule.name())?;
         text.push_str(row.as_str())?;
@@ -26,10 +29,10 @@ pub fn block_of(
     Ok(text)
 }
 
-fn head_of(alloc: Global, n: u64, name: &str) -> Result<String, AllocError>
-    ensures { IfOk result (λ text. string_bytes text ≡ codes "event " ++ decimal n ++ codes " " ++ name.now ++ codes ".exec" ++ codes "\n") }
+fn head_of(alloc: Global, n: u64, event: &str) -> Result<String, AllocError>
+    ensures { IfOk result (λ text. string_bytes text ≡ codes "event " ++ decimal n ++ codes " " ++ event.now ++ codes "\n") }
 {
-    format!(in alloc; "event {n} {name}.exec\n")
+    format!(in alloc; "event {n} {event}\n")
 }
 
 fn row_of(alloc: Global, depth: u64, name: &str) -> Result<String, AllocError>
@@ -42,13 +45,14 @@ fn row_of(alloc: Global, depth: u64, name: &str) -> Result<String, AllocError>
 pub fn stuck_of(alloc: Global, name: &Text, refusal: Refusal) -> Result<String, AllocError>
     ensures { IfOk result (λ text. string_bytes text ≡ stuck_text (name.now ∷ []) (because refusal) (Exec 0)) }
 {
-    stuck_line(alloc, refusal.number(), refusal.name(), name.as_str())
+    let event = print_event(alloc, slice::from_ref(name), &Event::Exec(0))?;
+    stuck_line(alloc, refusal.number(), refusal.name(), event.as_str())
 }
 
-fn stuck_line(alloc: Global, number: u8, cause: &str, name: &str) -> Result<String, AllocError>
-    ensures { IfOk result (λ text. string_bytes text ≡ codes "stuck " ++ decimal number ++ codes " " ++ cause.now ++ codes " " ++ name.now ++ codes ".exec" ++ codes "\n") }
+fn stuck_line(alloc: Global, number: u8, cause: &str, event: &str) -> Result<String, AllocError>
+    ensures { IfOk result (λ text. string_bytes text ≡ codes "stuck " ++ decimal number ++ codes " " ++ cause.now ++ codes " " ++ event.now ++ codes "\n") }
 {
-    format!(in alloc; "stuck {number} {cause} {name}.exec\n")
+    format!(in alloc; "stuck {number} {cause} {event}\n")
 }
 
 /// The line of a refused text.

@@ -1,5 +1,5 @@
 -- The dump of a replica's state: one JSON object, and its line. The list of names has the name of each replica at its number.
-use Rattle.std.specs.Prelude.{ℕ, List, [], ◌∷◌, ◌++◌, length, map, codes, decimal, true, false, slice_get, unwrap_or}
+use Rattle.std.specs.Prelude.{ℕ, List, [], ◌∷◌, ◌++◌, length, map, codes, decimal, true, false}
 use Rattle.serde_json.specs.Data.{unsigned, Data, null, boolean, number, string, array, object, no_items, item, Members, no_members, put}
 use Rattle.serde_json.specs.View.{items_of}
 use Rattle.serde_json.specs.Written.{compact_text}
@@ -14,13 +14,10 @@ use Rattle.jc_rules.specs.declared.operation.Op.{Op}
 use Rattle.jc_rules.specs.declared.value.Value.{Value}
 use Rattle.jc_rules.specs.declared.value.Value.TheVariants as V
 use Rattle.jc_rules.specs.Context.{Context, context, Children, no_child, child, Register}
+use Rattle.jc_rules.specs.Names.{name_at}
 use Rattle.jc_rules.specs.State.{State, Bound, ACursor, Names, Pairs}
 
 -- ---- texts
-
--- the name of a replica; a number that is no replica's has the empty one
-abbrev pub name_at : List (List ℕ) → ℕ → List ℕ
-name_at names p = unwrap_or (slice_get names p) []
 
 -- `c@name`
 abbrev pub id_text : List (List ℕ) → Id → List ℕ

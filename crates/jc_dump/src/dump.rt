@@ -5,23 +5,13 @@ ghost use Rattle.serde_json.specs.View.{view, members_view};
 ghost use Rattle.jc_rules.specs.Context.{registers, presences, links};
 ghost use Rattle.jc_rules.specs.State.{State};
 ghost use Rattle.jc_tree.specs.Tree.{HasPlace, here};
-ghost use Rattle.jc_dump.specs.Dump.{name_at, id_text, key_text, entry_text, tagged_text, next_text, ids_data, value_data, register_data, context_data, put_all, object_of, register_member, presence_member, next_member, dump_line};
+ghost use Rattle.jc_dump.specs.Dump.{id_text, key_text, entry_text, tagged_text, next_text, ids_data, value_data, register_data, context_data, put_all, object_of, register_member, presence_member, next_member, dump_line};
 ghost use Rattle.jc_dump.specs.DumpParts.{tag_of, child_at, children_members, shown_members, HasParts};
 
-use jc_rules::{Id, Key, Next, Tagged, Text, Value};
+use jc_rules::{Id, Key, Next, Tagged, Text, Value, name_at};
 use jc_tree::TreeStore;
 use serde_json::{Map, Value as Json, json};
 use std::alloc::{AllocError, Global};
-
-/// The name of a replica; a number that is no replica's has the empty one.
-fn name_at<'a>(names: &'a [Text], replica: u16) -> &'a str
-    ensures { result.now ≡ name_at names.now replica }
-{
-    match names.get(replica as usize) {
-        Some(name) => name.as_str(),
-        None => "",
-    }
-}
 
 /// The text of an identifier, `c@name`.
 pub fn id_text(alloc: Global, names: &[Text], id: Id) -> Result<String, AllocError>

@@ -1,4 +1,5 @@
 pub mod Order
+pub mod Names
 pub mod Entries
 pub mod Ids
 pub mod Context

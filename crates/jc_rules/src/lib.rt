@@ -23,7 +23,7 @@ pub use operation::{Cursor, Event, Mutation, Op};
 pub use path::Path;
 pub use refusal::Refusal;
 pub use rule::Rule;
-pub use text::Text;
+pub use text::{Text, name_at};
 pub use trace::{Trace, TraceMark};
 pub use value::Value;
 

@@ -2,7 +2,7 @@
 
 use crate::{
     Cursor, Event, Id, IdSet, Key, Mutation, Next, Op, Path, Refusal, Rule, Tagged, Text, Trace,
-    Value, compare_ids, compare_keys, insert_id, laws,
+    Value, compare_ids, compare_keys, insert_id, laws, name_at,
 };
 use std::alloc::Global;
 use std::cmp::Ordering;
@@ -25,6 +25,15 @@ fn texts(rt: HostRuntime) -> Result<(), Fail> {
     assert!(rt; short < long);
     assert_eq!(rt; short.cmp(&long), Ordering::Less);
     assert_eq!(rt; short.partial_cmp(&long), Some(Ordering::Less));
+    Ok(())
+}
+
+#[test]
+fn names_of_replicas(rt: HostRuntime) -> Result<(), Fail> {
+    let names = [text(rt.alloc(), "a")?, text(rt.alloc(), "b")?];
+    assert_eq!(rt; name_at(&names, 0), "a");
+    assert_eq!(rt; name_at(&names, 1), "b");
+    assert_eq!(rt; name_at(&names, 2), "");
     Ok(())
 }
 

@@ -6,6 +6,7 @@ ghost use Rattle.std.specs.Cmp.{partial_order_from_own_ties};
 ghost use Rattle.std.specs.Cmp.Rules.{comparing};
 ghost use Rattle.std.specs.Ordering.{nat_cmp, as_partial_cmp};
 ghost use Rattle.std.specs.Cmp.Lexicographic.{slice_cmp, pointwise};
+ghost use Rattle.jc_rules.specs.Names.{name_at};
 
 use std::alloc::AllocError;
 use std::cmp::Ordering;
@@ -83,5 +84,16 @@ impl PartialOrd for Text {
 
     fn partial_cmp(&self, other: &Text) -> Option<Ordering> {
         Some(self.cmp(other))
+    }
+}
+
+/// The name of a replica in a list that has each replica's name at its number. A number that is no replica's has
+/// the empty one.
+pub fn name_at<'a>(names: &'a [Text], replica: u16) -> &'a str
+    ensures { result.now ≡ name_at names.now replica }
+{
+    match names.get(replica as usize) {
+        Some(name) => name.as_str(),
+        None => "",
     }
 }

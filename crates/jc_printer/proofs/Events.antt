@@ -1,0 +1,122 @@
+-- The canonical text of an event is written with symbols of the event.
+use Rattle.std.proofs.Common.{◌≡◌, ℕ, ◌+◌, ◌<◌, ◌≤◌, ◌^◌, zero, suc, List, [], ◌∷◌, ◌++◌, length, get_or, Bool, true, refl, sym, ap, subst, ◌∙◌, arith, append_assoc, append-nil, decimal}
+use Rattle.std.specs.Prelude.{codes}
+use Rattle.std.specs.List.{All}
+use Rattle.std.proofs.lemmas.List.Elements.{All-get_or}
+use Rattle.std.proofs.lemmas.Option.{unwrap_or-slice_get}
+use Rattle.jc_rules.specs.declared.operation.Event.{Event}
+use Rattle.jc_rules.specs.declared.operation.Event.TheVariants.{Exec, Send, Recv, Apply, Done}
+use Rattle.jc_syntax.specs.declared.tree.Named.{Named}
+use Rattle.jc_syntax.specs.declared.tree.NamedEvent.{NamedEvent}
+use Rattle.jc_syntax.specs.declared.tree.NamedEvent.TheVariants as named
+use Rattle.jc_parser.specs.Symbols.{Symbol, word, number, dot, open_paren, close_paren, comma, Lexeme, symbols}
+use Rattle.jc_rules.specs.Names.{name_at}
+use Rattle.jc_printer.specs.Canon.{canon_event, AreNamed}
+use Rattle.jc_parser.specs.Calls.{Call, executes, sends, receives, applies, ends, IsCallSpelled, call_of, StandsAt, IsEvent}
+use Rattle.jc_printer.specs.Legal.{IsName, IsNumeric, call_by, IsCounterBelow}
+use Rattle.jc_printer.proofs.Numerals.{numeral_of, value_of_numeral, numeric_of}
+use Rattle.jc_printer.proofs.Printed.{IsPrinted, put, spaced}
+use Rattle.jc_printer.proofs.Trees.{dotted, enclosed, keyword}
+
+-- symbols of the call are written so
+pub record IsCallPrinted (names : List (List ℕ)) (e : Event) : Type 0 where
+  pub text : List Symbol
+  pub spelled : IsCallSpelled (call_by names e) text
+  pub printed : IsPrinted text (canon_event names e)
+
+named_legal : (names : List (List ℕ)) (p : ℕ) → All IsName names → p < length names → IsName (name_at names p)
+named_legal names p all within = rw (unwrap_or-slice_get names p []) (All-get_or IsName names p [] within all)
+
+regroup_three : (a b c d : List ℕ) → ((a ++ b) ++ c) ++ d ≡ a ++ (b ++ (c ++ d))
+regroup_three a b c d = simp append_assoc
+
+regroup_five : (a b c d e f : List ℕ) → ((((a ++ b) ++ c) ++ d) ++ e) ++ f ≡ a ++ (b ++ (c ++ (d ++ (e ++ f))))
+regroup_five a b c d e f = simp append_assoc
+
+-- a name, and a dotted word after it
+plain_printed : (name what : List ℕ) → IsName name → IsName what → IsPrinted (word name ∷ dot ∷ word what ∷ []) (name ++ (46 ∷ (what ++ [])))
+plain_printed name what is what_is = put (word name) (dot ∷ word what ∷ []) name (46 ∷ (what ++ [])) (refl, is, refl) (dotted what [] [] what_is refl refl)
+
+recv_printed : (name other : List ℕ) → IsName name → IsName other → IsPrinted (word name ∷ dot ∷ word (codes "recv") ∷ open_paren ∷ word other ∷ close_paren ∷ []) (name ++ (codes ".recv(" ++ (other ++ codes ")")))
+recv_printed name other is other_is =
+    let inner = enclosed (word other) [] other [] (refl, other_is, refl) refl in
+    put (word name) (dot ∷ word (codes "recv") ∷ open_paren ∷ word other ∷ close_paren ∷ []) name (codes ".recv(" ++ (other ++ codes ")")) (refl, is, refl)
+    (dotted (codes "recv") (open_paren ∷ word other ∷ close_paren ∷ []) (40 ∷ (other ++ 41 ∷ [])) (keyword (codes "recv") refl refl (omega arith)) refl inner)
+
+-- the identifier of an `apply`, in parentheses
+identifier_printed : (digits author : List ℕ) → IsNumeric digits → IsName author → IsPrinted (open_paren ∷ number digits ∷ comma ∷ word author ∷ close_paren ∷ []) (40 ∷ (digits ++ (codes ", " ++ (author ++ codes ")"))))
+identifier_printed digits author is author_is =
+    let close = put close_paren [] (codes ")") [] refl refl in
+    let second = put (word author) (close_paren ∷ []) author (codes ")") (refl, author_is, refl) close in
+    let parted = put comma (word author ∷ close_paren ∷ []) (codes ",") (32 ∷ (author ++ codes ")")) refl (spaced (word author ∷ close_paren ∷ []) 32 (author ++ codes ")") refl second) in
+    let first = put (number digits) (comma ∷ word author ∷ close_paren ∷ []) digits (codes ", " ++ (author ++ codes ")")) (refl, is, refl) parted in
+    put open_paren (number digits ∷ comma ∷ word author ∷ close_paren ∷ []) (codes "(") (digits ++ (codes ", " ++ (author ++ codes ")"))) refl first
+
+apply_printed : (name digits author : List ℕ) → IsName name → IsNumeric digits → IsName author → IsPrinted (word name ∷ dot ∷ word (codes "apply") ∷ open_paren ∷ number digits ∷ comma ∷ word author ∷ close_paren ∷ []) (name ++ (codes ".apply(" ++ (digits ++ (codes ", " ++ (author ++ codes ")")))))
+apply_printed name digits author is digits_is author_is =
+    put (word name) (dot ∷ word (codes "apply") ∷ open_paren ∷ number digits ∷ comma ∷ word author ∷ close_paren ∷ []) name (codes ".apply(" ++ (digits ++ (codes ", " ++ (author ++ codes ")")))) (refl, is, refl)
+    (dotted (codes "apply") (open_paren ∷ number digits ∷ comma ∷ word author ∷ close_paren ∷ []) (40 ∷ (digits ++ (codes ", " ++ (author ++ codes ")")))) (keyword (codes "apply") refl refl (omega arith)) refl (identifier_printed digits author digits_is author_is))
+
+pub event_printed : (names : List (List ℕ)) (e : Event) → All IsName names → AreNamed e (length names) → IsCounterBelow e → IsCallPrinted names e
+event_printed names (Exec p) all within small = record {
+  text = word (name_at names p) ∷ dot ∷ word (codes "exec") ∷ [];
+  spelled = refl;
+  printed = plain_printed (name_at names p) (codes "exec") (named_legal names p all within) (keyword (codes "exec") refl refl (omega arith));
+}
+event_printed names (Send p) all within small = record {
+  text = word (name_at names p) ∷ dot ∷ word (codes "send") ∷ [];
+  spelled = refl;
+  printed = plain_printed (name_at names p) (codes "send") (named_legal names p all within) (keyword (codes "send") refl refl (omega arith));
+}
+event_printed names (Done p) all within small = record {
+  text = word (name_at names p) ∷ dot ∷ word (codes "done") ∷ [];
+  spelled = refl;
+  printed = plain_printed (name_at names p) (codes "done") (named_legal names p all within) (keyword (codes "done") refl refl (omega arith));
+}
+event_printed names (Recv p q) all within small = record {
+  text = word (name_at names p) ∷ dot ∷ word (codes "recv") ∷ open_paren ∷ word (name_at names q) ∷ close_paren ∷ [];
+  spelled = refl;
+  printed = subst (IsPrinted (word (name_at names p) ∷ dot ∷ word (codes "recv") ∷ open_paren ∷ word (name_at names q) ∷ close_paren ∷ [])) (sym (regroup_three (name_at names p) (codes ".recv(") (name_at names q) (codes ")"))) (recv_printed (name_at names p) (name_at names q) (named_legal names p all within.0) (named_legal names q all within.1));
+}
+event_printed names (Apply p i) all within small =
+    let fits : i.counter < 2 ^ 64 = omega (arith, small) in
+    record {
+      text = word (name_at names p) ∷ dot ∷ word (codes "apply") ∷ open_paren ∷ number (decimal i.counter) ∷ comma ∷ word (name_at names i.replica) ∷ close_paren ∷ [];
+      spelled = (decimal i.counter, numeral_of i.counter fits, value_of_numeral i.counter fits, refl);
+      printed = subst (IsPrinted (word (name_at names p) ∷ dot ∷ word (codes "apply") ∷ open_paren ∷ number (decimal i.counter) ∷ comma ∷ word (name_at names i.replica) ∷ close_paren ∷ [])) (sym (regroup_five (name_at names p) (codes ".apply(") (decimal i.counter) (codes ", ") (name_at names i.replica) (codes ")"))) (apply_printed (name_at names p) (decimal i.counter) (name_at names i.replica) (named_legal names p all within.0) (numeric_of i.counter fits) (named_legal names i.replica all within.1));
+    }
+
+-- ---- the places of the names
+
+nth_stands : (ls : List Lexeme) (n : ℕ) → n < length (symbols ls) → (place : ℕ) × StandsAt place ls n
+nth_stands [] n within = absurd (omega (arith, within))
+nth_stands (x ∷ xs) zero within = (x.place, refl)
+nth_stands (x ∷ xs) (suc n) within = nth_stands xs n (omega (arith, within))
+
+-- lexemes of a call, as an event with the places of its names
+pub record IsNamed (names : List (List ℕ)) (e : Event) (ls : List Lexeme) : Type 0 where
+  pub event : NamedEvent
+  pub same : call_of event ≡ call_by names e
+  pub is : IsEvent event ls
+
+abbrev stood : List ℕ → ℕ → Named
+stood name place = record { name = name; place = place }
+
+pub named_event : (names : List (List ℕ)) (e : Event) (ls : List Lexeme) → IsCounterBelow e → IsCallSpelled (call_by names e) (symbols ls) → IsNamed names e ls
+named_event names (Exec p) ls small spelled =
+    let here = nth_stands ls 0 (omega (arith, ap length spelled)) in
+    record { event = named.Exec (stood (name_at names p) here.0); same = refl; is = record { spelled = spelled; within = tt; placed = here.1 } }
+named_event names (Send p) ls small spelled =
+    let here = nth_stands ls 0 (omega (arith, ap length spelled)) in
+    record { event = named.Send (stood (name_at names p) here.0); same = refl; is = record { spelled = spelled; within = tt; placed = here.1 } }
+named_event names (Done p) ls small spelled =
+    let here = nth_stands ls 0 (omega (arith, ap length spelled)) in
+    record { event = named.Done (stood (name_at names p) here.0); same = refl; is = record { spelled = spelled; within = tt; placed = here.1 } }
+named_event names (Recv p q) ls small spelled =
+    let here = nth_stands ls 0 (omega (arith, ap length spelled)) in
+    let other = nth_stands ls 4 (omega (arith, ap length spelled)) in
+    record { event = named.Recv (stood (name_at names p) here.0) (stood (name_at names q) other.0); same = refl; is = record { spelled = spelled; within = tt; placed = (here.1, other.1) } }
+named_event names (Apply p i) ls small spelled =
+    let here = nth_stands ls 0 (omega (arith, ap length spelled.3)) in
+    let author = nth_stands ls 6 (omega (arith, ap length spelled.3)) in
+    record { event = named.Apply (stood (name_at names p) here.0) i.counter (stood (name_at names i.replica) author.0); same = refl; is = record { spelled = spelled; within = small; placed = (here.1, author.1) } }

@@ -1,0 +1,18 @@
+//! What canonical texts spell: each is a text of what it was printed from.
+
+ghost use Rattle.jc_printer.specs.Laws.{ExpressionsReadBack, ScriptsReadBack, EventsReadBack};
+
+/// A canonical expression is read back as itself.
+pub fn expressions_read_back()
+    ensures { ExpressionsReadBack }
+{}
+
+/// A canonical script is read back as itself.
+pub fn scripts_read_back()
+    ensures { ScriptsReadBack }
+{}
+
+/// A canonical event is read back with the names of its replicas.
+pub fn events_read_back()
+    ensures { EventsReadBack }
+{}

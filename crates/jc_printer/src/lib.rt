@@ -1,0 +1,11 @@
+//! The canonical text of scripts, expressions, values and events.
+#![tactic(auto)]
+
+pub mod laws;
+mod print;
+mod quote;
+
+pub use print::{print_event, print_expr, print_script, print_value};
+
+#[cfg(test)]
+mod tests;
