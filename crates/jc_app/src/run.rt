@@ -1,8 +1,13 @@
 //! Runs of a schedule.
 
-ghost use Rattle.std.specs.Prelude.{◌≡◌, ℕ, ◌<◌, ◌≤◌, ◌^◌, List, [], ◌∷◌, length, IfOk, IfErr, OnOk, IsErrOf, All};
+ghost use Rattle.std.specs.Prelude.{◌≡◌, ℕ, ◌<◌, ◌≤◌, ◌^◌, List, [], ◌∷◌, length, Ok, true, false, IfOk, IfErr, OnOk, IsErrOf, All};
 ghost use Rattle.std.specs.Io.KnownBytes.{Appends};
 ghost use Rattle.jc_rules.specs.declared.operation.Event.TheVariants.{Exec};
+ghost use Rattle.jc_rules.specs.declared.refusal.Refusal.TheVariants.{NoCommand as ScriptEnded};
+ghost use Rattle.jc_rules.specs.declared.rule.Rule.{Rule};
+ghost use Rattle.jc_rules.specs.Step.{Step};
+ghost use Rattle.jc_rules.specs.Refused.{because, IsStuck};
+ghost use Rattle.jc_app.specs.Texts.{block_text};
 ghost use Rattle.jc_app.specs.Runs.{Plays, at_script_end};
 ghost use Rattle.jc_app.specs.declared.run.RunFault.TheVariants.{Memory as NoMemory};
 
@@ -42,6 +47,35 @@ pub fn send<K: Sink>(out: &mut K, text: &str) -> Result<(), RunFault>
     }
 }
 
+/// Makes the next event, and writes its block under this number. Answers `false` where the event is
+/// stuck; nothing is changed or written then.
+fn play_next<M: Machine, K: Sink>(
+    alloc: Global,
+    name: &Text,
+    number: u64,
+    machine: &mut M,
+    out: &mut K,
+) -> Result<bool, RunFault>
+    ensures made { result ≡ Ok true → (rows : List (Rule × ℕ))
+        × Step (M.state machine.old ∷ []) (Event.Exec 0) (M.state machine.new ∷ []) rows
+        × Appends (K.taken out.old) (K.taken out.new) (block_text (name.now ∷ []) number (Event.Exec 0) rows) }
+    ensures stuck { result ≡ Ok false → IsStuck (M.state machine.old ∷ []) (Event.Exec 0) (because ScriptEnded) }
+    ensures unchanged { result ≡ Ok false → (M.state machine.new ≡ M.state machine.old) × (K.taken out.new ≡ K.taken out.old) }
+    ensures same { OnOk result (K.failures out.new ≡ K.failures out.old) }
+    ensures memory { IsErrOf result RunFault.Memory → K.failures out.new ≡ K.failures out.old }
+    ensures write { IsErrOf result RunFault.Write → K.failures out.old < K.failures out.new }
+{
+    match machine.exec(alloc) {
+        Ok(trace) => {
+            let text = block_of(alloc, name, number, trace.rows())?;
+            send(out, text.as_str())?;
+            Ok(true)
+        }
+        Err(ExecFault::NoCommand) => Ok(false),
+        Err(ExecFault::Memory) => Err(RunFault::Memory),
+    }
+}
+
 /// Makes the events up to the end or the stuck one, and writes the block of each.
 pub fn play<M: Machine, K: Sink>(
     alloc: Global,
@@ -58,16 +92,11 @@ pub fn play<M: Machine, K: Sink>(
     ensures memory { IsErrOf result RunFault.Memory → K.failures out.new ≡ K.failures out.old }
     ensures write { IsErrOf result RunFault.Write → K.failures out.old < K.failures out.new }
 {
-    let mut n = 0u64;
+    let mut number = 0u64;
     for event in schedule {
-        match machine.exec(alloc) {
-            Ok(trace) => {
-                n += 1;
-                let text = block_of(alloc, name, n, trace.rows())?;
-                send(out, text.as_str())?;
-            }
-            Err(ExecFault::NoCommand) => return Ok(Some(*event)),
-            Err(ExecFault::Memory) => return Err(RunFault::Memory),
+        number += 1;
+        if !play_next(alloc, name, number, machine, out)? {
+            return Ok(Some(*event));
         }
     }
     Ok(None)

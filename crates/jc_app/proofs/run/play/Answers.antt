@@ -1,25 +1,28 @@
-use Rattle.std.proofs.Common.{◌≡◌, ℕ, ◌+◌, ◌<◌, List, [], ◌∷◌, ◌++◌, length, drop, get_or, Err, refl, ap, sym, ◌∙◌, subst, arith, rules}
+use Rattle.std.proofs.Common.{◌≡◌, ℕ, ◌+◌, ◌<◌, List, [], ◌∷◌, ◌++◌, length, drop, get_or, Ok, refl, ap, sym, ◌∙◌, subst, arith}
 use Rattle.std.proofs.lemmas.List.{take_more}
 use Rattle.std.specs.Io.KnownBytes.{Appends}
 use Rattle.std.proofs.KnownBytes.{Appends-trans}
 use Rattle.jc_rules.specs.declared.operation.Event.TheVariants.{Exec}
 use Rattle.jc_rules.specs.Step.{Step}
-use Rattle.jc_app.specs.Texts.{block_text}
 use Rattle.jc_app.specs.Runs.{Made, events_of, blocks_text}
 use Rattle.jc_app.proofs.Playing.{goes_on, events_of-append, made_count, split_here, stuck_here, shown_more}
 use Rattle.jc_app.proofs.run.play.Goals as goal
 
-pub returns-in-Err-NoCommand-clause-ok : goal.returns-in-Err-NoCommand-clause-ok
-returns-in-Err-NoCommand-clause-ok g c =
+pub returns-then-not-branch-clause-ok : goal.returns-then-not-branch-clause-ok
+returns-then-not-branch-clause-ok g c =
     let so_far = c.loop-event.invariant.made in
     let i = c.loop-event.event-index in
     let es = c.args.schedule.now in
     let inside : i < length es = omega arith in
     let exec : get_or es i (Exec 0) ≡ Exec 0 = c.requires i (Exec 0) inside in
-    let same : g.M.Machine.state c.exec.new.self ≡ g.M.Machine.state c.loop-event.machine = search rules in
+    let stays = c.in_ok-play_next.ensures.unchanged (ap Ok c.if-not-branch.true) in
     let whole : es ≡ events_of so_far.0 ++ get_or es i (Exec 0) ∷ drop (i + 1) es = split_here es i so_far.0 (Exec 0) inside so_far.2 in
-    let stuck = stuck_here (g.M.Machine.state c.loop-event.machine) (g.M.Machine.state c.exec.new.self) (get_or es i (Exec 0)) _ same exec (c.in-Err-NoCommand.ensures.stuck (ap Err c.in-Err-NoCommand.field-0-is)) in
-    (blocks_text (c.args.name.now ∷ []) 1 so_far.0, record { made = so_far.0; goes = rw same so_far.1; ends = (drop (i + 1) es, whole, stuck); shown = refl }, so_far.3)
+    let stuck = stuck_here (g.M.Machine.state c.loop-event.machine) (g.M.Machine.state c.play_next.new.machine) (get_or es i (Exec 0)) _ stays.0 exec (c.in_ok-play_next.ensures.stuck (ap Ok c.if-not-branch.true)) in
+    (
+      blocks_text (c.args.name.now ∷ []) 1 so_far.0,
+      record { made = so_far.0; goes = rw stays.0 so_far.1; ends = (drop (i + 1) es, whole, stuck); shown = refl },
+      rw stays.1 so_far.3,
+    )
 
 pub loop-event-preserved : goal.loop-event-preserved
 loop-event-preserved g c =
@@ -29,23 +32,22 @@ loop-event-preserved g c =
     let inside : i < length es = omega arith in
     let e = get_or es i (Exec 0) in
     let exec : e ≡ Exec 0 = c.requires i (Exec 0) inside in
-    let rows = c.in-Ok.trace.rows in
+    let next = c.in_ok-play_next.ensures.made (ap Ok c.if-not-branch.false) in
+    let rows = next.0 in
     let made = so_far.0 in
-    let n = c.loop-event.n in
+    let n = c.loop-event.number in
     let count : length made ≡ i = made_count es i made (omega arith) so_far.2 in
     let number : n ≡ length made = omega (arith, count, c.loop-event.invariant.counted) in
     let m : Made = (e, rows) in
     let names = c.args.name.now ∷ [] in
-    let step : Step (g.M.Machine.state c.loop-event.machine ∷ []) e (g.M.Machine.state c.exec.new.self ∷ []) rows = rw exec c.in-Ok.ensures.ok in
-    let wrote : Appends (g.K.Sink.taken c.loop-event.out) (g.K.Sink.taken c.send.new.out) (block_text names (n + 1) (Exec 0) rows) =
-    subst (λ (s : List ℕ). Appends (g.K.Sink.taken c.loop-event.out) (g.K.Sink.taken c.send.new.out) s) (c.as_str.ensures.value ∙ c.in_ok-text-in-Ok.ensures ∙ ap (block_text names (n + 1) (Exec 0)) c.rows.ensures) c.in_ok-send-in-Ok.ensures.ok in
+    let step : Step (g.M.Machine.state c.loop-event.machine ∷ []) e (g.M.Machine.state c.play_next.new.machine ∷ []) rows = rw exec next.1 in
     record {
       counted = omega (arith, c.loop-event.invariant.counted);
-      failures = c.in_ok-send-in-Ok.ensures.same ∙ c.loop-event.invariant.failures;
+      failures = c.in_ok-play_next.ensures.same ∙ c.loop-event.invariant.failures;
       made = (
         made ++ m ∷ [],
         goes_on _ made _ e rows _ so_far.1 step,
         take_more es i (Exec 0) inside ∙ ap (λ l. l ++ e ∷ []) so_far.2 ∙ sym (events_of-append made m),
-        subst (λ (s : List ℕ). Appends (g.K.Sink.taken c.args.out.now) (g.K.Sink.taken c.send.new.out) s) (sym (shown_more names made e rows n number exec)) (Appends-trans _ _ _ _ _ so_far.3 wrote),
+        subst (λ (s : List ℕ). Appends (g.K.Sink.taken c.args.out.now) (g.K.Sink.taken c.play_next.new.out) s) (sym (shown_more names made e rows n number exec)) (Appends-trans _ _ _ _ _ so_far.3 next.2),
       );
     }
