@@ -1,3 +1,4 @@
+use crate::testing::told;
 use crate::{event_at, parse_event};
 use jc_syntax::{NamedEvent, lex};
 use std::process::Abort;
@@ -7,10 +8,7 @@ use std::test::Fail;
 fn refusal(rt: &HostRuntime, text: &str) -> Option<(u8, usize)> {
     match parse_event(rt.alloc(), text) {
         Ok(_) => None,
-        Err(fault) => match (fault.number(), fault.place()) {
-            (Some(number), Some(place)) => Some((number, place)),
-            _ => Some((0, 0)),
-        },
+        Err(fault) => Some(told(&fault)),
     }
 }
 

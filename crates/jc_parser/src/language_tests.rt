@@ -1,3 +1,4 @@
+use crate::testing::{repeated, told};
 use crate::{ParseFault, parse_expr};
 use jc_syntax::Expr;
 use std::process::Abort;
@@ -7,10 +8,7 @@ use std::test::Fail;
 fn refusal(rt: &HostRuntime, text: &str) -> Option<(u8, usize)> {
     match parse_expr(rt.alloc(), text) {
         Ok(_) => None,
-        Err(fault) => match (fault.number(), fault.place()) {
-            (Some(number), Some(place)) => Some((number, place)),
-            _ => Some((0, 0)),
-        },
+        Err(fault) => Some(told(&fault)),
     }
 }
 
@@ -101,22 +99,6 @@ fn ends_and_strangers(rt: HostRuntime) {
     assert_eq!(rt; refusal(&rt, "doc.keys("), Some((7, 8)));
     assert_eq!(rt; refusal(&rt, "doc.get(\"\\ud800\")"), Some((4, 9)));
     assert_eq!(rt; refusal(&rt, "+1"), Some((1, 0)));
-}
-
-/// A head, then a piece some times, then a tail.
-fn repeated(
-    rt: &HostRuntime,
-    head: &str,
-    piece: &str,
-    times: usize,
-    tail: &str,
-) -> Result<String, Fail> {
-    let mut text = String::from_str(rt.alloc(), head)?;
-    for _ in 0..times {
-        text.push_str(piece)?;
-    }
-    text.push_str(tail)?;
-    Ok(text)
 }
 
 #[test]

@@ -25,4 +25,6 @@ mod language_tests;
 #[cfg(test)]
 mod script_tests;
 #[cfg(test)]
+mod testing;
+#[cfg(test)]
 mod tests;

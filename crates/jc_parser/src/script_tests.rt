@@ -1,3 +1,4 @@
+use crate::testing::{repeated, told};
 use crate::{parse_script, script_at};
 use jc_rules::Value;
 use jc_syntax::{Cmd, Expr, lex};
@@ -7,10 +8,7 @@ use std::test::Fail;
 fn refusal(rt: &HostRuntime, text: &str) -> Option<(u8, usize)> {
     match parse_script(rt.alloc(), text) {
         Ok(_) => None,
-        Err(fault) => match (fault.number(), fault.place()) {
-            (Some(number), Some(place)) => Some((number, place)),
-            _ => Some((0, 0)),
-        },
+        Err(fault) => Some(told(&fault)),
     }
 }
 
@@ -65,22 +63,6 @@ fn faults_of_scripts(rt: HostRuntime) {
     assert_eq!(rt; refusal(&rt, ";"), Some((7, 0)));
     assert_eq!(rt; refusal(&rt, "yield;;"), Some((7, 6)));
     assert_eq!(rt; refusal(&rt, "yield;"), None);
-}
-
-/// A head, then a piece some times, then a tail.
-fn repeated(
-    rt: &HostRuntime,
-    head: &str,
-    piece: &str,
-    times: usize,
-    tail: &str,
-) -> Result<String, Fail> {
-    let mut text = String::from_str(rt.alloc(), head)?;
-    for _ in 0..times {
-        text.push_str(piece)?;
-    }
-    text.push_str(tail)?;
-    Ok(text)
 }
 
 #[test]

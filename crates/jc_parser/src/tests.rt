@@ -1,4 +1,5 @@
-use crate::{First, ScenarioFault, first_read};
+use crate::testing::repeated;
+use crate::{First, ScenarioFault, first_read, laws};
 use jc_rules::{Event, Value};
 use jc_syntax::{Cmd, Expr};
 use std::process::Abort;
@@ -149,22 +150,6 @@ fn what_this_grammar_lacks(rt: HostRuntime) {
     );
 }
 
-/// A head, then a piece some times, then a tail.
-fn repeated(
-    rt: &HostRuntime,
-    head: &str,
-    piece: &str,
-    times: usize,
-    tail: &str,
-) -> Result<String, Fail> {
-    let mut text = String::from_str(rt.alloc(), head)?;
-    for _ in 0..times {
-        text.push_str(piece)?;
-    }
-    text.push_str(tail)?;
-    Ok(text)
-}
-
 #[test]
 fn selectors(rt: HostRuntime) -> Result<(), Fail> {
     let head = "jsoncrdt 1 replica a {doc";
@@ -223,4 +208,27 @@ fn numbers_of_faults(rt: HostRuntime) {
     assert_eq!(rt; ScenarioFault::Memory.place(), None);
     assert_eq!(rt; ScenarioFault::BadByte { place: 3 }.number(), Some(1));
     assert_eq!(rt; ScenarioFault::TooManyEvents { place: 3 }.place(), Some(3));
+}
+
+#[test]
+fn laws_stand() {
+    laws::one_tree();
+    laws::one_scenario();
+    laws::scenario_or_fault();
+    laws::one_fault();
+    laws::one_expression();
+    laws::expression_or_fault();
+    laws::one_expression_fault();
+    laws::one_script();
+    laws::script_or_fault();
+    laws::one_script_fault();
+    laws::one_event();
+    laws::event_or_fault();
+    laws::one_event_fault();
+    laws::one_event_at();
+    laws::event_or_fault_at();
+    laws::one_event_fault_at();
+    laws::one_script_at();
+    laws::script_or_fault_at();
+    laws::one_script_fault_at();
 }

@@ -1,6 +1,6 @@
 //! Printed texts, worked out by hand.
 
-use crate::{print_event, print_expr, print_script, print_value};
+use crate::{laws, print_event, print_expr, print_script, print_value};
 use jc_parser::{parse_event, parse_expr, parse_script};
 use jc_rules::{Event, Id, Text, Value};
 use jc_syntax::{Cmd, Expr, NamedEvent};
@@ -164,4 +164,11 @@ fn events_are_read_back(rt: HostRuntime) -> Result<(), Fail> {
         _ => assert!(rt; false),
     }
     Ok(())
+}
+
+#[test]
+fn laws_stand() {
+    laws::expressions_read_back();
+    laws::scripts_read_back();
+    laws::events_read_back();
 }
