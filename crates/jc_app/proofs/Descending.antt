@@ -26,7 +26,7 @@ use Rattle.jc_rules.proofs.Rising.{all_at}
 use Rattle.jc_rules.proofs.Steps.{three_premises}
 use Rattle.jc_tree.specs.Tree.{Tree, HasPlace, here}
 use Rattle.jc_app.specs.Leads.{Leads, Enters, HasContext, IsPrimitiveAssign}
-use Rattle.jc_app.proofs.Places.{then_node, then_here, then_place, some_place}
+use Rattle.jc_tree.proofs.Places.{then_node, then_here, then_place, some_place}
 
 -- an identifier is added alike where a key's presence set is the same
 follows_presence : (r : Rule) (x y : Context) (k : Key) (a : Answer) (ps : List Judgement) → presence k x ≡ presence k y → Follows r (Presence x k) a ps → Follows r (Presence y k) a ps

@@ -1,5 +1,3 @@
-pub mod Kept
-pub mod Places
 pub mod Registers
 pub mod Rules
 pub mod Descending

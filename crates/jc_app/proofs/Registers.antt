@@ -1,4 +1,4 @@
--- Pairs of registers: what is kept when one is cleared, and where a pair is put.
+-- Pairs of registers: where one is put.
 use Rattle.std.proofs.Common.{◌≡◌, ◌≢◌, ℕ, suc, ◌+◌, ◌<◌, ◌≤◌, List, [], ◌∷◌, length, get_or, slice_get, slice_set, insert, take_while, cond, Option, Some, None, Bool, true, false, ◌&&◌, eqb, eq-eqb, eqb-true, refl, sym, ◌∙◌, ap, subst, arith}
 use Rattle.std.proofs.lemmas.Option.{slice_get_read, slice_get_past}
 use Rattle.std.specs.List.{AllByRecursion}
@@ -17,34 +17,6 @@ use Rattle.jc_rules.proofs.Order.{ids_total, exact_ids}
 use Rattle.jc_rules.proofs.Entries.{rising-put, values-put, none-below}
 use Rattle.jc_rules.proofs.Ids.{equal_itself}
 use Rattle.jc_rules.proofs.Rising.{less_greater, greater_less}
-
-below_kept : (i : Id) (deps : List Id) (r : Register) → AllByRecursion (λ j. id_cmp i j ≡ Less) (keys_of r) → AllByRecursion (λ j. id_cmp i j ≡ Less) (keys_of (kept deps r))
-below_kept i deps [] h = tt
-below_kept i deps (e ∷ r) h = go (has_id e.0 deps) refl (below_kept i deps r h.1)
-  where
-    go : (b : Bool) → has_id e.0 deps ≡ b → AllByRecursion (λ j. id_cmp i j ≡ Less) (keys_of (kept deps r)) → AllByRecursion (λ j. id_cmp i j ≡ Less) (keys_of (kept deps (e ∷ r)))
-    go true p ih = rw p ih
-    go false p ih = rw p (h.0, ih)
-
-rising_kept : (deps : List Id) (r : Register) → IsRising id_cmp (keys_of r) → IsRising id_cmp (keys_of (kept deps r))
-rising_kept deps [] h = tt
-rising_kept deps (e ∷ r) h = go (has_id e.0 deps) refl (rising_kept deps r h.1)
-  where
-    go : (b : Bool) → has_id e.0 deps ≡ b → IsRising id_cmp (keys_of (kept deps r)) → IsRising id_cmp (keys_of (kept deps (e ∷ r)))
-    go true p ih = rw p ih
-    go false p ih = rw p (below_kept e.0 deps r h.0, ih)
-
-primitive_kept : (deps : List Id) (r : Register) → AllByRecursion (λ e. IsPrimitive e.1) r → AllByRecursion (λ e. IsPrimitive e.1) (kept deps r)
-primitive_kept deps [] h = tt
-primitive_kept deps (e ∷ r) h = go (has_id e.0 deps) refl (primitive_kept deps r h.1)
-  where
-    go : (b : Bool) → has_id e.0 deps ≡ b → AllByRecursion (λ e. IsPrimitive e.1) (kept deps r) → AllByRecursion (λ e. IsPrimitive e.1) (kept deps (e ∷ r))
-    go true p ih = rw p ih
-    go false p ih = rw p (h.0, ih)
-
--- what stays of a register is one
-pub register_left : (deps : List Id) (r left : Register) → IsKeptRegister r → left ≡ kept deps r → IsKeptRegister left
-register_left deps r left h e = rw e (rising_kept deps r h.0, primitive_kept deps r h.1)
 
 pub register_put : (i : Id) (v : Value) (r new : Register) → IsKeptRegister r → IsPrimitive v → new ≡ put id_cmp i v r → IsKeptRegister new
 register_put i v r new h p e = rw e (rising-put ids_total exact_ids i v r h.0, values-put ids_total exact_ids IsPrimitive i v r p h.1)

@@ -23,7 +23,7 @@ use Rattle.jc_rules.proofs.Places.{there, with_node-same, with-same}
 use Rattle.jc_rules.proofs.Steps.{by_axiom, one_premise, three_premises}
 use Rattle.jc_tree.specs.Tree.{Tree, HasPlace, here, IsChanged}
 use Rattle.jc_app.specs.Leads.{Leads, Clears, Enters, HasContext}
-use Rattle.jc_app.proofs.Places.{then_here, then_place, then_now}
+use Rattle.jc_tree.proofs.Places.{then_here, then_place, then_now}
 
 pub presence_there : (c : Context) (k : Key) (s ids : List Id) (t u : Rows) → presence k c ≡ Some s → ids ≡ s → u ≡ pushed t R.Presence1 → Derives (Presence c k) (ToIds ids) t u
 presence_there c k s ids t u h i e = rw (i, e) (by_axiom R.Presence1 _ _ t (s, h, refl, refl))

@@ -9,8 +9,8 @@ use Rattle.jc_rules.specs.Context.{Context, Node, with_content, IsPrimitive}
 use Rattle.jc_rules.specs.Places.{with_node_at}
 use Rattle.jc_rules.specs.Derivation.{Question, Child, ToContext, ToContent, Cleared}
 use Rattle.jc_rules.specs.Derives.{Derives}
-use Rattle.jc_rules.specs.Trace.{Rows, IsLonger}
-use Rattle.jc_tree.specs.Tree.{Tree, here, IsLater}
+use Rattle.jc_rules.specs.Trace.{Rows}
+use Rattle.jc_tree.specs.Tree.{Tree, here}
 
 -- A derivation answers the question of the context at the place with another context, which is there afterwards, and its rules were added to the trace.
 pub record Leads (q : Context → Question) (at : List Tagged) (a b : Tree) (t u : Rows) : Type 0 where
@@ -30,11 +30,6 @@ pub record Enters (key : Tagged) (at : List Tagged) (a b : Tree) (t u : Rows) : 
   pub below : Context
   pub derives : Derives (Child (here at a) key) (ToContent (Node below)) t u
   pub now : b.now ≡ with_node_at at (with_content key (Node below) (here at a)) a.now
-
--- what was there can be had again
-pub record Kept (a b : Tree) (t u : Rows) : Type 0 where
-  pub store : IsLater a b
-  pub trace : IsLonger t u
 
 -- a tagged key under which a context stands
 abbrev pub HasContext : Tagged → Type 0

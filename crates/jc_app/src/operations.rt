@@ -15,8 +15,9 @@ ghost use Rattle.jc_rules.specs.Derivation.{Presence, AddId, Child, Clear, Opera
 ghost use Rattle.jc_rules.specs.Derives.{Derives};
 ghost use Rattle.jc_rules.specs.Trace.{IsLonger};
 ghost use Rattle.jc_rules.specs.Table.{Follows, kept, moved};
+ghost use Rattle.jc_tree.specs.Kept.{Kept};
 ghost use Rattle.jc_tree.specs.Tree.{HasPlace, here};
-ghost use Rattle.jc_app.specs.Leads.{Leads, Clears, Enters, Kept, HasContext, IsPrimitiveAssign};
+ghost use Rattle.jc_app.specs.Leads.{Leads, Clears, Enters, HasContext, IsPrimitiveAssign};
 
 use jc_rules::{Id, IdSet, Key, Mutation, Op, Rule, Tagged, Trace, Value, compare_ids, insert_id};
 use jc_tree::TreeStore;

@@ -1,32 +1,29 @@
 -- What a change leaves at its place.
-use Rattle.std.proofs.Common.{ℕ, ◌+◌, length, take, [], ◌∷◌, ◌++◌, refl, sym, ◌≡◌, ◌≢◌, List, Option, Some, None, ◌∙◌, ap}
+use Rattle.std.proofs.Common.{ℕ, ◌+◌, length, take, [], ◌∷◌, ◌++◌, refl, sym, ◌≡◌, List, Option, Some, None, ◌∙◌, ap}
 use Rattle.jc_rules.specs.declared.key.Key.{Key}
 use Rattle.jc_rules.specs.declared.key.Tagged.{Tagged}
 use Rattle.jc_rules.specs.declared.key.Tagged.TheVariants.{MapT, ListT, RegT}
 use Rattle.jc_rules.specs.Context.{Context, context, Content, Node, Values, content, with_content, new_content, empty}
-use Rattle.jc_rules.specs.Places.{at_node, node_in, node_at, or_empty}
+use Rattle.jc_rules.specs.Places.{at_node, node_in, node_at}
 use Rattle.jc_rules.proofs.Order.{keys_total, exact_keys}
 use Rattle.jc_rules.proofs.Entries.{found-put}
-use Rattle.jc_rules.proofs.Places.{listed_children, node-with, there}
+use Rattle.jc_rules.proofs.Places.{listed_children}
 use Rattle.jc_tree.specs.Tree.{Tree, history, HasPlace, here, IsChanged}
 use Rattle.jc_tree.proofs.History.{undone, later_changed}
-
--- where there is a context, there is a place
-pub is_place : (at : List Tagged) (x c : Context) → node_at at c ≡ Some x → node_at at c ≢ None
-is_place at x c e none = let no : ⊥ = cc in no
+use Rattle.jc_tree.proofs.Places.{some_place, then_node, then_here, then_place}
 
 none_some : {A : Type 0} {x : Context} → None ≡ Some x → A
 none_some e = absurd (let no : ⊥ = cc in no)
 
 -- the changed context is at its place
 pub node_changed : (at : List Tagged) (y : Context) (a b : Tree) → HasPlace at a → IsChanged at y a b → node_at at b.now ≡ Some y
-node_changed at y a b place c = ap (node_at at) c.now ∙ node-with at (here at a) y a.now (there at a.now place)
+node_changed at y a b place c = then_node at y a b place c.now
 
 pub still_place : (at : List Tagged) (y : Context) (a b : Tree) → HasPlace at a → IsChanged at y a b → HasPlace at b
-still_place at y a b place c = is_place at y b.now (node_changed at y a b place c)
+still_place at y a b place c = then_place at y a b place c.now
 
 pub here_changed : (at : List Tagged) (y : Context) (a b : Tree) → HasPlace at a → IsChanged at y a b → here at b ≡ y
-here_changed at y a b place c = ap or_empty (node_changed at y a b place c)
+here_changed at y a b place c = then_here at y a b place c.now
 
 -- what a change made under a key is there
 content-new : (k : Tagged) (c : Context) → content k (with_content k (new_content k) c) ≡ Some (new_content k)
@@ -56,7 +53,7 @@ node_entered at k a b place c =
 
 -- a new map is a place
 pub below_new : (at : List Tagged) (k : Key) (a b : Tree) → HasPlace at a → IsChanged at (with_content (MapT k) (new_content (MapT k)) (here at a)) a b → HasPlace (at ++ MapT k ∷ []) b
-below_new at k a b place c = is_place (at ++ MapT k ∷ []) empty b.now (node_entered at (MapT k) a b place c)
+below_new at k a b place c = some_place (at ++ MapT k ∷ []) b.now empty (node_entered at (MapT k) a b place c)
 
 -- going back to a mark brings back its places
 pub place_back : (at : List Tagged) (y : Context) (a b c : Tree) (m : ℕ) → HasPlace at a → IsChanged at y a b → m ≡ length a.earlier → history c ≡ take (m + 1) (history b) → HasPlace at c

@@ -88,14 +88,14 @@ kept-pushed [] c h g = (g, tt)
 kept-pushed (d ∷ cs) c h g = (h.0, kept-pushed cs c h.1 g)
 
 -- what is lent of a kept content
-pub presence_rises : (ks : List Tagged) (k : Key) (s : List Id) (c : Context) → IsKept c → node_at ks c ≢ None → presence k (context_at ks c) ≡ Some s → AreRising s
-presence_rises ks k s c h place f = rising (context_at ks c) (kept-node ks c (context_at ks c) h (there ks c place)) f
+pub presence_rises : (ks : List Tagged) (k : Key) (s ids : List Id) (c : Context) → IsKept c → node_at ks c ≢ None → presence k (context_at ks c) ≡ Some s → ids ≡ s → AreRising ids
+presence_rises ks k s ids c h place f e = rw e (rising (context_at ks c) (kept-node ks c (context_at ks c) h (there ks c place)) f)
   where
     rising : (d : Context) → IsKept d → presence k d ≡ Some s → AreRising s
-    rising (context m l r p n) g e = value-found keys_total exact_keys AreRising k s p g.6 e
+    rising (context m l r p n) g q = value-found keys_total exact_keys AreRising k s p g.6 q
 
-pub register_kept : (ks : List Tagged) (k : Key) (v : Register) (c : Context) → IsKept c → node_at ks c ≢ None → find key_cmp k (registers (context_at ks c)) ≡ Some v → IsKeptRegister v
-register_kept ks k v c h place f = kept (context_at ks c) (kept-node ks c (context_at ks c) h (there ks c place)) f
+pub register_kept : (ks : List Tagged) (k : Key) (v pairs : Register) (c : Context) → IsKept c → node_at ks c ≢ None → find key_cmp k (registers (context_at ks c)) ≡ Some v → pairs ≡ v → IsKeptRegister pairs
+register_kept ks k v pairs c h place f e = rw e (kept (context_at ks c) (kept-node ks c (context_at ks c) h (there ks c place)) f)
   where
     kept : (d : Context) → IsKept d → find key_cmp k (registers d) ≡ Some v → IsKeptRegister v
-    kept (context m l r p n) g e = value-found keys_total exact_keys IsKeptRegister k v r g.5 e
+    kept (context m l r p n) g q = value-found keys_total exact_keys IsKeptRegister k v r g.5 q

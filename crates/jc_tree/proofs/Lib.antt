@@ -5,3 +5,7 @@ pub mod Keeping
 pub mod History
 pub mod Chained
 pub mod Changed
+pub mod Linked
+pub mod Places
+pub mod Kept
+pub mod Pairs

@@ -6,3 +6,4 @@ pub mod Change
 pub mod Single
 pub mod Laws
 pub mod Empty
+pub mod Kept

@@ -7,7 +7,8 @@ pub fn undo_gives_back()
     ensures { UndoLaw }
 {}
 
-/// Each change but that of a link leaves the lists chained.
+/// Each change but that of a link leaves the lists chained, and so does a fresh element that is
+/// linked behind a place.
 pub fn changes_keep_lists_chained()
     ensures { KeepsChained }
 {}

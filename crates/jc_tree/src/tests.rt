@@ -222,7 +222,7 @@ fn marks<S: TreeStore>(rt: &impl Abort, store: &mut S, at: &[Tagged]) -> Result<
 
 // The next four look at the store after a change that may be refused: nothing has changed then.
 
-#[tactic(auto, using(crate::proofs::Changed::is_place, crate::proofs::Changed::still_place))]
+#[tactic(auto, using(crate::proofs::Places::some_place, crate::proofs::Changed::still_place))]
 fn refused_child<S: TreeStore>(rt: &impl Abort, store: &mut S, at: &[Tagged]) -> Result<(), Fail>
     requires { IsEmptyPlace at.now (S.tree store.old) }
 {

@@ -6,7 +6,7 @@ use Rattle.jc_rules.specs.Table.{moved}
 use Rattle.jc_rules.specs.Trace.{at_depth}
 use Rattle.jc_tree.specs.Tree.{HasPlace}
 use Rattle.jc_app.specs.Leads.{Leads}
-use Rattle.jc_app.proofs.Kept.{then, rule_opened, depth_changed}
+use Rattle.jc_tree.proofs.Kept.{then, rule_opened, depth_changed}
 use Rattle.jc_app.proofs.Descending.{way, child_place, above_place, descended, assign_adds}
 use Rattle.jc_app.proofs.operations.+operate.Goals as goal
 

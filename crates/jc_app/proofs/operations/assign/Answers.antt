@@ -6,7 +6,7 @@ use Rattle.jc_rules.specs.declared.value.Value.{Value}
 use Rattle.jc_rules.specs.Order.{id_cmp}
 use Rattle.jc_rules.specs.Entries.{put}
 use Rattle.jc_rules.specs.Trace.{Rows, at_depth}
-use Rattle.jc_app.proofs.Kept.{then, rule_opened, rows_added, tree_changed, depth_changed}
+use Rattle.jc_tree.proofs.Kept.{then, rule_opened, rows_added, tree_changed, depth_changed}
 use Rattle.jc_app.proofs.Rules.{assigned, after_clear, after_lead}
 use Rattle.jc_app.proofs.Descending.{primitive_value}
 use Rattle.jc_app.proofs.operations.assign.Goals as goal

@@ -1,14 +1,14 @@
 use Rattle.std.proofs.Common.{sym, refl}
 use Rattle.jc_rules.specs.declared.rule.Rule.TheVariants as R
-use Rattle.jc_app.proofs.Kept.{then, rule_added, tree_changed}
-use Rattle.jc_app.proofs.Places.{register_kept}
-use Rattle.jc_app.proofs.Registers.{register_left}
+use Rattle.jc_tree.proofs.Kept.{then, rule_added, tree_changed}
+use Rattle.jc_tree.proofs.Keeping.{register_kept}
+use Rattle.jc_tree.proofs.Pairs.{register_left}
 use Rattle.jc_app.proofs.Rules.{reg_none, reg_kept}
 use Rattle.jc_app.proofs.operations.clear_register.Goals as goal
 
 pub set_register-requires-clause-kept : goal.set_register-requires-clause-kept
 set_register-requires-clause-kept g c =
-    register_left c.args.deps.now c.in-Some.pairs.now _ (register_kept c.args.at.now c.args.key.now (g.S.TreeStore.tree c.args.store.now) c.in-Some.pairs.now _ (g.met.S.TreeStore.kept c.args.store.now) c.requires (sym c.in-Some.ensures) refl) c.in_ok-left-in-Some.ensures
+    register_left c.args.deps.now c.in-Some.pairs.now _ (register_kept c.args.at.now c.args.key.now c.in-Some.pairs.now _ (g.S.TreeStore.tree c.args.store.now).now (g.met.S.TreeStore.kept c.args.store.now) c.requires (sym c.in-Some.ensures) refl) c.in_ok-left-in-Some.ensures
 
 pub returns-in_ok-push-in-None-clause-ok : goal.returns-in_ok-push-in-None-clause-ok
 returns-in_ok-push-in-None-clause-ok g c =

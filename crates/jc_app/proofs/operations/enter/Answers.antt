@@ -1,6 +1,6 @@
 use Rattle.std.proofs.Common.{sym, refl}
-use Rattle.jc_app.proofs.Kept.{then, rule_added, tree_changed}
-use Rattle.jc_app.proofs.Places.{none_found}
+use Rattle.jc_tree.proofs.Kept.{then, rule_added, tree_changed}
+use Rattle.jc_tree.proofs.Places.{none_found}
 use Rattle.jc_app.proofs.Rules.{entered_there, entered_new}
 use Rattle.jc_app.proofs.operations.enter.Goals as goal
 

@@ -1,5 +1,5 @@
 use Rattle.std.proofs.Common.{sym}
-use Rattle.jc_app.proofs.Places.{register_kept}
+use Rattle.jc_tree.proofs.Keeping.{register_kept}
 use Rattle.jc_app.proofs.Rules.{register_there, register_absent}
 use Rattle.jc_app.proofs.operations.pairs_of.Goals as goal
 
@@ -9,7 +9,7 @@ returns-in_ok-push-in-Some-clause-ok g c =
 
 pub returns-in_ok-push-in-Some-clause-register : goal.returns-in_ok-push-in-Some-clause-register
 returns-in_ok-push-in-Some-clause-register g c =
-    register_kept c.args.at.now c.args.key.now (g.S.TreeStore.tree c.args.store.now) c.in-Some.pairs.now _ (g.met.S.TreeStore.kept c.args.store.now) c.requires (sym c.in-Some.ensures) c.in_ok-pairs-in-Some.ensures
+    register_kept c.args.at.now c.args.key.now c.in-Some.pairs.now _ (g.S.TreeStore.tree c.args.store.now).now (g.met.S.TreeStore.kept c.args.store.now) c.requires (sym c.in-Some.ensures) c.in_ok-pairs-in-Some.ensures
 
 pub returns-in_ok-push-in-None-clause-ok : goal.returns-in_ok-push-in-None-clause-ok
 returns-in_ok-push-in-None-clause-ok g c =

@@ -1,5 +1,5 @@
 use Rattle.std.proofs.Common.{rules, ◌≡◌, sym}
-use Rattle.jc_app.proofs.Places.{presence_rises}
+use Rattle.jc_tree.proofs.Keeping.{presence_rises}
 use Rattle.jc_app.proofs.Rules.{presence_there, presence_absent}
 use Rattle.jc_app.proofs.operations.presence_of.Goals as goal
 
@@ -11,7 +11,7 @@ returns-in_ok-push-in-Some-clause-ok g c =
 pub returns-in_ok-push-in-Some-clause-rises : goal.returns-in_ok-push-in-Some-clause-rises
 returns-in_ok-push-in-Some-clause-rises g c =
     let e : c.in_ok-ids-in-Some.ids.items ≡ c.in-Some.ids.now = search rules in
-    presence_rises c.args.at.now c.args.key.now (g.S.TreeStore.tree c.args.store.now) _ _ (g.met.S.TreeStore.kept c.args.store.now) c.requires (sym c.in-Some.ensures) e
+    presence_rises c.args.at.now c.args.key.now _ _ (g.S.TreeStore.tree c.args.store.now).now (g.met.S.TreeStore.kept c.args.store.now) c.requires (sym c.in-Some.ensures) e
 
 pub returns-in_ok-push-in-None-clause-ok : goal.returns-in_ok-push-in-None-clause-ok
 returns-in_ok-push-in-None-clause-ok g c =

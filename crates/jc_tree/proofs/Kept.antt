@@ -1,13 +1,14 @@
--- What was there can be had again.
-use Rattle.std.proofs.Common.{◌≡◌, ℕ, append-nil, List, [], ◌∷◌, refl, sym}
+-- What calls leave that keep what was there, and going back to it.
+use Rattle.std.proofs.Common.{◌≡◌, ℕ, ◌+◌, append-nil, List, [], ◌∷◌, length, take, refl, sym, ◌∙◌, ap}
+use Rattle.std.proofs.Math.Seq.{take-append_seam}
 use Rattle.jc_rules.specs.declared.rule.Rule.{Rule}
 use Rattle.jc_rules.specs.declared.key.Tagged.{Tagged}
 use Rattle.jc_rules.specs.Context.{Context}
 use Rattle.jc_rules.specs.Trace.{Rows, IsLonger, pushed, below, at_depth}
 use Rattle.jc_rules.proofs.Steps.{same_rows, longer_still}
-use Rattle.jc_tree.specs.Tree.{Tree, IsChanged}
-use Rattle.jc_tree.proofs.History.{still, later_still, later_changed}
-use Rattle.jc_app.specs.Leads.{Kept}
+use Rattle.jc_tree.specs.Tree.{Tree, history, IsChanged}
+use Rattle.jc_tree.proofs.History.{still, later_still, later_changed, undone}
+use Rattle.jc_tree.specs.Kept.{Kept}
 
 pub nothing : (a b : Tree) (t u : Rows) → b ≡ a → u ≡ t → Kept a b t u
 nothing a b t u e f = rw (e, f) (record { store = still a; trace = same_rows t })
@@ -29,3 +30,10 @@ depth_changed a b t u n e f = rw (e, f) (record { store = still a; trace = recor
 
 pub then : (a b d : Tree) (t u v : Rows) → Kept a b t u → Kept b d u v → Kept a d t v
 then a b d t u v h k = record { store = later_still a b d h.store k.store; trace = longer_still t u v h.trace k.trace }
+
+-- going back to marks gives what was there
+pub gone_back : (a b d : Tree) (t u v : Rows) (m n k : ℕ) → Kept a b t u → m ≡ length a.earlier → history d ≡ take (m + 1) (history b) → n ≡ length t.rows → k ≡ t.depth → v ≡ record { rows = take n u.rows; depth = k } → Kept a d t v
+gone_back a b d t u v m n k h me de ne ke ve =
+    let tree : d ≡ a = undone a b d h.store (de ∙ ap (λ (x : ℕ). take (x + 1) (history b)) me) in
+    let rows : take n u.rows ≡ t.rows = ap (λ (x : ℕ). take x u.rows) ne ∙ ap (λ (r : List (Rule × ℕ)). take (length t.rows) r) h.trace.is ∙ take-append_seam t.rows h.trace.added in
+    nothing a d t v tree (ve ∙ (λ i. record { rows = rows i; depth = ke i }))
