@@ -1,0 +1,330 @@
+use Rattle.std.proofs.Common.{rules, ◌≡◌, None, Some, Option, ℕ, [], ◌∷◌, ◌++◌, ap, sym, ◌∙◌, refl, arith}
+use Rattle.jc_rules.specs.declared.key.Key.{Key}
+use Rattle.jc_rules.specs.declared.key.Tagged.TheVariants.{MapT, ListT}
+use Rattle.jc_rules.specs.declared.rule.Rule.TheVariants as R
+use Rattle.jc_rules.specs.Ids.{union, without}
+use Rattle.jc_rules.specs.Context.{keys}
+use Rattle.jc_rules.specs.Table.{after}
+use Rattle.jc_rules.specs.Trace.{Rows, at_depth}
+use Rattle.jc_tree.specs.Tree.{here, least_after}
+use Rattle.jc_clear.proofs.Bare.{below-list}
+use Rattle.jc_tree.proofs.Kept.{nothing, then, rule_opened, rule_added, rows_added, tree_changed, depth_changed}
+use Rattle.jc_clear.proofs.Lists.{first_along, after_along, along_finds, along_on, last_along}
+use Rattle.jc_clear.proofs.Maps.{first_through, after_through, through_on, last_through}
+use Rattle.jc_tree.proofs.Places.{none_found}
+use Rattle.jc_clear.proofs.Rules.{after_call, clear_none, clear_elem, rises_left, clear_any, down_map, down_list, map_cleared, list_cleared}
+use Rattle.jc_clear.proofs.clearing.+clearing.Goals.{list_in-in-Tail, list_in-in-Elem}
+use Rattle.jc_clear.proofs.clearing.+clearing.Goals as goal
+
+pub any_in-clear_list-requires : goal.any_in-clear_list-requires
+any_in-clear_list-requires g t c =
+    let x = after_call _ _ _ _ _ _ _ _ c.requires.there c.in_ok-maps.ensures.path c.in_ok-maps.ensures.ok in
+    λ κs h. (omega (arith, x.nested), (h, (x.there, x.below c.requires.chained)))
+
+pub any_in-clear_register-requires : goal.any_in-clear_register-requires
+any_in-clear_register-requires g t c =
+    let x = after_call _ _ _ _ _ _ _ _ c.requires.there c.in_ok-maps.ensures.path c.in_ok-maps.ensures.ok in
+    let y = after_call _ _ _ _ _ _ _ _ x.there (c.as_slice.ensures.value ∙ c.in_ok-lists.ensures.path) c.in_ok-lists.ensures.ok in
+    y.there
+
+pub any_in-united-requires : goal.any_in-united-requires
+any_in-united-requires g t c = c.in_ok-lists.ensures.ok.rises
+
+pub any_in-united-requires-2 : goal.any_in-united-requires-2
+any_in-united-requires-2 g t c = c.in_ok-maps.ensures.ok.rises
+
+pub any_in-returns-clause-ok : goal.any_in-returns-clause-ok
+any_in-returns-clause-ok g t c =
+    clear_any _ _ _ _ _ _ _ _ _ _ _ _ _ _ _ _ _ _ _ c.requires.there c.in_ok-open.ensures.ok c.in_ok-maps.ensures.ok c.in_ok-maps.ensures.path c.in_ok-lists.ensures.ok (c.as_slice.ensures.value ∙ c.in_ok-lists.ensures.path ∙ c.in_ok-maps.ensures.path) c.in_ok-values.ensures.ok (c.in_ok-ids.ensures ∙ ap (union c.in_ok-maps.maps.items) (c.as_slice-3.ensures.value ∙ c.in_ok-rest.ensures ∙ ap (union c.in_ok-lists.lists.items) c.as_slice-2.ensures.value)) (c.close.ensures ∙ ap (λ (n : ℕ). at_depth n c.clear_register.new.trace) c.depth-depth.ensures)
+
+pub any_in-returns-clause-kept : goal.any_in-returns-clause-kept
+any_in-returns-clause-kept g t c =
+    then _ _ _ _ _ _ (rule_opened _ _ _ _ R.ClearAny refl c.in_ok-open.ensures.ok) (then _ _ _ _ _ _ c.in_ok-maps.ensures.kept (then _ _ _ _ _ _ c.in_ok-lists.ensures.kept (then _ _ _ _ _ _ c.in_ok-values.ensures.kept (depth_changed _ _ _ _ _ refl c.close.ensures))))
+
+pub clear_map-returns-then-not-has-clause-ok : goal.clear_map-returns-then-not-has-clause-ok
+clear_map-returns-then-not-has-clause-ok g t c =
+    let e = rw (c.as_slice.ensures.value, c.in_ok-copy.ensures) at c.if-not-has.ensures in
+    clear_none _ _ _ _ _ _ _ _ c.requires.there (none_found _ (sym e)) c.in_ok-push.ensures.ok refl c.new.ensures.items
+
+pub clear_map-map_in-requires : goal.clear_map-map_in-requires
+clear_map-map_in-requires g t c =
+    let e = rw (c.as_slice.ensures.value, c.in_ok-copy.ensures) at c.if-not-has.ensures in
+    let x = down_map c.args.at.now.items _ c.args.key.now (g.S.TreeStore.tree c.args.store.now) c.requires.there (c.in_ok-push-2.ensures.items ∙ ap (λ (k : Key). c.args.at.now.items ++ MapT k ∷ []) c.in_ok-copy.ensures) (sym e) c.requires.chained in
+    λ κs h. (omega (arith, x.smaller), (h, (x.there, x.chained)))
+
+pub clear_map-returns-clause-ok : goal.clear_map-returns-clause-ok
+clear_map-returns-clause-ok g t c =
+    let e = rw (c.as_slice.ensures.value, c.in_ok-copy.ensures) at c.if-not-has.ensures in
+    map_cleared _ _ _ _ _ _ _ _ _ _ _ c.requires.there (sym e) (c.in_ok-push-2.ensures.items ∙ ap (λ (k : Key). c.args.at.now.items ++ MapT k ∷ []) c.in_ok-copy.ensures) c.in_ok-open.ensures.ok c.in_ok-ids.ensures.ok (c.close.ensures ∙ ap (λ (n : ℕ). at_depth n c.map_in.new.trace) c.depth-depth.ensures)
+
+pub clear_list-returns-then-not-has-clause-ok : goal.clear_list-returns-then-not-has-clause-ok
+clear_list-returns-then-not-has-clause-ok g t c =
+    let e = rw (c.as_slice.ensures.value, c.in_ok-copy.ensures) at c.if-not-has.ensures in
+    clear_none _ _ _ _ _ _ _ _ c.requires.there (none_found _ (sym e)) c.in_ok-push.ensures.ok refl c.new.ensures.items
+
+pub clear_list-list_in-requires : goal.clear_list-list_in-requires
+clear_list-list_in-requires g t c =
+    let e = rw (c.as_slice.ensures.value, c.in_ok-copy.ensures) at c.if-not-has.ensures in
+    let x = down_list c.args.at.now.items _ c.args.key.now (g.S.TreeStore.tree c.args.store.now) c.requires.there (c.in_ok-push-2.ensures.items ∙ ap (λ (k : Key). c.args.at.now.items ++ ListT k ∷ []) c.in_ok-copy.ensures) (sym e) c.requires.chained in
+    λ κs h. (omega (arith, x.smaller), (h, (x.there, x.chained)))
+
+pub clear_list-returns-clause-ok : goal.clear_list-returns-clause-ok
+clear_list-returns-clause-ok g t c =
+    let e = rw (c.as_slice.ensures.value, c.in_ok-copy.ensures) at c.if-not-has.ensures in
+    list_cleared _ _ _ _ _ _ _ _ _ _ _ c.requires.there (sym e) (c.in_ok-push-2.ensures.items ∙ ap (λ (k : Key). c.args.at.now.items ++ ListT k ∷ []) c.in_ok-copy.ensures) c.in_ok-open.ensures.ok c.in_ok-ids.ensures.ok (c.close.ensures ∙ ap (λ (n : ℕ). at_depth n c.list_in.new.trace) c.depth-depth.ensures)
+
+pub elem_in-presence_of-requires : goal.elem_in-presence_of-requires
+elem_in-presence_of-requires g t c =
+    (after_call _ _ _ _ _ _ _ _ c.requires.there (c.as_slice.ensures.value ∙ c.in_ok-below.ensures.path) c.in_ok-below.ensures.ok).there
+
+pub elem_in-united-requires : goal.elem_in-united-requires
+elem_in-united-requires g t c = c.in_ok-below.ensures.ok.rises
+
+pub elem_in-set_presence-requires-clause-there : goal.elem_in-set_presence-requires-clause-there
+elem_in-set_presence-requires-clause-there g t c =
+    (after_call _ _ _ _ _ _ _ _ c.requires.there (c.as_slice-4.ensures.value ∙ c.in_ok-below.ensures.path) c.in_ok-below.ensures.ok).there
+
+pub elem_in-set_presence-requires-clause-rising : goal.elem_in-set_presence-requires-clause-rising
+elem_in-set_presence-requires-clause-rising g t c =
+    rises_left c.args.deps.now c.in_ok-below.below.items c.as_slice-3.result.now c.as_slice-2.result.now _ _ c.in_ok-all.ensures c.as_slice-3.ensures.value (c.as_slice-5.ensures.value ∙ c.in_ok-ids.ensures)
+
+pub elem_in-returns-clause-ok : goal.elem_in-returns-clause-ok
+elem_in-returns-clause-ok g t c =
+    clear_elem _ _ _ _ _ _ _ _ _ _ _ _ _ _ _ _ _ c.requires.there c.in_ok-open.ensures.ok c.in_ok-below.ensures.ok (c.as_slice.ensures.value ∙ c.in_ok-below.ensures.path) c.in_ok-present.ensures.ok (c.in_ok-ids.ensures ∙ ap (λ x. without x c.args.deps.now) (c.as_slice-3.ensures.value ∙ c.in_ok-all.ensures ∙ ap (union c.in_ok-below.below.items) c.as_slice-2.ensures.value)) (c.as_slice-4.ensures.value ∙ c.in_ok-below.ensures.path) c.as_slice-5.ensures.value c.in_ok-set_presence.ensures.ok (c.close.ensures ∙ ap (λ (n : ℕ). at_depth n c.presence_of.new.trace) c.depth-depth.ensures)
+
+pub elem_in-returns-clause-kept : goal.elem_in-returns-clause-kept
+elem_in-returns-clause-kept g t c =
+    then _ _ _ _ _ _ (rule_opened _ _ _ _ R.ClearElem refl c.in_ok-open.ensures.ok) (then _ _ _ _ _ _ c.in_ok-below.ensures.kept (then _ _ _ _ _ _ (rows_added _ _ _ _ refl c.in_ok-present.ensures.kept) (then _ _ _ _ _ _ (tree_changed _ _ _ _ _ _ c.in_ok-set_presence.ensures.ok refl) (depth_changed _ _ _ _ _ refl c.close.ensures))))
+
+pub list_in-loop-place-init : goal.list_in-loop-place-init
+list_in-loop-place-init g t c =
+    record { along = first_along _ _ _ _ _ c.requires.there c.requires.chained c.new-ids.ensures.items; path = refl; kept = nothing _ _ _ _ refl refl }
+
+pub list_in-next-requires : goal.list_in-next-requires
+list_in-next-requires g t c =
+    (after_along _ _ _ _ _ _ _ _ _ c.requires.there (c.as_slice.ensures.value ∙ c.loop-place.invariant.path) c.loop-place.invariant.along).there
+
+pub list_in-unreachable-requires : goal.list_in-unreachable-requires
+list_in-unreachable-requires g t c =
+    let none : c.next.result ≡ None = search rules in
+    along_finds _ _ _ _ _ _ _ _ _ _ c.requires.there (c.as_slice.ensures.value ∙ c.loop-place.invariant.path) c.loop-place.invariant.along c.in-Some.is (sym c.next.ensures ∙ none)
+
+pub list_in-elem_in-requires : goal.list_in-elem_in-requires
+list_in-elem_in-requires g t c =
+    let x = after_along _ _ _ _ _ _ _ _ _ c.requires.there c.loop-place.invariant.path c.loop-place.invariant.along in
+    λ κs h. (omega (arith, x.nested), (h, (x.there, x.below (below-list _ c.requires.chained))))
+
+pub list_in-united-requires : goal.list_in-united-requires
+list_in-united-requires g t c = c.loop-place.invariant.along.turn.rises
+
+pub list_in-loop-place-smaller : goal.list_in-loop-place-smaller
+list_in-loop-place-smaller g t c =
+    let pl : c.match-next-2.place ≡ after c.in-Some-next.next = elim c.match-next-2.branch [ list_in-in-Tail w ↦ w.place-is ∙ sym (ap after w.in-Tail.is) | list_in-in-Elem w ↦ w.place-is ∙ sym (ap after w.in-Elem.is) ] in
+    (along_on _ _ _ _ _ _ _ _ _ _ _ _ _ _ _ _ _ _ c.requires.there (c.as_slice.ensures.value ∙ c.loop-place.invariant.path) c.loop-place.invariant.path c.loop-place.invariant.along c.in-Some.is (sym c.next.ensures ∙ c.in-Some-next.is) c.in_ok-more.ensures.ok c.in_ok-open.ensures.ok (c.in_ok-ids.ensures ∙ ap (union c.loop-place.ids.items) c.as_slice-in-Some.ensures.value) pl).1
+
+pub list_in-loop-place-preserved : goal.list_in-loop-place-preserved
+list_in-loop-place-preserved g t c =
+    let pl : c.match-next-2.place ≡ after c.in-Some-next.next = elim c.match-next-2.branch [ list_in-in-Tail w ↦ w.place-is ∙ sym (ap after w.in-Tail.is) | list_in-in-Elem w ↦ w.place-is ∙ sym (ap after w.in-Elem.is) ] in
+    record {
+      along = (along_on _ _ _ _ _ _ _ _ _ _ _ _ _ _ _ _ _ _ c.requires.there (c.as_slice.ensures.value ∙ c.loop-place.invariant.path) c.loop-place.invariant.path c.loop-place.invariant.along c.in-Some.is (sym c.next.ensures ∙ c.in-Some-next.is) c.in_ok-more.ensures.ok c.in_ok-open.ensures.ok (c.in_ok-ids.ensures ∙ ap (union c.loop-place.ids.items) c.as_slice-in-Some.ensures.value) pl).0;
+      path = c.in_ok-more.ensures.path ∙ c.loop-place.invariant.path;
+      kept = then _ _ _ _ _ _ c.loop-place.invariant.kept (then _ _ _ _ _ _ (rule_opened _ _ _ _ R.ClearList2 refl c.in_ok-open.ensures.ok) c.in_ok-more.ensures.kept);
+    }
+
+pub list_in-returns-clause-ok : goal.list_in-returns-clause-ok
+list_in-returns-clause-ok g t c =
+    let h : c.loop-place.place ≡ None = search rules in
+    last_along _ _ _ _ _ _ _ _ _ c.requires.there c.loop-place.invariant.along h (c.close.ensures ∙ ap (λ (n : ℕ). at_depth n c.push.new.self) c.depth-depth.ensures ∙ ap (λ (r : Rows). at_depth c.args.trace.now.depth r) c.in_ok-push.ensures.ok)
+
+pub map_in-loop-key-init : goal.map_in-loop-key-init
+map_in-loop-key-init g t c =
+    record { through = first_through _ _ _ _ _ _ c.requires.there refl c.new-ids.ensures.items; path = refl; kept = nothing _ _ _ _ refl refl }
+
+pub map_in-key_after-requires : goal.map_in-key_after-requires
+map_in-key_after-requires g t c =
+    (after_through _ _ _ _ _ _ _ _ _ c.requires.there (c.as_slice.ensures.value ∙ c.loop-key.invariant.path) c.loop-key.invariant.through).there
+
+pub map_in-elem_in-requires : goal.map_in-elem_in-requires
+map_in-elem_in-requires g t c =
+    let x = after_through _ _ _ _ _ _ _ _ _ c.requires.there c.loop-key.invariant.path c.loop-key.invariant.through in
+    λ κs h. (omega (arith, x.nested), (h, (x.there, x.below c.requires.chained)))
+
+pub map_in-united-requires : goal.map_in-united-requires
+map_in-united-requires g t c = c.loop-key.invariant.through.turn.rises
+
+pub map_in-loop-key-smaller : goal.map_in-loop-key-smaller
+map_in-loop-key-smaller g t c =
+    let ks = keys (here c.as_slice.result.now (g.S.TreeStore.tree c.loop-key.store)) in
+    let n : least_after c.loop-key.last ks ≡ Some c.in_ok-key.key = ap (λ (o : Option Key). least_after o ks) (sym c.as_ref.ensures.value) ∙ sym c.in-Some.ensures ∙ ap Some (sym c.in_ok-key.ensures) in
+    (through_on _ _ _ _ _ _ _ _ _ _ _ _ _ _ _ _ _ c.requires.there (c.as_slice.ensures.value ∙ c.loop-key.invariant.path) c.loop-key.invariant.path c.loop-key.invariant.through n c.in_ok-more.ensures.ok c.in_ok-open.ensures.ok (c.in_ok-ids.ensures ∙ ap (union c.loop-key.ids.items) c.as_slice-in-Some.ensures.value) refl).1
+
+pub map_in-loop-key-preserved : goal.map_in-loop-key-preserved
+map_in-loop-key-preserved g t c =
+    let ks = keys (here c.as_slice.result.now (g.S.TreeStore.tree c.loop-key.store)) in
+    let n : least_after c.loop-key.last ks ≡ Some c.in_ok-key.key = ap (λ (o : Option Key). least_after o ks) (sym c.as_ref.ensures.value) ∙ sym c.in-Some.ensures ∙ ap Some (sym c.in_ok-key.ensures) in
+    record {
+      through = (through_on _ _ _ _ _ _ _ _ _ _ _ _ _ _ _ _ _ c.requires.there (c.as_slice.ensures.value ∙ c.loop-key.invariant.path) c.loop-key.invariant.path c.loop-key.invariant.through n c.in_ok-more.ensures.ok c.in_ok-open.ensures.ok (c.in_ok-ids.ensures ∙ ap (union c.loop-key.ids.items) c.as_slice-in-Some.ensures.value) refl).0;
+      path = c.in_ok-more.ensures.path ∙ c.loop-key.invariant.path;
+      kept = then _ _ _ _ _ _ c.loop-key.invariant.kept (then _ _ _ _ _ _ (rule_opened _ _ _ _ R.ClearMap2 refl c.in_ok-open.ensures.ok) c.in_ok-more.ensures.kept);
+    }
+
+pub map_in-returns-clause-ok : goal.map_in-returns-clause-ok
+map_in-returns-clause-ok g t c =
+    let ks = keys (here c.as_slice.result.now (g.S.TreeStore.tree c.loop-key.store)) in
+    let n : least_after c.loop-key.last ks ≡ None = ap (λ (o : Option Key). least_after o ks) (sym c.as_ref.ensures.value) ∙ sym c.in_default.ensures in
+    last_through _ _ _ _ _ _ _ _ _ _ c.requires.there (c.as_slice.ensures.value ∙ c.loop-key.invariant.path) c.loop-key.invariant.through n (c.close.ensures ∙ ap (λ (n : ℕ). at_depth n c.push.new.self) c.depth-depth.ensures ∙ ap (λ (r : Rows). at_depth c.args.trace.now.depth r) c.in_ok-push.ensures.ok)
+
+pub any_in-returns-in_err-open-clause-kept : goal.any_in-returns-in_err-open-clause-kept
+any_in-returns-in_err-open-clause-kept g t c = nothing _ _ _ _ refl c.in_err-open.ensures.err
+
+pub any_in-returns-in_err-maps-clause-kept : goal.any_in-returns-in_err-maps-clause-kept
+any_in-returns-in_err-maps-clause-kept g t c = then _ _ _ _ _ _ (rule_opened _ _ _ _ R.ClearAny refl c.in_ok-open.ensures.ok) c.in_err-maps.ensures.kept
+
+pub any_in-returns-in_err-lists-clause-kept : goal.any_in-returns-in_err-lists-clause-kept
+any_in-returns-in_err-lists-clause-kept g t c = then _ _ _ _ _ _ (rule_opened _ _ _ _ R.ClearAny refl c.in_ok-open.ensures.ok) (then _ _ _ _ _ _ c.in_ok-maps.ensures.kept c.in_err-lists.ensures.kept)
+
+pub any_in-returns-in_err-values-clause-kept : goal.any_in-returns-in_err-values-clause-kept
+any_in-returns-in_err-values-clause-kept g t c = then _ _ _ _ _ _ (rule_opened _ _ _ _ R.ClearAny refl c.in_ok-open.ensures.ok) (then _ _ _ _ _ _ c.in_ok-maps.ensures.kept (then _ _ _ _ _ _ c.in_ok-lists.ensures.kept c.in_err-values.ensures.kept))
+
+pub any_in-returns-in_err-rest-clause-kept : goal.any_in-returns-in_err-rest-clause-kept
+any_in-returns-in_err-rest-clause-kept g t c = then _ _ _ _ _ _ (rule_opened _ _ _ _ R.ClearAny refl c.in_ok-open.ensures.ok) (then _ _ _ _ _ _ c.in_ok-maps.ensures.kept (then _ _ _ _ _ _ c.in_ok-lists.ensures.kept c.in_ok-values.ensures.kept))
+
+pub any_in-returns-in_err-ids-clause-kept : goal.any_in-returns-in_err-ids-clause-kept
+any_in-returns-in_err-ids-clause-kept g t c = then _ _ _ _ _ _ (rule_opened _ _ _ _ R.ClearAny refl c.in_ok-open.ensures.ok) (then _ _ _ _ _ _ c.in_ok-maps.ensures.kept (then _ _ _ _ _ _ c.in_ok-lists.ensures.kept c.in_ok-values.ensures.kept))
+
+pub elem_in-returns-in_err-open-clause-kept : goal.elem_in-returns-in_err-open-clause-kept
+elem_in-returns-in_err-open-clause-kept g t c = nothing _ _ _ _ refl c.in_err-open.ensures.err
+
+pub elem_in-returns-in_err-below-clause-kept : goal.elem_in-returns-in_err-below-clause-kept
+elem_in-returns-in_err-below-clause-kept g t c = then _ _ _ _ _ _ (rule_opened _ _ _ _ R.ClearElem refl c.in_ok-open.ensures.ok) c.in_err-below.ensures.kept
+
+pub elem_in-returns-in_err-present-clause-kept : goal.elem_in-returns-in_err-present-clause-kept
+elem_in-returns-in_err-present-clause-kept g t c = then _ _ _ _ _ _ (rule_opened _ _ _ _ R.ClearElem refl c.in_ok-open.ensures.ok) (then _ _ _ _ _ _ c.in_ok-below.ensures.kept (rows_added _ _ _ _ refl c.in_err-present.ensures.kept))
+
+pub elem_in-returns-in_err-all-clause-kept : goal.elem_in-returns-in_err-all-clause-kept
+elem_in-returns-in_err-all-clause-kept g t c = then _ _ _ _ _ _ (rule_opened _ _ _ _ R.ClearElem refl c.in_ok-open.ensures.ok) (then _ _ _ _ _ _ c.in_ok-below.ensures.kept (rows_added _ _ _ _ refl c.in_ok-present.ensures.kept))
+
+pub elem_in-returns-in_err-ids-clause-kept : goal.elem_in-returns-in_err-ids-clause-kept
+elem_in-returns-in_err-ids-clause-kept g t c = then _ _ _ _ _ _ (rule_opened _ _ _ _ R.ClearElem refl c.in_ok-open.ensures.ok) (then _ _ _ _ _ _ c.in_ok-below.ensures.kept (rows_added _ _ _ _ refl c.in_ok-present.ensures.kept))
+
+pub elem_in-returns-in_err-set_presence-clause-kept : goal.elem_in-returns-in_err-set_presence-clause-kept
+elem_in-returns-in_err-set_presence-clause-kept g t c = then _ _ _ _ _ _ (rule_opened _ _ _ _ R.ClearElem refl c.in_ok-open.ensures.ok) (then _ _ _ _ _ _ c.in_ok-below.ensures.kept (then _ _ _ _ _ _ (rows_added _ _ _ _ refl c.in_ok-present.ensures.kept) (nothing _ _ _ _ c.in_err-set_presence.ensures.err refl)))
+
+pub clear_map-returns-in_err-copy-clause-kept : goal.clear_map-returns-in_err-copy-clause-kept
+clear_map-returns-in_err-copy-clause-kept g t c = nothing _ _ _ _ refl refl
+
+pub clear_map-returns-in_err-push-clause-kept : goal.clear_map-returns-in_err-push-clause-kept
+clear_map-returns-in_err-push-clause-kept g t c = nothing _ _ _ _ refl c.in_err-push.ensures.err
+
+pub clear_map-returns-then-not-has-clause-kept : goal.clear_map-returns-then-not-has-clause-kept
+clear_map-returns-then-not-has-clause-kept g t c = rule_added _ _ _ _ R.ClearNone refl c.in_ok-push.ensures.ok
+
+pub clear_map-returns-in_err-open-clause-kept : goal.clear_map-returns-in_err-open-clause-kept
+clear_map-returns-in_err-open-clause-kept g t c = nothing _ _ _ _ refl c.in_err-open.ensures.err
+
+pub clear_map-returns-in_err-push-2-clause-kept : goal.clear_map-returns-in_err-push-2-clause-kept
+clear_map-returns-in_err-push-2-clause-kept g t c = rule_opened _ _ _ _ R.ClearMap1 refl c.in_ok-open.ensures.ok
+
+pub clear_map-returns-in_err-ids-clause-kept : goal.clear_map-returns-in_err-ids-clause-kept
+clear_map-returns-in_err-ids-clause-kept g t c = then _ _ _ _ _ _ (rule_opened _ _ _ _ R.ClearMap1 refl c.in_ok-open.ensures.ok) c.in_err-ids.ensures.kept
+
+pub clear_map-returns-clause-kept : goal.clear_map-returns-clause-kept
+clear_map-returns-clause-kept g t c = then _ _ _ _ _ _ (rule_opened _ _ _ _ R.ClearMap1 refl c.in_ok-open.ensures.ok) (then _ _ _ _ _ _ c.in_ok-ids.ensures.kept (depth_changed _ _ _ _ _ refl c.close.ensures))
+
+pub clear_list-returns-in_err-copy-clause-kept : goal.clear_list-returns-in_err-copy-clause-kept
+clear_list-returns-in_err-copy-clause-kept g t c = nothing _ _ _ _ refl refl
+
+pub clear_list-returns-in_err-push-clause-kept : goal.clear_list-returns-in_err-push-clause-kept
+clear_list-returns-in_err-push-clause-kept g t c = nothing _ _ _ _ refl c.in_err-push.ensures.err
+
+pub clear_list-returns-then-not-has-clause-kept : goal.clear_list-returns-then-not-has-clause-kept
+clear_list-returns-then-not-has-clause-kept g t c = rule_added _ _ _ _ R.ClearNone refl c.in_ok-push.ensures.ok
+
+pub clear_list-returns-in_err-open-clause-kept : goal.clear_list-returns-in_err-open-clause-kept
+clear_list-returns-in_err-open-clause-kept g t c = nothing _ _ _ _ refl c.in_err-open.ensures.err
+
+pub clear_list-returns-in_err-push-2-clause-kept : goal.clear_list-returns-in_err-push-2-clause-kept
+clear_list-returns-in_err-push-2-clause-kept g t c = rule_opened _ _ _ _ R.ClearList1 refl c.in_ok-open.ensures.ok
+
+pub clear_list-returns-in_err-ids-clause-kept : goal.clear_list-returns-in_err-ids-clause-kept
+clear_list-returns-in_err-ids-clause-kept g t c = then _ _ _ _ _ _ (rule_opened _ _ _ _ R.ClearList1 refl c.in_ok-open.ensures.ok) c.in_err-ids.ensures.kept
+
+pub clear_list-returns-clause-kept : goal.clear_list-returns-clause-kept
+clear_list-returns-clause-kept g t c = then _ _ _ _ _ _ (rule_opened _ _ _ _ R.ClearList1 refl c.in_ok-open.ensures.ok) (then _ _ _ _ _ _ c.in_ok-ids.ensures.kept (depth_changed _ _ _ _ _ refl c.close.ensures))
+
+pub list_in-returns-in_err-open-clause-kept : goal.list_in-returns-in_err-open-clause-kept
+list_in-returns-in_err-open-clause-kept g t c = then _ _ _ _ _ _ c.loop-place.invariant.kept (nothing _ _ _ _ refl c.in_err-open.ensures.err)
+
+pub list_in-returns-in_err-more-clause-kept : goal.list_in-returns-in_err-more-clause-kept
+list_in-returns-in_err-more-clause-kept g t c = then _ _ _ _ _ _ c.loop-place.invariant.kept (then _ _ _ _ _ _ (rule_opened _ _ _ _ R.ClearList2 refl c.in_ok-open.ensures.ok) c.in_err-more.ensures.kept)
+
+pub list_in-returns-in_err-ids-clause-kept : goal.list_in-returns-in_err-ids-clause-kept
+list_in-returns-in_err-ids-clause-kept g t c = then _ _ _ _ _ _ c.loop-place.invariant.kept (then _ _ _ _ _ _ (rule_opened _ _ _ _ R.ClearList2 refl c.in_ok-open.ensures.ok) c.in_ok-more.ensures.kept)
+
+pub list_in-returns-in_err-push-clause-kept : goal.list_in-returns-in_err-push-clause-kept
+list_in-returns-in_err-push-clause-kept g t c = then _ _ _ _ _ _ c.loop-place.invariant.kept (nothing _ _ _ _ refl c.in_err-push.ensures.err)
+
+pub list_in-returns-clause-kept : goal.list_in-returns-clause-kept
+list_in-returns-clause-kept g t c = then _ _ _ _ _ _ c.loop-place.invariant.kept (then _ _ _ _ _ _ (rule_added _ _ _ _ R.ClearList3 refl c.in_ok-push.ensures.ok) (depth_changed _ _ _ _ _ refl c.close.ensures))
+
+pub map_in-returns-in_err-key-clause-kept : goal.map_in-returns-in_err-key-clause-kept
+map_in-returns-in_err-key-clause-kept g t c = c.loop-key.invariant.kept
+
+pub map_in-returns-in_err-open-clause-kept : goal.map_in-returns-in_err-open-clause-kept
+map_in-returns-in_err-open-clause-kept g t c = then _ _ _ _ _ _ c.loop-key.invariant.kept (nothing _ _ _ _ refl c.in_err-open.ensures.err)
+
+pub map_in-returns-in_err-more-clause-kept : goal.map_in-returns-in_err-more-clause-kept
+map_in-returns-in_err-more-clause-kept g t c = then _ _ _ _ _ _ c.loop-key.invariant.kept (then _ _ _ _ _ _ (rule_opened _ _ _ _ R.ClearMap2 refl c.in_ok-open.ensures.ok) c.in_err-more.ensures.kept)
+
+pub map_in-returns-in_err-ids-clause-kept : goal.map_in-returns-in_err-ids-clause-kept
+map_in-returns-in_err-ids-clause-kept g t c = then _ _ _ _ _ _ c.loop-key.invariant.kept (then _ _ _ _ _ _ (rule_opened _ _ _ _ R.ClearMap2 refl c.in_ok-open.ensures.ok) c.in_ok-more.ensures.kept)
+
+pub map_in-returns-in_err-push-clause-kept : goal.map_in-returns-in_err-push-clause-kept
+map_in-returns-in_err-push-clause-kept g t c = then _ _ _ _ _ _ c.loop-key.invariant.kept (nothing _ _ _ _ refl c.in_err-push.ensures.err)
+
+pub map_in-returns-clause-kept : goal.map_in-returns-clause-kept
+map_in-returns-clause-kept g t c = then _ _ _ _ _ _ c.loop-key.invariant.kept (then _ _ _ _ _ _ (rule_added _ _ _ _ R.ClearMap3 refl c.in_ok-push.ensures.ok) (depth_changed _ _ _ _ _ refl c.close.ensures))
+
+pub elem_in-any_in-requires : goal.elem_in-any_in-requires
+elem_in-any_in-requires g t c = λ κs h. (omega arith, (h, (c.requires.there, c.requires.chained)))
+
+pub any_in-clear_map-requires : goal.any_in-clear_map-requires
+any_in-clear_map-requires g t c = λ κs h. (omega arith, (h, (c.requires.there, c.requires.chained)))
+
+pub clear_map-has-requires : goal.clear_map-has-requires
+clear_map-has-requires g t c = rw c.as_slice.ensures.value c.requires.there
+
+pub clear_map-close-requires : goal.clear_map-close-requires
+clear_map-close-requires g t c = omega (arith, c.depth-depth.ensures, ap (λ (r : Rows). r.depth) c.in_ok-open.ensures.ok, c.in_ok-ids.ensures.ok.derives.depth)
+
+pub clear_list-has-requires : goal.clear_list-has-requires
+clear_list-has-requires g t c = rw c.as_slice.ensures.value c.requires.there
+
+pub clear_list-close-requires : goal.clear_list-close-requires
+clear_list-close-requires g t c = omega (arith, c.depth-depth.ensures, ap (λ (r : Rows). r.depth) c.in_ok-open.ensures.ok, c.in_ok-ids.ensures.ok.derives.depth)
+
+pub any_in-close-requires : goal.any_in-close-requires
+any_in-close-requires g t c = omega (arith, c.depth-depth.ensures, ap (λ (r : Rows). r.depth) c.in_ok-open.ensures.ok, c.in_ok-maps.ensures.ok.derives.depth, c.in_ok-lists.ensures.ok.derives.depth, c.in_ok-values.ensures.ok.derives.depth)
+
+pub elem_in-close-requires : goal.elem_in-close-requires
+elem_in-close-requires g t c = omega (arith, c.depth-depth.ensures, ap (λ (r : Rows). r.depth) c.in_ok-open.ensures.ok, c.in_ok-below.ensures.ok.derives.depth, c.in_ok-present.ensures.ok.depth)
+
+pub list_in-close-requires : goal.list_in-close-requires
+list_in-close-requires g t c = omega (arith, c.depth-depth.ensures, ap (λ (r : Rows). r.depth) c.in_ok-push.ensures.ok, c.loop-place.invariant.along.turn.deeper)
+
+pub map_in-close-requires : goal.map_in-close-requires
+map_in-close-requires g t c = omega (arith, c.depth-depth.ensures, ap (λ (r : Rows). r.depth) c.in_ok-push.ensures.ok, c.loop-key.invariant.through.turn.deeper)
+
+pub list_in-loop-place-smaller-after-next-2 : goal.list_in-loop-place-smaller-after-next-2
+list_in-loop-place-smaller-after-next-2 g t c =
+    let pl : c.match-next-2.place ≡ after c.in-Some-next.next = elim c.match-next-2.branch [ list_in-in-Tail w ↦ w.place-is ∙ sym (ap after w.in-Tail.is) | list_in-in-Elem w ↦ w.place-is ∙ sym (ap after w.in-Elem.is) ] in
+    (along_on _ _ _ _ _ _ _ _ _ _ _ _ _ _ _ _ _ _ c.requires.there (c.as_slice.ensures.value ∙ c.loop-place.invariant.path) c.loop-place.invariant.path c.loop-place.invariant.along c.in-Some.is (sym c.next.ensures ∙ c.in-Some-next.is) c.in_ok-more.ensures.ok c.in_ok-open.ensures.ok (c.in_ok-ids.ensures ∙ ap (union c.loop-place.ids.items) c.as_slice-in-Some.ensures.value) pl).1
+
+pub list_in-loop-place-preserved-after-next-2 : goal.list_in-loop-place-preserved-after-next-2
+list_in-loop-place-preserved-after-next-2 g t c =
+    let pl : c.match-next-2.place ≡ after c.in-Some-next.next = elim c.match-next-2.branch [ list_in-in-Tail w ↦ w.place-is ∙ sym (ap after w.in-Tail.is) | list_in-in-Elem w ↦ w.place-is ∙ sym (ap after w.in-Elem.is) ] in
+    record {
+      along = (along_on _ _ _ _ _ _ _ _ _ _ _ _ _ _ _ _ _ _ c.requires.there (c.as_slice.ensures.value ∙ c.loop-place.invariant.path) c.loop-place.invariant.path c.loop-place.invariant.along c.in-Some.is (sym c.next.ensures ∙ c.in-Some-next.is) c.in_ok-more.ensures.ok c.in_ok-open.ensures.ok (c.in_ok-ids.ensures ∙ ap (union c.loop-place.ids.items) c.as_slice-in-Some.ensures.value) pl).0;
+      path = c.in_ok-more.ensures.path ∙ c.loop-place.invariant.path;
+      kept = then _ _ _ _ _ _ c.loop-place.invariant.kept (then _ _ _ _ _ _ (rule_opened _ _ _ _ R.ClearList2 refl c.in_ok-open.ensures.ok) c.in_ok-more.ensures.kept);
+    }

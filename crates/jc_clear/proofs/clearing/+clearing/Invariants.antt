@@ -1,0 +1,46 @@
+use Rattle.std.proofs.Common.{◌≡◌, ◌+◌, ◌*◌, length}
+use Rattle.jc_rules.specs.Context.{links}
+use Rattle.jc_tree.specs.Tree.{here}
+use Rattle.jc_tree.specs.Nested.{nested}
+use Rattle.jc_tree.specs.Kept.{Kept}
+use Rattle.jc_clear.proofs.Lists.{Along, steps}
+use Rattle.jc_clear.proofs.Maps.{Through, left_after}
+use Rattle.jc_clear.proofs.clearing.+clearing.Given as goal
+
+abbrev pub decreases-elem_in : goal.decreases-elem_in
+decreases-elem_in g l = 4 * nested (here l.at.now.items (g.S.TreeStore.tree l.store.now)) + 2
+
+abbrev pub decreases-any_in : goal.decreases-any_in
+decreases-any_in g l = 4 * nested (here l.at.now.items (g.S.TreeStore.tree l.store.now)) + 1
+
+abbrev pub decreases-clear_map : goal.decreases-clear_map
+decreases-clear_map g l = 4 * nested (here l.at.now.items (g.S.TreeStore.tree l.store.now))
+
+abbrev pub decreases-map_in : goal.decreases-map_in
+decreases-map_in g l = 4 * nested (here l.at.now.items (g.S.TreeStore.tree l.store.now)) + 3
+
+abbrev pub decreases-clear_list : goal.decreases-clear_list
+decreases-clear_list g l = 4 * nested (here l.at.now.items (g.S.TreeStore.tree l.store.now))
+
+abbrev pub decreases-list_in : goal.decreases-list_in
+decreases-list_in g l = 4 * nested (here l.at.now.items (g.S.TreeStore.tree l.store.now)) + 3
+
+abbrev pub invariant-map_in-loop-key : goal.invariant-map_in-loop-key
+invariant-map_in-loop-key g l = record {
+  through : Through l.deps l.initial.at.items (g.S.TreeStore.tree l.initial.store) l.initial.trace (g.S.TreeStore.tree l.store) l.last l.ids.items l.trace;
+  path : l.at.items ≡ l.initial.at.items;
+  kept : Kept (g.S.TreeStore.tree l.initial.store) (g.S.TreeStore.tree l.store) l.initial.trace l.trace;
+}
+
+abbrev pub decreases-map_in-loop-key : goal.decreases-map_in-loop-key
+decreases-map_in-loop-key g l = left_after l.last (here l.initial.at.items (g.S.TreeStore.tree l.initial.store))
+
+abbrev pub invariant-list_in-loop-place : goal.invariant-list_in-loop-place
+invariant-list_in-loop-place g l = record {
+  along : Along l.deps l.initial.at.items (g.S.TreeStore.tree l.initial.store) l.initial.trace (g.S.TreeStore.tree l.store) l.place l.ids.items l.trace;
+  path : l.at.items ≡ l.initial.at.items;
+  kept : Kept (g.S.TreeStore.tree l.initial.store) (g.S.TreeStore.tree l.store) l.initial.trace l.trace;
+}
+
+abbrev pub decreases-list_in-loop-place : goal.decreases-list_in-loop-place
+decreases-list_in-loop-place g l = steps l.place (length (links (here l.initial.at.items (g.S.TreeStore.tree l.initial.store)))) (here l.initial.at.items (g.S.TreeStore.tree l.initial.store))

@@ -1,0 +1,12 @@
+use Rattle.std.proofs.Common.{rules, ◌≡◌, sym}
+use Rattle.jc_clear.proofs.Rules.{presence_there, presence_absent}
+use Rattle.jc_clear.proofs.registers.presence_of.Goals as goal
+
+pub returns-in_ok-push-in-Some-clause-ok : goal.returns-in_ok-push-in-Some-clause-ok
+returns-in_ok-push-in-Some-clause-ok g c =
+    let e : c.in_ok-ids-in-Some.ids.items ≡ c.in-Some.ids.now = search rules in
+    presence_there _ _ c.in-Some.ids.now _ _ _ (sym c.in-Some.ensures) e c.in_ok-push-in-Some.ensures.ok
+
+pub returns-in_ok-push-in-None-clause-ok : goal.returns-in_ok-push-in-None-clause-ok
+returns-in_ok-push-in-None-clause-ok g c =
+    presence_absent _ _ _ _ _ (sym c.in-None.ensures) c.new.ensures.items c.in_ok-push-in-None.ensures.ok

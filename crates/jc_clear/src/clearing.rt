@@ -1,0 +1,299 @@
+//! Clearing what stands under a key, at every depth. Recursion follows paths; keys of maps and
+//! elements of lists are walked by loops.
+
+ghost use Rattle.std.specs.Prelude.{◌≡◌, [], Some, IfOk, OnOk, OnErr};
+ghost use Rattle.jc_rules.specs.declared.key.Key.TheVariants.{Head};
+ghost use Rattle.jc_rules.specs.declared.key.Tagged.TheVariants.{MapT, ListT};
+ghost use Rattle.jc_rules.specs.Derivation.{Clear, ClearAny, ClearElem, ClearList, ClearMap};
+ghost use Rattle.jc_rules.specs.Shape.{IsChained, IsChainedList};
+ghost use Rattle.jc_tree.specs.Kept.{Kept};
+ghost use Rattle.jc_tree.specs.Tree.{HasPlace, here};
+ghost use Rattle.jc_clear.specs.Bare.{AreChainedBelow};
+ghost use Rattle.jc_clear.specs.Clears.{Clears};
+
+use crate::registers::{clear_register, presence_of};
+use crate::sets::{left_out, united};
+use jc_rules::{Id, IdSet, Key, Next, Rule, Tagged, Trace};
+use jc_tree::TreeStore;
+use std::alloc::{AllocError, Global};
+
+/// Clears a key under each tag, and takes the dependencies out of its presence set.
+#[cycle(clearing)]
+fn elem_in<S: TreeStore>(
+    alloc: Global,
+    store: &mut S,
+    deps: &IdSet,
+    at: &mut Vec<Tagged>,
+    key: &Key,
+    trace: &mut Trace,
+) -> Result<Vec<Id>, AllocError>
+    requires there { HasPlace at.old.items (S.tree store.old) }
+    requires chained { AreChainedBelow (here at.old.items (S.tree store.old)) }
+    ensures ok { IfOk result (λ ids. Clears (λ c. ClearElem c deps.now key.now) at.old.items (S.tree store.old) (S.tree store.new) ids.items trace.old trace.new) }
+    ensures path { OnOk result (at.new.items ≡ at.old.items) }
+    ensures kept { Kept (S.tree store.old) (S.tree store.new) trace.old trace.new }
+{
+    let depth = trace.depth();
+    trace.open(Rule::ClearElem)?;
+    let below = any_in(alloc, store, deps, at, key, trace)?;
+    let present = presence_of(alloc, store, at.as_slice(), key, trace)?;
+    let all = united(below, present.as_slice())?;
+    let ids = left_out(alloc, all.as_slice(), deps)?;
+    store.set_presence(at.as_slice(), key, ids.as_slice())?;
+    trace.close(depth);
+    Ok(ids)
+}
+
+/// Clears a key under each tag.
+#[cycle(clearing)]
+fn any_in<S: TreeStore>(
+    alloc: Global,
+    store: &mut S,
+    deps: &IdSet,
+    at: &mut Vec<Tagged>,
+    key: &Key,
+    trace: &mut Trace,
+) -> Result<Vec<Id>, AllocError>
+    requires there { HasPlace at.old.items (S.tree store.old) }
+    requires chained { AreChainedBelow (here at.old.items (S.tree store.old)) }
+    ensures ok { IfOk result (λ ids. Clears (λ c. ClearAny c deps.now key.now) at.old.items (S.tree store.old) (S.tree store.new) ids.items trace.old trace.new) }
+    ensures path { OnOk result (at.new.items ≡ at.old.items) }
+    ensures kept { Kept (S.tree store.old) (S.tree store.new) trace.old trace.new }
+{
+    let depth = trace.depth();
+    trace.open(Rule::ClearAny)?;
+    let maps = clear_map(alloc, store, deps, at, key, trace)?;
+    let lists = clear_list(alloc, store, deps, at, key, trace)?;
+    let values = clear_register(alloc, store, deps, at.as_slice(), key, trace)?;
+    let rest = united(lists, values.as_slice())?;
+    let ids = united(maps, rest.as_slice())?;
+    trace.close(depth);
+    Ok(ids)
+}
+
+/// Clears a map.
+#[cycle(clearing)]
+fn clear_map<S: TreeStore>(
+    alloc: Global,
+    store: &mut S,
+    deps: &IdSet,
+    at: &mut Vec<Tagged>,
+    key: &Key,
+    trace: &mut Trace,
+) -> Result<Vec<Id>, AllocError>
+    requires there { HasPlace at.old.items (S.tree store.old) }
+    requires chained { AreChainedBelow (here at.old.items (S.tree store.old)) }
+    ensures ok { IfOk result (λ ids. Clears (λ c. Clear c deps.now (MapT key.now)) at.old.items (S.tree store.old) (S.tree store.new) ids.items trace.old trace.new) }
+    ensures path { OnOk result (at.new.items ≡ at.old.items) }
+    ensures kept { Kept (S.tree store.old) (S.tree store.new) trace.old trace.new }
+{
+    let tagged = Tagged::MapT(key.copy()?);
+    if !store.has(at.as_slice(), &tagged) {
+        trace.push(Rule::ClearNone)?;
+        return Ok(Vec::new(alloc));
+    }
+    let depth = trace.depth();
+    trace.open(Rule::ClearMap1)?;
+    at.push(tagged)?;
+    let ids = map_in(alloc, store, deps, at, trace)?;
+    at.pop();
+    trace.close(depth);
+    Ok(ids)
+}
+
+/// Clears the keys of a map, the least first.
+#[cycle(clearing)]
+fn map_in<S: TreeStore>(
+    alloc: Global,
+    store: &mut S,
+    deps: &IdSet,
+    at: &mut Vec<Tagged>,
+    trace: &mut Trace,
+) -> Result<Vec<Id>, AllocError>
+    requires there { HasPlace at.old.items (S.tree store.old) }
+    requires chained { AreChainedBelow (here at.old.items (S.tree store.old)) }
+    ensures ok { IfOk result (λ ids. Clears (λ c. ClearMap c deps.now []) at.old.items (S.tree store.old) (S.tree store.new) ids.items trace.old trace.new) }
+    ensures path { OnOk result (at.new.items ≡ at.old.items) }
+    ensures kept { Kept (S.tree store.old) (S.tree store.new) trace.old trace.new }
+{
+    let depth = trace.depth();
+    let mut ids = Vec::new(alloc);
+    let mut last = None;
+    while let Some(key) = store.key_after(at.as_slice(), last.as_ref()) {
+        let key = key.copy()?;
+        trace.open(Rule::ClearMap2)?;
+        let more = elem_in(alloc, store, deps, at, &key, trace)?;
+        ids = united(ids, more.as_slice())?;
+        last = Some(key);
+    }
+    trace.push(Rule::ClearMap3)?;
+    trace.close(depth);
+    Ok(ids)
+}
+
+/// Clears a list.
+#[cycle(clearing)]
+fn clear_list<S: TreeStore>(
+    alloc: Global,
+    store: &mut S,
+    deps: &IdSet,
+    at: &mut Vec<Tagged>,
+    key: &Key,
+    trace: &mut Trace,
+) -> Result<Vec<Id>, AllocError>
+    requires there { HasPlace at.old.items (S.tree store.old) }
+    requires chained { AreChainedBelow (here at.old.items (S.tree store.old)) }
+    ensures ok { IfOk result (λ ids. Clears (λ c. Clear c deps.now (ListT key.now)) at.old.items (S.tree store.old) (S.tree store.new) ids.items trace.old trace.new) }
+    ensures path { OnOk result (at.new.items ≡ at.old.items) }
+    ensures kept { Kept (S.tree store.old) (S.tree store.new) trace.old trace.new }
+{
+    let tagged = Tagged::ListT(key.copy()?);
+    if !store.has(at.as_slice(), &tagged) {
+        trace.push(Rule::ClearNone)?;
+        return Ok(Vec::new(alloc));
+    }
+    let depth = trace.depth();
+    trace.open(Rule::ClearList1)?;
+    at.push(tagged)?;
+    let ids = list_in(alloc, store, deps, at, trace)?;
+    at.pop();
+    trace.close(depth);
+    Ok(ids)
+}
+
+/// Clears the elements of a list, its head first.
+#[cycle(clearing)]
+fn list_in<S: TreeStore>(
+    alloc: Global,
+    store: &mut S,
+    deps: &IdSet,
+    at: &mut Vec<Tagged>,
+    trace: &mut Trace,
+) -> Result<Vec<Id>, AllocError>
+    requires there { HasPlace at.old.items (S.tree store.old) }
+    requires chained { IsChainedList (here at.old.items (S.tree store.old)) }
+    ensures ok { IfOk result (λ ids. Clears (λ c. ClearList c deps.now (Some Head)) at.old.items (S.tree store.old) (S.tree store.new) ids.items trace.old trace.new) }
+    ensures path { OnOk result (at.new.items ≡ at.old.items) }
+    ensures kept { Kept (S.tree store.old) (S.tree store.new) trace.old trace.new }
+{
+    let depth = trace.depth();
+    let mut ids = Vec::new(alloc);
+    let mut place = Some(Key::Head);
+    while let Some(key) = place {
+        let Some(next) = store.next(at.as_slice(), &key) else {
+            unreachable!();
+        };
+        trace.open(Rule::ClearList2)?;
+        let more = elem_in(alloc, store, deps, at, &key, trace)?;
+        ids = united(ids, more.as_slice())?;
+        place = match next {
+            Next::Tail => None,
+            Next::Elem(id) => Some(Key::Elem(id)),
+        };
+    }
+    trace.push(Rule::ClearList3)?;
+    trace.close(depth);
+    Ok(ids)
+}
+
+/// Clears what stands under a tagged key.
+fn tagged_in<S: TreeStore>(
+    alloc: Global,
+    store: &mut S,
+    deps: &IdSet,
+    at: &mut Vec<Tagged>,
+    key: &Tagged,
+    trace: &mut Trace,
+) -> Result<Vec<Id>, AllocError>
+    requires there { HasPlace at.old.items (S.tree store.old) }
+    requires chained { AreChainedBelow (here at.old.items (S.tree store.old)) }
+    ensures ok { IfOk result (λ ids. Clears (λ c. Clear c deps.now key.now) at.old.items (S.tree store.old) (S.tree store.new) ids.items trace.old trace.new) }
+    ensures kept { Kept (S.tree store.old) (S.tree store.new) trace.old trace.new }
+{
+    match key {
+        Tagged::MapT(key) => clear_map(alloc, store, deps, at, key, trace),
+        Tagged::ListT(key) => clear_list(alloc, store, deps, at, key, trace),
+        Tagged::RegT(key) => clear_register(alloc, store, deps, at.as_slice(), key, trace),
+    }
+}
+
+/// The same path once more.
+fn copied(alloc: Global, path: &[Tagged]) -> Result<Vec<Tagged>, AllocError>
+    ensures { IfOk result (λ v. v.items ≡ path.now) }
+{
+    let mut keys = Vec::new(alloc);
+    for key in path {
+        keys.push(key.copy()?)?;
+    }
+    Ok(keys)
+}
+
+/// Clears what stands under the tagged key in the context at the place: in registers the values go
+/// whose operation is in `deps`, and in the presence sets at or below it the identifiers that are.
+/// Gives the identifiers that are left in what was cleared, rising.
+///
+/// The rules are added to the trace at its depth. Tagged keys and links stay as they are. Only
+/// memory can be refused; store and trace are then as they were before.
+pub fn clear<S: TreeStore>(
+    alloc: Global,
+    store: &mut S,
+    deps: &IdSet,
+    at: &[Tagged],
+    key: &Tagged,
+    trace: &mut Trace,
+) -> Result<Vec<Id>, AllocError>
+    requires there { HasPlace at.now (S.tree store.old) }
+    requires chained { IsChained (S.tree store.old).now }
+    ensures ok { IfOk result (λ ids. Clears (λ c. Clear c deps.now key.now) at.now (S.tree store.old) (S.tree store.new) ids.items trace.old trace.new) }
+    ensures err_store { OnErr result (S.tree store.new ≡ S.tree store.old) }
+    ensures err_trace { OnErr result (trace.new ≡ trace.old) }
+    ensures kept { Kept (S.tree store.old) (S.tree store.new) trace.old trace.new }
+    ensures chained { IsChained (S.tree store.new).now }
+{
+    let mut path = copied(alloc, at)?;
+    let start = store.mark();
+    let first = trace.mark();
+    match tagged_in(alloc, store, deps, &mut path, key, trace) {
+        Ok(ids) => Ok(ids),
+        Err(refused) => {
+            store.undo_to(start);
+            trace.cut(first);
+            Err(refused)
+        }
+    }
+}
+
+/// Clears the key under each tag as [`clear`] does, and takes `deps` out of its presence set, which
+/// is then united with the identifiers that are left below; it is set even where it is empty.
+/// Gives that set, rising.
+///
+/// The rules are added to the trace at its depth. Tagged keys and links stay as they are. Only
+/// memory can be refused; store and trace are then as they were before.
+pub fn clear_elem<S: TreeStore>(
+    alloc: Global,
+    store: &mut S,
+    deps: &IdSet,
+    at: &[Tagged],
+    key: &Key,
+    trace: &mut Trace,
+) -> Result<Vec<Id>, AllocError>
+    requires there { HasPlace at.now (S.tree store.old) }
+    requires chained { IsChained (S.tree store.old).now }
+    ensures ok { IfOk result (λ ids. Clears (λ c. ClearElem c deps.now key.now) at.now (S.tree store.old) (S.tree store.new) ids.items trace.old trace.new) }
+    ensures err_store { OnErr result (S.tree store.new ≡ S.tree store.old) }
+    ensures err_trace { OnErr result (trace.new ≡ trace.old) }
+    ensures kept { Kept (S.tree store.old) (S.tree store.new) trace.old trace.new }
+    ensures chained { IsChained (S.tree store.new).now }
+{
+    let mut path = copied(alloc, at)?;
+    let start = store.mark();
+    let first = trace.mark();
+    match elem_in(alloc, store, deps, &mut path, key, trace) {
+        Ok(ids) => Ok(ids),
+        Err(refused) => {
+            store.undo_to(start);
+            trace.cut(first);
+            Err(refused)
+        }
+    }
+}

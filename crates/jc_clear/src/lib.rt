@@ -1,0 +1,11 @@
+//! The rules of clearing, over any store of a document's tree.
+#![tactic(auto)]
+
+mod clearing;
+mod registers;
+mod sets;
+
+pub use clearing::{clear, clear_elem};
+
+#[cfg(test)]
+mod tests;
