@@ -1,6 +1,7 @@
 -- What a scenario's text tells of its scenario.
 use Rattle.std.proofs.Common.{◌≡◌, ◌≢◌, ℕ, zero, suc, ◌<◌, ◌≤◌, ◌⊎◌, inl, inr, List, [], ◌∷◌, ◌++◌, length, take, map, Option, Some, None, Result, Ok, Err, IfSome, IfOk, All, refl, ap, sym, ◌∙◌, subst, arith}
 use Rattle.std.proofs.lemmas.Grind.{common_steps}
+use Rattle.std.proofs.lemmas.Option.{same_Some}
 use Rattle.jc_rules.specs.declared.operation.Event.{Event}
 use Rattle.jc_rules.specs.declared.operation.Event.TheVariants.{Exec}
 use Rattle.jc_rules.specs.declared.refusal.Refusal.{Refusal}
@@ -20,28 +21,25 @@ use Rattle.jc_rules.specs.Told.{IsFront}
 use Rattle.jc_app.specs.FirstCmd.{IsKeyPath, selectors, IsFirstCmd, AreFirstCmds}
 use Rattle.jc_app.specs.Ran.{Scenario, ReadsAs, Ran}
 
-some : {X : Type 0} (x y : X) → Some x ≡ Some y → x ≡ y
-some x y e = cc
-
 -- each fault that has a number has that of a refusal
 pub is_refusal : (fault : ScenarioFault) (n : ℕ) → number_of fault ≡ Some n → ((r : Refusal) → refusal_number r ≢ n) → ⊥
-is_refusal (S.BadByte place) n e h = h F.BadByte (some 1 n e)
-is_refusal (S.OpenString place) n e h = h F.OpenString (some 2 n e)
-is_refusal (S.BadEscape place) n e h = h F.BadEscape (some 3 n e)
-is_refusal (S.LoneSurrogate place) n e h = h F.LoneSurrogate (some 4 n e)
-is_refusal (S.BadNumber place) n e h = h F.BadNumber (some 5 n e)
-is_refusal (S.TextTooLong place) n e h = h F.TextTooLong (some 6 n e)
-is_refusal (S.Unexpected place) n e h = h F.Unexpected (some 7 n e)
-is_refusal (S.EndOfText place) n e h = h F.EndOfText (some 8 n e)
-is_refusal (S.IndexTooLarge place) n e h = h F.IndexTooLarge (some 9 n e)
-is_refusal (S.ReservedName place) n e h = h F.ReservedName (some 10 n e)
-is_refusal (S.TooManyCommands place) n e h = h F.TooManyCommands (some 11 n e)
-is_refusal (S.TooLongExpression place) n e h = h F.TooLongExpression (some 12 n e)
-is_refusal (S.NotUtf8 place) n e h = h F.NotUtf8 (some 13 n e)
-is_refusal (S.NoHeader place) n e h = h F.NoHeader (some 14 n e)
-is_refusal (S.NoReplica place) n e h = h F.NoReplica (some 16 n e)
-is_refusal (S.UnknownReplica place) n e h = h F.UnknownReplica (some 18 n e)
-is_refusal (S.TooManyEvents place) n e h = h F.TooManyEvents (some 19 n e)
+is_refusal (S.BadByte place) n e h = h F.BadByte (same_Some 1 n e)
+is_refusal (S.OpenString place) n e h = h F.OpenString (same_Some 2 n e)
+is_refusal (S.BadEscape place) n e h = h F.BadEscape (same_Some 3 n e)
+is_refusal (S.LoneSurrogate place) n e h = h F.LoneSurrogate (same_Some 4 n e)
+is_refusal (S.BadNumber place) n e h = h F.BadNumber (same_Some 5 n e)
+is_refusal (S.TextTooLong place) n e h = h F.TextTooLong (same_Some 6 n e)
+is_refusal (S.Unexpected place) n e h = h F.Unexpected (same_Some 7 n e)
+is_refusal (S.EndOfText place) n e h = h F.EndOfText (same_Some 8 n e)
+is_refusal (S.IndexTooLarge place) n e h = h F.IndexTooLarge (same_Some 9 n e)
+is_refusal (S.ReservedName place) n e h = h F.ReservedName (same_Some 10 n e)
+is_refusal (S.TooManyCommands place) n e h = h F.TooManyCommands (same_Some 11 n e)
+is_refusal (S.TooLongExpression place) n e h = h F.TooLongExpression (same_Some 12 n e)
+is_refusal (S.NotUtf8 place) n e h = h F.NotUtf8 (same_Some 13 n e)
+is_refusal (S.NoHeader place) n e h = h F.NoHeader (same_Some 14 n e)
+is_refusal (S.NoReplica place) n e h = h F.NoReplica (same_Some 16 n e)
+is_refusal (S.UnknownReplica place) n e h = h F.UnknownReplica (same_Some 18 n e)
+is_refusal (S.TooManyEvents place) n e h = h F.TooManyEvents (same_Some 19 n e)
 is_refusal S.Memory n e h = cc
 
 -- want of memory has no number

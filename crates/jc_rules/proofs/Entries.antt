@@ -6,6 +6,7 @@ use Rattle.std.specs.declared.cmp.Ordering.{Ordering}
 use Rattle.std.specs.declared.cmp.Ordering.TheVariants.{Less, Equal, Greater}
 use Rattle.std.specs.Cmp.{IsTotalOrder, tied_itself, eq_by_cmp_equiv}
 use Rattle.std.proofs.lemmas.Map.Lookups.{CmpEqualImpliesEq}
+use Rattle.std.proofs.lemmas.Option.{same_Some}
 use Rattle.jc_rules.specs.Entries.{IsRising, keys_of, if_found, find, replaced, placed, put}
 
 -- two choices that are not both made, in either order
@@ -18,9 +19,6 @@ swapped false q a b c h = refl
 repeated : {Y : Type 0} (p : Bool) (a b c : Y) → cond p a c ≡ cond p a (cond p b c)
 repeated true a b c = refl
 repeated false a b c = refl
-
-some : {X : Type 0} (x y : X) → Some x ≡ Some y → x ≡ y
-some x y e = cc
 
 module _ {K : Type 0} {R : K → K → Ordering} (total : IsTotalOrder R) (exact : CmpEqualImpliesEq R) where
   abbrev same : K → K → Bool
@@ -89,7 +87,7 @@ module _ {K : Type 0} {R : K → K → Ordering} (total : IsTotalOrder R) (exact
     replaced-same k x (e ∷ es) h = go (same k e.0) refl (λ i. replaced-same k x es i) h
       where
         go : (b : Bool) → same k e.0 ≡ b → (find R k es ≡ Some x → replaced R k x es ≡ es) → find R k (e ∷ es) ≡ Some x → replaced R k x (e ∷ es) ≡ e ∷ es
-        go true p ih g = let s : k ≡ e.0 = same-eq k e.0 p in let v : e.1 ≡ x = some e.1 x (rw p at g) in rw p (rw (s, ← v) refl)
+        go true p ih g = let s : k ≡ e.0 = same-eq k e.0 p in let v : e.1 ≡ x = same_Some e.1 x (rw p at g) in rw p (rw (s, ← v) refl)
         go false p ih g = rw p (ap (λ r. e ∷ r) (ih (rw p at g)))
 
     -- what is there, put again
@@ -194,5 +192,5 @@ module _ {K : Type 0} {R : K → K → Ordering} (total : IsTotalOrder R) (exact
     value-found P k x (e ∷ es) a h = go (same k e.0) refl (value-found P k x es a.1) h
       where
         go : (b : Bool) → same k e.0 ≡ b → (find R k es ≡ Some x → P x) → find R k (e ∷ es) ≡ Some x → P x
-        go true p ih g = rw (some e.1 x (rw p at g)) at a.0
+        go true p ih g = rw (same_Some e.1 x (rw p at g)) at a.0
         go false p ih g = ih (rw p at g)

@@ -1,6 +1,7 @@
 -- Where each rule and each refusal stands in the list of all, and what its name or number gives back.
 use Rattle.std.proofs.Common.{◌≡◌, ℕ, ◌<◌, List, [], ◌∷◌, get_or, refl, sym, ◌∙◌, ap, Option, Some, None, arith, ◌==◌, if◌then◌else◌}
 use Rattle.std.specs.Str.{bytes_eq}
+use Rattle.std.proofs.lemmas.Option.{same_Some}
 use Rattle.jc_rules.specs.RuleNames.{rule_name}
 use Rattle.jc_rules.specs.Refusals.{number_of}
 use Rattle.jc_rules.specs.declared.rule.Rule.{Rule}
@@ -447,11 +448,8 @@ numbered_back F.WriteFailed = refl
 numbered_back F.TooManyLines = refl
 numbered_back F.BadLine = refl
 
-some : {X : Type 0} (x y : X) → Some x ≡ Some y → x ≡ y
-some x y e = cc
-
 pub names_differ : (r s : Rule) → rule_name r ≡ rule_name s → r ≡ s
-names_differ r s e = some r s (sym (named_back r) ∙ (ap (λ n. rule_named n RULES) e ∙ named_back s))
+names_differ r s e = same_Some r s (sym (named_back r) ∙ (ap (λ n. rule_named n RULES) e ∙ named_back s))
 
 pub numbers_differ : (r s : Refusal) → number_of r ≡ number_of s → r ≡ s
-numbers_differ r s e = some r s (sym (numbered_back r) ∙ (ap (λ n. refusal_numbered n REFUSALS) e ∙ numbered_back s))
+numbers_differ r s e = same_Some r s (sym (numbered_back r) ∙ (ap (λ n. refusal_numbered n REFUSALS) e ∙ numbered_back s))

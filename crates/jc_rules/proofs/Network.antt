@@ -1,5 +1,6 @@
 -- An event has one step at most.
 use Rattle.std.proofs.Common.{◌≡◌, ℕ, List, [], ◌∷◌, Some, sym, ◌∙◌, ap, slice_set}
+use Rattle.std.proofs.lemmas.Option.{same_Some}
 use Rattle.jc_rules.specs.declared.operation.Event.{Event}
 use Rattle.jc_rules.specs.declared.rule.Rule.{Rule}
 use Rattle.jc_rules.specs.State.{State}
@@ -7,16 +8,13 @@ use Rattle.jc_rules.specs.Derivation.{Question, Occur, ToState, gives, asked, co
 use Rattle.jc_rules.specs.Step.{Step, After, replica_of}
 use Rattle.jc_rules.proofs.Determined.{same_derivation}
 
-some : {X : Type 0} (x y : X) → Some x ≡ Some y → x ≡ y
-some x y e = cc
-
 same_state : (q r : Question) (A B : State) → gives q (ToState A) ≡ gives r (ToState B) → A ≡ B
 same_state q r A B e = cc
 
 pub one_step : (network : List State) (event : Event) (new other : List State) (rows other_rows : List (Rule × ℕ)) → Step network event new rows → Step network event other other_rows → (new ≡ other) × (rows ≡ other_rows)
 one_step network event new other rows other_rows a b =
-    let before : a.before ≡ b.before = some a.before b.before (sym a.is_there ∙ b.is_there) in
-    let read : a.read ≡ b.read = some a.read b.read (sym a.reads ∙ b.reads) in
+    let before : a.before ≡ b.before = same_Some a.before b.before (sym a.is_there ∙ b.is_there) in
+    let read : a.read ≡ b.read = same_Some a.read b.read (sym a.reads ∙ b.reads) in
     let question : asked (conclusion a.derivation) ≡ asked (conclusion b.derivation) = ap asked a.concludes ∙ ((λ i. Occur (before i) event (read i)) ∙ sym (ap asked b.concludes)) in
     let one : a.derivation ≡ b.derivation = same_derivation a.derivation b.derivation a.holds b.holds question in
     let after : a.after ≡ b.after = same_state (Occur a.before event a.read) (Occur b.before event b.read) a.after b.after (sym a.concludes ∙ (ap conclusion one ∙ b.concludes)) in

@@ -4,6 +4,7 @@ use Rattle.std.specs.Prelude.{◌≡◌, ◌≢◌, ℕ, zero, suc, ◌+◌, ◌
 use Rattle.std.proofs.Common.{sym, ◌∙◌, ap, subst, arith, inl, inr}
 use Rattle.std.specs.declared.cmp.Ordering.{Ordering}
 use Rattle.std.specs.declared.cmp.Ordering.TheVariants.{Less}
+use Rattle.std.proofs.lemmas.Option.{same_Some}
 use Rattle.jc_rules.specs.declared.value.Value.{Value}
 use Rattle.jc_rules.specs.declared.id.Id.{Id}
 use Rattle.jc_rules.specs.declared.key.Key.{Key}
@@ -143,11 +144,11 @@ RefusedIn (suc n) q why = Stops (RefusedIn n) (tests_of q) why
 
 -- premises and their derivations
 
-first_is : (q : Question) (a : Answer) (js : List Judgement) (ps : Premises) → AllHold ps → conclusions ps ≡ gives q a ∷ js → IsAnswered q a
+pub first_is : (q : Question) (a : Answer) (js : List Judgement) (ps : Premises) → AllHold ps → conclusions ps ≡ gives q a ∷ js → IsAnswered q a
 first_is q a js none h e = cc
 first_is q a js (premise d ps) h e = record { derivation = d; holds = h.0; concludes = cc }
 
-second_is : (j : Judgement) (q : Question) (a : Answer) (js : List Judgement) (ps : Premises) → AllHold ps → conclusions ps ≡ j ∷ gives q a ∷ js → IsAnswered q a
+pub second_is : (j : Judgement) (q : Question) (a : Answer) (js : List Judgement) (ps : Premises) → AllHold ps → conclusions ps ≡ j ∷ gives q a ∷ js → IsAnswered q a
 second_is j q a js none h e = cc
 second_is j q a js (premise d ps) h e = first_is q a js ps h.1 (cc)
 
@@ -400,15 +401,12 @@ refused_has_none q why r d h e =
     let is : conclusion d ≡ gives q (answered (conclusion d)) = parts (conclusion d) ∙ ap (λ (p : Question). gives p (answered (conclusion d))) e in
     unrefused x.0 q (answered (conclusion d)) why (record { derivation = d; holds = h; concludes = is }) x.1
 
-some : {X : Type 0} (x y : X) → Some x ≡ Some y → x ≡ y
-some x y e = cc
-
 pub stuck_has_none : (network new : List State) (event : Event) (why : Cause) (rows : List (Rule × ℕ)) → IsStuck network event why → Step network event new rows → ⊥
 stuck_has_none network new event why rows (no_replica e) s = let f = s.is_there in cc
 stuck_has_none network new event why rows (no_sender e) s = let f = s.reads in cc
 stuck_has_none network new event why rows (refused {A = A} {read = read} e f r) s =
-    let before : s.before ≡ A = some s.before A (sym s.is_there ∙ e) in
-    let reads : s.read ≡ read = some s.read read (sym s.reads ∙ f) in
+    let before : s.before ≡ A = same_Some s.before A (sym s.is_there ∙ e) in
+    let reads : s.read ≡ read = same_Some s.read read (sym s.reads ∙ f) in
     refused_has_none (Occur A event read) why r s.derivation s.holds (ap asked s.concludes ∙ λ i. Occur (before i) event (reads i))
 
 pub one_stuck : (network : List State) (event : Event) (why other : Cause) → IsStuck network event why → IsStuck network event other → why ≡ other
@@ -421,6 +419,6 @@ one_stuck network event why other (no_sender e) (refused f g s) = cc
 one_stuck network event why other (refused e f r) (no_replica g) = cc
 one_stuck network event why other (refused e f r) (no_sender g) = cc
 one_stuck network event why other (refused {A = A} {read = read} e f r) (refused {A = B} {read = sent} g h s) =
-    let same : B ≡ A = some B A (sym g ∙ e) in
-    let reads : sent ≡ read = some sent read (sym h ∙ f) in
+    let same : B ≡ A = same_Some B A (sym g ∙ e) in
+    let reads : sent ≡ read = same_Some sent read (sym h ∙ f) in
     one_cause (Occur A event read) why other r (subst (λ (x : State × List Op). Refused (Occur x.0 event x.1) other) (λ i. (same i, reads i)) s)
