@@ -1,5 +1,5 @@
 pub mod FirstCmd
-pub mod Leads
+pub mod Ready
 pub mod Makes
 pub mod Replicas
 pub mod Single

@@ -6,6 +6,7 @@ ghost use Rattle.jc_rules.specs.declared.operation.Event.TheVariants.{Exec};
 ghost use Rattle.jc_rules.specs.State.{State, start};
 ghost use Rattle.jc_rules.specs.Step.{Step};
 ghost use Rattle.jc_app.specs.FirstCmd.{AreFirstCmds};
+ghost use Rattle.jc_app.specs.Ready.{IsReady};
 ghost use Rattle.jc_dump.specs.Dump.{dump_line};
 ghost use Rattle.jc_rules.specs.declared.refusal.Refusal.TheVariants.{NoCommand as ScriptEnded};
 ghost use Rattle.jc_rules.specs.Refused.{because, IsStuck};
@@ -23,14 +24,17 @@ pub trait Machine: Drop {
     /// The replica at its start.
     fn make(alloc: Global, script: Vec<Cmd>) -> Self
         requires { AreFirstCmds (map cmd_of script.items) }
-        ensures { state result ≡ start (map cmd_of script.items) };
+        ensures state { state result ≡ start (map cmd_of script.items) }
+        ensures ready { IsReady (state result) };
 
     /// Runs the next command, and gives its trace. Where no command is left, the event is stuck.
-    /// After a refusal the state is as it was.
+    /// After a refusal the state is as it was. What is asked of it, the start has and each event leaves.
     fn exec(&mut self, alloc: Global) -> Result<Trace, ExecFault>
+        requires { IsReady (state self.old) }
         ensures ok { IfOk result (λ trace. Step (state self.old ∷ []) (Exec 0) (state self.new ∷ []) trace.rows) }
         ensures stuck { result ≡ Err ExecFault.NoCommand → IsStuck (state self.old ∷ []) (Exec 0) (because ScriptEnded) }
-        ensures err { OnErr result (state self.new ≡ state self.old) };
+        ensures err { OnErr result (state self.new ≡ state self.old) }
+        ensures ready { IsReady (state self.new) };
 
     /// The dump line of the replica, which has this name.
     fn dump_text(&self, alloc: Global, name: &Text) -> Result<String, AllocError>

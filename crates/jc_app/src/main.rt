@@ -4,7 +4,6 @@
 mod cursor;
 mod machine;
 mod only;
-mod operations;
 mod replica;
 mod run;
 mod texts;

@@ -13,10 +13,11 @@ ghost use Rattle.jc_syntax.specs.Trees.{cmd_of};
 ghost use Rattle.jc_tree.specs.Tree.{IsLater};
 ghost use Rattle.jc_app.specs.FirstCmd.{AreFirstCmds, AreCounted};
 ghost use Rattle.jc_app.specs.Makes.{Makes};
+ghost use Rattle.jc_app.specs.Ready.{IsReady};
 ghost use Rattle.jc_app.specs.Single.{AreFirstCmds-single, AreCounted-single};
 
 use crate::cursor::cursor_of;
-use crate::operations::operate;
+use jc_apply::{ApplyFault, apply_op};
 use jc_rules::{Id, IdSet, Mutation, Op, Rule, Trace};
 use jc_syntax::Cmd;
 use jc_tree::TreeStore;
@@ -29,12 +30,6 @@ pub enum ExecFault {
     NoCommand,
     /// There was no memory.
     Memory,
-}
-
-impl From<AllocError> for ExecFault {
-    fn from(_error: AllocError) -> Self {
-        ExecFault::Memory
-    }
 }
 
 /// A replica with its script, the document in a store, and the operations that it made.
@@ -62,6 +57,7 @@ impl<S: TreeStore> Replica<S> {
         ensures state { state_of S.tree result ≡ start (cmds_of script.items) }
         ensures number { number_of result ≡ number }
         ensures earlier { (tree_of S.tree result).earlier ≡ [] }
+        ensures ready { IsReady (state_of S.tree result) }
     {
         Replica {
             number,
@@ -74,14 +70,17 @@ impl<S: TreeStore> Replica<S> {
     }
 
     /// Runs the next command, and gives the trace of its derivation. Where no command is left, the event
-    /// is refused. After a refusal the replica is as it was.
+    /// is refused. After a refusal the replica is as it was. What is asked of its state, [`Self::new`]
+    /// and each event leave.
     pub fn exec(&mut self, alloc: Global) -> Result<Trace, ExecFault>
+        requires { IsReady (state_of S.tree self.old) }
         ensures ok { IfOk result (λ trace. Derives (Occur (state_of S.tree self.old) (Exec (number_of self.old)) []) (ToState (state_of S.tree self.new)) no_rows trace) }
         ensures no_command { IsErrOf result ExecFault.NoCommand ↔ ((state_of S.tree self.old).left ≡ []) }
         ensures stuck { IsErrOf result ExecFault.NoCommand → Refused (Occur (state_of S.tree self.old) (Exec (number_of self.old)) []) (because ScriptEnded) }
         ensures refused_state { OnErr result (state_of S.tree self.new ≡ state_of S.tree self.old) }
         ensures refused_store { OnErr result (tree_of S.tree self.new ≡ tree_of S.tree self.old) }
         ensures earlier { OnOk result ((tree_of S.tree self.new).earlier ≡ []) }
+        ensures ready { IsReady (state_of S.tree self.new) }
         ensures number { number_of self.new ≡ number_of self.old }
     {
         if self.done == self.script.len() {
@@ -100,17 +99,24 @@ impl<S: TreeStore> Replica<S> {
     /// Runs the next command. After a refusal only the store may have changed, and only by later
     /// contents.
     fn run(&mut self, alloc: Global, trace: &mut Trace) -> Result<(), AllocError>
-        requires { self.old.done < length self.old.script.items }
+        requires left { self.old.done < length self.old.script.items }
+        requires ready { IsReady (state_of S.tree self.old) }
         ensures ok { OnOk result (Derives (Occur (state_of S.tree self.old) (Exec (number_of self.old)) []) (ToState (state_of S.tree self.new)) trace.old trace.new) }
         ensures refused { OnErr result (state_of S.tree self.new ≡ record (state_of S.tree self.old) { tree = (tree_of S.tree self.new).now }) }
         ensures later { IsLater (tree_of S.tree self.old) (tree_of S.tree self.new) }
+        ensures ready { OnOk result (IsReady (state_of S.tree self.new)) }
         ensures number { number_of self.new ≡ number_of self.old }
     {
         let depth = trace.depth();
         let op = self.make_op(alloc, trace)?;
         let mut ops = self.ops.copy()?;
         ops.insert(op.id)?;
-        operate(alloc, &mut self.store, &op, 0, trace)?;
+        match apply_op(alloc, &mut self.store, &op, trace) {
+            Ok(()) => {}
+            Err(ApplyFault::Memory) => return Err(AllocError),
+            // An assignment asks nothing of its place.
+            Err(ApplyFault::NotInList) => unreachable!(),
+        }
         trace.close(depth);
         self.queue.push(op)?;
         self.done += 1;

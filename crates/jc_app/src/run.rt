@@ -7,6 +7,7 @@ ghost use Rattle.jc_rules.specs.declared.refusal.Refusal.TheVariants.{NoCommand 
 ghost use Rattle.jc_rules.specs.declared.rule.Rule.{Rule};
 ghost use Rattle.jc_rules.specs.Step.{Step};
 ghost use Rattle.jc_rules.specs.Refused.{because, IsStuck};
+ghost use Rattle.jc_app.specs.Ready.{IsReady};
 ghost use Rattle.jc_app.specs.Texts.{block_text};
 ghost use Rattle.jc_app.specs.Runs.{Plays, at_script_end};
 ghost use Rattle.jc_app.specs.declared.run.RunFault.TheVariants.{Memory as NoMemory};
@@ -56,10 +57,12 @@ fn play_next<M: Machine, K: Sink>(
     machine: &mut M,
     out: &mut K,
 ) -> Result<bool, RunFault>
+    requires { IsReady (M.state machine.old) }
     ensures made { result ≡ Ok true → (rows : List (Rule × ℕ))
         × Step (M.state machine.old ∷ []) (Event.Exec 0) (M.state machine.new ∷ []) rows
         × Appends (K.taken out.old) (K.taken out.new) (block_text (name.now ∷ []) number (Event.Exec 0) rows) }
     ensures stuck { result ≡ Ok false → IsStuck (M.state machine.old ∷ []) (Event.Exec 0) (because ScriptEnded) }
+    ensures ready { IsReady (M.state machine.new) }
     ensures unchanged { result ≡ Ok false → (M.state machine.new ≡ M.state machine.old) × (K.taken out.new ≡ K.taken out.old) }
     ensures same { OnOk result (K.failures out.new ≡ K.failures out.old) }
     ensures memory { IsErrOf result RunFault.Memory → K.failures out.new ≡ K.failures out.old }
@@ -84,7 +87,8 @@ pub fn play<M: Machine, K: Sink>(
     schedule: &[Event],
     out: &mut K,
 ) -> Result<Option<Event>, RunFault>
-    requires { All (λ e. e ≡ Event.Exec 0) schedule.now }
+    requires events { All (λ e. e ≡ Event.Exec 0) schedule.now }
+    requires ready { IsReady (M.state machine.old) }
     ensures ok { IfOk result (λ stuck. (text : List ℕ)
         × Plays (name.now ∷ []) (M.state machine.old ∷ []) schedule.now (M.state machine.new ∷ []) (at_script_end stuck) text
         × Appends (K.taken out.old) (K.taken out.new) text) }

@@ -1,6 +1,6 @@
 //! The program's work, from bytes to printed lines.
 
-ghost use Rattle.std.specs.Prelude.{◌≡◌, ◌≢◌, ◌<◌, ℕ, List, [], ◌∷◌, length, map, string_bytes, Some, IfOk, OnOk, IsErrOf, IfSome, OnErr};
+ghost use Rattle.std.specs.Prelude.{◌≡◌, ◌≢◌, ◌<◌, ℕ, List, [], ◌∷◌, length, map, string_bytes, Some, None, IfOk, OnOk, IsErrOf, IfSome, OnErr};
 ghost use Rattle.std.specs.Io.KnownBytes.{Appends};
 ghost use Rattle.jc_syntax.specs.Trees.{cmd_of};
 ghost use Rattle.jc_parser.specs.declared.fault.ScenarioFault.TheVariants.{Memory as NoMemoryRead};
@@ -129,6 +129,7 @@ pub fn work_alone<M: Machine, R: AllocGlobal, I: Source, K: Sink, E: Sink>(
     out: &mut K,
     err: &mut E,
 ) -> Option<u8>
+    ensures answered { result ≢ None }
     ensures words { words.now ≢ [] → result ≡ Some 2 }
 
     // Without words: if nothing failed and memory was there, the run's text was written, and its

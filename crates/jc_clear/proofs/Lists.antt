@@ -1,5 +1,5 @@
 -- Clearing along a chain.
-use Rattle.std.proofs.Common.{◌≡◌, ◌≢◌, ℕ, zero, suc, ◌<◌, ◌≤◌, List, [], ◌∷◌, length, Option, Some, None, Bool, true, false, cond, refl, sym, ◌∙◌, ap, subst, arith}
+use Rattle.std.proofs.Common.{◌≡◌, ◌≢◌, ℕ, zero, suc, ◌+◌, ◌<◌, ◌≤◌, List, [], ◌∷◌, length, Option, Some, None, Bool, true, false, cond, Contains, refl, sym, ◌∙◌, ap, subst, arith}
 use Rattle.std.specs.List.{AllByRecursion}
 use Rattle.std.specs.Ordering.{eq_by_cmp}
 use Rattle.jc_rules.specs.declared.id.Id.{Id}
@@ -20,6 +20,7 @@ use Rattle.jc_rules.specs.Trace.{Rows, pushed, below, at_depth}
 use Rattle.jc_rules.proofs.Order.{keys_total, exact_keys}
 use Rattle.jc_rules.proofs.Entries.{same-eq}
 use Rattle.jc_tree.specs.Tree.{Tree, HasPlace, here}
+use Rattle.jc_tree.proofs.Linked.{key-found, some_next, each_linked}
 use Rattle.jc_clear.specs.Clears.{Clears}
 use Rattle.jc_clear.proofs.Bare.{links-same}
 use Rattle.jc_clear.proofs.Rules.{After}
@@ -65,13 +66,6 @@ no_more_keys : (ks : List Key) (es : List (Key × Next)) → AreDistinct ks → 
 no_more_keys [] es d h = omega arith
 no_more_keys (k ∷ ks) es d h = omega (arith, removed_lt k es h.0, no_more_keys ks (removed k es) d.1 (all_removed k ks es d.0 h.1))
 
-some_next : (x : Next) (o : Option Next) → o ≡ Some x → o ≢ None
-some_next x o e f = let g : None ≡ Some x = sym f ∙ e in cc
-
-each_linked : (c : Context) (k : Key) (is : List Id) → LeadsThrough c k is → AllByRecursion (λ j. find key_cmp j (links c) ≢ None) (k ∷ elements is)
-each_linked c k [] h = (some_next Tail _ h, tt)
-each_linked c k (i ∷ is) h = (some_next (To i) _ h.0, each_linked c (Elem i) is h.1)
-
 length-elements : (is : List Id) → length (elements is) ≡ length is
 length-elements [] = refl
 length-elements (i ∷ is) = ap suc (length-elements is)
@@ -113,6 +107,30 @@ leads_whole c h =
       fits = omega (arith, length-elements chain.0, no_more_keys (chain_of chain.0) (links c) chain.1.distinct (each_linked c Head chain.0 chain.1.leads));
     }
 
+-- the part of a chain from one of its keys on
+record Part (c : Context) (k : Key) (is : List Id) : Type 0 where
+  pub elements : List Id
+  pub leads : LeadsThrough c k elements
+  pub shorter : length elements ≤ length is
+
+part : (c : Context) (k j : Key) (is : List Id) → LeadsThrough c k is → Contains (k ∷ elements is) j → Part c j is
+part c k j is h (zero, lt, e) = let same : k ≡ j = e in record { elements = is; leads = subst (λ (i : Key). LeadsThrough c i is) same h; shorter = omega arith }
+part c k j [] h (suc n, lt, e) = absurd (omega (arith, lt))
+part c k j (i ∷ is) h (suc n, lt, e) =
+    let rest = part c (Elem i) j is h.1 (n, omega (arith, lt), e) in
+    record { elements = rest.elements; leads = rest.leads; shorter = omega (arith, rest.shorter) }
+
+-- from each key that is linked in a list
+pub leads_from : (c : Context) (k : Key) (x : Next) → IsChainedList c → next k c ≡ Some x → Leads c (Some k)
+leads_from c k x h e =
+    let chain = leads_head c h in
+    let from = part c Head k chain.0 chain.1.leads (key-found (Contains (chain_of chain.0)) k x (links c) chain.1.no_other e) in
+    record {
+      elements = from.elements;
+      leads = from.leads;
+      fits = omega (arith, from.shorter, length-elements chain.0, no_more_keys (chain_of chain.0) (links c) chain.1.distinct (each_linked c Head chain.0 chain.1.leads));
+    }
+
 pub leads_on : (c : Context) (k : Key) (x : Next) → Leads c (Some k) → next k c ≡ Some x → Leads c (after x) × (steps (after x) (length (links c)) c < steps (Some k) (length (links c)) c)
 leads_on c k x w e = go w.elements w.leads w.fits
   where
@@ -126,7 +144,8 @@ leads_on c k x w e = go w.elements w.leads w.fits
         let s : x ≡ To i = cc in
         rw s (record { elements = is; leads = h.1; fits = omega (arith, f) }, omega (arith, steps-is (length (links c)) c k (i ∷ is) h f, steps-is (length (links c)) c (Elem i) is h.1 (omega (arith, f))))
 
-leads_next : (c : Context) (k : Key) → Leads c (Some k) → next k c ≢ None
+-- a place from which the links lead to the end is linked
+pub leads_next : (c : Context) (k : Key) → Leads c (Some k) → next k c ≢ None
 leads_next c k w = go w.elements w.leads
   where
     go : (is : List Id) → LeadsThrough c k is → next k c ≢ None

@@ -6,6 +6,7 @@ mod registers;
 mod sets;
 
 pub use clearing::{clear, clear_elem};
+pub use registers::presence_of;
 
 #[cfg(test)]
 mod tests;

@@ -1,6 +1,6 @@
 //! Clearing a register, and reading a presence set.
 
-ghost use Rattle.std.specs.Prelude.{◌≡◌, IfOk};
+ghost use Rattle.std.specs.Prelude.{◌≡◌, IfOk, OnErr};
 ghost use Rattle.jc_rules.specs.declared.key.Tagged.TheVariants.{RegT};
 ghost use Rattle.jc_rules.specs.Ids.{AreRising};
 ghost use Rattle.jc_rules.specs.Derivation.{Presence, Clear, ToIds};
@@ -16,7 +16,11 @@ use jc_rules::{Id, IdSet, Key, Rule, Tagged, Trace, Value};
 use jc_tree::TreeStore;
 use std::alloc::{AllocError, Global};
 
-/// The presence set of a key, empty where there is none.
+/// Gives the presence set of the key in the context at the place, rising; the empty set where there
+/// is none.
+///
+/// The rule is added to the trace at its depth. Only memory can be refused; the trace is then as it
+/// was before.
 pub fn presence_of<S: TreeStore>(
     alloc: Global,
     store: &S,
@@ -26,6 +30,8 @@ pub fn presence_of<S: TreeStore>(
 ) -> Result<Vec<Id>, AllocError>
     requires { HasPlace at.now (S.tree store.now) }
     ensures ok { IfOk result (λ ids. Derives (Presence (here at.now (S.tree store.now)) key.now) (ToIds ids.items) trace.old trace.new) }
+    ensures rises { IfOk result (λ ids. AreRising ids.items) }
+    ensures err { OnErr result (trace.new ≡ trace.old) }
     ensures kept { IsLonger trace.old trace.new }
 {
     match store.presence(at, key) {

@@ -20,7 +20,7 @@ use Rattle.jc_rules.proofs.Entries.{same-self, same-eq, find-put}
 
 module _ {X : Type 0} where
   -- what goes for all keys goes for one that is found
-  key-found : (P : Key → Type 0) (k : Key) (x : X) (es : List (Key × X)) → AllByRecursion P (keys_of es) → find key_cmp k es ≡ Some x → P k
+  pub key-found : (P : Key → Type 0) (k : Key) (x : X) (es : List (Key × X)) → AllByRecursion P (keys_of es) → find key_cmp k es ≡ Some x → P k
   key-found P k x [] a e = cc
   key-found P k x (f ∷ es) a e = go (eq_by_cmp key_cmp k f.0) refl (key-found P k x es a.1) e
     where
@@ -64,7 +64,7 @@ module _ {X : Type 0} where
 
 -- ---- chains
 
-some_next : (x : Next) (o : Option Next) → o ≡ Some x → o ≢ None
+pub some_next : (x : Next) (o : Option Next) → o ≡ Some x → o ≢ None
 some_next x o e f = let g : None ≡ Some x = sym f ∙ e in cc
 
 -- each key that the links lead through has a link
@@ -153,8 +153,7 @@ module _ (place : Key) (i : Id) (n : Next) (c d : Context) (adds : Adds place i 
       let distinct = subst (λ (js : List Id). AreDistinct (chain_of js)) p.whole h.distinct in
       let differs = subst (λ (js : List Id). AllByRecursion (λ j. j ≢ Elem i) (chain_of js)) p.whole fresh in
       let no_other = subst (λ (js : List Id). AllByRecursion (λ k. Contains (chain_of js) k) (keys_of (links c))) p.whole h.no_other in
-      let keys = all_more (Contains (chain_of (p.front ++ p.rest))) (Contains (chain_of (p.front ++ i ∷ p.rest))) (keys_of (links c)) (λ k g. still_among i Head k p.front p.rest g) no_other in
-      (
+      let keys = all_more (Contains (chain_of (p.front ++ p.rest))) (Contains (chain_of (p.front ++ i ∷ p.rest))) (keys_of (links c)) (λ k g. still_among i Head k p.front p.rest g) no_other in (
         p.front ++ i ∷ p.rest,
         record {
           leads = leads_linked Head p.front p.rest e p.ends distinct differs leads;

@@ -14,11 +14,10 @@ returns-then-not-branch-clause-ok g c =
     let i = c.loop-event.event-index in
     let es = c.args.schedule.now in
     let inside : i < length es = omega arith in
-    let exec : get_or es i (Exec 0) ≡ Exec 0 = c.requires i (Exec 0) inside in
+    let exec : get_or es i (Exec 0) ≡ Exec 0 = c.requires.events i (Exec 0) inside in
     let stays = c.in_ok-play_next.ensures.unchanged (ap Ok c.if-not-branch.true) in
     let whole : es ≡ events_of so_far.0 ++ get_or es i (Exec 0) ∷ drop (i + 1) es = split_here es i so_far.0 (Exec 0) inside so_far.2 in
-    let stuck = stuck_here (g.M.Machine.state c.loop-event.machine) (g.M.Machine.state c.play_next.new.machine) (get_or es i (Exec 0)) _ stays.0 exec (c.in_ok-play_next.ensures.stuck (ap Ok c.if-not-branch.true)) in
-    (
+    let stuck = stuck_here (g.M.Machine.state c.loop-event.machine) (g.M.Machine.state c.play_next.new.machine) (get_or es i (Exec 0)) _ stays.0 exec (c.in_ok-play_next.ensures.stuck (ap Ok c.if-not-branch.true)) in (
       blocks_text (c.args.name.now ∷ []) 1 so_far.0,
       record { made = so_far.0; goes = rw stays.0 so_far.1; ends = (drop (i + 1) es, whole, stuck); shown = refl },
       rw stays.1 so_far.3,
@@ -31,7 +30,7 @@ loop-event-preserved g c =
     let es = c.args.schedule.now in
     let inside : i < length es = omega arith in
     let e = get_or es i (Exec 0) in
-    let exec : e ≡ Exec 0 = c.requires i (Exec 0) inside in
+    let exec : e ≡ Exec 0 = c.requires.events i (Exec 0) inside in
     let next = c.in_ok-play_next.ensures.made (ap Ok c.if-not-branch.false) in
     let rows = next.0 in
     let made = so_far.0 in
@@ -42,6 +41,7 @@ loop-event-preserved g c =
     let names = c.args.name.now ∷ [] in
     let step : Step (g.M.Machine.state c.loop-event.machine ∷ []) e (g.M.Machine.state c.play_next.new.machine ∷ []) rows = rw exec next.1 in
     record {
+      ready = c.in_ok-play_next.ensures.ready;
       counted = omega (arith, c.loop-event.invariant.counted);
       failures = c.in_ok-play_next.ensures.same ∙ c.loop-event.invariant.failures;
       made = (

@@ -15,8 +15,8 @@ use Rattle.jc_app.proofs.work.run_through.Goals as goal
 pub make-machine-requires : goal.make-machine-requires
 make-machine-requires g c = reads_commands c.requires.0 _ _ _ c.requires.1
 
-pub play-requires : goal.play-requires
-play-requires g c = rw c.deref.ensures.value (reads_events c.requires.0 _ _ _ c.requires.1)
+pub play-requires-clause-events : goal.play-requires-clause-events
+play-requires-clause-events g c = rw c.deref.ensures.value (reads_events c.requires.0 _ _ _ c.requires.1)
 
 -- what was written, if no event was stuck
 pub returns-in-None-clause-ok : goal.returns-in-None-clause-ok
@@ -27,7 +27,7 @@ returns-in-None-clause-ok g c =
     let dumped : Appends (g.K.Sink.taken c.play.new.out) (g.K.Sink.taken c.send.new.out) (dump_line (s.name ∷ []) s.name last) =
     subst (λ (t : List ℕ). Appends (g.K.Sink.taken c.play.new.out) (g.K.Sink.taken c.send.new.out) t) (c.as_str.ensures.value ∙ c.in_ok-dump.ensures) c.in_ok-send.ensures.ok in (
       played.0 ++ dump_line (s.name ∷ []) s.name last,
-      ran_to_end s _ last _ _ played.0 played.1 c.make-machine.ensures c.deref.ensures.value c.in-None.is,
+      ran_to_end s _ last _ _ played.0 played.1 c.make-machine.ensures.state c.deref.ensures.value c.in-None.is,
       Appends-trans _ _ _ _ _ played.2 dumped,
     )
 
@@ -42,6 +42,6 @@ returns-clause-ok g c =
     let told : Appends (g.K.Sink.taken c.send.new.out) (g.K.Sink.taken c.send-in-Some.new.out) (stuck_text (s.name ∷ []) (because NoCommand) (Exec 0)) =
     subst (λ (t : List ℕ). Appends (g.K.Sink.taken c.send.new.out) (g.K.Sink.taken c.send-in-Some.new.out) t) (c.as_str-in-Some.ensures.value ∙ c.in_ok-line-in-Some.ensures) c.in_ok-send-in-Some.ensures.ok in (
       played.0 ++ dump_line (s.name ∷ []) s.name last ++ stuck_text (s.name ∷ []) (because NoCommand) (Exec 0),
-      ran_to_stuck s _ last _ _ _ played.0 played.1 c.make-machine.ensures c.deref.ensures.value c.in-Some.is (reads_events c.requires.0 _ _ _ c.requires.1),
+      ran_to_stuck s _ last _ _ _ played.0 played.1 c.make-machine.ensures.state c.deref.ensures.value c.in-Some.is (reads_events c.requires.0 _ _ _ c.requires.1),
       Appends-trans _ _ _ _ _ (Appends-trans _ _ _ _ _ played.2 dumped) told,
     )

@@ -1,4 +1,5 @@
 use Rattle.std.proofs.Common.{rules, ◌≡◌, sym}
+use Rattle.jc_tree.proofs.Keeping.{presence_rises}
 use Rattle.jc_clear.proofs.Rules.{presence_there, presence_absent}
 use Rattle.jc_clear.proofs.registers.presence_of.Goals as goal
 
@@ -6,6 +7,11 @@ pub returns-in_ok-push-in-Some-clause-ok : goal.returns-in_ok-push-in-Some-claus
 returns-in_ok-push-in-Some-clause-ok g c =
     let e : c.in_ok-ids-in-Some.ids.items ≡ c.in-Some.ids.now = search rules in
     presence_there _ _ c.in-Some.ids.now _ _ _ (sym c.in-Some.ensures) e c.in_ok-push-in-Some.ensures.ok
+
+pub returns-in_ok-push-in-Some-clause-rises : goal.returns-in_ok-push-in-Some-clause-rises
+returns-in_ok-push-in-Some-clause-rises g c =
+    let e : c.in_ok-ids-in-Some.ids.items ≡ c.in-Some.ids.now = search rules in
+    presence_rises c.args.at.now c.args.key.now c.in-Some.ids.now _ (g.S.TreeStore.tree c.args.store.now).now (g.met.S.TreeStore.kept c.args.store.now) c.requires (sym c.in-Some.ensures) e
 
 pub returns-in_ok-push-in-None-clause-ok : goal.returns-in_ok-push-in-None-clause-ok
 returns-in_ok-push-in-None-clause-ok g c =

@@ -1,4 +1,4 @@
-use Rattle.std.proofs.Common.{ℕ, List, sym, ◌∙◌, ap, subst, arith}
+use Rattle.std.proofs.Common.{ℕ, List, Err, refl, sym, ◌∙◌, ap, subst, arith}
 use Rattle.jc_rules.specs.declared.id.Id.{Id}
 use Rattle.jc_rules.specs.declared.operation.Op.{Op}
 use Rattle.jc_rules.specs.Ids.{with_id, greatest}
@@ -6,14 +6,23 @@ use Rattle.jc_rules.specs.Trace.{at_depth}
 use Rattle.jc_app.specs.FirstCmd.{AreCounted}
 use Rattle.jc_app.specs.Replicas.{number_of, state_of}
 use Rattle.jc_app.proofs.Events.{executed, made_depth, counted_after, queued_after, queue_after, rest_is}
+use Rattle.jc_app.proofs.Ready.{made_fresh, made_fits, ready_after}
 use Rattle.jc_app.proofs.replica.Replica.run.Goals as goal
+
+pub apply_op-requires-clause-fresh : goal.apply_op-requires-clause-fresh
+apply_op-requires-clause-fresh g c =
+    made_fresh (state_of g.S.TreeStore.tree c.args.self.now) _ c.in_ok-op.op _ _ c.requires.ready c.in_ok-op.ensures.ok
+
+pub unreachable-requires : goal.unreachable-requires
+unreachable-requires g c =
+    c.in-Err-NotInList.ensures.unfit (ap Err c.in-Err-NotInList.field-0-is) (made_fits (state_of g.S.TreeStore.tree c.args.self.now) _ c.in_ok-op.op _ _ _ c.in_ok-op.ensures.ok)
 
 pub close-requires : goal.close-requires
 close-requires g c =
-    omega (arith, c.depth-depth.ensures, made_depth _ _ _ _ _ c.in_ok-op.ensures.ok, c.in_ok-operate.ensures.ok.derives.depth)
+    omega (arith, c.depth-depth.ensures, made_depth _ _ _ _ _ c.in_ok-op.ensures.ok, c.in-Ok.ensures.ok.depth)
 
-pub invariant_of-self-in-Break-branch-5 : goal.invariant_of-self-in-Break-branch-5
-invariant_of-self-in-Break-branch-5 g c =
+pub invariant_of-self-in-Break-branch-4 : goal.invariant_of-self-in-Break-branch-4
+invariant_of-self-in-Break-branch-4 g c =
     record {
       takes = c.args.self.now.takes;
       within = c.args.self.now.within;
@@ -26,7 +35,7 @@ invariant_of-self-2 g c =
     let ops = c.in_ok-insert.ensures.ok ∙ ap (λ (is : List Id). with_id c.in_ok-op.op.id is) c.in_ok-ops.ensures in
     record {
       takes = c.args.self.now.takes;
-      within = omega (arith, c.requires);
+      within = omega (arith, c.requires.left);
       counted = counted_after (state_of g.S.TreeStore.tree c.args.self.now) _ c.args.self.now.done _ _ _ _ c.in_ok-op.ensures.ok ops c.args.self.now.counted;
       queued = queued_after (state_of g.S.TreeStore.tree c.args.self.now) _ _ _ _ _ _ c.in_ok-op.ensures.ok ops c.in_ok-push.ensures.items c.args.self.now.queued;
     }
@@ -35,5 +44,8 @@ pub returns-clause-ok : goal.returns-clause-ok
 returns-clause-ok g c =
     let A = state_of g.S.TreeStore.tree c.args.self.now in
     let m = c.in_ok-op.ensures.ok in
-    let l = c.in_ok-operate.ensures.ok in
-    executed A (number_of c.args.self.now) c.in_ok-op.op _ l.after _ _ _ _ _ _ _ m l.derives (rest_is c.args.self.now.script.items c.args.self.now.done _ m.rest m.left) l.now (c.in_ok-insert.ensures.ok ∙ ap (λ (is : List Id). with_id c.in_ok-op.op.id is) c.in_ok-ops.ensures) (queue_after A _ _ _ _ _ m c.in_ok-push.ensures.items c.args.self.now.queued) (c.close.ensures ∙ ap (λ (n : ℕ). at_depth n c.operate.new.trace) c.depth-depth.ensures)
+    executed A (number_of c.args.self.now) c.in_ok-op.op _ _ _ _ _ _ _ _ _ m c.in-Ok.ensures.ok (rest_is c.args.self.now.script.items c.args.self.now.done _ m.rest m.left) refl (c.in_ok-insert.ensures.ok ∙ ap (λ (is : List Id). with_id c.in_ok-op.op.id is) c.in_ok-ops.ensures) (queue_after A _ _ _ _ _ m c.in_ok-push.ensures.items c.args.self.now.queued) (c.close.ensures ∙ ap (λ (n : ℕ). at_depth n c.apply_op.new.trace) c.depth-depth.ensures)
+
+pub returns-clause-ready : goal.returns-clause-ready
+returns-clause-ready g c =
+    ready_after (state_of g.S.TreeStore.tree c.args.self.now) _ c.in_ok-op.op c.requires.ready c.in-Ok.ensures.chained (c.in_ok-insert.ensures.ok ∙ ap (λ (is : List Id). with_id c.in_ok-op.op.id is) c.in_ok-ops.ensures) c.in-Ok.ensures.unlinked

@@ -1,5 +1,0 @@
-use Rattle.std.proofs.Common.{length, ◌-◌}
-use Rattle.jc_app.proofs.operations.+operate.Given as goal
-
-abbrev pub decreases-operate : goal.decreases-operate
-decreases-operate g l = length l.op.now.cursor.path - l.depth

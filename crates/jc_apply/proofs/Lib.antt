@@ -1,0 +1,9 @@
+pub mod Reaching
+pub mod Unanswered
+pub mod Putting
+pub mod Rules
+pub mod Unlinked
+pub mod Links
+pub mod Descending
+pub mod Below
+pub mod Passing

@@ -1,0 +1,155 @@
+-- The rules at one context.
+use Rattle.std.proofs.Common.{◌≡◌, ◌≢◌, List, [], Option, Some, None, Result, Ok, Err, OnOk, is_some, true, refl, sym, ◌∙◌, ap, subst}
+use Rattle.jc_rules.specs.declared.id.Id.{Id}
+use Rattle.jc_rules.specs.declared.key.Key.{Key}
+use Rattle.jc_rules.specs.declared.key.Tagged.{Tagged}
+use Rattle.jc_rules.specs.declared.key.Tagged.TheVariants.{MapT, ListT, RegT}
+use Rattle.jc_rules.specs.declared.operation.Mutation.{Mutation}
+use Rattle.jc_rules.specs.declared.operation.Mutation.TheVariants.{Assign, Delete}
+use Rattle.jc_rules.specs.declared.operation.Op.{Op}
+use Rattle.jc_rules.specs.declared.rule.Rule.{Rule}
+use Rattle.jc_rules.specs.declared.rule.Rule.TheVariants as R
+use Rattle.jc_rules.specs.declared.value.Value.{Value}
+use Rattle.jc_rules.specs.Order.{key_cmp, id_cmp}
+use Rattle.jc_rules.specs.Entries.{find, put}
+use Rattle.jc_rules.specs.Ids.{with_id}
+use Rattle.jc_rules.specs.Context.{Context, Content, Node, Values, Register, IsPrimitive, registers, maps, lists, node_of, values_of, content, with_content, new_content, with_presence, key_of, empty, empty_list}
+use Rattle.jc_rules.specs.Places.{with_node_at, node_in}
+use Rattle.jc_rules.specs.Derivation.{Question, Presence, AddId, Child, Clear, ClearElem, Operate, ToIds, ToContent, ToContext, Cleared}
+use Rattle.jc_rules.specs.Derives.{Derives}
+use Rattle.jc_rules.specs.Trace.{Rows, pushed, below, at_depth}
+use Rattle.jc_rules.specs.Table.{Follows, moved}
+use Rattle.jc_rules.proofs.Places.{there, with_node-same, with-same}
+use Rattle.jc_rules.proofs.Steps.{by_axiom, one_premise, three_premises}
+use Rattle.jc_tree.specs.Tree.{Tree, HasPlace, here, IsChanged}
+use Rattle.jc_clear.specs.Clears.{Clears}
+use Rattle.jc_tree.proofs.Places.{then_here, then_place, then_now}
+use Rattle.jc_apply.specs.Fits.{child_of, or_new, empty_of}
+use Rattle.jc_apply.specs.Leads.{Leads, Enters, AssignsEmpty, HasContext}
+
+pub register_there : (c : Context) (k : Key) (r pairs : Register) (t u : Rows) → find key_cmp k (registers c) ≡ Some r → pairs ≡ r → u ≡ pushed t R.ChildGet → Derives (Child c (RegT k)) (ToContent (Values pairs)) t u
+register_there c k r pairs t u h i e = rw (i, e) (by_axiom R.ChildGet _ _ t (Values r, ap values_of h, refl, refl))
+
+pub register_absent : (c : Context) (k : Key) (pairs : Register) (t u : Rows) → find key_cmp k (registers c) ≡ None → pairs ≡ [] → u ≡ pushed t R.ChildReg → Derives (Child c (RegT k)) (ToContent (Values pairs)) t u
+register_absent c k pairs t u h i e = rw (i, e) (by_axiom R.ChildReg _ _ t (ap values_of h, refl, refl))
+
+pub added : (at : List Tagged) (k : Tagged) (key : Key) (i : Id) (m : Mutation) (a b : Tree) (s s2 : List Id) (t o u w : Rows) → m ≢ Delete → key_of k ≡ key → o ≡ below (pushed t R.AddId1) → Derives (Presence (here at a) key) (ToIds s) o u → s2 ≡ with_id i s → IsChanged at (with_presence key s2 (here at a)) a b → w ≡ at_depth t.depth u → Leads (λ c. AddId c k i m) at a b t w
+added at k key i m a b s s2 t o u w ne ke oe d se z we =
+    let d2 = subst (λ (r : Rows). Derives (Presence (here at a) key) (ToIds s) r u) oe d in
+    let d3 = subst (λ (j : Key). Derives (Presence (here at a) j) (ToIds s) (below (pushed t R.AddId1)) u) (sym ke) d2 in
+    rw we (record {
+      after = with_presence (key_of k) (with_id i s) (here at a);
+      derives = one_premise R.AddId1 _ _ _ _ t u d3 (s, ne, refl, refl);
+      now = z.now ∙ rw (se, ke) refl;
+    })
+
+-- an assignment adds its identifier
+pub adds_assigned : {v : Value} → Assign v ≢ Delete
+adds_assigned e = cc
+
+-- a deletion adds nothing
+pub added_none : (at : List Tagged) (k : Tagged) (i : Id) (m : Mutation) (a b : Tree) (t u : Rows) → HasPlace at a → m ≡ Delete → u ≡ pushed t R.AddId2 → b ≡ a → Leads (λ c. AddId c k i m) at a b t u
+added_none at k i m a b t u p is e s =
+    rw (e, s) (record {
+      after = here at a;
+      derives = by_axiom R.AddId2 _ _ t (is, refl, refl);
+      now = sym (with_node-same at (here at a) a.now (there at a.now p));
+    })
+
+pub assigned : (at : List Tagged) (o : Op) (last : Key) (v : Value) (key : Tagged) (a b d e : Tree) (ids : List Id) (r new : Register) (t p u1 u2 u3 w : Rows) → HasPlace at a → IsPrimitive v → key ≡ RegT last → p ≡ below (pushed t R.Assign) → Clears (λ c. Clear c o.deps key) at a b ids p u1 → Leads (λ c. AddId c (RegT last) o.id (Assign v)) at b d u1 u2 → Derives (Child (here at d) (RegT last)) (ToContent (Values r)) u2 u3 → new ≡ put id_cmp o.id v r → IsChanged at (with_content (RegT last) (Values new) (here at d)) d e → w ≡ at_depth t.depth u3 → Leads (λ c. Operate c (moved o [] last (Assign v))) at a e t w
+assigned at o last v key a b d e ids r new t p u1 u2 u3 w h prim ke pe x1 y z ne s we =
+    let x = subst (λ (k : Tagged). Clears (λ c. Clear c o.deps k) at a b ids p u1) ke x1 in
+    let hb : here at b ≡ x.after = then_here at _ a b h x.now in
+    let pb : HasPlace at b = then_place at _ a b h x.now in
+    let hd : here at d ≡ y.after = then_here at _ b d pb y.now in
+    let dx = subst (λ (q : Rows). Derives (Clear (here at a) o.deps (RegT last)) (Cleared x.after ids) q u1) pe x.derives in
+    let dy = subst (λ (c : Context). Derives (AddId c (RegT last) o.id (Assign v)) (ToContext y.after) u1 u2) hb y.derives in
+    let dz = subst (λ (c : Context). Derives (Child c (RegT last)) (ToContent (Values r)) u2 u3) hd z in
+    rw we (record {
+      after = with_content (RegT last) (Values (put id_cmp o.id v r)) y.after;
+      derives = three_premises R.Assign _ _ _ (Cleared x.after ids) _ (ToContext y.after) _ (ToContent (Values r)) t u1 u2 u3 dx dy dz (v, x.after, ids, y.after, r, refl, refl, prim, refl, refl);
+      now = then_now at _ _ a d e (then_now at _ _ a b d x.now y.now) (s.now ∙ rw (hd, ne) refl);
+    })
+
+pub empties_map : (k : Tagged) (j : Key) → k ≡ MapT j → AssignsEmpty R.EmptyMap k
+empties_map k j e = rw e (λ o c c1 c2 ids x. (c1, ids, c2, x, refl, refl, refl, refl))
+
+pub empties_list : (k : Tagged) (j : Key) → k ≡ ListT j → AssignsEmpty R.EmptyList k
+empties_list k j e = rw e (λ o c c1 c2 ids x. (c1, ids, c2, x, refl, refl, refl, refl))
+
+pub emptied : (at : List Tagged) (o : Op) (k : Tagged) (j : Key) (rule : Rule) (a b d e : Tree) (ids : List Id) (t p u1 u2 u3 w : Rows) → HasPlace at a → AssignsEmpty rule k → j ≡ key_of k → p ≡ below (pushed t rule) → Clears (λ c. ClearElem c o.deps j) at a b ids p u1 → Leads (λ c. AddId c k o.id (Assign (empty_of k))) at b d u1 u2 → Enters k at d e u2 u3 → w ≡ at_depth t.depth u3 → Leads (λ c. Operate c (moved o [] (key_of k) (Assign (empty_of k)))) at a e t w
+emptied at o k j rule a b d e ids t p u1 u2 u3 w h rules je pe x1 y z we =
+    let x = subst (λ (i : Key). Clears (λ c. ClearElem c o.deps i) at a b ids p u1) je x1 in
+    let hb : here at b ≡ x.after = then_here at _ a b h x.now in
+    let pb : HasPlace at b = then_place at _ a b h x.now in
+    let hd : here at d ≡ y.after = then_here at _ b d pb y.now in
+    let dx = subst (λ (q : Rows). Derives (ClearElem (here at a) o.deps (key_of k)) (Cleared x.after ids) q u1) pe x.derives in
+    let dy = subst (λ (c : Context). Derives (AddId c k o.id (Assign (empty_of k))) (ToContext y.after) u1 u2) hb y.derives in
+    let dz = subst (λ (c : Context). Derives (Child c k) (ToContent (Node z.below)) u2 u3) hd z.derives in
+    rw we (record {
+      after = with_content k (Node z.below) y.after;
+      derives = three_premises rule _ _ _ (Cleared x.after ids) _ (ToContext y.after) _ (ToContent (Node z.below)) t u1 u2 u3 dx dy dz (rules o (here at a) x.after y.after ids (Node z.below));
+      now = then_now at _ _ a d e (then_now at _ _ a b d x.now y.now) (z.now ∙ rw hd refl);
+    })
+
+pub deleted : (at : List Tagged) (o : Op) (a b : Tree) (ids : List Id) (t p u w : Rows) → o.mutation ≡ Delete → p ≡ below (pushed t R.Delete) → Clears (λ c. ClearElem c o.deps o.cursor.last) at a b ids p u → w ≡ at_depth t.depth u → Leads (λ c. Operate c (moved o [] o.cursor.last o.mutation)) at a b t w
+deleted at o a b ids t p u w is pe x we =
+    let dx = subst (λ (q : Rows). Derives (ClearElem (here at a) o.deps o.cursor.last) (Cleared x.after ids) q u) pe x.derives in
+    rw we (record {
+      after = x.after;
+      derives = one_premise R.Delete _ _ _ _ t u dx (x.after, ids, refl, is, refl, refl);
+      now = x.now;
+    })
+
+found_node : (x : Option Context) → is_some (node_of x) ≡ true → (d : Context) × (node_of x ≡ Some (Node d))
+found_node None h = cc
+found_node (Some d) h = (d, refl)
+
+found_context : (k : Tagged) (c : Context) → HasContext k → is_some (content k c) ≡ true → (d : Context) × (content k c ≡ Some (Node d))
+found_context (MapT k) c h s = found_node (find key_cmp k (maps c)) s
+found_context (ListT k) c h s = found_node (find key_cmp k (lists c)) s
+found_context (RegT k) c h s = absurd h
+
+child_is : (k : Tagged) (x : Option Content) (d : Context) → or_new k x ≡ Node d → node_in (Some (or_new k x)) ≡ Some d
+child_is k x d e = rw e refl
+
+pub entered_there : (k : Tagged) (at : List Tagged) (a b : Tree) (t u : Rows) → HasPlace at a → HasContext k → is_some (content k (here at a)) ≡ true → u ≡ pushed t R.ChildGet → b ≡ a → Enters k at a b t u
+entered_there k at a b t u p h s e f =
+    let x = found_context k (here at a) h s in
+    rw (e, f) (record {
+      below = x.0;
+      is = child_is k (content k (here at a)) x.0 (ap (or_new k) x.1);
+      derives = by_axiom R.ChildGet _ _ t (Node x.0, x.1, refl, refl);
+      now = sym (ap (λ c. with_node_at at c a.now) (with-same k x.0 (here at a) x.1) ∙ with_node-same at (here at a) a.now (there at a.now p));
+    })
+
+new_node : (k : Tagged) → HasContext k → (d : Context) × (new_content k ≡ Node d)
+new_node (MapT k) h = (empty, refl)
+new_node (ListT k) h = (empty_list, refl)
+new_node (RegT k) h = absurd h
+
+pub entered_new : (k : Tagged) (at : List Tagged) (r : Rule) (a b : Tree) (t u : Rows) → HasContext k → content k (here at a) ≡ None → Follows r (Child (here at a) k) (ToContent (new_content k)) [] → u ≡ pushed t r → IsChanged at (with_content k (new_content k) (here at a)) a b → Enters k at a b t u
+entered_new k at r a b t u h none f e s =
+    let x = new_node k h in
+    rw e (record {
+      below = x.0;
+      is = child_is k (content k (here at a)) x.0 (ap (or_new k) none ∙ x.1);
+      derives = by_axiom r _ _ t (subst (λ (y : Content). Follows r (Child (here at a) k) (ToContent y) []) x.1 f);
+      now = s.now ∙ ap (λ y. with_node_at at (with_content k y (here at a)) a.now) x.1;
+    })
+
+-- what goes for a call's answer, as what it gives entails
+pub on_ok : {T E : Type 0} {A B : Type 0} (r : Result T E) → (A → B) → OnOk r A → OnOk r B
+on_ok (Ok x) f h = f h
+on_ok (Err e) f h = h
+
+pub adds : {T E : Type 0} (at : List Tagged) (k : Tagged) (key : Key) (i : Id) (m : Mutation) (a b : Tree) (t u : Rows) (r : Result T E) → key ≡ key_of k → m ≢ Delete → OnOk r ((j : Tagged) → (n : Mutation) → key_of j ≡ key → n ≢ Delete → Leads (λ c. AddId c j i n) at a b t u) → OnOk r (Leads (λ c. AddId c k i m) at a b t u)
+adds at k key i m a b t u (Ok x) e ne h = h k m (sym e) ne
+adds at k key i m a b t u (Err x) e ne h = h
+
+-- a place stays where something was done
+pub after_clear : (q : Context → Question) (at : List Tagged) (a b : Tree) (ids : List Id) (t u : Rows) → HasPlace at a → Clears q at a b ids t u → HasPlace at b
+after_clear q at a b ids t u p x = then_place at x.after a b p x.now
+
+pub after_lead : (q : Context → Question) (at : List Tagged) (a b : Tree) (t u : Rows) → HasPlace at a → Leads q at a b t u → HasPlace at b
+after_lead q at a b t u p x = then_place at x.after a b p x.now

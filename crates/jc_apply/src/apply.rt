@@ -1,0 +1,169 @@
+//! Applying an operation to a document.
+
+ghost use Rattle.std.specs.Prelude.{◌≡◌, ◌≢◌, ◌≤◌, [], IsErrOf, OnOk, OnErr, length, take, drop};
+ghost use Rattle.std.specs.List.{AllByRecursion};
+ghost use Rattle.jc_rules.specs.declared.id.Id.{Id as AnyId};
+ghost use Rattle.jc_rules.specs.declared.refusal.Refusal.TheVariants.{NotInList as PlaceNotInList};
+ghost use Rattle.jc_rules.specs.Derivation.{AddId, Operate, ToContext};
+ghost use Rattle.jc_rules.specs.Derives.{Derives};
+ghost use Rattle.jc_rules.specs.Refused.{Refused, because};
+ghost use Rattle.jc_rules.specs.Shape.{IsChained};
+ghost use Rattle.jc_rules.specs.Table.{moved};
+ghost use Rattle.jc_tree.specs.Tree.{HasPlace, here};
+ghost use Rattle.jc_tree.specs.Kept.{Kept};
+ghost use Rattle.jc_apply.specs.Fits.{Fits, HasNoAnswer, IsUnlinked};
+ghost use Rattle.jc_apply.specs.Leads.{Leads, LinksNone, LinksOnly, HasContext};
+
+use crate::assigning::{add_id, assign};
+use crate::fitting::fits;
+use crate::inserting::insert;
+use crate::registers::enter;
+use jc_clear::clear_elem;
+use jc_rules::{Mutation, Op, Rule, Tagged, Trace};
+use jc_tree::TreeStore;
+use std::alloc::{AllocError, Global};
+
+/// Why an operation was refused.
+#[derive(Clone, Copy, Debug, PartialEq, Eq)]
+pub enum ApplyFault {
+    /// The place of the insert is in no list.
+    NotInList,
+    /// There was no memory.
+    Memory,
+}
+
+/// Deletes what stands under the operation's last key.
+fn delete<S: TreeStore>(
+    alloc: Global,
+    store: &mut S,
+    at: &[Tagged],
+    op: &Op,
+    trace: &mut Trace,
+) -> Result<(), AllocError>
+    requires there { HasPlace at.now (S.tree store.old) }
+    requires chained { IsChained (S.tree store.old).now }
+    requires deletes { op.now.mutation ≡ Mutation.Delete }
+    ensures ok { OnOk result (Leads (λ c. Operate c (moved op.now [] op.now.cursor.last op.now.mutation)) at.now (S.tree store.old) (S.tree store.new) trace.old trace.new) }
+    ensures links { OnOk result (LinksNone at.now (S.tree store.old) (S.tree store.new)) }
+    ensures kept { Kept (S.tree store.old) (S.tree store.new) trace.old trace.new }
+{
+    let depth = trace.depth();
+    trace.open(Rule::Delete)?;
+    clear_elem(alloc, store, &op.deps, at, &op.cursor.last, trace)?;
+    trace.close(depth);
+    Ok(())
+}
+
+/// Applies the operation to the context that its whole path leads to.
+fn operate_here<S: TreeStore>(
+    alloc: Global,
+    store: &mut S,
+    at: &[Tagged],
+    op: &Op,
+    trace: &mut Trace,
+) -> Result<(), AllocError>
+    requires there { HasPlace at.now (S.tree store.old) }
+    requires chained { IsChained (S.tree store.old).now }
+    requires fresh { IsUnlinked op.now.id (S.tree store.old).now }
+    requires fits { Fits (here at.now (S.tree store.old)) [] op.now.cursor.last op.now.mutation }
+    ensures ok { OnOk result (Leads (λ c. Operate c (moved op.now [] op.now.cursor.last op.now.mutation)) at.now (S.tree store.old) (S.tree store.new) trace.old trace.new) }
+    ensures links { OnOk result (LinksOnly op.now.id (S.tree store.old) (S.tree store.new)) }
+    ensures kept { Kept (S.tree store.old) (S.tree store.new) trace.old trace.new }
+{
+    match &op.mutation {
+        Mutation::Assign(value) => assign(alloc, store, at, op, &op.cursor.last, value, trace),
+        Mutation::Insert(value) => insert(alloc, store, at, op, value, trace),
+        Mutation::Delete => delete(alloc, store, at, op, trace),
+    }
+}
+
+/// Adds the operation's identifier to the presence set of a key on its path, unless the operation
+/// deletes.
+fn add_op<S: TreeStore>(
+    alloc: Global,
+    store: &mut S,
+    at: &[Tagged],
+    key: &Tagged,
+    op: &Op,
+    trace: &mut Trace,
+) -> Result<(), AllocError>
+    requires { HasPlace at.now (S.tree store.old) }
+    ensures ok { OnOk result (Leads (λ c. AddId c key.now op.now.id op.now.mutation) at.now (S.tree store.old) (S.tree store.new) trace.old trace.new) }
+    ensures links { OnOk result (LinksNone at.now (S.tree store.old) (S.tree store.new)) }
+    ensures kept { Kept (S.tree store.old) (S.tree store.new) trace.old trace.new }
+{
+    match &op.mutation {
+        Mutation::Delete => trace.push(Rule::AddId2),
+        _ => add_id(alloc, store, at, key.key(), op.id, trace),
+    }
+}
+
+/// Applies the operation to the context that the first keys of its path lead to, as many as
+/// `depth` says.
+fn operate<S: TreeStore>(
+    alloc: Global,
+    store: &mut S,
+    op: &Op,
+    depth: usize,
+    trace: &mut Trace,
+) -> Result<(), AllocError>
+    requires within { depth ≤ length op.now.cursor.path }
+    requires there { HasPlace (take depth op.now.cursor.path) (S.tree store.old) }
+    requires chained { IsChained (S.tree store.old).now }
+    requires fresh { IsUnlinked op.now.id (S.tree store.old).now }
+    requires fits { Fits (here (take depth op.now.cursor.path) (S.tree store.old)) (drop depth op.now.cursor.path) op.now.cursor.last op.now.mutation }
+    ensures ok { OnOk result (Leads (λ c. Operate c (moved op.now (drop depth op.now.cursor.path) op.now.cursor.last op.now.mutation)) (take depth op.now.cursor.path) (S.tree store.old) (S.tree store.new) trace.old trace.new) }
+    ensures links { OnOk result (LinksOnly op.now.id (S.tree store.old) (S.tree store.new)) }
+    ensures kept { Kept (S.tree store.old) (S.tree store.new) trace.old trace.new }
+{
+    let path = op.cursor.path.as_slice();
+    if depth == path.len() {
+        return operate_here(alloc, store, path, op, trace);
+    }
+    let at = &path[..depth];
+    let key = &path[depth];
+    let above = trace.depth();
+    trace.open(Rule::Descend)?;
+    enter(store, at, key, trace)?;
+    operate(alloc, store, op, depth + 1, trace)?;
+    add_op(alloc, store, at, key, op, trace)?;
+    trace.close(above);
+    Ok(())
+}
+
+/// Applies the operation to the document, and adds its rules to the trace at its depth. No
+/// identifier but the operation's own gets linked in a list.
+///
+/// `NotInList` says that no derivation applies it; all else that is refused is memory. After a
+/// refusal store and trace are as they were before.
+pub fn apply_op<S: TreeStore>(
+    alloc: Global,
+    store: &mut S,
+    op: &Op,
+    trace: &mut Trace,
+) -> Result<(), ApplyFault>
+    requires chained { IsChained (S.tree store.old).now }
+    requires fresh { IsUnlinked op.now.id (S.tree store.old).now }
+    ensures ok { OnOk result (Derives (Operate (S.tree store.old).now op.now) (ToContext (S.tree store.new).now) trace.old trace.new) }
+    ensures fits { OnOk result (Fits (S.tree store.old).now op.now.cursor.path op.now.cursor.last op.now.mutation) }
+    ensures unfit { IsErrOf result ApplyFault.NotInList → Fits (S.tree store.old).now op.now.cursor.path op.now.cursor.last op.now.mutation → ⊥ }
+    ensures no_answer { IsErrOf result ApplyFault.NotInList → HasNoAnswer (Operate (S.tree store.old).now op.now) }
+    ensures refused { IsErrOf result ApplyFault.NotInList → AllByRecursion HasContext op.now.cursor.path → Refused (Operate (S.tree store.old).now op.now) (because PlaceNotInList) }
+    ensures err_store { OnErr result (S.tree store.new ≡ S.tree store.old) }
+    ensures err_trace { OnErr result (trace.new ≡ trace.old) }
+    ensures kept { Kept (S.tree store.old) (S.tree store.new) trace.old trace.new }
+    ensures chained { IsChained (S.tree store.new).now }
+    ensures unlinked { (i : AnyId) → i ≢ op.now.id → IsUnlinked i (S.tree store.old).now → IsUnlinked i (S.tree store.new).now }
+{
+    if !fits(store, &op.cursor, &op.mutation) {
+        return Err(ApplyFault::NotInList);
+    }
+    let start = store.mark();
+    let first = trace.mark();
+    if operate(alloc, store, op, 0, trace).is_err() {
+        store.undo_to(start);
+        trace.cut(first);
+        return Err(ApplyFault::Memory);
+    }
+    Ok(())
+}

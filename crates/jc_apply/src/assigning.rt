@@ -1,0 +1,139 @@
+//! Assigning a value to a key, and adding identifiers to presence sets.
+
+ghost use Rattle.std.specs.Prelude.{◌≡◌, ◌≢◌, [], OnOk};
+ghost use Rattle.jc_rules.specs.declared.key.Tagged.{Tagged};
+ghost use Rattle.jc_rules.specs.declared.operation.Mutation.{Mutation as AnyMutation};
+ghost use Rattle.jc_rules.specs.declared.operation.Mutation.TheVariants.{Assign, Delete};
+ghost use Rattle.jc_rules.specs.Context.{IsPrimitive, key_of};
+ghost use Rattle.jc_rules.specs.Derivation.{AddId, Operate};
+ghost use Rattle.jc_rules.specs.Shape.{IsChained};
+ghost use Rattle.jc_rules.specs.Table.{moved};
+ghost use Rattle.jc_tree.specs.Tree.{HasPlace, here};
+ghost use Rattle.jc_tree.specs.Kept.{Kept};
+ghost use Rattle.jc_apply.specs.Fits.{empty_of};
+ghost use Rattle.jc_apply.specs.Leads.{Leads, LinksNone, AssignsEmpty, HasContext};
+
+use crate::registers::{enter, pairs_of, put_pair};
+use jc_clear::{clear, clear_elem, presence_of};
+use jc_rules::{Id, Key, Op, Rule, Tagged, Trace, Value, insert_id};
+use jc_tree::TreeStore;
+use std::alloc::{AllocError, Global};
+
+/// Adds an identifier to the presence set of a key, for an operation that doesn't delete.
+pub fn add_id<S: TreeStore>(
+    alloc: Global,
+    store: &mut S,
+    at: &[Tagged],
+    key: &Key,
+    id: Id,
+    trace: &mut Trace,
+) -> Result<(), AllocError>
+    requires { HasPlace at.now (S.tree store.old) }
+    ensures ok { OnOk result ((k : Tagged) → (m : AnyMutation) → key_of k ≡ key.now → m ≢ Delete → Leads (λ c. AddId c k id m) at.now (S.tree store.old) (S.tree store.new) trace.old trace.new) }
+    ensures links { OnOk result (LinksNone at.now (S.tree store.old) (S.tree store.new)) }
+    ensures kept { Kept (S.tree store.old) (S.tree store.new) trace.old trace.new }
+{
+    let depth = trace.depth();
+    trace.open(Rule::AddId1)?;
+    let mut ids = presence_of(alloc, store, at, key, trace)?;
+    trace.close(depth);
+    insert_id(&mut ids, id)?;
+    store.set_presence(at, key, ids.as_slice())?;
+    Ok(())
+}
+
+/// Assigns a primitive value to the register of a key.
+fn assign_primitive<S: TreeStore>(
+    alloc: Global,
+    store: &mut S,
+    at: &[Tagged],
+    op: &Op,
+    last: &Key,
+    value: &Value,
+    trace: &mut Trace,
+) -> Result<(), AllocError>
+    requires there { HasPlace at.now (S.tree store.old) }
+    requires chained { IsChained (S.tree store.old).now }
+    requires primitive { IsPrimitive value.now }
+    ensures ok { OnOk result (Leads (λ c. Operate c (moved op.now [] last.now (Assign value.now))) at.now (S.tree store.old) (S.tree store.new) trace.old trace.new) }
+    ensures links { OnOk result (LinksNone at.now (S.tree store.old) (S.tree store.new)) }
+    ensures kept { Kept (S.tree store.old) (S.tree store.new) trace.old trace.new }
+{
+    let depth = trace.depth();
+    trace.open(Rule::Assign)?;
+    clear(
+        alloc,
+        store,
+        &op.deps,
+        at,
+        &Tagged::RegT(last.copy()?),
+        trace,
+    )?;
+    add_id(alloc, store, at, last, op.id, trace)?;
+    let mut pairs = pairs_of(alloc, store, at, last, trace)?;
+    put_pair(&mut pairs, op.id, value.copy()?)?;
+    store.set_register(at, last, pairs)?;
+    trace.close(depth);
+    Ok(())
+}
+
+/// The rule that assigns an empty map or an empty list under the tagged key.
+fn empty_rule(key: &Tagged) -> Rule
+    requires { HasContext key.now }
+    ensures { AssignsEmpty result key.now }
+{
+    match key {
+        Tagged::MapT(_) => Rule::EmptyMap,
+        Tagged::ListT(_) => Rule::EmptyList,
+        Tagged::RegT(_) => unreachable!(),
+    }
+}
+
+/// Assigns an empty map or an empty list to a key: what is under it is cleared, and the map or the
+/// list made where there is none.
+fn assign_empty<S: TreeStore>(
+    alloc: Global,
+    store: &mut S,
+    at: &[Tagged],
+    op: &Op,
+    key: &Tagged,
+    trace: &mut Trace,
+) -> Result<(), AllocError>
+    requires there { HasPlace at.now (S.tree store.old) }
+    requires chained { IsChained (S.tree store.old).now }
+    requires context { HasContext key.now }
+    ensures ok { OnOk result (Leads (λ c. Operate c (moved op.now [] (key_of key.now) (Assign (empty_of key.now)))) at.now (S.tree store.old) (S.tree store.new) trace.old trace.new) }
+    ensures links { OnOk result (LinksNone at.now (S.tree store.old) (S.tree store.new)) }
+    ensures kept { Kept (S.tree store.old) (S.tree store.new) trace.old trace.new }
+{
+    let depth = trace.depth();
+    trace.open(empty_rule(key))?;
+    clear_elem(alloc, store, &op.deps, at, key.key(), trace)?;
+    add_id(alloc, store, at, key.key(), op.id, trace)?;
+    enter(store, at, key, trace)?;
+    trace.close(depth);
+    Ok(())
+}
+
+/// Assigns a value to a key.
+pub fn assign<S: TreeStore>(
+    alloc: Global,
+    store: &mut S,
+    at: &[Tagged],
+    op: &Op,
+    last: &Key,
+    value: &Value,
+    trace: &mut Trace,
+) -> Result<(), AllocError>
+    requires there { HasPlace at.now (S.tree store.old) }
+    requires chained { IsChained (S.tree store.old).now }
+    ensures ok { OnOk result (Leads (λ c. Operate c (moved op.now [] last.now (Assign value.now))) at.now (S.tree store.old) (S.tree store.new) trace.old trace.new) }
+    ensures links { OnOk result (LinksNone at.now (S.tree store.old) (S.tree store.new)) }
+    ensures kept { Kept (S.tree store.old) (S.tree store.new) trace.old trace.new }
+{
+    match value {
+        Value::EmptyMap => assign_empty(alloc, store, at, op, &Tagged::MapT(last.copy()?), trace),
+        Value::EmptyList => assign_empty(alloc, store, at, op, &Tagged::ListT(last.copy()?), trace),
+        _ => assign_primitive(alloc, store, at, op, last, value, trace),
+    }
+}
