@@ -12,3 +12,5 @@ pub use fitting::fits;
 
 #[cfg(test)]
 mod fits_tests;
+#[cfg(test)]
+mod tests;
