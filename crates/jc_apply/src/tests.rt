@@ -123,9 +123,12 @@ fn apply<S: TreeStore>(rt: &impl Abort, alloc: Global, store: &mut S, op: &Op, t
 {
     let start = store.mark();
     let first = trace.mark();
-    if apply_op(alloc, store, op, trace).is_err() {
+    let before = counted_way(store, &op.cursor);
+    if let Err(fault) = apply_op(alloc, store, op, trace) {
+        assert_eq!(rt; fault, ApplyFault::Memory);
         assert_eq!(rt; store.mark(), start);
         assert_eq!(rt; trace.mark(), first);
+        assert_eq!(rt; counted_way(store, &op.cursor), before);
         assert!(rt; apply_op(alloc, store, op, trace).is_ok());
     }
     assert_eq!(rt; trace.depth(), first.depth);
@@ -144,6 +147,105 @@ fn is_there<S: TreeStore>(store: &S, at: &[Tagged]) -> bool
         }
     }
     true
+}
+
+/// What a context has: how many keys of each kind, and what it has of one of them.
+#[derive(Clone, Copy, Debug, PartialEq, Eq)]
+struct Counted {
+    keys: u64,
+    presences: u64,
+    links: u64,
+    /// How many identifiers are in the key's presence set, and the last.
+    present: Option<(usize, Option<Id>)>,
+    next: Option<Next>,
+    values: Option<usize>,
+}
+
+/// How many keys of a context have a map, a list or a register.
+fn count_keys<S: TreeStore>(store: &S, at: &[Tagged]) -> u64
+    requires { HasPlace at.now (S.tree store.now) }
+{
+    let mut last = None;
+    for count in 0..MANY {
+        let Some(key) = store.key_after(at, last) else {
+            return count;
+        };
+        last = Some(key);
+    }
+    MANY
+}
+
+/// How many keys of a context have a presence set.
+fn count_presences<S: TreeStore>(store: &S, at: &[Tagged]) -> u64
+    requires { HasPlace at.now (S.tree store.now) }
+{
+    let mut last = None;
+    for count in 0..MANY {
+        let Some(key) = store.presence_after(at, last) else {
+            return count;
+        };
+        last = Some(key);
+    }
+    MANY
+}
+
+/// How many keys of a context have a link.
+fn count_links<S: TreeStore>(store: &S, at: &[Tagged]) -> u64
+    requires { HasPlace at.now (S.tree store.now) }
+{
+    let mut last = None;
+    for count in 0..MANY {
+        let Some(key) = store.link_after(at, last) else {
+            return count;
+        };
+        last = Some(key);
+    }
+    MANY
+}
+
+/// Counts a context and takes its key, without memory.
+fn counted_at<S: TreeStore>(store: &S, at: &[Tagged], key: &Key) -> Counted
+    requires { HasPlace at.now (S.tree store.now) }
+{
+    let present = match store.presence(at, key) {
+        Some(ids) => Some((ids.len(), ids.last().copied())),
+        None => None,
+    };
+    let values = match store.register(at, key) {
+        Some(values) => Some(values.len()),
+        None => None,
+    };
+    Counted {
+        keys: count_keys(store, at),
+        presences: count_presences(store, at),
+        links: count_links(store, at),
+        present,
+        next: store.next(at, key),
+        values,
+    }
+}
+
+/// Counts where the first keys of the path lead, and takes the key that comes next.
+fn counted_below<S: TreeStore>(store: &S, cursor: &Cursor, depth: usize) -> Option<Counted> {
+    let path = cursor.path.as_slice();
+    if depth > path.len() || !is_there(store, &path[..depth]) {
+        return None;
+    }
+    let key = if depth < path.len() {
+        path[depth].key()
+    } else {
+        &cursor.last
+    };
+    Some(counted_at(store, &path[..depth], key))
+}
+
+/// Counts all the way to a cursor, whose path has at most two keys here.
+fn counted_way<S: TreeStore>(store: &S, cursor: &Cursor) -> [Option<Counted>; 3] {
+    [
+        counted_below(store, cursor, 0),
+        counted_below(store, cursor, 1),
+        counted_below(store, cursor, 2),
+    ]
 }
 
 /// How many tagged keys a context has with this key.
