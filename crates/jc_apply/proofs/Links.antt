@@ -1,11 +1,10 @@
 -- What calls leave of links.
-use Rattle.std.proofs.Common.{◌≡◌, ◌≢◌, List, Some, refl, sym, ◌∙◌, ap}
+use Rattle.std.proofs.Common.{◌≡◌, List, refl, ◌∙◌, ap}
 use Rattle.jc_rules.specs.declared.id.Id.{Id}
 use Rattle.jc_rules.specs.declared.key.Key.{Key}
-use Rattle.jc_rules.specs.declared.key.Key.TheVariants.{Elem}
 use Rattle.jc_rules.specs.declared.key.Tagged.{Tagged}
 use Rattle.jc_rules.specs.declared.key.Tagged.TheVariants.{MapT, ListT, RegT}
-use Rattle.jc_rules.specs.Context.{Context, context, Values, Register, links, content, with_content, new_content, with_presence}
+use Rattle.jc_rules.specs.Context.{Context, context, Values, Register, links, with_content, new_content, with_presence}
 use Rattle.jc_rules.specs.Shape.{IsChained}
 use Rattle.jc_rules.specs.Derivation.{Question}
 use Rattle.jc_rules.specs.Trace.{Rows}
@@ -16,7 +15,6 @@ use Rattle.jc_tree.proofs.Places.{then_here}
 use Rattle.jc_clear.specs.Clears.{Clears}
 use Rattle.jc_clear.proofs.Bare.{links-same}
 use Rattle.jc_clear.proofs.Places.{still_chained}
-use Rattle.jc_apply.specs.Fits.{IsUnlinked}
 use Rattle.jc_apply.specs.Leads.{LinksNone, LinksOnly}
 use Rattle.jc_apply.proofs.Unlinked.{unlinked_here, unlinked_now, unlinked-new, unlinked-presence, unlinked-register, unlinked-same}
 

@@ -1,5 +1,5 @@
 -- Going past the elements whose identifiers are greater, and linking a new one.
-use Rattle.std.proofs.Common.{◌≡◌, ◌≢◌, ℕ, ◌<◌, ◌≤◌, List, [], ◌∷◌, length, Option, Some, None, refl, sym, ◌∙◌, ap, subst, arith}
+use Rattle.std.proofs.Common.{◌≡◌, ◌≢◌, ◌<◌, ◌≤◌, List, [], ◌∷◌, length, Option, Some, None, refl, ◌∙◌, ap, subst, arith}
 use Rattle.std.specs.declared.cmp.Ordering.{Ordering}
 use Rattle.std.specs.declared.cmp.Ordering.TheVariants.{Less, Equal, Greater}
 use Rattle.jc_rules.specs.declared.id.Id.{Id}
@@ -18,11 +18,11 @@ use Rattle.jc_rules.specs.Entries.{find}
 use Rattle.jc_rules.specs.Order.{key_cmp}
 use Rattle.jc_rules.specs.Context.{Context, context, Content, Node, Values, Register, registers, values_of, content, links, next, with_next}
 use Rattle.jc_rules.specs.Places.{node_at, with_node_at}
-use Rattle.jc_rules.specs.Derivation.{Question, Operate, ToContext}
+use Rattle.jc_rules.specs.Derivation.{Operate, ToContext}
 use Rattle.jc_rules.specs.Derives.{Derives}
 use Rattle.jc_rules.specs.Shape.{IsChained, IsChainedList}
 use Rattle.jc_rules.specs.Trace.{Rows, IsLonger, pushed, below, at_depth}
-use Rattle.jc_rules.specs.Table.{moved, after, IsBefore}
+use Rattle.jc_rules.specs.Table.{moved, IsBefore}
 use Rattle.jc_rules.proofs.Order.{exact_ids}
 use Rattle.jc_rules.proofs.Places.{there}
 use Rattle.jc_rules.proofs.Steps.{one_premise, same_rows, longer_still}

@@ -24,7 +24,7 @@ use Rattle.jc_rules.proofs.Steps.{by_axiom, one_premise, three_premises}
 use Rattle.jc_tree.specs.Tree.{Tree, HasPlace, here, IsChanged}
 use Rattle.jc_clear.specs.Clears.{Clears}
 use Rattle.jc_tree.proofs.Places.{then_here, then_place, then_now}
-use Rattle.jc_apply.specs.Fits.{child_of, or_new, empty_of}
+use Rattle.jc_apply.specs.Fits.{or_new, empty_of}
 use Rattle.jc_apply.specs.Leads.{Leads, Enters, AssignsEmpty, HasContext}
 
 pub register_there : (c : Context) (k : Key) (r pairs : Register) (t u : Rows) → find key_cmp k (registers c) ≡ Some r → pairs ≡ r → u ≡ pushed t R.ChildGet → Derives (Child c (RegT k)) (ToContent (Values pairs)) t u

@@ -17,7 +17,7 @@ use Rattle.jc_rules.specs.Order.{key_cmp}
 use Rattle.jc_rules.specs.Entries.{find}
 use Rattle.jc_rules.specs.Context.{Context, Content, Node, node_of, content, new_content, next, maps, lists}
 use Rattle.jc_rules.specs.Places.{node_in}
-use Rattle.jc_rules.specs.Derivation.{Question, Child, Operate, Answer, ToContent, ToContext, Judgement, gives, Derivation, derive, Premises, none, premise, conclusion, conclusions}
+use Rattle.jc_rules.specs.Derivation.{Question, Child, Operate, Answer, ToContent, ToContext, Judgement, gives, Derivation, derive, Premises, none, conclusion, conclusions}
 use Rattle.jc_rules.specs.Table.{Follows, Holds, AllHold, moved}
 use Rattle.jc_rules.specs.Refused.{because, IsAnswered, Refused, operate_below, not_in_list}
 use Rattle.jc_rules.proofs.Refusing.{first_is, second_is}

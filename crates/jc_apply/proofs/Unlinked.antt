@@ -13,10 +13,10 @@ use Rattle.jc_rules.specs.declared.key.Tagged.{Tagged}
 use Rattle.jc_rules.specs.declared.key.Tagged.TheVariants.{MapT, ListT, RegT}
 use Rattle.jc_rules.specs.Order.{key_cmp}
 use Rattle.jc_rules.specs.Entries.{find, if_found, replaced, placed, put}
-use Rattle.jc_rules.specs.Context.{Context, context, Children, no_child, child, children, listed, Register, Content, Node, Values, values_of, content, with_content, new_content, with_presence, next, with_next, links, empty, empty_list}
+use Rattle.jc_rules.specs.Context.{Context, context, Children, no_child, child, children, listed, Register, Content, Node, Values, values_of, content, with_content, new_content, with_presence, next, with_next, empty, empty_list}
 use Rattle.jc_rules.specs.Places.{node_at, with_node_at}
 use Rattle.jc_rules.proofs.Order.{keys_total, exact_keys}
-use Rattle.jc_rules.proofs.Entries.{same-eq, values-put, value-found}
+use Rattle.jc_rules.proofs.Entries.{values-put, value-found}
 use Rattle.jc_rules.proofs.Places.{node_found, there}
 use Rattle.jc_tree.specs.Tree.{Tree, HasPlace, here}
 use Rattle.jc_tree.proofs.Linked.{not_found}

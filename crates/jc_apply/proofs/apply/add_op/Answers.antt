@@ -1,5 +1,4 @@
-use Rattle.std.proofs.Common.{◌≡◌, ◌≢◌, sym, ◌∙◌, refl, rules}
-use Rattle.jc_rules.specs.declared.operation.Mutation.TheVariants.{Delete}
+use Rattle.std.proofs.Common.{refl}
 use Rattle.jc_apply.proofs.Rules.{added_none, on_ok, adds}
 use Rattle.jc_apply.proofs.apply.add_op.Goals as goal
 

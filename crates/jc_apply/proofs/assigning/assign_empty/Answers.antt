@@ -1,4 +1,4 @@
-use Rattle.std.proofs.Common.{◌≡◌, ℕ, refl, sym, ◌∙◌, ap, arith, rules}
+use Rattle.std.proofs.Common.{ℕ, refl, sym, ◌∙◌, ap, arith}
 use Rattle.jc_rules.specs.declared.operation.Mutation.TheVariants.{Assign}
 use Rattle.jc_rules.specs.Trace.{Rows, at_depth}
 use Rattle.jc_tree.proofs.Kept.{then, rule_opened, depth_changed}

@@ -1,5 +1,4 @@
-use Rattle.std.proofs.Common.{◌≡◌, ℕ, refl, ◌∙◌, ap, arith, rules}
-use Rattle.jc_rules.specs.declared.key.Key.{Key}
+use Rattle.std.proofs.Common.{ℕ, refl, ◌∙◌, ap, arith}
 use Rattle.jc_rules.specs.declared.key.Tagged.TheVariants.{RegT}
 use Rattle.jc_rules.specs.declared.operation.Mutation.TheVariants.{Assign}
 use Rattle.jc_rules.specs.declared.rule.Rule.TheVariants as R

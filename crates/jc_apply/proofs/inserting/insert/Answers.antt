@@ -1,7 +1,6 @@
-use Rattle.std.proofs.Common.{◌≡◌, ℕ, refl, ◌∙◌, ap, arith}
+use Rattle.std.proofs.Common.{ℕ, refl, ◌∙◌, ap, arith}
 use Rattle.jc_rules.specs.declared.rule.Rule.TheVariants as R
 use Rattle.jc_rules.specs.Trace.{Rows, at_depth}
-use Rattle.jc_tree.specs.Tree.{HasPlace}
 use Rattle.jc_tree.proofs.Changed.{still_place}
 use Rattle.jc_tree.proofs.Kept.{then, nothing, rule_opened, rows_added, tree_changed, depth_changed}
 use Rattle.jc_apply.proofs.Rules.{after_lead}

@@ -1,6 +1,4 @@
-use Rattle.std.proofs.Common.{◌≡◌, Some, sym, ◌∙◌, ap, refl}
-use Rattle.jc_rules.specs.declared.key.Key.{Key}
-use Rattle.jc_rules.specs.Context.{next}
+use Rattle.std.proofs.Common.{refl}
 use Rattle.jc_tree.specs.Tree.{here}
 use Rattle.jc_apply.proofs.Unlinked.{unlinked_here, no_next}
 use Rattle.jc_apply.proofs.Passing.{first_pass, next_pass, last_pass, passes_on, list_here}
