@@ -9,3 +9,4 @@ pub mod Linked
 pub mod Places
 pub mod Kept
 pub mod Pairs
+pub mod Undoing

@@ -1,5 +1,5 @@
 -- What the lists of a node say of the context that it is.
-use Rattle.std.proofs.Common.{◌≡◌, ◌≢◌, List, ◌∷◌, ◌++◌, Bool, Option, Some, None, Bor, Result, Ok, Err, is_err, true, false, is_some, option_copied, IfSome, IsSomeAnd, OnOk, refl, ◌∙◌, ap}
+use Rattle.std.proofs.Common.{◌≡◌, ◌≢◌, List, ◌∷◌, ◌++◌, Bool, Option, Some, None, Bor, Result, Ok, Err, is_err, true, false, is_some, option_copied, IfSome, IsSomeAnd, OnOk, refl, sym, ◌∙◌, ap}
 use Rattle.jc_rules.specs.declared.id.Id.{Id}
 use Rattle.jc_rules.specs.declared.key.Key.{Key}
 use Rattle.jc_rules.specs.declared.key.Next.{Next}
@@ -8,12 +8,15 @@ use Rattle.jc_rules.specs.declared.key.Tagged.TheVariants.{MapT, ListT}
 use Rattle.jc_rules.specs.Order.{key_cmp}
 use Rattle.jc_rules.specs.Entries.{keys_of, find, put}
 use Rattle.jc_rules.specs.Context.{Context, context, children, Register, Content, Node, node_of, content, with_content, keys, empty, empty_list}
-use Rattle.jc_rules.specs.Places.{node_in, node_at}
+use Rattle.jc_rules.specs.Places.{node_in, node_at, with_node_at, context_at}
 use Rattle.jc_rules.proofs.Places.{listed_children}
 use Rattle.jc_tree.specs.Tree.{least_after}
-use Rattle.jc_tree.specs.Change.{changed_by, changed_at}
+use Rattle.jc_tree.specs.Change.{changed_by}
 use Rattle.jc_tree.specs.declared.node.Change.{Change}
 use Rattle.jc_tree.specs.declared.node.Change.TheVariants.{Child}
+use Rattle.jc_tree.specs.declared.node.Former.{Former}
+use Rattle.jc_tree.specs.declared.node.Former.TheVariants as F
+use Rattle.jc_tree.specs.Undo.{restored, former_of, restored_by}
 use Rattle.jc_tree.proofs.Least.{least_of, least_after-append}
 
 module _ (m l : List (Key × Context)) (r : List (Key × Register)) (p : List (Key × List Id)) (n : List (Key × Next)) (s : Context) (v : context (children m) (children l) r p n ≡ s) where
@@ -32,6 +35,13 @@ module _ (m l : List (Key × Context)) (r : List (Key × Register)) (p : List (K
   pub key_after : (k : Option Key) → least_after k (keys s) ≡ least_of (least_of (least_after k (keys_of m)) (least_after k (keys_of l))) (least_after k (keys_of r))
   key_after k = rw (← v, listed_children m, listed_children l, least_after-append k (keys_of m ++ keys_of l) (keys_of r), least_after-append k (keys_of m) (keys_of l)) refl
 
+module _ (m l : List (Key × Context)) (r : List (Key × Register)) (p : List (Key × List Id)) (n : List (Key × Next)) (s : Context) (v : context (children m) (children l) r p n ≡ s) where
+  pub map_restored : (f : Former) (k : Key) (o : Option Context) (m2 : List (Key × Context)) → f ≡ F.Map k o → m2 ≡ restored k o m → context (children m2) (children l) r p n ≡ restored_by f s
+  map_restored f k o m2 e w = rw (e, w, ← v, listed_children) refl
+
+  pub list_restored : (f : Former) (k : Key) (o : Option Context) (l2 : List (Key × Context)) → f ≡ F.List k o → l2 ≡ restored k o l → context (children m) (children l2) r p n ≡ restored_by f s
+  list_restored f k o l2 e w = rw (e, w, ← v, listed_children) refl
+
 pub has_child : (b : Bool) (o : Option (Bor Context)) (f : Option Context) (x : Option Content) → b ≡ is_some o → option_copied o ≡ f → x ≡ node_of f → b ≡ is_some x
 has_child b None f x h g e = rw (h, e, ← g) refl
 has_child b (Some d) f x h g e = rw (h, e, ← g) refl
@@ -46,6 +56,12 @@ module _ (m l : List (Key × Context)) (r : List (Key × Register)) (p : List (K
 
   pub new_list : (c : Change) (t : Tagged) (k : Key) (new : Context) (l2 : List (Key × Context)) → c ≡ Child t → t ≡ ListT k → new ≡ empty_list → l2 ≡ put key_cmp k new l → context (children m) (children l2) r p n ≡ changed_by c s
   new_list c t k new l2 a b e w = rw (a, b) (list_with m l r p n s v k empty_list l2 (rw (← e) w))
+
+  pub former_map : (c : Change) (t : Tagged) (k j : Key) (o : Option Context) → c ≡ Child t → t ≡ MapT k → j ≡ k → o ≡ find key_cmp k m → F.Map j o ≡ former_of c s
+  former_map c t k j o a b e w = rw (a, b, e, w, ← v, listed_children) refl
+
+  pub former_list : (c : Change) (t : Tagged) (k j : Key) (o : Option Context) → c ≡ Child t → t ≡ ListT k → j ≡ k → o ≡ find key_cmp k l → F.List j o ≡ former_of c s
+  former_list c t k j o a b e w = rw (a, b, e, w, ← v, listed_children) refl
 
   -- a place that begins under a map's key is in that child
   pub map_child : (k : Key) (ks : List Tagged) → node_at (MapT k ∷ ks) s ≢ None → IsSomeAnd (find key_cmp k m) (λ d. node_at ks d ≢ None)
@@ -62,28 +78,50 @@ module _ (m l : List (Key × Context)) (r : List (Key × Register)) (p : List (K
       go None e = h (rw (list_content m l r p n s v k, e) refl)
       go (Some d) e = λ f. h (rw (list_content m l r p n s v k, e) f)
 
-  -- a change in a child is a change below its key
-  pub map_changed : (k : Key) (ks : List Tagged) (c : Change) (m2 : List (Key × Context)) → IsSomeAnd (find key_cmp k m) (λ d. node_at ks d ≢ None) → IfSome (find key_cmp k m) (λ d. m2 ≡ put key_cmp k (changed_at ks c d) m) → context (children m2) (children l) r p n ≡ changed_at (MapT k ∷ ks) c s
-  map_changed k ks c m2 there = go (find key_cmp k m) refl there
+  -- a context that is another in a child is another below its key
+  pub map_changed : (k : Key) (ks : List Tagged) (f : Context → Context) (m2 : List (Key × Context)) → IfSome (find key_cmp k m) (λ d. m2 ≡ put key_cmp k (with_node_at ks (f (context_at ks d)) d) m) → (find key_cmp k m ≡ None → m2 ≡ m) → context (children m2) (children l) r p n ≡ with_node_at (MapT k ∷ ks) (f (context_at (MapT k ∷ ks) s)) s
+  map_changed k ks f m2 = go (find key_cmp k m) refl
     where
-      go : (o : Option Context) → find key_cmp k m ≡ o → IsSomeAnd o (λ d. node_at ks d ≢ None) → IfSome o (λ d. m2 ≡ put key_cmp k (changed_at ks c d) m) → context (children m2) (children l) r p n ≡ changed_at (MapT k ∷ ks) c s
-      go None e f w = absurd f
-      go (Some d) e f w = map_with m l r p n s v k (changed_at ks c d) m2 w ∙ rw (map_content m l r p n s v k, e) refl
+      go : (o : Option Context) → find key_cmp k m ≡ o → IfSome o (λ d. m2 ≡ put key_cmp k (with_node_at ks (f (context_at ks d)) d) m) → (o ≡ None → m2 ≡ m) → context (children m2) (children l) r p n ≡ with_node_at (MapT k ∷ ks) (f (context_at (MapT k ∷ ks) s)) s
+      go None e w a = ap (λ x. context (children x) (children l) r p n) (a refl) ∙ v ∙ rw (map_content m l r p n s v k, e) refl
+      go (Some d) e w a = map_with m l r p n s v k (with_node_at ks (f (context_at ks d)) d) m2 w ∙ rw (map_content m l r p n s v k, e) refl
 
-  pub list_changed : (k : Key) (ks : List Tagged) (c : Change) (l2 : List (Key × Context)) → IsSomeAnd (find key_cmp k l) (λ d. node_at ks d ≢ None) → IfSome (find key_cmp k l) (λ d. l2 ≡ put key_cmp k (changed_at ks c d) l) → context (children m) (children l2) r p n ≡ changed_at (ListT k ∷ ks) c s
-  list_changed k ks c l2 there = go (find key_cmp k l) refl there
+  pub list_changed : (k : Key) (ks : List Tagged) (f : Context → Context) (l2 : List (Key × Context)) → IfSome (find key_cmp k l) (λ d. l2 ≡ put key_cmp k (with_node_at ks (f (context_at ks d)) d) l) → (find key_cmp k l ≡ None → l2 ≡ l) → context (children m) (children l2) r p n ≡ with_node_at (ListT k ∷ ks) (f (context_at (ListT k ∷ ks) s)) s
+  list_changed k ks f l2 = go (find key_cmp k l) refl
     where
-      go : (o : Option Context) → find key_cmp k l ≡ o → IsSomeAnd o (λ d. node_at ks d ≢ None) → IfSome o (λ d. l2 ≡ put key_cmp k (changed_at ks c d) l) → context (children m) (children l2) r p n ≡ changed_at (ListT k ∷ ks) c s
-      go None e f w = absurd f
-      go (Some d) e f w = list_with m l r p n s v k (changed_at ks c d) l2 w ∙ rw (list_content m l r p n s v k, e) refl
+      go : (o : Option Context) → find key_cmp k l ≡ o → IfSome o (λ d. l2 ≡ put key_cmp k (with_node_at ks (f (context_at ks d)) d) l) → (o ≡ None → l2 ≡ l) → context (children m) (children l2) r p n ≡ with_node_at (ListT k ∷ ks) (f (context_at (ListT k ∷ ks) s)) s
+      go None e w a = ap (λ x. context (children m) (children x) r p n) (a refl) ∙ v ∙ rw (list_content m l r p n s v k, e) refl
+      go (Some d) e w a = list_with m l r p n s v k (with_node_at ks (f (context_at ks d)) d) l2 w ∙ rw (list_content m l r p n s v k, e) refl
 
-if_some : (P : Context → Type 0) (o : Option Context) (d : Context) → o ≡ Some d → P d → IfSome o P
+  -- what goes for the context at a place in a child goes for the one below its key
+  pub map_below : (P : Context → Type 0) (k : Key) (ks : List Tagged) → IsSomeAnd (find key_cmp k m) (λ d. node_at ks d ≢ None) → IfSome (find key_cmp k m) (λ d. P (context_at ks d)) → P (context_at (MapT k ∷ ks) s)
+  map_below P k ks = go (find key_cmp k m) refl
+    where
+      go : (o : Option Context) → find key_cmp k m ≡ o → IsSomeAnd o (λ d. node_at ks d ≢ None) → IfSome o (λ d. P (context_at ks d)) → P (context_at (MapT k ∷ ks) s)
+      go None e t h = absurd t
+      go (Some d) e t h = rw (map_content m l r p n s v k, e) h
+
+  pub list_below : (P : Context → Type 0) (k : Key) (ks : List Tagged) → IsSomeAnd (find key_cmp k l) (λ d. node_at ks d ≢ None) → IfSome (find key_cmp k l) (λ d. P (context_at ks d)) → P (context_at (ListT k ∷ ks) s)
+  list_below P k ks = go (find key_cmp k l) refl
+    where
+      go : (o : Option Context) → find key_cmp k l ≡ o → IsSomeAnd o (λ d. node_at ks d ≢ None) → IfSome o (λ d. P (context_at ks d)) → P (context_at (ListT k ∷ ks) s)
+      go None e t h = absurd t
+      go (Some d) e t h = rw (list_content m l r p n s v k, e) h
+
+pub if_some : (P : Context → Type 0) (o : Option Context) (d : Context) → o ≡ Some d → P d → IfSome o P
 if_some P None d e h = tt
 if_some P (Some c) d e h = let same : c ≡ d = cc in rw same h
 
--- a child at a key's place that was changed
-pub child_changed : (k : Key) (ks : List Tagged) (c : Change) (es : List (Key × Context)) (ds : Context → List (Key × Context)) (d e : Context) → find key_cmp k es ≡ Some d → ((y : Context) → ds y ≡ put key_cmp k y es) → e ≡ changed_at ks c d → IfSome (find key_cmp k es) (λ d. ds e ≡ put key_cmp k (changed_at ks c d) es)
-child_changed k ks c es ds d e found w h = if_some (λ d. ds e ≡ put key_cmp k (changed_at ks c d) es) (find key_cmp k es) d found (w e ∙ ap (λ y. put key_cmp k y es) h)
+pub none_some : {A : Type 0} {d : Context} → None ≡ Some d → A
+none_some e = absurd (let no : ⊥ = cc in no)
+
+pub none_there : {A : Type 0} (P : Context → Type 0) (o : Option Context) → IsSomeAnd o P → o ≡ None → A
+none_there P None h e = absurd h
+none_there P (Some d) h e = none_some (sym e)
+
+-- a child at a key's place that is another one
+pub child_changed : (k : Key) (f : Context → Context) (es : List (Key × Context)) (ds : Context → List (Key × Context)) (d e : Context) → find key_cmp k es ≡ Some d → ((y : Context) → ds y ≡ put key_cmp k y es) → e ≡ f d → IfSome (find key_cmp k es) (λ d. ds e ≡ put key_cmp k (f d) es)
+child_changed k f es ds d e found w h = if_some (λ d. ds e ≡ put key_cmp k (f d) es) (find key_cmp k es) d found (w e ∙ ap (λ y. put key_cmp k y es) h)
 
 pub on_ok : {A E P Q : Type 0} (r : Result A E) → (P → Q) → OnOk r P → OnOk r Q
 on_ok (Ok a) f h = f h

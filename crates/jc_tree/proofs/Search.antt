@@ -1,5 +1,5 @@
 -- What a place in a sorted list of entries tells.
-use Rattle.std.proofs.Common.{◌≡◌, ℕ, zero, suc, ◌≤◌, List, [], ◌∷◌, length, take, drop, filter, get_or, slice_get, slice_set, insert, option_map, Option, Some, None, true, false, Result, Ok, Err, Bor, MatchOption, IsSomeAnd, option_copied, refl, sym, ◌∙◌, ap, arith}
+use Rattle.std.proofs.Common.{◌≡◌, ℕ, zero, suc, ◌≤◌, ◌<◌, List, [], ◌∷◌, length, take, drop, filter, get_or, slice_get, slice_set, insert, remove, option_map, Option, Some, None, true, false, Result, Ok, Err, Bor, MatchOption, IsSomeAnd, option_copied, refl, sym, ◌∙◌, ap, arith}
 use Rattle.std.specs.List.{AllByRecursion, AllWithin}
 use Rattle.std.specs.Slice.{IsItemAt}
 use Rattle.std.specs.List.Sorted.{IsNonDecreasingBy, IsSearchInRange, IsBinarySearchResult}
@@ -17,6 +17,7 @@ use Rattle.jc_rules.proofs.Rising.{non_decreasing, less_greater, greater_less}
 use Rattle.jc_rules.proofs.Entries.{same-self}
 use Rattle.jc_tree.specs.Tree.{is_after, least_after}
 use Rattle.jc_tree.specs.Sorted.{AreSorted, StandsAt, BelongsAt, IsPlace}
+use Rattle.jc_tree.specs.Undo.{removed, restored}
 
 module _ {X : Type 0} where
   first_ones : (P : Key × X → Type 0) (es : List (Key × X)) (i : ℕ) → i ≤ length es → AllWithin P es 0 i → AllByRecursion P (take i es)
@@ -93,6 +94,48 @@ module _ {X : Type 0} where
   pub put-standing : (q : Key) (es : List (Key × X)) (i : ℕ) (e : Key × X) (v : X) → AreSorted es → StandsAt q es i → e ≡ get_or es i e → put key_cmp q v es ≡ slice_set es i (e.0, v)
   put-standing q es i e v h s is = put-at q es i s.value v h s.entry ∙ ap (λ (d : Key × X). slice_set es i (d.0, v)) (sym (standing q es i e s is))
 
+  removed-at : (q : Key) (es : List (Key × X)) (i : ℕ) (x : X) → AreSorted es → slice_get es i ≡ Some (q, x) → removed q es ≡ remove es i
+  removed-at q [] i x h g = cc
+  removed-at q (e ∷ es) zero x h g = let same : e ≡ (q, x) = cc in rw same (rw (same-self keys_total exact_keys q) refl)
+  removed-at q (e ∷ es) (suc i) x h g = rw (later e (q, x) es i h g) (ap (λ r. e ∷ r) (removed-at q es i x h.1 g))
+
+  -- the entry at a key's place, taken away or with the value that it had
+  pub removed-standing : (q : Key) (es : List (Key × X)) (i : ℕ) → AreSorted es → StandsAt q es i → removed q es ≡ remove es i
+  removed-standing q es i h s = removed-at q es i s.value h s.entry
+
+  pub replaced-standing : (q : Key) (es : List (Key × X)) (i : ℕ) (e : Key × X) (v : X) → AreSorted es → StandsAt q es i → e ≡ get_or es i e → replaced key_cmp q v es ≡ slice_set es i (e.0, v)
+  replaced-standing q es i e v h s is = replaced-at q es i s.value v h s.entry ∙ ap (λ (d : Key × X). slice_set es i (d.0, v)) (sym (standing q es i e s is))
+
+  -- what nothing stood under stays so
+  pub restored-absent : (q : Key) (es : List (Key × X)) (i : ℕ) (o : Option X) → BelongsAt q es i → restored q o es ≡ es
+  restored-absent q [] i None b = refl
+  restored-absent q [] i (Some v) b = refl
+  restored-absent q (e ∷ es) zero None b = rw b.greater.0 (ap (λ r. e ∷ r) (restored-absent q es zero None (record { within = omega arith; lesser = tt; greater = b.greater.1 })))
+  restored-absent q (e ∷ es) zero (Some v) b = rw b.greater.0 (ap (λ r. e ∷ r) (restored-absent q es zero (Some v) (record { within = omega arith; lesser = tt; greater = b.greater.1 })))
+  restored-absent q (e ∷ es) (suc i) None b = rw (less_greater keys_total e.0 q b.lesser.0) (ap (λ r. e ∷ r) (restored-absent q es i None (record { within = omega (arith, b.within); lesser = b.lesser.1; greater = b.greater })))
+  restored-absent q (e ∷ es) (suc i) (Some v) b = rw (less_greater keys_total e.0 q b.lesser.0) (ap (λ r. e ∷ r) (restored-absent q es i (Some v) (record { within = omega (arith, b.within); lesser = b.lesser.1; greater = b.greater })))
+
+  nowhere : (q : Key) (i : ℕ) → StandsAt {X = X} q [] i → ⊥
+  nowhere q i s = let x = s.value in let none : slice_get {X = Key × X} [] i ≡ Some (q, x) = s.entry in cc
+
+  pub standing_within : (q : Key) (es : List (Key × X)) (i : ℕ) → StandsAt q es i → i < length es
+  standing_within q [] i s = absurd (nowhere q i s)
+  standing_within q (e ∷ es) zero s = omega arith
+  standing_within q (e ∷ es) (suc i) s = omega (arith, standing_within q es i (record { value = s.value; entry = s.entry }))
+
+  all_left : (P : Key → Type 0) (es : List (Key × X)) (i : ℕ) → AllByRecursion P (keys_of es) → AllByRecursion P (keys_of (remove es i))
+  all_left P [] zero h = tt
+  all_left P [] (suc i) h = tt
+  all_left P (e ∷ es) zero h = h.1
+  all_left P (e ∷ es) (suc i) h = (h.0, all_left P es i h.1)
+
+  -- what is left of a sorted list is sorted
+  pub sorted_left : (es : List (Key × X)) (i : ℕ) → AreSorted es → AreSorted (remove es i)
+  sorted_left [] zero h = tt
+  sorted_left [] (suc i) h = tt
+  sorted_left (e ∷ es) zero h = h.1
+  sorted_left (e ∷ es) (suc i) h = (all_left (λ k. key_cmp e.0 k ≡ Less) es i h.0, sorted_left es i h.1)
+
   least-first : (e : Key × X) (es : List (Key × X)) → AreSorted (e ∷ es) → least (keys_of (e ∷ es)) ≡ Some e.0
   least-first e [] h = refl
   least-first e (d ∷ es) h = rw (least-first d es h.1) (rw h.0.0 refl)
@@ -134,9 +177,6 @@ module _ {X : Type 0} where
   greater_ones : (e : Key × X) (es : List (Key × X)) → AllByRecursion (λ k. key_cmp e.0 k ≡ Less) (keys_of es) → AllByRecursion (λ d. key_cmp e.0 d.0 ≡ Less) es
   greater_ones e [] h = tt
   greater_ones e (d ∷ es) h = (h.0, greater_ones e es h.1)
-
-  nowhere : (q : Key) (i : ℕ) → StandsAt {X = X} q [] i → ⊥
-  nowhere q i s = let x = s.value in let none : slice_get {X = Key × X} [] i ≡ Some (q, x) = s.entry in cc
 
   -- after a key that has an entry: the next one
   pub least-stands : (q : Key) (es : List (Key × X)) (i : ℕ) → AreSorted es → StandsAt q es i → least_after (Some q) (keys_of es) ≡ option_map (λ e. e.0) (slice_get es (suc i))

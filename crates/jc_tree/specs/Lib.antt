@@ -3,6 +3,7 @@ pub mod Sorted
 pub mod Nested
 pub mod Falls
 pub mod Change
+pub mod Undo
 pub mod Single
 pub mod Laws
 pub mod Empty

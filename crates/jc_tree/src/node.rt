@@ -9,9 +9,10 @@ ghost use Rattle.jc_rules.specs.Table.{least};
 ghost use Rattle.jc_tree.specs.Tree.{least_after};
 ghost use Rattle.jc_tree.specs.Sorted.{AreSorted};
 ghost use Rattle.jc_tree.specs.Change.{changed_by, changed_at};
+ghost use Rattle.jc_tree.specs.Undo.{former_of, restored_by, restored_at};
 
-use crate::entries::{key_above, place_of, put_value, value_of};
-use crate::lists::{Ids, Pairs, copy_entries};
+use crate::entries::{key_above, place_of, put_value, restore_value, value_of};
+use crate::lists::{Ids, Pairs};
 use jc_rules::{Id, Key, Next, Tagged, Value, compare_keys};
 use std::alloc::{AllocError, Global};
 use std::marker::Model;
@@ -58,6 +59,16 @@ pub enum Change {
     Register(Key, Pairs),
 }
 
+/// An entry of a context as it was before a change: what stood under the key, if anything did.
+#[derive(Drop)]
+pub enum Former {
+    Map(Key, Option<Node>),
+    List(Key, Option<Node>),
+    Register(Key, Option<Pairs>),
+    Presence(Key, Option<Ids>),
+    Link(Key, Option<Next>),
+}
+
 impl Node {
     /// The content of a new map.
     pub fn new(alloc: Global) -> Self
@@ -79,20 +90,6 @@ impl Node {
         let mut node = Node::new(alloc);
         put_value(&mut node.links, Key::Head, Next::Tail)?;
         Ok(node)
-    }
-
-    /// The same context once more.
-    #[cycle(copying)]
-    pub fn copy(&self, alloc: Global) -> Result<Node, AllocError>
-        ensures { IfOk result (λ node. node ≡ self.now) }
-    {
-        Ok(Node {
-            maps: copy_children(alloc, self.maps.as_slice())?,
-            lists: copy_children(alloc, self.lists.as_slice())?,
-            registers: copy_entries(alloc, self.registers.as_slice())?,
-            presences: copy_entries(alloc, self.presences.as_slice())?,
-            links: copy_entries(alloc, self.links.as_slice())?,
-        })
     }
 
     /// Whether the tagged key is there.
@@ -177,39 +174,49 @@ impl Node {
         key_above(self.links.as_slice(), after)
     }
 
-    /// Changes this context. After a refusal it is as it was.
-    fn change(&mut self, change: Change, alloc: Global) -> Result<(), AllocError>
+    /// Changes this context, and gives the entry as it was. After a refusal the context is as it was.
+    fn change(&mut self, change: Change, alloc: Global) -> Result<Former, AllocError>
         ensures ok { OnOk result (self.new ≡ changed_by change self.old) }
+        ensures former { IfOk result (λ former. former ≡ former_of change self.old) }
         ensures err { OnErr result (self.new ≡ self.old) }
     {
         match change {
-            Change::Child(Tagged::MapT(key)) => put_value(&mut self.maps, key, Node::new(alloc)),
-            Change::Child(Tagged::ListT(key)) => put_value(
-                &mut self.lists,
-                key,
-                Node::new_list(alloc)?,
-            ),
-            Change::Child(Tagged::RegT(key)) => put_value(
-                &mut self.registers,
-                key,
-                Pairs::new(Vec::new(alloc)),
-            ),
-            Change::Presence(key, ids) => put_value(&mut self.presences, key, ids),
-            Change::Link(key, next) => put_value(&mut self.links, key, next),
-            Change::Register(key, pairs) => put_value(&mut self.registers, key, pairs),
+            Change::Child(Tagged::MapT(key)) => {
+                let map = Node::new(alloc);
+                Ok(Former::Map(key.copy()?, put_value(&mut self.maps, key, map)?))
+            }
+            Change::Child(Tagged::ListT(key)) => {
+                let list = Node::new_list(alloc)?;
+                Ok(Former::List(key.copy()?, put_value(&mut self.lists, key, list)?))
+            }
+            Change::Child(Tagged::RegT(key)) => {
+                let pairs = Pairs::new(Vec::new(alloc));
+                Ok(Former::Register(key.copy()?, put_value(&mut self.registers, key, pairs)?))
+            }
+            Change::Presence(key, ids) => {
+                Ok(Former::Presence(key.copy()?, put_value(&mut self.presences, key, ids)?))
+            }
+            Change::Link(key, next) => {
+                Ok(Former::Link(key.copy()?, put_value(&mut self.links, key, next)?))
+            }
+            Change::Register(key, pairs) => {
+                Ok(Former::Register(key.copy()?, put_value(&mut self.registers, key, pairs)?))
+            }
         }
     }
 
-    /// Changes the context at the place. After a refusal all is as it was.
+    /// Changes the context at the place, and gives the entry as it was. After a refusal all is as it
+    /// was.
     #[cycle(changing)]
     pub fn change_at(
         &mut self,
         at: &[Tagged],
         change: Change,
         alloc: Global,
-    ) -> Result<(), AllocError>
+    ) -> Result<Former, AllocError>
         requires { node_at at.now self.old ≢ None }
         ensures ok { OnOk result (self.new ≡ changed_at at.now change self.old) }
+        ensures former { IfOk result (λ former. former ≡ former_of change (context_at at.now self.old)) }
         ensures err { OnErr result (self.new ≡ self.old) }
     {
         let Some((first, rest)) = at.split_first() else {
@@ -221,20 +228,39 @@ impl Node {
             Tagged::RegT(_) => unreachable!(),
         }
     }
-}
 
-#[cycle(copying)]
-fn copy_children(alloc: Global, children: &[(Key, Node)]) -> Result<Vec<(Key, Node)>, AllocError>
-    ensures { IfOk result (λ copies. copies.items ≡ children.now) }
-{
-    let mut copies = Vec::new(alloc);
-    for (key, node) in children {
-        copies.push((key.copy()?, node.copy(alloc)?))?;
+    /// Makes an entry what it was.
+    #[tactic(auto, using(crate::proofs::Nodes::map_restored, crate::proofs::Nodes::list_restored))]
+    fn restore(&mut self, former: Former)
+        ensures { self.new ≡ restored_by former self.old }
+    {
+        match former {
+            Former::Map(key, map) => restore_value(&mut self.maps, &key, map),
+            Former::List(key, list) => restore_value(&mut self.lists, &key, list),
+            Former::Register(key, pairs) => restore_value(&mut self.registers, &key, pairs),
+            Former::Presence(key, ids) => restore_value(&mut self.presences, &key, ids),
+            Former::Link(key, next) => restore_value(&mut self.links, &key, next),
+        }
     }
-    Ok(copies)
+
+    /// Makes an entry of the context at the place what it was.
+    #[cycle(restoring)]
+    pub fn restore_at(&mut self, at: &[Tagged], former: Former)
+        ensures { self.new ≡ restored_at at.now former self.old }
+    {
+        let Some((first, rest)) = at.split_first() else {
+            return self.restore(former);
+        };
+        match first {
+            Tagged::MapT(key) => restore_in(&mut self.maps, key, rest, former),
+            Tagged::ListT(key) => restore_in(&mut self.lists, key, rest, former),
+            Tagged::RegT(_) => {}
+        }
+    }
 }
 
-/// Changes the context at the place in the key's child. After a refusal all is as it was.
+/// Changes the context at the place in the key's child, and gives the entry as it was. After a
+/// refusal all is as it was.
 #[cycle(changing)]
 fn change_in(
     children: &mut Vec<(Key, Node)>,
@@ -242,17 +268,33 @@ fn change_in(
     at: &[Tagged],
     change: Change,
     alloc: Global,
-) -> Result<(), AllocError>
+) -> Result<Former, AllocError>
     requires sorted { AreSorted children.old.items }
     requires there { IsSomeAnd (find key_cmp key.now children.old.items) (λ child. node_at at.now child ≢ None) }
     ensures ok { OnOk result (IfSome (find key_cmp key.now children.old.items) (λ child.
         children.new.items ≡ put key_cmp key.now (changed_at at.now change child) children.old.items)) }
+    ensures former { IfOk result (λ former. IfSome (find key_cmp key.now children.old.items) (λ child.
+        former ≡ former_of change (context_at at.now child))) }
     ensures err { OnErr result (children.new.items ≡ children.old.items) }
     ensures still_sorted { AreSorted children.new.items }
 {
     match place_of(children.as_slice(), key) {
         Ok(i) => children[i].1.change_at(at, change, alloc),
         Err(_) => unreachable!(),
+    }
+}
+
+/// Makes an entry of the context at the place in the key's child what it was.
+#[cycle(restoring)]
+fn restore_in(children: &mut Vec<(Key, Node)>, key: &Key, at: &[Tagged], former: Former)
+    requires sorted { AreSorted children.old.items }
+    ensures found { IfSome (find key_cmp key.now children.old.items) (λ child.
+        children.new.items ≡ put key_cmp key.now (restored_at at.now former child) children.old.items) }
+    ensures absent { find key_cmp key.now children.old.items ≡ None → children.new.items ≡ children.old.items }
+    ensures still_sorted { AreSorted children.new.items }
+{
+    if let Ok(i) = place_of(children.as_slice(), key) {
+        children[i].1.restore_at(at, former);
     }
 }
 

@@ -1,28 +1,36 @@
 //! The plain store: nested lists that are sorted by key.
 
-ghost use Rattle.std.specs.Prelude.{◌≡◌, ◌≢◌, None, [], ◌∷◌, ◌++◌, OnOk, OnErr};
+ghost use Rattle.std.specs.Prelude.{◌≡◌, ◌≢◌, ◌<◌, ◌+◌, None, [], ◌∷◌, ◌++◌, length, OnOk, OnErr};
 ghost use Rattle.std.specs.List.{AllByRecursion};
 ghost use Rattle.jc_rules.specs.Context.{empty};
 ghost use Rattle.jc_rules.specs.Places.{node_at};
 ghost use Rattle.jc_rules.specs.Shape.{IsKept};
 ghost use Rattle.jc_tree.specs.Tree.{Tree};
 ghost use Rattle.jc_tree.specs.Change.{IsFit, changed_at};
+ghost use Rattle.jc_tree.specs.Undo.{contents};
 ghost use Rattle.jc_tree.specs.Single.{IsKept-single, AreAllKept-single};
 
-use crate::lists::{Ids, Pairs};
-use crate::node::{Change, Node};
+use crate::lists::{Ids, Pairs, copy_place};
+use crate::node::{Change, Former, Node};
 use crate::store::{Mark, TreeStore};
 use jc_rules::{Id, Key, Next, Tagged, Value};
 use std::alloc::{AllocError, Global};
 
-/// A tree of nested sorted lists, with a copy of each earlier content.
+/// What takes one change back: the entry of the context at the place, as it was before.
+#[derive(Drop)]
+pub struct Undo {
+    at: Vec<Tagged>,
+    former: Former,
+}
+
+/// A tree of nested sorted lists, with what takes each of its changes back, the latest last.
 #[derive(Drop)]
 pub struct PlainTree {
     alloc: Global,
     root: Node,
-    earlier: Vec<Node>,
+    undos: Vec<Undo>,
     ghost root_kept: { IsKept root } by { IsKept-single root },
-    ghost earlier_kept: { AllByRecursion IsKept earlier.items } by { AreAllKept-single earlier.items },
+    ghost earlier_kept: { AllByRecursion IsKept (contents undos.items root) } by { AreAllKept-single (contents undos.items root) },
 }
 
 impl PlainTree {
@@ -33,30 +41,42 @@ impl PlainTree {
         PlainTree {
             alloc,
             root: Node::new(alloc),
-            earlier: Vec::new(alloc),
+            undos: Vec::new(alloc),
         }
     }
 
-    /// Makes one change, and keeps the content before it. After a refusal all is as it was.
+    /// Makes one change, and keeps what takes it back. After a refusal all is as it was.
     fn change(&mut self, at: &[Tagged], change: Change) -> Result<(), AllocError>
         requires there { node_at at.now self.old.root ≢ None }
         requires fit { IsFit change }
         ensures root { OnOk result (self.new.root ≡ changed_at at.now change self.old.root) }
-        ensures earlier { OnOk result (self.new.earlier.items ≡ self.old.earlier.items ++ self.old.root ∷ []) }
+        ensures earlier { OnOk result (contents self.new.undos.items self.new.root
+            ≡ contents self.old.undos.items self.old.root ++ self.old.root ∷ []) }
         ensures same_root { OnErr result (self.new.root ≡ self.old.root) }
-        ensures same_earlier { OnErr result (self.new.earlier.items ≡ self.old.earlier.items) }
+        ensures same_undos { OnErr result (self.new.undos.items ≡ self.old.undos.items) }
     {
-        self.earlier.push(self.root.copy(self.alloc)?)?;
-        let changed = self.root.change_at(at, change, self.alloc);
-        if changed.is_err() {
-            self.earlier.pop();
+        let place = copy_place(self.alloc, at)?;
+        self.undos.reserve(1)?;
+        let former = self.root.change_at(at, change, self.alloc)?;
+        self.undos.push(Undo { at: place, former }).unwrap();
+        Ok(())
+    }
+
+    /// Takes the latest change back.
+    fn undo(&mut self)
+        requires { 0 < length self.old.undos.items }
+        ensures undos { length self.new.undos.items + 1 ≡ length self.old.undos.items }
+        ensures history { contents self.new.undos.items self.new.root ++ self.new.root ∷ []
+            ≡ contents self.old.undos.items self.old.root }
+    {
+        if let Some(Undo { at, former }) = self.undos.pop() {
+            self.root.restore_at(at.as_slice(), former);
         }
-        changed
     }
 }
 
 impl TreeStore for PlainTree {
-    ghost tree = { λ s. record { now = s.root; earlier = s.earlier.items } };
+    ghost tree = { λ s. record { now = s.root; earlier = contents s.undos.items s.root } };
 
     ghost kept = { λ s. s.root_kept };
 
@@ -110,22 +130,20 @@ impl TreeStore for PlainTree {
         self.root.node_at(at).link_after(above)
     }
 
+    #[tactic(auto, using(crate::proofs::Undoing::length_contents))]
     fn mark(&self) -> Mark {
         Mark {
-            changes: self.earlier.len(),
+            changes: self.undos.len(),
         }
     }
 
     fn undo_to(&mut self, mark: Mark) {
-        if mark.changes < self.earlier.len() {
-            self.earlier.truncate(mark.changes + 1);
-            if let Some(root) = self.earlier.pop() {
-                self.root = root;
-            }
+        while mark.changes < self.undos.len() {
+            self.undo();
         }
     }
 
     fn forget_marks(&mut self) {
-        self.earlier.clear();
+        self.undos.clear();
     }
 }

@@ -1,0 +1,117 @@
+-- Changes are taken back exactly.
+use Rattle.std.proofs.Common.{◌≡◌, ◌≢◌, ℕ, ◌+◌, ◌≤◌, suc, length, take, subst, add-one, arith, if◌then◌else◌, Result, Ok, Err, is_ok, OnErr, List, [], ◌∷◌, ◌++◌, Option, Some, None, refl, sym, ◌∙◌, ap}
+use Rattle.std.specs.List.{AllByRecursion}
+use Rattle.std.specs.declared.cmp.Ordering.{Ordering}
+use Rattle.std.specs.declared.cmp.Ordering.TheVariants.{Less, Equal, Greater}
+use Rattle.jc_rules.specs.declared.key.Key.{Key}
+use Rattle.jc_rules.specs.declared.key.Tagged.{Tagged}
+use Rattle.jc_rules.specs.declared.key.Tagged.TheVariants.{MapT, ListT, RegT}
+use Rattle.jc_rules.specs.Order.{key_cmp}
+use Rattle.jc_rules.specs.Entries.{find, placed, replaced, put}
+use Rattle.jc_rules.specs.Context.{Context, context, listed, empty, empty_list}
+use Rattle.jc_rules.specs.Places.{node_at, with_node_at, context_at}
+use Rattle.jc_rules.proofs.Order.{keys_total, exact_keys}
+use Rattle.jc_rules.proofs.Entries.{same-self, found-put, put-put, put-same}
+use Rattle.jc_rules.proofs.Places.{listed_children, children_listed, with_node-twice, with_node-same, there}
+use Rattle.jc_rules.specs.Shape.{IsKept}
+use Rattle.jc_tree.specs.Change.{changed_by, changed_at}
+use Rattle.jc_tree.specs.Undo.{removed, restored, former_of, restored_by, restored_at, undone, contents}
+use Rattle.jc_tree.specs.declared.node.Change.{Change}
+use Rattle.jc_tree.specs.declared.node.Change.TheVariants.{Child, Presence, Link, Register}
+use Rattle.jc_tree.specs.declared.plain.Undo.{Undo}
+use Rattle.jc_tree.proofs.Places.{then_here}
+
+module _ {X : Type 0} where
+  removed-placed : (k : Key) (v : X) (es : List (Key × X)) → find key_cmp k es ≡ None → removed k (placed key_cmp k v es) ≡ es
+  removed-placed k v [] h = rw (same-self keys_total exact_keys k) refl
+  removed-placed k v (e ∷ es) h = go (key_cmp k e.0) refl (λ i. removed-placed k v es i) h
+    where
+      go : (o : Ordering) → key_cmp k e.0 ≡ o → (find key_cmp k es ≡ None → removed k (placed key_cmp k v es) ≡ es) → find key_cmp k (e ∷ es) ≡ None → removed k (placed key_cmp k v (e ∷ es)) ≡ e ∷ es
+      go Less p ih g = rw p (rw (same-self keys_total exact_keys k) refl)
+      go Equal p ih g = let n : Some e.1 ≡ None = rw p at g in cc
+      go Greater p ih g = rw (p, p) (ap (λ r. e ∷ r) (ih (rw p at g)))
+
+  -- what stood under a key before a put, there again
+  restored-put : (k : Key) (v : X) (es : List (Key × X)) → restored k (find key_cmp k es) (put key_cmp k v es) ≡ es
+  restored-put k v es = go (find key_cmp k es) refl
+    where
+      put_again : (x : X) → put key_cmp k x (put key_cmp k v es) ≡ replaced key_cmp k x (put key_cmp k v es)
+      put_again x = rw (found-put keys_total exact_keys k v es) refl
+
+      go : (o : Option X) → find key_cmp k es ≡ o → restored k o (put key_cmp k v es) ≡ es
+      go None p = rw p (removed-placed k v es p)
+      go (Some x) p = sym (put_again x) ∙ put-put keys_total exact_keys k x v es ∙ put-same keys_total exact_keys k x es p
+
+restored_changed : (change : Change) (c : Context) → restored_by (former_of change c) (changed_by change c) ≡ c
+restored_changed (Child (MapT k)) (context m l r p n) = rw (listed_children, restored-put k empty (listed m), children_listed m) refl
+restored_changed (Child (ListT k)) (context m l r p n) = rw (listed_children, restored-put k empty_list (listed l), children_listed l) refl
+restored_changed (Child (RegT k)) (context m l r p n) = rw (restored-put k [] r) refl
+restored_changed (Presence k s) (context m l r p n) = rw (restored-put k s p) refl
+restored_changed (Link k x) (context m l r p n) = rw (restored-put k x n) refl
+restored_changed (Register k v) (context m l r p n) = rw (restored-put k v r) refl
+
+-- a change at a place, taken back
+pub restored_change : (at : List Tagged) (change : Change) (c : Context) → node_at at c ≢ None → restored_at at (former_of change (context_at at c)) (changed_at at change c) ≡ c
+restored_change at change c place =
+    let here = context_at at c in
+    let changed = changed_by change here in
+    let back = restored_by (former_of change here) in
+    let there_now : context_at at (with_node_at at changed c) ≡ changed = then_here at changed (record { now = c; earlier = [] }) (record { now = with_node_at at changed c; earlier = [] }) place refl in
+    ap (λ y. with_node_at at (back y) (with_node_at at changed c)) there_now
+    ∙ with_node-twice at changed (back changed) c
+    ∙ ap (λ y. with_node_at at y c) (restored_changed change here)
+    ∙ with_node-same at here c (there at c place)
+
+-- the latest change is taken back first
+undone_latest : (us : List Undo) (u : Undo) (c : Context) → undone (us ++ u ∷ []) c ≡ undone us (undone (u ∷ []) c)
+undone_latest [] u c = refl
+undone_latest (v ∷ us) u c = ap (restored_at v.at.items v.former) (undone_latest us u c)
+
+pub contents_latest : (us : List Undo) (u : Undo) (c : Context) → contents (us ++ u ∷ []) c ≡ contents us (undone (u ∷ []) c) ++ undone (u ∷ []) c ∷ []
+contents_latest [] u c = refl
+contents_latest (v ∷ us) u c = rw (undone_latest us u c, contents_latest us u c) refl
+
+pub length_contents : (us : List Undo) (c : Context) → length (contents us c) ≡ length us
+length_contents [] c = refl
+length_contents (u ∷ us) c = ap suc (length_contents us c)
+
+-- what is pushed where there is room
+pushed : {A E X : Type 0} (r : Result A E) (xs : List X) (x : X) (n k : ℕ) → OnErr r (k ≤ n) → n + 1 ≤ k → (if is_ok r then xs ++ x ∷ [] else xs) ≡ xs ++ x ∷ []
+pushed (Ok y) xs x n k h room = refl
+pushed (Err e) xs x n k h room = absurd (omega (arith, h, room))
+
+-- after a change at a place, with what takes it back pushed
+pub contents_changed : {A E : Type 0} (r : Result A E) (us vs ws : List Undo) (u : Undo) (change : Change) (at : List Tagged) (c d : Context) (n k : ℕ) → OnErr r (k ≤ n) → n + 1 ≤ k → vs ≡ us → ws ≡ (if is_ok r then vs ++ u ∷ [] else vs) → node_at at c ≢ None → d ≡ changed_at at change c → u.at.items ≡ at → u.former ≡ former_of change (context_at at c) → contents ws d ≡ contents us c ++ c ∷ []
+contents_changed r us vs ws u change at c d n k full room same is place e p f =
+    let all : ws ≡ us ++ u ∷ [] = is ∙ pushed r vs u n k full room ∙ ap (λ x. x ++ u ∷ []) same in
+    let back : undone (u ∷ []) d ≡ c = rw (e, p, f) (restored_change at change c place) in
+    rw all (contents_latest us u d) ∙ ap (λ x. contents us x ++ x ∷ []) back
+
+all_parts : (P : Context → Type 0) (cs : List Context) (c : Context) → AllByRecursion P (cs ++ c ∷ []) → AllByRecursion P cs × P c
+all_parts P [] c h = (tt, h.0)
+all_parts P (d ∷ cs) c h = let rest = all_parts P cs c h.1 in ((h.0, rest.0), rest.1)
+
+-- after the latest change was taken back
+pub kept_undone : (us : List Undo) (u : Undo) (c : Context) → AllByRecursion IsKept (contents (us ++ u ∷ []) c) → AllByRecursion IsKept (contents us (undone (u ∷ []) c)) × IsKept (undone (u ∷ []) c)
+kept_undone us u c h = all_parts IsKept (contents us (undone (u ∷ []) c)) (undone (u ∷ []) c) (subst (AllByRecursion IsKept) (contents_latest us u c) h)
+
+-- the beginning of a history, by one content shorter
+shorter : (cs : List Context) (c : Context) (all : List Context) → cs ++ c ∷ [] ≡ take (suc (length cs)) all → cs ≡ take (length cs) all
+shorter [] c all e = refl
+shorter (d ∷ cs) c [] e = cc
+shorter (d ∷ cs) c (b ∷ all) e =
+    let heads : d ≡ b = cc in
+    let tails : cs ++ c ∷ [] ≡ take (suc (length cs)) all = cc in
+    λ i. heads i ∷ shorter cs c all tails i
+
+pub once_shorter : (us : List Undo) (c : Context) (all : List Context) → contents us c ++ c ∷ [] ≡ take (length us + 1) all → contents us c ≡ take (length us) all
+once_shorter us c all e =
+    let n : length (contents us c) ≡ length us = length_contents us c in
+    rw n at (shorter (contents us c) c all (e ∙ rw (n, add-one) refl))
+
+all_of : (cs : List Context) (c : Context) → take (suc (length cs)) (cs ++ c ∷ []) ≡ cs ++ c ∷ []
+all_of [] c = refl
+all_of (d ∷ cs) c = ap (λ r. d ∷ r) (all_of cs c)
+
+pub whole : (us : List Undo) (c : Context) → contents us c ++ c ∷ [] ≡ take (length us + 1) (contents us c ++ c ∷ [])
+whole us c = sym (subst (λ n. take (n + 1) (contents us c ++ c ∷ []) ≡ contents us c ++ c ∷ []) (length_contents us c) (rw add-one (all_of (contents us c) c)))

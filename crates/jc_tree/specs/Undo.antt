@@ -1,0 +1,56 @@
+-- How changes are taken back.
+use Rattle.std.specs.Prelude.{List, [], ◌∷◌, ◌++◌, Option, Some, None, cond}
+use Rattle.std.specs.Ordering.{eq_by_cmp}
+use Rattle.jc_rules.specs.declared.key.Key.{Key}
+use Rattle.jc_rules.specs.declared.key.Tagged.{Tagged}
+use Rattle.jc_rules.specs.declared.key.Tagged.TheVariants.{MapT, ListT, RegT}
+use Rattle.jc_rules.specs.Order.{key_cmp}
+use Rattle.jc_rules.specs.Entries.{find, replaced}
+use Rattle.jc_rules.specs.Context.{Context, context, children, listed, maps, lists, registers, presence, next}
+use Rattle.jc_rules.specs.Places.{with_node_at, context_at}
+use Rattle.jc_tree.specs.declared.node.Change.{Change}
+use Rattle.jc_tree.specs.declared.node.Change.TheVariants.{Child, Presence, Link, Register}
+use Rattle.jc_tree.specs.declared.node.Former.{Former}
+use Rattle.jc_tree.specs.declared.node.Former.TheVariants as F
+use Rattle.jc_tree.specs.declared.plain.Undo.{Undo}
+
+-- without the entry of the key
+abbrev pub removed : {X : Type 0} → Key → List (Key × X) → List (Key × X)
+removed k [] = []
+removed k (e ∷ es) = cond (eq_by_cmp key_cmp k e.0) es (e ∷ removed k es)
+
+-- with the value that the key had, where it had one, in the place of the one that it has
+abbrev pub restored : {X : Type 0} → Key → Option X → List (Key × X) → List (Key × X)
+restored k (Some x) es = replaced key_cmp k x es
+restored k None es = removed k es
+
+-- the entry that a change is going to set
+abbrev pub former_of : Change → Context → Former
+former_of (Child (MapT k)) c = F.Map k (find key_cmp k (maps c))
+former_of (Child (ListT k)) c = F.List k (find key_cmp k (lists c))
+former_of (Child (RegT k)) c = F.Register k (find key_cmp k (registers c))
+former_of (Presence k s) c = F.Presence k (presence k c)
+former_of (Link k n) c = F.Link k (next k c)
+former_of (Register k r) c = F.Register k (find key_cmp k (registers c))
+
+-- with that entry as it was
+abbrev pub restored_by : Former → Context → Context
+restored_by (F.Map k o) (context m l r p n) = context (children (restored k o (listed m))) l r p n
+restored_by (F.List k o) (context m l r p n) = context m (children (restored k o (listed l))) r p n
+restored_by (F.Register k o) (context m l r p n) = context m l (restored k o r) p n
+restored_by (F.Presence k o) (context m l r p n) = context m l r (restored k o p) n
+restored_by (F.Link k o) (context m l r p n) = context m l r p (restored k o n)
+
+-- that in the context at the place
+abbrev pub restored_at : List Tagged → Former → Context → Context
+restored_at at former c = with_node_at at (restored_by former (context_at at c)) c
+
+-- the content before all the changes that these take back, of which the last was the latest
+abbrev pub undone : List Undo → Context → Context
+undone [] c = c
+undone (u ∷ us) c = restored_at u.at.items u.former (undone us c)
+
+-- the contents before each of these changes, the oldest first
+abbrev pub contents : List Undo → Context → List Context
+contents [] c = []
+contents (u ∷ us) c = undone (u ∷ us) c ∷ contents us c
