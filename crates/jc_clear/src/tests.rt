@@ -29,7 +29,7 @@ const THIRD: Id = Id {
     replica: 0,
 };
 
-const ELEMENTS: u64 = 100;
+const ELEMENTS: u64 = 10_000;
 
 /// The key of a register that is cleared: only the presence of `deps` goes.
 const OF_A_REGISTER: [(Rule, u64); 6] = [
@@ -367,7 +367,6 @@ fn many_elements<S: TreeStore>(
         link(rt, store, at, &place, id)?;
         place = Key::Elem(id);
         with_value(alloc, store, at, &place, id)?;
-        store.forget_marks();
     }
     Ok(place)
 }
@@ -384,7 +383,7 @@ fn long_list_cleared_and_undone(rt: HostRuntime) -> Result<(), Fail> {
     let start = store.mark();
     let mut trace = Trace::new(alloc);
     let left = clear(alloc, &mut store, &ids(alloc, &[])?, &[], &list, &mut trace)?;
-    assert_eq!(rt; left.len(), 100);
+    assert_eq!(rt; left.len(), 10_000);
     assert!(rt; store.presence(at, &place).is_some());
     store.undo_to(start);
     assert!(rt; store.presence(at, &place).is_none());

@@ -1,4 +1,4 @@
-use Rattle.std.proofs.Common.{◌≡◌, ◌≤◌, ◌++◌, ◌∷◌, [], length, take, sym, ap, arith, ◌∙◌}
+use Rattle.std.proofs.Common.{◌≤◌, ◌++◌, ◌∷◌, [], length, take, sym, ap, arith, ◌∙◌}
 use Rattle.jc_tree.specs.Undo.{contents}
 use Rattle.jc_tree.proofs.Undoing.{length_contents, once_shorter, whole}
 use Rattle.jc_tree.proofs.plain.PlainTreeTreeStore.undo_to.Goals as goal
