@@ -7,7 +7,7 @@ ghost use Rattle.jc_rules.specs.Places.{node_at, node_in};
 ghost use Rattle.jc_rules.specs.Shape.{IsChained};
 ghost use Rattle.jc_tree.specs.Tree.{HasPlace};
 
-use crate::{clear, clear_elem};
+use crate::{clear, clear_elem, presence_of};
 use jc_rules::{Id, IdSet, Key, Next, Rule, Tagged, Text, Trace, Value};
 use jc_tree::{PlainTree, TreeStore};
 use std::alloc::{AllocError, Global};
@@ -329,6 +329,18 @@ fn map_of_two(rt: HostRuntime) -> Result<(), Fail> {
             .is_some_and(|pairs| pairs.len() == 1)
     );
     expect_rows(&rt, trace.rows(), &OF_A_MAP);
+    Ok(())
+}
+
+#[test]
+fn presence_of_the_document(rt: HostRuntime) -> Result<(), Fail> {
+    let alloc = rt.alloc();
+    let mut store = PlainTree::new(alloc);
+    with_presence(&mut store, &[], &Key::Doc, [FIRST, THIRD].as_slice())?;
+    let mut trace = Trace::new(alloc);
+    let ids = presence_of(alloc, &store, &[], &Key::Doc, &mut trace)?;
+    assert!(rt; ids.as_slice() == [FIRST, THIRD].as_slice());
+    expect_rows(&rt, trace.rows(), &[(Rule::Presence1, 0)]);
     Ok(())
 }
 
