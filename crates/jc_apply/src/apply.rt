@@ -134,8 +134,8 @@ fn operate<S: TreeStore>(
 /// Applies the operation to the document, and adds its rules to the trace at its depth. No
 /// identifier but the operation's own gets linked in a list.
 ///
-/// `NotInList` says that no derivation applies it; all else that is refused is memory. After a
-/// refusal store and trace are as they were before.
+/// Each operation that doesn't fit is refused with `NotInList`, and no other: no derivation applies
+/// it. All else that is refused is memory. After a refusal store and trace are as they were before.
 pub fn apply_op<S: TreeStore>(
     alloc: Global,
     store: &mut S,
@@ -146,6 +146,7 @@ pub fn apply_op<S: TreeStore>(
     requires fresh { IsUnlinked op.now.id (S.tree store.old).now }
     ensures ok { OnOk result (Derives (Operate (S.tree store.old).now op.now) (ToContext (S.tree store.new).now) trace.old trace.new) }
     ensures fits { OnOk result (Fits (S.tree store.old).now op.now.cursor.path op.now.cursor.last op.now.mutation) }
+    ensures memory { IsErrOf result ApplyFault.Memory → Fits (S.tree store.old).now op.now.cursor.path op.now.cursor.last op.now.mutation }
     ensures unfit { IsErrOf result ApplyFault.NotInList → Fits (S.tree store.old).now op.now.cursor.path op.now.cursor.last op.now.mutation → ⊥ }
     ensures no_answer { IsErrOf result ApplyFault.NotInList → HasNoAnswer (Operate (S.tree store.old).now op.now) }
     ensures refused { IsErrOf result ApplyFault.NotInList → AllByRecursion HasContext op.now.cursor.path → Refused (Operate (S.tree store.old).now op.now) (because PlaceNotInList) }
