@@ -438,18 +438,31 @@ fn value_then_map(rt: HostRuntime) -> Result<(), Fail> {
     Ok(())
 }
 
+/// The insert of a string behind a key.
+fn inserted(
+    alloc: Global,
+    id: Id,
+    deps: &[Id],
+    at: &[Tagged],
+    last: &Key,
+    text: &str,
+) -> Result<Op, AllocError>
+    ensures { IfOk result (λ op. op.id ≡ id) }
+{
+    let value = string(alloc, text)?;
+    op(alloc, id, deps, at, last, Mutation::Insert(value))
+}
+
 /// A list under the document, and two elements that are inserted into it.
 fn list_of_two(alloc: Global) -> Result<(Op, Op, Op), AllocError>
     ensures { IfOk result (λ ops. (ops.0.id ≡ by_a 1) × (ops.1.id ≡ by_a 2) × (ops.2.id ≡ by_a 3)) }
 {
     let at = [Tagged::ListT(Key::Doc)];
     let empty = Mutation::Assign(Value::EmptyList);
-    let x = Mutation::Insert(string(alloc, "x")?);
-    let y = Mutation::Insert(string(alloc, "y")?);
     Ok((
         op(alloc, A1, &[], &[], &Key::Doc, empty)?,
-        op(alloc, A2, &[A1], at.as_slice(), &Key::Head, x)?,
-        op(alloc, A3, &[A1, A2], at.as_slice(), &Key::Elem(A2), y)?,
+        inserted(alloc, A2, &[A1], at.as_slice(), &Key::Head, "x")?,
+        inserted(alloc, A3, &[A1, A2], at.as_slice(), &Key::Elem(A2), "y")?,
     ))
 }
 
@@ -550,20 +563,25 @@ fn expect_met<S: TreeStore>(rt: &impl Abort, alloc: Global, store: &S) -> Result
     expect_met_list(rt, alloc, store, in_list.as_slice())
 }
 
+/// The insert at the head of a list in the document's map.
+fn inserted_first(alloc: Global, id: Id, list: &Key, text: &str) -> Result<Op, AllocError>
+    ensures { IfOk result (λ op. op.id ≡ id) }
+{
+    let in_list = [Tagged::MapT(Key::Doc), Tagged::ListT(list.copy()?)];
+    inserted(alloc, id, &[A1], in_list.as_slice(), &Key::Head, text)
+}
+
 /// The operations of two replicas that insert at a list's head: the list, `x` by a, `y` by b.
 fn meeting(alloc: Global) -> Result<(Op, Op, Op), AllocError>
     ensures { IfOk result (λ ops. (ops.0.id ≡ by_a 1) × (ops.1.id ≡ by_a 2) × (ops.2.id ≡ by_b 2)) }
 {
     let list = name(alloc, "l")?;
     let at = [Tagged::MapT(Key::Doc)];
-    let in_list = [Tagged::MapT(Key::Doc), Tagged::ListT(list.copy()?)];
     let empty = Mutation::Assign(Value::EmptyList);
-    let x = Mutation::Insert(string(alloc, "x")?);
-    let y = Mutation::Insert(string(alloc, "y")?);
     Ok((
         op(alloc, A1, &[], at.as_slice(), &list, empty)?,
-        op(alloc, A2, &[A1], in_list.as_slice(), &Key::Head, x)?,
-        op(alloc, B2, &[A1], in_list.as_slice(), &Key::Head, y)?,
+        inserted_first(alloc, A2, &list, "x")?,
+        inserted_first(alloc, B2, &list, "y")?,
     ))
 }
 
