@@ -383,6 +383,25 @@ fn many_elements<S: TreeStore>(
     Ok(place)
 }
 
+/// The identifiers of so many elements.
+fn ids_of_all(alloc: Global, count: u64) -> Result<IdSet, AllocError> {
+    let mut all = IdSet::new(alloc);
+    for counter in 0..count {
+        all.insert(Id {
+            counter,
+            replica: 0,
+        })?;
+    }
+    Ok(all)
+}
+
+/// How many values the key's register has.
+fn count_values<S: TreeStore>(store: &S, at: &[Tagged], key: &Key) -> Option<usize>
+    requires { HasPlace at.now (S.tree store.now) }
+{
+    Some(store.register(at, key)?.len())
+}
+
 #[test]
 #[tactic(auto, using(crate::proofs::Places::places_stay, jc_tree::proofs::History::undone, jc_tree::proofs::History::mark_counts))]
 fn long_list_cleared_and_undone(rt: HostRuntime) -> Result<(), Fail> {
@@ -392,12 +411,15 @@ fn long_list_cleared_and_undone(rt: HostRuntime) -> Result<(), Fail> {
     let at = with_child(&rt, alloc, &mut store, &list)?;
     let at = at.as_slice();
     let place = many_elements(&rt, alloc, &mut store, at, ELEMENTS)?;
+    let deps = ids_of_all(alloc, ELEMENTS)?;
     let start = store.mark();
     let mut trace = Trace::new(alloc);
-    let left = clear(alloc, &mut store, &ids(alloc, &[])?, &[], &list, &mut trace)?;
-    assert_eq!(rt; left.len(), 10_000);
-    assert!(rt; store.presence(at, &place).is_some());
+    let left = clear(alloc, &mut store, &deps, &[], &list, &mut trace)?;
+    assert_eq!(rt; left.len(), 0);
+    assert!(rt; is_emptied(&store, at, &place));
+    assert_eq!(rt; count_values(&store, at, &place), Some(0));
     store.undo_to(start);
     assert!(rt; store.presence(at, &place).is_none());
+    assert_eq!(rt; count_values(&store, at, &place), Some(1));
     Ok(())
 }
