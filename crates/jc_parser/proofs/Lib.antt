@@ -38,3 +38,13 @@ mod SpelledScenarios
 mod Stopping
 mod SymbolTests
 mod Whole
+mod Headers
+mod TreeReaders
+mod TreeTails
+mod TreeSpelled
+mod TreeNames
+mod TreeExcess
+mod TreeFronts
+mod TreeWhole
+mod TreePlaces
+mod TreeLoops

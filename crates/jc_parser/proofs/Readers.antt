@@ -379,7 +379,7 @@ reads_refused p fault over F = reads_refused_by p (λ r. fault (place_at r.stop 
 abbrev pub Exactly : Symbol → Language (Unit {0})
 Exactly s k u w = w ≡ s ∷ []
 
-reads_skip : (p : Symbol → Bool) (s : Symbol) → p s ≡ true → ((x : Symbol) → p x ≡ true → x ≡ s) → Reads (Exactly s) Never (skip p)
+pub reads_skip : (p : Symbol → Bool) (s : Symbol) → p s ≡ true → ((x : Symbol) → p x ≡ true → x ≡ s) → Reads (Exactly s) Never (skip p)
 reads_skip p s passes only =
     reads_then (λ _ k u w. w ≡ []) (λ _. Never) (λ _ r. Ok (tt, r)) (Exactly s) Never (reads_one p s passes) (λ _. reads_done tt (λ k. refl)) (λ _. (tt, [], λ k. refl))
     (λ k x u v w h e. let same : x.symbol ≡ s = only x.symbol h.0 in rw (h.1, e, same) refl)

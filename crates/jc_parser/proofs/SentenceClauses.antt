@@ -58,6 +58,8 @@ kind_is own r (all.TooLongExpression p) h = (sentence.TooLongExpression p, refl)
 kind_is own r (all.NotUtf8 p) h = stopped_is own r (all.NotUtf8 p) (h (λ e. cc))
 kind_is own r (all.NoHeader p) h = stopped_is own r (all.NoHeader p) (h (λ e. cc))
 kind_is own r (all.NoReplica p) h = stopped_is own r (all.NoReplica p) (h (λ e. cc))
+kind_is own r (all.SameName p) h = stopped_is own r (all.SameName p) (h (λ e. cc))
+kind_is own r (all.TooManyReplicas p) h = stopped_is own r (all.TooManyReplicas p) (h (λ e. cc))
 kind_is own r (all.UnknownReplica p) h = stopped_is own r (all.UnknownReplica p) (h (λ e. cc))
 kind_is own r (all.TooManyEvents p) h = stopped_is own r (all.TooManyEvents p) (h (λ e. cc))
 

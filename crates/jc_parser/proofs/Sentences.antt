@@ -28,7 +28,7 @@ pub none_left : (ls : List Lexeme) → no_more ls ≡ true → ls ≡ []
 none_left [] e = refl
 none_left (x ∷ xs) e = absurd cc
 
-same_no_more : (c y : List Lexeme) → SameHead c y → no_more c ≡ no_more y
+pub same_no_more : (c y : List Lexeme) → SameHead c y → no_more c ≡ no_more y
 same_no_more [] [] s = refl
 same_no_more [] (y ∷ ys) s = absurd s
 same_no_more (x ∷ xs) [] s = absurd s
@@ -52,7 +52,7 @@ no_sentence L W f again t ls stop e other h text =
       | inr (may, d, is, limit) ↦ let same : d ≡ e = let both : Err d ≡ Err e = sym is ∙ h in cc in other (subst IsLimitFault same limit)
     ]
 
-fits_nothing : {T : Type 0} (L : T → List Symbol → Type 0) (W : T → Type 0) (f : Reading → Outcome T) → ReadsSpelled L W f → (stop : ℕ) (before after : List Lexeme) → ((y : List Lexeme) → SameHead after y → (f (reading stop (before ++ y)) >>= ended) ≡ Err (stuck_at stop after)) → FitsNothing L (symbols before) after
+pub fits_nothing : {T : Type 0} (L : T → List Symbol → Type 0) (W : T → Type 0) (f : Reading → Outcome T) → ReadsSpelled L W f → (stop : ℕ) (before after : List Lexeme) → ((y : List Lexeme) → SameHead after y → (f (reading stop (before ++ y)) >>= ended) ≡ Err (stuck_at stop after)) → FitsNothing L (symbols before) after
 fits_nothing L W f again stop before [] h = λ t text.
     let bad : (f (reading stop before) >>= ended) ≡ Err (EndOfText stop) = subst (λ (l : List Lexeme). (f (reading stop l) >>= ended) ≡ Err (EndOfText stop)) (append-nil before) (h [] tt) in
     no_sentence L W f again t before stop (EndOfText stop) (λ no. no) bad text

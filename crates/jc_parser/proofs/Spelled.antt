@@ -9,7 +9,7 @@ use Rattle.jc_rules.specs.declared.value.Value.{Value}
 use Rattle.jc_rules.specs.declared.value.Value.TheVariants as values
 use Rattle.jc_rules.specs.Syntax.{Expr, TheDoc, Variable, GetKey, Index, KeysOf, ValuesOf, Cmd, LetIn, SetTo, InsertAfter, DeleteAt, Yield}
 use Rattle.jc_parser.specs.declared.fault.ScenarioFault.{ScenarioFault}
-use Rattle.jc_parser.specs.declared.fault.ScenarioFault.TheVariants.{IndexTooLarge, ReservedName, TooManyCommands, TooLongExpression, TooManyEvents}
+use Rattle.jc_parser.specs.declared.fault.ScenarioFault.TheVariants.{IndexTooLarge, ReservedName, TooManyCommands, TooLongExpression, SameName, TooManyReplicas, TooManyEvents}
 use Rattle.jc_parser.specs.Symbols.{Symbol, word, number, string, dot, open_paren, close_paren, assign, Lexeme, symbols}
 use Rattle.jc_parser.specs.Reading.{Reading, Outcome, ◌>>=◌, has_kind, is_word, begins_with, one, skip, named_at}
 use Rattle.jc_parser.specs.Parts.{get_at, selector_at, selectors_at, expression_at, number_at, string_at, value_at, command_at, event_at}
@@ -27,6 +27,8 @@ IsLimitFault (IndexTooLarge p) = Unit {0}
 IsLimitFault (ReservedName p) = Unit {0}
 IsLimitFault (TooManyCommands p) = Unit {0}
 IsLimitFault (TooLongExpression p) = Unit {0}
+IsLimitFault (SameName p) = Unit {0}
+IsLimitFault (TooManyReplicas p) = Unit {0}
 IsLimitFault (TooManyEvents p) = Unit {0}
 IsLimitFault e = ⊥
 
@@ -63,7 +65,7 @@ abbrev pub at_place : ℕ → Symbol → Lexeme
 at_place p s = record { place = p; symbol = s }
 
 -- symbols as lexemes, wherever they stand
-pub lexed : List Symbol → List Lexeme
+unfoldable pub lexed : List Symbol → List Lexeme
 lexed [] = []
 lexed (s ∷ ss) = at_place 0 s ∷ lexed ss
 

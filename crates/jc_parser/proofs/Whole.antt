@@ -15,68 +15,9 @@ use Rattle.jc_parser.proofs.Readers.{bind_ok, bind_err, chosen_ok, chosen_err, r
 use Rattle.jc_parser.proofs.Expressions.{word_is, number_is}
 use Rattle.jc_parser.proofs.Scenarios.{tree_of, Replicas, reads_replica}
 use Rattle.jc_parser.proofs.Spelled.{reading, lexed, symbols-lexed, IsLimitFault}
+use Rattle.jc_parser.proofs.Headers.{took_one, missed_one, front_again, Front, front_ok, unfit_at, front_symbols}
 use Rattle.jc_parser.proofs.SpelledScenarios.{whole_again}
 use Rattle.jc_parser.proofs.Excess.{front, replica_text, replica_limits, excess_of}
-
--- ---- the header and the word `replica`
-
--- one lexeme is taken
-abbrev Takes : (Symbol → Bool) → Reading → Reading → Type 0
-Takes p r s = (x : Lexeme) × (r.left ≡ x ∷ s.left) × (p x.symbol ≡ true) × (s.stop ≡ r.stop)
-
-took_one : (fault : ℕ → ScenarioFault) (p : Symbol → Bool) (stop : ℕ) (ls : List Lexeme) (s : Reading) → skip_or fault p (reading stop ls) ≡ Ok (tt, s) → Takes p (reading stop ls) s
-unfolding one
-took_one fault p stop [] s h = absurd cc
-took_one fault p stop (x ∷ xs) s h = took_by fault p stop x xs s (cases_Bool (p x.symbol)) h
-  where
-    took_by : (fault : ℕ → ScenarioFault) (p : Symbol → Bool) (stop : ℕ) (x : Lexeme) (xs : List Lexeme) (s : Reading) → (p x.symbol ≡ true) ⊎ (p x.symbol ≡ false) → skip_or fault p (reading stop (x ∷ xs)) ≡ Ok (tt, s) → Takes p (reading stop (x ∷ xs)) s
-    took_by fault p stop x xs s (inl fits) h =
-        let same : reading stop xs ≡ s = (let read : read_as tt (reading stop xs) ≡ read_as tt s = rw fits at h in ok_parts tt tt (reading stop xs) s read).1 in
-        (x, ap (λ (r : Reading). x ∷ r.left) same, fits, ap (λ (r : Reading). r.stop) (sym same))
-    took_by fault p stop x xs s (inr other) h = let read = rw other at h in absurd cc
-
-missed_one : (fault : ℕ → ScenarioFault) (p : Symbol → Bool) (stop : ℕ) (ls : List Lexeme) (e : ScenarioFault) → skip_or fault p (reading stop ls) ≡ Err e → (begins_with p ls ≡ false) × (e ≡ fault (place_at stop ls))
-unfolding one
-missed_one fault p stop [] e h = (refl, cc)
-missed_one fault p stop (x ∷ xs) e h = missed_by fault p stop x xs e (cases_Bool (p x.symbol)) h
-  where
-    missed_by : (fault : ℕ → ScenarioFault) (p : Symbol → Bool) (stop : ℕ) (x : Lexeme) (xs : List Lexeme) (e : ScenarioFault) → (p x.symbol ≡ true) ⊎ (p x.symbol ≡ false) → skip_or fault p (reading stop (x ∷ xs)) ≡ Err e → (p x.symbol ≡ false) × (e ≡ fault x.place)
-    missed_by fault p stop x xs e (inl fits) h = let read = rw fits at h in absurd cc
-    missed_by fault p stop x xs e (inr other) h = let read = rw other at h in (other, cc)
-
-front_again : (stop : ℕ) (a b c : Lexeme) (ls : List Lexeme) → is_word (codes "jsoncrdt") a.symbol ≡ true → is_number (codes "1") b.symbol ≡ true → is_word (codes "replica") c.symbol ≡ true → front_at (reading stop (a ∷ b ∷ c ∷ ls)) ≡ Ok (tt, reading stop ls)
-unfolding front_at one
-front_again stop a b c ls fa fb fc = rw (fa, fb, fc) refl
-
--- what the front takes
-record Front (r s : Reading) : Type 0 where
-  a : Lexeme
-  b : Lexeme
-  c : Lexeme
-  parts : r.left ≡ a ∷ b ∷ c ∷ s.left
-  is_a : is_word (codes "jsoncrdt") a.symbol ≡ true
-  is_b : is_number (codes "1") b.symbol ≡ true
-  is_c : is_word (codes "replica") c.symbol ≡ true
-  stop : s.stop ≡ r.stop
-
-front_ok : (r s : Reading) → front_at r ≡ Ok (tt, s) → Front r s
-unfolding front_at
-front_ok r s h =
-    let (x, hx, h2) = bind_ok (skip_or (λ at. NoHeader at) (is_word (codes "jsoncrdt")) r) _ (tt, s) h in
-    let (y, hy, hz) = bind_ok (skip_or (λ at. NoHeader at) (is_number (codes "1")) x.1) _ (tt, s) h2 in
-    let (a, ea, fa, sa) = took_one (λ at. NoHeader at) (is_word (codes "jsoncrdt")) r.stop r.left x.1 hx in
-    let (b, eb, fb, sb) = took_one (λ at. NoHeader at) (is_number (codes "1")) x.1.stop x.1.left y.1 hy in
-    let (c, ec, fc, sc) = took_one (λ at. NoReplica at) (is_word (codes "replica")) y.1.stop y.1.left s hz in
-    record {
-      a = a;
-      b = b;
-      c = c;
-      parts = ea ∙ ap (λ (l : List Lexeme). a ∷ l) (eb ∙ ap (λ (l : List Lexeme). b ∷ l) ec);
-      is_a = fa;
-      is_b = fb;
-      is_c = fc;
-      stop = sc ∙ sb ∙ sa;
-    }
 
 -- ---- the beginning of a scenario
 
@@ -99,22 +40,10 @@ sample_sound xs more e =
     let spelled : IsText sample (xs ++ more) = subst (IsText sample) (sym e) sample_spelled in
     record { begins = (sample, more, spelled); kept = xs; within = (sample, more, sample_within, spelled); rest = inl refl }
 
-cancel : (xs a b : List Symbol) → xs ++ a ≡ xs ++ b → a ≡ b
-cancel [] a b e = e
-cancel (x ∷ xs) a b e = cancel xs a b cc
-
 -- where each scenario has a certain symbol, another fits nothing
 misfit_at : (xs : List Symbol) (s : Symbol) (p : Symbol → Bool) → p s ≡ true → ((t : Tree) (w : List Symbol) → IsText t w → (rest : List Symbol) × (w ≡ xs ++ s ∷ rest)) → (after : List Lexeme) → begins_with p after ≡ false → IsMisfit xs after
-misfit_at xs s p fits always [] none = λ t text.
-    let (rest, e) = always t xs text in
-    let bad : [] ≡ s ∷ rest = cancel xs [] (s ∷ rest) (append-nil xs ∙ e) in
-    absurd cc
-misfit_at xs s p fits always (x ∷ after) none = λ (t, more, text).
-    let (rest, e) = always t ((xs ++ x.symbol ∷ []) ++ more) text in
-    let same : x.symbol ∷ more ≡ s ∷ rest = cancel xs (x.symbol ∷ more) (s ∷ rest) (sym (append_assoc xs (x.symbol ∷ []) more) ∙ e) in
-    let first : x.symbol ≡ s = cc in
-    let bad : true ≡ false = sym (ap p first ∙ fits) ∙ none in
-    absurd cc
+misfit_at xs s p fits always [] none = unfit_at IsText xs s p fits always [] none
+misfit_at xs s p fits always (x ∷ after) none = unfit_at IsText xs s p fits always (x ∷ after) none
 
 first_always : (t : Tree) (w : List Symbol) → IsText t w → (rest : List Symbol) × (w ≡ word (codes "jsoncrdt") ∷ rest)
 first_always t w (u, v, script, schedule, text) = (_, text)
@@ -195,14 +124,6 @@ misfit_after stop before (x ∷ after) again = λ (t, more, text).
     let whole : symbols (before ++ x ∷ lexed more) ≡ (symbols before ++ x.symbol ∷ []) ++ more =
     symbols-append before (x ∷ lexed more) ∙ ap (λ (l : List Symbol). symbols before ++ x.symbol ∷ l) (symbols-lexed more) ∙ sym (append_assoc (symbols before) (x.symbol ∷ []) more) in
     no_scenario t (before ++ x ∷ lexed more) stop (Unexpected x.place) (λ bad. bad) (again (x ∷ lexed more) refl) (subst (IsText t) (sym whole) text)
-
--- the symbols of the front
-front_symbols : (r s : Reading) (f : Front r s) → f.a.symbol ∷ f.b.symbol ∷ f.c.symbol ∷ [] ≡ front
-front_symbols r s f =
-    let a : f.a.symbol ≡ word (codes "jsoncrdt") = word_is (codes "jsoncrdt") f.a.symbol f.is_a in
-    let b : f.b.symbol ≡ number (codes "1") = number_is (codes "1") f.b.symbol f.is_b in
-    let c : f.c.symbol ≡ word (codes "replica") = word_is (codes "replica") f.c.symbol f.is_c in
-    cc
 
 -- the lexemes of the front, and others
 abbrev fronted : (r s : Reading) → Front r s → List Lexeme → List Lexeme

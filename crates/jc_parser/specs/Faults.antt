@@ -5,7 +5,7 @@ use Rattle.jc_syntax.specs.declared.fault.LexFault.TheVariants as lexical
 use Rattle.jc_parser.specs.declared.parse_fault.ParseFault.{ParseFault}
 use Rattle.jc_parser.specs.declared.parse_fault.ParseFault.TheVariants as sentence
 use Rattle.jc_parser.specs.declared.fault.ScenarioFault.{ScenarioFault}
-use Rattle.jc_parser.specs.declared.fault.ScenarioFault.TheVariants.{BadByte, OpenString, BadEscape, LoneSurrogate, BadNumber, TextTooLong, Unexpected, EndOfText, IndexTooLarge, ReservedName, TooManyCommands, TooLongExpression, NotUtf8, NoHeader, NoReplica, UnknownReplica, TooManyEvents, Memory}
+use Rattle.jc_parser.specs.declared.fault.ScenarioFault.TheVariants.{BadByte, OpenString, BadEscape, LoneSurrogate, BadNumber, TextTooLong, Unexpected, EndOfText, IndexTooLarge, ReservedName, TooManyCommands, TooLongExpression, NotUtf8, NoHeader, SameName, NoReplica, TooManyReplicas, UnknownReplica, TooManyEvents, Memory}
 
 abbrev pub number_of : ScenarioFault → Option ℕ
 number_of (BadByte place) = Some 1
@@ -22,7 +22,9 @@ number_of (TooManyCommands place) = Some 11
 number_of (TooLongExpression place) = Some 12
 number_of (NotUtf8 place) = Some 13
 number_of (NoHeader place) = Some 14
+number_of (SameName place) = Some 15
 number_of (NoReplica place) = Some 16
+number_of (TooManyReplicas place) = Some 17
 number_of (UnknownReplica place) = Some 18
 number_of (TooManyEvents place) = Some 19
 number_of Memory = None
@@ -42,7 +44,9 @@ place_of (TooManyCommands place) = Some place
 place_of (TooLongExpression place) = Some place
 place_of (NotUtf8 place) = Some place
 place_of (NoHeader place) = Some place
+place_of (SameName place) = Some place
 place_of (NoReplica place) = Some place
+place_of (TooManyReplicas place) = Some place
 place_of (UnknownReplica place) = Some place
 place_of (TooManyEvents place) = Some place
 place_of Memory = None

@@ -17,3 +17,7 @@ pub mod ClosedScripts
 pub mod Calls
 pub mod CallParts
 pub mod CallLaws
+pub mod Trees
+pub mod TreeFaults
+pub mod TreeParts
+pub mod TreeViews

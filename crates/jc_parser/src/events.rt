@@ -82,7 +82,7 @@ fn action(alloc: Global, cursor: &mut Cursor, replica: Named) -> Result<NamedEve
 
 /// An event.
 #[tactic(auto, unfolding(crate::specs::CallParts::any_event_at))]
-fn event(alloc: Global, cursor: &mut Cursor) -> Result<NamedEvent, ScenarioFault>
+pub(crate) fn event(alloc: Global, cursor: &mut Cursor) -> Result<NamedEvent, ScenarioFault>
     ensures { Gives (λ e. (e, cursor.new)) result (any_event_at cursor.old) }
 {
     let replica = cursor.name(alloc)?;

@@ -53,9 +53,15 @@ pub enum ScenarioFault {
     /// A token that is not the header's, or the text's end in its place.
     #[error("NoHeader at {place}")]
     NoHeader { place: usize },
+    /// A name that an earlier replica has.
+    #[error("SameName at {place}")]
+    SameName { place: usize },
     /// No replica follows the header.
     #[error("NoReplica at {place}")]
     NoReplica { place: usize },
+    /// A replica past the limit of 64; the place is its name.
+    #[error("TooManyReplicas at {place}")]
+    TooManyReplicas { place: usize },
     /// An event names a replica that the scenario does not have; the place is the name.
     #[error("UnknownReplica at {place}")]
     UnknownReplica { place: usize },
@@ -87,7 +93,9 @@ impl ScenarioFault {
             ScenarioFault::TooLongExpression { .. } => Some(12),
             ScenarioFault::NotUtf8 { .. } => Some(13),
             ScenarioFault::NoHeader { .. } => Some(14),
+            ScenarioFault::SameName { .. } => Some(15),
             ScenarioFault::NoReplica { .. } => Some(16),
+            ScenarioFault::TooManyReplicas { .. } => Some(17),
             ScenarioFault::UnknownReplica { .. } => Some(18),
             ScenarioFault::TooManyEvents { .. } => Some(19),
             ScenarioFault::Memory => None,
@@ -113,7 +121,9 @@ impl ScenarioFault {
             | ScenarioFault::TooLongExpression { place }
             | ScenarioFault::NotUtf8 { place }
             | ScenarioFault::NoHeader { place }
+            | ScenarioFault::SameName { place }
             | ScenarioFault::NoReplica { place }
+            | ScenarioFault::TooManyReplicas { place }
             | ScenarioFault::UnknownReplica { place }
             | ScenarioFault::TooManyEvents { place } => Some(*place),
             ScenarioFault::Memory => None,

@@ -10,6 +10,7 @@ pub mod laws;
 mod parse_fault;
 mod parser;
 mod scripts;
+mod trees;
 
 pub use events::{event_at, parse_event};
 pub use fault::ScenarioFault;
@@ -17,6 +18,7 @@ pub use first::{First, first_read};
 pub use language::parse_expr;
 pub use parse_fault::ParseFault;
 pub use scripts::{parse_script, script_at};
+pub use trees::{NamedReplica, NamedScenario, scenario_of};
 
 #[cfg(test)]
 mod event_tests;

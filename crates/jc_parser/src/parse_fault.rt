@@ -108,7 +108,9 @@ pub(crate) fn of_sentence(fault: ScenarioFault) -> ParseFault
         ScenarioFault::Memory => ParseFault::Memory,
         ScenarioFault::NotUtf8 { .. }
         | ScenarioFault::NoHeader { .. }
+        | ScenarioFault::SameName { .. }
         | ScenarioFault::NoReplica { .. }
+        | ScenarioFault::TooManyReplicas { .. }
         | ScenarioFault::UnknownReplica { .. }
         | ScenarioFault::TooManyEvents { .. } => unreachable!(),
     }

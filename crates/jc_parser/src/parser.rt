@@ -225,7 +225,7 @@ fn replica(alloc: Global, cursor: &mut Cursor) -> Result<Parsed, ScenarioFault>
 
 /// The header and the word `replica`.
 #[tactic(auto, unfolding(crate::specs::Parts::front_at))]
-fn front(cursor: &mut Cursor) -> Result<(), ScenarioFault>
+pub(crate) fn front(cursor: &mut Cursor) -> Result<(), ScenarioFault>
     ensures { Gives (λ _. (tt, cursor.new)) result (front_at cursor.old) }
 {
     let place = cursor.place();

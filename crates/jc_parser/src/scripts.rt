@@ -191,7 +191,7 @@ pub fn parse_script(alloc: Global, text: &str) -> Result<Vec<Cmd>, ParseFault>
 
 /// A script and the closing brace behind it.
 #[tactic(auto, unfolding(crate::specs::ScriptParts::closed_script_at, crate::specs::ScriptParts::script_at))]
-fn closed_script(alloc: Global, cursor: &mut Cursor) -> Result<Vec<Cmd>, ScenarioFault>
+pub(crate) fn closed_script(alloc: Global, cursor: &mut Cursor) -> Result<Vec<Cmd>, ScenarioFault>
     ensures { Gives (λ s. (map cmd_of s.items, cursor.new)) result (closed_script_at cursor.old) }
 {
     let commands = script(alloc, cursor)?;

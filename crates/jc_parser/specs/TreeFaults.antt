@@ -1,0 +1,119 @@
+-- The fault of a text whose tokens are no scenario, and its place. Whether the names in events are replicas' is
+-- another question: here they are names.
+use Rattle.std.specs.Prelude.{◌≡◌, ◌≢◌, ℕ, ◌<◌, ◌⊎◌, List, [], ◌∷◌, ◌++◌, length, map, codes, true, false, All}
+use Rattle.std.specs.List.{Contains}
+use Rattle.jc_parser.specs.declared.fault.ScenarioFault.{ScenarioFault}
+use Rattle.jc_parser.specs.declared.fault.ScenarioFault.TheVariants.{ReservedName, NoHeader, SameName, NoReplica, TooManyReplicas, TooManyEvents}
+use Rattle.jc_parser.specs.Symbols.{Symbol, word, dot, Lexeme, symbols}
+use Rattle.jc_parser.specs.Reading.{Reading, place_at, stuck_at}
+use Rattle.jc_parser.specs.Grammar.{is_reserved, IsStartText}
+use Rattle.jc_parser.specs.Scripts.{IsScriptExcess}
+use Rattle.jc_parser.specs.Calls.{Call, IsCallSpelled, IsCallWellFormed, IsCallExcess}
+use Rattle.jc_parser.specs.Sentences.{Begins, FitsNothing}
+use Rattle.jc_parser.specs.Trees.{Part, Tree, name_of, header, part_head, schedule_head, ArePartsSpelled, ArePartsWithin, IsTreeSpelled, IsTreeWithin}
+
+-- ---- what fits nothing
+
+-- in the place of the header's two symbols, in that of the first word `replica`, or later
+abbrev pub misfit_fault : List Symbol → ℕ → List Lexeme → ScenarioFault
+misfit_fault [] stop after = NoHeader (place_at stop after)
+misfit_fault (a ∷ []) stop after = NoHeader (place_at stop after)
+misfit_fault (a ∷ b ∷ []) stop after = NoReplica (place_at stop after)
+misfit_fault (a ∷ b ∷ c ∷ xs) stop after = stuck_at stop after
+
+-- the header and replicas within the limits
+pub record AreDone (ps : List Part) (w : List Symbol) : Type 0 where
+  pub parts : List Symbol
+  pub spelled : ArePartsSpelled ps parts
+  pub within : ArePartsWithin ps
+  pub is : w ≡ header ++ parts
+
+-- A scenario begins so, and no limit is passed, but perhaps by the last symbol: whether a dot is one too many, or the
+-- word before a replica, only what follows it says.
+pub record IsBegun (xs : List Symbol) : Type 0 where
+  pub begins : Begins IsTreeSpelled xs
+  pub kept : List Symbol
+  pub within : Begins (λ t w. IsTreeWithin t × IsTreeSpelled t w) kept
+  pub rest :
+      (xs ≡ kept)
+      ⊎ ((xs ≡ kept ++ dot ∷ []) ⊎ ((ps : List Part) × AreDone ps kept × (xs ≡ kept ++ word (codes "replica") ∷ [])))
+
+-- after these lexemes, which begin a scenario, comes what fits nothing
+pub record IsOutOfPlace (fault : ScenarioFault) (stop : ℕ) (before after : List Lexeme) : Type 0 where
+  pub begun : IsBegun (symbols before)
+  pub unfit : FitsNothing IsTreeSpelled (symbols before) after
+  pub is : fault ≡ misfit_fault (symbols before) stop after
+
+-- ---- what fits, and is too much
+
+-- the fault of a replica's name after these replicas, the smaller number first
+abbrev pub IsNameFault : List Part → List ℕ → ℕ → ScenarioFault → Type 0
+IsNameFault ps name place fault =
+    ((is_reserved name ≡ true) × (fault ≡ ReservedName place))
+    ⊎ ((is_reserved name ≡ false)
+    × ((Contains (map name_of ps) name × (fault ≡ SameName place))
+    ⊎ ((Contains (map name_of ps) name → ⊥) × (length ps ≡ 64) × (fault ≡ TooManyReplicas place))))
+
+-- the name of one replica more comes next
+pub record IsNameExcess (fault : ScenarioFault) (xs : List Symbol) (next : Lexeme) : Type 0 where
+  pub parts : List Part
+  pub before : List Symbol
+  pub done : AreDone parts before
+  pub is : xs ≡ before ++ word (codes "replica") ∷ []
+  pub name : List ℕ
+  pub next_is : next.symbol ≡ word name
+  pub which : IsNameFault parts name next.place fault
+
+-- too much in the script of one replica more
+pub record IsPartExcess (fault : ScenarioFault) (xs : List Symbol) (after : List Lexeme) : Type 0 where
+  pub parts : List Part
+  pub before : List Symbol
+  pub done : AreDone parts before
+  pub room : length parts < 64
+  pub name : List ℕ
+  pub free : is_reserved name ≡ false
+  pub new : Contains (map name_of parts) name → ⊥
+  pub script : List Symbol
+  pub is : xs ≡ before ++ (part_head name ++ script)
+  pub excess : IsScriptExcess fault script after
+
+-- after so many events, one too many begins, or the counter of an event is too large
+abbrev pub IsEventExcess : ℕ → ScenarioFault → List Symbol → List Lexeme → Type 0
+IsEventExcess n fault xs after =
+    ((n ≡ 100000)
+    × (xs ≡ [])
+    × (next : Lexeme)
+    × (rest : List Lexeme)
+    × (after ≡ next ∷ rest)
+    × (name : List ℕ)
+    × (next.symbol ≡ word name)
+    × (fault ≡ TooManyEvents next.place))
+    ⊎ ((n < 100000) × IsCallExcess fault xs after)
+
+-- too much in the schedule
+pub record IsScheduleExcess (fault : ScenarioFault) (xs : List Symbol) (after : List Lexeme) : Type 0 where
+  pub parts : List Part
+  pub before : List Symbol
+  pub done : AreDone parts before
+  pub some : parts ≢ []
+  pub calls : List Call
+  pub listed : List Symbol
+  pub spelled : IsStartText IsCallSpelled calls listed
+  pub small : All IsCallWellFormed calls
+  pub event : List Symbol
+  pub is : xs ≡ before ++ (schedule_head ++ (listed ++ event))
+  pub excess : IsEventExcess (length calls) fault event after
+
+abbrev pub IsExcess : ScenarioFault → List Symbol → List Lexeme → Type 0
+IsExcess fault xs after =
+    ((next : Lexeme) × (rest : List Lexeme) × (after ≡ next ∷ rest) × IsNameExcess fault xs next)
+    ⊎ (IsPartExcess fault xs after ⊎ IsScheduleExcess fault xs after)
+
+-- ---- the fault
+
+-- these lexemes are no scenario, and this is the fault
+pub record IsTreeFault (r : Reading) (fault : ScenarioFault) : Type 0 where
+  pub before : List Lexeme
+  pub after : List Lexeme
+  pub parts : r.left ≡ before ++ after
+  pub stops : IsOutOfPlace fault r.stop before after ⊎ IsExcess fault (symbols before) after

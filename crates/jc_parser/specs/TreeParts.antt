@@ -1,0 +1,106 @@
+-- The parts of a scenario of any number of replicas, read from left to right.
+use Rattle.std.specs.Prelude.{ℕ, zero, suc, List, [], ◌∷◌, ◌++◌, Bool, false, if◌then◌else◌, codes, Result, Ok, Err}
+use Rattle.std.specs.Str.{bytes_eq}
+use Rattle.std.specs.List.{list_any}
+use Rattle.jc_syntax.specs.declared.token.TokenKind.TheVariants.{Name, BraceL, BraceR}
+use Rattle.jc_syntax.specs.declared.tree.NamedEvent.{NamedEvent}
+use Rattle.jc_rules.specs.Syntax.{Cmd}
+use Rattle.jc_parser.specs.declared.fault.ScenarioFault.{ScenarioFault}
+use Rattle.jc_parser.specs.declared.fault.ScenarioFault.TheVariants.{ReservedName, SameName, TooManyReplicas, TooManyEvents}
+use Rattle.jc_parser.specs.Symbols.{Symbol, word}
+use Rattle.jc_parser.specs.Reading.{Reading, Outcome, ◌>>=◌, place, stuck, begins, has_kind, is_word, reserved, named_at, skip}
+use Rattle.jc_parser.specs.Parts.{items_at, front_at, ended}
+use Rattle.jc_parser.specs.ScriptParts.{closed_script_at}
+use Rattle.jc_parser.specs.CallParts.{any_event_at}
+use Rattle.jc_parser.specs.Trees.{Part, NamedTree}
+
+-- ---- a replica
+
+-- the name is one of these
+abbrev pub is_among : List (List ℕ) → List ℕ → Bool
+is_among names name = list_any (bytes_eq name) names
+
+abbrev pub known : List (List ℕ) → Symbol → Bool
+known names (word name) = is_among names name
+known names s = false
+
+-- a name, if none of these
+unfoldable pub other_name_at : List (List ℕ) → Reading → Outcome (List ℕ)
+other_name_at names r = do
+  n ← named_at r
+  if is_among names n.0.name then Err (SameName n.0.place) else Ok (n.0.name, n.1)
+
+-- a name that is no reserved word and none of these
+unfoldable pub new_name_at : List (List ℕ) → Reading → Outcome (List ℕ)
+new_name_at names r = if begins reserved r then Err (ReservedName (place r)) else other_name_at names r
+
+-- a script with its braces
+unfoldable pub body_at : Reading → Outcome (List Cmd)
+body_at r = do
+  a ← skip (has_kind BraceL) r
+  closed_script_at a.1
+
+-- a replica from its name on, where these are taken
+unfoldable pub part_at : List (List ℕ) → Reading → Outcome Part
+part_at names r = do
+  n ← new_name_at names r
+  s ← body_at n.1
+  Ok (record { name = n.0; script = s.0 }, s.1)
+
+-- ---- the schedule
+
+-- at most n events, with the places of their names
+abbrev pub events_at : ℕ → Reading → Outcome (List NamedEvent)
+events_at n r = items_at (has_kind Name) any_event_at (λ s. TooManyEvents (place s)) n r
+
+unfoldable pub block_at : ℕ → Reading → Outcome (List NamedEvent)
+block_at n r = do
+  a ← skip (is_word (codes "schedule")) r
+  b ← skip (has_kind BraceL) a.1
+  es ← events_at n b.1
+  c ← skip (has_kind BraceR) es.1
+  Ok (es.0, c.1)
+
+unfoldable pub schedule_at : ℕ → Reading → Outcome (List NamedEvent)
+schedule_at n r = if begins (is_word (codes "schedule")) r then block_at n r else Ok ([], r)
+
+-- ---- scenarios
+
+abbrev pub tree : List Part → List NamedEvent → NamedTree
+tree parts events = record { parts = parts; events = events }
+
+-- a replica before the others
+abbrev pub with_part : Part → NamedTree → NamedTree
+with_part p t = tree (p ∷ t.parts) t.events
+
+-- the fault of one replica more than there may be, after its word
+abbrev pub crowd_at : List (List ℕ) → Reading → ScenarioFault
+crowd_at names r =
+    if begins reserved r then ReservedName (place r)
+    else (if begins (known names) r then SameName (place r)
+    else (if begins (has_kind Name) r then TooManyReplicas (place r) else stuck r))
+
+-- at most n replicas more, and at most m events
+unfoldable pub tail_at : ℕ → ℕ → List (List ℕ) → Reading → Outcome NamedTree
+tail_at m zero names r =
+    if begins (is_word (codes "replica")) r
+    then (skip (is_word (codes "replica")) r >>= λ a. Err (crowd_at names a.1))
+    else (schedule_at m r >>= λ es. Ok (tree [] es.0, es.1))
+tail_at m (suc n) names r =
+    if begins (is_word (codes "replica")) r
+    then (skip (is_word (codes "replica")) r >>= λ a. part_at names a.1 >>= λ p. tail_at m n (names ++ p.0.name ∷ []) p.1 >>= λ t. Ok (with_part p.0 t.0, t.1))
+    else (schedule_at m r >>= λ es. Ok (tree [] es.0, es.1))
+
+-- a scenario from the name of its first replica on
+unfoldable pub rest_at : ℕ → ℕ → Reading → Outcome NamedTree
+rest_at m n r = do
+  p ← part_at [] r
+  t ← tail_at m n (p.0.name ∷ []) p.1
+  Ok (with_part p.0 t.0, t.1)
+
+-- a scenario and nothing more
+unfoldable pub tree_at : Reading → Result NamedTree ScenarioFault
+tree_at r = do
+  a ← front_at r
+  t ← rest_at 100000 63 a.1
+  ended t

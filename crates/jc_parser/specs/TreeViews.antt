@@ -1,0 +1,16 @@
+-- What contracts see of a scenario that was read from its tokens.
+use Rattle.std.specs.Prelude.{ℕ, List, map}
+use Rattle.jc_syntax.specs.Trees.{cmd_of}
+use Rattle.jc_parser.specs.declared.trees.NamedReplica as replicas
+use Rattle.jc_parser.specs.declared.trees.NamedScenario as scenarios
+use Rattle.jc_parser.specs.Trees.{Part, NamedTree, name_of}
+
+abbrev pub part_view : replicas.NamedReplica → Part
+part_view p = record { name = p.name; script = map cmd_of p.script.items }
+
+abbrev pub tree_view : scenarios.NamedScenario → NamedTree
+tree_view t = record { parts = map part_view t.replicas.items; events = t.events.items }
+
+-- the names of these replicas
+abbrev pub names_of : List replicas.NamedReplica → List (List ℕ)
+names_of ps = map name_of (map part_view ps)

@@ -1,0 +1,215 @@
+//! Scenarios of the whole language, from their tokens.
+
+ghost use Rattle.std.specs.Prelude.{◌≡◌, ◌≢◌, IfOk, IfErr, All, map};
+ghost use Rattle.jc_syntax.specs.Lexemes.{IsTokenOf};
+ghost use Rattle.jc_syntax.specs.Trees.{cmd_of};
+ghost use Rattle.jc_parser.specs.Reading.{Gives, reading};
+ghost use Rattle.jc_parser.specs.Trees.{name_of, IsNamedTree};
+ghost use Rattle.jc_parser.specs.TreeFaults.{IsTreeFault};
+ghost use Rattle.jc_parser.specs.TreeParts.{is_among, other_name_at, new_name_at, body_at, part_at, crowd_at, events_at, block_at, schedule_at, rest_at, tree_at};
+ghost use Rattle.jc_parser.specs.TreeViews.{part_view, tree_view, names_of};
+
+use crate::cursor::Cursor;
+use crate::events::event;
+use crate::fault::ScenarioFault;
+use crate::parser::{MAX_EVENTS, front};
+use crate::scripts::closed_script;
+use jc_rules::Text;
+use jc_syntax::{Cmd, NamedEvent, Token, TokenKind};
+use std::alloc::Global;
+
+/// How many replicas a scenario may have.
+const MAX_REPLICAS: usize = 64;
+
+/// A replica of a text: its name and its script.
+#[derive(Drop)]
+pub struct NamedReplica {
+    pub name: Text,
+    pub script: Vec<Cmd>,
+}
+
+/// What the text of a scenario says: its replicas in the order of the text, and its events with the
+/// names of replicas and where these stand.
+#[derive(Drop)]
+pub struct NamedScenario {
+    pub replicas: Vec<NamedReplica>,
+    pub events: Vec<NamedEvent>,
+}
+
+/// Whether one of the replicas has this name.
+fn is_taken(replicas: &[NamedReplica], name: &Text) -> bool
+    ensures { result ≡ is_among (names_of replicas.now) name.now }
+{
+    replicas
+        .iter()
+        .any(|replica| name.as_str() == replica.name.as_str())
+}
+
+/// A name that none of these replicas has.
+#[tactic(auto, unfolding(crate::specs::TreeParts::other_name_at))]
+fn other_name(
+    alloc: Global,
+    cursor: &mut Cursor,
+    replicas: &[NamedReplica],
+) -> Result<Text, ScenarioFault>
+    ensures { Gives (λ n. (n, cursor.new)) result (other_name_at (names_of replicas.now) cursor.old) }
+{
+    let named = cursor.name(alloc)?;
+    if is_taken(replicas, &named.name) {
+        return Err(ScenarioFault::SameName { place: named.place });
+    }
+    Ok(named.name)
+}
+
+/// A name that is no reserved word, and that none of these replicas has.
+#[tactic(auto, unfolding(crate::specs::TreeParts::new_name_at))]
+fn new_name(
+    alloc: Global,
+    cursor: &mut Cursor,
+    replicas: &[NamedReplica],
+) -> Result<Text, ScenarioFault>
+    ensures { Gives (λ n. (n, cursor.new)) result (new_name_at (names_of replicas.now) cursor.old) }
+{
+    if cursor.begins_reserved() {
+        return Err(ScenarioFault::ReservedName {
+            place: cursor.place(),
+        });
+    }
+    other_name(alloc, cursor, replicas)
+}
+
+/// A script with its braces.
+#[tactic(auto, unfolding(crate::specs::TreeParts::body_at))]
+fn body(alloc: Global, cursor: &mut Cursor) -> Result<Vec<Cmd>, ScenarioFault>
+    ensures { Gives (λ s. (map cmd_of s.items, cursor.new)) result (body_at cursor.old) }
+{
+    cursor.mark(TokenKind::BraceL)?;
+    closed_script(alloc, cursor)
+}
+
+/// A replica from its name on, after these replicas.
+#[tactic(auto, unfolding(crate::specs::TreeParts::part_at))]
+fn replica(
+    alloc: Global,
+    cursor: &mut Cursor,
+    replicas: &[NamedReplica],
+) -> Result<NamedReplica, ScenarioFault>
+    ensures { Gives (λ p. (part_view p, cursor.new)) result (part_at (names_of replicas.now) cursor.old) }
+{
+    let name = new_name(alloc, cursor, replicas)?;
+    let script = body(alloc, cursor)?;
+    Ok(NamedReplica { name, script })
+}
+
+/// The fault of one replica more than there may be, after its word. Want of memory may come in its
+/// place.
+fn crowd(alloc: Global, cursor: &mut Cursor, replicas: &[NamedReplica]) -> ScenarioFault
+    ensures { result ≢ ScenarioFault.Memory → result ≡ crowd_at (names_of replicas.now) cursor.old }
+{
+    let place = cursor.place();
+    match new_name(alloc, cursor, replicas) {
+        Ok(_) => ScenarioFault::TooManyReplicas { place },
+        Err(fault) => fault,
+    }
+}
+
+/// The events of a schedule, up to what begins none.
+fn events(alloc: Global, cursor: &mut Cursor) -> Result<Vec<NamedEvent>, ScenarioFault>
+    ensures { Gives (λ es. (es.items, cursor.new)) result (events_at 100000 cursor.old) }
+{
+    let mut events = Vec::new(alloc);
+    let mut left = MAX_EVENTS;
+    'events: while cursor.begins(TokenKind::Name) {
+        if left == 0 {
+            return Err(ScenarioFault::TooManyEvents {
+                place: cursor.place(),
+            });
+        }
+        let event = event(alloc, cursor)?;
+        events.push(event)?;
+        if !cursor.begins(TokenKind::Semi) {
+            return Ok(events);
+        }
+        cursor.mark(TokenKind::Semi)?;
+        left -= 1;
+    }
+    Ok(events)
+}
+
+/// A schedule, from its word on.
+#[tactic(auto, unfolding(crate::specs::TreeParts::block_at))]
+fn block(alloc: Global, cursor: &mut Cursor) -> Result<Vec<NamedEvent>, ScenarioFault>
+    ensures { Gives (λ es. (es.items, cursor.new)) result (block_at 100000 cursor.old) }
+{
+    cursor.word("schedule")?;
+    cursor.mark(TokenKind::BraceL)?;
+    let events = events(alloc, cursor)?;
+    cursor.mark(TokenKind::BraceR)?;
+    Ok(events)
+}
+
+/// A schedule, or nothing.
+#[tactic(auto, unfolding(crate::specs::TreeParts::schedule_at))]
+fn schedule(alloc: Global, cursor: &mut Cursor) -> Result<Vec<NamedEvent>, ScenarioFault>
+    ensures { Gives (λ es. (es.items, cursor.new)) result (schedule_at 100000 cursor.old) }
+{
+    if cursor.begins_word("schedule") {
+        block(alloc, cursor)
+    } else {
+        Ok(Vec::new(alloc))
+    }
+}
+
+/// The replicas and the schedule, from the first replica's name on.
+fn rest(alloc: Global, cursor: &mut Cursor) -> Result<NamedScenario, ScenarioFault>
+    ensures { Gives (λ t. (tree_view t, cursor.new)) result (rest_at 100000 63 cursor.old) }
+{
+    let mut replicas = Vec::new(alloc);
+    let first = replica(alloc, cursor, &replicas)?;
+    replicas.push(first)?;
+    let mut left = MAX_REPLICAS - 1;
+    'replicas: while cursor.begins_word("replica") {
+        cursor.word("replica")?;
+        if left == 0 {
+            return Err(crowd(alloc, cursor, &replicas));
+        }
+        let next = replica(alloc, cursor, &replicas)?;
+        replicas.push(next)?;
+        left -= 1;
+    }
+    let events = schedule(alloc, cursor)?;
+    Ok(NamedScenario { replicas, events })
+}
+
+/// The scenario that all of the tokens are.
+#[tactic(auto, unfolding(crate::specs::TreeParts::tree_at))]
+fn whole(alloc: Global, cursor: &mut Cursor) -> Result<NamedScenario, ScenarioFault>
+    ensures { Gives tree_view result (tree_at cursor.old) }
+{
+    front(cursor)?;
+    let scenario = rest(alloc, cursor)?;
+    if !cursor.is_at_end() {
+        return Err(cursor.stuck());
+    }
+    Ok(scenario)
+}
+
+/// Reads the scenario that all the tokens of a text are. Names in events are not looked up.
+///
+/// Refusals: the first by place of `NoHeader`, `NoReplica`, `Unexpected`, `EndOfText`,
+/// `IndexTooLarge`, `ReservedName`, `TooManyCommands`, `TooLongExpression`, `SameName`,
+/// `TooManyReplicas` and `TooManyEvents`, at one place that with the smaller number.
+pub fn scenario_of(
+    alloc: Global,
+    text: &str,
+    tokens: &[Token],
+) -> Result<NamedScenario, ScenarioFault>
+    requires { All (IsTokenOf text.now) tokens.now }
+    // What is read is the scenario that the tokens are, each name in an event with its place.
+    ensures tree { IfOk result (λ t. IsNamedTree (reading text.now tokens.now) (tree_view t)) }
+    // What is refused has this fault.
+    ensures fault { IfErr result (λ e. e ≢ ScenarioFault.Memory → IsTreeFault (reading text.now tokens.now) e) }
+{
+    let mut cursor = Cursor::new(text, tokens);
+    whole(alloc, &mut cursor)
+}
