@@ -4,7 +4,6 @@ use Rattle.jc_rules.specs.declared.id.Id.{Id}
 use Rattle.jc_rules.specs.declared.key.Key.{Key}
 use Rattle.jc_rules.specs.declared.key.Next.{Next}
 use Rattle.jc_rules.specs.declared.key.Tagged.{Tagged}
-use Rattle.jc_rules.specs.declared.key.Tagged.TheVariants.{MapT, ListT, RegT}
 use Rattle.jc_rules.specs.declared.operation.Mutation.TheVariants.{Assign}
 use Rattle.jc_rules.specs.declared.operation.Op.{Op}
 use Rattle.jc_rules.specs.declared.rule.Rule.{Rule}
@@ -41,12 +40,6 @@ pub record LinksNone (at : List Tagged) (a b : Tree) : Type 0 where
 pub record LinksOnly (i : Id) (a b : Tree) : Type 0 where
   pub chained : IsChained b.now
   pub unlinked : (j : Id) → j ≢ i → IsUnlinked j a.now → IsUnlinked j b.now
-
--- a tagged key under which a context stands
-abbrev pub HasContext : Tagged → Type 0
-HasContext (MapT k) = Unit {0}
-HasContext (ListT k) = Unit {0}
-HasContext (RegT k) = ⊥
 
 -- The rule assigns the empty map or the empty list under the tagged key.
 abbrev pub AssignsEmpty : Rule → Tagged → Type 0

@@ -1,7 +1,6 @@
 //! Applying an operation to a document.
 
 ghost use Rattle.std.specs.Prelude.{◌≡◌, ◌≢◌, ◌≤◌, [], IsErrOf, OnOk, OnErr, length, take, drop};
-ghost use Rattle.std.specs.List.{AllByRecursion};
 ghost use Rattle.jc_rules.specs.declared.id.Id.{Id as AnyId};
 ghost use Rattle.jc_rules.specs.declared.refusal.Refusal.TheVariants.{NotInList as PlaceNotInList};
 ghost use Rattle.jc_rules.specs.Derivation.{AddId, Operate, ToContext};
@@ -12,7 +11,7 @@ ghost use Rattle.jc_rules.specs.Table.{moved};
 ghost use Rattle.jc_tree.specs.Tree.{HasPlace, here};
 ghost use Rattle.jc_tree.specs.Kept.{Kept};
 ghost use Rattle.jc_apply.specs.Fits.{Fits, HasNoAnswer, IsUnlinked};
-ghost use Rattle.jc_apply.specs.Leads.{Leads, LinksNone, LinksOnly, HasContext};
+ghost use Rattle.jc_apply.specs.Leads.{Leads, LinksNone, LinksOnly};
 
 use crate::assigning::{add_id, assign};
 use crate::fitting::fits;
@@ -149,7 +148,7 @@ pub fn apply_op<S: TreeStore>(
     ensures memory { IsErrOf result ApplyFault.Memory → Fits (S.tree store.old).now op.now.cursor.path op.now.cursor.last op.now.mutation }
     ensures unfit { IsErrOf result ApplyFault.NotInList → Fits (S.tree store.old).now op.now.cursor.path op.now.cursor.last op.now.mutation → ⊥ }
     ensures no_answer { IsErrOf result ApplyFault.NotInList → HasNoAnswer (Operate (S.tree store.old).now op.now) }
-    ensures refused { IsErrOf result ApplyFault.NotInList → AllByRecursion HasContext op.now.cursor.path → Refused (Operate (S.tree store.old).now op.now) (because PlaceNotInList) }
+    ensures refused { IsErrOf result ApplyFault.NotInList → Refused (Operate (S.tree store.old).now op.now) (because PlaceNotInList) }
     ensures err_store { OnErr result (S.tree store.new ≡ S.tree store.old) }
     ensures err_trace { OnErr result (trace.new ≡ trace.old) }
     ensures kept { Kept (S.tree store.old) (S.tree store.new) trace.old trace.new }

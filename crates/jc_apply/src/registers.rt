@@ -11,9 +11,10 @@ ghost use Rattle.jc_rules.specs.Derivation.{Child, ToContent};
 ghost use Rattle.jc_rules.specs.Derives.{Derives};
 ghost use Rattle.jc_rules.specs.Trace.{IsLonger};
 ghost use Rattle.jc_rules.specs.Table.{Follows};
+ghost use Rattle.jc_rules.specs.Paths.{HasContext};
 ghost use Rattle.jc_tree.specs.Tree.{HasPlace, here};
 ghost use Rattle.jc_tree.specs.Kept.{Kept};
-ghost use Rattle.jc_apply.specs.Leads.{Enters, LinksNone, HasContext};
+ghost use Rattle.jc_apply.specs.Leads.{Enters, LinksNone};
 
 use jc_rules::{Id, Key, Rule, Tagged, Trace, Value, compare_ids};
 use jc_tree::TreeStore;

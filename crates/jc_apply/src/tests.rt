@@ -3,6 +3,7 @@
 
 ghost use Rattle.std.specs.Prelude.{◌≡◌, ◌≢◌, ◌≤◌, IfOk, IsTrue};
 ghost use Rattle.jc_rules.specs.declared.id.Id.{Id as AnyId};
+ghost use Rattle.jc_rules.specs.Paths.{IsPath};
 ghost use Rattle.jc_rules.specs.Shape.{IsChained};
 ghost use Rattle.jc_rules.specs.Worked.{by_a, by_b};
 ghost use Rattle.jc_tree.specs.Tree.{HasPlace};
@@ -81,7 +82,9 @@ fn one(alloc: Global) -> Result<Value, AllocError> {
     Ok(Value::Number(text(alloc, "1")?))
 }
 
-fn cursor(alloc: Global, at: &[Tagged], last: &Key) -> Result<Cursor, AllocError> {
+fn cursor(alloc: Global, at: &[Tagged], last: &Key) -> Result<Cursor, AllocError>
+    requires { IsPath at.now }
+{
     let mut path = Path::new(alloc);
     for key in at {
         path.push(key.copy()?)?;
@@ -100,6 +103,7 @@ fn op(
     last: &Key,
     mutation: Mutation,
 ) -> Result<Op, AllocError>
+    requires { IsPath at.now }
     ensures { IfOk result (λ op. op.id ≡ id) }
 {
     let mut set = IdSet::new(alloc);

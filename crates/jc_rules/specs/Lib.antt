@@ -3,6 +3,7 @@ pub mod Names
 pub mod Entries
 pub mod Ids
 pub mod Context
+pub mod Paths
 pub mod Places
 pub mod Shape
 pub mod Syntax

@@ -2,7 +2,7 @@ use Rattle.std.proofs.Common.{◌≢◌, true, refl, sym, ◌∙◌}
 use Rattle.jc_rules.specs.declared.key.Key.{Key}
 use Rattle.jc_rules.specs.declared.key.Tagged.{Tagged}
 use Rattle.jc_rules.specs.declared.key.Tagged.TheVariants.{MapT, ListT, RegT}
-use Rattle.jc_apply.specs.Leads.{HasContext}
+use Rattle.jc_rules.specs.Paths.{HasContext}
 use Rattle.jc_apply.proofs.Reaching.{differ, walked_there}
 use Rattle.jc_apply.proofs.tests.is_there.Goals as goal
 use Rattle.jc_apply.proofs.tests.is_there.Goals.{in-RegT, in_default}
