@@ -14,6 +14,7 @@ use Rattle.jc_rules.specs.declared.value.Value.TheVariants as V
 use Rattle.jc_rules.specs.Context.{Context, context, no_child, child, empty_list}
 use Rattle.jc_rules.specs.Syntax.{Cmd, Expr, TheDoc, GetKey, Index, InsertAfter, Yield}
 use Rattle.jc_rules.specs.State.{State, start}
+use Rattle.jc_rules.specs.Step.{Step}
 use Rattle.jc_rules.specs.Table.{cursor}
 use Rattle.jc_rules.specs.Worked.{IsWorked, by_a, by_b, alone, met}
 
@@ -105,6 +106,13 @@ b_applied = record b_received { tree = new_tree; ops = by_a 1 ∷ [] }
 -- `b.recv(a)`
 abbrev pub ReceivesOffered : Type 0
 ReceivesOffered = IsWorked (start b_script) (E.Recv 1 0) (make_list ∷ []) b_received ((R.Recv, 0) ∷ [])
+
+-- `a.recv(a)`, as a step of a network of a alone: a receives what it offers itself
+abbrev pub ReceivesOwn : Type 0
+ReceivesOwn = Step
+    (a_offering ∷ []) (E.Recv 0 0)
+    (record a_offering { recv = make_list ∷ [] } ∷ [])
+    ((R.Recv, 0) ∷ [])
 
 -- `b.apply(1, a)`
 abbrev pub AppliesReceived : Type 0

@@ -9,7 +9,7 @@ use Rattle.jc_rules.specs.declared.operation.Event.TheVariants as E
 use Rattle.jc_rules.specs.declared.rule.Rule.TheVariants as R
 use Rattle.jc_rules.specs.declared.value.Value.{Value}
 use Rattle.jc_rules.specs.declared.value.Value.TheVariants as V
-use Rattle.jc_rules.specs.Context.{Context, context, no_child, child, empty_list}
+use Rattle.jc_rules.specs.Context.{Context, context, no_child, child, empty, empty_list}
 use Rattle.jc_rules.specs.Syntax.{Cmd, TheDoc, Index, LetIn, SetTo, InsertAfter, DeleteAt}
 use Rattle.jc_rules.specs.State.{State, start, ACursor}
 use Rattle.jc_rules.specs.Table.{cursor}
@@ -174,3 +174,34 @@ WholeListDeleted = IsWorked
     ∷ (R.ClearList3, 11)
     ∷ (R.ClearNone, 7)
     ∷ (R.Presence1, 6) ∷ [])
+
+-- `doc.idx(0).insertAfter({})` in the place of the first insert: the element is a map
+abbrev pub insert_map : Op
+insert_map = record {
+  id = by_a 2;
+  deps = by_a 1 ∷ [];
+  cursor = cursor (ListT Doc ∷ []) Head;
+  mutation = M.Insert V.EmptyMap;
+}
+
+abbrev pub tree_of_map : Context
+tree_of_map = context no_child
+    (child Doc (context (child (Elem (by_a 2)) empty no_child) no_child []
+    ((Elem (by_a 2), by_a 2 ∷ []) ∷ [])
+    ((Head, To (by_a 2)) ∷ (Elem (by_a 2), Tail) ∷ [])) no_child)
+    [] ((Doc, by_a 1 ∷ by_a 2 ∷ []) ∷ []) []
+
+abbrev pub InsertOfMap : Type 0
+InsertOfMap = IsWorked
+    (record after_1 { left = InsertAfter (Index TheDoc 0) V.EmptyMap ∷ [] }) (E.Exec 0) []
+    (alone [] [] tree_of_map (by_a 1 ∷ by_a 2 ∷ []) (make_list ∷ insert_map ∷ []))
+    ((R.Exec, 0) ∷ (R.MakeInsert, 1)
+    ∷ (R.Idx1, 2) ∷ (R.Doc, 3) ∷ (R.Idx2, 3) ∷ (R.Idx5, 4)
+    ∷ (R.MakeOp, 2) ∷ (R.ApplyLocal, 3)
+    ∷ (R.Descend, 4) ∷ (R.ChildGet, 5)
+    ∷ (R.Insert1, 5)
+    ∷ (R.EmptyMap, 6)
+    ∷ (R.ClearElem, 7) ∷ (R.ClearAny, 8) ∷ (R.ClearNone, 9) ∷ (R.ClearNone, 9) ∷ (R.ClearNone, 9) ∷ (R.Presence2, 8)
+    ∷ (R.AddId1, 7) ∷ (R.Presence1, 8)
+    ∷ (R.ChildMap, 7)
+    ∷ (R.AddId1, 5) ∷ (R.Presence1, 6) ∷ [])

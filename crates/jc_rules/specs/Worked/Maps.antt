@@ -174,3 +174,29 @@ MapOfTwoDeleted = IsWorked
     ∷ (R.ClearNone, 8) ∷ (R.ClearNone, 8)
     ∷ (R.Presence1, 7)
     ∷ (R.AddId2, 5) ∷ [])
+
+-- `doc.get("a").get("b").delete` on a fresh replica: both maps are made, and no presence set gets the identifier
+abbrev pub delete_b : Op
+delete_b = record { id = by_a 1; deps = []; cursor = cursor (MapT K.Doc ∷ MapT key_a ∷ []) key_b; mutation = M.Delete }
+
+abbrev pub tree_of_nothing : Context
+tree_of_nothing = context
+    (child K.Doc (context
+    (child key_a (context no_child no_child [] ((key_b, []) ∷ []) []) no_child)
+    no_child [] [] []) no_child)
+    no_child [] [] []
+
+abbrev pub NothingDeleted : Type 0
+NothingDeleted = IsWorked
+    (start (DeleteAt (GetKey (GetKey TheDoc (codes "a")) (codes "b")) ∷ [])) (E.Exec 0) []
+    (alone [] [] tree_of_nothing (by_a 1 ∷ []) (delete_b ∷ []))
+    ((R.Exec, 0) ∷ (R.MakeDelete, 1)
+    ∷ (R.Get, 2) ∷ (R.Get, 3) ∷ (R.Doc, 4)
+    ∷ (R.MakeOp, 2) ∷ (R.ApplyLocal, 3)
+    ∷ (R.Descend, 4) ∷ (R.ChildMap, 5)
+    ∷ (R.Descend, 5) ∷ (R.ChildMap, 6)
+    ∷ (R.Delete, 6) ∷ (R.ClearElem, 7)
+    ∷ (R.ClearAny, 8) ∷ (R.ClearNone, 9) ∷ (R.ClearNone, 9) ∷ (R.ClearNone, 9)
+    ∷ (R.Presence2, 8)
+    ∷ (R.AddId2, 6)
+    ∷ (R.AddId2, 5) ∷ [])

@@ -93,6 +93,12 @@ KeyTooDeep = (path : List Tagged) → 511 < length path → IsRefused (alone (Le
 abbrev pub KeysOfRegister : Type 0
 KeysOfRegister = IsRefused (assigned (LetIn (codes "s") (KeysOf at_a) ∷ []) []) (E.Exec 0) (because F.NoMap)
 
+-- and `let s = doc.get("a").get("b").keys` where only a value is under "a": the path's second key isn't there
+abbrev pub KeysBelowRegister : Type 0
+KeysBelowRegister =
+    IsRefused (assigned (LetIn (codes "s") (KeysOf (GetKey at_a (codes "b"))) ∷ []) [])
+    (E.Exec 0) (no_node (MapT (K.Name (codes "a"))))
+
 abbrev pub KeysInNothing : Type 0
 KeysInNothing = IsRefused (start (LetIn (codes "s") (KeysOf at_a) ∷ [])) (E.Exec 0) (no_node (MapT K.Doc))
 
