@@ -1,4 +1,5 @@
-//! Worked derivations, as laws. Each function does nothing: its contract is one event with the states before and after and its trace, an event that has no derivation, or a whole schedule with the states at its start and its end.
+//! Worked derivations, as laws. Each function does nothing: its contract is one event with the states before and after
+//! and its trace, an event that has no derivation, or a whole schedule with the states at its start and its end.
 
 ghost use Rattle.jc_rules.specs.Worked.Registers.{FirstAssignment, KeysOfDocument, ValuesOfRegister, VariableGoesOn, RegisterDeleted, LaterAssignment, ConcurrentAssignment, ValuesOfBoth, KeysPastDeleted, AssignmentOfDocument};
 ghost use Rattle.jc_rules.specs.Worked.Maps.{FirstMap, AssignmentOverMap, MapOverAssignment, ValuesUnderMap, KeysOfInnerMap, MapOfTwoDeleted, NothingDeleted};

@@ -21,7 +21,8 @@ text_x = V.Str (codes "x")
 abbrev pub text_y : Value
 text_y = V.Str (codes "y")
 
--- the script `doc := []; doc.idx(0).insertAfter("x"); doc.idx(1).insertAfter("y"); doc.idx(1).delete; let z = doc.idx(1); let w = doc.idx(2)`, and what is left of it after each event
+-- the script `doc := []; doc.idx(0).insertAfter("x"); doc.idx(1).insertAfter("y"); doc.idx(1).delete; let z =
+-- doc.idx(1); let w = doc.idx(2)`, and what is left of it after each event
 abbrev pub left_5 : List Cmd
 left_5 = LetIn (codes "w") (Index TheDoc 2) ∷ []
 
@@ -48,10 +49,20 @@ abbrev pub insert_x : Op
 insert_x = record { id = by_a 2; deps = by_a 1 ∷ []; cursor = cursor (ListT Doc ∷ []) Head; mutation = M.Insert text_x }
 
 abbrev pub insert_y : Op
-insert_y = record { id = by_a 3; deps = by_a 1 ∷ by_a 2 ∷ []; cursor = cursor (ListT Doc ∷ []) (Elem (by_a 2)); mutation = M.Insert text_y }
+insert_y = record {
+  id = by_a 3;
+  deps = by_a 1 ∷ by_a 2 ∷ [];
+  cursor = cursor (ListT Doc ∷ []) (Elem (by_a 2));
+  mutation = M.Insert text_y;
+}
 
 abbrev pub delete_x : Op
-delete_x = record { id = by_a 4; deps = by_a 1 ∷ by_a 2 ∷ by_a 3 ∷ []; cursor = cursor (ListT Doc ∷ []) (Elem (by_a 2)); mutation = M.Delete }
+delete_x = record {
+  id = by_a 4;
+  deps = by_a 1 ∷ by_a 2 ∷ by_a 3 ∷ [];
+  cursor = cursor (ListT Doc ∷ []) (Elem (by_a 2));
+  mutation = M.Delete;
+}
 
 -- the document after each of them
 abbrev pub tree_1 : Context
@@ -92,7 +103,8 @@ abbrev pub after_3 : State
 after_3 = alone left_3 [] tree_3 (by_a 1 ∷ by_a 2 ∷ by_a 3 ∷ []) (make_list ∷ insert_x ∷ insert_y ∷ [])
 
 abbrev pub after_4 : State
-after_4 = alone left_4 [] tree_4 (by_a 1 ∷ by_a 2 ∷ by_a 3 ∷ by_a 4 ∷ []) (make_list ∷ insert_x ∷ insert_y ∷ delete_x ∷ [])
+after_4 =
+    alone left_4 [] tree_4 (by_a 1 ∷ by_a 2 ∷ by_a 3 ∷ by_a 4 ∷ []) (make_list ∷ insert_x ∷ insert_y ∷ delete_x ∷ [])
 
 -- and after `let z = doc.idx(1)`
 abbrev pub after_5 : State
@@ -166,11 +178,14 @@ WholeListDeleted = IsWorked
     ∷ (R.ClearAny, 6) ∷ (R.ClearNone, 7)
     ∷ (R.ClearList1, 7)
     ∷ (R.ClearList2, 8)
-    ∷ (R.ClearElem, 9) ∷ (R.ClearAny, 10) ∷ (R.ClearNone, 11) ∷ (R.ClearNone, 11) ∷ (R.ClearNone, 11) ∷ (R.Presence2, 10)
+    ∷ (R.ClearElem, 9) ∷ (R.ClearAny, 10) ∷ (R.ClearNone, 11)
+    ∷ (R.ClearNone, 11) ∷ (R.ClearNone, 11) ∷ (R.Presence2, 10)
     ∷ (R.ClearList2, 9)
-    ∷ (R.ClearElem, 10) ∷ (R.ClearAny, 11) ∷ (R.ClearNone, 12) ∷ (R.ClearNone, 12) ∷ (R.ClearReg, 12) ∷ (R.Presence1, 11)
+    ∷ (R.ClearElem, 10) ∷ (R.ClearAny, 11) ∷ (R.ClearNone, 12)
+    ∷ (R.ClearNone, 12) ∷ (R.ClearReg, 12) ∷ (R.Presence1, 11)
     ∷ (R.ClearList2, 10)
-    ∷ (R.ClearElem, 11) ∷ (R.ClearAny, 12) ∷ (R.ClearNone, 13) ∷ (R.ClearNone, 13) ∷ (R.ClearReg, 13) ∷ (R.Presence1, 12)
+    ∷ (R.ClearElem, 11) ∷ (R.ClearAny, 12) ∷ (R.ClearNone, 13)
+    ∷ (R.ClearNone, 13) ∷ (R.ClearReg, 13) ∷ (R.Presence1, 12)
     ∷ (R.ClearList3, 11)
     ∷ (R.ClearNone, 7)
     ∷ (R.Presence1, 6) ∷ [])

@@ -74,7 +74,10 @@ x_at_a = (codes "x", ACursor (cursor (MapT K.Doc ∷ []) key_a)) ∷ []
 -- `let x = x.get("a")` where x is the document
 abbrev pub VariableGoesOn : Type 0
 VariableGoesOn = IsWorked
-    (assigned (LetIn (codes "x") (GetKey (Variable (codes "x")) (codes "a")) ∷ delete_x ∷ let_x_doc ∷ []) ((codes "x", ACursor (cursor [] K.Doc)) ∷ [])) (E.Exec 0) []
+    (assigned
+    (LetIn (codes "x") (GetKey (Variable (codes "x")) (codes "a")) ∷ delete_x ∷ let_x_doc ∷ [])
+    ((codes "x", ACursor (cursor [] K.Doc)) ∷ []))
+    (E.Exec 0) []
     (assigned (delete_x ∷ let_x_doc ∷ []) x_at_a)
     ((R.Exec, 0) ∷ (R.Let, 1) ∷ (R.Get, 2) ∷ (R.Var, 3) ∷ [])
 
@@ -104,17 +107,33 @@ RegisterDeleted = IsWorked
 
 -- the operation of `doc.get("a") := 2` after that of 1
 abbrev pub assign_two : Op
-assign_two = record { id = by_a 2; deps = by_a 1 ∷ []; cursor = cursor (MapT K.Doc ∷ []) key_a; mutation = M.Assign (V.Number (codes "2")) }
+assign_two = record {
+  id = by_a 2;
+  deps = by_a 1 ∷ [];
+  cursor = cursor (MapT K.Doc ∷ []) key_a;
+  mutation = M.Assign (V.Number (codes "2"));
+}
 
 -- the document with 2 in the place of 1
 abbrev pub tree_of_two : Context
 tree_of_two = context
-    (child K.Doc (context no_child no_child ((key_a, (by_a 2, V.Number (codes "2")) ∷ []) ∷ []) ((key_a, by_a 1 ∷ by_a 2 ∷ []) ∷ []) []) no_child)
+    (child K.Doc (context no_child no_child
+    ((key_a, (by_a 2, V.Number (codes "2")) ∷ []) ∷ [])
+    ((key_a, by_a 1 ∷ by_a 2 ∷ []) ∷ []) []) no_child)
     no_child [] ((K.Doc, by_a 1 ∷ by_a 2 ∷ []) ∷ []) []
 
 -- b, which received both and applied the first
 abbrev pub received : State
-received = record { left = Yield ∷ []; acted = true; vars = []; tree = tree_of_one; ops = by_a 1 ∷ []; queue = []; send = []; recv = assign_one ∷ assign_two ∷ [] }
+received = record {
+  left = Yield ∷ [];
+  acted = true;
+  vars = [];
+  tree = tree_of_one;
+  ops = by_a 1 ∷ [];
+  queue = [];
+  send = [];
+  recv = assign_one ∷ assign_two ∷ [];
+}
 
 -- `b.apply(2, a)`
 abbrev pub LaterAssignment : Type 0
