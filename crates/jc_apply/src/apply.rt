@@ -42,7 +42,8 @@ fn delete<S: TreeStore>(
     requires there { HasPlace at.now (S.tree store.old) }
     requires chained { IsChained (S.tree store.old).now }
     requires deletes { op.now.mutation ≡ Mutation.Delete }
-    ensures ok { OnOk result (Leads (λ c. Operate c (moved op.now [] op.now.cursor.last op.now.mutation)) at.now (S.tree store.old) (S.tree store.new) trace.old trace.new) }
+    ensures ok { OnOk result (Leads (λ c. Operate c (moved op.now [] op.now.cursor.last op.now.mutation))
+        at.now (S.tree store.old) (S.tree store.new) trace.old trace.new) }
     ensures links { OnOk result (LinksNone at.now (S.tree store.old) (S.tree store.new)) }
     ensures kept { Kept (S.tree store.old) (S.tree store.new) trace.old trace.new }
 {
@@ -65,7 +66,8 @@ fn operate_here<S: TreeStore>(
     requires chained { IsChained (S.tree store.old).now }
     requires fresh { IsUnlinked op.now.id (S.tree store.old).now }
     requires fits { Fits (here at.now (S.tree store.old)) [] op.now.cursor.last op.now.mutation }
-    ensures ok { OnOk result (Leads (λ c. Operate c (moved op.now [] op.now.cursor.last op.now.mutation)) at.now (S.tree store.old) (S.tree store.new) trace.old trace.new) }
+    ensures ok { OnOk result (Leads (λ c. Operate c (moved op.now [] op.now.cursor.last op.now.mutation))
+        at.now (S.tree store.old) (S.tree store.new) trace.old trace.new) }
     ensures links { OnOk result (LinksOnly op.now.id (S.tree store.old) (S.tree store.new)) }
     ensures kept { Kept (S.tree store.old) (S.tree store.new) trace.old trace.new }
 {
@@ -87,7 +89,8 @@ fn add_op<S: TreeStore>(
     trace: &mut Trace,
 ) -> Result<(), AllocError>
     requires { HasPlace at.now (S.tree store.old) }
-    ensures ok { OnOk result (Leads (λ c. AddId c key.now op.now.id op.now.mutation) at.now (S.tree store.old) (S.tree store.new) trace.old trace.new) }
+    ensures ok { OnOk result (Leads (λ c. AddId c key.now op.now.id op.now.mutation)
+        at.now (S.tree store.old) (S.tree store.new) trace.old trace.new) }
     ensures links { OnOk result (LinksNone at.now (S.tree store.old) (S.tree store.new)) }
     ensures kept { Kept (S.tree store.old) (S.tree store.new) trace.old trace.new }
 {
@@ -110,8 +113,11 @@ fn operate<S: TreeStore>(
     requires there { HasPlace (take depth op.now.cursor.path) (S.tree store.old) }
     requires chained { IsChained (S.tree store.old).now }
     requires fresh { IsUnlinked op.now.id (S.tree store.old).now }
-    requires fits { Fits (here (take depth op.now.cursor.path) (S.tree store.old)) (drop depth op.now.cursor.path) op.now.cursor.last op.now.mutation }
-    ensures ok { OnOk result (Leads (λ c. Operate c (moved op.now (drop depth op.now.cursor.path) op.now.cursor.last op.now.mutation)) (take depth op.now.cursor.path) (S.tree store.old) (S.tree store.new) trace.old trace.new) }
+    requires fits { Fits (here (take depth op.now.cursor.path) (S.tree store.old))
+        (drop depth op.now.cursor.path) op.now.cursor.last op.now.mutation }
+    ensures ok { OnOk result (Leads
+        (λ c. Operate c (moved op.now (drop depth op.now.cursor.path) op.now.cursor.last op.now.mutation))
+        (take depth op.now.cursor.path) (S.tree store.old) (S.tree store.new) trace.old trace.new) }
     ensures links { OnOk result (LinksOnly op.now.id (S.tree store.old) (S.tree store.new)) }
     ensures kept { Kept (S.tree store.old) (S.tree store.new) trace.old trace.new }
 {
@@ -143,17 +149,22 @@ pub fn apply_op<S: TreeStore>(
 ) -> Result<(), ApplyFault>
     requires chained { IsChained (S.tree store.old).now }
     requires fresh { IsUnlinked op.now.id (S.tree store.old).now }
-    ensures ok { OnOk result (Derives (Operate (S.tree store.old).now op.now) (ToContext (S.tree store.new).now) trace.old trace.new) }
+    ensures ok { OnOk result (Derives (Operate (S.tree store.old).now op.now)
+        (ToContext (S.tree store.new).now) trace.old trace.new) }
     ensures fits { OnOk result (Fits (S.tree store.old).now op.now.cursor.path op.now.cursor.last op.now.mutation) }
-    ensures memory { IsErrOf result ApplyFault.Memory → Fits (S.tree store.old).now op.now.cursor.path op.now.cursor.last op.now.mutation }
-    ensures unfit { IsErrOf result ApplyFault.NotInList → Fits (S.tree store.old).now op.now.cursor.path op.now.cursor.last op.now.mutation → ⊥ }
+    ensures memory { IsErrOf result ApplyFault.Memory
+        → Fits (S.tree store.old).now op.now.cursor.path op.now.cursor.last op.now.mutation }
+    ensures unfit { IsErrOf result ApplyFault.NotInList
+        → Fits (S.tree store.old).now op.now.cursor.path op.now.cursor.last op.now.mutation → ⊥ }
     ensures no_answer { IsErrOf result ApplyFault.NotInList → HasNoAnswer (Operate (S.tree store.old).now op.now) }
-    ensures refused { IsErrOf result ApplyFault.NotInList → Refused (Operate (S.tree store.old).now op.now) (because PlaceNotInList) }
+    ensures refused { IsErrOf result ApplyFault.NotInList
+        → Refused (Operate (S.tree store.old).now op.now) (because PlaceNotInList) }
     ensures err_store { OnErr result (S.tree store.new ≡ S.tree store.old) }
     ensures err_trace { OnErr result (trace.new ≡ trace.old) }
     ensures kept { Kept (S.tree store.old) (S.tree store.new) trace.old trace.new }
     ensures chained { IsChained (S.tree store.new).now }
-    ensures unlinked { (i : AnyId) → i ≢ op.now.id → IsUnlinked i (S.tree store.old).now → IsUnlinked i (S.tree store.new).now }
+    ensures unlinked { (i : AnyId) → i ≢ op.now.id
+        → IsUnlinked i (S.tree store.old).now → IsUnlinked i (S.tree store.new).now }
 {
     if !fits(store, &op.cursor, &op.mutation) {
         return Err(ApplyFault::NotInList);

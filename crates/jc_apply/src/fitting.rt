@@ -23,7 +23,8 @@ fn is_new_head(parent: Option<&Tagged>, key: &Key) -> bool
 /// end. What doesn't fit is refused with `NotInList`. It takes no memory.
 pub fn fits<S: TreeStore>(store: &S, cursor: &Cursor, mutation: &Mutation) -> bool
     ensures fits { IsTrue result ↔ Fits (S.tree store.now).now cursor.now.path cursor.now.last mutation.now }
-    ensures no_answer { IsFalse result → EachOp cursor.now mutation.now (λ o. HasNoAnswer (Operate (S.tree store.now).now o)) }
+    ensures no_answer { IsFalse result
+        → EachOp cursor.now mutation.now (λ o. HasNoAnswer (Operate (S.tree store.now).now o)) }
     ensures refused { IsFalse result
         → EachOp cursor.now mutation.now (λ o. Refused (Operate (S.tree store.now).now o) (because NotInList)) }
 {

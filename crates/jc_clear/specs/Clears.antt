@@ -11,7 +11,8 @@ use Rattle.jc_rules.specs.Trace.{Rows}
 use Rattle.jc_tree.specs.Tree.{Tree, here}
 use Rattle.jc_clear.specs.Bare.{bare}
 
--- A derivation answers the question of the context at the place with another context, which is there afterwards, and with the identifiers; its rules were added to the trace, and no tagged key or link was changed.
+-- A derivation answers the question of the context at the place with another context, which is there afterwards, and
+-- with the identifiers; its rules were added to the trace, and no tagged key or link was changed.
 pub record Clears (q : Context → Question) (at : List Tagged) (a b : Tree) (ids : List Id) (t u : Rows) : Type 0 where
   pub after : Context
   pub derives : Derives (q (here at a)) (Cleared after ids) t u

@@ -100,7 +100,8 @@ pub trait TreeStore {
     /// The least key that something follows in a list, above the given one.
     fn link_after(&self, at: &[Tagged], above: Option<&Key>) -> Option<&Key>
         requires { HasPlace at.now (tree self.now) }
-        ensures { option_copied result ≡ least_after (option_copied above.entry) (keys_of (links (here at.now (tree self.now)))) };
+        ensures { option_copied result ≡ least_after (option_copied above.entry)
+            (keys_of (links (here at.now (tree self.now)))) };
 
     /// Marks the content.
     fn mark(&self) -> Mark
