@@ -1,7 +1,7 @@
 //! Readings and writings, whole and cut short.
 
-use super::{Failed, FromRead, ReadFault, Sink, Source, ToWrite, read_up_to, write_all};
-use crate::fakes::{Bytes, Endless, FailsAt, OneByte, Taken, TakesUpTo, Then};
+use jc_fakes::{Bytes, Endless, FailsAt, OneByte, Taken, TakesUpTo, Then};
+use jc_rules::io::{Failed, FromRead, ReadFault, Sink, Source, ToWrite, read_up_to, write_all};
 use std::io;
 use std::io::{ErrorKind, Read, Write};
 use std::test::Fail;

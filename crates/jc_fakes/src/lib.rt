@@ -1,12 +1,13 @@
-//! Sources and sinks for tests, in this crate and in those above it.
+//! Sources and sinks for tests.
+#![tactic(auto)]
 
 ghost use Rattle.std.specs.Prelude.{◌≡◌, ℕ, ◌+◌, ◌-◌, ◌^◌, ◌<◌, ◌≤◌, ◌↔◌, min, List, [], length, replicate, Some, None, Ok, Err, IsTrue, IsOk, IsErr, IfOk, OnOk, OnErr};
 ghost use Rattle.std.specs.Io.{ReadsAtMost, WritesAtMost};
 ghost use Rattle.std.specs.Io.KnownBytes.{Keeps};
 ghost use Rattle.jc_rules.specs.Told.{Reads, Writes, Stays, failures_of, write_failures, told};
-ghost use Rattle.jc_rules.specs.Fakes.{one_call_on, failures_made, refusal_of};
+ghost use Rattle.jc_fakes.specs.Fakes.{one_call_on, failures_made, refusal_of};
 
-use crate::io::{Failed, Sink, Source};
+use jc_rules::io::{Failed, Sink, Source};
 use std::alloc::Global;
 use std::marker::Model;
 
@@ -236,7 +237,7 @@ pub struct Taken {
 }
 
 impl Model for Taken {
-    ghost use Rattle.jc_rules.specs.Fakes.{Kept};
+    ghost use Rattle.jc_fakes.specs.Fakes.{Kept};
 
     ghost Value = { Kept };
 
@@ -410,6 +411,3 @@ impl<K: Sink> Sink for TakesUpTo<K> {
         self.sink.flush()
     }
 }
-
-#[cfg(test)]
-mod tests;

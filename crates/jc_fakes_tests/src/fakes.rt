@@ -1,7 +1,7 @@
 //! Each source and sink by itself.
 
-use super::{Bytes, CountsFlushes, Endless, FailsAt, OneByte, Taken, TakesUpTo, Then};
-use crate::io::{Failed, Sink, Source};
+use jc_fakes::{Bytes, CountsFlushes, Endless, FailsAt, OneByte, Taken, TakesUpTo, Then};
+use jc_rules::io::{Failed, Sink, Source};
 use std::test::Fail;
 
 #[test]

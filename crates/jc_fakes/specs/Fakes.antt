@@ -1,8 +1,8 @@
 -- What the sources and sinks for tests hold and answer.
 use Rattle.std.specs.Prelude.{ℕ, zero, suc, List, Option, Some, None, Result, Ok, Err}
 use Rattle.jc_rules.specs.declared.io.Failed.{Failed}
-use Rattle.jc_rules.specs.declared.fakes.Then.{Then}
-use Rattle.jc_rules.specs.declared.fakes.Then.TheVariants.{Fails, TakesNone}
+use Rattle.jc_fakes.specs.declared.Then.{Then}
+use Rattle.jc_fakes.specs.declared.Then.TheVariants.{Fails, TakesNone}
 
 -- The bytes that a sink in memory keeps, and the number of its failures.
 pub record Kept : Type 0 where
