@@ -6,6 +6,7 @@ use jc_rules::{
 };
 use std::alloc::Global;
 use std::cmp::Ordering;
+use std::process::Abort;
 use std::test::Fail;
 
 fn text(alloc: Global, bytes: &str) -> Result<Text, Fail> {
@@ -16,104 +17,209 @@ fn id(counter: u64, replica: u16) -> Id {
     Id { counter, replica }
 }
 
+fn is_text(rt: &impl Abort, got: &str, want: &str) {
+    assert_eq!(rt; got, want);
+}
+
+fn are_same<T: PartialEq>(rt: &impl Abort, got: &T, want: &T) {
+    assert!(rt; *got == *want);
+}
+
+fn are_rising(rt: &impl Abort, first: &Text, second: &Text) {
+    assert!(rt; *first < *second);
+    are_same(rt, &first.cmp(second), &Ordering::Less);
+    are_same(rt, &first.partial_cmp(second), &Some(Ordering::Less));
+}
+
 #[test]
 fn texts(rt: HostRuntime) -> Result<(), Fail> {
     let short = text(rt.alloc(), "a")?;
     let long = text(rt.alloc(), "a1")?;
-    assert_eq!(rt; short.as_str(), "a");
-    assert!(rt; short.copy()? == short);
-    assert!(rt; short < long);
-    assert_eq!(rt; short.cmp(&long), Ordering::Less);
-    assert_eq!(rt; short.partial_cmp(&long), Some(Ordering::Less));
+    is_text(&rt, short.as_str(), "a");
+    are_rising(&rt, &short, &long);
+    Ok(())
+}
+
+#[test]
+fn texts_are_copied(rt: HostRuntime) -> Result<(), Fail> {
+    let short = text(rt.alloc(), "a")?;
+    let copy = short.copy()?;
+    are_same(&rt, &copy, &short);
     Ok(())
 }
 
 #[test]
 fn names_of_replicas(rt: HostRuntime) -> Result<(), Fail> {
     let names = [text(rt.alloc(), "a")?, text(rt.alloc(), "b")?];
-    assert_eq!(rt; name_at(&names, 0), "a");
-    assert_eq!(rt; name_at(&names, 1), "b");
-    assert_eq!(rt; name_at(&names, 2), "");
+    for (replica, want) in [(0, "a"), (1, "b"), (2, "")] {
+        assert_eq!(rt; name_at(&names, replica), want, "of {replica}");
+    }
     Ok(())
 }
 
 #[test]
 fn identifiers_by_counter_then_replica(rt: HostRuntime) {
-    assert_eq!(rt; compare_ids(id(2, 0), id(1, 1)), Ordering::Greater);
-    assert_eq!(rt; compare_ids(id(1, 0), id(1, 1)), Ordering::Less);
-    assert_eq!(rt; compare_ids(id(1, 1), id(1, 1)), Ordering::Equal);
+    are_same(&rt, &compare_ids(id(2, 0), id(1, 1)), &Ordering::Greater);
+    are_same(&rt, &compare_ids(id(1, 0), id(1, 1)), &Ordering::Less);
+    are_same(&rt, &compare_ids(id(1, 1), id(1, 1)), &Ordering::Equal);
 }
 
 #[test]
 fn keys_by_kind(rt: HostRuntime) -> Result<(), Fail> {
     let name = Key::Name(text(rt.alloc(), "z")?);
     let element = Key::Elem(id(1, 0));
-    assert_eq!(rt; compare_keys(&Key::Doc, &Key::Head), Ordering::Less);
-    assert_eq!(rt; compare_keys(&Key::Head, &name), Ordering::Less);
-    assert_eq!(rt; compare_keys(&element, &name), Ordering::Greater);
-    assert!(rt; name.copy()? == name);
-    let list = Tagged::ListT(element.copy()?);
-    assert!(rt; list.copy()? == list);
-    assert!(rt; *list.key() == element);
-    assert!(rt; Tagged::default() == Tagged::MapT(Key::Doc));
-    assert_eq!(rt; Next::Elem(id(1, 0)), Next::Elem(id(1, 0)));
+    are_same(&rt, &compare_keys(&Key::Doc, &Key::Head), &Ordering::Less);
+    are_same(&rt, &compare_keys(&Key::Head, &name), &Ordering::Less);
+    are_same(&rt, &compare_keys(&element, &name), &Ordering::Greater);
     Ok(())
 }
 
 #[test]
-fn operations_are_copied(rt: HostRuntime) -> Result<(), Fail> {
-    let alloc = rt.alloc();
+fn keys_are_copied(rt: HostRuntime) -> Result<(), Fail> {
+    let name = Key::Name(text(rt.alloc(), "z")?);
+    let copy = name.copy()?;
+    are_same(&rt, &copy, &name);
+    Ok(())
+}
+
+#[test]
+fn tagged_keys(rt: HostRuntime) -> Result<(), Fail> {
+    let list = Tagged::ListT(Key::Elem(id(1, 0)).copy()?);
+    let copy = list.copy()?;
+    are_same(&rt, &copy, &list);
+    are_same(&rt, list.key(), &Key::Elem(id(1, 0)));
+    are_same(&rt, &Tagged::default(), &Tagged::MapT(Key::Doc));
+    are_same(&rt, &Next::Elem(id(1, 0)), &Next::Elem(id(1, 0)));
+    Ok(())
+}
+
+/// The path of the document's map.
+fn map_of_the_document(alloc: Global) -> Result<Path, Fail> {
     let mut path = Path::new(alloc);
     path.push(Tagged::MapT(Key::Doc))?;
+    Ok(path)
+}
+
+fn is_map_of_the_document(rt: &impl Abort, path: &Path) {
+    assert!(rt; path.as_slice() == [Tagged::MapT(Key::Doc)].as_slice());
+}
+
+fn cursor_at_a(alloc: Global) -> Result<Cursor, Fail> {
+    let last = Key::Name(text(alloc, "a")?);
+    let path = map_of_the_document(alloc)?;
+    Ok(Cursor { path, last })
+}
+
+fn insert_of_a_number(alloc: Global) -> Result<Mutation, Fail> {
+    Ok(Mutation::Insert(Value::Number(text(alloc, "1e999")?)))
+}
+
+fn one_dependency(alloc: Global) -> Result<IdSet, Fail> {
     let mut deps = IdSet::new(alloc);
     deps.insert(id(1, 1))?;
-    let op = Op {
+    Ok(deps)
+}
+
+fn an_operation(alloc: Global) -> Result<Op, Fail> {
+    let mutation = insert_of_a_number(alloc)?;
+    let cursor = cursor_at_a(alloc)?;
+    let deps = one_dependency(alloc)?;
+    Ok(Op {
         id: id(2, 0),
         deps,
-        cursor: Cursor {
-            path,
-            last: Key::Name(text(alloc, "a")?),
-        },
-        mutation: Mutation::Insert(Value::Number(text(alloc, "1e999")?)),
-    };
+        cursor,
+        mutation,
+    })
+}
+
+#[test]
+fn operations_are_copied(rt: HostRuntime) -> Result<(), Fail> {
+    let op = an_operation(rt.alloc())?;
     let copy = op.copy()?;
-    assert_eq!(rt; copy.id, id(2, 0));
-    assert!(rt; copy.deps.contains(id(1, 1)));
-    assert!(rt; copy.cursor.copy()?.path.as_slice() == [Tagged::MapT(Key::Doc)].as_slice());
-    assert!(rt; copy.cursor.last == op.cursor.last);
-    assert!(rt; copy.mutation.copy()? == op.mutation);
-    assert!(rt; Value::Null.copy()? == Value::Null);
-    assert_eq!(rt; copy.cursor.path.copy()?.as_slice().len(), 1);
+    are_same(&rt, &copy.id, &id(2, 0));
+    are_same(&rt, &copy.deps.contains(id(1, 1)), &true);
+    are_same(&rt, &copy.cursor.last, &op.cursor.last);
+    are_same(&rt, &copy.mutation, &op.mutation);
+    is_map_of_the_document(&rt, &copy.cursor.path);
+    Ok(())
+}
+
+#[test]
+fn cursors_are_copied(rt: HostRuntime) -> Result<(), Fail> {
+    let cursor = cursor_at_a(rt.alloc())?;
+    let copy = cursor.copy()?;
+    is_map_of_the_document(&rt, &copy.path);
+    are_same(&rt, &copy.last, &cursor.last);
+    Ok(())
+}
+
+#[test]
+fn paths_are_copied(rt: HostRuntime) -> Result<(), Fail> {
+    let path = map_of_the_document(rt.alloc())?;
+    let copy = path.copy()?;
+    are_same(&rt, &copy.as_slice().len(), &1);
+    is_map_of_the_document(&rt, &copy);
+    Ok(())
+}
+
+#[test]
+fn mutations_are_copied(rt: HostRuntime) -> Result<(), Fail> {
+    let mutation = insert_of_a_number(rt.alloc())?;
+    let copy = mutation.copy()?;
+    are_same(&rt, &copy, &mutation);
+    Ok(())
+}
+
+#[test]
+fn values_are_copied(rt: HostRuntime) -> Result<(), Fail> {
+    let copy = Value::Null.copy()?;
+    are_same(&rt, &copy, &Value::Null);
     Ok(())
 }
 
 #[test]
 fn events_name_their_replica(rt: HostRuntime) {
-    assert_eq!(rt; Event::Exec(3).replica(), 3);
-    assert_eq!(rt; Event::Send(3).replica(), 3);
-    assert_eq!(rt; Event::Recv(3, 4).replica(), 3);
-    assert_eq!(rt; Event::Apply(3, id(1, 4)).replica(), 3);
-    assert_eq!(rt; Event::Done(3).replica(), 3);
+    for event in [
+        Event::Exec(3),
+        Event::Send(3),
+        Event::Recv(3, 4),
+        Event::Apply(3, id(1, 4)),
+        Event::Done(3),
+    ] {
+        assert_eq!(rt; event.replica(), 3);
+    }
 }
 
 #[test]
 fn rules_by_name(rt: HostRuntime) {
-    assert_eq!(rt; Rule::MakeAssign.name(), "MAKE-ASSIGN");
-    assert_eq!(rt; Rule::of_name("CLEAR-LIST3"), Some(Rule::ClearList3));
-    assert_eq!(rt; Rule::of_name("IDX3"), Some(Rule::Idx3));
-    assert_eq!(rt; Rule::of_name("idx3"), None);
-    assert_eq!(rt; Rule::of_name(""), None);
+    is_text(&rt, Rule::MakeAssign.name(), "MAKE-ASSIGN");
+    for (name, want) in [
+        ("CLEAR-LIST3", Some(Rule::ClearList3)),
+        ("IDX3", Some(Rule::Idx3)),
+        ("idx3", None),
+        ("", None),
+    ] {
+        assert!(rt; Rule::of_name(name) == want, "{name}");
+    }
 }
 
 #[test]
 fn refusals_by_number(rt: HostRuntime) {
-    assert_eq!(rt; Refusal::NoHeader.number(), 14);
-    assert_eq!(rt; Refusal::NoSuchNode.name(), "NoSuchNode");
-    assert_eq!(rt; Refusal::of_number(36), Some(Refusal::DepsMissing));
-    assert_eq!(rt; Refusal::of_number(58), Some(Refusal::BadLine));
+    are_same(&rt, &Refusal::NoHeader.number(), &14);
+    is_text(&rt, Refusal::NoSuchNode.name(), "NoSuchNode");
+    are_same(&rt, &Refusal::of_number(36), &Some(Refusal::DepsMissing));
+    are_same(&rt, &Refusal::of_number(58), &Some(Refusal::BadLine));
     for unused in [0, 21, 39, 44, 48, 49, 59] {
-        assert_eq!(rt; Refusal::of_number(unused), None);
+        assert!(rt; Refusal::of_number(unused).is_none(), "{unused}");
     }
+}
+
+fn shows(rt: &impl Abort, trace: &Trace, rows: &[(Rule, u64)]) {
+    assert!(rt; trace.rows() == rows);
+}
+
+fn is_at(rt: &impl Abort, trace: &Trace, depth: u64) {
+    assert_eq!(rt; trace.depth(), depth);
 }
 
 #[test]
@@ -125,24 +231,24 @@ fn traces(rt: HostRuntime) -> Result<(), Fail> {
     let mark = trace.mark();
     trace.open(Rule::Get)?;
     trace.push(Rule::Doc)?;
-    assert!(rt;
-        trace.rows()
-            == [
-                (Rule::Exec, 0),
-                (Rule::Let, 1),
-                (Rule::Get, 1),
-                (Rule::Doc, 2)
-            ]
-            .as_slice()
+    shows(
+        &rt,
+        &trace,
+        &[
+            (Rule::Exec, 0),
+            (Rule::Let, 1),
+            (Rule::Get, 1),
+            (Rule::Doc, 2),
+        ],
     );
     trace.cut(mark);
-    assert!(rt; trace.rows() == [(Rule::Exec, 0), (Rule::Let, 1)].as_slice());
-    assert_eq!(rt; trace.depth(), 1);
+    shows(&rt, &trace, &[(Rule::Exec, 0), (Rule::Let, 1)]);
+    is_at(&rt, &trace, 1);
     trace.up();
-    assert_eq!(rt; trace.depth(), 0);
+    is_at(&rt, &trace, 0);
     trace.open(Rule::Done)?;
     trace.close(0);
-    assert_eq!(rt; trace.depth(), 0);
+    is_at(&rt, &trace, 0);
     Ok(())
 }
 
@@ -151,6 +257,10 @@ fn laws_stand() {
     laws::one_derivation();
     laws::one_step();
     laws::one_after();
+    laws::refused_has_none();
+    laws::one_cause();
+    laws::stuck_has_none();
+    laws::one_stuck();
     laws::exact_orders();
     laws::sets();
     laws::names_differ();

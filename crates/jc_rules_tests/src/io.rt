@@ -4,60 +4,71 @@ use jc_fakes::{Bytes, Endless, FailsAt, OneByte, Taken, TakesUpTo, Then};
 use jc_rules::io::{Failed, FromRead, ReadFault, Sink, Source, ToWrite, read_up_to, write_all};
 use std::io;
 use std::io::{ErrorKind, Read, Write};
-use std::test::Fail;
+use std::process::Abort;
+
+/// Expects a reading of at most so many bytes to give this text.
+fn reads<R: AllocGlobal + Abort, S: Source>(rt: &R, source: &mut S, most: usize, want: &str) {
+    let all = read_up_to(rt.alloc(), source, most).expect(rt, "a reading");
+    assert_eq!(rt; all.as_slice(), want.as_bytes(), "up to {most}");
+}
+
+fn writes<K: Sink>(rt: &impl Abort, sink: &mut K, text: &str, want: Result<(), Failed>) {
+    assert_eq!(rt; write_all(sink, text.as_bytes()), want);
+}
+
+fn flushes<K: Sink>(rt: &impl Abort, sink: &mut K, want: Result<(), Failed>) {
+    assert_eq!(rt; sink.flush(), want);
+}
+
+fn holds(rt: &impl Abort, got: &[u8], want: &str) {
+    assert_eq!(rt; got, want.as_bytes());
+}
 
 #[test]
-fn reads_up_to_the_limit(rt: HostRuntime) -> Result<(), Fail> {
+fn reads_up_to_the_limit(rt: HostRuntime) {
     for (most, want) in [(0, ""), (5, "line\n"), (6, "line\nx"), (7, "line\nx")] {
-        let all = read_up_to(rt.alloc(), &mut Bytes::new(b"line\nx"), most)?;
-        assert_eq!(rt; all.as_slice(), want.as_bytes(), "up to {most}");
+        reads(&rt, &mut Bytes::new(b"line\nx"), most, want);
     }
-    Ok(())
 }
 
 #[test]
-fn leaves_what_is_past_the_limit(rt: HostRuntime) -> Result<(), Fail> {
+fn leaves_what_is_past_the_limit(rt: HostRuntime) {
     let mut source = Bytes::new(b"line\nx");
-    let front = read_up_to(rt.alloc(), &mut source, 5)?;
-    let rest = read_up_to(rt.alloc(), &mut source, 5)?;
-    assert_eq!(rt; front.as_slice(), b"line\n".as_slice());
-    assert_eq!(rt; rest.as_slice(), b"x".as_slice());
-    Ok(())
+    reads(&rt, &mut source, 5, "line\n");
+    reads(&rt, &mut source, 5, "x");
 }
 
 #[test]
-fn reads_the_same_by_single_bytes(rt: HostRuntime) -> Result<(), Fail> {
+fn reads_the_same_by_single_bytes(rt: HostRuntime) {
     for (most, want) in [(5, "line\n"), (6, "line\nx"), (7, "line\nx")] {
-        let mut source = OneByte::new(Bytes::new(b"line\nx"));
-        let all = read_up_to(rt.alloc(), &mut source, most)?;
-        assert_eq!(rt; all.as_slice(), want.as_bytes(), "up to {most}");
+        reads(&rt, &mut OneByte::new(Bytes::new(b"line\nx")), most, want);
     }
-    Ok(())
 }
 
 #[test]
-fn cuts_an_endless_source(rt: HostRuntime) -> Result<(), Fail> {
-    let all = read_up_to(rt.alloc(), &mut Endless::new(b'a'), 10000)?;
+fn cuts_an_endless_source(rt: HostRuntime) {
+    let all = read_up_to(rt.alloc(), &mut Endless::new(b'a'), 10000).expect(&rt, "a reading");
     assert_eq!(rt; all.len(), 10000);
     assert!(rt; all.iter().all(|byte| *byte == b'a'));
-    Ok(())
+}
+
+/// Expects a reading by single bytes to end at its read number `at`, and the next to give the rest.
+fn reading_ends<R: AllocGlobal + Abort>(rt: &R, at: u64, rest: &str) {
+    let mut source = FailsAt::new(OneByte::new(Bytes::new(b"abc")), at);
+    let answer = read_up_to(rt.alloc(), &mut source, 10);
+    assert!(rt; matches!(&answer, Err(ReadFault::Failed)), "at {at}");
+    drop(answer);
+    reads(rt, &mut source, 10, rest);
 }
 
 // Three bytes come in three reads, and the fourth read finds the end.
 #[test]
-fn a_failed_read_ends_the_reading(rt: HostRuntime) -> Result<(), Fail> {
+fn a_failed_read_ends_the_reading(rt: HostRuntime) {
     for (at, rest) in [(0, "abc"), (1, "bc"), (2, "c"), (3, "")] {
-        let mut source = FailsAt::new(OneByte::new(Bytes::new(b"abc")), at);
-        let answer = read_up_to(rt.alloc(), &mut source, 10);
-        assert!(rt; matches!(&answer, Err(ReadFault::Failed)), "at {at}");
-        drop(answer);
-        let later = read_up_to(rt.alloc(), &mut source, 10)?;
-        assert_eq!(rt; later.as_slice(), rest.as_bytes(), "after {at}");
+        reading_ends(&rt, at, rest);
     }
     let mut source = FailsAt::new(OneByte::new(Bytes::new(b"abc")), 4);
-    let all = read_up_to(rt.alloc(), &mut source, 10)?;
-    assert_eq!(rt; all.as_slice(), b"abc".as_slice());
-    Ok(())
+    reads(&rt, &mut source, 10, "abc");
 }
 
 /// A reader that gives one byte a call and fails at its second, and a writer that takes one byte a
@@ -103,11 +114,13 @@ impl Write for Broken {
 }
 
 #[test]
-fn reads_from_a_reader(rt: HostRuntime) -> Result<(), Fail> {
-    let mut source = FromRead::new(b"line\nx".as_slice());
-    let all = read_up_to(rt.alloc(), &mut source, 10)?;
-    assert_eq!(rt; all.as_slice(), b"line\nx".as_slice());
-    Ok(())
+fn reads_from_a_reader(rt: HostRuntime) {
+    reads(
+        &rt,
+        &mut FromRead::new(b"line\nx".as_slice()),
+        10,
+        "line\nx",
+    );
 }
 
 #[test]
@@ -120,14 +133,13 @@ fn an_error_of_a_reader_is_failed(rt: HostRuntime) {
 }
 
 #[test]
-fn writes_to_a_writer(rt: HostRuntime) -> Result<(), Fail> {
+fn writes_to_a_writer(rt: HostRuntime) {
     let mut bytes = [0; 4];
     let mut sink = ToWrite::new(bytes.as_mut_slice());
-    write_all(&mut sink, b"at 0")?;
-    sink.flush()?;
+    writes(&rt, &mut sink, "at 0", Ok(()));
+    flushes(&rt, &mut sink, Ok(()));
     drop(sink);
-    assert_eq!(rt; &bytes, b"at 0");
-    Ok(())
+    holds(&rt, &bytes, "at 0");
 }
 
 // A full slice takes 0 bytes, with no error of its own.
@@ -135,9 +147,9 @@ fn writes_to_a_writer(rt: HostRuntime) -> Result<(), Fail> {
 fn a_write_of_0_is_failed(rt: HostRuntime) {
     let mut bytes = [0; 4];
     let mut sink = ToWrite::new(bytes.as_mut_slice());
-    assert_eq!(rt; write_all(&mut sink, b"at 0 of 0\n"), Err(Failed));
+    writes(&rt, &mut sink, "at 0 of 0\n", Err(Failed));
     drop(sink);
-    assert_eq!(rt; &bytes, b"at 0");
+    holds(&rt, &bytes, "at 0");
 }
 
 #[test]
@@ -146,27 +158,36 @@ fn an_error_of_a_writer_is_failed(rt: HostRuntime) {
     for (call, want) in [Ok(1), Err(Failed), Ok(1)].iter().enumerate() {
         assert_eq!(rt; sink.write(b"xyz"), *want, "call {call}");
     }
-    assert_eq!(rt; sink.flush(), Err(Failed));
+    flushes(&rt, &mut sink, Err(Failed));
 }
 
 #[test]
-fn writes_the_same_by_single_bytes(rt: HostRuntime) -> Result<(), Fail> {
+fn writes_the_same_by_single_bytes(rt: HostRuntime) {
     let mut sink = OneByte::new(Taken::new(rt.alloc()));
-    write_all(&mut sink, b"at 0 of 0\n")?;
-    write_all(&mut sink, b"")?;
-    assert_eq!(rt; sink.inner.as_slice(), b"at 0 of 0\n".as_slice());
-    Ok(())
+    writes(&rt, &mut sink, "at 0 of 0\n", Ok(()));
+    writes(&rt, &mut sink, "", Ok(()));
+    holds(&rt, sink.inner.as_slice(), "at 0 of 0\n");
+}
+
+/// Expects a writing to end so where the sink has so much room, and the sink to hold this text.
+fn writes_into<R: AllocGlobal + Abort>(
+    rt: &R,
+    room: usize,
+    then: Then,
+    want: Result<(), Failed>,
+    text: &str,
+) {
+    let mut sink = TakesUpTo::new(Taken::new(rt.alloc()), room, then);
+    writes(rt, &mut sink, "at 0 of 0\n", want);
+    holds(rt, sink.sink.as_slice(), text);
 }
 
 #[test]
-fn writes_until_the_sink_refuses(rt: HostRuntime) -> Result<(), Fail> {
+fn writes_until_the_sink_refuses(rt: HostRuntime) {
     for then in [Then::Fails, Then::TakesNone] {
-        for (room, want) in [(0, ""), (4, "at 0"), (9, "at 0 of 0"), (10, "at 0 of 0\n")] {
-            let mut sink = TakesUpTo::new(Taken::new(rt.alloc()), room, then);
-            let answer = write_all(&mut sink, b"at 0 of 0\n");
-            assert_eq!(rt; answer.is_ok(), room == 10, "room {room}");
-            assert_eq!(rt; sink.sink.as_slice(), want.as_bytes(), "room {room}");
-        }
+        writes_into(&rt, 0, then, Err(Failed), "");
+        writes_into(&rt, 4, then, Err(Failed), "at 0");
+        writes_into(&rt, 9, then, Err(Failed), "at 0 of 0");
+        writes_into(&rt, 10, then, Ok(()), "at 0 of 0\n");
     }
-    Ok(())
 }
