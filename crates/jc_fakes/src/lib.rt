@@ -103,7 +103,7 @@ impl<K: Sink> Sink for OneByte<K> {
 }
 
 /// A source of one byte again and again, which has no end. Its bytes are not told.
-#[derive(Clone, Copy, Debug)]
+#[derive(Drop)]
 pub struct Endless {
     pub byte: u8,
 }
@@ -132,7 +132,7 @@ impl Source for Endless {
 }
 
 /// What a sink answers to some bytes once it has no room.
-#[derive(Clone, Copy, Debug, PartialEq, Eq)]
+#[derive(Clone, Copy)]
 pub enum Then {
     /// `Failed`.
     Fails,
