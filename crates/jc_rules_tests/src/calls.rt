@@ -4,13 +4,11 @@ use jc_rules::{
     Cursor, Event, Id, IdSet, Key, Mutation, Next, Op, Path, Refusal, Rule, Tagged, Text, Trace,
     Value, compare_ids, compare_keys, laws, name_at,
 };
-use std::alloc::Global;
 use std::cmp::Ordering;
 use std::process::Abort;
-use std::test::Fail;
 
-fn text(alloc: Global, bytes: &str) -> Result<Text, Fail> {
-    Ok(Text::new(String::from_str(alloc, bytes)?))
+fn text<R: AllocGlobal + Abort>(rt: &R, bytes: &str) -> Text {
+    Text::new(String::from_str(rt.alloc(), bytes).expect(rt, "a text"))
 }
 
 fn id(counter: u64, replica: u16) -> Id {
@@ -32,29 +30,21 @@ fn are_rising(rt: &impl Abort, first: &Text, second: &Text) {
 }
 
 #[test]
-fn texts(rt: HostRuntime) -> Result<(), Fail> {
-    let short = text(rt.alloc(), "a")?;
-    let long = text(rt.alloc(), "a1")?;
+fn texts(rt: HostRuntime) {
+    let short = text(&rt, "a");
+    let long = text(&rt, "a1");
     is_text(&rt, short.as_str(), "a");
     are_rising(&rt, &short, &long);
-    Ok(())
-}
-
-#[test]
-fn texts_are_copied(rt: HostRuntime) -> Result<(), Fail> {
-    let short = text(rt.alloc(), "a")?;
-    let copy = short.copy()?;
+    let copy = short.copy().expect(&rt, "a copy");
     are_same(&rt, &copy, &short);
-    Ok(())
 }
 
 #[test]
-fn names_of_replicas(rt: HostRuntime) -> Result<(), Fail> {
-    let names = [text(rt.alloc(), "a")?, text(rt.alloc(), "b")?];
+fn names_of_replicas(rt: HostRuntime) {
+    let names = [text(&rt, "a"), text(&rt, "b")];
     for (replica, want) in [(0, "a"), (1, "b"), (2, "")] {
         assert_eq!(rt; name_at(&names, replica), want, "of {replica}");
     }
-    Ok(())
 }
 
 #[test]
@@ -65,116 +55,116 @@ fn identifiers_by_counter_then_replica(rt: HostRuntime) {
 }
 
 #[test]
-fn keys_by_kind(rt: HostRuntime) -> Result<(), Fail> {
-    let name = Key::Name(text(rt.alloc(), "z")?);
+fn keys_by_kind(rt: HostRuntime) {
+    let name = Key::Name(text(&rt, "z"));
     let element = Key::Elem(id(1, 0));
     are_same(&rt, &compare_keys(&Key::Doc, &Key::Head), &Ordering::Less);
     are_same(&rt, &compare_keys(&Key::Head, &name), &Ordering::Less);
     are_same(&rt, &compare_keys(&element, &name), &Ordering::Greater);
-    Ok(())
 }
 
 #[test]
-fn keys_are_copied(rt: HostRuntime) -> Result<(), Fail> {
-    let name = Key::Name(text(rt.alloc(), "z")?);
-    let copy = name.copy()?;
+fn keys_are_copied(rt: HostRuntime) {
+    let name = Key::Name(text(&rt, "z"));
+    let copy = name.copy().expect(&rt, "a copy");
     are_same(&rt, &copy, &name);
-    Ok(())
 }
 
 #[test]
-fn tagged_keys(rt: HostRuntime) -> Result<(), Fail> {
-    let list = Tagged::ListT(Key::Elem(id(1, 0)).copy()?);
-    let copy = list.copy()?;
+fn tagged_keys_are_copied(rt: HostRuntime) {
+    let element = Key::Elem(id(1, 0)).copy().expect(&rt, "a copy");
+    let list = Tagged::ListT(element);
+    let copy = list.copy().expect(&rt, "a copy");
     are_same(&rt, &copy, &list);
     are_same(&rt, list.key(), &Key::Elem(id(1, 0)));
+}
+
+#[test]
+fn defaults_and_links(rt: HostRuntime) {
     are_same(&rt, &Tagged::default(), &Tagged::MapT(Key::Doc));
     are_same(&rt, &Next::Elem(id(1, 0)), &Next::Elem(id(1, 0)));
-    Ok(())
 }
 
 /// The path of the document's map.
-fn map_of_the_document(alloc: Global) -> Result<Path, Fail> {
-    let mut path = Path::new(alloc);
-    path.push(Tagged::MapT(Key::Doc))?;
-    Ok(path)
+fn map_of_the_document<R: AllocGlobal + Abort>(rt: &R) -> Path {
+    let mut path = Path::new(rt.alloc());
+    path.push(Tagged::MapT(Key::Doc)).expect(rt, "a path");
+    path
 }
 
 fn is_map_of_the_document(rt: &impl Abort, path: &Path) {
     assert!(rt; path.as_slice() == [Tagged::MapT(Key::Doc)].as_slice());
 }
 
-fn cursor_at_a(alloc: Global) -> Result<Cursor, Fail> {
-    let last = Key::Name(text(alloc, "a")?);
-    let path = map_of_the_document(alloc)?;
-    Ok(Cursor { path, last })
+fn cursor_at_a<R: AllocGlobal + Abort>(rt: &R) -> Cursor {
+    Cursor {
+        path: map_of_the_document(rt),
+        last: Key::Name(text(rt, "a")),
+    }
 }
 
-fn insert_of_a_number(alloc: Global) -> Result<Mutation, Fail> {
-    Ok(Mutation::Insert(Value::Number(text(alloc, "1e999")?)))
+fn insert_of_a_number<R: AllocGlobal + Abort>(rt: &R) -> Mutation {
+    Mutation::Insert(Value::Number(text(rt, "1e999")))
 }
 
-fn one_dependency(alloc: Global) -> Result<IdSet, Fail> {
-    let mut deps = IdSet::new(alloc);
-    deps.insert(id(1, 1))?;
-    Ok(deps)
+fn one_dependency<R: AllocGlobal + Abort>(rt: &R) -> IdSet {
+    let mut deps = IdSet::new(rt.alloc());
+    deps.insert(id(1, 1)).expect(rt, "a set");
+    deps
 }
 
-fn an_operation(alloc: Global) -> Result<Op, Fail> {
-    let mutation = insert_of_a_number(alloc)?;
-    let cursor = cursor_at_a(alloc)?;
-    let deps = one_dependency(alloc)?;
-    Ok(Op {
+fn an_operation<R: AllocGlobal + Abort>(rt: &R) -> Op {
+    Op {
         id: id(2, 0),
-        deps,
-        cursor,
-        mutation,
-    })
+        deps: one_dependency(rt),
+        cursor: cursor_at_a(rt),
+        mutation: insert_of_a_number(rt),
+    }
+}
+
+/// Expects the identifier and the dependency of `an_operation`, and the rest as it is in `op`.
+fn is_copy(rt: &impl Abort, copy: &Op, op: &Op) {
+    are_same(rt, &copy.id, &id(2, 0));
+    assert!(rt; copy.deps.contains(id(1, 1)));
+    is_map_of_the_document(rt, &copy.cursor.path);
+    are_same(rt, &copy.cursor.last, &op.cursor.last);
+    are_same(rt, &copy.mutation, &op.mutation);
 }
 
 #[test]
-fn operations_are_copied(rt: HostRuntime) -> Result<(), Fail> {
-    let op = an_operation(rt.alloc())?;
-    let copy = op.copy()?;
-    are_same(&rt, &copy.id, &id(2, 0));
-    are_same(&rt, &copy.deps.contains(id(1, 1)), &true);
-    are_same(&rt, &copy.cursor.last, &op.cursor.last);
-    are_same(&rt, &copy.mutation, &op.mutation);
-    is_map_of_the_document(&rt, &copy.cursor.path);
-    Ok(())
+fn operations_are_copied(rt: HostRuntime) {
+    let op = an_operation(&rt);
+    let copy = op.copy().expect(&rt, "a copy");
+    is_copy(&rt, &copy, &op);
 }
 
 #[test]
-fn cursors_are_copied(rt: HostRuntime) -> Result<(), Fail> {
-    let cursor = cursor_at_a(rt.alloc())?;
-    let copy = cursor.copy()?;
+fn cursors_are_copied(rt: HostRuntime) {
+    let cursor = cursor_at_a(&rt);
+    let copy = cursor.copy().expect(&rt, "a copy");
     is_map_of_the_document(&rt, &copy.path);
     are_same(&rt, &copy.last, &cursor.last);
-    Ok(())
 }
 
 #[test]
-fn paths_are_copied(rt: HostRuntime) -> Result<(), Fail> {
-    let path = map_of_the_document(rt.alloc())?;
-    let copy = path.copy()?;
+fn paths_are_copied(rt: HostRuntime) {
+    let path = map_of_the_document(&rt);
+    let copy = path.copy().expect(&rt, "a copy");
     are_same(&rt, &copy.as_slice().len(), &1);
     is_map_of_the_document(&rt, &copy);
-    Ok(())
 }
 
 #[test]
-fn mutations_are_copied(rt: HostRuntime) -> Result<(), Fail> {
-    let mutation = insert_of_a_number(rt.alloc())?;
-    let copy = mutation.copy()?;
+fn mutations_are_copied(rt: HostRuntime) {
+    let mutation = insert_of_a_number(&rt);
+    let copy = mutation.copy().expect(&rt, "a copy");
     are_same(&rt, &copy, &mutation);
-    Ok(())
 }
 
 #[test]
-fn values_are_copied(rt: HostRuntime) -> Result<(), Fail> {
-    let copy = Value::Null.copy()?;
+fn values_are_copied(rt: HostRuntime) {
+    let copy = Value::Null.copy().expect(&rt, "a copy");
     are_same(&rt, &copy, &Value::Null);
-    Ok(())
 }
 
 #[test]
@@ -223,14 +213,14 @@ fn is_at(rt: &impl Abort, trace: &Trace, depth: u64) {
 }
 
 #[test]
-fn traces(rt: HostRuntime) -> Result<(), Fail> {
+fn traces(rt: HostRuntime) {
     let mut trace = Trace::new(rt.alloc());
-    trace.push(Rule::Exec)?;
+    trace.push(Rule::Exec).expect(&rt, "a row");
     trace.down();
-    trace.push(Rule::Let)?;
+    trace.push(Rule::Let).expect(&rt, "a row");
     let mark = trace.mark();
-    trace.open(Rule::Get)?;
-    trace.push(Rule::Doc)?;
+    trace.open(Rule::Get).expect(&rt, "a row");
+    trace.push(Rule::Doc).expect(&rt, "a row");
     shows(
         &rt,
         &trace,
@@ -246,10 +236,9 @@ fn traces(rt: HostRuntime) -> Result<(), Fail> {
     is_at(&rt, &trace, 1);
     trace.up();
     is_at(&rt, &trace, 0);
-    trace.open(Rule::Done)?;
+    trace.open(Rule::Done).expect(&rt, "a row");
     trace.close(0);
     is_at(&rt, &trace, 0);
-    Ok(())
 }
 
 #[test]
