@@ -20,4 +20,3 @@ pub mod Refusals
 pub mod Laws
 pub mod Worked
 pub mod Told
-pub mod Fakes

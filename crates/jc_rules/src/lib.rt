@@ -1,7 +1,6 @@
 //! The rules of the JSON CRDT: one table, what it speaks of, and the small types that every layer shares.
 #![tactic(auto)]
 
-pub mod fakes;
 mod id;
 mod id_set;
 pub mod io;
@@ -26,6 +25,3 @@ pub use rule::Rule;
 pub use text::{Text, name_at};
 pub use trace::{Trace, TraceMark};
 pub use value::Value;
-
-#[cfg(test)]
-mod tests;

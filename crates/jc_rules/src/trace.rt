@@ -29,7 +29,7 @@ impl Model for Trace {
 }
 
 /// How far a trace had come, and its depth then.
-#[derive(Clone, Copy, Debug, PartialEq, Eq)]
+#[derive(Clone, Copy)]
 pub struct TraceMark {
     pub rows: usize,
     pub depth: u64,

@@ -2,7 +2,7 @@
 
 use crate::only::OnlyReplica;
 use crate::work::work_alone;
-use jc_rules::fakes::{Bytes, Endless, FailsAt, OneByte, Taken, TakesUpTo, Then};
+use jc_fakes::{Bytes, Endless, FailsAt, OneByte, Taken, TakesUpTo, Then};
 use jc_rules::io::{Sink, Source};
 use std::process::Abort;
 use std::test::Fail;
