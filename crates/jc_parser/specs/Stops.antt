@@ -18,7 +18,7 @@ abbrev pub IsPrefixWithin : List Symbol → Type 0
 IsPrefixWithin xs = (t : Tree) × (more : List Symbol) × IsWithinLimits t × IsText t (xs ++ more)
 
 -- A scenario begins so, and no limit is passed. Whether a dot is one too many, only the word after it says.
-pub record IsSound (xs : List Symbol) : Type 0 where
+pub record IsBeginning (xs : List Symbol) : Type 0 where
   pub begins : IsPrefix xs
   pub kept : List Symbol
   pub within : IsPrefixWithin kept
@@ -104,9 +104,9 @@ IsExcess fault xs after = ⊥
 
 -- ---- the fault
 
--- After these lexemes, which are sound, comes what fits nothing.
+-- After these lexemes, which begin a scenario, comes what fits nothing.
 pub record IsMisplaced (fault : ScenarioFault) (stop : ℕ) (before after : List Lexeme) : Type 0 where
-  pub sound : IsSound (symbols before)
+  pub begun : IsBeginning (symbols before)
   pub misfit : IsMisfit (symbols before) after
   pub is : fault ≡ misfit_fault (symbols before) stop after
 
