@@ -21,4 +21,9 @@ fn laws_stand() {
     laws::one_script_at();
     laws::script_or_fault_at();
     laws::one_script_fault_at();
+    laws::legal_expressions();
+    laws::legal_scripts();
+    laws::legal_events();
+    laws::legal_scripts_at();
+    laws::legal_events_at();
 }

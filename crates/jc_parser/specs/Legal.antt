@@ -1,6 +1,7 @@
 -- Trees that a text can be written of: their names, numbers and strings are such as tokens have.
 use Rattle.std.specs.Prelude.{◌≡◌, ℕ, ◌<◌, ◌≤◌, List, length, slice_index, true}
 use Rattle.std.specs.List.{AllPass}
+use Rattle.std.specs.Str.{IsUtf8}
 use Rattle.jc_rules.specs.declared.operation.Event.{Event}
 use Rattle.jc_rules.specs.declared.operation.Event.TheVariants.{Exec, Send, Recv, Apply, Done}
 use Rattle.jc_rules.specs.declared.value.Value.{Value}
@@ -19,9 +20,9 @@ IsName name = (is_name_start (slice_index name 0) ≡ true) × AllPass is_name_b
 abbrev pub IsNumeric : List ℕ → Type 0
 IsNumeric text = IsNumber text × (length text ≤ 65535)
 
--- what a string may spell: at most 65,535 bytes
+-- what a string may spell: UTF-8 of at most 65,535 bytes
 abbrev pub IsContent : List ℕ → Type 0
-IsContent content = length content ≤ 65535
+IsContent content = IsUtf8 content × (length content ≤ 65535)
 
 abbrev pub IsLegalExpr : Expr → Type 0
 IsLegalExpr TheDoc = Unit {0}
@@ -44,6 +45,14 @@ IsLegalCmd (DeleteAt e) = IsLegalExpr e
 IsLegalCmd Yield = Unit {0}
 
 -- ---- events
+
+-- the names of an event's replicas
+abbrev pub IsLegalCall : Call → Type 0
+IsLegalCall (executes p) = IsName p
+IsLegalCall (sends p) = IsName p
+IsLegalCall (receives p q) = IsName p × IsName q
+IsLegalCall (applies p counter q) = IsName p × IsName q
+IsLegalCall (ends p) = IsName p
 
 -- what an event is called, by its replicas' names
 abbrev pub call_by : List (List ℕ) → Event → Call
