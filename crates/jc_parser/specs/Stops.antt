@@ -40,7 +40,10 @@ misfit_fault (a ∷ b ∷ c ∷ xs) stop after = stuck_at stop after
 
 -- the last symbol is the replica's name, and a reserved word
 abbrev pub IsReservedName : List Symbol → Type 0
-IsReservedName xs = (name : List ℕ) × (is_reserved name ≡ true) × (xs ≡ word (codes "jsoncrdt") ∷ number (codes "1") ∷ word (codes "replica") ∷ word name ∷ [])
+IsReservedName xs =
+    (name : List ℕ)
+    × (is_reserved name ≡ true)
+    × (xs ≡ word (codes "jsoncrdt") ∷ number (codes "1") ∷ word (codes "replica") ∷ word name ∷ [])
 
 -- the last symbol begins a command past the limit
 pub record IsCommandTooMany (xs : List Symbol) : Type 0 where
@@ -76,7 +79,8 @@ pub record IsEventTooMany (xs : List Symbol) : Type 0 where
   pub name : List ℕ
   pub is : xs ≡ head_text tree.name ++ (script ++ (schedule_head ++ (before ++ word name ∷ [])))
 
--- The text is a scenario within the limits, and the first symbol after `xs` is the first event's name that is not the replica's.
+-- The text is a scenario within the limits, and the first symbol after `xs` is the first event's name that is not the
+-- replica's.
 pub record IsStranger (xs : List Symbol) (next : Symbol) (after : List Symbol) : Type 0 where
   pub tree : Tree
   pub within : IsWithinLimits tree
@@ -97,7 +101,8 @@ pub record IsStranger (xs : List Symbol) (next : Symbol) (after : List Symbol) :
 abbrev pub IsExcess : ScenarioFault → List Symbol → List Lexeme → Type 0
 IsExcess (ReservedName p) xs (next ∷ after) = (p ≡ next.place) × IsReservedName (xs ++ next.symbol ∷ [])
 IsExcess (TooManyCommands p) xs (next ∷ after) = (p ≡ next.place) × IsCommandTooMany (xs ++ next.symbol ∷ [])
-IsExcess (TooLongExpression p) xs (next ∷ second ∷ after) = (p ≡ next.place) × IsSelectorTooMany (xs ++ next.symbol ∷ second.symbol ∷ [])
+IsExcess (TooLongExpression p) xs (next ∷ second ∷ after) =
+    (p ≡ next.place) × IsSelectorTooMany (xs ++ next.symbol ∷ second.symbol ∷ [])
 IsExcess (TooManyEvents p) xs (next ∷ after) = (p ≡ next.place) × IsEventTooMany (xs ++ next.symbol ∷ [])
 IsExcess (UnknownReplica p) xs (next ∷ after) = (p ≡ next.place) × IsStranger xs next.symbol (symbols after)
 IsExcess fault xs after = ⊥
