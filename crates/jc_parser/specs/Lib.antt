@@ -17,3 +17,5 @@ pub mod ClosedScripts
 pub mod Calls
 pub mod CallParts
 pub mod CallLaws
+pub mod Legal
+pub mod LegalLaws

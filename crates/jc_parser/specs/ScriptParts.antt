@@ -86,7 +86,8 @@ command_at r =
 
 -- a reserved word that is no keyword at a command's start
 abbrev pub is_misused : Symbol → Bool
-is_misused s = reserved s && (not (is_word (codes "let") s) && (not (is_word (codes "yield") s) && not (is_word (codes "doc") s)))
+is_misused s =
+    reserved s && (not (is_word (codes "let") s) && (not (is_word (codes "yield") s) && not (is_word (codes "doc") s)))
 
 -- the fault of one command more than there may be
 abbrev pub crowd_at : Reading → ScenarioFault

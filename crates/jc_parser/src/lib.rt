@@ -17,14 +17,3 @@ pub use first::{First, first_read};
 pub use language::parse_expr;
 pub use parse_fault::ParseFault;
 pub use scripts::{parse_script, script_at};
-
-#[cfg(test)]
-mod event_tests;
-#[cfg(test)]
-mod language_tests;
-#[cfg(test)]
-mod script_tests;
-#[cfg(test)]
-mod testing;
-#[cfg(test)]
-mod tests;
