@@ -1,4 +1,4 @@
-use Rattle.std.proofs.Common.{◌≡◌, ◌≢◌, ℕ, ◌+◌, ◌<◌, List, length, take, get_or, Option, Some, None, is_some, true, refl, arith, sym}
+use Rattle.std.proofs.Common.{◌≡◌, ◌≢◌, ℕ, ◌+◌, ◌<◌, List, [], ◌∷◌, ◌++◌, length, take, get_or, Option, Some, None, is_some, true, refl, arith, sym}
 use Rattle.std.proofs.lemmas.List.{take_more}
 use Rattle.jc_rules.specs.declared.key.Key.{Key}
 use Rattle.jc_rules.specs.declared.key.Tagged.{Tagged}
@@ -7,8 +7,9 @@ use Rattle.jc_rules.specs.Order.{key_cmp}
 use Rattle.jc_rules.specs.Entries.{find}
 use Rattle.jc_rules.specs.Context.{Context, Content, Node, node_of, content, maps, lists}
 use Rattle.jc_rules.specs.Places.{node_at, context_at}
-use Rattle.jc_dump.proofs.DumpPlaces.{child_below}
-use Rattle.jc_dump.proofs.dump.tests.is_place.Goals as goal
+use Rattle.jc_rules.proofs.Places.{there, node-below}
+use Rattle.jc_tree.proofs.Places.{some_place}
+use Rattle.jc_dump_tests.proofs.tests.is_place.Goals as goal
 
 record IsNode (o : Option Content) : Type 0 where
   node : Context
@@ -25,9 +26,10 @@ is_node (RegT k) c n e = absurd (n k refl)
 
 -- one key further down
 place_more : (at : List Tagged) (i : ℕ) (t : Tagged) (c : Context) → i < length at → t ≡ get_or at i t → ((k : Key) → t ≡ RegT k → ⊥) → node_at (take i at) c ≢ None → is_some (content t (context_at (take i at) c)) ≡ true → node_at (take (i + 1) at) c ≢ None
-place_more at i t c h e n there f =
-    let d = is_node t (context_at (take i at) c) n f in
-    rw (take_more at i t h, ← e) (child_below (take i at) t d.node c there d.is).there
+place_more at i t c h e n p f =
+    let ks = take i at in
+    let d = is_node t (context_at ks c) n f in
+    rw (take_more at i t h, ← e) (some_place (ks ++ t ∷ []) c d.node (node-below ks t (context_at ks c) d.node c (there ks c p) d.is))
 
 pub loop-i-preserved : goal.loop-i-preserved
 loop-i-preserved g c = place_more c.args.at.now c.loop-i.i c.index-at-i.result (g.S.TreeStore.tree c.args.store.now).now (omega arith) c.index-at-i.is c.in_default.not-RegT c.loop-i.invariant (sym c.if-not-has.ensures)
