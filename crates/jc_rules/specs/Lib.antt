@@ -20,3 +20,5 @@ pub mod Laws
 pub mod Worked
 pub mod Told
 pub mod Fakes
+pub mod Filled
+pub mod Stands

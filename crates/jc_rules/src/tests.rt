@@ -2,7 +2,7 @@
 
 use crate::{
     Cursor, Event, Id, IdSet, Key, Mutation, Next, Op, Path, Refusal, Rule, Tagged, Text, Trace,
-    Value, compare_ids, compare_keys, insert_id, laws, name_at,
+    Value, compare_ids, compare_keys, laws, name_at,
 };
 use std::alloc::Global;
 use std::cmp::Ordering;
@@ -94,27 +94,6 @@ fn events_name_their_replica(rt: HostRuntime) {
     assert_eq!(rt; Event::Recv(3, 4).replica(), 3);
     assert_eq!(rt; Event::Apply(3, id(1, 4)).replica(), 3);
     assert_eq!(rt; Event::Done(3).replica(), 3);
-}
-
-#[test]
-fn sets(rt: HostRuntime) -> Result<(), Fail> {
-    let mut set = IdSet::new(rt.alloc());
-    assert_eq!(rt; set.greatest(), 0);
-    set.insert(id(2, 1))?;
-    set.insert(id(1, 5))?;
-    let smaller = set.copy()?;
-    set.insert(id(2, 0))?;
-    set.insert(id(2, 0))?;
-    assert!(rt; set.contains(id(1, 5)) && set.contains(id(2, 0)) && set.contains(id(2, 1)));
-    assert!(rt; !set.contains(id(1, 0)) && !smaller.contains(id(2, 0)));
-    assert!(rt; smaller.is_subset(&set) && !set.is_subset(&smaller));
-    assert_eq!(rt; set.greatest(), 2);
-    assert_eq!(rt; set.as_slice(), [id(1, 5), id(2, 0), id(2, 1)].as_slice());
-    let mut list = Vec::new(rt.alloc());
-    insert_id(&mut list, id(2, 0))?;
-    insert_id(&mut list, id(1, 1))?;
-    assert_eq!(rt; list.as_slice(), [id(1, 1), id(2, 0)].as_slice());
-    Ok(())
 }
 
 #[test]
