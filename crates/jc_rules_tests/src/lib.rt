@@ -1,0 +1,5 @@
+//! Tests of jc_rules, by its public names.
+#![tactic(auto)]
+
+#[cfg(test)]
+mod id_sets;
