@@ -1,6 +1,6 @@
 //! Applying an operation to a document.
 
-ghost use Rattle.std.specs.Prelude.{◌≡◌, ◌≢◌, ◌≤◌, [], IsErrOf, OnOk, OnErr, length, take, drop};
+ghost use Rattle.std.specs.Prelude.{◌≡◌, ◌≢◌, ◌≤◌, [], List, IsErrOf, OnOk, OnErr, length, take, drop};
 ghost use Rattle.jc_rules.specs.declared.id.Id.{Id as AnyId};
 ghost use Rattle.jc_rules.specs.declared.refusal.Refusal.TheVariants.{NotInList as PlaceNotInList};
 ghost use Rattle.jc_rules.specs.Derivation.{AddId, Operate, ToContext};
@@ -10,6 +10,8 @@ ghost use Rattle.jc_rules.specs.Shape.{IsChained};
 ghost use Rattle.jc_rules.specs.Table.{moved};
 ghost use Rattle.jc_tree.specs.Tree.{HasPlace, here};
 ghost use Rattle.jc_tree.specs.Kept.{Kept};
+ghost use Rattle.jc_sets.specs.Members.{with_deps};
+ghost use Rattle.jc_apply.specs.Applies.{AppliesFor};
 ghost use Rattle.jc_apply.specs.Fits.{Fits, HasNoAnswer, IsUnlinked};
 ghost use Rattle.jc_apply.specs.Leads.{Leads, LinksNone, LinksOnly};
 
@@ -151,6 +153,7 @@ pub fn apply_op<S: TreeStore>(
     requires fresh { IsUnlinked op.now.id (S.tree store.old).now }
     ensures ok { OnOk result (Derives (Operate (S.tree store.old).now op.now)
         (ToContext (S.tree store.new).now) trace.old trace.new) }
+    ensures stands { OnOk result (AppliesFor op.now (S.tree store.old).now (S.tree store.new).now trace.old trace.new) }
     ensures fits { OnOk result (Fits (S.tree store.old).now op.now.cursor.path op.now.cursor.last op.now.mutation) }
     ensures memory { IsErrOf result ApplyFault.Memory
         → Fits (S.tree store.old).now op.now.cursor.path op.now.cursor.last op.now.mutation }
@@ -159,6 +162,10 @@ pub fn apply_op<S: TreeStore>(
     ensures no_answer { IsErrOf result ApplyFault.NotInList → HasNoAnswer (Operate (S.tree store.old).now op.now) }
     ensures refused { IsErrOf result ApplyFault.NotInList
         → Refused (Operate (S.tree store.old).now op.now) (because PlaceNotInList) }
+    ensures stands_no_answer { IsErrOf result ApplyFault.NotInList → (deps : List AnyId)
+        → HasNoAnswer (Operate (S.tree store.old).now (with_deps deps op.now)) }
+    ensures stands_refused { IsErrOf result ApplyFault.NotInList → (deps : List AnyId)
+        → Refused (Operate (S.tree store.old).now (with_deps deps op.now)) (because PlaceNotInList) }
     ensures err_store { OnErr result (S.tree store.new ≡ S.tree store.old) }
     ensures err_trace { OnErr result (trace.new ≡ trace.old) }
     ensures kept { Kept (S.tree store.old) (S.tree store.new) trace.old trace.new }

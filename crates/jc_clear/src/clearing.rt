@@ -9,7 +9,7 @@ ghost use Rattle.jc_rules.specs.Shape.{IsChained, IsChainedList};
 ghost use Rattle.jc_tree.specs.Kept.{Kept};
 ghost use Rattle.jc_tree.specs.Tree.{HasPlace, here};
 ghost use Rattle.jc_clear.specs.Bare.{AreChainedBelow};
-ghost use Rattle.jc_clear.specs.Clears.{Clears};
+ghost use Rattle.jc_clear.specs.Clears.{Clears, ClearsFor};
 
 use crate::registers::{clear_register, presence_of};
 use crate::sets::{left_out, united};
@@ -253,6 +253,8 @@ pub fn clear<S: TreeStore>(
     requires chained { IsChained (S.tree store.old).now }
     ensures ok { IfOk result (λ ids. Clears (λ c. Clear c deps.now key.now)
         at.now (S.tree store.old) (S.tree store.new) ids.items trace.old trace.new) }
+    ensures stands { IfOk result (λ ids. ClearsFor (λ deps c. Clear c deps key.now)
+        deps.now at.now (S.tree store.old) (S.tree store.new) ids.items trace.old trace.new) }
     ensures err_store { OnErr result (S.tree store.new ≡ S.tree store.old) }
     ensures err_trace { OnErr result (trace.new ≡ trace.old) }
     ensures kept { Kept (S.tree store.old) (S.tree store.new) trace.old trace.new }
@@ -289,6 +291,8 @@ pub fn clear_elem<S: TreeStore>(
     requires chained { IsChained (S.tree store.old).now }
     ensures ok { IfOk result (λ ids. Clears (λ c. ClearElem c deps.now key.now)
         at.now (S.tree store.old) (S.tree store.new) ids.items trace.old trace.new) }
+    ensures stands { IfOk result (λ ids. ClearsFor (λ deps c. ClearElem c deps key.now)
+        deps.now at.now (S.tree store.old) (S.tree store.new) ids.items trace.old trace.new) }
     ensures err_store { OnErr result (S.tree store.new ≡ S.tree store.old) }
     ensures err_trace { OnErr result (trace.new ≡ trace.old) }
     ensures kept { Kept (S.tree store.old) (S.tree store.new) trace.old trace.new }

@@ -20,3 +20,5 @@ pub mod Refusals
 pub mod Laws
 pub mod Worked
 pub mod Told
+pub mod Filled
+pub mod Stands

@@ -8,7 +8,7 @@ use Rattle.jc_rules.specs.declared.key.Tagged.TheVariants.{ListT}
 use Rattle.jc_rules.specs.declared.operation.Op.{Op}
 use Rattle.jc_rules.specs.declared.operation.Mutation.{Mutation}
 use Rattle.jc_rules.specs.declared.operation.Mutation.TheVariants.{Assign, Insert, Delete}
-use Rattle.jc_rules.specs.Ids.{has_id, AreIn}
+use Rattle.jc_rules.specs.Ids.{AreRising, has_id, AreIn}
 use Rattle.jc_rules.specs.Places.{IsAtOrAbove}
 use Rattle.jc_rules.specs.Table.{op_of}
 
@@ -19,10 +19,11 @@ pub record IsDependency (e o : Op) : Type 0 where
 
 -- A sound set: counters begin at 1, one operation for each identifier, each dependency is an operation of the set with
 -- a smaller counter whose dependencies are among the later one's, and of two operations of one replica the later one
--- depends on the earlier one.
+-- depends on the earlier one. Dependencies are sets, so their lists rise.
 pub record IsSound (set : List Op) : Type 0 where
   pub counted : (o : Op) → Contains set o → 1 ≤ o.id.counter
   pub one_each : (o : Op) → Contains set o → op_of o.id set ≡ Some o
+  pub rising : (o : Op) → Contains set o → AreRising o.deps
   pub closed : (o : Op) → Contains set o → (i : Id) → has_id i o.deps ≡ true
       → (e : Op) × (op_of i set ≡ Some e) × IsDependency e o
   pub in_order : (e o : Op) → Contains set e → Contains set o
