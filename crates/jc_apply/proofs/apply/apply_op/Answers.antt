@@ -12,7 +12,7 @@ pub returns-then-not-fits-clause-stands_no_answer : goal.returns-then-not-fits-c
 returns-then-not-fits-clause-stands_no_answer g c = λ e deps. c.fits.ensures.no_answer (search rules) (with_deps deps c.args.op.now) refl refl
 
 pub returns-then-not-fits-clause-stands_refused : goal.returns-then-not-fits-clause-stands_refused
-returns-then-not-fits-clause-stands_refused g c = λ e deps contexts. c.fits.ensures.refused (search rules) contexts (with_deps deps c.args.op.now) refl refl
+returns-then-not-fits-clause-stands_refused g c = λ e deps. c.fits.ensures.refused (search rules) (with_deps deps c.args.op.now) refl refl
 
 pub returns-clause-stands : goal.returns-clause-stands
 returns-clause-stands g c =
