@@ -19,7 +19,8 @@ pub record Has (c : Context) (vs : List (List ℕ × Bound)) (A : State) : Type 
   pub tree : A.tree ≡ c
   pub vars : A.vars ≡ vs
 
--- In each state with the document and the variables a derivation evaluates the expression to this, and its rules were added to the trace.
+-- In each state with the document and the variables a derivation evaluates the expression to this, and its rules were
+-- added to the trace.
 abbrev pub Evaluates : Context → List (List ℕ × Bound) → Expr → Bound → Rows → Rows → Type 0
 Evaluates c vars e b t u = (A : State) → Has c vars A → Derives (Evaluate A e) (ToBound b) t u
 
@@ -63,7 +64,8 @@ from_of (Index e i) = e
 from_of (KeysOf e) = e
 from_of (ValuesOf e) = e
 
--- Where a derivation gives the cursor before the last selector, and the trace has come to u by it, the selector gives b: a derivation of the whole has the rules up to v.
+-- Where a derivation gives the cursor before the last selector, and the trace has come to u by it, the selector gives b:
+-- a derivation of the whole has the rules up to v.
 abbrev pub Selects : Expr → Context → Cursor → Bound → Rows → Rows → Type 0
 Selects e c cur b u v =
     (A : State) (t : Rows) → A.tree ≡ c
@@ -72,4 +74,5 @@ Selects e c cur b u v =
 
 -- Where the cursor is what stands before the last selector, the whole is refused for this cause.
 abbrev pub RefusedAfter : Expr → Context → Cursor → Cause → Type 0
-RefusedAfter e c cur why = (A : State) → A.tree ≡ c → IsAnswered (Evaluate A (from_of e)) (ToBound (ACursor cur)) → Refused (Evaluate A e) why
+RefusedAfter e c cur why =
+    (A : State) → A.tree ≡ c → IsAnswered (Evaluate A (from_of e)) (ToBound (ACursor cur)) → Refused (Evaluate A e) why

@@ -22,7 +22,8 @@ pub record Descends (r : Rule) (Q : List Tagged → Context → Question) (A : L
 
 -- The question below a path is refused where a node on it isn't there, and where it is refused below.
 pub record Refuses (Q : List Tagged → Context → Question) : Type 0 where
-  pub missing : (k : Tagged) (rest : List Tagged) (c : Context) → content k c ≡ None → Refused (Q (k ∷ rest) c) (no_node k)
+  pub missing : (k : Tagged) (rest : List Tagged) (c : Context) → content k c ≡ None
+      → Refused (Q (k ∷ rest) c) (no_node k)
   pub below : (k : Tagged) (rest : List Tagged) (c d : Context) (why : Cause) → content k c ≡ Some (Node d)
       → Refused (Q rest d) why → Refused (Q (k ∷ rest) c) why
 
@@ -30,7 +31,8 @@ pub record Refuses (Q : List Tagged → Context → Question) : Type 0 where
 abbrev pub LeadsDown : Rule → List Tagged → Context → Rows → Rows → Type 0
 LeadsDown r path c t u =
     (Q : List Tagged → Context → Question) (A : List Tagged → Answer) (v : Rows)
-    → Descends r Q A → Derives (Q [] (context_at path c)) (A []) u v → Derives (Q path c) (A path) t (at_depth t.depth v)
+    → Descends r Q A → Derives (Q [] (context_at path c)) (A []) u v
+    → Derives (Q path c) (A path) t (at_depth t.depth v)
 
 -- What is refused at the end of the path is refused for the whole.
 abbrev pub RefusesDown : List Tagged → Context → Type 0
