@@ -18,7 +18,7 @@ use Rattle.jc_rules.specs.Trace.{Rows, pushed, below, at_depth}
 use Rattle.jc_rules.proofs.Places.{there, node-below}
 use Rattle.jc_rules.proofs.Rising.{all_at}
 use Rattle.jc_rules.proofs.Steps.{one_premise}
-use Rattle.jc_apply.specs.Leads.{HasContext}
+use Rattle.jc_rules.specs.Paths.{HasContext}
 use Rattle.jc_cursor.specs.Ways.{IsGrown, Descends, Refuses, LeadsDown, RefusesDown, RefusedOnWay}
 use Rattle.jc_cursor.proofs.Growing.{not_grown, grown_below}
 

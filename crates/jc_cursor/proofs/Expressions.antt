@@ -22,20 +22,8 @@ use Rattle.jc_syntax.specs.declared.tree.Expr.{Expr as ExprInMemory, Get, Idx, K
 use Rattle.jc_syntax.specs.Trees.{expr_of}
 use Rattle.jc_cursor.specs.declared.bound.Bound.{Bound as BoundInMemory}
 use Rattle.jc_cursor.specs.declared.bound.Bound.TheVariants as B
-use Rattle.jc_cursor.specs.Bounds.{bound_of, vars_of, FoundAs, IsFit, AreFit}
+use Rattle.jc_cursor.specs.Bounds.{bound_of, vars_of, FoundAs}
 use Rattle.jc_cursor.specs.Evaluates.{Has, Evaluates, IsRefused, rule_of, from_of, IsSelection, Selects, RefusedAfter}
-
--- what a fit variable is bound to is fit
-fit_found : (name : List ℕ) (vs : List (List ℕ × Bound)) (b : Bound) → AreFit vs → find name_cmp name vs ≡ Some b → IsFit b
-fit_found name [] b h e = cc
-fit_found name (v ∷ vs) b h e = go (eq_by_cmp name_cmp name v.0) refl (fit_found name vs b h.1) e
-  where
-    go : (y : _) → eq_by_cmp name_cmp name v.0 ≡ y → (find name_cmp name vs ≡ Some b → IsFit b) → find name_cmp name (v ∷ vs) ≡ Some b → IsFit b
-    go true f ih g = let s : v.1 ≡ b = let k : Some v.1 ≡ Some b = rw f at g in cc in subst IsFit s h.0
-    go false f ih g = ih (rw f at g)
-
-pub var_fit : (name : List ℕ) (vars : List (List ℕ × BoundInMemory)) (found b : BoundInMemory) → AreFit (vars_of vars) → FoundAs name vars (Some found) → bound_of b ≡ bound_of found → IsFit (bound_of b)
-var_fit name vars found b h f be = subst IsFit (sym be) (fit_found name (vars_of vars) (bound_of found) h (sym f))
 
 -- what is evaluated first
 first_is : (x : Expr) (A : State) → IsSelection x → first_expr (Evaluate A x) ≡ Some (A, from_of x)

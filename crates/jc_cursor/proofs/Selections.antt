@@ -1,6 +1,5 @@
 -- Selectors: what each gives of a cursor, and why it is refused.
 use Rattle.std.proofs.Common.{◌≡◌, ◌≢◌, ℕ, ◌<◌, ◌≤◌, List, [], ◌∷◌, ◌++◌, length, Option, Some, None, Result, Ok, Err, IfOk, IfErr, refl, ap}
-use Rattle.std.specs.List.{AllByRecursion}
 use Rattle.std.specs.Prelude.{IfSome, IsErrAnd}
 use Rattle.jc_rules.specs.declared.id.Id.{Id}
 use Rattle.jc_rules.specs.declared.key.Key.{Key}
@@ -22,7 +21,6 @@ use Rattle.jc_rules.specs.Refused.{Cause, because, Refused}
 use Rattle.jc_rules.specs.Table.{cursor, names_in}
 use Rattle.jc_rules.specs.Trace.{Rows, pushed, at_depth}
 use Rattle.jc_rules.proofs.Steps.{by_axiom, one_premise, two_premises}
-use Rattle.jc_apply.specs.Leads.{HasContext}
 use Rattle.jc_cursor.specs.Ways.{Descends, Refuses, LeadsDown, RefusesDown, RefusedOnWay}
 use Rattle.jc_cursor.specs.declared.evaluating.EvalFault.{EvalFault}
 use Rattle.jc_cursor.specs.Evaluates.{Selects, RefusedAfter, cause_of}
@@ -45,11 +43,6 @@ values_descends k vs = record { follows = λ k1 rest c d e. (k1, rest, d, vs, re
 
 values_refuses : (k : Key) → Refuses (λ path c. SelectValues c (cursor path k))
 values_refuses k = record { missing = λ k1 rest c e. refused.values_no_node refl e; below = λ k1 rest c d why e x. refused.values_below refl e x }
-
--- one key more leads through contexts too
-pub fit_with : (path : List Tagged) (t : Tagged) → AllByRecursion HasContext path → HasContext t → AllByRecursion HasContext (path ++ t ∷ [])
-fit_with [] t h g = (g, tt)
-fit_with (k ∷ path) t h g = (h.0, fit_with path t h.1 g)
 
 -- ---- what a selection gives of a path
 

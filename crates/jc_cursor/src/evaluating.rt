@@ -6,7 +6,7 @@ ghost use Rattle.jc_rules.specs.Shape.{IsChained};
 ghost use Rattle.jc_rules.specs.Syntax.{Variable};
 ghost use Rattle.jc_syntax.specs.Trees.{expr_of};
 ghost use Rattle.jc_cursor.specs.declared.evaluating.EvalFault.TheVariants.{Memory as NoMemory};
-ghost use Rattle.jc_cursor.specs.Bounds.{bound_of, vars_of, IsFit, AreFit};
+ghost use Rattle.jc_cursor.specs.Bounds.{bound_of, vars_of};
 ghost use Rattle.jc_cursor.specs.Evaluates.{Evaluates, IsRefused, cause_of, rule_of};
 ghost use Rattle.jc_cursor.specs.Ways.{IsGrown};
 
@@ -64,9 +64,7 @@ fn rule_of(expr: &Expr) -> Rule
 
 /// Evaluates a variable. After a refusal its rule may have been added to the trace.
 fn variable(vars: &[(Text, Bound)], name: &Text, trace: &mut Trace) -> Result<Bound, EvalFault>
-    requires { AreFit (vars_of vars.now) }
     ensures ok { IfOk result (λ b. (c : AnyContext) → Evaluates c (vars_of vars.now) (Variable name.now) (bound_of b) trace.old trace.new) }
-    ensures fit { IfOk result (λ b. IsFit (bound_of b)) }
     ensures refused { IfErr result (λ f. IfSome (cause_of f) (λ why. (c : AnyContext) → IsRefused c (vars_of vars.now) (Variable name.now) why)) }
     ensures grown { IsGrown trace.old trace.new }
 {
@@ -85,10 +83,8 @@ fn evaluate<S: TreeStore>(
     expr: &Expr,
     trace: &mut Trace,
 ) -> Result<Bound, EvalFault>
-    requires chained { IsChained (S.tree store.now).now }
-    requires fit { AreFit (vars_of vars.now) }
+    requires { IsChained (S.tree store.now).now }
     ensures ok { IfOk result (λ b. Evaluates (S.tree store.now).now (vars_of vars.now) (expr_of expr.now) (bound_of b) trace.old trace.new) }
-    ensures fit { IfOk result (λ b. IsFit (bound_of b)) }
     ensures refused { IfErr result (λ f. IfSome (cause_of f) (λ why. IsRefused (S.tree store.now).now (vars_of vars.now) (expr_of expr.now) why)) }
     ensures grown { IsGrown trace.old trace.new }
 {
@@ -126,10 +122,8 @@ pub fn eval<S: TreeStore>(
     expr: &Expr,
     trace: &mut Trace,
 ) -> Result<Bound, EvalFault>
-    requires chained { IsChained (S.tree store.now).now }
-    requires fit { AreFit (vars_of vars.now) }
+    requires { IsChained (S.tree store.now).now }
     ensures ok { IfOk result (λ b. Evaluates (S.tree store.now).now (vars_of vars.now) (expr_of expr.now) (bound_of b) trace.old trace.new) }
-    ensures fit { IfOk result (λ b. IsFit (bound_of b)) }
     ensures refused { IfErr result (λ f. IfSome (cause_of f) (λ why. IsRefused (S.tree store.now).now (vars_of vars.now) (expr_of expr.now) why)) }
     ensures err_trace { OnErr result (trace.new ≡ trace.old) }
 {

@@ -17,8 +17,8 @@ ghost use Rattle.jc_rules.specs.Table.{cursor as cursor_at, name_of, names_in};
 ghost use Rattle.jc_rules.specs.Trace.{Rows, at_depth};
 ghost use Rattle.jc_syntax.specs.Trees.{expr_of};
 ghost use Rattle.jc_tree.specs.Tree.{HasPlace, here};
-ghost use Rattle.jc_apply.specs.Leads.{HasContext};
-ghost use Rattle.jc_cursor.specs.Bounds.{bound_of, IsFit, IsFitCursor};
+ghost use Rattle.jc_rules.specs.Paths.{HasContext};
+ghost use Rattle.jc_cursor.specs.Bounds.{bound_of};
 ghost use Rattle.jc_cursor.specs.Evaluates.{Selects, RefusedAfter, IsSelection, cause_of};
 ghost use Rattle.jc_cursor.specs.Ways.{IsGrown};
 
@@ -35,10 +35,8 @@ const LONGEST: usize = 511;
 
 /// The path with one key more.
 fn path_below(path: Path, key: Tagged) -> Result<Path, EvalFault>
-    requires fit { AllByRecursion HasContext path }
-    requires context { HasContext key }
+    requires { HasContext key }
     ensures ok { IfOk result (λ longer. longer ≡ path ++ key ∷ []) }
-    ensures fit { IfOk result (λ longer. AllByRecursion HasContext longer) }
     ensures short { OnOk result (length path ≤ 511) }
     ensures refused { IfErr result (λ f. IfSome (cause_of f) (λ why. (why ≡ because F.TooDeep) × (511 < length path))) }
 {
@@ -70,9 +68,7 @@ fn name_below(last: &Key, name: &Text) -> Result<Key, EvalFault>
 
 /// The cursor of a name in the map that stands at the cursor.
 fn get_in(cursor: Cursor, name: &Text) -> Result<Bound, EvalFault>
-    requires { IsFitCursor cursor }
     ensures ok { IfOk result (λ b. (from : AnyExpr) (c : AnyContext) (u : Rows) → Selects (GetKey from name.now) c cursor (bound_of b) u u) }
-    ensures fit { IfOk result (λ b. IsFit (bound_of b)) }
     ensures refused { IfErr result (λ f. IfSome (cause_of f) (λ why. (from : AnyExpr) (c : AnyContext) → RefusedAfter (GetKey from name.now) c cursor why)) }
 {
     let last = name_below(&cursor.last, name)?;
@@ -104,10 +100,8 @@ fn index_in<S: TreeStore>(
     index: u32,
     trace: &mut Trace,
 ) -> Result<Bound, EvalFault>
-    requires chained { IsChained (S.tree store.now).now }
-    requires fit { IsFitCursor cursor }
+    requires { IsChained (S.tree store.now).now }
     ensures ok { IfOk result (λ b. (from : AnyExpr) → Selects (Index from index) (S.tree store.now).now cursor (bound_of b) trace.old trace.new) }
-    ensures fit { IfOk result (λ b. IsFit (bound_of b)) }
     ensures refused { IfErr result (λ f. IfSome (cause_of f) (λ why. (from : AnyExpr) → RefusedAfter (Index from index) (S.tree store.now).now cursor why)) }
     ensures grown { IsGrown trace.old trace.new }
 {
@@ -176,7 +170,6 @@ fn names_below<S: TreeStore>(
     cursor: &Cursor,
     trace: &mut Trace,
 ) -> Result<Names, EvalFault>
-    requires { IsFitCursor cursor.now }
     ensures ok { IfOk result (λ names. Derives (SelectKeys (S.tree store.now).now cursor.now) (ToNames names) trace.old (at_depth trace.old.depth trace.new)) }
     ensures refused { IfErr result (λ f. IfSome (cause_of f) (λ why. Refused (SelectKeys (S.tree store.now).now cursor.now) why)) }
     ensures grown { IsGrown trace.old trace.new }
@@ -198,7 +191,6 @@ fn values_below<S: TreeStore>(
     cursor: &Cursor,
     trace: &mut Trace,
 ) -> Result<Pairs, EvalFault>
-    requires { IsFitCursor cursor.now }
     ensures ok { IfOk result (λ pairs. Derives (SelectValues (S.tree store.now).now cursor.now) (ToPairs pairs) trace.old (at_depth trace.old.depth trace.new)) }
     ensures refused { IfErr result (λ f. IfSome (cause_of f) (λ why. Refused (SelectValues (S.tree store.now).now cursor.now) why)) }
     ensures grown { IsGrown trace.old trace.new }
@@ -221,10 +213,8 @@ pub fn select<S: TreeStore>(
     trace: &mut Trace,
 ) -> Result<Bound, EvalFault>
     requires chained { IsChained (S.tree store.now).now }
-    requires fit { IsFitCursor cursor }
     requires selection { IsSelection (expr_of expr.now) }
     ensures ok { IfOk result (λ b. Selects (expr_of expr.now) (S.tree store.now).now cursor (bound_of b) trace.old trace.new) }
-    ensures fit { IfOk result (λ b. IsFit (bound_of b)) }
     ensures refused { IfErr result (λ f. IfSome (cause_of f) (λ why. RefusedAfter (expr_of expr.now) (S.tree store.now).now cursor why)) }
     ensures grown { IsGrown trace.old trace.new }
 {

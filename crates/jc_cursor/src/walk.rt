@@ -14,7 +14,7 @@ ghost use Rattle.jc_rules.specs.Shape.{IsChained};
 ghost use Rattle.jc_rules.specs.Table.{cursor, IsEmptyIds};
 ghost use Rattle.jc_rules.specs.Trace.{at_depth};
 ghost use Rattle.jc_tree.specs.Tree.{HasPlace, here};
-ghost use Rattle.jc_apply.specs.Leads.{HasContext};
+ghost use Rattle.jc_rules.specs.Paths.{HasContext};
 ghost use Rattle.jc_cursor.specs.Ways.{IsGrown, LeadsDown, RefusesDown, RefusedOnWay};
 ghost use Rattle.jc_cursor.specs.Evaluates.{cause_of};
 

@@ -4,7 +4,6 @@ ghost use Rattle.std.specs.Prelude.{◌≡◌, ◌≢◌, ◌+◌, IfOk};
 ghost use Rattle.jc_rules.specs.declared.id.Id.{Id as AnyId};
 ghost use Rattle.jc_rules.specs.Shape.{IsChained};
 ghost use Rattle.jc_apply.specs.Fits.{IsUnlinked};
-ghost use Rattle.jc_cursor.specs.Bounds.{bound_of, vars_of, IsFit, AreFit};
 ghost use Rattle.jc_cursor_tests.specs.Ready.{IsReady};
 
 use jc_apply::apply_op;
@@ -45,8 +44,6 @@ pub fn evaluated<S: TreeStore>(
     trace: &mut Trace,
 ) -> Result<Bound, EvalFault>
     requires chained { IsChained (S.tree store.now).now }
-    requires fit { AreFit (vars_of vars.now) }
-    ensures { IfOk result (λ b. IsFit (bound_of b)) }
 {
     let Ok(expr) = read(alloc, expr) else {
         return Err(EvalFault::Memory);
@@ -73,8 +70,6 @@ pub fn evaluated_with<S: TreeStore>(
     expr: &str,
 ) -> Result<Bound, EvalFault>
     requires chained { IsChained (S.tree store.now).now }
-    requires fit { IsFit (bound_of x) }
-    ensures { IfOk result (λ b. IsFit (bound_of b)) }
 {
     let vars = [(text(alloc, "x")?, x)];
     let mut trace = Trace::new(alloc);

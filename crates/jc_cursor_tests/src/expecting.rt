@@ -1,7 +1,6 @@
 //! What is expected of expressions.
 
 ghost use Rattle.jc_rules.specs.Shape.{IsChained};
-ghost use Rattle.jc_cursor.specs.Bounds.{vars_of, AreFit};
 
 use crate::documents::evaluated;
 use jc_cursor::{Bound, EvalFault};
@@ -34,7 +33,6 @@ pub fn expect_refused<S: TreeStore>(
     rows: &[(&str, u8)],
 )
     requires chained { IsChained (S.tree store.now).now }
-    requires fit { AreFit (vars_of vars.now) }
 {
     let mut trace = Trace::new(alloc);
     for (expr, number) in rows {

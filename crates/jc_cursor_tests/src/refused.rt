@@ -2,7 +2,6 @@
 
 ghost use Rattle.std.specs.Prelude.{IfOk};
 ghost use Rattle.jc_rules.specs.Shape.{IsChained};
-ghost use Rattle.jc_cursor.specs.Bounds.{bound_of, IsFit};
 ghost use Rattle.jc_cursor_tests.specs.Ready.{IsReady};
 
 use crate::documents::{all_to, change, document, evaluated, evaluated_with, make, name, text};
@@ -141,7 +140,6 @@ fn deep<S: TreeStore>(
     count: usize,
 ) -> Result<Bound, EvalFault>
     requires { IsChained (S.tree store.now).now }
-    ensures { IfOk result (λ b. IsFit (bound_of b)) }
 {
     let mut trace = Trace::new(alloc);
     let mut x = evaluated(rt, alloc, store, &[], "doc", &mut trace)?;
