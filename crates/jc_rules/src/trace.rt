@@ -29,7 +29,7 @@ impl Model for Trace {
 }
 
 /// How far a trace had come, and its depth then.
-#[derive(Clone, Copy)]
+#[derive(Clone, Copy, Debug, PartialEq, Eq)]
 pub struct TraceMark {
     pub rows: usize,
     pub depth: u64,

@@ -1,8 +1,8 @@
 //! Each call once, where memory is ample, with values from the published rules.
 
 use jc_rules::{
-    Cursor, Event, Id, IdSet, Key, Mutation, Next, Op, Path, Refusal, Rule, Tagged, Text, Trace,
-    Value, compare_ids, compare_keys, laws, name_at,
+    Cursor, Event, Id, IdSet, Key, Mutation, Next, Op, Path, Tagged, Text, Value, compare_ids,
+    compare_keys, laws, name_at,
 };
 use std::cmp::Ordering;
 use std::process::Abort;
@@ -178,67 +178,6 @@ fn events_name_their_replica(rt: HostRuntime) {
     ] {
         assert_eq!(rt; event.replica(), 3);
     }
-}
-
-#[test]
-fn rules_by_name(rt: HostRuntime) {
-    is_text(&rt, Rule::MakeAssign.name(), "MAKE-ASSIGN");
-    for (name, want) in [
-        ("CLEAR-LIST3", Some(Rule::ClearList3)),
-        ("IDX3", Some(Rule::Idx3)),
-        ("idx3", None),
-        ("", None),
-    ] {
-        assert!(rt; Rule::of_name(name) == want, "{name}");
-    }
-}
-
-#[test]
-fn refusals_by_number(rt: HostRuntime) {
-    are_same(&rt, &Refusal::NoHeader.number(), &14);
-    is_text(&rt, Refusal::NoSuchNode.name(), "NoSuchNode");
-    are_same(&rt, &Refusal::of_number(36), &Some(Refusal::DepsMissing));
-    are_same(&rt, &Refusal::of_number(58), &Some(Refusal::BadLine));
-    for unused in [0, 21, 39, 44, 48, 49, 59] {
-        assert!(rt; Refusal::of_number(unused).is_none(), "{unused}");
-    }
-}
-
-fn shows(rt: &impl Abort, trace: &Trace, rows: &[(Rule, u64)]) {
-    assert!(rt; trace.rows() == rows);
-}
-
-fn is_at(rt: &impl Abort, trace: &Trace, depth: u64) {
-    assert_eq!(rt; trace.depth(), depth);
-}
-
-#[test]
-fn traces(rt: HostRuntime) {
-    let mut trace = Trace::new(rt.alloc());
-    trace.push(Rule::Exec).expect(&rt, "a row");
-    trace.down();
-    trace.push(Rule::Let).expect(&rt, "a row");
-    let mark = trace.mark();
-    trace.open(Rule::Get).expect(&rt, "a row");
-    trace.push(Rule::Doc).expect(&rt, "a row");
-    shows(
-        &rt,
-        &trace,
-        &[
-            (Rule::Exec, 0),
-            (Rule::Let, 1),
-            (Rule::Get, 1),
-            (Rule::Doc, 2),
-        ],
-    );
-    trace.cut(mark);
-    shows(&rt, &trace, &[(Rule::Exec, 0), (Rule::Let, 1)]);
-    is_at(&rt, &trace, 1);
-    trace.up();
-    is_at(&rt, &trace, 0);
-    trace.open(Rule::Done).expect(&rt, "a row");
-    trace.close(0);
-    is_at(&rt, &trace, 0);
 }
 
 #[test]
