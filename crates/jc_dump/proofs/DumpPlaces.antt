@@ -3,12 +3,11 @@ use Rattle.std.proofs.Common.{◌≡◌, ◌≢◌, ◌<◌, ◌≤◌, List, []
 use Rattle.std.specs.List.{AllByRecursion}
 use Rattle.jc_rules.specs.declared.key.Key.{Key}
 use Rattle.jc_rules.specs.declared.key.Tagged.{Tagged}
-use Rattle.jc_rules.specs.declared.key.Tagged.TheVariants.{MapT, ListT, RegT}
 use Rattle.jc_rules.specs.Order.{key_cmp, same_key}
 use Rattle.jc_rules.specs.Entries.{find, keys_of, IsRising}
-use Rattle.jc_rules.specs.Context.{Context, context, Children, no_child, child, Content, Node, Values, content, node_of, values_of, listed, maps, lists, registers, presences, links, keys}
+use Rattle.jc_rules.specs.Context.{Context, context, Children, no_child, child, Node, content, node_of, listed, maps, lists, registers, presences, links, keys}
 use Rattle.jc_rules.specs.Places.{node_at, context_at, or_empty}
-use Rattle.jc_rules.specs.Shape.{IsKept, AreKept}
+use Rattle.jc_rules.specs.Shape.{IsKept}
 use Rattle.jc_rules.proofs.Places.{there, node-below}
 use Rattle.jc_tree.specs.Nested.{nested, nested_in}
 use Rattle.jc_tree.proofs.Keeping.{kept-node}

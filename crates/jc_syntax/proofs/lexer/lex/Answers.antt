@@ -24,5 +24,5 @@ tokens-smaller c =
 
 pub returns-clause-each : goal.returns-clause-each
 returns-clause-each c =
-    let room : length c.as_bytes-bytes.result.now ≤ 8388608 = omega (arith, c.if-bytes-gt-MAX_TEXT.false) in
+    let room : length c.as_bytes-bytes.result.now ≤ 8388608 = omega arith in
     rw c.as_bytes-bytes.ensures.value at (each_token c.as_bytes-bytes.result.now 0 c.tokens.at c.tokens.tokens.items room c.tokens.invariant.1)
