@@ -4,3 +4,4 @@ pub mod Playing
 pub mod Reading
 pub mod Lone
 pub mod Ready
+pub mod Counting

@@ -3,7 +3,10 @@
 ghost use Rattle.std.specs.Prelude.{◌≡◌, ◌↔◌, ◌<◌, ◌≤◌, [], length, map, IfOk, OnOk, OnErr, IsErrOf};
 ghost use Rattle.jc_rules.specs.declared.operation.Event.TheVariants.{Exec};
 ghost use Rattle.jc_rules.specs.Context.{empty};
+ghost use Rattle.jc_rules.specs.declared.operation.Op.{Op as AnyOp};
+ghost use Rattle.jc_rules.specs.Filled.{counted as counted_ids};
 ghost use Rattle.jc_rules.specs.Ids.{greatest};
+ghost use Rattle.std.specs.Coded.{Coded-set};
 ghost use Rattle.jc_rules.specs.State.{start};
 ghost use Rattle.jc_rules.specs.Derivation.{Occur, ToState};
 ghost use Rattle.jc_rules.specs.Derives.{Derives};
@@ -45,6 +48,8 @@ pub struct Replica<S> {
     ghost within: { done ≤ length script.items },
     ghost counted: { greatest ops ≤ done },
     ghost queued: { AreCounted (greatest ops) queue.items } by { AreCounted-single (greatest ops) queue.items },
+    ghost own: { ops ≡ counted_ids number (greatest ops) } by { Coded-set ops-code ops (counted_ids number (greatest ops)) },
+    ghost listed: { map (λ (o : AnyOp). o.id) queue.items ≡ ops } by { Coded-set ops-code (map (λ (o : AnyOp). o.id) queue.items) ops },
 }
 
 impl<S: TreeStore> Replica<S> {
@@ -155,16 +160,17 @@ impl<S: TreeStore> Replica<S> {
         self.script.len() - self.done
     }
 
-    /// The identifiers of the operations applied, rising.
+    /// The identifiers of the operations applied.
     pub fn ops(&self) -> &IdSet
         ensures { result.now ≡ (state_of S.tree self.now).ops }
     {
         &self.ops
     }
 
-    /// The operations made, by identifier.
+    /// The operations made, by identifier. No others are applied.
     pub fn queue(&self) -> &[Op]
-        ensures { result.now ≡ (state_of S.tree self.now).queue }
+        ensures queue { result.now ≡ (state_of S.tree self.now).queue }
+        ensures applied { map (λ (o : AnyOp). o.id) result.now ≡ (state_of S.tree self.now).ops }
     {
         self.queue.as_slice()
     }

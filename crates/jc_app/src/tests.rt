@@ -93,12 +93,12 @@ fn two_assignments(rt: HostRuntime) -> Result<(), Fail> {
         counter: 2,
         replica: 3,
     };
-    assert_eq!(rt; replica.ops().as_slice().len(), 2);
+    assert_eq!(rt; replica.ops().greatest(), 2);
     assert!(rt; replica.ops().contains(made));
     assert_eq!(rt; replica.queue().len(), 2);
     let op = &replica.queue()[1];
     assert!(rt; op.id == made);
-    assert_eq!(rt; op.deps.as_slice().len(), 1);
+    assert_eq!(rt; op.deps.greatest(), 1);
     assert!(rt; op.cursor.path.as_slice() == [Tagged::MapT(Key::Doc)].as_slice());
     assert!(rt; op.cursor.last == Key::Name(text(alloc, "a")?));
     assert!(rt; op.mutation == Mutation::Assign(Value::Number(text(alloc, "2")?)));
