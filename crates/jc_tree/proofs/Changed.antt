@@ -32,7 +32,7 @@ content-new (ListT k) (context m l r p n) = rw (listed_children, found-put keys_
 content-new (RegT k) (context m l r p n) = rw (found-put keys_total exact_keys) refl
 
 -- one key further down
-node-further : (ks : List Tagged) (k : Tagged) (x c : Context) → node_at ks c ≡ Some x → node_at (ks ++ k ∷ []) c ≡ node_in (content k x)
+pub node-further : (ks : List Tagged) (k : Tagged) (x c : Context) → node_at ks c ≡ Some x → node_at (ks ++ k ∷ []) c ≡ node_in (content k x)
 node-further [] k x c h = let same : c ≡ x = cc in rw same (last (content k x))
   where
     last : (o : Option Content) → at_node o (λ d. Some d) None ≡ node_in o
