@@ -91,6 +91,7 @@ impl<S: TreeStore> Placed<S> {
     }
 
     /// Links a fresh element behind a key of a list.
+    #[tactic(auto, using(jc_tree::proofs::Changed::still_place))]
     pub fn link(&mut self, rt: &impl Abort, place: &Key, id: Id) -> Result<(), AllocError>
         requires { IsChained (S.tree self.old.store).now }
         ensures { OnOk result (IsChained (S.tree self.new.store).now) }
