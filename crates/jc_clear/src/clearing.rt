@@ -185,12 +185,12 @@ fn list_in<S: TreeStore>(
     let depth = trace.depth();
     let mut ids = Vec::new(alloc);
     let mut place = Some(Key::Head);
-    while let Some(key) = place {
-        let Some(next) = store.next(at.as_slice(), &key) else {
+    while let Some(element) = place {
+        let Some(next) = store.next(at.as_slice(), &element) else {
             unreachable!();
         };
         trace.open(Rule::ClearList2)?;
-        let more = elem_in(alloc, store, deps, at, &key, trace)?;
+        let more = elem_in(alloc, store, deps, at, &element, trace)?;
         ids = united(ids, more.as_slice())?;
         place = match next {
             Next::Tail => None,
