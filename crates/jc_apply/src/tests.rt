@@ -451,6 +451,7 @@ fn inserted(
     last: &Key,
     text: &str,
 ) -> Result<Op, AllocError>
+    requires { IsPath at.now }
     ensures { IfOk result (λ op. op.id ≡ id) }
 {
     let value = string(alloc, text)?;
