@@ -28,7 +28,7 @@ use Rattle.jc_rules.specs.Step.{replica_of, read_by}
 
 -- The refusal, and for a node that isn't there its tagged key. Only the refusals of rules and of replicas that aren't
 -- there are ever derived: 20, 22 to 24 and 26 to 37 by `because`, and 25 by `no_node` alone, never without its key. The
--- other numbers are those of texts, threads and sessions.
+-- other numbers are those of texts and of other calls.
 pub data Cause : Type 0 where
   because : Refusal → Cause
   no_node : Tagged → Cause

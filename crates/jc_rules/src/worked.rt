@@ -6,7 +6,7 @@ ghost use Rattle.jc_rules.specs.Worked.Maps.{FirstMap, AssignmentOverMap, MapOve
 ghost use Rattle.jc_rules.specs.Worked.Lists.{FirstList, InsertAtHead, InsertAfterElement, DeleteElement, IndexPastTombstone, WholeListDeleted, InsertOfMap};
 ghost use Rattle.jc_rules.specs.Worked.Inserts.{SendsMade, YieldEnds, ReceivesOffered, ReceivesOwn, AppliesReceived, ConcurrentInsert, InsertBeforeLesser, InsertLater};
 ghost use Rattle.jc_rules.specs.Worked.Deletions.{MapDeletion, AssignmentInDeletedMap, ListDeletion, ListAfterDeletion};
-ghost use Rattle.jc_rules.specs.Worked.Stuck.{SendBeforeYield, RunAtYield, DoneTooEarly, ApplyTwice, ApplyUnreceived, RunPastScript, DonePastScript, DependencyMissing, IndexInNothing, IndexInMap, IndexPastEnd, VariableUnbound, KeysOfNothing, ValuesOfNothing, InsertInNothing, AssignmentToNames, KeyOfHead, KeyTooDeep, KeysOfRegister, KeysBelowRegister, KeysInNothing, ValuesInNothing, FromNobody, ByNobody, OfNobody};
+ghost use Rattle.jc_rules.specs.Worked.Stuck.{SendBeforeYield, RunAtYield, DoneTooEarly, ApplyTwice, ApplyUnreceived, RunPastScript, DonePastScript, DependencyMissing, IndexInNothing, IndexInMap, IndexPastEnd, VariableUnbound, KeysOfNothing, ValuesOfNothing, InsertInNothing, AssignmentToNames, KeyOfHead, KeyTooDeep, KeysOfRegister, KeysInNothing, ValuesInNothing, KeysBelowRegister, FromNobody, ByNobody, OfNobody};
 ghost use Rattle.jc_rules.specs.Worked.Schedules.{InsertsMeet, MapDeletionMeets, ListDeletionMeets};
 
 /// One assignment on a fresh replica.
@@ -299,11 +299,6 @@ pub fn keys_of_register()
     ensures { KeysOfRegister }
 {}
 
-/// Stuck: the keys below a key that has a value alone.
-pub fn keys_below_register()
-    ensures { KeysBelowRegister }
-{}
-
 /// Stuck: the keys under a key where there is nothing yet.
 pub fn keys_in_nothing()
     ensures { KeysInNothing }
@@ -312,6 +307,11 @@ pub fn keys_in_nothing()
 /// Stuck: the values under a key where there is nothing yet.
 pub fn values_in_nothing()
     ensures { ValuesInNothing }
+{}
+
+/// Stuck: the keys below a key that has a value alone.
+pub fn keys_below_register()
+    ensures { KeysBelowRegister }
 {}
 
 /// Stuck: a receive from a replica that isn't there.

@@ -21,8 +21,8 @@ text_x = V.Str (codes "x")
 abbrev pub text_y : Value
 text_y = V.Str (codes "y")
 
--- the script `doc := []; doc.idx(0).insertAfter("x"); doc.idx(1).insertAfter("y"); doc.idx(1).delete; let z =
--- doc.idx(1); let w = doc.idx(2)`, and what is left of it after each event
+-- the script `doc := []; doc.idx(0).insertAfter("x"); doc.idx(1).insertAfter("y"); doc.idx(1).delete;
+-- let z = doc.idx(1); let w = doc.idx(2)`, and what is left of it after each event
 abbrev pub left_5 : List Cmd
 left_5 = LetIn (codes "w") (Index TheDoc 2) ∷ []
 

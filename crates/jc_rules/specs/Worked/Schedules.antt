@@ -21,8 +21,8 @@ meeting =
     ∷ Recv 0 1 ∷ Recv 1 0
     ∷ Apply 0 (by_b 2) ∷ Apply 1 (by_a 2) ∷ []
 
--- a: `doc.get("l") := []; yield; doc.get("l").idx(0).insertAfter("x"); yield`; b: `yield;
--- doc.get("l").idx(0).insertAfter("y"); yield`
+-- a: `doc.get("l") := []; yield; doc.get("l").idx(0).insertAfter("x"); yield`;
+-- b: `yield; doc.get("l").idx(0).insertAfter("y"); yield`
 abbrev pub inserting : List State
 inserting = start (SetTo (GetKey TheDoc (codes "l")) EmptyList ∷ Yield ∷ a_from_x) ∷ start b_script ∷ []
 

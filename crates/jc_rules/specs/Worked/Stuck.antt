@@ -56,8 +56,8 @@ DependencyMissing =
     IsRefused (record (start (Yield ∷ [])) { acted = true; recv = assign_one ∷ assign_two ∷ [] })
     (E.Apply 1 (by_a 2)) (because F.DepsMissing)
 
--- first commands on a fresh replica: `let x = doc.get("l").idx(0)`, `let s = x`, `let s = doc.keys`, `let s =
--- doc.values` and `doc.get("a").insertAfter(1)`
+-- first commands on a fresh replica: `let x = doc.get("l").idx(0)`, `let s = x`, `let s = doc.keys`,
+-- `let s = doc.values` and `doc.get("a").insertAfter(1)`
 abbrev pub IndexInNothing : Type 0
 IndexInNothing =
     IsRefused (start (LetIn (codes "x") (Index (GetKey TheDoc (codes "l")) 0) ∷ []))
@@ -108,22 +108,22 @@ KeyTooDeep =
     ((codes "x", ACursor (cursor path (K.Name (codes "a")))) ∷ []) empty [] [])
     (E.Exec 0) (because F.TooDeep)
 
--- the same below a path: `let s = doc.get("a").keys` where only a value is under "a", and on a fresh replica `let s =
--- doc.get("a").keys` and `let s = doc.get("a").values`
+-- the same below a path: `let s = doc.get("a").keys` where only a value is under "a", and on a fresh replica
+-- `let s = doc.get("a").keys` and `let s = doc.get("a").values`
 abbrev pub KeysOfRegister : Type 0
 KeysOfRegister = IsRefused (assigned (LetIn (codes "s") (KeysOf at_a) ∷ []) []) (E.Exec 0) (because F.NoMap)
-
--- and `let s = doc.get("a").get("b").keys` where only a value is under "a": the path's second key isn't there
-abbrev pub KeysBelowRegister : Type 0
-KeysBelowRegister =
-    IsRefused (assigned (LetIn (codes "s") (KeysOf (GetKey at_a (codes "b"))) ∷ []) [])
-    (E.Exec 0) (no_node (MapT (K.Name (codes "a"))))
 
 abbrev pub KeysInNothing : Type 0
 KeysInNothing = IsRefused (start (LetIn (codes "s") (KeysOf at_a) ∷ [])) (E.Exec 0) (no_node (MapT K.Doc))
 
 abbrev pub ValuesInNothing : Type 0
 ValuesInNothing = IsRefused (start (LetIn (codes "s") (ValuesOf at_a) ∷ [])) (E.Exec 0) (no_node (MapT K.Doc))
+
+-- `let s = doc.get("a").get("b").keys` where only a value is under "a": the path's second key isn't there
+abbrev pub KeysBelowRegister : Type 0
+KeysBelowRegister =
+    IsRefused (assigned (LetIn (codes "s") (KeysOf (GetKey at_a (codes "b"))) ∷ []) [])
+    (E.Exec 0) (no_node (MapT (K.Name (codes "a"))))
 
 -- In a network of one replica that is at a yield: it receives from a second one, a second one runs, and it applies an
 -- operation of one that isn't there, which is asked for among the received ones alone.
