@@ -5,3 +5,5 @@
 mod calls;
 #[cfg(test)]
 mod id_sets;
+#[cfg(test)]
+mod trace_copies;
