@@ -4,3 +4,5 @@ pub mod Playing
 pub mod Reading
 pub mod Lone
 pub mod Ready
+pub mod Begun
+pub mod OneRun
