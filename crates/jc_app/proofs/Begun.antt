@@ -2,7 +2,7 @@
 use Rattle.std.proofs.Common.{◌≡◌, ◌≢◌, ℕ, ◌+◌, ◌<◌, ◌≤◌, ◌⊎◌, inl, inr, List, [], ◌∷◌, ◌++◌, length, take, drop, get_or, Option, Some, None, Result, Ok, Err, All, OnOk, OnErr, refl, ap, sym, ◌∙◌, subst, append_assoc, append-nil, lt_of_not-le, arith}
 use Rattle.std.proofs.lemmas.List.{take-append-le, take-append-drop, take_all}
 use Rattle.std.proofs.Math.Seq.{take-append-add, take-append_seam, take-length}
-use Rattle.std.specs.Io.KnownBytes.{Appends}
+use Rattle.std.specs.Io.KnownBytes.{Appends, Consumes}
 use native.Mathlib.Decide.{dec_le}
 use mathlib.Core.Logic.{dite}
 use Rattle.jc_rules.specs.declared.operation.Event.{Event}
@@ -10,7 +10,7 @@ use Rattle.jc_rules.specs.declared.operation.Event.TheVariants.{Exec}
 use Rattle.jc_rules.specs.declared.rule.Rule.{Rule}
 use Rattle.jc_rules.specs.State.{State, start}
 use Rattle.jc_rules.specs.Step.{Step}
-use Rattle.jc_rules.specs.Told.{AppendsFront, IsFront}
+use Rattle.jc_rules.specs.Told.{AppendsFront, LosesUpTo, IsFront}
 use Rattle.jc_app.specs.Texts.{block_text}
 use Rattle.jc_app.specs.Runs.{Made, GoesBy, Plays, Stuck, at_script_end, events_of, blocks_text}
 use Rattle.jc_rules.specs.Refused.{because}
@@ -66,6 +66,12 @@ if_refused (Err e) p = p
 pub on_err : {T E : Type 0} {P Q : Type 0} (r : Result T E) → (P → Q) → OnErr r P → OnErr r Q
 on_err (Ok v) f h = tt
 on_err (Err e) f h = f h
+
+-- what was read was lost, and no more
+pub loses_read : (most : ℕ) (a b : Option (List ℕ)) (bs : List ℕ) → Consumes a b bs → length bs ≤ most → LosesUpTo most a b
+loses_read most None b bs h l = (bs, l, tt)
+loses_read most (Some xs) None bs h l = absurd h
+loses_read most (Some xs) (Some ys) bs h l = (bs, l, h)
 
 -- the events that were made before a failure, and the next one where its block was begun
 pub begun : (names : List (List ℕ)) (first now : State) (es : List Event) (i n : ℕ) (made : List Made) (a b c : Option (List ℕ))

@@ -1,8 +1,8 @@
-use Rattle.std.proofs.Common.{ℕ, List, refl, subst}
+use Rattle.std.proofs.Common.{ℕ, List, refl, subst, arith}
 use Rattle.std.specs.Io.KnownBytes.{Appends}
 use Rattle.jc_app.specs.Ran.{Ran}
 use Rattle.jc_app.specs.Due.{AppendsFrontOf, IsDue}
-use Rattle.jc_app.proofs.Begun.{run_on_front, begun_on_front, begun_nothing}
+use Rattle.jc_app.proofs.Begun.{loses_read, run_on_front, begun_on_front, begun_nothing}
 use Rattle.jc_app.proofs.work.run_input.Goals as goal
 
 -- what was read is the front of what the source told, and a run on it is a run on the whole
@@ -29,3 +29,13 @@ pub returns-clause-begun : goal.returns-clause-begun
 returns-clause-begun g c =
     begun_on_front 8388609 (g.I.Source.left c.args.input.now) (g.K.Sink.taken c.args.out.now) (g.K.Sink.taken c.run_text.new.out) c.in-Ok.text.items refl c.in-Ok.ensures.front
     (subst (λ (t : List ℕ). AppendsFrontOf (IsDue t) (g.K.Sink.taken c.args.out.now) (g.K.Sink.taken c.run_text.new.out)) c.deref.ensures.value c.in-Err-Memory-run_text.ensures.begun)
+
+-- what was read is all that was lost
+pub returns-in-Ok-run_text-clause-most : goal.returns-in-Ok-run_text-clause-most
+returns-in-Ok-run_text-clause-most g c = loses_read 8388609 (g.I.Source.left c.args.input.now) (g.I.Source.left c.read_up_to.new.source) c.in-Ok.text.items c.in-Ok.ensures.bytes (omega (arith, c.in-Ok.ensures.bound, c.in-Ok.text.ok.0))
+
+pub returns-in-Err-Write-clause-most : goal.returns-in-Err-Write-clause-most
+returns-in-Err-Write-clause-most g c = loses_read 8388609 (g.I.Source.left c.args.input.now) (g.I.Source.left c.read_up_to.new.source) c.in-Ok.text.items c.in-Ok.ensures.bytes (omega (arith, c.in-Ok.ensures.bound, c.in-Ok.text.ok.0))
+
+pub returns-clause-most : goal.returns-clause-most
+returns-clause-most g c = loses_read 8388609 (g.I.Source.left c.args.input.now) (g.I.Source.left c.read_up_to.new.source) c.in-Ok.text.items c.in-Ok.ensures.bytes (omega (arith, c.in-Ok.ensures.bound, c.in-Ok.text.ok.0))
