@@ -5,3 +5,5 @@ pub mod Reading
 pub mod Lone
 pub mod Ready
 pub mod Counting
+pub mod Begun
+pub mod OneRun
