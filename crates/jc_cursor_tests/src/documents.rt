@@ -10,7 +10,7 @@ ghost use Rattle.jc_cursor_tests.specs.Ready.{IsReady};
 use jc_apply::apply_op;
 use jc_cursor::{Bound, EvalFault, eval};
 use jc_parser::{ParseFault, parse_expr};
-use jc_rules::{Cursor, Id, IdSet, Key, Mutation, Op, Text, Trace};
+use jc_rules::{Cursor, Id, IdSet, Key, Mutation, Op, Path, Tagged, Text, Trace, Value};
 use jc_syntax::Expr;
 use jc_tree::{PlainTree, TreeStore};
 use std::alloc::{AllocError, Global};
@@ -64,21 +64,22 @@ pub fn evaluated<S: TreeStore>(
     }
 }
 
-/// What the expression gives where `x` is bound.
-pub fn evaluated_with<S: TreeStore>(
+/// A variable that is bound to what the expression gives.
+pub fn bound<S: TreeStore>(
     rt: &impl Abort,
     alloc: Global,
     store: &S,
-    x: Bound,
+    vars: &[(Text, Bound)],
+    name: &str,
     expr: &str,
-) -> Result<Bound, EvalFault>
+) -> Result<[(Text, Bound); 1], EvalFault>
     requires chained { IsChained (S.tree store.now).now }
-    requires fit { IsFit (bound_of x) }
-    ensures { IfOk result (λ b. IsFit (bound_of b)) }
+    requires fit { AreFit (vars_of vars.now) }
+    ensures { IfOk result (λ vars. AreFit (vars_of vars)) }
 {
-    let vars = [(text(alloc, "x")?, x)];
     let mut trace = Trace::new(alloc);
-    evaluated(rt, alloc, store, &vars, expr, &mut trace)
+    let bound = evaluated(rt, alloc, store, vars, expr, &mut trace)?;
+    Ok([(text(alloc, name)?, bound)])
 }
 
 pub fn document(alloc: Global) -> PlainTree
@@ -101,7 +102,7 @@ fn apply<S: TreeStore>(rt: &impl Abort, alloc: Global, store: &mut S, op: &Op)
 }
 
 /// The identifiers of replica 0 up to the counter.
-pub fn all_to(alloc: Global, count: u64) -> Result<IdSet, AllocError> {
+fn all_to(alloc: Global, count: u64) -> Result<IdSet, AllocError> {
     let mut all = IdSet::new(alloc);
     for before in 0..count {
         all.insert(Id {
@@ -114,7 +115,7 @@ pub fn all_to(alloc: Global, count: u64) -> Result<IdSet, AllocError> {
 
 /// Makes an operation of the replica and applies it.
 #[tactic(auto, using(crate::proofs::Made::ready_on))]
-pub fn make<S: TreeStore>(
+fn make<S: TreeStore>(
     rt: &impl Abort,
     alloc: Global,
     store: &mut S,
@@ -147,17 +148,63 @@ pub fn change<S: TreeStore>(
     alloc: Global,
     store: &mut S,
     count: &mut u64,
+    vars: &[(Text, Bound)],
     expr: &str,
     mutation: Mutation,
 ) -> Result<(), EvalFault>
-    requires { IsReady count.old (S.tree store.old).now }
+    requires ready { IsReady count.old (S.tree store.old).now }
+    requires fit { AreFit (vars_of vars.now) }
     ensures { IsReady count.new (S.tree store.new).now }
 {
     let mut trace = Trace::new(alloc);
-    let Bound::Cursor(cursor) = evaluated(rt, alloc, store, &[], expr, &mut trace)? else {
+    let Bound::Cursor(cursor) = evaluated(rt, alloc, store, vars, expr, &mut trace)? else {
         return Err(EvalFault::NotACursor);
     };
     let deps = all_to(alloc, *count)?;
     make(rt, alloc, store, count, 0, deps, cursor, mutation);
+    Ok(())
+}
+
+/// Assigns a string to what the expression gives.
+pub fn assign<S: TreeStore>(
+    rt: &impl Abort,
+    alloc: Global,
+    store: &mut S,
+    count: &mut u64,
+    expr: &str,
+    string: &str,
+) -> Result<(), EvalFault>
+    requires { IsReady count.old (S.tree store.old).now }
+    ensures { IsReady count.new (S.tree store.new).now }
+{
+    let mutation = Mutation::Assign(Value::Str(text(alloc, string)?));
+    change(rt, alloc, store, count, &[], expr, mutation)
+}
+
+/// Applies an assignment of a string by another replica, which has seen no other operation.
+pub fn assign_unseen<S: TreeStore>(
+    rt: &impl Abort,
+    alloc: Global,
+    store: &mut S,
+    count: &mut u64,
+    last: Key,
+    string: &str,
+) -> Result<(), EvalFault>
+    requires { IsReady count.old (S.tree store.old).now }
+    ensures { IsReady count.new (S.tree store.new).now }
+{
+    let mutation = Mutation::Assign(Value::Str(text(alloc, string)?));
+    let mut path = Path::new(alloc);
+    path.push(Tagged::MapT(Key::Doc))?;
+    make(
+        rt,
+        alloc,
+        store,
+        count,
+        1,
+        IdSet::new(alloc),
+        Cursor { path, last },
+        mutation,
+    );
     Ok(())
 }
