@@ -1,6 +1,6 @@
 //! Documents made by operations, each after all before it, and expressions evaluated in them.
 
-ghost use Rattle.std.specs.Prelude.{◌≡◌, ◌≢◌, ◌+◌, IfOk};
+ghost use Rattle.std.specs.Prelude.{◌≡◌, ◌≢◌, ◌+◌};
 ghost use Rattle.jc_rules.specs.declared.id.Id.{Id as AnyId};
 ghost use Rattle.jc_rules.specs.Shape.{IsChained};
 ghost use Rattle.jc_apply.specs.Fits.{IsUnlinked};
@@ -9,7 +9,7 @@ ghost use Rattle.jc_cursor_tests.specs.Ready.{IsReady};
 use jc_apply::apply_op;
 use jc_cursor::{Bound, EvalFault, eval};
 use jc_parser::{ParseFault, parse_expr};
-use jc_rules::{Cursor, Id, IdSet, Key, Mutation, Op, Text, Trace};
+use jc_rules::{Cursor, Id, IdSet, Key, Mutation, Op, Path, Tagged, Text, Trace, Value};
 use jc_syntax::Expr;
 use jc_tree::{PlainTree, TreeStore};
 use std::alloc::{AllocError, Global};
@@ -61,19 +61,20 @@ pub fn evaluated<S: TreeStore>(
     }
 }
 
-/// What the expression gives where `x` is bound.
-pub fn evaluated_with<S: TreeStore>(
+/// A variable that is bound to what the expression gives.
+pub fn bound<S: TreeStore>(
     rt: &impl Abort,
     alloc: Global,
     store: &S,
-    x: Bound,
+    vars: &[(Text, Bound)],
+    name: &str,
     expr: &str,
-) -> Result<Bound, EvalFault>
+) -> Result<[(Text, Bound); 1], EvalFault>
     requires chained { IsChained (S.tree store.now).now }
 {
-    let vars = [(text(alloc, "x")?, x)];
     let mut trace = Trace::new(alloc);
-    evaluated(rt, alloc, store, &vars, expr, &mut trace)
+    let bound = evaluated(rt, alloc, store, vars, expr, &mut trace)?;
+    Ok([(text(alloc, name)?, bound)])
 }
 
 pub fn document(alloc: Global) -> PlainTree
@@ -96,7 +97,7 @@ fn apply<S: TreeStore>(rt: &impl Abort, alloc: Global, store: &mut S, op: &Op)
 }
 
 /// The identifiers of replica 0 up to the counter.
-pub fn all_to(alloc: Global, count: u64) -> Result<IdSet, AllocError> {
+fn all_to(alloc: Global, count: u64) -> Result<IdSet, AllocError> {
     let mut all = IdSet::new(alloc);
     for before in 0..count {
         all.insert(Id {
@@ -109,7 +110,7 @@ pub fn all_to(alloc: Global, count: u64) -> Result<IdSet, AllocError> {
 
 /// Makes an operation of the replica and applies it.
 #[tactic(auto, using(crate::proofs::Made::ready_on))]
-pub fn make<S: TreeStore>(
+fn make<S: TreeStore>(
     rt: &impl Abort,
     alloc: Global,
     store: &mut S,
@@ -142,17 +143,62 @@ pub fn change<S: TreeStore>(
     alloc: Global,
     store: &mut S,
     count: &mut u64,
+    vars: &[(Text, Bound)],
     expr: &str,
     mutation: Mutation,
 ) -> Result<(), EvalFault>
-    requires { IsReady count.old (S.tree store.old).now }
+    requires ready { IsReady count.old (S.tree store.old).now }
     ensures { IsReady count.new (S.tree store.new).now }
 {
     let mut trace = Trace::new(alloc);
-    let Bound::Cursor(cursor) = evaluated(rt, alloc, store, &[], expr, &mut trace)? else {
+    let Bound::Cursor(cursor) = evaluated(rt, alloc, store, vars, expr, &mut trace)? else {
         return Err(EvalFault::NotACursor);
     };
     let deps = all_to(alloc, *count)?;
     make(rt, alloc, store, count, 0, deps, cursor, mutation);
+    Ok(())
+}
+
+/// Assigns a string to what the expression gives.
+pub fn assign<S: TreeStore>(
+    rt: &impl Abort,
+    alloc: Global,
+    store: &mut S,
+    count: &mut u64,
+    expr: &str,
+    string: &str,
+) -> Result<(), EvalFault>
+    requires { IsReady count.old (S.tree store.old).now }
+    ensures { IsReady count.new (S.tree store.new).now }
+{
+    let mutation = Mutation::Assign(Value::Str(text(alloc, string)?));
+    change(rt, alloc, store, count, &[], expr, mutation)
+}
+
+/// Applies an assignment of a string by another replica, which has seen no other operation.
+pub fn assign_unseen<S: TreeStore>(
+    rt: &impl Abort,
+    alloc: Global,
+    store: &mut S,
+    count: &mut u64,
+    last: Key,
+    string: &str,
+) -> Result<(), EvalFault>
+    requires { IsReady count.old (S.tree store.old).now }
+    ensures { IsReady count.new (S.tree store.new).now }
+{
+    let mutation = Mutation::Assign(Value::Str(text(alloc, string)?));
+    let mut path = Path::new(alloc);
+    path.push(Tagged::MapT(Key::Doc))?;
+    make(
+        rt,
+        alloc,
+        store,
+        count,
+        1,
+        IdSet::new(alloc),
+        Cursor { path, last },
+        mutation,
+    );
     Ok(())
 }

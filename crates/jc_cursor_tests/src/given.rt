@@ -1,9 +1,8 @@
 //! What expressions give: cursors, names and values.
 
-use crate::documents::{change, document, evaluated, evaluated_with, make, name, text};
-use crate::expecting::{expect_refused, is_cursor, is_keys, is_values};
-use jc_rules::{Cursor, Id, IdSet, Key, Mutation, Path, Rule, Tagged, Trace, Value};
-use std::alloc::{AllocError, Global};
+use crate::documents::{assign, assign_unseen, bound, change, document, name, text};
+use crate::expecting::{expect_cursor, expect_keys, expect_refused, expect_rows, expect_values};
+use jc_rules::{Id, Key, Mutation, Rule, Tagged, Value};
 use std::test::Fail;
 
 /// The rules of `let z = doc.idx(1)` where the first element was deleted.
@@ -18,58 +17,86 @@ const PAST_A_TOMBSTONE: [(Rule, u64); 8] = [
     (Rule::Idx5, 6),
 ];
 
-fn by_a(counter: u64) -> Id {
-    Id {
-        counter,
-        replica: 0,
-    }
-}
+const OF_KEYS: [(Rule, u64); 5] = [
+    (Rule::Exec, 0),
+    (Rule::Let, 1),
+    (Rule::Keys1, 2),
+    (Rule::Doc, 3),
+    (Rule::Keys2, 3),
+];
 
-fn path(alloc: Global, key: Tagged) -> Result<Path, AllocError> {
-    let mut path = Path::new(alloc);
-    path.push(key)?;
-    Ok(path)
-}
+const OF_VALUES: [(Rule, u64); 7] = [
+    (Rule::Exec, 0),
+    (Rule::Let, 1),
+    (Rule::Val1, 2),
+    (Rule::Get, 3),
+    (Rule::Doc, 4),
+    (Rule::Val3, 3),
+    (Rule::Val2, 4),
+];
 
-fn string(alloc: Global, string: &str) -> Result<Value, AllocError> {
-    Ok(Value::Str(text(alloc, string)?))
+fn id(counter: u64, replica: u16) -> Id {
+    Id { counter, replica }
 }
 
 #[test]
 fn cursors(rt: HostRuntime) -> Result<(), Fail> {
     let alloc = rt.alloc();
     let store = document(alloc);
-    let mut trace = Trace::new(alloc);
-    let doc = evaluated(&rt, alloc, &store, &[], "doc", &mut trace)?;
-    assert!(rt; is_cursor(&doc, &[], &Key::Doc));
-    let a = evaluated(&rt, alloc, &store, &[], "doc.get(\"a\")", &mut trace)?;
-    assert!(rt; is_cursor(&a, &[Tagged::MapT(Key::Doc)], &name(alloc, "a")?));
-    let x = evaluated_with(&rt, alloc, &store, a, "x")?;
-    assert!(rt; is_cursor(&x, &[Tagged::MapT(Key::Doc)], &name(alloc, "a")?));
-    assert!(rt; trace.rows() == [(Rule::Doc, 0), (Rule::Get, 0), (Rule::Doc, 1)].as_slice());
+    expect_cursor(&rt, alloc, &store, &[], "doc", &[], &Key::Doc);
+    let a = name(alloc, "a")?;
+    let path = [Tagged::MapT(Key::Doc)];
+    expect_cursor(&rt, alloc, &store, &[], "doc.get(\"a\")", &path, &a);
+    let vars = bound(&rt, alloc, &store, &[], "x", "doc.get(\"a\")")?;
+    expect_cursor(&rt, alloc, &store, &vars, "x", &path, &a);
     Ok(())
 }
 
-/// A deleted element isn't counted. The trace goes on at the depth that it had.
+/// A deleted element isn't counted.
 #[test]
 fn elements(rt: HostRuntime) -> Result<(), Fail> {
     let alloc = rt.alloc();
     let mut store = document(alloc);
     let mut count = 0;
-    change(&rt, alloc, &mut store, &mut count, "doc", Mutation::Assign(Value::EmptyList))?;
-    let x = string(alloc, "x")?;
-    change(&rt, alloc, &mut store, &mut count, "doc.idx(0)", Mutation::Insert(x))?;
-    let y = string(alloc, "y")?;
-    change(&rt, alloc, &mut store, &mut count, "doc.idx(1)", Mutation::Insert(y))?;
-    change(&rt, alloc, &mut store, &mut count, "doc.idx(1)", Mutation::Delete)?;
-    let mut trace = Trace::new(alloc);
-    trace.open(Rule::Exec)?;
-    trace.open(Rule::Let)?;
-    let z = evaluated(&rt, alloc, &store, &[], "doc.idx(1)", &mut trace)?;
-    assert!(rt; is_cursor(&z, &[Tagged::ListT(Key::Doc)], &Key::Elem(by_a(3))));
-    assert!(rt; trace.rows() == PAST_A_TOMBSTONE.as_slice());
-    assert_eq!(rt; trace.depth(), 2);
-    let rows = [("doc.idx(2)", 26), ("doc.idx(3)", 26), ("doc.idx(2).get(\"a\")", 26)];
+    let list = Mutation::Assign(Value::EmptyList);
+    change(&rt, alloc, &mut store, &mut count, &[], "doc", list)?;
+    let x = Mutation::Insert(Value::Str(text(alloc, "x")?));
+    change(&rt, alloc, &mut store, &mut count, &[], "doc.idx(0)", x)?;
+    let y = Mutation::Insert(Value::Str(text(alloc, "y")?));
+    change(&rt, alloc, &mut store, &mut count, &[], "doc.idx(1)", y)?;
+    change(
+        &rt,
+        alloc,
+        &mut store,
+        &mut count,
+        &[],
+        "doc.idx(1)",
+        Mutation::Delete,
+    )?;
+    let path = [Tagged::ListT(Key::Doc)];
+    expect_cursor(
+        &rt,
+        alloc,
+        &store,
+        &[],
+        "doc.idx(1)",
+        &path,
+        &Key::Elem(id(3, 0)),
+    );
+    expect_values(
+        &rt,
+        alloc,
+        &store,
+        &[],
+        "doc.idx(1).values",
+        &[(id(3, 0), "y")],
+    );
+    expect_rows(&rt, alloc, &store, "doc.idx(1)", &PAST_A_TOMBSTONE)?;
+    let rows = [
+        ("doc.idx(2)", 26),
+        ("doc.idx(3)", 26),
+        ("doc.idx(2).get(\"a\")", 26),
+    ];
     expect_refused(&rt, alloc, &store, &[], &rows);
     Ok(())
 }
@@ -80,26 +107,30 @@ fn names(rt: HostRuntime) -> Result<(), Fail> {
     let alloc = rt.alloc();
     let mut store = document(alloc);
     let mut count = 0;
-    let exprs = ["doc.get(\"b\")", "doc.get(\"a\")", "doc.get(\"c\")", "doc.get(\"B\")"];
-    for expr in exprs {
-        change(&rt, alloc, &mut store, &mut count, expr, Mutation::Assign(Value::True))?;
+    for expr in [
+        "doc.get(\"b\")",
+        "doc.get(\"a\")",
+        "doc.get(\"c\")",
+        "doc.get(\"B\")",
+    ] {
+        assign(&rt, alloc, &mut store, &mut count, expr, "x")?;
     }
-    change(&rt, alloc, &mut store, &mut count, "doc.get(\"c\")", Mutation::Delete)?;
-    let cursor = Cursor {
-        path: path(alloc, Tagged::MapT(Key::Doc))?,
-        last: Key::Elem(by_a(1)),
-    };
-    let mutation = Mutation::Assign(Value::True);
-    make(&rt, alloc, &mut store, &mut count, 0, IdSet::new(alloc), cursor, mutation);
-    let mut trace = Trace::new(alloc);
-    let keys = evaluated(&rt, alloc, &store, &[], "doc.keys", &mut trace)?;
-    let want = [text(alloc, "B")?, text(alloc, "a")?, text(alloc, "b")?];
-    assert!(rt; is_keys(&keys, &want));
-    let copy = keys.copy()?;
-    assert!(rt; is_keys(&copy, &want));
-    let x = evaluated_with(&rt, alloc, &store, keys, "x")?;
-    assert!(rt; is_keys(&x, &want));
-    assert!(rt; trace.rows() == [(Rule::Keys1, 0), (Rule::Doc, 1), (Rule::Keys2, 1)].as_slice());
+    change(
+        &rt,
+        alloc,
+        &mut store,
+        &mut count,
+        &[],
+        "doc.get(\"c\")",
+        Mutation::Delete,
+    )?;
+    assign_unseen(&rt, alloc, &mut store, &mut count, Key::Elem(id(1, 0)), "x")?;
+    let want = ["B", "a", "b"];
+    expect_keys(&rt, alloc, &store, &[], "doc.keys", &want);
+    expect_rows(&rt, alloc, &store, "doc.keys", &OF_KEYS)?;
+    let vars = bound(&rt, alloc, &store, &[], "x", "doc.keys")?;
+    expect_keys(&rt, alloc, &store, &vars, "x", &want);
+    expect_values(&rt, alloc, &store, &[], "doc.get(\"c\").values", &[]);
     Ok(())
 }
 
@@ -109,38 +140,14 @@ fn values(rt: HostRuntime) -> Result<(), Fail> {
     let alloc = rt.alloc();
     let mut store = document(alloc);
     let mut count = 0;
-    let x = string(alloc, "x")?;
-    change(&rt, alloc, &mut store, &mut count, "doc.get(\"k\")", Mutation::Assign(x))?;
-    let cursor = Cursor {
-        path: path(alloc, Tagged::MapT(Key::Doc))?,
-        last: name(alloc, "k")?,
-    };
-    let y = Mutation::Assign(string(alloc, "y")?);
-    make(&rt, alloc, &mut store, &mut count, 1, IdSet::new(alloc), cursor, y);
-    change(&rt, alloc, &mut store, &mut count, "doc.get(\"j\")", Mutation::Assign(Value::Null))?;
-    let by_b = Id {
-        counter: 2,
-        replica: 1,
-    };
-    let want = [(by_a(1), string(alloc, "x")?), (by_b, string(alloc, "y")?)];
-    let mut trace = Trace::new(alloc);
-    let values = evaluated(&rt, alloc, &store, &[], "doc.get(\"k\").values", &mut trace)?;
-    assert!(rt; is_values(&values, &want));
-    let copy = values.copy()?;
-    assert!(rt; is_values(&copy, &want));
-    let v = evaluated_with(&rt, alloc, &store, values, "x")?;
-    assert!(rt; is_values(&v, &want));
-    assert!(rt;
-        trace.rows()
-            == [
-                (Rule::Val1, 0),
-                (Rule::Get, 1),
-                (Rule::Doc, 2),
-                (Rule::Val3, 1),
-                (Rule::Val2, 2)
-            ]
-            .as_slice()
-    );
+    assign(&rt, alloc, &mut store, &mut count, "doc.get(\"k\")", "x")?;
+    assign_unseen(&rt, alloc, &mut store, &mut count, name(alloc, "k")?, "y")?;
+    assign(&rt, alloc, &mut store, &mut count, "doc.get(\"j\")", "z")?;
+    let want = [(id(1, 0), "x"), (id(2, 1), "y")];
+    expect_values(&rt, alloc, &store, &[], "doc.get(\"k\").values", &want);
+    expect_rows(&rt, alloc, &store, "doc.get(\"k\").values", &OF_VALUES)?;
+    let vars = bound(&rt, alloc, &store, &[], "x", "doc.get(\"k\").values")?;
+    expect_values(&rt, alloc, &store, &vars, "x", &want);
     Ok(())
 }
 
@@ -150,12 +157,18 @@ fn cleared_register(rt: HostRuntime) -> Result<(), Fail> {
     let alloc = rt.alloc();
     let mut store = document(alloc);
     let mut count = 0;
-    change(&rt, alloc, &mut store, &mut count, "doc.get(\"k\")", Mutation::Assign(Value::True))?;
-    change(&rt, alloc, &mut store, &mut count, "doc.get(\"k\")", Mutation::Assign(Value::EmptyMap))?;
-    let mut trace = Trace::new(alloc);
-    let values = evaluated(&rt, alloc, &store, &[], "doc.get(\"k\").values", &mut trace)?;
-    assert!(rt; is_values(&values, &[]));
-    let keys = evaluated(&rt, alloc, &store, &[], "doc.get(\"k\").keys", &mut trace)?;
-    assert!(rt; is_keys(&keys, &[]));
+    assign(&rt, alloc, &mut store, &mut count, "doc.get(\"k\")", "x")?;
+    let map = Mutation::Assign(Value::EmptyMap);
+    change(
+        &rt,
+        alloc,
+        &mut store,
+        &mut count,
+        &[],
+        "doc.get(\"k\")",
+        map,
+    )?;
+    expect_values(&rt, alloc, &store, &[], "doc.get(\"k\").values", &[]);
+    expect_keys(&rt, alloc, &store, &[], "doc.get(\"k\").keys", &[]);
     Ok(())
 }

@@ -1,13 +1,11 @@
 //! Refused expressions: the first condition that fails, where a later one fails too.
 
-ghost use Rattle.std.specs.Prelude.{IfOk};
 ghost use Rattle.jc_rules.specs.Shape.{IsChained};
-ghost use Rattle.jc_cursor_tests.specs.Ready.{IsReady};
 
-use crate::documents::{all_to, change, document, evaluated, evaluated_with, make, name, text};
-use crate::expecting::{expect_missing, expect_refused, is_keys, is_values};
+use crate::documents::{assign, bound, change, document, name};
+use crate::expecting::{expect_keys, expect_missing, expect_refused, expect_values};
 use jc_cursor::{Bound, EvalFault};
-use jc_rules::{Id, Key, Mutation, Tagged, Trace, Value};
+use jc_rules::{Key, Mutation, Tagged, Text, Value};
 use jc_tree::TreeStore;
 use std::alloc::Global;
 use std::process::Abort;
@@ -50,8 +48,7 @@ fn second_key_is_not_there(rt: HostRuntime) -> Result<(), Fail> {
     let alloc = rt.alloc();
     let mut store = document(alloc);
     let mut count = 0;
-    let one = Value::Number(text(alloc, "1")?);
-    change(&rt, alloc, &mut store, &mut count, "doc.get(\"m\")", Mutation::Assign(one))?;
+    assign(&rt, alloc, &mut store, &mut count, "doc.get(\"m\")", "x")?;
     let list = Tagged::ListT(name(alloc, "l")?);
     expect_missing(&rt, alloc, &store, &["doc.get(\"l\").idx(0)"], &list);
     let below = [
@@ -70,9 +67,27 @@ fn another_kind_is_there(rt: HostRuntime) -> Result<(), Fail> {
     let alloc = rt.alloc();
     let mut store = document(alloc);
     let mut count = 0;
-    change(&rt, alloc, &mut store, &mut count, "doc.get(\"l\")", Mutation::Assign(Value::EmptyList))?;
-    change(&rt, alloc, &mut store, &mut count, "doc.get(\"m\")", Mutation::Assign(Value::EmptyMap))?;
-    change(&rt, alloc, &mut store, &mut count, "doc.get(\"r\")", Mutation::Assign(Value::True))?;
+    let list = Mutation::Assign(Value::EmptyList);
+    change(
+        &rt,
+        alloc,
+        &mut store,
+        &mut count,
+        &[],
+        "doc.get(\"l\")",
+        list,
+    )?;
+    let map = Mutation::Assign(Value::EmptyMap);
+    change(
+        &rt,
+        alloc,
+        &mut store,
+        &mut count,
+        &[],
+        "doc.get(\"m\")",
+        map,
+    )?;
+    assign(&rt, alloc, &mut store, &mut count, "doc.get(\"r\")", "x")?;
     let rows = [
         ("doc.get(\"l\").keys", 27),
         ("doc.get(\"l\").values", 28),
@@ -86,7 +101,13 @@ fn another_kind_is_there(rt: HostRuntime) -> Result<(), Fail> {
     ];
     expect_refused(&rt, alloc, &store, &[], &rows);
     let map = Tagged::MapT(name(alloc, "l")?);
-    expect_missing(&rt, alloc, &store, &["doc.get(\"l\").get(\"a\").keys"], &map);
+    expect_missing(
+        &rt,
+        alloc,
+        &store,
+        &["doc.get(\"l\").get(\"a\").keys"],
+        &map,
+    );
     let list = Tagged::ListT(name(alloc, "m")?);
     expect_missing(&rt, alloc, &store, &["doc.get(\"m\").idx(0)"], &list);
     Ok(())
@@ -98,10 +119,8 @@ fn keys_as_a_cursor(rt: HostRuntime) -> Result<(), Fail> {
     let alloc = rt.alloc();
     let mut store = document(alloc);
     let mut count = 0;
-    change(&rt, alloc, &mut store, &mut count, "doc.get(\"a\")", Mutation::Assign(Value::True))?;
-    let mut trace = Trace::new(alloc);
-    let keys = evaluated(&rt, alloc, &store, &[], "doc.keys", &mut trace)?;
-    let vars = [(text(alloc, "s")?, keys)];
+    assign(&rt, alloc, &mut store, &mut count, "doc.get(\"a\")", "x")?;
+    let vars = bound(&rt, alloc, &store, &[], "s", "doc.keys")?;
     let rows = [
         ("s.get(\"a\")", 24),
         ("s.idx(0)", 24),
@@ -119,7 +138,8 @@ fn head_of_a_list(rt: HostRuntime) -> Result<(), Fail> {
     let alloc = rt.alloc();
     let mut store = document(alloc);
     let mut count = 0;
-    change(&rt, alloc, &mut store, &mut count, "doc", Mutation::Assign(Value::EmptyList))?;
+    let list = Mutation::Assign(Value::EmptyList);
+    change(&rt, alloc, &mut store, &mut count, &[], "doc", list)?;
     let rows = [
         ("doc.idx(0).get(\"a\")", 23),
         ("doc.idx(1)", 26),
@@ -128,66 +148,50 @@ fn head_of_a_list(rt: HostRuntime) -> Result<(), Fail> {
         ("doc.idx(0).values", 28),
     ];
     expect_refused(&rt, alloc, &store, &[], &rows);
-    expect_missing(&rt, alloc, &store, &["doc.idx(0).idx(0)"], &Tagged::ListT(Key::Head));
+    expect_missing(
+        &rt,
+        alloc,
+        &store,
+        &["doc.idx(0).idx(0)"],
+        &Tagged::ListT(Key::Head),
+    );
     Ok(())
 }
 
-/// The cursor after so many times `x.get("a")`, from the document on.
+/// `x`, bound to the cursor after so many times `x.get("a")`, from the document on.
 fn deep<S: TreeStore>(
     rt: &impl Abort,
     alloc: Global,
     store: &S,
     count: usize,
-) -> Result<Bound, EvalFault>
+) -> Result<[(Text, Bound); 1], EvalFault>
     requires { IsChained (S.tree store.now).now }
 {
-    let mut trace = Trace::new(alloc);
-    let mut x = evaluated(rt, alloc, store, &[], "doc", &mut trace)?;
+    let mut vars = bound(rt, alloc, store, &[], "x", "doc")?;
     for _ in 0..count {
-        x = evaluated_with(rt, alloc, store, x, "x.get(\"a\")")?;
+        vars = bound(rt, alloc, store, &vars, "x", "x.get(\"a\")")?;
     }
-    Ok(x)
+    Ok(vars)
 }
 
-/// Assigns the value to what `x` is.
-fn assign<S: TreeStore>(
-    rt: &impl Abort,
-    alloc: Global,
-    store: &mut S,
-    count: &mut u64,
-    x: Bound,
-    value: Value,
-) -> Result<(), EvalFault>
-    requires { IsReady count.old (S.tree store.old).now }
-    ensures { IsReady count.new (S.tree store.new).now }
-{
-    let Bound::Cursor(cursor) = x else {
-        return Err(EvalFault::NotACursor);
-    };
-    let deps = all_to(alloc, *count)?;
-    make(rt, alloc, store, count, 0, deps, cursor, Mutation::Assign(value));
-    Ok(())
-}
-
-/// A path of 512 keys is no longer added to; names and values below it are given.
+/// Nothing is added to a path of 512 keys. The names and values below it are given.
 #[test]
 fn too_deep(rt: HostRuntime) -> Result<(), Fail> {
     let alloc = rt.alloc();
     let mut store = document(alloc);
     let mut count = 0;
-    let x = deep(&rt, alloc, &store, 512)?;
-    assign(&rt, alloc, &mut store, &mut count, x.copy()?, Value::True)?;
-    let values = evaluated_with(&rt, alloc, &store, x.copy()?, "x.values")?;
-    let id = Id {
-        counter: 1,
-        replica: 0,
-    };
-    assert!(rt; is_values(&values, &[(id, Value::True)]));
-    assign(&rt, alloc, &mut store, &mut count, x.copy()?, Value::EmptyMap)?;
-    let keys = evaluated_with(&rt, alloc, &store, x.copy()?, "x.keys")?;
-    assert!(rt; is_keys(&keys, &[]));
-    let vars = [(text(alloc, "x")?, x)];
-    let rows = [("x.get(\"a\")", 29), ("x.idx(0)", 29), ("x.idx(0).keys", 29)];
+    let vars = deep(&rt, alloc, &store, 512)?;
+    let null = Mutation::Assign(Value::Null);
+    change(&rt, alloc, &mut store, &mut count, &vars, "x", null)?;
+    let map = Mutation::Assign(Value::EmptyMap);
+    change(&rt, alloc, &mut store, &mut count, &vars, "x", map)?;
+    expect_values(&rt, alloc, &store, &vars, "x.values", &[]);
+    expect_keys(&rt, alloc, &store, &vars, "x.keys", &[]);
+    let rows = [
+        ("x.get(\"a\")", 29),
+        ("x.idx(0)", 29),
+        ("x.idx(0).keys", 29),
+    ];
     expect_refused(&rt, alloc, &store, &vars, &rows);
     Ok(())
 }
@@ -198,11 +202,15 @@ fn head_before_depth(rt: HostRuntime) -> Result<(), Fail> {
     let alloc = rt.alloc();
     let mut store = document(alloc);
     let mut count = 0;
-    let x = deep(&rt, alloc, &store, 511)?;
-    assign(&rt, alloc, &mut store, &mut count, x.copy()?, Value::EmptyList)?;
-    let head = evaluated_with(&rt, alloc, &store, x, "x.idx(0)")?;
-    let vars = [(text(alloc, "h")?, head)];
-    let rows = [("h.get(\"a\")", 23), ("h.idx(0)", 29), ("h.keys", 27)];
+    let vars = deep(&rt, alloc, &store, 511)?;
+    let list = Mutation::Assign(Value::EmptyList);
+    change(&rt, alloc, &mut store, &mut count, &vars, "x", list)?;
+    let rows = [
+        ("x.idx(0).get(\"a\")", 23),
+        ("x.idx(0).idx(0)", 29),
+        ("x.idx(0).keys", 27),
+        ("x.get(\"a\").get(\"a\")", 29),
+    ];
     expect_refused(&rt, alloc, &store, &vars, &rows);
     Ok(())
 }
