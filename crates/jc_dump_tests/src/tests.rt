@@ -1,14 +1,13 @@
 //! Dumps of small trees that are made by hand, with their published texts.
 
 ghost use Rattle.std.specs.Prelude.{◌≡◌, IfOk};
-ghost use Rattle.std.specs.Bool.{OnTrue};
 ghost use Rattle.jc_rules.specs.Context.{IsPrimitive};
+ghost use Rattle.jc_rules.specs.Ids.{AreRising};
 ghost use Rattle.jc_rules.specs.Shape.{IsKeptRegister};
-ghost use Rattle.jc_tree.specs.Tree.{HasPlace};
 
 use jc_dump::dump::{Shown, dump_line_of, id_text, key_text, tagged_text, tree_value};
-use jc_rules::{Id, IdSet, Key, Next, Tagged, Text, Value};
-use jc_tree::{PlainTree, TreeStore};
+use jc_rules::{Id, Key, Next, Tagged, Text, Value, insert_id};
+use jc_tree::{PlainTree, TreeStore, is_place};
 use std::alloc::{AllocError, Global};
 use std::process::Abort;
 use std::test::Fail;
@@ -78,12 +77,15 @@ fn key_of(alloc: Global, at: &At) -> Result<Key, AllocError> {
     }
 }
 
-fn set_of(alloc: Global, ids: &[Id]) -> Result<IdSet, AllocError> {
-    let mut set = IdSet::new(alloc);
+/// The identifiers in their order.
+fn rising(alloc: Global, ids: &[Id]) -> Result<Vec<Id>, AllocError>
+    ensures { IfOk result (λ list. AreRising list.items) }
+{
+    let mut list = Vec::new(alloc);
     for id in ids {
-        set.insert(*id)?;
+        insert_id(&mut list, *id)?;
     }
-    Ok(set)
+    Ok(list)
 }
 
 fn one(alloc: Global, id: Id, value: Value) -> Result<Vec<(Id, Value)>, AllocError>
@@ -131,22 +133,6 @@ fn is_text(rt: &impl Abort, got: &str, want: &str) {
     assert!(rt; got == want, "{got}");
 }
 
-/// Whether the path leads to a context.
-fn is_place<S: TreeStore>(store: &S, at: &[Tagged]) -> bool
-    ensures { OnTrue result (HasPlace at.now (S.tree store.now)) }
-{
-    for i in 0..at.len() {
-        let key = &at[i];
-        if let Tagged::RegT(_) = key {
-            return false;
-        }
-        if !store.has(&at[..i], key) {
-            return false;
-        }
-    }
-    true
-}
-
 /// A tree that is made by hand, and the place where it grows.
 #[derive(Drop)]
 struct Grown {
@@ -181,19 +167,13 @@ impl Grown {
         ids: &[Id],
     ) -> Result<(), AllocError> {
         let key = key_of(alloc, key)?;
-        let set = set_of(alloc, ids)?;
+        let ids = rising(alloc, ids)?;
         let at = self.at.as_slice();
         assert!(rt; is_place(&self.store, at));
-        self.store.set_presence(at, &key, set.as_slice())
+        self.store.set_presence(at, &key, ids.as_slice())
     }
 
-    fn link(
-        &mut self,
-        rt: &impl Abort,
-        alloc: Global,
-        key: &At,
-        next: Next,
-    ) -> Result<(), AllocError> {
+    fn link(&mut self, rt: &impl Abort, alloc: Global, key: &At, next: Next) -> Result<(), AllocError> {
         let key = key_of(alloc, key)?;
         let at = self.at.as_slice();
         assert!(rt; is_place(&self.store, at));
