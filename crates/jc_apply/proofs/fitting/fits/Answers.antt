@@ -1,4 +1,4 @@
-use Rattle.std.proofs.Common.{true, false, refl, ◌∙◌}
+use Rattle.std.proofs.Common.{true, refl, ◌∙◌}
 use Rattle.jc_apply.proofs.Reaching.{key_on, walked_there, walked_new, insert_there, insert_new, other_fits}
 use Rattle.jc_apply.proofs.Unanswered.{told}
 use Rattle.jc_apply.proofs.fitting.fits.Goals as goal
