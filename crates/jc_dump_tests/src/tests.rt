@@ -173,7 +173,13 @@ impl Grown {
         self.store.set_presence(at, &key, ids.as_slice())
     }
 
-    fn link(&mut self, rt: &impl Abort, alloc: Global, key: &At, next: Next) -> Result<(), AllocError> {
+    fn link(
+        &mut self,
+        rt: &impl Abort,
+        alloc: Global,
+        key: &At,
+        next: Next,
+    ) -> Result<(), AllocError> {
         let key = key_of(alloc, key)?;
         let at = self.at.as_slice();
         assert!(rt; is_place(&self.store, at));
@@ -207,8 +213,7 @@ impl Grown {
     /// Makes a child, and goes down to it.
     fn enter(&mut self, rt: &impl Abort, key: Tagged) -> Result<(), AllocError> {
         self.make(rt, &key)?;
-        self.at.push(key)?;
-        Ok(())
+        Ok(self.at.push(key)?)
     }
 
     /// Whether the dump of the tree alone is this text.
@@ -216,8 +221,7 @@ impl Grown {
         let mut at = Vec::new(alloc);
         assert!(rt; is_place(&self.store, at.as_slice()));
         let names = names(alloc)?;
-        let value = tree_value(alloc, &names, &self.store, &mut at)?;
-        let line = value.to_string(alloc)?;
+        let line = tree_value(alloc, &names, &self.store, &mut at)?.to_string(alloc)?;
         is_text(rt, line.as_str(), want);
         Ok(())
     }
@@ -312,8 +316,7 @@ const NEW: &str =
 #[test]
 fn new_replica(rt: HostRuntime) -> Result<(), Fail> {
     let grown = Grown::new(rt.alloc());
-    grown.is_line(&rt, rt.alloc(), &[], NEW)?;
-    Ok(())
+    Ok(grown.is_line(&rt, rt.alloc(), &[], NEW)?)
 }
 
 /// A number at the name `a`.
@@ -330,8 +333,7 @@ const ASSIGNED: &str =
 #[test]
 fn one_assignment(rt: HostRuntime) -> Result<(), Fail> {
     let grown = grow(&rt, rt.alloc(), ASSIGNMENT)?;
-    grown.is_line(&rt, rt.alloc(), &[ONE_A], ASSIGNED)?;
-    Ok(())
+    Ok(grown.is_line(&rt, rt.alloc(), &[ONE_A], ASSIGNED)?)
 }
 
 /// A list of two elements at the name `l`.
