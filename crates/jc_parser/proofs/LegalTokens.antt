@@ -1,5 +1,5 @@
 -- The symbols of a UTF-8 text's tokens are legal.
-use Rattle.std.proofs.Common.{◌≡◌, ℕ, zero, suc, ◌+◌, ◌-◌, ◌<◌, ◌≤◌, List, [], ◌∷◌, length, slice_index, get_or, take, drop, true, Some, inl, inr, refl, sym, ap, ◌∙◌, arith, get_or-drop}
+use Rattle.std.proofs.Common.{◌≡◌, ℕ, ◌+◌, ◌-◌, ◌<◌, ◌≤◌, List, [], ◌∷◌, length, slice_index, get_or, take, drop, true, Some, inl, inr, refl, ap, ◌∙◌, arith, get_or-drop}
 use Rattle.std.specs.List.{All, AllByRecursion, AllPass, prefix_len, slice_range}
 use Rattle.std.specs.Str.{IsUtf8}
 use Rattle.std.proofs.lemmas.Bool.{cases_lt}
@@ -14,7 +14,7 @@ use Rattle.jc_syntax.specs.declared.token.TokenKind.TheVariants.{Name, Number, S
 use Rattle.jc_syntax.specs.Bytes.{is_name_start, is_name_byte}
 use Rattle.jc_syntax.specs.Lexemes.{kind_of, after_name, AreTokens, IsTokenOf, IsStringToken, content_of}
 use Rattle.jc_parser.specs.Legal.{IsName, IsNumeric, IsContent}
-use Rattle.jc_parser.specs.Symbols.{Symbol, word, number, string, symbol_of, Lexeme, lexeme, lexemes, symbols}
+use Rattle.jc_parser.specs.Symbols.{Symbol, word, number, string, symbol_of, lexemes, symbols}
 
 -- what the lexer's law says of strings
 abbrev pub LegalStrings : Type 0

@@ -1,5 +1,5 @@
 -- What is written with legal symbols is legal.
-use Rattle.std.proofs.Common.{◌≡◌, ℕ, ◌+◌, List, [], ◌∷◌, ◌++◌, inl, inr, refl, sym, subst}
+use Rattle.std.proofs.Common.{◌≡◌, ℕ, ◌+◌, List, [], ◌∷◌, ◌++◌, inl, inr, sym, subst}
 use Rattle.std.specs.List.{All, AllByRecursion, slice_range}
 use Rattle.std.specs.Str.{IsUtf8}
 use Rattle.std.proofs.lemmas.List.Elements.{All-nil, All-cons, All-take, All-drop}
@@ -7,10 +7,8 @@ use Rattle.jc_rules.specs.declared.value.Value.{Value}
 use Rattle.jc_rules.specs.declared.value.Value.TheVariants as values
 use Rattle.jc_rules.specs.Syntax.{Expr, TheDoc, Variable, GetKey, Index, KeysOf, ValuesOf, Cmd, LetIn, SetTo, InsertAfter, DeleteAt, Yield}
 use Rattle.jc_syntax.specs.declared.token.Token.{Token}
-use Rattle.jc_syntax.specs.declared.tree.NamedEvent.{NamedEvent}
 use Rattle.jc_syntax.specs.Lexemes.{AreTokensOf, IsTokenOf}
-use Rattle.jc_parser.specs.Symbols.{Symbol, dot, open_paren, close_paren, close_brace, assign, equals, word, semicolon, lexemes, symbols}
-use Rattle.jc_parser.specs.Grammar.{IsListText}
+use Rattle.jc_parser.specs.Symbols.{Symbol, dot, open_paren, close_paren, close_brace, assign, word, semicolon, lexemes, symbols}
 use Rattle.jc_parser.specs.Language.{IsSpelled}
 use Rattle.jc_parser.specs.Scripts.{IsValueSpelled, IsCommandSpelled, IsScriptSpelled}
 use Rattle.jc_parser.specs.Calls.{Call, executes, sends, receives, applies, ends, call_of, IsCallSpelled}

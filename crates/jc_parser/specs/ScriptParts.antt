@@ -1,5 +1,5 @@
 -- The parts of a script of the whole language, read from left to right.
-use Rattle.std.specs.Prelude.{ℕ, List, Bool, true, false, ◌&&◌, not, if◌then◌else◌, codes, Result, Ok, Err}
+use Rattle.std.specs.Prelude.{ℕ, List, Bool, true, false, ◌&&◌, not, if◌then◌else◌, codes, Result, Ok}
 use Rattle.jc_syntax.specs.declared.token.TokenKind.{TokenKind}
 use Rattle.jc_syntax.specs.declared.token.TokenKind.TheVariants.{Name, ParenL, ParenR, BraceL, BraceR, BracketL, BracketR, Assign, Equals}
 use Rattle.jc_rules.specs.declared.value.Value.{Value}
