@@ -1,5 +1,5 @@
 -- What was written before a failure.
-use Rattle.std.proofs.Common.{◌≡◌, ◌≢◌, ℕ, ◌+◌, ◌<◌, ◌≤◌, ◌⊎◌, inl, inr, List, [], ◌∷◌, ◌++◌, length, take, drop, get_or, Option, Some, None, Result, Ok, Err, All, OnOk, OnErr, refl, ap, sym, ◌∙◌, subst, append_assoc, append-nil, lt_of_not-le, arith}
+use Rattle.std.proofs.Common.{◌≡◌, ◌≢◌, ℕ, ◌+◌, ◌<◌, ◌≤◌, inl, inr, List, [], ◌∷◌, ◌++◌, length, take, drop, get_or, Option, Some, None, Result, Ok, Err, All, OnOk, OnErr, refl, ap, sym, ◌∙◌, subst, append_assoc, append-nil, lt_of_not-le, arith}
 use Rattle.std.proofs.lemmas.List.{take-append-le, take-append-drop, take_all}
 use Rattle.std.proofs.Math.Seq.{take-append-add, take-append_seam, take-length}
 use Rattle.std.specs.Io.KnownBytes.{Appends, Consumes}
@@ -7,19 +7,15 @@ use native.Mathlib.Decide.{dec_le}
 use mathlib.Core.Logic.{dite}
 use Rattle.jc_rules.specs.declared.operation.Event.{Event}
 use Rattle.jc_rules.specs.declared.operation.Event.TheVariants.{Exec}
-use Rattle.jc_rules.specs.declared.rule.Rule.{Rule}
 use Rattle.jc_rules.specs.State.{State, start}
 use Rattle.jc_rules.specs.Step.{Step}
 use Rattle.jc_rules.specs.Told.{AppendsFront, LosesUpTo, IsFront}
-use Rattle.jc_app.specs.Texts.{block_text}
 use Rattle.jc_app.specs.Runs.{Made, GoesBy, Plays, Stuck, at_script_end, events_of, blocks_text}
-use Rattle.jc_rules.specs.Refused.{because}
-use Rattle.jc_rules.specs.declared.refusal.Refusal.TheVariants.{NoCommand}
 use Rattle.jc_dump.specs.Dump.{dump_line}
 use Rattle.jc_parser.specs.declared.fault.ScenarioFault.{ScenarioFault}
 use Rattle.jc_parser.specs.declared.fault.ScenarioFault.TheVariants.{Memory as NoMemoryRead}
-use Rattle.jc_app.specs.Ran.{Scenario, ReadsAs, RanThrough, RanOn, Ran}
-use Rattle.jc_app.specs.Due.{AppendsUpTo, AppendsFrontOf, IsNext, Begins, IsDueOf, IsDueAt, IsDue, AreTold, HasBegun}
+use Rattle.jc_app.specs.Ran.{Scenario, ReadsAs, RanThrough, Ran}
+use Rattle.jc_app.specs.Due.{AppendsUpTo, AppendsFrontOf, IsNext, Begins, IsDueAt, IsDue, AreTold, HasBegun}
 use Rattle.jc_app.proofs.Playing.{goes_on, events_of-append, split_here, shown_more, ran_to_end, ran_to_stuck}
 use Rattle.jc_app.proofs.Reading.{reads_whole, ran_whole, has_number}
 

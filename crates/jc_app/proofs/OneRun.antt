@@ -2,18 +2,16 @@
 use Rattle.std.proofs.Common.{◌≡◌, ℕ, List, [], ◌∷◌, ◌++◌, Option, Some, None, Result, Ok, Err, refl, sym, ◌∙◌, ap, subst}
 use Rattle.std.proofs.lemmas.Option.{same_Some}
 use Rattle.jc_rules.specs.declared.operation.Event.{Event}
-use Rattle.jc_rules.specs.declared.rule.Rule.{Rule}
 use Rattle.jc_rules.specs.State.{State, start}
-use Rattle.jc_rules.specs.Refused.{Cause, IsStuck}
+use Rattle.jc_rules.specs.Refused.{IsStuck}
 use Rattle.jc_rules.specs.Refusals.{number_of as refusal_number}
 use Rattle.jc_rules.specs.Step.{Step}
 use Rattle.jc_rules.specs.Laws.{OneStep, StuckHasNone, OneStuck, NumbersDiffer}
 use Rattle.jc_parser.specs.declared.fault.ScenarioFault.{ScenarioFault}
-use Rattle.jc_parser.specs.Faults.{number_of, place_of}
 use Rattle.jc_parser.specs.Laws.{OneScenario, ScenarioOrFault, OneFault}
 use Rattle.jc_dump.specs.Dump.{dump_line}
 use Rattle.jc_app.specs.Texts.{refused_text}
-use Rattle.jc_app.specs.Runs.{Made, GoesBy, Plays, EndsAt, Stuck, events_of, blocks_text, stuck_line, status_of}
+use Rattle.jc_app.specs.Runs.{Made, GoesBy, EndsAt, Stuck, events_of, blocks_text, stuck_line, status_of}
 use Rattle.jc_app.specs.Ran.{Scenario, ReadsAs, RanThrough, IsRefused, RanOn}
 
 first_same : {X : Type 0} (x y : X) (xs ys : List X) → x ∷ xs ≡ y ∷ ys → x ≡ y

@@ -1,6 +1,6 @@
 //! The program's work, from bytes to printed lines.
 
-ghost use Rattle.std.specs.Prelude.{◌≡◌, ◌≢◌, ◌<◌, ◌⊎◌, ℕ, List, [], ◌∷◌, length, map, codes, string_bytes, Some, None, IfOk, OnOk, OnErr, IsErrOf, IfSome};
+ghost use Rattle.std.specs.Prelude.{◌≡◌, ◌≢◌, ◌<◌, ◌⊎◌, ℕ, List, [], ◌∷◌, length, map, codes, string_bytes, Some, None, IfOk, OnOk, OnErr, IsErrOf};
 ghost use Rattle.std.specs.Io.KnownBytes.{Appends};
 ghost use Rattle.jc_syntax.specs.Trees.{cmd_of};
 ghost use Rattle.jc_rules.specs.Told.{LosesUpTo};

@@ -1,5 +1,4 @@
 use Rattle.std.proofs.Common.{ℕ, List, refl, subst, arith}
-use Rattle.std.specs.Io.KnownBytes.{Appends}
 use Rattle.jc_app.specs.Ran.{Ran}
 use Rattle.jc_app.specs.Due.{AppendsFrontOf, IsDue}
 use Rattle.jc_app.proofs.Begun.{loses_read, run_on_front, begun_on_front, begun_nothing}

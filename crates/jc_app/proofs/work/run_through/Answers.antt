@@ -1,4 +1,4 @@
-use Rattle.std.proofs.Common.{ℕ, List, [], ◌∷◌, ◌++◌, map, inl, inr, sym, ◌∙◌, subst}
+use Rattle.std.proofs.Common.{ℕ, List, [], ◌∷◌, ◌++◌, map, inl, inr, ◌∙◌, subst}
 use Rattle.std.specs.Io.KnownBytes.{Appends}
 use Rattle.std.proofs.KnownBytes.{Appends-trans}
 use Rattle.jc_rules.specs.declared.operation.Event.TheVariants.{Exec}
@@ -8,7 +8,7 @@ use Rattle.jc_rules.specs.Refused.{because}
 use Rattle.jc_app.specs.Texts.{stuck_text}
 use Rattle.jc_dump.specs.Dump.{dump_line}
 use Rattle.jc_app.specs.Ran.{Scenario}
-use Rattle.jc_app.specs.Due.{AppendsUpTo, Begins}
+use Rattle.jc_app.specs.Due.{AppendsUpTo}
 use Rattle.jc_app.proofs.Reading.{reads_commands, reads_events}
 use Rattle.jc_app.proofs.Playing.{ran_to_end, ran_to_stuck}
 use Rattle.jc_app.proofs.Begun.{if_refused, up_to_all, up_to_longer, then_up_to, plays_begins, begins_from, ran_so_far}
