@@ -11,7 +11,9 @@ use Rattle.jc_rules.specs.Trace.{Rows}
 use Rattle.jc_sets.specs.Knows.{KnowsOnly}
 use Rattle.jc_sets.specs.Members.{ids_of, with_deps}
 
--- In each sound set of operations that has the operation's identifier and all identifiers of the document, the operation with the closed set for which its counters stand is applied by the same rules to the same document, which then has no others.
+-- In each sound set of operations that has the operation's identifier and all identifiers of the document, the
+-- operation with the closed set for which its counters stand is applied by the same rules to the same document,
+-- which then has no others.
 abbrev pub AppliesFor : Op → Context → Context → Rows → Rows → Type 0
 AppliesFor o c d t u =
     (set : List Op) (deps : List Id) (e : Op)

@@ -24,8 +24,10 @@ pub record Clears (q : Context → Question) (at : List Tagged) (a b : Tree) (id
   pub same : bare after ≡ bare (here at a)
   pub rises : AreRising ids
 
--- In each sound set of operations that has all identifiers of the document, the closed set for which the counters stand clears as they do, and the document then has no others.
-abbrev pub ClearsFor : (List Id → Context → Question) → List Id → List Tagged → Tree → Tree → List Id → Rows → Rows → Type 0
+-- In each sound set of operations that has all identifiers of the document, the closed set for which the counters
+-- stand clears as they do, and the document then has no others.
+abbrev pub ClearsFor :
+    (List Id → Context → Question) → List Id → List Tagged → Tree → Tree → List Id → Rows → Rows → Type 0
 ClearsFor q counters at a b ids t u =
     (set : List Op) (deps : List Id)
     → StandsFor set deps counters → KnowsOnly (ids_of set) a.now

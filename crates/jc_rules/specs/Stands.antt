@@ -13,7 +13,8 @@ pub record IsClosed (set : List Op) (s : List Id) : Type 0 where
   pub known : (i : Id) → has_id i s ≡ true → (o : Op) × (op_of i set ≡ Some o)
   pub closed : (i : Id) (o : Op) → has_id i s ≡ true → op_of i set ≡ Some o → AreIn o.deps s
 
--- In the sound set of operations the greatest counters, seen as all that is at or below them, stand for the closed set s.
+-- In the sound set of operations the greatest counters, seen as all that is at or below them, stand for the closed
+-- set s.
 pub record StandsFor (set : List Op) (s : List Id) (counters : List Id) : Type 0 where
   pub sound : IsSound set
   pub closed : IsClosed set s

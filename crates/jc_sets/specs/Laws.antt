@@ -16,14 +16,16 @@ use Rattle.jc_rules.specs.Trace.{Rows}
 use Rattle.jc_sets.specs.Knows.{Agree, KnowsOnly}
 use Rattle.jc_sets.specs.Members.{ids_of, within, with_deps}
 
--- In a closed set of a sound set of operations, an identifier of an operation is there exactly where it is at or below the greatest counter of its replica.
+-- In a closed set of a sound set of operations, an identifier of an operation is there exactly where it is at or
+-- below the greatest counter of its replica.
 abbrev pub CountersTell : Type 0
 CountersTell =
     (set : List Op) (s : List Id) → IsSound set → IsClosed set s
     → (i : Id) (o : Op) → op_of i set ≡ Some o
     → (has_id i s ≡ true) ↔ (i.counter ≤ greatest_of i.replica s)
 
--- What a closed set's greatest counters stand for can be computed: the identifiers of the set of operations at or below them.
+-- What a closed set's greatest counters stand for can be computed: the identifiers of the set of operations at or
+-- below them.
 abbrev pub WithinIs : Type 0
 WithinIs = (set : List Op) (s : List Id) → IsSound set → IsClosed set s → within set (filled s) ≡ s
 
@@ -33,7 +35,8 @@ InsertedWithdrawn =
     (i : Id) (s t : List Id) → t ≡ filled s → greatest_of i.replica t ≤ i.counter
     → lowered i.replica (greatest_of i.replica t) (union (counted i.replica i.counter) t) ≡ t
 
--- Dependencies that agree on all that a document knows give the same derivations: the same document and the same trace.
+-- Dependencies that agree on all that a document knows give the same derivations: the same document and the same
+-- trace.
 abbrev pub OperateAlike : Type 0
 OperateAlike =
     (ids deps : List Id) (c d : Context) (o : Op) (t u : Rows)
@@ -55,7 +58,8 @@ ClearElemAlike =
     → Derives (ClearElem c deps k) (Cleared d s) t u
     → Derives (ClearElem c others k) (Cleared d s) t u × KnowsOnly ids d
 
--- A document that knows only operations of the sound set: what is derived for the operation as it is kept is derived, by the same rules, for the one with the dependencies that it stands for.
+-- A document that knows only operations of the sound set: what is derived for the operation as it is kept is
+-- derived, by the same rules, for the one with the dependencies that it stands for.
 abbrev pub OperateStands : Type 0
 OperateStands =
     (set : List Op) (deps : List Id) (c d : Context) (o e : Op) (t u : Rows)

@@ -41,7 +41,8 @@ NewIsUnknown =
     → StateStandsFor set A kept → op_of i set ≡ None
     → IsUnknown i A × ((e : Op) → Contains set e → has_id i e.deps ≡ false)
 
--- What applying a received operation asks of a kept state and does to it, the rule asks of what it stands for and does to that.
+-- What applying a received operation asks of a kept state and does to it, the rule asks of what it stands for and
+-- does to that.
 abbrev pub ApplyStands : Type 0
 ApplyStands =
     (set : List Op) (A kept : State) (i : Id) (k : Op) (t : Context) (r u : Rows)
@@ -55,7 +56,8 @@ ApplyStands =
     × Derives (Operate A.tree o) (ToContext t) r u
     × StateStandsFor set (taken i t A) (taken_kept i t kept)
 
--- The same of an operation that the replica p makes, which has applied all of the set that is its own: its identifier is new, and the set with it is sound.
+-- The same of an operation that the replica p makes, which has applied all of the set that is its own: its
+-- identifier is new, and the set with it is sound.
 abbrev pub MakeStands : Type 0
 MakeStands =
     (set : List Op) (A kept : State) (p : ℕ) (cur : Cursor) (m : Mutation) (t : Context) (r u : Rows)
@@ -75,7 +77,8 @@ UnionStands =
     (set os ps : List Op) → AreOf set os → AreOf set ps
     → (both (map kept_op os) (map kept_op ps) ≡ map kept_op (both os ps)) × AreOf set (both os ps)
 
--- That a replica has applied all of the set that is its own is left so by each event of the table, by an operation that comes into the set and is another one's or applied, and by one that leaves the set.
+-- That a replica has applied all of the set that is its own is left so by each event of the table, by an operation
+-- that comes into the set and is another one's or applied, and by one that leaves the set.
 pub record OwnAreApplied : Type 0 where
   pub by_events : (set os : List Op) (p : ℕ) (A B : State) (event : Event) (t u : Rows)
       → HasOwn set p A → Derives (Occur A event os) (ToState B) t u → HasOwn set p B

@@ -57,7 +57,8 @@ pub record IsUnknown (i : Id) (A : State) : Type 0 where
 
 -- the operation that the replica p makes next where these identifiers are applied
 abbrev pub new_op : ℕ → List Id → Cursor → Mutation → Op
-new_op p ops cur m = record { id = record { counter = greatest ops + 1; replica = p }; deps = ops; cursor = cur; mutation = m }
+new_op p ops cur m =
+    record { id = record { counter = greatest ops + 1; replica = p }; deps = ops; cursor = cur; mutation = m }
 
 -- after an operation of the replica's own that leads to the document t, by the table
 abbrev pub made : Op → Context → State → State
@@ -69,7 +70,8 @@ taken i t A = record A { acted = true; tree = t; ops = with_id i A.ops }
 
 -- both as they are kept
 abbrev pub made_kept : Op → Context → State → State
-made_kept o t K = record K { tree = t; ops = union (counted o.id.replica o.id.counter) K.ops; queue = with_op o K.queue }
+made_kept o t K =
+    record K { tree = t; ops = union (counted o.id.replica o.id.counter) K.ops; queue = with_op o K.queue }
 
 abbrev pub taken_kept : Id → Context → State → State
 taken_kept i t K = record K { acted = true; tree = t; ops = union (counted i.replica i.counter) K.ops }

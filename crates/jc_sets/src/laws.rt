@@ -2,8 +2,8 @@
 
 ghost use Rattle.jc_sets.specs.Laws.{CountersTell, WithinIs, InsertedWithdrawn, OperateAlike, ClearAlike, ClearElemAlike, OperateStands, ClearStands, ClearElemStands};
 
-/// In a set of identifiers of a sound set of operations that is closed under dependencies, an identifier of an operation
-/// is there exactly where it is at or below the greatest counter of its replica.
+/// In a set of identifiers of a sound set of operations that is closed under dependencies, an operation's identifier is
+/// there exactly where it is at or below the greatest counter of its replica.
 pub fn counters_tell()
     ensures { CountersTell }
 {}

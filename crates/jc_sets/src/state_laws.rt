@@ -23,8 +23,8 @@ pub fn new_is_unknown()
     ensures { NewIsUnknown }
 {}
 
-/// What applying a received operation asks of a kept state and does to it, it asks of what the state stands for and does
-/// to that.
+/// What applying a received operation asks of a kept state and does to it, it asks of what the state stands for and
+/// does to that.
 pub fn apply_stands()
     ensures { ApplyStands }
 {}

@@ -1,8 +1,8 @@
-use Rattle.std.proofs.Common.{◌≡◌, ℕ, List, Err, map, refl, sym, ◌∙◌, ap, subst, arith}
+use Rattle.std.proofs.Common.{ℕ, List, Err, map, refl, sym, ◌∙◌, ap, subst, arith}
 use Rattle.jc_rules.specs.declared.id.Id.{Id}
 use Rattle.jc_rules.specs.declared.operation.Op.{Op}
 use Rattle.jc_rules.specs.Filled.{counted}
-use Rattle.jc_rules.specs.Ids.{with_id, union, greatest}
+use Rattle.jc_rules.specs.Ids.{union, greatest}
 use Rattle.jc_rules.specs.Trace.{at_depth}
 use Rattle.jc_app.specs.FirstCmd.{AreCounted}
 use Rattle.jc_app.specs.Replicas.{number_of, state_of}
