@@ -107,14 +107,10 @@ fn names(rt: HostRuntime) -> Result<(), Fail> {
     let alloc = rt.alloc();
     let mut store = document(alloc);
     let mut count = 0;
-    for expr in [
-        "doc.get(\"b\")",
-        "doc.get(\"a\")",
-        "doc.get(\"c\")",
-        "doc.get(\"B\")",
-    ] {
-        assign(&rt, alloc, &mut store, &mut count, expr, "x")?;
-    }
+    assign(&rt, alloc, &mut store, &mut count, "doc.get(\"b\")", "x")?;
+    assign(&rt, alloc, &mut store, &mut count, "doc.get(\"a\")", "x")?;
+    assign(&rt, alloc, &mut store, &mut count, "doc.get(\"c\")", "x")?;
+    assign(&rt, alloc, &mut store, &mut count, "doc.get(\"B\")", "x")?;
     change(
         &rt,
         alloc,
