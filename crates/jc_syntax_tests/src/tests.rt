@@ -296,4 +296,5 @@ fn laws_stand() {
     laws::one_fault();
     laws::tokens_or_fault();
     laws::one_string();
+    laws::legal_strings();
 }
