@@ -1,4 +1,4 @@
-use Rattle.std.proofs.Common.{◌≡◌, ℕ, ◌∙◌, ap, sym, subst}
+use Rattle.std.proofs.Common.{ℕ, ◌∙◌, ap, sym, subst}
 use Rattle.jc_rules.specs.Trace.{at_depth}
 use Rattle.jc_syntax.specs.Trees.{expr_of}
 use Rattle.jc_cursor.specs.declared.bound.Bound.{Bound}
