@@ -9,9 +9,9 @@ use Rattle.jc_rules.specs.declared.key.Tagged.TheVariants.{MapT, ListT, RegT}
 use Rattle.jc_rules.specs.declared.rule.Rule.{Rule}
 use Rattle.jc_rules.specs.Order.{key_cmp}
 use Rattle.jc_rules.specs.Entries.{find}
-use Rattle.jc_rules.specs.Context.{Context, Content, Node, node_of, content, maps, lists}
+use Rattle.jc_rules.specs.Context.{Context, Node, node_of, content, maps, lists}
 use Rattle.jc_rules.specs.Places.{node_at, context_at, or_empty}
-use Rattle.jc_rules.specs.Derivation.{Question, Answer, gives}
+use Rattle.jc_rules.specs.Derivation.{Question, Answer}
 use Rattle.jc_rules.specs.Derives.{Derives}
 use Rattle.jc_rules.specs.Refused.{Cause, no_node, Refused}
 use Rattle.jc_rules.specs.Trace.{Rows, pushed, below, at_depth}

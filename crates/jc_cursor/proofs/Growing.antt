@@ -1,5 +1,5 @@
 -- Traces that only grow.
-use Rattle.std.proofs.Common.{◌≡◌, ◌≤◌, [], ◌∷◌, refl, arith}
+use Rattle.std.proofs.Common.{◌≡◌, [], ◌∷◌, refl, arith}
 use Rattle.jc_rules.specs.declared.rule.Rule.{Rule}
 use Rattle.jc_rules.specs.Trace.{Rows, pushed, below, at_depth}
 use Rattle.jc_rules.proofs.Steps.{same_rows, longer_still}

@@ -1,8 +1,11 @@
 use Rattle.std.proofs.Common.{refl}
 use Rattle.jc_tree.specs.Tree.{here}
 use Rattle.jc_apply.proofs.Passing.{list_here}
-use Rattle.jc_cursor.proofs.Elements.{nearer, along_counted, along_passed, along_past_end, along_ends}
+use Rattle.jc_cursor.proofs.Elements.{along_begins, nearer, along_counted, along_passed, along_past_end, along_ends}
 use Rattle.jc_cursor.proofs.walk.element_at.Goals as goal
+
+pub loop-left-init : goal.loop-left-init
+loop-left-init g c = along_begins _ _ _ _ _ refl refl
 
 pub returns-in_default-clause-refused : goal.returns-in_default-clause-refused
 returns-in_default-clause-refused g c =
