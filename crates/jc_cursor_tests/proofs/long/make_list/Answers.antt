@@ -1,7 +1,7 @@
 use Rattle.std.proofs.Common.{◌≢◌, [], None}
 use Rattle.jc_rules.specs.Context.{Context}
 use Rattle.jc_rules.specs.Places.{node_at}
-use Rattle.jc_tree.proofs.Changed.{node_entered}
+use Rattle.jc_cursor_tests.proofs.Made.{node_entered}
 use Rattle.jc_tree.proofs.Chained.{chained_child}
 use Rattle.jc_cursor_tests.proofs.long.make_list.Goals as goal
 
