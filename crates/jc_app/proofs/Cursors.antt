@@ -12,9 +12,9 @@ use Rattle.jc_rules.specs.Derivation.{Evaluate, ToBound}
 use Rattle.jc_rules.specs.Derives.{Derives}
 use Rattle.jc_rules.specs.Trace.{Rows, pushed, at_depth}
 use Rattle.jc_rules.specs.Table.{cursor}
+use Rattle.jc_rules.specs.Paths.{HasContext}
 use Rattle.jc_rules.proofs.Steps.{by_axiom, one_premise}
 use Rattle.jc_app.specs.FirstCmd.{selectors}
-use Rattle.jc_apply.specs.Leads.{HasContext}
 use Rattle.jc_app.specs.Makes.{Evaluates, opened}
 
 pub doc_evaluates : (x : Expr) (path : List Tagged) (t u : Rows) → x ≡ TheDoc → path ≡ [] → u ≡ pushed t R.Doc → Evaluates x (cursor path K.Doc) t u

@@ -4,3 +4,6 @@ pub mod Playing
 pub mod Reading
 pub mod Lone
 pub mod Ready
+pub mod Counting
+pub mod Begun
+pub mod OneRun

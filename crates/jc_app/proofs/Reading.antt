@@ -1,5 +1,5 @@
 -- What a scenario's text tells of its scenario.
-use Rattle.std.proofs.Common.{◌≡◌, ◌≢◌, ℕ, zero, suc, ◌<◌, ◌≤◌, ◌⊎◌, inl, inr, List, [], ◌∷◌, ◌++◌, length, take, map, Option, Some, None, Result, Ok, Err, IfSome, IfOk, All, refl, ap, sym, ◌∙◌, subst, arith}
+use Rattle.std.proofs.Common.{◌≡◌, ◌≢◌, ℕ, zero, suc, ◌<◌, ◌≤◌, ◌⊎◌, inl, inr, List, [], ◌∷◌, ◌++◌, length, take, map, Some, None, Result, Ok, Err, IfOk, All, refl, ap, sym, ◌∙◌, subst, arith}
 use Rattle.std.proofs.lemmas.Grind.{common_steps}
 use Rattle.std.proofs.lemmas.Option.{same_Some}
 use Rattle.jc_rules.specs.declared.operation.Event.{Event}
@@ -17,7 +17,6 @@ use Rattle.jc_parser.specs.Faults.{number_of}
 use Rattle.jc_parser.specs.Symbols.{Symbol, semicolon}
 use Rattle.jc_parser.specs.Grammar.{IsExpressionText, IsValueText, IsCommandText, IsListText, IsShort, selector_count}
 use Rattle.jc_parser.specs.First.{Reads}
-use Rattle.jc_rules.specs.Told.{IsFront}
 use Rattle.jc_app.specs.FirstCmd.{IsKeyPath, selectors, IsFirstCmd, AreFirstCmds}
 use Rattle.jc_app.specs.Ran.{Scenario, ReadsAs, Ran}
 
@@ -132,8 +131,3 @@ ran_whole n b v out status is e h = (h.0, reads_whole n b v h.0 is e h.1, h.2)
 pub if_ok : {T E : Type 0} {P Q : T → Type 0} (r : Result T E) → ((v : T) → P v → Q v) → IfOk r P → IfOk r Q
 if_ok (Ok v) f h = f v h
 if_ok (Err e) f h = h
-
--- a run on what was read up to the limit is a run on the whole
-pub ran_on_front : (n : ℕ) (left : Option (List ℕ)) (v shown : List ℕ) (status : ℕ) (A : List ℕ → Type 0) → n ≡ 8388609 → IsFront n left v → Ran v shown status → A shown → IfSome left (λ bytes. (out : List ℕ) × Ran bytes out status × A out)
-ran_on_front n None v shown status A is front ran a = front
-ran_on_front n (Some bytes) v shown status A is front ran a = (shown, ran_whole n bytes v shown status is front ran, a)

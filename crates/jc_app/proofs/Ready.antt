@@ -16,9 +16,9 @@ use Rattle.jc_rules.specs.Shape.{IsChained}
 use Rattle.jc_rules.specs.State.{State, start}
 use Rattle.jc_rules.specs.Syntax.{Cmd}
 use Rattle.jc_rules.specs.Trace.{Rows}
+use Rattle.jc_rules.specs.Paths.{HasContext}
 use Rattle.jc_rules.proofs.Ids.{has_id-with, same_id-true, same_id-self}
 use Rattle.jc_apply.specs.Fits.{Fits, InChild, child_of, IsUnlinked}
-use Rattle.jc_apply.specs.Leads.{HasContext}
 use Rattle.jc_app.specs.Makes.{Makes}
 use Rattle.jc_app.specs.Ready.{IsReady}
 use Rattle.jc_app.proofs.Events.{made_counter}

@@ -1,6 +1,7 @@
 -- The commands that a replica of the first program takes, and the counters of what they make.
-use Rattle.std.specs.Prelude.{ℕ, ◌+◌, ◌≤◌, List}
+use Rattle.std.specs.Prelude.{ℕ, ◌+◌, ◌≤◌, List, map}
 use Rattle.std.specs.List.{AllByRecursion}
+use Rattle.jc_rules.specs.declared.id.Id.{Id}
 use Rattle.jc_rules.specs.declared.operation.Op.{Op}
 use Rattle.jc_rules.specs.Syntax.{Expr, TheDoc, GetKey, Cmd, SetTo}
 use Rattle.jc_rules.specs.Context.{IsPrimitive}
@@ -27,3 +28,7 @@ AreFirstCmds = AllByRecursion IsFirstCmd
 -- no counter is above n
 abbrev pub AreCounted : ℕ → List Op → Type 0
 AreCounted n os = AllByRecursion (λ o. o.id.counter ≤ n) os
+
+-- the identifiers of what was made
+abbrev pub ids_made : List Op → List Id
+ids_made os = map (λ o. o.id) os

@@ -6,3 +6,6 @@ pub mod Single
 pub mod Texts
 pub mod Runs
 pub mod Ran
+pub mod Due
+pub mod Faults
+pub mod Laws

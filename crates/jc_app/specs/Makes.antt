@@ -15,8 +15,8 @@ use Rattle.jc_rules.specs.State.{State, ACursor}
 use Rattle.jc_rules.specs.Derivation.{Evaluate, ToBound}
 use Rattle.jc_rules.specs.Derives.{Derives}
 use Rattle.jc_rules.specs.Trace.{Rows, pushed, below}
+use Rattle.jc_rules.specs.Paths.{HasContext}
 use Rattle.jc_app.specs.FirstCmd.{selectors}
-use Rattle.jc_apply.specs.Leads.{HasContext}
 
 -- In every state a derivation evaluates the expression to the cursor, whose path has a key of a map or list for each selector.
 pub record Evaluates (e : Expr) (cursor : Cursor) (t u : Rows) : Type 0 where

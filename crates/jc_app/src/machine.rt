@@ -1,6 +1,6 @@
 //! What a run needs of the replica that it runs.
 
-ghost use Rattle.std.specs.Prelude.{◌≡◌, [], ◌∷◌, IfOk, OnErr, Err, map, string_bytes};
+ghost use Rattle.std.specs.Prelude.{◌≡◌, ◌↔◌, [], ◌∷◌, IfOk, OnErr, Err, map, string_bytes};
 ghost use Rattle.jc_syntax.specs.Trees.{cmd_of};
 ghost use Rattle.jc_rules.specs.declared.operation.Event.TheVariants.{Exec};
 ghost use Rattle.jc_rules.specs.State.{State, start};
@@ -32,6 +32,7 @@ pub trait Machine: Drop {
     fn exec(&mut self, alloc: Global) -> Result<Trace, ExecFault>
         requires { IsReady (state self.old) }
         ensures ok { IfOk result (λ trace. Step (state self.old ∷ []) (Exec 0) (state self.new ∷ []) trace.rows) }
+        ensures no_command { (result ≡ Err ExecFault.NoCommand) ↔ ((state self.old).left ≡ []) }
         ensures stuck { result ≡ Err ExecFault.NoCommand → IsStuck (state self.old ∷ []) (Exec 0) (because ScriptEnded) }
         ensures err { OnErr result (state self.new ≡ state self.old) }
         ensures ready { IsReady (state self.new) };

@@ -46,13 +46,13 @@ impl Machine for OnlyReplica {
     }
 
     fn dump_text(&self, alloc: Global, name: &Text) -> Result<String, AllocError> {
-        let queue = ids_of(alloc, self.replica.queue())?;
+        let made = ids_of(alloc, self.replica.queue())?;
         let shown = Shown {
             name,
             acted: false,
             left: self.replica.left(),
-            ops: self.replica.ops().as_slice(),
-            queue: queue.as_slice(),
+            ops: made.as_slice(),
+            queue: made.as_slice(),
             recv: &[],
             send: &[],
         };

@@ -3,7 +3,9 @@
 ghost use Rattle.std.specs.Prelude.{◌≡◌, ◌↔◌, ◌<◌, ◌≤◌, [], length, map, IfOk, OnOk, OnErr, IsErrOf};
 ghost use Rattle.jc_rules.specs.declared.operation.Event.TheVariants.{Exec};
 ghost use Rattle.jc_rules.specs.Context.{empty};
+ghost use Rattle.jc_rules.specs.Filled.{counted as up_to};
 ghost use Rattle.jc_rules.specs.Ids.{greatest};
+ghost use Rattle.std.specs.Coded.{Coded-set};
 ghost use Rattle.jc_rules.specs.State.{start};
 ghost use Rattle.jc_rules.specs.Derivation.{Occur, ToState};
 ghost use Rattle.jc_rules.specs.Derives.{Derives};
@@ -11,7 +13,7 @@ ghost use Rattle.jc_rules.specs.declared.refusal.Refusal.TheVariants.{NoCommand 
 ghost use Rattle.jc_rules.specs.Refused.{because, Refused};
 ghost use Rattle.jc_syntax.specs.Trees.{cmd_of};
 ghost use Rattle.jc_tree.specs.Tree.{IsLater};
-ghost use Rattle.jc_app.specs.FirstCmd.{AreFirstCmds, AreCounted};
+ghost use Rattle.jc_app.specs.FirstCmd.{AreFirstCmds, AreCounted, ids_made};
 ghost use Rattle.jc_app.specs.Makes.{Makes};
 ghost use Rattle.jc_app.specs.Ready.{IsReady};
 ghost use Rattle.jc_app.specs.Single.{AreFirstCmds-single, AreCounted-single};
@@ -45,6 +47,8 @@ pub struct Replica<S> {
     ghost within: { done ≤ length script.items },
     ghost counted: { greatest ops ≤ done },
     ghost queued: { AreCounted (greatest ops) queue.items } by { AreCounted-single (greatest ops) queue.items },
+    ghost own: { ops ≡ up_to number (greatest ops) } by { Coded-set ops-code ops (up_to number (greatest ops)) },
+    ghost listed: { ids_made queue.items ≡ ops } by { Coded-set ops-code (ids_made queue.items) ops },
 }
 
 impl<S: TreeStore> Replica<S> {
@@ -155,16 +159,17 @@ impl<S: TreeStore> Replica<S> {
         self.script.len() - self.done
     }
 
-    /// The identifiers of the operations applied, rising.
+    /// The identifiers of the operations applied.
     pub fn ops(&self) -> &IdSet
         ensures { result.now ≡ (state_of S.tree self.now).ops }
     {
         &self.ops
     }
 
-    /// The operations made, by identifier.
+    /// The operations made, by identifier. No others are applied.
     pub fn queue(&self) -> &[Op]
-        ensures { result.now ≡ (state_of S.tree self.now).queue }
+        ensures queue { result.now ≡ (state_of S.tree self.now).queue }
+        ensures applied { ids_made result.now ≡ (state_of S.tree self.now).ops }
     {
         self.queue.as_slice()
     }

@@ -1,6 +1,6 @@
 //! Runs of a schedule.
 
-ghost use Rattle.std.specs.Prelude.{◌≡◌, ℕ, ◌<◌, ◌≤◌, ◌^◌, List, [], ◌∷◌, length, Ok, true, false, IfOk, IfErr, OnOk, IsErrOf, All};
+ghost use Rattle.std.specs.Prelude.{◌≡◌, ℕ, ◌<◌, ◌≤◌, ◌^◌, List, [], ◌∷◌, length, Ok, true, false, IfOk, IfErr, OnOk, OnErr, IsErrOf, All, ◌↔◌};
 ghost use Rattle.std.specs.Io.KnownBytes.{Appends};
 ghost use Rattle.jc_rules.specs.declared.operation.Event.TheVariants.{Exec};
 ghost use Rattle.jc_rules.specs.declared.refusal.Refusal.TheVariants.{NoCommand as ScriptEnded};
@@ -10,6 +10,7 @@ ghost use Rattle.jc_rules.specs.Refused.{because, IsStuck};
 ghost use Rattle.jc_app.specs.Ready.{IsReady};
 ghost use Rattle.jc_app.specs.Texts.{block_text};
 ghost use Rattle.jc_app.specs.Runs.{Plays, at_script_end};
+ghost use Rattle.jc_app.specs.Due.{AppendsUpTo, AppendsFrontOf, IsNext, Begins};
 ghost use Rattle.jc_app.specs.declared.run.RunFault.TheVariants.{Memory as NoMemory};
 
 use crate::machine::Machine;
@@ -41,6 +42,7 @@ pub fn send<K: Sink>(out: &mut K, text: &str) -> Result<(), RunFault>
     ensures ok { OnOk result (Appends (K.taken out.old) (K.taken out.new) text.now) }
     ensures same { OnOk result (K.failures out.new ≡ K.failures out.old) }
     ensures err { IfErr result (λ e. (e ≡ RunFault.Write) × (K.failures out.old < K.failures out.new)) }
+    ensures begun { OnErr result (AppendsUpTo (K.taken out.old) (K.taken out.new) text.now) }
 {
     match write_all(out, text.as_bytes()) {
         Ok(()) => Ok(()),
@@ -62,6 +64,9 @@ fn play_next<M: Machine, K: Sink>(
         × Step (M.state machine.old ∷ []) (Event.Exec 0) (M.state machine.new ∷ []) rows
         × Appends (K.taken out.old) (K.taken out.new) (block_text (name.now ∷ []) number (Event.Exec 0) rows) }
     ensures stuck { result ≡ Ok false → IsStuck (M.state machine.old ∷ []) (Event.Exec 0) (because ScriptEnded) }
+    ensures when { (result ≡ Ok false) ↔ ((M.state machine.old).left ≡ []) }
+    ensures begun { OnErr result (AppendsFrontOf (IsNext (name.now ∷ []) (M.state machine.old ∷ []) number)
+        (K.taken out.old) (K.taken out.new)) }
     ensures ready { IsReady (M.state machine.new) }
     ensures unchanged { result ≡ Ok false → (M.state machine.new ≡ M.state machine.old) × (K.taken out.new ≡ K.taken out.old) }
     ensures same { OnOk result (K.failures out.new ≡ K.failures out.old) }
@@ -92,6 +97,8 @@ pub fn play<M: Machine, K: Sink>(
     ensures ok { IfOk result (λ stuck. (text : List ℕ)
         × Plays (name.now ∷ []) (M.state machine.old ∷ []) schedule.now (M.state machine.new ∷ []) (at_script_end stuck) text
         × Appends (K.taken out.old) (K.taken out.new) text) }
+    ensures begun { OnErr result (AppendsFrontOf (Begins (name.now ∷ []) (M.state machine.old ∷ []) schedule.now)
+        (K.taken out.old) (K.taken out.new)) }
     ensures same { OnOk result (K.failures out.new ≡ K.failures out.old) }
     ensures memory { IsErrOf result RunFault.Memory → K.failures out.new ≡ K.failures out.old }
     ensures write { IsErrOf result RunFault.Write → K.failures out.old < K.failures out.new }

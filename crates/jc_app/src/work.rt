@@ -1,11 +1,14 @@
 //! The program's work, from bytes to printed lines.
 
-ghost use Rattle.std.specs.Prelude.{◌≡◌, ◌≢◌, ◌<◌, ℕ, List, [], ◌∷◌, length, map, string_bytes, Some, None, IfOk, OnOk, IsErrOf, IfSome, OnErr};
+ghost use Rattle.std.specs.Prelude.{◌≡◌, ◌≢◌, ◌<◌, ◌⊎◌, ℕ, List, [], ◌∷◌, length, map, codes, string_bytes, Some, None, IfOk, OnOk, OnErr, IsErrOf};
 ghost use Rattle.std.specs.Io.KnownBytes.{Appends};
 ghost use Rattle.jc_syntax.specs.Trees.{cmd_of};
+ghost use Rattle.jc_rules.specs.Told.{LosesUpTo};
 ghost use Rattle.jc_parser.specs.declared.fault.ScenarioFault.TheVariants.{Memory as NoMemoryRead};
 ghost use Rattle.jc_parser.specs.First.{Reads};
 ghost use Rattle.jc_app.specs.Ran.{Ran, RanThrough, IsRefused};
+ghost use Rattle.jc_app.specs.Due.{AppendsUpTo, AppendsFrontOf, IsDueOf, IsDueAt, IsDue, HasRun, HasBegun};
+ghost use Rattle.jc_app.specs.Faults.{fault_status, fault_line};
 
 use crate::machine::Machine;
 use crate::run::{RunFault, play, send};
@@ -21,6 +24,7 @@ const MOST_READ: usize = 8388609;
 /// Writes the line of a refused text. Want of memory has no line.
 fn refuse<K: Sink>(alloc: Global, fault: &ScenarioFault, out: &mut K) -> Result<u8, RunFault>
     ensures ok { IfOk result (λ status. (shown : List ℕ) × IsRefused fault.now shown status × Appends (K.taken out.old) (K.taken out.new) shown) }
+    ensures begun { OnErr result (AppendsFrontOf (IsDueAt fault.now) (K.taken out.old) (K.taken out.new)) }
     ensures same { OnOk result (K.failures out.new ≡ K.failures out.old) }
     ensures memory { IsErrOf result RunFault.Memory → K.failures out.new ≡ K.failures out.old }
     ensures write { IsErrOf result RunFault.Write → K.failures out.old < K.failures out.new }
@@ -46,6 +50,9 @@ fn run_through<M: Machine, K: Sink>(
     ensures ok { IfOk result (λ status. (shown : List ℕ)
         × RanThrough (record { name = first.name; script = map cmd_of first.script.items; schedule = first.schedule.items }) shown status
         × Appends (K.taken out.old) (K.taken out.new) shown) }
+    ensures begun { OnErr result (AppendsFrontOf
+        (IsDueOf (record { name = first.name; script = map cmd_of first.script.items; schedule = first.schedule.items }))
+        (K.taken out.old) (K.taken out.new)) }
     ensures same { OnOk result (K.failures out.new ≡ K.failures out.old) }
     ensures memory { IsErrOf result RunFault.Memory → K.failures out.new ≡ K.failures out.old }
     ensures write { IsErrOf result RunFault.Write → K.failures out.old < K.failures out.new }
@@ -72,6 +79,7 @@ fn run_through<M: Machine, K: Sink>(
 /// Runs a scenario's text: writes what a run of it shows, and answers its status.
 fn run_text<M: Machine, K: Sink>(alloc: Global, text: &[u8], out: &mut K) -> Result<u8, RunFault>
     ensures ok { IfOk result (λ status. (shown : List ℕ) × Ran text.now shown status × Appends (K.taken out.old) (K.taken out.new) shown) }
+    ensures begun { OnErr result (AppendsFrontOf (IsDue text.now) (K.taken out.old) (K.taken out.new)) }
     ensures same { OnOk result (K.failures out.new ≡ K.failures out.old) }
     ensures memory { IsErrOf result RunFault.Memory → K.failures out.new ≡ K.failures out.old }
     ensures write { IsErrOf result RunFault.Write → K.failures out.old < K.failures out.new }
@@ -93,17 +101,49 @@ pub enum WorkFault {
     Memory,
 }
 
+impl WorkFault {
+    fn line(self) -> &'static str
+        ensures { result.now ≡ fault_line self }
+    {
+        match self {
+            WorkFault::Read => "read failed\n",
+            WorkFault::Write => "write failed\n",
+            WorkFault::Memory => "no memory\n",
+        }
+    }
+
+    fn status(self) -> u8
+        ensures { result ≡ fault_status self }
+    {
+        match self {
+            WorkFault::Read => 4,
+            WorkFault::Write => 4,
+            WorkFault::Memory => 5,
+        }
+    }
+}
+
+/// Writes the line of a fault, and answers its status. A failure of `err` changes nothing.
+pub fn end<E: Sink>(fault: WorkFault, err: &mut E) -> u8
+    ensures status { result ≡ fault_status fault }
+    ensures line { AppendsUpTo (E.taken err.old) (E.taken err.new) (fault_line fault) }
+{
+    let _ = write_all(err, fault.line().as_bytes());
+    fault.status()
+}
+
 /// Runs the scenario that the input says, and answers its status.
 fn run_input<M: Machine, I: Source, K: Sink>(
     alloc: Global,
     input: &mut I,
     out: &mut K,
 ) -> Result<u8, WorkFault>
-    ensures ran { IfOk result (λ status. IfSome (I.left input.old) (λ bytes.
-        (shown : List ℕ) × Ran bytes shown status × Appends (K.taken out.old) (K.taken out.new) shown)) }
+    ensures ran { IfOk result (HasRun (I.left input.old) (K.taken out.old) (K.taken out.new)) }
+    ensures begun { OnErr result (HasBegun (I.left input.old) (K.taken out.old) (K.taken out.new)) }
+    ensures most { LosesUpTo 8388609 (I.left input.old) (I.left input.new) }
     ensures same { OnOk result ((I.failures input.new ≡ I.failures input.old) × (K.failures out.new ≡ K.failures out.old)) }
-    ensures read { IsErrOf result WorkFault.Read → I.failures input.old < I.failures input.new }
-    ensures write { IsErrOf result WorkFault.Write → K.failures out.old < K.failures out.new }
+    ensures read { IsErrOf result WorkFault.Read → (I.failures input.old < I.failures input.new) × (K.failures out.new ≡ K.failures out.old) }
+    ensures write { IsErrOf result WorkFault.Write → (I.failures input.new ≡ I.failures input.old) × (K.failures out.old < K.failures out.new) }
     ensures memory { IsErrOf result WorkFault.Memory → (I.failures input.new ≡ I.failures input.old) × (K.failures out.new ≡ K.failures out.old) }
 {
     let text = match read_up_to(alloc, input, MOST_READ) {
@@ -120,8 +160,12 @@ fn run_input<M: Machine, I: Source, K: Sink>(
 
 /// The program but for what waits. Without words it runs the scenario that the input says, and
 /// answers its status: 0 where all events were made, 1 where the text was refused, 3 where an event
-/// was stuck, 4 where a read or a write failed, 5 where there was no memory. A fault is also one
-/// line of `err`, whose own failures change nothing. With words the status is 2.
+/// was stuck, 4 where a read or a write failed, 5 where there was no memory. Of the input at most
+/// 8,388,609 bytes are read.
+///
+/// After 4 or 5 the output has a front of what the run shows, and `err` the line of the fault, as
+/// much of it as it took: its own failures change nothing. With words the status is 2, and input
+/// and outputs are left alone.
 pub fn work_alone<M: Machine, R: AllocGlobal, I: Source, K: Sink, E: Sink>(
     rt: &R,
     words: &[String],
@@ -130,32 +174,35 @@ pub fn work_alone<M: Machine, R: AllocGlobal, I: Source, K: Sink, E: Sink>(
     err: &mut E,
 ) -> Option<u8>
     ensures answered { result ≢ None }
+
     ensures words { words.now ≢ [] → result ≡ Some 2 }
+    ensures untouched { words.now ≢ [] → (input.new ≡ input.old) × (out.new ≡ out.old) × (err.new ≡ err.old) }
 
     // Without words: if nothing failed and memory was there, the run's text was written, and its
     // status is the answer.
     ensures ran { words.now ≡ [] → result ≢ Some 5 → I.failures input.new ≡ I.failures input.old → K.failures out.new ≡ K.failures out.old
-        → IfSome (I.left input.old) (λ bytes. (shown : List ℕ) × (status : ℕ) × (result ≡ Some status) × Ran bytes shown status × Appends (K.taken out.old) (K.taken out.new) shown) }
+        → (status : ℕ) × (result ≡ Some status) × HasRun (I.left input.old) (K.taken out.old) (K.taken out.new) status }
 
-    // Where a read or a write failed the status is 4.
-    ensures failed { words.now ≡ [] → result ≢ Some 4 → (I.failures input.new ≡ I.failures input.old) × (K.failures out.new ≡ K.failures out.old) }
+    // Else a front of it was.
+    ensures begun { (result ≡ Some 4) ⊎ (result ≡ Some 5) → HasBegun (I.left input.old) (K.taken out.old) (K.taken out.new) }
+
+    ensures most { LosesUpTo 8388609 (I.left input.old) (I.left input.new) }
+
+    // The status is 4 where a read or a write failed, and nowhere else.
+    ensures failed { result ≢ Some 4 → (I.failures input.new ≡ I.failures input.old) × (K.failures out.new ≡ K.failures out.old) }
+    ensures only_failed { result ≡ Some 4 → (I.failures input.old < I.failures input.new) ⊎ (K.failures out.old < K.failures out.new) }
+
+    // The error's sink has the line of the fault, and nothing where there is none.
+    ensures read_line { I.failures input.old < I.failures input.new → AppendsUpTo (E.taken err.old) (E.taken err.new) (codes "read failed\n") }
+    ensures write_line { K.failures out.old < K.failures out.new → AppendsUpTo (E.taken err.old) (E.taken err.new) (codes "write failed\n") }
+    ensures memory_line { result ≡ Some 5 → AppendsUpTo (E.taken err.old) (E.taken err.new) (codes "no memory\n") }
+    ensures quiet { result ≢ Some 4 → result ≢ Some 5 → err.new ≡ err.old }
 {
     if !words.is_empty() {
         return Some(2);
     }
     match run_input::<M, I, K>(rt.alloc(), input, out) {
         Ok(status) => Some(status),
-        Err(WorkFault::Read) => {
-            let _ = write_all(err, b"read failed\n");
-            Some(4)
-        }
-        Err(WorkFault::Write) => {
-            let _ = write_all(err, b"write failed\n");
-            Some(4)
-        }
-        Err(WorkFault::Memory) => {
-            let _ = write_all(err, b"no memory\n");
-            Some(5)
-        }
+        Err(fault) => Some(end(fault, err)),
     }
 }

@@ -5,8 +5,8 @@ use Rattle.jc_rules.specs.declared.key.Tagged.{Tagged}
 use Rattle.jc_rules.specs.declared.operation.Mutation.{Mutation}
 use Rattle.jc_rules.specs.declared.operation.Mutation.TheVariants.{Insert}
 use Rattle.jc_rules.specs.Context.{Context, next}
+use Rattle.jc_rules.specs.Paths.{HasContext}
 use Rattle.jc_apply.specs.Fits.{Fits, InChild, child_of}
-use Rattle.jc_apply.specs.Leads.{HasContext}
 use Rattle.jc_apply.proofs.Reaching.{has_context}
 
 -- the child is a context, where the rest of the path fits

@@ -16,13 +16,14 @@ use Rattle.jc_rules.specs.Derivation.{Question, Presence, AddId, Child, Operate,
 use Rattle.jc_rules.specs.Derives.{Derives}
 use Rattle.jc_rules.specs.Trace.{Rows, pushed, below, at_depth}
 use Rattle.jc_rules.specs.Table.{Follows, Holds, AllHold, moved}
+use Rattle.jc_rules.specs.Paths.{HasContext}
 use Rattle.jc_rules.proofs.Order.{keys_total, exact_keys}
 use Rattle.jc_rules.proofs.Entries.{found-put}
 use Rattle.jc_rules.proofs.Places.{listed_children, with-with, with_node-twice, node-below, with_node-below}
 use Rattle.jc_rules.proofs.Steps.{three_premises}
 use Rattle.jc_tree.specs.Tree.{Tree, HasPlace, here}
 use Rattle.jc_tree.proofs.Places.{then_node, then_here, then_place, some_place}
-use Rattle.jc_apply.specs.Leads.{Leads, Enters, HasContext}
+use Rattle.jc_apply.specs.Leads.{Leads, Enters}
 
 -- an identifier is added alike where a key's presence set is the same
 follows_presence : (r : Rule) (x y : Context) (k : Key) (a : Answer) (ps : List Judgement) → presence k x ≡ presence k y → Follows r (Presence x k) a ps → Follows r (Presence y k) a ps

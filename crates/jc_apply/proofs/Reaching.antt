@@ -16,10 +16,10 @@ use Rattle.jc_rules.specs.Order.{key_cmp}
 use Rattle.jc_rules.specs.Entries.{find}
 use Rattle.jc_rules.specs.Context.{Context, Content, Node, Values, Register, node_of, values_of, content, new_content, next, maps, lists, registers}
 use Rattle.jc_rules.specs.Places.{at_node, node_in, node_at, context_at}
+use Rattle.jc_rules.specs.Paths.{HasContext, IsPath}
 use Rattle.jc_rules.proofs.Places.{there}
 use Rattle.jc_rules.proofs.Rising.{all_at}
 use Rattle.jc_apply.specs.Fits.{Fits, FitsHere, InChild, or_new, child_of, made_under}
-use Rattle.jc_apply.specs.Leads.{HasContext}
 
 -- the context at the path's end, where those that aren't there are new
 abbrev pub reached : List Tagged → Context → Option Context
@@ -97,17 +97,10 @@ has_context (MapT k) c P h = tt
 has_context (ListT k) c P h = tt
 has_context (RegT k) c P h = subst (λ (o : Option Context). InChild o P) (no_node k c) h
 
-fits_contexts : (ts : List Tagged) (c : Context) (k : Key) (m : Mutation) → Fits c ts k m → AllByRecursion HasContext ts
-fits_contexts [] c k m h = tt
-fits_contexts (t ∷ ts) c k m h = (has_context t c (λ d. Fits d ts k m) h, go (child_of t c) (λ d f. fits_contexts ts d k m f) h)
-  where
-    go : (o : Option Context) → ((d : Context) → Fits d ts k m → AllByRecursion HasContext ts) → InChild o (λ d. Fits d ts k m) → AllByRecursion HasContext ts
-    go None below f = absurd f
-    go (Some d) below f = below d f
-
-pub through_register : (path ts : List Tagged) (n : ℕ) (t : Tagged) (c : Context) (k : Key) (m : Mutation) → path ≡ ts → n < length path → t ≡ get_or path n t → (HasContext t → ⊥) → Fits c ts k m → ⊥
-through_register path ts n t c k m same within is fails h =
-    fails (subst HasContext (sym is) (all_at HasContext path (subst (λ (p : List Tagged). AllByRecursion HasContext p) (sym same) (fits_contexts ts c k m h)) n t within))
+-- on a path each key is a context's
+pub key_on : (path ts : List Tagged) (n : ℕ) (t : Tagged) → path ≡ ts → IsPath ts → n < length path → t ≡ get_or path n t → HasContext t
+key_on path ts n t same h within is =
+    subst HasContext (sym is) (all_at HasContext path (subst (AllByRecursion HasContext) (sym same) h.contexts) n t within)
 
 -- the way down a path
 

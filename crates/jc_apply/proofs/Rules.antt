@@ -19,13 +19,14 @@ use Rattle.jc_rules.specs.Derivation.{Question, Presence, AddId, Child, Clear, C
 use Rattle.jc_rules.specs.Derives.{Derives}
 use Rattle.jc_rules.specs.Trace.{Rows, pushed, below, at_depth}
 use Rattle.jc_rules.specs.Table.{Follows, moved}
+use Rattle.jc_rules.specs.Paths.{HasContext}
 use Rattle.jc_rules.proofs.Places.{there, with_node-same, with-same}
 use Rattle.jc_rules.proofs.Steps.{by_axiom, one_premise, three_premises}
 use Rattle.jc_tree.specs.Tree.{Tree, HasPlace, here, IsChanged}
 use Rattle.jc_clear.specs.Clears.{Clears}
 use Rattle.jc_tree.proofs.Places.{then_here, then_place, then_now}
 use Rattle.jc_apply.specs.Fits.{or_new, empty_of}
-use Rattle.jc_apply.specs.Leads.{Leads, Enters, AssignsEmpty, HasContext}
+use Rattle.jc_apply.specs.Leads.{Leads, Enters, AssignsEmpty}
 
 pub register_there : (c : Context) (k : Key) (r pairs : Register) (t u : Rows) → find key_cmp k (registers c) ≡ Some r → pairs ≡ r → u ≡ pushed t R.ChildGet → Derives (Child c (RegT k)) (ToContent (Values pairs)) t u
 register_there c k r pairs t u h i e = rw (i, e) (by_axiom R.ChildGet _ _ t (Values r, ap values_of h, refl, refl))

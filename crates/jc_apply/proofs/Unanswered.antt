@@ -20,9 +20,9 @@ use Rattle.jc_rules.specs.Places.{node_in}
 use Rattle.jc_rules.specs.Derivation.{Question, Child, Operate, Answer, ToContent, ToContext, Judgement, gives, Derivation, derive, Premises, none, conclusion, conclusions}
 use Rattle.jc_rules.specs.Table.{Follows, Holds, AllHold, moved}
 use Rattle.jc_rules.specs.Refused.{because, IsAnswered, Refused, operate_below, not_in_list}
+use Rattle.jc_rules.specs.Paths.{HasContext, IsPath}
 use Rattle.jc_rules.proofs.Refusing.{first_is, second_is}
 use Rattle.jc_apply.specs.Fits.{Fits, FitsHere, InChild, HasNoAnswer, EachOp, or_new, child_of}
-use Rattle.jc_apply.specs.Leads.{HasContext}
 use Rattle.jc_apply.proofs.Reaching.{fits_all, differ}
 
 -- the last rule of an answer, with its premises
@@ -160,11 +160,11 @@ refused c cursor m unfit all o at is =
 pub record Told (c : Context) (cursor : Cursor) (m : Mutation) (r : Bool) : Type 0 where
   pub fits : IsTrue r ↔ Fits c cursor.path cursor.last m
   pub no_answer : IsFalse r → EachOp cursor m (λ o. HasNoAnswer (Operate c o))
-  pub refused : IsFalse r → AllByRecursion HasContext cursor.path → EachOp cursor m (λ o. Refused (Operate c o) (because F.NotInList))
+  pub refused : IsFalse r → EachOp cursor m (λ o. Refused (Operate c o) (because F.NotInList))
 
-pub told : (c : Context) (cursor : Cursor) (m : Mutation) (r : Bool) → IsTrue r ↔ Fits c cursor.path cursor.last m → Told c cursor m r
-told c cursor m r h = record {
+pub told : (c : Context) (cursor : Cursor) (m : Mutation) (r : Bool) → IsPath cursor.path → IsTrue r ↔ Fits c cursor.path cursor.last m → Told c cursor m r
+told c cursor m r p h = record {
   fits = h;
   no_answer = λ e. unanswered c cursor m (λ f. differ (sym e ∙ h.1 f));
-  refused = λ e. refused c cursor m (λ f. differ (sym e ∙ h.1 f));
+  refused = λ e. refused c cursor m (λ f. differ (sym e ∙ h.1 f)) p.contexts;
 }

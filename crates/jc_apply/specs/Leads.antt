@@ -4,7 +4,6 @@ use Rattle.jc_rules.specs.declared.id.Id.{Id}
 use Rattle.jc_rules.specs.declared.key.Key.{Key}
 use Rattle.jc_rules.specs.declared.key.Next.{Next}
 use Rattle.jc_rules.specs.declared.key.Tagged.{Tagged}
-use Rattle.jc_rules.specs.declared.key.Tagged.TheVariants.{MapT, ListT, RegT}
 use Rattle.jc_rules.specs.declared.operation.Mutation.TheVariants.{Assign}
 use Rattle.jc_rules.specs.declared.operation.Op.{Op}
 use Rattle.jc_rules.specs.declared.rule.Rule.{Rule}
@@ -18,7 +17,8 @@ use Rattle.jc_rules.specs.Table.{Follows, moved, IsBefore}
 use Rattle.jc_tree.specs.Tree.{Tree, here}
 use Rattle.jc_apply.specs.Fits.{child_of, empty_of, IsUnlinked}
 
--- A derivation answers the question of the context at the place with another context, which is there afterwards, and its rules were added to the trace.
+-- A derivation answers the question of the context at the place with another context, which is there afterwards, and
+-- its rules were added to the trace.
 pub record Leads (q : Context → Question) (at : List Tagged) (a b : Tree) (t u : Rows) : Type 0 where
   pub after : Context
   pub derives : Derives (q (here at a)) (ToContext after) t u
@@ -42,21 +42,22 @@ pub record LinksOnly (i : Id) (a b : Tree) : Type 0 where
   pub chained : IsChained b.now
   pub unlinked : (j : Id) → j ≢ i → IsUnlinked j a.now → IsUnlinked j b.now
 
--- a tagged key under which a context stands
-abbrev pub HasContext : Tagged → Type 0
-HasContext (MapT k) = Unit {0}
-HasContext (ListT k) = Unit {0}
-HasContext (RegT k) = ⊥
-
 -- The rule assigns the empty map or the empty list under the tagged key.
 abbrev pub AssignsEmpty : Rule → Tagged → Type 0
 AssignsEmpty r k =
     (o : Op) (c c1 c2 : Context) (ids : List Id) (x : Content)
-    → Follows r (Operate c (moved o [] (key_of k) (Assign (empty_of k)))) (ToContext (with_content k x c2)) (gives (ClearElem c o.deps (key_of k)) (Cleared c1 ids) ∷ gives (AddId c1 k o.id (Assign (empty_of k))) (ToContext c2) ∷ gives (Child c2 k) (ToContent x) ∷ [])
+    → Follows r (Operate c (moved o [] (key_of k) (Assign (empty_of k)))) (ToContext (with_content k x c2))
+    (gives (ClearElem c o.deps (key_of k)) (Cleared c1 ids)
+    ∷ gives (AddId c1 k o.id (Assign (empty_of k))) (ToContext c2)
+    ∷ gives (Child c2 k) (ToContent x)
+    ∷ [])
 
--- From the operation's last key the rules go on to the key k, which n follows: what is derived there is derived for the operation. The new element belongs between k and n.
+-- From the operation's last key the rules go on to the key k, which n follows: what is derived there is derived for the
+-- operation. The new element belongs between k and n.
 pub record Passes (o : Op) (c : Context) (k : Key) (n : Next) (t u : Rows) : Type 0 where
   pub follows : next k c ≡ Some n
   pub before : IsBefore n o.id
   pub deeper : t.depth ≤ u.depth
-  pub rest : (d : Context) (v : Rows) → Derives (Operate c (moved o [] k o.mutation)) (ToContext d) u v → Derives (Operate c (moved o [] o.cursor.last o.mutation)) (ToContext d) t (at_depth t.depth v)
+  pub rest : (d : Context) (v : Rows)
+      → Derives (Operate c (moved o [] k o.mutation)) (ToContext d) u v
+      → Derives (Operate c (moved o [] o.cursor.last o.mutation)) (ToContext d) t (at_depth t.depth v)

@@ -1,7 +1,6 @@
 //! Applying an operation to a document.
 
-ghost use Rattle.std.specs.Prelude.{◌≡◌, ◌≢◌, ◌≤◌, [], IsErrOf, OnOk, OnErr, length, take, drop};
-ghost use Rattle.std.specs.List.{AllByRecursion};
+ghost use Rattle.std.specs.Prelude.{◌≡◌, ◌≢◌, ◌≤◌, [], List, IsErrOf, OnOk, OnErr, length, take, drop};
 ghost use Rattle.jc_rules.specs.declared.id.Id.{Id as AnyId};
 ghost use Rattle.jc_rules.specs.declared.refusal.Refusal.TheVariants.{NotInList as PlaceNotInList};
 ghost use Rattle.jc_rules.specs.Derivation.{AddId, Operate, ToContext};
@@ -11,8 +10,10 @@ ghost use Rattle.jc_rules.specs.Shape.{IsChained};
 ghost use Rattle.jc_rules.specs.Table.{moved};
 ghost use Rattle.jc_tree.specs.Tree.{HasPlace, here};
 ghost use Rattle.jc_tree.specs.Kept.{Kept};
+ghost use Rattle.jc_sets.specs.Members.{with_deps};
+ghost use Rattle.jc_apply.specs.Applies.{AppliesFor};
 ghost use Rattle.jc_apply.specs.Fits.{Fits, HasNoAnswer, IsUnlinked};
-ghost use Rattle.jc_apply.specs.Leads.{Leads, LinksNone, LinksOnly, HasContext};
+ghost use Rattle.jc_apply.specs.Leads.{Leads, LinksNone, LinksOnly};
 
 use crate::assigning::{add_id, assign};
 use crate::fitting::fits;
@@ -43,7 +44,8 @@ fn delete<S: TreeStore>(
     requires there { HasPlace at.now (S.tree store.old) }
     requires chained { IsChained (S.tree store.old).now }
     requires deletes { op.now.mutation ≡ Mutation.Delete }
-    ensures ok { OnOk result (Leads (λ c. Operate c (moved op.now [] op.now.cursor.last op.now.mutation)) at.now (S.tree store.old) (S.tree store.new) trace.old trace.new) }
+    ensures ok { OnOk result (Leads (λ c. Operate c (moved op.now [] op.now.cursor.last op.now.mutation))
+        at.now (S.tree store.old) (S.tree store.new) trace.old trace.new) }
     ensures links { OnOk result (LinksNone at.now (S.tree store.old) (S.tree store.new)) }
     ensures kept { Kept (S.tree store.old) (S.tree store.new) trace.old trace.new }
 {
@@ -66,7 +68,8 @@ fn operate_here<S: TreeStore>(
     requires chained { IsChained (S.tree store.old).now }
     requires fresh { IsUnlinked op.now.id (S.tree store.old).now }
     requires fits { Fits (here at.now (S.tree store.old)) [] op.now.cursor.last op.now.mutation }
-    ensures ok { OnOk result (Leads (λ c. Operate c (moved op.now [] op.now.cursor.last op.now.mutation)) at.now (S.tree store.old) (S.tree store.new) trace.old trace.new) }
+    ensures ok { OnOk result (Leads (λ c. Operate c (moved op.now [] op.now.cursor.last op.now.mutation))
+        at.now (S.tree store.old) (S.tree store.new) trace.old trace.new) }
     ensures links { OnOk result (LinksOnly op.now.id (S.tree store.old) (S.tree store.new)) }
     ensures kept { Kept (S.tree store.old) (S.tree store.new) trace.old trace.new }
 {
@@ -88,7 +91,8 @@ fn add_op<S: TreeStore>(
     trace: &mut Trace,
 ) -> Result<(), AllocError>
     requires { HasPlace at.now (S.tree store.old) }
-    ensures ok { OnOk result (Leads (λ c. AddId c key.now op.now.id op.now.mutation) at.now (S.tree store.old) (S.tree store.new) trace.old trace.new) }
+    ensures ok { OnOk result (Leads (λ c. AddId c key.now op.now.id op.now.mutation)
+        at.now (S.tree store.old) (S.tree store.new) trace.old trace.new) }
     ensures links { OnOk result (LinksNone at.now (S.tree store.old) (S.tree store.new)) }
     ensures kept { Kept (S.tree store.old) (S.tree store.new) trace.old trace.new }
 {
@@ -111,8 +115,11 @@ fn operate<S: TreeStore>(
     requires there { HasPlace (take depth op.now.cursor.path) (S.tree store.old) }
     requires chained { IsChained (S.tree store.old).now }
     requires fresh { IsUnlinked op.now.id (S.tree store.old).now }
-    requires fits { Fits (here (take depth op.now.cursor.path) (S.tree store.old)) (drop depth op.now.cursor.path) op.now.cursor.last op.now.mutation }
-    ensures ok { OnOk result (Leads (λ c. Operate c (moved op.now (drop depth op.now.cursor.path) op.now.cursor.last op.now.mutation)) (take depth op.now.cursor.path) (S.tree store.old) (S.tree store.new) trace.old trace.new) }
+    requires fits { Fits (here (take depth op.now.cursor.path) (S.tree store.old))
+        (drop depth op.now.cursor.path) op.now.cursor.last op.now.mutation }
+    ensures ok { OnOk result (Leads
+        (λ c. Operate c (moved op.now (drop depth op.now.cursor.path) op.now.cursor.last op.now.mutation))
+        (take depth op.now.cursor.path) (S.tree store.old) (S.tree store.new) trace.old trace.new) }
     ensures links { OnOk result (LinksOnly op.now.id (S.tree store.old) (S.tree store.new)) }
     ensures kept { Kept (S.tree store.old) (S.tree store.new) trace.old trace.new }
 {
@@ -144,17 +151,27 @@ pub fn apply_op<S: TreeStore>(
 ) -> Result<(), ApplyFault>
     requires chained { IsChained (S.tree store.old).now }
     requires fresh { IsUnlinked op.now.id (S.tree store.old).now }
-    ensures ok { OnOk result (Derives (Operate (S.tree store.old).now op.now) (ToContext (S.tree store.new).now) trace.old trace.new) }
+    ensures ok { OnOk result (Derives (Operate (S.tree store.old).now op.now)
+        (ToContext (S.tree store.new).now) trace.old trace.new) }
+    ensures stands { OnOk result (AppliesFor op.now (S.tree store.old).now (S.tree store.new).now trace.old trace.new) }
     ensures fits { OnOk result (Fits (S.tree store.old).now op.now.cursor.path op.now.cursor.last op.now.mutation) }
-    ensures memory { IsErrOf result ApplyFault.Memory → Fits (S.tree store.old).now op.now.cursor.path op.now.cursor.last op.now.mutation }
-    ensures unfit { IsErrOf result ApplyFault.NotInList → Fits (S.tree store.old).now op.now.cursor.path op.now.cursor.last op.now.mutation → ⊥ }
+    ensures memory { IsErrOf result ApplyFault.Memory
+        → Fits (S.tree store.old).now op.now.cursor.path op.now.cursor.last op.now.mutation }
+    ensures unfit { IsErrOf result ApplyFault.NotInList
+        → Fits (S.tree store.old).now op.now.cursor.path op.now.cursor.last op.now.mutation → ⊥ }
     ensures no_answer { IsErrOf result ApplyFault.NotInList → HasNoAnswer (Operate (S.tree store.old).now op.now) }
-    ensures refused { IsErrOf result ApplyFault.NotInList → AllByRecursion HasContext op.now.cursor.path → Refused (Operate (S.tree store.old).now op.now) (because PlaceNotInList) }
+    ensures refused { IsErrOf result ApplyFault.NotInList
+        → Refused (Operate (S.tree store.old).now op.now) (because PlaceNotInList) }
+    ensures stands_no_answer { IsErrOf result ApplyFault.NotInList → (deps : List AnyId)
+        → HasNoAnswer (Operate (S.tree store.old).now (with_deps deps op.now)) }
+    ensures stands_refused { IsErrOf result ApplyFault.NotInList → (deps : List AnyId)
+        → Refused (Operate (S.tree store.old).now (with_deps deps op.now)) (because PlaceNotInList) }
     ensures err_store { OnErr result (S.tree store.new ≡ S.tree store.old) }
     ensures err_trace { OnErr result (trace.new ≡ trace.old) }
     ensures kept { Kept (S.tree store.old) (S.tree store.new) trace.old trace.new }
     ensures chained { IsChained (S.tree store.new).now }
-    ensures unlinked { (i : AnyId) → i ≢ op.now.id → IsUnlinked i (S.tree store.old).now → IsUnlinked i (S.tree store.new).now }
+    ensures unlinked { (i : AnyId) → i ≢ op.now.id
+        → IsUnlinked i (S.tree store.old).now → IsUnlinked i (S.tree store.new).now }
 {
     if !fits(store, &op.cursor, &op.mutation) {
         return Err(ApplyFault::NotInList);

@@ -8,10 +8,11 @@ ghost use Rattle.jc_rules.specs.Context.{IsPrimitive, key_of};
 ghost use Rattle.jc_rules.specs.Derivation.{AddId, Operate};
 ghost use Rattle.jc_rules.specs.Shape.{IsChained};
 ghost use Rattle.jc_rules.specs.Table.{moved};
+ghost use Rattle.jc_rules.specs.Paths.{HasContext};
 ghost use Rattle.jc_tree.specs.Tree.{HasPlace, here};
 ghost use Rattle.jc_tree.specs.Kept.{Kept};
 ghost use Rattle.jc_apply.specs.Fits.{empty_of};
-ghost use Rattle.jc_apply.specs.Leads.{Leads, LinksNone, AssignsEmpty, HasContext};
+ghost use Rattle.jc_apply.specs.Leads.{Leads, LinksNone, AssignsEmpty};
 
 use crate::registers::{enter, pairs_of, put_pair};
 use jc_clear::{clear, clear_elem, presence_of};
@@ -29,7 +30,9 @@ pub fn add_id<S: TreeStore>(
     trace: &mut Trace,
 ) -> Result<(), AllocError>
     requires { HasPlace at.now (S.tree store.old) }
-    ensures ok { OnOk result ((k : Tagged) → (m : AnyMutation) → key_of k ≡ key.now → m ≢ Delete → Leads (λ c. AddId c k id m) at.now (S.tree store.old) (S.tree store.new) trace.old trace.new) }
+    ensures ok { OnOk result ((k : Tagged) → (m : AnyMutation) → key_of k ≡ key.now → m ≢ Delete
+        → Leads (λ c. AddId c k id m)
+        at.now (S.tree store.old) (S.tree store.new) trace.old trace.new) }
     ensures links { OnOk result (LinksNone at.now (S.tree store.old) (S.tree store.new)) }
     ensures kept { Kept (S.tree store.old) (S.tree store.new) trace.old trace.new }
 {
@@ -55,7 +58,8 @@ fn assign_primitive<S: TreeStore>(
     requires there { HasPlace at.now (S.tree store.old) }
     requires chained { IsChained (S.tree store.old).now }
     requires primitive { IsPrimitive value.now }
-    ensures ok { OnOk result (Leads (λ c. Operate c (moved op.now [] last.now (Assign value.now))) at.now (S.tree store.old) (S.tree store.new) trace.old trace.new) }
+    ensures ok { OnOk result (Leads (λ c. Operate c (moved op.now [] last.now (Assign value.now)))
+        at.now (S.tree store.old) (S.tree store.new) trace.old trace.new) }
     ensures links { OnOk result (LinksNone at.now (S.tree store.old) (S.tree store.new)) }
     ensures kept { Kept (S.tree store.old) (S.tree store.new) trace.old trace.new }
 {
@@ -102,7 +106,8 @@ fn assign_empty<S: TreeStore>(
     requires there { HasPlace at.now (S.tree store.old) }
     requires chained { IsChained (S.tree store.old).now }
     requires context { HasContext key.now }
-    ensures ok { OnOk result (Leads (λ c. Operate c (moved op.now [] (key_of key.now) (Assign (empty_of key.now)))) at.now (S.tree store.old) (S.tree store.new) trace.old trace.new) }
+    ensures ok { OnOk result (Leads (λ c. Operate c (moved op.now [] (key_of key.now) (Assign (empty_of key.now))))
+        at.now (S.tree store.old) (S.tree store.new) trace.old trace.new) }
     ensures links { OnOk result (LinksNone at.now (S.tree store.old) (S.tree store.new)) }
     ensures kept { Kept (S.tree store.old) (S.tree store.new) trace.old trace.new }
 {
@@ -127,7 +132,8 @@ pub fn assign<S: TreeStore>(
 ) -> Result<(), AllocError>
     requires there { HasPlace at.now (S.tree store.old) }
     requires chained { IsChained (S.tree store.old).now }
-    ensures ok { OnOk result (Leads (λ c. Operate c (moved op.now [] last.now (Assign value.now))) at.now (S.tree store.old) (S.tree store.new) trace.old trace.new) }
+    ensures ok { OnOk result (Leads (λ c. Operate c (moved op.now [] last.now (Assign value.now)))
+        at.now (S.tree store.old) (S.tree store.new) trace.old trace.new) }
     ensures links { OnOk result (LinksNone at.now (S.tree store.old) (S.tree store.new)) }
     ensures kept { Kept (S.tree store.old) (S.tree store.new) trace.old trace.new }
 {

@@ -1,23 +1,14 @@
 //! Whether an operation can be applied.
 
 ghost use Rattle.std.specs.Prelude.{◌≢◌, ◌↔◌, IsTrue, IsFalse, None, option_copied};
-ghost use Rattle.std.specs.List.{AllByRecursion};
 ghost use Rattle.jc_rules.specs.declared.refusal.Refusal.TheVariants.{NotInList};
 ghost use Rattle.jc_rules.specs.Context.{next as next_of};
 ghost use Rattle.jc_rules.specs.Derivation.{Operate};
 ghost use Rattle.jc_rules.specs.Refused.{Refused, because};
 ghost use Rattle.jc_apply.specs.Fits.{Fits, HasNoAnswer, EachOp, made_under};
-ghost use Rattle.jc_apply.specs.Leads.{HasContext};
 
 use jc_rules::{Cursor, Key, Mutation, Tagged};
 use jc_tree::TreeStore;
-
-/// Whether a context stands under the tagged key, if anything does.
-fn is_node(key: &Tagged) -> bool
-    ensures { IsTrue result ↔ HasContext key.now }
-{
-    !matches!(key, Tagged::RegT(_))
-}
 
 /// Whether something follows the key in the context that was just made under a tagged key: only
 /// the head of a new list is linked.
@@ -27,23 +18,19 @@ fn is_new_head(parent: Option<&Tagged>, key: &Key) -> bool
     matches!((parent, key), (Some(Tagged::ListT(_)), Key::Head))
 }
 
-/// Whether an operation with this cursor and this mutation can be applied: its path leads through
-/// maps and lists, where those that aren't there yet would be made, and an insert's key is linked
-/// at the path's end. Where only the link is missing, the operation is refused with `NotInList`.
-/// Where a register's key is on the path, as on no path that an expression makes, no rule applies.
-/// It takes no memory.
+/// Whether an operation with this cursor and this mutation can be applied: maps and lists on its
+/// path that aren't there yet would be made, and an insert's key has to be linked at the path's
+/// end. What doesn't fit is refused with `NotInList`. It takes no memory.
 pub fn fits<S: TreeStore>(store: &S, cursor: &Cursor, mutation: &Mutation) -> bool
     ensures fits { IsTrue result ↔ Fits (S.tree store.now).now cursor.now.path cursor.now.last mutation.now }
-    ensures no_answer { IsFalse result → EachOp cursor.now mutation.now (λ o. HasNoAnswer (Operate (S.tree store.now).now o)) }
-    ensures refused { IsFalse result → AllByRecursion HasContext cursor.now.path
+    ensures no_answer { IsFalse result
+        → EachOp cursor.now mutation.now (λ o. HasNoAnswer (Operate (S.tree store.now).now o)) }
+    ensures refused { IsFalse result
         → EachOp cursor.now mutation.now (λ o. Refused (Operate (S.tree store.now).now o) (because NotInList)) }
 {
     let path = cursor.path.as_slice();
     let mut there = true;
     for (depth, key) in path.iter().enumerate() {
-        if !is_node(key) {
-            return false;
-        }
         there = there && store.has(&path[..depth], key);
     }
     match mutation {

@@ -86,7 +86,8 @@ pub fn insert<S: TreeStore>(
     requires fresh { IsUnlinked op.now.id (S.tree store.old).now }
     requires inserts { op.now.mutation ≡ Insert value.now }
     requires linked { next_of op.now.cursor.last (here at.now (S.tree store.old)) ≢ None }
-    ensures ok { OnOk result (Leads (λ c. Operate c (moved op.now [] op.now.cursor.last op.now.mutation)) at.now (S.tree store.old) (S.tree store.new) trace.old trace.new) }
+    ensures ok { OnOk result (Leads (λ c. Operate c (moved op.now [] op.now.cursor.last op.now.mutation))
+        at.now (S.tree store.old) (S.tree store.new) trace.old trace.new) }
     ensures links { OnOk result (LinksOnly op.now.id (S.tree store.old) (S.tree store.new)) }
     ensures kept { Kept (S.tree store.old) (S.tree store.new) trace.old trace.new }
 {

@@ -9,8 +9,3 @@ mod registers;
 
 pub use apply::{ApplyFault, apply_op};
 pub use fitting::fits;
-
-#[cfg(test)]
-mod fits_tests;
-#[cfg(test)]
-mod tests;

@@ -11,9 +11,10 @@ ghost use Rattle.jc_rules.specs.Derivation.{Child, ToContent};
 ghost use Rattle.jc_rules.specs.Derives.{Derives};
 ghost use Rattle.jc_rules.specs.Trace.{IsLonger};
 ghost use Rattle.jc_rules.specs.Table.{Follows};
+ghost use Rattle.jc_rules.specs.Paths.{HasContext};
 ghost use Rattle.jc_tree.specs.Tree.{HasPlace, here};
 ghost use Rattle.jc_tree.specs.Kept.{Kept};
-ghost use Rattle.jc_apply.specs.Leads.{Enters, LinksNone, HasContext};
+ghost use Rattle.jc_apply.specs.Leads.{Enters, LinksNone};
 
 use jc_rules::{Id, Key, Rule, Tagged, Trace, Value, compare_ids};
 use jc_tree::TreeStore;
@@ -39,7 +40,8 @@ pub fn pairs_of<S: TreeStore>(
     trace: &mut Trace,
 ) -> Result<Vec<(Id, Value)>, AllocError>
     requires { HasPlace at.now (S.tree store.now) }
-    ensures ok { IfOk result (λ pairs. Derives (Child (here at.now (S.tree store.now)) (RegT key.now)) (ToContent (Values pairs.items)) trace.old trace.new) }
+    ensures ok { IfOk result (λ pairs. Derives (Child (here at.now (S.tree store.now)) (RegT key.now))
+        (ToContent (Values pairs.items)) trace.old trace.new) }
     ensures register { IfOk result (λ pairs. IsKeptRegister pairs.items) }
     ensures kept { IsLonger trace.old trace.new }
 {
@@ -84,7 +86,8 @@ pub fn put_pair(pairs: &mut Vec<(Id, Value)>, id: Id, value: Value) -> Result<()
 
 /// The rule that makes what stands under a tagged key.
 fn child_rule(key: &Tagged) -> Rule
-    ensures { (c : Context) → content key.now c ≡ None → Follows result (Child c key.now) (ToContent (new_content key.now)) [] }
+    ensures { (c : Context) → content key.now c ≡ None
+        → Follows result (Child c key.now) (ToContent (new_content key.now)) [] }
 {
     match key {
         Tagged::MapT(_) => Rule::ChildMap,

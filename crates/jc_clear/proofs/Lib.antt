@@ -5,3 +5,4 @@ pub mod Rules
 pub mod Turns
 pub mod Lists
 pub mod Maps
+pub mod Standing

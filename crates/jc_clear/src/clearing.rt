@@ -9,7 +9,7 @@ ghost use Rattle.jc_rules.specs.Shape.{IsChained, IsChainedList};
 ghost use Rattle.jc_tree.specs.Kept.{Kept};
 ghost use Rattle.jc_tree.specs.Tree.{HasPlace, here};
 ghost use Rattle.jc_clear.specs.Bare.{AreChainedBelow};
-ghost use Rattle.jc_clear.specs.Clears.{Clears};
+ghost use Rattle.jc_clear.specs.Clears.{Clears, ClearsFor};
 
 use crate::registers::{clear_register, presence_of};
 use crate::sets::{left_out, united};
@@ -29,7 +29,8 @@ fn elem_in<S: TreeStore>(
 ) -> Result<Vec<Id>, AllocError>
     requires there { HasPlace at.old.items (S.tree store.old) }
     requires chained { AreChainedBelow (here at.old.items (S.tree store.old)) }
-    ensures ok { IfOk result (λ ids. Clears (λ c. ClearElem c deps.now key.now) at.old.items (S.tree store.old) (S.tree store.new) ids.items trace.old trace.new) }
+    ensures ok { IfOk result (λ ids. Clears (λ c. ClearElem c deps.now key.now)
+        at.old.items (S.tree store.old) (S.tree store.new) ids.items trace.old trace.new) }
     ensures path { OnOk result (at.new.items ≡ at.old.items) }
     ensures kept { Kept (S.tree store.old) (S.tree store.new) trace.old trace.new }
 {
@@ -56,7 +57,8 @@ fn any_in<S: TreeStore>(
 ) -> Result<Vec<Id>, AllocError>
     requires there { HasPlace at.old.items (S.tree store.old) }
     requires chained { AreChainedBelow (here at.old.items (S.tree store.old)) }
-    ensures ok { IfOk result (λ ids. Clears (λ c. ClearAny c deps.now key.now) at.old.items (S.tree store.old) (S.tree store.new) ids.items trace.old trace.new) }
+    ensures ok { IfOk result (λ ids. Clears (λ c. ClearAny c deps.now key.now)
+        at.old.items (S.tree store.old) (S.tree store.new) ids.items trace.old trace.new) }
     ensures path { OnOk result (at.new.items ≡ at.old.items) }
     ensures kept { Kept (S.tree store.old) (S.tree store.new) trace.old trace.new }
 {
@@ -83,7 +85,8 @@ fn clear_map<S: TreeStore>(
 ) -> Result<Vec<Id>, AllocError>
     requires there { HasPlace at.old.items (S.tree store.old) }
     requires chained { AreChainedBelow (here at.old.items (S.tree store.old)) }
-    ensures ok { IfOk result (λ ids. Clears (λ c. Clear c deps.now (MapT key.now)) at.old.items (S.tree store.old) (S.tree store.new) ids.items trace.old trace.new) }
+    ensures ok { IfOk result (λ ids. Clears (λ c. Clear c deps.now (MapT key.now))
+        at.old.items (S.tree store.old) (S.tree store.new) ids.items trace.old trace.new) }
     ensures path { OnOk result (at.new.items ≡ at.old.items) }
     ensures kept { Kept (S.tree store.old) (S.tree store.new) trace.old trace.new }
 {
@@ -112,7 +115,8 @@ fn map_in<S: TreeStore>(
 ) -> Result<Vec<Id>, AllocError>
     requires there { HasPlace at.old.items (S.tree store.old) }
     requires chained { AreChainedBelow (here at.old.items (S.tree store.old)) }
-    ensures ok { IfOk result (λ ids. Clears (λ c. ClearMap c deps.now []) at.old.items (S.tree store.old) (S.tree store.new) ids.items trace.old trace.new) }
+    ensures ok { IfOk result (λ ids. Clears (λ c. ClearMap c deps.now [])
+        at.old.items (S.tree store.old) (S.tree store.new) ids.items trace.old trace.new) }
     ensures path { OnOk result (at.new.items ≡ at.old.items) }
     ensures kept { Kept (S.tree store.old) (S.tree store.new) trace.old trace.new }
 {
@@ -143,7 +147,8 @@ fn clear_list<S: TreeStore>(
 ) -> Result<Vec<Id>, AllocError>
     requires there { HasPlace at.old.items (S.tree store.old) }
     requires chained { AreChainedBelow (here at.old.items (S.tree store.old)) }
-    ensures ok { IfOk result (λ ids. Clears (λ c. Clear c deps.now (ListT key.now)) at.old.items (S.tree store.old) (S.tree store.new) ids.items trace.old trace.new) }
+    ensures ok { IfOk result (λ ids. Clears (λ c. Clear c deps.now (ListT key.now))
+        at.old.items (S.tree store.old) (S.tree store.new) ids.items trace.old trace.new) }
     ensures path { OnOk result (at.new.items ≡ at.old.items) }
     ensures kept { Kept (S.tree store.old) (S.tree store.new) trace.old trace.new }
 {
@@ -172,19 +177,20 @@ fn list_in<S: TreeStore>(
 ) -> Result<Vec<Id>, AllocError>
     requires there { HasPlace at.old.items (S.tree store.old) }
     requires chained { IsChainedList (here at.old.items (S.tree store.old)) }
-    ensures ok { IfOk result (λ ids. Clears (λ c. ClearList c deps.now (Some Head)) at.old.items (S.tree store.old) (S.tree store.new) ids.items trace.old trace.new) }
+    ensures ok { IfOk result (λ ids. Clears (λ c. ClearList c deps.now (Some Head))
+        at.old.items (S.tree store.old) (S.tree store.new) ids.items trace.old trace.new) }
     ensures path { OnOk result (at.new.items ≡ at.old.items) }
     ensures kept { Kept (S.tree store.old) (S.tree store.new) trace.old trace.new }
 {
     let depth = trace.depth();
     let mut ids = Vec::new(alloc);
     let mut place = Some(Key::Head);
-    while let Some(key) = place {
-        let Some(next) = store.next(at.as_slice(), &key) else {
+    while let Some(element) = place {
+        let Some(next) = store.next(at.as_slice(), &element) else {
             unreachable!();
         };
         trace.open(Rule::ClearList2)?;
-        let more = elem_in(alloc, store, deps, at, &key, trace)?;
+        let more = elem_in(alloc, store, deps, at, &element, trace)?;
         ids = united(ids, more.as_slice())?;
         place = match next {
             Next::Tail => None,
@@ -207,7 +213,8 @@ fn tagged_in<S: TreeStore>(
 ) -> Result<Vec<Id>, AllocError>
     requires there { HasPlace at.old.items (S.tree store.old) }
     requires chained { AreChainedBelow (here at.old.items (S.tree store.old)) }
-    ensures ok { IfOk result (λ ids. Clears (λ c. Clear c deps.now key.now) at.old.items (S.tree store.old) (S.tree store.new) ids.items trace.old trace.new) }
+    ensures ok { IfOk result (λ ids. Clears (λ c. Clear c deps.now key.now)
+        at.old.items (S.tree store.old) (S.tree store.new) ids.items trace.old trace.new) }
     ensures kept { Kept (S.tree store.old) (S.tree store.new) trace.old trace.new }
 {
     match key {
@@ -244,7 +251,10 @@ pub fn clear<S: TreeStore>(
 ) -> Result<Vec<Id>, AllocError>
     requires there { HasPlace at.now (S.tree store.old) }
     requires chained { IsChained (S.tree store.old).now }
-    ensures ok { IfOk result (λ ids. Clears (λ c. Clear c deps.now key.now) at.now (S.tree store.old) (S.tree store.new) ids.items trace.old trace.new) }
+    ensures ok { IfOk result (λ ids. Clears (λ c. Clear c deps.now key.now)
+        at.now (S.tree store.old) (S.tree store.new) ids.items trace.old trace.new) }
+    ensures stands { IfOk result (λ ids. ClearsFor (λ deps c. Clear c deps key.now)
+        deps.now at.now (S.tree store.old) (S.tree store.new) ids.items trace.old trace.new) }
     ensures err_store { OnErr result (S.tree store.new ≡ S.tree store.old) }
     ensures err_trace { OnErr result (trace.new ≡ trace.old) }
     ensures kept { Kept (S.tree store.old) (S.tree store.new) trace.old trace.new }
@@ -279,7 +289,10 @@ pub fn clear_elem<S: TreeStore>(
 ) -> Result<Vec<Id>, AllocError>
     requires there { HasPlace at.now (S.tree store.old) }
     requires chained { IsChained (S.tree store.old).now }
-    ensures ok { IfOk result (λ ids. Clears (λ c. ClearElem c deps.now key.now) at.now (S.tree store.old) (S.tree store.new) ids.items trace.old trace.new) }
+    ensures ok { IfOk result (λ ids. Clears (λ c. ClearElem c deps.now key.now)
+        at.now (S.tree store.old) (S.tree store.new) ids.items trace.old trace.new) }
+    ensures stands { IfOk result (λ ids. ClearsFor (λ deps c. ClearElem c deps key.now)
+        deps.now at.now (S.tree store.old) (S.tree store.new) ids.items trace.old trace.new) }
     ensures err_store { OnErr result (S.tree store.new ≡ S.tree store.old) }
     ensures err_trace { OnErr result (trace.new ≡ trace.old) }
     ensures kept { Kept (S.tree store.old) (S.tree store.new) trace.old trace.new }

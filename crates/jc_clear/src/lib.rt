@@ -7,6 +7,3 @@ mod sets;
 
 pub use clearing::{clear, clear_elem};
 pub use registers::presence_of;
-
-#[cfg(test)]
-mod tests;

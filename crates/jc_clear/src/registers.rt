@@ -29,7 +29,8 @@ pub fn presence_of<S: TreeStore>(
     trace: &mut Trace,
 ) -> Result<Vec<Id>, AllocError>
     requires { HasPlace at.now (S.tree store.now) }
-    ensures ok { IfOk result (λ ids. Derives (Presence (here at.now (S.tree store.now)) key.now) (ToIds ids.items) trace.old trace.new) }
+    ensures ok { IfOk result (λ ids. Derives (Presence (here at.now (S.tree store.now)) key.now)
+        (ToIds ids.items) trace.old trace.new) }
     ensures rises { IfOk result (λ ids. AreRising ids.items) }
     ensures err { OnErr result (trace.new ≡ trace.old) }
     ensures kept { IsLonger trace.old trace.new }
@@ -70,7 +71,8 @@ pub fn clear_register<S: TreeStore>(
     trace: &mut Trace,
 ) -> Result<Vec<Id>, AllocError>
     requires { HasPlace at.now (S.tree store.old) }
-    ensures ok { IfOk result (λ ids. Clears (λ c. Clear c deps.now (RegT key.now)) at.now (S.tree store.old) (S.tree store.new) ids.items trace.old trace.new) }
+    ensures ok { IfOk result (λ ids. Clears (λ c. Clear c deps.now (RegT key.now))
+        at.now (S.tree store.old) (S.tree store.new) ids.items trace.old trace.new) }
     ensures kept { Kept (S.tree store.old) (S.tree store.new) trace.old trace.new }
 {
     match store.register(at, key) {

@@ -3,60 +3,32 @@ use Rattle.std.proofs.Common.{◌≡◌, ◌≢◌, ◌<◌, ◌≤◌, List, []
 use Rattle.std.specs.List.{AllByRecursion}
 use Rattle.jc_rules.specs.declared.key.Key.{Key}
 use Rattle.jc_rules.specs.declared.key.Tagged.{Tagged}
-use Rattle.jc_rules.specs.declared.key.Tagged.TheVariants.{MapT, ListT, RegT}
 use Rattle.jc_rules.specs.Order.{key_cmp, same_key}
 use Rattle.jc_rules.specs.Entries.{find, keys_of, IsRising}
-use Rattle.jc_rules.specs.Context.{Context, context, Children, no_child, child, Content, Node, Values, content, node_of, values_of, listed, maps, lists, registers, presences, links, keys}
+use Rattle.jc_rules.specs.Context.{Context, context, Children, no_child, child, Node, content, node_of, listed, maps, lists, registers, presences, links, keys}
 use Rattle.jc_rules.specs.Places.{node_at, context_at, or_empty}
-use Rattle.jc_rules.specs.Shape.{IsKept, AreKept}
+use Rattle.jc_rules.specs.Shape.{IsKept}
 use Rattle.jc_rules.proofs.Places.{there, node-below}
 use Rattle.jc_tree.specs.Nested.{nested, nested_in}
+use Rattle.jc_tree.proofs.Keeping.{kept-node}
+use Rattle.jc_tree.proofs.Places.{some_place}
 use Rattle.jc_dump.specs.declared.dump.Branch.{Branch}
 use Rattle.jc_dump.specs.declared.dump.Branch.TheVariants as B
 use Rattle.jc_dump.specs.DumpParts.{tag_of, children_in}
 use Rattle.jc_dump.proofs.DumpWalk.{all-left, all-right}
 
--- the child at a key is kept, and it is smaller
-pub record IsChild (d : Context) (cs : Children) : Type 0 where
-  pub kept : AreKept cs → IsKept d
-  pub smaller : nested d < nested_in cs
-
-pub found_child : (k : Key) (d : Context) (cs : Children) → find key_cmp k (listed cs) ≡ Some d → IsChild d cs
-found_child k d no_child e = cc
-found_child k d (child j c cs) e = go (same_key k j) refl (found_child k d cs) e
+-- the child at a key is smaller
+found_smaller : (k : Key) (d : Context) (cs : Children) → find key_cmp k (listed cs) ≡ Some d → nested d < nested_in cs
+found_smaller k d no_child e = cc
+found_smaller k d (child j c cs) e = go (same_key k j) refl (found_smaller k d cs) e
   where
-    go : (b : Bool) → same_key k j ≡ b → (find key_cmp k (listed cs) ≡ Some d → IsChild d cs) → find key_cmp k (listed (child j c cs)) ≡ Some d → IsChild d (child j c cs)
-    go true f ih g = let s : c ≡ d = let t : Some c ≡ Some d = rw f at g in cc in rw (← s) (record { kept = λ h. h.0; smaller = omega arith })
-    go false f ih g = let r = ih (rw f at g) in record { kept = λ h. r.kept h.1; smaller = omega (arith, r.smaller) }
-
-node_found : (o : Option Context) (d : Context) → node_of o ≡ Some (Node d) → o ≡ Some d
-node_found None d e = cc
-node_found (Some c) d e = cc
-
-no_values : (A : Type 0) (o : Option _) (d : Context) → values_of o ≡ Some (Node d) → A
-no_values A None d e = absurd (let h : ⊥ = cc in h)
-no_values A (Some r) d e = absurd (let h : ⊥ = cc in h)
-
-pub kept_content : (t : Tagged) (c d : Context) → content t c ≡ Some (Node d) → IsKept c → IsKept d
-kept_content (MapT k) (context m l r p n) d e h = (found_child k d m (node_found (find key_cmp k (listed m)) d e)).kept h.7
-kept_content (ListT k) (context m l r p n) d e h = (found_child k d l (node_found (find key_cmp k (listed l)) d e)).kept h.8
-kept_content (RegT k) (context m l r p n) d e h = no_values (IsKept d) (find key_cmp k r) d e
-
-none_some : {A : Type 0} {x : Context} → None ≡ Some x → A
-none_some e = absurd (let f : ⊥ = cc in f)
-
-kept_node : (ks : List Tagged) (c x : Context) → node_at ks c ≡ Some x → IsKept c → IsKept x
-kept_node [] c x e h = let s : c ≡ x = cc in rw (← s) h
-kept_node (k ∷ ks) c x e h = go (content k c) refl (λ d. kept_node ks d x)
-  where
-    go : (o : Option Content) → content k c ≡ o → ((d : Context) → node_at ks d ≡ Some x → IsKept d → IsKept x) → IsKept x
-    go None f ih = none_some (rw f at e)
-    go (Some (Values r)) f ih = none_some (rw f at e)
-    go (Some (Node d)) f ih = ih d (rw f at e) (kept_content k c d f h)
+    go : (b : Bool) → same_key k j ≡ b → (find key_cmp k (listed cs) ≡ Some d → nested d < nested_in cs) → find key_cmp k (listed (child j c cs)) ≡ Some d → nested d < nested_in (child j c cs)
+    go true f ih g = let s : c ≡ d = let t : Some c ≡ Some d = rw f at g in cc in rw (← s) (omega arith)
+    go false f ih g = let r = ih (rw f at g) in omega (arith, r)
 
 -- the context at a place of a kept tree is kept
 pub kept_at : (ks : List Tagged) (c : Context) → node_at ks c ≢ None → IsKept c → IsKept (context_at ks c)
-kept_at ks c h k = kept_node ks c (context_at ks c) (there ks c h) k
+kept_at ks c h k = kept-node ks c (context_at ks c) k (there ks c h)
 
 -- one key further down stands the child
 pub record StandsBelow (ks : List Tagged) (t : Tagged) (d c : Context) : Type 0 where
@@ -66,7 +38,7 @@ pub record StandsBelow (ks : List Tagged) (t : Tagged) (d c : Context) : Type 0 
 pub child_below : (ks : List Tagged) (t : Tagged) (d c : Context) → node_at ks c ≢ None → content t (context_at ks c) ≡ Some (Node d) → StandsBelow ks t d c
 child_below ks t d c h e =
     let n : node_at (ks ++ t ∷ []) c ≡ Some d = node-below ks t (context_at ks c) d c (there ks c h) e in
-    record { there = λ f. none_some (sym f ∙ n); is = ap or_empty n }
+    record { there = some_place (ks ++ t ∷ []) c d n; is = ap or_empty n }
 
 -- ---- what is kept rises
 
@@ -117,5 +89,5 @@ has_child ks b k c h e = go (find key_cmp k (listed (children_in b (context_at k
     go None f = let g : is_some (node_of (find key_cmp k (listed (children_in b (context_at ks c))))) ≡ true = ap is_some (sym (content_in b k (context_at ks c))) ∙ e in let i : false ≡ true = rw f at g in cc
     go (Some d) f =
         let s = child_below ks (tag_of b k) d c h (content_in b k (context_at ks c) ∙ ap node_of f) in
-        let small = (found_child k d (children_in b (context_at ks c)) f).smaller in
+        let small = found_smaller k d (children_in b (context_at ks c)) f in
         record { child = d; found = sym f; there = s.there; is = s.is; smaller = rw s.is (omega (arith, small, nested_in_kind b (context_at ks c))) }

@@ -194,15 +194,6 @@ module _ {X : Type 0} where
   none_above last [] h = refl
   none_above last (e ∷ es) h = rw h.0 (none_above last es h.1)
 
-  found_in : (P : Key → Type 0) (k : Key) (v : X) (es : List (Key × X)) → AllByRecursion P (keys_of es) → find key_cmp k es ≡ Some v → P k
-  found_in P k v [] a e = cc
-  found_in P k v (d ∷ es) a e = go (key_cmp k d.0) refl (found_in P k v es a.1) e
-    where
-      go : (o : Ordering) → key_cmp k d.0 ≡ o → (find key_cmp k es ≡ Some v → P k) → find key_cmp k (d ∷ es) ≡ Some v → P k
-      go Less f ih g = ih (rw f at g)
-      go Equal f ih g = let s : k ≡ d.0 = exact_keys k d.0 f in rw s a.0
-      go Greater f ih g = ih (rw f at g)
-
   not_found : (k : Key) (es : List (Key × X)) → AllByRecursion (λ j. key_cmp k j ≡ Less) (keys_of es) → find key_cmp k es ≡ None
   not_found k [] h = refl
   not_found k (e ∷ es) h = rw h.0 (not_found k es h.1)

@@ -318,6 +318,3 @@ pub fn dump_line_of<S: TreeStore>(
     line.push_str("\n")?;
     Ok(line)
 }
-
-#[cfg(test)]
-mod tests;

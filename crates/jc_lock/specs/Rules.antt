@@ -1,5 +1,6 @@
 -- The rule of the lock's table, which holds between any two steps.
--- Word 0 is the number of tickets drawn, word 1 the ticket whose turn it is, and word 2 the length of the history. The one slot holds the value.
+-- Word 0 is the number of tickets drawn, word 1 the ticket whose turn it is, and word 2 the length of the history. The
+-- one slot holds the value.
 use Rattle.std.specs.Prelude.{◌≡◌, ℕ, ◌+◌, ◌*◌, ◌^◌, ◌<◌, ◌≤◌, Bool, true, false, List, [], ◌∷◌, length, slice_index, nat_eq, sum_by, count_by, All, Some, Option, if◌then◌else◌}
 use mathlib.Core.Option.{some}
 use lib.ListN.{get_elem?}
@@ -56,20 +57,31 @@ module _ {E : Type 0} where
   FitsStage due history known (Holds t) = (x : Known E) × (known ≡ x ∷ []) × (x.seen ≡ history) × (t ≡ due)
 
   abbrev pub FitsSeat : {O : Type 0} → (E → ℕ) → ℕ → List E → O → View E O → Type 0
-  FitsSeat maker due history o v = (0 < length v.knows → v.origin ≡ Some o) × AllTrueOf maker history v.knows × FitsStage due history v.knows v.stage
+  FitsSeat maker due history o v =
+      (0 < length v.knows → v.origin ≡ Some o)
+      × AllTrueOf maker history v.knows
+      × FitsStage due history v.knows v.stage
 
 module _ {K E O : Type 0} (origin : K → O) (list : K → List E) (maker : E → ℕ) where
-  -- There is one history. Tickets are drawn, served and made within the terms, each once; each number of a pass is known at one seat at most.
-  -- While no seat has the turn the value at home has the history for its list, and the origin of the value that the lock was opened with.
+  -- There is one history. Tickets are drawn, served and made within the terms, each once; each number of a pass is
+  -- known at one seat at most.
+  -- While no seat has the turn the value at home has the history for its list, and the origin of the value that the
+  -- lock was opened with.
   pub record IsKept (terms : Terms K) (s : State (Option K) (View E O)) : Type 0 where
     pub history : List E
     pub wide : length s.words ≡ 3
     pub queue : slice_index s.words 0 ≡ slice_index s.words 1 + sum_by tickets_of s.views
-    pub tickets : (t : ℕ) → OnceAnd (sum_by (times_ticket t) s.views) ((slice_index s.words 1 ≤ t) × (t < slice_index s.words 0))
+    pub tickets : (t : ℕ)
+        → OnceAnd (sum_by (times_ticket t) s.views) ((slice_index s.words 1 ≤ t) × (t < slice_index s.words 0))
     pub budget : slice_index s.words 0 + sum_by takes_left s.views ≡ terms.passes * terms.takes
     pub small : terms.passes * terms.takes < 2 ^ 56
     pub numbers : (p : ℕ) → OnceAnd (sum_by (times_known p) s.views) (p < terms.passes)
-    pub seats : (j : ℕ) (v : View E O) → get_elem? s.views j ≡ some v → FitsSeat maker (slice_index s.words 1) history (origin terms.opened.value) v
-    pub at_home : NoTurn s.views → (x : K) × (get_elem? s.homes 0 ≡ some (some (Some x))) × (origin x ≡ origin terms.opened.value) × (list x ≡ history)
+    pub seats : (j : ℕ) (v : View E O) → get_elem? s.views j ≡ some v
+        → FitsSeat maker (slice_index s.words 1) history (origin terms.opened.value) v
+    pub at_home : NoTurn s.views
+        → (x : K)
+        × (get_elem? s.homes 0 ≡ some (some (Some x)))
+        × (origin x ≡ origin terms.opened.value)
+        × (list x ≡ history)
     pub counted : slice_index s.words 2 ≡ length history
     pub makers : All (λ e. maker e < terms.passes) history

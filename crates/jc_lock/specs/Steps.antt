@@ -72,16 +72,26 @@ PassesOn step me found me' = me' ≡ (at_rest me.0, rest me.1)
 module _ {K E O : Type 0} (origin : K → O) (list : K → List E) (maker : E → ℕ) where
   -- the ticket t has the turn, and the value
   abbrev pub Starts : ℕ → Sat K E O → Sat K E O → Type 0
-  Starts t me me' = (x : K) × (me' ≡ (with_turn me.0 t (list x), (0, Some x) ∷ me.1)) × (me.0.origin ≡ Some (origin x)) × Continues maker me.0.knows (list x)
+  Starts t me me' =
+      (x : K)
+      × (me' ≡ (with_turn me.0 t (list x), (0, Some x) ∷ me.1))
+      × (me.0.origin ≡ Some (origin x))
+      × Continues maker me.0.knows (list x)
 
   abbrev pub Looks : Step (Option K) → Sat K E O → ℕ → Sat K E O → Type 0
-  Looks step me found me' = (found ≡ ticket_in me.0.stage → Starts found me me') × (found ≢ ticket_in me.0.stage → me' ≡ me)
+  Looks step me found me' =
+      (found ≡ ticket_in me.0.stage → Starts found me me')
+      × (found ≢ ticket_in me.0.stage → me' ≡ me)
 
 abbrev pub Publishes : {K E O : Type 0} → (K → List E) → Step (Option K) → Sat K E O → ℕ → Sat K E O → Type 0
 Publishes list step me found me' = me' ≡ (with_grown me.0 (list_in list me.1), me.1)
 
 abbrev pub Reads : {K E O : Type 0} → (E → ℕ) → Step (Option K) → Sat K E O → ℕ → Sat K E O → Type 0
-Reads {E = E} maker step me found me' = (history : List E) × (me' ≡ (with_seen me.0 history, me.1)) × (found ≡ length history) × Continues maker me.0.knows history
+Reads {E = E} maker step me found me' =
+    (history : List E)
+    × (me' ≡ (with_seen me.0 history, me.1))
+    × (found ≡ length history)
+    × Continues maker me.0.knows history
 
 abbrev pub IsSameSeat : {S V : Type 0} → Seat S V → Seat S V → Type 0
 IsSameSeat a b = (b.table_id ≡ a.table_id) × (b.id ≡ a.id)

@@ -15,8 +15,6 @@ mod open;
 mod plays;
 mod readers;
 mod steps;
-#[cfg(test)]
-mod tests;
 mod turns;
 mod view;
 

@@ -72,7 +72,8 @@ impl<K: Kept> HistoryLock<K> {
         requires small { terms.now.passes * terms.now.takes < 2 ^ 56 }
         ensures sized { IfOk result (λ r. (r.0.shared.table_id.words ≡ 3) × (r.0.shared.table_id.slots ≡ 1)) }
         ensures terms { IfOk result (λ r. r.0.shared.key ≡ terms.now) }
-        ensures seat { IfOk result (λ r. (r.1.table_id ≡ r.0.shared.table_id) × (r.1.me ≡ (first_dealer K.origin terms.now, []))) }
+        ensures seat { IfOk result (λ r. (r.1.table_id ≡ r.0.shared.table_id)
+            × (r.1.me ≡ (first_dealer K.origin terms.now, []))) }
         ensures err { IfErr result (λ x. x ≡ value) }
     {
         let slots = one_slot(alloc, value)?;

@@ -83,11 +83,18 @@ impl<K: Kept> HistoryLock<K> {
         requires table { seat.old.table_id ≡ self.now.table.shared.table_id }
         requires turn { has_turn seat.old.me.0.stage ≡ true }
         requires single { length seat.old.me.0.knows ≡ 1 }
-        requires own { own K.maker (seen_in seat.old.me.0.knows) (number_in seat.old.me.0.knows) ≡ mine_in seat.old.me.0.knows }
-        requires more { (x : K) × (e : K.Entry) × (seat.old.me.1 ≡ (0, Some x) ∷ []) × (K.list x ≡ seen_in seat.old.me.0.knows ++ e ∷ []) × (K.maker e ≡ number_in seat.old.me.0.knows) × (length (K.list x) < 2 ^ 64) }
+        requires own { own K.maker (seen_in seat.old.me.0.knows) (number_in seat.old.me.0.knows)
+            ≡ mine_in seat.old.me.0.knows }
+        requires more { (x : K)
+            × (e : K.Entry)
+            × (seat.old.me.1 ≡ (0, Some x) ∷ [])
+            × (K.list x ≡ seen_in seat.old.me.0.knows ++ e ∷ [])
+            × (K.maker e ≡ number_in seat.old.me.0.knows)
+            × (length (K.list x) < 2 ^ 64) }
         ensures same { IsSameSeat seat.old seat.new }
         ensures grown { seat.new.me ≡ (with_grown seat.old.me.0 (list_in K.list seat.old.me.1), seat.old.me.1) }
-        ensures own { own K.maker (seen_in seat.new.me.0.knows) (number_in seat.old.me.0.knows) ≡ mine_in seat.new.me.0.knows }
+        ensures own { own K.maker (seen_in seat.new.me.0.knows) (number_in seat.old.me.0.knows)
+            ≡ mine_in seat.new.me.0.knows }
     {
         self.table.shared.fetch_add::<Publish>(seat, COUNT, 1);
     }
@@ -96,7 +103,10 @@ impl<K: Kept> HistoryLock<K> {
     pub(crate) fn pass_on(&self, seat: &mut Place<K>)
         requires table { seat.old.table_id ≡ self.now.table.shared.table_id }
         requires turn { has_turn seat.old.me.0.stage ≡ true }
-        requires whole { (x : K) × (seat.old.me.1 ≡ (0, Some x) ∷ []) × (seat.old.me.0.origin ≡ Some (K.origin x)) × (K.list x ≡ seen_in seat.old.me.0.knows) }
+        requires whole { (x : K)
+            × (seat.old.me.1 ≡ (0, Some x) ∷ [])
+            × (seat.old.me.0.origin ≡ Some (K.origin x))
+            × (K.list x ≡ seen_in seat.old.me.0.knows) }
         ensures same { IsSameSeat seat.old seat.new }
         ensures rested { seat.new.me ≡ (at_rest seat.old.me.0, []) }
     {
@@ -110,7 +120,10 @@ impl<K: Kept> HistoryLock<K> {
         requires rests { seat.old.me.0.stage ≡ Rests }
         requires single { length seat.old.me.0.knows ≡ 1 }
         ensures same { IsSameSeat seat.old seat.new }
-        ensures read { (history : List K.Entry) × (seat.new.me ≡ (with_seen seat.old.me.0 history, seat.old.me.1)) × (result ≡ length history) × Continues K.maker seat.old.me.0.knows history }
+        ensures read { (history : List K.Entry)
+            × (seat.new.me ≡ (with_seen seat.old.me.0 history, seat.old.me.1))
+            × (result ≡ length history)
+            × Continues K.maker seat.old.me.0.knows history }
     {
         self.table.shared.load::<Read>(seat, COUNT)
     }

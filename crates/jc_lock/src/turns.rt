@@ -16,9 +16,12 @@ impl<K: Kept> HistoryLock<K> {
         requires { IsPassOf self.now pass }
         ensures lock { IfOk result (λ t. IsTurnOf self.now t) }
         ensures number { IfOk result (λ t. (turn_number t ≡ pass_number pass) × (turn_left t + 1 ≡ pass_left pass)) }
-        ensures origin { IfOk result (λ t. (turn_origin t ≡ pass_origin pass) × (pass_origin pass ≡ Some (K.origin (turn_value t)))) }
-        ensures list { IfOk result (λ t. (turn_seen t ≡ K.list (turn_value t)) × IsPrefix (pass_seen pass) (K.list (turn_value t))) }
-        ensures mine { IfOk result (λ t. (turn_mine t ≡ pass_mine pass) × (own K.maker (K.list (turn_value t)) (pass_number pass) ≡ pass_mine pass)) }
+        ensures origin { IfOk result (λ t. (turn_origin t ≡ pass_origin pass)
+            × (pass_origin pass ≡ Some (K.origin (turn_value t)))) }
+        ensures list { IfOk result (λ t. (turn_seen t ≡ K.list (turn_value t))
+            × IsPrefix (pass_seen pass) (K.list (turn_value t))) }
+        ensures mine { IfOk result (λ t. (turn_mine t ≡ pass_mine pass)
+            × (own K.maker (K.list (turn_value t)) (pass_number pass) ≡ pass_mine pass)) }
         ensures when { IsErr result ↔ (pass_left pass ≡ 0) }
         ensures spent { IfErr result (λ s. s.pass ≡ pass) }
     {

@@ -1,5 +1,5 @@
 -- An event that is all of the lexemes, or stands at their front: the grammar, the places and the faults.
-use Rattle.std.proofs.Common.{◌≡◌, ◌≢◌, ℕ, ◌+◌, ◌-◌, ◌≤◌, inl, inr, true, List, [], ◌++◌, length, Result, Ok, Err, refl, sym, ap, subst, ◌∙◌, arith}
+use Rattle.std.proofs.Common.{◌≡◌, ◌≢◌, ℕ, ◌-◌, ◌≤◌, inl, inr, true, List, [], ◌++◌, length, Result, Ok, Err, refl, sym, ap, subst, ◌∙◌}
 use Rattle.std.specs.Prelude.{IfOk, IfErr, drop}
 use Rattle.std.proofs.lemmas.List.{append-nil}
 use Rattle.jc_syntax.specs.declared.token.Token.{Token}
@@ -7,7 +7,7 @@ use Rattle.jc_syntax.specs.declared.tree.NamedEvent.{NamedEvent}
 use Rattle.jc_parser.specs.declared.parse_fault.ParseFault.TheVariants as sentence
 use Rattle.jc_parser.specs.declared.fault.ScenarioFault.{ScenarioFault}
 use Rattle.jc_parser.specs.declared.fault.ScenarioFault.TheVariants as all
-use Rattle.jc_parser.specs.Symbols.{Lexeme, lexeme, lexemes}
+use Rattle.jc_parser.specs.Symbols.{Lexeme, lexemes}
 use Rattle.jc_parser.specs.Reading.{Reading, Outcome, ◌>>=◌, Gives, stuck, is_at_end}
 use Rattle.jc_parser.specs.Parts.{ended}
 use Rattle.jc_parser.specs.Faults.{IsOfSentence}

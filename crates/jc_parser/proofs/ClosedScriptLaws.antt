@@ -1,20 +1,18 @@
 -- From one token on stands one script with its brace at most, or there is one fault, and not both.
-use Rattle.std.proofs.Common.{◌≡◌, ◌≢◌, ℕ, suc, ◌+◌, ◌≤◌, inl, inr, true, List, [], ◌∷◌, ◌++◌, length, Err, refl, sym, ap, subst, ◌∙◌, append_assoc, arith}
+use Rattle.std.proofs.Common.{◌≡◌, ℕ, ◌+◌, ◌≤◌, inl, inr, true, List, [], ◌∷◌, ◌++◌, length, Err, refl, sym, ap, subst, ◌∙◌, append_assoc, arith}
 use Rattle.std.specs.Prelude.{drop, slice_range}
 use Rattle.jc_syntax.specs.declared.token.Token.{Token}
 use Rattle.jc_rules.specs.Syntax.{Cmd}
 use Rattle.jc_parser.specs.declared.fault.ScenarioFault.{ScenarioFault}
 use Rattle.jc_parser.specs.declared.fault.ScenarioFault.TheVariants as all
 use Rattle.jc_parser.specs.Symbols.{Symbol, close_brace, Lexeme, lexemes, symbols}
-use Rattle.jc_parser.specs.Reading.{Reading, ◌>>=◌, reading as read_from, stuck_at, stuck, has_kind, skip, is_at_end}
+use Rattle.jc_parser.specs.Reading.{Reading, ◌>>=◌, reading as read_from, stuck_at, stuck, is_at_end}
 use Rattle.jc_parser.specs.Parts.{ended}
-use Rattle.jc_parser.specs.Scripts.{IsScriptSpelled, IsScriptWellFormed, IsScriptExcess}
+use Rattle.jc_parser.specs.Scripts.{IsScriptWellFormed, IsScriptExcess}
 use Rattle.jc_parser.specs.ScriptParts.{script_at, closed_script_at}
 use Rattle.jc_parser.specs.ClosedScripts.{IsClosedSpelled, IsScriptAt, OneScriptAt, ScriptOrFaultAt, OneScriptFaultAt}
 use Rattle.jc_parser.proofs.Readers.{read_as, ok_parts, bind_err, chosen_err}
 use Rattle.jc_parser.proofs.Spelled.{reading, not_past, IsLimitFault}
-use Rattle.jc_parser.proofs.Stopping.{IsLimit}
-use Rattle.jc_parser.proofs.Sentences.{Spelling}
 use Rattle.jc_parser.proofs.SentenceLaws.{HasLimits, one_stop}
 use Rattle.jc_parser.proofs.ScriptLimits.{has_limits as script_limits}
 use Rattle.jc_parser.proofs.ClosedScripts.{closed_front, reads_spelled}

@@ -1,6 +1,6 @@
 -- A script with the closing brace behind it: its reader, the grammar and the faults.
 use Rattle.std.proofs.Common.{◌≡◌, ◌≢◌, ℕ, ◌+◌, ◌-◌, ◌≤◌, ◌<◌, inl, inr, Bool, true, List, [], ◌∷◌, ◌++◌, length, drop, Ok, Err, refl, sym, ap, subst, ◌∙◌, append_assoc, arith}
-use Rattle.std.specs.Prelude.{All, slice_range}
+use Rattle.std.specs.Prelude.{slice_range}
 use Rattle.std.proofs.lemmas.List.{length-append, length-map, length-drop}
 use Rattle.jc_syntax.specs.declared.token.Token.{Token}
 use Rattle.jc_syntax.specs.declared.token.TokenKind.TheVariants.{Name, BraceR}
@@ -9,10 +9,8 @@ use Rattle.jc_parser.specs.declared.fault.ScenarioFault.{ScenarioFault}
 use Rattle.jc_parser.specs.declared.fault.ScenarioFault.TheVariants as all
 use Rattle.jc_parser.specs.Symbols.{Symbol, close_brace, Lexeme, lexeme, lexemes, symbols}
 use Rattle.jc_parser.specs.Reading.{Reading, Outcome, ◌>>=◌, has_kind, one, skip}
-use Rattle.jc_parser.specs.Parts.{ended}
 use Rattle.jc_parser.specs.Faults.{IsOfSentence}
-use Rattle.jc_parser.specs.Sentences.{IsStopped}
-use Rattle.jc_parser.specs.Scripts.{IsCommandSpelled, IsCommandWellFormed, IsScriptSpelled, IsScriptWellFormed, IsScriptExcess}
+use Rattle.jc_parser.specs.Scripts.{IsCommandSpelled, IsScriptSpelled, IsScriptWellFormed, IsScriptExcess}
 use Rattle.jc_parser.specs.ScriptParts.{command_at, crowd_at, commands_at, script_at, closed_script_at}
 use Rattle.jc_parser.specs.ClosedScripts.{IsClosedSpelled, IsClosed, IsClosedAhead, IsScriptAt, NoneClosed, HasNoScript}
 use Rattle.jc_parser.proofs.Readers.{Never, Reads, reads_then, reads_symbol, reads_done, read_as, fault_as}
@@ -23,7 +21,7 @@ use Rattle.jc_parser.proofs.Sentences.{Spelling, ReadsSpelled, all_answered, sen
 use Rattle.jc_parser.proofs.SentenceClauses.{kind_is as kind_of_fault}
 use Rattle.jc_parser.proofs.ScriptSpelled.{commands_are, crowd_limits}
 use Rattle.jc_parser.proofs.ScriptWhole.{reads_script, script_excess_is}
-use Rattle.jc_parser.proofs.Fronts.{AreFront, are_front}
+use Rattle.jc_parser.proofs.Fronts.{are_front}
 
 -- ---- the reader
 

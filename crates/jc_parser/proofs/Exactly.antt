@@ -25,10 +25,10 @@ use Rattle.jc_parser.proofs.Limits.{Texts, IsOver, IsForeign, prefix_begun, pref
 stray_of : (stop : ℕ) (e : ScenarioFault) (ls before after : List Lexeme) → ls ≡ before ++ after → IsMisplaced e stop before after → IsStray Texts ls before after
 stray_of stop e ls before after parts m = record {
   parts = parts;
-  begins = prefix_begun (symbols before) m.sound.begins;
-  kept = m.sound.kept;
-  within = prefix_within m.sound.kept m.sound.within;
-  rest = m.sound.rest;
+  begins = prefix_begun (symbols before) m.begun.begins;
+  kept = m.begun.kept;
+  within = prefix_within m.begun.kept m.begun.within;
+  rest = m.begun.rest;
   unfit = λ x others is (t, more, (may, text)). (subst (IsMisfit (symbols before)) is m.misfit) (t, more, text);
   unended = λ is t (may, text). (subst (IsMisfit (symbols before)) is m.misfit) t text;
 }

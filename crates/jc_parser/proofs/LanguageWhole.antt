@@ -12,7 +12,7 @@ use Rattle.jc_parser.specs.Faults.{IsOfSentence}
 use Rattle.jc_parser.specs.Language.{IsSpelled, IsWellFormed}
 use Rattle.jc_parser.specs.LanguageParts.{expression_at, only_expression_at}
 use Rattle.jc_parser.specs.LanguageFaults.{IsExpressionExcess}
-use Rattle.jc_parser.specs.Sentences.{Excess, IsStopped}
+use Rattle.jc_parser.specs.Sentences.{IsStopped}
 use Rattle.jc_parser.proofs.LanguageExpressions.{reads_expression}
 use Rattle.jc_parser.proofs.LanguageSpelled.{whole_again}
 use Rattle.jc_parser.proofs.Sentences.{ReadsSpelled}

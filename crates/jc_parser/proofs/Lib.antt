@@ -17,6 +17,8 @@ mod LanguageReaders
 mod LanguageSpelled
 mod LanguageTests
 mod LanguageWhole
+mod LegalTokens
+mod LegalTrees
 mod Limits
 mod Loops
 mod OneFault

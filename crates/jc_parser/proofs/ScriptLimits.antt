@@ -1,20 +1,19 @@
 -- What passes a limit of a script: a sentence begins so, and whatever follows is refused with that limit's fault.
-use Rattle.std.proofs.Common.{◌≡◌, ◌≢◌, ℕ, ◌≤◌, ◌<◌, ◌⊎◌, inl, inr, Bool, true, false, List, [], ◌∷◌, ◌++◌, length, Result, Ok, Err, refl, sym, ap, subst, ◌∙◌, append_assoc, arith}
+use Rattle.std.proofs.Common.{◌≡◌, ◌≢◌, ℕ, ◌≤◌, ◌<◌, inl, inr, Bool, true, false, List, [], ◌∷◌, ◌++◌, length, Ok, Err, refl, sym, ap, subst, ◌∙◌, append_assoc, arith}
 use Rattle.std.specs.Prelude.{codes}
 use Rattle.std.specs.Str.{bytes_eq}
 use Rattle.std.proofs.lemmas.Bool.{cases_Bool, cases_lt}
-use Rattle.std.proofs.lemmas.List.{append-nil}
 use Rattle.std.proofs.lemmas.Slice.Eq.{bytes_eq-Decides}
 use Rattle.jc_syntax.specs.declared.token.TokenKind.TheVariants.{Name}
 use Rattle.jc_rules.specs.declared.value.Value.TheVariants as values
 use Rattle.jc_rules.specs.Syntax.{Expr, TheDoc, Variable, GetKey, Index, KeysOf, ValuesOf, Cmd, LetIn, SetTo, Yield}
 use Rattle.jc_parser.specs.declared.fault.ScenarioFault.{ScenarioFault}
-use Rattle.jc_parser.specs.declared.fault.ScenarioFault.TheVariants.{IndexTooLarge, ReservedName, TooManyCommands, TooLongExpression, EndOfText, Unexpected}
+use Rattle.jc_parser.specs.declared.fault.ScenarioFault.TheVariants.{IndexTooLarge, ReservedName, TooManyCommands, TooLongExpression}
 use Rattle.jc_parser.specs.Symbols.{Symbol, word, dot, assign, equals, Lexeme, symbols}
-use Rattle.jc_parser.specs.Reading.{Reading, Outcome, ◌>>=◌, has_kind, begins_with, stuck, stuck_at, is_at_end}
+use Rattle.jc_parser.specs.Reading.{Outcome, ◌>>=◌, has_kind, begins_with, stuck, stuck_at, is_at_end}
 use Rattle.jc_parser.specs.Parts.{ended}
 use Rattle.jc_parser.specs.Grammar.{is_reserved, IsStartText}
-use Rattle.jc_parser.specs.Language.{IsSpelled, IsWellFormed}
+use Rattle.jc_parser.specs.Language.{IsSpelled}
 use Rattle.jc_parser.specs.LanguageParts.{Chain, chain_at, undotted, root_at, expression_at}
 use Rattle.jc_parser.specs.LanguageFaults.{IsExpressionExcess}
 use Rattle.jc_parser.specs.Scripts.{Leads, IsCommandSpelled, IsScriptSpelled, IsScriptWellFormed, AreDone, BeginsCommand, IsCommandPast, IsReservedBinding, IsReservedLead, IsBindingExcess, IsLeadExcess, IsScriptExcess}

@@ -1,5 +1,5 @@
 -- What the readers of commands of the whole language take, and where they stop.
-use Rattle.std.proofs.Common.{◌≡◌, ℕ, zero, suc, ◌≤◌, ◌⊎◌, inl, inr, Bool, true, false, cond, not, ◌&&◌, List, [], ◌∷◌, ◌++◌, length, Ok, Err, refl, sym, ap, subst, ◌∙◌, append_assoc, le_refl, arith}
+use Rattle.std.proofs.Common.{◌≡◌, ℕ, zero, suc, ◌≤◌, ◌⊎◌, inl, inr, Bool, true, false, cond, List, [], ◌∷◌, ◌++◌, length, Ok, Err, refl, sym, ap, subst, ◌∙◌, append_assoc, le_refl, arith}
 use Rattle.std.specs.Prelude.{codes}
 use Rattle.std.specs.Str.{bytes_eq}
 use Rattle.std.proofs.lemmas.Bool.{cases_Bool}
@@ -12,16 +12,16 @@ use Rattle.jc_parser.specs.declared.fault.ScenarioFault.{ScenarioFault}
 use Rattle.jc_parser.specs.declared.fault.ScenarioFault.TheVariants.{ReservedName, TooLongExpression}
 use Rattle.jc_parser.specs.Symbols.{Symbol, word, dot, open_paren, close_paren, open_brace, close_brace, open_bracket, close_bracket, assign, equals, Lexeme}
 use Rattle.jc_parser.specs.Reading.{Reading, Outcome, ◌>>=◌, has_kind, is_word, reserved, begins_with, place_at, one, skip}
-use Rattle.jc_parser.specs.Parts.{value_at, name_at}
+use Rattle.jc_parser.specs.Parts.{name_at}
 use Rattle.jc_parser.specs.Grammar.{is_reserved, IsValueText}
 use Rattle.jc_parser.specs.Language.{Selector, by_key, by_index, by_keys, by_values, is_selector, extended, IsSpelled, HasLegalParts, IsWellFormed}
-use Rattle.jc_parser.specs.LanguageParts.{Chain, chain_at, step_at, root_at, expression_at}
+use Rattle.jc_parser.specs.LanguageParts.{Chain, chain_at, step_at, expression_at}
 use Rattle.jc_parser.specs.LanguageFaults.{IsExpressionExcess}
 use Rattle.jc_parser.specs.Scripts.{IsValueSpelled, Leads, IsCommandSpelled, IsCommandWellFormed}
 use Rattle.jc_parser.specs.ScriptParts.{empty_at, any_value_at, binding_at, assignment_at, insertion_at, deletion_at, finish_at, update_at, yield_at, command_at, is_misused}
 use Rattle.jc_parser.proofs.Readers.{Language, Excess, Never, Reads, Took, Stopped, same_begins, fault_as, read_as, ok_parts, took_if, reads_symbol, reads_then, reads_if, reads_done, reads_map, reads_refused, reads_same, reads_as, reads_more}
 use Rattle.jc_parser.proofs.Expressions.{kind_is, word_is, Within, within, OneMore, reads_value}
-use Rattle.jc_parser.proofs.Scenarios.{Names, IsTaken, reads_name}
+use Rattle.jc_parser.proofs.Scenarios.{IsTaken, reads_name}
 use Rattle.jc_parser.proofs.Spelled.{reading}
 use Rattle.jc_parser.proofs.LanguageTests.{or_none}
 use Rattle.jc_parser.proofs.LanguageReaders.{within-both, IsLegal, extends, AreSelectors, AreLegal, Steps, ChainExcess, DotExcess, excess_more, reads_step}

@@ -1,6 +1,6 @@
 -- What is spelled is read: commands and scripts of the whole language.
 use Rattle.std.proofs.Common.{◌≡◌, ℕ, zero, suc, ◌≤◌, ◌⊎◌, inl, inr, Bool, true, false, List, [], ◌∷◌, ◌++◌, length, Ok, Err, refl, sym, ap, subst, ◌∙◌, append_assoc, arith}
-use Rattle.std.specs.Prelude.{codes, All}
+use Rattle.std.specs.Prelude.{codes}
 use Rattle.std.specs.Str.{bytes_eq}
 use Rattle.std.proofs.lemmas.Bool.{cases_Bool}
 use Rattle.std.proofs.lemmas.List.{append-nil}
@@ -10,9 +10,9 @@ use Rattle.jc_rules.specs.declared.value.Value.TheVariants as values
 use Rattle.jc_rules.specs.Syntax.{Expr, TheDoc, Variable, GetKey, Index, KeysOf, ValuesOf, Cmd, LetIn, SetTo, InsertAfter, DeleteAt, Yield}
 use Rattle.jc_parser.specs.declared.fault.ScenarioFault.TheVariants.{ReservedName}
 use Rattle.jc_parser.specs.Symbols.{Symbol, word, number, string, dot, open_paren, close_paren, open_brace, close_brace, open_bracket, close_bracket, assign, equals, Lexeme, symbols}
-use Rattle.jc_parser.specs.Reading.{Reading, Outcome, ◌>>=◌, has_kind, is_word, begins_with, one, named_at}
+use Rattle.jc_parser.specs.Reading.{Reading, ◌>>=◌, has_kind, begins_with, one, named_at}
 use Rattle.jc_parser.specs.Parts.{value_at, name_at, ended}
-use Rattle.jc_parser.specs.Grammar.{is_reserved, IsValueText, IsListText}
+use Rattle.jc_parser.specs.Grammar.{is_reserved, IsValueText}
 use Rattle.jc_parser.specs.Language.{is_selector, IsSpelled, IsWellFormed}
 use Rattle.jc_parser.specs.LanguageParts.{chain_at, root_at, expression_at}
 use Rattle.jc_parser.specs.Scripts.{IsValueSpelled, Leads, IsCommandSpelled, IsCommandWellFormed, IsScriptSpelled, IsScriptWellFormed}

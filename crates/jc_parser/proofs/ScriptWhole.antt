@@ -1,5 +1,5 @@
 -- A script that is all of the lexemes: the grammar and the faults.
-use Rattle.std.proofs.Common.{◌≡◌, ◌≢◌, ℕ, ◌≤◌, ◌<◌, ◌⊎◌, inl, inr, Bool, true, false, cond, not, ◌&&◌, List, [], ◌∷◌, ◌++◌, map, length, Result, refl, sym, ap, subst, ◌∙◌, arith}
+use Rattle.std.proofs.Common.{◌≡◌, ◌≢◌, ℕ, ◌≤◌, ◌<◌, inl, inr, Bool, true, false, cond, not, List, [], ◌∷◌, ◌++◌, length, Result, refl, sym, ap, subst, ◌∙◌, arith}
 use Rattle.std.specs.Prelude.{codes, IfOk, IfErr}
 use Rattle.std.specs.Str.{bytes_eq}
 use Rattle.std.proofs.lemmas.Bool.{cases_Bool}
@@ -11,10 +11,9 @@ use Rattle.jc_parser.specs.declared.parse_fault.ParseFault.TheVariants as senten
 use Rattle.jc_parser.specs.declared.fault.ScenarioFault.{ScenarioFault}
 use Rattle.jc_parser.specs.declared.fault.ScenarioFault.TheVariants as all
 use Rattle.jc_parser.specs.Symbols.{Symbol, word, equals, Lexeme, symbols}
-use Rattle.jc_parser.specs.Reading.{Reading, Gives, value_of, has_kind, is_word, reserved}
+use Rattle.jc_parser.specs.Reading.{Reading, Gives, value_of, has_kind}
 use Rattle.jc_parser.specs.Grammar.{is_reserved, IsListText, IsStartText}
 use Rattle.jc_parser.specs.Faults.{IsOfSentence}
-use Rattle.jc_parser.specs.LanguageFaults.{IsExpressionExcess}
 use Rattle.jc_parser.specs.Scripts.{IsCommandSpelled, IsCommandWellFormed, IsScriptSpelled, IsScriptWellFormed, AreDone, BeginsCommand, IsScriptExcess}
 use Rattle.jc_parser.specs.ScriptParts.{is_misused, crowd_at, commands_at, script_at, only_script_at}
 use Rattle.jc_parser.specs.Sentences.{IsStopped}

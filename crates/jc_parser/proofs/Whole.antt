@@ -10,7 +10,7 @@ use Rattle.jc_parser.specs.Symbols.{Symbol, word, number, dot, open_brace, close
 use Rattle.jc_parser.specs.Reading.{Reading, ◌>>=◌, is_word, is_number, begins_with, place_at, stuck_at, stuck, no_more, is_at_end, one}
 use Rattle.jc_parser.specs.Parts.{front_at, skip_or, replica_at, ended, whole_at, Parsed}
 use Rattle.jc_parser.specs.Grammar.{IsText, Tree, IsWithinLimits, IsShort}
-use Rattle.jc_parser.specs.Stops.{IsPrefix, IsPrefixWithin, IsSound, IsMisfit, IsMisplaced, IsExcess, IsFault}
+use Rattle.jc_parser.specs.Stops.{IsPrefix, IsPrefixWithin, IsBeginning, IsMisfit, IsMisplaced, IsExcess, IsFault}
 use Rattle.jc_parser.proofs.Readers.{bind_ok, bind_err, chosen_ok, chosen_err, read_as, ok_parts, SameHead, same_stuck, symbols-append, IsKept, Begun}
 use Rattle.jc_parser.proofs.Expressions.{word_is, number_is}
 use Rattle.jc_parser.proofs.Scenarios.{tree_of, Replicas, reads_replica}
@@ -35,8 +35,8 @@ sample_within : IsWithinLimits sample
 unfolding sample
 sample_within = record { name = refl; commands = omega arith; selectors = All-nil IsShort; events = omega arith }
 
-sample_sound : (xs more : List Symbol) → xs ++ more ≡ sample_text → IsSound xs
-sample_sound xs more e =
+sample_begins : (xs more : List Symbol) → xs ++ more ≡ sample_text → IsBeginning xs
+sample_begins xs more e =
     let spelled : IsText sample (xs ++ more) = subst (IsText sample) (sym e) sample_spelled in
     record { begins = (sample, more, spelled); kept = xs; within = (sample, more, sample_within, spelled); rest = inl refl }
 
@@ -67,7 +67,7 @@ front_err r e h =
     elim (bind_err (skip_or (λ at. NoHeader at) (is_word (codes "jsoncrdt")) r) _ e h) [
       | inl he ↦
           let (none, fault) = missed_one (λ at. NoHeader at) (is_word (codes "jsoncrdt")) r.stop r.left e he in
-          record { before = []; after = r.left; parts = refl; stops = record { sound = sample_sound [] sample_text refl; misfit = misfit_at [] (word (codes "jsoncrdt")) (is_word (codes "jsoncrdt")) refl first_always r.left none; is = fault } }
+          record { before = []; after = r.left; parts = refl; stops = record { begun = sample_begins [] sample_text refl; misfit = misfit_at [] (word (codes "jsoncrdt")) (is_word (codes "jsoncrdt")) refl first_always r.left none; is = fault } }
       | inr (x, hx, h2) ↦
           let (a, ea, fa, sa) = took_one (λ at. NoHeader at) (is_word (codes "jsoncrdt")) r.stop r.left x.1 hx in
           elim (bind_err (skip_or (λ at. NoHeader at) (is_number (codes "1")) x.1) _ e h2) [
@@ -87,7 +87,7 @@ front_err r e h =
       after = s.left;
       parts = parts;
       stops = record {
-        sound = sample_sound (a.symbol ∷ []) (number (codes "1") ∷ word (codes "replica") ∷ word (codes "a") ∷ open_brace ∷ close_brace ∷ []) (rw is_a refl);
+        begun = sample_begins (a.symbol ∷ []) (number (codes "1") ∷ word (codes "replica") ∷ word (codes "a") ∷ open_brace ∷ close_brace ∷ []) (rw is_a refl);
         misfit = rw is_a (misfit_at (word (codes "jsoncrdt") ∷ []) (number (codes "1")) (is_number (codes "1")) refl second_always s.left none);
         is = fault ∙ ap (λ n. NoHeader (place_at n s.left)) stop;
       };
@@ -99,7 +99,7 @@ front_err r e h =
       after = s.left;
       parts = parts;
       stops = record {
-        sound = sample_sound (a.symbol ∷ b.symbol ∷ []) (word (codes "replica") ∷ word (codes "a") ∷ open_brace ∷ close_brace ∷ []) (rw (is_a, is_b) refl);
+        begun = sample_begins (a.symbol ∷ b.symbol ∷ []) (word (codes "replica") ∷ word (codes "a") ∷ open_brace ∷ close_brace ∷ []) (rw (is_a, is_b) refl);
         misfit = rw (is_a, is_b) (misfit_at (word (codes "jsoncrdt") ∷ number (codes "1") ∷ []) (word (codes "replica")) (is_word (codes "replica")) refl third_always s.left none);
         is = fault ∙ ap (λ n. NoReplica (place_at n s.left)) stop;
       };
@@ -146,8 +146,8 @@ kept_symbols r s f kept before (inl same) = inl (symbols-fronted r s f before �
 kept_symbols r s f kept before (inr (d, is, same)) =
     inr (symbols-fronted r s f before ∙ ap (λ (l : List Lexeme). front ++ symbols l) same ∙ ap (λ (l : List Symbol). front ++ l) (symbols-append kept (d ∷ []) ∙ ap (λ (t : Symbol). symbols kept ++ t ∷ []) is))
 
-sound_after : (r s : Reading) (f : Front r s) (kept before : List Lexeme) → IsKept kept before → Begun (Parsing true) (symbols kept) → Begun (Parsing false) (symbols before) → IsSound (symbols (fronted r s f before))
-sound_after r s f kept before rest within begun = record {
+begun_after : (r s : Reading) (f : Front r s) (kept before : List Lexeme) → IsKept kept before → Begun (Parsing true) (symbols kept) → Begun (Parsing false) (symbols before) → IsBeginning (symbols (fronted r s f before))
+begun_after r s f kept before rest within begun = record {
   begins = subst IsPrefix (sym (symbols-fronted r s f before)) (prefix_of (symbols before) begun);
   kept = front ++ symbols kept;
   within = prefix_within (symbols kept) within;
@@ -159,9 +159,9 @@ whole_after : (r s : Reading) (f : Front r s) (ls : List Lexeme) → whole_at (r
 unfolding whole_at
 whole_after r s f ls = rw (front_again r.stop f.a f.b f.c ls f.is_a f.is_b f.is_c) refl
 
-misplaced : (r s : Reading) (f : Front r s) (e : ScenarioFault) (before after : List Lexeme) → e ≡ stuck_at r.stop after → IsSound (symbols (fronted r s f before)) → ((y : List Lexeme) → SameHead after y → (replica_at (reading r.stop (before ++ y)) >>= λ x. ended x) ≡ Err e) → IsMisplaced e r.stop (fronted r s f before) after
-misplaced r s f e before after fault sound again = record {
-  sound = sound;
+misplaced : (r s : Reading) (f : Front r s) (e : ScenarioFault) (before after : List Lexeme) → e ≡ stuck_at r.stop after → IsBeginning (symbols (fronted r s f before)) → ((y : List Lexeme) → SameHead after y → (replica_at (reading r.stop (before ++ y)) >>= λ x. ended x) ≡ Err e) → IsMisplaced e r.stop (fronted r s f before) after
+misplaced r s f e before after fault begun again = record {
+  begun = begun;
   misfit = misfit_after r.stop (fronted r s f before) after (λ y same. whole_after r s f (before ++ y) ∙ again y same ∙ ap Err fault);
   is = fault;
 }
@@ -178,7 +178,7 @@ replica_err r s f e h =
       parts = parts_after r s f t.before t.after t.parts;
       stops =
           elim t.reason [
-            | inl m ↦ inl (misplaced r s f e t.before t.after (m.fault ∙ ap (λ n. stuck_at n t.after) f.stop) (sound_after r s f m.kept t.before m.rest m.within m.begun) (λ y same. past r.stop s.stop (t.before ++ y) e f.stop (m.again y same)))
+            | inl m ↦ inl (misplaced r s f e t.before t.after (m.fault ∙ ap (λ n. stuck_at n t.after) f.stop) (begun_after r s f m.kept t.before m.rest m.within m.begun) (λ y same. past r.stop s.stop (t.before ++ y) e f.stop (m.again y same)))
             | inr o ↦ inr (subst (λ (xs : List Symbol). IsExcess e xs t.after) (sym (symbols-fronted r s f t.before)) (excess_of 65536 100000 refl refl e (symbols t.before) t.after o))
           ];
     }
@@ -207,7 +207,7 @@ ended_err r s f p rest e h g =
       before = fronted r s f t.text;
       after = rest.left;
       parts = parts_after r s f t.text rest.left t.parts;
-      stops = inl (misplaced r s f e t.text rest.left is (sound_after r s f t.text t.text (inl refl) (whole true) (whole false)) (λ y same. past r.stop s.stop p (t.text ++ y) y rest.left e f.stop (t.again y same) (sym (same_no_more rest.left y same) ∙ more) (sym (same_stuck r.stop rest.left y same)) is));
+      stops = inl (misplaced r s f e t.text rest.left is (begun_after r s f t.text t.text (inl refl) (whole true) (whole false)) (λ y same. past r.stop s.stop p (t.text ++ y) y rest.left e f.stop (t.again y same) (sym (same_no_more rest.left y same) ∙ more) (sym (same_stuck r.stop rest.left y same)) is));
     }
   where
     past : (stop other : ℕ) (p : Parsed) (ls y c : List Lexeme) (e : ScenarioFault) → other ≡ stop → replica_at (reading other ls) ≡ Ok (p, reading other y) → no_more y ≡ false → stuck_at stop y ≡ stuck_at stop c → e ≡ stuck_at stop c → (replica_at (reading stop ls) >>= λ x. ended x) ≡ Err e

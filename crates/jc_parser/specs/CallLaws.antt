@@ -15,16 +15,29 @@ EventOrFault = (text : List ℕ) (e : NamedEvent) (fault : ScenarioFault) → Is
 
 -- A text that is no event has one fault at most, at one place.
 abbrev pub OneEventFault : Type 0
-OneEventFault = (text : List ℕ) (fault other : ScenarioFault) → IsEventFault text fault → IsEventFault text other → fault ≡ other
+OneEventFault =
+    (text : List ℕ) (fault other : ScenarioFault) → IsEventFault text fault → IsEventFault text other → fault ≡ other
 
 -- From one token on stands one event at most, and one token comes behind it.
 abbrev pub OneEventAt : Type 0
-OneEventAt = (text : List ℕ) (tokens : List Token) (from next other_next : ℕ) (e other : NamedEvent) → IsEventAt text tokens from e next → IsEventAt text tokens from other other_next → (e ≡ other) × (next ≡ other_next)
+OneEventAt =
+    (text : List ℕ) (tokens : List Token) (from next other_next : ℕ) (e other : NamedEvent)
+    → IsEventAt text tokens from e next
+    → IsEventAt text tokens from other other_next
+    → (e ≡ other) × (next ≡ other_next)
 
 -- Where an event stands among the tokens, there is no fault.
 abbrev pub EventOrFaultAt : Type 0
-EventOrFaultAt = (text : List ℕ) (tokens : List Token) (from next : ℕ) (e : NamedEvent) (fault : ScenarioFault) → IsEventAt text tokens from e next → IsEventFaultAt text tokens from fault → ⊥
+EventOrFaultAt =
+    (text : List ℕ) (tokens : List Token) (from next : ℕ) (e : NamedEvent) (fault : ScenarioFault)
+    → IsEventAt text tokens from e next
+    → IsEventFaultAt text tokens from fault
+    → ⊥
 
 -- Where no event stands among the tokens, there is one fault at most, at one place.
 abbrev pub OneEventFaultAt : Type 0
-OneEventFaultAt = (text : List ℕ) (tokens : List Token) (from : ℕ) (fault other : ScenarioFault) → IsEventFaultAt text tokens from fault → IsEventFaultAt text tokens from other → fault ≡ other
+OneEventFaultAt =
+    (text : List ℕ) (tokens : List Token) (from : ℕ) (fault other : ScenarioFault)
+    → IsEventFaultAt text tokens from fault
+    → IsEventFaultAt text tokens from other
+    → fault ≡ other

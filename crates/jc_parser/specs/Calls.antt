@@ -31,7 +31,10 @@ IsCallSpelled (executes p) w = w ≡ word p ∷ dot ∷ word (codes "exec") ∷ 
 IsCallSpelled (sends p) w = w ≡ word p ∷ dot ∷ word (codes "send") ∷ []
 IsCallSpelled (receives p q) w = w ≡ word p ∷ dot ∷ word (codes "recv") ∷ open_paren ∷ word q ∷ close_paren ∷ []
 IsCallSpelled (applies p counter q) w =
-    (digits : List ℕ) × (is_numeral digits ≡ true) × (counter ≡ numeral_value digits) × (w ≡ word p ∷ dot ∷ word (codes "apply") ∷ open_paren ∷ number digits ∷ comma ∷ word q ∷ close_paren ∷ [])
+    (digits : List ℕ)
+    × (is_numeral digits ≡ true)
+    × (counter ≡ numeral_value digits)
+    × (w ≡ word p ∷ dot ∷ word (codes "apply") ∷ open_paren ∷ number digits ∷ comma ∷ word q ∷ close_paren ∷ [])
 IsCallSpelled (ends p) w = w ≡ word p ∷ dot ∷ word (codes "done") ∷ []
 
 abbrev pub IsCallWellFormed : Call → Type 0

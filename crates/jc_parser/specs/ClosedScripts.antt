@@ -47,12 +47,24 @@ IsScriptFaultAt text tokens from fault = HasNoScript (reading text (drop from to
 
 -- From one token on stands one script at most, and its brace has one number.
 abbrev pub OneScriptAt : Type 0
-OneScriptAt = (text : List ℕ) (tokens : List Token) (from brace other_brace : ℕ) (script other : List Cmd) → IsScriptAt text tokens from script brace → IsScriptAt text tokens from other other_brace → (script ≡ other) × (brace ≡ other_brace)
+OneScriptAt =
+    (text : List ℕ) (tokens : List Token) (from brace other_brace : ℕ) (script other : List Cmd)
+    → IsScriptAt text tokens from script brace
+    → IsScriptAt text tokens from other other_brace
+    → (script ≡ other) × (brace ≡ other_brace)
 
 -- Where a script stands among the tokens, there is no fault.
 abbrev pub ScriptOrFaultAt : Type 0
-ScriptOrFaultAt = (text : List ℕ) (tokens : List Token) (from brace : ℕ) (script : List Cmd) (fault : ScenarioFault) → IsScriptAt text tokens from script brace → IsScriptFaultAt text tokens from fault → ⊥
+ScriptOrFaultAt =
+    (text : List ℕ) (tokens : List Token) (from brace : ℕ) (script : List Cmd) (fault : ScenarioFault)
+    → IsScriptAt text tokens from script brace
+    → IsScriptFaultAt text tokens from fault
+    → ⊥
 
 -- Where no script stands among the tokens, there is one fault at most, at one place.
 abbrev pub OneScriptFaultAt : Type 0
-OneScriptFaultAt = (text : List ℕ) (tokens : List Token) (from : ℕ) (fault other : ScenarioFault) → IsScriptFaultAt text tokens from fault → IsScriptFaultAt text tokens from other → fault ≡ other
+OneScriptFaultAt =
+    (text : List ℕ) (tokens : List Token) (from : ℕ) (fault other : ScenarioFault)
+    → IsScriptFaultAt text tokens from fault
+    → IsScriptFaultAt text tokens from other
+    → fault ≡ other

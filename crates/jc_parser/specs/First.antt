@@ -16,7 +16,8 @@ use Rattle.jc_parser.specs.Reading.{Reading, reading}
 use Rattle.jc_parser.specs.Grammar.{Tree, IsText, IsWithinLimits}
 use Rattle.jc_parser.specs.Stops.{IsFault}
 
--- These lexemes are a scenario of one replica within the limits: its name, its script and its schedule. The only replica has the number 0.
+-- These lexemes are a scenario of one replica within the limits: its name, its script and its schedule. The only
+-- replica has the number 0.
 pub record IsOnly (r : Reading) (name : List ℕ) (script : List Cmd) (schedule : List Event) : Type 0 where
   pub tree : Tree
   pub spelled : IsText tree (symbols r.left)
@@ -33,7 +34,8 @@ pub record Reads (bytes : List ℕ) (name : List ℕ) (script : List Cmd) (sched
   pub lexed : AreTokensOf bytes tokens
   pub scenario : IsOnly (reading bytes tokens) name script schedule
 
--- The fault of a text within the text's limit: that it is not UTF-8, else that of its tokens, else that of its scenario.
+-- The fault of a text within the text's limit: that it is not UTF-8, else that of its tokens, else that of its
+-- scenario.
 abbrev pub IsFaultWithin : List ℕ → ScenarioFault → Type 0
 IsFaultWithin bytes fault =
     ((IsUtf8 bytes → ⊥) × (fault ≡ NotUtf8 (utf8_valid_len bytes)))

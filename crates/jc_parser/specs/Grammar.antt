@@ -41,7 +41,8 @@ IsValueText values.Null w = w ≡ word (codes "null") ∷ []
 IsValueText v w = ⊥
 
 abbrev pub IsCommandText : Cmd → List Symbol → Type 0
-IsCommandText (SetTo e v) w = (x : List Symbol) × (y : List Symbol) × IsExpressionText e x × IsValueText v y × (w ≡ x ++ assign ∷ y)
+IsCommandText (SetTo e v) w =
+    (x : List Symbol) × (y : List Symbol) × IsExpressionText e x × IsValueText v y × (w ≡ x ++ assign ∷ y)
 IsCommandText c w = ⊥
 
 -- the event `exec` of the replica with this name
@@ -54,7 +55,9 @@ IsEventText name w = w ≡ word name ∷ dot ∷ word (codes "exec") ∷ []
 abbrev pub IsListText : {A : Type 0} → (A → List Symbol → Type 0) → List A → List Symbol → Type 0
 IsListText L [] w = w ≡ []
 IsListText L (x ∷ xs) w =
-    (u : List Symbol) × L x u × (((xs ≡ []) × (w ≡ u)) ⊎ ((v : List Symbol) × (w ≡ u ++ semicolon ∷ v) × IsListText L xs v))
+    (u : List Symbol)
+    × L x u
+    × (((xs ≡ []) × (w ≡ u)) ⊎ ((v : List Symbol) × (w ≡ u ++ semicolon ∷ v) × IsListText L xs v))
 
 -- items, and a `;` after each of them
 abbrev pub IsStartText : {A : Type 0} → (A → List Symbol → Type 0) → List A → List Symbol → Type 0
@@ -84,7 +87,10 @@ IsScheduleText events w =
 
 abbrev pub IsText : Tree → List Symbol → Type 0
 IsText t w =
-    (u : List Symbol) × (v : List Symbol) × IsListText IsCommandText t.script u × IsScheduleText t.events v × (w ≡ head_text t.name ++ (u ++ v))
+    (u : List Symbol) × (v : List Symbol)
+    × IsListText IsCommandText t.script u
+    × IsScheduleText t.events v
+    × (w ≡ head_text t.name ++ (u ++ v))
 
 -- ---- limits
 

@@ -27,7 +27,8 @@ pub data Selector : Type 0 where
 
 -- a word that begins a selector
 abbrev pub is_selector : Symbol → Bool
-is_selector s = is_word (codes "get") s || (is_word (codes "idx") s || (is_word (codes "keys") s || is_word (codes "values") s))
+is_selector s =
+    is_word (codes "get") s || (is_word (codes "idx") s || (is_word (codes "keys") s || is_word (codes "values") s))
 
 -- an expression, and one selector more
 abbrev pub extended : Expr → Selector → Expr
@@ -41,7 +42,8 @@ index_text digits = dot ∷ word (codes "idx") ∷ open_paren ∷ number digits 
 
 abbrev pub IsSelectorText : Selector → List Symbol → Type 0
 IsSelectorText (by_key key) w = w ≡ get_text key
-IsSelectorText (by_index i) w = (digits : List ℕ) × (is_numeral digits ≡ true) × (i ≡ numeral_value digits) × (w ≡ index_text digits)
+IsSelectorText (by_index i) w =
+    (digits : List ℕ) × (is_numeral digits ≡ true) × (i ≡ numeral_value digits) × (w ≡ index_text digits)
 IsSelectorText by_keys w = w ≡ dot ∷ word (codes "keys") ∷ []
 IsSelectorText by_values w = w ≡ dot ∷ word (codes "values") ∷ []
 
@@ -51,10 +53,13 @@ IsSelectorText by_values w = w ≡ dot ∷ word (codes "values") ∷ []
 abbrev pub IsSpelled : Expr → List Symbol → Type 0
 IsSpelled TheDoc w = w ≡ word (codes "doc") ∷ []
 IsSpelled (Variable name) w = (bytes_eq name (codes "doc") ≡ false) × (w ≡ word name ∷ [])
-IsSpelled (GetKey e key) w = (u : List Symbol) × (v : List Symbol) × IsSpelled e u × IsSelectorText (by_key key) v × (w ≡ u ++ v)
-IsSpelled (Index e i) w = (u : List Symbol) × (v : List Symbol) × IsSpelled e u × IsSelectorText (by_index i) v × (w ≡ u ++ v)
+IsSpelled (GetKey e key) w =
+    (u : List Symbol) × (v : List Symbol) × IsSpelled e u × IsSelectorText (by_key key) v × (w ≡ u ++ v)
+IsSpelled (Index e i) w =
+    (u : List Symbol) × (v : List Symbol) × IsSpelled e u × IsSelectorText (by_index i) v × (w ≡ u ++ v)
 IsSpelled (KeysOf e) w = (u : List Symbol) × (v : List Symbol) × IsSpelled e u × IsSelectorText by_keys v × (w ≡ u ++ v)
-IsSpelled (ValuesOf e) w = (u : List Symbol) × (v : List Symbol) × IsSpelled e u × IsSelectorText by_values v × (w ≡ u ++ v)
+IsSpelled (ValuesOf e) w =
+    (u : List Symbol) × (v : List Symbol) × IsSpelled e u × IsSelectorText by_values v × (w ≡ u ++ v)
 
 -- ---- limits
 

@@ -42,7 +42,8 @@ pub record IsIndexPast (xs : List Symbol) (next : Symbol) : Type 0 where
 abbrev pub IsExpressionExcess : ScenarioFault → List Symbol → List Lexeme → Type 0
 IsExpressionExcess (IndexTooLarge p) xs (next ∷ after) = (p ≡ next.place) × IsIndexPast xs next.symbol
 IsExpressionExcess (ReservedName p) xs (next ∷ after) = (p ≡ next.place) × IsReservedVariable xs next.symbol
-IsExpressionExcess (TooLongExpression p) xs (next ∷ second ∷ after) = (p ≡ next.place) × IsSelectorPast xs next.symbol second.symbol
+IsExpressionExcess (TooLongExpression p) xs (next ∷ second ∷ after) =
+    (p ≡ next.place) × IsSelectorPast xs next.symbol second.symbol
 IsExpressionExcess fault xs after = ⊥
 
 -- a text is this expression

@@ -23,7 +23,8 @@ is_large s = false
 
 -- a number of digits alone, below 2 to the 32
 unfoldable pub index_at : Reading → Outcome ℕ
-index_at r = if begins is_large r then Err (IndexTooLarge (place r)) else (take is_index r >>= λ x. Ok (numeral_value x.0, x.1))
+index_at r =
+    if begins is_large r then Err (IndexTooLarge (place r)) else (take is_index r >>= λ x. Ok (numeral_value x.0, x.1))
 
 -- ---- selectors
 
@@ -60,15 +61,20 @@ pub record Chain : Type 0 where
   pub expression : Expr
   pub dotted : Bool
 
--- The chain of at most n selectors from the expression e. It ends before what is no dot, or after a dot that no selector's word follows.
+-- The chain of at most n selectors from the expression e. It ends before what is no dot, or after a dot that no
+-- selector's word follows.
 unfoldable pub chain_at : ℕ → Expr → Reading → Outcome Chain
 chain_at zero e r =
     if begins (has_kind Dot) r
-    then (skip (has_kind Dot) r >>= λ a. if begins is_selector a.1 then Err (TooLongExpression (place r)) else Ok (record { expression = e; dotted = true }, a.1))
+    then (skip (has_kind Dot) r >>= λ a.
+    if begins is_selector a.1 then Err (TooLongExpression (place r))
+    else Ok (record { expression = e; dotted = true }, a.1))
     else Ok (record { expression = e; dotted = false }, r)
 chain_at (suc n) e r =
     if begins (has_kind Dot) r
-    then (skip (has_kind Dot) r >>= λ a. if begins is_selector a.1 then (step_at a.1 >>= λ s. chain_at n (extended e s.0) s.1) else Ok (record { expression = e; dotted = true }, a.1))
+    then (skip (has_kind Dot) r >>= λ a.
+    if begins is_selector a.1 then (step_at a.1 >>= λ s. chain_at n (extended e s.0) s.1)
+    else Ok (record { expression = e; dotted = true }, a.1))
     else Ok (record { expression = e; dotted = false }, r)
 
 -- no dot may stand at the end

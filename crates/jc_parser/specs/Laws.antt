@@ -17,15 +17,25 @@ OneTree = (w : List Symbol) (t u : Tree) → IsWithinLimits t → IsText t w →
 abbrev pub OneScenario : Type 0
 OneScenario =
     (bytes : List ℕ) (name other_name : List ℕ) (script other_script : List Cmd) (schedule other_schedule : List Event)
-    → Reads bytes name script schedule → Reads bytes other_name other_script other_schedule → (name ≡ other_name) × (script ≡ other_script) × (schedule ≡ other_schedule)
+    → Reads bytes name script schedule
+    → Reads bytes other_name other_script other_schedule
+    → (name ≡ other_name) × (script ≡ other_script) × (schedule ≡ other_schedule)
 
 -- A text that is a scenario has no fault.
 abbrev pub ScenarioOrFault : Type 0
-ScenarioOrFault = (bytes name : List ℕ) (script : List Cmd) (schedule : List Event) (fault : ScenarioFault) → Reads bytes name script schedule → IsScenarioFault bytes fault → ⊥
+ScenarioOrFault =
+    (bytes name : List ℕ) (script : List Cmd) (schedule : List Event) (fault : ScenarioFault)
+    → Reads bytes name script schedule
+    → IsScenarioFault bytes fault
+    → ⊥
 
 -- A text has one fault at most, at one place.
 abbrev pub OneFault : Type 0
-OneFault = (bytes : List ℕ) (fault other : ScenarioFault) → IsScenarioFault bytes fault → IsScenarioFault bytes other → fault ≡ other
+OneFault =
+    (bytes : List ℕ) (fault other : ScenarioFault)
+    → IsScenarioFault bytes fault
+    → IsScenarioFault bytes other
+    → fault ≡ other
 
 -- A text is one expression at most.
 abbrev pub OneExpression : Type 0
@@ -33,11 +43,16 @@ OneExpression = (text : List ℕ) (e other : Expr) → IsExpressionOf text e →
 
 -- A text that is an expression has no fault.
 abbrev pub ExpressionOrFault : Type 0
-ExpressionOrFault = (text : List ℕ) (e : Expr) (fault : ScenarioFault) → IsExpressionOf text e → IsExpressionFault text fault → ⊥
+ExpressionOrFault =
+    (text : List ℕ) (e : Expr) (fault : ScenarioFault) → IsExpressionOf text e → IsExpressionFault text fault → ⊥
 
 -- A text that is no expression has one fault at most, at one place.
 abbrev pub OneExpressionFault : Type 0
-OneExpressionFault = (text : List ℕ) (fault other : ScenarioFault) → IsExpressionFault text fault → IsExpressionFault text other → fault ≡ other
+OneExpressionFault =
+    (text : List ℕ) (fault other : ScenarioFault)
+    → IsExpressionFault text fault
+    → IsExpressionFault text other
+    → fault ≡ other
 
 -- A text is one script at most.
 abbrev pub OneScript : Type 0
@@ -45,8 +60,10 @@ OneScript = (text : List ℕ) (script other : List Cmd) → IsScriptOf text scri
 
 -- A text that is a script has no fault.
 abbrev pub ScriptOrFault : Type 0
-ScriptOrFault = (text : List ℕ) (script : List Cmd) (fault : ScenarioFault) → IsScriptOf text script → IsScriptFault text fault → ⊥
+ScriptOrFault =
+    (text : List ℕ) (script : List Cmd) (fault : ScenarioFault) → IsScriptOf text script → IsScriptFault text fault → ⊥
 
 -- A text that is no script has one fault at most, at one place.
 abbrev pub OneScriptFault : Type 0
-OneScriptFault = (text : List ℕ) (fault other : ScenarioFault) → IsScriptFault text fault → IsScriptFault text other → fault ≡ other
+OneScriptFault =
+    (text : List ℕ) (fault other : ScenarioFault) → IsScriptFault text fault → IsScriptFault text other → fault ≡ other

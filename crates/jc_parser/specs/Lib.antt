@@ -21,3 +21,5 @@ pub mod Trees
 pub mod TreeFaults
 pub mod TreeParts
 pub mod TreeViews
+pub mod Legal
+pub mod LegalLaws

@@ -29,10 +29,12 @@ selector_at r = do
   a ← skip (has_kind Dot) r
   get_at a.1
 
--- the fault of a dot after as many selectors as there may be: its own if a selector's word follows, else that of what follows
+-- the fault of a dot after as many selectors as there may be: its own if a selector's word follows, else that of what
+-- follows
 abbrev pub extra_selector_at : ℕ → List Lexeme → ScenarioFault
 extra_selector_at stop [] = EndOfText stop
-extra_selector_at stop (x ∷ xs) = if begins_with (is_word (codes "get")) xs then TooLongExpression x.place else stuck_at stop xs
+extra_selector_at stop (x ∷ xs) =
+    if begins_with (is_word (codes "get")) xs then TooLongExpression x.place else stuck_at stop xs
 
 abbrev pub extra_selector : Reading → ScenarioFault
 extra_selector r = extra_selector_at r.stop r.left
@@ -40,7 +42,8 @@ extra_selector r = extra_selector_at r.stop r.left
 -- at most n selectors from an expression
 unfoldable pub selectors_at : ℕ → Expr → Reading → Outcome Expr
 selectors_at zero e r = if begins (has_kind Dot) r then Err (extra_selector r) else Ok (e, r)
-selectors_at (suc n) e r = if begins (has_kind Dot) r then (selector_at r >>= λ k. selectors_at n (GetKey e k.0) k.1) else Ok (e, r)
+selectors_at (suc n) e r =
+    if begins (has_kind Dot) r then (selector_at r >>= λ k. selectors_at n (GetKey e k.0) k.1) else Ok (e, r)
 
 unfoldable pub expression_at : Reading → Outcome Expr
 expression_at r = do
@@ -81,12 +84,17 @@ command_at r = do
   v ← value_at a.1
   Ok (SetTo e.0 v.0, v.1)
 
--- At most n items that begin with a symbol that passes the test, parted by `;`, with or without one after the last. One more has the fault beyond.
-unfoldable pub items_at : {A : Type 0} → (Symbol → Bool) → (Reading → Outcome A) → (Reading → ScenarioFault) → ℕ → Reading → Outcome (List A)
+-- At most n items that begin with a symbol that passes the test, parted by `;`, with or without one after the last. One
+-- more has the fault beyond.
+unfoldable pub items_at :
+    {A : Type 0} → (Symbol → Bool) → (Reading → Outcome A) → (Reading → ScenarioFault) → ℕ → Reading → Outcome (List A)
 items_at p item beyond zero r = if begins p r then Err (beyond r) else Ok ([], r)
 items_at p item beyond (suc n) r =
     if begins p r
-    then (item r >>= λ x. if begins (has_kind Semi) x.1 then (skip (has_kind Semi) x.1 >>= λ a. items_at p item beyond n a.1 >>= λ rest. Ok (x.0 ∷ rest.0, rest.1)) else Ok (x.0 ∷ [], x.1))
+    then (item r >>= λ x.
+    if begins (has_kind Semi) x.1
+    then (skip (has_kind Semi) x.1 >>= λ a. items_at p item beyond n a.1 >>= λ rest. Ok (x.0 ∷ rest.0, rest.1))
+    else Ok (x.0 ∷ [], x.1))
     else Ok ([], r)
 
 abbrev pub commands_at : ℕ → Reading → Outcome (List Cmd)
@@ -165,4 +173,5 @@ whole_at r = do
 -- the events of the only replica, which has this name
 abbrev pub resolved : List ℕ → List Named → Result (List Event) ScenarioFault
 resolved own [] = Ok []
-resolved own (e ∷ es) = if bytes_eq e.name own then (resolved own es >>= λ rest. Ok (Exec 0 ∷ rest)) else Err (UnknownReplica e.place)
+resolved own (e ∷ es) =
+    if bytes_eq e.name own then (resolved own es >>= λ rest. Ok (Exec 0 ∷ rest)) else Err (UnknownReplica e.place)

@@ -1,5 +1,5 @@
 -- The parts of a script of the whole language, read from left to right.
-use Rattle.std.specs.Prelude.{ℕ, List, Bool, true, false, ◌&&◌, not, if◌then◌else◌, codes, Result, Ok, Err}
+use Rattle.std.specs.Prelude.{ℕ, List, Bool, true, false, ◌&&◌, not, if◌then◌else◌, codes, Result, Ok}
 use Rattle.jc_syntax.specs.declared.token.TokenKind.{TokenKind}
 use Rattle.jc_syntax.specs.declared.token.TokenKind.TheVariants.{Name, ParenL, ParenR, BraceL, BraceR, BracketL, BracketR, Assign, Equals}
 use Rattle.jc_rules.specs.declared.value.Value.{Value}
@@ -86,7 +86,8 @@ command_at r =
 
 -- a reserved word that is no keyword at a command's start
 abbrev pub is_misused : Symbol → Bool
-is_misused s = reserved s && (not (is_word (codes "let") s) && (not (is_word (codes "yield") s) && not (is_word (codes "doc") s)))
+is_misused s =
+    reserved s && (not (is_word (codes "let") s) && (not (is_word (codes "yield") s) && not (is_word (codes "doc") s)))
 
 -- the fault of one command more than there may be
 abbrev pub crowd_at : Reading → ScenarioFault

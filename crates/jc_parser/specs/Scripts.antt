@@ -1,5 +1,5 @@
 -- What scripts of the whole language are written with, and what is too much in them.
-use Rattle.std.specs.Prelude.{◌≡◌, ℕ, ◌≤◌, ◌<◌, ◌⊎◌, List, [], ◌∷◌, ◌++◌, length, codes, Bool, true, false, All}
+use Rattle.std.specs.Prelude.{◌≡◌, ℕ, ◌≤◌, ◌<◌, ◌⊎◌, List, [], ◌∷◌, ◌++◌, length, codes, true, false, All}
 use Rattle.std.specs.Str.{bytes_eq}
 use Rattle.jc_rules.specs.declared.value.Value.{Value}
 use Rattle.jc_rules.specs.declared.value.Value.TheVariants as values
@@ -30,10 +30,18 @@ Leads (ValuesOf e) = Leads e
 
 abbrev pub IsCommandSpelled : Cmd → List Symbol → Type 0
 IsCommandSpelled Yield w = w ≡ word (codes "yield") ∷ []
-IsCommandSpelled (LetIn name e) w = (u : List Symbol) × IsSpelled e u × (w ≡ word (codes "let") ∷ word name ∷ equals ∷ u)
-IsCommandSpelled (SetTo e v) w = (x : List Symbol) × (y : List Symbol) × Leads e × IsSpelled e x × IsValueSpelled v y × (w ≡ x ++ assign ∷ y)
-IsCommandSpelled (InsertAfter e v) w = (x : List Symbol) × (y : List Symbol) × Leads e × IsSpelled e x × IsValueSpelled v y × (w ≡ x ++ dot ∷ word (codes "insertAfter") ∷ open_paren ∷ (y ++ close_paren ∷ []))
-IsCommandSpelled (DeleteAt e) w = (x : List Symbol) × Leads e × IsSpelled e x × (w ≡ x ++ dot ∷ word (codes "delete") ∷ [])
+IsCommandSpelled (LetIn name e) w =
+    (u : List Symbol) × IsSpelled e u × (w ≡ word (codes "let") ∷ word name ∷ equals ∷ u)
+IsCommandSpelled (SetTo e v) w =
+    (x : List Symbol) × (y : List Symbol) × Leads e × IsSpelled e x × IsValueSpelled v y × (w ≡ x ++ assign ∷ y)
+IsCommandSpelled (InsertAfter e v) w =
+    (x : List Symbol) × (y : List Symbol)
+    × Leads e
+    × IsSpelled e x
+    × IsValueSpelled v y
+    × (w ≡ x ++ dot ∷ word (codes "insertAfter") ∷ open_paren ∷ (y ++ close_paren ∷ []))
+IsCommandSpelled (DeleteAt e) w =
+    (x : List Symbol) × Leads e × IsSpelled e x × (w ≡ x ++ dot ∷ word (codes "delete") ∷ [])
 
 abbrev pub IsCommandWellFormed : Cmd → Type 0
 IsCommandWellFormed Yield = Unit {0}
@@ -60,7 +68,8 @@ pub record AreDone (script : List Cmd) (w : List Symbol) : Type 0 where
 
 -- a word that may begin a command: a keyword there, or a variable that is no reserved word
 abbrev pub BeginsCommand : List ℕ → Type 0
-BeginsCommand name = (name ≡ codes "let") ⊎ ((name ≡ codes "yield") ⊎ ((name ≡ codes "doc") ⊎ (is_reserved name ≡ false)))
+BeginsCommand name =
+    (name ≡ codes "let") ⊎ ((name ≡ codes "yield") ⊎ ((name ≡ codes "doc") ⊎ (is_reserved name ≡ false)))
 
 -- after 65,536 commands one more begins
 pub record IsCommandPast (xs : List Symbol) (next : Symbol) : Type 0 where
@@ -121,12 +130,14 @@ pub record IsLeadExcess (fault : ScenarioFault) (xs : List Symbol) (after : List
 
 -- a fault of one symbol that comes next
 abbrev pub IsNextExcess : ScenarioFault → List Symbol → List Lexeme → Type 0
-IsNextExcess (ReservedName p) xs (next ∷ after) = (p ≡ next.place) × (IsReservedBinding xs next.symbol ⊎ IsReservedLead xs next.symbol)
+IsNextExcess (ReservedName p) xs (next ∷ after) =
+    (p ≡ next.place) × (IsReservedBinding xs next.symbol ⊎ IsReservedLead xs next.symbol)
 IsNextExcess (TooManyCommands p) xs (next ∷ after) = (p ≡ next.place) × IsCommandPast xs next.symbol
 IsNextExcess fault xs after = ⊥
 
 abbrev pub IsScriptExcess : ScenarioFault → List Symbol → List Lexeme → Type 0
-IsScriptExcess fault xs after = IsNextExcess fault xs after ⊎ (IsBindingExcess fault xs after ⊎ IsLeadExcess fault xs after)
+IsScriptExcess fault xs after =
+    IsNextExcess fault xs after ⊎ (IsBindingExcess fault xs after ⊎ IsLeadExcess fault xs after)
 
 -- a text is this script
 abbrev pub IsScriptOf : List ℕ → List Cmd → Type 0

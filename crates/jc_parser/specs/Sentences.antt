@@ -1,4 +1,5 @@
--- Sentences of a language that are a whole text, and the faults of a text that is none. A language says what a tree is spelled with, perhaps past a limit; which trees are within the limits; and what is too much after which symbols.
+-- Sentences of a language that are a whole text, and the faults of a text that is none. A language says what a tree is
+-- spelled with, perhaps past a limit; which trees are within the limits; and what is too much after which symbols.
 use Rattle.std.specs.Prelude.{◌≡◌, ℕ, ◌⊎◌, List, [], ◌∷◌, ◌++◌}
 use Rattle.jc_syntax.specs.declared.token.Token.{Token}
 use Rattle.jc_syntax.specs.declared.fault.LexFault.{LexFault}
@@ -25,7 +26,8 @@ FitsNothing {T} L xs [] = (t : T) → L t xs → ⊥
 FitsNothing L xs (next ∷ after) = Begins L (xs ++ next.symbol ∷ []) → ⊥
 
 -- After these lexemes, which begin a sentence, comes what fits nothing.
-pub record IsOutOfPlace {T : Type 0} (L : T → List Symbol → Type 0) (W : T → Type 0) (fault : ScenarioFault) (stop : ℕ) (before after : List Lexeme) : Type 0 where
+pub record IsOutOfPlace {T : Type 0} (L : T → List Symbol → Type 0) (W : T → Type 0)
+    (fault : ScenarioFault) (stop : ℕ) (before after : List Lexeme) : Type 0 where
   pub begun : IsBegun L W (symbols before)
   pub unfit : FitsNothing L (symbols before) after
   pub is : fault ≡ stuck_at stop after
@@ -35,21 +37,24 @@ abbrev pub Excess : Type 1
 Excess = ScenarioFault → List Symbol → List Lexeme → Type 0
 
 -- the fault of these lexemes
-pub record IsStopped {T : Type 0} (L : T → List Symbol → Type 0) (W : T → Type 0) (V : Excess) (r : Reading) (fault : ScenarioFault) : Type 0 where
+pub record IsStopped {T : Type 0} (L : T → List Symbol → Type 0) (W : T → Type 0)
+    (V : Excess) (r : Reading) (fault : ScenarioFault) : Type 0 where
   pub before : List Lexeme
   pub after : List Lexeme
   pub parts : r.left ≡ before ++ after
   pub stops : IsOutOfPlace L W fault r.stop before after ⊎ V fault (symbols before) after
 
 -- a text is the sentence of a tree within the limits
-pub record IsSentence {T : Type 0} (L : T → List Symbol → Type 0) (W : T → Type 0) (text : List ℕ) (t : T) : Type 0 where
+pub record IsSentence {T : Type 0} (L : T → List Symbol → Type 0) (W : T → Type 0)
+    (text : List ℕ) (t : T) : Type 0 where
   pub tokens : List Token
   pub lexed : AreTokensOf text tokens
   pub spelled : L t (symbols (lexemes text tokens))
   pub within : W t
 
 -- the fault of a text: that of its tokens, else that of its sentence
-abbrev pub IsSentenceFault : {T : Type 0} → (T → List Symbol → Type 0) → (T → Type 0) → Excess → List ℕ → ScenarioFault → Type 0
+abbrev pub IsSentenceFault :
+    {T : Type 0} → (T → List Symbol → Type 0) → (T → Type 0) → Excess → List ℕ → ScenarioFault → Type 0
 IsSentenceFault L W V text fault =
     ((lexical : LexFault) × IsFaultOf text lexical × (fault ≡ from_lexer lexical))
     ⊎ ((tokens : List Token) × AreTokensOf text tokens × IsStopped L W V (reading text tokens) fault)

@@ -18,7 +18,7 @@ abbrev pub IsPrefixWithin : List Symbol → Type 0
 IsPrefixWithin xs = (t : Tree) × (more : List Symbol) × IsWithinLimits t × IsText t (xs ++ more)
 
 -- A scenario begins so, and no limit is passed. Whether a dot is one too many, only the word after it says.
-pub record IsSound (xs : List Symbol) : Type 0 where
+pub record IsBeginning (xs : List Symbol) : Type 0 where
   pub begins : IsPrefix xs
   pub kept : List Symbol
   pub within : IsPrefixWithin kept
@@ -40,7 +40,10 @@ misfit_fault (a ∷ b ∷ c ∷ xs) stop after = stuck_at stop after
 
 -- the last symbol is the replica's name, and a reserved word
 abbrev pub IsReservedName : List Symbol → Type 0
-IsReservedName xs = (name : List ℕ) × (is_reserved name ≡ true) × (xs ≡ word (codes "jsoncrdt") ∷ number (codes "1") ∷ word (codes "replica") ∷ word name ∷ [])
+IsReservedName xs =
+    (name : List ℕ)
+    × (is_reserved name ≡ true)
+    × (xs ≡ word (codes "jsoncrdt") ∷ number (codes "1") ∷ word (codes "replica") ∷ word name ∷ [])
 
 -- the last symbol begins a command past the limit
 pub record IsCommandTooMany (xs : List Symbol) : Type 0 where
@@ -76,7 +79,8 @@ pub record IsEventTooMany (xs : List Symbol) : Type 0 where
   pub name : List ℕ
   pub is : xs ≡ head_text tree.name ++ (script ++ (schedule_head ++ (before ++ word name ∷ [])))
 
--- The text is a scenario within the limits, and the first symbol after `xs` is the first event's name that is not the replica's.
+-- The text is a scenario within the limits, and the first symbol after `xs` is the first event's name that is not the
+-- replica's.
 pub record IsStranger (xs : List Symbol) (next : Symbol) (after : List Symbol) : Type 0 where
   pub tree : Tree
   pub within : IsWithinLimits tree
@@ -97,16 +101,17 @@ pub record IsStranger (xs : List Symbol) (next : Symbol) (after : List Symbol) :
 abbrev pub IsExcess : ScenarioFault → List Symbol → List Lexeme → Type 0
 IsExcess (ReservedName p) xs (next ∷ after) = (p ≡ next.place) × IsReservedName (xs ++ next.symbol ∷ [])
 IsExcess (TooManyCommands p) xs (next ∷ after) = (p ≡ next.place) × IsCommandTooMany (xs ++ next.symbol ∷ [])
-IsExcess (TooLongExpression p) xs (next ∷ second ∷ after) = (p ≡ next.place) × IsSelectorTooMany (xs ++ next.symbol ∷ second.symbol ∷ [])
+IsExcess (TooLongExpression p) xs (next ∷ second ∷ after) =
+    (p ≡ next.place) × IsSelectorTooMany (xs ++ next.symbol ∷ second.symbol ∷ [])
 IsExcess (TooManyEvents p) xs (next ∷ after) = (p ≡ next.place) × IsEventTooMany (xs ++ next.symbol ∷ [])
 IsExcess (UnknownReplica p) xs (next ∷ after) = (p ≡ next.place) × IsStranger xs next.symbol (symbols after)
 IsExcess fault xs after = ⊥
 
 -- ---- the fault
 
--- After these lexemes, which are sound, comes what fits nothing.
+-- After these lexemes, which begin a scenario, comes what fits nothing.
 pub record IsMisplaced (fault : ScenarioFault) (stop : ℕ) (before after : List Lexeme) : Type 0 where
-  pub sound : IsSound (symbols before)
+  pub begun : IsBeginning (symbols before)
   pub misfit : IsMisfit (symbols before) after
   pub is : fault ≡ misfit_fault (symbols before) stop after
 

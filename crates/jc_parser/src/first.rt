@@ -12,11 +12,8 @@ use crate::cursor::Cursor;
 use crate::fault::ScenarioFault;
 use crate::parser::{Parsed, whole};
 use jc_rules::{Event, Text};
-use jc_syntax::{Cmd, Named, Token, lex};
+use jc_syntax::{Cmd, MAX_TEXT, Named, Token, lex};
 use std::alloc::Global;
-
-/// How many bytes a text may have.
-const MAX_TEXT: usize = 8388608;
 
 /// A scenario of one replica, whose number is 0.
 #[derive(Drop)]

@@ -1,9 +1,10 @@
 //! Laws of the definitions: a text is one scenario, expression, script or event at most, or has one fault
-//! at most, and not both.
+//! at most, and not both. What is parsed is legal.
 
 ghost use Rattle.jc_parser.specs.Laws.{OneTree, OneScenario, ScenarioOrFault, OneFault, OneExpression, ExpressionOrFault, OneExpressionFault, OneScript, ScriptOrFault, OneScriptFault};
 ghost use Rattle.jc_parser.specs.ClosedScripts.{OneScriptAt, ScriptOrFaultAt, OneScriptFaultAt};
 ghost use Rattle.jc_parser.specs.CallLaws.{OneEvent, EventOrFault, OneEventFault, OneEventAt, EventOrFaultAt, OneEventFaultAt};
+ghost use Rattle.jc_parser.specs.LegalLaws.{LegalExpressions, LegalScripts, LegalEvents, LegalScriptsAt, LegalEventsAt};
 
 use jc_syntax::laws as lexemes;
 
@@ -137,3 +138,39 @@ pub fn script_or_fault_at()
 pub fn one_script_fault_at()
     ensures { OneScriptFaultAt }
 {}
+
+/// The expression that a text is stays within the limits, and its names and strings are such as tokens have.
+pub fn legal_expressions()
+    ensures { LegalExpressions }
+{
+    lexemes::legal_strings();
+}
+
+/// The script that a text is stays within the limits, and its names, numbers and strings are such as tokens
+/// have.
+pub fn legal_scripts()
+    ensures { LegalScripts }
+{
+    lexemes::legal_strings();
+}
+
+/// The event that a text is has a counter within its limit, and names such as tokens have.
+pub fn legal_events()
+    ensures { LegalEvents }
+{
+    lexemes::legal_strings();
+}
+
+/// A script among the tokens of a text is as legal as one that is a whole text.
+pub fn legal_scripts_at()
+    ensures { LegalScriptsAt }
+{
+    lexemes::legal_strings();
+}
+
+/// An event among the tokens of a text is as legal as one that is a whole text.
+pub fn legal_events_at()
+    ensures { LegalEventsAt }
+{
+    lexemes::legal_strings();
+}

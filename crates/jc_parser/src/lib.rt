@@ -19,14 +19,3 @@ pub use language::parse_expr;
 pub use parse_fault::ParseFault;
 pub use scripts::{parse_script, script_at};
 pub use trees::{NamedReplica, NamedScenario, scenario_of};
-
-#[cfg(test)]
-mod event_tests;
-#[cfg(test)]
-mod language_tests;
-#[cfg(test)]
-mod script_tests;
-#[cfg(test)]
-mod testing;
-#[cfg(test)]
-mod tests;

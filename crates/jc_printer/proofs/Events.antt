@@ -13,7 +13,7 @@ use Rattle.jc_parser.specs.Symbols.{Symbol, word, number, dot, open_paren, close
 use Rattle.jc_rules.specs.Names.{name_at}
 use Rattle.jc_printer.specs.Canon.{canon_event, AreNamed}
 use Rattle.jc_parser.specs.Calls.{Call, executes, sends, receives, applies, ends, IsCallSpelled, call_of, StandsAt, IsEvent}
-use Rattle.jc_printer.specs.Legal.{IsName, IsNumeric, call_by, IsCounterBelow}
+use Rattle.jc_parser.specs.Legal.{IsName, IsNumeric, call_by, IsCounterBelow}
 use Rattle.jc_printer.proofs.Numerals.{numeral_of, value_of_numeral, numeric_of}
 use Rattle.jc_printer.proofs.Printed.{IsPrinted, put, spaced}
 use Rattle.jc_printer.proofs.Trees.{dotted, enclosed, keyword}

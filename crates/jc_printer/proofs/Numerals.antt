@@ -10,7 +10,7 @@ use Rattle.std.proofs.lemmas.Int.Digits.{first_digits_of}
 use Rattle.std.proofs.lemmas.List.Sums.{AllPass-from_list_all}
 use Rattle.std.proofs.lemmas.Str.Parse.{IsNumeralModel, numerals_by_value, tells_all_ascii_digits}
 use Rattle.jc_syntax.specs.Numbers.{IsDigits, IsWhole, IsNumber}
-use Rattle.jc_printer.specs.Legal.{IsNumeric}
+use Rattle.jc_parser.specs.Legal.{IsNumeric}
 use Rattle.jc_parser.specs.Language.{is_numeral, numeral_value}
 
 own : IsNumeralModel (λ ds. all_ascii_digits ds ≡ true) (digits_value 10)

@@ -15,7 +15,7 @@ use Rattle.jc_printer.specs.Canon.{quoted, canon_expr, canon_value, canon_cmd, c
 use Rattle.jc_parser.specs.Grammar.{is_reserved, get_text, IsListText}
 use Rattle.jc_parser.specs.Language.{index_text, IsSpelled, HasLegalParts, IsWellFormed}
 use Rattle.jc_parser.specs.Scripts.{IsValueSpelled, Leads, IsCommandSpelled, IsCommandWellFormed, IsScriptSpelled}
-use Rattle.jc_printer.specs.Legal.{IsName, IsNumeric, IsContent, IsLegalExpr, IsLegalValue, IsLegalCmd}
+use Rattle.jc_parser.specs.Legal.{IsName, IsNumeric, IsContent, IsLegalExpr, IsLegalValue, IsLegalCmd}
 use Rattle.jc_printer.proofs.Numerals.{numeral_of, value_of_numeral, numeric_of}
 use Rattle.jc_printer.proofs.Printed.{IsPrinted, put, spaced}
 use Rattle.jc_printer.proofs.Written.{IsPartedBy, IsWritten}

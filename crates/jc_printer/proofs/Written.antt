@@ -16,7 +16,7 @@ use Rattle.jc_syntax.specs.Lexemes.{after_name, after_number_run, kind_of, kind_
 use Rattle.jc_syntax.proofs.Contents.{string_content}
 use Rattle.jc_parser.specs.Symbols.{Symbol, word, number, string, dot, open_paren, close_paren, open_brace, close_brace, open_bracket, close_bracket, comma, semicolon, assign, equals, symbol_of}
 use Rattle.jc_printer.specs.Canon.{quoted}
-use Rattle.jc_printer.specs.Legal.{IsName, IsNumeric, IsContent}
+use Rattle.jc_parser.specs.Legal.{IsName, IsNumeric, IsContent}
 use Rattle.jc_printer.proofs.Front.{left_after, byte_there, byte_here, stands}
 use Rattle.jc_printer.proofs.Quoted.{quoted_string}
 use Rattle.jc_printer.proofs.NumberBytes.{number_bytes, number_begins}
@@ -129,7 +129,7 @@ number_there text at b bs rest h is parted =
     }
 
 string_there : (text : List ℕ) (at : ℕ) (content rest : List ℕ) → drop at text ≡ quoted content ++ rest → IsContent content → IsLexemeOf text at (string content) (length (quoted content))
-string_there text at content rest h short =
+string_there text at content rest h (utf8, short) =
     let here : slice_index text at ≡ 34 = byte_here text at 34 _ h in
     let literal = quoted_string text at content rest h in
     record {

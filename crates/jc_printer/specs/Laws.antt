@@ -8,7 +8,7 @@ use Rattle.jc_parser.specs.LanguageFaults.{IsExpressionOf}
 use Rattle.jc_parser.specs.Scripts.{IsScriptWellFormed, IsScriptOf}
 use Rattle.jc_parser.specs.Calls.{call_of, IsEventOf}
 use Rattle.jc_printer.specs.Canon.{canon_expr, canon_script, canon_event, AreNamed}
-use Rattle.jc_printer.specs.Legal.{IsName, IsLegalExpr, IsLegalCmd, call_by, IsCounterBelow}
+use Rattle.jc_parser.specs.Legal.{IsName, IsLegalExpr, IsLegalCmd, call_by, IsCounterBelow}
 
 abbrev pub ExpressionsReadBack : Type 0
 ExpressionsReadBack =

@@ -1,3 +1,2 @@
 pub mod Canon
 pub mod Laws
-pub mod Legal

@@ -6,6 +6,3 @@ mod print;
 mod quote;
 
 pub use print::{print_event, print_expr, print_script, print_value};
-
-#[cfg(test)]
-mod tests;

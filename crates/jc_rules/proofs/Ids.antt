@@ -1,16 +1,13 @@
 -- Laws of sets of identifiers.
-use Rattle.std.proofs.Common.{◌≡◌, ℕ, zero, suc, ◌<◌, ◌≤◌, ◌-◌, length, get_or, slice_get, Some, None, insert, Result, Ok, Err, is_ok, List, [], ◌∷◌, Bool, true, false, not, ◌||◌, ◌&&◌, refl, sym, ◌∙◌, arith}
+use Rattle.std.proofs.Common.{◌≡◌, ℕ, zero, suc, ◌<◌, ◌≤◌, length, get_or, insert, Result, Ok, Err, is_ok, List, [], ◌∷◌, Bool, true, false, not, ◌||◌, ◌&&◌, refl, sym, ◌∙◌, arith}
 use Rattle.std.specs.List.{AllByRecursion}
 use Rattle.std.specs.List.Sorted.{IsBinarySearchResult, IsSearchInRange}
-use Rattle.std.specs.Ordering.{nat_cmp}
-use Rattle.std.proofs.lemmas.Cmp.{ranked}
-use Rattle.std.specs.List.{list_all}
 use Rattle.std.specs.declared.cmp.Ordering.{Ordering}
 use Rattle.std.specs.declared.cmp.Ordering.TheVariants.{Less, Equal, Greater}
 use Rattle.std.specs.Cmp.{tied_itself}
 use Rattle.jc_rules.specs.declared.id.Id.{Id}
 use Rattle.jc_rules.specs.Order.{id_cmp, same_id}
-use Rattle.jc_rules.specs.Ids.{AreRising, has_id, with_id, added, union, without, greatest, AreIn}
+use Rattle.jc_rules.specs.Ids.{AreRising, has_id, with_id, added, union, without}
 use Rattle.jc_rules.proofs.Order.{ids_total, exact_ids}
 use Rattle.jc_rules.proofs.Rising as rising
 
@@ -238,52 +235,3 @@ pub searched_place : (i : Id) (s : List Id) (p : ℕ) → AreRising s → p ≤ 
 searched_place i s p h bound found =
     let parts = found (rising.non_decreasing ids_total i s h) in
     (placed_at i s p bound (λ k d l. parts.0 k d (omega arith) l) parts.1).1
-
--- the last of a rising list has the greatest counter
-counter_below : (i j : Id) → id_cmp i j ≡ Less → i.counter ≤ j.counter
-counter_below i j h = go (nat_cmp i.counter j.counter) refl
-  where
-    go : (o : Ordering) → nat_cmp i.counter j.counter ≡ o → i.counter ≤ j.counter
-    go Less e = let m = ranked i.counter j.counter Less (sym e) in omega arith
-    go Equal e = let m = ranked i.counter j.counter Equal (sym e) in omega arith
-    go Greater e = absurd (let f : Greater ≡ Less = rw e at h in cc)
-
-greatest_at : (s : List Id) (n : ℕ) (i : Id) → AreRising s → suc n ≡ length s → slice_get s n ≡ Some i → greatest s ≡ i.counter
-greatest_at [] n i h l e = absurd (omega arith)
-greatest_at (j ∷ []) zero i h l e = let q : j ≡ i = cc in rw q (omega arith)
-greatest_at (j ∷ []) (suc n) i h l e = absurd (omega arith)
-greatest_at (j ∷ k ∷ s) zero i h l e = absurd (omega arith)
-greatest_at (j ∷ k ∷ s) (suc n) i h l e =
-    let rest : greatest (k ∷ s) ≡ i.counter = greatest_at (k ∷ s) n i h.1 (omega arith) e in
-    let below : j.counter ≤ k.counter = counter_below j k h.0.0 in
-    omega arith
-
--- the last of a rising list has the greatest counter
-pub greatest-last : (s : List Id) (i : Id) → AreRising s → slice_get s (length s - 1) ≡ Some i → greatest s ≡ i.counter
-greatest-last [] i h e = cc
-greatest-last (j ∷ s) i h e = greatest_at (j ∷ s) (length s) i h (omega arith) (let same : length (j ∷ s) - 1 ≡ length s = omega arith in rw same at e)
-
-pub greatest-nothing : (s : List Id) → slice_get s (length s - 1) ≡ None → greatest s ≡ 0
-greatest-nothing [] e = refl
-greatest-nothing (j ∷ s) e = absurd (none_at (j ∷ s) (length s) (omega arith) (let same : length (j ∷ s) - 1 ≡ length s = omega arith in rw same at e))
-  where
-    none_at : (t : List Id) (n : ℕ) → n < length t → slice_get t n ≡ None → ⊥
-    none_at [] n l g = omega arith
-    none_at (k ∷ t) zero l g = cc
-    none_at (k ∷ t) (suc n) l g = none_at t n (omega arith) g
-
--- inclusion, tested
-pub all_in : (is js : List Id) → list_all (λ i. has_id i js) is ≡ true → AreIn is js
-all_in [] js h k p = not_true p
-all_in (i ∷ is) js h k p = go (has_id i js) refl (same_id k i) refl (λ g q. all_in is js g k q)
-  where
-    go : (b : Bool) → has_id i js ≡ b → (c : Bool) → same_id k i ≡ c → (list_all (λ l. has_id l js) is ≡ true → has_id k is ≡ true → has_id k js ≡ true) → has_id k js ≡ true
-    go false e c f ih = not_true (rw e at h)
-    go true e true f ih = let q : k ≡ i = same_id-true k i f in rw (q, e) refl
-    go true e false f ih = ih (rw e at h) (rw f at p)
-
-pub in_all : (is js : List Id) → AreIn is js → list_all (λ i. has_id i js) is ≡ true
-in_all [] js h = refl
-in_all (i ∷ is) js h =
-    let first : has_id i js ≡ true = h i (rw (same_id-self i) refl) in
-    rw first (in_all is js (λ k p. h k (rw p (or_true (same_id k i)))))

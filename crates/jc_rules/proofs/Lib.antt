@@ -11,3 +11,8 @@ pub mod Steps
 pub mod Shown
 pub mod Fronts
 pub mod Wrote
+pub mod Filled
+pub mod OneEach
+pub mod Counters
+pub mod Stands
+pub mod Withdrawn

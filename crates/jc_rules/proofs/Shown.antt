@@ -28,7 +28,7 @@ use Rattle.jc_rules.specs.State.{State, Bound, ACursor, Names, Pairs}
 use Rattle.jc_rules.specs.Derivation.{Question, Occur, Run, Evaluate, SelectIndex, SelectKeys, SelectValues, Make, ApplyOp, Operate, Child, AddId, Presence, Clear, ClearAny, ClearElem, ClearMap, ClearList, Answer, ToState, ToBound, ToCursor, ToNames, ToPairs, ToContext, ToContent, ToIds, Cleared, Judgement, gives, Derivation, derive, Premises, none, premise, conclusion, conclusions, trace, traces}
 use Rattle.jc_rules.specs.Table.{Holds, AllHold, Follows, cursor, moved, IsEmptyIds, IsBefore, bind, kept, least_left, names_in, op_of, with_op, both, after}
 use Rattle.jc_rules.specs.Refused.{IsAnswered}
-use Rattle.jc_rules.specs.Step.{replica_of, read_by, After}
+use Rattle.jc_rules.specs.Step.{replica_of, read_by, Step, After}
 use Rattle.jc_rules.specs.Worked.{IsWorked}
 
 -- a derivation of the answer, with these rows from the depth on
@@ -88,6 +88,24 @@ worked s h g = record {
   is_trace = cc;
 }
 
+-- a step of a network
+pub stepped : {network new : List State} {e : Event} {A : State} {read : List Op} {B : State} {rows expected : List (Rule × ℕ)}
+    → slice_get network (replica_of e) ≡ Some A → read_by e network ≡ Some read
+    → Shown 0 (Occur A e read) (ToState B) rows → new ≡ slice_set network (replica_of e) B → rows ≡ expected
+    → Step network e new expected
+stepped {A = A} {read = read} {B = B} g r s n t = record {
+  before = A;
+  after = B;
+  read = read;
+  derivation = s.derivation;
+  is_there = g;
+  reads = r;
+  holds = s.holds;
+  concludes = s.concludes;
+  is_new = n;
+  is_trace = cc;
+}
+
 -- a network that follows from another by the events
 pub record Runs (network : List State) (events : List Event) (last : List State) : Type 0 where
   pub is : After network events last
@@ -99,24 +117,8 @@ pub then : {network : List State} {e : Event} {events : List Event} {last : List
     → slice_get network (replica_of e) ≡ Some A → read_by e network ≡ Some read
     → Shown 0 (Occur A e read) (ToState B) rows → Runs (slice_set network (replica_of e) B) events last
     → Runs network (e ∷ events) last
-then {network = network} {e = e} {A = A} {read = read} {B = B} {rows = rows} g r s t = record {
-  is = (
-    slice_set network (replica_of e) B,
-    rows,
-    record {
-      before = A;
-      after = B;
-      read = read;
-      derivation = s.derivation;
-      is_there = g;
-      reads = r;
-      holds = s.holds;
-      concludes = s.concludes;
-      is_new = refl;
-      is_trace = sym s.is_trace;
-    },
-    t.is,
-  );
+then {network = network} {e = e} {B = B} {rows = rows} g r s t = record {
+  is = (slice_set network (replica_of e) B, rows, stepped g r s refl refl, t.is);
 }
 
 -- commands and expressions

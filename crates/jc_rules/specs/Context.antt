@@ -22,7 +22,8 @@ IsPrimitive V.EmptyMap = ⊥
 IsPrimitive V.EmptyList = ⊥
 IsPrimitive _ = Unit {0}
 
--- The entries of a context by kind, those of each kind by key: children under mapT, children under listT, registers, presence sets, and what follows each key of a list.
+-- The entries of a context by kind, those of each kind by key: children under mapT, children under listT, registers,
+-- presence sets, and what follows each key of a list.
 mutual
   pub data Context : Type 0 where
     context : Children → Children → List (Key × Register) → List (Key × List Id) → List (Key × Next) → Context

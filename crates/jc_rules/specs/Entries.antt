@@ -1,4 +1,5 @@
--- Lists of entries by key, in the order R of the keys. An entry is put where its key stands, or else into its place, so that what is put can be found whatever the list.
+-- Lists of entries by key, in the order R of the keys. An entry is put where its key stands, or else into its place, so
+-- that what is put can be found whatever the list.
 use Rattle.std.specs.Prelude.{◌≡◌, List, [], ◌∷◌, Option, Some, None, cond, map}
 use Rattle.std.specs.List.{AllByRecursion}
 use Rattle.std.specs.Ordering.{eq_by_cmp, match_ordering}

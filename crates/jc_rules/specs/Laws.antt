@@ -29,7 +29,9 @@ OneStep =
 
 -- The same events lead a network to one network at most.
 abbrev pub OneAfter : Type 0
-OneAfter = (network : List State) (events : List Event) (last other : List State) → After network events last → After network events other → last ≡ other
+OneAfter =
+    (network : List State) (events : List Event) (last other : List State)
+    → After network events last → After network events other → last ≡ other
 
 -- A question that is refused has no derivation.
 abbrev pub RefusedHasNone : Type 0
@@ -41,11 +43,15 @@ OneCause = (q : Question) (why other : Cause) → Refused q why → Refused q ot
 
 -- An event that is stuck leads to no network.
 abbrev pub StuckHasNone : Type 0
-StuckHasNone = (network new : List State) (event : Event) (why : Cause) (rows : List (Rule × ℕ)) → IsStuck network event why → Step network event new rows → ⊥
+StuckHasNone =
+    (network new : List State) (event : Event) (why : Cause) (rows : List (Rule × ℕ))
+    → IsStuck network event why → Step network event new rows → ⊥
 
 -- An event is stuck in one way only.
 abbrev pub OneStuck : Type 0
-OneStuck = (network : List State) (event : Event) (why other : Cause) → IsStuck network event why → IsStuck network event other → why ≡ other
+OneStuck =
+    (network : List State) (event : Event) (why other : Cause)
+    → IsStuck network event why → IsStuck network event other → why ≡ other
 
 -- an order that tells different keys apart
 pub record IsExactOrder {K : Type 0} (R : K → K → Ordering) : Type 0 where
@@ -57,7 +63,8 @@ pub record AreExactOrders : Type 0 where
   pub names : IsExactOrder name_cmp
   pub keys : IsExactOrder key_cmp
 
--- The rising lists that sets of identifiers are kept as: what is in them, that they rise, and that equal members make equal lists.
+-- The rising lists that sets of identifiers are kept as: what is in them, that they rise, and that equal members make
+-- equal lists.
 pub record AreSets : Type 0 where
   pub with_one : (k i : Id) (s : List Id) → has_id k (with_id i s) ≡ same_id k i || has_id k s
   pub in_either : (k : Id) (s t : List Id) → has_id k (union s t) ≡ has_id k s || has_id k t

@@ -3,6 +3,7 @@ pub mod Names
 pub mod Entries
 pub mod Ids
 pub mod Context
+pub mod Paths
 pub mod Places
 pub mod Shape
 pub mod Syntax
@@ -19,4 +20,5 @@ pub mod Refusals
 pub mod Laws
 pub mod Worked
 pub mod Told
-pub mod Fakes
+pub mod Filled
+pub mod Stands

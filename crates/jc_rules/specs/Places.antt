@@ -36,6 +36,7 @@ abbrev pub first_key : List Tagged → Key → Key
 first_key [] k = k
 first_key (t ∷ ts) k = key_of t
 
--- The place of key j below the path q is at or above the place of key k below the path p: the way to k goes through j there.
+-- The place of key j below the path q is at or above the place of key k below the path p: the way to k goes through j
+-- there.
 abbrev pub IsAtOrAbove : List Tagged → Key → List Tagged → Key → Type 0
 IsAtOrAbove q j p k = (rest : List Tagged) × (p ≡ q ++ rest) × (first_key rest k ≡ j)

@@ -28,7 +28,8 @@ AreDistinct (x ∷ xs) = AllByRecursion (λ y. y ≢ x) xs × AreDistinct xs
 abbrev pub chain_of : List Id → List Key
 chain_of is = Head ∷ elements is
 
--- The links of the context are one chain from its head through these elements to its end, none twice, and there is no other link.
+-- The links of the context are one chain from its head through these elements to its end, none twice, and there is no
+-- other link.
 pub record IsChain (c : Context) (is : List Id) : Type 0 where
   pub leads : LeadsThrough c Head is
   pub distinct : AreDistinct (chain_of is)
@@ -54,12 +55,20 @@ abbrev mutual
 abbrev pub IsKeptRegister : Register → Type 0
 IsKeptRegister r = IsRising id_cmp (keys_of r) × AllByRecursion (λ e. IsPrimitive e.1) r
 
--- The entries of each kind rise by key, at every depth; the identifiers in presence sets and registers rise; registers keep primitive values.
+-- The entries of each kind rise by key, at every depth; the identifiers in presence sets and registers rise; registers
+-- keep primitive values.
 abbrev mutual
   pub IsKept : Context → Type 0
   IsKept (context m l r p n) =
-      IsRising key_cmp (keys_of (listed m)) × IsRising key_cmp (keys_of (listed l)) × IsRising key_cmp (keys_of r) × IsRising key_cmp (keys_of p) × IsRising key_cmp (keys_of n)
-      × AllByRecursion (λ e. IsKeptRegister e.1) r × AllByRecursion (λ e. AreRising e.1) p × AreKept m × AreKept l
+      IsRising key_cmp (keys_of (listed m))
+      × IsRising key_cmp (keys_of (listed l))
+      × IsRising key_cmp (keys_of r)
+      × IsRising key_cmp (keys_of p)
+      × IsRising key_cmp (keys_of n)
+      × AllByRecursion (λ e. IsKeptRegister e.1) r
+      × AllByRecursion (λ e. AreRising e.1) p
+      × AreKept m
+      × AreKept l
 
   pub AreKept : Children → Type 0
   AreKept no_child = Unit {0}

@@ -13,7 +13,8 @@ pub data Bound : Type 0 where
   Names : List (List ℕ) → Bound
   Pairs : List (Id × Value) → Bound
 
--- the commands left, whether a yield event was made since the yield began, the variables by name, the document, the identifiers applied, and the operations made, offered and received, by identifier
+-- the commands left, whether a yield event was made since the yield began, the variables by name, the document, the
+-- identifiers applied, and the operations made, offered and received, by identifier
 pub record State : Type 0 where
   pub left : List Cmd
   pub acted : Bool
@@ -26,4 +27,13 @@ pub record State : Type 0 where
 
 -- the start: all is empty but the script
 abbrev pub start : List Cmd → State
-start script = record { left = script; acted = false; vars = []; tree = empty; ops = []; queue = []; send = []; recv = [] }
+start script = record {
+  left = script;
+  acted = false;
+  vars = [];
+  tree = empty;
+  ops = [];
+  queue = [];
+  send = [];
+  recv = [];
+}

@@ -29,7 +29,8 @@ read_by (Apply p i) network = Some []
 read_by (Done p) network = Some []
 
 -- One event of one replica: a derivation leads from its state to its new one, and every other replica stays as it was.
-pub record Step (network : List State) (event : Event) (new_network : List State) (rows : List (Rule × ℕ)) : Type 0 where
+pub record Step (network : List State) (event : Event) (new_network : List State)
+    (rows : List (Rule × ℕ)) : Type 0 where
   pub before : State
   pub after : State
   pub read : List Op
@@ -44,4 +45,7 @@ pub record Step (network : List State) (event : Event) (new_network : List State
 -- one network follows from another by the events, in their order
 abbrev pub After : List State → List Event → List State → Type 0
 After network [] last = network ≡ last
-After network (e ∷ es) last = (between : List State) × (rows : List (Rule × ℕ)) × Step network e between rows × After between es last
+After network (e ∷ es) last =
+    (between : List State) × (rows : List (Rule × ℕ))
+    × Step network e between rows
+    × After between es last

@@ -10,7 +10,12 @@ pub record Rows : Type 0 where
   pub depth : ℕ
 
 abbrev pub rows_code : Coded Rows
-rows_code = code_by (List (Rule × ℕ) × ℕ) (coded× (coded_list (coded× the_row.coded coded_ℕ)) coded_ℕ) (λ t. (t.rows, t.depth)) (λ p. record { rows = p.0; depth = p.1 }) (λ _. refl)
+rows_code =
+    code_by (List (Rule × ℕ) × ℕ)
+    (coded× (coded_list (coded× the_row.coded coded_ℕ)) coded_ℕ)
+    (λ t. (t.rows, t.depth))
+    (λ p. record { rows = p.0; depth = p.1 })
+    (λ _. refl)
 
 -- with a rule at the depth
 abbrev pub pushed : Rows → Rule → Rows

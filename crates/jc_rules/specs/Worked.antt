@@ -17,8 +17,10 @@ pub mod Deletions
 pub mod Schedules
 pub mod Stuck
 
--- In the first state the event, which reads these operations, has a derivation that leads to the second state and whose trace is these rows.
-pub record IsWorked (before : State) (event : Event) (read : List Op) (after : State) (rows : List (Rule × ℕ)) : Type 0 where
+-- In the first state the event, which reads these operations, has a derivation that leads to the second state and whose
+-- trace is these rows.
+pub record IsWorked (before : State) (event : Event) (read : List Op) (after : State)
+    (rows : List (Rule × ℕ)) : Type 0 where
   pub derivation : Derivation
   pub holds : Holds derivation
   pub concludes : conclusion derivation ≡ gives (Occur before event read) (ToState after)
@@ -31,10 +33,30 @@ by_a c = record { counter = c; replica = 0 }
 abbrev pub by_b : ℕ → Id
 by_b c = record { counter = c; replica = 1 }
 
--- a state of a replica that came to no yield: the commands left, the variables, the document, the identifiers applied and the operations made
+-- a state of a replica that came to no yield: the commands left, the variables, the document, the identifiers applied
+-- and the operations made
 abbrev pub alone : List Cmd → List (List ℕ × Bound) → Context → List Id → List Op → State
-alone left vars tree ops made = record { left = left; acted = false; vars = vars; tree = tree; ops = ops; queue = made; send = []; recv = [] }
+alone left vars tree ops made = record {
+  left = left;
+  acted = false;
+  vars = vars;
+  tree = tree;
+  ops = ops;
+  queue = made;
+  send = [];
+  recv = [];
+}
 
--- a state of a replica at its last yield that offers all that it made: the document, the identifiers applied, and the operations made and received
+-- a state of a replica at its last yield that offers all that it made: the document, the identifiers applied, and the
+-- operations made and received
 abbrev pub met : Context → List Id → List Op → List Op → State
-met tree ops made received = record { left = Yield ∷ []; acted = true; vars = []; tree = tree; ops = ops; queue = made; send = made; recv = received }
+met tree ops made received = record {
+  left = Yield ∷ [];
+  acted = true;
+  vars = [];
+  tree = tree;
+  ops = ops;
+  queue = made;
+  send = made;
+  recv = received;
+}

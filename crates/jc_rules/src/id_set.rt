@@ -1,29 +1,39 @@
-//! Sets of identifiers.
+//! Sets of identifiers, kept as the greatest counter of each replica.
 
-ghost use Rattle.std.specs.Prelude.{◌≡◌, ◌↔◌, [], IfOk, OnOk, OnErr, IsTrue};
+ghost use Rattle.std.specs.Prelude.{◌≡◌, ◌<◌, ◌↔◌, [], ◌∷◌, Some, List, IfOk, OnOk, OnErr, IsTrue, eqb, leb, max, fold, position};
 ghost use Rattle.std.specs.List.{list_all};
-ghost use Rattle.jc_rules.specs.Ids.{has_id, with_id, greatest, AreIn, AreRising};
+ghost use Rattle.jc_rules.specs.declared.id.Id.{Id as AnyId};
+ghost use Rattle.jc_rules.specs.declared.operation.Op.{Op};
+ghost use Rattle.jc_rules.specs.Ids.{has_id, with_id, without, union, greatest, AreIn, AreRising};
+ghost use Rattle.jc_rules.specs.Table.{op_of};
+ghost use Rattle.jc_rules.specs.Filled.{counted, greatest_of, lowered, AreOneEach};
+ghost use Rattle.jc_rules.specs.Stands.{IsClosed, StandsFor};
 
 use crate::id::Id;
 use std::alloc::{AllocError, Global};
 use std::marker::Model;
 
-/// A finite set of identifiers, seen as the rising list of them.
+/// A set of identifiers, kept as the greatest counter of each replica that has one. It is seen as the rising list of
+/// all identifiers at or below these, gaps included.
+///
+/// In a sound set of operations it stands for one set that is closed under dependencies, and each call answers and
+/// changes as on that set (the clauses `stands`).
 #[derive(Drop)]
 pub struct IdSet {
-    ids: Vec<Id>,
+    /// One identifier of each replica that has one.
+    last: Vec<Id>,
 }
 
 impl Model for IdSet {
     ghost use Rattle.std.specs.Prelude.{List};
     ghost use Rattle.jc_rules.specs.declared.id.Id.{Id};
-    ghost use Rattle.jc_rules.specs.Ids.{AreRising};
+    ghost use Rattle.jc_rules.specs.Filled.{filled, AreOneEach};
 
     ghost Value = { List Id };
 
-    ghost view = { λ a. a.ids.items };
+    ghost view = { λ a. filled a.last.items };
 
-    ghost invariant = { λ a. AreRising a.ids.items };
+    ghost invariant = { λ a. AreOneEach a.last.items };
 }
 
 impl IdSet {
@@ -32,48 +42,85 @@ impl IdSet {
         ensures { result ≡ [] }
     {
         IdSet {
-            ids: Vec::new(alloc),
+            last: Vec::new(alloc),
         }
     }
 
-    /// Whether the identifier is in the set.
+    /// Whether the identifier is in the set. It takes no memory.
     pub fn contains(&self, id: Id) -> bool
-        ensures { result ≡ has_id id self.now }
+        ensures exact { result ≡ has_id id self.now }
+        ensures stands { (set : List Op) (s : List AnyId) (o : Op)
+            → StandsFor set s self.now → op_of id set ≡ Some o
+            → result ≡ has_id id s }
     {
-        self.ids.binary_search(&id).is_ok()
+        0 < id.counter && id.counter <= counter_of(self.last.as_slice(), id.replica)
     }
 
-    /// Adds the identifier, if it isn't in the set already. After a refusal the set is as it was.
+    /// Adds the identifier, and with it all of its replica with smaller counters. After a refusal the set is as it was.
     pub fn insert(&mut self, id: Id) -> Result<(), AllocError>
-        ensures ok { OnOk result (self.new ≡ with_id id self.old) }
+        ensures exact { OnOk result (self.new ≡ union (counted id.replica id.counter) self.old) }
+        ensures stands { OnOk result ((set : List Op) (s : List AnyId) (o : Op)
+            → StandsFor set s self.old → op_of id set ≡ Some o → AreIn o.deps s
+            → StandsFor set (with_id id s) self.new) }
         ensures err { OnErr result (self.new ≡ self.old) }
     {
-        insert_id(&mut self.ids, id)
-    }
-
-    /// Whether each identifier of this set is in the other one.
-    pub fn is_subset(&self, other: &IdSet) -> bool
-        ensures { IsTrue result ↔ AreIn self.now other.now }
-    {
-        are_in(self.ids.as_slice(), other)
-    }
-
-    /// The greatest counter, or 0.
-    pub fn greatest(&self) -> u64
-        ensures { result ≡ greatest self.now }
-    {
-        match self.ids.as_slice().last() {
-            Some(id) => id.counter,
-            None => 0,
+        match place_of(self.last.as_slice(), id.replica) {
+            Some(place) => {
+                if self.last[place].counter < id.counter {
+                    self.last[place] = id;
+                }
+            }
+            None => self.last.push(id)?,
         }
+        Ok(())
     }
 
-    /// The identifiers, rising.
-    pub fn as_slice(&self) -> &[Id]
-        ensures value { result.now ≡ self.now }
-        ensures rises { AreRising result.now }
+    /// Whether each identifier of this set is in the other one. It takes no memory.
+    pub fn is_subset(&self, other: &IdSet) -> bool
+        ensures exact { IsTrue result ↔ AreIn self.now other.now }
+        ensures stands { (set : List Op) (s t : List AnyId)
+            → StandsFor set s self.now → StandsFor set t other.now
+            → IsTrue result ↔ AreIn s t }
     {
-        self.ids.as_slice()
+        are_below(self.last.as_slice(), other.last.as_slice())
+    }
+
+    /// The greatest counter, or 0. It takes no memory.
+    pub fn greatest(&self) -> u64
+        ensures exact { result ≡ greatest self.now }
+        ensures stands { (set : List Op) (s : List AnyId) → StandsFor set s self.now → result ≡ greatest s }
+    {
+        greatest_in(self.last.as_slice())
+    }
+
+    /// The replica's greatest counter, or 0. It takes no memory.
+    pub fn greatest_of(&self, replica: u16) -> u64
+        ensures exact { result ≡ greatest_of replica self.now }
+        ensures stands { (set : List Op) (s : List AnyId)
+            → StandsFor set s self.now → result ≡ greatest_of replica s }
+    {
+        counter_of(self.last.as_slice(), replica)
+    }
+
+    /// Takes the identifier out, which is the greatest of its replica, and leaves the counter before it as the greatest
+    /// one; where that is 0, none of the replica is left. It takes no memory.
+    pub fn withdraw(&mut self, id: Id, before: u64)
+        requires greatest { greatest_of id.replica self.old ≡ id.counter }
+        requires lower { before < id.counter }
+        ensures exact { self.new ≡ lowered id.replica before self.old }
+        ensures stands { (set : List Op) (s : List AnyId)
+            → StandsFor set s self.old
+            → IsClosed set (without s (id ∷ [])) → before ≡ greatest_of id.replica (without s (id ∷ []))
+            → StandsFor set (without s (id ∷ [])) self.new }
+    {
+        let Some(place) = place_of(self.last.as_slice(), id.replica) else {
+            unreachable!();
+        };
+        if before == 0 {
+            self.last.remove(place);
+        } else {
+            self.last[place].counter = before;
+        }
     }
 
     /// The same set once more.
@@ -81,9 +128,43 @@ impl IdSet {
         ensures { IfOk result (λ set. set ≡ self.now) }
     {
         Ok(IdSet {
-            ids: self.ids.clone()?,
+            last: self.last.clone()?,
         })
     }
+}
+
+/// The place of the replica's identifier, if it has one.
+fn place_of(last: &[Id], replica: u16) -> Option<usize>
+    ensures { result ≡ position (λ id. eqb id.replica replica) last.now }
+{
+    last.iter().position(|id| id.replica == replica)
+}
+
+/// The counter of the replica's identifier, or 0.
+fn counter_of(last: &[Id], replica: u16) -> u64
+    requires { AreOneEach last.now }
+    ensures { result ≡ greatest_of replica last.now }
+{
+    match place_of(last, replica) {
+        Some(place) => last[place].counter,
+        None => 0,
+    }
+}
+
+/// Whether each is at or below the other list's counter of its replica.
+fn are_below(last: &[Id], others: &[Id]) -> bool
+    requires { AreOneEach others.now }
+    ensures { result ≡ list_all (λ id. leb id.counter (greatest_of id.replica others.now)) last.now }
+{
+    last.iter()
+        .all(|id| id.counter <= counter_of(others, id.replica))
+}
+
+/// The greatest of the counters, or 0.
+fn greatest_in(last: &[Id]) -> u64
+    ensures { result ≡ fold (λ most id. max most id.counter) 0 last.now }
+{
+    last.iter().fold(0, |most, id| most.max(id.counter))
 }
 
 /// Adds the identifier to a rising list, if it isn't there already. After a refusal the list is as it
@@ -98,10 +179,4 @@ pub fn insert_id(ids: &mut Vec<Id>, id: Id) -> Result<(), AllocError>
         ids.insert(place, id)?;
     }
     Ok(())
-}
-
-fn are_in(ids: &[Id], set: &IdSet) -> bool
-    ensures { result ≡ list_all (λ id. has_id id set.now) ids.now }
-{
-    ids.iter().all(|id| set.contains(*id))
 }

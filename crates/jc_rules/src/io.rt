@@ -155,7 +155,7 @@ impl<W: Write> Sink for ToWrite<W> {
 }
 
 /// Why a whole reading stopped.
-#[derive(Clone, Copy, Debug, PartialEq, Eq)]
+#[derive(Clone, Copy, Debug)]
 pub enum ReadFault {
     /// A read failed.
     Failed,
@@ -227,6 +227,3 @@ pub fn write_all<K: Sink>(sink: &mut K, bytes: &[u8]) -> Result<(), Failed>
     }
     Ok(())
 }
-
-#[cfg(test)]
-mod tests;

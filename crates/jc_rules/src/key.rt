@@ -34,7 +34,7 @@ impl Key {
 }
 
 /// A key with the kind of what stands under it: a map, a list or a register.
-#[derive(Debug, PartialEq, Eq, PartialOrd, Ord, Drop)]
+#[derive(Debug, PartialEq, Eq, Drop)]
 pub enum Tagged {
     MapT(Key),
     ListT(Key),

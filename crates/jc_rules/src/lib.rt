@@ -1,13 +1,14 @@
 //! The rules of the JSON CRDT: one table, what it speaks of, and the small types that every layer shares.
 #![tactic(auto)]
 
-pub mod fakes;
 mod id;
 mod id_set;
 pub mod io;
 mod key;
 pub mod laws;
+mod names;
 mod operation;
+mod pairs;
 mod path;
 mod refusal;
 mod rule;
@@ -19,13 +20,12 @@ pub mod worked;
 pub use id::Id;
 pub use id_set::{IdSet, insert_id};
 pub use key::{Key, Next, Tagged, compare_ids, compare_keys};
+pub use names::Names;
 pub use operation::{Cursor, Event, Mutation, Op};
+pub use pairs::Pairs;
 pub use path::Path;
 pub use refusal::Refusal;
 pub use rule::Rule;
 pub use text::{Text, name_at};
 pub use trace::{Trace, TraceMark};
 pub use value::Value;
-
-#[cfg(test)]
-mod tests;

@@ -30,7 +30,7 @@ impl Cursor {
 }
 
 /// What an operation does at its cursor.
-#[derive(Debug, PartialEq, Eq, Drop)]
+#[derive(PartialEq, Eq, Drop)]
 pub enum Mutation {
     Assign(Value),
     Insert(Value),
@@ -75,7 +75,7 @@ impl Op {
 
 /// One action of one replica, whose number comes first. Replicas are numbered in the order of
 /// their names.
-#[derive(Clone, Copy, Debug, PartialEq, Eq)]
+#[derive(Clone, Copy, PartialEq, Eq)]
 pub enum Event {
     /// Runs the next command.
     Exec(u16),

@@ -1,13 +1,15 @@
 //! Paths of tagged keys.
 
-ghost use Rattle.std.specs.Prelude.{◌≡◌, [], ◌∷◌, ◌++◌, IfOk, OnOk, OnErr};
+ghost use Rattle.std.specs.Prelude.{◌≡◌, ◌<◌, [], ◌∷◌, ◌++◌, length, IfOk, OnOk, OnErr};
+ghost use Rattle.jc_rules.specs.Paths.{HasContext, IsPath};
 
 use crate::key::Tagged;
 use smallvec::SmallVec;
 use std::alloc::{AllocError, Global};
 use std::marker::Model;
 
-/// The tagged keys that lead from the document down to a context. Short paths take no memory.
+/// The tagged keys that lead from the document down to a context: keys of maps and lists, at most
+/// 512. Short paths take no memory.
 #[derive(Drop)]
 pub struct Path {
     keys: SmallVec<Tagged, 8>,
@@ -16,10 +18,13 @@ pub struct Path {
 impl Model for Path {
     ghost use Rattle.std.specs.Prelude.{List};
     ghost use Rattle.jc_rules.specs.declared.key.Tagged.{Tagged};
+    ghost use Rattle.jc_rules.specs.Paths.{IsPath};
 
     ghost Value = { List Tagged };
 
     ghost view = { λ a. a.keys.items };
+
+    ghost invariant = { λ a. IsPath a.keys.items };
 }
 
 impl Path {
@@ -32,8 +37,10 @@ impl Path {
         }
     }
 
-    /// Goes one key further down. After a refusal the path is as it was.
+    /// Goes one key further down, into a map or a list. After a refusal the path is as it was.
     pub fn push(&mut self, key: Tagged) -> Result<(), AllocError>
+        requires context { HasContext key }
+        requires room { length self.old < 512 }
         ensures ok { OnOk result (self.new ≡ self.old ++ key ∷ []) }
         ensures err { OnErr result (self.new ≡ self.old) }
     {
@@ -41,8 +48,10 @@ impl Path {
         Ok(())
     }
 
+    /// The keys from the document down.
     pub fn as_slice(&self) -> &[Tagged]
-        ensures { result.now ≡ self.now }
+        ensures keys { result.now ≡ self.now }
+        ensures path { IsPath self.now }
     {
         self.keys.as_slice()
     }

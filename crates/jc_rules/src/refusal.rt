@@ -4,8 +4,10 @@ ghost use Rattle.std.specs.Prelude.{◌≡◌, ◌≢◌, IfSome, IfNone};
 ghost use Rattle.jc_rules.specs.declared.refusal.Refusal.{Refusal as AnyRefusal};
 ghost use Rattle.jc_rules.specs.Refusals.{number_of, name_of};
 
+use std::fmt;
+
 /// A refusal: why a text, an event or a call is not accepted.
-#[derive(Clone, Copy, Debug, PartialEq, Eq, Hash)]
+#[derive(Clone, Copy, PartialEq, Eq)]
 pub enum Refusal {
     BadByte,
     OpenString,
@@ -124,14 +126,122 @@ impl Refusal {
     pub fn number(self) -> u8
         ensures { result ≡ number_of self }
     {
-        self.row().0
+        match self {
+            Refusal::BadByte => 1,
+            Refusal::OpenString => 2,
+            Refusal::BadEscape => 3,
+            Refusal::LoneSurrogate => 4,
+            Refusal::BadNumber => 5,
+            Refusal::TextTooLong => 6,
+            Refusal::Unexpected => 7,
+            Refusal::EndOfText => 8,
+            Refusal::IndexTooLarge => 9,
+            Refusal::ReservedName => 10,
+            Refusal::TooManyCommands => 11,
+            Refusal::TooLongExpression => 12,
+            Refusal::NotUtf8 => 13,
+            Refusal::NoHeader => 14,
+            Refusal::SameName => 15,
+            Refusal::NoReplica => 16,
+            Refusal::TooManyReplicas => 17,
+            Refusal::UnknownReplica => 18,
+            Refusal::TooManyEvents => 19,
+            Refusal::NotInList => 20,
+            Refusal::UnboundVariable => 22,
+            Refusal::GetOnHead => 23,
+            Refusal::NotACursor => 24,
+            Refusal::NoSuchNode => 25,
+            Refusal::PastEnd => 26,
+            Refusal::NoMap => 27,
+            Refusal::NoRegister => 28,
+            Refusal::TooDeep => 29,
+            Refusal::NoCommand => 30,
+            Refusal::AtYield => 31,
+            Refusal::NotAtYield => 32,
+            Refusal::NotActed => 33,
+            Refusal::NotReceived => 34,
+            Refusal::AlreadyApplied => 35,
+            Refusal::DepsMissing => 36,
+            Refusal::NoSuchReplica => 37,
+            Refusal::Full => 38,
+            Refusal::NoPasses => 40,
+            Refusal::TooManyTakes => 41,
+            Refusal::Spent => 42,
+            Refusal::MissingPass => 43,
+            Refusal::GateCount => 45,
+            Refusal::LimitTooLarge => 46,
+            Refusal::NoThread => 47,
+            Refusal::AtStart => 50,
+            Refusal::AtEnd => 51,
+            Refusal::PastSchedule => 52,
+            Refusal::NoSuchBreak => 53,
+            Refusal::TooManyBreaks => 54,
+            Refusal::ReadFailed => 55,
+            Refusal::WriteFailed => 56,
+            Refusal::TooManyLines => 57,
+            Refusal::BadLine => 58,
+        }
     }
 
     /// The refusal's name.
     pub fn name(self) -> &'static str
         ensures { result.now ≡ name_of self }
     {
-        self.row().1
+        match self {
+            Refusal::BadByte => "BadByte",
+            Refusal::OpenString => "OpenString",
+            Refusal::BadEscape => "BadEscape",
+            Refusal::LoneSurrogate => "LoneSurrogate",
+            Refusal::BadNumber => "BadNumber",
+            Refusal::TextTooLong => "TextTooLong",
+            Refusal::Unexpected => "Unexpected",
+            Refusal::EndOfText => "EndOfText",
+            Refusal::IndexTooLarge => "IndexTooLarge",
+            Refusal::ReservedName => "ReservedName",
+            Refusal::TooManyCommands => "TooManyCommands",
+            Refusal::TooLongExpression => "TooLongExpression",
+            Refusal::NotUtf8 => "NotUtf8",
+            Refusal::NoHeader => "NoHeader",
+            Refusal::SameName => "SameName",
+            Refusal::NoReplica => "NoReplica",
+            Refusal::TooManyReplicas => "TooManyReplicas",
+            Refusal::UnknownReplica => "UnknownReplica",
+            Refusal::TooManyEvents => "TooManyEvents",
+            Refusal::NotInList => "NotInList",
+            Refusal::UnboundVariable => "UnboundVariable",
+            Refusal::GetOnHead => "GetOnHead",
+            Refusal::NotACursor => "NotACursor",
+            Refusal::NoSuchNode => "NoSuchNode",
+            Refusal::PastEnd => "PastEnd",
+            Refusal::NoMap => "NoMap",
+            Refusal::NoRegister => "NoRegister",
+            Refusal::TooDeep => "TooDeep",
+            Refusal::NoCommand => "NoCommand",
+            Refusal::AtYield => "AtYield",
+            Refusal::NotAtYield => "NotAtYield",
+            Refusal::NotActed => "NotActed",
+            Refusal::NotReceived => "NotReceived",
+            Refusal::AlreadyApplied => "AlreadyApplied",
+            Refusal::DepsMissing => "DepsMissing",
+            Refusal::NoSuchReplica => "NoSuchReplica",
+            Refusal::Full => "Full",
+            Refusal::NoPasses => "NoPasses",
+            Refusal::TooManyTakes => "TooManyTakes",
+            Refusal::Spent => "Spent",
+            Refusal::MissingPass => "MissingPass",
+            Refusal::GateCount => "GateCount",
+            Refusal::LimitTooLarge => "LimitTooLarge",
+            Refusal::NoThread => "NoThread",
+            Refusal::AtStart => "AtStart",
+            Refusal::AtEnd => "AtEnd",
+            Refusal::PastSchedule => "PastSchedule",
+            Refusal::NoSuchBreak => "NoSuchBreak",
+            Refusal::TooManyBreaks => "TooManyBreaks",
+            Refusal::ReadFailed => "ReadFailed",
+            Refusal::WriteFailed => "WriteFailed",
+            Refusal::TooManyLines => "TooManyLines",
+            Refusal::BadLine => "BadLine",
+        }
     }
 
     /// The refusal with the number, if there is one.
@@ -146,65 +256,11 @@ impl Refusal {
         }
         None
     }
+}
 
-    fn row(self) -> (u8, &'static str)
-        ensures number { result.0 ≡ number_of self }
-        ensures name { result.1.now ≡ name_of self }
-    {
-        match self {
-            Refusal::BadByte => (1, "BadByte"),
-            Refusal::OpenString => (2, "OpenString"),
-            Refusal::BadEscape => (3, "BadEscape"),
-            Refusal::LoneSurrogate => (4, "LoneSurrogate"),
-            Refusal::BadNumber => (5, "BadNumber"),
-            Refusal::TextTooLong => (6, "TextTooLong"),
-            Refusal::Unexpected => (7, "Unexpected"),
-            Refusal::EndOfText => (8, "EndOfText"),
-            Refusal::IndexTooLarge => (9, "IndexTooLarge"),
-            Refusal::ReservedName => (10, "ReservedName"),
-            Refusal::TooManyCommands => (11, "TooManyCommands"),
-            Refusal::TooLongExpression => (12, "TooLongExpression"),
-            Refusal::NotUtf8 => (13, "NotUtf8"),
-            Refusal::NoHeader => (14, "NoHeader"),
-            Refusal::SameName => (15, "SameName"),
-            Refusal::NoReplica => (16, "NoReplica"),
-            Refusal::TooManyReplicas => (17, "TooManyReplicas"),
-            Refusal::UnknownReplica => (18, "UnknownReplica"),
-            Refusal::TooManyEvents => (19, "TooManyEvents"),
-            Refusal::NotInList => (20, "NotInList"),
-            Refusal::UnboundVariable => (22, "UnboundVariable"),
-            Refusal::GetOnHead => (23, "GetOnHead"),
-            Refusal::NotACursor => (24, "NotACursor"),
-            Refusal::NoSuchNode => (25, "NoSuchNode"),
-            Refusal::PastEnd => (26, "PastEnd"),
-            Refusal::NoMap => (27, "NoMap"),
-            Refusal::NoRegister => (28, "NoRegister"),
-            Refusal::TooDeep => (29, "TooDeep"),
-            Refusal::NoCommand => (30, "NoCommand"),
-            Refusal::AtYield => (31, "AtYield"),
-            Refusal::NotAtYield => (32, "NotAtYield"),
-            Refusal::NotActed => (33, "NotActed"),
-            Refusal::NotReceived => (34, "NotReceived"),
-            Refusal::AlreadyApplied => (35, "AlreadyApplied"),
-            Refusal::DepsMissing => (36, "DepsMissing"),
-            Refusal::NoSuchReplica => (37, "NoSuchReplica"),
-            Refusal::Full => (38, "Full"),
-            Refusal::NoPasses => (40, "NoPasses"),
-            Refusal::TooManyTakes => (41, "TooManyTakes"),
-            Refusal::Spent => (42, "Spent"),
-            Refusal::MissingPass => (43, "MissingPass"),
-            Refusal::GateCount => (45, "GateCount"),
-            Refusal::LimitTooLarge => (46, "LimitTooLarge"),
-            Refusal::NoThread => (47, "NoThread"),
-            Refusal::AtStart => (50, "AtStart"),
-            Refusal::AtEnd => (51, "AtEnd"),
-            Refusal::PastSchedule => (52, "PastSchedule"),
-            Refusal::NoSuchBreak => (53, "NoSuchBreak"),
-            Refusal::TooManyBreaks => (54, "TooManyBreaks"),
-            Refusal::ReadFailed => (55, "ReadFailed"),
-            Refusal::WriteFailed => (56, "WriteFailed"),
-            Refusal::TooManyLines => (57, "TooManyLines"),
-            Refusal::BadLine => (58, "BadLine"),
-        }
+// By its name: a derived match of every variant is dear to prove.
+impl fmt::Debug for Refusal {
+    fn fmt<W: fmt::Write>(&self, f: &mut fmt::Formatter<W>) -> fmt::Result {
+        f.write_str(self.name())
     }
 }

@@ -4,8 +4,10 @@ ghost use Rattle.std.specs.Prelude.{◌≡◌, ◌≢◌, IfSome, IfNone};
 ghost use Rattle.jc_rules.specs.declared.rule.Rule.{Rule as AnyRule};
 ghost use Rattle.jc_rules.specs.RuleNames.{rule_name};
 
+use std::fmt;
+
 /// A rule of the table.
-#[derive(Clone, Copy, Debug, PartialEq, Eq, Hash)]
+#[derive(Clone, Copy, PartialEq, Eq)]
 pub enum Rule {
     Exec,
     Let,
@@ -183,5 +185,12 @@ impl Rule {
             }
         }
         None
+    }
+}
+
+// By its name: a derived match of every variant is dear to prove.
+impl fmt::Debug for Rule {
+    fn fmt<W: fmt::Write>(&self, f: &mut fmt::Formatter<W>) -> fmt::Result {
+        f.write_str(self.name())
     }
 }

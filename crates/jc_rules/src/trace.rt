@@ -1,6 +1,6 @@
 //! Traces of derivations.
 
-ghost use Rattle.std.specs.Prelude.{◌≡◌, ◌<◌, ◌≤◌, [], length, take, OnOk, OnErr};
+ghost use Rattle.std.specs.Prelude.{◌≡◌, ◌<◌, ◌≤◌, [], length, take, IfOk, OnOk, OnErr};
 ghost use Rattle.jc_rules.specs.Trace.{pushed, below, above, at_depth};
 
 use crate::rule::Rule;
@@ -113,6 +113,15 @@ impl Trace {
             rows: self.rows.len(),
             depth: self.depth,
         }
+    }
+
+    /// The same trace once more.
+    pub fn copy(&self) -> Result<Self, AllocError>
+        ensures { IfOk result (λ trace. trace ≡ self.now) }
+    {
+        let rows = self.rows.clone()?;
+        let depth = self.depth;
+        Ok(Trace { rows, depth })
     }
 
     /// Gives list and depth back as they were at the mark.

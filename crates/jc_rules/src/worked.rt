@@ -1,11 +1,12 @@
-//! Worked derivations, as laws. Each function does nothing: its contract is one event with the states before and after and its trace, an event that has no derivation, or a whole schedule with the states at its start and its end.
+//! Worked derivations, as laws. Each function does nothing: its contract is one event with the states before and after
+//! and its trace, an event that has no derivation, or a whole schedule with the states at its start and its end.
 
-ghost use Rattle.jc_rules.specs.Worked.Registers.{FirstAssignment, KeysOfDocument, ValuesOfRegister, VariableGoesOn, RegisterDeleted, LaterAssignment};
-ghost use Rattle.jc_rules.specs.Worked.Maps.{FirstMap, AssignmentOverMap, MapOverAssignment, ValuesUnderMap, KeysOfInnerMap, MapOfTwoDeleted};
-ghost use Rattle.jc_rules.specs.Worked.Lists.{FirstList, InsertAtHead, InsertAfterElement, DeleteElement, IndexPastTombstone, WholeListDeleted};
-ghost use Rattle.jc_rules.specs.Worked.Inserts.{SendsMade, YieldEnds, ReceivesOffered, AppliesReceived, ConcurrentInsert, InsertBeforeLesser, InsertLater};
+ghost use Rattle.jc_rules.specs.Worked.Registers.{FirstAssignment, KeysOfDocument, ValuesOfRegister, VariableGoesOn, RegisterDeleted, LaterAssignment, ConcurrentAssignment, ValuesOfBoth, KeysPastDeleted, AssignmentOfDocument};
+ghost use Rattle.jc_rules.specs.Worked.Maps.{FirstMap, AssignmentOverMap, MapOverAssignment, ValuesUnderMap, KeysOfInnerMap, MapOfTwoDeleted, NothingDeleted};
+ghost use Rattle.jc_rules.specs.Worked.Lists.{FirstList, InsertAtHead, InsertAfterElement, DeleteElement, IndexPastTombstone, WholeListDeleted, InsertOfMap};
+ghost use Rattle.jc_rules.specs.Worked.Inserts.{SendsMade, YieldEnds, ReceivesOffered, ReceivesOwn, AppliesReceived, ConcurrentInsert, InsertBeforeLesser, InsertLater};
 ghost use Rattle.jc_rules.specs.Worked.Deletions.{MapDeletion, AssignmentInDeletedMap, ListDeletion, ListAfterDeletion};
-ghost use Rattle.jc_rules.specs.Worked.Stuck.{SendBeforeYield, RunAtYield, DoneTooEarly, ApplyTwice, ApplyUnreceived, RunPastScript, DonePastScript, DependencyMissing, IndexInNothing, IndexInMap, IndexPastEnd, VariableUnbound, KeysOfNothing, ValuesOfNothing, InsertInNothing, AssignmentToNames, KeyOfHead, KeyTooDeep, KeysOfRegister, KeysInNothing, ValuesInNothing, FromNobody, ByNobody, OfNobody};
+ghost use Rattle.jc_rules.specs.Worked.Stuck.{SendBeforeYield, RunAtYield, DoneTooEarly, ApplyTwice, ApplyUnreceived, RunPastScript, DonePastScript, DependencyMissing, IndexInNothing, IndexInMap, IndexPastEnd, VariableUnbound, KeysOfNothing, ValuesOfNothing, InsertInNothing, AssignmentToNames, KeyOfHead, KeyTooDeep, KeysOfRegister, KeysInNothing, ValuesInNothing, KeysBelowRegister, FromNobody, ByNobody, OfNobody};
 ghost use Rattle.jc_rules.specs.Worked.Schedules.{InsertsMeet, MapDeletionMeets, ListDeletionMeets};
 
 /// One assignment on a fresh replica.
@@ -38,6 +39,26 @@ pub fn later_assignment()
     ensures { LaterAssignment }
 {}
 
+/// A value that was assigned elsewhere at the same time: both stay, by their identifiers.
+pub fn concurrent_assignment()
+    ensures { ConcurrentAssignment }
+{}
+
+/// The values of a register with two of them, by their identifiers.
+pub fn values_of_both()
+    ensures { ValuesOfBoth }
+{}
+
+/// The keys of the document where one was deleted: its presence set is empty, and it is passed over.
+pub fn keys_past_deleted()
+    ensures { KeysPastDeleted }
+{}
+
+/// A value assigned as the whole document.
+pub fn assignment_of_document()
+    ensures { AssignmentOfDocument }
+{}
+
 /// A map assigned on a fresh replica.
 pub fn first_map()
     ensures { FirstMap }
@@ -66,6 +87,11 @@ pub fn keys_of_inner_map()
 /// A map with two keys is deleted: the lesser key is cleared first.
 pub fn map_of_two_deleted()
     ensures { MapOfTwoDeleted }
+{}
+
+/// A key is deleted below maps that aren't there: they are made, and no identifier is added.
+pub fn nothing_deleted()
+    ensures { NothingDeleted }
 {}
 
 /// A list assigned as the whole document.
@@ -98,6 +124,11 @@ pub fn whole_list_deleted()
     ensures { WholeListDeleted }
 {}
 
+/// A map inserted as an element of a list.
+pub fn insert_of_map()
+    ensures { InsertOfMap }
+{}
+
 /// A replica offers what it has made.
 pub fn sends_made()
     ensures { SendsMade }
@@ -111,6 +142,11 @@ pub fn yield_ends()
 /// A replica takes what another one offers.
 pub fn receives_offered()
     ensures { ReceivesOffered }
+{}
+
+/// A replica takes what it offers itself.
+pub fn receives_own()
+    ensures { ReceivesOwn }
 {}
 
 /// A received operation is applied.
@@ -271,6 +307,11 @@ pub fn keys_in_nothing()
 /// Stuck: the values under a key where there is nothing yet.
 pub fn values_in_nothing()
     ensures { ValuesInNothing }
+{}
+
+/// Stuck: the keys below a key that has a value alone.
+pub fn keys_below_register()
+    ensures { KeysBelowRegister }
 {}
 
 /// Stuck: a receive from a replica that isn't there.

@@ -116,7 +116,7 @@ some_escape (Ok (Escape m d)) len c e =
 some_escape (Ok (Byte b)) len c e = cc e
 some_escape (Err fault) len c e = cc e
 
-escape_is : (text : List ℕ) (at len c : ℕ) → Some (len, c) ≡ escape_of (piece_at text at) → piece_at text at ≡ Ok (Escape len c)
+pub escape_is : (text : List ℕ) (at len c : ℕ) → Some (len, c) ≡ escape_of (piece_at text at) → piece_at text at ≡ Ok (Escape len c)
 escape_is text at len c e = some_escape (piece_at text at) len c (sym e)
 
 -- ---- one step of decoding: a run of plain bytes up to `end`, and then an escape or the end

@@ -5,4 +5,5 @@ pub mod Escapes
 pub mod Literals
 pub mod Pieces
 pub mod Reading
+pub mod Spelling
 pub mod Tokens

@@ -21,7 +21,8 @@ after_name text at = at + prefix_len is_name_byte (drop at text)
 abbrev pub after_number_run : List ℕ → ℕ → ℕ
 after_number_run text at = at + prefix_len is_number_byte (drop at text)
 
--- the kind of a token, by its first two bytes: 34 is `"`, 46 `.`, 40 `(`, 41 `)`, 123 `{`, 125 `}`, 91 `[`, 93 `]`, 44 `,`, 59 `;`, 61 `=` and 58 `:`
+-- the kind of a token, by its first two bytes: 34 is `"`, 46 `.`, 40 `(`, 41 `)`, 123 `{`, 125 `}`, 91 `[`, 93 `]`, 44
+-- `,`, 59 `;`, 61 `=` and 58 `:`
 abbrev pub kind_of : ℕ → ℕ → Option TokenKind
 kind_of b next =
     if is_name_start b then Some Name
@@ -51,7 +52,8 @@ mark_len kind = 1
 -- where a token of a kind that begins at `at` ends, and its size: its length, or that of what a string spells
 abbrev pub EndsAt : TokenKind → List ℕ → ℕ → ℕ → ℕ → Type 0
 EndsAt Name text at stop size = (stop ≡ after_name text at) × (stop ≡ at + size)
-EndsAt Number text at stop size = (stop ≡ after_number_run text at) × (stop ≡ at + size) × IsNumber (slice_range text at stop)
+EndsAt Number text at stop size =
+    (stop ≡ after_number_run text at) × (stop ≡ at + size) × IsNumber (slice_range text at stop)
 EndsAt Str text at stop size = (content : List ℕ) × IsString text at stop content × (size ≡ length content)
 EndsAt kind text at stop size = (size ≡ mark_len kind) × (stop ≡ at + size)
 
@@ -70,7 +72,8 @@ pub record IsLexeme (text : List ℕ) (t : Token) : Type 0 where
 -- what is wrong with a token of this kind, or with a byte that begins none
 abbrev pub IsMalformed : Option TokenKind → List ℕ → ℕ → LexFault → Type 0
 IsMalformed None text at fault = fault ≡ BadByte at
-IsMalformed (Some Number) text at fault = (¬ IsNumber (slice_range text at (after_number_run text at))) × (fault ≡ BadNumber at)
+IsMalformed (Some Number) text at fault =
+    (¬ IsNumber (slice_range text at (after_number_run text at))) × (fault ≡ BadNumber at)
 IsMalformed (Some Str) text at fault = IsStringFault text at fault
 IsMalformed (Some kind) text at fault = ⊥
 
@@ -88,10 +91,12 @@ pub record IsTooLong (text : List ℕ) (at : ℕ) (fault : LexFault) : Type 0 wh
 abbrev pub IsLexFault : List ℕ → ℕ → LexFault → Type 0
 IsLexFault text at fault = IsMalformed (kind_at text at) text at fault ⊎ IsTooLong text at fault
 
--- from a place on stand blanks and these tokens, up to another place, which is the text's end or a byte that is no blank
+-- from a place on stand blanks and these tokens, up to another place, which is the text's end or a byte that is no
+-- blank
 abbrev pub AreTokens : List ℕ → ℕ → List Token → ℕ → Type 0
 AreTokens text at [] place = place ≡ after_blanks text at
-AreTokens text at (t ∷ ts) place = (t.start ≡ after_blanks text at) × (t.start < length text) × IsLexeme text t × AreTokens text t.stop ts place
+AreTokens text at (t ∷ ts) place =
+    (t.start ≡ after_blanks text at) × (t.start < length text) × IsLexeme text t × AreTokens text t.stop ts place
 
 -- the tokens of a text
 abbrev pub AreTokensOf : List ℕ → List Token → Type 0
@@ -101,7 +106,11 @@ AreTokensOf text ts = (length text ≤ 8388608) × (place : ℕ) × AreTokens te
 abbrev pub IsFaultOf : List ℕ → LexFault → Type 0
 IsFaultOf text fault =
     ((8388608 < length text) × (fault ≡ TextTooLong 8388608))
-    ⊎ ((length text ≤ 8388608) × (ts : List Token) × (place : ℕ) × AreTokens text 0 ts place × (place < length text) × IsLexFault text place fault)
+    ⊎ ((length text ≤ 8388608)
+    × (ts : List Token) × (place : ℕ)
+    × AreTokens text 0 ts place
+    × (place < length text)
+    × IsLexFault text place fault)
 
 -- a token that stands in a text, which is no longer than it may be
 abbrev pub IsTokenOf : List ℕ → Token → Type 0

@@ -25,7 +25,14 @@ IsSign bs = (bs ≡ []) ⊎ ((bs ≡ 43 ∷ []) ⊎ (bs ≡ 45 ∷ []))
 
 -- nothing, or `e` or `E`, a sign and digits
 abbrev pub IsExponent : List ℕ → Type 0
-IsExponent bs = (bs ≡ []) ⊎ ((e : ℕ) × (sign : List ℕ) × (digits : List ℕ) × (bs ≡ e ∷ (sign ++ digits)) × ((e ≡ 101) ⊎ (e ≡ 69)) × IsSign sign × IsDigits digits)
+IsExponent bs =
+    (bs ≡ [])
+    ⊎ ((e : ℕ)
+    × (sign : List ℕ) × (digits : List ℕ)
+    × (bs ≡ e ∷ (sign ++ digits))
+    × ((e ≡ 101) ⊎ (e ≡ 69))
+    × IsSign sign
+    × IsDigits digits)
 
 pub record IsNumber (bs : List ℕ) : Type 0 where
   pub minus : List ℕ

@@ -1,4 +1,5 @@
--- String literals (RFC 8259, section 7), by the places of their bytes. Past the end of a text its bytes count as 0. 34 is the quote, 92 the backslash.
+-- String literals (RFC 8259, section 7), by the places of their bytes. Past the end of a text its bytes count as 0. 34
+-- is the quote, 92 the backslash.
 use Rattle.std.specs.Prelude.{◌≡◌, ◌≢◌, ℕ, zero, suc, ◌+◌, ◌-◌, ◌*◌, ◌<◌, ◌≤◌, List, [], ◌∷◌, ◌++◌, Bool, not, ◌&&◌, ◌==◌, nat_lt, nat_le, if◌then◌else◌, length, drop, slice_index, flat_map, Option, Some, None, Result, Ok, Err, ◌⊎◌}
 use Rattle.std.specs.List.{prefix_len}
 use Rattle.std.specs.Char.{digit_value, encode_utf8}
@@ -33,11 +34,16 @@ of_digits a b c d = None
 -- the number that the four hexadecimal digits at a place spell
 abbrev pub code_unit : List ℕ → ℕ → Option ℕ
 code_unit text at =
-    of_digits (hex_digit (slice_index text at)) (hex_digit (slice_index text (at + 1))) (hex_digit (slice_index text (at + 2))) (hex_digit (slice_index text (at + 3)))
+    of_digits
+    (hex_digit (slice_index text at))
+    (hex_digit (slice_index text (at + 1)))
+    (hex_digit (slice_index text (at + 2)))
+    (hex_digit (slice_index text (at + 3)))
 
 -- the number that an escape `\u` at a place spells
 abbrev pub unit_escape : List ℕ → ℕ → Option ℕ
-unit_escape text at = if slice_index text at == 92 && slice_index text (at + 1) == 117 then code_unit text (at + 2) else None
+unit_escape text at =
+    if slice_index text at == 92 && slice_index text (at + 1) == 117 then code_unit text (at + 2) else None
 
 -- the character that a byte after a backslash stands for: `"`, `\`, `/`, `b`, `f`, `n`, `r`, `t`
 abbrev pub short_escape : ℕ → Option ℕ
@@ -93,7 +99,11 @@ piece_at text at =
 -- from a place on stand these pieces, and no quote among them, up to another place
 abbrev pub ArePieces : List ℕ → ℕ → List Piece → ℕ → Type 0
 ArePieces text at [] stop = at ≡ stop
-ArePieces text at (p ∷ ps) stop = (at < length text) × (slice_index text at ≢ 34) × (piece_at text at ≡ Ok p) × ArePieces text (at + piece_len p) ps stop
+ArePieces text at (p ∷ ps) stop =
+    (at < length text)
+    × (slice_index text at ≢ 34)
+    × (piece_at text at ≡ Ok p)
+    × ArePieces text (at + piece_len p) ps stop
 
 -- a string literal that spells `content` stands from the quote at `quote` up to `stop`
 pub record IsString (text : List ℕ) (quote stop : ℕ) (content : List ℕ) : Type 0 where

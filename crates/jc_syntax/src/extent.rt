@@ -13,7 +13,7 @@ use crate::piece::piece_at;
 use crate::token::TokenKind;
 
 /// Where a token ends, and its size: its length, or that of what a string spells.
-#[derive(Clone, Copy, Debug, PartialEq, Eq)]
+#[derive(Clone, Copy)]
 pub(crate) struct Extent {
     pub(crate) stop: usize,
     pub(crate) size: usize,

@@ -8,7 +8,7 @@ use std::alloc::{AllocError, AllocFailed};
 use thiserror::Error;
 
 /// Why a text has no list of tokens. Places are byte numbers from 0.
-#[derive(Clone, Copy, Debug, PartialEq, Eq, Error)]
+#[derive(Clone, Copy, Debug, Error)]
 pub enum LexFault {
     /// A byte that begins no token, or a control byte inside a string.
     #[error("BadByte at {place}")]

@@ -1,10 +1,10 @@
 //! Laws of the definitions of tokens and faults: a text has one list of tokens or one fault, and not both.
-//! A string spells one content.
+//! A string spells one content, which is UTF-8 where the text is.
 
-ghost use Rattle.std.specs.Prelude.{◌≡◌, List, ℕ};
+ghost use Rattle.std.specs.Prelude.{◌≡◌, ◌≤◌, List, ℕ, length, IsUtf8};
 ghost use Rattle.jc_syntax.specs.declared.fault.LexFault.{LexFault as AnyFault};
 ghost use Rattle.jc_syntax.specs.declared.token.Token.{Token as AnyToken};
-ghost use Rattle.jc_syntax.specs.Lexemes.{AreTokensOf, IsFaultOf};
+ghost use Rattle.jc_syntax.specs.Lexemes.{AreTokensOf, IsFaultOf, IsStringToken, content_of};
 ghost use Rattle.jc_syntax.specs.Strings.{IsString};
 
 /// A text has at most one list of tokens.
@@ -25,4 +25,9 @@ pub fn tokens_or_fault()
 /// The string that begins at a place ends at one place, and spells one content.
 pub fn one_string()
     ensures { (text : List ℕ) (quote p q : ℕ) (c d : List ℕ) → IsString text quote p c → IsString text quote q d → (p ≡ q) × (c ≡ d) }
+{}
+
+/// What a string of a UTF-8 text spells is UTF-8, of at most 65,535 bytes.
+pub fn legal_strings()
+    ensures { (text : List ℕ) (t : AnyToken) → IsUtf8 text → IsStringToken text t → IsUtf8 (content_of text t) × (length (content_of text t) ≤ 65535) }
 {}

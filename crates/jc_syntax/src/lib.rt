@@ -16,6 +16,3 @@ pub use fault::LexFault;
 pub use lexer::{MAX_TEXT, lex};
 pub use token::{Token, TokenKind};
 pub use tree::{Cmd, Expr, Named, NamedEvent};
-
-#[cfg(test)]
-mod tests;

@@ -7,7 +7,7 @@ ghost use Rattle.jc_syntax.specs.Strings as spec;
 use crate::fault::LexFault;
 
 /// What stands at one place of a string literal.
-#[derive(Clone, Copy, Debug, PartialEq, Eq)]
+#[derive(Clone, Copy)]
 pub(crate) enum Piece {
     /// A byte that stands for itself.
     Byte(u8),

@@ -1,7 +1,7 @@
 //! Tokens of a text.
 
 /// What a token is.
-#[derive(Clone, Copy, Debug, PartialEq, Eq)]
+#[derive(Clone, Copy, PartialEq, Eq)]
 pub enum TokenKind {
     /// A letter or `_`, then letters, digits and `_`.
     Name,
@@ -35,7 +35,7 @@ pub enum TokenKind {
 
 /// A token of a text: its bytes from `start` on, up to but not including `stop`. Places are byte
 /// numbers from 0.
-#[derive(Clone, Copy, Debug, PartialEq, Eq)]
+#[derive(Clone, Copy)]
 pub struct Token {
     pub kind: TokenKind,
     pub start: usize,

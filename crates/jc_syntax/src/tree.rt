@@ -7,7 +7,7 @@ use jc_rules::{Text, Value};
 use std::alloc::{AllocError, Global};
 
 /// An expression. Keys of `Get` are decoded.
-#[derive(Debug, Drop, PartialEq, Eq)]
+#[derive(Drop, PartialEq, Eq)]
 pub enum Expr {
     /// `doc`
     Doc,
@@ -24,7 +24,7 @@ pub enum Expr {
 }
 
 /// A command.
-#[derive(Debug, Drop, PartialEq, Eq)]
+#[derive(Drop, PartialEq, Eq)]
 pub enum Cmd {
     /// `let x = expr`
     Let(Text, Expr),
@@ -39,14 +39,14 @@ pub enum Cmd {
 }
 
 /// The name of a replica, and where it stands in the text: a byte number from 0.
-#[derive(Debug, Drop, PartialEq, Eq)]
+#[derive(Drop, PartialEq, Eq)]
 pub struct Named {
     pub name: Text,
     pub place: usize,
 }
 
 /// An event, with names for its replicas. The first is the replica that acts.
-#[derive(Debug, Drop, PartialEq, Eq)]
+#[derive(Drop, PartialEq, Eq)]
 pub enum NamedEvent {
     /// `p.exec`
     Exec(Named),

@@ -38,7 +38,7 @@ no_node None d h = cc
 no_node (Some v) d h = cc
 
 -- a kept context holds kept ones
-kept-content : (t : Tagged) (c d : Context) → IsKept c → content t c ≡ Some (Node d) → IsKept d
+pub kept-content : (t : Tagged) (c d : Context) → IsKept c → content t c ≡ Some (Node d) → IsKept d
 kept-content (MapT k) (context m l r p n) d h f = kept-child k d m h.7 (node_found _ d f)
 kept-content (ListT k) (context m l r p n) d h f = kept-child k d l h.8 (node_found _ d f)
 kept-content (RegT k) (context m l r p n) d h f = no_node (find key_cmp k r) d f

@@ -10,3 +10,4 @@ pub mod Places
 pub mod Kept
 pub mod Pairs
 pub mod Undoing
+pub mod Ways

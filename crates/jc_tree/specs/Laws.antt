@@ -12,7 +12,8 @@ use Rattle.jc_rules.specs.Places.{node_at, with_node_at, context_at}
 use Rattle.jc_rules.specs.Shape.{IsChained}
 use Rattle.jc_tree.specs.Tree.{Tree, history, IsChanged, IsLater}
 
--- However many changes were made since a mark, the mark still counts, and going back to it gives the tree that was marked.
+-- However many changes were made since a mark, the mark still counts, and going back to it gives the tree that was
+-- marked.
 pub record GivesBack (a b : Tree) : Type 0 where
   pub counts : length a.earlier ≤ length b.earlier
   pub undone : (c : Tree) → history c ≡ take (length a.earlier + 1) (history b) → c ≡ a
@@ -23,9 +24,21 @@ pub record UndoLaw : Type 0 where
   pub changed : (at : List Tagged) (y : Context) (a b : Tree) → IsChanged at y a b → IsLater a b
   pub undone : (a b : Tree) → IsLater a b → GivesBack a b
 
--- Each change but that of a link leaves the lists chained, and a new list is chained. So does a fresh element that is linked behind a place of a list.
+-- Each change but that of a link leaves the lists chained, and a new list is chained. So does a fresh element that is
+-- linked behind a place of a list.
 pub record KeepsChained : Type 0 where
-  pub child : (at : List Tagged) (t : Tagged) (c : Context) → node_at at c ≢ None → IsChained c → IsChained (with_node_at at (with_content t (new_content t) (context_at at c)) c)
-  pub presence : (at : List Tagged) (k : Key) (s : List Id) (c : Context) → node_at at c ≢ None → IsChained c → IsChained (with_node_at at (with_presence k s (context_at at c)) c)
-  pub register : (at : List Tagged) (k : Key) (r : Register) (c : Context) → node_at at c ≢ None → IsChained c → IsChained (with_node_at at (with_content (RegT k) (Values r) (context_at at c)) c)
-  pub link : (at : List Tagged) (place : Key) (i : Id) (n : Next) (c : Context) → node_at at c ≢ None → next place (context_at at c) ≡ Some n → next (Elem i) (context_at at c) ≡ None → IsChained c → IsChained (with_node_at at (with_next (Elem i) n (with_next place (To i) (context_at at c))) c)
+  pub child : (at : List Tagged) (t : Tagged) (c : Context)
+      → node_at at c ≢ None → IsChained c
+      → IsChained (with_node_at at (with_content t (new_content t) (context_at at c)) c)
+  pub presence : (at : List Tagged) (k : Key) (s : List Id) (c : Context)
+      → node_at at c ≢ None → IsChained c
+      → IsChained (with_node_at at (with_presence k s (context_at at c)) c)
+  pub register : (at : List Tagged) (k : Key) (r : Register) (c : Context)
+      → node_at at c ≢ None → IsChained c
+      → IsChained (with_node_at at (with_content (RegT k) (Values r) (context_at at c)) c)
+  pub link : (at : List Tagged) (place : Key) (i : Id) (n : Next) (c : Context)
+      → node_at at c ≢ None
+      → next place (context_at at c) ≡ Some n
+      → next (Elem i) (context_at at c) ≡ None
+      → IsChained c
+      → IsChained (with_node_at at (with_next (Elem i) n (with_next place (To i) (context_at at c))) c)

@@ -43,7 +43,9 @@ links_code = coded_list (coded× key_row.coded next_row.coded)
 
 abbrev mutual
   code_of : Context → Gv
-  code_of (context m l r p n) = gcons (code_in m) (gcons (code_in l) (gcons (registers_code.code r) (gcons (presences_code.code p) (links_code.code n))))
+  code_of (context m l r p n) =
+      gcons (code_in m) (gcons (code_in l)
+      (gcons (registers_code.code r) (gcons (presences_code.code p) (links_code.code n))))
 
   code_in : Children → Gv
   code_in no_child = gnil
@@ -53,14 +55,22 @@ abbrev mutual
 mutual
   pub code_of-injective : (c d : Context) → code_of c ≡ code_of d → c ≡ d
   code_of-injective (context m l r p n) (context m2 l2 r2 p2 n2) e =
-      λ i. context (code_in-injective m m2 (ap head e) i) (code_in-injective l l2 (ap (λ g. head (tail g)) e) i) (registers_code.inj r r2 (ap (λ g. head (tail (tail g))) e) i) (presences_code.inj p p2 (ap (λ g. head (tail (tail (tail g)))) e) i) (links_code.inj n n2 (ap (λ g. tail (tail (tail (tail g)))) e) i)
+      λ i. context
+      (code_in-injective m m2 (ap head e) i)
+      (code_in-injective l l2 (ap (λ g. head (tail g)) e) i)
+      (registers_code.inj r r2 (ap (λ g. head (tail (tail g))) e) i)
+      (presences_code.inj p p2 (ap (λ g. head (tail (tail (tail g)))) e) i)
+      (links_code.inj n n2 (ap (λ g. tail (tail (tail (tail g)))) e) i)
 
   pub code_in-injective : (m n : Children) → code_in m ≡ code_in n → m ≡ n
   code_in-injective no_child no_child e = refl
   code_in-injective no_child (child k c cs) e = cc
   code_in-injective (child k c cs) no_child e = cc
   code_in-injective (child k c cs) (child k2 c2 cs2) e =
-      λ i. child (key_code.inj k k2 (ap head e) i) (code_of-injective c c2 (ap (λ g. head (tail g)) e) i) (code_in-injective cs cs2 (ap (λ g. tail (tail g)) e) i)
+      λ i. child
+      (key_code.inj k k2 (ap head e) i)
+      (code_of-injective c c2 (ap (λ g. head (tail g)) e) i)
+      (code_in-injective cs cs2 (ap (λ g. tail (tail g)) e) i)
 
 abbrev pub context_code : Coded Context
 context_code = record { code = code_of; inj = code_of-injective }

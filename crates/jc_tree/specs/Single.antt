@@ -15,7 +15,8 @@ use Rattle.jc_rules.specs.Shape.{IsKept, AreKept, IsKeptRegister}
 
 IsRising-single : {K : Type 0} (R : K → K → Ordering) (ks : List K) → IsProp (IsRising R ks)
 IsRising-single R [] = Unit-prop
-IsRising-single R (k ∷ ks) = ×_prop (AllByRecursion-prop (λ j. R k j ≡ Less) (λ j. Ordering-set _ _) ks) (IsRising-single R ks)
+IsRising-single R (k ∷ ks) =
+    ×_prop (AllByRecursion-prop (λ j. R k j ≡ Less) (λ j. Ordering-set _ _) ks) (IsRising-single R ks)
 
 IsPrimitive-single : (v : Value) → IsProp (IsPrimitive v)
 IsPrimitive-single V.EmptyMap = λ x y. absurd x
@@ -27,7 +28,9 @@ IsPrimitive-single V.False = Unit-prop
 IsPrimitive-single V.Null = Unit-prop
 
 IsKeptRegister-single : (r : Register) → IsProp (IsKeptRegister r)
-IsKeptRegister-single r = ×_prop (IsRising-single id_cmp (keys_of r)) (AllByRecursion-prop (λ e. IsPrimitive e.1) (λ e. IsPrimitive-single e.1) r)
+IsKeptRegister-single r =
+    ×_prop (IsRising-single id_cmp (keys_of r))
+    (AllByRecursion-prop (λ e. IsPrimitive e.1) (λ e. IsPrimitive-single e.1) r)
 
 mutual
   pub IsKept-single : (c : Context) → IsProp (IsKept c)

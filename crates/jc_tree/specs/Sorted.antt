@@ -30,7 +30,8 @@ IsPlace k es (Ok i) = StandsAt k es i
 IsPlace k es (Err i) = BelongsAt k es i
 
 -- the entries of each kind rise by key
-pub record IsSortedNode (maps lists : List (Key × Context)) (registers : List (Key × Register)) (presences : List (Key × List Id)) (links : List (Key × Next)) : Type 0 where
+pub record IsSortedNode (maps lists : List (Key × Context)) (registers : List (Key × Register))
+    (presences : List (Key × List Id)) (links : List (Key × Next)) : Type 0 where
   pub maps_rise : AreSorted maps
   pub lists_rise : AreSorted lists
   pub registers_rise : AreSorted registers

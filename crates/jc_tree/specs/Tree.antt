@@ -25,7 +25,8 @@ HasPlace at t = node_at at t.now ≢ None
 abbrev pub here : List Tagged → Tree → Context
 here at t = context_at at t.now
 
--- One change: y is now the context at the place, all else in the content is as it was, and the content before it is kept.
+-- One change: y is now the context at the place, all else in the content is as it was, and the content before it is
+-- kept.
 pub record IsChanged (at : List Tagged) (y : Context) (old new : Tree) : Type 0 where
   pub now : new.now ≡ with_node_at at y old.now
   pub earlier : new.earlier ≡ history old

@@ -9,7 +9,4 @@ mod plain;
 mod store;
 
 pub use plain::PlainTree;
-pub use store::{Mark, TreeStore};
-
-#[cfg(test)]
-mod tests;
+pub use store::{Mark, TreeStore, is_place};

@@ -41,7 +41,8 @@ impl Model for Node {
     ghost view = { λ a. context (children a.maps.items) (children a.lists.items)
         a.registers.items a.presences.items a.links.items };
 
-    ghost invariant = { λ a. IsSortedNode a.maps.items a.lists.items a.registers.items a.presences.items a.links.items };
+    ghost invariant = { λ a. IsSortedNode a.maps.items a.lists.items
+        a.registers.items a.presences.items a.links.items };
 
     ghost size = { nested };
 

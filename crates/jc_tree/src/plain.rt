@@ -30,7 +30,8 @@ pub struct PlainTree {
     root: Node,
     undos: Vec<Undo>,
     ghost root_kept: { IsKept root } by { IsKept-single root },
-    ghost earlier_kept: { AllByRecursion IsKept (contents undos.items root) } by { AreAllKept-single (contents undos.items root) },
+    ghost earlier_kept: { AllByRecursion IsKept
+        (contents undos.items root) } by { AreAllKept-single (contents undos.items root) },
 }
 
 impl PlainTree {

@@ -1,6 +1,6 @@
 //! What every store of a document's tree promises.
 
-ghost use Rattle.std.specs.Prelude.{◌≡◌, ◌≤◌, ◌+◌, [], None, length, take, is_some, option_copied, OnOk, OnErr};
+ghost use Rattle.std.specs.Prelude.{◌≡◌, ◌≤◌, ◌+◌, ◌↔◌, [], None, IsTrue, length, take, is_some, option_copied, OnOk, OnErr};
 ghost use Rattle.jc_rules.specs.declared.key.Tagged.TheVariants.{RegT};
 ghost use Rattle.jc_rules.specs.Order.{key_cmp};
 ghost use Rattle.jc_rules.specs.Entries.{find, keys_of};
@@ -100,7 +100,8 @@ pub trait TreeStore {
     /// The least key that something follows in a list, above the given one.
     fn link_after(&self, at: &[Tagged], above: Option<&Key>) -> Option<&Key>
         requires { HasPlace at.now (tree self.now) }
-        ensures { option_copied result ≡ least_after (option_copied above.entry) (keys_of (links (here at.now (tree self.now)))) };
+        ensures { option_copied result ≡ least_after (option_copied above.entry)
+            (keys_of (links (here at.now (tree self.now)))) };
 
     /// Marks the content.
     fn mark(&self) -> Mark
@@ -118,4 +119,18 @@ pub trait TreeStore {
     /// At every depth the entries rise by key, presence sets and registers by identifier, and
     /// registers have primitive values.
     ghost kept: { (s : Self) → IsKept (tree s).now };
+}
+
+/// Whether the path leads to a context, which is what the calls of a store ask of a place.
+pub fn is_place<S: TreeStore>(store: &S, at: &[Tagged]) -> bool
+    ensures { IsTrue result ↔ HasPlace at.now (S.tree store.now) }
+{
+    for (depth, key) in at.iter().enumerate() {
+        match key {
+            Tagged::RegT(_) => return false,
+            _ if !store.has(&at[..depth], key) => return false,
+            _ => {}
+        }
+    }
+    true
 }

@@ -1,8 +1,10 @@
 //! Whole runs, over sources and sinks in memory.
 
+use super::{counts, holds};
+use crate::laws::one_run;
 use crate::only::OnlyReplica;
 use crate::work::work_alone;
-use jc_rules::fakes::{Bytes, Endless, FailsAt, OneByte, Taken, TakesUpTo, Then};
+use jc_fakes::{Bytes, Endless, FailsAt, OneByte, Taken, TakesUpTo, Then};
 use jc_rules::io::{Sink, Source};
 use std::process::Abort;
 use std::test::Fail;
@@ -23,6 +25,10 @@ const SECOND_BLOCK: &str =
 const ONE_DUMP: &str =
     "{\"acted\":false,\"left\":0,\"name\":\"a\",\"ops\":[\"1@a\"],\"queue\":[\"1@a\"],\"recv\":[],\"send\":[],\"tree\":{\"mapT(doc)\":{\"pres(\\\"a\\\")\":[\"1@a\"],\"regT(\\\"a\\\")\":{\"1@a\":{\"n\":\"1\"}}},\"pres(doc)\":[\"1@a\"]},\"vars\":{}}\n";
 
+const STUCK_LINE: &str = "stuck 30 NoCommand a.exec\n";
+
+const TOO_LONG: &str = "refused 6 TextTooLong at 8388608\n";
+
 const TWO_DUMP: &str =
     "{\"acted\":false,\"left\":0,\"name\":\"a\",\"ops\":[\"1@a\",\"2@a\"],\"queue\":[\"1@a\",\"2@a\"],\"recv\":[],\"send\":[],\"tree\":{\"mapT(doc)\":{\"pres(\\\"a\\\")\":[\"1@a\",\"2@a\"],\"regT(\\\"a\\\")\":{\"2@a\":{\"n\":\"2\"}}},\"pres(doc)\":[\"1@a\",\"2@a\"]},\"vars\":{}}\n";
 
@@ -37,6 +43,19 @@ fn work<R: AllocGlobal, I: Source, K: Sink, E: Sink>(
     work_alone::<OnlyReplica, _, _, _, _>(rt, words, input, out, err)
 }
 
+fn ends(rt: &impl Abort, got: Option<u8>, want: u8) {
+    assert_eq!(rt; got, Some(want));
+}
+
+/// Expects the parts, one after another.
+fn expect_text(rt: &impl Abort, mut text: &[u8], parts: &[&str]) {
+    for part in parts {
+        assert!(rt; text.starts_with(part.as_bytes()), "{part}");
+        text = &text[part.len()..];
+    }
+    holds(rt, text.is_empty());
+}
+
 /// Expects the text and the status of a run without words, and nothing on the error's sink.
 fn expect_run<R: AllocGlobal + Abort, I: Source + Drop>(
     rt: &R,
@@ -46,59 +65,31 @@ fn expect_run<R: AllocGlobal + Abort, I: Source + Drop>(
 ) {
     let mut out = Taken::new(rt.alloc());
     let mut err = Taken::new(rt.alloc());
-    let answer = work(rt, &[], &mut input, &mut out, &mut err);
+    ends(rt, work(rt, &[], &mut input, &mut out, &mut err), status);
     expect_text(rt, out.as_slice(), shown);
-    assert_eq!(rt; answer, Some(status));
-    assert!(rt; err.as_slice().is_empty());
-}
-
-/// Expects the parts, one after another.
-fn expect_text(rt: &impl Abort, mut text: &[u8], parts: &[&str]) {
-    for part in parts {
-        assert!(rt; text.starts_with(part.as_bytes()), "{part}");
-        text = &text[part.len()..];
-    }
-    assert!(rt; text.is_empty());
+    holds(rt, err.as_slice().is_empty());
 }
 
 #[test]
 fn runs(rt: HostRuntime) {
-    expect_run(&rt, Bytes::new(ONE.as_bytes()), &[FIRST_BLOCK, ONE_DUMP], 0);
-    expect_run(
-        &rt,
-        OneByte::new(Bytes::new(ONE.as_bytes())),
-        &[FIRST_BLOCK, ONE_DUMP],
-        0,
-    );
-    expect_run(
-        &rt,
-        Bytes::new(STUCK.as_bytes()),
-        &[FIRST_BLOCK, ONE_DUMP, "stuck 30 NoCommand a.exec\n"],
-        3,
-    );
-    expect_run(
-        &rt,
-        Bytes::new(TWO.as_bytes()),
-        &[FIRST_BLOCK, SECOND_BLOCK, TWO_DUMP],
-        0,
-    );
+    // Each of these bytes has one text and one status at most.
+    one_run();
+    let one = [FIRST_BLOCK, ONE_DUMP];
+    let stuck = [FIRST_BLOCK, ONE_DUMP, STUCK_LINE];
+    let two = [FIRST_BLOCK, SECOND_BLOCK, TWO_DUMP];
+    expect_run(&rt, Bytes::new(ONE.as_bytes()), &one, 0);
+    expect_run(&rt, OneByte::new(Bytes::new(ONE.as_bytes())), &one, 0);
+    expect_run(&rt, Bytes::new(STUCK.as_bytes()), &stuck, 3);
+    expect_run(&rt, Bytes::new(TWO.as_bytes()), &two, 0);
 }
 
 #[test]
 fn refused_texts(rt: HostRuntime) {
-    expect_run(&rt, Bytes::new(b""), &["refused 14 NoHeader at 0\n"], 1);
-    expect_run(
-        &rt,
-        Bytes::new(b"jsoncrdt 1 replica a {yield}"),
-        &["refused 7 Unexpected at 22\n"],
-        1,
-    );
-    expect_run(
-        &rt,
-        Endless::new(b' '),
-        &["refused 6 TextTooLong at 8388608\n"],
-        1,
-    );
+    let none = Bytes::new(b"");
+    expect_run(&rt, none, &["refused 14 NoHeader at 0\n"], 1);
+    let yields = Bytes::new(b"jsoncrdt 1 replica a {yield}");
+    expect_run(&rt, yields, &["refused 7 Unexpected at 22\n"], 1);
+    expect_run(&rt, Endless::new(b' '), &[TOO_LONG], 1);
 }
 
 #[test]
@@ -108,19 +99,10 @@ fn longest_text(rt: HostRuntime) -> Result<(), Fail> {
     for _ in ONE.len()..8388608 {
         text.push(b' ')?;
     }
-    expect_run(
-        &rt,
-        Bytes::new(text.as_slice()),
-        &[FIRST_BLOCK, ONE_DUMP],
-        0,
-    );
+    let longest = [FIRST_BLOCK, ONE_DUMP];
+    expect_run(&rt, Bytes::new(text.as_slice()), &longest, 0);
     text.push(b' ')?;
-    expect_run(
-        &rt,
-        Bytes::new(text.as_slice()),
-        &["refused 6 TextTooLong at 8388608\n"],
-        1,
-    );
+    expect_run(&rt, Bytes::new(text.as_slice()), &[TOO_LONG], 1);
     Ok(())
 }
 
@@ -129,10 +111,9 @@ fn expect_failed_read<R: AllocGlobal + Abort, I: Source + Drop>(rt: &R, input: I
     let mut input = FailsAt::new(input, at);
     let mut out = Taken::new(rt.alloc());
     let mut err = Taken::new(rt.alloc());
-    let answer = work(rt, &[], &mut input, &mut out, &mut err);
-    assert_eq!(rt; answer, Some(4), "read {at}");
-    assert!(rt; out.as_slice().is_empty());
-    assert_eq!(rt; err.as_slice(), b"read failed\n".as_slice());
+    ends(rt, work(rt, &[], &mut input, &mut out, &mut err), 4);
+    expect_text(rt, out.as_slice(), &[]);
+    expect_text(rt, err.as_slice(), &["read failed\n"]);
 }
 
 #[test]
@@ -151,18 +132,20 @@ fn expect_failed_write<R: AllocGlobal + Abort>(rt: &R, shown: &[u8], room: usize
     let mut input = Bytes::new(STUCK.as_bytes());
     let mut out = TakesUpTo::new(Taken::new(rt.alloc()), room, then);
     let mut err = Taken::new(rt.alloc());
-    let answer = work(rt, &[], &mut input, &mut out, &mut err);
-    assert_eq!(rt; answer, Some(4), "after {room} bytes");
-    assert!(rt; shown.starts_with(out.sink.as_slice()));
-    assert_eq!(rt; out.sink.as_slice().len(), room);
-    assert_eq!(rt; err.as_slice(), b"write failed\n".as_slice());
+    ends(rt, work(rt, &[], &mut input, &mut out, &mut err), 4);
+    assert!(rt;
+        shown.starts_with(out.sink.as_slice()),
+        "after {room} bytes"
+    );
+    counts(rt, out.sink.as_slice().len(), room);
+    expect_text(rt, err.as_slice(), &["write failed\n"]);
 }
 
 #[test]
 fn failed_writes(rt: HostRuntime) -> Result<(), Fail> {
     let mut shown = String::from_str(rt.alloc(), FIRST_BLOCK)?;
     shown.push_str(ONE_DUMP)?;
-    shown.push_str("stuck 30 NoCommand a.exec\n")?;
+    shown.push_str(STUCK_LINE)?;
     let shown = shown.as_bytes();
     let block = FIRST_BLOCK.len();
     let dump = ONE_DUMP.len();
@@ -182,27 +165,48 @@ fn failed_writes(rt: HostRuntime) -> Result<(), Fail> {
     Ok(())
 }
 
+/// Expects a run whose write number `at` fails, and that nothing is written after it.
+fn expect_lost_write<R: AllocGlobal + Abort>(rt: &R, at: u64, shown: &[&str]) {
+    let mut input = Bytes::new(STUCK.as_bytes());
+    let mut out = FailsAt::new(Taken::new(rt.alloc()), at);
+    let mut err = Taken::new(rt.alloc());
+    ends(rt, work(rt, &[], &mut input, &mut out, &mut err), 4);
+    expect_text(rt, out.inner.as_slice(), shown);
+    expect_text(rt, err.as_slice(), &["write failed\n"]);
+}
+
+#[test]
+fn nothing_is_written_after_a_failure(rt: HostRuntime) {
+    expect_lost_write(&rt, 0, &[]);
+    expect_lost_write(&rt, 1, &[FIRST_BLOCK]);
+    expect_lost_write(&rt, 2, &[FIRST_BLOCK, ONE_DUMP]);
+}
+
 #[test]
 fn failing_standard_error(rt: HostRuntime) {
     let mut input = FailsAt::new(Bytes::new(ONE.as_bytes()), 0);
     let mut out = Taken::new(rt.alloc());
     let mut err = TakesUpTo::new(Taken::new(rt.alloc()), 3, Then::Fails);
-    let answer = work(&rt, &[], &mut input, &mut out, &mut err);
-    assert_eq!(rt; answer, Some(4));
-    assert_eq!(rt; err.sink.as_slice(), b"rea".as_slice());
+    ends(&rt, work(&rt, &[], &mut input, &mut out, &mut err), 4);
+    expect_text(&rt, err.sink.as_slice(), &["rea"]);
+}
+
+/// Expects that these words are refused, and that nothing is read or written.
+fn expect_unread(rt: &(impl AllocGlobal + Abort), words: &[String]) {
+    let mut input = Bytes::new(ONE.as_bytes());
+    let mut out = Taken::new(rt.alloc());
+    let mut err = Taken::new(rt.alloc());
+    ends(rt, work(rt, words, &mut input, &mut out, &mut err), 2);
+    expect_text(rt, out.as_slice(), &[]);
+    expect_text(rt, err.as_slice(), &[]);
+    let mut left = [0; 100];
+    holds(rt, input.read(&mut left) == Ok(62));
 }
 
 #[test]
 fn words(rt: HostRuntime) -> Result<(), Fail> {
     let mut words = Vec::new(rt.alloc());
     words.push(String::from_str(rt.alloc(), "run")?)?;
-    let mut input = Bytes::new(ONE.as_bytes());
-    let mut out = Taken::new(rt.alloc());
-    let mut err = Taken::new(rt.alloc());
-    let answer = work(&rt, words.as_slice(), &mut input, &mut out, &mut err);
-    assert_eq!(rt; answer, Some(2));
-    assert!(rt; out.as_slice().is_empty());
-    let mut left = [0; 100];
-    assert_eq!(rt; input.read(&mut left), Ok(62));
+    expect_unread(&rt, words.as_slice());
     Ok(())
 }

@@ -35,12 +35,21 @@ abbrev pub delete_m : Op
 delete_m = record { id = by_a 2; deps = by_a 1 ∷ []; cursor = cursor (MapT Doc ∷ []) key_m; mutation = M.Delete }
 
 abbrev pub assign_in_m : Op
-assign_in_m = record { id = by_b 2; deps = by_a 1 ∷ []; cursor = cursor (MapT Doc ∷ MapT key_m ∷ []) key_k; mutation = M.Assign one }
+assign_in_m = record {
+  id = by_b 2;
+  deps = by_a 1 ∷ [];
+  cursor = cursor (MapT Doc ∷ MapT key_m ∷ []) key_k;
+  mutation = M.Assign one;
+}
 
 -- the map under "m" with b's assignment, and with the presence set of "m"
 abbrev pub tree_of_m : List Id → Context
 tree_of_m s = context
-    (child Doc (context (child key_m (context no_child no_child ((key_k, (by_b 2, one) ∷ []) ∷ []) ((key_k, by_b 2 ∷ []) ∷ []) []) no_child) no_child [] ((key_m, s) ∷ []) []) no_child)
+    (child Doc (context
+    (child key_m (context no_child no_child
+    ((key_k, (by_b 2, one) ∷ []) ∷ [])
+    ((key_k, by_b 2 ∷ []) ∷ []) []) no_child)
+    no_child [] ((key_m, s) ∷ []) []) no_child)
     no_child [] ((Doc, by_a 1 ∷ by_b 2 ∷ []) ∷ []) []
 
 -- the map under "m" as a deleted it, before b's assignment
@@ -52,7 +61,8 @@ tree_of_deleted = context
 -- b applies the deletion: its own assignment stays
 abbrev pub MapDeletion : Type 0
 MapDeletion = IsWorked
-    (met (tree_of_m (by_a 1 ∷ by_b 2 ∷ [])) (by_a 1 ∷ by_b 2 ∷ []) (assign_in_m ∷ []) (make_m ∷ delete_m ∷ [])) (E.Apply 1 (by_a 2)) []
+    (met (tree_of_m (by_a 1 ∷ by_b 2 ∷ [])) (by_a 1 ∷ by_b 2 ∷ []) (assign_in_m ∷ []) (make_m ∷ delete_m ∷ []))
+    (E.Apply 1 (by_a 2)) []
     (met (tree_of_m (by_b 2 ∷ [])) (by_a 1 ∷ by_a 2 ∷ by_b 2 ∷ []) (assign_in_m ∷ []) (make_m ∷ delete_m ∷ []))
     ((R.ApplyRemote, 0)
     ∷ (R.Descend, 1) ∷ (R.ChildGet, 2)
@@ -85,12 +95,20 @@ abbrev pub delete_l : Op
 delete_l = record { id = by_a 2; deps = by_a 1 ∷ []; cursor = cursor (MapT Doc ∷ []) key_l; mutation = M.Delete }
 
 abbrev pub assign_list : Op
-assign_list = record { id = by_b 2; deps = by_a 1 ∷ []; cursor = cursor (MapT Doc ∷ []) key_l; mutation = M.Assign V.EmptyList }
+assign_list = record {
+  id = by_b 2;
+  deps = by_a 1 ∷ [];
+  cursor = cursor (MapT Doc ∷ []) key_l;
+  mutation = M.Assign V.EmptyList;
+}
 
 -- the list under "l" with the presence sets of its keys, beside the emptied register
 abbrev pub tree_beside : List (Key × List Id) → Context
 tree_beside s = context
-    (child Doc (context no_child (child key_l (context no_child no_child [] s ((Head, Tail) ∷ [])) no_child) ((key_l, []) ∷ []) ((key_l, by_b 2 ∷ []) ∷ []) []) no_child)
+    (child Doc (context no_child
+    (child key_l (context no_child no_child [] s ((Head, Tail) ∷ [])) no_child)
+    ((key_l, []) ∷ [])
+    ((key_l, by_b 2 ∷ []) ∷ []) []) no_child)
     no_child [] ((Doc, by_a 1 ∷ by_b 2 ∷ []) ∷ []) []
 
 -- the emptied register, before there is a list
@@ -102,8 +120,10 @@ tree_emptied = context
 -- `b.apply(2, a)`: the list stays, and its head gets an empty presence set
 abbrev pub ListDeletion : Type 0
 ListDeletion = IsWorked
-    (met (tree_beside []) (by_a 1 ∷ by_b 2 ∷ []) (assign_list ∷ []) (assign_one ∷ delete_l ∷ [])) (E.Apply 1 (by_a 2)) []
-    (met (tree_beside ((Head, []) ∷ [])) (by_a 1 ∷ by_a 2 ∷ by_b 2 ∷ []) (assign_list ∷ []) (assign_one ∷ delete_l ∷ []))
+    (met (tree_beside []) (by_a 1 ∷ by_b 2 ∷ []) (assign_list ∷ []) (assign_one ∷ delete_l ∷ []))
+    (E.Apply 1 (by_a 2)) []
+    (met (tree_beside ((Head, []) ∷ [])) (by_a 1 ∷ by_a 2 ∷ by_b 2 ∷ [])
+    (assign_list ∷ []) (assign_one ∷ delete_l ∷ []))
     ((R.ApplyRemote, 0)
     ∷ (R.Descend, 1) ∷ (R.ChildGet, 2)
     ∷ (R.Delete, 2) ∷ (R.ClearElem, 3)

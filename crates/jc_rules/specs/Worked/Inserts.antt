@@ -1,4 +1,5 @@
--- Two replicas that exchange operations. Replica a makes a list under "l" and then inserts "x" at its head, while b inserts "y" there.
+-- Two replicas that exchange operations. Replica a makes a list under "l" and then inserts "x" at its head, while b
+-- inserts "y" there.
 use Rattle.std.specs.Prelude.{List, [], ◌∷◌, codes, true}
 use Rattle.jc_rules.specs.declared.id.Id.{Id}
 use Rattle.jc_rules.specs.declared.key.Key.{Key}
@@ -14,6 +15,7 @@ use Rattle.jc_rules.specs.declared.value.Value.TheVariants as V
 use Rattle.jc_rules.specs.Context.{Context, context, no_child, child, empty_list}
 use Rattle.jc_rules.specs.Syntax.{Cmd, Expr, TheDoc, GetKey, Index, InsertAfter, Yield}
 use Rattle.jc_rules.specs.State.{State, start}
+use Rattle.jc_rules.specs.Step.{Step}
 use Rattle.jc_rules.specs.Table.{cursor}
 use Rattle.jc_rules.specs.Worked.{IsWorked, by_a, by_b, alone, met}
 
@@ -35,10 +37,20 @@ abbrev pub make_list : Op
 make_list = record { id = by_a 1; deps = []; cursor = cursor (MapT Doc ∷ []) key_l; mutation = M.Assign V.EmptyList }
 
 abbrev pub insert_x : Op
-insert_x = record { id = by_a 2; deps = by_a 1 ∷ []; cursor = cursor (MapT Doc ∷ ListT key_l ∷ []) Head; mutation = M.Insert text_x }
+insert_x = record {
+  id = by_a 2;
+  deps = by_a 1 ∷ [];
+  cursor = cursor (MapT Doc ∷ ListT key_l ∷ []) Head;
+  mutation = M.Insert text_x;
+}
 
 abbrev pub insert_y : Op
-insert_y = record { id = by_b 2; deps = by_a 1 ∷ []; cursor = cursor (MapT Doc ∷ ListT key_l ∷ []) Head; mutation = M.Insert text_y }
+insert_y = record {
+  id = by_b 2;
+  deps = by_a 1 ∷ [];
+  cursor = cursor (MapT Doc ∷ ListT key_l ∷ []) Head;
+  mutation = M.Insert text_y;
+}
 
 -- the document with this list under "l", and with this presence set of "l" and of the document itself
 abbrev pub tree_of : Context → List Id → Context
@@ -106,6 +118,13 @@ b_applied = record b_received { tree = new_tree; ops = by_a 1 ∷ [] }
 abbrev pub ReceivesOffered : Type 0
 ReceivesOffered = IsWorked (start b_script) (E.Recv 1 0) (make_list ∷ []) b_received ((R.Recv, 0) ∷ [])
 
+-- `a.recv(a)`, as a step of a network of a alone: a receives what it offers itself
+abbrev pub ReceivesOwn : Type 0
+ReceivesOwn = Step
+    (a_offering ∷ []) (E.Recv 0 0)
+    (record a_offering { recv = make_list ∷ [] } ∷ [])
+    ((R.Recv, 0) ∷ [])
+
 -- `b.apply(1, a)`
 abbrev pub AppliesReceived : Type 0
 AppliesReceived = IsWorked b_received (E.Apply 1 (by_a 1)) [] b_applied
@@ -125,7 +144,8 @@ ConcurrentInsert = IsWorked
     ((R.ApplyRemote, 0)
     ∷ (R.Descend, 1) ∷ (R.ChildGet, 2)
     ∷ (R.Descend, 2) ∷ (R.ChildGet, 3)
-    ∷ (R.Insert2, 3) ∷ (R.Insert1, 4) ∷ (R.Assign, 5) ∷ (R.ClearNone, 6) ∷ (R.AddId1, 6) ∷ (R.Presence2, 7) ∷ (R.ChildReg, 6)
+    ∷ (R.Insert2, 3) ∷ (R.Insert1, 4)
+    ∷ (R.Assign, 5) ∷ (R.ClearNone, 6) ∷ (R.AddId1, 6) ∷ (R.Presence2, 7) ∷ (R.ChildReg, 6)
     ∷ (R.AddId1, 3) ∷ (R.Presence1, 4)
     ∷ (R.AddId1, 2) ∷ (R.Presence1, 3) ∷ [])
 
@@ -141,9 +161,15 @@ InsertBeforeLesser = IsWorked
     ∷ (R.AddId1, 3) ∷ (R.Presence1, 4)
     ∷ (R.AddId1, 2) ∷ (R.Presence1, 3) ∷ [])
 
--- a, had it applied b's insert before its own: its identifier is above each that it applied, so its element goes before b's
+-- a, had it applied b's insert before its own: its identifier is above each that it applied, so its element goes before
+-- b's
 abbrev pub insert_later : Op
-insert_later = record { id = by_a 3; deps = by_a 1 ∷ by_b 2 ∷ []; cursor = cursor (MapT Doc ∷ ListT key_l ∷ []) Head; mutation = M.Insert text_x }
+insert_later = record {
+  id = by_a 3;
+  deps = by_a 1 ∷ by_b 2 ∷ [];
+  cursor = cursor (MapT Doc ∷ ListT key_l ∷ []) Head;
+  mutation = M.Insert text_x;
+}
 
 abbrev pub tree_later : Context
 tree_later = tree_of
@@ -159,7 +185,12 @@ a_applied = record a_went_on { tree = tree_of_y; ops = by_a 1 ∷ by_b 2 ∷ [];
 abbrev pub InsertLater : Type 0
 InsertLater = IsWorked
     a_applied (E.Exec 0) []
-    (record a_applied { left = Yield ∷ []; tree = tree_later; ops = by_a 1 ∷ by_b 2 ∷ by_a 3 ∷ []; queue = make_list ∷ insert_later ∷ [] })
+    (record a_applied {
+      left = Yield ∷ [];
+      tree = tree_later;
+      ops = by_a 1 ∷ by_b 2 ∷ by_a 3 ∷ [];
+      queue = make_list ∷ insert_later ∷ [];
+    })
     ((R.Exec, 0) ∷ (R.MakeInsert, 1)
     ∷ (R.Idx1, 2) ∷ (R.Get, 3) ∷ (R.Doc, 4) ∷ (R.Idx2, 3) ∷ (R.Idx2, 4) ∷ (R.Idx5, 5)
     ∷ (R.MakeOp, 2) ∷ (R.ApplyLocal, 3)

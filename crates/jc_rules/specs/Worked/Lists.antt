@@ -9,7 +9,7 @@ use Rattle.jc_rules.specs.declared.operation.Event.TheVariants as E
 use Rattle.jc_rules.specs.declared.rule.Rule.TheVariants as R
 use Rattle.jc_rules.specs.declared.value.Value.{Value}
 use Rattle.jc_rules.specs.declared.value.Value.TheVariants as V
-use Rattle.jc_rules.specs.Context.{Context, context, no_child, child, empty_list}
+use Rattle.jc_rules.specs.Context.{Context, context, no_child, child, empty, empty_list}
 use Rattle.jc_rules.specs.Syntax.{Cmd, TheDoc, Index, LetIn, SetTo, InsertAfter, DeleteAt}
 use Rattle.jc_rules.specs.State.{State, start, ACursor}
 use Rattle.jc_rules.specs.Table.{cursor}
@@ -21,7 +21,8 @@ text_x = V.Str (codes "x")
 abbrev pub text_y : Value
 text_y = V.Str (codes "y")
 
--- the script `doc := []; doc.idx(0).insertAfter("x"); doc.idx(1).insertAfter("y"); doc.idx(1).delete; let z = doc.idx(1); let w = doc.idx(2)`, and what is left of it after each event
+-- the script `doc := []; doc.idx(0).insertAfter("x"); doc.idx(1).insertAfter("y"); doc.idx(1).delete;
+-- let z = doc.idx(1); let w = doc.idx(2)`, and what is left of it after each event
 abbrev pub left_5 : List Cmd
 left_5 = LetIn (codes "w") (Index TheDoc 2) ∷ []
 
@@ -48,10 +49,20 @@ abbrev pub insert_x : Op
 insert_x = record { id = by_a 2; deps = by_a 1 ∷ []; cursor = cursor (ListT Doc ∷ []) Head; mutation = M.Insert text_x }
 
 abbrev pub insert_y : Op
-insert_y = record { id = by_a 3; deps = by_a 1 ∷ by_a 2 ∷ []; cursor = cursor (ListT Doc ∷ []) (Elem (by_a 2)); mutation = M.Insert text_y }
+insert_y = record {
+  id = by_a 3;
+  deps = by_a 1 ∷ by_a 2 ∷ [];
+  cursor = cursor (ListT Doc ∷ []) (Elem (by_a 2));
+  mutation = M.Insert text_y;
+}
 
 abbrev pub delete_x : Op
-delete_x = record { id = by_a 4; deps = by_a 1 ∷ by_a 2 ∷ by_a 3 ∷ []; cursor = cursor (ListT Doc ∷ []) (Elem (by_a 2)); mutation = M.Delete }
+delete_x = record {
+  id = by_a 4;
+  deps = by_a 1 ∷ by_a 2 ∷ by_a 3 ∷ [];
+  cursor = cursor (ListT Doc ∷ []) (Elem (by_a 2));
+  mutation = M.Delete;
+}
 
 -- the document after each of them
 abbrev pub tree_1 : Context
@@ -92,7 +103,8 @@ abbrev pub after_3 : State
 after_3 = alone left_3 [] tree_3 (by_a 1 ∷ by_a 2 ∷ by_a 3 ∷ []) (make_list ∷ insert_x ∷ insert_y ∷ [])
 
 abbrev pub after_4 : State
-after_4 = alone left_4 [] tree_4 (by_a 1 ∷ by_a 2 ∷ by_a 3 ∷ by_a 4 ∷ []) (make_list ∷ insert_x ∷ insert_y ∷ delete_x ∷ [])
+after_4 =
+    alone left_4 [] tree_4 (by_a 1 ∷ by_a 2 ∷ by_a 3 ∷ by_a 4 ∷ []) (make_list ∷ insert_x ∷ insert_y ∷ delete_x ∷ [])
 
 -- and after `let z = doc.idx(1)`
 abbrev pub after_5 : State
@@ -166,11 +178,45 @@ WholeListDeleted = IsWorked
     ∷ (R.ClearAny, 6) ∷ (R.ClearNone, 7)
     ∷ (R.ClearList1, 7)
     ∷ (R.ClearList2, 8)
-    ∷ (R.ClearElem, 9) ∷ (R.ClearAny, 10) ∷ (R.ClearNone, 11) ∷ (R.ClearNone, 11) ∷ (R.ClearNone, 11) ∷ (R.Presence2, 10)
+    ∷ (R.ClearElem, 9) ∷ (R.ClearAny, 10) ∷ (R.ClearNone, 11)
+    ∷ (R.ClearNone, 11) ∷ (R.ClearNone, 11) ∷ (R.Presence2, 10)
     ∷ (R.ClearList2, 9)
-    ∷ (R.ClearElem, 10) ∷ (R.ClearAny, 11) ∷ (R.ClearNone, 12) ∷ (R.ClearNone, 12) ∷ (R.ClearReg, 12) ∷ (R.Presence1, 11)
+    ∷ (R.ClearElem, 10) ∷ (R.ClearAny, 11) ∷ (R.ClearNone, 12)
+    ∷ (R.ClearNone, 12) ∷ (R.ClearReg, 12) ∷ (R.Presence1, 11)
     ∷ (R.ClearList2, 10)
-    ∷ (R.ClearElem, 11) ∷ (R.ClearAny, 12) ∷ (R.ClearNone, 13) ∷ (R.ClearNone, 13) ∷ (R.ClearReg, 13) ∷ (R.Presence1, 12)
+    ∷ (R.ClearElem, 11) ∷ (R.ClearAny, 12) ∷ (R.ClearNone, 13)
+    ∷ (R.ClearNone, 13) ∷ (R.ClearReg, 13) ∷ (R.Presence1, 12)
     ∷ (R.ClearList3, 11)
     ∷ (R.ClearNone, 7)
     ∷ (R.Presence1, 6) ∷ [])
+
+-- `doc.idx(0).insertAfter({})` in the place of the first insert: the element is a map
+abbrev pub insert_map : Op
+insert_map = record {
+  id = by_a 2;
+  deps = by_a 1 ∷ [];
+  cursor = cursor (ListT Doc ∷ []) Head;
+  mutation = M.Insert V.EmptyMap;
+}
+
+abbrev pub tree_of_map : Context
+tree_of_map = context no_child
+    (child Doc (context (child (Elem (by_a 2)) empty no_child) no_child []
+    ((Elem (by_a 2), by_a 2 ∷ []) ∷ [])
+    ((Head, To (by_a 2)) ∷ (Elem (by_a 2), Tail) ∷ [])) no_child)
+    [] ((Doc, by_a 1 ∷ by_a 2 ∷ []) ∷ []) []
+
+abbrev pub InsertOfMap : Type 0
+InsertOfMap = IsWorked
+    (record after_1 { left = InsertAfter (Index TheDoc 0) V.EmptyMap ∷ [] }) (E.Exec 0) []
+    (alone [] [] tree_of_map (by_a 1 ∷ by_a 2 ∷ []) (make_list ∷ insert_map ∷ []))
+    ((R.Exec, 0) ∷ (R.MakeInsert, 1)
+    ∷ (R.Idx1, 2) ∷ (R.Doc, 3) ∷ (R.Idx2, 3) ∷ (R.Idx5, 4)
+    ∷ (R.MakeOp, 2) ∷ (R.ApplyLocal, 3)
+    ∷ (R.Descend, 4) ∷ (R.ChildGet, 5)
+    ∷ (R.Insert1, 5)
+    ∷ (R.EmptyMap, 6)
+    ∷ (R.ClearElem, 7) ∷ (R.ClearAny, 8) ∷ (R.ClearNone, 9) ∷ (R.ClearNone, 9) ∷ (R.ClearNone, 9) ∷ (R.Presence2, 8)
+    ∷ (R.AddId1, 7) ∷ (R.Presence1, 8)
+    ∷ (R.ChildMap, 7)
+    ∷ (R.AddId1, 5) ∷ (R.Presence1, 6) ∷ [])

@@ -44,7 +44,10 @@ tree_of_map = context
 -- the map with a register beside it
 abbrev pub tree_of_both : Context
 tree_of_both = context
-    (child K.Doc (context (child key_k empty no_child) no_child ((key_k, (by_a 2, one) ∷ []) ∷ []) ((key_k, by_a 1 ∷ by_a 2 ∷ []) ∷ []) []) no_child)
+    (child K.Doc (context
+    (child key_k empty no_child) no_child
+    ((key_k, (by_a 2, one) ∷ []) ∷ [])
+    ((key_k, by_a 1 ∷ by_a 2 ∷ []) ∷ []) []) no_child)
     no_child [] ((K.Doc, by_a 1 ∷ by_a 2 ∷ []) ∷ []) []
 
 -- `doc.get("k") := {}` on a fresh replica
@@ -82,7 +85,10 @@ tree_of_register = context
 
 abbrev pub tree_of_new_map : Context
 tree_of_new_map = context
-    (child K.Doc (context (child key_k empty no_child) no_child ((key_k, []) ∷ []) ((key_k, by_a 2 ∷ []) ∷ []) []) no_child)
+    (child K.Doc (context
+    (child key_k empty no_child) no_child
+    ((key_k, []) ∷ [])
+    ((key_k, by_a 2 ∷ []) ∷ []) []) no_child)
     no_child [] ((K.Doc, by_a 1 ∷ by_a 2 ∷ []) ∷ []) []
 
 abbrev pub assigned_both : List Op
@@ -115,17 +121,29 @@ key_m = K.Name (codes "m")
 
 -- the operation of `doc.get("m").get("k") := 1`, made first
 abbrev pub assign_inside : Op
-assign_inside = record { id = by_a 1; deps = []; cursor = cursor (MapT K.Doc ∷ MapT key_m ∷ []) key_k; mutation = M.Assign one }
+assign_inside = record {
+  id = by_a 1;
+  deps = [];
+  cursor = cursor (MapT K.Doc ∷ MapT key_m ∷ []) key_k;
+  mutation = M.Assign one;
+}
 
 abbrev pub tree_of_inner : Context
 tree_of_inner = context
-    (child K.Doc (context (child key_m (context no_child no_child ((key_k, (by_a 1, one) ∷ []) ∷ []) ((key_k, by_a 1 ∷ []) ∷ []) []) no_child) no_child [] ((key_m, by_a 1 ∷ []) ∷ []) []) no_child)
+    (child K.Doc (context
+    (child key_m (context no_child no_child
+    ((key_k, (by_a 1, one) ∷ []) ∷ [])
+    ((key_k, by_a 1 ∷ []) ∷ []) []) no_child)
+    no_child [] ((key_m, by_a 1 ∷ []) ∷ []) []) no_child)
     no_child [] ((K.Doc, by_a 1 ∷ []) ∷ []) []
 
 -- after `doc.get("m").get("k") := 1`: `let s = doc.get("m").keys`
 abbrev pub KeysOfInnerMap : Type 0
 KeysOfInnerMap = IsWorked
-    (alone (LetIn (codes "s") (KeysOf (GetKey TheDoc (codes "m"))) ∷ []) [] tree_of_inner (by_a 1 ∷ []) (assign_inside ∷ [])) (E.Exec 0) []
+    (alone
+    (LetIn (codes "s") (KeysOf (GetKey TheDoc (codes "m"))) ∷ []) []
+    tree_of_inner (by_a 1 ∷ []) (assign_inside ∷ []))
+    (E.Exec 0) []
     (alone [] ((codes "s", Names (codes "k" ∷ [])) ∷ []) tree_of_inner (by_a 1 ∷ []) (assign_inside ∷ []))
     ((R.Exec, 0) ∷ (R.Let, 1) ∷ (R.Keys1, 2) ∷ (R.Get, 3) ∷ (R.Doc, 4) ∷ (R.Keys3, 3) ∷ (R.Keys2, 4) ∷ [])
 
@@ -137,27 +155,53 @@ abbrev pub key_b : Key
 key_b = K.Name (codes "b")
 
 abbrev pub assign_a : Op
-assign_a = record { id = by_a 1; deps = []; cursor = cursor (MapT K.Doc ∷ MapT key_m ∷ []) key_a; mutation = M.Assign V.EmptyMap }
+assign_a = record {
+  id = by_a 1;
+  deps = [];
+  cursor = cursor (MapT K.Doc ∷ MapT key_m ∷ []) key_a;
+  mutation = M.Assign V.EmptyMap;
+}
 
 abbrev pub assign_b : Op
-assign_b = record { id = by_a 2; deps = by_a 1 ∷ []; cursor = cursor (MapT K.Doc ∷ MapT key_m ∷ []) key_b; mutation = M.Assign one }
+assign_b = record {
+  id = by_a 2;
+  deps = by_a 1 ∷ [];
+  cursor = cursor (MapT K.Doc ∷ MapT key_m ∷ []) key_b;
+  mutation = M.Assign one;
+}
 
 abbrev pub delete_m : Op
-delete_m = record { id = by_a 3; deps = by_a 1 ∷ by_a 2 ∷ []; cursor = cursor (MapT K.Doc ∷ []) key_m; mutation = M.Delete }
+delete_m = record {
+  id = by_a 3;
+  deps = by_a 1 ∷ by_a 2 ∷ [];
+  cursor = cursor (MapT K.Doc ∷ []) key_m;
+  mutation = M.Delete;
+}
 
 abbrev pub tree_of_two : Context
 tree_of_two = context
-    (child K.Doc (context (child key_m (context (child key_a empty no_child) no_child ((key_b, (by_a 2, one) ∷ []) ∷ []) ((key_a, by_a 1 ∷ []) ∷ (key_b, by_a 2 ∷ []) ∷ []) []) no_child) no_child [] ((key_m, by_a 1 ∷ by_a 2 ∷ []) ∷ []) []) no_child)
+    (child K.Doc (context
+    (child key_m (context
+    (child key_a empty no_child) no_child
+    ((key_b, (by_a 2, one) ∷ []) ∷ [])
+    ((key_a, by_a 1 ∷ []) ∷ (key_b, by_a 2 ∷ []) ∷ []) []) no_child)
+    no_child [] ((key_m, by_a 1 ∷ by_a 2 ∷ []) ∷ []) []) no_child)
     no_child [] ((K.Doc, by_a 1 ∷ by_a 2 ∷ []) ∷ []) []
 
 abbrev pub tree_of_none : Context
 tree_of_none = context
-    (child K.Doc (context (child key_m (context (child key_a empty no_child) no_child ((key_b, []) ∷ []) ((key_a, []) ∷ (key_b, []) ∷ []) []) no_child) no_child [] ((key_m, []) ∷ []) []) no_child)
+    (child K.Doc (context
+    (child key_m (context
+    (child key_a empty no_child) no_child
+    ((key_b, []) ∷ [])
+    ((key_a, []) ∷ (key_b, []) ∷ []) []) no_child)
+    no_child [] ((key_m, []) ∷ []) []) no_child)
     no_child [] ((K.Doc, by_a 1 ∷ by_a 2 ∷ []) ∷ []) []
 
 abbrev pub MapOfTwoDeleted : Type 0
 MapOfTwoDeleted = IsWorked
-    (alone (DeleteAt (GetKey TheDoc (codes "m")) ∷ []) [] tree_of_two (by_a 1 ∷ by_a 2 ∷ []) (assign_a ∷ assign_b ∷ [])) (E.Exec 0) []
+    (alone (DeleteAt (GetKey TheDoc (codes "m")) ∷ []) [] tree_of_two (by_a 1 ∷ by_a 2 ∷ []) (assign_a ∷ assign_b ∷ []))
+    (E.Exec 0) []
     (alone [] [] tree_of_none (by_a 1 ∷ by_a 2 ∷ by_a 3 ∷ []) (assign_a ∷ assign_b ∷ delete_m ∷ []))
     ((R.Exec, 0) ∷ (R.MakeDelete, 1)
     ∷ (R.Get, 2) ∷ (R.Doc, 3)
@@ -167,10 +211,38 @@ MapOfTwoDeleted = IsWorked
     ∷ (R.ClearAny, 7)
     ∷ (R.ClearMap1, 8)
     ∷ (R.ClearMap2, 9)
-    ∷ (R.ClearElem, 10) ∷ (R.ClearAny, 11) ∷ (R.ClearMap1, 12) ∷ (R.ClearMap3, 13) ∷ (R.ClearNone, 12) ∷ (R.ClearNone, 12) ∷ (R.Presence1, 11)
+    ∷ (R.ClearElem, 10) ∷ (R.ClearAny, 11) ∷ (R.ClearMap1, 12) ∷ (R.ClearMap3, 13)
+    ∷ (R.ClearNone, 12) ∷ (R.ClearNone, 12) ∷ (R.Presence1, 11)
     ∷ (R.ClearMap2, 10)
-    ∷ (R.ClearElem, 11) ∷ (R.ClearAny, 12) ∷ (R.ClearNone, 13) ∷ (R.ClearNone, 13) ∷ (R.ClearReg, 13) ∷ (R.Presence1, 12)
+    ∷ (R.ClearElem, 11) ∷ (R.ClearAny, 12) ∷ (R.ClearNone, 13)
+    ∷ (R.ClearNone, 13) ∷ (R.ClearReg, 13) ∷ (R.Presence1, 12)
     ∷ (R.ClearMap3, 11)
     ∷ (R.ClearNone, 8) ∷ (R.ClearNone, 8)
     ∷ (R.Presence1, 7)
+    ∷ (R.AddId2, 5) ∷ [])
+
+-- `doc.get("a").get("b").delete` on a fresh replica: both maps are made, and no presence set gets the identifier
+abbrev pub delete_b : Op
+delete_b = record { id = by_a 1; deps = []; cursor = cursor (MapT K.Doc ∷ MapT key_a ∷ []) key_b; mutation = M.Delete }
+
+abbrev pub tree_of_nothing : Context
+tree_of_nothing = context
+    (child K.Doc (context
+    (child key_a (context no_child no_child [] ((key_b, []) ∷ []) []) no_child)
+    no_child [] [] []) no_child)
+    no_child [] [] []
+
+abbrev pub NothingDeleted : Type 0
+NothingDeleted = IsWorked
+    (start (DeleteAt (GetKey (GetKey TheDoc (codes "a")) (codes "b")) ∷ [])) (E.Exec 0) []
+    (alone [] [] tree_of_nothing (by_a 1 ∷ []) (delete_b ∷ []))
+    ((R.Exec, 0) ∷ (R.MakeDelete, 1)
+    ∷ (R.Get, 2) ∷ (R.Get, 3) ∷ (R.Doc, 4)
+    ∷ (R.MakeOp, 2) ∷ (R.ApplyLocal, 3)
+    ∷ (R.Descend, 4) ∷ (R.ChildMap, 5)
+    ∷ (R.Descend, 5) ∷ (R.ChildMap, 6)
+    ∷ (R.Delete, 6) ∷ (R.ClearElem, 7)
+    ∷ (R.ClearAny, 8) ∷ (R.ClearNone, 9) ∷ (R.ClearNone, 9) ∷ (R.ClearNone, 9)
+    ∷ (R.Presence2, 8)
+    ∷ (R.AddId2, 6)
     ∷ (R.AddId2, 5) ∷ [])

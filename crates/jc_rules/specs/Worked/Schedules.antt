@@ -21,7 +21,8 @@ meeting =
     ∷ Recv 0 1 ∷ Recv 1 0
     ∷ Apply 0 (by_b 2) ∷ Apply 1 (by_a 2) ∷ []
 
--- a: `doc.get("l") := []; yield; doc.get("l").idx(0).insertAfter("x"); yield`; b: `yield; doc.get("l").idx(0).insertAfter("y"); yield`
+-- a: `doc.get("l") := []; yield; doc.get("l").idx(0).insertAfter("x"); yield`;
+-- b: `yield; doc.get("l").idx(0).insertAfter("y"); yield`
 abbrev pub inserting : List State
 inserting = start (SetTo (GetKey TheDoc (codes "l")) EmptyList ∷ Yield ∷ a_from_x) ∷ start b_script ∷ []
 
@@ -63,7 +64,8 @@ deleting_list =
 abbrev pub deleted_list : List State
 deleted_list =
     met (tree_beside []) (by_a 1 ∷ by_a 2 ∷ by_b 2 ∷ []) (assign_one ∷ delete_l ∷ []) (assign_list ∷ [])
-    ∷ met (tree_beside ((Head, []) ∷ [])) (by_a 1 ∷ by_a 2 ∷ by_b 2 ∷ []) (assign_list ∷ []) (assign_one ∷ delete_l ∷ []) ∷ []
+    ∷ met (tree_beside ((Head, []) ∷ [])) (by_a 1 ∷ by_a 2 ∷ by_b 2 ∷ [])
+    (assign_list ∷ []) (assign_one ∷ delete_l ∷ []) ∷ []
 
 abbrev pub ListDeletionMeets : Type 0
 ListDeletionMeets = After deleting_list meeting deleted_list

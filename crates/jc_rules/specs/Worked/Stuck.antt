@@ -24,7 +24,8 @@ IsRefused A event why = Refused (Occur A event []) why
 abbrev pub at_a : Expr
 at_a = GetKey TheDoc (codes "a")
 
--- Events in the course of `doc.get("a") := 1; yield`: `a.send` before the assignment, `a.exec` and `a.done` after it, `a.apply(1, a)` and `a.apply(9, a)` after `a.send` and `a.recv(a)`, and `a.exec` and `a.done` after `a.done`.
+-- Events in the course of `doc.get("a") := 1; yield`: `a.send` before the assignment, `a.exec` and `a.done` after it,
+-- `a.apply(1, a)` and `a.apply(9, a)` after `a.send` and `a.recv(a)`, and `a.exec` and `a.done` after `a.done`.
 abbrev pub exchanged : State
 exchanged = record (assigned (Yield ∷ []) []) { acted = true; send = assign_one ∷ []; recv = assign_one ∷ [] }
 
@@ -51,14 +52,20 @@ DonePastScript = IsRefused (record exchanged { left = []; acted = false }) (E.Do
 
 -- `b.apply(2, a)` before `b.apply(1, a)`
 abbrev pub DependencyMissing : Type 0
-DependencyMissing = IsRefused (record (start (Yield ∷ [])) { acted = true; recv = assign_one ∷ assign_two ∷ [] }) (E.Apply 1 (by_a 2)) (because F.DepsMissing)
+DependencyMissing =
+    IsRefused (record (start (Yield ∷ [])) { acted = true; recv = assign_one ∷ assign_two ∷ [] })
+    (E.Apply 1 (by_a 2)) (because F.DepsMissing)
 
--- first commands on a fresh replica: `let x = doc.get("l").idx(0)`, `let s = x`, `let s = doc.keys`, `let s = doc.values` and `doc.get("a").insertAfter(1)`
+-- first commands on a fresh replica: `let x = doc.get("l").idx(0)`, `let s = x`, `let s = doc.keys`,
+-- `let s = doc.values` and `doc.get("a").insertAfter(1)`
 abbrev pub IndexInNothing : Type 0
-IndexInNothing = IsRefused (start (LetIn (codes "x") (Index (GetKey TheDoc (codes "l")) 0) ∷ [])) (E.Exec 0) (no_node (MapT K.Doc))
+IndexInNothing =
+    IsRefused (start (LetIn (codes "x") (Index (GetKey TheDoc (codes "l")) 0) ∷ []))
+    (E.Exec 0) (no_node (MapT K.Doc))
 
 abbrev pub VariableUnbound : Type 0
-VariableUnbound = IsRefused (start (LetIn (codes "s") (Variable (codes "x")) ∷ [])) (E.Exec 0) (because F.UnboundVariable)
+VariableUnbound =
+    IsRefused (start (LetIn (codes "s") (Variable (codes "x")) ∷ [])) (E.Exec 0) (because F.UnboundVariable)
 
 abbrev pub KeysOfNothing : Type 0
 KeysOfNothing = IsRefused (start (LetIn (codes "s") (KeysOf TheDoc) ∷ [])) (E.Exec 0) (because F.NoMap)
@@ -71,7 +78,9 @@ InsertInNothing = IsRefused (start (InsertAfter at_a one ∷ [])) (E.Exec 0) (be
 
 -- `let x = doc.get("l").idx(0)` where only "a" is
 abbrev pub IndexInMap : Type 0
-IndexInMap = IsRefused (assigned (LetIn (codes "x") (Index (GetKey TheDoc (codes "l")) 0) ∷ []) []) (E.Exec 0) (no_node (ListT (K.Name (codes "l"))))
+IndexInMap =
+    IsRefused (assigned (LetIn (codes "x") (Index (GetKey TheDoc (codes "l")) 0) ∷ []) [])
+    (E.Exec 0) (no_node (ListT (K.Name (codes "l"))))
 
 -- `let w = doc.idx(2)` where one element isn't deleted
 abbrev pub IndexPastEnd : Type 0
@@ -79,17 +88,28 @@ IndexPastEnd = IsRefused after_5 (E.Exec 0) (because F.PastEnd)
 
 -- `s := 1` where s is a list of names
 abbrev pub AssignmentToNames : Type 0
-AssignmentToNames = IsRefused (assigned (SetTo (Variable (codes "s")) one ∷ []) ((codes "s", Names (codes "a" ∷ [])) ∷ [])) (E.Exec 0) (because F.NotACursor)
+AssignmentToNames =
+    IsRefused (assigned (SetTo (Variable (codes "s")) one ∷ []) ((codes "s", Names (codes "a" ∷ [])) ∷ []))
+    (E.Exec 0) (because F.NotACursor)
 
 -- `doc.idx(0).get("a") := 1` where the document is a list
 abbrev pub KeyOfHead : Type 0
-KeyOfHead = IsRefused (alone (SetTo (GetKey (Index TheDoc 0) (codes "a")) one ∷ []) [] tree_1 (by_a 1 ∷ []) (make_list ∷ [])) (E.Exec 0) (because F.GetOnHead)
+KeyOfHead =
+    IsRefused (alone (SetTo (GetKey (Index TheDoc 0) (codes "a")) one ∷ []) [] tree_1 (by_a 1 ∷ []) (make_list ∷ []))
+    (E.Exec 0) (because F.GetOnHead)
 
 -- `let x = x.get("a")` where the path of x has more than 511 keys
 abbrev pub KeyTooDeep : Type 0
-KeyTooDeep = (path : List Tagged) → 511 < length path → IsRefused (alone (LetIn (codes "x") (GetKey (Variable (codes "x")) (codes "a")) ∷ []) ((codes "x", ACursor (cursor path (K.Name (codes "a")))) ∷ []) empty [] []) (E.Exec 0) (because F.TooDeep)
+KeyTooDeep =
+    (path : List Tagged) → 511 < length path
+    → IsRefused
+    (alone
+    (LetIn (codes "x") (GetKey (Variable (codes "x")) (codes "a")) ∷ [])
+    ((codes "x", ACursor (cursor path (K.Name (codes "a")))) ∷ []) empty [] [])
+    (E.Exec 0) (because F.TooDeep)
 
--- the same below a path: `let s = doc.get("a").keys` where only a value is under "a", and on a fresh replica `let s = doc.get("a").keys` and `let s = doc.get("a").values`
+-- the same below a path: `let s = doc.get("a").keys` where only a value is under "a", and on a fresh replica
+-- `let s = doc.get("a").keys` and `let s = doc.get("a").values`
 abbrev pub KeysOfRegister : Type 0
 KeysOfRegister = IsRefused (assigned (LetIn (codes "s") (KeysOf at_a) ∷ []) []) (E.Exec 0) (because F.NoMap)
 
@@ -99,7 +119,14 @@ KeysInNothing = IsRefused (start (LetIn (codes "s") (KeysOf at_a) ∷ [])) (E.Ex
 abbrev pub ValuesInNothing : Type 0
 ValuesInNothing = IsRefused (start (LetIn (codes "s") (ValuesOf at_a) ∷ [])) (E.Exec 0) (no_node (MapT K.Doc))
 
--- In a network of one replica that is at a yield: it receives from a second one, a second one runs, and it applies an operation of one that isn't there, which is asked for among the received ones alone.
+-- `let s = doc.get("a").get("b").keys` where only a value is under "a": the path's second key isn't there
+abbrev pub KeysBelowRegister : Type 0
+KeysBelowRegister =
+    IsRefused (assigned (LetIn (codes "s") (KeysOf (GetKey at_a (codes "b"))) ∷ []) [])
+    (E.Exec 0) (no_node (MapT (K.Name (codes "a"))))
+
+-- In a network of one replica that is at a yield: it receives from a second one, a second one runs, and it applies an
+-- operation of one that isn't there, which is asked for among the received ones alone.
 abbrev pub FromNobody : Type 0
 FromNobody = IsStuck (start (Yield ∷ []) ∷ []) (E.Recv 0 1) (because F.NoSuchReplica)
 

@@ -6,6 +6,7 @@ use Rattle.jc_rules.specs.declared.operation.Event.TheVariants.{Exec}
 use Rattle.jc_rules.specs.Step.{Step}
 use Rattle.jc_app.specs.Runs.{Made, events_of, blocks_text}
 use Rattle.jc_app.proofs.Playing.{goes_on, events_of-append, made_count, split_here, stuck_here, shown_more}
+use Rattle.jc_app.proofs.Begun.{if_refused, begun}
 use Rattle.jc_app.proofs.run.play.Goals as goal
 
 pub returns-then-not-branch-clause-ok : goal.returns-then-not-branch-clause-ok
@@ -51,3 +52,14 @@ loop-event-preserved g c =
         subst (λ (s : List ℕ). Appends (g.K.Sink.taken c.args.out.now) (g.K.Sink.taken c.play_next.new.out) s) (sym (shown_more names made e rows n number exec)) (Appends-trans _ _ _ _ _ so_far.3 next.2),
       );
     }
+
+-- the events before it were made, and perhaps the next one was
+pub returns-in_err-play_next-clause-begun : goal.returns-in_err-play_next-clause-begun
+returns-in_err-play_next-clause-begun g c =
+    let so_far = c.loop-event.invariant.made in
+    let i = c.loop-event.event-index in
+    let es = c.args.schedule.now in
+    let inside : i < length es = omega arith in
+    let count : length so_far.0 ≡ i = made_count es i so_far.0 (omega arith) so_far.2 in
+    let number : c.loop-event.number ≡ length so_far.0 = omega (arith, count, c.loop-event.invariant.counted) in
+    if_refused c.from_residual.result (begun (c.args.name.now ∷ []) (g.M.Machine.state c.args.machine.now) (g.M.Machine.state c.loop-event.machine) es i c.loop-event.number so_far.0 _ _ _ so_far.1 so_far.2 inside (c.requires.events i (Exec 0) inside) number so_far.3 c.in_err-play_next.ensures.begun)

@@ -17,19 +17,19 @@ use Rattle.jc_apply.proofs.apply.+operate.Goals as goal
 pub enter-requires-clause-there : goal.enter-requires-clause-there
 enter-requires-clause-there g t c =
     let within : c.args.depth < length c.args.op.now.cursor.path = search rules in
-    let w = way c.args.op.now.cursor.path c.as_slice-path.result.now c.args.depth c.index-path-depth.result c.as_slice-path.ensures within c.index-path-depth.is in
+    let w = way c.args.op.now.cursor.path c.as_slice-path.result.now c.args.depth c.index-path-depth.result c.as_slice-path.ensures.keys within c.index-path-depth.is in
     subst (λ (p : List Tagged). HasPlace p (g.S.TreeStore.tree c.args.store.now)) (sym w.at) c.requires.there
 
 pub enter-requires-clause-context : goal.enter-requires-clause-context
 enter-requires-clause-context g t c =
     let within : c.args.depth < length c.args.op.now.cursor.path = search rules in
-    let w = way c.args.op.now.cursor.path c.as_slice-path.result.now c.args.depth c.index-path-depth.result c.as_slice-path.ensures within c.index-path-depth.is in
+    let w = way c.args.op.now.cursor.path c.as_slice-path.result.now c.args.depth c.index-path-depth.result c.as_slice-path.ensures.keys within c.index-path-depth.is in
     (fits_below _ _ _ _ _ _ w.rest c.requires.fits).context
 
 pub operate-requires : goal.operate-requires
 operate-requires g t c κs h =
     let within : c.args.depth < length c.args.op.now.cursor.path = search rules in
-    let w = way c.args.op.now.cursor.path c.as_slice-path.result.now c.args.depth c.index-path-depth.result c.as_slice-path.ensures within c.index-path-depth.is in
+    let w = way c.args.op.now.cursor.path c.as_slice-path.result.now c.args.depth c.index-path-depth.result c.as_slice-path.ensures.keys within c.index-path-depth.is in
     let tree = g.S.TreeStore.tree c.args.store.now in
     let place : HasPlace (take c.args.depth c.as_slice-path.result.now) tree = subst (λ (p : List Tagged). HasPlace p tree) (sym w.at) c.requires.there in
     let fits = fits_below _ _ _ _ _ _ w.rest (subst (λ (p : List Tagged). Fits (here p tree) (drop c.args.depth c.args.op.now.cursor.path) c.args.op.now.cursor.last c.args.op.now.mutation) (sym w.at) c.requires.fits) in
@@ -39,7 +39,7 @@ operate-requires g t c κs h =
 pub add_op-requires : goal.add_op-requires
 add_op-requires g t c =
     let within : c.args.depth < length c.args.op.now.cursor.path = search rules in
-    let w = way c.args.op.now.cursor.path c.as_slice-path.result.now c.args.depth c.index-path-depth.result c.as_slice-path.ensures within c.index-path-depth.is in
+    let w = way c.args.op.now.cursor.path c.as_slice-path.result.now c.args.depth c.index-path-depth.result c.as_slice-path.ensures.keys within c.index-path-depth.is in
     let tree = g.S.TreeStore.tree c.args.store.now in
     let place : HasPlace (take c.args.depth c.as_slice-path.result.now) tree = subst (λ (p : List Tagged). HasPlace p tree) (sym w.at) c.requires.there in
     let context = (fits_below _ _ _ _ _ _ w.rest c.requires.fits).context in
@@ -52,7 +52,7 @@ close-requires g t c =
 pub returns-clause-ok : goal.returns-clause-ok
 returns-clause-ok g t c =
     let within : c.args.depth < length c.args.op.now.cursor.path = search rules in
-    let w = way c.args.op.now.cursor.path c.as_slice-path.result.now c.args.depth c.index-path-depth.result c.as_slice-path.ensures within c.index-path-depth.is in
+    let w = way c.args.op.now.cursor.path c.as_slice-path.result.now c.args.depth c.index-path-depth.result c.as_slice-path.ensures.keys within c.index-path-depth.is in
     let tree = g.S.TreeStore.tree c.args.store.now in
     let place : HasPlace (take c.args.depth c.as_slice-path.result.now) tree = subst (λ (p : List Tagged). HasPlace p tree) (sym w.at) c.requires.there in
     let context = (fits_below _ _ _ _ _ _ w.rest c.requires.fits).context in

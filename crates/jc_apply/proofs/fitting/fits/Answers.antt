@@ -1,18 +1,12 @@
-use Rattle.std.proofs.Common.{true, false, refl, sym, ◌∙◌}
-use Rattle.jc_apply.proofs.Reaching.{differ, through_register, walked_there, walked_new, insert_there, insert_new, other_fits}
+use Rattle.std.proofs.Common.{true, refl, ◌∙◌}
+use Rattle.jc_apply.proofs.Reaching.{key_on, walked_there, walked_new, insert_there, insert_new, other_fits}
 use Rattle.jc_apply.proofs.Unanswered.{told}
 use Rattle.jc_apply.proofs.fitting.fits.Goals as goal
 use Rattle.jc_apply.proofs.fitting.fits.Goals.{then-there, else-there}
 
-pub returns-then-not-is_node : goal.returns-then-not-is_node
-returns-then-not-is_node g c =
-    let unfit = through_register c.as_slice-path.result.now c.args.cursor.now.path c.loop-depth.depth c.index-path-depth.result (g.S.TreeStore.tree c.args.store.now).now c.args.cursor.now.last c.args.mutation.now c.as_slice-path.ensures c.loop-depth-test.true c.index-path-depth.is (λ h. differ (sym c.if-not-is_node.true ∙ c.is_node.ensures.1 h)) in
-    let t = told (g.S.TreeStore.tree c.args.store.now).now c.args.cursor.now c.args.mutation.now false (λ e. differ e, λ h. absurd (unfit h)) in
-    record { fits = t.fits; no_answer = t.no_answer; refused = t.refused }
-
 pub loop-depth-preserved : goal.loop-depth-preserved
 loop-depth-preserved g c =
-    let key = c.is_node.ensures.0 c.if-not-is_node.false in
+    let key = key_on c.as_slice-path.result.now c.args.cursor.now.path c.loop-depth.depth c.index-path-depth.result c.as_slice-path.ensures.keys c.as_slice-path.ensures.path c.loop-depth-test.true c.index-path-depth.is in
     elim c.if-there.branch [
       | then-there w ↦ walked_there _ c.as_slice-path.result.now c.loop-depth.depth c.index-path-depth.result c.loop-depth.there c.if-there.there c.loop-depth-test.true c.index-path-depth.is key c.loop-depth.invariant w.if-there.true (w.there-is ∙ w.has-there.ensures)
       | else-there w ↦ walked_new _ c.as_slice-path.result.now c.loop-depth.depth c.index-path-depth.result c.loop-depth.there c.if-there.there c.loop-depth-test.true c.index-path-depth.is key c.loop-depth.invariant w.if-there.false (w.there-is ∙ w.if-there.false)
@@ -20,16 +14,16 @@ loop-depth-preserved g c =
 
 pub returns-in-Insert : goal.returns-in-Insert
 returns-in-Insert g c =
-    let t = told _ c.args.cursor.now c.args.mutation.now c.is_some.result (insert_there _ c.as_slice-path.result.now c.args.cursor.now.path c.loop-depth.depth c.loop-depth.there c.args.cursor.now.last c.args.mutation.now _ c.next.result c.is_some.result c.as_slice-path.ensures c.loop-depth-test.false c.loop-depth.invariant c.if-there-2.true c.in-Insert.is c.next.ensures c.is_some.ensures) in
+    let t = told _ c.args.cursor.now c.args.mutation.now c.is_some.result c.as_slice-path.ensures.path (insert_there _ c.as_slice-path.result.now c.args.cursor.now.path c.loop-depth.depth c.loop-depth.there c.args.cursor.now.last c.args.mutation.now _ c.next.result c.is_some.result c.as_slice-path.ensures.keys c.loop-depth-test.false c.loop-depth.invariant c.if-there-2.true c.in-Insert.is c.next.ensures c.is_some.ensures) in
     record { fits = t.fits; no_answer = t.no_answer; refused = t.refused }
 
 pub returns-in-Insert-2 : goal.returns-in-Insert-2
 returns-in-Insert-2 g c =
-    let t = told _ c.args.cursor.now c.args.mutation.now c.is_new_head.result (insert_new _ c.as_slice-path.result.now c.args.cursor.now.path c.loop-depth.depth c.loop-depth.there c.args.cursor.now.last c.args.mutation.now _ _ c.is_new_head.result c.as_slice-path.ensures c.loop-depth-test.false c.loop-depth.auto.depth-end c.loop-depth.invariant c.if-there-2.false c.in-Insert-2.is c.last.ensures.value c.is_new_head.ensures) in
+    let t = told _ c.args.cursor.now c.args.mutation.now c.is_new_head.result c.as_slice-path.ensures.path (insert_new _ c.as_slice-path.result.now c.args.cursor.now.path c.loop-depth.depth c.loop-depth.there c.args.cursor.now.last c.args.mutation.now _ _ c.is_new_head.result c.as_slice-path.ensures.keys c.loop-depth-test.false c.loop-depth.auto.depth-end c.loop-depth.invariant c.if-there-2.false c.in-Insert-2.is c.last.ensures.value c.is_new_head.ensures) in
     record { fits = t.fits; no_answer = t.no_answer; refused = t.refused }
 
 pub returns-in_default : goal.returns-in_default
 returns-in_default g c =
-    let fit = other_fits _ c.as_slice-path.result.now c.args.cursor.now.path c.loop-depth.depth c.loop-depth.there c.args.cursor.now.last c.args.mutation.now c.as_slice-path.ensures c.loop-depth-test.false c.loop-depth.auto.depth-end c.loop-depth.invariant c.in_default.not-Insert in
-    let t = told _ c.args.cursor.now c.args.mutation.now true (λ e. fit, λ f. refl) in
+    let fit = other_fits _ c.as_slice-path.result.now c.args.cursor.now.path c.loop-depth.depth c.loop-depth.there c.args.cursor.now.last c.args.mutation.now c.as_slice-path.ensures.keys c.loop-depth-test.false c.loop-depth.auto.depth-end c.loop-depth.invariant c.in_default.not-Insert in
+    let t = told _ c.args.cursor.now c.args.mutation.now true c.as_slice-path.ensures.path (λ e. fit, λ f. refl) in
     record { fits = t.fits; no_answer = t.no_answer; refused = t.refused }

@@ -1,4 +1,4 @@
-use Rattle.std.proofs.Common.{◌-◌, Err, sym, ap, ◌∙◌}
+use Rattle.std.proofs.Common.{rules, ◌-◌, Err, sym, ap, ◌∙◌}
 use Rattle.std.proofs.lemmas.Result.{err_from_is_err_and}
 use Rattle.jc_syntax.specs.Trees.{expr_of}
 use Rattle.jc_rules.specs.Syntax.{Expr}
@@ -36,3 +36,6 @@ selectors-preserved c =
 
 pub returns : goal.returns
 returns c = c.selectors.invariant ∙ chain_done c.selectors.left (expr_of c.selectors.expression) c.selectors.cursor (sym c.begins.ensures ∙ c.selectors-test.false)
+
+pub selectors-init : goal.selectors-init
+selectors-init c = search rules

@@ -1,4 +1,4 @@
-use Rattle.std.proofs.Common.{◌-◌, [], ◌∷◌, map, Err, Ok, sym, ap, ◌∙◌}
+use Rattle.std.proofs.Common.{rules, ◌-◌, [], ◌∷◌, map, Err, Ok, sym, ap, ◌∙◌}
 use Rattle.std.proofs.lemmas.Result.{err_from_is_err_and}
 use Rattle.std.proofs.lemmas.List.{map-append}
 use Rattle.jc_syntax.specs.Trees.{cmd_of}
@@ -36,3 +36,6 @@ commands-preserved c =
 
 pub returns : goal.returns
 returns c = c.commands.invariant ∙ items_done (has_kind Name) command_at crowd_at c.commands.left c.commands.cursor (map cmd_of c.commands.script.items) (sym c.begins.ensures ∙ c.commands-test.false)
+
+pub commands-init : goal.commands-init
+commands-init c = search rules

@@ -8,9 +8,10 @@ tokens-preserved c =
     let t = c.in_ok-token.token in
     let is = c.in_ok-token.ensures.token in
     let so_far = c.tokens.invariant in
+    let more : c.tokens.at < length c.as_bytes-bytes.result.now = omega arith in
     let skipped = c.skip_blanks-at-in-tokens.ensures in (
       skipped.within,
-      rw (c.in_ok-push.ensures.items, skipped.place) (tokens_more c.as_bytes-bytes.result.now 0 c.tokens.at t c.tokens.tokens.items so_far.1 is.0 c.tokens-test.true is.1),
+      rw (c.in_ok-push.ensures.items, skipped.place) (tokens_more c.as_bytes-bytes.result.now 0 c.tokens.at t c.tokens.tokens.items so_far.1 is.0 more is.1),
     )
 
 -- the token has at least one byte
@@ -23,5 +24,5 @@ tokens-smaller c =
 
 pub returns-clause-each : goal.returns-clause-each
 returns-clause-each c =
-    let room : length c.as_bytes-bytes.result.now ≤ 8388608 = omega (arith, c.if-bytes-gt-MAX_TEXT.false) in
+    let room : length c.as_bytes-bytes.result.now ≤ 8388608 = omega arith in
     rw c.as_bytes-bytes.ensures.value at (each_token c.as_bytes-bytes.result.now 0 c.tokens.at c.tokens.tokens.items room c.tokens.invariant.1)

@@ -17,4 +17,4 @@ cursor_of-requires-clause-short g c =
 pub returns : goal.returns
 returns g c =
     let first = first_set c.args.self.now.script.items c.args.self.now.done c.index.result.now c.in-Set.expr c.in-Set.value c.args.self.now.takes c.requires c.index.ensures c.in-Set.is in
-    record { ok = made _ _ _ c.in-Set.value _ _ _ _ _ _ _ _ _ _ _ (next_cmd c.args.self.now.script.items c.args.self.now.done c.index.result.now c.in-Set.expr c.in-Set.value c.requires c.index.ensures c.in-Set.is) first.2 c.in_ok-open.ensures.ok c.in_ok-open-2.ensures.ok c.in_ok-cursor.ensures c.in_ok-open-3.ensures.ok c.in_ok-open-4.ensures.ok c.greatest.ensures c.in_ok-copy.ensures c.in_ok-copy-2.ensures }
+    record { ok = made _ _ _ c.in-Set.value _ _ _ _ _ _ _ _ _ _ _ (next_cmd c.args.self.now.script.items c.args.self.now.done c.index.result.now c.in-Set.expr c.in-Set.value c.requires c.index.ensures c.in-Set.is) first.2 c.in_ok-open.ensures.ok c.in_ok-open-2.ensures.ok c.in_ok-cursor.ensures c.in_ok-open-3.ensures.ok c.in_ok-open-4.ensures.ok c.greatest.ensures.exact c.in_ok-copy.ensures c.in_ok-copy-2.ensures }

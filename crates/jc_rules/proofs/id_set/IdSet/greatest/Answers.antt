@@ -1,11 +1,13 @@
-use Rattle.std.proofs.Common.{◌≡◌, ◌-◌, sym, length, slice_get, Some}
-use Rattle.jc_rules.specs.Ids.{AreRising}
-use Rattle.jc_rules.proofs.Ids.{greatest-last}
+use Rattle.std.proofs.Common.{List, sym, ◌∙◌, ap}
+use Rattle.jc_rules.specs.declared.id.Id.{Id}
+use Rattle.jc_rules.specs.Ids.{greatest}
+use Rattle.jc_rules.proofs.Counters.{greatest_all, greatest-filled}
+use Rattle.jc_rules.proofs.Stands.{greatest_stands}
 use Rattle.jc_rules.proofs.id_set.IdSet.greatest.Goals as goal
 
--- the last identifier has the greatest counter
-pub returns-in-Some : goal.returns-in-Some
-returns-in-Some c =
-    let rises : AreRising c.as_slice.result.now = rw c.as_slice.ensures.value c.self.invariant in
-    let last : slice_get c.as_slice.result.now (length c.as_slice.result.now - 1) ≡ Some c.in-Some.id.now = sym c.in-Some.ensures.value in
-    sym (rw (c.as_slice.ensures.value, c.self.view_is) at (greatest-last c.as_slice.result.now c.in-Some.id.now rises last))
+pub returns-clause-exact : goal.returns-clause-exact
+returns-clause-exact c =
+    c.greatest_in.ensures ∙ greatest_all c.as_slice.result.now ∙ ap (λ (s : List Id). greatest s) c.as_slice.ensures.value ∙ sym (greatest-filled c.self.inside.last.items) ∙ ap (λ (s : List Id). greatest s) c.self.view_is
+
+pub returns-clause-stands : goal.returns-clause-stands
+returns-clause-stands c = λ set s h. returns-clause-exact c ∙ greatest_stands set s c.args.self.now h

@@ -1,0 +1,97 @@
+-- A run is a function of its bytes.
+use Rattle.std.proofs.Common.{◌≡◌, ℕ, List, [], ◌∷◌, ◌++◌, Option, Some, None, Result, Ok, Err, refl, sym, ◌∙◌, ap, subst}
+use Rattle.std.proofs.lemmas.Option.{same_Some}
+use Rattle.jc_rules.specs.declared.operation.Event.{Event}
+use Rattle.jc_rules.specs.State.{State, start}
+use Rattle.jc_rules.specs.Refused.{IsStuck}
+use Rattle.jc_rules.specs.Refusals.{number_of as refusal_number}
+use Rattle.jc_rules.specs.Step.{Step}
+use Rattle.jc_rules.specs.Laws.{OneStep, StuckHasNone, OneStuck, NumbersDiffer}
+use Rattle.jc_parser.specs.declared.fault.ScenarioFault.{ScenarioFault}
+use Rattle.jc_parser.specs.Laws.{OneScenario, ScenarioOrFault, OneFault}
+use Rattle.jc_dump.specs.Dump.{dump_line}
+use Rattle.jc_app.specs.Texts.{refused_text}
+use Rattle.jc_app.specs.Runs.{Made, GoesBy, EndsAt, Stuck, events_of, blocks_text, stuck_line, status_of}
+use Rattle.jc_app.specs.Ran.{Scenario, ReadsAs, RanThrough, IsRefused, RanOn}
+
+first_same : {X : Type 0} (x y : X) (xs ys : List X) → x ∷ xs ≡ y ∷ ys → x ≡ y
+first_same x y xs ys e = cc
+
+rest_same : {X : Type 0} (x y : X) (xs ys : List X) → x ∷ xs ≡ y ∷ ys → xs ≡ ys
+rest_same x y xs ys e = cc
+
+module _ (one_step : OneStep) (stuck_has_none : StuckHasNone) (one_stuck : OneStuck) where
+  -- no event is made where the next is stuck or none is left
+  no_more : (es : List Event) (network : List State) (m : Made) (made : List Made) (stuck other_stuck : Option Stuck) (last : List State) → EndsAt es [] network stuck → GoesBy network (m ∷ made) last → EndsAt es (m ∷ made) last other_stuck → ⊥
+  no_more es network m made None None last a goes b = let e : [] ≡ events_of (m ∷ made) = sym a ∙ b in cc
+  no_more es network m made None (Some (event, why)) last a goes b = let e : [] ≡ m.0 ∷ (events_of made ++ event ∷ b.0) = sym a ∙ b.1 in cc
+  no_more es network m made (Some (event, why)) None last a goes b =
+      let same : event ≡ m.0 = first_same event m.0 a.0 (events_of made) (sym a.1 ∙ b) in
+      stuck_has_none network goes.0 m.0 why m.1 (subst (λ (x : Event). IsStuck network x why) same a.2) goes.1
+  no_more es network m made (Some (event, why)) (Some (next, other_why)) last a goes b =
+      let same : event ≡ m.0 = first_same event m.0 a.0 (events_of made ++ next ∷ b.0) (sym a.1 ∙ b.1) in
+      stuck_has_none network goes.0 m.0 why m.1 (subst (λ (x : Event). IsStuck network x why) same a.2) goes.1
+
+  -- where nothing was made, the same is stuck
+  same_end : (es : List Event) (network : List State) (stuck other : Option Stuck) → EndsAt es [] network stuck → EndsAt es [] network other → stuck ≡ other
+  same_end es network None None a b = refl
+  same_end es network None (Some (event, why)) a b = let e : [] ≡ event ∷ b.0 = sym a ∙ b.1 in cc
+  same_end es network (Some (event, why)) None a b = let e : [] ≡ event ∷ a.0 = sym b ∙ a.1 in cc
+  same_end es network (Some (event, why)) (Some (next, other)) a b =
+      let same : event ≡ next = first_same event next a.0 b.0 (sym a.1 ∙ b.1) in
+      let cause : why ≡ other = one_stuck network next why other (subst (λ (x : Event). IsStuck network x why) same a.2) b.2 in
+      rw (same, cause) refl
+
+  -- the events of a run are made in order
+  head_made : (es : List Event) (m : Made) (made : List Made) (last : List State) (stuck : Option Stuck) → EndsAt es (m ∷ made) last stuck → (rest : List Event) × (es ≡ m.0 ∷ rest) × EndsAt rest made last stuck
+  head_made es m made last None a = (events_of made, a, refl)
+  head_made es m made last (Some (event, why)) a = (events_of made ++ event ∷ a.0, a.1, (a.0, refl, a.2))
+
+  -- from one network a schedule is played in one way
+  pub same_play : (es : List Event) (network last other : List State) (made others : List Made) (stuck other_stuck : Option Stuck) → GoesBy network made last → EndsAt es made last stuck → GoesBy network others other → EndsAt es others other other_stuck → (made ≡ others) × (last ≡ other) × (stuck ≡ other_stuck)
+  same_play es network last other [] [] stuck other_stuck goes a goes' b =
+      (refl, goes ∙ sym goes', same_end es network stuck other_stuck (subst (λ (n : List State). EndsAt es [] n stuck) goes a) (subst (λ (n : List State). EndsAt es [] n other_stuck) goes' b))
+  same_play es network last other [] (m ∷ others) stuck other_stuck goes a goes' b =
+      absurd (no_more es network m others stuck other_stuck other (subst (λ (n : List State). EndsAt es [] n stuck) goes a) goes' b)
+  same_play es network last other (m ∷ made) [] stuck other_stuck goes a goes' b =
+      absurd (no_more es network m made other_stuck stuck last (subst (λ (n : List State). EndsAt es [] n other_stuck) goes' b) goes a)
+  same_play es network last other (m ∷ made) (k ∷ others) stuck other_stuck goes a goes' b =
+      let x = head_made es m made last stuck a in
+      let y = head_made es k others other other_stuck b in
+      let event : m.0 ≡ k.0 = first_same m.0 k.0 x.0 y.0 (sym x.1 ∙ y.1) in
+      let rest : x.0 ≡ y.0 = rest_same m.0 k.0 x.0 y.0 (sym x.1 ∙ y.1) in
+      let step = subst (λ (e : Event). Step network e goes.0 m.1) event goes.1 in
+      let same = one_step network k.0 goes.0 goes'.0 m.1 k.1 step goes'.1 in
+      let more = same_play y.0 goes'.0 last other made others stuck other_stuck (subst (λ (n : List State). GoesBy n made last) same.0 goes.2) (subst (λ (r : List Event). EndsAt r made last stuck) rest x.2) goes'.2 y.2 in
+      let first : m ≡ k = (λ i. (event i, same.1 i)) in
+      ((λ i. first i ∷ more.0 i), more.1, more.2)
+
+  same_through : (s : Scenario) (shown other : List ℕ) (status other_status : ℕ) → RanThrough s shown status → RanThrough s other other_status → (shown ≡ other) × (status ≡ other_status)
+  same_through s shown other status other_status a b =
+      let names = s.name ∷ [] in
+      let p = a.plays in
+      let q = b.plays in
+      let same = same_play s.schedule (start s.script ∷ []) (a.last ∷ []) (b.last ∷ []) p.made q.made a.stuck b.stuck p.goes p.ends q.goes q.ends in
+      let last : a.last ≡ b.last = first_same a.last b.last [] [] same.1 in
+      let blocks : a.blocks ≡ b.blocks = p.shown ∙ (ap (λ made. blocks_text names 1 made) same.0 ∙ sym q.shown) in (
+        a.written ∙ ((λ i. blocks i ++ dump_line names s.name (last i) ++ stuck_line names (same.2 i)) ∙ sym b.written),
+        a.ends ∙ (ap status_of same.2 ∙ sym b.ends),
+      )
+
+  module _ (one_scenario : OneScenario) (scenario_or_fault : ScenarioOrFault) (one_fault : OneFault) (numbers_differ : NumbersDiffer) where
+    same_refused : (fault : ScenarioFault) (shown other : List ℕ) (status other_status : ℕ) → IsRefused fault shown status → IsRefused fault other other_status → (shown ≡ other) × (status ≡ other_status)
+    same_refused fault shown other status other_status a b =
+        let number = same_Some (refusal_number a.refusal) (refusal_number b.refusal) (sym a.number ∙ b.number) in
+        let refusal = numbers_differ a.refusal b.refusal number in
+        let place = same_Some a.place b.place (sym a.stands ∙ b.stands) in
+        (a.written ∙ ((λ i. refused_text (refusal i) (place i)) ∙ sym b.written), a.ends ∙ sym b.ends)
+
+    pub one_run : (bytes shown other : List ℕ) (status other_status : ℕ) (read other_read : Result Scenario ScenarioFault) → ReadsAs bytes read → ReadsAs bytes other_read → RanOn read shown status → RanOn other_read other other_status → (shown ≡ other) × (status ≡ other_status)
+    one_run bytes shown other status other_status (Ok s) (Ok t) r q a b =
+        let same = one_scenario bytes s.name t.name s.script t.script s.schedule t.schedule r q in
+        let scenario : s ≡ t = (λ i. record { name = same.0 i; script = same.1 i; schedule = same.2 i }) in
+        same_through t shown other status other_status (subst (λ (x : Scenario). RanThrough x shown status) scenario a) b
+    one_run bytes shown other status other_status (Ok s) (Err fault) r q a b = absurd (scenario_or_fault bytes s.name s.script s.schedule fault r q)
+    one_run bytes shown other status other_status (Err fault) (Ok t) r q a b = absurd (scenario_or_fault bytes t.name t.script t.schedule fault q r)
+    one_run bytes shown other status other_status (Err fault) (Err other_fault) r q a b =
+        same_refused other_fault shown other status other_status (subst (λ (f : ScenarioFault). IsRefused f shown status) (one_fault bytes fault other_fault r q) a) b

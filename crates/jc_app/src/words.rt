@@ -1,0 +1,41 @@
+//! The words that the program is called with, and the code that it exits with.
+
+ghost use Rattle.std.specs.Prelude.{◌≡◌, ◌≢◌, codes, unwrap_or};
+ghost use Rattle.std.specs.Process.{exit_status};
+ghost use Rattle.jc_app.specs.Due.{AppendsUpTo};
+
+use crate::work::{WorkFault, end};
+use jc_rules::io::Sink;
+use std::io::ErrorKind;
+use std::process::ExitCode;
+use std::rt::Env;
+use std::{env, io};
+
+/// The words after the program's name. One that is not UTF-8 is an error.
+pub fn words_of<R: Env + AllocGlobal>(rt: &R) -> io::Result<Vec<String>> {
+    let mut words = Vec::new(rt.alloc());
+    for word in env::args(rt)?.skip(1) {
+        words.push(word)?;
+    }
+    Ok(words)
+}
+
+/// The status where the words could not be read: 5 for want of memory, which is also a line of
+/// `err`, and 2 for every other cause, as for a word that is not UTF-8.
+pub fn refuse_words<E: Sink>(why: ErrorKind, err: &mut E) -> u8
+    ensures memory { why ≡ ErrorKind.OutOfMemory → (result ≡ 5) × AppendsUpTo (E.taken err.old) (E.taken err.new) (codes "no memory\n") }
+    ensures other { why ≢ ErrorKind.OutOfMemory → (result ≡ 2) × (err.new ≡ err.old) }
+{
+    match why {
+        ErrorKind::OutOfMemory => end(WorkFault::Memory, err),
+        _ => 2,
+    }
+}
+
+/// The code to exit with, for a status. Without one the command line asks for what the program
+/// doesn't do, which is 2.
+pub fn exit_of(status: Option<u8>) -> ExitCode
+    ensures { exit_status result ≡ unwrap_or status 2 }
+{
+    ExitCode::from(status.unwrap_or(2))
+}

@@ -1,0 +1,5 @@
+//! Tests of applying operations.
+#![tactic(auto)]
+
+#[cfg(test)]
+mod worked;

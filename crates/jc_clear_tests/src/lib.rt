@@ -1,0 +1,7 @@
+//! Tests of clearing.
+#![tactic(auto)]
+
+#[cfg(test)]
+mod clearing;
+#[cfg(test)]
+mod placed;

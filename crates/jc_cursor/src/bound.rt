@@ -1,0 +1,45 @@
+//! What variables are bound to.
+
+ghost use Rattle.std.specs.Prelude.{◌≡◌, ◌↔◌, IsTrue, IfOk, IfErr, option_copied};
+ghost use Rattle.jc_rules.specs.State.{ACursor};
+ghost use Rattle.jc_rules.specs.Refused.{IsCursor};
+ghost use Rattle.jc_cursor.specs.Bounds.{bound_of, FoundAs};
+
+use jc_rules::{Cursor, Names, Pairs, Text};
+use std::alloc::AllocError;
+
+/// What an expression gives, and what a variable is bound to.
+#[derive(Drop)]
+pub enum Bound {
+    /// A place in the document.
+    Cursor(Cursor),
+    /// The names in a map, by their bytes.
+    Keys(Names),
+    /// The values of a register, by identifier.
+    Values(Pairs),
+}
+
+impl Bound {
+    /// The same once more.
+    pub fn copy(&self) -> Result<Self, AllocError>
+        ensures { IfOk result (λ bound. bound_of bound ≡ bound_of self.now) }
+    {
+        match self {
+            Bound::Cursor(cursor) => Ok(Bound::Cursor(cursor.copy()?)),
+            Bound::Keys(names) => Ok(Bound::Keys(names.copy()?)),
+            Bound::Values(pairs) => Ok(Bound::Values(pairs.copy()?)),
+        }
+    }
+}
+
+/// What the variable is bound to.
+pub fn bound_to<'a>(vars: &'a [(Text, Bound)], name: &Text) -> Option<&'a Bound>
+    ensures { FoundAs name.now vars.now (option_copied result) }
+{
+    for (bound_name, bound) in vars {
+        if name.cmp(bound_name).is_eq() {
+            return Some(bound);
+        }
+    }
+    None
+}

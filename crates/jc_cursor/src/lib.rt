@@ -1,0 +1,10 @@
+//! The rules of expressions, over any store of a document's tree.
+#![tactic(auto)]
+
+mod bound;
+mod evaluating;
+mod select;
+mod walk;
+
+pub use bound::Bound;
+pub use evaluating::{EvalFault, eval};

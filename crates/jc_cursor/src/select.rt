@@ -1,0 +1,228 @@
+//! What each selector gives of the cursor before it. The trace is left at the depth of the last
+//! rule's premises.
+
+ghost use Rattle.std.specs.Prelude.{◌≡◌, ◌≢◌, ◌↔◌, ◌<◌, ◌≤◌, [], ◌∷◌, ◌++◌, List, Some, IsTrue, IfOk, IfErr, IfSome, OnOk, length, filter_map, is_some};
+ghost use Rattle.std.specs.List.{AllByRecursion};
+ghost use Rattle.jc_rules.specs.declared.id.Id.{Id as AnyId};
+ghost use Rattle.jc_rules.specs.declared.key.Key.TheVariants.{Head, Name as ToName};
+ghost use Rattle.jc_rules.specs.declared.key.Tagged.TheVariants.{MapT};
+ghost use Rattle.jc_rules.specs.declared.refusal.Refusal.TheVariants as F;
+ghost use Rattle.jc_rules.specs.Context.{Context as AnyContext, content, presence as presence_set};
+ghost use Rattle.jc_rules.specs.Derivation.{SelectIndex, SelectKeys, SelectValues, ToCursor, ToNames, ToPairs};
+ghost use Rattle.jc_rules.specs.Derives.{Derives};
+ghost use Rattle.jc_rules.specs.Refused.{Refused, because};
+ghost use Rattle.jc_rules.specs.Syntax.{Expr as AnyExpr, GetKey, Index};
+ghost use Rattle.jc_rules.specs.Shape.{IsChained};
+ghost use Rattle.jc_rules.specs.Table.{cursor as cursor_at, name_of, names_in};
+ghost use Rattle.jc_rules.specs.Trace.{Rows, at_depth};
+ghost use Rattle.jc_syntax.specs.Trees.{expr_of};
+ghost use Rattle.jc_tree.specs.Tree.{HasPlace, here};
+ghost use Rattle.jc_rules.specs.Paths.{HasContext};
+ghost use Rattle.jc_cursor.specs.Bounds.{bound_of};
+ghost use Rattle.jc_cursor.specs.Evaluates.{Selects, RefusedAfter, IsSelection, cause_of};
+ghost use Rattle.jc_cursor.specs.Ways.{IsGrown};
+
+use crate::bound::Bound;
+use crate::evaluating::EvalFault;
+use crate::walk::{element_at, go_down, is_present};
+use jc_rules::{Cursor, Key, Names, Pairs, Path, Rule, Tagged, Text, Trace};
+use jc_syntax::Expr;
+use jc_tree::TreeStore;
+use std::alloc::{AllocError, Global};
+
+/// The longest path to which a key can be added.
+const LONGEST: usize = 511;
+
+/// The path with one key more.
+fn path_below(path: Path, key: Tagged) -> Result<Path, EvalFault>
+    requires { HasContext key }
+    ensures ok { IfOk result (λ longer. longer ≡ path ++ key ∷ []) }
+    ensures short { OnOk result (length path ≤ 511) }
+    ensures refused { IfErr result (λ f. IfSome (cause_of f) (λ why. (why ≡ because F.TooDeep) × (511 < length path))) }
+{
+    let mut longer = path;
+    if longer.as_slice().len() > LONGEST {
+        return Err(EvalFault::TooDeep);
+    }
+    longer.push(key)?;
+    Ok(longer)
+}
+
+fn is_head(key: &Key) -> bool
+    ensures { IsTrue result ↔ (key.now ≡ Head) }
+{
+    matches!(key, Key::Head)
+}
+
+/// The name as a key in the map under another key.
+fn name_below(last: &Key, name: &Text) -> Result<Key, EvalFault>
+    ensures ok { IfOk result (λ key. key ≡ ToName name.now) }
+    ensures no_head { OnOk result (last.now ≢ Head) }
+    ensures refused { IfErr result (λ f. IfSome (cause_of f) (λ why. (why ≡ because F.GetOnHead) × (last.now ≡ Head))) }
+{
+    if is_head(last) {
+        return Err(EvalFault::GetOnHead);
+    }
+    Ok(Key::Name(name.copy()?))
+}
+
+/// The cursor of a name in the map that stands at the cursor.
+fn get_in(cursor: Cursor, name: &Text) -> Result<Bound, EvalFault>
+    ensures ok { IfOk result (λ b. (from : AnyExpr) (c : AnyContext) (u : Rows) → Selects (GetKey from name.now) c cursor (bound_of b) u u) }
+    ensures refused { IfErr result (λ f. IfSome (cause_of f) (λ why. (from : AnyExpr) (c : AnyContext) → RefusedAfter (GetKey from name.now) c cursor why)) }
+{
+    let last = name_below(&cursor.last, name)?;
+    let path = path_below(cursor.path, Tagged::MapT(cursor.last))?;
+    Ok(Bound::Cursor(Cursor { path, last }))
+}
+
+/// The key of an element in the list that stands below the path.
+fn element_below<S: TreeStore>(
+    store: &S,
+    path: &[Tagged],
+    index: u32,
+    trace: &mut Trace,
+) -> Result<Key, EvalFault>
+    requires chained { IsChained (S.tree store.now).now }
+    requires fit { AllByRecursion HasContext path.now }
+    ensures ok { IfOk result (λ k. Derives (SelectIndex (S.tree store.now).now (cursor_at path.now Head) index) (ToCursor (cursor_at path.now k)) trace.old (at_depth trace.old.depth trace.new)) }
+    ensures refused { IfErr result (λ f. IfSome (cause_of f) (λ why. Refused (SelectIndex (S.tree store.now).now (cursor_at path.now Head) index) why)) }
+    ensures grown { IsGrown trace.old trace.new }
+{
+    go_down(store, path, Rule::Idx2, trace)?;
+    element_at(store, path, index, trace)
+}
+
+/// The cursor of an element in the list that stands at the cursor.
+fn index_in<S: TreeStore>(
+    store: &S,
+    cursor: Cursor,
+    index: u32,
+    trace: &mut Trace,
+) -> Result<Bound, EvalFault>
+    requires { IsChained (S.tree store.now).now }
+    ensures ok { IfOk result (λ b. (from : AnyExpr) → Selects (Index from index) (S.tree store.now).now cursor (bound_of b) trace.old trace.new) }
+    ensures refused { IfErr result (λ f. IfSome (cause_of f) (λ why. (from : AnyExpr) → RefusedAfter (Index from index) (S.tree store.now).now cursor why)) }
+    ensures grown { IsGrown trace.old trace.new }
+{
+    let path = path_below(cursor.path, Tagged::ListT(cursor.last))?;
+    let last = element_below(store, path.as_slice(), index, trace)?;
+    Ok(Bound::Cursor(Cursor { path, last }))
+}
+
+/// The place below the tagged key.
+fn place_below(alloc: Global, at: &[Tagged], key: Tagged) -> Result<Vec<Tagged>, AllocError>
+    ensures { IfOk result (λ place. place.items ≡ at.now ++ key ∷ []) }
+{
+    let mut place = Vec::new(alloc);
+    for step in at {
+        place.push(step.copy()?)?;
+    }
+    place.push(key)?;
+    Ok(place)
+}
+
+/// Appends the key's name, if it is a name and its presence set has an identifier.
+fn push_name<S: TreeStore>(
+    store: &S,
+    at: &[Tagged],
+    key: &Key,
+    names: &mut Vec<Text>,
+) -> Result<(), AllocError>
+    requires { HasPlace at.now (S.tree store.now) }
+    ensures { OnOk result ((ids : List AnyId) → presence_set key.now (here at.now (S.tree store.now)) ≡ Some ids → names.new.items ≡ names.old.items ++ filter_map name_of ((key.now, ids) ∷ [])) }
+{
+    if let Key::Name(name) = key
+        && is_present(store, at, key)
+    {
+        names.push(name.copy()?)?;
+    }
+    Ok(())
+}
+
+/// The names in the map at the place whose presence sets have an identifier.
+fn names_at<S: TreeStore>(alloc: Global, store: &S, at: &[Tagged]) -> Result<Names, AllocError>
+    requires { HasPlace at.now (S.tree store.now) }
+    ensures { IfOk result (λ names. names ≡ names_in (here at.now (S.tree store.now))) }
+{
+    let mut names = Vec::new(alloc);
+    let mut last = None;
+    while let Some(key) = store.presence_after(at, last) {
+        push_name(store, at, key, &mut names)?;
+        last = Some(key);
+    }
+    Ok(Names::new(names))
+}
+
+/// Whether a map stands under the key.
+fn has_map<S: TreeStore>(store: &S, at: &[Tagged], key: &Key) -> Result<bool, AllocError>
+    requires { HasPlace at.now (S.tree store.now) }
+    ensures { IfOk result (λ b. b ≡ is_some (content (MapT key.now) (here at.now (S.tree store.now)))) }
+{
+    let map = Tagged::MapT(key.copy()?);
+    Ok(store.has(at, &map))
+}
+
+/// The names in the map that stands at the cursor.
+fn names_below<S: TreeStore>(
+    alloc: Global,
+    store: &S,
+    cursor: &Cursor,
+    trace: &mut Trace,
+) -> Result<Names, EvalFault>
+    ensures ok { IfOk result (λ names. Derives (SelectKeys (S.tree store.now).now cursor.now) (ToNames names) trace.old (at_depth trace.old.depth trace.new)) }
+    ensures refused { IfErr result (λ f. IfSome (cause_of f) (λ why. Refused (SelectKeys (S.tree store.now).now cursor.now) why)) }
+    ensures grown { IsGrown trace.old trace.new }
+{
+    let at = cursor.path.as_slice();
+    go_down(store, at, Rule::Keys3, trace)?;
+    if !has_map(store, at, &cursor.last)? {
+        return Err(EvalFault::NoMap);
+    }
+    trace.push(Rule::Keys2)?;
+    let place = place_below(alloc, at, Tagged::MapT(cursor.last.copy()?))?;
+    Ok(names_at(alloc, store, place.as_slice())?)
+}
+
+/// The values of the register that stands at the cursor.
+fn values_below<S: TreeStore>(
+    alloc: Global,
+    store: &S,
+    cursor: &Cursor,
+    trace: &mut Trace,
+) -> Result<Pairs, EvalFault>
+    ensures ok { IfOk result (λ pairs. Derives (SelectValues (S.tree store.now).now cursor.now) (ToPairs pairs) trace.old (at_depth trace.old.depth trace.new)) }
+    ensures refused { IfErr result (λ f. IfSome (cause_of f) (λ why. Refused (SelectValues (S.tree store.now).now cursor.now) why)) }
+    ensures grown { IsGrown trace.old trace.new }
+{
+    let at = cursor.path.as_slice();
+    go_down(store, at, Rule::Val3, trace)?;
+    let Some(pairs) = store.register(at, &cursor.last) else {
+        return Err(EvalFault::NoRegister);
+    };
+    trace.push(Rule::Val2)?;
+    Ok(Pairs::from_slice(alloc, pairs)?)
+}
+
+/// What the expression's last selector gives of the cursor before it.
+pub fn select<S: TreeStore>(
+    alloc: Global,
+    store: &S,
+    cursor: Cursor,
+    expr: &Expr,
+    trace: &mut Trace,
+) -> Result<Bound, EvalFault>
+    requires chained { IsChained (S.tree store.now).now }
+    requires selection { IsSelection (expr_of expr.now) }
+    ensures ok { IfOk result (λ b. Selects (expr_of expr.now) (S.tree store.now).now cursor (bound_of b) trace.old trace.new) }
+    ensures refused { IfErr result (λ f. IfSome (cause_of f) (λ why. RefusedAfter (expr_of expr.now) (S.tree store.now).now cursor why)) }
+    ensures grown { IsGrown trace.old trace.new }
+{
+    match expr {
+        Expr::Get(_, name) => get_in(cursor, name),
+        Expr::Idx(_, index) => index_in(store, cursor, *index, trace),
+        Expr::Keys(_) => Ok(Bound::Keys(names_below(alloc, store, &cursor, trace)?)),
+        Expr::Values(_) => Ok(Bound::Values(values_below(alloc, store, &cursor, trace)?)),
+        Expr::Doc | Expr::Var(_) => unreachable!(),
+    }
+}

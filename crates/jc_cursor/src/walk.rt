@@ -1,0 +1,101 @@
+//! Walks in a document: down a path, and along a list. The trace is left at the depth of the last
+//! rule's premises.
+
+ghost use Rattle.std.specs.Prelude.{◌≡◌, ◌≢◌, None, Some, [], IsTrue, IsFalse, IfOk, IfErr, IfSome, OnOk};
+ghost use Rattle.std.specs.List.{AllByRecursion};
+ghost use Rattle.jc_rules.specs.declared.key.Key.TheVariants.{Head};
+ghost use Rattle.jc_rules.specs.declared.id.Id.{Id as AnyId};
+ghost use Rattle.jc_rules.specs.declared.key.Next.TheVariants.{Elem as To};
+ghost use Rattle.jc_rules.specs.Context.{presence as presence_set, next as next_of};
+ghost use Rattle.jc_rules.specs.Derivation.{SelectIndex, ToCursor};
+ghost use Rattle.jc_rules.specs.Derives.{Derives};
+ghost use Rattle.jc_rules.specs.Refused.{Refused};
+ghost use Rattle.jc_rules.specs.Shape.{IsChained};
+ghost use Rattle.jc_rules.specs.Table.{cursor, IsEmptyIds};
+ghost use Rattle.jc_rules.specs.Trace.{at_depth};
+ghost use Rattle.jc_tree.specs.Tree.{HasPlace, here};
+ghost use Rattle.jc_rules.specs.Paths.{HasContext};
+ghost use Rattle.jc_cursor.specs.Ways.{IsGrown, LeadsDown, RefusesDown, RefusedOnWay};
+ghost use Rattle.jc_cursor.specs.Evaluates.{cause_of};
+
+use crate::evaluating::EvalFault;
+use jc_rules::{Id, Key, Next, Rule, Tagged, Trace};
+use jc_tree::TreeStore;
+
+/// Goes down the path, by the rule for each key.
+pub fn go_down<S: TreeStore>(
+    store: &S,
+    path: &[Tagged],
+    rule: Rule,
+    trace: &mut Trace,
+) -> Result<(), EvalFault>
+    requires { AllByRecursion HasContext path.now }
+    ensures place { OnOk result (HasPlace path.now (S.tree store.now)) }
+    ensures leads { OnOk result (LeadsDown rule path.now (S.tree store.now).now trace.old trace.new) }
+    ensures refuses { OnOk result (RefusesDown path.now (S.tree store.now).now) }
+    ensures refused { IfErr result (λ f. IfSome (cause_of f) (λ why. RefusedOnWay path.now (S.tree store.now).now why)) }
+    ensures grown { IsGrown trace.old trace.new }
+{
+    for (depth, key) in path.iter().enumerate() {
+        if !store.has(&path[..depth], key) {
+            return Err(EvalFault::NoSuchNode(key.copy()?));
+        }
+        trace.open(rule)?;
+    }
+    Ok(())
+}
+
+/// Whether the key's presence set has an identifier.
+pub fn is_present<S: TreeStore>(store: &S, at: &[Tagged], key: &Key) -> bool
+    requires { HasPlace at.now (S.tree store.now) }
+    ensures present { IsTrue result → IsEmptyIds (presence_set key.now (here at.now (S.tree store.now))) → ⊥ }
+    ensures absent { IsFalse result → IsEmptyIds (presence_set key.now (here at.now (S.tree store.now))) }
+{
+    match store.presence(at, key) {
+        Some(ids) => !ids.is_empty(),
+        None => false,
+    }
+}
+
+/// The element that follows a key of a list.
+fn element_after<S: TreeStore>(store: &S, at: &[Tagged], key: &Key) -> Option<Id>
+    requires { HasPlace at.now (S.tree store.now) }
+    ensures some { (i : AnyId) → result ≡ Some i → next_of key.now (here at.now (S.tree store.now)) ≡ Some (To i) }
+    ensures none { result ≡ None → (i : AnyId) → next_of key.now (here at.now (S.tree store.now)) ≢ Some (To i) }
+{
+    match store.next(at, key) {
+        Some(Next::Elem(id)) => Some(id),
+        _ => None,
+    }
+}
+
+/// The key of the list at the place that stands as many present elements behind its head.
+pub fn element_at<S: TreeStore>(
+    store: &S,
+    at: &[Tagged],
+    index: u32,
+    trace: &mut Trace,
+) -> Result<Key, EvalFault>
+    requires there { HasPlace at.now (S.tree store.now) }
+    requires chained { IsChained (S.tree store.now).now }
+    ensures ok { IfOk result (λ k. Derives (SelectIndex (here at.now (S.tree store.now)) (cursor [] Head) index) (ToCursor (cursor [] k)) trace.old (at_depth trace.old.depth trace.new)) }
+    ensures refused { IfErr result (λ f. IfSome (cause_of f) (λ why. Refused (SelectIndex (here at.now (S.tree store.now)) (cursor [] Head) index) why)) }
+    ensures grown { IsGrown trace.old trace.new }
+{
+    let mut place = Key::Head;
+    let mut left = index;
+    while left > 0 {
+        let Some(id) = element_after(store, at, &place) else {
+            return Err(EvalFault::PastEnd);
+        };
+        place = Key::Elem(id);
+        if is_present(store, at, &place) {
+            trace.open(Rule::Idx3)?;
+            left -= 1;
+        } else {
+            trace.open(Rule::Idx4)?;
+        }
+    }
+    trace.push(Rule::Idx5)?;
+    Ok(place)
+}

@@ -1,0 +1,14 @@
+//! Tests of expressions on the plain store: worked by hand, and with each request for memory refused
+//! the same call gives the same answer afterwards.
+#![tactic(auto)]
+
+#[cfg(test)]
+mod documents;
+#[cfg(test)]
+mod expecting;
+#[cfg(test)]
+mod given;
+#[cfg(test)]
+mod long;
+#[cfg(test)]
+mod refused;

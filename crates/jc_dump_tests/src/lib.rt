@@ -1,0 +1,5 @@
+//! Tests of dump lines.
+#![tactic(auto)]
+
+#[cfg(test)]
+mod tests;

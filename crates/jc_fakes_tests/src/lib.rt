@@ -1,0 +1,5 @@
+//! Tests of `jc_fakes`: each source and sink by itself.
+#![tactic(auto)]
+
+#[cfg(test)]
+mod fakes;

@@ -1,0 +1,5 @@
+//! Tests of what fits.
+#![tactic(auto)]
+
+#[cfg(test)]
+mod fitting;

@@ -1,0 +1,230 @@
+// A plain counter under a lock. It keeps no list, so that its changes are seen by these tests alone.
+ghost use Rattle.std.specs.Prelude.{All};
+ghost use Rattle.jc_lock.specs.Shows.{IsPassOf, IsSameLock};
+
+use super::{hand_in, holds, last_pass};
+use jc_lock::{CloseRefused, HistoryLock, Kept, MOST_TAKES, OpenFault, OpenRefused, Pass, Spent};
+use std::alloc::Global;
+use std::process::Abort;
+use std::sync::Wait;
+use std::thread::join;
+
+#[derive(Drop)]
+struct Counter {
+    count: u64,
+}
+
+impl Kept for Counter {
+    ghost use Rattle.std.specs.Prelude.{[]};
+
+    type Entry = u64;
+
+    type Origin = ();
+
+    ghost origin = { λ _. tt };
+
+    ghost list = { λ _. [] };
+
+    ghost maker = { λ e. e };
+
+    fn entries(&self) -> u64 {
+        0
+    }
+}
+
+fn opened(
+    rt: &impl Abort,
+    alloc: Global,
+    passes: u16,
+    takes: u64,
+) -> (HistoryLock<Counter>, Vec<Pass<Counter>>)
+    ensures { All (IsPassOf result.0) result.1.items }
+{
+    HistoryLock::open(alloc, Counter { count: 0 }, passes, takes)
+        .ok()
+        .expect(rt, "a lock")
+}
+
+// With the passes as `open` gave them a lock closes. It is proved that it does.
+fn opened_and_closed(alloc: Global, passes: u16) -> Option<Counter> {
+    let Ok((lock, passes)) = HistoryLock::open(alloc, Counter { count: 0 }, passes, 1) else {
+        return None;
+    };
+    match lock.close(passes) {
+        Ok(counter) => Some(counter),
+        Err(_) => unreachable!(),
+    }
+}
+
+// Takes turns until the pass is spent, and adds 1 in each. Answers how often, with the pass.
+fn add_all<R: Wait>(
+    rt: &R,
+    lock: &HistoryLock<Counter>,
+    mut pass: Pass<Counter>,
+) -> (u64, Pass<Counter>)
+    requires { IsPassOf lock.now pass }
+    ensures { IsPassOf lock.now result.1 }
+{
+    for made in 0..1000u64 {
+        match lock.take(rt, pass) {
+            Ok(mut turn) => {
+                let counter = turn.value_mut();
+                counter.count = counter.count.wrapping_add(1);
+                pass = lock.give(turn);
+            }
+            Err(Spent { pass }) => return (made, pass),
+        }
+    }
+    (1000, pass)
+}
+
+// Expects that a lock is refused, and gives the cause. The value comes back.
+fn open_refused(rt: &impl Abort, alloc: Global, count: u64, passes: u16, takes: u64) -> OpenFault {
+    let Err(OpenRefused { value, why }) = HistoryLock::open(alloc, Counter { count }, passes, takes)
+    else {
+        panic!(rt; "a lock")
+    };
+    holds(rt, value.count == count);
+    why
+}
+
+fn opens_with(rt: &impl Abort, alloc: Global, passes: u16, takes: u64) {
+    let (_, given) = opened(rt, alloc, passes, takes);
+    holds(rt, given.len() == usize::from(passes));
+}
+
+#[test]
+fn opens_within_the_limits(rt: HostRuntime) {
+    let alloc = rt.alloc();
+    let none = open_refused(&rt, alloc, 7, 0, MOST_TAKES + 1);
+    holds(&rt, matches!(none, OpenFault::NoPasses));
+    let many = open_refused(&rt, alloc, 8, 1, MOST_TAKES + 1);
+    holds(&rt, matches!(many, OpenFault::TooManyTakes));
+    opens_with(&rt, alloc, 1, 1_099_511_627_776);
+    opens_with(&rt, alloc, 65535, 0);
+}
+
+// Expects that the pass is spent.
+fn is_spent<R: Wait + Abort>(rt: &R, lock: &HistoryLock<Counter>, pass: Pass<Counter>, number: u16)
+    requires { IsPassOf lock.now pass }
+{
+    match lock.take(rt, pass) {
+        Ok(turn) => {
+            let _pass = lock.give(turn);
+            panic!(rt; "a take more")
+        }
+        Err(Spent { pass }) => holds(rt, pass.number() == number),
+    }
+}
+
+#[test]
+fn fourth_take_of_three_is_spent(rt: HostRuntime) {
+    let (lock, mut passes) = opened(&rt, rt.alloc(), 1, 3);
+    let pass = last_pass(&rt, &lock, &mut passes);
+    let (made, pass) = add_all(&rt, &lock, pass);
+    holds(&rt, made == 3 && pass.number() == 0);
+    is_spent(&rt, &lock, pass, 0);
+}
+
+// Expects that the lock closes with these passes, and what was counted.
+fn closes(rt: &impl Abort, lock: HistoryLock<Counter>, passes: Vec<Pass<Counter>>, count: u64)
+    requires { All (IsPassOf lock) passes.items }
+{
+    let counter = lock.close(passes).ok().expect(rt, "all passes");
+    holds(rt, counter.count == count);
+}
+
+#[test]
+fn two_threads_take_in_turn(rt: HostRuntime) {
+    let (lock, mut passes) = opened(&rt, rt.alloc(), 2, 100);
+    let second = last_pass(&rt, &lock, &mut passes);
+    let first = last_pass(&rt, &lock, &mut passes);
+    let (a, b) = join(
+        &rt,
+        || add_all(&rt, &lock, first),
+        || add_all(&rt, &lock, second),
+    );
+    holds(&rt, a.0 == 100 && b.0 == 100);
+    hand_in(&rt, &lock, &mut passes, b.1);
+    hand_in(&rt, &lock, &mut passes, a.1);
+    closes(&rt, lock, passes, 200);
+}
+
+// Each allocation is refused in turn by `rt try --test --fail-alloc N`.
+#[test]
+fn opens_or_gives_the_value_back(rt: HostRuntime) {
+    match HistoryLock::open(rt.alloc(), Counter { count: 7 }, 3, 1) {
+        Ok((_, passes)) => holds(&rt, passes.len() == 3),
+        Err(OpenRefused { value, why }) => {
+            holds(&rt, matches!(why, OpenFault::Memory) && value.count == 7);
+        }
+    }
+}
+
+#[test]
+fn closes_as_opened(rt: HostRuntime) {
+    holds(&rt, opened_and_closed(rt.alloc(), 300).is_some());
+}
+
+// Closes without all passes. Lock and passes come back.
+fn refused(
+    rt: &impl Abort,
+    lock: HistoryLock<Counter>,
+    passes: Vec<Pass<Counter>>,
+) -> (HistoryLock<Counter>, Vec<Pass<Counter>>)
+    requires { All (IsPassOf lock) passes.items }
+    ensures { IsSameLock lock result.0 × All (IsPassOf result.0) result.1.items }
+{
+    let Err(CloseRefused { lock, passes }) = lock.close(passes) else {
+        panic!(rt; "closed without a pass")
+    };
+    (lock, passes)
+}
+
+// Closes with two passes alone. Lock and passes come back.
+fn refused_with(
+    rt: &impl Abort,
+    lock: HistoryLock<Counter>,
+    mut passes: Vec<Pass<Counter>>,
+    one: Pass<Counter>,
+    other: Pass<Counter>,
+) -> (
+    HistoryLock<Counter>,
+    Vec<Pass<Counter>>,
+    Pass<Counter>,
+    Pass<Counter>,
+)
+    requires list { All (IsPassOf lock) passes.items }
+    requires passes { IsPassOf lock one × IsPassOf lock other }
+    ensures same { IsSameLock lock result.0 }
+    ensures list { All (IsPassOf result.0) result.1.items }
+    ensures passes { IsPassOf result.0 result.2 × IsPassOf result.0 result.3 }
+{
+    hand_in(rt, &lock, &mut passes, one);
+    hand_in(rt, &lock, &mut passes, other);
+    let (lock, mut passes) = refused(rt, lock, passes);
+    let other = last_pass(rt, &lock, &mut passes);
+    let one = last_pass(rt, &lock, &mut passes);
+    holds(rt, passes.is_empty());
+    (lock, passes, one, other)
+}
+
+#[test]
+fn closes_with_each_pass(rt: HostRuntime) {
+    let (lock, mut passes) = opened(&rt, rt.alloc(), 3, 1);
+    let third = last_pass(&rt, &lock, &mut passes);
+    let second = last_pass(&rt, &lock, &mut passes);
+    let first = last_pass(&rt, &lock, &mut passes);
+    holds(
+        &rt,
+        first.number() == 0 && second.number() == 1 && third.number() == 2,
+    );
+    let (lock, passes) = refused(&rt, lock, passes);
+    let (lock, passes, second, third) = refused_with(&rt, lock, passes, second, third);
+    let (lock, passes, first, third) = refused_with(&rt, lock, passes, first, third);
+    let (lock, mut passes, first, second) = refused_with(&rt, lock, passes, first, second);
+    hand_in(&rt, &lock, &mut passes, third);
+    hand_in(&rt, &lock, &mut passes, second);
+    hand_in(&rt, &lock, &mut passes, first);
+    closes(&rt, lock, passes, 0);
+}

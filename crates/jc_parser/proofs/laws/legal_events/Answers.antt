@@ -1,0 +1,5 @@
+use Rattle.jc_parser.proofs.LegalTrees.{events_legal}
+use Rattle.jc_parser.proofs.laws.legal_events.Goals as goal
+
+pub returns : goal.returns
+returns c = events_legal c.legal_strings.ensures

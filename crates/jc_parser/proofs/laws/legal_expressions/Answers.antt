@@ -1,0 +1,5 @@
+use Rattle.jc_parser.proofs.LegalTrees.{expressions_legal}
+use Rattle.jc_parser.proofs.laws.legal_expressions.Goals as goal
+
+pub returns : goal.returns
+returns c = expressions_legal c.legal_strings.ensures

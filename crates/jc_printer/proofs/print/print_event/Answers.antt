@@ -1,0 +1,6 @@
+use Rattle.std.proofs.Common.{rules}
+use Rattle.jc_printer.proofs.print.print_event.Goals as goal
+
+-- the author is that of the identifier
+pub returns-in-Apply : goal.returns-in-Apply
+returns-in-Apply c = search rules

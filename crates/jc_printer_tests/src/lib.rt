@@ -1,0 +1,5 @@
+//! Tests of canonical texts.
+#![tactic(auto)]
+
+#[cfg(test)]
+mod tests;

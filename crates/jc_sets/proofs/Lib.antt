@@ -1,0 +1,11 @@
+pub mod Knows
+pub mod Members
+pub mod Swapped
+pub mod Alike
+pub mod States
+pub mod Applying
+pub mod Uniting
+pub mod Making
+pub mod Shrinking
+pub mod Own
+pub mod Places

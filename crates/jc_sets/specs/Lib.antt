@@ -1,0 +1,5 @@
+pub mod Knows
+pub mod Members
+pub mod States
+pub mod Laws
+pub mod StateLaws
