@@ -9,7 +9,7 @@ ghost use Rattle.jc_rules.specs.Refused.{Refused, because};
 ghost use Rattle.jc_rules.specs.Shape.{IsChained};
 ghost use Rattle.jc_rules.specs.Table.{moved};
 ghost use Rattle.jc_tree.specs.Tree.{HasPlace, here};
-ghost use Rattle.jc_tree.specs.Kept.{Kept};
+ghost use Rattle.jc_tree.specs.CanGoBack.{CanGoBack};
 ghost use Rattle.jc_sets.specs.Members.{with_deps};
 ghost use Rattle.jc_apply.specs.Applies.{AppliesFor};
 ghost use Rattle.jc_apply.specs.Fits.{Fits, HasNoAnswer, IsUnlinked};
@@ -47,7 +47,7 @@ fn delete<S: TreeStore>(
     ensures ok { OnOk result (Leads (λ c. Operate c (moved op.now [] op.now.cursor.last op.now.mutation))
         at.now (S.tree store.old) (S.tree store.new) trace.old trace.new) }
     ensures links { OnOk result (LinksNone at.now (S.tree store.old) (S.tree store.new)) }
-    ensures kept { Kept (S.tree store.old) (S.tree store.new) trace.old trace.new }
+    ensures kept { CanGoBack (S.tree store.old) (S.tree store.new) trace.old trace.new }
 {
     let depth = trace.depth();
     trace.open(Rule::Delete)?;
@@ -71,7 +71,7 @@ fn operate_here<S: TreeStore>(
     ensures ok { OnOk result (Leads (λ c. Operate c (moved op.now [] op.now.cursor.last op.now.mutation))
         at.now (S.tree store.old) (S.tree store.new) trace.old trace.new) }
     ensures links { OnOk result (LinksOnly op.now.id (S.tree store.old) (S.tree store.new)) }
-    ensures kept { Kept (S.tree store.old) (S.tree store.new) trace.old trace.new }
+    ensures kept { CanGoBack (S.tree store.old) (S.tree store.new) trace.old trace.new }
 {
     match &op.mutation {
         Mutation::Assign(value) => assign(alloc, store, at, op, &op.cursor.last, value, trace),
@@ -94,7 +94,7 @@ fn add_op<S: TreeStore>(
     ensures ok { OnOk result (Leads (λ c. AddId c key.now op.now.id op.now.mutation)
         at.now (S.tree store.old) (S.tree store.new) trace.old trace.new) }
     ensures links { OnOk result (LinksNone at.now (S.tree store.old) (S.tree store.new)) }
-    ensures kept { Kept (S.tree store.old) (S.tree store.new) trace.old trace.new }
+    ensures kept { CanGoBack (S.tree store.old) (S.tree store.new) trace.old trace.new }
 {
     match &op.mutation {
         Mutation::Delete => trace.push(Rule::AddId2),
@@ -121,7 +121,7 @@ fn operate<S: TreeStore>(
         (λ c. Operate c (moved op.now (drop depth op.now.cursor.path) op.now.cursor.last op.now.mutation))
         (take depth op.now.cursor.path) (S.tree store.old) (S.tree store.new) trace.old trace.new) }
     ensures links { OnOk result (LinksOnly op.now.id (S.tree store.old) (S.tree store.new)) }
-    ensures kept { Kept (S.tree store.old) (S.tree store.new) trace.old trace.new }
+    ensures kept { CanGoBack (S.tree store.old) (S.tree store.new) trace.old trace.new }
 {
     let path = op.cursor.path.as_slice();
     if depth == path.len() {
@@ -168,7 +168,7 @@ pub fn apply_op<S: TreeStore>(
         → Refused (Operate (S.tree store.old).now (with_deps deps op.now)) (because PlaceNotInList) }
     ensures err_store { OnErr result (S.tree store.new ≡ S.tree store.old) }
     ensures err_trace { OnErr result (trace.new ≡ trace.old) }
-    ensures kept { Kept (S.tree store.old) (S.tree store.new) trace.old trace.new }
+    ensures kept { CanGoBack (S.tree store.old) (S.tree store.new) trace.old trace.new }
     ensures chained { IsChained (S.tree store.new).now }
     ensures unlinked { (i : AnyId) → i ≢ op.now.id
         → IsUnlinked i (S.tree store.old).now → IsUnlinked i (S.tree store.new).now }

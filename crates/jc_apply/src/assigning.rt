@@ -10,7 +10,7 @@ ghost use Rattle.jc_rules.specs.Shape.{IsChained};
 ghost use Rattle.jc_rules.specs.Table.{moved};
 ghost use Rattle.jc_rules.specs.Paths.{HasContext};
 ghost use Rattle.jc_tree.specs.Tree.{HasPlace, here};
-ghost use Rattle.jc_tree.specs.Kept.{Kept};
+ghost use Rattle.jc_tree.specs.CanGoBack.{CanGoBack};
 ghost use Rattle.jc_apply.specs.Fits.{empty_of};
 ghost use Rattle.jc_apply.specs.Leads.{Leads, LinksNone, AssignsEmpty};
 
@@ -34,7 +34,7 @@ pub fn add_id<S: TreeStore>(
         → Leads (λ c. AddId c k id m)
         at.now (S.tree store.old) (S.tree store.new) trace.old trace.new) }
     ensures links { OnOk result (LinksNone at.now (S.tree store.old) (S.tree store.new)) }
-    ensures kept { Kept (S.tree store.old) (S.tree store.new) trace.old trace.new }
+    ensures kept { CanGoBack (S.tree store.old) (S.tree store.new) trace.old trace.new }
 {
     let depth = trace.depth();
     trace.open(Rule::AddId1)?;
@@ -61,7 +61,7 @@ fn assign_primitive<S: TreeStore>(
     ensures ok { OnOk result (Leads (λ c. Operate c (moved op.now [] last.now (Assign value.now)))
         at.now (S.tree store.old) (S.tree store.new) trace.old trace.new) }
     ensures links { OnOk result (LinksNone at.now (S.tree store.old) (S.tree store.new)) }
-    ensures kept { Kept (S.tree store.old) (S.tree store.new) trace.old trace.new }
+    ensures kept { CanGoBack (S.tree store.old) (S.tree store.new) trace.old trace.new }
 {
     let depth = trace.depth();
     trace.open(Rule::Assign)?;
@@ -109,7 +109,7 @@ fn assign_empty<S: TreeStore>(
     ensures ok { OnOk result (Leads (λ c. Operate c (moved op.now [] (key_of key.now) (Assign (empty_of key.now))))
         at.now (S.tree store.old) (S.tree store.new) trace.old trace.new) }
     ensures links { OnOk result (LinksNone at.now (S.tree store.old) (S.tree store.new)) }
-    ensures kept { Kept (S.tree store.old) (S.tree store.new) trace.old trace.new }
+    ensures kept { CanGoBack (S.tree store.old) (S.tree store.new) trace.old trace.new }
 {
     let depth = trace.depth();
     trace.open(empty_rule(key))?;
@@ -135,7 +135,7 @@ pub fn assign<S: TreeStore>(
     ensures ok { OnOk result (Leads (λ c. Operate c (moved op.now [] last.now (Assign value.now)))
         at.now (S.tree store.old) (S.tree store.new) trace.old trace.new) }
     ensures links { OnOk result (LinksNone at.now (S.tree store.old) (S.tree store.new)) }
-    ensures kept { Kept (S.tree store.old) (S.tree store.new) trace.old trace.new }
+    ensures kept { CanGoBack (S.tree store.old) (S.tree store.new) trace.old trace.new }
 {
     match value {
         Value::EmptyMap => assign_empty(alloc, store, at, op, &Tagged::MapT(last.copy()?), trace),

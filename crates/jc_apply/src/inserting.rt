@@ -13,7 +13,7 @@ ghost use Rattle.jc_rules.specs.Shape.{IsChained};
 ghost use Rattle.jc_rules.specs.Trace.{IsLonger};
 ghost use Rattle.jc_rules.specs.Table.{moved};
 ghost use Rattle.jc_tree.specs.Tree.{HasPlace, here};
-ghost use Rattle.jc_tree.specs.Kept.{Kept};
+ghost use Rattle.jc_tree.specs.CanGoBack.{CanGoBack};
 ghost use Rattle.jc_apply.specs.Fits.{IsUnlinked};
 ghost use Rattle.jc_apply.specs.Leads.{Leads, LinksOnly, Passes};
 
@@ -89,7 +89,7 @@ pub fn insert<S: TreeStore>(
     ensures ok { OnOk result (Leads (λ c. Operate c (moved op.now [] op.now.cursor.last op.now.mutation))
         at.now (S.tree store.old) (S.tree store.new) trace.old trace.new) }
     ensures links { OnOk result (LinksOnly op.now.id (S.tree store.old) (S.tree store.new)) }
-    ensures kept { Kept (S.tree store.old) (S.tree store.new) trace.old trace.new }
+    ensures kept { CanGoBack (S.tree store.old) (S.tree store.new) trace.old trace.new }
 {
     let depth = trace.depth();
     let (place, next) = pass(store, at, op, trace)?;

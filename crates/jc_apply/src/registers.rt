@@ -13,7 +13,7 @@ ghost use Rattle.jc_rules.specs.Trace.{IsLonger};
 ghost use Rattle.jc_rules.specs.Table.{Follows};
 ghost use Rattle.jc_rules.specs.Paths.{HasContext};
 ghost use Rattle.jc_tree.specs.Tree.{HasPlace, here};
-ghost use Rattle.jc_tree.specs.Kept.{Kept};
+ghost use Rattle.jc_tree.specs.CanGoBack.{CanGoBack};
 ghost use Rattle.jc_apply.specs.Leads.{Enters, LinksNone};
 
 use jc_rules::{Id, Key, Rule, Tagged, Trace, Value, compare_ids};
@@ -107,7 +107,7 @@ pub fn enter<S: TreeStore>(
     requires context { HasContext key.now }
     ensures ok { OnOk result (Enters key.now at.now (S.tree store.old) (S.tree store.new) trace.old trace.new) }
     ensures links { OnOk result (LinksNone at.now (S.tree store.old) (S.tree store.new)) }
-    ensures kept { Kept (S.tree store.old) (S.tree store.new) trace.old trace.new }
+    ensures kept { CanGoBack (S.tree store.old) (S.tree store.new) trace.old trace.new }
 {
     if store.has(at, key) {
         trace.push(Rule::ChildGet)?;

@@ -7,7 +7,7 @@ pub mod Chained
 pub mod Changed
 pub mod Linked
 pub mod Places
-pub mod Kept
+pub mod GoingBack
 pub mod Pairs
 pub mod Undoing
 pub mod Ways

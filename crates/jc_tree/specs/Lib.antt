@@ -6,4 +6,4 @@ pub mod Change
 pub mod Undo
 pub mod Single
 pub mod Laws
-pub mod Kept
+pub mod CanGoBack

@@ -6,7 +6,7 @@ use Rattle.jc_rules.specs.Derivation.{Operate}
 use Rattle.jc_rules.specs.Table.{moved}
 use Rattle.jc_rules.specs.Trace.{at_depth}
 use Rattle.jc_tree.specs.Tree.{HasPlace, here}
-use Rattle.jc_tree.proofs.Kept.{then, rule_opened, depth_changed}
+use Rattle.jc_tree.proofs.GoingBack.{then, rule_opened, depth_changed}
 use Rattle.jc_apply.specs.Fits.{Fits}
 use Rattle.jc_apply.specs.Leads.{Leads}
 use Rattle.jc_apply.proofs.Descending.{way, child_place, child_here, above_place, descended}

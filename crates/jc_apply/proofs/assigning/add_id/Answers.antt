@@ -1,7 +1,7 @@
 use Rattle.std.proofs.Common.{◌∙◌, ap, refl}
 use Rattle.jc_rules.specs.declared.rule.Rule.TheVariants as R
 use Rattle.jc_rules.specs.Trace.{at_depth}
-use Rattle.jc_tree.proofs.Kept.{then, rule_opened, rows_added, tree_changed, depth_changed}
+use Rattle.jc_tree.proofs.GoingBack.{then, rule_opened, rows_added, tree_changed, depth_changed}
 use Rattle.jc_apply.proofs.Rules.{added}
 use Rattle.jc_apply.proofs.Links.{none_presence}
 use Rattle.jc_apply.proofs.assigning.add_id.Goals as goal

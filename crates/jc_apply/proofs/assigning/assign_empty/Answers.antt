@@ -1,7 +1,7 @@
 use Rattle.std.proofs.Common.{ℕ, refl, sym, ◌∙◌, ap, arith}
 use Rattle.jc_rules.specs.declared.operation.Mutation.TheVariants.{Assign}
 use Rattle.jc_rules.specs.Trace.{Rows, at_depth}
-use Rattle.jc_tree.proofs.Kept.{then, rule_opened, depth_changed}
+use Rattle.jc_tree.proofs.GoingBack.{then, rule_opened, depth_changed}
 use Rattle.jc_apply.specs.Fits.{empty_of}
 use Rattle.jc_apply.proofs.Rules.{emptied, adds_assigned, after_clear, after_lead}
 use Rattle.jc_apply.proofs.Links.{none_cleared, none_then}

@@ -6,7 +6,7 @@ use Rattle.jc_rules.specs.declared.value.Value.{Value}
 use Rattle.jc_rules.specs.Order.{id_cmp}
 use Rattle.jc_rules.specs.Entries.{put}
 use Rattle.jc_rules.specs.Trace.{Rows, at_depth}
-use Rattle.jc_tree.proofs.Kept.{then, rule_opened, rows_added, tree_changed, depth_changed}
+use Rattle.jc_tree.proofs.GoingBack.{then, rule_opened, rows_added, tree_changed, depth_changed}
 use Rattle.jc_apply.proofs.Rules.{assigned, adds_assigned, after_clear, after_lead}
 use Rattle.jc_apply.proofs.Links.{none_cleared, none_register, none_then}
 use Rattle.jc_apply.proofs.assigning.assign_primitive.Goals as goal

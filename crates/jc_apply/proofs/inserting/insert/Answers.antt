@@ -2,7 +2,7 @@ use Rattle.std.proofs.Common.{ℕ, refl, ◌∙◌, ap, arith}
 use Rattle.jc_rules.specs.declared.rule.Rule.TheVariants as R
 use Rattle.jc_rules.specs.Trace.{Rows, at_depth}
 use Rattle.jc_tree.proofs.Changed.{still_place}
-use Rattle.jc_tree.proofs.Kept.{then, nothing, rule_opened, rows_added, tree_changed, depth_changed}
+use Rattle.jc_tree.proofs.GoingBack.{then, nothing, rule_opened, rows_added, tree_changed, depth_changed}
 use Rattle.jc_apply.proofs.Rules.{after_lead}
 use Rattle.jc_apply.proofs.Passing.{inserted, linked_only}
 use Rattle.jc_apply.proofs.inserting.insert.Goals as goal

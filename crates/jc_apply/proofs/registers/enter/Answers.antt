@@ -1,7 +1,7 @@
 use Rattle.std.proofs.Common.{◌≡◌, None, sym, refl}
 use Rattle.jc_rules.specs.Context.{content}
 use Rattle.jc_tree.specs.Tree.{here}
-use Rattle.jc_tree.proofs.Kept.{then, rule_added, tree_changed}
+use Rattle.jc_tree.proofs.GoingBack.{then, rule_added, tree_changed}
 use Rattle.jc_tree.proofs.Places.{none_found}
 use Rattle.jc_apply.proofs.Rules.{entered_there, entered_new}
 use Rattle.jc_apply.proofs.Links.{links_none, none_child}

@@ -8,7 +8,7 @@ use Rattle.jc_rules.specs.Table.{after}
 use Rattle.jc_rules.specs.Trace.{Rows, at_depth}
 use Rattle.jc_tree.specs.Tree.{here, least_after}
 use Rattle.jc_clear.proofs.Bare.{below-list}
-use Rattle.jc_tree.proofs.Kept.{nothing, then, rule_opened, rule_added, rows_added, tree_changed, depth_changed}
+use Rattle.jc_tree.proofs.GoingBack.{nothing, then, rule_opened, rule_added, rows_added, tree_changed, depth_changed}
 use Rattle.jc_clear.proofs.Lists.{first_along, after_along, along_finds, along_on, last_along}
 use Rattle.jc_clear.proofs.Maps.{first_through, after_through, through_on, last_through}
 use Rattle.jc_tree.proofs.Places.{none_found}

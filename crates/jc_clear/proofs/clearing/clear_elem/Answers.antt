@@ -3,7 +3,7 @@ use Rattle.jc_rules.specs.declared.key.Tagged.{Tagged}
 use Rattle.jc_rules.specs.Derivation.{ClearElem}
 use Rattle.jc_sets.proofs.Alike.{clear_elem_stands}
 use Rattle.jc_tree.specs.Tree.{HasPlace}
-use Rattle.jc_tree.proofs.Kept.{gone_back}
+use Rattle.jc_tree.proofs.GoingBack.{gone_back}
 use Rattle.jc_clear.specs.Clears.{Clears}
 use Rattle.jc_clear.proofs.Places.{chained_here, still_chained}
 use Rattle.jc_clear.proofs.Standing.{cleared_for}

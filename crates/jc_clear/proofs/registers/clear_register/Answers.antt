@@ -3,7 +3,7 @@ use Rattle.jc_rules.specs.declared.rule.Rule.TheVariants as R
 use Rattle.jc_rules.specs.Entries.{keys_of}
 use Rattle.jc_rules.specs.Context.{Register}
 use Rattle.jc_rules.specs.Shape.{IsKeptRegister}
-use Rattle.jc_tree.proofs.Kept.{then, rule_added, tree_changed}
+use Rattle.jc_tree.proofs.GoingBack.{then, rule_added, tree_changed}
 use Rattle.jc_tree.proofs.Pairs.{register_left}
 use Rattle.jc_tree.proofs.Keeping.{register_kept}
 use Rattle.jc_clear.proofs.Rules.{no_register, clear_values}
