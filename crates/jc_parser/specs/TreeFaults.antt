@@ -36,7 +36,8 @@ pub record IsBegun (xs : List Symbol) : Type 0 where
   pub within : Begins (λ t w. IsTreeWithin t × IsTreeSpelled t w) kept
   pub rest :
       (xs ≡ kept)
-      ⊎ ((xs ≡ kept ++ dot ∷ []) ⊎ ((ps : List Part) × AreDone ps kept × (xs ≡ kept ++ word (codes "replica") ∷ [])))
+      ⊎ ((xs ≡ kept ++ dot ∷ [])
+      ⊎ ((ps : List Part) × AreDone ps kept × (xs ≡ kept ++ word (codes "replica") ∷ [])))
 
 -- after these lexemes, which begin a scenario, comes what fits nothing
 pub record IsOutOfPlace (fault : ScenarioFault) (stop : ℕ) (before after : List Lexeme) : Type 0 where

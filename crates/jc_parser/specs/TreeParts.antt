@@ -88,7 +88,9 @@ tail_at m zero names r =
     else (schedule_at m r >>= λ es. Ok (tree [] es.0, es.1))
 tail_at m (suc n) names r =
     if begins (is_word (codes "replica")) r
-    then (skip (is_word (codes "replica")) r >>= λ a. part_at names a.1 >>= λ p. tail_at m n (names ++ p.0.name ∷ []) p.1 >>= λ t. Ok (with_part p.0 t.0, t.1))
+    then (skip (is_word (codes "replica")) r >>= λ a. part_at names a.1
+    >>= λ p. tail_at m n (names ++ p.0.name ∷ []) p.1
+    >>= λ t. Ok (with_part p.0 t.0, t.1))
     else (schedule_at m r >>= λ es. Ok (tree [] es.0, es.1))
 
 -- a scenario from the name of its first replica on
