@@ -18,7 +18,8 @@ use Rattle.jc_rules.specs.Trace.{Rows, pushed, below}
 use Rattle.jc_rules.specs.Paths.{HasContext}
 use Rattle.jc_app.specs.FirstCmd.{selectors}
 
--- In every state a derivation evaluates the expression to the cursor, whose path has a key of a map or list for each selector.
+-- In every state a derivation evaluates the expression to the cursor, whose path has a key of a map or list for each
+-- selector.
 pub record Evaluates (e : Expr) (cursor : Cursor) (t u : Rows) : Type 0 where
   pub derives : (A : State) → Derives (Evaluate A e) (ToBound (ACursor cursor)) t u
   pub path : length cursor.path ≡ selectors e
@@ -29,7 +30,8 @@ pub record Evaluates (e : Expr) (cursor : Cursor) (t u : Rows) : Type 0 where
 abbrev pub opened : Rows → Rule → Rows
 opened t r = below (pushed t r)
 
--- The next command of the state is an assignment. The operation is the one that it makes, and the trace has come to the operation's own rules.
+-- The next command of the state is an assignment. The operation is the one that it makes, and the trace has come to the
+-- operation's own rules.
 pub record Makes (A : State) (p : ℕ) (o : Op) (t u : Rows) : Type 0 where
   pub expr : Expr
   pub value : Value
@@ -39,5 +41,10 @@ pub record Makes (A : State) (p : ℕ) (o : Op) (t u : Rows) : Type 0 where
   pub left : A.left ≡ SetTo expr value ∷ rest
   pub primitive : IsPrimitive value
   pub evaluates : Evaluates expr cursor (opened (opened t R.Exec) R.MakeAssign) between
-  pub is : o ≡ record { id = record { counter = greatest A.ops + 1; replica = p }; deps = A.ops; cursor = cursor; mutation = Assign value }
+  pub is : o ≡ record {
+    id = record { counter = greatest A.ops + 1; replica = p };
+    deps = A.ops;
+    cursor = cursor;
+    mutation = Assign value;
+  }
   pub rows : u ≡ opened (opened between R.MakeOp) R.ApplyLocal

@@ -22,7 +22,16 @@ tree_of tree r = tree r.store
 
 -- its state
 abbrev pub state_of : {S : Type 0} → (S → Tree) → Replica S → State
-state_of tree r = record { left = cmds_of (drop r.done r.script.items); acted = false; vars = []; tree = (tree_of tree r).now; ops = r.ops; queue = r.queue.items; send = []; recv = [] }
+state_of tree r = record {
+  left = cmds_of (drop r.done r.script.items);
+  acted = false;
+  vars = [];
+  tree = (tree_of tree r).now;
+  ops = r.ops;
+  queue = r.queue.items;
+  send = [];
+  recv = [];
+}
 
 -- a trace without a rule
 abbrev pub no_rows : Rows

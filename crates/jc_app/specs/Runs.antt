@@ -27,15 +27,19 @@ events_of made = map (λ m. m.0) made
 -- All the events were made; or the next one is stuck, for this cause.
 abbrev pub EndsAt : List Event → List Made → List State → Option Stuck → Type 0
 EndsAt events made last None = events ≡ events_of made
-EndsAt events made last (Some (event, why)) = (more : List Event) × (events ≡ events_of made ++ event ∷ more) × IsStuck last event why
+EndsAt events made last (Some (event, why)) =
+    (more : List Event) × (events ≡ events_of made ++ event ∷ more) × IsStuck last event why
 
 -- the blocks of the events, numbered from n on
 abbrev pub blocks_text : List (List ℕ) → ℕ → List Made → List ℕ
 blocks_text names n [] = []
 blocks_text names n (m ∷ made) = block_text names n m.0 m.1 ++ blocks_text names (n + 1) made
 
--- From a network the schedule is made up to its end or its first stuck event, and leads to the last network. The blocks of what was made are the text.
-pub record Plays (names : List (List ℕ)) (network : List State) (schedule : List Event) (last : List State) (stuck : Option Stuck) (text : List ℕ) : Type 0 where
+-- From a network the schedule is made up to its end or its first stuck event, and leads to the last network. The blocks
+-- of what was made are the text.
+pub record Plays
+    (names : List (List ℕ)) (network : List State) (schedule : List Event)
+    (last : List State) (stuck : Option Stuck) (text : List ℕ) : Type 0 where
   pub made : List Made
   pub goes : GoesBy network made last
   pub ends : EndsAt schedule made last stuck

@@ -64,8 +64,8 @@ from_of (Index e i) = e
 from_of (KeysOf e) = e
 from_of (ValuesOf e) = e
 
--- Where a derivation gives the cursor before the last selector, and the trace has come to u by it, the selector gives b:
--- a derivation of the whole has the rules up to v.
+-- Where a derivation gives the cursor before the last selector, and the trace has come to u by it, the selector gives
+-- b: a derivation of the whole has the rules up to v.
 abbrev pub Selects : Expr → Context → Cursor → Bound → Rows → Rows → Type 0
 Selects e c cur b u v =
     (A : State) (t : Rows) → A.tree ≡ c

@@ -1,4 +1,5 @@
--- The dump of a replica's state: one JSON object, and its line. The list of names has the name of each replica at its number.
+-- The dump of a replica's state: one JSON object, and its line. The list of names has the name of each replica at its
+-- number.
 use Rattle.std.specs.Prelude.{ℕ, List, [], ◌∷◌, ◌++◌, length, map, codes, decimal, true, false}
 use Rattle.serde_json.specs.Data.{unsigned, Data, null, boolean, number, string, array, object, no_items, item, Members, no_members, put}
 use Rattle.serde_json.specs.View.{items_of}
@@ -89,21 +90,25 @@ next_member names e = (entry_text (codes "next") names e.0, string (next_text na
 abbrev mutual
   pub context_data : List (List ℕ) → Context → Data
   context_data names (context m l r p n) =
-      object_of (child_members names MapT m ++ child_members names ListT l ++ map (register_member names) r ++ map (presence_member names) p ++ map (next_member names) n)
+      object_of (child_members names MapT m ++ child_members names ListT l ++ map (register_member names) r
+      ++ map (presence_member names) p ++ map (next_member names) n)
 
   -- each child under its tagged key
   pub child_members : List (List ℕ) → (Key → Tagged) → Children → List (List ℕ × Data)
   child_members names tag no_child = []
-  child_members names tag (child k c cs) = (tagged_text names (tag k), context_data names c) ∷ child_members names tag cs
+  child_members names tag (child k c cs) =
+      (tagged_text names (tag k), context_data names c) ∷ child_members names tag cs
 
 abbrev pub pair_data : List (List ℕ) → Id × Value → Data
 pair_data names e = array (item (string (id_text names e.0)) (item (value_data e.1) no_items))
 
 -- a cursor's path and last key, the keys that were read, or the values with their identifiers
 abbrev pub bound_data : List (List ℕ) → Bound → Data
-bound_data names (ACursor c) = object_of ((codes "cursor", texts_data (map (λ t. tagged_text names t) c.path ++ key_text names c.last ∷ [])) ∷ [])
+bound_data names (ACursor c) =
+    object_of ((codes "cursor", texts_data (map (λ t. tagged_text names t) c.path ++ key_text names c.last ∷ [])) ∷ [])
 bound_data names (Names keys) = object_of ((codes "keys", texts_data keys) ∷ [])
-bound_data names (Pairs pairs) = object_of ((codes "values", array (items_of (map (λ e. pair_data names e) pairs))) ∷ [])
+bound_data names (Pairs pairs) =
+    object_of ((codes "values", array (items_of (map (λ e. pair_data names e) pairs))) ∷ [])
 
 abbrev pub vars_data : List (List ℕ) → List (List ℕ × Bound) → Data
 vars_data names vars = object_of (map (λ e. (e.0, bound_data names e.1)) vars)

@@ -71,7 +71,8 @@ abbrev pub canon_event : List (List ℕ) → Event → List ℕ
 canon_event names (Exec p) = name_at names p ++ codes ".exec"
 canon_event names (Send p) = name_at names p ++ codes ".send"
 canon_event names (Recv p q) = name_at names p ++ codes ".recv(" ++ name_at names q ++ codes ")"
-canon_event names (Apply p i) = name_at names p ++ codes ".apply(" ++ decimal i.counter ++ codes ", " ++ name_at names i.replica ++ codes ")"
+canon_event names (Apply p i) =
+    name_at names p ++ codes ".apply(" ++ decimal i.counter ++ codes ", " ++ name_at names i.replica ++ codes ")"
 canon_event names (Done p) = name_at names p ++ codes ".done"
 
 -- the numbers in the event are below the number of names

@@ -1,4 +1,5 @@
--- Laws of canonical texts: each is read back as what it was printed from, if its names, numbers and strings are such as tokens have and the text isn't too long.
+-- Laws of canonical texts: each is read back as what it was printed from, if its names, numbers and strings are such as
+-- tokens have and the text isn't too long.
 use Rattle.std.specs.Prelude.{◌≡◌, ℕ, ◌≤◌, List, length, All}
 use Rattle.jc_rules.specs.declared.operation.Event.{Event}
 use Rattle.jc_rules.specs.Syntax.{Expr, Cmd}
@@ -16,10 +17,12 @@ ExpressionsReadBack =
 
 abbrev pub ScriptsReadBack : Type 0
 ScriptsReadBack =
-    (script : List Cmd) → IsScriptWellFormed script → All IsLegalCmd script → length (canon_script script) ≤ 8388608 → IsScriptOf (canon_script script) script
+    (script : List Cmd) → IsScriptWellFormed script → All IsLegalCmd script → length (canon_script script) ≤ 8388608
+    → IsScriptOf (canon_script script) script
 
 -- an event is read back with the names of its replicas, each at its place
 abbrev pub EventsReadBack : Type 0
 EventsReadBack =
-    (names : List (List ℕ)) (event : Event) → All IsName names → AreNamed event (length names) → IsCounterBelow event → length (canon_event names event) ≤ 8388608
+    (names : List (List ℕ)) (event : Event) → All IsName names → AreNamed event (length names) → IsCounterBelow event
+    → length (canon_event names event) ≤ 8388608
     → (read : NamedEvent) × IsEventOf (canon_event names event) read × (call_of read ≡ call_by names event)
