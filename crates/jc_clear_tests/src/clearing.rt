@@ -26,6 +26,7 @@ const THIRD: Id = Id {
     replica: 0,
 };
 
+/// The greatest counter of a long list's elements, which have all from 1 on.
 const ELEMENTS: u64 = 10_000;
 
 /// The key of a register that is cleared: only the presence of `deps` goes.
@@ -175,7 +176,7 @@ fn add_elements<S: TreeStore>(rt: &impl Abort, tree: &mut Placed<S>) -> Result<(
     ensures { OnOk result (IsChained (S.tree tree.new.store).now) }
 {
     let mut place = Key::Head;
-    for counter in 0..ELEMENTS {
+    for counter in 1..ELEMENTS + 1 {
         tree.link(rt, &place, element(counter))?;
         place = Key::Elem(element(counter));
         tree.put_value(rt, &place, element(counter))?;
@@ -186,7 +187,7 @@ fn add_elements<S: TreeStore>(rt: &impl Abort, tree: &mut Placed<S>) -> Result<(
 /// The identifiers of the elements.
 fn ids_of_all(alloc: Global) -> Result<IdSet, AllocError> {
     let mut all = IdSet::new(alloc);
-    for counter in 0..ELEMENTS {
+    for counter in 1..ELEMENTS + 1 {
         all.insert(element(counter))?;
     }
     Ok(all)
@@ -196,7 +197,7 @@ fn ids_of_all(alloc: Global) -> Result<IdSet, AllocError> {
 fn long_list<S: TreeStore>(rt: &impl Abort, tree: &mut Placed<S>) -> Result<(), AllocError>
     requires { IsChained (S.tree tree.old.store).now }
 {
-    let last = Key::Elem(element(ELEMENTS - 1));
+    let last = Key::Elem(element(ELEMENTS));
     tree.enter(rt, Tagged::ListT(Key::Doc))?;
     add_elements(rt, tree)?;
     let start = tree.store.mark();
