@@ -33,7 +33,8 @@ pub trait Machine: Drop {
         requires { IsReady (state self.old) }
         ensures ok { IfOk result (λ trace. Step (state self.old ∷ []) (Exec 0) (state self.new ∷ []) trace.rows) }
         ensures no_command { (result ≡ Err ExecFault.NoCommand) ↔ ((state self.old).left ≡ []) }
-        ensures stuck { result ≡ Err ExecFault.NoCommand → IsStuck (state self.old ∷ []) (Exec 0) (because ScriptEnded) }
+        ensures stuck { result ≡ Err ExecFault.NoCommand
+            → IsStuck (state self.old ∷ []) (Exec 0) (because ScriptEnded) }
         ensures err { OnErr result (state self.new ≡ state self.old) }
         ensures ready { IsReady (state self.new) };
 

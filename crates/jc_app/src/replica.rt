@@ -78,9 +78,12 @@ impl<S: TreeStore> Replica<S> {
     /// and each event leave.
     pub fn exec(&mut self, alloc: Global) -> Result<Trace, ExecFault>
         requires { IsReady (state_of S.tree self.old) }
-        ensures ok { IfOk result (λ trace. Derives (Occur (state_of S.tree self.old) (Exec (number_of self.old)) []) (ToState (state_of S.tree self.new)) no_rows trace) }
+        ensures ok { IfOk result (λ trace.
+            Derives (Occur (state_of S.tree self.old) (Exec (number_of self.old)) [])
+            (ToState (state_of S.tree self.new)) no_rows trace) }
         ensures no_command { IsErrOf result ExecFault.NoCommand ↔ ((state_of S.tree self.old).left ≡ []) }
-        ensures stuck { IsErrOf result ExecFault.NoCommand → Refused (Occur (state_of S.tree self.old) (Exec (number_of self.old)) []) (because ScriptEnded) }
+        ensures stuck { IsErrOf result ExecFault.NoCommand
+            → Refused (Occur (state_of S.tree self.old) (Exec (number_of self.old)) []) (because ScriptEnded) }
         ensures refused_state { OnErr result (state_of S.tree self.new ≡ state_of S.tree self.old) }
         ensures refused_store { OnErr result (tree_of S.tree self.new ≡ tree_of S.tree self.old) }
         ensures earlier { OnOk result ((tree_of S.tree self.new).earlier ≡ []) }
@@ -105,8 +108,11 @@ impl<S: TreeStore> Replica<S> {
     fn run(&mut self, alloc: Global, trace: &mut Trace) -> Result<(), AllocError>
         requires left { self.old.done < length self.old.script.items }
         requires ready { IsReady (state_of S.tree self.old) }
-        ensures ok { OnOk result (Derives (Occur (state_of S.tree self.old) (Exec (number_of self.old)) []) (ToState (state_of S.tree self.new)) trace.old trace.new) }
-        ensures refused { OnErr result (state_of S.tree self.new ≡ record (state_of S.tree self.old) { tree = (tree_of S.tree self.new).now }) }
+        ensures ok { OnOk result
+            (Derives (Occur (state_of S.tree self.old) (Exec (number_of self.old)) [])
+            (ToState (state_of S.tree self.new)) trace.old trace.new) }
+        ensures refused { OnErr result
+            (state_of S.tree self.new ≡ record (state_of S.tree self.old) { tree = (tree_of S.tree self.new).now }) }
         ensures later { IsLater (tree_of S.tree self.old) (tree_of S.tree self.new) }
         ensures ready { OnOk result (IsReady (state_of S.tree self.new)) }
         ensures number { number_of self.new ≡ number_of self.old }

@@ -68,7 +68,8 @@ fn play_next<M: Machine, K: Sink>(
     ensures begun { OnErr result (AppendsFrontOf (IsNext (name.now ∷ []) (M.state machine.old ∷ []) number)
         (K.taken out.old) (K.taken out.new)) }
     ensures ready { IsReady (M.state machine.new) }
-    ensures unchanged { result ≡ Ok false → (M.state machine.new ≡ M.state machine.old) × (K.taken out.new ≡ K.taken out.old) }
+    ensures unchanged { result ≡ Ok false
+        → (M.state machine.new ≡ M.state machine.old) × (K.taken out.new ≡ K.taken out.old) }
     ensures same { OnOk result (K.failures out.new ≡ K.failures out.old) }
     ensures memory { IsErrOf result RunFault.Memory → K.failures out.new ≡ K.failures out.old }
     ensures write { IsErrOf result RunFault.Write → K.failures out.old < K.failures out.new }
@@ -94,8 +95,10 @@ pub fn play<M: Machine, K: Sink>(
 ) -> Result<Option<Event>, RunFault>
     requires events { All (λ e. e ≡ Event.Exec 0) schedule.now }
     requires ready { IsReady (M.state machine.old) }
-    ensures ok { IfOk result (λ stuck. (text : List ℕ)
-        × Plays (name.now ∷ []) (M.state machine.old ∷ []) schedule.now (M.state machine.new ∷ []) (at_script_end stuck) text
+    ensures ok { IfOk result (λ stuck.
+        (text : List ℕ)
+        × Plays (name.now ∷ []) (M.state machine.old ∷ []) schedule.now (M.state machine.new ∷ [])
+        (at_script_end stuck) text
         × Appends (K.taken out.old) (K.taken out.new) text) }
     ensures begun { OnErr result (AppendsFrontOf (Begins (name.now ∷ []) (M.state machine.old ∷ []) schedule.now)
         (K.taken out.old) (K.taken out.new)) }

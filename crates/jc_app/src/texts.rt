@@ -30,7 +30,8 @@ pub fn block_of(
 }
 
 fn head_of(alloc: Global, n: u64, event: &str) -> Result<String, AllocError>
-    ensures { IfOk result (λ text. string_bytes text ≡ codes "event " ++ decimal n ++ codes " " ++ event.now ++ codes "\n") }
+    ensures { IfOk result (λ text.
+        string_bytes text ≡ codes "event " ++ decimal n ++ codes " " ++ event.now ++ codes "\n") }
 {
     format!(in alloc; "event {n} {event}\n")
 }
@@ -50,7 +51,9 @@ pub fn stuck_of(alloc: Global, name: &Text, refusal: Refusal) -> Result<String, 
 }
 
 fn stuck_line(alloc: Global, number: u8, cause: &str, event: &str) -> Result<String, AllocError>
-    ensures { IfOk result (λ text. string_bytes text ≡ codes "stuck " ++ decimal number ++ codes " " ++ cause.now ++ codes " " ++ event.now ++ codes "\n") }
+    ensures { IfOk result (λ text.
+        string_bytes text
+        ≡ codes "stuck " ++ decimal number ++ codes " " ++ cause.now ++ codes " " ++ event.now ++ codes "\n") }
 {
     format!(in alloc; "stuck {number} {cause} {event}\n")
 }
@@ -63,7 +66,10 @@ pub fn refused_of(alloc: Global, refusal: Refusal, place: usize) -> Result<Strin
 }
 
 fn refused_line(alloc: Global, number: u8, cause: &str, place: usize) -> Result<String, AllocError>
-    ensures { IfOk result (λ text. string_bytes text ≡ codes "refused " ++ decimal number ++ codes " " ++ cause.now ++ codes " at " ++ decimal place ++ codes "\n") }
+    ensures { IfOk result (λ text.
+        string_bytes text
+        ≡ codes "refused " ++ decimal number ++ codes " " ++ cause.now ++ codes " at " ++ decimal place
+        ++ codes "\n") }
 {
     format!(in alloc; "refused {number} {cause} at {place}\n")
 }

@@ -23,7 +23,8 @@ pub fn words_of<R: Env + AllocGlobal>(rt: &R) -> io::Result<Vec<String>> {
 /// The status where the words could not be read: 5 for want of memory, which is also a line of
 /// `err`, and 2 for every other cause, as for a word that is not UTF-8.
 pub fn refuse_words<E: Sink>(why: ErrorKind, err: &mut E) -> u8
-    ensures memory { why ≡ ErrorKind.OutOfMemory → (result ≡ 5) × AppendsUpTo (E.taken err.old) (E.taken err.new) (codes "no memory\n") }
+    ensures memory { why ≡ ErrorKind.OutOfMemory
+        → (result ≡ 5) × AppendsUpTo (E.taken err.old) (E.taken err.new) (codes "no memory\n") }
     ensures other { why ≢ ErrorKind.OutOfMemory → (result ≡ 2) × (err.new ≡ err.old) }
 {
     match why {

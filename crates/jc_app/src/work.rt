@@ -23,7 +23,8 @@ const MOST_READ: usize = 8388609;
 
 /// Writes the line of a refused text. Want of memory has no line.
 fn refuse<K: Sink>(alloc: Global, fault: &ScenarioFault, out: &mut K) -> Result<u8, RunFault>
-    ensures ok { IfOk result (λ status. (shown : List ℕ) × IsRefused fault.now shown status × Appends (K.taken out.old) (K.taken out.new) shown) }
+    ensures ok { IfOk result (λ status.
+        (shown : List ℕ) × IsRefused fault.now shown status × Appends (K.taken out.old) (K.taken out.new) shown) }
     ensures begun { OnErr result (AppendsFrontOf (IsDueAt fault.now) (K.taken out.old) (K.taken out.new)) }
     ensures same { OnOk result (K.failures out.new ≡ K.failures out.old) }
     ensures memory { IsErrOf result RunFault.Memory → K.failures out.new ≡ K.failures out.old }
@@ -47,11 +48,15 @@ fn run_through<M: Machine, K: Sink>(
     out: &mut K,
 ) -> Result<u8, RunFault>
     requires { (bytes : List ℕ) × Reads bytes first.name (map cmd_of first.script.items) first.schedule.items }
-    ensures ok { IfOk result (λ status. (shown : List ℕ)
-        × RanThrough (record { name = first.name; script = map cmd_of first.script.items; schedule = first.schedule.items }) shown status
+    ensures ok { IfOk result (λ status.
+        (shown : List ℕ)
+        × RanThrough
+        (record { name = first.name; script = map cmd_of first.script.items; schedule = first.schedule.items })
+        shown status
         × Appends (K.taken out.old) (K.taken out.new) shown) }
     ensures begun { OnErr result (AppendsFrontOf
-        (IsDueOf (record { name = first.name; script = map cmd_of first.script.items; schedule = first.schedule.items }))
+        (IsDueOf
+        (record { name = first.name; script = map cmd_of first.script.items; schedule = first.schedule.items }))
         (K.taken out.old) (K.taken out.new)) }
     ensures same { OnOk result (K.failures out.new ≡ K.failures out.old) }
     ensures memory { IsErrOf result RunFault.Memory → K.failures out.new ≡ K.failures out.old }
@@ -78,7 +83,8 @@ fn run_through<M: Machine, K: Sink>(
 
 /// Runs a scenario's text: writes what a run of it shows, and answers its status.
 fn run_text<M: Machine, K: Sink>(alloc: Global, text: &[u8], out: &mut K) -> Result<u8, RunFault>
-    ensures ok { IfOk result (λ status. (shown : List ℕ) × Ran text.now shown status × Appends (K.taken out.old) (K.taken out.new) shown) }
+    ensures ok { IfOk result (λ status.
+        (shown : List ℕ) × Ran text.now shown status × Appends (K.taken out.old) (K.taken out.new) shown) }
     ensures begun { OnErr result (AppendsFrontOf (IsDue text.now) (K.taken out.old) (K.taken out.new)) }
     ensures same { OnOk result (K.failures out.new ≡ K.failures out.old) }
     ensures memory { IsErrOf result RunFault.Memory → K.failures out.new ≡ K.failures out.old }
@@ -141,10 +147,14 @@ fn run_input<M: Machine, I: Source, K: Sink>(
     ensures ran { IfOk result (HasRun (I.left input.old) (K.taken out.old) (K.taken out.new)) }
     ensures begun { OnErr result (HasBegun (I.left input.old) (K.taken out.old) (K.taken out.new)) }
     ensures most { LosesUpTo 8388609 (I.left input.old) (I.left input.new) }
-    ensures same { OnOk result ((I.failures input.new ≡ I.failures input.old) × (K.failures out.new ≡ K.failures out.old)) }
-    ensures read { IsErrOf result WorkFault.Read → (I.failures input.old < I.failures input.new) × (K.failures out.new ≡ K.failures out.old) }
-    ensures write { IsErrOf result WorkFault.Write → (I.failures input.new ≡ I.failures input.old) × (K.failures out.old < K.failures out.new) }
-    ensures memory { IsErrOf result WorkFault.Memory → (I.failures input.new ≡ I.failures input.old) × (K.failures out.new ≡ K.failures out.old) }
+    ensures same { OnOk result
+        ((I.failures input.new ≡ I.failures input.old) × (K.failures out.new ≡ K.failures out.old)) }
+    ensures read { IsErrOf result WorkFault.Read
+        → (I.failures input.old < I.failures input.new) × (K.failures out.new ≡ K.failures out.old) }
+    ensures write { IsErrOf result WorkFault.Write
+        → (I.failures input.new ≡ I.failures input.old) × (K.failures out.old < K.failures out.new) }
+    ensures memory { IsErrOf result WorkFault.Memory
+        → (I.failures input.new ≡ I.failures input.old) × (K.failures out.new ≡ K.failures out.old) }
 {
     let text = match read_up_to(alloc, input, MOST_READ) {
         Ok(text) => text,
@@ -180,21 +190,31 @@ pub fn work_alone<M: Machine, R: AllocGlobal, I: Source, K: Sink, E: Sink>(
 
     // Without words: if nothing failed and memory was there, the run's text was written, and its
     // status is the answer.
-    ensures ran { words.now ≡ [] → result ≢ Some 5 → I.failures input.new ≡ I.failures input.old → K.failures out.new ≡ K.failures out.old
-        → (status : ℕ) × (result ≡ Some status) × HasRun (I.left input.old) (K.taken out.old) (K.taken out.new) status }
+    ensures ran { words.now ≡ []
+        → result ≢ Some 5
+        → I.failures input.new ≡ I.failures input.old
+        → K.failures out.new ≡ K.failures out.old
+        → (status : ℕ)
+        × (result ≡ Some status)
+        × HasRun (I.left input.old) (K.taken out.old) (K.taken out.new) status }
 
     // Else a front of it was.
-    ensures begun { (result ≡ Some 4) ⊎ (result ≡ Some 5) → HasBegun (I.left input.old) (K.taken out.old) (K.taken out.new) }
+    ensures begun { (result ≡ Some 4) ⊎ (result ≡ Some 5)
+        → HasBegun (I.left input.old) (K.taken out.old) (K.taken out.new) }
 
     ensures most { LosesUpTo 8388609 (I.left input.old) (I.left input.new) }
 
     // The status is 4 where a read or a write failed, and nowhere else.
-    ensures failed { result ≢ Some 4 → (I.failures input.new ≡ I.failures input.old) × (K.failures out.new ≡ K.failures out.old) }
-    ensures only_failed { result ≡ Some 4 → (I.failures input.old < I.failures input.new) ⊎ (K.failures out.old < K.failures out.new) }
+    ensures failed { result ≢ Some 4
+        → (I.failures input.new ≡ I.failures input.old) × (K.failures out.new ≡ K.failures out.old) }
+    ensures only_failed { result ≡ Some 4
+        → (I.failures input.old < I.failures input.new) ⊎ (K.failures out.old < K.failures out.new) }
 
     // The error's sink has the line of the fault, and nothing where there is none.
-    ensures read_line { I.failures input.old < I.failures input.new → AppendsUpTo (E.taken err.old) (E.taken err.new) (codes "read failed\n") }
-    ensures write_line { K.failures out.old < K.failures out.new → AppendsUpTo (E.taken err.old) (E.taken err.new) (codes "write failed\n") }
+    ensures read_line { I.failures input.old < I.failures input.new
+        → AppendsUpTo (E.taken err.old) (E.taken err.new) (codes "read failed\n") }
+    ensures write_line { K.failures out.old < K.failures out.new
+        → AppendsUpTo (E.taken err.old) (E.taken err.new) (codes "write failed\n") }
     ensures memory_line { result ≡ Some 5 → AppendsUpTo (E.taken err.old) (E.taken err.new) (codes "no memory\n") }
     ensures quiet { result ≢ Some 4 → result ≢ Some 5 → err.new ≡ err.old }
 {

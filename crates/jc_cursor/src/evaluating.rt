@@ -64,8 +64,10 @@ fn rule_of(expr: &Expr) -> Rule
 
 /// Evaluates a variable. After a refusal its rule may have been added to the trace.
 fn variable(vars: &[(Text, Bound)], name: &Text, trace: &mut Trace) -> Result<Bound, EvalFault>
-    ensures ok { IfOk result (λ b. (c : AnyContext) → Evaluates c (vars_of vars.now) (Variable name.now) (bound_of b) trace.old trace.new) }
-    ensures refused { IfErr result (λ f. IfSome (cause_of f) (λ why. (c : AnyContext) → IsRefused c (vars_of vars.now) (Variable name.now) why)) }
+    ensures ok { IfOk result (λ b.
+        (c : AnyContext) → Evaluates c (vars_of vars.now) (Variable name.now) (bound_of b) trace.old trace.new) }
+    ensures refused { IfErr result (λ f.
+        IfSome (cause_of f) (λ why. (c : AnyContext) → IsRefused c (vars_of vars.now) (Variable name.now) why)) }
     ensures grown { IsGrown trace.old trace.new }
 {
     let Some(bound) = bound_to(vars, name) else {
@@ -84,8 +86,10 @@ fn evaluate<S: TreeStore>(
     trace: &mut Trace,
 ) -> Result<Bound, EvalFault>
     requires { IsChained (S.tree store.now).now }
-    ensures ok { IfOk result (λ b. Evaluates (S.tree store.now).now (vars_of vars.now) (expr_of expr.now) (bound_of b) trace.old trace.new) }
-    ensures refused { IfErr result (λ f. IfSome (cause_of f) (λ why. IsRefused (S.tree store.now).now (vars_of vars.now) (expr_of expr.now) why)) }
+    ensures ok { IfOk result (λ b.
+        Evaluates (S.tree store.now).now (vars_of vars.now) (expr_of expr.now) (bound_of b) trace.old trace.new) }
+    ensures refused { IfErr result (λ f.
+        IfSome (cause_of f) (λ why. IsRefused (S.tree store.now).now (vars_of vars.now) (expr_of expr.now) why)) }
     ensures grown { IsGrown trace.old trace.new }
 {
     match expr {
@@ -123,8 +127,10 @@ pub fn eval<S: TreeStore>(
     trace: &mut Trace,
 ) -> Result<Bound, EvalFault>
     requires { IsChained (S.tree store.now).now }
-    ensures ok { IfOk result (λ b. Evaluates (S.tree store.now).now (vars_of vars.now) (expr_of expr.now) (bound_of b) trace.old trace.new) }
-    ensures refused { IfErr result (λ f. IfSome (cause_of f) (λ why. IsRefused (S.tree store.now).now (vars_of vars.now) (expr_of expr.now) why)) }
+    ensures ok { IfOk result (λ b.
+        Evaluates (S.tree store.now).now (vars_of vars.now) (expr_of expr.now) (bound_of b) trace.old trace.new) }
+    ensures refused { IfErr result (λ f.
+        IfSome (cause_of f) (λ why. IsRefused (S.tree store.now).now (vars_of vars.now) (expr_of expr.now) why)) }
     ensures err_trace { OnErr result (trace.new ≡ trace.old) }
 {
     let start = trace.mark();

@@ -68,8 +68,11 @@ fn name_below(last: &Key, name: &Text) -> Result<Key, EvalFault>
 
 /// The cursor of a name in the map that stands at the cursor.
 fn get_in(cursor: Cursor, name: &Text) -> Result<Bound, EvalFault>
-    ensures ok { IfOk result (λ b. (from : AnyExpr) (c : AnyContext) (u : Rows) → Selects (GetKey from name.now) c cursor (bound_of b) u u) }
-    ensures refused { IfErr result (λ f. IfSome (cause_of f) (λ why. (from : AnyExpr) (c : AnyContext) → RefusedAfter (GetKey from name.now) c cursor why)) }
+    ensures ok { IfOk result (λ b.
+        (from : AnyExpr) (c : AnyContext) (u : Rows) → Selects (GetKey from name.now) c cursor (bound_of b) u u) }
+    ensures refused { IfErr result (λ f.
+        IfSome (cause_of f) (λ why.
+        (from : AnyExpr) (c : AnyContext) → RefusedAfter (GetKey from name.now) c cursor why)) }
 {
     let last = name_below(&cursor.last, name)?;
     let path = path_below(cursor.path, Tagged::MapT(cursor.last))?;
@@ -85,8 +88,12 @@ fn element_below<S: TreeStore>(
 ) -> Result<Key, EvalFault>
     requires chained { IsChained (S.tree store.now).now }
     requires fit { AllByRecursion HasContext path.now }
-    ensures ok { IfOk result (λ k. Derives (SelectIndex (S.tree store.now).now (cursor_at path.now Head) index) (ToCursor (cursor_at path.now k)) trace.old (at_depth trace.old.depth trace.new)) }
-    ensures refused { IfErr result (λ f. IfSome (cause_of f) (λ why. Refused (SelectIndex (S.tree store.now).now (cursor_at path.now Head) index) why)) }
+    ensures ok { IfOk result (λ k.
+        Derives (SelectIndex (S.tree store.now).now (cursor_at path.now Head) index)
+        (ToCursor (cursor_at path.now k)) trace.old (at_depth trace.old.depth trace.new)) }
+    ensures refused { IfErr result (λ f.
+        IfSome (cause_of f) (λ why.
+        Refused (SelectIndex (S.tree store.now).now (cursor_at path.now Head) index) why)) }
     ensures grown { IsGrown trace.old trace.new }
 {
     go_down(store, path, Rule::Idx2, trace)?;
@@ -101,8 +108,12 @@ fn index_in<S: TreeStore>(
     trace: &mut Trace,
 ) -> Result<Bound, EvalFault>
     requires { IsChained (S.tree store.now).now }
-    ensures ok { IfOk result (λ b. (from : AnyExpr) → Selects (Index from index) (S.tree store.now).now cursor (bound_of b) trace.old trace.new) }
-    ensures refused { IfErr result (λ f. IfSome (cause_of f) (λ why. (from : AnyExpr) → RefusedAfter (Index from index) (S.tree store.now).now cursor why)) }
+    ensures ok { IfOk result (λ b.
+        (from : AnyExpr)
+        → Selects (Index from index) (S.tree store.now).now cursor (bound_of b) trace.old trace.new) }
+    ensures refused { IfErr result (λ f.
+        IfSome (cause_of f) (λ why.
+        (from : AnyExpr) → RefusedAfter (Index from index) (S.tree store.now).now cursor why)) }
     ensures grown { IsGrown trace.old trace.new }
 {
     let path = path_below(cursor.path, Tagged::ListT(cursor.last))?;
@@ -130,7 +141,9 @@ fn push_name<S: TreeStore>(
     names: &mut Vec<Text>,
 ) -> Result<(), AllocError>
     requires { HasPlace at.now (S.tree store.now) }
-    ensures { OnOk result ((ids : List AnyId) → presence_set key.now (here at.now (S.tree store.now)) ≡ Some ids → names.new.items ≡ names.old.items ++ filter_map name_of ((key.now, ids) ∷ [])) }
+    ensures { OnOk result
+        ((ids : List AnyId) → presence_set key.now (here at.now (S.tree store.now)) ≡ Some ids
+        → names.new.items ≡ names.old.items ++ filter_map name_of ((key.now, ids) ∷ [])) }
 {
     if let Key::Name(name) = key
         && is_present(store, at, key)
@@ -170,8 +183,11 @@ fn names_below<S: TreeStore>(
     cursor: &Cursor,
     trace: &mut Trace,
 ) -> Result<Names, EvalFault>
-    ensures ok { IfOk result (λ names. Derives (SelectKeys (S.tree store.now).now cursor.now) (ToNames names) trace.old (at_depth trace.old.depth trace.new)) }
-    ensures refused { IfErr result (λ f. IfSome (cause_of f) (λ why. Refused (SelectKeys (S.tree store.now).now cursor.now) why)) }
+    ensures ok { IfOk result (λ names.
+        Derives (SelectKeys (S.tree store.now).now cursor.now) (ToNames names) trace.old
+        (at_depth trace.old.depth trace.new)) }
+    ensures refused { IfErr result (λ f.
+        IfSome (cause_of f) (λ why. Refused (SelectKeys (S.tree store.now).now cursor.now) why)) }
     ensures grown { IsGrown trace.old trace.new }
 {
     let at = cursor.path.as_slice();
@@ -191,8 +207,11 @@ fn values_below<S: TreeStore>(
     cursor: &Cursor,
     trace: &mut Trace,
 ) -> Result<Pairs, EvalFault>
-    ensures ok { IfOk result (λ pairs. Derives (SelectValues (S.tree store.now).now cursor.now) (ToPairs pairs) trace.old (at_depth trace.old.depth trace.new)) }
-    ensures refused { IfErr result (λ f. IfSome (cause_of f) (λ why. Refused (SelectValues (S.tree store.now).now cursor.now) why)) }
+    ensures ok { IfOk result (λ pairs.
+        Derives (SelectValues (S.tree store.now).now cursor.now) (ToPairs pairs) trace.old
+        (at_depth trace.old.depth trace.new)) }
+    ensures refused { IfErr result (λ f.
+        IfSome (cause_of f) (λ why. Refused (SelectValues (S.tree store.now).now cursor.now) why)) }
     ensures grown { IsGrown trace.old trace.new }
 {
     let at = cursor.path.as_slice();
@@ -214,8 +233,10 @@ pub fn select<S: TreeStore>(
 ) -> Result<Bound, EvalFault>
     requires chained { IsChained (S.tree store.now).now }
     requires selection { IsSelection (expr_of expr.now) }
-    ensures ok { IfOk result (λ b. Selects (expr_of expr.now) (S.tree store.now).now cursor (bound_of b) trace.old trace.new) }
-    ensures refused { IfErr result (λ f. IfSome (cause_of f) (λ why. RefusedAfter (expr_of expr.now) (S.tree store.now).now cursor why)) }
+    ensures ok { IfOk result (λ b.
+        Selects (expr_of expr.now) (S.tree store.now).now cursor (bound_of b) trace.old trace.new) }
+    ensures refused { IfErr result (λ f.
+        IfSome (cause_of f) (λ why. RefusedAfter (expr_of expr.now) (S.tree store.now).now cursor why)) }
     ensures grown { IsGrown trace.old trace.new }
 {
     match expr {

@@ -33,7 +33,8 @@ pub fn go_down<S: TreeStore>(
     ensures place { OnOk result (HasPlace path.now (S.tree store.now)) }
     ensures leads { OnOk result (LeadsDown rule path.now (S.tree store.now).now trace.old trace.new) }
     ensures refuses { OnOk result (RefusesDown path.now (S.tree store.now).now) }
-    ensures refused { IfErr result (λ f. IfSome (cause_of f) (λ why. RefusedOnWay path.now (S.tree store.now).now why)) }
+    ensures refused { IfErr result (λ f.
+        IfSome (cause_of f) (λ why. RefusedOnWay path.now (S.tree store.now).now why)) }
     ensures grown { IsGrown trace.old trace.new }
 {
     for (depth, key) in path.iter().enumerate() {
@@ -78,8 +79,12 @@ pub fn element_at<S: TreeStore>(
 ) -> Result<Key, EvalFault>
     requires there { HasPlace at.now (S.tree store.now) }
     requires chained { IsChained (S.tree store.now).now }
-    ensures ok { IfOk result (λ k. Derives (SelectIndex (here at.now (S.tree store.now)) (cursor [] Head) index) (ToCursor (cursor [] k)) trace.old (at_depth trace.old.depth trace.new)) }
-    ensures refused { IfErr result (λ f. IfSome (cause_of f) (λ why. Refused (SelectIndex (here at.now (S.tree store.now)) (cursor [] Head) index) why)) }
+    ensures ok { IfOk result (λ k.
+        Derives (SelectIndex (here at.now (S.tree store.now)) (cursor [] Head) index) (ToCursor (cursor [] k))
+        trace.old (at_depth trace.old.depth trace.new)) }
+    ensures refused { IfErr result (λ f.
+        IfSome (cause_of f) (λ why.
+        Refused (SelectIndex (here at.now (S.tree store.now)) (cursor [] Head) index) why)) }
     ensures grown { IsGrown trace.old trace.new }
 {
     let mut place = Key::Head;

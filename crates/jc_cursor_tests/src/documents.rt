@@ -88,7 +88,8 @@ fn apply<S: TreeStore>(rt: &impl Abort, alloc: Global, store: &mut S, op: &Op)
     requires chained { IsChained (S.tree store.old).now }
     requires fresh { IsUnlinked op.now.id (S.tree store.old).now }
     ensures chained { IsChained (S.tree store.new).now }
-    ensures unlinked { (i : AnyId) → i ≢ op.now.id → IsUnlinked i (S.tree store.old).now → IsUnlinked i (S.tree store.new).now }
+    ensures unlinked { (i : AnyId)
+        → i ≢ op.now.id → IsUnlinked i (S.tree store.old).now → IsUnlinked i (S.tree store.new).now }
 {
     let mut trace = Trace::new(alloc);
     if apply_op(alloc, store, op, &mut trace).is_err() {

@@ -154,7 +154,10 @@ fn put_children<S: TreeStore>(
     members: &mut Map<String, Json>,
 ) -> Result<(), AllocError>
     requires { HasPlace at.old.items (S.tree store.now) }
-    ensures members { OnOk result (members_view members.new.entries ≡ put_all (children_members names.now branch (here at.old.items (S.tree store.now))) (members_view members.old.entries)) }
+    ensures members { OnOk result
+        (members_view members.new.entries
+        ≡ put_all (children_members names.now branch (here at.old.items (S.tree store.now)))
+        (members_view members.old.entries)) }
     ensures place { OnOk result (at.new.items ≡ at.old.items) }
 {
     let mut last = None;
@@ -177,7 +180,10 @@ fn put_child<S: TreeStore>(
     members: &mut Map<String, Json>,
 ) -> Result<(), AllocError>
     requires { HasPlace at.old.items (S.tree store.now) }
-    ensures members { OnOk result (members_view members.new.entries ≡ put_all (child_at names.now branch key.now (here at.old.items (S.tree store.now))) (members_view members.old.entries)) }
+    ensures members { OnOk result
+        (members_view members.new.entries
+        ≡ put_all (child_at names.now branch key.now (here at.old.items (S.tree store.now)))
+        (members_view members.old.entries)) }
     ensures place { OnOk result (at.new.items ≡ at.old.items) }
 {
     let tagged = branch.tagged(key.copy()?);
@@ -201,7 +207,10 @@ fn put_registers<S: TreeStore>(
     members: &mut Map<String, Json>,
 ) -> Result<(), AllocError>
     requires { HasPlace at.now (S.tree store.now) }
-    ensures { OnOk result (members_view members.new.entries ≡ put_all (map (register_member names.now) (registers (here at.now (S.tree store.now)))) (members_view members.old.entries)) }
+    ensures { OnOk result
+        (members_view members.new.entries
+        ≡ put_all (map (register_member names.now) (registers (here at.now (S.tree store.now))))
+        (members_view members.old.entries)) }
 {
     let mut last = None;
     while let Some(key) = store.key_after(at, last) {
@@ -224,7 +233,10 @@ fn put_presences<S: TreeStore>(
     members: &mut Map<String, Json>,
 ) -> Result<(), AllocError>
     requires { HasPlace at.now (S.tree store.now) }
-    ensures { OnOk result (members_view members.new.entries ≡ put_all (map (presence_member names.now) (presences (here at.now (S.tree store.now)))) (members_view members.old.entries)) }
+    ensures { OnOk result
+        (members_view members.new.entries
+        ≡ put_all (map (presence_member names.now) (presences (here at.now (S.tree store.now))))
+        (members_view members.old.entries)) }
 {
     let mut last = None;
     while let Some(key) = store.presence_after(at, last) {
@@ -247,7 +259,10 @@ fn put_links<S: TreeStore>(
     members: &mut Map<String, Json>,
 ) -> Result<(), AllocError>
     requires { HasPlace at.now (S.tree store.now) }
-    ensures { OnOk result (members_view members.new.entries ≡ put_all (map (next_member names.now) (links (here at.now (S.tree store.now)))) (members_view members.old.entries)) }
+    ensures { OnOk result
+        (members_view members.new.entries
+        ≡ put_all (map (next_member names.now) (links (here at.now (S.tree store.now))))
+        (members_view members.old.entries)) }
 {
     let mut last = None;
     while let Some(key) = store.link_after(at, last) {
@@ -312,7 +327,9 @@ pub fn dump_line_of<S: TreeStore>(
     shown: &Shown,
     store: &S,
 ) -> Result<String, AllocError>
-    ensures { IfOk result (λ s. (A : State) → HasParts A shown.now (S.tree store.now).now → string_bytes s ≡ dump_line names.now shown.now.name.now A) }
+    ensures { IfOk result (λ s.
+        (A : State) → HasParts A shown.now (S.tree store.now).now
+        → string_bytes s ≡ dump_line names.now shown.now.name.now A) }
 {
     let mut line = dump_value(alloc, names, shown, store)?.to_string(alloc)?;
     line.push_str("\n")?;

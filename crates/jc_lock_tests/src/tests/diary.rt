@@ -49,7 +49,10 @@ fn write<R: Wait>(
 ) -> (Pass<Diary>, bool)
     requires { IsPassOf lock.now pass }
     ensures lock { IsPassOf lock.now result.0 × (pass_number result.0 ≡ pass_number pass) }
-    ensures mine { MatchBool result.1 (map (λ (l : Line). l.text) (pass_mine result.0) ≡ map (λ (l : Line). l.text) (pass_mine pass) ++ text ∷ []) (pass_mine result.0 ≡ pass_mine pass) }
+    ensures mine { MatchBool result.1
+        (map (λ (l : Line). l.text) (pass_mine result.0)
+        ≡ map (λ (l : Line). l.text) (pass_mine pass) ++ text ∷ [])
+        (pass_mine result.0 ≡ pass_mine pass) }
 {
     let mut turn = match lock.take(rt, pass) {
         Ok(turn) => turn,
@@ -72,7 +75,8 @@ fn write_all<R: Wait>(
 ) -> (Pass<Diary>, usize)
     requires { IsPassOf lock.now pass }
     ensures lock { IsPassOf lock.now result.0 × (pass_number result.0 ≡ pass_number pass) }
-    ensures mine { map (λ (l : Line). l.text) (pass_mine result.0) ≡ map (λ (l : Line). l.text) (pass_mine pass) ++ take result.1 texts.now }
+    ensures mine { map (λ (l : Line). l.text) (pass_mine result.0)
+        ≡ map (λ (l : Line). l.text) (pass_mine pass) ++ take result.1 texts.now }
 {
     let mut count = 0;
     for text in texts {
@@ -113,8 +117,10 @@ fn close_of_two(
 ) -> Option<Diary>
     requires { IsPassOf lock first × IsPassOf lock second }
     ensures title { IfSome result (λ d. d.title ≡ (opened_value lock).title) }
-    ensures first { IfSome result (λ d. own (λ (l : Line). l.writer) d.lines.items (pass_number first) ≡ pass_mine first) }
-    ensures second { IfSome result (λ d. own (λ (l : Line). l.writer) d.lines.items (pass_number second) ≡ pass_mine second) }
+    ensures first { IfSome result (λ d.
+        own (λ (l : Line). l.writer) d.lines.items (pass_number first) ≡ pass_mine first) }
+    ensures second { IfSome result (λ d.
+        own (λ (l : Line). l.writer) d.lines.items (pass_number second) ≡ pass_mine second) }
     ensures others { IfSome result (λ d. All (λ (l : Line). l.writer < lock_passes lock) d.lines.items) }
 {
     let mut passes = Vec::with_capacity(alloc, 2).ok()?;
@@ -132,8 +138,10 @@ fn write_both<R: Threads + Wait + Sync>(
     second: &[u64],
 ) -> Option<(Diary, usize, usize)>
     ensures title { IfSome result (λ r. r.0.title ≡ title) }
-    ensures first { IfSome result (λ r. map (λ (l : Line). l.text) (own (λ (l : Line). l.writer) r.0.lines.items 0) ≡ take r.1 first.now) }
-    ensures second { IfSome result (λ r. map (λ (l : Line). l.text) (own (λ (l : Line). l.writer) r.0.lines.items 1) ≡ take r.2 second.now) }
+    ensures first { IfSome result (λ r.
+        map (λ (l : Line). l.text) (own (λ (l : Line). l.writer) r.0.lines.items 0) ≡ take r.1 first.now) }
+    ensures second { IfSome result (λ r.
+        map (λ (l : Line). l.text) (own (λ (l : Line). l.writer) r.0.lines.items 1) ≡ take r.2 second.now) }
     ensures others { IfSome result (λ r. All (λ (l : Line). l.writer < 2) r.0.lines.items) }
 {
     let (lock, one, two) = open_for_two(alloc, title)?;
