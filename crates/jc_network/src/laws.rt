@@ -1,0 +1,30 @@
+//! Laws of networks. Each function does nothing: its contract is the law.
+
+ghost use Rattle.jc_network.specs.Laws.{HeldIsSound, CountersAreRun, AppliesAtYield, NeverStuckAtYield, LinksAreApplied};
+
+/// In each network that is reached from a start, all operations are a sound and rooted set, and what each replica has
+/// applied is what it made or received, closed under dependencies.
+pub fn held_is_sound()
+    ensures { HeldIsSound }
+{}
+
+/// No counter is above the number of commands that were run.
+pub fn counters_are_run()
+    ensures { CountersAreRun }
+{}
+
+/// At a yield, to apply an operation that was received and isn't applied, though its dependencies are, leads to a
+/// network.
+pub fn applies_at_yield()
+    ensures { AppliesAtYield }
+{}
+
+/// So no numbered condition fails there.
+pub fn never_stuck_at_yield()
+    ensures { NeverStuckAtYield }
+{}
+
+/// Lists are chained, and only what is applied is linked.
+pub fn links_are_applied()
+    ensures { LinksAreApplied }
+{}

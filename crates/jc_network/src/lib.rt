@@ -1,0 +1,4 @@
+//! Networks of replicas: what holds in every run.
+#![tactic(auto)]
+
+pub mod laws;

@@ -1,0 +1,10 @@
+use jc_network::laws;
+
+#[test]
+fn laws_stand() {
+    laws::held_is_sound();
+    laws::counters_are_run();
+    laws::applies_at_yield();
+    laws::never_stuck_at_yield();
+    laws::links_are_applied();
+}
