@@ -57,19 +57,19 @@ no_links (context m l r p n) k x h e = let f : None ≡ Some x = ap (find key_cm
 pub good_map : (c : Context) → IsChained c → IsGood c
 good_map c h = record { below = below-chained c h; chain = λ k x e. no_links c k x h e }
 
-good_list : (c : Context) → IsChainedList c → IsGood c
+pub good_list : (c : Context) → IsChainedList c → IsGood c
 good_list c h = record { below = below-list c h; chain = λ k x e. h }
 
 new_list_chained : IsChainedList empty_list
 new_list_chained = (([], record { leads = refl; distinct = (tt, tt); no_other = ((0, omega arith, refl), tt) }), tt, tt)
 
 -- what is entered is good
-record Entered (c : Context) (t : Tagged) : Type 0 where
-  node : Context
-  is : Node node ≡ or_new t (content t c)
-  good : IsGood node
+pub record Entered (c : Context) (t : Tagged) : Type 0 where
+  pub node : Context
+  pub is : Node node ≡ or_new t (content t c)
+  pub good : IsGood node
 
-enters : (c : Context) (t : Tagged) → HasContext t → IsGood c → (d : Context) → child_of t c ≡ Some d → Entered c t
+pub enters : (c : Context) (t : Tagged) → HasContext t → IsGood c → (d : Context) → child_of t c ≡ Some d → Entered c t
 enters c (MapT k) tag h d there = go (content (MapT k) c) refl
   where
     go : (o : Option Content) → content (MapT k) c ≡ o → Entered c (MapT k)
@@ -85,7 +85,7 @@ enters c (ListT k) tag h d there = go (content (ListT k) c) refl
 enters c (RegT k) tag h d there = absurd tag
 
 -- children and presence sets always answer
-child_answered : (c : Context) (t : Tagged) → IsAnswered (Child c t) (ToContent (or_new t (content t c)))
+pub child_answered : (c : Context) (t : Tagged) → IsAnswered (Child c t) (ToContent (or_new t (content t c)))
 child_answered c t = go (content t c) refl
   where
     made : (u : Tagged) → content u c ≡ None → IsAnswered (Child c u) (ToContent (new_content u))
@@ -97,7 +97,7 @@ child_answered c t = go (content t c) refl
     go None e = made t e
     go (Some x) e = by_rule R.ChildGet (Child c t) (ToContent x) [] (x, e, refl, refl) tt
 
-add_answered : (c : Context) (t : Tagged) (i : Id) (m : Mutation) → (d : Context) × IsAnswered (AddId c t i m) (ToContext d)
+pub add_answered : (c : Context) (t : Tagged) (i : Id) (m : Mutation) → (d : Context) × IsAnswered (AddId c t i m) (ToContext d)
 add_answered c t i (M.Assign v) = let s = presence_answered c (key_of t) in (_, by_rule R.AddId1 (AddId c t i (M.Assign v)) _ _ (s.0, (λ e. cc), refl, refl) (s.1, tt))
 add_answered c t i (M.Insert v) = let s = presence_answered c (key_of t) in (_, by_rule R.AddId1 (AddId c t i (M.Insert v)) _ _ (s.0, (λ e. cc), refl, refl) (s.1, tt))
 add_answered c t i M.Delete = (c, by_rule R.AddId2 (AddId c t i M.Delete) (ToContext c) [] (refl, refl, refl) tt)
@@ -121,7 +121,7 @@ primitive_answered c o v h path m p =
     let three : IsAnswered (Child two.0 (RegT o.cursor.last)) (ToContent (Values r.0)) = subst (λ x. IsAnswered (Child two.0 (RegT o.cursor.last)) (ToContent x)) r.1 (child_answered two.0 (RegT o.cursor.last)) in
     (_, by_rule R.Assign (Operate c o) _ _ (v, one.now, one.ids, two.0, r.0, path, m, p, refl, refl) (one.answered, (two.1, (three, tt))))
 
-assign_answered : (c : Context) (o : Op) (v : Value) → AreChainedBelow c → o.cursor.path ≡ [] → o.mutation ≡ M.Assign v → Answered c o
+pub assign_answered : (c : Context) (o : Op) (v : Value) → AreChainedBelow c → o.cursor.path ≡ [] → o.mutation ≡ M.Assign v → Answered c o
 assign_answered c o V.EmptyMap h path m =
     let one = cleared_elem c o.deps o.cursor.last h in
     let two = add_answered one.now (MapT o.cursor.last) o.id o.mutation in
@@ -159,7 +159,7 @@ insert_answered (j ∷ is) c o v h path m leads fresh = go (id_cmp o.id j) refl 
     go Equal e ih = let s : o.id ≡ j = exact_ids o.id j e in absurd (linked is leads.1 (ap (λ i. next (K.Elem i) c) (sym s) ∙ fresh))
     go Greater e ih = insert_here c o v (To j) h path m leads.0 (inr (j, refl, e))
 
-delete_answered : (c : Context) (o : Op) → AreChainedBelow c → o.cursor.path ≡ [] → o.mutation ≡ M.Delete → Answered c o
+pub delete_answered : (c : Context) (o : Op) → AreChainedBelow c → o.cursor.path ≡ [] → o.mutation ≡ M.Delete → Answered c o
 delete_answered c o h path m =
     let one = cleared_elem c o.deps o.cursor.last h in
     (_, by_rule R.Delete (Operate c o) _ _ (one.now, one.ids, path, m, refl, refl) (one.answered, tt))
@@ -171,7 +171,7 @@ some_next k c h = go (next k c) refl
     go None e = absurd (h e)
     go (Some x) e = (x, e)
 
-here_answered : (c : Context) (o : Op) (m : Mutation) → IsGood c → o.cursor.path ≡ [] → o.mutation ≡ m → (IsInsert m → Reach c [] o.cursor.last) → (IsInsert m → Reach c [] (K.Elem o.id) → ⊥) → Answered c o
+pub here_answered : (c : Context) (o : Op) (m : Mutation) → IsGood c → o.cursor.path ≡ [] → o.mutation ≡ m → (IsInsert m → Reach c [] o.cursor.last) → (IsInsert m → Reach c [] (K.Elem o.id) → ⊥) → Answered c o
 here_answered c o (M.Assign v) h path m wants fresh = assign_answered c o v h.below path m
 here_answered c o (M.Insert v) h path m wants fresh =
     let x = some_next o.cursor.last c (wants tt) in
@@ -183,7 +183,7 @@ here_answered c o (M.Insert v) h path m wants fresh =
     none_there (Some y) e = absurd (fresh tt (λ f. let g : Some y ≡ None = sym e ∙ f in cc))
 here_answered c o M.Delete h path m wants fresh = delete_answered c o h.below path m
 
-child_there : (t : Tagged) (c : Context) → HasContext t → (d : Context) × (child_of t c ≡ Some d)
+pub child_there : (t : Tagged) (c : Context) → HasContext t → (d : Context) × (child_of t c ≡ Some d)
 child_there (MapT k) c h = go (find key_cmp k (maps c))
   where
     go : (o : Option Context) → (d : Context) × (node_in (Some (or_new (MapT k) (node_of o))) ≡ Some d)
@@ -213,7 +213,7 @@ operation_answered (t ∷ rest) c o path h plain wants fresh =
 -- ---- at a yield
 
 -- an identifier that isn't applied is reached nowhere
-unreached : (N : List State) (w : IsWell N) (p : ℕ) (A : State) → IsAt N p A → (i : Id) → has_id i A.ops ≡ false → (P : List Tagged) → Reach A.tree P (K.Elem i) → ⊥
+pub unreached : (N : List State) (w : IsWell N) (p : ℕ) (A : State) → IsAt N p A → (i : Id) → has_id i A.ops ≡ false → (P : List Tagged) → Reach A.tree P (K.Elem i) → ⊥
 unreached N w p A there i un P r = other (reached_in (λ Q k. IsRootKey (IsMade N) A.ops Q k) P A.tree (K.Elem i) (λ Q k. (right _ _ (of_new (IsMade N) A.ops Q k).0, right _ _ (of_new (IsMade N) A.ops Q k).1)) (all_follow _ _ A.tree right (w.trees.known p A there).tree) r)
   where
     found : (Q : List Tagged) (n : List (Key × Next)) (j : Key) → AreRightLinks (IsMade N) A.ops Q n → (x : Option Next) → find key_cmp j n ≡ x → find key_cmp j n ≢ None → IsRootKey (IsMade N) A.ops Q j

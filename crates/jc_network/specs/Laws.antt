@@ -100,3 +100,16 @@ LinksAreApplied =
     → Contains network A
     → IsChained A.tree
     × ((i : Id) → has_id i A.ops ≡ false → IsUnlinked i A.tree)
+
+-- An event has a step or is stuck for a cause, and never both.
+abbrev pub StepOrStuck : Type 0
+StepOrStuck =
+    (scripts : List (List Cmd)) (network : List State)
+    → IsReached scripts network
+    → (event : Event)
+    → (((new : List State) × (rows : List (Rule × ℕ)) × Step network event new rows)
+    ⊎ ((why : Cause) × IsStuck network event why))
+    × ((new : List State) (rows : List (Rule × ℕ)) (why : Cause)
+    → Step network event new rows
+    → IsStuck network event why
+    → ⊥)

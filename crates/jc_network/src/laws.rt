@@ -1,6 +1,6 @@
 //! Laws of networks. Each function does nothing: its contract is the law.
 
-ghost use Rattle.jc_network.specs.Laws.{HeldIsSound, CountersAreRun, AppliesAtYield, NeverStuckAtYield, LinksAreApplied};
+ghost use Rattle.jc_network.specs.Laws.{HeldIsSound, CountersAreRun, AppliesAtYield, NeverStuckAtYield, LinksAreApplied, StepOrStuck};
 
 /// In each network that is reached from a start, all operations are a sound and rooted set, and what each replica has
 /// applied is what it made or received, closed under dependencies.
@@ -27,4 +27,9 @@ pub fn never_stuck_at_yield()
 /// Lists are chained, and only what is applied is linked.
 pub fn links_are_applied()
     ensures { LinksAreApplied }
+{}
+
+/// An event has a step or is stuck for a cause, and never both.
+pub fn step_or_stuck()
+    ensures { StepOrStuck }
 {}

@@ -7,4 +7,5 @@ fn laws_stand() {
     laws::applies_at_yield();
     laws::never_stuck_at_yield();
     laws::links_are_applied();
+    laws::step_or_stuck();
 }
