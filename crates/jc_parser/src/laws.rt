@@ -4,6 +4,7 @@
 ghost use Rattle.jc_parser.specs.Laws.{OneTree, OneScenario, ScenarioOrFault, OneFault, OneExpression, ExpressionOrFault, OneExpressionFault, OneScript, ScriptOrFault, OneScriptFault};
 ghost use Rattle.jc_parser.specs.ClosedScripts.{OneScriptAt, ScriptOrFaultAt, OneScriptFaultAt};
 ghost use Rattle.jc_parser.specs.CallLaws.{OneEvent, EventOrFault, OneEventFault, OneEventAt, EventOrFaultAt, OneEventFaultAt};
+ghost use Rattle.jc_parser.specs.TreeLaws.{OneNamedTree, NamedTreeOrFault, OneTreeFault};
 ghost use Rattle.jc_parser.specs.LegalLaws.{LegalExpressions, LegalScripts, LegalEvents, LegalScriptsAt, LegalEventsAt};
 
 use jc_syntax::laws as lexemes;
@@ -137,6 +138,22 @@ pub fn script_or_fault_at()
 /// Where no script with a closing brace stands among the tokens, there is one fault at most.
 pub fn one_script_fault_at()
     ensures { OneScriptFaultAt }
+{}
+
+/// Tokens are one scenario of the whole language at most, with one place for each name in its events.
+pub fn one_named_tree()
+    ensures { OneNamedTree }
+{}
+
+/// Tokens that are a scenario of the whole language have no fault.
+pub fn named_tree_or_fault()
+    ensures { NamedTreeOrFault }
+{}
+
+/// Tokens have one fault at most as a scenario of the whole language: its number and its place are
+/// determined.
+pub fn one_tree_fault()
+    ensures { OneTreeFault }
 {}
 
 /// The expression that a text is stays within the limits, and its names and strings are such as tokens have.

@@ -1,0 +1,8 @@
+use jc_parser::laws;
+
+#[test]
+fn laws_stand() {
+    laws::one_named_tree();
+    laws::named_tree_or_fault();
+    laws::one_tree_fault();
+}
