@@ -5,7 +5,7 @@ ghost use Rattle.jc_parser.specs.Laws.{OneTree, OneScenario, ScenarioOrFault, On
 ghost use Rattle.jc_parser.specs.ClosedScripts.{OneScriptAt, ScriptOrFaultAt, OneScriptFaultAt};
 ghost use Rattle.jc_parser.specs.CallLaws.{OneEvent, EventOrFault, OneEventFault, OneEventAt, EventOrFaultAt, OneEventFaultAt};
 ghost use Rattle.jc_parser.specs.TreeLaws.{OneNamedTree, NamedTreeOrFault, OneTreeFault};
-ghost use Rattle.jc_parser.specs.LegalLaws.{LegalExpressions, LegalScripts, LegalEvents, LegalScriptsAt, LegalEventsAt};
+ghost use Rattle.jc_parser.specs.LegalLaws.{LegalExpressions, LegalScripts, LegalEvents, LegalScriptsAt, LegalEventsAt, LegalScenarios};
 
 use jc_syntax::laws as lexemes;
 
@@ -188,6 +188,14 @@ pub fn legal_scripts_at()
 /// An event among the tokens of a text is as legal as one that is a whole text.
 pub fn legal_events_at()
     ensures { LegalEventsAt }
+{
+    lexemes::legal_strings();
+}
+
+/// A scenario of the whole language that the tokens of a UTF-8 text are keeps the limits, and its names,
+/// numbers and strings are such as tokens have.
+pub fn legal_scenarios()
+    ensures { LegalScenarios }
 {
     lexemes::legal_strings();
 }

@@ -5,4 +5,5 @@ fn laws_stand() {
     laws::one_named_tree();
     laws::named_tree_or_fault();
     laws::one_tree_fault();
+    laws::legal_scenarios();
 }
