@@ -26,7 +26,7 @@ named name place = record { name = name; place = place }
 same_named : (p q : Named) (ls : List Lexeme) (n : ℕ) → p.name ≡ q.name → StandsAt p.place ls n → StandsAt q.place ls n → p ≡ q
 same_named p q ls n name a b = ap (λ t. named t p.place) name ∙ ap (λ t. named q.name t) (one_place p.place q.place ls n a b)
 
-same_event : (e other : NamedEvent) (ls : List Lexeme) → call_of e ≡ call_of other → ArePlaced e ls → ArePlaced other ls → e ≡ other
+pub same_event : (e other : NamedEvent) (ls : List Lexeme) → call_of e ≡ call_of other → ArePlaced e ls → ArePlaced other ls → e ≡ other
 same_event (Exec p) (Exec q) ls h a b = ap (λ (n : Named). Exec n) (same_named p q ls 0 (cc) a b)
 same_event (Send p) (Send q) ls h a b = ap (λ (n : Named). Send n) (same_named p q ls 0 (cc) a b)
 same_event (Recv p from) (Recv q other) ls h (a, c) (b, d) =

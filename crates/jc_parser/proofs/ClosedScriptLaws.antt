@@ -45,7 +45,7 @@ script_or_fault_of_tokens text tokens from brace script fault a h =
 
 -- ---- one fault
 
-excess_limit : (e : ScenarioFault) (xs : List Symbol) (after : List Lexeme) → IsScriptExcess e xs after → IsLimitFault e
+pub excess_limit : (e : ScenarioFault) (xs : List Symbol) (after : List Lexeme) → IsScriptExcess e xs after → IsLimitFault e
 excess_limit (all.IndexTooLarge p) xs after o = tt
 excess_limit (all.ReservedName p) xs after o = tt
 excess_limit (all.TooManyCommands p) xs after o = tt
@@ -54,7 +54,7 @@ excess_limit e xs after (inl o) = absurd o
 excess_limit e xs after (inr (inl o)) = absurd o.excess
 excess_limit e xs after (inr (inr o)) = absurd o.excess
 
-no_stuck : (e : ScenarioFault) (stop : ℕ) (ls : List Lexeme) → IsLimitFault e → stuck_at stop ls ≡ e → ⊥
+pub no_stuck : (e : ScenarioFault) (stop : ℕ) (ls : List Lexeme) → IsLimitFault e → stuck_at stop ls ≡ e → ⊥
 no_stuck e stop [] limit same = subst IsLimitFault (sym same) limit
 no_stuck e stop (x ∷ xs) limit same = subst IsLimitFault (sym same) limit
 
@@ -67,7 +67,7 @@ refused_closed r e limit h =
       | inr (x, read, last) ↦ let (more, same) = chosen_err (is_at_end x.1) x.0 (stuck x.1) e last in absurd (no_stuck e x.1.stop x.1.left limit same)
     ]
 
-has_limits : HasLimits IsClosedSpelled IsScriptWellFormed IsScriptExcess closed_script_at
+pub has_limits : HasLimits IsClosedSpelled IsScriptWellFormed IsScriptExcess closed_script_at
 has_limits = λ stop e before after h.
     let l = script_limits stop e before after h in
     let (script, more, spelled) = l.begins in

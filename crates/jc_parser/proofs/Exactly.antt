@@ -1,6 +1,7 @@
 -- A scenario within the limits has no fault.
 use Rattle.std.proofs.Common.{◌≡◌, ℕ, ◌≤◌, ◌⊎◌, inl, inr, List, [], ◌∷◌, ◌++◌, length, Ok, Err, sym, ap, subst, ◌∙◌, arith}
 use Rattle.std.specs.Prelude.{All}
+use Rattle.std.proofs.lemmas.List.{append-nil}
 use Rattle.std.proofs.lemmas.List.Elements.{All-head, All-tail}
 use Rattle.jc_syntax.specs.declared.token.Token.{Token}
 use Rattle.jc_syntax.specs.declared.fault.LexFault.{LexFault}
@@ -50,7 +51,9 @@ kind_of_fault r e f =
 
 -- a scenario within the limits is not refused
 pub allowed : (stop : ℕ) → IsAllowed Texts (λ l. whole_at (reading stop l))
-allowed stop = λ t ls e (within, text) h. by_read t ls e (read_within t ls stop within text) h
+allowed stop = λ t ls e (within, text) h.
+    let here : whole_at (reading stop ls) ≡ Err e = subst (λ (l : List Lexeme). whole_at (reading stop l) ≡ Err e) (append-nil ls) (h []) in
+    by_read t ls e (read_within t ls stop within text) here
   where
     by_read : (t : Tree) (ls : List Lexeme) (e : ScenarioFault) → IsRead t ls stop → whole_at (reading stop ls) ≡ Err e → ⊥
     by_read t ls e (p, same, found, read) h = let bad : Ok p ≡ Err e = sym read ∙ h in absurd cc

@@ -6,7 +6,7 @@ use Rattle.std.proofs.lemmas.List.{append-nil}
 use Rattle.jc_parser.specs.declared.fault.ScenarioFault.{ScenarioFault}
 use Rattle.jc_parser.specs.declared.fault.ScenarioFault.TheVariants.{NoHeader, NoReplica}
 use Rattle.jc_parser.specs.Symbols.{Symbol, word, number, Lexeme}
-use Rattle.jc_parser.specs.Reading.{Reading, ◌>>=◌, is_word, is_number, begins_with, place_at, one}
+use Rattle.jc_parser.specs.Reading.{Reading, is_word, is_number, begins_with, place_at, one}
 use Rattle.jc_parser.specs.Parts.{front_at, skip_or}
 use Rattle.jc_parser.specs.Sentences.{FitsNothing}
 use Rattle.jc_parser.proofs.Readers.{bind_ok, read_as, ok_parts}

@@ -13,8 +13,10 @@ use Rattle.jc_parser.specs.Language.{IsSpelled}
 use Rattle.jc_parser.specs.Scripts.{IsValueSpelled, IsCommandSpelled, IsScriptSpelled}
 use Rattle.jc_parser.specs.Calls.{Call, executes, sends, receives, applies, ends, call_of, IsCallSpelled}
 use Rattle.jc_parser.specs.ClosedScripts.{IsClosedSpelled}
-use Rattle.jc_parser.specs.Legal.{IsLegalExpr, IsLegalValue, IsLegalCmd, IsLegalCall}
-use Rattle.jc_parser.specs.LegalLaws.{LegalExpressions, LegalScripts, LegalEvents, LegalScriptsAt, LegalEventsAt}
+use Rattle.jc_parser.specs.Grammar.{IsListText}
+use Rattle.jc_parser.specs.Trees.{Part, Tree, tree_of, ArePartsSpelled, IsScheduleSpelled, IsTreeSpelled}
+use Rattle.jc_parser.specs.Legal.{IsLegalExpr, IsLegalValue, IsLegalCmd, IsLegalCall, IsLegalPart, IsLegalTree}
+use Rattle.jc_parser.specs.LegalLaws.{LegalExpressions, LegalScripts, LegalEvents, LegalScriptsAt, LegalEventsAt, LegalScenarios}
 use Rattle.jc_parser.proofs.LegalTokens.{LegalStrings, IsLegalSymbol, symbols_legal, each_token}
 
 abbrev AreLegal : List Symbol → Type 0
@@ -76,6 +78,32 @@ call_legal (receives p q) w h l = let all = subst AreLegal h l in (all.0, all.1.
 call_legal (applies p counter q) w (digits, numeral, counts, is) l = let all = subst AreLegal is l in (all.0, all.1.1.1.1.1.1.0)
 call_legal (ends p) w h l = (subst AreLegal h l).0
 
+-- ---- scenarios
+
+calls_legal : (calls : List Call) (w : List Symbol) → IsListText IsCallSpelled calls w → AreLegal w → All IsLegalCall calls
+calls_legal [] w h l = All-nil IsLegalCall
+calls_legal (c ∷ cs) w (u, own, inl (none, is)) l =
+    All-cons IsLegalCall c cs (call_legal c u own (subst AreLegal is l)) (subst (All IsLegalCall) (sym none) (All-nil IsLegalCall))
+calls_legal (c ∷ cs) w (u, own, inr (v, is, rest)) l =
+    let parts = split w u (semicolon ∷ v) is l in
+    All-cons IsLegalCall c cs (call_legal c u own parts.0) (calls_legal cs v rest parts.1.1)
+
+schedule_legal : (calls : List Call) (w : List Symbol) → IsScheduleSpelled calls w → AreLegal w → All IsLegalCall calls
+schedule_legal calls w (inl (none, is)) l = subst (All IsLegalCall) (sym none) (All-nil IsLegalCall)
+schedule_legal calls w (inr (u, own, is)) l = calls_legal calls u own (both u (close_brace ∷ []) (subst AreLegal is l).1.1).0
+
+parts_legal : (ps : List Part) (w : List Symbol) → ArePartsSpelled ps w → AreLegal w → All IsLegalPart ps
+parts_legal [] w h l = All-nil IsLegalPart
+parts_legal (p ∷ ps) w (u, v, (z, closed, own), rest, is) l =
+    let parts = split w u v is l in
+    let first = subst AreLegal own parts.0 in
+    All-cons IsLegalPart p ps (first.1.0, closed_legal p.script z closed first.1.1.1) (parts_legal ps v rest parts.1)
+
+tree_legal : (t : Tree) (w : List Symbol) → IsTreeSpelled t w → AreLegal w → IsLegalTree t
+tree_legal t w (u, v, some, parts, schedule, is) l =
+    let rest = both u v (subst AreLegal is l).1.1 in
+    (parts_legal t.parts u parts rest.0, schedule_legal t.calls v schedule rest.1)
+
 -- ---- texts
 
 text_legal : LegalStrings → (text : List ℕ) (ts : List Token) → IsUtf8 text → AreTokensOf text ts → AreLegal (symbols (lexemes text ts))
@@ -98,3 +126,6 @@ scripts_at_legal strings text ts from brace script utf8 each is = (is.closed.wit
 
 pub events_at_legal : LegalStrings → LegalEventsAt
 events_at_legal strings text ts from e next utf8 each is = (is.event.within, call_legal (call_of e) (symbols (lexemes text (slice_range ts from next))) is.event.spelled (part_legal strings text ts from next utf8 each))
+
+pub scenarios_legal : LegalStrings → LegalScenarios
+scenarios_legal strings text ts t utf8 each is = (is.within, tree_legal (tree_of t) (symbols (lexemes text ts)) is.spelled (symbols_legal strings text ts utf8 each))

@@ -50,3 +50,6 @@ mod TreeFronts
 mod TreeWhole
 mod TreePlaces
 mod TreeLoops
+mod TreeAgain
+mod TreeLimits
+mod TreeLaws

@@ -317,7 +317,7 @@ bound_cut stop e before after h =
         }
 
 -- what is not empty begins as the whole does
-same_first : (x : Lexeme) (rest taken left : List Lexeme) (others : List Symbol) (last : Symbol) → x ∷ rest ≡ taken ++ left → symbols taken ≡ others ++ last ∷ [] → (more : List Lexeme) × (taken ≡ x ∷ more)
+pub same_first : (x : Lexeme) (rest taken left : List Lexeme) (others : List Symbol) (last : Symbol) → x ∷ rest ≡ taken ++ left → symbols taken ≡ others ++ last ∷ [] → (more : List Lexeme) × (taken ≡ x ∷ more)
 same_first x rest [] left [] last parts ends = absurd cc
 same_first x rest [] left (s ∷ others) last parts ends = absurd cc
 same_first x rest (y ∷ taken) left others last parts ends =

@@ -1,5 +1,6 @@
 -- A text is one sentence at most, or has one fault at most, and not both.
 use Rattle.std.proofs.Common.{◌≡◌, ◌≢◌, ℕ, ◌⊎◌, inl, inr, true, false, List, [], ◌∷◌, ◌++◌, Ok, Err, refl, sym, ap, subst, ◌∙◌, append_assoc}
+use Rattle.std.proofs.lemmas.List.{append-nil}
 use Rattle.jc_syntax.specs.declared.token.Token.{Token}
 use Rattle.jc_syntax.specs.declared.fault.LexFault.{LexFault}
 use Rattle.jc_syntax.specs.Lexemes.{AreTokensOf, IsFaultOf}
@@ -34,7 +35,9 @@ limit_at_last L W f stop e before after x no_dot begins refused = record {
 }
 
 allowed : {T : Type 0} (L : T → List Symbol → Type 0) (W : T → Type 0) (f : Reading → Outcome T) → ReadsSpelled L W f → (stop : ℕ) → IsAllowed (Spelling L W) (λ l. f (reading stop l) >>= ended)
-allowed L W f again stop = λ t ls e text h. by_read t ls e h (again true t ls stop text.0 text.1)
+allowed L W f again stop = λ t ls e text h.
+    let here : (f (reading stop ls) >>= ended) ≡ Err e = subst (λ (l : List Lexeme). (f (reading stop l) >>= ended) ≡ Err e) (append-nil ls) (h []) in
+    by_read t ls e here (again true t ls stop text.0 text.1)
   where
     by_read : (t : _) (ls : List Lexeme) (e : ScenarioFault) → (f (reading stop ls) >>= ended) ≡ Err e → ((f (reading stop ls) >>= ended) ≡ Ok t) ⊎ IsPast true (f (reading stop ls) >>= ended) → ⊥
     by_read t ls e h (inl read) = let bad : Ok t ≡ Err e = sym read ∙ h in absurd cc

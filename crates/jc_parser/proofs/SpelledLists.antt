@@ -45,7 +45,7 @@ pub record IsAfterList (p : Symbol → Bool) (y : List Lexeme) : Type 0 where
 abbrev pub ReadList : {A B : Type 0} → Given A B → (B → List Symbol → Type 0) → Bool → List B → List Lexeme → Outcome (List A) → Reading → Type 0
 ReadList {A} V L k bs w r rest = ((rs : List A) × Stands V L rs bs w × (r ≡ Ok (rs, rest))) ⊎ IsPast k r
 
-none_again : {A : Type 0} (p : Symbol → Bool) (item : Reading → Outcome A) (beyond : Reading → ScenarioFault) (n : ℕ) (y : List Lexeme) (stop : ℕ) → begins_with p y ≡ false → items_at p item beyond n (reading stop y) ≡ Ok ([], reading stop y)
+pub none_again : {A : Type 0} (p : Symbol → Bool) (item : Reading → Outcome A) (beyond : Reading → ScenarioFault) (n : ℕ) (y : List Lexeme) (stop : ℕ) → begins_with p y ≡ false → items_at p item beyond n (reading stop y) ≡ Ok ([], reading stop y)
 none_again p item beyond n y stop none = sym (with_front-nil (items_at p item beyond n (reading stop y))) ∙ items_done p item beyond n (reading stop y) [] none
 
 too_many : {A : Type 0} (p : Symbol → Bool) (item : Reading → Outcome A) (beyond : Reading → ScenarioFault) (k : Bool) (a : ℕ) (ls : List Lexeme) (stop : ℕ) → ((r : Reading) → IsLimitFault (beyond r)) → begins_with p ls ≡ true → Within k (suc a ≤ zero) → IsPast k (items_at p item beyond zero (reading stop ls))

@@ -109,18 +109,19 @@ pub record IsLimit {A R : Type 0} (L : Language A) (f : List Lexeme → Result R
   pub no_dot : last ≢ dot
   pub refused : (y : List Lexeme) → f (taken ++ y) ≡ Err e
 
--- what the limits allow is not refused
+-- what the limits allow is not refused whatever follows
 abbrev pub IsAllowed : {A R : Type 0} → Language A → (List Lexeme → Result R ScenarioFault) → Type 0
-IsAllowed {A} L f = (a : A) (ls : List Lexeme) (e : ScenarioFault) → L true a (symbols ls) → f ls ≡ Err e → ⊥
+IsAllowed {A} L f = (a : A) (ls : List Lexeme) (e : ScenarioFault) → L true a (symbols ls) → ((y : List Lexeme) → f (ls ++ y) ≡ Err e) → ⊥
 
 pub limit_is_none : {A R : Type 0} {L : Language A} {f : List Lexeme → Result R ScenarioFault} (e : ScenarioFault) (ls : List Lexeme) (a : A) → IsAllowed L f → IsLimit L f e ls → L true a (symbols ls) → ⊥
-limit_is_none {f} e ls a allowed l text = allowed a ls e text (ap f l.parts ∙ l.refused l.left)
+limit_is_none {f} e ls a allowed l text =
+    allowed a ls e text (λ y. ap (λ (w : List Lexeme). f (w ++ y)) l.parts ∙ ap f (append_assoc l.taken l.left y) ∙ l.refused (l.left ++ y))
 
 -- no text within the limits begins with what passes one
 limit_ends : {A R : Type 0} {L : Language A} {f : List Lexeme → Result R ScenarioFault} (e : ScenarioFault) (ls : List Lexeme) (d : List Symbol) → IsAllowed L f → (l : IsLimit L f e ls) → Begun (L true) (symbols l.taken ++ d) → ⊥
-limit_ends {L} e ls d allowed l (a, more, text) =
+limit_ends {L} {f} e ls d allowed l (a, more, text) =
     let whole : symbols (l.taken ++ lexed (d ++ more)) ≡ (symbols l.taken ++ d) ++ more = symbols-append l.taken (lexed (d ++ more)) ∙ ap (λ (s : List Symbol). symbols l.taken ++ s) (symbols-lexed (d ++ more)) ∙ sym (append_assoc (symbols l.taken) d more) in
-    allowed a (l.taken ++ lexed (d ++ more)) e (subst (L true a) (sym whole) text) (l.refused (lexed (d ++ more)))
+    allowed a (l.taken ++ lexed (d ++ more)) e (subst (L true a) (sym whole) text) (λ y. ap f (append_assoc l.taken (lexed (d ++ more)) y) ∙ l.refused (lexed (d ++ more) ++ y))
 
 -- what fits nothing does not come after what passes a limit
 after_limit : {A R : Type 0} {L : Language A} {f : List Lexeme → Result R ScenarioFault} (e : ScenarioFault) (ls before after : List Lexeme) (c : List Symbol) → IsAllowed L f → IsStray L ls before after → (l : IsLimit L f e ls) → symbols before ≡ symbols l.taken ++ c → ⊥

@@ -1,25 +1,22 @@
 -- What stops the reader of a scenario at a limit is the fault of the definition.
-use Rattle.std.proofs.Common.{◌≡◌, ◌≢◌, ℕ, zero, suc, ◌+◌, ◌≤◌, ◌<◌, inl, inr, true, false, not, List, [], ◌∷◌, ◌++◌, map, length, refl, sym, ap, subst, ◌∙◌, append_assoc, arith}
-use Rattle.std.specs.Prelude.{codes, All}
+use Rattle.std.proofs.Common.{◌≡◌, ◌≢◌, ℕ, zero, suc, ◌+◌, inl, inr, true, false, not, List, [], ◌∷◌, ◌++◌, map, length, refl, sym, ap, subst, ◌∙◌, append_assoc, arith}
 use Rattle.std.proofs.lemmas.List.{append-nil, length-append, length-map, map-append}
 use Rattle.std.proofs.lemmas.List.Elements.{All-map}
 use Rattle.jc_syntax.specs.declared.token.TokenKind.TheVariants.{Name}
-use Rattle.jc_syntax.specs.declared.tree.NamedEvent.{NamedEvent}
 use Rattle.jc_parser.specs.declared.fault.ScenarioFault.{ScenarioFault}
-use Rattle.jc_parser.specs.Symbols.{Symbol, word, open_brace, Lexeme}
-use Rattle.jc_parser.specs.Reading.{value_of, has_kind, reserved}
-use Rattle.jc_parser.specs.Grammar.{IsStartText}
+use Rattle.jc_parser.specs.Symbols.{Symbol, word, Lexeme}
+use Rattle.jc_parser.specs.Reading.{value_of, reserved}
 use Rattle.jc_parser.specs.Scripts.{IsScriptWellFormed}
-use Rattle.jc_parser.specs.Calls.{Call, call_of, IsCallSpelled, IsCallWellFormed, IsCallExcess}
-use Rattle.jc_parser.specs.Trees.{Part, name_of, header, schedule_head, IsPartSpelled, ArePartsSpelled, ArePartsWithin}
-use Rattle.jc_parser.specs.TreeFaults.{AreDone, IsNameFault, IsNameExcess, IsPartExcess, IsScheduleExcess, IsExcess}
+use Rattle.jc_parser.specs.Calls.{call_of, IsCallSpelled, IsCallWellFormed}
+use Rattle.jc_parser.specs.Trees.{Part, name_of, header, schedule_head, IsPartSpelled, ArePartsSpelled}
+use Rattle.jc_parser.specs.TreeFaults.{AreDone, IsNameFault, IsExcess}
 use Rattle.jc_parser.specs.TreeParts.{is_among, known}
 use Rattle.jc_parser.proofs.Expressions.{kind_is}
 use Rattle.jc_parser.proofs.Items.{start_map, start_all}
 use Rattle.jc_parser.proofs.LanguageTests.{both_true, untrue}
 use Rattle.jc_parser.proofs.Excess.{reserved_is}
 use Rattle.jc_parser.proofs.CallReaders.{Calls}
-use Rattle.jc_parser.proofs.TreeReaders.{IsNew, new_is, IsRefusedName, NameExcess, PartExcess, EventsExcess, BlockExcess}
+use Rattle.jc_parser.proofs.TreeReaders.{IsNew, new_is, IsRefusedName, PartExcess, BlockExcess}
 use Rattle.jc_parser.proofs.TreeTails.{replica, AreNew, CrowdExcess, TailExcess, AfterExcess}
 use Rattle.jc_parser.proofs.TreeNames.{contained, not_contained, parts_within, new_snoc}
 
@@ -34,7 +31,7 @@ pub record AreBefore (n : ℕ) (ps : List Part) (w : List Symbol) : Type 0 where
 done : (n : ℕ) (ps : List Part) (w : List Symbol) → AreBefore n ps w → AreDone ps w
 done n ps w h = record { parts = h.parts; spelled = h.spelled; within = parts_within ps h.new (omega (arith, h.count)); is = h.is }
 
-parts_snoc : (ps : List Part) (p : Part) (u v : List Symbol) → ArePartsSpelled ps u → IsPartSpelled p v → ArePartsSpelled (ps ++ p ∷ []) (u ++ v)
+pub parts_snoc : (ps : List Part) (p : Part) (u v : List Symbol) → ArePartsSpelled ps u → IsPartSpelled p v → ArePartsSpelled (ps ++ p ∷ []) (u ++ v)
 parts_snoc [] p u v none own = (v, [], own, refl, rw none (sym (append-nil v)))
 parts_snoc (q ∷ ps) p u v (x, y, first, rest, text) own = (x, y ++ v, first, parts_snoc ps p y v rest own, rw text (append_assoc x y v))
 
@@ -130,7 +127,7 @@ one_more n ps p w u h own new small =
       is = ap (λ (l : List Symbol). l ++ u) h.is;
     }
 
-some_snoc : (ps : List Part) (p : Part) → (ps ++ p ∷ []) ≢ []
+pub some_snoc : (ps : List Part) (p : Part) → (ps ++ p ∷ []) ≢ []
 some_snoc [] p same = absurd cc
 some_snoc (q ∷ ps) p same = absurd cc
 

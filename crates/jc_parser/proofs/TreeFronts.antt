@@ -1,14 +1,11 @@
 -- Replicas within the limits, before whatever follows them, are read; and a scenario that is spelled is read.
-use Rattle.std.proofs.Common.{◌≡◌, ◌≢◌, ℕ, zero, suc, ◌+◌, ◌≤◌, ◌⊎◌, inl, inr, Bool, true, false, List, [], ◌∷◌, ◌++◌, map, length, Ok, Err, refl, sym, ap, subst, ◌∙◌, append_assoc, arith}
-use Rattle.std.specs.Prelude.{codes, All}
+use Rattle.std.proofs.Common.{◌≡◌, ℕ, zero, suc, ◌+◌, ◌≤◌, ◌⊎◌, inl, inr, Bool, true, List, [], ◌∷◌, ◌++◌, map, length, Ok, Err, refl, sym, ap, subst, ◌∙◌, append_assoc, arith}
 use Rattle.std.proofs.lemmas.List.{append-nil}
-use Rattle.jc_parser.specs.Symbols.{Symbol, word, number, Lexeme, symbols}
+use Rattle.jc_parser.specs.Symbols.{Symbol, Lexeme, symbols}
 use Rattle.jc_parser.specs.Reading.{Reading, Outcome, ◌>>=◌, one}
 use Rattle.jc_parser.specs.Parts.{ended}
-use Rattle.jc_parser.specs.Calls.{call_of}
 use Rattle.jc_parser.specs.Trees.{Part, Tree, NamedTree, tree_of, name_of, header, ArePartsSpelled, IsTreeSpelled, IsTreeWithin}
 use Rattle.jc_parser.specs.TreeParts.{tree, with_part, tail_at, rest_at}
-use Rattle.jc_parser.proofs.Readers.{bind_assoc}
 use Rattle.jc_parser.proofs.Expressions.{Within, within-map}
 use Rattle.jc_parser.proofs.Spelled.{reading, at_place, split_none, IsPast, past_then, not_past}
 use Rattle.jc_parser.proofs.Sentences.{ReadsSpelled}

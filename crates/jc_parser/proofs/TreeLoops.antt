@@ -1,5 +1,5 @@
 -- The loop over replicas, and the names that it looks at.
-use Rattle.std.proofs.Common.{◌≡◌, ◌≢◌, ℕ, zero, suc, ◌-◌, Bool, true, false, ◌||◌, List, [], ◌∷◌, ◌++◌, map, Result, Ok, Err, refl, sym, ap, ◌∙◌, append_assoc, sub-one, arith}
+use Rattle.std.proofs.Common.{◌≡◌, ◌≢◌, ℕ, zero, suc, ◌-◌, true, false, ◌||◌, List, [], ◌∷◌, ◌++◌, map, Result, Ok, Err, refl, sym, ap, ◌∙◌, append_assoc, sub-one, arith}
 use Rattle.std.specs.Str.{bytes_eq}
 use Rattle.std.specs.List.{list_any}
 use Rattle.std.proofs.lemmas.List.{append-nil}
@@ -13,11 +13,11 @@ use Rattle.jc_parser.specs.Symbols.{Symbol, word, Lexeme}
 use Rattle.jc_parser.specs.Reading.{Reading, Outcome, Gives, ◌>>=◌, begins, place_at, one, skip, named_at}
 use Rattle.jc_parser.specs.Grammar.{is_reserved}
 use Rattle.jc_parser.specs.Trees.{Part, NamedTree}
-use Rattle.jc_parser.specs.TreeParts.{is_among, known, other_name_at, new_name_at, part_at, schedule_at, tree, with_part, crowd_at, tail_at, rest_at}
+use Rattle.jc_parser.specs.TreeParts.{is_among, other_name_at, new_name_at, part_at, schedule_at, tree, with_part, crowd_at, tail_at, rest_at}
 use Rattle.jc_parser.specs.TreeViews.{part_view, names_of}
 use Rattle.jc_parser.proofs.Spelled.{reading}
 use Rattle.jc_parser.proofs.TreeTails.{is_replica}
-use Rattle.jc_parser.proofs.TreeFronts.{with_parts, then_parts}
+use Rattle.jc_parser.proofs.TreeFronts.{then_parts}
 
 -- ---- names
 

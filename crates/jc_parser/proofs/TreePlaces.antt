@@ -2,20 +2,19 @@
 use Rattle.std.proofs.Common.{◌≡◌, ◌≢◌, ℕ, zero, suc, ◌⊎◌, inl, inr, Bool, true, false, cond, List, [], ◌∷◌, ◌++◌, Result, Ok, Err, refl, sym, ap, subst, ◌∙◌, append_assoc}
 use Rattle.std.specs.Prelude.{codes, IfOk, IfErr}
 use Rattle.std.proofs.lemmas.Bool.{cases_Bool}
-use Rattle.std.proofs.lemmas.List.{append-nil}
 use Rattle.jc_syntax.specs.declared.token.TokenKind.TheVariants.{Name, BraceL, BraceR, Semi}
 use Rattle.jc_syntax.specs.declared.tree.NamedEvent.{NamedEvent}
 use Rattle.jc_parser.specs.declared.fault.ScenarioFault.{ScenarioFault}
-use Rattle.jc_parser.specs.declared.fault.ScenarioFault.TheVariants.{TooManyEvents, Memory}
+use Rattle.jc_parser.specs.declared.fault.ScenarioFault.TheVariants.{Memory}
 use Rattle.jc_parser.specs.Symbols.{Symbol, word, number, open_brace, close_brace, semicolon, Lexeme, symbols}
-use Rattle.jc_parser.specs.Reading.{Reading, Outcome, Gives, ◌>>=◌, has_kind, is_word, begins_with, place, skip, stuck, is_at_end}
+use Rattle.jc_parser.specs.Reading.{Reading, Outcome, Gives, ◌>>=◌, has_kind, is_word, begins_with, skip, stuck, is_at_end}
 use Rattle.jc_parser.specs.Parts.{items_at, front_at, ended}
 use Rattle.jc_parser.specs.Calls.{IsEvent}
 use Rattle.jc_parser.specs.CallParts.{any_event_at}
-use Rattle.jc_parser.specs.Trees.{Part, NamedTree, header, schedule_head, IsPartSpelled, ArePartsSpelled, AreEvents, AreBlock, IsNamedTree}
+use Rattle.jc_parser.specs.Trees.{NamedTree, header, schedule_head, IsPartSpelled, ArePartsSpelled, AreEvents, AreBlock, IsNamedTree}
 use Rattle.jc_parser.specs.TreeFaults.{IsTreeFault}
 use Rattle.jc_parser.specs.TreeParts.{part_at, events_at, block_at, schedule_at, tree, with_part, crowd_at, tail_at, rest_at, tree_at}
-use Rattle.jc_parser.proofs.Readers.{bind_ok, chosen_ok, ok_parts, read_as, Exactly, reads_skip, symbols-append}
+use Rattle.jc_parser.proofs.Readers.{bind_ok, chosen_ok, ok_parts, read_as, reads_skip, symbols-append}
 use Rattle.jc_parser.proofs.Expressions.{kind_is, word_is, number_is}
 use Rattle.jc_parser.proofs.Sentences.{none_left}
 use Rattle.jc_parser.proofs.CallWhole.{event_read}

@@ -1,27 +1,26 @@
 -- What the readers of a scenario's parts take, and where they stop.
-use Rattle.std.proofs.Common.{◌≡◌, ℕ, zero, suc, ◌+◌, ◌≤◌, ◌<◌, ◌⊎◌, inl, inr, Bool, true, false, cond, not, ◌&&◌, List, [], ◌∷◌, ◌++◌, map, length, Ok, Err, refl, sym, ap, subst, ◌∙◌, append_assoc, arith}
+use Rattle.std.proofs.Common.{◌≡◌, ℕ, ◌+◌, ◌<◌, ◌⊎◌, inl, inr, Bool, true, false, cond, not, ◌&&◌, List, [], ◌∷◌, ◌++◌, length, Ok, Err, refl, ap, ◌∙◌, arith}
 use Rattle.std.specs.Prelude.{codes}
 use Rattle.std.specs.Str.{bytes_eq}
 use Rattle.std.proofs.lemmas.Bool.{cases_Bool}
-use Rattle.std.proofs.lemmas.List.{append-nil, length-append}
+use Rattle.std.proofs.lemmas.List.{length-append}
 use Rattle.std.proofs.lemmas.List.Elements.{All-nil}
 use Rattle.std.proofs.lemmas.Slice.Eq.{bytes_eq-Decides}
 use Rattle.jc_syntax.specs.declared.token.TokenKind.TheVariants.{Name, BraceL, BraceR}
 use Rattle.jc_syntax.specs.declared.tree.NamedEvent.{NamedEvent}
 use Rattle.jc_rules.specs.Syntax.{Cmd}
 use Rattle.jc_parser.specs.declared.fault.ScenarioFault.{ScenarioFault}
-use Rattle.jc_parser.specs.declared.fault.ScenarioFault.TheVariants.{ReservedName, SameName, TooManyReplicas, TooManyEvents}
-use Rattle.jc_parser.specs.Symbols.{Symbol, word, open_brace, close_brace, Lexeme, symbols}
-use Rattle.jc_parser.specs.Reading.{Reading, Outcome, ◌>>=◌, has_kind, value_of, is_word, reserved, begins_with, place_at, place, one, skip, named_at, stuck_at}
+use Rattle.jc_parser.specs.declared.fault.ScenarioFault.TheVariants.{ReservedName, SameName, TooManyEvents}
+use Rattle.jc_parser.specs.Symbols.{Symbol, word, open_brace, close_brace, Lexeme}
+use Rattle.jc_parser.specs.Reading.{Reading, Outcome, ◌>>=◌, has_kind, value_of, is_word, reserved, begins_with, place_at, place, one, skip, named_at}
 use Rattle.jc_parser.specs.Grammar.{is_reserved}
 use Rattle.jc_parser.specs.Scripts.{IsScriptWellFormed, IsScriptExcess}
 use Rattle.jc_parser.specs.ScriptParts.{closed_script_at}
 use Rattle.jc_parser.specs.ClosedScripts.{IsClosedSpelled}
 use Rattle.jc_parser.specs.Calls.{IsCallExcess}
-use Rattle.jc_parser.specs.CallParts.{any_event_at}
-use Rattle.jc_parser.specs.Trees.{Part, NamedTree, part_head, schedule_head, IsPartSpelled, ArePartsSpelled}
-use Rattle.jc_parser.specs.TreeParts.{is_among, known, other_name_at, new_name_at, body_at, part_at, events_at, block_at, schedule_at, tree, with_part, crowd_at, tail_at, rest_at}
-use Rattle.jc_parser.proofs.Readers.{Language, Excess, Never, SameHead, Begun, Misfits, Stopped, Reads, read_as, fault_as, took_if, reads_one, reads_symbol, reads_then, reads_if, reads_done, reads_map, reads_refused, reads_same, reads_as, reads_more}
+use Rattle.jc_parser.specs.Trees.{Part, schedule_head}
+use Rattle.jc_parser.specs.TreeParts.{is_among, known, other_name_at, new_name_at, body_at, part_at, events_at, block_at, schedule_at}
+use Rattle.jc_parser.proofs.Readers.{Language, Excess, Never, Reads, reads_one, reads_symbol, reads_then, reads_if, reads_done, reads_map, reads_refused, reads_same, reads_as, reads_more}
 use Rattle.jc_parser.proofs.Expressions.{kind_is, word_is, Within, within}
 use Rattle.jc_parser.proofs.Sentences.{Spelling}
 use Rattle.jc_parser.proofs.Items.{Lists, ListExcess, reads_items}

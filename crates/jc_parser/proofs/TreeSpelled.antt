@@ -1,31 +1,28 @@
 -- What is spelled is read: replicas and schedules.
-use Rattle.std.proofs.Common.{◌≡◌, ℕ, zero, suc, ◌+◌, ◌≤◌, ◌⊎◌, inl, inr, Bool, true, false, cond, List, [], ◌∷◌, ◌++◌, map, length, Result, Ok, Err, refl, sym, ap, subst, ◌∙◌, append_assoc, arith}
+use Rattle.std.proofs.Common.{◌≡◌, ℕ, zero, suc, ◌≤◌, ◌⊎◌, inl, inr, Bool, true, false, List, [], ◌∷◌, ◌++◌, map, length, Ok, refl, sym, ap, subst, ◌∙◌, append_assoc, arith}
 use Rattle.std.specs.Prelude.{codes, All}
 use Rattle.std.proofs.lemmas.Bool.{cases_Bool}
-use Rattle.std.proofs.lemmas.List.{append-nil}
-use Rattle.jc_syntax.specs.declared.token.TokenKind.TheVariants.{Name, BraceL, BraceR}
+use Rattle.jc_syntax.specs.declared.token.TokenKind.TheVariants.{Name}
 use Rattle.jc_syntax.specs.declared.tree.NamedEvent.{NamedEvent}
-use Rattle.jc_rules.specs.Syntax.{Cmd}
-use Rattle.jc_parser.specs.declared.fault.ScenarioFault.{ScenarioFault}
 use Rattle.jc_parser.specs.declared.fault.ScenarioFault.TheVariants.{ReservedName, SameName, TooManyReplicas, TooManyEvents}
 use Rattle.jc_parser.specs.Symbols.{Symbol, word, open_brace, close_brace, Lexeme, symbols}
-use Rattle.jc_parser.specs.Reading.{Reading, Outcome, ◌>>=◌, has_kind, is_word, begins_with, place, skip, one, named_at}
+use Rattle.jc_parser.specs.Reading.{Reading, Outcome, ◌>>=◌, has_kind, begins_with, place, one, named_at}
 use Rattle.jc_parser.specs.Grammar.{is_reserved, IsListText}
 use Rattle.jc_parser.specs.Scripts.{IsScriptWellFormed}
 use Rattle.jc_parser.specs.ScriptParts.{closed_script_at}
 use Rattle.jc_parser.specs.ClosedScripts.{IsClosedSpelled}
 use Rattle.jc_parser.specs.Calls.{Call, executes, sends, receives, applies, ends, call_of, IsCallSpelled, IsCallWellFormed}
 use Rattle.jc_parser.specs.CallParts.{any_event_at}
-use Rattle.jc_parser.specs.Trees.{Part, NamedTree, part_head, schedule_head, IsPartSpelled, ArePartsSpelled, IsScheduleSpelled}
-use Rattle.jc_parser.specs.TreeParts.{is_among, known, other_name_at, new_name_at, body_at, part_at, events_at, block_at, schedule_at, tree, with_part, crowd_at, tail_at}
+use Rattle.jc_parser.specs.Trees.{Part, NamedTree, IsPartSpelled, ArePartsSpelled, IsScheduleSpelled}
+use Rattle.jc_parser.specs.TreeParts.{is_among, other_name_at, new_name_at, body_at, part_at, events_at, block_at, schedule_at, tree, with_part, tail_at}
 use Rattle.jc_parser.proofs.Readers.{bind_ok, bind_err, read_as, ok_parts}
-use Rattle.jc_parser.proofs.Expressions.{Within, within, within-map}
+use Rattle.jc_parser.proofs.Expressions.{Within, within-map}
 use Rattle.jc_parser.proofs.Spelled.{reading, at_place, First, split_one, split_symbols, split_around, split_none, IsPast, Answers, past_then}
-use Rattle.jc_parser.proofs.SpelledLists.{Given, Stands, IsItem, IsAfterList, ReadList, items_again}
+use Rattle.jc_parser.proofs.SpelledLists.{Given, Stands, IsItem, ReadList, items_again}
 use Rattle.jc_parser.proofs.ClosedScripts.{closed_front}
 use Rattle.jc_parser.proofs.CallReaders.{call_at}
 use Rattle.jc_parser.proofs.CallSpelled.{call_again}
-use Rattle.jc_parser.proofs.TreeReaders.{IsNew, part}
+use Rattle.jc_parser.proofs.TreeReaders.{IsNew}
 use Rattle.jc_parser.proofs.TreeTails.{replica, is_replica, AreNew}
 
 -- ---- the schedule
@@ -48,14 +45,14 @@ call_read k c r rest (inr (may, e, fails, limit)) =
 named_first : (w y : List Lexeme) (p : List ℕ) (b : List Symbol) → First w (word p) b → begins_with (has_kind Name) (w ++ y) ≡ true
 named_first w y p b (at, v, parts, rest) = rw parts refl
 
-call_first : (c : Call) (w y : List Lexeme) → IsCallSpelled c (symbols w) → begins_with (has_kind Name) (w ++ y) ≡ true
+pub call_first : (c : Call) (w y : List Lexeme) → IsCallSpelled c (symbols w) → begins_with (has_kind Name) (w ++ y) ≡ true
 call_first (executes p) w y text = named_first w y p _ (split_one w (word p) _ text)
 call_first (sends p) w y text = named_first w y p _ (split_one w (word p) _ text)
 call_first (receives p q) w y text = named_first w y p _ (split_one w (word p) _ text)
 call_first (applies p counter q) w y (digits, numeral, same, text) = named_first w y p _ (split_one w (word p) _ text)
 call_first (ends p) w y text = named_first w y p _ (split_one w (word p) _ text)
 
-calls_are : IsItem (has_kind Name) any_event_at IsCallSpelled Called IsCallWellFormed
+pub calls_are : IsItem (has_kind Name) any_event_at IsCallSpelled Called IsCallWellFormed
 calls_are = record {
   again = λ k c w y stop l small no_dot. call_read k c (reading stop (w ++ y)) (reading stop y) (call_again k c w y stop l small);
   first = λ c w y l. call_first c w y l;

@@ -1,5 +1,5 @@
 -- What the reader of a scenario takes from the name of a replica on, and where it stops.
-use Rattle.std.proofs.Common.{◌≡◌, ℕ, zero, suc, ◌≤◌, ◌⊎◌, inl, inr, Bool, true, false, cond, List, [], ◌∷◌, ◌++◌, length, Result, Ok, Err, refl, sym, ap, subst, ◌∙◌, append_assoc, arith}
+use Rattle.std.proofs.Common.{◌≡◌, ℕ, zero, suc, ◌≤◌, ◌⊎◌, inl, inr, Bool, true, false, List, [], ◌∷◌, ◌++◌, length, Ok, Err, refl, sym, ap, subst, ◌∙◌, append_assoc, arith}
 use Rattle.std.specs.Prelude.{codes}
 use Rattle.std.proofs.lemmas.Bool.{cases_Bool}
 use Rattle.std.proofs.lemmas.List.{append-nil}
@@ -9,13 +9,13 @@ use Rattle.jc_syntax.specs.declared.tree.NamedEvent.{NamedEvent}
 use Rattle.jc_parser.specs.declared.fault.ScenarioFault.{ScenarioFault}
 use Rattle.jc_parser.specs.declared.fault.ScenarioFault.TheVariants.{TooManyReplicas}
 use Rattle.jc_parser.specs.Symbols.{Symbol, word, open_brace, close_brace, Lexeme, symbols}
-use Rattle.jc_parser.specs.Reading.{Reading, Outcome, ◌>>=◌, has_kind, value_of, is_word, reserved, begins_with, skip, stuck_at}
+use Rattle.jc_parser.specs.Reading.{Reading, Outcome, ◌>>=◌, has_kind, is_word, reserved, skip, stuck_at}
 use Rattle.jc_parser.specs.Scripts.{IsScriptWellFormed}
 use Rattle.jc_parser.specs.Trees.{Part, NamedTree, IsPartSpelled, ArePartsSpelled}
-use Rattle.jc_parser.specs.TreeParts.{is_among, known, part_at, schedule_at, tree, with_part, crowd_at, tail_at, rest_at}
+use Rattle.jc_parser.specs.TreeParts.{known, part_at, schedule_at, tree, with_part, crowd_at, tail_at, rest_at}
 use Rattle.jc_parser.proofs.Readers.{Language, Excess, SameHead, Took, Misfits, Stopped, Reads, bind_ok, bind_err, Exactly, reads_skip, reads_symbol, reads_then, reads_if, reads_map, reads_more}
-use Rattle.jc_parser.proofs.Expressions.{kind_is, word_is}
-use Rattle.jc_parser.proofs.TreeReaders.{IsNew, is_new, is_taken, fresh, fresh_is, IsRefusedName, part, Parts, PartExcess, reads_part, BlockExcess, Schedules, reads_schedule}
+use Rattle.jc_parser.proofs.Expressions.{word_is}
+use Rattle.jc_parser.proofs.TreeReaders.{IsNew, is_new, fresh, fresh_is, IsRefusedName, part, Parts, PartExcess, reads_part, BlockExcess, Schedules, reads_schedule}
 
 -- the word before a replica's name
 abbrev pub replica : Symbol

@@ -1,5 +1,5 @@
 -- A scenario that is all of the lexemes: the grammar and the faults, from what is read.
-use Rattle.std.proofs.Common.{◌≡◌, ◌≢◌, ℕ, zero, suc, ◌+◌, ◌≤◌, ◌⊎◌, inl, inr, Bool, true, false, List, [], ◌∷◌, ◌++◌, map, length, Result, Ok, Err, refl, sym, ap, subst, ◌∙◌, append_assoc, arith}
+use Rattle.std.proofs.Common.{◌≡◌, ◌≢◌, ℕ, zero, suc, ◌+◌, ◌≤◌, ◌⊎◌, inl, inr, Bool, true, false, List, [], ◌∷◌, ◌++◌, map, length, Ok, Err, refl, sym, ap, subst, ◌∙◌, append_assoc, arith}
 use Rattle.std.specs.Prelude.{codes, All}
 use Rattle.std.proofs.lemmas.List.{append-nil, length-map}
 use Rattle.std.proofs.lemmas.List.Elements.{All-nil, All-map}
@@ -7,14 +7,14 @@ use Rattle.jc_syntax.specs.declared.tree.NamedEvent.{NamedEvent}
 use Rattle.jc_parser.specs.declared.fault.ScenarioFault.{ScenarioFault}
 use Rattle.jc_parser.specs.declared.fault.ScenarioFault.TheVariants.{NoHeader, NoReplica, Unexpected}
 use Rattle.jc_parser.specs.Symbols.{Symbol, word, number, dot, open_brace, close_brace, Lexeme, symbols}
-use Rattle.jc_parser.specs.Reading.{Reading, Outcome, ◌>>=◌, is_word, is_number, begins_with, place_at, stuck_at, stuck, no_more, is_at_end, one}
+use Rattle.jc_parser.specs.Reading.{Reading, ◌>>=◌, is_word, is_number, begins_with, place_at, stuck_at, stuck, no_more, is_at_end, one}
 use Rattle.jc_parser.specs.Parts.{front_at, skip_or, ended}
 use Rattle.jc_parser.specs.Sentences.{Begins, FitsNothing}
 use Rattle.jc_parser.specs.Calls.{call_of, IsCallSpelled, IsCallWellFormed}
-use Rattle.jc_parser.specs.Trees.{Part, Tree, NamedTree, tree_of, name_of, header, IsPartSpelled, ArePartsSpelled, IsScheduleSpelled, IsTreeSpelled, IsTreeWithin}
-use Rattle.jc_parser.specs.TreeFaults.{AreDone, IsBegun, IsOutOfPlace, IsExcess, IsTreeFault}
-use Rattle.jc_parser.specs.TreeParts.{tree, tail_at, rest_at, tree_at}
-use Rattle.jc_parser.proofs.Readers.{bind_ok, bind_err, chosen_ok, chosen_err, SameHead, same_stuck, symbols-append, Begun, IsKept, Misfits, Took}
+use Rattle.jc_parser.specs.Trees.{Part, Tree, NamedTree, tree_of, name_of, header, ArePartsSpelled, IsScheduleSpelled, IsTreeSpelled, IsTreeWithin}
+use Rattle.jc_parser.specs.TreeFaults.{AreDone, IsBegun, IsExcess, IsTreeFault}
+use Rattle.jc_parser.specs.TreeParts.{tail_at, rest_at, tree_at}
+use Rattle.jc_parser.proofs.Readers.{bind_ok, bind_err, chosen_ok, chosen_err, same_stuck, symbols-append, Begun, IsKept}
 use Rattle.jc_parser.proofs.Expressions.{word_is, number_is}
 use Rattle.jc_parser.proofs.Items.{list_map, list_all}
 use Rattle.jc_parser.proofs.Spelled.{reading, at_place, lexed, symbols-lexed, IsLimitFault, IsPast}
@@ -23,7 +23,7 @@ use Rattle.jc_parser.proofs.Sentences.{none_left, same_no_more, fits_nothing}
 use Rattle.jc_parser.proofs.Headers.{took_one, missed_one, Front, front_ok, unfit_at, front_symbols}
 use Rattle.jc_parser.proofs.CallReaders.{Calls}
 use Rattle.jc_parser.proofs.TreeReaders.{part, Schedules}
-use Rattle.jc_parser.proofs.TreeTails.{replica, AreNew, IsTail, IsOpen, After, reads_rest}
+use Rattle.jc_parser.proofs.TreeTails.{replica, AreNew, IsTail, After, reads_rest}
 use Rattle.jc_parser.proofs.TreeNames.{parts_within}
 use Rattle.jc_parser.proofs.TreeFronts.{then_parts, tail_front, opening, IsRestSpelled, told_at, rest_is, rest_spelled}
 use Rattle.jc_parser.proofs.TreeExcess.{rest_excess}

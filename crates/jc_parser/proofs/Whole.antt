@@ -1,17 +1,16 @@
 -- A scenario that is all of the lexemes: the grammar and the faults, from what is read.
 use Rattle.std.proofs.Common.{◌≡◌, ℕ, ◌⊎◌, inl, inr, Bool, true, false, List, [], ◌∷◌, ◌++◌, Ok, Err, refl, sym, ap, subst, ◌∙◌, append_assoc, arith}
 use Rattle.std.specs.Prelude.{codes}
-use Rattle.std.proofs.lemmas.Bool.{cases_Bool}
 use Rattle.std.proofs.lemmas.List.{append-nil}
 use Rattle.std.proofs.lemmas.List.Elements.{All-nil}
 use Rattle.jc_parser.specs.declared.fault.ScenarioFault.{ScenarioFault}
 use Rattle.jc_parser.specs.declared.fault.ScenarioFault.TheVariants.{NoHeader, NoReplica, Unexpected, EndOfText}
 use Rattle.jc_parser.specs.Symbols.{Symbol, word, number, dot, open_brace, close_brace, Lexeme, symbols}
-use Rattle.jc_parser.specs.Reading.{Reading, ◌>>=◌, is_word, is_number, begins_with, place_at, stuck_at, stuck, no_more, is_at_end, one}
+use Rattle.jc_parser.specs.Reading.{Reading, ◌>>=◌, is_word, is_number, begins_with, place_at, stuck_at, stuck, no_more, is_at_end}
 use Rattle.jc_parser.specs.Parts.{front_at, skip_or, replica_at, ended, whole_at, Parsed}
 use Rattle.jc_parser.specs.Grammar.{IsText, Tree, IsWithinLimits, IsShort}
 use Rattle.jc_parser.specs.Stops.{IsPrefix, IsPrefixWithin, IsBeginning, IsMisfit, IsMisplaced, IsExcess, IsFault}
-use Rattle.jc_parser.proofs.Readers.{bind_ok, bind_err, chosen_ok, chosen_err, read_as, ok_parts, SameHead, same_stuck, symbols-append, IsKept, Begun}
+use Rattle.jc_parser.proofs.Readers.{bind_ok, bind_err, chosen_ok, chosen_err, SameHead, same_stuck, symbols-append, IsKept, Begun}
 use Rattle.jc_parser.proofs.Expressions.{word_is, number_is}
 use Rattle.jc_parser.proofs.Scenarios.{tree_of, Replicas, reads_replica}
 use Rattle.jc_parser.proofs.Spelled.{reading, lexed, symbols-lexed, IsLimitFault}

@@ -1,5 +1,5 @@
 -- Trees that a text can be written of: their names, numbers and strings are such as tokens have.
-use Rattle.std.specs.Prelude.{◌≡◌, ℕ, ◌<◌, ◌≤◌, List, length, slice_index, true}
+use Rattle.std.specs.Prelude.{◌≡◌, ℕ, ◌<◌, ◌≤◌, List, length, slice_index, true, All}
 use Rattle.std.specs.List.{AllPass}
 use Rattle.std.specs.Str.{IsUtf8}
 use Rattle.jc_rules.specs.declared.operation.Event.{Event}
@@ -10,6 +10,7 @@ use Rattle.jc_rules.specs.Syntax.{Expr, TheDoc, Variable, GetKey, Index, KeysOf,
 use Rattle.jc_syntax.specs.Bytes.{is_name_start, is_name_byte}
 use Rattle.jc_syntax.specs.Numbers.{IsNumber}
 use Rattle.jc_parser.specs.Calls.{Call, executes, sends, receives, applies, ends}
+use Rattle.jc_parser.specs.Trees.{Part, Tree}
 use Rattle.jc_rules.specs.Names.{name_at}
 
 -- a letter or `_`, then letters, digits and `_`, at most 255 bytes in all
@@ -66,3 +67,12 @@ call_by names (Done p) = ends (name_at names p)
 abbrev pub IsCounterBelow : Event → Type 0
 IsCounterBelow (Apply p i) = i.counter < 4294967296
 IsCounterBelow e = Unit {0}
+
+-- ---- scenarios
+
+abbrev pub IsLegalPart : Part → Type 0
+IsLegalPart p = IsName p.name × All IsLegalCmd p.script
+
+-- names, numbers and strings of the replicas, and names in the events
+abbrev pub IsLegalTree : Tree → Type 0
+IsLegalTree t = All IsLegalPart t.parts × All IsLegalCall t.calls

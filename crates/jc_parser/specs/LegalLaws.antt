@@ -10,7 +10,9 @@ use Rattle.jc_parser.specs.LanguageFaults.{IsExpressionOf}
 use Rattle.jc_parser.specs.Scripts.{IsScriptWellFormed, IsScriptOf}
 use Rattle.jc_parser.specs.ClosedScripts.{IsScriptAt}
 use Rattle.jc_parser.specs.Calls.{call_of, IsCallWellFormed, IsEventOf, IsEventAt}
-use Rattle.jc_parser.specs.Legal.{IsLegalExpr, IsLegalCmd, IsLegalCall}
+use Rattle.jc_parser.specs.Reading.{reading}
+use Rattle.jc_parser.specs.Trees.{NamedTree, tree_of, IsTreeWithin, IsNamedTree}
+use Rattle.jc_parser.specs.Legal.{IsLegalExpr, IsLegalCmd, IsLegalCall, IsLegalTree}
 
 abbrev pub LegalExpressions : Type 0
 LegalExpressions =
@@ -50,3 +52,11 @@ LegalEventsAt =
     → All (IsTokenOf text) tokens
     → IsEventAt text tokens from e next
     → IsCallWellFormed (call_of e) × IsLegalCall (call_of e)
+
+abbrev pub LegalScenarios : Type 0
+LegalScenarios =
+    (text : List ℕ) (tokens : List Token) (t : NamedTree)
+    → IsUtf8 text
+    → All (IsTokenOf text) tokens
+    → IsNamedTree (reading text tokens) t
+    → IsTreeWithin (tree_of t) × IsLegalTree (tree_of t)

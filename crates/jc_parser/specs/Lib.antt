@@ -21,5 +21,6 @@ pub mod Trees
 pub mod TreeFaults
 pub mod TreeParts
 pub mod TreeViews
+pub mod TreeLaws
 pub mod Legal
 pub mod LegalLaws

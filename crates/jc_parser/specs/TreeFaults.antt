@@ -10,7 +10,7 @@ use Rattle.jc_parser.specs.Grammar.{is_reserved, IsStartText}
 use Rattle.jc_parser.specs.Scripts.{IsScriptExcess}
 use Rattle.jc_parser.specs.Calls.{Call, IsCallSpelled, IsCallWellFormed, IsCallExcess}
 use Rattle.jc_parser.specs.Sentences.{Begins, FitsNothing}
-use Rattle.jc_parser.specs.Trees.{Part, Tree, name_of, header, part_head, schedule_head, ArePartsSpelled, ArePartsWithin, IsTreeSpelled, IsTreeWithin}
+use Rattle.jc_parser.specs.Trees.{Part, name_of, header, part_head, schedule_head, ArePartsSpelled, ArePartsWithin, IsTreeSpelled, IsTreeWithin}
 
 -- ---- what fits nothing
 

@@ -336,7 +336,8 @@ fn is_numeral(text: &str) -> bool
 /// The number that digits write, if it is below 2 to the 32.
 fn index_of(digits: &str) -> Option<u32>
     requires { language.is_numeral digits.now ≡ true }
-    ensures { result ≡ (if nat_lt (numeral_value digits.now) 4294967296 then Some (numeral_value digits.now) else None) }
+    ensures { result
+        ≡ (if nat_lt (numeral_value digits.now) 4294967296 then Some (numeral_value digits.now) else None) }
 {
     match digits.parse::<u32>() {
         Ok(index) => Some(index),

@@ -106,7 +106,8 @@ fn only_event(alloc: Global, cursor: &mut Cursor) -> Result<NamedEvent, Scenario
 fn event_of(alloc: Global, text: &str, tokens: &[Token]) -> Result<NamedEvent, ScenarioFault>
     requires { All (IsTokenOf text.now) tokens.now }
     ensures tree { IfOk result (λ e. IsEvent e (lexemes text.now tokens.now)) }
-    ensures fault { IfErr result (λ e. e ≢ ScenarioFault.Memory → IsStopped IsCallSpelled IsCallWellFormed IsCallExcess (reading text.now tokens.now) e) }
+    ensures fault { IfErr result (λ e. e ≢ ScenarioFault.Memory
+        → IsStopped IsCallSpelled IsCallWellFormed IsCallExcess (reading text.now tokens.now) e) }
     ensures kind { IfErr result IsOfSentence }
 {
     let mut cursor = Cursor::new(text, tokens);
@@ -171,7 +172,8 @@ pub fn event_at(
     // What is read is the event that these tokens are, each name with its place.
     ensures tree { IfOk result (λ x. IsEventAt text.now tokens.now from x.0 x.1) }
     // Where it refuses no event stands there, and reading stops so.
-    ensures fault { IfErr result (λ e. e ≢ ParseFault.Memory → IsEventFaultAt text.now tokens.now from (from_sentence e)) }
+    ensures fault { IfErr result (λ e. e ≢ ParseFault.Memory
+        → IsEventFaultAt text.now tokens.now from (from_sentence e)) }
 {
     match event_before(alloc, text, &tokens[from..]) {
         Ok((event, left)) => Ok((event, tokens.len() - left)),

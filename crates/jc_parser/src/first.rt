@@ -41,7 +41,8 @@ fn resolve(alloc: Global, own: &Text, named: &[Named]) -> Result<Vec<Event>, Sce
 /// The scenario that all of the tokens are.
 fn scenario(alloc: Global, text: &str, tokens: &[Token]) -> Result<First, ScenarioFault>
     requires { All (IsTokenOf text.now) tokens.now }
-    ensures tree { IfOk result (λ f. IsOnly (reading text.now tokens.now) f.name (map cmd_of f.script.items) f.schedule.items) }
+    ensures tree { IfOk result (λ f.
+        IsOnly (reading text.now tokens.now) f.name (map cmd_of f.script.items) f.schedule.items) }
     ensures fault { IfErr result (λ e. e ≢ ScenarioFault.Memory → IsFault (reading text.now tokens.now) e) }
 {
     let mut cursor = Cursor::new(text, tokens);

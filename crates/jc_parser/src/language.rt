@@ -160,7 +160,8 @@ fn expression_of(alloc: Global, text: &str, tokens: &[Token]) -> Result<Expr, Sc
     requires { All (IsTokenOf text.now) tokens.now }
     ensures spelled { IfOk result (λ e. IsSpelled (expr_of e) (symbols (lexemes text.now tokens.now))) }
     ensures within { IfOk result (λ e. IsWellFormed (expr_of e)) }
-    ensures fault { IfErr result (λ e. e ≢ ScenarioFault.Memory → IsStopped IsSpelled IsWellFormed IsExpressionExcess (reading text.now tokens.now) e) }
+    ensures fault { IfErr result (λ e. e ≢ ScenarioFault.Memory
+        → IsStopped IsSpelled IsWellFormed IsExpressionExcess (reading text.now tokens.now) e) }
     ensures kind { IfErr result IsOfSentence }
 {
     let mut cursor = Cursor::new(text, tokens);

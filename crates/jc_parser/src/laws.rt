@@ -4,7 +4,8 @@
 ghost use Rattle.jc_parser.specs.Laws.{OneTree, OneScenario, ScenarioOrFault, OneFault, OneExpression, ExpressionOrFault, OneExpressionFault, OneScript, ScriptOrFault, OneScriptFault};
 ghost use Rattle.jc_parser.specs.ClosedScripts.{OneScriptAt, ScriptOrFaultAt, OneScriptFaultAt};
 ghost use Rattle.jc_parser.specs.CallLaws.{OneEvent, EventOrFault, OneEventFault, OneEventAt, EventOrFaultAt, OneEventFaultAt};
-ghost use Rattle.jc_parser.specs.LegalLaws.{LegalExpressions, LegalScripts, LegalEvents, LegalScriptsAt, LegalEventsAt};
+ghost use Rattle.jc_parser.specs.TreeLaws.{OneNamedTree, NamedTreeOrFault, OneTreeFault};
+ghost use Rattle.jc_parser.specs.LegalLaws.{LegalExpressions, LegalScripts, LegalEvents, LegalScriptsAt, LegalEventsAt, LegalScenarios};
 
 use jc_syntax::laws as lexemes;
 
@@ -139,6 +140,22 @@ pub fn one_script_fault_at()
     ensures { OneScriptFaultAt }
 {}
 
+/// Tokens are one scenario of the whole language at most, with one place for each name in its events.
+pub fn one_named_tree()
+    ensures { OneNamedTree }
+{}
+
+/// Tokens that are a scenario of the whole language have no fault.
+pub fn named_tree_or_fault()
+    ensures { NamedTreeOrFault }
+{}
+
+/// Tokens have one fault at most as a scenario of the whole language: its number and its place are
+/// determined.
+pub fn one_tree_fault()
+    ensures { OneTreeFault }
+{}
+
 /// The expression that a text is stays within the limits, and its names and strings are such as tokens have.
 pub fn legal_expressions()
     ensures { LegalExpressions }
@@ -171,6 +188,14 @@ pub fn legal_scripts_at()
 /// An event among the tokens of a text is as legal as one that is a whole text.
 pub fn legal_events_at()
     ensures { LegalEventsAt }
+{
+    lexemes::legal_strings();
+}
+
+/// A scenario of the whole language that the tokens of a UTF-8 text are keeps the limits, and its names,
+/// numbers and strings are such as tokens have.
+pub fn legal_scenarios()
+    ensures { LegalScenarios }
 {
     lexemes::legal_strings();
 }

@@ -65,7 +65,8 @@ fn insertion(alloc: Global, cursor: &mut Cursor, place: Expr) -> Result<Cmd, Sce
 /// What follows the expression of a command.
 #[tactic(auto, unfolding(crate::specs::ScriptParts::finish_at, crate::specs::ScriptParts::assignment_at, crate::specs::ScriptParts::deletion_at))]
 fn finish(alloc: Global, cursor: &mut Cursor, chain: Chain) -> Result<Cmd, ScenarioFault>
-    ensures { Gives (λ c. (cmd_of c, cursor.new)) result (finish_at (expr_of chain.expression) chain.dotted cursor.old) }
+    ensures { Gives (λ c. (cmd_of c, cursor.new)) result
+        (finish_at (expr_of chain.expression) chain.dotted cursor.old) }
 {
     let Chain { expression, dotted } = chain;
     if !dotted {
@@ -155,7 +156,8 @@ fn script_of(alloc: Global, text: &str, tokens: &[Token]) -> Result<Vec<Cmd>, Sc
     requires { All (IsTokenOf text.now) tokens.now }
     ensures spelled { IfOk result (λ s. IsScriptSpelled (map cmd_of s.items) (symbols (lexemes text.now tokens.now))) }
     ensures within { IfOk result (λ s. IsScriptWellFormed (map cmd_of s.items)) }
-    ensures fault { IfErr result (λ e. e ≢ ScenarioFault.Memory → IsStopped IsScriptSpelled IsScriptWellFormed IsScriptExcess (reading text.now tokens.now) e) }
+    ensures fault { IfErr result (λ e. e ≢ ScenarioFault.Memory
+        → IsStopped IsScriptSpelled IsScriptWellFormed IsScriptExcess (reading text.now tokens.now) e) }
     ensures kind { IfErr result IsOfSentence }
 {
     let mut cursor = Cursor::new(text, tokens);
@@ -232,7 +234,8 @@ pub fn script_at(
     // What is read is the script that these tokens are, up to its brace.
     ensures tree { IfOk result (λ x. IsScriptAt text.now tokens.now from (map cmd_of x.0.items) x.1) }
     // Where it refuses no script with a brace stands there, and reading stops so.
-    ensures fault { IfErr result (λ e. e ≢ ParseFault.Memory → IsScriptFaultAt text.now tokens.now from (from_sentence e)) }
+    ensures fault { IfErr result (λ e. e ≢ ParseFault.Memory
+        → IsScriptFaultAt text.now tokens.now from (from_sentence e)) }
 {
     match closed_before(alloc, text, &tokens[from..]) {
         Ok((script, left)) => Ok((script, tokens.len() - left - 1)),

@@ -73,7 +73,8 @@ fn recv_event(alloc: Global, name: &str, other: &str) -> Result<String, AllocErr
 }
 
 fn apply_event(alloc: Global, name: &str, counter: u64, author: &str) -> Result<String, AllocError>
-    ensures { IfOk result (λ text. string_bytes text ≡ name.now ++ codes ".apply(" ++ decimal counter ++ codes ", " ++ author.now ++ codes ")") }
+    ensures { IfOk result (λ text. string_bytes text
+        ≡ name.now ++ codes ".apply(" ++ decimal counter ++ codes ", " ++ author.now ++ codes ")") }
 {
     format!(in alloc; "{name}.apply({counter}, {author})")
 }

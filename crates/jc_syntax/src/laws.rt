@@ -24,10 +24,14 @@ pub fn tokens_or_fault()
 
 /// The string that begins at a place ends at one place, and spells one content.
 pub fn one_string()
-    ensures { (text : List ℕ) (quote p q : ℕ) (c d : List ℕ) → IsString text quote p c → IsString text quote q d → (p ≡ q) × (c ≡ d) }
+    ensures { (text : List ℕ) (quote p q : ℕ) (c d : List ℕ)
+        → IsString text quote p c → IsString text quote q d
+        → (p ≡ q) × (c ≡ d) }
 {}
 
 /// What a string of a UTF-8 text spells is UTF-8, of at most 65,535 bytes.
 pub fn legal_strings()
-    ensures { (text : List ℕ) (t : AnyToken) → IsUtf8 text → IsStringToken text t → IsUtf8 (content_of text t) × (length (content_of text t) ≤ 65535) }
+    ensures { (text : List ℕ) (t : AnyToken)
+        → IsUtf8 text → IsStringToken text t
+        → IsUtf8 (content_of text t) × (length (content_of text t) ≤ 65535) }
 {}

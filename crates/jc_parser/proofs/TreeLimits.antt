@@ -1,0 +1,367 @@
+-- What passes a limit of a scenario: a scenario begins so, and whatever follows is refused with that limit's fault.
+use Rattle.std.proofs.Common.{◌≡◌, ◌≢◌, ℕ, zero, suc, ◌+◌, ◌-◌, ◌≤◌, ◌<◌, ◌⊎◌, inl, inr, true, false, List, [], ◌∷◌, ◌++◌, map, length, Ok, Err, refl, sym, ap, subst, ◌∙◌, append_assoc, arith}
+use Rattle.std.specs.Prelude.{codes, All}
+use Rattle.std.specs.List.{Contains}
+use Rattle.std.proofs.lemmas.Bool.{cases_Bool}
+use Rattle.std.proofs.lemmas.List.{append-nil}
+use Rattle.jc_syntax.specs.declared.token.TokenKind.TheVariants.{Name}
+use Rattle.jc_syntax.specs.declared.tree.NamedEvent.{NamedEvent}
+use Rattle.jc_rules.specs.Syntax.{Cmd}
+use Rattle.jc_parser.specs.declared.fault.ScenarioFault.{ScenarioFault}
+use Rattle.jc_parser.specs.declared.fault.ScenarioFault.TheVariants.{IndexTooLarge, TooManyEvents}
+use Rattle.jc_parser.specs.Symbols.{Symbol, word, dot, open_brace, close_brace, Lexeme, symbols}
+use Rattle.jc_parser.specs.Reading.{Outcome, ◌>>=◌, has_kind, begins_with, place, stuck, is_at_end, one, named_at}
+use Rattle.jc_parser.specs.Parts.{ended}
+use Rattle.jc_parser.specs.Grammar.{is_reserved, IsStartText}
+use Rattle.jc_parser.specs.Scripts.{IsScriptExcess}
+use Rattle.jc_parser.specs.ScriptParts.{closed_script_at}
+use Rattle.jc_parser.specs.ClosedScripts.{IsClosedSpelled}
+use Rattle.jc_parser.specs.Calls.{Call, executes, call_of, IsCallSpelled, IsCallWellFormed, IsCallExcess}
+use Rattle.jc_parser.specs.CallParts.{any_event_at}
+use Rattle.jc_parser.specs.Trees.{Part, Tree, NamedTree, name_of, header, part_head, schedule_head, IsTreeSpelled, IsTreeWithin}
+use Rattle.jc_parser.specs.TreeFaults.{AreDone, IsNameFault, IsNameExcess, IsPartExcess, IsEventExcess, IsScheduleExcess, IsExcess}
+use Rattle.jc_parser.specs.TreeParts.{is_among, other_name_at, new_name_at, body_at, part_at, events_at, block_at, schedule_at, tree, tail_at, tree_at}
+use Rattle.jc_parser.proofs.Readers.{Language, chosen_err, symbols-append}
+use Rattle.jc_parser.proofs.Spelled.{reading, at_place, First, split_one, split_around, split_symbols, split_none, IsLimitFault}
+use Rattle.jc_parser.proofs.Stopping.{IsLimit}
+use Rattle.jc_parser.proofs.Limits.{list_more}
+use Rattle.jc_parser.proofs.Refused.{crowded, broken}
+use Rattle.jc_parser.proofs.ScriptLimits.{same_first}
+use Rattle.jc_parser.proofs.ClosedScriptLaws.{has_limits as script_limits, excess_limit, no_stuck}
+use Rattle.jc_parser.proofs.CallReaders.{call_at}
+use Rattle.jc_parser.proofs.CallSpelled.{has_limits as call_limits}
+use Rattle.jc_parser.proofs.TreeReaders.{part}
+use Rattle.jc_parser.proofs.TreeTails.{replica}
+use Rattle.jc_parser.proofs.TreeNames.{contained, not_contained}
+use Rattle.jc_parser.proofs.TreeSpelled.{calls_are, tail_last}
+use Rattle.jc_parser.proofs.TreeExcess.{parts_snoc, some_snoc}
+use Rattle.jc_parser.proofs.TreeFronts.{then_parts}
+use Rattle.jc_parser.proofs.TreeAgain.{StartsBy, front_read, block}
+
+-- ---- scenarios, and the word before a replica
+
+-- replicas within the limits, and the word before one more
+abbrev pub IsWaiting : Tree → List Symbol → Type 0
+IsWaiting t w = (kept : List Symbol) × AreDone t.parts kept × (w ≡ kept ++ replica ∷ [])
+
+-- Scenarios, within the limits or not. Whether the word before a replica is one too many, only what follows it says.
+abbrev pub Texts : Language Tree
+Texts true t w = (IsTreeWithin t × IsTreeSpelled t w) ⊎ IsWaiting t w
+Texts false t w = IsTreeSpelled t w
+
+-- the whole is refused so
+abbrev pub IsOver : ℕ → ScenarioFault → List Lexeme → Type 0
+IsOver stop e ls = IsLimit {A = Tree} {R = NamedTree} Texts (λ l. tree_at (reading stop l)) e ls
+
+-- ---- what stands behind replicas
+
+-- The lexemes of replicas behind the header, and those after them up to where a limit is passed.
+record IsCut (stop : ℕ) (e : ScenarioFault) (ls : List Lexeme) : Type 0 where
+  parts : List Part
+  room : ℕ
+  front : List Lexeme
+  taken : List Lexeme
+  left : List Lexeme
+  is : ls ≡ front ++ (taken ++ left)
+  done : AreDone parts (symbols front)
+  count : 64 ≡ length parts + room
+  whole : Tree
+  more : List Symbol
+  spelled : IsTreeSpelled whole (symbols front ++ (symbols taken ++ more))
+  others : List Symbol
+  last : Symbol
+  ends : symbols taken ≡ others ++ last ∷ []
+  no_dot : last ≢ dot
+  starts : (y : List Lexeme) → StartsBy parts (taken ++ y)
+  refused : (y : List Lexeme) → tail_at 100000 room (map name_of parts) (reading stop (taken ++ y)) ≡ Err e
+
+front_refused : (stop room : ℕ) (ps : List Part) (front y : List Lexeme) (e : ScenarioFault) → 64 ≡ length ps + room → AreDone ps (symbols front) → StartsBy ps y → tail_at 100000 room (map name_of ps) (reading stop y) ≡ Err e → tree_at (reading stop (front ++ y)) ≡ Err e
+front_refused stop room ps front y e count done starts fails = front_read stop room ps front y count done starts ∙ ap (λ (o : Outcome NamedTree). then_parts ps o >>= ended) fails
+
+limit_of : (stop : ℕ) (e : ScenarioFault) (ls : List Lexeme) → IsCut stop e ls → IsOver stop e ls
+limit_of stop e ls c =
+    let text : symbols (c.front ++ c.taken) ++ c.more ≡ symbols c.front ++ (symbols c.taken ++ c.more) = ap (λ (l : List Symbol). l ++ c.more) (symbols-append c.front c.taken) ∙ append_assoc (symbols c.front) (symbols c.taken) c.more in
+    record {
+      taken = c.front ++ c.taken;
+      left = c.left;
+      parts = c.is ∙ sym (append_assoc c.front c.taken c.left);
+      begins = (c.whole, c.more, subst (IsTreeSpelled c.whole) (sym text) c.spelled);
+      others = symbols c.front ++ c.others;
+      last = c.last;
+      ends = symbols-append c.front c.taken ∙ ap (λ (l : List Symbol). symbols c.front ++ l) c.ends ∙ sym (append_assoc (symbols c.front) c.others (c.last ∷ []));
+      no_dot = c.no_dot;
+      refused = λ y. ap (λ (l : List Lexeme). tree_at (reading stop l)) (append_assoc c.front c.taken y) ∙ front_refused stop c.room c.parts c.front (c.taken ++ y) e c.count c.done (c.starts y) (c.refused y);
+    }
+
+no_dot_word : (name : List ℕ) (s : Symbol) → s ≡ word name → s ≢ dot
+no_dot_word name s is = λ e. let bad : word name ≡ dot = sym is ∙ e in absurd cc
+
+-- what a limit refuses is refused before its end is looked at
+before_end : {A : Type 0} (read : Outcome A) (e : ScenarioFault) → IsLimitFault e → (read >>= ended) ≡ Err e → read ≡ Err e
+before_end (Ok x) e limit h = let (more, same) = chosen_err (is_at_end x.1) x.0 (stuck x.1) e h in absurd (no_stuck e x.1.stop x.1.left limit same)
+before_end (Err d) e limit h = let same : d ≡ e = cc in ap Err same
+
+-- replicas, and one more
+one_more_spelled : (ps : List Part) (name : List ℕ) (script : List Cmd) (w z : List Symbol) → AreDone ps w → IsClosedSpelled script z → IsTreeSpelled (record { parts = ps ++ part name script ∷ []; calls = [] }) (w ++ (part_head name ++ z))
+one_more_spelled ps name script w z done closed =
+    let own : List Symbol = part_head name ++ z in (
+      done.parts ++ own,
+      [],
+      some_snoc ps (part name script),
+      parts_snoc ps (part name script) done.parts own done.spelled (z, closed, refl),
+      inl (refl, refl),
+      ap (λ (l : List Symbol). l ++ own) done.is ∙ ap (λ (l : List Symbol). header ++ l) (sym (append-nil (done.parts ++ own))),
+    )
+
+-- ---- names
+
+among_of : (names : List (List ℕ)) (name : List ℕ) → Contains names name → is_among names name ≡ true
+among_of names name taken =
+    elim (cases_Bool (is_among names name)) [
+      | inl some ↦ some
+      | inr none ↦ absurd (not_contained names name none taken)
+    ]
+
+not_among_of : (names : List (List ℕ)) (name : List ℕ) → (Contains names name → ⊥) → is_among names name ≡ false
+not_among_of names name new =
+    elim (cases_Bool (is_among names name)) [
+      | inl some ↦ absurd (new (contained names name some))
+      | inr none ↦ none
+    ]
+
+name_refused : (m room : ℕ) (ps : List Part) (name : List ℕ) (c o stop : ℕ) (e : ScenarioFault) (y : List Lexeme) → 64 ≡ length ps + room → IsNameFault ps name o e → tail_at m room (map name_of ps) (reading stop (at_place c replica ∷ at_place o (word name) ∷ y)) ≡ Err e
+unfolding tail_at part_at new_name_at other_name_at named_at one
+name_refused m zero ps name c o stop e y count (inl (held, is)) = rw held (ap Err (sym is))
+name_refused m (suc n) ps name c o stop e y count (inl (held, is)) = rw held (ap Err (sym is))
+name_refused m zero ps name c o stop e y count (inr (free, inl (taken, is))) = let among = among_of (map name_of ps) name taken in rw (free, among) (ap Err (sym is))
+name_refused m (suc n) ps name c o stop e y count (inr (free, inl (taken, is))) = let among = among_of (map name_of ps) name taken in rw (free, among) (ap Err (sym is))
+name_refused m zero ps name c o stop e y count (inr (free, inr (new, full, is))) = let other = not_among_of (map name_of ps) name new in rw (free, other) (ap Err (sym is))
+name_refused m (suc n) ps name c o stop e y count (inr (free, inr (new, full, is))) = absurd (omega (arith, count, full))
+
+name_cut : (stop : ℕ) (e : ScenarioFault) (before rest : List Lexeme) (next : Lexeme) → IsNameExcess e (symbols before) next → IsCut stop e (before ++ next ∷ rest)
+name_cut stop e before rest next h =
+    let (w, c, t, parts, left, right) = split_around before h.before replica [] h.is in
+    by_parts w c (parts ∙ ap (λ (l : List Lexeme). w ++ at_place c replica ∷ l) (split_none t right)) left
+  where
+    by_parts : (w : List Lexeme) (c : ℕ) → before ≡ w ++ at_place c replica ∷ [] → symbols w ≡ h.before → IsCut stop e (before ++ next ∷ rest)
+    by_parts w c parts left =
+        let few : length h.parts ≤ 64 = h.done.within.few in
+        let done : AreDone h.parts (symbols w) = subst (AreDone h.parts) (sym left) h.done in
+        let count : 64 ≡ length h.parts + (64 - length h.parts) = omega (arith, few) in
+        let text : IsTreeSpelled (record { parts = h.parts ++ part h.name [] ∷ []; calls = [] }) (symbols w ++ (replica ∷ word h.name ∷ open_brace ∷ close_brace ∷ [])) = one_more_spelled h.parts h.name [] (symbols w) (close_brace ∷ []) done ([], refl, refl) in
+        record {
+          parts = h.parts;
+          room = 64 - length h.parts;
+          front = w;
+          taken = at_place c replica ∷ next ∷ [];
+          left = rest;
+          is = ap (λ (l : List Lexeme). l ++ next ∷ rest) parts ∙ append_assoc w (at_place c replica ∷ []) (next ∷ rest);
+          done = done;
+          count = count;
+          whole = record { parts = h.parts ++ part h.name [] ∷ []; calls = [] };
+          more = open_brace ∷ close_brace ∷ [];
+          spelled = subst (λ (s : Symbol). IsTreeSpelled (record { parts = h.parts ++ part h.name [] ∷ []; calls = [] }) (symbols w ++ (replica ∷ s ∷ open_brace ∷ close_brace ∷ []))) (sym h.next_is) text;
+          others = replica ∷ [];
+          last = next.symbol;
+          ends = refl;
+          no_dot = no_dot_word h.name next.symbol h.next_is;
+          starts = λ y. inr refl;
+          refused = λ y.
+              ap (λ (s : Symbol). tail_at 100000 (64 - length h.parts) (map name_of h.parts) (reading stop (at_place c replica ∷ at_place next.place s ∷ y))) h.next_is
+              ∙ name_refused 100000 (64 - length h.parts) h.parts h.name c next.place stop e y count h.which;
+        }
+
+-- ---- scripts
+
+script_refused : (m n : ℕ) (names : List (List ℕ)) (name : List ℕ) (c o b stop : ℕ) (e : ScenarioFault) (y : List Lexeme) → is_reserved name ≡ false → is_among names name ≡ false → closed_script_at (reading stop y) ≡ Err e → tail_at m (suc n) names (reading stop (at_place c replica ∷ at_place o (word name) ∷ at_place b open_brace ∷ y)) ≡ Err e
+unfolding tail_at part_at new_name_at other_name_at named_at body_at one
+script_refused m n names name c o b stop e y free other fails = rw (free, other, fails) refl
+
+-- the lexemes of a replica's front
+abbrev fronted : ℕ → ℕ → ℕ → List ℕ → List Lexeme → List Lexeme
+fronted c o b name ls = at_place c replica ∷ at_place o (word name) ∷ at_place b open_brace ∷ ls
+
+part_cut : (stop : ℕ) (e : ScenarioFault) (before after : List Lexeme) → IsPartExcess e (symbols before) after → IsCut stop e (before ++ after)
+part_cut stop e before after h =
+    let (w, c, t, parts, left, right) = split_around before h.before replica (word h.name ∷ open_brace ∷ h.script) h.is in
+    let (o, t1, e1, r1) = split_one t (word h.name) (open_brace ∷ h.script) right in
+    let (b, t2, e2, r2) = split_one t1 open_brace h.script r1 in
+    by_parts w c o b t2 (parts ∙ ap (λ (l : List Lexeme). w ++ at_place c replica ∷ l) (e1 ∙ ap (λ (l : List Lexeme). at_place o (word h.name) ∷ l) e2)) left r2
+  where
+    by_parts : (w : List Lexeme) (c o b : ℕ) (t : List Lexeme) → before ≡ w ++ fronted c o b h.name t → symbols w ≡ h.before → symbols t ≡ h.script → IsCut stop e (before ++ after)
+    by_parts w c o b t parts left right =
+        let done : AreDone h.parts (symbols w) = subst (AreDone h.parts) (sym left) h.done in
+        let l = script_limits stop e t after (subst (λ (s : List Symbol). IsScriptExcess e s after) (sym right) h.excess) in
+        let limit : IsLimitFault e = excess_limit e h.script after h.excess in
+        let (script, more, closed) = l.begins in
+        let room : length h.parts < 64 = h.room in
+        record {
+          parts = h.parts;
+          room = suc (63 - length h.parts);
+          front = w;
+          taken = fronted c o b h.name l.taken;
+          left = l.left;
+          is = ap (λ (s : List Lexeme). s ++ after) parts ∙ append_assoc w (fronted c o b h.name t) after ∙ ap (λ (s : List Lexeme). w ++ fronted c o b h.name s) l.parts;
+          done = done;
+          count = omega (arith, room);
+          whole = record { parts = h.parts ++ part h.name script ∷ []; calls = [] };
+          more = more;
+          spelled = one_more_spelled h.parts h.name script (symbols w) (symbols l.taken ++ more) done closed.0;
+          others = part_head h.name ++ l.others;
+          last = l.last;
+          ends = ap (λ (s : List Symbol). part_head h.name ++ s) l.ends;
+          no_dot = l.no_dot;
+          starts = λ y. inr refl;
+          refused = λ y.
+              script_refused 100000 (63 - length h.parts) (map name_of h.parts) h.name c o b stop e (l.taken ++ y) h.free (not_among_of (map name_of h.parts) h.name h.new)
+              (before_end (closed_script_at (reading stop (l.taken ++ y))) e limit (l.refused y));
+        }
+
+-- ---- schedules
+
+block_refused : (m p q stop : ℕ) (e : ScenarioFault) (y : List Lexeme) → events_at m (reading stop y) ≡ Err e → schedule_at m (reading stop (block p q y)) ≡ Err e
+unfolding schedule_at block_at one
+block_refused m p q stop e y fails = rw fails refl
+
+tail_refused : (m n : ℕ) (names : List (List ℕ)) (p q stop : ℕ) (e : ScenarioFault) (y : List Lexeme) → events_at m (reading stop y) ≡ Err e → tail_at m n names (reading stop (block p q y)) ≡ Err e
+tail_refused m n names p q stop e y fails = tail_last m n names (reading stop (block p q y)) refl ∙ ap (λ (r : Outcome (List _)). r >>= λ es. Ok (tree [] es.0, es.1)) (block_refused m p q stop e y fails)
+
+-- replicas, and events up to the beginning of one more
+one_call_spelled : (ps : List Part) (calls : List Call) (call : Call) (w v z : List Symbol) → AreDone ps w → ps ≢ [] → IsStartText IsCallSpelled calls v → IsCallSpelled call z → IsTreeSpelled (record { parts = ps; calls = calls ++ call ∷ [] }) (w ++ (schedule_head ++ ((v ++ z) ++ close_brace ∷ [])))
+one_call_spelled ps calls call w v z done some start own =
+    let tail : List Symbol = schedule_head ++ ((v ++ z) ++ close_brace ∷ []) in
+    (done.parts, tail, some, done.spelled, inr (v ++ z, list_more IsCallSpelled calls (call ∷ []) v z start (z, own, inl (refl, refl)), refl), ap (λ (l : List Symbol). l ++ tail) done.is)
+
+-- the lexemes of events, and those of one more up to where a limit is passed
+record IsEventCut (stop : ℕ) (e : ScenarioFault) (calls : List Call) (listed ls : List Lexeme) : Type 0 where
+  taken : List Lexeme
+  left : List Lexeme
+  is : ls ≡ taken ++ left
+  call : Call
+  more : List Symbol
+  spelled : IsCallSpelled call (symbols taken ++ more)
+  others : List Symbol
+  last : Symbol
+  ends : symbols taken ≡ others ++ last ∷ []
+  no_dot : last ≢ dot
+  refused : (y : List Lexeme) → events_at 100000 (reading stop (listed ++ (taken ++ y))) ≡ Err e
+
+cut_of : (stop : ℕ) (e : ScenarioFault) (ps : List Part) (calls : List Call) (w listed ls : List Lexeme) (p q : ℕ) → AreDone ps (symbols w) → ps ≢ [] → IsStartText IsCallSpelled calls (symbols listed) → IsEventCut stop e calls listed ls → IsCut stop e (w ++ block p q (listed ++ ls))
+cut_of stop e ps calls w listed ls p q done some start c =
+    let few : length ps ≤ 64 = done.within.few in
+    let text : symbols (block p q (listed ++ c.taken)) ++ (c.more ++ close_brace ∷ []) ≡ schedule_head ++ ((symbols listed ++ (symbols c.taken ++ c.more)) ++ close_brace ∷ []) =
+    ap (λ (l : List Symbol). schedule_head ++ (l ++ (c.more ++ close_brace ∷ []))) (symbols-append listed c.taken)
+    ∙ ap (λ (l : List Symbol). schedule_head ++ l) (sym (append_assoc (symbols listed ++ symbols c.taken) c.more (close_brace ∷ [])))
+    ∙ ap (λ (l : List Symbol). schedule_head ++ (l ++ close_brace ∷ [])) (append_assoc (symbols listed) (symbols c.taken) c.more) in
+    record {
+      parts = ps;
+      room = 64 - length ps;
+      front = w;
+      taken = block p q (listed ++ c.taken);
+      left = c.left;
+      is = ap (λ (l : List Lexeme). w ++ block p q (listed ++ l)) c.is ∙ ap (λ (l : List Lexeme). w ++ block p q l) (sym (append_assoc listed c.taken c.left));
+      done = done;
+      count = omega (arith, few);
+      whole = record { parts = ps; calls = calls ++ c.call ∷ [] };
+      more = c.more ++ close_brace ∷ [];
+      spelled = subst (λ (l : List Symbol). IsTreeSpelled (record { parts = ps; calls = calls ++ c.call ∷ [] }) (symbols w ++ l)) (sym text) (one_call_spelled ps calls c.call (symbols w) (symbols listed) (symbols c.taken ++ c.more) done some start c.spelled);
+      others = schedule_head ++ (symbols listed ++ c.others);
+      last = c.last;
+      ends = ap (λ (l : List Symbol). schedule_head ++ l) (symbols-append listed c.taken ∙ ap (λ (l : List Symbol). symbols listed ++ l) c.ends ∙ sym (append_assoc (symbols listed) c.others (c.last ∷ [])));
+      no_dot = c.no_dot;
+      starts = λ y. inl some;
+      refused = λ y. tail_refused 100000 (64 - length ps) (map name_of ps) p q stop e ((listed ++ c.taken) ++ y) (ap (λ (l : List Lexeme). events_at 100000 (reading stop l)) (append_assoc listed c.taken y) ∙ c.refused y);
+    }
+
+-- one event too many
+crowd_cut : (stop : ℕ) (calls : List Call) (listed rest : List Lexeme) (next : Lexeme) (name : List ℕ) → length calls ≡ 100000 → IsStartText IsCallSpelled calls (symbols listed) → All IsCallWellFormed calls → next.symbol ≡ word name → IsEventCut stop (TooManyEvents next.place) calls listed (next ∷ rest)
+crowd_cut stop calls listed rest next name full start small is = record {
+  taken = next ∷ [];
+  left = rest;
+  is = refl;
+  call = executes name;
+  more = dot ∷ word (codes "exec") ∷ [];
+  spelled = ap (λ (s : Symbol). s ∷ dot ∷ word (codes "exec") ∷ []) is;
+  others = [];
+  last = next.symbol;
+  ends = refl;
+  no_dot = no_dot_word name next.symbol is;
+  refused = λ y. crowded (has_kind Name) any_event_at (λ r. TooManyEvents (place r)) calls_are 100000 calls listed next y stop start full small (ap (has_kind Name) is);
+}
+
+-- an event as it is called
+abbrev called : Outcome NamedEvent → Outcome Call
+called read = read >>= λ e. Ok (call_of e.0, e.1)
+
+call_refused : (read : Outcome NamedEvent) (e : ScenarioFault) → called read ≡ Err e → read ≡ Err e
+call_refused (Ok x) e h = absurd cc
+call_refused (Err d) e h = let same : d ≡ e = cc in ap Err same
+
+call_limit : (e : ScenarioFault) (xs : List Symbol) (after : List Lexeme) → IsCallExcess e xs after → IsLimitFault e
+call_limit (IndexTooLarge p) xs (next ∷ after) h = tt
+call_limit e xs after h = absurd h
+
+-- an event begins with a name
+abbrev BeginsNamed : List Symbol → Type 0
+BeginsNamed xs = (name : List ℕ) × (rest : List Symbol) × (xs ≡ word name ∷ rest)
+
+call_begins : (e : ScenarioFault) (xs : List Symbol) (after : List Lexeme) → IsCallExcess e xs after → BeginsNamed xs
+call_begins (IndexTooLarge p) xs (next ∷ after) (place, h) = (h.name, _, h.is)
+call_begins e xs after h = absurd h
+
+still_named : (before after taken left y : List Lexeme) (others : List Symbol) (last : Symbol) → BeginsNamed (symbols before) → before ++ after ≡ taken ++ left → symbols taken ≡ others ++ last ∷ [] → begins_with (has_kind Name) (taken ++ y) ≡ true
+still_named before after taken left y others last (name, rest, text) parts ends = by_first (split_one before (word name) rest text)
+  where
+    by_first : First before (word name) rest → begins_with (has_kind Name) (taken ++ y) ≡ true
+    by_first (p, v, is, own) =
+        let (more, first) = same_first (at_place p (word name)) (v ++ after) taken left others last (sym (ap (λ (l : List Lexeme). l ++ after) is) ∙ parts) ends in
+        rw first refl
+
+-- too much in an event
+call_cut : (stop : ℕ) (e : ScenarioFault) (calls : List Call) (listed before after : List Lexeme) → length calls < 100000 → IsStartText IsCallSpelled calls (symbols listed) → All IsCallWellFormed calls → IsCallExcess e (symbols before) after → IsEventCut stop e calls listed (before ++ after)
+call_cut stop e calls listed before after room start small h =
+    let l = call_limits stop e before after h in
+    let (call, more, own) = l.begins in
+    record {
+      taken = l.taken;
+      left = l.left;
+      is = l.parts;
+      call = call;
+      more = more;
+      spelled = own.0;
+      others = l.others;
+      last = l.last;
+      ends = l.ends;
+      no_dot = l.no_dot;
+      refused = λ y.
+          let fails : any_event_at (reading stop (l.taken ++ y)) ≡ Err e = call_refused (any_event_at (reading stop (l.taken ++ y))) e (before_end (call_at (reading stop (l.taken ++ y))) e (call_limit e (symbols before) after h) (l.refused y)) in
+          broken (has_kind Name) any_event_at (λ r. TooManyEvents (place r)) calls_are 100000 calls listed (l.taken ++ y) stop e start room small (still_named before after l.taken l.left y l.others l.last (call_begins e (symbols before) after h) l.parts l.ends) fails;
+    }
+
+event_cut : (stop : ℕ) (e : ScenarioFault) (calls : List Call) (listed before after : List Lexeme) → IsStartText IsCallSpelled calls (symbols listed) → All IsCallWellFormed calls → IsEventExcess (length calls) e (symbols before) after → IsEventCut stop e calls listed (before ++ after)
+event_cut stop e calls listed before after start small (inl (full, none, next, rest, is, name, named, fault)) =
+    let empty : before ≡ [] = split_none before none in
+    rw (empty, is, fault) (crowd_cut stop calls listed rest next name full start small named)
+event_cut stop e calls listed before after start small (inr (room, h)) = call_cut stop e calls listed before after room start small h
+
+schedule_cut : (stop : ℕ) (e : ScenarioFault) (before after : List Lexeme) → IsScheduleExcess e (symbols before) after → IsCut stop e (before ++ after)
+schedule_cut stop e before after h =
+    let (w, p, t, parts, left, right) = split_around before h.before (word (codes "schedule")) (open_brace ∷ (h.listed ++ h.event)) h.is in
+    let (q, t1, e1, r1) = split_one t open_brace (h.listed ++ h.event) right in
+    let (v, z, joins, listed, event) = split_symbols t1 h.listed h.event r1 in
+    by_parts w p q v z (parts ∙ ap (λ (l : List Lexeme). w ++ at_place p (word (codes "schedule")) ∷ l) (e1 ∙ ap (λ (l : List Lexeme). at_place q open_brace ∷ l) joins)) left listed event
+  where
+    by_parts : (w : List Lexeme) (p q : ℕ) (v z : List Lexeme) → before ≡ w ++ block p q (v ++ z) → symbols w ≡ h.before → symbols v ≡ h.listed → symbols z ≡ h.event → IsCut stop e (before ++ after)
+    by_parts w p q v z parts left listed event =
+        let done : AreDone h.parts (symbols w) = subst (AreDone h.parts) (sym left) h.done in
+        let start : IsStartText IsCallSpelled h.calls (symbols v) = subst (IsStartText IsCallSpelled h.calls) (sym listed) h.spelled in
+        let excess : IsEventExcess (length h.calls) e (symbols z) after = subst (λ (l : List Symbol). IsEventExcess (length h.calls) e l after) (sym event) h.excess in
+        let whole : before ++ after ≡ w ++ block p q (v ++ (z ++ after)) = ap (λ (l : List Lexeme). l ++ after) parts ∙ append_assoc w (block p q (v ++ z)) after ∙ ap (λ (l : List Lexeme). w ++ block p q l) (append_assoc v z after) in
+        subst (IsCut stop e) (sym whole) (cut_of stop e h.parts h.calls w v (z ++ after) p q done h.some start (event_cut stop e h.calls v z after start h.small excess))
+
+-- ---- what is too much
+
+pub limits : (stop : ℕ) (e : ScenarioFault) (before after : List Lexeme) → IsExcess e (symbols before) after → IsOver stop e (before ++ after)
+limits stop e before after (inl (next, rest, is, h)) = rw is (limit_of stop e (before ++ next ∷ rest) (name_cut stop e before rest next h))
+limits stop e before after (inr (inl h)) = limit_of stop e (before ++ after) (part_cut stop e before after h)
+limits stop e before after (inr (inr h)) = limit_of stop e (before ++ after) (schedule_cut stop e before after h)

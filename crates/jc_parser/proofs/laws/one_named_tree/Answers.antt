@@ -1,0 +1,5 @@
+use Rattle.jc_parser.proofs.TreeLaws.{one_named}
+use Rattle.jc_parser.proofs.laws.one_named_tree.Goals as goal
+
+pub returns : goal.returns
+returns c = one_named
