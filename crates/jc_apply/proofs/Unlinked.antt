@@ -19,7 +19,7 @@ use Rattle.jc_rules.proofs.Order.{keys_total, exact_keys}
 use Rattle.jc_rules.proofs.Entries.{values-put, value-found}
 use Rattle.jc_rules.proofs.Places.{node_found, there}
 use Rattle.jc_tree.specs.Tree.{Tree, HasPlace, here}
-use Rattle.jc_tree.proofs.Linked.{not_found}
+use Rattle.jc_rules.proofs.Keys.{not_found}
 use Rattle.jc_clear.specs.Bare.{bare, bare_in}
 use Rattle.jc_apply.specs.Fits.{IsUnlinked, AreUnlinked}
 

@@ -20,7 +20,8 @@ use Rattle.jc_rules.specs.Trace.{Rows, pushed, below, at_depth}
 use Rattle.jc_rules.proofs.Order.{keys_total, exact_keys}
 use Rattle.jc_rules.proofs.Entries.{same-eq}
 use Rattle.jc_tree.specs.Tree.{Tree, HasPlace, here}
-use Rattle.jc_tree.proofs.Linked.{key-found, some_next, each_linked}
+use Rattle.jc_rules.proofs.Keys.{key-found}
+use Rattle.jc_tree.proofs.Linked.{some_next, each_linked}
 use Rattle.jc_clear.specs.Clears.{Clears}
 use Rattle.jc_clear.proofs.Bare.{links-same}
 use Rattle.jc_clear.proofs.Rules.{After}

@@ -3,7 +3,6 @@ use Rattle.std.proofs.Common.{◌≡◌, ◌≢◌, ℕ, ◌<◌, List, [], ◌�
 use Rattle.std.proofs.lemmas.List.Elements.{filter_map-append}
 use Rattle.std.specs.List.{AllByRecursion}
 use Rattle.std.specs.Cmp.{tied_itself}
-use Rattle.std.specs.Ordering.{is_lt}
 use Rattle.std.specs.declared.cmp.Ordering.{Ordering}
 use Rattle.std.specs.declared.cmp.Ordering.TheVariants.{Less, Equal, Greater}
 use Rattle.jc_rules.specs.declared.id.Id.{Id}
@@ -21,11 +20,9 @@ use Rattle.jc_rules.proofs.Order.{keys_total, exact_keys}
 use Rattle.jc_rules.proofs.Places.{there}
 use Rattle.jc_rules.proofs.Rising.{less_greater}
 use Rattle.jc_tree.specs.Tree.{is_after, least_after}
+use Rattle.jc_tree.specs.Walks.{above}
 use Rattle.jc_tree.proofs.Keeping.{kept-node}
-
--- the entries above a key, or all
-abbrev pub above : {X : Type 0} → Option Key → List (Key × X) → List (Key × X)
-above last es = filter (λ e. is_after last e.0) es
+use Rattle.jc_tree.proofs.KeyWalk.{above-none, all_above}
 
 -- ---- the least key
 
@@ -62,25 +59,7 @@ lesser_some k (Some j) e = go (key_cmp k j) refl
 
 -- ---- entries above a key
 
--- what is above a key that comes after the last comes after the last too
-after_over : (last : Option Key) (k j : Key) → is_after last k ≡ true → key_cmp k j ≡ Less → is_after last j ≡ true
-after_over None k j a l = refl
-after_over (Some i) k j a l = rw (keys_total.trans i k j (less (key_cmp i k) a) l) refl
-  where
-    less : (o : Ordering) → is_lt o ≡ true → o ≡ Less
-    less Less e = refl
-    less Equal e = cc
-    less Greater e = cc
-
 module _ {X : Type 0} where
-  pub above-none : (es : List (Key × X)) → above None es ≡ es
-  above-none [] = refl
-  above-none (e ∷ es) = ap (λ r. e ∷ r) (above-none es)
-
-  all_above : (last : Option Key) (k : Key) (es : List (Key × X)) → is_after last k ≡ true → AllByRecursion (λ j. key_cmp k j ≡ Less) (keys_of es) → above last es ≡ es
-  all_above last k [] a h = refl
-  all_above last k (e ∷ es) a h = rw (after_over last k e.0 a h.0) (ap (λ r. e ∷ r) (all_above last k es a h.1))
-
   above_itself : (k : Key) (es : List (Key × X)) → AllByRecursion (λ j. key_cmp k j ≡ Less) (keys_of es) → above (Some k) es ≡ es
   above_itself k [] h = refl
   above_itself k (e ∷ es) h = rw h.0 (ap (λ r. e ∷ r) (above_itself k es h.1))

@@ -16,8 +16,9 @@ use Rattle.jc_rules.specs.Context.{Context, context, Children, no_child, child, 
 use Rattle.jc_tree.specs.Tree.{is_after}
 use Rattle.jc_dump.specs.Dump.{id_text, put_all, tagged_text, context_data, child_members, register_member, presence_member, next_member}
 use Rattle.jc_dump.specs.declared.dump.Branch.TheVariants as B
-use Rattle.jc_dump.specs.DumpParts.{entry_of, child_member, children_members}
-use Rattle.jc_dump.proofs.DumpWalk.{above, above-none, none_above, step}
+use Rattle.jc_tree.specs.Walks.{above, entry_of}
+use Rattle.jc_tree.proofs.KeyWalk.{above-none, none_above, step}
+use Rattle.jc_dump.specs.DumpParts.{child_member, children_members}
 
 pub put_all-append : (es fs : List (List ℕ × Data)) (ms : Members) → put_all (es ++ fs) ms ≡ put_all fs (put_all es ms)
 put_all-append [] fs ms = refl

@@ -15,7 +15,14 @@ use Rattle.jc_tree.proofs.Places.{some_place}
 use Rattle.jc_dump.specs.declared.dump.Branch.{Branch}
 use Rattle.jc_dump.specs.declared.dump.Branch.TheVariants as B
 use Rattle.jc_dump.specs.DumpParts.{tag_of, children_in}
-use Rattle.jc_dump.proofs.DumpWalk.{all-left, all-right}
+
+all-left : (P : Key → Type 0) (js ks : List Key) → AllByRecursion P (js ++ ks) → AllByRecursion P js
+all-left P [] ks a = tt
+all-left P (j ∷ js) ks a = (a.0, all-left P js ks a.1)
+
+all-right : (P : Key → Type 0) (js ks : List Key) → AllByRecursion P (js ++ ks) → AllByRecursion P ks
+all-right P [] ks a = a
+all-right P (j ∷ js) ks a = all-right P js ks a.1
 
 -- the child at a key is smaller
 found_smaller : (k : Key) (d : Context) (cs : Children) → find key_cmp k (listed cs) ≡ Some d → nested d < nested_in cs

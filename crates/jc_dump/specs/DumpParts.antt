@@ -1,5 +1,5 @@
 -- The parts of a dump that the code makes it of.
-use Rattle.std.specs.Prelude.{◌≡◌, ℕ, List, [], ◌∷◌, length, map, codes, Option, Some, None}
+use Rattle.std.specs.Prelude.{◌≡◌, ℕ, List, [], ◌∷◌, length, map, codes}
 use Rattle.serde_json.specs.Data.{Data, unsigned, boolean, number, string}
 use Rattle.jc_rules.specs.declared.key.Key.{Key}
 use Rattle.jc_rules.specs.declared.key.Tagged.{Tagged}
@@ -8,6 +8,7 @@ use Rattle.jc_rules.specs.Context.{Context, context, Children, listed}
 use Rattle.jc_rules.specs.Order.{key_cmp}
 use Rattle.jc_rules.specs.Entries.{find}
 use Rattle.jc_rules.specs.State.{State}
+use Rattle.jc_tree.specs.Walks.{entry_of}
 use Rattle.jc_dump.specs.declared.dump.Branch.{Branch}
 use Rattle.jc_dump.specs.declared.dump.Branch.TheVariants as B
 use Rattle.jc_dump.specs.declared.dump.Shown.{Shown}
@@ -21,11 +22,6 @@ tag_of B.List k = ListT k
 abbrev pub children_in : Branch → Context → Children
 children_in B.Map (context m l r p n) = m
 children_in B.List (context m l r p n) = l
-
--- the entry of a key, if it has one
-abbrev pub entry_of : {X : Type 0} → Key → Option X → List (Key × X)
-entry_of k None = []
-entry_of k (Some v) = (k, v) ∷ []
 
 -- a child's member
 abbrev pub child_member : List (List ℕ) → (Key → Tagged) → Key × Context → List ℕ × Data

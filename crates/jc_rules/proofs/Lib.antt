@@ -1,6 +1,7 @@
 pub mod Order
 pub mod Rising
 pub mod Entries
+pub mod Keys
 pub mod Places
 pub mod Ids
 pub mod Determined

@@ -1,6 +1,7 @@
 pub mod Search
 pub mod Nodes
 pub mod Least
+pub mod KeyWalk
 pub mod Keeping
 pub mod History
 pub mod Chained

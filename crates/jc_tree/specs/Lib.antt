@@ -1,4 +1,5 @@
 pub mod Tree
+pub mod Walks
 pub mod Sorted
 pub mod Nested
 pub mod Falls

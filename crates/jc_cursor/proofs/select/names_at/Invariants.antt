@@ -1,7 +1,8 @@
 use Rattle.std.proofs.Common.{length, option_copied}
 use Rattle.jc_rules.specs.Context.{presences}
 use Rattle.jc_tree.specs.Tree.{here}
-use Rattle.jc_cursor.proofs.Naming.{above, IsNamed}
+use Rattle.jc_tree.specs.Walks.{above}
+use Rattle.jc_cursor.proofs.Naming.{IsNamed}
 use Rattle.jc_cursor.proofs.select.names_at.Given as goal
 
 abbrev pub invariant-loop-key : goal.invariant-loop-key

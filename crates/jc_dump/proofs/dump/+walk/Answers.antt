@@ -14,7 +14,7 @@ use Rattle.jc_dump.specs.Dump.{tagged_text, context_data, put_all, register_memb
 use Rattle.jc_dump.specs.DumpParts.{tag_of, children_in, child_member, child_at, children_members}
 use Rattle.jc_dump.proofs.DumpLists.{walk_begins, walk_goes_on, walk_ends, found_member, child_members_are, context_is}
 use Rattle.jc_dump.proofs.DumpPlaces.{HasChild, has_child, kept_at, children_rise, of_children}
-use Rattle.jc_dump.proofs.DumpWalk.{IsNext, next_is, none_is}
+use Rattle.jc_tree.proofs.KeyWalk.{IsNext, next_is, none_is}
 use Rattle.jc_dump.proofs.dump.+walk.Goals as goal
 
 pub put_children-loop-key-init : goal.put_children-loop-key-init

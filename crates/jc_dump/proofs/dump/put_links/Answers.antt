@@ -9,7 +9,7 @@ use Rattle.jc_rules.specs.Shape.{IsKept}
 use Rattle.jc_tree.specs.Tree.{here, is_after}
 use Rattle.jc_dump.specs.Dump.{next_member, next_text, entry_text}
 use Rattle.jc_dump.proofs.DumpLists.{walk_begins, walk_goes_on, walk_ends, found_member, no_member}
-use Rattle.jc_dump.proofs.DumpWalk.{IsNext, next_is, none_is}
+use Rattle.jc_tree.proofs.KeyWalk.{IsNext, next_is, none_is}
 use Rattle.jc_dump.proofs.DumpPlaces.{kept_at, links_rise}
 use Rattle.jc_dump.proofs.dump.put_links.Goals as goal
 use Rattle.jc_dump.proofs.dump.put_links.Goals.{in-Some-next+in_ok-name+in_ok-next_text+in_ok-put, in_default-next}

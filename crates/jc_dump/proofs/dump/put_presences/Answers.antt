@@ -8,7 +8,7 @@ use Rattle.jc_rules.specs.Shape.{IsKept}
 use Rattle.jc_tree.specs.Tree.{here, is_after}
 use Rattle.jc_dump.specs.Dump.{presence_member, ids_data, entry_text}
 use Rattle.jc_dump.proofs.DumpLists.{walk_begins, walk_goes_on, walk_ends, found_member, no_member}
-use Rattle.jc_dump.proofs.DumpWalk.{IsNext, next_is, none_is}
+use Rattle.jc_tree.proofs.KeyWalk.{IsNext, next_is, none_is}
 use Rattle.jc_dump.proofs.DumpPlaces.{kept_at, presences_rise}
 use Rattle.jc_dump.proofs.dump.put_presences.Goals as goal
 use Rattle.jc_dump.proofs.dump.put_presences.Goals.{in-Some-presence+in_ok-name+in_ok-value+in_ok-put, in_default-presence}

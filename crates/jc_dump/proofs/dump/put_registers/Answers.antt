@@ -9,7 +9,7 @@ use Rattle.jc_rules.specs.Shape.{IsKept}
 use Rattle.jc_tree.specs.Tree.{here, is_after}
 use Rattle.jc_dump.specs.Dump.{register_member, register_data, entry_text}
 use Rattle.jc_dump.proofs.DumpLists.{walk_begins, walk_goes_on, walk_ends, found_member, no_member}
-use Rattle.jc_dump.proofs.DumpWalk.{IsNext, next_is, none_is}
+use Rattle.jc_tree.proofs.KeyWalk.{IsNext, next_is, none_is}
 use Rattle.jc_dump.proofs.DumpPlaces.{kept_at, registers_rise, of_registers}
 use Rattle.jc_dump.proofs.dump.put_registers.Goals as goal
 use Rattle.jc_dump.proofs.dump.put_registers.Goals.{in-Some-register+in_ok-name+in_ok-value+in_ok-put, in_default-register}

@@ -1,4 +1,4 @@
--- A walk over entries that rise by key, from each key to the least above it.
+-- A walk over keys, from each to the least above it, and over entries that rise by key.
 use Rattle.std.proofs.Common.{◌≡◌, ◌≢◌, ◌<◌, ◌≤◌, ◌⊎◌, List, [], ◌∷◌, ◌++◌, length, filter, Bool, true, false, Option, Some, None, refl, sym, ◌∙◌, ap, subst, arith, inl, inr}
 use Rattle.std.specs.List.{AllByRecursion}
 use Rattle.std.specs.Ordering.{is_lt}
@@ -12,17 +12,9 @@ use Rattle.jc_rules.specs.Table.{lesser, least}
 use Rattle.jc_rules.proofs.Order.{keys_total, exact_keys}
 use Rattle.jc_rules.proofs.Rising.{greater_less}
 use Rattle.jc_tree.specs.Tree.{is_after, least_after}
-use Rattle.jc_dump.specs.DumpParts.{entry_of}
+use Rattle.jc_tree.specs.Walks.{above, entry_of}
 
 -- ---- lists of keys
-
-pub all-left : (P : Key → Type 0) (js ks : List Key) → AllByRecursion P (js ++ ks) → AllByRecursion P js
-all-left P [] ks a = tt
-all-left P (j ∷ js) ks a = (a.0, all-left P js ks a.1)
-
-pub all-right : (P : Key → Type 0) (js ks : List Key) → AllByRecursion P (js ++ ks) → AllByRecursion P ks
-all-right P [] ks a = a
-all-right P (j ∷ js) ks a = all-right P js ks a.1
 
 abbrev IsAmong : Key → List Key → Type 0
 IsAmong k [] = ⊥
@@ -176,16 +168,12 @@ none_is last ks e = none-filter (λ j. is_after last j) ks (empty_list _ e)
 
 -- ---- entries
 
--- the entries above a key, or all
-abbrev pub above : {X : Type 0} → Option Key → List (Key × X) → List (Key × X)
-above last es = filter (λ e. is_after last e.0) es
-
 module _ {X : Type 0} where
   pub above-none : (es : List (Key × X)) → above None es ≡ es
   above-none [] = refl
   above-none (e ∷ es) = ap (λ r. e ∷ r) (above-none es)
 
-  all_above : (last : Option Key) (k : Key) (es : List (Key × X)) → is_after last k ≡ true → AllByRecursion (λ j. key_cmp k j ≡ Less) (keys_of es) → above last es ≡ es
+  pub all_above : (last : Option Key) (k : Key) (es : List (Key × X)) → is_after last k ≡ true → AllByRecursion (λ j. key_cmp k j ≡ Less) (keys_of es) → above last es ≡ es
   all_above last k [] a h = refl
   all_above last k (e ∷ es) a h = rw (after_over last k e.0 a h.0) (ap (λ r. e ∷ r) (all_above last k es a h.1))
 
