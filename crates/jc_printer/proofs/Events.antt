@@ -1,5 +1,5 @@
 -- The canonical text of an event is written with symbols of the event.
-use Rattle.std.proofs.Common.{◌≡◌, ℕ, ◌+◌, ◌<◌, ◌≤◌, ◌^◌, zero, suc, List, [], ◌∷◌, ◌++◌, length, get_or, Bool, true, refl, sym, ap, subst, ◌∙◌, arith, append_assoc, append-nil, decimal}
+use Rattle.std.proofs.Common.{◌≡◌, ℕ, ◌<◌, ◌^◌, zero, suc, List, [], ◌∷◌, ◌++◌, length, refl, sym, ap, subst, arith, append_assoc, decimal}
 use Rattle.std.specs.Prelude.{codes}
 use Rattle.std.specs.List.{All}
 use Rattle.std.proofs.lemmas.List.Elements.{All-get_or}
@@ -12,7 +12,7 @@ use Rattle.jc_syntax.specs.declared.tree.NamedEvent.TheVariants as named
 use Rattle.jc_parser.specs.Symbols.{Symbol, word, number, dot, open_paren, close_paren, comma, Lexeme, symbols}
 use Rattle.jc_rules.specs.Names.{name_at}
 use Rattle.jc_printer.specs.Canon.{canon_event, AreNamed}
-use Rattle.jc_parser.specs.Calls.{Call, executes, sends, receives, applies, ends, IsCallSpelled, call_of, StandsAt, IsEvent}
+use Rattle.jc_parser.specs.Calls.{IsCallSpelled, call_of, StandsAt, IsEvent}
 use Rattle.jc_parser.specs.Legal.{IsName, IsNumeric, call_by, IsCounterBelow}
 use Rattle.jc_printer.proofs.Numerals.{numeral_of, value_of_numeral, numeric_of}
 use Rattle.jc_printer.proofs.Printed.{IsPrinted, put, spaced}

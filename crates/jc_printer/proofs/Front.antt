@@ -1,6 +1,6 @@
 -- What is left of a text from a place on, and what stands there.
-use Rattle.std.proofs.Common.{◌≡◌, ℕ, ◌+◌, ◌<◌, List, [], ◌∷◌, ◌++◌, length, slice_index, drop, refl, sym, ap, subst, ◌∙◌, arith, length-drop, add-zero}
-use Rattle.std.proofs.lemmas.List.{get_or-drop, drop-drop, drop_at, length-append, get_or-append-add}
+use Rattle.std.proofs.Common.{◌≡◌, ℕ, ◌+◌, ◌<◌, List, ◌∷◌, ◌++◌, length, slice_index, drop, refl, sym, ap, subst, ◌∙◌, arith, length-drop, add-zero}
+use Rattle.std.proofs.lemmas.List.{get_or-drop, drop-drop, drop_at}
 
 -- past what stands at the front, the rest is left
 pub left_after : (text : List ℕ) (at n : ℕ) (own rest : List ℕ) → drop at text ≡ own ++ rest → n ≡ length own → drop (at + n) text ≡ rest

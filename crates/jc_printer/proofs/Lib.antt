@@ -4,6 +4,7 @@ mod Front
 mod NumberBytes
 mod Numerals
 mod Printed
+mod Pushed
 mod Quoted
 mod Trees
 mod Written

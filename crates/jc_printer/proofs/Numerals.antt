@@ -1,7 +1,7 @@
 -- The text of a number is a numeral, and writes that number.
-use Rattle.std.proofs.Common.{◌≡◌, ◌≢◌, ℕ, ◌+◌, ◌<◌, ◌≤◌, ◌^◌, List, [], ◌∷◌, ◌++◌, length, slice_index, get_or, map, Bool, true, false, not, ◌==◌, ◌&&◌, inl, inr, refl, sym, ap, subst, ◌∙◌, arith, append-nil, decimal}
+use Rattle.std.proofs.Common.{◌≡◌, ◌≢◌, ℕ, ◌+◌, ◌<◌, ◌^◌, List, [], ◌∷◌, ◌++◌, length, slice_index, get_or, map, true, false, ◌==◌, inl, inr, refl, sym, ap, ◌∙◌, arith, append-nil, decimal}
 use Rattle.std.specs.Char.{is_ascii_digit}
-use Rattle.std.specs.List.{list_all, AllPass}
+use Rattle.std.specs.List.{list_all}
 use Rattle.std.specs.Str.{all_ascii_digits}
 use Rattle.std.specs.Str.Parse.{digits_value}
 use Rattle.std.proofs.lemmas.Bool.{cases_lt, ne_eqb}
@@ -9,7 +9,7 @@ use Rattle.std.proofs.lemmas.Fmt.{decimal_is_IsNumeral, decimal-digits_of, digit
 use Rattle.std.proofs.lemmas.Int.Digits.{first_digits_of}
 use Rattle.std.proofs.lemmas.List.Sums.{AllPass-from_list_all}
 use Rattle.std.proofs.lemmas.Str.Parse.{IsNumeralModel, numerals_by_value, tells_all_ascii_digits}
-use Rattle.jc_syntax.specs.Numbers.{IsDigits, IsWhole, IsNumber}
+use Rattle.jc_syntax.specs.Numbers.{IsDigits, IsWhole}
 use Rattle.jc_parser.specs.Legal.{IsNumeric}
 use Rattle.jc_parser.specs.Language.{is_numeral, numeral_value}
 

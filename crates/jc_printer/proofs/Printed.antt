@@ -1,14 +1,14 @@
 -- Symbols that are written one after the other, with blanks between them as they please, are the symbols of that text.
-use Rattle.std.proofs.Common.{◌≡◌, ℕ, ◌+◌, ◌-◌, ◌<◌, ◌≤◌, List, [], ◌∷◌, ◌++◌, length, slice_index, drop, Bool, true, false, inl, inr, refl, sym, ap, subst, ◌∙◌, arith, append_assoc, append-nil, length-drop, add-zero}
+use Rattle.std.proofs.Common.{◌≡◌, ℕ, ◌+◌, ◌≤◌, List, [], ◌∷◌, ◌++◌, length, slice_index, drop, true, false, refl, sym, ap, ◌∙◌, arith, append-nil, length-drop, add-zero}
 use Rattle.std.specs.List.{prefix_len, list_all}
 use Rattle.std.proofs.lemmas.Bool.{and_from}
 use Rattle.std.proofs.lemmas.List.{get_or-drop}
 use Rattle.jc_syntax.specs.declared.token.Token.{Token}
 use Rattle.jc_syntax.specs.Bytes.{is_blank}
 use Rattle.jc_syntax.specs.Lexemes.{after_blanks, AreTokens, AreTokensOf}
-use Rattle.jc_parser.specs.Symbols.{Symbol, lexeme, lexemes, symbols}
+use Rattle.jc_parser.specs.Symbols.{Symbol, lexemes, symbols}
 use Rattle.jc_printer.proofs.Front.{left_after}
-use Rattle.jc_printer.proofs.Written.{IsPartedBy, IsWritten, run_is, IsLexemeOf, written_is}
+use Rattle.jc_printer.proofs.Written.{IsPartedBy, IsWritten, run_is, written_is}
 
 -- the symbols are written so, with blanks before each of them and at the end
 abbrev pub IsPrinted : List Symbol → List ℕ → Type 0

@@ -1,5 +1,5 @@
 -- The canonical text of a tree is written with symbols of the tree.
-use Rattle.std.proofs.Common.{◌≡◌, ℕ, ◌+◌, ◌<◌, ◌≤◌, ◌^◌, List, [], ◌∷◌, ◌++◌, length, slice_index, Bool, true, false, ◌||◌, inl, inr, refl, sym, ap, subst, ◌∙◌, arith, append_assoc, append-nil, decimal}
+use Rattle.std.proofs.Common.{◌≡◌, ℕ, ◌<◌, ◌≤◌, ◌^◌, List, [], ◌∷◌, ◌++◌, length, slice_index, true, false, inl, inr, refl, sym, ap, subst, arith, append_assoc, append-nil, decimal}
 use Rattle.std.specs.Prelude.{codes, flat_map}
 use Rattle.std.specs.Str.{bytes_eq}
 use Rattle.std.specs.List.{list_all, All}
@@ -10,12 +10,12 @@ use Rattle.jc_rules.specs.declared.value.Value.{Value}
 use Rattle.jc_rules.specs.declared.value.Value.TheVariants as values
 use Rattle.jc_rules.specs.Syntax.{Expr, TheDoc, Variable, GetKey, Index, KeysOf, ValuesOf, Cmd, LetIn, SetTo, InsertAfter, DeleteAt, Yield}
 use Rattle.jc_syntax.specs.Bytes.{is_name_start, is_name_byte, is_number_byte}
-use Rattle.jc_parser.specs.Symbols.{Symbol, word, number, string, dot, open_paren, close_paren, open_brace, close_brace, open_bracket, close_bracket, comma, semicolon, assign, equals}
+use Rattle.jc_parser.specs.Symbols.{Symbol, word, number, string, dot, open_paren, close_paren, open_brace, close_brace, open_bracket, close_bracket, semicolon, assign, equals}
 use Rattle.jc_printer.specs.Canon.{quoted, canon_expr, canon_value, canon_cmd, canon_script}
 use Rattle.jc_parser.specs.Grammar.{is_reserved, get_text, IsListText}
-use Rattle.jc_parser.specs.Language.{index_text, IsSpelled, HasLegalParts, IsWellFormed}
-use Rattle.jc_parser.specs.Scripts.{IsValueSpelled, Leads, IsCommandSpelled, IsCommandWellFormed, IsScriptSpelled}
-use Rattle.jc_parser.specs.Legal.{IsName, IsNumeric, IsContent, IsLegalExpr, IsLegalValue, IsLegalCmd}
+use Rattle.jc_parser.specs.Language.{index_text, IsSpelled, HasLegalParts}
+use Rattle.jc_parser.specs.Scripts.{IsValueSpelled, Leads, IsCommandSpelled, IsCommandWellFormed}
+use Rattle.jc_parser.specs.Legal.{IsName, IsLegalExpr, IsLegalValue, IsLegalCmd}
 use Rattle.jc_printer.proofs.Numerals.{numeral_of, value_of_numeral, numeric_of}
 use Rattle.jc_printer.proofs.Printed.{IsPrinted, put, spaced}
 use Rattle.jc_printer.proofs.Written.{IsPartedBy, IsWritten}

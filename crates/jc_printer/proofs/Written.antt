@@ -1,8 +1,7 @@
 -- What symbols are written with, and the lexemes that stand there then.
-use Rattle.std.proofs.Common.{◌≡◌, ◌≢◌, ℕ, suc, ◌+◌, ◌-◌, ◌<◌, ◌≤◌, ◌⊎◌, List, [], ◌∷◌, ◌++◌, length, slice_index, take, drop, Bool, true, false, Option, Some, None, inl, inr, refl, sym, ap, subst, ◌∙◌, arith, append_assoc}
+use Rattle.std.proofs.Common.{◌≡◌, ℕ, suc, ◌+◌, ◌-◌, ◌<◌, ◌≤◌, List, [], ◌∷◌, ◌++◌, length, slice_index, take, drop, Bool, true, false, Some, refl, sym, ap, subst, ◌∙◌, arith}
 use Rattle.std.specs.Prelude.{codes}
-use Rattle.std.specs.List.{prefix_len, list_all, AllPass}
-use Rattle.std.specs.Char.{is_ascii_digit}
+use Rattle.std.specs.List.{prefix_len, list_all}
 use Rattle.std.proofs.lemmas.Bool.{and_parts}
 use Rattle.std.proofs.lemmas.Bool.Decides.{nat_tests}
 use Rattle.std.proofs.lemmas.List.{take_at}
@@ -12,12 +11,12 @@ use Rattle.jc_syntax.specs.declared.token.TokenKind.{TokenKind}
 use Rattle.jc_syntax.specs.declared.token.TokenKind.TheVariants.{Name, Number, Str, Dot, ParenL, ParenR, BraceL, BraceR, BracketL, BracketR, Comma, Semi, Assign, Equals}
 use Rattle.jc_syntax.specs.Bytes.{is_blank, is_name_start, is_name_byte, is_number_start, is_number_byte}
 use Rattle.jc_syntax.specs.Numbers.{IsNumber}
-use Rattle.jc_syntax.specs.Lexemes.{after_name, after_number_run, kind_of, kind_at, EndsAt, limit_of, IsLexeme, bytes_of, content_of}
+use Rattle.jc_syntax.specs.Lexemes.{kind_of, EndsAt, limit_of, IsLexeme, bytes_of, content_of}
 use Rattle.jc_syntax.proofs.Contents.{string_content}
 use Rattle.jc_parser.specs.Symbols.{Symbol, word, number, string, dot, open_paren, close_paren, open_brace, close_brace, open_bracket, close_bracket, comma, semicolon, assign, equals, symbol_of}
 use Rattle.jc_printer.specs.Canon.{quoted}
 use Rattle.jc_parser.specs.Legal.{IsName, IsNumeric, IsContent}
-use Rattle.jc_printer.proofs.Front.{left_after, byte_there, byte_here, stands}
+use Rattle.jc_printer.proofs.Front.{byte_there, byte_here, stands}
 use Rattle.jc_printer.proofs.Quoted.{quoted_string}
 use Rattle.jc_printer.proofs.NumberBytes.{number_bytes, number_begins}
 

@@ -1,4 +1,4 @@
-use Rattle.std.proofs.Common.{◌≡◌, ◌+◌, ◌++◌, ◌∷◌, [], length, length-append, sym, ap, ◌∙◌, arith}
+use Rattle.std.proofs.Common.{◌≡◌, ◌+◌, ◌++◌, ◌∷◌, [], inr, length, length-append, refl, sym, ap, ◌∙◌, arith}
 use Rattle.jc_syntax.specs.Strings.{piece_bytes, spelled}
 use Rattle.jc_syntax.proofs.Pieces.{pieces_more, spelled_more}
 use Rattle.jc_syntax.proofs.extent.string_extent.Goals as goal
@@ -19,3 +19,8 @@ pieces-preserved c =
       rw c.len-at.ensures (pieces_more c.args.bytes.now (c.args.quote + 1) c.pieces.at piece ps so_far.4 c.pieces-test.true c.if-bytes-at-eq34.false (sym c.in_ok-piece.ensures.value)),
       omega (arith, so_far.5, size, c.size-size.ensures.size),
     )
+
+-- no quote follows the pieces
+pub returns-clause-malformed : goal.returns-clause-malformed
+returns-clause-malformed c =
+    record { pieces = c.pieces.invariant.3; place = c.pieces.at; between = c.pieces.invariant.4; stops = inr (omega (arith, c.pieces-test.false), refl) }

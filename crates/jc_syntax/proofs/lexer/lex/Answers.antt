@@ -1,4 +1,5 @@
-use Rattle.std.proofs.Common.{◌<◌, ◌≤◌, length, arith}
+use Rattle.std.proofs.Common.{◌<◌, ◌≤◌, inl, length, refl, arith}
+use Rattle.jc_syntax.specs.Lexemes.{AreTokensOf}
 use Rattle.jc_syntax.proofs.Tokens.{tokens_more, lexeme_later, each_token}
 use Rattle.jc_syntax.proofs.lexer.lex.Goals as goal
 
@@ -21,6 +22,17 @@ tokens-smaller c =
     let is = c.in_ok-token.ensures.token in
     let inside : t.start < length c.as_bytes-bytes.result.now = omega (arith, is.0) in
     omega (arith, is.0, lexeme_later c.as_bytes-bytes.result.now t inside is.1, c.skip_blanks-at-in-tokens.ensures.from)
+
+-- the text is longer than it may be
+pub returns-then-bytes-gt-MAX_TEXT-clause-fault : goal.returns-then-bytes-gt-MAX_TEXT-clause-fault
+returns-then-bytes-gt-MAX_TEXT-clause-fault c kept = inl (omega (arith, c.if-bytes-gt-MAX_TEXT.true, c.as_bytes-bytes.ensures.len), refl)
+
+-- the tokens end where the text does
+pub returns-clause-tokens : goal.returns-clause-tokens
+returns-clause-tokens c =
+    let room : length c.as_bytes-bytes.result.now ≤ 8388608 = omega arith in
+    let here : AreTokensOf c.as_bytes-bytes.result.now c.tokens.tokens.items = (room, c.tokens.at, c.tokens.invariant.1, omega (arith, c.tokens-test.false)) in
+    rw c.as_bytes-bytes.ensures.value at here
 
 pub returns-clause-each : goal.returns-clause-each
 returns-clause-each c =
