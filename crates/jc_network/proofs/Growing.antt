@@ -116,16 +116,16 @@ module _ (N : List State) (p : ℕ) (A B : State) (New : Op → Type 0) (there :
           (x.0 ∙ sym s, subst (λ (D : State). has_id o.id D.ops ≡ true) (sym f) x.1)
       go (stayed f) = h.own q C o f k
 
-  sent : (q : ℕ) (C : State) (o : Op) → IsAt after q C → Contains C.send o → IsMade after o
+  sent : (q : ℕ) (C : State) (o : Op) → IsAt after q C → Contains C.send o → (o.id.replica ≡ q) × IsMade after o
   sent q C o e k = go (stands q C e)
     where
-      in_new : Contains A.send o ⊎ Contains A.queue o → IsMade after o
-      in_new (inl n) = made_still o (h.sent p A o there n)
-      in_new (inr m) = made_still o (queued_made p A o there m)
+      in_new : Contains A.send o ⊎ Contains A.queue o → (o.id.replica ≡ p) × IsMade after o
+      in_new (inl n) = let x = h.sent p A o there n in (x.0, made_still o x.1)
+      in_new (inr m) = ((h.own p A o there m).0, made_still o (queued_made p A o there m))
 
-      go : Stands q C → IsMade after o
-      go (moved s f) = in_new (g.send o (subst (λ (D : State). Contains D.send o) f k))
-      go (stayed f) = made_still o (h.sent q C o f k)
+      go : Stands q C → (o.id.replica ≡ q) × IsMade after o
+      go (moved s f) = let x = in_new (g.send o (subst (λ (D : State). Contains D.send o) f k)) in (x.0 ∙ sym s, x.1)
+      go (stayed f) = let x = h.sent q C o f k in (x.0, made_still o x.1)
 
   received : (q : ℕ) (C : State) (o : Op) → IsAt after q C → Contains C.recv o → IsMade after o
   received q C o e k = go (stands q C e)

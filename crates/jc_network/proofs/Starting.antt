@@ -112,7 +112,7 @@ module _ (N : List State) (w : IsWell N) where
     where
       go : (p : ℕ) × (A : State) × IsAt N p A × IsHeld A o → IsMade N o
       go (p, A, e, in_queue m) = record { at = A; there = ap (slice_get N) ((w.sets.own p A o e m).0) ∙ e; queued = m }
-      go (p, A, e, in_send m) = w.sets.sent p A o e m
+      go (p, A, e, in_send m) = (w.sets.sent p A o e m).1
       go (p, A, e, in_recv m) = w.sets.received p A o e m
 
   made_held : (o : Op) → IsMade N o → Contains (held N) o

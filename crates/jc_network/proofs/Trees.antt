@@ -252,7 +252,7 @@ reads_made N (E.Recv p q) read w e x k = go (slice_get N q) refl e
   where
     go : (o : Option State) → slice_get N q ≡ o → send_of o ≡ Some read → IsMade N x
     go None f g = cc
-    go (Some C) f g = w.sets.sent q C x f (subst (λ s. Contains s x) (sym (same_Some C.send read g)) k)
+    go (Some C) f g = (w.sets.sent q C x f (subst (λ s. Contains s x) (sym (same_Some C.send read g)) k)).1
 reads_made N (E.Exec p) read w e x k = none_in x (subst (λ s. Contains s x) (sym (same_Some [] read e)) k)
 reads_made N (E.Send p) read w e x k = none_in x (subst (λ s. Contains s x) (sym (same_Some [] read e)) k)
 reads_made N (E.Apply p i) read w e x k = none_in x (subst (λ s. Contains s x) (sym (same_Some [] read e)) k)

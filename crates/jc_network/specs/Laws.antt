@@ -49,6 +49,16 @@ HeldIsSound =
     × IsRooted (held network)
     × ((A : State) → Contains network A → AreApplied A)
 
+-- What a replica offers it made itself.
+abbrev pub OfferedIsOwn : Type 0
+OfferedIsOwn =
+    (scripts : List (List Cmd)) (network : List State)
+    → IsReached scripts network
+    → (p : ℕ) (A : State) (o : Op)
+    → slice_get network p ≡ Some A
+    → Contains A.send o
+    → o.id.replica ≡ p
+
 -- No counter is above the number of commands that were run.
 abbrev pub CountersAreRun : Type 0
 CountersAreRun =

@@ -32,13 +32,14 @@ pub record IsSoundOf (In : Op → Type 0) : Type 0 where
       → e.id.counter < o.id.counter
       → has_id e.id o.deps ≡ true
 
--- The sets of a network: a queue has its replica's operations, which are all applied there; what is offered or
--- received was made; what is applied is in the replica's queue or was received, with its dependencies applied; and what
--- was made is sound.
+-- The sets of a network: a queue has its replica's operations, which are all applied there; what a replica offers it
+-- made; what is received was made; what is applied is in the replica's queue or was received, with its dependencies
+-- applied; and what was made is sound.
 pub record HasSoundOps (network : List State) : Type 0 where
   pub own : (p : ℕ) (A : State) (o : Op) → IsAt network p A → Contains A.queue o
       → (o.id.replica ≡ p) × (has_id o.id A.ops ≡ true)
-  pub sent : (p : ℕ) (A : State) (o : Op) → IsAt network p A → Contains A.send o → IsMade network o
+  pub sent : (p : ℕ) (A : State) (o : Op) → IsAt network p A → Contains A.send o
+      → (o.id.replica ≡ p) × IsMade network o
   pub received : (p : ℕ) (A : State) (o : Op) → IsAt network p A → Contains A.recv o → IsMade network o
   pub applied : (p : ℕ) (A : State) (i : Id) → IsAt network p A → has_id i A.ops ≡ true
       → (o : Op) × (Contains A.queue o ⊎ Contains A.recv o) × (o.id ≡ i)

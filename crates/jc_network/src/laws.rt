@@ -1,11 +1,16 @@
 //! Laws of networks. Each function does nothing: its contract is the law.
 
-ghost use Rattle.jc_network.specs.Laws.{HeldIsSound, CountersAreRun, AppliesAtYield, NeverStuckAtYield, LinksAreApplied, StepOrStuck};
+ghost use Rattle.jc_network.specs.Laws.{HeldIsSound, OfferedIsOwn, CountersAreRun, AppliesAtYield, NeverStuckAtYield, LinksAreApplied, StepOrStuck};
 
 /// In each network that is reached from a start, all operations are a sound and rooted set, and what each replica has
 /// applied is what it made or received, closed under dependencies.
 pub fn held_is_sound()
     ensures { HeldIsSound }
+{}
+
+/// What a replica offers it made itself.
+pub fn offered_is_own()
+    ensures { OfferedIsOwn }
 {}
 
 /// No counter is above the number of commands that were run.

@@ -3,6 +3,7 @@ use jc_network::laws;
 #[test]
 fn laws_stand() {
     laws::held_is_sound();
+    laws::offered_is_own();
     laws::counters_are_run();
     laws::applies_at_yield();
     laws::never_stuck_at_yield();
