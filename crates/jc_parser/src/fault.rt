@@ -6,70 +6,51 @@ ghost use Rattle.jc_parser.specs.Faults.{number_of, place_of, from_lexer};
 
 use jc_syntax::LexFault;
 use std::alloc::{AllocError, AllocFailed};
-use thiserror::Error;
+use std::error::Error;
+use std::fmt;
 
 /// Why a text is no scenario. Places are byte numbers from 0.
-#[derive(Clone, Copy, Debug, PartialEq, Eq, Error)]
+#[derive(Clone, Copy)]
 pub enum ScenarioFault {
     /// A byte that begins no token, or a control byte inside a string.
-    #[error("BadByte at {place}")]
     BadByte { place: usize },
     /// A string without a closing quote; the place is its opening quote.
-    #[error("OpenString at {place}")]
     OpenString { place: usize },
     /// A backslash that begins no escape.
-    #[error("BadEscape at {place}")]
     BadEscape { place: usize },
     /// The escape of a surrogate that is no half of a pair; the place is its backslash.
-    #[error("LoneSurrogate at {place}")]
     LoneSurrogate { place: usize },
     /// What begins like a number and is no JSON number.
-    #[error("BadNumber at {place}")]
     BadNumber { place: usize },
     /// A text or a token that is longer than its limit; for a token the place is its start.
-    #[error("TextTooLong at {place}")]
     TextTooLong { place: usize },
     /// A token that does not fit.
-    #[error("Unexpected at {place}")]
     Unexpected { place: usize },
     /// The text ends too early; the place is its length.
-    #[error("EndOfText at {place}")]
     EndOfText { place: usize },
     /// A number of 4,294,967,296 or more where an index must stand.
-    #[error("IndexTooLarge at {place}")]
     IndexTooLarge { place: usize },
     /// A reserved word where a name must stand.
-    #[error("ReservedName at {place}")]
     ReservedName { place: usize },
     /// A command past the limit of 65,536; the place is its first token.
-    #[error("TooManyCommands at {place}")]
     TooManyCommands { place: usize },
     /// A selector past the limit of 256; the place is the dot before it.
-    #[error("TooLongExpression at {place}")]
     TooLongExpression { place: usize },
     /// The bytes are not UTF-8; the place is the length of their longest prefix that is.
-    #[error("NotUtf8 at {place}")]
     NotUtf8 { place: usize },
     /// A token that is not the header's, or the text's end in its place.
-    #[error("NoHeader at {place}")]
     NoHeader { place: usize },
     /// A name that an earlier replica has.
-    #[error("SameName at {place}")]
     SameName { place: usize },
     /// No replica follows the header.
-    #[error("NoReplica at {place}")]
     NoReplica { place: usize },
     /// A replica past the limit of 64; the place is its name.
-    #[error("TooManyReplicas at {place}")]
     TooManyReplicas { place: usize },
     /// An event names a replica that the scenario does not have; the place is the name.
-    #[error("UnknownReplica at {place}")]
     UnknownReplica { place: usize },
     /// An event past the limit of 100,000; the place is its first token.
-    #[error("TooManyEvents at {place}")]
     TooManyEvents { place: usize },
     /// A request for memory was refused.
-    #[error("no memory")]
     Memory,
 }
 
@@ -129,7 +110,51 @@ impl ScenarioFault {
             ScenarioFault::Memory => None,
         }
     }
+
+    fn name(&self) -> &'static str {
+        match self {
+            ScenarioFault::BadByte { .. } => "BadByte",
+            ScenarioFault::OpenString { .. } => "OpenString",
+            ScenarioFault::BadEscape { .. } => "BadEscape",
+            ScenarioFault::LoneSurrogate { .. } => "LoneSurrogate",
+            ScenarioFault::BadNumber { .. } => "BadNumber",
+            ScenarioFault::TextTooLong { .. } => "TextTooLong",
+            ScenarioFault::Unexpected { .. } => "Unexpected",
+            ScenarioFault::EndOfText { .. } => "EndOfText",
+            ScenarioFault::IndexTooLarge { .. } => "IndexTooLarge",
+            ScenarioFault::ReservedName { .. } => "ReservedName",
+            ScenarioFault::TooManyCommands { .. } => "TooManyCommands",
+            ScenarioFault::TooLongExpression { .. } => "TooLongExpression",
+            ScenarioFault::NotUtf8 { .. } => "NotUtf8",
+            ScenarioFault::NoHeader { .. } => "NoHeader",
+            ScenarioFault::SameName { .. } => "SameName",
+            ScenarioFault::NoReplica { .. } => "NoReplica",
+            ScenarioFault::TooManyReplicas { .. } => "TooManyReplicas",
+            ScenarioFault::UnknownReplica { .. } => "UnknownReplica",
+            ScenarioFault::TooManyEvents { .. } => "TooManyEvents",
+            ScenarioFault::Memory => "no memory",
+        }
+    }
 }
+
+// By its name: a derived match of every variant is dear to prove.
+impl fmt::Display for ScenarioFault {
+    fn fmt<W: fmt::Write>(&self, f: &mut fmt::Formatter<W>) -> fmt::Result {
+        f.write_str(self.name())?;
+        match self.place() {
+            Some(place) => write!(f, " at {place}"),
+            None => Ok(()),
+        }
+    }
+}
+
+impl fmt::Debug for ScenarioFault {
+    fn fmt<W: fmt::Write>(&self, f: &mut fmt::Formatter<W>) -> fmt::Result {
+        fmt::Display::fmt(self, f)
+    }
+}
+
+impl Error for ScenarioFault {}
 
 impl From<LexFault> for ScenarioFault {
     ghost from_gives = { λ fault e. e ≡ from_lexer fault };

@@ -4,49 +4,37 @@ ghost use Rattle.std.specs.Prelude.{◌≡◌};
 ghost use Rattle.jc_parser.specs.Faults.{number_of, place_of, from_sentence, IsOfSentence};
 
 use crate::fault::ScenarioFault;
-use thiserror::Error;
+use std::error::Error;
+use std::fmt;
 
 /// Why a text is no script, expression or event. Places are byte numbers from 0.
-#[derive(Clone, Copy, Debug, PartialEq, Eq, Error)]
+#[derive(Clone, Copy)]
 pub enum ParseFault {
     /// A byte that begins no token, or a control byte inside a string.
-    #[error("BadByte at {place}")]
     BadByte { place: usize },
     /// A string without a closing quote; the place is its opening quote.
-    #[error("OpenString at {place}")]
     OpenString { place: usize },
     /// A backslash that begins no escape.
-    #[error("BadEscape at {place}")]
     BadEscape { place: usize },
     /// The escape of a surrogate that is no half of a pair; the place is its backslash.
-    #[error("LoneSurrogate at {place}")]
     LoneSurrogate { place: usize },
     /// What begins like a number and is no JSON number.
-    #[error("BadNumber at {place}")]
     BadNumber { place: usize },
     /// A text or a token that is longer than its limit; for a token the place is its start.
-    #[error("TextTooLong at {place}")]
     TextTooLong { place: usize },
     /// A token that does not fit.
-    #[error("Unexpected at {place}")]
     Unexpected { place: usize },
     /// The text ends too early; the place is its length.
-    #[error("EndOfText at {place}")]
     EndOfText { place: usize },
     /// A number of 4,294,967,296 or more where an index must stand.
-    #[error("IndexTooLarge at {place}")]
     IndexTooLarge { place: usize },
     /// A reserved word where a name must stand.
-    #[error("ReservedName at {place}")]
     ReservedName { place: usize },
     /// A command past the limit of 65,536; the place is its first token.
-    #[error("TooManyCommands at {place}")]
     TooManyCommands { place: usize },
     /// A selector past the limit of 256; the place is the dot before it.
-    #[error("TooLongExpression at {place}")]
     TooLongExpression { place: usize },
     /// A request for memory was refused.
-    #[error("no memory")]
     Memory,
 }
 
@@ -86,6 +74,20 @@ impl ParseFault {
         self.of_scenario().place()
     }
 }
+
+impl fmt::Display for ParseFault {
+    fn fmt<W: fmt::Write>(&self, f: &mut fmt::Formatter<W>) -> fmt::Result {
+        fmt::Display::fmt(&self.of_scenario(), f)
+    }
+}
+
+impl fmt::Debug for ParseFault {
+    fn fmt<W: fmt::Write>(&self, f: &mut fmt::Formatter<W>) -> fmt::Result {
+        fmt::Display::fmt(self, f)
+    }
+}
+
+impl Error for ParseFault {}
 
 /// A fault that a sentence can have, as such.
 pub(crate) fn of_sentence(fault: ScenarioFault) -> ParseFault
