@@ -1,9 +1,9 @@
 pub mod Escapes
-mod Events
-mod Front
-mod NumberBytes
-mod Numerals
-mod Printed
-mod Quoted
-mod Trees
-mod Written
+pub mod Events
+pub mod Front
+pub mod NumberBytes
+pub mod Numerals
+pub mod Printed
+pub mod Quoted
+pub mod Trees
+pub mod Written
