@@ -107,7 +107,5 @@ fn push_event(
     ensures { OnOk result (string_bytes out.new ≡ string_bytes out.old ++ line_of (canon_event names.now event.now)) }
 {
     let text = print_event(alloc, names, event)?;
-    out.push_str("  ")?;
-    out.push_str(text.as_str())?;
-    out.push_str(";\n")
+    write!(out, "  {text};\n")
 }

@@ -1,15 +1,15 @@
 //! The faults of texts that are no scenarios, worked out by hand.
 
 use jc_scenario::read;
+use std::alloc::Global;
 use std::process::Abort;
-use std::test::Fail;
 
 /// The number and the place of a fault.
 pub type Fault = Option<(u8, usize)>;
 
 /// The fault of a text, if it has one; two zeros for want of memory.
-pub fn fault_of(rt: &HostRuntime, bytes: &[u8]) -> Fault {
-    match read(rt.alloc(), bytes) {
+pub fn fault_of(alloc: Global, bytes: &[u8]) -> Fault {
+    match read(alloc, bytes) {
         Ok(_) => None,
         Err(fault) => match (fault.number(), fault.place()) {
             (Some(number), Some(place)) => Some((number, place)),
@@ -22,9 +22,9 @@ pub fn is_fault(rt: &impl Abort, about: &str, got: Fault, want: Fault) {
     assert_eq!(rt; got, want, "{about}");
 }
 
-fn are_faults(rt: &HostRuntime, rows: &[(&str, Fault)]) {
+fn are_faults(rt: &impl Abort, alloc: Global, rows: &[(&str, Fault)]) {
     for (text, want) in rows {
-        let got = fault_of(rt, text.as_bytes());
+        let got = fault_of(alloc, text.as_bytes());
         is_fault(rt, text, got, *want);
     }
 }
@@ -47,20 +47,41 @@ const ROWS: &[(&str, Fault)] = &[
     ("jsoncrdt 1 replica a {yield", Some((8, 27))),
     ("jsoncrdt 1 replica a {yield yield}", Some((7, 28))),
     ("jsoncrdt 1 replica a {} replica a {}", Some((15, 32))),
-    ("jsoncrdt 1 replica b {} replica a {} replica b {}", Some((15, 45))),
-    ("jsoncrdt 1 replica a {doc.idx(4294967296).delete}", Some((9, 30))),
+    (
+        "jsoncrdt 1 replica b {} replica a {} replica b {}",
+        Some((15, 45)),
+    ),
+    (
+        "jsoncrdt 1 replica a {doc.idx(4294967296).delete}",
+        Some((9, 30)),
+    ),
     // the schedule
     ("jsoncrdt 1 replica a {} schedule {b.exec}", Some((18, 34))),
-    ("jsoncrdt 1 replica a {} schedule {a.recv(b)}", Some((18, 41))),
-    ("jsoncrdt 1 replica a {} schedule {a.apply(1, b)}", Some((18, 45))),
-    ("jsoncrdt 1 replica a {} schedule {a.send; b.done}", Some((18, 42))),
-    ("jsoncrdt 1 replica a {} schedule {b.recv(c)}", Some((18, 34))),
-    ("jsoncrdt 1 replica a {} schedule {a.apply(4294967296, a)}", Some((9, 42))),
+    (
+        "jsoncrdt 1 replica a {} schedule {a.recv(b)}",
+        Some((18, 41)),
+    ),
+    (
+        "jsoncrdt 1 replica a {} schedule {a.apply(1, b)}",
+        Some((18, 45)),
+    ),
+    (
+        "jsoncrdt 1 replica a {} schedule {a.send; b.done}",
+        Some((18, 42)),
+    ),
+    (
+        "jsoncrdt 1 replica a {} schedule {b.recv(c)}",
+        Some((18, 34)),
+    ),
+    (
+        "jsoncrdt 1 replica a {} schedule {a.apply(4294967296, a)}",
+        Some((9, 42)),
+    ),
 ];
 
 #[test]
 fn each_refusal(rt: HostRuntime) {
-    are_faults(&rt, ROWS);
+    are_faults(&rt, rt.alloc(), ROWS);
 }
 
 /// A reserved word in each place where a name stands.
@@ -71,13 +92,19 @@ const RESERVED: &[(&str, Fault)] = &[
     ("jsoncrdt 1 replica a {let x = yield}", Some((10, 30))),
     ("jsoncrdt 1 replica a {true := 1}", Some((10, 22))),
     // in an event a name is only looked up
-    ("jsoncrdt 1 replica a {} schedule {let.exec}", Some((18, 34))),
-    ("jsoncrdt 1 replica a {} schedule {a.recv(doc)}", Some((18, 41))),
+    (
+        "jsoncrdt 1 replica a {} schedule {let.exec}",
+        Some((18, 34)),
+    ),
+    (
+        "jsoncrdt 1 replica a {} schedule {a.recv(doc)}",
+        Some((18, 41)),
+    ),
 ];
 
 #[test]
 fn reserved_words(rt: HostRuntime) {
-    are_faults(&rt, RESERVED);
+    are_faults(&rt, rt.alloc(), RESERVED);
 }
 
 /// Two faults at once: the one that is told.
@@ -94,14 +121,20 @@ const TWICE: &[(&str, Fault)] = &[
     ("jsoncrdt 1 replica a {;} replica a {}", Some((7, 22))),
     ("jsoncrdt 1 replica a {} replica a {;}", Some((15, 32))),
     // a name in an event is looked up last
-    ("jsoncrdt 1 replica a {} schedule {b.exec; a.jump}", Some((7, 44))),
+    (
+        "jsoncrdt 1 replica a {} schedule {b.exec; a.jump}",
+        Some((7, 44)),
+    ),
     ("jsoncrdt 1 replica a {} schedule {b.exec", Some((8, 40))),
-    ("jsoncrdt 1 replica a {} schedule {b.apply(4294967296, a)}", Some((9, 42))),
+    (
+        "jsoncrdt 1 replica a {} schedule {b.apply(4294967296, a)}",
+        Some((9, 42)),
+    ),
 ];
 
 #[test]
 fn two_faults(rt: HostRuntime) {
-    are_faults(&rt, TWICE);
+    are_faults(&rt, rt.alloc(), TWICE);
 }
 
 /// Bytes that are no UTF-8: behind a good text, and behind a byte that begins no token.
@@ -113,7 +146,7 @@ const NOT_UTF8: &[(&[u8], Fault)] = &[
 #[test]
 fn bytes_that_are_no_text(rt: HostRuntime) {
     for (bytes, want) in NOT_UTF8 {
-        let got = fault_of(&rt, bytes);
+        let got = fault_of(rt.alloc(), bytes);
         is_fault(&rt, "no text", got, *want);
     }
 }
@@ -138,7 +171,7 @@ const CUT: &[(usize, Fault)] = &[
 fn cut_texts(rt: HostRuntime) {
     for (end, want) in CUT {
         if *end <= FIRST.len() {
-            let got = fault_of(&rt, &FIRST[..*end]);
+            let got = fault_of(rt.alloc(), &FIRST[..*end]);
             is_fault(&rt, "cut", got, *want);
         } else {
             is_fault(&rt, "too short", None, *want);

@@ -1,6 +1,7 @@
 //! Texts at their limits, and past them.
 
 use crate::faults::{Fault, fault_of, is_fault};
+use std::alloc::{AllocError, Global};
 use std::test::Fail;
 
 /// What stands behind 64 replicas, and the fault.
@@ -21,29 +22,43 @@ fn replicas(rt: HostRuntime) -> Result<(), Fail> {
     }
     for (tail, want) in BEHIND {
         let text = format!(in rt.alloc(); "{head}{tail}")?;
-        let got = fault_of(&rt, text.as_bytes());
+        let got = fault_of(rt.alloc(), text.as_bytes());
         is_fault(&rt, tail, got, *want);
     }
     Ok(())
 }
 
-/// An event, how often it stands in a schedule, what stands behind, and the fault.
-const EVENTS: &[(&str, usize, &str, Fault)] = &[
-    ("a.send;", 100000, "}", None),
-    ("a.send;", 100001, "}", Some((19, 700034))),
-    ("a.send;", 100000, "1}", Some((7, 700034))),
-    // the events are counted before their names are looked up
-    ("z.send;", 100001, "}", Some((19, 700034))),
-    ("z.send;", 100000, "}", Some((18, 34))),
+/// The fault of a schedule in which an event stands so often, with this behind it.
+fn crowded(alloc: Global, event: &str, times: usize, tail: &str) -> Result<Fault, AllocError> {
+    let events = event.repeat(alloc, times)?;
+    let text = format!(in alloc; "jsoncrdt 1 replica a {{}} schedule {{{events}{tail}")?;
+    Ok(fault_of(alloc, text.as_bytes()))
+}
+
+/// How often an event stands in a schedule, what stands behind, and the fault.
+const EVENTS: &[(usize, &str, Fault)] = &[
+    (100000, "}", None),
+    (100001, "}", Some((19, 700034))),
+    (100000, "1}", Some((7, 700034))),
 ];
 
 #[test]
 fn events(rt: HostRuntime) -> Result<(), Fail> {
-    for (event, times, tail, want) in EVENTS {
-        let events = event.repeat(rt.alloc(), *times)?;
-        let text = format!(in rt.alloc(); "jsoncrdt 1 replica a {{}} schedule {{{events}{tail}")?;
-        let got = fault_of(&rt, text.as_bytes());
-        is_fault(&rt, event, got, *want);
+    for (times, tail, want) in EVENTS {
+        let got = crowded(rt.alloc(), "a.send;", *times, tail)?;
+        is_fault(&rt, tail, got, *want);
+    }
+    Ok(())
+}
+
+/// How often an event of no replica stands in a schedule, and the fault: all events are counted first.
+const STRANGE: &[(usize, Fault)] = &[(100000, Some((18, 34))), (100001, Some((19, 700034)))];
+
+#[test]
+fn events_of_no_replica(rt: HostRuntime) -> Result<(), Fail> {
+    for (times, want) in STRANGE {
+        let got = crowded(rt.alloc(), "z.send;", *times, "}")?;
+        is_fault(&rt, "strange", got, *want);
     }
     Ok(())
 }
@@ -56,7 +71,7 @@ fn commands(rt: HostRuntime) -> Result<(), Fail> {
     for (times, want) in COMMANDS {
         let script = "yield;".repeat(rt.alloc(), *times)?;
         let text = format!(in rt.alloc(); "jsoncrdt 1 replica a {{{script}}}")?;
-        let got = fault_of(&rt, text.as_bytes());
+        let got = fault_of(rt.alloc(), text.as_bytes());
         is_fault(&rt, "commands", got, *want);
     }
     Ok(())
@@ -70,7 +85,7 @@ fn selectors(rt: HostRuntime) -> Result<(), Fail> {
     for (times, want) in SELECTORS {
         let selectors = ".get(\"a\")".repeat(rt.alloc(), *times)?;
         let text = format!(in rt.alloc(); "jsoncrdt 1 replica a {{doc{selectors} := 1}}")?;
-        let got = fault_of(&rt, text.as_bytes());
+        let got = fault_of(rt.alloc(), text.as_bytes());
         is_fault(&rt, "selectors", got, *want);
     }
     Ok(())
@@ -84,7 +99,7 @@ fn names(rt: HostRuntime) -> Result<(), Fail> {
     for (times, want) in NAMES {
         let name = "a".repeat(rt.alloc(), *times)?;
         let text = format!(in rt.alloc(); "jsoncrdt 1 replica {name} {{}}")?;
-        let got = fault_of(&rt, text.as_bytes());
+        let got = fault_of(rt.alloc(), text.as_bytes());
         is_fault(&rt, "name", got, *want);
     }
     Ok(())
@@ -106,7 +121,7 @@ fn bytes(rt: HostRuntime) -> Result<(), Fail> {
         bytes.extend_from_slice(b"jsoncrdt 1 replica a {}")?;
         bytes.resize(23 + *times, b' ')?;
         bytes.extend_from_slice(tail)?;
-        let got = fault_of(&rt, &bytes);
+        let got = fault_of(rt.alloc(), &bytes);
         is_fault(&rt, "bytes", got, *want);
     }
     Ok(())
