@@ -1,7 +1,6 @@
 pub mod Inserting
 pub mod Apart
 pub mod Written
-pub mod Called
 pub mod Joined
 pub mod Lines
 pub mod Utf8

@@ -14,3 +14,9 @@ returns-clause-well_formed c =
     IfOk-weaker c.scenario.result (λ s. AreScenario (reading c.in-Ok.text.now c.in_ok-tokens.tokens.items) (scenario_view s)) (λ s. IsWellFormed (scenario_view s))
     (λ s a. law c.in-Ok.text.now (scenario_view s) (record { valid = valid; tokens = c.in_ok-tokens.tokens.items; lexed = c.in_ok-tokens.ensures.tokens; scenario = a }))
     scenario
+
+pub returns-in-Err-clause-fault : goal.returns-in-Err-clause-fault
+returns-in-Err-clause-fault c = search rules
+
+pub returns-then-bytes-gt-MAX_TEXT-clause-fault : goal.returns-then-bytes-gt-MAX_TEXT-clause-fault
+returns-then-bytes-gt-MAX_TEXT-clause-fault c = search rules

@@ -4,7 +4,7 @@ use Rattle.jc_syntax.specs.Trees.{cmd_of}
 use Rattle.jc_parser.specs.Reading.{reading}
 use Rattle.jc_parser.specs.TreeViews.{tree_view}
 use Rattle.jc_scenario.specs.Views.{scripts_view}
-use Rattle.jc_scenario.proofs.Scenarios.{in_order, few_names, stranger_read}
+use Rattle.jc_scenario.proofs.Scenarios.{in_order, few_names, scenario_read, stranger_read}
 use Rattle.jc_scenario.proofs.reading.scenario.Goals as goal
 
 pub resolved-requires : goal.resolved-requires
@@ -24,3 +24,11 @@ returns-in_err-schedule-clause-fault c =
     let f = c.in_err-schedule.ensures.fault kept in
     let first = rw (c.deref.ensures.value, c.deref-2.ensures.value) at f.1 in
     rw f.2 (inr (stranger_read (reading c.args.text.now c.args.tokens.now) t c.in_ok-names.names.items (scripts_view c.in_ok-names.scripts.items) f.0 c.in_ok-replicas.ensures.tree a first))))
+
+pub returns-clause-scenario : goal.returns-clause-scenario
+returns-clause-scenario c =
+    let d = c.in_ok-names.ensures in
+    let t = tree_view c.in_ok-replicas.field-0 in
+    let a = in_order (λ script. map cmd_of script.items) t.parts c.in_ok-names.names.items c.in_ok-names.scripts.items d.rising d.each d.same in
+    let events = rw (c.deref.ensures.value, c.deref-2.ensures.value) at c.in_ok-schedule.ensures.events in
+    scenario_read (reading c.args.text.now c.args.tokens.now) t c.in_ok-names.names.items (scripts_view c.in_ok-names.scripts.items) c.in_ok-schedule.schedule.items c.in_ok-replicas.ensures.tree a events
