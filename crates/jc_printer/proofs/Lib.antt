@@ -1,10 +1,10 @@
 pub mod Escapes
-mod Events
-mod Front
-mod NumberBytes
-mod Numerals
-mod Printed
+pub mod Events
+pub mod Front
+pub mod NumberBytes
+pub mod Numerals
+pub mod Printed
 mod Pushed
-mod Quoted
-mod Trees
-mod Written
+pub mod Quoted
+pub mod Trees
+pub mod Written

@@ -5,4 +5,4 @@ pub mod laws;
 mod print;
 mod quote;
 
-pub use print::{print_event, print_expr, print_script, print_value};
+pub use print::{print_event, print_expr, print_script, print_value, push_cmd};

@@ -79,7 +79,8 @@ fn apply_event(alloc: Global, name: &str, counter: u64, author: &str) -> Result<
     format!(in alloc; "{name}.apply({counter}, {author})")
 }
 
-fn push_cmd(out: &mut String, cmd: &Cmd) -> Result<(), AllocError>
+/// Writes the canonical text of a command behind what is there.
+pub fn push_cmd(out: &mut String, cmd: &Cmd) -> Result<(), AllocError>
     ensures { OnOk result (string_bytes out.new ≡ string_bytes out.old ++ canon_cmd (cmd_of cmd.now)) }
 {
     match cmd {

@@ -1,0 +1,13 @@
+pub mod Inserting
+pub mod Apart
+pub mod Written
+pub mod Joined
+pub mod Lines
+pub mod Utf8
+pub mod Placed
+pub mod ReadBack
+pub mod Unique
+pub mod Formed
+pub mod Strangers
+pub mod Exactly
+pub mod Scenarios

@@ -1,0 +1,154 @@
+-- The canonical text of a well-formed scenario is that scenario.
+use Rattle.std.proofs.Common.{◌≡◌, ◌≢◌, ℕ, ◌≤◌, List, [], ◌∷◌, ◌++◌, map, length, false, inl, inr, refl, sym, ap, subst, ◌∙◌, arith, append_assoc}
+use Rattle.std.specs.Prelude.{codes, flat_map, All}
+use Rattle.std.specs.Char.{is_ascii_digit}
+use Rattle.std.specs.List.{AllPairs}
+use Rattle.std.proofs.lemmas.List.{length-map}
+use Rattle.std.proofs.lemmas.List.Elements.{All-nil, All-cons, All-head, All-tail, All-map, All-weaker}
+use Rattle.std.proofs.lemmas.List.Sorted.{IsPermutation-refl}
+use Rattle.std.proofs.lemmas.List.Sums.{AllPass-from_list_all}
+use Rattle.jc_rules.specs.declared.operation.Event.{Event}
+use Rattle.jc_rules.specs.declared.operation.Event.TheVariants.{Exec, Send, Recv, Apply, Done}
+use Rattle.jc_rules.specs.Syntax.{Cmd}
+use Rattle.jc_parser.specs.Symbols.{Symbol, word, number, symbols}
+use Rattle.jc_parser.specs.Grammar.{is_reserved}
+use Rattle.jc_parser.specs.Scripts.{IsScriptWellFormed}
+use Rattle.jc_parser.specs.Calls.{IsCallWellFormed}
+use Rattle.jc_parser.specs.Legal.{IsName, IsNumeric, IsLegalCmd, call_by, IsCounterBelow}
+use Rattle.jc_parser.specs.Reading.{Reading, reading}
+use Rattle.jc_parser.specs.Trees.{Tree, tree_of, name_of, header, ArePartsWithin, IsTreeSpelled, IsTreeWithin}
+use Rattle.jc_printer.proofs.Printed.{IsPrinted, put, spaced, printed_text}
+use Rattle.jc_printer.proofs.Trees.{keyword}
+use Rattle.jc_scenario.specs.Scenarios.{Scenario, parts_of, IsWellFormed, IsOfTree, AreScenario, IsScenario}
+use Rattle.jc_scenario.specs.Canon.{canon_part, canon_schedule, canon}
+use Rattle.jc_scenario.proofs.Apart.{names-parts, rising_apart}
+use Rattle.jc_scenario.proofs.Lines.{AreLegalParts, parts_printed, schedule_printed}
+use Rattle.jc_scenario.proofs.Placed.{placed_tree}
+use Rattle.jc_scenario.proofs.Utf8.{printed_utf8}
+
+-- ---- names and scripts side by side
+
+legal_parts : (ns : List (List ℕ)) (ss : List (List Cmd)) → All IsName ns → All (λ s. All IsLegalCmd s) ss → All IsScriptWellFormed ss → AreLegalParts (parts_of ns ss)
+legal_parts [] ss legal commands formed = tt
+legal_parts (n ∷ ns) [] legal commands formed = tt
+legal_parts (n ∷ ns) (s ∷ ss) legal commands formed = (
+  All-head IsName n ns legal,
+  All-head (λ s. All IsLegalCmd s) s ss commands,
+  (All-head IsScriptWellFormed s ss formed).each,
+  legal_parts ns ss (All-tail IsName n ns legal) (All-tail (λ s. All IsLegalCmd s) s ss commands) (All-tail IsScriptWellFormed s ss formed),
+)
+
+each_name : (P : List ℕ → Type 0) (ns : List (List ℕ)) (ss : List (List Cmd)) → All P ns → All (λ p. P p.name) (parts_of ns ss)
+each_name P [] ss all = All-nil (λ p. P p.name)
+each_name P (n ∷ ns) [] all = All-nil (λ p. P p.name)
+each_name P (n ∷ ns) (s ∷ ss) all = All-cons (λ p. P p.name) (record { name = n; script = s }) (parts_of ns ss) (All-head P n ns all) (each_name P ns ss (All-tail P n ns all))
+
+each_script : (P : List Cmd → Type 0) (ns : List (List ℕ)) (ss : List (List Cmd)) → All P ss → All (λ p. P p.script) (parts_of ns ss)
+each_script P [] ss all = All-nil (λ p. P p.script)
+each_script P (n ∷ ns) [] all = All-nil (λ p. P p.script)
+each_script P (n ∷ ns) (s ∷ ss) all = All-cons (λ p. P p.script) (record { name = n; script = s }) (parts_of ns ss) (All-head P s ss all) (each_script P ns ss (All-tail P s ss all))
+
+-- ---- within the limits
+
+abbrev tree_for : Scenario → Tree
+tree_for s = record { parts = parts_of s.names s.scripts; calls = map (call_by s.names) s.schedule }
+
+call_small : (names : List (List ℕ)) (e : Event) → IsCounterBelow e → IsCallWellFormed (call_by names e)
+call_small names (Exec p) small = tt
+call_small names (Send p) small = tt
+call_small names (Recv p q) small = tt
+call_small names (Apply p i) small = small
+call_small names (Done p) small = tt
+
+parts_count : (s : Scenario) → IsWellFormed s → length (parts_of s.names s.scripts) ≡ length s.names
+parts_count s w = sym (length-map (parts_of s.names s.scripts) name_of) ∙ ap length (names-parts s.names s.scripts w.each)
+
+parts_within : (s : Scenario) → IsWellFormed s → ArePartsWithin (parts_of s.names s.scripts)
+parts_within s w = record {
+  free = each_name (λ n. is_reserved n ≡ false) s.names s.scripts w.free;
+  apart = subst (AllPairs (λ a b. a ≢ b)) (sym (names-parts s.names s.scripts w.each)) (rising_apart s.names w.rising);
+  few = omega (arith, parts_count s w, w.few);
+  scripts = each_script IsScriptWellFormed s.names s.scripts w.formed;
+}
+
+tree_within : (s : Scenario) → IsWellFormed s → IsTreeWithin (tree_for s)
+tree_within s w = record {
+  parts = parts_within s w;
+  few = omega (arith, length-map s.schedule (call_by s.names), w.short);
+  calls = All-map IsCallWellFormed (call_by s.names) s.schedule (All-weaker IsCounterBelow (λ e. IsCallWellFormed (call_by s.names e)) (call_small s.names) s.schedule w.counters);
+}
+
+some_parts : (s : Scenario) → IsWellFormed s → parts_of s.names s.scripts ≢ []
+some_parts s w none = w.some (sym (names-parts s.names s.scripts w.each) ∙ ap (map name_of) none)
+
+-- ---- the text
+
+version_number : IsNumeric (codes "1")
+version_number = (
+  record {
+    minus = [];
+    whole = codes "1";
+    fraction = [];
+    exponent = [];
+    parts = refl;
+    is_minus = inl refl;
+    is_whole = inr ((omega arith, AllPass-from_list_all is_ascii_digit (codes "1") refl), λ nought. absurd (omega (arith, nought)));
+    is_fraction = inl refl;
+    is_exponent = inl refl;
+  },
+  omega arith,
+)
+
+-- symbols of a scenario, and its text
+record IsWhole (s : Scenario) : Type 0 where
+  text : List Symbol
+  spelled : IsTreeSpelled (tree_for s) text
+  printed : IsPrinted text (canon s)
+
+header_bytes : (parts schedule : List ℕ) → (codes "jsoncrdt 1\n" ++ parts) ++ schedule ≡ codes "jsoncrdt" ++ 32 ∷ (codes "1" ++ 10 ∷ (parts ++ schedule))
+header_bytes parts schedule = simp append_assoc
+
+whole : (s : Scenario) → IsWellFormed s → IsWhole s
+whole s w =
+    let schedule = schedule_printed s.names s.schedule w.legal w.known w.counters in
+    let parts = parts_printed (parts_of s.names s.scripts) schedule.text (canon_schedule s.names s.schedule) (legal_parts s.names s.scripts w.legal w.commands w.formed) schedule.printed in
+    let ss : List Symbol = parts.text ++ schedule.text in
+    let bs : List ℕ = flat_map canon_part (parts_of s.names s.scripts) ++ canon_schedule s.names s.schedule in
+    let version = put (number (codes "1")) (parts.text ++ schedule.text) (codes "1") (10 ∷ (flat_map canon_part (parts_of s.names s.scripts) ++ canon_schedule s.names s.schedule)) (refl, version_number, refl) (spaced (parts.text ++ schedule.text) 10 (flat_map canon_part (parts_of s.names s.scripts) ++ canon_schedule s.names s.schedule) refl parts.printed) in
+    let all = put (word (codes "jsoncrdt")) (number (codes "1") ∷ (parts.text ++ schedule.text)) (codes "jsoncrdt") (32 ∷ (codes "1" ++ 10 ∷ (flat_map canon_part (parts_of s.names s.scripts) ++ canon_schedule s.names s.schedule))) (refl, keyword (codes "jsoncrdt") refl refl (omega arith), refl) (spaced (number (codes "1") ∷ (parts.text ++ schedule.text)) 32 (codes "1" ++ 10 ∷ (flat_map canon_part (parts_of s.names s.scripts) ++ canon_schedule s.names s.schedule)) refl version) in
+    record {
+      text = header ++ (parts.text ++ schedule.text);
+      spelled = (parts.text, schedule.text, some_parts s w, parts.spelled, schedule.spelled, refl);
+      printed = subst (IsPrinted (header ++ (parts.text ++ schedule.text))) (sym (header_bytes (flat_map canon_part (parts_of s.names s.scripts)) (canon_schedule s.names s.schedule))) all;
+    }
+
+of_tree : (s : Scenario) → IsWellFormed s → IsOfTree (tree_for s) s
+of_tree s w = record {
+  rising = w.rising;
+  each = w.each;
+  same = IsPermutation-refl (parts_of s.names s.scripts);
+  known = w.known;
+  called = refl;
+}
+
+-- these lexemes are the scenario, and each name in its events has its place
+placed_scenario : (s : Scenario) → IsWellFormed s → (r : Reading) → IsTreeSpelled (tree_for s) (symbols r.left) → AreScenario r s
+placed_scenario s w r spelled =
+    let placed = placed_tree s.names (parts_of s.names s.scripts) s.schedule r.left w.counters spelled in
+    let same : tree_of placed.tree ≡ tree_for s = placed.same in
+    record {
+      tree = placed.tree;
+      named = record { spelled = subst (λ (t : Tree). IsTreeSpelled t (symbols r.left)) (sym same) spelled; within = subst IsTreeWithin (sym same) (tree_within s w); placed = placed.placed };
+      of_tree = subst (λ (t : Tree). IsOfTree t s) (sym same) (of_tree s w);
+    }
+
+pub reads_back : (s : Scenario) → IsWellFormed s → length (canon s) ≤ 8388608 → IsScenario (canon s) s
+reads_back s w short =
+    let own = whole s w in
+    let text = printed_text own.text (canon s) own.printed short in
+    record {
+      valid = printed_utf8 own.text (canon s) own.printed;
+      tokens = text.tokens;
+      lexed = text.lexed;
+      scenario = placed_scenario s w (reading (canon s) text.tokens) (rw text.spell own.spelled);
+    }

@@ -1,0 +1,22 @@
+use Rattle.std.proofs.Common.{rules}
+use Rattle.std.specs.Str.{IsUtf8}
+use Rattle.std.proofs.lemmas.Result.{IfOk-weaker}
+use Rattle.jc_parser.specs.Reading.{reading}
+use Rattle.jc_scenario.specs.Scenarios.{AreScenario, IsWellFormed}
+use Rattle.jc_scenario.specs.Views.{scenario_view}
+use Rattle.jc_scenario.proofs.reading.read.Goals as goal
+
+pub returns-clause-well_formed : goal.returns-clause-well_formed
+returns-clause-well_formed c =
+    let valid : IsUtf8 c.in-Ok.text.now = search rules in
+    let law = c.scenarios_are_well_formed.ensures in
+    let scenario = rw c.deref.ensures.value at c.scenario.ensures.scenario in
+    IfOk-weaker c.scenario.result (λ s. AreScenario (reading c.in-Ok.text.now c.in_ok-tokens.tokens.items) (scenario_view s)) (λ s. IsWellFormed (scenario_view s))
+    (λ s a. law c.in-Ok.text.now (scenario_view s) (record { valid = valid; tokens = c.in_ok-tokens.tokens.items; lexed = c.in_ok-tokens.ensures.tokens; scenario = a }))
+    scenario
+
+pub returns-in-Err-clause-fault : goal.returns-in-Err-clause-fault
+returns-in-Err-clause-fault c = search rules
+
+pub returns-then-bytes-gt-MAX_TEXT-clause-fault : goal.returns-then-bytes-gt-MAX_TEXT-clause-fault
+returns-then-bytes-gt-MAX_TEXT-clause-fault c = search rules

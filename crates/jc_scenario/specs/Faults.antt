@@ -1,0 +1,40 @@
+-- The fault of bytes that are no scenario, and its place.
+use Rattle.std.specs.Prelude.{◌≡◌, ℕ, ◌≤◌, ◌<◌, ◌⊎◌, List, length, map}
+use Rattle.std.specs.Str.{IsUtf8}
+use Rattle.std.specs.Str.Lossy.{utf8_valid_len}
+use Rattle.jc_syntax.specs.declared.token.Token.{Token}
+use Rattle.jc_syntax.specs.declared.fault.LexFault.{LexFault}
+use Rattle.jc_syntax.specs.Lexemes.{AreTokensOf, IsFaultOf}
+use Rattle.jc_parser.specs.declared.fault.ScenarioFault.{ScenarioFault}
+use Rattle.jc_parser.specs.declared.fault.ScenarioFault.TheVariants.{TextTooLong, NotUtf8, UnknownReplica}
+use Rattle.jc_parser.specs.Faults.{from_lexer}
+use Rattle.jc_parser.specs.Reading.{Reading, reading}
+use Rattle.jc_parser.specs.Trees.{NamedTree, name_of, IsNamedTree}
+use Rattle.jc_parser.specs.TreeFaults.{IsTreeFault}
+use Rattle.jc_scenario.specs.Resolved.{all_names_in, IsFirstStranger}
+
+-- These lexemes are a scenario, but for a name in its events that no replica has; the first such name stands there.
+pub record IsStranger (r : Reading) (fault : ScenarioFault) : Type 0 where
+  pub tree : NamedTree
+  pub named : IsNamedTree r tree
+  pub place : ℕ
+  pub first : IsFirstStranger (map name_of tree.parts) (all_names_in tree.events) place
+  pub is : fault ≡ UnknownReplica place
+
+-- the fault of these lexemes: that of the scenario's sentence, or else of a name in its events
+abbrev pub IsFaultAmong : Reading → ScenarioFault → Type 0
+IsFaultAmong r fault = IsTreeFault r fault ⊎ IsStranger r fault
+
+-- The fault of bytes within the text's limit: that they are not UTF-8, or else that of their tokens, or else that of
+-- their scenario.
+abbrev pub IsFaultWithin : List ℕ → ScenarioFault → Type 0
+IsFaultWithin bytes fault =
+    ((IsUtf8 bytes → ⊥) × (fault ≡ NotUtf8 (utf8_valid_len bytes)))
+    ⊎ (IsUtf8 bytes × (((lexical : LexFault) × IsFaultOf bytes lexical × (fault ≡ from_lexer lexical))
+    ⊎ ((tokens : List Token) × AreTokensOf bytes tokens × IsFaultAmong (reading bytes tokens) fault)))
+
+-- the fault of bytes
+abbrev pub IsFault : List ℕ → ScenarioFault → Type 0
+IsFault bytes fault =
+    ((8388608 < length bytes) × (fault ≡ TextTooLong 8388608))
+    ⊎ ((length bytes ≤ 8388608) × IsFaultWithin bytes fault)

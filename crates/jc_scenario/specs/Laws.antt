@@ -1,0 +1,27 @@
+-- What the definitions promise by themselves.
+use Rattle.std.specs.Prelude.{◌≡◌, ℕ, ◌≤◌, List, length}
+use Rattle.jc_parser.specs.declared.fault.ScenarioFault.{ScenarioFault}
+use Rattle.jc_scenario.specs.Scenarios.{Scenario, IsWellFormed, IsScenario}
+use Rattle.jc_scenario.specs.Faults.{IsFault}
+use Rattle.jc_scenario.specs.Canon.{canon}
+
+-- Bytes are one scenario at most.
+abbrev pub OneScenario : Type 0
+OneScenario = (bytes : List ℕ) (s other : Scenario) → IsScenario bytes s → IsScenario bytes other → s ≡ other
+
+-- Bytes that are a scenario have no fault.
+abbrev pub ScenarioOrFault : Type 0
+ScenarioOrFault = (bytes : List ℕ) (s : Scenario) (fault : ScenarioFault) → IsScenario bytes s → IsFault bytes fault → ⊥
+
+-- Bytes have one fault at most, at one place.
+abbrev pub OneFault : Type 0
+OneFault =
+    (bytes : List ℕ) (fault other : ScenarioFault) → IsFault bytes fault → IsFault bytes other → fault ≡ other
+
+-- The scenario that bytes are is well formed.
+abbrev pub ScenariosAreWellFormed : Type 0
+ScenariosAreWellFormed = (bytes : List ℕ) (s : Scenario) → IsScenario bytes s → IsWellFormed s
+
+-- The canonical text of a well-formed scenario, within the limit for texts, is that scenario.
+abbrev pub ScenariosReadBack : Type 0
+ScenariosReadBack = (s : Scenario) → IsWellFormed s → length (canon s) ≤ 8388608 → IsScenario (canon s) s

@@ -1,0 +1,6 @@
+pub mod Scenarios
+pub mod Resolved
+pub mod Faults
+pub mod Canon
+pub mod Views
+pub mod Laws

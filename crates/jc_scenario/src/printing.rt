@@ -1,0 +1,111 @@
+//! The canonical text of a scenario.
+
+ghost use Rattle.std.specs.Prelude.{◌≡◌, ◌++◌, ◌<◌, ◌≤◌, OnOk, IfOk, All, string_bytes, map, length, codes, flat_map};
+ghost use Rattle.jc_syntax.specs.Trees.{cmd_of};
+ghost use Rattle.jc_printer.specs.Canon.{canon_cmd, canon_event, AreNamed};
+ghost use Rattle.jc_scenario.specs.Scenarios.{parts_of, IsWellFormed};
+ghost use Rattle.jc_scenario.specs.Canon.{line_of, canon_commands, canon_part, canon_events, canon_schedule, canon};
+ghost use Rattle.jc_scenario.specs.Views.{scripts_view, scenario_view};
+
+use crate::scenario::Scenario;
+use jc_printer::{print_event, push_cmd};
+use jc_rules::{Event, Text};
+use jc_syntax::Cmd;
+use std::alloc::{AllocError, Global};
+
+/// The canonical text of a scenario. It may be longer than a text that `read` takes.
+pub fn print(alloc: Global, scenario: &Scenario) -> Result<String, AllocError>
+    requires { IsWellFormed (scenario_view scenario.now) }
+    ensures { IfOk result (λ text. string_bytes text ≡ canon (scenario_view scenario.now)) }
+{
+    let mut out = String::from_str(alloc, "jsoncrdt 1\n")?;
+    push_parts(&mut out, &scenario.names, &scenario.scripts)?;
+    push_schedule(alloc, &mut out, &scenario.names, &scenario.schedule)?;
+    Ok(out)
+}
+
+/// The replicas, one after another.
+fn push_parts(out: &mut String, names: &[Text], scripts: &[Vec<Cmd>]) -> Result<(), AllocError>
+    requires { length scripts.now ≡ length names.now }
+    ensures { OnOk result (string_bytes out.new ≡
+        string_bytes out.old ++ flat_map canon_part (parts_of names.now (scripts_view scripts.now))) }
+{
+    for (name, script) in names.iter().zip(scripts) {
+        push_part(out, name, script)?;
+    }
+    Ok(())
+}
+
+/// A replica: its name and its commands.
+fn push_part(out: &mut String, name: &Text, script: &[Cmd]) -> Result<(), AllocError>
+    ensures { OnOk result (string_bytes out.new ≡
+        string_bytes out.old ++ canon_part (record { name = name.now; script = map cmd_of script.now })) }
+{
+    out.push_str("replica ")?;
+    out.push_str(name.as_str())?;
+    out.push_str(" {\n")?;
+    push_commands(out, script)?;
+    out.push_str("}\n")
+}
+
+fn push_commands(out: &mut String, script: &[Cmd]) -> Result<(), AllocError>
+    ensures { OnOk result (string_bytes out.new ≡ string_bytes out.old ++ canon_commands (map cmd_of script.now)) }
+{
+    for cmd in script {
+        push_command(out, cmd)?;
+    }
+    Ok(())
+}
+
+/// A command on a line of its own.
+fn push_command(out: &mut String, cmd: &Cmd) -> Result<(), AllocError>
+    ensures { OnOk result (string_bytes out.new ≡ string_bytes out.old ++ line_of (canon_cmd (cmd_of cmd.now))) }
+{
+    out.push_str("  ")?;
+    push_cmd(out, cmd)?;
+    out.push_str(";\n")
+}
+
+fn push_schedule(
+    alloc: Global,
+    out: &mut String,
+    names: &[Text],
+    schedule: &[Event],
+) -> Result<(), AllocError>
+    requires { All (λ e. AreNamed e (length names.now)) schedule.now }
+    ensures { OnOk result (string_bytes out.new ≡ string_bytes out.old ++ canon_schedule names.now schedule.now) }
+{
+    out.push_str("schedule {\n")?;
+    push_events(alloc, out, names, schedule)?;
+    out.push_str("}\n")?;
+    Ok(())
+}
+
+fn push_events(
+    alloc: Global,
+    out: &mut String,
+    names: &[Text],
+    schedule: &[Event],
+) -> Result<(), AllocError>
+    requires { All (λ e. AreNamed e (length names.now)) schedule.now }
+    ensures { OnOk result (string_bytes out.new ≡ string_bytes out.old ++ canon_events names.now schedule.now) }
+{
+    for event in schedule {
+        push_event(alloc, out, names, event)?;
+    }
+    Ok(())
+}
+
+/// An event on a line of its own.
+fn push_event(
+    alloc: Global,
+    out: &mut String,
+    names: &[Text],
+    event: &Event,
+) -> Result<(), AllocError>
+    requires { AreNamed event.now (length names.now) }
+    ensures { OnOk result (string_bytes out.new ≡ string_bytes out.old ++ line_of (canon_event names.now event.now)) }
+{
+    let text = print_event(alloc, names, event)?;
+    write!(out, "  {text};\n")
+}

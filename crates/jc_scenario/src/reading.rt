@@ -1,0 +1,83 @@
+//! Reads scenarios.
+
+ghost use Rattle.std.specs.Prelude.{◌≡◌, ◌≢◌, ℕ, ◌≤◌, IfOk, IfErr, All, length};
+ghost use Rattle.jc_syntax.specs.Lexemes.{IsTokenOf};
+ghost use Rattle.jc_parser.specs.Reading.{reading};
+ghost use Rattle.jc_scenario.specs.Resolved.{AreResolved, all_names_in, IsFirstStranger};
+ghost use Rattle.jc_scenario.specs.Scenarios.{AreScenario, IsScenario, IsWellFormed};
+ghost use Rattle.jc_scenario.specs.Faults.{IsFaultAmong, IsFault};
+ghost use Rattle.jc_scenario.specs.Views.{scenario_view};
+
+use crate::laws;
+use crate::names::resolve;
+use crate::order::arranged;
+use crate::scenario::Scenario;
+use jc_parser::{NamedScenario, ScenarioFault, scenario_of};
+use jc_rules::{Event, Text};
+use jc_syntax::{MAX_TEXT, NamedEvent, Token, lex};
+use std::alloc::Global;
+
+/// The events of a schedule by the numbers of their replicas, if each name is a replica's.
+fn resolved(
+    alloc: Global,
+    names: &[Text],
+    events: &[NamedEvent],
+) -> Result<Vec<Event>, ScenarioFault>
+    requires few { length names.now ≤ 65536 }
+    ensures events { IfOk result (λ es. AreResolved names.now events.now es.items) }
+    ensures fault { IfErr result (λ e. e ≢ ScenarioFault.Memory →
+        (at : ℕ) × IsFirstStranger names.now (all_names_in events.now) at × (e ≡ ScenarioFault.UnknownReplica at)) }
+{
+    let mut schedule = Vec::new(alloc);
+    for event in events {
+        schedule.push(resolve(names, event)?)?;
+    }
+    Ok(schedule)
+}
+
+/// The scenario that all of the tokens are.
+fn scenario(alloc: Global, text: &str, tokens: &[Token]) -> Result<Scenario, ScenarioFault>
+    requires { All (IsTokenOf text.now) tokens.now }
+    ensures scenario { IfOk result (λ s. AreScenario (reading text.now tokens.now) (scenario_view s)) }
+    ensures fault { IfErr result (λ e. e ≢ ScenarioFault.Memory → IsFaultAmong (reading text.now tokens.now) e) }
+{
+    let NamedScenario { replicas, events } = scenario_of(alloc, text, tokens)?;
+    let (names, scripts) = arranged(alloc, replicas)?;
+    let schedule = resolved(alloc, &names, &events)?;
+    Ok(Scenario {
+        names,
+        scripts,
+        schedule,
+    })
+}
+
+/// Reads the text of a scenario. Its replicas stand in the order of their names then, and its events
+/// name them by number.
+///
+/// Refusals, in this order: `TextTooLong` for a text over 8,388,608 bytes; `NotUtf8`; the first
+/// fault of a token; `NoHeader`; then the first by place of `Unexpected`, `EndOfText`,
+/// `IndexTooLarge`, `ReservedName`, `TooManyCommands`, `TooLongExpression`, `SameName`,
+/// `NoReplica`, `TooManyReplicas` and `TooManyEvents`, at one place that with the smaller number;
+/// then `UnknownReplica` at the first such name.
+pub fn read(alloc: Global, bytes: &[u8]) -> Result<Scenario, ScenarioFault>
+    // What is read is the scenario that the bytes are.
+    ensures scenario { IfOk result (λ s. IsScenario bytes.now (scenario_view s)) }
+    ensures well_formed { IfOk result (λ s. IsWellFormed (scenario_view s)) }
+    // What is refused has this fault.
+    ensures fault { IfErr result (λ e. e ≢ ScenarioFault.Memory → IsFault bytes.now e) }
+{
+    if bytes.len() > MAX_TEXT {
+        return Err(ScenarioFault::TextTooLong { place: MAX_TEXT });
+    }
+    let text = match std::str::from_utf8(bytes) {
+        Ok(text) => text,
+        Err(fault) => {
+            return Err(ScenarioFault::NotUtf8 {
+                place: fault.valid_up_to(),
+            });
+        }
+    };
+    let tokens = lex(alloc, text)?;
+    laws::scenarios_are_well_formed();
+    scenario(alloc, text, &tokens)
+}

@@ -1,0 +1,65 @@
+//! Scenarios.
+
+ghost use Rattle.std.specs.Prelude.{◌≡◌, IfOk, map};
+ghost use Rattle.jc_syntax.specs.Trees.{cmd_of};
+ghost use Rattle.jc_scenario.specs.Views.{scripts_view};
+
+use jc_rules::{Event, Text};
+use jc_syntax::Cmd;
+use std::alloc::{AllocError, Global};
+
+/// Replicas in the order of their names, each with its script, and a schedule of events by the numbers
+/// of the replicas.
+#[derive(Drop)]
+pub struct Scenario {
+    pub names: Vec<Text>,
+    /// The script of each replica.
+    pub scripts: Vec<Vec<Cmd>>,
+    pub schedule: Vec<Event>,
+}
+
+impl Scenario {
+    ghost use Rattle.jc_scenario.specs.Views.{scenario_view};
+
+    /// The same scenario once more.
+    pub fn copy(&self) -> Result<Self, AllocError>
+        ensures { IfOk result (λ scenario. scenario_view scenario ≡ scenario_view self.now) }
+    {
+        let alloc = *self.names.allocator();
+        Ok(Scenario {
+            names: copy_names(alloc, &self.names)?,
+            scripts: copy_scripts(alloc, &self.scripts)?,
+            schedule: self.schedule.as_slice().to_vec(alloc)?,
+        })
+    }
+}
+
+fn copy_names(alloc: Global, names: &[Text]) -> Result<Vec<Text>, AllocError>
+    ensures { IfOk result (λ copies. copies.items ≡ names.now) }
+{
+    let mut copies = Vec::new(alloc);
+    for name in names {
+        copies.push(name.copy()?)?;
+    }
+    Ok(copies)
+}
+
+fn copy_script(alloc: Global, script: &[Cmd]) -> Result<Vec<Cmd>, AllocError>
+    ensures { IfOk result (λ copies. map cmd_of copies.items ≡ map cmd_of script.now) }
+{
+    let mut copies = Vec::new(alloc);
+    for cmd in script {
+        copies.push(cmd.copy(alloc)?)?;
+    }
+    Ok(copies)
+}
+
+fn copy_scripts(alloc: Global, scripts: &[Vec<Cmd>]) -> Result<Vec<Vec<Cmd>>, AllocError>
+    ensures { IfOk result (λ copies. scripts_view copies.items ≡ scripts_view scripts.now) }
+{
+    let mut copies = Vec::new(alloc);
+    for script in scripts {
+        copies.push(copy_script(alloc, script)?)?;
+    }
+    Ok(copies)
+}
