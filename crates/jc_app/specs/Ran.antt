@@ -23,8 +23,8 @@ abbrev pub ReadsAs : List ℕ → Result Scenario ScenarioFault → Type 0
 ReadsAs bytes (Ok s) = Reads bytes s.name s.script s.schedule
 ReadsAs bytes (Err fault) = IsScenarioFault bytes fault
 
--- The run of a scenario: the blocks of the events that are made from the start, the dump of the last state, and the line
--- of the stuck event, if there is one.
+-- The run of a scenario: the blocks of the events that are made from the start, the dump of the last state, and the
+-- line of the stuck event, if there is one.
 pub record RanThrough (s : Scenario) (out : List ℕ) (status : ℕ) : Type 0 where
   pub last : State
   pub stuck : Option Stuck
