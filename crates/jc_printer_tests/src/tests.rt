@@ -4,7 +4,7 @@ ghost use Rattle.std.specs.Prelude.{◌<◌, length};
 ghost use Rattle.jc_printer.specs.Canon.{AreNamed};
 
 use jc_parser::{parse_event, parse_expr, parse_script};
-use jc_printer::{laws, print_event, print_expr, print_script, print_value};
+use jc_printer::{laws, print_event, print_expr, print_script, print_value, push_cmd};
 use jc_rules::{Event, Id, Text, Value};
 use jc_syntax::{Cmd, Expr, NamedEvent};
 use std::alloc::{AllocError, Global};
@@ -60,6 +60,14 @@ fn scripts(rt: HostRuntime) -> Result<(), Fail> {
     script.push(Cmd::InsertAfter(Expr::Doc, Value::EmptyList))?;
     let five = "let x = doc.get(\"a/\"); x := -0; yield; doc.delete; doc.insertAfter([])";
     prints_script(&rt, alloc, script.as_slice(), five)?;
+    Ok(())
+}
+
+#[test]
+fn a_command_behind_a_text(rt: HostRuntime) -> Result<(), Fail> {
+    let mut text = String::from_str(rt.alloc(), "  ")?;
+    push_cmd(&mut text, &Cmd::Delete(Expr::Doc))?;
+    is_text(&rt, text.as_str(), "  doc.delete");
     Ok(())
 }
 

@@ -78,6 +78,7 @@ pub fn read(alloc: Global, bytes: &[u8]) -> Result<Scenario, ScenarioFault>
         }
     };
     let tokens = lex(alloc, text)?;
+    // By this law what is read is well formed.
     laws::scenarios_are_well_formed();
     scenario(alloc, text, &tokens)
 }
