@@ -1,6 +1,6 @@
 -- Where a script stands.
 use Rattle.std.proofs.Common.{◌≡◌, ◌≢◌, ℕ, zero, suc, ◌+◌, ◌≤◌, ◌<◌, List, [], ◌∷◌, ◌-◌, length, take, drop, map, get_or, slice_get, Option, Some, None, refl, sym, ◌∙◌, ap, arith, add-one}
-use Rattle.std.proofs.lemmas.List.{take_all}
+use Rattle.std.proofs.lemmas.List.{take_all, length-drop, drop-map}
 use Rattle.std.proofs.lemmas.Option.{slice_get_past, slice_get_read}
 use Rattle.jc_rules.specs.Syntax.{Cmd}
 use Rattle.jc_syntax.specs.declared.tree.Cmd.{Cmd as CmdTree}
@@ -58,7 +58,6 @@ is_next xs n c d rest e is =
     cc
 
 pub left_of : (xs : List CmdTree) (n : ℕ) → map cmd_of (take (length xs - n) (drop n xs)) ≡ drop n (map cmd_of xs)
-left_of [] zero = refl
-left_of [] (suc n) = refl
-left_of (x ∷ xs) zero = ap (λ (y : List CmdTree). map cmd_of (x ∷ y)) (take_all (length xs) xs (omega arith))
-left_of (x ∷ xs) (suc n) = left_of xs n
+left_of xs n =
+    ap (λ (ys : List CmdTree). map cmd_of ys) (take_all (length xs - n) (drop n xs) (omega (arith, length-drop n xs)))
+    ∙ sym (drop-map cmd_of n xs)
