@@ -1,0 +1,50 @@
+-- A command that binds a variable, from what is held before to what is held after.
+use Rattle.std.proofs.Common.{◌≡◌, ℕ, ◌+◌, ◌-◌, ◌<◌, List, [], ◌∷◌, length, drop, Option, option_map, refl, sym, ◌∙◌, ap, subst, arith}
+use Rattle.jc_rules.specs.declared.operation.Event.TheVariants as E
+use Rattle.jc_rules.specs.declared.operation.Op.{Op}
+use Rattle.jc_rules.specs.Context.{Context}
+use Rattle.jc_rules.specs.Entries.{IsRising, keys_of}
+use Rattle.jc_rules.specs.Order.{name_cmp}
+use Rattle.jc_rules.specs.State.{State, Bound}
+use Rattle.jc_rules.specs.Syntax.{Cmd}
+use Rattle.jc_rules.specs.Table.{bind}
+use Rattle.jc_rules.specs.Trace.{Rows, at_depth}
+use Rattle.jc_rules.proofs.Entries.{rising-put}
+use Rattle.jc_rules.proofs.Order.{names_total, exact_names}
+use Rattle.jc_cursor.specs.declared.bound.Bound.{Bound as BoundInMemory}
+use Rattle.jc_cursor.specs.Bounds.{bound_of}
+use Rattle.jc_replica.specs.declared.record.Change.TheVariants as C
+use Rattle.jc_replica.specs.Binds.{IsBound}
+use Rattle.jc_replica.specs.Makes.{Binds}
+use Rattle.jc_replica.specs.Past.{no_rows}
+use Rattle.jc_replica.specs.Ready.{IsReady}
+use Rattle.jc_replica.specs.Undo.{Held, held, back, state_of}
+use Rattle.jc_replica.proofs.Binding.{leads_bound}
+use Rattle.jc_replica.proofs.Events.{Leading}
+use Rattle.jc_replica.proofs.Scripts.{drop-more, one_less}
+
+abbrev pub bound_held : Held → List (List ℕ × Bound) → Held
+bound_held h vars = held (h.done + 1) h.acted vars h.ops h.queue h.sent h.recv
+
+module _ (script : List Cmd) (h : Held) (vars : List (List ℕ × Bound)) (x : List ℕ) (b : Bound) (at : ℕ) (before : Option BoundInMemory) (is : IsBound x b at (option_map bound_of before) h.vars vars) where
+  pub bound_back : back (C.Bound at before) (bound_held h vars) ≡ h
+  bound_back =
+      let d : h.done + 1 - 1 ≡ h.done = omega arith in
+      λ i. record { done = d i; acted = h.acted; vars = is.back i; ops = h.ops; queue = h.queue; sent = h.sent; recv = h.recv }
+
+  pub bound_ready : (c : Context) → IsReady (state_of script h c) → (y : Cmd) (rest : List Cmd) → drop h.done script ≡ y ∷ rest → IsReady (state_of script (bound_held h vars) c)
+  bound_ready c r y rest left =
+      let less = one_less h.done script y rest left in
+      record {
+        chained = r.chained; linked = r.linked;
+        named = subst (λ (vs : List (List ℕ × Bound)). IsRising name_cmp (keys_of vs)) (sym is.bound) (rising-put names_total exact_names x b h.vars r.named);
+        counters = r.counters; in_order = r.in_order; numbered = r.numbered; received = r.received; handed = r.handed;
+        short = omega (arith, less, r.short); counted = omega (arith, less, r.counted);
+      }
+
+  pub binds_event : (p : ℕ) (c : Context) (u : Rows) → Binds (state_of script h c) x b no_rows u → Leading p (E.Exec p) [] (state_of script h c) (state_of script (bound_held h vars) c) (at_depth 0 u)
+  binds_event p c u m set os A seen read =
+      let K = state_of script h c in
+      let left : drop (h.done + 1) script ≡ m.next.rest = drop-more h.done script _ m.next.rest m.next.next in
+      let same : state_of script (bound_held h vars) c ≡ record K { left = m.next.rest; vars = bind x b K.vars } = ap (λ (l : List Cmd). record K { left = l; vars = vars }) left ∙ ap (λ (vs : List (List ℕ × Bound)). record K { left = m.next.rest; vars = vs }) is.bound in
+      leads_bound set p A K seen os x b (state_of script (bound_held h vars) c) u (at_depth 0 u) m same refl

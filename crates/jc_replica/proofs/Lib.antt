@@ -1,0 +1,11 @@
+pub mod Adding
+pub mod Binding
+pub mod Bound
+pub mod Events
+pub mod Made
+pub mod Making
+pub mod Queueing
+pub mod Scripts
+pub mod Seeing
+pub mod Sending
+pub mod Steps

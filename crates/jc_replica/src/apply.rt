@@ -1,0 +1,1 @@
+//! Applying received operations.

@@ -1,0 +1,1 @@
+//! Which events can be made.
