@@ -9,3 +9,6 @@ pub mod Scripts
 pub mod Seeing
 pub mod Sending
 pub mod Steps
+pub mod Unions
+pub mod Whole
+pub mod Taking
