@@ -51,6 +51,14 @@ is_greatest i s e l =
       lower = l;
     }
 
+-- a counter that is greater than all others
+pub not_there : (i : Id) (s : List Id) → greatest s < i.counter → has_id i s ≡ false
+not_there i s l = go (has_id i s) refl
+  where
+    go : (b : Bool) → has_id i s ≡ b → has_id i s ≡ false
+    go false e = e
+    go true e = absurd (omega (arith, l, member_greatest i s e))
+
 neither : (a b : Bool) → a || b ≡ false → (a ≡ false) × (b ≡ false)
 neither true b e = cc
 neither false b e = (refl, e)

@@ -5,6 +5,7 @@ pub mod Events
 pub mod Made
 pub mod Making
 pub mod Queueing
+pub mod Refusing
 pub mod Scripts
 pub mod Seeing
 pub mod Sending

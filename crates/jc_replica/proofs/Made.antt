@@ -1,12 +1,12 @@
 -- A command that makes an operation, from what is held before to what is held after.
-use Rattle.std.proofs.Common.{◌≡◌, ◌≢◌, ℕ, zero, suc, ◌+◌, ◌-◌, ◌<◌, ◌≤◌, List, [], ◌∷◌, ◌++◌, length, take, drop, refl, sym, ap, arith, length-append}
+use Rattle.std.proofs.Common.{◌≡◌, ◌≢◌, ℕ, zero, suc, ◌+◌, ◌-◌, ◌<◌, ◌≤◌, List, [], ◌∷◌, ◌++◌, length, take, drop, refl, sym, ◌∙◌, ap, subst, arith, length-append}
 use Rattle.jc_rules.specs.declared.id.Id.{Id}
 use Rattle.jc_rules.specs.declared.operation.Event.TheVariants as E
 use Rattle.jc_rules.specs.declared.operation.Op.{Op}
 use Rattle.jc_rules.specs.Context.{Context}
 use Rattle.jc_rules.specs.Derivation.{Operate, ToContext}
 use Rattle.jc_rules.specs.Derives.{Derives}
-use Rattle.jc_rules.specs.Filled.{counted, greatest_of}
+use Rattle.jc_rules.specs.Filled.{filled, counted, greatest_of}
 use Rattle.jc_rules.specs.Ids.{union, greatest}
 use Rattle.jc_rules.specs.Shape.{IsChained}
 use Rattle.jc_rules.specs.State.{State}
@@ -14,19 +14,24 @@ use Rattle.jc_rules.specs.Syntax.{Cmd}
 use Rattle.jc_rules.specs.Table.{with_op}
 use Rattle.jc_rules.specs.Trace.{Rows, at_depth}
 use Rattle.jc_rules.proofs.Withdrawn.{lowered-inserted}
+use Rattle.jc_tree.specs.declared.store.Mark.{Mark}
+use Rattle.jc_tree.specs.Tree.{Tree, IsLater, history}
 use Rattle.jc_apply.specs.Fits.{IsUnlinked}
 use Rattle.jc_sets.specs.States.{made_kept}
 use Rattle.jc_replica.specs.declared.record.Change.TheVariants as C
-use Rattle.jc_replica.specs.Kept.{CanBack, IsInBounds}
+use Rattle.jc_replica.specs.declared.record.Record.{Record}
+use Rattle.jc_replica.specs.Answers.{Occurs}
+use Rattle.jc_replica.specs.Kept.{CanBack, IsInBounds, IsKeptReplica}
 use Rattle.jc_replica.specs.Makes.{Makes}
-use Rattle.jc_replica.specs.Past.{no_rows}
+use Rattle.jc_replica.specs.Past.{Past, no_rows}
 use Rattle.jc_replica.specs.Ready.{IsReady}
-use Rattle.jc_replica.specs.Undo.{Held, held, back, state_of}
-use Rattle.jc_replica.proofs.Adding.{counters_after, greatest_after, at_most, is_greatest, still_linked}
-use Rattle.jc_replica.proofs.Events.{Leading}
+use Rattle.jc_replica.specs.Undo.{Held, held, back, state_of, past_of}
+use Rattle.jc_replica.proofs.Adding.{not_there, counters_after, greatest_after, at_most, is_greatest, still_linked}
+use Rattle.jc_replica.proofs.Events.{Leading, ready_now, occurs}
 use Rattle.jc_replica.proofs.Making.{leads_made}
 use Rattle.jc_replica.proofs.Queueing.{with_op-last, up_to-pushed, in_order-pushed, front}
-use Rattle.jc_replica.proofs.Scripts.{drop-more, one_less}
+use Rattle.jc_replica.proofs.Scripts.{drop-more, one_less, one_more_fits}
+use Rattle.jc_replica.proofs.Steps.{Stepped, stepped}
 
 -- with the operation
 abbrev pub made_held : Held → Op → Held
@@ -82,3 +87,43 @@ makes_event p script h c d o u v ready new sent m de set os A seen read =
     let is : state_of script (made_held h o) d ≡ record (made_kept o d K) { left = m.next.rest } =
         λ i. record { left = left i; acted = h.acted; vars = h.vars; tree = d; ops = union (counted o.id.replica o.id.counter) h.ops; queue = queue i; send = send i; recv = h.recv } in
     leads_made set p A K seen os o d (state_of script (made_held h o) d) u v (at_depth 0 v) m de is refl
+
+-- the step of a command that makes an operation
+module _ {script : List Cmd} {t : Tree} {rs : List Record} {h : Held} (k : IsKeptReplica script t rs h) (number : ℕ) (o : Op) (t0 u : Rows) (none : t0 ≡ no_rows) (m0 : Makes (state_of script h t.now) number o t0 u) where
+  m : Makes (state_of script h t.now) number o no_rows u
+  m = subst (λ (r : Rows). Makes (state_of script h t.now) number o r u) none m0
+
+  ready : IsReady (state_of script h t.now)
+  ready = ready_now k
+
+  new : o.id.counter ≡ greatest h.ops + 1
+  new = ap (λ (x : Op). x.id.counter) m.is
+
+  pub op_fresh : IsUnlinked o.id t.now
+  op_fresh = ready.linked o.id (not_there o.id h.ops (omega (arith, new)))
+
+  pub op_counters : h.ops ≡ filled h.ops
+  op_counters = ready.counters
+
+  pub op_above : greatest_of o.id.replica h.ops < o.id.counter
+  op_above = above script h t.now o ready new
+
+  module _ (d : Tree) (ss : List Record) (h2 : Held) (mark : Mark) (before : ℕ) (he : h2 ≡ made_held h o) (later : IsLater t d) (chained : IsChained d.now) (unlinked : (j : Id) → j ≢ o.id → IsUnlinked j t.now → IsUnlinked j d.now) (se : ss ≡ rs ++ (record { mark = mark; change = C.Made o.id before }) ∷ []) (me : mark.changes ≡ length t.earlier) (be : before ≡ greatest_of o.id.replica h.ops) where
+    made_step : Stepped script t d rs ss h h2
+    made_step =
+        let r : Record = record { mark = mark; change = C.Made o.id before } in
+        let back_is : back r.change (made_held h o) ≡ h = ap (λ (n : ℕ). back (C.Made o.id n) (made_held h o)) be ∙ made_back script h t.now o ready new in
+        let can : CanBack r.change (made_held h o) = subst (λ (n : ℕ). CanBack (C.Made o.id n) (made_held h o)) (sym be) (made_can_back script h t.now o ready new k.bounds.sent) in
+        let bounds : IsInBounds script (made_held h o) = record { done = one_more_fits h.done script m.next.command m.next.rest m.next.next; sent = omega (arith, k.bounds.sent, length-append h.queue (o ∷ [])) } in
+        subst (λ (x : Held). Stepped script t d rs ss h x) (sym he) (stepped k d ss r (made_held h o) later se me back_is can (made_ready script h t.now o ready new m.next.command m.next.rest m.next.next d.now chained unlinked) bounds)
+
+    pub made_kept_replica : IsKeptReplica script d ss h2
+    made_kept_replica = made_step.kept
+
+    pub made_occurs : (p : Past) → past_of number script t rs h ≡ p → (v w : Rows) → Derives (Operate t.now o) (ToContext d.now) u v → w ≡ at_depth 0 v → Occurs (E.Exec p.number) [] p (past_of number script d ss h2) w
+    made_occurs p pe v w de we =
+        let leading : Leading number (E.Exec number) [] (state_of script h t.now) (state_of script (made_held h o) d.now) (at_depth 0 v) = makes_event number script h t.now d.now o u v ready new k.bounds.sent m de in
+        occurs k number p pe E.Exec [] d ss h2 w
+            (subst (λ (x : Held). Leading number (E.Exec number) [] (state_of script h t.now) (state_of script x d.now) w) (sym he)
+              (subst (λ (x : Rows). Leading number (E.Exec number) [] (state_of script h t.now) (state_of script (made_held h o) d.now) x) (sym we) leading))
+            made_step.earlier

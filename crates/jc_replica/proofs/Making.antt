@@ -6,6 +6,7 @@ use Rattle.jc_rules.specs.declared.operation.Event.TheVariants as E
 use Rattle.jc_rules.specs.declared.operation.Mutation.{Mutation}
 use Rattle.jc_rules.specs.declared.operation.Op.{Op}
 use Rattle.jc_rules.specs.declared.refusal.Refusal.TheVariants as F
+use Rattle.jc_rules.specs.declared.rule.Rule.{Rule}
 use Rattle.jc_rules.specs.declared.rule.Rule.TheVariants as R
 use Rattle.jc_rules.specs.Context.{Context}
 use Rattle.jc_rules.specs.Derivation.{Occur, Run, Evaluate, Make, ApplyOp, Operate, ToState, ToBound, ToContext, Answer, Judgement}
@@ -19,12 +20,15 @@ use Rattle.jc_rules.specs.Table.{Follows, IsMake}
 use Rattle.jc_rules.specs.Trace.{Rows, at_depth}
 use Rattle.jc_rules.proofs.Stands.{greatest_stands}
 use Rattle.jc_rules.proofs.Steps.{one_premise, two_premises}
+use Rattle.jc_cursor.specs.declared.bound.Bound.{Bound as BoundInMemory}
+use Rattle.jc_cursor.specs.declared.bound.Bound.TheVariants as B
+use Rattle.jc_cursor.specs.Bounds.{bound_of}
 use Rattle.jc_cursor.specs.Evaluates.{Evaluates, IsRefused}
 use Rattle.jc_sets.specs.Members.{with_deps}
 use Rattle.jc_sets.specs.States.{new_op, made, made_kept, kept_state}
 use Rattle.jc_sets.proofs.Making.{make_stands}
 use Rattle.jc_replica.specs.Past.{no_rows}
-use Rattle.jc_replica.specs.Makes.{Makes, IsMaking, opened, rule_by, expr_by, mutation_by}
+use Rattle.jc_replica.specs.Makes.{Makes, MakesNext, IsMaking, opened, rule_by, expr_by, mutation_by}
 use Rattle.jc_replica.specs.Seen.{IsSeenAs, Leads}
 use Rattle.jc_replica.proofs.Seeing.{left_seen, has_seen}
 
@@ -111,3 +115,27 @@ module _ (set : List Op) (p : ℕ) (A K : State) (seen : IsSeenAs set p A K) (c 
       let one : with_deps A.ops (new_op p K.ops cursor (mutation_by c)) ≡ new_op p A.ops cursor (mutation_by c) = ap (λ (n : ℕ). record { id = record { counter = n + 1; replica = p }; deps = A.ops; cursor = cursor; mutation = mutation_by c }) (greatest_stands set A.ops K.ops for_ops) in
       let s : Refused (Operate A.tree (new_op p A.ops cursor (mutation_by c))) why = subst (λ (x : Context). Refused (Operate x (new_op p A.ops cursor (mutation_by c))) why) tree (subst (λ (o : Op). Refused (Operate K.tree o) why) one (r A.ops)) in
       in_command (left_seen set p A K seen ∙ l) (not_yield c making) (in_making (made_is c making) (record { derivation = d.derivation; holds = d.holds; concludes = d.concludes }) (in_made (in_applied s)))
+
+-- what is said of a document and variables by other words
+pub evaluated_in : {c d : Context} {vs ws : List (List ℕ × Bound)} {e f : Expr} {b : Bound} {t u : Rows} → c ≡ d → vs ≡ ws → e ≡ f → Evaluates c vs e b t u → Evaluates d ws f b t u
+evaluated_in {c} {d} {vs} {ws} {e} {f} {b} {t} {u} ce ve ee h = subst (λ (x : Context). Evaluates x ws f b t u) ce (subst (λ (y : List (List ℕ × Bound)). Evaluates c y f b t u) ve (subst (λ (z : Expr). Evaluates c vs z b t u) ee h))
+
+pub refused_in : {c d : Context} {vs ws : List (List ℕ × Bound)} {e f : Expr} {why : Cause} → c ≡ d → vs ≡ ws → e ≡ f → IsRefused c vs e why → IsRefused d ws f why
+refused_in {c} {d} {vs} {ws} {e} {f} {why} ce ve ee h = subst (λ (x : Context). IsRefused x ws f why) ce (subst (λ (y : List (List ℕ × Bound)). IsRefused c y f why) ve (subst (λ (z : Expr). IsRefused c vs z why) ee h))
+
+pub no_cursor : (b : BoundInMemory) → ((c : Cursor) → b ≡ B.Cursor c → ⊥) → IsCursor (bound_of b) → ⊥
+no_cursor (B.Cursor c) f h = f c refl
+no_cursor (B.Keys ks) f h = h
+no_cursor (B.Values vs) f h = h
+
+-- the operation that the next command makes
+pub makes : (K : State) (p q : ℕ) (next : MakesNext K.left) (cursor : Cursor) (mutation : Mutation) (most : ℕ) (deps : List Id) (r : Rule) (t t1 t2 t3 t4 t5 : Rows) → t1 ≡ opened t R.Exec → t2 ≡ opened t1 r → r ≡ rule_by next.command → Evaluates K.tree K.vars (expr_by next.command) (ACursor cursor) t2 t3 → t4 ≡ opened t3 R.MakeOp → t5 ≡ opened t4 R.ApplyLocal → most ≡ greatest K.ops → deps ≡ K.ops → mutation ≡ mutation_by next.command → q ≡ p → Makes K p (record { id = record { counter = most + 1; replica = q }; deps = deps; cursor = cursor; mutation = mutation }) t t5
+makes K p q next cursor mutation most deps r t t1 t2 t3 t4 t5 e1 e2 re x e4 e5 me de ve qe =
+    record {
+      next = next;
+      cursor = cursor;
+      between = t3;
+      evaluates = subst (λ (s : Rows). Evaluates K.tree K.vars (expr_by next.command) (ACursor cursor) s t3) (e2 ∙ ap (λ (s : Rule). opened t1 s) re ∙ ap (λ (s : Rows). opened s (rule_by next.command)) e1) x;
+      is = rw (me, de, ve, qe) refl;
+      rows = e5 ∙ ap (λ (s : Rows). opened s R.ApplyLocal) e4;
+    }

@@ -1,5 +1,6 @@
 -- Where a script stands.
-use Rattle.std.proofs.Common.{◌≡◌, ◌≢◌, ℕ, zero, suc, ◌+◌, ◌≤◌, ◌<◌, List, [], ◌∷◌, length, drop, map, get_or, slice_get, Option, Some, None, refl, sym, ◌∙◌, ap, arith, add-one}
+use Rattle.std.proofs.Common.{◌≡◌, ◌≢◌, ℕ, zero, suc, ◌+◌, ◌≤◌, ◌<◌, List, [], ◌∷◌, ◌-◌, length, take, drop, map, get_or, slice_get, Option, Some, None, refl, sym, ◌∙◌, ap, arith, add-one}
+use Rattle.std.proofs.lemmas.List.{take_all, length-drop, drop-map}
 use Rattle.std.proofs.lemmas.Option.{slice_get_past, slice_get_read}
 use Rattle.jc_rules.specs.Syntax.{Cmd}
 use Rattle.jc_syntax.specs.declared.tree.Cmd.{Cmd as CmdTree}
@@ -49,3 +50,14 @@ some_left [] zero c rest e = cc
 some_left [] (suc n) c rest e = cc
 some_left (x ∷ xs) zero c rest e = omega arith
 some_left (x ∷ xs) (suc n) c rest e = omega (arith, some_left xs n c rest e)
+
+-- what is read is the command that is known to be next
+pub is_next : (xs : List CmdTree) (n : ℕ) (c : CmdTree) (d : Cmd) (rest : List Cmd) → drop n (map cmd_of xs) ≡ d ∷ rest → c ≡ get_or xs n c → cmd_of c ≡ d
+is_next xs n c d rest e is =
+    let s : cmd_of c ∷ drop (suc n) (map cmd_of xs) ≡ d ∷ rest = sym (next_is xs n c (some_left xs n d rest e) is) ∙ e in
+    cc
+
+pub left_of : (xs : List CmdTree) (n : ℕ) → map cmd_of (take (length xs - n) (drop n xs)) ≡ drop n (map cmd_of xs)
+left_of xs n =
+    ap (λ (ys : List CmdTree). map cmd_of ys) (take_all (length xs - n) (drop n xs) (omega (arith, length-drop n xs)))
+    ∙ sym (drop-map cmd_of n xs)

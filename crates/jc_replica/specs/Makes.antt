@@ -42,6 +42,11 @@ IsMaking (LetIn x e) = ⊥
 IsMaking Yield = ⊥
 IsMaking _ = Unit {0}
 
+-- the command binds a variable
+abbrev pub IsLet : Cmd → Type 0
+IsLet (LetIn x e) = Unit {0}
+IsLet _ = ⊥
+
 -- the next command makes an operation
 pub record MakesNext (left : List Cmd) : Type 0 where
   pub command : Cmd

@@ -1,17 +1,20 @@
 //! Running commands.
 
-ghost use Rattle.std.specs.Prelude.{◌≡◌, [], ◌↔◌, IsTrue, Some, IfOk, IfErr};
+ghost use Rattle.std.specs.Prelude.{◌≡◌, [], ◌↔◌, IsTrue, IfOk, IfErr};
 ghost use Rattle.jc_rules.specs.declared.operation.Event.TheVariants as E;
 ghost use Rattle.jc_syntax.specs.Trees.{cmd_of, expr_of};
+ghost use Rattle.jc_cursor.specs.Bounds.{bound_of};
 ghost use Rattle.jc_replica.specs.Answers.{Answers, IsRefused};
-ghost use Rattle.jc_replica.specs.Makes.{Makes, MakesNext, IsMaking, rule_by, mutation_by, expr_by};
+ghost use Rattle.jc_replica.specs.Makes.{Makes, MakesNext, Binds, BindsNext, IsMaking, IsLet, rule_by, mutation_by, expr_by};
 
 use crate::applying::apply_to;
 use crate::fault::ReplicaFault;
 use crate::record::{Change, Record};
 use crate::replica::Replica;
+use crate::vars::bind_var;
+use crate::yielding::is_yield;
 use jc_cursor::{Bound, eval};
-use jc_rules::{Id, Mutation, Op, Rule, Trace};
+use jc_rules::{Id, Mutation, Op, Rule, Text, Trace};
 use jc_syntax::{Cmd, Expr};
 use jc_tree::TreeStore;
 use std::alloc::{AllocError, Global};
@@ -49,7 +52,68 @@ fn mutation_of(command: &Cmd) -> Result<Mutation, AllocError>
     }
 }
 
+/// Whether the command binds a variable.
+fn is_let(command: &Cmd) -> bool
+    ensures { IsTrue result ↔ IsLet (cmd_of command.now) }
+{
+    match command {
+        Cmd::Let(_, _) => true,
+        Cmd::Set(_, _) | Cmd::InsertAfter(_, _) | Cmd::Delete(_) | Cmd::Yield => false,
+    }
+}
+
 impl<S: TreeStore> Replica<S> {
+    /// Runs the next command, and gives the trace of the event. Where no command is left, or the
+    /// next one is `yield`, it is refused; else for the first condition that fails in its rules.
+    /// After a refusal all is as it was.
+    pub fn exec(&mut self, alloc: Global) -> Result<Trace, ReplicaFault>
+        ensures { Answers (E.Exec self.old.number) [] self.old self.new result }
+    {
+        if self.done == self.script.len() {
+            return Err(ReplicaFault::NoCommand);
+        }
+        if is_yield(&self.script[self.done]) {
+            return Err(ReplicaFault::AtYield);
+        }
+        if is_let(&self.script[self.done]) {
+            self.bind(alloc)
+        } else {
+            self.make(alloc)
+        }
+    }
+
+    /// What the next command binds which variable to.
+    fn bound_next(&self, alloc: Global, trace: &mut Trace) -> Result<(Text, Bound), ReplicaFault>
+        requires { BindsNext self.now.now.left }
+        ensures ok { IfOk result (λ var. Binds self.now.now var.0 (bound_of var.1) trace.old trace.new) }
+        ensures err { IfErr result (λ f. IsRefused (E.Exec self.now.number) [] self.now f) }
+    {
+        let Cmd::Let(name, expr) = &self.script[self.done] else {
+            unreachable!();
+        };
+        trace.open(Rule::Exec)?;
+        trace.open(Rule::Let)?;
+        let bound = eval(alloc, &self.store, self.vars.as_slice(), expr, trace)?;
+        Ok((name.copy()?, bound))
+    }
+
+    /// Runs the next command, which binds a variable.
+    fn bind(&mut self, alloc: Global) -> Result<Trace, ReplicaFault>
+        requires { BindsNext self.old.now.left }
+        ensures { Answers (E.Exec self.old.number) [] self.old self.new result }
+    {
+        let mut trace = Trace::new(alloc);
+        let (name, bound) = self.bound_next(alloc, &mut trace)?;
+        self.steps.reserve(1)?;
+        let mark = self.store.mark();
+        let (place, before) = bind_var(&mut self.vars, name, bound)?;
+        trace.close(0);
+        self.done += 1;
+        let change = Change::Bound { place, before };
+        self.steps.push(Record { mark, change }).unwrap();
+        Ok(trace)
+    }
+
     /// The operation that the next command makes.
     fn make_op(&self, alloc: Global, trace: &mut Trace) -> Result<Op, ReplicaFault>
         requires { MakesNext self.now.now.left }
