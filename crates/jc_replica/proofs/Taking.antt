@@ -1,5 +1,5 @@
 -- Applying a received operation, from what is held before to what is held after.
-use Rattle.std.proofs.Common.{◌≡◌, ◌≢◌, ℕ, zero, suc, ◌+◌, ◌-◌, ◌<◌, ◌≤◌, List, [], ◌∷◌, ◌++◌, length, take, drop, map, max, Option, Some, None, Bool, true, false, ◌||◌, ◌↔◌, ◌⊎◌, inl, inr, Contains, Bor, option_copied, refl, sym, ◌∙◌, ap, subst, arith}
+use Rattle.std.proofs.Common.{◌≡◌, ◌≢◌, ℕ, zero, suc, ◌+◌, ◌-◌, ◌<◌, ◌≤◌, List, [], ◌∷◌, ◌++◌, length, take, drop, map, max, Option, Some, None, IfSome, Bool, true, false, ◌||◌, ◌↔◌, ◌⊎◌, inl, inr, Contains, Bor, option_copied, refl, sym, ◌∙◌, ap, subst, arith}
 use Rattle.std.proofs.lemmas.Bool.{cases_lt}
 use Rattle.std.specs.List.{AllByRecursion}
 use Rattle.jc_rules.specs.declared.id.Id.{Id}
@@ -30,8 +30,12 @@ use Rattle.jc_sets.specs.Members.{with_deps}
 use Rattle.jc_sets.specs.States.{kept_op, HasOwn, taken, taken_kept}
 use Rattle.jc_sets.proofs.Applying.{kept_found, of_set, deps_closed, apply_stands}
 use Rattle.jc_replica.specs.declared.record.Change.TheVariants as C
-use Rattle.jc_replica.specs.Answers.{RefusedFor}
-use Rattle.jc_replica.specs.Kept.{CanBack}
+use Rattle.jc_replica.specs.declared.fault.ReplicaFault.{ReplicaFault}
+use Rattle.jc_replica.specs.declared.record.Record.{Record}
+use Rattle.jc_tree.specs.declared.store.Mark.{Mark}
+use Rattle.jc_tree.specs.Tree.{Tree, IsLater}
+use Rattle.jc_replica.specs.Answers.{RefusedFor, cause_of, IsRefused}
+use Rattle.jc_replica.specs.Kept.{CanBack, IsKeptReplica}
 use Rattle.jc_replica.specs.Makes.{opened}
 use Rattle.jc_replica.specs.Operations.{IsHanded}
 use Rattle.jc_replica.specs.Past.{Past, no_rows}
@@ -40,7 +44,8 @@ use Rattle.jc_replica.specs.Seen.{IsSeenAs, Leads}
 use Rattle.jc_replica.specs.Takes.{Takes}
 use Rattle.jc_replica.specs.Undo.{Held, held, back, state_of}
 use Rattle.jc_replica.proofs.Adding.{counters_after, greatest_after, is_greatest, still_linked}
-use Rattle.jc_replica.proofs.Events.{Leading}
+use Rattle.jc_replica.proofs.Events.{Leading, ready_now}
+use Rattle.jc_replica.proofs.Steps.{Stepped, stepped}
 use Rattle.jc_replica.proofs.Seeing.{left_seen}
 use Rattle.jc_replica.proofs.Whole.{found_in}
 
@@ -148,11 +153,19 @@ module _ (script : List Cmd) (h : Held) (c : Context) (i : Id) (k : Op) (ready :
   pub handed : IsHanded k
   handed = found_in IsHanded i h.recv k ready.handed takes.received
 
+  pub own : k.id ≡ i
+  own = (looked_up i h.recv k takes.received).0
+
+  pub fresh : IsUnlinked k.id c
+  fresh = ready.linked k.id (ap (λ (j : Id). has_id j h.ops) own ∙ takes.new)
+
   pub above : greatest_of i.replica h.ops < i.counter
   above =
       let least : 1 ≤ k.id.counter = handed.0 in
-      let own : k.id ≡ i = (looked_up i h.recv k takes.received).0 in
       above_applied i h.ops ready.counters (subst (λ (j : Id). 1 ≤ j.counter) own least) takes.new
+
+  pub above_own : greatest_of k.id.replica h.ops < k.id.counter
+  above_own = subst (λ (j : Id). greatest_of j.replica h.ops < j.counter) (sym own) above
 
   pub taken_back : back (C.Applied i (greatest_of i.replica h.ops) h.acted) (taken_held h i) ≡ h
   taken_back =
@@ -164,7 +177,6 @@ module _ (script : List Cmd) (h : Held) (c : Context) (i : Id) (k : Op) (ready :
 
   pub taken_ready : (d : Context) → IsChained d → ((j : Id) → j ≢ i → IsUnlinked j c → IsUnlinked j d) → IsReady (state_of script (taken_held h i) d)
   taken_ready d chained unlinked =
-      let own : k.id ≡ i = (looked_up i h.recv k takes.received).0 in
       let counter : k.id.counter ≡ i.counter = ap (λ (j : Id). j.counter) own in
       let least = handed.0 in
       let great = handed.1 in
@@ -184,6 +196,44 @@ module _ (script : List Cmd) (h : Held) (c : Context) (i : Id) (k : Op) (ready :
 
 pub takes_event : (p : ℕ) (script : List Cmd) (h : Held) (c d : Context) (i : Id) (k : Op) (u v : Rows) → Takes (state_of script h c) i k → u ≡ opened no_rows R.ApplyRemote → Derives (Operate c k) (ToContext d) u v → Leading p (E.Apply p i) [] (state_of script h c) (state_of script (taken_held h i) d) (at_depth 0 v)
 takes_event p script h c d i k u v t ue de set os A seen read = leads_taken set p A (state_of script h c) seen i k d os u v t ue de
+
+-- the same operation, where the state is seen
+pub takes_again : (K L : State) (i : Id) (k o : Op) → Takes K i k → K ≡ L → op_of i L.recv ≡ Some o → Takes L i o
+takes_again K L i k o t e f =
+    let both : Some k ≡ Some o = sym t.received ∙ ap (λ (A : State). op_of i A.recv) e ∙ f in
+    let same : k ≡ o = cc in
+    subst (λ (x : State × Op). Takes x.0 i x.1) (λ n. (e n, same n)) t
+
+-- The step, where the operation's identifier was added.
+module _ {script : List Cmd} {t : Tree} {rs : List Record} {h : Held} (kept : IsKeptReplica script t rs h) (i : Id) (k : Op) (takes : Takes (state_of script h t.now) i k) (ops : List Id) (added : ops ≡ union (counted k.id.replica k.id.counter) h.ops) where
+  now_held : held h.done true h.vars ops h.queue h.sent h.recv ≡ taken_held h i
+  now_held =
+      let is : ops ≡ union (counted i.replica i.counter) h.ops = added ∙ ap (λ (j : Id). union (counted j.replica j.counter) h.ops) (own script h t.now i k (ready_now kept) takes) in
+      ap (λ (s : List Id). held h.done true h.vars s h.queue h.sent h.recv) is
+
+  pub taken_step : (u : Tree) (ss : List Record) (mark : Mark) (before : ℕ) → IsLater t u → ss ≡ rs ++ record { mark = mark; change = C.Applied i before h.acted } ∷ [] → mark.changes ≡ length t.earlier → before ≡ greatest_of i.replica h.ops → IsChained u.now → ((j : Id) → j ≢ k.id → IsUnlinked j t.now → IsUnlinked j u.now) → Stepped script t u rs ss h (held h.done true h.vars ops h.queue h.sent h.recv)
+  taken_step u ss mark before later se me be chained unlinked =
+      let ready = ready_now kept in
+      let r : Record = record { mark = mark; change = C.Applied i (greatest_of i.replica h.ops) h.acted } in
+      let se2 : ss ≡ rs ++ r ∷ [] = se ∙ ap (λ (n : ℕ). rs ++ record { mark = mark; change = C.Applied i n h.acted } ∷ []) be in
+      let at = own script h t.now i k ready takes in
+      let others : (j : Id) → j ≢ i → IsUnlinked j t.now → IsUnlinked j u.now = λ j ne. unlinked j (λ e. ne (e ∙ at)) in
+      subst (λ (x : Held). Stepped script t u rs ss h x) (sym now_held)
+      (stepped kept u ss r (taken_held h i) later se2 me (taken_back script h t.now i k ready takes) (taken_can_back script h t.now i k ready takes) (taken_ready script h t.now i k ready takes u.now chained others) (record { done = kept.bounds.done; sent = kept.bounds.sent }))
+
+  pub taken_leads : (p : ℕ) (d : Context) (u v w : Rows) → u ≡ opened no_rows R.ApplyRemote → Derives (Operate t.now k) (ToContext d) u v → w ≡ at_depth 0 v → Leading p (E.Apply p i) [] (state_of script h t.now) (state_of script (held h.done true h.vars ops h.queue h.sent h.recv) d) w
+  taken_leads p d u v w ue de we =
+      subst (λ (x : Held × Rows). Leading p (E.Apply p i) [] (state_of script h t.now) (state_of script x.0 d) x.1) (λ n. (sym now_held n, sym we n)) (takes_event p script h t.now d i k u v takes ue de)
+
+-- a cause that is handed up
+pub some_each : (x : Option Cause) (P Q : Cause → Type 0) → ((why : Cause) → P why → Q why) → IfSome x P → IfSome x Q
+some_each None P Q f h = tt
+some_each (Some why) P Q f h = f why h
+
+pub refused_all : (old : Past) (i : Id) (k : Op) (c : Context) (fault : ReplicaFault) → c ≡ old.now.tree → Takes old.now i k → IfSome (cause_of fault) (λ why. (deps : List Id) → Refused (Operate c (with_deps deps k)) why) → IsRefused (E.Apply old.number i) [] old fault
+refused_all old i k c fault e t h =
+    some_each (cause_of fault) (λ why. (deps : List Id) → Refused (Operate c (with_deps deps k)) why) (RefusedFor (E.Apply old.number i) [] old)
+    (λ why r set os A seen read. refused_taken set old.number A old.now seen i k os why t (subst (λ (x : Context). (deps : List Id) → Refused (Operate x (with_deps deps k)) why) e r)) h
 
 -- what isn't found
 pub none_found : {X : Type 0} (o : Option (Bor X)) → ((x : Bor X) → o ≡ Some x → ⊥) → option_copied o ≡ None
