@@ -11,3 +11,6 @@ pub mod Scripts
 pub mod Seeing
 pub mod Sending
 pub mod Steps
+pub mod Unions
+pub mod Whole
+pub mod Taking

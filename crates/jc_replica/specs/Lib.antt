@@ -9,3 +9,5 @@ pub mod Undo
 pub mod Kept
 pub mod Binds
 pub mod Can
+pub mod Received
+pub mod Takes

@@ -6,6 +6,7 @@ mod applying;
 mod can;
 mod exec;
 mod fault;
+mod received;
 mod record;
 mod recv;
 mod replica;

@@ -7,6 +7,7 @@ ghost use Rattle.jc_syntax.specs.Trees.{cmd_of};
 ghost use Rattle.jc_cursor.specs.Bounds.{vars_of};
 ghost use Rattle.jc_replica.specs.Operations.{AreInOrder};
 
+use crate::received::Received;
 use crate::record::Record;
 use jc_cursor::Bound;
 use jc_rules::{IdSet, Op, Text};
@@ -33,7 +34,7 @@ pub struct Replica<S: TreeStore> {
     pub(crate) queue: Vec<Op>,
     pub(crate) sent: usize,
     /// The operations received, by identifier.
-    pub(crate) recv: Vec<Op>,
+    pub(crate) recv: Received,
     pub(crate) steps: Vec<Record>,
 }
 
@@ -49,9 +50,9 @@ impl<S: TreeStore> Model for Replica<S> {
 
     ghost coded = { past_code };
 
-    ghost view = { λ a. past_of a.number (map cmd_of a.script.items) (S.tree a.store) a.steps.items (held a.done a.acted (vars_of a.vars.items) a.ops a.queue.items a.sent a.recv.items) };
+    ghost view = { λ a. past_of a.number (map cmd_of a.script.items) (S.tree a.store) a.steps.items (held a.done a.acted (vars_of a.vars.items) a.ops a.queue.items a.sent a.recv) };
 
-    ghost invariant = { λ a. IsKeptReplica (map cmd_of a.script.items) (S.tree a.store) a.steps.items (held a.done a.acted (vars_of a.vars.items) a.ops a.queue.items a.sent a.recv.items) };
+    ghost invariant = { λ a. IsKeptReplica (map cmd_of a.script.items) (S.tree a.store) a.steps.items (held a.done a.acted (vars_of a.vars.items) a.ops a.queue.items a.sent a.recv) };
 }
 
 impl<S: TreeStore> Replica<S> {
@@ -71,7 +72,7 @@ impl<S: TreeStore> Replica<S> {
             ops: IdSet::new(alloc),
             queue: Vec::new(alloc),
             sent: 0,
-            recv: Vec::new(alloc),
+            recv: Received::new(alloc),
             steps: Vec::new(alloc),
         }
     }

@@ -1,14 +1,12 @@
 //! Taking steps back.
 
 ghost use Rattle.std.specs.Prelude.{◌≡◌, ◌-◌, [], length, take, IsTrue, IsFalse};
-ghost use Rattle.jc_replica.specs.Operations.{AreInOrder};
 ghost use Rattle.jc_replica.specs.Past.{history};
-ghost use Rattle.jc_replica.specs.Undo.{without_ops};
 
 use crate::record::{Change, Record};
 use crate::replica::Replica;
 use crate::vars::unbind_var;
-use jc_rules::{Id, Op};
+use jc_rules::Op;
 use jc_tree::TreeStore;
 
 /// Takes the last operation away.
@@ -17,18 +15,6 @@ fn drop_last(queue: &mut Vec<Op>)
 {
     let last = queue.len().saturating_sub(1);
     queue.truncate(last);
-}
-
-/// Takes the operations with these identifiers away.
-fn drop_ops(recv: &mut Vec<Op>, came: &[Id])
-    requires { AreInOrder recv.old.items }
-    ensures { recv.new.items ≡ without_ops came.now recv.old.items }
-{
-    for id in came {
-        if let Ok(place) = recv.binary_search_by(|op| op.id.cmp(id)) {
-            recv.remove(place);
-        }
-    }
 }
 
 impl<S: TreeStore> Replica<S> {
@@ -58,7 +44,7 @@ impl<S: TreeStore> Replica<S> {
             }
             Change::Received { came, acted } => {
                 self.acted = acted;
-                drop_ops(&mut self.recv, came.as_slice());
+                self.recv.withdraw(came.as_slice());
             }
             Change::Applied { id, before, acted } => {
                 self.acted = acted;
