@@ -1,8 +1,9 @@
 //! The operations that a replica received.
 
-ghost use Rattle.std.specs.Prelude.{◌≡◌, ◌≤◌, ◌+◌, ◌∷◌, List, [], true, IfOk, OnOk, OnErr, option_copied, vec_len, vec_capacity, filter};
+ghost use Rattle.std.specs.Prelude.{◌≡◌, ◌≤◌, ◌+◌, ◌∷◌, ℕ, List, [], Some, true, IfOk, OnOk, OnErr, option_copied, vec_len, vec_capacity, length, take, filter};
 ghost use Rattle.std.specs.List.{AllByRecursion};
 ghost use Rattle.jc_rules.specs.declared.operation.Op.{Op as AnyOp};
+ghost use Rattle.jc_rules.specs.Filled.{filled, greatest_of};
 ghost use Rattle.jc_rules.specs.Sound.{IsSound};
 ghost use Rattle.jc_rules.specs.Table.{op_of, both};
 ghost use Rattle.jc_replica.specs.Operations.{identifiers, AreInOrder, AreHanded};
@@ -42,6 +43,26 @@ fn place_of(ops: &[Op], id: Id) -> Result<usize, usize>
     ensures { IsPlace id ops.now result }
 {
     ops.binary_search_by_key(&id, |op| op.id)
+}
+
+/// The replica whose own they are.
+fn sender_of(offered: &[Op]) -> u16
+    requires { AreOfOne offered.now }
+    ensures { AreOwn result offered.now }
+{
+    match offered {
+        [first, ..] => first.id.replica,
+        [] => 0,
+    }
+}
+
+/// How many of the operations have counters up to this one.
+fn up_to(offered: &[Op], last: u64) -> usize
+    requires { AreInOrder offered.now }
+    ensures bound { result ≤ length offered.now }
+    ensures low { AllByRecursion (λ o. o.id.counter ≤ last) (take result offered.now) }
+{
+    offered.partition_point(|op| op.id.counter <= last)
 }
 
 /// Copies of the operations that aren't there yet.
@@ -99,6 +120,30 @@ fn bring_in(ops: &mut Vec<Op>, fresh: Vec<Op>)
     }
 }
 
+/// Lowers the counter of the operation's replica to one up to which nothing is missing without it.
+fn lower(whole: &mut IdSet, op: &Op)
+    requires { whole.old ≡ filled whole.old }
+    ensures filled { whole.new ≡ filled whole.new }
+    ensures missing { (os : List AnyOp) → op_of op.now.id os ≡ Some op.now
+        → ((q : ℕ) → IsWholeTo q os (greatest_of q whole.old))
+        → (q : ℕ) → IsWholeTo q (without_ops (op.now.id ∷ []) os) (greatest_of q whole.new) }
+{
+    let id = op.id;
+    let last = whole.greatest_of(id.replica);
+    let before = if id.counter == last {
+        op.deps.greatest_of(id.replica)
+    } else {
+        0
+    };
+    if id.counter <= last && before < last {
+        let greatest = Id {
+            counter: last,
+            replica: id.replica,
+        };
+        whole.withdraw(greatest, before);
+    }
+}
+
 impl Received {
     /// None.
     pub fn new(alloc: Global) -> Self
@@ -140,12 +185,9 @@ impl Received {
         ensures handed { AreHanded self.old → AreHanded offered.now → AreHanded self.new }
         ensures err { OnErr result (self.new ≡ self.old) }
     {
-        let Some(first) = offered.first() else {
-            return Ok(Vec::new(alloc));
-        };
-        let sender = first.id.replica;
+        let sender = sender_of(offered);
         let last = self.whole.greatest_of(sender);
-        let start = offered.partition_point(|op| op.id.counter <= last);
+        let start = up_to(offered, last);
         let fresh = new_ones(alloc, self.ops.as_slice(), &offered[start..])?;
         let came = ids_of(alloc, fresh.as_slice())?;
         if came.is_empty() {
@@ -168,19 +210,7 @@ impl Received {
         let Ok(place) = place_of(self.ops.as_slice(), id) else {
             return;
         };
-        let last = self.whole.greatest_of(id.replica);
-        if 0 < last && id.counter <= last {
-            let before = if id.counter == last {
-                self.ops[place].deps.greatest_of(id.replica)
-            } else {
-                0
-            };
-            let greatest = Id {
-                counter: last,
-                replica: id.replica,
-            };
-            self.whole.withdraw(greatest, before);
-        }
+        lower(&mut self.whole, &self.ops[place]);
         self.ops.remove(place);
     }
 
