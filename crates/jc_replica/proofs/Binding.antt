@@ -11,7 +11,11 @@ use Rattle.jc_rules.specs.Syntax.{Expr, Cmd, LetIn, Yield}
 use Rattle.jc_rules.specs.Table.{bind}
 use Rattle.jc_rules.specs.Trace.{Rows, at_depth}
 use Rattle.jc_rules.proofs.Steps.{one_premise}
-use Rattle.jc_cursor.specs.Evaluates.{IsRefused}
+use Rattle.jc_syntax.specs.declared.tree.Cmd.{Cmd as CmdTree}
+use Rattle.jc_syntax.specs.declared.tree.Cmd.TheVariants.{Let, Set, InsertAfter as Insert, Delete as Del, Yield as Wait}
+use Rattle.jc_syntax.specs.declared.tree.Expr.{Expr as ExprTree}
+use Rattle.jc_syntax.specs.Trees.{cmd_of}
+use Rattle.jc_cursor.specs.Evaluates.{Evaluates, IsRefused}
 use Rattle.jc_sets.specs.States.{kept_state}
 use Rattle.jc_replica.specs.Past.{no_rows}
 use Rattle.jc_replica.specs.Makes.{Binds, BindsNext, opened}
@@ -46,3 +50,18 @@ module _ (set : List Op) (p : ℕ) (A K : State) (seen : IsSeenAs set p A K) (os
 
   pub refused_let : (next : BindsNext K.left) (why : Cause) → IsRefused K.tree K.vars next.expr why → Refused (Occur A (E.Exec p) os) why
   refused_let next why h = in_command (left_seen set p A K seen ∙ next.next) (not_yield next.name next.expr) (in_first refl (h A (has_seen set p A K seen)))
+
+-- the next command is the one that is read
+pub only_let : (c : CmdTree) (x : List ℕ) (e : Expr) → cmd_of c ≡ LetIn x e → ((y : List ℕ) (f : ExprTree) → c ≡ Let y f → ⊥) → ⊥
+only_let (Let y f) x e h n = n y f refl
+only_let (Set f v) x e h n = cc
+only_let (Insert f v) x e h n = cc
+only_let (Del f) x e h n = cc
+only_let Wait x e h n = cc
+
+pub same_let : (x y : List ℕ) (e f : Expr) → LetIn x e ≡ LetIn y f → (x ≡ y) × (e ≡ f)
+same_let x y e f h = (let a : x ≡ y = cc in a, let b : e ≡ f = cc in b)
+
+pub binds : (K : State) (next : BindsNext K.left) (x : List ℕ) (b : Bound) (t t1 t2 u : Rows) → x ≡ next.name → t1 ≡ opened t R.Exec → t2 ≡ opened t1 R.Let → Evaluates K.tree K.vars next.expr b t2 u → Binds K x b t u
+binds K next x b t t1 t2 u n e1 e2 h =
+    record { next = next; name = n; evaluates = subst (λ (r : Rows). Evaluates K.tree K.vars next.expr b r u) (e2 ∙ ap (λ (r : Rows). opened r R.Let) e1) h }

@@ -4,6 +4,7 @@ pub mod Bound
 pub mod Events
 pub mod Made
 pub mod Making
+pub mod Naming
 pub mod Queueing
 pub mod Refusing
 pub mod Scripts

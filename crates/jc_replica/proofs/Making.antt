@@ -28,7 +28,7 @@ use Rattle.jc_sets.specs.Members.{with_deps}
 use Rattle.jc_sets.specs.States.{new_op, made, made_kept, kept_state}
 use Rattle.jc_sets.proofs.Making.{make_stands}
 use Rattle.jc_replica.specs.Past.{no_rows}
-use Rattle.jc_replica.specs.Makes.{Makes, MakesNext, IsMaking, opened, rule_by, expr_by, mutation_by}
+use Rattle.jc_replica.specs.Makes.{Makes, MakesNext, BindsNext, IsMaking, IsLet, opened, rule_by, expr_by, mutation_by}
 use Rattle.jc_replica.specs.Seen.{IsSeenAs, Leads}
 use Rattle.jc_replica.proofs.Seeing.{left_seen, has_seen}
 
@@ -139,3 +139,18 @@ makes K p q next cursor mutation most deps r t t1 t2 t3 t4 t5 e1 e2 re x e4 e5 m
       is = rw (me, de, ve, qe) refl;
       rows = e5 ∙ ap (λ (s : Rows). opened s R.ApplyLocal) e4;
     }
+
+-- which kind the next command is
+pub binds_next : (left rest : List Cmd) (c : Cmd) → left ≡ c ∷ rest → IsLet c → BindsNext left
+binds_next left rest (LetIn x e) l h = record { name = x; expr = e; rest = rest; next = l }
+binds_next left rest (SetTo e v) l h = absurd h
+binds_next left rest (InsertAfter e v) l h = absurd h
+binds_next left rest (DeleteAt e) l h = absurd h
+binds_next left rest Yield l h = absurd h
+
+pub makes_next : (left rest : List Cmd) (c : Cmd) → left ≡ c ∷ rest → c ≢ Yield → (IsLet c → ⊥) → MakesNext left
+makes_next left rest (LetIn x e) l y h = absurd (h tt)
+makes_next left rest (SetTo e v) l y h = record { command = SetTo e v; rest = rest; next = l; makes = tt }
+makes_next left rest (InsertAfter e v) l y h = record { command = InsertAfter e v; rest = rest; next = l; makes = tt }
+makes_next left rest (DeleteAt e) l y h = record { command = DeleteAt e; rest = rest; next = l; makes = tt }
+makes_next left rest Yield l y h = absurd (y refl)

@@ -61,3 +61,9 @@ pub left_of : (xs : List CmdTree) (n : ℕ) → map cmd_of (take (length xs - n)
 left_of xs n =
     ap (λ (ys : List CmdTree). map cmd_of ys) (take_all (length xs - n) (drop n xs) (omega (arith, length-drop n xs)))
     ∙ sym (drop-map cmd_of n xs)
+
+-- what is read twice
+pub read_twice : {X : Type 0} (xs : List X) (n : ℕ) (c d : X) → n < length xs → c ≡ get_or xs n c → d ≡ get_or xs n d → c ≡ d
+read_twice [] n c d l f g = absurd (omega (arith, l))
+read_twice (x ∷ xs) zero c d l f g = f ∙ sym g
+read_twice (x ∷ xs) (suc n) c d l f g = read_twice xs n c d (omega (arith, l)) f g
