@@ -14,3 +14,4 @@ pub mod Steps
 pub mod Unions
 pub mod Whole
 pub mod Taking
+pub mod Receiving

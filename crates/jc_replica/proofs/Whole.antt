@@ -19,10 +19,10 @@ use Rattle.jc_rules.proofs.Filled.{not_true, left_in, right_in, both_ways, same_
 use Rattle.jc_rules.proofs.Withdrawn.{in_filter, filter_in, filter-rises}
 use Rattle.jc_rules.proofs.Stands.{looked_up, counts}
 use Rattle.jc_sets.specs.States.{kept_op}
-use Rattle.jc_replica.specs.Operations.{identifiers, AreInOrder}
-use Rattle.jc_replica.specs.Received.{StandsAt, IsPlace, AreKeptOf, AreOwn, AreOfOne, AreAmong, IsWholeTo, none, more, IsKeptList, is_new}
+use Rattle.jc_replica.specs.Operations.{identifiers, AreInOrder, AreOwn}
+use Rattle.jc_replica.specs.Received.{StandsAt, IsPlace, AreKeptOf, AreAmong, IsWholeTo, none, more, IsKeptList, is_new}
 use Rattle.jc_replica.specs.Undo.{without_ops}
-use Rattle.jc_replica.proofs.Unions.{filter-in_order, filter_all, drop-in_order, all_filter, all_drop, found_all, there_found, found_both, both-there, both-append, both-new, both-in_order, there_both}
+use Rattle.jc_replica.proofs.Unions.{taken_out, filter-in_order, filter_all, drop-in_order, all_filter, all_drop, found_all, there_found, found_both, both-there, both-append, both-new, both-in_order, there_both}
 
 pub found_in : (P : Op → Type 0) (i : Id) (os : List Op) (o : Op) → AllByRecursion P os → op_of i os ≡ Some o → P o
 found_in P i [] o a e = absurd (let f : ⊥ = cc in f)
@@ -414,3 +414,34 @@ place_absent i os (Err n) p h = p.absent
 -- all from a place on
 pub rest_is : (n : ℕ) (os : List Op) → take (length os - n) (drop n os) ≡ drop n os
 rest_is n os = take_all (length os - n) (drop n os) (omega (arith, length-drop n os))
+
+-- taking out the last of these, and then the others
+
+has_id-last : (k i : Id) (is : List Id) → has_id k (is ++ i ∷ []) ≡ has_id k is || same_id k i
+has_id-last k i [] = go (same_id k i)
+  where
+    go : (b : Bool) → b || false ≡ b
+    go true = refl
+    go false = refl
+has_id-last k i (j ∷ is) = go (same_id k j) (has_id-last k i is)
+  where
+    go : (b : Bool) → has_id k (is ++ i ∷ []) ≡ has_id k is || same_id k i → b || has_id k (is ++ i ∷ []) ≡ (b || has_id k is) || same_id k i
+    go true e = refl
+    go false e = e
+
+pub without-last : (is : List Id) (i : Id) (os : List Op) → without_ops (is ++ i ∷ []) os ≡ without_ops is (without_ops (i ∷ []) os)
+without-last is i [] = refl
+without-last is i (o ∷ os) = go (has_id o.id is) refl (same_id o.id i) refl (without-last is i os)
+  where
+    all : has_id o.id (is ++ i ∷ []) ≡ has_id o.id is || same_id o.id i
+    all = has_id-last o.id i is
+
+    go : (b : Bool) → has_id o.id is ≡ b → (d : Bool) → same_id o.id i ≡ d → without_ops (is ++ i ∷ []) os ≡ without_ops is (without_ops (i ∷ []) os) → without_ops (is ++ i ∷ []) (o ∷ os) ≡ without_ops is (without_ops (i ∷ []) (o ∷ os))
+    go true e true f ih = let a : has_id o.id (is ++ i ∷ []) ≡ true = all ∙ rw e refl in rw (a, f) ih
+    go true e false f ih = let a : has_id o.id (is ++ i ∷ []) ≡ true = all ∙ rw e refl in rw (a, f, e) ih
+    go false e true f ih = let a : has_id o.id (is ++ i ∷ []) ≡ true = all ∙ rw (e, f) refl in rw (a, f) ih
+    go false e false f ih = let a : has_id o.id (is ++ i ∷ []) ≡ false = all ∙ rw (e, f) refl in rw (a, f, e) (ap (λ (x : List Op). o ∷ x) ih)
+
+pub without_nothing : (is : List Id) (os : List Op) → length is ≡ 0 → without_ops is os ≡ os
+without_nothing [] os z = taken_out os [] tt
+without_nothing (i ∷ is) os z = absurd (omega arith)

@@ -6,9 +6,9 @@ ghost use Rattle.jc_rules.specs.declared.operation.Op.{Op as AnyOp};
 ghost use Rattle.jc_rules.specs.Filled.{filled, greatest_of};
 ghost use Rattle.jc_rules.specs.Sound.{IsSound};
 ghost use Rattle.jc_rules.specs.Table.{op_of, both};
-ghost use Rattle.jc_replica.specs.Operations.{identifiers, AreInOrder, AreHanded};
+ghost use Rattle.jc_replica.specs.Operations.{identifiers, AreInOrder, AreHanded, AreOwn, AreOfOne};
 ghost use Rattle.jc_replica.specs.Undo.{without_ops};
-ghost use Rattle.jc_replica.specs.Received.{IsPlace, AreOwn, AreOfOne, AreKeptOf, IsWholeTo, AreAmong, is_new};
+ghost use Rattle.jc_replica.specs.Received.{IsPlace, AreKeptOf, IsWholeTo, AreAmong, is_new};
 
 use jc_rules::{Id, IdSet, Op};
 use std::alloc::{AllocError, Global};
@@ -47,8 +47,7 @@ fn place_of(ops: &[Op], id: Id) -> Result<usize, usize>
 
 /// The replica whose own they are.
 fn sender_of(offered: &[Op]) -> u16
-    requires { AreOfOne offered.now }
-    ensures { AreOwn result offered.now }
+    ensures { AreOfOne offered.now → AreOwn result offered.now }
 {
     match offered {
         [first, ..] => first.id.replica,
@@ -93,12 +92,14 @@ fn ids_of(alloc: Global, ops: &[Op]) -> Result<Vec<Id>, AllocError>
 /// The counter up to which nothing of the replica's own is missing once these are there, where
 /// nothing was up to `from`: each depends on all that its replica made before it.
 fn whole_to(ops: &[Op], replica: u16, from: u64) -> u64
-    requires { AreOwn replica ops.now }
     ensures { (os : List AnyOp) → AreAmong ops.now os → IsWholeTo replica os from → IsWholeTo replica os result }
 {
     let mut last = from;
     for op in ops {
-        if op.deps.greatest_of(replica) != last || op.id.counter <= last {
+        if op.id.replica != replica
+            || op.id.counter <= last
+            || op.deps.greatest_of(replica) != last
+        {
             break;
         }
         last = op.id.counter;
@@ -173,12 +174,12 @@ impl Received {
         }
     }
 
-    /// Takes in what one replica offers, and gives the identifiers of what came in. After a refusal
-    /// all is as it was.
+    /// Takes in what one replica offers, which is its own, and gives the identifiers of what came in.
+    /// After a refusal all is as it was.
     pub fn unite(&mut self, alloc: Global, offered: &[Op]) -> Result<Vec<Id>, AllocError>
-        requires own { AreOfOne offered.now }
-        requires order { AreInOrder offered.now }
-        ensures ok { OnOk result ((set : List AnyOp) → IsSound set → AreKeptOf set self.old → AreKeptOf set offered.now
+        requires { AreInOrder offered.now }
+        ensures ok { OnOk result ((set : List AnyOp) → IsSound set
+            → AreKeptOf set self.old → AreKeptOf set offered.now → AreOfOne offered.now
             → self.new ≡ both self.old offered.now) }
         ensures back { IfOk result (λ came. without_ops came.items self.new ≡ self.old) }
         ensures order { AreInOrder self.new }
