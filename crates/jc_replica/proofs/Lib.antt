@@ -11,6 +11,7 @@ pub mod Scripts
 pub mod Seeing
 pub mod Sending
 pub mod Steps
+pub mod Undoing
 pub mod Unions
 pub mod Whole
 pub mod Taking
