@@ -15,3 +15,4 @@ pub mod Undoing
 pub mod Unions
 pub mod Whole
 pub mod Taking
+pub mod Receiving

@@ -1,9 +1,11 @@
 -- Lists of operations: one more, and two united.
-use Rattle.std.proofs.Common.{◌≡◌, ℕ, zero, suc, ◌+◌, ◌≤◌, ◌<◌, List, [], ◌∷◌, ◌++◌, length, get_or, take, insert, filter, cond, map, Option, Some, None, Bool, true, false, not, ◌||◌, Result, Ok, Err, IsErr, refl, sym, ◌∙◌, ap, subst, arith}
-use Rattle.std.specs.List.{AllByRecursion}
+use Rattle.std.proofs.Common.{◌≡◌, ℕ, zero, suc, ◌+◌, ◌≤◌, ◌<◌, List, [], ◌∷◌, ◌++◌, length, get_or, take, drop, leb, leb-true, le-leb, insert, filter, cond, map, Option, Some, None, Bool, true, false, not, ◌||◌, Result, Ok, Err, IsErr, refl, sym, ◌∙◌, ap, subst, arith}
+use Rattle.std.specs.List.{AllByRecursion, AllWithin}
 use Rattle.std.specs.Result.{is_err}
-use Rattle.std.specs.List.Sorted.{IsSearchInRange, IsBinarySearchResult, IsNonDecreasingBy}
-use Rattle.std.specs.Ordering.{ordering_index}
+use Rattle.std.specs.List.Sorted.{IsSearchInRange, IsBinarySearchResult, IsNonDecreasingBy, IsPartitionedBy}
+use Rattle.std.specs.Ordering.{ordering_index, nat_cmp, is_lt}
+use Rattle.std.proofs.lemmas.Cmp.{nat_cmp_total}
+use Rattle.std.proofs.lemmas.Map.Keys.{ge_from_not_lt}
 use Rattle.std.specs.declared.cmp.Ordering.{Ordering}
 use Rattle.std.specs.declared.cmp.Ordering.TheVariants.{Less, Equal, Greater}
 use Rattle.std.proofs.lemmas.List.{get_or-map, length-map, map-id}
@@ -231,13 +233,20 @@ pub both-last : (os ps : List Op) (p : Op) → AllByRecursion (λ q. id_cmp q.id
 both-last os [] p h = refl
 both-last os (q ∷ ps) p h = ap (with_op q) (both-last os ps p h.1) ∙ with-swap p q (both os ps) h.0
 
--- where it isn't there, it isn't when only lesser ones came in
-pub absent_both : (i : Id) (os ps : List Op) → has_id i (identifiers os) ≡ false → AllByRecursion (λ q. id_cmp q.id i ≡ Less) ps → has_id i (identifiers (both os ps)) ≡ false
+-- where it isn't there, it isn't when only others came in
+pub absent_both : (i : Id) (os ps : List Op) → has_id i (identifiers os) ≡ false → AllByRecursion (λ q. same_id i q.id ≡ false) ps → has_id i (identifiers (both os ps)) ≡ false
 absent_both i os [] e h = e
 absent_both i os (q ∷ ps) e h =
-    let later : id_cmp i q.id ≡ Greater = rising.less_greater ids_total q.id i h.0 in
-    let other : same_id i q.id ≡ false = rw later refl in
+    let other : same_id i q.id ≡ false = h.0 in
     ap (has_id i) (identifiers-with q (both os ps)) ∙ has_id-with i q.id (identifiers (both os ps)) ∙ rw other (absent_both i os ps e h.1)
+
+later_others : (i : Id) (ps : List Op) → AllByRecursion (λ q. id_cmp q.id i ≡ Less) ps → AllByRecursion (λ q. same_id i q.id ≡ false) ps
+later_others i [] h = tt
+later_others i (q ∷ ps) h = (rw (rising.less_greater ids_total q.id i h.0) refl, later_others i ps h.1)
+
+earlier_others : (i : Id) (ps : List Op) → AllByRecursion (λ j. id_cmp i j ≡ Less) (identifiers ps) → AllByRecursion (λ q. same_id i q.id ≡ false) ps
+earlier_others i [] h = tt
+earlier_others i (q ∷ ps) h = (rw (h.0) refl, earlier_others i ps h.1)
 
 -- in order, all before a place are less than what stands there
 pub before_place : (os : List Op) (n : ℕ) (d : Op) → AreInOrder os → n < length os → AllByRecursion (λ q. id_cmp q.id (get_or os n d).id ≡ Less) (take n os)
@@ -266,7 +275,7 @@ turn old fresh before o order new so_far at =
     let less = subst (λ (x : Op). AllByRecursion (λ q. id_cmp q.id x.id ≡ Less) (take n fresh)) (sym at.1) (before_place fresh n o order l) in
     let later = subst (λ (ps : List Op). AllByRecursion (λ q. id_cmp q.id o.id ≡ Less) ps) front less in
     let here : is_new old o ≡ true = subst (λ (x : Op). is_new old x ≡ true) (sym at.1) (rising.all_at (λ p. is_new old p ≡ true) fresh new n o l) in
-    record { later = later; absent = absent_both o.id old before (not_new (has_id o.id (identifiers old)) here) later }
+    record { later = later; absent = absent_both o.id old before (not_new (has_id o.id (identifiers old)) here) (later_others o.id before later) }
 
 -- where one that isn't there belongs
 pub belongs : (i : Id) (os : List Op) (r : Result ℕ ℕ) → has_id i (identifiers os) ≡ false → IsPlace i os r → IsErr r
@@ -282,3 +291,151 @@ pub standing : (i : Id) (os : List Op) (n : ℕ) (o : Op) → StandsAt i os n �
 standing i os n o p e =
     let same : get_or os n o ≡ p.operation = get_or_from_slice_get os n p.operation o p.entry in
     ap (λ (x : Op). Some x) (e ∙ same) ∙ sym p.found
+
+-- what is left of a list in order
+
+pub all_drop : {X : Type 0} (P : X → Type 0) (n : ℕ) (xs : List X) → AllByRecursion P xs → AllByRecursion P (drop n xs)
+all_drop P zero xs a = a
+all_drop P (suc n) [] a = tt
+all_drop P (suc n) (x ∷ xs) a = all_drop P n xs a.1
+
+pub all_filter : {X : Type 0} (P : X → Type 0) (f : X → Bool) (xs : List X) → AllByRecursion P xs → AllByRecursion P (filter f xs)
+all_filter P f [] a = tt
+all_filter P f (x ∷ xs) a = go (f x) refl (all_filter P f xs a.1)
+  where
+    go : (b : Bool) → f x ≡ b → AllByRecursion P (filter f xs) → AllByRecursion P (filter f (x ∷ xs))
+    go true e ih = rw e (a.0, ih)
+    go false e ih = rw e ih
+
+pub filter_all : {X : Type 0} (f : X → Bool) (xs : List X) → AllByRecursion (λ x. f x ≡ true) (filter f xs)
+filter_all f [] = tt
+filter_all f (x ∷ xs) = go (f x) refl (filter_all f xs)
+  where
+    go : (b : Bool) → f x ≡ b → AllByRecursion (λ y. f y ≡ true) (filter f xs) → AllByRecursion (λ y. f y ≡ true) (filter f (x ∷ xs))
+    go true e ih = rw e (e, ih)
+    go false e ih = rw e ih
+
+pub drop-in_order : (n : ℕ) (os : List Op) → AreInOrder os → AreInOrder (drop n os)
+drop-in_order zero os h = h
+drop-in_order (suc n) [] h = h
+drop-in_order (suc n) (o ∷ os) h = drop-in_order n os h.1
+
+less_filter : (i : Id) (f : Op → Bool) (os : List Op) → AllByRecursion (λ j. id_cmp i j ≡ Less) (identifiers os) → AllByRecursion (λ j. id_cmp i j ≡ Less) (identifiers (filter f os))
+less_filter i f [] h = tt
+less_filter i f (o ∷ os) h = go (f o) refl (less_filter i f os h.1)
+  where
+    go : (b : Bool) → f o ≡ b → AllByRecursion (λ j. id_cmp i j ≡ Less) (identifiers (filter f os)) → AllByRecursion (λ j. id_cmp i j ≡ Less) (identifiers (filter f (o ∷ os)))
+    go true e ih = rw e (h.0, ih)
+    go false e ih = rw e ih
+
+pub filter-in_order : (f : Op → Bool) (os : List Op) → AreInOrder os → AreInOrder (filter f os)
+filter-in_order f [] h = h
+filter-in_order f (o ∷ os) h = go (f o) refl (filter-in_order f os h.1)
+  where
+    go : (b : Bool) → f o ≡ b → AreInOrder (filter f os) → AreInOrder (filter f (o ∷ os))
+    go true e ih = rw e (less_filter o.id f os h.0, ih)
+    go false e ih = rw e ih
+
+-- new operations in order are found once they came in
+pub found_all : (os ps : List Op) → AreInOrder os → AreInOrder ps → AllByRecursion (λ p. is_new os p ≡ true) ps → AllByRecursion (λ p. op_of p.id (both os ps) ≡ Some p) ps
+found_all os [] h g n = tt
+found_all os (p ∷ ps) h g n =
+    let absent = absent_both p.id os ps (not_new (has_id p.id (identifiers os)) n.0) (earlier_others p.id ps g.0) in
+    (found_new p (both os ps) absent, others ps (found_all os ps h g.1 n.1))
+  where
+    others : (qs : List Op) → AllByRecursion (λ q. op_of q.id (both os ps) ≡ Some q) qs → AllByRecursion (λ q. op_of q.id (with_op p (both os ps)) ≡ Some q) qs
+    others [] a = tt
+    others (q ∷ qs) a = (found_with q.id p (both os ps) q (both-in_order os ps h) a.0, others qs a.1)
+
+-- taking out again what came in
+
+without-with : (ids : List Id) (p : Op) (os : List Op) → has_id p.id ids ≡ true → without_ops ids (with_op p os) ≡ without_ops ids os
+without-with ids p [] h = rw h refl
+without-with ids p (o ∷ os) h = go (id_cmp p.id o.id) refl (has_id o.id ids) refl (without-with ids p os h)
+  where
+    go : (c : Ordering) → id_cmp p.id o.id ≡ c → (b : Bool) → has_id o.id ids ≡ b → without_ops ids (with_op p os) ≡ without_ops ids os → without_ops ids (with_op p (o ∷ os)) ≡ without_ops ids (o ∷ os)
+    go Less e b f ih = rw (e, h) refl
+    go Equal e b f ih = rw e refl
+    go Greater e true f ih = rw (e, f) ih
+    go Greater e false f ih = rw (e, f) (ap (λ (x : List Op). o ∷ x) ih)
+
+without-both : (ids : List Id) (os ps : List Op) → AllByRecursion (λ p. has_id p.id ids ≡ true) ps → without_ops ids (both os ps) ≡ without_ops ids os
+without-both ids os [] a = refl
+without-both ids os (p ∷ ps) a = without-with ids p (both os ps) a.0 ∙ without-both ids os ps a.1
+
+without-none : (ids : List Id) (os : List Op) → AllByRecursion (λ o. has_id o.id ids ≡ false) os → without_ops ids os ≡ os
+without-none ids [] a = refl
+without-none ids (o ∷ os) a = rw (a.0) (ap (λ (x : List Op). o ∷ x) (without-none ids os a.1))
+
+among_more : (i : Id) (ids : List Id) (ps : List Op) → AllByRecursion (λ p. has_id p.id ids ≡ true) ps → AllByRecursion (λ p. has_id p.id (i ∷ ids) ≡ true) ps
+among_more i ids [] a = tt
+among_more i ids (p ∷ ps) a = (right_in (same_id p.id i) (has_id p.id ids) a.0, among_more i ids ps a.1)
+
+their_own : (ps : List Op) → AllByRecursion (λ p. has_id p.id (identifiers ps) ≡ true) ps
+their_own [] = tt
+their_own (p ∷ ps) = (left_in (same_id p.id p.id) (has_id p.id (identifiers ps)) (same_id-self p.id), among_more p.id (identifiers ps) ps (their_own ps))
+
+not_same_back : (i j : Id) → same_id i j ≡ false → same_id j i ≡ false
+not_same_back i j e = go (same_id j i) refl
+  where
+    go : (b : Bool) → same_id j i ≡ b → same_id j i ≡ false
+    go false f = f
+    go true f =
+        let same : j ≡ i = same_id-true j i f in
+        let no : true ≡ false = sym (same_id-self i) ∙ sym (ap (same_id i) same) ∙ e in
+        absurd (let z : ⊥ = cc in z)
+
+-- none of the old ones is among new ones
+not_among : (os ps : List Op) → AllByRecursion (λ p. is_new os p ≡ true) ps → AllByRecursion (λ o. has_id o.id (identifiers ps) ≡ false) os
+not_among [] ps n = tt
+not_among (o ∷ os) ps n = (head ps n, not_among os ps (tail ps n))
+  where
+    parts : (p : Op) → is_new (o ∷ os) p ≡ true → (same_id o.id p.id ≡ false) × (is_new os p ≡ true)
+    parts p e = pick (same_id p.id o.id) refl (not_new (has_id p.id (identifiers (o ∷ os))) e)
+      where
+        pick : (b : Bool) → same_id p.id o.id ≡ b → has_id p.id (identifiers (o ∷ os)) ≡ false → (same_id o.id p.id ≡ false) × (is_new os p ≡ true)
+        pick true f g = let no : true ≡ false = rw f at g in absurd (let z : ⊥ = cc in z)
+        pick false f g = let h : has_id p.id (identifiers os) ≡ false = rw f at g in (not_same_back p.id o.id f, ap not h)
+
+    head : (qs : List Op) → AllByRecursion (λ p. is_new (o ∷ os) p ≡ true) qs → has_id o.id (identifiers qs) ≡ false
+    head [] m = refl
+    head (q ∷ qs) m = rw ((parts q m.0).0) (head qs m.1)
+
+    tail : (qs : List Op) → AllByRecursion (λ p. is_new (o ∷ os) p ≡ true) qs → AllByRecursion (λ p. is_new os p ≡ true) qs
+    tail [] m = tt
+    tail (q ∷ qs) m = ((parts q m.0).1, tail qs m.1)
+
+pub taken_out : (os ps : List Op) → AllByRecursion (λ p. is_new os p ≡ true) ps → without_ops (identifiers ps) (both os ps) ≡ os
+taken_out os ps n = without-both (identifiers ps) os ps (their_own ps) ∙ without-none (identifiers ps) os (not_among os ps n)
+
+-- counters up to one
+
+le_counter : (i j : Id) → id_cmp i j ≡ Less → i.counter ≤ j.counter
+le_counter i j h = ge_from_not_lt j.counter i.counter (go (nat_cmp i.counter j.counter) refl)
+  where
+    go : (c : Ordering) → nat_cmp i.counter j.counter ≡ c → is_lt (nat_cmp j.counter i.counter) ≡ false
+    go Less e = rw (rising.less_greater nat_cmp_total i.counter j.counter e) refl
+    go Equal e = rw (rising.equal_back nat_cmp_total i.counter j.counter e) refl
+    go Greater e = let f : Greater ≡ Less = rw e at h in cc
+
+counters_rise : (os : List Op) (i j : ℕ) (d : Op) → AreInOrder os → i ≤ j → j < length os → (get_or os i d).id.counter ≤ (get_or os j d).id.counter
+counters_rise [] i j d h l m = absurd (omega arith)
+counters_rise (o ∷ os) zero zero d h l m = omega arith
+counters_rise (o ∷ os) zero (suc j) d h l m =
+    let x = get_or os j d in
+    let k : length (identifiers os) ≡ length os = length-map os (λ p. p.id) in
+    let at : get_or (identifiers os) j d.id ≡ x.id = get_or-map (λ (p : Op). p.id) os j d d.id (omega arith) in
+    le_counter o.id x.id (subst (λ (i : Id). id_cmp o.id i ≡ Less) at (rising.all_at {X = Id} (λ i. id_cmp o.id i ≡ Less) (identifiers os) h.0 j d.id (omega arith)))
+counters_rise (o ∷ os) (suc i) zero d h l m = absurd (omega arith)
+counters_rise (o ∷ os) (suc i) (suc j) d h l m = counters_rise os i j d h.1 (omega arith) (omega arith)
+
+pub partitioned : (os : List Op) (last : ℕ) → AreInOrder os → IsPartitionedBy (λ o. leb o.id.counter last) os
+partitioned os last h i j d l m e =
+    let c = counters_rise os i j d h l m in
+    let low = leb-true (get_or os j d).id.counter last e in
+    le-leb (get_or os i d).id.counter last (omega arith)
+
+pub front_low : (os : List Op) (last n : ℕ) → n ≤ length os → AllWithin (λ o. leb o.id.counter last ≡ true) os 0 n → AllByRecursion (λ o. o.id.counter ≤ last) (take n os)
+front_low os last zero l a = tt
+front_low [] last (suc n) l a = tt
+front_low (o ∷ os) last (suc n) l a = (leb-true o.id.counter last (a 0 o (omega arith) (omega arith)), front_low os last n (omega arith) (λ k d low high. a (suc k) d (omega arith) (omega arith)))

@@ -1,7 +1,10 @@
 -- How far nothing of a sender's operations is missing.
-use Rattle.std.proofs.Common.{◌≡◌, ◌≢◌, ℕ, zero, suc, ◌≤◌, ◌<◌, List, [], ◌∷◌, ◌++◌, length, get_or, take, drop, filter, map, Option, Some, None, Bool, true, false, not, ◌||◌, eqb, leb, eqb-true, eq-eqb, leb-true, le-leb, max, ◌⊎◌, inl, inr, refl, sym, ◌∙◌, ap, subst, arith}
+use Rattle.std.proofs.Common.{◌≡◌, ◌≢◌, ℕ, zero, suc, ◌-◌, length-drop, ◌≤◌, ◌<◌, List, [], ◌∷◌, ◌++◌, length, get_or, take, drop, remove, slice_get, filter, map, Option, Some, None, Result, Ok, Err, Bool, true, false, not, ◌||◌, eqb, leb, eqb-true, eq-eqb, leb-true, le-leb, max, ◌⊎◌, inl, inr, refl, sym, ◌∙◌, ap, subst, arith}
 use Rattle.std.proofs.Math.Nat.{eq-or-lt_of_le}
 use Rattle.std.proofs.lemmas.Bool.{cases_lt}
+use Rattle.std.proofs.lemmas.Option.{slice_get_past}
+use Rattle.std.proofs.lemmas.List.{take_all}
+use Rattle.std.specs.declared.cmp.Ordering.TheVariants.{Less, Equal}
 use Rattle.std.specs.List.{AllByRecursion}
 use Rattle.std.specs.Prelude.{Contains}
 use Rattle.jc_rules.specs.declared.id.Id.{Id}
@@ -11,15 +14,15 @@ use Rattle.jc_rules.specs.Filled.{filled, counted, greatest_of, lowered}
 use Rattle.jc_rules.specs.Ids.{AreRising, has_id, union}
 use Rattle.jc_rules.specs.Sound.{IsSound}
 use Rattle.jc_rules.specs.Table.{op_of, with_op, both}
-use Rattle.jc_rules.proofs.Ids.{same_id-true, same_id-self, has_id-with, same_members}
+use Rattle.jc_rules.proofs.Ids.{same_id-true, same_id-self, equal_itself, has_id-with, same_members}
 use Rattle.jc_rules.proofs.Filled.{not_true, left_in, right_in, both_ways, same_parts, member_below, reached, in_filled, filled_in, filled-rises, same_filled, greatest_least, greatest_of-filled, greatest_of-with, filled-with, greatest_here, greatest_there}
 use Rattle.jc_rules.proofs.Withdrawn.{in_filter, filter_in, filter-rises}
 use Rattle.jc_rules.proofs.Stands.{looked_up, counts}
 use Rattle.jc_sets.specs.States.{kept_op}
-use Rattle.jc_replica.specs.Operations.{identifiers, AreInOrder}
-use Rattle.jc_replica.specs.Received.{AreKeptOf, AreOwn, AreOfOne, AreAmong, IsWholeTo, none, more, IsKeptList, is_new}
+use Rattle.jc_replica.specs.Operations.{identifiers, AreInOrder, AreOwn}
+use Rattle.jc_replica.specs.Received.{StandsAt, IsPlace, AreKeptOf, AreAmong, IsWholeTo, none, more, IsKeptList, is_new}
 use Rattle.jc_replica.specs.Undo.{without_ops}
-use Rattle.jc_replica.proofs.Unions.{there_found, found_both, both-there, both-append, both-new, both-in_order, there_both}
+use Rattle.jc_replica.proofs.Unions.{taken_out, filter-in_order, filter_all, drop-in_order, all_filter, all_drop, found_all, there_found, found_both, both-there, both-append, both-new, both-in_order, there_both}
 
 pub found_in : (P : Op → Type 0) (i : Id) (os : List Op) (o : Op) → AllByRecursion P os → op_of i os ≡ Some o → P o
 found_in P i [] o a e = absurd (let f : ⊥ = cc in f)
@@ -252,3 +255,193 @@ module _ (p n : ℕ) (s : List Id) (e : s ≡ filled s) where
       go true d =
           let same : r ≡ p = eqb-true r p d in
           subst (λ (x : ℕ). IsWholeTo x ps (greatest_of x (lowered p n s))) (sym same) (subst (IsWholeTo p ps) (sym (lowered_own l)) own)
+
+-- without an operation
+
+not_same : (i j : Id) → (i ≡ j → ⊥) → same_id i j ≡ false
+not_same i j f = go (same_id i j) refl
+  where
+    go : (b : Bool) → same_id i j ≡ b → same_id i j ≡ false
+    go true e = absurd (f (same_id-true i j e))
+    go false e = e
+
+apart_other : (q m : ℕ) (i : Id) → eqb q i.replica ≡ false → same_id (record { counter = m; replica = q }) i ≡ false
+apart_other q m i d = not_same (record { counter = m; replica = q }) i (λ e. not_true (sym d ∙ eq-eqb q i.replica (ap (λ (j : Id). j.replica) e)))
+
+apart_less : (q m : ℕ) (i : Id) → m < i.counter → same_id (record { counter = m; replica = q }) i ≡ false
+apart_less q m i l = not_same (record { counter = m; replica = q }) i (λ e. let c : m ≡ i.counter = ap (λ (j : Id). j.counter) e in omega arith)
+
+-- the one next before an operation up to which nothing is missing
+whole_before : (q : ℕ) (os : List Op) (o : Op) → {n : ℕ} → IsWholeTo q os n → 0 < n → op_of (record { counter = n; replica = q }) os ≡ Some o → (greatest_of q o.deps < n) × IsWholeTo q os (greatest_of q o.deps)
+whole_before q os o none l f = absurd (omega arith)
+whole_before q os o (more {n = n} {o = p} found earlier rest) l f =
+    let two : Some p ≡ Some o = sym found ∙ f in
+    let same : p ≡ o = cc in
+    subst (λ (x : Op). (greatest_of q x.deps < n) × IsWholeTo q os (greatest_of q x.deps)) same (earlier, rest)
+
+-- the counter before an operation's, where it is the last one; else none
+pub record IsBefore (o : Op) (last before : ℕ) : Type 0 where
+  pub here : o.id.counter ≡ last → before ≡ greatest_of o.id.replica o.deps
+  pub there : (o.id.counter ≡ last → ⊥) → before ≡ 0
+
+module _ (o : Op) (s : List Id) (last before : ℕ) (e : s ≡ filled s) (le : last ≡ greatest_of o.id.replica s) (b : IsBefore o last before) (os : List Op) (found : op_of o.id os ≡ Some o) (whole : (q : ℕ) → IsWholeTo q os (greatest_of q s)) where
+  others_left : (r : ℕ) → eqb r o.id.replica ≡ false → IsWholeTo r (without_ops (o.id ∷ []) os) (greatest_of r s)
+  others_left r d = whole_without r o.id os (λ m l. apart_other r m o.id d) (whole r)
+
+  own_whole : IsWholeTo o.id.replica os last
+  own_whole = subst (IsWholeTo o.id.replica os) (sym le) (whole o.id.replica)
+
+  at_last : o.id.counter ≡ last → 0 < last → (greatest_of o.id.replica o.deps < last) × IsWholeTo o.id.replica os (greatest_of o.id.replica o.deps)
+  at_last c l =
+      let i : o.id ≡ record { counter = last; replica = o.id.replica } = same_parts o.id (record { counter = last; replica = o.id.replica }) c refl in
+      whole_before o.id.replica os o own_whole l (ap (λ (j : Id). op_of j os) (sym i) ∙ found)
+
+  pub lowered_missing : o.id.counter ≤ last → before < last → (q : ℕ) → IsWholeTo q (without_ops (o.id ∷ []) os) (greatest_of q (lowered o.id.replica before s))
+  lowered_missing l low = lowered_whole o.id.replica before s e os (without_ops (o.id ∷ []) os) (omega arith) others_left (go (eq-or-lt_of_le l))
+    where
+      go : (o.id.counter ≡ last) ⊎ (o.id.counter < last) → IsWholeTo o.id.replica (without_ops (o.id ∷ []) os) before
+      go (inl c) =
+          let w = at_last c (omega arith) in
+          let is = b.here c in
+          let less = w.0 in
+          subst (IsWholeTo o.id.replica (without_ops (o.id ∷ []) os)) (sym is) (whole_without o.id.replica o.id os (λ m k. apart_less o.id.replica m o.id (omega (arith, c, less))) w.1)
+      go (inr c) = subst (IsWholeTo o.id.replica (without_ops (o.id ∷ []) os)) (sym (b.there (λ f. omega arith))) none
+
+  pub kept_missing : ((o.id.counter ≤ last) × (last ≤ before)) ⊎ (last < o.id.counter) → (q : ℕ) → IsWholeTo q (without_ops (o.id ∷ []) os) (greatest_of q s)
+  kept_missing k q = go (eqb q o.id.replica) refl
+    where
+      own_left : ((o.id.counter ≤ last) × (last ≤ before)) ⊎ (last < o.id.counter) → IsWholeTo o.id.replica (without_ops (o.id ∷ []) os) last
+      own_left (inr l) = whole_without o.id.replica o.id os (λ m n. apart_less o.id.replica m o.id (omega arith)) own_whole
+      own_left (inl l) = zeros (cases_lt 0 last) (eq-or-lt_of_le l.0)
+        where
+          zeros : (0 < last) ⊎ (last ≤ 0) → (o.id.counter ≡ last) ⊎ (o.id.counter < last) → IsWholeTo o.id.replica (without_ops (o.id ∷ []) os) last
+          zeros (inr z) c = let n : 0 ≡ last = omega arith in subst (IsWholeTo o.id.replica (without_ops (o.id ∷ []) os)) n none
+          zeros (inl z) (inl c) = let w = at_last c z in let is = b.here c in let less = w.0 in let no = l.1 in absurd (omega arith)
+          zeros (inl z) (inr c) = let is = b.there (λ f. omega arith) in let no = l.1 in absurd (omega arith)
+
+      go : (d : Bool) → eqb q o.id.replica ≡ d → IsWholeTo q (without_ops (o.id ∷ []) os) (greatest_of q s)
+      go false d = others_left q d
+      go true d =
+          let same : q ≡ o.id.replica = eqb-true q o.id.replica d in
+          subst (λ (r : ℕ). IsWholeTo r (without_ops (o.id ∷ []) os) (greatest_of r s)) (sym same) (subst (IsWholeTo o.id.replica (without_ops (o.id ∷ []) os)) le (own_left k))
+
+-- what one operation less keeps in order
+pub without-in_order : (ids : List Id) (os : List Op) → AreInOrder os → AreInOrder (without_ops ids os)
+without-in_order ids os h = filter-in_order (λ o. not (has_id o.id ids)) os h
+
+-- taking one out, by its place
+
+pub without_absent : (i : Id) (os : List Op) → op_of i os ≡ None → without_ops (i ∷ []) os ≡ os
+without_absent i [] h = refl
+without_absent i (o ∷ os) h = go (same_id i o.id) refl (same_id o.id i) refl (without_absent i os)
+  where
+    go : (b : Bool) → same_id i o.id ≡ b → (d : Bool) → same_id o.id i ≡ d → (op_of i os ≡ None → without_ops (i ∷ []) os ≡ os) → without_ops (i ∷ []) (o ∷ os) ≡ o ∷ os
+    go true e d f ih = let no : Some o ≡ None = rw e at h in cc
+    go false e true f ih = let same : o.id ≡ i = same_id-true o.id i f in not_true (sym e ∙ ap (λ (j : Id). same_id i j) same ∙ same_id-self i)
+    go false e false f ih = rw f (ap (λ (x : List Op). o ∷ x) (ih (rw e at h)))
+
+absent_below : (i : Id) (os : List Op) → AllByRecursion (λ j. id_cmp i j ≡ Less) (identifiers os) → op_of i os ≡ None
+absent_below i [] h = refl
+absent_below i (o ∷ os) h = rw (h.0) (absent_below i os h.1)
+
+pub standing_within : (i : Id) (os : List Op) (n : ℕ) → StandsAt i os n → n < length os
+standing_within i os n s = go (cases_lt n (length os))
+  where
+    go : (n < length os) ⊎ (length os ≤ n) → n < length os
+    go (inl l) = l
+    go (inr l) = let no : None ≡ Some s.operation = sym (slice_get_past os n l) ∙ s.entry in cc
+
+pub without_standing : (i : Id) (os : List Op) (n : ℕ) (o : Op) → AreInOrder os → slice_get os n ≡ Some o → o.id ≡ i → without_ops (i ∷ []) os ≡ remove os n
+without_standing i [] n o h e is = cc
+without_standing i (p ∷ os) zero o h e is =
+    let two : Some p ≡ Some o = e in
+    let same : p ≡ o = cc in
+    let own : p.id ≡ i = ap (λ (x : Op). x.id) same ∙ is in
+    let here : same_id p.id i ≡ true = ap (λ (j : Id). same_id j i) own ∙ same_id-self i in
+    let below = subst (λ (j : Id). AllByRecursion (λ k. id_cmp j k ≡ Less) (identifiers os)) own h.0 in
+    rw here (without_absent i os (absent_below i os below))
+without_standing i (p ∷ os) (suc n) o h e is =
+    let other : same_id p.id i ≡ false = not_same p.id i (λ f. later os n h.0 e f) in
+    rw other (ap (λ (x : List Op). p ∷ x) (without_standing i os n o h.1 e is))
+  where
+    later : (qs : List Op) (m : ℕ) → AllByRecursion (λ j. id_cmp p.id j ≡ Less) (identifiers qs) → slice_get qs m ≡ Some o → p.id ≡ i → ⊥
+    later [] m a g f = cc
+    later (q ∷ qs) zero a g f =
+        let two : Some q ≡ Some o = g in
+        let same : q ≡ o = cc in
+        let at : q.id ≡ p.id = ap (λ (x : Op). x.id) same ∙ is ∙ sym f in
+        let no : Equal ≡ Less = sym (equal_itself p.id) ∙ sym (ap (id_cmp p.id) at) ∙ a.0 in
+        cc
+    later (q ∷ qs) (suc m) a g f = later qs m a.1 g f
+
+-- what the type keeps without it
+pub taken_out_kept : (o : Op) (os : List Op) (s new : List Id) → IsKeptList os s → op_of o.id os ≡ Some o → new ≡ filled new → ((ps : List Op) → op_of o.id ps ≡ Some o → ((q : ℕ) → IsWholeTo q ps (greatest_of q s)) → (q : ℕ) → IsWholeTo q (without_ops (o.id ∷ []) ps) (greatest_of q new)) → IsKeptList (without_ops (o.id ∷ []) os) new
+taken_out_kept o os s new k found e h = record { order = without-in_order (o.id ∷ []) os k.order; filled = e; missing = h os found k.missing }
+
+-- what comes in of what is offered
+module _ (os ps : List Op) (n : ℕ) (fresh : List Op) (is : fresh ≡ filter (is_new os) (drop n ps)) where
+  pub fresh_new : AllByRecursion (λ p. is_new os p ≡ true) fresh
+  fresh_new = subst (λ (x : List Op). AllByRecursion (λ p. is_new os p ≡ true) x) (sym is) (filter_all (is_new os) (drop n ps))
+
+  pub fresh_order : AreInOrder ps → AreInOrder fresh
+  fresh_order h = subst AreInOrder (sym is) (filter-in_order (is_new os) (drop n ps) (drop-in_order n ps h))
+
+  pub fresh_all : (P : Op → Type 0) → AllByRecursion P ps → AllByRecursion P fresh
+  fresh_all P a = subst (λ (x : List Op). AllByRecursion P x) (sym is) (all_filter P (is_new os) (drop n ps) (all_drop P n ps a))
+
+  pub united_with : (set : List Op) (q last : ℕ) → AreInOrder os → IsSound set → AreKeptOf set os → AreKeptOf set ps → AreOwn q ps → AllByRecursion (λ p. p.id.counter ≤ last) (take n ps) → IsWholeTo q os last → both os fresh ≡ both os ps
+  united_with set q last order sound kept of own low whole = ap (both os) is ∙ united set q last n os ps order sound kept of own low whole
+
+pub united_kept : (os fresh : List Op) (s new : List Id) (q last counter : ℕ) → IsKeptList os s → AreInOrder fresh → AllByRecursion (λ p. is_new os p ≡ true) fresh → last ≡ greatest_of q s → ((xs : List Op) → AreAmong fresh xs → IsWholeTo q xs last → IsWholeTo q xs counter) → new ≡ union (counted q counter) s → IsKeptList (both os fresh) new
+united_kept os fresh s new q last counter k order fn le w ne =
+    let still = λ (r : ℕ). whole_on r os (both os fresh) (λ i o. found_both i os fresh o k.order) (k.missing r) in
+    record {
+      order = both-in_order os fresh k.order;
+      filled = inserted_filled (record { counter = counter; replica = q }) s new k.filled ne;
+      missing = inserted_whole q counter s new (both os fresh) k.filled ne still (w (both os fresh) (found_all os fresh k.order order fn) (subst (IsWholeTo q (both os fresh)) (sym le) (still q)));
+    }
+
+pub none_came : (fresh : List Op) (came : List Id) → came ≡ identifiers fresh → length came ≡ 0 → fresh ≡ []
+none_came [] came e z = refl
+none_came (p ∷ fresh) [] e z = cc
+none_came (p ∷ fresh) (i ∷ came) e z = absurd (omega arith)
+
+-- where a search found no place
+pub place_absent : (i : Id) (os : List Op) (r : Result ℕ ℕ) → IsPlace i os r → ((n : ℕ) → r ≡ Ok n → ⊥) → op_of i os ≡ None
+place_absent i os (Ok n) p h = absurd (h n refl)
+place_absent i os (Err n) p h = p.absent
+
+-- all from a place on
+pub rest_is : (n : ℕ) (os : List Op) → take (length os - n) (drop n os) ≡ drop n os
+rest_is n os = take_all (length os - n) (drop n os) (omega (arith, length-drop n os))
+
+-- taking out the last of these, and then the others
+
+has_id-last : (k i : Id) (is : List Id) → has_id k (is ++ i ∷ []) ≡ has_id k is || same_id k i
+has_id-last k i [] = go (same_id k i)
+  where
+    go : (b : Bool) → b || false ≡ b
+    go true = refl
+    go false = refl
+has_id-last k i (j ∷ is) = go (same_id k j) (has_id-last k i is)
+  where
+    go : (b : Bool) → has_id k (is ++ i ∷ []) ≡ has_id k is || same_id k i → b || has_id k (is ++ i ∷ []) ≡ (b || has_id k is) || same_id k i
+    go true e = refl
+    go false e = e
+
+pub without-last : (is : List Id) (i : Id) (os : List Op) → without_ops (is ++ i ∷ []) os ≡ without_ops is (without_ops (i ∷ []) os)
+without-last is i [] = refl
+without-last is i (o ∷ os) = go (has_id o.id is) refl (same_id o.id i) refl (without-last is i os)
+  where
+    all : has_id o.id (is ++ i ∷ []) ≡ has_id o.id is || same_id o.id i
+    all = has_id-last o.id i is
+
+    go : (b : Bool) → has_id o.id is ≡ b → (d : Bool) → same_id o.id i ≡ d → without_ops (is ++ i ∷ []) os ≡ without_ops is (without_ops (i ∷ []) os) → without_ops (is ++ i ∷ []) (o ∷ os) ≡ without_ops is (without_ops (i ∷ []) (o ∷ os))
+    go true e true f ih = let a : has_id o.id (is ++ i ∷ []) ≡ true = all ∙ rw e refl in rw (a, f) ih
+    go true e false f ih = let a : has_id o.id (is ++ i ∷ []) ≡ true = all ∙ rw e refl in rw (a, f, e) ih
+    go false e true f ih = let a : has_id o.id (is ++ i ∷ []) ≡ true = all ∙ rw (e, f) refl in rw (a, f) ih
+    go false e false f ih = let a : has_id o.id (is ++ i ∷ []) ≡ false = all ∙ rw (e, f) refl in rw (a, f, e) (ap (λ (x : List Op). o ∷ x) ih)
+
+pub without_nothing : (is : List Id) (os : List Op) → length is ≡ 0 → without_ops is os ≡ os
+without_nothing [] os z = taken_out os [] tt
+without_nothing (i ∷ is) os z = absurd (omega arith)

@@ -7,7 +7,7 @@ use Rattle.jc_rules.specs.Filled.{filled, greatest_of}
 use Rattle.jc_rules.specs.Ids.{has_id}
 use Rattle.jc_rules.specs.Table.{op_of, with_op}
 use Rattle.jc_sets.specs.States.{kept_op}
-use Rattle.jc_replica.specs.Operations.{identifiers, AreInOrder}
+use Rattle.jc_replica.specs.Operations.{identifiers, AreInOrder, AreOwn}
 
 -- the operation with the identifier stands there
 pub record StandsAt (i : Id) (os : List Op) (n : ℕ) : Type 0 where
@@ -28,15 +28,6 @@ IsPlace i os (Err n) = BelongsAt i os n
 -- no operation of the list has the identifier of this one
 abbrev pub is_new : List Op → Op → Bool
 is_new os p = not (has_id p.id (identifiers os))
-
--- all are one replica's own
-abbrev pub AreOwn : ℕ → List Op → Type 0
-AreOwn q os = AllByRecursion (λ o. o.id.replica ≡ q) os
-
--- all are that replica's own whose the first one is
-abbrev pub AreOfOne : List Op → Type 0
-AreOfOne [] = Unit {0}
-AreOfOne (o ∷ os) = AreOwn o.id.replica os
 
 -- each is an operation of the set as it is kept
 abbrev pub AreKeptOf : List Op → List Op → Type 0

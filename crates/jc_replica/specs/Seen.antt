@@ -8,6 +8,7 @@ use Rattle.jc_rules.specs.State.{State}
 use Rattle.jc_rules.specs.Table.{op_of, with_op}
 use Rattle.jc_rules.specs.Trace.{Rows}
 use Rattle.jc_sets.specs.States.{StateStandsFor, HasOwn, kept_op, AreOf}
+use Rattle.jc_replica.specs.Operations.{AreOfOne}
 use Rattle.jc_replica.specs.Past.{no_rows}
 
 -- The kept state of the replica p stands for the state A in the sound set of operations, all of p's own among them
@@ -16,10 +17,11 @@ pub record IsSeenAs (set : List Op) (p : ℕ) (A kept : State) : Type 0 where
   pub stands : StateStandsFor set A kept
   pub own : HasOwn set p A
 
--- the operations of the set that are read, as they are kept
+-- the operations of the set that are read, as they are kept: what one replica offers, of its own
 pub record IsRead (set os read : List Op) : Type 0 where
   pub of : AreOf set os
   pub is : read ≡ map kept_op os
+  pub one : AreOfOne read
 
 -- with the operation that was made, if one was
 abbrev pub grown : Option Op → List Op → List Op

@@ -1,13 +1,14 @@
 //! The operations that a replica received.
 
-ghost use Rattle.std.specs.Prelude.{◌≡◌, ◌≤◌, ◌+◌, ◌∷◌, List, [], true, IfOk, OnOk, OnErr, option_copied, vec_len, vec_capacity, filter};
+ghost use Rattle.std.specs.Prelude.{◌≡◌, ◌≤◌, ◌+◌, ◌∷◌, ℕ, List, [], Some, true, IfOk, OnOk, OnErr, option_copied, vec_len, vec_capacity, length, take, filter};
 ghost use Rattle.std.specs.List.{AllByRecursion};
 ghost use Rattle.jc_rules.specs.declared.operation.Op.{Op as AnyOp};
+ghost use Rattle.jc_rules.specs.Filled.{filled, greatest_of};
 ghost use Rattle.jc_rules.specs.Sound.{IsSound};
 ghost use Rattle.jc_rules.specs.Table.{op_of, both};
-ghost use Rattle.jc_replica.specs.Operations.{identifiers, AreInOrder, AreHanded};
+ghost use Rattle.jc_replica.specs.Operations.{identifiers, AreInOrder, AreHanded, AreOwn, AreOfOne};
 ghost use Rattle.jc_replica.specs.Undo.{without_ops};
-ghost use Rattle.jc_replica.specs.Received.{IsPlace, AreOwn, AreOfOne, AreKeptOf, IsWholeTo, AreAmong, is_new};
+ghost use Rattle.jc_replica.specs.Received.{IsPlace, AreKeptOf, IsWholeTo, AreAmong, is_new};
 
 use jc_rules::{Id, IdSet, Op};
 use std::alloc::{AllocError, Global};
@@ -44,6 +45,25 @@ fn place_of(ops: &[Op], id: Id) -> Result<usize, usize>
     ops.binary_search_by_key(&id, |op| op.id)
 }
 
+/// The replica whose own they are.
+fn sender_of(offered: &[Op]) -> u16
+    ensures { AreOfOne offered.now → AreOwn result offered.now }
+{
+    match offered {
+        [first, ..] => first.id.replica,
+        [] => 0,
+    }
+}
+
+/// How many of the operations have counters up to this one.
+fn up_to(offered: &[Op], last: u64) -> usize
+    requires { AreInOrder offered.now }
+    ensures bound { result ≤ length offered.now }
+    ensures low { AllByRecursion (λ o. o.id.counter ≤ last) (take result offered.now) }
+{
+    offered.partition_point(|op| op.id.counter <= last)
+}
+
 /// Copies of the operations that aren't there yet.
 fn new_ones(alloc: Global, ops: &[Op], offered: &[Op]) -> Result<Vec<Op>, AllocError>
     requires { AreInOrder ops.now }
@@ -72,12 +92,14 @@ fn ids_of(alloc: Global, ops: &[Op]) -> Result<Vec<Id>, AllocError>
 /// The counter up to which nothing of the replica's own is missing once these are there, where
 /// nothing was up to `from`: each depends on all that its replica made before it.
 fn whole_to(ops: &[Op], replica: u16, from: u64) -> u64
-    requires { AreOwn replica ops.now }
     ensures { (os : List AnyOp) → AreAmong ops.now os → IsWholeTo replica os from → IsWholeTo replica os result }
 {
     let mut last = from;
     for op in ops {
-        if op.deps.greatest_of(replica) != last || op.id.counter <= last {
+        if op.id.replica != replica
+            || op.id.counter <= last
+            || op.deps.greatest_of(replica) != last
+        {
             break;
         }
         last = op.id.counter;
@@ -96,6 +118,30 @@ fn bring_in(ops: &mut Vec<Op>, fresh: Vec<Op>)
     for op in fresh {
         let place = place_of(ops.as_slice(), op.id).unwrap_err();
         ops.insert(place, op).unwrap();
+    }
+}
+
+/// Lowers the counter of the operation's replica to one up to which nothing is missing without it.
+fn lower(whole: &mut IdSet, op: &Op)
+    requires { whole.old ≡ filled whole.old }
+    ensures filled { whole.new ≡ filled whole.new }
+    ensures missing { (os : List AnyOp) → op_of op.now.id os ≡ Some op.now
+        → ((q : ℕ) → IsWholeTo q os (greatest_of q whole.old))
+        → (q : ℕ) → IsWholeTo q (without_ops (op.now.id ∷ []) os) (greatest_of q whole.new) }
+{
+    let id = op.id;
+    let last = whole.greatest_of(id.replica);
+    let before = if id.counter == last {
+        op.deps.greatest_of(id.replica)
+    } else {
+        0
+    };
+    if id.counter <= last && before < last {
+        let greatest = Id {
+            counter: last,
+            replica: id.replica,
+        };
+        whole.withdraw(greatest, before);
     }
 }
 
@@ -128,24 +174,21 @@ impl Received {
         }
     }
 
-    /// Takes in what one replica offers, and gives the identifiers of what came in. After a refusal
-    /// all is as it was.
+    /// Takes in what one replica offers, which is its own, and gives the identifiers of what came in.
+    /// After a refusal all is as it was.
     pub fn unite(&mut self, alloc: Global, offered: &[Op]) -> Result<Vec<Id>, AllocError>
-        requires own { AreOfOne offered.now }
-        requires order { AreInOrder offered.now }
-        ensures ok { OnOk result ((set : List AnyOp) → IsSound set → AreKeptOf set self.old → AreKeptOf set offered.now
+        requires { AreInOrder offered.now }
+        ensures ok { OnOk result ((set : List AnyOp) → IsSound set
+            → AreKeptOf set self.old → AreKeptOf set offered.now → AreOfOne offered.now
             → self.new ≡ both self.old offered.now) }
         ensures back { IfOk result (λ came. without_ops came.items self.new ≡ self.old) }
         ensures order { AreInOrder self.new }
         ensures handed { AreHanded self.old → AreHanded offered.now → AreHanded self.new }
         ensures err { OnErr result (self.new ≡ self.old) }
     {
-        let Some(first) = offered.first() else {
-            return Ok(Vec::new(alloc));
-        };
-        let sender = first.id.replica;
+        let sender = sender_of(offered);
         let last = self.whole.greatest_of(sender);
-        let start = offered.partition_point(|op| op.id.counter <= last);
+        let start = up_to(offered, last);
         let fresh = new_ones(alloc, self.ops.as_slice(), &offered[start..])?;
         let came = ids_of(alloc, fresh.as_slice())?;
         if came.is_empty() {
@@ -168,19 +211,7 @@ impl Received {
         let Ok(place) = place_of(self.ops.as_slice(), id) else {
             return;
         };
-        let last = self.whole.greatest_of(id.replica);
-        if 0 < last && id.counter <= last {
-            let before = if id.counter == last {
-                self.ops[place].deps.greatest_of(id.replica)
-            } else {
-                0
-            };
-            let greatest = Id {
-                counter: last,
-                replica: id.replica,
-            };
-            self.whole.withdraw(greatest, before);
-        }
+        lower(&mut self.whole, &self.ops[place]);
         self.ops.remove(place);
     }
 

@@ -1,4 +1,4 @@
-use Rattle.std.proofs.Common.{List, Some, ◌≡◌, sym, subst, get_or}
+use Rattle.std.proofs.Common.{List, Some, ◌≡◌, sym, ◌∙◌, subst, get_or, arith}
 use Rattle.jc_rules.specs.declared.operation.Op.{Op}
 use Rattle.jc_rules.specs.Table.{op_of}
 use Rattle.jc_rules.proofs.Rising.{all_at}
@@ -9,6 +9,5 @@ pub loop-op-preserved : goal.loop-op-preserved
 loop-op-preserved c = λ os among start.
     let o = c.op-item.result in
     let q = c.args.replica in
-    let own : o.id.replica ≡ q = subst (λ (x : Op). x.id.replica ≡ q) (sym c.op-item.is) (all_at (λ x. x.id.replica ≡ q) c.args.ops.now c.requires c.loop-op.op-index o c.loop-op-test.true) in
     let there : op_of o.id os ≡ Some o = subst (λ (x : Op). op_of x.id os ≡ Some x) (sym c.op-item.is) (all_at (λ x. op_of x.id os ≡ Some x) c.args.ops.now among c.loop-op.op-index o c.loop-op-test.true) in
-    whole_more q c.loop-op.last o os own there ? ? (c.loop-op.invariant os among start)
+    whole_more q c.loop-op.last o os c.if-op-replica.false there (sym c.greatest_of.ensures.exact ∙ c.if-greatest_of-last.false) c.if-op-last.false (c.loop-op.invariant os among start)
