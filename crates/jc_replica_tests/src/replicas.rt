@@ -1,8 +1,12 @@
 //! Replicas with scripts that are written out.
 
+ghost use Rattle.std.specs.Prelude.{◌≡◌, ◌&&◌, leb};
+ghost use Rattle.std.specs.List.{list_all};
+ghost use Rattle.jc_rules.specs.declared.operation.Op.{Op as AnyOp};
+
 use jc_parser::parse_script;
-use jc_replica::Replica;
-use jc_rules::Id;
+use jc_replica::{Replica, ReplicaFault};
+use jc_rules::{Id, Op, Trace};
 use jc_tree::PlainTree;
 use std::alloc::Global;
 use std::process::Abort;
@@ -36,4 +40,36 @@ pub fn go_back(rt: &impl Abort, replica: &mut Replica<PlainTree>, steps: u64) {
     for step in 0..steps {
         assert!(rt; replica.undo(), "{step}");
     }
+}
+
+/// Whether each counter is one that a replica may be handed.
+fn are_handed(ops: &[Op]) -> bool
+    ensures { result ≡ list_all (λ (o : AnyOp). leb 1 o.id.counter && leb o.id.counter 4194304) ops.now }
+{
+    ops.iter()
+        .all(|op| 1 <= op.id.counter && op.id.counter <= 4_194_304)
+}
+
+/// The one replica receives what the other one offers.
+#[tactic(auto, using(crate::proofs::Handed::handed))]
+pub fn receive(
+    rt: &impl Abort,
+    alloc: Global,
+    to: &mut Replica<PlainTree>,
+    from: &Replica<PlainTree>,
+) -> Result<Trace, ReplicaFault> {
+    let offered = from.sent();
+    assert!(rt; are_handed(offered));
+    to.recv(alloc, offered)
+}
+
+/// The replica receives what it offers itself.
+#[tactic(auto, using(crate::proofs::Handed::handed))]
+pub fn receive_own(
+    rt: &impl Abort,
+    alloc: Global,
+    replica: &mut Replica<PlainTree>,
+) -> Result<Trace, ReplicaFault> {
+    assert!(rt; are_handed(replica.sent()));
+    replica.recv_own(alloc)
 }

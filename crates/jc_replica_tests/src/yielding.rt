@@ -1,8 +1,44 @@
 //! Events of yields: what they do, and why they are refused.
 
-use crate::expecting::{expect_counts, expect_number, expect_state};
-use crate::replicas::{id, replica, run};
+use crate::expecting::{expect_counts, expect_number, expect_rows, expect_state, expect_tree};
+use crate::replicas::{go_back, id, receive, receive_own, replica, run};
+use jc_replica::Replica;
+use jc_rules::Rule;
+use jc_tree::PlainTree;
+use std::alloc::Global;
+use std::process::Abort;
 use std::test::Fail;
+
+/// The insert of a lesser element where a greater one stands.
+const PAST_A_GREATER: [(Rule, u64); 16] = [
+    (Rule::ApplyRemote, 0),
+    (Rule::Descend, 1),
+    (Rule::ChildGet, 2),
+    (Rule::Descend, 2),
+    (Rule::ChildGet, 3),
+    (Rule::Insert2, 3),
+    (Rule::Insert1, 4),
+    (Rule::Assign, 5),
+    (Rule::ClearNone, 6),
+    (Rule::AddId1, 6),
+    (Rule::Presence2, 7),
+    (Rule::ChildReg, 6),
+    (Rule::AddId1, 3),
+    (Rule::Presence1, 4),
+    (Rule::AddId1, 2),
+    (Rule::Presence1, 3),
+];
+
+/// A map that one replica deleted while the other one assigned a key in it.
+const DELETED_AND_ASSIGNED: &str =
+    "{\"mapT(doc)\":{\"mapT(\\\"m\\\")\":{\"pres(\\\"k\\\")\":[\"2@b\"],\"regT(\\\"k\\\")\":{\"2@b\":{\"n\":\"1\"}}},\"pres(\\\"m\\\")\":[\"2@b\"]},\"pres(doc)\":[\"1@a\",\"2@b\"]}";
+
+/// A list in which both replicas inserted at its head.
+const MET: &str =
+    "{\"mapT(doc)\":{\"listT(\\\"l\\\")\":{\"next(2@a)\":\"tail\",\"next(2@b)\":\"2@a\",\"next(head)\":\"2@b\",\"pres(2@a)\":[\"2@a\"],\"pres(2@b)\":[\"2@b\"],\"regT(2@a)\":{\"2@a\":\"x\"},\"regT(2@b)\":{\"2@b\":\"y\"}},\"pres(\\\"l\\\")\":[\"1@a\",\"2@a\",\"2@b\"]},\"pres(doc)\":[\"1@a\",\"2@a\",\"2@b\"]}";
+
+const ASSIGNED_TWICE: &str =
+    "{\"mapT(doc)\":{\"pres(\\\"a\\\")\":[\"1@a\",\"2@a\"],\"regT(\\\"a\\\")\":{\"2@a\":{\"n\":\"2\"}}},\"pres(doc)\":[\"1@a\",\"2@a\"]}";
 
 #[test]
 fn refusals(rt: HostRuntime) -> Result<(), Fail> {
@@ -12,10 +48,88 @@ fn refusals(rt: HostRuntime) -> Result<(), Fail> {
     run(&rt, alloc, &mut a, 1);
     expect_number(&rt, &a.done(alloc), 33);
     expect_number(&rt, &a.send(alloc), 0);
-    expect_counts(&rt, &a, 1, 1, 0);
+    expect_number(&rt, &receive_own(&rt, alloc, &mut a), 0);
+    expect_counts(&rt, &a, 1, 1, 1);
+    expect_number(&rt, &a.apply(alloc, id(1, 0)), 35);
+    expect_number(&rt, &a.apply(alloc, id(9, 0)), 34);
     expect_number(&rt, &a.exec(alloc), 31);
     expect_number(&rt, &a.done(alloc), 0);
     expect_number(&rt, &a.done(alloc), 30);
-    expect_state(&rt, &a, 0, false, &[id(1, 0)]);
+    expect_number(&rt, &receive_own(&rt, alloc, &mut a), 30);
+    go_back(&rt, &mut a, 1);
+    expect_state(&rt, &a, 1, true, &[id(1, 0)]);
+    Ok(())
+}
+
+#[test]
+fn dependency_missing(rt: HostRuntime) -> Result<(), Fail> {
+    let alloc = rt.alloc();
+    let script = "doc.get(\"a\") := 1; doc.get(\"a\") := 2; yield";
+    let mut a = replica(&rt, alloc, 0, script)?;
+    let mut b = replica(&rt, alloc, 1, "yield")?;
+    run(&rt, alloc, &mut a, 2);
+    expect_number(&rt, &a.send(alloc), 0);
+    expect_number(&rt, &receive(&rt, alloc, &mut b, &a), 0);
+    expect_number(&rt, &b.apply(alloc, id(2, 0)), 36);
+    expect_number(&rt, &b.apply(alloc, id(1, 0)), 0);
+    expect_number(&rt, &b.apply(alloc, id(2, 0)), 0);
+    expect_state(&rt, &b, 1, true, &[id(1, 0), id(2, 0)]);
+    expect_counts(&rt, &b, 0, 0, 2);
+    expect_tree(&rt, alloc, &b, ASSIGNED_TWICE)?;
+    go_back(&rt, &mut b, 2);
+    expect_state(&rt, &b, 1, true, &[]);
+    expect_tree(&rt, alloc, &b, "{}")?;
+    go_back(&rt, &mut b, 1);
+    expect_state(&rt, &b, 1, false, &[]);
+    expect_counts(&rt, &b, 0, 0, 0);
+    Ok(())
+}
+
+/// Both replicas know the first operation of `a`, and each has run another command.
+fn apart(rt: &impl Abort, alloc: Global, a: &mut Replica<PlainTree>, b: &mut Replica<PlainTree>) {
+    run(rt, alloc, a, 1);
+    expect_number(rt, &a.send(alloc), 0);
+    expect_number(rt, &a.done(alloc), 0);
+    expect_number(rt, &receive(rt, alloc, b, a), 0);
+    expect_number(rt, &b.apply(alloc, id(1, 0)), 0);
+    expect_number(rt, &b.done(alloc), 0);
+    run(rt, alloc, a, 1);
+    run(rt, alloc, b, 1);
+    expect_number(rt, &a.send(alloc), 0);
+    expect_number(rt, &b.send(alloc), 0);
+    expect_number(rt, &receive(rt, alloc, a, b), 0);
+    expect_number(rt, &receive(rt, alloc, b, a), 0);
+    expect_number(rt, &a.apply(alloc, id(2, 1)), 0);
+}
+
+#[test]
+fn deletion_meets(rt: HostRuntime) -> Result<(), Fail> {
+    let alloc = rt.alloc();
+    let script = "doc.get(\"m\") := {}; yield; doc.get(\"m\").delete; yield";
+    let mut a = replica(&rt, alloc, 0, script)?;
+    let script = "yield; doc.get(\"m\").get(\"k\") := 1; yield";
+    let mut b = replica(&rt, alloc, 1, script)?;
+    apart(&rt, alloc, &mut a, &mut b);
+    expect_number(&rt, &b.apply(alloc, id(2, 0)), 0);
+    expect_tree(&rt, alloc, &a, DELETED_AND_ASSIGNED)?;
+    expect_tree(&rt, alloc, &b, DELETED_AND_ASSIGNED)?;
+    expect_state(&rt, &a, 1, true, &[id(1, 0), id(2, 0), id(2, 1)]);
+    expect_state(&rt, &b, 1, true, &[id(1, 0), id(2, 0), id(2, 1)]);
+    expect_counts(&rt, &a, 2, 2, 1);
+    expect_counts(&rt, &b, 1, 1, 2);
+    Ok(())
+}
+
+#[test]
+fn inserts_meet(rt: HostRuntime) -> Result<(), Fail> {
+    let alloc = rt.alloc();
+    let script = "doc.get(\"l\") := []; yield; doc.get(\"l\").idx(0).insertAfter(\"x\"); yield";
+    let mut a = replica(&rt, alloc, 0, script)?;
+    let script = "yield; doc.get(\"l\").idx(0).insertAfter(\"y\"); yield";
+    let mut b = replica(&rt, alloc, 1, script)?;
+    apart(&rt, alloc, &mut a, &mut b);
+    expect_rows(&rt, &b.apply(alloc, id(2, 0)), &PAST_A_GREATER);
+    expect_tree(&rt, alloc, &a, MET)?;
+    expect_tree(&rt, alloc, &b, MET)?;
     Ok(())
 }
