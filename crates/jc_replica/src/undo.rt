@@ -28,13 +28,14 @@ impl<S: TreeStore> Replica<S> {
             return false;
         };
         self.store.undo_to(mark);
+        let ended = self.done.saturating_sub(1);
         match change {
             Change::Bound { place, before } => {
-                self.done = self.done.saturating_sub(1);
+                self.done = ended;
                 unbind_var(&mut self.vars, place, before);
             }
             Change::Made { id, before } => {
-                self.done = self.done.saturating_sub(1);
+                self.done = ended;
                 self.ops.withdraw(id, before);
                 drop_last(&mut self.queue);
             }
@@ -51,7 +52,7 @@ impl<S: TreeStore> Replica<S> {
                 self.ops.withdraw(id, before);
             }
             Change::Ended => {
-                self.done = self.done.saturating_sub(1);
+                self.done = ended;
                 self.acted = true;
             }
         }

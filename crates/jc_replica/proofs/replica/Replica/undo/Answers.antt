@@ -42,9 +42,9 @@ pub invariant_of-self-in-Bound : goal.invariant_of-self-in-Bound
 invariant_of-self-in-Bound g c =
     let i = c.self.inside in
     let h : Held = held i.done i.acted (vars_of i.vars.items) i.ops i.queue.items i.sent i.recv in
-    let h0 : Held = held c.saturating_sub-self-inside.result i.acted (vars_of c.unbind_var.new.vars.items) i.ops i.queue.items i.sent i.recv in
+    let h0 : Held = held c.saturating_sub-ended.result i.acted (vars_of c.unbind_var.new.vars.items) i.ops i.queue.items i.sent i.recv in
     let is : c.in-Some.field-0.change ≡ C.Bound c.in-Bound.place c.in-Bound.before = search rules in
-    let done : c.saturating_sub-self-inside.result ≡ i.done - 1 = search rules in
+    let done : c.saturating_sub-ended.result ≡ i.done - 1 = search rules in
     let vars : vars_of c.unbind_var.new.vars.items ≡ unbound c.in-Bound.place (option_map bound_of c.in-Bound.before) (vars_of i.vars.items) = c.unbind_var.ensures in
     let restored : back c.in-Some.field-0.change h ≡ h0 = ap (λ (x : Change). back x h) is ∙ (λ j. held (sym done j) i.acted (sym vars j) i.ops i.queue.items i.sent i.recv) in
     let s = unstep c.self.invariant (g.S.TreeStore.tree c.undo_to.new.self) c.pop.new.self.items c.in-Some.field-0 h0 c.in-Some.ensures.items c.undo_to.ensures restored in
@@ -54,9 +54,9 @@ pub returns-in-Bound-clause-undone : goal.returns-in-Bound-clause-undone
 returns-in-Bound-clause-undone g c = λ yes.
     let i = c.self.inside in
     let h : Held = held i.done i.acted (vars_of i.vars.items) i.ops i.queue.items i.sent i.recv in
-    let h0 : Held = held c.saturating_sub-self-inside.result i.acted (vars_of c.unbind_var.new.vars.items) i.ops i.queue.items i.sent i.recv in
+    let h0 : Held = held c.saturating_sub-ended.result i.acted (vars_of c.unbind_var.new.vars.items) i.ops i.queue.items i.sent i.recv in
     let is : c.in-Some.field-0.change ≡ C.Bound c.in-Bound.place c.in-Bound.before = search rules in
-    let done : c.saturating_sub-self-inside.result ≡ i.done - 1 = search rules in
+    let done : c.saturating_sub-ended.result ≡ i.done - 1 = search rules in
     let vars : vars_of c.unbind_var.new.vars.items ≡ unbound c.in-Bound.place (option_map bound_of c.in-Bound.before) (vars_of i.vars.items) = c.unbind_var.ensures in
     let restored : back c.in-Some.field-0.change h ≡ h0 = ap (λ (x : Change). back x h) is ∙ (λ j. held (sym done j) i.acted (sym vars j) i.ops i.queue.items i.sent i.recv) in
     let s = unstep c.self.invariant (g.S.TreeStore.tree c.undo_to.new.self) c.pop.new.self.items c.in-Some.field-0 h0 c.in-Some.ensures.items c.undo_to.ensures restored in
@@ -66,9 +66,9 @@ pub invariant_of-self-in-Made : goal.invariant_of-self-in-Made
 invariant_of-self-in-Made g c =
     let i = c.self.inside in
     let h : Held = held i.done i.acted (vars_of i.vars.items) i.ops i.queue.items i.sent i.recv in
-    let h0 : Held = held c.saturating_sub-self-inside-in-Made.result i.acted (vars_of i.vars.items) c.withdraw.new.self c.drop_last.new.queue.items i.sent i.recv in
+    let h0 : Held = held c.saturating_sub-ended.result i.acted (vars_of i.vars.items) c.withdraw.new.self c.drop_last.new.queue.items i.sent i.recv in
     let is : c.in-Some.field-0.change ≡ C.Made c.in-Made.id c.in-Made.before = search rules in
-    let done : c.saturating_sub-self-inside-in-Made.result ≡ i.done - 1 = search rules in
+    let done : c.saturating_sub-ended.result ≡ i.done - 1 = search rules in
     let ops : c.withdraw.new.self ≡ lowered c.in-Made.id.replica c.in-Made.before i.ops = c.withdraw.ensures.exact in
     let queue : c.drop_last.new.queue.items ≡ take (length i.queue.items - 1) i.queue.items = c.drop_last.ensures in
     let restored : back c.in-Some.field-0.change h ≡ h0 = ap (λ (x : Change). back x h) is ∙ (λ j. held (sym done j) i.acted (vars_of i.vars.items) (sym ops j) (sym queue j) i.sent i.recv) in
@@ -79,9 +79,9 @@ pub returns-in-Made-clause-undone : goal.returns-in-Made-clause-undone
 returns-in-Made-clause-undone g c = λ yes.
     let i = c.self.inside in
     let h : Held = held i.done i.acted (vars_of i.vars.items) i.ops i.queue.items i.sent i.recv in
-    let h0 : Held = held c.saturating_sub-self-inside-in-Made.result i.acted (vars_of i.vars.items) c.withdraw.new.self c.drop_last.new.queue.items i.sent i.recv in
+    let h0 : Held = held c.saturating_sub-ended.result i.acted (vars_of i.vars.items) c.withdraw.new.self c.drop_last.new.queue.items i.sent i.recv in
     let is : c.in-Some.field-0.change ≡ C.Made c.in-Made.id c.in-Made.before = search rules in
-    let done : c.saturating_sub-self-inside-in-Made.result ≡ i.done - 1 = search rules in
+    let done : c.saturating_sub-ended.result ≡ i.done - 1 = search rules in
     let ops : c.withdraw.new.self ≡ lowered c.in-Made.id.replica c.in-Made.before i.ops = c.withdraw.ensures.exact in
     let queue : c.drop_last.new.queue.items ≡ take (length i.queue.items - 1) i.queue.items = c.drop_last.ensures in
     let restored : back c.in-Some.field-0.change h ≡ h0 = ap (λ (x : Change). back x h) is ∙ (λ j. held (sym done j) i.acted (vars_of i.vars.items) (sym ops j) (sym queue j) i.sent i.recv) in
@@ -156,9 +156,9 @@ pub invariant_of-self-in-Ended : goal.invariant_of-self-in-Ended
 invariant_of-self-in-Ended g c =
     let i = c.self.inside in
     let h : Held = held i.done i.acted (vars_of i.vars.items) i.ops i.queue.items i.sent i.recv in
-    let h0 : Held = held c.saturating_sub-self-inside-in-Ended.result true (vars_of i.vars.items) i.ops i.queue.items i.sent i.recv in
+    let h0 : Held = held c.saturating_sub-ended.result true (vars_of i.vars.items) i.ops i.queue.items i.sent i.recv in
     let is : c.in-Some.field-0.change ≡ C.Ended = search rules in
-    let done : c.saturating_sub-self-inside-in-Ended.result ≡ i.done - 1 = search rules in
+    let done : c.saturating_sub-ended.result ≡ i.done - 1 = search rules in
     let restored : back c.in-Some.field-0.change h ≡ h0 = ap (λ (x : Change). back x h) is ∙ (λ j. held (sym done j) true (vars_of i.vars.items) i.ops i.queue.items i.sent i.recv) in
     let s = unstep c.self.invariant (g.S.TreeStore.tree c.undo_to.new.self) c.pop.new.self.items c.in-Some.field-0 h0 c.in-Some.ensures.items c.undo_to.ensures restored in
     s.kept
@@ -167,9 +167,9 @@ pub returns-in-Ended-clause-undone : goal.returns-in-Ended-clause-undone
 returns-in-Ended-clause-undone g c = λ yes.
     let i = c.self.inside in
     let h : Held = held i.done i.acted (vars_of i.vars.items) i.ops i.queue.items i.sent i.recv in
-    let h0 : Held = held c.saturating_sub-self-inside-in-Ended.result true (vars_of i.vars.items) i.ops i.queue.items i.sent i.recv in
+    let h0 : Held = held c.saturating_sub-ended.result true (vars_of i.vars.items) i.ops i.queue.items i.sent i.recv in
     let is : c.in-Some.field-0.change ≡ C.Ended = search rules in
-    let done : c.saturating_sub-self-inside-in-Ended.result ≡ i.done - 1 = search rules in
+    let done : c.saturating_sub-ended.result ≡ i.done - 1 = search rules in
     let restored : back c.in-Some.field-0.change h ≡ h0 = ap (λ (x : Change). back x h) is ∙ (λ j. held (sym done j) true (vars_of i.vars.items) i.ops i.queue.items i.sent i.recv) in
     let s = unstep c.self.invariant (g.S.TreeStore.tree c.undo_to.new.self) c.pop.new.self.items c.in-Some.field-0 h0 c.in-Some.ensures.items c.undo_to.ensures restored in
     s.history ∙ ap (λ (p : Past). p.earlier) c.self.view_is
