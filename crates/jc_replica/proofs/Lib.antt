@@ -16,3 +16,5 @@ pub mod Unions
 pub mod Whole
 pub mod Taking
 pub mod Receiving
+pub mod Opening
+pub mod Cans

@@ -59,7 +59,7 @@ kept_absent i (e ∷ os) h = go (same_id i e.id) refl (kept_absent i os)
     go false p ih = rw p (ih (rw p at h))
 
 -- the received operation that a kept one stands for, and what is asked of it
-record StoodFor (A K : State) (i : Id) (k : Op) : Type 0 where
+pub record StoodFor (A K : State) (i : Id) (k : Op) : Type 0 where
   pub operation : Op
   pub found : op_of i A.recv ≡ Some operation
   pub is : k ≡ kept_op operation
@@ -70,7 +70,7 @@ module _ (set : List Op) (p : ℕ) (A K : State) (seen : IsSeenAs set p A K) whe
   absent_seen : (i : Id) → op_of i K.recv ≡ None → op_of i A.recv ≡ None
   absent_seen i h = kept_absent i A.recv (sym (ap (λ (S : State). op_of i S.recv) seen.stands.is) ∙ h)
 
-  stood_for : (i : Id) (k : Op) → op_of i K.recv ≡ Some k → StoodFor A K i k
+  pub stood_for : (i : Id) (k : Op) → op_of i K.recv ≡ Some k → StoodFor A K i k
   stood_for i k h = go (kept_found i A.recv k (sym (ap (λ (S : State). op_of i S.recv) seen.stands.is) ∙ h))
     where
       go : ((o : Op) × (op_of i A.recv ≡ Some o) × (k ≡ kept_op o)) → StoodFor A K i k

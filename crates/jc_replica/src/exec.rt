@@ -1,6 +1,6 @@
 //! Running commands.
 
-ghost use Rattle.std.specs.Prelude.{◌≡◌, [], ◌↔◌, IsTrue, IfOk, IfErr};
+ghost use Rattle.std.specs.Prelude.{◌≡◌, [], ◌↔◌, IsTrue, IsFalse, IfOk, IfErr};
 ghost use Rattle.jc_rules.specs.declared.operation.Event.TheVariants as E;
 ghost use Rattle.jc_syntax.specs.Trees.{cmd_of, expr_of};
 ghost use Rattle.jc_cursor.specs.Bounds.{bound_of};
@@ -69,21 +69,32 @@ impl<S: TreeStore> Replica<S> {
     pub fn exec(&mut self, alloc: Global) -> Result<Trace, ReplicaFault>
         ensures { Answers (E.Exec self.old.number) [] self.old self.new result }
     {
-        if self.done == self.script.len() {
-            return Err(ReplicaFault::NoCommand);
-        }
-        if is_yield(&self.script[self.done]) {
-            return Err(ReplicaFault::AtYield);
-        }
-        if is_let(&self.script[self.done]) {
+        if self.binds_next()? {
             self.bind(alloc)
         } else {
             self.make(alloc)
         }
     }
 
+    /// Whether the next command binds a variable; else it makes an operation. Where there is none, or
+    /// it is `yield`, why it isn't run.
+    pub(crate) fn binds_next(&self) -> Result<bool, ReplicaFault>
+        ensures binds { IfOk result (λ b. IsTrue b → BindsNext self.now.now.left) }
+        ensures makes { IfOk result (λ b. IsFalse b → MakesNext self.now.now.left) }
+        ensures err { IfErr result (λ f. IsRefused (E.Exec self.now.number) [] self.now f) }
+    {
+        if self.done == self.script.len() {
+            return Err(ReplicaFault::NoCommand);
+        }
+        let command = &self.script[self.done];
+        if is_yield(command) {
+            return Err(ReplicaFault::AtYield);
+        }
+        Ok(is_let(command))
+    }
+
     /// What the next command binds which variable to.
-    fn bound_next(&self, alloc: Global, trace: &mut Trace) -> Result<(Text, Bound), ReplicaFault>
+    pub(crate) fn bound_next(&self, alloc: Global, trace: &mut Trace) -> Result<(Text, Bound), ReplicaFault>
         requires { BindsNext self.now.now.left }
         ensures ok { IfOk result (λ var. Binds self.now.now var.0 (bound_of var.1) trace.old trace.new) }
         ensures err { IfErr result (λ f. IsRefused (E.Exec self.now.number) [] self.now f) }
@@ -115,7 +126,7 @@ impl<S: TreeStore> Replica<S> {
     }
 
     /// The operation that the next command makes.
-    fn make_op(&self, alloc: Global, trace: &mut Trace) -> Result<Op, ReplicaFault>
+    pub(crate) fn make_op(&self, alloc: Global, trace: &mut Trace) -> Result<Op, ReplicaFault>
         requires { MakesNext self.now.now.left }
         ensures ok { IfOk result (λ op. Makes self.now.now self.now.number op trace.old trace.new) }
         ensures err { IfErr result (λ f. IsRefused (E.Exec self.now.number) [] self.now f) }
