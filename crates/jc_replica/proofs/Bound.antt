@@ -42,10 +42,16 @@ module _ (script : List Cmd) (h : Held) (vars : List (List ℕ × Bound)) (x : L
   bound_ready c r y rest left =
       let less = one_less h.done script y rest left in
       record {
-        chained = r.chained; linked = r.linked;
+        chained = r.chained;
+        linked = r.linked;
         named = subst (λ (vs : List (List ℕ × Bound)). IsRising name_cmp (keys_of vs)) (sym is.bound) (rising-put names_total exact_names x b h.vars r.named);
-        counters = r.counters; in_order = r.in_order; numbered = r.numbered; received = r.received; handed = r.handed;
-        short = omega (arith, less, r.short); counted = omega (arith, less, r.counted);
+        counters = r.counters;
+        in_order = r.in_order;
+        numbered = r.numbered;
+        received = r.received;
+        handed = r.handed;
+        short = omega (arith, less, r.short);
+        counted = omega (arith, less, r.counted);
       }
 
   pub binds_event : (p : ℕ) (c : Context) (u : Rows) → Binds (state_of script h c) x b no_rows u → Leading p (E.Exec p) [] (state_of script h c) (state_of script (bound_held h vars) c) (at_depth 0 u)
@@ -73,6 +79,6 @@ module _ {script : List Cmd} {t : Tree} {rs : List Record} {h : Held} (k : IsKep
   bound_occurs p pe w we =
       let leading = binds_event script h vars x b at before is number t.now u m in
       occurs k number p pe E.Exec [] t ss h2 w
-          (subst (λ (y : Held). Leading number (E.Exec number) [] (state_of script h t.now) (state_of script y t.now) w) (sym he)
-            (subst (λ (y : Rows). Leading number (E.Exec number) [] (state_of script h t.now) (state_of script (bound_held h vars) t.now) y) (sym we) leading))
-          bound_step.earlier
+      (subst (λ (y : Held). Leading number (E.Exec number) [] (state_of script h t.now) (state_of script y t.now) w) (sym he)
+      (subst (λ (y : Rows). Leading number (E.Exec number) [] (state_of script h t.now) (state_of script (bound_held h vars) t.now) y) (sym we) leading))
+      bound_step.earlier

@@ -42,8 +42,16 @@ occurs {script} k number p v event read u ss h2 rows d e =
 -- offering
 pub sent_ready : (script : List Cmd) (h h2 : Held) (c : Context) → IsReady (state_of script h c) → h2 ≡ held h.done true h.vars h.ops h.queue (length h.queue) h.recv → IsReady (state_of script h2 c)
 sent_ready script h h2 c r e = rw e (record {
-  chained = r.chained; linked = r.linked; named = r.named; counters = r.counters; in_order = r.in_order; numbered = r.numbered;
-  received = r.received; handed = r.handed; short = r.short; counted = r.counted;
+  chained = r.chained;
+  linked = r.linked;
+  named = r.named;
+  counters = r.counters;
+  in_order = r.in_order;
+  numbered = r.numbered;
+  received = r.received;
+  handed = r.handed;
+  short = r.short;
+  counted = r.counted;
 })
 
 pub sends : (p : ℕ) (script : List Cmd) (h h2 : Held) (c : Context) (rest : List Cmd) (u : Rows) → IsReady (state_of script h c) → drop h.done script ≡ Yield ∷ rest → h2 ≡ held h.done true h.vars h.ops h.queue (length h.queue) h.recv → u ≡ pushed no_rows R.Send → Leading p (E.Send p) [] (state_of script h c) (state_of script h2 c) u
@@ -57,8 +65,16 @@ pub done_ready : (script : List Cmd) (h h2 : Held) (c : Context) (rest : List Cm
 done_ready script h h2 c rest r l e =
     let less = one_less h.done script Yield rest l in
     rw e (record {
-      chained = r.chained; linked = r.linked; named = r.named; counters = r.counters; in_order = r.in_order; numbered = r.numbered;
-      received = r.received; handed = r.handed; short = omega (arith, less, r.short); counted = omega (arith, less, r.counted);
+      chained = r.chained;
+      linked = r.linked;
+      named = r.named;
+      counters = r.counters;
+      in_order = r.in_order;
+      numbered = r.numbered;
+      received = r.received;
+      handed = r.handed;
+      short = omega (arith, less, r.short);
+      counted = omega (arith, less, r.counted);
     })
 
 pub ends : (p : ℕ) (script : List Cmd) (h h2 : Held) (c : Context) (rest : List Cmd) (u : Rows) → drop h.done script ≡ Yield ∷ rest → h.acted ≡ true → h2 ≡ held (h.done + 1) false h.vars h.ops h.queue h.sent h.recv → u ≡ pushed no_rows R.Done → Leading p (E.Done p) [] (state_of script h c) (state_of script h2 c) u

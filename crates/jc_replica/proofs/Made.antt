@@ -85,7 +85,7 @@ makes_event p script h c d o u v ready new sent m de set os A seen read =
     let queue : h.queue ++ o ∷ [] ≡ with_op o h.queue = sym (with_op-last (greatest h.ops) o h.queue ready.numbered (omega (arith, new))) in
     let send = still_sent h.sent h.queue o sent in
     let is : state_of script (made_held h o) d ≡ record (made_kept o d K) { left = m.next.rest } =
-        λ i. record { left = left i; acted = h.acted; vars = h.vars; tree = d; ops = union (counted o.id.replica o.id.counter) h.ops; queue = queue i; send = send i; recv = h.recv } in
+    λ i. record { left = left i; acted = h.acted; vars = h.vars; tree = d; ops = union (counted o.id.replica o.id.counter) h.ops; queue = queue i; send = send i; recv = h.recv } in
     leads_made set p A K seen os o d (state_of script (made_held h o) d) u v (at_depth 0 v) m de is refl
 
 -- the step of a command that makes an operation
@@ -124,6 +124,6 @@ module _ {script : List Cmd} {t : Tree} {rs : List Record} {h : Held} (k : IsKep
     made_occurs p pe v w de we =
         let leading : Leading number (E.Exec number) [] (state_of script h t.now) (state_of script (made_held h o) d.now) (at_depth 0 v) = makes_event number script h t.now d.now o u v ready new k.bounds.sent m de in
         occurs k number p pe E.Exec [] d ss h2 w
-            (subst (λ (x : Held). Leading number (E.Exec number) [] (state_of script h t.now) (state_of script x d.now) w) (sym he)
-              (subst (λ (x : Rows). Leading number (E.Exec number) [] (state_of script h t.now) (state_of script (made_held h o) d.now) x) (sym we) leading))
-            made_step.earlier
+        (subst (λ (x : Held). Leading number (E.Exec number) [] (state_of script h t.now) (state_of script x d.now) w) (sym he)
+        (subst (λ (x : Rows). Leading number (E.Exec number) [] (state_of script h t.now) (state_of script (made_held h o) d.now) x) (sym we) leading))
+        made_step.earlier

@@ -73,7 +73,15 @@ received_step {script} {t} {rs} {h} kept new ss r se me be cb order handed =
     let a = ready_now kept in
     stepped kept t ss r (received_held h new) (no_later t) se me be cb
     (record {
-      chained = a.chained; linked = a.linked; named = a.named; counters = a.counters; in_order = a.in_order; numbered = a.numbered;
-      received = order; handed = handed; short = a.short; counted = a.counted;
+      chained = a.chained;
+      linked = a.linked;
+      named = a.named;
+      counters = a.counters;
+      in_order = a.in_order;
+      numbered = a.numbered;
+      received = order;
+      handed = handed;
+      short = a.short;
+      counted = a.counted;
     })
     (record { done = kept.bounds.done; sent = kept.bounds.sent })

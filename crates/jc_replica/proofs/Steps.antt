@@ -65,11 +65,11 @@ stepped {script} {t} {rs} {h} k u ss r h2 later se me be cb ready bounds =
     let there : length t.earlier < length (history t) = omega (arith, length-append t.earlier (t.now ∷ [])) in
     let longer : length t.earlier ≤ length u.earlier = omega (arith, ap length later.is, length-append t.earlier (t.now ∷ []), length-append u.earlier (u.now ∷ []), length-append (history t) later.added) in
     let earlier : states script (history u) (rs ++ r ∷ []) h2 ≡ states script (history t) rs h ++ state_of script h t.now ∷ [] =
-        states-pushed script (history u) rs r h h2 be
-        ∙ ap (λ (cs : List Context). states script cs rs h ++ state_of script h (content_at cs r.mark.changes) ∷ []) later.is
-        ∙ ap (λ (x : List State). x ++ state_of script h (content_at (history t ++ later.added) r.mark.changes) ∷ []) (states-kept script (history t) later.added rs h (length t.earlier) k.marks there)
-        ∙ ap (λ (n : ℕ). states script (history t) rs h ++ state_of script h (content_at (history t ++ later.added) n) ∷ []) me
-        ∙ ap (λ (c : Context). states script (history t) rs h ++ state_of script h c ∷ []) (content-kept (history t) later.added (length t.earlier) there ∙ content-now t) in
+    states-pushed script (history u) rs r h h2 be
+    ∙ ap (λ (cs : List Context). states script cs rs h ++ state_of script h (content_at cs r.mark.changes) ∷ []) later.is
+    ∙ ap (λ (x : List State). x ++ state_of script h (content_at (history t ++ later.added) r.mark.changes) ∷ []) (states-kept script (history t) later.added rs h (length t.earlier) k.marks there)
+    ∙ ap (λ (n : ℕ). states script (history t) rs h ++ state_of script h (content_at (history t ++ later.added) n) ∷ []) me
+    ∙ ap (λ (c : Context). states script (history t) rs h ++ state_of script h c ∷ []) (content-kept (history t) later.added (length t.earlier) there ∙ content-now t) in
     rw se (record {
       earlier = earlier;
       kept = record {
@@ -156,10 +156,10 @@ unstepped {script} {t} {ss} {h} k u rs r h0 se ue be bounds =
     let now : u.now ≡ content_at (history t) n = sym (content-now u) ∙ ap (content_at (history u)) size ∙ ap (λ (cs : List Context). content_at cs n) ue2 ∙ content-front (history t) n there in
     let old : states script (history u) rs h0 ≡ states script (history t) rs h0 = ap (λ (cs : List Context). states script cs rs h0) ue2 ∙ states-front script (history t) rs h0 n m.0 there in
     let all : states script (history u) rs h0 ++ state_of script h0 u.now ∷ [] ≡ states script (history t) ss h =
-        ap (λ (x : List State). x ++ state_of script h0 u.now ∷ []) old
-        ∙ ap (λ (c : Context). states script (history t) rs h0 ++ state_of script h0 c ∷ []) now
-        ∙ sym (states-pushed script (history t) rs r h0 h be)
-        ∙ ap (λ (x : List Record). states script (history t) x h) (sym se) in
+    ap (λ (x : List State). x ++ state_of script h0 u.now ∷ []) old
+    ∙ ap (λ (c : Context). states script (history t) rs h0 ++ state_of script h0 c ∷ []) now
+    ∙ sym (states-pushed script (history t) rs r h0 h be)
+    ∙ ap (λ (x : List Record). states script (history t) x h) (sym se) in
     record {
       history = all;
       kept = record {

@@ -12,7 +12,8 @@ first_from x [] = 0
 first_from x (v ∷ vs) = cond (is_lt (name_cmp v.0 x)) (suc (first_from x vs)) 0
 
 -- The variable is bound, and the variable at its place, bound to what it was before, gives the variables back.
-pub record IsBound (x : List ℕ) (b : Bound) (at : ℕ) (before : Option Bound) (old new : List (List ℕ × Bound)) : Type 0 where
+pub record IsBound
+    (x : List ℕ) (b : Bound) (at : ℕ) (before : Option Bound) (old new : List (List ℕ × Bound)) : Type 0 where
   pub bound : new ≡ bind x b old
   pub there : at < length new
   pub back : unbound at before new ≡ old

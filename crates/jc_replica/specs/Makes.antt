@@ -72,7 +72,8 @@ pub record Makes (K : State) (p : ℕ) (o : Op) (t u : Rows) : Type 0 where
   pub is : o ≡ new_op p K.ops cursor (mutation_by next.command)
   pub rows : u ≡ opened (opened between R.MakeOp) R.ApplyLocal
 
--- The next command of the kept state K binds the variable x to b, and the trace has come to the end of what is evaluated.
+-- The next command of the kept state K binds the variable x to b, and the trace has come to the end of what is
+-- evaluated.
 pub record Binds (K : State) (x : List ℕ) (b : Bound) (t u : Rows) : Type 0 where
   pub next : BindsNext K.left
   pub name : x ≡ next.name

@@ -94,7 +94,11 @@ impl<S: TreeStore> Replica<S> {
     }
 
     /// What the next command binds which variable to.
-    pub(crate) fn bound_next(&self, alloc: Global, trace: &mut Trace) -> Result<(Text, Bound), ReplicaFault>
+    pub(crate) fn bound_next(
+        &self,
+        alloc: Global,
+        trace: &mut Trace,
+    ) -> Result<(Text, Bound), ReplicaFault>
         requires { BindsNext self.now.now.left }
         ensures ok { IfOk result (λ var. Binds self.now.now var.0 (bound_of var.1) trace.old trace.new) }
         ensures err { IfErr result (λ f. IsRefused (E.Exec self.now.number) [] self.now f) }
@@ -134,7 +138,13 @@ impl<S: TreeStore> Replica<S> {
         let command = &self.script[self.done];
         trace.open(Rule::Exec)?;
         trace.open(rule_of(command))?;
-        let bound = eval(alloc, &self.store, self.vars.as_slice(), place_of(command), trace)?;
+        let bound = eval(
+            alloc,
+            &self.store,
+            self.vars.as_slice(),
+            place_of(command),
+            trace,
+        )?;
         let Bound::Cursor(cursor) = bound else {
             return Err(ReplicaFault::NotACursor);
         };

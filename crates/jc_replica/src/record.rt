@@ -8,10 +8,7 @@ use jc_tree::Mark;
 #[derive(Drop)]
 pub enum Change {
     /// A command bound the variable at this place, which was bound to `before` or came in.
-    Bound {
-        place: usize,
-        before: Option<Bound>,
-    },
+    Bound { place: usize, before: Option<Bound> },
     /// A command made the last operation of the queue, which has this identifier. The greatest
     /// counter of its replica was `before`.
     Made { id: Id, before: u64 },

@@ -50,9 +50,11 @@ impl<S: TreeStore> Model for Replica<S> {
 
     ghost coded = { past_code };
 
-    ghost view = { λ a. past_of a.number (map cmd_of a.script.items) (S.tree a.store) a.steps.items (held a.done a.acted (vars_of a.vars.items) a.ops a.queue.items a.sent a.recv) };
+    ghost view = { λ a. past_of a.number (map cmd_of a.script.items) (S.tree a.store) a.steps.items
+        (held a.done a.acted (vars_of a.vars.items) a.ops a.queue.items a.sent a.recv) };
 
-    ghost invariant = { λ a. IsKeptReplica (map cmd_of a.script.items) (S.tree a.store) a.steps.items (held a.done a.acted (vars_of a.vars.items) a.ops a.queue.items a.sent a.recv) };
+    ghost invariant = { λ a. IsKeptReplica (map cmd_of a.script.items) (S.tree a.store) a.steps.items
+        (held a.done a.acted (vars_of a.vars.items) a.ops a.queue.items a.sent a.recv) };
 }
 
 impl<S: TreeStore> Replica<S> {

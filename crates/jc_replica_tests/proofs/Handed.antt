@@ -16,9 +16,10 @@ right false b e = cc
 all_handed : (os : List Op) → list_all (λ o. leb 1 o.id.counter && leb o.id.counter 4194304) os ≡ true → AreHanded os
 all_handed [] e = tt
 all_handed (o ∷ os) e =
-    let first = left (leb 1 o.id.counter && leb o.id.counter 4194304) _ e in
-    ((leb-true 1 o.id.counter (left (leb 1 o.id.counter) (leb o.id.counter 4194304) first), leb-true o.id.counter 4194304 (right (leb 1 o.id.counter) (leb o.id.counter 4194304) first)),
-    all_handed os (right (leb 1 o.id.counter && leb o.id.counter 4194304) _ e))
+    let first = left (leb 1 o.id.counter && leb o.id.counter 4194304) _ e in (
+      (leb-true 1 o.id.counter (left (leb 1 o.id.counter) (leb o.id.counter 4194304) first), leb-true o.id.counter 4194304 (right (leb 1 o.id.counter) (leb o.id.counter 4194304) first)),
+      all_handed os (right (leb 1 o.id.counter && leb o.id.counter 4194304) _ e),
+    )
 
 pub handed : (os : List Op) (b : Bool) → b ≡ list_all (λ o. leb 1 o.id.counter && leb o.id.counter 4194304) os → b ≡ true → AreHanded os
 handed os b e t = all_handed os (sym e ∙ t)

@@ -54,11 +54,7 @@ pub fn expect_missing(
 }
 
 /// The event was made by these rules.
-pub fn expect_rows(
-    rt: &impl Abort,
-    outcome: &Result<Trace, ReplicaFault>,
-    want: &[(Rule, u64)],
-) {
+pub fn expect_rows(rt: &impl Abort, outcome: &Result<Trace, ReplicaFault>, want: &[(Rule, u64)]) {
     let same = match outcome {
         Ok(trace) => trace.rows() == want,
         Err(_) => false,
@@ -126,7 +122,10 @@ pub fn expect_vars(
     assert_eq!(rt; replica.vars().len(), want.len());
     for ((name, bound), (want_name, want_text)) in replica.vars().iter().zip(want) {
         let line = bound_text(alloc, bound)?;
-        assert!(rt; name.as_str() == *want_name && line.as_str() == *want_text, "{want_name}");
+        assert!(rt;
+            name.as_str() == *want_name && line.as_str() == *want_text,
+            "{want_name}"
+        );
     }
     Ok(())
 }
@@ -148,7 +147,10 @@ pub fn expect_state(
                 counter,
                 replica: replica_number,
             };
-            assert!(rt; replica.ops().contains(id) == applied.contains(&id), "{counter}");
+            assert!(rt;
+                replica.ops().contains(id) == applied.contains(&id),
+                "{counter}"
+            );
         }
     }
 }

@@ -90,7 +90,8 @@ fn map_over_value(rt: HostRuntime) -> Result<(), Fail> {
 #[test]
 fn list_with_a_tombstone(rt: HostRuntime) -> Result<(), Fail> {
     let alloc = rt.alloc();
-    let script = "doc := []; doc.idx(0).insertAfter(\"x\"); doc.idx(1).insertAfter(\"y\"); doc.idx(1).delete; let z = doc.idx(1); let w = doc.idx(2)";
+    let script =
+        "doc := []; doc.idx(0).insertAfter(\"x\"); doc.idx(1).insertAfter(\"y\"); doc.idx(1).delete; let z = doc.idx(1); let w = doc.idx(2)";
     let mut a = replica(&rt, alloc, 0, script)?;
     run(&rt, alloc, &mut a, 4);
     expect_rows(&rt, &a.exec(alloc), &PAST_A_TOMBSTONE);

@@ -1,13 +1,16 @@
 //! Steps that are taken back, and made once more.
 
-use crate::expecting::{expect_counts, expect_number, expect_rows, expect_state, expect_tree, expect_vars};
+use crate::expecting::{
+    expect_counts, expect_number, expect_rows, expect_state, expect_tree, expect_vars,
+};
 use crate::replicas::{go_back, id, replica, run};
 use jc_rules::Rule;
 use std::test::Fail;
 
 const SCRIPT: &str = "let x = doc; x.get(\"a\") := 1; let x = x.get(\"a\"); x.delete; let x = doc";
 
-const DELETED: &str = "{\"mapT(doc)\":{\"pres(\\\"a\\\")\":[],\"regT(\\\"a\\\")\":{}},\"pres(doc)\":[\"1@a\"]}";
+const DELETED: &str =
+    "{\"mapT(doc)\":{\"pres(\\\"a\\\")\":[],\"regT(\\\"a\\\")\":{}},\"pres(doc)\":[\"1@a\"]}";
 
 const ASSIGNED: &str =
     "{\"mapT(doc)\":{\"pres(\\\"a\\\")\":[\"1@a\"],\"regT(\\\"a\\\")\":{\"1@a\":{\"n\":\"1\"}}},\"pres(doc)\":[\"1@a\"]}";
@@ -72,7 +75,12 @@ fn to_the_start(rt: HostRuntime) -> Result<(), Fail> {
 #[test]
 fn yields(rt: HostRuntime) -> Result<(), Fail> {
     let alloc = rt.alloc();
-    let mut a = replica(&rt, alloc, 0, "doc.get(\"a\") := 1; yield; doc.get(\"b\") := 2; yield")?;
+    let mut a = replica(
+        &rt,
+        alloc,
+        0,
+        "doc.get(\"a\") := 1; yield; doc.get(\"b\") := 2; yield",
+    )?;
     run(&rt, alloc, &mut a, 1);
     expect_number(&rt, &a.send(alloc), 0);
     expect_number(&rt, &a.done(alloc), 0);

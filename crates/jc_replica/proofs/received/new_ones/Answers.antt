@@ -11,13 +11,13 @@ loop-op-preserved c =
     let tells : c.is_err.result ≡ is_new c.args.ops.now op = c.is_err.ensures.value ∙ place_tells op.id c.args.ops.now c.place_of.result c.place_of.ensures in
     elim c.if-is_err.branch [
       | then-is_err+in_ok-copy+in_ok-push w ↦ (
-        let more = filtered_more c.args.ops.now c.args.offered.now c.loop-op.op-index op true c.loop-op-test.true c.op-item.is (sym w.if-is_err.true ∙ tells) in
-        let pushed = w.in_ok-push.ensures.items in
-        let copied = w.in_ok-copy.ensures in
-        cc)
+          let more = filtered_more c.args.ops.now c.args.offered.now c.loop-op.op-index op true c.loop-op-test.true c.op-item.is (sym w.if-is_err.true ∙ tells) in
+          let pushed = w.in_ok-push.ensures.items in
+          let copied = w.in_ok-copy.ensures in
+          cc)
       | else-is_err w ↦ (
-        let more = filtered_more c.args.ops.now c.args.offered.now c.loop-op.op-index op false c.loop-op-test.true c.op-item.is (sym w.if-is_err.false ∙ tells) in
-        let same = append-nil c.loop-op.fresh.items in
-        let fresh = w.fresh-is in
-        cc)
+          let more = filtered_more c.args.ops.now c.args.offered.now c.loop-op.op-index op false c.loop-op-test.true c.op-item.is (sym w.if-is_err.false ∙ tells) in
+          let same = append-nil c.loop-op.fresh.items in
+          let fresh = w.fresh-is in
+          cc)
     ]

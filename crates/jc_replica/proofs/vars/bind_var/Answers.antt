@@ -39,11 +39,11 @@ returns-clause-ok c =
     let ne = c.place_of-place.ensures ∙ ap (λ ws. first_from c.args.name (vars_of ws)) all in
     let new : c.insert.new.self.items ≡ insert vs p (c.args.name, c.args.bound) = search rules in
     let none : (d : List ℕ × Bound) → p < length vs → d ≡ get_or vs p d → d.0 ≡ c.args.name → ⊥ =
-        λ d l g s. elim c.else-place-len.branch [
-          else-place-len-via-then-place-len+else-eq w ↦
-            (let at : w.index.result.now ≡ get_or vs p w.index.result.now = search rules in
-            let name : w.index.result.now.0 ≡ c.args.name = ap (λ e. e.0) (read_twice vs p w.index.result.now d l at g) ∙ s in
-            same_text w.index.result.now.0 c.args.name w.eq.result w.eq.ensures w.if-eq.false name)
-        | else-place-len-via-else-place-len w ↦ (let past : length vs ≤ p = search rules in absurd (omega (arith, l, past)))
-        ] in
+    λ d l g s. elim c.else-place-len.branch [
+      | else-place-len-via-then-place-len+else-eq w ↦
+          (let at : w.index.result.now ≡ get_or vs p w.index.result.now = search rules in
+          let name : w.index.result.now.0 ≡ c.args.name = ap (λ e. e.0) (read_twice vs p w.index.result.now d l at g) ∙ s in
+          same_text w.index.result.now.0 c.args.name w.eq.result w.eq.ensures w.if-eq.false name)
+      | else-place-len-via-else-place-len w ↦ (let past : length vs ≤ p = search rules in absurd (omega (arith, l, past)))
+    ] in
     bound_new vs c.insert.new.self.items p c.args.name c.args.bound c.requires ne none new

@@ -105,4 +105,3 @@ returns-clause-handed c =
     let is : fresh ≡ filter (is_new os) (drop start offered) = c.in_ok-fresh.ensures ∙ (λ n. filter (is_new (c.as_slice.ensures.value n)) (rest_is start offered n)) in
     let now : c.bring_in.new.ops.items ≡ both os fresh = c.bring_in.ensures ∙ ap (λ (x : List Op). both x fresh) c.in_ok-reserve.ensures.items in
     λ old new. subst AreHanded (sym now) (all_both IsHanded os fresh (subst AreHanded (sym c.self.view_is) old) (fresh_all os offered start fresh is IsHanded new))
-

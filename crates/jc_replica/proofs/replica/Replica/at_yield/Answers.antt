@@ -17,11 +17,12 @@ pub returns-then-is_yield-clause-ok : goal.returns-then-is_yield-clause-ok
 returns-then-is_yield-clause-ok g c =
     let len : c.len.result ≡ length c.self.inside.script.items = search rules in
     let within : c.self.inside.done < length c.self.inside.script.items = omega (arith, c.self.invariant.bounds.done, length-map c.self.inside.script.items cmd_of, len, c.if-self-len.false) in
-    let is : c.index-command.result.now ≡ get_or c.self.inside.script.items c.self.inside.done c.index-command.result.now = search rules in
-    (drop (suc c.self.inside.done) (map cmd_of c.self.inside.script.items),
-    ap (λ (p : Past). p.now.left) (sym c.self.view_is)
-    ∙ next_is c.self.inside.script.items c.self.inside.done c.index-command.result.now within is
-    ∙ ap (λ x. x ∷ drop (suc c.self.inside.done) (map cmd_of c.self.inside.script.items)) (c.is_yield.ensures.0 c.if-is_yield.true))
+    let is : c.index-command.result.now ≡ get_or c.self.inside.script.items c.self.inside.done c.index-command.result.now = search rules in (
+      drop (suc c.self.inside.done) (map cmd_of c.self.inside.script.items),
+      ap (λ (p : Past). p.now.left) (sym c.self.view_is)
+          ∙ next_is c.self.inside.script.items c.self.inside.done c.index-command.result.now within is
+          ∙ ap (λ x. x ∷ drop (suc c.self.inside.done) (map cmd_of c.self.inside.script.items)) (c.is_yield.ensures.0 c.if-is_yield.true),
+    )
 
 pub returns-else-is_yield-clause-err : goal.returns-else-is_yield-clause-err
 returns-else-is_yield-clause-err g c = λ event read y. λ set os A seen of.

@@ -34,8 +34,8 @@ returns-clause-binds g c = λ b.
     let within : i.done < length i.script.items = omega (arith, c.self.invariant.bounds.done, length-map i.script.items cmd_of, len, c.if-self-len.false) in
     let is : c.index-command.result.now ≡ get_or i.script.items i.done c.index-command.result.now = search rules in
     binds_next _ (drop (suc i.done) (map cmd_of i.script.items)) (cmd_of c.index-command.result.now)
-      (ap (λ (p : Past). p.now.left) (sym c.self.view_is) ∙ next_is i.script.items i.done c.index-command.result.now within is)
-      (c.is_let.ensures.0 b)
+    (ap (λ (p : Past). p.now.left) (sym c.self.view_is) ∙ next_is i.script.items i.done c.index-command.result.now within is)
+    (c.is_let.ensures.0 b)
 
 pub returns-clause-makes : goal.returns-clause-makes
 returns-clause-makes g c = λ b.
@@ -46,5 +46,5 @@ returns-clause-makes g c = λ b.
     let no_yield : cmd_of c.index-command.result.now ≢ Yield = λ e. (let f : false ≡ true = sym c.if-is_yield.false ∙ c.is_yield.ensures.1 e in cc) in
     let no_let : IsLet (cmd_of c.index-command.result.now) → ⊥ = λ e. (let f : false ≡ true = sym b ∙ c.is_let.ensures.1 e in cc) in
     makes_next _ (drop (suc i.done) (map cmd_of i.script.items)) (cmd_of c.index-command.result.now)
-      (ap (λ (p : Past). p.now.left) (sym c.self.view_is) ∙ next_is i.script.items i.done c.index-command.result.now within is)
-      no_yield no_let
+    (ap (λ (p : Past). p.now.left) (sym c.self.view_is) ∙ next_is i.script.items i.done c.index-command.result.now within is)
+    no_yield no_let

@@ -46,14 +46,14 @@ returns-in_err-apply_to g c =
     let qe : c.reserve-2.new.self.items ≡ i.queue.items = search rules in
     let se : c.reserve.new.self.items ≡ i.steps.items = search rules in
     let same : past_of i.number script (g.S.TreeStore.tree c.apply_to.new.store) c.reserve.new.self.items (held i.done i.acted (vars_of i.vars.items) c.apply_to.new.ops c.reserve-2.new.self.items i.sent i.recv) ≡ old =
-        (λ k. past_of i.number script (te k) (se k) (held i.done i.acted (vars_of i.vars.items) (oe k) (qe k) i.sent i.recv)) ∙ c.self.view_is in
+    (λ k. past_of i.number script (te k) (se k) (held i.done i.acted (vars_of i.vars.items) (oe k) (qe k) i.sent i.recv)) ∙ c.self.view_is in
     let m : Makes old.now old.number c.in_ok-op.op c.new-trace.result c.make_op.new.trace = c.in_ok-op.ensures.ok in
     let tree = ap (λ (p : Past). p.now.tree) c.self.view_is in
     refused_call (E.Exec old.number) [] old _ c.from_residual-in_err-apply_to.result c.in_err-apply_to.field-0.0 c.from_residual-in_err-apply_to.ensures.1 same
-      (for_cause (E.Exec old.number) [] old c.in_err-apply_to.field-0.0 (cause_of c.in_err-apply_to.field-0.0) (λ why. (deps : List Id) → Refused (Operate (g.S.TreeStore.tree i.store).now (with_deps deps c.in_ok-op.op)) why) refl
-        (λ why r. λ set os A seen of. refused_made set old.number A old.now seen m.next.command m.next.rest m.next.next m.next.makes os m.cursor _ _ why m.evaluates
-          (λ deps. subst (λ (x : Context). Refused (Operate x (with_deps deps (new_op old.number old.now.ops m.cursor (mutation_by m.next.command)))) why) tree (subst (λ (o : Op). Refused (Operate (g.S.TreeStore.tree i.store).now (with_deps deps o)) why) m.is (r deps))))
-        c.in_err-apply_to.ensures.refused)
+    (for_cause (E.Exec old.number) [] old c.in_err-apply_to.field-0.0 (cause_of c.in_err-apply_to.field-0.0) (λ why. (deps : List Id) → Refused (Operate (g.S.TreeStore.tree i.store).now (with_deps deps c.in_ok-op.op)) why) refl
+    (λ why r. λ set os A seen of. refused_made set old.number A old.now seen m.next.command m.next.rest m.next.next m.next.makes os m.cursor _ _ why m.evaluates
+    (λ deps. subst (λ (x : Context). Refused (Operate x (with_deps deps (new_op old.number old.now.ops m.cursor (mutation_by m.next.command)))) why) tree (subst (λ (o : Op). Refused (Operate (g.S.TreeStore.tree i.store).now (with_deps deps o)) why) m.is (r deps))))
+    c.in_err-apply_to.ensures.refused)
 
 pub invariant_of-self-2 : goal.invariant_of-self-2
 invariant_of-self-2 g c =
@@ -64,7 +64,7 @@ invariant_of-self-2 g c =
     let oe = c.in_ok-apply_to.ensures.ops in
     let qe : c.push.new.self.items ≡ i.queue.items ++ op ∷ [] = search rules in
     let he : held (i.done + 1) i.acted (vars_of i.vars.items) c.apply_to.new.ops c.push.new.self.items i.sent i.recv ≡ made_held h op =
-        (λ k. held (i.done + 1) i.acted (vars_of i.vars.items) (oe k) (qe k) i.sent i.recv) in
+    (λ k. held (i.done + 1) i.acted (vars_of i.vars.items) (oe k) (qe k) i.sent i.recv) in
     let r : Record = record { mark = c.mark-mark.result; change = C.Made op.id c.greatest_of-before.result } in
     let se : c.push-2.new.self.items ≡ i.steps.items ++ r ∷ [] = search rules in
     made_kept_replica c.self.invariant i.number op _ _ c.new-trace.ensures m (g.S.TreeStore.tree c.apply_to.new.store) c.push-2.new.self.items _ c.mark-mark.result c.greatest_of-before.result he c.in_ok-apply_to.ensures.later c.in_ok-apply_to.ensures.chained c.in_ok-apply_to.ensures.unlinked se c.mark-mark.ensures c.greatest_of-before.ensures.exact
@@ -78,7 +78,7 @@ returns g c =
     let oe = c.in_ok-apply_to.ensures.ops in
     let qe : c.push.new.self.items ≡ i.queue.items ++ op ∷ [] = search rules in
     let he : held (i.done + 1) i.acted (vars_of i.vars.items) c.apply_to.new.ops c.push.new.self.items i.sent i.recv ≡ made_held h op =
-        (λ k. held (i.done + 1) i.acted (vars_of i.vars.items) (oe k) (qe k) i.sent i.recv) in
+    (λ k. held (i.done + 1) i.acted (vars_of i.vars.items) (oe k) (qe k) i.sent i.recv) in
     let r : Record = record { mark = c.mark-mark.result; change = C.Made op.id c.greatest_of-before.result } in
     let se : c.push-2.new.self.items ≡ i.steps.items ++ r ∷ [] = search rules in
     let rows : c.close.new.self ≡ at_depth 0 c.apply_to.new.trace = search rules in

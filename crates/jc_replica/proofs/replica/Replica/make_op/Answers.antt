@@ -32,8 +32,8 @@ returns-in_err-bound-clause-err g c =
     let tree = ap (λ (p : Past). p.now.tree) c.self.view_is in
     let expr = c.place_of.ensures ∙ ap expr_by next in
     handed_up (E.Exec c.args.self.now.number) [] c.args.self.now c.from_residual-in_err-bound.result (cause_of c.in_err-bound.field-0.0) (λ why. IsRefused (g.S.TreeStore.tree i.store).now (vars_of c.as_slice.result.now) (expr_of c.place_of.result.now) why) c.from_residual-in_err-bound.ensures.1
-      (λ why r. λ set os A seen of. refused_first set c.args.self.now.number A c.args.self.now.now seen c.requires.command c.requires.rest c.requires.next c.requires.makes os why (refused_in tree vars expr r))
-      c.in_err-bound.ensures.refused
+    (λ why r. λ set os A seen of. refused_first set c.args.self.now.number A c.args.self.now.now seen c.requires.command c.requires.rest c.requires.next c.requires.makes os why (refused_in tree vars expr r))
+    c.in_err-bound.ensures.refused
 
 pub returns-in_default : goal.returns-in_default
 returns-in_default g c =
@@ -69,5 +69,5 @@ returns-clause-ok g c =
     let ops = ap (λ (p : Past). p.now.ops) c.self.view_is in
     let number = ap (λ (p : Past). p.number) c.self.view_is in
     makes K c.args.self.now.number i.number c.requires c.in-Cursor.cursor c.in_ok-mutation_of.field-0 c.greatest.result c.in_ok-copy.field-0 c.rule_of.result _ _ _ _ _ _
-      c.in_ok-open.ensures.ok c.in_ok-open-2.ensures.ok (c.rule_of.ensures ∙ ap rule_by next) cursor c.in_ok-open-3.ensures.ok c.in_ok-open-4.ensures.ok
-      (c.greatest.ensures.exact ∙ ap greatest ops) (c.in_ok-copy.ensures ∙ ops) (c.in_ok-mutation_of.ensures ∙ ap mutation_by next) number
+    c.in_ok-open.ensures.ok c.in_ok-open-2.ensures.ok (c.rule_of.ensures ∙ ap rule_by next) cursor c.in_ok-open-3.ensures.ok c.in_ok-open-4.ensures.ok
+    (c.greatest.ensures.exact ∙ ap greatest ops) (c.in_ok-copy.ensures ∙ ops) (c.in_ok-mutation_of.ensures ∙ ap mutation_by next) number
