@@ -1,12 +1,12 @@
 -- An operation's identifier among those applied.
-use Rattle.std.proofs.Common.{◌≡◌, ◌≢◌, ℕ, zero, suc, ◌<◌, ◌≤◌, max, List, [], ◌∷◌, Bool, true, false, ◌||◌, refl, sym, ◌∙◌, ap, subst, arith}
+use Rattle.std.proofs.Common.{◌≡◌, ◌≢◌, ℕ, zero, suc, ◌<◌, ◌≤◌, max, List, [], ◌∷◌, Bool, true, false, ◌||◌, refl, sym, ◌∙◌, ap, arith}
 use Rattle.std.specs.declared.cmp.Ordering.{Ordering}
 use Rattle.std.specs.declared.cmp.Ordering.TheVariants.{Less, Equal, Greater}
 use Rattle.jc_rules.specs.declared.id.Id.{Id}
 use Rattle.jc_rules.specs.Context.{Context}
 use Rattle.jc_rules.specs.Filled.{filled, counted, greatest_of}
 use Rattle.jc_rules.specs.Ids.{has_id, with_id, union, greatest}
-use Rattle.jc_rules.specs.Order.{id_cmp, same_id}
+use Rattle.jc_rules.specs.Order.{id_cmp}
 use Rattle.jc_rules.proofs.Counters.{member_greatest, greatest-filled}
 use Rattle.jc_rules.proofs.Filled.{counted_in, filled-with, greatest_here, greatest_of-filled, greatest_of-with, reached, same_filled}
 use Rattle.jc_rules.proofs.Ids.{has_id-union}

@@ -1,11 +1,10 @@
 -- A command that binds a variable, from what is held before to what is held after.
-use Rattle.std.proofs.Common.{◌≡◌, ℕ, ◌+◌, ◌-◌, ◌<◌, List, [], ◌∷◌, ◌++◌, length, drop, Option, option_map, refl, sym, ◌∙◌, ap, subst, arith}
+use Rattle.std.proofs.Common.{◌≡◌, ℕ, ◌+◌, ◌-◌, List, [], ◌∷◌, ◌++◌, length, drop, Option, option_map, refl, sym, ◌∙◌, ap, subst, arith}
 use Rattle.jc_rules.specs.declared.operation.Event.TheVariants as E
-use Rattle.jc_rules.specs.declared.operation.Op.{Op}
 use Rattle.jc_rules.specs.Context.{Context}
 use Rattle.jc_rules.specs.Entries.{IsRising, keys_of}
 use Rattle.jc_rules.specs.Order.{name_cmp}
-use Rattle.jc_rules.specs.State.{State, Bound}
+use Rattle.jc_rules.specs.State.{Bound}
 use Rattle.jc_rules.specs.Syntax.{Cmd}
 use Rattle.jc_rules.specs.Table.{bind}
 use Rattle.jc_rules.specs.Trace.{Rows, at_depth}

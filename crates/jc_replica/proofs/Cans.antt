@@ -1,29 +1,25 @@
 -- Which events can be made, of what the state stands for.
-use Rattle.std.proofs.Common.{◌≡◌, ◌≢◌, ℕ, List, [], ◌∷◌, map, Option, Some, None, IfSome, IsSome, Bool, true, false, IsTrue, IsFalse, Result, Ok, Err, IfOk, IfErr, refl, sym, ◌∙◌, ap, subst}
+use Rattle.std.proofs.Common.{◌≡◌, ◌≢◌, ℕ, List, ◌∷◌, Option, Some, None, IfSome, IsSome, Bool, true, false, IsTrue, IsFalse, Result, Ok, Err, IfOk, refl, sym, ◌∙◌, ap, subst}
 use Rattle.std.specs.declared.alloc.AllocError.{AllocError}
 use Rattle.jc_rules.specs.declared.id.Id.{Id}
-use Rattle.jc_rules.specs.declared.operation.Cursor.{Cursor}
 use Rattle.jc_rules.specs.declared.operation.Event.{Event}
 use Rattle.jc_rules.specs.declared.operation.Event.TheVariants as E
-use Rattle.jc_rules.specs.declared.operation.Mutation.{Mutation}
 use Rattle.jc_rules.specs.declared.operation.Op.{Op}
 use Rattle.jc_rules.specs.declared.refusal.Refusal.TheVariants as F
 use Rattle.jc_rules.specs.Context.{Context}
-use Rattle.jc_rules.specs.Derivation.{Question, Occur, Run, Evaluate, Operate, ToBound}
-use Rattle.jc_rules.specs.Refused.{Cause, because, Refused, IsAnswered, IsYieldEvent, not_acted}
-use Rattle.jc_rules.specs.State.{State, Bound, ACursor}
-use Rattle.jc_rules.specs.Syntax.{Expr, Cmd, LetIn, SetTo, InsertAfter, DeleteAt, Yield}
+use Rattle.jc_rules.specs.Derivation.{Run, Evaluate, Operate, ToBound}
+use Rattle.jc_rules.specs.Refused.{Cause, because, Refused, IsAnswered, not_acted}
+use Rattle.jc_rules.specs.State.{State, Bound}
+use Rattle.jc_rules.specs.Syntax.{Cmd, LetIn, SetTo, InsertAfter, DeleteAt, Yield}
 use Rattle.jc_rules.specs.Trace.{Rows}
 use Rattle.jc_apply.specs.Fits.{EachOp}
-use Rattle.jc_cursor.specs.Evaluates.{Evaluates}
 use Rattle.jc_sets.specs.Members.{with_deps}
 use Rattle.jc_sets.specs.States.{new_op}
 use Rattle.jc_replica.specs.declared.fault.ReplicaFault.{ReplicaFault}
 use Rattle.jc_replica.specs.Answers.{cause_of, RefusedFor, IsRefused}
 use Rattle.jc_replica.specs.Can.{CanOccur, MayRead}
-use Rattle.jc_replica.specs.Makes.{Makes, MakesNext, Binds, IsMaking, mutation_by, expr_by}
+use Rattle.jc_replica.specs.Makes.{Makes, Binds, IsMaking, mutation_by, expr_by}
 use Rattle.jc_replica.specs.Past.{Past}
-use Rattle.jc_replica.specs.Seen.{IsSeenAs, IsRead}
 use Rattle.jc_replica.specs.Takes.{Takes}
 use Rattle.jc_replica.proofs.Making.{not_yield, refused_made}
 use Rattle.jc_replica.proofs.Opening.{IsFree, IsOpen, IsMakable, answered_free, unrefused}

@@ -9,13 +9,12 @@ use Rattle.jc_rules.specs.Derives.{Derives}
 use Rattle.jc_rules.specs.Filled.{filled, counted, greatest_of}
 use Rattle.jc_rules.specs.Ids.{union, greatest}
 use Rattle.jc_rules.specs.Shape.{IsChained}
-use Rattle.jc_rules.specs.State.{State}
 use Rattle.jc_rules.specs.Syntax.{Cmd}
 use Rattle.jc_rules.specs.Table.{with_op}
 use Rattle.jc_rules.specs.Trace.{Rows, at_depth}
 use Rattle.jc_rules.proofs.Withdrawn.{lowered-inserted}
 use Rattle.jc_tree.specs.declared.store.Mark.{Mark}
-use Rattle.jc_tree.specs.Tree.{Tree, IsLater, history}
+use Rattle.jc_tree.specs.Tree.{Tree, IsLater}
 use Rattle.jc_apply.specs.Fits.{IsUnlinked}
 use Rattle.jc_sets.specs.States.{made_kept}
 use Rattle.jc_replica.specs.declared.record.Change.TheVariants as C

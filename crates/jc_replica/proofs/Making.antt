@@ -1,5 +1,5 @@
 -- Commands that make operations.
-use Rattle.std.proofs.Common.{◌≡◌, ◌≢◌, ℕ, ◌+◌, List, [], ◌∷◌, Option, Some, None, refl, sym, ◌∙◌, ap, subst}
+use Rattle.std.proofs.Common.{◌≡◌, ◌≢◌, ℕ, ◌+◌, List, ◌∷◌, Some, refl, ◌∙◌, ap, subst}
 use Rattle.jc_rules.specs.declared.id.Id.{Id}
 use Rattle.jc_rules.specs.declared.operation.Cursor.{Cursor}
 use Rattle.jc_rules.specs.declared.operation.Event.TheVariants as E
@@ -12,7 +12,7 @@ use Rattle.jc_rules.specs.Context.{Context}
 use Rattle.jc_rules.specs.Derivation.{Occur, Run, Evaluate, Make, ApplyOp, Operate, ToState, ToBound, ToContext, Answer, Judgement}
 use Rattle.jc_rules.specs.Derives.{Derives}
 use Rattle.jc_rules.specs.Ids.{greatest}
-use Rattle.jc_rules.specs.Refused.{Cause, because, Refused, IsCursor, IsAnswered, WantsCursor, first_expr, made_by, in_command, in_first, in_making, in_made, in_applied, not_a_cursor}
+use Rattle.jc_rules.specs.Refused.{Cause, because, Refused, IsCursor, WantsCursor, first_expr, made_by, in_command, in_first, in_making, in_made, in_applied, not_a_cursor}
 use Rattle.jc_rules.specs.Stands.{StandsFor}
 use Rattle.jc_rules.specs.State.{State, Bound, ACursor}
 use Rattle.jc_rules.specs.Syntax.{Expr, Cmd, LetIn, SetTo, InsertAfter, DeleteAt, Yield}

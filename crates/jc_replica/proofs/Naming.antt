@@ -1,5 +1,5 @@
 -- Variables that are bound, and taken back.
-use Rattle.std.proofs.Common.{◌≡◌, ℕ, zero, suc, ◌≤◌, ◌<◌, List, [], ◌∷◌, length, get_or, slice_get, slice_set, insert, remove, Option, Some, None, option_map, Bool, true, false, nat_eq, eq-eqb, refl, sym, ◌∙◌, ap, subst, arith}
+use Rattle.std.proofs.Common.{◌≡◌, ℕ, zero, suc, ◌≤◌, ◌<◌, List, [], ◌∷◌, length, get_or, slice_get, slice_set, insert, remove, Some, None, Bool, true, false, nat_eq, eq-eqb, refl, sym, ◌∙◌, ap, subst, arith}
 use Rattle.std.specs.Cmp.Lexicographic.{pointwise}
 use Rattle.std.specs.declared.cmp.Ordering.{Ordering}
 use Rattle.std.specs.declared.cmp.Ordering.TheVariants.{Less, Equal, Greater}
@@ -7,7 +7,6 @@ use Rattle.std.proofs.lemmas.List.{length-map}
 use Rattle.jc_rules.specs.Entries.{IsRising, keys_of, find, replaced, placed}
 use Rattle.jc_rules.specs.Order.{name_cmp}
 use Rattle.jc_rules.specs.State.{Bound}
-use Rattle.jc_rules.specs.Table.{bind}
 use Rattle.jc_rules.proofs.Entries.{same-self, none-below}
 use Rattle.jc_rules.proofs.Order.{names_total, exact_names}
 use Rattle.jc_rules.proofs.Rising.{less_greater, greater_less}

@@ -1,16 +1,15 @@
 -- What passes all conditions of its rules isn't refused.
-use Rattle.std.proofs.Common.{◌≡◌, ◌≢◌, ℕ, List, [], ◌∷◌, Option, Some, None, IfSome, IsSome, Bool, true, false, refl, sym, ◌∙◌, ap, subst}
-use Rattle.jc_rules.specs.declared.id.Id.{Id}
+use Rattle.std.proofs.Common.{◌≡◌, ◌≢◌, ℕ, List, [], ◌∷◌, Option, Some, None, Bool, true, false, sym, ◌∙◌, ap, subst}
 use Rattle.jc_rules.specs.declared.operation.Cursor.{Cursor}
 use Rattle.jc_rules.specs.declared.operation.Event.{Event}
 use Rattle.jc_rules.specs.declared.operation.Event.TheVariants as E
 use Rattle.jc_rules.specs.declared.operation.Mutation.{Mutation}
 use Rattle.jc_rules.specs.declared.operation.Mutation.TheVariants as M
 use Rattle.jc_rules.specs.declared.operation.Op.{Op}
-use Rattle.jc_rules.specs.Ids.{has_id, greatest, AreIn}
+use Rattle.jc_rules.specs.Ids.{has_id, AreIn}
 use Rattle.jc_rules.specs.Syntax.{Expr, Cmd, LetIn, SetTo, InsertAfter, DeleteAt, Yield}
 use Rattle.jc_rules.specs.State.{State, Bound, ACursor}
-use Rattle.jc_rules.specs.Derivation.{Question, Occur, Run, Evaluate, Make, ApplyOp, Operate, Answer, ToBound, Judgement, gives, asked, answered, conclusion, Derivation}
+use Rattle.jc_rules.specs.Derivation.{Question, Occur, Run, Evaluate, Make, ApplyOp, Operate, Answer, ToBound, asked, answered, conclusion}
 use Rattle.jc_rules.specs.Table.{op_of}
 use Rattle.jc_rules.specs.Refused.{Cause, Refused, IsAnswered, IsCursor, IsYieldEvent, WantsCursor, first_expr, made_by, no_command, at_yield, in_command, no_yield, not_at_yield, not_acted, not_received, already_applied, deps_missing, in_received, in_first, not_a_cursor, in_making, in_made, in_applied}
 use Rattle.jc_rules.proofs.Determined.{same_derivation}

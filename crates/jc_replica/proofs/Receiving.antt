@@ -1,7 +1,5 @@
 -- Receiving operations, from what is held before to what is held after.
-use Rattle.std.proofs.Common.{◌≡◌, ℕ, List, [], ◌∷◌, ◌++◌, length, map, drop, Some, None, true, refl, sym, ◌∙◌, ap, subst}
-use Rattle.std.specs.List.{AllByRecursion}
-use Rattle.jc_rules.specs.declared.id.Id.{Id}
+use Rattle.std.proofs.Common.{◌≡◌, ℕ, List, [], ◌∷◌, ◌++◌, length, map, drop, None, true, refl, sym, ◌∙◌, ap, subst}
 use Rattle.jc_rules.specs.declared.operation.Event.TheVariants as E
 use Rattle.jc_rules.specs.declared.operation.Op.{Op}
 use Rattle.jc_rules.specs.declared.rule.Rule.TheVariants as R
@@ -10,23 +8,19 @@ use Rattle.jc_rules.specs.Derivation.{Occur, ToState}
 use Rattle.jc_rules.specs.Sound.{IsSound}
 use Rattle.jc_rules.specs.State.{State}
 use Rattle.jc_rules.specs.Syntax.{Cmd, Yield}
-use Rattle.jc_rules.specs.Table.{both, op_of}
+use Rattle.jc_rules.specs.Table.{both}
 use Rattle.jc_rules.specs.Trace.{Rows, pushed}
 use Rattle.jc_rules.proofs.Steps.{by_axiom}
 use Rattle.jc_sets.specs.States.{kept_op, kept_state, AreOf}
 use Rattle.jc_sets.proofs.Uniting.{union_stands}
 use Rattle.jc_tree.specs.Tree.{Tree}
-use Rattle.jc_tree.specs.declared.store.Mark.{Mark}
-use Rattle.jc_replica.specs.declared.record.Change.{Change}
-use Rattle.jc_replica.specs.declared.record.Change.TheVariants as C
 use Rattle.jc_replica.specs.declared.record.Record.{Record}
 use Rattle.jc_replica.specs.Kept.{IsKeptReplica, CanBack}
 use Rattle.jc_replica.specs.Operations.{AreInOrder, AreHanded, AreOfOne}
 use Rattle.jc_replica.specs.Past.{no_rows}
-use Rattle.jc_replica.specs.Ready.{IsReady}
 use Rattle.jc_replica.specs.Received.{AreKeptOf}
 use Rattle.jc_replica.specs.Seen.{IsSeenAs, IsRead, Leads}
-use Rattle.jc_replica.specs.Undo.{Held, held, back, state_of, without_ops}
+use Rattle.jc_replica.specs.Undo.{Held, held, back, state_of}
 use Rattle.jc_replica.proofs.Events.{Leading, ready_now}
 use Rattle.jc_replica.proofs.Seeing.{left_seen}
 use Rattle.jc_replica.proofs.Steps.{Stepped, stepped, no_later}

@@ -1,5 +1,5 @@
 -- Applying a received operation, from what is held before to what is held after.
-use Rattle.std.proofs.Common.{◌≡◌, ◌≢◌, ℕ, zero, suc, ◌+◌, ◌-◌, ◌<◌, ◌≤◌, List, [], ◌∷◌, ◌++◌, length, take, drop, map, max, Option, Some, None, IfSome, Bool, true, false, ◌||◌, ◌↔◌, ◌⊎◌, inl, inr, Contains, Bor, option_copied, refl, sym, ◌∙◌, ap, subst, arith}
+use Rattle.std.proofs.Common.{◌≡◌, ◌≢◌, ℕ, ◌<◌, ◌≤◌, List, [], ◌∷◌, ◌++◌, length, map, Option, Some, None, IfSome, Bool, true, false, ◌↔◌, ◌⊎◌, inl, inr, Bor, option_copied, refl, sym, ◌∙◌, ap, subst, arith}
 use Rattle.std.proofs.lemmas.Bool.{cases_lt}
 use Rattle.std.specs.List.{AllByRecursion}
 use Rattle.jc_rules.specs.declared.id.Id.{Id}
@@ -11,11 +11,10 @@ use Rattle.jc_rules.specs.Context.{Context}
 use Rattle.jc_rules.specs.Derivation.{Occur, Operate, ToContext, ToState}
 use Rattle.jc_rules.specs.Derives.{Derives}
 use Rattle.jc_rules.specs.Filled.{filled, counted, greatest_of}
-use Rattle.jc_rules.specs.Ids.{has_id, with_id, union, greatest, AreIn}
+use Rattle.jc_rules.specs.Ids.{has_id, union, greatest, AreIn}
 use Rattle.jc_rules.specs.Order.{same_id}
 use Rattle.jc_rules.specs.Refused.{Cause, because, Refused, not_received, already_applied, deps_missing, in_received}
 use Rattle.jc_rules.specs.Shape.{IsChained}
-use Rattle.jc_rules.specs.Stands.{StandsFor}
 use Rattle.jc_rules.specs.State.{State}
 use Rattle.jc_rules.specs.Syntax.{Cmd, Yield}
 use Rattle.jc_rules.specs.Table.{op_of}

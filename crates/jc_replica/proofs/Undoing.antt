@@ -1,5 +1,5 @@
 -- The last step taken back.
-use Rattle.std.proofs.Common.{◌≡◌, ℕ, ◌+◌, ◌-◌, ◌<◌, ◌≤◌, List, [], ◌∷◌, ◌++◌, length, take, map, refl, sym, ◌∙◌, ap, subst, arith, length-take-le}
+use Rattle.std.proofs.Common.{◌≡◌, ℕ, ◌+◌, ◌-◌, ◌<◌, List, [], ◌∷◌, ◌++◌, length, take, ap, subst, arith, length-take-le}
 use Rattle.std.proofs.lemmas.List.{length-map}
 use Rattle.jc_rules.specs.Syntax.{Cmd}
 use Rattle.jc_tree.specs.Tree.{Tree, history}

@@ -1,21 +1,20 @@
 -- How far nothing of a sender's operations is missing.
-use Rattle.std.proofs.Common.{◌≡◌, ◌≢◌, ℕ, zero, suc, ◌-◌, length-drop, ◌≤◌, ◌<◌, List, [], ◌∷◌, ◌++◌, length, get_or, take, drop, remove, slice_get, filter, map, Option, Some, None, Result, Ok, Err, Bool, true, false, not, ◌||◌, eqb, leb, eqb-true, eq-eqb, leb-true, le-leb, max, ◌⊎◌, inl, inr, refl, sym, ◌∙◌, ap, subst, arith}
+use Rattle.std.proofs.Common.{◌≡◌, ℕ, zero, suc, ◌-◌, length-drop, ◌≤◌, ◌<◌, List, [], ◌∷◌, ◌++◌, length, take, drop, remove, slice_get, filter, Some, None, Result, Ok, Err, Bool, true, false, not, ◌||◌, eqb, leb, eqb-true, eq-eqb, leb-true, le-leb, max, ◌⊎◌, inl, inr, refl, sym, ◌∙◌, ap, subst, arith}
 use Rattle.std.proofs.Math.Nat.{eq-or-lt_of_le}
 use Rattle.std.proofs.lemmas.Bool.{cases_lt}
 use Rattle.std.proofs.lemmas.Option.{slice_get_past}
 use Rattle.std.proofs.lemmas.List.{take_all}
 use Rattle.std.specs.declared.cmp.Ordering.TheVariants.{Less, Equal}
 use Rattle.std.specs.List.{AllByRecursion}
-use Rattle.std.specs.Prelude.{Contains}
 use Rattle.jc_rules.specs.declared.id.Id.{Id}
 use Rattle.jc_rules.specs.declared.operation.Op.{Op}
 use Rattle.jc_rules.specs.Order.{id_cmp, same_id}
 use Rattle.jc_rules.specs.Filled.{filled, counted, greatest_of, lowered}
 use Rattle.jc_rules.specs.Ids.{AreRising, has_id, union}
 use Rattle.jc_rules.specs.Sound.{IsSound}
-use Rattle.jc_rules.specs.Table.{op_of, with_op, both}
-use Rattle.jc_rules.proofs.Ids.{same_id-true, same_id-self, equal_itself, has_id-with, same_members}
-use Rattle.jc_rules.proofs.Filled.{not_true, left_in, right_in, both_ways, same_parts, member_below, reached, in_filled, filled_in, filled-rises, same_filled, greatest_least, greatest_of-filled, greatest_of-with, filled-with, greatest_here, greatest_there}
+use Rattle.jc_rules.specs.Table.{op_of, both}
+use Rattle.jc_rules.proofs.Ids.{same_id-true, same_id-self, equal_itself, same_members}
+use Rattle.jc_rules.proofs.Filled.{not_true, right_in, both_ways, same_parts, member_below, reached, in_filled, filled_in, filled-rises, same_filled, greatest_least, greatest_of-filled, greatest_here, greatest_there}
 use Rattle.jc_rules.proofs.Withdrawn.{in_filter, filter_in, filter-rises}
 use Rattle.jc_rules.proofs.Stands.{looked_up, counts}
 use Rattle.jc_sets.specs.States.{kept_op}

@@ -1,5 +1,5 @@
 -- Lists of received operations, and how far nothing of a sender's is missing in them.
-use Rattle.std.specs.Prelude.{◌≡◌, ◌≤◌, ◌<◌, ℕ, Bool, List, [], ◌∷◌, length, filter, insert, not, slice_get, true, Option, Some, None, Result, Ok, Err}
+use Rattle.std.specs.Prelude.{◌≡◌, ◌≤◌, ◌<◌, ℕ, Bool, List, length, insert, not, slice_get, Some, None, Result, Ok, Err}
 use Rattle.std.specs.List.{AllByRecursion}
 use Rattle.jc_rules.specs.declared.id.Id.{Id}
 use Rattle.jc_rules.specs.declared.operation.Op.{Op}
@@ -7,7 +7,7 @@ use Rattle.jc_rules.specs.Filled.{filled, greatest_of}
 use Rattle.jc_rules.specs.Ids.{has_id}
 use Rattle.jc_rules.specs.Table.{op_of, with_op}
 use Rattle.jc_sets.specs.States.{kept_op}
-use Rattle.jc_replica.specs.Operations.{identifiers, AreInOrder, AreOwn}
+use Rattle.jc_replica.specs.Operations.{identifiers, AreInOrder}
 
 -- the operation with the identifier stands there
 pub record StandsAt (i : Id) (os : List Op) (n : ℕ) : Type 0 where

@@ -1,5 +1,5 @@
 -- What applying a received operation asks of a replica's state.
-use Rattle.std.specs.Prelude.{◌≡◌, List, ◌∷◌, Some, true, false}
+use Rattle.std.specs.Prelude.{◌≡◌, List, ◌∷◌, Some, false}
 use Rattle.jc_rules.specs.declared.id.Id.{Id}
 use Rattle.jc_rules.specs.declared.operation.Op.{Op}
 use Rattle.jc_rules.specs.Ids.{has_id, AreIn}

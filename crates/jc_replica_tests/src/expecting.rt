@@ -3,7 +3,7 @@
 use jc_cursor::Bound;
 use jc_dump::dump::{id_text, key_text, tagged_text, tree_value};
 use jc_replica::{Replica, ReplicaFault};
-use jc_rules::{Id, Rule, Text, Trace};
+use jc_rules::{Event, Id, Rule, Text, Trace};
 use jc_tree::PlainTree;
 use std::alloc::{AllocError, Global};
 use std::process::Abort;
@@ -166,4 +166,18 @@ pub fn expect_counts(
     assert_eq!(rt; replica.queue().len(), queue);
     assert_eq!(rt; replica.sent().len(), sent);
     assert_eq!(rt; replica.received().len(), received);
+}
+
+/// Each event of the replica can be made, or can't, as its row says.
+pub fn expect_can(
+    rt: &impl Abort,
+    alloc: Global,
+    replica: &Replica<PlainTree>,
+    rows: &[(Event, bool)],
+) {
+    for (event, want) in rows {
+        assert!(rt; event.replica() == replica.number());
+        let can = replica.can(alloc, event);
+        assert!(rt; can == Ok(*want));
+    }
 }

@@ -1,9 +1,9 @@
 //! Events of yields: what they do, and why they are refused.
 
-use crate::expecting::{expect_counts, expect_number, expect_rows, expect_state, expect_tree};
+use crate::expecting::{expect_can, expect_counts, expect_number, expect_rows, expect_state, expect_tree};
 use crate::replicas::{go_back, id, receive, receive_own, replica, run};
 use jc_replica::Replica;
-use jc_rules::Rule;
+use jc_rules::{Event, Rule};
 use jc_tree::PlainTree;
 use std::alloc::Global;
 use std::process::Abort;
@@ -131,5 +131,62 @@ fn inserts_meet(rt: HostRuntime) -> Result<(), Fail> {
     expect_rows(&rt, &b.apply(alloc, id(2, 0)), &PAST_A_GREATER);
     expect_tree(&rt, alloc, &a, MET)?;
     expect_tree(&rt, alloc, &b, MET)?;
+    Ok(())
+}
+
+/// Which events can be made before a yield, at its beginning, and after its first event.
+#[test]
+fn events_that_can_be_made(rt: HostRuntime) -> Result<(), Fail> {
+    let alloc = rt.alloc();
+    let mut a = replica(&rt, alloc, 0, "doc.get(\"m\") := {}; yield")?;
+    let mut b = replica(&rt, alloc, 1, "yield")?;
+    let rows = [
+        (Event::Exec(0), true),
+        (Event::Send(0), false),
+        (Event::Recv(0, 0), false),
+        (Event::Apply(0, id(1, 0)), false),
+        (Event::Done(0), false),
+    ];
+    expect_can(&rt, alloc, &a, &rows);
+    run(&rt, alloc, &mut a, 1);
+    expect_number(&rt, &a.send(alloc), 0);
+    let rows = [
+        (Event::Exec(1), false),
+        (Event::Send(1), true),
+        (Event::Recv(1, 0), true),
+        (Event::Recv(1, 1), true),
+        (Event::Apply(1, id(1, 0)), false),
+        (Event::Done(1), false),
+    ];
+    expect_can(&rt, alloc, &b, &rows);
+    expect_number(&rt, &receive(&rt, alloc, &mut b, &a), 0);
+    let rows = [
+        (Event::Apply(1, id(1, 0)), true),
+        (Event::Apply(1, id(2, 0)), false),
+        (Event::Done(1), true),
+    ];
+    expect_can(&rt, alloc, &b, &rows);
+    expect_number(&rt, &b.apply(alloc, id(1, 0)), 0);
+    expect_can(&rt, alloc, &b, &[(Event::Apply(1, id(1, 0)), false)]);
+    Ok(())
+}
+
+/// A command can be run where no condition of its rules fails.
+#[test]
+fn commands_that_can_be_run(rt: HostRuntime) -> Result<(), Fail> {
+    let alloc = rt.alloc();
+    let rows = [
+        ("", false),
+        ("yield", false),
+        ("let x = doc", true),
+        ("let x = y", false),
+        ("doc.get(\"a\") := 1", true),
+        ("doc.get(\"a\").insertAfter(1)", false),
+        ("doc.get(\"a\").delete", true),
+    ];
+    for (script, can) in rows {
+        let a = replica(&rt, alloc, 0, script)?;
+        expect_can(&rt, alloc, &a, &[(Event::Exec(0), can)]);
+    }
     Ok(())
 }

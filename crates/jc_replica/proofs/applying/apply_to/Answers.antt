@@ -1,4 +1,4 @@
-use Rattle.std.proofs.Common.{rules, ◌≡◌, ◌≤◌, ap, sym, ◌∙◌, arith}
+use Rattle.std.proofs.Common.{◌≤◌, ap, ◌∙◌, arith}
 use Rattle.jc_rules.specs.Filled.{greatest_of, lowered}
 use Rattle.jc_rules.proofs.Withdrawn.{lowered-inserted}
 use Rattle.jc_replica.proofs.Adding.{is_greatest}

@@ -1,12 +1,12 @@
-use Rattle.std.proofs.Common.{◌≡◌, ◌≤◌, ◌<◌, ◌+◌, ◌∷◌, ◌++◌, [], List, Err, length, sym, subst, ap, ◌∙◌, refl, arith, rules, length-append, vec_len}
+use Rattle.std.proofs.Common.{◌≡◌, ◌∷◌, [], List, sym, subst, ap, ◌∙◌, refl, arith, length-append}
 use Rattle.std.proofs.lemmas.Iterator.Adapters.{YieldsList-from_vec}
 use Rattle.std.proofs.lemmas.Iterator.Consumers.{YieldsList-so_far, YieldsList-turn, YieldsList-end}
 use Rattle.std.proofs.lemmas.List.{map-id}
 use Rattle.jc_rules.specs.declared.operation.Op.{Op}
 use Rattle.jc_rules.specs.Table.{both, with_op}
 use Rattle.jc_replica.specs.Operations.{AreInOrder}
-use Rattle.jc_replica.specs.Received.{IsPlace, BelongsAt}
-use Rattle.jc_replica.proofs.Unions.{IsTurn, turn, belongs, belongs_there, both-in_order, both-last}
+use Rattle.jc_replica.specs.Received.{IsPlace}
+use Rattle.jc_replica.proofs.Unions.{turn, belongs, belongs_there, both-in_order, both-last}
 use Rattle.jc_replica.proofs.received.bring_in.Goals as goal
 
 in_order : (c : goal.After-place_of-arg-1) → AreInOrder c.as_slice.result.now

@@ -1,4 +1,4 @@
-use Rattle.std.proofs.Common.{◌∷◌, [], ◌≡◌, ◌≤◌, ◌<◌, ◌⊎◌, inl, inr, sym, ap, subst, ◌∙◌, ℕ, List, refl, rules}
+use Rattle.std.proofs.Common.{◌∷◌, [], ◌≤◌, ◌<◌, ◌⊎◌, inl, inr, sym, ap, subst, ◌∙◌, List}
 use Rattle.jc_rules.specs.declared.id.Id.{Id}
 use Rattle.jc_rules.specs.Filled.{filled, greatest_of}
 use Rattle.jc_replica.specs.Received.{IsWholeTo}

@@ -1,5 +1,4 @@
-use Rattle.std.proofs.Common.{◌≡◌, Bool, true, false, sym, ap, ◌∙◌, append-nil, List}
-use Rattle.jc_rules.specs.declared.operation.Op.{Op}
+use Rattle.std.proofs.Common.{◌≡◌, true, false, sym, ◌∙◌, append-nil}
 use Rattle.jc_replica.specs.Received.{is_new}
 use Rattle.jc_replica.proofs.Unions.{place_tells, filtered_more}
 use Rattle.jc_replica.proofs.received.new_ones.Goals as goal

@@ -1,4 +1,4 @@
-use Rattle.std.proofs.Common.{List, Some, ◌≡◌, sym, ◌∙◌, subst, get_or, arith}
+use Rattle.std.proofs.Common.{Some, ◌≡◌, sym, ◌∙◌, subst}
 use Rattle.jc_rules.specs.declared.operation.Op.{Op}
 use Rattle.jc_rules.specs.Table.{op_of}
 use Rattle.jc_rules.proofs.Rising.{all_at}

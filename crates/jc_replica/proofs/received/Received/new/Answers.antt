@@ -1,4 +1,3 @@
-use Rattle.std.proofs.Common.{sym, refl}
 use Rattle.jc_replica.proofs.Whole.{none_whole}
 use Rattle.jc_replica.proofs.received.Received.new.Goals as goal
 

@@ -1,9 +1,9 @@
-use Rattle.std.proofs.Common.{◌≡◌, ◌<◌, List, [], ◌∷◌, Option, Some, None, slice_get, remove, length, get_or, refl, sym, ap, subst, ◌∙◌, arith, rules, vec_len, Bor}
-use Rattle.std.proofs.lemmas.Option.{get_or_from_slice_get, slice_get-get_or}
+use Rattle.std.proofs.Common.{◌≡◌, List, [], ◌∷◌, Some, sym, ap, subst, ◌∙◌, arith}
+use Rattle.std.proofs.lemmas.Option.{get_or_from_slice_get}
 use Rattle.jc_rules.specs.declared.operation.Op.{Op}
 use Rattle.jc_rules.specs.Table.{op_of}
 use Rattle.jc_rules.proofs.Stands.{looked_up}
-use Rattle.jc_replica.specs.Received.{IsPlace, StandsAt, BelongsAt, IsKeptList}
+use Rattle.jc_replica.specs.Received.{IsPlace, StandsAt, IsKeptList}
 use Rattle.jc_replica.specs.Undo.{without_ops}
 use Rattle.jc_replica.proofs.Whole.{without_absent, without_standing, standing_within, taken_out_kept, place_absent}
 use Rattle.jc_replica.proofs.received.Received.take_out.Goals as goal

@@ -1,10 +1,10 @@
-use Rattle.std.proofs.Common.{◌≡◌, ℕ, List, [], ◌∷◌, length, filter, drop, take, true, refl, sym, ap, subst, ◌∙◌, rules, arith, vec_len}
+use Rattle.std.proofs.Common.{◌≡◌, List, [], length, filter, drop, true, sym, ap, subst, ◌∙◌, arith}
 use Rattle.std.proofs.lemmas.Grind.{common_steps}
 use Rattle.std.specs.List.{AllByRecursion}
 use Rattle.jc_rules.specs.declared.id.Id.{Id}
 use Rattle.jc_rules.specs.declared.operation.Op.{Op}
 use Rattle.jc_rules.specs.Table.{both}
-use Rattle.jc_replica.specs.Operations.{identifiers, AreInOrder, AreOwn, IsHanded, AreHanded}
+use Rattle.jc_replica.specs.Operations.{identifiers, AreInOrder, IsHanded, AreHanded}
 use Rattle.jc_replica.specs.Received.{is_new, AreAmong, AreKeptOf, IsWholeTo, IsKeptList}
 use Rattle.jc_replica.specs.Undo.{without_ops}
 use Rattle.jc_replica.proofs.Unions.{both-in_order, all_both, taken_out}

@@ -1,18 +1,14 @@
-use Rattle.std.proofs.Common.{rules, ◌≡◌, ◌<◌, ◌++◌, ◌∷◌, [], List, Some, Option, map, true, refl, sym, ap, subst, ◌∙◌, option_copied}
+use Rattle.std.proofs.Common.{rules, ◌≡◌, ◌++◌, ◌∷◌, [], Some, map, refl, sym, ap, ◌∙◌, option_copied}
 use Rattle.std.proofs.lemmas.Result.{err_from_is_err_and}
-use Rattle.jc_rules.specs.declared.id.Id.{Id}
 use Rattle.jc_rules.specs.declared.operation.Event.TheVariants as E
-use Rattle.jc_rules.specs.declared.operation.Op.{Op}
 use Rattle.jc_rules.specs.declared.rule.Rule.TheVariants as R
 use Rattle.jc_rules.specs.Table.{op_of}
-use Rattle.jc_rules.specs.Trace.{Rows, at_depth}
+use Rattle.jc_rules.specs.Trace.{at_depth}
 use Rattle.jc_syntax.specs.Trees.{cmd_of}
 use Rattle.jc_cursor.specs.Bounds.{vars_of}
-use Rattle.jc_replica.specs.declared.record.Record.{Record}
 use Rattle.jc_replica.specs.declared.record.Change.TheVariants as C
 use Rattle.jc_replica.specs.Makes.{opened}
 use Rattle.jc_replica.specs.Past.{Past, no_rows}
-use Rattle.jc_replica.specs.Takes.{Takes}
 use Rattle.jc_replica.specs.Undo.{Held, held, state_of, past_of}
 use Rattle.jc_replica.proofs.Events.{ready_now, occurs}
 use Rattle.jc_replica.proofs.Taking.{takes_again, fresh, above_own, taken_step, taken_leads, refused_all}

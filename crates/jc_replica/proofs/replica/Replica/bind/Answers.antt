@@ -1,4 +1,4 @@
-use Rattle.std.proofs.Common.{rules, ◌≡◌, ◌+◌, [], ◌∷◌, ◌++◌, ap, refl, sym, ◌∙◌, subst, map}
+use Rattle.std.proofs.Common.{rules, ◌≡◌, [], ◌∷◌, ◌++◌, refl, sym, subst}
 use Rattle.jc_rules.specs.Trace.{at_depth}
 use Rattle.jc_cursor.specs.Bounds.{bound_of, vars_of}
 use Rattle.jc_replica.specs.declared.record.Change.TheVariants as C

@@ -1,4 +1,4 @@
-use Rattle.std.proofs.Common.{rules, ◌≡◌, ◌≢◌, ◌≤◌, ◌<◌, length, get_or, suc, drop, map, ap, refl, sym, ◌∙◌, ◌∷◌, true, false, arith}
+use Rattle.std.proofs.Common.{rules, ◌≡◌, ◌≢◌, ◌≤◌, ◌<◌, length, get_or, suc, drop, map, ap, sym, ◌∙◌, ◌∷◌, true, false, arith}
 use Rattle.std.proofs.lemmas.List.{length-map}
 use Rattle.jc_rules.specs.Refused.{no_command, at_yield}
 use Rattle.jc_rules.specs.Syntax.{Yield}

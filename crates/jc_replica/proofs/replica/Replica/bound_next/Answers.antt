@@ -1,6 +1,6 @@
-use Rattle.std.proofs.Common.{rules, ◌≡◌, get_or, ap, sym, refl, ◌∙◌, subst, []}
+use Rattle.std.proofs.Common.{rules, ◌≡◌, get_or, ap, sym, ◌∙◌, []}
 use Rattle.jc_rules.specs.declared.operation.Event.TheVariants as E
-use Rattle.jc_rules.specs.Syntax.{Cmd, LetIn}
+use Rattle.jc_rules.specs.Syntax.{LetIn}
 use Rattle.jc_syntax.specs.Trees.{cmd_of, expr_of}
 use Rattle.jc_cursor.specs.Bounds.{vars_of}
 use Rattle.jc_cursor.specs.Evaluates.{IsRefused, cause_of}

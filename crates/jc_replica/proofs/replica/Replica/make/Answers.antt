@@ -5,7 +5,7 @@ use Rattle.jc_rules.specs.declared.operation.Op.{Op}
 use Rattle.jc_rules.specs.Context.{Context}
 use Rattle.jc_rules.specs.Derivation.{Operate}
 use Rattle.jc_rules.specs.Refused.{Refused}
-use Rattle.jc_rules.specs.Trace.{Rows, at_depth}
+use Rattle.jc_rules.specs.Trace.{at_depth}
 use Rattle.jc_syntax.specs.Trees.{cmd_of}
 use Rattle.jc_cursor.specs.Bounds.{vars_of}
 use Rattle.jc_sets.specs.Members.{with_deps}

@@ -1,7 +1,7 @@
-use Rattle.std.proofs.Common.{rules, ◌≡◌, get_or, map, drop, ap, sym, ◌∙◌, subst, ◌∷◌, [], arith}
+use Rattle.std.proofs.Common.{rules, ◌≡◌, get_or, ap, sym, ◌∙◌, subst, [], arith}
 use Rattle.jc_rules.specs.declared.operation.Event.TheVariants as E
 use Rattle.jc_rules.specs.Ids.{greatest}
-use Rattle.jc_syntax.specs.Trees.{cmd_of, expr_of}
+use Rattle.jc_syntax.specs.Trees.{expr_of}
 use Rattle.jc_cursor.specs.Bounds.{vars_of, bound_of}
 use Rattle.jc_cursor.specs.Evaluates.{Evaluates, IsRefused, cause_of}
 use Rattle.jc_replica.specs.Makes.{IsMaking, rule_by, expr_by, mutation_by}

@@ -1,4 +1,4 @@
-use Rattle.std.proofs.Common.{rules, ◌≡◌, sym, ◌∙◌, ap, subst}
+use Rattle.std.proofs.Common.{sym, ◌∙◌, ap, subst}
 use Rattle.jc_replica.specs.Operations.{AreInOrder}
 use Rattle.jc_replica.specs.Past.{Past}
 use Rattle.jc_replica.proofs.Events.{ready_now}

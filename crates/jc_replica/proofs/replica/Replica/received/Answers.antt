@@ -1,4 +1,4 @@
-use Rattle.std.proofs.Common.{rules, ◌≡◌, ◌∙◌, ap}
+use Rattle.std.proofs.Common.{◌∙◌, ap}
 use Rattle.jc_replica.specs.Past.{Past}
 use Rattle.jc_replica.proofs.replica.Replica.received.Goals as goal
 

@@ -1,4 +1,4 @@
-use Rattle.std.proofs.Common.{rules, ◌≡◌, length, refl, sym, ◌∙◌, ap, [], ◌∷◌, ◌++◌, ℕ, map, true, arith}
+use Rattle.std.proofs.Common.{rules, ◌≡◌, length, refl, ◌∙◌, ap, [], ◌∷◌, ◌++◌, ℕ, map, true, arith}
 use Rattle.jc_rules.specs.Trace.{pushed}
 use Rattle.jc_rules.specs.declared.operation.Event.TheVariants as E
 use Rattle.jc_rules.specs.declared.rule.Rule.TheVariants as R

@@ -1,4 +1,4 @@
-use Rattle.std.proofs.Common.{◌≡◌, Some, None, true, false, sym, ap, ◌∙◌, rules, option_copied, List, subst, Bool}
+use Rattle.std.proofs.Common.{◌≡◌, true, false, sym, ap, ◌∙◌, option_copied, List, subst, Bool}
 use Rattle.jc_rules.specs.Table.{op_of}
 use Rattle.jc_rules.specs.Ids.{has_id, AreIn}
 use Rattle.jc_rules.specs.declared.id.Id.{Id}

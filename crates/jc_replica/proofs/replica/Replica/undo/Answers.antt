@@ -1,4 +1,4 @@
-use Rattle.std.proofs.Common.{rules, ◌≡◌, ◌-◌, [], ◌∷◌, ◌++◌, length, take, ap, refl, sym, ◌∙◌, true}
+use Rattle.std.proofs.Common.{rules, ◌≡◌, ◌-◌, length, take, ap, sym, ◌∙◌, true}
 use Rattle.std.specs.Option.{option_map}
 use Rattle.jc_rules.specs.Filled.{lowered}
 use Rattle.jc_cursor.specs.Bounds.{bound_of, vars_of}
