@@ -3,7 +3,7 @@
 use jc_cursor::Bound;
 use jc_dump::dump::{id_text, key_text, tagged_text, tree_value};
 use jc_replica::{Replica, ReplicaFault};
-use jc_rules::{Event, Id, Rule, Text, Trace};
+use jc_rules::{Event, Rule, Text, Trace};
 use jc_tree::PlainTree;
 use std::alloc::{AllocError, Global};
 use std::process::Abort;
@@ -130,29 +130,20 @@ pub fn expect_vars(
     Ok(())
 }
 
-/// So many commands are left, an event of the yield was made or not, and these identifiers, and no
-/// others of the two replicas up to the counter 9, are applied.
+/// So many commands are left, an event of the yield was made or not, and these are the greatest
+/// counters applied of the two replicas.
 pub fn expect_state(
     rt: &impl Abort,
     replica: &Replica<PlainTree>,
     left: usize,
     acted: bool,
-    applied: &[Id],
+    applied: [u64; 2],
 ) {
     assert_eq!(rt; replica.left().len(), left);
     assert_eq!(rt; replica.acted(), acted);
-    for counter in 1..10 {
-        for replica_number in 0..2 {
-            let id = Id {
-                counter,
-                replica: replica_number,
-            };
-            assert!(rt;
-                replica.ops().contains(id) == applied.contains(&id),
-                "{counter}"
-            );
-        }
-    }
+    let [of_a, of_b] = applied;
+    assert_eq!(rt; replica.ops().greatest_of(0), of_a);
+    assert_eq!(rt; replica.ops().greatest_of(1), of_b);
 }
 
 /// So many operations are in the queue, offered and received.

@@ -3,7 +3,7 @@
 use crate::expecting::{
     expect_missing, expect_number, expect_rows, expect_state, expect_tree, expect_vars,
 };
-use crate::replicas::{id, replica, run};
+use crate::replicas::{replica, run};
 use jc_rules::Rule;
 use std::test::Fail;
 
@@ -45,7 +45,7 @@ fn node_that_is_not_there(rt: HostRuntime) -> Result<(), Fail> {
     let mut a = replica(&rt, alloc, 0, script)?;
     run(&rt, alloc, &mut a, 1);
     expect_missing(&rt, alloc, &a.exec(alloc), "listT(\"l\")")?;
-    expect_state(&rt, &a, 1, false, &[id(1, 0)]);
+    expect_state(&rt, &a, 1, false, [1, 0]);
     expect_tree(
         &rt,
         alloc,
@@ -143,13 +143,13 @@ fn after_a_refusal(rt: HostRuntime) -> Result<(), Fail> {
     let mut a = replica(&rt, alloc, 0, "doc.get(\"a\").insertAfter(1)")?;
     expect_number(&rt, &a.exec(alloc), 20);
     expect_tree(&rt, alloc, &a, "{}")?;
-    expect_state(&rt, &a, 1, false, &[]);
+    expect_state(&rt, &a, 1, false, [0, 0]);
     let script = "doc.get(\"a\") := 1; let s = doc.keys; s := 1";
     let mut b = replica(&rt, alloc, 0, script)?;
     run(&rt, alloc, &mut b, 2);
     expect_number(&rt, &b.exec(alloc), 24);
     expect_vars(&rt, alloc, &b, &[("s", "a ")])?;
-    expect_state(&rt, &b, 1, false, &[id(1, 0)]);
+    expect_state(&rt, &b, 1, false, [1, 0]);
     Ok(())
 }
 
@@ -165,6 +165,6 @@ fn deepest_cursor(rt: HostRuntime) -> Result<(), Fail> {
     let mut a = replica(&rt, alloc, 0, script.as_str())?;
     run(&rt, alloc, &mut a, 515);
     expect_number(&rt, &a.exec(alloc), 29);
-    expect_state(&rt, &a, 1, false, &[id(1, 0), id(2, 0)]);
+    expect_state(&rt, &a, 1, false, [2, 0]);
     Ok(())
 }

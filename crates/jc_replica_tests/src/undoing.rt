@@ -3,7 +3,7 @@
 use crate::expecting::{
     expect_counts, expect_number, expect_rows, expect_state, expect_tree, expect_vars,
 };
-use crate::replicas::{go_back, id, replica, run};
+use crate::replicas::{go_back, replica, run};
 use jc_rules::Rule;
 use std::test::Fail;
 
@@ -30,15 +30,15 @@ fn commands(rt: HostRuntime) -> Result<(), Fail> {
     run(&rt, alloc, &mut a, 5);
     expect_tree(&rt, alloc, &a, DELETED)?;
     expect_vars(&rt, alloc, &a, &[("x", "doc")])?;
-    expect_state(&rt, &a, 0, false, &[id(1, 0), id(2, 0)]);
+    expect_state(&rt, &a, 0, false, [2, 0]);
     go_back(&rt, &mut a, 1);
     expect_tree(&rt, alloc, &a, DELETED)?;
     expect_vars(&rt, alloc, &a, &[("x", "mapT(doc) \"a\"")])?;
-    expect_state(&rt, &a, 1, false, &[id(1, 0), id(2, 0)]);
+    expect_state(&rt, &a, 1, false, [2, 0]);
     go_back(&rt, &mut a, 2);
     expect_tree(&rt, alloc, &a, ASSIGNED)?;
     expect_vars(&rt, alloc, &a, &[("x", "doc")])?;
-    expect_state(&rt, &a, 3, false, &[id(1, 0)]);
+    expect_state(&rt, &a, 3, false, [1, 0]);
     Ok(())
 }
 
@@ -52,7 +52,7 @@ fn once_more(rt: HostRuntime) -> Result<(), Fail> {
     run(&rt, alloc, &mut a, 2);
     expect_tree(&rt, alloc, &a, DELETED)?;
     expect_vars(&rt, alloc, &a, &[("x", "doc")])?;
-    expect_state(&rt, &a, 0, false, &[id(1, 0), id(2, 0)]);
+    expect_state(&rt, &a, 0, false, [2, 0]);
     Ok(())
 }
 
@@ -66,7 +66,7 @@ fn to_the_start(rt: HostRuntime) -> Result<(), Fail> {
     assert!(rt; !a.undo());
     expect_tree(&rt, alloc, &a, "{}")?;
     expect_vars(&rt, alloc, &a, &[])?;
-    expect_state(&rt, &a, 5, false, &[]);
+    expect_state(&rt, &a, 5, false, [0, 0]);
     expect_counts(&rt, &a, 0, 0, 0);
     Ok(())
 }
@@ -89,13 +89,13 @@ fn yields(rt: HostRuntime) -> Result<(), Fail> {
     expect_counts(&rt, &a, 2, 2, 0);
     go_back(&rt, &mut a, 1);
     expect_counts(&rt, &a, 2, 1, 0);
-    expect_state(&rt, &a, 1, false, &[id(1, 0), id(2, 0)]);
+    expect_state(&rt, &a, 1, false, [2, 0]);
     go_back(&rt, &mut a, 2);
     expect_counts(&rt, &a, 1, 1, 0);
-    expect_state(&rt, &a, 3, true, &[id(1, 0)]);
+    expect_state(&rt, &a, 3, true, [1, 0]);
     go_back(&rt, &mut a, 1);
     expect_counts(&rt, &a, 1, 0, 0);
-    expect_state(&rt, &a, 3, false, &[id(1, 0)]);
+    expect_state(&rt, &a, 3, false, [1, 0]);
     expect_number(&rt, &a.done(alloc), 33);
     Ok(())
 }

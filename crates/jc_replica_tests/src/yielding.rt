@@ -1,6 +1,8 @@
 //! Events of yields: what they do, and why they are refused.
 
-use crate::expecting::{expect_can, expect_counts, expect_number, expect_rows, expect_state, expect_tree};
+use crate::expecting::{
+    expect_can, expect_counts, expect_number, expect_rows, expect_state, expect_tree,
+};
 use crate::replicas::{go_back, id, receive, receive_own, replica, run};
 use jc_replica::Replica;
 use jc_rules::{Event, Rule};
@@ -57,7 +59,7 @@ fn refusals(rt: HostRuntime) -> Result<(), Fail> {
     expect_number(&rt, &a.done(alloc), 30);
     expect_number(&rt, &receive_own(&rt, alloc, &mut a), 30);
     go_back(&rt, &mut a, 1);
-    expect_state(&rt, &a, 1, true, &[id(1, 0)]);
+    expect_state(&rt, &a, 1, true, [1, 0]);
     Ok(())
 }
 
@@ -73,14 +75,14 @@ fn dependency_missing(rt: HostRuntime) -> Result<(), Fail> {
     expect_number(&rt, &b.apply(alloc, id(2, 0)), 36);
     expect_number(&rt, &b.apply(alloc, id(1, 0)), 0);
     expect_number(&rt, &b.apply(alloc, id(2, 0)), 0);
-    expect_state(&rt, &b, 1, true, &[id(1, 0), id(2, 0)]);
+    expect_state(&rt, &b, 1, true, [2, 0]);
     expect_counts(&rt, &b, 0, 0, 2);
     expect_tree(&rt, alloc, &b, ASSIGNED_TWICE)?;
     go_back(&rt, &mut b, 2);
-    expect_state(&rt, &b, 1, true, &[]);
+    expect_state(&rt, &b, 1, true, [0, 0]);
     expect_tree(&rt, alloc, &b, "{}")?;
     go_back(&rt, &mut b, 1);
-    expect_state(&rt, &b, 1, false, &[]);
+    expect_state(&rt, &b, 1, false, [0, 0]);
     expect_counts(&rt, &b, 0, 0, 0);
     Ok(())
 }
@@ -113,8 +115,8 @@ fn deletion_meets(rt: HostRuntime) -> Result<(), Fail> {
     expect_number(&rt, &b.apply(alloc, id(2, 0)), 0);
     expect_tree(&rt, alloc, &a, DELETED_AND_ASSIGNED)?;
     expect_tree(&rt, alloc, &b, DELETED_AND_ASSIGNED)?;
-    expect_state(&rt, &a, 1, true, &[id(1, 0), id(2, 0), id(2, 1)]);
-    expect_state(&rt, &b, 1, true, &[id(1, 0), id(2, 0), id(2, 1)]);
+    expect_state(&rt, &a, 1, true, [2, 2]);
+    expect_state(&rt, &b, 1, true, [2, 2]);
     expect_counts(&rt, &a, 2, 2, 1);
     expect_counts(&rt, &b, 1, 1, 2);
     Ok(())
