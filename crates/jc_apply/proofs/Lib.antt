@@ -1,4 +1,6 @@
 pub mod Reaching
+pub mod Answered
+pub mod Unrefused
 pub mod Unanswered
 pub mod Putting
 pub mod Rules

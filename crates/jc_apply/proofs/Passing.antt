@@ -47,7 +47,7 @@ pub record Passing (o : Op) (c : Context) (k : Key) (n : Next) (t u : Rows) : Ty
   pub longer : IsLonger t u
   pub rest : (d : Context) (v : Rows) → Derives (Operate c (moved o [] k o.mutation)) (ToContext d) u v → Derives (Operate c (moved o [] o.cursor.last o.mutation)) (ToContext d) t (at_depth t.depth v)
 
-no_links : (k : Key) (n : Next) (c : Context) → IsChained c → next k c ≡ Some n → ⊥
+pub no_links : (k : Key) (n : Next) (c : Context) → IsChained c → next k c ≡ Some n → ⊥
 no_links k n (context m l r p ns) h e = let f : None ≡ Some n = rw h.0 at e in cc
 
 -- a place where a key is linked is a list

@@ -1,5 +1,5 @@
 -- What the table answers fits, and what doesn't fit is refused.
-use Rattle.std.proofs.Common.{◌≡◌, ◌≢◌, ◌↔◌, IsTrue, IsFalse, List, [], ◌∷◌, Option, Some, None, Bool, refl, sym, ◌∙◌, ap, subst}
+use Rattle.std.proofs.Common.{◌≡◌, ◌≢◌, ◌↔◌, IsTrue, IsFalse, List, [], ◌∷◌, Option, Some, None, Bool, refl, sym, ◌∙◌, ap, subst, inl}
 use Rattle.std.specs.List.{AllByRecursion}
 use Rattle.jc_rules.specs.declared.key.Key.{Key}
 use Rattle.jc_rules.specs.declared.key.Next.{Next}
@@ -17,33 +17,16 @@ use Rattle.jc_rules.specs.Order.{key_cmp}
 use Rattle.jc_rules.specs.Entries.{find}
 use Rattle.jc_rules.specs.Context.{Context, Content, Node, node_of, content, new_content, next, maps, lists}
 use Rattle.jc_rules.specs.Places.{node_in}
-use Rattle.jc_rules.specs.Derivation.{Question, Child, Operate, Answer, ToContent, ToContext, Judgement, gives, Derivation, derive, Premises, none, conclusion, conclusions}
-use Rattle.jc_rules.specs.Table.{Follows, Holds, AllHold, moved}
-use Rattle.jc_rules.specs.Refused.{because, IsAnswered, Refused, operate_below, not_in_list}
+use Rattle.jc_rules.specs.Derivation.{Child, Operate, Answer, ToContent, ToContext, Judgement, gives, derive, Premises, none, conclusions}
+use Rattle.jc_rules.specs.Table.{Follows, AllHold, moved}
+use Rattle.jc_rules.specs.Refused.{Cause, because, IsAnswered, Refused, operate_below, not_in_list}
+use Rattle.jc_rules.specs.Shape.{IsChained}
 use Rattle.jc_rules.specs.Paths.{HasContext, IsPath}
 use Rattle.jc_rules.proofs.Refusing.{first_is, second_is}
 use Rattle.jc_apply.specs.Fits.{Fits, FitsHere, InChild, HasNoAnswer, EachOp, or_new, child_of}
 use Rattle.jc_apply.proofs.Reaching.{fits_all, differ}
-
--- the last rule of an answer, with its premises
-last_rule : (q : Question) (a : Answer) (P : Type 0) → IsAnswered q a → ((r : Rule) (ps : Premises) → Follows r q a (conclusions ps) → AllHold ps → P) → P
-last_rule q a P s f = go s.derivation s.holds s.concludes
-  where
-    go : (d : Derivation) → Holds d → conclusion d ≡ gives q a → P
-    go (derive r j ps) h is =
-        let h2 = subst (λ (i : Judgement). Holds (derive r i ps)) is h in
-        f r ps h2.0 h2.1
-
--- what is answered for a child, is there or new
-child_is : (t : Tagged) (c d : Context) → IsAnswered (Child c t) (ToContent (Node d)) → child_of t c ≡ Some d
-child_is t c d a = last_rule (Child c t) (ToContent (Node d)) _ a (λ r ps f h. ap (λ (x : Content). node_in (Some x)) (sym (follows r t (Node d) (conclusions ps) f)))
-  where
-    follows : (r : Rule) (t : Tagged) (x : Content) (js : List Judgement) → Follows r (Child c t) (ToContent x) js → x ≡ or_new t (content t c)
-    follows R.ChildGet t x js (y, there, _, is) = let same : x ≡ y = cc in same ∙ ap (or_new t) (sym there)
-    follows R.ChildMap (MapT k) x js (absent, _, is) = let same : x ≡ new_content (MapT k) = cc in same ∙ ap (or_new (MapT k)) (sym absent)
-    follows R.ChildList (ListT k) x js (absent, _, is) = let same : x ≡ new_content (ListT k) = cc in same ∙ ap (or_new (ListT k)) (sym absent)
-    follows R.ChildReg (RegT k) x js (absent, _, is) = let same : x ≡ new_content (RegT k) = cc in same ∙ ap (or_new (RegT k)) (sym absent)
-    follows _ t x js h = absurd h
+use Rattle.jc_apply.proofs.Answered.{last_rule, child_is}
+use Rattle.jc_apply.proofs.Unrefused.{unrefused}
 
 -- the context below a path's first key, where the operation is answered with the rest of its path
 record Below (c : Context) (o : Op) (t : Tagged) (ts : List Tagged) : Type 0 where
@@ -96,6 +79,9 @@ answered_fits (t ∷ ts) c o a e s =
 -- the same cursor and mutation ask for the same
 fits_alike : (c : Context) (cursor : Cursor) (m : Mutation) (o : Op) → o.cursor ≡ cursor → o.mutation ≡ m → Fits c o.cursor.path o.cursor.last o.mutation → Fits c cursor.path cursor.last m
 fits_alike c cursor m o at is = subst (λ (x : Cursor × Mutation). Fits c x.0.path x.0.last x.1) (λ i. (at i, is i))
+
+alike_fits : (c : Context) (cursor : Cursor) (m : Mutation) (o : Op) → o.cursor ≡ cursor → o.mutation ≡ m → Fits c cursor.path cursor.last m → Fits c o.cursor.path o.cursor.last o.mutation
+alike_fits c cursor m o at is = subst (λ (x : Cursor × Mutation). Fits c x.0.path x.0.last x.1) (λ i. (sym at i, sym is i))
 
 unanswered : (c : Context) (cursor : Cursor) (m : Mutation) → (Fits c cursor.path cursor.last m → ⊥) → EachOp cursor m (λ o. HasNoAnswer (Operate c o))
 unanswered c cursor m unfit o at is a s = unfit (fits_alike c cursor m o at is (answered_fits o.cursor.path c o a refl s))
@@ -161,10 +147,12 @@ pub record Told (c : Context) (cursor : Cursor) (m : Mutation) (r : Bool) : Type
   pub fits : IsTrue r ↔ Fits c cursor.path cursor.last m
   pub no_answer : IsFalse r → EachOp cursor m (λ o. HasNoAnswer (Operate c o))
   pub refused : IsFalse r → EachOp cursor m (λ o. Refused (Operate c o) (because F.NotInList))
+  pub not_refused : IsTrue r → IsChained c → EachOp cursor m (λ o. (why : Cause) → Refused (Operate c o) why → ⊥)
 
 pub told : (c : Context) (cursor : Cursor) (m : Mutation) (r : Bool) → IsPath cursor.path → IsTrue r ↔ Fits c cursor.path cursor.last m → Told c cursor m r
 told c cursor m r p h = record {
   fits = h;
   no_answer = λ e. unanswered c cursor m (λ f. differ (sym e ∙ h.1 f));
   refused = λ e. refused c cursor m (λ f. differ (sym e ∙ h.1 f)) p.contexts;
+  not_refused = λ e chained o at is why x. unrefused x (inl chained, alike_fits c cursor m o at is (h.0 e));
 }

@@ -4,7 +4,8 @@ ghost use Rattle.std.specs.Prelude.{◌≢◌, ◌↔◌, IsTrue, IsFalse, None,
 ghost use Rattle.jc_rules.specs.declared.refusal.Refusal.TheVariants.{NotInList};
 ghost use Rattle.jc_rules.specs.Context.{next as next_of};
 ghost use Rattle.jc_rules.specs.Derivation.{Operate};
-ghost use Rattle.jc_rules.specs.Refused.{Refused, because};
+ghost use Rattle.jc_rules.specs.Refused.{Cause, Refused, because};
+ghost use Rattle.jc_rules.specs.Shape.{IsChained};
 ghost use Rattle.jc_apply.specs.Fits.{Fits, HasNoAnswer, EachOp, made_under};
 
 use jc_rules::{Cursor, Key, Mutation, Tagged};
@@ -20,13 +21,16 @@ fn is_new_head(parent: Option<&Tagged>, key: &Key) -> bool
 
 /// Whether an operation with this cursor and this mutation can be applied: maps and lists on its
 /// path that aren't there yet would be made, and an insert's key has to be linked at the path's
-/// end. What doesn't fit is refused with `NotInList`. It takes no memory.
+/// end. What doesn't fit is refused with `NotInList`; what fits is refused for nothing, where the
+/// document's lists are chained. It takes no memory.
 pub fn fits<S: TreeStore>(store: &S, cursor: &Cursor, mutation: &Mutation) -> bool
     ensures fits { IsTrue result ↔ Fits (S.tree store.now).now cursor.now.path cursor.now.last mutation.now }
     ensures no_answer { IsFalse result
         → EachOp cursor.now mutation.now (λ o. HasNoAnswer (Operate (S.tree store.now).now o)) }
     ensures refused { IsFalse result
         → EachOp cursor.now mutation.now (λ o. Refused (Operate (S.tree store.now).now o) (because NotInList)) }
+    ensures not_refused { IsTrue result → IsChained (S.tree store.now).now
+        → EachOp cursor.now mutation.now (λ o. (why : Cause) → Refused (Operate (S.tree store.now).now o) why → ⊥) }
 {
     let path = cursor.path.as_slice();
     let mut there = true;

@@ -38,7 +38,7 @@ deps_closed set i o sound h =
         subst (λ (x : Op). AreIn x.deps o.deps) same closed
 
 -- the operation that was kept
-kept_found : (i : Id) (os : List Op) (k : Op) → op_of i (map kept_op os) ≡ Some k → (o : Op) × (op_of i os ≡ Some o) × (k ≡ kept_op o)
+pub kept_found : (i : Id) (os : List Op) (k : Op) → op_of i (map kept_op os) ≡ Some k → (o : Op) × (op_of i os ≡ Some o) × (k ≡ kept_op o)
 kept_found i [] k h = absurd (let f : ⊥ = cc in f)
 kept_found i (e ∷ os) k h = go (same_id i e.id) refl (kept_found i os k) h
   where

@@ -1,0 +1,5 @@
+use Rattle.jc_replica.proofs.Whole.{none_whole}
+use Rattle.jc_replica.proofs.received.Received.new.Goals as goal
+
+pub invariant_of-result : goal.invariant_of-result
+invariant_of-result c = rw (c.new.ensures.items, c.new-2.ensures) none_whole

@@ -1,0 +1,26 @@
+-- Which events can be made.
+use Rattle.std.specs.Prelude.{◌≡◌, List, [], Bool, true, false}
+use Rattle.jc_rules.specs.declared.operation.Event.{Event}
+use Rattle.jc_rules.specs.declared.operation.Event.TheVariants as E
+use Rattle.jc_rules.specs.declared.operation.Op.{Op}
+use Rattle.jc_rules.specs.Derivation.{Occur}
+use Rattle.jc_rules.specs.Refused.{Cause, Refused}
+use Rattle.jc_rules.specs.State.{State}
+use Rattle.jc_replica.specs.Past.{Past}
+use Rattle.jc_replica.specs.Seen.{IsSeenAs, IsRead}
+
+-- what an event may read: whatever is offered where it receives, and else nothing
+abbrev pub MayRead : Event → List Op → Type 0
+MayRead (E.Recv p q) read = Unit {0}
+MayRead _ read = read ≡ []
+
+-- In each sound set, whatever is read: what the state stands for refuses the event for no cause, or for one.
+abbrev pub CanOccur : Event → Past → Bool → Type 0
+CanOccur event now true =
+    (set os read : List Op) (A : State) (why : Cause)
+    → MayRead event read → IsSeenAs set now.number A now.now → IsRead set os read
+    → Refused (Occur A event os) why → ⊥
+CanOccur event now false =
+    (set os read : List Op) (A : State)
+    → MayRead event read → IsSeenAs set now.number A now.now → IsRead set os read
+    → (why : Cause) × Refused (Occur A event os) why

@@ -1,0 +1,13 @@
+pub mod Codes
+pub mod Past
+pub mod Operations
+pub mod Ready
+pub mod Seen
+pub mod Answers
+pub mod Makes
+pub mod Undo
+pub mod Kept
+pub mod Binds
+pub mod Can
+pub mod Received
+pub mod Takes

@@ -1,0 +1,54 @@
+-- Lists of received operations, and how far nothing of a sender's is missing in them.
+use Rattle.std.specs.Prelude.{◌≡◌, ◌≤◌, ◌<◌, ℕ, Bool, List, length, insert, not, slice_get, Some, None, Result, Ok, Err}
+use Rattle.std.specs.List.{AllByRecursion}
+use Rattle.jc_rules.specs.declared.id.Id.{Id}
+use Rattle.jc_rules.specs.declared.operation.Op.{Op}
+use Rattle.jc_rules.specs.Filled.{filled, greatest_of}
+use Rattle.jc_rules.specs.Ids.{has_id}
+use Rattle.jc_rules.specs.Table.{op_of, with_op}
+use Rattle.jc_sets.specs.States.{kept_op}
+use Rattle.jc_replica.specs.Operations.{identifiers, AreInOrder}
+
+-- the operation with the identifier stands there
+pub record StandsAt (i : Id) (os : List Op) (n : ℕ) : Type 0 where
+  pub operation : Op
+  pub entry : slice_get os n ≡ Some operation
+  pub found : op_of i os ≡ Some operation
+
+-- no operation has the identifier, and one that had it would come in there
+pub record BelongsAt (i : Id) (os : List Op) (n : ℕ) : Type 0 where
+  pub within : n ≤ length os
+  pub absent : op_of i os ≡ None
+  pub place : (o : Op) → o.id ≡ i → with_op o os ≡ insert os n o
+
+abbrev pub IsPlace : Id → List Op → Result ℕ ℕ → Type 0
+IsPlace i os (Ok n) = StandsAt i os n
+IsPlace i os (Err n) = BelongsAt i os n
+
+-- no operation of the list has the identifier of this one
+abbrev pub is_new : List Op → Op → Bool
+is_new os p = not (has_id p.id (identifiers os))
+
+-- each is an operation of the set as it is kept
+abbrev pub AreKeptOf : List Op → List Op → Type 0
+AreKeptOf set os = AllByRecursion (λ k. (o : Op) × (op_of k.id set ≡ Some o) × (k ≡ kept_op o)) os
+
+-- Of the replica's own nothing is missing up to the counter: the operation that has it is there, and so is all on which
+-- that one depends, the nearest first.
+pub data IsWholeTo (q : ℕ) (os : List Op) : ℕ → Type 0 where
+  none : IsWholeTo q os 0
+  more : {n : ℕ} {o : Op}
+      → op_of (record { counter = n; replica = q }) os ≡ Some o
+      → greatest_of q o.deps < n
+      → IsWholeTo q os (greatest_of q o.deps)
+      → IsWholeTo q os n
+
+-- each is in the list
+abbrev pub AreAmong : List Op → List Op → Type 0
+AreAmong ps os = AllByRecursion (λ p. op_of p.id os ≡ Some p) ps
+
+-- the list stands by identifier, and of each replica nothing up to its greatest counter is missing
+pub record IsKeptList (os : List Op) (whole : List Id) : Type 0 where
+  pub order : AreInOrder os
+  pub filled : whole ≡ filled whole
+  pub missing : (q : ℕ) → IsWholeTo q os (greatest_of q whole)

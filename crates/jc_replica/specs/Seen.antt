@@ -1,0 +1,42 @@
+-- What the kept state of a replica stands for, and what an event makes of that.
+use Rattle.std.specs.Prelude.{◌≡◌, ℕ, List, ◌∷◌, Option, Some, None, IfSome, map}
+use Rattle.jc_rules.specs.declared.operation.Event.{Event}
+use Rattle.jc_rules.specs.declared.operation.Op.{Op}
+use Rattle.jc_rules.specs.Derivation.{Occur, ToState}
+use Rattle.jc_rules.specs.Derives.{Derives}
+use Rattle.jc_rules.specs.State.{State}
+use Rattle.jc_rules.specs.Table.{op_of, with_op}
+use Rattle.jc_rules.specs.Trace.{Rows}
+use Rattle.jc_sets.specs.States.{StateStandsFor, HasOwn, kept_op, AreOf}
+use Rattle.jc_replica.specs.Operations.{AreOfOne}
+use Rattle.jc_replica.specs.Past.{no_rows}
+
+-- The kept state of the replica p stands for the state A in the sound set of operations, all of p's own among them
+-- applied.
+pub record IsSeenAs (set : List Op) (p : ℕ) (A kept : State) : Type 0 where
+  pub stands : StateStandsFor set A kept
+  pub own : HasOwn set p A
+
+-- the operations of the set that are read, as they are kept: what one replica offers, of its own
+pub record IsRead (set os read : List Op) : Type 0 where
+  pub of : AreOf set os
+  pub is : read ≡ map kept_op os
+  pub one : AreOfOne read
+
+-- with the operation that was made, if one was
+abbrev pub grown : Option Op → List Op → List Op
+grown None set = set
+grown (Some o) set = o ∷ set
+
+abbrev pub queued : Option Op → List Op → List Op
+queued None queue = queue
+queued (Some o) queue = with_op o queue
+
+-- The event leads from A to a state for which the new kept one stands, in the set with what was made.
+pub record Leads (set : List Op) (event : Event) (p : ℕ) (os : List Op) (A kept : State) (rows : Rows) : Type 0 where
+  pub now : State
+  pub made : Option Op
+  pub derives : Derives (Occur A event os) (ToState now) no_rows rows
+  pub seen : IsSeenAs (grown made set) p now kept
+  pub queue : now.queue ≡ queued made A.queue
+  pub fresh : IfSome made (λ o. (op_of o.id set ≡ None) × (o.id.replica ≡ p))

@@ -1,0 +1,61 @@
+//! Applying received operations.
+
+ghost use Rattle.std.specs.Prelude.{◌≡◌, [], IfOk, IfErr};
+ghost use Rattle.jc_rules.specs.declared.operation.Event.TheVariants as E;
+ghost use Rattle.jc_replica.specs.Answers.{Answers, IsRefused};
+ghost use Rattle.jc_replica.specs.Takes.{Takes};
+
+use crate::applying::apply_to;
+use crate::fault::ReplicaFault;
+use crate::record::{Change, Record};
+use crate::replica::Replica;
+use jc_rules::{Id, Op, Rule, Trace};
+use jc_tree::TreeStore;
+use std::alloc::Global;
+
+impl<S: TreeStore> Replica<S> {
+    /// The received operation with the identifier, where a yield comes next and all that it depends
+    /// on was applied, but it wasn't.
+    pub(crate) fn takes(&self, id: Id) -> Result<&Op, ReplicaFault>
+        ensures ok { IfOk result (λ op. Takes self.now.now id op.now) }
+        ensures err { IfErr result (λ f. IsRefused (E.Apply self.now.number id) [] self.now f) }
+    {
+        self.at_yield()?;
+        let Some(op) = self.recv.find(id) else {
+            return Err(ReplicaFault::NotReceived);
+        };
+        if self.ops.contains(id) {
+            return Err(ReplicaFault::AlreadyApplied);
+        }
+        if !op.deps.is_subset(&self.ops) {
+            return Err(ReplicaFault::DepsMissing);
+        }
+        Ok(op)
+    }
+
+    /// Applies the received operation with the identifier, and gives the trace of the event.
+    ///
+    /// It is refused, in this order, with `NoCommand` or `NotAtYield` where no yield comes next, `NotReceived`,
+    /// `AlreadyApplied`, `DepsMissing` where it depends on one that isn't applied, and `NotInList`. After a
+    /// refusal all is as it was.
+    pub fn apply(&mut self, alloc: Global, id: Id) -> Result<Trace, ReplicaFault>
+        ensures { Answers (E.Apply self.old.number id) [] self.old self.new result }
+    {
+        self.takes(id)?;
+        let Some(op) = self.recv.find(id) else {
+            unreachable!();
+        };
+        let mut trace = Trace::new(alloc);
+        trace.open(Rule::ApplyRemote)?;
+        self.steps.reserve(1)?;
+        let mark = self.store.mark();
+        let acted = self.acted;
+        let before = self.ops.greatest_of(id.replica);
+        apply_to(alloc, &mut self.store, &mut self.ops, op, &mut trace)?;
+        trace.close(0);
+        self.acted = true;
+        let change = Change::Applied { id, before, acted };
+        self.steps.push(Record { mark, change }).unwrap();
+        Ok(trace)
+    }
+}

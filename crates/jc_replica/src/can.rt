@@ -1,0 +1,83 @@
+//! Which events can be made.
+
+ghost use Rattle.std.specs.Prelude.{◌≡◌, List, [], IfOk, IfErr, IsFalse, IsSome};
+ghost use Rattle.jc_rules.specs.declared.operation.Event.TheVariants as E;
+ghost use Rattle.jc_rules.specs.declared.operation.Op.{Op as AnyOp};
+ghost use Rattle.jc_rules.specs.Step.{replica_of};
+ghost use Rattle.jc_replica.specs.Answers.{cause_of, IsRefused};
+ghost use Rattle.jc_replica.specs.Can.{CanOccur, MayRead};
+
+use crate::fault::ReplicaFault;
+use crate::replica::Replica;
+use jc_apply::fits;
+use jc_rules::{Event, Id, Trace};
+use jc_tree::TreeStore;
+use std::alloc::{AllocError, Global};
+
+/// That an event refused for this can't be made, unless memory was refused.
+fn cannot(fault: ReplicaFault) -> Result<bool, AllocError>
+    ensures { IfOk result (λ b. IsFalse b × IsSome (cause_of fault)) }
+{
+    match fault {
+        ReplicaFault::Memory => Err(AllocError),
+        _ => Ok(false),
+    }
+}
+
+impl<S: TreeStore> Replica<S> {
+    /// Whether the event, which is the replica's, can be made: whether its call isn't refused, other
+    /// than for want of memory, whatever a replica offers. Only for a command does it take memory.
+    pub fn can(&self, alloc: Global, event: &Event) -> Result<bool, AllocError>
+        requires { replica_of event.now ≡ self.now.number }
+        ensures { IfOk result (λ b. CanOccur event.now self.now b) }
+    {
+        match self.tells(alloc, event) {
+            Ok(can) => Ok(can),
+            Err(fault) => cannot(fault),
+        }
+    }
+
+    /// Whether the event can be made, or why it can't.
+    fn tells(&self, alloc: Global, event: &Event) -> Result<bool, ReplicaFault>
+        requires { replica_of event.now ≡ self.now.number }
+        ensures ok { IfOk result (λ b. CanOccur event.now self.now b) }
+        ensures err { IfErr result (λ f. (read : List AnyOp)
+            → MayRead event.now read → IsRefused event.now read self.now f) }
+    {
+        match event {
+            Event::Exec(_) => self.runs(alloc),
+            Event::Apply(_, id) => self.applies(*id),
+            Event::Send(_) | Event::Recv(_, _) => {
+                self.at_yield()?;
+                Ok(true)
+            }
+            Event::Done(_) => {
+                self.at_yield()?;
+                Ok(self.acted)
+            }
+        }
+    }
+
+    /// Whether the next command can be run, or why it can't.
+    fn runs(&self, alloc: Global) -> Result<bool, ReplicaFault>
+        ensures ok { IfOk result (λ b. CanOccur (E.Exec self.now.number) self.now b) }
+        ensures err { IfErr result (λ f. IsRefused (E.Exec self.now.number) [] self.now f) }
+    {
+        let mut trace = Trace::new(alloc);
+        if self.binds_next()? {
+            let _bound = self.bound_next(alloc, &mut trace)?;
+            return Ok(true);
+        }
+        let op = self.make_op(alloc, &mut trace)?;
+        Ok(fits(&self.store, &op.cursor, &op.mutation))
+    }
+
+    /// Whether the received operation with the identifier can be applied, or why it can't.
+    fn applies(&self, id: Id) -> Result<bool, ReplicaFault>
+        ensures ok { IfOk result (λ b. CanOccur (E.Apply self.now.number id) self.now b) }
+        ensures err { IfErr result (λ f. IsRefused (E.Apply self.now.number id) [] self.now f) }
+    {
+        let op = self.takes(id)?;
+        Ok(fits(&self.store, &op.cursor, &op.mutation))
+    }
+}

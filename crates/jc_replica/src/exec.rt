@@ -1,0 +1,184 @@
+//! Running commands.
+
+ghost use Rattle.std.specs.Prelude.{◌≡◌, [], ◌↔◌, IsTrue, IsFalse, IfOk, IfErr};
+ghost use Rattle.jc_rules.specs.declared.operation.Event.TheVariants as E;
+ghost use Rattle.jc_syntax.specs.Trees.{cmd_of, expr_of};
+ghost use Rattle.jc_cursor.specs.Bounds.{bound_of};
+ghost use Rattle.jc_replica.specs.Answers.{Answers, IsRefused};
+ghost use Rattle.jc_replica.specs.Makes.{Makes, MakesNext, Binds, BindsNext, IsMaking, IsLet, rule_by, mutation_by, expr_by};
+
+use crate::applying::apply_to;
+use crate::fault::ReplicaFault;
+use crate::record::{Change, Record};
+use crate::replica::Replica;
+use crate::vars::bind_var;
+use crate::yielding::is_yield;
+use jc_cursor::{Bound, eval};
+use jc_rules::{Id, Mutation, Op, Rule, Text, Trace};
+use jc_syntax::{Cmd, Expr};
+use jc_tree::TreeStore;
+use std::alloc::{AllocError, Global};
+
+/// The rule by which the command makes an operation.
+fn rule_of(command: &Cmd) -> Rule
+    ensures { result ≡ rule_by (cmd_of command.now) }
+{
+    match command {
+        Cmd::Set(_, _) => Rule::MakeAssign,
+        Cmd::InsertAfter(_, _) => Rule::MakeInsert,
+        Cmd::Let(_, _) | Cmd::Delete(_) | Cmd::Yield => Rule::MakeDelete,
+    }
+}
+
+/// The expression of the place where the command makes an operation.
+fn place_of(command: &Cmd) -> &Expr
+    requires { IsMaking (cmd_of command.now) }
+    ensures { expr_of result.now ≡ expr_by (cmd_of command.now) }
+{
+    match command {
+        Cmd::Set(expr, _) | Cmd::InsertAfter(expr, _) | Cmd::Delete(expr) => expr,
+        Cmd::Let(_, _) | Cmd::Yield => unreachable!(),
+    }
+}
+
+/// What the operation does that the command makes.
+fn mutation_of(command: &Cmd) -> Result<Mutation, AllocError>
+    ensures { IfOk result (λ mutation. mutation ≡ mutation_by (cmd_of command.now)) }
+{
+    match command {
+        Cmd::Set(_, value) => Ok(Mutation::Assign(value.copy()?)),
+        Cmd::InsertAfter(_, value) => Ok(Mutation::Insert(value.copy()?)),
+        Cmd::Let(_, _) | Cmd::Delete(_) | Cmd::Yield => Ok(Mutation::Delete),
+    }
+}
+
+/// Whether the command binds a variable.
+fn is_let(command: &Cmd) -> bool
+    ensures { IsTrue result ↔ IsLet (cmd_of command.now) }
+{
+    match command {
+        Cmd::Let(_, _) => true,
+        Cmd::Set(_, _) | Cmd::InsertAfter(_, _) | Cmd::Delete(_) | Cmd::Yield => false,
+    }
+}
+
+impl<S: TreeStore> Replica<S> {
+    /// Runs the next command, and gives the trace of the event. Where no command is left, or the
+    /// next one is `yield`, it is refused; else for the first condition that fails in its rules.
+    /// After a refusal all is as it was.
+    pub fn exec(&mut self, alloc: Global) -> Result<Trace, ReplicaFault>
+        ensures { Answers (E.Exec self.old.number) [] self.old self.new result }
+    {
+        if self.binds_next()? {
+            self.bind(alloc)
+        } else {
+            self.make(alloc)
+        }
+    }
+
+    /// Whether the next command binds a variable; else it makes an operation. Where there is none, or
+    /// it is `yield`, why it isn't run.
+    pub(crate) fn binds_next(&self) -> Result<bool, ReplicaFault>
+        ensures binds { IfOk result (λ b. IsTrue b → BindsNext self.now.now.left) }
+        ensures makes { IfOk result (λ b. IsFalse b → MakesNext self.now.now.left) }
+        ensures err { IfErr result (λ f. IsRefused (E.Exec self.now.number) [] self.now f) }
+    {
+        if self.done == self.script.len() {
+            return Err(ReplicaFault::NoCommand);
+        }
+        let command = &self.script[self.done];
+        if is_yield(command) {
+            return Err(ReplicaFault::AtYield);
+        }
+        Ok(is_let(command))
+    }
+
+    /// What the next command binds which variable to.
+    pub(crate) fn bound_next(
+        &self,
+        alloc: Global,
+        trace: &mut Trace,
+    ) -> Result<(Text, Bound), ReplicaFault>
+        requires { BindsNext self.now.now.left }
+        ensures ok { IfOk result (λ var. Binds self.now.now var.0 (bound_of var.1) trace.old trace.new) }
+        ensures err { IfErr result (λ f. IsRefused (E.Exec self.now.number) [] self.now f) }
+    {
+        let Cmd::Let(name, expr) = &self.script[self.done] else {
+            unreachable!();
+        };
+        trace.open(Rule::Exec)?;
+        trace.open(Rule::Let)?;
+        let bound = eval(alloc, &self.store, self.vars.as_slice(), expr, trace)?;
+        Ok((name.copy()?, bound))
+    }
+
+    /// Runs the next command, which binds a variable.
+    fn bind(&mut self, alloc: Global) -> Result<Trace, ReplicaFault>
+        requires { BindsNext self.old.now.left }
+        ensures { Answers (E.Exec self.old.number) [] self.old self.new result }
+    {
+        let mut trace = Trace::new(alloc);
+        let (name, bound) = self.bound_next(alloc, &mut trace)?;
+        self.steps.reserve(1)?;
+        let mark = self.store.mark();
+        let (place, before) = bind_var(&mut self.vars, name, bound)?;
+        trace.close(0);
+        self.done += 1;
+        let change = Change::Bound { place, before };
+        self.steps.push(Record { mark, change }).unwrap();
+        Ok(trace)
+    }
+
+    /// The operation that the next command makes.
+    pub(crate) fn make_op(&self, alloc: Global, trace: &mut Trace) -> Result<Op, ReplicaFault>
+        requires { MakesNext self.now.now.left }
+        ensures ok { IfOk result (λ op. Makes self.now.now self.now.number op trace.old trace.new) }
+        ensures err { IfErr result (λ f. IsRefused (E.Exec self.now.number) [] self.now f) }
+    {
+        let command = &self.script[self.done];
+        trace.open(Rule::Exec)?;
+        trace.open(rule_of(command))?;
+        let bound = eval(
+            alloc,
+            &self.store,
+            self.vars.as_slice(),
+            place_of(command),
+            trace,
+        )?;
+        let Bound::Cursor(cursor) = bound else {
+            return Err(ReplicaFault::NotACursor);
+        };
+        trace.open(Rule::MakeOp)?;
+        trace.open(Rule::ApplyLocal)?;
+        Ok(Op {
+            id: Id {
+                counter: self.ops.greatest() + 1,
+                replica: self.number,
+            },
+            deps: self.ops.copy()?,
+            cursor,
+            mutation: mutation_of(command)?,
+        })
+    }
+
+    /// Runs the next command, which makes an operation.
+    fn make(&mut self, alloc: Global) -> Result<Trace, ReplicaFault>
+        requires { MakesNext self.old.now.left }
+        ensures { Answers (E.Exec self.old.number) [] self.old self.new result }
+    {
+        let mut trace = Trace::new(alloc);
+        let op = self.make_op(alloc, &mut trace)?;
+        self.steps.reserve(1)?;
+        self.queue.reserve(1)?;
+        let mark = self.store.mark();
+        let id = op.id;
+        let before = self.ops.greatest_of(id.replica);
+        apply_to(alloc, &mut self.store, &mut self.ops, &op, &mut trace)?;
+        trace.close(0);
+        self.done += 1;
+        self.queue.push(op).unwrap();
+        let change = Change::Made { id, before };
+        self.steps.push(Record { mark, change }).unwrap();
+        Ok(trace)
+    }
+}

@@ -1,0 +1,87 @@
+//! Why events of a replica are refused.
+
+ghost use Rattle.std.specs.Prelude.{◌≡◌};
+ghost use Rattle.jc_cursor.specs.Evaluates.{cause_of as eval_cause};
+ghost use Rattle.jc_replica.specs.declared.fault.ReplicaFault.TheVariants.{Memory as NoMemory};
+ghost use Rattle.jc_replica.specs.Answers.{cause_of, apply_cause};
+
+use jc_apply::ApplyFault;
+use jc_cursor::EvalFault;
+use jc_rules::Tagged;
+use std::alloc::AllocError;
+
+/// Why an event was refused.
+#[derive(Debug, PartialEq, Eq, Drop)]
+pub enum ReplicaFault {
+    /// The place of an insert isn't in the list.
+    NotInList,
+    /// The variable isn't bound.
+    UnboundVariable,
+    /// `get` on the head of a list.
+    GetOnHead,
+    /// What stands before a selector, or what a command makes an operation at, is no cursor.
+    NotACursor,
+    /// Nothing stands under this tagged key of a cursor's path.
+    NoSuchNode(Tagged),
+    /// The list has no such element.
+    PastEnd,
+    /// No map stands at the cursor.
+    NoMap,
+    /// No register stands at the cursor.
+    NoRegister,
+    /// The cursor's path would be longer than 512 keys.
+    TooDeep,
+    /// No command is left.
+    NoCommand,
+    /// The next command is `yield`.
+    AtYield,
+    /// The next command isn't `yield`.
+    NotAtYield,
+    /// There was no event of the yield yet.
+    NotActed,
+    /// No operation with the identifier was received.
+    NotReceived,
+    /// The operation was applied before.
+    AlreadyApplied,
+    /// Not all that the operation depends on was applied.
+    DepsMissing,
+    /// There was no memory.
+    Memory,
+}
+
+impl From<AllocError> for ReplicaFault {
+    ghost from_gives = { λ _ fault. fault ≡ NoMemory };
+
+    fn from(_: AllocError) -> Self {
+        ReplicaFault::Memory
+    }
+}
+
+impl From<EvalFault> for ReplicaFault {
+    ghost from_gives = { λ why fault. cause_of fault ≡ eval_cause why };
+
+    fn from(fault: EvalFault) -> Self {
+        match fault {
+            EvalFault::UnboundVariable => ReplicaFault::UnboundVariable,
+            EvalFault::GetOnHead => ReplicaFault::GetOnHead,
+            EvalFault::NotACursor => ReplicaFault::NotACursor,
+            EvalFault::NoSuchNode(key) => ReplicaFault::NoSuchNode(key),
+            EvalFault::PastEnd => ReplicaFault::PastEnd,
+            EvalFault::NoMap => ReplicaFault::NoMap,
+            EvalFault::NoRegister => ReplicaFault::NoRegister,
+            EvalFault::TooDeep => ReplicaFault::TooDeep,
+            EvalFault::Memory => ReplicaFault::Memory,
+        }
+    }
+}
+
+impl From<ApplyFault> for ReplicaFault {
+    ghost from_gives = { λ why fault. cause_of fault ≡ apply_cause why };
+
+    fn from(fault: ApplyFault) -> Self {
+        match fault {
+            ApplyFault::NotInList => ReplicaFault::NotInList,
+            ApplyFault::Memory => ReplicaFault::Memory,
+        }
+    }
+}

@@ -1,0 +1,228 @@
+//! The operations that a replica received.
+
+ghost use Rattle.std.specs.Prelude.{◌≡◌, ◌≤◌, ◌+◌, ◌∷◌, ℕ, List, [], Some, true, IfOk, OnOk, OnErr, option_copied, vec_len, vec_capacity, length, take, filter};
+ghost use Rattle.std.specs.List.{AllByRecursion};
+ghost use Rattle.jc_rules.specs.declared.operation.Op.{Op as AnyOp};
+ghost use Rattle.jc_rules.specs.Filled.{filled, greatest_of};
+ghost use Rattle.jc_rules.specs.Sound.{IsSound};
+ghost use Rattle.jc_rules.specs.Table.{op_of, both};
+ghost use Rattle.jc_replica.specs.Operations.{identifiers, AreInOrder, AreHanded, AreOwn, AreOfOne};
+ghost use Rattle.jc_replica.specs.Undo.{without_ops};
+ghost use Rattle.jc_replica.specs.Received.{IsPlace, AreKeptOf, IsWholeTo, AreAmong, is_new};
+
+use jc_rules::{Id, IdSet, Op};
+use std::alloc::{AllocError, Global};
+use std::marker::Model;
+
+/// The operations that a replica received, by identifier. It is seen as their list.
+///
+/// For each sender it knows a counter up to which nothing of the sender's is missing. So what a
+/// sender offers again, with more at its end, isn't looked at again.
+#[derive(Drop)]
+pub struct Received {
+    ops: Vec<Op>,
+    /// Of each sender the identifiers up to which nothing is missing.
+    whole: IdSet,
+}
+
+impl Model for Received {
+    ghost use Rattle.std.specs.Prelude.{List};
+    ghost use Rattle.jc_rules.specs.declared.operation.Op.{Op};
+    ghost use Rattle.jc_replica.specs.Received.{IsKeptList};
+
+    ghost Value = { List Op };
+
+    ghost view = { λ a. a.ops.items };
+
+    ghost invariant = { λ a. IsKeptList a.ops.items a.whole };
+}
+
+/// Where the operation with the identifier stands, or else where it belongs.
+fn place_of(ops: &[Op], id: Id) -> Result<usize, usize>
+    requires { AreInOrder ops.now }
+    ensures { IsPlace id ops.now result }
+{
+    ops.binary_search_by_key(&id, |op| op.id)
+}
+
+/// The replica whose own they are.
+fn sender_of(offered: &[Op]) -> u16
+    ensures { AreOfOne offered.now → AreOwn result offered.now }
+{
+    match offered {
+        [first, ..] => first.id.replica,
+        [] => 0,
+    }
+}
+
+/// How many of the operations have counters up to this one.
+fn up_to(offered: &[Op], last: u64) -> usize
+    requires { AreInOrder offered.now }
+    ensures bound { result ≤ length offered.now }
+    ensures low { AllByRecursion (λ o. o.id.counter ≤ last) (take result offered.now) }
+{
+    offered.partition_point(|op| op.id.counter <= last)
+}
+
+/// Copies of the operations that aren't there yet.
+fn new_ones(alloc: Global, ops: &[Op], offered: &[Op]) -> Result<Vec<Op>, AllocError>
+    requires { AreInOrder ops.now }
+    ensures { IfOk result (λ fresh. fresh.items ≡ filter (is_new ops.now) offered.now) }
+{
+    let mut fresh = Vec::new(alloc);
+    for op in offered {
+        if place_of(ops, op.id).is_err() {
+            fresh.push(op.copy()?)?;
+        }
+    }
+    Ok(fresh)
+}
+
+/// Their identifiers.
+fn ids_of(alloc: Global, ops: &[Op]) -> Result<Vec<Id>, AllocError>
+    ensures { IfOk result (λ ids. ids.items ≡ identifiers ops.now) }
+{
+    let mut ids = Vec::new(alloc);
+    for op in ops {
+        ids.push(op.id)?;
+    }
+    Ok(ids)
+}
+
+/// The counter up to which nothing of the replica's own is missing once these are there, where
+/// nothing was up to `from`: each depends on all that its replica made before it.
+fn whole_to(ops: &[Op], replica: u16, from: u64) -> u64
+    ensures { (os : List AnyOp) → AreAmong ops.now os → IsWholeTo replica os from → IsWholeTo replica os result }
+{
+    let mut last = from;
+    for op in ops {
+        if op.id.replica != replica
+            || op.id.counter <= last
+            || op.deps.greatest_of(replica) != last
+        {
+            break;
+        }
+        last = op.id.counter;
+    }
+    last
+}
+
+/// Brings each operation to its place. None of them is there, and there is room for all.
+fn bring_in(ops: &mut Vec<Op>, fresh: Vec<Op>)
+    requires order { AreInOrder ops.old.items }
+    requires rises { AreInOrder fresh.items }
+    requires new { AllByRecursion (λ o. is_new ops.old.items o ≡ true) fresh.items }
+    requires room { vec_len ops.old + vec_len fresh ≤ vec_capacity ops.old }
+    ensures { ops.new.items ≡ both ops.old.items fresh.items }
+{
+    for op in fresh {
+        let place = place_of(ops.as_slice(), op.id).unwrap_err();
+        ops.insert(place, op).unwrap();
+    }
+}
+
+/// Lowers the counter of the operation's replica to one up to which nothing is missing without it.
+fn lower(whole: &mut IdSet, op: &Op)
+    requires { whole.old ≡ filled whole.old }
+    ensures filled { whole.new ≡ filled whole.new }
+    ensures missing { (os : List AnyOp) → op_of op.now.id os ≡ Some op.now
+        → ((q : ℕ) → IsWholeTo q os (greatest_of q whole.old))
+        → (q : ℕ) → IsWholeTo q (without_ops (op.now.id ∷ []) os) (greatest_of q whole.new) }
+{
+    let id = op.id;
+    let last = whole.greatest_of(id.replica);
+    let before = if id.counter == last {
+        op.deps.greatest_of(id.replica)
+    } else {
+        0
+    };
+    if id.counter <= last && before < last {
+        let greatest = Id {
+            counter: last,
+            replica: id.replica,
+        };
+        whole.withdraw(greatest, before);
+    }
+}
+
+impl Received {
+    /// None.
+    pub fn new(alloc: Global) -> Self
+        ensures { result ≡ [] }
+    {
+        Received {
+            ops: Vec::new(alloc),
+            whole: IdSet::new(alloc),
+        }
+    }
+
+    /// The operations, by identifier.
+    pub fn as_slice(&self) -> &[Op]
+        ensures ops { result.now ≡ self.now }
+        ensures order { AreInOrder self.now }
+    {
+        self.ops.as_slice()
+    }
+
+    /// The operation with the identifier.
+    pub fn find(&self, id: Id) -> Option<&Op>
+        ensures { option_copied result ≡ op_of id self.now }
+    {
+        match place_of(self.ops.as_slice(), id) {
+            Ok(place) => Some(&self.ops[place]),
+            Err(_) => None,
+        }
+    }
+
+    /// Takes in what one replica offers, which is its own, and gives the identifiers of what came in.
+    /// After a refusal all is as it was.
+    pub fn unite(&mut self, alloc: Global, offered: &[Op]) -> Result<Vec<Id>, AllocError>
+        requires { AreInOrder offered.now }
+        ensures ok { OnOk result ((set : List AnyOp) → IsSound set
+            → AreKeptOf set self.old → AreKeptOf set offered.now → AreOfOne offered.now
+            → self.new ≡ both self.old offered.now) }
+        ensures back { IfOk result (λ came. without_ops came.items self.new ≡ self.old) }
+        ensures order { AreInOrder self.new }
+        ensures handed { AreHanded self.old → AreHanded offered.now → AreHanded self.new }
+        ensures err { OnErr result (self.new ≡ self.old) }
+    {
+        let sender = sender_of(offered);
+        let last = self.whole.greatest_of(sender);
+        let start = up_to(offered, last);
+        let fresh = new_ones(alloc, self.ops.as_slice(), &offered[start..])?;
+        let came = ids_of(alloc, fresh.as_slice())?;
+        if came.is_empty() {
+            return Ok(came);
+        }
+        self.ops.reserve(fresh.len())?;
+        let counter = whole_to(fresh.as_slice(), sender, last);
+        self.whole.insert(Id {
+            counter,
+            replica: sender,
+        })?;
+        bring_in(&mut self.ops, fresh);
+        Ok(came)
+    }
+
+    /// Takes the operation with the identifier out again.
+    fn take_out(&mut self, id: Id)
+        ensures { self.new ≡ without_ops (id ∷ []) self.old }
+    {
+        let Ok(place) = place_of(self.ops.as_slice(), id) else {
+            return;
+        };
+        lower(&mut self.whole, &self.ops[place]);
+        self.ops.remove(place);
+    }
+
+    /// Takes the operations with these identifiers out again. It takes no memory.
+    pub fn withdraw(&mut self, came: &[Id])
+        ensures { self.new ≡ without_ops came.now self.old }
+    {
+        let mut left = came;
+        while let Some((last, rest)) = left.split_last() {
+            self.take_out(*last);
+            left = rest;
+        }
+    }
+}

@@ -1,0 +1,59 @@
+//! Variables, which stand by name.
+
+ghost use Rattle.std.specs.Prelude.{◌≡◌, ◌<◌, length, IfOk, OnErr};
+ghost use Rattle.std.specs.Option.{option_map};
+ghost use Rattle.jc_rules.specs.Entries.{IsRising, keys_of};
+ghost use Rattle.jc_rules.specs.Order.{name_cmp};
+ghost use Rattle.jc_cursor.specs.Bounds.{bound_of, vars_of};
+ghost use Rattle.jc_replica.specs.Undo.{unbound};
+ghost use Rattle.jc_replica.specs.Binds.{IsBound, first_from};
+
+use jc_cursor::Bound;
+use jc_rules::Text;
+use std::alloc::AllocError;
+use std::mem;
+
+/// The number of variables whose names are less.
+fn place_of(vars: &[(Text, Bound)], name: &Text) -> usize
+    ensures { result ≡ first_from name.now (vars_of vars.now) }
+{
+    let mut place = 0;
+    while place < vars.len() && vars[place].0.cmp(name).is_lt() {
+        place += 1;
+    }
+    place
+}
+
+/// Binds the variable. It gives the variable's place and what it was bound to. After a refusal all
+/// is as it was.
+pub fn bind_var(
+    vars: &mut Vec<(Text, Bound)>,
+    name: Text,
+    bound: Bound,
+) -> Result<(usize, Option<Bound>), AllocError>
+    requires { IsRising name_cmp (keys_of (vars_of vars.old.items)) }
+    ensures ok { IfOk result (λ was. IsBound name (bound_of bound) was.0 (option_map bound_of was.1)
+        (vars_of vars.old.items) (vars_of vars.new.items)) }
+    ensures err { OnErr result (vars.new.items ≡ vars.old.items) }
+{
+    let place = place_of(vars.as_slice(), &name);
+    if place < vars.len() && vars[place].0 == name {
+        let before = mem::replace(&mut vars[place].1, bound);
+        return Ok((place, Some(before)));
+    }
+    vars.insert(place, (name, bound))?;
+    Ok((place, None))
+}
+
+/// Gives the variable at the place what it was bound to, or takes it away where it wasn't bound.
+pub fn unbind_var(vars: &mut Vec<(Text, Bound)>, place: usize, before: Option<Bound>)
+    requires { place < length vars.old.items }
+    ensures { vars_of vars.new.items ≡ unbound place (option_map bound_of before) (vars_of vars.old.items) }
+{
+    match before {
+        Some(bound) => vars[place].1 = bound,
+        None => {
+            vars.remove(place);
+        }
+    }
+}

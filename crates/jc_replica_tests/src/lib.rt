@@ -1,0 +1,13 @@
+//! Tests of replicas on the plain store: scripts worked by hand, forwards and backwards.
+#![tactic(auto)]
+
+#[cfg(test)]
+mod expecting;
+#[cfg(test)]
+mod replicas;
+#[cfg(test)]
+mod running;
+#[cfg(test)]
+mod undoing;
+#[cfg(test)]
+mod yielding;
