@@ -63,9 +63,12 @@ fn is_let(command: &Cmd) -> bool
 }
 
 impl<S: TreeStore> Replica<S> {
-    /// Runs the next command, and gives the trace of the event. Where no command is left, or the
-    /// next one is `yield`, it is refused; else for the first condition that fails in its rules.
-    /// After a refusal all is as it was.
+    /// Runs the next command, and gives the trace of the event.
+    ///
+    /// It is refused, in this order, with `NoCommand` where none is left, `AtYield` where `yield`
+    /// comes next, for the first condition that fails in the command's expression, `NotACursor`
+    /// where an operation is to be made at what is no cursor, and `NotInList` where an insert has no
+    /// place. After a refusal all is as it was.
     pub fn exec(&mut self, alloc: Global) -> Result<Trace, ReplicaFault>
         ensures { Answers (E.Exec self.old.number) [] self.old self.new result }
     {

@@ -29,7 +29,7 @@ pub fn is_yield(command: &Cmd) -> bool
 
 impl<S: TreeStore> Replica<S> {
     /// Nothing where the next command is `yield`, else why an event of a yield is refused.
-    pub fn at_yield(&self) -> Result<(), ReplicaFault>
+    pub(crate) fn at_yield(&self) -> Result<(), ReplicaFault>
         ensures ok { IfOk result (λ _. (rest : List AnyCmd) × (self.now.now.left ≡ Yield ∷ rest)) }
         ensures err { IfErr result (λ f. (event : AnyEvent) → (read : List AnyOp)
             → IsYieldEvent event → IsRefused event read self.now f) }
@@ -45,7 +45,10 @@ impl<S: TreeStore> Replica<S> {
         }
     }
 
-    /// Offers what the replica has made, and gives the trace of the event. After a refusal all is as it was.
+    /// Offers what the replica has made, and gives the trace of the event.
+    ///
+    /// It is refused with `NoCommand` or `NotAtYield` where no yield comes next. After a refusal all
+    /// is as it was.
     pub fn send(&mut self, alloc: Global) -> Result<Trace, ReplicaFault>
         ensures { Answers (E.Send self.old.number) [] self.old self.new result }
     {
@@ -66,7 +69,10 @@ impl<S: TreeStore> Replica<S> {
         Ok(trace)
     }
 
-    /// Ends the yield, and gives the trace of the event. After a refusal all is as it was.
+    /// Ends the yield, and gives the trace of the event.
+    ///
+    /// It is refused, in this order, with `NoCommand` or `NotAtYield` where no yield comes next, and
+    /// `NotActed` where no event of the yield was made. After a refusal all is as it was.
     pub fn done(&mut self, alloc: Global) -> Result<Trace, ReplicaFault>
         ensures { Answers (E.Done self.old.number) [] self.old self.new result }
     {

@@ -37,20 +37,27 @@ pub fn expect_number(rt: &impl Abort, outcome: &Result<Trace, ReplicaFault>, num
     assert_eq!(rt; number_of(outcome), number);
 }
 
+fn missing_text(
+    alloc: Global,
+    outcome: &Result<Trace, ReplicaFault>,
+) -> Result<String, AllocError> {
+    match outcome {
+        Err(ReplicaFault::NoSuchNode(key)) => tagged_text(alloc, &names(alloc)?, key),
+        _ => Ok(String::new(alloc)),
+    }
+}
+
 /// The event was refused because nothing stands under the tagged key that has this text.
 pub fn expect_missing(
     rt: &impl Abort,
     alloc: Global,
     outcome: &Result<Trace, ReplicaFault>,
     want: &str,
-) -> Result<(), AllocError> {
-    let names = names(alloc)?;
-    let key = match outcome {
-        Err(ReplicaFault::NoSuchNode(key)) => tagged_text(alloc, &names, key)?,
-        _ => String::new(alloc),
-    };
-    assert_eq!(rt; key.as_str(), want);
-    Ok(())
+) {
+    match missing_text(alloc, outcome) {
+        Ok(key) => assert_eq!(rt; key.as_str(), want),
+        Err(_) => panic!(rt; "no memory"),
+    }
 }
 
 /// The event was made by these rules.
@@ -66,26 +73,26 @@ fn text(alloc: Global, text: &str) -> Result<Text, AllocError> {
     Ok(Text::new(String::from_str(alloc, text)?))
 }
 
-fn names(alloc: Global) -> Result<[Text; 2], AllocError> {
+pub fn names(alloc: Global) -> Result<[Text; 2], AllocError> {
     Ok([text(alloc, "a")?, text(alloc, "b")?])
 }
 
-/// The document has this dump.
-pub fn expect_tree(
-    rt: &impl Abort,
-    alloc: Global,
-    replica: &Replica<PlainTree>,
-    want: &str,
-) -> Result<(), AllocError> {
+fn tree_text(alloc: Global, replica: &Replica<PlainTree>) -> Result<String, AllocError> {
     let names = names(alloc)?;
     let mut at = Vec::new(alloc);
-    let tree = tree_value(alloc, &names, replica.tree(), &mut at)?.to_string(alloc)?;
-    assert_eq!(rt; tree.as_str(), want);
-    Ok(())
+    tree_value(alloc, &names, replica.tree(), &mut at)?.to_string(alloc)
+}
+
+/// The document has this dump.
+pub fn expect_tree(rt: &impl Abort, alloc: Global, replica: &Replica<PlainTree>, want: &str) {
+    match tree_text(alloc, replica) {
+        Ok(tree) => assert_eq!(rt; tree.as_str(), want),
+        Err(_) => panic!(rt; "no memory"),
+    }
 }
 
 /// Where a cursor leads, what names there are, or the identifiers of values, with blanks between.
-fn bound_text(alloc: Global, bound: &Bound) -> Result<String, AllocError> {
+pub fn bound_text(alloc: Global, bound: &Bound) -> Result<String, AllocError> {
     let names = names(alloc)?;
     let mut line = String::new(alloc);
     match bound {
@@ -118,16 +125,15 @@ pub fn expect_vars(
     alloc: Global,
     replica: &Replica<PlainTree>,
     want: &[(&str, &str)],
-) -> Result<(), AllocError> {
+) {
     assert_eq!(rt; replica.vars().len(), want.len());
     for ((name, bound), (want_name, want_text)) in replica.vars().iter().zip(want) {
-        let line = bound_text(alloc, bound)?;
-        assert!(rt;
-            name.as_str() == *want_name && line.as_str() == *want_text,
-            "{want_name}"
-        );
+        assert!(rt; name.as_str() == *want_name);
+        match bound_text(alloc, bound) {
+            Ok(line) => assert_eq!(rt; line.as_str(), *want_text),
+            Err(_) => panic!(rt; "no memory"),
+        }
     }
-    Ok(())
 }
 
 /// So many commands are left, an event of the yield was made or not, and these are the greatest

@@ -44,16 +44,16 @@ fn node_that_is_not_there(rt: HostRuntime) -> Result<(), Fail> {
     let script = "doc.get(\"m\") := 1; let x = doc.get(\"l\").idx(0)";
     let mut a = replica(&rt, alloc, 0, script)?;
     run(&rt, alloc, &mut a, 1);
-    expect_missing(&rt, alloc, &a.exec(alloc), "listT(\"l\")")?;
+    expect_missing(&rt, alloc, &a.exec(alloc), "listT(\"l\")");
     expect_state(&rt, &a, 1, false, [1, 0]);
     expect_tree(
         &rt,
         alloc,
         &a,
         "{\"mapT(doc)\":{\"pres(\\\"m\\\")\":[\"1@a\"],\"regT(\\\"m\\\")\":{\"1@a\":{\"n\":\"1\"}}},\"pres(doc)\":[\"1@a\"]}",
-    )?;
+    );
     let mut fresh = replica(&rt, alloc, 0, "let x = doc.get(\"l\").idx(0)")?;
-    expect_missing(&rt, alloc, &fresh.exec(alloc), "mapT(doc)")?;
+    expect_missing(&rt, alloc, &fresh.exec(alloc), "mapT(doc)");
     Ok(())
 }
 
@@ -67,7 +67,7 @@ fn value_over_map(rt: HostRuntime) -> Result<(), Fail> {
         alloc,
         &a,
         "{\"mapT(doc)\":{\"mapT(\\\"k\\\")\":{},\"pres(\\\"k\\\")\":[\"1@a\",\"2@a\"],\"regT(\\\"k\\\")\":{\"2@a\":{\"n\":\"1\"}}},\"pres(doc)\":[\"1@a\",\"2@a\"]}",
-    )?;
+    );
     Ok(())
 }
 
@@ -82,8 +82,8 @@ fn map_over_value(rt: HostRuntime) -> Result<(), Fail> {
         alloc,
         &a,
         "{\"mapT(doc)\":{\"mapT(\\\"k\\\")\":{},\"pres(\\\"k\\\")\":[\"2@a\"],\"regT(\\\"k\\\")\":{}},\"pres(doc)\":[\"1@a\",\"2@a\"]}",
-    )?;
-    expect_vars(&rt, alloc, &a, &[("v", "")])?;
+    );
+    expect_vars(&rt, alloc, &a, &[("v", "")]);
     Ok(())
 }
 
@@ -101,8 +101,8 @@ fn list_with_a_tombstone(rt: HostRuntime) -> Result<(), Fail> {
         alloc,
         &a,
         "{\"listT(doc)\":{\"next(2@a)\":\"3@a\",\"next(3@a)\":\"tail\",\"next(head)\":\"2@a\",\"pres(2@a)\":[],\"pres(3@a)\":[\"3@a\"],\"regT(2@a)\":{},\"regT(3@a)\":{\"3@a\":\"y\"}},\"pres(doc)\":[\"1@a\",\"2@a\",\"3@a\"]}",
-    )?;
-    expect_vars(&rt, alloc, &a, &[("z", "listT(doc) 3@a")])?;
+    );
+    expect_vars(&rt, alloc, &a, &[("z", "listT(doc) 3@a")]);
     Ok(())
 }
 
@@ -142,13 +142,13 @@ fn after_a_refusal(rt: HostRuntime) -> Result<(), Fail> {
     let alloc = rt.alloc();
     let mut a = replica(&rt, alloc, 0, "doc.get(\"a\").insertAfter(1)")?;
     expect_number(&rt, &a.exec(alloc), 20);
-    expect_tree(&rt, alloc, &a, "{}")?;
+    expect_tree(&rt, alloc, &a, "{}");
     expect_state(&rt, &a, 1, false, [0, 0]);
     let script = "doc.get(\"a\") := 1; let s = doc.keys; s := 1";
     let mut b = replica(&rt, alloc, 0, script)?;
     run(&rt, alloc, &mut b, 2);
     expect_number(&rt, &b.exec(alloc), 24);
-    expect_vars(&rt, alloc, &b, &[("s", "a ")])?;
+    expect_vars(&rt, alloc, &b, &[("s", "a ")]);
     expect_state(&rt, &b, 1, false, [1, 0]);
     Ok(())
 }

@@ -28,16 +28,16 @@ fn commands(rt: HostRuntime) -> Result<(), Fail> {
     let alloc = rt.alloc();
     let mut a = replica(&rt, alloc, 0, SCRIPT)?;
     run(&rt, alloc, &mut a, 5);
-    expect_tree(&rt, alloc, &a, DELETED)?;
-    expect_vars(&rt, alloc, &a, &[("x", "doc")])?;
+    expect_tree(&rt, alloc, &a, DELETED);
+    expect_vars(&rt, alloc, &a, &[("x", "doc")]);
     expect_state(&rt, &a, 0, false, [2, 0]);
     go_back(&rt, &mut a, 1);
-    expect_tree(&rt, alloc, &a, DELETED)?;
-    expect_vars(&rt, alloc, &a, &[("x", "mapT(doc) \"a\"")])?;
+    expect_tree(&rt, alloc, &a, DELETED);
+    expect_vars(&rt, alloc, &a, &[("x", "mapT(doc) \"a\"")]);
     expect_state(&rt, &a, 1, false, [2, 0]);
     go_back(&rt, &mut a, 2);
-    expect_tree(&rt, alloc, &a, ASSIGNED)?;
-    expect_vars(&rt, alloc, &a, &[("x", "doc")])?;
+    expect_tree(&rt, alloc, &a, ASSIGNED);
+    expect_vars(&rt, alloc, &a, &[("x", "doc")]);
     expect_state(&rt, &a, 3, false, [1, 0]);
     Ok(())
 }
@@ -50,8 +50,8 @@ fn once_more(rt: HostRuntime) -> Result<(), Fail> {
     go_back(&rt, &mut a, 3);
     expect_rows(&rt, &a.exec(alloc), &BY_A_VARIABLE);
     run(&rt, alloc, &mut a, 2);
-    expect_tree(&rt, alloc, &a, DELETED)?;
-    expect_vars(&rt, alloc, &a, &[("x", "doc")])?;
+    expect_tree(&rt, alloc, &a, DELETED);
+    expect_vars(&rt, alloc, &a, &[("x", "doc")]);
     expect_state(&rt, &a, 0, false, [2, 0]);
     Ok(())
 }
@@ -64,8 +64,8 @@ fn to_the_start(rt: HostRuntime) -> Result<(), Fail> {
     run(&rt, alloc, &mut a, 5);
     go_back(&rt, &mut a, 5);
     assert!(rt; !a.undo());
-    expect_tree(&rt, alloc, &a, "{}")?;
-    expect_vars(&rt, alloc, &a, &[])?;
+    expect_tree(&rt, alloc, &a, "{}");
+    expect_vars(&rt, alloc, &a, &[]);
     expect_state(&rt, &a, 5, false, [0, 0]);
     expect_counts(&rt, &a, 0, 0, 0);
     Ok(())

@@ -77,10 +77,10 @@ fn dependency_missing(rt: HostRuntime) -> Result<(), Fail> {
     expect_number(&rt, &b.apply(alloc, id(2, 0)), 0);
     expect_state(&rt, &b, 1, true, [2, 0]);
     expect_counts(&rt, &b, 0, 0, 2);
-    expect_tree(&rt, alloc, &b, ASSIGNED_TWICE)?;
+    expect_tree(&rt, alloc, &b, ASSIGNED_TWICE);
     go_back(&rt, &mut b, 2);
     expect_state(&rt, &b, 1, true, [0, 0]);
-    expect_tree(&rt, alloc, &b, "{}")?;
+    expect_tree(&rt, alloc, &b, "{}");
     go_back(&rt, &mut b, 1);
     expect_state(&rt, &b, 1, false, [0, 0]);
     expect_counts(&rt, &b, 0, 0, 0);
@@ -113,8 +113,8 @@ fn deletion_meets(rt: HostRuntime) -> Result<(), Fail> {
     let mut b = replica(&rt, alloc, 1, script)?;
     apart(&rt, alloc, &mut a, &mut b);
     expect_number(&rt, &b.apply(alloc, id(2, 0)), 0);
-    expect_tree(&rt, alloc, &a, DELETED_AND_ASSIGNED)?;
-    expect_tree(&rt, alloc, &b, DELETED_AND_ASSIGNED)?;
+    expect_tree(&rt, alloc, &a, DELETED_AND_ASSIGNED);
+    expect_tree(&rt, alloc, &b, DELETED_AND_ASSIGNED);
     expect_state(&rt, &a, 1, true, [2, 2]);
     expect_state(&rt, &b, 1, true, [2, 2]);
     expect_counts(&rt, &a, 2, 2, 1);
@@ -131,8 +131,8 @@ fn inserts_meet(rt: HostRuntime) -> Result<(), Fail> {
     let mut b = replica(&rt, alloc, 1, script)?;
     apart(&rt, alloc, &mut a, &mut b);
     expect_rows(&rt, &b.apply(alloc, id(2, 0)), &PAST_A_GREATER);
-    expect_tree(&rt, alloc, &a, MET)?;
-    expect_tree(&rt, alloc, &b, MET)?;
+    expect_tree(&rt, alloc, &a, MET);
+    expect_tree(&rt, alloc, &b, MET);
     Ok(())
 }
 
