@@ -9,4 +9,6 @@ fn laws_stand() {
     laws::never_stuck_at_yield();
     laws::links_are_applied();
     laws::step_or_stuck();
+    laws::event_steps();
+    laws::event_is_stuck();
 }
