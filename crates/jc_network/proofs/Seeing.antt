@@ -6,8 +6,9 @@ use Rattle.jc_rules.specs.declared.operation.Event.{Event}
 use Rattle.jc_rules.specs.declared.operation.Event.TheVariants.{Exec, Send, Recv, Apply, Done}
 use Rattle.jc_rules.specs.declared.operation.Op.{Op}
 use Rattle.jc_rules.specs.Refused.{Cause, IsStuck, refused}
-use Rattle.jc_rules.specs.State.{State}
+use Rattle.jc_rules.specs.State.{State, start}
 use Rattle.jc_rules.specs.Step.{replica_of, read_by, send_of}
+use Rattle.jc_rules.specs.Syntax.{Cmd}
 use Rattle.jc_rules.specs.Table.{op_of, with_op}
 use Rattle.jc_rules.specs.Trace.{Rows}
 use Rattle.jc_sets.specs.States.{kept_op}
@@ -17,9 +18,11 @@ use Rattle.jc_replica.specs.Answers.{Occurs, RefusedFor}
 use Rattle.jc_replica.specs.Operations.{AreOfOne, AreOwn}
 use Rattle.jc_replica.specs.Past.{Past}
 use Rattle.jc_replica.specs.Seen.{IsSeenAs, IsRead, Leads, grown, queued}
+use Rattle.jc_network.specs.Laws.{starts}
 use Rattle.jc_network.specs.Network.{IsAt, IsMade, HasSoundOps}
 use Rattle.jc_network.specs.Seen.{HasSeen, AreSeen, IsAsked, StepsOn}
 use Rattle.jc_network.proofs.Members.{none_in, first_in, later_in, in_cons, still_with, now_with, set_there}
+use Rattle.jc_network.proofs.Starting.{started}
 
 all_in : {X : Type 0} (P : X → Type 0) (xs : List X) → AllByRecursion P xs → (x : X) → Contains xs x → P x
 all_in P [] h x c = none_in x c
@@ -50,6 +53,41 @@ length_set : (xs : List State) (p : ℕ) (b : State) → length (slice_set xs p 
 length_set [] p b = refl
 length_set (x ∷ xs) zero b = refl
 length_set (x ∷ xs) (suc p) b = ap suc (length_set xs p b)
+
+-- ---- the start
+
+seen_start : (p : ℕ) (s : List Cmd) → IsSeenAs [] p (start s) (start s)
+seen_start p s =
+    record {
+      stands = record {
+        sound = record {
+          counted = λ o c. none_in o c;
+          one_each = λ o c. none_in o c;
+          rising = λ o c. none_in o c;
+          closed = λ o c. none_in o c;
+          in_order = λ e o c. none_in e c;
+        };
+        is = refl;
+        applied = record { rises = tt; known = λ i h. cc; closed = λ i o h e. cc };
+        made = tt;
+        offered = tt;
+        received = tt;
+        knows = (tt, tt, tt, tt);
+      };
+      own = λ e c. none_in e c;
+    }
+
+pub start_seen : (scripts : List (List Cmd)) → AreSeen [] (starts scripts) (starts scripts)
+start_seen scripts =
+    record {
+      all = λ o c. none_in o c;
+      as_many = refl;
+      each = λ p K e. record {
+        at = K;
+        there = e;
+        seen = let x = started scripts p K e in subst (λ S. IsSeenAs [] p S S) (sym x.1) (seen_start p x.0);
+      };
+    }
 
 -- ---- what is read
 

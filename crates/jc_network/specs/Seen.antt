@@ -1,5 +1,5 @@
 -- What the states that a network keeps stand for.
-use Rattle.std.specs.Prelude.{◌≡◌, ℕ, List, Some, Contains, length, slice_set}
+use Rattle.std.specs.Prelude.{◌≡◌, ℕ, List, [], Some, Contains, length, slice_set}
 use Rattle.jc_rules.specs.declared.operation.Event.{Event}
 use Rattle.jc_rules.specs.declared.operation.Op.{Op}
 use Rattle.jc_rules.specs.Refused.{Cause, IsStuck}
@@ -10,7 +10,7 @@ use Rattle.jc_rules.specs.Trace.{Rows}
 use Rattle.jc_replica.specs.Answers.{Occurs, RefusedFor}
 use Rattle.jc_replica.specs.Past.{Past}
 use Rattle.jc_replica.specs.Seen.{IsSeenAs}
-use Rattle.jc_network.specs.Laws.{IsReached}
+use Rattle.jc_network.specs.Laws.{starts, IsReached}
 use Rattle.jc_network.specs.Network.{IsAt, IsMade}
 
 -- the state of replica p, for which its kept state stands
@@ -37,6 +37,10 @@ pub record StepsOn (network : List State) (event : Event) (rows : Rows) (kept : 
   pub set : List Op
   pub step : Step network event new rows.rows
   pub seen : AreSeen set new kept
+
+-- At the start, where nothing was made, kept states stand for themselves.
+abbrev pub StartIsSeen : Type 0
+StartIsSeen = (scripts : List (List Cmd)) → AreSeen [] (starts scripts) (starts scripts)
 
 -- In each network that is reached from a start, what a replica's call makes is a step of the network, and nothing of
 -- the other replicas changes.
