@@ -1,5 +1,6 @@
 -- What the states that a network keeps stand for.
-use Rattle.std.specs.Prelude.{◌≡◌, ℕ, List, [], Some, Contains, length, slice_set}
+use Rattle.std.specs.Prelude.{◌≡◌, ◌≤◌, ℕ, List, [], Some, Contains, length, slice_set}
+use Rattle.std.specs.List.{AllByRecursion}
 use Rattle.jc_rules.specs.declared.operation.Event.{Event}
 use Rattle.jc_rules.specs.declared.operation.Op.{Op}
 use Rattle.jc_rules.specs.Refused.{Cause, IsStuck}
@@ -8,6 +9,7 @@ use Rattle.jc_rules.specs.Step.{Step, replica_of, read_by}
 use Rattle.jc_rules.specs.Syntax.{Cmd}
 use Rattle.jc_rules.specs.Trace.{Rows}
 use Rattle.jc_replica.specs.Answers.{Occurs, RefusedFor}
+use Rattle.jc_replica.specs.Operations.{AreHanded}
 use Rattle.jc_replica.specs.Past.{Past}
 use Rattle.jc_replica.specs.Seen.{IsSeenAs}
 use Rattle.jc_network.specs.Laws.{starts, IsReached}
@@ -66,3 +68,20 @@ EventIsStuck =
     → IsAsked kept event read old
     → RefusedFor event read old why
     → IsStuck network event why
+
+-- at most 64 scripts, none with more than 65,536 commands
+pub record AreShort (scripts : List (List Cmd)) : Type 0 where
+  pub many : length scripts ≤ 64
+  pub each : AllByRecursion (λ s. length s ≤ 65536) scripts
+
+-- Where scripts are short, what is offered has counters that a replica may be handed.
+abbrev pub OfferedIsHanded : Type 0
+OfferedIsHanded =
+    (scripts : List (List Cmd)) (network : List State)
+    → IsReached scripts network
+    → AreShort scripts
+    → (set : List Op) (kept : List State)
+    → AreSeen set network kept
+    → (q : ℕ) (K : State)
+    → IsAt kept q K
+    → AreHanded K.send

@@ -1,7 +1,7 @@
 //! Laws of networks. Each function does nothing: its contract is the law.
 
 ghost use Rattle.jc_network.specs.Laws.{HeldIsSound, OfferedIsOwn, CountersAreRun, AppliesAtYield, NeverStuckAtYield, LinksAreApplied, StepOrStuck};
-ghost use Rattle.jc_network.specs.Seen.{StartIsSeen, EventSteps, EventIsStuck};
+ghost use Rattle.jc_network.specs.Seen.{StartIsSeen, EventSteps, EventIsStuck, OfferedIsHanded};
 
 /// In each network that is reached from a start, all operations are a sound and rooted set, and what each replica has
 /// applied is what it made or received, closed under dependencies.
@@ -53,4 +53,9 @@ pub fn event_steps()
 /// What a replica's call is refused for, the network's event is stuck for.
 pub fn event_is_stuck()
     ensures { EventIsStuck }
+{}
+
+/// Where scripts are short, what is offered has counters that a replica may be handed.
+pub fn offered_is_handed()
+    ensures { OfferedIsHanded }
 {}

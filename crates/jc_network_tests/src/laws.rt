@@ -12,4 +12,5 @@ fn laws_stand() {
     laws::start_is_seen();
     laws::event_steps();
     laws::event_is_stuck();
+    laws::offered_is_handed();
 }
