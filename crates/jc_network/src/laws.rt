@@ -1,6 +1,7 @@
 //! Laws of networks. Each function does nothing: its contract is the law.
 
 ghost use Rattle.jc_network.specs.Laws.{HeldIsSound, OfferedIsOwn, CountersAreRun, AppliesAtYield, NeverStuckAtYield, LinksAreApplied, StepOrStuck};
+ghost use Rattle.jc_network.specs.Seen.{StartIsSeen, EventSteps, EventIsStuck, OfferedIsHanded};
 
 /// In each network that is reached from a start, all operations are a sound and rooted set, and what each replica has
 /// applied is what it made or received, closed under dependencies.
@@ -37,4 +38,24 @@ pub fn links_are_applied()
 /// An event has a step or is stuck for a cause, and never both.
 pub fn step_or_stuck()
     ensures { StepOrStuck }
+{}
+
+/// At the start kept states stand for themselves.
+pub fn start_is_seen()
+    ensures { StartIsSeen }
+{}
+
+/// What a replica's call makes of the state that it keeps is a step of the network that the kept states stand for.
+pub fn event_steps()
+    ensures { EventSteps }
+{}
+
+/// What a replica's call is refused for, the network's event is stuck for.
+pub fn event_is_stuck()
+    ensures { EventIsStuck }
+{}
+
+/// Where scripts are short, what is offered has counters that a replica may be handed.
+pub fn offered_is_handed()
+    ensures { OfferedIsHanded }
 {}

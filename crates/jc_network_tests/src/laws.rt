@@ -9,4 +9,8 @@ fn laws_stand() {
     laws::never_stuck_at_yield();
     laws::links_are_applied();
     laws::step_or_stuck();
+    laws::start_is_seen();
+    laws::event_steps();
+    laws::event_is_stuck();
+    laws::offered_is_handed();
 }

@@ -1,0 +1,9 @@
+use Rattle.jc_network.proofs.Starting.{start_well, after_well}
+use Rattle.jc_network.proofs.Seeing.{is_stuck}
+use Rattle.jc_network.specs.Laws.{starts}
+use Rattle.jc_network.proofs.laws.event_is_stuck.Goals as goal
+
+pub returns : goal.returns
+returns c = λ scripts network r set kept seen event read old why asked refuses.
+    let well = after_well (starts scripts) r.0 network (start_well scripts) r.1 in
+    is_stuck set network kept well.sets seen event read old why asked refuses
