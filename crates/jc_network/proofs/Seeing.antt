@@ -24,7 +24,7 @@ use Rattle.jc_network.specs.Seen.{HasSeen, AreSeen, IsAsked, StepsOn}
 use Rattle.jc_network.proofs.Members.{none_in, first_in, later_in, in_cons, still_with, now_with, set_there}
 use Rattle.jc_network.proofs.Starting.{started}
 
-all_in : {X : Type 0} (P : X → Type 0) (xs : List X) → AllByRecursion P xs → (x : X) → Contains xs x → P x
+pub all_in : {X : Type 0} (P : X → Type 0) (xs : List X) → AllByRecursion P xs → (x : X) → Contains xs x → P x
 all_in P [] h x c = none_in x c
 all_in P (y ∷ ys) h x c = go (in_cons x y ys c) (all_in P ys h.1 x)
   where

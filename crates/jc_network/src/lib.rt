@@ -1,4 +1,11 @@
-//! Networks of replicas: what holds in every run.
+//! Networks of replicas: their steps, the way back, and what holds in every run.
 #![tactic(auto)]
 
+mod fault;
 pub mod laws;
+mod net;
+mod replicas;
+mod stepping;
+
+pub use fault::{CompareFault, StepFault, Stuck};
+pub use net::Net;

@@ -12,4 +12,4 @@ pub use jc_parser::ScenarioFault;
 pub use names::{UnknownReplica, resolve};
 pub use printing::print;
 pub use reading::read;
-pub use scenario::Scenario;
+pub use scenario::{Scenario, copy_names, copy_script};

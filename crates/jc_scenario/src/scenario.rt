@@ -34,7 +34,8 @@ impl Scenario {
     }
 }
 
-fn copy_names(alloc: Global, names: &[Text]) -> Result<Vec<Text>, AllocError>
+/// The same names once more.
+pub fn copy_names(alloc: Global, names: &[Text]) -> Result<Vec<Text>, AllocError>
     ensures { IfOk result (λ copies. copies.items ≡ names.now) }
 {
     let mut copies = Vec::new(alloc);
@@ -44,7 +45,8 @@ fn copy_names(alloc: Global, names: &[Text]) -> Result<Vec<Text>, AllocError>
     Ok(copies)
 }
 
-fn copy_script(alloc: Global, script: &[Cmd]) -> Result<Vec<Cmd>, AllocError>
+/// The same script once more.
+pub fn copy_script(alloc: Global, script: &[Cmd]) -> Result<Vec<Cmd>, AllocError>
     ensures { IfOk result (λ copies. map cmd_of copies.items ≡ map cmd_of script.now) }
 {
     let mut copies = Vec::new(alloc);

@@ -1,0 +1,138 @@
+-- What replicas answer, as events of a network.
+use Rattle.std.proofs.Common.{◌≡◌, ℕ, zero, suc, ◌<◌, ◌≤◌, List, [], ◌∷◌, Option, Some, None, IfSome, IsErrAnd, Result, Ok, Err, ◌⊎◌, inl, inr, map, option_map, length, slice_get, slice_set, slice_index_or, refl, sym, ◌∙◌, ap, subst, arith}
+use Rattle.std.proofs.lemmas.List.{length-map}
+use Rattle.std.proofs.lemmas.Option.{slice_get-map, slice_get_past}
+use Rattle.jc_rules.specs.declared.operation.Event.{Event}
+use Rattle.jc_rules.specs.declared.operation.Event.TheVariants as V
+use Rattle.jc_rules.specs.declared.operation.Op.{Op}
+use Rattle.jc_rules.specs.declared.refusal.Refusal.TheVariants.{NoSuchReplica}
+use Rattle.jc_rules.specs.Refused.{Cause, because, IsStuck, no_replica, no_sender}
+use Rattle.jc_rules.specs.State.{State}
+use Rattle.jc_rules.specs.Step.{replica_of, read_by, send_of}
+use Rattle.jc_rules.specs.Trace.{Rows}
+use Rattle.jc_replica.specs.declared.fault.ReplicaFault.{ReplicaFault}
+use Rattle.jc_replica.specs.Answers.{Answers, RefusedFor, cause_of}
+use Rattle.jc_replica.specs.Past.{Past}
+use Rattle.jc_network.specs.declared.fault.StepFault.{StepFault}
+use Rattle.jc_network.specs.declared.fault.StepFault.TheVariants as E
+use Rattle.jc_network.specs.declared.fault.Stuck.{Stuck}
+use Rattle.jc_network.specs.Course.{kept_of, network_of}
+use Rattle.jc_network.specs.Laws.{starts, IsReached}
+use Rattle.jc_network.specs.Makes.{stuck_for, fault_for, IsStuckFor, sent_by, Moves, Acts, IsMissing, IsRefusedBy, Stops, Makes}
+use Rattle.jc_network.specs.Network.{IsWell}
+use Rattle.jc_network.specs.Run.{IsInRun, AreNumbered}
+use Rattle.jc_network.proofs.Halves.{index_get}
+use Rattle.jc_network.proofs.Seeing.{is_stuck}
+use Rattle.jc_network.proofs.Starting.{start_well, after_well}
+
+pub well : (scripts : List _) (network : List State) → IsReached scripts network → IsWell network
+well scripts network r = after_well (starts scripts) r.0 network (start_well scripts) r.1
+
+pub kept_there : (ps : List Past) (p : ℕ) (past : Past) → slice_get ps p ≡ Some past → slice_get (kept_of ps) p ≡ Some past.now
+kept_there ps p past e = slice_get-map (λ (q : Past). q.now) ps p ∙ ap (option_map (λ (q : Past). q.now)) e
+
+-- ---- one replica's answer
+
+pub indexed : (ps : List Past) (i p : ℕ) (a : Past) → i ≡ p → p < length ps → a ≡ slice_index_or ps i a → slice_get ps p ≡ Some (slice_index_or ps i a)
+indexed ps i p a same l found =
+    subst (λ n. slice_get ps n ≡ Some (slice_index_or ps i a)) same (index_get ps i a (omega (arith, same, l)) found ∙ ap (λ x. Some x) found)
+
+pub acts_alone : (ps : List Past) (event e : Event) (i p : ℕ) (a b : Past) (result : Result Rows ReplicaFault) → event ≡ e → replica_of e ≡ p → read_by e (kept_of ps) ≡ Some [] → i ≡ p → slice_get ps p ≡ Some a → Answers e [] a b result → Acts event ps (slice_set ps i b) result
+acts_alone ps event e i p a b result is rep reads same there answers =
+    subst (λ v. Acts v ps (slice_set ps i b) result) (sym is)
+    (record {
+      read = [];
+      reads = reads;
+      moves = record {
+        before = a;
+        after = b;
+        there = subst (λ n. slice_get ps n ≡ Some a) (sym rep) there;
+        now = ap (λ n. slice_set ps n b) (same ∙ sym rep);
+        answers = answers;
+      };
+    })
+
+reads_sent : (ps : List Past) (q : ℕ) → q < length ps → send_of (slice_get (kept_of ps) q) ≡ Some (sent_by (slice_get ps q))
+reads_sent [] q l = absurd (omega (arith, l))
+reads_sent (p ∷ ps) zero l = refl
+reads_sent (p ∷ ps) (suc q) l = reads_sent ps q (omega (arith, l))
+
+pub acts_received : (old new : List Past) (event : Event) (p q : ℕ) (result : Result Rows ReplicaFault) → event ≡ V.Recv p q → q < length old → Moves p (V.Recv p q) (sent_by (slice_get old q)) old new result → Acts event old new result
+acts_received old new event p q result is l m =
+    subst (λ v. Acts v old new result) (sym is) (record { read = sent_by (slice_get old q); reads = reads_sent old q l; moves = m })
+
+-- ---- refusals
+
+set_same : (ps : List Past) (p : ℕ) (A : Past) → slice_get ps p ≡ Some A → slice_set ps p A ≡ ps
+set_same [] p A e = cc
+set_same (q ∷ ps) zero A e = let s : q ≡ A = cc in ap (λ x. x ∷ ps) (sym s)
+set_same (q ∷ ps) (suc p) A e = ap (λ l. q ∷ l) (set_same ps p A e)
+
+unmoved : (p : ℕ) (old new : List Past) (A B : Past) → slice_get old p ≡ Some A → new ≡ slice_set old p B → B ≡ A → new ≡ old
+unmoved p old new A B there now same = now ∙ (ap (slice_set old p) same ∙ set_same old p A there)
+
+pub act_refused : (event : Event) (old new : List Past) (fault : ReplicaFault) (result : StepFault) → AreNumbered old → result ≡ fault_for (cause_of fault) event → Acts event old new (Err fault) → Makes event old new (Err result)
+act_refused event old new fault result numbered is acts = go (cause_of fault) is m.answers.1
+  where
+    m : Moves (replica_of event) event acts.read old new (Err fault)
+    m = acts.moves
+
+    same : new ≡ old
+    same = unmoved (replica_of event) old new m.before m.after m.there m.now m.answers.0
+
+    go : (o : Option Cause) → result ≡ fault_for o event → IfSome o (λ why. RefusedFor event acts.read m.before why) → Makes event old new (Err result)
+    go (Some why) r h =
+        let by : IsRefusedBy event old why = record {
+          read = acts.read;
+          past = m.before;
+          asked = record { number = numbered (replica_of event) m.before m.there; there = kept_there old (replica_of event) m.before m.there; reads = acts.reads };
+          refuses = h;
+        } in
+        subst (λ x. Makes event old new (Err x)) (sym r) (same, why, refl, inr by)
+    go None r h = subst (λ x. Makes event old new (Err x)) (sym r) same
+
+pub missing_stops : (event : Event) (ps : List Past) (s : Stuck) → s ≡ stuck_for (because NoSuchReplica) event → IsMissing event ps → Makes event ps ps (Err (E.Stuck s))
+missing_stops event ps s is m = (refl, because NoSuchReplica, is, inl (refl, m))
+
+pub as_many_states : (ps : List Past) → length (network_of ps) ≡ length ps
+as_many_states ps = length-map (kept_of ps) _ ∙ length-map ps _
+
+pub no_state : (ps : List Past) (p : ℕ) → length ps ≤ p → slice_get (network_of ps) p ≡ None
+no_state ps p l = slice_get_past (network_of ps) p (let m = as_many_states ps in omega (arith, l, m))
+
+pub stopped : (event : Event) (ps : List Past) (why : Cause) → IsInRun (network_of ps) (kept_of ps) → Stops event ps why → IsStuck (network_of ps) event why
+stopped event ps why run (inl (w, m)) = subst (IsStuck (network_of ps) event) (sym w) (go m)
+  where
+    go : IsMissing event ps → IsStuck (network_of ps) event (because NoSuchReplica)
+    go (inl l) = no_replica (no_state ps (replica_of event) l)
+    go (inr (p, q, is, l)) = subst (λ v. IsStuck (network_of ps) v (because NoSuchReplica)) (sym is) (no_sender (ap send_of (no_state ps q l)))
+stopped event ps why run (inr by) =
+    is_stuck run.set (network_of ps) (kept_of ps) (well run.scripts (network_of ps) run.reached).sets run.seen event by.read by.past why by.asked by.refuses
+
+pub never_full : (event : Event) (old new : List Past) (fault : StepFault) → Makes event old new (Err fault) → fault ≡ E.Full → ⊥
+never_full event old new E.Full m e = m
+never_full event old new (E.Stuck s) m e = cc
+never_full event old new E.Memory m e = cc
+
+-- what an event that is stuck has told
+pub told_stuck : (event : Event) (old new : List Past) (fault : StepFault) (s : Stuck) → IsInRun (network_of old) (kept_of old) → Makes event old new (Err fault) → fault ≡ E.Stuck s → IsStuckFor (network_of old) event s
+told_stuck event old new fault s run m e =
+    let h : Makes event old new (Err (E.Stuck s)) = subst (λ f. Makes event old new (Err f)) e m in
+    record { why = h.1; stuck = stopped event old h.1 run h.3; is = h.2 }
+
+pub at_err : {A E : Type 0} (P : E → Type 0) (r : Result A E) (y : E) → IsErrAnd r P → r ≡ Err y → P y
+at_err {A = A} P r y h e = subst (λ q. IsErrAnd {T = A} q P) e h
+
+-- ---- receiving
+
+-- what the replica q offers is what the replica p reads
+pub received : (whole new : List Past) (p q : ℕ) (a b s : Past) (read : List Op) (result : Result Rows ReplicaFault) → slice_get whole p ≡ Some a → slice_get whole q ≡ Some s → read ≡ s.now.send → new ≡ slice_set whole p b → a.number ≡ p → Answers (V.Recv a.number q) read a b result → Moves p (V.Recv p q) (sent_by (slice_get whole q)) whole new result
+received whole new p q a b s read result there sender is now number answers =
+    let sent : read ≡ sent_by (slice_get whole q) = is ∙ sym (ap sent_by sender) in
+    record {
+      before = a;
+      after = b;
+      there = there;
+      now = now;
+      answers = subst (λ r. Answers (V.Recv p q) r a b result) sent (subst (λ n. Answers (V.Recv n q) read a b result) number answers);
+    }

@@ -1,0 +1,265 @@
+-- A step of a network, and the way back.
+use Rattle.std.proofs.Common.{◌≡◌, ◌≢◌, ℕ, zero, suc, ◌+◌, ◌-◌, ◌<◌, ◌≤◌, ◌⊎◌, inl, inr, List, [], ◌∷◌, ◌++◌, Option, Some, None, IfSome, Bor, Result, Ok, Bool, true, false, IsTrue, IsFalse, map, reverse, length, take, drop, slice_get, slice_set, slice_index_or, refl, sym, ◌∙◌, ap, subst, arith}
+use Rattle.std.proofs.lemmas.Option.{same_Some, slice_get-map, slice_get_read, slice_get_within}
+use Rattle.std.specs.Slice.{IsItemAt}
+use Rattle.std.proofs.Math.Seq.{take-append_seam}
+use Rattle.std.proofs.lemmas.List.{map-set, length-map, reverse-append, length-reverse}
+use Rattle.jc_rules.specs.declared.operation.Event.{Event}
+use Rattle.jc_rules.specs.declared.rule.Rule.{Rule}
+use Rattle.jc_rules.specs.State.{State}
+use Rattle.jc_rules.specs.Step.{Step, After, replica_of}
+use Rattle.jc_rules.specs.Trace.{Rows}
+use Rattle.jc_replica.specs.Past.{Past, history}
+use Rattle.jc_network.specs.Course.{kept_of, network_of, last_of, back, back_at, earlier_of, course_of, StepsTo}
+use Rattle.jc_network.specs.Laws.{starts, IsReached}
+use Rattle.jc_network.specs.Makes.{AllHand, HasReplica, Acts}
+use Rattle.jc_network.specs.Real.{real}
+use Rattle.jc_network.specs.Run.{IsInRun, AreInRun, CanGoBack, AreBacked, AreNumbered, IsKeptNet}
+use Rattle.jc_network.specs.Seen.{AreSeen, IsAsked}
+use Rattle.jc_network.proofs.Acting.{well, as_many_states, kept_there}
+use Rattle.jc_network.proofs.Handing.{offered_handed}
+use Rattle.jc_network.proofs.Halves.{index_get}
+use Rattle.jc_network.proofs.Members.{set_there, set_other}
+use Rattle.jc_network.proofs.Realizing.{seen_is_real}
+use Rattle.jc_network.proofs.Seeing.{steps_on}
+
+last-end : (A B : State) (As : List State) → last_of A (As ++ B ∷ []) ≡ B
+last-end A B [] = refl
+last-end A B (C ∷ As) = last-end C B As
+
+take-end : (B : State) (As : List State) → take (length (As ++ B ∷ []) - 1) (As ++ B ∷ []) ≡ As
+take-end B [] = refl
+take-end B (C ∷ As) = go (length (As ++ B ∷ [])) (some As) (take-end B As)
+  where
+    some : (As : List State) → 0 < length (As ++ B ∷ [])
+    some [] = omega arith
+    some (A ∷ As) = omega arith
+
+    go : (n : ℕ) → 0 < n → take (n - 1) (As ++ B ∷ []) ≡ As → take (suc n - 1) (C ∷ (As ++ B ∷ [])) ≡ C ∷ As
+    go zero l e = absurd (omega (arith, l))
+    go (suc n) l e =
+        let f : suc n - 1 ≡ n = omega arith in
+        let g : suc (suc n) - 1 ≡ suc n = omega arith in
+        let h : take n (As ++ B ∷ []) ≡ As = subst (λ m. take m (As ++ B ∷ []) ≡ As) f e in
+        rw g (ap (λ l2. C ∷ l2) h)
+
+-- what a step led from is what the way back leads to
+back_is : (A B : Past) → A.number ≡ B.number → B.earlier ≡ history A → back B ≡ A
+back_is A B n e = λ i. record { number = number i; now = now i; earlier = earlier i }
+  where
+    number : B.number ≡ A.number
+    number = sym n
+
+    now : last_of B.now B.earlier ≡ A.now
+    now = ap (last_of B.now) e ∙ last-end B.now A.now A.earlier
+
+    earlier : take (length B.earlier - 1) B.earlier ≡ A.earlier
+    earlier = ap (λ l. take (length l - 1) l) e ∙ take-end A.now A.earlier
+
+back_at-set : (ps : List Past) (p : ℕ) (A B : Past) → slice_get ps p ≡ Some A → back B ≡ A → back_at p (slice_set ps p B) ≡ ps
+back_at-set [] p A B e f = cc
+back_at-set (q ∷ ps) zero A B e f = let s : q ≡ A = same_Some q A e in ap (λ x. x ∷ ps) (f ∙ sym s)
+back_at-set (q ∷ ps) (suc p) A B e f = ap (λ l. q ∷ l) (back_at-set ps p A B e f)
+
+back_at-is : (p : ℕ) (ps : List Past) (A : Past) → slice_get ps p ≡ Some A → back_at p ps ≡ slice_set ps p (back A)
+back_at-is p [] A e = cc
+back_at-is zero (q ∷ ps) A e = let s : q ≡ A = same_Some q A e in ap (λ x. back x ∷ ps) s
+back_at-is (suc p) (q ∷ ps) A e = ap (λ l. q ∷ l) (back_at-is p ps A e)
+
+not_empty : (A : State) (As : List State) → As ++ A ∷ [] ≢ []
+not_empty A [] e = cc
+not_empty A (B ∷ As) e = cc
+
+after_end : (N : List State) (es : List Event) (M K : List State) (e : Event) (rows : List (Rule × ℕ)) → After N es M → Step M e K rows → After N (es ++ e ∷ []) K
+after_end N [] M K e rows a s = (K, rows, subst (λ L. Step L e K rows) (sym a) s, refl)
+after_end N (f ∷ es) M K e rows a s = (a.0, a.1, a.2, after_end a.0 es M K e rows a.3 s)
+
+numbered_set : (ps : List Past) (p : ℕ) (A B : Past) → slice_get ps p ≡ Some A → B.number ≡ A.number → AreNumbered ps → AreNumbered (slice_set ps p B)
+numbered_set ps p A B there same numbered q C e = go (set_other ps p q B)
+  where
+    go : (q ≡ p) ⊎ (slice_get (slice_set ps p B) q ≡ slice_get ps q) → C.number ≡ q
+    go (inl s) =
+        let is : B ≡ C = same_Some B C (sym (set_there ps p A B there) ∙ subst (λ n. slice_get (slice_set ps p B) n ≡ Some C) s e) in
+        sym (ap (λ (x : Past). x.number) is) ∙ (same ∙ (numbered p A there ∙ sym s))
+    go (inr s) = numbered q C (sym s ∙ e)
+
+run_now : (is : List ℕ) (ps : List Past) → AreInRun is ps → IsInRun (network_of ps) (kept_of ps)
+run_now [] ps h = h
+run_now (i ∷ is) ps h = h.0
+
+pub now_in_run : (count : ℕ) (is : List ℕ) (ps : List Past) → IsKeptNet count is ps → IsInRun (network_of ps) (kept_of ps)
+now_in_run count is ps h = run_now is ps h.runs
+
+length_set : (ps : List Past) (p : ℕ) (B : Past) → length (slice_set ps p B) ≡ length ps
+length_set [] p B = refl
+length_set (q ∷ ps) zero B = refl
+length_set (q ∷ ps) (suc p) B = ap suc (length_set ps p B)
+
+states_set : (N : List State) (p : ℕ) (B : State) → length (slice_set N p B) ≡ length N
+states_set [] p B = refl
+states_set (A ∷ N) zero B = refl
+states_set (A ∷ N) (suc p) B = ap suc (states_set N p B)
+
+-- events add no replica
+after_count : (N : List State) (es : List Event) (M : List State) → After N es M → length M ≡ length N
+after_count N [] M a = ap length (sym a)
+after_count N (e ∷ es) M a = after_count a.0 es M a.3 ∙ (ap length a.2.is_new ∙ states_set N (replica_of e) a.2.after)
+
+-- a network has a replica for each name, and at most 64
+pub few_names : (count : ℕ) (is : List ℕ) (ps : List Past) → IsKeptNet count is ps → (length (network_of ps) ≡ count) × (count ≤ 64)
+few_names count is ps h =
+    let run = run_now is ps h.runs in
+    let n : length (network_of ps) ≡ length ps = as_many_states ps in
+    let m : length (network_of ps) ≡ length (starts run.scripts) = after_count (starts run.scripts) run.reached.0 (network_of ps) run.reached.1 in
+    let l : length (starts run.scripts) ≡ length run.scripts = length-map run.scripts _ in
+    let many : length run.scripts ≤ 64 = run.short.many in
+    let each : length ps ≡ count = h.each in
+    (n ∙ each, omega (arith, n, m, l, many, each))
+
+-- ---- a step
+
+-- the network after it
+record IsStepped (old new : List Past) (event : Event) (rows : Rows) : Type 0 where
+  step : Step (network_of old) event (network_of new) rows.rows
+  run : IsInRun (network_of new) (kept_of new)
+
+step_of : (old new : List Past) (event : Event) (rows : Rows) → IsInRun (network_of old) (kept_of old) → AreNumbered old → Acts event old new (Ok rows) → IsStepped old new event rows
+step_of old new event rows run numbered acts =
+    let m = acts.moves in
+    let p = replica_of event in
+    let N = network_of old in
+    let asked : IsAsked (kept_of old) event acts.read m.before = record {
+      number = numbered p m.before m.there;
+      there = slice_get-map (λ (q : Past). q.now) old p ∙ rw m.there refl;
+      reads = acts.reads;
+    } in
+    let s = steps_on run.set N (kept_of old) (well run.scripts N run.reached).sets run.seen event acts.read m.before m.after rows asked m.answers in
+    let kept : slice_set (kept_of old) p m.after.now ≡ kept_of new = sym (ap kept_of m.now ∙ map-set _ old p m.after) in
+    let seen = subst (AreSeen s.set s.new) kept s.seen in
+    let is : s.new ≡ network_of new = seen_is_real s.set s.new (kept_of new) seen in
+    let step = subst (λ M. Step N event M rows.rows) is s.step in
+    record {
+      step = step;
+      run = record {
+        scripts = run.scripts;
+        short = run.short;
+        reached = (run.reached.0 ++ event ∷ [], after_end (starts run.scripts) run.reached.0 N (network_of new) event rows.rows run.reached.1 step);
+        set = s.set;
+        seen = subst (λ M. AreSeen s.set M (kept_of new)) is seen;
+      };
+    }
+
+-- what holds of a network after a step
+pub record IsAfter (names : List (List ℕ)) (old new : List Past) (whose more : List ℕ) (event : Event) (rows : Rows) : Type 0 where
+  pub kept : IsKeptNet (length names) (reverse more) new
+  pub steps : StepsTo (course_of names (reverse whose) old) event (course_of names (reverse more) new) rows
+
+pub stepped : (names : List (List ℕ)) (old new : List Past) (whose more : List ℕ) (event : Event) (rows : Rows) → more ≡ whose ++ replica_of event ∷ [] → IsKeptNet (length names) (reverse whose) old → Acts event old new (Ok rows) → IsAfter names old new whose more event rows
+stepped names old new whose more event rows is inv acts =
+    let m = acts.moves in
+    let p = replica_of event in
+    let turned : reverse more ≡ p ∷ reverse whose = ap reverse is ∙ reverse-append whose (p ∷ []) in
+    let s = step_of old new event rows (run_now (reverse whose) old inv.runs) inv.numbered acts in
+    let goes : back m.after ≡ m.before = back_is m.before m.after (sym m.answers.number) m.answers.earlier in
+    let before : back_at p new ≡ old = ap (back_at p) m.now ∙ back_at-set old p m.before m.after m.there goes in
+    let there : slice_get new p ≡ Some m.after = subst (λ (ps : List Past). slice_get ps p ≡ Some m.after) (sym m.now) (set_there old p m.before m.after m.there) in
+    let can : CanGoBack p new = record { past = m.after; there = there; some = λ e. not_empty m.before.now m.before.earlier (sym m.answers.earlier ∙ e) } in
+    let kept : IsKeptNet (length names) (p ∷ reverse whose) new = record {
+      each = ap length m.now ∙ (length_set old p m.after ∙ inv.each);
+      numbered = subst AreNumbered (sym m.now) (numbered_set old p m.before m.after m.there m.answers.number inv.numbered);
+      backed = (can, subst (AreBacked (reverse whose)) (sym before) inv.backed);
+      runs = (s.run, subst (AreInRun (reverse whose)) (sym before) inv.runs);
+    } in
+    let earlier : earlier_of (p ∷ reverse whose) new ≡ earlier_of (reverse whose) old ++ network_of old ∷ [] = ap (λ ps. earlier_of (reverse whose) ps ++ network_of ps ∷ []) before in
+    record {
+      kept = subst (λ w. IsKeptNet (length names) w new) (sym turned) kept;
+      steps = record {
+        step = s.step;
+        earlier = subst (λ w. earlier_of w new ≡ earlier_of (reverse whose) old ++ network_of old ∷ []) (sym turned) earlier;
+        names = refl;
+      };
+    }
+
+-- what a loan of the whole list has given back
+pub stepped_whole : (names : List (List ℕ)) (old new : List Past) (n : ℕ) (whose more : List ℕ) (event : Event) (rows : Rows) → n ≡ length old → more ≡ whose ++ replica_of event ∷ [] → IsKeptNet (length names) (reverse whose) old → Acts event old new (Ok rows) → IsAfter names old (take n (new ++ drop (length new) old)) whose more event rows
+stepped_whole names old new n whose more event rows len is inv acts =
+    let m = acts.moves in
+    let count : length new ≡ length old = ap length m.now ∙ length_set old (replica_of event) m.after in
+    let whole : take n (new ++ drop (length new) old) ≡ new = subst (λ k. take k (new ++ drop (length new) old) ≡ new) (count ∙ sym len) (take-append_seam new (drop (length new) old)) in
+    subst (λ ps. IsAfter names old ps whose more event rows) (sym whole) (stepped names old new whose more event rows is inv acts)
+
+-- what the replicas offer may be handed on
+pub all_hand : (count : ℕ) (is : List ℕ) (ps : List Past) → IsKeptNet count is ps → AllHand ps
+all_hand count is ps h q past e =
+    let run = run_now is ps h.runs in
+    offered_handed run.scripts (network_of ps) run.reached run.short run.set (kept_of ps) run.seen q past.now (kept_there ps q past e)
+
+-- what a replica keeps stands for its state
+pub has_replica : (count : ℕ) (is : List ℕ) (ps : List Past) → IsKeptNet count is ps → (p : ℕ) (past : Past) → slice_get ps p ≡ Some past → HasReplica (network_of ps) p past
+has_replica count is ps h p past e =
+    let run = run_now is ps h.runs in
+    let x = run.seen.each p past.now (kept_there ps p past e) in
+    record { at = x.at; there = x.there; number = h.numbered p past e; kept = x.seen.stands.is }
+
+-- of what is lent at a place
+pub if_lent : (ps : List Past) (i : ℕ) (r : Option (Bor Past)) (Q : Past → Type 0) → IsItemAt ps i r → ((a : Past) → slice_get ps i ≡ Some a → Q a) → IfSome r (λ x. Q x.now)
+if_lent ps i None Q f h = tt
+if_lent ps i (Some x) Q f h = h x.now (slice_get_read ps (length ps) i x.now refl f.3.0 (f.3.1 x.now))
+
+-- ---- the way back
+
+pub record IsBefore (count : ℕ) (old new : List Past) (whose fewer : List ℕ) : Type 0 where
+  pub kept : IsKeptNet count (reverse fewer) new
+  pub earlier : earlier_of (reverse whose) old ≡ earlier_of (reverse fewer) new ++ network_of new ∷ []
+
+turned_back : (whose fewer : List ℕ) (p : ℕ) → whose ≡ fewer ++ p ∷ [] → reverse whose ≡ p ∷ reverse fewer
+turned_back whose fewer p is = ap reverse is ∙ reverse-append fewer (p ∷ [])
+
+-- the replica whose step was the last is there
+pub can_index : (count : ℕ) (ps : List Past) (p : ℕ) (whose fewer : List ℕ) → whose ≡ fewer ++ p ∷ [] → IsKeptNet count (reverse whose) ps → p < length ps
+can_index count ps p whose fewer is inv =
+    let h : IsKeptNet count (p ∷ reverse fewer) ps = subst (λ w. IsKeptNet count w ps) (turned_back whose fewer p is) inv in
+    slice_get_within ps p h.backed.0.past h.backed.0.there
+
+-- and it can go back
+pub goes_back : (count : ℕ) (ps : List Past) (p : ℕ) (a : Past) (whose fewer : List ℕ) → whose ≡ fewer ++ p ∷ [] → IsKeptNet count (reverse whose) ps → slice_get ps p ≡ Some a → a.earlier ≢ []
+goes_back count ps p a whose fewer is inv there e =
+    let h : IsKeptNet count (p ∷ reverse fewer) ps = subst (λ w. IsKeptNet count w ps) (turned_back whose fewer p is) inv in
+    let s : h.backed.0.past ≡ a = same_Some h.backed.0.past a (sym h.backed.0.there ∙ there) in
+    h.backed.0.some (ap (λ (q : Past). q.earlier) s ∙ e)
+
+pub undone : (count : ℕ) (ps : List Past) (p : ℕ) (a b : Past) (whose fewer : List ℕ) → whose ≡ fewer ++ p ∷ [] → IsKeptNet count (reverse whose) ps → slice_get ps p ≡ Some a → b.number ≡ a.number → history b ≡ a.earlier → IsBefore count ps (slice_set ps p b) whose fewer
+undone count ps p a b whose fewer is inv there number was =
+    let turned = turned_back whose fewer p is in
+    let h : IsKeptNet count (p ∷ reverse fewer) ps = subst (λ w. IsKeptNet count w ps) turned inv in
+    let new : slice_set ps p b ≡ back_at p ps = ap (slice_set ps p) (sym (back_is b a number (sym was))) ∙ sym (back_at-is p ps a there) in
+    record {
+      kept = record {
+        each = length_set ps p b ∙ h.each;
+        numbered = numbered_set ps p a b there number h.numbered;
+        backed = subst (AreBacked (reverse fewer)) (sym new) h.backed.1;
+        runs = subst (AreInRun (reverse fewer)) (sym new) h.runs.1;
+      };
+      earlier = subst (λ w. earlier_of w ps ≡ earlier_of (reverse fewer) (slice_set ps p b) ++ network_of (slice_set ps p b) ∷ []) (sym turned) (ap (λ qs. earlier_of (reverse fewer) qs ++ network_of qs ∷ []) (sym new));
+    }
+
+-- the same, where the replica says whether it went back
+pub undone_by : (count : ℕ) (ps : List Past) (p : ℕ) (a b : Past) (whose fewer : List ℕ) → whose ≡ fewer ++ p ∷ [] → IsKeptNet count (reverse whose) ps → slice_get ps p ≡ Some a → b.number ≡ a.number → (result : Bool) → (IsTrue result → history b ≡ a.earlier) → (IsFalse result → (b ≡ a) × (a.earlier ≡ [])) → IsBefore count ps (slice_set ps p b) whose fewer
+undone_by count ps p a b whose fewer is inv there number true was none = undone count ps p a b whose fewer is inv there number (was refl)
+undone_by count ps p a b whose fewer is inv there number false was none = absurd (goes_back count ps p a whose fewer is inv there (none refl).1)
+
+-- ---- the number of steps
+
+length_end : {X : Type 0} (xs : List X) (x : X) → length (xs ++ x ∷ []) ≡ length xs + 1
+length_end [] x = refl
+length_end (y ∷ xs) x = let h : length (xs ++ x ∷ []) ≡ length xs + 1 = length_end xs x in omega (arith, h)
+
+length_earlier : (is : List ℕ) (ps : List Past) → length (earlier_of is ps) ≡ length is
+length_earlier [] ps = refl
+length_earlier (i ∷ is) ps =
+    let h : length (earlier_of is (back_at i ps)) ≡ length is = length_earlier is (back_at i ps) in
+    let g : length (earlier_of (i ∷ is) ps) ≡ length (earlier_of is (back_at i ps)) + 1 = length_end (earlier_of is (back_at i ps)) (network_of (back_at i ps)) in
+    omega (arith, h, g)
+
+pub as_many : (whose : List ℕ) (ps : List Past) → length (earlier_of (reverse whose) ps) ≡ length whose
+as_many whose ps = length_earlier (reverse whose) ps ∙ length-reverse whose

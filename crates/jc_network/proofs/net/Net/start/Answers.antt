@@ -1,0 +1,31 @@
+use Rattle.std.proofs.Common.{◌≡◌, ◌≤◌, ℕ, List, [], length, reverse, sym, ◌∙◌, ap, subst, arith}
+use Rattle.jc_scenario.specs.Views.{scripts_view}
+use Rattle.jc_network.specs.Course.{network_of, earlier_of}
+use Rattle.jc_network.specs.Run.{IsKeptNet}
+use Rattle.jc_network.specs.Start.{pasts_from}
+use Rattle.jc_network.proofs.Beginning.{starts_in_run, real_start, short_scripts}
+use Rattle.jc_network.proofs.net.Net.start.Goals as goal
+
+pub invariant_of-result : goal.invariant_of-result
+invariant_of-result c =
+    let scripts = scripts_view c.args.scenario.now.scripts.items in
+    let names = c.in_ok-copy_names.field-0.items in
+    let made : c.in_ok-replicas_of.field-0.items ≡ pasts_from 0 scripts = c.in_ok-replicas_of.ensures ∙ ap (λ l. pasts_from 0 (scripts_view l)) c.deref-2.ensures.value in
+    let none : reverse c.new.result.items ≡ [] = ap reverse c.new.ensures.items in
+    let each = c.requires.each in
+    let few = c.requires.few in
+    let count : length names ≡ length scripts = ap length (c.in_ok-copy_names.ensures ∙ c.deref.ensures.value) ∙ sym each in
+    let whole = starts_in_run scripts (short_scripts scripts (omega (arith, each, few)) c.requires.formed) in
+    subst (λ ps. IsKeptNet (length names) (reverse c.new.result.items) ps) (sym made)
+    (subst (λ w. IsKeptNet (length names) w (pasts_from 0 scripts)) (sym none)
+    (subst (λ n. IsKeptNet n [] (pasts_from 0 scripts)) (sym count) whole))
+
+pub returns : goal.returns
+returns c =
+    let scripts = scripts_view c.args.scenario.now.scripts.items in
+    let items = c.in_ok-replicas_of.field-0.items in
+    let made : items ≡ pasts_from 0 scripts = c.in_ok-replicas_of.ensures ∙ ap (λ l. pasts_from 0 (scripts_view l)) c.deref-2.ensures.value in
+    let names = c.in_ok-copy_names.ensures ∙ c.deref.ensures.value in
+    let network = ap network_of made ∙ real_start scripts in
+    let earlier = ap (λ w. earlier_of w items) (ap reverse c.new.ensures.items) in
+    λ n. record { names = names n; network = network n; earlier = earlier n }

@@ -1,0 +1,46 @@
+use Rattle.std.proofs.Common.{◌≡◌, ◌<◌, ℕ, [], ◌∷◌, ◌++◌, length, reverse, option_to_list, slice_get, slice_set, Some, sym, ◌∙◌, ap, subst, arith}
+use Rattle.jc_network.specs.Course.{Course, network_of, earlier_of}
+use Rattle.jc_network.proofs.Going.{can_index, goes_back, undone_by}
+use Rattle.jc_network.proofs.Halves.{index_get}
+use Rattle.jc_network.proofs.net.Net.undo.Goals as goal
+
+pub index_mut-requires : goal.index_mut-requires
+index_mut-requires c =
+    let items = c.self.inside.replicas.items in
+    let more : c.self.inside.whose.items ≡ c.pop.new.self.items ++ c.from.result ∷ [] = c.pop.ensures.items ∙ (ap (λ o. c.pop.new.self.items ++ option_to_list o) c.in-Some.is ∙ ap (λ n. c.pop.new.self.items ++ n ∷ []) (sym c.from.ensures)) in
+    let l : c.from.result < length items = can_index (length c.self.inside.names.items) items c.from.result c.self.inside.whose.items c.pop.new.self.items more c.self.invariant in
+    let n = c.self.inside.replicas.ok.0 in
+    omega (arith, n, l)
+
+pub invariant_of-self : goal.invariant_of-self
+invariant_of-self c =
+    let items = c.self.inside.replicas.items in
+    let i = c.from.result in
+    let count = length c.self.inside.names.items in
+    let more : c.self.inside.whose.items ≡ c.pop.new.self.items ++ i ∷ [] = c.pop.ensures.items ∙ (ap (λ o. c.pop.new.self.items ++ option_to_list o) c.in-Some.is ∙ ap (λ n. c.pop.new.self.items ++ n ∷ []) (sym c.from.ensures)) in
+    let l : i < length items = can_index count items i c.self.inside.whose.items c.pop.new.self.items more c.self.invariant in
+    let there : slice_get items i ≡ Some c.index_mut.result.now = index_get items i _ l c.index_mut.ensures.value in
+    (undone_by count items i c.index_mut.result.now c.undo.new.self c.self.inside.whose.items c.pop.new.self.items more c.self.invariant there c.undo.ensures.number c.undo.result c.undo.ensures.undone c.undo.ensures.none).kept
+
+pub returns-in-Some-clause-undone : goal.returns-in-Some-clause-undone
+returns-in-Some-clause-undone c = λ _.
+    let items = c.self.inside.replicas.items in
+    let i = c.from.result in
+    let count = length c.self.inside.names.items in
+    let more : c.self.inside.whose.items ≡ c.pop.new.self.items ++ i ∷ [] = c.pop.ensures.items ∙ (ap (λ o. c.pop.new.self.items ++ option_to_list o) c.in-Some.is ∙ ap (λ n. c.pop.new.self.items ++ n ∷ []) (sym c.from.ensures)) in
+    let l : i < length items = can_index count items i c.self.inside.whose.items c.pop.new.self.items more c.self.invariant in
+    let there : slice_get items i ≡ Some c.index_mut.result.now = index_get items i _ l c.index_mut.ensures.value in
+    let s = undone_by count items i c.index_mut.result.now c.undo.new.self c.self.inside.whose.items c.pop.new.self.items more c.self.invariant there c.undo.ensures.number c.undo.result c.undo.ensures.undone c.undo.ensures.none in
+    let new = slice_set items i c.undo.new.self in
+    subst (λ (v : Course). v.earlier ≡ earlier_of (reverse c.pop.new.self.items) new ++ network_of new ∷ []) c.self.view_is s.earlier
+
+-- there was one
+pub returns-in-Some-clause-none : goal.returns-in-Some-clause-none
+returns-in-Some-clause-none c = λ no.
+    let items = c.self.inside.replicas.items in
+    let i = c.from.result in
+    let count = length c.self.inside.names.items in
+    let more : c.self.inside.whose.items ≡ c.pop.new.self.items ++ i ∷ [] = c.pop.ensures.items ∙ (ap (λ o. c.pop.new.self.items ++ option_to_list o) c.in-Some.is ∙ ap (λ n. c.pop.new.self.items ++ n ∷ []) (sym c.from.ensures)) in
+    let l : i < length items = can_index count items i c.self.inside.whose.items c.pop.new.self.items more c.self.invariant in
+    let there : slice_get items i ≡ Some c.index_mut.result.now = index_get items i _ l c.index_mut.ensures.value in
+    absurd (goes_back count items i c.index_mut.result.now c.self.inside.whose.items c.pop.new.self.items more c.self.invariant there (c.undo.ensures.none no).1)

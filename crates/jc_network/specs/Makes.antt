@@ -1,0 +1,104 @@
+-- What a network's call answers that makes an event.
+use Rattle.std.specs.Prelude.{◌≡◌, ◌≤◌, ◌<◌, ◌⊎◌, ℕ, List, [], Option, Some, None, Result, Ok, Err, length, slice_get, slice_set}
+use Rattle.jc_rules.specs.declared.key.Tagged.{Tagged}
+use Rattle.jc_rules.specs.declared.operation.Event.{Event}
+use Rattle.jc_rules.specs.declared.operation.Event.TheVariants as V
+use Rattle.jc_rules.specs.declared.operation.Op.{Op}
+use Rattle.jc_rules.specs.declared.refusal.Refusal.TheVariants.{NoSuchReplica}
+use Rattle.jc_rules.specs.Refusals.{number_of}
+use Rattle.jc_rules.specs.Refused.{Cause, because, no_node, refusal_of, IsStuck}
+use Rattle.jc_rules.specs.State.{State}
+use Rattle.jc_rules.specs.Step.{replica_of, read_by}
+use Rattle.jc_rules.specs.Trace.{Rows}
+use Rattle.jc_sets.specs.States.{kept_state}
+use Rattle.jc_replica.specs.declared.fault.ReplicaFault.{ReplicaFault}
+use Rattle.jc_replica.specs.Answers.{Answers, RefusedFor}
+use Rattle.jc_replica.specs.Operations.{AreHanded}
+use Rattle.jc_replica.specs.Past.{Past}
+use Rattle.jc_network.specs.declared.fault.StepFault.{StepFault}
+use Rattle.jc_network.specs.declared.fault.StepFault.TheVariants as E
+use Rattle.jc_network.specs.declared.fault.Stuck.{Stuck}
+use Rattle.jc_network.specs.Course.{kept_of}
+use Rattle.jc_network.specs.Seen.{IsAsked}
+
+-- ---- stuck events
+
+abbrev pub key_of : Cause → Option Tagged
+key_of (because refusal) = None
+key_of (no_node k) = Some k
+
+-- the number, the key and the event
+abbrev pub stuck_for : Cause → Event → Stuck
+stuck_for why event = record { number = number_of (refusal_of why); key = key_of why; event = event }
+
+-- The event is stuck in the network, for this cause.
+pub record IsStuckFor (network : List State) (event : Event) (s : Stuck) : Type 0 where
+  pub why : Cause
+  pub stuck : IsStuck network event why
+  pub is : s ≡ stuck_for why event
+
+-- for the cause, or for want of memory
+abbrev pub fault_for : Option Cause → Event → StepFault
+fault_for (Some why) event = E.Stuck (stuck_for why event)
+fault_for None event = E.Memory
+
+-- ---- a replica of the network
+
+-- what replica p keeps, and the state for which that stands
+pub record HasReplica (network : List State) (p : ℕ) (past : Past) : Type 0 where
+  pub at : State
+  pub there : slice_get network p ≡ Some at
+  pub number : past.number ≡ p
+  pub kept : past.now ≡ kept_state at
+
+-- ---- one call
+
+-- what a replica offers
+abbrev pub sent_by : Option Past → List Op
+sent_by None = []
+sent_by (Some past) = past.now.send
+
+-- what replicas offer may be handed on
+abbrev pub AllHand : List Past → Type 0
+AllHand ps = (q : ℕ) (past : Past) → slice_get ps q ≡ Some past → AreHanded past.now.send
+
+-- Replica p answered the event, and no other replica changed.
+pub record Moves (p : ℕ) (event : Event) (read : List Op) (old new : List Past) (result : Result Rows ReplicaFault) : Type 0 where
+  pub before : Past
+  pub after : Past
+  pub there : slice_get old p ≡ Some before
+  pub now : new ≡ slice_set old p after
+  pub answers : Answers event read before after result
+
+-- the event's replica answered it
+pub record Acts (event : Event) (old new : List Past) (result : Result Rows ReplicaFault) : Type 0 where
+  pub read : List Op
+  pub reads : read_by event (kept_of old) ≡ Some read
+  pub moves : Moves (replica_of event) event read old new result
+
+-- the replicas that the event names are there
+abbrev pub HasReplicas : Event → List Past → Type 0
+HasReplicas (V.Recv p q) ps = (p < length ps) × (q < length ps)
+HasReplicas event ps = replica_of event < length ps
+
+-- one of them isn't
+abbrev pub IsMissing : Event → List Past → Type 0
+IsMissing event ps =
+    (length ps ≤ replica_of event) ⊎ ((p q : ℕ) × (event ≡ V.Recv p q) × (length ps ≤ q))
+
+-- the event's replica refuses it
+pub record IsRefusedBy (event : Event) (ps : List Past) (why : Cause) : Type 0 where
+  pub read : List Op
+  pub past : Past
+  pub asked : IsAsked (kept_of ps) event read past
+  pub refuses : RefusedFor event read past why
+
+-- The event isn't made, for this cause.
+abbrev pub Stops : Event → List Past → Cause → Type 0
+Stops event ps why = ((why ≡ because NoSuchReplica) × IsMissing event ps) ⊎ IsRefusedBy event ps why
+
+abbrev pub Makes : Event → List Past → List Past → Result Rows StepFault → Type 0
+Makes event old new (Ok rows) = Acts event old new (Ok rows)
+Makes event old new (Err (E.Stuck s)) = (new ≡ old) × (why : Cause) × (s ≡ stuck_for why event) × Stops event old why
+Makes event old new (Err E.Memory) = new ≡ old
+Makes event old new (Err E.Full) = ⊥

@@ -1,0 +1,48 @@
+-- What the type of a network keeps.
+use Rattle.std.specs.Prelude.{◌≡◌, ◌≢◌, ℕ, List, [], ◌∷◌, Some, length, slice_get}
+use Rattle.jc_rules.specs.declared.operation.Op.{Op}
+use Rattle.jc_rules.specs.State.{State}
+use Rattle.jc_rules.specs.Syntax.{Cmd}
+use Rattle.jc_replica.specs.Past.{Past}
+use Rattle.jc_network.specs.Course.{kept_of, network_of, back_at}
+use Rattle.jc_network.specs.Laws.{IsReached}
+use Rattle.jc_network.specs.Seen.{AreSeen, AreShort}
+
+-- Events have led to the network from the start of short scripts, and in the set of what was made the kept states stand
+-- for it.
+pub record IsInRun (network kept : List State) : Type 0 where
+  pub scripts : List (List Cmd)
+  pub short : AreShort scripts
+  pub reached : IsReached scripts network
+  pub set : List Op
+  pub seen : AreSeen set network kept
+
+-- events have led to the network from the start of some scripts
+abbrev pub IsFromStart : List State → Type 0
+IsFromStart network = (scripts : List (List Cmd)) × IsReached scripts network
+
+-- the network and all before it, by whose steps they were, the last one first
+abbrev pub AreInRun : List ℕ → List Past → Type 0
+AreInRun [] ps = IsInRun (network_of ps) (kept_of ps)
+AreInRun (i ∷ is) ps = IsInRun (network_of ps) (kept_of ps) × AreInRun is (back_at i ps)
+
+-- the replica i can go back
+pub record CanGoBack (i : ℕ) (ps : List Past) : Type 0 where
+  pub past : Past
+  pub there : slice_get ps i ≡ Some past
+  pub some : past.earlier ≢ []
+
+abbrev pub AreBacked : List ℕ → List Past → Type 0
+AreBacked [] ps = Unit {0}
+AreBacked (i ∷ is) ps = CanGoBack i ps × AreBacked is (back_at i ps)
+
+-- each replica has the number of its place
+abbrev pub AreNumbered : List Past → Type 0
+AreNumbered ps = (p : ℕ) (past : Past) → slice_get ps p ≡ Some past → past.number ≡ p
+
+-- a replica for each of so many names
+pub record IsKeptNet (count : ℕ) (whose : List ℕ) (ps : List Past) : Type 0 where
+  pub each : length ps ≡ count
+  pub numbered : AreNumbered ps
+  pub backed : AreBacked whose ps
+  pub runs : AreInRun whose ps

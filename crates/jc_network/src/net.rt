@@ -1,0 +1,118 @@
+//! Networks.
+
+ghost use Rattle.std.specs.Prelude.{◌≡◌, ◌≤◌, ◌++◌, ◌∷◌, ◌↔◌, [], length, slice_get, IfOk, IfSome, OnErr, IsErrOf, IsTrue, IsFalse, IfNone};
+ghost use Rattle.jc_scenario.specs.Scenarios.{IsWellFormed};
+ghost use Rattle.jc_scenario.specs.Views.{scenario_view};
+ghost use Rattle.jc_network.specs.declared.fault.StepFault.TheVariants as E;
+ghost use Rattle.jc_network.specs.declared.fault.Stuck.{Stuck as AnyStuck};
+ghost use Rattle.jc_network.specs.Course.{started, StepsTo};
+ghost use Rattle.jc_network.specs.Makes.{IsStuckFor, HasReplica};
+ghost use Rattle.jc_network.specs.Run.{IsFromStart};
+
+use crate::fault::StepFault;
+use crate::replicas::replicas_of;
+use crate::stepping::make;
+use jc_replica::Replica;
+use jc_rules::{Event, Text, Trace};
+use jc_scenario::{Scenario, copy_names};
+use jc_tree::PlainTree;
+use std::alloc::{AllocError, Global};
+use std::marker::Model;
+
+/// Replicas in the order of their names. They are seen as their names, the network of their states, and the
+/// networks before its steps.
+#[derive(Drop)]
+pub struct Net {
+    names: Vec<Text>,
+    replicas: Vec<Replica<PlainTree>>,
+    /// Whose step each was.
+    whose: Vec<u16>,
+    alloc: Global,
+}
+
+impl Model for Net {
+    ghost use Rattle.std.specs.Prelude.{length, reverse};
+    ghost use Rattle.jc_network.specs.Course.{Course, course_code, course_of};
+    ghost use Rattle.jc_network.specs.Run.{IsKeptNet};
+
+    ghost Value = { Course };
+
+    ghost coded = { course_code };
+
+    ghost view = { λ a. course_of a.names.items (reverse a.whose.items) a.replicas.items };
+
+    ghost invariant = { λ a. IsKeptNet (length a.names.items) (reverse a.whose.items) a.replicas.items };
+}
+
+impl Net {
+    /// The network at the start of the scenario.
+    pub fn start(alloc: Global, scenario: &Scenario) -> Result<Self, AllocError>
+        requires { IsWellFormed (scenario_view scenario.now) }
+        ensures { IfOk result (λ net. net ≡ started (scenario_view scenario.now)) }
+    {
+        Ok(Net {
+            names: copy_names(alloc, &scenario.names)?,
+            replicas: replicas_of(alloc, &scenario.scripts)?,
+            whose: Vec::new(alloc),
+            alloc,
+        })
+    }
+
+    /// The replicas' names, in order.
+    pub fn names(&self) -> &[Text]
+        ensures names { result.now ≡ self.now.names }
+        ensures each { length self.now.network ≡ length self.now.names }
+        ensures few { length self.now.names ≤ 64 }
+    {
+        self.names.as_slice()
+    }
+
+    /// The number of steps. Events have led to the network from a start, so the laws of runs hold of it.
+    pub fn steps(&self) -> u64
+        ensures steps { result ≡ length self.now.earlier }
+        ensures reached { IsFromStart self.now.network }
+    {
+        self.whose.len() as u64
+    }
+
+    /// The replica with the number, if there is one.
+    pub fn replica(&self, p: u16) -> Option<&Replica<PlainTree>>
+        ensures some { IfSome result (λ replica. HasReplica self.now.network p replica.now) }
+        ensures none { IfNone result (length self.now.network ≤ p) }
+    {
+        self.replicas.get(usize::from(p))
+    }
+
+    /// Makes the event, and gives its trace.
+    ///
+    /// It is refused with `Full` after 100,000 steps; else with `Stuck`, where the replica that the event names
+    /// first isn't there, or the other one, or for what the replica refuses it. After a refusal all is as it was.
+    pub fn step(&mut self, event: &Event) -> Result<Trace, StepFault>
+        ensures made { IfOk result (λ trace. StepsTo self.old event.now self.new trace) }
+        ensures stuck { (s : AnyStuck) → IsErrOf result (E.Stuck s) → IsStuckFor self.old.network event.now s }
+        ensures full { IsErrOf result E.Full ↔ 100000 ≤ length self.old.earlier }
+        ensures kept { OnErr result (self.new ≡ self.old) }
+    {
+        if self.whose.len() >= 100_000 {
+            return Err(StepFault::Full);
+        }
+        if self.whose.reserve(1).is_err() {
+            return Err(StepFault::Memory);
+        }
+        let trace = make(self.alloc, self.replicas.as_mut_slice(), event)?;
+        self.whose.push(event.replica()).unwrap();
+        Ok(trace)
+    }
+
+    /// Takes the last step back, and says whether there was one. It takes no memory.
+    pub fn undo(&mut self) -> bool
+        ensures undone { IsTrue result → self.old.earlier ≡ self.new.earlier ++ self.new.network ∷ [] }
+        ensures names { self.new.names ≡ self.old.names }
+        ensures none { IsFalse result → (self.new ≡ self.old) × (self.old.earlier ≡ []) }
+    {
+        match self.whose.pop() {
+            Some(p) => self.replicas[usize::from(p)].undo(),
+            None => false,
+        }
+    }
+}
