@@ -10,7 +10,7 @@ use Rattle.jc_replica.specs.Past.{Past}
 use Rattle.jc_network.specs.Course.{kept_of, network_of}
 use Rattle.jc_network.specs.Laws.{starts}
 use Rattle.jc_network.specs.Real.{real}
-use Rattle.jc_network.specs.Run.{IsInRun, AreNumbered, IsKeptNet}
+use Rattle.jc_network.specs.Run.{IsKeptNet}
 use Rattle.jc_network.specs.Seen.{AreSeen, AreShort}
 use Rattle.jc_network.specs.Start.{pasts_from}
 use Rattle.jc_network.proofs.Realizing.{seen_is_real}

@@ -257,7 +257,7 @@ module _ (In : Op → Type 0) (A : State) (known : IsKnown In A) (good : IsGood 
 
 -- ---- events
 
-yield_or_not : (c : Cmd) → (c ≡ Yield) ⊎ (c ≢ Yield)
+pub yield_or_not : (c : Cmd) → (c ≡ Yield) ⊎ (c ≢ Yield)
 yield_or_not Yield = inl refl
 yield_or_not (LetIn x e) = inr (λ f. cc)
 yield_or_not (SetTo e v) = inr (λ f. cc)

@@ -1,24 +1,25 @@
 -- A step of a network, and the way back.
-use Rattle.std.proofs.Common.{◌≡◌, ◌≢◌, ℕ, zero, suc, ◌+◌, ◌-◌, ◌<◌, ◌≤◌, ◌⊎◌, inl, inr, List, [], ◌∷◌, ◌++◌, Option, Some, None, IfSome, Bor, Result, Ok, Bool, true, false, IsTrue, IsFalse, map, reverse, length, take, drop, slice_get, slice_set, slice_index_or, refl, sym, ◌∙◌, ap, subst, arith}
+use Rattle.std.proofs.Common.{◌≡◌, ◌≢◌, ℕ, zero, suc, ◌+◌, ◌-◌, ◌<◌, ◌≤◌, ◌⊎◌, inl, inr, List, [], ◌∷◌, ◌++◌, Option, Some, None, IfSome, Bor, Ok, Bool, true, false, IsTrue, IsFalse, reverse, length, take, drop, slice_get, slice_set, refl, sym, ◌∙◌, ap, subst, arith}
 use Rattle.std.proofs.lemmas.Option.{same_Some, slice_get-map, slice_get_read, slice_get_within}
 use Rattle.std.specs.Slice.{IsItemAt}
 use Rattle.std.proofs.Math.Seq.{take-append_seam}
 use Rattle.std.proofs.lemmas.List.{map-set, length-map, reverse-append, length-reverse}
 use Rattle.jc_rules.specs.declared.operation.Event.{Event}
+use Rattle.jc_rules.specs.declared.operation.Op.{Op}
 use Rattle.jc_rules.specs.declared.rule.Rule.{Rule}
 use Rattle.jc_rules.specs.State.{State}
 use Rattle.jc_rules.specs.Step.{Step, After, replica_of}
 use Rattle.jc_rules.specs.Trace.{Rows}
 use Rattle.jc_replica.specs.Past.{Past, history}
+use Rattle.jc_network.specs.Applied.{applied_ops, IsApplied}
 use Rattle.jc_network.specs.Course.{kept_of, network_of, last_of, back, back_at, earlier_of, course_of, StepsTo}
-use Rattle.jc_network.specs.Laws.{starts, IsReached}
+use Rattle.jc_network.specs.Laws.{starts}
 use Rattle.jc_network.specs.Makes.{AllHand, HasReplica, Acts}
-use Rattle.jc_network.specs.Real.{real}
 use Rattle.jc_network.specs.Run.{IsInRun, AreInRun, CanGoBack, AreBacked, AreNumbered, IsKeptNet}
 use Rattle.jc_network.specs.Seen.{AreSeen, IsAsked}
 use Rattle.jc_network.proofs.Acting.{well, as_many_states, kept_there}
+use Rattle.jc_network.proofs.Applying.{applied_stands}
 use Rattle.jc_network.proofs.Handing.{offered_handed}
-use Rattle.jc_network.proofs.Halves.{index_get}
 use Rattle.jc_network.proofs.Members.{set_there, set_other}
 use Rattle.jc_network.proofs.Realizing.{seen_is_real}
 use Rattle.jc_network.proofs.Seeing.{steps_on}
@@ -205,6 +206,18 @@ has_replica count is ps h p past e =
 pub if_lent : (ps : List Past) (i : ℕ) (r : Option (Bor Past)) (Q : Past → Type 0) → IsItemAt ps i r → ((a : Past) → slice_get ps i ≡ Some a → Q a) → IfSome r (λ x. Q x.now)
 if_lent ps i None Q f h = tt
 if_lent ps i (Some x) Q f h = h x.now (slice_get_read ps (length ps) i x.now refl f.3.0 (f.3.1 x.now))
+
+pub some_lent : (ps : List Past) (i : ℕ) (r : Option (Bor Past)) (x : Bor Past) → IsItemAt ps i r → r ≡ Some x → slice_get ps i ≡ Some x.now
+some_lent ps i None x f e = cc
+some_lent ps i (Some y) x f e =
+    let same : y ≡ x = same_Some y x e in
+    subst (λ (z : Bor Past). slice_get ps i ≡ Some z.now) same (slice_get_read ps (length ps) i y.now refl f.3.0 (f.3.1 y.now))
+
+-- what a replica has applied
+pub applies : (count : ℕ) (is : List ℕ) (ps : List Past) → IsKeptNet count is ps → (p : ℕ) (past : Past) (ops : List Op) → slice_get ps p ≡ Some past → ops ≡ applied_ops past.now → IsApplied (network_of ps) p ops
+applies count is ps h p past ops e found =
+    let run = run_now is ps h.runs in
+    subst (IsApplied (network_of ps) p) (sym found) (applied_stands run.set (network_of ps) (kept_of ps) run.seen p past.now (kept_there ps p past e))
 
 -- ---- the way back
 

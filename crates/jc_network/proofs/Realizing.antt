@@ -1,6 +1,5 @@
 -- Kept states stand for the network that is computed from them.
-use Rattle.std.proofs.Common.{◌≡◌, ℕ, zero, suc, List, [], ◌∷◌, ◌++◌, Some, None, true, Contains, ◌⊎◌, inl, inr, map, length, slice_get, refl, sym, ◌∙◌, ap, subst, arith}
-use Rattle.std.specs.List.{AllByRecursion}
+use Rattle.std.proofs.Common.{◌≡◌, ℕ, zero, suc, List, [], ◌∷◌, Some, true, Contains, ◌⊎◌, inl, inr, map, length, slice_get, refl, sym, ◌∙◌, ap, subst, arith}
 use Rattle.std.proofs.lemmas.List.Elements.{Contains-append_left, Contains-append_right, Contains-append_cases}
 use Rattle.std.proofs.lemmas.Option.{same_Some}
 use Rattle.jc_rules.specs.declared.id.Id.{Id}
@@ -17,7 +16,7 @@ use Rattle.jc_sets.proofs.Applying.{deps_closed}
 use Rattle.jc_sets.proofs.Members.{of_operation, operation_of, within_is}
 use Rattle.jc_network.specs.Network.{IsAt, IsMade}
 use Rattle.jc_network.specs.Real.{queues, real_op, real_state, real}
-use Rattle.jc_network.specs.Seen.{HasSeen, AreSeen}
+use Rattle.jc_network.specs.Seen.{AreSeen}
 use Rattle.jc_network.proofs.Members.{none_in, first_in, later_in, in_cons, op_in, still_with_id, now_with_id}
 use Rattle.jc_network.proofs.Seeing.{all_in}
 

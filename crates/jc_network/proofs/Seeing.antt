@@ -99,10 +99,10 @@ of_one : (q : ℕ) (os : List Op) → ((o : Op) → Contains os o → o.id.repli
 of_one q [] f = tt
 of_one q (o ∷ os) f = kept_own o.id.replica os (λ x c. f x (later_in x o os c) ∙ sym (f o (first_in o os)))
 
-record Reads (set : List Op) (network : List State) (event : Event) (read : List Op) : Type 0 where
-  os : List Op
-  reads : read_by event network ≡ Some os
-  is : IsRead set os read
+pub record Reads (set : List Op) (network : List State) (event : Event) (read : List Op) : Type 0 where
+  pub os : List Op
+  pub reads : read_by event network ≡ Some os
+  pub is : IsRead set os read
 
 reads_nothing : (set : List Op) (network : List State) (event : Event) (read : List Op) → read_by event network ≡ Some [] → Some [] ≡ Some read → Reads set network event read
 reads_nothing set network event read e h =
@@ -125,7 +125,7 @@ module _ (set : List Op) (network kept : List State) (sound : HasSoundOps networ
         };
       }
 
-  reads_stand : (event : Event) (read : List Op) → read_by event kept ≡ Some read → Reads set network event read
+  pub reads_stand : (event : Event) (read : List Op) → read_by event kept ≡ Some read → Reads set network event read
   reads_stand (Recv p q) read h = reads_sent p q read (slice_get kept q) refl h
   reads_stand (Exec p) read h = reads_nothing set network (Exec p) read refl h
   reads_stand (Send p) read h = reads_nothing set network (Send p) read refl h

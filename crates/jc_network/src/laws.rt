@@ -1,5 +1,7 @@
 //! Laws of networks. Each function does nothing: its contract is the law.
 
+ghost use Rattle.jc_network.specs.Applied.{AppliedAreAll};
+ghost use Rattle.jc_network.specs.Enabled.{OthersAreStuck, EnabledHaveSteps};
 ghost use Rattle.jc_network.specs.Laws.{HeldIsSound, OfferedIsOwn, CountersAreRun, AppliesAtYield, NeverStuckAtYield, LinksAreApplied, StepOrStuck};
 ghost use Rattle.jc_network.specs.Seen.{StartIsSeen, EventSteps, EventIsStuck, OfferedIsHanded};
 
@@ -58,4 +60,20 @@ pub fn event_is_stuck()
 /// Where scripts are short, what is offered has counters that a replica may be handed.
 pub fn offered_is_handed()
     ensures { OfferedIsHanded }
+{}
+
+/// An event that isn't asked for in what is enabled is stuck: a replica is missing, or an operation wasn't received or
+/// no yield comes next.
+pub fn others_are_stuck()
+    ensures { OthersAreStuck }
+{}
+
+/// What is enabled is just what has a step, and is told once.
+pub fn enabled_have_steps()
+    ensures { EnabledHaveSteps }
+{}
+
+/// What a replica has applied is of what it made or received, by identifier, and each identifier applied is there.
+pub fn applied_are_all()
+    ensures { AppliedAreAll }
 {}

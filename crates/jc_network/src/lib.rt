@@ -1,6 +1,8 @@
 //! Networks of replicas: their steps, the way back, and what holds in every run.
 #![tactic(auto)]
 
+mod applied;
+mod enabled;
 mod fault;
 pub mod laws;
 mod net;

@@ -3,17 +3,22 @@
 ghost use Rattle.std.specs.Prelude.{◌≡◌, ◌≤◌, ◌++◌, ◌∷◌, ◌↔◌, [], length, slice_get, IfOk, IfSome, OnErr, IsErrOf, IsTrue, IsFalse, IfNone};
 ghost use Rattle.jc_scenario.specs.Scenarios.{IsWellFormed};
 ghost use Rattle.jc_scenario.specs.Views.{scenario_view};
+ghost use Rattle.jc_network.specs.declared.fault.CompareFault.TheVariants as C;
 ghost use Rattle.jc_network.specs.declared.fault.StepFault.TheVariants as E;
 ghost use Rattle.jc_network.specs.declared.fault.Stuck.{Stuck as AnyStuck};
+ghost use Rattle.jc_network.specs.Applied.{IsApplied};
 ghost use Rattle.jc_network.specs.Course.{started, StepsTo};
+ghost use Rattle.jc_network.specs.Enabled.{AreEnabled, candidates};
 ghost use Rattle.jc_network.specs.Makes.{IsStuckFor, HasReplica};
 ghost use Rattle.jc_network.specs.Run.{IsFromStart};
 
-use crate::fault::StepFault;
+use crate::applied::applied_of;
+use crate::enabled::enabled_in;
+use crate::fault::{CompareFault, StepFault};
 use crate::replicas::replicas_of;
 use crate::stepping::make;
 use jc_replica::Replica;
-use jc_rules::{Event, Text, Trace};
+use jc_rules::{Event, Op, Text, Trace};
 use jc_scenario::{Scenario, copy_names};
 use jc_tree::PlainTree;
 use std::alloc::{AllocError, Global};
@@ -81,6 +86,26 @@ impl Net {
         ensures none { IfNone result (length self.now.network ≤ p) }
     {
         self.replicas.get(usize::from(p))
+    }
+
+    /// The events that aren't stuck, each once: of each replica in order exec, send, recv from each replica, apply
+    /// by identifier, and done. That there are 100,000 steps is left aside.
+    pub fn enabled(&self) -> Result<Vec<Event>, AllocError>
+        ensures { IfOk result (λ events.
+            AreEnabled self.now.network (candidates self.now.network) events.items) }
+    {
+        enabled_in(self.alloc, &self.replicas)
+    }
+
+    /// The operations that the replica has applied, by identifier.
+    pub fn applied(&self, p: u16) -> Result<Vec<Op>, CompareFault>
+        ensures applied { IfOk result (λ ops. IsApplied self.now.network p ops.items) }
+        ensures missing { IsErrOf result C.NoSuchReplica ↔ length self.now.network ≤ p }
+    {
+        match self.replicas.get(usize::from(p)) {
+            Some(replica) => Ok(applied_of(self.alloc, replica)?),
+            None => Err(CompareFault::NoSuchReplica),
+        }
     }
 
     /// Makes the event, and gives its trace.

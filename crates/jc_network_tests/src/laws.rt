@@ -13,4 +13,7 @@ fn laws_stand() {
     laws::event_steps();
     laws::event_is_stuck();
     laws::offered_is_handed();
+    laws::others_are_stuck();
+    laws::enabled_have_steps();
+    laws::applied_are_all();
 }

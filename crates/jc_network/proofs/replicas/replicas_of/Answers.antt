@@ -1,8 +1,7 @@
-use Rattle.std.proofs.Common.{◌≡◌, ◌<◌, ◌≤◌, ℕ, List, [], ◌∷◌, ◌++◌, map, option_map, length, Some, slice_get, sym, ◌∙◌, ap, arith}
+use Rattle.std.proofs.Common.{◌≡◌, ◌≤◌, [], ◌∷◌, ◌++◌, map, option_map, length, Some, slice_get, sym, ◌∙◌, ap, arith}
 use Rattle.std.proofs.lemmas.List.{length-map}
 use Rattle.std.proofs.lemmas.Option.{slice_get-map, slice_get-get_or}
 use Rattle.jc_rules.specs.State.{start}
-use Rattle.jc_rules.specs.Syntax.{Cmd}
 use Rattle.jc_syntax.specs.Trees.{cmd_of}
 use Rattle.jc_scenario.specs.Views.{scripts_view}
 use Rattle.jc_network.proofs.Beginning.{all_at, next_replica}

@@ -1,4 +1,4 @@
-use Rattle.std.proofs.Common.{◌≡◌, ◌<◌, ℕ, [], List, length, slice_index_or, refl, sym, subst}
+use Rattle.std.proofs.Common.{[], slice_index_or, refl, subst}
 use Rattle.jc_rules.specs.declared.operation.Event.TheVariants as V
 use Rattle.jc_replica.specs.Answers.{Answers}
 use Rattle.jc_network.specs.Makes.{HasReplicas}

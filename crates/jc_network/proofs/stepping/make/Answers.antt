@@ -1,4 +1,4 @@
-use Rattle.std.proofs.Common.{◌≡◌, ◌≤◌, length, inl, inr, refl, sym, arith}
+use Rattle.std.proofs.Common.{inl, inr, arith}
 use Rattle.jc_network.proofs.Acting.{act_refused, missing_stops}
 use Rattle.jc_network.proofs.stepping.make.Goals as goal
 

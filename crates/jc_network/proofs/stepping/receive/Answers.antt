@@ -1,4 +1,4 @@
-use Rattle.std.proofs.Common.{◌≡◌, ◌<◌, ◌+◌, ℕ, Some, length, ◌++◌, slice_get, slice_set, slice_index_or, refl, sym, ◌∙◌, ap, subst, arith}
+use Rattle.std.proofs.Common.{◌≡◌, ◌<◌, ◌+◌, Some, length, ◌++◌, slice_get, slice_set, slice_index_or, refl, sym, ◌∙◌, ap, subst, arith}
 use Rattle.jc_rules.specs.declared.operation.Event.TheVariants.{Recv}
 use Rattle.jc_replica.specs.Answers.{Answers}
 use Rattle.jc_replica.specs.Operations.{AreHanded}

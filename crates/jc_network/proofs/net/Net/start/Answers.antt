@@ -1,4 +1,4 @@
-use Rattle.std.proofs.Common.{◌≡◌, ◌≤◌, ℕ, List, [], length, reverse, sym, ◌∙◌, ap, subst, arith}
+use Rattle.std.proofs.Common.{◌≡◌, [], length, reverse, sym, ◌∙◌, ap, subst, arith}
 use Rattle.jc_scenario.specs.Views.{scripts_view}
 use Rattle.jc_network.specs.Course.{network_of, earlier_of}
 use Rattle.jc_network.specs.Run.{IsKeptNet}

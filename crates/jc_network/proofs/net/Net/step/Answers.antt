@@ -1,4 +1,4 @@
-use Rattle.std.proofs.Common.{◌≡◌, ◌≤◌, ℕ, [], ◌∷◌, ◌++◌, length, reverse, take, drop, Some, Ok, Err, refl, sym, ◌∙◌, ap, subst, slice_get, arith}
+use Rattle.std.proofs.Common.{◌≡◌, ◌≤◌, [], ◌∷◌, ◌++◌, length, reverse, take, drop, Some, Ok, Err, refl, sym, ◌∙◌, ap, subst, slice_get, arith}
 use Rattle.jc_rules.specs.Step.{replica_of}
 use Rattle.jc_network.specs.declared.fault.StepFault.TheVariants as E
 use Rattle.jc_network.specs.Course.{Course, course_of, StepsTo}

@@ -1,4 +1,4 @@
-use Rattle.std.proofs.Common.{◌≡◌, ℕ, length, reverse, ap, subst, arith}
+use Rattle.std.proofs.Common.{length, reverse, ap, subst, arith}
 use Rattle.jc_network.specs.Course.{Course}
 use Rattle.jc_network.specs.Run.{IsFromStart}
 use Rattle.jc_network.proofs.Going.{as_many, now_in_run}

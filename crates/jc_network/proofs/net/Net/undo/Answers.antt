@@ -1,4 +1,4 @@
-use Rattle.std.proofs.Common.{◌≡◌, ◌<◌, ℕ, [], ◌∷◌, ◌++◌, length, reverse, option_to_list, slice_get, slice_set, Some, sym, ◌∙◌, ap, subst, arith}
+use Rattle.std.proofs.Common.{◌≡◌, ◌<◌, [], ◌∷◌, ◌++◌, length, reverse, option_to_list, slice_get, slice_set, Some, sym, ◌∙◌, ap, subst, arith}
 use Rattle.jc_network.specs.Course.{Course, network_of, earlier_of}
 use Rattle.jc_network.proofs.Going.{can_index, goes_back, undone_by}
 use Rattle.jc_network.proofs.Halves.{index_get}

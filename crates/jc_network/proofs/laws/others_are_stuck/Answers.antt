@@ -1,0 +1,5 @@
+use Rattle.jc_network.proofs.Enabling.{others_are_stuck}
+use Rattle.jc_network.proofs.laws.others_are_stuck.Goals as goal
+
+pub returns : goal.returns
+returns c = λ network event f. others_are_stuck network event f

@@ -1,0 +1,34 @@
+-- What a replica has applied.
+use Rattle.std.specs.Prelude.{◌≡◌, ◌↔◌, ℕ, List, true, Some, filter, map, slice_get, Contains, ◌⊎◌}
+use Rattle.jc_rules.specs.declared.id.Id.{Id}
+use Rattle.jc_rules.specs.declared.operation.Op.{Op}
+use Rattle.jc_rules.specs.Ids.{has_id}
+use Rattle.jc_rules.specs.State.{State}
+use Rattle.jc_rules.specs.Syntax.{Cmd}
+use Rattle.jc_rules.specs.Table.{both}
+use Rattle.jc_sets.specs.States.{kept_op}
+use Rattle.jc_replica.specs.Operations.{AreInOrder}
+use Rattle.jc_network.specs.Laws.{IsReached}
+
+-- of the operations that it made or received those whose identifiers are applied
+abbrev pub applied_ops : State → List Op
+applied_ops A = filter (λ o. has_id o.id A.ops) (both A.queue A.recv)
+
+-- what replica p has applied, as it is kept
+pub record IsApplied (network : List State) (p : ℕ) (ops : List Op) : Type 0 where
+  pub at : State
+  pub there : slice_get network p ≡ Some at
+  pub ops_are : ops ≡ map kept_op (applied_ops at)
+
+-- In each network that is reached from a start these stand by identifier, none twice; each was made or received; and
+-- each identifier that is applied is that of one of them.
+abbrev pub AppliedAreAll : Type 0
+AppliedAreAll =
+    (scripts : List (List Cmd)) (network : List State)
+    → IsReached scripts network
+    → (A : State)
+    → Contains network A
+    → AreInOrder (applied_ops A)
+    × ((o : Op)
+    → Contains (applied_ops A) o ↔ ((Contains A.queue o ⊎ Contains A.recv o) × (has_id o.id A.ops ≡ true)))
+    × ((i : Id) → has_id i A.ops ≡ true → (o : Op) × Contains (applied_ops A) o × (o.id ≡ i))

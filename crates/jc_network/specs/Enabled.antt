@@ -1,0 +1,118 @@
+-- Which events can be made in a network.
+use Rattle.std.specs.Prelude.{◌≡◌, ◌++◌, ◌↔◌, ℕ, zero, suc, List, [], ◌∷◌, Bool, true, false, Some, Contains, map, length, slice_get}
+use Rattle.jc_rules.specs.declared.operation.Event.{Event}
+use Rattle.jc_rules.specs.declared.operation.Event.TheVariants.{Exec, Send, Recv, Apply, Done}
+use Rattle.jc_rules.specs.declared.operation.Op.{Op}
+use Rattle.jc_rules.specs.declared.refusal.Refusal.{Refusal}
+use Rattle.jc_rules.specs.declared.refusal.Refusal.TheVariants as F
+use Rattle.jc_rules.specs.declared.rule.Rule.{Rule}
+use Rattle.jc_rules.specs.Refused.{Cause, because, IsStuck}
+use Rattle.jc_rules.specs.State.{State}
+use Rattle.jc_rules.specs.Step.{Step, replica_of}
+use Rattle.jc_rules.specs.Syntax.{Cmd}
+use Rattle.jc_replica.specs.Can.{CanOccur}
+use Rattle.jc_replica.specs.Past.{Past}
+use Rattle.jc_network.specs.Course.{kept_of}
+use Rattle.jc_network.specs.Laws.{IsReached}
+
+-- replica p receives from each of the first n replicas
+abbrev pub receivings : ℕ → ℕ → List Event
+receivings p zero = []
+receivings p (suc n) = receivings p n ++ Recv p n ∷ []
+
+-- it applies each of these operations
+abbrev pub applyings : ℕ → List Op → List Event
+applyings p os = map (λ o. Apply p o.id) os
+
+-- The events of replica p that are asked for, one of n replicas, which has received these operations.
+abbrev pub events_of : ℕ → ℕ → List Op → List Event
+events_of p n received = Exec p ∷ Send p ∷ receivings p n ++ applyings p received ++ Done p ∷ []
+
+-- those of these replicas, of which the first one is p
+abbrev pub events_from : ℕ → ℕ → List State → List Event
+events_from p n [] = []
+events_from p n (A ∷ network) = events_of p n A.recv ++ events_from (suc p) n network
+
+-- The events that are asked for in a network: of each replica in order exec, send, recv from each replica, apply of
+-- each operation that it has received, and done.
+abbrev pub candidates : List State → List Event
+candidates network = events_from 0 (length network) network
+
+-- Some of the events, in their order: those of which Yes holds. Of each that is left out No holds.
+pub data AreChosen (Yes No : Event → Type 0) : List Event → List Event → Type 0 where
+  no_more : AreChosen Yes No [] []
+  chosen : {event : Event} {asked listed : List Event}
+      → Yes event
+      → AreChosen Yes No asked listed
+      → AreChosen Yes No (event ∷ asked) (event ∷ listed)
+  left_out : {event : Event} {asked listed : List Event}
+      → No event
+      → AreChosen Yes No asked listed
+      → AreChosen Yes No (event ∷ asked) listed
+
+-- the event is stuck for a cause
+abbrev pub IsAnyStuck : List State → Event → Type 0
+IsAnyStuck network event = (why : Cause) × IsStuck network event why
+
+-- it is stuck for none
+abbrev pub IsNotStuck : List State → Event → Type 0
+IsNotStuck network event = (why : Cause) → IsStuck network event why → ⊥
+
+-- Of the events that are asked for just those are listed, in their order, that aren't stuck.
+abbrev pub AreEnabled : List State → List Event → List Event → Type 0
+AreEnabled network asked listed = AreChosen (IsNotStuck network) (IsAnyStuck network) asked listed
+
+-- ---- laws
+
+-- the refusals of events that aren't asked for
+abbrev pub IsOfOther : Refusal → Type 0
+IsOfOther F.NoSuchReplica = Unit {0}
+IsOfOther F.NoCommand = Unit {0}
+IsOfOther F.NotAtYield = Unit {0}
+IsOfOther F.NotReceived = Unit {0}
+IsOfOther _ = ⊥
+
+-- An event that isn't asked for is stuck: a replica is missing, or the operation wasn't received or no yield comes
+-- next.
+abbrev pub OthersAreStuck : Type 0
+OthersAreStuck =
+    (network : List State) (event : Event)
+    → (Contains (candidates network) event → ⊥)
+    → (why : Refusal) × IsOfOther why × IsStuck network event (because why)
+
+-- the event has a step
+abbrev pub HasStep : List State → Event → Type 0
+HasStep network event = (new : List State) × (rows : List (Rule × ℕ)) × Step network event new rows
+
+-- no event stands in the list twice
+abbrev pub AreOnce : List Event → Type 0
+AreOnce [] = Unit {0}
+AreOnce (event ∷ events) = (Contains events event → ⊥) × AreOnce events
+
+-- In each network that is reached from a start just those events are listed that have a step, each once.
+abbrev pub EnabledHaveSteps : Type 0
+EnabledHaveSteps =
+    (scripts : List (List Cmd)) (network : List State)
+    → IsReached scripts network
+    → (listed : List Event)
+    → AreEnabled network (candidates network) listed
+    → AreOnce listed
+    × ((event : Event) → Contains listed event ↔ HasStep network event)
+
+-- ---- replicas
+
+-- Of the events that are asked for just those come in behind what was there that the replica can make.
+pub record Lists (past : Past) (asked old new : List Event) : Type 0 where
+  pub listed : List Event
+  pub behind : new ≡ old ++ listed
+  pub those : AreChosen (λ e. CanOccur e past true) (λ e. CanOccur e past false) asked listed
+
+-- the event's replica can make it, or can't
+pub record Tells (pasts : List Past) (can : Bool) (event : Event) : Type 0 where
+  pub past : Past
+  pub there : slice_get pasts (replica_of event) ≡ Some past
+  pub answer : CanOccur event past can
+
+-- Of the events that are asked for just those are listed that their replicas can make.
+abbrev pub AreTold : List Past → List Event → Type 0
+AreTold pasts listed = AreChosen (Tells pasts true) (Tells pasts false) (candidates (kept_of pasts)) listed
