@@ -8,6 +8,11 @@ mod ClosedScripts
 mod Exactly
 mod Excess
 mod Expressions
+mod FirstExpressions
+mod FirstLoops
+mod FirstRefused
+mod FirstSpelled
+mod FirstSpelledLists
 mod Fronts
 mod Items
 mod LanguageExpressions
@@ -21,6 +26,7 @@ mod LegalTokens
 mod LegalTrees
 mod Limits
 mod Loops
+mod Names
 mod OneFault
 mod OneTree
 mod Readers

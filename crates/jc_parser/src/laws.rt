@@ -1,42 +1,13 @@
 //! Laws of the definitions: a text is one scenario, expression, script or event at most, or has one fault
 //! at most, and not both. What is parsed is legal.
 
-ghost use Rattle.jc_parser.specs.Laws.{OneTree, OneScenario, ScenarioOrFault, OneFault, OneExpression, ExpressionOrFault, OneExpressionFault, OneScript, ScriptOrFault, OneScriptFault};
+ghost use Rattle.jc_parser.specs.Laws.{OneExpression, ExpressionOrFault, OneExpressionFault, OneScript, ScriptOrFault, OneScriptFault};
 ghost use Rattle.jc_parser.specs.ClosedScripts.{OneScriptAt, ScriptOrFaultAt, OneScriptFaultAt};
 ghost use Rattle.jc_parser.specs.CallLaws.{OneEvent, EventOrFault, OneEventFault, OneEventAt, EventOrFaultAt, OneEventFaultAt};
 ghost use Rattle.jc_parser.specs.TreeLaws.{OneNamedTree, NamedTreeOrFault, OneTreeFault};
 ghost use Rattle.jc_parser.specs.LegalLaws.{LegalExpressions, LegalScripts, LegalEvents, LegalScriptsAt, LegalEventsAt, LegalScenarios};
 
 use jc_syntax::laws as lexemes;
-
-/// Within the limits, a list of symbols is the text of one tree at most.
-pub fn one_tree()
-    ensures { OneTree }
-{}
-
-/// A text is one scenario at most.
-pub fn one_scenario()
-    ensures { OneScenario }
-{
-    lexemes::one_list_of_tokens();
-}
-
-/// A text that is a scenario has no fault.
-pub fn scenario_or_fault()
-    ensures { ScenarioOrFault }
-{
-    lexemes::one_list_of_tokens();
-    lexemes::tokens_or_fault();
-}
-
-/// A text has one fault at most: its number and its place are determined.
-pub fn one_fault()
-    ensures { OneFault }
-{
-    lexemes::one_list_of_tokens();
-    lexemes::one_fault();
-    lexemes::tokens_or_fault();
-}
 
 /// A text is one expression at most.
 pub fn one_expression()

@@ -2,10 +2,6 @@ use jc_parser::laws;
 
 #[test]
 fn laws_stand() {
-    laws::one_tree();
-    laws::one_scenario();
-    laws::scenario_or_fault();
-    laws::one_fault();
     laws::one_expression();
     laws::expression_or_fault();
     laws::one_expression_fault();
