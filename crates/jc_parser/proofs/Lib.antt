@@ -5,6 +5,7 @@ mod CallSpelled
 mod CallWhole
 mod ClosedScriptLaws
 mod ClosedScripts
+mod Deciding
 mod Exactly
 mod Excess
 mod Expressions

@@ -1,5 +1,5 @@
 -- What the definitions promise by themselves.
-use Rattle.std.specs.Prelude.{◌≡◌, ℕ, List}
+use Rattle.std.specs.Prelude.{◌≡◌, ◌⊎◌, ℕ, List}
 use Rattle.jc_rules.specs.Syntax.{Expr, Cmd}
 use Rattle.jc_parser.specs.declared.fault.ScenarioFault.{ScenarioFault}
 use Rattle.jc_parser.specs.LanguageFaults.{IsExpressionOf, IsExpressionFault}
@@ -13,6 +13,11 @@ OneExpression = (text : List ℕ) (e other : Expr) → IsExpressionOf text e →
 abbrev pub ExpressionOrFault : Type 0
 ExpressionOrFault =
     (text : List ℕ) (e : Expr) (fault : ScenarioFault) → IsExpressionOf text e → IsExpressionFault text fault → ⊥
+
+-- A text that is no expression has a fault.
+abbrev pub ExpressionElseFault : Type 0
+ExpressionElseFault =
+    (text : List ℕ) → ((e : Expr) × IsExpressionOf text e) ⊎ ((fault : ScenarioFault) × IsExpressionFault text fault)
 
 -- A text that is no expression has one fault at most, at one place.
 abbrev pub OneExpressionFault : Type 0
@@ -30,6 +35,11 @@ OneScript = (text : List ℕ) (script other : List Cmd) → IsScriptOf text scri
 abbrev pub ScriptOrFault : Type 0
 ScriptOrFault =
     (text : List ℕ) (script : List Cmd) (fault : ScenarioFault) → IsScriptOf text script → IsScriptFault text fault → ⊥
+
+-- A text that is no script has a fault.
+abbrev pub ScriptElseFault : Type 0
+ScriptElseFault =
+    (text : List ℕ) → ((script : List Cmd) × IsScriptOf text script) ⊎ ((fault : ScenarioFault) × IsScriptFault text fault)
 
 -- A text that is no script has one fault at most, at one place.
 abbrev pub OneScriptFault : Type 0
