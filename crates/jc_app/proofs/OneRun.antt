@@ -8,7 +8,7 @@ use Rattle.jc_rules.specs.Refusals.{number_of as refusal_number}
 use Rattle.jc_rules.specs.Step.{Step}
 use Rattle.jc_rules.specs.Laws.{OneStep, StuckHasNone, OneStuck, NumbersDiffer}
 use Rattle.jc_parser.specs.declared.fault.ScenarioFault.{ScenarioFault}
-use Rattle.jc_parser.specs.Laws.{OneScenario, ScenarioOrFault, OneFault}
+use Rattle.jc_parser.specs.FirstLaws.{OneScenario, ScenarioOrFault, OneFault}
 use Rattle.jc_dump.specs.Dump.{dump_line}
 use Rattle.jc_app.specs.Texts.{refused_text}
 use Rattle.jc_app.specs.Runs.{Made, GoesBy, EndsAt, Stuck, events_of, blocks_text, stuck_line, status_of}

@@ -15,7 +15,8 @@ use Rattle.jc_parser.specs.declared.fault.ScenarioFault.{ScenarioFault}
 use Rattle.jc_parser.specs.declared.fault.ScenarioFault.TheVariants as S
 use Rattle.jc_parser.specs.Faults.{number_of}
 use Rattle.jc_parser.specs.Symbols.{Symbol, semicolon}
-use Rattle.jc_parser.specs.Grammar.{IsExpressionText, IsValueText, IsCommandText, IsListText, IsShort, selector_count}
+use Rattle.jc_parser.specs.Grammar.{IsExpressionText, IsCommandText, IsShort}
+use Rattle.jc_parser.specs.Words.{IsValueText, IsListText, selector_count}
 use Rattle.jc_parser.specs.First.{Reads}
 use Rattle.jc_app.specs.FirstCmd.{IsKeyPath, selectors, IsFirstCmd, AreFirstCmds}
 use Rattle.jc_app.specs.Ran.{Scenario, ReadsAs, Ran}

@@ -2,7 +2,7 @@
 
 ghost use Rattle.jc_app.specs.Laws.{OneRun};
 
-use jc_parser::laws as texts;
+use jc_parser::first_laws as texts;
 use jc_rules::laws as rules;
 
 /// Bytes have one run at most: what it shows and how it ends are determined.

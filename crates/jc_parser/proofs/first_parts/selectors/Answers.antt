@@ -3,9 +3,9 @@ use Rattle.std.proofs.lemmas.Result.{err_from_is_err_and}
 use Rattle.jc_syntax.specs.Trees.{expr_of}
 use Rattle.jc_syntax.specs.declared.tree.Expr.{Expr}
 use Rattle.jc_rules.specs.Syntax.{GetKey}
-use Rattle.jc_parser.specs.Parts.{selectors_at}
-use Rattle.jc_parser.proofs.Loops.{selectors_done, selectors_full, selectors_fail, selectors_next}
-use Rattle.jc_parser.proofs.parser.selectors.Goals as goal
+use Rattle.jc_parser.specs.FirstParts.{selectors_at}
+use Rattle.jc_parser.proofs.FirstLoops.{selectors_done, selectors_full, selectors_fail, selectors_next}
+use Rattle.jc_parser.proofs.first_parts.selectors.Goals as goal
 
 pub returns-then-left-eq0 : goal.returns-then-left-eq0
 returns-then-left-eq0 c =

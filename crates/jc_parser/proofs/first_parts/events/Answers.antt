@@ -3,9 +3,9 @@ use Rattle.std.proofs.lemmas.Result.{err_from_is_err_and}
 use Rattle.jc_syntax.specs.declared.token.TokenKind.TheVariants.{Name}
 use Rattle.jc_parser.specs.declared.fault.ScenarioFault.TheVariants.{TooManyEvents}
 use Rattle.jc_parser.specs.Reading.{has_kind, place}
-use Rattle.jc_parser.specs.Parts.{event_at, events_at}
+use Rattle.jc_parser.specs.FirstParts.{event_at, events_at}
 use Rattle.jc_parser.proofs.Loops.{with_front, items_done, items_full, items_fail, items_last, items_cut, items_next}
-use Rattle.jc_parser.proofs.parser.events.Goals as goal
+use Rattle.jc_parser.proofs.first_parts.events.Goals as goal
 
 pub returns-then-left-eq0 : goal.returns-then-left-eq0
 returns-then-left-eq0 c _ =

@@ -1,7 +1,7 @@
 use Rattle.std.proofs.Common.{◌≡◌}
-use Rattle.jc_parser.specs.Parts.{events_at}
+use Rattle.jc_parser.specs.FirstParts.{events_at}
 use Rattle.jc_parser.proofs.Loops.{with_front}
-use Rattle.jc_parser.proofs.parser.events.Given as goal
+use Rattle.jc_parser.proofs.first_parts.events.Given as goal
 
 -- the events so far, and those to come
 abbrev pub invariant-events : goal.invariant-events

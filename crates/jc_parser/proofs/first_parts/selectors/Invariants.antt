@@ -1,8 +1,8 @@
 use Rattle.std.proofs.Common.{◌≡◌}
 use Rattle.jc_rules.specs.Syntax.{TheDoc}
 use Rattle.jc_syntax.specs.Trees.{expr_of}
-use Rattle.jc_parser.specs.Parts.{selectors_at}
-use Rattle.jc_parser.proofs.parser.selectors.Given as goal
+use Rattle.jc_parser.specs.FirstParts.{selectors_at}
+use Rattle.jc_parser.proofs.first_parts.selectors.Given as goal
 
 -- the expression so far, and the selectors to come
 abbrev pub invariant-selectors : goal.invariant-selectors

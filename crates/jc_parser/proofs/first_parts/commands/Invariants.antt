@@ -1,8 +1,8 @@
 use Rattle.std.proofs.Common.{◌≡◌, map}
 use Rattle.jc_syntax.specs.Trees.{cmd_of}
-use Rattle.jc_parser.specs.Parts.{commands_at}
+use Rattle.jc_parser.specs.FirstParts.{commands_at}
 use Rattle.jc_parser.proofs.Loops.{with_front}
-use Rattle.jc_parser.proofs.parser.commands.Given as goal
+use Rattle.jc_parser.proofs.first_parts.commands.Given as goal
 
 -- the commands so far, and those to come
 abbrev pub invariant-commands : goal.invariant-commands

@@ -5,9 +5,9 @@ use Rattle.std.proofs.lemmas.List.{map-append}
 use Rattle.jc_syntax.specs.Trees.{cmd_of}
 use Rattle.jc_parser.specs.declared.fault.ScenarioFault.TheVariants.{TooManyCommands}
 use Rattle.jc_parser.specs.Reading.{is_word, place}
-use Rattle.jc_parser.specs.Parts.{command_at, commands_at}
+use Rattle.jc_parser.specs.FirstParts.{command_at, commands_at}
 use Rattle.jc_parser.proofs.Loops.{with_front, items_done, items_full, items_fail, items_last, items_cut, items_next}
-use Rattle.jc_parser.proofs.parser.commands.Goals as goal
+use Rattle.jc_parser.proofs.first_parts.commands.Goals as goal
 
 pub returns-then-left-eq0 : goal.returns-then-left-eq0
 returns-then-left-eq0 c _ =
