@@ -11,4 +11,5 @@ pub mod Places
 pub mod GoingBack
 pub mod Pairs
 pub mod Undoing
+pub mod Taking
 pub mod Ways

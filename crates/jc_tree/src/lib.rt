@@ -2,6 +2,7 @@
 #![tactic(auto)]
 
 mod entries;
+mod ids;
 pub mod laws;
 mod lists;
 mod node;

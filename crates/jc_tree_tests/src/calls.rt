@@ -32,6 +32,23 @@ fn presences<S: TreeStore>(rt: &impl Abort, tree: &mut Placed<S>) -> Result<(), 
     Ok(())
 }
 
+/// Identifiers that are added one after another, the last one again.
+fn added_ids<S: TreeStore>(rt: &impl Abort, tree: &mut Placed<S>) -> Result<(), AllocError> {
+    let ids = [FIRST, SECOND];
+    tree.add_id(rt, &Key::Doc, SECOND, false)?;
+    let one = tree.store.mark();
+    tree.add_id(rt, &Key::Doc, FIRST, true)?;
+    let two = tree.store.mark();
+    tree.add_id(rt, &Key::Doc, FIRST, true)?;
+    assert!(rt; tree.store.mark() != two);
+    tree.expect_ids(rt, &Key::Doc, Some(ids.as_slice()));
+    tree.go_back(rt, two);
+    tree.expect_ids(rt, &Key::Doc, Some(ids.as_slice()));
+    tree.go_back(rt, one);
+    tree.expect_ids(rt, &Key::Doc, Some([SECOND].as_slice()));
+    Ok(())
+}
+
 fn links<S: TreeStore>(rt: &impl Abort, tree: &mut Placed<S>) -> Result<(), AllocError> {
     tree.expect_next(rt, &Key::Head, None);
     tree.put_next(rt, &Key::Head, Next::Elem(FIRST))?;
@@ -117,6 +134,19 @@ fn refused_presence<S: TreeStore>(rt: &impl Abort, tree: &mut Placed<S>) -> Resu
     Ok(())
 }
 
+fn refused_id<S: TreeStore>(rt: &impl Abort, tree: &mut Placed<S>) -> Result<(), AllocError> {
+    tree.put_ids(rt, &Key::Doc, [FIRST].as_slice())?;
+    let mark = tree.store.mark();
+    let made = tree.add_id(rt, &Key::Doc, SECOND, true).is_ok();
+    tree.expect_ids(
+        rt,
+        &Key::Doc,
+        Some(if made { &[FIRST, SECOND] } else { &[FIRST] }),
+    );
+    assert!(rt; (tree.store.mark() == mark) != made);
+    Ok(())
+}
+
 fn refused_link<S: TreeStore>(rt: &impl Abort, tree: &mut Placed<S>) -> Result<(), AllocError> {
     tree.put_next(rt, &Key::Head, Next::Tail)?;
     let mark = tree.store.mark();
@@ -184,13 +214,15 @@ fn call<S: TreeStore>(rt: &impl Abort, tree: &mut Placed<S>, turn: u64) -> Resul
         11 => refused_register(rt, tree),
         12 => tree.undo_each(rt, CHANGES),
         13 => undo_at_once(rt, tree),
+        14 => added_ids(rt, tree),
+        15 => refused_id(rt, tree),
         _ => presence_undone(rt, tree),
     }
 }
 
 #[test]
 fn plain_store(rt: HostRuntime) -> Result<(), Fail> {
-    for turn in 0..15 {
+    for turn in 0..17 {
         for deep in [false, true] {
             call(&rt, &mut plain(&rt, rt.alloc(), deep)?, turn)?;
         }

@@ -80,6 +80,20 @@ impl<S: TreeStore> Placed<S> {
         self.store.set_presence(self.at.as_slice(), key, ids)
     }
 
+    /// Adds the identifier, where there was a set before or not.
+    pub fn add_id(
+        &mut self,
+        rt: &impl Abort,
+        key: &Key,
+        id: Id,
+        was: bool,
+    ) -> Result<(), AllocError> {
+        assert!(rt; is_place(&self.store, self.at.as_slice()));
+        let told = self.store.add_presence(self.at.as_slice(), key, id)?;
+        assert!(rt; told == was);
+        Ok(())
+    }
+
     pub fn put_next(&mut self, rt: &impl Abort, key: &Key, next: Next) -> Result<(), AllocError> {
         assert!(rt; is_place(&self.store, self.at.as_slice()));
         self.store.set_next(self.at.as_slice(), key, next)
