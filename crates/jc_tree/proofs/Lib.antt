@@ -13,3 +13,8 @@ pub mod Pairs
 pub mod Undoing
 pub mod Taking
 pub mod Ways
+pub mod Numbers
+pub mod ArenaChanges
+pub mod ArenaSteps
+pub mod ArenaHistory
+pub mod ArenaMaking

@@ -274,7 +274,7 @@ impl Node {
 }
 
 /// What takes it back that the identifier is added to the key's presence set.
-fn former_of_id(presences: &[(Key, Ids)], key: &Key, id: Id) -> Result<Former, AllocError>
+pub fn former_of_id(presences: &[(Key, Ids)], key: &Key, id: Id) -> Result<Former, AllocError>
     requires { AreSorted presences.now }
     ensures { IfOk result (λ former. former ≡ former_of_id key.now id (find key_cmp key.now presences.now)) }
 {
@@ -325,7 +325,7 @@ fn restore_in(children: &mut Vec<(Key, Node)>, key: &Key, at: &[Tagged], former:
 }
 
 /// The lesser of two keys, or the one that is there.
-fn lesser<'a>(first: Option<&'a Key>, second: Option<&'a Key>) -> Option<&'a Key>
+pub fn lesser<'a>(first: Option<&'a Key>, second: Option<&'a Key>) -> Option<&'a Key>
     ensures { option_copied result
         ≡ least (option_to_list (option_copied first.entry) ++ option_to_list (option_copied second.entry)) }
 {

@@ -2,14 +2,16 @@
 //! and at once; and what stands after a change for which there was no memory. All of it at the root
 //! and three levels down.
 
-use crate::placed::{FIRST, Kind, Placed, SECOND, name, plain, two_values};
+use crate::placed::{FIRST, Kind, Placed, SECOND, empty_map, name, two_values};
 use jc_rules::{Key, Next, Tagged};
-use jc_tree::{TreeStore, laws};
+use jc_tree::{ArenaTree, PlainTree, TreeStore, laws};
 use std::alloc::AllocError;
 use std::process::Abort;
 use std::test::Fail;
 
 const CHANGES: u64 = 20;
+
+const TURNS: u64 = 17;
 
 fn children<S: TreeStore>(rt: &impl Abort, tree: &mut Placed<S>) -> Result<(), AllocError> {
     tree.expect_child(rt, &Tagged::MapT(Key::Doc), false);
@@ -222,9 +224,23 @@ fn call<S: TreeStore>(rt: &impl Abort, tree: &mut Placed<S>, turn: u64) -> Resul
 
 #[test]
 fn plain_store(rt: HostRuntime) -> Result<(), Fail> {
-    for turn in 0..17 {
+    let alloc = rt.alloc();
+    for turn in 0..TURNS {
         for deep in [false, true] {
-            call(&rt, &mut plain(&rt, rt.alloc(), deep)?, turn)?;
+            let store = PlainTree::new(alloc);
+            call(&rt, &mut empty_map(&rt, alloc, store, deep)?, turn)?;
+        }
+    }
+    Ok(())
+}
+
+#[test]
+fn arena_store(rt: HostRuntime) -> Result<(), Fail> {
+    let alloc = rt.alloc();
+    for turn in 0..TURNS {
+        for deep in [false, true] {
+            let store = ArenaTree::new(alloc)?;
+            call(&rt, &mut empty_map(&rt, alloc, store, deep)?, turn)?;
         }
     }
     Ok(())

@@ -5,7 +5,7 @@ ghost use Rattle.jc_rules.specs.Ids.{AreRising};
 ghost use Rattle.jc_rules.specs.Shape.{IsKeptRegister};
 
 use jc_rules::{Id, Key, Next, Tagged, Text, Value};
-use jc_tree::{Mark, PlainTree, TreeStore, is_place};
+use jc_tree::{Mark, TreeStore, is_place};
 use std::alloc::{AllocError, Global};
 use std::process::Abort;
 
@@ -45,11 +45,16 @@ pub struct Placed<S> {
     pub at: Vec<Tagged>,
 }
 
-/// An empty map of a plain store: its root, or three levels down, in a list's element.
-pub fn plain(rt: &impl Abort, alloc: Global, deep: bool) -> Result<Placed<PlainTree>, AllocError> {
+/// An empty map of the store: its root, or three levels down, in a list's element.
+pub fn empty_map<S: TreeStore + Drop>(
+    rt: &impl Abort,
+    alloc: Global,
+    store: S,
+    deep: bool,
+) -> Result<Placed<S>, AllocError> {
     let mut tree = Placed {
         alloc,
-        store: PlainTree::new(alloc),
+        store,
         at: Vec::new(alloc),
     };
     if deep {
