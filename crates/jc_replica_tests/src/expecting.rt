@@ -77,7 +77,7 @@ pub fn names(alloc: Global) -> Result<[Text; 2], AllocError> {
     Ok([text(alloc, "a")?, text(alloc, "b")?])
 }
 
-fn tree_text(alloc: Global, replica: &Replica<PlainTree>) -> Result<String, AllocError> {
+pub fn tree_text(alloc: Global, replica: &Replica<PlainTree>) -> Result<String, AllocError> {
     let names = names(alloc)?;
     let mut at = Vec::new(alloc);
     tree_value(alloc, &names, replica.tree(), &mut at)?.to_string(alloc)

@@ -6,7 +6,11 @@ mod expecting;
 #[cfg(test)]
 mod replicas;
 #[cfg(test)]
+mod rewinding;
+#[cfg(test)]
 mod running;
+#[cfg(test)]
+mod showing;
 #[cfg(test)]
 mod undoing;
 #[cfg(test)]

@@ -8,7 +8,7 @@ use jc_parser::parse_script;
 use jc_replica::{Replica, ReplicaFault};
 use jc_rules::{Id, Op, Trace};
 use jc_tree::PlainTree;
-use std::alloc::Global;
+use std::alloc::{AllocError, Global};
 use std::process::Abort;
 use std::test::Fail;
 
@@ -26,6 +26,16 @@ pub fn replica(
     let script = parse_script(alloc, script)?;
     assert!(rt; script.len() <= 65_536);
     Ok(Replica::new(alloc, number, script, PlainTree::new(alloc)))
+}
+
+/// A script whose 515th command leads to the deepest cursor; the one after it would lead deeper.
+pub fn deepest_script(alloc: Global) -> Result<String, AllocError> {
+    let mut script = String::from_str(alloc, "let x = doc")?;
+    for _ in 0..512 {
+        script.push_str("; let x = x.get(\"a\")")?;
+    }
+    script.push_str("; x := 1; doc := {}; let x = x.get(\"a\")")?;
+    Ok(script)
 }
 
 /// Runs so many commands, none of which is refused.

@@ -3,7 +3,7 @@
 use crate::expecting::{
     expect_missing, expect_number, expect_rows, expect_state, expect_tree, expect_vars,
 };
-use crate::replicas::{replica, run};
+use crate::replicas::{deepest_script, replica, run};
 use jc_rules::Rule;
 use std::test::Fail;
 
@@ -157,11 +157,7 @@ fn after_a_refusal(rt: HostRuntime) -> Result<(), Fail> {
 #[test]
 fn deepest_cursor(rt: HostRuntime) -> Result<(), Fail> {
     let alloc = rt.alloc();
-    let mut script = String::from_str(alloc, "let x = doc")?;
-    for _ in 0..512 {
-        script.push_str("; let x = x.get(\"a\")")?;
-    }
-    script.push_str("; x := 1; doc := {}; let x = x.get(\"a\")")?;
+    let script = deepest_script(alloc)?;
     let mut a = replica(&rt, alloc, 0, script.as_str())?;
     run(&rt, alloc, &mut a, 515);
     expect_number(&rt, &a.exec(alloc), 29);
