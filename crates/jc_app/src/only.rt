@@ -48,13 +48,14 @@ impl Machine for OnlyReplica {
     fn dump_text(&self, alloc: Global, name: &Text) -> Result<String, AllocError> {
         let made = ids_of(alloc, self.replica.queue())?;
         let shown = Shown {
-            name,
+            name: name.as_str(),
             acted: false,
             left: self.replica.left(),
             ops: made.as_slice(),
             queue: made.as_slice(),
             recv: &[],
             send: &[],
+            vars: &[],
         };
         dump_line_of(alloc, slice::from_ref(name), &shown, self.replica.store())
     }

@@ -1,5 +1,5 @@
 -- No dump has a float.
-use Rattle.std.proofs.Common.{◌≡◌, ℕ, List, [], ◌∷◌, ◌++◌, map, Bool, true, false, refl}
+use Rattle.std.proofs.Common.{◌≡◌, ℕ, List, [], ◌∷◌, ◌++◌, map, codes, Bool, true, false, refl}
 use Rattle.std.specs.Prelude.{◌||◌}
 use Rattle.std.specs.List.{AllByRecursion}
 use Rattle.std.specs.Ordering.{match_ordering, nat_cmp}
@@ -15,8 +15,10 @@ use Rattle.jc_rules.specs.declared.key.Tagged.TheVariants.{MapT, ListT}
 use Rattle.jc_rules.specs.declared.value.Value.{Value}
 use Rattle.jc_rules.specs.declared.value.Value.TheVariants as V
 use Rattle.jc_rules.specs.Context.{Context, context, Children, no_child, child, Register}
+use Rattle.jc_rules.specs.State.{Bound, ACursor, Names, Pairs}
+use Rattle.jc_cursor.specs.Bounds.{vars_of}
 use Rattle.jc_dump.specs.declared.dump.Shown.{Shown}
-use Rattle.jc_dump.specs.Dump.{id_text, put_all, object_of, texts_data, ids_data, value_data, value_member, register_data, register_member, presence_member, next_member, context_data, child_members}
+use Rattle.jc_dump.specs.Dump.{id_text, key_text, tagged_text, cursor_data, put_all, object_of, texts_data, ids_data, value_data, value_member, register_data, register_member, presence_member, next_member, context_data, child_members, pairs_data, bound_data, var_member, vars_data}
 use Rattle.jc_dump.specs.DumpParts.{shown_members}
 
 neither : (x y : Bool) → (x || y) ≡ false → (x ≡ false) × (y ≡ false)
@@ -85,8 +87,23 @@ mutual
   children_float names tag no_child = tt
   children_float names tag (child k c cs) = (context_float names c, children_float names tag cs)
 
+pairs_float : (names : List (List ℕ)) (pairs : List (Id × Value)) → has_float (pairs_data names pairs) ≡ false
+pairs_float names [] = refl
+pairs_float names (e ∷ es) = rw (value_float e.1) (pairs_float names es)
+
+one_float : (k : List ℕ) (d : Data) → has_float d ≡ false → has_float (object_of ((k, d) ∷ [])) ≡ false
+one_float k d h = object_float ((k, d) ∷ []) (h, tt)
+
+bound_float : (names : List (List ℕ)) (b : Bound) → has_float (bound_data names b) ≡ false
+bound_float names (ACursor c) = one_float (codes "cursor") (cursor_data names c) (texts_float (map (λ t. tagged_text names t) c.path ++ key_text names c.last ∷ []))
+bound_float names (Names keys) = one_float (codes "keys") (texts_data keys) (texts_float keys)
+bound_float names (Pairs pairs) = one_float (codes "values") (pairs_data names pairs) (pairs_float names pairs)
+
+vars_float : (names : List (List ℕ)) (vars : List (List ℕ × Bound)) → has_float (vars_data names vars) ≡ false
+vars_float names vars = object_float (map (var_member names) vars) (all-map (var_member names) (λ e. bound_float names e.1) vars)
+
 pub shown_float : (names : List (List ℕ)) (shown : Shown) (tree : Context) → has_float (object_of (shown_members names shown tree)) ≡ false
 unfolding shown_members
 shown_float names shown tree =
     object_float (shown_members names shown tree)
-    (refl, (refl, (refl, (ids_float names shown.ops.now, (ids_float names shown.queue.now, (ids_float names shown.recv.now, (ids_float names shown.send.now, (context_float names tree, (refl, tt)))))))))
+    (refl, (refl, (refl, (ids_float names shown.ops.now, (ids_float names shown.queue.now, (ids_float names shown.recv.now, (ids_float names shown.send.now, (context_float names tree, (vars_float names (vars_of shown.vars.now), tt)))))))))

@@ -5,7 +5,6 @@ use Rattle.std.proofs.lemmas.List.{take_more, map-append}
 use Rattle.serde_json.specs.Data.{Data, string, object, Members, no_members, put}
 use Rattle.serde_json.specs.View.{view}
 use Rattle.serde_json.specs.declared.value.Value.{Value}
-use Rattle.jc_rules.specs.declared.id.Id.{Id}
 use Rattle.std.specs.declared.cmp.Ordering.TheVariants.{Greater}
 use Rattle.jc_rules.specs.declared.key.Key.{Key}
 use Rattle.jc_rules.specs.declared.key.Tagged.{Tagged}
@@ -14,7 +13,7 @@ use Rattle.jc_rules.specs.Order.{key_cmp}
 use Rattle.jc_rules.specs.Entries.{IsRising, keys_of, find}
 use Rattle.jc_rules.specs.Context.{Context, context, Children, no_child, child, listed, registers, presences, links}
 use Rattle.jc_tree.specs.Tree.{is_after}
-use Rattle.jc_dump.specs.Dump.{id_text, put_all, tagged_text, context_data, child_members, register_member, presence_member, next_member}
+use Rattle.jc_dump.specs.Dump.{put_all, tagged_text, context_data, child_members, register_member, presence_member, next_member}
 use Rattle.jc_dump.specs.declared.dump.Branch.TheVariants as B
 use Rattle.jc_tree.specs.Walks.{above, entry_of}
 use Rattle.jc_tree.proofs.KeyWalk.{above-none, none_above, step}
@@ -65,16 +64,30 @@ module _ {X : Type 0} (f : Key × X → List ℕ × Data) (k : Key) where
   pub no_member : (o : Option X) (old new : Members) → None ≡ o → new ≡ old → new ≡ put_all (map f (entry_of k o)) old
   no_member o old new e p = p ∙ ap (λ q. put_all (map f (entry_of k q)) old) e
 
--- one more identifier
-pub texts_more : (names : List (List ℕ)) (vs : List Value) (v : Value) (ids : List Id) (i : ℕ) (id zero : Id) → i < length ids → id ≡ get_or ids i zero → map view vs ≡ map string (map (λ j. id_text names j) (take i ids)) → view v ≡ string (id_text names id)
-    → map view (vs ++ v ∷ []) ≡ map string (map (λ j. id_text names j) (take (i + 1) ids))
-texts_more names vs v ids i id zero h e f g =
+-- one more of a list's data
+pub data_more : {X : Type 0} (f : X → Data) (vs : List Value) (v : Value) (xs : List X) (i : ℕ) (x d : X) → i < length xs → x ≡ get_or xs i d → map view vs ≡ map f (take i xs) → view v ≡ f x
+    → map view (vs ++ v ∷ []) ≡ map f (take (i + 1) xs)
+data_more f vs v xs i x d h e so_far g =
     map-append view vs (v ∷ [])
-    ∙ ap (λ ds. ds ++ view v ∷ []) f
-    ∙ ap (λ d. map string (map (λ j. id_text names j) (take i ids)) ++ d ∷ []) g
-    ∙ sym (map-append string (map (λ j. id_text names j) (take i ids)) (id_text names id ∷ []))
-    ∙ ap (map string) (sym (map-append (λ j. id_text names j) (take i ids) (id ∷ [])))
-    ∙ ap (λ ys. map string (map (λ j. id_text names j) ys)) (ap (λ j. take i ids ++ j ∷ []) e ∙ sym (take_more ids i zero h))
+    ∙ ap (λ ds. ds ++ view v ∷ []) so_far
+    ∙ ap (λ y. map f (take i xs) ++ y ∷ []) g
+    ∙ sym (map-append f (take i xs) (x ∷ []))
+    ∙ ap (map f) (ap (λ y. take i xs ++ y ∷ []) e ∙ sym (take_more xs i d h))
+
+-- one text behind others
+pub text_more : (vs : List Value) (v : Value) (texts : List (List ℕ)) (text : List ℕ) → map view vs ≡ map string texts → view v ≡ string text → map view (vs ++ v ∷ []) ≡ map string (texts ++ text ∷ [])
+text_more vs v texts text so_far g =
+    map-append view vs (v ∷ [])
+    ∙ ap (λ ds. ds ++ view v ∷ []) so_far
+    ∙ ap (λ d. map string texts ++ d ∷ []) g
+    ∙ sym (map-append string texts (text ∷ []))
+
+-- one more of a list's texts
+pub texts_more : {X : Type 0} (t : X → List ℕ) (vs : List Value) (v : Value) (xs : List X) (i : ℕ) (x d : X) → i < length xs → x ≡ get_or xs i d → map view vs ≡ map string (map t (take i xs)) → view v ≡ string (t x)
+    → map view (vs ++ v ∷ []) ≡ map string (map t (take (i + 1) xs))
+texts_more t vs v xs i x d h e so_far g =
+    text_more vs v (map t (take i xs)) (t x) so_far g
+    ∙ ap (map string) (sym (map-append t (take i xs) (x ∷ [])) ∙ ap (map t) (ap (λ y. take i xs ++ y ∷ []) e ∙ sym (take_more xs i d h)))
 
 -- the members of a context, kind by kind
 pub context_is : (names : List (List ℕ)) (c : Context) (m0 m1 m2 m3 m4 m5 : Members) → m0 ≡ no_members → m1 ≡ put_all (children_members names B.Map c) m0 → m2 ≡ put_all (children_members names B.List c) m1

@@ -11,6 +11,7 @@ use Rattle.jc_rules.specs.declared.key.Tagged.{Tagged}
 use Rattle.jc_rules.specs.declared.key.Tagged.TheVariants.{MapT, ListT, RegT}
 use Rattle.jc_rules.specs.declared.key.Next.{Next}
 use Rattle.jc_rules.specs.declared.key.Next.TheVariants as N
+use Rattle.jc_rules.specs.declared.operation.Cursor.{Cursor}
 use Rattle.jc_rules.specs.declared.operation.Op.{Op}
 use Rattle.jc_rules.specs.declared.value.Value.{Value}
 use Rattle.jc_rules.specs.declared.value.Value.TheVariants as V
@@ -102,16 +103,24 @@ abbrev mutual
 abbrev pub pair_data : List (List ℕ) → Id × Value → Data
 pair_data names e = array (item (string (id_text names e.0)) (item (value_data e.1) no_items))
 
--- a cursor's path and last key, the keys that were read, or the values with their identifiers
+abbrev pub pairs_data : List (List ℕ) → List (Id × Value) → Data
+pairs_data names pairs = array (items_of (map (λ e. pair_data names e) pairs))
+
+-- a cursor's path, then its last key
+abbrev pub cursor_data : List (List ℕ) → Cursor → Data
+cursor_data names c = texts_data (map (λ t. tagged_text names t) c.path ++ key_text names c.last ∷ [])
+
+-- a cursor, the keys that were read, or the values with their identifiers
 abbrev pub bound_data : List (List ℕ) → Bound → Data
-bound_data names (ACursor c) =
-    object_of ((codes "cursor", texts_data (map (λ t. tagged_text names t) c.path ++ key_text names c.last ∷ [])) ∷ [])
+bound_data names (ACursor c) = object_of ((codes "cursor", cursor_data names c) ∷ [])
 bound_data names (Names keys) = object_of ((codes "keys", texts_data keys) ∷ [])
-bound_data names (Pairs pairs) =
-    object_of ((codes "values", array (items_of (map (λ e. pair_data names e) pairs))) ∷ [])
+bound_data names (Pairs pairs) = object_of ((codes "values", pairs_data names pairs) ∷ [])
+
+abbrev pub var_member : List (List ℕ) → List ℕ × Bound → List ℕ × Data
+var_member names e = (e.0, bound_data names e.1)
 
 abbrev pub vars_data : List (List ℕ) → List (List ℕ × Bound) → Data
-vars_data names vars = object_of (map (λ e. (e.0, bound_data names e.1)) vars)
+vars_data names vars = object_of (map (var_member names) vars)
 
 -- ---- the dump
 

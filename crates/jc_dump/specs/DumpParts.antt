@@ -9,10 +9,11 @@ use Rattle.jc_rules.specs.Order.{key_cmp}
 use Rattle.jc_rules.specs.Entries.{find}
 use Rattle.jc_rules.specs.State.{State}
 use Rattle.jc_tree.specs.Walks.{entry_of}
+use Rattle.jc_cursor.specs.Bounds.{vars_of}
 use Rattle.jc_dump.specs.declared.dump.Branch.{Branch}
 use Rattle.jc_dump.specs.declared.dump.Branch.TheVariants as B
 use Rattle.jc_dump.specs.declared.dump.Shown.{Shown}
-use Rattle.jc_dump.specs.Dump.{tagged_text, ids_data, object_of, context_data, child_members, ids_of}
+use Rattle.jc_dump.specs.Dump.{tagged_text, ids_data, vars_data, context_data, child_members, ids_of}
 
 abbrev pub tag_of : Branch → Key → Tagged
 tag_of B.Map k = MapT k
@@ -35,7 +36,7 @@ child_at names b k c = map (child_member names (tag_of b)) (entry_of k (find key
 abbrev pub children_members : List (List ℕ) → Branch → Context → List (List ℕ × Data)
 children_members names b c = child_members names (tag_of b) (children_in b c)
 
--- the members of the dump of a replica without variables
+-- the members of the dump of a replica
 unfoldable pub shown_members : List (List ℕ) → Shown → Context → List (List ℕ × Data)
 shown_members names shown tree =
     (codes "acted", boolean shown.acted)
@@ -46,10 +47,10 @@ shown_members names shown tree =
     ∷ (codes "recv", ids_data names shown.recv.now)
     ∷ (codes "send", ids_data names shown.send.now)
     ∷ (codes "tree", context_data names tree)
-    ∷ (codes "vars", object_of [])
+    ∷ (codes "vars", vars_data names (vars_of shown.vars.now))
     ∷ []
 
--- The state has what is shown and this tree, and no variable.
+-- The state has what is shown and this tree.
 pub record HasParts (A : State) (shown : Shown) (tree : Context) : Type 0 where
   pub acted : A.acted ≡ shown.acted
   pub left : length A.left ≡ shown.left
@@ -58,4 +59,4 @@ pub record HasParts (A : State) (shown : Shown) (tree : Context) : Type 0 where
   pub recv : ids_of A.recv ≡ shown.recv.now
   pub send : ids_of A.send ≡ shown.send.now
   pub tree_is : A.tree ≡ tree
-  pub vars : A.vars ≡ []
+  pub vars : A.vars ≡ vars_of shown.vars.now

@@ -8,6 +8,8 @@ ghost use Rattle.jc_tree.specs.Tree.{HasPlace, here};
 ghost use Rattle.jc_dump.specs.Dump.{id_text, key_text, entry_text, tagged_text, next_text, ids_data, value_data, register_data, context_data, put_all, object_of, register_member, presence_member, next_member, dump_line};
 ghost use Rattle.jc_dump.specs.DumpParts.{tag_of, child_at, children_members, shown_members, HasParts};
 
+use crate::vars::vars_value;
+use jc_cursor::Bound;
 use jc_rules::{Id, Key, Next, Tagged, Text, Value, name_at};
 use jc_tree::TreeStore;
 use serde_json::{Map, Value as Json, json};
@@ -76,7 +78,7 @@ fn ids_value(alloc: Global, names: &[Text], ids: &[Id]) -> Result<Json, AllocErr
 }
 
 /// A value.
-fn json_value(alloc: Global, value: &Value) -> Result<Json, AllocError>
+pub(crate) fn json_value(alloc: Global, value: &Value) -> Result<Json, AllocError>
     ensures { IfOk result (λ v. view v ≡ value_data value.now) }
 {
     match value {
@@ -277,17 +279,18 @@ fn put_links<S: TreeStore>(
 }
 
 /// What a dump shows of a replica beside its tree: its name, whether it made an event of its yield,
-/// how many commands are left, and the identifiers of the operations that it applied, made, was
-/// sent and offers, in their order.
+/// how many commands are left, the identifiers of the operations that it applied, made, was sent
+/// and offers, in their order, and its variables.
 #[derive(Clone, Copy)]
 pub struct Shown<'a> {
-    pub name: &'a Text,
+    pub name: &'a str,
     pub acted: bool,
     pub left: usize,
     pub ops: &'a [Id],
     pub queue: &'a [Id],
     pub recv: &'a [Id],
     pub send: &'a [Id],
+    pub vars: &'a [(Text, Bound)],
 }
 
 /// The dump as a JSON value.
@@ -302,7 +305,7 @@ fn dump_value<S: TreeStore>(
     let mut members: Map<String, Json> = Map::new(alloc);
     serde_json::put(&mut members, alloc, "acted", Json::from(shown.acted))?;
     serde_json::put(&mut members, alloc, "left", Json::from(shown.left))?;
-    let name = Json::try_from_str(alloc, shown.name.as_str())?;
+    let name = Json::try_from_str(alloc, shown.name)?;
     serde_json::put(&mut members, alloc, "name", name)?;
     let ops = ids_value(alloc, names, shown.ops)?;
     serde_json::put(&mut members, alloc, "ops", ops)?;
@@ -315,12 +318,12 @@ fn dump_value<S: TreeStore>(
     let mut at = Vec::new(alloc);
     let tree = tree_value(alloc, names, store, &mut at)?;
     serde_json::put(&mut members, alloc, "tree", tree)?;
-    let vars: Map<String, Json> = Map::new(alloc);
-    serde_json::put(&mut members, alloc, "vars", Json::from(vars))?;
+    let vars = vars_value(alloc, names, shown.vars)?;
+    serde_json::put(&mut members, alloc, "vars", vars)?;
     Ok(Json::from(members))
 }
 
-/// The dump line, with its line feed, of a replica that has no variables.
+/// The dump line, with its line feed, of a replica.
 pub fn dump_line_of<S: TreeStore>(
     alloc: Global,
     names: &[Text],

@@ -1,4 +1,10 @@
-//! The dump of a replica's state as one line of JSON.
+//! What is shown of networks: dump lines, traces and stuck lines.
 #![tactic(auto)]
 
 pub mod dump;
+mod lines;
+mod replica;
+mod vars;
+
+pub use lines::{stuck_text, trace_text};
+pub use replica::dump_replica;

@@ -1,5 +1,7 @@
-//! Tests of dump lines.
+//! Tests of dump lines, traces and stuck lines.
 #![tactic(auto)]
 
+#[cfg(test)]
+mod runs;
 #[cfg(test)]
 mod tests;

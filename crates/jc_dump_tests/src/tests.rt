@@ -236,13 +236,14 @@ impl Grown {
     ) -> Result<(), AllocError> {
         let names = names(alloc)?;
         let shown = Shown {
-            name: &names[0],
+            name: names[0].as_str(),
             acted: false,
             left: 0,
             ops: made,
             queue: made,
             recv: &[],
             send: &[],
+            vars: &[],
         };
         let line = dump_line_of(alloc, &names, &shown, &self.store)?;
         is_text(rt, line.as_str(), want);

@@ -11,4 +11,4 @@ loop-id-preserved c =
     let zero : Id = record { counter = 0; replica = 0 } in
     let id = get_or c.args.ids.now c.loop-id.id-index zero in
     let shown : view c.from.result ≡ string (id_text c.args.names.now id) = search rules in
-    rw c.in_ok-push.ensures.items (texts_more c.args.names.now c.loop-id.texts.items c.from.result c.args.ids.now c.loop-id.id-index id zero (omega arith) refl c.loop-id.invariant shown)
+    rw c.in_ok-push.ensures.items (texts_more (λ j. id_text c.args.names.now j) c.loop-id.texts.items c.from.result c.args.ids.now c.loop-id.id-index id zero (omega arith) refl c.loop-id.invariant shown)

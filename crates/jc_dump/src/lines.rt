@@ -1,0 +1,85 @@
+//! The lines of traces and of stuck events.
+
+ghost use Rattle.std.specs.Prelude.{◌≡◌, ◌++◌, IfOk, OnOk, string_bytes, codes, decimal};
+ghost use Rattle.jc_rules.specs.declared.operation.Event.{Event as AnyEvent};
+ghost use Rattle.jc_rules.specs.Refused.{Cause};
+ghost use Rattle.jc_network.specs.Makes.{stuck_for};
+ghost use Rattle.jc_dump.specs.Lines.{trace_text, stuck_text, IsNamedStuck};
+
+use crate::dump::tagged_text;
+use jc_network::{Net, Stuck};
+use jc_printer::print_event;
+use jc_rules::{Refusal, Trace};
+use std::alloc::{AllocError, Global};
+use std::fmt::Write;
+
+/// Adds the line of a rule.
+fn push_row(text: &mut String, depth: u64, name: &str) -> Result<(), AllocError>
+    ensures { OnOk result
+        (string_bytes text.new ≡ string_bytes text.old ++ decimal depth ++ codes " " ++ name.now ++ codes "\n") }
+{
+    writeln!(text, "{depth} {name}")
+}
+
+/// The text of a trace: for each rule a line with its depth and its name.
+pub fn trace_text(alloc: Global, trace: &Trace) -> Result<String, AllocError>
+    ensures { IfOk result (λ text. string_bytes text ≡ trace_text trace.now.rows) }
+{
+    let mut text = String::new(alloc);
+    for (rule, depth) in trace.rows() {
+        push_row(&mut text, *depth, rule.name())?;
+    }
+    Ok(text)
+}
+
+/// The line of an event that can't be made, as the network tells it.
+pub fn stuck_text(alloc: Global, net: &Net, stuck: &Stuck) -> Result<String, AllocError>
+    requires { IsNamedStuck net.now.names stuck.now }
+    ensures { IfOk result (λ text.
+        (why : Cause) (event : AnyEvent)
+        → stuck.now ≡ stuck_for why event
+        → string_bytes text ≡ stuck_text net.now.names why event) }
+{
+    let names = net.names();
+    let event = print_event(alloc, names, &stuck.event)?;
+    let Some(refusal) = Refusal::of_number(stuck.number) else {
+        unreachable!();
+    };
+    match &stuck.key {
+        Some(key) => {
+            let key = tagged_text(alloc, names, key)?;
+            absent_line(
+                alloc,
+                refusal.number(),
+                refusal.name(),
+                key.as_str(),
+                event.as_str(),
+            )
+        }
+        None => stuck_line(alloc, refusal.number(), refusal.name(), event.as_str()),
+    }
+}
+
+fn stuck_line(alloc: Global, number: u8, cause: &str, event: &str) -> Result<String, AllocError>
+    ensures { IfOk result (λ text.
+        string_bytes text
+        ≡ codes "stuck " ++ decimal number ++ codes " " ++ cause.now ++ codes " " ++ event.now ++ codes "\n") }
+{
+    format!(in alloc; "stuck {number} {cause} {event}\n")
+}
+
+/// The same with the tagged key that isn't there.
+fn absent_line(
+    alloc: Global,
+    number: u8,
+    cause: &str,
+    key: &str,
+    event: &str,
+) -> Result<String, AllocError>
+    ensures { IfOk result (λ text.
+        string_bytes text
+        ≡ codes "stuck " ++ decimal number ++ codes " " ++ cause.now ++ codes " " ++ key.now ++ codes " " ++ event.now
+        ++ codes "\n") }
+{
+    format!(in alloc; "stuck {number} {cause} {key} {event}\n")
+}

@@ -1,0 +1,72 @@
+//! The dump of a network's replica.
+
+ghost use Rattle.std.specs.Prelude.{◌≡◌, ◌≤◌, ◌↔◌, Some, length, slice_get, string_bytes, IfOk, IsErrOf};
+ghost use Rattle.jc_rules.specs.Names.{name_at};
+ghost use Rattle.jc_rules.specs.State.{State};
+ghost use Rattle.jc_sets.specs.States.{kept_state};
+ghost use Rattle.jc_network.specs.declared.fault.CompareFault.TheVariants as E;
+ghost use Rattle.jc_dump.specs.Dump.{ids_of, dump_line};
+
+use crate::dump::{Shown, dump_line_of};
+use jc_network::{CompareFault, Net};
+use jc_replica::Replica;
+use jc_rules::{Id, Op, Text, name_at};
+use jc_tree::PlainTree;
+use std::alloc::{AllocError, Global};
+
+/// The identifiers of operations.
+fn ids_of(alloc: Global, ops: &[Op]) -> Result<Vec<Id>, AllocError>
+    ensures { IfOk result (λ ids. ids.items ≡ ids_of ops.now) }
+{
+    let mut ids = Vec::new(alloc);
+    for op in ops {
+        ids.push(op.id)?;
+    }
+    Ok(ids)
+}
+
+/// The dump line of the replica `p`, which has applied these operations.
+fn line_of(
+    alloc: Global,
+    names: &[Text],
+    p: u16,
+    replica: &Replica<PlainTree>,
+    applied: &[Op],
+) -> Result<String, AllocError>
+    ensures { IfOk result (λ line.
+        (A : State) → replica.now.now ≡ kept_state A → ids_of applied.now ≡ A.ops
+        → string_bytes line ≡ dump_line names.now (name_at names.now p) A) }
+{
+    let ops = ids_of(alloc, applied)?;
+    let queue = ids_of(alloc, replica.queue())?;
+    let recv = ids_of(alloc, replica.received())?;
+    let send = ids_of(alloc, replica.sent())?;
+    let shown = Shown {
+        name: name_at(names, p),
+        acted: replica.acted(),
+        left: replica.left().len(),
+        ops: ops.as_slice(),
+        queue: queue.as_slice(),
+        recv: recv.as_slice(),
+        send: send.as_slice(),
+        vars: replica.vars(),
+    };
+    dump_line_of(alloc, names, &shown, replica.tree())
+}
+
+/// The dump line of the network's replica `p`, with its line feed. It is refused with
+/// `NoSuchReplica` where there is none.
+pub fn dump_replica(alloc: Global, net: &Net, p: u16) -> Result<String, CompareFault>
+    ensures dump { IfOk result (λ line.
+        (A : State) → slice_get net.now.network p ≡ Some A
+        → string_bytes line ≡ dump_line net.now.names (name_at net.now.names p) A) }
+    ensures missing { IsErrOf result E.NoSuchReplica ↔ length net.now.network ≤ p }
+{
+    let Some(replica) = net.replica(p) else {
+        return Err(CompareFault::NoSuchReplica);
+    };
+    // Events have led to the network from a start, so what was applied is in the replica's lists.
+    net.steps();
+    let applied = net.applied(p)?;
+    Ok(line_of(alloc, net.names(), p, replica, applied.as_slice())?)
+}
