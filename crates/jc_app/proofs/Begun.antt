@@ -1,22 +1,22 @@
 -- What was written before a failure.
-use Rattle.std.proofs.Common.{◌≡◌, ◌≢◌, ℕ, ◌+◌, ◌<◌, ◌≤◌, inl, inr, List, [], ◌∷◌, ◌++◌, length, take, drop, get_or, Option, Some, None, Result, Ok, Err, All, OnOk, OnErr, refl, ap, sym, ◌∙◌, subst, append_assoc, append-nil, lt_of_not-le, arith}
+use Rattle.std.proofs.Common.{◌≡◌, ◌≢◌, ℕ, ◌+◌, ◌<◌, ◌≤◌, inl, inr, List, [], ◌∷◌, ◌++◌, length, take, drop, get_or, Option, Some, None, Result, Ok, Err, OnOk, OnErr, refl, ap, sym, ◌∙◌, subst, append_assoc, append-nil, lt_of_not-le, arith}
 use Rattle.std.proofs.lemmas.List.{take-append-le, take-append-drop, take_all}
 use Rattle.std.proofs.Math.Seq.{take-append-add, take-append_seam, take-length}
 use Rattle.std.specs.Io.KnownBytes.{Appends, Consumes}
 use native.Mathlib.Decide.{dec_le}
 use mathlib.Core.Logic.{dite}
 use Rattle.jc_rules.specs.declared.operation.Event.{Event}
-use Rattle.jc_rules.specs.declared.operation.Event.TheVariants.{Exec}
-use Rattle.jc_rules.specs.State.{State, start}
-use Rattle.jc_rules.specs.Step.{Step}
+use Rattle.jc_rules.specs.State.{State}
 use Rattle.jc_rules.specs.Told.{AppendsFront, LosesUpTo, IsFront}
-use Rattle.jc_app.specs.Runs.{Made, GoesBy, Plays, Stuck, at_script_end, events_of, blocks_text}
-use Rattle.jc_dump.specs.Dump.{dump_line}
+use Rattle.jc_app.specs.Runs.{Made, GoesBy, Plays, Stuck, events_of, blocks_text}
+use Rattle.jc_scenario.specs.Scenarios.{Scenario}
+use Rattle.jc_network.specs.Course.{Course, started}
+use Rattle.jc_network.specs.Laws.{starts}
 use Rattle.jc_parser.specs.declared.fault.ScenarioFault.{ScenarioFault}
 use Rattle.jc_parser.specs.declared.fault.ScenarioFault.TheVariants.{Memory as NoMemoryRead}
-use Rattle.jc_app.specs.Ran.{Scenario, ReadsAs, RanThrough, Ran}
+use Rattle.jc_app.specs.Ran.{ReadsAs, Ran}
 use Rattle.jc_app.specs.Due.{AppendsUpTo, AppendsFrontOf, IsNext, Begins, IsDueAt, IsDue, AreTold, HasBegun}
-use Rattle.jc_app.proofs.Playing.{goes_on, events_of-append, split_here, shown_more, ran_to_end, ran_to_stuck}
+use Rattle.jc_app.proofs.Playing.{goes_on, events_of-append, split_here, shown_more}
 use Rattle.jc_app.proofs.Reading.{reads_whole, ran_whole, has_number}
 
 -- nothing was appended, which is a front of any text
@@ -70,27 +70,27 @@ loses_read most (Some xs) None bs h l = absurd h
 loses_read most (Some xs) (Some ys) bs h l = (bs, l, h)
 
 -- the events that were made before a failure, and the next one where its block was begun
-pub begun : (names : List (List ℕ)) (first now : State) (es : List Event) (i n : ℕ) (made : List Made) (a b c : Option (List ℕ))
-    → GoesBy (first ∷ []) made (now ∷ []) → take i es ≡ events_of made → i < length es → get_or es i (Exec 0) ≡ Exec 0 → n ≡ length made
-    → Appends a b (blocks_text names 1 made) → AppendsFrontOf (IsNext names (now ∷ []) (n + 1)) b c → AppendsFrontOf (Begins names (first ∷ []) es) a c
-begun names first now es i n made a b c goes taken inside exec count wrote (text, inl none, up) = (
+pub begun : (names : List (List ℕ)) (first now : List State) (es : List Event) (i n : ℕ) (made : List Made) (a b c : Option (List ℕ)) (d : Event)
+    → GoesBy first made now → take i es ≡ events_of made → i < length es → n ≡ length made + 1
+    → Appends a b (blocks_text names 1 made) → AppendsFrontOf (IsNext names now (get_or es i d) n) b c → AppendsFrontOf (Begins names first es) a c
+begun names first now es i n made a b c d goes taken inside count wrote (text, inl none, up) = (
   blocks_text names 1 made,
-  record { made = made; more = drop i es; last = now ∷ []; goes = goes; events = sym (take-append-drop i es) ∙ ap (λ l. l ++ drop i es) taken; shown = refl },
+  record { made = made; more = drop i es; last = now; goes = goes; events = sym (take-append-drop i es) ∙ ap (λ l. l ++ drop i es) taken; shown = refl },
   subst (λ l. AppendsUpTo a c l) (ap (λ l. blocks_text names 1 made ++ l) none ∙ append-nil (blocks_text names 1 made)) (then_up_to a b c (blocks_text names 1 made) text wrote up),
 )
-begun names first now es i n made a b c goes taken inside exec count wrote (text, inr (rows, new, step, is), up) =
-    let e : Event = get_or es i (Exec 0) in
+begun names first now es i n made a b c d goes taken inside count wrote (text, inr (rows, new, step, is), up) =
+    let e : Event = get_or es i d in
     let m : Made = (e, rows) in (
       blocks_text names 1 (made ++ m ∷ []),
       record {
         made = made ++ m ∷ [];
         more = drop (i + 1) es;
         last = new;
-        goes = goes_on (first ∷ []) made (now ∷ []) e rows new goes (subst (λ (x : Event). Step (now ∷ []) x new rows) (sym exec) step);
-        events = split_here es i made (Exec 0) inside taken ∙ (sym (append_assoc (events_of made) (e ∷ []) (drop (i + 1) es)) ∙ ap (λ l. l ++ drop (i + 1) es) (sym (events_of-append made m)));
+        goes = goes_on first made now e rows new goes step;
+        events = split_here es i made d inside taken ∙ (sym (append_assoc (events_of made) (e ∷ []) (drop (i + 1) es)) ∙ ap (λ l. l ++ drop (i + 1) es) (sym (events_of-append made m)));
         shown = refl;
       },
-      subst (λ l. AppendsUpTo a c l) (ap (λ l. blocks_text names 1 made ++ l) is ∙ sym (shown_more names made e rows n count exec)) (then_up_to a b c (blocks_text names 1 made) text wrote up),
+      subst (λ l. AppendsUpTo a c l) (ap (λ l. blocks_text names 1 made ++ l) is ∙ sym (shown_more names made e rows n count)) (then_up_to a b c (blocks_text names 1 made) text wrote up),
     )
 
 -- a schedule that was played to its end or its stuck event was begun
@@ -98,15 +98,14 @@ pub plays_begins : (names : List (List ℕ)) (network last : List State) (schedu
 plays_begins names network last schedule None text p = record { made = p.made; more = []; last = last; goes = p.goes; events = p.ends ∙ sym (append-nil (events_of p.made)); shown = p.shown }
 plays_begins names network last schedule (Some (event, why)) text p = record { made = p.made; more = event ∷ p.ends.0; last = last; goes = p.goes; events = p.ends.1; shown = p.shown }
 
--- the events that a machine began are those of its scenario
-pub begins_from : (s : Scenario) (first : State) (schedule : List Event) (text : List ℕ) → Begins (s.name ∷ []) (first ∷ []) schedule text → first ≡ start s.script → schedule ≡ s.schedule → Begins (s.name ∷ []) (start s.script ∷ []) s.schedule text
-begins_from s first schedule text h from events = rw (← from, ← events) h
+-- nothing of a scenario's run is there yet
+pub none_begun : (s : Scenario) → Begins s.names (starts s.scripts) s.schedule []
+none_begun s = record { made = []; more = s.schedule; last = starts s.scripts; goes = refl; events = refl; shown = refl }
 
--- what a run shows once its blocks and its dump are there
-pub ran_so_far : (s : Scenario) (first last : State) (schedule : List Event) (stuck : Option Event) (blocks : List ℕ) → Plays (s.name ∷ []) (first ∷ []) schedule (last ∷ []) (at_script_end stuck) blocks → first ≡ start s.script → schedule ≡ s.schedule → All (λ x. x ≡ Exec 0) s.schedule → (tail : List ℕ) × (status : ℕ) × RanThrough s (blocks ++ dump_line (s.name ∷ []) s.name last ++ tail) status
-ran_so_far s first last schedule None blocks plays from events all =
-    ([], 0, subst (λ (l : List ℕ). RanThrough s l 0) (sym (append-nil (blocks ++ dump_line (s.name ∷ []) s.name last))) (ran_to_end s first last schedule None blocks plays from events refl))
-ran_so_far s first last schedule (Some e) blocks plays from events all = (_, 3, ran_to_stuck s first last schedule (Some e) e blocks plays from events refl all)
+-- the events that a network began are those of its scenario
+pub begins_from : (s : Scenario) (first : Course) (schedule : List Event) (text : List ℕ) → first ≡ started s → schedule ≡ s.schedule → Begins first.names first.network schedule text → Begins s.names (starts s.scripts) s.schedule text
+begins_from s first schedule text from events h =
+    subst (λ (c : Course). Begins c.names c.network s.schedule text) from (subst (λ (es : List Event). Begins first.names first.network es text) events h)
 
 -- what is due at a fault is due on the bytes that have it
 pub due_at : (bytes : List ℕ) (fault : ScenarioFault) (text : List ℕ) → (fault ≢ NoMemoryRead → ReadsAs bytes (Err fault)) → IsDueAt fault text → IsDue bytes text

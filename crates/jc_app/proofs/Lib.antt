@@ -1,9 +1,6 @@
-pub mod Cursors
-pub mod Events
 pub mod Playing
 pub mod Reading
-pub mod Lone
-pub mod Ready
-pub mod Counting
 pub mod Begun
+pub mod Dumping
+pub mod Ending
 pub mod OneRun

@@ -2,17 +2,18 @@
 use Rattle.std.proofs.Common.{◌≡◌, ℕ, List, [], ◌∷◌, ◌++◌, Option, Some, None, Result, Ok, Err, refl, sym, ◌∙◌, ap, subst}
 use Rattle.std.proofs.lemmas.Option.{same_Some}
 use Rattle.jc_rules.specs.declared.operation.Event.{Event}
-use Rattle.jc_rules.specs.State.{State, start}
+use Rattle.jc_rules.specs.State.{State}
 use Rattle.jc_rules.specs.Refused.{IsStuck}
 use Rattle.jc_rules.specs.Refusals.{number_of as refusal_number}
 use Rattle.jc_rules.specs.Step.{Step}
 use Rattle.jc_rules.specs.Laws.{OneStep, StuckHasNone, OneStuck, NumbersDiffer}
 use Rattle.jc_parser.specs.declared.fault.ScenarioFault.{ScenarioFault}
-use Rattle.jc_parser.specs.Laws.{OneScenario, ScenarioOrFault, OneFault}
-use Rattle.jc_dump.specs.Dump.{dump_line}
+use Rattle.jc_scenario.specs.Laws.{OneScenario, ScenarioOrFault, OneFault}
+use Rattle.jc_scenario.specs.Scenarios.{Scenario}
+use Rattle.jc_network.specs.Laws.{starts}
 use Rattle.jc_app.specs.Texts.{refused_text}
-use Rattle.jc_app.specs.Runs.{Made, GoesBy, EndsAt, Stuck, events_of, blocks_text, stuck_line, status_of}
-use Rattle.jc_app.specs.Ran.{Scenario, ReadsAs, RanThrough, IsRefused, RanOn}
+use Rattle.jc_app.specs.Runs.{Made, GoesBy, EndsAt, Stuck, events_of, blocks_text, dumps_text, stuck_line, status_of}
+use Rattle.jc_app.specs.Ran.{ReadsAs, RanThrough, IsRefused, RanOn}
 
 first_same : {X : Type 0} (x y : X) (xs ys : List X) → x ∷ xs ≡ y ∷ ys → x ≡ y
 first_same x y xs ys e = cc
@@ -68,13 +69,11 @@ module _ (one_step : OneStep) (stuck_has_none : StuckHasNone) (one_stuck : OneSt
 
   same_through : (s : Scenario) (shown other : List ℕ) (status other_status : ℕ) → RanThrough s shown status → RanThrough s other other_status → (shown ≡ other) × (status ≡ other_status)
   same_through s shown other status other_status a b =
-      let names = s.name ∷ [] in
       let p = a.plays in
       let q = b.plays in
-      let same = same_play s.schedule (start s.script ∷ []) (a.last ∷ []) (b.last ∷ []) p.made q.made a.stuck b.stuck p.goes p.ends q.goes q.ends in
-      let last : a.last ≡ b.last = first_same a.last b.last [] [] same.1 in
-      let blocks : a.blocks ≡ b.blocks = p.shown ∙ (ap (λ made. blocks_text names 1 made) same.0 ∙ sym q.shown) in (
-        a.written ∙ ((λ i. blocks i ++ dump_line names s.name (last i) ++ stuck_line names (same.2 i)) ∙ sym b.written),
+      let same = same_play s.schedule (starts s.scripts) a.last b.last p.made q.made a.stuck b.stuck p.goes p.ends q.goes q.ends in
+      let blocks : a.blocks ≡ b.blocks = p.shown ∙ (ap (λ made. blocks_text s.names 1 made) same.0 ∙ sym q.shown) in (
+        a.written ∙ ((λ i. blocks i ++ dumps_text s.names (same.1 i) ++ stuck_line s.names (same.2 i)) ∙ sym b.written),
         a.ends ∙ (ap status_of same.2 ∙ sym b.ends),
       )
 
@@ -88,10 +87,8 @@ module _ (one_step : OneStep) (stuck_has_none : StuckHasNone) (one_stuck : OneSt
 
     pub one_run : (bytes shown other : List ℕ) (status other_status : ℕ) (read other_read : Result Scenario ScenarioFault) → ReadsAs bytes read → ReadsAs bytes other_read → RanOn read shown status → RanOn other_read other other_status → (shown ≡ other) × (status ≡ other_status)
     one_run bytes shown other status other_status (Ok s) (Ok t) r q a b =
-        let same = one_scenario bytes s.name t.name s.script t.script s.schedule t.schedule r q in
-        let scenario : s ≡ t = (λ i. record { name = same.0 i; script = same.1 i; schedule = same.2 i }) in
-        same_through t shown other status other_status (subst (λ (x : Scenario). RanThrough x shown status) scenario a) b
-    one_run bytes shown other status other_status (Ok s) (Err fault) r q a b = absurd (scenario_or_fault bytes s.name s.script s.schedule fault r q)
-    one_run bytes shown other status other_status (Err fault) (Ok t) r q a b = absurd (scenario_or_fault bytes t.name t.script t.schedule fault q r)
+        same_through t shown other status other_status (subst (λ (x : Scenario). RanThrough x shown status) (one_scenario bytes s t r q) a) b
+    one_run bytes shown other status other_status (Ok s) (Err fault) r q a b = absurd (scenario_or_fault bytes s fault r q)
+    one_run bytes shown other status other_status (Err fault) (Ok t) r q a b = absurd (scenario_or_fault bytes t fault q r)
     one_run bytes shown other status other_status (Err fault) (Err other_fault) r q a b =
         same_refused other_fault shown other status other_status (subst (λ (f : ScenarioFault). IsRefused f shown status) (one_fault bytes fault other_fault r q) a) b

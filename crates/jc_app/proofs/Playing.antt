@@ -1,17 +1,26 @@
 -- A run that goes on by one event.
-use Rattle.std.proofs.Common.{◌≡◌, ℕ, ◌+◌, ◌<◌, ◌≤◌, List, [], ◌∷◌, ◌++◌, length, take, drop, get_or, Option, Some, None, All, suc, refl, ap, sym, ◌∙◌, subst, append_assoc, append-nil, add-zero, arith}
+use Rattle.std.proofs.Common.{◌≡◌, ℕ, zero, suc, ◌+◌, ◌<◌, ◌≤◌, List, [], ◌∷◌, ◌++◌, length, take, drop, get_or, slice_get, is_some, Option, Some, None, true, false, refl, ap, sym, ◌∙◌, subst, append_assoc, append-nil, add-zero, arith}
 use Rattle.std.proofs.lemmas.Grind.{common_steps}
+use Rattle.std.proofs.lemmas.List.{take_more, length-append}
+use Rattle.std.proofs.Math.Seq.{take-length}
+use Rattle.std.specs.Io.KnownBytes.{Appends}
+use Rattle.std.proofs.KnownBytes.{Appends-trans}
+use Rattle.std.proofs.lemmas.Option.{same_Some}
 use Rattle.jc_rules.specs.declared.operation.Event.{Event}
-use Rattle.jc_rules.specs.declared.operation.Event.TheVariants.{Exec}
 use Rattle.jc_rules.specs.declared.rule.Rule.{Rule}
-use Rattle.jc_rules.specs.declared.refusal.Refusal.TheVariants.{NoCommand}
-use Rattle.jc_rules.specs.State.{State, start}
+use Rattle.jc_rules.specs.Names.{name_at}
+use Rattle.jc_rules.specs.Refused.{IsStuck}
+use Rattle.jc_rules.specs.State.{State}
 use Rattle.jc_rules.specs.Step.{Step}
-use Rattle.jc_rules.specs.Refused.{Cause, because, IsStuck}
-use Rattle.jc_app.specs.Texts.{block_text, stuck_text}
+use Rattle.jc_printer.specs.Canon.{AreNamed}
+use Rattle.jc_scenario.specs.Scenarios.{Scenario}
+use Rattle.jc_network.specs.declared.fault.Stuck.{Stuck as StuckEvent}
+use Rattle.jc_network.specs.Course.{Course, started}
 use Rattle.jc_dump.specs.Dump.{dump_line}
-use Rattle.jc_app.specs.Ran.{Scenario, RanThrough}
-use Rattle.jc_app.specs.Runs.{Made, GoesBy, Plays, at_script_end, events_of, blocks_text}
+use Rattle.jc_app.specs.Texts.{block_text}
+use Rattle.jc_app.specs.Ran.{RanThrough}
+use Rattle.jc_app.specs.Runs.{Made, GoesBy, Plays, events_of, blocks_text, dumps_from, dumps_text, stuck_line, status_of}
+use Rattle.jc_app.specs.Played.{PlaysNext, PlaysAll}
 
 pub goes_on : (network : List State) (made : List Made) (last : List State) (e : Event) (rows : List (Rule × ℕ)) (new : List State) → GoesBy network made last → Step last e new rows → GoesBy network (made ++ (e, rows) ∷ []) new
 goes_on network [] last e rows new a s = (new, subst (λ (n : List State). Step n e new rows) a s, refl)
@@ -35,41 +44,101 @@ made_count es i made h e = grind (arith, common_steps)
 pub split_here : (es : List Event) (i : ℕ) (made : List Made) (d : Event) → i < length es → take i es ≡ events_of made → es ≡ events_of made ++ get_or es i d ∷ drop (i + 1) es
 split_here es i made d h e = grind (arith, common_steps)
 
-pub stuck_here : (before after : State) (e : Event) (why : Cause) → after ≡ before → e ≡ Exec 0 → IsStuck (before ∷ []) (Exec 0) why → IsStuck (after ∷ []) e why
-stuck_here before after e why same exec stuck = rw (same, exec) stuck
-
 -- one block more
-pub shown_more : (names : List (List ℕ)) (made : List Made) (e : Event) (rows : List (Rule × ℕ)) (n : ℕ) → n ≡ length made → e ≡ Exec 0 → blocks_text names 1 (made ++ (e, rows) ∷ []) ≡ blocks_text names 1 made ++ block_text names (n + 1) (Exec 0) rows
-shown_more names made e rows n count exec =
-    let number : 1 + length made ≡ n + 1 = omega arith in
-    blocks_text-append names 1 made (e, rows) ∙ rw (number, exec) refl
+pub shown_more : (names : List (List ℕ)) (made : List Made) (e : Event) (rows : List (Rule × ℕ)) (n : ℕ) → n ≡ length made + 1 → blocks_text names 1 (made ++ (e, rows) ∷ []) ≡ blocks_text names 1 made ++ block_text names n e rows
+shown_more names made e rows n count =
+    let number : 1 + length made ≡ n = omega (arith, count) in
+    blocks_text-append names 1 made (e, rows) ∙ rw number refl
 
-nth_is : (made : List Made) (e : Event) (more : List Event) → All (λ x. x ≡ Exec 0) (events_of made ++ e ∷ more) → e ≡ Exec 0
-nth_is [] e more h = h 0 e (omega arith)
-nth_is (m ∷ made) e more h = nth_is made e more (λ k d l. h (suc k) d (omega arith))
-
--- the run of a scenario whose events were all made
-pub ran_to_end : (s : Scenario) (first last : State) (schedule : List Event) (stuck : Option Event) (blocks : List ℕ) → Plays (s.name ∷ []) (first ∷ []) schedule (last ∷ []) (at_script_end stuck) blocks → first ≡ start s.script → schedule ≡ s.schedule → stuck ≡ None → RanThrough s (blocks ++ dump_line (s.name ∷ []) s.name last) 0
-ran_to_end s first last schedule stuck blocks plays from events none =
+-- what was played of a scenario, with the dumps and the stuck line, is its run
+pub ran : (s : Scenario) (first last : Course) (schedule : List Event) (a b : Option (List ℕ)) (answer : Option StuckEvent) → first ≡ started s → schedule ≡ s.schedule → (h : PlaysAll first last schedule a b answer) → (shown : List ℕ) → shown ≡ h.text ++ dumps_text last.names last.network ++ stuck_line last.names h.stuck → RanThrough s shown (status_of h.stuck)
+ran s first last schedule a b answer from events h shown is =
+    let names : last.names ≡ s.names = h.names ∙ ap (λ (c : Course). c.names) from in
+    let there = subst (λ (es : List Event). Plays first.names first.network es last.network h.stuck h.text) events h.plays in
     record {
-      last = last;
-      stuck = None;
-      blocks = blocks;
-      plays = rw (← from, ← events) (rw none at plays);
-      written = sym (append-nil _);
+      last = last.network;
+      stuck = h.stuck;
+      blocks = h.text;
+      plays = subst (λ (c : Course). Plays c.names c.network s.schedule last.network h.stuck h.text) from there;
+      written = is ∙ ap (λ n. h.text ++ dumps_text n last.network ++ stuck_line n h.stuck) names;
       ends = refl;
     }
 
--- the run of a scenario up to a stuck event
-pub ran_to_stuck : (s : Scenario) (first last : State) (schedule : List Event) (stuck : Option Event) (e : Event) (blocks : List ℕ) → Plays (s.name ∷ []) (first ∷ []) schedule (last ∷ []) (at_script_end stuck) blocks → first ≡ start s.script → schedule ≡ s.schedule → stuck ≡ Some e → All (λ x. x ≡ Exec 0) s.schedule → RanThrough s (blocks ++ dump_line (s.name ∷ []) s.name last ++ stuck_text (s.name ∷ []) (because NoCommand) (Exec 0)) 3
-ran_to_stuck s first last schedule stuck e blocks plays from events is all =
-    let p : Plays (s.name ∷ []) (start s.script ∷ []) s.schedule (last ∷ []) (Some (e, because NoCommand)) blocks = rw (← from, ← events) (rw is at plays) in
-    let exec : e ≡ Exec 0 = nth_is p.made e p.ends.0 (subst (All (λ x. x ≡ Exec 0)) p.ends.1 all) in
+next_dumps : (names : List (List ℕ)) (n p : ℕ) (network : List State) (A : State) → slice_get network p ≡ Some A → dumps_from n names (take (suc p) network) ≡ dumps_from n names (take p network) ++ dump_line names (name_at names (n + p)) A
+next_dumps names n p [] A e = cc
+next_dumps names n zero (B ∷ network) A e =
+    let same : B ≡ A = same_Some B A e in
+    let number : n ≡ n + 0 = omega arith in
+    append-nil (dump_line names (name_at names n) B) ∙ (ap (λ S. dump_line names (name_at names n) S) same ∙ ap (λ k. dump_line names (name_at names k) A) number)
+next_dumps names n (suc p) (B ∷ network) A e =
+    let number : suc n + p ≡ n + suc p = omega arith in
+    ap (λ t. dump_line names (name_at names n) B ++ t) (next_dumps names (suc n) p network A e)
+    ∙ sym (append_assoc (dump_line names (name_at names n) B) (dumps_from (suc n) names (take p network)) _)
+    ∙ ap (λ k. (dump_line names (name_at names n) B ++ dumps_from (suc n) names (take p network)) ++ dump_line names (name_at names k) A) number
+
+-- one dump more
+pub dumps_more : (names : List (List ℕ)) (p : ℕ) (network : List State) (A : State) → slice_get network p ≡ Some A → dumps_text names (take (p + 1) network) ≡ dumps_text names (take p network) ++ dump_line names (name_at names p) A
+dumps_more names p network A e =
+    let one : p + 1 ≡ suc p = omega arith in
+    let zero_more : 0 + p ≡ p = omega arith in
+    ap (λ m. dumps_text names (take m network)) one ∙ (next_dumps names 0 p network A e ∙ ap (λ k. dumps_text names (take p network) ++ dump_line names (name_at names k) A) zero_more)
+
+-- ---- one event
+
+-- the event at the place is stuck, after all before it were made
+pub stops_here : (old now new : Course) (es : List Event) (i n : ℕ) (d : Event) (made : List Made) (a b c : Option (List ℕ)) (s : Option StuckEvent) → is_some s ≡ true → now.names ≡ old.names → GoesBy old.network made now.network → take i es ≡ events_of made → i < length es → Appends a b (blocks_text old.names 1 made) → AreNamed (get_or es i d) (length old.names) → PlaysNext now new n (get_or es i d) b c s → PlaysAll old new es a c s
+stops_here old now new es i n d made a b c None some names goes taken inside wrote named h = let f : false ≡ true = some in cc
+stops_here old now new es i n d made a b c (Some s) some names goes taken inside wrote named (stuck, same, still) =
+    let network : new.network ≡ now.network = ap (λ (v : Course). v.network) same in
     record {
-      last = last;
-      stuck = Some (e, because NoCommand);
-      blocks = blocks;
-      plays = p;
-      written = rw exec refl;
-      ends = refl;
+      stuck = Some (get_or es i d, stuck.why);
+      text = blocks_text old.names 1 made;
+      plays = record {
+        made = made;
+        goes = subst (GoesBy old.network made) (sym network) goes;
+        ends = (drop (i + 1) es, split_here es i made d inside taken, subst (λ N. IsStuck N (get_or es i d) stuck.why) (sym network) stuck.stuck);
+        shown = refl;
+      };
+      tells = (stuck.is, named);
+      names = ap (λ (v : Course). v.names) same ∙ names;
+      written = subst (λ o. Appends a o (blocks_text old.names 1 made)) (sym still) wrote;
+    }
+
+-- the event at the place was made, after all before it
+pub record GoesOn (old new : Course) (es : List Event) (i : ℕ) (a c : Option (List ℕ)) : Type 0 where
+  pub made : List Made
+  pub goes : GoesBy old.network made new.network
+  pub taken : take (i + 1) es ≡ events_of made
+  pub wrote : Appends a c (blocks_text old.names 1 made)
+  pub names : new.names ≡ old.names
+  pub steps : length new.earlier ≡ i + 1
+
+pub goes_here : (old now new : Course) (es : List Event) (i n : ℕ) (d : Event) (made : List Made) (a b c : Option (List ℕ)) (s : Option StuckEvent) → is_some s ≡ false → now.names ≡ old.names → length now.earlier ≡ i → n ≡ i + 1 → GoesBy old.network made now.network → take i es ≡ events_of made → i < length es → Appends a b (blocks_text old.names 1 made) → PlaysNext now new n (get_or es i d) b c s → GoesOn old new es i a c
+goes_here old now new es i n d made a b c (Some s) none names steps number goes taken inside wrote h = let f : true ≡ false = none in cc
+goes_here old now new es i n d made a b c None none names steps number goes taken inside wrote (rows, to, appended) =
+    let e = get_or es i d in
+    let m : Made = (e, rows.rows) in
+    let count : length made ≡ i = made_count es i made (omega (arith, inside)) taken in
+    let block = subst (λ ns. Appends b c (block_text ns n e rows.rows)) names appended in
+    let whole = Appends-trans a b c (blocks_text old.names 1 made) (block_text old.names n e rows.rows) wrote block in
+    record {
+      made = made ++ m ∷ [];
+      goes = goes_on old.network made now.network e rows.rows new.network goes to.step;
+      taken = take_more es i d inside ∙ (ap (λ l. l ++ e ∷ []) taken ∙ sym (events_of-append made m));
+      wrote = subst (Appends a c) (sym (shown_more old.names made e rows.rows n (omega (arith, number, count)))) whole;
+      names = to.names ∙ names;
+      steps = ap length to.earlier ∙ (length-append now.earlier (now.network ∷ []) ∙ ap (λ k. k + 1) steps);
+    }
+
+-- all events were made
+pub ends_here : (old now : Course) (es : List Event) (i : ℕ) (made : List Made) (a b : Option (List ℕ)) → length es ≡ i → now.names ≡ old.names → GoesBy old.network made now.network → take i es ≡ events_of made → Appends a b (blocks_text old.names 1 made) → PlaysAll old now es a b None
+ends_here old now es i made a b all names goes taken wrote =
+    let whole : es ≡ events_of made = sym (take-length es) ∙ (ap (λ k. take k es) all ∙ taken) in
+    record {
+      stuck = None;
+      text = blocks_text old.names 1 made;
+      plays = record { made = made; goes = goes; ends = whole; shown = refl };
+      tells = tt;
+      names = names;
+      written = wrote;
     }

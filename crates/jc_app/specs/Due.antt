@@ -1,16 +1,17 @@
 -- What a run writes, whole or up to a failure.
-use Rattle.std.specs.Prelude.{◌≡◌, ℕ, ◌⊎◌, List, [], ◌∷◌, ◌++◌, take, Option, Result, Ok, Err, IfSome}
+use Rattle.std.specs.Prelude.{◌≡◌, ℕ, ◌⊎◌, List, [], ◌++◌, take, Option, Result, Ok, Err, IfSome}
 use Rattle.std.specs.Io.KnownBytes.{Appends}
 use Rattle.jc_rules.specs.declared.operation.Event.{Event}
-use Rattle.jc_rules.specs.declared.operation.Event.TheVariants.{Exec}
 use Rattle.jc_rules.specs.declared.rule.Rule.{Rule}
-use Rattle.jc_rules.specs.State.{State, start}
+use Rattle.jc_rules.specs.State.{State}
 use Rattle.jc_rules.specs.Step.{Step}
 use Rattle.jc_rules.specs.Told.{AppendsIfTold}
 use Rattle.jc_parser.specs.declared.fault.ScenarioFault.{ScenarioFault}
 use Rattle.jc_app.specs.Texts.{block_text}
 use Rattle.jc_app.specs.Runs.{Made, GoesBy, events_of, blocks_text}
-use Rattle.jc_app.specs.Ran.{Scenario, ReadsAs, RanThrough, IsRefused, Ran}
+use Rattle.jc_scenario.specs.Scenarios.{Scenario}
+use Rattle.jc_network.specs.Laws.{starts}
+use Rattle.jc_app.specs.Ran.{ReadsAs, RanThrough, IsRefused, Ran}
 
 -- a front of bs was appended, and perhaps the whole of it
 abbrev pub AppendsUpTo : Option (List ℕ) → Option (List ℕ) → List ℕ → Type 0
@@ -21,11 +22,11 @@ abbrev pub AppendsFrontOf : (List ℕ → Type 0) → Option (List ℕ) → Opti
 AppendsFrontOf IsKind old new = (text : List ℕ) × IsKind text × AppendsUpTo old new text
 
 -- The block of the next event, whose number is n; or nothing, where the event wasn't made or its block isn't there yet.
-abbrev pub IsNext : List (List ℕ) → List State → ℕ → List ℕ → Type 0
-IsNext names network n text =
+abbrev pub IsNext : List (List ℕ) → List State → Event → ℕ → List ℕ → Type 0
+IsNext names network event n text =
     (text ≡ [])
     ⊎ ((rows : List (Rule × ℕ)) × (new : List State)
-    × Step network (Exec 0) new rows × (text ≡ block_text names n (Exec 0) rows))
+    × Step network event new rows × (text ≡ block_text names n event rows))
 
 -- The first events of a schedule lead from a network to another, and their blocks are the text.
 pub record Begins (names : List (List ℕ)) (network : List State) (schedule : List Event) (text : List ℕ) : Type 0 where
@@ -39,7 +40,7 @@ pub record Begins (names : List (List ℕ)) (network : List State) (schedule : L
 -- what a run of a scenario shows, whole or as far as its first events
 abbrev pub IsDueOf : Scenario → List ℕ → Type 0
 IsDueOf s text =
-    Begins (s.name ∷ []) (start s.script ∷ []) s.schedule text
+    Begins s.names (starts s.scripts) s.schedule text
     ⊎ ((status : ℕ) × RanThrough s text status)
 
 -- the line of a fault; or nothing, where it isn't there yet

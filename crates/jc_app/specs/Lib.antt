@@ -1,11 +1,7 @@
-pub mod FirstCmd
-pub mod Ready
-pub mod Makes
-pub mod Replicas
-pub mod Single
 pub mod Texts
 pub mod Runs
 pub mod Ran
 pub mod Due
+pub mod Played
 pub mod Faults
 pub mod Laws

@@ -1,12 +1,14 @@
 -- Runs of a schedule: the events that were made, and what is shown of them.
-use Rattle.std.specs.Prelude.{◌≡◌, ℕ, ◌+◌, List, [], ◌∷◌, ◌++◌, map, Option, Some, None}
+use Rattle.std.specs.Prelude.{◌≡◌, ℕ, suc, ◌+◌, List, [], ◌∷◌, ◌++◌, map, Option, Some, None}
 use Rattle.jc_rules.specs.declared.operation.Event.{Event}
-use Rattle.jc_rules.specs.declared.refusal.Refusal.TheVariants.{NoCommand}
 use Rattle.jc_rules.specs.declared.rule.Rule.{Rule}
+use Rattle.jc_rules.specs.Names.{name_at}
 use Rattle.jc_rules.specs.State.{State}
 use Rattle.jc_rules.specs.Step.{Step}
-use Rattle.jc_rules.specs.Refused.{Cause, because, IsStuck}
-use Rattle.jc_app.specs.Texts.{block_text, stuck_text}
+use Rattle.jc_rules.specs.Refused.{Cause, IsStuck}
+use Rattle.jc_dump.specs.Dump.{dump_line}
+use Rattle.jc_dump.specs.Lines.{stuck_text}
+use Rattle.jc_app.specs.Texts.{block_text}
 
 -- an event that was made, with its trace
 abbrev pub Made : Type 0
@@ -54,7 +56,11 @@ abbrev pub status_of : Option Stuck → ℕ
 status_of None = 0
 status_of (Some s) = 3
 
--- an event that is stuck where the script has ended, the one cause that a first command meets
-abbrev pub at_script_end : Option Event → Option Stuck
-at_script_end None = None
-at_script_end (Some event) = Some (event, because NoCommand)
+-- the dump lines of replicas, of which the first one has the number p
+abbrev pub dumps_from : ℕ → List (List ℕ) → List State → List ℕ
+dumps_from p names [] = []
+dumps_from p names (A ∷ network) = dump_line names (name_at names p) A ++ dumps_from (suc p) names network
+
+-- the dump line of each replica, in the order of their names
+abbrev pub dumps_text : List (List ℕ) → List State → List ℕ
+dumps_text names network = dumps_from 0 names network

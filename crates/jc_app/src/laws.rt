@@ -2,8 +2,8 @@
 
 ghost use Rattle.jc_app.specs.Laws.{OneRun};
 
-use jc_parser::laws as texts;
 use jc_rules::laws as rules;
+use jc_scenario::laws as texts;
 
 /// Bytes have one run at most: what it shows and how it ends are determined.
 pub fn one_run()

@@ -1,17 +1,12 @@
 //! `jsoncrdt`: runs the scenario that standard input says.
 #![tactic(auto)]
 
-mod cursor;
 mod laws;
-mod machine;
-mod only;
-mod replica;
 mod run;
 mod texts;
 mod words;
 mod work;
 
-use crate::only::OnlyReplica;
 use crate::words::{exit_of, refuse_words, words_of};
 use crate::work::work_alone;
 use jc_rules::io::{FromRead, ToWrite};
@@ -22,9 +17,7 @@ fn main(rt: HostRuntime) -> ExitCode {
     let mut out = ToWrite::new(rt.stdout());
     let mut err = ToWrite::new(rt.stderr());
     let status = match words_of(&rt) {
-        Ok(words) => {
-            work_alone::<OnlyReplica, _, _, _, _>(&rt, &words, &mut input, &mut out, &mut err)
-        }
+        Ok(words) => { work_alone(&rt, &words, &mut input, &mut out, &mut err) }
         Err(error) => Some(refuse_words(error.kind(), &mut err)),
     };
     exit_of(status)

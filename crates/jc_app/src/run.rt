@@ -1,23 +1,18 @@
 //! Runs of a schedule.
 
-ghost use Rattle.std.specs.Prelude.{◌≡◌, ℕ, ◌<◌, ◌≤◌, ◌^◌, List, [], ◌∷◌, length, Ok, true, false, IfOk, IfErr, OnOk, OnErr, IsErrOf, All, ◌↔◌};
+ghost use Rattle.std.specs.Prelude.{◌≡◌, ◌<◌, ◌≤◌, List, [], length, IfOk, IfErr, OnOk, OnErr, IsErrOf, All};
 ghost use Rattle.std.specs.Io.KnownBytes.{Appends};
-ghost use Rattle.jc_rules.specs.declared.operation.Event.TheVariants.{Exec};
-ghost use Rattle.jc_rules.specs.declared.refusal.Refusal.TheVariants.{NoCommand as ScriptEnded};
-ghost use Rattle.jc_rules.specs.declared.rule.Rule.{Rule};
-ghost use Rattle.jc_rules.specs.Step.{Step};
-ghost use Rattle.jc_rules.specs.Refused.{because, IsStuck};
-ghost use Rattle.jc_app.specs.Ready.{IsReady};
-ghost use Rattle.jc_app.specs.Texts.{block_text};
-ghost use Rattle.jc_app.specs.Runs.{Plays, at_script_end};
+ghost use Rattle.jc_printer.specs.Canon.{AreNamed};
+ghost use Rattle.jc_app.specs.Runs.{dumps_text};
+ghost use Rattle.jc_app.specs.Played.{PlaysNext, PlaysAll};
 ghost use Rattle.jc_app.specs.Due.{AppendsUpTo, AppendsFrontOf, IsNext, Begins};
 ghost use Rattle.jc_app.specs.declared.run.RunFault.TheVariants.{Memory as NoMemory};
 
-use crate::machine::Machine;
-use crate::replica::ExecFault;
 use crate::texts::block_of;
+use jc_dump::dump_replica;
+use jc_network::{Net, StepFault, Stuck};
+use jc_rules::Event;
 use jc_rules::io::{Failed, Sink, write_all};
-use jc_rules::{Event, Text};
 use std::alloc::{AllocError, Global};
 
 /// Why a run stopped early.
@@ -50,57 +45,49 @@ pub fn send<K: Sink>(out: &mut K, text: &str) -> Result<(), RunFault>
     }
 }
 
-/// Makes the next event, and writes its block under this number. Answers `false` where the event is
-/// stuck; nothing is changed or written then.
-fn play_next<M: Machine, K: Sink>(
+/// Makes the event, and writes its block under this number. Answers why, where it is stuck; nothing
+/// is changed or written then.
+fn play_next<K: Sink>(
     alloc: Global,
-    name: &Text,
+    net: &mut Net,
     number: u64,
-    machine: &mut M,
+    event: &Event,
     out: &mut K,
-) -> Result<bool, RunFault>
-    requires { IsReady (M.state machine.old) }
-    ensures made { result ≡ Ok true → (rows : List (Rule × ℕ))
-        × Step (M.state machine.old ∷ []) (Event.Exec 0) (M.state machine.new ∷ []) rows
-        × Appends (K.taken out.old) (K.taken out.new) (block_text (name.now ∷ []) number (Event.Exec 0) rows) }
-    ensures stuck { result ≡ Ok false → IsStuck (M.state machine.old ∷ []) (Event.Exec 0) (because ScriptEnded) }
-    ensures when { (result ≡ Ok false) ↔ ((M.state machine.old).left ≡ []) }
-    ensures begun { OnErr result (AppendsFrontOf (IsNext (name.now ∷ []) (M.state machine.old ∷ []) number)
+) -> Result<Option<Stuck>, RunFault>
+    requires room { length net.old.earlier < 100000 }
+    requires named { AreNamed event.now (length net.old.names) }
+    ensures ok { IfOk result (λ stuck.
+        PlaysNext net.old net.new number event.now (K.taken out.old) (K.taken out.new) stuck) }
+    ensures begun { OnErr result (AppendsFrontOf (IsNext net.old.names net.old.network event.now number)
         (K.taken out.old) (K.taken out.new)) }
-    ensures ready { IsReady (M.state machine.new) }
-    ensures unchanged { result ≡ Ok false
-        → (M.state machine.new ≡ M.state machine.old) × (K.taken out.new ≡ K.taken out.old) }
     ensures same { OnOk result (K.failures out.new ≡ K.failures out.old) }
     ensures memory { IsErrOf result RunFault.Memory → K.failures out.new ≡ K.failures out.old }
     ensures write { IsErrOf result RunFault.Write → K.failures out.old < K.failures out.new }
 {
-    match machine.exec(alloc) {
+    match net.step(event) {
         Ok(trace) => {
-            let text = block_of(alloc, name, number, trace.rows())?;
+            let text = block_of(alloc, net.names(), number, event, &trace)?;
             send(out, text.as_str())?;
-            Ok(true)
+            Ok(None)
         }
-        Err(ExecFault::NoCommand) => Ok(false),
-        Err(ExecFault::Memory) => Err(RunFault::Memory),
+        Err(StepFault::Stuck(stuck)) => Ok(Some(stuck)),
+        Err(_) => Err(RunFault::Memory),
     }
 }
 
 /// Makes the events up to the end or the stuck one, and writes the block of each.
-pub fn play<M: Machine, K: Sink>(
+pub fn play<K: Sink>(
     alloc: Global,
-    name: &Text,
-    machine: &mut M,
+    net: &mut Net,
     schedule: &[Event],
     out: &mut K,
-) -> Result<Option<Event>, RunFault>
-    requires events { All (λ e. e ≡ Event.Exec 0) schedule.now }
-    requires ready { IsReady (M.state machine.old) }
+) -> Result<Option<Stuck>, RunFault>
+    requires new { net.old.earlier ≡ [] }
+    requires short { length schedule.now ≤ 100000 }
+    requires named { All (λ e. AreNamed e (length net.old.names)) schedule.now }
     ensures ok { IfOk result (λ stuck.
-        (text : List ℕ)
-        × Plays (name.now ∷ []) (M.state machine.old ∷ []) schedule.now (M.state machine.new ∷ [])
-        (at_script_end stuck) text
-        × Appends (K.taken out.old) (K.taken out.new) text) }
-    ensures begun { OnErr result (AppendsFrontOf (Begins (name.now ∷ []) (M.state machine.old ∷ []) schedule.now)
+        PlaysAll net.old net.new schedule.now (K.taken out.old) (K.taken out.new) stuck) }
+    ensures begun { OnErr result (AppendsFrontOf (Begins net.old.names net.old.network schedule.now)
         (K.taken out.old) (K.taken out.new)) }
     ensures same { OnOk result (K.failures out.new ≡ K.failures out.old) }
     ensures memory { IsErrOf result RunFault.Memory → K.failures out.new ≡ K.failures out.old }
@@ -109,9 +96,30 @@ pub fn play<M: Machine, K: Sink>(
     let mut number = 0u64;
     for event in schedule {
         number += 1;
-        if !play_next(alloc, name, number, machine, out)? {
-            return Ok(Some(*event));
+        let stuck = play_next(alloc, net, number, event, out)?;
+        if stuck.is_some() {
+            return Ok(stuck);
         }
     }
     Ok(None)
+}
+
+/// Writes the dump of each replica, in the order of their names.
+pub fn send_dumps<K: Sink>(alloc: Global, net: &Net, out: &mut K) -> Result<(), RunFault>
+    ensures ok { OnOk result
+        (Appends (K.taken out.old) (K.taken out.new) (dumps_text net.now.names net.now.network)) }
+    ensures begun { OnErr result
+        (AppendsUpTo (K.taken out.old) (K.taken out.new) (dumps_text net.now.names net.now.network)) }
+    ensures same { OnOk result (K.failures out.new ≡ K.failures out.old) }
+    ensures memory { IsErrOf result RunFault.Memory → K.failures out.new ≡ K.failures out.old }
+    ensures write { IsErrOf result RunFault.Write → K.failures out.old < K.failures out.new }
+{
+    let count = net.names().len() as u16;
+    for p in 0..count {
+        let Ok(dump) = dump_replica(alloc, net, p) else {
+            return Err(RunFault::Memory);
+        };
+        send(out, dump.as_str())?;
+    }
+    Ok(())
 }

@@ -1,61 +1,35 @@
-//! The lines that a run prints.
+//! The lines that the program prints beside dumps, traces and stuck events.
 
-ghost use Rattle.std.specs.Prelude.{◌≡◌, [], ◌∷◌, ◌++◌, IfOk, string_bytes, codes, decimal};
-ghost use Rattle.jc_rules.specs.declared.operation.Event.TheVariants.{Exec};
-ghost use Rattle.jc_rules.specs.RuleNames.{rule_name};
-ghost use Rattle.jc_rules.specs.Refused.{because};
-ghost use Rattle.jc_app.specs.Texts.{row_text, trace_text, block_text, stuck_text, refused_text};
+ghost use Rattle.std.specs.Prelude.{◌≡◌, ◌++◌, IfOk, length, string_bytes, codes, decimal};
+ghost use Rattle.jc_printer.specs.Canon.{AreNamed};
+ghost use Rattle.jc_app.specs.Texts.{block_text, refused_text};
 
+use jc_dump::trace_text;
 use jc_printer::print_event;
-use jc_rules::{Event, Refusal, Rule, Text};
+use jc_rules::{Event, Refusal, Text, Trace};
 use std::alloc::{AllocError, Global};
-use std::slice;
 
-/// The trace block of an `exec` of the only replica.
+/// The trace block of an event that was made.
 pub fn block_of(
     alloc: Global,
-    name: &Text,
+    names: &[Text],
     n: u64,
-    rows: &[(Rule, u64)],
+    event: &Event,
+    trace: &Trace,
 ) -> Result<String, AllocError>
-    ensures { IfOk result (λ text. string_bytes text ≡ block_text (name.now ∷ []) n (Exec 0) rows.now) }
+    requires { AreNamed event.now (length names.now) }
+    ensures { IfOk result (λ text. string_bytes text ≡ block_text names.now n event.now trace.now.rows) }
 {
-    let event = print_event(alloc, slice::from_ref(name), &Event::Exec(0))?;
-    let mut text = head_of(alloc, n, event.as_str())?;
-    for (rule, depth) in rows {
-        let row = row_of(alloc, *depth, rule.name())?;
-        text.push_str(row.as_str())?;
-    }
-    Ok(text)
+    let event = print_event(alloc, names, event)?;
+    let rows = trace_text(alloc, trace)?;
+    joined(alloc, n, event.as_str(), rows.as_str())
 }
 
-fn head_of(alloc: Global, n: u64, event: &str) -> Result<String, AllocError>
+fn joined(alloc: Global, n: u64, event: &str, rows: &str) -> Result<String, AllocError>
     ensures { IfOk result (λ text.
-        string_bytes text ≡ codes "event " ++ decimal n ++ codes " " ++ event.now ++ codes "\n") }
+        string_bytes text ≡ codes "event " ++ decimal n ++ codes " " ++ event.now ++ codes "\n" ++ rows.now) }
 {
-    format!(in alloc; "event {n} {event}\n")
-}
-
-fn row_of(alloc: Global, depth: u64, name: &str) -> Result<String, AllocError>
-    ensures { IfOk result (λ text. string_bytes text ≡ decimal depth ++ codes " " ++ name.now ++ codes "\n") }
-{
-    format!(in alloc; "{depth} {name}\n")
-}
-
-/// The line of a stuck `exec` of the only replica.
-pub fn stuck_of(alloc: Global, name: &Text, refusal: Refusal) -> Result<String, AllocError>
-    ensures { IfOk result (λ text. string_bytes text ≡ stuck_text (name.now ∷ []) (because refusal) (Exec 0)) }
-{
-    let event = print_event(alloc, slice::from_ref(name), &Event::Exec(0))?;
-    stuck_line(alloc, refusal.number(), refusal.name(), event.as_str())
-}
-
-fn stuck_line(alloc: Global, number: u8, cause: &str, event: &str) -> Result<String, AllocError>
-    ensures { IfOk result (λ text.
-        string_bytes text
-        ≡ codes "stuck " ++ decimal number ++ codes " " ++ cause.now ++ codes " " ++ event.now ++ codes "\n") }
-{
-    format!(in alloc; "stuck {number} {cause} {event}\n")
+    format!(in alloc; "event {n} {event}\n{rows}")
 }
 
 /// The line of a refused text.

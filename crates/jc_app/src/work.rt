@@ -1,21 +1,22 @@
 //! The program's work, from bytes to printed lines.
 
-ghost use Rattle.std.specs.Prelude.{◌≡◌, ◌≢◌, ◌<◌, ◌⊎◌, ℕ, List, [], ◌∷◌, length, map, codes, string_bytes, Some, None, IfOk, OnOk, OnErr, IsErrOf};
+ghost use Rattle.std.specs.Prelude.{◌≡◌, ◌≢◌, ◌<◌, ◌⊎◌, ℕ, List, [], ◌∷◌, length, codes, Some, None, IfOk, OnOk, OnErr, IsErrOf};
 ghost use Rattle.std.specs.Io.KnownBytes.{Appends};
-ghost use Rattle.jc_syntax.specs.Trees.{cmd_of};
 ghost use Rattle.jc_rules.specs.Told.{LosesUpTo};
 ghost use Rattle.jc_parser.specs.declared.fault.ScenarioFault.TheVariants.{Memory as NoMemoryRead};
-ghost use Rattle.jc_parser.specs.First.{Reads};
+ghost use Rattle.jc_scenario.specs.Scenarios.{IsWellFormed};
+ghost use Rattle.jc_scenario.specs.Views.{scenario_view};
 ghost use Rattle.jc_app.specs.Ran.{Ran, RanThrough, IsRefused};
 ghost use Rattle.jc_app.specs.Due.{AppendsUpTo, AppendsFrontOf, IsDueOf, IsDueAt, IsDue, HasRun, HasBegun};
 ghost use Rattle.jc_app.specs.Faults.{fault_status, fault_line};
 
-use crate::machine::Machine;
-use crate::run::{RunFault, play, send};
-use crate::texts::{refused_of, stuck_of};
-use jc_parser::{First, ScenarioFault, first_read};
+use crate::run::{RunFault, play, send, send_dumps};
+use crate::texts::refused_of;
+use jc_dump::stuck_text;
+use jc_network::Net;
 use jc_rules::Refusal;
 use jc_rules::io::{ReadFault, Sink, Source, read_up_to, write_all};
+use jc_scenario::{Scenario, ScenarioFault, read};
 use std::alloc::Global;
 
 /// One byte more than a scenario's text may have.
@@ -42,39 +43,25 @@ fn refuse<K: Sink>(alloc: Global, fault: &ScenarioFault, out: &mut K) -> Result<
 }
 
 /// Runs a scenario: writes what its run shows, and answers its status.
-fn run_through<M: Machine, K: Sink>(
-    alloc: Global,
-    first: First,
-    out: &mut K,
-) -> Result<u8, RunFault>
-    requires { (bytes : List ℕ) × Reads bytes first.name (map cmd_of first.script.items) first.schedule.items }
+fn run_through<K: Sink>(alloc: Global, scenario: &Scenario, out: &mut K) -> Result<u8, RunFault>
+    requires { IsWellFormed (scenario_view scenario.now) }
     ensures ok { IfOk result (λ status.
         (shown : List ℕ)
-        × RanThrough
-        (record { name = first.name; script = map cmd_of first.script.items; schedule = first.schedule.items })
-        shown status
+        × RanThrough (scenario_view scenario.now) shown status
         × Appends (K.taken out.old) (K.taken out.new) shown) }
-    ensures begun { OnErr result (AppendsFrontOf
-        (IsDueOf
-        (record { name = first.name; script = map cmd_of first.script.items; schedule = first.schedule.items }))
-        (K.taken out.old) (K.taken out.new)) }
+    ensures begun { OnErr result
+        (AppendsFrontOf (IsDueOf (scenario_view scenario.now)) (K.taken out.old) (K.taken out.new)) }
     ensures same { OnOk result (K.failures out.new ≡ K.failures out.old) }
     ensures memory { IsErrOf result RunFault.Memory → K.failures out.new ≡ K.failures out.old }
     ensures write { IsErrOf result RunFault.Write → K.failures out.old < K.failures out.new }
 {
-    let First {
-        name,
-        script,
-        schedule,
-    } = first;
-    let mut machine = M::make(alloc, script);
-    let stuck = play(alloc, &name, &mut machine, &schedule, out)?;
-    let dump = machine.dump_text(alloc, &name)?;
-    send(out, dump.as_str())?;
-    match stuck {
+    let mut net = Net::start(alloc, scenario)?;
+    let stuck = play(alloc, &mut net, &scenario.schedule, out)?;
+    send_dumps(alloc, &net, out)?;
+    match &stuck {
         None => Ok(0),
-        Some(_) => {
-            let line = stuck_of(alloc, &name, Refusal::NoCommand)?;
+        Some(stuck) => {
+            let line = stuck_text(alloc, &net, stuck)?;
             send(out, line.as_str())?;
             Ok(3)
         }
@@ -82,7 +69,7 @@ fn run_through<M: Machine, K: Sink>(
 }
 
 /// Runs a scenario's text: writes what a run of it shows, and answers its status.
-fn run_text<M: Machine, K: Sink>(alloc: Global, text: &[u8], out: &mut K) -> Result<u8, RunFault>
+fn run_text<K: Sink>(alloc: Global, text: &[u8], out: &mut K) -> Result<u8, RunFault>
     ensures ok { IfOk result (λ status.
         (shown : List ℕ) × Ran text.now shown status × Appends (K.taken out.old) (K.taken out.new) shown) }
     ensures begun { OnErr result (AppendsFrontOf (IsDue text.now) (K.taken out.old) (K.taken out.new)) }
@@ -90,8 +77,8 @@ fn run_text<M: Machine, K: Sink>(alloc: Global, text: &[u8], out: &mut K) -> Res
     ensures memory { IsErrOf result RunFault.Memory → K.failures out.new ≡ K.failures out.old }
     ensures write { IsErrOf result RunFault.Write → K.failures out.old < K.failures out.new }
 {
-    match first_read(alloc, text) {
-        Ok(first) => run_through::<M, K>(alloc, first, out),
+    match read(alloc, text) {
+        Ok(scenario) => run_through(alloc, &scenario, out),
         Err(fault) => refuse(alloc, &fault, out),
     }
 }
@@ -139,11 +126,7 @@ pub fn end<E: Sink>(fault: WorkFault, err: &mut E) -> u8
 }
 
 /// Runs the scenario that the input says, and answers its status.
-fn run_input<M: Machine, I: Source, K: Sink>(
-    alloc: Global,
-    input: &mut I,
-    out: &mut K,
-) -> Result<u8, WorkFault>
+fn run_input<I: Source, K: Sink>(alloc: Global, input: &mut I, out: &mut K) -> Result<u8, WorkFault>
     ensures ran { IfOk result (HasRun (I.left input.old) (K.taken out.old) (K.taken out.new)) }
     ensures begun { OnErr result (HasBegun (I.left input.old) (K.taken out.old) (K.taken out.new)) }
     ensures most { LosesUpTo 8388609 (I.left input.old) (I.left input.new) }
@@ -161,7 +144,7 @@ fn run_input<M: Machine, I: Source, K: Sink>(
         Err(ReadFault::Failed) => return Err(WorkFault::Read),
         Err(ReadFault::Memory) => return Err(WorkFault::Memory),
     };
-    match run_text::<M, K>(alloc, &text, out) {
+    match run_text(alloc, &text, out) {
         Ok(status) => Ok(status),
         Err(RunFault::Write) => Err(WorkFault::Write),
         Err(RunFault::Memory) => Err(WorkFault::Memory),
@@ -176,7 +159,7 @@ fn run_input<M: Machine, I: Source, K: Sink>(
 /// After 4 or 5 the output has a front of what the run shows, and `err` the line of the fault, as
 /// much of it as it took: its own failures change nothing. With words the status is 2, and input
 /// and outputs are left alone.
-pub fn work_alone<M: Machine, R: AllocGlobal, I: Source, K: Sink, E: Sink>(
+pub fn work_alone<R: AllocGlobal, I: Source, K: Sink, E: Sink>(
     rt: &R,
     words: &[String],
     input: &mut I,
@@ -221,7 +204,7 @@ pub fn work_alone<M: Machine, R: AllocGlobal, I: Source, K: Sink, E: Sink>(
     if !words.is_empty() {
         return Some(2);
     }
-    match run_input::<M, I, K>(rt.alloc(), input, out) {
+    match run_input(rt.alloc(), input, out) {
         Ok(status) => Some(status),
         Err(fault) => Some(end(fault, err)),
     }

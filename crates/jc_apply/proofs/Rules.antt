@@ -1,5 +1,5 @@
 -- The rules at one context.
-use Rattle.std.proofs.Common.{◌≡◌, ◌≢◌, List, [], Option, Some, None, Result, Ok, Err, OnOk, is_some, true, refl, sym, ◌∙◌, ap, subst}
+use Rattle.std.proofs.Common.{◌≡◌, ◌≢◌, List, [], Option, Some, None, Result, Ok, Err, OnOk, is_some, true, false, refl, sym, ◌∙◌, ap, subst}
 use Rattle.jc_rules.specs.declared.id.Id.{Id}
 use Rattle.jc_rules.specs.declared.key.Key.{Key}
 use Rattle.jc_rules.specs.declared.key.Tagged.{Tagged}
@@ -13,7 +13,7 @@ use Rattle.jc_rules.specs.declared.value.Value.{Value}
 use Rattle.jc_rules.specs.Order.{key_cmp, id_cmp}
 use Rattle.jc_rules.specs.Entries.{find, put}
 use Rattle.jc_rules.specs.Ids.{with_id}
-use Rattle.jc_rules.specs.Context.{Context, Content, Node, Values, Register, IsPrimitive, registers, maps, lists, node_of, values_of, content, with_content, new_content, with_presence, key_of, empty, empty_list}
+use Rattle.jc_rules.specs.Context.{Context, Content, Node, Values, Register, IsPrimitive, registers, maps, lists, node_of, values_of, content, with_content, new_content, presence, with_presence, key_of, empty, empty_list}
 use Rattle.jc_rules.specs.Places.{with_node_at, node_in}
 use Rattle.jc_rules.specs.Derivation.{Question, Presence, AddId, Child, Clear, ClearElem, Operate, ToIds, ToContent, ToContext, Cleared}
 use Rattle.jc_rules.specs.Derives.{Derives}
@@ -22,7 +22,7 @@ use Rattle.jc_rules.specs.Table.{Follows, moved}
 use Rattle.jc_rules.specs.Paths.{HasContext}
 use Rattle.jc_rules.proofs.Places.{there, with_node-same, with-same}
 use Rattle.jc_rules.proofs.Steps.{by_axiom, one_premise, three_premises}
-use Rattle.jc_tree.specs.Tree.{Tree, HasPlace, here, IsChanged}
+use Rattle.jc_tree.specs.Tree.{Tree, HasPlace, here, or_none, IsChanged}
 use Rattle.jc_clear.specs.Clears.{Clears}
 use Rattle.jc_tree.proofs.Places.{then_here, then_place, then_now}
 use Rattle.jc_apply.specs.Fits.{or_new, empty_of}
@@ -34,14 +34,31 @@ register_there c k r pairs t u h i e = rw (i, e) (by_axiom R.ChildGet _ _ t (Val
 pub register_absent : (c : Context) (k : Key) (pairs : Register) (t u : Rows) → find key_cmp k (registers c) ≡ None → pairs ≡ [] → u ≡ pushed t R.ChildReg → Derives (Child c (RegT k)) (ToContent (Values pairs)) t u
 register_absent c k pairs t u h i e = rw (i, e) (by_axiom R.ChildReg _ _ t (ap values_of h, refl, refl))
 
-pub added : (at : List Tagged) (k : Tagged) (key : Key) (i : Id) (m : Mutation) (a b : Tree) (s s2 : List Id) (t o u w : Rows) → m ≢ Delete → key_of k ≡ key → o ≡ below (pushed t R.AddId1) → Derives (Presence (here at a) key) (ToIds s) o u → s2 ≡ with_id i s → IsChanged at (with_presence key s2 (here at a)) a b → w ≡ at_depth t.depth u → Leads (λ c. AddId c k i m) at a b t w
-added at k key i m a b s s2 t o u w ne ke oe d se z we =
+-- a set that is there or not, by the rule that says so
+pub set_there : (c : Context) (k : Key) → true ≡ is_some (presence k c) → Follows R.Presence1 (Presence c k) (ToIds (or_none (presence k c))) []
+set_there c k h = go (presence k c) refl h
+  where
+    go : (o : Option (List Id)) → presence k c ≡ o → true ≡ is_some o → Follows R.Presence1 (Presence c k) (ToIds (or_none o)) []
+    go None e f = absurd (let no : ⊥ = cc in no)
+    go (Some s) e f = (s, e, refl, refl)
+
+pub set_absent : (c : Context) (k : Key) → false ≡ is_some (presence k c) → Follows R.Presence2 (Presence c k) (ToIds (or_none (presence k c))) []
+set_absent c k h = go (presence k c) refl h
+  where
+    go : (o : Option (List Id)) → presence k c ≡ o → false ≡ is_some o → Follows R.Presence2 (Presence c k) (ToIds (or_none o)) []
+    go None e f = (e, refl, refl)
+    go (Some s) e f = absurd (let no : ⊥ = cc in no)
+
+pub added : (at : List Tagged) (k : Tagged) (key : Key) (i : Id) (m : Mutation) (rule : Rule) (a b : Tree) (t o u w : Rows) → m ≢ Delete → key_of k ≡ key → o ≡ below (pushed t R.AddId1) → IsChanged at (with_presence key (with_id i (or_none (presence key (here at a)))) (here at a)) a b → Follows rule (Presence (here at a) key) (ToIds (or_none (presence key (here at a)))) [] → u ≡ pushed o rule → w ≡ at_depth t.depth u → Leads (λ c. AddId c k i m) at a b t w
+added at k key i m rule a b t o u w ne ke oe z f ue we =
+    let s = or_none (presence key (here at a)) in
+    let d : Derives (Presence (here at a) key) (ToIds s) o u = rw ue (by_axiom rule (Presence (here at a) key) (ToIds s) o f) in
     let d2 = subst (λ (r : Rows). Derives (Presence (here at a) key) (ToIds s) r u) oe d in
     let d3 = subst (λ (j : Key). Derives (Presence (here at a) j) (ToIds s) (below (pushed t R.AddId1)) u) (sym ke) d2 in
     rw we (record {
       after = with_presence (key_of k) (with_id i s) (here at a);
       derives = one_premise R.AddId1 _ _ _ _ t u d3 (s, ne, refl, refl);
-      now = z.now ∙ rw (se, ke) refl;
+      now = z.now ∙ ap (λ j. with_node_at at (with_presence j (with_id i s) (here at a)) a.now) (sym ke);
     })
 
 -- an assignment adds its identifier

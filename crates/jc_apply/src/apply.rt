@@ -83,7 +83,6 @@ fn operate_here<S: TreeStore>(
 /// Adds the operation's identifier to the presence set of a key on its path, unless the operation
 /// deletes.
 fn add_op<S: TreeStore>(
-    alloc: Global,
     store: &mut S,
     at: &[Tagged],
     key: &Tagged,
@@ -98,7 +97,7 @@ fn add_op<S: TreeStore>(
 {
     match &op.mutation {
         Mutation::Delete => trace.push(Rule::AddId2),
-        _ => add_id(alloc, store, at, key.key(), op.id, trace),
+        _ => add_id(store, at, key.key(), op.id, trace),
     }
 }
 
@@ -133,7 +132,7 @@ fn operate<S: TreeStore>(
     trace.open(Rule::Descend)?;
     enter(store, at, key, trace)?;
     operate(alloc, store, op, depth + 1, trace)?;
-    add_op(alloc, store, at, key, op, trace)?;
+    add_op(store, at, key, op, trace)?;
     trace.close(above);
     Ok(())
 }

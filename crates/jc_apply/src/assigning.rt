@@ -1,28 +1,40 @@
 //! Assigning a value to a key, and adding identifiers to presence sets.
 
-ghost use Rattle.std.specs.Prelude.{◌≡◌, ◌≢◌, [], OnOk};
+ghost use Rattle.std.specs.Prelude.{◌≡◌, ◌≢◌, [], OnOk, is_some};
+ghost use Rattle.jc_rules.specs.declared.key.Key.{Key as AnyKey};
 ghost use Rattle.jc_rules.specs.declared.key.Tagged.{Tagged};
 ghost use Rattle.jc_rules.specs.declared.operation.Mutation.{Mutation as AnyMutation};
 ghost use Rattle.jc_rules.specs.declared.operation.Mutation.TheVariants.{Assign, Delete};
-ghost use Rattle.jc_rules.specs.Context.{IsPrimitive, key_of};
-ghost use Rattle.jc_rules.specs.Derivation.{AddId, Operate};
+ghost use Rattle.jc_rules.specs.Context.{Context, IsPrimitive, key_of, presence};
+ghost use Rattle.jc_rules.specs.Derivation.{AddId, Operate, Presence, ToIds};
 ghost use Rattle.jc_rules.specs.Shape.{IsChained};
-ghost use Rattle.jc_rules.specs.Table.{moved};
+ghost use Rattle.jc_rules.specs.Table.{Follows, moved};
 ghost use Rattle.jc_rules.specs.Paths.{HasContext};
-ghost use Rattle.jc_tree.specs.Tree.{HasPlace, here};
+ghost use Rattle.jc_tree.specs.Tree.{HasPlace, here, or_none};
 ghost use Rattle.jc_tree.specs.CanGoBack.{CanGoBack};
 ghost use Rattle.jc_apply.specs.Fits.{empty_of};
 ghost use Rattle.jc_apply.specs.Leads.{Leads, LinksNone, AssignsEmpty};
 
 use crate::registers::{enter, pairs_of, put_pair};
-use jc_clear::{clear, clear_elem, presence_of};
-use jc_rules::{Id, Key, Op, Rule, Tagged, Trace, Value, insert_id};
+use jc_clear::{clear, clear_elem};
+use jc_rules::{Id, Key, Op, Rule, Tagged, Trace, Value};
 use jc_tree::TreeStore;
 use std::alloc::{AllocError, Global};
 
+/// The rule by which a key's presence set is found, or found absent.
+fn presence_rule(was: bool) -> Rule
+    ensures { (c : Context) (k : AnyKey) → was ≡ is_some (presence k c)
+        → Follows result (Presence c k) (ToIds (or_none (presence k c))) [] }
+{
+    if was {
+        Rule::Presence1
+    } else {
+        Rule::Presence2
+    }
+}
+
 /// Adds an identifier to the presence set of a key, for an operation that doesn't delete.
 pub fn add_id<S: TreeStore>(
-    alloc: Global,
     store: &mut S,
     at: &[Tagged],
     key: &Key,
@@ -38,10 +50,9 @@ pub fn add_id<S: TreeStore>(
 {
     let depth = trace.depth();
     trace.open(Rule::AddId1)?;
-    let mut ids = presence_of(alloc, store, at, key, trace)?;
+    let was = store.add_presence(at, key, id)?;
+    trace.push(presence_rule(was))?;
     trace.close(depth);
-    insert_id(&mut ids, id)?;
-    store.set_presence(at, key, ids.as_slice())?;
     Ok(())
 }
 
@@ -73,7 +84,7 @@ fn assign_primitive<S: TreeStore>(
         &Tagged::RegT(last.copy()?),
         trace,
     )?;
-    add_id(alloc, store, at, last, op.id, trace)?;
+    add_id(store, at, last, op.id, trace)?;
     let mut pairs = pairs_of(alloc, store, at, last, trace)?;
     put_pair(&mut pairs, op.id, value.copy()?)?;
     store.set_register(at, last, pairs)?;
@@ -114,7 +125,7 @@ fn assign_empty<S: TreeStore>(
     let depth = trace.depth();
     trace.open(empty_rule(key))?;
     clear_elem(alloc, store, &op.deps, at, key.key(), trace)?;
-    add_id(alloc, store, at, key.key(), op.id, trace)?;
+    add_id(store, at, key.key(), op.id, trace)?;
     enter(store, at, key, trace)?;
     trace.close(depth);
     Ok(())

@@ -55,9 +55,11 @@ impl Net {
         requires { IsWellFormed (scenario_view scenario.now) }
         ensures { IfOk result (λ net. net ≡ started (scenario_view scenario.now)) }
     {
+        let names = copy_names(alloc, &scenario.names)?;
+        let replicas = replicas_of(alloc, &scenario.scripts)?;
         Ok(Net {
-            names: copy_names(alloc, &scenario.names)?,
-            replicas: replicas_of(alloc, &scenario.scripts)?,
+            names,
+            replicas,
             whose: Vec::new(alloc),
             alloc,
         })
@@ -118,7 +120,8 @@ impl Net {
         ensures full { IsErrOf result E.Full ↔ 100000 ≤ length self.old.earlier }
         ensures kept { OnErr result (self.new ≡ self.old) }
     {
-        if self.whose.len() >= 100_000 {
+        let steps = self.whose.len();
+        if steps >= 100_000 {
             return Err(StepFault::Full);
         }
         if self.whose.reserve(1).is_err() {

@@ -14,7 +14,7 @@ use Rattle.jc_parser.specs.Calls.{Call, call_of, IsCallSpelled, IsCallWellFormed
 use Rattle.jc_parser.specs.CallParts.{last_name_at, sender_at, application_at, action_at, any_event_at}
 use Rattle.jc_parser.proofs.Readers.{Language, Never, Reads, reads_symbol, reads_then, reads_if, reads_done, reads_map, reads_more}
 use Rattle.jc_parser.proofs.Expressions.{kind_is, word_is, same_bytes, Within, within}
-use Rattle.jc_parser.proofs.Scenarios.{reads_named}
+use Rattle.jc_parser.proofs.Names.{reads_named}
 use Rattle.jc_parser.proofs.LanguageReaders.{Indices, LargeAfter, large_later, reads_close, reads_index}
 use Rattle.jc_parser.proofs.LanguageExpressions.{large_is}
 use Rattle.jc_parser.proofs.Sentences.{Spelling}

@@ -11,7 +11,7 @@ use Rattle.jc_rules.specs.declared.operation.Event.{Event}
 use Rattle.jc_parser.specs.declared.fault.ScenarioFault.{ScenarioFault}
 use Rattle.jc_parser.specs.Symbols.{Lexeme, symbols}
 use Rattle.jc_parser.specs.Reading.{Reading, reading as read_from}
-use Rattle.jc_parser.specs.Parts.{whole_at}
+use Rattle.jc_parser.specs.FirstParts.{whole_at}
 use Rattle.jc_parser.specs.Grammar.{IsText, Tree, IsWithinLimits}
 use Rattle.jc_parser.specs.Stops.{IsMisfit, IsMisplaced, IsFault, misfit_fault}
 use Rattle.jc_parser.specs.First.{IsOnly, Reads, IsScenarioFault}

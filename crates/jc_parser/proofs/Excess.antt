@@ -7,13 +7,16 @@ use Rattle.jc_rules.specs.Syntax.{Cmd}
 use Rattle.jc_parser.specs.declared.fault.ScenarioFault.{ScenarioFault}
 use Rattle.jc_parser.specs.declared.fault.ScenarioFault.TheVariants.{ReservedName, TooManyCommands, TooManyEvents}
 use Rattle.jc_parser.specs.Symbols.{Symbol, word, number, dot, open_brace, Lexeme}
-use Rattle.jc_parser.specs.Reading.{has_kind, is_word, reserved, value_of}
-use Rattle.jc_parser.specs.Parts.{Parsed}
-use Rattle.jc_parser.specs.Grammar.{is_reserved, IsCommandText, IsEventText, IsListText, IsStartText, IsText, Tree, IsWithinLimits, IsShort, head_text, schedule_head}
+use Rattle.jc_parser.specs.Reading.{has_kind, is_word, value_of}
+use Rattle.jc_parser.specs.FirstParts.{Parsed}
+use Rattle.jc_parser.specs.Words.{is_reserved, IsListText, IsStartText}
+use Rattle.jc_parser.specs.Grammar.{IsCommandText, IsEventText, IsText, Tree, IsWithinLimits, IsShort, head_text, schedule_head}
 use Rattle.jc_parser.specs.Stops.{IsExcess}
-use Rattle.jc_parser.proofs.Expressions.{kind_is, word_is, OneMore, IsFull, FullExpression}
+use Rattle.jc_parser.proofs.Expressions.{kind_is, word_is, OneMore}
+use Rattle.jc_parser.proofs.FirstExpressions.{IsFull, FullExpression}
 use Rattle.jc_parser.proofs.Items.{Lists, Crowded, AfterItems, list_give, list_all, start_map, start_give, start_all}
-use Rattle.jc_parser.proofs.Scenarios.{Commands, Events, names, name_in, tree_of, IsTaken, Replicas, ReplicaExcess}
+use Rattle.jc_parser.proofs.Scenarios.{Commands, Events, names, name_in, tree_of, Replicas, ReplicaExcess}
+use Rattle.jc_parser.proofs.Names.{IsTaken, reserved_is}
 
 -- the header and the word `replica`
 abbrev pub front : List Symbol
@@ -38,10 +41,6 @@ replica_limits m n p w em en (y, text, free, (u, v, same, parts, script, schedul
     record { name = free; commands = omega (arith, short); selectors = commands_short p.script u script.0; events = omega (arith, few, count) }
 
 -- ---- what is in excess
-
-pub reserved_is : (s : Symbol) → reserved s ≡ true → (name : List ℕ) × (is_reserved name ≡ true) × (s ≡ word name)
-reserved_is (word name) e = (name, e, refl)
-reserved_is s e = absurd cc
 
 reserved_name : (d : ScenarioFault) (xs : List Symbol) (after : List Lexeme) → OneMore (λ at. ReservedName at) IsTaken d xs after → IsExcess d (front ++ xs) after
 reserved_name d xs after (x, others, next, fault, (none, taken)) =

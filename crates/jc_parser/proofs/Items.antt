@@ -1,5 +1,5 @@
 -- What the readers of lists take, and where they stop.
-use Rattle.std.proofs.Common.{◌≡◌, ℕ, zero, suc, ◌≤◌, ◌<◌, ◌⊎◌, inl, inr, Bool, true, cond, List, [], ◌∷◌, ◌++◌, map, length, Ok, refl, sym, ap, append_assoc, le_refl, arith}
+use Rattle.std.proofs.Common.{◌≡◌, ℕ, zero, suc, ◌≤◌, ◌<◌, ◌⊎◌, inl, inr, Bool, true, cond, List, [], ◌∷◌, ◌++◌, map, length, Ok, refl, sym, ap, append_assoc, le_refl, arith, ◌∙◌}
 use Rattle.std.specs.Prelude.{All}
 use Rattle.std.proofs.lemmas.List.{append-nil}
 use Rattle.std.proofs.lemmas.List.Elements.{All-nil, All-cons}
@@ -8,7 +8,7 @@ use Rattle.jc_parser.specs.declared.fault.ScenarioFault.{ScenarioFault}
 use Rattle.jc_parser.specs.Symbols.{Symbol, semicolon, Lexeme}
 use Rattle.jc_parser.specs.Reading.{Reading, Outcome, ◌>>=◌, has_kind, begins_with, skip}
 use Rattle.jc_parser.specs.Parts.{items_at}
-use Rattle.jc_parser.specs.Grammar.{IsListText, IsStartText}
+use Rattle.jc_parser.specs.Words.{IsListText, IsStartText}
 use Rattle.jc_parser.proofs.Readers.{Language, Excess, Reads, reads_symbol, reads_then, reads_if, reads_done, reads_map, reads_refused_by}
 use Rattle.jc_parser.proofs.Expressions.{kind_is, Within, within, within-map, OneMoreBy}
 
@@ -105,3 +105,8 @@ start_give L M give (x ∷ xs) w (u, v, l, text, rest) = (u, v, give x u l, text
 pub start_all : {A : Type 0} (L : A → List Symbol → Type 0) (P : A → Type 0) → ((a : A) (u : List Symbol) → L a u → P a) → (xs : List A) (w : List Symbol) → IsStartText L xs w → All P xs
 start_all L P give [] w l = All-nil P
 start_all L P give (x ∷ xs) w (u, v, l, text, rest) = All-cons P x xs (give x u l) (start_all L P give xs v rest)
+
+-- items, each with its `;`, and a list after them
+pub list_more : {A : Type 0} (L : A → List Symbol → Type 0) (xs ys : List A) (u w : List Symbol) → IsStartText L xs u → IsListText L ys w → IsListText L (xs ++ ys) (u ++ w)
+list_more L [] ys u w start list = rw start list
+list_more L (x ∷ xs) ys u w (a, b, l, text, rest) list = (a, l, inr (b ++ w, ap (λ (s : List Symbol). s ++ w) text ∙ append_assoc a (semicolon ∷ b) w, list_more L xs ys b w rest list))

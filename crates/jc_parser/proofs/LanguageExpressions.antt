@@ -9,13 +9,13 @@ use Rattle.jc_parser.specs.declared.fault.ScenarioFault.{ScenarioFault}
 use Rattle.jc_parser.specs.declared.fault.ScenarioFault.TheVariants.{ReservedName}
 use Rattle.jc_parser.specs.Symbols.{Symbol, word, number, dot, Lexeme}
 use Rattle.jc_parser.specs.Reading.{Reading, Outcome, ◌>>=◌, value_of, is_word, reserved, begins_with, place_at}
-use Rattle.jc_parser.specs.Grammar.{is_reserved, selector_count}
+use Rattle.jc_parser.specs.Words.{is_reserved, selector_count}
 use Rattle.jc_parser.specs.Language.{is_numeral, numeral_value, Selector, by_key, by_index, by_keys, by_values, extended, IsSelectorText, IsSpelled, HasLegalParts, IsWellFormed}
 use Rattle.jc_parser.specs.LanguageParts.{is_large, chain_at, undotted, doc_at, variable_at, root_at, expression_at}
 use Rattle.jc_parser.specs.LanguageFaults.{IsExpressionExcess}
 use Rattle.jc_parser.proofs.Readers.{Language, Excess, Never, Reads, reads_one, reads_symbol, reads_then, reads_if, reads_done, reads_map, reads_refused, reads_same, reads_more}
 use Rattle.jc_parser.proofs.Expressions.{word_is, Within, within, within-map, OneMore}
-use Rattle.jc_parser.proofs.Scenarios.{is_free, free_is, free_name_at, guarded, same_names}
+use Rattle.jc_parser.proofs.Names.{is_free, free_is, free_name_at, guarded, same_names}
 use Rattle.jc_parser.proofs.Spelled.{reading}
 use Rattle.jc_parser.proofs.LanguageTests.{both_true, or_none, untrue}
 use Rattle.jc_parser.proofs.LanguageReaders.{IsLegal, index_front, extends, AreSelectors, AreLegal, Extends, ChainExcess, steps_at, undotted_is, reads_steps}

@@ -8,7 +8,7 @@ use Rattle.jc_parser.specs.declared.fault.ScenarioFault.TheVariants.{IndexTooLar
 use Rattle.jc_parser.specs.Symbols.{Symbol, word, number, string, dot, open_paren, close_paren, Lexeme, symbols}
 use Rattle.jc_parser.specs.Reading.{Reading, Outcome, ◌>>=◌, is_word, one}
 use Rattle.jc_parser.specs.Parts.{ended}
-use Rattle.jc_parser.specs.Grammar.{selector_count}
+use Rattle.jc_parser.specs.Words.{selector_count}
 use Rattle.jc_parser.specs.Language.{is_numeral, numeral_value, Selector, is_selector, extended, IsSelectorText, IsSpelled, IsWellFormed}
 use Rattle.jc_parser.specs.LanguageParts.{index_at, index_selector_at, step_at, root_at, expression_at}
 use Rattle.jc_parser.specs.LanguageFaults.{IsReservedVariable, IsSelectorPast, IsIndexPast, IsExpressionExcess}

@@ -10,7 +10,7 @@ use Rattle.jc_parser.specs.declared.fault.ScenarioFault.TheVariants.{IndexTooLar
 use Rattle.jc_parser.specs.Symbols.{Symbol, word, number, string, dot, open_paren, close_paren, Lexeme, symbols}
 use Rattle.jc_parser.specs.Reading.{Reading, ◌>>=◌, has_kind, begins_with, one, named_at}
 use Rattle.jc_parser.specs.Parts.{get_at, name_at}
-use Rattle.jc_parser.specs.Grammar.{is_reserved, get_text, selector_count}
+use Rattle.jc_parser.specs.Words.{is_reserved, get_text, selector_count}
 use Rattle.jc_parser.specs.Language.{is_numeral, numeral_value, Selector, by_key, by_index, by_keys, by_values, is_selector, extended, index_text, IsSelectorText, IsSpelled, HasLegalParts, IsWellFormed}
 use Rattle.jc_parser.specs.LanguageParts.{index_at, key_selector_at, index_selector_at, step_at, Chain, chain_at, undotted, doc_at, variable_at, root_at, expression_at, only_expression_at}
 use Rattle.jc_parser.proofs.Expressions.{Within, within-map}

@@ -13,7 +13,7 @@ use Rattle.jc_parser.specs.Language.{IsSpelled}
 use Rattle.jc_parser.specs.Scripts.{IsValueSpelled, IsCommandSpelled, IsScriptSpelled}
 use Rattle.jc_parser.specs.Calls.{Call, executes, sends, receives, applies, ends, call_of, IsCallSpelled}
 use Rattle.jc_parser.specs.ClosedScripts.{IsClosedSpelled}
-use Rattle.jc_parser.specs.Grammar.{IsListText}
+use Rattle.jc_parser.specs.Words.{IsListText}
 use Rattle.jc_parser.specs.Trees.{Part, Tree, tree_of, ArePartsSpelled, IsScheduleSpelled, IsTreeSpelled}
 use Rattle.jc_parser.specs.Legal.{IsLegalExpr, IsLegalValue, IsLegalCmd, IsLegalCall, IsLegalPart, IsLegalTree}
 use Rattle.jc_parser.specs.LegalLaws.{LegalExpressions, LegalScripts, LegalEvents, LegalScriptsAt, LegalEventsAt, LegalScenarios}

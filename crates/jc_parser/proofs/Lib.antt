@@ -5,9 +5,15 @@ mod CallSpelled
 mod CallWhole
 mod ClosedScriptLaws
 mod ClosedScripts
+mod Deciding
 mod Exactly
 mod Excess
 mod Expressions
+mod FirstExpressions
+mod FirstLoops
+mod FirstRefused
+mod FirstSpelled
+mod FirstSpelledLists
 mod Fronts
 mod Items
 mod LanguageExpressions
@@ -21,6 +27,7 @@ mod LegalTokens
 mod LegalTrees
 mod Limits
 mod Loops
+mod Names
 mod OneFault
 mod OneTree
 mod Readers

@@ -7,20 +7,25 @@ use Rattle.jc_rules.specs.declared.value.Value.TheVariants as values
 use Rattle.jc_rules.specs.Syntax.{Expr, TheDoc, GetKey, Cmd, SetTo}
 use Rattle.jc_parser.specs.declared.fault.ScenarioFault.{ScenarioFault}
 use Rattle.jc_parser.specs.declared.fault.ScenarioFault.TheVariants.{ReservedName, TooManyCommands, TooLongExpression, UnknownReplica, TooManyEvents}
-use Rattle.jc_parser.specs.Symbols.{Symbol, word, number, string, dot, open_paren, close_paren, open_brace, close_brace, semicolon, assign, Lexeme, symbols}
+use Rattle.jc_parser.specs.Symbols.{Symbol, word, number, string, dot, open_paren, close_paren, open_brace, close_brace, assign, Lexeme, symbols}
 use Rattle.jc_parser.specs.Reading.{Reading, is_word, has_kind, begins_with, place, one}
-use Rattle.jc_parser.specs.Parts.{command_at, event_at, commands_at, events_at, whole_at, replica_at, schedule_at, block_at}
-use Rattle.jc_parser.specs.Grammar.{is_reserved, IsExpressionText, IsCommandText, IsEventText, IsListText, IsStartText, IsText, Tree, IsWithinLimits, selector_count, head_text, schedule_head}
+use Rattle.jc_parser.specs.FirstParts.{command_at, event_at, commands_at, events_at, whole_at, replica_at, schedule_at, block_at}
+use Rattle.jc_parser.specs.Words.{is_reserved, IsListText, IsStartText, selector_count}
+use Rattle.jc_parser.specs.Grammar.{IsExpressionText, IsCommandText, IsEventText, IsText, Tree, IsWithinLimits, head_text, schedule_head}
 use Rattle.jc_parser.specs.Stops.{IsPrefix, IsPrefixWithin, IsReservedName, IsCommandTooMany, IsSelectorTooMany, IsEventTooMany, IsStranger, IsExcess}
 use Rattle.jc_parser.proofs.Readers.{Language, Begun}
 use Rattle.jc_parser.proofs.Expressions.{Within}
 use Rattle.jc_parser.proofs.Stopping.{IsLimit, snoc, symbols-snoc}
 use Rattle.jc_parser.proofs.Scenarios.{schedule_with, block_with, body_with, replica_with}
-use Rattle.jc_parser.proofs.Spelled.{reading, at_place, First, split_one, split_none, split_symbols, not_past, keys_of}
-use Rattle.jc_parser.proofs.SpelledLists.{ReadList, items_again, Same, Any, commands_are, events_are}
+use Rattle.jc_parser.proofs.Spelled.{reading, at_place, First, split_one, split_none, split_symbols, not_past}
+use Rattle.jc_parser.proofs.FirstSpelled.{keys_of}
+use Rattle.jc_parser.proofs.SpelledLists.{ReadList, items_again, Same}
+use Rattle.jc_parser.proofs.FirstSpelledLists.{Any, commands_are, events_are}
 use Rattle.jc_parser.proofs.SpelledScenarios.{tail_at, lines, whole_with, free_read, taken_read, body_tail}
 use Rattle.jc_parser.proofs.Excess.{front}
-use Rattle.jc_parser.proofs.Refused.{crowded, broken, long_command}
+use Rattle.jc_parser.proofs.Refused.{crowded, broken}
+use Rattle.jc_parser.proofs.FirstRefused.{long_command}
+use Rattle.jc_parser.proofs.Items.{list_more}
 
 -- ---- the header, and what follows it
 
@@ -134,11 +139,6 @@ unfolding whole_at whole_with replica_at replica_with body_with schedule_at bloc
 whole_is r = refl
 
 -- ---- what passes a limit begins a scenario
-
--- items, each with its `;`, and a list after them
-pub list_more : {A : Type 0} (L : A → List Symbol → Type 0) (xs ys : List A) (u w : List Symbol) → IsStartText L xs u → IsListText L ys w → IsListText L (xs ++ ys) (u ++ w)
-list_more L [] ys u w start list = rw start list
-list_more L (x ∷ xs) ys u w (a, b, l, text, rest) list = (a, l, inr (b ++ w, ap (λ (s : List Symbol). s ++ w) text ∙ append_assoc a (semicolon ∷ b) w, list_more L xs ys b w rest list))
 
 begins_named : (name : List ℕ) → IsPrefix (front ++ word name ∷ [])
 begins_named name = (record { name = name; script = []; events = [] }, open_brace ∷ close_brace ∷ [], ([], close_brace ∷ [], refl, inl (refl, refl), refl))

@@ -11,13 +11,15 @@ use Rattle.jc_parser.specs.declared.fault.ScenarioFault.TheVariants.{TooManyComm
 use Rattle.jc_parser.specs.Faults.{from_lexer}
 use Rattle.jc_parser.specs.Symbols.{Symbol, word, open_brace, close_brace, semicolon, Lexeme, symbols}
 use Rattle.jc_parser.specs.Reading.{Reading, reading as read_from, is_word, place}
-use Rattle.jc_parser.specs.Parts.{command_at, commands_at}
-use Rattle.jc_parser.specs.Grammar.{IsCommandText, IsEventText, IsListText, IsStartText, Tree, IsWithinLimits, head_text, schedule_head}
+use Rattle.jc_parser.specs.FirstParts.{command_at, commands_at}
+use Rattle.jc_parser.specs.Grammar.{IsCommandText, IsEventText, Tree, IsWithinLimits, head_text, schedule_head}
+use Rattle.jc_parser.specs.Words.{IsListText, IsStartText}
 use Rattle.jc_parser.specs.Stops.{misfit_fault, IsFault}
 use Rattle.jc_parser.specs.First.{IsFaultWithin, IsScenarioFault}
 use Rattle.jc_parser.proofs.Readers.{read_as, ok_parts}
 use Rattle.jc_parser.proofs.Spelled.{reading, at_place, split_symbols, not_past}
-use Rattle.jc_parser.proofs.SpelledLists.{ReadList, items_again, Same, commands_are}
+use Rattle.jc_parser.proofs.SpelledLists.{ReadList, items_again, Same}
+use Rattle.jc_parser.proofs.FirstSpelledLists.{commands_are}
 use Rattle.jc_parser.proofs.OneTree.{one_tree_of}
 use Rattle.jc_parser.proofs.Stopping.{stray_is_none, limit_is_none, one_stray, stray_or_limit, one_limit}
 use Rattle.jc_parser.proofs.Limits.{IsForeign, Headed, headed, Between, between}

@@ -7,7 +7,7 @@ use Rattle.jc_rules.specs.declared.operation.Event.TheVariants.{Exec}
 use Rattle.jc_rules.specs.Syntax.{Cmd}
 use Rattle.jc_parser.specs.Symbols.{Symbol, Lexeme, symbols}
 use Rattle.jc_parser.specs.Reading.{Reading, reading}
-use Rattle.jc_parser.specs.Parts.{whole_at, Parsed}
+use Rattle.jc_parser.specs.FirstParts.{whole_at, Parsed}
 use Rattle.jc_parser.specs.Grammar.{Tree, IsText, IsWithinLimits}
 use Rattle.jc_parser.specs.First.{Reads, IsOnly}
 use Rattle.jc_parser.proofs.Scenarios.{tree_of}

@@ -1,18 +1,14 @@
 -- What is past a limit is refused with that limit's fault.
 use Rattle.std.proofs.Common.{◌≡◌, ◌≢◌, ℕ, suc, ◌-◌, ◌≤◌, ◌<◌, ◌⊎◌, inl, inr, Bool, true, List, [], ◌∷◌, ◌++◌, length, Ok, Err, refl, sym, ap, subst, ◌∙◌, append_assoc, arith}
-use Rattle.std.specs.Prelude.{codes, All}
+use Rattle.std.specs.Prelude.{All}
 use Rattle.std.proofs.lemmas.List.Elements.{All-head, All-tail}
-use Rattle.jc_syntax.specs.declared.token.TokenKind.TheVariants.{Dot}
-use Rattle.jc_rules.specs.Syntax.{Expr, TheDoc}
 use Rattle.jc_parser.specs.declared.fault.ScenarioFault.{ScenarioFault}
-use Rattle.jc_parser.specs.declared.fault.ScenarioFault.TheVariants.{TooLongExpression}
-use Rattle.jc_parser.specs.Symbols.{Symbol, word, dot, semicolon, Lexeme, symbols}
-use Rattle.jc_parser.specs.Reading.{Reading, Outcome, ◌>>=◌, has_kind, is_word, begins_with, skip, one}
-use Rattle.jc_parser.specs.Parts.{selectors_at, expression_at, command_at, items_at}
-use Rattle.jc_parser.specs.Grammar.{IsExpressionText, IsStartText, selector_count}
-use Rattle.jc_parser.proofs.Expressions.{gets, gets_text}
-use Rattle.jc_parser.proofs.Loops.{with_front, with_front-nil, items_full, items_fail, items_next, selectors_full}
-use Rattle.jc_parser.proofs.Spelled.{reading, at_place, First, HasKeys, keys_of, Around, split_one, split_around, split_none, IsPast, not_past, selectors_before}
+use Rattle.jc_parser.specs.Symbols.{Symbol, semicolon, Lexeme, symbols}
+use Rattle.jc_parser.specs.Reading.{Reading, Outcome, begins_with, one}
+use Rattle.jc_parser.specs.Parts.{items_at}
+use Rattle.jc_parser.specs.Words.{IsStartText}
+use Rattle.jc_parser.proofs.Loops.{with_front, with_front-nil, items_full, items_fail, items_next}
+use Rattle.jc_parser.proofs.Spelled.{reading, at_place, Around, split_around, split_none, IsPast, not_past}
 use Rattle.jc_parser.proofs.SpelledLists.{Given, IsItem}
 
 -- ---- items, each with its `;`
@@ -76,30 +72,3 @@ broken p item beyond I n bs w y stop e text few all fits fails =
     let (rs, read) = start_read p item beyond I n bs w y stop text (omega (arith, few)) all in
     let some : n - length bs ≢ 0 = λ z. absurd (omega (arith, z)) in
     read ∙ items_fail p item beyond (n - length bs) (reading stop y) rs e some fits fails
-
--- ---- an expression that is too long
-
-too_long_with : (n : ℕ) (keys : List (List ℕ)) (w : List Lexeme) (x z : Lexeme) (xs : List Lexeme) (stop : ℕ) → length keys ≡ n → symbols w ≡ gets_text keys → x.symbol ≡ dot → z.symbol ≡ word (codes "get") → selectors_at n TheDoc (reading stop (w ++ x ∷ z ∷ xs)) ≡ Err (TooLongExpression x.place)
-too_long_with n keys w x z xs stop full text is_dot is_get =
-    let none : n - length keys ≡ 0 = omega (arith, full) in
-    let fits : has_kind Dot x.symbol ≡ true = ap (has_kind Dot) is_dot in
-    let word_fits : is_word (codes "get") z.symbol ≡ true = ap (is_word (codes "get")) is_get in
-    selectors_before n TheDoc keys w (x ∷ z ∷ xs) stop (omega (arith, full)) text
-    ∙ selectors_full (n - length keys) (gets TheDoc keys) (reading stop (x ∷ z ∷ xs)) none fits
-    ∙ rw word_fits refl
-
-expressions_at : ℕ → Reading → Outcome Expr
-expressions_at n r = skip (is_word (codes "doc")) r >>= λ a. selectors_at n TheDoc a.1
-
-long_expression : (n : ℕ) (e : Expr) (w : List Lexeme) (x z : Lexeme) (xs : List Lexeme) (stop : ℕ) → selector_count e ≡ n → HasKeys e (symbols w) → x.symbol ≡ dot → z.symbol ≡ word (codes "get") → expressions_at n (reading stop (w ++ x ∷ z ∷ xs)) ≡ Err (TooLongExpression x.place)
-unfolding expressions_at one
-long_expression n e w x z xs stop full (keys, same, count, text) is_dot is_get = by_first (split_one w (word (codes "doc")) (gets_text keys) text)
-  where
-    by_first : First w (word (codes "doc")) (gets_text keys) → expressions_at n (reading stop (w ++ x ∷ z ∷ xs)) ≡ Err (TooLongExpression x.place)
-    by_first (p, v, parts, rest) = rw parts (too_long_with n keys v x z xs stop (count ∙ full) rest is_dot is_get)
-
-pub long_command : (e : Expr) (w : List Lexeme) (x z : Lexeme) (xs : List Lexeme) (stop : ℕ) → selector_count e ≡ 256 → IsExpressionText e (symbols w) → x.symbol ≡ dot → z.symbol ≡ word (codes "get") → command_at (reading stop (w ++ x ∷ z ∷ xs)) ≡ Err (TooLongExpression x.place)
-unfolding command_at expression_at expressions_at
-long_command e w x z xs stop full written is_dot is_get =
-    let long : expression_at (reading stop (w ++ x ∷ z ∷ xs)) ≡ Err (TooLongExpression x.place) = long_expression 256 e w x z xs stop full (keys_of e (symbols w) written) is_dot is_get in
-    rw long refl

@@ -13,14 +13,17 @@ use Rattle.jc_parser.specs.declared.fault.ScenarioFault.{ScenarioFault}
 use Rattle.jc_parser.specs.declared.fault.ScenarioFault.TheVariants.{UnknownReplica}
 use Rattle.jc_parser.specs.Symbols.{Symbol, word, semicolon, Lexeme, symbols}
 use Rattle.jc_parser.specs.Reading.{Reading}
-use Rattle.jc_parser.specs.Parts.{whole_at, resolved, Parsed}
-use Rattle.jc_parser.specs.Grammar.{IsEventText, IsStartText, IsText, Tree, IsWithinLimits, head_text, schedule_head}
+use Rattle.jc_parser.specs.FirstParts.{whole_at, resolved, Parsed}
+use Rattle.jc_parser.specs.Grammar.{IsEventText, IsText, Tree, IsWithinLimits, head_text, schedule_head}
+use Rattle.jc_parser.specs.Words.{IsStartText}
 use Rattle.jc_parser.specs.Stops.{IsExcess, IsStranger, IsFault}
 use Rattle.jc_parser.specs.First.{IsOnly}
 use Rattle.jc_parser.proofs.Readers.{bind_ok, bind_err, symbols-append}
 use Rattle.jc_parser.proofs.Scenarios.{names, tree_of}
-use Rattle.jc_parser.proofs.Spelled.{at_place, IsNamed, not_past}
-use Rattle.jc_parser.proofs.SpelledLists.{Stands, Calls}
+use Rattle.jc_parser.proofs.Spelled.{at_place, not_past}
+use Rattle.jc_parser.proofs.FirstSpelled.{IsNamed}
+use Rattle.jc_parser.proofs.SpelledLists.{Stands}
+use Rattle.jc_parser.proofs.FirstSpelledLists.{Calls}
 use Rattle.jc_parser.proofs.SpelledScenarios.{EventsOf, ReadWhole, whole_again}
 use Rattle.jc_parser.proofs.Whole.{whole_ok}
 

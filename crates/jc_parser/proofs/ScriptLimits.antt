@@ -12,14 +12,14 @@ use Rattle.jc_parser.specs.declared.fault.ScenarioFault.TheVariants.{IndexTooLar
 use Rattle.jc_parser.specs.Symbols.{Symbol, word, dot, assign, equals, Lexeme, symbols}
 use Rattle.jc_parser.specs.Reading.{Outcome, ◌>>=◌, has_kind, begins_with, stuck, stuck_at, is_at_end}
 use Rattle.jc_parser.specs.Parts.{ended}
-use Rattle.jc_parser.specs.Grammar.{is_reserved, IsStartText}
+use Rattle.jc_parser.specs.Words.{is_reserved, IsStartText}
 use Rattle.jc_parser.specs.Language.{IsSpelled}
 use Rattle.jc_parser.specs.LanguageParts.{Chain, chain_at, undotted, root_at, expression_at}
 use Rattle.jc_parser.specs.LanguageFaults.{IsExpressionExcess}
 use Rattle.jc_parser.specs.Scripts.{Leads, IsCommandSpelled, IsScriptSpelled, IsScriptWellFormed, AreDone, BeginsCommand, IsCommandPast, IsReservedBinding, IsReservedLead, IsBindingExcess, IsLeadExcess, IsScriptExcess}
 use Rattle.jc_parser.specs.ScriptParts.{finish_at, update_at, command_at, is_misused, crowd_at, commands_at, script_at}
 use Rattle.jc_parser.proofs.Readers.{Begun, bind_err, chosen_err, symbols-append}
-use Rattle.jc_parser.proofs.Limits.{list_more}
+use Rattle.jc_parser.proofs.Items.{list_more}
 use Rattle.jc_parser.proofs.Spelled.{reading, at_place, IsLimitFault, split_one, split_around, split_none}
 use Rattle.jc_parser.proofs.Refused.{crowded, broken}
 use Rattle.jc_parser.proofs.Stopping.{IsLimit}

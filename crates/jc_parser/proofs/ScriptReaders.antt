@@ -13,7 +13,7 @@ use Rattle.jc_parser.specs.declared.fault.ScenarioFault.TheVariants.{ReservedNam
 use Rattle.jc_parser.specs.Symbols.{Symbol, word, dot, open_paren, close_paren, open_brace, close_brace, open_bracket, close_bracket, assign, equals, Lexeme}
 use Rattle.jc_parser.specs.Reading.{Reading, Outcome, ◌>>=◌, has_kind, is_word, reserved, begins_with, place_at, one, skip}
 use Rattle.jc_parser.specs.Parts.{name_at}
-use Rattle.jc_parser.specs.Grammar.{is_reserved, IsValueText}
+use Rattle.jc_parser.specs.Words.{is_reserved, IsValueText}
 use Rattle.jc_parser.specs.Language.{Selector, by_key, by_index, by_keys, by_values, is_selector, extended, IsSpelled, HasLegalParts, IsWellFormed}
 use Rattle.jc_parser.specs.LanguageParts.{Chain, chain_at, step_at, expression_at}
 use Rattle.jc_parser.specs.LanguageFaults.{IsExpressionExcess}
@@ -21,7 +21,7 @@ use Rattle.jc_parser.specs.Scripts.{IsValueSpelled, Leads, IsCommandSpelled, IsC
 use Rattle.jc_parser.specs.ScriptParts.{empty_at, any_value_at, binding_at, assignment_at, insertion_at, deletion_at, finish_at, update_at, yield_at, command_at, is_misused}
 use Rattle.jc_parser.proofs.Readers.{Language, Excess, Never, Reads, Took, Stopped, same_begins, fault_as, read_as, ok_parts, took_if, reads_symbol, reads_then, reads_if, reads_done, reads_map, reads_refused, reads_same, reads_as, reads_more}
 use Rattle.jc_parser.proofs.Expressions.{kind_is, word_is, Within, within, OneMore, reads_value}
-use Rattle.jc_parser.proofs.Scenarios.{IsTaken, reads_name}
+use Rattle.jc_parser.proofs.Names.{IsTaken, reads_name}
 use Rattle.jc_parser.proofs.Spelled.{reading}
 use Rattle.jc_parser.proofs.LanguageTests.{or_none}
 use Rattle.jc_parser.proofs.LanguageReaders.{within-both, IsLegal, extends, AreSelectors, AreLegal, Steps, ChainExcess, DotExcess, excess_more, reads_step}

@@ -12,7 +12,7 @@ use Rattle.jc_parser.specs.declared.fault.ScenarioFault.TheVariants.{ReservedNam
 use Rattle.jc_parser.specs.Symbols.{Symbol, word, number, string, dot, open_paren, close_paren, open_brace, close_brace, open_bracket, close_bracket, assign, equals, Lexeme, symbols}
 use Rattle.jc_parser.specs.Reading.{Reading, ◌>>=◌, has_kind, begins_with, one, named_at}
 use Rattle.jc_parser.specs.Parts.{value_at, name_at, ended}
-use Rattle.jc_parser.specs.Grammar.{is_reserved, IsValueText}
+use Rattle.jc_parser.specs.Words.{is_reserved, IsValueText}
 use Rattle.jc_parser.specs.Language.{is_selector, IsSpelled, IsWellFormed}
 use Rattle.jc_parser.specs.LanguageParts.{chain_at, root_at, expression_at}
 use Rattle.jc_parser.specs.Scripts.{IsValueSpelled, Leads, IsCommandSpelled, IsCommandWellFormed, IsScriptSpelled, IsScriptWellFormed}

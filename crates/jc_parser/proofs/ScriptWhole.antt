@@ -12,7 +12,7 @@ use Rattle.jc_parser.specs.declared.fault.ScenarioFault.{ScenarioFault}
 use Rattle.jc_parser.specs.declared.fault.ScenarioFault.TheVariants as all
 use Rattle.jc_parser.specs.Symbols.{Symbol, word, equals, Lexeme, symbols}
 use Rattle.jc_parser.specs.Reading.{Reading, Gives, value_of, has_kind}
-use Rattle.jc_parser.specs.Grammar.{is_reserved, IsListText, IsStartText}
+use Rattle.jc_parser.specs.Words.{is_reserved, IsListText, IsStartText}
 use Rattle.jc_parser.specs.Faults.{IsOfSentence}
 use Rattle.jc_parser.specs.Scripts.{IsCommandSpelled, IsCommandWellFormed, IsScriptSpelled, IsScriptWellFormed, AreDone, BeginsCommand, IsScriptExcess}
 use Rattle.jc_parser.specs.ScriptParts.{is_misused, crowd_at, commands_at, script_at, only_script_at}
@@ -20,7 +20,7 @@ use Rattle.jc_parser.specs.Sentences.{IsStopped}
 use Rattle.jc_parser.proofs.Readers.{Reads, reads_as, reads_more}
 use Rattle.jc_parser.proofs.Expressions.{kind_is, Within}
 use Rattle.jc_parser.proofs.Items.{Lists, ListExcess, reads_items, list_give, list_all, start_give, start_all}
-use Rattle.jc_parser.proofs.Excess.{reserved_is}
+use Rattle.jc_parser.proofs.Names.{reserved_is}
 use Rattle.jc_parser.proofs.LanguageTests.{both_true, untrue}
 use Rattle.jc_parser.proofs.LanguageWhole.{excess_is}
 use Rattle.jc_parser.proofs.ScriptReaders.{Commands, CommandExcess, reads_command}

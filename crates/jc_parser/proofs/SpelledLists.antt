@@ -1,18 +1,16 @@
 -- What is spelled is read: lists and scenarios.
 use Rattle.std.proofs.Common.{◌≡◌, ℕ, zero, suc, ◌≤◌, ◌⊎◌, inl, inr, Bool, true, false, List, [], ◌∷◌, ◌++◌, length, Ok, refl, sym, ap, subst, ◌∙◌, append_assoc, arith}
-use Rattle.std.specs.Prelude.{codes, All}
+use Rattle.std.specs.Prelude.{All}
 use Rattle.std.proofs.lemmas.List.Elements.{All-head, All-tail}
-use Rattle.jc_syntax.specs.declared.token.TokenKind.TheVariants.{Name, Dot, Semi}
-use Rattle.jc_syntax.specs.declared.tree.Named.{Named}
+use Rattle.jc_syntax.specs.declared.token.TokenKind.TheVariants.{Dot, Semi}
 use Rattle.jc_parser.specs.declared.fault.ScenarioFault.{ScenarioFault}
 use Rattle.jc_parser.specs.Symbols.{Symbol, semicolon, Lexeme, symbols}
-use Rattle.jc_parser.specs.Reading.{Reading, Outcome, has_kind, is_word, begins_with, one}
-use Rattle.jc_parser.specs.Parts.{command_at, event_at, items_at}
-use Rattle.jc_parser.specs.Grammar.{IsCommandText, IsEventText, IsListText, IsShort}
+use Rattle.jc_parser.specs.Reading.{Reading, Outcome, has_kind, begins_with, one}
+use Rattle.jc_parser.specs.Parts.{items_at}
+use Rattle.jc_parser.specs.Words.{IsListText}
 use Rattle.jc_parser.proofs.Expressions.{Within, within-map}
 use Rattle.jc_parser.proofs.Loops.{with_front-nil, items_done}
-use Rattle.jc_parser.proofs.Scenarios.{names}
-use Rattle.jc_parser.proofs.Spelled.{reading, at_place, split_around, split_none, IsLimitFault, IsPast, past_then, IsNamed, command_again, command_first, event_again, event_first}
+use Rattle.jc_parser.proofs.Spelled.{reading, at_place, split_around, split_none, IsLimitFault, IsPast, past_then}
 
 -- ---- items
 
@@ -93,34 +91,9 @@ items_again {L} {V} {P} p item beyond I limits (suc n) k (b ∷ bs) w y stop (u,
 abbrev pub Same : {A : Type 0} → Given A A
 Same a b w = a ≡ b
 
-abbrev pub Calls : Given Named (List ℕ)
-Calls e name w = (e.name ≡ name) × IsNamed e w
-
-abbrev pub Any : List ℕ → Type 0
-Any name = Unit {0}
-
-pub commands_are : IsItem (is_word (codes "doc")) command_at IsCommandText Same IsShort
-commands_are = record {
-  again = λ k c w y stop l few no_dot. elim (command_again k c w y stop l few) [ inl read ↦ inl (c, refl, read) | inr past ↦ inr past ];
-  first = λ c w y l. command_first c w y l;
-}
-
-pub events_are : IsItem (has_kind Name) event_at IsEventText Calls Any
-events_are = record {
-  again = λ k name w y stop l few no_dot. let (e, same, stands, read) = event_again name w y stop l in inl (e, (same, stands), read);
-  first = λ name w y l. event_first name w y l;
-}
-
 pub same_items : {A : Type 0} (L : A → List Symbol → Type 0) (rs bs : List A) (w : List Lexeme) → Stands Same L rs bs w → rs ≡ bs
 same_items L [] [] w s = refl
 same_items L [] (b ∷ bs) w s = absurd s
 same_items L (a ∷ rs) [] w s = absurd s
 same_items L (a ∷ rs) (b ∷ bs) w (u, same, l, inl (e, f, text)) = rw (same, e, f) refl
 same_items L (a ∷ rs) (b ∷ bs) w (u, same, l, inr (q, v, text, rest)) = rw (same, same_items L rs bs v rest) refl
-
-pub same_names : (es : List Named) (ns : List (List ℕ)) (w : List Lexeme) → Stands Calls IsEventText es ns w → names es ≡ ns
-same_names [] [] w s = refl
-same_names [] (n ∷ ns) w s = absurd s
-same_names (e ∷ es) [] w s = absurd s
-same_names (e ∷ es) (n ∷ ns) w (u, (same, stands), l, inl (none, nil, text)) = rw (same, none, nil) refl
-same_names (e ∷ es) (n ∷ ns) w (u, (same, stands), l, inr (q, v, text, rest)) = rw (same, same_names es ns v rest) refl

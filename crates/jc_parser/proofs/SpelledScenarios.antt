@@ -9,13 +9,16 @@ use Rattle.jc_parser.specs.declared.fault.ScenarioFault.{ScenarioFault}
 use Rattle.jc_parser.specs.declared.fault.ScenarioFault.TheVariants.{ReservedName, TooManyCommands, TooManyEvents}
 use Rattle.jc_parser.specs.Symbols.{Symbol, word, number, open_brace, close_brace, Lexeme, symbols}
 use Rattle.jc_parser.specs.Reading.{Reading, Outcome, ◌>>=◌, has_kind, is_word, place, skip, one, named_at}
-use Rattle.jc_parser.specs.Parts.{command_at, event_at, commands_at, events_at, name_at, front_at, replica_at, schedule_at, block_at, ended, whole_at, Parsed}
-use Rattle.jc_parser.specs.Grammar.{is_reserved, IsCommandText, IsEventText, IsListText, IsScheduleText, IsText, Tree, IsWithinLimits, head_text, schedule_head}
+use Rattle.jc_parser.specs.FirstParts.{command_at, event_at, commands_at, events_at, replica_at, schedule_at, block_at, whole_at, Parsed}
+use Rattle.jc_parser.specs.Parts.{name_at, front_at, ended}
+use Rattle.jc_parser.specs.Words.{is_reserved, IsListText}
+use Rattle.jc_parser.specs.Grammar.{IsCommandText, IsEventText, IsScheduleText, IsText, Tree, IsWithinLimits, head_text, schedule_head}
 use Rattle.jc_parser.proofs.Readers.{bind_assoc, symbols-append}
 use Rattle.jc_parser.proofs.Expressions.{Within, within, within-map}
 use Rattle.jc_parser.proofs.Scenarios.{names, tree_of, parsed, block_with, schedule_with, body_with, replica_with}
 use Rattle.jc_parser.proofs.Spelled.{reading, at_place, First, split_one, split_around, split_symbols, split_none, IsPast, past_then}
-use Rattle.jc_parser.proofs.SpelledLists.{Stands, ReadList, IsAfterList, items_again, Same, Calls, Any, commands_are, events_are, same_items, same_names}
+use Rattle.jc_parser.proofs.SpelledLists.{Stands, ReadList, IsAfterList, items_again, Same, same_items}
+use Rattle.jc_parser.proofs.FirstSpelledLists.{Calls, Any, commands_are, events_are, same_names}
 
 -- ---- schedules
 

@@ -14,7 +14,7 @@ use Rattle.jc_parser.specs.TreeParts.{is_among, known}
 use Rattle.jc_parser.proofs.Expressions.{kind_is}
 use Rattle.jc_parser.proofs.Items.{start_map, start_all}
 use Rattle.jc_parser.proofs.LanguageTests.{both_true, untrue}
-use Rattle.jc_parser.proofs.Excess.{reserved_is}
+use Rattle.jc_parser.proofs.Names.{reserved_is}
 use Rattle.jc_parser.proofs.CallReaders.{Calls}
 use Rattle.jc_parser.proofs.TreeReaders.{IsNew, new_is, IsRefusedName, PartExcess, BlockExcess}
 use Rattle.jc_parser.proofs.TreeTails.{replica, AreNew, CrowdExcess, TailExcess, AfterExcess}

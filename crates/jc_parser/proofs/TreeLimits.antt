@@ -12,7 +12,7 @@ use Rattle.jc_parser.specs.declared.fault.ScenarioFault.TheVariants.{IndexTooLar
 use Rattle.jc_parser.specs.Symbols.{Symbol, word, dot, open_brace, close_brace, Lexeme, symbols}
 use Rattle.jc_parser.specs.Reading.{Outcome, ◌>>=◌, has_kind, begins_with, place, stuck, is_at_end, one, named_at}
 use Rattle.jc_parser.specs.Parts.{ended}
-use Rattle.jc_parser.specs.Grammar.{is_reserved, IsStartText}
+use Rattle.jc_parser.specs.Words.{is_reserved, IsStartText}
 use Rattle.jc_parser.specs.Scripts.{IsScriptExcess}
 use Rattle.jc_parser.specs.ScriptParts.{closed_script_at}
 use Rattle.jc_parser.specs.ClosedScripts.{IsClosedSpelled}
@@ -24,7 +24,7 @@ use Rattle.jc_parser.specs.TreeParts.{is_among, other_name_at, new_name_at, body
 use Rattle.jc_parser.proofs.Readers.{Language, chosen_err, symbols-append}
 use Rattle.jc_parser.proofs.Spelled.{reading, at_place, First, split_one, split_around, split_symbols, split_none, IsLimitFault}
 use Rattle.jc_parser.proofs.Stopping.{IsLimit}
-use Rattle.jc_parser.proofs.Limits.{list_more}
+use Rattle.jc_parser.proofs.Items.{list_more}
 use Rattle.jc_parser.proofs.Refused.{crowded, broken}
 use Rattle.jc_parser.proofs.ScriptLimits.{same_first}
 use Rattle.jc_parser.proofs.ClosedScriptLaws.{has_limits as script_limits, excess_limit, no_stuck}

@@ -11,7 +11,7 @@ use Rattle.jc_parser.specs.declared.fault.ScenarioFault.TheVariants.{TooManyRepl
 use Rattle.jc_parser.specs.declared.trees.NamedReplica.{NamedReplica}
 use Rattle.jc_parser.specs.Symbols.{Symbol, word, Lexeme}
 use Rattle.jc_parser.specs.Reading.{Reading, Outcome, Gives, ◌>>=◌, begins, place_at, one, skip, named_at}
-use Rattle.jc_parser.specs.Grammar.{is_reserved}
+use Rattle.jc_parser.specs.Words.{is_reserved}
 use Rattle.jc_parser.specs.Trees.{Part, NamedTree}
 use Rattle.jc_parser.specs.TreeParts.{is_among, other_name_at, new_name_at, part_at, schedule_at, tree, with_part, crowd_at, tail_at, rest_at}
 use Rattle.jc_parser.specs.TreeViews.{part_view, names_of}

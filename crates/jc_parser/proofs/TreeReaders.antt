@@ -13,7 +13,7 @@ use Rattle.jc_parser.specs.declared.fault.ScenarioFault.{ScenarioFault}
 use Rattle.jc_parser.specs.declared.fault.ScenarioFault.TheVariants.{ReservedName, SameName, TooManyEvents}
 use Rattle.jc_parser.specs.Symbols.{Symbol, word, open_brace, close_brace, Lexeme}
 use Rattle.jc_parser.specs.Reading.{Reading, Outcome, ◌>>=◌, has_kind, value_of, is_word, reserved, begins_with, place_at, place, one, skip, named_at}
-use Rattle.jc_parser.specs.Grammar.{is_reserved}
+use Rattle.jc_parser.specs.Words.{is_reserved}
 use Rattle.jc_parser.specs.Scripts.{IsScriptWellFormed, IsScriptExcess}
 use Rattle.jc_parser.specs.ScriptParts.{closed_script_at}
 use Rattle.jc_parser.specs.ClosedScripts.{IsClosedSpelled}

@@ -7,7 +7,7 @@ use Rattle.jc_syntax.specs.declared.tree.NamedEvent.{NamedEvent}
 use Rattle.jc_parser.specs.declared.fault.ScenarioFault.TheVariants.{ReservedName, SameName, TooManyReplicas, TooManyEvents}
 use Rattle.jc_parser.specs.Symbols.{Symbol, word, open_brace, close_brace, Lexeme, symbols}
 use Rattle.jc_parser.specs.Reading.{Reading, Outcome, ◌>>=◌, has_kind, begins_with, place, one, named_at}
-use Rattle.jc_parser.specs.Grammar.{is_reserved, IsListText}
+use Rattle.jc_parser.specs.Words.{is_reserved, IsListText}
 use Rattle.jc_parser.specs.Scripts.{IsScriptWellFormed}
 use Rattle.jc_parser.specs.ScriptParts.{closed_script_at}
 use Rattle.jc_parser.specs.ClosedScripts.{IsClosedSpelled}

@@ -7,7 +7,8 @@ use Rattle.jc_parser.specs.declared.fault.ScenarioFault.{ScenarioFault}
 use Rattle.jc_parser.specs.declared.fault.ScenarioFault.TheVariants.{NoHeader, NoReplica, Unexpected, EndOfText}
 use Rattle.jc_parser.specs.Symbols.{Symbol, word, number, dot, open_brace, close_brace, Lexeme, symbols}
 use Rattle.jc_parser.specs.Reading.{Reading, ◌>>=◌, is_word, is_number, begins_with, place_at, stuck_at, stuck, no_more, is_at_end}
-use Rattle.jc_parser.specs.Parts.{front_at, skip_or, replica_at, ended, whole_at, Parsed}
+use Rattle.jc_parser.specs.Parts.{front_at, skip_or, ended}
+use Rattle.jc_parser.specs.FirstParts.{replica_at, whole_at, Parsed}
 use Rattle.jc_parser.specs.Grammar.{IsText, Tree, IsWithinLimits, IsShort}
 use Rattle.jc_parser.specs.Stops.{IsPrefix, IsPrefixWithin, IsBeginning, IsMisfit, IsMisplaced, IsExcess, IsFault}
 use Rattle.jc_parser.proofs.Readers.{bind_ok, bind_err, chosen_ok, chosen_err, SameHead, same_stuck, symbols-append, IsKept, Begun}

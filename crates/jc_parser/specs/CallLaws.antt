@@ -1,5 +1,5 @@
 -- What the definitions of events promise by themselves.
-use Rattle.std.specs.Prelude.{◌≡◌, ℕ, List}
+use Rattle.std.specs.Prelude.{◌≡◌, ◌≤◌, ◌⊎◌, ℕ, List, length}
 use Rattle.jc_syntax.specs.declared.token.Token.{Token}
 use Rattle.jc_syntax.specs.declared.tree.NamedEvent.{NamedEvent}
 use Rattle.jc_parser.specs.declared.fault.ScenarioFault.{ScenarioFault}
@@ -12,6 +12,11 @@ OneEvent = (text : List ℕ) (e other : NamedEvent) → IsEventOf text e → IsE
 -- A text that is an event has no fault.
 abbrev pub EventOrFault : Type 0
 EventOrFault = (text : List ℕ) (e : NamedEvent) (fault : ScenarioFault) → IsEventOf text e → IsEventFault text fault → ⊥
+
+-- A text that is no event has a fault.
+abbrev pub EventElseFault : Type 0
+EventElseFault =
+    (text : List ℕ) → ((e : NamedEvent) × IsEventOf text e) ⊎ ((fault : ScenarioFault) × IsEventFault text fault)
 
 -- A text that is no event has one fault at most, at one place.
 abbrev pub OneEventFault : Type 0
@@ -33,6 +38,14 @@ EventOrFaultAt =
     → IsEventAt text tokens from e next
     → IsEventFaultAt text tokens from fault
     → ⊥
+
+-- From each token on stands an event, or there is a fault.
+abbrev pub EventElseFaultAt : Type 0
+EventElseFaultAt =
+    (text : List ℕ) (tokens : List Token) (from : ℕ)
+    → from ≤ length tokens
+    → ((e : NamedEvent) × (next : ℕ) × IsEventAt text tokens from e next)
+    ⊎ ((fault : ScenarioFault) × IsEventFaultAt text tokens from fault)
 
 -- Where no event stands among the tokens, there is one fault at most, at one place.
 abbrev pub OneEventFaultAt : Type 0

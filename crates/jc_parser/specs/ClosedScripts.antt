@@ -1,5 +1,5 @@
 -- A script among the tokens of a text, with the closing brace behind it.
-use Rattle.std.specs.Prelude.{◌≡◌, ℕ, ◌+◌, ◌≤◌, ◌<◌, List, [], ◌∷◌, ◌++◌, length, drop, slice_range}
+use Rattle.std.specs.Prelude.{◌≡◌, ℕ, ◌+◌, ◌≤◌, ◌<◌, ◌⊎◌, List, [], ◌∷◌, ◌++◌, length, drop, slice_range}
 use Rattle.jc_syntax.specs.declared.token.Token.{Token}
 use Rattle.jc_rules.specs.Syntax.{Cmd}
 use Rattle.jc_parser.specs.declared.fault.ScenarioFault.{ScenarioFault}
@@ -60,6 +60,14 @@ ScriptOrFaultAt =
     → IsScriptAt text tokens from script brace
     → IsScriptFaultAt text tokens from fault
     → ⊥
+
+-- From each token on stands a script, or there is a fault.
+abbrev pub ScriptElseFaultAt : Type 0
+ScriptElseFaultAt =
+    (text : List ℕ) (tokens : List Token) (from : ℕ)
+    → from ≤ length tokens
+    → ((script : List Cmd) × (brace : ℕ) × IsScriptAt text tokens from script brace)
+    ⊎ ((fault : ScenarioFault) × IsScriptFaultAt text tokens from fault)
 
 -- Where no script stands among the tokens, there is one fault at most, at one place.
 abbrev pub OneScriptFaultAt : Type 0

@@ -1,44 +1,15 @@
 -- What a scenario is written with. The trees are those of the whole language; this grammar has some of them.
-use Rattle.std.specs.Prelude.{◌≡◌, ℕ, suc, ◌≤◌, ◌⊎◌, List, [], ◌∷◌, ◌++◌, length, codes, Bool, false, ◌||◌, All}
-use Rattle.std.specs.Str.{bytes_eq}
-use Rattle.jc_rules.specs.declared.value.Value.{Value}
-use Rattle.jc_rules.specs.declared.value.Value.TheVariants as values
-use Rattle.jc_rules.specs.Syntax.{Expr, TheDoc, Variable, GetKey, Index, KeysOf, ValuesOf, Cmd, LetIn, SetTo, InsertAfter, DeleteAt, Yield}
-use Rattle.jc_parser.specs.Symbols.{Symbol, word, number, string, dot, open_paren, close_paren, open_brace, close_brace, semicolon, assign}
-
-abbrev pub is_reserved : List ℕ → Bool
-is_reserved name =
-    bytes_eq name (codes "let")
-    || (bytes_eq name (codes "doc")
-    || (bytes_eq name (codes "yield")
-    || (bytes_eq name (codes "get")
-    || (bytes_eq name (codes "idx")
-    || (bytes_eq name (codes "keys")
-    || (bytes_eq name (codes "values")
-    || (bytes_eq name (codes "insertAfter")
-    || (bytes_eq name (codes "delete")
-    || (bytes_eq name (codes "true")
-    || (bytes_eq name (codes "false")
-    || bytes_eq name (codes "null")))))))))))
+use Rattle.std.specs.Prelude.{◌≡◌, ℕ, ◌≤◌, ◌⊎◌, List, [], ◌∷◌, ◌++◌, length, codes, false, All}
+use Rattle.jc_rules.specs.Syntax.{Expr, TheDoc, GetKey, Cmd, LetIn, SetTo, InsertAfter, DeleteAt, Yield}
+use Rattle.jc_parser.specs.Symbols.{Symbol, word, number, dot, open_brace, close_brace, assign}
+use Rattle.jc_parser.specs.Words.{get_text, IsValueText, IsListText, selector_count, is_reserved}
 
 -- ---- expressions and commands
-
--- the selector `get`
-abbrev pub get_text : List ℕ → List Symbol
-get_text key = dot ∷ word (codes "get") ∷ open_paren ∷ string key ∷ close_paren ∷ []
 
 abbrev pub IsExpressionText : Expr → List Symbol → Type 0
 IsExpressionText TheDoc w = w ≡ word (codes "doc") ∷ []
 IsExpressionText (GetKey e key) w = (u : List Symbol) × IsExpressionText e u × (w ≡ u ++ get_text key)
 IsExpressionText e w = ⊥
-
-abbrev pub IsValueText : Value → List Symbol → Type 0
-IsValueText (values.Number n) w = w ≡ number n ∷ []
-IsValueText (values.Str s) w = w ≡ string s ∷ []
-IsValueText values.True w = w ≡ word (codes "true") ∷ []
-IsValueText values.False w = w ≡ word (codes "false") ∷ []
-IsValueText values.Null w = w ≡ word (codes "null") ∷ []
-IsValueText v w = ⊥
 
 abbrev pub IsCommandText : Cmd → List Symbol → Type 0
 IsCommandText (SetTo e v) w =
@@ -48,21 +19,6 @@ IsCommandText c w = ⊥
 -- the event `exec` of the replica with this name
 abbrev pub IsEventText : List ℕ → List Symbol → Type 0
 IsEventText name w = w ≡ word name ∷ dot ∷ word (codes "exec") ∷ []
-
--- ---- lists
-
--- Items parted by `;`. After the last one a `;` may stand or not.
-abbrev pub IsListText : {A : Type 0} → (A → List Symbol → Type 0) → List A → List Symbol → Type 0
-IsListText L [] w = w ≡ []
-IsListText L (x ∷ xs) w =
-    (u : List Symbol)
-    × L x u
-    × (((xs ≡ []) × (w ≡ u)) ⊎ ((v : List Symbol) × (w ≡ u ++ semicolon ∷ v) × IsListText L xs v))
-
--- items, and a `;` after each of them
-abbrev pub IsStartText : {A : Type 0} → (A → List Symbol → Type 0) → List A → List Symbol → Type 0
-IsStartText L [] w = w ≡ []
-IsStartText L (x ∷ xs) w = (u : List Symbol) × (v : List Symbol) × L x u × (w ≡ u ++ semicolon ∷ v) × IsStartText L xs v
 
 -- ---- scenarios
 
@@ -93,14 +49,6 @@ IsText t w =
     × (w ≡ head_text t.name ++ (u ++ v))
 
 -- ---- limits
-
-abbrev pub selector_count : Expr → ℕ
-selector_count TheDoc = 0
-selector_count (Variable name) = 0
-selector_count (GetKey e key) = suc (selector_count e)
-selector_count (Index e i) = suc (selector_count e)
-selector_count (KeysOf e) = suc (selector_count e)
-selector_count (ValuesOf e) = suc (selector_count e)
 
 -- the selectors of a command's expression
 abbrev pub selectors_in : Cmd → ℕ

@@ -5,7 +5,7 @@ use Rattle.std.specs.Str.Parse.{digits_value}
 use Rattle.jc_rules.specs.Syntax.{Expr, TheDoc, Variable, GetKey, Index, KeysOf, ValuesOf}
 use Rattle.jc_parser.specs.Symbols.{Symbol, word, number, dot, open_paren, close_paren}
 use Rattle.jc_parser.specs.Reading.{is_word}
-use Rattle.jc_parser.specs.Grammar.{is_reserved, get_text, selector_count}
+use Rattle.jc_parser.specs.Words.{is_reserved, get_text, selector_count}
 
 -- ---- numbers
 

@@ -5,7 +5,7 @@ use Rattle.jc_rules.specs.Syntax.{Expr}
 use Rattle.jc_parser.specs.declared.fault.ScenarioFault.{ScenarioFault}
 use Rattle.jc_parser.specs.declared.fault.ScenarioFault.TheVariants.{IndexTooLarge, ReservedName, TooLongExpression}
 use Rattle.jc_parser.specs.Symbols.{Symbol, word, number, dot, open_paren, Lexeme}
-use Rattle.jc_parser.specs.Grammar.{is_reserved, selector_count}
+use Rattle.jc_parser.specs.Words.{is_reserved, selector_count}
 use Rattle.jc_parser.specs.Language.{is_numeral, numeral_value, is_selector, IsSpelled, IsWellFormed}
 use Rattle.jc_parser.specs.Sentences.{IsSentence, IsSentenceFault}
 

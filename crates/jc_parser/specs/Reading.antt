@@ -7,7 +7,7 @@ use Rattle.jc_syntax.specs.declared.token.TokenKind.TheVariants.{Name, Number, S
 use Rattle.jc_parser.specs.declared.fault.ScenarioFault.{ScenarioFault}
 use Rattle.jc_parser.specs.declared.fault.ScenarioFault.TheVariants.{Unexpected, EndOfText, Memory}
 use Rattle.jc_syntax.specs.declared.tree.Named.{Named}
-use Rattle.jc_parser.specs.Grammar.{is_reserved}
+use Rattle.jc_parser.specs.Words.{is_reserved}
 use Rattle.jc_parser.specs.Symbols.{Symbol, word, number, string, dot, open_paren, close_paren, open_brace, close_brace, open_bracket, close_bracket, comma, semicolon, assign, equals, Lexeme, lexemes}
 
 -- the lexemes that are left, and the length of the text

@@ -7,7 +7,7 @@ use Rattle.jc_rules.specs.Syntax.{Expr, TheDoc, Variable, GetKey, Index, KeysOf,
 use Rattle.jc_parser.specs.declared.fault.ScenarioFault.{ScenarioFault}
 use Rattle.jc_parser.specs.declared.fault.ScenarioFault.TheVariants.{ReservedName, TooManyCommands}
 use Rattle.jc_parser.specs.Symbols.{Symbol, word, dot, open_paren, close_paren, open_brace, close_brace, open_bracket, close_bracket, assign, equals, Lexeme}
-use Rattle.jc_parser.specs.Grammar.{is_reserved, IsValueText, IsListText, IsStartText}
+use Rattle.jc_parser.specs.Words.{is_reserved, IsValueText, IsListText, IsStartText}
 use Rattle.jc_parser.specs.Language.{IsSpelled, IsWellFormed}
 use Rattle.jc_parser.specs.LanguageFaults.{IsExpressionExcess}
 use Rattle.jc_parser.specs.Sentences.{IsSentence, IsSentenceFault}

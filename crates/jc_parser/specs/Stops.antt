@@ -5,7 +5,8 @@ use Rattle.jc_parser.specs.declared.fault.ScenarioFault.{ScenarioFault}
 use Rattle.jc_parser.specs.declared.fault.ScenarioFault.TheVariants.{ReservedName, TooManyCommands, TooLongExpression, NoHeader, NoReplica, UnknownReplica, TooManyEvents}
 use Rattle.jc_parser.specs.Symbols.{Symbol, word, number, dot, Lexeme, symbols}
 use Rattle.jc_parser.specs.Reading.{Reading, place_at, stuck_at}
-use Rattle.jc_parser.specs.Grammar.{is_reserved, IsExpressionText, IsCommandText, IsEventText, IsListText, IsStartText, Tree, head_text, schedule_head, IsText, selector_count, IsWithinLimits}
+use Rattle.jc_parser.specs.Words.{is_reserved, IsListText, IsStartText, selector_count}
+use Rattle.jc_parser.specs.Grammar.{IsExpressionText, IsCommandText, IsEventText, Tree, head_text, schedule_head, IsText, IsWithinLimits}
 
 -- ---- what fits nothing
 

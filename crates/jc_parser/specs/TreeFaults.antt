@@ -6,7 +6,7 @@ use Rattle.jc_parser.specs.declared.fault.ScenarioFault.{ScenarioFault}
 use Rattle.jc_parser.specs.declared.fault.ScenarioFault.TheVariants.{ReservedName, NoHeader, SameName, NoReplica, TooManyReplicas, TooManyEvents}
 use Rattle.jc_parser.specs.Symbols.{Symbol, word, dot, Lexeme, symbols}
 use Rattle.jc_parser.specs.Reading.{Reading, place_at, stuck_at}
-use Rattle.jc_parser.specs.Grammar.{is_reserved, IsStartText}
+use Rattle.jc_parser.specs.Words.{is_reserved, IsStartText}
 use Rattle.jc_parser.specs.Scripts.{IsScriptExcess}
 use Rattle.jc_parser.specs.Calls.{Call, IsCallSpelled, IsCallWellFormed, IsCallExcess}
 use Rattle.jc_parser.specs.Sentences.{Begins, FitsNothing}

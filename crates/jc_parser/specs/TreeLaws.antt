@@ -1,5 +1,5 @@
 -- What the definitions of scenarios of several replicas promise by themselves.
-use Rattle.std.specs.Prelude.{◌≡◌}
+use Rattle.std.specs.Prelude.{◌≡◌, ◌⊎◌}
 use Rattle.jc_parser.specs.declared.fault.ScenarioFault.{ScenarioFault}
 use Rattle.jc_parser.specs.Reading.{Reading}
 use Rattle.jc_parser.specs.Trees.{NamedTree, IsNamedTree}
@@ -12,6 +12,10 @@ OneNamedTree = (r : Reading) (t other : NamedTree) → IsNamedTree r t → IsNam
 -- Tokens that are a scenario have no fault.
 abbrev pub NamedTreeOrFault : Type 0
 NamedTreeOrFault = (r : Reading) (t : NamedTree) (fault : ScenarioFault) → IsNamedTree r t → IsTreeFault r fault → ⊥
+
+-- Tokens that are no scenario have a fault.
+abbrev pub NamedTreeElseFault : Type 0
+NamedTreeElseFault = (r : Reading) → ((t : NamedTree) × IsNamedTree r t) ⊎ ((fault : ScenarioFault) × IsTreeFault r fault)
 
 -- Tokens have one fault at most, at one place.
 abbrev pub OneTreeFault : Type 0

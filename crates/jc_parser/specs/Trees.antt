@@ -5,7 +5,7 @@ use Rattle.jc_rules.specs.Syntax.{Cmd}
 use Rattle.jc_syntax.specs.declared.tree.NamedEvent.{NamedEvent}
 use Rattle.jc_parser.specs.Symbols.{Symbol, word, number, open_brace, close_brace, semicolon, Lexeme, symbols}
 use Rattle.jc_parser.specs.Reading.{Reading}
-use Rattle.jc_parser.specs.Grammar.{is_reserved, IsListText}
+use Rattle.jc_parser.specs.Words.{is_reserved, IsListText}
 use Rattle.jc_parser.specs.Scripts.{IsScriptWellFormed}
 use Rattle.jc_parser.specs.ClosedScripts.{IsClosedSpelled}
 use Rattle.jc_parser.specs.Calls.{Call, call_of, IsCallSpelled, IsCallWellFormed, IsEvent}

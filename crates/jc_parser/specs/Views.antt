@@ -1,16 +1,10 @@
 -- What contracts see of what was parsed.
-use Rattle.std.specs.Prelude.{map}
-use Rattle.jc_syntax.specs.Trees.{expr_of, cmd_of}
-use Rattle.jc_parser.specs.declared.parser.Parsed as code
+use Rattle.jc_syntax.specs.Trees.{expr_of}
 use Rattle.jc_parser.specs.declared.language.Selector as language
 use Rattle.jc_parser.specs.declared.language.Selector.TheVariants as selectors
 use Rattle.jc_parser.specs.declared.language.Chain as chains
-use Rattle.jc_parser.specs.Parts.{Parsed}
 use Rattle.jc_parser.specs.Language.{Selector, by_key, by_index, by_keys, by_values}
 use Rattle.jc_parser.specs.LanguageParts.{Chain}
-
-abbrev pub parsed_view : code.Parsed → Parsed
-parsed_view p = record { name = p.name; script = map cmd_of p.script.items; events = p.events.items }
 
 abbrev pub selector_view : language.Selector → Selector
 selector_view (selectors.Get key) = by_key key

@@ -5,8 +5,8 @@ ghost use Rattle.std.specs.Str.{all_ascii_digits};
 ghost use Rattle.jc_syntax.specs.declared.token.TokenKind.TheVariants.{Number, Str};
 ghost use Rattle.jc_syntax.specs.Lexemes.{IsTokenOf};
 ghost use Rattle.jc_parser.specs.Reading.{Gives, reading, place, stuck, begins, has_kind, is_word, is_number, reserved, skip, take, named_at, is_at_end};
-ghost use Rattle.jc_parser.specs.Parts.{extra_selector};
-ghost use Rattle.jc_parser.specs.Grammar as grammar;
+ghost use Rattle.jc_parser.specs.FirstParts.{extra_selector};
+ghost use Rattle.jc_parser.specs.Words as words;
 ghost use Rattle.jc_parser.specs.Language as language;
 ghost use Rattle.jc_parser.specs.Language.{numeral_value};
 ghost use Rattle.jc_parser.specs.LanguageParts.{index_at};
@@ -280,7 +280,7 @@ fn text_of(alloc: Global, text: &str) -> Result<Text, AllocError>
 
 /// Whether a name is one of the language's words.
 fn is_reserved(name: &str) -> bool
-    ensures { result ≡ grammar.is_reserved name.now }
+    ensures { result ≡ words.is_reserved name.now }
 {
     match name {
         "let"

@@ -4,13 +4,13 @@ ghost use Rattle.std.specs.Prelude.{◌≡◌, ◌≢◌, IfOk, IfErr, All, map}
 ghost use Rattle.jc_syntax.specs.Trees.{cmd_of};
 ghost use Rattle.jc_syntax.specs.Lexemes.{IsTokenOf};
 ghost use Rattle.jc_parser.specs.Reading.{Gives, reading};
-ghost use Rattle.jc_parser.specs.Parts.{resolved};
+ghost use Rattle.jc_parser.specs.FirstParts.{resolved};
 ghost use Rattle.jc_parser.specs.Stops.{IsFault};
 ghost use Rattle.jc_parser.specs.First.{Reads, IsOnly, IsScenarioFault};
 
 use crate::cursor::Cursor;
 use crate::fault::ScenarioFault;
-use crate::parser::{Parsed, whole};
+use crate::first_parts::{Parsed, whole};
 use jc_rules::{Event, Text};
 use jc_syntax::{Cmd, MAX_TEXT, Named, Token, lex};
 use std::alloc::Global;

@@ -1,42 +1,13 @@
-//! Laws of the definitions: a text is one scenario, expression, script or event at most, or has one fault
-//! at most, and not both. What is parsed is legal.
+//! Laws of the definitions: a text is one scenario, expression, script or event, or has one fault, and not
+//! both. What is parsed is legal.
 
-ghost use Rattle.jc_parser.specs.Laws.{OneTree, OneScenario, ScenarioOrFault, OneFault, OneExpression, ExpressionOrFault, OneExpressionFault, OneScript, ScriptOrFault, OneScriptFault};
-ghost use Rattle.jc_parser.specs.ClosedScripts.{OneScriptAt, ScriptOrFaultAt, OneScriptFaultAt};
-ghost use Rattle.jc_parser.specs.CallLaws.{OneEvent, EventOrFault, OneEventFault, OneEventAt, EventOrFaultAt, OneEventFaultAt};
-ghost use Rattle.jc_parser.specs.TreeLaws.{OneNamedTree, NamedTreeOrFault, OneTreeFault};
+ghost use Rattle.jc_parser.specs.Laws.{OneExpression, ExpressionOrFault, ExpressionElseFault, OneExpressionFault, OneScript, ScriptOrFault, ScriptElseFault, OneScriptFault};
+ghost use Rattle.jc_parser.specs.ClosedScripts.{OneScriptAt, ScriptOrFaultAt, ScriptElseFaultAt, OneScriptFaultAt};
+ghost use Rattle.jc_parser.specs.CallLaws.{OneEvent, EventOrFault, EventElseFault, OneEventFault, OneEventAt, EventOrFaultAt, EventElseFaultAt, OneEventFaultAt};
+ghost use Rattle.jc_parser.specs.TreeLaws.{OneNamedTree, NamedTreeOrFault, NamedTreeElseFault, OneTreeFault};
 ghost use Rattle.jc_parser.specs.LegalLaws.{LegalExpressions, LegalScripts, LegalEvents, LegalScriptsAt, LegalEventsAt, LegalScenarios};
 
 use jc_syntax::laws as lexemes;
-
-/// Within the limits, a list of symbols is the text of one tree at most.
-pub fn one_tree()
-    ensures { OneTree }
-{}
-
-/// A text is one scenario at most.
-pub fn one_scenario()
-    ensures { OneScenario }
-{
-    lexemes::one_list_of_tokens();
-}
-
-/// A text that is a scenario has no fault.
-pub fn scenario_or_fault()
-    ensures { ScenarioOrFault }
-{
-    lexemes::one_list_of_tokens();
-    lexemes::tokens_or_fault();
-}
-
-/// A text has one fault at most: its number and its place are determined.
-pub fn one_fault()
-    ensures { OneFault }
-{
-    lexemes::one_list_of_tokens();
-    lexemes::one_fault();
-    lexemes::tokens_or_fault();
-}
 
 /// A text is one expression at most.
 pub fn one_expression()
@@ -51,6 +22,13 @@ pub fn expression_or_fault()
 {
     lexemes::one_list_of_tokens();
     lexemes::tokens_or_fault();
+}
+
+/// A text that is no expression has a fault.
+pub fn expression_else_fault()
+    ensures { ExpressionElseFault }
+{
+    lexemes::tokens_else_fault();
 }
 
 /// A text has one fault at most as an expression: its number and its place are determined.
@@ -77,6 +55,13 @@ pub fn script_or_fault()
     lexemes::tokens_or_fault();
 }
 
+/// A text that is no script has a fault.
+pub fn script_else_fault()
+    ensures { ScriptElseFault }
+{
+    lexemes::tokens_else_fault();
+}
+
 /// A text has one fault at most as a script: its number and its place are determined.
 pub fn one_script_fault()
     ensures { OneScriptFault }
@@ -101,6 +86,13 @@ pub fn event_or_fault()
     lexemes::tokens_or_fault();
 }
 
+/// A text that is no event has a fault.
+pub fn event_else_fault()
+    ensures { EventElseFault }
+{
+    lexemes::tokens_else_fault();
+}
+
 /// A text has one fault at most as an event: its number and its place are determined.
 pub fn one_event_fault()
     ensures { OneEventFault }
@@ -120,6 +112,11 @@ pub fn event_or_fault_at()
     ensures { EventOrFaultAt }
 {}
 
+/// From each token on stands an event, or there is a fault.
+pub fn event_else_fault_at()
+    ensures { EventElseFaultAt }
+{}
+
 /// Where no event stands among the tokens, there is one fault at most.
 pub fn one_event_fault_at()
     ensures { OneEventFaultAt }
@@ -135,6 +132,11 @@ pub fn script_or_fault_at()
     ensures { ScriptOrFaultAt }
 {}
 
+/// From each token on stands a script with a closing brace, or there is a fault.
+pub fn script_else_fault_at()
+    ensures { ScriptElseFaultAt }
+{}
+
 /// Where no script with a closing brace stands among the tokens, there is one fault at most.
 pub fn one_script_fault_at()
     ensures { OneScriptFaultAt }
@@ -148,6 +150,11 @@ pub fn one_named_tree()
 /// Tokens that are a scenario of the whole language have no fault.
 pub fn named_tree_or_fault()
     ensures { NamedTreeOrFault }
+{}
+
+/// Tokens that are no scenario of the whole language have a fault.
+pub fn named_tree_else_fault()
+    ensures { NamedTreeElseFault }
 {}
 
 /// Tokens have one fault at most as a scenario of the whole language: its number and its place are

@@ -5,6 +5,8 @@ mod cursor;
 mod events;
 mod fault;
 mod first;
+pub mod first_laws;
+mod first_parts;
 mod language;
 pub mod laws;
 mod parse_fault;

@@ -4,6 +4,8 @@
 #[cfg(test)]
 mod faults;
 #[cfg(test)]
+mod first_laws;
+#[cfg(test)]
 mod laws;
 #[cfg(test)]
 mod scenarios;

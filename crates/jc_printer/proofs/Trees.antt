@@ -12,7 +12,7 @@ use Rattle.jc_rules.specs.Syntax.{Expr, TheDoc, Variable, GetKey, Index, KeysOf,
 use Rattle.jc_syntax.specs.Bytes.{is_name_start, is_name_byte, is_number_byte}
 use Rattle.jc_parser.specs.Symbols.{Symbol, word, number, string, dot, open_paren, close_paren, open_brace, close_brace, open_bracket, close_bracket, semicolon, assign, equals}
 use Rattle.jc_printer.specs.Canon.{quoted, canon_expr, canon_value, canon_cmd, canon_script}
-use Rattle.jc_parser.specs.Grammar.{is_reserved, get_text, IsListText}
+use Rattle.jc_parser.specs.Words.{is_reserved, get_text, IsListText}
 use Rattle.jc_parser.specs.Language.{index_text, IsSpelled, HasLegalParts}
 use Rattle.jc_parser.specs.Scripts.{IsValueSpelled, Leads, IsCommandSpelled, IsCommandWellFormed}
 use Rattle.jc_parser.specs.Legal.{IsName, IsLegalExpr, IsLegalValue, IsLegalCmd}

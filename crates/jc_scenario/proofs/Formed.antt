@@ -7,7 +7,7 @@ use Rattle.std.proofs.lemmas.List.Sorted.{All-permutation, length_permutation}
 use Rattle.jc_rules.specs.declared.operation.Event.{Event}
 use Rattle.jc_rules.specs.declared.operation.Event.TheVariants.{Exec, Send, Recv, Apply, Done}
 use Rattle.jc_rules.specs.Syntax.{Cmd}
-use Rattle.jc_parser.specs.Grammar.{is_reserved}
+use Rattle.jc_parser.specs.Words.{is_reserved}
 use Rattle.jc_parser.specs.Scripts.{IsScriptWellFormed}
 use Rattle.jc_parser.specs.Calls.{IsCallWellFormed}
 use Rattle.jc_parser.specs.Legal.{IsName, IsLegalCmd, call_by, IsCounterBelow}

@@ -25,7 +25,7 @@ all_insert P (m ∷ ms) zero n all one = (one, all)
 all_insert P (m ∷ ms) (suc p) n all one = (all.0, all_insert P ms p n all.1 one)
 
 -- between the lesser and the greater ones
-rises : (n : List ℕ) (ns : List (List ℕ)) (p : ℕ) → IsRising name_cmp ns → p ≤ length ns → ((k : ℕ) (d : List ℕ) → k < p → name_cmp (get_or ns k d) n ≡ Less) → ((k : ℕ) (d : List ℕ) → p ≤ k → k < length ns → name_cmp (get_or ns k d) n ≡ Greater) → IsRising name_cmp (insert ns p n)
+pub rises : (n : List ℕ) (ns : List (List ℕ)) (p : ℕ) → IsRising name_cmp ns → p ≤ length ns → ((k : ℕ) (d : List ℕ) → k < p → name_cmp (get_or ns k d) n ≡ Less) → ((k : ℕ) (d : List ℕ) → p ≤ k → k < length ns → name_cmp (get_or ns k d) n ≡ Greater) → IsRising name_cmp (insert ns p n)
 rises n [] zero h le less more = (tt, tt)
 rises n [] (suc p) h le less more = absurd (omega arith)
 rises n (m ∷ ms) zero h le less more =
@@ -45,7 +45,7 @@ found_there n ns k inside found = (k, inside, exact_names (get_or ns k n) n (fou
 
 -- ---- names and scripts side by side
 
-parts-insert : (ns : List (List ℕ)) (ss : List (List Cmd)) (p : ℕ) (n : List ℕ) (s : List Cmd) → length ss ≡ length ns → parts_of (insert ns p n) (insert ss p s) ≡ insert (parts_of ns ss) p (part n s)
+pub parts-insert : (ns : List (List ℕ)) (ss : List (List Cmd)) (p : ℕ) (n : List ℕ) (s : List Cmd) → length ss ≡ length ns → parts_of (insert ns p n) (insert ss p s) ≡ insert (parts_of ns ss) p (part n s)
 parts-insert [] [] zero n s each = refl
 parts-insert [] [] (suc p) n s each = refl
 parts-insert [] (t ∷ ss) p n s each = absurd (omega arith)

@@ -11,3 +11,4 @@ pub mod Formed
 pub mod Strangers
 pub mod Exactly
 pub mod Scenarios
+pub mod Deciding

@@ -5,7 +5,7 @@ use Rattle.std.proofs.lemmas.List.Elements.{All-head, All-tail}
 use Rattle.jc_rules.specs.declared.operation.Event.{Event}
 use Rattle.jc_rules.specs.Syntax.{Cmd}
 use Rattle.jc_parser.specs.Symbols.{Symbol, word, open_brace, close_brace, semicolon}
-use Rattle.jc_parser.specs.Grammar.{IsListText}
+use Rattle.jc_parser.specs.Words.{IsListText}
 use Rattle.jc_parser.specs.Scripts.{IsCommandSpelled, IsCommandWellFormed}
 use Rattle.jc_parser.specs.Calls.{IsCallSpelled}
 use Rattle.jc_parser.specs.Legal.{IsName, IsLegalCmd, call_by, IsCounterBelow}

@@ -5,7 +5,7 @@ use Rattle.std.proofs.lemmas.List.Elements.{All-head, All-tail}
 use Rattle.jc_rules.specs.declared.operation.Event.{Event}
 use Rattle.jc_syntax.specs.declared.tree.NamedEvent.{NamedEvent}
 use Rattle.jc_parser.specs.Symbols.{Symbol, close_brace, semicolon, Lexeme, symbols}
-use Rattle.jc_parser.specs.Grammar.{IsListText}
+use Rattle.jc_parser.specs.Words.{IsListText}
 use Rattle.jc_parser.specs.Calls.{Call, call_of, IsCallSpelled}
 use Rattle.jc_parser.specs.Legal.{call_by, IsCounterBelow}
 use Rattle.jc_parser.specs.Trees.{Part, Tree, NamedTree, tree_of, header, schedule_head, IsTreeSpelled, AreEvents, AreBlock}

@@ -32,7 +32,7 @@ one_stranger names (x ∷ xs) at other (inr (known, more)) (inr (known2, more2))
 
 -- ---- where all names are known, none is a stranger
 
-abbrev AreKnown : List (List ℕ) → List Named → Type 0
+abbrev pub AreKnown : List (List ℕ) → List Named → Type 0
 AreKnown names [] = Unit {0}
 AreKnown names (x ∷ xs) = Contains names x.name × AreKnown names xs
 
@@ -92,7 +92,7 @@ no_stranger t s at is h =
 
 -- ---- the first stranger of a schedule
 
-known_parts : (names : List (List ℕ)) (xs ys : List Named) → AreKnown names (xs ++ ys) → AreKnown names xs × AreKnown names ys
+pub known_parts : (names : List (List ℕ)) (xs ys : List Named) → AreKnown names (xs ++ ys) → AreKnown names xs × AreKnown names ys
 known_parts names [] ys k = (tt, k)
 known_parts names (x ∷ xs) ys k = let (more, rest) = known_parts names xs ys k.1 in ((k.0, more), rest)
 

@@ -1,5 +1,5 @@
 -- What the definitions promise by themselves.
-use Rattle.std.specs.Prelude.{◌≡◌, ℕ, ◌≤◌, List, length}
+use Rattle.std.specs.Prelude.{◌≡◌, ◌⊎◌, ℕ, ◌≤◌, List, length}
 use Rattle.jc_parser.specs.declared.fault.ScenarioFault.{ScenarioFault}
 use Rattle.jc_scenario.specs.Scenarios.{Scenario, IsWellFormed, IsScenario}
 use Rattle.jc_scenario.specs.Faults.{IsFault}
@@ -12,6 +12,11 @@ OneScenario = (bytes : List ℕ) (s other : Scenario) → IsScenario bytes s →
 -- Bytes that are a scenario have no fault.
 abbrev pub ScenarioOrFault : Type 0
 ScenarioOrFault = (bytes : List ℕ) (s : Scenario) (fault : ScenarioFault) → IsScenario bytes s → IsFault bytes fault → ⊥
+
+-- Bytes that are no scenario have a fault.
+abbrev pub ScenarioElseFault : Type 0
+ScenarioElseFault =
+    (bytes : List ℕ) → ((s : Scenario) × IsScenario bytes s) ⊎ ((fault : ScenarioFault) × IsFault bytes fault)
 
 -- Bytes have one fault at most, at one place.
 abbrev pub OneFault : Type 0

@@ -8,7 +8,7 @@ use Rattle.jc_rules.specs.Syntax.{Cmd}
 use Rattle.jc_syntax.specs.declared.token.Token.{Token}
 use Rattle.jc_syntax.specs.Lexemes.{AreTokensOf}
 use Rattle.jc_parser.specs.Reading.{Reading, reading}
-use Rattle.jc_parser.specs.Grammar.{is_reserved}
+use Rattle.jc_parser.specs.Words.{is_reserved}
 use Rattle.jc_parser.specs.Scripts.{IsScriptWellFormed}
 use Rattle.jc_parser.specs.Legal.{IsName, IsLegalCmd, call_by, IsCounterBelow}
 use Rattle.jc_parser.specs.Trees.{Part, Tree, NamedTree, tree_of, IsNamedTree}

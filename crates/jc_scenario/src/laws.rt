@@ -1,7 +1,7 @@
 //! Laws of the definitions: bytes are one scenario or have one fault, what is read is well formed, and what
 //! is printed is read back.
 
-ghost use Rattle.jc_scenario.specs.Laws.{OneScenario, ScenarioOrFault, OneFault, ScenariosAreWellFormed, ScenariosReadBack};
+ghost use Rattle.jc_scenario.specs.Laws.{OneScenario, ScenarioOrFault, ScenarioElseFault, OneFault, ScenariosAreWellFormed, ScenariosReadBack};
 
 use jc_parser::laws as sentences;
 use jc_syntax::laws as lexemes;
@@ -22,6 +22,14 @@ pub fn scenario_or_fault()
     lexemes::tokens_or_fault();
     sentences::one_named_tree();
     sentences::named_tree_or_fault();
+}
+
+/// Bytes that are no scenario have a fault.
+pub fn scenario_else_fault()
+    ensures { ScenarioElseFault }
+{
+    lexemes::tokens_else_fault();
+    sentences::named_tree_else_fault();
 }
 
 /// Bytes have one fault at most: its number and its place are determined.

@@ -146,6 +146,7 @@ fn names_of_replicas(rt: HostRuntime) -> Result<(), Fail> {
 fn laws_of_scenarios() {
     laws::one_scenario();
     laws::scenario_or_fault();
+    laws::scenario_else_fault();
     laws::one_fault();
     laws::scenarios_are_well_formed();
     laws::scenarios_read_back();

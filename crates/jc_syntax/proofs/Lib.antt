@@ -1,5 +1,6 @@
 pub mod Bounds
 pub mod Contents
+pub mod Deciding
 pub mod Decoding
 pub mod Escapes
 pub mod Literals

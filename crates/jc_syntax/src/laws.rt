@@ -1,7 +1,7 @@
 //! Laws of the definitions of tokens and faults: a text has one list of tokens or one fault, and not both.
 //! A string spells one content, which is UTF-8 where the text is.
 
-ghost use Rattle.std.specs.Prelude.{◌≡◌, ◌≤◌, List, ℕ, length, IsUtf8};
+ghost use Rattle.std.specs.Prelude.{◌≡◌, ◌≤◌, ◌⊎◌, List, ℕ, length, IsUtf8};
 ghost use Rattle.jc_syntax.specs.declared.fault.LexFault.{LexFault as AnyFault};
 ghost use Rattle.jc_syntax.specs.declared.token.Token.{Token as AnyToken};
 ghost use Rattle.jc_syntax.specs.Lexemes.{AreTokensOf, IsFaultOf, IsStringToken, content_of};
@@ -20,6 +20,12 @@ pub fn one_fault()
 /// A text that has tokens has no fault.
 pub fn tokens_or_fault()
     ensures { (text : List ℕ) (ts : List AnyToken) (e : AnyFault) → AreTokensOf text ts → IsFaultOf text e → ⊥ }
+{}
+
+/// A text that has no tokens has a fault.
+pub fn tokens_else_fault()
+    ensures { (text : List ℕ)
+        → ((ts : List AnyToken) × AreTokensOf text ts) ⊎ ((e : AnyFault) × IsFaultOf text e) }
 {}
 
 /// The string that begins at a place ends at one place, and spells one content.

@@ -295,6 +295,7 @@ fn laws_stand() {
     laws::one_list_of_tokens();
     laws::one_fault();
     laws::tokens_or_fault();
+    laws::tokens_else_fault();
     laws::one_string();
     laws::legal_strings();
 }

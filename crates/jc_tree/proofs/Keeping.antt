@@ -7,16 +7,19 @@ use Rattle.jc_rules.specs.declared.key.Tagged.{Tagged}
 use Rattle.jc_rules.specs.declared.key.Tagged.TheVariants.{MapT, ListT, RegT}
 use Rattle.jc_rules.specs.Order.{key_cmp}
 use Rattle.jc_rules.specs.Entries.{find, put}
-use Rattle.jc_rules.specs.Ids.{AreRising}
-use Rattle.jc_rules.specs.Context.{Context, context, Children, no_child, child, children, listed, Register, Content, Node, Values, values_of, content, with_content, presence, registers, empty, empty_list}
+use Rattle.jc_rules.specs.Ids.{AreRising, with_id}
+use Rattle.jc_rules.specs.Context.{Context, context, Children, no_child, child, children, listed, Register, Content, Node, Values, values_of, content, with_content, presence, with_presence, registers, empty, empty_list}
 use Rattle.jc_rules.specs.Places.{node_at, with_node_at, context_at}
 use Rattle.jc_rules.specs.Shape.{IsKept, AreKept, IsKeptRegister}
 use Rattle.jc_rules.proofs.Order.{keys_total, exact_keys}
 use Rattle.jc_rules.proofs.Entries.{rising-put, values-put, value-found}
 use Rattle.jc_rules.proofs.Places.{listed_children, node_found, there}
+use Rattle.jc_rules.proofs.Ids.{with-rises}
+use Rattle.jc_tree.specs.Tree.{or_none}
 use Rattle.jc_tree.specs.Change.{IsFit, changed_by, changed_at}
+use Rattle.jc_tree.proofs.Taking.{rising_there}
 use Rattle.jc_tree.specs.declared.node.Change.{Change}
-use Rattle.jc_tree.specs.declared.node.Change.TheVariants.{Child, Presence, Link, Register as Set}
+use Rattle.jc_tree.specs.declared.node.Change.TheVariants.{Child, AddId, Presence, Link, Register as Set}
 
 -- each child is kept
 all_kept : (cs : Children) → AreKept cs → AllByRecursion (λ e. IsKept e.1) (listed cs)
@@ -52,12 +55,20 @@ kept-with (RegT k) (context m l r p n) d h g = h
 kept-register : (k : Key) (v : Register) (c : Context) → IsKept c → IsKeptRegister v → IsKept (with_content (RegT k) (Values v) c)
 kept-register k v (context m l r p n) h g = (h.0, h.1, rising-put keys_total exact_keys k v r h.2, h.3, h.4, values-put keys_total exact_keys IsKeptRegister k v r g h.5, h.6, h.7, h.8)
 
+kept-presence : (k : Key) (s : List Id) (c : Context) → AreRising s → IsKept c → IsKept (with_presence k s c)
+kept-presence k s (context m l r p n) f h = (h.0, h.1, h.2, rising-put keys_total exact_keys k s p h.3, h.4, h.5, values-put keys_total exact_keys AreRising k s p f h.6, h.7, h.8)
+
+-- a set of a kept context rises
+rising : (k : Key) (s : List Id) (c : Context) → IsKept c → presence k c ≡ Some s → AreRising s
+rising k s (context m l r p n) h e = value-found keys_total exact_keys AreRising k s p h.6 e
+
 -- what a fit change makes of a kept context
 kept-changed : (change : Change) (c : Context) → IsFit change → IsKept c → IsKept (changed_by change c)
 kept-changed (Child (MapT k)) c f h = kept-with (MapT k) c empty h (tt, tt, tt, tt, tt, tt, tt, tt, tt)
 kept-changed (Child (ListT k)) c f h = kept-with (ListT k) c empty_list h (tt, tt, tt, tt, (tt, tt), tt, tt, tt, tt)
 kept-changed (Child (RegT k)) c f h = kept-register k [] c h (tt, tt)
-kept-changed (Presence k s) (context m l r p n) f h = (h.0, h.1, h.2, rising-put keys_total exact_keys k s p h.3, h.4, h.5, values-put keys_total exact_keys AreRising k s p f h.6, h.7, h.8)
+kept-changed (AddId k i) c f h = kept-presence k (with_id i (or_none (presence k c))) c (with-rises i (or_none (presence k c)) (rising_there (presence k c) (λ s e. rising k s c h e))) h
+kept-changed (Presence k s) c f h = kept-presence k s c f h
 kept-changed (Link k x) (context m l r p n) f h = (h.0, h.1, h.2, h.3, rising-put keys_total exact_keys k x n h.4, h.5, h.6, h.7, h.8)
 kept-changed (Set k v) c f h = kept-register k v c h f
 
@@ -89,10 +100,7 @@ kept-pushed (d ∷ cs) c h g = (h.0, kept-pushed cs c h.1 g)
 
 -- what is lent of a kept content
 pub presence_rises : (ks : List Tagged) (k : Key) (s ids : List Id) (c : Context) → IsKept c → node_at ks c ≢ None → presence k (context_at ks c) ≡ Some s → ids ≡ s → AreRising ids
-presence_rises ks k s ids c h place f e = rw e (rising (context_at ks c) (kept-node ks c (context_at ks c) h (there ks c place)) f)
-  where
-    rising : (d : Context) → IsKept d → presence k d ≡ Some s → AreRising s
-    rising (context m l r p n) g q = value-found keys_total exact_keys AreRising k s p g.6 q
+presence_rises ks k s ids c h place f e = rw e (rising k s (context_at ks c) (kept-node ks c (context_at ks c) h (there ks c place)) f)
 
 pub register_kept : (ks : List Tagged) (k : Key) (v pairs : Register) (c : Context) → IsKept c → node_at ks c ≢ None → find key_cmp k (registers (context_at ks c)) ≡ Some v → pairs ≡ v → IsKeptRegister pairs
 register_kept ks k v pairs c h place f e = rw e (kept (context_at ks c) (kept-node ks c (context_at ks c) h (there ks c place)) f)

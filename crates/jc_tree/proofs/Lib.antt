@@ -11,4 +11,10 @@ pub mod Places
 pub mod GoingBack
 pub mod Pairs
 pub mod Undoing
+pub mod Taking
 pub mod Ways
+pub mod Numbers
+pub mod ArenaChanges
+pub mod ArenaSteps
+pub mod ArenaHistory
+pub mod ArenaMaking

@@ -1,28 +1,37 @@
 -- Changes are taken back exactly.
-use Rattle.std.proofs.Common.{◌≡◌, ◌≢◌, ℕ, ◌+◌, ◌≤◌, suc, length, take, subst, add-one, arith, if◌then◌else◌, Result, Ok, Err, is_ok, OnErr, List, [], ◌∷◌, ◌++◌, Option, Some, None, refl, sym, ◌∙◌, ap}
+use Rattle.std.proofs.Common.{◌≡◌, ◌≢◌, ℕ, ◌+◌, ◌≤◌, suc, length, take, subst, add-one, arith, Bool, true, false, cond, if◌then◌else◌, Result, Ok, Err, is_ok, OnErr, List, [], ◌∷◌, ◌++◌, Option, Some, None, refl, sym, ◌∙◌, ap}
 use Rattle.std.specs.List.{AllByRecursion}
 use Rattle.std.specs.declared.cmp.Ordering.{Ordering}
 use Rattle.std.specs.declared.cmp.Ordering.TheVariants.{Less, Equal, Greater}
+use Rattle.jc_rules.specs.declared.id.Id.{Id}
 use Rattle.jc_rules.specs.declared.key.Key.{Key}
+use Rattle.jc_rules.specs.declared.key.Next.{Next}
 use Rattle.jc_rules.specs.declared.key.Tagged.{Tagged}
 use Rattle.jc_rules.specs.declared.key.Tagged.TheVariants.{MapT, ListT, RegT}
 use Rattle.jc_rules.specs.Order.{key_cmp}
 use Rattle.jc_rules.specs.Entries.{find, placed, replaced, put}
-use Rattle.jc_rules.specs.Context.{Context, context, listed, empty, empty_list}
+use Rattle.jc_rules.specs.Context.{Context, context, Children, Register, listed, empty, empty_list}
 use Rattle.jc_rules.specs.Places.{node_at, with_node_at, context_at}
 use Rattle.jc_rules.proofs.Order.{keys_total, exact_keys}
-use Rattle.jc_rules.proofs.Entries.{same-self, found-put, put-put, put-same}
+use Rattle.jc_rules.proofs.Entries.{same-self, found-put, put-put, put-same, value-found}
 use Rattle.jc_rules.proofs.Places.{listed_children, children_listed, with_node-twice, with_node-same, there}
+use Rattle.jc_rules.specs.Ids.{AreRising, has_id, with_id}
+use Rattle.jc_rules.proofs.Ids.{with-present}
 use Rattle.jc_rules.specs.Shape.{IsKept}
 use Rattle.jc_tree.specs.Change.{changed_by, changed_at}
-use Rattle.jc_tree.specs.Undo.{removed, restored, former_of, restored_by, restored_at, undone, contents}
+use Rattle.jc_tree.specs.Tree.{or_none}
+use Rattle.jc_tree.specs.Undo.{removed, restored, former_of, former_of_id, restored_by, restored_at, undone, contents}
+use Rattle.jc_tree.specs.declared.node.Former.TheVariants as F
 use Rattle.jc_tree.specs.declared.node.Change.{Change}
-use Rattle.jc_tree.specs.declared.node.Change.TheVariants.{Child, Presence, Link, Register}
+use Rattle.jc_tree.specs.declared.node.Change.TheVariants.{Child, AddId, Presence, Link, Register as SetRegister}
 use Rattle.jc_tree.specs.declared.plain.Undo.{Undo}
+use Rattle.jc_tree.proofs.Keeping.{kept-node}
 use Rattle.jc_tree.proofs.Places.{then_here}
+use Rattle.jc_tree.proofs.Taking.{set-out}
 
 module _ {X : Type 0} where
-  removed-placed : (k : Key) (v : X) (es : List (Key × X)) → find key_cmp k es ≡ None → removed k (placed key_cmp k v es) ≡ es
+  -- a new entry, taken away
+  pub removed-placed : (k : Key) (v : X) (es : List (Key × X)) → find key_cmp k es ≡ None → removed k (placed key_cmp k v es) ≡ es
   removed-placed k v [] h = rw (same-self keys_total exact_keys k) refl
   removed-placed k v (e ∷ es) h = go (key_cmp k e.0) refl (λ i. removed-placed k v es i) h
     where
@@ -32,7 +41,7 @@ module _ {X : Type 0} where
       go Greater p ih g = rw (p, p) (ap (λ r. e ∷ r) (ih (rw p at g)))
 
   -- what stood under a key before a put, there again
-  restored-put : (k : Key) (v : X) (es : List (Key × X)) → restored k (find key_cmp k es) (put key_cmp k v es) ≡ es
+  pub restored-put : (k : Key) (v : X) (es : List (Key × X)) → restored k (find key_cmp k es) (put key_cmp k v es) ≡ es
   restored-put k v es = go (find key_cmp k es) refl
     where
       put_again : (x : X) → put key_cmp k x (put key_cmp k v es) ≡ replaced key_cmp k x (put key_cmp k v es)
@@ -42,24 +51,40 @@ module _ {X : Type 0} where
       go None p = rw p (removed-placed k v es p)
       go (Some x) p = sym (put_again x) ∙ put-put keys_total exact_keys k x v es ∙ put-same keys_total exact_keys k x es p
 
-restored_changed : (change : Change) (c : Context) → restored_by (former_of change c) (changed_by change c) ≡ c
-restored_changed (Child (MapT k)) (context m l r p n) = rw (listed_children, restored-put k empty (listed m), children_listed m) refl
-restored_changed (Child (ListT k)) (context m l r p n) = rw (listed_children, restored-put k empty_list (listed l), children_listed l) refl
-restored_changed (Child (RegT k)) (context m l r p n) = rw (restored-put k [] r) refl
-restored_changed (Presence k s) (context m l r p n) = rw (restored-put k s p) refl
-restored_changed (Link k x) (context m l r p n) = rw (restored-put k x n) refl
-restored_changed (Register k v) (context m l r p n) = rw (restored-put k v r) refl
+-- an identifier that was added to a key's set, taken back
+added_back : (k : Key) (i : Id) (m l : Children) (r : List (Key × Register)) (p : List (Key × List Id)) (n : List (Key × Next)) → ((s : List Id) → find key_cmp k p ≡ Some s → AreRising s) → restored_by (former_of_id k i (find key_cmp k p)) (context m l r (put key_cmp k (with_id i (or_none (find key_cmp k p))) p) n) ≡ context m l r p n
+added_back k i m l r p n rises = go (find key_cmp k p) refl
+  where
+    go : (o : Option (List Id)) → find key_cmp k p ≡ o → restored_by (former_of_id k i o) (context m l r (put key_cmp k (with_id i (or_none o)) p) n) ≡ context m l r p n
+    go None e = ap (λ q. context m l r (removed k q) n) (put_new e) ∙ ap (λ q. context m l r q n) (removed-placed k (i ∷ []) p e)
+      where
+        put_new : find key_cmp k p ≡ None → put key_cmp k (i ∷ []) p ≡ placed key_cmp k (i ∷ []) p
+        put_new f = rw f refl
+    go (Some s) e = step (has_id i s) refl
+      where
+        step : (b : Bool) → has_id i s ≡ b → restored_by (cond b F.Same (F.NoId k i)) (context m l r (put key_cmp k (with_id i s) p) n) ≡ context m l r p n
+        step true h = ap (λ v. context m l r (put key_cmp k v p) n) (with-present i s (rises s e) h) ∙ ap (λ q. context m l r q n) (put-same keys_total exact_keys k s p e)
+        step false h = ap (λ q. context m l r q n) (set-out k i s p e h)
+
+restored_changed : (change : Change) (c : Context) → IsKept c → restored_by (former_of change c) (changed_by change c) ≡ c
+restored_changed (Child (MapT k)) (context m l r p n) h = rw (listed_children, restored-put k empty (listed m), children_listed m) refl
+restored_changed (Child (ListT k)) (context m l r p n) h = rw (listed_children, restored-put k empty_list (listed l), children_listed l) refl
+restored_changed (Child (RegT k)) (context m l r p n) h = rw (restored-put k [] r) refl
+restored_changed (AddId k i) (context m l r p n) h = added_back k i m l r p n (λ s e. value-found keys_total exact_keys AreRising k s p h.6 e)
+restored_changed (Presence k s) (context m l r p n) h = rw (restored-put k s p) refl
+restored_changed (Link k x) (context m l r p n) h = rw (restored-put k x n) refl
+restored_changed (SetRegister k v) (context m l r p n) h = rw (restored-put k v r) refl
 
 -- a change at a place, taken back
-pub restored_change : (at : List Tagged) (change : Change) (c : Context) → node_at at c ≢ None → restored_at at (former_of change (context_at at c)) (changed_at at change c) ≡ c
-restored_change at change c place =
+pub restored_change : (at : List Tagged) (change : Change) (c : Context) → node_at at c ≢ None → IsKept c → restored_at at (former_of change (context_at at c)) (changed_at at change c) ≡ c
+restored_change at change c place kept =
     let here = context_at at c in
     let changed = changed_by change here in
     let back = restored_by (former_of change here) in
     let there_now : context_at at (with_node_at at changed c) ≡ changed = then_here at changed (record { now = c; earlier = [] }) (record { now = with_node_at at changed c; earlier = [] }) place refl in
     ap (λ y. with_node_at at (back y) (with_node_at at changed c)) there_now
     ∙ with_node-twice at changed (back changed) c
-    ∙ ap (λ y. with_node_at at y c) (restored_changed change here)
+    ∙ ap (λ y. with_node_at at y c) (restored_changed change here (kept-node at c here kept (there at c place)))
     ∙ with_node-same at here c (there at c place)
 
 -- the latest change is taken back first
@@ -76,15 +101,15 @@ length_contents [] c = refl
 length_contents (u ∷ us) c = ap suc (length_contents us c)
 
 -- what is pushed where there is room
-pushed : {A E X : Type 0} (r : Result A E) (xs : List X) (x : X) (n k : ℕ) → OnErr r (k ≤ n) → n + 1 ≤ k → (if is_ok r then xs ++ x ∷ [] else xs) ≡ xs ++ x ∷ []
+pub pushed : {A E X : Type 0} (r : Result A E) (xs : List X) (x : X) (n k : ℕ) → OnErr r (k ≤ n) → n + 1 ≤ k → (if is_ok r then xs ++ x ∷ [] else xs) ≡ xs ++ x ∷ []
 pushed (Ok y) xs x n k h room = refl
 pushed (Err e) xs x n k h room = absurd (omega (arith, h, room))
 
 -- after a change at a place, with what takes it back pushed
-pub contents_changed : {A E : Type 0} (r : Result A E) (us vs ws : List Undo) (u : Undo) (change : Change) (at : List Tagged) (c d : Context) (n k : ℕ) → OnErr r (k ≤ n) → n + 1 ≤ k → vs ≡ us → ws ≡ (if is_ok r then vs ++ u ∷ [] else vs) → node_at at c ≢ None → d ≡ changed_at at change c → u.at.items ≡ at → u.former ≡ former_of change (context_at at c) → contents ws d ≡ contents us c ++ c ∷ []
-contents_changed r us vs ws u change at c d n k full room same is place e p f =
+pub contents_changed : {A E : Type 0} (r : Result A E) (us vs ws : List Undo) (u : Undo) (change : Change) (at : List Tagged) (c d : Context) (n k : ℕ) → OnErr r (k ≤ n) → n + 1 ≤ k → vs ≡ us → ws ≡ (if is_ok r then vs ++ u ∷ [] else vs) → node_at at c ≢ None → IsKept c → d ≡ changed_at at change c → u.at.items ≡ at → u.former ≡ former_of change (context_at at c) → contents ws d ≡ contents us c ++ c ∷ []
+contents_changed r us vs ws u change at c d n k full room same is place kept e p f =
     let all : ws ≡ us ++ u ∷ [] = is ∙ pushed r vs u n k full room ∙ ap (λ x. x ++ u ∷ []) same in
-    let back : undone (u ∷ []) d ≡ c = rw (e, p, f) (restored_change at change c place) in
+    let back : undone (u ∷ []) d ≡ c = rw (e, p, f) (restored_change at change c place kept) in
     rw all (contents_latest us u d) ∙ ap (λ x. contents us x ++ x ∷ []) back
 
 all_parts : (P : Context → Type 0) (cs : List Context) (c : Context) → AllByRecursion P (cs ++ c ∷ []) → AllByRecursion P cs × P c
@@ -96,7 +121,7 @@ pub kept_undone : (us : List Undo) (u : Undo) (c : Context) → AllByRecursion I
 kept_undone us u c h = all_parts IsKept (contents us (undone (u ∷ []) c)) (undone (u ∷ []) c) (subst (AllByRecursion IsKept) (contents_latest us u c) h)
 
 -- the beginning of a history, by one content shorter
-shorter : (cs : List Context) (c : Context) (all : List Context) → cs ++ c ∷ [] ≡ take (suc (length cs)) all → cs ≡ take (length cs) all
+pub shorter : (cs : List Context) (c : Context) (all : List Context) → cs ++ c ∷ [] ≡ take (suc (length cs)) all → cs ≡ take (length cs) all
 shorter [] c all e = refl
 shorter (d ∷ cs) c [] e = cc
 shorter (d ∷ cs) c (b ∷ all) e =
@@ -109,7 +134,7 @@ once_shorter us c all e =
     let n : length (contents us c) ≡ length us = length_contents us c in
     rw n at (shorter (contents us c) c all (e ∙ rw (n, add-one) refl))
 
-all_of : (cs : List Context) (c : Context) → take (suc (length cs)) (cs ++ c ∷ []) ≡ cs ++ c ∷ []
+pub all_of : (cs : List Context) (c : Context) → take (suc (length cs)) (cs ++ c ∷ []) ≡ cs ++ c ∷ []
 all_of [] c = refl
 all_of (d ∷ cs) c = ap (λ r. d ∷ r) (all_of cs c)
 

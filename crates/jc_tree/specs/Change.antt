@@ -2,15 +2,17 @@
 use Rattle.std.specs.Prelude.{List}
 use Rattle.jc_rules.specs.declared.key.Tagged.{Tagged}
 use Rattle.jc_rules.specs.declared.key.Tagged.TheVariants.{RegT}
-use Rattle.jc_rules.specs.Context.{Context, Values, with_content, with_presence, with_next, new_content}
-use Rattle.jc_rules.specs.Ids.{AreRising}
+use Rattle.jc_rules.specs.Context.{Context, Values, with_content, presence, with_presence, with_next, new_content}
+use Rattle.jc_rules.specs.Ids.{AreRising, with_id}
 use Rattle.jc_rules.specs.Shape.{IsKeptRegister}
 use Rattle.jc_rules.specs.Places.{with_node_at, context_at}
+use Rattle.jc_tree.specs.Tree.{or_none}
 use Rattle.jc_tree.specs.declared.node.Change.{Change}
-use Rattle.jc_tree.specs.declared.node.Change.TheVariants.{Child, Presence, Link, Register}
+use Rattle.jc_tree.specs.declared.node.Change.TheVariants.{Child, AddId, Presence, Link, Register}
 
 abbrev pub changed_by : Change → Context → Context
 changed_by (Child t) c = with_content t (new_content t) c
+changed_by (AddId k i) c = with_presence k (with_id i (or_none (presence k c))) c
 changed_by (Presence k s) c = with_presence k s c
 changed_by (Link k n) c = with_next k n c
 changed_by (Register k r) c = with_content (RegT k) (Values r) c
@@ -22,6 +24,7 @@ changed_at at change c = with_node_at at (changed_by change (context_at at c)) c
 -- the change leaves a content kept
 abbrev pub IsFit : Change → Type 0
 IsFit (Child t) = Unit {0}
+IsFit (AddId k i) = Unit {0}
 IsFit (Presence k s) = AreRising s
 IsFit (Link k n) = Unit {0}
 IsFit (Register k r) = IsKeptRegister r

@@ -8,3 +8,5 @@ pub mod Undo
 pub mod Single
 pub mod Laws
 pub mod CanGoBack
+pub mod Arena
+pub mod ArenaUndo

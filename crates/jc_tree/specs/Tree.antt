@@ -1,6 +1,7 @@
 -- What a store contains.
 use Rattle.std.specs.Prelude.{◌≡◌, ◌≢◌, List, [], ◌∷◌, ◌++◌, Option, Some, None, Bool, true, filter}
 use Rattle.std.specs.Ordering.{is_lt}
+use Rattle.jc_rules.specs.declared.id.Id.{Id}
 use Rattle.jc_rules.specs.declared.key.Key.{Key}
 use Rattle.jc_rules.specs.declared.key.Tagged.{Tagged}
 use Rattle.jc_rules.specs.Order.{key_cmp}
@@ -24,6 +25,11 @@ HasPlace at t = node_at at t.now ≢ None
 -- the context that the path leads to
 abbrev pub here : List Tagged → Tree → Context
 here at t = context_at at t.now
+
+-- the identifiers of a presence set, none where there is no set
+abbrev pub or_none : Option (List Id) → List Id
+or_none None = []
+or_none (Some s) = s
 
 -- One change: y is now the context at the place, all else in the content is as it was, and the content before it is
 -- kept.

@@ -1,15 +1,17 @@
 -- How changes are taken back.
 use Rattle.std.specs.Prelude.{List, [], ◌∷◌, Option, Some, None, cond}
 use Rattle.std.specs.Ordering.{eq_by_cmp}
+use Rattle.jc_rules.specs.declared.id.Id.{Id}
 use Rattle.jc_rules.specs.declared.key.Key.{Key}
 use Rattle.jc_rules.specs.declared.key.Tagged.{Tagged}
 use Rattle.jc_rules.specs.declared.key.Tagged.TheVariants.{MapT, ListT, RegT}
-use Rattle.jc_rules.specs.Order.{key_cmp}
-use Rattle.jc_rules.specs.Entries.{find, replaced}
+use Rattle.jc_rules.specs.Order.{key_cmp, same_id}
+use Rattle.jc_rules.specs.Entries.{find, replaced, put}
+use Rattle.jc_rules.specs.Ids.{has_id}
 use Rattle.jc_rules.specs.Context.{Context, context, children, listed, maps, lists, registers, presence, next}
 use Rattle.jc_rules.specs.Places.{with_node_at, context_at}
 use Rattle.jc_tree.specs.declared.node.Change.{Change}
-use Rattle.jc_tree.specs.declared.node.Change.TheVariants.{Child, Presence, Link, Register}
+use Rattle.jc_tree.specs.declared.node.Change.TheVariants.{Child, AddId, Presence, Link, Register}
 use Rattle.jc_tree.specs.declared.node.Former.{Former}
 use Rattle.jc_tree.specs.declared.node.Former.TheVariants as F
 use Rattle.jc_tree.specs.declared.plain.Undo.{Undo}
@@ -24,22 +26,40 @@ abbrev pub restored : {X : Type 0} → Key → Option X → List (Key × X) → 
 restored k (Some x) es = replaced key_cmp k x es
 restored k None es = removed k es
 
--- the entry that a change is going to set
+-- without the identifier
+abbrev pub taken_out : Id → List Id → List Id
+taken_out i [] = []
+taken_out i (j ∷ js) = cond (same_id i j) js (j ∷ taken_out i js)
+
+-- with the identifier taken out of the key's set, where it has one
+abbrev pub out_of_set : Key → Id → Option (List Id) → List (Key × List Id) → List (Key × List Id)
+out_of_set k i None es = es
+out_of_set k i (Some s) es = put key_cmp k (taken_out i s) es
+
+-- what takes it back that the identifier is added to the key's set
+abbrev pub former_of_id : Key → Id → Option (List Id) → Former
+former_of_id k i None = F.Presence k None
+former_of_id k i (Some s) = cond (has_id i s) F.Same (F.NoId k i)
+
+-- what a change is going to set, as it is
 abbrev pub former_of : Change → Context → Former
 former_of (Child (MapT k)) c = F.Map k (find key_cmp k (maps c))
 former_of (Child (ListT k)) c = F.List k (find key_cmp k (lists c))
 former_of (Child (RegT k)) c = F.Register k (find key_cmp k (registers c))
+former_of (AddId k i) c = former_of_id k i (presence k c)
 former_of (Presence k s) c = F.Presence k (presence k c)
 former_of (Link k n) c = F.Link k (next k c)
 former_of (Register k r) c = F.Register k (find key_cmp k (registers c))
 
--- with that entry as it was
+-- with that as it was
 abbrev pub restored_by : Former → Context → Context
 restored_by (F.Map k o) (context m l r p n) = context (children (restored k o (listed m))) l r p n
 restored_by (F.List k o) (context m l r p n) = context m (children (restored k o (listed l))) r p n
 restored_by (F.Register k o) (context m l r p n) = context m l (restored k o r) p n
 restored_by (F.Presence k o) (context m l r p n) = context m l r (restored k o p) n
 restored_by (F.Link k o) (context m l r p n) = context m l r p (restored k o n)
+restored_by (F.NoId k i) (context m l r p n) = context m l r (out_of_set k i (find key_cmp k p) p) n
+restored_by F.Same c = c
 
 -- that in the context at the place
 abbrev pub restored_at : List Tagged → Former → Context → Context

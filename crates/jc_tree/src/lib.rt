@@ -1,12 +1,16 @@
-//! Trees of contexts: what every store of a document's tree promises, and the plain store.
+//! Trees of contexts: what every store of a document's tree promises, a plain store and a fast one.
 #![tactic(auto)]
 
+mod arena;
+mod arena_node;
 mod entries;
+mod ids;
 pub mod laws;
 mod lists;
 mod node;
 mod plain;
 mod store;
 
+pub use arena::ArenaTree;
 pub use plain::PlainTree;
 pub use store::{Mark, TreeStore, is_place};

@@ -9,10 +9,11 @@ ghost use Rattle.jc_rules.specs.Table.{least};
 ghost use Rattle.jc_tree.specs.Tree.{least_after};
 ghost use Rattle.jc_tree.specs.Sorted.{AreSorted};
 ghost use Rattle.jc_tree.specs.Change.{changed_by, changed_at};
-ghost use Rattle.jc_tree.specs.Undo.{former_of, restored_by, restored_at};
+ghost use Rattle.jc_tree.specs.Undo.{former_of, former_of_id, restored_by, restored_at};
 
 use crate::entries::{key_above, place_of, put_value, restore_value, value_of};
-use crate::lists::{Ids, Pairs};
+use crate::ids::{Ids, add_to, take_from};
+use crate::lists::Pairs;
 use jc_rules::{Id, Key, Next, Tagged, Value, compare_keys};
 use std::alloc::{AllocError, Global};
 use std::marker::Model;
@@ -51,16 +52,19 @@ impl Model for Node {
     ghost size_decreases = { λ a h. omega (arith, children_fall a.maps, children_fall a.lists) };
 }
 
-/// A change of one context: a new child, or an entry that is set.
+/// A change of one context: a new child, an identifier that is added to a presence set, or an entry
+/// that is set.
 #[derive(Drop)]
 pub enum Change {
     Child(Tagged),
+    AddId(Key, Id),
     Presence(Key, Ids),
     Link(Key, Next),
     Register(Key, Pairs),
 }
 
-/// An entry of a context as it was before a change: what stood under the key, if anything did.
+/// What a change set, as it was before: what stood under the key, if anything did; that the
+/// identifier wasn't in the key's presence set; or that all was as it is.
 #[derive(Drop)]
 pub enum Former {
     Map(Key, Option<Node>),
@@ -68,6 +72,8 @@ pub enum Former {
     Register(Key, Option<Pairs>),
     Presence(Key, Option<Ids>),
     Link(Key, Option<Next>),
+    NoId(Key, Id),
+    Same,
 }
 
 impl Node {
@@ -194,6 +200,11 @@ impl Node {
                 let pairs = Pairs::new(Vec::new(alloc));
                 Ok(Former::Register(key.copy()?, put_value(&mut self.registers, key, pairs)?))
             }
+            Change::AddId(key, id) => {
+                let former = former_of_id(self.presences.as_slice(), &key, id)?;
+                add_to(&mut self.presences, key, id, alloc)?;
+                Ok(former)
+            }
             Change::Presence(key, ids) => {
                 Ok(Former::Presence(key.copy()?, put_value(&mut self.presences, key, ids)?))
             }
@@ -241,6 +252,8 @@ impl Node {
             Former::Register(key, pairs) => restore_value(&mut self.registers, &key, pairs),
             Former::Presence(key, ids) => restore_value(&mut self.presences, &key, ids),
             Former::Link(key, next) => restore_value(&mut self.links, &key, next),
+            Former::NoId(key, id) => take_from(&mut self.presences, &key, id),
+            Former::Same => {}
         }
     }
 
@@ -257,6 +270,18 @@ impl Node {
             Tagged::ListT(key) => restore_in(&mut self.lists, key, rest, former),
             Tagged::RegT(_) => {}
         }
+    }
+}
+
+/// What takes it back that the identifier is added to the key's presence set.
+pub fn former_of_id(presences: &[(Key, Ids)], key: &Key, id: Id) -> Result<Former, AllocError>
+    requires { AreSorted presences.now }
+    ensures { IfOk result (λ former. former ≡ former_of_id key.now id (find key_cmp key.now presences.now)) }
+{
+    match value_of(presences, key) {
+        None => Ok(Former::Presence(key.copy()?, None)),
+        Some(ids) if ids.contains(id) => Ok(Former::Same),
+        Some(_) => Ok(Former::NoId(key.copy()?, id)),
     }
 }
 
@@ -300,7 +325,7 @@ fn restore_in(children: &mut Vec<(Key, Node)>, key: &Key, at: &[Tagged], former:
 }
 
 /// The lesser of two keys, or the one that is there.
-fn lesser<'a>(first: Option<&'a Key>, second: Option<&'a Key>) -> Option<&'a Key>
+pub fn lesser<'a>(first: Option<&'a Key>, second: Option<&'a Key>) -> Option<&'a Key>
     ensures { option_copied result
         ≡ least (option_to_list (option_copied first.entry) ++ option_to_list (option_copied second.entry)) }
 {

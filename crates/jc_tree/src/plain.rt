@@ -10,13 +10,14 @@ ghost use Rattle.jc_tree.specs.Change.{IsFit, changed_at};
 ghost use Rattle.jc_tree.specs.Undo.{contents};
 ghost use Rattle.jc_tree.specs.Single.{IsKept-single, AreAllKept-single};
 
-use crate::lists::{Ids, Pairs, copy_place};
+use crate::ids::Ids;
+use crate::lists::{Pairs, copy_place};
 use crate::node::{Change, Former, Node};
 use crate::store::{Mark, TreeStore};
 use jc_rules::{Id, Key, Next, Tagged, Value};
 use std::alloc::{AllocError, Global};
 
-/// What takes one change back: the entry of the context at the place, as it was before.
+/// What takes one change back: what the change set in the context at the place, as it was before.
 #[derive(Drop)]
 pub struct Undo {
     at: Vec<Tagged>,
@@ -96,6 +97,12 @@ impl TreeStore for PlainTree {
     fn set_presence(&mut self, at: &[Tagged], key: &Key, ids: &[Id]) -> Result<(), AllocError> {
         let ids = Ids::new(ids.to_vec(self.alloc)?);
         self.change(at, Change::Presence(key.copy()?, ids))
+    }
+
+    fn add_presence(&mut self, at: &[Tagged], key: &Key, id: Id) -> Result<bool, AllocError> {
+        let was = self.root.node_at(at).presence(key).is_some();
+        self.change(at, Change::AddId(key.copy()?, id))?;
+        Ok(was)
     }
 
     fn next(&self, at: &[Tagged], key: &Key) -> Option<Next> {

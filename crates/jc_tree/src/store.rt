@@ -1,13 +1,13 @@
 //! What every store of a document's tree promises.
 
-ghost use Rattle.std.specs.Prelude.{◌≡◌, ◌≤◌, ◌+◌, ◌↔◌, [], None, IsTrue, length, take, is_some, option_copied, OnOk, OnErr};
+ghost use Rattle.std.specs.Prelude.{◌≡◌, ◌≤◌, ◌+◌, ◌↔◌, [], None, IsTrue, length, take, is_some, option_copied, IfOk, OnOk, OnErr};
 ghost use Rattle.jc_rules.specs.declared.key.Tagged.TheVariants.{RegT};
 ghost use Rattle.jc_rules.specs.Order.{key_cmp};
 ghost use Rattle.jc_rules.specs.Entries.{find, keys_of};
-ghost use Rattle.jc_rules.specs.Ids.{AreRising};
+ghost use Rattle.jc_rules.specs.Ids.{AreRising, with_id};
 ghost use Rattle.jc_rules.specs.Context.{Values, content, with_content, new_content, presence, with_presence, presences, links, next as next_of, with_next, registers, keys};
 ghost use Rattle.jc_rules.specs.Shape.{IsKept, IsKeptRegister};
-ghost use Rattle.jc_tree.specs.Tree.{Tree, history, HasPlace, here, IsChanged, least_after};
+ghost use Rattle.jc_tree.specs.Tree.{Tree, history, HasPlace, here, or_none, IsChanged, least_after};
 
 use jc_rules::{Id, Key, Next, Tagged, Value};
 use std::alloc::AllocError;
@@ -52,6 +52,17 @@ pub trait TreeStore {
         ensures ok { OnOk result (IsChanged at.now
             (with_presence key.now ids.now (here at.now (tree self.old)))
             (tree self.old) (tree self.new)) }
+        ensures err { OnErr result (tree self.new ≡ tree self.old) };
+
+    /// Adds the identifier to the key's presence set, a new one where there is none. Says whether
+    /// there was one.
+    fn add_presence(&mut self, at: &[Tagged], key: &Key, id: Id) -> Result<bool, AllocError>
+        requires { HasPlace at.now (tree self.old) }
+        ensures ok { OnOk result (IsChanged at.now
+            (with_presence key.now (with_id id (or_none (presence key.now (here at.now (tree self.old)))))
+            (here at.now (tree self.old)))
+            (tree self.old) (tree self.new)) }
+        ensures was { IfOk result (λ was. was ≡ is_some (presence key.now (here at.now (tree self.old)))) }
         ensures err { OnErr result (tree self.new ≡ tree self.old) };
 
     /// What follows the key in a list.

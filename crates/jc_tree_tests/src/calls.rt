@@ -2,14 +2,16 @@
 //! and at once; and what stands after a change for which there was no memory. All of it at the root
 //! and three levels down.
 
-use crate::placed::{FIRST, Kind, Placed, SECOND, name, plain, two_values};
+use crate::placed::{FIRST, Kind, Placed, SECOND, empty_map, name, two_values};
 use jc_rules::{Key, Next, Tagged};
-use jc_tree::{TreeStore, laws};
+use jc_tree::{ArenaTree, PlainTree, TreeStore, laws};
 use std::alloc::AllocError;
 use std::process::Abort;
 use std::test::Fail;
 
 const CHANGES: u64 = 20;
+
+const TURNS: u64 = 17;
 
 fn children<S: TreeStore>(rt: &impl Abort, tree: &mut Placed<S>) -> Result<(), AllocError> {
     tree.expect_child(rt, &Tagged::MapT(Key::Doc), false);
@@ -29,6 +31,23 @@ fn presences<S: TreeStore>(rt: &impl Abort, tree: &mut Placed<S>) -> Result<(), 
     tree.expect_ids(rt, &Key::Head, None);
     tree.put_ids(rt, &Key::Doc, &[])?;
     tree.expect_ids(rt, &Key::Doc, Some(&[]));
+    Ok(())
+}
+
+/// Identifiers that are added one after another, the last one again.
+fn added_ids<S: TreeStore>(rt: &impl Abort, tree: &mut Placed<S>) -> Result<(), AllocError> {
+    let ids = [FIRST, SECOND];
+    tree.add_id(rt, &Key::Doc, SECOND, false)?;
+    let one = tree.store.mark();
+    tree.add_id(rt, &Key::Doc, FIRST, true)?;
+    let two = tree.store.mark();
+    tree.add_id(rt, &Key::Doc, FIRST, true)?;
+    assert!(rt; tree.store.mark() != two);
+    tree.expect_ids(rt, &Key::Doc, Some(ids.as_slice()));
+    tree.go_back(rt, two);
+    tree.expect_ids(rt, &Key::Doc, Some(ids.as_slice()));
+    tree.go_back(rt, one);
+    tree.expect_ids(rt, &Key::Doc, Some([SECOND].as_slice()));
     Ok(())
 }
 
@@ -117,6 +136,19 @@ fn refused_presence<S: TreeStore>(rt: &impl Abort, tree: &mut Placed<S>) -> Resu
     Ok(())
 }
 
+fn refused_id<S: TreeStore>(rt: &impl Abort, tree: &mut Placed<S>) -> Result<(), AllocError> {
+    tree.put_ids(rt, &Key::Doc, [FIRST].as_slice())?;
+    let mark = tree.store.mark();
+    let made = tree.add_id(rt, &Key::Doc, SECOND, true).is_ok();
+    tree.expect_ids(
+        rt,
+        &Key::Doc,
+        Some(if made { &[FIRST, SECOND] } else { &[FIRST] }),
+    );
+    assert!(rt; (tree.store.mark() == mark) != made);
+    Ok(())
+}
+
 fn refused_link<S: TreeStore>(rt: &impl Abort, tree: &mut Placed<S>) -> Result<(), AllocError> {
     tree.put_next(rt, &Key::Head, Next::Tail)?;
     let mark = tree.store.mark();
@@ -184,15 +216,31 @@ fn call<S: TreeStore>(rt: &impl Abort, tree: &mut Placed<S>, turn: u64) -> Resul
         11 => refused_register(rt, tree),
         12 => tree.undo_each(rt, CHANGES),
         13 => undo_at_once(rt, tree),
+        14 => added_ids(rt, tree),
+        15 => refused_id(rt, tree),
         _ => presence_undone(rt, tree),
     }
 }
 
 #[test]
 fn plain_store(rt: HostRuntime) -> Result<(), Fail> {
-    for turn in 0..15 {
+    let alloc = rt.alloc();
+    for turn in 0..TURNS {
         for deep in [false, true] {
-            call(&rt, &mut plain(&rt, rt.alloc(), deep)?, turn)?;
+            let store = PlainTree::new(alloc);
+            call(&rt, &mut empty_map(&rt, alloc, store, deep)?, turn)?;
+        }
+    }
+    Ok(())
+}
+
+#[test]
+fn arena_store(rt: HostRuntime) -> Result<(), Fail> {
+    let alloc = rt.alloc();
+    for turn in 0..TURNS {
+        for deep in [false, true] {
+            let store = ArenaTree::new(alloc)?;
+            call(&rt, &mut empty_map(&rt, alloc, store, deep)?, turn)?;
         }
     }
     Ok(())

@@ -5,7 +5,7 @@ ghost use Rattle.jc_rules.specs.Ids.{AreRising};
 ghost use Rattle.jc_rules.specs.Shape.{IsKeptRegister};
 
 use jc_rules::{Id, Key, Next, Tagged, Text, Value};
-use jc_tree::{Mark, PlainTree, TreeStore, is_place};
+use jc_tree::{Mark, TreeStore, is_place};
 use std::alloc::{AllocError, Global};
 use std::process::Abort;
 
@@ -45,11 +45,16 @@ pub struct Placed<S> {
     pub at: Vec<Tagged>,
 }
 
-/// An empty map of a plain store: its root, or three levels down, in a list's element.
-pub fn plain(rt: &impl Abort, alloc: Global, deep: bool) -> Result<Placed<PlainTree>, AllocError> {
+/// An empty map of the store: its root, or three levels down, in a list's element.
+pub fn empty_map<S: TreeStore + Drop>(
+    rt: &impl Abort,
+    alloc: Global,
+    store: S,
+    deep: bool,
+) -> Result<Placed<S>, AllocError> {
     let mut tree = Placed {
         alloc,
-        store: PlainTree::new(alloc),
+        store,
         at: Vec::new(alloc),
     };
     if deep {
@@ -78,6 +83,20 @@ impl<S: TreeStore> Placed<S> {
     {
         assert!(rt; is_place(&self.store, self.at.as_slice()));
         self.store.set_presence(self.at.as_slice(), key, ids)
+    }
+
+    /// Adds the identifier, where there was a set before or not.
+    pub fn add_id(
+        &mut self,
+        rt: &impl Abort,
+        key: &Key,
+        id: Id,
+        was: bool,
+    ) -> Result<(), AllocError> {
+        assert!(rt; is_place(&self.store, self.at.as_slice()));
+        let told = self.store.add_presence(self.at.as_slice(), key, id)?;
+        assert!(rt; told == was);
+        Ok(())
     }
 
     pub fn put_next(&mut self, rt: &impl Abort, key: &Key, next: Next) -> Result<(), AllocError> {

@@ -2,7 +2,6 @@
 
 use super::{counts, holds};
 use crate::laws::one_run;
-use crate::only::OnlyReplica;
 use crate::work::work_alone;
 use jc_fakes::{Bytes, Endless, FailsAt, OneByte, Taken, TakesUpTo, Then};
 use jc_rules::io::{Sink, Source};
@@ -33,17 +32,17 @@ const TWO_DUMP: &str =
     "{\"acted\":false,\"left\":0,\"name\":\"a\",\"ops\":[\"1@a\",\"2@a\"],\"queue\":[\"1@a\",\"2@a\"],\"recv\":[],\"send\":[],\"tree\":{\"mapT(doc)\":{\"pres(\\\"a\\\")\":[\"1@a\",\"2@a\"],\"regT(\\\"a\\\")\":{\"2@a\":{\"n\":\"2\"}}},\"pres(doc)\":[\"1@a\",\"2@a\"]},\"vars\":{}}\n";
 
 /// Runs the program on these words.
-fn work<R: AllocGlobal, I: Source, K: Sink, E: Sink>(
+pub(super) fn work<R: AllocGlobal, I: Source, K: Sink, E: Sink>(
     rt: &R,
     words: &[String],
     input: &mut I,
     out: &mut K,
     err: &mut E,
 ) -> Option<u8> {
-    work_alone::<OnlyReplica, _, _, _, _>(rt, words, input, out, err)
+    work_alone(rt, words, input, out, err)
 }
 
-fn ends(rt: &impl Abort, got: Option<u8>, want: u8) {
+pub(super) fn ends(rt: &impl Abort, got: Option<u8>, want: u8) {
     assert_eq!(rt; got, Some(want));
 }
 
@@ -83,12 +82,35 @@ fn runs(rt: HostRuntime) {
     expect_run(&rt, Bytes::new(TWO.as_bytes()), &two, 0);
 }
 
+/// Texts that are no scenario, and the line of each.
+const REFUSED: &[(&[u8], &str)] = &[
+    (b"", "refused 14 NoHeader at 0\n"),
+    (b"jsoncrdt 2", "refused 14 NoHeader at 9\n"),
+    (b"jsoncrdt 1", "refused 16 NoReplica at 10\n"),
+    (b"jsoncrdt 1 \xff", "refused 13 NotUtf8 at 11\n"),
+    (
+        b"jsoncrdt 1 replica let {}",
+        "refused 10 ReservedName at 19\n",
+    ),
+    (
+        b"jsoncrdt 1 replica a {yield",
+        "refused 8 EndOfText at 27\n",
+    ),
+    (
+        b"jsoncrdt 1 replica a {} replica a {}",
+        "refused 15 SameName at 32\n",
+    ),
+    (
+        b"jsoncrdt 1 replica a {} schedule {b.exec}",
+        "refused 18 UnknownReplica at 34\n",
+    ),
+];
+
 #[test]
 fn refused_texts(rt: HostRuntime) {
-    let none = Bytes::new(b"");
-    expect_run(&rt, none, &["refused 14 NoHeader at 0\n"], 1);
-    let yields = Bytes::new(b"jsoncrdt 1 replica a {yield}");
-    expect_run(&rt, yields, &["refused 7 Unexpected at 22\n"], 1);
+    for (text, line) in REFUSED {
+        expect_run(&rt, Bytes::new(text), &[line], 1);
+    }
     expect_run(&rt, Endless::new(b' '), &[TOO_LONG], 1);
 }
 

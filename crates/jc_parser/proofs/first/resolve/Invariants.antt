@@ -1,6 +1,6 @@
 use Rattle.std.proofs.Common.{◌≡◌, drop}
-use Rattle.jc_parser.specs.Parts.{resolved}
-use Rattle.jc_parser.proofs.Loops.{with_events}
+use Rattle.jc_parser.specs.FirstParts.{resolved}
+use Rattle.jc_parser.proofs.FirstLoops.{with_events}
 use Rattle.jc_parser.proofs.first.resolve.Given as goal
 
 -- the events so far, and those to come

@@ -2,8 +2,8 @@ use Rattle.std.proofs.Common.{◌≡◌, List, Err, Ok, sym, ap, subst, ◌∙�
 use Rattle.std.proofs.lemmas.Result.{err_from_is_err_and}
 use Rattle.jc_syntax.specs.declared.tree.Named.{Named}
 use Rattle.jc_parser.specs.Reading.{Reading, reading}
-use Rattle.jc_parser.specs.Parts.{whole_at, resolved}
-use Rattle.jc_parser.specs.Views.{parsed_view}
+use Rattle.jc_parser.specs.FirstParts.{whole_at, resolved}
+use Rattle.jc_parser.specs.FirstViews.{parsed_view}
 use Rattle.jc_parser.proofs.Whole.{whole_err}
 use Rattle.jc_parser.proofs.Resolved.{resolved_ok, resolved_err}
 use Rattle.jc_parser.proofs.first.scenario.Goals as goal

@@ -9,12 +9,12 @@ use Rattle.jc_network.proofs.net.Net.start.Goals as goal
 pub invariant_of-result : goal.invariant_of-result
 invariant_of-result c =
     let scripts = scripts_view c.args.scenario.now.scripts.items in
-    let names = c.in_ok-copy_names.field-0.items in
-    let made : c.in_ok-replicas_of.field-0.items ≡ pasts_from 0 scripts = c.in_ok-replicas_of.ensures ∙ ap (λ l. pasts_from 0 (scripts_view l)) c.deref-2.ensures.value in
+    let names = c.in_ok-names.names.items in
+    let made : c.in_ok-replicas.replicas.items ≡ pasts_from 0 scripts = c.in_ok-replicas.ensures ∙ ap (λ l. pasts_from 0 (scripts_view l)) c.deref-2.ensures.value in
     let none : reverse c.new.result.items ≡ [] = ap reverse c.new.ensures.items in
     let each = c.requires.each in
     let few = c.requires.few in
-    let count : length names ≡ length scripts = ap length (c.in_ok-copy_names.ensures ∙ c.deref.ensures.value) ∙ sym each in
+    let count : length names ≡ length scripts = ap length (c.in_ok-names.ensures ∙ c.deref.ensures.value) ∙ sym each in
     let whole = starts_in_run scripts (short_scripts scripts (omega (arith, each, few)) c.requires.formed) in
     subst (λ ps. IsKeptNet (length names) (reverse c.new.result.items) ps) (sym made)
     (subst (λ w. IsKeptNet (length names) w (pasts_from 0 scripts)) (sym none)
@@ -23,9 +23,9 @@ invariant_of-result c =
 pub returns : goal.returns
 returns c =
     let scripts = scripts_view c.args.scenario.now.scripts.items in
-    let items = c.in_ok-replicas_of.field-0.items in
-    let made : items ≡ pasts_from 0 scripts = c.in_ok-replicas_of.ensures ∙ ap (λ l. pasts_from 0 (scripts_view l)) c.deref-2.ensures.value in
-    let names = c.in_ok-copy_names.ensures ∙ c.deref.ensures.value in
+    let items = c.in_ok-replicas.replicas.items in
+    let made : items ≡ pasts_from 0 scripts = c.in_ok-replicas.ensures ∙ ap (λ l. pasts_from 0 (scripts_view l)) c.deref-2.ensures.value in
+    let names = c.in_ok-names.ensures ∙ c.deref.ensures.value in
     let network = ap network_of made ∙ real_start scripts in
     let earlier = ap (λ w. earlier_of w items) (ap reverse c.new.ensures.items) in
     λ n. record { names = names n; network = network n; earlier = earlier n }

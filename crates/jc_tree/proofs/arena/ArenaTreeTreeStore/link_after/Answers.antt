@@ -1,0 +1,12 @@
+use Rattle.std.proofs.Common.{refl, option_copied}
+use Rattle.jc_rules.specs.Entries.{keys_of}
+use Rattle.jc_rules.specs.Context.{links}
+use Rattle.jc_tree.specs.Tree.{least_after}
+use Rattle.jc_tree.specs.Arena.{Flat}
+use Rattle.jc_tree.proofs.ArenaSteps.{read_at}
+use Rattle.jc_tree.proofs.arena.ArenaTreeTreeStore.link_after.Goals as goal
+
+pub returns : goal.returns
+returns c =
+    let self = c.args.self.now in
+    read_at (λ d. least_after (option_copied c.args.above) (keys_of (links d))) (λ (n : Flat). least_after (option_copied c.args.above) (keys_of n.links)) self.nodes.items c.args.at.now c.find.result c.index.result.now _ self.good c.find.ensures.walk c.find.ensures.within c.index.ensures (λ g n. refl) c.link_after.ensures

@@ -1,0 +1,16 @@
+use Rattle.jc_tree.proofs.ArenaSteps.{context_key}
+use Rattle.jc_tree.proofs.arena.ArenaTreeTreeStore.make_child.Goals as goal
+
+pub change-requires : goal.change-requires
+change-requires c = record {
+  there = c.requires.there;
+  inside = rw (c.in_ok-copy-in-RegT.ensures, c.in-RegT.is) tt;
+  fit = tt;
+}
+
+pub make_node-requires : goal.make_node-requires
+make_node-requires c = record {
+  there = c.requires.there;
+  absent = c.requires.absent;
+  context = context_key c.args.key.now c.in_default.not-RegT;
+}

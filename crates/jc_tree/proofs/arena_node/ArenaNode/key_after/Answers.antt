@@ -1,0 +1,9 @@
+use Rattle.std.proofs.Common.{◌∙◌, sym, option_copied}
+use Rattle.jc_tree.proofs.ArenaSteps.{least_by_kind}
+use Rattle.jc_tree.proofs.arena_node.ArenaNode.key_after.Goals as goal
+
+pub returns : goal.returns
+returns c =
+    let inside = c.self.inside in
+    let parted = sym (least_by_kind inside.maps.items inside.lists.items inside.registers.items (option_copied c.args.after)) in
+    rw (← c.self.view_is) (c.lesser-2.ensures ∙ rw (c.lesser.ensures, c.key_above-of_maps.ensures, c.key_above-of_lists.ensures, c.key_above-of_registers.ensures, c.as_slice.ensures.value, c.as_slice-2.ensures.value, c.as_slice-3.ensures.value) parted)

@@ -1,0 +1,90 @@
+-- The earlier contents of an arena.
+use Rattle.std.specs.Prelude.{◌≡◌, ℕ, ◌<◌, List, [], ◌∷◌, length, slice_set}
+use Rattle.std.specs.List.{AllByRecursion-prop}
+use Rattle.std.specs.Coded.{Coded-set, le_prop, ×_prop, Unit-prop, coded_ℕ}
+use Rattle.std.specs.Ordering.{Ordering-set}
+use Rattle.std.specs.declared.cmp.Ordering.TheVariants.{Less}
+use Rattle.jc_rules.specs.declared.key.Key.{Key}
+use Rattle.jc_rules.specs.contracts.key.Tagged.{the_row as tagged_row}
+use Rattle.jc_rules.specs.Order.{key_cmp}
+use Rattle.jc_rules.specs.Entries.{IsRising, keys_of}
+use Rattle.jc_rules.specs.Context.{Context}
+use Rattle.jc_rules.specs.Shape.{IsKept}
+use Rattle.jc_tree.specs.Sorted.{AreSorted}
+use Rattle.jc_tree.specs.Single.{IsKept-single}
+use Rattle.jc_tree.specs.Tree.{Tree}
+use Rattle.jc_tree.specs.Arena.{Flat, flat_at, content_of, IsSound, restored_flat}
+use Rattle.jc_tree.specs.declared.node.Former.{Former}
+use Rattle.jc_tree.specs.declared.node.Former.TheVariants as F
+use Rattle.jc_tree.specs.declared.arena.Undo.{Undo}
+
+abbrev pub without_last : List Flat → List Flat
+without_last [] = []
+without_last (n ∷ []) = []
+without_last (n ∷ m ∷ ns) = n ∷ without_last (m ∷ ns)
+
+-- without the node that a change made
+abbrev pub fewer : Former → List Flat → List Flat
+fewer (F.Map k o) ns = without_last ns
+fewer (F.List k o) ns = without_last ns
+fewer _ ns = ns
+
+abbrev pub restored_in : ℕ → Former → List Flat → List Flat
+restored_in i f ns = slice_set ns i (restored_flat f (flat_at ns i))
+
+-- the nodes before a change
+abbrev pub back : Undo → List Flat → List Flat
+back u ns = restored_in u.node u.former (fewer u.former ns)
+
+-- the nodes before all the changes that these take back, of which the last was the latest
+abbrev pub undone : List Undo → List Flat → List Flat
+undone [] ns = ns
+undone (u ∷ us) ns = back u (undone us ns)
+
+-- the contents before each of these changes, the oldest first
+abbrev pub contents : List Undo → List Flat → List Context
+contents [] ns = []
+contents (u ∷ us) ns = content_of (undone (u ∷ us) ns) ∷ contents us ns
+
+abbrev pub tree_of : List Flat → List Undo → Tree
+tree_of ns us = record { now = content_of ns; earlier = contents us ns }
+
+-- nodes that are there, sound, and of a kept content
+pub record IsGood (ns : List Flat) : Type 0 where
+  pub some : 0 < length ns
+  pub sound : IsSound ns
+  pub kept : IsKept (content_of ns)
+
+-- so at each earlier time
+abbrev pub AreGood : List Undo → List Flat → Type 0
+AreGood [] ns = Unit {0}
+AreGood (u ∷ us) ns = IsGood (undone (u ∷ us) ns) × AreGood us ns
+
+IsRising-single : (ks : List Key) → IsProp (IsRising key_cmp ks)
+IsRising-single [] = Unit-prop
+IsRising-single (k ∷ ks) =
+    ×_prop (AllByRecursion-prop (λ j. key_cmp k j ≡ Less) (λ j. Ordering-set _ _) ks) (IsRising-single ks)
+
+AreSorted-single : {X : Type 0} (es : List (Key × X)) → IsProp (AreSorted es)
+AreSorted-single es = IsRising-single (keys_of es)
+
+-- each of these has one proof
+pub IsSound-single : (ns : List Flat) → IsProp (IsSound ns)
+IsSound-single ns = λ x y i. record {
+  inner = λ a b t e. ×_prop le_prop le_prop (x.inner a b t e) (y.inner a b t e) i;
+  once = λ a u b t s e f.
+      ×_prop (Coded-set coded_ℕ _ _) (Coded-set tagged_row.coded _ _) (x.once a u b t s e f) (y.once a u b t s e f) i;
+  maps_rise = λ a. AreSorted-single (flat_at ns a).maps (x.maps_rise a) (y.maps_rise a) i;
+  lists_rise = λ a. AreSorted-single (flat_at ns a).lists (x.lists_rise a) (y.lists_rise a) i;
+}
+
+pub IsGood-single : (ns : List Flat) → IsProp (IsGood ns)
+IsGood-single ns = λ x y i. record {
+  some = le_prop x.some y.some i;
+  sound = IsSound-single ns x.sound y.sound i;
+  kept = IsKept-single (content_of ns) x.kept y.kept i;
+}
+
+pub AreGood-single : (us : List Undo) (ns : List Flat) → IsProp (AreGood us ns)
+AreGood-single [] ns = Unit-prop
+AreGood-single (u ∷ us) ns = ×_prop (IsGood-single (undone (u ∷ us) ns)) (AreGood-single us ns)

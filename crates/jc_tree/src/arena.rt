@@ -1,0 +1,229 @@
+//! The fast store: nodes in one list, each of which names its children by their numbers.
+
+ghost use Rattle.std.specs.Prelude.{◌≡◌, ◌≢◌, ◌<◌, ◌+◌, None, Some, [], ◌∷◌, ◌++◌, length, IfOk, OnOk, OnErr};
+ghost use Rattle.jc_rules.specs.Context.{content, with_content, new_content, empty};
+ghost use Rattle.jc_rules.specs.Paths.{HasContext};
+ghost use Rattle.jc_rules.specs.Places.{node_at, context_at};
+ghost use Rattle.jc_tree.specs.Tree.{Tree, IsChanged};
+ghost use Rattle.jc_tree.specs.Change.{IsFit, changed_by};
+ghost use Rattle.jc_tree.specs.Arena.{IsInside, content_of, walk};
+ghost use Rattle.jc_tree.specs.ArenaUndo.{contents, fewer, back, tree_of, IsGood, AreGood, IsGood-single, AreGood-single};
+
+use crate::arena_node::{ArenaNode, former_of_node};
+use crate::ids::Ids;
+use crate::lists::Pairs;
+use crate::node::{Change, Former};
+use crate::store::{Mark, TreeStore};
+use jc_rules::{Id, Key, Next, Tagged, Value};
+use std::alloc::{AllocError, Global};
+
+/// What takes one change back: the number of the node that was changed, and what the change set in
+/// it, as it was before.
+#[derive(Drop)]
+pub struct Undo {
+    node: usize,
+    former: Former,
+}
+
+/// A tree as a list of nodes, the document's first and each one before its children, with what takes
+/// each of its changes back, the latest last.
+#[derive(Drop)]
+pub struct ArenaTree {
+    alloc: Global,
+    nodes: Vec<ArenaNode>,
+    undos: Vec<Undo>,
+    ghost good: { IsGood nodes.items } by { IsGood-single nodes.items },
+    ghost earlier_good: { AreGood undos.items nodes.items } by { AreGood-single undos.items nodes.items },
+}
+
+/// Takes the last node away, if the change made one.
+fn drop_node(nodes: &mut Vec<ArenaNode>, former: &Former)
+    ensures { nodes.new.items ≡ fewer former.now nodes.old.items }
+{
+    match former {
+        Former::Map(_, _) => {
+            nodes.pop();
+        }
+        Former::List(_, _) => {
+            nodes.pop();
+        }
+        _ => {}
+    }
+}
+
+/// Makes the nodes what they were before a change. It takes no memory.
+fn take_back(nodes: &mut Vec<ArenaNode>, undo: Undo)
+    ensures { nodes.new.items ≡ back undo nodes.old.items }
+{
+    let Undo { node, former } = undo;
+    drop_node(nodes, &former);
+    if node < nodes.len() {
+        nodes[node].restore(former);
+    }
+}
+
+impl ArenaTree {
+    /// The empty tree, with no earlier content.
+    pub fn new(alloc: Global) -> Result<Self, AllocError>
+        ensures { IfOk result (λ s. ⟦<ArenaTree as TreeStore>⟧.tree s ≡ record { now = empty; earlier = [] }) }
+    {
+        let mut nodes = Vec::new(alloc);
+        nodes.push(ArenaNode::new(alloc))?;
+        Ok(ArenaTree {
+            alloc,
+            nodes,
+            undos: Vec::new(alloc),
+        })
+    }
+
+    /// The number of the node that the path leads to.
+    fn find(&self, at: &[Tagged]) -> usize
+        requires { node_at at.now (content_of self.now.nodes.items) ≢ None }
+        ensures walk { walk self.now.nodes.items 0 at.now ≡ Some result }
+        ensures within { result < length self.now.nodes.items }
+    {
+        let mut node = 0;
+        for key in at {
+            match self.nodes[node].child(key) {
+                Some(child) => node = child,
+                None => unreachable!(),
+            }
+        }
+        node
+    }
+
+    /// Makes a new map or list under the tagged key. After a refusal all is as it was.
+    fn make_node(&mut self, at: &[Tagged], key: &Tagged) -> Result<(), AllocError>
+        requires there { node_at at.now (content_of self.old.nodes.items) ≢ None }
+        requires absent { content key.now (context_at at.now (content_of self.old.nodes.items)) ≡ None }
+        requires context { HasContext key.now }
+        ensures ok { OnOk result (IsChanged at.now
+            (with_content key.now (new_content key.now) (context_at at.now (content_of self.old.nodes.items)))
+            (tree_of self.old.nodes.items self.old.undos.items) (tree_of self.new.nodes.items self.new.undos.items)) }
+        ensures err { OnErr result (tree_of self.new.nodes.items self.new.undos.items
+            ≡ tree_of self.old.nodes.items self.old.undos.items) }
+    {
+        let node = self.find(at);
+        let number = self.nodes.len();
+        let child = ArenaNode::of_child(self.alloc, key)?;
+        let former = former_of_node(key)?;
+        self.undos.reserve(1)?;
+        self.nodes.reserve(1)?;
+        self.nodes[node].name_child(key.copy()?, number)?;
+        self.nodes.push(child).unwrap();
+        self.undos.push(Undo { node, former }).unwrap();
+        Ok(())
+    }
+
+    /// Makes one change that makes no node, and keeps what takes it back. After a refusal all is as it
+    /// was.
+    fn change(&mut self, at: &[Tagged], change: Change) -> Result<(), AllocError>
+        requires there { node_at at.now (content_of self.old.nodes.items) ≢ None }
+        requires inside { IsInside change }
+        requires fit { IsFit change }
+        ensures ok { OnOk result (IsChanged at.now
+            (changed_by change (context_at at.now (content_of self.old.nodes.items)))
+            (tree_of self.old.nodes.items self.old.undos.items) (tree_of self.new.nodes.items self.new.undos.items)) }
+        ensures err { OnErr result (tree_of self.new.nodes.items self.new.undos.items
+            ≡ tree_of self.old.nodes.items self.old.undos.items) }
+    {
+        let node = self.find(at);
+        self.undos.reserve(1)?;
+        let former = self.nodes[node].change(change, self.alloc)?;
+        self.undos.push(Undo { node, former }).unwrap();
+        Ok(())
+    }
+
+    /// Takes the latest change back.
+    fn undo(&mut self)
+        requires { 0 < length self.old.undos.items }
+        ensures undos { length self.new.undos.items + 1 ≡ length self.old.undos.items }
+        ensures history { contents self.new.undos.items self.new.nodes.items ++ content_of self.new.nodes.items ∷ []
+            ≡ contents self.old.undos.items self.old.nodes.items }
+    {
+        if let Some(undo) = self.undos.pop() {
+            take_back(&mut self.nodes, undo);
+        }
+    }
+}
+
+impl TreeStore for ArenaTree {
+    ghost tree = { λ s. tree_of s.nodes.items s.undos.items };
+
+    ghost kept = { λ s. s.good.kept };
+
+    fn has(&self, at: &[Tagged], key: &Tagged) -> bool {
+        self.nodes[self.find(at)].has(key)
+    }
+
+    fn make_child(&mut self, at: &[Tagged], key: &Tagged) -> Result<(), AllocError> {
+        match key {
+            Tagged::RegT(_) => self.change(at, Change::Child(key.copy()?)),
+            _ => self.make_node(at, key),
+        }
+    }
+
+    fn presence(&self, at: &[Tagged], key: &Key) -> Option<&[Id]> {
+        self.nodes[self.find(at)].presence(key)
+    }
+
+    fn set_presence(&mut self, at: &[Tagged], key: &Key, ids: &[Id]) -> Result<(), AllocError> {
+        let ids = Ids::new(ids.to_vec(self.alloc)?);
+        self.change(at, Change::Presence(key.copy()?, ids))
+    }
+
+    fn add_presence(&mut self, at: &[Tagged], key: &Key, id: Id) -> Result<bool, AllocError> {
+        let was = self.nodes[self.find(at)].presence(key).is_some();
+        self.change(at, Change::AddId(key.copy()?, id))?;
+        Ok(was)
+    }
+
+    fn next(&self, at: &[Tagged], key: &Key) -> Option<Next> {
+        self.nodes[self.find(at)].next(key)
+    }
+
+    fn set_next(&mut self, at: &[Tagged], key: &Key, next: Next) -> Result<(), AllocError> {
+        self.change(at, Change::Link(key.copy()?, next))
+    }
+
+    fn register(&self, at: &[Tagged], key: &Key) -> Option<&[(Id, Value)]> {
+        self.nodes[self.find(at)].register(key)
+    }
+
+    fn set_register(
+        &mut self,
+        at: &[Tagged],
+        key: &Key,
+        pairs: Vec<(Id, Value)>,
+    ) -> Result<(), AllocError> {
+        self.change(at, Change::Register(key.copy()?, Pairs::new(pairs)))
+    }
+
+    fn key_after(&self, at: &[Tagged], above: Option<&Key>) -> Option<&Key> {
+        self.nodes[self.find(at)].key_after(above)
+    }
+
+    fn presence_after(&self, at: &[Tagged], above: Option<&Key>) -> Option<&Key> {
+        self.nodes[self.find(at)].presence_after(above)
+    }
+
+    fn link_after(&self, at: &[Tagged], above: Option<&Key>) -> Option<&Key> {
+        self.nodes[self.find(at)].link_after(above)
+    }
+
+    fn mark(&self) -> Mark {
+        Mark {
+            changes: self.undos.len(),
+        }
+    }
+
+    fn undo_to(&mut self, mark: Mark) {
+        while mark.changes < self.undos.len() {
+            self.undo();
+        }
+    }
+
+    fn forget_marks(&mut self) {
+        self.undos.clear();
+    }
+}

@@ -1,0 +1,209 @@
+//! The nodes of an arena.
+
+ghost use Rattle.std.specs.Prelude.{◌≡◌, ◌++◌, None, is_some, option_copied, IfOk, OnOk, OnErr};
+ghost use Rattle.jc_rules.specs.Order.{key_cmp};
+ghost use Rattle.jc_rules.specs.Entries.{find, keys_of};
+ghost use Rattle.jc_rules.specs.Paths.{HasContext};
+ghost use Rattle.jc_tree.specs.Tree.{least_after};
+ghost use Rattle.jc_tree.specs.Arena.{blank, new_flat, child_of, is_in, with_number, IsInside, changed_flat, former_of_node, former_of_flat, restored_flat};
+
+use crate::entries::{key_above, put_value, restore_value, value_of};
+use crate::ids::{Ids, add_to, take_from};
+use crate::lists::Pairs;
+use crate::node::{Change, Former, former_of_id, lesser};
+use jc_rules::{Id, Key, Next, Tagged, Value};
+use std::alloc::{AllocError, Global};
+use std::marker::Model;
+
+/// A context whose children are named by the numbers of their nodes: its entries by kind, each kind
+/// sorted by key.
+#[derive(Drop)]
+pub struct ArenaNode {
+    maps: Vec<(Key, usize)>,
+    lists: Vec<(Key, usize)>,
+    registers: Vec<(Key, Pairs)>,
+    presences: Vec<(Key, Ids)>,
+    links: Vec<(Key, Next)>,
+}
+
+impl Model for ArenaNode {
+    ghost use Rattle.jc_tree.specs.Arena.{Flat, IsSortedFlat};
+
+    ghost Value = { Flat };
+
+    ghost view = { λ a. record { maps = a.maps.items; lists = a.lists.items; registers = a.registers.items; presences = a.presences.items; links = a.links.items } };
+
+    ghost invariant = { λ a. IsSortedFlat (record { maps = a.maps.items; lists = a.lists.items; registers = a.registers.items; presences = a.presences.items; links = a.links.items }) };
+}
+
+/// What takes it back that a node is made under a tagged key.
+pub fn former_of_node(key: &Tagged) -> Result<Former, AllocError>
+    requires { HasContext key.now }
+    ensures { IfOk result (λ former. former ≡ former_of_node key.now) }
+{
+    match key {
+        Tagged::MapT(key) => Ok(Former::Map(key.copy()?, None)),
+        Tagged::ListT(key) => Ok(Former::List(key.copy()?, None)),
+        Tagged::RegT(_) => unreachable!(),
+    }
+}
+
+impl ArenaNode {
+    /// The node of a new map.
+    pub fn new(alloc: Global) -> Self
+        ensures { result ≡ blank }
+    {
+        ArenaNode {
+            maps: Vec::new(alloc),
+            lists: Vec::new(alloc),
+            registers: Vec::new(alloc),
+            presences: Vec::new(alloc),
+            links: Vec::new(alloc),
+        }
+    }
+
+    /// The node of a new map or list.
+    pub fn of_child(alloc: Global, key: &Tagged) -> Result<Self, AllocError>
+        requires { HasContext key.now }
+        ensures { IfOk result (λ node. node ≡ new_flat key.now) }
+    {
+        let mut node = ArenaNode::new(alloc);
+        if let Tagged::ListT(_) = key {
+            put_value(&mut node.links, Key::Head, Next::Tail)?;
+        }
+        Ok(node)
+    }
+
+    /// Whether the tagged key is there.
+    pub fn has(&self, key: &Tagged) -> bool
+        ensures { result ≡ is_in key.now self.now }
+    {
+        match key {
+            Tagged::MapT(key) => value_of(self.maps.as_slice(), key).is_some(),
+            Tagged::ListT(key) => value_of(self.lists.as_slice(), key).is_some(),
+            Tagged::RegT(key) => value_of(self.registers.as_slice(), key).is_some(),
+        }
+    }
+
+    /// The number of the child under the tagged key.
+    pub fn child(&self, key: &Tagged) -> Option<usize>
+        ensures { result ≡ child_of key.now self.now }
+    {
+        match key {
+            Tagged::MapT(key) => value_of(self.maps.as_slice(), key).copied(),
+            Tagged::ListT(key) => value_of(self.lists.as_slice(), key).copied(),
+            Tagged::RegT(_) => None,
+        }
+    }
+
+    /// The presence set of the key.
+    pub fn presence(&self, key: &Key) -> Option<&[Id]>
+        ensures { option_copied result ≡ find key_cmp key.now self.now.presences }
+    {
+        Some(value_of(self.presences.as_slice(), key)?.as_slice())
+    }
+
+    /// What follows the key.
+    pub fn next(&self, key: &Key) -> Option<Next>
+        ensures { result ≡ find key_cmp key.now self.now.links }
+    {
+        value_of(self.links.as_slice(), key).copied()
+    }
+
+    /// The values of the key's register.
+    pub fn register(&self, key: &Key) -> Option<&[(Id, Value)]>
+        ensures { option_copied result ≡ find key_cmp key.now self.now.registers }
+    {
+        Some(value_of(self.registers.as_slice(), key)?.as_slice())
+    }
+
+    /// The least key with a tag, above the given one.
+    pub fn key_after(&self, after: Option<&Key>) -> Option<&Key>
+        ensures { option_copied result ≡ least_after (option_copied after.entry)
+            (keys_of self.now.maps ++ keys_of self.now.lists ++ keys_of self.now.registers) }
+    {
+        let of_maps = key_above(self.maps.as_slice(), after);
+        let of_lists = key_above(self.lists.as_slice(), after);
+        let of_registers = key_above(self.registers.as_slice(), after);
+        lesser(lesser(of_maps, of_lists), of_registers)
+    }
+
+    /// The least key with a presence set, above the given one.
+    pub fn presence_after(&self, after: Option<&Key>) -> Option<&Key>
+        ensures { option_copied result ≡ least_after (option_copied after.entry) (keys_of self.now.presences) }
+    {
+        key_above(self.presences.as_slice(), after)
+    }
+
+    /// The least key that something follows, above the given one.
+    pub fn link_after(&self, after: Option<&Key>) -> Option<&Key>
+        ensures { option_copied result ≡ least_after (option_copied after.entry) (keys_of self.now.links) }
+    {
+        key_above(self.links.as_slice(), after)
+    }
+
+    /// Names a child under the tagged key. After a refusal the node is as it was.
+    pub fn name_child(&mut self, key: Tagged, number: usize) -> Result<(), AllocError>
+        requires { HasContext key }
+        ensures ok { OnOk result (self.new ≡ with_number key number self.old) }
+        ensures err { OnErr result (self.new ≡ self.old) }
+    {
+        match key {
+            Tagged::MapT(key) => {
+                put_value(&mut self.maps, key, number)?;
+                Ok(())
+            }
+            Tagged::ListT(key) => {
+                put_value(&mut self.lists, key, number)?;
+                Ok(())
+            }
+            Tagged::RegT(_) => unreachable!(),
+        }
+    }
+
+    /// Makes a change that makes no node, and gives what takes it back. After a refusal the node is
+    /// as it was.
+    pub fn change(&mut self, change: Change, alloc: Global) -> Result<Former, AllocError>
+        requires { IsInside change }
+        ensures ok { OnOk result (self.new ≡ changed_flat change self.old) }
+        ensures former { IfOk result (λ former. former ≡ former_of_flat change self.old) }
+        ensures err { OnErr result (self.new ≡ self.old) }
+    {
+        match change {
+            Change::Child(Tagged::RegT(key)) => {
+                let pairs = Pairs::new(Vec::new(alloc));
+                Ok(Former::Register(key.copy()?, put_value(&mut self.registers, key, pairs)?))
+            }
+            Change::Child(Tagged::MapT(_) | Tagged::ListT(_)) => unreachable!(),
+            Change::AddId(key, id) => {
+                let former = former_of_id(self.presences.as_slice(), &key, id)?;
+                add_to(&mut self.presences, key, id, alloc)?;
+                Ok(former)
+            }
+            Change::Presence(key, ids) => {
+                Ok(Former::Presence(key.copy()?, put_value(&mut self.presences, key, ids)?))
+            }
+            Change::Link(key, next) => {
+                Ok(Former::Link(key.copy()?, put_value(&mut self.links, key, next)?))
+            }
+            Change::Register(key, pairs) => {
+                Ok(Former::Register(key.copy()?, put_value(&mut self.registers, key, pairs)?))
+            }
+        }
+    }
+
+    /// Makes what a change set what it was. It takes no memory.
+    pub fn restore(&mut self, former: Former)
+        ensures { self.new ≡ restored_flat former self.old }
+    {
+        match former {
+            Former::Map(key, _) => restore_value(&mut self.maps, &key, None),
+            Former::List(key, _) => restore_value(&mut self.lists, &key, None),
+            Former::Register(key, pairs) => restore_value(&mut self.registers, &key, pairs),
+            Former::Presence(key, ids) => restore_value(&mut self.presences, &key, ids),
+            Former::Link(key, next) => restore_value(&mut self.links, &key, next),
+            Former::NoId(key, id) => take_from(&mut self.presences, &key, id),
+            Former::Same => {}
+        }
+    }
+}

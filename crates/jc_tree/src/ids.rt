@@ -1,0 +1,102 @@
+//! Presence sets that are changed in place.
+
+ghost use Rattle.std.specs.Prelude.{◌≡◌, OnOk, OnErr};
+ghost use Rattle.jc_rules.specs.Ids.{AreRising, has_id, with_id};
+ghost use Rattle.jc_rules.specs.Order.{key_cmp};
+ghost use Rattle.jc_rules.specs.Entries.{find, put};
+ghost use Rattle.jc_tree.specs.Tree.{or_none};
+ghost use Rattle.jc_tree.specs.Sorted.{AreSorted};
+ghost use Rattle.jc_tree.specs.Undo.{taken_out, out_of_set};
+
+use crate::entries::{place_of, put_value};
+use jc_rules::{Id, Key, insert_id};
+use std::alloc::{AllocError, Global};
+use std::marker::Model;
+
+/// The identifiers of a presence set, rising.
+#[derive(Drop)]
+pub struct Ids {
+    ids: Vec<Id>,
+}
+
+impl Model for Ids {
+    ghost use Rattle.std.specs.Prelude.{List};
+    ghost use Rattle.jc_rules.specs.declared.id.Id.{Id};
+    ghost use Rattle.jc_rules.specs.Ids.{AreRising};
+
+    ghost Value = { List Id };
+
+    ghost view = { λ a. a.ids.items };
+
+    ghost invariant = { λ a. AreRising a.ids.items };
+}
+
+impl Ids {
+    pub fn new(ids: Vec<Id>) -> Self
+        requires { AreRising ids.items }
+        ensures { result ≡ ids.items }
+    {
+        Ids { ids }
+    }
+
+    pub fn as_slice(&self) -> &[Id]
+        ensures { result.now ≡ self.now }
+    {
+        self.ids.as_slice()
+    }
+
+    /// Whether the identifier is in the set.
+    pub fn contains(&self, id: Id) -> bool
+        ensures { result ≡ has_id id self.now }
+    {
+        self.ids.binary_search(&id).is_ok()
+    }
+
+    /// Adds the identifier, if it isn't there already. After a refusal the set is as it was.
+    pub fn insert(&mut self, id: Id) -> Result<(), AllocError>
+        ensures ok { OnOk result (self.new ≡ with_id id self.old) }
+        ensures err { OnErr result (self.new ≡ self.old) }
+    {
+        insert_id(&mut self.ids, id)
+    }
+
+    /// Takes the identifier out, where it is there. It takes no memory.
+    pub fn take_out(&mut self, id: Id)
+        ensures { self.new ≡ taken_out id self.old }
+    {
+        if let Ok(place) = self.ids.binary_search(&id) {
+            self.ids.remove(place);
+        }
+    }
+}
+
+/// Adds the identifier to the key's set, a new one where there is none. After a refusal the sets are
+/// as they were.
+pub fn add_to(sets: &mut Vec<(Key, Ids)>, key: Key, id: Id, alloc: Global) -> Result<(), AllocError>
+    requires { AreSorted sets.old.items }
+    ensures ok { OnOk result (sets.new.items
+        ≡ put key_cmp key (with_id id (or_none (find key_cmp key sets.old.items))) sets.old.items) }
+    ensures err { OnErr result (sets.new.items ≡ sets.old.items) }
+    ensures sorted { AreSorted sets.new.items }
+{
+    match place_of(sets.as_slice(), &key) {
+        Ok(i) => sets[i].1.insert(id),
+        Err(_) => {
+            let mut ids = Vec::new(alloc);
+            ids.push(id)?;
+            put_value(sets, key, Ids::new(ids))?;
+            Ok(())
+        }
+    }
+}
+
+/// Takes the identifier out of the key's set, where there is one. It takes no memory.
+pub fn take_from(sets: &mut Vec<(Key, Ids)>, key: &Key, id: Id)
+    requires { AreSorted sets.old.items }
+    ensures ok { sets.new.items ≡ out_of_set key.now id (find key_cmp key.now sets.old.items) sets.old.items }
+    ensures sorted { AreSorted sets.new.items }
+{
+    if let Ok(i) = place_of(sets.as_slice(), key) {
+        sets[i].1.take_out(id);
+    }
+}
