@@ -2,15 +2,9 @@ pub mod Faults
 pub mod Symbols
 pub mod Reading
 pub mod Words
-pub mod Grammar
-pub mod Stops
-pub mod First
 pub mod Parts
-pub mod FirstParts
 pub mod Views
-pub mod FirstViews
 pub mod Laws
-pub mod FirstLaws
 pub mod Language
 pub mod LanguageParts
 pub mod Sentences

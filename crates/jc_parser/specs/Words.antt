@@ -1,4 +1,4 @@
--- What both the first grammar and the whole language are written with.
+-- What several sentences are written with.
 use Rattle.std.specs.Prelude.{◌≡◌, ℕ, suc, ◌⊎◌, List, [], ◌∷◌, ◌++◌, codes, Bool, ◌||◌}
 use Rattle.std.specs.Str.{bytes_eq}
 use Rattle.jc_rules.specs.declared.value.Value.{Value}

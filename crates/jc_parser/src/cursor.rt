@@ -5,7 +5,6 @@ ghost use Rattle.std.specs.Str.{all_ascii_digits};
 ghost use Rattle.jc_syntax.specs.declared.token.TokenKind.TheVariants.{Number, Str};
 ghost use Rattle.jc_syntax.specs.Lexemes.{IsTokenOf};
 ghost use Rattle.jc_parser.specs.Reading.{Gives, reading, place, stuck, begins, has_kind, is_word, is_number, reserved, skip, take, named_at, is_at_end};
-ghost use Rattle.jc_parser.specs.FirstParts.{extra_selector};
 ghost use Rattle.jc_parser.specs.Words as words;
 ghost use Rattle.jc_parser.specs.Language as language;
 ghost use Rattle.jc_parser.specs.Language.{numeral_value};
@@ -146,24 +145,6 @@ impl<'a> Cursor<'a> {
                 is_selector(slice_of(self.text, first))
             }
             _ => false,
-        }
-    }
-
-    /// The fault of a dot after as many selectors as there may be: its own, if a selector's word
-    /// follows it, else that of what follows.
-    pub(crate) fn extra_selector(&self) -> ScenarioFault
-        ensures { result ≡ extra_selector self.now }
-    {
-        match self.tokens {
-            [] => self.stuck(),
-            [dot, rest @ ..] => {
-                let after = Cursor::new(self.text, rest);
-                if after.begins_word("get") {
-                    ScenarioFault::TooLongExpression { place: dot.start }
-                } else {
-                    after.stuck()
-                }
-            }
         }
     }
 

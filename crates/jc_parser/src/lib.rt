@@ -4,9 +4,6 @@
 mod cursor;
 mod events;
 mod fault;
-mod first;
-pub mod first_laws;
-mod first_parts;
 mod language;
 pub mod laws;
 mod parse_fault;
@@ -16,7 +13,6 @@ mod trees;
 
 pub use events::{event_at, parse_event};
 pub use fault::ScenarioFault;
-pub use first::{First, first_read};
 pub use language::parse_expr;
 pub use parse_fault::ParseFault;
 pub use scripts::{parse_script, script_at};

@@ -1,5 +1,4 @@
-//! The parts of a scenario, read from left to right, that are the same in the first grammar and in the
-//! whole language.
+//! The parts of a scenario that several sentences have, read from left to right.
 
 ghost use Rattle.jc_parser.specs.Reading.{Gives};
 ghost use Rattle.jc_parser.specs.Parts.{get_at, value_at, name_at, front_at};
