@@ -1,5 +1,5 @@
 -- What was written before a failure.
-use Rattle.std.proofs.Common.{◌≡◌, ◌≢◌, ℕ, ◌+◌, ◌<◌, ◌≤◌, inl, inr, List, [], ◌∷◌, ◌++◌, length, take, drop, get_or, Option, Some, None, Result, Ok, Err, OnOk, OnErr, refl, ap, sym, ◌∙◌, subst, append_assoc, append-nil, lt_of_not-le, arith}
+use Rattle.std.proofs.Common.{◌≡◌, ◌≢◌, ℕ, ◌+◌, ◌<◌, ◌≤◌, inl, inr, List, [], ◌∷◌, ◌++◌, length, take, drop, get_or, Bool, Option, Some, None, Result, Ok, Err, OnOk, OnErr, refl, ap, sym, ◌∙◌, subst, append_assoc, append-nil, lt_of_not-le, arith}
 use Rattle.std.proofs.lemmas.List.{take-append-le, take-append-drop, take_all}
 use Rattle.std.proofs.Math.Seq.{take-append-add, take-append_seam, take-length}
 use Rattle.std.specs.Io.KnownBytes.{Appends, Consumes}
@@ -8,12 +8,13 @@ use mathlib.Core.Logic.{dite}
 use Rattle.jc_rules.specs.declared.operation.Event.{Event}
 use Rattle.jc_rules.specs.State.{State}
 use Rattle.jc_rules.specs.Told.{AppendsFront, LosesUpTo, IsFront}
-use Rattle.jc_app.specs.Runs.{Made, GoesBy, Plays, Stuck, events_of, blocks_text}
+use Rattle.jc_app.specs.Runs.{Made, GoesBy, Plays, Stuck, events_of, events_text}
 use Rattle.jc_scenario.specs.Scenarios.{Scenario}
 use Rattle.jc_network.specs.Course.{Course, started}
 use Rattle.jc_network.specs.Laws.{starts}
 use Rattle.jc_parser.specs.declared.fault.ScenarioFault.{ScenarioFault}
 use Rattle.jc_parser.specs.declared.fault.ScenarioFault.TheVariants.{Memory as NoMemoryRead}
+use Rattle.jc_words.specs.declared.order.Task.{Task}
 use Rattle.jc_app.specs.Ran.{ReadsAs, Ran}
 use Rattle.jc_app.specs.Due.{AppendsUpTo, AppendsFrontOf, IsNext, Begins, IsDueAt, IsDue, AreTold, HasBegun}
 use Rattle.jc_app.proofs.Playing.{goes_on, events_of-append, split_here, shown_more}
@@ -70,18 +71,18 @@ loses_read most (Some xs) None bs h l = absurd h
 loses_read most (Some xs) (Some ys) bs h l = (bs, l, h)
 
 -- the events that were made before a failure, and the next one where its block was begun
-pub begun : (names : List (List ℕ)) (first now : List State) (es : List Event) (i n : ℕ) (made : List Made) (a b c : Option (List ℕ)) (d : Event)
+pub begun : (trace : Bool) (names : List (List ℕ)) (first now : List State) (es : List Event) (i n : ℕ) (made : List Made) (a b c : Option (List ℕ)) (d : Event)
     → GoesBy first made now → take i es ≡ events_of made → i < length es → n ≡ length made + 1
-    → Appends a b (blocks_text names 1 made) → AppendsFrontOf (IsNext names now (get_or es i d) n) b c → AppendsFrontOf (Begins names first es) a c
-begun names first now es i n made a b c d goes taken inside count wrote (text, inl none, up) = (
-  blocks_text names 1 made,
+    → Appends a b (events_text trace names 1 made) → AppendsFrontOf (IsNext trace names now (get_or es i d) n) b c → AppendsFrontOf (Begins trace names first es) a c
+begun trace names first now es i n made a b c d goes taken inside count wrote (text, inl none, up) = (
+  events_text trace names 1 made,
   record { made = made; more = drop i es; last = now; goes = goes; events = sym (take-append-drop i es) ∙ ap (λ l. l ++ drop i es) taken; shown = refl },
-  subst (λ l. AppendsUpTo a c l) (ap (λ l. blocks_text names 1 made ++ l) none ∙ append-nil (blocks_text names 1 made)) (then_up_to a b c (blocks_text names 1 made) text wrote up),
+  subst (λ l. AppendsUpTo a c l) (ap (λ l. events_text trace names 1 made ++ l) none ∙ append-nil (events_text trace names 1 made)) (then_up_to a b c (events_text trace names 1 made) text wrote up),
 )
-begun names first now es i n made a b c d goes taken inside count wrote (text, inr (rows, new, step, is), up) =
+begun trace names first now es i n made a b c d goes taken inside count wrote (text, inr (rows, new, step, is), up) =
     let e : Event = get_or es i d in
     let m : Made = (e, rows) in (
-      blocks_text names 1 (made ++ m ∷ []),
+      events_text trace names 1 (made ++ m ∷ []),
       record {
         made = made ++ m ∷ [];
         more = drop (i + 1) es;
@@ -90,43 +91,43 @@ begun names first now es i n made a b c d goes taken inside count wrote (text, i
         events = split_here es i made d inside taken ∙ (sym (append_assoc (events_of made) (e ∷ []) (drop (i + 1) es)) ∙ ap (λ l. l ++ drop (i + 1) es) (sym (events_of-append made m)));
         shown = refl;
       },
-      subst (λ l. AppendsUpTo a c l) (ap (λ l. blocks_text names 1 made ++ l) is ∙ sym (shown_more names made e rows n count)) (then_up_to a b c (blocks_text names 1 made) text wrote up),
+      subst (λ l. AppendsUpTo a c l) (ap (λ l. events_text trace names 1 made ++ l) is ∙ sym (shown_more trace names made e rows n count)) (then_up_to a b c (events_text trace names 1 made) text wrote up),
     )
 
 -- a schedule that was played to its end or its stuck event was begun
-pub plays_begins : (names : List (List ℕ)) (network last : List State) (schedule : List Event) (stuck : Option Stuck) (text : List ℕ) → Plays names network schedule last stuck text → Begins names network schedule text
-plays_begins names network last schedule None text p = record { made = p.made; more = []; last = last; goes = p.goes; events = p.ends ∙ sym (append-nil (events_of p.made)); shown = p.shown }
-plays_begins names network last schedule (Some (event, why)) text p = record { made = p.made; more = event ∷ p.ends.0; last = last; goes = p.goes; events = p.ends.1; shown = p.shown }
+pub plays_begins : (trace : Bool) (names : List (List ℕ)) (network last : List State) (schedule : List Event) (stuck : Option Stuck) (text : List ℕ) → Plays trace names network schedule last stuck text → Begins trace names network schedule text
+plays_begins trace names network last schedule None text p = record { made = p.made; more = []; last = last; goes = p.goes; events = p.ends ∙ sym (append-nil (events_of p.made)); shown = p.shown }
+plays_begins trace names network last schedule (Some (event, why)) text p = record { made = p.made; more = event ∷ p.ends.0; last = last; goes = p.goes; events = p.ends.1; shown = p.shown }
 
 -- nothing of a scenario's run is there yet
-pub none_begun : (s : Scenario) → Begins s.names (starts s.scripts) s.schedule []
-none_begun s = record { made = []; more = s.schedule; last = starts s.scripts; goes = refl; events = refl; shown = refl }
+pub none_begun : (trace : Bool) (s : Scenario) → Begins trace s.names (starts s.scripts) s.schedule []
+none_begun trace s = record { made = []; more = s.schedule; last = starts s.scripts; goes = refl; events = refl; shown = refl }
 
 -- the events that a network began are those of its scenario
-pub begins_from : (s : Scenario) (first : Course) (schedule : List Event) (text : List ℕ) → first ≡ started s → schedule ≡ s.schedule → Begins first.names first.network schedule text → Begins s.names (starts s.scripts) s.schedule text
-begins_from s first schedule text from events h =
-    subst (λ (c : Course). Begins c.names c.network s.schedule text) from (subst (λ (es : List Event). Begins first.names first.network es text) events h)
+pub begins_from : (trace : Bool) (s : Scenario) (first : Course) (schedule : List Event) (text : List ℕ) → first ≡ started s → schedule ≡ s.schedule → Begins trace first.names first.network schedule text → Begins trace s.names (starts s.scripts) s.schedule text
+begins_from trace s first schedule text from events h =
+    subst (λ (c : Course). Begins trace c.names c.network s.schedule text) from (subst (λ (es : List Event). Begins trace first.names first.network es text) events h)
 
 -- what is due at a fault is due on the bytes that have it
-pub due_at : (bytes : List ℕ) (fault : ScenarioFault) (text : List ℕ) → (fault ≢ NoMemoryRead → ReadsAs bytes (Err fault)) → IsDueAt fault text → IsDue bytes text
-due_at bytes fault text known (inl none) = inl none
-due_at bytes fault text known (inr h) = inr (Err fault, known (has_number fault _ h.1.number), inr h)
+pub due_at : (task : Task) (bytes : List ℕ) (fault : ScenarioFault) (text : List ℕ) → (fault ≢ NoMemoryRead → ReadsAs bytes (Err fault)) → IsDueAt fault text → IsDue task bytes text
+due_at task bytes fault text known (inl none) = inl none
+due_at task bytes fault text known (inr h) = inr (Err fault, known (has_number fault _ h.1.number), inr h)
 
 -- what was begun of the front that was read was begun of the whole
-due_whole : (n : ℕ) (b v text : List ℕ) → n ≡ 8388609 → v ≡ take n b → IsDue v text → IsDue b text
-due_whole n b v text is e (inl h) = inl h
-due_whole n b v text is e (inr h) = inr (h.0, reads_whole n b v h.0 is e h.1, h.2)
+due_whole : (task : Task) (n : ℕ) (b v text : List ℕ) → n ≡ 8388609 → v ≡ take n b → IsDue task v text → IsDue task b text
+due_whole task n b v text is e (inl h) = inl h
+due_whole task n b v text is e (inr h) = inr (h.0, reads_whole n b v h.0 is e h.1, h.2)
 
 -- the bytes that a source had left, as far as they are told, and a run on them
-pub run_on_front : (n : ℕ) (left : Option (List ℕ)) (v shown : List ℕ) (status : ℕ) → n ≡ 8388609 → IsFront n left v → Ran v shown status → (bytes : List ℕ) × AreTold left bytes × Ran bytes shown status
-run_on_front n None v shown status is front ran = (v, tt, ran)
-run_on_front n (Some bytes) v shown status is front ran = (bytes, refl, ran_whole n bytes v shown status is front ran)
+pub run_on_front : (task : Task) (n : ℕ) (left : Option (List ℕ)) (v shown : List ℕ) (status : ℕ) → n ≡ 8388609 → IsFront n left v → Ran task v shown status → (bytes : List ℕ) × AreTold left bytes × Ran task bytes shown status
+run_on_front task n None v shown status is front ran = (v, tt, ran)
+run_on_front task n (Some bytes) v shown status is front ran = (bytes, refl, ran_whole task n bytes v shown status is front ran)
 
-pub begun_on_front : (n : ℕ) (left old new : Option (List ℕ)) (v : List ℕ) → n ≡ 8388609 → IsFront n left v → AppendsFrontOf (IsDue v) old new → HasBegun left old new
-begun_on_front n None old new v is front h = (v, tt, h)
-begun_on_front n (Some bytes) old new v is front h = (bytes, refl, (h.0, due_whole n bytes v h.0 is front h.1, h.2))
+pub begun_on_front : (task : Task) (n : ℕ) (left old new : Option (List ℕ)) (v : List ℕ) → n ≡ 8388609 → IsFront n left v → AppendsFrontOf (IsDue task v) old new → HasBegun task left old new
+begun_on_front task n None old new v is front h = (v, tt, h)
+begun_on_front task n (Some bytes) old new v is front h = (bytes, refl, (h.0, due_whole task n bytes v h.0 is front h.1, h.2))
 
 -- where nothing was read, nothing was begun
-pub begun_nothing : (left out : Option (List ℕ)) → HasBegun left out out
-begun_nothing None out = ([], tt, ([], inl refl, none_yet out []))
-begun_nothing (Some bytes) out = (bytes, refl, ([], inl refl, none_yet out []))
+pub begun_nothing : (task : Task) (left out : Option (List ℕ)) → HasBegun task left out out
+begun_nothing task None out = ([], tt, ([], inl refl, none_yet out []))
+begun_nothing task (Some bytes) out = (bytes, refl, ([], inl refl, none_yet out []))

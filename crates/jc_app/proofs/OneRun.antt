@@ -1,5 +1,5 @@
 -- A run is a function of its bytes.
-use Rattle.std.proofs.Common.{◌≡◌, ℕ, List, [], ◌∷◌, ◌++◌, Option, Some, None, Result, Ok, Err, refl, sym, ◌∙◌, ap, subst}
+use Rattle.std.proofs.Common.{◌≡◌, ℕ, List, [], ◌∷◌, ◌++◌, Bool, Option, Some, None, Result, Ok, Err, refl, sym, ◌∙◌, ap, subst}
 use Rattle.std.proofs.lemmas.Option.{same_Some}
 use Rattle.jc_rules.specs.declared.operation.Event.{Event}
 use Rattle.jc_rules.specs.State.{State}
@@ -12,8 +12,10 @@ use Rattle.jc_scenario.specs.Laws.{OneScenario, ScenarioOrFault, OneFault}
 use Rattle.jc_scenario.specs.Scenarios.{Scenario}
 use Rattle.jc_network.specs.Laws.{starts}
 use Rattle.jc_app.specs.Texts.{refused_text}
-use Rattle.jc_app.specs.Runs.{Made, GoesBy, EndsAt, Stuck, events_of, blocks_text, dumps_text, stuck_line, status_of}
-use Rattle.jc_app.specs.Ran.{ReadsAs, RanThrough, IsRefused, RanOn}
+use Rattle.jc_app.specs.Runs.{Made, GoesBy, EndsAt, Stuck, events_of, events_text, dumps_text, stuck_line, status_of}
+use Rattle.jc_words.specs.declared.order.Task.{Task}
+use Rattle.jc_words.specs.declared.order.Task.TheVariants.{Check, Print, Run}
+use Rattle.jc_app.specs.Ran.{ReadsAs, RanThrough, Shows, IsRefused, RanOn}
 
 first_same : {X : Type 0} (x y : X) (xs ys : List X) → x ∷ xs ≡ y ∷ ys → x ≡ y
 first_same x y xs ys e = cc
@@ -67,12 +69,12 @@ module _ (one_step : OneStep) (stuck_has_none : StuckHasNone) (one_stuck : OneSt
       let first : m ≡ k = (λ i. (event i, same.1 i)) in
       ((λ i. first i ∷ more.0 i), more.1, more.2)
 
-  same_through : (s : Scenario) (shown other : List ℕ) (status other_status : ℕ) → RanThrough s shown status → RanThrough s other other_status → (shown ≡ other) × (status ≡ other_status)
-  same_through s shown other status other_status a b =
+  same_through : (trace : Bool) (s : Scenario) (shown other : List ℕ) (status other_status : ℕ) → RanThrough trace s shown status → RanThrough trace s other other_status → (shown ≡ other) × (status ≡ other_status)
+  same_through trace s shown other status other_status a b =
       let p = a.plays in
       let q = b.plays in
       let same = same_play s.schedule (starts s.scripts) a.last b.last p.made q.made a.stuck b.stuck p.goes p.ends q.goes q.ends in
-      let blocks : a.blocks ≡ b.blocks = p.shown ∙ (ap (λ made. blocks_text s.names 1 made) same.0 ∙ sym q.shown) in (
+      let blocks : a.blocks ≡ b.blocks = p.shown ∙ (ap (λ made. events_text trace s.names 1 made) same.0 ∙ sym q.shown) in (
         a.written ∙ ((λ i. blocks i ++ dumps_text s.names (same.1 i) ++ stuck_line s.names (same.2 i)) ∙ sym b.written),
         a.ends ∙ (ap status_of same.2 ∙ sym b.ends),
       )
@@ -85,10 +87,15 @@ module _ (one_step : OneStep) (stuck_has_none : StuckHasNone) (one_stuck : OneSt
         let place = same_Some a.place b.place (sym a.stands ∙ b.stands) in
         (a.written ∙ ((λ i. refused_text (refusal i) (place i)) ∙ sym b.written), a.ends ∙ sym b.ends)
 
-    pub one_run : (bytes shown other : List ℕ) (status other_status : ℕ) (read other_read : Result Scenario ScenarioFault) → ReadsAs bytes read → ReadsAs bytes other_read → RanOn read shown status → RanOn other_read other other_status → (shown ≡ other) × (status ≡ other_status)
-    one_run bytes shown other status other_status (Ok s) (Ok t) r q a b =
-        same_through t shown other status other_status (subst (λ (x : Scenario). RanThrough x shown status) (one_scenario bytes s t r q) a) b
-    one_run bytes shown other status other_status (Ok s) (Err fault) r q a b = absurd (scenario_or_fault bytes s fault r q)
-    one_run bytes shown other status other_status (Err fault) (Ok t) r q a b = absurd (scenario_or_fault bytes t fault q r)
-    one_run bytes shown other status other_status (Err fault) (Err other_fault) r q a b =
+    same_shown : (task : Task) (s : Scenario) (shown other : List ℕ) (status other_status : ℕ) → Shows task s shown status → Shows task s other other_status → (shown ≡ other) × (status ≡ other_status)
+    same_shown Check s shown other status other_status a b = (a.0 ∙ sym b.0, a.1 ∙ sym b.1)
+    same_shown Print s shown other status other_status a b = (a.0 ∙ sym b.0, a.1 ∙ sym b.1)
+    same_shown (Run trace) s shown other status other_status a b = same_through trace s shown other status other_status a b
+
+    pub one_run : (task : Task) (bytes shown other : List ℕ) (status other_status : ℕ) (read other_read : Result Scenario ScenarioFault) → ReadsAs bytes read → ReadsAs bytes other_read → RanOn task read shown status → RanOn task other_read other other_status → (shown ≡ other) × (status ≡ other_status)
+    one_run task bytes shown other status other_status (Ok s) (Ok t) r q a b =
+        same_shown task t shown other status other_status (subst (λ (x : Scenario). Shows task x shown status) (one_scenario bytes s t r q) a) b
+    one_run task bytes shown other status other_status (Ok s) (Err fault) r q a b = absurd (scenario_or_fault bytes s fault r q)
+    one_run task bytes shown other status other_status (Err fault) (Ok t) r q a b = absurd (scenario_or_fault bytes t fault q r)
+    one_run task bytes shown other status other_status (Err fault) (Err other_fault) r q a b =
         same_refused other_fault shown other status other_status (subst (λ (f : ScenarioFault). IsRefused f shown status) (one_fault bytes fault other_fault r q) a) b

@@ -1,5 +1,5 @@
 -- A run that goes on by one event.
-use Rattle.std.proofs.Common.{◌≡◌, ℕ, zero, suc, ◌+◌, ◌<◌, ◌≤◌, List, [], ◌∷◌, ◌++◌, length, take, drop, get_or, slice_get, is_some, Option, Some, None, true, false, refl, ap, sym, ◌∙◌, subst, append_assoc, append-nil, add-zero, arith}
+use Rattle.std.proofs.Common.{◌≡◌, ℕ, zero, suc, ◌+◌, ◌<◌, ◌≤◌, List, [], ◌∷◌, ◌++◌, length, take, drop, get_or, slice_get, is_some, Bool, Option, Some, None, true, false, refl, ap, sym, ◌∙◌, subst, append_assoc, append-nil, add-zero, arith}
 use Rattle.std.proofs.lemmas.Grind.{common_steps}
 use Rattle.std.proofs.lemmas.List.{take_more, length-append}
 use Rattle.std.proofs.Math.Seq.{take-length}
@@ -17,20 +17,20 @@ use Rattle.jc_scenario.specs.Scenarios.{Scenario}
 use Rattle.jc_network.specs.declared.fault.Stuck.{Stuck as StuckEvent}
 use Rattle.jc_network.specs.Course.{Course, started}
 use Rattle.jc_dump.specs.Dump.{dump_line}
-use Rattle.jc_app.specs.Texts.{block_text}
+use Rattle.jc_app.specs.Texts.{event_text}
 use Rattle.jc_app.specs.Ran.{RanThrough}
-use Rattle.jc_app.specs.Runs.{Made, GoesBy, Plays, events_of, blocks_text, dumps_from, dumps_text, stuck_line, status_of}
+use Rattle.jc_app.specs.Runs.{Made, GoesBy, Plays, events_of, events_text, dumps_from, dumps_text, stuck_line, status_of}
 use Rattle.jc_app.specs.Played.{PlaysNext, PlaysAll}
 
 pub goes_on : (network : List State) (made : List Made) (last : List State) (e : Event) (rows : List (Rule × ℕ)) (new : List State) → GoesBy network made last → Step last e new rows → GoesBy network (made ++ (e, rows) ∷ []) new
 goes_on network [] last e rows new a s = (new, subst (λ (n : List State). Step n e new rows) a s, refl)
 goes_on network (m ∷ made) last e rows new a s = (a.0, a.1, goes_on a.0 made last e rows new a.2 s)
 
-pub blocks_text-append : (names : List (List ℕ)) (n : ℕ) (made : List Made) (m : Made) → blocks_text names n (made ++ m ∷ []) ≡ blocks_text names n made ++ block_text names (n + length made) m.0 m.1
-blocks_text-append names n [] m = append-nil (block_text names n m.0 m.1) ∙ ap (λ k. block_text names k m.0 m.1) (sym (add-zero n))
-blocks_text-append names n (x ∷ made) m =
+pub events_text-append : (trace : Bool) (names : List (List ℕ)) (n : ℕ) (made : List Made) (m : Made) → events_text trace names n (made ++ m ∷ []) ≡ events_text trace names n made ++ event_text trace names (n + length made) m.0 m.1
+events_text-append trace names n [] m = append-nil (event_text trace names n m.0 m.1) ∙ ap (λ k. event_text trace names k m.0 m.1) (sym (add-zero n))
+events_text-append trace names n (x ∷ made) m =
     let same : n + 1 + length made ≡ n + length (x ∷ made) = omega arith in
-    ap (λ s. block_text names n x.0 x.1 ++ s) (blocks_text-append names (n + 1) made m) ∙ sym (append_assoc (block_text names n x.0 x.1) (blocks_text names (n + 1) made) _) ∙ ap (λ k. (block_text names n x.0 x.1 ++ blocks_text names (n + 1) made) ++ block_text names k m.0 m.1) same
+    ap (λ s. event_text trace names n x.0 x.1 ++ s) (events_text-append trace names (n + 1) made m) ∙ sym (append_assoc (event_text trace names n x.0 x.1) (events_text trace names (n + 1) made) _) ∙ ap (λ k. (event_text trace names n x.0 x.1 ++ events_text trace names (n + 1) made) ++ event_text trace names k m.0 m.1) same
 
 pub events_of-append : (made : List Made) (m : Made) → events_of (made ++ m ∷ []) ≡ events_of made ++ m.0 ∷ []
 events_of-append [] m = refl
@@ -45,21 +45,21 @@ pub split_here : (es : List Event) (i : ℕ) (made : List Made) (d : Event) → 
 split_here es i made d h e = grind (arith, common_steps)
 
 -- one block more
-pub shown_more : (names : List (List ℕ)) (made : List Made) (e : Event) (rows : List (Rule × ℕ)) (n : ℕ) → n ≡ length made + 1 → blocks_text names 1 (made ++ (e, rows) ∷ []) ≡ blocks_text names 1 made ++ block_text names n e rows
-shown_more names made e rows n count =
+pub shown_more : (trace : Bool) (names : List (List ℕ)) (made : List Made) (e : Event) (rows : List (Rule × ℕ)) (n : ℕ) → n ≡ length made + 1 → events_text trace names 1 (made ++ (e, rows) ∷ []) ≡ events_text trace names 1 made ++ event_text trace names n e rows
+shown_more trace names made e rows n count =
     let number : 1 + length made ≡ n = omega (arith, count) in
-    blocks_text-append names 1 made (e, rows) ∙ rw number refl
+    events_text-append trace names 1 made (e, rows) ∙ rw number refl
 
 -- what was played of a scenario, with the dumps and the stuck line, is its run
-pub ran : (s : Scenario) (first last : Course) (schedule : List Event) (a b : Option (List ℕ)) (answer : Option StuckEvent) → first ≡ started s → schedule ≡ s.schedule → (h : PlaysAll first last schedule a b answer) → (shown : List ℕ) → shown ≡ h.text ++ dumps_text last.names last.network ++ stuck_line last.names h.stuck → RanThrough s shown (status_of h.stuck)
-ran s first last schedule a b answer from events h shown is =
+pub ran : (trace : Bool) (s : Scenario) (first last : Course) (schedule : List Event) (a b : Option (List ℕ)) (answer : Option StuckEvent) → first ≡ started s → schedule ≡ s.schedule → (h : PlaysAll trace first last schedule a b answer) → (shown : List ℕ) → shown ≡ h.text ++ dumps_text last.names last.network ++ stuck_line last.names h.stuck → RanThrough trace s shown (status_of h.stuck)
+ran trace s first last schedule a b answer from events h shown is =
     let names : last.names ≡ s.names = h.names ∙ ap (λ (c : Course). c.names) from in
-    let there = subst (λ (es : List Event). Plays first.names first.network es last.network h.stuck h.text) events h.plays in
+    let there = subst (λ (es : List Event). Plays trace first.names first.network es last.network h.stuck h.text) events h.plays in
     record {
       last = last.network;
       stuck = h.stuck;
       blocks = h.text;
-      plays = subst (λ (c : Course). Plays c.names c.network s.schedule last.network h.stuck h.text) from there;
+      plays = subst (λ (c : Course). Plays trace c.names c.network s.schedule last.network h.stuck h.text) from there;
       written = is ∙ ap (λ n. h.text ++ dumps_text n last.network ++ stuck_line n h.stuck) names;
       ends = refl;
     }
@@ -86,13 +86,13 @@ dumps_more names p network A e =
 -- ---- one event
 
 -- the event at the place is stuck, after all before it were made
-pub stops_here : (old now new : Course) (es : List Event) (i n : ℕ) (d : Event) (made : List Made) (a b c : Option (List ℕ)) (s : Option StuckEvent) → is_some s ≡ true → now.names ≡ old.names → GoesBy old.network made now.network → take i es ≡ events_of made → i < length es → Appends a b (blocks_text old.names 1 made) → AreNamed (get_or es i d) (length old.names) → PlaysNext now new n (get_or es i d) b c s → PlaysAll old new es a c s
-stops_here old now new es i n d made a b c None some names goes taken inside wrote named h = let f : false ≡ true = some in cc
-stops_here old now new es i n d made a b c (Some s) some names goes taken inside wrote named (stuck, same, still) =
+pub stops_here : (trace : Bool) (old now new : Course) (es : List Event) (i n : ℕ) (d : Event) (made : List Made) (a b c : Option (List ℕ)) (s : Option StuckEvent) → is_some s ≡ true → now.names ≡ old.names → GoesBy old.network made now.network → take i es ≡ events_of made → i < length es → Appends a b (events_text trace old.names 1 made) → AreNamed (get_or es i d) (length old.names) → PlaysNext trace now new n (get_or es i d) b c s → PlaysAll trace old new es a c s
+stops_here trace old now new es i n d made a b c None some names goes taken inside wrote named h = let f : false ≡ true = some in cc
+stops_here trace old now new es i n d made a b c (Some s) some names goes taken inside wrote named (stuck, same, still) =
     let network : new.network ≡ now.network = ap (λ (v : Course). v.network) same in
     record {
       stuck = Some (get_or es i d, stuck.why);
-      text = blocks_text old.names 1 made;
+      text = events_text trace old.names 1 made;
       plays = record {
         made = made;
         goes = subst (GoesBy old.network made) (sym network) goes;
@@ -101,42 +101,42 @@ stops_here old now new es i n d made a b c (Some s) some names goes taken inside
       };
       tells = (stuck.is, named);
       names = ap (λ (v : Course). v.names) same ∙ names;
-      written = subst (λ o. Appends a o (blocks_text old.names 1 made)) (sym still) wrote;
+      written = subst (λ o. Appends a o (events_text trace old.names 1 made)) (sym still) wrote;
     }
 
 -- the event at the place was made, after all before it
-pub record GoesOn (old new : Course) (es : List Event) (i : ℕ) (a c : Option (List ℕ)) : Type 0 where
+pub record GoesOn (trace : Bool) (old new : Course) (es : List Event) (i : ℕ) (a c : Option (List ℕ)) : Type 0 where
   pub made : List Made
   pub goes : GoesBy old.network made new.network
   pub taken : take (i + 1) es ≡ events_of made
-  pub wrote : Appends a c (blocks_text old.names 1 made)
+  pub wrote : Appends a c (events_text trace old.names 1 made)
   pub names : new.names ≡ old.names
   pub steps : length new.earlier ≡ i + 1
 
-pub goes_here : (old now new : Course) (es : List Event) (i n : ℕ) (d : Event) (made : List Made) (a b c : Option (List ℕ)) (s : Option StuckEvent) → is_some s ≡ false → now.names ≡ old.names → length now.earlier ≡ i → n ≡ i + 1 → GoesBy old.network made now.network → take i es ≡ events_of made → i < length es → Appends a b (blocks_text old.names 1 made) → PlaysNext now new n (get_or es i d) b c s → GoesOn old new es i a c
-goes_here old now new es i n d made a b c (Some s) none names steps number goes taken inside wrote h = let f : true ≡ false = none in cc
-goes_here old now new es i n d made a b c None none names steps number goes taken inside wrote (rows, to, appended) =
+pub goes_here : (trace : Bool) (old now new : Course) (es : List Event) (i n : ℕ) (d : Event) (made : List Made) (a b c : Option (List ℕ)) (s : Option StuckEvent) → is_some s ≡ false → now.names ≡ old.names → length now.earlier ≡ i → n ≡ i + 1 → GoesBy old.network made now.network → take i es ≡ events_of made → i < length es → Appends a b (events_text trace old.names 1 made) → PlaysNext trace now new n (get_or es i d) b c s → GoesOn trace old new es i a c
+goes_here trace old now new es i n d made a b c (Some s) none names steps number goes taken inside wrote h = let f : true ≡ false = none in cc
+goes_here trace old now new es i n d made a b c None none names steps number goes taken inside wrote (rows, to, appended) =
     let e = get_or es i d in
     let m : Made = (e, rows.rows) in
     let count : length made ≡ i = made_count es i made (omega (arith, inside)) taken in
-    let block = subst (λ ns. Appends b c (block_text ns n e rows.rows)) names appended in
-    let whole = Appends-trans a b c (blocks_text old.names 1 made) (block_text old.names n e rows.rows) wrote block in
+    let block = subst (λ ns. Appends b c (event_text trace ns n e rows.rows)) names appended in
+    let whole = Appends-trans a b c (events_text trace old.names 1 made) (event_text trace old.names n e rows.rows) wrote block in
     record {
       made = made ++ m ∷ [];
       goes = goes_on old.network made now.network e rows.rows new.network goes to.step;
       taken = take_more es i d inside ∙ (ap (λ l. l ++ e ∷ []) taken ∙ sym (events_of-append made m));
-      wrote = subst (Appends a c) (sym (shown_more old.names made e rows.rows n (omega (arith, number, count)))) whole;
+      wrote = subst (Appends a c) (sym (shown_more trace old.names made e rows.rows n (omega (arith, number, count)))) whole;
       names = to.names ∙ names;
       steps = ap length to.earlier ∙ (length-append now.earlier (now.network ∷ []) ∙ ap (λ k. k + 1) steps);
     }
 
 -- all events were made
-pub ends_here : (old now : Course) (es : List Event) (i : ℕ) (made : List Made) (a b : Option (List ℕ)) → length es ≡ i → now.names ≡ old.names → GoesBy old.network made now.network → take i es ≡ events_of made → Appends a b (blocks_text old.names 1 made) → PlaysAll old now es a b None
-ends_here old now es i made a b all names goes taken wrote =
+pub ends_here : (trace : Bool) (old now : Course) (es : List Event) (i : ℕ) (made : List Made) (a b : Option (List ℕ)) → length es ≡ i → now.names ≡ old.names → GoesBy old.network made now.network → take i es ≡ events_of made → Appends a b (events_text trace old.names 1 made) → PlaysAll trace old now es a b None
+ends_here trace old now es i made a b all names goes taken wrote =
     let whole : es ≡ events_of made = sym (take-length es) ∙ (ap (λ k. take k es) all ∙ taken) in
     record {
       stuck = None;
-      text = blocks_text old.names 1 made;
+      text = events_text trace old.names 1 made;
       plays = record { made = made; goes = goes; ends = whole; shown = refl };
       tells = tt;
       names = names;

@@ -1,5 +1,5 @@
 -- Runs of a schedule: the events that were made, and what is shown of them.
-use Rattle.std.specs.Prelude.{◌≡◌, ℕ, suc, ◌+◌, List, [], ◌∷◌, ◌++◌, map, Option, Some, None}
+use Rattle.std.specs.Prelude.{◌≡◌, ℕ, suc, ◌+◌, List, [], ◌∷◌, ◌++◌, map, Bool, Option, Some, None}
 use Rattle.jc_rules.specs.declared.operation.Event.{Event}
 use Rattle.jc_rules.specs.declared.rule.Rule.{Rule}
 use Rattle.jc_rules.specs.Names.{name_at}
@@ -8,7 +8,7 @@ use Rattle.jc_rules.specs.Step.{Step}
 use Rattle.jc_rules.specs.Refused.{Cause, IsStuck}
 use Rattle.jc_dump.specs.Dump.{dump_line}
 use Rattle.jc_dump.specs.Lines.{stuck_text}
-use Rattle.jc_app.specs.Texts.{block_text}
+use Rattle.jc_app.specs.Texts.{event_text}
 
 -- an event that was made, with its trace
 abbrev pub Made : Type 0
@@ -32,20 +32,20 @@ EndsAt events made last None = events ≡ events_of made
 EndsAt events made last (Some (event, why)) =
     (more : List Event) × (events ≡ events_of made ++ event ∷ more) × IsStuck last event why
 
--- the blocks of the events, numbered from n on
-abbrev pub blocks_text : List (List ℕ) → ℕ → List Made → List ℕ
-blocks_text names n [] = []
-blocks_text names n (m ∷ made) = block_text names n m.0 m.1 ++ blocks_text names (n + 1) made
+-- what is shown of the events, with their trace or without, numbered from n on
+abbrev pub events_text : Bool → List (List ℕ) → ℕ → List Made → List ℕ
+events_text trace names n [] = []
+events_text trace names n (m ∷ made) = event_text trace names n m.0 m.1 ++ events_text trace names (n + 1) made
 
--- From a network the schedule is made up to its end or its first stuck event, and leads to the last network. The blocks
--- of what was made are the text.
+-- From a network the schedule is made up to its end or its first stuck event, and leads to the last network. What is
+-- shown of the events that were made, with their trace or without, is the text.
 pub record Plays
-    (names : List (List ℕ)) (network : List State) (schedule : List Event)
+    (trace : Bool) (names : List (List ℕ)) (network : List State) (schedule : List Event)
     (last : List State) (stuck : Option Stuck) (text : List ℕ) : Type 0 where
   pub made : List Made
   pub goes : GoesBy network made last
   pub ends : EndsAt schedule made last stuck
-  pub shown : text ≡ blocks_text names 1 made
+  pub shown : text ≡ events_text trace names 1 made
 
 -- the line of the stuck event, if there is one
 abbrev pub stuck_line : List (List ℕ) → Option Stuck → List ℕ

@@ -1,6 +1,6 @@
 use Rattle.std.proofs.Common.{◌≡◌, List, length, take}
 use Rattle.std.specs.Io.KnownBytes.{Appends}
-use Rattle.jc_app.specs.Runs.{Made, GoesBy, events_of, blocks_text}
+use Rattle.jc_app.specs.Runs.{Made, GoesBy, events_of, events_text}
 use Rattle.jc_app.proofs.run.play.Given as goal
 
 -- the events before the index were made, and their blocks were written
@@ -11,5 +11,5 @@ invariant-loop-event g l = record {
   steps : length l.net.earlier ≡ l.event-index;
   failures : g.K.Sink.failures l.out ≡ g.K.Sink.failures l.initial.out;
   made : (made : List Made) × GoesBy l.initial.net.network made l.net.network × (take l.event-index l.schedule ≡ events_of made)
-      × Appends (g.K.Sink.taken l.initial.out) (g.K.Sink.taken l.out) (blocks_text l.initial.net.names 1 made);
+      × Appends (g.K.Sink.taken l.initial.out) (g.K.Sink.taken l.out) (events_text l.fn.trace l.initial.net.names 1 made);
 }

@@ -1,0 +1,31 @@
+use Rattle.std.proofs.Common.{◌≡◌, ◌≢◌, ◌∙◌, [], ap, sym, refl, None, Some, length, map, string_bytes, true-eqb, false-eqb}
+use Rattle.clap.specs.Words.{fault_of}
+use Rattle.jc_words.specs.Program.{program}
+use Rattle.jc_words.specs.Words.{words_order, AsksHelp}
+use Rattle.jc_words.proofs.Commands.{none_said, some_said, unsaid, faulty, ordered}
+use Rattle.jc_words.proofs.reading.order_of.Goals as goal
+
+pub returns-then-is_empty-clause-ok : goal.returns-then-is_empty-clause-ok
+returns-then-is_empty-clause-ok c =
+    let none : length c.args.words.now ≡ 0 = true-eqb _ 0 c.if-is_empty.ensures in
+    unsaid (map string_bytes c.args.words.now) c.in_ok-file.file (none_said string_bytes c.args.words.now none) c.in_ok-file.ensures
+
+-- what clap refuses is no order
+pub returns-in-Err-clause-err : goal.returns-in-Err-clause-err
+returns-in-Err-clause-err c =
+    let some : length c.args.words.now ≢ 0 = false-eqb _ 0 c.if-is_empty.ensures in
+    faulty _ (map string_bytes c.args.words.now) c.fault_by.result (some_said string_bytes c.args.words.now some) c.in-Err.ensures.kinds c.fault_by.ensures
+
+pub returns-in-Some-clause-ok : goal.returns-in-Some-clause-ok
+returns-in-Some-clause-ok c =
+    let some : length c.args.words.now ≢ 0 = false-eqb _ 0 c.if-is_empty.ensures in
+    ordered (map string_bytes c.args.words.now) _ _ (some_said string_bytes c.args.words.now some) c.in-Ok.ensures.kinds c.in-Ok.ensures.ok (sym c.in-Some.is ∙ c.in_ok-order.ensures)
+
+-- what it takes without being an order
+pub returns-clause-err : goal.returns-clause-err
+returns-clause-err c =
+    let some : length c.args.words.now ≢ 0 = false-eqb _ 0 c.if-is_empty.ensures in
+    let none : fault_of program (map string_bytes c.args.words.now) ≡ [] = c.in-Ok.ensures.kinds in (
+      ordered (map string_bytes c.args.words.now) _ None (some_said string_bytes c.args.words.now some) none c.in-Ok.ensures.ok (sym c.in-None.is ∙ c.in_ok-order.ensures),
+      λ asks. (let bad = sym none ∙ asks in cc),
+    )

@@ -1,0 +1,36 @@
+-- The command line, as it is defined to its parser.
+use Rattle.std.specs.Prelude.{◌≡◌, true, false, Some, codes, [], ◌∷◌, List}
+use Rattle.clap.specs.Words.{App, Rule, Shape, Text, new_app, new_rule, with_rule, with_subcommand}
+use Rattle.clap.specs.declared.builder.command.Command.{Command}
+use Rattle.clap.specs.declared.builder.command.Command.TheViews.{out-Command}
+use Rattle.clap.specs.declared.builder.action.ArgAction.TheVariants.{SetTrue}
+
+-- no argument of the command is one of all commands
+abbrev pub IsLocal : Command → Type 0
+IsLocal c = (out-Command c).has_globals ≡ false
+
+abbrev pub file_rule : Rule
+file_rule = record (new_rule (codes "file")) { required = true; value_names = 1 }
+
+abbrev pub trace_rule : Rule
+trace_rule = record (new_rule (codes "trace")) { long = Some (codes "trace"); action = Some SetTrue }
+
+-- a command with nothing but its file
+abbrev pub plain_app : Text → App
+plain_app name = with_rule (new_app name) file_rule
+
+abbrev pub run_app : App
+run_app = with_rule (with_rule (new_app (codes "run")) trace_rule) file_rule
+
+-- The program without its commands: one of them is wanted. Help is asked for by a flag alone, so that each fault of the
+-- words has one kind.
+abbrev pub bare_shape : Shape → Shape
+bare_shape s = record s { no_binary_name = true; disable_help_subcommand = true; subcommand_required = true }
+
+abbrev pub bare : App
+bare = record { top = bare_shape (new_app (codes "jsoncrdt")).top; subs = [] }
+
+unfoldable pub program : App
+program =
+    with_subcommand (with_subcommand (with_subcommand bare
+    (plain_app (codes "check")).top) (plain_app (codes "print")).top) run_app.top

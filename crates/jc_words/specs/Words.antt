@@ -1,0 +1,62 @@
+-- What the words are taken for that the program is called with.
+use Rattle.std.specs.Prelude.{◌≡◌, ◌≢◌, ℕ, List, [], ◌∷◌, Bool, true, Option, Some, None, codes, if◌then◌else◌, unwrap_or, option_map}
+use Rattle.std.specs.Option.{option_and_then}
+use Rattle.std.specs.Str.{bytes_eq}
+use Rattle.clap.specs.Words.{IsAmong, Kinds, Row, Text, fault_of, first_of, subcommand_of}
+use Rattle.clap.specs.declared.error.kind.ErrorKind.{ErrorKind}
+use Rattle.clap.specs.declared.error.kind.ErrorKind.TheVariants.{DisplayHelp, OutOfMemory}
+use Rattle.jc_words.specs.Program.{program}
+use Rattle.jc_words.specs.declared.order.Order.{Order}
+use Rattle.jc_words.specs.declared.order.Task.{Task}
+use Rattle.jc_words.specs.declared.order.Task.TheVariants.{Check, Print, Run}
+use Rattle.jc_words.specs.declared.fault.WordsFault.{WordsFault}
+use Rattle.jc_words.specs.declared.fault.WordsFault.TheVariants.{Help, Usage, Memory}
+
+abbrev pub is_traced : List Row → Bool
+is_traced rows = bytes_eq (unwrap_or (first_of (codes "trace") rows) []) (codes "true")
+
+-- the task of the command with this name, by what the words gave its arguments
+abbrev pub task_in : Text → List Row → Option Task
+task_in name rows =
+    if bytes_eq name (codes "check") then Some Check
+    else (if bytes_eq name (codes "print") then Some Print
+    else (if bytes_eq name (codes "run") then Some (Run (is_traced rows))
+    else None))
+
+abbrev pub with_file : Option Task → Option Text → Option Order
+with_file (Some task) (Some file) = Some (record { task = task; file = file })
+with_file (Some task) None = None
+with_file None file = None
+
+abbrev pub order_in : (Text × List Row) → Option Order
+order_in s = with_file (task_in s.0 s.1) (first_of (codes "file") s.1)
+
+-- the order of words with these faults and this command
+abbrev pub order_by : Kinds → Option (Text × List Row) → Option Order
+order_by [] s = option_and_then order_in s
+order_by (k ∷ kinds) s = None
+
+-- What words are taken for; no words are `run --trace -`.
+unfoldable pub words_order : List Text → Option Order
+words_order [] = Some (record { task = Run true; file = codes "-" })
+words_order (w ∷ ws) = order_by (fault_of program (w ∷ ws)) (subcommand_of program (w ∷ ws))
+
+-- the words may be a call for help
+abbrev pub MayAskHelp : List Text → Type 0
+MayAskHelp words = IsAmong DisplayHelp (fault_of program words)
+
+-- the words are a call for help, and have no other fault
+abbrev pub AsksHelp : List Text → Type 0
+AsksHelp words = fault_of program words ≡ DisplayHelp ∷ []
+
+-- why the words are no order
+abbrev pub IsWordsFault : List Text → WordsFault → Type 0
+IsWordsFault words (Help text) = (words_order words ≡ None) × MayAskHelp words
+IsWordsFault words (Usage text) = (words_order words ≡ None) × (AsksHelp words → ⊥)
+IsWordsFault words Memory = Unit {0}
+
+-- what is answered for an error of this kind
+abbrev pub IsFaultBy : ErrorKind → WordsFault → Type 0
+IsFaultBy kind (Help text) = kind ≡ DisplayHelp
+IsFaultBy kind (Usage text) = (kind ≢ DisplayHelp) × (kind ≢ OutOfMemory)
+IsFaultBy kind Memory = Unit {0}

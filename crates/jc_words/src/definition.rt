@@ -1,0 +1,74 @@
+//! The definition of the command line. A command is a function here, and a line of `program`.
+
+ghost use Rattle.std.specs.Prelude.{◌≡◌, IfOk, false};
+ghost use Rattle.clap.specs.Words.{app_of, rule_of, new_app, with_rule};
+ghost use Rattle.jc_words.specs.Program.{IsLocal, file_rule, plain_app, run_app, program};
+
+use crate::help::{CHECK, PRINT, PROGRAM, RUN};
+use clap::{Arg, ArgAction, Command};
+use std::alloc::{AllocError, Global};
+
+/// The file with the scenario.
+fn file<'a>(alloc: Global) -> Arg<'a>
+    ensures rule { rule_of result ≡ file_rule }
+    ensures local { result.global ≡ false }
+{
+    Arg::new(alloc, "file")
+        .value_name("FILE")
+        .help("The file with the scenario; - is standard input")
+        .required(true)
+}
+
+/// A command with nothing but its file.
+fn plain<'a>(
+    alloc: Global,
+    name: &'a str,
+    about: &'a str,
+    example: &'a str,
+) -> Result<Command<'a>, AllocError>
+    ensures shape { IfOk result (λ c. app_of c ≡ plain_app name.entry.now) }
+    ensures local { IfOk result IsLocal }
+{
+    Command::new(alloc, name)
+        .about(about)
+        .after_help(example)
+        .arg(file(alloc))
+}
+
+fn run<'a>(alloc: Global) -> Result<Command<'a>, AllocError>
+    ensures shape { IfOk result (λ c. app_of c ≡ run_app) }
+    ensures local { IfOk result IsLocal }
+{
+    let trace = Arg::new(alloc, "trace")
+        .long("trace")
+        .help("Show the rules that each event used")
+        .action(ArgAction::SetTrue);
+    Command::new(alloc, "run")
+        .about("Make the events of the schedule, and print each replica's state")
+        .after_help(RUN)
+        .arg(trace)?
+        .arg(file(alloc))
+}
+
+/// The whole command line, but for the program's name.
+pub(crate) fn definition<'a>(alloc: Global) -> Result<Command<'a>, AllocError>
+    ensures { IfOk result (λ c. app_of c ≡ program) }
+{
+    let check = plain(
+        alloc,
+        "check",
+        "Read the scenario, and print how many replicas, commands and events it has",
+        CHECK,
+    )?;
+    let print = plain(alloc, "print", "Print the scenario in its canonical text", PRINT)?;
+    let run = run(alloc)?;
+    let top = Command::new(alloc, "jsoncrdt")
+        .about("Runs scenarios of a replicated JSON document, and shows each rule that is used")
+        .after_help(PROGRAM)
+        .no_binary_name(true)
+        .disable_help_subcommand(true)
+        .subcommand_required(true);
+    top.subcommand(check)?
+        .subcommand(print)?
+        .subcommand(run)
+}

@@ -1,0 +1,43 @@
+//! Why words are no order.
+
+ghost use Rattle.std.specs.Prelude.{◌≡◌};
+ghost use Rattle.clap.specs.Words.{kind_of};
+ghost use Rattle.jc_words.specs.declared.fault.WordsFault.TheVariants.{Memory as NoMemory};
+ghost use Rattle.jc_words.specs.Words.{IsFaultBy};
+
+use clap::Error;
+use clap::error::ErrorKind;
+use std::alloc::{AllocError, Global};
+
+/// Why words are no order.
+#[derive(Debug, Drop)]
+pub enum WordsFault {
+    /// They ask for help, and this is it.
+    Help(String),
+    /// They are no command line, for the reason that this text gives.
+    Usage(String),
+    /// There was no memory.
+    Memory,
+}
+
+impl From<AllocError> for WordsFault {
+    ghost from_gives = { λ _ fault. fault ≡ NoMemory };
+
+    fn from(_: AllocError) -> Self {
+        WordsFault::Memory
+    }
+}
+
+/// What is answered for an error of the command line.
+pub(crate) fn fault_by(alloc: Global, error: &Error) -> WordsFault
+    ensures { IsFaultBy (kind_of error.now) result }
+{
+    let Ok(text) = format!(in alloc; "{error}") else {
+        return WordsFault::Memory;
+    };
+    match error.kind() {
+        ErrorKind::OutOfMemory => WordsFault::Memory,
+        ErrorKind::DisplayHelp => WordsFault::Help(text),
+        _ => WordsFault::Usage(text),
+    }
+}

@@ -1,0 +1,77 @@
+//! What help says beside the lists of commands and options.
+
+/// The help of the program.
+pub(crate) const PROGRAM: &str = "A scenario is a text with a script of commands for each replica,\n\
+and a schedule of the events that run them.\n\
+\n\
+Example:\n  \
+echo 'jsoncrdt 1 replica a { doc.get(\"a\") := 1 } schedule { a.exec }' | jsoncrdt run -\n\
+prints the state of replica a after its only event:\n  \
+{\"acted\":false,\"left\":0,\"name\":\"a\",\"ops\":[\"1@a\"],\"queue\":[\"1@a\"],\"recv\":[],\"send\":[],\"tree\":{\"mapT(doc)\":{\"pres(\\\"a\\\")\":[\"1@a\"],\"regT(\\\"a\\\")\":{\"1@a\":{\"n\":\"1\"}}},\"pres(doc)\":[\"1@a\"]},\"vars\":{}}\n\
+\n\
+Without words it does `jsoncrdt run --trace -`. The help of a command has an example of it.\n\
+\n\
+Statuses:\n  \
+0  done, also after help\n  \
+1  the scenario's text was refused; the line printed says why and where\n  \
+2  the words are no command\n  \
+3  an event was stuck, since no rule allows it; the last line says why\n  \
+4  a read or a write failed\n  \
+5  there was no memory";
+
+/// The help of `check`.
+pub(crate) const CHECK: &str = "A scenario is a text with a script of commands for each replica,\n\
+and a schedule of the events that run them.\n\
+\n\
+Example:\n  \
+echo 'jsoncrdt 1 replica a { doc.get(\"a\") := 1 } schedule { a.exec }' | jsoncrdt check -\n\
+prints\n  \
+replicas 1 commands 1 events 1\n\
+\n\
+Statuses:\n  \
+0  done, also after help\n  \
+1  the scenario's text was refused; the line printed says why and where\n  \
+2  the words are no command\n  \
+4  a read or a write failed\n  \
+5  there was no memory";
+
+/// The help of `print`.
+pub(crate) const PRINT: &str = "A scenario is a text with a script of commands for each replica,\n\
+and a schedule of the events that run them.\n\
+\n\
+Example:\n  \
+echo 'jsoncrdt 1 replica a { doc.get(\"a\") := 1 } schedule { a.exec }' | jsoncrdt print -\n\
+prints\n  \
+jsoncrdt 1\n  \
+replica a {\n    \
+doc.get(\"a\") := 1;\n  \
+}\n  \
+schedule {\n    \
+a.exec;\n  \
+}\n\
+\n\
+Statuses:\n  \
+0  done, also after help\n  \
+1  the scenario's text was refused; the line printed says why and where\n  \
+2  the words are no command\n  \
+4  a read or a write failed\n  \
+5  there was no memory";
+
+/// The help of `run`.
+pub(crate) const RUN: &str = "A scenario is a text with a script of commands for each replica,\n\
+and a schedule of the events that run them.\n\
+\n\
+Example:\n  \
+echo 'jsoncrdt 1 replica a { doc.get(\"a\") := 1 } schedule { a.exec }' | jsoncrdt run -\n\
+prints the state of replica a after its only event:\n  \
+{\"acted\":false,\"left\":0,\"name\":\"a\",\"ops\":[\"1@a\"],\"queue\":[\"1@a\"],\"recv\":[],\"send\":[],\"tree\":{\"mapT(doc)\":{\"pres(\\\"a\\\")\":[\"1@a\"],\"regT(\\\"a\\\")\":{\"1@a\":{\"n\":\"1\"}}},\"pres(doc)\":[\"1@a\"]},\"vars\":{}}\n\
+With --trace the rules of that event come first, EXEC, MAKE-ASSIGN, GET, DOC and so on,\n\
+each with its depth.\n\
+\n\
+Statuses:\n  \
+0  done, also after help\n  \
+1  the scenario's text was refused; the line printed says why and where\n  \
+2  the words are no command\n  \
+3  an event was stuck, since no rule allows it; the last line says why\n  \
+4  a read or a write failed\n  \
+5  there was no memory";

@@ -1,0 +1,12 @@
+//! What the words ask for that the program is called with.
+#![tactic(auto)]
+
+mod definition;
+mod fault;
+mod help;
+mod order;
+mod reading;
+
+pub use fault::WordsFault;
+pub use order::{Order, Task};
+pub use reading::order_of;

@@ -1,0 +1,100 @@
+//! What words are taken for.
+
+ghost use Rattle.std.specs.Prelude.{◌≡◌, ◌≢◌, [], IfOk, IfErr, Some, codes, map, string_bytes, option_map};
+ghost use Rattle.std.specs.Option.{option_and_then};
+ghost use Rattle.std.specs.Str.{bytes_eq};
+ghost use Rattle.clap.specs.Words.{FailsBy, fault_of, first_of, found_of, rows_of, subcommand_of, subcommand_rows_of};
+ghost use Rattle.jc_words.specs.Program.{program};
+ghost use Rattle.jc_words.specs.Words.{is_traced, task_in, order_in, words_order, IsWordsFault};
+
+use crate::definition::definition;
+use crate::fault::{WordsFault, fault_by};
+use crate::order::{Order, Task};
+use clap::{ArgMatches, Error};
+use jc_rules::Text;
+use std::alloc::{AllocError, Global};
+
+/// A text of its own with the same bytes.
+fn copied(alloc: Global, text: &str) -> Result<Text, AllocError>
+    ensures { IfOk result (λ copy. copy ≡ text.now) }
+{
+    Ok(Text::new(String::from_str(alloc, text)?))
+}
+
+/// What the words match of the command line.
+fn matches_of<'a>(alloc: Global, words: &'a [String]) -> Result<ArgMatches<'a>, Error>
+    ensures ok { IfOk result (λ m.
+        subcommand_rows_of m ≡ subcommand_of program (map string_bytes words.entry.now)) }
+    ensures kinds { FailsBy (fault_of program (map string_bytes words.entry.now)) result }
+{
+    definition(alloc)?.try_get_matches_from(words)
+}
+
+/// Whether the rules of each event are asked for.
+fn has_trace(matches: &ArgMatches<'_>) -> bool
+    ensures { result ≡ is_traced (rows_of (found_of matches.now)) }
+{
+    match matches.get_str("trace") {
+        Some(text) => text == "true",
+        None => false,
+    }
+}
+
+/// The task of a command with these matches.
+fn task_of(name: &str, matches: &ArgMatches<'_>) -> Option<Task>
+    ensures { result ≡ task_in name.now (rows_of (found_of matches.now)) }
+{
+    match name {
+        "check" => Some(Task::Check),
+        "print" => Some(Task::Print),
+        "run" => Some(Task::Run {
+            trace: has_trace(matches),
+        }),
+        _ => None,
+    }
+}
+
+/// The order of matches.
+fn order_matched(alloc: Global, matches: &ArgMatches<'_>) -> Result<Option<Order>, AllocError>
+    ensures { IfOk result (λ order. order ≡ option_and_then order_in (subcommand_rows_of matches.now)) }
+{
+    let Some((name, inner)) = matches.subcommand() else {
+        return Ok(None);
+    };
+    let Some(task) = task_of(name, inner) else {
+        return Ok(None);
+    };
+    let Some(file) = inner.get_str("file") else {
+        return Ok(None);
+    };
+    let file = copied(alloc, file)?;
+    Ok(Some(Order { task, file }))
+}
+
+/// What the words after the program's name are taken for; no words are `run --trace -`.
+///
+/// Refusals: `Help` where they ask for help, `Usage` where they are no command line, and `Memory`
+/// where there was no memory.
+pub fn order_of(alloc: Global, words: &[String]) -> Result<Order, WordsFault>
+    // What is answered is what they are taken for.
+    ensures ok { IfOk result (λ order. words_order (map string_bytes words.now) ≡ Some order) }
+    // What is refused is no order; it is help only where that is asked for, and a fault only where
+    // help alone isn't.
+    ensures err { IfErr result (IsWordsFault (map string_bytes words.now)) }
+{
+    if words.is_empty() {
+        let file = copied(alloc, "-")?;
+        return Ok(Order {
+            task: Task::Run { trace: true },
+            file,
+        });
+    }
+    let matches = match matches_of(alloc, words) {
+        Ok(matches) => matches,
+        Err(error) => return Err(fault_by(alloc, &error)),
+    };
+    match order_matched(alloc, &matches)? {
+        Some(order) => Ok(order),
+        None => Err(WordsFault::Usage(String::new(alloc))),
+    }
+}
