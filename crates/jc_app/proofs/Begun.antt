@@ -1,5 +1,5 @@
 -- What was written before a failure.
-use Rattle.std.proofs.Common.{◌≡◌, ◌≢◌, ℕ, ◌+◌, ◌<◌, ◌≤◌, inl, inr, List, [], ◌∷◌, ◌++◌, length, take, drop, get_or, Bool, Option, Some, None, Result, Ok, Err, OnOk, OnErr, refl, ap, sym, ◌∙◌, subst, append_assoc, append-nil, lt_of_not-le, arith}
+use Rattle.std.proofs.Common.{◌≡◌, ◌≢◌, ◌⊎◌, ℕ, ◌+◌, ◌<◌, ◌≤◌, inl, inr, List, [], ◌∷◌, ◌++◌, length, take, drop, get_or, Bool, Option, Some, None, Result, Ok, Err, IfOk, OnOk, OnErr, vec_len, refl, ap, sym, ◌∙◌, subst, append_assoc, append-nil, lt_of_not-le, arith}
 use Rattle.std.proofs.lemmas.List.{take-append-le, take-append-drop, take_all}
 use Rattle.std.proofs.Math.Seq.{take-append-add, take-append_seam, take-length}
 use Rattle.std.specs.Io.KnownBytes.{Appends, Consumes}
@@ -14,7 +14,15 @@ use Rattle.jc_network.specs.Course.{Course, started}
 use Rattle.jc_network.specs.Laws.{starts}
 use Rattle.jc_parser.specs.declared.fault.ScenarioFault.{ScenarioFault}
 use Rattle.jc_parser.specs.declared.fault.ScenarioFault.TheVariants.{Memory as NoMemoryRead}
+use Rattle.std.specs.declared.alloc.Global.{Global}
+use Rattle.std.specs.declared.vec.Vec.{Vec}
+use Rattle.jc_rules.specs.declared.io.ReadFault.{ReadFault}
+use Rattle.jc_words.specs.declared.order.Order.{Order}
 use Rattle.jc_words.specs.declared.order.Task.{Task}
+use Rattle.jc_words.specs.declared.fault.WordsFault.{WordsFault}
+use Rattle.jc_words.specs.declared.fault.WordsFault.TheVariants.{Help, Usage, Memory}
+use Rattle.jc_words.specs.Words.{IsWordsFault, words_order}
+use Rattle.jc_app.specs.Faults.{IsEndOf}
 use Rattle.jc_app.specs.Ran.{ReadsAs, Ran}
 use Rattle.jc_app.specs.Due.{AppendsUpTo, AppendsFrontOf, IsNext, Begins, IsDueAt, IsDue, AreTold, HasBegun}
 use Rattle.jc_app.proofs.Playing.{goes_on, events_of-append, split_here, shown_more}
@@ -131,3 +139,21 @@ begun_on_front task n (Some bytes) old new v is front h = (bytes, refl, (h.0, du
 pub begun_nothing : (task : Task) (left out : Option (List ℕ)) → HasBegun task left out out
 begun_nothing task None out = ([], tt, ([], inl refl, none_yet out []))
 begun_nothing task (Some bytes) out = (bytes, refl, ([], inl refl, none_yet out []))
+
+-- nothing more
+pub none_more : (a : Option (List ℕ)) → Appends a a []
+none_more None = tt
+none_more (Some xs) = sym (append-nil xs)
+
+-- what was read was lost, however the reading ended
+pub loses_however : (most : ℕ) (a b : Option (List ℕ)) (r : Result (Vec ℕ Global) ReadFault) → IfOk r (λ v. Consumes a b v.items) → IfOk r (λ v. vec_len v ≤ most) → OnErr r (LosesUpTo most a b) → LosesUpTo most a b
+loses_however most a b (Ok v) c l h = loses_read most a b v.items c (omega (arith, l, v.ok.0))
+loses_however most a b (Err e) c l h = h
+
+-- ---- words that are no order
+
+-- where there was no memory for the words, nothing was begun of an order
+pub unordered : (words : List (List ℕ)) (fault : WordsFault) (n : ℕ) (order : Order) (told a b : Option (List ℕ)) → IsWordsFault words fault → IsEndOf fault n → words_order words ≡ Some order → ((n ≡ 2) ⊎ (n ≡ 5) → b ≡ a) → HasBegun order.task told a b
+unordered words (Help text) n order told a b why end some same = let bad : None ≡ Some order = sym why.0 ∙ some in cc
+unordered words (Usage text) n order told a b why end some same = let bad : None ≡ Some order = sym why.0 ∙ some in cc
+unordered words Memory n order told a b why end some same = subst (λ o. HasBegun order.task told a o) (sym (same (inr end))) (begun_nothing order.task told a)

@@ -1,6 +1,7 @@
 pub mod Playing
 pub mod Reading
 pub mod Begun
+pub mod Counting
 pub mod Dumping
 pub mod Ending
 pub mod OneRun

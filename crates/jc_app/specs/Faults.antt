@@ -1,5 +1,7 @@
 -- What the program ends with where there is no status of a run.
-use Rattle.std.specs.Prelude.{ℕ, List, codes}
+use Rattle.std.specs.Prelude.{◌≡◌, ◌≢◌, ◌⊎◌, ℕ, List, Bool, IsTrue, codes}
+use Rattle.jc_words.specs.declared.fault.WordsFault.{WordsFault}
+use Rattle.jc_words.specs.declared.fault.WordsFault.TheVariants as words
 use Rattle.jc_app.specs.declared.work.WorkFault.{WorkFault}
 use Rattle.jc_app.specs.declared.work.WorkFault.TheVariants.{Read, Write, Memory}
 
@@ -13,3 +15,13 @@ abbrev pub fault_line : WorkFault → List ℕ
 fault_line Read = codes "read failed\n"
 fault_line Write = codes "write failed\n"
 fault_line Memory = codes "no memory\n"
+
+-- the status that words have which are no order: help may fail to be written
+abbrev pub IsEndOf : WordsFault → ℕ → Type 0
+IsEndOf (words.Help text) status = (status ≡ 0) ⊎ (status ≡ 4)
+IsEndOf (words.Usage text) status = status ≡ 2
+IsEndOf words.Memory status = status ≡ 5
+
+-- the file that an order names isn't standard input, and may fail to be read
+abbrev pub IsUnread : (List ℕ → Bool) → List ℕ → Type 0
+IsUnread may_fail name = (name ≢ codes "-") × IsTrue (may_fail name)

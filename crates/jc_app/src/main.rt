@@ -1,6 +1,7 @@
-//! `jsoncrdt`: runs the scenario that standard input says.
+//! `jsoncrdt`: checks, prints and runs scenarios.
 #![tactic(auto)]
 
+mod files;
 mod laws;
 mod run;
 mod texts;

@@ -45,28 +45,32 @@ pub fn send<K: Sink>(out: &mut K, text: &str) -> Result<(), RunFault>
     }
 }
 
-/// Makes the event, and writes its block under this number. Answers why, where it is stuck; nothing
-/// is changed or written then.
+/// Makes the event, and with the trace writes its block under this number. Answers why, where it is
+/// stuck; nothing is changed or written then.
 fn play_next<K: Sink>(
     alloc: Global,
     net: &mut Net,
     number: u64,
     event: &Event,
+    trace: bool,
     out: &mut K,
 ) -> Result<Option<Stuck>, RunFault>
     requires room { length net.old.earlier < 100000 }
     requires named { AreNamed event.now (length net.old.names) }
     ensures ok { IfOk result (λ stuck.
-        PlaysNext net.old net.new number event.now (K.taken out.old) (K.taken out.new) stuck) }
-    ensures begun { OnErr result (AppendsFrontOf (IsNext net.old.names net.old.network event.now number)
+        PlaysNext trace net.old net.new number event.now (K.taken out.old) (K.taken out.new) stuck) }
+    ensures begun { OnErr result (AppendsFrontOf (IsNext trace net.old.names net.old.network event.now number)
         (K.taken out.old) (K.taken out.new)) }
     ensures same { OnOk result (K.failures out.new ≡ K.failures out.old) }
     ensures memory { IsErrOf result RunFault.Memory → K.failures out.new ≡ K.failures out.old }
     ensures write { IsErrOf result RunFault.Write → K.failures out.old < K.failures out.new }
 {
     match net.step(event) {
-        Ok(trace) => {
-            let text = block_of(alloc, net.names(), number, event, &trace)?;
+        Ok(rules) => {
+            if !trace {
+                return Ok(None);
+            }
+            let text = block_of(alloc, net.names(), number, event, &rules)?;
             send(out, text.as_str())?;
             Ok(None)
         }
@@ -75,19 +79,20 @@ fn play_next<K: Sink>(
     }
 }
 
-/// Makes the events up to the end or the stuck one, and writes the block of each.
+/// Makes the events up to the end or the stuck one, and with the trace writes the block of each.
 pub fn play<K: Sink>(
     alloc: Global,
     net: &mut Net,
     schedule: &[Event],
+    trace: bool,
     out: &mut K,
 ) -> Result<Option<Stuck>, RunFault>
     requires new { net.old.earlier ≡ [] }
     requires short { length schedule.now ≤ 100000 }
     requires named { All (λ e. AreNamed e (length net.old.names)) schedule.now }
     ensures ok { IfOk result (λ stuck.
-        PlaysAll net.old net.new schedule.now (K.taken out.old) (K.taken out.new) stuck) }
-    ensures begun { OnErr result (AppendsFrontOf (Begins net.old.names net.old.network schedule.now)
+        PlaysAll trace net.old net.new schedule.now (K.taken out.old) (K.taken out.new) stuck) }
+    ensures begun { OnErr result (AppendsFrontOf (Begins trace net.old.names net.old.network schedule.now)
         (K.taken out.old) (K.taken out.new)) }
     ensures same { OnOk result (K.failures out.new ≡ K.failures out.old) }
     ensures memory { IsErrOf result RunFault.Memory → K.failures out.new ≡ K.failures out.old }
@@ -96,7 +101,7 @@ pub fn play<K: Sink>(
     let mut number = 0u64;
     for event in schedule {
         number += 1;
-        let stuck = play_next(alloc, net, number, event, out)?;
+        let stuck = play_next(alloc, net, number, event, trace, out)?;
         if stuck.is_some() {
             return Ok(stuck);
         }

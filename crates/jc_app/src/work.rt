@@ -1,22 +1,26 @@
 //! The program's work, from bytes to printed lines.
 
-ghost use Rattle.std.specs.Prelude.{◌≡◌, ◌≢◌, ◌<◌, ◌⊎◌, ℕ, List, [], ◌∷◌, length, codes, Some, None, IfOk, OnOk, OnErr, IsErrOf};
+ghost use Rattle.std.specs.Prelude.{◌≡◌, ◌≢◌, ◌<◌, ◌≤◌, ◌⊎◌, ℕ, List, map, string_bytes, vec_len, codes, Some, None, IfOk, OnOk, OnErr, IsErrOf};
 ghost use Rattle.std.specs.Io.KnownBytes.{Appends};
-ghost use Rattle.jc_rules.specs.Told.{LosesUpTo};
+ghost use Rattle.jc_rules.specs.Told.{IsFront, LosesUpTo};
 ghost use Rattle.jc_parser.specs.declared.fault.ScenarioFault.TheVariants.{Memory as NoMemoryRead};
 ghost use Rattle.jc_scenario.specs.Scenarios.{IsWellFormed};
 ghost use Rattle.jc_scenario.specs.Views.{scenario_view};
-ghost use Rattle.jc_app.specs.Ran.{Ran, RanThrough, IsRefused};
-ghost use Rattle.jc_app.specs.Due.{AppendsUpTo, AppendsFrontOf, IsDueOf, IsDueAt, IsDue, HasRun, HasBegun};
-ghost use Rattle.jc_app.specs.Faults.{fault_status, fault_line};
+ghost use Rattle.jc_words.specs.declared.order.Order.{Order};
+ghost use Rattle.jc_words.specs.Words.{words_order, AsksHelp, MayAskHelp};
+ghost use Rattle.jc_app.specs.Ran.{Ran, RanThrough, Shows, IsRefused};
+ghost use Rattle.jc_app.specs.Due.{AppendsUpTo, AppendsFrontOf, IsRunDue, IsDueOf, IsDueAt, IsDue, HasRun, HasBegun, told_by};
+ghost use Rattle.jc_app.specs.Faults.{fault_status, fault_line, IsEndOf, IsUnread};
 
+use crate::files::Files;
 use crate::run::{RunFault, play, send, send_dumps};
-use crate::texts::refused_of;
+use crate::texts::{counts_of, refused_of};
 use jc_dump::stuck_text;
 use jc_network::Net;
 use jc_rules::Refusal;
 use jc_rules::io::{ReadFault, Sink, Source, read_up_to, write_all};
-use jc_scenario::{Scenario, ScenarioFault, read};
+use jc_scenario::{Scenario, ScenarioFault, print, read};
+use jc_words::{Order, Task, WordsFault, order_of};
 use std::alloc::Global;
 
 /// One byte more than a scenario's text may have.
@@ -43,20 +47,25 @@ fn refuse<K: Sink>(alloc: Global, fault: &ScenarioFault, out: &mut K) -> Result<
 }
 
 /// Runs a scenario: writes what its run shows, and answers its status.
-fn run_through<K: Sink>(alloc: Global, scenario: &Scenario, out: &mut K) -> Result<u8, RunFault>
+fn run_through<K: Sink>(
+    alloc: Global,
+    scenario: &Scenario,
+    trace: bool,
+    out: &mut K,
+) -> Result<u8, RunFault>
     requires { IsWellFormed (scenario_view scenario.now) }
     ensures ok { IfOk result (λ status.
         (shown : List ℕ)
-        × RanThrough (scenario_view scenario.now) shown status
+        × RanThrough trace (scenario_view scenario.now) shown status
         × Appends (K.taken out.old) (K.taken out.new) shown) }
     ensures begun { OnErr result
-        (AppendsFrontOf (IsDueOf (scenario_view scenario.now)) (K.taken out.old) (K.taken out.new)) }
+        (AppendsFrontOf (IsRunDue trace (scenario_view scenario.now)) (K.taken out.old) (K.taken out.new)) }
     ensures same { OnOk result (K.failures out.new ≡ K.failures out.old) }
     ensures memory { IsErrOf result RunFault.Memory → K.failures out.new ≡ K.failures out.old }
     ensures write { IsErrOf result RunFault.Write → K.failures out.old < K.failures out.new }
 {
     let mut net = Net::start(alloc, scenario)?;
-    let stuck = play(alloc, &mut net, &scenario.schedule, out)?;
+    let stuck = play(alloc, &mut net, &scenario.schedule, trace, out)?;
     send_dumps(alloc, &net, out)?;
     match &stuck {
         None => Ok(0),
@@ -68,17 +77,55 @@ fn run_through<K: Sink>(alloc: Global, scenario: &Scenario, out: &mut K) -> Resu
     }
 }
 
-/// Runs a scenario's text: writes what a run of it shows, and answers its status.
-fn run_text<K: Sink>(alloc: Global, text: &[u8], out: &mut K) -> Result<u8, RunFault>
+/// Does the task on a scenario: writes what it shows, and answers its status.
+fn show<K: Sink>(
+    alloc: Global,
+    task: Task,
+    scenario: &Scenario,
+    out: &mut K,
+) -> Result<u8, RunFault>
+    requires { IsWellFormed (scenario_view scenario.now) }
     ensures ok { IfOk result (λ status.
-        (shown : List ℕ) × Ran text.now shown status × Appends (K.taken out.old) (K.taken out.new) shown) }
-    ensures begun { OnErr result (AppendsFrontOf (IsDue text.now) (K.taken out.old) (K.taken out.new)) }
+        (shown : List ℕ)
+        × Shows task (scenario_view scenario.now) shown status
+        × Appends (K.taken out.old) (K.taken out.new) shown) }
+    ensures begun { OnErr result
+        (AppendsFrontOf (IsDueOf task (scenario_view scenario.now)) (K.taken out.old) (K.taken out.new)) }
+    ensures same { OnOk result (K.failures out.new ≡ K.failures out.old) }
+    ensures memory { IsErrOf result RunFault.Memory → K.failures out.new ≡ K.failures out.old }
+    ensures write { IsErrOf result RunFault.Write → K.failures out.old < K.failures out.new }
+{
+    match task {
+        Task::Check => {
+            let line = counts_of(alloc, scenario)?;
+            send(out, line.as_str())?;
+            Ok(0)
+        }
+        Task::Print => {
+            let text = print(alloc, scenario)?;
+            send(out, text.as_str())?;
+            Ok(0)
+        }
+        Task::Run { trace } => run_through(alloc, scenario, trace, out),
+    }
+}
+
+/// Does the task on a scenario's text: writes what it shows, and answers its status.
+fn show_text<K: Sink>(
+    alloc: Global,
+    task: Task,
+    text: &[u8],
+    out: &mut K,
+) -> Result<u8, RunFault>
+    ensures ok { IfOk result (λ status.
+        (shown : List ℕ) × Ran task text.now shown status × Appends (K.taken out.old) (K.taken out.new) shown) }
+    ensures begun { OnErr result (AppendsFrontOf (IsDue task text.now) (K.taken out.old) (K.taken out.new)) }
     ensures same { OnOk result (K.failures out.new ≡ K.failures out.old) }
     ensures memory { IsErrOf result RunFault.Memory → K.failures out.new ≡ K.failures out.old }
     ensures write { IsErrOf result RunFault.Write → K.failures out.old < K.failures out.new }
 {
     match read(alloc, text) {
-        Ok(scenario) => run_through(alloc, &scenario, out),
+        Ok(scenario) => show(alloc, task, &scenario, out),
         Err(fault) => refuse(alloc, &fault, out),
     }
 }
@@ -125,41 +172,100 @@ pub fn end<E: Sink>(fault: WorkFault, err: &mut E) -> u8
     fault.status()
 }
 
-/// Runs the scenario that the input says, and answers its status.
-fn run_input<I: Source, K: Sink>(alloc: Global, input: &mut I, out: &mut K) -> Result<u8, WorkFault>
-    ensures ran { IfOk result (HasRun (I.left input.old) (K.taken out.old) (K.taken out.new)) }
-    ensures begun { OnErr result (HasBegun (I.left input.old) (K.taken out.old) (K.taken out.new)) }
+/// The text that an order names, up to its end or one byte past the longest that a scenario has.
+fn text_of<R: AllocGlobal + Files, I: Source>(
+    rt: &R,
+    file: &str,
+    input: &mut I,
+) -> Result<Vec<u8>, ReadFault>
+    ensures front { IfOk result (λ text.
+        IsFront 8388609 (told_by (I.left input.old) (R.texts rt.now) file.now) text.items) }
+    ensures bound { IfOk result (λ text. vec_len text ≤ 8388609) }
     ensures most { LosesUpTo 8388609 (I.left input.old) (I.left input.new) }
+    ensures untouched { file.now ≢ codes "-" → input.new ≡ input.old }
+    ensures ok { OnOk result (I.failures input.new ≡ I.failures input.old) }
+    ensures memory { IsErrOf result ReadFault.Memory → I.failures input.new ≡ I.failures input.old }
+    ensures failed { IsErrOf result ReadFault.Failed
+        → (I.failures input.old < I.failures input.new) ⊎ IsUnread (R.may_fail rt.now) file.now }
+{
+    if file == "-" {
+        read_up_to(rt.alloc(), input, MOST_READ)
+    } else {
+        rt.read_file(rt.alloc(), file, MOST_READ)
+    }
+}
+
+/// Carries an order out, and answers its status.
+fn carry_out<R: AllocGlobal + Files, I: Source, K: Sink>(
+    rt: &R,
+    order: &Order,
+    input: &mut I,
+    out: &mut K,
+) -> Result<u8, WorkFault>
+    ensures ran { IfOk result (HasRun order.now.task
+        (told_by (I.left input.old) (R.texts rt.now) order.now.file) (K.taken out.old) (K.taken out.new)) }
+    ensures begun { OnErr result (HasBegun order.now.task
+        (told_by (I.left input.old) (R.texts rt.now) order.now.file) (K.taken out.old) (K.taken out.new)) }
+    ensures most { LosesUpTo 8388609 (I.left input.old) (I.left input.new) }
+    ensures untouched { order.now.file ≢ codes "-" → input.new ≡ input.old }
     ensures same { OnOk result
         ((I.failures input.new ≡ I.failures input.old) × (K.failures out.new ≡ K.failures out.old)) }
     ensures read { IsErrOf result WorkFault.Read
-        → (I.failures input.old < I.failures input.new) × (K.failures out.new ≡ K.failures out.old) }
+        → ((I.failures input.old < I.failures input.new) ⊎ IsUnread (R.may_fail rt.now) order.now.file)
+        × (K.failures out.new ≡ K.failures out.old) }
     ensures write { IsErrOf result WorkFault.Write
         → (I.failures input.new ≡ I.failures input.old) × (K.failures out.old < K.failures out.new) }
     ensures memory { IsErrOf result WorkFault.Memory
         → (I.failures input.new ≡ I.failures input.old) × (K.failures out.new ≡ K.failures out.old) }
 {
-    let text = match read_up_to(alloc, input, MOST_READ) {
+    let text = match text_of(rt, order.file.as_str(), input) {
         Ok(text) => text,
         Err(ReadFault::Failed) => return Err(WorkFault::Read),
         Err(ReadFault::Memory) => return Err(WorkFault::Memory),
     };
-    match run_text(alloc, &text, out) {
+    match show_text(rt.alloc(), order.task, &text, out) {
         Ok(status) => Ok(status),
         Err(RunFault::Write) => Err(WorkFault::Write),
         Err(RunFault::Memory) => Err(WorkFault::Memory),
     }
 }
 
-/// The program but for what waits. Without words it runs the scenario that the input says, and
-/// answers its status: 0 where all events were made, 1 where the text was refused, 3 where an event
-/// was stuck, 4 where a read or a write failed, 5 where there was no memory. Of the input at most
-/// 8,388,609 bytes are read.
+/// Answers words that are no order: help on the output, and what is wrong with the words on `err`.
+fn explain<K: Sink, E: Sink>(fault: &WordsFault, out: &mut K, err: &mut E) -> u8
+    ensures status { IsEndOf fault.now result }
+    ensures shown { (text : List ℕ) × AppendsUpTo (K.taken out.old) (K.taken out.new) text }
+    ensures silent { (result ≡ 2) ⊎ (result ≡ 5) → out.new ≡ out.old }
+    ensures same { result ≢ 4 → K.failures out.new ≡ K.failures out.old }
+    ensures failed { result ≡ 4 → K.failures out.old < K.failures out.new }
+    ensures write_line { result ≡ 4 → AppendsUpTo (E.taken err.old) (E.taken err.new) (codes "write failed\n") }
+    ensures memory_line { result ≡ 5 → AppendsUpTo (E.taken err.old) (E.taken err.new) (codes "no memory\n") }
+    ensures quiet { result ≡ 0 → err.new ≡ err.old }
+{
+    match fault {
+        WordsFault::Help(text) => match send(out, text.as_str()) {
+            Ok(()) => 0,
+            Err(_) => end(WorkFault::Write, err),
+        },
+        WordsFault::Usage(text) => {
+            let _ = write_all(err, text.as_str().as_bytes());
+            2
+        }
+        WordsFault::Memory => end(WorkFault::Memory, err),
+    }
+}
+
+/// The program but for what waits. The words are those after the program's name; without words it
+/// does `run --trace -`. It carries out the order that they are, and answers its status: 0 where it
+/// is done, 1 where the text was refused, 3 where an event was stuck, 4 where a read or a write
+/// failed, 5 where there was no memory. Where the file of the order is `-` the text is that of the
+/// input. Of a text at most 8,388,609 bytes are read.
 ///
-/// After 4 or 5 the output has a front of what the run shows, and `err` the line of the fault, as
-/// much of it as it took: its own failures change nothing. With words the status is 2, and input
-/// and outputs are left alone.
-pub fn work_alone<R: AllocGlobal, I: Source, K: Sink, E: Sink>(
+/// After 4 or 5 the output has a front of what the order shows, and `err` the line of the fault, as
+/// much of it as it took: its own failures change nothing.
+///
+/// Words that ask for help have it on the output, with status 0. Any others are status 2, and `err`
+/// says why. Then no text is read.
+pub fn work_alone<R: AllocGlobal + Files, I: Source, K: Sink, E: Sink>(
     rt: &R,
     words: &[String],
     input: &mut I,
@@ -168,43 +274,65 @@ pub fn work_alone<R: AllocGlobal, I: Source, K: Sink, E: Sink>(
 ) -> Option<u8>
     ensures answered { result ≢ None }
 
-    ensures words { words.now ≢ [] → result ≡ Some 2 }
-    ensures untouched { words.now ≢ [] → (input.new ≡ input.old) × (out.new ≡ out.old) × (err.new ≡ err.old) }
-
-    // Without words: if nothing failed and memory was there, the run's text was written, and its
-    // status is the answer.
-    ensures ran { words.now ≡ []
+    // An order is never a fault of the words. If nothing failed and memory was there, what the order
+    // shows was written, and its status is the answer.
+    ensures order { (order : Order) → words_order (map string_bytes words.now) ≡ Some order → result ≢ Some 2 }
+    ensures ran { (order : Order)
+        → words_order (map string_bytes words.now) ≡ Some order
+        → result ≢ Some 4
         → result ≢ Some 5
-        → I.failures input.new ≡ I.failures input.old
-        → K.failures out.new ≡ K.failures out.old
         → (status : ℕ)
         × (result ≡ Some status)
-        × HasRun (I.left input.old) (K.taken out.old) (K.taken out.new) status }
+        × HasRun order.task (told_by (I.left input.old) (R.texts rt.now) order.file)
+            (K.taken out.old) (K.taken out.new) status }
 
     // Else a front of it was.
-    ensures begun { (result ≡ Some 4) ⊎ (result ≡ Some 5)
-        → HasBegun (I.left input.old) (K.taken out.old) (K.taken out.new) }
+    ensures begun { (order : Order)
+        → words_order (map string_bytes words.now) ≡ Some order
+        → (result ≡ Some 4) ⊎ (result ≡ Some 5)
+        → HasBegun order.task (told_by (I.left input.old) (R.texts rt.now) order.file)
+            (K.taken out.old) (K.taken out.new) }
 
+    // Words that are no order are help, or a fault of the command line.
+    ensures help { AsksHelp (map string_bytes words.now)
+        → (result ≡ Some 0) ⊎ ((result ≡ Some 4) ⊎ (result ≡ Some 5)) }
+    ensures faulty { words_order (map string_bytes words.now) ≡ None
+        → (MayAskHelp (map string_bytes words.now) → ⊥)
+        → (result ≡ Some 2) ⊎ (result ≡ Some 5) }
+    ensures silent { (result ≡ Some 2) → out.new ≡ out.old }
+
+    // Standard input is read where the order names it, and then in part at most.
+    ensures unread { words_order (map string_bytes words.now) ≡ None → input.new ≡ input.old }
+    ensures other_file { (order : Order)
+        → words_order (map string_bytes words.now) ≡ Some order
+        → order.file ≢ codes "-"
+        → input.new ≡ input.old }
     ensures most { LosesUpTo 8388609 (I.left input.old) (I.left input.new) }
 
     // The status is 4 where a read or a write failed, and nowhere else.
     ensures failed { result ≢ Some 4
         → (I.failures input.new ≡ I.failures input.old) × (K.failures out.new ≡ K.failures out.old) }
     ensures only_failed { result ≡ Some 4
-        → (I.failures input.old < I.failures input.new) ⊎ (K.failures out.old < K.failures out.new) }
+        → (I.failures input.old < I.failures input.new)
+        ⊎ ((K.failures out.old < K.failures out.new)
+        ⊎ ((order : Order)
+        × (words_order (map string_bytes words.now) ≡ Some order)
+        × IsUnread (R.may_fail rt.now) order.file)) }
 
     // The error's sink has the line of the fault, and nothing where there is none.
-    ensures read_line { I.failures input.old < I.failures input.new
+    ensures read_line { result ≡ Some 4
+        → K.failures out.new ≡ K.failures out.old
         → AppendsUpTo (E.taken err.old) (E.taken err.new) (codes "read failed\n") }
     ensures write_line { K.failures out.old < K.failures out.new
         → AppendsUpTo (E.taken err.old) (E.taken err.new) (codes "write failed\n") }
     ensures memory_line { result ≡ Some 5 → AppendsUpTo (E.taken err.old) (E.taken err.new) (codes "no memory\n") }
-    ensures quiet { result ≢ Some 4 → result ≢ Some 5 → err.new ≡ err.old }
+    ensures quiet { result ≢ Some 2 → result ≢ Some 4 → result ≢ Some 5 → err.new ≡ err.old }
 {
-    if !words.is_empty() {
-        return Some(2);
-    }
-    match run_input(rt.alloc(), input, out) {
+    let order = match order_of(rt.alloc(), words) {
+        Ok(order) => order,
+        Err(fault) => return Some(explain(&fault, out, err)),
+    };
+    match carry_out(rt, &order, input, out) {
         Ok(status) => Some(status),
         Err(fault) => Some(end(fault, err)),
     }

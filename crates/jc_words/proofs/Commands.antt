@@ -10,7 +10,8 @@ use Rattle.clap.specs.declared.parser.matches.ArgMatches.{ArgMatches}
 use Rattle.clap.specs.declared.parser.matches.ArgMatches.TheViews.{out-ArgMatches, out-SubCommand}
 use Rattle.clap.specs.declared.parser.matches.SubCommand.{SubCommand}
 use Rattle.jc_words.specs.Program.{program}
-use Rattle.jc_words.specs.Words.{order_by, order_in, with_file, words_order, IsWordsFault, IsFaultBy}
+use Rattle.jc_words.specs.Words.{order_by, order_in, with_file, words_order, AsksHelp, IsWordsFault, IsFaultBy}
+use Rattle.jc_words.proofs.Literals.{none_wanted}
 use Rattle.jc_words.specs.declared.order.Task.{Task}
 use Rattle.jc_words.specs.declared.order.Task.TheVariants.{Run}
 use Rattle.jc_words.specs.declared.order.Order.{Order}
@@ -83,3 +84,8 @@ none_said f (x ∷ xs) e = cc
 pub some_said : {X : Type 0} (f : X → Text) (xs : List X) → (length xs ≡ 0 → ⊥) → map f xs ≢ []
 some_said f [] some e = some refl
 some_said f (x ∷ xs) some e = cc
+
+-- no words ask for no help
+pub unasked : (words : List Text) → words ≡ [] → AsksHelp words → ⊥
+unasked [] e asks = let bad = sym none_wanted ∙ asks in cc
+unasked (w ∷ ws) e asks = cc

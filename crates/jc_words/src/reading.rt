@@ -1,11 +1,11 @@
 //! What words are taken for.
 
-ghost use Rattle.std.specs.Prelude.{◌≡◌, ◌≢◌, [], IfOk, IfErr, Some, codes, map, string_bytes, option_map};
+ghost use Rattle.std.specs.Prelude.{◌≡◌, ◌≢◌, [], IfOk, IfErr, IsErr, Some, codes, map, string_bytes, option_map};
 ghost use Rattle.std.specs.Option.{option_and_then};
 ghost use Rattle.std.specs.Str.{bytes_eq};
 ghost use Rattle.clap.specs.Words.{FailsBy, fault_of, first_of, found_of, rows_of, subcommand_of, subcommand_rows_of};
 ghost use Rattle.jc_words.specs.Program.{program};
-ghost use Rattle.jc_words.specs.Words.{is_traced, task_in, order_in, words_order, IsWordsFault};
+ghost use Rattle.jc_words.specs.Words.{is_traced, task_in, order_in, words_order, AsksHelp, IsWordsFault};
 
 use crate::definition::definition;
 use crate::fault::{WordsFault, fault_by};
@@ -81,6 +81,7 @@ pub fn order_of(alloc: Global, words: &[String]) -> Result<Order, WordsFault>
     // What is refused is no order; it is help only where that is asked for, and a fault only where
     // help alone isn't.
     ensures err { IfErr result (IsWordsFault (map string_bytes words.now)) }
+    ensures help { AsksHelp (map string_bytes words.now) → IsErr result }
 {
     if words.is_empty() {
         let file = copied(alloc, "-")?;

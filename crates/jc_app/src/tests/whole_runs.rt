@@ -1,6 +1,7 @@
 //! Whole runs, over sources and sinks in memory.
 
 use super::{counts, holds};
+use crate::files::Files;
 use crate::laws::one_run;
 use crate::work::work_alone;
 use jc_fakes::{Bytes, Endless, FailsAt, OneByte, Taken, TakesUpTo, Then};
@@ -8,20 +9,20 @@ use jc_rules::io::{Sink, Source};
 use std::process::Abort;
 use std::test::Fail;
 
-const ONE: &str = "jsoncrdt 1 replica a { doc.get(\"a\") := 1 } schedule { a.exec }";
+pub(super) const ONE: &str = "jsoncrdt 1 replica a { doc.get(\"a\") := 1 } schedule { a.exec }";
 
 const STUCK: &str = "jsoncrdt 1 replica a { doc.get(\"a\") := 1 } schedule { a.exec; a.exec }";
 
 const TWO: &str =
     "jsoncrdt 1 replica a { doc.get(\"a\") := 1; doc.get(\"a\") := 2 } schedule { a.exec; a.exec }";
 
-const FIRST_BLOCK: &str =
+pub(super) const FIRST_BLOCK: &str =
     "event 1 a.exec\n0 EXEC\n1 MAKE-ASSIGN\n2 GET\n3 DOC\n2 MAKE-OP\n3 APPLY-LOCAL\n4 DESCEND\n5 CHILD-MAP\n5 ASSIGN\n6 CLEAR-NONE\n6 ADD-ID1\n7 PRESENCE2\n6 CHILD-REG\n5 ADD-ID1\n6 PRESENCE2\n";
 
 const SECOND_BLOCK: &str =
     "event 2 a.exec\n0 EXEC\n1 MAKE-ASSIGN\n2 GET\n3 DOC\n2 MAKE-OP\n3 APPLY-LOCAL\n4 DESCEND\n5 CHILD-GET\n5 ASSIGN\n6 CLEAR-REG\n6 ADD-ID1\n7 PRESENCE1\n6 CHILD-GET\n5 ADD-ID1\n6 PRESENCE1\n";
 
-const ONE_DUMP: &str =
+pub(super) const ONE_DUMP: &str =
     "{\"acted\":false,\"left\":0,\"name\":\"a\",\"ops\":[\"1@a\"],\"queue\":[\"1@a\"],\"recv\":[],\"send\":[],\"tree\":{\"mapT(doc)\":{\"pres(\\\"a\\\")\":[\"1@a\"],\"regT(\\\"a\\\")\":{\"1@a\":{\"n\":\"1\"}}},\"pres(doc)\":[\"1@a\"]},\"vars\":{}}\n";
 
 const STUCK_LINE: &str = "stuck 30 NoCommand a.exec\n";
@@ -32,7 +33,7 @@ const TWO_DUMP: &str =
     "{\"acted\":false,\"left\":0,\"name\":\"a\",\"ops\":[\"1@a\",\"2@a\"],\"queue\":[\"1@a\",\"2@a\"],\"recv\":[],\"send\":[],\"tree\":{\"mapT(doc)\":{\"pres(\\\"a\\\")\":[\"1@a\",\"2@a\"],\"regT(\\\"a\\\")\":{\"2@a\":{\"n\":\"2\"}}},\"pres(doc)\":[\"1@a\",\"2@a\"]},\"vars\":{}}\n";
 
 /// Runs the program on these words.
-pub(super) fn work<R: AllocGlobal, I: Source, K: Sink, E: Sink>(
+pub(super) fn work<R: AllocGlobal + Files, I: Source, K: Sink, E: Sink>(
     rt: &R,
     words: &[String],
     input: &mut I,
@@ -47,7 +48,7 @@ pub(super) fn ends(rt: &impl Abort, got: Option<u8>, want: u8) {
 }
 
 /// Expects the parts, one after another.
-fn expect_text(rt: &impl Abort, mut text: &[u8], parts: &[&str]) {
+pub(super) fn expect_text(rt: &impl Abort, mut text: &[u8], parts: &[&str]) {
     for part in parts {
         assert!(rt; text.starts_with(part.as_bytes()), "{part}");
         text = &text[part.len()..];
@@ -56,7 +57,7 @@ fn expect_text(rt: &impl Abort, mut text: &[u8], parts: &[&str]) {
 }
 
 /// Expects the text and the status of a run without words, and nothing on the error's sink.
-fn expect_run<R: AllocGlobal + Abort, I: Source + Drop>(
+fn expect_run<R: AllocGlobal + Files + Abort, I: Source + Drop>(
     rt: &R,
     mut input: I,
     shown: &[&str],
@@ -129,7 +130,7 @@ fn longest_text(rt: HostRuntime) -> Result<(), Fail> {
 }
 
 /// Expects a run whose read number `at` fails, if it comes so far.
-fn expect_failed_read<R: AllocGlobal + Abort, I: Source + Drop>(rt: &R, input: I, at: u64) {
+fn expect_failed_read<R: AllocGlobal + Files + Abort, I: Source + Drop>(rt: &R, input: I, at: u64) {
     let mut input = FailsAt::new(input, at);
     let mut out = Taken::new(rt.alloc());
     let mut err = Taken::new(rt.alloc());
@@ -150,7 +151,7 @@ fn failed_reads(rt: HostRuntime) {
 }
 
 /// Expects a run whose output has room for so many bytes alone.
-fn expect_failed_write<R: AllocGlobal + Abort>(rt: &R, shown: &[u8], room: usize, then: Then) {
+fn expect_failed_write<R: AllocGlobal + Files + Abort>(rt: &R, shown: &[u8], room: usize, then: Then) {
     let mut input = Bytes::new(STUCK.as_bytes());
     let mut out = TakesUpTo::new(Taken::new(rt.alloc()), room, then);
     let mut err = Taken::new(rt.alloc());
@@ -188,7 +189,7 @@ fn failed_writes(rt: HostRuntime) -> Result<(), Fail> {
 }
 
 /// Expects a run whose write number `at` fails, and that nothing is written after it.
-fn expect_lost_write<R: AllocGlobal + Abort>(rt: &R, at: u64, shown: &[&str]) {
+fn expect_lost_write<R: AllocGlobal + Files + Abort>(rt: &R, at: u64, shown: &[&str]) {
     let mut input = Bytes::new(STUCK.as_bytes());
     let mut out = FailsAt::new(Taken::new(rt.alloc()), at);
     let mut err = Taken::new(rt.alloc());
@@ -211,24 +212,4 @@ fn failing_standard_error(rt: HostRuntime) {
     let mut err = TakesUpTo::new(Taken::new(rt.alloc()), 3, Then::Fails);
     ends(&rt, work(&rt, &[], &mut input, &mut out, &mut err), 4);
     expect_text(&rt, err.sink.as_slice(), &["rea"]);
-}
-
-/// Expects that these words are refused, and that nothing is read or written.
-fn expect_unread(rt: &(impl AllocGlobal + Abort), words: &[String]) {
-    let mut input = Bytes::new(ONE.as_bytes());
-    let mut out = Taken::new(rt.alloc());
-    let mut err = Taken::new(rt.alloc());
-    ends(rt, work(rt, words, &mut input, &mut out, &mut err), 2);
-    expect_text(rt, out.as_slice(), &[]);
-    expect_text(rt, err.as_slice(), &[]);
-    let mut left = [0; 100];
-    holds(rt, input.read(&mut left) == Ok(62));
-}
-
-#[test]
-fn words(rt: HostRuntime) -> Result<(), Fail> {
-    let mut words = Vec::new(rt.alloc());
-    words.push(String::from_str(rt.alloc(), "run")?)?;
-    expect_unread(&rt, words.as_slice());
-    Ok(())
 }

@@ -2,7 +2,7 @@ use Rattle.std.proofs.Common.{◌≡◌, ◌≢◌, ◌∙◌, [], ap, sym, refl
 use Rattle.clap.specs.Words.{fault_of}
 use Rattle.jc_words.specs.Program.{program}
 use Rattle.jc_words.specs.Words.{words_order, AsksHelp}
-use Rattle.jc_words.proofs.Commands.{none_said, some_said, unsaid, faulty, ordered}
+use Rattle.jc_words.proofs.Commands.{none_said, some_said, unasked, unsaid, faulty, ordered}
 use Rattle.jc_words.proofs.reading.order_of.Goals as goal
 
 pub returns-then-is_empty-clause-ok : goal.returns-then-is_empty-clause-ok
@@ -29,3 +29,14 @@ returns-clause-err c =
       ordered (map string_bytes c.args.words.now) _ None (some_said string_bytes c.args.words.now some) none c.in-Ok.ensures.ok (sym c.in-None.is ∙ c.in_ok-order.ensures),
       λ asks. (let bad = sym none ∙ asks in cc),
     )
+
+-- an order asks for no help
+pub returns-then-is_empty-clause-help : goal.returns-then-is_empty-clause-help
+returns-then-is_empty-clause-help c = λ asks.
+    let none : length c.args.words.now ≡ 0 = true-eqb _ 0 c.if-is_empty.ensures in
+    absurd (unasked (map string_bytes c.args.words.now) (none_said string_bytes c.args.words.now none) asks)
+
+pub returns-in-Some-clause-help : goal.returns-in-Some-clause-help
+returns-in-Some-clause-help c = λ asks.
+    let none : fault_of program (map string_bytes c.args.words.now) ≡ [] = c.in-Ok.ensures.kinds in
+    let bad = sym none ∙ asks in cc
