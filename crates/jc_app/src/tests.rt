@@ -1,6 +1,8 @@
 //! Runs of whole texts, and the words that the program is called with.
 
 mod called;
+mod commands;
+mod examples;
 mod scenarios;
 mod whole_runs;
 

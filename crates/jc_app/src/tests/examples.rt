@@ -1,7 +1,6 @@
 //! The examples of the folder `examples`, each with the states that its run ends with.
 
-use super::scenarios::expect_shown;
-use std::process::Abort;
+use super::commands::expect_shown;
 
 /// A scenario, and what `run` prints for it.
 const EXAMPLES: &[(&str, &str)] = &[
@@ -40,7 +39,7 @@ const EXAMPLES: &[(&str, &str)] = &[
 #[test]
 fn examples_end(rt: HostRuntime) {
     for (scenario, shown) in EXAMPLES {
-        expect_shown(&rt, &["run", "-"], scenario, shown, 0);
-        expect_shown(&rt, &["print", "-"], scenario, scenario, 0);
+        expect_shown(&rt, &rt, &["run", "-"], scenario, &[*shown], 0);
+        expect_shown(&rt, &rt, &["print", "-"], scenario, &[*scenario], 0);
     }
 }

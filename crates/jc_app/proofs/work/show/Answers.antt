@@ -12,10 +12,10 @@ pub returns-in_err-line-in-Check-clause-begun : goal.returns-in_err-line-in-Chec
 returns-in_err-line-in-Check-clause-begun g c =
     let s = scenario_view c.args.scenario.now in
     let o = g.K.Sink.taken c.args.out.now in
-    if_refused c.from_residual.result (subst (λ (task : Task). AppendsFrontOf (IsDueOf task s) o o) (sym c.in-Check.is) (counts_text s, (0, refl, refl), none_yet o (counts_text s)))
+    if_refused c.from_residual.result (subst (λ (task : Task). AppendsFrontOf (IsDueOf task s) o o) (sym c.in-Check.is) (counts_text s, (0, (refl, refl)), none_yet o (counts_text s)))
 
 pub returns-in_err-text-in-Print-clause-begun : goal.returns-in_err-text-in-Print-clause-begun
 returns-in_err-text-in-Print-clause-begun g c =
     let s = scenario_view c.args.scenario.now in
     let o = g.K.Sink.taken c.args.out.now in
-    if_refused c.from_residual-in_err-text-in-Print.result (subst (λ (task : Task). AppendsFrontOf (IsDueOf task s) o o) (sym c.in-Print.is) (canon s, (0, refl, refl), none_yet o (canon s)))
+    if_refused c.from_residual-in_err-text-in-Print.result (subst (λ (task : Task). AppendsFrontOf (IsDueOf task s) o o) (sym c.in-Print.is) (canon s, (0, (refl, refl)), none_yet o (canon s)))

@@ -12,7 +12,7 @@ returns-in-Err-clause-begun g c = λ order some _.
 
 -- an order asks for no help
 pub returns-in-Ok-carry_out-clause-help : goal.returns-in-Ok-carry_out-clause-help
-returns-in-Ok-carry_out-clause-help g c = λ asks. absurd (c.in-Ok.ensures.help asks)
+returns-in-Ok-carry_out-clause-help g c = λ asks. (let bad = c.in-Ok.ensures.help asks in cc)
 
 pub returns-clause-begun : goal.returns-clause-begun
 returns-clause-begun g c = λ order some _.
