@@ -10,6 +10,7 @@ use std::alloc::{AllocError, Global};
 use std::process::Abort;
 
 /// Files in memory: the name and the bytes of each.
+#[derive(Drop)]
 struct Shelf<'a> {
     files: &'a [(&'a str, &'a [u8])],
 }
@@ -104,7 +105,7 @@ fn commands(rt: HostRuntime) {
 
 /// Expects words that end with this status before any text is read, and what the error's sink has
 /// then begins so.
-fn expect_unread(rt: &HostRuntime, words: &[&str], status: u8, line: &[u8]) {
+fn expect_unread<R: AllocGlobal + Files + Abort>(rt: &R, words: &[&str], status: u8, line: &[u8]) {
     let mut input = Bytes::new(ONE.as_bytes());
     let mut out = Taken::new(rt.alloc());
     let mut err = Taken::new(rt.alloc());
@@ -167,7 +168,7 @@ const HELPS: &[(&[&str], &[&str])] = &[
 ];
 
 /// Expects help, with these parts.
-fn expect_help(rt: &HostRuntime, words: &[&str], parts: &[&str]) {
+fn expect_help<R: AllocGlobal + Files + Abort>(rt: &R, words: &[&str], parts: &[&str]) {
     let mut input = Bytes::new(b"");
     let mut out = Taken::new(rt.alloc());
     let mut err = Taken::new(rt.alloc());

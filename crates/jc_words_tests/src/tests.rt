@@ -1,0 +1,82 @@
+use jc_words::{Order, Task, WordsFault, order_of};
+use std::alloc::{AllocError, Global};
+use std::process::Abort;
+
+/// What words are taken for: a task and its file, help, a fault, or want of memory.
+#[derive(Clone, Copy, Debug, PartialEq, Eq)]
+enum Taken {
+    Check,
+    Print,
+    Run,
+    RunWithTrace,
+    Help,
+    Usage,
+    Memory,
+}
+
+/// The words, each a text of its own.
+fn said(alloc: Global, words: &[&str]) -> Result<Vec<String>, AllocError> {
+    let mut said = Vec::new(alloc);
+    for word in words {
+        said.push(String::from_str(alloc, word)?)?;
+    }
+    Ok(said)
+}
+
+fn task_of(order: &Order) -> Taken {
+    match order.task {
+        Task::Check => Taken::Check,
+        Task::Print => Taken::Print,
+        Task::Run { trace: false } => Taken::Run,
+        Task::Run { trace: true } => Taken::RunWithTrace,
+    }
+}
+
+fn is_taken(rt: &impl Abort, got: Taken, file: &str, want: Taken, want_file: &str) {
+    assert_eq!(rt; got, want);
+    assert!(rt; file == want_file);
+}
+
+/// Expects what words are taken for, and the file that they name.
+fn expect_taken<R: AllocGlobal + Abort>(rt: &R, words: &[&str], want: Taken, file: &str) {
+    let Ok(words) = said(rt.alloc(), words) else {
+        panic!(rt; "no memory for the words")
+    };
+    match order_of(rt.alloc(), &words) {
+        Ok(order) => is_taken(rt, task_of(&order), order.file.as_str(), want, file),
+        Err(WordsFault::Help(_)) => is_taken(rt, Taken::Help, "", want, file),
+        Err(WordsFault::Usage(_)) => is_taken(rt, Taken::Usage, "", want, file),
+        Err(WordsFault::Memory) => is_taken(rt, Taken::Memory, "", want, file),
+    }
+}
+
+/// Words, what they are taken for, and the file.
+const WORDS: &[(&[&str], Taken, &str)] = &[
+    (&[], Taken::RunWithTrace, "-"),
+    (&["check", "-"], Taken::Check, "-"),
+    (&["print", "a b"], Taken::Print, "a b"),
+    (&["run", "x"], Taken::Run, "x"),
+    (&["run", "--trace", "x"], Taken::RunWithTrace, "x"),
+    (&["run", "x", "--trace"], Taken::RunWithTrace, "x"),
+    (&["run", "--", "--trace"], Taken::Run, "--trace"),
+    (&["run", ""], Taken::Run, ""),
+    (&["--help"], Taken::Help, ""),
+    (&["-h"], Taken::Help, ""),
+    (&["run", "--help"], Taken::Help, ""),
+    (&["check", "-h"], Taken::Help, ""),
+    (&["run"], Taken::Usage, ""),
+    (&["run", "x", "y"], Taken::Usage, ""),
+    (&["run", "--trace=yes", "x"], Taken::Usage, ""),
+    (&["check", "--trace", "x"], Taken::Usage, ""),
+    (&["help"], Taken::Usage, ""),
+    (&["--"], Taken::Usage, ""),
+    (&[""], Taken::Usage, ""),
+    (&["jsoncrdt", "run", "x"], Taken::Usage, ""),
+];
+
+#[test]
+fn words_are_taken(rt: HostRuntime) {
+    for (words, want, file) in WORDS {
+        expect_taken(&rt, words, *want, file);
+    }
+}
