@@ -111,12 +111,7 @@ fn show<K: Sink>(
 }
 
 /// Does the task on a scenario's text: writes what it shows, and answers its status.
-fn show_text<K: Sink>(
-    alloc: Global,
-    task: Task,
-    text: &[u8],
-    out: &mut K,
-) -> Result<u8, RunFault>
+fn show_text<K: Sink>(alloc: Global, task: Task, text: &[u8], out: &mut K) -> Result<u8, RunFault>
     ensures ok { IfOk result (λ status.
         (shown : List ℕ) × Ran task text.now shown status × Appends (K.taken out.old) (K.taken out.new) shown) }
     ensures begun { OnErr result (AppendsFrontOf (IsDue task text.now) (K.taken out.old) (K.taken out.new)) }
@@ -284,14 +279,14 @@ pub fn work_alone<R: AllocGlobal + Files, I: Source, K: Sink, E: Sink>(
         → (status : ℕ)
         × (result ≡ Some status)
         × HasRun order.task (told_by (I.left input.old) (R.texts rt.now) order.file)
-            (K.taken out.old) (K.taken out.new) status }
+        (K.taken out.old) (K.taken out.new) status }
 
     // Else a front of it was.
     ensures begun { (order : Order)
         → words_order (map string_bytes words.now) ≡ Some order
         → (result ≡ Some 4) ⊎ (result ≡ Some 5)
         → HasBegun order.task (told_by (I.left input.old) (R.texts rt.now) order.file)
-            (K.taken out.old) (K.taken out.new) }
+        (K.taken out.old) (K.taken out.new) }
 
     // Words that are no order are help, or a fault of the command line.
     ensures help { AsksHelp (map string_bytes words.now)

@@ -60,7 +60,12 @@ pub(crate) fn definition<'a>(alloc: Global) -> Result<Command<'a>, AllocError>
         "Read the scenario, and print how many replicas, commands and events it has",
         CHECK,
     )?;
-    let print = plain(alloc, "print", "Print the scenario in its canonical text", PRINT)?;
+    let print = plain(
+        alloc,
+        "print",
+        "Print the scenario in its canonical text",
+        PRINT,
+    )?;
     let run = run(alloc)?;
     let top = Command::new(alloc, "jsoncrdt")
         .about("Runs scenarios of a replicated JSON document, and shows each rule that is used")
@@ -68,7 +73,5 @@ pub(crate) fn definition<'a>(alloc: Global) -> Result<Command<'a>, AllocError>
         .no_binary_name(true)
         .disable_help_subcommand(true)
         .subcommand_required(true);
-    top.subcommand(check)?
-        .subcommand(print)?
-        .subcommand(run)
+    top.subcommand(check)?.subcommand(print)?.subcommand(run)
 }

@@ -1,7 +1,8 @@
 //! What help says beside the lists of commands and options.
 
 /// The help of the program.
-pub(crate) const PROGRAM: &str = "A scenario is a text with a script of commands for each replica,\n\
+pub(crate) const PROGRAM: &str =
+    "A scenario is a text with a script of commands for each replica,\n\
 and a schedule of the events that run them.\n\
 \n\
 Example:\n  \

@@ -54,13 +54,16 @@ pub(super) fn expect_shown<F: AllocGlobal + Files>(
     let Ok(words) = said(files.alloc(), words) else {
         panic!(rt; "no memory for the words")
     };
-    ends(rt, work_alone(files, &words, &mut input, &mut out, &mut err), status);
+    ends(
+        rt,
+        work_alone(files, &words, &mut input, &mut out, &mut err),
+        status,
+    );
     expect_text(rt, out.as_slice(), shown);
     holds(rt, err.as_slice().is_empty());
 }
 
-const PAIR: &str =
-    "jsoncrdt 1 replica b{yield} replica a{let x=doc . get(\"\\u0061\\/\");x:=-0;}";
+const PAIR: &str = "jsoncrdt 1 replica b{yield} replica a{let x=doc . get(\"\\u0061\\/\");x:=-0;}";
 
 const PAIR_PRINTED: &str =
     "jsoncrdt 1\nreplica a {\n  let x = doc.get(\"a/\");\n  x := -0;\n}\nreplica b {\n  yield;\n}\nschedule {\n}\n";
@@ -69,8 +72,7 @@ const COUNTS: &str = "replicas 1 commands 1 events 1\n";
 
 const NO_HEADER: &str = "refused 14 NoHeader at 0\n";
 
-const ABSENT: &str =
-    "jsoncrdt 1 replica a { let x = doc.get(\"l\").idx(0) } schedule { a.exec }";
+const ABSENT: &str = "jsoncrdt 1 replica a { let x = doc.get(\"l\").idx(0) } schedule { a.exec }";
 
 const ABSENT_ENDS: &str =
     "{\"acted\":false,\"left\":1,\"name\":\"a\",\"ops\":[],\"queue\":[],\"recv\":[],\"send\":[],\"tree\":{},\"vars\":{}}\nstuck 25 NoSuchNode mapT(doc) a.exec\n";
@@ -78,7 +80,12 @@ const ABSENT_ENDS: &str =
 /// Words, the text of standard input, what is printed, and the status.
 const COMMANDS: &[(&[&str], &str, &[&str], u8)] = &[
     (&["check", "-"], ONE, &[COUNTS], 0),
-    (&["check", "-"], PAIR, &["replicas 2 commands 3 events 0\n"], 0),
+    (
+        &["check", "-"],
+        PAIR,
+        &["replicas 2 commands 3 events 0\n"],
+        0,
+    ),
     (&["check", "-"], "", &[NO_HEADER], 1),
     (&["print", "-"], PAIR, &[PAIR_PRINTED], 0),
     (&["print", "-"], "", &[NO_HEADER], 1),
@@ -112,7 +119,11 @@ fn expect_unread<R: AllocGlobal + Files + Abort>(rt: &R, words: &[&str], status:
     let Ok(words) = said(rt.alloc(), words) else {
         panic!(rt; "no memory for the words")
     };
-    ends(rt, work_alone(rt, &words, &mut input, &mut out, &mut err), status);
+    ends(
+        rt,
+        work_alone(rt, &words, &mut input, &mut out, &mut err),
+        status,
+    );
     holds(rt, out.as_slice().is_empty());
     holds(rt, err.as_slice().starts_with(line));
     let mut left = [0; 100];
@@ -150,20 +161,46 @@ fn no_such_file(rt: HostRuntime) {
 const HELPS: &[(&[&str], &[&str])] = &[
     (
         &["--help"],
-        &["A scenario is", ONE, ONE_DUMP, "check", "print", "run", "  3  an event was stuck"],
+        &[
+            "A scenario is",
+            ONE,
+            ONE_DUMP,
+            "check",
+            "print",
+            "run",
+            "  3  an event was stuck",
+        ],
     ),
     (&["-h"], &["A scenario is", ONE, ONE_DUMP]),
     (
         &["check", "--help"],
-        &["A scenario is", ONE, COUNTS, "FILE", "  1  the scenario's text was refused"],
+        &[
+            "A scenario is",
+            ONE,
+            COUNTS,
+            "FILE",
+            "  1  the scenario's text was refused",
+        ],
     ),
     (
         &["print", "--help"],
-        &["A scenario is", ONE, "  jsoncrdt 1\n  replica a {\n    doc.get(\"a\") := 1;\n  }\n", "FILE"],
+        &[
+            "A scenario is",
+            ONE,
+            "  jsoncrdt 1\n  replica a {\n    doc.get(\"a\") := 1;\n  }\n",
+            "FILE",
+        ],
     ),
     (
         &["run", "--help"],
-        &["A scenario is", ONE, ONE_DUMP, "--trace", "FILE", "  3  an event was stuck"],
+        &[
+            "A scenario is",
+            ONE,
+            ONE_DUMP,
+            "--trace",
+            "FILE",
+            "  3  an event was stuck",
+        ],
     ),
 ];
 
@@ -175,7 +212,11 @@ fn expect_help<R: AllocGlobal + Files + Abort>(rt: &R, words: &[&str], parts: &[
     let Ok(words) = said(rt.alloc(), words) else {
         panic!(rt; "no memory for the words")
     };
-    ends(rt, work_alone(rt, &words, &mut input, &mut out, &mut err), 0);
+    ends(
+        rt,
+        work_alone(rt, &words, &mut input, &mut out, &mut err),
+        0,
+    );
     holds(rt, err.as_slice().is_empty());
     let Ok(text) = std::str::from_utf8(out.as_slice()) else {
         panic!(rt; "help is no UTF-8")
@@ -200,6 +241,10 @@ fn help_that_is_not_written(rt: HostRuntime) {
     let Ok(words) = said(rt.alloc(), &["--help"]) else {
         panic!(&rt; "no memory for the words")
     };
-    ends(&rt, work_alone(&rt, &words, &mut input, &mut out, &mut err), 4);
+    ends(
+        &rt,
+        work_alone(&rt, &words, &mut input, &mut out, &mut err),
+        4,
+    );
     expect_text(&rt, err.as_slice(), &["write failed\n"]);
 }

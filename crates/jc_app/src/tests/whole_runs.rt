@@ -151,7 +151,12 @@ fn failed_reads(rt: HostRuntime) {
 }
 
 /// Expects a run whose output has room for so many bytes alone.
-fn expect_failed_write<R: AllocGlobal + Files + Abort>(rt: &R, shown: &[u8], room: usize, then: Then) {
+fn expect_failed_write<R: AllocGlobal + Files + Abort>(
+    rt: &R,
+    shown: &[u8],
+    room: usize,
+    then: Then,
+) {
     let mut input = Bytes::new(STUCK.as_bytes());
     let mut out = TakesUpTo::new(Taken::new(rt.alloc()), room, then);
     let mut err = Taken::new(rt.alloc());
