@@ -42,8 +42,8 @@ pub fn former_of_node(key: &Tagged) -> Result<Former, AllocError>
     ensures { IfOk result (λ former. former ≡ former_of_node key.now) }
 {
     match key {
-        Tagged::MapT(key) => Ok(Former::Map(key.copy()?, None)),
-        Tagged::ListT(key) => Ok(Former::List(key.copy()?, None)),
+        Tagged::MapT(key) => Ok(Former::Map(key.copy()?)),
+        Tagged::ListT(key) => Ok(Former::List(key.copy()?)),
         Tagged::RegT(_) => unreachable!(),
     }
 }
@@ -197,8 +197,8 @@ impl ArenaNode {
         ensures { self.new ≡ restored_flat former self.old }
     {
         match former {
-            Former::Map(key, _) => restore_value(&mut self.maps, &key, None),
-            Former::List(key, _) => restore_value(&mut self.lists, &key, None),
+            Former::Map(key) => restore_value(&mut self.maps, &key, None),
+            Former::List(key) => restore_value(&mut self.lists, &key, None),
             Former::Register(key, pairs) => restore_value(&mut self.registers, &key, pairs),
             Former::Presence(key, ids) => restore_value(&mut self.presences, &key, ids),
             Former::Link(key, next) => restore_value(&mut self.links, &key, next),

@@ -63,12 +63,13 @@ pub enum Change {
     Register(Key, Pairs),
 }
 
-/// What a change set, as it was before: what stood under the key, if anything did; that the
-/// identifier wasn't in the key's presence set; or that all was as it is.
+/// What a change set, as it was before: that there was no map or list under the key; what else stood
+/// under it, if anything did; that the identifier wasn't in the key's presence set; or that all was
+/// as it is.
 #[derive(Drop)]
 pub enum Former {
-    Map(Key, Option<Node>),
-    List(Key, Option<Node>),
+    Map(Key),
+    List(Key),
     Register(Key, Option<Pairs>),
     Presence(Key, Option<Ids>),
     Link(Key, Option<Next>),
@@ -190,11 +191,15 @@ impl Node {
         match change {
             Change::Child(Tagged::MapT(key)) => {
                 let map = Node::new(alloc);
-                Ok(Former::Map(key.copy()?, put_value(&mut self.maps, key, map)?))
+                let former = Former::Map(key.copy()?);
+                put_value(&mut self.maps, key, map)?;
+                Ok(former)
             }
             Change::Child(Tagged::ListT(key)) => {
                 let list = Node::new_list(alloc)?;
-                Ok(Former::List(key.copy()?, put_value(&mut self.lists, key, list)?))
+                let former = Former::List(key.copy()?);
+                put_value(&mut self.lists, key, list)?;
+                Ok(former)
             }
             Change::Child(Tagged::RegT(key)) => {
                 let pairs = Pairs::new(Vec::new(alloc));
@@ -247,8 +252,8 @@ impl Node {
         ensures { self.new ≡ restored_by former self.old }
     {
         match former {
-            Former::Map(key, map) => restore_value(&mut self.maps, &key, map),
-            Former::List(key, list) => restore_value(&mut self.lists, &key, list),
+            Former::Map(key) => restore_value(&mut self.maps, &key, None),
+            Former::List(key) => restore_value(&mut self.lists, &key, None),
             Former::Register(key, pairs) => restore_value(&mut self.registers, &key, pairs),
             Former::Presence(key, ids) => restore_value(&mut self.presences, &key, ids),
             Former::Link(key, next) => restore_value(&mut self.links, &key, next),
