@@ -206,7 +206,7 @@ impl Node {
                 Ok(Former::Register(key.copy()?, put_value(&mut self.registers, key, pairs)?))
             }
             Change::AddId(key, id) => {
-                let former = former_of_id(self.presences.as_slice(), &key, id)?;
+                let former = former_of_id(value_of(self.presences.as_slice(), &key), &key, id)?;
                 add_to(&mut self.presences, key, id, alloc)?;
                 Ok(former)
             }
@@ -278,12 +278,11 @@ impl Node {
     }
 }
 
-/// What takes it back that the identifier is added to the key's presence set.
-pub fn former_of_id(presences: &[(Key, Ids)], key: &Key, id: Id) -> Result<Former, AllocError>
-    requires { AreSorted presences.now }
-    ensures { IfOk result (λ former. former ≡ former_of_id key.now id (find key_cmp key.now presences.now)) }
+/// What takes it back that the identifier is added to the key's presence set, which is there or not.
+pub fn former_of_id(presence: Option<&Ids>, key: &Key, id: Id) -> Result<Former, AllocError>
+    ensures { IfOk result (λ former. former ≡ former_of_id key.now id (option_copied presence.entry)) }
 {
-    match value_of(presences, key) {
+    match presence {
         None => Ok(Former::Presence(key.copy()?, None)),
         Some(ids) if ids.contains(id) => Ok(Former::Same),
         Some(_) => Ok(Former::NoId(key.copy()?, id)),
