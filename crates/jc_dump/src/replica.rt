@@ -11,7 +11,7 @@ use crate::dump::{Shown, dump_line_of};
 use jc_network::{CompareFault, Net};
 use jc_replica::Replica;
 use jc_rules::{Id, Op, Text, name_at};
-use jc_tree::PlainTree;
+use jc_tree::ArenaTree;
 use std::alloc::{AllocError, Global};
 
 /// The identifiers of operations.
@@ -30,7 +30,7 @@ fn line_of(
     alloc: Global,
     names: &[Text],
     p: u16,
-    replica: &Replica<PlainTree>,
+    replica: &Replica<ArenaTree>,
     applied: &[Op],
 ) -> Result<String, AllocError>
     ensures { IfOk result (λ line.

@@ -20,7 +20,7 @@ use crate::stepping::make;
 use jc_replica::Replica;
 use jc_rules::{Event, Op, Text, Trace};
 use jc_scenario::{Scenario, copy_names};
-use jc_tree::PlainTree;
+use jc_tree::ArenaTree;
 use std::alloc::{AllocError, Global};
 use std::marker::Model;
 
@@ -29,7 +29,7 @@ use std::marker::Model;
 #[derive(Drop)]
 pub struct Net {
     names: Vec<Text>,
-    replicas: Vec<Replica<PlainTree>>,
+    replicas: Vec<Replica<ArenaTree>>,
     /// Whose step each was.
     whose: Vec<u16>,
     alloc: Global,
@@ -83,7 +83,7 @@ impl Net {
     }
 
     /// The replica with the number, if there is one.
-    pub fn replica(&self, p: u16) -> Option<&Replica<PlainTree>>
+    pub fn replica(&self, p: u16) -> Option<&Replica<ArenaTree>>
         ensures some { IfSome result (λ replica. HasReplica self.now.network p replica.now) }
         ensures none { IfNone result (length self.now.network ≤ p) }
     {

@@ -8,14 +8,14 @@ ghost use Rattle.jc_network.specs.Start.{pasts_from};
 use jc_replica::Replica;
 use jc_scenario::copy_script;
 use jc_syntax::Cmd;
-use jc_tree::PlainTree;
+use jc_tree::ArenaTree;
 use std::alloc::{AllocError, Global};
 
 /// A replica at its start for each script.
 pub(crate) fn replicas_of(
     alloc: Global,
     scripts: &[Vec<Cmd>],
-) -> Result<Vec<Replica<PlainTree>>, AllocError>
+) -> Result<Vec<Replica<ArenaTree>>, AllocError>
     requires many { length scripts.now ≤ 64 }
     requires short { AllByRecursion (λ s. length s ≤ 65536) (scripts_view scripts.now) }
     ensures { IfOk result (λ replicas. replicas.items ≡ pasts_from 0 (scripts_view scripts.now)) }
@@ -24,7 +24,8 @@ pub(crate) fn replicas_of(
     let mut number: u16 = 0;
     for script in scripts {
         let script = copy_script(alloc, script)?;
-        replicas.push(Replica::new(alloc, number, script, PlainTree::new(alloc)))?;
+        let store = ArenaTree::new(alloc)?;
+        replicas.push(Replica::new(alloc, number, script, store))?;
         number += 1;
     }
     Ok(replicas)

@@ -12,7 +12,7 @@ ghost use Rattle.jc_network.specs.Run.{AreNumbered};
 use crate::fault::{StepFault, Stuck};
 use jc_replica::{Replica, ReplicaFault};
 use jc_rules::{Event, Refusal, Trace};
-use jc_tree::PlainTree;
+use jc_tree::ArenaTree;
 use std::alloc::Global;
 
 /// That a replica which the event names isn't there.
@@ -56,7 +56,7 @@ fn step_fault(fault: ReplicaFault, event: Event) -> StepFault
 /// Has the event's replica make the event. After a refusal all is as it was.
 pub(crate) fn make(
     alloc: Global,
-    replicas: &mut [Replica<PlainTree>],
+    replicas: &mut [Replica<ArenaTree>],
     event: &Event,
 ) -> Result<Trace, StepFault>
     requires numbered { AreNumbered replicas.old }
@@ -80,7 +80,7 @@ pub(crate) fn make(
 /// The same, where the replicas are there.
 fn act(
     alloc: Global,
-    replicas: &mut [Replica<PlainTree>],
+    replicas: &mut [Replica<ArenaTree>],
     event: &Event,
 ) -> Result<Trace, ReplicaFault>
     requires numbered { AreNumbered replicas.old }
@@ -101,7 +101,7 @@ fn act(
 /// it on.
 fn receive(
     alloc: Global,
-    replicas: &mut [Replica<PlainTree>],
+    replicas: &mut [Replica<ArenaTree>],
     p: u16,
     q: u16,
 ) -> Result<Trace, ReplicaFault>

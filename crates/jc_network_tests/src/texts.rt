@@ -5,7 +5,7 @@ use jc_dump::dump::{id_text, key_text, tagged_text, tree_value};
 use jc_network::Net;
 use jc_replica::Replica;
 use jc_rules::{Id, Op, Tagged, Text};
-use jc_tree::PlainTree;
+use jc_tree::ArenaTree;
 use std::alloc::{AllocError, Global};
 
 /// A word, and the identifiers of the operations behind it.
@@ -28,7 +28,7 @@ fn push_ids(
 pub fn push_state(
     alloc: Global,
     names: &[Text],
-    replica: &Replica<PlainTree>,
+    replica: &Replica<ArenaTree>,
     applied: &[Op],
     line: &mut String,
 ) -> Result<(), AllocError> {
@@ -89,7 +89,7 @@ fn push_bound(
 pub fn push_vars(
     alloc: Global,
     names: &[Text],
-    replica: &Replica<PlainTree>,
+    replica: &Replica<ArenaTree>,
     line: &mut String,
 ) -> Result<(), AllocError> {
     for (name, bound) in replica.vars() {
@@ -104,7 +104,7 @@ pub fn push_vars(
 pub fn push_tree(
     alloc: Global,
     names: &[Text],
-    replica: &Replica<PlainTree>,
+    replica: &Replica<ArenaTree>,
     line: &mut String,
 ) -> Result<(), AllocError> {
     let mut at = Vec::new(alloc);
@@ -123,7 +123,7 @@ pub enum Part {
 fn push_part(
     alloc: Global,
     net: &Net,
-    replica: &Replica<PlainTree>,
+    replica: &Replica<ArenaTree>,
     applied: &[Op],
     part: Part,
     line: &mut String,

@@ -35,7 +35,7 @@ use Rattle.jc_tree.specs.ArenaUndo.{IsGood, without_last, fewer, restored_in}
 use Rattle.jc_tree.proofs.Keeping.{kept-changed_at, presence_rises}
 use Rattle.jc_tree.proofs.Places.{some_place}
 use Rattle.jc_tree.proofs.Taking.{set-out}
-use Rattle.jc_tree.proofs.Undoing.{restored-put, removed-placed}
+use Rattle.jc_tree.proofs.Undoing.{restored-put, removed-put}
 use Rattle.jc_tree.proofs.Numbers.{IsSameBut, reaches_le, unchanged, same_all, same_depth, found, changed, Either, left, right}
 
 -- a new node, and the number of it in the node above
@@ -51,9 +51,6 @@ pub record Changes (ns ms : List Flat) (at : List Tagged) (y : Context) (i : ℕ
   pub good : IsGood ms
   pub content : content_of ms ≡ with_node_at at y (content_of ns)
   pub back : restored_in i f (fewer f ms) ≡ ns
-
-removed-put : {X : Type 0} (k : Key) (v : X) (es : List (Key × X)) → find key_cmp k es ≡ None → removed k (put key_cmp k v es) ≡ es
-removed-put k v es h = rw h (removed-placed k v es h)
 
 pub last_gone : (ns : List Flat) (n : Flat) → without_last (ns ++ n ∷ []) ≡ ns
 last_gone [] n = refl

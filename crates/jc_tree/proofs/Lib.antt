@@ -14,6 +14,7 @@ pub mod Undoing
 pub mod Taking
 pub mod Ways
 pub mod Numbers
+pub mod Balanced
 pub mod ArenaChanges
 pub mod ArenaSteps
 pub mod ArenaHistory

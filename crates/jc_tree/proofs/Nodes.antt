@@ -16,7 +16,7 @@ use Rattle.jc_tree.specs.declared.node.Change.{Change}
 use Rattle.jc_tree.specs.declared.node.Change.TheVariants.{Child}
 use Rattle.jc_tree.specs.declared.node.Former.{Former}
 use Rattle.jc_tree.specs.declared.node.Former.TheVariants as F
-use Rattle.jc_tree.specs.Undo.{restored, former_of, restored_by}
+use Rattle.jc_tree.specs.Undo.{removed, former_of, restored_by}
 use Rattle.jc_tree.proofs.Least.{least_of, least_after-append}
 
 module _ (m l : List (Key × Context)) (r : List (Key × Register)) (p : List (Key × List Id)) (n : List (Key × Next)) (s : Context) (v : context (children m) (children l) r p n ≡ s) where
@@ -36,11 +36,11 @@ module _ (m l : List (Key × Context)) (r : List (Key × Register)) (p : List (K
   key_after k = rw (← v, listed_children m, listed_children l, least_after-append k (keys_of m ++ keys_of l) (keys_of r), least_after-append k (keys_of m) (keys_of l)) refl
 
 module _ (m l : List (Key × Context)) (r : List (Key × Register)) (p : List (Key × List Id)) (n : List (Key × Next)) (s : Context) (v : context (children m) (children l) r p n ≡ s) where
-  pub map_restored : (f : Former) (k : Key) (o : Option Context) (m2 : List (Key × Context)) → f ≡ F.Map k o → m2 ≡ restored k o m → context (children m2) (children l) r p n ≡ restored_by f s
-  map_restored f k o m2 e w = rw (e, w, ← v, listed_children) refl
+  pub map_restored : (f : Former) (k : Key) (m2 : List (Key × Context)) → f ≡ F.Map k → m2 ≡ removed k m → context (children m2) (children l) r p n ≡ restored_by f s
+  map_restored f k m2 e w = rw (e, w, ← v, listed_children) refl
 
-  pub list_restored : (f : Former) (k : Key) (o : Option Context) (l2 : List (Key × Context)) → f ≡ F.List k o → l2 ≡ restored k o l → context (children m) (children l2) r p n ≡ restored_by f s
-  list_restored f k o l2 e w = rw (e, w, ← v, listed_children) refl
+  pub list_restored : (f : Former) (k : Key) (l2 : List (Key × Context)) → f ≡ F.List k → l2 ≡ removed k l → context (children m) (children l2) r p n ≡ restored_by f s
+  list_restored f k l2 e w = rw (e, w, ← v, listed_children) refl
 
 pub has_child : (b : Bool) (o : Option (Bor Context)) (f : Option Context) (x : Option Content) → b ≡ is_some o → option_copied o ≡ f → x ≡ node_of f → b ≡ is_some x
 has_child b None f x h g e = rw (h, e, ← g) refl
@@ -56,12 +56,6 @@ module _ (m l : List (Key × Context)) (r : List (Key × Register)) (p : List (K
 
   pub new_list : (c : Change) (t : Tagged) (k : Key) (new : Context) (l2 : List (Key × Context)) → c ≡ Child t → t ≡ ListT k → new ≡ empty_list → l2 ≡ put key_cmp k new l → context (children m) (children l2) r p n ≡ changed_by c s
   new_list c t k new l2 a b e w = rw (a, b) (list_with m l r p n s v k empty_list l2 (rw (← e) w))
-
-  pub former_map : (c : Change) (t : Tagged) (k j : Key) (o : Option Context) → c ≡ Child t → t ≡ MapT k → j ≡ k → o ≡ find key_cmp k m → F.Map j o ≡ former_of c s
-  former_map c t k j o a b e w = rw (a, b, e, w, ← v, listed_children) refl
-
-  pub former_list : (c : Change) (t : Tagged) (k j : Key) (o : Option Context) → c ≡ Child t → t ≡ ListT k → j ≡ k → o ≡ find key_cmp k l → F.List j o ≡ former_of c s
-  former_list c t k j o a b e w = rw (a, b, e, w, ← v, listed_children) refl
 
   -- a place that begins under a map's key is in that child
   pub map_child : (k : Key) (ks : List Tagged) → node_at (MapT k ∷ ks) s ≢ None → IsSomeAnd (find key_cmp k m) (λ d. node_at ks d ≢ None)
@@ -107,6 +101,13 @@ module _ (m l : List (Key × Context)) (r : List (Key × Register)) (p : List (K
       go : (o : Option Context) → find key_cmp k l ≡ o → IsSomeAnd o (λ d. node_at ks d ≢ None) → IfSome o (λ d. P (context_at ks d)) → P (context_at (ListT k ∷ ks) s)
       go None e t h = absurd t
       go (Some d) e t h = rw (list_content m l r p n s v k, e) h
+
+-- what takes it back that a child is made
+pub former_map : (c : Change) (t : Tagged) (k j : Key) (s : Context) → c ≡ Child t → t ≡ MapT k → j ≡ k → F.Map j ≡ former_of c s
+former_map c t k j s a b e = rw (a, b, e) refl
+
+pub former_list : (c : Change) (t : Tagged) (k j : Key) (s : Context) → c ≡ Child t → t ≡ ListT k → j ≡ k → F.List j ≡ former_of c s
+former_list c t k j s a b e = rw (a, b, e) refl
 
 pub if_some : (P : Context → Type 0) (o : Option Context) (d : Context) → o ≡ Some d → P d → IfSome o P
 if_some P None d e h = tt

@@ -10,7 +10,7 @@ use Rattle.jc_rules.specs.declared.key.Tagged.{Tagged}
 use Rattle.jc_rules.specs.declared.key.Tagged.TheVariants.{MapT, ListT, RegT}
 use Rattle.jc_rules.specs.Order.{key_cmp}
 use Rattle.jc_rules.specs.Entries.{find, placed, replaced, put}
-use Rattle.jc_rules.specs.Context.{Context, context, Children, Register, listed, empty, empty_list}
+use Rattle.jc_rules.specs.Context.{Context, context, Children, Register, listed, node_of, empty, empty_list}
 use Rattle.jc_rules.specs.Places.{node_at, with_node_at, context_at}
 use Rattle.jc_rules.proofs.Order.{keys_total, exact_keys}
 use Rattle.jc_rules.proofs.Entries.{same-self, found-put, put-put, put-same, value-found}
@@ -18,7 +18,7 @@ use Rattle.jc_rules.proofs.Places.{listed_children, children_listed, with_node-t
 use Rattle.jc_rules.specs.Ids.{AreRising, has_id, with_id}
 use Rattle.jc_rules.proofs.Ids.{with-present}
 use Rattle.jc_rules.specs.Shape.{IsKept}
-use Rattle.jc_tree.specs.Change.{changed_by, changed_at}
+use Rattle.jc_tree.specs.Change.{IsNew, changed_by, changed_at}
 use Rattle.jc_tree.specs.Tree.{or_none}
 use Rattle.jc_tree.specs.Undo.{removed, restored, former_of, former_of_id, restored_by, restored_at, undone, contents}
 use Rattle.jc_tree.specs.declared.node.Former.TheVariants as F
@@ -39,6 +39,9 @@ module _ {X : Type 0} where
       go Less p ih g = rw p (rw (same-self keys_total exact_keys k) refl)
       go Equal p ih g = let n : Some e.1 ≡ None = rw p at g in cc
       go Greater p ih g = rw (p, p) (ap (λ r. e ∷ r) (ih (rw p at g)))
+
+  pub removed-put : (k : Key) (v : X) (es : List (Key × X)) → find key_cmp k es ≡ None → removed k (put key_cmp k v es) ≡ es
+  removed-put k v es h = rw h (removed-placed k v es h)
 
   -- what stood under a key before a put, there again
   pub restored-put : (k : Key) (v : X) (es : List (Key × X)) → restored k (find key_cmp k es) (put key_cmp k v es) ≡ es
@@ -66,25 +69,29 @@ added_back k i m l r p n rises = go (find key_cmp k p) refl
         step true h = ap (λ v. context m l r (put key_cmp k v p) n) (with-present i s (rises s e) h) ∙ ap (λ q. context m l r q n) (put-same keys_total exact_keys k s p e)
         step false h = ap (λ q. context m l r q n) (set-out k i s p e h)
 
-restored_changed : (change : Change) (c : Context) → IsKept c → restored_by (former_of change c) (changed_by change c) ≡ c
-restored_changed (Child (MapT k)) (context m l r p n) h = rw (listed_children, restored-put k empty (listed m), children_listed m) refl
-restored_changed (Child (ListT k)) (context m l r p n) h = rw (listed_children, restored-put k empty_list (listed l), children_listed l) refl
-restored_changed (Child (RegT k)) (context m l r p n) h = rw (restored-put k [] r) refl
-restored_changed (AddId k i) (context m l r p n) h = added_back k i m l r p n (λ s e. value-found keys_total exact_keys AreRising k s p h.6 e)
-restored_changed (Presence k s) (context m l r p n) h = rw (restored-put k s p) refl
-restored_changed (Link k x) (context m l r p n) h = rw (restored-put k x n) refl
-restored_changed (SetRegister k v) (context m l r p n) h = rw (restored-put k v r) refl
+no_node : (o : Option Context) → node_of o ≡ None → o ≡ None
+no_node None h = refl
+no_node (Some d) h = cc
+
+restored_changed : (change : Change) (c : Context) → IsKept c → IsNew change c → restored_by (former_of change c) (changed_by change c) ≡ c
+restored_changed (Child (MapT k)) (context m l r p n) h new = rw (listed_children, removed-put k empty (listed m) (no_node _ new), children_listed m) refl
+restored_changed (Child (ListT k)) (context m l r p n) h new = rw (listed_children, removed-put k empty_list (listed l) (no_node _ new), children_listed l) refl
+restored_changed (Child (RegT k)) (context m l r p n) h new = rw (restored-put k [] r) refl
+restored_changed (AddId k i) (context m l r p n) h new = added_back k i m l r p n (λ s e. value-found keys_total exact_keys AreRising k s p h.6 e)
+restored_changed (Presence k s) (context m l r p n) h new = rw (restored-put k s p) refl
+restored_changed (Link k x) (context m l r p n) h new = rw (restored-put k x n) refl
+restored_changed (SetRegister k v) (context m l r p n) h new = rw (restored-put k v r) refl
 
 -- a change at a place, taken back
-pub restored_change : (at : List Tagged) (change : Change) (c : Context) → node_at at c ≢ None → IsKept c → restored_at at (former_of change (context_at at c)) (changed_at at change c) ≡ c
-restored_change at change c place kept =
+pub restored_change : (at : List Tagged) (change : Change) (c : Context) → node_at at c ≢ None → IsKept c → IsNew change (context_at at c) → restored_at at (former_of change (context_at at c)) (changed_at at change c) ≡ c
+restored_change at change c place kept new =
     let here = context_at at c in
     let changed = changed_by change here in
     let back = restored_by (former_of change here) in
     let there_now : context_at at (with_node_at at changed c) ≡ changed = then_here at changed (record { now = c; earlier = [] }) (record { now = with_node_at at changed c; earlier = [] }) place refl in
     ap (λ y. with_node_at at (back y) (with_node_at at changed c)) there_now
     ∙ with_node-twice at changed (back changed) c
-    ∙ ap (λ y. with_node_at at y c) (restored_changed change here (kept-node at c here kept (there at c place)))
+    ∙ ap (λ y. with_node_at at y c) (restored_changed change here (kept-node at c here kept (there at c place)) new)
     ∙ with_node-same at here c (there at c place)
 
 -- the latest change is taken back first
@@ -106,10 +113,10 @@ pushed (Ok y) xs x n k h room = refl
 pushed (Err e) xs x n k h room = absurd (omega (arith, h, room))
 
 -- after a change at a place, with what takes it back pushed
-pub contents_changed : {A E : Type 0} (r : Result A E) (us vs ws : List Undo) (u : Undo) (change : Change) (at : List Tagged) (c d : Context) (n k : ℕ) → OnErr r (k ≤ n) → n + 1 ≤ k → vs ≡ us → ws ≡ (if is_ok r then vs ++ u ∷ [] else vs) → node_at at c ≢ None → IsKept c → d ≡ changed_at at change c → u.at.items ≡ at → u.former ≡ former_of change (context_at at c) → contents ws d ≡ contents us c ++ c ∷ []
-contents_changed r us vs ws u change at c d n k full room same is place kept e p f =
+pub contents_changed : {A E : Type 0} (r : Result A E) (us vs ws : List Undo) (u : Undo) (change : Change) (at : List Tagged) (c d : Context) (n k : ℕ) → OnErr r (k ≤ n) → n + 1 ≤ k → vs ≡ us → ws ≡ (if is_ok r then vs ++ u ∷ [] else vs) → node_at at c ≢ None → IsKept c → IsNew change (context_at at c) → d ≡ changed_at at change c → u.at.items ≡ at → u.former ≡ former_of change (context_at at c) → contents ws d ≡ contents us c ++ c ∷ []
+contents_changed r us vs ws u change at c d n k full room same is place kept new e p f =
     let all : ws ≡ us ++ u ∷ [] = is ∙ pushed r vs u n k full room ∙ ap (λ x. x ++ u ∷ []) same in
-    let back : undone (u ∷ []) d ≡ c = rw (e, p, f) (restored_change at change c place kept) in
+    let back : undone (u ∷ []) d ≡ c = rw (e, p, f) (restored_change at change c place kept new) in
     rw all (contents_latest us u d) ∙ ap (λ x. contents us x ++ x ∷ []) back
 
 all_parts : (P : Context → Type 0) (cs : List Context) (c : Context) → AllByRecursion P (cs ++ c ∷ []) → AllByRecursion P cs × P c

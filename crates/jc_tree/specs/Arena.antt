@@ -135,8 +135,8 @@ changed_flat (SetRegister k v) n = with_registers (put key_cmp k v n.registers) 
 
 -- what takes it back that a node is made
 abbrev pub former_of_node : Tagged → Former
-former_of_node (MapT k) = F.Map k None
-former_of_node (ListT k) = F.List k None
+former_of_node (MapT k) = F.Map k
+former_of_node (ListT k) = F.List k
 former_of_node (RegT k) = F.Same
 
 -- what takes a change back
@@ -150,8 +150,8 @@ former_of_flat (SetRegister k v) n = F.Register k (find key_cmp k n.registers)
 
 -- with that as it was
 abbrev pub restored_flat : Former → Flat → Flat
-restored_flat (F.Map k o) n = without_number (MapT k) n
-restored_flat (F.List k o) n = without_number (ListT k) n
+restored_flat (F.Map k) n = without_number (MapT k) n
+restored_flat (F.List k) n = without_number (ListT k) n
 restored_flat (F.Register k o) n = with_registers (restored k o n.registers) n
 restored_flat (F.Presence k o) n = with_presences (restored k o n.presences) n
 restored_flat (F.Link k o) n = with_links (restored k o n.links) n

@@ -25,8 +25,8 @@ without_last (n ∷ m ∷ ns) = n ∷ without_last (m ∷ ns)
 
 -- without the node that a change made
 abbrev pub fewer : Former → List Flat → List Flat
-fewer (F.Map k o) ns = without_last ns
-fewer (F.List k o) ns = without_last ns
+fewer (F.Map k) ns = without_last ns
+fewer (F.List k) ns = without_last ns
 fewer _ ns = ns
 
 abbrev pub restored_in : ℕ → Former → List Flat → List Flat

@@ -1,8 +1,8 @@
 -- Changes of one context.
-use Rattle.std.specs.Prelude.{List}
+use Rattle.std.specs.Prelude.{◌≡◌, List, None}
 use Rattle.jc_rules.specs.declared.key.Tagged.{Tagged}
 use Rattle.jc_rules.specs.declared.key.Tagged.TheVariants.{RegT}
-use Rattle.jc_rules.specs.Context.{Context, Values, with_content, presence, with_presence, with_next, new_content}
+use Rattle.jc_rules.specs.Context.{Context, Values, content, with_content, presence, with_presence, with_next, new_content}
 use Rattle.jc_rules.specs.Ids.{AreRising, with_id}
 use Rattle.jc_rules.specs.Shape.{IsKeptRegister}
 use Rattle.jc_rules.specs.Places.{with_node_at, context_at}
@@ -28,3 +28,8 @@ IsFit (AddId k i) = Unit {0}
 IsFit (Presence k s) = AreRising s
 IsFit (Link k n) = Unit {0}
 IsFit (Register k r) = IsKeptRegister r
+
+-- nothing stands yet under the tagged key of a new child
+abbrev pub IsNew : Change → Context → Type 0
+IsNew (Child t) c = content t c ≡ None
+IsNew _ c = Unit {0}

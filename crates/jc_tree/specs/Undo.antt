@@ -8,7 +8,7 @@ use Rattle.jc_rules.specs.declared.key.Tagged.TheVariants.{MapT, ListT, RegT}
 use Rattle.jc_rules.specs.Order.{key_cmp, same_id}
 use Rattle.jc_rules.specs.Entries.{find, replaced, put}
 use Rattle.jc_rules.specs.Ids.{has_id}
-use Rattle.jc_rules.specs.Context.{Context, context, children, listed, maps, lists, registers, presence, next}
+use Rattle.jc_rules.specs.Context.{Context, context, children, listed, registers, presence, next}
 use Rattle.jc_rules.specs.Places.{with_node_at, context_at}
 use Rattle.jc_tree.specs.declared.node.Change.{Change}
 use Rattle.jc_tree.specs.declared.node.Change.TheVariants.{Child, AddId, Presence, Link, Register}
@@ -43,8 +43,8 @@ former_of_id k i (Some s) = cond (has_id i s) F.Same (F.NoId k i)
 
 -- what a change is going to set, as it is
 abbrev pub former_of : Change → Context → Former
-former_of (Child (MapT k)) c = F.Map k (find key_cmp k (maps c))
-former_of (Child (ListT k)) c = F.List k (find key_cmp k (lists c))
+former_of (Child (MapT k)) c = F.Map k
+former_of (Child (ListT k)) c = F.List k
 former_of (Child (RegT k)) c = F.Register k (find key_cmp k (registers c))
 former_of (AddId k i) c = former_of_id k i (presence k c)
 former_of (Presence k s) c = F.Presence k (presence k c)
@@ -53,8 +53,8 @@ former_of (Register k r) c = F.Register k (find key_cmp k (registers c))
 
 -- with that as it was
 abbrev pub restored_by : Former → Context → Context
-restored_by (F.Map k o) (context m l r p n) = context (children (restored k o (listed m))) l r p n
-restored_by (F.List k o) (context m l r p n) = context m (children (restored k o (listed l))) r p n
+restored_by (F.Map k) (context m l r p n) = context (children (removed k (listed m))) l r p n
+restored_by (F.List k) (context m l r p n) = context m (children (removed k (listed l))) r p n
 restored_by (F.Register k o) (context m l r p n) = context m l (restored k o r) p n
 restored_by (F.Presence k o) (context m l r p n) = context m l r (restored k o p) n
 restored_by (F.Link k o) (context m l r p n) = context m l r p (restored k o n)

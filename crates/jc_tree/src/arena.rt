@@ -1,6 +1,7 @@
 //! The fast store: nodes in one list, each of which names its children by their numbers.
 
-ghost use Rattle.std.specs.Prelude.{◌≡◌, ◌≢◌, ◌<◌, ◌+◌, None, Some, [], ◌∷◌, ◌++◌, length, IfOk, OnOk, OnErr};
+ghost use Rattle.std.specs.Prelude.{◌≡◌, ◌≢◌, ◌<◌, ◌+◌, List, None, Some, [], ◌∷◌, ◌++◌, length, IfOk, OnOk, OnErr};
+ghost use Rattle.jc_rules.specs.declared.key.Tagged.{Tagged as AnyTagged};
 ghost use Rattle.jc_rules.specs.Context.{content, with_content, new_content, empty};
 ghost use Rattle.jc_rules.specs.Paths.{HasContext};
 ghost use Rattle.jc_rules.specs.Places.{node_at, context_at};
@@ -41,10 +42,10 @@ fn drop_node(nodes: &mut Vec<ArenaNode>, former: &Former)
     ensures { nodes.new.items ≡ fewer former.now nodes.old.items }
 {
     match former {
-        Former::Map(_, _) => {
+        Former::Map(_) => {
             nodes.pop();
         }
-        Former::List(_, _) => {
+        Former::List(_) => {
             nodes.pop();
         }
         _ => {}
@@ -115,8 +116,26 @@ impl ArenaTree {
         Ok(())
     }
 
-    /// Makes one change that makes no node, and keeps what takes it back. After a refusal all is as it
-    /// was.
+    /// Makes one change of a node to which a path leads, and which makes no node, and keeps what takes it
+    /// back. After a refusal all is as it was.
+    fn change_node(&mut self, node: usize, change: Change) -> Result<(), AllocError>
+        requires there { (at : List AnyTagged) × (walk self.old.nodes.items 0 at ≡ Some node) }
+        requires within { node < length self.old.nodes.items }
+        requires inside { IsInside change }
+        requires fit { IsFit change }
+        ensures ok { OnOk result ((at : List AnyTagged) → walk self.old.nodes.items 0 at ≡ Some node → IsChanged at
+            (changed_by change (context_at at (content_of self.old.nodes.items)))
+            (tree_of self.old.nodes.items self.old.undos.items) (tree_of self.new.nodes.items self.new.undos.items)) }
+        ensures err { OnErr result (tree_of self.new.nodes.items self.new.undos.items
+            ≡ tree_of self.old.nodes.items self.old.undos.items) }
+    {
+        self.undos.reserve(1)?;
+        let former = self.nodes[node].change(change, self.alloc)?;
+        self.undos.push(Undo { node, former }).unwrap();
+        Ok(())
+    }
+
+    /// Makes one change at the place that makes no node. After a refusal all is as it was.
     fn change(&mut self, at: &[Tagged], change: Change) -> Result<(), AllocError>
         requires there { node_at at.now (content_of self.old.nodes.items) ≢ None }
         requires inside { IsInside change }
@@ -128,10 +147,7 @@ impl ArenaTree {
             ≡ tree_of self.old.nodes.items self.old.undos.items) }
     {
         let node = self.find(at);
-        self.undos.reserve(1)?;
-        let former = self.nodes[node].change(change, self.alloc)?;
-        self.undos.push(Undo { node, former }).unwrap();
-        Ok(())
+        self.change_node(node, change)
     }
 
     /// Takes the latest change back.
@@ -173,8 +189,9 @@ impl TreeStore for ArenaTree {
     }
 
     fn add_presence(&mut self, at: &[Tagged], key: &Key, id: Id) -> Result<bool, AllocError> {
-        let was = self.nodes[self.find(at)].presence(key).is_some();
-        self.change(at, Change::AddId(key.copy()?, id))?;
+        let node = self.find(at);
+        let was = self.nodes[node].presence(key).is_some();
+        self.change_node(node, Change::AddId(key.copy()?, id))?;
         Ok(was)
     }
 

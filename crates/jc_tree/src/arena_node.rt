@@ -7,23 +7,24 @@ ghost use Rattle.jc_rules.specs.Paths.{HasContext};
 ghost use Rattle.jc_tree.specs.Tree.{least_after};
 ghost use Rattle.jc_tree.specs.Arena.{blank, new_flat, child_of, is_in, with_number, IsInside, changed_flat, former_of_node, former_of_flat, restored_flat};
 
-use crate::entries::{key_above, put_value, restore_value, value_of};
-use crate::ids::{Ids, add_to, take_from};
+use crate::ids::Ids;
 use crate::lists::Pairs;
 use crate::node::{Change, Former, former_of_id, lesser};
+use crate::tables::{add_in, key_above_in, put_in, restore_in, take_out_in, value_in};
 use jc_rules::{Id, Key, Next, Tagged, Value};
 use std::alloc::{AllocError, Global};
+use std::collections::BTreeMap;
 use std::marker::Model;
 
-/// A context whose children are named by the numbers of their nodes: its entries by kind, each kind
-/// sorted by key.
+/// A context whose children are named by the numbers of their nodes: its entries by kind, each kind by
+/// key.
 #[derive(Drop)]
 pub struct ArenaNode {
-    maps: Vec<(Key, usize)>,
-    lists: Vec<(Key, usize)>,
-    registers: Vec<(Key, Pairs)>,
-    presences: Vec<(Key, Ids)>,
-    links: Vec<(Key, Next)>,
+    maps: BTreeMap<Key, usize>,
+    lists: BTreeMap<Key, usize>,
+    registers: BTreeMap<Key, Pairs>,
+    presences: BTreeMap<Key, Ids>,
+    links: BTreeMap<Key, Next>,
 }
 
 impl Model for ArenaNode {
@@ -31,9 +32,9 @@ impl Model for ArenaNode {
 
     ghost Value = { Flat };
 
-    ghost view = { λ a. record { maps = a.maps.items; lists = a.lists.items; registers = a.registers.items; presences = a.presences.items; links = a.links.items } };
+    ghost view = { λ a. record { maps = a.maps.entries; lists = a.lists.entries; registers = a.registers.entries; presences = a.presences.entries; links = a.links.entries } };
 
-    ghost invariant = { λ a. IsSortedFlat (record { maps = a.maps.items; lists = a.lists.items; registers = a.registers.items; presences = a.presences.items; links = a.links.items }) };
+    ghost invariant = { λ a. IsSortedFlat (record { maps = a.maps.entries; lists = a.lists.entries; registers = a.registers.entries; presences = a.presences.entries; links = a.links.entries }) };
 }
 
 /// What takes it back that a node is made under a tagged key.
@@ -42,8 +43,8 @@ pub fn former_of_node(key: &Tagged) -> Result<Former, AllocError>
     ensures { IfOk result (λ former. former ≡ former_of_node key.now) }
 {
     match key {
-        Tagged::MapT(key) => Ok(Former::Map(key.copy()?, None)),
-        Tagged::ListT(key) => Ok(Former::List(key.copy()?, None)),
+        Tagged::MapT(key) => Ok(Former::Map(key.copy()?)),
+        Tagged::ListT(key) => Ok(Former::List(key.copy()?)),
         Tagged::RegT(_) => unreachable!(),
     }
 }
@@ -54,11 +55,11 @@ impl ArenaNode {
         ensures { result ≡ blank }
     {
         ArenaNode {
-            maps: Vec::new(alloc),
-            lists: Vec::new(alloc),
-            registers: Vec::new(alloc),
-            presences: Vec::new(alloc),
-            links: Vec::new(alloc),
+            maps: BTreeMap::new(alloc),
+            lists: BTreeMap::new(alloc),
+            registers: BTreeMap::new(alloc),
+            presences: BTreeMap::new(alloc),
+            links: BTreeMap::new(alloc),
         }
     }
 
@@ -69,7 +70,7 @@ impl ArenaNode {
     {
         let mut node = ArenaNode::new(alloc);
         if let Tagged::ListT(_) = key {
-            put_value(&mut node.links, Key::Head, Next::Tail)?;
+            put_in(&mut node.links, Key::Head, Next::Tail)?;
         }
         Ok(node)
     }
@@ -79,9 +80,9 @@ impl ArenaNode {
         ensures { result ≡ is_in key.now self.now }
     {
         match key {
-            Tagged::MapT(key) => value_of(self.maps.as_slice(), key).is_some(),
-            Tagged::ListT(key) => value_of(self.lists.as_slice(), key).is_some(),
-            Tagged::RegT(key) => value_of(self.registers.as_slice(), key).is_some(),
+            Tagged::MapT(key) => value_in(&self.maps, key).is_some(),
+            Tagged::ListT(key) => value_in(&self.lists, key).is_some(),
+            Tagged::RegT(key) => value_in(&self.registers, key).is_some(),
         }
     }
 
@@ -90,8 +91,8 @@ impl ArenaNode {
         ensures { result ≡ child_of key.now self.now }
     {
         match key {
-            Tagged::MapT(key) => value_of(self.maps.as_slice(), key).copied(),
-            Tagged::ListT(key) => value_of(self.lists.as_slice(), key).copied(),
+            Tagged::MapT(key) => value_in(&self.maps, key).copied(),
+            Tagged::ListT(key) => value_in(&self.lists, key).copied(),
             Tagged::RegT(_) => None,
         }
     }
@@ -100,21 +101,21 @@ impl ArenaNode {
     pub fn presence(&self, key: &Key) -> Option<&[Id]>
         ensures { option_copied result ≡ find key_cmp key.now self.now.presences }
     {
-        Some(value_of(self.presences.as_slice(), key)?.as_slice())
+        Some(value_in(&self.presences, key)?.as_slice())
     }
 
     /// What follows the key.
     pub fn next(&self, key: &Key) -> Option<Next>
         ensures { result ≡ find key_cmp key.now self.now.links }
     {
-        value_of(self.links.as_slice(), key).copied()
+        value_in(&self.links, key).copied()
     }
 
     /// The values of the key's register.
     pub fn register(&self, key: &Key) -> Option<&[(Id, Value)]>
         ensures { option_copied result ≡ find key_cmp key.now self.now.registers }
     {
-        Some(value_of(self.registers.as_slice(), key)?.as_slice())
+        Some(value_in(&self.registers, key)?.as_slice())
     }
 
     /// The least key with a tag, above the given one.
@@ -122,9 +123,9 @@ impl ArenaNode {
         ensures { option_copied result ≡ least_after (option_copied after.entry)
             (keys_of self.now.maps ++ keys_of self.now.lists ++ keys_of self.now.registers) }
     {
-        let of_maps = key_above(self.maps.as_slice(), after);
-        let of_lists = key_above(self.lists.as_slice(), after);
-        let of_registers = key_above(self.registers.as_slice(), after);
+        let of_maps = key_above_in(&self.maps, after);
+        let of_lists = key_above_in(&self.lists, after);
+        let of_registers = key_above_in(&self.registers, after);
         lesser(lesser(of_maps, of_lists), of_registers)
     }
 
@@ -132,14 +133,14 @@ impl ArenaNode {
     pub fn presence_after(&self, after: Option<&Key>) -> Option<&Key>
         ensures { option_copied result ≡ least_after (option_copied after.entry) (keys_of self.now.presences) }
     {
-        key_above(self.presences.as_slice(), after)
+        key_above_in(&self.presences, after)
     }
 
     /// The least key that something follows, above the given one.
     pub fn link_after(&self, after: Option<&Key>) -> Option<&Key>
         ensures { option_copied result ≡ least_after (option_copied after.entry) (keys_of self.now.links) }
     {
-        key_above(self.links.as_slice(), after)
+        key_above_in(&self.links, after)
     }
 
     /// Names a child under the tagged key. After a refusal the node is as it was.
@@ -150,11 +151,11 @@ impl ArenaNode {
     {
         match key {
             Tagged::MapT(key) => {
-                put_value(&mut self.maps, key, number)?;
+                put_in(&mut self.maps, key, number)?;
                 Ok(())
             }
             Tagged::ListT(key) => {
-                put_value(&mut self.lists, key, number)?;
+                put_in(&mut self.lists, key, number)?;
                 Ok(())
             }
             Tagged::RegT(_) => unreachable!(),
@@ -172,22 +173,22 @@ impl ArenaNode {
         match change {
             Change::Child(Tagged::RegT(key)) => {
                 let pairs = Pairs::new(Vec::new(alloc));
-                Ok(Former::Register(key.copy()?, put_value(&mut self.registers, key, pairs)?))
+                Ok(Former::Register(key.copy()?, put_in(&mut self.registers, key, pairs)?))
             }
             Change::Child(Tagged::MapT(_) | Tagged::ListT(_)) => unreachable!(),
             Change::AddId(key, id) => {
-                let former = former_of_id(self.presences.as_slice(), &key, id)?;
-                add_to(&mut self.presences, key, id, alloc)?;
+                let former = former_of_id(value_in(&self.presences, &key), &key, id)?;
+                add_in(&mut self.presences, key, id, alloc)?;
                 Ok(former)
             }
             Change::Presence(key, ids) => {
-                Ok(Former::Presence(key.copy()?, put_value(&mut self.presences, key, ids)?))
+                Ok(Former::Presence(key.copy()?, put_in(&mut self.presences, key, ids)?))
             }
             Change::Link(key, next) => {
-                Ok(Former::Link(key.copy()?, put_value(&mut self.links, key, next)?))
+                Ok(Former::Link(key.copy()?, put_in(&mut self.links, key, next)?))
             }
             Change::Register(key, pairs) => {
-                Ok(Former::Register(key.copy()?, put_value(&mut self.registers, key, pairs)?))
+                Ok(Former::Register(key.copy()?, put_in(&mut self.registers, key, pairs)?))
             }
         }
     }
@@ -197,12 +198,12 @@ impl ArenaNode {
         ensures { self.new ≡ restored_flat former self.old }
     {
         match former {
-            Former::Map(key, _) => restore_value(&mut self.maps, &key, None),
-            Former::List(key, _) => restore_value(&mut self.lists, &key, None),
-            Former::Register(key, pairs) => restore_value(&mut self.registers, &key, pairs),
-            Former::Presence(key, ids) => restore_value(&mut self.presences, &key, ids),
-            Former::Link(key, next) => restore_value(&mut self.links, &key, next),
-            Former::NoId(key, id) => take_from(&mut self.presences, &key, id),
+            Former::Map(key) => restore_in(&mut self.maps, &key, None),
+            Former::List(key) => restore_in(&mut self.lists, &key, None),
+            Former::Register(key, pairs) => restore_in(&mut self.registers, &key, pairs),
+            Former::Presence(key, ids) => restore_in(&mut self.presences, &key, ids),
+            Former::Link(key, next) => restore_in(&mut self.links, &key, next),
+            Former::NoId(key, id) => take_out_in(&mut self.presences, &key, id),
             Former::Same => {}
         }
     }

@@ -10,6 +10,7 @@ mod lists;
 mod node;
 mod plain;
 mod store;
+mod tables;
 
 pub use arena::ArenaTree;
 pub use plain::PlainTree;

@@ -63,12 +63,13 @@ pub enum Change {
     Register(Key, Pairs),
 }
 
-/// What a change set, as it was before: what stood under the key, if anything did; that the
-/// identifier wasn't in the key's presence set; or that all was as it is.
+/// What a change set, as it was before: that there was no map or list under the key; what else stood
+/// under it, if anything did; that the identifier wasn't in the key's presence set; or that all was
+/// as it is.
 #[derive(Drop)]
 pub enum Former {
-    Map(Key, Option<Node>),
-    List(Key, Option<Node>),
+    Map(Key),
+    List(Key),
     Register(Key, Option<Pairs>),
     Presence(Key, Option<Ids>),
     Link(Key, Option<Next>),
@@ -190,18 +191,22 @@ impl Node {
         match change {
             Change::Child(Tagged::MapT(key)) => {
                 let map = Node::new(alloc);
-                Ok(Former::Map(key.copy()?, put_value(&mut self.maps, key, map)?))
+                let former = Former::Map(key.copy()?);
+                put_value(&mut self.maps, key, map)?;
+                Ok(former)
             }
             Change::Child(Tagged::ListT(key)) => {
                 let list = Node::new_list(alloc)?;
-                Ok(Former::List(key.copy()?, put_value(&mut self.lists, key, list)?))
+                let former = Former::List(key.copy()?);
+                put_value(&mut self.lists, key, list)?;
+                Ok(former)
             }
             Change::Child(Tagged::RegT(key)) => {
                 let pairs = Pairs::new(Vec::new(alloc));
                 Ok(Former::Register(key.copy()?, put_value(&mut self.registers, key, pairs)?))
             }
             Change::AddId(key, id) => {
-                let former = former_of_id(self.presences.as_slice(), &key, id)?;
+                let former = former_of_id(value_of(self.presences.as_slice(), &key), &key, id)?;
                 add_to(&mut self.presences, key, id, alloc)?;
                 Ok(former)
             }
@@ -247,8 +252,8 @@ impl Node {
         ensures { self.new ≡ restored_by former self.old }
     {
         match former {
-            Former::Map(key, map) => restore_value(&mut self.maps, &key, map),
-            Former::List(key, list) => restore_value(&mut self.lists, &key, list),
+            Former::Map(key) => restore_value(&mut self.maps, &key, None),
+            Former::List(key) => restore_value(&mut self.lists, &key, None),
             Former::Register(key, pairs) => restore_value(&mut self.registers, &key, pairs),
             Former::Presence(key, ids) => restore_value(&mut self.presences, &key, ids),
             Former::Link(key, next) => restore_value(&mut self.links, &key, next),
@@ -273,12 +278,11 @@ impl Node {
     }
 }
 
-/// What takes it back that the identifier is added to the key's presence set.
-pub fn former_of_id(presences: &[(Key, Ids)], key: &Key, id: Id) -> Result<Former, AllocError>
-    requires { AreSorted presences.now }
-    ensures { IfOk result (λ former. former ≡ former_of_id key.now id (find key_cmp key.now presences.now)) }
+/// What takes it back that the identifier is added to the key's presence set, which is there or not.
+pub fn former_of_id(presence: Option<&Ids>, key: &Key, id: Id) -> Result<Former, AllocError>
+    ensures { IfOk result (λ former. former ≡ former_of_id key.now id (option_copied presence.entry)) }
 {
-    match value_of(presences, key) {
+    match presence {
         None => Ok(Former::Presence(key.copy()?, None)),
         Some(ids) if ids.contains(id) => Ok(Former::Same),
         Some(_) => Ok(Former::NoId(key.copy()?, id)),

@@ -3,10 +3,10 @@
 ghost use Rattle.std.specs.Prelude.{◌≡◌, ◌≢◌, ◌<◌, ◌+◌, None, [], ◌∷◌, ◌++◌, length, OnOk, OnErr};
 ghost use Rattle.std.specs.List.{AllByRecursion};
 ghost use Rattle.jc_rules.specs.Context.{empty};
-ghost use Rattle.jc_rules.specs.Places.{node_at};
+ghost use Rattle.jc_rules.specs.Places.{node_at, context_at};
 ghost use Rattle.jc_rules.specs.Shape.{IsKept};
 ghost use Rattle.jc_tree.specs.Tree.{Tree};
-ghost use Rattle.jc_tree.specs.Change.{IsFit, changed_at};
+ghost use Rattle.jc_tree.specs.Change.{IsFit, IsNew, changed_at};
 ghost use Rattle.jc_tree.specs.Undo.{contents};
 ghost use Rattle.jc_tree.specs.Single.{IsKept-single, AreAllKept-single};
 
@@ -50,6 +50,7 @@ impl PlainTree {
     /// Makes one change, and keeps what takes it back. After a refusal all is as it was.
     fn change(&mut self, at: &[Tagged], change: Change) -> Result<(), AllocError>
         requires there { node_at at.now self.old.root ≢ None }
+        requires absent { IsNew change (context_at at.now self.old.root) }
         requires fit { IsFit change }
         ensures root { OnOk result (self.new.root ≡ changed_at at.now change self.old.root) }
         ensures earlier { OnOk result (contents self.new.undos.items self.new.root

@@ -1,7 +1,12 @@
-//! Tests of the stores: each call, the marks, and what stands after refused memory.
+//! Tests of the stores: each call, the marks, what stands after refused memory, large contexts and deep ones, and
+//! one walk over both.
 #![tactic(auto)]
 
 #[cfg(test)]
 mod calls;
 #[cfg(test)]
+mod large;
+#[cfg(test)]
 mod placed;
+#[cfg(test)]
+mod walks;

@@ -1,38 +1,26 @@
-use Rattle.std.proofs.Common.{◌≡◌, ◌∷◌, ◌++◌, [], ◌∙◌, ap}
+use Rattle.std.proofs.Common.{◌≡◌, List, Some}
+use Rattle.jc_rules.specs.declared.key.Tagged.{Tagged}
 use Rattle.jc_rules.specs.Places.{context_at}
+use Rattle.jc_tree.specs.Tree.{IsChanged}
 use Rattle.jc_tree.specs.Change.{changed_by}
-use Rattle.jc_tree.specs.Arena.{content_of, flat_at, former_of_flat}
-use Rattle.jc_tree.specs.declared.arena.Undo.{Undo}
-use Rattle.jc_tree.proofs.ArenaChanges.{Changes, with_change, inside_changes}
-use Rattle.jc_tree.proofs.ArenaHistory.{good_pushed, changed_tree}
-use Rattle.jc_tree.proofs.ArenaMaking.{nodes_changed, former_there, pushed_ok}
-use Rattle.jc_tree.proofs.Undoing.{pushed}
+use Rattle.jc_tree.specs.Arena.{content_of, walk}
+use Rattle.jc_tree.specs.ArenaUndo.{tree_of}
+use Rattle.jc_tree.proofs.Nodes.{on_ok}
 use Rattle.jc_tree.proofs.arena.ArenaTree.change.Goals as goal
 
-pub invariant_of-self-2 : goal.invariant_of-self-2
-invariant_of-self-2 c =
-    let self = c.args.self.now in
-    let ns = self.nodes.items in
-    let i = c.find-node.result in
-    let made = nodes_changed ns i c.args.change c.index_mut.result.now c.change.new.self c.index_mut.ensures.value c.find-node.ensures.within c.in_ok-former.ensures.ok in
-    let former : c.in_ok-former.former ≡ former_of_flat c.args.change (flat_at ns i) = former_there ns i c.args.change c.index_mut.result.now _ c.index_mut.ensures.value c.find-node.ensures.within c.in_ok-former.ensures.former in
-    let change = inside_changes ns c.args.at.now i c.args.change self.good c.find-node.ensures.walk c.find-node.ensures.within c.requires.inside c.requires.fit in
-    let undo : Undo = record { node = i; former = c.in_ok-former.former } in
-    let all : c.push.new.self.items ≡ self.undos.items ++ undo ∷ [] = c.push.ensures.items ∙ pushed c.push.result c.reserve.new.self.items undo _ _ c.push.ensures.full c.in_ok-reserve.ensures.ok ∙ ap (λ us. us ++ undo ∷ []) c.in_ok-reserve.ensures.items in
-    record {
-      good = rw made change.good;
-      earlier_good = rw (all, made) (good_pushed self.undos.items undo ns (with_change c.args.change i ns) self.earlier_good self.good (rw former change.back));
-    }
+pub change_node-requires : goal.change_node-requires
+change_node-requires c = record {
+  there = (c.args.at.now, c.find-node.ensures.walk);
+  within = c.find-node.ensures.within;
+  inside = c.requires.inside;
+  fit = c.requires.fit;
+}
 
 pub returns-clause-ok : goal.returns-clause-ok
 returns-clause-ok c =
-    let self = c.args.self.now in
-    let ns = self.nodes.items in
-    let i = c.find-node.result in
-    let made = nodes_changed ns i c.args.change c.index_mut.result.now c.change.new.self c.index_mut.ensures.value c.find-node.ensures.within c.in_ok-former.ensures.ok in
-    let former : c.in_ok-former.former ≡ former_of_flat c.args.change (flat_at ns i) = former_there ns i c.args.change c.index_mut.result.now _ c.index_mut.ensures.value c.find-node.ensures.within c.in_ok-former.ensures.former in
-    let change = inside_changes ns c.args.at.now i c.args.change self.good c.find-node.ensures.walk c.find-node.ensures.within c.requires.inside c.requires.fit in
-    let undo : Undo = record { node = i; former = c.in_ok-former.former } in
-    let here : Changes ns (with_change c.args.change i ns) c.args.at.now (changed_by c.args.change (context_at c.args.at.now (content_of ns))) i c.in_ok-former.former = rw former change in
-    let all : c.push.new.self.items ≡ self.undos.items ++ undo ∷ [] = pushed_ok c.push.result _ c.reserve.new.self.items c.push.new.self.items undo c.unwrap.ensures c.push.ensures.items ∙ ap (λ us. us ++ undo ∷ []) c.in_ok-reserve.ensures.items in
-    rw made (changed_tree ns (with_change c.args.change i ns) self.undos.items c.push.new.self.items undo c.args.at.now _ here all)
+    let old = c.args.self.now in
+    let ns = old.nodes.items in
+    let new = c.change_node.new.self in
+    on_ok {P = (at : List Tagged) → walk ns 0 at ≡ Some c.find-node.result → IsChanged at (changed_by c.args.change (context_at at (content_of ns))) (tree_of ns old.undos.items) (tree_of new.nodes.items new.undos.items)} _
+    (λ changed. changed c.args.at.now c.find-node.ensures.walk)
+    c.change_node.ensures.ok

@@ -9,4 +9,4 @@ use Rattle.jc_tree.proofs.arena.ArenaTreeTreeStore.add_presence.Goals as goal
 pub returns-clause-was : goal.returns-clause-was
 returns-clause-was c =
     let self = c.args.self.now in
-    read_at (λ d. is_some (presence c.args.key.now d)) (λ (n : Flat). is_some (find key_cmp c.args.key.now n.presences)) self.nodes.items c.args.at.now c.find.result c.index.result.now _ self.good c.find.ensures.walk c.find.ensures.within c.index.ensures (λ g n. refl) (lent_some _ _ _ c.is_some-was.ensures c.presence.ensures)
+    read_at (λ d. is_some (presence c.args.key.now d)) (λ (n : Flat). is_some (find key_cmp c.args.key.now n.presences)) self.nodes.items c.args.at.now c.find-node.result c.index.result.now _ self.good c.find-node.ensures.walk c.find-node.ensures.within c.index.ensures (λ g n. refl) (lent_some _ _ _ c.is_some-was.ensures c.presence.ensures)

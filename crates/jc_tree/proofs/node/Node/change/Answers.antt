@@ -7,7 +7,7 @@ returns-in_ok-put_value-in-Child-MapT-clause-ok c =
 
 pub returns-in_ok-put_value-in-Child-MapT-clause-former : goal.returns-in_ok-put_value-in-Child-MapT-clause-former
 returns-in_ok-put_value-in-Child-MapT-clause-former c =
-    former_map _ _ _ _ _ _ c.self.view_is _ _ _ _ _ c.in-Child-MapT.is c.in-Child-MapT.field-0-is c.in_ok-copy-in-Child-MapT.ensures c.in_ok-put_value-in-Child-MapT.ensures.former
+    former_map _ _ _ _ _ c.in-Child-MapT.is c.in-Child-MapT.field-0-is c.in_ok-copy-in-Child-MapT.ensures
 
 pub returns-in_ok-put_value-in-Child-ListT-clause-ok : goal.returns-in_ok-put_value-in-Child-ListT-clause-ok
 returns-in_ok-put_value-in-Child-ListT-clause-ok c =
@@ -15,4 +15,4 @@ returns-in_ok-put_value-in-Child-ListT-clause-ok c =
 
 pub returns-in_ok-put_value-in-Child-ListT-clause-former : goal.returns-in_ok-put_value-in-Child-ListT-clause-former
 returns-in_ok-put_value-in-Child-ListT-clause-former c =
-    former_list _ _ _ _ _ _ c.self.view_is _ _ _ _ _ c.in-Child-ListT.is c.in-Child-ListT.field-0-is c.in_ok-copy-in-Child-ListT.ensures c.in_ok-put_value-in-Child-ListT.ensures.former
+    former_list _ _ _ _ _ c.in-Child-ListT.is c.in-Child-ListT.field-0-is c.in_ok-copy-in-Child-ListT.ensures
