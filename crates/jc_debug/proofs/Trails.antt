@@ -1,6 +1,8 @@
 -- Networks that follow from one another, one event on and one back.
-use Rattle.std.proofs.Common.{◌≡◌, ℕ, zero, suc, ◌+◌, ◌-◌, ◌<◌, ◌≤◌, List, [], ◌∷◌, ◌++◌, length, take, slice_get, unwrap_or, option_to_list, Option, Some, None, Bool, true, false, IsTrue, IsFalse, IsSome, refl, ap, sym, subst, ◌∙◌, arith, length-append, below_more}
-use Rattle.std.proofs.lemmas.Option.{slice_get_within, same_Some}
+use Rattle.std.proofs.Common.{◌≡◌, ℕ, zero, suc, ◌+◌, ◌-◌, ◌<◌, ◌≤◌, List, [], ◌∷◌, ◌++◌, length, take, slice_get, unwrap_or, option_to_list, Option, Some, None, Bool, true, false, IsTrue, IsFalse, IsSome, IfSome, get_or, refl, ap, sym, subst, ◌∙◌, arith, length-append, below_more}
+use Rattle.std.proofs.lemmas.Option.{slice_get_within, slice_get_read, same_Some}
+use Rattle.std.specs.Borrow.{Bor}
+use Rattle.std.specs.Option.{option_copied}
 use Rattle.jc_rules.specs.declared.operation.Event.{Event}
 use Rattle.jc_rules.specs.declared.rule.Rule.{Rule}
 use Rattle.jc_rules.specs.State.{State}
@@ -210,3 +212,14 @@ trace_of d h n t e at =
         step = subst (λ (r : Rows). Step f.before f.event f.after r.rows) same f.step;
       };
     }
+
+pub last_trace : (d : Seen) → IsOnTrail d → (r : Option (Bor Rows)) → option_copied r ≡ slice_get d.traces (length d.traces - 1) → IfSome r (λ t. IsTraceOf d t.now)
+last_trace d h None e = tt
+last_trace d h (Some t) e =
+    let at : slice_get d.traces (length d.traces - 1) ≡ Some t.now = sym e in
+    let some = slice_get_within d.traces (length d.traces - 1) t.now at in
+    trace_of d h (length d.traces - 1) t.now (omega (arith, some)) at
+
+-- the event at the position, as it is read
+pub next_event : (d : Seen) (i : ℕ) (event : Event) → i ≡ length d.traces → length d.traces < length d.schedule → event ≡ get_or d.schedule i event → slice_get d.schedule (length d.traces) ≡ Some event
+next_event d i event here more e = ap (slice_get d.schedule) (sym here) ∙ slice_get_read d.schedule (length d.schedule) i event refl (omega (arith, here, more)) e
