@@ -1,4 +1,4 @@
-use Rattle.std.proofs.Common.{rules, ◌≡◌, ℕ, ◌<◌, Some, slice_get, get_or, refl, ap, ◌∙◌, arith, below_more}
+use Rattle.std.proofs.Common.{rules, ◌≡◌, ℕ, Some, slice_get, get_or, refl, ap, ◌∙◌, arith, below_more}
 use Rattle.std.proofs.lemmas.Option.{slice_get-get_or}
 use Rattle.jc_rules.specs.declared.rule.Rule.{Rule}
 use Rattle.jc_rules.specs.declared.rule.Rule.TheVariants as V

@@ -1,4 +1,4 @@
-use Rattle.std.proofs.Common.{ℕ, ◌+◌, length, Some, ap, ◌∙◌, arith, below_more}
+use Rattle.std.proofs.Common.{length, Some, ap, ◌∙◌, arith, below_more}
 use Rattle.jc_debug.specs.Session.{NamesAt}
 use Rattle.jc_debug.specs.Trail.{start_of, session_of}
 use Rattle.jc_debug.proofs.Naming.{no_at_none, no_at_other, none_named}

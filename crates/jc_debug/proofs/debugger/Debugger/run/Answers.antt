@@ -1,4 +1,4 @@
-use Rattle.std.proofs.Common.{rules, ◌≡◌, ◌<◌, ◌≤◌, ◌+◌, length, ap, sym, subst, arith}
+use Rattle.std.proofs.Common.{rules, subst}
 use Rattle.jc_debug.specs.declared.fault.Halt.{Halt}
 use Rattle.jc_debug.specs.Moves.{IsNextHalted}
 use Rattle.jc_debug.proofs.Running.{quiet_more, ran_stuck, ran_short, ran_break, ran_end}
