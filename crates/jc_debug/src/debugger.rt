@@ -369,9 +369,9 @@ impl Debugger {
         ensures none { IfNone result ((j : ℕ) → slice_get self.now.breaks j ≢ Some None) }
     {
         let _ = self.position();
-        for j in 0..256 {
-            if self.place(j).is_none() {
-                return Some(j);
+        for place in 0..256 {
+            if self.place(place).is_none() {
+                return Some(place);
             }
         }
         None
