@@ -11,3 +11,5 @@ mod expecting;
 mod laws;
 #[cfg(test)]
 mod moving;
+#[cfg(test)]
+mod refused;
