@@ -1,0 +1,5 @@
+pub mod Session
+pub mod Trail
+pub mod Stored
+pub mod Moves
+pub mod Laws
