@@ -1,0 +1,6 @@
+pub mod Touching
+pub mod Seen
+pub mod Forest
+pub mod Meaning
+pub mod Tidy
+pub mod Laws

@@ -1,0 +1,4 @@
+//! What a set of operations means: a tree that depends on the set alone, whatever the order in which it was applied.
+#![tactic(auto)]
+
+pub mod laws;
