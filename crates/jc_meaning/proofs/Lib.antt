@@ -28,3 +28,6 @@ pub mod Same
 pub mod Meant
 pub mod Runs
 pub mod Closed
+pub mod Pairing
+pub mod Alike
+pub mod Trees

@@ -12,6 +12,7 @@ use Rattle.jc_rules.specs.Ids.{has_id, with_id, greatest, AreIn}
 use Rattle.jc_rules.specs.Derivation.{Operate, ToContext}
 use Rattle.jc_rules.specs.Places.{IsAtOrAbove}
 use Rattle.jc_rules.specs.Refused.{IsAnswered}
+use Rattle.jc_rules.specs.Shape.{IsKept, drop}
 use Rattle.jc_rules.specs.State.{State}
 use Rattle.jc_rules.specs.Step.{After, replica_of}
 use Rattle.jc_rules.specs.Syntax.{Cmd}
@@ -31,7 +32,9 @@ use Rattle.jc_meaning.specs.Touching.{same_path}
 use Rattle.jc_meaning.specs.Meaning.{Means}
 use Rattle.jc_meaning.proofs.Coming.{at_list, paths_self, insert_is, inserted_by, DepsIn, IsRoot, RootedIn, IsGood, NewFor}
 use Rattle.jc_meaning.proofs.Meant.{means_with, nothing_means}
-use Rattle.jc_meaning.proofs.Same.{same_ops, means_same}
+use Rattle.jc_meaning.proofs.Alike.{one_tree}
+use Rattle.jc_meaning.proofs.Trees.{operated_kept}
+use Rattle.jc_meaning.proofs.Same.{SameOps, same_ops, means_same}
 
 -- a list of the operations that a replica has applied, of which the tree is the meaning
 record Built (In : Op → Type 0) (A : State) : Type 0 where
@@ -39,6 +42,7 @@ record Built (In : Op → Type 0) (A : State) : Type 0 where
   made : (o : Op) → Contains ops o → In o
   ids : (i : Id) → is_some (op_of i ops) ≡ has_id i A.ops
   means : Means ops A.tree
+  kept : IsKept A.tree
 
 -- ---- the operations of a list that were made are rooted
 
@@ -107,6 +111,7 @@ module _ (N : List State) (w : IsWell N) (p : ℕ) (A : State) (there : IsAt N p
           made = λ x k. held x (in_cons x o b.ops k);
           ids = λ i. with_one i (same_id i o.id) ∙ sym (has_id-with i o.id A.ops) ∙ ap (has_id i) (sym e);
           means = means_with b.ops o A.tree B.tree comes_next b.means a;
+          kept = operated_kept A.tree B.tree o b.kept a;
         }
       where
         held : (x : Op) → (o ≡ x) ⊎ Contains b.ops x → IsMade M x
@@ -165,7 +170,7 @@ module _ (N : List State) (p : ℕ) (A B : State) (there : IsAt N p A) (w : IsWe
       go (inr s) = record { at = m.at; there = s ∙ m.there; queued = m.queued }
 
   same_built : (M : List State) (C D : State) → ((x : Op) → IsMade N x → IsMade M x) → D.tree ≡ C.tree → D.ops ≡ C.ops → Built (IsMade N) C → Built (IsMade M) D
-  same_built M C D still t e b = record { ops = b.ops; made = λ x k. still x (b.made x k); ids = λ i. b.ids i ∙ ap (has_id i) (sym e); means = subst (Means b.ops) (sym t) b.means }
+  same_built M C D still t e b = record { ops = b.ops; made = λ x k. still x (b.made x k); ids = λ i. b.ids i ∙ ap (has_id i) (sym e); means = subst (Means b.ops) (sym t) b.means; kept = subst IsKept (sym t) b.kept }
 
   new_made : (o : Op) → o.id.replica ≡ p → Contains B.queue o → IsMade next o
   new_made o r k = record { at = B; there = ap (slice_get next) r ∙ set_there N p A B there; queued = k }
@@ -208,6 +213,7 @@ start_built scripts p A e =
       made = λ o k. none_in o k;
       ids = λ i. ap (λ (S : State). has_id i S.ops) (sym x.1);
       means = subst (λ (S : State). Means [] S.tree) (sym x.1) nothing_means;
+      kept = subst (λ (S : State). IsKept S.tree) (sym x.1) (tt, tt, tt, tt, tt, tt, tt, tt, tt);
     }
 
 -- ---- what is applied
@@ -250,18 +256,16 @@ module _ (scripts : List (List Cmd)) (network : List State) (r : IsReached scrip
   pub trees_meant : (A : State) → Contains network A → Means (applied_ops A) A.tree
   trees_meant A k = let m = at_member network A k in applied_meant network run.0 m.0 A m.1 (run.1 m.0 A m.1)
 
-  -- of two replicas with the same identifiers the trees are what one list means
-  pub both_meant : (A B : State) → Contains network A → Contains network B → A.ops ≡ B.ops → Means (applied_ops A) A.tree × Means (applied_ops A) B.tree
-  both_meant A B k l e =
+  -- of two replicas with the same identifiers both trees are what one list means
+  pub trees_converge : (A B : State) → Contains network A → Contains network B → A.ops ≡ B.ops → drop A.tree ≡ drop B.tree
+  trees_converge A B k l e =
       let m = at_member network A k in
       let n = at_member network B l in
       let x = run.1 m.0 A m.1 in
-      let y = run.1 n.0 B n.1 in (
-        trees_meant A k,
-        means_same (applied_ops B) (applied_ops A) B.tree
-            (same_ops (IsMade network) run.0.sets.sound.one_each (applied_ops B) (applied_ops A)
-            (record { all = is_made network run.0 n.0 B n.1 y; one = found_one network run.0 (applied_ops B) (is_made network run.0 n.0 B n.1 y) })
-            (record { all = is_made network run.0 m.0 A m.1 x; one = found_one network run.0 (applied_ops A) (is_made network run.0 m.0 A m.1 x) })
-            (λ i. applied_ids network run.0 n.0 B n.1 y i ∙ ap (has_id i) (sym e) ∙ sym (applied_ids network run.0 m.0 A m.1 x i)))
-            (trees_meant B l),
-      )
+      let y = run.1 n.0 B n.1 in
+      let well = run.0 in
+      let same : SameOps y.ops x.ops = same_ops (IsMade network) well.sets.sound.one_each y.ops x.ops
+      (record { all = y.made; one = found_one network well y.ops y.made })
+      (record { all = x.made; one = found_one network well x.ops x.made })
+      (λ i. y.ids i ∙ ap (has_id i) (sym e) ∙ sym (x.ids i)) in
+      one_tree x.ops A.tree B.tree x.kept y.kept x.means (means_same y.ops x.ops B.tree same y.means)

@@ -1,6 +1,6 @@
 //! Laws of meanings. Each function does nothing: its contract is the law.
 
-ghost use Rattle.jc_meaning.specs.Laws.{NothingMeansEmpty, OneMoreMeans, MeaningsAreTidy, ClearingTakesDeps, TreesAreMeant};
+ghost use Rattle.jc_meaning.specs.Laws.{NothingMeansEmpty, OneMoreMeans, MeaningsAreTidy, ClearingTakesDeps, TreesAreMeant, OneTree, TreesConverge};
 
 /// No operations mean the empty tree.
 pub fn nothing_means_empty()
@@ -28,4 +28,15 @@ pub fn clearing_takes_deps()
 /// In each network that is reached from a start the tree of each replica is what the operations mean that it has applied.
 pub fn trees_are_meant()
     ensures { TreesAreMeant }
+{}
+
+/// A meaning is one tree, but for empty presence sets.
+pub fn one_tree()
+    ensures { OneTree }
+{}
+
+/// In each network that is reached from a start, replicas that have applied the same operations have the same tree, but for
+/// empty presence sets.
+pub fn trees_converge()
+    ensures { TreesConverge }
 {}
