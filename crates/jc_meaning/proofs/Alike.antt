@@ -62,14 +62,14 @@ same_registers r s h g k e f = go (find key_cmp k r) (find key_cmp k s) refl ref
 
 -- ---- presence sets that aren't empty
 
-abbrev kept_ids : List Id → Option (List Id)
+abbrev pub kept_ids : List Id → Option (List Id)
 kept_ids [] = None
 kept_ids (i ∷ is) = Some (i ∷ is)
 
-abbrev dropped : List (Key × List Id) → List (Key × List Id)
+abbrev pub dropped : List (Key × List Id) → List (Key × List Id)
 dropped p = filter (λ e. is_some_id e.1) p
 
-found_dropped : (k : Key) (p : List (Key × List Id)) → IsRising key_cmp (keys_of p) → find key_cmp k (dropped p) ≡ kept_ids (ids_of_some (find key_cmp k p))
+pub found_dropped : (k : Key) (p : List (Key × List Id)) → IsRising key_cmp (keys_of p) → find key_cmp k (dropped p) ≡ kept_ids (ids_of_some (find key_cmp k p))
 found_dropped k [] h = refl
 found_dropped k ((j, []) ∷ es) h = found_dropped k es h.1 ∙ go (eq_by_cmp key_cmp k j) refl
   where

@@ -31,3 +31,4 @@ pub mod Closed
 pub mod Pairing
 pub mod Alike
 pub mod Trees
+pub mod Dropped

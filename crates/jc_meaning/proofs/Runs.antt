@@ -29,8 +29,9 @@ use Rattle.jc_network.proofs.Members.{none_in, in_cons, op_in, of_id, below_grea
 use Rattle.jc_network.proofs.Starting.{start_well, started, at_member}
 use Rattle.jc_network.proofs.Trees.{step_well}
 use Rattle.jc_meaning.specs.Touching.{same_path}
-use Rattle.jc_meaning.specs.Meaning.{Means}
+use Rattle.jc_meaning.specs.Meaning.{Means, IsMeaning}
 use Rattle.jc_meaning.proofs.Coming.{at_list, paths_self, insert_is, inserted_by, DepsIn, IsRoot, RootedIn, IsGood, NewFor}
+use Rattle.jc_meaning.proofs.Dropped.{dropped_alike, alike_means, dropped_filled}
 use Rattle.jc_meaning.proofs.Meant.{means_with, nothing_means}
 use Rattle.jc_meaning.proofs.Alike.{one_tree}
 use Rattle.jc_meaning.proofs.Trees.{operated_kept}
@@ -269,3 +270,9 @@ module _ (scripts : List (List Cmd)) (network : List State) (r : IsReached scrip
       (record { all = x.made; one = found_one network well x.ops x.made })
       (λ i. y.ids i ∙ ap (has_id i) (sym e) ∙ sym (x.ids i)) in
       one_tree x.ops A.tree B.tree x.kept y.kept x.means (means_same y.ops x.ops B.tree same y.means)
+
+  pub dropped_is_meaning : (A : State) → Contains network A → IsMeaning (applied_ops A) (drop A.tree)
+  dropped_is_meaning A k =
+      let m = at_member network A k in
+      let x = run.1 m.0 A m.1 in
+      record { means = alike_means (applied_ops A) A.tree (drop A.tree) (dropped_alike A.tree x.kept) (trees_meant A k); filled = dropped_filled A.tree }

@@ -17,7 +17,7 @@ use Rattle.jc_rules.specs.Table.{op_of}
 use Rattle.jc_network.specs.Applied.{applied_ops}
 use Rattle.jc_network.specs.Laws.{IsReached}
 use Rattle.jc_meaning.specs.Seen.{ids_at}
-use Rattle.jc_meaning.specs.Meaning.{Means}
+use Rattle.jc_meaning.specs.Meaning.{Means, IsMeaning}
 use Rattle.jc_meaning.specs.Tidy.{Tidy, Takes, in_key}
 
 -- what the operation depends on is in the set
@@ -77,6 +77,15 @@ TreesAreMeant =
     → (A : State)
     → Contains network A
     → Means (applied_ops A) A.tree
+
+-- Without its empty presence sets it is their meaning.
+abbrev pub DroppedTreesAreMeanings : Type 0
+DroppedTreesAreMeanings =
+    (scripts : List (List Cmd)) (network : List State)
+    → IsReached scripts network
+    → (A : State)
+    → Contains network A
+    → IsMeaning (applied_ops A) (drop A.tree)
 
 -- A meaning is one tree, but for empty presence sets, whatever the order of the list.
 abbrev pub OneTree : Type 0

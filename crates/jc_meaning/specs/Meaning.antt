@@ -1,5 +1,6 @@
 -- What a set of operations means.
-use Rattle.std.specs.Prelude.{◌≡◌, List, [], ◌∷◌, Bool, true, false, not, ◌||◌, ◌&&◌, cond, Option, Some, None}
+use Rattle.std.specs.Prelude.{◌≡◌, ◌≢◌, List, [], ◌∷◌, Bool, true, false, not, ◌||◌, ◌&&◌, cond, Option, Some, None}
+use Rattle.std.specs.List.{AllByRecursion}
 use Rattle.jc_rules.specs.declared.id.Id.{Id}
 use Rattle.jc_rules.specs.declared.key.Key.{Key}
 use Rattle.jc_rules.specs.declared.key.Key.TheVariants as K
@@ -8,7 +9,7 @@ use Rattle.jc_rules.specs.declared.operation.Op.{Op}
 use Rattle.jc_rules.specs.declared.value.Value.{Value}
 use Rattle.jc_rules.specs.Order.{same_key}
 use Rattle.jc_rules.specs.Ids.{has_id}
-use Rattle.jc_rules.specs.Context.{Context, next}
+use Rattle.jc_rules.specs.Context.{Context, context, Children, no_child, child, next}
 use Rattle.jc_rules.specs.Table.{op_of}
 use Rattle.jc_meaning.specs.Touching.{same_path, list_at, is_insert, touches, clears, written_by, overwrites, goes_through}
 use Rattle.jc_meaning.specs.Seen.{seen, ids_at, value_at, has_tag}
@@ -63,3 +64,17 @@ pub record Means (O : List Op) (t : Context) : Type 0 where
   pub ids : (P : List Tagged) (k : Key) (i : Id) → has_id i (ids_at k (seen P t)) ≡ is_present O P k i
   pub values : (P : List Tagged) (k : Key) (i : Id) → value_at i k (seen P t) ≡ value_of O P k i
   pub links : (P : List Tagged) → LinksOf (list_at false P) O P (seen P t)
+
+-- no presence set is empty, at every depth
+abbrev mutual
+  pub AreFilled : Context → Type 0
+  AreFilled (context m l r p n) = AllByRecursion (λ e. e.1 ≢ []) p × AreAllFilled m × AreAllFilled l
+
+  pub AreAllFilled : Children → Type 0
+  AreAllFilled no_child = Unit {0}
+  AreAllFilled (child k c cs) = AreFilled c × AreAllFilled cs
+
+-- The tree is what the operations mean.
+pub record IsMeaning (O : List Op) (t : Context) : Type 0 where
+  pub means : Means O t
+  pub filled : AreFilled t

@@ -1,6 +1,6 @@
 //! Laws of meanings. Each function does nothing: its contract is the law.
 
-ghost use Rattle.jc_meaning.specs.Laws.{NothingMeansEmpty, OneMoreMeans, MeaningsAreTidy, ClearingTakesDeps, TreesAreMeant, OneTree, TreesConverge};
+ghost use Rattle.jc_meaning.specs.Laws.{NothingMeansEmpty, OneMoreMeans, MeaningsAreTidy, ClearingTakesDeps, TreesAreMeant, DroppedTreesAreMeanings, OneTree, TreesConverge};
 
 /// No operations mean the empty tree.
 pub fn nothing_means_empty()
@@ -28,6 +28,11 @@ pub fn clearing_takes_deps()
 /// In each network that is reached from a start the tree of each replica is what the operations mean that it has applied.
 pub fn trees_are_meant()
     ensures { TreesAreMeant }
+{}
+
+/// Without its empty presence sets it is their meaning.
+pub fn dropped_trees_are_meanings()
+    ensures { DroppedTreesAreMeanings }
 {}
 
 /// A meaning is one tree, but for empty presence sets.
