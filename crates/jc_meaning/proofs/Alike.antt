@@ -20,8 +20,9 @@ use Rattle.jc_meaning.specs.Touching.{list_at}
 use Rattle.jc_meaning.specs.Forest.{preorder, follow}
 use Rattle.jc_meaning.specs.Meaning.{hangs_at, LinksOf, Means}
 use Rattle.jc_meaning.proofs.Forests.{one_forest}
+use Rattle.jc_meaning.specs.Compared.{Both}
 use Rattle.jc_meaning.specs.Seen.{or_new, seen, ids_of_some, ids_at, value_in_some, value_at, has_tag}
-use Rattle.jc_meaning.proofs.Pairing.{Both, Zipped, zipped, same_entries, below_all, filter_rises}
+use Rattle.jc_meaning.proofs.Pairing.{Zipped, zipped, same_entries, below_all, filter_rises}
 use Rattle.jc_meaning.proofs.Orders.{keys_eq}
 
 pub record Alike (c d : Context) : Type 0 where
@@ -89,7 +90,7 @@ rising_at k p h = go (find key_cmp k p) refl
     go None e = tt
     go (Some s) e = value-found keys_total exact_keys AreRising k s p h e
 
-same_presences : (p q : List (Key × List Id)) → IsRising key_cmp (keys_of p) → IsRising key_cmp (keys_of q) → AllByRecursion (λ e. AreRising e.1) p → AllByRecursion (λ e. AreRising e.1) q
+pub same_presences : (p q : List (Key × List Id)) → IsRising key_cmp (keys_of p) → IsRising key_cmp (keys_of q) → AllByRecursion (λ e. AreRising e.1) p → AllByRecursion (λ e. AreRising e.1) q
     → ((k : Key) (i : Id) → has_id i (ids_of_some (find key_cmp k p)) ≡ has_id i (ids_of_some (find key_cmp k q))) → dropped p ≡ dropped q
 same_presences p q s t h g e =
     same_entries keys_total exact_keys (dropped p) (dropped q) (filter_rises keys_total exact_keys (λ e. is_some_id e.1) p s) (filter_rises keys_total exact_keys (λ e. is_some_id e.1) q t)

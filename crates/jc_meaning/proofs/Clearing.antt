@@ -131,7 +131,7 @@ done_append (x ∷ xs) ys k = go (same_key x k) (done_append xs ys k)
     go true e = refl
     go false e = e
 
-done_found : {X : Type 0} (es : List (Key × X)) (k : Key) → is_done (keys_of es) k ≡ is_some (find key_cmp k es)
+pub done_found : {X : Type 0} (es : List (Key × X)) (k : Key) → is_done (keys_of es) k ≡ is_some (find key_cmp k es)
 done_found [] k = refl
 done_found (e ∷ es) k = rw (keys_back e.0 k) (go (same_key k e.0) (done_found es k))
   where

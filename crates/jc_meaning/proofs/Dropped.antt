@@ -19,11 +19,11 @@ use Rattle.jc_meaning.specs.Meaning.{LinksOf, Means, AreFilled, AreAllFilled}
 use Rattle.jc_meaning.proofs.Alike.{Alike, kept_ids, found_dropped}
 use Rattle.jc_meaning.proofs.Tidy.{below_reg}
 
-dropped_child : Option Context → Option Context
+unfoldable pub dropped_child : Option Context → Option Context
 dropped_child None = None
 dropped_child (Some c) = Some (drop c)
 
-found_child : (k : Key) (cs : Children) → find key_cmp k (listed (drop_all cs)) ≡ dropped_child (find key_cmp k (listed cs))
+pub found_child : (k : Key) (cs : Children) → find key_cmp k (listed (drop_all cs)) ≡ dropped_child (find key_cmp k (listed cs))
 unfolding dropped_child
 found_child k no_child = refl
 found_child k (child j c cs) = go (eq_by_cmp key_cmp k j) (found_child k cs)
@@ -65,7 +65,7 @@ tag_dropped (ListT k) (context m l r p n) = ap (λ o. is_some (node_of o)) (foun
     go (Some d) = refl
 tag_dropped (RegT k) (context m l r p n) = refl
 
-ids_dropped : (k : Key) (c : Context) → IsKept c → ids_at k (drop c) ≡ ids_at k c
+pub ids_dropped : (k : Key) (c : Context) → IsKept c → ids_at k (drop c) ≡ ids_at k c
 ids_dropped k (context m l r p n) h = ap ids_of_some (found_dropped k p h.3) ∙ go (ids_of_some (find key_cmp k p))
   where
     go : (s : List Id) → ids_of_some (kept_ids s) ≡ s
@@ -75,7 +75,7 @@ ids_dropped k (context m l r p n) h = ap ids_of_some (found_dropped k p h.3) ∙
 value_dropped : (i : Id) (k : Key) (c : Context) → value_at i k (drop c) ≡ value_at i k c
 value_dropped i k (context m l r p n) = refl
 
-next_dropped : (k : Key) (c : Context) → next k (drop c) ≡ next k c
+pub next_dropped : (k : Key) (c : Context) → next k (drop c) ≡ next k c
 next_dropped k (context m l r p n) = refl
 
 -- ---- at each place

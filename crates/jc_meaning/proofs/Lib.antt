@@ -32,3 +32,4 @@ pub mod Pairing
 pub mod Alike
 pub mod Trees
 pub mod Dropped
+pub mod Comparing

@@ -8,15 +8,9 @@ use Rattle.std.specs.Cmp.{IsTotalOrder}
 use Rattle.std.proofs.lemmas.Map.Lookups.{CmpEqualImpliesEq}
 use Rattle.std.proofs.lemmas.Option.{same_Some}
 use Rattle.jc_rules.specs.Entries.{IsRising, keys_of, find}
+use Rattle.jc_meaning.specs.Compared.{Both}
 use Rattle.jc_rules.proofs.Entries.{same-eq, same-self}
 use Rattle.jc_rules.proofs.Rising as rising
-
--- both are there and related, or neither is
-abbrev pub Both : {X Y : Type 0} → (X → Y → Type 0) → Option X → Option Y → Type 0
-Both S None None = Unit {0}
-Both S (Some x) (Some y) = S x y
-Both S None (Some y) = ⊥
-Both S (Some x) None = ⊥
 
 -- the same keys, and related values
 abbrev pub Zipped : {K X Y : Type 0} → (X → Y → Type 0) → List (K × X) → List (K × Y) → Type 0

@@ -3,4 +3,5 @@ pub mod Seen
 pub mod Forest
 pub mod Meaning
 pub mod Tidy
+pub mod Compared
 pub mod Laws

@@ -2,3 +2,6 @@
 #![tactic(auto)]
 
 pub mod laws;
+mod sameness;
+
+pub use sameness::same_tree;
