@@ -33,3 +33,4 @@ pub mod Alike
 pub mod Trees
 pub mod Dropped
 pub mod Comparing
+pub mod Applied

@@ -4,4 +4,5 @@ pub mod Forest
 pub mod Meaning
 pub mod Tidy
 pub mod Compared
+pub mod Found
 pub mod Laws
