@@ -34,10 +34,6 @@ child_bound b c d t h e l i x =
     let here : TidyAt b c = h [] in
     here.under t l i (subst (λ o. has_id i (ids_at l (or_new o t)) ≡ true) (sym e) x)
 
-not_true : (x : Bool) → x ≡ true → true ≡ not (not x)
-not_true true h = refl
-not_true false h = cc
-
 abbrev reg_in : Option Content → Register → Option Register
 reg_in (Some (Values r)) d = Some r
 reg_in _ d = Some d

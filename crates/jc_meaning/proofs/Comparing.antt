@@ -34,7 +34,7 @@ use Rattle.jc_meaning.specs.Seen.{ids_of_some, ids_at, has_tag}
 use Rattle.jc_meaning.specs.Tidy.{is_tagged}
 use Rattle.jc_meaning.proofs.Alike.{dropped, same_presences}
 use Rattle.jc_meaning.proofs.Clearing.{tagged_done, done_found}
-use Rattle.jc_meaning.proofs.Dropped.{dropped_child, found_child, ids_dropped, next_dropped}
+use Rattle.jc_meaning.proofs.Dropped.{dropped_child, found_child, ids_dropped}
 use Rattle.jc_meaning.proofs.Orders.{keys_eq, keys_self}
 use Rattle.jc_meaning.proofs.Pairing.{Zipped, zipped, same_entries}
 
@@ -52,9 +52,6 @@ in_all P (j ∷ js) k h e = go (same_key j k) refl e (in_all P js k h.1)
 module _ (Q : Key → Type 0) (ks : List Key) (absent : (k : Key) → is_done ks k ≡ false → Q k) where
   abbrev pub Passed : Option Key → Type 0
   Passed last = (k : Key) → is_after last k ≡ false → Q k
-
-  pub begins : Passed None
-  begins k e = cc
 
   pub goes_on : (last : Option Key) (key : Key) → least_after last ks ≡ Some key → Q key → Passed last → Passed (Some key)
   goes_on last key e q old k f = go (is_after last k) refl (is_done ks k) refl
@@ -94,11 +91,6 @@ no_presence c d k e f = absurd (f (ap ids_of_some (not_found (presences c) k e))
 
 -- ---- together
 
-found_both : {X : Type 0} (x y : Option X) → ((a : X) → x ≡ Some a → y ≡ Some a) → ((a : X) → y ≡ Some a → x ≡ Some a) → x ≡ y
-found_both None None f g = refl
-found_both (Some a) y f g = sym (f a refl)
-found_both None (Some b) f g = g b refl
-
 same_ids_of : (s t : List Id) → (s ≢ [] → s ≡ t) → (t ≢ [] → t ≡ s) → s ≡ t
 same_ids_of [] [] f g = refl
 same_ids_of (i ∷ is) t f g = f (λ e. cc)
@@ -116,15 +108,8 @@ same_children no_child (child k d ds) z = absurd z
 same_children (child j c cs) no_child z = absurd z
 same_children (child j c cs) (child k d ds) z = let r = same_children cs ds z.2 in λ i. child (z.0 i) (z.1 i) (r i)
 
-pub links_both : (c d : Context) → ((k : Key) → HasLink c d k) → ((k : Key) → HasLink d c k) → AreLinksSame c d
-links_both c d f g k = found_both (next k c) (next k d) (f k) (g k)
-
 pub presences_both : (c d : Context) → ((k : Key) → HasPresence c d k) → ((k : Key) → HasPresence d c k) → ArePresencesSame c d
 presences_both c d f g k = same_ids_of (ids_at k c) (ids_at k d) (f k) (g k)
-
--- a key that is linked to the same
-pub link_same : (c d : Context) (k : Key) → next k c ≡ next k d → HasLink c d k
-link_same c d k e n f = sym e ∙ f
 
 pub together : (c d : Context) → IsKept c → IsKept d → AreLinksSame c d → ArePresencesSame c d → ((k : Key) → IsSameKey c d k) → SameTree c d
 together (context m l r p n) (context m2 l2 r2 p2 n2) h g links ids same =
@@ -136,9 +121,6 @@ together (context m l r p n) (context m2 l2 r2 p2 n2) h g links ids same =
     λ i. context (ms i) (ls i) (rs i) (ps i) (ns i)
 
 -- ---- apart
-
-pub links_same : (c d : Context) → SameTree c d → AreLinksSame c d
-links_same c d e k = sym (next_dropped k c) ∙ ap (next k) e ∙ next_dropped k d
 
 pub presences_same : (c d : Context) → IsKept c → IsKept d → SameTree c d → ArePresencesSame c d
 presences_same c d h g e k = sym (ids_dropped k c h) ∙ ap (ids_at k) e ∙ ids_dropped k d g
@@ -293,9 +275,6 @@ out_of c d ks k e f = let z : true ≡ false = sym f ∙ e in cc
 abbrev pub PassedBoth : Context → Context → Option Key → Type 0
 PassedBoth c d last = ((k : Key) → is_after last k ≡ false → SameIn c d (keys c) k) × ((k : Key) → is_after last k ≡ false → SameIn c d (keys d) k)
 
-pub both_begin : (c d : Context) → PassedBoth c d None
-both_begin c d = (begins (SameIn c d (keys c)) (keys c) (out_of c d (keys c)), begins (SameIn c d (keys d)) (keys d) (out_of c d (keys d)))
-
 pub both_go_on : (c d : Context) (last : Option Key) (key : Key) → least_after last (keys c) ≡ Some key → least_after last (keys d) ≡ Some key → IsSameKey c d key → PassedBoth c d last → PassedBoth c d (Some key)
 both_go_on c d last key e f s old =
     (goes_on (SameIn c d (keys c)) (keys c) (out_of c d (keys c)) last key e (λ x. s) old.0, goes_on (SameIn c d (keys d)) (keys d) (out_of c d (keys d)) last key f (λ x. s) old.1)
@@ -361,9 +340,3 @@ pub below_same : (at : List Tagged) (t : Tagged) (a b : Tree) (x : StandsBelow a
 below_same at t a b x y e =
     let f : SameTree x.child y.child = subst (λ o. Both SameTree (Some x.child) o) y.found (subst (λ o. Both SameTree o (node_in (content t (here at b)))) x.found e) in
     ap drop x.is ∙ f ∙ ap drop (sym y.is)
-
--- where one has nothing there, the other has nothing
-pub none_below : (t : Tagged) (c d : Context) → HasContext t → IsSameNode t c d → has_tag t c ≡ has_tag t d
-none_below (MapT k) c d h e = sym (some_node (find key_cmp k (maps c))) ∙ some_both (node_in (content (MapT k) c)) (node_in (content (MapT k) d)) e ∙ some_node (find key_cmp k (maps d))
-none_below (ListT k) c d h e = sym (some_node (find key_cmp k (lists c))) ∙ some_both (node_in (content (ListT k) c)) (node_in (content (ListT k) d)) e ∙ some_node (find key_cmp k (lists d))
-none_below (RegT k) c d h e = absurd h

@@ -1,4 +1,4 @@
--- What a meaning forces of its tree (B1 to B3), and the tidiness that clearing needs.
+-- What a meaning forces of its tree and the tidiness that clearing needs.
 use Rattle.std.proofs.Common.{◌≡◌, List, [], ◌∷◌, ◌++◌, Bool, true, false, not, ◌||◌, ◌&&◌, cond, Option, Some, None, is_some, refl, sym, ◌∙◌, ap}
 use Rattle.jc_rules.specs.declared.id.Id.{Id}
 use Rattle.jc_rules.specs.declared.key.Key.{Key}
@@ -63,7 +63,7 @@ held_more : (f g : Op → Bool) (x : Option Op) → ((o : Op) → f o ≡ true �
 held_more f g None h e = cc
 held_more f g (Some o) h e = h o e
 
--- B1
+-- what is present below a tagged key is present at it
 pub present_above : (S : List Op) (P : List Tagged) (u : Tagged) (l : Key) (i : Id) → is_present S (P ++ u ∷ []) l i ≡ true → is_present S P (key_of u) i ≡ true
 present_above S P u l i h = and_map (holds_of (λ o. touches o (P ++ u ∷ []) l) (op_of i S)) (not (is_cleared S (P ++ u ∷ []) l i)) (holds_of (λ o. touches o P (key_of u)) (op_of i S)) (not (is_cleared S P (key_of u) i))
     (held_more (λ o. touches o (P ++ u ∷ []) l) (λ o. touches o P (key_of u)) (op_of i S) (λ o. and_map (not (is_delete o.mutation)) (is_at_or_above (P ++ u ∷ []) l o.cursor.path (target o)) (not (is_delete o.mutation)) (is_at_or_above P (key_of u) o.cursor.path (target o)) (λ e. e) (lower_above P u l o.cursor.path (target o))))
@@ -94,7 +94,7 @@ write_touches o P k h = go (same_path o.cursor.path P) (same_key (target o) k) r
     go true false e f x = cc
     go false b e f x = cc
 
--- B2
+-- who has a value somewhere is present there
 pub value_present : (S : List Op) (P : List Tagged) (k : Key) (i : Id) → is_some (value_of S P k i) ≡ true → is_present S P k i ≡ true
 value_present S P k i h = go (is_cleared S P k i) (some_op (λ a. overwrites a P k && has_id i a.deps) S) h
   where
@@ -106,10 +106,6 @@ value_present S P k i h = go (is_cleared S P k i) (some_op (λ a. overwrites a P
     go true b x = cc
     go false true x = cc
     go false false x = rw (held (op_of i S) x) refl
-
--- B3, for one operation
-some_tag : Key → (Tagged → Bool) → Bool
-some_tag k f = f (MapT k) || (f (ListT k) || f (RegT k))
 
 makes_tag : (v : Value) (k q : Key) → same_key q k ≡ true → (made (Some v) k (MapT q) || (made (Some v) k (ListT q) || made (Some v) k (RegT q))) ≡ true
 makes_tag V.EmptyMap k q h = rw (keys_back k q, h) refl
@@ -132,7 +128,7 @@ touch_tag v (s ∷ ss) k (t ∷ ts) q h = rw (tags_back t s) (go (same_tagged s 
     go true h f = f h
     go false h f = cc
 
--- B3
+-- what is present has a tag
 op_tag : (o : Op) (P : List Tagged) (k : Key) → touches o P k ≡ true → (goes_through o P (MapT k) || (goes_through o P (ListT k) || goes_through o P (RegT k))) ≡ true
 op_tag o P k h = go o.mutation h
   where
@@ -172,7 +168,7 @@ present_tagged S P k i h =
     found_some (λ o. goes_through o P (MapT k) || (goes_through o P (ListT k) || goes_through o P (RegT k))) i S (held_more (λ o. touches o P k) (λ o. goes_through o P (MapT k) || (goes_through o P (ListT k) || goes_through o P (RegT k))) (op_of i S) (λ o. op_tag o P k) one) in
     ap (λ b. goes S P (MapT k) || b) (sym (some_or (λ o. goes_through o P (ListT k)) (λ o. goes_through o P (RegT k)) S)) ∙ sym (some_or (λ o. goes_through o P (MapT k)) (λ o. goes_through o P (ListT k) || goes_through o P (RegT k)) S) ∙ all
 
--- M1 but for links: a tree that is what operations mean is tidy where each list's tagged keys are linked
+-- a tree that is what operations mean is tidy where each list's tagged keys are linked
 pub tidy_means : (S : List Op) (t : Context) → MeansAt S t → ((P : List Tagged) → list_at false P ≡ true → (is : List Id) × LeadsThrough (seen P t) K.Head is × ((k : Key) → is_tagged k (seen P t) ≡ true → is_done (chain_of is) k ≡ true)) → Tidy false t
 tidy_means S t m linked P = record {
   under = λ u l i h. m.ids P (key_of u) i ∙ present_above S P u l i (sym (m.ids (P ++ u ∷ []) l i) ∙ rw (seen_append P u t) h);

@@ -29,7 +29,7 @@ pub hangs_same : (at at2 : Key → Id → Bool) → ((k : Key) (i : Id) → at2 
 hangs_same at at2 e k b bare h = λ j x y. h j (sym (e k j) ∙ x) y
 hangs_same at at2 e k b (tree i f r) h = (e k i ∙ h.0, h.1, λ j x y z. h.2 j (sym (e k j) ∙ x) y z, hangs_same at at2 e (K.Elem i) None f h.3, hangs_same at at2 e k (Some i) r h.4)
 
--- A4
+-- what hangs where, with one operation more
 pub hangs_with : (S : List Op) (o : Op) (P : List Tagged) → op_of o.id S ≡ None → (k : Key) (i : Id) → hangs_at (o ∷ S) P k i ≡ (hangs_at S P k i || (names P k o && same_id i o.id))
 hangs_with S o P outside k i = go (same_id i o.id) refl
   where
@@ -78,7 +78,7 @@ step_links S o t t2 outside tidy fresh a P away h = links_elsewhere S o P (seen 
     go (inl e) = k.links e P
     go (inr e) = λ l. k.elsewhere P l e
 
--- the links of the list into which o inserts: D16's forest with o, when its preorder is the old one with o after the key that it names (F10)
+-- the links of the list into which o inserts: the forest with o, when its preorder is the old one with o after the key that it names
 pub step_linked : (S : List Op) (o : Op) (t t2 : Context) (ns : List Id) (g : Forest) → Tidy false t → (is_insert o.mutation ≡ true → Fresh o.id o.cursor.path t) → IsAnswered (Operate t o) (ToContext t2) → is_insert o.mutation ≡ true
     → Distinct K.Head ns → key_in (K.Elem o.id) ns ≡ false → ((l : Key) → next l (seen o.cursor.path t) ≡ follow K.Head ns l) → Hangs (hangs_at (o ∷ S) o.cursor.path) K.Head None g → preorder g ≡ after o.cursor.last o.id K.Head ns
     → LinksOf true (o ∷ S) o.cursor.path (seen o.cursor.path t2)
@@ -86,7 +86,7 @@ step_linked S o t t2 ns g tidy fresh a is apart out h hangs e =
     let k : Changes o.id o.deps o.cursor.path o.cursor.last o.mutation t t2 = operation_changes false t t2 o tidy fresh a in
     (g, hangs, λ l. k.linked is ns apart out h l ∙ ap (λ q. follow K.Head q l) (sym e))
 
--- M3
+-- nothing is seen of the empty tree
 mutual
   tag_empty : (P : List Tagged) (u : Tagged) → has_tag u (seen P empty) ≡ false
   tag_empty [] (MapT k) = refl

@@ -1,5 +1,5 @@
 -- A meaning depends on the set alone.
-use Rattle.std.proofs.Common.{◌≡◌, List, Bool, true, false, not, ◌||◌, ◌&&◌, cond, Option, Some, None, is_some, Contains, refl, sym, ◌∙◌, ap}
+use Rattle.std.proofs.Common.{◌≡◌, List, Bool, true, false, not, ◌||◌, ◌&&◌, cond, Option, Some, None, is_some, Contains, ◌↔◌, refl, sym, ◌∙◌, ap, subst}
 use Rattle.jc_rules.specs.declared.id.Id.{Id}
 use Rattle.jc_rules.specs.declared.key.Key.TheVariants as K
 use Rattle.jc_rules.specs.declared.key.Tagged.{Tagged}
@@ -7,6 +7,7 @@ use Rattle.jc_rules.specs.declared.operation.Op.{Op}
 use Rattle.jc_rules.specs.Ids.{has_id}
 use Rattle.jc_rules.specs.Context.{Context}
 use Rattle.jc_rules.specs.Table.{op_of}
+use Rattle.std.proofs.lemmas.Option.{same_Some}
 use Rattle.jc_rules.proofs.Filled.{both_ways}
 use Rattle.jc_network.proofs.Members.{op_in}
 use Rattle.jc_meaning.specs.Touching.{list_at, touches, clears, overwrites, goes_through}
@@ -67,3 +68,17 @@ module _ (In : Op → Type 0) (one_each : (o e : Op) → In o → In e → o.id 
         found = found;
         some = λ f. both_ways (some_op f O) (some_op f N) (some_also O N a b found f) (some_also N O b a (λ i. sym (found i)) f);
       }
+
+-- lists of the same operations, each with an identifier of its own
+pub same_lists : (O N : List Op) → ((o : Op) → Contains O o → op_of o.id O ≡ Some o) → ((o : Op) → Contains N o → op_of o.id N ≡ Some o) → ((o : Op) → Contains O o ↔ Contains N o) → SameOps O N
+same_lists O N f g h = same_ops (λ o. Contains O o) one_each O N (record { all = λ o k. k; one = f }) (record { all = λ o k. (h o).1 k; one = g }) ids
+  where
+    one_each : (o e : Op) → Contains O o → Contains O e → o.id ≡ e.id → o ≡ e
+    one_each o e k l s = same_Some o e (sym (f o k) ∙ ap (λ i. op_of i O) s ∙ f e l)
+
+    there : (L M : List Op) → ((o : Op) → Contains M o → op_of o.id M ≡ Some o) → ((o : Op) → Contains L o → Contains M o) → (i : Id) (x : Option Op) → op_of i L ≡ x → is_some x ≡ true → is_some (op_of i M) ≡ true
+    there L M m more i None e t = cc
+    there L M m more i (Some o) e t = let x = op_in i L o e in subst (λ j. is_some (op_of j M) ≡ true) x.1 (ap is_some (m o (more o x.0)))
+
+    ids : (i : Id) → is_some (op_of i O) ≡ is_some (op_of i N)
+    ids i = both_ways (is_some (op_of i O)) (is_some (op_of i N)) (there O N g (λ o. (h o).0) i (op_of i O) refl) (there N O f (λ o. (h o).1) i (op_of i N) refl)

@@ -12,7 +12,7 @@ use Rattle.jc_rules.proofs.Ids.{same_id-true}
 use Rattle.jc_meaning.specs.Touching.{same_tagged, is_at_or_above, touches, clears}
 use Rattle.jc_meaning.specs.Meaning.{holds_of, is_cleared, is_present}
 
--- A1
+-- what is present with one operation more
 module _ (S : List Op) (o : Op)
     (outside : op_of o.id S ≡ None)
     (uncleared : (P : List Tagged) (k : Key) → is_cleared S P k o.id ≡ false)
@@ -43,7 +43,7 @@ module _ (S : List Op) (o : Op)
           rw none (boolean (touches o P k) (clears o P k) (has_id i o.deps) (is_cleared S P k i) gone clear)
       by_cases false e = other (holds_of (λ p. touches p P k) (op_of i S)) (clears o P k && has_id i o.deps) (is_cleared S P k i)
 
--- B1: two halves
+-- who clears the upper place clears the lower one
 pub above_lower : (Q : List Tagged) (q : Key) (P : List Tagged) (u : Tagged) (l : Key) → is_at_or_above Q q P (key_of u) ≡ true → is_at_or_above Q q (P ++ u ∷ []) l ≡ true
 above_lower [] q [] u l h = h
 above_lower [] q (t ∷ ts) u l h = h

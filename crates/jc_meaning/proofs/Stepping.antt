@@ -22,7 +22,7 @@ use Rattle.jc_meaning.proofs.Sets.{present_with}
 use Rattle.jc_meaning.proofs.Inserted.{operation_changes}
 use Rattle.jc_meaning.specs.Tidy.{Tidy}
 
--- A2
+-- the value of an identifier, with one operation more
 module _ (S : List Op) (o : Op)
     (outside : op_of o.id S ≡ None)
     (uncleared : (P : List Tagged) (k : Key) → is_cleared S P k o.id ≡ false)

@@ -1,18 +1,16 @@
 -- What is seen of a context at each place, after a write.
-use Rattle.std.proofs.Common.{◌≡◌, List, [], ◌∷◌, Bool, true, false, cond, Some, refl}
+use Rattle.std.proofs.Common.{◌≡◌, List, ◌∷◌, Bool, true, false, cond, Some, refl}
 use Rattle.std.specs.Ordering.{eq_by_cmp}
-use Rattle.jc_rules.specs.declared.id.Id.{Id}
-use Rattle.jc_rules.specs.declared.key.Key.{Key}
 use Rattle.jc_rules.specs.declared.key.Tagged.{Tagged}
 use Rattle.jc_rules.specs.declared.key.Tagged.TheVariants.{MapT, ListT, RegT}
-use Rattle.jc_rules.specs.Order.{key_cmp, same_key}
+use Rattle.jc_rules.specs.Order.{key_cmp}
 use Rattle.jc_rules.specs.Entries.{find}
-use Rattle.jc_rules.specs.Context.{Context, context, listed, Node, node_of, content, with_content, with_presence}
+use Rattle.jc_rules.specs.Context.{Context, context, listed, Node, node_of, content, with_content}
 use Rattle.jc_rules.proofs.Order.{keys_total, exact_keys}
 use Rattle.jc_rules.proofs.Entries.{find-put}
 use Rattle.jc_rules.proofs.Places.{listed_children}
 use Rattle.jc_meaning.specs.Touching.{same_tagged}
-use Rattle.jc_meaning.specs.Seen.{or_new, seen, ids_of_some, ids_at}
+use Rattle.jc_meaning.specs.Seen.{or_new, seen}
 
 abbrev pub is_node_tag : Tagged → Bool
 is_node_tag (RegT k) = false
@@ -43,18 +41,3 @@ seen_with_node t u P e c h = rw (content_with_node t u e c h) (by_cases (same_ta
     by_cases : (b : Bool) → seen P (or_new (cond b (Some (Node e)) (content u c)) u) ≡ cond b (seen P e) (seen P (or_new (content u c) u))
     by_cases true = refl
     by_cases false = refl
-
--- a presence written, seen at a place
-abbrev pub is_here : Key → List Tagged → Key → Bool
-is_here k [] l = same_key l k
-is_here k (t ∷ ts) l = false
-
-pub ids_with_presence : (k : Key) (s : List Id) (P : List Tagged) (l : Key) (c : Context) → ids_at l (seen P (with_presence k s c)) ≡ cond (is_here k P l) s (ids_at l (seen P c))
-ids_with_presence k s [] l (context m ls r p n) = rw (find-put keys_total exact_keys l k s p) (by_cases (eq_by_cmp key_cmp l k))
-  where
-    by_cases : (b : Bool) → ids_of_some (cond b (Some s) (find key_cmp l p)) ≡ cond b s (ids_of_some (find key_cmp l p))
-    by_cases true = refl
-    by_cases false = refl
-ids_with_presence k s (MapT j ∷ P) l (context m ls r p n) = refl
-ids_with_presence k s (ListT j ∷ P) l (context m ls r p n) = refl
-ids_with_presence k s (RegT j ∷ P) l (context m ls r p n) = refl

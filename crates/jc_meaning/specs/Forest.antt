@@ -28,11 +28,16 @@ abbrev pub is_under : Id → Option Id → Bool
 is_under i None = true
 is_under i (Some j) = is_less (id_cmp i j)
 
--- The forest is that of all that hang at the key and are under the bound, siblings by falling identifier, where `at` says
--- which identifiers hang at which key.
+-- The forest is that of all that hang at the key and are under the bound, siblings by falling identifier, where `at`
+-- says which identifiers hang at which key.
 abbrev pub Hangs : (Key → Id → Bool) → Key → Option Id → Forest → Type 0
 Hangs at k b bare = (j : Id) → at k j ≡ true → is_under j b ≡ true → ⊥
-Hangs at k b (tree i f x) = (at k i ≡ true) × (is_under i b ≡ true) × ((j : Id) → at k j ≡ true → is_under j b ≡ true → is_less (id_cmp i j) ≡ true → ⊥) × Hangs at (K.Elem i) None f × Hangs at k (Some i) x
+Hangs at k b (tree i f x) =
+    (at k i ≡ true)
+    × (is_under i b ≡ true)
+    × ((j : Id) → at k j ≡ true → is_under j b ≡ true → is_less (id_cmp i j) ≡ true → ⊥)
+    × Hangs at (K.Elem i) None f
+    × Hangs at k (Some i) x
 
 -- what follows the key k in the chain of j and the list
 abbrev pub follow : Key → List Id → Key → Option Next

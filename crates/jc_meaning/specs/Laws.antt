@@ -1,5 +1,5 @@
 -- What the meaning of operations promises.
-use Rattle.std.specs.Prelude.{◌≡◌, List, [], ◌∷◌, true, false, not, ◌&&◌, None, Some, is_some, Contains}
+use Rattle.std.specs.Prelude.{◌≡◌, ◌↔◌, List, [], ◌∷◌, true, false, not, ◌&&◌, None, Some, is_some, Contains}
 use Rattle.jc_rules.specs.declared.id.Id.{Id}
 use Rattle.jc_rules.specs.declared.key.Key.{Key}
 use Rattle.jc_rules.specs.declared.key.Tagged.{Tagged}
@@ -43,6 +43,16 @@ pub record ComesNext (set : List Op) (o : Op) : Type 0 where
 abbrev pub NothingMeansEmpty : Type 0
 NothingMeansEmpty = Means [] empty
 
+-- What operations mean doesn't depend on their order in the list.
+abbrev pub OrdersMeanTheSame : Type 0
+OrdersMeanTheSame =
+    (set other : List Op) (t : Context)
+    → ((o : Op) → Contains set o → op_of o.id set ≡ Some o)
+    → ((o : Op) → Contains other o → op_of o.id other ≡ Some o)
+    → ((o : Op) → Contains set o ↔ Contains other o)
+    → Means set t
+    → Means other t
+
 -- Where a tree is what a set means, a derivation of one operation more leads to what the set with it means.
 abbrev pub OneMoreMeans : Type 0
 OneMoreMeans =
@@ -56,8 +66,8 @@ OneMoreMeans =
 abbrev pub MeaningsAreTidy : Type 0
 MeaningsAreTidy = (set : List Op) (t : Context) → IsClosedSet set → Means set t → Tidy false t
 
--- In what a closed set means, clearing a key takes exactly the given identifiers from the presence sets and registers at
--- the key and below it, and answers what stays in its presence set.
+-- In what a closed set means, clearing a key takes exactly the given identifiers from the presence sets and registers
+-- at the key and below it, and answers what stays in its presence set.
 abbrev pub ClearingTakesDeps : Type 0
 ClearingTakesDeps =
     (set : List Op) (t : Context)

@@ -38,7 +38,10 @@ written_of (Some o) P k = written_by o P k
 
 -- what its operation has written there, unless that is cleared or overwritten by an operation that depends on it
 abbrev pub value_of : List Op → List Tagged → Key → Id → Option Value
-value_of O P k i = cond (is_cleared O P k i || some_op (λ a. overwrites a P k && has_id i a.deps) O) None (written_of (op_of i O) P k)
+value_of O P k i =
+    cond (is_cleared O P k i || some_op (λ a. overwrites a P k && has_id i a.deps) O)
+    None
+    (written_of (op_of i O) P k)
 
 -- some operation goes through the tagged key, or makes it
 abbrev pub goes : List Op → List Tagged → Tagged → Bool
@@ -51,10 +54,14 @@ names P k o = is_insert o.mutation && (same_path o.cursor.path P && same_key o.c
 abbrev pub hangs_at : List Op → List Tagged → Key → Id → Bool
 hangs_at O P k i = holds_of (names P k) (op_of i O)
 
--- In a list the links lead from the head through the preorder of the tree in which each insert hangs below the key that
--- it names, siblings by falling identifier; an insert that isn't reached from the head isn't linked. Elsewhere nothing is.
+-- In a list the links lead from the head through the preorder of the tree in which each insert hangs below the key
+-- that it names, siblings by falling identifier; an insert that isn't reached from the head isn't linked. Elsewhere
+-- nothing is.
 abbrev pub LinksOf : Bool → List Op → List Tagged → Context → Type 0
-LinksOf true O P d = (f : Forest) × Hangs (hangs_at O P) K.Head None f × ((k : Key) → next k d ≡ follow K.Head (preorder f) k)
+LinksOf true O P d =
+    (f : Forest)
+    × Hangs (hangs_at O P) K.Head None f
+    × ((k : Key) → next k d ≡ follow K.Head (preorder f) k)
 LinksOf false O P d = (k : Key) → next k d ≡ None
 
 -- The tree is what the operations mean, but for empty presence sets: which tagged keys are there, what is in presence

@@ -1,14 +1,19 @@
 //! Laws of meanings. Each function does nothing: its contract is the law.
 
-ghost use Rattle.jc_meaning.specs.Laws.{NothingMeansEmpty, OneMoreMeans, MeaningsAreTidy, ClearingTakesDeps, TreesAreMeant, DroppedTreesAreMeanings, OneTree, TreesConverge};
+ghost use Rattle.jc_meaning.specs.Laws.{NothingMeansEmpty, OrdersMeanTheSame, OneMoreMeans, MeaningsAreTidy, ClearingTakesDeps, TreesAreMeant, DroppedTreesAreMeanings, OneTree, TreesConverge};
 
 /// No operations mean the empty tree.
 pub fn nothing_means_empty()
     ensures { NothingMeansEmpty }
 {}
 
-/// Where a tree is what a set means, a derivation of one operation more, whose dependencies are in the set, leads to what
-/// the set with it means.
+/// What operations mean doesn't depend on their order in the list.
+pub fn orders_mean_the_same()
+    ensures { OrdersMeanTheSame }
+{}
+
+/// Where a tree is what a set means, a derivation of one operation more, whose dependencies are in the set, leads to
+/// what the set with it means.
 pub fn one_more_means()
     ensures { OneMoreMeans }
 {}
@@ -19,13 +24,14 @@ pub fn meanings_are_tidy()
     ensures { MeaningsAreTidy }
 {}
 
-/// In what a closed set means, clearing a key takes exactly the given identifiers at the key and below it, and leaves all
-/// else but empty presence sets as it was.
+/// In what a closed set means, clearing a key takes exactly the given identifiers at the key and below it, and leaves
+/// all else but empty presence sets as it was.
 pub fn clearing_takes_deps()
     ensures { ClearingTakesDeps }
 {}
 
-/// In each network that is reached from a start the tree of each replica is what the operations mean that it has applied.
+/// In each network that is reached from a start the tree of each replica is what the operations mean that it has
+/// applied.
 pub fn trees_are_meant()
     ensures { TreesAreMeant }
 {}
@@ -40,8 +46,8 @@ pub fn one_tree()
     ensures { OneTree }
 {}
 
-/// In each network that is reached from a start, replicas that have applied the same operations have the same tree, but for
-/// empty presence sets.
+/// In each network that is reached from a start, replicas that have applied the same operations have the same tree, but
+/// for empty presence sets.
 pub fn trees_converge()
     ensures { TreesConverge }
 {}

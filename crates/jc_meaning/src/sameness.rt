@@ -132,7 +132,8 @@ fn is_key(given: Option<&Key>, key: &Key) -> bool
 fn same_register<S: TreeStore, T: TreeStore>(left: &S, right: &T, at: &[Tagged], key: &Key) -> bool
     requires left { HasPlace at.now (S.tree left.now) }
     requires right { HasPlace at.now (T.tree right.now) }
-    ensures { IsTrue result ↔ IsSameRegister key.now (here at.now (S.tree left.now)) (here at.now (T.tree right.now)) }
+    ensures { IsTrue result
+        ↔ IsSameRegister key.now (here at.now (S.tree left.now)) (here at.now (T.tree right.now)) }
 {
     match (left.register(at, key), right.register(at, key)) {
         (Some(pairs), Some(others)) => same_pairs(pairs, others),
