@@ -1,0 +1,47 @@
+//! Replicas compared.
+
+ghost use Rattle.std.specs.Prelude.{◌≤◌, ◌⊎◌, ◌↔◌, length, IfOk, IsErrOf};
+ghost use Rattle.jc_network.specs.declared.fault.CompareFault.TheVariants as C;
+ghost use Rattle.jc_meaning.specs.Found.{IsComparison};
+
+use crate::sameness::same_tree;
+use jc_network::{CompareFault, Net};
+use std::alloc::Global;
+
+/// What is found of two replicas.
+#[derive(Clone, Copy, Debug, PartialEq, Eq)]
+pub enum Comparison {
+    /// They have applied the same operations.
+    SameOps {
+        /// Whether their trees are the same, but for empty presence sets. They always are.
+        same_tree: bool,
+    },
+    /// They have applied different operations.
+    DifferentOps,
+}
+
+/// Compares two replicas of the network: what they have applied, and where that is the same, their trees.
+///
+/// It is refused with `NoSuchReplica` exactly where one of them isn't there.
+pub fn compare(alloc: Global, net: &Net, p: u16, q: u16) -> Result<Comparison, CompareFault>
+    ensures compared { IfOk result (λ comparison. IsComparison net.now.network p q comparison) }
+    ensures missing { IsErrOf result C.NoSuchReplica
+        ↔ ((length net.now.network ≤ p) ⊎ (length net.now.network ≤ q)) }
+{
+    // Events have led to the network from a start, so that greatest counters tell what is applied.
+    let _steps = net.steps();
+    let Some(left) = net.replica(p) else {
+        return Err(CompareFault::NoSuchReplica);
+    };
+    let Some(right) = net.replica(q) else {
+        return Err(CompareFault::NoSuchReplica);
+    };
+    if !left.ops().is_subset(right.ops()) {
+        return Ok(Comparison::DifferentOps);
+    }
+    if !right.ops().is_subset(left.ops()) {
+        return Ok(Comparison::DifferentOps);
+    }
+    let same_tree = same_tree(alloc, left.tree(), right.tree())?;
+    Ok(Comparison::SameOps { same_tree })
+}

@@ -1,0 +1,9 @@
+//! Tests of meanings: replicas compared in runs that were worked by hand, trees that differ in one entry, and laws.
+#![tactic(auto)]
+
+#[cfg(test)]
+mod laws;
+#[cfg(test)]
+mod runs;
+#[cfg(test)]
+mod trees;
