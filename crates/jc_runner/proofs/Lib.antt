@@ -1,0 +1,6 @@
+mod Histories
+mod Choices
+mod Kept
+mod Working
+mod Handing
+mod Reporting
