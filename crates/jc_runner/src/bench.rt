@@ -60,7 +60,7 @@ impl Bench {
     ghost use Rattle.jc_scenario.specs.Scenarios.{IsWellFormed};
     ghost use Rattle.jc_scenario.specs.Views.{scenario_view};
     ghost use Rattle.jc_runner.specs.Answers.{IsAnswered, IsSpent, seen_after};
-    ghost use Rattle.jc_runner.specs.Benches.{IsPassAt, IsNewAt, IsSameBench, IsOpenFault, bench_start, bench_passes};
+    ghost use Rattle.jc_runner.specs.Benches.{IsPassAt, IsPassFor, IsNewAt, IsSameBench, IsOpenFault, bench_start, bench_passes};
     ghost use Rattle.jc_runner.specs.Legal.{IsLegal, own_events};
 
     /// A bench at the scenario's start, and one pass for each replica, each of `limit` takes. The scenario's schedule is
@@ -134,11 +134,8 @@ impl Bench {
     ///
     /// `Spent` exactly where the pass has made its takes: then it doesn't wait, and the pass comes back as it was.
     pub fn step<R: Wait>(&self, rt: &R, pass: Pass, event: &Event) -> (Pass, StepAnswer)
-        requires pass { IsPassAt self.now pass }
-        requires number { replica_of event.now ≡ pass_number pass }
-        requires origin { pass_origin pass ≡ Some (bench_start self.now) }
-        ensures pass { IsPassAt self.now result.0 }
-        ensures number { (pass_number result.0 ≡ pass_number pass) × (pass_origin result.0 ≡ pass_origin pass) }
+        requires { IsPassFor self.now (replica_of event.now) pass }
+        ensures pass { IsPassFor self.now (replica_of event.now) result.0 }
         ensures seen { IsPrefix (pass_seen pass) (pass_seen result.0) }
         ensures when { IsSpent result.1 ↔ (pass_left pass ≡ 0) }
         ensures spent { IsSpent result.1 → result.0 ≡ pass }
