@@ -45,13 +45,12 @@ all_in s (i ∷ is) f =
 
 pub in_all : (s is : List Id) → list_all (λ i. has_id i s) is ≡ true → AreIn is s
 in_all s [] h k at = cc
-in_all s (i ∷ is) h k at = go (has_id i s) refl (same_id k i) refl
+in_all s (i ∷ is) h k at = go (has_id i s) refl (same_id k i) refl (λ rest. in_all s is rest k)
   where
-    go : (a : Bool) → has_id i s ≡ a → (b : Bool) → same_id k i ≡ b → has_id k s ≡ true
-    go false e b f = let z : false ≡ true = sym (ap (λ x. x && list_all (λ j. has_id j s) is) e) ∙ h in cc
-    go true e true f = ap (λ j. has_id j s) (same_id-true k i f) ∙ e
-    go true e false f =
-        in_all s is (sym (ap (λ x. x && list_all (λ j. has_id j s) is) e) ∙ h) k (sym (ap (λ x. x || has_id k is) f) ∙ at)
+    go : (a : Bool) → has_id i s ≡ a → (b : Bool) → same_id k i ≡ b → (list_all (λ j. has_id j s) is ≡ true → has_id k is ≡ true → has_id k s ≡ true) → has_id k s ≡ true
+    go false e b f more = let z : false ≡ true = sym (ap (λ x. x && list_all (λ j. has_id j s) is) e) ∙ h in cc
+    go true e true f more = ap (λ j. has_id j s) (same_id-true k i f) ∙ e
+    go true e false f more = more (sym (ap (λ x. x && list_all (λ j. has_id j s) is) e) ∙ h) (sym (ap (λ x. x || has_id k is) f) ∙ at)
 
 -- ---- what is ready
 
