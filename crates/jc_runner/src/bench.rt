@@ -51,7 +51,7 @@ pub enum StepAnswer {
 }
 
 impl Bench {
-    ghost use Rattle.std.specs.Prelude.{◌≡◌, ◌+◌, ◌<◌, ◌↔◌, length, All, map, IfOk, IfErr, IsOk, Some};
+    ghost use Rattle.std.specs.Prelude.{◌≡◌, ◌+◌, ◌<◌, ◌≤◌, ◌↔◌, length, All, map, IfOk, IfErr, IsOk};
     ghost use Rattle.std.specs.List.{range_with_len};
     ghost use mathlib.Core.List.{IsPrefix};
     ghost use Rattle.jc_rules.specs.Step.{replica_of};
