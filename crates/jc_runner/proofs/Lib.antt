@@ -4,3 +4,4 @@ mod Kept
 mod Working
 mod Handing
 mod Reporting
+mod Crossing
