@@ -35,7 +35,7 @@ use Rattle.jc_rules.specs.contracts.operation.Event.{the_row as event_row}
 use Rattle.jc_lock.specs.contracts.lock.Pass as Pass
 use Rattle.jc_lock.proofs.lock.HistoryLock.TheSendSync as lock
 use Rattle.jc_lock.proofs.lock.Pass.TheSendSync as pass
-use Rattle.jc_runner.specs.contracts.bench.Bench.{the_row as bench_row}
+use Rattle.jc_runner.specs.contracts.bench.Bench.{the_row as bench_row, the_field as bench_field}
 use Rattle.jc_runner.specs.contracts.recorded.Beginning.{the_row as beginning_row}
 use Rattle.jc_runner.specs.contracts.recorded.Recorded.{the_row as recorded_row}
 use Rattle.jc_runner.specs.contracts.recorded.RecordedKept.TheImpl.{ghosts}
@@ -80,6 +80,12 @@ bench_sync = search (sendable, crosses, lock.the_field_sync, recorded_send) dept
 
 pub pass_send : IsSend (Pass.the_row recorded_row event_row beginning_row ghosts)
 pass_send = search (sendable, crosses, pass.the_send, recorded_send) depth 20
+
+pub bench_field_sync : IsSync (bench_field).row
+bench_field_sync = search (sendable, crosses, lock.the_field_sync, recorded_send) depth 20
+
+pub pass_field_send : IsSend (Pass.the_field recorded_row event_row beginning_row ghosts).row
+pass_field_send = search (sendable, crosses, pass.the_field_send, recorded_send) depth 20
 
 pub worked_send : IsSend worked_row
 worked_send = search (sendable, crosses, pass.the_field_send, end.the_field_send, recorded_send) depth 20
