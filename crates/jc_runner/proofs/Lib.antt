@@ -1,7 +1,3 @@
 mod Histories
 mod Choices
 mod Kept
-mod Working
-mod Handing
-mod Reporting
-mod Crossing

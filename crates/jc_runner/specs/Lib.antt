@@ -4,5 +4,4 @@ pub mod Legal
 pub mod Recording
 pub mod Benches
 pub mod Answers
-pub mod Worked
-pub mod Reports
+pub mod Laws
