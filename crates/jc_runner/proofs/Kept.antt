@@ -59,7 +59,7 @@ kept_ready set s o sound closed of =
     let applied : has_id o.id (filled s) ≡ has_id o.id s = counters_tell set s sound closed o.id o of in
     let both = subset_both set o.deps s sound (deps_closed set o.id o sound of) closed in
     let deps : list_all (λ i. has_id i (filled s)) (filled o.deps) ≡ list_all (λ i. has_id i s) o.deps =
-      same_tests _ _ (λ h. all_in s o.deps (both.0 (in_all (filled s) (filled o.deps) h))) (λ h. all_in (filled s) (filled o.deps) (both.1 (in_all s o.deps h))) in
+    same_tests _ _ (λ h. all_in s o.deps (both.0 (in_all (filled s) (filled o.deps) h))) (λ h. all_in (filled s) (filled o.deps) (both.1 (in_all s o.deps h))) in
     (λ n. not (applied n) && deps n)
 
 kept_first : (set : List Op) (s : List Id) → IsSound set → IsClosed set s → (os : List Op) → AreOf set os → first_ready (filled s) (map kept_op os) ≡ first_ready s os
@@ -97,8 +97,8 @@ module _ (N : List State) (w : IsWell N) (p : ℕ) (A : State) (there : slice_ge
     rises = w.sets.rising p A there;
     known = λ i h. let x = w.sets.applied p A i there h in (x.0, ap (λ j. op_of j (held N)) (sym x.2) ∙ found x.0 x.1);
     closed = λ i o h of.
-      let l = looked_up i (held N) o of in
-      w.sets.closed p A o there (held_made N w o l.1) (subst (λ j. has_id j A.ops ≡ true) (sym l.0) h);
+        let l = looked_up i (held N) o of in
+        w.sets.closed p A o there (held_made N w o l.1) (subst (λ j. has_id j A.ops ≡ true) (sym l.0) h);
   }
 
   pub kept_first_ready : first_ready (filled A.ops) (map kept_op A.recv) ≡ first_ready A.ops A.recv

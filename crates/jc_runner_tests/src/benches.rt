@@ -18,7 +18,8 @@ fn last_pass(rt: &impl Abort, bench: &Bench, limit: u64, passes: &mut Vec<Pass>)
     requires { All (IsNewAt bench.now limit) passes.old.items }
     ensures { IsNewAt bench.now limit result × All (IsNewAt bench.now limit) passes.new.items }
 {
-    let _ = (bench, limit);
+    let _ = bench;
+    let _ = limit;
     passes.pop().expect(rt, "a pass")
 }
 
@@ -37,14 +38,8 @@ fn opened(rt: &impl Abort, alloc: Global, limit: u64) -> Result<(Bench, Pass, Pa
     Ok((bench, a, b))
 }
 
-
 // The answer to the event. Where memory was wanting nothing was counted, and the event is asked for once more.
-fn stepped<R: Wait + Abort>(
-    rt: &R,
-    bench: &Bench,
-    pass: Pass,
-    event: Event,
-) -> (Pass, StepAnswer)
+fn stepped<R: Wait + Abort>(rt: &R, bench: &Bench, pass: Pass, event: Event) -> (Pass, StepAnswer)
     requires { IsPassFor bench.now (replica_of event) pass }
     ensures { IsPassFor bench.now (replica_of event) result.0 }
 {
@@ -123,6 +118,8 @@ fn closed(rt: &impl Abort, alloc: Global, bench: Bench, a: Pass, b: Pass) -> Res
     }
 }
 
+const RECORDED: &[Event] = &[Event::Exec(0), Event::Send(1), Event::Done(1)];
+
 #[test]
 fn steps_are_recorded(rt: HostRuntime) -> Result<(), Fail> {
     let alloc = rt.alloc();
@@ -134,9 +131,11 @@ fn steps_are_recorded(rt: HostRuntime) -> Result<(), Fail> {
     let b = makes(&rt, &bench, b, Event::Done(1), 3);
     let b = is_spent(&rt, &bench, b, Event::Done(1));
     let recorded = closed(&rt, alloc, bench, a, b)?;
-    let want = [Event::Exec(0), Event::Send(1), Event::Done(1)];
-    holds(&rt, recorded.schedule.as_slice() == want);
-    holds(&rt, recorded.net.steps() == 3 && recorded.start.schedule.is_empty());
+    holds(&rt, recorded.schedule.as_slice() == RECORDED);
+    holds(
+        &rt,
+        recorded.net.steps() == 3 && recorded.start.schedule.is_empty(),
+    );
     Ok(())
 }
 

@@ -29,17 +29,62 @@ const ROWS: &[Row] = &[
     // a command that isn't yield
     (0, 0, Phase::Start, Some((Event::Exec(0), Phase::Start))),
     // at a yield: to send, to receive from all but itself
-    (0, 1, Phase::Start, Some((Event::Send(1), Phase::Receiving(0)))),
-    (1, 0, Phase::Start, Some((Event::Send(0), Phase::Receiving(0)))),
-    (2, 0, Phase::Receiving(0), Some((Event::Recv(0, 1), Phase::Receiving(2)))),
-    (2, 1, Phase::Receiving(0), Some((Event::Recv(1, 0), Phase::Receiving(1)))),
+    (
+        0,
+        1,
+        Phase::Start,
+        Some((Event::Send(1), Phase::Receiving(0))),
+    ),
+    (
+        1,
+        0,
+        Phase::Start,
+        Some((Event::Send(0), Phase::Receiving(0))),
+    ),
+    (
+        2,
+        0,
+        Phase::Receiving(0),
+        Some((Event::Recv(0, 1), Phase::Receiving(2))),
+    ),
+    (
+        2,
+        1,
+        Phase::Receiving(0),
+        Some((Event::Recv(1, 0), Phase::Receiving(1))),
+    ),
     // nothing was received
-    (2, 0, Phase::Receiving(2), Some((Event::Done(0), Phase::Start))),
-    (2, 1, Phase::Receiving(1), Some((Event::Done(1), Phase::Start))),
-    (2, 1, Phase::Receiving(65535), Some((Event::Done(1), Phase::Start))),
+    (
+        2,
+        0,
+        Phase::Receiving(2),
+        Some((Event::Done(0), Phase::Start)),
+    ),
+    (
+        2,
+        1,
+        Phase::Receiving(1),
+        Some((Event::Done(1), Phase::Start)),
+    ),
+    (
+        2,
+        1,
+        Phase::Receiving(65535),
+        Some((Event::Done(1), Phase::Start)),
+    ),
     // an operation that is ready, and none
-    (3, 1, Phase::Receiving(1), Some((Event::Apply(1, FIRST), Phase::Applying))),
-    (3, 1, Phase::Applying, Some((Event::Apply(1, FIRST), Phase::Applying))),
+    (
+        3,
+        1,
+        Phase::Receiving(1),
+        Some((Event::Apply(1, FIRST), Phase::Applying)),
+    ),
+    (
+        3,
+        1,
+        Phase::Applying,
+        Some((Event::Apply(1, FIRST), Phase::Applying)),
+    ),
     (4, 1, Phase::Applying, Some((Event::Done(1), Phase::Start))),
     // its second command, and then no command is left
     (5, 1, Phase::Start, Some((Event::Exec(1), Phase::Start))),

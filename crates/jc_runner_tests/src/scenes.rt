@@ -13,13 +13,16 @@ use std::process::Abort;
 use std::test::Fail;
 
 /// One replica deletes a map in which the other one assigns a key.
-pub const DELETION: &str = "jsoncrdt 1 replica a { doc.get(\"m\") := {}; yield; doc.get(\"m\").delete; yield } replica b { yield; doc.get(\"m\").get(\"k\") := 1; yield }";
+pub const DELETION: &str =
+    "jsoncrdt 1 replica a { doc.get(\"m\") := {}; yield; doc.get(\"m\").delete; yield } replica b { yield; doc.get(\"m\").get(\"k\") := 1; yield }";
 
 /// Both insert at the head of a list.
-pub const INSERTS: &str = "jsoncrdt 1 replica a { doc.get(\"l\") := []; yield; doc.get(\"l\").idx(0).insertAfter(\"x\"); yield } replica b { yield; doc.get(\"l\").idx(0).insertAfter(\"y\"); yield }";
+pub const INSERTS: &str =
+    "jsoncrdt 1 replica a { doc.get(\"l\") := []; yield; doc.get(\"l\").idx(0).insertAfter(\"x\"); yield } replica b { yield; doc.get(\"l\").idx(0).insertAfter(\"y\"); yield }";
 
 /// A replica alone, whose last command is stuck.
-pub const PAST_THE_END: &str = "jsoncrdt 1 replica a { doc := []; doc.idx(0).insertAfter(\"x\"); doc.idx(1).insertAfter(\"y\"); doc.idx(1).delete; let z = doc.idx(1); let w = doc.idx(2) }";
+pub const PAST_THE_END: &str =
+    "jsoncrdt 1 replica a { doc := []; doc.idx(0).insertAfter(\"x\"); doc.idx(1).insertAfter(\"y\"); doc.idx(1).delete; let z = doc.idx(1); let w = doc.idx(2) }";
 
 /// The first replica is stuck at once, the second one isn't.
 pub const ONE_STUCK: &str =
