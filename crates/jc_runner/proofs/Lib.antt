@@ -1,0 +1,3 @@
+mod Histories
+mod Choices
+mod Kept

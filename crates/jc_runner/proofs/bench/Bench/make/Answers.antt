@@ -1,0 +1,17 @@
+use Rattle.std.proofs.Common.{rules, ◌≡◌, ◌+◌, subst}
+use Rattle.jc_lock.specs.Shows.{turn_value}
+use Rattle.jc_network.specs.Makes.{IsStuckFor}
+use Rattle.jc_runner.specs.Recording.{Recording}
+use Rattle.jc_runner.proofs.bench.Bench.make.Goals as goal
+
+pub returns-in-Err-Stuck-clause-answer : goal.returns-in-Err-Stuck-clause-answer
+returns-in-Err-Stuck-clause-answer c = (
+  record {
+    network = (turn_value c.args.turn).net.network;
+    is_front = search rules;
+    stays = search rules;
+    legal = search rules;
+    is_stuck = subst (λ (r : Recording). IsStuckFor r.net.network c.args.event.now c.in-Err-Stuck.stuck) c.value_mut.ensures.value (c.in-Err-Stuck.ensures.stuck c.in-Err-Stuck.stuck (search (rules, c.in-Err-Stuck.is)));
+  },
+  search rules,
+)

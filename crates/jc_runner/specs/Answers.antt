@@ -1,0 +1,56 @@
+-- What a step at the bench answers.
+use Rattle.std.specs.Prelude.{◌≡◌, ℕ, ◌+◌, List, [], ◌∷◌, ◌++◌, length}
+use Rattle.jc_rules.specs.declared.operation.Event.{Event}
+use Rattle.jc_rules.specs.declared.rule.Rule.{Rule}
+use Rattle.jc_rules.specs.State.{State}
+use Rattle.jc_rules.specs.Step.{Step}
+use Rattle.jc_network.specs.declared.fault.Stuck.{Stuck}
+use Rattle.jc_network.specs.Makes.{IsStuckFor}
+use Rattle.jc_scenario.specs.Scenarios.{Scenario}
+use Rattle.jc_runner.specs.declared.bench.StepAnswer.{StepAnswer}
+use Rattle.jc_runner.specs.declared.bench.StepAnswer.TheVariants as A
+use Rattle.jc_runner.specs.Legal.{IsLegal}
+
+-- The history ends with the event, which has its number, and the rules lead from the network before it by the event.
+pub record IsMade (s : Scenario) (e : Event) (seen mine new_mine : List Event) (number : ℕ)
+    (rows : List (Rule × ℕ)) : Type 0 where
+  pub before : List Event
+  pub network : List State
+  pub new_network : List State
+  pub ends : seen ≡ before ++ e ∷ []
+  pub is_number : number ≡ length seen
+  pub grew : new_mine ≡ mine ++ e ∷ []
+  pub legal : IsLegal before s network
+  pub step : Step network e new_network rows
+
+-- The event is stuck after the history, which has so many events.
+pub record IsRefused (s : Scenario) (e : Event) (seen mine new_mine : List Event) (front : ℕ)
+    (stuck : Stuck) : Type 0 where
+  pub network : List State
+  pub is_front : front ≡ length seen
+  pub stays : new_mine ≡ mine
+  pub legal : IsLegal seen s network
+  pub is_stuck : IsStuckFor network e stuck
+
+-- what an answer says of the history that is then seen, of the pass's own events before and after, and of its takes
+abbrev pub IsAnswered : Scenario → Event → List Event → List Event → List Event → ℕ → ℕ → StepAnswer → Type 0
+IsAnswered s e seen mine new_mine left new_left (A.Made number trace) =
+    IsMade s e seen mine new_mine number trace.rows × (new_left + 1 ≡ left)
+IsAnswered s e seen mine new_mine left new_left (A.Refused front stuck) =
+    IsRefused s e seen mine new_mine front stuck × (new_left + 1 ≡ left)
+IsAnswered s e seen mine new_mine left new_left (A.Full front) =
+    (front ≡ 100000) × (length seen ≡ 100000) × (new_mine ≡ mine) × (new_left + 1 ≡ left)
+IsAnswered s e seen mine new_mine left new_left A.Memory = (new_mine ≡ mine) × (new_left + 1 ≡ left)
+IsAnswered s e seen mine new_mine left new_left A.Spent = (new_mine ≡ mine) × (new_left ≡ left)
+
+-- the history after the answer
+abbrev pub seen_after : List Event → Event → StepAnswer → List Event
+seen_after history e (A.Made number trace) = history ++ e ∷ []
+seen_after history e (A.Refused front stuck) = history
+seen_after history e (A.Full front) = history
+seen_after history e A.Memory = history
+seen_after history e A.Spent = history
+
+abbrev pub IsSpent : StepAnswer → Type 0
+IsSpent A.Spent = Unit {0}
+IsSpent _ = ⊥

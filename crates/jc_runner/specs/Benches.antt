@@ -1,0 +1,44 @@
+-- What contracts see of a bench and of its passes.
+use Rattle.std.specs.Prelude.{◌≡◌, ℕ, ◌≤◌, ◌<◌, Some}
+use Rattle.jc_lock.specs.declared.lock.Pass.{Pass}
+use Rattle.jc_lock.specs.Shows.{IsPassOf, IsNewPass, IsSameLock, lock_passes, opened_value, pass_number, pass_origin}
+use Rattle.jc_rules.specs.declared.operation.Event.{Event}
+use Rattle.jc_scenario.specs.Scenarios.{Scenario}
+use Rattle.jc_runner.specs.declared.bench.Bench.{Bench}
+use Rattle.jc_runner.specs.declared.bench.BenchFault.{BenchFault}
+use Rattle.jc_runner.specs.declared.bench.BenchFault.TheVariants as B
+use Rattle.jc_runner.specs.declared.recorded.Beginning.{Beginning}
+use Rattle.jc_runner.specs.declared.recorded.Recorded.{Recorded}
+use Rattle.jc_runner.specs.contracts.recorded.RecordedKept.TheImpl.{ghosts}
+
+abbrev pub ReplicaPass : Type 0
+ReplicaPass = Pass Recorded Event Beginning ghosts
+
+-- the scenario that the bench was opened with
+abbrev pub bench_start : Bench → Scenario
+bench_start bench = (opened_value bench.lock).start
+
+-- how many passes it has
+abbrev pub bench_passes : Bench → ℕ
+bench_passes bench = lock_passes bench.lock
+
+abbrev pub IsPassAt : Bench → ReplicaPass → Type 0
+IsPassAt bench pass = IsPassOf bench.lock pass
+
+-- a pass of the bench for replica p
+abbrev pub IsPassFor : Bench → ℕ → ReplicaPass → Type 0
+IsPassFor bench p pass =
+    IsPassAt bench pass × (pass_number pass ≡ p) × (pass_origin pass ≡ Some (bench_start bench))
+
+-- a pass of the bench that has made no take and has seen nothing
+abbrev pub IsNewAt : Bench → ℕ → ReplicaPass → Type 0
+IsNewAt bench takes pass = IsNewPass bench.lock takes (bench_start bench) pass
+
+-- the same passes are of both, and both were opened with the same scenario
+abbrev pub IsSameBench : Bench → Bench → Type 0
+IsSameBench bench other = IsSameLock bench.lock other.lock
+
+-- each refusal of `open`, in order
+abbrev pub IsOpenFault : BenchFault → ℕ → Type 0
+IsOpenFault B.LimitTooLarge limit = 100000 < limit
+IsOpenFault B.Memory limit = limit ≤ 100000

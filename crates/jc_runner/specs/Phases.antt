@@ -1,0 +1,14 @@
+-- The phase of a replica's thread is a function of the last event that the replica made.
+use Rattle.std.specs.Prelude.{ℕ, ◌+◌, Option, Some, None}
+use Rattle.jc_rules.specs.declared.operation.Event.{Event}
+use Rattle.jc_rules.specs.declared.operation.Event.TheVariants as E
+use Rattle.jc_runner.specs.declared.phase.Phase.{Phase}
+use Rattle.jc_runner.specs.declared.phase.Phase.TheVariants as P
+
+abbrev pub phase_after : Option Event → Phase
+phase_after None = P.Start
+phase_after (Some (E.Exec p)) = P.Start
+phase_after (Some (E.Send p)) = P.Receiving 0
+phase_after (Some (E.Recv p q)) = P.Receiving (q + 1)
+phase_after (Some (E.Apply p i)) = P.Applying
+phase_after (Some (E.Done p)) = P.Start

@@ -1,0 +1,42 @@
+-- What a recorded network is seen as.
+use Rattle.std.specs.Prelude.{◌≡◌, ℕ, ◌≤◌, List, length, refl}
+use Rattle.std.specs.Coded.{Coded, code_by, coded×, coded_ℕ, coded_list}
+use Rattle.jc_rules.specs.declared.operation.Event.{Event}
+use Rattle.jc_rules.specs.contracts.operation.Event.{the_row as event_row}
+use Rattle.jc_rules.specs.Syntax.{Cmd}
+use Rattle.jc_replica.specs.Codes.{cmd_code}
+use Rattle.jc_network.specs.Course.{Course, course_code}
+use Rattle.jc_scenario.specs.Scenarios.{Scenario}
+use Rattle.jc_runner.specs.Legal.{IsLegal}
+
+-- a network, the events that were made, and the scenario from whose start they were made
+pub record Recording : Type 0 where
+  pub net : Course
+  pub schedule : List Event
+  pub start : Scenario
+
+abbrev pub scenario_code : Coded Scenario
+scenario_code =
+    code_by (List (List ℕ) × (List (List Cmd) × List Event))
+    (coded× (coded_list (coded_list coded_ℕ)) (coded× (coded_list (coded_list cmd_code)) (coded_list event_row.coded)))
+    (λ s. (s.names, (s.scripts, s.schedule)))
+    (λ t. record { names = t.0; scripts = t.1.0; schedule = t.1.1 })
+    (λ _. refl)
+
+abbrev pub recording_code : Coded Recording
+recording_code =
+    code_by (Course × (List Event × Scenario))
+    (coded× course_code (coded× (coded_list event_row.coded) scenario_code))
+    (λ r. (r.net, (r.schedule, r.start)))
+    (λ t. record { net = t.0; schedule = t.1.0; start = t.1.1 })
+    (λ _. refl)
+
+abbrev pub recording : Course → List Event → Scenario → Recording
+recording net schedule start = record { net = net; schedule = schedule; start = start }
+
+-- The events lead from the start to the network, which has counted them, and there are no more than may be.
+pub record IsRecorded (net : Course) (schedule : List Event) (start : Scenario) : Type 0 where
+  pub legal : IsLegal schedule start net.network
+  pub named : net.names ≡ start.names
+  pub counted : length net.earlier ≡ length schedule
+  pub small : length schedule ≤ 100000

@@ -1,0 +1,193 @@
+//! The bench: replicas of one network step there in turn, and each step is recorded.
+use crate::recorded::Recorded;
+use jc_lock::{HistoryLock, Kept, OpenRefused, Turn};
+use jc_network::{Net, StepFault, Stuck};
+use jc_rules::{Event, Trace};
+use jc_scenario::Scenario;
+use std::alloc::Global;
+use std::sync::Wait;
+
+/// The right of one replica to step at a bench.
+pub type Pass = jc_lock::Pass<Recorded>;
+
+/// A network at which threads step in turn.
+#[derive(Drop)]
+pub struct Bench {
+    pub(crate) lock: HistoryLock<Recorded>,
+}
+
+/// The most steps of a pass.
+pub const MOST_LIMIT: u64 = 100_000;
+
+/// Why a bench was not opened.
+#[derive(Drop)]
+pub enum BenchFault {
+    /// 46: the limit is above `MOST_LIMIT`.
+    LimitTooLarge,
+    /// A request for memory was refused.
+    Memory,
+}
+
+/// 43: the passes handed in are not those of `open`, each once. Bench and passes come back as they were.
+#[derive(Drop)]
+pub struct CloseRefused {
+    pub bench: Bench,
+    pub passes: Vec<Pass>,
+}
+
+/// What a step at the bench answers. Nothing but `Made` changes the schedule.
+#[derive(Drop)]
+pub enum StepAnswer {
+    /// The event is recorded, as the schedule's event of this number, from 1.
+    Made { number: u64, trace: Trace },
+    /// The event is stuck after so many events.
+    Refused { front: u64, stuck: Stuck },
+    /// 38: as many events were made as can be.
+    Full { front: u64 },
+    /// A request for memory was refused. The event can be asked for again.
+    Memory,
+    /// 42: the pass has made its takes.
+    Spent,
+}
+
+impl Bench {
+    ghost use Rattle.std.specs.Prelude.{◌≡◌, ◌+◌, ◌<◌, ◌≤◌, ◌↔◌, length, All, map, IfOk, IfErr, IsOk};
+    ghost use Rattle.std.specs.List.{range_with_len};
+    ghost use mathlib.Core.List.{IsPrefix};
+    ghost use Rattle.jc_rules.specs.Step.{replica_of};
+    ghost use Rattle.jc_lock.specs.Numbers.{EachOnce};
+    ghost use Rattle.jc_lock.specs.Shows.{IsTurnOf, pass_number, pass_left, pass_origin, pass_seen, pass_mine, turn_number, turn_left, turn_origin, turn_seen, turn_mine, turn_value};
+    ghost use Rattle.jc_scenario.specs.Scenarios.{IsWellFormed};
+    ghost use Rattle.jc_scenario.specs.Views.{scenario_view};
+    ghost use Rattle.jc_runner.specs.Answers.{IsAnswered, IsSpent, seen_after};
+    ghost use Rattle.jc_runner.specs.Benches.{IsPassAt, IsPassFor, IsNewAt, IsSameBench, IsOpenFault, bench_start, bench_passes};
+    ghost use Rattle.jc_runner.specs.Legal.{IsLegal, own_events};
+
+    /// A bench at the scenario's start, and one pass for each replica, each of `limit` takes. The scenario's schedule is
+    /// left aside.
+    ///
+    /// Refused, in this order: 46 where the limit is above `MOST_LIMIT`, then want of memory.
+    pub fn open(
+        alloc: Global,
+        scenario: Scenario,
+        limit: u64,
+    ) -> Result<(Bench, Vec<Pass>), BenchFault>
+        requires { IsWellFormed (scenario_view scenario) }
+        ensures start { IfOk result (λ r. bench_start r.0 ≡ scenario_view scenario) }
+        ensures passes { IfOk result (λ r. bench_passes r.0 ≡ length (scenario_view scenario).scripts) }
+        ensures numbers { IfOk result (λ r.
+            map pass_number r.1.items ≡ range_with_len 0 (length (scenario_view scenario).scripts)) }
+        ensures new { IfOk result (λ r. All (IsNewAt r.0 limit) r.1.items) }
+        ensures limit { IfOk result (λ r. limit ≤ 100000) }
+        ensures refused { IfErr result (λ fault. IsOpenFault fault limit) }
+    {
+        if limit > MOST_LIMIT {
+            return Err(BenchFault::LimitTooLarge);
+        }
+        let passes = scenario.scripts.len() as u16;
+        let Ok(net) = Net::start(alloc, &scenario) else {
+            return Err(BenchFault::Memory);
+        };
+        let recorded = Recorded {
+            net,
+            schedule: Vec::new(alloc),
+            start: scenario,
+        };
+        match HistoryLock::open(alloc, recorded, passes, limit) {
+            Ok((lock, passes)) => Ok((Bench { lock }, passes)),
+            Err(OpenRefused { value: _, why: _ }) => Err(BenchFault::Memory),
+        }
+    }
+
+    // Makes the event in the turn, and gives the turn back.
+    pub(crate) fn make(&self, mut turn: Turn<Recorded>, event: &Event) -> (Pass, StepAnswer)
+        requires lock { IsTurnOf self.now.lock turn }
+        requires origin { turn_origin turn ≡ Some (turn_value turn).start }
+        requires list { turn_seen turn ≡ (turn_value turn).schedule }
+        requires number { replica_of event.now ≡ turn_number turn }
+        ensures lock { IsPassAt self.now result.0 }
+        ensures number { (pass_number result.0 ≡ turn_number turn) × (pass_origin result.0 ≡ turn_origin turn) }
+        ensures left { pass_left result.0 ≡ turn_left turn }
+        ensures seen { IsPrefix (turn_seen turn) (pass_seen result.0) }
+        ensures own { own_events (pass_seen result.0) (pass_number result.0) ≡ pass_mine result.0 }
+        ensures answer { IsAnswered (turn_value turn).start event.now (pass_seen result.0)
+            (turn_mine turn) (pass_mine result.0) (turn_left turn + 1) (pass_left result.0) result.1 }
+        ensures list { pass_seen result.0 ≡ seen_after (turn_seen turn) event.now result.1 }
+        ensures waited { IsSpent result.1 → ⊥ }
+    {
+        let added = turn.value_mut().add(event);
+        let front = turn.value().entries();
+        let pass = self.lock.give(turn);
+        match added {
+            Ok(trace) => {
+                let number = front;
+                (pass, StepAnswer::Made { number, trace })
+            }
+            Err(StepFault::Stuck(stuck)) => (pass, StepAnswer::Refused { front, stuck }),
+            Err(StepFault::Full) => (pass, StepAnswer::Full { front }),
+            Err(StepFault::Memory) => (pass, StepAnswer::Memory),
+        }
+    }
+
+    /// Waits for the pass's turn, and makes the event there, which must be of the pass's replica. The pass comes back with
+    /// a take less, and has then seen the history as the answer found it or made it.
+    ///
+    /// `Spent` exactly where the pass has made its takes: then it doesn't wait, and the pass comes back as it was.
+    pub fn step<R: Wait>(&self, rt: &R, pass: Pass, event: &Event) -> (Pass, StepAnswer)
+        requires { IsPassFor self.now (replica_of event.now) pass }
+        ensures pass { IsPassFor self.now (replica_of event.now) result.0 }
+        ensures seen { IsPrefix (pass_seen pass) (pass_seen result.0) }
+        ensures when { IsSpent result.1 ↔ (pass_left pass ≡ 0) }
+        ensures spent { IsSpent result.1 → result.0 ≡ pass }
+        ensures answer { IsAnswered (bench_start self.now) event.now (pass_seen result.0)
+            (pass_mine pass) (pass_mine result.0) (pass_left pass) (pass_left result.0) result.1 }
+    {
+        match self.lock.take(rt, pass) {
+            Ok(turn) => self.make(turn, event),
+            Err(spent) => (spent.pass, StepAnswer::Spent),
+        }
+    }
+
+    /// The length of the schedule, which the pass has then seen. It waits for nobody.
+    pub fn count(&self, pass: &mut Pass) -> u64
+        requires { IsPassAt self.now pass.old }
+        ensures pass { IsPassAt self.now pass.new }
+        ensures count { result ≡ length (pass_seen pass.new) }
+        ensures seen { IsPrefix (pass_seen pass.old) (pass_seen pass.new) }
+        ensures number { (pass_number pass.new ≡ pass_number pass.old) × (pass_left pass.new ≡ pass_left pass.old) }
+        ensures origin { pass_origin pass.new ≡ pass_origin pass.old }
+        ensures mine { pass_mine pass.new ≡ pass_mine pass.old }
+    {
+        self.lock.count(pass)
+    }
+
+    /// Gives the network and its schedule back, which leads to it from the start of the bench's scenario. The schedule
+    /// begins with all that each pass has seen, each pass's events in it are those that were made under the pass, and it
+    /// has no others.
+    ///
+    /// 43 exactly where the numbers of the passes aren't those of `open`, each once. Then bench and passes come back as
+    /// they were.
+    pub fn close(self, passes: Vec<Pass>) -> Result<Recorded, CloseRefused>
+        requires { All (IsPassAt self) passes.items }
+        ensures when { IsOk result ↔ EachOnce (bench_passes self) (map pass_number passes.items) }
+        ensures legal { IfOk result (λ r. IsLegal r.schedule (bench_start self) r.net.network) }
+        ensures origin { IfOk result (λ r. r.start ≡ bench_start self) }
+        ensures seen { IfOk result (λ r. All (λ p. IsPrefix (pass_seen p) r.schedule) passes.items) }
+        ensures mine { IfOk result (λ r.
+            All (λ p. own_events r.schedule (pass_number p) ≡ pass_mine p) passes.items) }
+        ensures makers { IfOk result (λ r. All (λ e. replica_of e < bench_passes self) r.schedule) }
+        ensures refused { IfErr result (λ r. IsSameBench self r.bench × (r.passes ≡ passes)) }
+    {
+        match self.lock.close(passes) {
+            Ok(recorded) => {
+                // Here it is known what the type keeps.
+                let _ = &recorded.schedule;
+                Ok(recorded)
+            }
+            Err(jc_lock::CloseRefused { lock, passes }) => Err(CloseRefused {
+                bench: Bench { lock },
+                passes,
+            }),
+        }
+    }
+}
