@@ -1,0 +1,4 @@
+pub mod Session
+pub mod Trail
+pub mod Stored
+pub mod Moves

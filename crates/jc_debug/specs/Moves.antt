@@ -1,0 +1,142 @@
+-- How a debugger moves, runs, acts, and gets breakpoints.
+use Rattle.std.specs.Prelude.{◌≡◌, ◌≢◌, ℕ, ◌+◌, ◌<◌, ◌≤◌, List, length, slice_get, Option, Some, None, Result, Ok, Err}
+use Rattle.jc_rules.specs.declared.operation.Event.{Event}
+use Rattle.jc_rules.specs.declared.rule.Rule.{Rule}
+use Rattle.jc_rules.specs.Refused.{Cause}
+use Rattle.jc_rules.specs.State.{State}
+use Rattle.jc_rules.specs.Step.{Step}
+use Rattle.jc_rules.specs.Trace.{Rows}
+use Rattle.jc_network.specs.declared.fault.Stuck.{Stuck}
+use Rattle.jc_network.specs.Makes.{IsStuckFor, stuck_for}
+use Rattle.jc_debug.specs.declared.breaks.Break.{Break}
+use Rattle.jc_debug.specs.declared.breaks.BreakFault.{BreakFault}
+use Rattle.jc_debug.specs.declared.breaks.BreakFault.TheVariants as B
+use Rattle.jc_debug.specs.declared.fault.ActFault.{ActFault}
+use Rattle.jc_debug.specs.declared.fault.ActFault.TheVariants as A
+use Rattle.jc_debug.specs.declared.fault.StepFault.{StepFault}
+use Rattle.jc_debug.specs.declared.fault.StepFault.TheVariants as S
+use Rattle.jc_debug.specs.declared.fault.GotoFault.{GotoFault}
+use Rattle.jc_debug.specs.declared.fault.GotoFault.TheVariants as G
+use Rattle.jc_debug.specs.declared.fault.Halt.{Halt}
+use Rattle.jc_debug.specs.declared.fault.Halt.TheVariants as H
+use Rattle.jc_debug.specs.declared.fault.RunEnd.{RunEnd}
+use Rattle.jc_debug.specs.declared.fault.RunEnd.TheVariants as E
+use Rattle.jc_debug.specs.declared.fault.RunFault.{RunFault}
+use Rattle.jc_debug.specs.declared.fault.RunFault.TheVariants as R
+use Rattle.jc_debug.specs.Session.{IsAt, IsStuckAt, Makes, IsFree, IsLeast, Outcome, breaks, sticks, ends, Runs, acted}
+use Rattle.jc_debug.specs.Trail.{Seen, IsMoved, start_of, session_of, placed_in}
+
+-- ---- moves
+
+-- The event that comes after the first n is stuck, as is told.
+pub record IsToldAt (start : List State) (events : List Event) (n : ℕ) (s : Stuck) : Type 0 where
+  pub why : Cause
+  pub event : Event
+  pub is : s ≡ stuck_for why event
+  pub stuck : IsStuckAt start events n event why
+
+-- A move forward to a position ended at an earlier one.
+pub record StopsAt (old new : Seen) (to n : ℕ) : Type 0 where
+  pub forward : length old.traces ≤ n
+  pub short : n < to
+  pub moved : IsMoved old new n
+
+-- It ended so before an event that is stuck, or for which there was no memory.
+abbrev pub IsHalted : Seen → Seen → ℕ → Halt → Type 0
+IsHalted old new to (H.Stuck s) = (n : ℕ) × StopsAt old new to n × IsToldAt (start_of old) old.schedule n s
+IsHalted old new to H.Memory = (n : ℕ) × StopsAt old new to n
+
+-- Or nothing moved.
+abbrev pub IsStepFault : Seen → Seen → ℕ → StepFault → Type 0
+IsStepFault old new to (S.Stuck s) = IsHalted old new to (H.Stuck s)
+IsStepFault old new to S.Memory = IsHalted old new to H.Memory
+IsStepFault old new to S.AtEnd = new ≡ old
+
+abbrev pub IsGotoFault : Seen → Seen → ℕ → GotoFault → Type 0
+IsGotoFault old new to (G.Stuck s) = IsHalted old new to (H.Stuck s)
+IsGotoFault old new to G.Memory = IsHalted old new to H.Memory
+IsGotoFault old new to G.PastSchedule = new ≡ old
+
+abbrev pub step_fault : Halt → StepFault
+step_fault (H.Stuck s) = S.Stuck s
+step_fault H.Memory = S.Memory
+
+abbrev pub goto_fault : Halt → GotoFault
+goto_fault (H.Stuck s) = G.Stuck s
+goto_fault H.Memory = G.Memory
+
+-- the trace is that of the event which led to the position
+pub record IsTraceOf (d : Seen) (t : Rows) : Type 0 where
+  pub before : ℕ
+  pub event : Event
+  pub position : length d.traces ≡ before + 1
+  pub makes : Makes (start_of d) d.schedule before event t.rows
+
+-- ---- runs
+
+-- the end of a run as it is told; breakpoint j + 1 stands at place j
+abbrev pub IsEnd : RunEnd → Outcome → Type 0
+IsEnd (E.Break k) outcome = (j : ℕ) × (k ≡ j + 1) × (outcome ≡ breaks j)
+IsEnd (E.Stuck s) outcome = (why : Cause) × (event : Event) × (s ≡ stuck_for why event) × (outcome ≡ sticks event why)
+IsEnd E.End outcome = outcome ≡ ends
+
+-- a run that came to its end
+pub record Ran (old new : Seen) (end : RunEnd) : Type 0 where
+  pub position : ℕ
+  pub outcome : Outcome
+  pub is_end : IsEnd end outcome
+  pub moved : IsMoved old new position
+  pub runs : Runs (start_of old) (session_of old) position outcome
+
+-- A run for which there was no memory: no breakpoint named a later position up to where it stopped.
+abbrev pub IsRunFault : Seen → Seen → RunFault → Type 0
+IsRunFault old new R.Memory =
+    (n : ℕ)
+    × StopsAt old new (length old.schedule) n
+    × ((m : ℕ) → length old.traces < m → m ≤ n → IsFree (start_of old) (session_of old) m)
+IsRunFault old new R.AtEnd = new ≡ old
+
+-- ---- events of a caller
+
+-- The event is a step from the network at the position, and the schedule was cut there.
+pub record IsActed (old new : Seen) (event : Event) : Type 0 where
+  pub rows : List (Rule × ℕ)
+  pub is_at : IsAt (start_of old) old.schedule (length old.traces) old.net.network
+  pub step : Step old.net.network event new.net.network rows
+  pub names : new.net.names ≡ old.net.names
+  pub start : start_of new ≡ start_of old
+  pub session : session_of new ≡ acted (session_of old) event
+
+-- It is stuck at the position, as is told.
+pub record IsStuckHere (d : Seen) (event : Event) (s : Stuck) : Type 0 where
+  pub is_at : IsAt (start_of d) d.schedule (length d.traces) d.net.network
+  pub stuck : IsStuckFor d.net.network event s
+
+abbrev pub IsActFault : Seen → Event → ActFault → Type 0
+IsActFault d event (A.Stuck s) = IsStuckHere d event s
+IsActFault d event A.TooManyEvents = length d.traces ≡ 100000
+IsActFault d event A.Memory = Unit {0}
+
+-- ---- breakpoints
+
+-- A breakpoint gets the least free place, if there is one, and its number is one more.
+abbrev pub IsSet : Seen → Seen → Break → Result ℕ BreakFault → Type 0
+IsSet old new b (Ok k) =
+    (j : ℕ)
+    × (k ≡ j + 1)
+    × IsLeast (λ i. slice_get old.breaks i ≡ Some None) j
+    × (new ≡ placed_in old j (Some b))
+IsSet old new b (Err B.TooManyBreaks) = ((j : ℕ) → slice_get old.breaks j ≢ Some None) × (new ≡ old)
+IsSet old new b (Err B.NoSuchReplica) = new ≡ old
+
+-- Breakpoint k was there, and its place is free now.
+pub record IsCleared (old new : Seen) (k : ℕ) : Type 0 where
+  pub place : ℕ
+  pub was : Break
+  pub number : k ≡ place + 1
+  pub is_there : slice_get old.breaks place ≡ Some (Some was)
+  pub is_free : new ≡ placed_in old place None
+
+-- there is no breakpoint k
+abbrev pub IsNoBreak : Seen → ℕ → Type 0
+IsNoBreak d k = (j : ℕ) (b : Break) → k ≡ j + 1 → slice_get d.breaks j ≢ Some (Some b)

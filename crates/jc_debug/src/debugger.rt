@@ -1,0 +1,420 @@
+//! The debugger.
+
+ghost use Rattle.std.specs.Prelude.{◌≡◌, ◌≢◌, ◌+◌, ◌-◌, ◌<◌, ◌≤◌, ◌×◌, ◌↔◌, ℕ, length, slice_get, Some, None, Err, IsTrue, IsFalse, IsOk, IsNone, IfOk, IfErr, IfSome, IfNone, OnOk, OnErr, IsErrOf};
+ghost use Rattle.jc_network.specs.Course.{started};
+ghost use Rattle.jc_scenario.specs.Scenarios.{IsWellFormed};
+ghost use Rattle.jc_scenario.specs.Views.{scenario_view};
+ghost use Rattle.jc_debug.specs.declared.breaks.Break.TheVariants as Kind;
+ghost use Rattle.jc_debug.specs.declared.breaks.BreakFault.TheVariants as B;
+ghost use Rattle.jc_debug.specs.declared.fault.ActFault.TheVariants as A;
+ghost use Rattle.jc_debug.specs.declared.fault.GotoFault.TheVariants as G;
+ghost use Rattle.jc_debug.specs.declared.fault.RunFault.TheVariants as R;
+ghost use Rattle.jc_debug.specs.declared.fault.StepFault.TheVariants as S;
+ghost use Rattle.jc_debug.specs.Moves.{IsHalted, IsStepFault, IsGotoFault, IsTraceOf, Ran, IsRunFault, IsActed, IsActFault, IsSet, IsCleared, IsNoBreak};
+ghost use Rattle.jc_debug.specs.Session.{IsAt, Names, NamesAt, IsFree, IsLeast, HasRule, begun};
+ghost use Rattle.jc_debug.specs.Trail.{IsOnTrail, IsMoved, start_of, session_of, placed_in};
+
+use crate::breaks::{Break, BreakFault};
+use crate::fault::{ActFault, GotoFault, Halt, RunEnd, RunFault, StepFault};
+use jc_network::{Net, StepFault as NetFault};
+use jc_rules::{Event, Rule, Trace};
+use jc_scenario::Scenario;
+use std::alloc::{AllocError, Global};
+use std::marker::Model;
+
+/// A network that goes along a schedule, forwards and backwards. It is seen as its networks at the positions up to the
+/// one where it is, the schedule, the traces of the events that were made, and the breakpoints.
+#[derive(Drop)]
+pub struct Debugger {
+    net: Net,
+    schedule: Vec<Event>,
+    /// The trace of each event up to the position. A step that is taken back can't be made again without memory, so
+    /// each is kept.
+    traces: Vec<Trace>,
+    /// Breakpoint j + 1 stands at place j.
+    breaks: [Option<Break>; 256],
+}
+
+impl Model for Debugger {
+    ghost use Rattle.jc_debug.specs.Trail.{Seen, IsOnTrail};
+    ghost use Rattle.jc_debug.specs.Stored.{seen_code};
+
+    ghost Value = { Seen };
+
+    ghost coded = { seen_code };
+
+    ghost view = { λ a. record { net = a.net; schedule = a.schedule.items; traces = a.traces.items; breaks = a.breaks } };
+
+    ghost invariant = { λ a. IsOnTrail
+        (record { net = a.net; schedule = a.schedule.items; traces = a.traces.items; breaks = a.breaks }) };
+}
+
+impl Debugger {
+    /// A debugger at the start of the scenario, without breakpoints.
+    pub fn new(alloc: Global, scenario: Scenario) -> Result<Self, AllocError>
+        requires { IsWellFormed (scenario_view scenario) }
+        ensures net { IfOk result (λ debugger. debugger.net ≡ started (scenario_view scenario)) }
+        ensures session { IfOk result (λ debugger. session_of debugger ≡ begun scenario.schedule.items) }
+    {
+        let net = Net::start(alloc, &scenario)?;
+        Ok(Debugger {
+            net,
+            schedule: scenario.schedule,
+            traces: Vec::new(alloc),
+            breaks: [None; 256],
+        })
+    }
+
+    // ---- what is shown
+
+    /// How many events led from the start to the network.
+    pub fn position(&self) -> u64
+        ensures position { result ≡ length self.now.traces }
+        ensures trail { IsOnTrail self.now }
+    {
+        self.traces.len() as u64
+    }
+
+    /// The events, those before the position first.
+    pub fn schedule(&self) -> &[Event]
+        ensures { result.now ≡ self.now.schedule }
+    {
+        self.schedule.as_slice()
+    }
+
+    /// The network to which the events before the position lead from the start.
+    pub fn net(&self) -> &Net
+        ensures net { result.now ≡ self.now.net }
+        ensures is_at { IsAt (start_of self.now) self.now.schedule (length self.now.traces) result.now.network }
+    {
+        &self.net
+    }
+
+    /// The trace of the event that led to the position. At the start there is none.
+    pub fn trace(&self) -> Option<&Trace>
+        ensures trace { IfSome result (λ trace. IsTraceOf self.now trace.now) }
+        ensures start { IsNone result ↔ (length self.now.traces ≡ 0) }
+    {
+        self.traces.last()
+    }
+
+    // ---- moves
+
+    /// Makes n events. It is refused with `AtEnd` where the schedule has fewer left, and then nothing moves. Else it
+    /// stays before the event that is stuck, or for which there was no memory.
+    pub fn step(&mut self, n: u64) -> Result<(), StepFault>
+        ensures ok { OnOk result (IsMoved self.old self.new (length self.old.traces + n)) }
+        ensures end { IsErrOf result S.AtEnd ↔ (length self.old.schedule < length self.old.traces + n) }
+        ensures err { IfErr result (IsStepFault self.old self.new (length self.old.traces + n)) }
+    {
+        if n > self.events() - self.position() {
+            return Err(StepFault::AtEnd);
+        }
+        match self.advance(n) {
+            Ok(()) => Ok(()),
+            Err(halt) => Err(StepFault::from(halt)),
+        }
+    }
+
+    /// Takes n events back, and says whether so many were made. Else nothing moves. It takes no memory.
+    pub fn back(&mut self, n: u64) -> bool
+        ensures back { IsTrue result → IsMoved self.old self.new (length self.old.traces - n) }
+        ensures start { IsFalse result ↔ (length self.old.traces < n) }
+        ensures kept { IsFalse result → self.new ≡ self.old }
+    {
+        if n > self.position() {
+            return false;
+        }
+        'events: for _ in 0..n {
+            self.backward();
+        }
+        true
+    }
+
+    /// Goes to position n. It is refused with `PastSchedule` where the schedule is shorter, and then nothing moves. On
+    /// the way forward it stays before the event that is stuck, or for which there was no memory. The way back takes no
+    /// memory, and nothing is refused on it.
+    pub fn goto(&mut self, n: u64) -> Result<(), GotoFault>
+        ensures ok { OnOk result (IsMoved self.old self.new n) }
+        ensures past { IsErrOf result G.PastSchedule ↔ (length self.old.schedule < n) }
+        ensures err { IfErr result (IsGotoFault self.old self.new n) }
+        ensures back { n ≤ length self.old.traces → IsOk result }
+    {
+        if n > self.events() {
+            return Err(GotoFault::PastSchedule);
+        }
+        let here = self.position();
+        if n <= here {
+            let _ = self.back(here - n);
+            return Ok(());
+        }
+        match self.advance(n - here) {
+            Ok(()) => Ok(()),
+            Err(halt) => Err(GotoFault::from(halt)),
+        }
+    }
+
+    /// Makes events up to the first of: a later position that a breakpoint names, an event that is stuck, the
+    /// schedule's end. It is refused with `AtEnd` where it is there already. Where there was no memory it stays before
+    /// the event that wasn't made.
+    pub fn run(&mut self) -> Result<RunEnd, RunFault>
+        ensures ok { IfOk result (Ran self.old self.new) }
+        ensures end { IsErrOf result R.AtEnd ↔ (length self.old.traces ≡ length self.old.schedule) }
+        ensures err { IfErr result (IsRunFault self.old self.new) }
+    {
+        let here = self.position();
+        let end = self.events();
+        if here == end {
+            return Err(RunFault::AtEnd);
+        }
+        'events: for _ in here..end {
+            match self.forward() {
+                Ok(()) => {}
+                Err(Halt::Stuck(stuck)) => return Ok(RunEnd::Stuck(stuck)),
+                Err(Halt::Memory) => return Err(RunFault::Memory),
+            }
+            if let Some(j) = self.named() {
+                return Ok(RunEnd::Break(j as u16 + 1));
+            }
+        }
+        Ok(RunEnd::End)
+    }
+
+    /// Makes another event: the schedule is cut at the position, and the event comes behind it. It is refused with
+    /// `TooManyEvents` at position 100,000, else where the event is stuck. After a refusal all is as it was.
+    pub fn act(&mut self, event: &Event) -> Result<(), ActFault>
+        ensures ok { OnOk result (IsActed self.old self.new event.now) }
+        ensures full { IsErrOf result A.TooManyEvents ↔ (length self.old.traces ≡ 100000) }
+        ensures stuck { IfErr result (IsActFault self.old event.now) }
+        ensures kept { OnErr result (self.new ≡ self.old) }
+    {
+        let here = self.traces.len();
+        if here >= 100_000 {
+            return Err(ActFault::TooManyEvents);
+        }
+        if self.traces.reserve(1).is_err() || self.schedule.reserve(1).is_err() {
+            return Err(ActFault::Memory);
+        }
+        let trace = match self.net.step(event) {
+            Ok(trace) => trace,
+            Err(NetFault::Full) => unreachable!(),
+            Err(NetFault::Stuck(stuck)) => return Err(ActFault::Stuck(stuck)),
+            Err(NetFault::Memory) => return Err(ActFault::Memory),
+        };
+        self.traces.push(trace).unwrap();
+        self.schedule.truncate(here);
+        self.schedule.push(*event).unwrap();
+        Ok(())
+    }
+
+    // ---- breakpoints
+
+    /// A breakpoint that names position n. It gets the least number from 1 to 256 that is free, and is refused where
+    /// none is. It takes no memory, as the next two don't.
+    pub fn break_at(&mut self, n: u64) -> Result<u16, BreakFault>
+        ensures set { IsSet self.old self.new (Kind.Position n) result }
+        ensures kind { result ≢ Err B.NoSuchReplica }
+    {
+        self.set(Break::Position(n))
+    }
+
+    /// A breakpoint that names each position whose event used the rule.
+    pub fn break_rule(&mut self, rule: Rule) -> Result<u16, BreakFault>
+        ensures set { IsSet self.old self.new (Kind.Rule rule) result }
+        ensures kind { result ≢ Err B.NoSuchReplica }
+    {
+        self.set(Break::Rule(rule))
+    }
+
+    /// A breakpoint that names each position whose event is of the replica. That there is no such replica is the
+    /// first refusal.
+    pub fn break_replica(&mut self, p: u16) -> Result<u16, BreakFault>
+        ensures set { IsSet self.old self.new (Kind.Replica p) result }
+        ensures missing { IsErrOf result B.NoSuchReplica ↔ (length self.old.net.names ≤ p) }
+    {
+        if self.replicas() <= p as usize {
+            return Err(BreakFault::NoSuchReplica);
+        }
+        self.set(Break::Replica(p))
+    }
+
+    /// Takes breakpoint k away, and says whether there was one. It takes no memory.
+    pub fn unbreak(&mut self, k: u64) -> bool
+        ensures cleared { IsTrue result → IsCleared self.old self.new k }
+        ensures none { IsFalse result → IsNoBreak self.old k × (self.new ≡ self.old) }
+    {
+        let _ = self.position();
+        if k == 0 || k > 256 {
+            return false;
+        }
+        let j = k as usize - 1;
+        if self.place(j).is_none() {
+            return false;
+        }
+        self.put(j, None);
+        true
+    }
+}
+
+// Parts of the calls.
+impl Debugger {
+    /// How many events the schedule has.
+    fn events(&self) -> u64
+        ensures { result ≡ length self.now.schedule }
+    {
+        self.schedule.len() as u64
+    }
+
+    /// Makes the next event. After a refusal all is as it was.
+    fn forward(&mut self) -> Result<(), Halt>
+        requires more { length self.old.traces < length self.old.schedule }
+        ensures ok { OnOk result (IsMoved self.old self.new (length self.old.traces + 1)) }
+        ensures err { IfErr result (IsHalted self.old self.new (length self.old.traces + 1)) }
+        ensures kept { OnErr result (self.new ≡ self.old) }
+    {
+        if self.traces.reserve(1).is_err() {
+            return Err(Halt::Memory);
+        }
+        let event = self.schedule[self.traces.len()];
+        let trace = match self.net.step(&event) {
+            Ok(trace) => trace,
+            Err(NetFault::Full) => unreachable!(),
+            Err(NetFault::Stuck(stuck)) => return Err(Halt::Stuck(stuck)),
+            Err(NetFault::Memory) => return Err(Halt::Memory),
+        };
+        self.traces.push(trace).unwrap();
+        Ok(())
+    }
+
+    /// Makes the next n events, up to the one that is stuck or for which there was no memory.
+    fn advance(&mut self, n: u64) -> Result<(), Halt>
+        requires { length self.old.traces + n ≤ length self.old.schedule }
+        ensures ok { OnOk result (IsMoved self.old self.new (length self.old.traces + n)) }
+        ensures err { IfErr result (IsHalted self.old self.new (length self.old.traces + n)) }
+    {
+        'events: for _ in 0..n {
+            match self.forward() {
+                Ok(()) => {}
+                Err(halt) => return Err(halt),
+            }
+        }
+        Ok(())
+    }
+
+    /// Takes the last event back. It takes no memory.
+    fn backward(&mut self)
+        requires { 0 < length self.old.traces }
+        ensures { IsMoved self.old self.new (length self.old.traces - 1) }
+    {
+        let _ = self.net.undo();
+        let _ = self.traces.pop();
+    }
+
+    /// The least place of a breakpoint that names the position.
+    fn named(&self) -> Option<usize>
+        ensures some { IfSome result (λ j.
+            (j < 256)
+            × IsLeast (NamesAt (start_of self.now) (session_of self.now) (length self.now.traces)) j) }
+        ensures none { IfNone result (IsFree (start_of self.now) (session_of self.now) (length self.now.traces)) }
+        ensures trail { IsOnTrail self.now }
+    {
+        let _ = self.position();
+        'places: for j in 0..256 {
+            if let Some(b) = self.place(j) {
+                if self.names(b) {
+                    return Some(j);
+                }
+            }
+        }
+        None
+    }
+
+    /// Says whether the breakpoint names the position.
+    fn names(&self, b: Break) -> bool
+        ensures { IsTrue result ↔ Names (start_of self.now) self.now.schedule b (length self.now.traces) }
+    {
+        match b {
+            Break::Position(n) => n == self.position(),
+            Break::Rule(rule) => match self.trace() {
+                Some(trace) => has_rule(trace.rows(), rule),
+                None => false,
+            },
+            Break::Replica(p) => self.is_last_of(p),
+        }
+    }
+
+    /// Says whether the event that led to the position is of the replica.
+    fn is_last_of(&self, p: u16) -> bool
+        ensures { IsTrue result
+            ↔ Names (start_of self.now) self.now.schedule (Kind.Replica p) (length self.now.traces) }
+    {
+        let here = self.traces.len();
+        if here == 0 {
+            return false;
+        }
+        self.schedule[here - 1].replica() == p
+    }
+
+    /// The breakpoint at the place.
+    fn place(&self, j: usize) -> Option<Break>
+        requires { j < 256 }
+        ensures { slice_get self.now.breaks j ≡ Some result }
+    {
+        self.breaks[j]
+    }
+
+    /// The least place without a breakpoint.
+    fn free(&self) -> Option<usize>
+        ensures some { IfSome result (λ j. (j < 256) × IsLeast (λ i. slice_get self.now.breaks i ≡ Some None) j) }
+        ensures none { IfNone result ((j : ℕ) → slice_get self.now.breaks j ≢ Some None) }
+    {
+        let _ = self.position();
+        'places: for j in 0..256 {
+            if self.place(j).is_none() {
+                return Some(j);
+            }
+        }
+        None
+    }
+
+    /// Puts a breakpoint, or none, at the place.
+    fn put(&mut self, j: usize, b: Option<Break>)
+        requires { j < 256 }
+        ensures { self.new ≡ placed_in self.old j b }
+    {
+        self.breaks[j] = b;
+    }
+
+    /// Puts a breakpoint at the least free place, and gives its number.
+    fn set(&mut self, b: Break) -> Result<u16, BreakFault>
+        ensures set { IsSet self.old self.new b result }
+        ensures kind { result ≢ Err B.NoSuchReplica }
+    {
+        match self.free() {
+            Some(j) => {
+                self.put(j, Some(b));
+                Ok(j as u16 + 1)
+            }
+            None => Err(BreakFault::TooManyBreaks),
+        }
+    }
+
+    /// How many replicas the network has.
+    fn replicas(&self) -> usize
+        ensures { result ≡ length self.now.net.names }
+    {
+        self.net.names().len()
+    }
+}
+
+/// Says whether a row of the trace has the rule.
+fn has_rule(rows: &[(Rule, u64)], rule: Rule) -> bool
+    ensures { IsTrue result ↔ HasRule rows.now rule }
+{
+    'rows: for i in 0..rows.len() {
+        if rows[i].0 == rule {
+            return true;
+        }
+    }
+    false
+}

@@ -1,0 +1,91 @@
+//! How moves of a debugger end.
+
+use jc_network::Stuck;
+
+/// Why the next event wasn't made.
+#[derive(Drop)]
+pub(crate) enum Halt {
+    Stuck(Stuck),
+    Memory,
+}
+
+/// Why not all events were made that were asked for.
+#[derive(Drop)]
+pub enum StepFault {
+    /// The schedule has fewer events left. Nothing moved.
+    AtEnd,
+    /// The next event can't be made.
+    Stuck(Stuck),
+    /// There was no memory for the next event.
+    Memory,
+}
+
+impl From<Halt> for StepFault {
+    ghost use Rattle.std.specs.Prelude.{◌≡◌};
+    ghost use Rattle.jc_debug.specs.Moves.{step_fault};
+
+    ghost from_gives = { λ halt fault. fault ≡ step_fault halt };
+
+    fn from(halt: Halt) -> Self {
+        match halt {
+            Halt::Stuck(stuck) => StepFault::Stuck(stuck),
+            Halt::Memory => StepFault::Memory,
+        }
+    }
+}
+
+/// Why a position wasn't come to.
+#[derive(Drop)]
+pub enum GotoFault {
+    /// The schedule is shorter. Nothing moved.
+    PastSchedule,
+    /// The next event can't be made.
+    Stuck(Stuck),
+    /// There was no memory for the next event.
+    Memory,
+}
+
+impl From<Halt> for GotoFault {
+    ghost use Rattle.std.specs.Prelude.{◌≡◌};
+    ghost use Rattle.jc_debug.specs.Moves.{goto_fault};
+
+    ghost from_gives = { λ halt fault. fault ≡ goto_fault halt };
+
+    fn from(halt: Halt) -> Self {
+        match halt {
+            Halt::Stuck(stuck) => GotoFault::Stuck(stuck),
+            Halt::Memory => GotoFault::Memory,
+        }
+    }
+}
+
+/// How a run ended.
+#[derive(Drop)]
+pub enum RunEnd {
+    /// At a position that breakpoint k names, and none with a smaller number.
+    Break(u16),
+    /// Before an event that can't be made.
+    Stuck(Stuck),
+    /// At the schedule's end.
+    End,
+}
+
+/// Why a run didn't end so.
+#[derive(Clone, Copy)]
+pub enum RunFault {
+    /// No event was left. Nothing moved.
+    AtEnd,
+    /// There was no memory for the next event.
+    Memory,
+}
+
+/// Why an event of the caller's wasn't made. Nothing moved, and the schedule wasn't cut.
+#[derive(Drop)]
+pub enum ActFault {
+    /// The position is 100,000.
+    TooManyEvents,
+    /// The event can't be made.
+    Stuck(Stuck),
+    /// There was no memory.
+    Memory,
+}

@@ -1,0 +1,10 @@
+//! A debugger that goes forwards and backwards along a schedule.
+#![tactic(auto)]
+
+mod breaks;
+mod debugger;
+mod fault;
+
+pub use breaks::{Break, BreakFault};
+pub use debugger::Debugger;
+pub use fault::{ActFault, GotoFault, RunEnd, RunFault, StepFault};
