@@ -1,5 +1,5 @@
 -- The lines of what a session is given.
-use Rattle.std.specs.Prelude.{◌≡◌, ◌≢◌, ℕ, ◌-◌, ◌≤◌, nat_le, ◌==◌, List, [], ◌∷◌, ◌++◌, length, take, map, flat_map, slice_index, Option, Some, None, if◌then◌else◌}
+use Rattle.std.specs.Prelude.{◌≡◌, ◌≢◌, ℕ, ◌-◌, nat_le, ◌==◌, List, [], ◌∷◌, ◌++◌, length, take, flat_map, slice_index, Option, Some, None, if◌then◌else◌}
 use Rattle.std.specs.List.{AllByRecursion}
 
 -- what a line is judged by: its bytes, or nothing where it is too long

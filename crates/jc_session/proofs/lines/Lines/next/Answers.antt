@@ -1,8 +1,5 @@
-use Rattle.std.proofs.Common.{◌≡◌, ◌≢◌, ℕ, ◌+◌, ◌<◌, ◌≤◌, List, [], ◌∷◌, ◌++◌, length, Option, Some, None, Ok, inl, inr, ap, sym, subst, refl, ◌∙◌, arith, append-nil}
-use Rattle.std.specs.Io.KnownBytes.{Consumes, IsAtEnd, prepend_known}
+use Rattle.std.proofs.Common.{[], ◌∷◌, Ok, inl, inr, ap, arith}
 use Rattle.std.proofs.KnownBytes.{Consumes-trans}
-use Rattle.jc_rules.proofs.Fronts.{OnErr-of}
-use Rattle.jc_session.specs.Reads.{Reading}
 use Rattle.jc_session.proofs.Readings.{reads_more, some_read, stops_err, to_lf, to_end}
 use Rattle.jc_session.proofs.lines.Lines.next.Goals as goal
 
