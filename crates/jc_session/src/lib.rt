@@ -4,3 +4,4 @@
 mod ahead;
 mod line;
 mod lines;
+mod request;
