@@ -41,6 +41,11 @@ pub record StopsAt (old new : Seen) (to n : ℕ) : Type 0 where
   pub short : n < to
   pub moved : IsMoved old new n
 
+-- Why the event at the position wasn't made.
+abbrev pub IsNextHalted : Seen → Halt → Type 0
+IsNextHalted d (H.Stuck s) = IsToldAt (start_of d) d.schedule (length d.traces) s
+IsNextHalted d H.Memory = Unit {0}
+
 -- It ended so before an event that is stuck, or for which there was no memory.
 abbrev pub IsHalted : Seen → Seen → ℕ → Halt → Type 0
 IsHalted old new to (H.Stuck s) = (n : ℕ) × StopsAt old new to n × IsToldAt (start_of old) old.schedule n s

@@ -1,6 +1,6 @@
 //! The debugger.
 
-ghost use Rattle.std.specs.Prelude.{◌≡◌, ◌≢◌, ◌+◌, ◌-◌, ◌<◌, ◌≤◌, ◌×◌, ◌↔◌, ℕ, length, slice_get, Some, None, Err, IsTrue, IsFalse, IsOk, IsNone, IfOk, IfErr, IfSome, IfNone, OnOk, OnErr, IsErrOf};
+ghost use Rattle.std.specs.Prelude.{◌≡◌, ◌≢◌, ◌+◌, ◌-◌, ◌<◌, ◌≤◌, ◌↔◌, ℕ, length, slice_get, Some, None, Err, IsTrue, IsFalse, IsOk, IsNone, IfOk, IfErr, IfSome, IfNone, OnOk, OnErr, IsErrOf};
 ghost use Rattle.jc_network.specs.Course.{started};
 ghost use Rattle.jc_scenario.specs.Scenarios.{IsWellFormed};
 ghost use Rattle.jc_scenario.specs.Views.{scenario_view};
@@ -10,7 +10,7 @@ ghost use Rattle.jc_debug.specs.declared.fault.ActFault.TheVariants as A;
 ghost use Rattle.jc_debug.specs.declared.fault.GotoFault.TheVariants as G;
 ghost use Rattle.jc_debug.specs.declared.fault.RunFault.TheVariants as R;
 ghost use Rattle.jc_debug.specs.declared.fault.StepFault.TheVariants as S;
-ghost use Rattle.jc_debug.specs.Moves.{IsHalted, IsStepFault, IsGotoFault, IsTraceOf, Ran, IsRunFault, IsActed, IsActFault, IsSet, IsCleared, IsNoBreak};
+ghost use Rattle.jc_debug.specs.Moves.{IsNextHalted, IsHalted, IsStepFault, IsGotoFault, IsTraceOf, Ran, IsRunFault, IsActed, IsActFault, IsSet, IsCleared, IsNoBreak};
 ghost use Rattle.jc_debug.specs.Session.{IsAt, Names, NamesAt, IsFree, IsLeast, HasRule, begun};
 ghost use Rattle.jc_debug.specs.Trail.{IsOnTrail, IsMoved, start_of, session_of, placed_in};
 
@@ -125,7 +125,7 @@ impl Debugger {
         if n > self.position() {
             return false;
         }
-        'events: for _ in 0..n {
+        for _taken in 0..n {
             self.backward();
         }
         true
@@ -167,7 +167,7 @@ impl Debugger {
         if here == end {
             return Err(RunFault::AtEnd);
         }
-        'events: for _ in here..end {
+        for _position in here..end {
             match self.forward() {
                 Ok(()) => {}
                 Err(Halt::Stuck(stuck)) => return Ok(RunEnd::Stuck(stuck)),
@@ -269,7 +269,7 @@ impl Debugger {
     fn forward(&mut self) -> Result<(), Halt>
         requires more { length self.old.traces < length self.old.schedule }
         ensures ok { OnOk result (IsMoved self.old self.new (length self.old.traces + 1)) }
-        ensures err { IfErr result (IsHalted self.old self.new (length self.old.traces + 1)) }
+        ensures err { IfErr result (IsNextHalted self.old) }
         ensures kept { OnErr result (self.new ≡ self.old) }
     {
         if self.traces.reserve(1).is_err() {
@@ -292,7 +292,7 @@ impl Debugger {
         ensures ok { OnOk result (IsMoved self.old self.new (length self.old.traces + n)) }
         ensures err { IfErr result (IsHalted self.old self.new (length self.old.traces + n)) }
     {
-        'events: for _ in 0..n {
+        for _made in 0..n {
             match self.forward() {
                 Ok(()) => {}
                 Err(halt) => return Err(halt),
@@ -319,7 +319,7 @@ impl Debugger {
         ensures trail { IsOnTrail self.now }
     {
         let _ = self.position();
-        'places: for j in 0..256 {
+        for j in 0..256 {
             if let Some(b) = self.place(j) {
                 if self.names(b) {
                     return Some(j);
@@ -369,7 +369,7 @@ impl Debugger {
         ensures none { IfNone result ((j : ℕ) → slice_get self.now.breaks j ≢ Some None) }
     {
         let _ = self.position();
-        'places: for j in 0..256 {
+        for j in 0..256 {
             if self.place(j).is_none() {
                 return Some(j);
             }
@@ -411,8 +411,8 @@ impl Debugger {
 fn has_rule(rows: &[(Rule, u64)], rule: Rule) -> bool
     ensures { IsTrue result ↔ HasRule rows.now rule }
 {
-    'rows: for i in 0..rows.len() {
-        if rows[i].0 == rule {
+    for row in rows {
+        if row.0 == rule {
             return true;
         }
     }

@@ -4,6 +4,7 @@
 mod breaks;
 mod debugger;
 mod fault;
+pub mod laws;
 
 pub use breaks::{Break, BreakFault};
 pub use debugger::Debugger;

@@ -1,0 +1,5 @@
+use Rattle.jc_debug.proofs.Unique.{one_goes}
+use Rattle.jc_debug.proofs.laws.one_move.Goals as goal
+
+pub returns : goal.returns
+returns c = one_goes

@@ -1,0 +1,50 @@
+-- What a session shows is determined: each question about a schedule has one answer at most.
+use Rattle.std.specs.Prelude.{◌≡◌, ℕ, List, Option}
+use Rattle.jc_rules.specs.declared.operation.Event.{Event}
+use Rattle.jc_rules.specs.declared.rule.Rule.{Rule}
+use Rattle.jc_rules.specs.Refused.{Cause}
+use Rattle.jc_rules.specs.State.{State}
+use Rattle.jc_debug.specs.Session.{Session, IsAt, Makes, IsStuckAt, StuckEvent, Goes, Outcome, Runs}
+
+-- One network stands at a position.
+abbrev pub OneNetwork : Type 0
+OneNetwork =
+    (start : List State) (events : List Event) (n : ℕ) (network other : List State)
+    → IsAt start events n network
+    → IsAt start events n other
+    → network ≡ other
+
+-- One event leads to it, by one trace.
+abbrev pub OneTrace : Type 0
+OneTrace =
+    (start : List State) (events : List Event) (n : ℕ) (event other : Event) (rows other_rows : List (Rule × ℕ))
+    → Makes start events n event rows
+    → Makes start events n other other_rows
+    → (event ≡ other)
+    × (rows ≡ other_rows)
+
+-- One event is stuck there, for one cause, and then none leads on.
+abbrev pub OneStuckEvent : Type 0
+OneStuckEvent =
+    (start : List State) (events : List Event) (n : ℕ) (event other : Event) (why : Cause)
+    → IsStuckAt start events n event why
+    → ((due : Cause) → IsStuckAt start events n other due → (event ≡ other) × (why ≡ due))
+    × ((rows : List (Rule × ℕ)) → Makes start events n other rows → ⊥)
+
+-- A move forward comes to one position, and ends in one way.
+abbrev pub OneMove : Type 0
+OneMove =
+    (start : List State) (events : List Event) (from to n m : ℕ) (end other : Option StuckEvent)
+    → Goes start events from to n end
+    → Goes start events from to m other
+    → (n ≡ m)
+    × (end ≡ other)
+
+-- So does a run.
+abbrev pub OneRun : Type 0
+OneRun =
+    (start : List State) (A : Session) (n m : ℕ) (outcome other : Outcome)
+    → Runs start A n outcome
+    → Runs start A m other
+    → (n ≡ m)
+    × (outcome ≡ other)
