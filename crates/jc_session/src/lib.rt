@@ -2,6 +2,11 @@
 #![tactic(auto)]
 
 mod ahead;
+mod answers;
 mod line;
 mod lines;
 mod request;
+mod sessions;
+mod texts;
+
+pub use sessions::{SessionEnd, SessionFault, session};
