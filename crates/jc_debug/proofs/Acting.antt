@@ -1,5 +1,5 @@
 -- Events that a caller has made.
-use Rattle.std.proofs.Common.{◌≡◌, ℕ, zero, suc, ◌+◌, ◌<◌, ◌≤◌, List, [], ◌∷◌, ◌++◌, length, take, slice_get, Option, Some, refl, ap, subst, ◌∙◌, arith, length-append}
+use Rattle.std.proofs.Common.{◌≡◌, ℕ, zero, suc, ◌+◌, ◌<◌, ◌≤◌, List, [], ◌∷◌, ◌++◌, length, take, slice_get, Option, Some, refl, ap, ◌∙◌, arith, length-append}
 use Rattle.jc_rules.specs.declared.operation.Event.{Event}
 use Rattle.jc_rules.specs.Trace.{Rows}
 use Rattle.jc_network.specs.declared.fault.Stuck.{Stuck}

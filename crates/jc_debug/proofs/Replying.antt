@@ -1,5 +1,5 @@
 -- What the contracts of a debugger's calls say of the session that is seen in it.
-use Rattle.std.proofs.Common.{◌≡◌, ℕ, ◌≤◌, List, [], length, Option, Some, None, ap, refl}
+use Rattle.std.proofs.Common.{◌≡◌, ℕ, [], length, Option, Some, None, ap, refl}
 use Rattle.jc_rules.specs.declared.operation.Event.{Event}
 use Rattle.jc_rules.specs.Refused.{Cause}
 use Rattle.jc_network.specs.declared.fault.Stuck.{Stuck}
@@ -10,8 +10,8 @@ use Rattle.jc_scenario.specs.Scenarios.{Scenario}
 use Rattle.jc_debug.specs.declared.breaks.Break.{Break}
 use Rattle.jc_debug.specs.declared.fault.Halt.TheVariants as H
 use Rattle.jc_debug.specs.Moves.{IsHalted}
-use Rattle.jc_debug.specs.Session.{Session, Goes, arrives, stops, moved, placed}
-use Rattle.jc_debug.specs.Trail.{Seen, networks_of, start_of, session_of, IsOnTrail, IsMoved, placed_in}
+use Rattle.jc_debug.specs.Session.{Goes, arrives, stops, moved, placed}
+use Rattle.jc_debug.specs.Trail.{Seen, start_of, session_of, IsOnTrail, IsMoved, placed_in}
 use Rattle.jc_debug.proofs.Trails.{at_old}
 
 -- a new debugger is at the scenario's start

@@ -1,6 +1,5 @@
 -- Runs.
-use Rattle.std.proofs.Common.{◌≡◌, ℕ, ◌+◌, ◌<◌, ◌≤◌, List, length, Option, refl, sym, subst, arith, below_more}
-use Rattle.jc_rules.specs.State.{State}
+use Rattle.std.proofs.Common.{◌≡◌, ℕ, ◌+◌, ◌<◌, ◌≤◌, length, refl, sym, subst, arith, below_more}
 use Rattle.jc_network.specs.declared.fault.Stuck.{Stuck}
 use Rattle.jc_debug.specs.declared.fault.Halt.TheVariants as H
 use Rattle.jc_debug.specs.declared.fault.RunEnd.TheVariants as E

@@ -140,10 +140,10 @@ impl Debugger {
         ensures err { IfErr result (IsGotoFault self.old self.new n) }
         ensures back { n ≤ length self.old.traces → IsOk result }
     {
+        let here = self.position();
         if n > self.events() {
             return Err(GotoFault::PastSchedule);
         }
-        let here = self.position();
         if n <= here {
             let _ = self.back(here - n);
             return Ok(());

@@ -1,0 +1,14 @@
+use Rattle.std.proofs.Common.{◌↔◌, ℕ, List, length, IsTrue, subst}
+use Rattle.jc_rules.specs.declared.rule.Rule.{Rule}
+use Rattle.jc_debug.specs.declared.breaks.Break.TheVariants as Kind
+use Rattle.jc_debug.specs.Session.{HasRule}
+use Rattle.jc_debug.specs.Trail.{start_of}
+use Rattle.jc_debug.proofs.Naming.{as_break, both_ways, rule_named}
+use Rattle.jc_debug.proofs.debugger.Debugger.names.Goals as goal
+
+pub returns-in-Some : goal.returns-in-Some
+returns-in-Some c =
+    let d = c.args.self.now in
+    let named = rule_named d c.in-Some.trace.now c.in-Rule.rule c.in-Some.ensures.trace in
+    let has = subst (λ (rows : List (Rule × ℕ)). IsTrue c.has_rule.result ↔ HasRule rows c.in-Rule.rule) c.rows.ensures c.has_rule.ensures in
+    as_break (start_of d) d.schedule (length d.traces) c.args.b (Kind.Rule c.in-Rule.rule) c.has_rule.result c.in-Rule.is (both_ways has named)
