@@ -4,3 +4,7 @@ pub mod Words
 pub mod Due
 pub mod Naming
 pub mod Talking
+pub mod Listing
+pub mod Replying
+pub mod Spelling
+pub mod Begun

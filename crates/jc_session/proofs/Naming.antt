@@ -16,7 +16,7 @@ use Rattle.jc_network.proofs.Starting.{start_well, after_well}
 use Rattle.jc_debug.specs.Session.{Session}
 use Rattle.jc_session.specs.Lines.{Line}
 use Rattle.jc_session.specs.Requests.{Request}
-use Rattle.jc_session.specs.Answers as A
+use Rattle.jc_session.specs.Answers as N
 use Rattle.jc_session.specs.Answers.{Origin, Replies, Acts, Sets, Answer}
 
 -- ---- events that can be made
@@ -50,44 +50,44 @@ enabled_named N events n same r h =
 
 -- an answer leaves each event of the schedule named
 acts_named : (O : Origin) (A B : Session) (e : Event) (text : List ℕ) → AreNamed e (length O.names) → Acts O A e B text → All (λ x. AreNamed x (length O.names)) A.schedule → All (λ x. AreNamed x (length O.names)) B.schedule
-acts_named O A B e text named (A.full is) h = h
-acts_named O A B e text named (A.stuck why network lt is stuck) h = h
-acts_named O A B e text named (A.made network new rows lt is step) h =
+acts_named O A B e text named (N.full is) h = h
+acts_named O A B e text named (N.stuck why network lt is stuck) h = h
+acts_named O A B e text named (N.made network new rows lt is step) h =
     let P : Event → Type 0 = λ x. AreNamed x (length O.names) in
     All-append P (take A.position A.schedule) (e ∷ []) (All-take P A.position A.schedule h) (All-cons P e [] named (All-nil P))
 
 sets_named : (n : ℕ) (A B : Session) (b : _) (text : List ℕ) → Sets A b B text → All (λ x. AreNamed x n) A.schedule → All (λ x. AreNamed x n) B.schedule
-sets_named n A B b text (A.set least) h = h
-sets_named n A B b text (A.none_free none) h = h
+sets_named n A B b text (N.set least) h = h
+sets_named n A B b text (N.none_free none) h = h
 
 replies_named : (O : Origin) (A B : Session) (request : Request) (text : List ℕ) → Replies O A request B text → All (λ x. AreNamed x (length O.names)) A.schedule → All (λ x. AreNamed x (length O.names)) B.schedule
-replies_named O A B request text (A.steps le goes) h = h
-replies_named O A B request text (A.steps_past lt) h = h
-replies_named O A B request text (A.goes_back le) h = h
-replies_named O A B request text (A.back_past lt) h = h
-replies_named O A B request text (A.goes_to le goes) h = h
-replies_named O A B request text (A.goes_past lt) h = h
-replies_named O A B request text (A.acts event spelled acts) h = acts_named O A B event text spelled.resolved.known acts h
-replies_named O A B request text (A.acts_misspelled m) h = h
-replies_named O A B request text (A.runs lt runs) h = h
-replies_named O A B request text (A.runs_past is) h = h
-replies_named O A B request text (A.breaks_at {n} sets) h = sets_named (length O.names) A B _ text sets h
-replies_named O A B request text (A.breaks_rule rule is sets) h = sets_named (length O.names) A B _ text sets h
-replies_named O A B request text (A.no_rule none) h = h
-replies_named O A B request text (A.breaks_replica p is sets) h = sets_named (length O.names) A B _ text sets h
-replies_named O A B request text (A.no_replica none) h = h
-replies_named O A B request text (A.clears j b is) h = h
-replies_named O A B request text (A.no_break none) h = h
-replies_named O A B request text (A.states network is) h = h
-replies_named O A B request text (A.state_of network p C is named there) h = h
-replies_named O A B request text (A.no_state none) h = h
-replies_named O A B request text (A.traces is makes) h = h
-replies_named O A B request text (A.starts is) h = h
-replies_named O A B request text (A.enables network events is enabled) h = h
-replies_named O A B request text A.lists h = h
-replies_named O A B request text A.tells h = h
+replies_named O A B request text (N.steps le goes) h = h
+replies_named O A B request text (N.steps_past lt) h = h
+replies_named O A B request text (N.goes_back le) h = h
+replies_named O A B request text (N.back_past lt) h = h
+replies_named O A B request text (N.goes_to le goes) h = h
+replies_named O A B request text (N.goes_past lt) h = h
+replies_named O A B request text (N.acts event spelled acts) h = acts_named O A B event text spelled.resolved.known acts h
+replies_named O A B request text (N.acts_misspelled m) h = h
+replies_named O A B request text (N.runs lt runs) h = h
+replies_named O A B request text (N.runs_past is) h = h
+replies_named O A B request text (N.breaks_at {n} sets) h = sets_named (length O.names) A B _ text sets h
+replies_named O A B request text (N.breaks_rule rule is sets) h = sets_named (length O.names) A B _ text sets h
+replies_named O A B request text (N.no_rule none) h = h
+replies_named O A B request text (N.breaks_replica p is sets) h = sets_named (length O.names) A B _ text sets h
+replies_named O A B request text (N.no_replica none) h = h
+replies_named O A B request text (N.clears j b is) h = h
+replies_named O A B request text (N.no_break none) h = h
+replies_named O A B request text (N.states network is) h = h
+replies_named O A B request text (N.state_of network p C is named there) h = h
+replies_named O A B request text (N.no_state none) h = h
+replies_named O A B request text (N.traces is makes) h = h
+replies_named O A B request text (N.at_start is) h = h
+replies_named O A B request text (N.enables network events is enabled) h = h
+replies_named O A B request text N.lists h = h
+replies_named O A B request text N.tells h = h
 
 pub answer_named : (O : Origin) (A B : Session) (line : Line) (text : List ℕ) → Answer O A line B text → All (λ x. AreNamed x (length O.names)) A.schedule → All (λ x. AreNamed x (length O.names)) B.schedule
-answer_named O A B line text (A.empty is) h = h
-answer_named O A B line text (A.refused is) h = h
-answer_named O A B line text (A.replies request is replies) h = replies_named O A B request text replies h
+answer_named O A B line text (N.empty is) h = h
+answer_named O A B line text (N.refused is) h = h
+answer_named O A B line text (N.replies request is replies) h = replies_named O A B request text replies h

@@ -215,6 +215,22 @@ went_whole O A B (Some bytes) None o p q n m le few s e = absurd s.gone
 went_whole O A B (Some bytes) (Some rest) o p q n m le few s e =
     record { whole = s.whole; rest = rest; last = B; text = s.text; answered = answered O A B bytes rest o p n m le few s; went = subst (λ (x : Option (List ℕ)). Appends o x s.text) (sym e) s.went }
 
+-- a read failed
+pub went_to_read : (O : Origin) (A B : Session) (first now left o p : Option (List ℕ)) (n m : ℕ) (raw : List ℕ) → n ≤ 67108864 → m ≤ 1000000 → SoFar O A B first now o p n m → Lacks 10 raw → StopsAt now left raw → IfSome first (λ l. WentToRead O A l left o p)
+went_to_read O A B None now left o p n m raw le few s l h = tt
+went_to_read O A B (Some bytes) None left o p n m raw le few s l h = absurd s.gone
+went_to_read O A B (Some bytes) (Some rest) left o p n m raw le few s l h = record {
+  whole = s.whole;
+  part = raw;
+  rest = h.0;
+  last = B;
+  text = s.text;
+  part_no_lf = l;
+  answered = subst (λ (r : List ℕ). Answered O A bytes s.whole r B s.text) h.1 (answered O A B bytes rest o p n m le few s);
+  is_left = h.2;
+  went = s.went;
+}
+
 pub front_whole : (O : Origin) (A B : Session) (first now next o p q : Option (List ℕ)) (n m : ℕ) (raw : List ℕ) (line : Line) → n ≤ 67108864 → m ≤ 1000000 → SoFar O A B first now o p n m → Lacks 10 raw → Consumes now next (raw ++ 10 ∷ []) → line ≡ whole_line raw → BreaksOff O B line p q
     → IfSome first (λ l. WentFront O A l o q)
 front_whole O A B None now next o p q n m raw line le few s l h e k = tt

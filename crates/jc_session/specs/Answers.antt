@@ -166,7 +166,7 @@ pub data Replies (O : Origin) (A : Session) : Request → Session → List ℕ �
       → A.position ≡ n + 1
       → Makes O.start A.schedule n event rows
       → Replies O A Q.trace A (block_text O.names (n + 1) event rows)
-  starts : A.position ≡ 0 → Replies O A Q.trace A (codes "start\n")
+  at_start : A.position ≡ 0 → Replies O A Q.trace A (codes "start\n")
   enables : (network : List State) (events : List Event)
       → IsAt O.start A.schedule A.position network
       → AreEnabled network (candidates network) events

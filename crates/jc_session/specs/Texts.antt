@@ -1,5 +1,5 @@
 -- The lines of answers that no other text has.
-use Rattle.std.specs.Prelude.{ℕ, ◌+◌, List, [], ◌∷◌, ◌++◌, Option, Some, None, codes, decimal}
+use Rattle.std.specs.Prelude.{ℕ, ◌+◌, List, [], ◌∷◌, ◌++◌, flat_map, Option, Some, None, codes, decimal}
 use Rattle.jc_rules.specs.declared.operation.Event.{Event}
 use Rattle.jc_rules.specs.declared.refusal.Refusal.{Refusal}
 use Rattle.jc_rules.specs.Refusals.{number_of, name_of}
@@ -45,8 +45,7 @@ numbered_lines names n [] = []
 numbered_lines names n (event ∷ events) = numbered_line names n event ++ numbered_lines names (n + 1) events
 
 abbrev pub event_lines : List (List ℕ) → List Event → List ℕ
-event_lines names [] = []
-event_lines names (event ∷ events) = (canon_event names event ++ codes "\n") ++ event_lines names events
+event_lines names events = flat_map (λ event. canon_event names event ++ codes "\n") events
 
 -- a list that may be empty
 abbrev pub or_none : List ℕ → List ℕ

@@ -247,6 +247,8 @@ fn enabled(alloc: Global, debugger: &Debugger) -> Result<String, AllocError>
     ensures { IfOk result (λ text. Gives debugger.now Q.enabled debugger.now (string_bytes text)) }
 {
     let net = debugger.net();
+    // Events have led to the network from a start, so what can be made names its replicas.
+    net.steps();
     let events = net.enabled()?;
     let text = event_lines(alloc, net.names(), &events)?;
     or_none(alloc, text)
@@ -274,24 +276,24 @@ fn reply(alloc: Global, debugger: &mut Debugger, request: Request) -> Result<Opt
     ensures { IfOk result (λ answer. MatchOption answer (request_view request.entry ≡ Q.quit)
         (λ text. Gives debugger.old (request_view request.entry) debugger.new (string_bytes text))) }
 {
-    Ok(Some(match request {
-        Request::Step(n) => step(alloc, debugger, n)?,
-        Request::Back(n) => back(alloc, debugger, n)?,
-        Request::Goto(n) => goto(alloc, debugger, n)?,
-        Request::Act(rest) => act(alloc, debugger, rest)?,
-        Request::Run => run(alloc, debugger)?,
-        Request::BreakAt(n) => break_at(alloc, debugger, n)?,
-        Request::BreakRule(name) => break_rule(alloc, debugger, name)?,
-        Request::BreakReplica(name) => break_replica(alloc, debugger, name)?,
-        Request::Unbreak(k) => unbreak(alloc, debugger, k)?,
-        Request::State => state(alloc, debugger)?,
-        Request::StateOf(name) => state_of(alloc, debugger, name)?,
-        Request::Trace => trace(alloc, debugger)?,
-        Request::Enabled => enabled(alloc, debugger)?,
-        Request::Schedule => schedule(alloc, debugger)?,
-        Request::Position => position(alloc, debugger)?,
-        Request::Quit => return Ok(None),
-    }))
+    match request {
+        Request::Step(n) => Ok(Some(step(alloc, debugger, n)?)),
+        Request::Back(n) => Ok(Some(back(alloc, debugger, n)?)),
+        Request::Goto(n) => Ok(Some(goto(alloc, debugger, n)?)),
+        Request::Act(rest) => Ok(Some(act(alloc, debugger, rest)?)),
+        Request::Run => Ok(Some(run(alloc, debugger)?)),
+        Request::BreakAt(n) => Ok(Some(break_at(alloc, debugger, n)?)),
+        Request::BreakRule(name) => Ok(Some(break_rule(alloc, debugger, name)?)),
+        Request::BreakReplica(name) => Ok(Some(break_replica(alloc, debugger, name)?)),
+        Request::Unbreak(k) => Ok(Some(unbreak(alloc, debugger, k)?)),
+        Request::State => Ok(Some(state(alloc, debugger)?)),
+        Request::StateOf(name) => Ok(Some(state_of(alloc, debugger, name)?)),
+        Request::Trace => Ok(Some(trace(alloc, debugger)?)),
+        Request::Enabled => Ok(Some(enabled(alloc, debugger)?)),
+        Request::Schedule => Ok(Some(schedule(alloc, debugger)?)),
+        Request::Position => Ok(Some(position(alloc, debugger)?)),
+        Request::Quit => Ok(None),
+    }
 }
 
 /// Does what the line asks for, and gives its answer, which is empty for a line of no word; `quit` has none.

@@ -1,6 +1,6 @@
 //! Sessions: a scenario is read, and lines are answered one by one.
 
-ghost use Rattle.std.specs.Prelude.{◌≡◌, ◌≢◌, ℕ, ◌+◌, ◌<◌, ◌⊎◌, List, Ok, IfErr, OnOk, OnErr, IfSome, IsErrOf, IfOk};
+ghost use Rattle.std.specs.Prelude.{◌≡◌, ◌≢◌, ℕ, ◌+◌, ◌<◌, ◌⊎◌, List, Ok, true, false, IfErr, OnOk, OnErr, IfSome, IsErrOf, IfOk};
 ghost use Rattle.std.specs.Io.KnownBytes.{Appends};
 ghost use Rattle.jc_parser.specs.declared.fault.ScenarioFault.{ScenarioFault as TextFault};
 ghost use Rattle.jc_parser.specs.declared.fault.ScenarioFault.TheVariants as T;

@@ -1,8 +1,8 @@
-use Rattle.std.proofs.Common.{rules, ◌≡◌, ◌+◌, ◌<◌, ◌≤◌, length, Ok, ap, refl, sym, arith, true, false}
+use Rattle.std.proofs.Common.{◌≡◌, ◌+◌, ◌∙◌, ◌<◌, ◌≤◌, length, Ok, ap, refl, sym, arith, true, false}
 use Rattle.jc_session.specs.Views.{bytes_of}
 use Rattle.jc_session.specs.Gives.{origin_in}
 use Rattle.jc_session.specs.Lines.{whole_line, last_line}
-use Rattle.jc_session.proofs.Talking.{goes_on, breaks_off, goes_named, all_named, is_kept, line_whole, line_last, so_far_more, at_end, at_last, at_quit_line, at_limit, went_whole, front_whole, front_last, passed_on}
+use Rattle.jc_session.proofs.Talking.{goes_on, breaks_off, goes_named, all_named, is_kept, line_whole, line_last, so_far_more, at_end, at_last, at_quit_line, at_limit, went_whole, went_to_read, front_whole, front_last, passed_on}
 use Rattle.jc_session.proofs.sessions.converse.Goals as goal
 
 pub lines-preserved : goal.lines-preserved
@@ -72,5 +72,11 @@ returns-in-Ok-TooMany-clause-too_many g c = λ _.
 pub answer_line-requires : goal.answer_line-requires
 answer_line-requires g c = all_named (origin_in c.args.debugger.now) (origin_in c.lines.debugger) c.lines.debugger.schedule c.lines.invariant.origin c.lines.invariant.named
 
-pub answer_line-requires-2 : goal.answer_line-requires-2
-answer_line-requires-2 g c = all_named (origin_in c.args.debugger.now) (origin_in c.lines.debugger) c.lines.debugger.schedule c.lines.invariant.origin c.lines.invariant.named
+pub answer_line-requires-in-Ok-Last : goal.answer_line-requires-in-Ok-Last
+answer_line-requires-in-Ok-Last g c = all_named (origin_in c.args.debugger.now) (origin_in c.lines.debugger) c.lines.debugger.schedule c.lines.invariant.origin c.lines.invariant.named
+
+pub returns-in-Err-clause-read : goal.returns-in-Err-clause-read
+returns-in-Err-clause-read g c = λ _.
+    let inv = c.lines.invariant in
+    let e = c.in-Err.ensures.err in
+    went_to_read (origin_in c.args.debugger.now) _ _ _ _ _ _ _ c.lines.lines.bytes c.lines.lines.count e.0 inv.bytes inv.count inv.so_far e.1 e.4
