@@ -33,11 +33,7 @@ fn joined(alloc: Global, n: u64, event: &str, rows: &str) -> Result<String, Allo
 }
 
 /// The line of a text that is refused at a place.
-pub fn refused_text(
-    alloc: Global,
-    refusal: Refusal,
-    place: usize,
-) -> Result<String, AllocError>
+pub fn refused_text(alloc: Global, refusal: Refusal, place: usize) -> Result<String, AllocError>
     ensures { IfOk result (λ text. string_bytes text ≡ refused_text refusal place) }
 {
     refused_line(alloc, refusal.number(), refusal.name(), place)

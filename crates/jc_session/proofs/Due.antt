@@ -74,37 +74,45 @@ due_front m k bytes rest whole e n short few =
     let parts : AreLines (take m bytes) (whole ++ s.0) s.1 = subst (λ (l : List ℕ). AreLines l (whole ++ s.0) s.1) (sym front) (lines_before whole cut s.0 s.1 n s.2) in
     finish (nat_le (length bytes) m) refl s.0 s.1 parts
   where
-  seam : (m : ℕ) (xs ys : List ℕ) → length xs ≤ m → take m (xs ++ ys) ≡ xs ++ take (m - length xs) ys
-  seam m xs ys h = let same : length xs + (m - length xs) ≡ m = omega arith in subst (λ (n : ℕ). take n (xs ++ ys) ≡ xs ++ take (m - length xs) ys) same (take-append-add xs ys (m - length xs))
-  behind : (k : ℕ) (xs ys : List Line) → length xs ≤ k → take k (xs ++ ys) ≡ xs ++ take (k - length xs) ys
-  behind k xs ys h = let same : length xs + (k - length xs) ≡ k = omega arith in subst (λ (n : ℕ). take n (xs ++ ys) ≡ xs ++ take (k - length xs) ys) same (take-append-add xs ys (k - length xs))
-  finish : (c : Bool) → nat_le (length bytes) m ≡ c → (more : List (List ℕ)) (last : List ℕ) → AreLines (take m bytes) (whole ++ more) last → (tail : List Line) × (end : End) × AreWithin m k bytes (map whole_line whole ++ tail) end
-  finish true t more last parts =
-      let tail = map whole_line more ++ last_line last in
-      let all = map whole_line whole ++ tail in
-      let size : length (map whole_line whole) ≤ k = rw length-map few in
-      (take (k - length (map whole_line whole)) tail, _, record {
-        whole = whole ++ more;
-        last = last;
-        parts = parts;
-        all = all;
-        all_are = rw t (sym (append_assoc (map whole_line whole) (map whole_line more) (last_line last)) ∙ ap (λ l. l ++ last_line last) (sym (map-append whole_line whole more)));
-        lines_are = sym (behind k (map whole_line whole) tail size);
-        end_is = refl;
-      })
-  finish false t more last parts =
-      let tail = map whole_line more in
-      let all = map whole_line whole ++ tail in
-      let size : length (map whole_line whole) ≤ k = rw length-map few in
-      (take (k - length (map whole_line whole)) tail, _, record {
-        whole = whole ++ more;
-        last = last;
-        parts = parts;
-        all = all;
-        all_are = rw t (sym (map-append whole_line whole more));
-        lines_are = sym (behind k (map whole_line whole) tail size);
-        end_is = refl;
-      })
+    seam : (m : ℕ) (xs ys : List ℕ) → length xs ≤ m → take m (xs ++ ys) ≡ xs ++ take (m - length xs) ys
+    seam m xs ys h = let same : length xs + (m - length xs) ≡ m = omega arith in subst (λ (n : ℕ). take n (xs ++ ys) ≡ xs ++ take (m - length xs) ys) same (take-append-add xs ys (m - length xs))
+
+    behind : (k : ℕ) (xs ys : List Line) → length xs ≤ k → take k (xs ++ ys) ≡ xs ++ take (k - length xs) ys
+    behind k xs ys h = let same : length xs + (k - length xs) ≡ k = omega arith in subst (λ (n : ℕ). take n (xs ++ ys) ≡ xs ++ take (k - length xs) ys) same (take-append-add xs ys (k - length xs))
+
+    finish : (c : Bool) → nat_le (length bytes) m ≡ c → (more : List (List ℕ)) (last : List ℕ) → AreLines (take m bytes) (whole ++ more) last → (tail : List Line) × (end : End) × AreWithin m k bytes (map whole_line whole ++ tail) end
+    finish true t more last parts =
+        let tail = map whole_line more ++ last_line last in
+        let all = map whole_line whole ++ tail in
+        let size : length (map whole_line whole) ≤ k = rw length-map few in (
+          take (k - length (map whole_line whole)) tail,
+          _,
+          record {
+            whole = whole ++ more;
+            last = last;
+            parts = parts;
+            all = all;
+            all_are = rw t (sym (append_assoc (map whole_line whole) (map whole_line more) (last_line last)) ∙ ap (λ l. l ++ last_line last) (sym (map-append whole_line whole more)));
+            lines_are = sym (behind k (map whole_line whole) tail size);
+            end_is = refl;
+          },
+        )
+    finish false t more last parts =
+        let tail = map whole_line more in
+        let all = map whole_line whole ++ tail in
+        let size : length (map whole_line whole) ≤ k = rw length-map few in (
+          take (k - length (map whole_line whole)) tail,
+          _,
+          record {
+            whole = whole ++ more;
+            last = last;
+            parts = parts;
+            all = all;
+            all_are = rw t (sym (map-append whole_line whole more));
+            lines_are = sym (behind k (map whole_line whole) tail size);
+            end_is = refl;
+          },
+        )
 
 -- ---- past a limit
 
@@ -128,8 +136,8 @@ due_bytes m k bytes raw more b whole e n l size few =
       end_is = rw t refl;
     }
   where
-  beyond : (x m j : ℕ) → x ≡ m + (j + 1) → nat_le x m ≡ false
-  beyond x m j h = grind (arith, nat_tests)
+    beyond : (x m j : ℕ) → x ≡ m + (j + 1) → nat_le x m ≡ false
+    beyond x m j h = grind (arith, nat_tests)
 
 some_lines : (more : List (List ℕ)) (last bytes : List ℕ) → bytes ≢ [] → bytes ≡ ended more ++ last → 0 < length (map whole_line more ++ last_line last)
 some_lines [] [] bytes n e = absurd (n e)
@@ -146,36 +154,40 @@ due_lines m k bytes rest whole e some n short full =
     let parts : AreLines (take m bytes) (whole ++ s.0) s.1 = subst (λ (l : List ℕ). AreLines l (whole ++ s.0) s.1) (sym front) (lines_before whole cut s.0 s.1 n s.2) in
     finish (nat_le (length bytes) m) refl s.0 s.1 s.2 parts
   where
-  seam : (m : ℕ) (xs ys : List ℕ) → length xs ≤ m → take m (xs ++ ys) ≡ xs ++ take (m - length xs) ys
-  seam m xs ys h = let same : length xs + (m - length xs) ≡ m = omega arith in subst (λ (n : ℕ). take n (xs ++ ys) ≡ xs ++ take (m - length xs) ys) same (take-append-add xs ys (m - length xs))
-  front_only : (xs ys : List Line) → length xs ≡ k → xs ≡ take k (xs ++ ys)
-  front_only xs ys h = sym (ap (λ j. take j (xs ++ ys)) (sym h) ∙ take-append_seam xs ys)
-  more_than : (xs ys : List Line) → length xs ≡ k → 0 < length ys → nat_le (length (xs ++ ys)) k ≡ false
-  more_than xs ys h g = let size = length-append xs ys in grind (arith, nat_tests, size)
-  size : length (map whole_line whole) ≡ k
-  size = length-map whole whole_line ∙ full
-  finish : (c : Bool) → nat_le (length bytes) m ≡ c → (more : List (List ℕ)) (last : List ℕ) → AreLines (take (m - length (ended whole)) rest) more last → AreLines (take m bytes) (whole ++ more) last → AreWithin m k bytes (map whole_line whole) too_many
-  finish true t more last within parts =
-      let le : length bytes ≤ m = grind (arith, nat_tests) in
-      let total : length bytes ≡ length (ended whole) + length rest = ap length e ∙ length-append (ended whole) rest in
-      let all_of : take (m - length (ended whole)) rest ≡ rest = take_whole (m - length (ended whole)) rest (omega (arith, total, le)) in
-      let tail = map whole_line more ++ last_line last in
-      let u : nat_le (length (map whole_line whole ++ tail)) k ≡ false = more_than (map whole_line whole) tail size (some_lines more last rest some (sym all_of ∙ within.is)) in
-      record {
-        whole = whole ++ more;
-        last = last;
-        parts = parts;
-        all = map whole_line whole ++ tail;
-        all_are = rw t (sym (append_assoc (map whole_line whole) (map whole_line more) (last_line last)) ∙ ap (λ l. l ++ last_line last) (sym (map-append whole_line whole more)));
-        lines_are = front_only (map whole_line whole) tail size;
-        end_is = rw (t, u) refl;
-      }
-  finish false t more last within parts = record {
-    whole = whole ++ more;
-    last = last;
-    parts = parts;
-    all = map whole_line whole ++ map whole_line more;
-    all_are = rw t (sym (map-append whole_line whole more));
-    lines_are = front_only (map whole_line whole) (map whole_line more) size;
-    end_is = rw t refl;
-  }
+    seam : (m : ℕ) (xs ys : List ℕ) → length xs ≤ m → take m (xs ++ ys) ≡ xs ++ take (m - length xs) ys
+    seam m xs ys h = let same : length xs + (m - length xs) ≡ m = omega arith in subst (λ (n : ℕ). take n (xs ++ ys) ≡ xs ++ take (m - length xs) ys) same (take-append-add xs ys (m - length xs))
+
+    front_only : (xs ys : List Line) → length xs ≡ k → xs ≡ take k (xs ++ ys)
+    front_only xs ys h = sym (ap (λ j. take j (xs ++ ys)) (sym h) ∙ take-append_seam xs ys)
+
+    more_than : (xs ys : List Line) → length xs ≡ k → 0 < length ys → nat_le (length (xs ++ ys)) k ≡ false
+    more_than xs ys h g = let size = length-append xs ys in grind (arith, nat_tests, size)
+
+    size : length (map whole_line whole) ≡ k
+    size = length-map whole whole_line ∙ full
+
+    finish : (c : Bool) → nat_le (length bytes) m ≡ c → (more : List (List ℕ)) (last : List ℕ) → AreLines (take (m - length (ended whole)) rest) more last → AreLines (take m bytes) (whole ++ more) last → AreWithin m k bytes (map whole_line whole) too_many
+    finish true t more last within parts =
+        let le : length bytes ≤ m = grind (arith, nat_tests) in
+        let total : length bytes ≡ length (ended whole) + length rest = ap length e ∙ length-append (ended whole) rest in
+        let all_of : take (m - length (ended whole)) rest ≡ rest = take_whole (m - length (ended whole)) rest (omega (arith, total, le)) in
+        let tail = map whole_line more ++ last_line last in
+        let u : nat_le (length (map whole_line whole ++ tail)) k ≡ false = more_than (map whole_line whole) tail size (some_lines more last rest some (sym all_of ∙ within.is)) in
+        record {
+          whole = whole ++ more;
+          last = last;
+          parts = parts;
+          all = map whole_line whole ++ tail;
+          all_are = rw t (sym (append_assoc (map whole_line whole) (map whole_line more) (last_line last)) ∙ ap (λ l. l ++ last_line last) (sym (map-append whole_line whole more)));
+          lines_are = front_only (map whole_line whole) tail size;
+          end_is = rw (t, u) refl;
+        }
+    finish false t more last within parts = record {
+      whole = whole ++ more;
+      last = last;
+      parts = parts;
+      all = map whole_line whole ++ map whole_line more;
+      all_are = rw t (sym (map-append whole_line whole more));
+      lines_are = front_only (map whole_line whole) (map whole_line more) size;
+      end_is = rw t refl;
+    }

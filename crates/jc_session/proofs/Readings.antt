@@ -35,16 +35,16 @@ reads_more old now next kept new some before bytes b r h ne e lt = record {
 pub some_read : (old now : Option (List ℕ)) (kept : List ℕ) (before bytes : ℕ) (some : Bool) (r : Reading old now kept some before bytes) → some ≡ true → r.raw ≢ []
 some_read old now kept before bytes some r t e = true_no (sym (r.some_is ∙ ap (λ l. nat_lt 0 (length l)) e)) t
   where
-  true_no : {b : Bool} → false ≡ b → b ≡ true → ⊥
-  true_no f t = cc
+    true_no : {b : Bool} → false ≡ b → b ≡ true → ⊥
+    true_no f t = cc
 
 -- none of the line was read
 pub none_read : (old now : Option (List ℕ)) (kept : List ℕ) (before bytes : ℕ) (r : Reading old now kept false before bytes) → r.raw ≡ []
 none_read old now kept before bytes r = none r.raw r.some_is
   where
-  none : (raw : List ℕ) → false ≡ nat_lt 0 (length raw) → raw ≡ []
-  none [] e = refl
-  none (b ∷ bs) e = absurd (grind (arith, nat_tests))
+    none : (raw : List ℕ) → false ≡ nat_lt 0 (length raw) → raw ≡ []
+    none [] e = refl
+    none (b ∷ bs) e = absurd (grind (arith, nat_tests))
 
 pub ends_after_none : (old now : Option (List ℕ)) (raw : List ℕ) → raw ≡ [] → Consumes old now raw → IsAtEnd now → IsAtEnd old
 ends_after_none None now raw e h a = tt

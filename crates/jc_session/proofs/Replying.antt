@@ -50,9 +50,9 @@ use Rattle.jc_session.specs.Texts.{at_line, refusal_line, set_line, cleared_line
 not_less : (a b : ℕ) → (a < b → ⊥) → b ≤ a
 not_less a b h = by_order (cases_lt a b)
   where
-  by_order : (a < b) ⊎ (b ≤ a) → b ≤ a
-  by_order (inl lt) = absurd (h lt)
-  by_order (inr le) = le
+    by_order : (a < b) ⊎ (b ≤ a) → b ≤ a
+    by_order (inl lt) = absurd (h lt)
+    by_order (inr le) = le
 
 -- an answer that isn't this refusal, where it would be exactly for a smaller number
 pub ok_not_past : {T X : Type 0} (a b : ℕ) (v : T) (x : X) → ((◌≡◌ {A = Result T X} (Ok v) (Err x)) ↔ (a < b)) → b ≤ a
@@ -143,8 +143,8 @@ reply_back d e n m text le moves at h =
 pub went_back : (a n : ℕ) → (IsFalse true ↔ (a < n)) → n ≤ a
 went_back a n exactly = not_less a n (λ lt. true_false (exactly.1 lt))
   where
-  true_false : IsFalse true → ⊥
-  true_false h = cc
+    true_false : IsFalse true → ⊥
+    true_false h = cc
 
 pub back_past : (d e : Seen) (n : ℕ) (text : List ℕ) → length d.traces < n → e ≡ d → text ≡ refusal_line F.AtStart → Gives d (Q.back n) e text
 back_past d e n text lt same h = gives_same d e (Q.back n) text same (same_text (origin_in d) (session_of d) (session_of d) (Q.back n) (refusal_line F.AtStart) text h (A.back_past lt))
@@ -192,9 +192,9 @@ before_end d e end trail other r =
     let within = r.runs.is_at.within in
     by_order (cases_lt (length d.traces) (length d.schedule))
   where
-  by_order : (length d.traces < length d.schedule) ⊎ (length d.schedule ≤ length d.traces) → length d.traces < length d.schedule
-  by_order (inl lt) = lt
-  by_order (inr le) = let there = r.runs.forward in let within = r.runs.is_at.within in absurd (other (omega (arith, le, there, within)))
+    by_order : (length d.traces < length d.schedule) ⊎ (length d.schedule ≤ length d.traces) → length d.traces < length d.schedule
+    by_order (inl lt) = lt
+    by_order (inr le) = let there = r.runs.forward in let within = r.runs.is_at.within in absurd (other (omega (arith, le, there, within)))
 
 ran_is : (d e : Seen) (end : RunEnd) (m : ℕ) (net : Course) (text : List ℕ) → m ≡ length e.traces → net ≡ e.net → (r : Ran d e end) → TellsEnd m net end text → text ≡ ran_text d.net.names r.position r.outcome
 ran_is d e (E.Break k) m net text at same r h =
@@ -229,10 +229,10 @@ ran_named d e net s all same r =
     let names : d.net.names ≡ net.names = sym (ap (λ (c : Course). c.names) same ∙ r.moved.names) in
     record { why = is.0; event = is.1; is = is.2; named = subst (λ (ns : List (List ℕ)). AreNamed is.1 (length ns)) names (stuck_event r.outcome is.0 is.1 is.3 r.runs.at) }
   where
-  stuck_event : (outcome : Outcome) (why : Cause) (event : Event) → outcome ≡ sticks event why → EndsAt (start_of d) (session_of d) r.position outcome → AreNamed event (length d.net.names)
-  stuck_event outcome why event is at =
-      let h : EndsAt (start_of d) (session_of d) r.position (sticks event why) = subst (λ (o : Outcome). EndsAt (start_of d) (session_of d) r.position o) is at in
-      of_all (λ x. AreNamed x (length d.net.names)) d.schedule r.position event all h.1.is
+    stuck_event : (outcome : Outcome) (why : Cause) (event : Event) → outcome ≡ sticks event why → EndsAt (start_of d) (session_of d) r.position outcome → AreNamed event (length d.net.names)
+    stuck_event outcome why event is at =
+        let h : EndsAt (start_of d) (session_of d) r.position (sticks event why) = subst (λ (o : Outcome). EndsAt (start_of d) (session_of d) r.position o) is at in
+        of_all (λ x. AreNamed x (length d.net.names)) d.schedule r.position event all h.1.is
 
 -- ---- events of a line
 
@@ -244,8 +244,8 @@ reply_act d e rest text event m spelled trail a at h =
     let due : text ≡ at_line (length d.traces + 1) = h ∙ ap at_line (at ∙ position) in
     record {
       replies = subst (λ (X : Session). Replies (origin_in d) (session_of d) (Q.act rest) X text) (sym a.session)
-      (same_text (origin_in d) (session_of d) (acted (session_of d) event) (Q.act rest) (at_line (length d.traces + 1)) text due
-      (A.acts event spelled (A.made d.net.network e.net.network a.rows (omega (arith, position, within, short)) a.is_at a.step)));
+          (same_text (origin_in d) (session_of d) (acted (session_of d) event) (Q.act rest) (at_line (length d.traces + 1)) text due
+          (A.acts event spelled (A.made d.net.network e.net.network a.rows (omega (arith, position, within, short)) a.is_at a.step)));
       origin = λ i. record { names = a.names i; start = a.start i };
     }
 
@@ -288,22 +288,26 @@ reply_act_stuck d e rest text event m net s spelled trail other same here at net
     (same_text (origin_in d) (session_of d) (session_of d) (Q.act rest) (at_line (length d.traces) ++ stuck_text d.net.names why event) text due
     (A.acts event spelled (A.stuck why d.net.network (less trail_before) here.is_at here.stuck.stuck)))
   where
-  less : IsOnTrail d → length d.traces < 100000
-  less h = by_order (cases_lt (length d.traces) 100000) h.within h.short
-    where
-    by_order : (length d.traces < 100000) ⊎ (100000 ≤ length d.traces) → length d.traces ≤ length d.schedule → length d.schedule ≤ 100000 → length d.traces < 100000
-    by_order (inl lt) within short = lt
-    by_order (inr le) within short = absurd (other (omega (arith, le, within, short)))
+    less : IsOnTrail d → length d.traces < 100000
+    less h = by_order (cases_lt (length d.traces) 100000) h.within h.short
+      where
+        by_order : (length d.traces < 100000) ⊎ (100000 ≤ length d.traces) → length d.traces ≤ length d.schedule → length d.schedule ≤ 100000 → length d.traces < 100000
+        by_order (inl lt) within short = lt
+        by_order (inr le) within short = absurd (other (omega (arith, le, within, short)))
 
 -- ---- breakpoints
 
 pub reply_set : (d e : Seen) (b : Break) (r : Result ℕ BreakFault) (text : List ℕ) → IsSet d e b r → r ≢ Err B.NoSuchReplica → text ≡ set_text r → Sets (session_of d) b (session_of e) text × (origin_in e ≡ origin_in d)
-reply_set d e b (Ok k) text (j, number, least, new) other h =
-    (subst (λ (t : List ℕ). Sets (session_of d) b (session_of e) t) (sym (h ∙ ap set_line number))
-    (subst (λ (v : Seen). Sets (session_of d) b (session_of v) (set_line (j + 1))) (sym new) (A.set least)), ap origin_in new)
-reply_set d e b (Err B.TooManyBreaks) text (none, same) other h =
-    (subst (λ (t : List ℕ). Sets (session_of d) b (session_of e) t) (sym h)
-    (subst (λ (v : Seen). Sets (session_of d) b (session_of v) (refusal_line F.TooManyBreaks)) (sym same) (A.none_free none)), ap origin_in same)
+reply_set d e b (Ok k) text (j, number, least, new) other h = (
+  subst (λ (t : List ℕ). Sets (session_of d) b (session_of e) t) (sym (h ∙ ap set_line number))
+      (subst (λ (v : Seen). Sets (session_of d) b (session_of v) (set_line (j + 1))) (sym new) (A.set least)),
+  ap origin_in new,
+)
+reply_set d e b (Err B.TooManyBreaks) text (none, same) other h = (
+  subst (λ (t : List ℕ). Sets (session_of d) b (session_of e) t) (sym h)
+      (subst (λ (v : Seen). Sets (session_of d) b (session_of v) (refusal_line F.TooManyBreaks)) (sym same) (A.none_free none)),
+  ap origin_in same,
+)
 reply_set d e b (Err B.NoSuchReplica) text is other h = absurd (other refl)
 
 pub reply_break_at : (d e : Seen) (n : ℕ) (r : Result ℕ BreakFault) (text : List ℕ) → IsSet d e (Kind.Position n) r → r ≢ Err B.NoSuchReplica → text ≡ set_text r → Gives d (Q.break_at n) e text
@@ -324,7 +328,7 @@ reply_unbreak d e k text c h =
     subst (λ (n : ℕ). Gives d (Q.unbreak n) e text) (sym c.number)
     (record {
       replies = same_text (origin_in d) (session_of d) (session_of e) (Q.unbreak (c.place + 1)) (cleared_line (c.place + 1)) text (h ∙ ap cleared_line c.number)
-      (subst (λ (v : Seen). Replies (origin_in d) (session_of d) (Q.unbreak (c.place + 1)) (session_of v) (cleared_line (c.place + 1))) (sym c.is_free) (A.clears c.place c.was c.is_there));
+          (subst (λ (v : Seen). Replies (origin_in d) (session_of d) (Q.unbreak (c.place + 1)) (session_of v) (cleared_line (c.place + 1))) (sym c.is_free) (A.clears c.place c.was c.is_there));
       origin = ap origin_in c.is_free;
     })
 

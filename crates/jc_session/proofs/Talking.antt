@@ -131,16 +131,19 @@ at_end O A B (Some bytes) (Some rest) o p n m le few s e =
     let c = s.count_is in
     let size : length bytes ≡ length (ended s.whole) = ap length (whole ∙ append-nil (ended s.whole)) in
     let same : map whole_line s.whole ++ [] ≡ map whole_line s.whole = append-nil (map whole_line s.whole) in
-    let count : length (map whole_line s.whole ++ []) ≡ length s.whole = ap length same ∙ length-map s.whole whole_line in
-    (s.text, record {
-      due = map whole_line s.whole ++ last_line [];
-      due_end = finished;
-      are_due = due_all 67108864 1000000 bytes s.whole [] (record { is = whole; no_lf = s.no_lf; last_no_lf = tt }) (omega (arith, size, b)) (omega (arith, count, c));
-      lines = map whole_line s.whole ++ last_line [];
-      ends = at_the_end;
-      last = B;
-      answers = subst (λ (xs : List Line). Answers O A xs B s.text) (sym same) s.answers;
-    }, s.went)
+    let count : length (map whole_line s.whole ++ []) ≡ length s.whole = ap length same ∙ length-map s.whole whole_line in (
+      s.text,
+      record {
+        due = map whole_line s.whole ++ last_line [];
+        due_end = finished;
+        are_due = due_all 67108864 1000000 bytes s.whole [] (record { is = whole; no_lf = s.no_lf; last_no_lf = tt }) (omega (arith, size, b)) (omega (arith, count, c));
+        lines = map whole_line s.whole ++ last_line [];
+        ends = at_the_end;
+        last = B;
+        answers = subst (λ (xs : List Line). Answers O A xs B s.text) (sym same) s.answers;
+      },
+      s.went,
+    )
 
 pub at_last : (O : Origin) (A B C : Session) (first now next o p q : Option (List ℕ)) (n m : ℕ) (raw : List ℕ) (line : Line) (goes : Bool) → n + length raw ≤ 67108864 → m < 1000000 → SoFar O A B first now o p n m → Lacks 10 raw → Consumes now next raw → IsAtEnd next → last_line raw ≡ line ∷ []
     → (goes ≡ true → GoesOn O B line C p q) → (goes ≡ false → (meaning line ≡ asks quit) × (q ≡ p)) → IfSome first (λ l. Wrote O A l finished o q)
@@ -158,29 +161,35 @@ at_last O A B C (Some bytes) (Some rest) (Some more) o p q n m raw line goes le 
     let due = due_all 67108864 1000000 bytes s.whole raw (record { is = whole; no_lf = s.no_lf; last_no_lf = l }) (omega (arith, size, b)) (omega (arith, count, c)) in
     by_answer goes refl due_is due
   where
-  by_answer : (c : Bool) → goes ≡ c → map whole_line s.whole ++ last_line raw ≡ map whole_line s.whole ++ line ∷ [] → AreDue bytes (map whole_line s.whole ++ last_line raw) finished → Wrote O A bytes finished o q
-  by_answer true t due_is due =
-      let k = g t in
-      (s.text ++ k.0, record {
-        due = map whole_line s.whole ++ last_line raw;
-        due_end = finished;
-        are_due = due;
-        lines = map whole_line s.whole ++ last_line raw;
-        ends = at_the_end;
-        last = C;
-        answers = subst (λ (xs : List Line). Answers O A xs C (s.text ++ k.0)) (sym due_is) (answers_more O A B C (map whole_line s.whole) line s.text k.0 s.answers k.1);
-      }, Appends-trans o p q s.text k.0 s.went k.2)
-  by_answer false t due_is due =
-      let k = f t in
-      (s.text, record {
-        due = map whole_line s.whole ++ last_line raw;
-        due_end = finished;
-        are_due = due;
-        lines = map whole_line s.whole;
-        ends = at_quit line [] due_is k.0;
-        last = B;
-        answers = s.answers;
-      }, subst (λ (x : Option (List ℕ)). Appends o x s.text) (sym k.1) s.went)
+    by_answer : (c : Bool) → goes ≡ c → map whole_line s.whole ++ last_line raw ≡ map whole_line s.whole ++ line ∷ [] → AreDue bytes (map whole_line s.whole ++ last_line raw) finished → Wrote O A bytes finished o q
+    by_answer true t due_is due =
+        let k = g t in (
+          s.text ++ k.0,
+          record {
+            due = map whole_line s.whole ++ last_line raw;
+            due_end = finished;
+            are_due = due;
+            lines = map whole_line s.whole ++ last_line raw;
+            ends = at_the_end;
+            last = C;
+            answers = subst (λ (xs : List Line). Answers O A xs C (s.text ++ k.0)) (sym due_is) (answers_more O A B C (map whole_line s.whole) line s.text k.0 s.answers k.1);
+          },
+          Appends-trans o p q s.text k.0 s.went k.2,
+        )
+    by_answer false t due_is due =
+        let k = f t in (
+          s.text,
+          record {
+            due = map whole_line s.whole ++ last_line raw;
+            due_end = finished;
+            are_due = due;
+            lines = map whole_line s.whole;
+            ends = at_quit line [] due_is k.0;
+            last = B;
+            answers = s.answers;
+          },
+          subst (λ (x : Option (List ℕ)). Appends o x s.text) (sym k.1) s.went,
+        )
 
 pub at_quit_line : (O : Origin) (A B : Session) (first now next o p q : Option (List ℕ)) (n m : ℕ) (raw : List ℕ) (line : Line) → n + length raw + 1 ≤ 67108864 → m + 1 ≤ 1000000 → SoFar O A B first now o p n m → Lacks 10 raw → Consumes now next (raw ++ 10 ∷ []) → line ≡ whole_line raw
     → (meaning line ≡ asks quit) × (q ≡ p) → IfSome first (λ l. Wrote O A l finished o q)
@@ -196,16 +205,19 @@ at_quit_line O A B (Some bytes) (Some rest) (Some more) o p q n m raw line le fe
     let count = length-append s.whole (raw ∷ []) in
     let due = due_front 67108864 1000000 bytes more (s.whole ++ raw ∷ []) whole (all_more (Lacks 10) s.whole raw s.no_lf l) (omega (arith, size, b)) (omega (arith, count, c)) in
     let parts : map whole_line (s.whole ++ raw ∷ []) ++ due.0 ≡ map whole_line s.whole ++ line ∷ due.0 =
-    ap (λ x. x ++ due.0) (map-append whole_line s.whole (raw ∷ [])) ∙ append_assoc (map whole_line s.whole) (whole_line raw ∷ []) due.0 ∙ ap (λ x. map whole_line s.whole ++ x ∷ due.0) (sym e) in
-    (s.text, record {
-      due = map whole_line (s.whole ++ raw ∷ []) ++ due.0;
-      due_end = due.1;
-      are_due = due.2;
-      lines = map whole_line s.whole;
-      ends = at_quit line due.0 parts k.0;
-      last = B;
-      answers = s.answers;
-    }, subst (λ (x : Option (List ℕ)). Appends o x s.text) (sym k.1) s.went)
+    ap (λ x. x ++ due.0) (map-append whole_line s.whole (raw ∷ [])) ∙ append_assoc (map whole_line s.whole) (whole_line raw ∷ []) due.0 ∙ ap (λ x. map whole_line s.whole ++ x ∷ due.0) (sym e) in (
+      s.text,
+      record {
+        due = map whole_line (s.whole ++ raw ∷ []) ++ due.0;
+        due_end = due.1;
+        are_due = due.2;
+        lines = map whole_line s.whole;
+        ends = at_quit line due.0 parts k.0;
+        last = B;
+        answers = s.answers;
+      },
+      subst (λ (x : Option (List ℕ)). Appends o x s.text) (sym k.1) s.went,
+    )
 
 -- ---- faults
 
@@ -282,31 +294,37 @@ at_limit O A B (Some bytes) (Some rest) None o p n m raw b le few s l h e = absu
 at_limit O A B (Some bytes) (Some rest) (Some more) o p n m raw b le few s l h (inl e) =
     let bs = s.bytes_are in
     let c = s.count_is in
-    let parts : bytes ≡ ended s.whole ++ (raw ++ b ∷ more) = s.gone ∙ ap (λ x. ended s.whole ++ x) (h ∙ append_assoc raw (b ∷ []) more) in
-    (s.text, record {
-      due = map whole_line s.whole;
-      due_end = too_many;
-      are_due = due_bytes 67108864 1000000 bytes raw more b s.whole parts s.no_lf l (omega (arith, bs, e)) (omega (arith, c));
-      lines = map whole_line s.whole;
-      ends = at_the_end;
-      last = B;
-      answers = s.answers;
-    }, s.went)
+    let parts : bytes ≡ ended s.whole ++ (raw ++ b ∷ more) = s.gone ∙ ap (λ x. ended s.whole ++ x) (h ∙ append_assoc raw (b ∷ []) more) in (
+      s.text,
+      record {
+        due = map whole_line s.whole;
+        due_end = too_many;
+        are_due = due_bytes 67108864 1000000 bytes raw more b s.whole parts s.no_lf l (omega (arith, bs, e)) (omega (arith, c));
+        lines = map whole_line s.whole;
+        ends = at_the_end;
+        last = B;
+        answers = s.answers;
+      },
+      s.went,
+    )
 at_limit O A B (Some bytes) (Some rest) (Some more) o p n m raw b le few s l h (inr e) =
     let bs = s.bytes_are in
-    let c = s.count_is in
-    (s.text, record {
-      due = map whole_line s.whole;
-      due_end = too_many;
-      are_due = due_lines 67108864 1000000 bytes rest s.whole s.gone (some raw rest (h ∙ append_assoc raw (b ∷ []) more)) s.no_lf (omega (arith, bs)) (omega (arith, c, e));
-      lines = map whole_line s.whole;
-      ends = at_the_end;
-      last = B;
-      answers = s.answers;
-    }, s.went)
+    let c = s.count_is in (
+      s.text,
+      record {
+        due = map whole_line s.whole;
+        due_end = too_many;
+        are_due = due_lines 67108864 1000000 bytes rest s.whole s.gone (some raw rest (h ∙ append_assoc raw (b ∷ []) more)) s.no_lf (omega (arith, bs)) (omega (arith, c, e));
+        lines = map whole_line s.whole;
+        ends = at_the_end;
+        last = B;
+        answers = s.answers;
+      },
+      s.went,
+    )
   where
-  some : (xs rest : List ℕ) → rest ≡ xs ++ b ∷ more → rest ≢ []
-  some xs rest f n = let size = length-append xs (b ∷ more) in let same : length rest ≡ length (xs ++ b ∷ more) = ap length f in let none : length rest ≡ 0 = ap length n in omega (arith, size, same, none)
+    some : (xs rest : List ℕ) → rest ≡ xs ++ b ∷ more → rest ≢ []
+    some xs rest f n = let size = length-append xs (b ∷ more) in let same : length rest ≡ length (xs ++ b ∷ more) = ap length f in let none : length rest ≡ 0 = ap length n in omega (arith, size, same, none)
 
 -- an error that is passed on
 pub passed_on : {T U E : Type 0} (e x : E) → IsErrOf {T = T} (Err e) x → IsErrOf {T = U} (Err e) x

@@ -30,35 +30,35 @@ parted : (xs : List ℕ) → Parted xs
 parted [] = record { more = []; is = refl; words_are = refl }
 parted (b ∷ bs) = by_test (is_blank b) refl (parted bs)
   where
-  by_test : (t : Bool) → is_blank b ≡ t → Parted bs → Parted (b ∷ bs)
-  by_test true e p =
-      let none : position_or_len is_blank (b ∷ bs) ≡ 0 = rw e refl in
-      let split = slice_split-cons_yes is_blank b bs e in
-      record {
-        more = slice_split is_blank bs;
-        is = split ∙ ap (λ n. take n (b ∷ bs) ∷ slice_split is_blank bs) (sym none);
-        words_are = sym (ap (λ n. words (drop n (b ∷ bs))) none ∙ ap (filter is_some) split);
-      }
-  by_test false e p =
-      let n = position_or_len is_blank bs in
-      let next : position_or_len is_blank (b ∷ bs) ≡ suc n = rw e (one_more n) in
-      let split = slice_split-cons_no is_blank b bs e in
-      record {
-        more = p.more;
-        is = split ∙ ap (onto_first b) p.is ∙ ap (λ m. take m (b ∷ bs) ∷ p.more) (sym next);
-        words_are = p.words_are ∙ sym (ap (λ m. words (drop m (b ∷ bs))) next);
-      }
+    by_test : (t : Bool) → is_blank b ≡ t → Parted bs → Parted (b ∷ bs)
+    by_test true e p =
+        let none : position_or_len is_blank (b ∷ bs) ≡ 0 = rw e refl in
+        let split = slice_split-cons_yes is_blank b bs e in
+        record {
+          more = slice_split is_blank bs;
+          is = split ∙ ap (λ n. take n (b ∷ bs) ∷ slice_split is_blank bs) (sym none);
+          words_are = sym (ap (λ n. words (drop n (b ∷ bs))) none ∙ ap (filter is_some) split);
+        }
+    by_test false e p =
+        let n = position_or_len is_blank bs in
+        let next : position_or_len is_blank (b ∷ bs) ≡ suc n = rw e (one_more n) in
+        let split = slice_split-cons_no is_blank b bs e in
+        record {
+          more = p.more;
+          is = split ∙ ap (onto_first b) p.is ∙ ap (λ m. take m (b ∷ bs) ∷ p.more) (sym next);
+          words_are = p.words_are ∙ sym (ap (λ m. words (drop m (b ∷ bs))) next);
+        }
 
 -- blanks at the front change nothing
 pub words_past : (xs : List ℕ) → words (past is_blank xs) ≡ words xs
 words_past [] = refl
 words_past (b ∷ bs) = by_test (is_blank b) refl (words_past bs)
   where
-  by_test : (t : Bool) → is_blank b ≡ t → words (past is_blank bs) ≡ words bs → words (past is_blank (b ∷ bs)) ≡ words (b ∷ bs)
-  by_test true e h =
-      let next : prefix_len is_blank (b ∷ bs) ≡ suc (prefix_len is_blank bs) = rw e (one_more (prefix_len is_blank bs)) in
-      ap (λ n. words (drop n (b ∷ bs))) next ∙ h ∙ sym (ap (filter is_some) (slice_split-cons_yes is_blank b bs e))
-  by_test false e h = let none : prefix_len is_blank (b ∷ bs) ≡ 0 = rw e refl in ap (λ n. words (drop n (b ∷ bs))) none
+    by_test : (t : Bool) → is_blank b ≡ t → words (past is_blank bs) ≡ words bs → words (past is_blank (b ∷ bs)) ≡ words (b ∷ bs)
+    by_test true e h =
+        let next : prefix_len is_blank (b ∷ bs) ≡ suc (prefix_len is_blank bs) = rw e (one_more (prefix_len is_blank bs)) in
+        ap (λ n. words (drop n (b ∷ bs))) next ∙ h ∙ sym (ap (filter is_some) (slice_split-cons_yes is_blank b bs e))
+    by_test false e h = let none : prefix_len is_blank (b ∷ bs) ≡ 0 = rw e refl in ap (λ n. words (drop n (b ∷ bs))) none
 
 -- behind them is nothing, or a byte that is no blank
 pub data IsPast (ys : List ℕ) : Type 0 where
@@ -69,11 +69,11 @@ pub is_past : (xs : List ℕ) → IsPast (past is_blank xs)
 is_past [] = nothing_left refl
 is_past (b ∷ bs) = by_test (is_blank b) refl (is_past bs)
   where
-  by_test : (t : Bool) → is_blank b ≡ t → IsPast (past is_blank bs) → IsPast (past is_blank (b ∷ bs))
-  by_test true e h =
-      let next : prefix_len is_blank (b ∷ bs) ≡ suc (prefix_len is_blank bs) = rw e (one_more (prefix_len is_blank bs)) in
-      subst IsPast (sym (ap (λ n. drop n (b ∷ bs)) next)) h
-  by_test false e h = let none : prefix_len is_blank (b ∷ bs) ≡ 0 = rw e refl in some_left b bs (ap (λ n. drop n (b ∷ bs)) none) e
+    by_test : (t : Bool) → is_blank b ≡ t → IsPast (past is_blank bs) → IsPast (past is_blank (b ∷ bs))
+    by_test true e h =
+        let next : prefix_len is_blank (b ∷ bs) ≡ suc (prefix_len is_blank bs) = rw e (one_more (prefix_len is_blank bs)) in
+        subst IsPast (sym (ap (λ n. drop n (b ∷ bs)) next)) h
+    by_test false e h = let none : prefix_len is_blank (b ∷ bs) ≡ 0 = rw e refl in some_left b bs (ap (λ n. drop n (b ∷ bs)) none) e
 
 -- the words of what begins with no blank
 from_word : (b : ℕ) (bs : List ℕ) → is_blank b ≡ false → words (b ∷ bs) ≡ take (position_or_len is_blank (b ∷ bs)) (b ∷ bs) ∷ words (drop (position_or_len is_blank (b ∷ bs)) (b ∷ bs))
@@ -84,10 +84,11 @@ from_word b bs e =
     let some : is_some (take (position_or_len is_blank (b ∷ bs)) (b ∷ bs)) ≡ true = ap (λ m. is_some (take m (b ∷ bs))) next ∙ not_none (take n bs) in
     ap (filter is_some) p.is ∙ kept (take (position_or_len is_blank (b ∷ bs)) (b ∷ bs)) p.more some ∙ ap (λ ws. take (position_or_len is_blank (b ∷ bs)) (b ∷ bs) ∷ ws) p.words_are
   where
-  not_none : (xs : List ℕ) → is_some (b ∷ xs) ≡ true
-  not_none xs = grind (arith, nat_tests)
-  kept : (w : List ℕ) (ws : List (List ℕ)) → is_some w ≡ true → filter is_some (w ∷ ws) ≡ w ∷ filter is_some ws
-  kept w ws t = rw t refl
+    not_none : (xs : List ℕ) → is_some (b ∷ xs) ≡ true
+    not_none xs = grind (arith, nat_tests)
+
+    kept : (w : List ℕ) (ws : List (List ℕ)) → is_some w ≡ true → filter is_some (w ∷ ws) ≡ w ∷ filter is_some ws
+    kept w ws t = rw t refl
 
 pub no_words : (xs ys : List ℕ) → ys ≡ past is_blank xs → ys ≡ [] → words xs ≡ []
 no_words xs ys e n = sym (words_past xs) ∙ ap words (sym e ∙ n)
@@ -95,9 +96,9 @@ no_words xs ys e n = sym (words_past xs) ∙ ap words (sym e ∙ n)
 pub first_of_words : (xs ys : List ℕ) → ys ≡ past is_blank xs → ys ≢ [] → words xs ≡ take (position_or_len is_blank ys) ys ∷ words (drop (position_or_len is_blank ys) ys)
 first_of_words xs ys e some = sym (words_past xs) ∙ ap words (sym e) ∙ by_kind (subst IsPast (sym e) (is_past xs))
   where
-  by_kind : IsPast ys → words ys ≡ take (position_or_len is_blank ys) ys ∷ words (drop (position_or_len is_blank ys) ys)
-  by_kind (nothing_left n) = absurd (some n)
-  by_kind (some_left b bs s t) = subst (λ (zs : List ℕ). words zs ≡ take (position_or_len is_blank zs) zs ∷ words (drop (position_or_len is_blank zs) zs)) (sym s) (from_word b bs t)
+    by_kind : IsPast ys → words ys ≡ take (position_or_len is_blank ys) ys ∷ words (drop (position_or_len is_blank ys) ys)
+    by_kind (nothing_left n) = absurd (some n)
+    by_kind (some_left b bs s t) = subst (λ (zs : List ℕ). words zs ≡ take (position_or_len is_blank zs) zs ∷ words (drop (position_or_len is_blank zs) zs)) (sym s) (from_word b bs t)
 
 -- ---- bytes below 128
 
@@ -129,8 +130,8 @@ digits_ascii (b ∷ bs) h =
     let parts = and_parts (is_ascii_digit b) (all_ascii_digits bs) h in
     and_from (nat_lt b 128) (list_all (λ c. nat_lt c 128) bs) (small b parts.0) (digits_ascii bs parts.1)
   where
-  small : (d : ℕ) → is_ascii_digit d ≡ true → nat_lt d 128 ≡ true
-  small d t = grind (arith, nat_tests)
+    small : (d : ℕ) → is_ascii_digit d ≡ true → nat_lt d 128 ≡ true
+    small d t = grind (arith, nat_tests)
 
 -- what a number is written with
 pub record IsNumeral (w : Word) : Type 0 where
@@ -141,21 +142,21 @@ pub record IsNumeral (w : Word) : Type 0 where
 pub number_parts : (w : Word) → is_number w ≡ true → IsNumeral w
 number_parts w h = by_zero (bytes_eq w (codes "0")) refl
   where
-  by_zero : (t : Bool) → bytes_eq w (codes "0") ≡ t → IsNumeral w
-  by_zero true e =
-      let zero_is : w ≡ codes "0" = (bytes_eq-Decides w (codes "0")).0 e in
-      subst IsNumeral (sym zero_is) (record { digits = refl; some = omega arith; few = omega arith })
-  by_zero false e =
-      let rest : ((nat_le 1 (length w) && nat_le (length w) 10) && (all_ascii_digits w && not (get_or w 0 0 == 48))) ≡ true = rw e at h in
-      let parts = and_parts (nat_le 1 (length w) && nat_le (length w) 10) (all_ascii_digits w && not (get_or w 0 0 == 48)) rest in
-      let sizes = and_parts (nat_le 1 (length w)) (nat_le (length w) 10) parts.0 in
-      let some : nat_le 1 (length w) ≡ true = sizes.0 in
-      let few : nat_le (length w) 10 ≡ true = sizes.1 in
-      record {
-        digits = (and_parts (all_ascii_digits w) (not (get_or w 0 0 == 48)) parts.1).0;
-        some = grind (arith, nat_tests);
-        few = grind (arith, nat_tests);
-      }
+    by_zero : (t : Bool) → bytes_eq w (codes "0") ≡ t → IsNumeral w
+    by_zero true e =
+        let zero_is : w ≡ codes "0" = (bytes_eq-Decides w (codes "0")).0 e in
+        subst IsNumeral (sym zero_is) (record { digits = refl; some = omega arith; few = omega arith })
+    by_zero false e =
+        let rest : ((nat_le 1 (length w) && nat_le (length w) 10) && (all_ascii_digits w && not (get_or w 0 0 == 48))) ≡ true = rw e at h in
+        let parts = and_parts (nat_le 1 (length w) && nat_le (length w) 10) (all_ascii_digits w && not (get_or w 0 0 == 48)) rest in
+        let sizes = and_parts (nat_le 1 (length w)) (nat_le (length w) 10) parts.0 in
+        let some : nat_le 1 (length w) ≡ true = sizes.0 in
+        let few : nat_le (length w) 10 ≡ true = sizes.1 in
+        record {
+          digits = (and_parts (all_ascii_digits w) (not (get_or w 0 0 == 48)) parts.1).0;
+          some = grind (arith, nat_tests);
+          few = grind (arith, nat_tests);
+        }
 
 -- ---- what is parted
 

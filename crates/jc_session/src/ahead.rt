@@ -71,7 +71,7 @@ impl Ahead {
     pub fn next<S: Source>(&mut self, source: &mut S) -> Result<Option<u8>, Failed>
         ensures some { (b : ℕ) → result ≡ Ok (Some b)
             → Consumes (prepend_known self.old (S.left source.old)) (prepend_known self.new (S.left source.new))
-                (b ∷ []) }
+            (b ∷ []) }
         ensures none { result ≡ Ok None
             → IsAtEnd (prepend_known self.old (S.left source.old))
             × IsAtEnd (prepend_known self.new (S.left source.new))

@@ -14,8 +14,8 @@ ghost use Rattle.jc_session.specs.Views.{request_view, bytes_of};
 
 use crate::request::{Meaning, Request, meaning_of};
 use crate::texts::{
-    at_and, at_line, break_line, cleared_line, dump_lines, event_lines, numbered_lines, or_none, refusal_line,
-    set_line, where_line,
+    at_and, at_line, break_line, cleared_line, dump_lines, event_lines, numbered_lines, or_none,
+    refusal_line, set_line, where_line,
 };
 use jc_debug::{ActFault, BreakFault, Debugger, GotoFault, RunEnd, RunFault, StepFault};
 use jc_dump::{block_text, dump_replica, refused_text, stuck_text};
@@ -45,7 +45,12 @@ fn step(alloc: Global, debugger: &mut Debugger, n: u64) -> Result<String, AllocE
     match debugger.step(n) {
         Ok(()) => at_line(alloc, debugger.position()),
         Err(StepFault::AtEnd) => refusal_line(alloc, Refusal::AtEnd),
-        Err(StepFault::Stuck(stuck)) => stuck_at(alloc, debugger.position(), debugger.net(), &stuck),
+        Err(StepFault::Stuck(stuck)) => stuck_at(
+            alloc,
+            debugger.position(),
+            debugger.net(),
+            &stuck,
+        ),
         Err(StepFault::Memory) => Err(AllocError),
     }
 }
@@ -57,7 +62,12 @@ fn goto(alloc: Global, debugger: &mut Debugger, n: u64) -> Result<String, AllocE
     match debugger.goto(n) {
         Ok(()) => at_line(alloc, debugger.position()),
         Err(GotoFault::PastSchedule) => refusal_line(alloc, Refusal::PastSchedule),
-        Err(GotoFault::Stuck(stuck)) => stuck_at(alloc, debugger.position(), debugger.net(), &stuck),
+        Err(GotoFault::Stuck(stuck)) => stuck_at(
+            alloc,
+            debugger.position(),
+            debugger.net(),
+            &stuck,
+        ),
         Err(GotoFault::Memory) => Err(AllocError),
     }
 }
@@ -271,7 +281,11 @@ fn position(alloc: Global, debugger: &Debugger) -> Result<String, AllocError>
 // ---- lines
 
 /// Does what is asked for, and gives its answer; `quit` has none.
-fn reply(alloc: Global, debugger: &mut Debugger, request: Request) -> Result<Option<String>, AllocError>
+fn reply(
+    alloc: Global,
+    debugger: &mut Debugger,
+    request: Request,
+) -> Result<Option<String>, AllocError>
     requires { AllNamed debugger.old }
     ensures { IfOk result (λ answer. MatchOption answer (request_view request.entry ≡ Q.quit)
         (λ text. Gives debugger.old (request_view request.entry) debugger.new (string_bytes text))) }
@@ -297,7 +311,11 @@ fn reply(alloc: Global, debugger: &mut Debugger, request: Request) -> Result<Opt
 }
 
 /// Does what the line asks for, and gives its answer, which is empty for a line of no word; `quit` has none.
-pub fn answer(alloc: Global, debugger: &mut Debugger, line: Option<&[u8]>) -> Result<Option<String>, AllocError>
+pub fn answer(
+    alloc: Global,
+    debugger: &mut Debugger,
+    line: Option<&[u8]>,
+) -> Result<Option<String>, AllocError>
     requires { AllNamed debugger.old }
     ensures { IfOk result (λ answer. MatchOption answer (meaning (bytes_of line.entry) ≡ asks Q.quit)
         (λ text. GivesLine debugger.old (bytes_of line.entry) debugger.new (string_bytes text))) }

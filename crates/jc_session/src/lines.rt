@@ -57,20 +57,20 @@ impl Lines {
         requires count { self.old.count ≤ 1000000 }
         ensures whole { result ≡ Ok Next.Whole → (raw : List ℕ) × Lacks 10 raw
             × Consumes (prepend_known self.old.ahead (S.left source.old))
-                (prepend_known self.new.ahead (S.left source.new)) (raw ++ 10 ∷ [])
+            (prepend_known self.new.ahead (S.left source.new)) (raw ++ 10 ∷ [])
             × (self.new.line ≡ take 4097 raw)
             × (self.new.bytes ≡ self.old.bytes + length raw + 1) × (self.new.bytes ≤ 67108864)
             × (self.new.count ≡ self.old.count + 1) × (self.new.count ≤ 1000000) }
         ensures last { result ≡ Ok Next.Last → (raw : List ℕ) × Lacks 10 raw × (raw ≢ [])
             × Consumes (prepend_known self.old.ahead (S.left source.old))
-                (prepend_known self.new.ahead (S.left source.new)) raw
+            (prepend_known self.new.ahead (S.left source.new)) raw
             × IsAtEnd (prepend_known self.new.ahead (S.left source.new))
             × (self.new.line ≡ take 4097 raw)
             × (self.old.bytes + length raw ≤ 67108864) × (self.old.count < 1000000) }
         ensures end { result ≡ Ok Next.End → IsAtEnd (prepend_known self.old.ahead (S.left source.old)) }
         ensures too_many { result ≡ Ok Next.TooMany → (raw : List ℕ) × (b : ℕ) × Lacks 10 raw
             × Consumes (prepend_known self.old.ahead (S.left source.old))
-                (prepend_known self.new.ahead (S.left source.new)) (raw ++ b ∷ [])
+            (prepend_known self.new.ahead (S.left source.new)) (raw ++ b ∷ [])
             × (self.old.bytes + length raw ≤ 67108864)
             × ((self.old.bytes + length raw ≡ 67108864) ⊎ (self.old.count ≡ 1000000)) }
         ensures err { OnErr result ((raw : List ℕ) × Lacks 10 raw × (self.new.ahead ≡ [])

@@ -93,7 +93,7 @@ fn answer_line<K: Sink>(
     ensures write { IsErrOf result SessionFault.WriteFailed
         → (K.failures out.old < K.failures out.new)
         × BreaksOff (origin_in debugger.old) (session_of debugger.old) (bytes_of line.entry)
-            (K.taken out.old) (K.taken out.new) }
+        (K.taken out.old) (K.taken out.new) }
     ensures kind { IfErr result IsOfAnswer }
 {
     let Some(text) = answer(alloc, debugger, line)? else {
@@ -119,7 +119,7 @@ fn converse<S: Source, K: Sink>(
     // After a failed read, those of all lines whose LF was read.
     ensures read { IsErrOf result SessionFault.ReadFailed → IfSome (S.left source.old) (λ l.
         WentToRead (origin_in debugger.old) (session_of debugger.old) l (S.left source.new)
-            (K.taken out.old) (K.taken out.new)) }
+        (K.taken out.old) (K.taken out.new)) }
     // Without memory, those of the lines before, whole.
     ensures memory { IsErrOf result SessionFault.Memory → IfSome (S.left source.old) (λ l.
         WentWhole (origin_in debugger.old) (session_of debugger.old) l (K.taken out.old) (K.taken out.new)) }
@@ -195,12 +195,12 @@ pub fn session<S: Source, K: Sink>(
     ensures memory { IsErrOf result SessionFault.Memory
         → ((lines.new ≡ lines.old) × (K.taken out.new ≡ K.taken out.old))
         ⊎ OnScenario scenario.now (λ O A.
-            IfSome (S.left lines.old) (λ l. WentWhole O A l (K.taken out.old) (K.taken out.new))) }
+        IfSome (S.left lines.old) (λ l. WentWhole O A l (K.taken out.old) (K.taken out.new))) }
     // After a failed write, those of the lines before and a front of the next one; or of the scenario's refusal.
     ensures write { IsErrOf result SessionFault.WriteFailed
         → ((lines.new ≡ lines.old) × WentRefused scenario.now (K.taken out.old) (K.taken out.new))
         ⊎ OnScenario scenario.now (λ O A.
-            IfSome (S.left lines.old) (λ l. WentFront O A l (K.taken out.old) (K.taken out.new))) }
+        IfSome (S.left lines.old) (λ l. WentFront O A l (K.taken out.old) (K.taken out.new))) }
     // Failures come with these answers alone.
     ensures reads { (IsErrOf result SessionFault.ReadFailed → S.failures lines.old < S.failures lines.new)
         × ((IsErrOf result SessionFault.ReadFailed → ⊥) → S.failures lines.new ≡ S.failures lines.old) }

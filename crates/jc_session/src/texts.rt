@@ -68,7 +68,12 @@ pub fn where_line(alloc: Global, n: u64, events: usize) -> Result<String, AllocE
 }
 
 /// An event's text as a line of its own.
-fn push_event(text: &mut String, alloc: Global, names: &[Text], event: &Event) -> Result<(), AllocError>
+fn push_event(
+    text: &mut String,
+    alloc: Global,
+    names: &[Text],
+    event: &Event,
+) -> Result<(), AllocError>
     requires { AreNamed event.now (length names.now) }
     ensures { OnOk result
         (string_bytes text.new ≡ string_bytes text.old ++ (canon_event names.now event.now ++ codes "\n")) }
@@ -96,7 +101,13 @@ fn numbered(alloc: Global, n: usize, event: &str) -> Result<String, AllocError>
 }
 
 /// The line of an event that has this number.
-fn push_numbered(text: &mut String, alloc: Global, names: &[Text], n: usize, event: &Event) -> Result<(), AllocError>
+fn push_numbered(
+    text: &mut String,
+    alloc: Global,
+    names: &[Text],
+    n: usize,
+    event: &Event,
+) -> Result<(), AllocError>
     requires { AreNamed event.now (length names.now) }
     ensures { OnOk result
         (string_bytes text.new ≡ string_bytes text.old ++ numbered_line names.now n event.now) }

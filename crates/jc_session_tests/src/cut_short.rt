@@ -53,7 +53,13 @@ const EMPTY: &str = "jsoncrdt 1 replica a {} schedule {}";
 /// Expects a writer with room for so many bytes to have got these, and the session to end with a failed write.
 fn fills<R: AllocGlobal + Abort>(rt: &R, room: usize, then: Then, want: &str) {
     let mut out = TakesUpTo::new(Taken::new(rt.alloc()), room, then);
-    ends(rt, EMPTY, &mut Bytes::new(b"where\nstep\nstate\n"), &mut out, 56);
+    ends(
+        rt,
+        EMPTY,
+        &mut Bytes::new(b"where\nstep\nstate\n"),
+        &mut out,
+        56,
+    );
     is(rt, out.sink.as_slice(), want);
 }
 
@@ -78,7 +84,12 @@ fn filled<R: AllocGlobal>(rt: &R, byte: u8, n: usize, last: &[u8]) -> Result<Vec
 #[test]
 fn a_line_that_is_too_long(rt: HostRuntime) -> Result<(), Fail> {
     let over = filled(&rt, b' ', 4097, b"\nwhere\n")?;
-    writes(&rt, &mut Bytes::new(&over), 0, "refused 58 BadLine\nat 0 of 4\n");
+    writes(
+        &rt,
+        &mut Bytes::new(&over),
+        0,
+        "refused 58 BadLine\nat 0 of 4\n",
+    );
     let just = filled(&rt, b' ', 4096, b"\nwhere")?;
     writes(&rt, &mut Bytes::new(&just), 0, "at 0 of 4\n");
     Ok(())

@@ -27,5 +27,5 @@ returns-then-is_number c =
     let ok = parse_gives own 64 w c.parse.result read parts.digits some (omega (arith, few)) in
     c.ok.ensures.value ∙ ap result_ok ok ∙ numeral w is
   where
-  numeral : (w : List ℕ) → is_number w ≡ true → Some (digits_value 10 w) ≡ number_of w
-  numeral w e = rw e refl
+    numeral : (w : List ℕ) → is_number w ≡ true → Some (digits_value 10 w) ≡ number_of w
+    numeral w e = rw e refl
