@@ -1,3 +1,4 @@
 pub mod Dump
 pub mod DumpParts
 pub mod Lines
+pub mod Texts

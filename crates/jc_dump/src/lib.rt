@@ -4,7 +4,9 @@
 pub mod dump;
 mod lines;
 mod replica;
+mod texts;
 mod vars;
 
 pub use lines::{stuck_text, trace_text};
 pub use replica::dump_replica;
+pub use texts::{block_text, refused_text};

@@ -1,0 +1,34 @@
+-- Sessions on the scenario that bytes are, from its start.
+use Rattle.std.proofs.Common.{◌≡◌, ◌≢◌, ℕ, List, Option, None, Some, IfSome, sym, subst, ap}
+use Rattle.std.specs.Io.KnownBytes.{Appends}
+use Rattle.jc_parser.specs.declared.fault.ScenarioFault.{ScenarioFault}
+use Rattle.jc_parser.specs.declared.fault.ScenarioFault.TheVariants as S
+use Rattle.jc_scenario.specs.Scenarios.{Scenario, IsScenario}
+use Rattle.jc_scenario.specs.Faults.{IsFault}
+use Rattle.jc_network.specs.Course.{started}
+use Rattle.jc_debug.specs.Session.{Session, begun}
+use Rattle.jc_debug.specs.Trail.{Seen}
+use Rattle.jc_debug.proofs.Replying.{begun_at}
+use Rattle.jc_session.specs.Answers.{Origin, origin_of, IsFaultLine}
+use Rattle.jc_session.specs.Gives.{origin_in}
+use Rattle.jc_session.specs.Shown.{End, text_refused, Talks, refused, talks}
+use Rattle.jc_session.specs.Went.{AppendsSome, Wrote, ShowsAll, WentRefused, OnScenario}
+use Rattle.jc_session.proofs.Spelling.{not_memory}
+
+pub origin_is : (d : Seen) (s : Scenario) → d.net ≡ started s → origin_in d ≡ origin_of s
+origin_is d s e = let starts_so = begun_at d s e in λ i. record { names = (e i).names; start = starts_so i }
+
+pub text_refused_shown : (b : List ℕ) (f fault : ScenarioFault) (o p : Option (List ℕ)) → (f ≢ S.Memory → IsFault b f) → ((text : List ℕ) × IsFaultLine f text × Appends o p text) → f ≡ fault → (l : List ℕ) → ShowsAll b l (text_refused fault) o p
+text_refused_shown b f fault o p is h same l = subst (λ (x : ScenarioFault). ShowsAll b l (text_refused x) o p) same (h.0, refused f (is (not_memory f h.0 h.1)) h.1, h.2)
+
+pub refused_front : (b : List ℕ) (f : ScenarioFault) (o p : Option (List ℕ)) → (f ≢ S.Memory → IsFault b f) → (text : List ℕ) → IsFaultLine f text → AppendsSome o p text → WentRefused b o p
+refused_front b f o p is text line went = (f, text, is (not_memory f text line), line, went)
+
+pub on_scenario : (Says : Origin → Session → Type 0) (b : List ℕ) (s : Scenario) (d : Seen) (A : Session) → IsScenario b s → d.net ≡ started s → A ≡ begun s.schedule → Says (origin_in d) A → OnScenario b Says
+on_scenario Says b s d A is net at h = (s, is, subst (λ (B : Session). Says (origin_of s) B) at (subst (λ (P : Origin). Says P A) (origin_is d s net) h))
+
+pub shown_by : (b : List ℕ) (s : Scenario) (d : Seen) (A : Session) (first : Option (List ℕ)) (end : End) (o p : Option (List ℕ)) → IsScenario b s → d.net ≡ started s → A ≡ begun s.schedule → IfSome first (λ l. Wrote (origin_in d) A l end o p) → IfSome first (λ l. ShowsAll b l end o p)
+shown_by b s d A None end o p is net at h = tt
+shown_by b s d A (Some l) end o p is net at h =
+    let on = subst (λ (B : Session). Talks (origin_of s) B l h.0 end) at (subst (λ (P : Origin). Talks P A l h.0 end) (origin_is d s net) h.1) in
+    (h.0, talks s is on, h.2)

@@ -1,0 +1,10 @@
+pub mod Bytes
+pub mod Readings
+pub mod Words
+pub mod Due
+pub mod Naming
+pub mod Talking
+pub mod Listing
+pub mod Replying
+pub mod Spelling
+pub mod Begun

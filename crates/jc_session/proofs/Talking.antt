@@ -1,0 +1,331 @@
+-- What went out so far, and at each end of a session.
+use Rattle.std.proofs.Common.{◌≡◌, ◌≢◌, ℕ, ◌+◌, ◌-◌, ◌<◌, ◌≤◌, zero, suc, nat_le, ◌&&◌, List, [], ◌∷◌, ◌++◌, length, take, map, Bool, true, false, Option, None, Some, IfSome, MatchOption, IsErrOf, Err, if◌then◌else◌, inl, inr, ◌⊎◌, refl, ap, sym, subst, ◌∙◌, arith, length-append, append_assoc, append-nil, Bor}
+use Rattle.std.specs.List.{AllByRecursion}
+use Rattle.std.proofs.lemmas.Bool.Decides.{nat_tests}
+use Rattle.std.proofs.lemmas.List.{map-append, length-map, length-take-le}
+use Rattle.std.proofs.Math.Seq.{take-length}
+use Rattle.std.specs.Io.KnownBytes.{Appends, Consumes, IsAtEnd, prepend_known}
+use Rattle.std.proofs.KnownBytes.{Appends-nil, Appends-trans, Consumes-nil, Consumes-trans}
+use Rattle.jc_rules.specs.Told.{Stays, AppendsIfTold}
+use Rattle.jc_session.specs.Lines.{Line, Lacks, AreLines, ended, within, without_cr, whole_line, last_line}
+use Rattle.std.specs.List.{All}
+use Rattle.jc_rules.specs.declared.operation.Event.{Event}
+use Rattle.jc_printer.specs.Canon.{AreNamed}
+use Rattle.jc_debug.specs.Session.{Session}
+use Rattle.jc_session.specs.Requests.{meaning, asks, quit}
+use Rattle.jc_session.specs.Views.{bytes_of}
+use Rattle.jc_session.specs.Answers.{Origin, Answer}
+use Rattle.jc_session.specs.Shown.{Answers, End, finished, too_many, Ends, at_the_end, at_quit, AreWithin, AreDue, Talks}
+use Rattle.jc_session.specs.Reads.{StopsAt}
+use Rattle.jc_session.specs.Went.{AppendsSome, GoesOn, BreaksOff, Wrote, Answered, WentToRead, WentWhole, WentFront, IsNext, ends_in_lf, ends_at_end}
+use Rattle.jc_session.specs.SoFar.{SoFar}
+use Rattle.jc_session.proofs.Naming.{answer_named}
+use Rattle.jc_session.proofs.Readings.{all_more}
+use Rattle.jc_session.proofs.Due.{take_whole, ended_append, due_all, due_front, due_bytes, due_lines}
+
+-- ---- writing
+
+pub whole_went : (old mid new : Option (List ℕ)) (bs : List ℕ) → Appends old mid bs → Stays mid new → AppendsSome old new bs
+whole_went None mid new bs h s = (length bs, tt)
+whole_went (Some xs) None new bs h s = absurd h
+whole_went (Some xs) (Some ys) None bs h s = (length bs, tt)
+whole_went (Some xs) (Some ys) (Some zs) bs h s = (length bs, s ∙ h ∙ ap (λ l. xs ++ l) (sym (take-length bs)))
+
+-- a front that went after other bytes
+some_after : (old mid new : Option (List ℕ)) (text answer : List ℕ) (n : ℕ) → Appends old mid text → AppendsIfTold mid new (take n answer) → AppendsIfTold old new (text ++ take n answer)
+some_after None mid new text answer n h s = tt
+some_after (Some xs) None new text answer n h s = absurd h
+some_after (Some xs) (Some ys) None text answer n h s = tt
+some_after (Some xs) (Some ys) (Some zs) text answer n h s = s ∙ ap (λ l. l ++ take n answer) h ∙ append_assoc xs text (take n answer)
+
+-- ---- answers
+
+pub answers_more : (O : Origin) (A B C : Session) (xs : List Line) (x : Line) (t u : List ℕ) → Answers O A xs B t → Answer O B x C u → Answers O A (xs ++ x ∷ []) C (t ++ u)
+answers_more O A B C [] x t u h k = (C, u, [], subst (λ (n : Session). Answer O n x C u) h.0 k, (refl, refl), ap (λ l. l ++ u) h.1 ∙ sym (append-nil u))
+answers_more O A B C (y ∷ xs) x t u h k =
+    (h.0, h.1, h.2 ++ u, h.3, answers_more O h.0 B C xs x h.2 u h.4 k, ap (λ l. l ++ u) h.5 ∙ append_assoc h.1 h.2 u)
+
+-- what is said of an answer from the same origin
+pub goes_on : (O P : Origin) (A B : Session) (line : Line) (o p : Option (List ℕ)) → P ≡ O → GoesOn P A line B o p → GoesOn O A line B o p
+goes_on O P A B line o p e h = subst (λ (X : Origin). GoesOn X A line B o p) e h
+
+pub breaks_off : (O P : Origin) (A : Session) (line : Line) (o p : Option (List ℕ)) → P ≡ O → BreaksOff P A line o p → BreaksOff O A line o p
+breaks_off O P A line o p e h = subst (λ (X : Origin). BreaksOff X A line o p) e h
+
+-- the schedule's events stay named
+pub goes_named : (O P : Origin) (A B : Session) (line : Line) (o p : Option (List ℕ)) → P ≡ O → GoesOn P A line B o p → All (λ e. AreNamed e (length O.names)) A.schedule → All (λ e. AreNamed e (length O.names)) B.schedule
+goes_named O P A B line o p e h named = let g = goes_on O P A B line o p e h in answer_named O A B line g.0 g.1 named
+
+pub all_named : (O P : Origin) (events : List Event) → P ≡ O → All (λ e. AreNamed e (length O.names)) events → All (λ e. AreNamed e (length P.names)) events
+all_named O P events e named = subst (λ (X : Origin). All (λ x. AreNamed x (length X.names)) events) (sym e) named
+
+-- ---- the line that was kept
+
+-- A line is kept whole, or one byte too much of it is.
+pub data IsKept (most : ℕ) (raw kept : List ℕ) : Type 0 where
+  all_kept : length raw ≤ most → kept ≡ raw → IsKept most raw kept
+  one_too_many : nat_le (length raw) most ≡ false → most < length kept → IsKept most raw kept
+
+pub is_kept : (most : ℕ) (raw kept : List ℕ) (short : Bool) → nat_le (length raw) most ≡ short → kept ≡ take (most + 1) raw → IsKept most raw kept
+is_kept most raw kept true t e = let le : length raw ≤ most = grind (arith, nat_tests) in all_kept le (e ∙ take_whole (most + 1) raw (omega (arith, le)))
+is_kept most raw kept false t e =
+    let gt : most < length raw = grind (arith, nat_tests) in
+    let size : length kept ≡ most + 1 = ap length e ∙ length-take-le (most + 1) raw (omega (arith, gt)) in
+    one_too_many t (omega (arith, size))
+
+pub line_whole : (raw kept : List ℕ) → IsKept 4096 raw kept → (line : Option (Bor (List ℕ))) → MatchOption line (4096 < length kept) (λ s. (length kept ≤ 4096) × (s.now ≡ without_cr kept)) → bytes_of line ≡ whole_line raw
+line_whole raw kept (all_kept le e) None h = let size : length kept ≡ length raw = ap length e in absurd (omega (arith, h, size, le))
+line_whole raw kept (all_kept le e) (Some s) h = let t : nat_le (length raw) 4096 ≡ true = grind (arith, nat_tests) in rw t (ap Some (h.1 ∙ ap without_cr e))
+line_whole raw kept (one_too_many t gt) None h = rw t refl
+line_whole raw kept (one_too_many t gt) (Some s) h = let le = h.0 in absurd (omega (arith, le, gt))
+
+line_within : (raw kept : List ℕ) → IsKept 4096 raw kept → (line : Option (Bor (List ℕ))) → MatchOption line (4096 < length kept) (λ s. (length kept ≤ 4096) × (s.now ≡ kept)) → bytes_of line ≡ within raw raw
+line_within raw kept (all_kept le e) None h = let size : length kept ≡ length raw = ap length e in absurd (omega (arith, h, size, le))
+line_within raw kept (all_kept le e) (Some s) h = let t : nat_le (length raw) 4096 ≡ true = grind (arith, nat_tests) in rw t (ap Some (h.1 ∙ e))
+line_within raw kept (one_too_many t gt) None h = rw t refl
+line_within raw kept (one_too_many t gt) (Some s) h = let le = h.0 in absurd (omega (arith, le, gt))
+
+last_of : (raw : List ℕ) → raw ≢ [] → last_line raw ≡ within raw raw ∷ []
+last_of [] n = absurd (n refl)
+last_of (b ∷ bs) n = refl
+
+pub line_last : (raw kept : List ℕ) → raw ≢ [] → IsKept 4096 raw kept → (line : Option (Bor (List ℕ))) → MatchOption line (4096 < length kept) (λ s. (length kept ≤ 4096) × (s.now ≡ kept)) → last_line raw ≡ bytes_of line ∷ []
+line_last raw kept n k line h = last_of raw n ∙ ap (λ l. l ∷ []) (sym (line_within raw kept k line h))
+
+-- ---- one line more
+
+pub so_far_more : (O : Origin) (A B C : Session) (first now next o p q : Option (List ℕ)) (n m i j : ℕ) (raw : List ℕ) (line : Line) → i ≡ n + length raw + 1 → j ≡ m + 1 → SoFar O A B first now o p n m → Lacks 10 raw → Consumes now next (raw ++ 10 ∷ []) → line ≡ whole_line raw → GoesOn O B line C p q
+    → SoFar O A C first next o q i j
+so_far_more O A B C first now next o p q n m i j raw line ei ej s l h e g =
+    let grown : ended (s.whole ++ raw ∷ []) ≡ ended s.whole ++ (raw ++ 10 ∷ []) = ended_append s.whole (raw ∷ []) ∙ ap (λ x. ended s.whole ++ x) (append-nil (raw ++ 10 ∷ [])) in
+    let size : length (ended (s.whole ++ raw ∷ [])) ≡ length (ended s.whole) + (length raw + 1) = ap length grown ∙ length-append (ended s.whole) (raw ++ 10 ∷ []) ∙ ap (λ k. length (ended s.whole) + k) (length-append raw (10 ∷ [])) in
+    let b = s.bytes_are in
+    let c = s.count_is in
+    let more = length-append s.whole (raw ∷ []) in
+    record {
+      whole = s.whole ++ raw ∷ [];
+      text = s.text ++ g.0;
+      no_lf = all_more (Lacks 10) s.whole raw s.no_lf l;
+      gone = subst (λ (x : List ℕ). Consumes first next x) (sym grown) (Consumes-trans first now next (ended s.whole) (raw ++ 10 ∷ []) s.gone h);
+      bytes_are = omega (arith, b, size, ei);
+      count_is = omega (arith, c, more, ej);
+      answers = subst (λ (xs : List Line). Answers O A xs C (s.text ++ g.0)) (sym (map-append whole_line s.whole (raw ∷ []))) (answers_more O A B C (map whole_line s.whole) (whole_line raw) s.text g.0 s.answers (subst (λ (x : Line). Answer O B x C g.0) e g.1));
+      went = Appends-trans o p q s.text g.0 s.went g.2;
+    }
+
+-- what was answered, of the bytes that were told
+pub answered : (O : Origin) (A B : Session) (bytes rest : List ℕ) (o p : Option (List ℕ)) (n m : ℕ) → n ≤ 67108864 → m ≤ 1000000 → (s : SoFar O A B (Some bytes) (Some rest) o p n m) → Answered O A bytes s.whole rest B s.text
+answered O A B bytes rest o p n m le few s =
+    let b = s.bytes_are in
+    let c = s.count_is in
+    record { is = s.gone; no_lf = s.no_lf; count = omega (arith, c); size = omega (arith, b); answers = s.answers }
+
+-- ---- ends
+
+pub at_end : (O : Origin) (A B : Session) (first now o p : Option (List ℕ)) (n m : ℕ) → n ≤ 67108864 → m ≤ 1000000 → SoFar O A B first now o p n m → IsAtEnd now → IfSome first (λ l. Wrote O A l finished o p)
+at_end O A B None now o p n m le few s e = tt
+at_end O A B (Some bytes) None o p n m le few s e = absurd s.gone
+at_end O A B (Some bytes) (Some rest) o p n m le few s e =
+    let whole : bytes ≡ ended s.whole ++ [] = s.gone ∙ ap (λ l. ended s.whole ++ l) e in
+    let b = s.bytes_are in
+    let c = s.count_is in
+    let size : length bytes ≡ length (ended s.whole) = ap length (whole ∙ append-nil (ended s.whole)) in
+    let same : map whole_line s.whole ++ [] ≡ map whole_line s.whole = append-nil (map whole_line s.whole) in
+    let count : length (map whole_line s.whole ++ []) ≡ length s.whole = ap length same ∙ length-map s.whole whole_line in (
+      s.text,
+      record {
+        due = map whole_line s.whole ++ last_line [];
+        due_end = finished;
+        are_due = due_all 67108864 1000000 bytes s.whole [] (record { is = whole; no_lf = s.no_lf; last_no_lf = tt }) (omega (arith, size, b)) (omega (arith, count, c));
+        lines = map whole_line s.whole ++ last_line [];
+        ends = at_the_end;
+        last = B;
+        answers = subst (λ (xs : List Line). Answers O A xs B s.text) (sym same) s.answers;
+      },
+      s.went,
+    )
+
+pub at_last : (O : Origin) (A B C : Session) (first now next o p q : Option (List ℕ)) (n m : ℕ) (raw : List ℕ) (line : Line) (goes : Bool) → n + length raw ≤ 67108864 → m < 1000000 → SoFar O A B first now o p n m → Lacks 10 raw → Consumes now next raw → IsAtEnd next → last_line raw ≡ line ∷ []
+    → (goes ≡ true → GoesOn O B line C p q) → (goes ≡ false → (meaning line ≡ asks quit) × (q ≡ p)) → IfSome first (λ l. Wrote O A l finished o q)
+at_last O A B C None now next o p q n m raw line goes le few s l h a e g f = tt
+at_last O A B C (Some bytes) None next o p q n m raw line goes le few s l h a e g f = absurd s.gone
+at_last O A B C (Some bytes) (Some rest) None o p q n m raw line goes le few s l h a e g f = absurd h
+at_last O A B C (Some bytes) (Some rest) (Some more) o p q n m raw line goes le few s l h a e g f =
+    let rest_is : rest ≡ raw = h ∙ ap (λ x. raw ++ x) a ∙ append-nil raw in
+    let whole : bytes ≡ ended s.whole ++ raw = s.gone ∙ ap (λ x. ended s.whole ++ x) rest_is in
+    let b = s.bytes_are in
+    let c = s.count_is in
+    let size : length bytes ≡ length (ended s.whole) + length raw = ap length whole ∙ length-append (ended s.whole) raw in
+    let due_is : map whole_line s.whole ++ last_line raw ≡ map whole_line s.whole ++ line ∷ [] = ap (λ x. map whole_line s.whole ++ x) e in
+    let count : length (map whole_line s.whole ++ last_line raw) ≡ length s.whole + 1 = ap length due_is ∙ length-append (map whole_line s.whole) (line ∷ []) ∙ ap (λ k. k + 1) (length-map s.whole whole_line) in
+    let due = due_all 67108864 1000000 bytes s.whole raw (record { is = whole; no_lf = s.no_lf; last_no_lf = l }) (omega (arith, size, b)) (omega (arith, count, c)) in
+    by_answer goes refl due_is due
+  where
+    by_answer : (c : Bool) → goes ≡ c → map whole_line s.whole ++ last_line raw ≡ map whole_line s.whole ++ line ∷ [] → AreDue bytes (map whole_line s.whole ++ last_line raw) finished → Wrote O A bytes finished o q
+    by_answer true t due_is due =
+        let k = g t in (
+          s.text ++ k.0,
+          record {
+            due = map whole_line s.whole ++ last_line raw;
+            due_end = finished;
+            are_due = due;
+            lines = map whole_line s.whole ++ last_line raw;
+            ends = at_the_end;
+            last = C;
+            answers = subst (λ (xs : List Line). Answers O A xs C (s.text ++ k.0)) (sym due_is) (answers_more O A B C (map whole_line s.whole) line s.text k.0 s.answers k.1);
+          },
+          Appends-trans o p q s.text k.0 s.went k.2,
+        )
+    by_answer false t due_is due =
+        let k = f t in (
+          s.text,
+          record {
+            due = map whole_line s.whole ++ last_line raw;
+            due_end = finished;
+            are_due = due;
+            lines = map whole_line s.whole;
+            ends = at_quit line [] due_is k.0;
+            last = B;
+            answers = s.answers;
+          },
+          subst (λ (x : Option (List ℕ)). Appends o x s.text) (sym k.1) s.went,
+        )
+
+pub at_quit_line : (O : Origin) (A B : Session) (first now next o p q : Option (List ℕ)) (n m : ℕ) (raw : List ℕ) (line : Line) → n + length raw + 1 ≤ 67108864 → m + 1 ≤ 1000000 → SoFar O A B first now o p n m → Lacks 10 raw → Consumes now next (raw ++ 10 ∷ []) → line ≡ whole_line raw
+    → (meaning line ≡ asks quit) × (q ≡ p) → IfSome first (λ l. Wrote O A l finished o q)
+at_quit_line O A B None now next o p q n m raw line le few s l h e k = tt
+at_quit_line O A B (Some bytes) None next o p q n m raw line le few s l h e k = absurd s.gone
+at_quit_line O A B (Some bytes) (Some rest) None o p q n m raw line le few s l h e k = absurd h
+at_quit_line O A B (Some bytes) (Some rest) (Some more) o p q n m raw line le few s l h e k =
+    let grown : ended (s.whole ++ raw ∷ []) ≡ ended s.whole ++ (raw ++ 10 ∷ []) = ended_append s.whole (raw ∷ []) ∙ ap (λ x. ended s.whole ++ x) (append-nil (raw ++ 10 ∷ [])) in
+    let size : length (ended (s.whole ++ raw ∷ [])) ≡ length (ended s.whole) + (length raw + 1) = ap length grown ∙ length-append (ended s.whole) (raw ++ 10 ∷ []) ∙ ap (λ k. length (ended s.whole) + k) (length-append raw (10 ∷ [])) in
+    let whole : bytes ≡ ended (s.whole ++ raw ∷ []) ++ more = s.gone ∙ ap (λ x. ended s.whole ++ x) h ∙ sym (append_assoc (ended s.whole) (raw ++ 10 ∷ []) more) ∙ ap (λ x. x ++ more) (sym grown) in
+    let b = s.bytes_are in
+    let c = s.count_is in
+    let count = length-append s.whole (raw ∷ []) in
+    let due = due_front 67108864 1000000 bytes more (s.whole ++ raw ∷ []) whole (all_more (Lacks 10) s.whole raw s.no_lf l) (omega (arith, size, b)) (omega (arith, count, c)) in
+    let parts : map whole_line (s.whole ++ raw ∷ []) ++ due.0 ≡ map whole_line s.whole ++ line ∷ due.0 =
+    ap (λ x. x ++ due.0) (map-append whole_line s.whole (raw ∷ [])) ∙ append_assoc (map whole_line s.whole) (whole_line raw ∷ []) due.0 ∙ ap (λ x. map whole_line s.whole ++ x ∷ due.0) (sym e) in (
+      s.text,
+      record {
+        due = map whole_line (s.whole ++ raw ∷ []) ++ due.0;
+        due_end = due.1;
+        are_due = due.2;
+        lines = map whole_line s.whole;
+        ends = at_quit line due.0 parts k.0;
+        last = B;
+        answers = s.answers;
+      },
+      subst (λ (x : Option (List ℕ)). Appends o x s.text) (sym k.1) s.went,
+    )
+
+-- ---- faults
+
+pub went_whole : (O : Origin) (A B : Session) (first now o p q : Option (List ℕ)) (n m : ℕ) → n ≤ 67108864 → m ≤ 1000000 → SoFar O A B first now o p n m → q ≡ p → IfSome first (λ l. WentWhole O A l o q)
+went_whole O A B None now o p q n m le few s e = tt
+went_whole O A B (Some bytes) None o p q n m le few s e = absurd s.gone
+went_whole O A B (Some bytes) (Some rest) o p q n m le few s e =
+    record { whole = s.whole; rest = rest; last = B; text = s.text; answered = answered O A B bytes rest o p n m le few s; went = subst (λ (x : Option (List ℕ)). Appends o x s.text) (sym e) s.went }
+
+-- a read failed
+pub went_to_read : (O : Origin) (A B : Session) (first now left o p : Option (List ℕ)) (n m : ℕ) (raw : List ℕ) → n ≤ 67108864 → m ≤ 1000000 → SoFar O A B first now o p n m → Lacks 10 raw → StopsAt now left raw → IfSome first (λ l. WentToRead O A l left o p)
+went_to_read O A B None now left o p n m raw le few s l h = tt
+went_to_read O A B (Some bytes) None left o p n m raw le few s l h = absurd s.gone
+went_to_read O A B (Some bytes) (Some rest) left o p n m raw le few s l h = record {
+  whole = s.whole;
+  part = raw;
+  rest = h.0;
+  last = B;
+  text = s.text;
+  part_no_lf = l;
+  answered = subst (λ (r : List ℕ). Answered O A bytes s.whole r B s.text) h.1 (answered O A B bytes rest o p n m le few s);
+  is_left = h.2;
+  went = s.went;
+}
+
+pub front_whole : (O : Origin) (A B : Session) (first now next o p q : Option (List ℕ)) (n m : ℕ) (raw : List ℕ) (line : Line) → n ≤ 67108864 → m ≤ 1000000 → SoFar O A B first now o p n m → Lacks 10 raw → Consumes now next (raw ++ 10 ∷ []) → line ≡ whole_line raw → BreaksOff O B line p q
+    → IfSome first (λ l. WentFront O A l o q)
+front_whole O A B None now next o p q n m raw line le few s l h e k = tt
+front_whole O A B (Some bytes) None next o p q n m raw line le few s l h e k = absurd s.gone
+front_whole O A B (Some bytes) (Some rest) None o p q n m raw line le few s l h e k = absurd h
+front_whole O A B (Some bytes) (Some rest) (Some more) o p q n m raw line le few s l h e k = record {
+  whole = s.whole;
+  rest = rest;
+  last = B;
+  text = s.text;
+  answered = answered O A B bytes rest o p n m le few s;
+  line = whole_line raw;
+  next = ends_in_lf raw more (h ∙ append_assoc raw (10 ∷ []) more) l;
+  after = k.0;
+  answer = k.1;
+  answers = subst (λ (x : Line). Answer O B x k.0 k.1) e k.2;
+  front = k.3.0;
+  went = some_after o p q s.text k.1 k.3.0 s.went k.3.1;
+}
+
+pub front_last : (O : Origin) (A B : Session) (first now next o p q : Option (List ℕ)) (n m : ℕ) (raw : List ℕ) (line : Line) → n ≤ 67108864 → m ≤ 1000000 → SoFar O A B first now o p n m → Lacks 10 raw → Consumes now next raw → IsAtEnd next → last_line raw ≡ line ∷ [] → BreaksOff O B line p q
+    → IfSome first (λ l. WentFront O A l o q)
+front_last O A B None now next o p q n m raw line le few s l h a e k = tt
+front_last O A B (Some bytes) None next o p q n m raw line le few s l h a e k = absurd s.gone
+front_last O A B (Some bytes) (Some rest) None o p q n m raw line le few s l h a e k = absurd h
+front_last O A B (Some bytes) (Some rest) (Some more) o p q n m raw line le few s l h a e k =
+    let rest_is : raw ≡ rest = sym (h ∙ ap (λ x. raw ++ x) a ∙ append-nil raw) in
+    record {
+      whole = s.whole;
+      rest = rest;
+      last = B;
+      text = s.text;
+      answered = answered O A B bytes rest o p n m le few s;
+      line = line;
+      next = ends_at_end (subst (λ (x : List ℕ). Lacks 10 x) rest_is l) (subst (λ (x : List ℕ). last_line x ≡ line ∷ []) rest_is e);
+      after = k.0;
+      answer = k.1;
+      answers = k.2;
+      front = k.3.0;
+      went = some_after o p q s.text k.1 k.3.0 s.went k.3.1;
+    }
+
+-- a byte past a limit was read
+pub at_limit : (O : Origin) (A B : Session) (first now next o p : Option (List ℕ)) (n m : ℕ) (raw : List ℕ) (b : ℕ) → n ≤ 67108864 → m ≤ 1000000 → SoFar O A B first now o p n m → Lacks 10 raw → Consumes now next (raw ++ b ∷ []) → (n + length raw ≡ 67108864) ⊎ (m ≡ 1000000)
+    → IfSome first (λ l. Wrote O A l too_many o p)
+at_limit O A B None now next o p n m raw b le few s l h e = tt
+at_limit O A B (Some bytes) None next o p n m raw b le few s l h e = absurd s.gone
+at_limit O A B (Some bytes) (Some rest) None o p n m raw b le few s l h e = absurd h
+at_limit O A B (Some bytes) (Some rest) (Some more) o p n m raw b le few s l h (inl e) =
+    let bs = s.bytes_are in
+    let c = s.count_is in
+    let parts : bytes ≡ ended s.whole ++ (raw ++ b ∷ more) = s.gone ∙ ap (λ x. ended s.whole ++ x) (h ∙ append_assoc raw (b ∷ []) more) in (
+      s.text,
+      record {
+        due = map whole_line s.whole;
+        due_end = too_many;
+        are_due = due_bytes 67108864 1000000 bytes raw more b s.whole parts s.no_lf l (omega (arith, bs, e)) (omega (arith, c));
+        lines = map whole_line s.whole;
+        ends = at_the_end;
+        last = B;
+        answers = s.answers;
+      },
+      s.went,
+    )
+at_limit O A B (Some bytes) (Some rest) (Some more) o p n m raw b le few s l h (inr e) =
+    let bs = s.bytes_are in
+    let c = s.count_is in (
+      s.text,
+      record {
+        due = map whole_line s.whole;
+        due_end = too_many;
+        are_due = due_lines 67108864 1000000 bytes rest s.whole s.gone (some raw rest (h ∙ append_assoc raw (b ∷ []) more)) s.no_lf (omega (arith, bs)) (omega (arith, c, e));
+        lines = map whole_line s.whole;
+        ends = at_the_end;
+        last = B;
+        answers = s.answers;
+      },
+      s.went,
+    )
+  where
+    some : (xs rest : List ℕ) → rest ≡ xs ++ b ∷ more → rest ≢ []
+    some xs rest f n = let size = length-append xs (b ∷ more) in let same : length rest ≡ length (xs ++ b ∷ more) = ap length f in let none : length rest ≡ 0 = ap length n in omega (arith, size, same, none)
+
+-- an error that is passed on
+pub passed_on : {T U E : Type 0} (e x : E) → IsErrOf {T = T} (Err e) x → IsErrOf {T = U} (Err e) x
+passed_on e x h = let same : e ≡ x = cc in ap Err same

@@ -1,0 +1,5 @@
+use Rattle.jc_session.proofs.Words.{ascii_utf8}
+use Rattle.jc_session.proofs.request.ascii_text.Goals as goal
+
+pub unreachable-requires : goal.unreachable-requires
+unreachable-requires c = c.in-Err.ensures.cases.0 (ascii_utf8 c.args.bytes.now c.requires)

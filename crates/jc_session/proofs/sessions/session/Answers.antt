@@ -1,0 +1,40 @@
+use Rattle.std.proofs.Common.{◌≡◌, ℕ, List, Option, IfSome, inl, inr, refl}
+use Rattle.jc_scenario.specs.Views.{scenario_view}
+use Rattle.jc_debug.specs.Session.{Session}
+use Rattle.jc_debug.specs.Trail.{session_of}
+use Rattle.jc_session.specs.Answers.{Origin}
+use Rattle.jc_session.specs.Shown.{finished, too_many}
+use Rattle.jc_session.specs.Went.{WentToRead, WentWhole, WentFront}
+use Rattle.jc_session.proofs.Begun.{text_refused_shown, refused_front, on_scenario, shown_by}
+use Rattle.jc_session.proofs.Talking.{passed_on}
+use Rattle.jc_session.proofs.sessions.session.Goals as goal
+
+pub returns-in-Ok-refuse-clause-text_refused : goal.returns-in-Ok-refuse-clause-text_refused
+returns-in-Ok-refuse-clause-text_refused g c = λ fault e.
+    let same : c.in-Err.fault ≡ fault = cc in
+    (text_refused_shown c.args.scenario.now c.in-Err.fault fault (g.K.Sink.taken c.args.out.now) (g.K.Sink.taken c.refuse.new.out) c.in-Err.ensures.fault c.in-Ok-refuse.ensures.ok same, refl)
+
+pub returns-in-Err-refuse-clause-write : goal.returns-in-Err-refuse-clause-write
+returns-in-Err-refuse-clause-write g c = λ k.
+    let w = c.in-Err-refuse.ensures.write (passed_on _ _ k) in
+    inl (refl, refused_front c.args.scenario.now c.in-Err.fault (g.K.Sink.taken c.args.out.now) (g.K.Sink.taken c.refuse.new.out) c.in-Err.ensures.fault w.1 w.2 w.3)
+
+pub returns-in-Ok-converse-clause-finished : goal.returns-in-Ok-converse-clause-finished
+returns-in-Ok-converse-clause-finished g c = λ _.
+    shown_by c.args.scenario.now (scenario_view c.in-Ok.scenario) c.in-Ok-new.debugger (session_of c.in-Ok-new.debugger) (g.S.Source.left c.args.lines.now) finished (g.K.Sink.taken c.args.out.now) (g.K.Sink.taken c.converse.new.out) c.in-Ok.ensures.scenario c.in-Ok-new.ensures.net c.in-Ok-new.ensures.session c.in-Ok-converse.ensures.finished
+
+pub returns-clause-too_many : goal.returns-clause-too_many
+returns-clause-too_many g c = λ k.
+    shown_by c.args.scenario.now (scenario_view c.in-Ok.scenario) c.in-Ok-new.debugger (session_of c.in-Ok-new.debugger) (g.S.Source.left c.args.lines.now) too_many (g.K.Sink.taken c.args.out.now) (g.K.Sink.taken c.converse.new.out) c.in-Ok.ensures.scenario c.in-Ok-new.ensures.net c.in-Ok-new.ensures.session (c.in-Err-converse.ensures.too_many (passed_on _ _ k))
+
+pub returns-clause-read : goal.returns-clause-read
+returns-clause-read g c = λ k.
+    on_scenario (λ (O : Origin) (A : Session). IfSome (g.S.Source.left c.args.lines.now) (λ l. WentToRead O A l (g.S.Source.left c.converse.new.source) (g.K.Sink.taken c.args.out.now) (g.K.Sink.taken c.converse.new.out))) c.args.scenario.now (scenario_view c.in-Ok.scenario) c.in-Ok-new.debugger (session_of c.in-Ok-new.debugger) c.in-Ok.ensures.scenario c.in-Ok-new.ensures.net c.in-Ok-new.ensures.session (c.in-Err-converse.ensures.read (passed_on _ _ k))
+
+pub returns-clause-memory : goal.returns-clause-memory
+returns-clause-memory g c = λ k.
+    inr (on_scenario (λ (O : Origin) (A : Session). IfSome (g.S.Source.left c.args.lines.now) (λ l. WentWhole O A l (g.K.Sink.taken c.args.out.now) (g.K.Sink.taken c.converse.new.out))) c.args.scenario.now (scenario_view c.in-Ok.scenario) c.in-Ok-new.debugger (session_of c.in-Ok-new.debugger) c.in-Ok.ensures.scenario c.in-Ok-new.ensures.net c.in-Ok-new.ensures.session (c.in-Err-converse.ensures.memory (passed_on _ _ k)))
+
+pub returns-clause-write : goal.returns-clause-write
+returns-clause-write g c = λ k.
+    inr (on_scenario (λ (O : Origin) (A : Session). IfSome (g.S.Source.left c.args.lines.now) (λ l. WentFront O A l (g.K.Sink.taken c.args.out.now) (g.K.Sink.taken c.converse.new.out))) c.args.scenario.now (scenario_view c.in-Ok.scenario) c.in-Ok-new.debugger (session_of c.in-Ok-new.debugger) c.in-Ok.ensures.scenario c.in-Ok-new.ensures.net c.in-Ok-new.ensures.session (c.in-Err-converse.ensures.write (passed_on _ _ k)))

@@ -1,0 +1,11 @@
+pub mod Lines
+pub mod Reads
+pub mod Requests
+pub mod Views
+pub mod Texts
+pub mod Answers
+pub mod Shown
+pub mod Went
+pub mod SoFar
+pub mod Gives
+pub mod Kinds

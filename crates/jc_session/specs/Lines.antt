@@ -1,0 +1,38 @@
+-- The lines of what a session is given.
+use Rattle.std.specs.Prelude.{◌≡◌, ◌≢◌, ℕ, ◌-◌, nat_le, ◌==◌, List, [], ◌∷◌, ◌++◌, length, take, flat_map, slice_index, Option, Some, None, if◌then◌else◌}
+use Rattle.std.specs.List.{AllByRecursion}
+
+-- what a line is judged by: its bytes, or nothing where it is too long
+abbrev pub Line : Type 0
+Line = Option (List ℕ)
+
+-- the byte isn't among them
+abbrev pub Lacks : ℕ → List ℕ → Type 0
+Lacks b bytes = AllByRecursion (λ x. x ≢ b) bytes
+
+-- lines, and an LF after each
+abbrev pub ended : List (List ℕ) → List ℕ
+ended lines = flat_map (λ x. x ++ 10 ∷ []) lines
+
+-- The bytes are whole lines, each with its LF, and what stands after the last LF.
+pub record AreLines (bytes : List ℕ) (whole : List (List ℕ)) (last : List ℕ) : Type 0 where
+  pub is : bytes ≡ ended whole ++ last
+  pub no_lf : AllByRecursion (Lacks 10) whole
+  pub last_no_lf : Lacks 10 last
+
+-- without the CR that the bytes end in, if they do
+abbrev pub without_cr : List ℕ → List ℕ
+without_cr xs = if slice_index xs (length xs - 1) == 13 then take (length xs - 1) xs else xs
+
+-- a line of at most 4096 bytes is its text
+abbrev pub within : List ℕ → List ℕ → Line
+within raw text = if nat_le (length raw) 4096 then Some text else None
+
+-- a line that ended in an LF; one CR before that is no part of it
+abbrev pub whole_line : List ℕ → Line
+whole_line raw = within raw (without_cr raw)
+
+-- what stands after the last LF is a line where it isn't empty
+abbrev pub last_line : List ℕ → List Line
+last_line [] = []
+last_line (b ∷ bs) = within (b ∷ bs) (b ∷ bs) ∷ []

@@ -1,0 +1,53 @@
+-- The lines of answers that no other text has.
+use Rattle.std.specs.Prelude.{ℕ, ◌+◌, List, [], ◌∷◌, ◌++◌, flat_map, Option, Some, None, codes, decimal}
+use Rattle.jc_rules.specs.declared.operation.Event.{Event}
+use Rattle.jc_rules.specs.declared.refusal.Refusal.{Refusal}
+use Rattle.jc_rules.specs.Refusals.{number_of, name_of}
+use Rattle.jc_printer.specs.Canon.{canon_event}
+use Rattle.jc_dump.specs.Lines.{stuck_text}
+use Rattle.jc_debug.specs.Session.{StuckEvent, Outcome, breaks, sticks, ends}
+
+-- a refusal without a place
+abbrev pub refusal_line : Refusal → List ℕ
+refusal_line refusal =
+    codes "refused " ++ decimal (number_of refusal) ++ codes " " ++ name_of refusal ++ codes "\n"
+
+abbrev pub at_line : ℕ → List ℕ
+at_line n = codes "at " ++ decimal n ++ codes "\n"
+
+abbrev pub set_line : ℕ → List ℕ
+set_line k = codes "set " ++ decimal k ++ codes "\n"
+
+abbrev pub cleared_line : ℕ → List ℕ
+cleared_line k = codes "cleared " ++ decimal k ++ codes "\n"
+
+abbrev pub where_line : ℕ → ℕ → List ℕ
+where_line n length = codes "at " ++ decimal n ++ codes " of " ++ decimal length ++ codes "\n"
+
+-- where a move came to, and the event that stopped it, if one did
+abbrev pub went_text : List (List ℕ) → ℕ → Option StuckEvent → List ℕ
+went_text names n None = at_line n
+went_text names n (Some (event, why)) = at_line n ++ stuck_text names why event
+
+-- where a run came to, and why it went no further; breakpoint j + 1 stands at place j
+abbrev pub ran_text : List (List ℕ) → ℕ → Outcome → List ℕ
+ran_text names n (breaks j) = at_line n ++ (codes "break " ++ decimal (j + 1) ++ codes "\n")
+ran_text names n (sticks event why) = at_line n ++ stuck_text names why event
+ran_text names n ends = at_line n ++ codes "end\n"
+
+-- an event with its number in the schedule
+abbrev pub numbered_line : List (List ℕ) → ℕ → Event → List ℕ
+numbered_line names n event = decimal n ++ codes " " ++ canon_event names event ++ codes "\n"
+
+-- events, of which the first one has the number n
+abbrev pub numbered_lines : List (List ℕ) → ℕ → List Event → List ℕ
+numbered_lines names n [] = []
+numbered_lines names n (event ∷ events) = numbered_line names n event ++ numbered_lines names (n + 1) events
+
+abbrev pub event_lines : List (List ℕ) → List Event → List ℕ
+event_lines names events = flat_map (λ event. canon_event names event ++ codes "\n") events
+
+-- a list that may be empty
+abbrev pub or_none : List ℕ → List ℕ
+or_none [] = codes "none\n"
+or_none (b ∷ bs) = b ∷ bs

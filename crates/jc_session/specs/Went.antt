@@ -1,0 +1,93 @@
+-- What went out of a session.
+use Rattle.std.specs.Prelude.{◌≡◌, ℕ, ◌≤◌, List, [], ◌∷◌, ◌++◌, length, take, map, Option, IfSome, ◌⊎◌}
+use Rattle.std.specs.List.{AllByRecursion}
+use Rattle.std.specs.Io.KnownBytes.{Appends}
+use Rattle.jc_rules.specs.Told.{AppendsIfTold}
+use Rattle.jc_parser.specs.declared.fault.ScenarioFault.{ScenarioFault}
+use Rattle.jc_scenario.specs.Scenarios.{Scenario, IsScenario}
+use Rattle.jc_scenario.specs.Faults.{IsFault}
+use Rattle.jc_debug.specs.Session.{Session, begun}
+use Rattle.jc_session.specs.Lines.{Line, Lacks, ended, whole_line, last_line}
+use Rattle.jc_session.specs.Answers.{Origin, origin_of, IsFaultLine, Answer}
+use Rattle.jc_session.specs.Shown.{Answers, Talks, End, Shows}
+
+-- a front of the bytes was appended, where that is told
+abbrev pub AppendsSome : Option (List ℕ) → Option (List ℕ) → List ℕ → Type 0
+AppendsSome old new bs = (n : ℕ) × AppendsIfTold old new (take n bs)
+
+-- the answer of a line went out, and the session goes on
+abbrev pub GoesOn : Origin → Session → Line → Session → Option (List ℕ) → Option (List ℕ) → Type 0
+GoesOn O A line B old new = (text : List ℕ) × Answer O A line B text × Appends old new text
+
+-- a front of the answer of a line went out
+abbrev pub BreaksOff : Origin → Session → Line → Option (List ℕ) → Option (List ℕ) → Type 0
+BreaksOff O A line old new = (B : Session) × (text : List ℕ) × Answer O A line B text × AppendsSome old new text
+
+-- a whole session went out
+abbrev pub Wrote : Origin → Session → List ℕ → End → Option (List ℕ) → Option (List ℕ) → Type 0
+Wrote O A bytes end old new = (text : List ℕ) × Talks O A bytes text end × Appends old new text
+
+-- The first whole lines of the bytes, within the limits, and their answers.
+pub record Answered (O : Origin) (A : Session) (bytes : List ℕ) (whole : List (List ℕ)) (rest : List ℕ) (B : Session)
+    (text : List ℕ) : Type 0 where
+  pub is : bytes ≡ ended whole ++ rest
+  pub no_lf : AllByRecursion (Lacks 10) whole
+  pub count : length whole ≤ 1000000
+  pub size : length (ended whole) ≤ 67108864
+  pub answers : Answers O A (map whole_line whole) B text
+
+-- Exactly the answers of all lines whose LF was read went out: of the bytes some were read, and the others are left.
+pub record WentToRead (O : Origin) (A : Session) (bytes : List ℕ) (left old new : Option (List ℕ)) : Type 0 where
+  pub whole : List (List ℕ)
+  pub part : List ℕ
+  pub rest : List ℕ
+  pub last : Session
+  pub text : List ℕ
+  pub part_no_lf : Lacks 10 part
+  pub answered : Answered O A bytes whole (part ++ rest) last text
+  pub is_left : IfSome left (λ ys. ys ≡ rest)
+  pub went : Appends old new text
+
+-- The answers of some first lines went out, whole.
+pub record WentWhole (O : Origin) (A : Session) (bytes : List ℕ) (old new : Option (List ℕ)) : Type 0 where
+  pub whole : List (List ℕ)
+  pub rest : List ℕ
+  pub last : Session
+  pub text : List ℕ
+  pub answered : Answered O A bytes whole rest last text
+  pub went : Appends old new text
+
+-- the line that comes next
+pub data IsNext : List ℕ → Line → Type 0 where
+  ends_in_lf : {rest : List ℕ} (raw more : List ℕ) → rest ≡ raw ++ 10 ∷ more → Lacks 10 raw → IsNext rest (whole_line raw)
+  ends_at_end : {rest : List ℕ} {line : Line} → Lacks 10 rest → last_line rest ≡ line ∷ [] → IsNext rest line
+
+-- The answers of some first lines went out, and a front of the next line's.
+pub record WentFront (O : Origin) (A : Session) (bytes : List ℕ) (old new : Option (List ℕ)) : Type 0 where
+  pub whole : List (List ℕ)
+  pub rest : List ℕ
+  pub last : Session
+  pub text : List ℕ
+  pub answered : Answered O A bytes whole rest last text
+  pub line : Line
+  pub next : IsNext rest line
+  pub after : Session
+  pub answer : List ℕ
+  pub answers : Answer O last line after answer
+  pub front : ℕ
+  pub went : AppendsIfTold old new (text ++ take front answer)
+
+-- ---- whole sessions
+
+-- The text of a session went out, which ends so.
+abbrev pub ShowsAll : List ℕ → List ℕ → End → Option (List ℕ) → Option (List ℕ) → Type 0
+ShowsAll b l end old new = (text : List ℕ) × Shows b l text end × Appends old new text
+
+-- The scenario is refused, and a front of the line for that went out.
+abbrev pub WentRefused : List ℕ → Option (List ℕ) → Option (List ℕ) → Type 0
+WentRefused b old new =
+    (fault : ScenarioFault) × (text : List ℕ) × IsFault b fault × IsFaultLine fault text × AppendsSome old new text
+
+-- what is said of a session on the scenario that the bytes are, from its start
+abbrev pub OnScenario : List ℕ → (Origin → Session → Type 0) → Type 0
+OnScenario b Says = (s : Scenario) × IsScenario b s × Says (origin_of s) (begun s.schedule)

@@ -1,0 +1,92 @@
+//! Bytes that were read ahead.
+
+ghost use Rattle.std.specs.Prelude.{◌≡◌, ◌≢◌, ℕ, ◌+◌, ◌<◌, ◌≤◌, List, [], ◌∷◌, ◌++◌, length, take, drop, Option, Some, None, Ok, IfOk, OnOk, OnErr, IsTrue, ◌↔◌};
+ghost use Rattle.std.specs.Io.KnownBytes.{Consumes, IsAtEnd, prepend_known};
+ghost use Rattle.jc_rules.specs.Told.{Stays, failures_of};
+
+use jc_rules::io::{Failed, Source};
+use std::marker::Model;
+
+/// What was read of a source and wasn't taken yet, seen as the list of these bytes.
+#[derive(Drop)]
+pub struct Ahead {
+    buf: [u8; 4096],
+    start: usize,
+    stop: usize,
+}
+
+impl Model for Ahead {
+    ghost use Rattle.std.specs.Prelude.{List, ℕ, ◌≤◌, slice_range};
+
+    ghost Value = { List ℕ };
+
+    ghost view = { λ a. slice_range a.buf a.start a.stop };
+
+    ghost invariant = { λ a. (a.start ≤ a.stop) × (a.stop ≤ 4096) };
+}
+
+impl Ahead {
+    pub fn new() -> Self
+        ensures { result ≡ [] }
+    {
+        Ahead {
+            buf: [0; 4096],
+            start: 0,
+            stop: 0,
+        }
+    }
+
+    fn is_empty(&self) -> bool
+        ensures { IsTrue result ↔ (self.now ≡ []) }
+    {
+        self.start == self.stop
+    }
+
+    /// Reads some bytes, and none only at the end.
+    fn fill<S: Source>(&mut self, source: &mut S) -> Result<(), Failed>
+        requires { self.old ≡ [] }
+        ensures ok { OnOk result (Consumes (S.left source.old) (S.left source.new) self.new
+            × (self.new ≡ [] → IsAtEnd (S.left source.new))) }
+        ensures err { OnErr result ((self.new ≡ []) × Stays (S.left source.old) (S.left source.new)) }
+        ensures failures { S.failures source.new ≡ S.failures source.old + failures_of result }
+    {
+        self.start = 0;
+        self.stop = 0;
+        let n = source.read(&mut self.buf)?;
+        self.stop = n;
+        Ok(())
+    }
+
+    /// Takes the first byte.
+    fn first(&mut self) -> u8
+        requires { self.old ≢ [] }
+        ensures { self.old ≡ result ∷ self.new }
+    {
+        let byte = self.buf[self.start];
+        self.start += 1;
+        byte
+    }
+
+    /// The next byte, and `None` at the end. The source is asked only where nothing is left of what was read before.
+    pub fn next<S: Source>(&mut self, source: &mut S) -> Result<Option<u8>, Failed>
+        ensures some { (b : ℕ) → result ≡ Ok (Some b)
+            → Consumes (prepend_known self.old (S.left source.old)) (prepend_known self.new (S.left source.new))
+            (b ∷ []) }
+        ensures none { result ≡ Ok None
+            → IsAtEnd (prepend_known self.old (S.left source.old))
+            × IsAtEnd (prepend_known self.new (S.left source.new))
+            × Consumes (prepend_known self.old (S.left source.old)) (prepend_known self.new (S.left source.new)) [] }
+        ensures err { OnErr result
+            ((self.old ≡ []) × (self.new ≡ []) × Stays (S.left source.old) (S.left source.new)) }
+        ensures failures { S.failures source.new ≡ S.failures source.old + failures_of result }
+        ensures kept { self.old ≢ [] → source.new ≡ source.old }
+    {
+        if self.is_empty() {
+            self.fill(source)?;
+            if self.is_empty() {
+                return Ok(None);
+            }
+        }
+        Ok(Some(self.first()))
+    }
+}

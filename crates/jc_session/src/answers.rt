@@ -1,0 +1,328 @@
+//! The answers of lines.
+
+ghost use Rattle.std.specs.Prelude.{◌≡◌, ◌++◌, ◌≤◌, ◌<◌, Option, IfOk, IfSome, IfNone, MatchOption, length, string_bytes};
+ghost use Rattle.jc_rules.specs.declared.operation.Event.{Event as AnyEvent};
+ghost use Rattle.jc_rules.specs.Refused.{Cause};
+ghost use Rattle.jc_network.specs.Makes.{stuck_for};
+ghost use Rattle.jc_dump.specs.Lines.{stuck_text, IsNamedStuck};
+ghost use Rattle.jc_session.specs.Answers.{IsNamed, IsStrange, IsRefusalAt};
+ghost use Rattle.jc_session.specs.Gives.{AllNamed, Gives, GivesLine, HasRefusal, Spells, set_text};
+ghost use Rattle.jc_session.specs.Requests as Q;
+ghost use Rattle.jc_session.specs.Requests.{meaning, asks};
+ghost use Rattle.jc_session.specs.Texts.{at_line};
+ghost use Rattle.jc_session.specs.Views.{request_view, bytes_of};
+
+use crate::request::{Meaning, Request, meaning_of};
+use crate::texts::{
+    at_and, at_line, break_line, cleared_line, dump_lines, event_lines, numbered_lines, or_none,
+    refusal_line, set_line, where_line,
+};
+use jc_debug::{ActFault, BreakFault, Debugger, GotoFault, RunEnd, RunFault, StepFault};
+use jc_dump::{block_text, dump_replica, refused_text, stuck_text};
+use jc_network::{Net, Stuck};
+use jc_parser::parse_event;
+use jc_rules::{Event, Refusal, Rule, Text};
+use jc_scenario::resolve;
+use std::alloc::{AllocError, Global};
+
+// ---- moves
+
+/// The position that a move came to, and the line of the event that stopped it there.
+fn stuck_at(alloc: Global, n: u64, net: &Net, stuck: &Stuck) -> Result<String, AllocError>
+    requires { IsNamedStuck net.now.names stuck.now }
+    ensures { IfOk result (λ text.
+        (why : Cause) (event : AnyEvent)
+        → stuck.now ≡ stuck_for why event
+        → string_bytes text ≡ at_line n ++ stuck_text net.now.names why event) }
+{
+    at_and(alloc, n, stuck_text(alloc, net, stuck)?.as_str())
+}
+
+fn step(alloc: Global, debugger: &mut Debugger, n: u64) -> Result<String, AllocError>
+    requires { AllNamed debugger.old }
+    ensures { IfOk result (λ text. Gives debugger.old (Q.step n) debugger.new (string_bytes text)) }
+{
+    match debugger.step(n) {
+        Ok(()) => at_line(alloc, debugger.position()),
+        Err(StepFault::AtEnd) => refusal_line(alloc, Refusal::AtEnd),
+        Err(StepFault::Stuck(stuck)) => stuck_at(
+            alloc,
+            debugger.position(),
+            debugger.net(),
+            &stuck,
+        ),
+        Err(StepFault::Memory) => Err(AllocError),
+    }
+}
+
+fn goto(alloc: Global, debugger: &mut Debugger, n: u64) -> Result<String, AllocError>
+    requires { AllNamed debugger.old }
+    ensures { IfOk result (λ text. Gives debugger.old (Q.goto n) debugger.new (string_bytes text)) }
+{
+    match debugger.goto(n) {
+        Ok(()) => at_line(alloc, debugger.position()),
+        Err(GotoFault::PastSchedule) => refusal_line(alloc, Refusal::PastSchedule),
+        Err(GotoFault::Stuck(stuck)) => stuck_at(
+            alloc,
+            debugger.position(),
+            debugger.net(),
+            &stuck,
+        ),
+        Err(GotoFault::Memory) => Err(AllocError),
+    }
+}
+
+fn back(alloc: Global, debugger: &mut Debugger, n: u64) -> Result<String, AllocError>
+    ensures { IfOk result (λ text. Gives debugger.old (Q.back n) debugger.new (string_bytes text)) }
+{
+    if debugger.back(n) {
+        at_line(alloc, debugger.position())
+    } else {
+        refusal_line(alloc, Refusal::AtStart)
+    }
+}
+
+fn run(alloc: Global, debugger: &mut Debugger) -> Result<String, AllocError>
+    requires { AllNamed debugger.old }
+    ensures { IfOk result (λ text. Gives debugger.old Q.run debugger.new (string_bytes text)) }
+{
+    match debugger.run() {
+        Ok(RunEnd::Break(k)) => {
+            let line = break_line(alloc, k)?;
+            at_and(alloc, debugger.position(), line.as_str())
+        }
+        Ok(RunEnd::Stuck(stuck)) => stuck_at(alloc, debugger.position(), debugger.net(), &stuck),
+        Ok(RunEnd::End) => at_and(alloc, debugger.position(), "end\n"),
+        Err(RunFault::AtEnd) => refusal_line(alloc, Refusal::AtEnd),
+        Err(RunFault::Memory) => Err(AllocError),
+    }
+}
+
+// ---- events of a line
+
+/// What the rest of an `act` line spells: an event, or nothing, with the line that says why.
+#[derive(Drop)]
+enum Spelling {
+    Event(Event),
+    Refused(String),
+}
+
+/// The line of a fault of a text. Want of memory has no number and no line.
+pub fn fault_line(
+    alloc: Global,
+    number: Option<u8>,
+    place: Option<usize>,
+) -> Result<String, AllocError>
+    requires { IfSome number HasRefusal }
+    ensures { IfOk result (λ text. IsRefusalAt number place (string_bytes text)) }
+{
+    let (Some(number), Some(place)) = (number, place) else {
+        return Err(AllocError);
+    };
+    let Some(refusal) = Refusal::of_number(number) else {
+        unreachable!()
+    };
+    refused_text(alloc, refusal, place)
+}
+
+fn event_of(alloc: Global, names: &[Text], rest: &str) -> Result<Spelling, AllocError>
+    requires { length names.now ≤ 64 }
+    ensures { IfOk result (λ spelling. Spells names.now rest.now spelling) }
+{
+    let named = match parse_event(alloc, rest) {
+        Ok(named) => named,
+        Err(fault) => {
+            let line = fault_line(alloc, fault.number(), fault.place())?;
+            return Ok(Spelling::Refused(line));
+        }
+    };
+    match resolve(names, &named) {
+        Ok(event) => Ok(Spelling::Event(event)),
+        Err(unknown) => {
+            let line = refused_text(alloc, Refusal::UnknownReplica, unknown.place)?;
+            Ok(Spelling::Refused(line))
+        }
+    }
+}
+
+fn act(alloc: Global, debugger: &mut Debugger, rest: &str) -> Result<String, AllocError>
+    ensures { IfOk result (λ text. Gives debugger.old (Q.act rest.now) debugger.new (string_bytes text)) }
+{
+    let event = match event_of(alloc, debugger.net().names(), rest)? {
+        Spelling::Event(event) => event,
+        Spelling::Refused(line) => return Ok(line),
+    };
+    match debugger.act(&event) {
+        Ok(()) => at_line(alloc, debugger.position()),
+        Err(ActFault::TooManyEvents) => refusal_line(alloc, Refusal::TooManyEvents),
+        Err(ActFault::Stuck(stuck)) => stuck_at(alloc, debugger.position(), debugger.net(), &stuck),
+        Err(ActFault::Memory) => Err(AllocError),
+    }
+}
+
+// ---- breakpoints
+
+/// The number of the replica that has the name.
+fn number_of(names: &[Text], name: &[u8]) -> Option<u16>
+    requires { length names.now ≤ 64 }
+    ensures some { IfSome result (λ p. IsNamed names.now name.now p) }
+    ensures none { IfNone result (IsStrange names.now name.now) }
+{
+    for (number, own) in names.iter().enumerate() {
+        if own.as_str().as_bytes() == name {
+            return Some(number as u16);
+        }
+    }
+    None
+}
+
+/// The answer to a new breakpoint.
+fn set_text(alloc: Global, set: Result<u16, BreakFault>) -> Result<String, AllocError>
+    ensures { IfOk result (λ text. string_bytes text ≡ set_text set) }
+{
+    match set {
+        Ok(k) => set_line(alloc, k),
+        Err(_) => refusal_line(alloc, Refusal::TooManyBreaks),
+    }
+}
+
+fn break_at(alloc: Global, debugger: &mut Debugger, n: u64) -> Result<String, AllocError>
+    ensures { IfOk result (λ text. Gives debugger.old (Q.break_at n) debugger.new (string_bytes text)) }
+{
+    set_text(alloc, debugger.break_at(n))
+}
+
+fn break_rule(alloc: Global, debugger: &mut Debugger, name: &str) -> Result<String, AllocError>
+    ensures { IfOk result (λ text. Gives debugger.old (Q.break_rule name.now) debugger.new (string_bytes text)) }
+{
+    match Rule::of_name(name) {
+        Some(rule) => set_text(alloc, debugger.break_rule(rule)),
+        None => refusal_line(alloc, Refusal::BadLine),
+    }
+}
+
+fn break_replica(alloc: Global, debugger: &mut Debugger, name: &[u8]) -> Result<String, AllocError>
+    ensures { IfOk result (λ text. Gives debugger.old (Q.break_replica name.now) debugger.new (string_bytes text)) }
+{
+    match number_of(debugger.net().names(), name) {
+        Some(p) => set_text(alloc, debugger.break_replica(p)),
+        None => refusal_line(alloc, Refusal::UnknownReplica),
+    }
+}
+
+fn unbreak(alloc: Global, debugger: &mut Debugger, k: u64) -> Result<String, AllocError>
+    ensures { IfOk result (λ text. Gives debugger.old (Q.unbreak k) debugger.new (string_bytes text)) }
+{
+    if debugger.unbreak(k) {
+        cleared_line(alloc, k)
+    } else {
+        refusal_line(alloc, Refusal::NoSuchBreak)
+    }
+}
+
+// ---- what is shown
+
+fn state(alloc: Global, debugger: &Debugger) -> Result<String, AllocError>
+    ensures { IfOk result (λ text. Gives debugger.now Q.state debugger.now (string_bytes text)) }
+{
+    dump_lines(alloc, debugger.net())
+}
+
+fn state_of(alloc: Global, debugger: &Debugger, name: &[u8]) -> Result<String, AllocError>
+    ensures { IfOk result (λ text. Gives debugger.now (Q.state_of name.now) debugger.now (string_bytes text)) }
+{
+    let net = debugger.net();
+    let Some(p) = number_of(net.names(), name) else {
+        return refusal_line(alloc, Refusal::UnknownReplica);
+    };
+    match dump_replica(alloc, net, p) {
+        Ok(dump) => Ok(dump),
+        Err(_) => Err(AllocError),
+    }
+}
+
+fn trace(alloc: Global, debugger: &Debugger) -> Result<String, AllocError>
+    requires { AllNamed debugger.now }
+    ensures { IfOk result (λ text. Gives debugger.now Q.trace debugger.now (string_bytes text)) }
+{
+    let Some(trace) = debugger.trace() else {
+        return String::from_str(alloc, "start\n");
+    };
+    let n = debugger.position();
+    let event = &debugger.schedule()[n as usize - 1];
+    block_text(alloc, debugger.net().names(), n, event, trace)
+}
+
+fn enabled(alloc: Global, debugger: &Debugger) -> Result<String, AllocError>
+    ensures { IfOk result (λ text. Gives debugger.now Q.enabled debugger.now (string_bytes text)) }
+{
+    let net = debugger.net();
+    // Events have led to the network from a start, so what can be made names its replicas.
+    net.steps();
+    let events = net.enabled()?;
+    let text = event_lines(alloc, net.names(), &events)?;
+    or_none(alloc, text)
+}
+
+fn schedule(alloc: Global, debugger: &Debugger) -> Result<String, AllocError>
+    requires { AllNamed debugger.now }
+    ensures { IfOk result (λ text. Gives debugger.now Q.schedule debugger.now (string_bytes text)) }
+{
+    let text = numbered_lines(alloc, debugger.net().names(), debugger.schedule())?;
+    or_none(alloc, text)
+}
+
+fn position(alloc: Global, debugger: &Debugger) -> Result<String, AllocError>
+    ensures { IfOk result (λ text. Gives debugger.now Q.position debugger.now (string_bytes text)) }
+{
+    where_line(alloc, debugger.position(), debugger.schedule().len())
+}
+
+// ---- lines
+
+/// Does what is asked for, and gives its answer; `quit` has none.
+fn reply(
+    alloc: Global,
+    debugger: &mut Debugger,
+    request: Request,
+) -> Result<Option<String>, AllocError>
+    requires { AllNamed debugger.old }
+    ensures { IfOk result (λ answer. MatchOption answer (request_view request.entry ≡ Q.quit)
+        (λ text. Gives debugger.old (request_view request.entry) debugger.new (string_bytes text))) }
+{
+    match request {
+        Request::Step(n) => Ok(Some(step(alloc, debugger, n)?)),
+        Request::Back(n) => Ok(Some(back(alloc, debugger, n)?)),
+        Request::Goto(n) => Ok(Some(goto(alloc, debugger, n)?)),
+        Request::Act(rest) => Ok(Some(act(alloc, debugger, rest)?)),
+        Request::Run => Ok(Some(run(alloc, debugger)?)),
+        Request::BreakAt(n) => Ok(Some(break_at(alloc, debugger, n)?)),
+        Request::BreakRule(name) => Ok(Some(break_rule(alloc, debugger, name)?)),
+        Request::BreakReplica(name) => Ok(Some(break_replica(alloc, debugger, name)?)),
+        Request::Unbreak(k) => Ok(Some(unbreak(alloc, debugger, k)?)),
+        Request::State => Ok(Some(state(alloc, debugger)?)),
+        Request::StateOf(name) => Ok(Some(state_of(alloc, debugger, name)?)),
+        Request::Trace => Ok(Some(trace(alloc, debugger)?)),
+        Request::Enabled => Ok(Some(enabled(alloc, debugger)?)),
+        Request::Schedule => Ok(Some(schedule(alloc, debugger)?)),
+        Request::Position => Ok(Some(position(alloc, debugger)?)),
+        Request::Quit => Ok(None),
+    }
+}
+
+/// Does what the line asks for, and gives its answer, which is empty for a line of no word; `quit` has none.
+pub fn answer(
+    alloc: Global,
+    debugger: &mut Debugger,
+    line: Option<&[u8]>,
+) -> Result<Option<String>, AllocError>
+    requires { AllNamed debugger.old }
+    ensures { IfOk result (λ answer. MatchOption answer (meaning (bytes_of line.entry) ≡ asks Q.quit)
+        (λ text. GivesLine debugger.old (bytes_of line.entry) debugger.new (string_bytes text))) }
+{
+    match meaning_of(line) {
+        Meaning::Nothing => Ok(Some(String::new(alloc))),
+        Meaning::Asks(request) => reply(alloc, debugger, request),
+        Meaning::Bad => Ok(Some(refusal_line(alloc, Refusal::BadLine)?)),
+    }
+}

@@ -1,0 +1,65 @@
+//! The line that is being read.
+
+ghost use Rattle.std.specs.Prelude.{◌≡◌, ◌+◌, ◌<◌, ◌≤◌, [], ◌∷◌, ◌++◌, length, take, MatchOption, if◌then◌else◌};
+ghost use Rattle.jc_session.specs.Lines.{without_cr};
+
+use std::marker::Model;
+
+/// The bytes of a line so far, seen as the list of them. One byte more than a line may have is kept, which tells
+/// that the line is too long; those behind it are dropped.
+#[derive(Drop)]
+pub struct Line {
+    bytes: [u8; 4097],
+    len: usize,
+}
+
+impl Model for Line {
+    ghost use Rattle.std.specs.Prelude.{List, ℕ, ◌≤◌, take};
+
+    ghost Value = { List ℕ };
+
+    ghost view = { λ s. take s.len s.bytes };
+
+    ghost invariant = { λ s. s.len ≤ 4097 };
+}
+
+impl Line {
+    pub fn new() -> Self
+        ensures { result ≡ [] }
+    {
+        Line {
+            bytes: [0; 4097],
+            len: 0,
+        }
+    }
+
+    pub fn clear(&mut self)
+        ensures { self.new ≡ [] }
+    {
+        self.len = 0;
+    }
+
+    pub fn push(&mut self, byte: u8)
+        ensures { self.new ≡ take 4097 (self.old ++ byte ∷ []) }
+    {
+        if self.len < 4097 {
+            self.bytes[self.len] = byte;
+            self.len += 1;
+        }
+    }
+
+    /// The line, and `None` where it is too long. Where an LF ended it, a CR before that is no part of it.
+    pub fn content(&self, ended: bool) -> Option<&[u8]>
+        ensures { MatchOption result (4096 < length self.now) (λ s.
+            (length self.now ≤ 4096) × (s.now ≡ (if ended then without_cr self.now else self.now))) }
+    {
+        if self.len > 4096 {
+            return None;
+        }
+        let mut stop = self.len;
+        if ended && stop > 0 && self.bytes[stop - 1] == b'\r' {
+            stop -= 1;
+        }
+        Some(&self.bytes[..stop])
+    }
+}

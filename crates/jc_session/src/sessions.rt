@@ -1,0 +1,227 @@
+//! Sessions: a scenario is read, and lines are answered one by one.
+
+ghost use Rattle.std.specs.Prelude.{◌≡◌, ◌≢◌, ℕ, ◌+◌, ◌<◌, ◌⊎◌, List, Ok, true, false, IfErr, OnOk, OnErr, IfSome, IsErrOf, IfOk};
+ghost use Rattle.std.specs.Io.KnownBytes.{Appends};
+ghost use Rattle.jc_parser.specs.declared.fault.ScenarioFault.{ScenarioFault as TextFault};
+ghost use Rattle.jc_parser.specs.declared.fault.ScenarioFault.TheVariants as T;
+ghost use Rattle.jc_scenario.specs.Scenarios.{Scenario, IsScenario};
+ghost use Rattle.jc_debug.specs.Session.{begun};
+ghost use Rattle.jc_debug.specs.Trail.{session_of};
+ghost use Rattle.jc_session.specs.Answers.{origin_of, IsFaultLine};
+ghost use Rattle.jc_session.specs.Gives.{origin_in, AllNamed};
+ghost use Rattle.jc_session.specs.Kinds.{IsOfAnswer};
+ghost use Rattle.jc_session.specs.Requests.{meaning, asks, quit};
+ghost use Rattle.jc_session.specs.Shown.{finished, too_many, text_refused, Shows};
+ghost use Rattle.jc_session.specs.Views.{bytes_of};
+ghost use Rattle.jc_session.specs.Went.{AppendsSome, GoesOn, BreaksOff, Wrote, WentToRead, WentWhole, WentFront, ShowsAll, WentRefused, OnScenario};
+
+use crate::answers::{answer, fault_line};
+use crate::lines::{Lines, Next};
+use jc_debug::Debugger;
+use jc_rules::io::{Failed, Sink, Source, write_all};
+use jc_scenario::{ScenarioFault, read};
+use std::alloc::{AllocError, Global};
+
+/// How a session ended.
+#[derive(Clone, Copy)]
+pub enum SessionEnd {
+    /// At `quit`, or where the lines ended.
+    Finished,
+    /// The scenario was refused, for this fault, and no line was read.
+    TextRefused(ScenarioFault),
+}
+
+/// Why a session ended early.
+#[derive(Clone, Copy, Debug, PartialEq, Eq)]
+pub enum SessionFault {
+    /// A read failed.
+    ReadFailed,
+    /// A write or a flush failed.
+    WriteFailed,
+    /// A byte past the limits of 1,000,000 lines and 67,108,864 bytes was read.
+    TooManyLines,
+    /// There was no memory.
+    Memory,
+}
+
+impl From<AllocError> for SessionFault {
+    ghost use Rattle.jc_session.specs.declared.sessions.SessionFault.TheVariants.{Memory as NoMemory};
+
+    ghost from_gives = { λ _ fault. fault ≡ NoMemory };
+
+    fn from(_: AllocError) -> Self {
+        SessionFault::Memory
+    }
+}
+
+/// Writes an answer and flushes it. An empty one needs neither.
+fn send<K: Sink>(out: &mut K, text: &str) -> Result<(), SessionFault>
+    ensures ok { OnOk result (Appends (K.taken out.old) (K.taken out.new) text.now) }
+    ensures err { OnErr result (AppendsSome (K.taken out.old) (K.taken out.new) text.now) }
+    ensures same { OnOk result (K.failures out.new ≡ K.failures out.old) }
+    ensures grow { OnErr result (K.failures out.old < K.failures out.new) }
+    ensures kind { IfErr result (λ e. e ≡ SessionFault.WriteFailed) }
+{
+    if text.is_empty() {
+        return Ok(());
+    }
+    if let Err(Failed) = write_all(out, text.as_bytes()) {
+        return Err(SessionFault::WriteFailed);
+    }
+    match out.flush() {
+        Ok(()) => Ok(()),
+        Err(Failed) => Err(SessionFault::WriteFailed),
+    }
+}
+
+/// Answers a line. Says whether the session goes on.
+fn answer_line<K: Sink>(
+    alloc: Global,
+    debugger: &mut Debugger,
+    line: Option<&[u8]>,
+    out: &mut K,
+) -> Result<bool, SessionFault>
+    requires { AllNamed debugger.old }
+    ensures goes { result ≡ Ok true → GoesOn (origin_in debugger.old) (session_of debugger.old) (bytes_of line.entry)
+        (session_of debugger.new) (K.taken out.old) (K.taken out.new) }
+    ensures origin { result ≡ Ok true → origin_in debugger.new ≡ origin_in debugger.old }
+    ensures quits { result ≡ Ok false
+        → (meaning (bytes_of line.entry) ≡ asks quit) × (K.taken out.new ≡ K.taken out.old) }
+    ensures same { OnOk result (K.failures out.new ≡ K.failures out.old) }
+    ensures memory { IsErrOf result SessionFault.Memory
+        → (K.failures out.new ≡ K.failures out.old) × (K.taken out.new ≡ K.taken out.old) }
+    ensures write { IsErrOf result SessionFault.WriteFailed
+        → (K.failures out.old < K.failures out.new)
+        × BreaksOff (origin_in debugger.old) (session_of debugger.old) (bytes_of line.entry)
+        (K.taken out.old) (K.taken out.new) }
+    ensures kind { IfErr result IsOfAnswer }
+{
+    let Some(text) = answer(alloc, debugger, line)? else {
+        return Ok(false);
+    };
+    send(out, text.as_str())?;
+    Ok(true)
+}
+
+/// Answers the lines of a source, each before the next is read, up to `quit` or its end.
+fn converse<S: Source, K: Sink>(
+    alloc: Global,
+    debugger: &mut Debugger,
+    source: &mut S,
+    out: &mut K,
+) -> Result<(), SessionFault>
+    requires { AllNamed debugger.old }
+    // Where nothing failed, exactly the answers of the lines went out.
+    ensures finished { OnOk result (IfSome (S.left source.old) (λ l.
+        Wrote (origin_in debugger.old) (session_of debugger.old) l finished (K.taken out.old) (K.taken out.new))) }
+    ensures too_many { IsErrOf result SessionFault.TooManyLines → IfSome (S.left source.old) (λ l.
+        Wrote (origin_in debugger.old) (session_of debugger.old) l too_many (K.taken out.old) (K.taken out.new)) }
+    // After a failed read, those of all lines whose LF was read.
+    ensures read { IsErrOf result SessionFault.ReadFailed → IfSome (S.left source.old) (λ l.
+        WentToRead (origin_in debugger.old) (session_of debugger.old) l (S.left source.new)
+        (K.taken out.old) (K.taken out.new)) }
+    // Without memory, those of the lines before, whole.
+    ensures memory { IsErrOf result SessionFault.Memory → IfSome (S.left source.old) (λ l.
+        WentWhole (origin_in debugger.old) (session_of debugger.old) l (K.taken out.old) (K.taken out.new)) }
+    // After a failed write, those of the lines before, and a front of the next one.
+    ensures write { IsErrOf result SessionFault.WriteFailed → IfSome (S.left source.old) (λ l.
+        WentFront (origin_in debugger.old) (session_of debugger.old) l (K.taken out.old) (K.taken out.new)) }
+    // Failures come with these answers alone.
+    ensures reads { (IsErrOf result SessionFault.ReadFailed → S.failures source.old < S.failures source.new)
+        × ((IsErrOf result SessionFault.ReadFailed → ⊥) → S.failures source.new ≡ S.failures source.old) }
+    ensures writes { (IsErrOf result SessionFault.WriteFailed → K.failures out.old < K.failures out.new)
+        × ((IsErrOf result SessionFault.WriteFailed → ⊥) → K.failures out.new ≡ K.failures out.old) }
+{
+    let mut lines = Lines::new();
+    'lines: loop {
+        match lines.next(source) {
+            Ok(Next::Whole) => match answer_line(alloc, debugger, lines.line.content(true), out) {
+                Ok(true) => {}
+                Ok(false) => return Ok(()),
+                Err(fault) => return Err(fault),
+            },
+            Ok(Next::Last) => match answer_line(alloc, debugger, lines.line.content(false), out) {
+                Ok(_) => return Ok(()),
+                Err(fault) => return Err(fault),
+            },
+            Ok(Next::End) => return Ok(()),
+            Ok(Next::TooMany) => return Err(SessionFault::TooManyLines),
+            Err(Failed) => return Err(SessionFault::ReadFailed),
+        }
+    }
+}
+
+/// Writes the line of a refused text. Want of memory has no line.
+fn refuse<K: Sink>(alloc: Global, fault: &ScenarioFault, out: &mut K) -> Result<(), SessionFault>
+    ensures ok { OnOk result ((text : List ℕ) × IsFaultLine fault.now text
+        × Appends (K.taken out.old) (K.taken out.new) text) }
+    ensures same { OnOk result (K.failures out.new ≡ K.failures out.old) }
+    ensures memory { IsErrOf result SessionFault.Memory
+        → (K.failures out.new ≡ K.failures out.old) × (K.taken out.new ≡ K.taken out.old) }
+    ensures write { IsErrOf result SessionFault.WriteFailed
+        → (K.failures out.old < K.failures out.new)
+        × (text : List ℕ) × IsFaultLine fault.now text × AppendsSome (K.taken out.old) (K.taken out.new) text }
+    ensures kind { IfErr result IsOfAnswer }
+{
+    let line = fault_line(alloc, fault.number(), fault.place())?;
+    send(out, line.as_str())
+}
+
+/// A session: reads the scenario, and answers the lines one by one, each before the next is read.
+///
+/// It ends at `quit` or where the lines end. A scenario that is refused is shown so, and no line is read.
+///
+/// Refusals: `ReadFailed` after the answers of all lines whose LF was read; `TooManyLines` and `Memory` after those of
+/// the lines before, whole; `WriteFailed` after a front of the text that was due. What a failed read has read of a line
+/// is lost, and so is what was read ahead of the lines that were answered.
+pub fn session<S: Source, K: Sink>(
+    alloc: Global,
+    scenario: &[u8],
+    lines: &mut S,
+    out: &mut K,
+) -> Result<SessionEnd, SessionFault>
+    // Where nothing failed, exactly the text of the session went out.
+    ensures finished { result ≡ Ok SessionEnd.Finished → IfSome (S.left lines.old) (λ l.
+        ShowsAll scenario.now l finished (K.taken out.old) (K.taken out.new)) }
+    ensures text_refused { (fault : TextFault) → result ≡ Ok (SessionEnd.TextRefused fault)
+        → ((l : List ℕ) → ShowsAll scenario.now l (text_refused fault) (K.taken out.old) (K.taken out.new))
+        × (lines.new ≡ lines.old) }
+    ensures too_many { IsErrOf result SessionFault.TooManyLines → IfSome (S.left lines.old) (λ l.
+        ShowsAll scenario.now l too_many (K.taken out.old) (K.taken out.new)) }
+    // After a failed read, the answers of all lines whose LF was read.
+    ensures read { IsErrOf result SessionFault.ReadFailed → OnScenario scenario.now (λ O A.
+        IfSome (S.left lines.old) (λ l. WentToRead O A l (S.left lines.new) (K.taken out.old) (K.taken out.new))) }
+    // Without memory, those of the lines before, whole; or nothing, where there was none before the first line.
+    ensures memory { IsErrOf result SessionFault.Memory
+        → ((lines.new ≡ lines.old) × (K.taken out.new ≡ K.taken out.old))
+        ⊎ OnScenario scenario.now (λ O A.
+        IfSome (S.left lines.old) (λ l. WentWhole O A l (K.taken out.old) (K.taken out.new))) }
+    // After a failed write, those of the lines before and a front of the next one; or of the scenario's refusal.
+    ensures write { IsErrOf result SessionFault.WriteFailed
+        → ((lines.new ≡ lines.old) × WentRefused scenario.now (K.taken out.old) (K.taken out.new))
+        ⊎ OnScenario scenario.now (λ O A.
+        IfSome (S.left lines.old) (λ l. WentFront O A l (K.taken out.old) (K.taken out.new))) }
+    // Failures come with these answers alone.
+    ensures reads { (IsErrOf result SessionFault.ReadFailed → S.failures lines.old < S.failures lines.new)
+        × ((IsErrOf result SessionFault.ReadFailed → ⊥) → S.failures lines.new ≡ S.failures lines.old) }
+    ensures writes { (IsErrOf result SessionFault.WriteFailed → K.failures out.old < K.failures out.new)
+        × ((IsErrOf result SessionFault.WriteFailed → ⊥) → K.failures out.new ≡ K.failures out.old) }
+{
+    let scenario = match read(alloc, scenario) {
+        Ok(scenario) => scenario,
+        Err(fault) => {
+            return match refuse(alloc, &fault, out) {
+                Ok(()) => Ok(SessionEnd::TextRefused(fault)),
+                Err(fault) => Err(fault),
+            };
+        }
+    };
+    let mut debugger = match Debugger::new(alloc, scenario) {
+        Ok(debugger) => debugger,
+        Err(_) => return Err(SessionFault::Memory),
+    };
+    match converse(alloc, &mut debugger, lines, out) {
+        Ok(()) => Ok(SessionEnd::Finished),
+        Err(fault) => Err(fault),
+    }
+}
