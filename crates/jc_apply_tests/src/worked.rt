@@ -1,10 +1,8 @@
 //! Operations worked by hand: the trees that they give, as dumps, and the rules of one of them. Where
-//! memory is refused, store and trace are as they were, and the same call again succeeds. Each over both
-//! stores.
+//! memory is refused, store and trace are as they were, and the same call again succeeds.
 
-ghost use Rattle.std.specs.Prelude.{◌≡◌, ◌≢◌, [], IfOk, OnOk};
+ghost use Rattle.std.specs.Prelude.{◌≡◌, ◌≢◌, IfOk, OnOk};
 ghost use Rattle.jc_rules.specs.declared.id.Id.{Id as AnyId};
-ghost use Rattle.jc_rules.specs.Context.{empty};
 ghost use Rattle.jc_rules.specs.Paths.{IsPath};
 ghost use Rattle.jc_rules.specs.Shape.{IsChained};
 ghost use Rattle.jc_rules.specs.Worked.{by_a};
@@ -13,7 +11,7 @@ ghost use Rattle.jc_apply.specs.Fits.{IsUnlinked};
 use jc_apply::{ApplyFault, apply_op, fits};
 use jc_dump::dump::tree_value;
 use jc_rules::{Cursor, Id, IdSet, Key, Mutation, Op, Path, Rule, Tagged, Text, Trace, Value};
-use jc_tree::{ArenaTree, PlainTree, TreeStore};
+use jc_tree::{PlainTree, TreeStore};
 use std::alloc::{AllocError, Global};
 use std::process::Abort;
 use std::test::Fail;
@@ -42,8 +40,6 @@ const B2: Id = Id {
     counter: 2,
     replica: 1,
 };
-
-const CASES: u64 = 6;
 
 /// The insert of a lesser element where a greater one stands, by a replica that received it.
 const PAST_A_GREATER: [(Rule, u64); 16] = [
@@ -131,16 +127,16 @@ struct Document<S> {
     trace: Trace,
 }
 
-/// A document in an empty store.
-fn document<S: TreeStore>(alloc: Global, store: S) -> Document<S>
-    requires { S.tree store ≡ record { now = empty; earlier = [] } }
-    ensures chained { IsChained (S.tree result.store).now }
-    ensures unlinked { (i : AnyId) → IsUnlinked i (S.tree result.store).now }
+/// An empty document in a plain store.
+fn plain(alloc: Global) -> Document<PlainTree>
+    ensures chained { IsChained (⟦<PlainTree as TreeStore>⟧.tree result.store).now }
+    ensures unlinked { (i : AnyId) → IsUnlinked i (⟦<PlainTree as TreeStore>⟧.tree result.store).now }
 {
+    let (store, trace) = (PlainTree::new(alloc), Trace::new(alloc));
     Document {
         alloc,
         store,
-        trace: Trace::new(alloc),
+        trace,
     }
 }
 
@@ -218,33 +214,33 @@ fn insert_in_a_map(alloc: Global) -> Result<Op, AllocError>
     })
 }
 
-fn insert_where_no_list_is<S: TreeStore>(
-    rt: &impl Abort,
-    document: &mut Document<S>,
-) -> Result<(), AllocError>
-    requires chained { IsChained (S.tree document.old.store).now }
-    requires unlinked { (i : AnyId) → IsUnlinked i (S.tree document.old.store).now }
-{
-    let alloc = document.alloc;
-    let insert = insert_in_a_map(alloc)?;
+#[test]
+fn insert_where_no_list_is(rt: HostRuntime) -> Result<(), Fail> {
+    let mut document = plain(rt.alloc());
+    let insert = insert_in_a_map(rt.alloc())?;
     assert!(rt; !fits(&document.store, &insert.cursor, &insert.mutation));
-    let refused = apply_op(alloc, &mut document.store, &insert, &mut document.trace);
+    let refused = apply_op(
+        rt.alloc(),
+        &mut document.store,
+        &insert,
+        &mut document.trace,
+    );
     assert!(rt; refused == Err(ApplyFault::NotInList));
-    document.expect(rt, "{}")?;
+    document.expect(&rt, "{}")?;
     assert!(rt; document.store.mark().changes == 0);
     assert!(rt; document.trace.rows().is_empty() && document.trace.depth() == 0);
     Ok(())
 }
 
 /// Assigns to the key `k` of the document's map twice.
-fn assign_twice<S: TreeStore>(
+fn assign_twice(
     rt: &impl Abort,
-    document: &mut Document<S>,
+    document: &mut Document<PlainTree>,
     first: Value,
     second: Value,
 ) -> Result<(), AllocError>
-    requires chained { IsChained (S.tree document.old.store).now }
-    requires unlinked { (i : AnyId) → IsUnlinked i (S.tree document.old.store).now }
+    requires chained { IsChained (⟦<PlainTree as TreeStore>⟧.tree document.old.store).now }
+    requires unlinked { (i : AnyId) → IsUnlinked i (⟦<PlainTree as TreeStore>⟧.tree document.old.store).now }
 {
     let at = [Tagged::MapT(Key::Doc)];
     let key = Key::Name(text(document.alloc, "k")?);
@@ -253,35 +249,27 @@ fn assign_twice<S: TreeStore>(
 }
 
 /// A map and then a value under one key: both stay.
-fn map_then_value<S: TreeStore>(
-    rt: &impl Abort,
-    document: &mut Document<S>,
-) -> Result<(), AllocError>
-    requires chained { IsChained (S.tree document.old.store).now }
-    requires unlinked { (i : AnyId) → IsUnlinked i (S.tree document.old.store).now }
-{
-    let value = one(document.alloc)?;
-    assign_twice(rt, document, Value::EmptyMap, value)?;
-    document.expect(rt, MAP_THEN_VALUE)
+#[test]
+fn map_then_value(rt: HostRuntime) -> Result<(), Fail> {
+    let mut document = plain(rt.alloc());
+    assign_twice(&rt, &mut document, Value::EmptyMap, one(rt.alloc())?)?;
+    document.expect(&rt, MAP_THEN_VALUE)?;
+    Ok(())
 }
 
 /// A value and then a map under one key: the value goes.
-fn value_then_map<S: TreeStore>(
-    rt: &impl Abort,
-    document: &mut Document<S>,
-) -> Result<(), AllocError>
-    requires chained { IsChained (S.tree document.old.store).now }
-    requires unlinked { (i : AnyId) → IsUnlinked i (S.tree document.old.store).now }
-{
-    let value = one(document.alloc)?;
-    assign_twice(rt, document, value, Value::EmptyMap)?;
-    document.expect(rt, VALUE_THEN_MAP)
+#[test]
+fn value_then_map(rt: HostRuntime) -> Result<(), Fail> {
+    let mut document = plain(rt.alloc());
+    assign_twice(&rt, &mut document, one(rt.alloc())?, Value::EmptyMap)?;
+    document.expect(&rt, VALUE_THEN_MAP)?;
+    Ok(())
 }
 
 /// Makes a list of two elements under the document, and deletes the first.
-fn delete_first<S: TreeStore>(rt: &impl Abort, document: &mut Document<S>) -> Result<(), AllocError>
-    requires chained { IsChained (S.tree document.old.store).now }
-    requires unlinked { (i : AnyId) → IsUnlinked i (S.tree document.old.store).now }
+fn delete_first(rt: &impl Abort, document: &mut Document<PlainTree>) -> Result<(), AllocError>
+    requires chained { IsChained (⟦<PlainTree as TreeStore>⟧.tree document.old.store).now }
+    requires unlinked { (i : AnyId) → IsUnlinked i (⟦<PlainTree as TreeStore>⟧.tree document.old.store).now }
 {
     let at = [Tagged::ListT(Key::Doc)];
     let x = Key::Elem(A2);
@@ -295,29 +283,26 @@ fn delete_first<S: TreeStore>(rt: &impl Abort, document: &mut Document<S>) -> Re
 }
 
 /// A list of two elements whose first is deleted: it stays linked.
-fn element_deleted<S: TreeStore>(
-    rt: &impl Abort,
-    document: &mut Document<S>,
-) -> Result<(), AllocError>
-    requires chained { IsChained (S.tree document.old.store).now }
-    requires unlinked { (i : AnyId) → IsUnlinked i (S.tree document.old.store).now }
-{
-    delete_first(rt, document)?;
-    document.expect(rt, FIRST_DELETED)
+#[test]
+fn element_deleted(rt: HostRuntime) -> Result<(), Fail> {
+    let mut document = plain(rt.alloc());
+    delete_first(&rt, &mut document)?;
+    document.expect(&rt, FIRST_DELETED)?;
+    Ok(())
 }
 
 /// Makes a list in the document's map, and two replicas insert at its head. Leaves the rules of the
 /// second insert, by a replica that received it.
-fn meet<S: TreeStore>(
+fn meet(
     rt: &impl Abort,
-    document: &mut Document<S>,
+    document: &mut Document<PlainTree>,
     first: Id,
     first_text: &str,
     second: Id,
     second_text: &str,
 ) -> Result<(), AllocError>
-    requires chained { IsChained (S.tree document.old.store).now }
-    requires unlinked { (i : AnyId) → IsUnlinked i (S.tree document.old.store).now }
+    requires chained { IsChained (⟦<PlainTree as TreeStore>⟧.tree document.old.store).now }
+    requires unlinked { (i : AnyId) → IsUnlinked i (⟦<PlainTree as TreeStore>⟧.tree document.old.store).now }
     requires first_differs { first ≢ by_a 1 }
     requires second_differs { second ≢ by_a 1 }
     requires differ { second ≢ first }
@@ -334,63 +319,20 @@ fn meet<S: TreeStore>(
     document.make(rt, second, &[A1], &at, &Key::Head, second_insert)
 }
 
-fn greater_element_comes_later<S: TreeStore>(
-    rt: &impl Abort,
-    document: &mut Document<S>,
-) -> Result<(), AllocError>
-    requires chained { IsChained (S.tree document.old.store).now }
-    requires unlinked { (i : AnyId) → IsUnlinked i (S.tree document.old.store).now }
-{
-    meet(rt, document, A2, "x", B2, "y")?;
-    document.expect(rt, MET)
+#[test]
+fn greater_element_comes_later(rt: HostRuntime) -> Result<(), Fail> {
+    let mut document = plain(rt.alloc());
+    meet(&rt, &mut document, A2, "x", B2, "y")?;
+    document.expect(&rt, MET)?;
+    Ok(())
 }
 
-fn lesser_element_comes_later<S: TreeStore>(
-    rt: &impl Abort,
-    document: &mut Document<S>,
-) -> Result<(), AllocError>
-    requires chained { IsChained (S.tree document.old.store).now }
-    requires unlinked { (i : AnyId) → IsUnlinked i (S.tree document.old.store).now }
-{
-    meet(rt, document, B2, "y", A2, "x")?;
-    document.expect(rt, MET)?;
+#[test]
+fn lesser_element_comes_later(rt: HostRuntime) -> Result<(), Fail> {
+    let mut document = plain(rt.alloc());
+    meet(&rt, &mut document, B2, "y", A2, "x")?;
+    document.expect(&rt, MET)?;
     assert!(rt; document.trace.rows() == PAST_A_GREATER.as_slice());
     assert!(rt; document.trace.depth() == 1);
-    Ok(())
-}
-
-fn case<S: TreeStore>(
-    rt: &impl Abort,
-    document: &mut Document<S>,
-    turn: u64,
-) -> Result<(), AllocError>
-    requires chained { IsChained (S.tree document.old.store).now }
-    requires unlinked { (i : AnyId) → IsUnlinked i (S.tree document.old.store).now }
-{
-    match turn {
-        0 => insert_where_no_list_is(rt, document),
-        1 => map_then_value(rt, document),
-        2 => value_then_map(rt, document),
-        3 => element_deleted(rt, document),
-        4 => greater_element_comes_later(rt, document),
-        _ => lesser_element_comes_later(rt, document),
-    }
-}
-
-#[test]
-fn plain_store(rt: HostRuntime) -> Result<(), Fail> {
-    let alloc = rt.alloc();
-    for turn in 0..CASES {
-        case(&rt, &mut document(alloc, PlainTree::new(alloc)), turn)?;
-    }
-    Ok(())
-}
-
-#[test]
-fn arena_store(rt: HostRuntime) -> Result<(), Fail> {
-    let alloc = rt.alloc();
-    for turn in 0..CASES {
-        case(&rt, &mut document(alloc, ArenaTree::new(alloc)?), turn)?;
-    }
     Ok(())
 }
