@@ -43,7 +43,8 @@ impl Model for Debugger {
 
     ghost coded = { seen_code };
 
-    ghost view = { λ a. record { net = a.net; schedule = a.schedule.items; traces = a.traces.items; breaks = a.breaks } };
+    ghost view = { λ a.
+        record { net = a.net; schedule = a.schedule.items; traces = a.traces.items; breaks = a.breaks } };
 
     ghost invariant = { λ a. IsOnTrail
         (record { net = a.net; schedule = a.schedule.items; traces = a.traces.items; breaks = a.breaks }) };

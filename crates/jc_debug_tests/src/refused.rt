@@ -1,7 +1,7 @@
 //! Calls for which memory may be refused once. In a plain run it never is; each request can be refused in turn by
 //! hand, and then the position stays before an event, and the call made again ends as it does with ample memory.
 
-use crate::expecting::{begun, expect, expect_step, holds, id};
+use crate::expecting::{begun, expect, holds, id};
 use jc_debug::{ActFault, Debugger, GotoFault, RunEnd, RunFault, StepFault};
 use jc_rules::Event;
 use std::process::Abort;
@@ -17,13 +17,12 @@ fn stays(rt: &impl Abort, debugger: &Debugger, from: u64, to: u64) {
     holds(rt, from <= debugger.position() && debugger.position() < to);
 }
 
-fn steps(rt: &impl Abort, debugger: &mut Debugger, n: u64, to: u64) {
+fn steps_to(rt: &impl Abort, debugger: &mut Debugger, n: u64) {
     if let Err(StepFault::Memory) = debugger.step(n) {
-        stays(rt, debugger, to - n, to);
-        let left = to - debugger.position();
-        expect_step(rt, debugger, left, 0, to);
+        stays(rt, debugger, 0, n);
+        holds(rt, debugger.goto(n).is_ok());
     }
-    expect(rt, debugger, 0, 0, to);
+    expect(rt, debugger, 0, 0, n);
 }
 
 fn goes(rt: &impl Abort, debugger: &mut Debugger, from: u64, to: u64) {
@@ -44,10 +43,10 @@ fn runs(rt: &impl Abort, debugger: &mut Debugger, from: u64, to: u64) {
     expect(rt, debugger, 0, 0, to);
 }
 
-fn acts(rt: &impl Abort, debugger: &mut Debugger, event: Event, to: u64) {
+fn acts(rt: &impl Abort, debugger: &mut Debugger, event: Event, from: u64, to: u64) {
     let events = debugger.schedule().len();
     if let Err(ActFault::Memory) = debugger.act(&event) {
-        stays(rt, debugger, to - 1, to);
+        stays(rt, debugger, from, to);
         holds(rt, debugger.schedule().len() == events);
         holds(rt, debugger.act(&event).is_ok());
     }
@@ -57,12 +56,12 @@ fn acts(rt: &impl Abort, debugger: &mut Debugger, event: Event, to: u64) {
 #[test]
 fn goes_on_after_refused_memory(rt: HostRuntime) -> Result<(), Fail> {
     let mut debugger = begun(rt.alloc(), RECEIVED)?;
-    steps(&rt, &mut debugger, 2, 2);
+    steps_to(&rt, &mut debugger, 2);
     runs(&rt, &mut debugger, 2, 4);
     holds(&rt, debugger.back(3));
     goes(&rt, &mut debugger, 1, 4);
-    acts(&rt, &mut debugger, Event::Apply(1, id(1, 0)), 5);
-    acts(&rt, &mut debugger, Event::Apply(1, id(2, 0)), 6);
+    acts(&rt, &mut debugger, Event::Apply(1, id(1, 0)), 4, 5);
+    acts(&rt, &mut debugger, Event::Apply(1, id(2, 0)), 5, 6);
     holds(&rt, debugger.goto(0).is_ok());
     goes(&rt, &mut debugger, 0, 6);
     Ok(())
