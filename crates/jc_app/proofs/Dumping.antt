@@ -7,7 +7,7 @@ use Rattle.jc_rules.specs.Names.{name_at}
 use Rattle.jc_rules.specs.State.{State, start}
 use Rattle.jc_dump.specs.Dump.{dump_line}
 use Rattle.jc_app.specs.Due.{AppendsUpTo}
-use Rattle.jc_app.specs.Runs.{dumps_from, dumps_text}
+use Rattle.jc_dump.specs.Texts.{dumps_from, dumps_text}
 use Rattle.jc_app.proofs.Begun.{up_to_all, up_to_longer, then_up_to}
 use Rattle.jc_app.proofs.Playing.{dumps_more}
 

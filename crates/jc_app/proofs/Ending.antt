@@ -12,7 +12,8 @@ use Rattle.jc_dump.specs.Lines.{stuck_text}
 use Rattle.jc_app.specs.Due.{AppendsUpTo, AppendsFrontOf, IsRunDue}
 use Rattle.jc_app.specs.Played.{Tells, PlaysAll}
 use Rattle.jc_app.specs.Ran.{RanThrough}
-use Rattle.jc_app.specs.Runs.{Stuck, dumps_text, stuck_line, status_of}
+use Rattle.jc_dump.specs.Texts.{dumps_text}
+use Rattle.jc_app.specs.Runs.{Stuck, stuck_line, status_of}
 use Rattle.jc_app.proofs.Begun.{up_to_all, up_to_longer, then_up_to}
 use Rattle.jc_app.proofs.Playing.{ran}
 

@@ -11,8 +11,9 @@ use Rattle.jc_parser.specs.declared.fault.ScenarioFault.{ScenarioFault}
 use Rattle.jc_scenario.specs.Laws.{OneScenario, ScenarioOrFault, OneFault}
 use Rattle.jc_scenario.specs.Scenarios.{Scenario}
 use Rattle.jc_network.specs.Laws.{starts}
-use Rattle.jc_app.specs.Texts.{refused_text}
-use Rattle.jc_app.specs.Runs.{Made, GoesBy, EndsAt, Stuck, events_of, events_text, dumps_text, stuck_line, status_of}
+use Rattle.jc_dump.specs.Texts.{refused_text}
+use Rattle.jc_dump.specs.Texts.{dumps_text}
+use Rattle.jc_app.specs.Runs.{Made, GoesBy, EndsAt, Stuck, events_of, events_text, stuck_line, status_of}
 use Rattle.jc_words.specs.declared.order.Task.{Task}
 use Rattle.jc_words.specs.declared.order.Task.TheVariants.{Check, Print, Run}
 use Rattle.jc_app.specs.Ran.{ReadsAs, RanThrough, Shows, IsRefused, RanOn}

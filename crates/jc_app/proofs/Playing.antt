@@ -19,7 +19,8 @@ use Rattle.jc_network.specs.Course.{Course, started}
 use Rattle.jc_dump.specs.Dump.{dump_line}
 use Rattle.jc_app.specs.Texts.{event_text}
 use Rattle.jc_app.specs.Ran.{RanThrough}
-use Rattle.jc_app.specs.Runs.{Made, GoesBy, Plays, events_of, events_text, dumps_from, dumps_text, stuck_line, status_of}
+use Rattle.jc_dump.specs.Texts.{dumps_from, dumps_text}
+use Rattle.jc_app.specs.Runs.{Made, GoesBy, Plays, events_of, events_text, stuck_line, status_of}
 use Rattle.jc_app.specs.Played.{PlaysNext, PlaysAll}
 
 pub goes_on : (network : List State) (made : List Made) (last : List State) (e : Event) (rows : List (Rule × ℕ)) (new : List State) → GoesBy network made last → Step last e new rows → GoesBy network (made ++ (e, rows) ∷ []) new

@@ -11,8 +11,10 @@ use Rattle.jc_scenario.specs.Canon.{canon}
 use Rattle.jc_network.specs.Laws.{starts}
 use Rattle.jc_words.specs.declared.order.Task.{Task}
 use Rattle.jc_words.specs.declared.order.Task.TheVariants.{Check, Print, Run}
-use Rattle.jc_app.specs.Texts.{counts_text, refused_text}
-use Rattle.jc_app.specs.Runs.{Stuck, Plays, dumps_text, stuck_line, status_of}
+use Rattle.jc_dump.specs.Texts.{refused_text}
+use Rattle.jc_app.specs.Texts.{counts_text}
+use Rattle.jc_dump.specs.Texts.{dumps_text}
+use Rattle.jc_app.specs.Runs.{Stuck, Plays, stuck_line, status_of}
 
 -- what bytes are: a scenario, or a text with this fault
 abbrev pub ReadsAs : List ℕ → Result Scenario ScenarioFault → Type 0

@@ -1,12 +1,10 @@
 -- Runs of a schedule: the events that were made, and what is shown of them.
-use Rattle.std.specs.Prelude.{◌≡◌, ℕ, suc, ◌+◌, List, [], ◌∷◌, ◌++◌, map, Bool, Option, Some, None}
+use Rattle.std.specs.Prelude.{◌≡◌, ℕ, ◌+◌, List, [], ◌∷◌, ◌++◌, map, Bool, Option, Some, None}
 use Rattle.jc_rules.specs.declared.operation.Event.{Event}
 use Rattle.jc_rules.specs.declared.rule.Rule.{Rule}
-use Rattle.jc_rules.specs.Names.{name_at}
 use Rattle.jc_rules.specs.State.{State}
 use Rattle.jc_rules.specs.Step.{Step}
 use Rattle.jc_rules.specs.Refused.{Cause, IsStuck}
-use Rattle.jc_dump.specs.Dump.{dump_line}
 use Rattle.jc_dump.specs.Lines.{stuck_text}
 use Rattle.jc_app.specs.Texts.{event_text}
 
@@ -55,12 +53,3 @@ stuck_line names (Some (event, why)) = stuck_text names why event
 abbrev pub status_of : Option Stuck → ℕ
 status_of None = 0
 status_of (Some s) = 3
-
--- the dump lines of replicas, of which the first one has the number p
-abbrev pub dumps_from : ℕ → List (List ℕ) → List State → List ℕ
-dumps_from p names [] = []
-dumps_from p names (A ∷ network) = dump_line names (name_at names p) A ++ dumps_from (suc p) names network
-
--- the dump line of each replica, in the order of their names
-abbrev pub dumps_text : List (List ℕ) → List State → List ℕ
-dumps_text names network = dumps_from 0 names network

@@ -3,13 +3,12 @@
 ghost use Rattle.std.specs.Prelude.{◌≡◌, ◌<◌, ◌≤◌, List, [], length, IfOk, IfErr, OnOk, OnErr, IsErrOf, All};
 ghost use Rattle.std.specs.Io.KnownBytes.{Appends};
 ghost use Rattle.jc_printer.specs.Canon.{AreNamed};
-ghost use Rattle.jc_app.specs.Runs.{dumps_text};
+ghost use Rattle.jc_dump.specs.Texts.{dumps_text};
 ghost use Rattle.jc_app.specs.Played.{PlaysNext, PlaysAll};
 ghost use Rattle.jc_app.specs.Due.{AppendsUpTo, AppendsFrontOf, IsNext, Begins};
 ghost use Rattle.jc_app.specs.declared.run.RunFault.TheVariants.{Memory as NoMemory};
 
-use crate::texts::block_of;
-use jc_dump::dump_replica;
+use jc_dump::{block_text, dump_replica};
 use jc_network::{Net, StepFault, Stuck};
 use jc_rules::Event;
 use jc_rules::io::{Failed, Sink, write_all};
@@ -70,7 +69,7 @@ fn play_next<K: Sink>(
             if !trace {
                 return Ok(None);
             }
-            let text = block_of(alloc, net.names(), number, event, &rules)?;
+            let text = block_text(alloc, net.names(), number, event, &rules)?;
             send(out, text.as_str())?;
             Ok(None)
         }

@@ -14,8 +14,8 @@ ghost use Rattle.jc_app.specs.Faults.{fault_status, fault_line, IsEndOf, IsUnrea
 
 use crate::files::Files;
 use crate::run::{RunFault, play, send, send_dumps};
-use crate::texts::{counts_of, refused_of};
-use jc_dump::stuck_text;
+use crate::texts::counts_of;
+use jc_dump::{refused_text, stuck_text};
 use jc_network::Net;
 use jc_rules::Refusal;
 use jc_rules::io::{ReadFault, Sink, Source, read_up_to, write_all};
@@ -41,7 +41,7 @@ fn refuse<K: Sink>(alloc: Global, fault: &ScenarioFault, out: &mut K) -> Result<
     let Some(refusal) = Refusal::of_number(number) else {
         unreachable!()
     };
-    let line = refused_of(alloc, refusal, place)?;
+    let line = refused_text(alloc, refusal, place)?;
     send(out, line.as_str())?;
     Ok(1)
 }

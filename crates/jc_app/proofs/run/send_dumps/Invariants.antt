@@ -1,6 +1,6 @@
 use Rattle.std.proofs.Common.{◌≡◌, take}
 use Rattle.std.specs.Io.KnownBytes.{Appends}
-use Rattle.jc_app.specs.Runs.{dumps_text}
+use Rattle.jc_dump.specs.Texts.{dumps_text}
 use Rattle.jc_app.proofs.run.send_dumps.Given as goal
 
 -- the dumps of the replicas below p were written
