@@ -1,5 +1,8 @@
 //! Trees that differ in one entry, or in none but empty presence sets.
 
+ghost use Rattle.std.specs.Prelude.{IfOk};
+ghost use Rattle.jc_rules.specs.Shape.{IsKeptRegister};
+
 use jc_meaning::same_tree;
 use jc_rules::{Id, Key, Next, Tagged, Value};
 use jc_tree::{ArenaTree, PlainTree, TreeStore, is_place};
@@ -25,12 +28,72 @@ enum Entry {
     NoIds,
     Ids(Id),
     Link(Next),
-    NoValues,
-    OneValue(Id),
+    Register(Option<Id>),
 }
 
 /// The entries of the root, and those of the map under its key `doc`.
 type Entries = (&'static [Entry], &'static [Entry]);
+
+fn make<S: TreeStore>(
+    rt: &impl Abort,
+    store: &mut S,
+    at: &[Tagged],
+    key: &Tagged,
+) -> Result<(), AllocError> {
+    assert!(rt; is_place(store, at) && !store.has(at, key));
+    store.make_child(at, key)
+}
+
+fn add_id<S: TreeStore>(
+    rt: &impl Abort,
+    store: &mut S,
+    at: &[Tagged],
+    id: Id,
+) -> Result<(), AllocError> {
+    assert!(rt; is_place(store, at));
+    let _was = store.add_presence(at, &Key::Doc, id)?;
+    Ok(())
+}
+
+fn put_no_ids<S: TreeStore>(
+    rt: &impl Abort,
+    store: &mut S,
+    at: &[Tagged],
+) -> Result<(), AllocError> {
+    assert!(rt; is_place(store, at));
+    store.set_presence(at, &Key::Doc, &[])
+}
+
+fn link<S: TreeStore>(
+    rt: &impl Abort,
+    store: &mut S,
+    at: &[Tagged],
+    next: Next,
+) -> Result<(), AllocError> {
+    assert!(rt; is_place(store, at));
+    store.set_next(at, &Key::Doc, next)
+}
+
+fn values(alloc: Global, id: Option<Id>) -> Result<Vec<(Id, Value)>, AllocError>
+    ensures { IfOk result (λ pairs. IsKeptRegister pairs.items) }
+{
+    match id {
+        Some(id) => Ok(vec![in alloc; (id, Value::True)]?),
+        None => Ok(Vec::new(alloc)),
+    }
+}
+
+fn put_values<S: TreeStore>(
+    rt: &impl Abort,
+    store: &mut S,
+    at: &[Tagged],
+    pairs: Vec<(Id, Value)>,
+) -> Result<(), AllocError>
+    requires { IsKeptRegister pairs.items }
+{
+    assert!(rt; is_place(store, at));
+    store.set_register(at, &Key::Doc, pairs)
+}
 
 fn put<S: TreeStore>(
     rt: &impl Abort,
@@ -39,25 +102,13 @@ fn put<S: TreeStore>(
     at: &[Tagged],
     entry: Entry,
 ) -> Result<(), AllocError> {
-    assert!(rt; is_place(store, at));
-    let key = Key::Doc;
     match entry {
-        Entry::Map => {
-            assert!(rt; !store.has(at, &Tagged::MapT(Key::Doc)));
-            store.make_child(at, &Tagged::MapT(Key::Doc))
-        }
-        Entry::List => {
-            assert!(rt; !store.has(at, &Tagged::ListT(Key::Doc)));
-            store.make_child(at, &Tagged::ListT(Key::Doc))
-        }
-        Entry::NoIds => store.set_presence(at, &key, &[]),
-        Entry::Ids(id) => {
-            let _was = store.add_presence(at, &key, id)?;
-            Ok(())
-        }
-        Entry::Link(next) => store.set_next(at, &key, next),
-        Entry::NoValues => store.set_register(at, &key, Vec::new(alloc)),
-        Entry::OneValue(id) => store.set_register(at, &key, vec![in alloc; (id, Value::True)]?),
+        Entry::Map => make(rt, store, at, &Tagged::MapT(Key::Doc)),
+        Entry::List => make(rt, store, at, &Tagged::ListT(Key::Doc)),
+        Entry::NoIds => put_no_ids(rt, store, at),
+        Entry::Ids(id) => add_id(rt, store, at, id),
+        Entry::Link(next) => link(rt, store, at, next),
+        Entry::Register(id) => put_values(rt, store, at, values(alloc, id)?),
     }
 }
 
@@ -111,10 +162,10 @@ const ROWS: [(Entries, Entries, bool); 12] = [
         (&[Entry::Link(Next::Elem(FIRST))], &[]),
         false,
     ),
-    ((&[Entry::NoValues], &[]), (&[], &[]), false),
+    ((&[Entry::Register(None)], &[]), (&[], &[]), false),
     (
-        (&[Entry::OneValue(FIRST)], &[]),
-        (&[Entry::OneValue(SECOND)], &[]),
+        (&[Entry::Register(Some(FIRST))], &[]),
+        (&[Entry::Register(Some(SECOND))], &[]),
         false,
     ),
     ((&[Entry::Map], &[]), (&[], &[]), false),
