@@ -1,5 +1,7 @@
 //! Commands, files and help.
 
+ghost use Rattle.std.specs.Prelude.{None, true};
+
 use super::holds;
 use super::whole_runs::{FIRST_BLOCK, ONE, ONE_DUMP, ends, expect_text};
 use crate::files::Files;
