@@ -2,7 +2,6 @@ pub mod Reaching
 pub mod Answered
 pub mod Unrefused
 pub mod Unanswered
-pub mod Putting
 pub mod Rules
 pub mod Unlinked
 pub mod Links

@@ -28,11 +28,20 @@ use Rattle.jc_tree.proofs.Places.{then_here, then_place, then_now}
 use Rattle.jc_apply.specs.Fits.{or_new, empty_of}
 use Rattle.jc_apply.specs.Leads.{Leads, Enters, AssignsEmpty}
 
-pub register_there : (c : Context) (k : Key) (r pairs : Register) (t u : Rows) → find key_cmp k (registers c) ≡ Some r → pairs ≡ r → u ≡ pushed t R.ChildGet → Derives (Child c (RegT k)) (ToContent (Values pairs)) t u
-register_there c k r pairs t u h i e = rw (i, e) (by_axiom R.ChildGet _ _ t (Values r, ap values_of h, refl, refl))
+-- a register that is there or not, by the rule that says so
+pub register_there : (c : Context) (k : Key) → true ≡ is_some (find key_cmp k (registers c)) → Follows R.ChildGet (Child c (RegT k)) (ToContent (Values (or_none (find key_cmp k (registers c))))) []
+register_there c k h = go (find key_cmp k (registers c)) refl h
+  where
+    go : (o : Option Register) → find key_cmp k (registers c) ≡ o → true ≡ is_some o → Follows R.ChildGet (Child c (RegT k)) (ToContent (Values (or_none o))) []
+    go None e f = absurd (let no : ⊥ = cc in no)
+    go (Some r) e f = (Values r, ap values_of e, refl, refl)
 
-pub register_absent : (c : Context) (k : Key) (pairs : Register) (t u : Rows) → find key_cmp k (registers c) ≡ None → pairs ≡ [] → u ≡ pushed t R.ChildReg → Derives (Child c (RegT k)) (ToContent (Values pairs)) t u
-register_absent c k pairs t u h i e = rw (i, e) (by_axiom R.ChildReg _ _ t (ap values_of h, refl, refl))
+pub register_absent : (c : Context) (k : Key) → false ≡ is_some (find key_cmp k (registers c)) → Follows R.ChildReg (Child c (RegT k)) (ToContent (Values (or_none (find key_cmp k (registers c))))) []
+register_absent c k h = go (find key_cmp k (registers c)) refl h
+  where
+    go : (o : Option Register) → find key_cmp k (registers c) ≡ o → false ≡ is_some o → Follows R.ChildReg (Child c (RegT k)) (ToContent (Values (or_none o))) []
+    go None e f = (ap values_of e, refl, refl)
+    go (Some r) e f = absurd (let no : ⊥ = cc in no)
 
 -- a set that is there or not, by the rule that says so
 pub set_there : (c : Context) (k : Key) → true ≡ is_some (presence k c) → Follows R.Presence1 (Presence c k) (ToIds (or_none (presence k c))) []
@@ -74,8 +83,10 @@ added_none at k i m a b t u p is e s =
       now = sym (with_node-same at (here at a) a.now (there at a.now p));
     })
 
-pub assigned : (at : List Tagged) (o : Op) (last : Key) (v : Value) (key : Tagged) (a b d e : Tree) (ids : List Id) (r new : Register) (t p u1 u2 u3 w : Rows) → HasPlace at a → IsPrimitive v → key ≡ RegT last → p ≡ below (pushed t R.Assign) → Clears (λ c. Clear c o.deps key) at a b ids p u1 → Leads (λ c. AddId c (RegT last) o.id (Assign v)) at b d u1 u2 → Derives (Child (here at d) (RegT last)) (ToContent (Values r)) u2 u3 → new ≡ put id_cmp o.id v r → IsChanged at (with_content (RegT last) (Values new) (here at d)) d e → w ≡ at_depth t.depth u3 → Leads (λ c. Operate c (moved o [] last (Assign v))) at a e t w
-assigned at o last v key a b d e ids r new t p u1 u2 u3 w h prim ke pe x1 y z ne s we =
+pub assigned : (at : List Tagged) (o : Op) (last : Key) (v new : Value) (key : Tagged) (rule : Rule) (a b d e : Tree) (ids : List Id) (t p u1 u2 u3 w : Rows) → HasPlace at a → IsPrimitive v → key ≡ RegT last → p ≡ below (pushed t R.Assign) → Clears (λ c. Clear c o.deps key) at a b ids p u1 → Leads (λ c. AddId c (RegT last) o.id (Assign v)) at b d u1 u2 → new ≡ v → IsChanged at (with_content (RegT last) (Values (put id_cmp o.id new (or_none (find key_cmp last (registers (here at d)))))) (here at d)) d e → Follows rule (Child (here at d) (RegT last)) (ToContent (Values (or_none (find key_cmp last (registers (here at d)))))) [] → u3 ≡ pushed u2 rule → w ≡ at_depth t.depth u3 → Leads (λ c. Operate c (moved o [] last (Assign v))) at a e t w
+assigned at o last v new key rule a b d e ids t p u1 u2 u3 w h prim ke pe x1 y ne s f ue we =
+    let r = or_none (find key_cmp last (registers (here at d))) in
+    let z : Derives (Child (here at d) (RegT last)) (ToContent (Values r)) u2 u3 = rw ue (by_axiom rule (Child (here at d) (RegT last)) (ToContent (Values r)) u2 f) in
     let x = subst (λ (k : Tagged). Clears (λ c. Clear c o.deps k) at a b ids p u1) ke x1 in
     let hb : here at b ≡ x.after = then_here at _ a b h x.now in
     let pb : HasPlace at b = then_place at _ a b h x.now in
@@ -86,7 +97,7 @@ assigned at o last v key a b d e ids r new t p u1 u2 u3 w h prim ke pe x1 y z ne
     rw we (record {
       after = with_content (RegT last) (Values (put id_cmp o.id v r)) y.after;
       derives = three_premises R.Assign _ _ _ (Cleared x.after ids) _ (ToContext y.after) _ (ToContent (Values r)) t u1 u2 u3 dx dy dz (v, x.after, ids, y.after, r, refl, refl, prim, refl, refl);
-      now = then_now at _ _ a d e (then_now at _ _ a b d x.now y.now) (s.now ∙ rw (hd, ne) refl);
+      now = then_now at _ _ a d e (then_now at _ _ a b d x.now y.now) (s.now ∙ ap (λ (n : Value). with_node_at at (with_content (RegT last) (Values (put id_cmp o.id n r)) (here at d)) d.now) ne ∙ ap (λ (c : Context). with_node_at at (with_content (RegT last) (Values (put id_cmp o.id v r)) c) d.now) hd);
     })
 
 pub empties_map : (k : Tagged) (j : Key) → k ≡ MapT j → AssignsEmpty R.EmptyMap k

@@ -16,9 +16,9 @@ ghost use Rattle.jc_apply.specs.Fits.{Fits, HasNoAnswer, IsUnlinked};
 ghost use Rattle.jc_apply.specs.Leads.{Leads, LinksNone, LinksOnly};
 
 use crate::assigning::{add_id, assign};
+use crate::entering::enter;
 use crate::fitting::fits;
 use crate::inserting::insert;
-use crate::registers::enter;
 use jc_clear::clear_elem;
 use jc_rules::{Mutation, Op, Rule, Tagged, Trace};
 use jc_tree::TreeStore;

@@ -3,10 +3,13 @@
 ghost use Rattle.std.specs.Prelude.{◌≡◌, ◌≢◌, [], OnOk, is_some};
 ghost use Rattle.jc_rules.specs.declared.key.Key.{Key as AnyKey};
 ghost use Rattle.jc_rules.specs.declared.key.Tagged.{Tagged};
+ghost use Rattle.jc_rules.specs.declared.key.Tagged.TheVariants.{RegT};
 ghost use Rattle.jc_rules.specs.declared.operation.Mutation.{Mutation as AnyMutation};
 ghost use Rattle.jc_rules.specs.declared.operation.Mutation.TheVariants.{Assign, Delete};
-ghost use Rattle.jc_rules.specs.Context.{Context, IsPrimitive, key_of, presence};
-ghost use Rattle.jc_rules.specs.Derivation.{AddId, Operate, Presence, ToIds};
+ghost use Rattle.jc_rules.specs.Order.{key_cmp};
+ghost use Rattle.jc_rules.specs.Entries.{find};
+ghost use Rattle.jc_rules.specs.Context.{Context, Values, IsPrimitive, key_of, presence, registers};
+ghost use Rattle.jc_rules.specs.Derivation.{AddId, Child, Operate, Presence, ToContent, ToIds};
 ghost use Rattle.jc_rules.specs.Shape.{IsChained};
 ghost use Rattle.jc_rules.specs.Table.{Follows, moved};
 ghost use Rattle.jc_rules.specs.Paths.{HasContext};
@@ -15,7 +18,7 @@ ghost use Rattle.jc_tree.specs.CanGoBack.{CanGoBack};
 ghost use Rattle.jc_apply.specs.Fits.{empty_of};
 ghost use Rattle.jc_apply.specs.Leads.{Leads, LinksNone, AssignsEmpty};
 
-use crate::registers::{enter, pairs_of, put_pair};
+use crate::entering::enter;
 use jc_clear::{clear, clear_elem};
 use jc_rules::{Id, Key, Op, Rule, Tagged, Trace, Value};
 use jc_tree::TreeStore;
@@ -31,6 +34,14 @@ fn presence_rule(was: bool) -> Rule
     } else {
         Rule::Presence2
     }
+}
+
+/// The rule by which a key's register is found, or a new one made.
+fn register_rule(was: bool) -> Rule
+    ensures { (c : Context) (k : AnyKey) → was ≡ is_some (find key_cmp k (registers c))
+        → Follows result (Child c (RegT k)) (ToContent (Values (or_none (find key_cmp k (registers c))))) [] }
+{
+    if was { Rule::ChildGet } else { Rule::ChildReg }
 }
 
 /// Adds an identifier to the presence set of a key, for an operation that doesn't delete.
@@ -85,9 +96,8 @@ fn assign_primitive<S: TreeStore>(
         trace,
     )?;
     add_id(store, at, last, op.id, trace)?;
-    let mut pairs = pairs_of(alloc, store, at, last, trace)?;
-    put_pair(&mut pairs, op.id, value.copy()?)?;
-    store.set_register(at, last, pairs)?;
+    let was = store.put_value(at, last, op.id, value.copy()?)?;
+    trace.push(register_rule(was))?;
     trace.close(depth);
     Ok(())
 }

@@ -3,9 +3,9 @@
 
 mod apply;
 mod assigning;
+mod entering;
 mod fitting;
 mod inserting;
-mod registers;
 
 pub use apply::{ApplyFault, apply_op};
 pub use fitting::fits;

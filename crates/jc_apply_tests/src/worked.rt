@@ -11,7 +11,7 @@ ghost use Rattle.jc_apply.specs.Fits.{IsUnlinked};
 use jc_apply::{ApplyFault, apply_op, fits};
 use jc_dump::dump::tree_value;
 use jc_rules::{Cursor, Id, IdSet, Key, Mutation, Op, Path, Rule, Tagged, Text, Trace, Value};
-use jc_tree::{PlainTree, TreeStore};
+use jc_tree::{ArenaTree, PlainTree, TreeStore};
 use std::alloc::{AllocError, Global};
 use std::process::Abort;
 use std::test::Fail;
@@ -40,6 +40,9 @@ const B2: Id = Id {
     counter: 2,
     replica: 1,
 };
+
+/// How many turns there are.
+const TURNS: u64 = 6;
 
 /// The insert of a lesser element where a greater one stands, by a replica that received it.
 const PAST_A_GREATER: [(Rule, u64); 16] = [
@@ -140,6 +143,20 @@ fn plain(alloc: Global) -> Document<PlainTree>
     }
 }
 
+/// An empty document in a fast store.
+fn fast(alloc: Global) -> Result<Document<ArenaTree>, AllocError>
+    ensures chained { IfOk result (λ document. IsChained (⟦<ArenaTree as TreeStore>⟧.tree document.store).now) }
+    ensures unlinked { IfOk result (λ document.
+        (i : AnyId) → IsUnlinked i (⟦<ArenaTree as TreeStore>⟧.tree document.store).now) }
+{
+    let (store, trace) = (ArenaTree::new(alloc)?, Trace::new(alloc));
+    Ok(Document {
+        alloc,
+        store,
+        trace,
+    })
+}
+
 impl<S: TreeStore> Document<S> {
     /// Makes an operation and applies it.
     fn make(
@@ -214,62 +231,50 @@ fn insert_in_a_map(alloc: Global) -> Result<Op, AllocError>
     })
 }
 
-#[test]
-fn insert_where_no_list_is(rt: HostRuntime) -> Result<(), Fail> {
-    let mut document = plain(rt.alloc());
-    let insert = insert_in_a_map(rt.alloc())?;
+fn insert_where_no_list_is<S: TreeStore>(
+    rt: &impl Abort,
+    document: &mut Document<S>,
+) -> Result<(), AllocError>
+    requires chained { IsChained (S.tree document.old.store).now }
+    requires unlinked { (i : AnyId) → IsUnlinked i (S.tree document.old.store).now }
+{
+    let insert = insert_in_a_map(document.alloc)?;
     assert!(rt; !fits(&document.store, &insert.cursor, &insert.mutation));
     let refused = apply_op(
-        rt.alloc(),
+        document.alloc,
         &mut document.store,
         &insert,
         &mut document.trace,
     );
     assert!(rt; refused == Err(ApplyFault::NotInList));
-    document.expect(&rt, "{}")?;
+    document.expect(rt, "{}")?;
     assert!(rt; document.store.mark().changes == 0);
     assert!(rt; document.trace.rows().is_empty() && document.trace.depth() == 0);
     Ok(())
 }
 
 /// Assigns to the key `k` of the document's map twice.
-fn assign_twice(
+fn assign_twice<S: TreeStore>(
     rt: &impl Abort,
-    document: &mut Document<PlainTree>,
+    document: &mut Document<S>,
     first: Value,
     second: Value,
+    want: &str,
 ) -> Result<(), AllocError>
-    requires chained { IsChained (⟦<PlainTree as TreeStore>⟧.tree document.old.store).now }
-    requires unlinked { (i : AnyId) → IsUnlinked i (⟦<PlainTree as TreeStore>⟧.tree document.old.store).now }
+    requires chained { IsChained (S.tree document.old.store).now }
+    requires unlinked { (i : AnyId) → IsUnlinked i (S.tree document.old.store).now }
 {
     let at = [Tagged::MapT(Key::Doc)];
     let key = Key::Name(text(document.alloc, "k")?);
     document.make(rt, A1, &[], &at, &key, Mutation::Assign(first))?;
-    document.make(rt, A2, &[A1], &at, &key, Mutation::Assign(second))
+    document.make(rt, A2, &[A1], &at, &key, Mutation::Assign(second))?;
+    document.expect(rt, want)
 }
 
-/// A map and then a value under one key: both stay.
-#[test]
-fn map_then_value(rt: HostRuntime) -> Result<(), Fail> {
-    let mut document = plain(rt.alloc());
-    assign_twice(&rt, &mut document, Value::EmptyMap, one(rt.alloc())?)?;
-    document.expect(&rt, MAP_THEN_VALUE)?;
-    Ok(())
-}
-
-/// A value and then a map under one key: the value goes.
-#[test]
-fn value_then_map(rt: HostRuntime) -> Result<(), Fail> {
-    let mut document = plain(rt.alloc());
-    assign_twice(&rt, &mut document, one(rt.alloc())?, Value::EmptyMap)?;
-    document.expect(&rt, VALUE_THEN_MAP)?;
-    Ok(())
-}
-
-/// Makes a list of two elements under the document, and deletes the first.
-fn delete_first(rt: &impl Abort, document: &mut Document<PlainTree>) -> Result<(), AllocError>
-    requires chained { IsChained (⟦<PlainTree as TreeStore>⟧.tree document.old.store).now }
-    requires unlinked { (i : AnyId) → IsUnlinked i (⟦<PlainTree as TreeStore>⟧.tree document.old.store).now }
+/// Makes a list of two elements under the document, and deletes the first: it stays linked.
+fn delete_first<S: TreeStore>(rt: &impl Abort, document: &mut Document<S>) -> Result<(), AllocError>
+    requires chained { IsChained (S.tree document.old.store).now }
+    requires unlinked { (i : AnyId) → IsUnlinked i (S.tree document.old.store).now }
 {
     let at = [Tagged::ListT(Key::Doc)];
     let x = Key::Elem(A2);
@@ -279,30 +284,22 @@ fn delete_first(rt: &impl Abort, document: &mut Document<PlainTree>) -> Result<(
     document.make(rt, A2, &[A1], &at, &Key::Head, insert_x)?;
     let insert_y = insert(document.alloc, "y")?;
     document.make(rt, A3, &[A1, A2], &at, &x, insert_y)?;
-    document.make(rt, A4, &[A1, A2, A3], &at, &x, Mutation::Delete)
-}
-
-/// A list of two elements whose first is deleted: it stays linked.
-#[test]
-fn element_deleted(rt: HostRuntime) -> Result<(), Fail> {
-    let mut document = plain(rt.alloc());
-    delete_first(&rt, &mut document)?;
-    document.expect(&rt, FIRST_DELETED)?;
-    Ok(())
+    document.make(rt, A4, &[A1, A2, A3], &at, &x, Mutation::Delete)?;
+    document.expect(rt, FIRST_DELETED)
 }
 
 /// Makes a list in the document's map, and two replicas insert at its head. Leaves the rules of the
 /// second insert, by a replica that received it.
-fn meet(
+fn meet<S: TreeStore>(
     rt: &impl Abort,
-    document: &mut Document<PlainTree>,
+    document: &mut Document<S>,
     first: Id,
     first_text: &str,
     second: Id,
     second_text: &str,
 ) -> Result<(), AllocError>
-    requires chained { IsChained (⟦<PlainTree as TreeStore>⟧.tree document.old.store).now }
-    requires unlinked { (i : AnyId) → IsUnlinked i (⟦<PlainTree as TreeStore>⟧.tree document.old.store).now }
+    requires chained { IsChained (S.tree document.old.store).now }
+    requires unlinked { (i : AnyId) → IsUnlinked i (S.tree document.old.store).now }
     requires first_differs { first ≢ by_a 1 }
     requires second_differs { second ≢ by_a 1 }
     requires differ { second ≢ first }
@@ -316,23 +313,60 @@ fn meet(
     document.trace = Trace::new(document.alloc);
     document.trace.open(Rule::ApplyRemote)?;
     let second_insert = insert(document.alloc, second_text)?;
-    document.make(rt, second, &[A1], &at, &Key::Head, second_insert)
+    document.make(rt, second, &[A1], &at, &Key::Head, second_insert)?;
+    document.expect(rt, MET)
+}
+
+/// The insert that comes second belongs behind the one that is there.
+fn lesser_comes_later<S: TreeStore>(
+    rt: &impl Abort,
+    document: &mut Document<S>,
+) -> Result<(), AllocError>
+    requires chained { IsChained (S.tree document.old.store).now }
+    requires unlinked { (i : AnyId) → IsUnlinked i (S.tree document.old.store).now }
+{
+    meet(rt, document, B2, "y", A2, "x")?;
+    assert!(rt; document.trace.rows() == PAST_A_GREATER.as_slice());
+    assert!(rt; document.trace.depth() == 1);
+    Ok(())
+}
+
+/// What is worked, in the order of the turns: an insert where no list is; a map and then a value under
+/// one key, where both stay; a value and then a map, where the value goes; a list of which an element
+/// is deleted; and inserts of two replicas at one place, in either order.
+fn work<S: TreeStore>(
+    rt: &impl Abort,
+    document: &mut Document<S>,
+    turn: u64,
+) -> Result<(), AllocError>
+    requires chained { IsChained (S.tree document.old.store).now }
+    requires unlinked { (i : AnyId) → IsUnlinked i (S.tree document.old.store).now }
+{
+    let number = one(document.alloc)?;
+    match turn {
+        0 => insert_where_no_list_is(rt, document),
+        1 => assign_twice(rt, document, Value::EmptyMap, number, MAP_THEN_VALUE),
+        2 => assign_twice(rt, document, number, Value::EmptyMap, VALUE_THEN_MAP),
+        3 => delete_first(rt, document),
+        4 => meet(rt, document, A2, "x", B2, "y"),
+        _ => lesser_comes_later(rt, document),
+    }
 }
 
 #[test]
-fn greater_element_comes_later(rt: HostRuntime) -> Result<(), Fail> {
-    let mut document = plain(rt.alloc());
-    meet(&rt, &mut document, A2, "x", B2, "y")?;
-    document.expect(&rt, MET)?;
+fn plain_store(rt: HostRuntime) -> Result<(), Fail> {
+    let alloc = rt.alloc();
+    for turn in 0..TURNS {
+        work(&rt, &mut plain(alloc), turn)?;
+    }
     Ok(())
 }
 
 #[test]
-fn lesser_element_comes_later(rt: HostRuntime) -> Result<(), Fail> {
-    let mut document = plain(rt.alloc());
-    meet(&rt, &mut document, B2, "y", A2, "x")?;
-    document.expect(&rt, MET)?;
-    assert!(rt; document.trace.rows() == PAST_A_GREATER.as_slice());
-    assert!(rt; document.trace.depth() == 1);
+fn arena_store(rt: HostRuntime) -> Result<(), Fail> {
+    let alloc = rt.alloc();
+    for turn in 0..TURNS {
+        work(&rt, &mut fast(alloc)?, turn)?;
+    }
     Ok(())
 }

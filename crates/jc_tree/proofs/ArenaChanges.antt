@@ -9,13 +9,14 @@ use Rattle.std.proofs.lemmas.List.{get_or_past, set-get_or, get_or-set_same, get
 use Rattle.std.proofs.Math.ListN.{get_or-append}
 use mathlib.Core.Logic.{inl, inr}
 use Rattle.jc_rules.specs.declared.id.Id.{Id}
+use Rattle.jc_rules.specs.declared.value.Value.{Value}
 use Rattle.jc_rules.specs.declared.key.Key.{Key}
 use Rattle.jc_rules.specs.declared.key.Tagged.{Tagged}
 use Rattle.jc_rules.specs.declared.key.Tagged.TheVariants.{MapT, ListT, RegT}
-use Rattle.jc_rules.specs.Order.{key_cmp}
+use Rattle.jc_rules.specs.Order.{id_cmp, key_cmp}
 use Rattle.jc_rules.specs.Entries.{find, put, placed, replaced}
 use Rattle.jc_rules.specs.Ids.{AreRising, has_id, with_id}
-use Rattle.jc_rules.specs.Context.{Context, with_content, new_content, presence, empty, empty_list}
+use Rattle.jc_rules.specs.Context.{Context, Register, with_content, new_content, presence, empty, empty_list}
 use Rattle.jc_rules.specs.Places.{node_at, with_node_at, context_at}
 use Rattle.jc_rules.proofs.Order.{keys_total, exact_keys}
 use Rattle.jc_rules.proofs.Entries.{same-eq, find-put, put-same, rising-put}
@@ -25,17 +26,17 @@ use Rattle.jc_rules.specs.Paths.{HasContext}
 use Rattle.jc_tree.specs.Tree.{or_none}
 use Rattle.jc_tree.specs.Change.{IsFit, changed_by}
 use Rattle.jc_tree.specs.declared.node.Change.{Change}
-use Rattle.jc_tree.specs.declared.node.Change.TheVariants.{Child, AddId, Presence, Link, Register as SetRegister}
+use Rattle.jc_tree.specs.declared.node.Change.TheVariants.{Child, AddId, Presence, Link, PutValue, Register as SetRegister}
 use Rattle.jc_tree.specs.declared.node.Former.{Former}
 use Rattle.jc_tree.specs.declared.node.Former.TheVariants as F
 use Rattle.jc_tree.specs.Sorted.{AreSorted}
-use Rattle.jc_tree.specs.Undo.{removed, former_of_id}
-use Rattle.jc_tree.specs.Arena.{Flat, blank, flat_at, filled_all, filled, context_of, content_of, child_of, walk, with_number, without_number, new_flat, with_presences, IsInside, changed_flat, former_of_node, former_of_flat, restored_flat, IsSound}
+use Rattle.jc_tree.specs.Undo.{removed, former_of_id, former_of_value}
+use Rattle.jc_tree.specs.Arena.{Flat, blank, flat_at, filled_all, filled, context_of, content_of, child_of, walk, with_number, without_number, new_flat, with_registers, with_presences, IsInside, changed_flat, former_of_node, former_of_flat, restored_flat, IsSound}
 use Rattle.jc_tree.specs.ArenaUndo.{IsGood, without_last, fewer, restored_in}
 use Rattle.jc_tree.proofs.Keeping.{kept-changed_at, presence_rises}
 use Rattle.jc_tree.proofs.Places.{some_place}
 use Rattle.jc_tree.proofs.Taking.{set-out}
-use Rattle.jc_tree.proofs.Undoing.{restored-put, removed-put}
+use Rattle.jc_tree.proofs.Undoing.{restored-put, removed-put, value-back}
 use Rattle.jc_tree.proofs.Numbers.{IsSameBut, reaches_le, unchanged, same_all, same_depth, found, changed, Either, left, right}
 
 -- a new node, and the number of it in the node above
@@ -289,8 +290,8 @@ child_content ns i (ListT k) g w kind (suc f) l =
 child_content ns i (RegT k) g w kind (suc f) l = absurd kind
 
 without-with : (t : Tagged) (m : ℕ) (n : Flat) → child_of t n ≡ None → without_number t (with_number t m n) ≡ n
-without-with (MapT k) m n h = rw (removed-put k m n.maps h) refl
-without-with (ListT k) m n h = rw (removed-put k m n.lists h) refl
+without-with (MapT k) m n h = rw (removed-put keys_total exact_keys k m n.maps h) refl
+without-with (ListT k) m n h = rw (removed-put keys_total exact_keys k m n.lists h) refl
 without-with (RegT k) m n h = refl
 
 pub no_place : (ns : List Flat) (at : List Tagged) (i : ℕ) → IsGood ns → walk ns 0 at ≡ Some i → node_at at (content_of ns) ≢ None
@@ -331,6 +332,7 @@ same_maps (Child (RegT k)) n = refl
 same_maps (AddId k i) n = refl
 same_maps (Presence k s) n = refl
 same_maps (Link k x) n = refl
+same_maps (PutValue k i v) n = refl
 same_maps (SetRegister k v) n = refl
 
 same_lists : (ch : Change) (n : Flat) → (changed_flat ch n).lists ≡ n.lists
@@ -340,6 +342,7 @@ same_lists (Child (RegT k)) n = refl
 same_lists (AddId k i) n = refl
 same_lists (Presence k s) n = refl
 same_lists (Link k x) n = refl
+same_lists (PutValue k i v) n = refl
 same_lists (SetRegister k v) n = refl
 
 same_children : (u : Tagged) (ch : Change) (n : Flat) → child_of u (changed_flat ch n) ≡ child_of u n
@@ -355,6 +358,7 @@ filled-changed g (Child (RegT k)) n h = refl
 filled-changed g (AddId k i) n h = refl
 filled-changed g (Presence k s) n h = refl
 filled-changed g (Link k x) n h = refl
+filled-changed g (PutValue k i v) n h = refl
 filled-changed g (SetRegister k v) n h = refl
 
 fewer_id : (k : Key) (i : Id) (o : Option (List Id)) (l : List Flat) → fewer (former_of_id k i o) l ≡ l
@@ -365,6 +369,10 @@ fewer_id k i (Some s) l = step (has_id i s)
     step true = refl
     step false = refl
 
+fewer_value : (k : Key) (i : Id) (o : Option Register) (l : List Flat) → fewer (former_of_value k i o) l ≡ l
+fewer_value k i None l = refl
+fewer_value k i (Some r) l = refl
+
 fewer_inside : (ch : Change) (n : Flat) (l : List Flat) → IsInside ch → fewer (former_of_flat ch n) l ≡ l
 fewer_inside (Child (MapT k)) n l h = absurd h
 fewer_inside (Child (ListT k)) n l h = absurd h
@@ -372,6 +380,7 @@ fewer_inside (Child (RegT k)) n l h = refl
 fewer_inside (AddId k i) n l h = fewer_id k i (find key_cmp k n.presences) l
 fewer_inside (Presence k s) n l h = refl
 fewer_inside (Link k x) n l h = refl
+fewer_inside (PutValue k i v) n l h = fewer_value k i (find key_cmp k n.registers) l
 fewer_inside (SetRegister k v) n l h = refl
 
 -- an identifier that was added to a key's set, taken back
@@ -379,22 +388,31 @@ added_back : (k : Key) (i : Id) (n : Flat) → ((s : List Id) → find key_cmp k
 added_back k i n rises = go (find key_cmp k n.presences) refl
   where
     go : (o : Option (List Id)) → find key_cmp k n.presences ≡ o → restored_flat (former_of_id k i o) (with_presences (put key_cmp k (with_id i (or_none o)) n.presences) n) ≡ n
-    go None e = ap (λ p. with_presences p n) (removed-put k (i ∷ []) n.presences e)
+    go None e = ap (λ p. with_presences p n) (removed-put keys_total exact_keys k (i ∷ []) n.presences e)
     go (Some s) e = step (has_id i s) refl
       where
         step : (b : Bool) → has_id i s ≡ b → restored_flat (cond b F.Same (F.NoId k i)) (with_presences (put key_cmp k (with_id i s) n.presences) n) ≡ n
         step true h = ap (λ v. with_presences (put key_cmp k v n.presences) n) (with-present i s (rises s e) h) ∙ ap (λ p. with_presences p n) (put-same keys_total exact_keys k s n.presences e)
         step false h = ap (λ p. with_presences p n) (set-out k i s n.presences e h)
 
+-- a value that was put into a key's register, taken back
+put_back : (k : Key) (i : Id) (v : Value) (n : Flat) → restored_flat (former_of_flat (PutValue k i v) n) (changed_flat (PutValue k i v) n) ≡ n
+put_back k i v n = go (find key_cmp k n.registers) refl
+  where
+    go : (o : Option Register) → find key_cmp k n.registers ≡ o → restored_flat (former_of_value k i o) (with_registers (put key_cmp k (put id_cmp i v (or_none o)) n.registers) n) ≡ n
+    go None e = ap (λ r. with_registers r n) (removed-put keys_total exact_keys k (put id_cmp i v []) n.registers e)
+    go (Some s) e = ap (λ r. with_registers r n) (value-back k i v s n.registers e)
+
 -- a node that was changed and is as it was
 restored_inside : (ch : Change) (n : Flat) → IsInside ch → ((k : Key) (s : List Id) → find key_cmp k n.presences ≡ Some s → AreRising s) → restored_flat (former_of_flat ch n) (changed_flat ch n) ≡ n
 restored_inside (Child (MapT k)) n h rises = absurd h
 restored_inside (Child (ListT k)) n h rises = absurd h
-restored_inside (Child (RegT k)) n h rises = rw (restored-put k [] n.registers) refl
+restored_inside (Child (RegT k)) n h rises = rw (restored-put keys_total exact_keys k [] n.registers) refl
 restored_inside (AddId k i) n h rises = added_back k i n (λ s e. rises k s e)
-restored_inside (Presence k s) n h rises = rw (restored-put k s n.presences) refl
-restored_inside (Link k x) n h rises = rw (restored-put k x n.links) refl
-restored_inside (SetRegister k v) n h rises = rw (restored-put k v n.registers) refl
+restored_inside (Presence k s) n h rises = rw (restored-put keys_total exact_keys k s n.presences) refl
+restored_inside (Link k x) n h rises = rw (restored-put keys_total exact_keys k x n.links) refl
+restored_inside (PutValue k i v) n h rises = put_back k i v n
+restored_inside (SetRegister k v) n h rises = rw (restored-put keys_total exact_keys k v n.registers) refl
 
 -- a node that a change makes another one
 module _ (ns : List Flat) (i : ℕ) (ch : Change) (s : IsSound ns) (w : i < length ns) where

@@ -34,6 +34,10 @@ pub on_err : {A E P Q : Type 0} (r : Result A E) → (P → Q) → OnErr r P →
 on_err (Ok a) f h = h
 on_err (Err e) f h = f h
 
+pub as_err : {A E P : Type 0} (r : Result A E) → P → OnErr r P
+as_err (Ok a) h = tt
+as_err (Err e) h = h
+
 if_cons : {X Y : Type 0} (o : Option X) (e : Y) (y z : List Y) → if_found o (e ∷ y) (e ∷ z) ≡ e ∷ if_found o y z
 if_cons None e y z = refl
 if_cons (Some x) e y z = refl
@@ -72,7 +76,7 @@ module _ {X : Type 0} where
   lookup_is k [] = refl
   lookup_is k (e ∷ es) = λ i. cond (is_eq (same_cmp k e.0 i)) (Some e.1) (lookup_is k es i)
 
-  pub remove_is : (k : Key) (es : List (Key × X)) → remove_entry (is_at (cmp-value.it k)) es ≡ removed k es
+  pub remove_is : (k : Key) (es : List (Key × X)) → remove_entry (is_at (cmp-value.it k)) es ≡ removed key_cmp k es
   remove_is k [] = refl
   remove_is k (e ∷ es) = λ i. cond (is_eq (same_cmp k e.0 i)) es (e ∷ remove_is k es i)
 

@@ -2,16 +2,17 @@
 use Rattle.std.proofs.Common.{◌≡◌, ◌≢◌, List, [], ◌∷◌, ◌++◌, Option, Some, None, refl}
 use Rattle.std.specs.List.{AllByRecursion}
 use Rattle.jc_rules.specs.declared.id.Id.{Id}
+use Rattle.jc_rules.specs.declared.value.Value.{Value}
 use Rattle.jc_rules.specs.declared.key.Key.{Key}
 use Rattle.jc_rules.specs.declared.key.Tagged.{Tagged}
 use Rattle.jc_rules.specs.declared.key.Tagged.TheVariants.{MapT, ListT, RegT}
-use Rattle.jc_rules.specs.Order.{key_cmp}
+use Rattle.jc_rules.specs.Order.{id_cmp, key_cmp}
 use Rattle.jc_rules.specs.Entries.{find, put}
 use Rattle.jc_rules.specs.Ids.{AreRising, with_id}
-use Rattle.jc_rules.specs.Context.{Context, context, Children, no_child, child, children, listed, Register, Content, Node, Values, values_of, content, with_content, presence, with_presence, registers, empty, empty_list}
+use Rattle.jc_rules.specs.Context.{Context, context, Children, no_child, child, children, listed, Register, Content, Node, Values, values_of, content, with_content, presence, with_presence, registers, IsPrimitive, empty, empty_list}
 use Rattle.jc_rules.specs.Places.{node_at, with_node_at, context_at}
 use Rattle.jc_rules.specs.Shape.{IsKept, AreKept, IsKeptRegister}
-use Rattle.jc_rules.proofs.Order.{keys_total, exact_keys}
+use Rattle.jc_rules.proofs.Order.{ids_total, exact_ids, keys_total, exact_keys}
 use Rattle.jc_rules.proofs.Entries.{rising-put, values-put, value-found}
 use Rattle.jc_rules.proofs.Places.{listed_children, node_found, there}
 use Rattle.jc_rules.proofs.Ids.{with-rises}
@@ -19,7 +20,7 @@ use Rattle.jc_tree.specs.Tree.{or_none}
 use Rattle.jc_tree.specs.Change.{IsFit, changed_by, changed_at}
 use Rattle.jc_tree.proofs.Taking.{rising_there}
 use Rattle.jc_tree.specs.declared.node.Change.{Change}
-use Rattle.jc_tree.specs.declared.node.Change.TheVariants.{Child, AddId, Presence, Link, Register as Set}
+use Rattle.jc_tree.specs.declared.node.Change.TheVariants.{Child, AddId, Presence, Link, PutValue, Register as Set}
 
 -- each child is kept
 all_kept : (cs : Children) → AreKept cs → AllByRecursion (λ e. IsKept e.1) (listed cs)
@@ -62,6 +63,18 @@ kept-presence k s (context m l r p n) f h = (h.0, h.1, h.2, rising-put keys_tota
 rising : (k : Key) (s : List Id) (c : Context) → IsKept c → presence k c ≡ Some s → AreRising s
 rising k s (context m l r p n) h e = value-found keys_total exact_keys AreRising k s p h.6 e
 
+-- so does a register, with primitive values
+kept_values : (k : Key) (v : Register) (c : Context) → IsKept c → find key_cmp k (registers c) ≡ Some v → IsKeptRegister v
+kept_values k v (context m l r p n) h e = value-found keys_total exact_keys IsKeptRegister k v r h.5 e
+
+kept_or_none : (o : Option Register) → ((v : Register) → o ≡ Some v → IsKeptRegister v) → IsKeptRegister (or_none o)
+kept_or_none None h = (tt, tt)
+kept_or_none (Some v) h = h v refl
+
+-- with a value that is put under an identifier
+register_put : (i : Id) (v : Value) (r : Register) → IsKeptRegister r → IsPrimitive v → IsKeptRegister (put id_cmp i v r)
+register_put i v r h p = (rising-put ids_total exact_ids i v r h.0, values-put ids_total exact_ids IsPrimitive i v r p h.1)
+
 -- what a fit change makes of a kept context
 kept-changed : (change : Change) (c : Context) → IsFit change → IsKept c → IsKept (changed_by change c)
 kept-changed (Child (MapT k)) c f h = kept-with (MapT k) c empty h (tt, tt, tt, tt, tt, tt, tt, tt, tt)
@@ -70,6 +83,9 @@ kept-changed (Child (RegT k)) c f h = kept-register k [] c h (tt, tt)
 kept-changed (AddId k i) c f h = kept-presence k (with_id i (or_none (presence k c))) c (with-rises i (or_none (presence k c)) (rising_there (presence k c) (λ s e. rising k s c h e))) h
 kept-changed (Presence k s) c f h = kept-presence k s c f h
 kept-changed (Link k x) (context m l r p n) f h = (h.0, h.1, h.2, h.3, rising-put keys_total exact_keys k x n h.4, h.5, h.6, h.7, h.8)
+kept-changed (PutValue k i v) c f h =
+    let old = or_none (find key_cmp k (registers c)) in
+    kept-register k (put id_cmp i v old) c h (register_put i v old (kept_or_none (find key_cmp k (registers c)) (λ r e. kept_values k r c h e)) f)
 kept-changed (Set k v) c f h = kept-register k v c h f
 
 -- the context at a place of a kept one
@@ -103,7 +119,4 @@ pub presence_rises : (ks : List Tagged) (k : Key) (s ids : List Id) (c : Context
 presence_rises ks k s ids c h place f e = rw e (rising k s (context_at ks c) (kept-node ks c (context_at ks c) h (there ks c place)) f)
 
 pub register_kept : (ks : List Tagged) (k : Key) (v pairs : Register) (c : Context) → IsKept c → node_at ks c ≢ None → find key_cmp k (registers (context_at ks c)) ≡ Some v → pairs ≡ v → IsKeptRegister pairs
-register_kept ks k v pairs c h place f e = rw e (kept (context_at ks c) (kept-node ks c (context_at ks c) h (there ks c place)) f)
-  where
-    kept : (d : Context) → IsKept d → find key_cmp k (registers d) ≡ Some v → IsKeptRegister v
-    kept (context m l r p n) g q = value-found keys_total exact_keys IsKeptRegister k v r g.5 q
+register_kept ks k v pairs c h place f e = rw e (kept_values k v (context_at ks c) (kept-node ks c (context_at ks c) h (there ks c place)) f)

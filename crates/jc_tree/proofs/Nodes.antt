@@ -36,10 +36,10 @@ module _ (m l : List (Key × Context)) (r : List (Key × Register)) (p : List (K
   key_after k = rw (← v, listed_children m, listed_children l, least_after-append k (keys_of m ++ keys_of l) (keys_of r), least_after-append k (keys_of m) (keys_of l)) refl
 
 module _ (m l : List (Key × Context)) (r : List (Key × Register)) (p : List (Key × List Id)) (n : List (Key × Next)) (s : Context) (v : context (children m) (children l) r p n ≡ s) where
-  pub map_restored : (f : Former) (k : Key) (m2 : List (Key × Context)) → f ≡ F.Map k → m2 ≡ removed k m → context (children m2) (children l) r p n ≡ restored_by f s
+  pub map_restored : (f : Former) (k : Key) (m2 : List (Key × Context)) → f ≡ F.Map k → m2 ≡ removed key_cmp k m → context (children m2) (children l) r p n ≡ restored_by f s
   map_restored f k m2 e w = rw (e, w, ← v, listed_children) refl
 
-  pub list_restored : (f : Former) (k : Key) (l2 : List (Key × Context)) → f ≡ F.List k → l2 ≡ removed k l → context (children m) (children l2) r p n ≡ restored_by f s
+  pub list_restored : (f : Former) (k : Key) (l2 : List (Key × Context)) → f ≡ F.List k → l2 ≡ removed key_cmp k l → context (children m) (children l2) r p n ≡ restored_by f s
   list_restored f k l2 e w = rw (e, w, ← v, listed_children) refl
 
 pub has_child : (b : Bool) (o : Option (Bor Context)) (f : Option Context) (x : Option Content) → b ≡ is_some o → option_copied o ≡ f → x ≡ node_of f → b ≡ is_some x

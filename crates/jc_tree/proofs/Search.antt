@@ -4,13 +4,15 @@ use Rattle.std.specs.List.{AllByRecursion, AllWithin}
 use Rattle.std.specs.Slice.{IsItemAt}
 use Rattle.std.specs.List.Sorted.{IsNonDecreasingBy, IsSearchInRange, IsBinarySearchResult}
 use Rattle.std.specs.Ordering.{ordering_index}
+use Rattle.std.specs.declared.cmp.Ordering.{Ordering}
 use Rattle.std.specs.declared.cmp.Ordering.TheVariants.{Less, Greater}
 use Rattle.std.proofs.lemmas.List.{get_or-map, length-map}
 use Rattle.std.proofs.lemmas.Option.{slice_get-get_or, get_or_from_slice_get, slice_get_past, slice_get_read}
-use Rattle.std.specs.Cmp.{tied_itself}
+use Rattle.std.specs.Cmp.{IsTotalOrder, tied_itself}
+use Rattle.std.proofs.lemmas.Map.Lookups.{CmpEqualImpliesEq}
 use Rattle.jc_rules.specs.declared.key.Key.{Key}
 use Rattle.jc_rules.specs.Order.{key_cmp}
-use Rattle.jc_rules.specs.Entries.{keys_of, find, replaced, placed, put}
+use Rattle.jc_rules.specs.Entries.{IsRising, keys_of, find, replaced, placed, put}
 use Rattle.jc_rules.specs.Table.{least}
 use Rattle.jc_rules.proofs.Order.{keys_total, exact_keys}
 use Rattle.jc_rules.proofs.Rising.{non_decreasing, less_greater, greater_less}
@@ -19,123 +21,126 @@ use Rattle.jc_tree.specs.Tree.{is_after, least_after}
 use Rattle.jc_tree.specs.Sorted.{AreSorted, StandsAt, BelongsAt, IsPlace}
 use Rattle.jc_tree.specs.Undo.{removed, restored}
 
-module _ {X : Type 0} where
-  first_ones : (P : Key × X → Type 0) (es : List (Key × X)) (i : ℕ) → i ≤ length es → AllWithin P es 0 i → AllByRecursion P (take i es)
+module _ {K X : Type 0} where
+  first_ones : (P : K × X → Type 0) (es : List (K × X)) (i : ℕ) → i ≤ length es → AllWithin P es 0 i → AllByRecursion P (take i es)
   first_ones P es zero within h = tt
   first_ones P [] (suc i) within h = absurd (omega arith)
   first_ones P (e ∷ es) (suc i) within h = (h 0 e (omega arith) (omega arith), first_ones P es i (omega arith) (λ k d low high. h (suc k) d (omega arith) (omega arith)))
 
-  last_ones : (P : Key × X → Type 0) (es : List (Key × X)) (i : ℕ) → AllWithin P es i (length es) → AllByRecursion P (drop i es)
+  last_ones : (P : K × X → Type 0) (es : List (K × X)) (i : ℕ) → AllWithin P es i (length es) → AllByRecursion P (drop i es)
   last_ones P [] zero h = tt
   last_ones P [] (suc i) h = tt
   last_ones P (e ∷ es) zero h = (h 0 e (omega arith) (omega arith), last_ones P es zero (λ k d low high. h (suc k) d (omega arith) (omega arith)))
   last_ones P (e ∷ es) (suc i) h = last_ones P es i (λ k d low high. h (suc k) d (omega arith) (omega arith))
 
-  do_not_fall : (q : Key) (es : List (Key × X)) → AreSorted es → IsNonDecreasingBy (λ e. ordering_index (key_cmp e.0 q)) es
-  do_not_fall q es h i j d le within =
-      let n : length (keys_of es) ≡ length es = length-map es (λ e. e.0) in
-      rw (← get_or-map (λ (e : Key × X). e.0) es i d d.0 (omega arith), ← get_or-map (λ (e : Key × X). e.0) es j d d.0 within) (non_decreasing keys_total q (keys_of es) h i j d.0 le (omega arith))
-
-  back : (q : Key) (es : List (Key × X)) → AllByRecursion (λ e. key_cmp e.0 q ≡ Greater) es → AllByRecursion (λ e. key_cmp q e.0 ≡ Less) es
-  back q [] h = tt
-  back q (e ∷ es) h = (greater_less keys_total e.0 q h.0, back q es h.1)
-
-  -- what a binary search by key finds
-  pub searched : (q : Key) (es : List (Key × X)) (r : Result ℕ ℕ) → AreSorted es → IsSearchInRange r (length es) → IsBinarySearchResult (λ e. key_cmp e.0 q) es r → IsPlace q es r
-  searched q [] (Ok i) h b f = absurd (omega arith)
-  searched q (e ∷ es) (Ok i) h b f =
-      let x = get_or (e ∷ es) i e in
-      let same : x.0 ≡ q = exact_keys x.0 q (f e) in
-      record { value = x.1; entry = slice_get-get_or (e ∷ es) i e b ∙ ap (λ (k : Key). Some (k, x.1)) same }
-  searched q es (Err i) h b f =
-      let parts = f (do_not_fall q es h) in
-      record { within = b; lesser = first_ones (λ e. key_cmp e.0 q ≡ Less) es i b parts.0; greater = back q (drop i es) (last_ones (λ e. key_cmp e.0 q ≡ Greater) es i parts.1) }
-
-  -- the later ones of a sorted list are greater than the first
-  later : (e d : Key × X) (es : List (Key × X)) (i : ℕ) → AreSorted (e ∷ es) → slice_get es i ≡ Some d → key_cmp d.0 e.0 ≡ Greater
-  later e d [] i h g = cc
-  later e d (f ∷ es) zero h g = let same : f ≡ d = cc in rw (← same) (less_greater keys_total e.0 f.0 h.0.0)
-  later e d (f ∷ es) (suc i) h g = later e d es i (h.0.1, h.1.1) g
-
-  find-at : (q : Key) (es : List (Key × X)) (i : ℕ) (x : X) → AreSorted es → slice_get es i ≡ Some (q, x) → find key_cmp q es ≡ Some x
-  find-at q [] i x h g = cc
-  find-at q (e ∷ es) zero x h g = let same : e ≡ (q, x) = cc in rw same (rw (same-self keys_total exact_keys q) refl)
-  find-at q (e ∷ es) (suc i) x h g = rw (later e (q, x) es i h g) (find-at q es i x h.1 g)
-
-  replaced-at : (q : Key) (es : List (Key × X)) (i : ℕ) (x v : X) → AreSorted es → slice_get es i ≡ Some (q, x) → replaced key_cmp q v es ≡ slice_set es i (q, v)
-  replaced-at q [] i x v h g = cc
-  replaced-at q (e ∷ es) zero x v h g = let same : e ≡ (q, x) = cc in rw same (rw (same-self keys_total exact_keys q) refl)
-  replaced-at q (e ∷ es) (suc i) x v h g = rw (later e (q, x) es i h g) (ap (λ r. e ∷ r) (replaced-at q es i x v h.1 g))
-
-  put-at : (q : Key) (es : List (Key × X)) (i : ℕ) (x v : X) → AreSorted es → slice_get es i ≡ Some (q, x) → put key_cmp q v es ≡ slice_set es i (q, v)
-  put-at q es i x v h g = rw (find-at q es i x h g) (replaced-at q es i x v h g)
-
-  pub find-absent : (q : Key) (es : List (Key × X)) (i : ℕ) → BelongsAt q es i → find key_cmp q es ≡ None
-  find-absent q [] i b = refl
-  find-absent q (e ∷ es) zero b = rw b.greater.0 (find-absent q es zero (record { within = omega arith; lesser = tt; greater = b.greater.1 }))
-  find-absent q (e ∷ es) (suc i) b = rw (less_greater keys_total e.0 q b.lesser.0) (find-absent q es i (record { within = omega (arith, b.within); lesser = b.lesser.1; greater = b.greater }))
-
-  placed-at : (q : Key) (es : List (Key × X)) (i : ℕ) (v : X) → BelongsAt q es i → placed key_cmp q v es ≡ insert es i (q, v)
-  placed-at q [] zero v b = refl
-  placed-at q [] (suc i) v b = refl
-  placed-at q (e ∷ es) zero v b = rw b.greater.0 refl
-  placed-at q (e ∷ es) (suc i) v b = rw (less_greater keys_total e.0 q b.lesser.0) (ap (λ r. e ∷ r) (placed-at q es i v (record { within = omega (arith, b.within); lesser = b.lesser.1; greater = b.greater })))
-
-  pub put-absent : (q : Key) (es : List (Key × X)) (i : ℕ) (v : X) → BelongsAt q es i → put key_cmp q v es ≡ insert es i (q, v)
-  put-absent q es i v b = rw (find-absent q es i b) (placed-at q es i v b)
-
   -- the entry at a key's place
-  standing : (q : Key) (es : List (Key × X)) (i : ℕ) (e : Key × X) (s : StandsAt q es i) → e ≡ get_or es i e → e ≡ (q, s.value)
+  standing : (q : K) (es : List (K × X)) (i : ℕ) (e : K × X) (s : StandsAt q es i) → e ≡ get_or es i e → e ≡ (q, s.value)
   standing q es i e s is = is ∙ get_or_from_slice_get es i (q, s.value) e s.entry
 
-  pub find-standing : (q : Key) (es : List (Key × X)) (i : ℕ) (e : Key × X) → AreSorted es → StandsAt q es i → e ≡ get_or es i e → find key_cmp q es ≡ Some e.1
-  find-standing q es i e h s is = find-at q es i s.value h s.entry ∙ ap (λ (d : Key × X). Some d.1) (sym (standing q es i e s is))
+  nowhere : (q : K) (i : ℕ) → StandsAt {X = X} q [] i → ⊥
+  nowhere q i s = let x = s.value in let none : slice_get {X = K × X} [] i ≡ Some (q, x) = s.entry in cc
 
-  pub put-standing : (q : Key) (es : List (Key × X)) (i : ℕ) (e : Key × X) (v : X) → AreSorted es → StandsAt q es i → e ≡ get_or es i e → put key_cmp q v es ≡ slice_set es i (e.0, v)
-  put-standing q es i e v h s is = put-at q es i s.value v h s.entry ∙ ap (λ (d : Key × X). slice_set es i (d.0, v)) (sym (standing q es i e s is))
-
-  removed-at : (q : Key) (es : List (Key × X)) (i : ℕ) (x : X) → AreSorted es → slice_get es i ≡ Some (q, x) → removed q es ≡ remove es i
-  removed-at q [] i x h g = cc
-  removed-at q (e ∷ es) zero x h g = let same : e ≡ (q, x) = cc in rw same (rw (same-self keys_total exact_keys q) refl)
-  removed-at q (e ∷ es) (suc i) x h g = rw (later e (q, x) es i h g) (ap (λ r. e ∷ r) (removed-at q es i x h.1 g))
-
-  -- the entry at a key's place, taken away or with the value that it had
-  pub removed-standing : (q : Key) (es : List (Key × X)) (i : ℕ) → AreSorted es → StandsAt q es i → removed q es ≡ remove es i
-  removed-standing q es i h s = removed-at q es i s.value h s.entry
-
-  pub replaced-standing : (q : Key) (es : List (Key × X)) (i : ℕ) (e : Key × X) (v : X) → AreSorted es → StandsAt q es i → e ≡ get_or es i e → replaced key_cmp q v es ≡ slice_set es i (e.0, v)
-  replaced-standing q es i e v h s is = replaced-at q es i s.value v h s.entry ∙ ap (λ (d : Key × X). slice_set es i (d.0, v)) (sym (standing q es i e s is))
-
-  -- what nothing stood under stays so
-  pub restored-absent : (q : Key) (es : List (Key × X)) (i : ℕ) (o : Option X) → BelongsAt q es i → restored q o es ≡ es
-  restored-absent q [] i None b = refl
-  restored-absent q [] i (Some v) b = refl
-  restored-absent q (e ∷ es) zero None b = rw b.greater.0 (ap (λ r. e ∷ r) (restored-absent q es zero None (record { within = omega arith; lesser = tt; greater = b.greater.1 })))
-  restored-absent q (e ∷ es) zero (Some v) b = rw b.greater.0 (ap (λ r. e ∷ r) (restored-absent q es zero (Some v) (record { within = omega arith; lesser = tt; greater = b.greater.1 })))
-  restored-absent q (e ∷ es) (suc i) None b = rw (less_greater keys_total e.0 q b.lesser.0) (ap (λ r. e ∷ r) (restored-absent q es i None (record { within = omega (arith, b.within); lesser = b.lesser.1; greater = b.greater })))
-  restored-absent q (e ∷ es) (suc i) (Some v) b = rw (less_greater keys_total e.0 q b.lesser.0) (ap (λ r. e ∷ r) (restored-absent q es i (Some v) (record { within = omega (arith, b.within); lesser = b.lesser.1; greater = b.greater })))
-
-  nowhere : (q : Key) (i : ℕ) → StandsAt {X = X} q [] i → ⊥
-  nowhere q i s = let x = s.value in let none : slice_get {X = Key × X} [] i ≡ Some (q, x) = s.entry in cc
-
-  pub standing_within : (q : Key) (es : List (Key × X)) (i : ℕ) → StandsAt q es i → i < length es
+  pub standing_within : (q : K) (es : List (K × X)) (i : ℕ) → StandsAt q es i → i < length es
   standing_within q [] i s = absurd (nowhere q i s)
   standing_within q (e ∷ es) zero s = omega arith
   standing_within q (e ∷ es) (suc i) s = omega (arith, standing_within q es i (record { value = s.value; entry = s.entry }))
 
-  all_left : (P : Key → Type 0) (es : List (Key × X)) (i : ℕ) → AllByRecursion P (keys_of es) → AllByRecursion P (keys_of (remove es i))
+  all_left : (P : K → Type 0) (es : List (K × X)) (i : ℕ) → AllByRecursion P (keys_of es) → AllByRecursion P (keys_of (remove es i))
   all_left P [] zero h = tt
   all_left P [] (suc i) h = tt
   all_left P (e ∷ es) zero h = h.1
   all_left P (e ∷ es) (suc i) h = (h.0, all_left P es i h.1)
 
+module _ {K X : Type 0} (R : K → K → Ordering) where
   -- what is left of a sorted list is sorted
-  pub sorted_left : (es : List (Key × X)) (i : ℕ) → AreSorted es → AreSorted (remove es i)
+  pub sorted_left : (es : List (K × X)) (i : ℕ) → IsRising R (keys_of es) → IsRising R (keys_of (remove es i))
   sorted_left [] zero h = tt
   sorted_left [] (suc i) h = tt
   sorted_left (e ∷ es) zero h = h.1
-  sorted_left (e ∷ es) (suc i) h = (all_left (λ k. key_cmp e.0 k ≡ Less) es i h.0, sorted_left es i h.1)
+  sorted_left (e ∷ es) (suc i) h = (all_left (λ k. R e.0 k ≡ Less) es i h.0, sorted_left es i h.1)
 
+module _ {K : Type 0} {R : K → K → Ordering} (total : IsTotalOrder R) (exact : CmpEqualImpliesEq R) {X : Type 0} where
+  do_not_fall : (q : K) (es : List (K × X)) → IsRising R (keys_of es) → IsNonDecreasingBy (λ e. ordering_index (R e.0 q)) es
+  do_not_fall q es h i j d le within =
+      let n : length (keys_of es) ≡ length es = length-map es (λ e. e.0) in
+      rw (← get_or-map (λ (e : K × X). e.0) es i d d.0 (omega arith), ← get_or-map (λ (e : K × X). e.0) es j d d.0 within) (non_decreasing total q (keys_of es) h i j d.0 le (omega arith))
+
+  back : (q : K) (es : List (K × X)) → AllByRecursion (λ e. R e.0 q ≡ Greater) es → AllByRecursion (λ e. R q e.0 ≡ Less) es
+  back q [] h = tt
+  back q (e ∷ es) h = (greater_less total e.0 q h.0, back q es h.1)
+
+  -- what a binary search by key finds
+  pub searched : (q : K) (es : List (K × X)) (r : Result ℕ ℕ) → IsRising R (keys_of es) → IsSearchInRange r (length es) → IsBinarySearchResult (λ e. R e.0 q) es r → IsPlace R q es r
+  searched q [] (Ok i) h b f = absurd (omega arith)
+  searched q (e ∷ es) (Ok i) h b f =
+      let x = get_or (e ∷ es) i e in
+      let same : x.0 ≡ q = exact x.0 q (f e) in
+      record { value = x.1; entry = slice_get-get_or (e ∷ es) i e b ∙ ap (λ (k : K). Some (k, x.1)) same }
+  searched q es (Err i) h b f =
+      let parts = f (do_not_fall q es h) in
+      record { within = b; lesser = first_ones (λ e. R e.0 q ≡ Less) es i b parts.0; greater = back q (drop i es) (last_ones (λ e. R e.0 q ≡ Greater) es i parts.1) }
+
+  -- the later ones of a sorted list are greater than the first
+  later : (e d : K × X) (es : List (K × X)) (i : ℕ) → IsRising R (keys_of (e ∷ es)) → slice_get es i ≡ Some d → R d.0 e.0 ≡ Greater
+  later e d [] i h g = cc
+  later e d (f ∷ es) zero h g = let same : f ≡ d = cc in rw (← same) (less_greater total e.0 f.0 h.0.0)
+  later e d (f ∷ es) (suc i) h g = later e d es i (h.0.1, h.1.1) g
+
+  find-at : (q : K) (es : List (K × X)) (i : ℕ) (x : X) → IsRising R (keys_of es) → slice_get es i ≡ Some (q, x) → find R q es ≡ Some x
+  find-at q [] i x h g = cc
+  find-at q (e ∷ es) zero x h g = let same : e ≡ (q, x) = cc in rw same (rw (same-self total exact q) refl)
+  find-at q (e ∷ es) (suc i) x h g = rw (later e (q, x) es i h g) (find-at q es i x h.1 g)
+
+  replaced-at : (q : K) (es : List (K × X)) (i : ℕ) (x v : X) → IsRising R (keys_of es) → slice_get es i ≡ Some (q, x) → replaced R q v es ≡ slice_set es i (q, v)
+  replaced-at q [] i x v h g = cc
+  replaced-at q (e ∷ es) zero x v h g = let same : e ≡ (q, x) = cc in rw same (rw (same-self total exact q) refl)
+  replaced-at q (e ∷ es) (suc i) x v h g = rw (later e (q, x) es i h g) (ap (λ r. e ∷ r) (replaced-at q es i x v h.1 g))
+
+  put-at : (q : K) (es : List (K × X)) (i : ℕ) (x v : X) → IsRising R (keys_of es) → slice_get es i ≡ Some (q, x) → put R q v es ≡ slice_set es i (q, v)
+  put-at q es i x v h g = rw (find-at q es i x h g) (replaced-at q es i x v h g)
+
+  pub find-absent : (q : K) (es : List (K × X)) (i : ℕ) → BelongsAt R q es i → find R q es ≡ None
+  find-absent q [] i b = refl
+  find-absent q (e ∷ es) zero b = rw b.greater.0 (find-absent q es zero (record { within = omega arith; lesser = tt; greater = b.greater.1 }))
+  find-absent q (e ∷ es) (suc i) b = rw (less_greater total e.0 q b.lesser.0) (find-absent q es i (record { within = omega (arith, b.within); lesser = b.lesser.1; greater = b.greater }))
+
+  placed-at : (q : K) (es : List (K × X)) (i : ℕ) (v : X) → BelongsAt R q es i → placed R q v es ≡ insert es i (q, v)
+  placed-at q [] zero v b = refl
+  placed-at q [] (suc i) v b = refl
+  placed-at q (e ∷ es) zero v b = rw b.greater.0 refl
+  placed-at q (e ∷ es) (suc i) v b = rw (less_greater total e.0 q b.lesser.0) (ap (λ r. e ∷ r) (placed-at q es i v (record { within = omega (arith, b.within); lesser = b.lesser.1; greater = b.greater })))
+
+  pub put-absent : (q : K) (es : List (K × X)) (i : ℕ) (v : X) → BelongsAt R q es i → put R q v es ≡ insert es i (q, v)
+  put-absent q es i v b = rw (find-absent q es i b) (placed-at q es i v b)
+
+  pub find-standing : (q : K) (es : List (K × X)) (i : ℕ) (e : K × X) → IsRising R (keys_of es) → StandsAt q es i → e ≡ get_or es i e → find R q es ≡ Some e.1
+  find-standing q es i e h s is = find-at q es i s.value h s.entry ∙ ap (λ (d : K × X). Some d.1) (sym (standing q es i e s is))
+
+  pub put-standing : (q : K) (es : List (K × X)) (i : ℕ) (e : K × X) (v : X) → IsRising R (keys_of es) → StandsAt q es i → e ≡ get_or es i e → put R q v es ≡ slice_set es i (e.0, v)
+  put-standing q es i e v h s is = put-at q es i s.value v h s.entry ∙ ap (λ (d : K × X). slice_set es i (d.0, v)) (sym (standing q es i e s is))
+
+  removed-at : (q : K) (es : List (K × X)) (i : ℕ) (x : X) → IsRising R (keys_of es) → slice_get es i ≡ Some (q, x) → removed R q es ≡ remove es i
+  removed-at q [] i x h g = cc
+  removed-at q (e ∷ es) zero x h g = let same : e ≡ (q, x) = cc in rw same (rw (same-self total exact q) refl)
+  removed-at q (e ∷ es) (suc i) x h g = rw (later e (q, x) es i h g) (ap (λ r. e ∷ r) (removed-at q es i x h.1 g))
+
+  -- the entry at a key's place, taken away or with the value that it had
+  pub removed-standing : (q : K) (es : List (K × X)) (i : ℕ) → IsRising R (keys_of es) → StandsAt q es i → removed R q es ≡ remove es i
+  removed-standing q es i h s = removed-at q es i s.value h s.entry
+
+  pub replaced-standing : (q : K) (es : List (K × X)) (i : ℕ) (e : K × X) (v : X) → IsRising R (keys_of es) → StandsAt q es i → e ≡ get_or es i e → replaced R q v es ≡ slice_set es i (e.0, v)
+  replaced-standing q es i e v h s is = replaced-at q es i s.value v h s.entry ∙ ap (λ (d : K × X). slice_set es i (d.0, v)) (sym (standing q es i e s is))
+
+  -- what nothing stood under stays so
+  pub restored-absent : (q : K) (es : List (K × X)) (i : ℕ) (o : Option X) → BelongsAt R q es i → restored R q o es ≡ es
+  restored-absent q [] i None b = refl
+  restored-absent q [] i (Some v) b = refl
+  restored-absent q (e ∷ es) zero None b = rw b.greater.0 (ap (λ r. e ∷ r) (restored-absent q es zero None (record { within = omega arith; lesser = tt; greater = b.greater.1 })))
+  restored-absent q (e ∷ es) zero (Some v) b = rw b.greater.0 (ap (λ r. e ∷ r) (restored-absent q es zero (Some v) (record { within = omega arith; lesser = tt; greater = b.greater.1 })))
+  restored-absent q (e ∷ es) (suc i) None b = rw (less_greater total e.0 q b.lesser.0) (ap (λ r. e ∷ r) (restored-absent q es i None (record { within = omega (arith, b.within); lesser = b.lesser.1; greater = b.greater })))
+  restored-absent q (e ∷ es) (suc i) (Some v) b = rw (less_greater total e.0 q b.lesser.0) (ap (λ r. e ∷ r) (restored-absent q es i (Some v) (record { within = omega (arith, b.within); lesser = b.lesser.1; greater = b.greater })))
+
+module _ {X : Type 0} where
   least-first : (e : Key × X) (es : List (Key × X)) → AreSorted (e ∷ es) → least (keys_of (e ∷ es)) ≡ Some e.0
   least-first e [] h = refl
   least-first e (d ∷ es) h = rw (least-first d es h.1) (rw h.0.0 refl)
@@ -171,7 +176,7 @@ module _ {X : Type 0} where
   greater_after q (e ∷ es) h = (rw h.0 refl, greater_after q es h.1)
 
   -- after a key that has no entry: the entry where it belongs
-  pub least-belongs : (q : Key) (es : List (Key × X)) (i : ℕ) → AreSorted es → BelongsAt q es i → least_after (Some q) (keys_of es) ≡ option_map (λ e. e.0) (slice_get es i)
+  pub least-belongs : (q : Key) (es : List (Key × X)) (i : ℕ) → AreSorted es → BelongsAt key_cmp q es i → least_after (Some q) (keys_of es) ≡ option_map (λ e. e.0) (slice_get es i)
   least-belongs q es i h b = least-parted (Some q) es i h (lesser_before q (take i es) b.lesser) (greater_after q (drop i es) b.greater)
 
   greater_ones : (e : Key × X) (es : List (Key × X)) → AllByRecursion (λ k. key_cmp e.0 k ≡ Less) (keys_of es) → AllByRecursion (λ d. key_cmp e.0 d.0 ≡ Less) es
@@ -190,7 +195,7 @@ module _ {X : Type 0} where
   least-stands q (e ∷ es) (suc i) h s =
       let x = s.value in
       let there : slice_get es i ≡ Some (q, x) = s.entry in
-      let not_after : is_after (Some q) e.0 ≡ false = rw (later e (q, x) es i h there) refl in
+      let not_after : is_after (Some q) e.0 ≡ false = rw (later keys_total exact_keys e (q, x) es i h there) refl in
       rw not_after (least-stands q es i h.1 (record { value = x; entry = there }))
 
   -- the key of an entry that is lent

@@ -4,15 +4,18 @@ use Rattle.std.specs.List.{AllByRecursion}
 use Rattle.std.specs.declared.cmp.Ordering.{Ordering}
 use Rattle.std.specs.declared.cmp.Ordering.TheVariants.{Less, Equal, Greater}
 use Rattle.jc_rules.specs.declared.id.Id.{Id}
+use Rattle.std.specs.Cmp.{IsTotalOrder}
+use Rattle.std.proofs.lemmas.Map.Lookups.{CmpEqualImpliesEq}
+use Rattle.jc_rules.specs.declared.value.Value.{Value}
 use Rattle.jc_rules.specs.declared.key.Key.{Key}
 use Rattle.jc_rules.specs.declared.key.Next.{Next}
 use Rattle.jc_rules.specs.declared.key.Tagged.{Tagged}
 use Rattle.jc_rules.specs.declared.key.Tagged.TheVariants.{MapT, ListT, RegT}
-use Rattle.jc_rules.specs.Order.{key_cmp}
+use Rattle.jc_rules.specs.Order.{id_cmp, key_cmp}
 use Rattle.jc_rules.specs.Entries.{find, placed, replaced, put}
 use Rattle.jc_rules.specs.Context.{Context, context, Children, Register, listed, node_of, empty, empty_list}
 use Rattle.jc_rules.specs.Places.{node_at, with_node_at, context_at}
-use Rattle.jc_rules.proofs.Order.{keys_total, exact_keys}
+use Rattle.jc_rules.proofs.Order.{ids_total, exact_ids, keys_total, exact_keys}
 use Rattle.jc_rules.proofs.Entries.{same-self, found-put, put-put, put-same, value-found}
 use Rattle.jc_rules.proofs.Places.{listed_children, children_listed, with_node-twice, with_node-same, there}
 use Rattle.jc_rules.specs.Ids.{AreRising, has_id, with_id}
@@ -20,46 +23,55 @@ use Rattle.jc_rules.proofs.Ids.{with-present}
 use Rattle.jc_rules.specs.Shape.{IsKept}
 use Rattle.jc_tree.specs.Change.{IsNew, changed_by, changed_at}
 use Rattle.jc_tree.specs.Tree.{or_none}
-use Rattle.jc_tree.specs.Undo.{removed, restored, former_of, former_of_id, restored_by, restored_at, undone, contents}
+use Rattle.jc_tree.specs.Undo.{removed, restored, restored_value, former_of, former_of_id, former_of_value, restored_by, restored_at, undone, contents}
 use Rattle.jc_tree.specs.declared.node.Former.TheVariants as F
 use Rattle.jc_tree.specs.declared.node.Change.{Change}
-use Rattle.jc_tree.specs.declared.node.Change.TheVariants.{Child, AddId, Presence, Link, Register as SetRegister}
+use Rattle.jc_tree.specs.declared.node.Change.TheVariants.{Child, AddId, Presence, Link, PutValue, Register as SetRegister}
 use Rattle.jc_tree.specs.declared.plain.Undo.{Undo}
 use Rattle.jc_tree.proofs.Keeping.{kept-node}
 use Rattle.jc_tree.proofs.Places.{then_here}
 use Rattle.jc_tree.proofs.Taking.{set-out}
 
-module _ {X : Type 0} where
+module _ {K : Type 0} {R : K → K → Ordering} (total : IsTotalOrder R) (exact : CmpEqualImpliesEq R) {X : Type 0} where
   -- a new entry, taken away
-  pub removed-placed : (k : Key) (v : X) (es : List (Key × X)) → find key_cmp k es ≡ None → removed k (placed key_cmp k v es) ≡ es
-  removed-placed k v [] h = rw (same-self keys_total exact_keys k) refl
-  removed-placed k v (e ∷ es) h = go (key_cmp k e.0) refl (λ i. removed-placed k v es i) h
+  pub removed-placed : (k : K) (v : X) (es : List (K × X)) → find R k es ≡ None → removed R k (placed R k v es) ≡ es
+  removed-placed k v [] h = rw (same-self total exact k) refl
+  removed-placed k v (e ∷ es) h = go (R k e.0) refl (λ i. removed-placed k v es i) h
     where
-      go : (o : Ordering) → key_cmp k e.0 ≡ o → (find key_cmp k es ≡ None → removed k (placed key_cmp k v es) ≡ es) → find key_cmp k (e ∷ es) ≡ None → removed k (placed key_cmp k v (e ∷ es)) ≡ e ∷ es
-      go Less p ih g = rw p (rw (same-self keys_total exact_keys k) refl)
+      go : (o : Ordering) → R k e.0 ≡ o → (find R k es ≡ None → removed R k (placed R k v es) ≡ es) → find R k (e ∷ es) ≡ None → removed R k (placed R k v (e ∷ es)) ≡ e ∷ es
+      go Less p ih g = rw p (rw (same-self total exact k) refl)
       go Equal p ih g = let n : Some e.1 ≡ None = rw p at g in cc
       go Greater p ih g = rw (p, p) (ap (λ r. e ∷ r) (ih (rw p at g)))
 
-  pub removed-put : (k : Key) (v : X) (es : List (Key × X)) → find key_cmp k es ≡ None → removed k (put key_cmp k v es) ≡ es
+  pub removed-put : (k : K) (v : X) (es : List (K × X)) → find R k es ≡ None → removed R k (put R k v es) ≡ es
   removed-put k v es h = rw h (removed-placed k v es h)
 
   -- what stood under a key before a put, there again
-  pub restored-put : (k : Key) (v : X) (es : List (Key × X)) → restored k (find key_cmp k es) (put key_cmp k v es) ≡ es
-  restored-put k v es = go (find key_cmp k es) refl
+  pub restored-put : (k : K) (v : X) (es : List (K × X)) → restored R k (find R k es) (put R k v es) ≡ es
+  restored-put k v es = go (find R k es) refl
     where
-      put_again : (x : X) → put key_cmp k x (put key_cmp k v es) ≡ replaced key_cmp k x (put key_cmp k v es)
-      put_again x = rw (found-put keys_total exact_keys k v es) refl
+      put_again : (x : X) → put R k x (put R k v es) ≡ replaced R k x (put R k v es)
+      put_again x = rw (found-put total exact k v es) refl
 
-      go : (o : Option X) → find key_cmp k es ≡ o → restored k o (put key_cmp k v es) ≡ es
+      go : (o : Option X) → find R k es ≡ o → restored R k o (put R k v es) ≡ es
       go None p = rw p (removed-placed k v es p)
-      go (Some x) p = sym (put_again x) ∙ put-put keys_total exact_keys k x v es ∙ put-same keys_total exact_keys k x es p
+      go (Some x) p = sym (put_again x) ∙ put-put total exact k x v es ∙ put-same total exact k x es p
+
+-- a value that was put into a key's register, taken back
+pub value-back : (k : Key) (i : Id) (v : Value) (r : Register) (es : List (Key × Register)) → find key_cmp k es ≡ Some r → restored_value k i (find id_cmp i r) (find key_cmp k (put key_cmp k (put id_cmp i v r) es)) (put key_cmp k (put id_cmp i v r) es) ≡ es
+value-back k i v r es e =
+    let new = put id_cmp i v r in
+    ap (λ o. restored_value k i (find id_cmp i r) o (put key_cmp k new es)) (found-put keys_total exact_keys k new es)
+    ∙ ap (λ w. put key_cmp k w (put key_cmp k new es)) (restored-put ids_total exact_ids i v r)
+    ∙ put-put keys_total exact_keys k r new es
+    ∙ put-same keys_total exact_keys k r es e
 
 -- an identifier that was added to a key's set, taken back
 added_back : (k : Key) (i : Id) (m l : Children) (r : List (Key × Register)) (p : List (Key × List Id)) (n : List (Key × Next)) → ((s : List Id) → find key_cmp k p ≡ Some s → AreRising s) → restored_by (former_of_id k i (find key_cmp k p)) (context m l r (put key_cmp k (with_id i (or_none (find key_cmp k p))) p) n) ≡ context m l r p n
 added_back k i m l r p n rises = go (find key_cmp k p) refl
   where
     go : (o : Option (List Id)) → find key_cmp k p ≡ o → restored_by (former_of_id k i o) (context m l r (put key_cmp k (with_id i (or_none o)) p) n) ≡ context m l r p n
-    go None e = ap (λ q. context m l r (removed k q) n) (put_new e) ∙ ap (λ q. context m l r q n) (removed-placed k (i ∷ []) p e)
+    go None e = ap (λ q. context m l r (removed key_cmp k q) n) (put_new e) ∙ ap (λ q. context m l r q n) (removed-placed keys_total exact_keys k (i ∷ []) p e)
       where
         put_new : find key_cmp k p ≡ None → put key_cmp k (i ∷ []) p ≡ placed key_cmp k (i ∷ []) p
         put_new f = rw f refl
@@ -69,18 +81,27 @@ added_back k i m l r p n rises = go (find key_cmp k p) refl
         step true h = ap (λ v. context m l r (put key_cmp k v p) n) (with-present i s (rises s e) h) ∙ ap (λ q. context m l r q n) (put-same keys_total exact_keys k s p e)
         step false h = ap (λ q. context m l r q n) (set-out k i s p e h)
 
+-- the same of a context
+put_back : (k : Key) (i : Id) (v : Value) (m l : Children) (r : List (Key × Register)) (p : List (Key × List Id)) (n : List (Key × Next)) → restored_by (former_of_value k i (find key_cmp k r)) (context m l (put key_cmp k (put id_cmp i v (or_none (find key_cmp k r))) r) p n) ≡ context m l r p n
+put_back k i v m l r p n = go (find key_cmp k r) refl
+  where
+    go : (o : Option Register) → find key_cmp k r ≡ o → restored_by (former_of_value k i o) (context m l (put key_cmp k (put id_cmp i v (or_none o)) r) p n) ≡ context m l r p n
+    go None e = ap (λ q. context m l q p n) (removed-put keys_total exact_keys k (put id_cmp i v []) r e)
+    go (Some s) e = ap (λ q. context m l q p n) (value-back k i v s r e)
+
 no_node : (o : Option Context) → node_of o ≡ None → o ≡ None
 no_node None h = refl
 no_node (Some d) h = cc
 
 restored_changed : (change : Change) (c : Context) → IsKept c → IsNew change c → restored_by (former_of change c) (changed_by change c) ≡ c
-restored_changed (Child (MapT k)) (context m l r p n) h new = rw (listed_children, removed-put k empty (listed m) (no_node _ new), children_listed m) refl
-restored_changed (Child (ListT k)) (context m l r p n) h new = rw (listed_children, removed-put k empty_list (listed l) (no_node _ new), children_listed l) refl
-restored_changed (Child (RegT k)) (context m l r p n) h new = rw (restored-put k [] r) refl
+restored_changed (Child (MapT k)) (context m l r p n) h new = rw (listed_children, removed-put keys_total exact_keys k empty (listed m) (no_node _ new), children_listed m) refl
+restored_changed (Child (ListT k)) (context m l r p n) h new = rw (listed_children, removed-put keys_total exact_keys k empty_list (listed l) (no_node _ new), children_listed l) refl
+restored_changed (Child (RegT k)) (context m l r p n) h new = rw (restored-put keys_total exact_keys k [] r) refl
 restored_changed (AddId k i) (context m l r p n) h new = added_back k i m l r p n (λ s e. value-found keys_total exact_keys AreRising k s p h.6 e)
-restored_changed (Presence k s) (context m l r p n) h new = rw (restored-put k s p) refl
-restored_changed (Link k x) (context m l r p n) h new = rw (restored-put k x n) refl
-restored_changed (SetRegister k v) (context m l r p n) h new = rw (restored-put k v r) refl
+restored_changed (Presence k s) (context m l r p n) h new = rw (restored-put keys_total exact_keys k s p) refl
+restored_changed (Link k x) (context m l r p n) h new = rw (restored-put keys_total exact_keys k x n) refl
+restored_changed (PutValue k i v) (context m l r p n) h new = put_back k i v m l r p n
+restored_changed (SetRegister k v) (context m l r p n) h new = rw (restored-put keys_total exact_keys k v r) refl
 
 -- a change at a place, taken back
 pub restored_change : (at : List Tagged) (change : Change) (c : Context) → node_at at c ≢ None → IsKept c → IsNew change (context_at at c) → restored_at at (former_of change (context_at at c)) (changed_at at change c) ≡ c

@@ -7,15 +7,15 @@ use Rattle.jc_rules.specs.declared.key.Next.{Next}
 use Rattle.jc_rules.specs.declared.key.Next.TheVariants.{Tail}
 use Rattle.jc_rules.specs.declared.key.Tagged.{Tagged}
 use Rattle.jc_rules.specs.declared.key.Tagged.TheVariants.{MapT, ListT, RegT}
-use Rattle.jc_rules.specs.Order.{key_cmp}
+use Rattle.jc_rules.specs.Order.{id_cmp, key_cmp}
 use Rattle.jc_rules.specs.Entries.{find, put}
 use Rattle.jc_rules.specs.Ids.{with_id}
 use Rattle.jc_rules.specs.Context.{Context, context, children, Register, empty}
 use Rattle.jc_tree.specs.Tree.{or_none}
 use Rattle.jc_tree.specs.Sorted.{AreSorted}
-use Rattle.jc_tree.specs.Undo.{removed, restored, out_of_set, former_of_id}
+use Rattle.jc_tree.specs.Undo.{removed, restored, out_of_set, restored_value, former_of_id, former_of_value}
 use Rattle.jc_tree.specs.declared.node.Change.{Change}
-use Rattle.jc_tree.specs.declared.node.Change.TheVariants.{Child, AddId, Presence, Link, Register as SetRegister}
+use Rattle.jc_tree.specs.declared.node.Change.TheVariants.{Child, AddId, Presence, Link, PutValue, Register as SetRegister}
 use Rattle.jc_tree.specs.declared.node.Former.{Former}
 use Rattle.jc_tree.specs.declared.node.Former.TheVariants as F
 
@@ -114,8 +114,8 @@ with_number (ListT k) i n = record { maps = n.maps; lists = put key_cmp k i n.li
 with_number (RegT k) i n = n
 
 abbrev pub without_number : Tagged → Flat → Flat
-without_number (MapT k) n = record { maps = removed k n.maps; lists = n.lists; registers = n.registers; presences = n.presences; links = n.links }
-without_number (ListT k) n = record { maps = n.maps; lists = removed k n.lists; registers = n.registers; presences = n.presences; links = n.links }
+without_number (MapT k) n = record { maps = removed key_cmp k n.maps; lists = n.lists; registers = n.registers; presences = n.presences; links = n.links }
+without_number (ListT k) n = record { maps = n.maps; lists = removed key_cmp k n.lists; registers = n.registers; presences = n.presences; links = n.links }
 without_number (RegT k) n = n
 
 -- a change that makes no node
@@ -131,6 +131,7 @@ changed_flat (Child t) n = n
 changed_flat (AddId k i) n = with_presences (put key_cmp k (with_id i (or_none (find key_cmp k n.presences))) n.presences) n
 changed_flat (Presence k s) n = with_presences (put key_cmp k s n.presences) n
 changed_flat (Link k x) n = with_links (put key_cmp k x n.links) n
+changed_flat (PutValue k i v) n = with_registers (put key_cmp k (put id_cmp i v (or_none (find key_cmp k n.registers))) n.registers) n
 changed_flat (SetRegister k v) n = with_registers (put key_cmp k v n.registers) n
 
 -- what takes it back that a node is made
@@ -146,14 +147,16 @@ former_of_flat (Child t) n = former_of_node t
 former_of_flat (AddId k i) n = former_of_id k i (find key_cmp k n.presences)
 former_of_flat (Presence k s) n = F.Presence k (find key_cmp k n.presences)
 former_of_flat (Link k x) n = F.Link k (find key_cmp k n.links)
+former_of_flat (PutValue k i v) n = former_of_value k i (find key_cmp k n.registers)
 former_of_flat (SetRegister k v) n = F.Register k (find key_cmp k n.registers)
 
 -- with that as it was
 abbrev pub restored_flat : Former → Flat → Flat
 restored_flat (F.Map k) n = without_number (MapT k) n
 restored_flat (F.List k) n = without_number (ListT k) n
-restored_flat (F.Register k o) n = with_registers (restored k o n.registers) n
-restored_flat (F.Presence k o) n = with_presences (restored k o n.presences) n
-restored_flat (F.Link k o) n = with_links (restored k o n.links) n
+restored_flat (F.Register k o) n = with_registers (restored key_cmp k o n.registers) n
+restored_flat (F.Value k i o) n = with_registers (restored_value k i o (find key_cmp k n.registers) n.registers) n
+restored_flat (F.Presence k o) n = with_presences (restored key_cmp k o n.presences) n
+restored_flat (F.Link k o) n = with_links (restored key_cmp k o n.links) n
 restored_flat (F.NoId k i) n = with_presences (out_of_set k i (find key_cmp k n.presences) n.presences) n
 restored_flat F.Same n = n

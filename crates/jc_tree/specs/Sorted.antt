@@ -1,6 +1,7 @@
 -- Places in lists of entries that rise by key.
 use Rattle.std.specs.Prelude.{◌≡◌, ℕ, ◌≤◌, List, length, take, drop, slice_get, Some, Result, Ok, Err}
 use Rattle.std.specs.List.{AllByRecursion}
+use Rattle.std.specs.declared.cmp.Ordering.{Ordering}
 use Rattle.std.specs.declared.cmp.Ordering.TheVariants.{Less}
 use Rattle.jc_rules.specs.declared.id.Id.{Id}
 use Rattle.jc_rules.specs.declared.key.Key.{Key}
@@ -14,20 +15,20 @@ abbrev pub AreSorted : {X : Type 0} → List (Key × X) → Type 0
 AreSorted es = IsRising key_cmp (keys_of es)
 
 -- the key has the entry at i
-pub record StandsAt {X : Type 0} (k : Key) (es : List (Key × X)) (i : ℕ) : Type 0 where
+pub record StandsAt {K X : Type 0} (k : K) (es : List (K × X)) (i : ℕ) : Type 0 where
   pub value : X
   pub entry : slice_get es i ≡ Some (k, value)
 
 -- no entry has the key: the first i have lesser ones, the others greater ones
-pub record BelongsAt {X : Type 0} (k : Key) (es : List (Key × X)) (i : ℕ) : Type 0 where
+pub record BelongsAt {K X : Type 0} (R : K → K → Ordering) (k : K) (es : List (K × X)) (i : ℕ) : Type 0 where
   pub within : i ≤ length es
-  pub lesser : AllByRecursion (λ e. key_cmp e.0 k ≡ Less) (take i es)
-  pub greater : AllByRecursion (λ e. key_cmp k e.0 ≡ Less) (drop i es)
+  pub lesser : AllByRecursion (λ e. R e.0 k ≡ Less) (take i es)
+  pub greater : AllByRecursion (λ e. R k e.0 ≡ Less) (drop i es)
 
 -- where the key stands, or else where it belongs
-abbrev pub IsPlace : {X : Type 0} → Key → List (Key × X) → Result ℕ ℕ → Type 0
-IsPlace k es (Ok i) = StandsAt k es i
-IsPlace k es (Err i) = BelongsAt k es i
+abbrev pub IsPlace : {K X : Type 0} → (K → K → Ordering) → K → List (K × X) → Result ℕ ℕ → Type 0
+IsPlace R k es (Ok i) = StandsAt k es i
+IsPlace R k es (Err i) = BelongsAt R k es i
 
 -- the entries of each kind rise by key
 pub record IsSortedNode (maps lists : List (Key × Context)) (registers : List (Key × Register))

@@ -1,7 +1,6 @@
 -- What a store contains.
 use Rattle.std.specs.Prelude.{◌≡◌, ◌≢◌, List, [], ◌∷◌, ◌++◌, Option, Some, None, Bool, true, filter}
 use Rattle.std.specs.Ordering.{is_lt}
-use Rattle.jc_rules.specs.declared.id.Id.{Id}
 use Rattle.jc_rules.specs.declared.key.Key.{Key}
 use Rattle.jc_rules.specs.declared.key.Tagged.{Tagged}
 use Rattle.jc_rules.specs.Order.{key_cmp}
@@ -26,8 +25,8 @@ HasPlace at t = node_at at t.now ≢ None
 abbrev pub here : List Tagged → Tree → Context
 here at t = context_at at t.now
 
--- the identifiers of a presence set, none where there is no set
-abbrev pub or_none : Option (List Id) → List Id
+-- the identifiers of a presence set or the values of a register, none where it isn't there
+abbrev pub or_none : {X : Type 0} → Option (List X) → List X
 or_none None = []
 or_none (Some s) = s
 

@@ -1,30 +1,32 @@
 -- How changes are taken back.
 use Rattle.std.specs.Prelude.{List, [], ◌∷◌, Option, Some, None, cond}
 use Rattle.std.specs.Ordering.{eq_by_cmp}
+use Rattle.std.specs.declared.cmp.Ordering.{Ordering}
 use Rattle.jc_rules.specs.declared.id.Id.{Id}
 use Rattle.jc_rules.specs.declared.key.Key.{Key}
 use Rattle.jc_rules.specs.declared.key.Tagged.{Tagged}
 use Rattle.jc_rules.specs.declared.key.Tagged.TheVariants.{MapT, ListT, RegT}
-use Rattle.jc_rules.specs.Order.{key_cmp, same_id}
+use Rattle.jc_rules.specs.declared.value.Value.{Value}
+use Rattle.jc_rules.specs.Order.{id_cmp, key_cmp, same_id}
 use Rattle.jc_rules.specs.Entries.{find, replaced, put}
 use Rattle.jc_rules.specs.Ids.{has_id}
-use Rattle.jc_rules.specs.Context.{Context, context, children, listed, registers, presence, next}
+use Rattle.jc_rules.specs.Context.{Context, context, Register, children, listed, registers, presence, next}
 use Rattle.jc_rules.specs.Places.{with_node_at, context_at}
 use Rattle.jc_tree.specs.declared.node.Change.{Change}
-use Rattle.jc_tree.specs.declared.node.Change.TheVariants.{Child, AddId, Presence, Link, Register}
+use Rattle.jc_tree.specs.declared.node.Change.TheVariants.{Child, AddId, Presence, Link, PutValue, Register as SetRegister}
 use Rattle.jc_tree.specs.declared.node.Former.{Former}
 use Rattle.jc_tree.specs.declared.node.Former.TheVariants as F
 use Rattle.jc_tree.specs.declared.plain.Undo.{Undo}
 
 -- without the entry of the key
-abbrev pub removed : {X : Type 0} → Key → List (Key × X) → List (Key × X)
-removed k [] = []
-removed k (e ∷ es) = cond (eq_by_cmp key_cmp k e.0) es (e ∷ removed k es)
+abbrev pub removed : {K X : Type 0} → (K → K → Ordering) → K → List (K × X) → List (K × X)
+removed R k [] = []
+removed R k (e ∷ es) = cond (eq_by_cmp R k e.0) es (e ∷ removed R k es)
 
 -- with the value that the key had, where it had one, in the place of the one that it has
-abbrev pub restored : {X : Type 0} → Key → Option X → List (Key × X) → List (Key × X)
-restored k (Some x) es = replaced key_cmp k x es
-restored k None es = removed k es
+abbrev pub restored : {K X : Type 0} → (K → K → Ordering) → K → Option X → List (K × X) → List (K × X)
+restored R k (Some x) es = replaced R k x es
+restored R k None es = removed R k es
 
 -- without the identifier
 abbrev pub taken_out : Id → List Id → List Id
@@ -36,10 +38,20 @@ abbrev pub out_of_set : Key → Id → Option (List Id) → List (Key × List Id
 out_of_set k i None es = es
 out_of_set k i (Some s) es = put key_cmp k (taken_out i s) es
 
+-- with the value that the identifier had in the key's register, where there is one
+abbrev pub restored_value : Key → Id → Option Value → Option Register → List (Key × Register) → List (Key × Register)
+restored_value k i o None es = es
+restored_value k i o (Some r) es = put key_cmp k (restored id_cmp i o r) es
+
 -- what takes it back that the identifier is added to the key's set
 abbrev pub former_of_id : Key → Id → Option (List Id) → Former
 former_of_id k i None = F.Presence k None
 former_of_id k i (Some s) = cond (has_id i s) F.Same (F.NoId k i)
+
+-- what takes it back that a value is put under the identifier into the key's register
+abbrev pub former_of_value : Key → Id → Option Register → Former
+former_of_value k i None = F.Register k None
+former_of_value k i (Some r) = F.Value k i (find id_cmp i r)
 
 -- what a change is going to set, as it is
 abbrev pub former_of : Change → Context → Former
@@ -49,15 +61,17 @@ former_of (Child (RegT k)) c = F.Register k (find key_cmp k (registers c))
 former_of (AddId k i) c = former_of_id k i (presence k c)
 former_of (Presence k s) c = F.Presence k (presence k c)
 former_of (Link k n) c = F.Link k (next k c)
-former_of (Register k r) c = F.Register k (find key_cmp k (registers c))
+former_of (PutValue k i v) c = former_of_value k i (find key_cmp k (registers c))
+former_of (SetRegister k r) c = F.Register k (find key_cmp k (registers c))
 
 -- with that as it was
 abbrev pub restored_by : Former → Context → Context
-restored_by (F.Map k) (context m l r p n) = context (children (removed k (listed m))) l r p n
-restored_by (F.List k) (context m l r p n) = context m (children (removed k (listed l))) r p n
-restored_by (F.Register k o) (context m l r p n) = context m l (restored k o r) p n
-restored_by (F.Presence k o) (context m l r p n) = context m l r (restored k o p) n
-restored_by (F.Link k o) (context m l r p n) = context m l r p (restored k o n)
+restored_by (F.Map k) (context m l r p n) = context (children (removed key_cmp k (listed m))) l r p n
+restored_by (F.List k) (context m l r p n) = context m (children (removed key_cmp k (listed l))) r p n
+restored_by (F.Register k o) (context m l r p n) = context m l (restored key_cmp k o r) p n
+restored_by (F.Value k i o) (context m l r p n) = context m l (restored_value k i o (find key_cmp k r) r) p n
+restored_by (F.Presence k o) (context m l r p n) = context m l r (restored key_cmp k o p) n
+restored_by (F.Link k o) (context m l r p n) = context m l r p (restored key_cmp k o n)
 restored_by (F.NoId k i) (context m l r p n) = context m l r (out_of_set k i (find key_cmp k p) p) n
 restored_by F.Same c = c
 

@@ -216,6 +216,19 @@ impl TreeStore for ArenaTree {
         self.change(at, Change::Register(key.copy()?, Pairs::new(pairs)))
     }
 
+    fn put_value(
+        &mut self,
+        at: &[Tagged],
+        key: &Key,
+        id: Id,
+        value: Value,
+    ) -> Result<bool, AllocError> {
+        let node = self.find(at);
+        let was = self.nodes[node].register(key).is_some();
+        self.change_node(node, Change::PutValue(key.copy()?, id, value))?;
+        Ok(was)
+    }
+
     fn key_after(&self, at: &[Tagged], above: Option<&Key>) -> Option<&Key> {
         self.nodes[self.find(at)].key_after(above)
     }

@@ -10,7 +10,9 @@ ghost use Rattle.jc_tree.specs.Arena.{blank, new_flat, child_of, is_in, with_num
 use crate::ids::Ids;
 use crate::lists::Pairs;
 use crate::node::{Change, Former, former_of_id, lesser};
-use crate::tables::{add_in, key_above_in, put_in, restore_in, take_out_in, value_in};
+use crate::tables::{
+    add_in, key_above_in, put_in, put_value_in, restore_in, restore_value_in, take_out_in, value_in,
+};
 use jc_rules::{Id, Key, Next, Tagged, Value};
 use std::alloc::{AllocError, Global};
 use std::collections::BTreeMap;
@@ -187,6 +189,9 @@ impl ArenaNode {
             Change::Link(key, next) => {
                 Ok(Former::Link(key.copy()?, put_in(&mut self.links, key, next)?))
             }
+            Change::PutValue(key, id, value) => {
+                put_value_in(&mut self.registers, key, id, value, alloc)
+            }
             Change::Register(key, pairs) => {
                 Ok(Former::Register(key.copy()?, put_in(&mut self.registers, key, pairs)?))
             }
@@ -201,6 +206,7 @@ impl ArenaNode {
             Former::Map(key) => restore_in(&mut self.maps, &key, None),
             Former::List(key) => restore_in(&mut self.lists, &key, None),
             Former::Register(key, pairs) => restore_in(&mut self.registers, &key, pairs),
+            Former::Value(key, id, value) => restore_value_in(&mut self.registers, &key, id, value),
             Former::Presence(key, ids) => restore_in(&mut self.presences, &key, ids),
             Former::Link(key, next) => restore_in(&mut self.links, &key, next),
             Former::NoId(key, id) => take_out_in(&mut self.presences, &key, id),

@@ -13,7 +13,7 @@ ghost use Rattle.jc_tree.specs.Undo.{former_of, former_of_id, restored_by, resto
 
 use crate::entries::{key_above, place_of, put_value, restore_value, value_of};
 use crate::ids::{Ids, add_to, take_from};
-use crate::lists::Pairs;
+use crate::lists::{Pairs, put_to, restore_from};
 use jc_rules::{Id, Key, Next, Tagged, Value, compare_keys};
 use std::alloc::{AllocError, Global};
 use std::marker::Model;
@@ -52,25 +52,27 @@ impl Model for Node {
     ghost size_decreases = { λ a h. omega (arith, children_fall a.maps, children_fall a.lists) };
 }
 
-/// A change of one context: a new child, an identifier that is added to a presence set, or an entry
-/// that is set.
+/// A change of one context: a new child, an identifier that is added to a presence set, a value that
+/// is put into a register, or an entry that is set.
 #[derive(Drop)]
 pub enum Change {
     Child(Tagged),
     AddId(Key, Id),
     Presence(Key, Ids),
     Link(Key, Next),
+    PutValue(Key, Id, Value),
     Register(Key, Pairs),
 }
 
 /// What a change set, as it was before: that there was no map or list under the key; what else stood
-/// under it, if anything did; that the identifier wasn't in the key's presence set; or that all was
-/// as it is.
+/// under it, if anything did; what the identifier had in the key's register, if anything; that it
+/// wasn't in the key's presence set; or that all was as it is.
 #[derive(Drop)]
 pub enum Former {
     Map(Key),
     List(Key),
     Register(Key, Option<Pairs>),
+    Value(Key, Id, Option<Value>),
     Presence(Key, Option<Ids>),
     Link(Key, Option<Next>),
     NoId(Key, Id),
@@ -216,6 +218,9 @@ impl Node {
             Change::Link(key, next) => {
                 Ok(Former::Link(key.copy()?, put_value(&mut self.links, key, next)?))
             }
+            Change::PutValue(key, id, value) => {
+                put_to(&mut self.registers, key, id, value, alloc)
+            }
             Change::Register(key, pairs) => {
                 Ok(Former::Register(key.copy()?, put_value(&mut self.registers, key, pairs)?))
             }
@@ -255,6 +260,7 @@ impl Node {
             Former::Map(key) => restore_value(&mut self.maps, &key, None),
             Former::List(key) => restore_value(&mut self.lists, &key, None),
             Former::Register(key, pairs) => restore_value(&mut self.registers, &key, pairs),
+            Former::Value(key, id, value) => restore_from(&mut self.registers, &key, id, value),
             Former::Presence(key, ids) => restore_value(&mut self.presences, &key, ids),
             Former::Link(key, next) => restore_value(&mut self.links, &key, next),
             Former::NoId(key, id) => take_from(&mut self.presences, &key, id),

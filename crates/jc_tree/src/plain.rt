@@ -127,6 +127,18 @@ impl TreeStore for PlainTree {
         self.change(at, Change::Register(key.copy()?, Pairs::new(pairs)))
     }
 
+    fn put_value(
+        &mut self,
+        at: &[Tagged],
+        key: &Key,
+        id: Id,
+        value: Value,
+    ) -> Result<bool, AllocError> {
+        let was = self.root.node_at(at).register(key).is_some();
+        self.change(at, Change::PutValue(key.copy()?, id, value))?;
+        Ok(was)
+    }
+
     fn key_after(&self, at: &[Tagged], above: Option<&Key>) -> Option<&Key> {
         self.root.node_at(at).key_after(above)
     }

@@ -2,10 +2,10 @@
 
 ghost use Rattle.std.specs.Prelude.{◌≡◌, ◌≤◌, ◌+◌, ◌↔◌, [], None, IsTrue, length, take, is_some, option_copied, IfOk, OnOk, OnErr};
 ghost use Rattle.jc_rules.specs.declared.key.Tagged.TheVariants.{RegT};
-ghost use Rattle.jc_rules.specs.Order.{key_cmp};
-ghost use Rattle.jc_rules.specs.Entries.{find, keys_of};
+ghost use Rattle.jc_rules.specs.Order.{id_cmp, key_cmp};
+ghost use Rattle.jc_rules.specs.Entries.{find, put, keys_of};
 ghost use Rattle.jc_rules.specs.Ids.{AreRising, with_id};
-ghost use Rattle.jc_rules.specs.Context.{Values, content, with_content, new_content, presence, with_presence, presences, links, next as next_of, with_next, registers, keys};
+ghost use Rattle.jc_rules.specs.Context.{Values, IsPrimitive, content, with_content, new_content, presence, with_presence, presences, links, next as next_of, with_next, registers, keys};
 ghost use Rattle.jc_rules.specs.Shape.{IsKept, IsKeptRegister};
 ghost use Rattle.jc_tree.specs.Tree.{Tree, history, HasPlace, here, or_none, IsChanged, least_after};
 
@@ -95,6 +95,26 @@ pub trait TreeStore {
         ensures ok { OnOk result (IsChanged at.now
             (with_content (RegT key.now) (Values pairs.items) (here at.now (tree self.old)))
             (tree self.old) (tree self.new)) }
+        ensures err { OnErr result (tree self.new ≡ tree self.old) };
+
+    /// Puts the value under the identifier into the key's register, a new one where there is none. Says
+    /// whether there was one. After a refusal the value is gone.
+    fn put_value(
+        &mut self,
+        at: &[Tagged],
+        key: &Key,
+        id: Id,
+        value: Value,
+    ) -> Result<bool, AllocError>
+        requires there { HasPlace at.now (tree self.old) }
+        requires primitive { IsPrimitive value }
+        ensures ok { OnOk result (IsChanged at.now
+            (with_content (RegT key.now)
+            (Values (put id_cmp id value (or_none (find key_cmp key.now (registers (here at.now (tree self.old)))))))
+            (here at.now (tree self.old)))
+            (tree self.old) (tree self.new)) }
+        ensures was { IfOk result (λ was.
+            was ≡ is_some (find key_cmp key.now (registers (here at.now (tree self.old))))) }
         ensures err { OnErr result (tree self.new ≡ tree self.old) };
 
     /// The least key with a map, a list or a register, above the given one.

@@ -1,15 +1,17 @@
 //! Entries by key in trees that are kept in balance, so that a key among many is found, put and taken away at once.
 
 ghost use Rattle.std.specs.Prelude.{◌≡◌, IfOk, OnOk, OnErr, option_copied};
-ghost use Rattle.jc_rules.specs.Order.{key_cmp};
+ghost use Rattle.jc_rules.specs.Order.{id_cmp, key_cmp};
 ghost use Rattle.jc_rules.specs.Entries.{find, put, keys_of};
 ghost use Rattle.jc_rules.specs.Ids.{with_id};
 ghost use Rattle.jc_tree.specs.Tree.{or_none, least_after};
 ghost use Rattle.jc_tree.specs.Sorted.{AreSorted};
-ghost use Rattle.jc_tree.specs.Undo.{restored, out_of_set};
+ghost use Rattle.jc_tree.specs.Undo.{restored, restored_value, former_of_value, out_of_set};
 
 use crate::ids::Ids;
-use jc_rules::{Id, Key};
+use crate::lists::Pairs;
+use crate::node::Former;
+use jc_rules::{Id, Key, Value};
 use std::alloc::{AllocError, Global};
 use std::collections::BTreeMap;
 use std::ops::Bound;
@@ -42,7 +44,7 @@ pub fn put_in<X: Drop>(
 /// a key without an entry gets none.
 pub fn restore_in<X: Drop>(table: &mut BTreeMap<Key, X>, key: &Key, former: Option<X>)
     requires { AreSorted table.old.entries }
-    ensures ok { table.new.entries ≡ restored key.now former table.old.entries }
+    ensures ok { table.new.entries ≡ restored key_cmp key.now former table.old.entries }
     ensures sorted { AreSorted table.new.entries }
 {
     match former {
@@ -102,5 +104,51 @@ pub fn take_out_in(sets: &mut BTreeMap<Key, Ids>, key: &Key, id: Id)
 {
     if let Some(ids) = sets.get_mut(key) {
         ids.take_out(id);
+    }
+}
+
+/// Puts the value under the identifier into the key's register, a new one where there is none, and
+/// gives what takes it back. After a refusal the registers are as they were.
+pub fn put_value_in(
+    registers: &mut BTreeMap<Key, Pairs>,
+    key: Key,
+    id: Id,
+    value: Value,
+    alloc: Global,
+) -> Result<Former, AllocError>
+    requires { AreSorted registers.old.entries }
+    ensures ok { OnOk result (registers.new.entries
+        ≡ put key_cmp key (put id_cmp id value (or_none (find key_cmp key registers.old.entries)))
+        registers.old.entries) }
+    ensures former { IfOk result (λ former. former ≡ former_of_value key id (find key_cmp key registers.old.entries)) }
+    ensures err { OnErr result (registers.new.entries ≡ registers.old.entries) }
+    ensures sorted { AreSorted registers.new.entries }
+{
+    if let Some(pairs) = registers.get_mut(&key) {
+        let former = pairs.put(id, value)?;
+        return Ok(Former::Value(key, id, former));
+    }
+    let mut pairs = Pairs::new(Vec::new(alloc));
+    pairs.put(id, value)?;
+    let former = Former::Register(key.copy()?, None);
+    put_in(registers, key, pairs)?;
+    Ok(former)
+}
+
+/// Gives the identifier the value that it had in the key's register, where there is one. It takes no
+/// memory.
+pub fn restore_value_in(
+    registers: &mut BTreeMap<Key, Pairs>,
+    key: &Key,
+    id: Id,
+    former: Option<Value>,
+)
+    requires { AreSorted registers.old.entries }
+    ensures ok { registers.new.entries
+        ≡ restored_value key.now id former (find key_cmp key.now registers.old.entries) registers.old.entries }
+    ensures sorted { AreSorted registers.new.entries }
+{
+    if let Some(pairs) = registers.get_mut(key) {
+        pairs.restore(id, former);
     }
 }

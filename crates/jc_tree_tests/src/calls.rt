@@ -3,7 +3,7 @@
 //! and three levels down.
 
 use crate::placed::{FIRST, Kind, Placed, SECOND, empty_map, name, two_values};
-use jc_rules::{Key, Next, Tagged};
+use jc_rules::{Key, Next, Tagged, Value};
 use jc_tree::{ArenaTree, PlainTree, TreeStore, laws};
 use std::alloc::AllocError;
 use std::process::Abort;
@@ -11,7 +11,7 @@ use std::test::Fail;
 
 const CHANGES: u64 = 20;
 
-const TURNS: u64 = 17;
+const TURNS: u64 = 19;
 
 fn children<S: TreeStore>(rt: &impl Abort, tree: &mut Placed<S>) -> Result<(), AllocError> {
     tree.expect_child(rt, &Tagged::MapT(Key::Doc), false);
@@ -67,6 +67,30 @@ fn registers<S: TreeStore>(rt: &impl Abort, tree: &mut Placed<S>) -> Result<(), 
     tree.expect_pairs(rt, &Key::Doc, Some(pairs.as_slice()));
     tree.put_none(rt, &Key::Doc)?;
     tree.expect_pairs(rt, &Key::Doc, Some(&[]));
+    Ok(())
+}
+
+/// Values that are put one after another, the last one under an identifier that has one.
+fn put_values<S: TreeStore>(rt: &impl Abort, tree: &mut Placed<S>) -> Result<(), AllocError> {
+    let pairs = two_values(tree.alloc)?;
+    let start = tree.store.mark();
+    tree.put_value(rt, &Key::Doc, SECOND, Value::Null, false)?;
+    let one = tree.store.mark();
+    tree.put_value(rt, &Key::Doc, FIRST, Value::True, true)?;
+    tree.expect_pairs(rt, &Key::Doc, Some(pairs.as_slice()));
+    let two = tree.store.mark();
+    tree.put_value(rt, &Key::Doc, FIRST, Value::False, true)?;
+    tree.expect_pairs(
+        rt,
+        &Key::Doc,
+        Some(&[(FIRST, Value::False), (SECOND, Value::Null)]),
+    );
+    tree.go_back(rt, two);
+    tree.expect_pairs(rt, &Key::Doc, Some(pairs.as_slice()));
+    tree.go_back(rt, one);
+    tree.expect_pairs(rt, &Key::Doc, Some(&[(SECOND, Value::Null)]));
+    tree.go_back(rt, start);
+    tree.expect_pairs(rt, &Key::Doc, None);
     Ok(())
 }
 
@@ -173,6 +197,19 @@ fn refused_register<S: TreeStore>(rt: &impl Abort, tree: &mut Placed<S>) -> Resu
     Ok(())
 }
 
+fn refused_value<S: TreeStore>(rt: &impl Abort, tree: &mut Placed<S>) -> Result<(), AllocError> {
+    tree.put_value(rt, &Key::Doc, SECOND, Value::Null, false)?;
+    let mark = tree.store.mark();
+    let made = tree
+        .put_value(rt, &Key::Doc, FIRST, Value::True, true)
+        .is_ok();
+    let both = [(FIRST, Value::True), (SECOND, Value::Null)];
+    let both = both.as_slice();
+    tree.expect_pairs(rt, &Key::Doc, Some(if made { both } else { &both[1..] }));
+    assert!(rt; (tree.store.mark() == mark) != made);
+    Ok(())
+}
+
 fn undo_at_once<S: TreeStore>(rt: &impl Abort, tree: &mut Placed<S>) -> Result<(), AllocError> {
     let (before, mark) = (tree.entries(rt), tree.store.mark());
     let depth = tree.at.len();
@@ -218,6 +255,8 @@ fn call<S: TreeStore>(rt: &impl Abort, tree: &mut Placed<S>, turn: u64) -> Resul
         13 => undo_at_once(rt, tree),
         14 => added_ids(rt, tree),
         15 => refused_id(rt, tree),
+        16 => put_values(rt, tree),
+        17 => refused_value(rt, tree),
         _ => presence_undone(rt, tree),
     }
 }

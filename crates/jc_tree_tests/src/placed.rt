@@ -2,6 +2,7 @@
 
 ghost use Rattle.std.specs.Prelude.{IfOk};
 ghost use Rattle.jc_rules.specs.Ids.{AreRising};
+ghost use Rattle.jc_rules.specs.Context.{IsPrimitive};
 ghost use Rattle.jc_rules.specs.Shape.{IsKeptRegister};
 
 use jc_rules::{Id, Key, Next, Tagged, Text, Value};
@@ -114,6 +115,23 @@ impl<S: TreeStore> Placed<S> {
         assert!(rt; is_place(&self.store, self.at.as_slice()));
         self.store
             .set_register(self.at.as_slice(), key, two_values(self.alloc)?)
+    }
+
+    /// Puts the value, where there was a register before or not.
+    pub fn put_value(
+        &mut self,
+        rt: &impl Abort,
+        key: &Key,
+        id: Id,
+        value: Value,
+        was: bool,
+    ) -> Result<(), AllocError>
+        requires { IsPrimitive value }
+    {
+        assert!(rt; is_place(&self.store, self.at.as_slice()));
+        let told = self.store.put_value(self.at.as_slice(), key, id, value)?;
+        assert!(rt; told == was);
+        Ok(())
     }
 
     pub fn go_back(&mut self, rt: &impl Abort, mark: Mark) {

@@ -2,7 +2,7 @@
 //! step what stands at the place is compared, and after each hundred all that stands below the root.
 
 use crate::placed::{FIRST, Placed, SECOND, name};
-use jc_rules::{Id, Key, Next, Tagged};
+use jc_rules::{Id, Key, Next, Tagged, Value};
 use jc_tree::{ArenaTree, Mark, PlainTree, TreeStore, is_place};
 use std::alloc::{AllocError, Global};
 use std::process::Abort;
@@ -46,6 +46,14 @@ impl<S: TreeStore> Placed<S> {
     fn put_id(&mut self, rt: &impl Abort, key: &Key, id: Id) -> Result<(), AllocError> {
         let was = self.presence_is_there(rt, key);
         self.add_id(rt, key, id, was)
+    }
+
+    /// Puts a value, in a register that is there or not.
+    fn put_one(&mut self, rt: &impl Abort, key: &Key, id: Id) -> Result<(), AllocError> {
+        let at = self.at.as_slice();
+        assert!(rt; is_place(&self.store, at));
+        let was = self.store.register(at, key).is_some();
+        self.put_value(rt, key, id, Value::False, was)
     }
 
     fn presence_is_there(&self, rt: &impl Abort, key: &Key) -> bool {
@@ -94,7 +102,7 @@ impl<S: TreeStore> Placed<S> {
     fn step(&mut self, rt: &impl Abort, number: u64) -> Result<(), AllocError> {
         let key = key_of(self.alloc, number / 16)?;
         let child = tagged_of(key.copy()?, number / 128);
-        match number % 12 {
+        match number % 14 {
             0 => self.put_ids(rt, &key, [FIRST].as_slice())?,
             1 => self.put_ids(rt, &key, &[])?,
             2 => self.put_id(rt, &key, FIRST)?,
@@ -102,6 +110,8 @@ impl<S: TreeStore> Placed<S> {
             4 => self.put_next(rt, &key, Next::Elem(SECOND))?,
             5 => self.put_two(rt, &key)?,
             6 => self.put_none(rt, &key)?,
+            11 => self.put_one(rt, &key, FIRST)?,
+            12 => self.put_one(rt, &key, SECOND)?,
             7 | 8 => self.make_new(rt, &child)?,
             9 => self.go_down(rt, child)?,
             10 => {

@@ -1,4 +1,5 @@
 use Rattle.std.proofs.Common.{◌<◌, length, sym, subst, ◌∙◌}
+use Rattle.jc_rules.specs.Order.{key_cmp}
 use Rattle.jc_rules.proofs.Order.{keys_total, exact_keys}
 use Rattle.jc_rules.proofs.Entries.{rising-put}
 use Rattle.jc_tree.specs.Sorted.{AreSorted}
@@ -6,7 +7,7 @@ use Rattle.jc_tree.proofs.Search.{standing_within, put-standing, replaced-standi
 use Rattle.jc_tree.proofs.entries.restore_value.Goals as goal
 
 pub returns-in_default-clause-ok : goal.returns-in_default-clause-ok
-returns-in_default-clause-ok g c = sym (restored-absent _ _ c.in_default.field-0 _ (rw c.as_slice.ensures.value at c.in_default.ensures))
+returns-in_default-clause-ok g c = sym (restored-absent keys_total exact_keys _ _ c.in_default.field-0 _ (rw c.as_slice.ensures.value at c.in_default.ensures))
 
 pub index_mut-requires : goal.index_mut-requires
 index_mut-requires g c =
@@ -21,17 +22,17 @@ remove-requires g c =
 pub returns-in-Some-clause-ok : goal.returns-in-Some-clause-ok
 returns-in-Some-clause-ok g c =
     let stands = rw c.as_slice.ensures.value at c.in-Ok.ensures in
-    rw c.in-Some.is (sym (replaced-standing _ _ _ _ c.in-Some.value c.requires stands c.index_mut.ensures.value))
+    rw c.in-Some.is (sym (replaced-standing keys_total exact_keys _ _ _ _ c.in-Some.value c.requires stands c.index_mut.ensures.value))
 
 pub returns-in-Some-clause-sorted : goal.returns-in-Some-clause-sorted
 returns-in-Some-clause-sorted g c =
     let stands = rw c.as_slice.ensures.value at c.in-Ok.ensures in
-    subst AreSorted (put-standing _ _ _ _ c.in-Some.value c.requires stands c.index_mut.ensures.value) (rising-put keys_total exact_keys c.args.key.now c.in-Some.value c.args.entries.now.items c.requires)
+    subst AreSorted (put-standing keys_total exact_keys _ _ _ _ c.in-Some.value c.requires stands c.index_mut.ensures.value) (rising-put keys_total exact_keys c.args.key.now c.in-Some.value c.args.entries.now.items c.requires)
 
 pub returns-in-None-clause-ok : goal.returns-in-None-clause-ok
 returns-in-None-clause-ok g c =
     let stands = rw c.as_slice.ensures.value at c.in-Ok.ensures in
-    rw c.in-None.is (c.remove.ensures.items ∙ sym (removed-standing _ _ _ c.requires stands))
+    rw c.in-None.is (c.remove.ensures.items ∙ sym (removed-standing keys_total exact_keys _ _ _ c.requires stands))
 
 pub returns-in-None-clause-sorted : goal.returns-in-None-clause-sorted
-returns-in-None-clause-sorted g c = rw c.remove.ensures.items (sorted_left c.args.entries.now.items c.in-Ok.i c.requires)
+returns-in-None-clause-sorted g c = rw c.remove.ensures.items (sorted_left key_cmp c.args.entries.now.items c.in-Ok.i c.requires)

@@ -51,30 +51,30 @@ Node::change_at-returns-in-ListT-clause-former t c =
 pub change_in-change_at-requires : goal.change_in-change_at-requires
 change_in-change_at-requires t c =
     let stands = rw c.as_slice.ensures.value at c.in-Ok.ensures in
-    let child : find key_cmp c.args.key.now c.args.children.now.items ≡ Some c.index_mut.result.now.1 = find-standing _ _ _ _ c.requires.sorted stands c.index_mut.ensures.value in
+    let child : find key_cmp c.args.key.now c.args.children.now.items ≡ Some c.index_mut.result.now.1 = find-standing keys_total exact_keys _ _ _ _ c.requires.sorted stands c.index_mut.ensures.value in
     (omega arith, rw child at c.requires.there)
 
 pub change_in-unreachable-requires : goal.change_in-unreachable-requires
 change_in-unreachable-requires t c =
     let belongs = rw c.as_slice.ensures.value at c.in-Err.ensures in
-    rw (find-absent _ _ _ belongs) at c.requires.there
+    rw (find-absent keys_total exact_keys _ _ _ belongs) at c.requires.there
 
 pub change_in-returns-clause-ok : goal.change_in-returns-clause-ok
 change_in-returns-clause-ok t c =
     let entries = c.args.children.now.items in
     let entry = c.index_mut.result.now in
     let stands = rw c.as_slice.ensures.value at c.in-Ok.ensures in
-    let child : find key_cmp c.args.key.now entries ≡ Some entry.1 = find-standing _ _ _ _ c.requires.sorted stands c.index_mut.ensures.value in
-    on_ok _ (child_changed c.args.key.now (changed_at c.args.at.now c.args.change) entries (λ x. slice_set entries c.in-Ok.i (entry.0, x)) entry.1 c.change_at.new.self child (λ x. sym (put-standing _ _ _ entry x c.requires.sorted stands c.index_mut.ensures.value))) c.change_at.ensures.ok
+    let child : find key_cmp c.args.key.now entries ≡ Some entry.1 = find-standing keys_total exact_keys _ _ _ _ c.requires.sorted stands c.index_mut.ensures.value in
+    on_ok _ (child_changed c.args.key.now (changed_at c.args.at.now c.args.change) entries (λ x. slice_set entries c.in-Ok.i (entry.0, x)) entry.1 c.change_at.new.self child (λ x. sym (put-standing keys_total exact_keys _ _ _ entry x c.requires.sorted stands c.index_mut.ensures.value))) c.change_at.ensures.ok
 
 pub change_in-returns-clause-former : goal.change_in-returns-clause-former
 change_in-returns-clause-former t c =
     let entry = c.index_mut.result.now in
     let stands = rw c.as_slice.ensures.value at c.in-Ok.ensures in
-    let child : find key_cmp c.args.key.now c.args.children.now.items ≡ Some entry.1 = find-standing _ _ _ _ c.requires.sorted stands c.index_mut.ensures.value in
+    let child : find key_cmp c.args.key.now c.args.children.now.items ≡ Some entry.1 = find-standing keys_total exact_keys _ _ _ _ c.requires.sorted stands c.index_mut.ensures.value in
     IfOk-weaker _ _ _ (λ former h. if_some (λ d. former ≡ former_of c.args.change (context_at c.args.at.now d)) _ entry.1 child h) c.change_at.ensures.former
 
 pub change_in-returns-clause-still_sorted : goal.change_in-returns-clause-still_sorted
 change_in-returns-clause-still_sorted t c =
     let stands = rw c.as_slice.ensures.value at c.in-Ok.ensures in
-    subst AreSorted (put-standing _ _ _ _ c.change_at.new.self c.requires.sorted stands c.index_mut.ensures.value) (rising-put keys_total exact_keys c.args.key.now c.change_at.new.self c.args.children.now.items c.requires.sorted)
+    subst AreSorted (put-standing keys_total exact_keys _ _ _ _ c.change_at.new.self c.requires.sorted stands c.index_mut.ensures.value) (rising-put keys_total exact_keys c.args.key.now c.change_at.new.self c.args.children.now.items c.requires.sorted)

@@ -26,21 +26,21 @@ restore_in-returns-in-Ok-clause-found t c =
     let entries = c.args.children.now.items in
     let entry = c.index_mut.result.now in
     let stands = rw c.as_slice.ensures.value at c.in-Ok.ensures in
-    let child : find key_cmp c.args.key.now entries ≡ Some entry.1 = find-standing _ _ _ _ c.requires.sorted stands c.index_mut.ensures.value in
-    child_changed c.args.key.now (restored_at c.args.at.now c.args.former) entries (λ x. slice_set entries c.in-Ok.i (entry.0, x)) entry.1 c.restore_at.new.self child (λ x. sym (put-standing _ _ _ entry x c.requires.sorted stands c.index_mut.ensures.value)) c.restore_at.ensures
+    let child : find key_cmp c.args.key.now entries ≡ Some entry.1 = find-standing keys_total exact_keys _ _ _ _ c.requires.sorted stands c.index_mut.ensures.value in
+    child_changed c.args.key.now (restored_at c.args.at.now c.args.former) entries (λ x. slice_set entries c.in-Ok.i (entry.0, x)) entry.1 c.restore_at.new.self child (λ x. sym (put-standing keys_total exact_keys _ _ _ entry x c.requires.sorted stands c.index_mut.ensures.value)) c.restore_at.ensures
 
 pub restore_in-returns-in-Ok-clause-absent : goal.restore_in-returns-in-Ok-clause-absent
 restore_in-returns-in-Ok-clause-absent t c =
     let stands = rw c.as_slice.ensures.value at c.in-Ok.ensures in
-    let child : find key_cmp c.args.key.now c.args.children.now.items ≡ Some c.index_mut.result.now.1 = find-standing _ _ _ _ c.requires.sorted stands c.index_mut.ensures.value in
+    let child : find key_cmp c.args.key.now c.args.children.now.items ≡ Some c.index_mut.result.now.1 = find-standing keys_total exact_keys _ _ _ _ c.requires.sorted stands c.index_mut.ensures.value in
     λ e. none_some (sym e ∙ child)
 
 pub restore_in-returns-in-Ok-clause-still_sorted : goal.restore_in-returns-in-Ok-clause-still_sorted
 restore_in-returns-in-Ok-clause-still_sorted t c =
     let stands = rw c.as_slice.ensures.value at c.in-Ok.ensures in
-    subst AreSorted (put-standing _ _ _ _ c.restore_at.new.self c.requires.sorted stands c.index_mut.ensures.value) (rising-put keys_total exact_keys c.args.key.now c.restore_at.new.self c.args.children.now.items c.requires.sorted)
+    subst AreSorted (put-standing keys_total exact_keys _ _ _ _ c.restore_at.new.self c.requires.sorted stands c.index_mut.ensures.value) (rising-put keys_total exact_keys c.args.key.now c.restore_at.new.self c.args.children.now.items c.requires.sorted)
 
 pub restore_in-returns-in_default-clause-found : goal.restore_in-returns-in_default-clause-found
 restore_in-returns-in_default-clause-found t c =
     let belongs = rw c.as_slice.ensures.value at c.in_default.ensures in
-    rw (find-absent _ _ _ belongs) tt
+    rw (find-absent keys_total exact_keys _ _ _ belongs) tt

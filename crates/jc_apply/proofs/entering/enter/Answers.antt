@@ -5,7 +5,7 @@ use Rattle.jc_tree.proofs.GoingBack.{then, rule_added, tree_changed}
 use Rattle.jc_tree.proofs.Places.{none_found}
 use Rattle.jc_apply.proofs.Rules.{entered_there, entered_new}
 use Rattle.jc_apply.proofs.Links.{links_none, none_child}
-use Rattle.jc_apply.proofs.registers.enter.Goals as goal
+use Rattle.jc_apply.proofs.entering.enter.Goals as goal
 
 pub returns-in_ok-push-clause-ok : goal.returns-in_ok-push-clause-ok
 returns-in_ok-push-clause-ok g c =

@@ -1,0 +1,48 @@
+//! Entering the child under a tagged key.
+
+ghost use Rattle.std.specs.Prelude.{◌≡◌, [], None, OnOk};
+ghost use Rattle.jc_rules.specs.Context.{Context, content, new_content};
+ghost use Rattle.jc_rules.specs.Derivation.{Child, ToContent};
+ghost use Rattle.jc_rules.specs.Table.{Follows};
+ghost use Rattle.jc_rules.specs.Paths.{HasContext};
+ghost use Rattle.jc_tree.specs.Tree.{HasPlace, here};
+ghost use Rattle.jc_tree.specs.CanGoBack.{CanGoBack};
+ghost use Rattle.jc_apply.specs.Leads.{Enters, LinksNone};
+
+use jc_rules::{Rule, Tagged, Trace};
+use jc_tree::TreeStore;
+use std::alloc::AllocError;
+
+/// The rule that makes what stands under a tagged key.
+fn child_rule(key: &Tagged) -> Rule
+    ensures { (c : Context) → content key.now c ≡ None
+        → Follows result (Child c key.now) (ToContent (new_content key.now)) [] }
+{
+    match key {
+        Tagged::MapT(_) => Rule::ChildMap,
+        Tagged::ListT(_) => Rule::ChildList,
+        Tagged::RegT(_) => Rule::ChildReg,
+    }
+}
+
+/// Makes the context under the tagged key, if it isn't there already.
+pub fn enter<S: TreeStore>(
+    store: &mut S,
+    at: &[Tagged],
+    key: &Tagged,
+    trace: &mut Trace,
+) -> Result<(), AllocError>
+    requires there { HasPlace at.now (S.tree store.old) }
+    requires context { HasContext key.now }
+    ensures ok { OnOk result (Enters key.now at.now (S.tree store.old) (S.tree store.new) trace.old trace.new) }
+    ensures links { OnOk result (LinksNone at.now (S.tree store.old) (S.tree store.new)) }
+    ensures kept { CanGoBack (S.tree store.old) (S.tree store.new) trace.old trace.new }
+{
+    if store.has(at, key) {
+        trace.push(Rule::ChildGet)?;
+    } else {
+        trace.push(child_rule(key))?;
+        store.make_child(at, key)?;
+    }
+    Ok(())
+}
