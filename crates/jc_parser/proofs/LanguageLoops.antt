@@ -19,11 +19,6 @@ unfolding chain_at
 chain_done zero e r none = rw none refl
 chain_done (suc n) e r none = rw none refl
 
-pub chain_cut : (n : ℕ) (e : Expr) (r : Reading) (f : ScenarioFault) → begins (has_kind Dot) r ≡ true → skip (has_kind Dot) r ≡ Err f → chain_at n e r ≡ Err f
-unfolding chain_at
-chain_cut zero e r f some fails = rw (some, fails) refl
-chain_cut (suc n) e r f some fails = rw (some, fails) refl
-
 pub chain_dotted : (n : ℕ) (e : Expr) (r after : Reading) → begins (has_kind Dot) r ≡ true → skip (has_kind Dot) r ≡ Ok (tt, after) → begins is_selector after ≡ false → chain_at n e r ≡ Ok (record { expression = e; dotted = true }, after)
 unfolding chain_at
 chain_dotted zero e r after some skips other = rw (some, skips, other) refl

@@ -7,6 +7,7 @@ mod ClosedScriptLaws
 mod ClosedScripts
 mod Deciding
 mod Expressions
+mod FirstTokens
 mod Fronts
 mod Items
 mod LanguageExpressions

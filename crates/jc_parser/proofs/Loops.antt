@@ -37,11 +37,6 @@ unfolding items_at
 items_last p item beyond zero r after x front z some reads ends = absurd (z refl)
 items_last p item beyond (suc n) r after x front z some reads ends = rw (some, reads, ends) refl
 
-pub items_cut : {A : Type 0} (p : Symbol → Bool) (item : Reading → Outcome A) (beyond : Reading → ScenarioFault) (n : ℕ) (r after : Reading) (x : A) (front : List A) (f : ScenarioFault) → n ≢ 0 → begins p r ≡ true → item r ≡ Ok (x, after) → begins (has_kind Semi) after ≡ true → skip (has_kind Semi) after ≡ Err f → with_front front (items_at p item beyond n r) ≡ Err f
-unfolding items_at
-items_cut p item beyond zero r after x front f z some reads goes fails = absurd (z refl)
-items_cut p item beyond (suc n) r after x front f z some reads goes fails = rw (some, reads, goes, fails) refl
-
 regroup : {A : Type 0} (read : Outcome (List A)) (x : A) (front : List A) → with_front front (read >>= λ rest. Ok (x ∷ rest.0, rest.1)) ≡ with_front (front ++ x ∷ []) read
 regroup (Ok y) x front = ap (λ l. Ok (l, y.1)) (sym (append_assoc front (x ∷ []) y.0))
 regroup (Err e) x front = refl

@@ -5,7 +5,7 @@ use Rattle.std.proofs.lemmas.Bool.{cases_Bool, not-true}
 use Rattle.jc_syntax.specs.declared.token.TokenKind.TheVariants.{Name}
 use Rattle.jc_parser.specs.declared.fault.ScenarioFault.TheVariants.{ReservedName}
 use Rattle.jc_parser.specs.Symbols.{Symbol, word, Lexeme}
-use Rattle.jc_parser.specs.Reading.{Reading, Outcome, ◌>>=◌, has_kind, value_of, reserved, begins_with, place_at, place, one, named_at}
+use Rattle.jc_parser.specs.Reading.{Reading, Outcome, ◌>>=◌, has_kind, value_of, reserved, begins_with, place_at, one, named_at}
 use Rattle.jc_parser.specs.Parts.{name_at}
 use Rattle.jc_parser.specs.Words.{is_reserved}
 use Rattle.jc_parser.proofs.Readers.{Language, Never, Reads, reads_one, reads_map, reads_refused, reads_same, reads_more}

@@ -82,11 +82,6 @@ pub first_read : (m n : ℕ) (r s : Reading) (p : Part) → part_at [] r ≡ Ok 
 unfolding rest_at
 first_read m n r s p read = rw read refl
 
-pub replicas_cut : (m n : ℕ) (names : List (List ℕ)) (ps : List Part) (r : Reading) (e : ScenarioFault) → begins is_replica r ≡ true → skip is_replica r ≡ Err e → then_parts ps (tail_at m n names r) ≡ Err e
-unfolding tail_at
-replicas_cut m zero names ps r e some fails = rw (some, fails) refl
-replicas_cut m (suc n) names ps r e some fails = rw (some, fails) refl
-
 pub replicas_full : (m n : ℕ) (names : List (List ℕ)) (ps : List Part) (r a : Reading) → n ≡ 0 → begins is_replica r ≡ true → skip is_replica r ≡ Ok (tt, a) → then_parts ps (tail_at m n names r) ≡ Err (crowd_at names a)
 unfolding tail_at
 replicas_full m zero names ps r a z some takes = rw (some, takes) refl

@@ -1,8 +1,8 @@
 //! The lexemes of a text that are left.
 
-ghost use Rattle.std.specs.Prelude.{◌≡◌, All, IfOk, true, nat_lt, if◌then◌else◌, length, Some, None};
+ghost use Rattle.std.specs.Prelude.{◌≡◌, All, IfOk, Bool, Ok, Err, true, nat_lt, if◌then◌else◌, length, Some, None};
 ghost use Rattle.std.specs.Str.{all_ascii_digits};
-ghost use Rattle.jc_syntax.specs.declared.token.TokenKind.TheVariants.{Number, Str};
+ghost use Rattle.jc_syntax.specs.declared.token.TokenKind.TheVariants.{Name, Number, Str};
 ghost use Rattle.jc_syntax.specs.Lexemes.{IsTokenOf};
 ghost use Rattle.jc_parser.specs.Reading.{Gives, reading, place, stuck, begins, has_kind, is_word, is_number, reserved, skip, take, named_at, is_at_end};
 ghost use Rattle.jc_parser.specs.Words as words;
@@ -10,7 +10,7 @@ ghost use Rattle.jc_parser.specs.Language as language;
 ghost use Rattle.jc_parser.specs.Language.{numeral_value};
 ghost use Rattle.jc_parser.specs.LanguageParts.{index_at};
 ghost use Rattle.jc_parser.specs.ScriptParts.{is_misused as misused};
-ghost use Rattle.jc_parser.specs.Symbols.{word};
+ghost use Rattle.jc_parser.specs.Symbols.{Symbol, word, number};
 
 use crate::fault::ScenarioFault;
 use jc_rules::Text;
@@ -81,7 +81,6 @@ impl<'a> Cursor<'a> {
     }
 
     /// Whether a token of this kind comes next.
-    #[tactic(auto, using(crate::proofs::SymbolTests::kinds))]
     pub(crate) fn begins(&self, kind: TokenKind) -> bool
         ensures { result ≡ begins (has_kind kind) self.now }
     {
@@ -91,127 +90,139 @@ impl<'a> Cursor<'a> {
         }
     }
 
+    /// The bytes of the next token; none where none is left.
+    fn spelling(&self) -> &'a str
+        ensures name { begins (has_kind Name) self.now ≡ true
+            → (p : Symbol → Bool) → begins p self.now ≡ p (word result.now) }
+        ensures number { begins (has_kind Number) self.now ≡ true
+            → (p : Symbol → Bool) → begins p self.now ≡ p (number result.now) }
+    {
+        match self.tokens {
+            [] => "",
+            [first, ..] => slice_of(self.text, first),
+        }
+    }
+
     /// Whether this word comes next.
-    #[tactic(auto, using(crate::proofs::SymbolTests::kinds))]
     pub(crate) fn begins_word(&self, word: &str) -> bool
         ensures { result ≡ begins (is_word word.now) self.now }
     {
-        match self.tokens {
-            [first, ..] if first.kind == TokenKind::Name => slice_of(self.text, first) == word,
-            _ => false,
+        if !self.begins(TokenKind::Name) {
+            return false;
         }
+        self.spelling() == word
     }
 
     /// Whether this number comes next, spelled so.
-    #[tactic(auto, using(crate::proofs::SymbolTests::kinds))]
     pub(crate) fn begins_number(&self, digits: &str) -> bool
         ensures { result ≡ begins (is_number digits.now) self.now }
     {
-        match self.tokens {
-            [first, ..] if first.kind == TokenKind::Number => slice_of(self.text, first) == digits,
-            _ => false,
+        if !self.begins(TokenKind::Number) {
+            return false;
         }
+        self.spelling() == digits
     }
 
     /// Whether a reserved word comes next.
-    #[tactic(auto, using(crate::proofs::SymbolTests::kinds))]
     pub(crate) fn begins_reserved(&self) -> bool
         ensures { result ≡ begins reserved self.now }
     {
-        match self.tokens {
-            [first, ..] if first.kind == TokenKind::Name => is_reserved(slice_of(self.text, first)),
-            _ => false,
+        if !self.begins(TokenKind::Name) {
+            return false;
         }
+        is_reserved(self.spelling())
     }
 
     /// Whether a reserved word comes next that is no keyword at a command's start.
-    #[tactic(auto, using(crate::proofs::SymbolTests::kinds))]
     pub(crate) fn begins_misused(&self) -> bool
         ensures { result ≡ begins misused self.now }
     {
-        match self.tokens {
-            [first, ..] if first.kind == TokenKind::Name => is_misused(slice_of(self.text, first)),
-            _ => false,
+        if !self.begins(TokenKind::Name) {
+            return false;
         }
+        is_misused(self.spelling())
     }
 
     /// Whether the word of a selector comes next.
-    #[tactic(auto, using(crate::proofs::SymbolTests::kinds))]
     pub(crate) fn begins_selector(&self) -> bool
         ensures { result ≡ begins language.is_selector self.now }
     {
-        match self.tokens {
-            [first, ..] if first.kind == TokenKind::Name => {
-                is_selector(slice_of(self.text, first))
-            }
-            _ => false,
+        if !self.begins(TokenKind::Name) {
+            return false;
+        }
+        is_selector(self.spelling())
+    }
+
+    /// Goes over the next token, if one is left.
+    pub(crate) fn advance(&mut self)
+        ensures { (p : Symbol → Bool) → begins p self.old ≡ true → skip p self.old ≡ Ok (tt, self.new) }
+    {
+        if let [_, rest @ ..] = self.tokens {
+            self.tokens = rest;
         }
     }
 
+    /// The value where it fits, else the fault that the next token fits nothing.
+    pub(crate) fn value_if<T: Drop>(&self, fits: bool, value: T) -> Result<T, ScenarioFault>
+        ensures { result ≡ (if fits then Ok value else Err (stuck self.now)) }
+    {
+        if !fits {
+            return Err(self.stuck());
+        }
+        Ok(value)
+    }
+
     /// Takes a token of this kind.
-    #[tactic(auto, unfolding(crate::specs::Reading::one), using(crate::proofs::SymbolTests::kinds))]
     pub(crate) fn mark(&mut self, kind: TokenKind) -> Result<(), ScenarioFault>
         ensures { Gives (λ _. (tt, self.new)) result (skip (has_kind kind) self.old) }
     {
         if !self.begins(kind) {
             return Err(self.stuck());
         }
-        self.tokens = &self.tokens[1..];
+        self.advance();
         Ok(())
     }
 
     /// Takes this word.
-    #[tactic(auto, unfolding(crate::specs::Reading::one), using(crate::proofs::SymbolTests::kinds))]
+    #[tactic(auto, using(crate::proofs::FirstTokens::not_skipped))]
     pub(crate) fn word(&mut self, word: &str) -> Result<(), ScenarioFault>
         ensures { Gives (λ _. (tt, self.new)) result (skip (is_word word.now) self.old) }
     {
         if !self.begins_word(word) {
             return Err(self.stuck());
         }
-        self.tokens = &self.tokens[1..];
-        Ok(())
-    }
-
-    /// Takes this number, spelled so.
-    #[tactic(auto, unfolding(crate::specs::Reading::one), using(crate::proofs::SymbolTests::kinds))]
-    pub(crate) fn digits(&mut self, digits: &str) -> Result<(), ScenarioFault>
-        ensures { Gives (λ _. (tt, self.new)) result (skip (is_number digits.now) self.old) }
-    {
-        if !self.begins_number(digits) {
-            return Err(self.stuck());
-        }
-        self.tokens = &self.tokens[1..];
+        self.advance();
         Ok(())
     }
 
     /// Takes a string, and gives what it spells.
-    #[tactic(auto, unfolding(crate::specs::Reading::one), using(crate::proofs::SymbolTests::kinds))]
     pub(crate) fn string(&mut self, alloc: Global) -> Result<Text, ScenarioFault>
         ensures { Gives (λ t. (t, self.new)) result (take (has_kind Str) self.old) }
     {
-        match self.tokens {
-            [first, rest @ ..] if first.kind == TokenKind::Str => {
-                let value = string_of(alloc, self.text, first)?;
-                self.tokens = rest;
-                Ok(value)
-            }
-            _ => Err(self.stuck()),
+        if !self.begins(TokenKind::Str) {
+            return Err(self.stuck());
         }
+        let [first, ..] = self.tokens else {
+            return Err(self.stuck());
+        };
+        let value = string_of(alloc, self.text, first)?;
+        self.advance();
+        Ok(value)
     }
 
     /// Takes a number, and gives its text.
-    #[tactic(auto, unfolding(crate::specs::Reading::one), using(crate::proofs::SymbolTests::kinds))]
     pub(crate) fn number(&mut self, alloc: Global) -> Result<Text, ScenarioFault>
         ensures { Gives (λ t. (t, self.new)) result (take (has_kind Number) self.old) }
     {
-        match self.tokens {
-            [first, rest @ ..] if first.kind == TokenKind::Number => {
-                let value = text_of(alloc, slice_of(self.text, first))?;
-                self.tokens = rest;
-                Ok(value)
-            }
-            _ => Err(self.stuck()),
+        if !self.begins(TokenKind::Number) {
+            return Err(self.stuck());
         }
+        let [first, ..] = self.tokens else {
+            return Err(self.stuck());
+        };
+        let value = text_of(alloc, slice_of(self.text, first))?;
+        self.advance();
+        Ok(value)
     }
 
     /// Takes a number of digits alone, below 2 to the 32.
@@ -236,19 +247,19 @@ impl<'a> Cursor<'a> {
     }
 
     /// Takes a name, and gives it with its place.
-    #[tactic(auto, unfolding(crate::specs::Reading::one, crate::specs::Reading::named_at), using(crate::proofs::SymbolTests::kinds))]
     pub(crate) fn name(&mut self, alloc: Global) -> Result<Named, ScenarioFault>
         ensures { Gives (λ n. (n, self.new)) result (named_at self.old) }
     {
-        match self.tokens {
-            [first, rest @ ..] if first.kind == TokenKind::Name => {
-                let name = text_of(alloc, slice_of(self.text, first))?;
-                let place = first.start;
-                self.tokens = rest;
-                Ok(Named { name, place })
-            }
-            _ => Err(self.stuck()),
+        if !self.begins(TokenKind::Name) {
+            return Err(self.stuck());
         }
+        let [first, ..] = self.tokens else {
+            return Err(self.stuck());
+        };
+        let name = text_of(alloc, slice_of(self.text, first))?;
+        let place = first.start;
+        self.advance();
+        Ok(Named { name, place })
     }
 }
 

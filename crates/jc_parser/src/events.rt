@@ -62,11 +62,11 @@ fn action(alloc: Global, cursor: &mut Cursor, replica: Named) -> Result<NamedEve
     ensures { Gives (λ e. (e, cursor.new)) result (action_at replica cursor.old) }
 {
     if cursor.begins_word("exec") {
-        cursor.word("exec")?;
+        cursor.advance();
         return Ok(NamedEvent::Exec(replica));
     }
     if cursor.begins_word("send") {
-        cursor.word("send")?;
+        cursor.advance();
         return Ok(NamedEvent::Send(replica));
     }
     if cursor.begins_word("recv") {
@@ -96,10 +96,7 @@ fn only_event(alloc: Global, cursor: &mut Cursor) -> Result<NamedEvent, Scenario
     ensures { Gives (λ e. e) result (only_event_at cursor.old) }
 {
     let event = event(alloc, cursor)?;
-    if !cursor.is_at_end() {
-        return Err(cursor.stuck());
-    }
-    Ok(event)
+    cursor.value_if(cursor.is_at_end(), event)
 }
 
 /// The event of a text, from its tokens.

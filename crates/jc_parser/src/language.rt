@@ -69,7 +69,7 @@ fn step(alloc: Global, cursor: &mut Cursor) -> Result<Selector, ScenarioFault>
         return index_selector(cursor);
     }
     if cursor.begins_word("keys") {
-        cursor.word("keys")?;
+        cursor.advance();
         return Ok(Selector::Keys);
     }
     cursor.word("values")?;
@@ -90,6 +90,7 @@ fn extend(alloc: Global, from: Expr, selector: Selector) -> Result<Expr, AllocEr
 }
 
 /// The expression by as many selectors as follow.
+// A call lets go of the expression: `?` would do so variant by variant, and is dear to prove.
 pub(crate) fn follow(alloc: Global, cursor: &mut Cursor, root: Expr) -> Result<Chain, ScenarioFault>
     ensures { Gives (λ c. (chain_view c, cursor.new)) result (chain_at 256 (expr_of root) cursor.old) }
 {
@@ -97,7 +98,7 @@ pub(crate) fn follow(alloc: Global, cursor: &mut Cursor, root: Expr) -> Result<C
     let mut left = MAX_SELECTORS;
     'selectors: while cursor.begins(TokenKind::Dot) {
         let place = cursor.place();
-        cursor.mark(TokenKind::Dot)?;
+        cursor.advance();
         if !cursor.begins_selector() {
             return Ok(Chain {
                 expression,
@@ -105,9 +106,16 @@ pub(crate) fn follow(alloc: Global, cursor: &mut Cursor, root: Expr) -> Result<C
             });
         }
         if left == 0 {
+            drop(expression);
             return Err(ScenarioFault::TooLongExpression { place });
         }
-        let selector = step(alloc, cursor)?;
+        let selector = match step(alloc, cursor) {
+            Ok(selector) => selector,
+            Err(fault) => {
+                drop(expression);
+                return Err(fault);
+            }
+        };
         expression = extend(alloc, expression, selector)?;
         left -= 1;
     }
@@ -123,7 +131,7 @@ pub(crate) fn root(alloc: Global, cursor: &mut Cursor) -> Result<Expr, ScenarioF
     ensures { Gives (λ e. (expr_of e, cursor.new)) result (root_at cursor.old) }
 {
     if cursor.begins_word("doc") {
-        cursor.word("doc")?;
+        cursor.advance();
         return Ok(Expr::Doc);
     }
     let name = name(alloc, cursor)?;
@@ -137,10 +145,7 @@ pub(crate) fn expression(alloc: Global, cursor: &mut Cursor) -> Result<Expr, Sce
 {
     let root = root(alloc, cursor)?;
     let chain = follow(alloc, cursor, root)?;
-    if chain.dotted {
-        return Err(cursor.stuck());
-    }
-    Ok(chain.expression)
+    cursor.value_if(!chain.dotted, chain.expression)
 }
 
 /// The expression that all of the tokens are.
@@ -149,10 +154,7 @@ fn only_expression(alloc: Global, cursor: &mut Cursor) -> Result<Expr, ScenarioF
     ensures { Gives expr_of result (only_expression_at cursor.old) }
 {
     let expression = expression(alloc, cursor)?;
-    if !cursor.is_at_end() {
-        return Err(cursor.stuck());
-    }
-    Ok(expression)
+    cursor.value_if(cursor.is_at_end(), expression)
 }
 
 /// The expression of a text, from its tokens.

@@ -42,11 +42,11 @@ pub(crate) fn value(alloc: Global, cursor: &mut Cursor) -> Result<Value, Scenari
         return Ok(Value::Str(text));
     }
     if cursor.begins_word("true") {
-        cursor.word("true")?;
+        cursor.advance();
         return Ok(Value::True);
     }
     if cursor.begins_word("false") {
-        cursor.word("false")?;
+        cursor.advance();
         return Ok(Value::False);
     }
     cursor.word("null")?;
@@ -76,16 +76,16 @@ pub(crate) fn front(cursor: &mut Cursor) -> Result<(), ScenarioFault>
     if !cursor.begins_word("jsoncrdt") {
         return Err(ScenarioFault::NoHeader { place });
     }
-    cursor.word("jsoncrdt")?;
+    cursor.advance();
     let place = cursor.place();
     if !cursor.begins_number("1") {
         return Err(ScenarioFault::NoHeader { place });
     }
-    cursor.digits("1")?;
+    cursor.advance();
     let place = cursor.place();
     if !cursor.begins_word("replica") {
         return Err(ScenarioFault::NoReplica { place });
     }
-    cursor.word("replica")?;
+    cursor.advance();
     Ok(())
 }

@@ -1,10 +1,11 @@
 //! Scripts of the whole language.
 
 ghost use Rattle.std.specs.Prelude.{◌≡◌, ◌≢◌, ◌≤◌, ◌<◌, IfOk, IfErr, All, map, length};
+ghost use Rattle.jc_rules.specs.Syntax.{Expr, SetTo, InsertAfter};
 ghost use Rattle.jc_syntax.specs.Trees.{cmd_of, expr_of};
 ghost use Rattle.jc_syntax.specs.Lexemes.{IsTokenOf};
 ghost use Rattle.jc_parser.specs.Reading.{Gives, reading};
-ghost use Rattle.jc_parser.specs.ScriptParts.{any_value_at, binding_at, insertion_at, finish_at, update_at, command_at, crowd_at, commands_at, only_script_at, closed_script_at};
+ghost use Rattle.jc_parser.specs.ScriptParts.{any_value_at, assignment_at, binding_at, insertion_at, finish_at, update_at, command_at, crowd_at, commands_at, only_script_at, closed_script_at};
 ghost use Rattle.jc_parser.specs.Scripts.{IsScriptSpelled, IsScriptWellFormed, IsScriptExcess, IsScriptOf, IsScriptFault};
 ghost use Rattle.jc_parser.specs.ClosedScripts.{IsClosedAhead, HasNoScript, IsScriptAt, IsScriptFaultAt};
 ghost use Rattle.jc_parser.specs.Sentences.{IsStopped};
@@ -17,7 +18,7 @@ use crate::language::{Chain, expression, follow, root};
 use crate::parse_fault::{ParseFault, of_sentence};
 use crate::parser::{MAX_COMMANDS, name, value as plain_value};
 use jc_rules::Value;
-use jc_syntax::{Cmd, Expr, Token, TokenKind, lex};
+use jc_syntax::{Cmd, Token, TokenKind, lex};
 use std::alloc::Global;
 
 /// A value.
@@ -26,12 +27,12 @@ fn value(alloc: Global, cursor: &mut Cursor) -> Result<Value, ScenarioFault>
     ensures { Gives (λ v. (v, cursor.new)) result (any_value_at cursor.old) }
 {
     if cursor.begins(TokenKind::BraceL) {
-        cursor.mark(TokenKind::BraceL)?;
+        cursor.advance();
         cursor.mark(TokenKind::BraceR)?;
         return Ok(Value::EmptyMap);
     }
     if cursor.begins(TokenKind::BracketL) {
-        cursor.mark(TokenKind::BracketL)?;
+        cursor.advance();
         cursor.mark(TokenKind::BracketR)?;
         return Ok(Value::EmptyList);
     }
@@ -50,32 +51,52 @@ fn binding(alloc: Global, cursor: &mut Cursor) -> Result<Cmd, ScenarioFault>
     Ok(Cmd::Let(name, expression))
 }
 
-/// A command `insertAfter`, from its word on.
+/// The value of an assignment, from its sign on.
+#[tactic(auto, unfolding(crate::specs::ScriptParts::assignment_at))]
+fn assigned(alloc: Global, cursor: &mut Cursor) -> Result<Value, ScenarioFault>
+    ensures { (place : Expr) → Gives (λ v. (SetTo place v, cursor.new)) result (assignment_at place cursor.old) }
+{
+    cursor.mark(TokenKind::Assign)?;
+    value(alloc, cursor)
+}
+
+/// The value of a command `insertAfter`, from its word on.
 #[tactic(auto, unfolding(crate::specs::ScriptParts::insertion_at))]
-fn insertion(alloc: Global, cursor: &mut Cursor, place: Expr) -> Result<Cmd, ScenarioFault>
-    ensures { Gives (λ c. (cmd_of c, cursor.new)) result (insertion_at (expr_of place) cursor.old) }
+fn inserted(alloc: Global, cursor: &mut Cursor) -> Result<Value, ScenarioFault>
+    ensures { (place : Expr) → Gives (λ v. (InsertAfter place v, cursor.new)) result (insertion_at place cursor.old) }
 {
     cursor.word("insertAfter")?;
     cursor.mark(TokenKind::ParenL)?;
     let value = value(alloc, cursor)?;
     cursor.mark(TokenKind::ParenR)?;
-    Ok(Cmd::InsertAfter(place, value))
+    Ok(value)
 }
 
 /// What follows the expression of a command.
-#[tactic(auto, unfolding(crate::specs::ScriptParts::finish_at, crate::specs::ScriptParts::assignment_at, crate::specs::ScriptParts::deletion_at))]
+// A call lets go of the expression: each `?` would do so variant by variant, and is dear to prove.
+#[tactic(auto, unfolding(crate::specs::ScriptParts::finish_at, crate::specs::ScriptParts::deletion_at))]
 fn finish(alloc: Global, cursor: &mut Cursor, chain: Chain) -> Result<Cmd, ScenarioFault>
     ensures { Gives (λ c. (cmd_of c, cursor.new)) result
         (finish_at (expr_of chain.expression) chain.dotted cursor.old) }
 {
     let Chain { expression, dotted } = chain;
     if !dotted {
-        cursor.mark(TokenKind::Assign)?;
-        let value = value(alloc, cursor)?;
-        return Ok(Cmd::Set(expression, value));
+        return match assigned(alloc, cursor) {
+            Ok(value) => Ok(Cmd::Set(expression, value)),
+            Err(fault) => {
+                drop(expression);
+                Err(fault)
+            }
+        };
     }
     if cursor.begins_word("insertAfter") {
-        return insertion(alloc, cursor, expression);
+        return match inserted(alloc, cursor) {
+            Ok(value) => Ok(Cmd::InsertAfter(expression, value)),
+            Err(fault) => {
+                drop(expression);
+                Err(fault)
+            }
+        };
     }
     cursor.word("delete")?;
     Ok(Cmd::Delete(expression))
@@ -97,7 +118,7 @@ fn command(alloc: Global, cursor: &mut Cursor) -> Result<Cmd, ScenarioFault>
     ensures { Gives (λ c. (cmd_of c, cursor.new)) result (command_at cursor.old) }
 {
     if cursor.begins_word("yield") {
-        cursor.word("yield")?;
+        cursor.advance();
         return Ok(Cmd::Yield);
     }
     if cursor.begins_word("let") {
@@ -133,7 +154,7 @@ pub(crate) fn script(alloc: Global, cursor: &mut Cursor) -> Result<Vec<Cmd>, Sce
         if !cursor.begins(TokenKind::Semi) {
             return Ok(script);
         }
-        cursor.mark(TokenKind::Semi)?;
+        cursor.advance();
         left -= 1;
     }
     Ok(script)
@@ -145,10 +166,7 @@ fn only_script(alloc: Global, cursor: &mut Cursor) -> Result<Vec<Cmd>, ScenarioF
     ensures { Gives (λ s. map cmd_of s.items) result (only_script_at cursor.old) }
 {
     let script = script(alloc, cursor)?;
-    if !cursor.is_at_end() {
-        return Err(cursor.stuck());
-    }
-    Ok(script)
+    cursor.value_if(cursor.is_at_end(), script)
 }
 
 /// The script of a text, from its tokens.

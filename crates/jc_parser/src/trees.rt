@@ -130,7 +130,7 @@ fn events(alloc: Global, cursor: &mut Cursor) -> Result<Vec<NamedEvent>, Scenari
         if !cursor.begins(TokenKind::Semi) {
             return Ok(events);
         }
-        cursor.mark(TokenKind::Semi)?;
+        cursor.advance();
         left -= 1;
     }
     Ok(events)
@@ -169,7 +169,7 @@ fn rest(alloc: Global, cursor: &mut Cursor) -> Result<NamedScenario, ScenarioFau
     replicas.push(first)?;
     let mut left = MAX_REPLICAS - 1;
     'replicas: while cursor.begins_word("replica") {
-        cursor.word("replica")?;
+        cursor.advance();
         if left == 0 {
             return Err(crowd(alloc, cursor, &replicas));
         }
@@ -188,10 +188,7 @@ fn whole(alloc: Global, cursor: &mut Cursor) -> Result<NamedScenario, ScenarioFa
 {
     front(cursor)?;
     let scenario = rest(alloc, cursor)?;
-    if !cursor.is_at_end() {
-        return Err(cursor.stuck());
-    }
-    Ok(scenario)
+    cursor.value_if(cursor.is_at_end(), scenario)
 }
 
 /// Reads the scenario that all the tokens of a text are. Names in events are not looked up.

@@ -2,10 +2,10 @@ use Rattle.std.proofs.Common.{rules, ◌-◌, [], ◌∷◌, map, Err, Ok, sym, 
 use Rattle.std.proofs.lemmas.Result.{err_from_is_err_and}
 use Rattle.std.proofs.lemmas.List.{map-append}
 use Rattle.jc_syntax.specs.Trees.{cmd_of}
-use Rattle.jc_syntax.specs.declared.token.TokenKind.TheVariants.{Name}
+use Rattle.jc_syntax.specs.declared.token.TokenKind.TheVariants.{Name, Semi}
 use Rattle.jc_parser.specs.Reading.{has_kind}
 use Rattle.jc_parser.specs.ScriptParts.{crowd_at, command_at, commands_at}
-use Rattle.jc_parser.proofs.Loops.{with_front, items_done, items_full, items_fail, items_last, items_cut, items_next}
+use Rattle.jc_parser.proofs.Loops.{with_front, items_done, items_full, items_fail, items_last, items_next}
 use Rattle.jc_parser.proofs.scripts.script.Goals as goal
 
 pub returns-then-left-eq0 : goal.returns-then-left-eq0
@@ -23,16 +23,11 @@ returns-then-not-begins c =
     ∙ items_last (has_kind Name) command_at crowd_at c.commands.left c.commands.cursor c.command.new.cursor (cmd_of c.in_ok-command.command) (map cmd_of c.commands.script.items) c.if-left-eq0.false (sym c.begins.ensures ∙ c.commands-test.true) c.in_ok-command.ensures (sym c.begins-in-commands.ensures ∙ c.if-not-begins.true)
     ∙ ap (λ l. Ok (l, c.command.new.cursor)) (sym (ap (λ l. map cmd_of l) c.in_ok-push.ensures.items ∙ map-append cmd_of c.commands.script.items (c.in_ok-command.command ∷ [])))
 
-pub returns-in_err-mark : goal.returns-in_err-mark
-returns-in_err-mark c =
-    let p = err_from_is_err_and c.from_residual-in_err-mark.result c.from_residual-in_err-mark.ensures.1 in
-    rw (p.1, p.2) (λ kept. c.commands.invariant ∙ items_cut (has_kind Name) command_at crowd_at c.commands.left c.commands.cursor c.command.new.cursor (cmd_of c.in_ok-command.command) (map cmd_of c.commands.script.items) c.in_err-mark.field-0.0 c.if-left-eq0.false (sym c.begins.ensures ∙ c.commands-test.true) c.in_ok-command.ensures (sym c.begins-in-commands.ensures ∙ c.if-not-begins.false) (c.in_err-mark.ensures kept))
-
 pub commands-preserved : goal.commands-preserved
 commands-preserved c =
     c.commands.invariant
-    ∙ items_next (has_kind Name) command_at crowd_at c.commands.left c.commands.cursor c.command.new.cursor c.mark.new.self (cmd_of c.in_ok-command.command) (map cmd_of c.commands.script.items) c.if-left-eq0.false (sym c.begins.ensures ∙ c.commands-test.true) c.in_ok-command.ensures (sym c.begins-in-commands.ensures ∙ c.if-not-begins.false) c.in_ok-mark.ensures
-    ∙ ap (λ l. with_front l (commands_at (c.commands.left - 1) c.mark.new.self)) (sym (ap (λ l. map cmd_of l) c.in_ok-push.ensures.items ∙ map-append cmd_of c.commands.script.items (c.in_ok-command.command ∷ [])))
+    ∙ items_next (has_kind Name) command_at crowd_at c.commands.left c.commands.cursor c.command.new.cursor c.advance.new.self (cmd_of c.in_ok-command.command) (map cmd_of c.commands.script.items) c.if-left-eq0.false (sym c.begins.ensures ∙ c.commands-test.true) c.in_ok-command.ensures (sym c.begins-in-commands.ensures ∙ c.if-not-begins.false) (c.advance.ensures (has_kind Semi) (sym c.begins-in-commands.ensures ∙ c.if-not-begins.false))
+    ∙ ap (λ l. with_front l (commands_at (c.commands.left - 1) c.advance.new.self)) (sym (ap (λ l. map cmd_of l) c.in_ok-push.ensures.items ∙ map-append cmd_of c.commands.script.items (c.in_ok-command.command ∷ [])))
 
 pub returns : goal.returns
 returns c = c.commands.invariant ∙ items_done (has_kind Name) command_at crowd_at c.commands.left c.commands.cursor (map cmd_of c.commands.script.items) (sym c.begins.ensures ∙ c.commands-test.false)

@@ -1,10 +1,12 @@
 use Rattle.std.proofs.Common.{◌≡◌, ◌-◌, List, [], ◌∷◌, ◌++◌, map, Err, Ok, sym, ap, ◌∙◌}
 use Rattle.std.proofs.lemmas.Result.{err_from_is_err_and}
 use Rattle.jc_parser.specs.declared.trees.NamedReplica.{NamedReplica}
+use Rattle.std.specs.Prelude.{codes}
+use Rattle.jc_parser.specs.Reading.{is_word}
 use Rattle.jc_parser.specs.TreeParts.{part_at, tail_at}
 use Rattle.jc_parser.specs.TreeViews.{part_view, names_of}
 use Rattle.jc_parser.proofs.TreeFronts.{then_parts}
-use Rattle.jc_parser.proofs.TreeLoops.{pushed, names_pushed, first_fails, first_read, replicas_cut, replicas_full, replicas_fail, replicas_next, replicas_done, replicas_end}
+use Rattle.jc_parser.proofs.TreeLoops.{pushed, names_pushed, first_fails, first_read, replicas_full, replicas_fail, replicas_next, replicas_done, replicas_end}
 use Rattle.jc_parser.proofs.trees.rest.Goals as goal
 
 pub returns-in_err-first : goal.returns-in_err-first
@@ -21,33 +23,28 @@ replicas-init c =
     first_read 100000 63 c.args.cursor.now c.replica.new.cursor (part_view c.in_ok-first.first) read
     ∙ ap (λ (l : List NamedReplica). then_parts (map part_view l) (tail_at 100000 63 (names_of l) c.replica.new.cursor)) (sym items)
 
-pub returns-in_err-word : goal.returns-in_err-word
-returns-in_err-word c =
-    let p = err_from_is_err_and c.from_residual-in_err-word.result c.from_residual-in_err-word.ensures.1 in
-    rw (p.1, p.2) (λ kept. c.replicas.invariant ∙ replicas_cut 100000 c.replicas.left (names_of c.replicas.replicas.items) (map part_view c.replicas.replicas.items) c.replicas.cursor c.in_err-word.field-0.0 (sym c.begins_word.ensures ∙ c.replicas-test.true) (c.in_err-word.ensures kept))
-
 pub returns-then-left-eq0 : goal.returns-then-left-eq0
 returns-then-left-eq0 c kept =
     let now : c.deref-then-left-eq0.result.now ≡ c.replicas.replicas.items = c.deref-then-left-eq0.ensures.value in
     let fault = rw now at c.crowd.ensures in
     c.replicas.invariant
-    ∙ replicas_full 100000 c.replicas.left (names_of c.replicas.replicas.items) (map part_view c.replicas.replicas.items) c.replicas.cursor c.word.new.self c.if-left-eq0.true (sym c.begins_word.ensures ∙ c.replicas-test.true) c.in_ok-word.ensures
+    ∙ replicas_full 100000 c.replicas.left (names_of c.replicas.replicas.items) (map part_view c.replicas.replicas.items) c.replicas.cursor c.advance.new.self c.if-left-eq0.true (sym c.begins_word.ensures ∙ c.replicas-test.true) (c.advance.ensures (is_word (codes "replica")) (sym c.begins_word.ensures ∙ c.replicas-test.true))
     ∙ ap (λ d. Err d) (sym (fault kept))
 
 pub returns-in_err-next : goal.returns-in_err-next
 returns-in_err-next c =
     let p = err_from_is_err_and c.from_residual-in_err-next.result c.from_residual-in_err-next.ensures.1 in
     let now : c.deref-in-replicas.result.now ≡ c.replicas.replicas.items = c.deref-in-replicas.ensures.value in
-    rw (p.1, p.2) (λ kept. c.replicas.invariant ∙ replicas_fail 100000 c.replicas.left (names_of c.replicas.replicas.items) (map part_view c.replicas.replicas.items) c.replicas.cursor c.word.new.self c.in_err-next.field-0.0 c.if-left-eq0.false (sym c.begins_word.ensures ∙ c.replicas-test.true) c.in_ok-word.ensures ((rw now at c.in_err-next.ensures) kept))
+    rw (p.1, p.2) (λ kept. c.replicas.invariant ∙ replicas_fail 100000 c.replicas.left (names_of c.replicas.replicas.items) (map part_view c.replicas.replicas.items) c.replicas.cursor c.advance.new.self c.in_err-next.field-0.0 c.if-left-eq0.false (sym c.begins_word.ensures ∙ c.replicas-test.true) (c.advance.ensures (is_word (codes "replica")) (sym c.begins_word.ensures ∙ c.replicas-test.true)) ((rw now at c.in_err-next.ensures) kept))
 
 pub replicas-preserved : goal.replicas-preserved
 replicas-preserved c =
     let now : c.deref-in-replicas.result.now ≡ c.replicas.replicas.items = c.deref-in-replicas.ensures.value in
     let next : NamedReplica = c.in_ok-next.next in
-    let read : part_at (names_of c.replicas.replicas.items) c.word.new.self ≡ Ok (part_view next, c.replica-in-replicas.new.cursor) = rw now at c.in_ok-next.ensures in
+    let read : part_at (names_of c.replicas.replicas.items) c.advance.new.self ≡ Ok (part_view next, c.replica-in-replicas.new.cursor) = rw now at c.in_ok-next.ensures in
     let items : c.push-in-replicas.new.self.items ≡ c.replicas.replicas.items ++ next ∷ [] = c.in_ok-push-2.ensures.items in
     c.replicas.invariant
-    ∙ replicas_next 100000 c.replicas.left (names_of c.replicas.replicas.items) (map part_view c.replicas.replicas.items) c.replicas.cursor c.word.new.self c.replica-in-replicas.new.cursor (part_view next) c.if-left-eq0.false (sym c.begins_word.ensures ∙ c.replicas-test.true) c.in_ok-word.ensures read
+    ∙ replicas_next 100000 c.replicas.left (names_of c.replicas.replicas.items) (map part_view c.replicas.replicas.items) c.replicas.cursor c.advance.new.self c.replica-in-replicas.new.cursor (part_view next) c.if-left-eq0.false (sym c.begins_word.ensures ∙ c.replicas-test.true) (c.advance.ensures (is_word (codes "replica")) (sym c.begins_word.ensures ∙ c.replicas-test.true)) read
     ∙ ap (λ l. then_parts l (tail_at 100000 (c.replicas.left - 1) (names_of c.replicas.replicas.items ++ next.name ∷ []) c.replica-in-replicas.new.cursor)) (sym (pushed c.replicas.replicas.items next))
     ∙ ap (λ l. then_parts (map part_view (c.replicas.replicas.items ++ next ∷ [])) (tail_at 100000 (c.replicas.left - 1) l c.replica-in-replicas.new.cursor)) (sym (names_pushed c.replicas.replicas.items next))
     ∙ ap (λ (l : List NamedReplica). then_parts (map part_view l) (tail_at 100000 (c.replicas.left - 1) (names_of l) c.replica-in-replicas.new.cursor)) (sym items)

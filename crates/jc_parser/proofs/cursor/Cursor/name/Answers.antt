@@ -1,13 +1,16 @@
-use Rattle.std.proofs.Common.{arith}
-use Rattle.std.proofs.lemmas.Grind.{common_steps}
-use Rattle.jc_parser.proofs.SymbolTests.{kinds}
-use Rattle.jc_parser.specs.Reading.{one, named_at}
+use Rattle.std.proofs.Common.{Err, sym, ap, ◌∙◌, arith}
+use Rattle.jc_syntax.specs.declared.token.TokenKind.TheVariants.{Name}
+use Rattle.jc_parser.specs.Reading.{has_kind}
+use Rattle.jc_parser.proofs.FirstTokens.{name_taken, no_name}
 use Rattle.jc_parser.proofs.cursor.Cursor.name.Goals as goal
 
-pub returns-in_ok-name-in-len1-up : goal.returns-in_ok-name-in-len1-up
-unfolding one named_at
-returns-in_ok-name-in-len1-up c = grind (arith, common_steps)
+pub returns-then-not-begins : goal.returns-then-not-begins
+returns-then-not-begins c _ = no_name c.args.self.now (sym c.begins.ensures ∙ c.if-not-begins.true) ∙ ap (λ f. Err f) (sym c.stuck.ensures)
 
-pub returns-in_default : goal.returns-in_default
-unfolding one named_at
-returns-in_default c = grind (arith, common_steps, kinds)
+pub slice_of-requires : goal.slice_of-requires
+slice_of-requires c = c.self.invariant 0 _ (omega arith)
+
+pub returns : goal.returns
+returns c =
+    let fits = sym c.begins.ensures ∙ c.if-not-begins.false in
+    name_taken c.self.inside.text.now c.self.inside.tokens.now c.args.self.now c.advance.new.self _ _ c.self.view_is fits (c.advance.ensures (has_kind Name) fits) (c.in_ok-name.ensures ∙ c.slice_of.ensures)

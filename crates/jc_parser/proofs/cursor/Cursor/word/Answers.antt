@@ -1,8 +1,5 @@
-use Rattle.std.proofs.Common.{arith}
-use Rattle.std.proofs.lemmas.Grind.{common_steps}
-use Rattle.jc_parser.specs.Reading.{one}
+use Rattle.std.proofs.Common.{rules}
 use Rattle.jc_parser.proofs.cursor.Cursor.word.Goals as goal
 
 pub returns : goal.returns
-unfolding one
-returns c = grind (arith, common_steps)
+returns c = search rules

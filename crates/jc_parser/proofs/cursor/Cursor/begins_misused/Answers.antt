@@ -1,0 +1,10 @@
+use Rattle.std.proofs.Common.{sym, ◌∙◌}
+use Rattle.jc_parser.specs.ScriptParts.{is_misused}
+use Rattle.jc_parser.proofs.FirstTokens.{no_misused}
+use Rattle.jc_parser.proofs.cursor.Cursor.begins_misused.Goals as goal
+
+pub returns-then-not-begins : goal.returns-then-not-begins
+returns-then-not-begins c = sym (no_misused c.args.self.now (sym c.begins.ensures ∙ c.if-not-begins.true))
+
+pub returns : goal.returns
+returns c = c.is_misused.ensures ∙ sym (c.spelling.ensures.name (sym c.begins.ensures ∙ c.if-not-begins.false) is_misused)
