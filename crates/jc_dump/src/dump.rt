@@ -282,15 +282,15 @@ fn put_links<S: TreeStore>(
 /// how many commands are left, the identifiers of the operations that it applied, made, was sent
 /// and offers, in their order, and its variables.
 #[derive(Clone, Copy)]
-pub struct Shown<'a> {
-    pub name: &'a str,
-    pub acted: bool,
-    pub left: usize,
-    pub ops: &'a [Id],
-    pub queue: &'a [Id],
-    pub recv: &'a [Id],
-    pub send: &'a [Id],
-    pub vars: &'a [(Text, Bound)],
+pub(crate) struct Shown<'a> {
+    pub(crate) name: &'a str,
+    pub(crate) acted: bool,
+    pub(crate) left: usize,
+    pub(crate) ops: &'a [Id],
+    pub(crate) queue: &'a [Id],
+    pub(crate) recv: &'a [Id],
+    pub(crate) send: &'a [Id],
+    pub(crate) vars: &'a [(Text, Bound)],
 }
 
 /// The dump as a JSON value.
@@ -324,7 +324,7 @@ fn dump_value<S: TreeStore>(
 }
 
 /// The dump line, with its line feed, of a replica.
-pub fn dump_line_of<S: TreeStore>(
+pub(crate) fn dump_line_of<S: TreeStore>(
     alloc: Global,
     names: &[Text],
     shown: &Shown,

@@ -98,6 +98,15 @@ const UNKNOWN: Event = Event::Apply(
 
 /// Scenarios whose events are made, the dumps of their replicas then, an event, and what is shown of it.
 const RUNS: &[(&str, &[&str], Event, &str)] = &[
+    // nothing to do
+    (
+        "jsoncrdt 1 replica a {  } schedule {  }",
+        &[
+            "{\"acted\":false,\"left\":0,\"name\":\"a\",\"ops\":[],\"queue\":[],\"recv\":[],\"send\":[],\"tree\":{},\"vars\":{}}\n",
+        ],
+        EXEC,
+        "stuck 30 NoCommand a.exec\n",
+    ),
     // one assignment
     (
         "jsoncrdt 1 replica a { doc.get(\"a\") := 1 } schedule {  }",

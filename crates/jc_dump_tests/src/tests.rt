@@ -5,7 +5,7 @@ ghost use Rattle.jc_rules.specs.Context.{IsPrimitive};
 ghost use Rattle.jc_rules.specs.Ids.{AreRising};
 ghost use Rattle.jc_rules.specs.Shape.{IsKeptRegister};
 
-use jc_dump::dump::{Shown, dump_line_of, id_text, key_text, tagged_text, tree_value};
+use jc_dump::dump::{id_text, key_text, tagged_text, tree_value};
 use jc_rules::{Id, Key, Next, Tagged, Text, Value, insert_id};
 use jc_tree::{PlainTree, TreeStore, is_place};
 use std::alloc::{AllocError, Global};
@@ -45,7 +45,6 @@ enum At<'a> {
 #[derive(Clone, Copy)]
 enum Held<'a> {
     Nothing,
-    Number(Id, &'a str),
     Str(Id, &'a str),
     /// `true` of 2@a, `false` of 2@b and `null` of 10@a.
     Three,
@@ -118,7 +117,6 @@ fn pairs_of(alloc: Global, held: &Held) -> Result<Vec<(Id, Value)>, AllocError>
 {
     match held {
         Held::Nothing => Ok(Vec::new(alloc)),
-        Held::Number(id, number) => one(alloc, *id, Value::Number(text(alloc, number)?)),
         Held::Str(id, string) => one(alloc, *id, Value::Str(text(alloc, string)?)),
         Held::Three => three(alloc),
     }
@@ -225,30 +223,6 @@ impl Grown {
         is_text(rt, line.as_str(), want);
         Ok(())
     }
-
-    /// Whether this is the dump line of replica `a` with the tree, which has made these operations.
-    fn is_line(
-        &self,
-        rt: &impl Abort,
-        alloc: Global,
-        made: &[Id],
-        want: &str,
-    ) -> Result<(), AllocError> {
-        let names = names(alloc)?;
-        let shown = Shown {
-            name: names[0].as_str(),
-            acted: false,
-            left: 0,
-            ops: made,
-            queue: made,
-            recv: &[],
-            send: &[],
-            vars: &[],
-        };
-        let line = dump_line_of(alloc, &names, &shown, &self.store)?;
-        is_text(rt, line.as_str(), want);
-        Ok(())
-    }
 }
 
 fn grow(rt: &impl Abort, alloc: Global, puts: &[Put]) -> Result<Grown, AllocError> {
@@ -309,32 +283,6 @@ fn tagged_keys(rt: HostRuntime) -> Result<(), Fail> {
     is_tagged(&rt, alloc, Tagged::MapT(Key::Doc), "mapT(doc)")?;
     is_tagged(&rt, alloc, Tagged::RegT(Key::Elem(TWO_B)), "regT(2@b)")?;
     Ok(())
-}
-
-const NEW: &str =
-    "{\"acted\":false,\"left\":0,\"name\":\"a\",\"ops\":[],\"queue\":[],\"recv\":[],\"send\":[],\"tree\":{},\"vars\":{}}\n";
-
-#[test]
-fn new_replica(rt: HostRuntime) -> Result<(), Fail> {
-    let grown = Grown::new(rt.alloc());
-    Ok(grown.is_line(&rt, rt.alloc(), &[], NEW)?)
-}
-
-/// A number at the name `a`.
-const ASSIGNMENT: &[Put] = &[
-    Put::Presence(At::Doc, &[ONE_A]),
-    Put::InMap(At::Doc),
-    Put::Presence(At::Name("a"), &[ONE_A]),
-    Put::Register(At::Name("a"), Held::Number(ONE_A, "1")),
-];
-
-const ASSIGNED: &str =
-    "{\"acted\":false,\"left\":0,\"name\":\"a\",\"ops\":[\"1@a\"],\"queue\":[\"1@a\"],\"recv\":[],\"send\":[],\"tree\":{\"mapT(doc)\":{\"pres(\\\"a\\\")\":[\"1@a\"],\"regT(\\\"a\\\")\":{\"1@a\":{\"n\":\"1\"}}},\"pres(doc)\":[\"1@a\"]},\"vars\":{}}\n";
-
-#[test]
-fn one_assignment(rt: HostRuntime) -> Result<(), Fail> {
-    let grown = grow(&rt, rt.alloc(), ASSIGNMENT)?;
-    Ok(grown.is_line(&rt, rt.alloc(), &[ONE_A], ASSIGNED)?)
 }
 
 /// A list of two elements at the name `l`.
