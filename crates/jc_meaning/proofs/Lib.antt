@@ -34,3 +34,14 @@ pub mod Trees
 pub mod Dropped
 pub mod Comparing
 pub mod Applied
+pub mod Filling
+pub mod Writes
+pub mod Ways
+pub mod Foresting
+pub mod Listed
+pub mod Ended
+pub mod Told
+pub mod Touched
+pub mod Brought
+pub mod Kept
+pub mod Named

@@ -3,6 +3,8 @@ pub mod Seen
 pub mod Forest
 pub mod Meaning
 pub mod Tidy
+pub mod Built
+pub mod Listing
 pub mod Compared
 pub mod Found
 pub mod Laws

@@ -4,6 +4,8 @@
 #[cfg(test)]
 mod laws;
 #[cfg(test)]
+mod meanings;
+#[cfg(test)]
 mod runs;
 #[cfg(test)]
 mod trees;
