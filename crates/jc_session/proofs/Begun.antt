@@ -1,6 +1,7 @@
 -- Sessions on the scenario that bytes are, from its start.
-use Rattle.std.proofs.Common.{◌≡◌, ◌≢◌, ℕ, List, Option, None, Some, IfSome, sym, subst, ap}
+use Rattle.std.proofs.Common.{◌≡◌, ◌≢◌, ℕ, List, [], Option, None, Some, IfSome, IsErrOf, Ok, Err, ◌⊎◌, inl, inr, subst}
 use Rattle.std.specs.Io.KnownBytes.{Appends}
+use Rattle.std.proofs.KnownBytes.{Consumes-nil}
 use Rattle.jc_parser.specs.declared.fault.ScenarioFault.{ScenarioFault}
 use Rattle.jc_parser.specs.declared.fault.ScenarioFault.TheVariants as S
 use Rattle.jc_scenario.specs.Scenarios.{Scenario, IsScenario}
@@ -12,8 +13,9 @@ use Rattle.jc_debug.proofs.Replying.{begun_at}
 use Rattle.jc_session.specs.Answers.{Origin, origin_of, IsFaultLine}
 use Rattle.jc_session.specs.Gives.{origin_in}
 use Rattle.jc_session.specs.Shown.{End, text_refused, Talks, refused, talks}
-use Rattle.jc_session.specs.Went.{AppendsSome, Wrote, ShowsAll, WentRefused, OnScenario}
+use Rattle.jc_session.specs.Went.{AppendsSome, LosesFront, Wrote, ShowsAll, WentRefused, OnScenario}
 use Rattle.jc_session.proofs.Spelling.{not_memory}
+use Rattle.jc_session.proofs.Talking.{passed_on}
 
 pub origin_is : (d : Seen) (s : Scenario) → d.net ≡ started s → origin_in d ≡ origin_of s
 origin_is d s e = let starts_so = begun_at d s e in λ i. record { names = (e i).names; start = starts_so i }
@@ -32,3 +34,16 @@ shown_by b s d A None end o p is net at h = tt
 shown_by b s d A (Some l) end o p is net at h =
     let on = subst (λ (B : Session). Talks (origin_of s) B l h.0 end) at (subst (λ (P : Origin). Talks P A l h.0 end) (origin_is d s net) h.1) in
     (h.0, talks s is on, h.2)
+
+-- ---- what is left
+
+pub none_lost : (o : Option (List ℕ)) → LosesFront o o
+none_lost o = ([], Consumes-nil o)
+
+pub left_after_ok : {T U E : Type 0} (x : T) (y : U) (e : E) (L : Type 0) → IsErrOf {T = T} (Ok x) e ⊎ L → IsErrOf {T = U} (Ok y) e ⊎ L
+left_after_ok x y e L (inl h) = absurd cc
+left_after_ok x y e L (inr l) = inr l
+
+pub left_after_err : {T U E : Type 0} (f e : E) (L : Type 0) → IsErrOf {T = T} (Err f) e ⊎ L → IsErrOf {T = U} (Err f) e ⊎ L
+left_after_err f e L (inl h) = inl (passed_on f e h)
+left_after_err f e L (inr l) = inr l

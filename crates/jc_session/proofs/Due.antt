@@ -1,5 +1,5 @@
 -- The lines of bytes.
-use Rattle.std.proofs.Common.{◌≡◌, ◌≢◌, ℕ, ◌+◌, ◌-◌, ◌<◌, ◌≤◌, zero, suc, nat_le, nat_eq, ◌&&◌, List, [], ◌∷◌, ◌++◌, length, take, drop, map, flat_map, Bool, true, false, refl, ap, sym, subst, ◌∙◌, arith, length-append, append_assoc, append-nil}
+use Rattle.std.proofs.Common.{◌≡◌, ◌≢◌, ℕ, ◌+◌, ◌-◌, ◌<◌, ◌≤◌, nat_le, nat_eq, List, [], ◌∷◌, ◌++◌, length, take, map, Bool, true, false, refl, ap, sym, subst, ◌∙◌, arith, length-append, append_assoc}
 use Rattle.std.specs.List.{AllByRecursion}
 use Rattle.std.proofs.lemmas.Bool.Decides.{nat_tests}
 use Rattle.std.proofs.lemmas.List.{map-append, length-map}
@@ -7,7 +7,6 @@ use Rattle.std.proofs.lemmas.Grind.{common_steps, flat_map-append}
 use Rattle.std.proofs.Math.Seq.{take-append-add, take-append_seam}
 use Rattle.jc_session.specs.Lines.{Line, Lacks, AreLines, ended, whole_line, last_line}
 use Rattle.jc_session.specs.Shown.{End, finished, too_many, AreWithin}
-use Rattle.jc_session.proofs.Readings.{all_more}
 
 pub take_whole : {X : Type 0} (n : ℕ) (xs : List X) → length xs ≤ n → take n xs ≡ xs
 take_whole n xs h = grind (arith, common_steps)

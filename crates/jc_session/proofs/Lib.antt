@@ -7,4 +7,6 @@ pub mod Talking
 pub mod Listing
 pub mod Replying
 pub mod Spelling
+pub mod Alone
+pub mod OneText
 pub mod Begun

@@ -1,5 +1,5 @@
 -- Events whose replicas have names.
-use Rattle.std.proofs.Common.{◌≡◌, ℕ, zero, suc, ◌+◌, ◌<◌, ◌≤◌, List, [], ◌∷◌, ◌++◌, length, take, Some, Contains, slice_get, refl, sym, subst, arith}
+use Rattle.std.proofs.Common.{◌≡◌, ℕ, ◌<◌, List, [], ◌∷◌, length, take, Some, Contains, slice_get, sym, subst, arith}
 use Rattle.std.specs.List.{All}
 use Rattle.std.proofs.lemmas.Option.{slice_get_within}
 use Rattle.std.proofs.lemmas.List.Elements.{All-nil, All-cons, All-append, All-take}
@@ -7,10 +7,10 @@ use Rattle.jc_rules.specs.declared.operation.Event.{Event}
 use Rattle.jc_rules.specs.State.{State}
 use Rattle.jc_printer.specs.Canon.{AreNamed}
 use Rattle.jc_network.specs.Enabled.{AreChosen, no_more, chosen, left_out, AreEnabled, candidates}
-use Rattle.jc_network.specs.Laws.{starts, IsReached}
+use Rattle.jc_network.specs.Laws.{starts}
 use Rattle.jc_network.specs.Network.{HasSoundOps}
 use Rattle.jc_network.specs.Run.{IsFromStart}
-use Rattle.jc_network.proofs.Enabling.{IsEventOf, of_exec, of_send, of_recv, of_apply, of_done, IsFrom, in_from}
+use Rattle.jc_network.proofs.Enabling.{IsEventOf, of_exec, of_send, of_recv, of_apply, of_done, in_from}
 use Rattle.jc_network.proofs.Members.{first_in, later_in}
 use Rattle.jc_network.proofs.Starting.{start_well, after_well}
 use Rattle.jc_debug.specs.Session.{Session}
@@ -86,6 +86,8 @@ replies_named O A B request text (N.at_start is) h = h
 replies_named O A B request text (N.enables network events is enabled) h = h
 replies_named O A B request text N.lists h = h
 replies_named O A B request text N.tells h = h
+replies_named O A B request text (N.compares network p q C D is one two here there compared) h = h
+replies_named O A B request text (N.no_compared none) h = h
 
 pub answer_named : (O : Origin) (A B : Session) (line : Line) (text : List ℕ) → Answer O A line B text → All (λ x. AreNamed x (length O.names)) A.schedule → All (λ x. AreNamed x (length O.names)) B.schedule
 answer_named O A B line text (N.empty is) h = h

@@ -73,3 +73,10 @@ to_lf old now new raw byte h k e = subst (λ (x : ℕ). Consumes old new (raw ++
 -- nothing more after what was read
 pub to_end : (old now new : Option (List ℕ)) (raw : List ℕ) → Consumes old now raw → Consumes now new [] → Consumes old new raw
 to_end old now new raw h k = subst (λ (l : List ℕ). Consumes old new l) (append-nil raw) (Consumes-trans old now new raw [] h k)
+
+-- nothing was read, and nothing is left
+pub none_after : (old now new : Option (List ℕ)) (kept : List ℕ) (some : Bool) (before bytes : ℕ) → Reading old now kept some before bytes → some ≡ false → IsAtEnd now → Consumes now new [] → IsAtEnd old × Consumes old new []
+none_after old now new kept some before bytes reading none a h =
+    let r = subst (λ (b : Bool). Reading old now kept b before bytes) none reading in
+    let empty = none_read old now kept before bytes r in
+    (ends_after_none old now r.raw empty r.gone a, subst (λ (l : List ℕ). Consumes old new l) empty (to_end old now new r.raw r.gone h))

@@ -1,8 +1,8 @@
 -- What the contracts of a debugger's calls say is what the answers of requests say.
-use Rattle.std.proofs.Common.{◌≡◌, ◌≢◌, ◌↔◌, ℕ, zero, suc, ◌+◌, ◌-◌, ◌<◌, ◌≤◌, List, [], ◌∷◌, ◌++◌, length, slice_get, get_or, unwrap_or, Option, None, Some, Result, Ok, Err, Contains, MatchOption, IsFalse, true, codes, decimal, inl, inr, ◌⊎◌, refl, ap, sym, subst, ◌∙◌, arith}
+use Rattle.std.proofs.Common.{◌≡◌, ◌≢◌, ◌↔◌, ℕ, ◌+◌, ◌-◌, ◌<◌, ◌≤◌, List, [], ◌++◌, length, slice_get, get_or, unwrap_or, Option, None, Some, Result, Ok, Err, Contains, MatchOption, IsFalse, true, false, codes, decimal, inl, inr, ◌⊎◌, refl, ap, sym, subst, ◌∙◌, arith}
 use Rattle.std.specs.List.{All}
 use Rattle.std.proofs.lemmas.Bool.{cases_lt}
-use Rattle.std.proofs.lemmas.Option.{same_Some, slice_get_within, get_or_from_slice_get, slice_get-get_or}
+use Rattle.std.proofs.lemmas.Option.{slice_get_within, get_or_from_slice_get, slice_get-get_or}
 use Rattle.jc_rules.specs.declared.operation.Event.{Event}
 use Rattle.jc_rules.specs.declared.refusal.Refusal.TheVariants as F
 use Rattle.jc_rules.specs.declared.rule.Rule.{Rule}
@@ -33,17 +33,20 @@ use Rattle.jc_debug.specs.declared.fault.StepFault.{StepFault}
 use Rattle.jc_debug.specs.declared.fault.StepFault.TheVariants as SF
 use Rattle.jc_debug.specs.declared.fault.RunEnd.{RunEnd}
 use Rattle.jc_debug.specs.declared.fault.RunEnd.TheVariants as E
-use Rattle.jc_debug.specs.Moves.{StopsAt, IsToldAt, IsStepFault, IsGotoFault, IsRunFault, IsActFault, IsTraceOf, IsEnd, Ran, IsActed, IsStuckHere, IsSet, IsCleared, IsNoBreak}
-use Rattle.jc_debug.specs.Session.{Session, IsAt, EndsAt, Outcome, breaks, sticks, ends, moved, acted}
-use Rattle.jc_debug.specs.Trail.{Seen, start_of, session_of, placed_in, IsOnTrail, IsMoved}
-use Rattle.jc_debug.proofs.Replying.{moved_session, arrived, Stopped, stopped}
+use Rattle.jc_debug.specs.Moves.{StopsAt, IsToldAt, IsStepFault, IsGotoFault, IsRunFault, IsActFault, IsTraceOf, Ran, IsActed, IsStuckHere, IsSet, IsCleared, IsNoBreak}
+use Rattle.jc_debug.specs.Session.{Session, IsAt, EndsAt, Outcome, sticks, moved, acted}
+use Rattle.jc_debug.specs.Trail.{Seen, start_of, session_of, IsOnTrail, IsMoved}
+use Rattle.jc_debug.proofs.Replying.{moved_session, arrived, stopped}
 use Rattle.jc_session.specs.Answers as A
 use Rattle.jc_session.specs.Lines.{Line}
 use Rattle.jc_session.specs.Answers.{Origin, Replies, Sets, Acts, IsNamed, IsSpelled, Answer}
 use Rattle.jc_session.specs.Gives.{origin_in, AllNamed, Gives, GivesLine, set_text}
 use Rattle.jc_session.specs.Requests as Q
 use Rattle.jc_session.specs.Requests.{Request, nothing, asks, bad, meaning}
-use Rattle.jc_session.specs.Texts.{at_line, refusal_line, set_line, cleared_line, where_line, went_text, ran_text, event_lines, numbered_lines, or_none}
+use Rattle.jc_meaning.specs.declared.comparison.Comparison.{Comparison}
+use Rattle.jc_meaning.specs.declared.comparison.Comparison.TheVariants.{SameOps, DifferentOps}
+use Rattle.jc_meaning.specs.Found.{IsFound, IsComparison}
+use Rattle.jc_session.specs.Texts.{at_line, refusal_line, set_line, cleared_line, where_line, compared_line, ran_text, event_lines, numbered_lines, or_none}
 
 -- ---- ends of calls
 
@@ -405,6 +408,19 @@ reply_schedule d net names events lines text same is listed all h =
     let due : text ≡ or_none (numbered_lines d.net.names 1 d.schedule) = h ∙ ap or_none (all ∙ (λ i. numbered_lines (known i) 1 (listed i))) in
     gives_same d d Q.schedule text refl (same_text (origin_in d) (session_of d) (session_of d) Q.schedule (or_none (numbered_lines d.net.names 1 d.schedule)) text due A.lists)
 
+-- ---- comparisons
+
+found_text : (C D : State) (found : Comparison) → IsFound C D found → A.Compares C D (compared_line found)
+found_text C D (SameOps true) (ops, tree, is) = A.same_tree ops tree
+found_text C D (SameOps false) (ops, tree, is) = let no : false ≡ true = is in absurd (cc)
+found_text C D DifferentOps ops = A.different_ops ops
+
+pub reply_compare : (d : Seen) (net : Course) (names : List (List ℕ)) (name other : List ℕ) (p q : ℕ) (found : Comparison) (text : List ℕ) → net ≡ d.net → names ≡ net.names → IsAt (start_of d) d.schedule (length d.traces) net.network → IsNamed names name p → IsNamed names other q → IsComparison net.network p q found → text ≡ compared_line found → Gives d (Q.compare name other) d text
+reply_compare d net names name other p q found text same is is_at one two c h =
+    gives_same d d (Q.compare name other) text refl
+    (same_text (origin_in d) (session_of d) (session_of d) (Q.compare name other) (compared_line found) text h
+    (A.compares net.network p q c.one c.other is_at (named_in d net names name p same is one) (named_in d net names other q same is two) c.one_there c.other_there (found_text c.one c.other found c.found)))
+
 -- ---- refusals
 
 shows : (d : Seen) (q : Request) (due text : List ℕ) → text ≡ due → Replies (origin_in d) (session_of d) q (session_of d) due → Gives d q d text
@@ -418,6 +434,9 @@ reply_no_replica d name text none h = shows d (Q.break_replica name) (refusal_li
 
 pub reply_no_state : (d : Seen) (name text : List ℕ) → (Contains d.net.names name → ⊥) → text ≡ refusal_line F.UnknownReplica → Gives d (Q.state_of name) d text
 reply_no_state d name text none h = shows d (Q.state_of name) (refusal_line F.UnknownReplica) text h (A.no_state none)
+
+pub reply_no_compare : (d : Seen) (name other text : List ℕ) → (Contains d.net.names name → ⊥) ⊎ (Contains d.net.names other → ⊥) → text ≡ refusal_line F.UnknownReplica → Gives d (Q.compare name other) d text
+reply_no_compare d name other text none h = shows d (Q.compare name other) (refusal_line F.UnknownReplica) text h (A.no_compared none)
 
 pub reply_no_break : (d e : Seen) (k : ℕ) (text : List ℕ) → IsNoBreak d k → e ≡ d → text ≡ refusal_line F.NoSuchBreak → Gives d (Q.unbreak k) e text
 reply_no_break d e k text none same h = gives_same d e (Q.unbreak k) text same (same_text (origin_in d) (session_of d) (session_of d) (Q.unbreak k) (refusal_line F.NoSuchBreak) text h (A.no_break none))

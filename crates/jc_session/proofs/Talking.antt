@@ -1,13 +1,12 @@
 -- What went out so far, and at each end of a session.
-use Rattle.std.proofs.Common.{◌≡◌, ◌≢◌, ℕ, ◌+◌, ◌-◌, ◌<◌, ◌≤◌, zero, suc, nat_le, ◌&&◌, List, [], ◌∷◌, ◌++◌, length, take, map, Bool, true, false, Option, None, Some, IfSome, MatchOption, IsErrOf, Err, if◌then◌else◌, inl, inr, ◌⊎◌, refl, ap, sym, subst, ◌∙◌, arith, length-append, append_assoc, append-nil, Bor}
-use Rattle.std.specs.List.{AllByRecursion}
+use Rattle.std.proofs.Common.{◌≡◌, ◌≢◌, ℕ, ◌+◌, ◌<◌, ◌≤◌, nat_le, List, [], ◌∷◌, ◌++◌, length, take, map, Bool, true, false, Option, None, Some, IfSome, MatchOption, IsErrOf, Err, inl, inr, ◌⊎◌, refl, ap, sym, subst, ◌∙◌, arith, length-append, append_assoc, append-nil, Bor}
 use Rattle.std.proofs.lemmas.Bool.Decides.{nat_tests}
 use Rattle.std.proofs.lemmas.List.{map-append, length-map, length-take-le}
 use Rattle.std.proofs.Math.Seq.{take-length}
 use Rattle.std.specs.Io.KnownBytes.{Appends, Consumes, IsAtEnd, prepend_known}
-use Rattle.std.proofs.KnownBytes.{Appends-nil, Appends-trans, Consumes-nil, Consumes-trans}
+use Rattle.std.proofs.KnownBytes.{Appends-trans, Consumes-trans}
 use Rattle.jc_rules.specs.Told.{Stays, AppendsIfTold}
-use Rattle.jc_session.specs.Lines.{Line, Lacks, AreLines, ended, within, without_cr, whole_line, last_line}
+use Rattle.jc_session.specs.Lines.{Line, Lacks, ended, within, without_cr, whole_line, last_line}
 use Rattle.std.specs.List.{All}
 use Rattle.jc_rules.specs.declared.operation.Event.{Event}
 use Rattle.jc_printer.specs.Canon.{AreNamed}
@@ -15,9 +14,9 @@ use Rattle.jc_debug.specs.Session.{Session}
 use Rattle.jc_session.specs.Requests.{meaning, asks, quit}
 use Rattle.jc_session.specs.Views.{bytes_of}
 use Rattle.jc_session.specs.Answers.{Origin, Answer}
-use Rattle.jc_session.specs.Shown.{Answers, End, finished, too_many, Ends, at_the_end, at_quit, AreWithin, AreDue, Talks}
+use Rattle.jc_session.specs.Shown.{Answers, finished, too_many, at_the_end, at_quit, AreDue}
 use Rattle.jc_session.specs.Reads.{StopsAt}
-use Rattle.jc_session.specs.Went.{AppendsSome, GoesOn, BreaksOff, Wrote, Answered, WentToRead, WentWhole, WentFront, IsNext, ends_in_lf, ends_at_end}
+use Rattle.jc_session.specs.Went.{AppendsSome, LosesFront, GoesOn, BreaksOff, Wrote, Answered, WentToRead, WentWhole, WentFront, IsNext, ends_in_lf, ends_at_end}
 use Rattle.jc_session.specs.SoFar.{SoFar}
 use Rattle.jc_session.proofs.Naming.{answer_named}
 use Rattle.jc_session.proofs.Readings.{all_more}
@@ -219,13 +218,57 @@ at_quit_line O A B (Some bytes) (Some rest) (Some more) o p q n m raw line le fe
       subst (λ (x : Option (List ℕ)). Appends o x s.text) (sym k.1) s.went,
     )
 
+-- ---- the line that comes next
+
+next_lf : (rest raw ahead : List ℕ) (left : Option (List ℕ)) → Consumes (Some rest) (prepend_known ahead left) (raw ++ 10 ∷ []) → Consumes (Some rest) left (raw ++ 10 ∷ ahead)
+next_lf rest raw ahead None h = absurd h
+next_lf rest raw ahead (Some ys) h = h ∙ append_assoc raw (10 ∷ []) (ahead ++ ys) ∙ sym (append_assoc raw (10 ∷ ahead) ys)
+
+none_behind : (xs ys : List ℕ) → xs ++ ys ≡ [] → ys ≡ []
+none_behind [] ys e = e
+none_behind (x ∷ xs) ys e = absurd cc
+
+next_end : (rest raw ahead : List ℕ) (left : Option (List ℕ)) → Consumes (Some rest) (prepend_known ahead left) raw → IsAtEnd (prepend_known ahead left) → (rest ≡ raw) × Consumes (Some rest) left rest
+next_end rest raw ahead None h e = absurd h
+next_end rest raw ahead (Some ys) h e =
+    (h ∙ ap (λ l. raw ++ l) e ∙ append-nil raw, sym (ap (λ l. rest ++ l) (none_behind ahead ys e) ∙ append-nil rest))
+
+pub next_whole : (now left : Option (List ℕ)) (raw ahead : List ℕ) (line : Line) → Lacks 10 raw → length ahead < 4096 → Consumes now (prepend_known ahead left) (raw ++ 10 ∷ []) → line ≡ whole_line raw → IfSome now (λ rest. IsNext rest line left)
+next_whole None left raw ahead line l few h e = tt
+next_whole (Some rest) left raw ahead line l few h e = subst (λ (x : Line). IsNext rest x left) (sym e) (ends_in_lf raw ahead l few (next_lf rest raw ahead left h))
+
+pub next_last : (now left : Option (List ℕ)) (raw ahead : List ℕ) (line : Line) → Lacks 10 raw → Consumes now (prepend_known ahead left) raw → IsAtEnd (prepend_known ahead left) → last_line raw ≡ line ∷ [] → IfSome now (λ rest. IsNext rest line left)
+next_last None left raw ahead line l h a e = tt
+next_last (Some rest) left raw ahead line l h a e =
+    let all = next_end rest raw ahead left h a in
+    ends_at_end (subst (λ (x : List ℕ). Lacks 10 x) (sym all.0) l) (subst (λ (x : List ℕ). last_line x ≡ line ∷ []) (sym all.0) e) all.1
+
+gone_more : (first now left : Option (List ℕ)) (bytes more ahead : List ℕ) → Consumes first now bytes → Consumes now (prepend_known ahead left) more → LosesFront first left
+gone_more None now left bytes more ahead h k = ([], tt)
+gone_more (Some xs) None left bytes more ahead h k = absurd h
+gone_more (Some xs) (Some ys) None bytes more ahead h k = absurd k
+gone_more (Some xs) (Some ys) (Some zs) bytes more ahead h k =
+    (bytes ++ (more ++ ahead), h ∙ ap (λ l. bytes ++ l) (k ∙ sym (append_assoc more ahead zs)) ∙ sym (append_assoc bytes (more ++ ahead) zs))
+
+-- what is gone: the lines so far, what was read after them, and what was read ahead
+pub loses_front : (O : Origin) (A B : Session) (first now o p : Option (List ℕ)) (n m : ℕ) (left : Option (List ℕ)) (more ahead : List ℕ) → SoFar O A B first now o p n m → Consumes now (prepend_known ahead left) more → LosesFront first left
+loses_front O A B first now o p n m left more ahead s h = gone_more first now left (ended s.whole) more ahead s.gone h
+
 -- ---- faults
 
-pub went_whole : (O : Origin) (A B : Session) (first now o p q : Option (List ℕ)) (n m : ℕ) → n ≤ 67108864 → m ≤ 1000000 → SoFar O A B first now o p n m → q ≡ p → IfSome first (λ l. WentWhole O A l o q)
-went_whole O A B None now o p q n m le few s e = tt
-went_whole O A B (Some bytes) None o p q n m le few s e = absurd s.gone
-went_whole O A B (Some bytes) (Some rest) o p q n m le few s e =
-    record { whole = s.whole; rest = rest; last = B; text = s.text; answered = answered O A B bytes rest o p n m le few s; went = subst (λ (x : Option (List ℕ)). Appends o x s.text) (sym e) s.went }
+pub went_whole : (O : Origin) (A B : Session) (first now left o p q : Option (List ℕ)) (n m : ℕ) (line : Line) → n ≤ 67108864 → m ≤ 1000000 → SoFar O A B first now o p n m → IfSome now (λ rest. IsNext rest line left) → q ≡ p → IfSome first (λ l. WentWhole O A l left o q)
+went_whole O A B None now left o p q n m line le few s next e = tt
+went_whole O A B (Some bytes) None left o p q n m line le few s next e = absurd s.gone
+went_whole O A B (Some bytes) (Some rest) left o p q n m line le few s next e = record {
+  whole = s.whole;
+  rest = rest;
+  last = B;
+  text = s.text;
+  answered = answered O A B bytes rest o p n m le few s;
+  line = line;
+  next = next;
+  went = subst (λ (x : Option (List ℕ)). Appends o x s.text) (sym e) s.went;
+}
 
 -- a read failed
 pub went_to_read : (O : Origin) (A B : Session) (first now left o p : Option (List ℕ)) (n m : ℕ) (raw : List ℕ) → n ≤ 67108864 → m ≤ 1000000 → SoFar O A B first now o p n m → Lacks 10 raw → StopsAt now left raw → IfSome first (λ l. WentToRead O A l left o p)
@@ -243,47 +286,23 @@ went_to_read O A B (Some bytes) (Some rest) left o p n m raw le few s l h = reco
   went = s.went;
 }
 
-pub front_whole : (O : Origin) (A B : Session) (first now next o p q : Option (List ℕ)) (n m : ℕ) (raw : List ℕ) (line : Line) → n ≤ 67108864 → m ≤ 1000000 → SoFar O A B first now o p n m → Lacks 10 raw → Consumes now next (raw ++ 10 ∷ []) → line ≡ whole_line raw → BreaksOff O B line p q
-    → IfSome first (λ l. WentFront O A l o q)
-front_whole O A B None now next o p q n m raw line le few s l h e k = tt
-front_whole O A B (Some bytes) None next o p q n m raw line le few s l h e k = absurd s.gone
-front_whole O A B (Some bytes) (Some rest) None o p q n m raw line le few s l h e k = absurd h
-front_whole O A B (Some bytes) (Some rest) (Some more) o p q n m raw line le few s l h e k = record {
+pub went_front : (O : Origin) (A B : Session) (first now left o p q : Option (List ℕ)) (n m : ℕ) (line : Line) → n ≤ 67108864 → m ≤ 1000000 → SoFar O A B first now o p n m → IfSome now (λ rest. IsNext rest line left) → BreaksOff O B line p q → IfSome first (λ l. WentFront O A l left o q)
+went_front O A B None now left o p q n m line le few s next k = tt
+went_front O A B (Some bytes) None left o p q n m line le few s next k = absurd s.gone
+went_front O A B (Some bytes) (Some rest) left o p q n m line le few s next k = record {
   whole = s.whole;
   rest = rest;
   last = B;
   text = s.text;
   answered = answered O A B bytes rest o p n m le few s;
-  line = whole_line raw;
-  next = ends_in_lf raw more (h ∙ append_assoc raw (10 ∷ []) more) l;
+  line = line;
+  next = next;
   after = k.0;
   answer = k.1;
-  answers = subst (λ (x : Line). Answer O B x k.0 k.1) e k.2;
+  answers = k.2;
   front = k.3.0;
   went = some_after o p q s.text k.1 k.3.0 s.went k.3.1;
 }
-
-pub front_last : (O : Origin) (A B : Session) (first now next o p q : Option (List ℕ)) (n m : ℕ) (raw : List ℕ) (line : Line) → n ≤ 67108864 → m ≤ 1000000 → SoFar O A B first now o p n m → Lacks 10 raw → Consumes now next raw → IsAtEnd next → last_line raw ≡ line ∷ [] → BreaksOff O B line p q
-    → IfSome first (λ l. WentFront O A l o q)
-front_last O A B None now next o p q n m raw line le few s l h a e k = tt
-front_last O A B (Some bytes) None next o p q n m raw line le few s l h a e k = absurd s.gone
-front_last O A B (Some bytes) (Some rest) None o p q n m raw line le few s l h a e k = absurd h
-front_last O A B (Some bytes) (Some rest) (Some more) o p q n m raw line le few s l h a e k =
-    let rest_is : raw ≡ rest = sym (h ∙ ap (λ x. raw ++ x) a ∙ append-nil raw) in
-    record {
-      whole = s.whole;
-      rest = rest;
-      last = B;
-      text = s.text;
-      answered = answered O A B bytes rest o p n m le few s;
-      line = line;
-      next = ends_at_end (subst (λ (x : List ℕ). Lacks 10 x) rest_is l) (subst (λ (x : List ℕ). last_line x ≡ line ∷ []) rest_is e);
-      after = k.0;
-      answer = k.1;
-      answers = k.2;
-      front = k.3.0;
-      went = some_after o p q s.text k.1 k.3.0 s.went k.3.1;
-    }
 
 -- a byte past a limit was read
 pub at_limit : (O : Origin) (A B : Session) (first now next o p : Option (List ℕ)) (n m : ℕ) (raw : List ℕ) (b : ℕ) → n ≤ 67108864 → m ≤ 1000000 → SoFar O A B first now o p n m → Lacks 10 raw → Consumes now next (raw ++ b ∷ []) → (n + length raw ≡ 67108864) ⊎ (m ≡ 1000000)

@@ -1,5 +1,5 @@
 -- The answer of a line.
-use Rattle.std.specs.Prelude.{◌≡◌, ◌≢◌, ℕ, ◌+◌, ◌-◌, ◌≤◌, ◌<◌, List, [], ◌++◌, length, slice_get, Option, Some, None, Contains, codes}
+use Rattle.std.specs.Prelude.{◌≡◌, ◌≢◌, ℕ, ◌+◌, ◌-◌, ◌≤◌, ◌<◌, List, [], ◌++◌, length, slice_get, Option, Some, None, Contains, ◌⊎◌, codes}
 use Rattle.jc_rules.specs.declared.operation.Event.{Event}
 use Rattle.jc_rules.specs.declared.refusal.Refusal.{Refusal}
 use Rattle.jc_rules.specs.declared.refusal.Refusal.TheVariants as F
@@ -7,6 +7,7 @@ use Rattle.jc_rules.specs.declared.rule.Rule.{Rule}
 use Rattle.jc_rules.specs.RuleNames.{rule_name}
 use Rattle.jc_rules.specs.Refusals.{number_of}
 use Rattle.jc_rules.specs.Refused.{Cause, IsStuck}
+use Rattle.jc_rules.specs.Shape.{drop}
 use Rattle.jc_rules.specs.State.{State}
 use Rattle.jc_rules.specs.Step.{Step}
 use Rattle.jc_syntax.specs.declared.tree.NamedEvent.{NamedEvent}
@@ -96,6 +97,15 @@ pub data Sets (A : Session) (b : Break) : Session → List ℕ → Type 0 where
       → Sets A b (placed A j (Some b)) (set_line (j + 1))
   none_free : ((j : ℕ) → slice_get A.breaks j ≢ Some None) → Sets A b A (refusal_line F.TooManyBreaks)
 
+-- Two states have applied the same operations, and their trees are the same or not once empty presence sets are
+-- dropped; or they have applied different ones.
+pub data Compares (C D : State) : List ℕ → Type 0 where
+  same_tree : C.ops ≡ D.ops → drop C.tree ≡ drop D.tree → Compares C D (codes "same operations same tree\n")
+  different_tree : C.ops ≡ D.ops
+      → drop C.tree ≢ drop D.tree
+      → Compares C D (codes "same operations different tree\n")
+  different_ops : C.ops ≢ D.ops → Compares C D (codes "different operations\n")
+
 -- ---- requests
 
 -- What a request leads to, and the text of its answer. `quit` has none.
@@ -173,6 +183,17 @@ pub data Replies (O : Origin) (A : Session) : Request → Session → List ℕ �
       → Replies O A Q.enabled A (or_none (event_lines O.names events))
   lists : Replies O A Q.schedule A (or_none (numbered_lines O.names 1 A.schedule))
   tells : Replies O A Q.position A (where_line A.position (length A.schedule))
+  compares : {name other text : List ℕ} (network : List State) (p q : ℕ) (C D : State)
+      → IsAt O.start A.schedule A.position network
+      → IsNamed O.names name p
+      → IsNamed O.names other q
+      → slice_get network p ≡ Some C
+      → slice_get network q ≡ Some D
+      → Compares C D text
+      → Replies O A (Q.compare name other) A text
+  no_compared : {name other : List ℕ}
+      → IsStrange O.names name ⊎ IsStrange O.names other
+      → Replies O A (Q.compare name other) A (refusal_line F.UnknownReplica)
 
 -- ---- lines
 

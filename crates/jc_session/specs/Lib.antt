@@ -9,3 +9,4 @@ pub mod Went
 pub mod SoFar
 pub mod Gives
 pub mod Kinds
+pub mod Laws

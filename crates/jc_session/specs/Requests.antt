@@ -56,6 +56,7 @@ pub data Request : Type 0 where
   enabled : Request
   schedule : Request
   position : Request
+  compare : Word → Word → Request
   quit : Request
 
 -- what stands beside the word
@@ -80,17 +81,22 @@ of_two =
     (codes "step", with_number step) ∷ (codes "back", with_number back) ∷ (codes "goto", with_number goto)
     ∷ (codes "unbreak", with_number unbreak) ∷ (codes "state", λ w. Some (state_of w)) ∷ []
 
--- lines of three words of which the first is `break`, by the second one
+-- lines that set a breakpoint, by the second word
 abbrev pub of_break : List (Word × (Word → Option Request))
 of_break =
     (codes "at", with_number break_at) ∷ (codes "rule", λ w. Some (break_rule w))
     ∷ (codes "replica", λ w. Some (break_replica w)) ∷ []
 
+-- lines of three words, by the first one
+abbrev pub of_three : List (Word × (Word → Word → Option Request))
+of_three =
+    (codes "break", λ w x. option_and_then (λ f. f x) (among w of_break))
+    ∷ (codes "compare", λ w x. Some (compare w x)) ∷ []
+
 abbrev pub asked_by : List Word → Option Request
 asked_by (v ∷ []) = among v alone
 asked_by (v ∷ w ∷ []) = option_and_then (λ f. f w) (among v of_two)
-asked_by (v ∷ w ∷ x ∷ []) =
-    if bytes_eq v (codes "break") then option_and_then (λ f. f x) (among w of_break) else None
+asked_by (v ∷ w ∷ x ∷ []) = option_and_then (λ f. f w x) (among v of_three)
 asked_by _ = None
 
 -- ---- lines

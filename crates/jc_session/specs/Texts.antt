@@ -1,11 +1,13 @@
 -- The lines of answers that no other text has.
-use Rattle.std.specs.Prelude.{ℕ, ◌+◌, List, [], ◌∷◌, ◌++◌, flat_map, Option, Some, None, codes, decimal}
+use Rattle.std.specs.Prelude.{ℕ, ◌+◌, List, [], ◌∷◌, ◌++◌, flat_map, Option, Some, None, true, false, codes, decimal}
 use Rattle.jc_rules.specs.declared.operation.Event.{Event}
 use Rattle.jc_rules.specs.declared.refusal.Refusal.{Refusal}
 use Rattle.jc_rules.specs.Refusals.{number_of, name_of}
 use Rattle.jc_printer.specs.Canon.{canon_event}
 use Rattle.jc_dump.specs.Lines.{stuck_text}
 use Rattle.jc_debug.specs.Session.{StuckEvent, Outcome, breaks, sticks, ends}
+use Rattle.jc_meaning.specs.declared.comparison.Comparison.{Comparison}
+use Rattle.jc_meaning.specs.declared.comparison.Comparison.TheVariants.{SameOps, DifferentOps}
 
 -- a refusal without a place
 abbrev pub refusal_line : Refusal → List ℕ
@@ -34,6 +36,12 @@ abbrev pub ran_text : List (List ℕ) → ℕ → Outcome → List ℕ
 ran_text names n (breaks j) = at_line n ++ (codes "break " ++ decimal (j + 1) ++ codes "\n")
 ran_text names n (sticks event why) = at_line n ++ stuck_text names why event
 ran_text names n ends = at_line n ++ codes "end\n"
+
+-- what was found of two replicas
+abbrev pub compared_line : Comparison → List ℕ
+compared_line (SameOps true) = codes "same operations same tree\n"
+compared_line (SameOps false) = codes "same operations different tree\n"
+compared_line DifferentOps = codes "different operations\n"
 
 -- an event with its number in the schedule
 abbrev pub numbered_line : List (List ℕ) → ℕ → Event → List ℕ

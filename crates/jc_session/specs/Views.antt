@@ -33,6 +33,7 @@ request_view R.Trace = Q.trace
 request_view R.Enabled = Q.enabled
 request_view R.Schedule = Q.schedule
 request_view R.Position = Q.position
+request_view (R.Compare name other) = Q.compare name.now other.now
 request_view R.Quit = Q.quit
 
 abbrev pub meaning_view : AnyMeaning → Meaning

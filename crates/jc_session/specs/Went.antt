@@ -1,7 +1,7 @@
 -- What went out of a session.
-use Rattle.std.specs.Prelude.{◌≡◌, ℕ, ◌≤◌, List, [], ◌∷◌, ◌++◌, length, take, map, Option, IfSome, ◌⊎◌}
+use Rattle.std.specs.Prelude.{◌≡◌, ℕ, ◌≤◌, ◌<◌, List, [], ◌∷◌, ◌++◌, length, take, map, Option, Some, IfSome}
 use Rattle.std.specs.List.{AllByRecursion}
-use Rattle.std.specs.Io.KnownBytes.{Appends}
+use Rattle.std.specs.Io.KnownBytes.{Appends, Consumes}
 use Rattle.jc_rules.specs.Told.{AppendsIfTold}
 use Rattle.jc_parser.specs.declared.fault.ScenarioFault.{ScenarioFault}
 use Rattle.jc_scenario.specs.Scenarios.{Scenario, IsScenario}
@@ -22,6 +22,10 @@ GoesOn O A line B old new = (text : List ℕ) × Answer O A line B text × Appen
 -- a front of the answer of a line went out
 abbrev pub BreaksOff : Origin → Session → Line → Option (List ℕ) → Option (List ℕ) → Type 0
 BreaksOff O A line old new = (B : Session) × (text : List ℕ) × Answer O A line B text × AppendsSome old new text
+
+-- of the bytes that were left a front is gone
+abbrev pub LosesFront : Option (List ℕ) → Option (List ℕ) → Type 0
+LosesFront old new = (bs : List ℕ) × Consumes old new bs
 
 -- a whole session went out
 abbrev pub Wrote : Origin → Session → List ℕ → End → Option (List ℕ) → Option (List ℕ) → Type 0
@@ -48,29 +52,39 @@ pub record WentToRead (O : Origin) (A : Session) (bytes : List ℕ) (left old ne
   pub is_left : IfSome left (λ ys. ys ≡ rest)
   pub went : Appends old new text
 
--- The answers of some first lines went out, whole.
-pub record WentWhole (O : Origin) (A : Session) (bytes : List ℕ) (old new : Option (List ℕ)) : Type 0 where
-  pub whole : List (List ℕ)
-  pub rest : List ℕ
-  pub last : Session
-  pub text : List ℕ
-  pub answered : Answered O A bytes whole rest last text
-  pub went : Appends old new text
+-- The line that comes next was read, and less than 4,096 bytes behind it; the others are left.
+pub data IsNext : List ℕ → Line → Option (List ℕ) → Type 0 where
+  ends_in_lf : {rest : List ℕ} {left : Option (List ℕ)} (raw ahead : List ℕ)
+      → Lacks 10 raw
+      → length ahead < 4096
+      → Consumes (Some rest) left (raw ++ 10 ∷ ahead)
+      → IsNext rest (whole_line raw) left
+  ends_at_end : {rest : List ℕ} {line : Line} {left : Option (List ℕ)}
+      → Lacks 10 rest
+      → last_line rest ≡ line ∷ []
+      → Consumes (Some rest) left rest
+      → IsNext rest line left
 
--- the line that comes next
-pub data IsNext : List ℕ → Line → Type 0 where
-  ends_in_lf : {rest : List ℕ} (raw more : List ℕ) → rest ≡ raw ++ 10 ∷ more → Lacks 10 raw → IsNext rest (whole_line raw)
-  ends_at_end : {rest : List ℕ} {line : Line} → Lacks 10 rest → last_line rest ≡ line ∷ [] → IsNext rest line
-
--- The answers of some first lines went out, and a front of the next line's.
-pub record WentFront (O : Origin) (A : Session) (bytes : List ℕ) (old new : Option (List ℕ)) : Type 0 where
+-- The answers of some first lines went out, whole, and the next line was read.
+pub record WentWhole (O : Origin) (A : Session) (bytes : List ℕ) (left old new : Option (List ℕ)) : Type 0 where
   pub whole : List (List ℕ)
   pub rest : List ℕ
   pub last : Session
   pub text : List ℕ
   pub answered : Answered O A bytes whole rest last text
   pub line : Line
-  pub next : IsNext rest line
+  pub next : IsNext rest line left
+  pub went : Appends old new text
+
+-- The answers of some first lines went out, and a front of the next line's.
+pub record WentFront (O : Origin) (A : Session) (bytes : List ℕ) (left old new : Option (List ℕ)) : Type 0 where
+  pub whole : List (List ℕ)
+  pub rest : List ℕ
+  pub last : Session
+  pub text : List ℕ
+  pub answered : Answered O A bytes whole rest last text
+  pub line : Line
+  pub next : IsNext rest line left
   pub after : Session
   pub answer : List ℕ
   pub answers : Answer O last line after answer

@@ -37,7 +37,8 @@ impl Ahead {
     }
 
     fn is_empty(&self) -> bool
-        ensures { IsTrue result ↔ (self.now ≡ []) }
+        ensures is { IsTrue result ↔ (self.now ≡ []) }
+        ensures few { length self.now ≤ 4096 }
     {
         self.start == self.stop
     }
@@ -80,6 +81,7 @@ impl Ahead {
             ((self.old ≡ []) × (self.new ≡ []) × Stays (S.left source.old) (S.left source.new)) }
         ensures failures { S.failures source.new ≡ S.failures source.old + failures_of result }
         ensures kept { self.old ≢ [] → source.new ≡ source.old }
+        ensures few { OnOk result (length self.new < 4096) }
     {
         if self.is_empty() {
             self.fill(source)?;

@@ -14,11 +14,12 @@ ghost use Rattle.jc_session.specs.Views.{request_view, bytes_of};
 
 use crate::request::{Meaning, Request, meaning_of};
 use crate::texts::{
-    at_and, at_line, break_line, cleared_line, dump_lines, event_lines, numbered_lines, or_none,
-    refusal_line, set_line, where_line,
+    at_and, at_line, break_line, cleared_line, compared_line, dump_lines, event_lines,
+    numbered_lines, or_none, refusal_line, set_line, where_line,
 };
 use jc_debug::{ActFault, BreakFault, Debugger, GotoFault, RunEnd, RunFault, StepFault};
 use jc_dump::{block_text, dump_replica, refused_text, stuck_text};
+use jc_meaning::compare;
 use jc_network::{Net, Stuck};
 use jc_parser::parse_event;
 use jc_rules::{Event, Refusal, Rule, Text};
@@ -278,6 +279,29 @@ fn position(alloc: Global, debugger: &Debugger) -> Result<String, AllocError>
     where_line(alloc, debugger.position(), debugger.schedule().len())
 }
 
+fn comparison(
+    alloc: Global,
+    debugger: &Debugger,
+    name: &[u8],
+    other: &[u8],
+) -> Result<String, AllocError>
+    ensures { IfOk result (λ text.
+        Gives debugger.now (Q.compare name.now other.now) debugger.now (string_bytes text)) }
+{
+    let net = debugger.net();
+    let names = net.names();
+    let Some(p) = number_of(names, name) else {
+        return refusal_line(alloc, Refusal::UnknownReplica);
+    };
+    let Some(q) = number_of(names, other) else {
+        return refusal_line(alloc, Refusal::UnknownReplica);
+    };
+    match compare(alloc, net, p, q) {
+        Ok(found) => compared_line(alloc, found),
+        Err(_) => Err(AllocError),
+    }
+}
+
 // ---- lines
 
 /// Does what is asked for, and gives its answer; `quit` has none.
@@ -306,6 +330,7 @@ fn reply(
         Request::Enabled => Ok(Some(enabled(alloc, debugger)?)),
         Request::Schedule => Ok(Some(schedule(alloc, debugger)?)),
         Request::Position => Ok(Some(position(alloc, debugger)?)),
+        Request::Compare(name, other) => Ok(Some(comparison(alloc, debugger, name, other)?)),
         Request::Quit => Ok(None),
     }
 }

@@ -3,6 +3,7 @@
 
 mod ahead;
 mod answers;
+pub mod laws;
 mod line;
 mod lines;
 mod request;

@@ -67,7 +67,10 @@ impl Lines {
             × IsAtEnd (prepend_known self.new.ahead (S.left source.new))
             × (self.new.line ≡ take 4097 raw)
             × (self.old.bytes + length raw ≤ 67108864) × (self.old.count < 1000000) }
-        ensures end { result ≡ Ok Next.End → IsAtEnd (prepend_known self.old.ahead (S.left source.old)) }
+        ensures end { result ≡ Ok Next.End
+            → IsAtEnd (prepend_known self.old.ahead (S.left source.old))
+            × Consumes (prepend_known self.old.ahead (S.left source.old))
+            (prepend_known self.new.ahead (S.left source.new)) [] }
         ensures too_many { result ≡ Ok Next.TooMany → (raw : List ℕ) × (b : ℕ) × Lacks 10 raw
             × Consumes (prepend_known self.old.ahead (S.left source.old))
             (prepend_known self.new.ahead (S.left source.new)) (raw ++ b ∷ [])
@@ -76,6 +79,7 @@ impl Lines {
         ensures err { OnErr result ((raw : List ℕ) × Lacks 10 raw × (self.new.ahead ≡ [])
             × (self.old.bytes + length raw ≤ 67108864)
             × StopsAt (prepend_known self.old.ahead (S.left source.old)) (S.left source.new) raw) }
+        ensures few { OnOk result (length self.new.ahead < 4096) }
         ensures failures { S.failures source.new ≡ S.failures source.old + failures_of result }
     {
         self.line.clear();

@@ -4,7 +4,7 @@ ghost use Rattle.std.specs.Prelude.{◌≡◌, ◌≤◌, [], ◌∷◌, length,
 ghost use Rattle.std.specs.List.{list_all, prefix_len, position_or_len};
 ghost use Rattle.std.specs.Option.{option_and_then};
 ghost use Rattle.std.specs.Str.{all_ascii_digits};
-ghost use Rattle.jc_session.specs.Requests.{is_blank, words, past, after_word, is_number, number_in, among, alone, of_two, of_break, asked_by, meaning, meaning_of_words};
+ghost use Rattle.jc_session.specs.Requests.{is_blank, words, past, after_word, is_number, number_in, among, alone, of_two, of_break, of_three, asked_by, meaning, meaning_of_words};
 ghost use Rattle.jc_session.specs.Views.{request_view, meaning_view, bytes_of, AreAscii};
 
 /// What a line asks for. Words are a rule's or a replica's name.
@@ -26,6 +26,7 @@ pub enum Request<'a> {
     Enabled,
     Schedule,
     Position,
+    Compare(&'a [u8], &'a [u8]),
     Quit,
 }
 
@@ -188,7 +189,7 @@ fn of_two<'a>(verb: &[u8], word: &'a [u8]) -> Option<Request<'a>>
     None
 }
 
-/// What a line asks for whose words are `break` and these two.
+/// What a line asks for that sets a breakpoint.
 fn of_break<'a>(kind: &[u8], word: &'a [u8]) -> Option<Request<'a>>
     requires { AreAscii word.now }
     ensures { option_map request_view result ≡ option_and_then (λ f. f word.now) (among kind.now of_break) }
@@ -205,6 +206,21 @@ fn of_break<'a>(kind: &[u8], word: &'a [u8]) -> Option<Request<'a>>
     None
 }
 
+/// What a line of three words asks for.
+fn of_three<'a>(verb: &[u8], second: &'a [u8], third: &'a [u8]) -> Option<Request<'a>>
+    requires { AreAscii third.now }
+    ensures { option_map request_view result
+        ≡ option_and_then (λ f. f second.now third.now) (among verb.now of_three) }
+{
+    if verb == b"break".as_slice() {
+        return of_break(second, third);
+    }
+    if verb == b"compare".as_slice() {
+        return Some(Request::Compare(second, third));
+    }
+    None
+}
+
 /// What a line asks for, by its first word and what stands behind it.
 fn asked_by<'a>(verb: &[u8], rest: &'a [u8]) -> Option<Request<'a>>
     requires { AreAscii rest.now }
@@ -216,10 +232,10 @@ fn asked_by<'a>(verb: &[u8], rest: &'a [u8]) -> Option<Request<'a>>
     let Some((third, rest)) = first_word(rest) else {
         return of_two(verb, second);
     };
-    if first_word(rest).is_some() || verb != b"break".as_slice() {
+    if first_word(rest).is_some() {
         return None;
     }
-    of_break(second, third)
+    of_three(verb, second, third)
 }
 
 fn meaning_of_text(text: &[u8]) -> Meaning<'_>

@@ -13,7 +13,7 @@ ghost use Rattle.jc_session.specs.Kinds.{IsOfAnswer};
 ghost use Rattle.jc_session.specs.Requests.{meaning, asks, quit};
 ghost use Rattle.jc_session.specs.Shown.{finished, too_many, text_refused, Shows};
 ghost use Rattle.jc_session.specs.Views.{bytes_of};
-ghost use Rattle.jc_session.specs.Went.{AppendsSome, GoesOn, BreaksOff, Wrote, WentToRead, WentWhole, WentFront, ShowsAll, WentRefused, OnScenario};
+ghost use Rattle.jc_session.specs.Went.{AppendsSome, LosesFront, GoesOn, BreaksOff, Wrote, WentToRead, WentWhole, WentFront, ShowsAll, WentRefused, OnScenario};
 
 use crate::answers::{answer, fault_line};
 use crate::lines::{Lines, Next};
@@ -122,10 +122,14 @@ fn converse<S: Source, K: Sink>(
         (K.taken out.old) (K.taken out.new)) }
     // Without memory, those of the lines before, whole.
     ensures memory { IsErrOf result SessionFault.Memory → IfSome (S.left source.old) (λ l.
-        WentWhole (origin_in debugger.old) (session_of debugger.old) l (K.taken out.old) (K.taken out.new)) }
+        WentWhole (origin_in debugger.old) (session_of debugger.old) l (S.left source.new)
+        (K.taken out.old) (K.taken out.new)) }
     // After a failed write, those of the lines before, and a front of the next one.
     ensures write { IsErrOf result SessionFault.WriteFailed → IfSome (S.left source.old) (λ l.
-        WentFront (origin_in debugger.old) (session_of debugger.old) l (K.taken out.old) (K.taken out.new)) }
+        WentFront (origin_in debugger.old) (session_of debugger.old) l (S.left source.new)
+        (K.taken out.old) (K.taken out.new)) }
+    // Where no read failed, what was read is a front of what was left.
+    ensures left { IsErrOf result SessionFault.ReadFailed ⊎ LosesFront (S.left source.old) (S.left source.new) }
     // Failures come with these answers alone.
     ensures reads { (IsErrOf result SessionFault.ReadFailed → S.failures source.old < S.failures source.new)
         × ((IsErrOf result SessionFault.ReadFailed → ⊥) → S.failures source.new ≡ S.failures source.old) }
@@ -172,8 +176,8 @@ fn refuse<K: Sink>(alloc: Global, fault: &ScenarioFault, out: &mut K) -> Result<
 /// It ends at `quit` or where the lines end. A scenario that is refused is shown so, and no line is read.
 ///
 /// Refusals: `ReadFailed` after the answers of all lines whose LF was read; `TooManyLines` and `Memory` after those of
-/// the lines before, whole; `WriteFailed` after a front of the text that was due. What a failed read has read of a line
-/// is lost, and so is what was read ahead of the lines that were answered.
+/// the lines before, whole; `WriteFailed` after a front of the text that was due. After `Memory` and `WriteFailed` the
+/// line whose answer is missing was read, and less than 4,096 bytes behind it. What was read is lost.
 pub fn session<S: Source, K: Sink>(
     alloc: Global,
     scenario: &[u8],
@@ -195,12 +199,14 @@ pub fn session<S: Source, K: Sink>(
     ensures memory { IsErrOf result SessionFault.Memory
         → ((lines.new ≡ lines.old) × (K.taken out.new ≡ K.taken out.old))
         ⊎ OnScenario scenario.now (λ O A.
-        IfSome (S.left lines.old) (λ l. WentWhole O A l (K.taken out.old) (K.taken out.new))) }
+        IfSome (S.left lines.old) (λ l. WentWhole O A l (S.left lines.new) (K.taken out.old) (K.taken out.new))) }
     // After a failed write, those of the lines before and a front of the next one; or of the scenario's refusal.
     ensures write { IsErrOf result SessionFault.WriteFailed
         → ((lines.new ≡ lines.old) × WentRefused scenario.now (K.taken out.old) (K.taken out.new))
         ⊎ OnScenario scenario.now (λ O A.
-        IfSome (S.left lines.old) (λ l. WentFront O A l (K.taken out.old) (K.taken out.new))) }
+        IfSome (S.left lines.old) (λ l. WentFront O A l (S.left lines.new) (K.taken out.old) (K.taken out.new))) }
+    // Where no read failed, what was read is a front of the lines.
+    ensures left { IsErrOf result SessionFault.ReadFailed ⊎ LosesFront (S.left lines.old) (S.left lines.new) }
     // Failures come with these answers alone.
     ensures reads { (IsErrOf result SessionFault.ReadFailed → S.failures lines.old < S.failures lines.new)
         × ((IsErrOf result SessionFault.ReadFailed → ⊥) → S.failures lines.new ≡ S.failures lines.old) }

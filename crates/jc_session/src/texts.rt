@@ -3,9 +3,10 @@
 ghost use Rattle.std.specs.Prelude.{◌≡◌, ◌++◌, ℕ, List, IfOk, OnOk, All, length, string_bytes, codes, decimal};
 ghost use Rattle.jc_printer.specs.Canon.{AreNamed, canon_event};
 ghost use Rattle.jc_dump.specs.Texts.{dumps_text};
-ghost use Rattle.jc_session.specs.Texts.{refusal_line, at_line, set_line, cleared_line, where_line, numbered_line, numbered_lines, event_lines, or_none};
+ghost use Rattle.jc_session.specs.Texts.{refusal_line, at_line, set_line, cleared_line, where_line, compared_line, numbered_line, numbered_lines, event_lines, or_none};
 
 use jc_dump::dump_replica;
+use jc_meaning::Comparison;
 use jc_network::Net;
 use jc_printer::print_event;
 use jc_rules::{Event, Refusal, Text};
@@ -65,6 +66,21 @@ pub fn where_line(alloc: Global, n: u64, events: usize) -> Result<String, AllocE
     ensures { IfOk result (λ text. string_bytes text ≡ where_line n events) }
 {
     format!(in alloc; "at {n} of {events}\n")
+}
+
+/// The line of what was found of two replicas.
+pub fn compared_line(alloc: Global, found: Comparison) -> Result<String, AllocError>
+    ensures { IfOk result (λ text. string_bytes text ≡ compared_line found) }
+{
+    match found {
+        Comparison::SameOps { same_tree: true } => {
+            String::from_str(alloc, "same operations same tree\n")
+        }
+        Comparison::SameOps { same_tree: false } => {
+            String::from_str(alloc, "same operations different tree\n")
+        }
+        Comparison::DifferentOps => String::from_str(alloc, "different operations\n"),
+    }
 }
 
 /// An event's text as a line of its own.

@@ -1,4 +1,4 @@
-use Rattle.std.proofs.Common.{◌+◌, length, string_bytes}
+use Rattle.std.proofs.Common.{string_bytes}
 use Rattle.std.proofs.lemmas.Result.{IfOk-weaker}
 use Rattle.jc_debug.specs.declared.fault.GotoFault.TheVariants as GF
 use Rattle.jc_session.proofs.Replying.{ok_not_past, halted_named, reply_goto, goto_past, goto_halted, goto_stuck}

@@ -1,8 +1,8 @@
-use Rattle.std.proofs.Common.{◌≡◌, ◌+◌, ◌∙◌, ◌<◌, ◌≤◌, length, Ok, ap, refl, sym, arith, true, false}
+use Rattle.std.proofs.Common.{◌∙◌, [], ◌∷◌, ◌++◌, Ok, inr, ap, refl, arith}
+use Rattle.std.specs.Io.KnownBytes.{prepend_known}
 use Rattle.jc_session.specs.Views.{bytes_of}
 use Rattle.jc_session.specs.Gives.{origin_in}
-use Rattle.jc_session.specs.Lines.{whole_line, last_line}
-use Rattle.jc_session.proofs.Talking.{goes_on, breaks_off, goes_named, all_named, is_kept, line_whole, line_last, so_far_more, at_end, at_last, at_quit_line, at_limit, went_whole, went_to_read, front_whole, front_last, passed_on}
+use Rattle.jc_session.proofs.Talking.{goes_on, breaks_off, goes_named, all_named, is_kept, line_whole, line_last, so_far_more, at_end, at_last, at_quit_line, at_limit, next_whole, next_last, loses_front, went_whole, went_to_read, went_front, passed_on}
 use Rattle.jc_session.proofs.sessions.converse.Goals as goal
 
 pub lines-preserved : goal.lines-preserved
@@ -30,12 +30,51 @@ returns-in-Ok-false-clause-finished g c =
     let line = line_whole w.0 c.next.new.self.line (is_kept 4096 w.0 c.next.new.self.line _ refl w.3) c.content.result c.content.ensures in
     at_quit_line (origin_in c.args.debugger.now) _ _ _ _ _ _ _ _ c.lines.lines.bytes c.lines.lines.count w.0 (bytes_of c.content.result) (omega (arith, w.4, w.5)) (omega (arith, w.6, w.7)) inv.so_far w.1 w.2 line (c.in-Ok-false.ensures.quits (ap Ok c.in-Ok-false.field-0-test))
 
+pub returns-in-Err-answer_line-clause-memory : goal.returns-in-Err-answer_line-clause-memory
+returns-in-Err-answer_line-clause-memory g c = λ k.
+    let inv = c.lines.invariant in
+    let w = c.in-Ok-Whole.ensures.whole (ap Ok c.in-Ok-Whole.field-0-is) in
+    let line = line_whole w.0 c.next.new.self.line (is_kept 4096 w.0 c.next.new.self.line _ refl w.3) c.content.result c.content.ensures in
+    let next = next_whole (prepend_known c.lines.lines.ahead (g.S.Source.left c.lines.source)) (g.S.Source.left c.next.new.source) w.0 c.next.new.self.ahead (bytes_of c.content.result) w.1 c.in-Ok-Whole.ensures.few w.2 line in
+    went_whole (origin_in c.args.debugger.now) _ _ _ _ (g.S.Source.left c.next.new.source) _ _ _ c.lines.lines.bytes c.lines.lines.count (bytes_of c.content.result) inv.bytes inv.count inv.so_far next (c.in-Err-answer_line.ensures.memory (passed_on _ _ k)).1
+
 pub returns-in-Err-answer_line-clause-write : goal.returns-in-Err-answer_line-clause-write
 returns-in-Err-answer_line-clause-write g c = λ k.
     let inv = c.lines.invariant in
     let w = c.in-Ok-Whole.ensures.whole (ap Ok c.in-Ok-Whole.field-0-is) in
     let line = line_whole w.0 c.next.new.self.line (is_kept 4096 w.0 c.next.new.self.line _ refl w.3) c.content.result c.content.ensures in
-    front_whole (origin_in c.args.debugger.now) _ _ _ _ _ _ _ _ c.lines.lines.bytes c.lines.lines.count w.0 (bytes_of c.content.result) inv.bytes inv.count inv.so_far w.1 w.2 line (breaks_off _ _ _ _ _ _ inv.origin (c.in-Err-answer_line.ensures.write (passed_on _ _ k)).1)
+    let next = next_whole (prepend_known c.lines.lines.ahead (g.S.Source.left c.lines.source)) (g.S.Source.left c.next.new.source) w.0 c.next.new.self.ahead (bytes_of c.content.result) w.1 c.in-Ok-Whole.ensures.few w.2 line in
+    went_front (origin_in c.args.debugger.now) _ _ _ _ (g.S.Source.left c.next.new.source) _ _ _ c.lines.lines.bytes c.lines.lines.count (bytes_of c.content.result) inv.bytes inv.count inv.so_far next (breaks_off _ _ _ _ _ _ inv.origin (c.in-Err-answer_line.ensures.write (passed_on _ _ k)).1)
+
+pub returns-in-Ok-false-clause-left : goal.returns-in-Ok-false-clause-left
+returns-in-Ok-false-clause-left g c =
+    let w = c.in-Ok-Whole.ensures.whole (ap Ok c.in-Ok-Whole.field-0-is) in
+    inr (loses_front (origin_in c.args.debugger.now) _ _ _ _ _ _ _ _ (g.S.Source.left c.next.new.source) (w.0 ++ 10 ∷ []) c.next.new.self.ahead c.lines.invariant.so_far w.2)
+
+pub returns-in-Err-answer_line-clause-left : goal.returns-in-Err-answer_line-clause-left
+returns-in-Err-answer_line-clause-left g c =
+    let w = c.in-Ok-Whole.ensures.whole (ap Ok c.in-Ok-Whole.field-0-is) in
+    inr (loses_front (origin_in c.args.debugger.now) _ _ _ _ _ _ _ _ (g.S.Source.left c.next.new.source) (w.0 ++ 10 ∷ []) c.next.new.self.ahead c.lines.invariant.so_far w.2)
+
+pub returns-in-Ok-clause-left : goal.returns-in-Ok-clause-left
+returns-in-Ok-clause-left g c =
+    let w = c.in-Ok-Last.ensures.last (ap Ok c.in-Ok-Last.field-0-is) in
+    inr (loses_front (origin_in c.args.debugger.now) _ _ _ _ _ _ _ _ (g.S.Source.left c.next.new.source) w.0 c.next.new.self.ahead c.lines.invariant.so_far w.3)
+
+pub returns-in-Err-answer_line-2-clause-left : goal.returns-in-Err-answer_line-2-clause-left
+returns-in-Err-answer_line-2-clause-left g c =
+    let w = c.in-Ok-Last.ensures.last (ap Ok c.in-Ok-Last.field-0-is) in
+    inr (loses_front (origin_in c.args.debugger.now) _ _ _ _ _ _ _ _ (g.S.Source.left c.next.new.source) w.0 c.next.new.self.ahead c.lines.invariant.so_far w.3)
+
+pub returns-in-Ok-End-clause-left : goal.returns-in-Ok-End-clause-left
+returns-in-Ok-End-clause-left g c =
+    let w = c.in-Ok-End.ensures.end (ap Ok c.in-Ok-End.field-0-is) in
+    inr (loses_front (origin_in c.args.debugger.now) _ _ _ _ _ _ _ _ (g.S.Source.left c.next.new.source) [] c.next.new.self.ahead c.lines.invariant.so_far w.1)
+
+pub returns-in-Ok-TooMany-clause-left : goal.returns-in-Ok-TooMany-clause-left
+returns-in-Ok-TooMany-clause-left g c =
+    let w = c.in-Ok-TooMany.ensures.too_many (ap Ok c.in-Ok-TooMany.field-0-is) in
+    inr (loses_front (origin_in c.args.debugger.now) _ _ _ _ _ _ _ _ (g.S.Source.left c.next.new.source) (w.0 ++ w.1 ∷ []) c.next.new.self.ahead c.lines.invariant.so_far w.3)
 
 pub returns-in-Ok-clause-finished : goal.returns-in-Ok-clause-finished
 returns-in-Ok-clause-finished g c =
@@ -48,7 +87,11 @@ returns-in-Ok-clause-finished g c =
 pub returns-in-Err-answer_line-2-clause-memory : goal.returns-in-Err-answer_line-2-clause-memory
 returns-in-Err-answer_line-2-clause-memory g c = λ k.
     let inv = c.lines.invariant in
-    went_whole (origin_in c.args.debugger.now) _ _ _ _ _ _ _ c.lines.lines.bytes c.lines.lines.count inv.bytes inv.count inv.so_far (c.in-Err-answer_line-2.ensures.memory (passed_on _ _ k)).1
+    let w = c.in-Ok-Last.ensures.last (ap Ok c.in-Ok-Last.field-0-is) in
+    let kept = is_kept 4096 w.0 c.next.new.self.line _ refl w.5 in
+    let line = line_last w.0 c.next.new.self.line w.2 kept c.content-in-Ok-Last.result c.content-in-Ok-Last.ensures in
+    let next = next_last (prepend_known c.lines.lines.ahead (g.S.Source.left c.lines.source)) (g.S.Source.left c.next.new.source) w.0 c.next.new.self.ahead (bytes_of c.content-in-Ok-Last.result) w.1 w.3 w.4 line in
+    went_whole (origin_in c.args.debugger.now) _ _ _ _ (g.S.Source.left c.next.new.source) _ _ _ c.lines.lines.bytes c.lines.lines.count (bytes_of c.content-in-Ok-Last.result) inv.bytes inv.count inv.so_far next (c.in-Err-answer_line-2.ensures.memory (passed_on _ _ k)).1
 
 pub returns-in-Err-answer_line-2-clause-write : goal.returns-in-Err-answer_line-2-clause-write
 returns-in-Err-answer_line-2-clause-write g c = λ k.
@@ -56,12 +99,13 @@ returns-in-Err-answer_line-2-clause-write g c = λ k.
     let w = c.in-Ok-Last.ensures.last (ap Ok c.in-Ok-Last.field-0-is) in
     let kept = is_kept 4096 w.0 c.next.new.self.line _ refl w.5 in
     let line = line_last w.0 c.next.new.self.line w.2 kept c.content-in-Ok-Last.result c.content-in-Ok-Last.ensures in
-    front_last (origin_in c.args.debugger.now) _ _ _ _ _ _ _ _ c.lines.lines.bytes c.lines.lines.count w.0 (bytes_of c.content-in-Ok-Last.result) inv.bytes inv.count inv.so_far w.1 w.3 w.4 line (breaks_off _ _ _ _ _ _ inv.origin (c.in-Err-answer_line-2.ensures.write (passed_on _ _ k)).1)
+    let next = next_last (prepend_known c.lines.lines.ahead (g.S.Source.left c.lines.source)) (g.S.Source.left c.next.new.source) w.0 c.next.new.self.ahead (bytes_of c.content-in-Ok-Last.result) w.1 w.3 w.4 line in
+    went_front (origin_in c.args.debugger.now) _ _ _ _ (g.S.Source.left c.next.new.source) _ _ _ c.lines.lines.bytes c.lines.lines.count (bytes_of c.content-in-Ok-Last.result) inv.bytes inv.count inv.so_far next (breaks_off _ _ _ _ _ _ inv.origin (c.in-Err-answer_line-2.ensures.write (passed_on _ _ k)).1)
 
 pub returns-in-Ok-End-clause-finished : goal.returns-in-Ok-End-clause-finished
 returns-in-Ok-End-clause-finished g c =
     let inv = c.lines.invariant in
-    at_end (origin_in c.args.debugger.now) _ _ _ _ _ _ c.lines.lines.bytes c.lines.lines.count inv.bytes inv.count inv.so_far (c.in-Ok-End.ensures.end (ap Ok c.in-Ok-End.field-0-is))
+    at_end (origin_in c.args.debugger.now) _ _ _ _ _ _ c.lines.lines.bytes c.lines.lines.count inv.bytes inv.count inv.so_far (c.in-Ok-End.ensures.end (ap Ok c.in-Ok-End.field-0-is)).0
 
 pub returns-in-Ok-TooMany-clause-too_many : goal.returns-in-Ok-TooMany-clause-too_many
 returns-in-Ok-TooMany-clause-too_many g c = λ _.

@@ -1,4 +1,4 @@
-use Rattle.std.proofs.Common.{rules, ◌≡◌, List}
+use Rattle.std.proofs.Common.{rules}
 use Rattle.std.specs.Io.KnownBytes.{Appends}
 use Rattle.jc_session.proofs.Talking.{whole_went}
 use Rattle.jc_session.proofs.sessions.send.Goals as goal

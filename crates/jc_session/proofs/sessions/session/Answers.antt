@@ -1,11 +1,13 @@
-use Rattle.std.proofs.Common.{◌≡◌, ℕ, List, Option, IfSome, inl, inr, refl}
+use Rattle.std.proofs.Common.{◌≡◌, IfSome, inl, inr, refl}
 use Rattle.jc_scenario.specs.Views.{scenario_view}
 use Rattle.jc_debug.specs.Session.{Session}
 use Rattle.jc_debug.specs.Trail.{session_of}
 use Rattle.jc_session.specs.Answers.{Origin}
 use Rattle.jc_session.specs.Shown.{finished, too_many}
-use Rattle.jc_session.specs.Went.{WentToRead, WentWhole, WentFront}
-use Rattle.jc_session.proofs.Begun.{text_refused_shown, refused_front, on_scenario, shown_by}
+use Rattle.jc_session.specs.declared.sessions.SessionEnd.TheVariants.{Finished}
+use Rattle.jc_session.specs.declared.sessions.SessionFault.TheVariants.{ReadFailed}
+use Rattle.jc_session.specs.Went.{LosesFront, WentToRead, WentWhole, WentFront}
+use Rattle.jc_session.proofs.Begun.{text_refused_shown, refused_front, on_scenario, shown_by, none_lost, left_after_ok, left_after_err}
 use Rattle.jc_session.proofs.Talking.{passed_on}
 use Rattle.jc_session.proofs.sessions.session.Goals as goal
 
@@ -33,8 +35,22 @@ returns-clause-read g c = λ k.
 
 pub returns-clause-memory : goal.returns-clause-memory
 returns-clause-memory g c = λ k.
-    inr (on_scenario (λ (O : Origin) (A : Session). IfSome (g.S.Source.left c.args.lines.now) (λ l. WentWhole O A l (g.K.Sink.taken c.args.out.now) (g.K.Sink.taken c.converse.new.out))) c.args.scenario.now (scenario_view c.in-Ok.scenario) c.in-Ok-new.debugger (session_of c.in-Ok-new.debugger) c.in-Ok.ensures.scenario c.in-Ok-new.ensures.net c.in-Ok-new.ensures.session (c.in-Err-converse.ensures.memory (passed_on _ _ k)))
+    inr (on_scenario (λ (O : Origin) (A : Session). IfSome (g.S.Source.left c.args.lines.now) (λ l. WentWhole O A l (g.S.Source.left c.converse.new.source) (g.K.Sink.taken c.args.out.now) (g.K.Sink.taken c.converse.new.out))) c.args.scenario.now (scenario_view c.in-Ok.scenario) c.in-Ok-new.debugger (session_of c.in-Ok-new.debugger) c.in-Ok.ensures.scenario c.in-Ok-new.ensures.net c.in-Ok-new.ensures.session (c.in-Err-converse.ensures.memory (passed_on _ _ k)))
 
 pub returns-clause-write : goal.returns-clause-write
 returns-clause-write g c = λ k.
-    inr (on_scenario (λ (O : Origin) (A : Session). IfSome (g.S.Source.left c.args.lines.now) (λ l. WentFront O A l (g.K.Sink.taken c.args.out.now) (g.K.Sink.taken c.converse.new.out))) c.args.scenario.now (scenario_view c.in-Ok.scenario) c.in-Ok-new.debugger (session_of c.in-Ok-new.debugger) c.in-Ok.ensures.scenario c.in-Ok-new.ensures.net c.in-Ok-new.ensures.session (c.in-Err-converse.ensures.write (passed_on _ _ k)))
+    inr (on_scenario (λ (O : Origin) (A : Session). IfSome (g.S.Source.left c.args.lines.now) (λ l. WentFront O A l (g.S.Source.left c.converse.new.source) (g.K.Sink.taken c.args.out.now) (g.K.Sink.taken c.converse.new.out))) c.args.scenario.now (scenario_view c.in-Ok.scenario) c.in-Ok-new.debugger (session_of c.in-Ok-new.debugger) c.in-Ok.ensures.scenario c.in-Ok-new.ensures.net c.in-Ok-new.ensures.session (c.in-Err-converse.ensures.write (passed_on _ _ k)))
+
+pub returns-in-Ok-refuse-clause-left : goal.returns-in-Ok-refuse-clause-left
+returns-in-Ok-refuse-clause-left g c = inr (none_lost (g.S.Source.left c.args.lines.now))
+
+pub returns-in-Err-refuse-clause-left : goal.returns-in-Err-refuse-clause-left
+returns-in-Err-refuse-clause-left g c = inr (none_lost (g.S.Source.left c.args.lines.now))
+
+pub returns-in-Ok-converse-clause-left : goal.returns-in-Ok-converse-clause-left
+returns-in-Ok-converse-clause-left g c =
+    left_after_ok c.in-Ok-converse.field-0 Finished ReadFailed (LosesFront (g.S.Source.left c.args.lines.now) (g.S.Source.left c.converse.new.source)) c.in-Ok-converse.ensures.left
+
+pub returns-clause-left : goal.returns-clause-left
+returns-clause-left g c =
+    left_after_err c.in-Err-converse.fault ReadFailed (LosesFront (g.S.Source.left c.args.lines.now) (g.S.Source.left c.converse.new.source)) c.in-Err-converse.ensures.left

@@ -1,6 +1,6 @@
 use Rattle.std.proofs.Common.{[], ◌∷◌, Ok, inl, inr, ap, arith}
 use Rattle.std.proofs.KnownBytes.{Consumes-trans}
-use Rattle.jc_session.proofs.Readings.{reads_more, some_read, stops_err, to_lf, to_end}
+use Rattle.jc_session.proofs.Readings.{reads_more, some_read, none_after, stops_err, to_lf, to_end}
 use Rattle.jc_session.proofs.lines.Lines.next.Goals as goal
 
 pub returns-in_err-byte-clause-err : goal.returns-in_err-byte-clause-err
@@ -19,6 +19,11 @@ returns-then-some-clause-last g c =
     let w = r.within in
     let none = c.in_ok-byte.ensures.none (ap Ok c.in_default.is) in
     λ _. (r.raw, r.no_lf, some_read _ _ c.bytes.self.line c.args.self.now.bytes c.bytes.self.bytes c.bytes.some r c.if-some.true, to_end _ _ _ r.raw r.gone none.2, none.1, r.kept_is, omega (arith, b, w), omega (arith, c.bytes.invariant.count, c.bytes.invariant.room))
+
+pub returns-else-some-clause-end : goal.returns-else-some-clause-end
+returns-else-some-clause-end g c =
+    let none = c.in_ok-byte.ensures.none (ap Ok c.in_default.is) in
+    λ _. none_after _ _ _ c.bytes.self.line c.bytes.some c.args.self.now.bytes c.bytes.self.bytes c.bytes.invariant.reading c.if-some.false none.0 none.2
 
 pub returns-then-self-eq-MOST_BYTES-clause-too_many : goal.returns-then-self-eq-MOST_BYTES-clause-too_many
 returns-then-self-eq-MOST_BYTES-clause-too_many g c =

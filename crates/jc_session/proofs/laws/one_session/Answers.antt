@@ -1,0 +1,8 @@
+use Rattle.jc_session.proofs.OneText as text
+use Rattle.jc_session.proofs.laws.one_session.Goals as goal
+
+pub returns : goal.returns
+returns c =
+    text.one_session
+    (record { one_event = c.one_event.ensures; one_fault = c.one_event_fault.ensures; never_both = c.event_or_fault.ensures })
+    c.one_scenario.ensures c.one_fault.ensures c.scenario_or_fault.ensures c.scenarios_are_well_formed.ensures

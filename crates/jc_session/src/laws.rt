@@ -1,0 +1,19 @@
+//! Laws of the definitions alone: each contract is the law.
+
+ghost use Rattle.jc_session.specs.Laws.{OneSession};
+
+use jc_parser::laws as sentences;
+use jc_scenario::laws as scenarios;
+
+/// The bytes of a scenario and of lines have one text at most, and a session on them ends in one way.
+pub fn one_session()
+    ensures { OneSession }
+{
+    scenarios::one_scenario();
+    scenarios::one_fault();
+    scenarios::scenario_or_fault();
+    scenarios::scenarios_are_well_formed();
+    sentences::one_event();
+    sentences::one_event_fault();
+    sentences::event_or_fault();
+}
