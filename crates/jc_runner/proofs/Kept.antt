@@ -1,5 +1,5 @@
 -- What a replica keeps of its operations tells the same choice as what that stands for.
-use Rattle.std.proofs.Common.{arith, ◌≡◌, ℕ, zero, suc, List, [], ◌∷◌, ◌++◌, Bool, true, false, not, ◌&&◌, ◌||◌, refl, sym, ◌∙◌, ap, subst, Option, Some, None, cond, nat_lt, length, map, slice_get, Contains, ◌⊎◌, inl, inr, ◌+◌}
+use Rattle.std.proofs.Common.{◌≡◌, ℕ, zero, suc, List, [], ◌∷◌, ◌++◌, Bool, true, false, not, ◌&&◌, ◌||◌, refl, sym, ◌∙◌, ap, subst, Some, None, cond, nat_lt, length, map, slice_get, Contains, ◌⊎◌, inl, inr, ◌+◌}
 use Rattle.std.specs.List.{list_all, AllByRecursion}
 use Rattle.std.proofs.lemmas.List.Elements.{Contains-append_left, Contains-append_right}
 use Rattle.std.proofs.lemmas.Option.{same_Some}
@@ -23,7 +23,7 @@ use Rattle.jc_network.specs.Laws.{starts, held}
 use Rattle.jc_network.specs.Makes.{HasReplica}
 use Rattle.jc_network.specs.Network.{IsWell}
 use Rattle.jc_network.specs.Run.{IsFromStart}
-use Rattle.jc_network.proofs.Members.{none_in, first_in, later_in}
+use Rattle.jc_network.proofs.Members.{first_in, later_in}
 use Rattle.jc_network.proofs.Starting.{start_well, after_well, held_made, sound}
 use Rattle.jc_runner.specs.declared.phase.Phase.{Phase}
 use Rattle.jc_runner.specs.declared.phase.Phase.TheVariants as P

@@ -1,3 +1,9 @@
 mod Histories
 mod Choices
 mod Kept
+mod Working
+mod Naming
+mod Handing
+mod Schedules
+mod Reporting
+mod Crossing

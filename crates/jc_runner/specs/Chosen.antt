@@ -10,6 +10,7 @@ use Rattle.jc_rules.specs.State.{State}
 use Rattle.jc_rules.specs.Syntax.{Cmd, LetIn, SetTo, InsertAfter, DeleteAt, Yield}
 use Rattle.jc_runner.specs.declared.phase.Phase.{Phase}
 use Rattle.jc_runner.specs.declared.phase.Phase.TheVariants as P
+use Rattle.jc_runner.specs.Phases.{phase_after}
 
 -- not applied, and has its dependencies applied
 abbrev pub is_ready : List Id → Op → Bool
@@ -59,3 +60,11 @@ chosen_in n p phase (Some A) = chosen_by n p A phase A.left
 -- the event of replica p in the network, and the phase after it
 abbrev pub choice : List State → ℕ → Phase → Option (Event × Phase)
 choice network p phase = chosen_in (length network) p phase (slice_get network p)
+
+abbrev pub event_in : Option (Event × Phase) → Option Event
+event_in None = None
+event_in (Some (e, phase)) = Some e
+
+-- the event that replica p chooses after its last own event
+abbrev pub chosen : List State → ℕ → Option Event → Option Event
+chosen network p last = event_in (choice network p (phase_after last))

@@ -1,10 +1,12 @@
--- What the definitions of choices promise.
-use Rattle.std.specs.Prelude.{◌≡◌, ℕ, ◌<◌, List, [], Some, None, length, slice_get}
+-- What the definitions of choices and of histories promise.
+use Rattle.std.specs.Prelude.{◌≡◌, ℕ, ◌<◌, ◌≤◌, List, [], Some, None, length, slice_get}
 use Rattle.jc_rules.specs.declared.operation.Event.{Event}
 use Rattle.jc_rules.specs.State.{State}
 use Rattle.jc_rules.specs.Step.{replica_of}
+use Rattle.jc_scenario.specs.Scenarios.{Scenario, IsWellFormed}
 use Rattle.jc_runner.specs.declared.phase.Phase.{Phase}
 use Rattle.jc_runner.specs.Chosen.{choice}
+use Rattle.jc_runner.specs.Legal.{IsLegal}
 use Rattle.jc_runner.specs.Phases.{phase_after}
 
 -- What replica p chooses is an event of its own, and its phase after it is that after this event, whatever came before.
@@ -21,3 +23,16 @@ NoChoiceIsTheEnd =
     → p < length network
     → choice network p phase ≡ None
     → (A : State) × (slice_get network p ≡ Some A) × (A.left ≡ [])
+
+-- the scenario with these events in place of its own
+abbrev pub with_schedule : Scenario → List Event → Scenario
+with_schedule s events = record { names = s.names; scripts = s.scripts; schedule = events }
+
+-- A scenario may have each schedule that leads from its start to a network, where that is not too long.
+abbrev pub SchedulesAreWellFormed : Type 0
+SchedulesAreWellFormed =
+    (s : Scenario) (schedule : List Event) (network : List State)
+    → IsWellFormed s
+    → IsLegal schedule s network
+    → length schedule ≤ 100000
+    → IsWellFormed (with_schedule s schedule)

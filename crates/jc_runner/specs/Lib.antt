@@ -5,3 +5,5 @@ pub mod Recording
 pub mod Benches
 pub mod Answers
 pub mod Laws
+pub mod Worked
+pub mod Reports

@@ -1,9 +1,14 @@
 -- The phase of a replica's thread is a function of the last event that the replica made.
-use Rattle.std.specs.Prelude.{ℕ, ◌+◌, Option, Some, None}
+use Rattle.std.specs.Prelude.{◌+◌, List, [], ◌∷◌, Option, Some, None}
 use Rattle.jc_rules.specs.declared.operation.Event.{Event}
 use Rattle.jc_rules.specs.declared.operation.Event.TheVariants as E
 use Rattle.jc_runner.specs.declared.phase.Phase.{Phase}
 use Rattle.jc_runner.specs.declared.phase.Phase.TheVariants as P
+
+abbrev pub last_of : List Event → Option Event
+last_of [] = None
+last_of (e ∷ []) = Some e
+last_of (e ∷ f ∷ es) = last_of (f ∷ es)
 
 abbrev pub phase_after : Option Event → Phase
 phase_after None = P.Start

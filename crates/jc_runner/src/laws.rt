@@ -1,6 +1,6 @@
-//! Laws of choices. Each function does nothing: its contract is the law.
+//! Laws of choices and of schedules. Each function does nothing: its contract is the law.
 
-ghost use Rattle.jc_runner.specs.Laws.{ChoicesAreOwn, NoChoiceIsTheEnd};
+ghost use Rattle.jc_runner.specs.Laws.{ChoicesAreOwn, NoChoiceIsTheEnd, SchedulesAreWellFormed};
 
 /// What a replica chooses is an event of its own, and its phase is then a function of this event.
 pub fn choices_are_own()
@@ -10,4 +10,10 @@ pub fn choices_are_own()
 /// Where a replica of the network chooses nothing it has no command left.
 pub fn no_choice_is_the_end()
     ensures { NoChoiceIsTheEnd }
+{}
+
+/// A scenario whose schedule is replaced by one that leads from its start, with 100,000 events at most, is well formed
+/// too: so it can be printed, and its text can be read.
+pub fn schedules_are_well_formed()
+    ensures { SchedulesAreWellFormed }
 {}

@@ -8,7 +8,7 @@ use jc_dump::dump_replica;
 use jc_network::Net;
 use jc_rules::Event;
 use jc_scenario::{Scenario, ScenarioFault, read};
-use std::alloc::Global;
+use std::alloc::{AllocError, Global};
 use std::process::Abort;
 use std::test::Fail;
 
@@ -38,14 +38,32 @@ pub fn holds(rt: &impl Abort, fact: bool) {
     assert!(rt; fact);
 }
 
-/// The network after the events, none of which is refused.
-pub fn after(rt: &impl Abort, alloc: Global, text: &str, events: &[Event]) -> Result<Net, Fail> {
-    let scenario = scene(alloc, text)?;
-    let mut net = Net::start(alloc, &scenario)?;
+// The network to which the events lead from the scenario's start. None of them is refused.
+fn led_to(
+    rt: &impl Abort,
+    alloc: Global,
+    scenario: &Scenario,
+    events: &[Event],
+) -> Result<Net, AllocError>
+    requires { IsWellFormed (scenario_view scenario.now) }
+{
+    let mut net = Net::start(alloc, scenario)?;
     for event in events {
         holds(rt, net.step(event).is_ok());
     }
     Ok(net)
+}
+
+/// The network after the events, in place of the scenario's schedule.
+pub fn after(rt: &impl Abort, alloc: Global, text: &str, events: &[Event]) -> Result<Net, Fail> {
+    let scenario = scene(alloc, text)?;
+    Ok(led_to(rt, alloc, &scenario, events)?)
+}
+
+/// The network after the scenario's own schedule.
+pub fn run(rt: &impl Abort, alloc: Global, text: &str) -> Result<Net, Fail> {
+    let scenario = scene(alloc, text)?;
+    Ok(led_to(rt, alloc, &scenario, scenario.schedule.as_slice())?)
 }
 
 /// Both networks have the same dump of replica p.

@@ -1,4 +1,4 @@
-use Rattle.std.proofs.Common.{rules, ◌≡◌, ◌+◌, subst}
+use Rattle.std.proofs.Common.{rules, subst}
 use Rattle.jc_lock.specs.Shows.{turn_value}
 use Rattle.jc_network.specs.Makes.{IsStuckFor}
 use Rattle.jc_runner.specs.Recording.{Recording}

@@ -1,0 +1,116 @@
+-- A schedule that leads from a scenario's start is one that a scenario may have.
+use Rattle.std.proofs.Common.{arith, ◌≡◌, ℕ, ◌*◌, ◌≤◌, ◌<◌, List, [], ◌∷◌, Option, Some, None, refl, ◌∙◌, ap, subst, length, slice_get}
+use Rattle.std.specs.Prelude.{All}
+use Rattle.std.specs.List.{AllByRecursion}
+use Rattle.std.proofs.lemmas.List.{length-map}
+use Rattle.std.proofs.lemmas.List.Elements.{All-nil, All-cons}
+use Rattle.std.proofs.lemmas.Option.{slice_get_within}
+use Rattle.jc_rules.specs.declared.id.Id.{Id}
+use Rattle.jc_rules.specs.declared.operation.Op.{Op}
+use Rattle.jc_rules.specs.declared.operation.Event.{Event}
+use Rattle.jc_rules.specs.declared.operation.Event.TheVariants as E
+use Rattle.jc_rules.specs.declared.rule.Rule.{Rule}
+use Rattle.jc_rules.specs.State.{State, start}
+use Rattle.jc_rules.specs.Step.{Step, After, replica_of, read_by, send_of}
+use Rattle.jc_rules.specs.Syntax.{Cmd}
+use Rattle.jc_rules.specs.Table.{op_of}
+use Rattle.jc_rules.proofs.Stands.{looked_up}
+use Rattle.jc_parser.specs.Legal.{IsCounterBelow}
+use Rattle.jc_printer.specs.Canon.{AreNamed}
+use Rattle.jc_scenario.specs.Scenarios.{Scenario, IsWellFormed}
+use Rattle.jc_network.specs.Laws.{starts}
+use Rattle.jc_network.specs.Network.{IsMade, IsWell, IsCounted, commands_left}
+use Rattle.jc_network.specs.Seen.{AreShort}
+use Rattle.jc_network.proofs.Beginning.{short_scripts}
+use Rattle.jc_network.proofs.Counting.{start_counted, step_counted}
+use Rattle.jc_network.proofs.Did.{Did, bound, made, sent, received, applied, done, did}
+use Rattle.jc_network.proofs.Starting.{start_well}
+use Rattle.jc_network.proofs.Trees.{step_well}
+use Rattle.jc_runner.specs.Legal.{IsLegal}
+use Rattle.jc_runner.specs.Laws.{with_schedule}
+use Rattle.jc_runner.proofs.Histories.{same_number}
+
+-- replicas and counters that the event may name in a scenario of n replicas
+abbrev IsFit : ℕ → Event → Type 0
+IsFit n e = AreNamed e n × IsCounterBelow e
+
+abbrev id_or : Id → Event → Id
+id_or i (E.Exec p) = i
+id_or i (E.Send p) = i
+id_or i (E.Recv p q) = i
+id_or i (E.Apply p j) = j
+id_or i (E.Done p) = i
+
+-- what is applied was received
+received_op : (A B : State) (p : ℕ) (i : Id) (read : List Op) → Did A (E.Apply p i) read B → (o : Op) × (op_of i A.recv ≡ Some o)
+received_op A B p i read (bound q rest x e b is left s new) = cc
+received_op A B p i read (made q rest c e cur m t is left s op new) = cc
+received_op A B p i read (sent q rest is left new) = cc
+received_op A B p i read (received q r rest is left new) = cc
+received_op A B p i read (applied q j rest o t is left there new_id deps op new) = (o, ap (λ e. op_of (id_or i e) A.recv) is ∙ there)
+received_op A B p i read (done q rest is left new) = cc
+
+there_is : (o : Option State) (read : List Op) → send_of o ≡ Some read → (A : State) × (o ≡ Some A)
+there_is None read e = cc
+there_is (Some A) read e = (A, refl)
+
+module _ (total : ℕ) (few : total < 4294967296) (N : List State) (w : IsWell N) (c : IsCounted total N) where
+  -- an operation that was made names a replica, and its counter is small
+  made_fit : (p : ℕ) (o : Op) → p < length N → IsMade N o → IsFit (length N) (E.Apply p o.id)
+  made_fit p o low m =
+      let counter = c.counters o m in
+      ((low, slice_get_within N o.id.replica m.at m.there), omega (arith, counter, few))
+
+  event_fit : (e : Event) (A B : State) (read : List Op) → slice_get N (replica_of e) ≡ Some A → read_by e N ≡ Some read → Did A e read B → IsFit (length N) e
+  event_fit (E.Exec p) A B read there reads d = (slice_get_within N p A there, tt)
+  event_fit (E.Send p) A B read there reads d = (slice_get_within N p A there, tt)
+  event_fit (E.Recv p q) A B read there reads d =
+      let other = there_is (slice_get N q) read reads in
+      ((slice_get_within N p A there, slice_get_within N q other.0 other.1), tt)
+  event_fit (E.Apply p i) A B read there reads d =
+      let of = received_op A B p i read d in
+      let at = looked_up i A.recv of.0 of.1 in
+      subst (λ j. IsFit (length N) (E.Apply p j)) at.0 (made_fit p of.0 (slice_get_within N p A there) (w.sets.received p A of.0 there at.1))
+  event_fit (E.Done p) A B read there reads d = (slice_get_within N p A there, tt)
+
+  step_fit : (e : Event) (M : List State) (rows : List (Rule × ℕ)) → Step N e M rows → IsFit (length N) e
+  step_fit e M rows s =
+      event_fit e s.before s.after s.read s.is_there s.reads (did s.before e s.read s.after (record { derivation = s.derivation; holds = s.holds; concludes = s.concludes }))
+
+all_fit : (total : ℕ) → total < 4294967296 → (N : List State) (es : List Event) (M : List State) → IsWell N → IsCounted total N → After N es M → All (IsFit (length N)) es
+all_fit total few N [] M w c after = All-nil (IsFit (length N))
+all_fit total few N (e ∷ es) M w c after =
+    let first : IsFit (length N) e = step_fit total few N w c e after.0 after.1 after.2 in
+    let same : length after.0 ≡ length N = same_number N (e ∷ []) after.0 (after.0, after.1, after.2, refl) in
+    let rest = all_fit total few after.0 es M (step_well N e after.0 after.1 w after.2) (step_counted total N e after.0 after.1 w c after.2) after.3 in
+    All-cons (IsFit (length N)) e es first (subst (λ n. All (IsFit n) es) same rest)
+
+commands_few : (scripts : List (List Cmd)) → AllByRecursion (λ s. length s ≤ 65536) scripts → commands_left (starts scripts) ≤ length scripts * 65536
+commands_few [] h = omega arith
+commands_few (s ∷ scripts) h =
+    let first : length s ≤ 65536 = h.0 in
+    let rest : commands_left (starts scripts) ≤ length scripts * 65536 = commands_few scripts h.1 in
+    omega (arith, first, rest)
+
+pub well_formed_with : (s : Scenario) (history : List Event) (N : List State) → IsWellFormed s → IsLegal history s N → length history ≤ 100000 → IsWellFormed (with_schedule s history)
+well_formed_with s history N well legal small =
+    let many : length s.scripts ≤ 64 = omega (arith, well.each, well.few) in
+    let short : AreShort s.scripts = short_scripts s.scripts many well.formed in
+    let bounded = commands_few s.scripts short.each in
+    let total = commands_left (starts s.scripts) in
+    let few : total < 4294967296 = omega (arith, bounded, many) in
+    let count : length (starts s.scripts) ≡ length s.names = length-map s.scripts start ∙ well.each in
+    let fit : All (IsFit (length s.names)) history = subst (λ n. All (IsFit n) history) count (all_fit total few (starts s.scripts) history N (start_well s.scripts) (start_counted s.scripts) legal.after) in
+    record {
+      some = well.some;
+      few = well.few;
+      legal = well.legal;
+      free = well.free;
+      rising = well.rising;
+      each = well.each;
+      formed = well.formed;
+      commands = well.commands;
+      short = small;
+      known = λ k d low. (fit k d low).0;
+      counters = λ k d low. (fit k d low).1;
+    }

@@ -1,0 +1,93 @@
+-- What a replica's thread knows between two turns.
+use Rattle.std.proofs.Common.{arith, ◌≡◌, ℕ, ◌<◌, List, [], ◌∷◌, ◌++◌, sym, ◌∙◌, ap, subst, length, Option, Some, None}
+use Rattle.std.proofs.lemmas.List.{length-map}
+use mathlib.Core.List.{IsPrefix}
+use Rattle.jc_rules.specs.declared.operation.Event.{Event}
+use Rattle.jc_rules.specs.State.{State, start}
+use Rattle.jc_rules.specs.Step.{replica_of}
+use Rattle.jc_rules.proofs.Network.{one_after}
+use Rattle.jc_lock.specs.Knowledge.{own}
+use Rattle.jc_scenario.specs.Scenarios.{Scenario}
+use Rattle.jc_network.specs.declared.fault.Stuck.{Stuck}
+use Rattle.jc_network.specs.Course.{Course}
+use Rattle.jc_runner.specs.declared.phase.Phase.{Phase}
+use Rattle.std.proofs.lemmas.Option.{same_Some}
+use Rattle.jc_runner.specs.Recording.{Recording, recording, IsRecorded}
+use Rattle.jc_network.specs.Laws.{starts}
+use Rattle.jc_network.specs.Makes.{IsStuckFor}
+use Rattle.jc_runner.specs.Phases.{last_of, phase_after}
+use Rattle.jc_runner.specs.Chosen.{choice, event_in}
+use Rattle.jc_runner.specs.Legal.{IsLegal, own_events, IsChosenAfter, AllChosen}
+use Rattle.jc_lock.specs.Shows.{pass_number, pass_origin, pass_seen, pass_mine}
+use Rattle.jc_runner.specs.Benches.{IsPassAt, bench_start}
+use Rattle.jc_runner.specs.declared.bench.Bench.{Bench}
+use Rattle.jc_runner.specs.declared.worker.Worked.{Worked}
+use Rattle.jc_runner.specs.Worked.{IsFinishedAfter, IsStuckAfter, EndsWith, IsWorked}
+use Rattle.jc_runner.proofs.Histories.{chosen_longer, same_number, last_more}
+use Rattle.jc_runner.proofs.Choices.{choice_is, none_chosen}
+
+-- the network in hand has the scenario's replicas
+pub as_many : (s : Scenario) (history : List Event) (N : List State) → IsLegal history s N → length N ≡ length s.scripts
+as_many s history N legal = same_number (starts s.scripts) history N legal.after ∙ length-map s.scripts start
+
+-- what is known of the own events stands in the longer history too
+pub still_chosen : (s : Scenario) (p : ℕ) (seen longer mine : List Event) → IsPrefix seen longer → own_events seen p ≡ mine → own_events longer p ≡ mine → AllChosen s p seen → AllChosen s p longer
+still_chosen s p seen longer mine begins before after all =
+    subst (AllChosen s p) begins.1 (chosen_longer s p seen begins.0 (ap (λ l. own_events l p) begins.1 ∙ (after ∙ sym before)) all)
+
+-- the event in hand is the chosen one
+pub chosen_now : (s : Scenario) (p : ℕ) (history mine : List Event) (N : List State) (phase next : Phase) (e : Event)
+    → IsLegal history s N → own_events history p ≡ mine → phase ≡ phase_after (last_of mine) → choice N p phase ≡ Some (e, next) → IsChosenAfter s history e
+chosen_now s p history mine N phase next e legal own at is =
+    let of : replica_of e ≡ p = (choice_is N p phase e next is).0 in
+    let same : phase_after (last_of (own_events history (replica_of e))) ≡ phase = ap (λ q. phase_after (last_of (own_events history q))) of ∙ (ap (λ l. phase_after (last_of l)) own ∙ sym at) in
+    record {
+      network = N;
+      legal = legal;
+      is_chosen = (λ i. event_in (choice N (of i) (same i))) ∙ ap event_in is;
+    }
+
+pub is_next : (p : ℕ) (mine : List Event) (N : List State) (phase next : Phase) (e : Event) → choice N p phase ≡ Some (e, next) → next ≡ phase_after (last_of (mine ++ e ∷ []))
+is_next p mine N phase next e is = (choice_is N p phase e next is).1 ∙ ap phase_after (sym (last_more mine e))
+
+pub is_finished : (s : Scenario) (p : ℕ) (history : List Event) (N : List State) (phase : Phase) → IsLegal history s N → p < length s.scripts → choice N p phase ≡ None → IsFinishedAfter s p history
+is_finished s p history N phase legal low is =
+    let at = none_chosen N p phase (omega (arith, as_many s history N legal, low)) is in
+    record { network = N; state = at.0; legal = legal; is_there = at.1; none_left = at.2 }
+
+pub is_stuck_after : (s : Scenario) (p : ℕ) (history mine : List Event) (N : List State) (phase next : Phase) (e : Event) (M : List State) (stuck : Stuck)
+    → IsLegal history s N → own_events history p ≡ mine → phase ≡ phase_after (last_of mine) → choice N p phase ≡ Some (e, next) → IsLegal history s M → IsStuckFor M e stuck → IsStuckAfter s p history stuck
+is_stuck_after s p history mine N phase next e M stuck legal own at is other is_stuck =
+    let same : M ≡ N = one_after (starts s.scripts) history M N other.after legal.after in
+    record {
+      network = N;
+      event = e;
+      legal = legal;
+      is_chosen = (λ i. event_in (choice N p (phase_after (last_of (own i))))) ∙ (ap (λ ph. event_in (choice N p ph)) (sym at) ∙ ap event_in is);
+      is_stuck = subst (λ K. IsStuckFor K e stuck) same is_stuck;
+    }
+
+-- a turn in which nothing was made ends the work
+pub ended : (bench : Bench) (p limit : ℕ) (w : Worked) (history mine : List Event)
+    → IsPassAt bench w.pass → pass_number w.pass ≡ p → pass_origin w.pass ≡ Some (bench_start bench) → own_events (pass_seen w.pass) (pass_number w.pass) ≡ pass_mine w.pass
+    → pass_seen w.pass ≡ history → own_events history p ≡ mine → length mine ≡ w.made → AllChosen (bench_start bench) p history → EndsWith (bench_start bench) p limit history mine w.end → IsWorked bench p limit w
+ended bench p limit w history mine lock number origin own seen owned made all ends =
+    let own' : own_events (pass_seen w.pass) p ≡ pass_mine w.pass = ap (own_events (pass_seen w.pass)) (sym number) ∙ own in
+    let same : pass_mine w.pass ≡ mine = sym own' ∙ (ap (λ l. own_events l p) seen ∙ owned) in
+    record {
+      of_bench = lock;
+      is_number = number;
+      origin = origin;
+      own = own';
+      made = ap length same ∙ made;
+      chosen = subst (AllChosen (bench_start bench) p) (sym seen) all;
+      ends = subst (λ l. EndsWith (bench_start bench) p limit l (pass_mine w.pass) w.end) (sym seen) (subst (λ l. EndsWith (bench_start bench) p limit history l w.end) (sym same) ends);
+    }
+
+pub same_start : (r : Recording) (s : Scenario) (o : Option Scenario) → o ≡ Some r.start → o ≡ Some s → r.start ≡ s
+same_start r s o a b = same_Some r.start s (sym a ∙ b)
+
+-- the value in a turn is legal from the bench's start
+pub in_hand : (s : Scenario) (net : Course) (items : List Event) (start : Scenario) (r : Recording) → recording net items start ≡ r → IsRecorded net items start → r.start ≡ s → IsLegal r.schedule s (net.network)
+in_hand s net items start r whole kept same =
+    subst (λ h. IsLegal h s (net.network)) (ap (λ x. x.schedule) whole) (subst (λ t. IsLegal items t (net.network)) (ap (λ x. x.start) whole ∙ same) kept.legal)

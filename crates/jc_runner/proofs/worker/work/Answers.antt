@@ -1,0 +1,130 @@
+use Rattle.std.proofs.Common.{arith, ◌≡◌, ◌<◌, ◌+◌, ◌∷◌, [], ◌++◌, refl, sym, ◌∙◌, ap, subst, length, length-append, Some, inr}
+use Rattle.jc_lock.specs.Shows.{pass_number, pass_left, pass_origin, pass_seen, pass_mine, turn_value, turn_seen, turn_mine, turn_left}
+use Rattle.jc_scenario.specs.Views.{scenario_view}
+use Rattle.jc_runner.specs.Benches.{bench_start}
+use Rattle.jc_runner.specs.Phases.{last_of, phase_after}
+use Rattle.jc_runner.specs.Chosen.{choice}
+use Rattle.jc_runner.specs.Legal.{IsLegal, own_events, AllChosen}
+use Rattle.jc_runner.specs.declared.bench.StepAnswer.{StepAnswer}
+use Rattle.jc_runner.specs.Answers.{IsAnswered, seen_after}
+use Rattle.jc_runner.specs.declared.worker.Worked.{Worked}
+use Rattle.jc_runner.specs.declared.worker.End.TheVariants as N
+use Rattle.jc_runner.specs.Worked.{IsWorked, EndsWith}
+use Rattle.jc_runner.proofs.Histories.{chosen_none, chosen_more}
+use Rattle.jc_runner.proofs.Choices.{choice_is}
+use Rattle.jc_runner.proofs.Working.{same_start, in_hand, still_chosen, chosen_now, is_next, is_finished, is_stuck_after, ended}
+use Rattle.jc_runner.proofs.worker.work.Goals as goal
+use Rattle.jc_runner.proofs.worker.work.Goals.{in-Refused, in-Full, in-Memory}
+
+pub loop-init : goal.loop-init
+loop-init g c =
+    let new = c.requires.new in
+    record {
+      of_bench = new.of_lock;
+      number = sym c.number-p.ensures;
+      origin = new.origin;
+      own = rw (new.seen, new.mine) refl;
+      made = rw new.mine refl;
+      takes = omega arith;
+      phase = rw new.mine refl;
+      chosen = rw new.seen (chosen_none (bench_start c.args.bench.now) c.number-p.result);
+    }
+
+pub returns-in-None-choose : goal.returns-in-None-choose
+returns-in-None-choose g c =
+    let inv = c.loop.invariant in
+    let ok = c.in-Ok.ensures in
+    let s = bench_start c.args.bench.now in
+    let p = c.number-p.result in
+    let history = (turn_value c.in-Ok.turn).schedule in
+    let network = c.recorded.inside.net.network in
+    let same = same_start (turn_value c.in-Ok.turn) s (pass_origin c.loop.pass) ok.origin.1 inv.origin in
+    let legal : IsLegal history s network = in_hand s c.recorded.inside.net c.recorded.inside.schedule.items (scenario_view c.recorded.inside.start) (turn_value c.in-Ok.turn) (c.recorded.view_is ∙ c.value-recorded.ensures) c.recorded.invariant same in
+    let owned : own_events history p ≡ pass_mine c.loop.pass = ap (own_events history) (sym inv.number) ∙ ok.mine.1 in
+    let all : AllChosen s p history = still_chosen s p (pass_seen c.loop.pass) history (pass_mine c.loop.pass) ok.list.1 inv.own owned inv.chosen in
+    let give = c.give.ensures in
+    let low : p < length s.scripts = subst (λ k. k < length s.scripts) (sym c.number-p.ensures) c.requires.there in
+    let worked : Worked = record { pass = c.give.result; made = c.loop.made; end = N.Finished } in
+    subst (λ k. IsWorked c.args.bench.now k (pass_left c.args.pass) worked) c.number-p.ensures
+    (ended c.args.bench.now p (pass_left c.args.pass) worked history (pass_mine c.loop.pass) give.lock (give.number.0 ∙ (ok.number.0 ∙ inv.number)) (give.origin ∙ (ok.origin.0 ∙ inv.origin)) give.own give.seen owned inv.made all
+    (is_finished s p history network c.loop.phase legal low (sym c.choose.ensures ∙ c.in-None-choose.is)))
+
+pub make-back-requires-clause-number : goal.make-back-requires-clause-number
+make-back-requires-clause-number g c =
+    let inv = c.loop.invariant in
+    let is : choice (c.recorded.inside.net.network) c.number-p.result c.loop.phase ≡ Some (c.in-Some-choose.chosen.0, c.in-Some-choose.chosen.1) = sym c.choose.ensures ∙ c.in-Some-choose.is in
+    (choice_is _ _ _ _ _ is).0 ∙ (sym inv.number ∙ sym c.in-Ok.ensures.number.0)
+
+pub loop-preserved : goal.loop-preserved
+loop-preserved g c =
+    let inv = c.loop.invariant in
+    let ok = c.in-Ok.ensures in
+    let s = bench_start c.args.bench.now in
+    let p = c.number-p.result in
+    let history = (turn_value c.in-Ok.turn).schedule in
+    let network = c.recorded.inside.net.network in
+    let same = same_start (turn_value c.in-Ok.turn) s (pass_origin c.loop.pass) ok.origin.1 inv.origin in
+    let legal : IsLegal history s network = in_hand s c.recorded.inside.net c.recorded.inside.schedule.items (scenario_view c.recorded.inside.start) (turn_value c.in-Ok.turn) (c.recorded.view_is ∙ c.value-recorded.ensures) c.recorded.invariant same in
+    let owned : own_events history p ≡ pass_mine c.loop.pass = ap (own_events history) (sym inv.number) ∙ ok.mine.1 in
+    let all : AllChosen s p history = still_chosen s p (pass_seen c.loop.pass) history (pass_mine c.loop.pass) ok.list.1 inv.own owned inv.chosen in
+    let e = c.in-Some-choose.chosen.0 in
+    let next = c.in-Some-choose.chosen.1 in
+    let is : choice network p c.loop.phase ≡ Some (e, next) = sym c.choose.ensures ∙ c.in-Some-choose.is in
+    let m = c.make-back.ensures in
+    let new = c.make-back.result.0 in
+    let number : pass_number new ≡ p = m.number.0 ∙ (ok.number.0 ∙ inv.number) in
+    let made = subst (IsAnswered (turn_value c.in-Ok.turn).start e (pass_seen new) (turn_mine c.in-Ok.turn) (pass_mine new) (turn_left c.in-Ok.turn + 1) (pass_left new)) c.in-Made.is m.answer in
+    let grown : pass_seen new ≡ history ++ e ∷ [] = m.list ∙ (ap (seen_after (turn_seen c.in-Ok.turn) e) c.in-Made.is ∙ ap (λ l. l ++ e ∷ []) ok.list.0) in
+    let mine : pass_mine new ≡ pass_mine c.loop.pass ++ e ∷ [] = made.0.grew ∙ ap (λ l. l ++ e ∷ []) ok.mine.0 in
+    record {
+      of_bench = m.lock;
+      number = number;
+      origin = m.number.1 ∙ (ok.origin.0 ∙ inv.origin);
+      own = ap (own_events (pass_seen new)) (sym number) ∙ m.own;
+      made = omega (arith, ap length mine, length-append (pass_mine c.loop.pass) (e ∷ []), inv.made);
+      takes = omega (arith, m.left, ok.number.1, inv.takes);
+      phase = is_next p (pass_mine c.loop.pass) network c.loop.phase next e is ∙ ap (λ l. phase_after (last_of l)) (sym mine);
+      chosen = subst (AllChosen s p) (sym grown) (chosen_more s p history e all (chosen_now s p history (pass_mine c.loop.pass) network c.loop.phase next e legal owned inv.phase is));
+    }
+
+pub returns-in-loop : goal.returns-in-loop
+returns-in-loop g c =
+    let inv = c.loop.invariant in
+    let ok = c.in-Ok.ensures in
+    let s = bench_start c.args.bench.now in
+    let p = c.number-p.result in
+    let history = (turn_value c.in-Ok.turn).schedule in
+    let network = c.recorded.inside.net.network in
+    let same = same_start (turn_value c.in-Ok.turn) s (pass_origin c.loop.pass) ok.origin.1 inv.origin in
+    let legal : IsLegal history s network = in_hand s c.recorded.inside.net c.recorded.inside.schedule.items (scenario_view c.recorded.inside.start) (turn_value c.in-Ok.turn) (c.recorded.view_is ∙ c.value-recorded.ensures) c.recorded.invariant same in
+    let owned : own_events history p ≡ pass_mine c.loop.pass = ap (own_events history) (sym inv.number) ∙ ok.mine.1 in
+    let all : AllChosen s p history = still_chosen s p (pass_seen c.loop.pass) history (pass_mine c.loop.pass) ok.list.1 inv.own owned inv.chosen in
+    let e = c.in-Some-choose.chosen.0 in
+    let next = c.in-Some-choose.chosen.1 in
+    let is : choice network p c.loop.phase ≡ Some (e, next) = sym c.choose.ensures ∙ c.in-Some-choose.is in
+    let m = c.make-back.ensures in
+    let new = c.make-back.result.0 in
+    let number : pass_number new ≡ p = m.number.0 ∙ (ok.number.0 ∙ inv.number) in
+    let limit = pass_left c.args.pass in
+    let answered = λ (a : StepAnswer) (is : c.make-back.result.1 ≡ a). subst (IsAnswered (turn_value c.in-Ok.turn).start e (pass_seen new) (turn_mine c.in-Ok.turn) (pass_mine new) (turn_left c.in-Ok.turn + 1) (pass_left new)) is m.answer in
+    let worked : Worked = record { pass = new; made = c.loop.made; end = c.match-answer.end } in
+    let done = λ (seen : pass_seen new ≡ history) (ends : EndsWith s p limit history (pass_mine c.loop.pass) c.match-answer.end).
+    subst (λ k. IsWorked c.args.bench.now k limit worked) c.number-p.ensures
+    (ended c.args.bench.now p limit worked history (pass_mine c.loop.pass) m.lock number (m.number.1 ∙ (ok.origin.0 ∙ inv.origin)) m.own seen owned inv.made all ends) in
+    elim c.match-answer.branch [
+      | in-Refused w ↦
+          let what = w.in-Refused.is in
+          let a = answered _ what in
+          let seen : pass_seen new ≡ history = m.list ∙ (ap (seen_after (turn_seen c.in-Ok.turn) e) what ∙ ok.list.0) in
+          let other : IsLegal history s a.0.network = subst (λ t. IsLegal history t a.0.network) same (subst (λ h. IsLegal h (turn_value c.in-Ok.turn).start a.0.network) seen a.0.legal) in
+          done seen (subst (EndsWith s p limit history (pass_mine c.loop.pass)) (sym w.end-is) (is_stuck_after s p history (pass_mine c.loop.pass) network c.loop.phase next e a.0.network _ legal owned inv.phase is other a.0.is_stuck))
+      | in-Full w ↦
+          let what = w.in-Full.is in
+          let a = answered _ what in
+          let seen : pass_seen new ≡ history = m.list ∙ (ap (seen_after (turn_seen c.in-Ok.turn) e) what ∙ ok.list.0) in
+          done seen (subst (EndsWith s p limit history (pass_mine c.loop.pass)) (sym w.end-is) (inr (ap length (sym seen) ∙ a.1)))
+      | in-Memory w ↦
+          let what = w.in-Memory.is in
+          let seen : pass_seen new ≡ history = m.list ∙ (ap (seen_after (turn_seen c.in-Ok.turn) e) what ∙ ok.list.0) in
+          done seen (subst (EndsWith s p limit history (pass_mine c.loop.pass)) (sym w.end-is) tt)
+    ]

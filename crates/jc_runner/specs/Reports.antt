@@ -1,0 +1,73 @@
+-- What a run of all threads reports.
+use Rattle.std.specs.Prelude.{◌≡◌, ◌≢◌, ◌⊎◌, ℕ, ◌<◌, ◌≤◌, List, [], length, sum, Some, slice_get, slice_index}
+use mathlib.Core.List.{IsPrefix}
+use Rattle.jc_rules.specs.declared.operation.Event.{Event}
+use Rattle.jc_rules.specs.State.{State}
+use Rattle.jc_network.specs.declared.fault.Stuck.{Stuck}
+use Rattle.jc_printer.specs.Canon.{AreNamed}
+use Rattle.jc_scenario.specs.Scenarios.{Scenario, IsWellFormed}
+use Rattle.jc_scenario.specs.Views.{scenario_view}
+use Rattle.jc_runner.specs.declared.worker.End.{End}
+use Rattle.jc_runner.specs.declared.worker.End.TheVariants as N
+use Rattle.jc_runner.specs.declared.run.Report.{Report}
+use Rattle.jc_runner.specs.declared.run.RunFault.{RunFault}
+use Rattle.jc_runner.specs.declared.run.RunFault.TheVariants as R
+use Rattle.jc_runner.specs.Laws.{with_schedule}
+use Rattle.jc_runner.specs.Legal.{IsLegal, AllChosen, own_events}
+use Rattle.jc_runner.specs.Worked.{IsStuckAfter}
+
+-- no command of replica p is left in the network
+pub record IsFinishedIn (network : List State) (p : ℕ) : Type 0 where
+  pub state : State
+  pub is_there : slice_get network p ≡ Some state
+  pub none_left : state.left ≡ []
+
+-- Replica p chooses an event that is stuck after a beginning of the schedule that has all events of p. The event names
+-- replicas of the scenario.
+pub record IsStuckIn (s : Scenario) (p : ℕ) (schedule : List Event) (stuck : Stuck) : Type 0 where
+  pub front : List Event
+  pub begins : IsPrefix front schedule
+  pub has_all : own_events front p ≡ own_events schedule p
+  pub is_stuck : IsStuckAfter s p front stuck
+  pub named : AreNamed is_stuck.event (length s.names)
+
+-- what the end of replica p says of the schedule and of the network to which it leads
+abbrev pub HasEnd : Scenario → ℕ → ℕ → List Event → List State → End → Type 0
+HasEnd s p limit schedule network N.Finished = IsFinishedIn network p
+HasEnd s p limit schedule network (N.StuckAt stuck) = IsStuckIn s p schedule stuck
+HasEnd s p limit schedule network N.LimitReached =
+    (length (own_events schedule p) ≡ limit) ⊎ (length schedule ≡ 100000)
+HasEnd s p limit schedule network N.NoMemory = Unit {0}
+
+-- of replica p: how many events it made, that it chose each, and how it ended
+pub record HasWorked (s : Scenario) (limit : ℕ) (r : Report) (p : ℕ) : Type 0 where
+  pub made : slice_index r.made.items p ≡ length (own_events r.schedule.items p)
+  pub chosen : AllChosen s p r.schedule.items
+  pub end : (d : End) → slice_get r.ends.items p ≡ Some d → HasEnd s p limit r.schedule.items r.net.network d
+
+-- The schedule leads from the scenario's start to the network, the scenario may have it in place of its own, and what is
+-- told of each replica is so.
+pub record IsReport (s : Scenario) (limit : ℕ) (r : Report) : Type 0 where
+  pub start : scenario_view r.start ≡ s
+  pub legal : IsLegal r.schedule.items s r.net.network
+  pub well_formed : IsWellFormed (with_schedule (scenario_view r.start) r.schedule.items)
+  pub named : r.net.names ≡ s.names
+  pub small : length r.schedule.items ≤ 100000
+  pub each_made : length r.made.items ≡ length s.scripts
+  pub each_end : length r.ends.items ≡ length s.scripts
+  pub sum : sum r.made.items ≡ length r.schedule.items
+  pub each : (p : ℕ) → p < length s.scripts → HasWorked s limit r p
+
+-- memory was wanting, or a thread could not be made
+abbrev pub IsLateFault : RunFault → Type 0
+IsLateFault R.GateCount = ⊥
+IsLateFault R.LimitTooLarge = ⊥
+IsLateFault R.Memory = Unit {0}
+IsLateFault R.NoThread = Unit {0}
+
+-- each refusal of a run, in order
+abbrev pub IsRunFault : RunFault → ℕ → ℕ → ℕ → Type 0
+IsRunFault R.GateCount gates replicas limit = gates ≢ replicas
+IsRunFault R.LimitTooLarge gates replicas limit = (gates ≡ replicas) × (100000 < limit)
+IsRunFault R.Memory gates replicas limit = (gates ≡ replicas) × (limit ≤ 100000)
+IsRunFault R.NoThread gates replicas limit = (gates ≡ replicas) × (limit ≤ 100000)

@@ -1,0 +1,211 @@
+//! One thread for each replica.
+ghost use Rattle.std.specs.Prelude.{◌≡◌, ◌≤◌, map, vec_len, IfOk, IfErr, IfSome};
+ghost use Rattle.jc_scenario.specs.Scenarios.{IsWellFormed};
+ghost use Rattle.jc_scenario.specs.Views.{scenario_view};
+ghost use Rattle.jc_runner.specs.Worked.{HaveWorked, CanStart};
+ghost use Rattle.jc_runner.specs.Reports.{IsReport, IsRunFault, IsLateFault};
+
+use crate::bench::{Bench, BenchFault, Pass};
+use crate::recorded::Recorded;
+use crate::worker::{End, Gate, Worked, work};
+use jc_network::Net;
+use jc_rules::Event;
+use jc_scenario::Scenario;
+use std::alloc::Global;
+use std::snapshot::Snapshot;
+use std::sync::Wait;
+use std::thread;
+use std::thread::{Promise, PromisedHandle, Scope, Threads, join_promised};
+
+/// Why there is no report.
+#[derive(Drop)]
+pub enum RunFault {
+    /// 45: there are not as many gates as replicas.
+    GateCount,
+    /// 46: the limit is above `MOST_LIMIT`.
+    LimitTooLarge,
+    /// A request for memory was refused.
+    Memory,
+    /// 47: a thread can't be made, for whatever cause.
+    NoThread,
+}
+
+/// What a replica's thread promises.
+#[derive(Drop)]
+pub struct Works {
+    bench: Snapshot<Bench>,
+    number: u16,
+    limit: u64,
+}
+
+impl Promise<Worked> for Works {
+    ghost use Rattle.jc_runner.specs.Worked.{IsWorked};
+
+    ghost kept_by = { λ p w. IsWorked p.bench.value p.number p.limit w };
+}
+
+fn join_each<R: Threads>(rt: &R, handles: Vec<PromisedHandle<Worked, Works>>) {
+    for handle in handles {
+        let _worked = handle.join(rt);
+    }
+}
+
+// Starts a thread for each pass, and joins them all, also those that were started before one can't be made.
+fn start_all<'s, E, R: Threads + Wait + Sync, G: Gate + Send + Drop + 's>(
+    rt: &'s R,
+    alloc: Global,
+    scope: &Scope<'s, E>,
+    bench: &'s Bench,
+    passes: Vec<Pass>,
+    gates: Vec<G>,
+    limit: u64,
+) -> Result<Vec<Worked>, RunFault>
+    requires { CanStart bench.now passes.items (vec_len passes) (vec_len gates) limit }
+    ensures len { IfOk result (λ ws. vec_len ws ≡ vec_len passes) }
+    ensures each { IfOk result (λ ws. HaveWorked bench.now limit (vec_len passes) ws.items) }
+    ensures fault { IfErr result (λ fault. IsLateFault fault) }
+{
+    let Ok(mut handles) = Vec::with_capacity(alloc, passes.len()) else {
+        return Err(RunFault::Memory);
+    };
+    let mut gates = gates.into_iter();
+    for pass in passes {
+        let Some(gate) = gates.next() else {
+            unreachable!()
+        };
+        let promise = Works {
+            bench: Snapshot::of(bench),
+            number: pass.number(),
+            limit,
+        };
+        match scope.spawn_with(promise, move || work(rt, bench, pass, gate)) {
+            Ok(handle) => handles.push_reserved(handle),
+            Err(_refused) => {
+                join_each(rt, handles);
+                return Err(RunFault::NoThread);
+            }
+        }
+    }
+    match join_promised(rt, handles) {
+        Ok(all) => Ok(all),
+        Err(failed) => {
+            join_each(rt, failed.value);
+            Err(RunFault::Memory)
+        }
+    }
+}
+
+/// What the threads made.
+#[derive(Drop)]
+pub struct Report {
+    pub net: Net,
+    /// The events in the order in which they were made.
+    pub schedule: Vec<Event>,
+    /// How many events each replica made.
+    pub made: Vec<u64>,
+    pub ends: Vec<End>,
+    /// The scenario that was run. With `schedule` in place of its own it is the recorded one, which can be printed.
+    pub start: Scenario,
+}
+
+#[derive(Drop)]
+struct Parts {
+    passes: Vec<Pass>,
+    made: Vec<u64>,
+    ends: Vec<End>,
+}
+
+// Takes the results of the threads apart.
+fn parts_of(alloc: Global, all: Vec<Worked>) -> Option<Parts>
+    ensures passes { IfSome result (λ parts. parts.passes.items ≡ map (λ (w : Worked). w.pass) all.items) }
+    ensures made { IfSome result (λ parts. parts.made.items ≡ map (λ (w : Worked). w.made) all.items) }
+    ensures ends { IfSome result (λ parts. parts.ends.items ≡ map (λ (w : Worked). w.end) all.items) }
+{
+    let mut parts = Parts {
+        passes: Vec::with_capacity(alloc, all.len()).ok()?,
+        made: Vec::with_capacity(alloc, all.len()).ok()?,
+        ends: Vec::with_capacity(alloc, all.len()).ok()?,
+    };
+    for worked in all {
+        let Worked { pass, made, end } = worked;
+        parts.passes.push_reserved(pass);
+        parts.made.push_reserved(made);
+        parts.ends.push_reserved(end);
+    }
+    Some(parts)
+}
+
+// Runs the threads in a scope of their own.
+fn run_on<R: Threads + Wait + Sync, G: Gate + Send + Drop>(
+    rt: &R,
+    alloc: Global,
+    bench: &Bench,
+    passes: Vec<Pass>,
+    gates: Vec<G>,
+    limit: u64,
+) -> Result<Vec<Worked>, RunFault>
+    requires { CanStart bench.now passes.items (vec_len passes) (vec_len gates) limit }
+    ensures len { IfOk result (λ ws. vec_len ws ≡ vec_len passes) }
+    ensures each { IfOk result (λ ws. HaveWorked bench.now limit (vec_len passes) ws.items) }
+    ensures fault { IfErr result (λ fault. IsLateFault fault) }
+{
+    thread::scope(
+        thread::scope_env(),
+        rt,
+        |scope| -> Result<Vec<Worked>, RunFault>
+            requires { CanStart bench.now passes.items (vec_len passes) (vec_len gates) limit }
+            ensures { IfOk result (λ ws. (vec_len ws ≡ vec_len passes)
+                × HaveWorked bench.entry.now limit (vec_len passes) ws.items)
+                × IfErr result (λ fault. IsLateFault fault) }
+        { start_all(rt, alloc, scope, bench, passes, gates, limit) },
+    )
+}
+
+/// Runs one thread for each replica, with a gate for each. A thread makes the events that its replica chooses, at most
+/// `limit` of them, and asks its gate before each take. The scenario's schedule is left aside. The schedule that is
+/// reported leads from the scenario's start to the network that is reported.
+///
+/// Refused, in this order: 45 where the gates aren't as many as the replicas, 46 where the limit is above `MOST_LIMIT`;
+/// then want of memory, or 47 where a thread can't be made, once those that were started are joined.
+pub fn run_threads<R: Threads + Wait + Sync, G: Gate + Send + Drop>(
+    rt: &R,
+    alloc: Global,
+    scenario: Scenario,
+    gates: Vec<G>,
+    limit: u64,
+) -> Result<Report, RunFault>
+    requires { IsWellFormed (scenario_view scenario) }
+    ensures accepted { IfOk result (λ r. (vec_len gates ≡ vec_len scenario.scripts) × (limit ≤ 100000)) }
+    ensures report { IfOk result (λ r. IsReport (scenario_view scenario) limit r) }
+    ensures fault { IfErr result (λ fault. IsRunFault fault (vec_len gates) (vec_len scenario.scripts) limit) }
+{
+    if gates.len() != scenario.scripts.len() {
+        return Err(RunFault::GateCount);
+    }
+    let (bench, passes) = match Bench::open(alloc, scenario, limit) {
+        Ok(opened) => opened,
+        Err(BenchFault::LimitTooLarge) => return Err(RunFault::LimitTooLarge),
+        Err(BenchFault::Memory) => return Err(RunFault::Memory),
+    };
+    let all = run_on(rt, alloc, &bench, passes, gates, limit)?;
+    let Some(parts) = parts_of(alloc, all) else {
+        return Err(RunFault::Memory);
+    };
+    let Parts { passes, made, ends } = parts;
+    let recorded = match bench.lock.close(passes) {
+        Ok(recorded) => recorded,
+        Err(_) => unreachable!(),
+    };
+    let Recorded {
+        net,
+        schedule,
+        start,
+    } = recorded;
+    Ok(Report {
+        net,
+        schedule,
+        made,
+        ends,
+        start,
+    })
+}

@@ -1,0 +1,97 @@
+//! The work of one replica's thread.
+ghost use Rattle.std.specs.Prelude.{◌<◌, length};
+ghost use Rattle.jc_lock.specs.Shows.{pass_number, pass_left};
+ghost use Rattle.jc_runner.specs.Benches.{IsNewAt, bench_start};
+ghost use Rattle.jc_runner.specs.Worked.{IsWorked};
+
+use crate::bench::{Bench, Pass, StepAnswer};
+use crate::choosing::choose;
+use crate::phase::Phase;
+use jc_network::Stuck;
+use std::sync::Wait;
+
+/// What a replica's thread does before each take, while it holds no turn.
+pub trait Gate {
+    /// `step` is the number of events that the replica has made.
+    fn before<R: Wait>(&mut self, rt: &R, replica: u16, step: u64);
+}
+
+/// How a replica's thread ended.
+#[derive(Drop)]
+pub enum End {
+    /// No command was left.
+    Finished,
+    /// The event that it chose is stuck.
+    StuckAt(Stuck),
+    /// It has made its takes, or the network has made as many steps as it can.
+    LimitReached,
+    /// A request for memory was refused.
+    NoMemory,
+}
+
+/// A replica's pass after the work, and how many events were made.
+#[derive(Drop)]
+pub struct Worked {
+    pub(crate) pass: Pass,
+    pub(crate) made: u64,
+    pub(crate) end: End,
+}
+
+/// Makes the events that the replica chooses, until it has no command left, one is stuck, the takes are made or memory
+/// is wanting. The replica chooses while it holds the turn, from the network in hand.
+pub(crate) fn work<R: Wait, G: Gate + Drop>(
+    rt: &R,
+    bench: &Bench,
+    mut pass: Pass,
+    mut gate: G,
+) -> Worked
+    requires new { IsNewAt bench.now (pass_left pass) pass }
+    requires there { pass_number pass < length (bench_start bench.now).scripts }
+    ensures { IsWorked bench.now (pass_number pass) (pass_left pass) result }
+{
+    let p = pass.number();
+    let mut made = 0;
+    let mut phase = Phase::Start;
+    for _ in rt.forever() {
+        gate.before(rt, p, made);
+        let turn = match bench.lock.take(rt, pass) {
+            Ok(turn) => turn,
+            Err(spent) => {
+                return Worked {
+                    pass: spent.pass,
+                    made,
+                    end: End::LimitReached,
+                };
+            }
+        };
+        let recorded = turn.value();
+        let (event, next) = match choose(&recorded.net, p, phase) {
+            Some(chosen) => chosen,
+            None => {
+                return Worked {
+                    pass: bench.lock.give(turn),
+                    made,
+                    end: End::Finished,
+                };
+            }
+        };
+        let (back, answer) = bench.make(turn, &event);
+        pass = back;
+        let end = match answer {
+            StepAnswer::Made {
+                number: _,
+                trace: _,
+            } => {
+                made += 1;
+                phase = next;
+                continue;
+            }
+            StepAnswer::Refused { front: _, stuck } => End::StuckAt(stuck),
+            StepAnswer::Full { front: _ } => End::LimitReached,
+            StepAnswer::Memory => End::NoMemory,
+            StepAnswer::Spent => unreachable!(),
+        };
+        return Worked { pass, made, end };
+    }
+    unreachable!()
+}
