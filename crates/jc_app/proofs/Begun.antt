@@ -1,5 +1,5 @@
 -- What was written before a failure.
-use Rattle.std.proofs.Common.{◌≡◌, ◌≢◌, ◌⊎◌, ℕ, ◌+◌, ◌<◌, ◌≤◌, inl, inr, List, [], ◌∷◌, ◌++◌, length, take, drop, get_or, Bool, Option, Some, None, Result, Ok, Err, IfOk, OnOk, OnErr, vec_len, refl, ap, sym, ◌∙◌, subst, append_assoc, append-nil, lt_of_not-le, arith}
+use Rattle.std.proofs.Common.{◌≡◌, ◌≢◌, ℕ, ◌+◌, ◌<◌, ◌≤◌, inl, inr, List, [], ◌∷◌, ◌++◌, length, take, drop, get_or, Bool, Option, Some, None, Result, Ok, Err, IfOk, OnOk, OnErr, vec_len, refl, ap, sym, ◌∙◌, subst, append_assoc, append-nil, lt_of_not-le, arith}
 use Rattle.std.proofs.lemmas.List.{take-append-le, take-append-drop, take_all}
 use Rattle.std.proofs.Math.Seq.{take-append-add, take-append_seam, take-length}
 use Rattle.std.specs.Io.KnownBytes.{Appends, Consumes}
@@ -17,12 +17,7 @@ use Rattle.jc_parser.specs.declared.fault.ScenarioFault.TheVariants.{Memory as N
 use Rattle.std.specs.declared.alloc.Global.{Global}
 use Rattle.std.specs.declared.vec.Vec.{Vec}
 use Rattle.jc_rules.specs.declared.io.ReadFault.{ReadFault}
-use Rattle.jc_words.specs.declared.order.Order.{Order}
-use Rattle.jc_words.specs.declared.order.Task.{Task}
-use Rattle.jc_words.specs.declared.fault.WordsFault.{WordsFault}
-use Rattle.jc_words.specs.declared.fault.WordsFault.TheVariants.{Help, Usage, Memory}
-use Rattle.jc_words.specs.Words.{IsWordsFault, words_order}
-use Rattle.jc_app.specs.Faults.{IsEndOf}
+use Rattle.jc_words.specs.declared.order.View.{View}
 use Rattle.jc_app.specs.Ran.{ReadsAs, Ran}
 use Rattle.jc_app.specs.Due.{AppendsUpTo, AppendsFrontOf, IsNext, Begins, IsDueAt, IsDue, AreTold, HasBegun}
 use Rattle.jc_app.proofs.Playing.{goes_on, events_of-append, split_here, shown_more}
@@ -117,28 +112,28 @@ begins_from trace s first schedule text from events h =
     subst (λ (c : Course). Begins trace c.names c.network s.schedule text) from (subst (λ (es : List Event). Begins trace first.names first.network es text) events h)
 
 -- what is due at a fault is due on the bytes that have it
-pub due_at : (task : Task) (bytes : List ℕ) (fault : ScenarioFault) (text : List ℕ) → (fault ≢ NoMemoryRead → ReadsAs bytes (Err fault)) → IsDueAt fault text → IsDue task bytes text
-due_at task bytes fault text known (inl none) = inl none
-due_at task bytes fault text known (inr h) = inr (Err fault, known (has_number fault _ h.1.number), inr h)
+pub due_at : (view : View) (bytes : List ℕ) (fault : ScenarioFault) (text : List ℕ) → (fault ≢ NoMemoryRead → ReadsAs bytes (Err fault)) → IsDueAt fault text → IsDue view bytes text
+due_at view bytes fault text known (inl none) = inl none
+due_at view bytes fault text known (inr h) = inr (Err fault, known (has_number fault _ h.1.number), inr h)
 
 -- what was begun of the front that was read was begun of the whole
-due_whole : (task : Task) (n : ℕ) (b v text : List ℕ) → n ≡ 8388609 → v ≡ take n b → IsDue task v text → IsDue task b text
-due_whole task n b v text is e (inl h) = inl h
-due_whole task n b v text is e (inr h) = inr (h.0, reads_whole n b v h.0 is e h.1, h.2)
+due_whole : (view : View) (n : ℕ) (b v text : List ℕ) → n ≡ 8388609 → v ≡ take n b → IsDue view v text → IsDue view b text
+due_whole view n b v text is e (inl h) = inl h
+due_whole view n b v text is e (inr h) = inr (h.0, reads_whole n b v h.0 is e h.1, h.2)
 
 -- the bytes that a source had left, as far as they are told, and a run on them
-pub run_on_front : (task : Task) (n : ℕ) (left : Option (List ℕ)) (v shown : List ℕ) (status : ℕ) → n ≡ 8388609 → IsFront n left v → Ran task v shown status → (bytes : List ℕ) × AreTold left bytes × Ran task bytes shown status
-run_on_front task n None v shown status is front ran = (v, tt, ran)
-run_on_front task n (Some bytes) v shown status is front ran = (bytes, refl, ran_whole task n bytes v shown status is front ran)
+pub run_on_front : (view : View) (n : ℕ) (left : Option (List ℕ)) (v shown : List ℕ) (status : ℕ) → n ≡ 8388609 → IsFront n left v → Ran view v shown status → (bytes : List ℕ) × AreTold left bytes × Ran view bytes shown status
+run_on_front view n None v shown status is front ran = (v, tt, ran)
+run_on_front view n (Some bytes) v shown status is front ran = (bytes, refl, ran_whole view n bytes v shown status is front ran)
 
-pub begun_on_front : (task : Task) (n : ℕ) (left old new : Option (List ℕ)) (v : List ℕ) → n ≡ 8388609 → IsFront n left v → AppendsFrontOf (IsDue task v) old new → HasBegun task left old new
-begun_on_front task n None old new v is front h = (v, tt, h)
-begun_on_front task n (Some bytes) old new v is front h = (bytes, refl, (h.0, due_whole task n bytes v h.0 is front h.1, h.2))
+pub begun_on_front : (view : View) (n : ℕ) (left old new : Option (List ℕ)) (v : List ℕ) → n ≡ 8388609 → IsFront n left v → AppendsFrontOf (IsDue view v) old new → HasBegun view left old new
+begun_on_front view n None old new v is front h = (v, tt, h)
+begun_on_front view n (Some bytes) old new v is front h = (bytes, refl, (h.0, due_whole view n bytes v h.0 is front h.1, h.2))
 
 -- where nothing was read, nothing was begun
-pub begun_nothing : (task : Task) (left out : Option (List ℕ)) → HasBegun task left out out
-begun_nothing task None out = ([], tt, ([], inl refl, none_yet out []))
-begun_nothing task (Some bytes) out = (bytes, refl, ([], inl refl, none_yet out []))
+pub begun_nothing : (view : View) (left out : Option (List ℕ)) → HasBegun view left out out
+begun_nothing view None out = ([], tt, ([], inl refl, none_yet out []))
+begun_nothing view (Some bytes) out = (bytes, refl, ([], inl refl, none_yet out []))
 
 -- nothing more
 pub none_more : (a : Option (List ℕ)) → Appends a a []
@@ -149,11 +144,3 @@ none_more (Some xs) = sym (append-nil xs)
 pub loses_however : (most : ℕ) (a b : Option (List ℕ)) (r : Result (Vec ℕ Global) ReadFault) → IfOk r (λ v. Consumes a b v.items) → IfOk r (λ v. vec_len v ≤ most) → OnErr r (LosesUpTo most a b) → LosesUpTo most a b
 loses_however most a b (Ok v) c l h = loses_read most a b v.items c (omega (arith, l, v.ok.0))
 loses_however most a b (Err e) c l h = h
-
--- ---- words that are no order
-
--- where there was no memory for the words, nothing was begun of an order
-pub unordered : (words : List (List ℕ)) (fault : WordsFault) (n : ℕ) (order : Order) (told a b : Option (List ℕ)) → IsWordsFault words fault → IsEndOf fault n → words_order words ≡ Some order → ((n ≡ 2) ⊎ (n ≡ 5) → b ≡ a) → HasBegun order.task told a b
-unordered words (Help text) n order told a b why end some same = let bad : None ≡ Some order = sym why.0 ∙ some in cc
-unordered words (Usage text) n order told a b why end some same = let bad : None ≡ Some order = sym why.0 ∙ some in cc
-unordered words Memory n order told a b why end some same = subst (λ o. HasBegun order.task told a o) (sym (same (inr end))) (begun_nothing order.task told a)

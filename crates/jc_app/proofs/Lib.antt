@@ -5,3 +5,5 @@ pub mod Counting
 pub mod Dumping
 pub mod Ending
 pub mod OneRun
+pub mod Talked
+pub mod Orders

@@ -14,8 +14,8 @@ use Rattle.jc_network.specs.Laws.{starts}
 use Rattle.jc_dump.specs.Texts.{refused_text}
 use Rattle.jc_dump.specs.Texts.{dumps_text}
 use Rattle.jc_app.specs.Runs.{Made, GoesBy, EndsAt, Stuck, events_of, events_text, stuck_line, status_of}
-use Rattle.jc_words.specs.declared.order.Task.{Task}
-use Rattle.jc_words.specs.declared.order.Task.TheVariants.{Check, Print, Run}
+use Rattle.jc_words.specs.declared.order.View.{View}
+use Rattle.jc_words.specs.declared.order.View.TheVariants.{Check, Print, Run}
 use Rattle.jc_app.specs.Ran.{ReadsAs, RanThrough, Shows, IsRefused, RanOn}
 
 first_same : {X : Type 0} (x y : X) (xs ys : List X) → x ∷ xs ≡ y ∷ ys → x ≡ y
@@ -88,15 +88,15 @@ module _ (one_step : OneStep) (stuck_has_none : StuckHasNone) (one_stuck : OneSt
         let place = same_Some a.place b.place (sym a.stands ∙ b.stands) in
         (a.written ∙ ((λ i. refused_text (refusal i) (place i)) ∙ sym b.written), a.ends ∙ sym b.ends)
 
-    same_shown : (task : Task) (s : Scenario) (shown other : List ℕ) (status other_status : ℕ) → Shows task s shown status → Shows task s other other_status → (shown ≡ other) × (status ≡ other_status)
+    same_shown : (view : View) (s : Scenario) (shown other : List ℕ) (status other_status : ℕ) → Shows view s shown status → Shows view s other other_status → (shown ≡ other) × (status ≡ other_status)
     same_shown Check s shown other status other_status a b = (a.0 ∙ sym b.0, a.1 ∙ sym b.1)
     same_shown Print s shown other status other_status a b = (a.0 ∙ sym b.0, a.1 ∙ sym b.1)
     same_shown (Run trace) s shown other status other_status a b = same_through trace s shown other status other_status a b
 
-    pub one_run : (task : Task) (bytes shown other : List ℕ) (status other_status : ℕ) (read other_read : Result Scenario ScenarioFault) → ReadsAs bytes read → ReadsAs bytes other_read → RanOn task read shown status → RanOn task other_read other other_status → (shown ≡ other) × (status ≡ other_status)
-    one_run task bytes shown other status other_status (Ok s) (Ok t) r q a b =
-        same_shown task t shown other status other_status (subst (λ (x : Scenario). Shows task x shown status) (one_scenario bytes s t r q) a) b
-    one_run task bytes shown other status other_status (Ok s) (Err fault) r q a b = absurd (scenario_or_fault bytes s fault r q)
-    one_run task bytes shown other status other_status (Err fault) (Ok t) r q a b = absurd (scenario_or_fault bytes t fault q r)
-    one_run task bytes shown other status other_status (Err fault) (Err other_fault) r q a b =
+    pub one_run : (view : View) (bytes shown other : List ℕ) (status other_status : ℕ) (read other_read : Result Scenario ScenarioFault) → ReadsAs bytes read → ReadsAs bytes other_read → RanOn view read shown status → RanOn view other_read other other_status → (shown ≡ other) × (status ≡ other_status)
+    one_run view bytes shown other status other_status (Ok s) (Ok t) r q a b =
+        same_shown view t shown other status other_status (subst (λ (x : Scenario). Shows view x shown status) (one_scenario bytes s t r q) a) b
+    one_run view bytes shown other status other_status (Ok s) (Err fault) r q a b = absurd (scenario_or_fault bytes s fault r q)
+    one_run view bytes shown other status other_status (Err fault) (Ok t) r q a b = absurd (scenario_or_fault bytes t fault q r)
+    one_run view bytes shown other status other_status (Err fault) (Err other_fault) r q a b =
         same_refused other_fault shown other status other_status (subst (λ (f : ScenarioFault). IsRefused f shown status) (one_fault bytes fault other_fault r q) a) b

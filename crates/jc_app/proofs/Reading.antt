@@ -1,5 +1,5 @@
 -- What a scenario's text tells of its scenario.
-use Rattle.std.proofs.Common.{◌≡◌, ◌≢◌, ℕ, ◌<◌, ◌≤◌, inl, inr, List, length, take, Some, None, Result, Ok, Err, IfOk, ap, sym, ◌∙◌, subst, arith}
+use Rattle.std.proofs.Common.{◌≡◌, ◌≢◌, ℕ, ◌<◌, ◌≤◌, inl, inr, List, length, take, Some, None, Result, Ok, Err, IfOk, IfErr, ap, sym, ◌∙◌, subst, arith}
 use Rattle.std.proofs.lemmas.Grind.{common_steps}
 use Rattle.std.proofs.lemmas.Option.{same_Some}
 use Rattle.jc_rules.specs.declared.refusal.Refusal.{Refusal}
@@ -9,7 +9,7 @@ use Rattle.jc_parser.specs.declared.fault.ScenarioFault.{ScenarioFault}
 use Rattle.jc_parser.specs.declared.fault.ScenarioFault.TheVariants as S
 use Rattle.jc_parser.specs.Faults.{number_of}
 use Rattle.jc_scenario.specs.Scenarios.{Scenario}
-use Rattle.jc_words.specs.declared.order.Task.{Task}
+use Rattle.jc_words.specs.declared.order.View.{View}
 use Rattle.jc_app.specs.Ran.{ReadsAs, Ran}
 
 -- each fault that has a number has that of a refusal
@@ -61,10 +61,14 @@ reads_whole n b v (Err fault) is e (inr h) =
     subst (λ (x : List ℕ). ReadsAs x (Err fault)) (short_front n b v e short) (inr h)
 
 -- a run on what was read is a run on the whole
-pub ran_whole : (task : Task) (n : ℕ) (b v out : List ℕ) (status : ℕ) → n ≡ 8388609 → v ≡ take n b → Ran task v out status → Ran task b out status
-ran_whole task n b v out status is e h = (h.0, reads_whole n b v h.0 is e h.1, h.2)
+pub ran_whole : (view : View) (n : ℕ) (b v out : List ℕ) (status : ℕ) → n ≡ 8388609 → v ≡ take n b → Ran view v out status → Ran view b out status
+ran_whole view n b v out status is e h = (h.0, reads_whole n b v h.0 is e h.1, h.2)
 
 -- more is known of an answer
 pub if_ok : {T E : Type 0} {P Q : T → Type 0} (r : Result T E) → ((v : T) → P v → Q v) → IfOk r P → IfOk r Q
 if_ok (Ok v) f h = f v h
 if_ok (Err e) f h = h
+
+pub if_err : {T E : Type 0} {P Q : E → Type 0} (r : Result T E) → ((e : E) → P e → Q e) → IfErr r P → IfErr r Q
+if_err (Ok v) f h = h
+if_err (Err e) f h = f e h

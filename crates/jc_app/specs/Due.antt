@@ -1,4 +1,4 @@
--- What a task writes, whole or up to a failure.
+-- What a view writes, whole or up to a failure.
 use Rattle.std.specs.Prelude.{◌≡◌, ℕ, ◌⊎◌, List, [], ◌++◌, Bool, take, Option, Result, Ok, Err, IfSome, codes, if◌then◌else◌}
 use Rattle.std.specs.Str.{bytes_eq}
 use Rattle.std.specs.Io.KnownBytes.{Appends}
@@ -12,8 +12,8 @@ use Rattle.jc_app.specs.Texts.{event_text}
 use Rattle.jc_app.specs.Runs.{Made, GoesBy, events_of, events_text}
 use Rattle.jc_scenario.specs.Scenarios.{Scenario}
 use Rattle.jc_network.specs.Laws.{starts}
-use Rattle.jc_words.specs.declared.order.Task.{Task}
-use Rattle.jc_words.specs.declared.order.Task.TheVariants.{Check, Print, Run}
+use Rattle.jc_words.specs.declared.order.View.{View}
+use Rattle.jc_words.specs.declared.order.View.TheVariants.{Check, Print, Run}
 use Rattle.jc_app.specs.Ran.{ReadsAs, RanThrough, Shows, IsRefused, Ran}
 
 -- a front of bs was appended, and perhaps the whole of it
@@ -49,8 +49,8 @@ IsRunDue trace s text =
     Begins trace s.names (starts s.scripts) s.schedule text
     ⊎ ((status : ℕ) × RanThrough trace s text status)
 
--- what a task shows of a scenario; of a run it may be what its first events show
-abbrev pub IsDueOf : Task → Scenario → List ℕ → Type 0
+-- what a view shows of a scenario; of a run it may be what its first events show
+abbrev pub IsDueOf : View → Scenario → List ℕ → Type 0
 IsDueOf Check s text = (status : ℕ) × Shows Check s text status
 IsDueOf Print s text = (status : ℕ) × Shows Print s text status
 IsDueOf (Run trace) s text = IsRunDue trace s text
@@ -59,27 +59,27 @@ IsDueOf (Run trace) s text = IsRunDue trace s text
 abbrev pub IsDueAt : ScenarioFault → List ℕ → Type 0
 IsDueAt fault text = (text ≡ []) ⊎ ((status : ℕ) × IsRefused fault text status)
 
-abbrev pub IsDueOn : Task → Result Scenario ScenarioFault → List ℕ → Type 0
-IsDueOn task (Ok s) text = IsDueOf task s text
-IsDueOn task (Err fault) text = IsDueAt fault text
+abbrev pub IsDueOn : View → Result Scenario ScenarioFault → List ℕ → Type 0
+IsDueOn view (Ok s) text = IsDueOf view s text
+IsDueOn view (Err fault) text = IsDueAt fault text
 
--- what a task on these bytes shows, whole or in part; or nothing, where it isn't known yet what they are
-abbrev pub IsDue : Task → List ℕ → List ℕ → Type 0
-IsDue task bytes text =
-    (text ≡ []) ⊎ ((read : Result Scenario ScenarioFault) × ReadsAs bytes read × IsDueOn task read text)
+-- what a view of these bytes shows, whole or in part; or nothing, where it isn't known yet what they are
+abbrev pub IsDue : View → List ℕ → List ℕ → Type 0
+IsDue view bytes text =
+    (text ≡ []) ⊎ ((read : Result Scenario ScenarioFault) × ReadsAs bytes read × IsDueOn view read text)
 
 -- these are the bytes, where they are told
 abbrev pub AreTold : Option (List ℕ) → List ℕ → Type 0
 AreTold told bytes = IfSome told (λ all. bytes ≡ all)
 
--- A task on the bytes that are told, to its end: its text was appended, and it ends with this status.
-abbrev pub HasRun : Task → Option (List ℕ) → Option (List ℕ) → Option (List ℕ) → ℕ → Type 0
-HasRun task told old new status =
-    (bytes : List ℕ) × (shown : List ℕ) × AreTold told bytes × Ran task bytes shown status × Appends old new shown
+-- A view of the bytes that are told, to its end: its text was appended, and it ends with this status.
+abbrev pub HasRun : View → Option (List ℕ) → Option (List ℕ) → Option (List ℕ) → ℕ → Type 0
+HasRun view told old new status =
+    (bytes : List ℕ) × (shown : List ℕ) × AreTold told bytes × Ran view bytes shown status × Appends old new shown
 
--- A task on the bytes that are told that failed: a front of what it shows was appended, and nothing else.
-abbrev pub HasBegun : Task → Option (List ℕ) → Option (List ℕ) → Option (List ℕ) → Type 0
-HasBegun task told old new = (bytes : List ℕ) × AreTold told bytes × AppendsFrontOf (IsDue task bytes) old new
+-- A view of the bytes that are told that failed: a front of what it shows was appended, and nothing else.
+abbrev pub HasBegun : View → Option (List ℕ) → Option (List ℕ) → Option (List ℕ) → Type 0
+HasBegun view told old new = (bytes : List ℕ) × AreTold told bytes × AppendsFrontOf (IsDue view bytes) old new
 
 -- What is told of the file that an order names: of standard input at `-`, and of the file of this name else.
 abbrev pub told_by : Option (List ℕ) → (List ℕ → Option (List ℕ)) → List ℕ → Option (List ℕ)

@@ -4,4 +4,6 @@ pub mod Ran
 pub mod Due
 pub mod Played
 pub mod Faults
+pub mod Talked
+pub mod Orders
 pub mod Laws

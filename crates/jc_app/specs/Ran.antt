@@ -1,4 +1,4 @@
--- The text and the status of a task on a scenario's bytes.
+-- The text and the status of a view of a scenario's bytes.
 use Rattle.std.specs.Prelude.{◌≡◌, ℕ, List, ◌++◌, Bool, Option, Some, Result, Ok, Err}
 use Rattle.jc_rules.specs.declared.refusal.Refusal.{Refusal}
 use Rattle.jc_rules.specs.Refusals.{number_of as refusal_number}
@@ -9,8 +9,8 @@ use Rattle.jc_scenario.specs.Scenarios.{Scenario, IsScenario}
 use Rattle.jc_scenario.specs.Faults.{IsFault}
 use Rattle.jc_scenario.specs.Canon.{canon}
 use Rattle.jc_network.specs.Laws.{starts}
-use Rattle.jc_words.specs.declared.order.Task.{Task}
-use Rattle.jc_words.specs.declared.order.Task.TheVariants.{Check, Print, Run}
+use Rattle.jc_words.specs.declared.order.View.{View}
+use Rattle.jc_words.specs.declared.order.View.TheVariants.{Check, Print, Run}
 use Rattle.jc_dump.specs.Texts.{refused_text}
 use Rattle.jc_app.specs.Texts.{counts_text}
 use Rattle.jc_dump.specs.Texts.{dumps_text}
@@ -40,16 +40,16 @@ pub record IsRefused (fault : ScenarioFault) (out : List ℕ) (status : ℕ) : T
   pub written : out ≡ refused_text refusal place
   pub ends : status ≡ 1
 
--- what a task shows of a scenario, and its status
-abbrev pub Shows : Task → Scenario → List ℕ → ℕ → Type 0
+-- what a view shows of a scenario, and its status
+abbrev pub Shows : View → Scenario → List ℕ → ℕ → Type 0
 Shows Check s out status = (out ≡ counts_text s) × (status ≡ 0)
 Shows Print s out status = (out ≡ canon s) × (status ≡ 0)
 Shows (Run trace) s out status = RanThrough trace s out status
 
-abbrev pub RanOn : Task → Result Scenario ScenarioFault → List ℕ → ℕ → Type 0
-RanOn task (Ok s) out status = Shows task s out status
-RanOn task (Err fault) out status = IsRefused fault out status
+abbrev pub RanOn : View → Result Scenario ScenarioFault → List ℕ → ℕ → Type 0
+RanOn view (Ok s) out status = Shows view s out status
+RanOn view (Err fault) out status = IsRefused fault out status
 
--- a task on these bytes writes this and ends with this status
-abbrev pub Ran : Task → List ℕ → List ℕ → ℕ → Type 0
-Ran task bytes out status = (read : Result Scenario ScenarioFault) × ReadsAs bytes read × RanOn task read out status
+-- a view of these bytes writes this and ends with this status
+abbrev pub Ran : View → List ℕ → List ℕ → ℕ → Type 0
+Ran view bytes out status = (read : Result Scenario ScenarioFault) × ReadsAs bytes read × RanOn view read out status

@@ -1,9 +1,10 @@
-//! `jsoncrdt`: checks, prints and runs scenarios.
+//! `jsoncrdt`: checks, prints, runs and debugs scenarios.
 #![tactic(auto)]
 
 mod files;
 mod laws;
 mod run;
+mod sessions;
 mod texts;
 mod words;
 mod work;

@@ -4,6 +4,7 @@ mod called;
 mod commands;
 mod examples;
 mod scenarios;
+mod sessions;
 mod whole_runs;
 
 use std::process::Abort;

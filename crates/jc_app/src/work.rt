@@ -1,26 +1,29 @@
 //! The program's work, from bytes to printed lines.
 
-ghost use Rattle.std.specs.Prelude.{◌≡◌, ◌≢◌, ◌<◌, ◌≤◌, ◌⊎◌, ℕ, List, map, string_bytes, vec_len, codes, Some, None, IfOk, OnOk, OnErr, IsErrOf};
+ghost use Rattle.std.specs.Prelude.{◌≡◌, ◌≢◌, ◌<◌, ◌≤◌, ◌⊎◌, ℕ, List, map, string_bytes, vec_len, codes, Some, None, Ok, IfOk, IfErr, OnOk, OnErr, IsErrOf};
 ghost use Rattle.std.specs.Io.KnownBytes.{Appends};
 ghost use Rattle.jc_rules.specs.Told.{IsFront, LosesUpTo};
 ghost use Rattle.jc_parser.specs.declared.fault.ScenarioFault.TheVariants.{Memory as NoMemoryRead};
 ghost use Rattle.jc_scenario.specs.Scenarios.{IsWellFormed};
 ghost use Rattle.jc_scenario.specs.Views.{scenario_view};
 ghost use Rattle.jc_words.specs.declared.order.Order.{Order};
-ghost use Rattle.jc_words.specs.Words.{words_order, AsksHelp, MayAskHelp};
+ghost use Rattle.jc_words.specs.Words.{words_order, AsksHelp};
 ghost use Rattle.jc_app.specs.Ran.{Ran, RanThrough, Shows, IsRefused};
 ghost use Rattle.jc_app.specs.Due.{AppendsUpTo, AppendsFrontOf, IsRunDue, IsDueOf, IsDueAt, IsDue, HasRun, HasBegun, told_by};
-ghost use Rattle.jc_app.specs.Faults.{fault_status, fault_line, IsEndOf, IsUnread};
+ghost use Rattle.jc_app.specs.Faults.{fault_status, fault_line, IsCause, IsEndOf, IsUnread};
+ghost use Rattle.jc_app.specs.Orders.{IsDone, IsStopped};
+ghost use Rattle.jc_app.specs.Talked.{lines_by};
 
 use crate::files::Files;
 use crate::run::{RunFault, play, send, send_dumps};
+use crate::sessions::debug;
 use crate::texts::counts_of;
 use jc_dump::{refused_text, stuck_text};
 use jc_network::Net;
 use jc_rules::Refusal;
 use jc_rules::io::{ReadFault, Sink, Source, read_up_to, write_all};
 use jc_scenario::{Scenario, ScenarioFault, print, read};
-use jc_words::{Order, Task, WordsFault, order_of};
+use jc_words::{Order, Task, View, WordsFault, order_of};
 use std::alloc::Global;
 
 /// One byte more than a scenario's text may have.
@@ -77,50 +80,50 @@ fn run_through<K: Sink>(
     }
 }
 
-/// Does the task on a scenario: writes what it shows, and answers its status.
+/// Writes what a view shows of a scenario, and answers its status.
 fn show<K: Sink>(
     alloc: Global,
-    task: Task,
+    view: View,
     scenario: &Scenario,
     out: &mut K,
 ) -> Result<u8, RunFault>
     requires { IsWellFormed (scenario_view scenario.now) }
     ensures ok { IfOk result (λ status.
         (shown : List ℕ)
-        × Shows task (scenario_view scenario.now) shown status
+        × Shows view (scenario_view scenario.now) shown status
         × Appends (K.taken out.old) (K.taken out.new) shown) }
     ensures begun { OnErr result
-        (AppendsFrontOf (IsDueOf task (scenario_view scenario.now)) (K.taken out.old) (K.taken out.new)) }
+        (AppendsFrontOf (IsDueOf view (scenario_view scenario.now)) (K.taken out.old) (K.taken out.new)) }
     ensures same { OnOk result (K.failures out.new ≡ K.failures out.old) }
     ensures memory { IsErrOf result RunFault.Memory → K.failures out.new ≡ K.failures out.old }
     ensures write { IsErrOf result RunFault.Write → K.failures out.old < K.failures out.new }
 {
-    match task {
-        Task::Check => {
+    match view {
+        View::Check => {
             let line = counts_of(alloc, scenario)?;
             send(out, line.as_str())?;
             Ok(0)
         }
-        Task::Print => {
+        View::Print => {
             let text = print(alloc, scenario)?;
             send(out, text.as_str())?;
             Ok(0)
         }
-        Task::Run { trace } => run_through(alloc, scenario, trace, out),
+        View::Run { trace } => run_through(alloc, scenario, trace, out),
     }
 }
 
-/// Does the task on a scenario's text: writes what it shows, and answers its status.
-fn show_text<K: Sink>(alloc: Global, task: Task, text: &[u8], out: &mut K) -> Result<u8, RunFault>
+/// Writes what a view shows of a scenario's text, and answers its status.
+fn show_text<K: Sink>(alloc: Global, view: View, text: &[u8], out: &mut K) -> Result<u8, RunFault>
     ensures ok { IfOk result (λ status.
-        (shown : List ℕ) × Ran task text.now shown status × Appends (K.taken out.old) (K.taken out.new) shown) }
-    ensures begun { OnErr result (AppendsFrontOf (IsDue task text.now) (K.taken out.old) (K.taken out.new)) }
+        (shown : List ℕ) × Ran view text.now shown status × Appends (K.taken out.old) (K.taken out.new) shown) }
+    ensures begun { OnErr result (AppendsFrontOf (IsDue view text.now) (K.taken out.old) (K.taken out.new)) }
     ensures same { OnOk result (K.failures out.new ≡ K.failures out.old) }
     ensures memory { IsErrOf result RunFault.Memory → K.failures out.new ≡ K.failures out.old }
     ensures write { IsErrOf result RunFault.Write → K.failures out.old < K.failures out.new }
 {
     match read(alloc, text) {
-        Ok(scenario) => show(alloc, task, &scenario, out),
+        Ok(scenario) => show(alloc, view, &scenario, out),
         Err(fault) => refuse(alloc, &fault, out),
     }
 }
@@ -132,6 +135,8 @@ pub enum WorkFault {
     Read,
     /// A write failed.
     Write,
+    /// A session had more lines than it may have.
+    TooManyLines,
     /// There was no memory.
     Memory,
 }
@@ -143,6 +148,7 @@ impl WorkFault {
         match self {
             WorkFault::Read => "read failed\n",
             WorkFault::Write => "write failed\n",
+            WorkFault::TooManyLines => "too many lines\n",
             WorkFault::Memory => "no memory\n",
         }
     }
@@ -153,6 +159,7 @@ impl WorkFault {
         match self {
             WorkFault::Read => 4,
             WorkFault::Write => 4,
+            WorkFault::TooManyLines => 4,
             WorkFault::Memory => 5,
         }
     }
@@ -168,7 +175,7 @@ pub fn end<E: Sink>(fault: WorkFault, err: &mut E) -> u8
 }
 
 /// The text that an order names, up to its end or one byte past the longest that a scenario has.
-fn text_of<R: AllocGlobal + Files, I: Source>(
+pub fn text_of<R: AllocGlobal + Files, I: Source>(
     rt: &R,
     file: &str,
     input: &mut I,
@@ -190,6 +197,37 @@ fn text_of<R: AllocGlobal + Files, I: Source>(
     }
 }
 
+/// Writes what a view shows of the scenario in a file, and answers its status.
+fn show_file<R: AllocGlobal + Files, I: Source, K: Sink>(
+    rt: &R,
+    view: View,
+    file: &str,
+    input: &mut I,
+    out: &mut K,
+) -> Result<u8, WorkFault>
+    ensures ran { IfOk result (HasRun view (told_by (I.left input.old) (R.texts rt.now) file.now)
+        (K.taken out.old) (K.taken out.new)) }
+    ensures begun { OnErr result (HasBegun view (told_by (I.left input.old) (R.texts rt.now) file.now)
+        (K.taken out.old) (K.taken out.new)) }
+    ensures most { LosesUpTo 8388609 (I.left input.old) (I.left input.new) }
+    ensures untouched { file.now ≢ codes "-" → input.new ≡ input.old }
+    ensures same { OnOk result
+        ((I.failures input.new ≡ I.failures input.old) × (K.failures out.new ≡ K.failures out.old)) }
+    ensures cause { IfErr result (λ fault. IsCause fault (IsUnread (R.may_fail rt.now) file.now)
+        (I.failures input.old) (I.failures input.new) (K.failures out.old) (K.failures out.new)) }
+{
+    let text = match text_of(rt, file, input) {
+        Ok(text) => text,
+        Err(ReadFault::Failed) => return Err(WorkFault::Read),
+        Err(ReadFault::Memory) => return Err(WorkFault::Memory),
+    };
+    match show_text(rt.alloc(), view, &text, out) {
+        Ok(status) => Ok(status),
+        Err(RunFault::Write) => Err(WorkFault::Write),
+        Err(RunFault::Memory) => Err(WorkFault::Memory),
+    }
+}
+
 /// Carries an order out, and answers its status.
 fn carry_out<R: AllocGlobal + Files, I: Source, K: Sink>(
     rt: &R,
@@ -197,31 +235,25 @@ fn carry_out<R: AllocGlobal + Files, I: Source, K: Sink>(
     input: &mut I,
     out: &mut K,
 ) -> Result<u8, WorkFault>
-    ensures ran { IfOk result (HasRun order.now.task
-        (told_by (I.left input.old) (R.texts rt.now) order.now.file) (K.taken out.old) (K.taken out.new)) }
-    ensures begun { OnErr result (HasBegun order.now.task
-        (told_by (I.left input.old) (R.texts rt.now) order.now.file) (K.taken out.old) (K.taken out.new)) }
-    ensures most { LosesUpTo 8388609 (I.left input.old) (I.left input.new) }
-    ensures untouched { order.now.file ≢ codes "-" → input.new ≡ input.old }
+    ensures done { IfOk result (IsDone order.now.task
+        (told_by (I.left input.old) (R.texts rt.now) order.now.file) (lines_by (I.left input.old) order.now.file)
+        (K.taken out.old) (K.taken out.new)) }
+    ensures stopped { IfErr result (λ fault. IsStopped order.now.task fault
+        (told_by (I.left input.old) (R.texts rt.now) order.now.file) (lines_by (I.left input.old) order.now.file)
+        (lines_by (I.left input.new) order.now.file) (K.taken out.old) (K.taken out.new)) }
+    ensures most { (order.now.task ≢ Task.Debug) ⊎ (order.now.file ≡ codes "-")
+        → LosesUpTo 8388609 (I.left input.old) (I.left input.new) }
+    ensures untouched { (order.now.task ≢ Task.Debug) ⊎ (result ≡ Ok 1)
+        → order.now.file ≢ codes "-"
+        → input.new ≡ input.old }
     ensures same { OnOk result
         ((I.failures input.new ≡ I.failures input.old) × (K.failures out.new ≡ K.failures out.old)) }
-    ensures read { IsErrOf result WorkFault.Read
-        → ((I.failures input.old < I.failures input.new) ⊎ IsUnread (R.may_fail rt.now) order.now.file)
-        × (K.failures out.new ≡ K.failures out.old) }
-    ensures write { IsErrOf result WorkFault.Write
-        → (I.failures input.new ≡ I.failures input.old) × (K.failures out.old < K.failures out.new) }
-    ensures memory { IsErrOf result WorkFault.Memory
-        → (I.failures input.new ≡ I.failures input.old) × (K.failures out.new ≡ K.failures out.old) }
+    ensures cause { IfErr result (λ fault. IsCause fault (IsUnread (R.may_fail rt.now) order.now.file)
+        (I.failures input.old) (I.failures input.new) (K.failures out.old) (K.failures out.new)) }
 {
-    let text = match text_of(rt, order.file.as_str(), input) {
-        Ok(text) => text,
-        Err(ReadFault::Failed) => return Err(WorkFault::Read),
-        Err(ReadFault::Memory) => return Err(WorkFault::Memory),
-    };
-    match show_text(rt.alloc(), order.task, &text, out) {
-        Ok(status) => Ok(status),
-        Err(RunFault::Write) => Err(WorkFault::Write),
-        Err(RunFault::Memory) => Err(WorkFault::Memory),
+    match order.task {
+        Task::Show(view) => show_file(rt, view, order.file.as_str(), input, out),
+        Task::Debug => debug(rt, order.file.as_str(), input, out),
     }
 }
 
@@ -252,8 +284,11 @@ fn explain<K: Sink, E: Sink>(fault: &WordsFault, out: &mut K, err: &mut E) -> u8
 /// The program but for what waits. The words are those after the program's name; without words it
 /// does `run --trace -`. It carries out the order that they are, and answers its status: 0 where it
 /// is done, 1 where the text was refused, 3 where an event was stuck, 4 where a read or a write
-/// failed, 5 where there was no memory. Where the file of the order is `-` the text is that of the
-/// input. Of a text at most 8,388,609 bytes are read.
+/// failed or a session had too many lines, 5 where there was no memory. Where the file of the order
+/// is `-` the text is that of the input. Of a text at most 8,388,609 bytes are read.
+///
+/// A session reads its lines from the input, and answers each before it reads the next. Where the
+/// file is `-` it has no line.
 ///
 /// After 4 or 5 the output has a front of what the order shows, and `err` the line of the fault, as
 /// much of it as it took: its own failures change nothing.
@@ -272,54 +307,56 @@ pub fn work_alone<R: AllocGlobal + Files, I: Source, K: Sink, E: Sink>(
     // An order is never a fault of the words. If nothing failed and memory was there, what the order
     // shows was written, and its status is the answer.
     ensures order { (order : Order) → words_order (map string_bytes words.now) ≡ Some order → result ≢ Some 2 }
-    ensures ran { (order : Order)
+    ensures done { (order : Order)
         → words_order (map string_bytes words.now) ≡ Some order
         → result ≢ Some 4
         → result ≢ Some 5
         → (status : ℕ)
         × (result ≡ Some status)
-        × HasRun order.task (told_by (I.left input.old) (R.texts rt.now) order.file)
-        (K.taken out.old) (K.taken out.new) status }
+        × IsDone order.task (told_by (I.left input.old) (R.texts rt.now) order.file)
+        (lines_by (I.left input.old) order.file) (K.taken out.old) (K.taken out.new) status }
 
-    // Else a front of it was.
-    ensures begun { (order : Order)
+    // Else there is a fault. Its status is the answer, the error's sink has its line, and a front of
+    // what the order shows was written.
+    ensures stopped { (order : Order)
         → words_order (map string_bytes words.now) ≡ Some order
         → (result ≡ Some 4) ⊎ (result ≡ Some 5)
-        → HasBegun order.task (told_by (I.left input.old) (R.texts rt.now) order.file)
+        → (fault : WorkFault)
+        × (result ≡ Some (fault_status fault))
+        × AppendsUpTo (E.taken err.old) (E.taken err.new) (fault_line fault)
+        × IsCause fault (IsUnread (R.may_fail rt.now) order.file)
+        (I.failures input.old) (I.failures input.new) (K.failures out.old) (K.failures out.new)
+        × IsStopped order.task fault (told_by (I.left input.old) (R.texts rt.now) order.file)
+        (lines_by (I.left input.old) order.file) (lines_by (I.left input.new) order.file)
         (K.taken out.old) (K.taken out.new) }
 
     // Words that are no order are help, or a fault of the command line.
     ensures help { AsksHelp (map string_bytes words.now)
         → (result ≡ Some 0) ⊎ ((result ≡ Some 4) ⊎ (result ≡ Some 5)) }
+    ensures lost { words_order (map string_bytes words.now) ≡ None
+        → result ≡ Some 4
+        → (K.failures out.old < K.failures out.new)
+        × AppendsUpTo (E.taken err.old) (E.taken err.new) (codes "write failed\n") }
     ensures faulty { words_order (map string_bytes words.now) ≡ None
-        → (MayAskHelp (map string_bytes words.now) → ⊥)
+        → (AsksHelp (map string_bytes words.now) → ⊥)
         → (result ≡ Some 2) ⊎ (result ≡ Some 5) }
     ensures silent { (result ≡ Some 2) → out.new ≡ out.old }
 
-    // Standard input is read where the order names it, and then in part at most.
+    // Standard input is read where the order names it, and by a session. Of a text it is read in part at most.
     ensures unread { words_order (map string_bytes words.now) ≡ None → input.new ≡ input.old }
     ensures other_file { (order : Order)
         → words_order (map string_bytes words.now) ≡ Some order
+        → (order.task ≢ Task.Debug) ⊎ (result ≡ Some 1)
         → order.file ≢ codes "-"
         → input.new ≡ input.old }
-    ensures most { LosesUpTo 8388609 (I.left input.old) (I.left input.new) }
+    ensures most { (order : Order)
+        → words_order (map string_bytes words.now) ≡ Some order
+        → (order.task ≢ Task.Debug) ⊎ (order.file ≡ codes "-")
+        → LosesUpTo 8388609 (I.left input.old) (I.left input.new) }
 
-    // The status is 4 where a read or a write failed, and nowhere else.
+    // Failures come with the status 4 alone.
     ensures failed { result ≢ Some 4
         → (I.failures input.new ≡ I.failures input.old) × (K.failures out.new ≡ K.failures out.old) }
-    ensures only_failed { result ≡ Some 4
-        → (I.failures input.old < I.failures input.new)
-        ⊎ ((K.failures out.old < K.failures out.new)
-        ⊎ ((order : Order)
-        × (words_order (map string_bytes words.now) ≡ Some order)
-        × IsUnread (R.may_fail rt.now) order.file)) }
-
-    // The error's sink has the line of the fault, and nothing where there is none.
-    ensures read_line { result ≡ Some 4
-        → K.failures out.new ≡ K.failures out.old
-        → AppendsUpTo (E.taken err.old) (E.taken err.new) (codes "read failed\n") }
-    ensures write_line { K.failures out.old < K.failures out.new
-        → AppendsUpTo (E.taken err.old) (E.taken err.new) (codes "write failed\n") }
     ensures memory_line { result ≡ Some 5 → AppendsUpTo (E.taken err.old) (E.taken err.new) (codes "no memory\n") }
     ensures quiet { result ≢ Some 2 → result ≢ Some 4 → result ≢ Some 5 → err.new ≡ err.old }
 {

@@ -1,8 +1,8 @@
 -- What words are taken for, by what they matched.
-use Rattle.std.proofs.Common.{◌≡◌, ◌≢◌, ◌⊎◌, ℕ, List, [], ◌∷◌, subst, Bool, true, false, Option, Some, None, Box, option_map, refl, ap, sym, ◌∙◌, inl, inr, codes, length, map}
+use Rattle.std.proofs.Common.{◌≡◌, ◌≢◌, ◌⊎◌, List, [], ◌∷◌, subst, true, Option, Some, None, Box, option_map, refl, ap, sym, ◌∙◌, inl, inr, codes, length, map}
 use Rattle.std.specs.Box.{box_value}
 use Rattle.std.specs.Option.{option_and_then}
-use Rattle.clap.specs.Words.{App, IsAmong, Kinds, Row, Text, fault_of, subcommand_of, subcommand_name_of, subcommand_rows_of}
+use Rattle.clap.specs.Words.{IsAmong, Kinds, Row, Text, fault_of, subcommand_of, subcommand_name_of, subcommand_rows_of}
 use Rattle.clap.specs.Simple.{subcommand_rows}
 use Rattle.clap.specs.declared.error.kind.ErrorKind.{ErrorKind}
 use Rattle.clap.specs.declared.error.kind.ErrorKind.TheVariants.{DisplayHelp, OutOfMemory}
@@ -11,9 +11,11 @@ use Rattle.clap.specs.declared.parser.matches.ArgMatches.TheViews.{out-ArgMatche
 use Rattle.clap.specs.declared.parser.matches.SubCommand.{SubCommand}
 use Rattle.jc_words.specs.Program.{program}
 use Rattle.jc_words.specs.Words.{order_by, order_in, with_file, words_order, AsksHelp, IsWordsFault, IsFaultBy}
+use Rattle.jc_words.proofs.Helping.{help_alone}
 use Rattle.jc_words.proofs.Literals.{none_wanted}
 use Rattle.jc_words.specs.declared.order.Task.{Task}
-use Rattle.jc_words.specs.declared.order.Task.TheVariants.{Run}
+use Rattle.jc_words.specs.declared.order.Task.TheVariants.{Show}
+use Rattle.jc_words.specs.declared.order.View.TheVariants.{Run}
 use Rattle.jc_words.specs.declared.order.Order.{Order}
 use Rattle.jc_words.specs.declared.fault.WordsFault.{WordsFault}
 use Rattle.jc_words.specs.declared.fault.WordsFault.TheVariants.{Help, Usage, Memory}
@@ -56,7 +58,7 @@ no_words_order k (w ∷ ws) some among = no_order k (fault_of program (w ∷ ws)
 pub faulty : (k : ErrorKind) (words : List Text) (fault : WordsFault) → words ≢ [] → (k ≡ OutOfMemory) ⊎ IsAmong k (fault_of program words) → IsFaultBy k fault → IsWordsFault words fault
 faulty k words Memory some why by = tt
 faulty k words (Help text) some (inl memory) help = let bad : OutOfMemory ≡ DisplayHelp = sym memory ∙ help in cc
-faulty k words (Help text) some (inr among) help = (no_words_order k words some among, subst (λ (x : ErrorKind). IsAmong x (fault_of program words)) help among)
+faulty k words (Help text) some (inr among) help = (no_words_order k words some among, help_alone words (subst (λ (x : ErrorKind). IsAmong x (fault_of program words)) help among))
 faulty k words (Usage text) some (inl memory) (no_help, no_memory) = absurd (no_memory memory)
 faulty k words (Usage text) some (inr among) (no_help, no_memory) = (no_words_order k words some among, λ asks. no_help (among_one k (fault_of program words) among asks))
 
@@ -72,9 +74,9 @@ no_file None = refl
 no_file (Some task) = refl
 
 -- no words
-pub unsaid : (words : List Text) (file : Text) → words ≡ [] → file ≡ codes "-" → words_order words ≡ Some (record { task = Run true; file = file })
+pub unsaid : (words : List Text) (file : Text) → words ≡ [] → file ≡ codes "-" → words_order words ≡ Some (record { task = Show (Run true); file = file })
 unfolding words_order
-unsaid [] file e f = ap (λ (x : Text). Some (record { task = Run true; file = x })) (sym f)
+unsaid [] file e f = ap (λ (x : Text). Some (record { task = Show (Run true); file = x })) (sym f)
 unsaid (w ∷ ws) file e f = cc
 
 pub none_said : {X : Type 0} (f : X → Text) (xs : List X) → length xs ≡ 0 → map f xs ≡ []

@@ -1,2 +1,3 @@
 mod Commands
 mod Literals
+mod Helping

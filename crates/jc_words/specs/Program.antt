@@ -1,5 +1,5 @@
 -- The command line, as it is defined to its parser.
-use Rattle.std.specs.Prelude.{◌≡◌, true, false, Some, codes, [], ◌∷◌, List}
+use Rattle.std.specs.Prelude.{◌≡◌, true, false, Some, codes, []}
 use Rattle.clap.specs.Words.{App, Rule, Shape, Text, new_app, new_rule, with_rule, with_subcommand}
 use Rattle.clap.specs.declared.builder.command.Command.{Command}
 use Rattle.clap.specs.declared.builder.command.Command.TheViews.{out-Command}
@@ -32,5 +32,5 @@ bare = record { top = bare_shape (new_app (codes "jsoncrdt")).top; subs = [] }
 
 unfoldable pub program : App
 program =
-    with_subcommand (with_subcommand (with_subcommand bare
-    (plain_app (codes "check")).top) (plain_app (codes "print")).top) run_app.top
+    with_subcommand (with_subcommand (with_subcommand (with_subcommand bare
+    (plain_app (codes "check")).top) (plain_app (codes "print")).top) run_app.top) (plain_app (codes "debug")).top

@@ -1,14 +1,15 @@
 -- What the words are taken for that the program is called with.
-use Rattle.std.specs.Prelude.{◌≡◌, ◌≢◌, ℕ, List, [], ◌∷◌, Bool, true, Option, Some, None, codes, if◌then◌else◌, unwrap_or, option_map}
+use Rattle.std.specs.Prelude.{◌≡◌, ◌≢◌, List, [], ◌∷◌, Bool, true, Option, Some, None, codes, if◌then◌else◌, unwrap_or}
 use Rattle.std.specs.Option.{option_and_then}
 use Rattle.std.specs.Str.{bytes_eq}
-use Rattle.clap.specs.Words.{IsAmong, Kinds, Row, Text, fault_of, first_of, subcommand_of}
+use Rattle.clap.specs.Words.{Kinds, Row, Text, fault_of, first_of, subcommand_of}
 use Rattle.clap.specs.declared.error.kind.ErrorKind.{ErrorKind}
 use Rattle.clap.specs.declared.error.kind.ErrorKind.TheVariants.{DisplayHelp, OutOfMemory}
 use Rattle.jc_words.specs.Program.{program}
 use Rattle.jc_words.specs.declared.order.Order.{Order}
 use Rattle.jc_words.specs.declared.order.Task.{Task}
-use Rattle.jc_words.specs.declared.order.Task.TheVariants.{Check, Print, Run}
+use Rattle.jc_words.specs.declared.order.Task.TheVariants.{Show, Debug}
+use Rattle.jc_words.specs.declared.order.View.TheVariants.{Check, Print, Run}
 use Rattle.jc_words.specs.declared.fault.WordsFault.{WordsFault}
 use Rattle.jc_words.specs.declared.fault.WordsFault.TheVariants.{Help, Usage, Memory}
 
@@ -18,10 +19,11 @@ is_traced rows = bytes_eq (unwrap_or (first_of (codes "trace") rows) []) (codes 
 -- the task of the command with this name, by what the words gave its arguments
 abbrev pub task_in : Text → List Row → Option Task
 task_in name rows =
-    if bytes_eq name (codes "check") then Some Check
-    else (if bytes_eq name (codes "print") then Some Print
-    else (if bytes_eq name (codes "run") then Some (Run (is_traced rows))
-    else None))
+    if bytes_eq name (codes "check") then Some (Show Check)
+    else (if bytes_eq name (codes "print") then Some (Show Print)
+    else (if bytes_eq name (codes "run") then Some (Show (Run (is_traced rows)))
+    else (if bytes_eq name (codes "debug") then Some Debug
+    else None)))
 
 abbrev pub with_file : Option Task → Option Text → Option Order
 with_file (Some task) (Some file) = Some (record { task = task; file = file })
@@ -38,20 +40,16 @@ order_by (k ∷ kinds) s = None
 
 -- What words are taken for; no words are `run --trace -`.
 unfoldable pub words_order : List Text → Option Order
-words_order [] = Some (record { task = Run true; file = codes "-" })
+words_order [] = Some (record { task = Show (Run true); file = codes "-" })
 words_order (w ∷ ws) = order_by (fault_of program (w ∷ ws)) (subcommand_of program (w ∷ ws))
 
--- the words may be a call for help
-abbrev pub MayAskHelp : List Text → Type 0
-MayAskHelp words = IsAmong DisplayHelp (fault_of program words)
-
--- the words are a call for help, and have no other fault
+-- the words are a call for help; they have no other fault then
 abbrev pub AsksHelp : List Text → Type 0
 AsksHelp words = fault_of program words ≡ DisplayHelp ∷ []
 
 -- why the words are no order
 abbrev pub IsWordsFault : List Text → WordsFault → Type 0
-IsWordsFault words (Help text) = (words_order words ≡ None) × MayAskHelp words
+IsWordsFault words (Help text) = (words_order words ≡ None) × AsksHelp words
 IsWordsFault words (Usage text) = (words_order words ≡ None) × (AsksHelp words → ⊥)
 IsWordsFault words Memory = Unit {0}
 

@@ -4,7 +4,7 @@ ghost use Rattle.std.specs.Prelude.{◌≡◌, IfOk, false};
 ghost use Rattle.clap.specs.Words.{app_of, rule_of, new_app, with_rule};
 ghost use Rattle.jc_words.specs.Program.{IsLocal, file_rule, plain_app, run_app, program};
 
-use crate::help::{CHECK, PRINT, PROGRAM, RUN};
+use crate::help::{CHECK, DEBUG, PRINT, PROGRAM, RUN};
 use clap::{Arg, ArgAction, Command};
 use std::alloc::{AllocError, Global};
 
@@ -67,11 +67,20 @@ pub(crate) fn definition<'a>(alloc: Global) -> Result<Command<'a>, AllocError>
         PRINT,
     )?;
     let run = run(alloc)?;
+    let debug = plain(
+        alloc,
+        "debug",
+        "Answer the lines of standard input, which go through the schedule and look at the states",
+        DEBUG,
+    )?;
     let top = Command::new(alloc, "jsoncrdt")
         .about("Runs scenarios of a replicated JSON document, and shows each rule that is used")
         .after_help(PROGRAM)
         .no_binary_name(true)
         .disable_help_subcommand(true)
         .subcommand_required(true);
-    top.subcommand(check)?.subcommand(print)?.subcommand(run)
+    top.subcommand(check)?
+        .subcommand(print)?
+        .subcommand(run)?
+        .subcommand(debug)
 }

@@ -17,7 +17,7 @@ Statuses:\n  \
 1  the scenario's text was refused; the line printed says why and where\n  \
 2  the words are no command\n  \
 3  an event was stuck, since no rule allows it; the last line says why\n  \
-4  a read or a write failed\n  \
+4  a read or a write failed, or a session had too many lines\n  \
 5  there was no memory";
 
 /// The help of `check`.
@@ -75,4 +75,41 @@ Statuses:\n  \
 2  the words are no command\n  \
 3  an event was stuck, since no rule allows it; the last line says why\n  \
 4  a read or a write failed\n  \
+5  there was no memory";
+
+/// The help of `debug`.
+pub(crate) const DEBUG: &str = "A scenario is a text with a script of commands for each replica,\n\
+and a schedule of the events that run them.\n\
+\n\
+Lines, where N is a number:\n  \
+step [N], back [N]   make the next N events, or take back the last; one without N\n  \
+goto N               go to the position after event N\n  \
+run                  make events up to a breakpoint, a stuck event or the end\n  \
+act EVENT            make this event, and cut the schedule there\n  \
+break at N, break rule NAME, break replica NAME\n                       \
+set a breakpoint\n  \
+unbreak N            clear the breakpoint of this number\n  \
+state [NAME]         the state of each replica, or of one\n  \
+trace                the rules that the last event used\n  \
+enabled              the events that could be made now\n  \
+compare NAME NAME    whether two replicas applied the same operations, and have one tree\n  \
+schedule             the events of the schedule\n  \
+where                the position, and how many events there are\n  \
+quit                 end, as the end of the input does\n\
+Each is answered before the next is read. With the file - there is no line.\n\
+\n\
+Example, where the file `one` has the text of a scenario:\n  \
+jsoncrdt 1 replica a { doc.get(\"a\") := 1 } schedule { a.exec }\n\
+Then\n  \
+printf 'step\\nwhere\\nstate\\n' | jsoncrdt debug one\n\
+prints\n  \
+at 1\n  \
+at 1 of 1\n  \
+{\"acted\":false,\"left\":0,\"name\":\"a\",\"ops\":[\"1@a\"],\"queue\":[\"1@a\"],\"recv\":[],\"send\":[],\"tree\":{\"mapT(doc)\":{\"pres(\\\"a\\\")\":[\"1@a\"],\"regT(\\\"a\\\")\":{\"1@a\":{\"n\":\"1\"}}},\"pres(doc)\":[\"1@a\"]},\"vars\":{}}\n\
+\n\
+Statuses:\n  \
+0  done, also after help\n  \
+1  the scenario's text was refused; the line printed says why and where\n  \
+2  the words are no command\n  \
+4  a read or a write failed, or there were more than 1,000,000 lines or 67,108,864 bytes of them\n  \
 5  there was no memory";

@@ -8,5 +8,5 @@ mod order;
 mod reading;
 
 pub use fault::WordsFault;
-pub use order::{Order, Task};
+pub use order::{Order, Task, View};
 pub use reading::order_of;

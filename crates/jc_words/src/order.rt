@@ -2,18 +2,27 @@
 
 use jc_rules::Text;
 
-/// What is done with a scenario.
+/// What is shown of a scenario.
 #[derive(Clone, Copy, Debug, PartialEq, Eq)]
-pub enum Task {
-    /// Say how many replicas, commands and events it has.
+pub enum View {
+    /// How many replicas, commands and events it has.
     Check,
-    /// Print its canonical text.
+    /// Its canonical text.
     Print,
-    /// Make the events of its schedule, and show the replicas' states.
+    /// The replicas' states after the events of its schedule.
     Run {
         /// Whether the rules of each event are shown too.
         trace: bool,
     },
+}
+
+/// What is done with a scenario.
+#[derive(Clone, Copy, Debug, PartialEq, Eq)]
+pub enum Task {
+    /// Show this of it.
+    Show(View),
+    /// Answer the lines of standard input, each about its run.
+    Debug,
 }
 
 /// A task, and the file with the scenario's text. The file `-` is standard input.

@@ -9,7 +9,7 @@ ghost use Rattle.jc_words.specs.Words.{is_traced, task_in, order_in, words_order
 
 use crate::definition::definition;
 use crate::fault::{WordsFault, fault_by};
-use crate::order::{Order, Task};
+use crate::order::{Order, Task, View};
 use clap::{ArgMatches, Error};
 use jc_rules::Text;
 use std::alloc::{AllocError, Global};
@@ -45,11 +45,12 @@ fn task_of(name: &str, matches: &ArgMatches<'_>) -> Option<Task>
     ensures { result ≡ task_in name.now (rows_of (found_of matches.now)) }
 {
     match name {
-        "check" => Some(Task::Check),
-        "print" => Some(Task::Print),
-        "run" => Some(Task::Run {
+        "check" => Some(Task::Show(View::Check)),
+        "print" => Some(Task::Show(View::Print)),
+        "run" => Some(Task::Show(View::Run {
             trace: has_trace(matches),
-        }),
+        })),
+        "debug" => Some(Task::Debug),
         _ => None,
     }
 }
@@ -78,15 +79,14 @@ fn order_matched(alloc: Global, matches: &ArgMatches<'_>) -> Result<Option<Order
 pub fn order_of(alloc: Global, words: &[String]) -> Result<Order, WordsFault>
     // What is answered is what they are taken for.
     ensures ok { IfOk result (λ order. words_order (map string_bytes words.now) ≡ Some order) }
-    // What is refused is no order; it is help only where that is asked for, and a fault only where
-    // help alone isn't.
+    // What is refused is no order; it is help where that is asked for, and else a fault.
     ensures err { IfErr result (IsWordsFault (map string_bytes words.now)) }
     ensures help { AsksHelp (map string_bytes words.now) → IsErr result }
 {
     if words.is_empty() {
         let file = copied(alloc, "-")?;
         return Ok(Order {
-            task: Task::Run { trace: true },
+            task: Task::Show(View::Run { trace: true }),
             file,
         });
     }

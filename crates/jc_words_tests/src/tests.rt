@@ -1,4 +1,4 @@
-use jc_words::{Order, Task, WordsFault, order_of};
+use jc_words::{Order, Task, View, WordsFault, order_of};
 use std::alloc::{AllocError, Global};
 use std::process::Abort;
 
@@ -9,6 +9,7 @@ enum Taken {
     Print,
     Run,
     RunWithTrace,
+    Debug,
     Help,
     Usage,
     Memory,
@@ -25,10 +26,11 @@ fn said(alloc: Global, words: &[&str]) -> Result<Vec<String>, AllocError> {
 
 fn task_of(order: &Order) -> Taken {
     match order.task {
-        Task::Check => Taken::Check,
-        Task::Print => Taken::Print,
-        Task::Run { trace: false } => Taken::Run,
-        Task::Run { trace: true } => Taken::RunWithTrace,
+        Task::Show(View::Check) => Taken::Check,
+        Task::Show(View::Print) => Taken::Print,
+        Task::Show(View::Run { trace: false }) => Taken::Run,
+        Task::Show(View::Run { trace: true }) => Taken::RunWithTrace,
+        Task::Debug => Taken::Debug,
     }
 }
 
@@ -60,11 +62,16 @@ const WORDS: &[(&[&str], Taken, &str)] = &[
     (&["run", "x", "--trace"], Taken::RunWithTrace, "x"),
     (&["run", "--", "--trace"], Taken::Run, "--trace"),
     (&["run", ""], Taken::Run, ""),
+    (&["debug", "-"], Taken::Debug, "-"),
+    (&["debug", "a b"], Taken::Debug, "a b"),
     (&["--help"], Taken::Help, ""),
     (&["-h"], Taken::Help, ""),
     (&["run", "--help"], Taken::Help, ""),
     (&["check", "-h"], Taken::Help, ""),
+    (&["debug", "--help"], Taken::Help, ""),
     (&["run"], Taken::Usage, ""),
+    (&["debug"], Taken::Usage, ""),
+    (&["debug", "--trace", "x"], Taken::Usage, ""),
     (&["run", "x", "y"], Taken::Usage, ""),
     (&["run", "--trace=yes", "x"], Taken::Usage, ""),
     (&["check", "--trace", "x"], Taken::Usage, ""),

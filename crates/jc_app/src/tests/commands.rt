@@ -13,8 +13,8 @@ use std::process::Abort;
 
 /// Files in memory: the name and the bytes of each.
 #[derive(Drop)]
-struct Shelf<'a> {
-    files: &'a [(&'a str, &'a [u8])],
+pub(super) struct Shelf<'a> {
+    pub files: &'a [(&'a str, &'a [u8])],
 }
 
 impl Files for (Shelf<'_>, Global) {
@@ -33,7 +33,7 @@ impl Files for (Shelf<'_>, Global) {
 }
 
 /// The words, each a text of its own.
-fn said(alloc: Global, words: &[&str]) -> Result<Vec<String>, AllocError> {
+pub(super) fn said(alloc: Global, words: &[&str]) -> Result<Vec<String>, AllocError> {
     let mut said = Vec::new(alloc);
     for word in words {
         said.push(String::from_str(alloc, word)?)?;
@@ -134,7 +134,8 @@ fn expect_unread<R: AllocGlobal + Files + Abort>(rt: &R, words: &[&str], status:
 
 /// Words that are no command.
 const UNKNOWN: &[&[&str]] = &[
-    &["debug", "-"],
+    &["debug"],
+    &["debug", "--trace", "-"],
     &["threads", "-"],
     &["jump"],
     &["help"],
@@ -157,6 +158,7 @@ fn no_command(rt: HostRuntime) {
 fn no_such_file(rt: HostRuntime) {
     expect_unread(&rt, &["run", "/no/such/file"], 4, b"read failed\n");
     expect_unread(&rt, &["check", "/no/such/file"], 4, b"read failed\n");
+    expect_unread(&rt, &["debug", "/no/such/file"], 4, b"read failed\n");
 }
 
 /// Words that ask for help, and what it has in it.
@@ -170,6 +172,7 @@ const HELPS: &[(&[&str], &[&str])] = &[
             "check",
             "print",
             "run",
+            "debug",
             "  3  an event was stuck",
         ],
     ),
@@ -202,6 +205,18 @@ const HELPS: &[(&[&str], &[&str])] = &[
             "--trace",
             "FILE",
             "  3  an event was stuck",
+        ],
+    ),
+    (
+        &["debug", "--help"],
+        &[
+            "A scenario is",
+            ONE,
+            ONE_DUMP,
+            "  at 1\n  at 1 of 1\n",
+            "  break at N, break rule NAME, break replica NAME\n",
+            "FILE",
+            "  1  the scenario's text was refused",
         ],
     ),
 ];

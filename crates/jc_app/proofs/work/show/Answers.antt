@@ -1,7 +1,7 @@
 use Rattle.std.proofs.Common.{refl, sym, subst}
 use Rattle.jc_scenario.specs.Canon.{canon}
 use Rattle.jc_scenario.specs.Views.{scenario_view}
-use Rattle.jc_words.specs.declared.order.Task.{Task}
+use Rattle.jc_words.specs.declared.order.View.{View}
 use Rattle.jc_app.specs.Due.{AppendsFrontOf, IsDueOf}
 use Rattle.jc_app.specs.Texts.{counts_text}
 use Rattle.jc_app.proofs.Begun.{if_refused, none_yet}
@@ -12,10 +12,10 @@ pub returns-in_err-line-in-Check-clause-begun : goal.returns-in_err-line-in-Chec
 returns-in_err-line-in-Check-clause-begun g c =
     let s = scenario_view c.args.scenario.now in
     let o = g.K.Sink.taken c.args.out.now in
-    if_refused c.from_residual.result (subst (λ (task : Task). AppendsFrontOf (IsDueOf task s) o o) (sym c.in-Check.is) (counts_text s, (0, (refl, refl)), none_yet o (counts_text s)))
+    if_refused c.from_residual.result (subst (λ (view : View). AppendsFrontOf (IsDueOf view s) o o) (sym c.in-Check.is) (counts_text s, (0, (refl, refl)), none_yet o (counts_text s)))
 
 pub returns-in_err-text-in-Print-clause-begun : goal.returns-in_err-text-in-Print-clause-begun
 returns-in_err-text-in-Print-clause-begun g c =
     let s = scenario_view c.args.scenario.now in
     let o = g.K.Sink.taken c.args.out.now in
-    if_refused c.from_residual-in_err-text-in-Print.result (subst (λ (task : Task). AppendsFrontOf (IsDueOf task s) o o) (sym c.in-Print.is) (canon s, (0, (refl, refl)), none_yet o (canon s)))
+    if_refused c.from_residual-in_err-text-in-Print.result (subst (λ (view : View). AppendsFrontOf (IsDueOf view s) o o) (sym c.in-Print.is) (canon s, (0, (refl, refl)), none_yet o (canon s)))

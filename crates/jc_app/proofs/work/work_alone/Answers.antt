@@ -1,20 +1,25 @@
-use Rattle.std.proofs.Common.{◌≡◌, List, ℕ, map, string_bytes, ap, sym, ◌∙◌, subst}
-use Rattle.std.proofs.lemmas.Option.{same_Some}
+use Rattle.std.proofs.Common.{◌≡◌, Some, map, string_bytes, refl, ap, sym, ◌∙◌}
 use Rattle.jc_words.specs.declared.order.Order.{Order}
-use Rattle.jc_app.specs.Due.{HasBegun, told_by}
-use Rattle.jc_app.proofs.Begun.{unordered}
+use Rattle.jc_app.specs.Due.{told_by}
+use Rattle.jc_app.specs.Talked.{lines_by}
+use Rattle.jc_app.specs.declared.work.WorkFault.TheVariants.{Memory}
+use Rattle.jc_app.proofs.Orders.{unordered, no_fault}
 use Rattle.jc_app.proofs.work.work_alone.Goals as goal
 
-pub returns-in-Err-clause-begun : goal.returns-in-Err-clause-begun
-returns-in-Err-clause-begun g c = λ order some _.
-    unordered (map string_bytes c.args.words.now) c.in-Err.fault c.explain.result order _ (g.K.Sink.taken c.args.out.now) (g.K.Sink.taken c.explain.new.out) c.in-Err.ensures.err c.explain.ensures.status some
-    (λ h. ap g.K.Sink.taken (c.explain.ensures.silent h))
+-- there was no memory for the words
+pub returns-in-Err-clause-stopped : goal.returns-in-Err-clause-stopped
+returns-in-Err-clause-stopped g c = λ order some _.
+    let left = g.I.Source.left c.args.input.now in
+    let none = unordered (map string_bytes c.args.words.now) c.in-Err.fault c.explain.result order (told_by left (g.R.Files.texts c.args.rt.now) order.file) (lines_by left order.file) (g.K.Sink.taken c.args.out.now) (g.K.Sink.taken c.explain.new.out) c.in-Err.ensures.err c.explain.ensures.status some (λ h. ap g.K.Sink.taken (c.explain.ensures.silent h)) in
+    (Memory, ap Some none.0, c.explain.ensures.memory_line none.0, (refl, c.explain.ensures.same (λ e. (let bad : 5 ≡ 4 = sym none.0 ∙ e in cc))), none.1)
 
 -- an order asks for no help
 pub returns-in-Ok-carry_out-clause-help : goal.returns-in-Ok-carry_out-clause-help
 returns-in-Ok-carry_out-clause-help g c = λ asks. (let bad = c.in-Ok.ensures.help asks in cc)
 
-pub returns-clause-begun : goal.returns-clause-begun
-returns-clause-begun g c = λ order some _.
-    let same : c.in-Ok.order ≡ order = same_Some c.in-Ok.order order (sym c.in-Ok.ensures.ok ∙ some) in
-    subst (λ (o : Order). HasBegun o.task (told_by (g.I.Source.left c.args.input.now) (g.R.Files.texts c.args.rt.now) o.file) (g.K.Sink.taken c.args.out.now) (g.K.Sink.taken c.carry_out.new.out)) same c.in-Err-carry_out.ensures.begun
+-- what is done has the status of no fault
+pub returns-in-Ok-carry_out-clause-stopped : goal.returns-in-Ok-carry_out-clause-stopped
+returns-in-Ok-carry_out-clause-stopped g c = λ order some ends.
+    let left = g.I.Source.left c.args.input.now in
+    let o : Order = c.in-Ok.order in
+    absurd (no_fault o.task (told_by left (g.R.Files.texts c.args.rt.now) o.file) (lines_by left o.file) (g.K.Sink.taken c.args.out.now) (g.K.Sink.taken c.carry_out.new.out) c.in-Ok-carry_out.status c.in-Ok-carry_out.ensures.done ends)

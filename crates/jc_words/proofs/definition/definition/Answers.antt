@@ -1,6 +1,6 @@
-use Rattle.std.proofs.Common.{rules, ap, ap₂, codes, true, ◌≡◌, ◌∙◌}
+use Rattle.std.proofs.Common.{ap, ap₂, codes, true, ◌≡◌, ◌∙◌}
 use Rattle.std.proofs.lemmas.Result.{IfOk-weaker}
-use Rattle.clap.specs.Words.{App, Shape, app_of, new_app, with_subcommand}
+use Rattle.clap.specs.Words.{App, app_of, new_app, with_subcommand}
 use Rattle.clap.specs.Simple.{app_of_fields}
 use Rattle.jc_words.specs.Program.{bare, program}
 use Rattle.jc_words.proofs.definition.definition.Goals as goal
@@ -23,4 +23,5 @@ returns c =
     let top_is : app_of c.subcommand_required-top.result ≡ bare = ap app_of_fields c.subcommand_required-top.ensures ∙ ap bare_wanted second in
     let one = c.in_ok-subcommand.ensures.shape c.in_ok-check.ensures.local ∙ ap₂ with_subcommand top_is (ap (λ (a : App). a.top) c.in_ok-check.ensures.shape) in
     let two = c.in_ok-subcommand-2.ensures.shape c.in_ok-print.ensures.local ∙ ap₂ with_subcommand one (ap (λ (a : App). a.top) c.in_ok-print.ensures.shape) in
-    IfOk-weaker c.subcommand-3.result _ _ (λ m h. h.shape c.in_ok-run.ensures.local ∙ ap₂ with_subcommand two (ap (λ (a : App). a.top) c.in_ok-run.ensures.shape)) c.subcommand-3.ensures
+    let three = c.in_ok-subcommand-3.ensures.shape c.in_ok-run.ensures.local ∙ ap₂ with_subcommand two (ap (λ (a : App). a.top) c.in_ok-run.ensures.shape) in
+    IfOk-weaker c.subcommand-4.result _ _ (λ m h. h.shape c.in_ok-debug.ensures.local ∙ ap₂ with_subcommand three (ap (λ (a : App). a.top) c.in_ok-debug.ensures.shape)) c.subcommand-4.ensures

@@ -1,8 +1,7 @@
-use Rattle.std.proofs.Common.{rules, ap, ap₂, false, ◌||◌, ◌≡◌, ◌∙◌}
+use Rattle.std.proofs.Common.{rules, ap, ap₂, ◌||◌, ◌≡◌, ◌∙◌}
 use Rattle.std.proofs.lemmas.Result.{IfOk-weaker}
 use Rattle.clap.specs.Words.{app_of, new_app, with_rule}
 use Rattle.clap.specs.Simple.{app_of_fields}
-use Rattle.clap.specs.declared.builder.command.Command.TheViews.{out-Command}
 use Rattle.jc_words.specs.Program.{IsLocal}
 use Rattle.jc_words.proofs.definition.plain.Goals as goal
 

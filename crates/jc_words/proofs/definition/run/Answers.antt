@@ -2,7 +2,6 @@ use Rattle.std.proofs.Common.{rules, ap, ap₂, false, ◌||◌, codes, ◌≡�
 use Rattle.std.proofs.lemmas.Result.{IfOk-weaker}
 use Rattle.clap.specs.Words.{app_of, rule_of, new_app, with_rule}
 use Rattle.clap.specs.Simple.{app_of_fields}
-use Rattle.clap.specs.declared.builder.command.Command.TheViews.{out-Command}
 use Rattle.jc_words.specs.Program.{IsLocal, trace_rule}
 use Rattle.jc_words.proofs.definition.run.Goals as goal
 

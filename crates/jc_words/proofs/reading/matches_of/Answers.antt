@@ -1,4 +1,4 @@
-use Rattle.std.proofs.Common.{ap, ◌∙◌, List, ℕ, map, string_bytes, subst}
+use Rattle.std.proofs.Common.{ap, ◌∙◌, map, string_bytes, subst}
 use Rattle.std.proofs.lemmas.Result.{IfOk-weaker}
 use Rattle.clap.specs.Words.{App, is_simple, is_simple_and_free, subcommand_of, FailsBy, fault_of}
 use Rattle.jc_words.proofs.Literals.{simple, free}

@@ -1,7 +1,6 @@
-use Rattle.std.proofs.Common.{◌≡◌, ◌≢◌, ◌∙◌, [], ap, sym, refl, None, Some, length, map, string_bytes, true-eqb, false-eqb}
+use Rattle.std.proofs.Common.{◌≡◌, ◌≢◌, ◌∙◌, [], sym, None, length, map, string_bytes, true-eqb, false-eqb}
 use Rattle.clap.specs.Words.{fault_of}
 use Rattle.jc_words.specs.Program.{program}
-use Rattle.jc_words.specs.Words.{words_order, AsksHelp}
 use Rattle.jc_words.proofs.Commands.{none_said, some_said, unasked, unsaid, faulty, ordered}
 use Rattle.jc_words.proofs.reading.order_of.Goals as goal
 

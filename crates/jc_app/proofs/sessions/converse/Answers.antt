@@ -1,0 +1,27 @@
+use Rattle.std.proofs.Common.{Result, Ok, Err, inr, refl, ap}
+use Rattle.jc_session.specs.declared.sessions.SessionEnd.{SessionEnd}
+use Rattle.jc_session.specs.declared.sessions.SessionFault.{SessionFault}
+use Rattle.jc_session.specs.Shown.{finished, text_refused}
+use Rattle.jc_app.proofs.Talked.{if_any}
+use Rattle.jc_app.proofs.sessions.converse.Goals as goal
+
+abbrev ended : SessionEnd → Result SessionEnd SessionFault
+ended end = Ok end
+
+abbrev failed : SessionFault → Result SessionEnd SessionFault
+failed fault = Err fault
+
+pub returns-in-Ok-Finished-clause-talked : goal.returns-in-Ok-Finished-clause-talked
+returns-in-Ok-Finished-clause-talked g c = (finished, refl, c.in-Ok-Finished.ensures.finished (ap ended c.in-Ok-Finished.field-0-is))
+
+pub returns-in-Ok-TextRefused-clause-talked : goal.returns-in-Ok-TextRefused-clause-talked
+returns-in-Ok-TextRefused-clause-talked g c =
+    let fault = c.in-Ok-TextRefused._fault in
+    (text_refused fault, refl, if_any (g.S.Source.left c.args.lines.now) (c.in-Ok-TextRefused.ensures.text_refused fault (ap ended c.in-Ok-TextRefused.field-0-is)).0)
+
+pub returns-in-Ok-TextRefused-clause-refused : goal.returns-in-Ok-TextRefused-clause-refused
+returns-in-Ok-TextRefused-clause-refused g c = λ _.
+    (c.in-Ok-TextRefused.ensures.text_refused c.in-Ok-TextRefused._fault (ap ended c.in-Ok-TextRefused.field-0-is)).1
+
+pub returns-in-Err-ReadFailed-clause-stopped : goal.returns-in-Err-ReadFailed-clause-stopped
+returns-in-Err-ReadFailed-clause-stopped g c = inr (c.in-Err-ReadFailed.ensures.read (ap failed c.in-Err-ReadFailed.field-0-is))

@@ -1,0 +1,52 @@
+-- What a session of the program shows, whole or up to a fault.
+use Rattle.std.specs.Prelude.{◌≡◌, ℕ, ◌⊎◌, List, [], Option, Some, None, IfSome, codes, if◌then◌else◌}
+use Rattle.std.specs.Str.{bytes_eq}
+use Rattle.jc_session.specs.Shown.{End, finished, too_many, text_refused}
+use Rattle.jc_session.specs.Went.{WentToRead, WentWhole, WentFront, WentRefused, ShowsAll, OnScenario}
+use Rattle.jc_app.specs.Due.{AreTold}
+use Rattle.jc_app.specs.declared.work.WorkFault.{WorkFault}
+use Rattle.jc_app.specs.declared.work.WorkFault.TheVariants.{Read, Write, TooManyLines, Memory}
+
+-- What is told of the lines of a session: none are left at `-`, where the input has the scenario.
+abbrev pub lines_by : Option (List ℕ) → List ℕ → Option (List ℕ)
+lines_by input name = if bytes_eq name (codes "-") then Some [] else input
+
+-- the status of a session that ends so; too many lines are a fault
+abbrev pub session_status : End → Option ℕ
+session_status finished = Some 0
+session_status too_many = None
+session_status (text_refused fault) = Some 1
+
+-- A session on a scenario's bytes and the lines that are told, to its end: its text was appended, and it ends with this
+-- status.
+abbrev pub TalksOn : List ℕ → Option (List ℕ) → Option (List ℕ) → Option (List ℕ) → ℕ → Type 0
+TalksOn bytes lines old new status =
+    (end : End) × (session_status end ≡ Some status) × IfSome lines (λ l. ShowsAll bytes l end old new)
+
+-- no line was read, and nothing was appended
+abbrev pub IsUnstarted : Option (List ℕ) → Option (List ℕ) → Option (List ℕ) → Option (List ℕ) → Type 0
+IsUnstarted lines left old new = (left ≡ lines) × (new ≡ old)
+
+-- What a session has left that a fault stopped. A failed read: the answers of all lines whose LF was read. A failed
+-- write: those of some first lines, and a front of the next one; or a front of the scenario's refusal. Too many lines:
+-- the whole text up to the limit. No memory: the answers of some first lines.
+abbrev pub StopsOn
+    : WorkFault → List ℕ → Option (List ℕ) → Option (List ℕ) → Option (List ℕ) → Option (List ℕ) → Type 0
+StopsOn Read bytes lines left old new =
+    IsUnstarted lines left old new
+    ⊎ OnScenario bytes (λ O A. IfSome lines (λ l. WentToRead O A l left old new))
+StopsOn Write bytes lines left old new =
+    WentRefused bytes old new ⊎ OnScenario bytes (λ O A. IfSome lines (λ l. WentFront O A l left old new))
+StopsOn TooManyLines bytes lines left old new = IfSome lines (λ l. ShowsAll bytes l too_many old new)
+StopsOn Memory bytes lines left old new =
+    IsUnstarted lines left old new ⊎ OnScenario bytes (λ O A. IfSome lines (λ l. WentWhole O A l left old new))
+
+-- A session on the bytes that are told, to its end.
+abbrev pub HasTalked : Option (List ℕ) → Option (List ℕ) → Option (List ℕ) → Option (List ℕ) → ℕ → Type 0
+HasTalked told lines old new status = (bytes : List ℕ) × AreTold told bytes × TalksOn bytes lines old new status
+
+-- a session on the bytes that are told, which a fault stopped
+abbrev pub HasStopped
+    : WorkFault → Option (List ℕ) → Option (List ℕ) → Option (List ℕ) → Option (List ℕ) → Option (List ℕ) → Type 0
+HasStopped fault told lines left old new =
+    (bytes : List ℕ) × AreTold told bytes × StopsOn fault bytes lines left old new
