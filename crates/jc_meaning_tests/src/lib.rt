@@ -2,6 +2,8 @@
 #![tactic(auto)]
 
 #[cfg(test)]
+mod hundred;
+#[cfg(test)]
 mod laws;
 #[cfg(test)]
 mod meanings;

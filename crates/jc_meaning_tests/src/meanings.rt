@@ -24,7 +24,7 @@ fn is_text(rt: &impl Abort, got: &str, want: &str) {
 }
 
 /// The replica's tree is what its operations mean, but for empty presence sets.
-fn is_meant(rt: &impl Abort, alloc: Global, net: &Net, p: u16) -> Result<(), AllocError> {
+pub fn is_meant(rt: &impl Abort, alloc: Global, net: &Net, p: u16) -> Result<(), AllocError> {
     let (Ok(ops), Some(replica)) = (net.applied(p), net.replica(p)) else {
         panic!(rt; "no replica");
     };
@@ -140,7 +140,7 @@ fn deep_value(rt: HostRuntime) -> Result<(), Fail> {
 }
 
 /// The next number below the count.
-fn pick(seed: &mut u64, count: usize) -> usize
+pub fn pick(seed: &mut u64, count: usize) -> usize
     requires { 0 < count }
     ensures { result < count }
 {
