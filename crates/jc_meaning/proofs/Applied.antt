@@ -25,7 +25,7 @@ use Rattle.jc_meaning.specs.Found.{IsComparison}
 use Rattle.jc_meaning.proofs.Runs.{trees_converge}
 use Rattle.jc_network.proofs.Members.{first_in, later_in}
 
-held_has : (N : List State) (p : ℕ) (A : State) (o : Op) → IsAt N p A → Contains A.queue o ⊎ Contains A.recv o → Contains (held N) o
+pub held_has : (N : List State) (p : ℕ) (A : State) (o : Op) → IsAt N p A → Contains A.queue o ⊎ Contains A.recv o → Contains (held N) o
 held_has [] p A o e k = cc
 held_has (B ∷ N) zero A o e k = go (subst (λ (S : State). Contains S.queue o ⊎ Contains S.recv o) (sym (same_Some B A e)) k)
   where

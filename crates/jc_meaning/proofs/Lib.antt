@@ -44,4 +44,5 @@ pub mod Told
 pub mod Touched
 pub mod Brought
 pub mod Kept
+pub mod Replicas
 pub mod Named

@@ -257,6 +257,9 @@ module _ (scripts : List (List Cmd)) (network : List State) (r : IsReached scrip
   pub trees_meant : (A : State) → Contains network A → Means (applied_ops A) A.tree
   trees_meant A k = let m = at_member network A k in applied_meant network run.0 m.0 A m.1 (run.1 m.0 A m.1)
 
+  pub kept_tree : (A : State) → Contains network A → IsKept A.tree
+  kept_tree A k = let m = at_member network A k in (run.1 m.0 A m.1).kept
+
   -- of two replicas with the same identifiers both trees are what one list means
   pub trees_converge : (A B : State) → Contains network A → Contains network B → A.ops ≡ B.ops → drop A.tree ≡ drop B.tree
   trees_converge A B k l e =

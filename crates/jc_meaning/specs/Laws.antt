@@ -18,6 +18,7 @@ use Rattle.jc_network.specs.Applied.{applied_ops}
 use Rattle.jc_network.specs.Laws.{IsReached}
 use Rattle.jc_meaning.specs.Seen.{ids_at}
 use Rattle.jc_meaning.specs.Meaning.{Means, IsMeaning}
+use Rattle.jc_meaning.specs.Replicas.{IsTreeOfReplicas}
 use Rattle.jc_meaning.specs.Tidy.{Tidy, Takes, in_key}
 
 -- what the operation depends on is in the set
@@ -96,6 +97,11 @@ DroppedTreesAreMeanings =
     → (A : State)
     → Contains network A
     → IsMeaning (applied_ops A) (drop A.tree)
+
+-- The other way round, what the operations mean that a replica has applied, as they are kept, is its tree without empty
+-- presence sets.
+abbrev pub MeaningsAreTrees : Type 0
+MeaningsAreTrees = (ops : List Op) (t : Context) → IsKept t → IsMeaning ops t → IsTreeOfReplicas ops t
 
 -- A meaning is one tree, but for empty presence sets, whatever the order of the list.
 abbrev pub OneTree : Type 0

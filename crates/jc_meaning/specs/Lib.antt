@@ -2,6 +2,7 @@ pub mod Touching
 pub mod Seen
 pub mod Forest
 pub mod Meaning
+pub mod Replicas
 pub mod Tidy
 pub mod Built
 pub mod Listing

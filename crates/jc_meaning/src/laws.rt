@@ -1,6 +1,6 @@
 //! Laws of meanings. Each function does nothing: its contract is the law.
 
-ghost use Rattle.jc_meaning.specs.Laws.{NothingMeansEmpty, OrdersMeanTheSame, OneMoreMeans, MeaningsAreTidy, ClearingTakesDeps, TreesAreMeant, DroppedTreesAreMeanings, OneTree, TreesConverge};
+ghost use Rattle.jc_meaning.specs.Laws.{NothingMeansEmpty, OrdersMeanTheSame, OneMoreMeans, MeaningsAreTidy, ClearingTakesDeps, TreesAreMeant, DroppedTreesAreMeanings, MeaningsAreTrees, OneTree, TreesConverge};
 
 /// No operations mean the empty tree.
 pub fn nothing_means_empty()
@@ -39,6 +39,11 @@ pub fn trees_are_meant()
 /// Without its empty presence sets it is their meaning.
 pub fn dropped_trees_are_meanings()
     ensures { DroppedTreesAreMeanings }
+{}
+
+/// What operations mean is the tree, without its empty presence sets, of each replica that has applied just these.
+pub fn meanings_are_trees()
+    ensures { MeaningsAreTrees }
 {}
 
 /// A meaning is one tree, but for empty presence sets.

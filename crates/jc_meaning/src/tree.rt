@@ -8,6 +8,7 @@ ghost use Rattle.jc_rules.specs.Table.{op_of};
 ghost use Rattle.jc_sets.specs.States.{AreOf, kept_op};
 ghost use Rattle.jc_replica.specs.Operations.{identifiers};
 ghost use Rattle.jc_meaning.specs.Meaning.{IsMeaning};
+ghost use Rattle.jc_meaning.specs.Replicas.{IsTreeOfReplicas};
 
 use crate::building::fill;
 use crate::ordering::link_all;
@@ -44,6 +45,9 @@ pub fn have_distinct_ids(ops: &[Op]) -> bool
 /// The tree that the operations mean, in whatever order they are listed. No presence set in it is empty, and an insert
 /// that isn't reached from its list's head isn't linked.
 ///
+/// Of the operations that a replica has applied, in a network that is reached from a start, it is the replica's tree
+/// without empty presence sets.
+///
 /// Of operations of one sound set, whose dependencies are kept as greatest counters, it is what they mean with the
 /// dependencies that these stand for. The set need not have what its operations depend on. Nothing but memory is
 /// refused.
@@ -53,6 +57,7 @@ pub fn meaning(alloc: Global, ops: &[Op]) -> Result<PlainTree, AllocError>
     ensures stands { IfOk result (λ tree. (set own : List AnyOp)
         → IsSound set → AreOf set own → ops.now ≡ map kept_op own
         → IsMeaning own (⟦<PlainTree as TreeStore>⟧.tree tree).now) }
+    ensures replicas { IfOk result (λ tree. IsTreeOfReplicas ops.now (⟦<PlainTree as TreeStore>⟧.tree tree).now) }
 {
     let mut tree = PlainTree::new(alloc);
     fill(&mut tree, ops)?;

@@ -9,6 +9,7 @@ fn laws_stand() {
     laws::clearing_takes_deps();
     laws::trees_are_meant();
     laws::dropped_trees_are_meanings();
+    laws::meanings_are_trees();
     laws::one_tree();
     laws::trees_converge();
 }

@@ -3,6 +3,7 @@ use Rattle.jc_tree.specs.Tree.{Tree}
 use Rattle.jc_meaning.specs.Meaning.{IsMeaning}
 use Rattle.jc_meaning.proofs.Brought.{tags_made, new_links, meant}
 use Rattle.jc_meaning.proofs.Kept.{meant_kept}
+use Rattle.jc_meaning.proofs.Replicas.{meaning_is_tree}
 use Rattle.jc_meaning.proofs.tree.meaning.Goals as goal
 
 pub link_all-requires-clause-made : goal.link_all-requires-clause-made
@@ -18,3 +19,6 @@ returns-clause-meaning c =
 
 pub returns-clause-stands : goal.returns-clause-stands
 returns-clause-stands c = λ set own sound of kept. meant_kept set sound own of c.forget_marks.new.self.root (subst (λ os. IsMeaning os c.forget_marks.new.self.root) kept (returns-clause-meaning c))
+
+pub returns-clause-replicas : goal.returns-clause-replicas
+returns-clause-replicas c = meaning_is_tree c.args.ops.now c.forget_marks.new.self.root c.forget_marks.new.self.root_kept (returns-clause-meaning c)
