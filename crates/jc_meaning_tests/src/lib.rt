@@ -1,4 +1,5 @@
-//! Tests of meanings: replicas compared in runs that were worked by hand, trees that differ in one entry, and laws.
+//! Tests of meanings: replicas compared in runs that were worked by hand and in a long one on one list, trees that
+//! differ in one entry, and laws.
 #![tactic(auto)]
 
 #[cfg(test)]
