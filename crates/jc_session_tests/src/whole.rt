@@ -2,6 +2,7 @@
 
 use crate::shown::{EMPTY, RECEIVED, ends, is, shows};
 use jc_fakes::{Bytes, Taken};
+use std::test::Fail;
 
 #[test]
 fn a_refused_scenario(rt: HostRuntime) {
@@ -108,6 +109,25 @@ fn lines_that_are_refused(rt: HostRuntime) {
         "trace\nschedule\nstate z\nbreak rule NONE\ncompare a\nstep 01\nstep 12345678901\ngoto\n \t\nwhere \r\nquit\nwhere\n",
         "start\n1 a.exec\nrefused 18 UnknownReplica\nrefused 58 BadLine\nrefused 58 BadLine\nrefused 58 BadLine\nrefused 58 BadLine\nrefused 58 BadLine\nat 0 of 1\n",
     );
+}
+
+/// With 256 breakpoints one more is refused, until one is cleared. A line that says nothing is refused for that.
+#[test]
+fn too_many_breakpoints(rt: HostRuntime) -> Result<(), Fail> {
+    let alloc = rt.alloc();
+    let mut lines = String::new(alloc);
+    let mut want = String::new(alloc);
+    for k in 1..257u16 {
+        lines.push_str("break at 0\n")?;
+        let set = format!(in alloc; "set {k}\n")?;
+        want.push_str(set.as_str())?;
+    }
+    lines.push_str("break at 0\nbreak replica z\nbreak rule NONE\nunbreak 7\nbreak at 1\nrun\n")?;
+    want.push_str(
+        "refused 54 TooManyBreaks\nrefused 18 UnknownReplica\nrefused 58 BadLine\ncleared 7\nset 7\nat 1\nbreak 7\n",
+    )?;
+    shows(&rt, ASSIGNED, lines.as_str(), want.as_str());
+    Ok(())
 }
 
 /// A run that comes before a stuck event, and steps there.
