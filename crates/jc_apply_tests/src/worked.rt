@@ -9,7 +9,6 @@ ghost use Rattle.jc_rules.specs.Worked.{by_a};
 ghost use Rattle.jc_apply.specs.Fits.{IsUnlinked};
 
 use jc_apply::{ApplyFault, apply_op, fits};
-use jc_dump::dump::tree_value;
 use jc_rules::{Cursor, Id, IdSet, Key, Mutation, Op, Path, Rule, Tagged, Text, Trace, Value};
 use jc_tree::{ArenaTree, PlainTree, TreeStore};
 use std::alloc::{AllocError, Global};
@@ -118,8 +117,7 @@ fn names(alloc: Global) -> Result<[Text; 2], AllocError> {
 
 fn tree_text<S: TreeStore>(alloc: Global, store: &S) -> Result<String, AllocError> {
     let names = names(alloc)?;
-    let tree = tree_value(alloc, &names, store, &mut Vec::new(alloc))?;
-    tree.to_string(alloc)
+    jc_dump::tree_text(alloc, &names, store)
 }
 
 /// A document, and the rules of the operations that were applied.

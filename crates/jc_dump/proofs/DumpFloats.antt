@@ -76,7 +76,7 @@ register_float : (names : List (List ℕ)) (r : Register) → has_float (registe
 register_float names r = object_float (map (value_member names) r) (all-map (value_member names) (λ e. value_float e.1) r)
 
 mutual
-  context_float : (names : List (List ℕ)) (c : Context) → has_float (context_data names c) ≡ false
+  pub context_float : (names : List (List ℕ)) (c : Context) → has_float (context_data names c) ≡ false
   context_float names (context m l r p n) =
       object_float _ (all-append _ _ (all-append _ _ (all-append _ _ (all-append _ _ (children_float names MapT m) (children_float names ListT l))
       (all-map (register_member names) (λ e. register_float names e.1) r))

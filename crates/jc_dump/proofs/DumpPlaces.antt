@@ -12,8 +12,8 @@ use Rattle.jc_rules.proofs.Places.{there, node-below}
 use Rattle.jc_tree.specs.Nested.{nested, nested_in}
 use Rattle.jc_tree.proofs.Keeping.{kept-node}
 use Rattle.jc_tree.proofs.Places.{some_place}
-use Rattle.jc_dump.specs.declared.dump.Branch.{Branch}
-use Rattle.jc_dump.specs.declared.dump.Branch.TheVariants as B
+use Rattle.jc_dump.specs.declared.tree.Branch.{Branch}
+use Rattle.jc_dump.specs.declared.tree.Branch.TheVariants as B
 use Rattle.jc_dump.specs.DumpParts.{tag_of, children_in}
 
 all-left : (P : Key → Type 0) (js ks : List Key) → AllByRecursion P (js ++ ks) → AllByRecursion P js
@@ -60,7 +60,7 @@ links_rise (context m l r p n) h = h.4
 
 -- ---- the children of one kind
 
-content_in : (b : Branch) (k : Key) (c : Context) → content (tag_of b k) c ≡ node_of (find key_cmp k (listed (children_in b c)))
+pub content_in : (b : Branch) (k : Key) (c : Context) → content (tag_of b k) c ≡ node_of (find key_cmp k (listed (children_in b c)))
 content_in B.Map k (context m l r p n) = refl
 content_in B.List k (context m l r p n) = refl
 

@@ -1,3 +1,4 @@
+pub mod Sending
 pub mod DumpLists
 pub mod DumpPlaces
 pub mod DumpFloats

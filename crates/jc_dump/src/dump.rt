@@ -1,17 +1,19 @@
 //! The dump of a replica's state as one line of JSON.
 
-ghost use Rattle.std.specs.Prelude.{◌≡◌, map, IfOk, OnOk, string_bytes};
-ghost use Rattle.serde_json.specs.View.{view, members_view};
-ghost use Rattle.jc_rules.specs.Context.{registers, presences, links};
+ghost use Rattle.std.specs.Prelude.{◌≡◌, IfOk, OnOk, string_bytes};
+ghost use Rattle.serde_json.specs.Events.{SendsValue};
+ghost use Rattle.serde_json.specs.View.{view};
 ghost use Rattle.jc_rules.specs.State.{State};
-ghost use Rattle.jc_tree.specs.Tree.{HasPlace, here};
-ghost use Rattle.jc_dump.specs.Dump.{id_text, key_text, entry_text, tagged_text, next_text, ids_data, value_data, register_data, context_data, put_all, object_of, register_member, presence_member, next_member, dump_line};
-ghost use Rattle.jc_dump.specs.DumpParts.{tag_of, child_at, children_members, shown_members, HasParts};
+ghost use Rattle.jc_dump.specs.Dump.{id_text, key_text, entry_text, tagged_text, next_text, value_data, register_data, object_of, dump_line};
+ghost use Rattle.jc_dump.specs.DumpParts.{shown_members, HasParts};
 
-use crate::vars::vars_value;
+use crate::send::{send_ids, unless_refused};
+use crate::tree::send_tree;
+use crate::vars::send_vars;
 use jc_cursor::Bound;
 use jc_rules::{Id, Key, Next, Tagged, Text, Value, name_at};
 use jc_tree::TreeStore;
+use serde::{Described, Serialize, Serializer};
 use serde_json::{Map, Value as Json, json};
 use std::alloc::{AllocError, Global};
 
@@ -37,7 +39,12 @@ pub fn key_text(alloc: Global, names: &[Text], key: &Key) -> Result<String, Allo
 }
 
 /// The name of a context's member: a kind of entry, and a key in brackets.
-fn entry_text(alloc: Global, kind: &str, names: &[Text], key: &Key) -> Result<String, AllocError>
+pub(crate) fn entry_text(
+    alloc: Global,
+    kind: &str,
+    names: &[Text],
+    key: &Key,
+) -> Result<String, AllocError>
     ensures { IfOk result (λ s. string_bytes s ≡ entry_text kind.now names.now key.now) }
 {
     let key = key_text(alloc, names, key)?;
@@ -57,24 +64,13 @@ pub fn tagged_text(alloc: Global, names: &[Text], key: &Tagged) -> Result<String
 }
 
 /// What a list's link leads to.
-fn next_text(alloc: Global, names: &[Text], next: Next) -> Result<String, AllocError>
+pub(crate) fn next_text(alloc: Global, names: &[Text], next: Next) -> Result<String, AllocError>
     ensures { IfOk result (λ s. string_bytes s ≡ next_text names.now next) }
 {
     match next {
         Next::Tail => String::from_str(alloc, "tail"),
         Next::Elem(id) => id_text(alloc, names, id),
     }
-}
-
-/// Identifiers as the list of their texts.
-fn ids_value(alloc: Global, names: &[Text], ids: &[Id]) -> Result<Json, AllocError>
-    ensures { IfOk result (λ v. view v ≡ ids_data names.now ids.now) }
-{
-    let mut texts: Vec<Json> = Vec::new(alloc);
-    for id in ids {
-        texts.push(Json::from(id_text(alloc, names, *id)?))?;
-    }
-    Ok(Json::from(texts))
 }
 
 /// A value.
@@ -94,7 +90,11 @@ pub(crate) fn json_value(alloc: Global, value: &Value) -> Result<Json, AllocErro
 }
 
 /// A register as the object of its values by their identifiers' texts.
-fn register_value(alloc: Global, names: &[Text], pairs: &[(Id, Value)]) -> Result<Json, AllocError>
+pub(crate) fn register_value(
+    alloc: Global,
+    names: &[Text],
+    pairs: &[(Id, Value)],
+) -> Result<Json, AllocError>
     ensures { IfOk result (λ v. view v ≡ register_data names.now pairs.now) }
 {
     let mut members: Map<String, Json> = Map::new(alloc);
@@ -104,178 +104,6 @@ fn register_value(alloc: Global, names: &[Text], pairs: &[(Id, Value)]) -> Resul
         serde_json::put(&mut members, alloc, name.as_str(), value)?;
     }
     Ok(Json::from(members))
-}
-
-/// The kinds of entry that lead to a context.
-#[derive(Clone, Copy)]
-enum Branch {
-    Map,
-    List,
-}
-
-impl Branch {
-    fn tagged(self, key: Key) -> Tagged
-        ensures { result ≡ tag_of self key }
-    {
-        match self {
-            Branch::Map => Tagged::MapT(key),
-            Branch::List => Tagged::ListT(key),
-        }
-    }
-}
-
-/// The context at a place of a store. The place is given back as it was, unless memory ran out.
-#[cycle(walk)]
-pub fn tree_value<S: TreeStore>(
-    alloc: Global,
-    names: &[Text],
-    store: &S,
-    at: &mut Vec<Tagged>,
-) -> Result<Json, AllocError>
-    requires { HasPlace at.old.items (S.tree store.now) }
-    ensures data { IfOk result (λ v. view v ≡ context_data names.now (here at.old.items (S.tree store.now))) }
-    ensures place { OnOk result (at.new.items ≡ at.old.items) }
-{
-    let mut members: Map<String, Json> = Map::new(alloc);
-    put_children(alloc, names, store, at, Branch::Map, &mut members)?;
-    put_children(alloc, names, store, at, Branch::List, &mut members)?;
-    put_registers(alloc, names, store, at.as_slice(), &mut members)?;
-    put_presences(alloc, names, store, at.as_slice(), &mut members)?;
-    put_links(alloc, names, store, at.as_slice(), &mut members)?;
-    Ok(Json::from(members))
-}
-
-/// Puts a context's children of one kind, each under its tagged key.
-#[cycle(walk)]
-fn put_children<S: TreeStore>(
-    alloc: Global,
-    names: &[Text],
-    store: &S,
-    at: &mut Vec<Tagged>,
-    branch: Branch,
-    members: &mut Map<String, Json>,
-) -> Result<(), AllocError>
-    requires { HasPlace at.old.items (S.tree store.now) }
-    ensures members { OnOk result
-        (members_view members.new.entries
-        ≡ put_all (children_members names.now branch (here at.old.items (S.tree store.now)))
-        (members_view members.old.entries)) }
-    ensures place { OnOk result (at.new.items ≡ at.old.items) }
-{
-    let mut last = None;
-    while let Some(key) = store.key_after(at.as_slice(), last) {
-        put_child(alloc, names, store, at, branch, key, members)?;
-        last = Some(key);
-    }
-    Ok(())
-}
-
-/// Puts the child of one kind at a key, if there is one.
-#[cycle(walk)]
-fn put_child<S: TreeStore>(
-    alloc: Global,
-    names: &[Text],
-    store: &S,
-    at: &mut Vec<Tagged>,
-    branch: Branch,
-    key: &Key,
-    members: &mut Map<String, Json>,
-) -> Result<(), AllocError>
-    requires { HasPlace at.old.items (S.tree store.now) }
-    ensures members { OnOk result
-        (members_view members.new.entries
-        ≡ put_all (child_at names.now branch key.now (here at.old.items (S.tree store.now)))
-        (members_view members.old.entries)) }
-    ensures place { OnOk result (at.new.items ≡ at.old.items) }
-{
-    let tagged = branch.tagged(key.copy()?);
-    if !store.has(at.as_slice(), &tagged) {
-        return Ok(());
-    }
-    let name = tagged_text(alloc, names, &tagged)?;
-    let depth = at.len();
-    at.push(tagged)?;
-    let value = tree_value(alloc, names, store, at)?;
-    at.truncate(depth);
-    serde_json::put(members, alloc, name.as_str(), value)
-}
-
-/// Puts a context's registers.
-fn put_registers<S: TreeStore>(
-    alloc: Global,
-    names: &[Text],
-    store: &S,
-    at: &[Tagged],
-    members: &mut Map<String, Json>,
-) -> Result<(), AllocError>
-    requires { HasPlace at.now (S.tree store.now) }
-    ensures { OnOk result
-        (members_view members.new.entries
-        ≡ put_all (map (register_member names.now) (registers (here at.now (S.tree store.now))))
-        (members_view members.old.entries)) }
-{
-    let mut last = None;
-    while let Some(key) = store.key_after(at, last) {
-        if let Some(pairs) = store.register(at, key) {
-            let name = entry_text(alloc, "regT", names, key)?;
-            let value = register_value(alloc, names, pairs)?;
-            serde_json::put(members, alloc, name.as_str(), value)?;
-        }
-        last = Some(key);
-    }
-    Ok(())
-}
-
-/// Puts a context's presence sets, the empty ones too.
-fn put_presences<S: TreeStore>(
-    alloc: Global,
-    names: &[Text],
-    store: &S,
-    at: &[Tagged],
-    members: &mut Map<String, Json>,
-) -> Result<(), AllocError>
-    requires { HasPlace at.now (S.tree store.now) }
-    ensures { OnOk result
-        (members_view members.new.entries
-        ≡ put_all (map (presence_member names.now) (presences (here at.now (S.tree store.now))))
-        (members_view members.old.entries)) }
-{
-    let mut last = None;
-    while let Some(key) = store.presence_after(at, last) {
-        if let Some(ids) = store.presence(at, key) {
-            let name = entry_text(alloc, "pres", names, key)?;
-            let value = ids_value(alloc, names, ids)?;
-            serde_json::put(members, alloc, name.as_str(), value)?;
-        }
-        last = Some(key);
-    }
-    Ok(())
-}
-
-/// Puts what follows each key of a context that is a list.
-fn put_links<S: TreeStore>(
-    alloc: Global,
-    names: &[Text],
-    store: &S,
-    at: &[Tagged],
-    members: &mut Map<String, Json>,
-) -> Result<(), AllocError>
-    requires { HasPlace at.now (S.tree store.now) }
-    ensures { OnOk result
-        (members_view members.new.entries
-        ≡ put_all (map (next_member names.now) (links (here at.now (S.tree store.now))))
-        (members_view members.old.entries)) }
-{
-    let mut last = None;
-    while let Some(key) = store.link_after(at, last) {
-        if let Some(next) = store.next(at, key) {
-            let name = entry_text(alloc, "next", names, key)?;
-            let value = Json::from(next_text(alloc, names, next)?);
-            serde_json::put(members, alloc, name.as_str(), value)?;
-        }
-        last = Some(key);
-    }
-    Ok(())
 }
 
 /// What a dump shows of a replica beside its tree: its name, whether it made an event of its yield,
@@ -293,34 +121,57 @@ pub(crate) struct Shown<'a> {
     pub(crate) vars: &'a [(Text, Bound)],
 }
 
-/// The dump as a JSON value.
-fn dump_value<S: TreeStore>(
+/// A replica's dump, as it is sent.
+#[derive(Drop)]
+struct Dump<'a, S> {
+    alloc: Global,
+    names: &'a [Text],
+    shown: &'a Shown<'a>,
+    store: &'a S,
+}
+
+impl<S: TreeStore> Described for Dump<'_, S> {
+    ghost writes = { λ d. SendsValue (object_of (shown_members d.names.now d.shown.now (S.tree d.store.now).now)) };
+}
+
+impl<S: TreeStore> Serialize for Dump<'_, S> {
+    fn serialize<W: Serializer>(&self, out: &mut W) -> Result<(), W::Error> {
+        send_dump(self.alloc, self.names, self.shown, self.store, out)
+    }
+}
+
+/// Sends a dump, whose members stand in the order of their names.
+fn send_dump<S: TreeStore, W: Serializer>(
     alloc: Global,
     names: &[Text],
     shown: &Shown,
     store: &S,
-) -> Result<Json, AllocError>
-    ensures { IfOk result (λ v. view v ≡ object_of (shown_members names.now shown.now (S.tree store.now).now)) }
+    out: &mut W,
+) -> Result<(), W::Error>
+    ensures { OnOk result (SendsValue (object_of (shown_members names.now shown.now (S.tree store.now).now))
+        (W.written out.old) (W.written out.new)) }
 {
-    let mut members: Map<String, Json> = Map::new(alloc);
-    serde_json::put(&mut members, alloc, "acted", Json::from(shown.acted))?;
-    serde_json::put(&mut members, alloc, "left", Json::from(shown.left))?;
-    let name = Json::try_from_str(alloc, shown.name)?;
-    serde_json::put(&mut members, alloc, "name", name)?;
-    let ops = ids_value(alloc, names, shown.ops)?;
-    serde_json::put(&mut members, alloc, "ops", ops)?;
-    let queue = ids_value(alloc, names, shown.queue)?;
-    serde_json::put(&mut members, alloc, "queue", queue)?;
-    let recv = ids_value(alloc, names, shown.recv)?;
-    serde_json::put(&mut members, alloc, "recv", recv)?;
-    let send = ids_value(alloc, names, shown.send)?;
-    serde_json::put(&mut members, alloc, "send", send)?;
+    out.begin_map(Some(9))?;
+    out.key("acted")?;
+    out.bool(shown.acted)?;
+    out.key("left")?;
+    out.u64(shown.left as u64)?;
+    out.key("name")?;
+    out.str(shown.name)?;
+    out.key("ops")?;
+    send_ids(alloc, names, shown.ops, out)?;
+    out.key("queue")?;
+    send_ids(alloc, names, shown.queue, out)?;
+    out.key("recv")?;
+    send_ids(alloc, names, shown.recv, out)?;
+    out.key("send")?;
+    send_ids(alloc, names, shown.send, out)?;
+    out.key("tree")?;
     let mut at = Vec::new(alloc);
-    let tree = tree_value(alloc, names, store, &mut at)?;
-    serde_json::put(&mut members, alloc, "tree", tree)?;
-    let vars = vars_value(alloc, names, shown.vars)?;
-    serde_json::put(&mut members, alloc, "vars", vars)?;
-    Ok(Json::from(members))
+    send_tree(alloc, names, store, &mut at, out)?;
+    out.key("vars")?;
+    send_vars(alloc, names, shown.vars, out)?;
+    out.end_map()
 }
 
 /// The dump line, with its line feed, of a replica.
@@ -334,7 +185,13 @@ pub(crate) fn dump_line_of<S: TreeStore>(
         (A : State) → HasParts A shown.now (S.tree store.now).now
         → string_bytes s ≡ dump_line names.now shown.now.name.now A) }
 {
-    let mut line = dump_value(alloc, names, shown, store)?.to_string(alloc)?;
+    let dump = Dump {
+        alloc,
+        names,
+        shown,
+        store,
+    };
+    let mut line = unless_refused(serde_json::to_string(alloc, &dump))?;
     line.push_str("\n")?;
     Ok(line)
 }

@@ -1,24 +1,21 @@
 //! Variables and what they are bound to, as JSON values.
 
-ghost use Rattle.std.specs.Prelude.{◌≡◌, [], ◌∷◌, map, IfOk};
+ghost use Rattle.std.specs.Prelude.{◌≡◌, ℕ, List, map, IfOk, OnOk};
+ghost use Rattle.serde_json.specs.Data.{no_members};
+ghost use Rattle.serde_json.specs.Events.{SendsValue};
 ghost use Rattle.serde_json.specs.View.{view};
 ghost use Rattle.jc_cursor.specs.Bounds.{bound_of, vars_of};
-ghost use Rattle.jc_dump.specs.Dump.{object_of, texts_data, pair_data, pairs_data, cursor_data, bound_data, vars_data};
+ghost use Rattle.jc_dump.specs.Dump.{put_all, texts_data, pair_data, pairs_data, cursor_data, bound_data, var_member, vars_data};
+ghost use Rattle.jc_dump.specs.DumpParts.{shown_as, bound_shown};
 
 use crate::dump::{id_text, json_value, key_text, tagged_text};
+use crate::send::{granted, send_value};
 use jc_cursor::Bound;
 use jc_rules::{Cursor, Id, Text, Value};
-use serde_json::{Map, Value as Json};
+use serde::Serializer;
+use serde_json::Value as Json;
 use std::alloc::{AllocError, Global};
-
-/// An object with one member.
-fn one_member(alloc: Global, name: &str, value: Json) -> Result<Json, AllocError>
-    ensures { IfOk result (λ v. view v ≡ object_of ((name.now, view value) ∷ [])) }
-{
-    let mut members: Map<String, Json> = Map::new(alloc);
-    serde_json::put(&mut members, alloc, name, value)?;
-    Ok(Json::from(members))
-}
+use std::collections::BTreeMap;
 
 /// A cursor: the texts of its path, then that of its last key.
 fn cursor_value(alloc: Global, names: &[Text], cursor: &Cursor) -> Result<Json, AllocError>
@@ -32,15 +29,15 @@ fn cursor_value(alloc: Global, names: &[Text], cursor: &Cursor) -> Result<Json, 
     Ok(Json::from(texts))
 }
 
-/// The keys that were read, as a list.
-fn keys_value(alloc: Global, keys: &[Text]) -> Result<Json, AllocError>
-    ensures { IfOk result (λ v. view v ≡ texts_data keys.now) }
+/// Sends the keys that were read, as a list.
+fn send_keys<W: Serializer>(keys: &[Text], out: &mut W) -> Result<(), W::Error>
+    ensures { OnOk result (SendsValue (texts_data keys.now) (W.written out.old) (W.written out.new)) }
 {
-    let mut texts: Vec<Json> = Vec::new(alloc);
+    out.begin_seq(Some(keys.len()))?;
     for key in keys {
-        texts.push(Json::try_from_str(alloc, key.as_str())?)?;
+        out.str(key.as_str())?;
     }
-    Ok(Json::from(texts))
+    out.end_seq()
 }
 
 /// A value with its identifier before it.
@@ -64,35 +61,65 @@ fn pairs_value(alloc: Global, names: &[Text], pairs: &[(Id, Value)]) -> Result<J
     Ok(Json::from(values))
 }
 
-/// What a variable is bound to.
-fn bound_value(alloc: Global, names: &[Text], bound: &Bound) -> Result<Json, AllocError>
-    ensures { IfOk result (λ v. view v ≡ bound_data names.now (bound_of bound.now)) }
+/// Sends what a variable is bound to.
+fn send_bound<W: Serializer>(
+    alloc: Global,
+    names: &[Text],
+    bound: &Bound,
+    out: &mut W,
+) -> Result<(), W::Error>
+    ensures { OnOk result (SendsValue (bound_data names.now (bound_of bound.now))
+        (W.written out.old) (W.written out.new)) }
 {
+    out.begin_map(Some(1))?;
     match bound {
-        Bound::Cursor(cursor) => one_member(alloc, "cursor", cursor_value(alloc, names, cursor)?),
-        Bound::Keys(keys) => one_member(alloc, "keys", keys_value(alloc, keys.as_slice())?),
+        Bound::Cursor(cursor) => {
+            out.key("cursor")?;
+            send_value(cursor_value(alloc, names, cursor), out)?;
+        }
+        Bound::Keys(keys) => {
+            out.key("keys")?;
+            send_keys(keys.as_slice(), out)?;
+        }
         Bound::Values(pairs) => {
-            one_member(
-                alloc,
-                "values",
-                pairs_value(alloc, names, pairs.as_slice())?,
-            )
+            out.key("values")?;
+            send_value(pairs_value(alloc, names, pairs.as_slice()), out)?;
         }
     }
+    out.end_map()
 }
 
-/// Variables as an object of what they are bound to.
-pub(crate) fn vars_value(
+/// What the variables are bound to, in the order of their names.
+fn by_name<'a>(
+    alloc: Global,
+    vars: &'a [(Text, Bound)],
+) -> Result<BTreeMap<String, &'a Bound>, AllocError>
+    ensures { IfOk result (λ found. (names : List (List ℕ))
+        → shown_as (bound_shown names) found.entries ≡ put_all (map (var_member names) (vars_of vars.now)) no_members) }
+{
+    let mut found = BTreeMap::new(alloc);
+    for (name, bound) in vars {
+        let name = String::from_str(alloc, name.as_str())?;
+        drop(found.insert(name, bound)?);
+    }
+    Ok(found)
+}
+
+/// Sends variables as an object of what they are bound to.
+pub(crate) fn send_vars<W: Serializer>(
     alloc: Global,
     names: &[Text],
     vars: &[(Text, Bound)],
-) -> Result<Json, AllocError>
-    ensures { IfOk result (λ v. view v ≡ vars_data names.now (vars_of vars.now)) }
+    out: &mut W,
+) -> Result<(), W::Error>
+    ensures { OnOk result (SendsValue (vars_data names.now (vars_of vars.now))
+        (W.written out.old) (W.written out.new)) }
 {
-    let mut members: Map<String, Json> = Map::new(alloc);
-    for (name, bound) in vars {
-        let value = bound_value(alloc, names, bound)?;
-        serde_json::put(&mut members, alloc, name.as_str(), value)?;
+    let found = granted(by_name(alloc, vars), out)?;
+    out.begin_map(Some(found.len()))?;
+    for (name, bound) in found.iter() {
+        out.key(name.as_str())?;
+        send_bound(alloc, names, *bound, out)?;
     }
-    Ok(Json::from(members))
+    out.end_map()
 }

@@ -5,7 +5,8 @@ ghost use Rattle.jc_rules.specs.Context.{IsPrimitive};
 ghost use Rattle.jc_rules.specs.Ids.{AreRising};
 ghost use Rattle.jc_rules.specs.Shape.{IsKeptRegister};
 
-use jc_dump::dump::{id_text, key_text, tagged_text, tree_value};
+use jc_dump::dump::{id_text, key_text, tagged_text};
+use jc_dump::tree_text;
 use jc_rules::{Id, Key, Next, Tagged, Text, Value, insert_id};
 use jc_tree::{PlainTree, TreeStore, is_place};
 use std::alloc::{AllocError, Global};
@@ -216,10 +217,8 @@ impl Grown {
 
     /// Whether the dump of the tree alone is this text.
     fn is_shown(&self, rt: &impl Abort, alloc: Global, want: &str) -> Result<(), AllocError> {
-        let mut at = Vec::new(alloc);
-        assert!(rt; is_place(&self.store, at.as_slice()));
         let names = names(alloc)?;
-        let line = tree_value(alloc, &names, &self.store, &mut at)?.to_string(alloc)?;
+        let line = tree_text(alloc, &names, &self.store)?;
         is_text(rt, line.as_str(), want);
         Ok(())
     }

@@ -2,7 +2,7 @@
 
 ghost use Rattle.std.specs.Prelude.{◌<◌};
 
-use jc_dump::dump::tree_value;
+use jc_dump::tree_text;
 use jc_meaning::{have_distinct_ids, meaning, same_tree};
 use jc_network::Net;
 use jc_rules::{Op, Text};
@@ -15,8 +15,7 @@ use std::test::Fail;
 fn meant(rt: &impl Abort, alloc: Global, names: &[Text], ops: &[Op]) -> Result<String, AllocError> {
     assert!(rt; have_distinct_ids(ops));
     let tree = meaning(alloc, ops)?;
-    let value = tree_value(alloc, names, &tree, &mut Vec::new(alloc))?;
-    value.to_string(alloc)
+    tree_text(alloc, names, &tree)
 }
 
 fn is_text(rt: &impl Abort, got: &str, want: &str) {

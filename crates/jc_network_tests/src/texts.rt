@@ -1,7 +1,8 @@
 //! States of replicas as texts.
 
 use jc_cursor::Bound;
-use jc_dump::dump::{id_text, key_text, tagged_text, tree_value};
+use jc_dump::dump::{id_text, key_text, tagged_text};
+use jc_dump::tree_text;
 use jc_network::Net;
 use jc_replica::Replica;
 use jc_rules::{Id, Op, Tagged, Text};
@@ -107,9 +108,8 @@ pub fn push_tree(
     replica: &Replica<ArenaTree>,
     line: &mut String,
 ) -> Result<(), AllocError> {
-    let mut at = Vec::new(alloc);
-    let tree = tree_value(alloc, names, replica.tree(), &mut at)?;
-    line.push_str(tree.to_string(alloc)?.as_str())
+    let tree = tree_text(alloc, names, replica.tree())?;
+    line.push_str(tree.as_str())
 }
 
 /// Which part of a replica's state is shown.

@@ -1,7 +1,7 @@
 //! What is expected of replicas.
 
 use jc_cursor::Bound;
-use jc_dump::dump::{id_text, key_text, tagged_text, tree_value};
+use jc_dump::dump::{id_text, key_text, tagged_text};
 use jc_replica::{Replica, ReplicaFault};
 use jc_rules::{Event, Rule, Text, Trace};
 use jc_tree::PlainTree;
@@ -79,8 +79,7 @@ pub fn names(alloc: Global) -> Result<[Text; 2], AllocError> {
 
 pub fn tree_text(alloc: Global, replica: &Replica<PlainTree>) -> Result<String, AllocError> {
     let names = names(alloc)?;
-    let mut at = Vec::new(alloc);
-    tree_value(alloc, &names, replica.tree(), &mut at)?.to_string(alloc)
+    jc_dump::tree_text(alloc, &names, replica.tree())
 }
 
 /// The document has this dump.

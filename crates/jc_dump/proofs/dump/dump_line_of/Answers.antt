@@ -1,6 +1,11 @@
-use Rattle.std.proofs.Common.{◌≡◌, false, string_bytes, ap, ◌∙◌}
-use Rattle.serde_json.specs.View.{view}
-use Rattle.serde_json.specs.Written.{has_float, compact_text}
+use Rattle.std.proofs.Common.{[], Some, string_bytes}
+use Rattle.std.proofs.lemmas.Result.{IfOk-at_ok}
+use Rattle.serde.specs.Event.{Log}
+use Rattle.serde_json.specs.Events.{SendsValue}
+use Rattle.serde_json.specs.Sent.{IsTextOf}
+use Rattle.serde_json.proofs.FreeTexts.{text_of_value}
+use Rattle.jc_dump.specs.Dump.{object_of}
+use Rattle.jc_dump.specs.DumpParts.{shown_members}
 use Rattle.jc_dump.proofs.DumpFloats.{shown_float}
 use Rattle.jc_dump.proofs.DumpShown.{line_is}
 use Rattle.jc_dump.proofs.dump.dump_line_of.Goals as goal
@@ -10,5 +15,7 @@ returns g c = λ A h.
     let names = c.args.names.now in
     let shown = c.args.shown.now in
     let tree = g.S.TreeStore.tree c.args.store.now in
-    let whole : has_float (view c.in_ok-dump_value.field-0) ≡ false = ap has_float c.in_ok-dump_value.ensures ∙ shown_float names shown tree.now in
-    line_is names A shown tree.now h (string_bytes c.in_ok-line.line) (string_bytes c.push_str.new.self) (c.in_ok-line.ensures.text whole ∙ ap compact_text c.in_ok-dump_value.ensures) c.in_ok-push_str.ensures.bytes
+    let text = string_bytes c.in_ok-line.line in
+    let d = object_of (shown_members names shown tree.now) in
+    let sent = IfOk-at_ok (λ s. (log : Log) × SendsValue (object_of (shown_members names shown tree.now)) (Some []) log × IsTextOf log (string_bytes s)) {r = c.to_string.result} c.in_ok-line.ensures c.to_string.ensures.events in
+    line_is names A shown tree.now h text (string_bytes c.push_str.new.self) (text_of_value d sent.0 text sent.1 sent.2 (shown_float names shown tree.now)) c.in_ok-push_str.ensures.bytes

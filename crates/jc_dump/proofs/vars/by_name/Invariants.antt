@@ -1,0 +1,9 @@
+use Rattle.std.proofs.Common.{◌≡◌, ℕ, List, map, take}
+use Rattle.serde_json.specs.Data.{no_members}
+use Rattle.jc_cursor.specs.Bounds.{vars_of}
+use Rattle.jc_dump.specs.Dump.{put_all, var_member}
+use Rattle.jc_dump.specs.DumpParts.{shown_as, bound_shown}
+use Rattle.jc_dump.proofs.vars.by_name.Given as goal
+
+abbrev pub invariant-loop-name : goal.invariant-loop-name
+invariant-loop-name l = (names : List (List ℕ)) → shown_as (bound_shown names) l.found.entries ≡ put_all (map (var_member names) (vars_of (take l.name-index l.vars))) no_members
