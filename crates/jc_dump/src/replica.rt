@@ -25,19 +25,18 @@ fn ids_of(alloc: Global, ops: &[Op]) -> Result<Vec<Id>, AllocError>
     Ok(ids)
 }
 
-/// The dump line of the replica `p`, which has applied these operations.
+/// The dump line of the replica `p`, which has applied the operations with these identifiers.
 fn line_of(
     alloc: Global,
     names: &[Text],
     p: u16,
     replica: &Replica<ArenaTree>,
-    applied: &[Op],
+    applied: &[Id],
 ) -> Result<String, AllocError>
     ensures { IfOk result (λ line.
-        (A : State) → replica.now.now ≡ kept_state A → ids_of applied.now ≡ A.ops
+        (A : State) → replica.now.now ≡ kept_state A → applied.now ≡ A.ops
         → string_bytes line ≡ dump_line names.now (name_at names.now p) A) }
 {
-    let ops = ids_of(alloc, applied)?;
     let queue = ids_of(alloc, replica.queue())?;
     let recv = ids_of(alloc, replica.received())?;
     let send = ids_of(alloc, replica.sent())?;
@@ -45,7 +44,7 @@ fn line_of(
         name: name_at(names, p),
         acted: replica.acted(),
         left: replica.left().len(),
-        ops: ops.as_slice(),
+        ops: applied,
         queue: queue.as_slice(),
         recv: recv.as_slice(),
         send: send.as_slice(),
@@ -67,6 +66,7 @@ pub fn dump_replica(alloc: Global, net: &Net, p: u16) -> Result<String, CompareF
     };
     // Events have led to the network from a start, so what was applied is in the replica's lists.
     net.steps();
-    let applied = net.applied(p)?;
+    // The operations are copies, which go before the dump is written.
+    let applied = ids_of(alloc, net.applied(p)?.as_slice())?;
     Ok(line_of(alloc, net.names(), p, replica, applied.as_slice())?)
 }
