@@ -1,3 +1,4 @@
 mod Commands
+mod Limits
 mod Literals
 mod Helping

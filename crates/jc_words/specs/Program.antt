@@ -1,9 +1,10 @@
 -- The command line, as it is defined to its parser.
-use Rattle.std.specs.Prelude.{◌≡◌, true, false, Some, codes, []}
+use Rattle.std.specs.Prelude.{◌≡◌, true, false, Some, codes, [], ◌∷◌}
 use Rattle.clap.specs.Words.{App, Rule, Shape, Text, new_app, new_rule, with_rule, with_subcommand}
 use Rattle.clap.specs.declared.builder.command.Command.{Command}
 use Rattle.clap.specs.declared.builder.command.Command.TheViews.{out-Command}
 use Rattle.clap.specs.declared.builder.action.ArgAction.TheVariants.{SetTrue}
+use Rattle.clap.specs.declared.builder.value_parser.ValueParser.TheVariants.{Unsigned}
 
 -- no argument of the command is one of all commands
 abbrev pub IsLocal : Command → Type 0
@@ -15,12 +16,24 @@ file_rule = record (new_rule (codes "file")) { required = true; value_names = 1 
 abbrev pub trace_rule : Rule
 trace_rule = record (new_rule (codes "trace")) { long = Some (codes "trace"); action = Some SetTrue }
 
+-- a number from 0 to 100,000, and 10,000 where it is not said
+abbrev pub limit_rule : Rule
+limit_rule = record (new_rule (codes "limit")) {
+  long = Some (codes "limit");
+  value_names = 1;
+  parser = Some (Unsigned 0 100000);
+  defaults = codes "10000" ∷ [];
+}
+
 -- a command with nothing but its file
 abbrev pub plain_app : Text → App
 plain_app name = with_rule (new_app name) file_rule
 
 abbrev pub run_app : App
 run_app = with_rule (with_rule (new_app (codes "run")) trace_rule) file_rule
+
+abbrev pub threads_app : App
+threads_app = with_rule (with_rule (new_app (codes "threads")) limit_rule) file_rule
 
 -- The program without its commands: one of them is wanted. Help is asked for by a flag alone, so that each fault of the
 -- words has one kind.
@@ -32,5 +45,6 @@ bare = record { top = bare_shape (new_app (codes "jsoncrdt")).top; subs = [] }
 
 unfoldable pub program : App
 program =
-    with_subcommand (with_subcommand (with_subcommand (with_subcommand bare
-    (plain_app (codes "check")).top) (plain_app (codes "print")).top) run_app.top) (plain_app (codes "debug")).top
+    with_subcommand (with_subcommand (with_subcommand (with_subcommand (with_subcommand bare
+    (plain_app (codes "check")).top) (plain_app (codes "print")).top) run_app.top) (plain_app (codes "debug")).top)
+    threads_app.top

@@ -1,20 +1,29 @@
 -- What the words are taken for that the program is called with.
-use Rattle.std.specs.Prelude.{◌≡◌, ◌≢◌, List, [], ◌∷◌, Bool, true, Option, Some, None, codes, if◌then◌else◌, unwrap_or}
+use Rattle.std.specs.Prelude.{◌≡◌, ◌≢◌, ◌≤◌, ⊤, ℕ, List, [], ◌∷◌, Bool, true, Option, Some, None, codes, if◌then◌else◌, option_map, unwrap_or}
 use Rattle.std.specs.Option.{option_and_then}
 use Rattle.std.specs.Str.{bytes_eq}
+use Rattle.std.specs.Str.Parse.{digits_value, without_leading_plus}
+use Rattle.clap.specs.ValueTests.{is_unsigned_in}
 use Rattle.clap.specs.Words.{Kinds, Row, Text, fault_of, first_of, subcommand_of}
 use Rattle.clap.specs.declared.error.kind.ErrorKind.{ErrorKind}
 use Rattle.clap.specs.declared.error.kind.ErrorKind.TheVariants.{DisplayHelp, OutOfMemory}
 use Rattle.jc_words.specs.Program.{program}
 use Rattle.jc_words.specs.declared.order.Order.{Order}
 use Rattle.jc_words.specs.declared.order.Task.{Task}
-use Rattle.jc_words.specs.declared.order.Task.TheVariants.{Show, Debug}
+use Rattle.jc_words.specs.declared.order.Task.TheVariants.{Show, Debug, Threads}
 use Rattle.jc_words.specs.declared.order.View.TheVariants.{Check, Print, Run}
 use Rattle.jc_words.specs.declared.fault.WordsFault.{WordsFault}
 use Rattle.jc_words.specs.declared.fault.WordsFault.TheVariants.{Help, Usage, Memory}
 
 abbrev pub is_traced : List Row → Bool
 is_traced rows = bytes_eq (unwrap_or (first_of (codes "trace") rows) []) (codes "true")
+
+-- the number of a text that is one from 0 to 100,000
+abbrev pub limit_in : Text → Option ℕ
+limit_in text = if is_unsigned_in 0 100000 text then Some (digits_value 10 (without_leading_plus text)) else None
+
+abbrev pub limit_of : List Row → Option ℕ
+limit_of rows = option_and_then limit_in (first_of (codes "limit") rows)
 
 -- the task of the command with this name, by what the words gave its arguments
 abbrev pub task_in : Text → List Row → Option Task
@@ -23,7 +32,8 @@ task_in name rows =
     else (if bytes_eq name (codes "print") then Some (Show Print)
     else (if bytes_eq name (codes "run") then Some (Show (Run (is_traced rows)))
     else (if bytes_eq name (codes "debug") then Some Debug
-    else None)))
+    else (if bytes_eq name (codes "threads") then option_map Threads (limit_of rows)
+    else None))))
 
 abbrev pub with_file : Option Task → Option Text → Option Order
 with_file (Some task) (Some file) = Some (record { task = task; file = file })
@@ -46,6 +56,11 @@ words_order (w ∷ ws) = order_by (fault_of program (w ∷ ws)) (subcommand_of p
 -- the words are a call for help; they have no other fault then
 abbrev pub AsksHelp : List Text → Type 0
 AsksHelp words = fault_of program words ≡ DisplayHelp ∷ []
+
+-- a limit that the task has is from 0 to 100,000
+abbrev pub HasLimitInRange : Task → Type 0
+HasLimitInRange (Threads limit) = limit ≤ 100000
+HasLimitInRange task = ⊤
 
 -- why the words are no order
 abbrev pub IsWordsFault : List Text → WordsFault → Type 0

@@ -2,9 +2,10 @@
 
 ghost use Rattle.std.specs.Prelude.{◌≡◌, IfOk, false};
 ghost use Rattle.clap.specs.Words.{app_of, rule_of, new_app, with_rule};
-ghost use Rattle.jc_words.specs.Program.{IsLocal, file_rule, plain_app, run_app, program};
+ghost use Rattle.jc_words.specs.Program.{IsLocal, file_rule, plain_app, run_app, threads_app, program};
 
-use crate::help::{CHECK, DEBUG, PRINT, PROGRAM, RUN};
+use crate::help::{CHECK, DEBUG, PRINT, PROGRAM, RUN, THREADS};
+use clap::builder::ValueParser;
 use clap::{Arg, ArgAction, Command};
 use std::alloc::{AllocError, Global};
 
@@ -50,6 +51,25 @@ fn run<'a>(alloc: Global) -> Result<Command<'a>, AllocError>
         .arg(file(alloc))
 }
 
+fn threads<'a>(alloc: Global) -> Result<Command<'a>, AllocError>
+    ensures shape { IfOk result (λ c. app_of c ≡ threads_app) }
+    ensures local { IfOk result IsLocal }
+{
+    let limit = Arg::new(alloc, "limit")
+        .long("limit")
+        .value_name("N")
+        .help("How many events each replica makes at most, from 0 to 100000")
+        .value_parser(ValueParser::unsigned(0, 100_000))
+        .default_value("10000");
+    Command::new(alloc, "threads")
+        .about(
+            "Run each replica in a thread of its own, and print the scenario with the schedule that they made",
+        )
+        .after_help(THREADS)
+        .arg(limit)?
+        .arg(file(alloc))
+}
+
 /// The whole command line, but for the program's name.
 pub(crate) fn definition<'a>(alloc: Global) -> Result<Command<'a>, AllocError>
     ensures { IfOk result (λ c. app_of c ≡ program) }
@@ -73,6 +93,7 @@ pub(crate) fn definition<'a>(alloc: Global) -> Result<Command<'a>, AllocError>
         "Answer the lines of standard input, which go through the schedule and look at the states",
         DEBUG,
     )?;
+    let threads = threads(alloc)?;
     let top = Command::new(alloc, "jsoncrdt")
         .about("Runs scenarios of a replicated JSON document, and shows each rule that is used")
         .after_help(PROGRAM)
@@ -82,5 +103,6 @@ pub(crate) fn definition<'a>(alloc: Global) -> Result<Command<'a>, AllocError>
     top.subcommand(check)?
         .subcommand(print)?
         .subcommand(run)?
-        .subcommand(debug)
+        .subcommand(debug)?
+        .subcommand(threads)
 }

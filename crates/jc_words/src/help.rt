@@ -16,9 +16,9 @@ Statuses:\n  \
 0  done, also after help\n  \
 1  the scenario's text was refused; the line printed says why and where\n  \
 2  the words are no command\n  \
-3  an event was stuck, since no rule allows it; the last line says why\n  \
+3  an event was stuck, since no rule allows it; a line says why\n  \
 4  a read or a write failed, or a session had too many lines\n  \
-5  there was no memory";
+5  there was no memory, or a thread could not be made";
 
 /// The help of `check`.
 pub(crate) const CHECK: &str = "A scenario is a text with a script of commands for each replica,\n\
@@ -113,3 +113,38 @@ Statuses:\n  \
 2  the words are no command\n  \
 4  a read or a write failed, or there were more than 1,000,000 lines or 67,108,864 bytes of them\n  \
 5  there was no memory";
+
+/// The help of `threads`.
+pub(crate) const THREADS: &str =
+    "A scenario is a text with a script of commands for each replica,\n\
+and a schedule of the events that run them.\n\
+That schedule is left aside. Each replica makes events by itself, and the schedule printed\n\
+has the events of all replicas in the order in which they were made.\n\
+\n\
+For each replica a line `NAME made M END` goes to standard error, where M is how many events\n\
+it made, and END is why it made no more:\n  \
+finished   its script is done\n  \
+limit      it made N events, or the schedule has 100000\n  \
+no memory  there was no memory for more\n  \
+stuck ..   no rule allows its next event; the line says why\n\
+\n\
+Example:\n  \
+echo 'jsoncrdt 1 replica a { doc.get(\"a\") := 1 } schedule { a.exec }' | jsoncrdt threads -\n\
+prints\n  \
+jsoncrdt 1\n  \
+replica a {\n    \
+doc.get(\"a\") := 1;\n  \
+}\n  \
+schedule {\n    \
+a.exec;\n  \
+}\n\
+and on standard error\n  \
+a made 1 finished\n\
+\n\
+Statuses:\n  \
+0  done, also after help\n  \
+1  the scenario's text was refused; the line printed says why and where\n  \
+2  the words are no command\n  \
+3  a replica's event was stuck, since no rule allows it; its line says why\n  \
+4  a read or a write failed\n  \
+5  there was no memory, or a thread could not be made";

@@ -23,6 +23,11 @@ pub enum Task {
     Show(View),
     /// Answer the lines of standard input, each about its run.
     Debug,
+    /// Run each replica in a thread of its own, and print the scenario with the schedule that they made.
+    Threads {
+        /// How many events each replica makes at most.
+        limit: u64,
+    },
 }
 
 /// A task, and the file with the scenario's text. The file `-` is standard input.

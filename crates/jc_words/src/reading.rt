@@ -5,7 +5,7 @@ ghost use Rattle.std.specs.Option.{option_and_then};
 ghost use Rattle.std.specs.Str.{bytes_eq};
 ghost use Rattle.clap.specs.Words.{FailsBy, fault_of, first_of, found_of, rows_of, subcommand_of, subcommand_rows_of};
 ghost use Rattle.jc_words.specs.Program.{program};
-ghost use Rattle.jc_words.specs.Words.{is_traced, task_in, order_in, words_order, AsksHelp, IsWordsFault};
+ghost use Rattle.jc_words.specs.Words.{is_traced, limit_in, limit_of, task_in, order_in, words_order, AsksHelp, HasLimitInRange, IsWordsFault};
 
 use crate::definition::definition;
 use crate::fault::{WordsFault, fault_by};
@@ -40,6 +40,26 @@ fn has_trace(matches: &ArgMatches<'_>) -> bool
     }
 }
 
+/// The number of a text that is one from 0 to 100,000.
+fn limit_in(text: &str) -> Option<u64>
+    ensures { result ≡ limit_in text.now }
+{
+    match text.parse::<u64>() {
+        Ok(limit) if limit <= 100_000 => Some(limit),
+        _ => None,
+    }
+}
+
+/// How many events each replica makes at most.
+fn limit_of(matches: &ArgMatches<'_>) -> Option<u64>
+    ensures { result ≡ limit_of (rows_of (found_of matches.now)) }
+{
+    match matches.get_str("limit") {
+        Some(text) => limit_in(text),
+        None => None,
+    }
+}
+
 /// The task of a command with these matches.
 fn task_of(name: &str, matches: &ArgMatches<'_>) -> Option<Task>
     ensures { result ≡ task_in name.now (rows_of (found_of matches.now)) }
@@ -51,6 +71,10 @@ fn task_of(name: &str, matches: &ArgMatches<'_>) -> Option<Task>
             trace: has_trace(matches),
         })),
         "debug" => Some(Task::Debug),
+        "threads" => match limit_of(matches) {
+            Some(limit) => Some(Task::Threads { limit }),
+            None => None,
+        },
         _ => None,
     }
 }
@@ -82,6 +106,8 @@ pub fn order_of(alloc: Global, words: &[String]) -> Result<Order, WordsFault>
     // What is refused is no order; it is help where that is asked for, and else a fault.
     ensures err { IfErr result (IsWordsFault (map string_bytes words.now)) }
     ensures help { AsksHelp (map string_bytes words.now) → IsErr result }
+    // A limit is from 0 to 100,000.
+    ensures limit { IfOk result (λ order. HasLimitInRange order.task) }
 {
     if words.is_empty() {
         let file = copied(alloc, "-")?;

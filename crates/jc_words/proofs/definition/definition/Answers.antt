@@ -24,4 +24,5 @@ returns c =
     let one = c.in_ok-subcommand.ensures.shape c.in_ok-check.ensures.local ∙ ap₂ with_subcommand top_is (ap (λ (a : App). a.top) c.in_ok-check.ensures.shape) in
     let two = c.in_ok-subcommand-2.ensures.shape c.in_ok-print.ensures.local ∙ ap₂ with_subcommand one (ap (λ (a : App). a.top) c.in_ok-print.ensures.shape) in
     let three = c.in_ok-subcommand-3.ensures.shape c.in_ok-run.ensures.local ∙ ap₂ with_subcommand two (ap (λ (a : App). a.top) c.in_ok-run.ensures.shape) in
-    IfOk-weaker c.subcommand-4.result _ _ (λ m h. h.shape c.in_ok-debug.ensures.local ∙ ap₂ with_subcommand three (ap (λ (a : App). a.top) c.in_ok-debug.ensures.shape)) c.subcommand-4.ensures
+    let four = c.in_ok-subcommand-4.ensures.shape c.in_ok-debug.ensures.local ∙ ap₂ with_subcommand three (ap (λ (a : App). a.top) c.in_ok-debug.ensures.shape) in
+    IfOk-weaker c.subcommand-5.result _ _ (λ m h. h.shape c.in_ok-threads.ensures.local ∙ ap₂ with_subcommand four (ap (λ (a : App). a.top) c.in_ok-threads.ensures.shape)) c.subcommand-5.ensures

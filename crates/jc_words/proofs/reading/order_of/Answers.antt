@@ -1,7 +1,8 @@
 use Rattle.std.proofs.Common.{◌≡◌, ◌≢◌, ◌∙◌, [], sym, None, length, map, string_bytes, true-eqb, false-eqb}
-use Rattle.clap.specs.Words.{fault_of}
+use Rattle.clap.specs.Words.{fault_of, subcommand_rows_of}
 use Rattle.jc_words.specs.Program.{program}
 use Rattle.jc_words.proofs.Commands.{none_said, some_said, unasked, unsaid, faulty, ordered}
+use Rattle.jc_words.proofs.Limits.{order_in_range}
 use Rattle.jc_words.proofs.reading.order_of.Goals as goal
 
 pub returns-then-is_empty-clause-ok : goal.returns-then-is_empty-clause-ok
@@ -39,3 +40,6 @@ pub returns-in-Some-clause-help : goal.returns-in-Some-clause-help
 returns-in-Some-clause-help c = λ asks.
     let none : fault_of program (map string_bytes c.args.words.now) ≡ [] = c.in-Ok.ensures.kinds in
     let bad = sym none ∙ asks in cc
+
+pub returns-in-Some-clause-limit : goal.returns-in-Some-clause-limit
+returns-in-Some-clause-limit c = order_in_range (subcommand_rows_of c.in-Ok.matches) c.in-Some.order (sym (sym c.in-Some.is ∙ c.in_ok-order.ensures))
