@@ -7,3 +7,4 @@ pub mod Ending
 pub mod OneRun
 pub mod Talked
 pub mod Orders
+mod Threaded

@@ -3,7 +3,7 @@ use Rattle.std.proofs.Common.{◌≡◌, ◌⊎◌, ℕ, inl, inr, List, Option,
 use Rattle.std.proofs.lemmas.Option.{same_Some}
 use Rattle.jc_words.specs.declared.order.Order.{Order}
 use Rattle.jc_words.specs.declared.order.Task.{Task}
-use Rattle.jc_words.specs.declared.order.Task.TheVariants.{Show, Debug}
+use Rattle.jc_words.specs.declared.order.Task.TheVariants.{Show, Debug, Threads}
 use Rattle.jc_words.specs.declared.fault.WordsFault.{WordsFault}
 use Rattle.jc_words.specs.declared.fault.WordsFault.TheVariants as W
 use Rattle.jc_words.specs.Words.{IsWordsFault, words_order}
@@ -22,6 +22,7 @@ use Rattle.jc_app.proofs.Talked.{without_memory}
 nothing_done : (task : Task) (told lines out : Option (List ℕ)) → IsStopped task Memory told lines lines out out
 nothing_done (Show view) told lines out = begun_nothing view told out
 nothing_done Debug told lines out = without_memory told lines lines out refl
+nothing_done (Threads limit) told lines out = refl
 
 -- Words that are an order are refused for want of memory alone. Nothing was done of it then.
 pub unordered : (words : List (List ℕ)) (fault : WordsFault) (n : ℕ) (order : Order) (told lines a b : Option (List ℕ)) → IsWordsFault words fault → IsEndOf fault n → words_order words ≡ Some order → ((n ≡ 2) ⊎ (n ≡ 5) → b ≡ a) → (n ≡ 5) × IsStopped order.task Memory told lines lines a b
@@ -55,6 +56,7 @@ of_session (text_refused fault) status e = subst IsEnd (same_Some 1 status e) re
 pub is_end : (task : Task) (told lines a b : Option (List ℕ)) (status : ℕ) → IsDone task told lines a b status → IsEnd status
 is_end (Show view) told lines a b status h = of_view view h.0 h.1 status h.3
 is_end Debug told lines a b status h = of_session h.2.0 status h.2.1
+is_end (Threads limit) told lines a b status h = absurd h
 
 no_fault_at : {n : ℕ} → IsEnd n → (Some n ≡ Some 4) ⊎ (Some n ≡ Some 5) → ⊥
 no_fault_at well (inl e) = let bad : ◌≡◌ {A = ℕ} 0 4 = same_Some 0 4 e in cc
@@ -67,3 +69,13 @@ no_fault_at stuck (inr e) = let bad : ◌≡◌ {A = ℕ} 3 5 = same_Some 3 5 e 
 -- a task that is done has the status of no fault
 pub no_fault : (task : Task) (told lines a b : Option (List ℕ)) (n : ℕ) → IsDone task told lines a b n → (Some n ≡ Some 4) ⊎ (Some n ≡ Some 5) → ⊥
 no_fault task told lines a b n h e = no_fault_at (is_end task told lines a b n h) e
+
+-- ---- words that ask for threads
+
+pub same_limit : (a b : ℕ) → Threads a ≡ Threads b → a ≡ b
+same_limit a b e = cc
+
+-- an answer that is there
+pub answered : {n a : ℕ} → (Some n ≡ None) ⊎ (Some n ≡ Some a) → Some n ≡ Some a
+answered (inl none) = cc
+answered (inr some) = some

@@ -9,7 +9,7 @@ use Rattle.jc_session.specs.Went.{WentToRead, WentWhole, WentFront, ShowsAll, We
 use Rattle.jc_debug.specs.Session.{Session}
 use Rattle.jc_app.specs.Talked.{lines_by, TalksOn, StopsOn, HasTalked, HasStopped}
 use Rattle.jc_app.specs.declared.work.WorkFault.{WorkFault}
-use Rattle.jc_app.specs.declared.work.WorkFault.TheVariants.{Read, Write, TooManyLines, Memory}
+use Rattle.jc_app.specs.declared.work.WorkFault.TheVariants.{Read, Write, TooManyLines, NoThread, Memory}
 use Rattle.jc_app.proofs.Reading.{reads_whole}
 
 -- ---- what is told of the lines
@@ -58,6 +58,7 @@ stops_whole Read n b v lines left old new is e (inr h) = inr (scenario_whole (λ
 stops_whole Write n b v lines left old new is e (inl h) = inl (refused_whole n b v old new is e h)
 stops_whole Write n b v lines left old new is e (inr h) = inr (scenario_whole (λ O A. IfSome lines (λ l. WentFront O A l left old new)) n b v is e h)
 stops_whole TooManyLines n b v lines left old new is e h = all_whole n b v lines old new too_many is e h
+stops_whole NoThread n b v lines left old new is e h = absurd h
 stops_whole Memory n b v lines left old new is e (inl h) = inl h
 stops_whole Memory n b v lines left old new is e (inr h) = inr (scenario_whole (λ O A. IfSome lines (λ l. WentWhole O A l left old new)) n b v is e h)
 

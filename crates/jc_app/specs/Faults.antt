@@ -3,12 +3,13 @@ use Rattle.std.specs.Prelude.{◌≡◌, ◌≢◌, ◌⊎◌, ◌<◌, ℕ, Lis
 use Rattle.jc_words.specs.declared.fault.WordsFault.{WordsFault}
 use Rattle.jc_words.specs.declared.fault.WordsFault.TheVariants as words
 use Rattle.jc_app.specs.declared.work.WorkFault.{WorkFault}
-use Rattle.jc_app.specs.declared.work.WorkFault.TheVariants.{Read, Write, TooManyLines, Memory}
+use Rattle.jc_app.specs.declared.work.WorkFault.TheVariants.{Read, Write, TooManyLines, NoThread, Memory}
 
 abbrev pub fault_status : WorkFault → ℕ
 fault_status Read = 4
 fault_status Write = 4
 fault_status TooManyLines = 4
+fault_status NoThread = 5
 fault_status Memory = 5
 
 -- the line of standard error
@@ -16,6 +17,7 @@ abbrev pub fault_line : WorkFault → List ℕ
 fault_line Read = codes "read failed\n"
 fault_line Write = codes "write failed\n"
 fault_line TooManyLines = codes "too many lines\n"
+fault_line NoThread = codes "no thread\n"
 fault_line Memory = codes "no memory\n"
 
 -- the status that words have which are no order: help may fail to be written
@@ -35,4 +37,5 @@ IsCause Read unread input_old input_new out_old out_new =
     ((input_old < input_new) ⊎ unread) × (out_new ≡ out_old)
 IsCause Write unread input_old input_new out_old out_new = (input_new ≡ input_old) × (out_old < out_new)
 IsCause TooManyLines unread input_old input_new out_old out_new = (input_new ≡ input_old) × (out_new ≡ out_old)
+IsCause NoThread unread input_old input_new out_old out_new = (input_new ≡ input_old) × (out_new ≡ out_old)
 IsCause Memory unread input_old input_new out_old out_new = (input_new ≡ input_old) × (out_new ≡ out_old)

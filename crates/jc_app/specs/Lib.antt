@@ -6,4 +6,5 @@ pub mod Played
 pub mod Faults
 pub mod Talked
 pub mod Orders
+pub mod Threaded
 pub mod Laws

@@ -5,7 +5,7 @@ use Rattle.jc_session.specs.Shown.{End, finished, too_many, text_refused}
 use Rattle.jc_session.specs.Went.{WentToRead, WentWhole, WentFront, WentRefused, ShowsAll, OnScenario}
 use Rattle.jc_app.specs.Due.{AreTold}
 use Rattle.jc_app.specs.declared.work.WorkFault.{WorkFault}
-use Rattle.jc_app.specs.declared.work.WorkFault.TheVariants.{Read, Write, TooManyLines, Memory}
+use Rattle.jc_app.specs.declared.work.WorkFault.TheVariants.{Read, Write, TooManyLines, NoThread, Memory}
 
 -- What is told of the lines of a session: none are left at `-`, where the input has the scenario.
 abbrev pub lines_by : Option (List ℕ) → List ℕ → Option (List ℕ)
@@ -38,6 +38,7 @@ StopsOn Read bytes lines left old new =
 StopsOn Write bytes lines left old new =
     WentRefused bytes old new ⊎ OnScenario bytes (λ O A. IfSome lines (λ l. WentFront O A l left old new))
 StopsOn TooManyLines bytes lines left old new = IfSome lines (λ l. ShowsAll bytes l too_many old new)
+StopsOn NoThread bytes lines left old new = ⊥
 StopsOn Memory bytes lines left old new =
     IsUnstarted lines left old new ⊎ OnScenario bytes (λ O A. IfSome lines (λ l. WentWhole O A l left old new))
 

@@ -1,16 +1,18 @@
-//! `jsoncrdt`: checks, prints, runs and debugs scenarios.
+//! `jsoncrdt`: checks, prints, runs and debugs scenarios, and runs their replicas in threads.
 #![tactic(auto)]
 
 mod files;
 mod laws;
+mod program;
 mod run;
 mod sessions;
 mod texts;
+mod threads;
 mod words;
 mod work;
 
-use crate::words::{exit_of, refuse_words, words_of};
-use crate::work::work_alone;
+use crate::program::work;
+use crate::words::{refuse_words, words_of};
 use jc_rules::io::{FromRead, ToWrite};
 use std::process::ExitCode;
 
@@ -19,10 +21,10 @@ fn main(rt: HostRuntime) -> ExitCode {
     let mut out = ToWrite::new(rt.stdout());
     let mut err = ToWrite::new(rt.stderr());
     let status = match words_of(&rt) {
-        Ok(words) => { work_alone(&rt, &words, &mut input, &mut out, &mut err) }
-        Err(error) => Some(refuse_words(error.kind(), &mut err)),
+        Ok(words) => work(&rt, &words, &mut input, &mut out, &mut err),
+        Err(error) => refuse_words(error.kind(), &mut err),
     };
-    exit_of(status)
+    ExitCode::from(status)
 }
 
 #[cfg(test)]

@@ -43,6 +43,7 @@ fn converse<S: Source, K: Sink>(
         ((S.failures lines.new ≡ S.failures lines.old) × (K.failures out.new ≡ K.failures out.old)) }
     ensures cause { IfErr result (λ fault. IsCause fault ⊥
         (S.failures lines.old) (S.failures lines.new) (K.failures out.old) (K.failures out.new)) }
+    ensures unthreaded { IsErrOf result WorkFault.NoThread → ⊥ }
 {
     match session(alloc, text, lines, out) {
         Ok(SessionEnd::Finished) => Ok(0),
@@ -73,6 +74,7 @@ pub fn debug<R: AllocGlobal + Files, I: Source, K: Sink>(
         ((I.failures input.new ≡ I.failures input.old) × (K.failures out.new ≡ K.failures out.old)) }
     ensures cause { IfErr result (λ fault. IsCause fault (IsUnread (R.may_fail rt.now) file.now)
         (I.failures input.old) (I.failures input.new) (K.failures out.old) (K.failures out.new)) }
+    ensures unthreaded { IsErrOf result WorkFault.NoThread → ⊥ }
 {
     let text = match text_of(rt, file, input) {
         Ok(text) => text,

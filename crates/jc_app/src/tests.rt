@@ -5,6 +5,7 @@ mod commands;
 mod examples;
 mod scenarios;
 mod sessions;
+mod threads;
 mod whole_runs;
 
 use std::process::Abort;

@@ -1,13 +1,11 @@
-//! The words that the program is called with, and the code that it exits with.
+//! The words that the program is called with.
 
-ghost use Rattle.std.specs.Prelude.{◌≡◌, ◌≢◌, codes, unwrap_or};
-ghost use Rattle.std.specs.Process.{exit_status};
+ghost use Rattle.std.specs.Prelude.{◌≡◌, ◌≢◌, codes};
 ghost use Rattle.jc_app.specs.Due.{AppendsUpTo};
 
 use crate::work::{WorkFault, end};
 use jc_rules::io::Sink;
 use std::io::ErrorKind;
-use std::process::ExitCode;
 use std::rt::Env;
 use std::{env, io};
 
@@ -31,12 +29,4 @@ pub fn refuse_words<E: Sink>(why: ErrorKind, err: &mut E) -> u8
         ErrorKind::OutOfMemory => end(WorkFault::Memory, err),
         _ => 2,
     }
-}
-
-/// The code to exit with, for a status. Without one the command line asks for what the program
-/// doesn't do, which is 2.
-pub fn exit_of(status: Option<u8>) -> ExitCode
-    ensures { exit_status result ≡ unwrap_or status 2 }
-{
-    ExitCode::from(status.unwrap_or(2))
 }

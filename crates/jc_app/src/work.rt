@@ -11,7 +11,7 @@ ghost use Rattle.jc_words.specs.Words.{words_order, AsksHelp};
 ghost use Rattle.jc_app.specs.Ran.{Ran, RanThrough, Shows, IsRefused};
 ghost use Rattle.jc_app.specs.Due.{AppendsUpTo, AppendsFrontOf, IsRunDue, IsDueOf, IsDueAt, IsDue, HasRun, HasBegun, told_by};
 ghost use Rattle.jc_app.specs.Faults.{fault_status, fault_line, IsCause, IsEndOf, IsUnread};
-ghost use Rattle.jc_app.specs.Orders.{IsDone, IsStopped};
+ghost use Rattle.jc_app.specs.Orders.{IsAlone, IsDone, IsStopped, IsThreadsOrder};
 ghost use Rattle.jc_app.specs.Talked.{lines_by};
 
 use crate::files::Files;
@@ -30,7 +30,7 @@ use std::alloc::Global;
 const MOST_READ: usize = 8388609;
 
 /// Writes the line of a refused text. Want of memory has no line.
-fn refuse<K: Sink>(alloc: Global, fault: &ScenarioFault, out: &mut K) -> Result<u8, RunFault>
+pub fn refuse<K: Sink>(alloc: Global, fault: &ScenarioFault, out: &mut K) -> Result<u8, RunFault>
     ensures ok { IfOk result (λ status.
         (shown : List ℕ) × IsRefused fault.now shown status × Appends (K.taken out.old) (K.taken out.new) shown) }
     ensures begun { OnErr result (AppendsFrontOf (IsDueAt fault.now) (K.taken out.old) (K.taken out.new)) }
@@ -137,6 +137,8 @@ pub enum WorkFault {
     Write,
     /// A session had more lines than it may have.
     TooManyLines,
+    /// A thread could not be made.
+    NoThread,
     /// There was no memory.
     Memory,
 }
@@ -149,6 +151,7 @@ impl WorkFault {
             WorkFault::Read => "read failed\n",
             WorkFault::Write => "write failed\n",
             WorkFault::TooManyLines => "too many lines\n",
+            WorkFault::NoThread => "no thread\n",
             WorkFault::Memory => "no memory\n",
         }
     }
@@ -160,6 +163,7 @@ impl WorkFault {
             WorkFault::Read => 4,
             WorkFault::Write => 4,
             WorkFault::TooManyLines => 4,
+            WorkFault::NoThread => 5,
             WorkFault::Memory => 5,
         }
     }
@@ -215,6 +219,7 @@ fn show_file<R: AllocGlobal + Files, I: Source, K: Sink>(
         ((I.failures input.new ≡ I.failures input.old) × (K.failures out.new ≡ K.failures out.old)) }
     ensures cause { IfErr result (λ fault. IsCause fault (IsUnread (R.may_fail rt.now) file.now)
         (I.failures input.old) (I.failures input.new) (K.failures out.old) (K.failures out.new)) }
+    ensures unthreaded { IsErrOf result WorkFault.NoThread → ⊥ }
 {
     let text = match text_of(rt, file, input) {
         Ok(text) => text,
@@ -228,13 +233,14 @@ fn show_file<R: AllocGlobal + Files, I: Source, K: Sink>(
     }
 }
 
-/// Carries an order out, and answers its status.
+/// Carries an order out that waits for nobody, and answers its status.
 fn carry_out<R: AllocGlobal + Files, I: Source, K: Sink>(
     rt: &R,
     order: &Order,
     input: &mut I,
     out: &mut K,
 ) -> Result<u8, WorkFault>
+    requires { IsAlone order.now.task }
     ensures done { IfOk result (IsDone order.now.task
         (told_by (I.left input.old) (R.texts rt.now) order.now.file) (lines_by (I.left input.old) order.now.file)
         (K.taken out.old) (K.taken out.new)) }
@@ -250,15 +256,17 @@ fn carry_out<R: AllocGlobal + Files, I: Source, K: Sink>(
         ((I.failures input.new ≡ I.failures input.old) × (K.failures out.new ≡ K.failures out.old)) }
     ensures cause { IfErr result (λ fault. IsCause fault (IsUnread (R.may_fail rt.now) order.now.file)
         (I.failures input.old) (I.failures input.new) (K.failures out.old) (K.failures out.new)) }
+    ensures unthreaded { IsErrOf result WorkFault.NoThread → ⊥ }
 {
     match order.task {
         Task::Show(view) => show_file(rt, view, order.file.as_str(), input, out),
         Task::Debug => debug(rt, order.file.as_str(), input, out),
+        Task::Threads { .. } => unreachable!(),
     }
 }
 
 /// Answers words that are no order: help on the output, and what is wrong with the words on `err`.
-fn explain<K: Sink, E: Sink>(fault: &WordsFault, out: &mut K, err: &mut E) -> u8
+pub fn explain<K: Sink, E: Sink>(fault: &WordsFault, out: &mut K, err: &mut E) -> u8
     ensures status { IsEndOf fault.now result }
     ensures shown { (text : List ℕ) × AppendsUpTo (K.taken out.old) (K.taken out.new) text }
     ensures silent { (result ≡ 2) ⊎ (result ≡ 5) → out.new ≡ out.old }
@@ -281,8 +289,9 @@ fn explain<K: Sink, E: Sink>(fault: &WordsFault, out: &mut K, err: &mut E) -> u8
     }
 }
 
-/// The program but for what waits. The words are those after the program's name; without words it
-/// does `run --trace -`. It carries out the order that they are, and answers its status: 0 where it
+/// The program but for what waits, which is the command `threads`: there it does nothing, and has no
+/// answer.
+/// The words are those after the program's name; without words it does `run --trace -`. It carries out the order that they are, and answers its status: 0 where it
 /// is done, 1 where the text was refused, 3 where an event was stuck, 4 where a read or a write
 /// failed or a session had too many lines, 5 where there was no memory. Where the file of the order
 /// is `-` the text is that of the input. Of a text at most 8,388,609 bytes are read.
@@ -302,13 +311,21 @@ pub fn work_alone<R: AllocGlobal + Files, I: Source, K: Sink, E: Sink>(
     out: &mut K,
     err: &mut E,
 ) -> Option<u8>
-    ensures answered { result ≢ None }
+    // It has no answer exactly where threads are asked for, unless there was no memory for the words.
+    // Then it has done nothing.
+    ensures waits { result ≡ None → IsThreadsOrder (map string_bytes words.now) }
+    ensures threads { (order : Order) (limit : ℕ)
+        → words_order (map string_bytes words.now) ≡ Some order
+        → order.task ≡ Task.Threads limit
+        → (result ≡ None) ⊎ (result ≡ Some 5) }
+    ensures untouched { result ≡ None → (input.new ≡ input.old) × (out.new ≡ out.old) × (err.new ≡ err.old) }
 
     // An order is never a fault of the words. If nothing failed and memory was there, what the order
     // shows was written, and its status is the answer.
     ensures order { (order : Order) → words_order (map string_bytes words.now) ≡ Some order → result ≢ Some 2 }
     ensures done { (order : Order)
         → words_order (map string_bytes words.now) ≡ Some order
+        → IsAlone order.task
         → result ≢ Some 4
         → result ≢ Some 5
         → (status : ℕ)
@@ -364,6 +381,9 @@ pub fn work_alone<R: AllocGlobal + Files, I: Source, K: Sink, E: Sink>(
         Ok(order) => order,
         Err(fault) => return Some(explain(&fault, out, err)),
     };
+    if let Task::Threads { .. } = order.task {
+        return None;
+    }
     match carry_out(rt, &order, input, out) {
         Ok(status) => Some(status),
         Err(fault) => Some(end(fault, err)),

@@ -1,12 +1,12 @@
 //! The words that the program is called with.
 
 use super::{counts, holds};
-use crate::words::{exit_of, refuse_words, words_of};
+use crate::words::{refuse_words, words_of};
 use jc_fakes::Taken;
 use std::alloc::Global;
 use std::env::FillError;
 use std::io::ErrorKind;
-use std::process::{Abort, ExitCode};
+use std::process::Abort;
 use std::rt::Env;
 
 /// A call of the program with these words, its name first.
@@ -80,12 +80,4 @@ fn words_that_cannot_be_read(rt: HostRuntime) {
     expect_refused(&rt, alloc, ErrorKind::OutOfMemory, 5, b"no memory\n");
     expect_refused(&rt, alloc, ErrorKind::InvalidData, 2, b"");
     expect_refused(&rt, alloc, ErrorKind::Interrupted, 2, b"");
-}
-
-#[test]
-fn exit_codes(rt: HostRuntime) {
-    for status in 0..6u8 {
-        holds(&rt, exit_of(Some(status)) == ExitCode::from(status));
-    }
-    holds(&rt, exit_of(None) == ExitCode::from(2));
 }

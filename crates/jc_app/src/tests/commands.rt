@@ -136,7 +136,9 @@ fn expect_unread<R: AllocGlobal + Files + Abort>(rt: &R, words: &[&str], status:
 const UNKNOWN: &[&[&str]] = &[
     &["debug"],
     &["debug", "--trace", "-"],
-    &["threads", "-"],
+    &["threads"],
+    &["threads", "--limit", "100001", "-"],
+    &["threads", "--limit", "x", "-"],
     &["jump"],
     &["help"],
     &[""],
@@ -173,6 +175,7 @@ const HELPS: &[(&[&str], &[&str])] = &[
             "print",
             "run",
             "debug",
+            "threads",
             "  3  an event was stuck",
         ],
     ),
@@ -217,6 +220,17 @@ const HELPS: &[(&[&str], &[&str])] = &[
             "  break at N, break rule NAME, break replica NAME\n",
             "FILE",
             "  1  the scenario's text was refused",
+        ],
+    ),
+    (
+        &["threads", "--help"],
+        &[
+            "A scenario is",
+            ONE,
+            "a made 1 finished\n",
+            "--limit",
+            "10000",
+            "FILE",
         ],
     ),
 ];

@@ -1,9 +1,12 @@
-use Rattle.std.proofs.Common.{◌≡◌, Some, map, string_bytes, refl, ap, sym, ◌∙◌}
+use Rattle.std.proofs.Common.{◌≡◌, Some, Err, map, string_bytes, refl, ap, sym, ◌∙◌}
+use Rattle.std.proofs.lemmas.Option.{same_Some}
 use Rattle.jc_words.specs.declared.order.Order.{Order}
 use Rattle.jc_app.specs.Due.{told_by}
 use Rattle.jc_app.specs.Talked.{lines_by}
 use Rattle.jc_app.specs.declared.work.WorkFault.TheVariants.{Memory}
+use Rattle.jc_app.specs.Faults.{fault_status}
 use Rattle.jc_app.proofs.Orders.{unordered, no_fault}
+use Rattle.jc_app.proofs.Threaded.{memory_only}
 use Rattle.jc_app.proofs.work.work_alone.Goals as goal
 
 -- there was no memory for the words
@@ -23,3 +26,15 @@ returns-in-Ok-carry_out-clause-stopped g c = λ order some ends.
     let left = g.I.Source.left c.args.input.now in
     let o : Order = c.in-Ok.order in
     absurd (no_fault o.task (told_by left (g.R.Files.texts c.args.rt.now) o.file) (lines_by left o.file) (g.K.Sink.taken c.args.out.now) (g.K.Sink.taken c.carry_out.new.out) c.in-Ok-carry_out.status c.in-Ok-carry_out.ensures.done ends)
+
+-- what was carried out asks for no threads
+pub returns-clause-threads : goal.returns-clause-threads
+returns-clause-threads g c = λ order limit some is.
+    let same : c.in-Ok.order ≡ order = same_Some c.in-Ok.order order (sym c.in-Ok.ensures.ok ∙ some) in
+    absurd (c.in_default.not-Threads limit (ap (λ (o : Order). o.task) same ∙ is))
+
+-- nor does it want a thread
+pub returns-clause-memory_line : goal.returns-clause-memory_line
+returns-clause-memory_line g c = λ five.
+    let ends : fault_status c.in-Err-carry_out.fault ≡ 5 = sym c.end.ensures.status ∙ same_Some c.end.result 5 five in
+    memory_only c.in-Err-carry_out.fault (g.E.Sink.taken c.args.err.now) (g.E.Sink.taken c.end.new.err) (λ e. c.in-Err-carry_out.ensures.unthreaded (ap Err e)) ends c.end.ensures.line
