@@ -52,8 +52,8 @@ send_tree-loop-name-preserved g t c =
     let key : Logs (g.W.Serializer.written c.loop-name.out) (g.W.Serializer.written c.key.new.self) (field_key (string_bytes c.in-Some.name.now) AsIs) =
     subst (λ s. Logs (g.W.Serializer.written c.loop-name.out) (g.W.Serializer.written c.key.new.self) (field_key s AsIs)) name c.in_ok-key.ensures in
     let sent : SendsValue (part_data names d part) (g.W.Serializer.written c.key.new.self) (g.W.Serializer.written c.send_part.new.out) =
-    subst (λ (s : List Tagged). SendsValue (part_data names (here s tree) part) (g.W.Serializer.written c.key.new.self) (g.W.Serializer.written c.send_part.new.out)) c.loop-name.invariant.0 c.in_ok-send_part.ensures.sent in (
-      ◌∙◌ {A = List Tagged} c.in_ok-send_part.ensures.place c.loop-name.invariant.0,
+    subst (λ (s : List Tagged). SendsValue (part_data names (here s tree) part) (g.W.Serializer.written c.key.new.self) (g.W.Serializer.written c.send_part.new.out)) {y = c.args.at.now.items} c.loop-name.invariant.0 c.in_ok-send_part.ensures.sent in (
+      ◌∙◌ {A = List Tagged} {c = c.args.at.now.items} c.in_ok-send_part.ensures.place c.loop-name.invariant.0,
       (subst (HasPartsOf d) c.in-Some.ensures.steps c.loop-name.invariant.1).1,
       next_entry (part_data names d) _ _ _ (c.in-Some.name.now, part) _ _ (g.W.Serializer.written c.key.new.self) _ c.in-Some.ensures.steps key sent c.loop-name.invariant.2,
     )
