@@ -1,8 +1,13 @@
 -- What stands at a place once something was put there.
 use Rattle.std.proofs.Common.{◌≡◌, ◌≢◌, List, Option, Some, None, is_some, false, refl, sym, ◌∙◌}
+use Rattle.jc_rules.specs.declared.key.Key.{Key}
 use Rattle.jc_rules.specs.declared.key.Tagged.{Tagged}
-use Rattle.jc_rules.specs.Context.{Context}
-use Rattle.jc_rules.specs.Places.{node_at, with_node_at}
+use Rattle.jc_rules.specs.declared.key.Tagged.TheVariants.{MapT, ListT, RegT}
+use Rattle.jc_rules.specs.Context.{Context, Register, content, node_of, values_of, maps, lists, registers}
+use Rattle.jc_rules.specs.Order.{key_cmp}
+use Rattle.jc_rules.specs.Entries.{find}
+use Rattle.jc_rules.specs.Paths.{HasContext}
+use Rattle.jc_rules.specs.Places.{node_at, node_in, with_node_at}
 use Rattle.jc_rules.proofs.Places.{there, node-with, with_node-twice}
 use Rattle.jc_tree.specs.Tree.{Tree, HasPlace, here}
 
@@ -27,3 +32,25 @@ then_now at y z a b d e f = rw (f, e) (with_node-twice at y z a.now)
 pub none_found : {X : Type 0} (o : Option X) → is_some o ≡ false → o ≡ None
 none_found None e = refl
 none_found (Some x) e = cc
+
+-- where anything is under a map's or a list's tagged key, it is a context
+pub some_content : (t : Tagged) (c : Context) → HasContext t → is_some (node_in (content t c)) ≡ is_some (content t c)
+some_content (MapT k) c h = go (find key_cmp k (maps c))
+  where
+    go : (o : Option Context) → is_some (node_in (node_of o)) ≡ is_some (node_of o)
+    go None = refl
+    go (Some d) = refl
+some_content (ListT k) c h = go (find key_cmp k (lists c))
+  where
+    go : (o : Option Context) → is_some (node_in (node_of o)) ≡ is_some (node_of o)
+    go None = refl
+    go (Some d) = refl
+some_content (RegT k) c h = absurd h
+
+-- and none under a register's
+pub no_node : (k : Key) (c : Context) → node_in (content (RegT k) c) ≡ None
+no_node k c = go (find key_cmp k (registers c))
+  where
+    go : (o : Option Register) → node_in (values_of o) ≡ None
+    go None = refl
+    go (Some r) = refl

@@ -14,7 +14,7 @@ use crate::arena_node::{ArenaNode, former_of_node};
 use crate::ids::Ids;
 use crate::lists::Pairs;
 use crate::node::{Change, Former};
-use crate::store::{Mark, TreeStore};
+use crate::store::{Mark, Place, TreeStore};
 use jc_rules::{Id, Key, Next, Tagged, Value};
 use std::alloc::{AllocError, Global};
 
@@ -166,6 +166,8 @@ impl ArenaTree {
 impl TreeStore for ArenaTree {
     ghost tree = { λ s. tree_of s.nodes.items s.undos.items };
 
+    ghost names = { λ s place at. Unit {0} };
+
     ghost kept = { λ s. s.good.kept };
 
     fn has(&self, at: &[Tagged], key: &Tagged) -> bool {
@@ -239,6 +241,38 @@ impl TreeStore for ArenaTree {
 
     fn link_after(&self, at: &[Tagged], above: Option<&Key>) -> Option<&Key> {
         self.nodes[self.find(at)].link_after(above)
+    }
+
+    fn root(&self) -> Place {
+        Place { number: 0 }
+    }
+
+    fn below(&self, place: Place, at: &[Tagged], key: &Tagged) -> Option<Place> {
+        match key {
+            Tagged::RegT(_) => None,
+            _ if self.has(at, key) => Some(Place { number: 0 }),
+            _ => None,
+        }
+    }
+
+    fn make_below(
+        &mut self,
+        place: Place,
+        at: &[Tagged],
+        key: &Tagged,
+    ) -> Result<Place, AllocError> {
+        self.make_child(at, key)?;
+        Ok(Place { number: 0 })
+    }
+
+    fn add_presence_at(
+        &mut self,
+        place: Place,
+        at: &[Tagged],
+        key: &Key,
+        id: Id,
+    ) -> Result<bool, AllocError> {
+        self.add_presence(at, key, id)
     }
 
     fn mark(&self) -> Mark {

@@ -14,4 +14,4 @@ mod tables;
 
 pub use arena::ArenaTree;
 pub use plain::PlainTree;
-pub use store::{Mark, TreeStore, is_place};
+pub use store::{Mark, Place, TreeStore, is_place};

@@ -13,7 +13,7 @@ ghost use Rattle.jc_tree.specs.Single.{IsKept-single, AreAllKept-single};
 use crate::ids::Ids;
 use crate::lists::{Pairs, copy_place};
 use crate::node::{Change, Former, Node};
-use crate::store::{Mark, TreeStore};
+use crate::store::{Mark, Place, TreeStore};
 use jc_rules::{Id, Key, Next, Tagged, Value};
 use std::alloc::{AllocError, Global};
 
@@ -80,6 +80,8 @@ impl PlainTree {
 
 impl TreeStore for PlainTree {
     ghost tree = { λ s. record { now = s.root; earlier = contents s.undos.items s.root } };
+
+    ghost names = { λ s place at. Unit {0} };
 
     ghost kept = { λ s. s.root_kept };
 
@@ -149,6 +151,38 @@ impl TreeStore for PlainTree {
 
     fn link_after(&self, at: &[Tagged], above: Option<&Key>) -> Option<&Key> {
         self.root.node_at(at).link_after(above)
+    }
+
+    fn root(&self) -> Place {
+        Place { number: 0 }
+    }
+
+    fn below(&self, place: Place, at: &[Tagged], key: &Tagged) -> Option<Place> {
+        match key {
+            Tagged::RegT(_) => None,
+            _ if self.has(at, key) => Some(Place { number: 0 }),
+            _ => None,
+        }
+    }
+
+    fn make_below(
+        &mut self,
+        place: Place,
+        at: &[Tagged],
+        key: &Tagged,
+    ) -> Result<Place, AllocError> {
+        self.make_child(at, key)?;
+        Ok(Place { number: 0 })
+    }
+
+    fn add_presence_at(
+        &mut self,
+        place: Place,
+        at: &[Tagged],
+        key: &Key,
+        id: Id,
+    ) -> Result<bool, AllocError> {
+        self.add_presence(at, key, id)
     }
 
     #[tactic(auto, using(crate::proofs::Undoing::length_contents))]

@@ -1,12 +1,16 @@
 //! What every store of a document's tree promises.
 
-ghost use Rattle.std.specs.Prelude.{◌≡◌, ◌≤◌, ◌+◌, ◌↔◌, [], None, IsTrue, length, take, is_some, option_copied, IfOk, OnOk, OnErr};
+ghost use Rattle.std.specs.Prelude.{◌≡◌, ◌≤◌, ◌+◌, ◌↔◌, List, [], ◌∷◌, ◌++◌, None, IsTrue, length, take, is_some, option_copied, IfSome, IfOk, OnOk, OnErr};
+ghost use Rattle.jc_rules.specs.declared.key.Tagged.{Tagged as AnyTagged};
 ghost use Rattle.jc_rules.specs.declared.key.Tagged.TheVariants.{RegT};
 ghost use Rattle.jc_rules.specs.Order.{id_cmp, key_cmp};
 ghost use Rattle.jc_rules.specs.Entries.{find, put, keys_of};
 ghost use Rattle.jc_rules.specs.Ids.{AreRising, with_id};
 ghost use Rattle.jc_rules.specs.Context.{Values, IsPrimitive, content, with_content, new_content, presence, with_presence, presences, links, next as next_of, with_next, registers, keys};
+ghost use Rattle.jc_rules.specs.Paths.{HasContext};
+ghost use Rattle.jc_rules.specs.Places.{node_in};
 ghost use Rattle.jc_rules.specs.Shape.{IsKept, IsKeptRegister};
+ghost use Rattle.jc_tree.specs.declared.store.Place.{Place as AnyPlace};
 ghost use Rattle.jc_tree.specs.Tree.{Tree, history, HasPlace, here, or_none, IsChanged, least_after};
 
 use jc_rules::{Id, Key, Next, Tagged, Value};
@@ -18,6 +22,12 @@ pub struct Mark {
     pub changes: usize,
 }
 
+/// A store's name for a place, by which it is reached without the way down from the root.
+#[derive(Clone, Copy, Debug, PartialEq, Eq)]
+pub struct Place {
+    pub number: usize,
+}
+
 /// A document's tree, with the contents that it had before each change since the marks were last
 /// forgotten. A place is the path of a context that is there. Each changing call changes the named
 /// entry and no other; after a refusal, for want of memory, the content and the earlier ones are as
@@ -25,6 +35,9 @@ pub struct Mark {
 pub trait TreeStore {
     /// The content now and the earlier ones.
     ghost tree: { Self → Tree };
+
+    /// What it means that the store's name for a place stands for the path.
+    ghost names: { Self → AnyPlace → List AnyTagged → Type 0 };
 
     /// Whether the tagged key is in the context.
     fn has(&self, at: &[Tagged], key: &Tagged) -> bool
@@ -133,6 +146,54 @@ pub trait TreeStore {
         requires { HasPlace at.now (tree self.now) }
         ensures { option_copied result ≡ least_after (option_copied above.entry)
             (keys_of (links (here at.now (tree self.now)))) };
+
+    /// The name of the root.
+    fn root(&self) -> Place
+        ensures { names self.now result [] };
+
+    /// The name of the map or the list under the tagged key of the place, which has the given name.
+    fn below(&self, place: Place, at: &[Tagged], key: &Tagged) -> Option<Place>
+        requires there { HasPlace at.now (tree self.now) }
+        requires named { names self.now place at.now }
+        ensures some { is_some result ≡ is_some (node_in (content key.now (here at.now (tree self.now)))) }
+        ensures named { IfSome result (λ child. names self.now child (at.now ++ key.now ∷ [])) };
+
+    /// Makes a new map or list under the tagged key of the place, which has the given name, and
+    /// gives its name. A new list has its head linked to its end.
+    fn make_below(
+        &mut self,
+        place: Place,
+        at: &[Tagged],
+        key: &Tagged,
+    ) -> Result<Place, AllocError>
+        requires there { HasPlace at.now (tree self.old) }
+        requires named { names self.old place at.now }
+        requires absent { content key.now (here at.now (tree self.old)) ≡ None }
+        requires context { HasContext key.now }
+        ensures ok { OnOk result (IsChanged at.now
+            (with_content key.now (new_content key.now) (here at.now (tree self.old)))
+            (tree self.old) (tree self.new)) }
+        ensures named { IfOk result (λ child. names self.new child (at.now ++ key.now ∷ [])) }
+        ensures err { OnErr result (tree self.new ≡ tree self.old) };
+
+    /// Adds the identifier to the presence set of a key of the place, which has the given name and
+    /// keeps it. Otherwise as `add_presence`.
+    fn add_presence_at(
+        &mut self,
+        place: Place,
+        at: &[Tagged],
+        key: &Key,
+        id: Id,
+    ) -> Result<bool, AllocError>
+        requires there { HasPlace at.now (tree self.old) }
+        requires named { names self.old place at.now }
+        ensures ok { OnOk result (IsChanged at.now
+            (with_presence key.now (with_id id (or_none (presence key.now (here at.now (tree self.old)))))
+            (here at.now (tree self.old)))
+            (tree self.old) (tree self.new)) }
+        ensures was { IfOk result (λ was. was ≡ is_some (presence key.now (here at.now (tree self.old)))) }
+        ensures named { OnOk result (names self.new place at.now) }
+        ensures err { OnErr result (tree self.new ≡ tree self.old) };
 
     /// Marks the content.
     fn mark(&self) -> Mark
