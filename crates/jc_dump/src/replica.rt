@@ -64,9 +64,6 @@ pub fn dump_replica(alloc: Global, net: &Net, p: u16) -> Result<String, CompareF
     let Some(replica) = net.replica(p) else {
         return Err(CompareFault::NoSuchReplica);
     };
-    // Events have led to the network from a start, so what was applied is in the replica's lists.
-    net.steps();
-    // The operations are copies, which go before the dump is written.
-    let applied = ids_of(alloc, net.applied(p)?.as_slice())?;
+    let applied = net.applied_ids(p)?;
     Ok(line_of(alloc, net.names(), p, replica, applied.as_slice())?)
 }

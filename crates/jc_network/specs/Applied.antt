@@ -20,6 +20,10 @@ pub record IsApplied (network : List State) (p : ℕ) (ops : List Op) : Type 0 w
   pub there : slice_get network p ≡ Some at
   pub ops_are : ops ≡ map kept_op (applied_ops at)
 
+-- the identifiers that replica p has applied
+abbrev pub AreAppliedIds : List State → ℕ → List Id → Type 0
+AreAppliedIds network p ids = (A : State) → slice_get network p ≡ Some A → ids ≡ A.ops
+
 -- In each network that is reached from a start these stand by identifier, none twice; each was made or received; and
 -- each identifier that is applied is that of one of them.
 abbrev pub AppliedAreAll : Type 0

@@ -6,19 +6,19 @@ ghost use Rattle.jc_scenario.specs.Views.{scenario_view};
 ghost use Rattle.jc_network.specs.declared.fault.CompareFault.TheVariants as C;
 ghost use Rattle.jc_network.specs.declared.fault.StepFault.TheVariants as E;
 ghost use Rattle.jc_network.specs.declared.fault.Stuck.{Stuck as AnyStuck};
-ghost use Rattle.jc_network.specs.Applied.{IsApplied};
+ghost use Rattle.jc_network.specs.Applied.{IsApplied, AreAppliedIds};
 ghost use Rattle.jc_network.specs.Course.{started, StepsTo};
 ghost use Rattle.jc_network.specs.Enabled.{AreEnabled, candidates};
 ghost use Rattle.jc_network.specs.Makes.{IsStuckFor, HasReplica};
 ghost use Rattle.jc_network.specs.Run.{IsFromStart};
 
-use crate::applied::applied_of;
+use crate::applied::{applied_ids_of, applied_of};
 use crate::enabled::enabled_in;
 use crate::fault::{CompareFault, StepFault};
 use crate::replicas::replicas_of;
 use crate::stepping::make;
 use jc_replica::Replica;
-use jc_rules::{Event, Op, Text, Trace};
+use jc_rules::{Event, Id, Op, Text, Trace};
 use jc_scenario::{Scenario, copy_names};
 use jc_tree::ArenaTree;
 use std::alloc::{AllocError, Global};
@@ -106,6 +106,17 @@ impl Net {
     {
         match self.replicas.get(usize::from(p)) {
             Some(replica) => Ok(applied_of(self.alloc, replica)?),
+            None => Err(CompareFault::NoSuchReplica),
+        }
+    }
+
+    /// The identifiers of the operations that the replica has applied, rising.
+    pub fn applied_ids(&self, p: u16) -> Result<Vec<Id>, CompareFault>
+        ensures applied { IfOk result (λ ids. AreAppliedIds self.now.network p ids.items) }
+        ensures missing { IsErrOf result C.NoSuchReplica ↔ length self.now.network ≤ p }
+    {
+        match self.replicas.get(usize::from(p)) {
+            Some(replica) => Ok(applied_ids_of(self.alloc, replica)?),
             None => Err(CompareFault::NoSuchReplica),
         }
     }
