@@ -1,25 +1,21 @@
 -- What is shown of the state that a replica keeps.
-use Rattle.std.proofs.Common.{◌≡◌, ℕ, List, [], ◌∷◌, Some, slice_get, map, length, refl, sym, ◌∙◌, ap}
+use Rattle.std.proofs.Common.{◌≡◌, ℕ, List, Some, slice_get, map, length, sym, ◌∙◌, ap}
 use Rattle.std.proofs.lemmas.List.{length-map}
 use Rattle.std.proofs.lemmas.Option.{same_Some}
 use Rattle.jc_rules.specs.declared.id.Id.{Id}
 use Rattle.jc_rules.specs.declared.operation.Op.{Op}
 use Rattle.jc_rules.specs.Context.{Context}
 use Rattle.jc_rules.specs.State.{State}
-use Rattle.jc_sets.specs.States.{kept_op, kept_state}
+use Rattle.jc_sets.specs.States.{kept_state}
 use Rattle.jc_syntax.specs.declared.tree.Cmd.{Cmd}
 use Rattle.jc_syntax.specs.Trees.{cmd_of}
 use Rattle.jc_cursor.specs.Bounds.{vars_of}
 use Rattle.jc_replica.specs.Past.{Past}
+use Rattle.jc_network.proofs.AppliedIds.{kept_ids}
 use Rattle.jc_network.specs.Makes.{HasReplica}
 use Rattle.jc_dump.specs.declared.dump.Shown.{Shown}
 use Rattle.jc_dump.specs.Dump.{ids_of}
 use Rattle.jc_dump.specs.DumpParts.{HasParts}
-
--- operations keep their identifiers
-pub kept_ids : (os : List Op) → ids_of (map kept_op os) ≡ ids_of os
-kept_ids [] = refl
-kept_ids (o ∷ os) = ap (λ is. o.id ∷ is) (kept_ids os)
 
 -- the parts of the state K that is kept for A are shown
 pub parts_kept : (A K : State) (shown : Shown) (tree : Context) (left : List Cmd) (ops : List Id) (queue recv send : List Op) → K ≡ kept_state A

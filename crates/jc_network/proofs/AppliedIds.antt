@@ -56,7 +56,8 @@ module _ (scripts : List (List AnyCmd)) (network : List State) (reached : IsReac
       same_members (identifiers (applied_ops A)) A.ops (applied_order network run p A there (ordered scripts network reached p A there)) (run.sets.rising p A there)
       (λ i. both_ways (has_id i (identifiers (applied_ops A))) (has_id i A.ops) (applied_down i) (applied_up i))
 
-kept_ids : (os : List Op) → identifiers (map kept_op os) ≡ identifiers os
+-- operations keep their identifiers
+pub kept_ids : (os : List Op) → identifiers (map kept_op os) ≡ identifiers os
 kept_ids [] = refl
 kept_ids (o ∷ os) = ap (λ is. o.id ∷ is) (kept_ids os)
 
