@@ -1,5 +1,5 @@
 -- Runs by threads, whole or up to a failure.
-use Rattle.std.proofs.Common.{◌≡◌, ◌≢◌, ◌⊎◌, ℕ, ◌<◌, arith, inl, inr, List, [], take, Option, Some, None, Ok, Err, string_bytes, codes, refl, sym, ◌∙◌, subst}
+use Rattle.std.proofs.Common.{◌≡◌, ◌≢◌, ◌⊎◌, ℕ, ◌<◌, arith, inl, inr, List, [], take, Option, Some, None, Ok, Err, string_bytes, codes, refl, sym, subst}
 use Rattle.std.specs.Io.KnownBytes.{Appends}
 use Rattle.jc_rules.specs.Told.{IsFront}
 use Rattle.jc_parser.specs.declared.fault.ScenarioFault.{ScenarioFault}
@@ -25,12 +25,7 @@ module _ (s : Scenario) (limit : ℕ) (r : Recording) (is : IsRecording s limit 
   ran : RanThreads limit s (string_bytes r.text) (string_bytes r.lines) (outcome_status r.outcome)
   ran = record { recording = r; is_recording = is; shown = refl; told = refl; ends = refl }
 
-  -- a recording that was told
-  pub recorded : (status : ℕ) (old new err_old err_new : Option (List ℕ)) → status ≡ outcome_status r.outcome → Appends old new (string_bytes r.text) → AppendsUpTo err_old err_new (string_bytes r.lines) → AreTextsOf (RanThreads limit s) old new err_old err_new status
-  recorded status old new err_old err_new ends shown told =
-      (string_bytes r.text, string_bytes r.lines, record { recording = r; is_recording = is; shown = refl; told = refl; ends = ends }, shown, told)
-
-  -- and one whose telling was begun
+  -- a recording whose telling was begun
   pub begun : (old new : Option (List ℕ)) → AppendsUpTo old new (string_bytes r.text) → AppendsFrontOf (IsTextOf (RanThreads limit s)) old new
   begun old new upto = (string_bytes r.text, inr (string_bytes r.lines, outcome_status r.outcome, ran), upto)
 
@@ -104,11 +99,12 @@ cause_of TooManyLines unread input_old input_new out_old out_new same h = (same,
 cause_of NoThread unread input_old input_new out_old out_new same h = (same, (h 0).1)
 cause_of Memory unread input_old input_new out_old out_new same h = (same, (h 0).1)
 
--- where there was no memory for the words, nothing was begun
-pub lacking : (limit : ℕ) (task : Task) (fault : WorkFault) (told lines left old new : Option (List ℕ)) → task ≡ Threads limit → IsStopped task fault told lines left old new → HaveBegun limit told old new
-lacking limit task fault told lines left old new is h =
-    let same : new ≡ old = subst (λ (t : Task). IsStopped t fault told lines left old new) is h in
-    subst (λ (o : Option (List ℕ)). HaveBegun limit told old o) (sym same) (not_begun limit told old)
+-- where there was no memory for the words, nothing was written
+pub unwritten : (limit : ℕ) (task : Task) (fault : WorkFault) (told lines left old new : Option (List ℕ)) → task ≡ Threads limit → IsStopped task fault told lines left old new → new ≡ old
+unwritten limit task fault told lines left old new is h = subst (λ (t : Task). IsStopped t fault told lines left old new) is h
+
+pub lacking : (limit : ℕ) (told old new : Option (List ℕ)) → new ≡ old → HaveBegun limit told old new
+lacking limit told old new same = subst (λ (o : Option (List ℕ)). HaveBegun limit told old o) (sym same) (not_begun limit told old)
 
 -- without memory, the line says so
 pub memory_only : (fault : WorkFault) (a b : Option (List ℕ)) → (fault ≡ NoThread → ⊥) → fault_status fault ≡ 5 → AppendsUpTo a b (fault_line fault) → AppendsUpTo a b (codes "no memory\n")

@@ -1,5 +1,5 @@
 -- What the command `threads` leaves, whole or up to a fault.
-use Rattle.std.specs.Prelude.{◌≡◌, ℕ, ◌⊎◌, List, [], Option, Result, Ok, Err, string_bytes}
+use Rattle.std.specs.Prelude.{◌≡◌, ◌≢◌, ℕ, ◌⊎◌, List, [], Option, Result, Ok, Err, string_bytes}
 use Rattle.std.specs.Io.KnownBytes.{Appends}
 use Rattle.jc_parser.specs.declared.fault.ScenarioFault.{ScenarioFault}
 use Rattle.jc_scenario.specs.Scenarios.{Scenario}
@@ -11,6 +11,7 @@ use Rattle.jc_app.specs.Ran.{ReadsAs, IsRefused}
 use Rattle.jc_app.specs.Due.{AppendsUpTo, AppendsFrontOf, AreTold}
 use Rattle.jc_app.specs.Faults.{fault_status, fault_line, IsCause}
 use Rattle.jc_app.specs.declared.work.WorkFault.{WorkFault}
+use Rattle.jc_app.specs.declared.work.WorkFault.TheVariants.{Write}
 
 abbrev pub outcome_status : Outcome → ℕ
 outcome_status NoMemory = 5
@@ -58,7 +59,8 @@ abbrev pub HaveBegun : ℕ → Option (List ℕ) → Option (List ℕ) → Optio
 HaveBegun limit told old new =
     (bytes : List ℕ) × AreTold told bytes × AppendsFrontOf (IsTextOf (ThreadsRan limit bytes)) old new
 
--- A fault stopped the command: it has the status and its line, and it says which failures were counted.
+-- A fault stopped the command: it has the status and its line, and it says which failures were counted. A front of a
+-- run's text is there where a write failed, and else nothing.
 pub record IsThreadsFault
     (limit : ℕ) (told : Option (List ℕ)) (unread : Type 0) (input_old input_new out_old out_new : ℕ)
     (old new err_old err_new : Option (List ℕ)) (status : ℕ) : Type 0 where
@@ -67,3 +69,4 @@ pub record IsThreadsFault
   pub line : AppendsUpTo err_old err_new (fault_line fault)
   pub cause : IsCause fault unread input_old input_new out_old out_new
   pub begun : HaveBegun limit told old new
+  pub unwritten : fault ≢ Write → new ≡ old

@@ -133,7 +133,7 @@ pub fn work<R: Threads + Wait + Sync + AllocGlobal + Files, I: Source, K: Sink, 
     // Failures come with the status 4 alone.
     ensures failed { result ≢ 4
         → (I.failures input.new ≡ I.failures input.old) × (K.failures out.new ≡ K.failures out.old) }
-    // Unless threads are asked for, standard error has nothing but the lines of faults.
+    // Unless threads are asked for, standard error is left alone but for faults, and want of memory has its one line.
     ensures memory_line { (IsThreadsOrder (map string_bytes words.now) → ⊥)
         → result ≡ 5
         → AppendsUpTo (E.taken err.old) (E.taken err.new) (codes "no memory\n") }

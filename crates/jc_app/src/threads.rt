@@ -59,6 +59,7 @@ fn run_all<R: Threads + Wait + Sync + AllocGlobal, K: Sink, E: Sink>(
         (K.taken out.old) (K.taken out.new) (E.taken err.old) (E.taken err.new)) }
     ensures begun { OnErr result (AppendsFrontOf (IsTextOf (RanThreads limit (scenario_view scenario)))
         (K.taken out.old) (K.taken out.new)) }
+    ensures unwritten { IfErr result (λ fault. fault ≢ WorkFault.Write → K.taken out.new ≡ K.taken out.old) }
     ensures quiet { OnErr result (err.new ≡ err.old) }
     ensures same { OnOk result (K.failures out.new ≡ K.failures out.old) }
     ensures cause { IfErr result (λ fault. (n : ℕ)
@@ -87,6 +88,7 @@ fn run_text<R: Threads + Wait + Sync + AllocGlobal, K: Sink, E: Sink>(
         (K.taken out.old) (K.taken out.new) (E.taken err.old) (E.taken err.new)) }
     ensures begun { OnErr result (AppendsFrontOf (IsTextOf (ThreadsRan limit text.now))
         (K.taken out.old) (K.taken out.new)) }
+    ensures unwritten { IfErr result (λ fault. fault ≢ WorkFault.Write → K.taken out.new ≡ K.taken out.old) }
     ensures quiet { OnErr result (err.new ≡ err.old) }
     ensures same { OnOk result (K.failures out.new ≡ K.failures out.old) }
     ensures cause { IfErr result (λ fault. (n : ℕ)
@@ -119,6 +121,7 @@ pub fn threads<R: Threads + Wait + Sync + AllocGlobal + Files, I: Source, K: Sin
         (K.taken out.old) (K.taken out.new) (E.taken err.old) (E.taken err.new)) }
     ensures begun { OnErr result (HaveBegun limit (told_by (I.left input.old) (R.texts rt.now) file.now)
         (K.taken out.old) (K.taken out.new)) }
+    ensures unwritten { IfErr result (λ fault. fault ≢ WorkFault.Write → K.taken out.new ≡ K.taken out.old) }
     ensures quiet { OnErr result (err.new ≡ err.old) }
     ensures most { LosesUpTo 8388609 (I.left input.old) (I.left input.new) }
     ensures untouched { file.now ≢ codes "-" → input.new ≡ input.old }

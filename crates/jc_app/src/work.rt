@@ -35,7 +35,7 @@ pub fn refuse<K: Sink>(alloc: Global, fault: &ScenarioFault, out: &mut K) -> Res
         (shown : List ℕ) × IsRefused fault.now shown status × Appends (K.taken out.old) (K.taken out.new) shown) }
     ensures begun { OnErr result (AppendsFrontOf (IsDueAt fault.now) (K.taken out.old) (K.taken out.new)) }
     ensures same { OnOk result (K.failures out.new ≡ K.failures out.old) }
-    ensures memory { IsErrOf result RunFault.Memory → K.failures out.new ≡ K.failures out.old }
+    ensures memory { IsErrOf result RunFault.Memory → out.new ≡ out.old }
     ensures write { IsErrOf result RunFault.Write → K.failures out.old < K.failures out.new }
 {
     let (Some(number), Some(place)) = (fault.number(), fault.place()) else {

@@ -1,5 +1,5 @@
 -- Lines that are written one after another.
-use Rattle.std.proofs.Common.{◌≡◌, ℕ, ◌+◌, suc, List, ◌++◌, arith, sym, subst}
+use Rattle.std.proofs.Common.{◌≡◌, ℕ, ◌+◌, suc, List, ◌++◌, arith, subst}
 use Rattle.jc_runner.specs.declared.worker.End.{End}
 use Rattle.jc_threads.specs.Ends.{IsEndLine, AreLinesBelow}
 

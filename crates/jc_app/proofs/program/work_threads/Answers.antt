@@ -7,7 +7,7 @@ use Rattle.jc_app.specs.Talked.{lines_by}
 use Rattle.jc_app.specs.Threaded.{HaveBegun}
 use Rattle.jc_app.specs.declared.work.WorkFault.TheVariants.{Memory}
 use Rattle.jc_app.proofs.Orders.{unordered, same_limit}
-use Rattle.jc_app.proofs.Threaded.{lacking}
+use Rattle.jc_app.proofs.Threaded.{unwritten, lacking}
 use Rattle.jc_app.proofs.program.work_threads.Goals as goal
 
 -- there was no memory for the words
@@ -17,12 +17,14 @@ returns-in-Err-clause-threads g c = λ order limit some is.
     let told = told_by left (g.R.Files.texts c.args.rt.now) order.file in
     let old = g.K.Sink.taken c.args.out.now in
     let none = unordered (map string_bytes c.args.words.now) c.in-Err.fault c.explain.result order told (lines_by left order.file) old (g.K.Sink.taken c.explain.new.out) c.in-Err.ensures.err c.explain.ensures.status some (λ h. ap g.K.Sink.taken (c.explain.ensures.silent h)) in
+    let same = unwritten limit order.task Memory told (lines_by left order.file) (lines_by left order.file) old (g.K.Sink.taken c.explain.new.out) is none.1 in
     inr (record {
       fault = Memory;
       ends = none.0;
       line = c.explain.ensures.memory_line none.0;
       cause = (refl, c.explain.ensures.same (λ e. (let bad : ◌≡◌ {A = ℕ} 5 4 = sym none.0 ∙ e in cc)));
-      begun = lacking limit order.task Memory told (lines_by left order.file) (lines_by left order.file) old (g.K.Sink.taken c.explain.new.out) is none.1;
+      begun = lacking limit told old (g.K.Sink.taken c.explain.new.out) same;
+      unwritten = λ other. same;
     })
 
 -- a fault stopped the threads
@@ -43,4 +45,5 @@ returns-clause-threads g c = λ order limit some is.
       line = subst (λ (err : Option (List ℕ)). AppendsUpTo err (g.E.Sink.taken c.end.new.err) (fault_line fault)) (ap g.E.Sink.taken c.in-Err-threads.ensures.quiet) c.end.ensures.line;
       cause = subst (λ (f : List ℕ). IsCause fault (IsUnread (g.R.Files.may_fail c.args.rt.now) f) (g.I.Source.failures c.args.input.now) (g.I.Source.failures c.threads.new.input) (g.K.Sink.failures c.args.out.now) (g.K.Sink.failures c.threads.new.out)) file c.in-Err-threads.ensures.cause;
       begun = subst (λ (f : List ℕ). HaveBegun limit (told_by left files f) old new) file (subst (λ (l : ℕ). HaveBegun l (told_by left files c.as_str.result.now) old new) limits c.in-Err-threads.ensures.begun);
+      unwritten = c.in-Err-threads.ensures.unwritten;
     })

@@ -1,4 +1,4 @@
-use Rattle.std.proofs.Common.{ℕ, List, Option, refl, subst}
+use Rattle.std.proofs.Common.{ℕ, List, refl, subst}
 use Rattle.jc_app.specs.Due.{AppendsFrontOf, told_by}
 use Rattle.jc_app.specs.Faults.{IsUnread}
 use Rattle.jc_app.specs.Threaded.{ThreadsRan, AreTextsOf, IsTextOf}

@@ -1,6 +1,5 @@
 use Rattle.std.proofs.Common.{sym, subst}
 use Rattle.jc_scenario.specs.Scenarios.{Scenario}
-use Rattle.jc_scenario.specs.Views.{scenario_view}
 use Rattle.jc_runner.specs.Reports.{IsReport}
 use Rattle.jc_threads.specs.Recordings.{IsRecording}
 use Rattle.jc_threads.proofs.recording.record.Goals as goal

@@ -1,4 +1,4 @@
-use Rattle.std.proofs.Common.{◌≡◌, ◌∙◌, ℕ, List, length, ap, sym, subst, string_bytes}
+use Rattle.std.proofs.Common.{◌∙◌, ℕ, List, ap, sym, subst, string_bytes}
 use Rattle.jc_scenario.specs.Views.{scenario_view}
 use Rattle.jc_runner.specs.declared.worker.End.{End}
 use Rattle.jc_threads.specs.Ends.{AreTellable, AreEndLines, outcome_of}

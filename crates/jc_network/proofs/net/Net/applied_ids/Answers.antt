@@ -1,4 +1,4 @@
-use Rattle.std.proofs.Common.{◌≡◌, Some, length, refl, reverse, slice_get, ap, subst, ◌∙◌, sym}
+use Rattle.std.proofs.Common.{◌≡◌, Some, length, refl, reverse, slice_get, subst, sym}
 use Rattle.std.specs.Slice.{IsItemAt}
 use Rattle.jc_network.specs.Applied.{applied_ops, AreAppliedIds}
 use Rattle.jc_network.specs.Course.{Course}
