@@ -1,5 +1,5 @@
 -- What a replica has applied, of the lists of operations that it keeps and of those for which these stand.
-use Rattle.std.proofs.Common.{◌≡◌, ℕ, List, [], ◌∷◌, length, map, filter, Some, Bool, true, false, Contains, ◌⊎◌, inl, inr, slice_get, refl, sym, ◌∙◌, ap, subst, arith}
+use Rattle.std.proofs.Common.{◌≡◌, ℕ, List, [], ◌∷◌, ◌++◌, append_assoc, length, map, filter, Some, Bool, true, false, Contains, ◌⊎◌, inl, inr, slice_get, refl, sym, ◌∙◌, ap, subst, arith}
 use Rattle.std.specs.List.{AllByRecursion}
 use Rattle.std.specs.declared.cmp.Ordering.{Ordering}
 use Rattle.std.specs.declared.cmp.Ordering.TheVariants.{Less, Equal, Greater}
@@ -87,6 +87,10 @@ next_equal ms rs o p os ps b m r l =
 pub next_rest : (ms rs : List Op) (p : Op) (ps : List Op) → AreInOrder rs → length ms ≡ 0 → rs ≡ p ∷ ps → both ms rs ≡ p ∷ both ms ps
 next_rest [] rs p ps b m r = ap (both []) r ∙ both_rest p ps (subst AreInOrder r b)
 next_rest (o ∷ ms) rs p ps b m r = absurd (omega (arith, m))
+
+-- the first of what is left was put at the end of what was found
+pub found_on : {A : Type 0} (all found left rest more : List A) (x : A) → all ≡ found ++ left → left ≡ x ∷ rest → more ≡ found ++ x ∷ [] → all ≡ more ++ rest
+found_on all found left rest more x e f g = e ∙ ap (λ l. found ++ l) f ∙ sym (append_assoc found (x ∷ []) rest) ∙ ap (λ l. l ++ rest) (sym g)
 
 -- ---- as they are kept
 

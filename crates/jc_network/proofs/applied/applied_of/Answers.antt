@@ -1,0 +1,16 @@
+use Rattle.std.proofs.Common.{◌≡◌, List, [], ◌∷◌, ◌++◌, filter, ◌∙◌, ap, subst}
+use Rattle.jc_rules.specs.declared.id.Id.{Id}
+use Rattle.jc_rules.specs.declared.operation.Op.{Op}
+use Rattle.jc_rules.specs.Ids.{has_id}
+use Rattle.jc_rules.specs.Table.{both}
+use Rattle.jc_network.proofs.Applying.{found_on}
+use Rattle.jc_network.proofs.applied.applied_of.Goals as goal
+
+pub loop-op-preserved : goal.loop-op-preserved
+loop-op-preserved g c =
+    let next = subst (λ (s : List Id). ◌≡◌ {A = List Op} (filter (λ o. has_id o.id s) (both c.loop-op.own.now c.loop-op.others.now)) (c.in-Some.op.now ∷ filter (λ o. has_id o.id s) (both c.in-Some.own_left.now c.in-Some.others_left.now))) c.ops.ensures c.in-Some.ensures.next in
+    record {
+      found = found_on _ _ _ _ _ c.in-Some.op.now c.loop-op.invariant.found next (c.in_ok-push.ensures.items ∙ ap (λ o. c.loop-op.applied.items ++ o ∷ []) c.in_ok-copy.ensures);
+      own = c.in-Some.ensures.order.0;
+      others = c.in-Some.ensures.order.1;
+    }
