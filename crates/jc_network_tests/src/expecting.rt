@@ -3,7 +3,7 @@
 use crate::texts::{Part, line_of};
 use jc_dump::dump::tagged_text;
 use jc_network::{Net, StepFault};
-use jc_rules::{Event, Rule, Trace};
+use jc_rules::{Event, Id, Op, Rule, Trace};
 use std::alloc::{AllocError, Global};
 use std::process::Abort;
 
@@ -15,15 +15,24 @@ pub fn expect_line(rt: &impl Abort, line: Result<String, AllocError>, want: &str
     }
 }
 
-fn expect_part(rt: &impl Abort, alloc: Global, net: &Net, p: u16, part: Part, want: &str) {
-    match net.applied(p) {
-        Ok(applied) => expect_line(
-            rt,
-            line_of(alloc, net, p, applied.as_slice(), &[part]),
-            want,
-        ),
-        Err(_) => panic!(rt; "no such replica"),
+/// These are the operations' identifiers.
+fn expect_ids(rt: &impl Abort, ids: &[Id], ops: &[Op]) {
+    assert!(rt; ids.len() == ops.len());
+    for (id, op) in ids.iter().zip(ops) {
+        assert!(rt; *id == op.id);
     }
+}
+
+fn expect_part(rt: &impl Abort, alloc: Global, net: &Net, p: u16, part: Part, want: &str) {
+    let (Ok(applied), Ok(ids)) = (net.applied(p), net.applied_ids(p)) else {
+        panic!(rt; "no such replica");
+    };
+    expect_ids(rt, ids.as_slice(), applied.as_slice());
+    expect_line(
+        rt,
+        line_of(alloc, net, p, applied.as_slice(), &[part]),
+        want,
+    );
 }
 
 /// Replica p has this document.

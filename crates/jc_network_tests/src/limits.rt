@@ -14,6 +14,7 @@ fn missing_replicas(rt: HostRuntime) -> Result<(), Fail> {
         expect_number(&rt, &mut net, event, 37);
     }
     assert!(rt; matches!(net.applied(5), Err(CompareFault::NoSuchReplica)));
+    assert!(rt; matches!(net.applied_ids(5), Err(CompareFault::NoSuchReplica)));
     assert!(rt; net.replica(5).is_none());
     Ok(())
 }
