@@ -30,7 +30,7 @@ use Rattle.jc_tree.specs.declared.node.Change.TheVariants.{Child, AddId, Presenc
 use Rattle.jc_tree.specs.declared.node.Former.{Former}
 use Rattle.jc_tree.specs.declared.node.Former.TheVariants as F
 use Rattle.jc_tree.specs.Sorted.{AreSorted}
-use Rattle.jc_tree.specs.Undo.{removed, former_of_id, former_of_value}
+use Rattle.jc_tree.specs.Undo.{former_of_id, former_of_value}
 use Rattle.jc_tree.specs.Arena.{Flat, blank, flat_at, filled_all, filled, context_of, content_of, child_of, walk, with_number, without_number, new_flat, with_registers, with_presences, IsInside, changed_flat, former_of_node, former_of_flat, restored_flat, IsSound}
 use Rattle.jc_tree.specs.ArenaUndo.{IsGood, without_last, fewer, restored_in}
 use Rattle.jc_tree.proofs.Keeping.{kept-changed_at, presence_rises}
