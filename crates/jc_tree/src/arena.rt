@@ -246,10 +246,10 @@ impl TreeStore for ArenaTree {
         let number = self.nodes.len();
         let child = ArenaNode::of_child(self.alloc, key)?;
         let former = former_of_node(key)?;
-        let named = key.copy()?;
+        let copy = key.copy()?;
         self.undos.reserve(1)?;
         self.nodes.reserve(1)?;
-        self.nodes[node].name_child(named, number)?;
+        self.nodes[node].name_child(copy, number)?;
         self.nodes.push(child).unwrap();
         self.undos.push(Undo { node, former }).unwrap();
         Ok(Place { number })

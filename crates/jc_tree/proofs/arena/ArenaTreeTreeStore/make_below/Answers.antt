@@ -33,7 +33,7 @@ invariant_of-self-2 c =
     let ns = self.nodes.items in
     let within = place_inside ns c.args.at.now c.args.place.number self.good c.requires.named in
     let key = c.args.key.now in
-    let made = nodes_made ns c.reserve-2.new.self.items c.push.new.self.items c.args.place.number c.len-number.result key c.in_ok-named.named c.index_mut.result.now c.name_child.new.self c.in_ok-child.child c.in_ok-reserve-2.ensures.items c.index_mut.ensures.value within c.in_ok-named.ensures (c.len-number.ensures ∙ self.nodes.ok.0) c.in_ok-name_child.ensures.ok c.in_ok-child.ensures (pushed_ok c.push.result _ _ c.push.new.self.items _ c.unwrap.ensures c.push.ensures.items) in
+    let made = nodes_made ns c.reserve-2.new.self.items c.push.new.self.items c.args.place.number c.len-number.result key c.in_ok-copy.copy c.index_mut.result.now c.name_child.new.self c.in_ok-child.child c.in_ok-reserve-2.ensures.items c.index_mut.ensures.value within c.in_ok-copy.ensures (c.len-number.ensures ∙ self.nodes.ok.0) c.in_ok-name_child.ensures.ok c.in_ok-child.ensures (pushed_ok c.push.result _ _ c.push.new.self.items _ c.unwrap.ensures c.push.ensures.items) in
     let absent = content_absent ns c.args.at.now c.args.place.number key self.good c.requires.named within c.requires.context c.requires.absent in
     let change : Changes ns c.push.new.self.items c.args.at.now (with_content key (new_content key) (context_at c.args.at.now (content_of ns))) c.args.place.number c.in_ok-former.former = rw (made, c.in_ok-former.ensures) (child_changes ns c.args.at.now c.args.place.number key self.good c.requires.named within c.requires.context absent) in
     let undo : Undo = record { node = c.args.place.number; former = c.in_ok-former.former } in
@@ -49,7 +49,7 @@ returns-clause-ok c =
     let ns = self.nodes.items in
     let within = place_inside ns c.args.at.now c.args.place.number self.good c.requires.named in
     let key = c.args.key.now in
-    let made = nodes_made ns c.reserve-2.new.self.items c.push.new.self.items c.args.place.number c.len-number.result key c.in_ok-named.named c.index_mut.result.now c.name_child.new.self c.in_ok-child.child c.in_ok-reserve-2.ensures.items c.index_mut.ensures.value within c.in_ok-named.ensures (c.len-number.ensures ∙ self.nodes.ok.0) c.in_ok-name_child.ensures.ok c.in_ok-child.ensures (pushed_ok c.push.result _ _ c.push.new.self.items _ c.unwrap.ensures c.push.ensures.items) in
+    let made = nodes_made ns c.reserve-2.new.self.items c.push.new.self.items c.args.place.number c.len-number.result key c.in_ok-copy.copy c.index_mut.result.now c.name_child.new.self c.in_ok-child.child c.in_ok-reserve-2.ensures.items c.index_mut.ensures.value within c.in_ok-copy.ensures (c.len-number.ensures ∙ self.nodes.ok.0) c.in_ok-name_child.ensures.ok c.in_ok-child.ensures (pushed_ok c.push.result _ _ c.push.new.self.items _ c.unwrap.ensures c.push.ensures.items) in
     let absent = content_absent ns c.args.at.now c.args.place.number key self.good c.requires.named within c.requires.context c.requires.absent in
     let undo : Undo = record { node = c.args.place.number; former = c.in_ok-former.former } in
     let change : Changes ns c.push.new.self.items c.args.at.now (with_content key (new_content key) (context_at c.args.at.now (content_of ns))) c.args.place.number c.in_ok-former.former = rw (made, c.in_ok-former.ensures) (child_changes ns c.args.at.now c.args.place.number key self.good c.requires.named within c.requires.context absent) in
@@ -62,6 +62,6 @@ returns-clause-named c =
     let ns = self.nodes.items in
     let within = place_inside ns c.args.at.now c.args.place.number self.good c.requires.named in
     let key = c.args.key.now in
-    let made = nodes_made ns c.reserve-2.new.self.items c.push.new.self.items c.args.place.number c.len-number.result key c.in_ok-named.named c.index_mut.result.now c.name_child.new.self c.in_ok-child.child c.in_ok-reserve-2.ensures.items c.index_mut.ensures.value within c.in_ok-named.ensures (c.len-number.ensures ∙ self.nodes.ok.0) c.in_ok-name_child.ensures.ok c.in_ok-child.ensures (pushed_ok c.push.result _ _ c.push.new.self.items _ c.unwrap.ensures c.push.ensures.items) in
+    let made = nodes_made ns c.reserve-2.new.self.items c.push.new.self.items c.args.place.number c.len-number.result key c.in_ok-copy.copy c.index_mut.result.now c.name_child.new.self c.in_ok-child.child c.in_ok-reserve-2.ensures.items c.index_mut.ensures.value within c.in_ok-copy.ensures (c.len-number.ensures ∙ self.nodes.ok.0) c.in_ok-name_child.ensures.ok c.in_ok-child.ensures (pushed_ok c.push.result _ _ c.push.new.self.items _ c.unwrap.ensures c.push.ensures.items) in
     let absent = content_absent ns c.args.at.now c.args.place.number key self.good c.requires.named within c.requires.context c.requires.absent in
     rw made (child_at ns c.args.place.number key self.good within absent c.args.at.now c.requires.named c.requires.context) ∙ ap (λ n. Some n) (sym (c.len-number.ensures ∙ self.nodes.ok.0))
