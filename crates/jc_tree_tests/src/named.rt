@@ -118,7 +118,10 @@ pub fn ids_named<S: TreeStore>(rt: &impl Abort, tree: &mut Placed<S>) -> Result<
     Ok(())
 }
 
-pub fn refused_below<S: TreeStore>(rt: &impl Abort, tree: &mut Placed<S>) -> Result<(), AllocError> {
+pub fn refused_below<S: TreeStore>(
+    rt: &impl Abort,
+    tree: &mut Placed<S>,
+) -> Result<(), AllocError> {
     let mark = tree.store.mark();
     let made = tree.make_named(rt, &Tagged::ListT(Key::Doc)).is_ok();
     tree.expect_child(rt, &Tagged::ListT(Key::Doc), made);
