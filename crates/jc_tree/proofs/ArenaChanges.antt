@@ -30,7 +30,7 @@ use Rattle.jc_tree.specs.declared.node.Change.TheVariants.{Child, AddId, Presenc
 use Rattle.jc_tree.specs.declared.node.Former.{Former}
 use Rattle.jc_tree.specs.declared.node.Former.TheVariants as F
 use Rattle.jc_tree.specs.Sorted.{AreSorted}
-use Rattle.jc_tree.specs.Undo.{removed, former_of_id, former_of_value}
+use Rattle.jc_tree.specs.Undo.{former_of_id, former_of_value}
 use Rattle.jc_tree.specs.Arena.{Flat, blank, flat_at, filled_all, filled, context_of, content_of, child_of, walk, with_number, without_number, new_flat, with_registers, with_presences, IsInside, changed_flat, former_of_node, former_of_flat, restored_flat, IsSound}
 use Rattle.jc_tree.specs.ArenaUndo.{IsGood, without_last, fewer, restored_in}
 use Rattle.jc_tree.proofs.Keeping.{kept-changed_at, presence_rises}
@@ -136,10 +136,10 @@ module _ (ns : List Flat) (i : ℕ) (t : Tagged) (s : IsSound ns) (w : i < lengt
   long : length ms ≡ suc (length ns)
   long = length-append (slice_set ns i x) (new_flat t ∷ []) ∙ rw (length-set ns i x) (omega arith)
 
-  at_changed : flat_at ms i ≡ x
+  pub at_changed : flat_at ms i ≡ x
   at_changed = get_or-append (slice_set ns i x) (new_flat t ∷ []) blank i (rw (length-set ns i x) w) ∙ get_or-set_same ns i x blank w
 
-  at_other : (a : ℕ) → a < length ns → a ≢ i → flat_at ms a ≡ flat_at ns a
+  pub at_other : (a : ℕ) → a < length ns → a ≢ i → flat_at ms a ≡ flat_at ns a
   at_other a l d = get_or-append (slice_set ns i x) (new_flat t ∷ []) blank a (rw (length-set ns i x) l) ∙ get_or-set_other ns i a x blank d
 
   at_new : flat_at ms (length ns) ≡ new_flat t
@@ -439,7 +439,7 @@ module _ (ns : List Flat) (i : ℕ) (ch : Change) (s : IsSound ns) (w : i < leng
   same_for f e a (inr (inl q)) = ap f (node_other a (not_less a i q))
   same_for f e a (inr (inr q)) = ap f (node_other a (not_more a i q))
 
-  same_edge : (a : ℕ) (u : Tagged) → child_of u (flat_at mc a) ≡ child_of u (flat_at ns a)
+  pub same_edge : (a : ℕ) (u : Tagged) → child_of u (flat_at mc a) ≡ child_of u (flat_at ns a)
   same_edge a u = same_for (λ n. child_of u n) (same_children u ch (flat_at ns i)) a (cases_order a i)
 
   sound_change : IsSound mc

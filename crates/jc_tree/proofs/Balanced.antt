@@ -18,7 +18,7 @@ use Rattle.jc_rules.proofs.Order.{same_cmp, keys_total, exact_keys}
 use Rattle.jc_rules.proofs.Entries.{none-below}
 use Rattle.jc_tree.specs.Sorted.{AreSorted}
 use Rattle.jc_tree.specs.Tree.{is_after, least_after}
-use Rattle.jc_tree.specs.Undo.{removed, restored}
+use Rattle.jc_tree.specs.Undo.{removed}
 use Rattle.jc_tree.proofs.Search.{least-none}
 
 -- the order of keys is that of the rules

@@ -19,3 +19,4 @@ pub mod ArenaChanges
 pub mod ArenaSteps
 pub mod ArenaHistory
 pub mod ArenaMaking
+pub mod Lasting

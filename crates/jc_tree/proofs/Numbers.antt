@@ -114,7 +114,7 @@ found_filled g k (e ∷ es) = go (eq_by_cmp key_cmp k e.0) refl (found_filled g 
     go true p ih = rw p refl
     go false p ih = rw p ih
 
-past_blank : (ns : List Flat) (i : ℕ) → length ns ≤ i → flat_at ns i ≡ blank
+pub past_blank : (ns : List Flat) (i : ℕ) → length ns ≤ i → flat_at ns i ≡ blank
 past_blank ns i h = get_or_past ns i blank h
 
 -- enough depth is enough
@@ -177,7 +177,7 @@ not_same k q e h = let t : eq_by_cmp key_cmp k q ≡ true = rw e (same-self keys
 put_found : (q : Key) (c : ℕ) (g : ℕ → Context) (y : Context) (es : List (Key × ℕ)) → find key_cmp q es ≡ Some c → put key_cmp q y (filled_all g es) ≡ replaced key_cmp q y (filled_all g es)
 put_found q c g y es e = rw (found_filled g q es, e) refl
 
-no_walk : {A : Type 0} {j : ℕ} → None ≡ Some j → A
+pub no_walk : {A : Type 0} {j : ℕ} → None ≡ Some j → A
 no_walk e = absurd (let f : ⊥ = cc in f)
 
 module _ (ns ms : List Flat) (s : IsSound ns) (j : ℕ) (same : IsSameBut ns ms j) (longer : length ns ≤ length ms) where

@@ -2,10 +2,9 @@
 
 ghost use Rattle.std.specs.Prelude.{◌≡◌, ◌≢◌, ◌<◌, ◌+◌, List, None, Some, [], ◌∷◌, ◌++◌, length, IfOk, OnOk, OnErr};
 ghost use Rattle.jc_rules.specs.declared.key.Tagged.{Tagged as AnyTagged};
-ghost use Rattle.jc_rules.specs.Context.{content, with_content, new_content, empty};
-ghost use Rattle.jc_rules.specs.Paths.{HasContext};
+ghost use Rattle.jc_rules.specs.Context.{empty};
 ghost use Rattle.jc_rules.specs.Places.{node_at, context_at};
-ghost use Rattle.jc_tree.specs.Tree.{Tree, IsChanged};
+ghost use Rattle.jc_tree.specs.Tree.{IsChanged};
 ghost use Rattle.jc_tree.specs.Change.{IsFit, changed_by};
 ghost use Rattle.jc_tree.specs.Arena.{IsInside, content_of, walk};
 ghost use Rattle.jc_tree.specs.ArenaUndo.{contents, fewer, back, tree_of, IsGood, AreGood, IsGood-single, AreGood-single};
@@ -93,31 +92,8 @@ impl ArenaTree {
         node
     }
 
-    /// Makes a new map or list under the tagged key. After a refusal all is as it was.
-    fn make_node(&mut self, at: &[Tagged], key: &Tagged) -> Result<(), AllocError>
-        requires there { node_at at.now (content_of self.old.nodes.items) ≢ None }
-        requires absent { content key.now (context_at at.now (content_of self.old.nodes.items)) ≡ None }
-        requires context { HasContext key.now }
-        ensures ok { OnOk result (IsChanged at.now
-            (with_content key.now (new_content key.now) (context_at at.now (content_of self.old.nodes.items)))
-            (tree_of self.old.nodes.items self.old.undos.items) (tree_of self.new.nodes.items self.new.undos.items)) }
-        ensures err { OnErr result (tree_of self.new.nodes.items self.new.undos.items
-            ≡ tree_of self.old.nodes.items self.old.undos.items) }
-    {
-        let node = self.find(at);
-        let number = self.nodes.len();
-        let child = ArenaNode::of_child(self.alloc, key)?;
-        let former = former_of_node(key)?;
-        self.undos.reserve(1)?;
-        self.nodes.reserve(1)?;
-        self.nodes[node].name_child(key.copy()?, number)?;
-        self.nodes.push(child).unwrap();
-        self.undos.push(Undo { node, former }).unwrap();
-        Ok(())
-    }
-
     /// Makes one change of a node to which a path leads, and which makes no node, and keeps what takes it
-    /// back. After a refusal all is as it was.
+    /// back. Paths lead to the same numbers then. After a refusal all is as it was.
     fn change_node(&mut self, node: usize, change: Change) -> Result<(), AllocError>
         requires there { (at : List AnyTagged) × (walk self.old.nodes.items 0 at ≡ Some node) }
         requires within { node < length self.old.nodes.items }
@@ -126,6 +102,8 @@ impl ArenaTree {
         ensures ok { OnOk result ((at : List AnyTagged) → walk self.old.nodes.items 0 at ≡ Some node → IsChanged at
             (changed_by change (context_at at (content_of self.old.nodes.items)))
             (tree_of self.old.nodes.items self.old.undos.items) (tree_of self.new.nodes.items self.new.undos.items)) }
+        ensures numbers { OnOk result ((at : List AnyTagged) →
+            walk self.new.nodes.items 0 at ≡ walk self.old.nodes.items 0 at) }
         ensures err { OnErr result (tree_of self.new.nodes.items self.new.undos.items
             ≡ tree_of self.old.nodes.items self.old.undos.items) }
     {
@@ -166,7 +144,7 @@ impl ArenaTree {
 impl TreeStore for ArenaTree {
     ghost tree = { λ s. tree_of s.nodes.items s.undos.items };
 
-    ghost names = { λ s place at. Unit {0} };
+    ghost names = { λ s place at. walk s.nodes.items 0 at ≡ Some place.number };
 
     ghost kept = { λ s. s.good.kept };
 
@@ -177,7 +155,13 @@ impl TreeStore for ArenaTree {
     fn make_child(&mut self, at: &[Tagged], key: &Tagged) -> Result<(), AllocError> {
         match key {
             Tagged::RegT(_) => self.change(at, Change::Child(key.copy()?)),
-            _ => self.make_node(at, key),
+            _ => {
+                let place = Place {
+                    number: self.find(at),
+                };
+                self.make_below(place, at, key)?;
+                Ok(())
+            }
         }
     }
 
@@ -191,10 +175,10 @@ impl TreeStore for ArenaTree {
     }
 
     fn add_presence(&mut self, at: &[Tagged], key: &Key, id: Id) -> Result<bool, AllocError> {
-        let node = self.find(at);
-        let was = self.nodes[node].presence(key).is_some();
-        self.change_node(node, Change::AddId(key.copy()?, id))?;
-        Ok(was)
+        let place = Place {
+            number: self.find(at),
+        };
+        self.add_presence_at(place, at, key, id)
     }
 
     fn next(&self, at: &[Tagged], key: &Key) -> Option<Next> {
@@ -248,11 +232,8 @@ impl TreeStore for ArenaTree {
     }
 
     fn below(&self, place: Place, at: &[Tagged], key: &Tagged) -> Option<Place> {
-        match key {
-            Tagged::RegT(_) => None,
-            _ if self.has(at, key) => Some(Place { number: 0 }),
-            _ => None,
-        }
+        let number = self.nodes[place.number].child(key)?;
+        Some(Place { number })
     }
 
     fn make_below(
@@ -261,8 +242,17 @@ impl TreeStore for ArenaTree {
         at: &[Tagged],
         key: &Tagged,
     ) -> Result<Place, AllocError> {
-        self.make_child(at, key)?;
-        Ok(Place { number: 0 })
+        let node = place.number;
+        let number = self.nodes.len();
+        let child = ArenaNode::of_child(self.alloc, key)?;
+        let former = former_of_node(key)?;
+        let copy = key.copy()?;
+        self.undos.reserve(1)?;
+        self.nodes.reserve(1)?;
+        self.nodes[node].name_child(copy, number)?;
+        self.nodes.push(child).unwrap();
+        self.undos.push(Undo { node, former }).unwrap();
+        Ok(Place { number })
     }
 
     fn add_presence_at(
@@ -272,7 +262,10 @@ impl TreeStore for ArenaTree {
         key: &Key,
         id: Id,
     ) -> Result<bool, AllocError> {
-        self.add_presence(at, key, id)
+        let node = place.number;
+        let was = self.nodes[node].presence(key).is_some();
+        self.change_node(node, Change::AddId(key.copy()?, id))?;
+        Ok(was)
     }
 
     fn mark(&self) -> Mark {

@@ -160,12 +160,7 @@ pub trait TreeStore {
 
     /// Makes a new map or list under the tagged key of the place, which has the given name, and
     /// gives its name. A new list has its head linked to its end.
-    fn make_below(
-        &mut self,
-        place: Place,
-        at: &[Tagged],
-        key: &Tagged,
-    ) -> Result<Place, AllocError>
+    fn make_below(&mut self, place: Place, at: &[Tagged], key: &Tagged) -> Result<Place, AllocError>
         requires there { HasPlace at.now (tree self.old) }
         requires named { names self.old place at.now }
         requires absent { content key.now (here at.now (tree self.old)) ≡ None }

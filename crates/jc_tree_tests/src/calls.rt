@@ -2,6 +2,7 @@
 //! and at once; and what stands after a change for which there was no memory. All of it at the root
 //! and three levels down.
 
+use crate::named::{ids_named, made_below, names_below, refused_below, refused_id_named};
 use crate::placed::{FIRST, Kind, Placed, SECOND, empty_map, name, two_values};
 use jc_rules::{Key, Next, Tagged, Value};
 use jc_tree::{ArenaTree, PlainTree, TreeStore, laws};
@@ -11,7 +12,7 @@ use std::test::Fail;
 
 const CHANGES: u64 = 20;
 
-const TURNS: u64 = 19;
+const TURNS: u64 = 24;
 
 fn children<S: TreeStore>(rt: &impl Abort, tree: &mut Placed<S>) -> Result<(), AllocError> {
     tree.expect_child(rt, &Tagged::MapT(Key::Doc), false);
@@ -257,7 +258,12 @@ fn call<S: TreeStore>(rt: &impl Abort, tree: &mut Placed<S>, turn: u64) -> Resul
         15 => refused_id(rt, tree),
         16 => put_values(rt, tree),
         17 => refused_value(rt, tree),
-        _ => presence_undone(rt, tree),
+        18 => presence_undone(rt, tree),
+        19 => made_below(rt, tree),
+        20 => names_below(rt, tree),
+        21 => ids_named(rt, tree),
+        22 => refused_below(rt, tree),
+        _ => refused_id_named(rt, tree),
     }
 }
 

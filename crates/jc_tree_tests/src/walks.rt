@@ -48,6 +48,11 @@ impl<S: TreeStore> Placed<S> {
         self.add_id(rt, key, id, was)
     }
 
+    fn put_id_named(&mut self, rt: &impl Abort, key: &Key, id: Id) -> Result<(), AllocError> {
+        let was = self.presence_is_there(rt, key);
+        self.add_id_named(rt, key, id, was)
+    }
+
     /// Puts a value, in a register that is there or not.
     fn put_one(&mut self, rt: &impl Abort, key: &Key, id: Id) -> Result<(), AllocError> {
         let at = self.at.as_slice();
@@ -106,7 +111,7 @@ impl<S: TreeStore> Placed<S> {
             0 => self.put_ids(rt, &key, [FIRST].as_slice())?,
             1 => self.put_ids(rt, &key, &[])?,
             2 => self.put_id(rt, &key, FIRST)?,
-            3 => self.put_id(rt, &key, SECOND)?,
+            3 => self.put_id_named(rt, &key, SECOND)?,
             4 => self.put_next(rt, &key, Next::Elem(SECOND))?,
             5 => self.put_two(rt, &key)?,
             6 => self.put_none(rt, &key)?,

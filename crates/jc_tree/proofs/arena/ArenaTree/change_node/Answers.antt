@@ -6,6 +6,7 @@ use Rattle.jc_tree.specs.declared.arena.Undo.{Undo}
 use Rattle.jc_tree.proofs.ArenaChanges.{Changes, with_change, inside_changes}
 use Rattle.jc_tree.proofs.ArenaHistory.{good_pushed, changed_tree}
 use Rattle.jc_tree.proofs.ArenaMaking.{nodes_changed, former_there, pushed_ok}
+use Rattle.jc_tree.proofs.Lasting.{numbers_stay}
 use Rattle.jc_tree.proofs.Undoing.{pushed}
 use Rattle.jc_tree.proofs.arena.ArenaTree.change_node.Goals as goal
 
@@ -36,3 +37,11 @@ returns-clause-ok c at path =
     let here : Changes ns (with_change c.args.change i ns) at (changed_by c.args.change (context_at at (content_of ns))) i c.in_ok-former.former = rw former change in
     let all : c.push.new.self.items ≡ self.undos.items ++ undo ∷ [] = pushed_ok c.push.result _ c.reserve.new.self.items c.push.new.self.items undo c.unwrap.ensures c.push.ensures.items ∙ ap (λ us. us ++ undo ∷ []) c.in_ok-reserve.ensures.items in
     rw made (changed_tree ns (with_change c.args.change i ns) self.undos.items c.push.new.self.items undo at _ here all)
+
+pub returns-clause-numbers : goal.returns-clause-numbers
+returns-clause-numbers c at =
+    let self = c.args.self.now in
+    let ns = self.nodes.items in
+    let i = c.args.node in
+    let made = nodes_changed ns i c.args.change c.index_mut.result.now c.change.new.self c.index_mut.ensures.value c.requires.within c.in_ok-former.ensures.ok in
+    rw made (numbers_stay ns i c.args.change self.good c.requires.within at)

@@ -8,9 +8,10 @@ change-requires c = record {
   fit = tt;
 }
 
-pub make_node-requires : goal.make_node-requires
-make_node-requires c = record {
+pub make_below-requires : goal.make_below-requires
+make_below-requires c = record {
   there = c.requires.there;
+  named = c.find.ensures.walk;
   absent = c.requires.absent;
   context = context_key c.args.key.now c.in_default.not-RegT;
 }

@@ -1,4 +1,4 @@
-use Rattle.std.proofs.Common.{◌≡◌, Some, slice_set, sym, ◌∙◌, ap, subst}
+use Rattle.std.proofs.Common.{Some, slice_set, sym, ◌∙◌, ap, subst}
 use Rattle.jc_rules.specs.declared.value.Value.{Value}
 use Rattle.jc_rules.specs.Order.{id_cmp}
 use Rattle.jc_rules.specs.Entries.{find, put, keys_of}
