@@ -19,6 +19,7 @@ use Rattle.jc_rules.specs.Places.{at_node, node_in, node_at, context_at}
 use Rattle.jc_rules.specs.Paths.{HasContext, IsPath}
 use Rattle.jc_rules.proofs.Places.{there}
 use Rattle.jc_rules.proofs.Rising.{all_at}
+use Rattle.jc_tree.proofs.Places.{some_content}
 use Rattle.jc_apply.specs.Fits.{Fits, FitsHere, InChild, or_new, child_of, made_under}
 
 -- the context at the path's end, where those that aren't there are new
@@ -108,19 +109,6 @@ key_on path ts n t same h within is =
 pub record Walked (c : Context) (path : List Tagged) (n : ℕ) (there : Bool) : Type 0 where
   pub place : there ≡ is_some (node_at (take n path) c)
   pub made : there ≡ false → reached (take n path) c ≡ Some (made_under (slice_get path (n - 1)))
-
-some_content : (t : Tagged) (c : Context) → HasContext t → is_some (node_in (content t c)) ≡ is_some (content t c)
-some_content (MapT k) c h = go (find key_cmp k (maps c))
-  where
-    go : (o : Option Context) → is_some (node_in (node_of o)) ≡ is_some (node_of o)
-    go None = refl
-    go (Some d) = refl
-some_content (ListT k) c h = go (find key_cmp k (lists c))
-  where
-    go : (o : Option Context) → is_some (node_in (node_of o)) ≡ is_some (node_of o)
-    go None = refl
-    go (Some d) = refl
-some_content (RegT k) c h = absurd h
 
 pub differ : {A : Type 0} → false ≡ true → A
 differ e = cc
