@@ -9,8 +9,8 @@ use Rattle.jc_rules.specs.declared.operation.Mutation.{Mutation}
 use Rattle.jc_rules.specs.declared.operation.Op.{Op}
 use Rattle.jc_rules.specs.declared.rule.Rule.{Rule}
 use Rattle.jc_rules.specs.declared.rule.Rule.TheVariants as R
-use Rattle.jc_rules.specs.Context.{Context, context, Node, content, with_content, with_presence, key_of}
-use Rattle.jc_rules.specs.Places.{node_at, with_node_at}
+use Rattle.jc_rules.specs.Context.{Context, context, Content, Node, content, with_content, with_presence, key_of}
+use Rattle.jc_rules.specs.Places.{node_in, node_at, with_node_at}
 use Rattle.jc_rules.specs.Derivation.{AddId, Child, Operate, Answer, ToContent, ToContext, Judgement, gives, Derivation, derive, conclusion, conclusions, trace}
 use Rattle.jc_rules.specs.Derives.{Derives}
 use Rattle.jc_rules.specs.Trace.{Rows, pushed, below, at_depth}
@@ -22,6 +22,7 @@ use Rattle.jc_rules.proofs.Places.{listed_children, with-with, with_node-twice, 
 use Rattle.jc_rules.proofs.Steps.{three_premises}
 use Rattle.jc_tree.specs.Tree.{Tree, HasPlace, here}
 use Rattle.jc_tree.proofs.Places.{then_node, then_here, then_place, then_now, some_place}
+use Rattle.jc_apply.specs.Fits.{or_new, child_of}
 use Rattle.jc_apply.specs.Leads.{Adds, IsAdded, Leads, Enters}
 
 -- an added identifier leaves alone what is under tagged keys
@@ -34,8 +35,16 @@ content_added : (k : Tagged) (i : Id) (m : Mutation) (was : Option Bool) (c d : 
 content_added k i m None c d h = ap (content k) h.1
 content_added k i m (Some was) c d h = ap (content k) h.2 ∙ content_presence k (key_of k) _ c
 
-pub content_here : (k : Tagged) (i : Id) (m : Mutation) (was : Option Bool) (at : List Tagged) (a b : Tree) → HasPlace at a → Adds k i m was at a b → content k (here at b) ≡ content k (here at a)
+content_here : (k : Tagged) (i : Id) (m : Mutation) (was : Option Bool) (at : List Tagged) (a b : Tree) → HasPlace at a → Adds k i m was at a b → content k (here at b) ≡ content k (here at a)
 content_here k i m was at a b h x = ap (content k) (then_here at x.after a b h x.now) ∙ content_added k i m was (here at a) x.after x.added
+
+-- the place is still there, and the same child under the key
+pub place_added : (k : Tagged) (i : Id) (m : Mutation) (was : Option Bool) (at : List Tagged) (a b : Tree) → HasPlace at a → Adds k i m was at a b → HasPlace at b
+place_added k i m was at a b h x = then_place at x.after a b h x.now
+
+pub child_added : (k : Tagged) (i : Id) (m : Mutation) (was : Option Bool) (at : List Tagged) (a b d : Tree) (t u : Rows) → HasPlace at a → Adds k i m was at a b → (x : Enters k at b d t u) → child_of k (here at a) ≡ Some x.below
+child_added k i m was at a b d t u h y x =
+    ap (λ (o : Option Content). node_in (Some (or_new k o))) (sym (content_here k i m was at a b h y)) ∙ x.is
 
 -- a child is derived alike where the same is under its key
 follows_child : (r : Rule) (k : Tagged) (x y : Context) (a : Answer) (js : List Judgement) → content k x ≡ content k y → Follows r (Child x k) a js → Follows r (Child y k) a js

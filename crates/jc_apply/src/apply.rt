@@ -81,7 +81,7 @@ fn operate_here<S: TreeStore>(
 }
 
 /// Adds the operation's identifier to the presence set of a key on its path, at the place with the
-/// given name, unless the operation deletes. Says whether there was a set, if it was asked.
+/// given name, unless the operation deletes. Says whether there was a set, and nothing for a deletion.
 fn add_op<S: TreeStore>(
     store: &mut S,
     place: Place,
@@ -99,7 +99,10 @@ fn add_op<S: TreeStore>(
 {
     match &op.mutation {
         Mutation::Delete => Ok(None),
-        _ => Ok(Some(store.add_presence_at(place, at, key.key(), op.id)?)),
+        _ => {
+            let was = store.add_presence_at(place, at, key.key(), op.id)?;
+            Ok(Some(was))
+        }
     }
 }
 
