@@ -4,7 +4,7 @@ use Rattle.jc_rules.specs.declared.rule.Rule.TheVariants as R
 use Rattle.jc_rules.specs.Context.{Context}
 use Rattle.jc_rules.specs.Derivation.{Operate}
 use Rattle.jc_rules.specs.Table.{moved}
-use Rattle.jc_rules.specs.Trace.{at_depth}
+use Rattle.jc_rules.specs.Trace.{Rows, pushed, below, at_depth}
 use Rattle.jc_tree.specs.Tree.{HasPlace, here}
 use Rattle.jc_tree.proofs.GoingBack.{then, rule_opened, rows_added, depth_changed}
 use Rattle.jc_apply.specs.Fits.{Fits}
@@ -30,7 +30,7 @@ enter_below-requires g t c =
     let w = way c.args.op.now.cursor.path c.as_slice-path.result.now c.args.depth c.index-path-depth.result c.as_slice-path.ensures.keys within c.index-path-depth.is in
     let place : HasPlace (take c.args.depth c.as_slice-path.result.now) (g.S.TreeStore.tree c.args.store.now) = subst (λ (p : List Tagged). HasPlace p (g.S.TreeStore.tree c.args.store.now)) (sym w.at) c.requires.there in
     record {
-      there = place_added c.index-path-depth.result c.args.op.now.id c.args.op.now.mutation c.in_ok-was.was (take c.args.depth c.as_slice-path.result.now) (g.S.TreeStore.tree c.args.store.now) (g.S.TreeStore.tree c.add_op.new.store) place c.in_ok-was.ensures.ok;
+      there = place_added c.index-path-depth.result c.args.op.now.id c.args.op.now.mutation c.in_ok-was.was' (take c.args.depth c.as_slice-path.result.now) (g.S.TreeStore.tree c.args.store.now) (g.S.TreeStore.tree c.add_op.new.store) place c.in_ok-was.ensures.ok;
       named = c.in_ok-was.ensures.named;
       context = (fits_below _ _ _ _ _ _ w.rest c.requires.fits).context;
     }
@@ -42,9 +42,9 @@ operate-requires g t c κs h =
     let tree = g.S.TreeStore.tree c.args.store.now in
     let place : HasPlace (take c.args.depth c.as_slice-path.result.now) tree = subst (λ (p : List Tagged). HasPlace p tree) (sym w.at) c.requires.there in
     let fits = fits_below _ _ _ _ _ _ w.rest (subst (λ (p : List Tagged). Fits (here p tree) (drop c.args.depth c.args.op.now.cursor.path) c.args.op.now.cursor.last c.args.op.now.mutation) (sym w.at) c.requires.fits) in
-    let still = place_added c.index-path-depth.result c.args.op.now.id c.args.op.now.mutation c.in_ok-was.was (take c.args.depth c.as_slice-path.result.now) (g.S.TreeStore.tree c.args.store.now) (g.S.TreeStore.tree c.add_op.new.store) place c.in_ok-was.ensures.ok in
+    let still = place_added c.index-path-depth.result c.args.op.now.id c.args.op.now.mutation c.in_ok-was.was' (take c.args.depth c.as_slice-path.result.now) (g.S.TreeStore.tree c.args.store.now) (g.S.TreeStore.tree c.add_op.new.store) place c.in_ok-was.ensures.ok in
     let entered = c.in_ok-child.ensures.ok in
-    let is = child_added c.index-path-depth.result c.args.op.now.id c.args.op.now.mutation c.in_ok-was.was (take c.args.depth c.as_slice-path.result.now) tree (g.S.TreeStore.tree c.add_op.new.store) (g.S.TreeStore.tree c.enter_below.new.store) c.open.new.self c.enter_below.new.trace place c.in_ok-was.ensures.ok entered in
+    let is = child_added c.index-path-depth.result c.args.op.now.id c.args.op.now.mutation c.in_ok-was.was' (take c.args.depth c.as_slice-path.result.now) tree (g.S.TreeStore.tree c.add_op.new.store) (g.S.TreeStore.tree c.enter_below.new.store) c.open.new.self c.enter_below.new.trace place c.in_ok-was.ensures.ok entered in
     let below : here (take (c.args.depth + 1) c.args.op.now.cursor.path) (g.S.TreeStore.tree c.enter_below.new.store) ≡ entered.below = child_here _ _ _ _ _ _ _ still fits.context w.down entered in
     let named = subst (λ (p : List Tagged). g.S.TreeStore.names c.enter_below.new.store c.in_ok-child.child p) (sym w.down) c.in_ok-child.ensures.named in
     let chained = c.in_ok-child.ensures.links.chained (c.in_ok-was.ensures.links.chained c.requires.chained) in
@@ -56,7 +56,7 @@ pub close-requires : goal.close-requires
 close-requires g t c =
     let added = c.in_ok-was.ensures.ok in
     let told = c.in_ok-tell_added.ensures.ok c.index-path-depth.result c.args.op.now.id c.args.op.now.mutation (here (take c.args.depth c.as_slice-path.result.now) (g.S.TreeStore.tree c.args.store.now)) added.after added.added in
-    omega (arith, c.depth-above.ensures, ap (λ r. r.depth) c.in_ok-open.ensures.ok, c.in_ok-child.ensures.ok.derives.depth, c.in_ok-operate.ensures.ok.derives.depth, told.depth)
+    omega (arith, c.depth-above.ensures, ap (λ (r : Rows). r.depth) {x = c.open.new.self} {y = below (pushed c.args.trace.now R.Descend)} c.in_ok-open.ensures.ok, c.in_ok-child.ensures.ok.derives.depth, c.in_ok-operate.ensures.ok.derives.depth, told.depth)
 
 pub returns-clause-ok : goal.returns-clause-ok
 returns-clause-ok g t c =
