@@ -14,7 +14,7 @@ use Rattle.jc_rules.specs.declared.operation.Mutation.TheVariants.{Assign, Inser
 use Rattle.jc_rules.specs.declared.value.Value.{Value}
 use Rattle.jc_rules.specs.Order.{key_cmp}
 use Rattle.jc_rules.specs.Entries.{find}
-use Rattle.jc_rules.specs.Context.{Context, Content, Node, Values, Register, node_of, values_of, content, new_content, next, maps, lists, registers}
+use Rattle.jc_rules.specs.Context.{Context, Content, Node, Values, Register, values_of, content, new_content, next, registers}
 use Rattle.jc_rules.specs.Places.{at_node, node_in, node_at, context_at}
 use Rattle.jc_rules.specs.Paths.{HasContext, IsPath}
 use Rattle.jc_rules.proofs.Places.{there}

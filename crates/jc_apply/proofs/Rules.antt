@@ -187,8 +187,8 @@ on_ok (Err e) f h = h
 pub added : {T E : Type 0} (r : Result T E) (at : List Tagged) (key : Key) (i : Id) (was : Bool) (a b : Tree) (t u : Rows) → was ≡ is_some (presence key (here at a)) → IsChanged at (with_presence key (with_id i (or_none (presence key (here at a)))) (here at a)) a b → OnOk r (TellsAdded (Some was) t u) → OnOk r ((k : Tagged) → (m : Mutation) → key_of k ≡ key → m ≢ Delete → Leads (λ c. AddId c k i m) at a b t u)
 added r at key i was a b t u has z =
     on_ok r (λ tells k m ke ne.
-        let x = adds at k key i m was a b (sym ke) ne has z in
-        record { after = x.after; derives = tells k i m (here at a) x.after x.added; now = x.now })
+    let x = adds at k key i m was a b (sym ke) ne has z in
+    record { after = x.after; derives = tells k i m (here at a) x.after x.added; now = x.now })
 
 -- a call that changes the tree alone
 pub only_tree : (a b : Tree) (t u : Rows) → IsLater a b → u ≡ t → CanGoBack a b t u

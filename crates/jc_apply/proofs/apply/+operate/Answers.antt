@@ -32,7 +32,7 @@ enter_below-requires g t c =
     record {
       there = place_added c.index-path-depth.result c.args.op.now.id c.args.op.now.mutation c.in_ok-was.was' (take c.args.depth c.as_slice-path.result.now) (g.S.TreeStore.tree c.args.store.now) (g.S.TreeStore.tree c.add_op.new.store) place c.in_ok-was.ensures.ok;
       named = c.in_ok-was.ensures.named;
-      context = (fits_below _ _ _ _ _ _ w.rest c.requires.fits).context;
+      context = (fits_below c.index-path-depth.result (here (take c.args.depth c.args.op.now.cursor.path) (g.S.TreeStore.tree c.args.store.now)) (drop c.args.depth c.args.op.now.cursor.path) (drop (c.args.depth + 1) c.args.op.now.cursor.path) c.args.op.now.cursor.last c.args.op.now.mutation w.rest c.requires.fits).context;
     }
 
 pub operate-requires : goal.operate-requires
@@ -41,7 +41,7 @@ operate-requires g t c κs h =
     let w = way c.args.op.now.cursor.path c.as_slice-path.result.now c.args.depth c.index-path-depth.result c.as_slice-path.ensures.keys within c.index-path-depth.is in
     let tree = g.S.TreeStore.tree c.args.store.now in
     let place : HasPlace (take c.args.depth c.as_slice-path.result.now) tree = subst (λ (p : List Tagged). HasPlace p tree) (sym w.at) c.requires.there in
-    let fits = fits_below _ _ _ _ _ _ w.rest (subst (λ (p : List Tagged). Fits (here p tree) (drop c.args.depth c.args.op.now.cursor.path) c.args.op.now.cursor.last c.args.op.now.mutation) (sym w.at) c.requires.fits) in
+    let fits = fits_below c.index-path-depth.result (here (take c.args.depth c.as_slice-path.result.now) tree) (drop c.args.depth c.args.op.now.cursor.path) (drop (c.args.depth + 1) c.args.op.now.cursor.path) c.args.op.now.cursor.last c.args.op.now.mutation w.rest (subst (λ (p : List Tagged). Fits (here p tree) (drop c.args.depth c.args.op.now.cursor.path) c.args.op.now.cursor.last c.args.op.now.mutation) (sym w.at) c.requires.fits) in
     let still = place_added c.index-path-depth.result c.args.op.now.id c.args.op.now.mutation c.in_ok-was.was' (take c.args.depth c.as_slice-path.result.now) (g.S.TreeStore.tree c.args.store.now) (g.S.TreeStore.tree c.add_op.new.store) place c.in_ok-was.ensures.ok in
     let entered = c.in_ok-child.ensures.ok in
     let is = child_added c.index-path-depth.result c.args.op.now.id c.args.op.now.mutation c.in_ok-was.was' (take c.args.depth c.as_slice-path.result.now) tree (g.S.TreeStore.tree c.add_op.new.store) (g.S.TreeStore.tree c.enter_below.new.store) c.open.new.self c.enter_below.new.trace place c.in_ok-was.ensures.ok entered in
@@ -64,7 +64,7 @@ returns-clause-ok g t c =
     let w = way c.args.op.now.cursor.path c.as_slice-path.result.now c.args.depth c.index-path-depth.result c.as_slice-path.ensures.keys within c.index-path-depth.is in
     let tree = g.S.TreeStore.tree c.args.store.now in
     let place : HasPlace (take c.args.depth c.as_slice-path.result.now) tree = subst (λ (p : List Tagged). HasPlace p tree) (sym w.at) c.requires.there in
-    let context = (fits_below _ _ _ _ _ _ w.rest c.requires.fits).context in
+    let context = (fits_below c.index-path-depth.result (here (take c.args.depth c.args.op.now.cursor.path) (g.S.TreeStore.tree c.args.store.now)) (drop c.args.depth c.args.op.now.cursor.path) (drop (c.args.depth + 1) c.args.op.now.cursor.path) c.args.op.now.cursor.last c.args.op.now.mutation w.rest c.requires.fits).context in
     let done = descended c.args.op.now c.index-path-depth.result _ (take (c.args.depth + 1) c.args.op.now.cursor.path) (drop c.args.depth c.args.op.now.cursor.path) (drop (c.args.depth + 1) c.args.op.now.cursor.path) _ _ _ _ _ _ _ _ _ _ _ place context w.down w.rest c.in_ok-open.ensures.ok c.in_ok-was.ensures.ok c.in_ok-child.ensures.ok c.in_ok-operate.ensures.ok c.in_ok-tell_added.ensures.ok (c.close.ensures ∙ ap (λ (n : ℕ). at_depth n c.tell_added.new.trace) c.depth-above.ensures) in
     subst (λ (p : List Tagged). Leads (λ x. Operate x (moved c.args.op.now (drop c.args.depth c.args.op.now.cursor.path) c.args.op.now.cursor.last c.args.op.now.mutation)) p tree (g.S.TreeStore.tree c.operate.new.store) c.args.trace.now c.close.new.self) w.at done
 

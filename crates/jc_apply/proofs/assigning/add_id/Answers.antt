@@ -1,4 +1,3 @@
-use Rattle.jc_tree.specs.Tree.{here}
 use Rattle.jc_tree.proofs.GoingBack.{then, rows_added, tree_changed}
 use Rattle.jc_apply.proofs.Rules.{added, on_ok}
 use Rattle.jc_apply.proofs.Links.{none_presence}

@@ -10,11 +10,11 @@ loop-depth-preserved g c =
     let key = key_on c.as_slice-path.result.now c.args.cursor.now.path c.loop-depth.depth c.index-path-depth.result c.as_slice-path.ensures.keys c.as_slice-path.ensures.path c.loop-depth-test.true c.index-path-depth.is in
     elim c.match-place.branch [
       | in-Some w ↦ record {
-        walked = walked_there _ c.as_slice-path.result.now c.loop-depth.depth c.index-path-depth.result (is_some c.loop-depth.place) (is_some c.match-place.place) c.loop-depth-test.true c.index-path-depth.is key c.loop-depth.invariant.walked (ap is_some w.in-Some.is) (ap is_some w.place-is ∙ w.below-place.ensures.some);
+        walked = walked_there (g.S.TreeStore.tree c.args.store.now).now c.as_slice-path.result.now c.loop-depth.depth c.index-path-depth.result (is_some c.loop-depth.place) (is_some c.match-place.place) c.loop-depth-test.true c.index-path-depth.is key c.loop-depth.invariant.walked (ap is_some w.in-Some.is) (ap is_some w.place-is ∙ w.below-place.ensures.some);
         named = named_there Place (λ p at. g.S.TreeStore.names c.args.store.now p at) c.as_slice-path.result.now c.loop-depth.depth c.index-path-depth.result w.below-place.result c.match-place.place c.loop-depth-test.true c.index-path-depth.is w.place-is w.below-place.ensures.named;
       }
       | in_default w ↦ record {
-        walked = walked_new _ c.as_slice-path.result.now c.loop-depth.depth c.index-path-depth.result (is_some c.loop-depth.place) (is_some c.match-place.place) c.loop-depth-test.true c.index-path-depth.is key c.loop-depth.invariant.walked (ap is_some w.in_default.is) (ap is_some (w.place-is ∙ w.in_default.is));
+        walked = walked_new (g.S.TreeStore.tree c.args.store.now).now c.as_slice-path.result.now c.loop-depth.depth c.index-path-depth.result (is_some c.loop-depth.place) (is_some c.match-place.place) c.loop-depth-test.true c.index-path-depth.is key c.loop-depth.invariant.walked (ap is_some w.in_default.is) (ap is_some (w.place-is ∙ w.in_default.is));
         named = named_none Place _ c.match-place.place (w.place-is ∙ w.in_default.is);
       }
     ]

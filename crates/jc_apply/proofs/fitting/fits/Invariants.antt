@@ -1,4 +1,4 @@
-use Rattle.std.proofs.Common.{List, take, is_some}
+use Rattle.std.proofs.Common.{take, is_some}
 use Rattle.std.specs.Prelude.{IfSome}
 use Rattle.jc_apply.proofs.Reaching.{Walked}
 use Rattle.jc_apply.proofs.fitting.fits.Given as goal
