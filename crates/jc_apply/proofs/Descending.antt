@@ -11,7 +11,7 @@ use Rattle.jc_rules.specs.declared.rule.Rule.{Rule}
 use Rattle.jc_rules.specs.declared.rule.Rule.TheVariants as R
 use Rattle.jc_rules.specs.Context.{Context, context, Content, Node, content, with_content, with_presence, key_of}
 use Rattle.jc_rules.specs.Places.{node_in, node_at, with_node_at}
-use Rattle.jc_rules.specs.Derivation.{AddId, Child, Operate, Answer, ToContent, ToContext, Judgement, gives, Derivation, derive, conclusion, conclusions, trace}
+use Rattle.jc_rules.specs.Derivation.{Child, Operate, Answer, ToContent, ToContext, Judgement, gives, Derivation, derive, conclusion, conclusions, trace}
 use Rattle.jc_rules.specs.Derives.{Derives}
 use Rattle.jc_rules.specs.Trace.{Rows, pushed, below, at_depth}
 use Rattle.jc_rules.specs.Table.{Follows, Holds, moved}
@@ -23,7 +23,7 @@ use Rattle.jc_rules.proofs.Steps.{three_premises}
 use Rattle.jc_tree.specs.Tree.{Tree, HasPlace, here}
 use Rattle.jc_tree.proofs.Places.{then_node, then_here, then_place, then_now, some_place}
 use Rattle.jc_apply.specs.Fits.{or_new, child_of}
-use Rattle.jc_apply.specs.Leads.{Adds, IsAdded, Leads, Enters}
+use Rattle.jc_apply.specs.Leads.{Adds, IsAdded, TellsAdded, Leads, Enters}
 
 -- an added identifier leaves alone what is under tagged keys
 content_presence : (k : Tagged) (j : Key) (s : List Id) (c : Context) → content k (with_presence j s c) ≡ content k c
@@ -89,7 +89,7 @@ above_now k at a b d y t u p h x e =
     ∙ with_node-twice at x1 (with_content k (Node y) x1) a.now
     ∙ ap (λ c. with_node_at at c a.now) (with-with k y x.below (here at a))
 
-pub descended : (o : Op) (k : Tagged) (at down path rest : List Tagged) (was : Option Bool) (a b d e : Tree) (t p u1 u2 u3 w : Rows) → HasPlace at a → HasContext k → down ≡ at ++ k ∷ [] → path ≡ k ∷ rest → p ≡ below (pushed t R.Descend) → Adds k o.id o.mutation was at a b → Enters k at b d p u1 → Leads (λ c. Operate c (moved o rest o.cursor.last o.mutation)) down d e u1 u2 → ((j : Tagged) (i : Id) (m : Mutation) (c f : Context) → IsAdded j i m was c f → Derives (AddId c j i m) (ToContext f) u2 u3) → w ≡ at_depth t.depth u3 → Leads (λ c. Operate c (moved o path o.cursor.last o.mutation)) at a e t w
+pub descended : (o : Op) (k : Tagged) (at down path rest : List Tagged) (was : Option Bool) (a b d e : Tree) (t p u1 u2 u3 w : Rows) → HasPlace at a → HasContext k → down ≡ at ++ k ∷ [] → path ≡ k ∷ rest → p ≡ below (pushed t R.Descend) → Adds k o.id o.mutation was at a b → Enters k at b d p u1 → Leads (λ c. Operate c (moved o rest o.cursor.last o.mutation)) down d e u1 u2 → TellsAdded was u2 u3 → w ≡ at_depth t.depth u3 → Leads (λ c. Operate c (moved o path o.cursor.last o.mutation)) at a e t w
 descended o k at down path rest was a b d e t p u1 u2 u3 w h hc de pe qe x y z tells we =
     let hb : here at b ≡ x.after = then_here at x.after a b h x.now in
     let pb : HasPlace at b = then_place at x.after a b h x.now in

@@ -28,7 +28,7 @@ use Rattle.jc_tree.proofs.GoingBack.{nothing, tree_changed}
 use Rattle.jc_clear.specs.Clears.{Clears}
 use Rattle.jc_tree.proofs.Places.{then_here, then_place, then_now}
 use Rattle.jc_apply.specs.Fits.{or_new, empty_of}
-use Rattle.jc_apply.specs.Leads.{Adds, IsAdded, Leads, Enters, AssignsEmpty}
+use Rattle.jc_apply.specs.Leads.{Adds, IsAdded, TellsAdded, Leads, Enters, AssignsEmpty}
 
 -- a register that is there or not, by the rule that says so
 pub register_there : (c : Context) (k : Key) → true ≡ is_some (find key_cmp k (registers c)) → Follows R.ChildGet (Child c (RegT k)) (ToContent (Values (or_none (find key_cmp k (registers c))))) []
@@ -61,9 +61,6 @@ set_absent c k h = go (presence k c) refl h
     go (Some s) e f = absurd (let no : ⊥ = cc in no)
 
 -- the rules that tell of an identifier that was added, or wasn't
-abbrev pub TellsAdded : Option Bool → Rows → Rows → Type 0
-TellsAdded was t u = (k : Tagged) → (i : Id) → (m : Mutation) → (c : Context) → (d : Context) → IsAdded k i m was c d → Derives (AddId c k i m) (ToContext d) t u
-
 pub told_some : (was : Bool) (given : Option Bool) (rule : Rule) (t o u w : Rows) → given ≡ Some was → o ≡ below (pushed t R.AddId1) → ((c : Context) (k : Key) → was ≡ is_some (presence k c) → Follows rule (Presence c k) (ToIds (or_none (presence k c))) []) → u ≡ pushed o rule → w ≡ at_depth t.depth u → TellsAdded given t w
 told_some was given rule t o u w ge oe follows ue we k i m c d h =
     let x : IsAdded k i m (Some was) c d = subst (λ (y : Option Bool). IsAdded k i m y c d) ge h in

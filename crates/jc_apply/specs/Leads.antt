@@ -48,6 +48,12 @@ pub record Adds (k : Tagged) (i : Id) (m : Mutation) (was : Option Bool) (at : L
   pub added : IsAdded k i m was (here at a) after
   pub now : b.now ≡ with_node_at at after a.now
 
+-- The rules that were added to the trace derive just that.
+abbrev pub TellsAdded : Option Bool → Rows → Rows → Type 0
+TellsAdded was t u =
+    (k : Tagged) (i : Id) (m : Mutation) (c d : Context)
+    → IsAdded k i m was c d → Derives (AddId c k i m) (ToContext d) t u
+
 -- No link of the place's context changed, lists are still chained, and no identifier got linked.
 pub record LinksNone (at : List Tagged) (a b : Tree) : Type 0 where
   pub same : links (here at b) ≡ links (here at a)

@@ -1,7 +1,6 @@
 //! Assigning a value to a key, and adding identifiers to presence sets.
 
 ghost use Rattle.std.specs.Prelude.{◌≡◌, ◌≢◌, [], OnOk, is_some};
-ghost use Rattle.jc_rules.specs.declared.id.Id.{Id as AnyId};
 ghost use Rattle.jc_rules.specs.declared.key.Key.{Key as AnyKey};
 ghost use Rattle.jc_rules.specs.declared.key.Tagged.{Tagged};
 ghost use Rattle.jc_rules.specs.declared.key.Tagged.TheVariants.{RegT};
@@ -10,8 +9,7 @@ ghost use Rattle.jc_rules.specs.declared.operation.Mutation.TheVariants.{Assign,
 ghost use Rattle.jc_rules.specs.Order.{key_cmp};
 ghost use Rattle.jc_rules.specs.Entries.{find};
 ghost use Rattle.jc_rules.specs.Context.{Context, Values, IsPrimitive, key_of, presence, registers};
-ghost use Rattle.jc_rules.specs.Derivation.{AddId, Child, Operate, Presence, ToContent, ToContext, ToIds};
-ghost use Rattle.jc_rules.specs.Derives.{Derives};
+ghost use Rattle.jc_rules.specs.Derivation.{AddId, Child, Operate, Presence, ToContent, ToIds};
 ghost use Rattle.jc_rules.specs.Shape.{IsChained};
 ghost use Rattle.jc_rules.specs.Table.{Follows, moved};
 ghost use Rattle.jc_rules.specs.Trace.{IsLonger};
@@ -19,7 +17,7 @@ ghost use Rattle.jc_rules.specs.Paths.{HasContext};
 ghost use Rattle.jc_tree.specs.Tree.{HasPlace, here, or_none};
 ghost use Rattle.jc_tree.specs.CanGoBack.{CanGoBack};
 ghost use Rattle.jc_apply.specs.Fits.{empty_of};
-ghost use Rattle.jc_apply.specs.Leads.{Leads, LinksNone, AssignsEmpty, IsAdded};
+ghost use Rattle.jc_apply.specs.Leads.{Leads, LinksNone, AssignsEmpty, TellsAdded};
 
 use crate::entering::enter;
 use jc_clear::{clear, clear_elem};
@@ -50,8 +48,7 @@ fn register_rule(was: bool) -> Rule
 /// Adds the rules to the trace by which an operation's identifier was added to a presence set, which
 /// was there or not, or by which it wasn't added for a deletion.
 pub fn tell_added(was: Option<bool>, trace: &mut Trace) -> Result<(), AllocError>
-    ensures ok { OnOk result ((k : Tagged) → (i : AnyId) → (m : AnyMutation) → (c : Context) → (d : Context)
-        → IsAdded k i m was c d → Derives (AddId c k i m) (ToContext d) trace.old trace.new) }
+    ensures ok { OnOk result (TellsAdded was trace.old trace.new) }
     ensures kept { IsLonger trace.old trace.new }
 {
     let Some(was) = was else {

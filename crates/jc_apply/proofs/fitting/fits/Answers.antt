@@ -1,4 +1,4 @@
-use Rattle.std.proofs.Common.{true, refl, sym, ◌∙◌, ap, is_some}
+use Rattle.std.proofs.Common.{◌+◌, true, take, refl, sym, ◌∙◌, ap, is_some}
 use Rattle.jc_tree.specs.declared.store.Place.{Place}
 use Rattle.jc_apply.proofs.Reaching.{key_on, walked_there, walked_new, named_there, named_none, insert_there, insert_new, other_fits}
 use Rattle.jc_apply.proofs.Unanswered.{told}
@@ -15,7 +15,7 @@ loop-depth-preserved g c =
       }
       | in_default w ↦ record {
         walked = walked_new (g.S.TreeStore.tree c.args.store.now).now c.as_slice-path.result.now c.loop-depth.depth c.index-path-depth.result (is_some c.loop-depth.place) (is_some c.match-place.place) c.loop-depth-test.true c.index-path-depth.is key c.loop-depth.invariant.walked (ap is_some w.in_default.is) (ap is_some (w.place-is ∙ w.in_default.is));
-        named = named_none Place _ c.match-place.place (w.place-is ∙ w.in_default.is);
+        named = named_none Place (λ p. g.S.TreeStore.names c.args.store.now p (take (c.loop-depth.depth + 1) c.as_slice-path.result.now)) c.match-place.place (w.place-is ∙ w.in_default.is);
       }
     ]
 
