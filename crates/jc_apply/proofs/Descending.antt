@@ -1,5 +1,5 @@
--- The rule of a path's first key: what is below it is changed, and its identifier added.
-use Rattle.std.proofs.Common.{◌≡◌, ℕ, suc, ◌+◌, ◌<◌, List, [], ◌∷◌, ◌++◌, length, take, drop, get_or, Some, refl, sym, ◌∙◌, ap, subst, add-one, drop-cons}
+-- The rule of a path's first key: its identifier is added, and what is below it is changed.
+use Rattle.std.proofs.Common.{◌≡◌, ℕ, suc, ◌+◌, ◌<◌, List, [], ◌∷◌, ◌++◌, length, take, drop, get_or, Option, Some, None, Bool, refl, sym, ◌∙◌, ap, subst, add-one, drop-cons}
 use Rattle.std.proofs.Math.Seq.{take-suc}
 use Rattle.jc_rules.specs.declared.id.Id.{Id}
 use Rattle.jc_rules.specs.declared.key.Key.{Key}
@@ -9,105 +9,58 @@ use Rattle.jc_rules.specs.declared.operation.Mutation.{Mutation}
 use Rattle.jc_rules.specs.declared.operation.Op.{Op}
 use Rattle.jc_rules.specs.declared.rule.Rule.{Rule}
 use Rattle.jc_rules.specs.declared.rule.Rule.TheVariants as R
-use Rattle.jc_rules.specs.Ids.{with_id}
-use Rattle.jc_rules.specs.Context.{Context, context, Node, content, with_content, presence, with_presence, key_of}
-use Rattle.jc_rules.specs.Places.{node_at, with_node_at}
-use Rattle.jc_rules.specs.Derivation.{Question, Presence, AddId, Child, Operate, Answer, ToIds, ToContent, ToContext, Judgement, gives, Derivation, derive, Premises, none, premise, conclusion, conclusions, trace, traces}
+use Rattle.jc_rules.specs.Context.{Context, context, Content, Node, content, with_content, with_presence, key_of}
+use Rattle.jc_rules.specs.Places.{node_in, node_at, with_node_at}
+use Rattle.jc_rules.specs.Derivation.{Child, Operate, Answer, ToContent, ToContext, Judgement, gives, Derivation, derive, conclusion, conclusions, trace}
 use Rattle.jc_rules.specs.Derives.{Derives}
 use Rattle.jc_rules.specs.Trace.{Rows, pushed, below, at_depth}
-use Rattle.jc_rules.specs.Table.{Follows, Holds, AllHold, moved}
+use Rattle.jc_rules.specs.Table.{Follows, Holds, moved}
 use Rattle.jc_rules.specs.Paths.{HasContext}
 use Rattle.jc_rules.proofs.Order.{keys_total, exact_keys}
 use Rattle.jc_rules.proofs.Entries.{found-put}
 use Rattle.jc_rules.proofs.Places.{listed_children, with-with, with_node-twice, node-below, with_node-below}
 use Rattle.jc_rules.proofs.Steps.{three_premises}
 use Rattle.jc_tree.specs.Tree.{Tree, HasPlace, here}
-use Rattle.jc_tree.proofs.Places.{then_node, then_here, then_place, some_place}
-use Rattle.jc_apply.specs.Leads.{Leads, Enters}
+use Rattle.jc_tree.proofs.Places.{then_node, then_here, then_place, then_now, some_place}
+use Rattle.jc_apply.specs.Fits.{or_new, child_of}
+use Rattle.jc_apply.specs.Leads.{Adds, IsAdded, TellsAdded, Leads, Enters}
 
--- an identifier is added alike where a key's presence set is the same
-follows_presence : (r : Rule) (x y : Context) (k : Key) (a : Answer) (ps : List Judgement) → presence k x ≡ presence k y → Follows r (Presence x k) a ps → Follows r (Presence y k) a ps
-follows_presence R.Presence1 x y k a ps e (s, f, g, h) = (s, sym e ∙ f, g, h)
-follows_presence R.Presence2 x y k a ps e (f, g, h) = (sym e ∙ f, g, h)
-follows_presence _ x y k a ps e h = absurd h
+-- an added identifier leaves alone what is under tagged keys
+content_presence : (k : Tagged) (j : Key) (s : List Id) (c : Context) → content k (with_presence j s c) ≡ content k c
+content_presence (MapT k) j s (context m l r p n) = refl
+content_presence (ListT k) j s (context m l r p n) = refl
+content_presence (RegT k) j s (context m l r p n) = refl
 
--- a derivation of the other question, with the same trace
-record Alike (q : Question) (a : Answer) (d : Derivation) : Type 0 where
-  pub other : Derivation
-  pub holds : Holds other
-  pub concludes : conclusion other ≡ gives q a
-  pub same : (n : ℕ) → trace n other ≡ trace n d
+content_added : (k : Tagged) (i : Id) (m : Mutation) (was : Option Bool) (c d : Context) → IsAdded k i m was c d → content k d ≡ content k c
+content_added k i m None c d h = ap (content k) h.1
+content_added k i m (Some was) c d h = ap (content k) h.2 ∙ content_presence k (key_of k) _ c
 
-alike_presence : (x y : Context) (k : Key) (a : Answer) (d : Derivation) → presence k x ≡ presence k y → Holds d → conclusion d ≡ gives (Presence x k) a → Alike (Presence y k) a d
-alike_presence x y k a (derive r j ps) e h c = go j c h
+content_here : (k : Tagged) (i : Id) (m : Mutation) (was : Option Bool) (at : List Tagged) (a b : Tree) → HasPlace at a → Adds k i m was at a b → content k (here at b) ≡ content k (here at a)
+content_here k i m was at a b h x = ap (content k) (then_here at x.after a b h x.now) ∙ content_added k i m was (here at a) x.after x.added
+
+-- the place is still there, and the same child under the key
+pub place_added : (k : Tagged) (i : Id) (m : Mutation) (was : Option Bool) (at : List Tagged) (a b : Tree) → HasPlace at a → Adds k i m was at a b → HasPlace at b
+place_added k i m was at a b h x = then_place at x.after a b h x.now
+
+pub child_added : (k : Tagged) (i : Id) (m : Mutation) (was : Option Bool) (at : List Tagged) (a b d : Tree) (t u : Rows) → HasPlace at a → Adds k i m was at a b → (x : Enters k at b d t u) → child_of k (here at a) ≡ Some x.below
+child_added k i m was at a b d t u h y x =
+    ap (λ (o : Option Content). node_in (Some (or_new k o))) (sym (content_here k i m was at a b h y)) ∙ x.is
+
+-- a child is derived alike where the same is under its key
+follows_child : (r : Rule) (k : Tagged) (x y : Context) (a : Answer) (js : List Judgement) → content k x ≡ content k y → Follows r (Child x k) a js → Follows r (Child y k) a js
+follows_child R.ChildGet k x y a js e (z, f, g, h) = (z, sym e ∙ f, g, h)
+follows_child R.ChildMap (MapT k) x y a js e (f, g, h) = (sym e ∙ f, g, h)
+follows_child R.ChildList (ListT k) x y a js e (f, g, h) = (sym e ∙ f, g, h)
+follows_child R.ChildReg (RegT k) x y a js e (f, g, h) = (sym e ∙ f, g, h)
+follows_child _ k x y a js e h = absurd h
+
+child_moved : (k : Tagged) (x y : Context) (a : Answer) (t u : Rows) → content k x ≡ content k y → Derives (Child x k) a t u → Derives (Child y k) a t u
+child_moved k x y a t u e h = go h.derivation h.holds h.concludes h.rows
   where
-    go : (i : Judgement) → i ≡ gives (Presence x k) a → Holds (derive r i ps) → Alike (Presence y k) a (derive r i ps)
-    go i f g =
-        let g2 = subst (λ (z : Judgement). Holds (derive r z ps)) f g in
-        record { other = derive r (gives (Presence y k) a) ps; holds = (follows_presence r x y k a (conclusions ps) e g2.0, g2.1); concludes = refl; same = λ n. refl }
-
-one_conclusion : (q : Question) (a : Answer) (ps : Premises) → AllHold ps → conclusions ps ≡ gives q a ∷ [] → (d : Derivation) × (ps ≡ premise d none) × Holds d × (conclusion d ≡ gives q a)
-one_conclusion q a none h e = cc
-one_conclusion q a (premise d none) h e = (d, refl, h.0, cc)
-one_conclusion q a (premise d (premise f ps)) h e = cc
-
--- a context that is put leaves the presence sets alone
-presence_below : (k : Tagged) (j : Key) (d c : Context) → presence j (with_content k (Node d) c) ≡ presence j c
-presence_below (MapT k) j d (context m l r p n) = refl
-presence_below (ListT k) j d (context m l r p n) = refl
-presence_below (RegT k) j d (context m l r p n) = refl
-
--- and the other way round
-commute : (k : Tagged) (j : Key) (s : List Id) (d c : Context) → with_presence j s (with_content k (Node d) c) ≡ with_content k (Node d) (with_presence j s c)
-commute (MapT k) j s d (context m l r p n) = refl
-commute (ListT k) j s d (context m l r p n) = refl
-commute (RegT k) j s d (context m l r p n) = refl
-
--- What an added identifier does with a context e under the key, it does without it.
-record Added (k : Tagged) (i : Id) (m : Mutation) (e y z : Context) (d : Derivation) : Type 0 where
-  pub after : Context
-  pub is : z ≡ with_content k (Node e) after
-  pub alike : Alike (AddId y k i m) (ToContext after) d
-
-context_is : (x y : Context) → ToContext x ≡ ToContext y → x ≡ y
-context_is x y e = cc
-
-added_alike : (k : Tagged) (i : Id) (m : Mutation) (e x y z : Context) (r : Rule) (ps : Premises) → x ≡ with_content k (Node e) y → Follows r (AddId x k i m) (ToContext z) (conclusions ps) → AllHold ps → Added k i m e y z (derive r (gives (AddId x k i m) (ToContext z)) ps)
-added_alike k i m e x y z R.AddId1 ps xe (s, made, is, f) h =
-    let p = one_conclusion _ _ ps h is in
-    let same : presence (key_of k) x ≡ presence (key_of k) y = ap (presence (key_of k)) xe ∙ presence_below k (key_of k) e y in
-    let o = alike_presence x y (key_of k) (ToIds s) p.0 same p.2 p.3 in
-    record {
-      after = with_presence (key_of k) (with_id i s) y;
-      is = context_is _ _ f ∙ ap (with_presence (key_of k) (with_id i s)) xe ∙ commute k (key_of k) (with_id i s) e y;
-      alike = record {
-        other = derive R.AddId1 (gives (AddId y k i m) (ToContext (with_presence (key_of k) (with_id i s) y))) (premise o.other none);
-        holds = ((s, made, rw o.concludes refl, refl), (o.holds, tt));
-        concludes = refl;
-        same = λ n. ap (λ (t : List (Rule × ℕ)). (R.AddId1, n) ∷ (t ++ [])) (o.same (n + 1)) ∙ ap (λ (q : Premises). (R.AddId1, n) ∷ traces (n + 1) q) (sym p.1);
-      };
-    }
-added_alike k i m e x y z R.AddId2 ps xe (deletes, is, f) h =
-    record {
-      after = y;
-      is = context_is _ _ f ∙ xe;
-      alike = record {
-        other = derive R.AddId2 (gives (AddId y k i m) (ToContext y)) ps;
-        holds = ((deletes, is, refl), h);
-        concludes = refl;
-        same = λ n. refl;
-      };
-    }
-added_alike k i m e x y z _ ps xe f h = absurd f
-
-added_moved : (k : Tagged) (i : Id) (m : Mutation) (e x y z : Context) (d : Derivation) → x ≡ with_content k (Node e) y → Holds d → conclusion d ≡ gives (AddId x k i m) (ToContext z) → Added k i m e y z d
-added_moved k i m e x y z (derive r j ps) xe h c = go j c h
-  where
-    go : (g : Judgement) → g ≡ gives (AddId x k i m) (ToContext z) → Holds (derive r g ps) → Added k i m e y z (derive r g ps)
-    go g f w =
-        let w2 = subst (λ (v : Judgement). Holds (derive r v ps)) f w in
-        let a = added_alike k i m e x y z r ps xe w2.0 w2.1 in
-        record { after = a.after; is = a.is; alike = record { other = a.alike.other; holds = a.alike.holds; concludes = a.alike.concludes; same = a.alike.same } }
+    go : (d : Derivation) → Holds d → conclusion d ≡ gives (Child x k) a → u.rows ≡ t.rows ++ trace t.depth d → Derives (Child y k) a t u
+    go (derive r j ps) holds is rows =
+        let h2 = subst (λ (i : Judgement). Holds (derive r i ps)) is holds in
+        record { derivation = derive r (gives (Child y k) a) ps; holds = (follows_child r k x y a (conclusions ps) e h2.0, h2.1); concludes = refl; rows = rows; depth = h.depth }
 
 -- a context that was put can be found
 content_new : (k : Tagged) (d c : Context) → HasContext k → content k (with_content k (Node d) c) ≡ Some (Node d)
@@ -136,24 +89,21 @@ above_now k at a b d y t u p h x e =
     ∙ with_node-twice at x1 (with_content k (Node y) x1) a.now
     ∙ ap (λ c. with_node_at at c a.now) (with-with k y x.below (here at a))
 
-pub above_place : (q : Context → Question) (k : Tagged) (at down : List Tagged) (a b d : Tree) (t u v w : Rows) → HasPlace at a → HasContext k → down ≡ at ++ k ∷ [] → Enters k at a b t u → Leads q down b d v w → HasPlace at d
-above_place q k at down a b d t u v w p h e x y =
-    then_place at _ a d p (above_now k at a b d y.after t u p h x (rw e at y.now))
-
-pub descended : (o : Op) (k : Tagged) (at down path rest : List Tagged) (a b d e : Tree) (t p u1 u2 u3 w : Rows) → HasPlace at a → HasContext k → down ≡ at ++ k ∷ [] → path ≡ k ∷ rest → p ≡ below (pushed t R.Descend) → Enters k at a b p u1 → Leads (λ c. Operate c (moved o rest o.cursor.last o.mutation)) down b d u1 u2 → Leads (λ c. AddId c k o.id o.mutation) at d e u2 u3 → w ≡ at_depth t.depth u3 → Leads (λ c. Operate c (moved o path o.cursor.last o.mutation)) at a e t w
-descended o k at down path rest a b d e t p u1 u2 u3 w h hc de pe qe x y z we =
-    let y2 = subst (λ (r : List Tagged). Leads (λ c. Operate c (moved o rest o.cursor.last o.mutation)) r b d u1 u2) de y in
-    let inner : here (at ++ k ∷ []) b ≡ x.below = rw (child_node k at a b p u1 h hc x) refl in
-    let now2 = above_now k at a b d y2.after p u1 h hc x y2.now in
-    let x2 = with_content k (Node y2.after) (here at a) in
-    let m = added_moved k o.id o.mutation y2.after (here at d) (here at a) z.after z.derives.derivation (then_here at x2 a d h now2) z.derives.holds z.derives.concludes in
-    let dx = subst (λ (r : Rows). Derives (Child (here at a) k) (ToContent (Node x.below)) r u1) qe x.derives in
-    let dy = subst (λ (c : Context). Derives (Operate c (moved o rest o.cursor.last o.mutation)) (ToContext y2.after) u1 u2) inner y2.derives in
-    let dz : Derives (AddId (here at a) k o.id o.mutation) (ToContext m.after) u2 u3 = record { derivation = m.alike.other; holds = m.alike.holds; concludes = m.alike.concludes; rows = z.derives.rows ∙ ap (λ r. u2.rows ++ r) (sym (m.alike.same u2.depth)); depth = z.derives.depth } in
+pub descended : (o : Op) (k : Tagged) (at down path rest : List Tagged) (was : Option Bool) (a b d e : Tree) (t p u1 u2 u3 w : Rows) → HasPlace at a → HasContext k → down ≡ at ++ k ∷ [] → path ≡ k ∷ rest → p ≡ below (pushed t R.Descend) → Adds k o.id o.mutation was at a b → Enters k at b d p u1 → Leads (λ c. Operate c (moved o rest o.cursor.last o.mutation)) down d e u1 u2 → TellsAdded was u2 u3 → w ≡ at_depth t.depth u3 → Leads (λ c. Operate c (moved o path o.cursor.last o.mutation)) at a e t w
+descended o k at down path rest was a b d e t p u1 u2 u3 w h hc de pe qe x y z tells we =
+    let hb : here at b ≡ x.after = then_here at x.after a b h x.now in
+    let pb : HasPlace at b = then_place at x.after a b h x.now in
+    let z2 = subst (λ (r : List Tagged). Leads (λ c. Operate c (moved o rest o.cursor.last o.mutation)) r d e u1 u2) de z in
+    let inner : here (at ++ k ∷ []) d ≡ y.below = rw (child_node k at b d p u1 pb hc y) refl in
+    let last = with_content k (Node z2.after) x.after in
+    let dx1 = subst (λ (r : Rows). Derives (Child (here at b) k) (ToContent (Node y.below)) r u1) qe y.derives in
+    let dx = child_moved k (here at b) (here at a) _ _ _ (content_here k o.id o.mutation was at a b h x) dx1 in
+    let dy = subst (λ (c : Context). Derives (Operate c (moved o rest o.cursor.last o.mutation)) (ToContext z2.after) u1 u2) inner z2.derives in
+    let dz = tells k o.id o.mutation (here at a) x.after x.added in
     rw (we, pe) (record {
-      after = with_content k (Node y2.after) m.after;
-      derives = three_premises R.Descend _ _ _ _ _ _ _ _ t u1 u2 u3 dx dy dz (k, rest, x.below, y2.after, m.after, refl, refl, refl);
-      now = z.now ∙ ap (λ c. with_node_at at z.after c) now2 ∙ with_node-twice at x2 z.after a.now ∙ ap (λ c. with_node_at at c a.now) m.is;
+      after = last;
+      derives = three_premises R.Descend _ _ _ _ _ _ _ _ t u1 u2 u3 dx dy dz (k, rest, y.below, z2.after, x.after, refl, refl, refl);
+      now = then_now at x.after last a b e x.now (above_now k at b d e z2.after p u1 pb hc y z2.now ∙ ap (λ c. with_node_at at (with_content k (Node z2.after) c) b.now) hb);
     })
 
 -- a place on the way down a path: the context there, its key, and what is below

@@ -71,7 +71,6 @@ none_cleared q at a b ids t u p x =
 pub only_none : (i : Id) (at : List Tagged) (a b : Tree) → IsChained a.now → LinksNone at a b → LinksOnly i a b
 only_none i at a b h x = record { chained = x.chained h; unlinked = λ j ne. x.unlinked j }
 
--- links were set between two calls that set none
-pub only_between : (i : Id) (at q : List Tagged) (a b d e : Tree) → LinksNone at a b → LinksOnly i b d → LinksNone q d e → LinksOnly i a e
-only_between i at q a b d e x y z =
-    record { chained = z.chained y.chained; unlinked = λ j ne h. z.unlinked j (y.unlinked j ne (x.unlinked j h)) }
+-- links were set after a call that sets none
+pub only_after : (i : Id) (at : List Tagged) (a b d : Tree) → LinksNone at a b → LinksOnly i b d → LinksOnly i a d
+only_after i at a b d x y = record { chained = y.chained; unlinked = λ j ne h. y.unlinked j ne (x.unlinked j h) }

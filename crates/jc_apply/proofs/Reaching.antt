@@ -4,7 +4,7 @@ use Rattle.std.proofs.Math.Seq.{take-suc}
 use Rattle.std.proofs.lemmas.List.{take_all}
 use Rattle.std.proofs.lemmas.Option.{slice_get-get_or}
 use Rattle.std.specs.List.{AllByRecursion}
-use Rattle.std.specs.Option.{option_and_then}
+use Rattle.std.specs.Option.{IfSome, option_and_then}
 use Rattle.jc_rules.specs.declared.key.Key.{Key}
 use Rattle.jc_rules.specs.declared.key.Next.{Next}
 use Rattle.jc_rules.specs.declared.key.Tagged.{Tagged}
@@ -14,11 +14,12 @@ use Rattle.jc_rules.specs.declared.operation.Mutation.TheVariants.{Assign, Inser
 use Rattle.jc_rules.specs.declared.value.Value.{Value}
 use Rattle.jc_rules.specs.Order.{key_cmp}
 use Rattle.jc_rules.specs.Entries.{find}
-use Rattle.jc_rules.specs.Context.{Context, Content, Node, Values, Register, node_of, values_of, content, new_content, next, maps, lists, registers}
+use Rattle.jc_rules.specs.Context.{Context, Content, Node, Values, Register, values_of, content, new_content, next, registers}
 use Rattle.jc_rules.specs.Places.{at_node, node_in, node_at, context_at}
 use Rattle.jc_rules.specs.Paths.{HasContext, IsPath}
 use Rattle.jc_rules.proofs.Places.{there}
 use Rattle.jc_rules.proofs.Rising.{all_at}
+use Rattle.jc_tree.proofs.Places.{some_content}
 use Rattle.jc_apply.specs.Fits.{Fits, FitsHere, InChild, or_new, child_of, made_under}
 
 -- the context at the path's end, where those that aren't there are new
@@ -109,19 +110,6 @@ pub record Walked (c : Context) (path : List Tagged) (n : ℕ) (there : Bool) : 
   pub place : there ≡ is_some (node_at (take n path) c)
   pub made : there ≡ false → reached (take n path) c ≡ Some (made_under (slice_get path (n - 1)))
 
-some_content : (t : Tagged) (c : Context) → HasContext t → is_some (node_in (content t c)) ≡ is_some (content t c)
-some_content (MapT k) c h = go (find key_cmp k (maps c))
-  where
-    go : (o : Option Context) → is_some (node_in (node_of o)) ≡ is_some (node_of o)
-    go None = refl
-    go (Some d) = refl
-some_content (ListT k) c h = go (find key_cmp k (lists c))
-  where
-    go : (o : Option Context) → is_some (node_in (node_of o)) ≡ is_some (node_of o)
-    go None = refl
-    go (Some d) = refl
-some_content (RegT k) c h = absurd h
-
 pub differ : {A : Type 0} → false ≡ true → A
 differ e = cc
 
@@ -140,16 +128,16 @@ made_child (RegT k) h = absurd h
 
 -- below a key, where its parent is there
 module _ (c : Context) (ps : List Tagged) (t : Tagged) (h : HasContext t) where
-  place_below : true ≡ is_some (node_at ps c) → is_some (content t (context_at ps c)) ≡ is_some (node_at (ps ++ t ∷ []) c)
+  place_below : true ≡ is_some (node_at ps c) → is_some (node_in (content t (context_at ps c))) ≡ is_some (node_at (ps ++ t ∷ []) c)
   place_below e =
       let parent = there ps c (some_there (node_at ps c) (sym e)) in
-      sym (ap is_some (node-below ps t c ∙ ap (λ (o : Option Context). option_and_then (λ d. node_in (content t d)) o) parent) ∙ some_content t (context_at ps c) h)
+      sym (ap is_some (node-below ps t c ∙ ap (λ (o : Option Context). option_and_then (λ d. node_in (content t d)) o) parent))
 
-  made_in_place : true ≡ is_some (node_at ps c) → is_some (content t (context_at ps c)) ≡ false → reached (ps ++ t ∷ []) c ≡ Some (made_under (Some t))
+  made_in_place : true ≡ is_some (node_at ps c) → is_some (node_in (content t (context_at ps c))) ≡ false → reached (ps ++ t ∷ []) c ≡ Some (made_under (Some t))
   made_in_place e f =
       let parent = there ps c (some_there (node_at ps c) (sym e)) in
       reached-below ps t c (context_at ps c) (reached-there ps c (context_at ps c) parent)
-      ∙ ap (λ (o : Option Content). node_in (Some (or_new t o))) (none_there (content t (context_at ps c)) f)
+      ∙ ap (λ (o : Option Content). node_in (Some (or_new t o))) (none_there (content t (context_at ps c)) (sym (some_content t (context_at ps c) h) ∙ f))
       ∙ made_child t h
 
   -- and where its parent is new
@@ -174,7 +162,7 @@ walked c path n t now within is place made = record {
   made = λ e. ap (λ (ps : List Tagged). reached ps c) (further path n t within is) ∙ made e ∙ ap (λ (o : Option Tagged). Some (made_under o)) (sym (last_key path n t within is));
 }
 
-pub walked_there : (c : Context) (path : List Tagged) (n : ℕ) (t : Tagged) (before now : Bool) → n < length path → t ≡ get_or path n t → HasContext t → Walked c path n before → before ≡ true → now ≡ is_some (content t (context_at (take n path) c)) → Walked c path (n + 1) now
+pub walked_there : (c : Context) (path : List Tagged) (n : ℕ) (t : Tagged) (before now : Bool) → n < length path → t ≡ get_or path n t → HasContext t → Walked c path n before → before ≡ true → now ≡ is_some (node_in (content t (context_at (take n path) c))) → Walked c path (n + 1) now
 walked_there c path n t before now within is h w was has =
     let parent : true ≡ is_some (node_at (take n path) c) = sym was ∙ w.place in
     walked c path n t now within is (has ∙ place_below c (take n path) t h parent) (λ e. made_in_place c (take n path) t h parent (sym has ∙ e))
@@ -182,6 +170,15 @@ walked_there c path n t before now within is h w was has =
 pub walked_new : (c : Context) (path : List Tagged) (n : ℕ) (t : Tagged) (before now : Bool) → n < length path → t ≡ get_or path n t → HasContext t → Walked c path n before → before ≡ false → now ≡ false → Walked c path (n + 1) now
 walked_new c path n t before now within is h w was is_new =
     walked c path n t now within is (is_new ∙ no_place_below c (take n path) t h (sym was ∙ w.place)) (λ e. made_in_new c (take n path) t h _ (w.made was))
+
+-- what is there has its name
+pub named_there : (P : Type 0) (N : P → List Tagged → Type 0) (path : List Tagged) (n : ℕ) (t : Tagged) (o now : Option P) → n < length path → t ≡ get_or path n t → now ≡ o → IfSome o (λ p. N p (take n path ++ t ∷ [])) → IfSome now (λ p. N p (take (n + 1) path))
+named_there P N path n t o now within is e h =
+    let further_on = subst (λ (ps : List Tagged). IfSome o (λ p. N p ps)) (sym (further path n t within is)) h in
+    subst (λ (x : Option P). IfSome x (λ p. N p (take (n + 1) path))) (sym e) further_on
+
+pub named_none : (P : Type 0) (N : P → Type 0) (now : Option P) → now ≡ None → IfSome now N
+named_none P N now e = subst (λ (x : Option P). IfSome x N) (sym e) tt
 
 -- at the path's end
 

@@ -1,5 +1,5 @@
 -- The rules at one context.
-use Rattle.std.proofs.Common.{◌≡◌, ◌≢◌, List, [], Option, Some, None, Result, Ok, Err, OnOk, is_some, true, false, refl, sym, ◌∙◌, ap, subst}
+use Rattle.std.proofs.Common.{◌≡◌, ◌≢◌, List, [], Option, Some, None, Result, Ok, Err, OnOk, OnErr, Bool, is_some, true, false, refl, sym, ◌∙◌, ap, subst}
 use Rattle.jc_rules.specs.declared.id.Id.{Id}
 use Rattle.jc_rules.specs.declared.key.Key.{Key}
 use Rattle.jc_rules.specs.declared.key.Tagged.{Tagged}
@@ -21,12 +21,14 @@ use Rattle.jc_rules.specs.Trace.{Rows, pushed, below, at_depth}
 use Rattle.jc_rules.specs.Table.{Follows, moved}
 use Rattle.jc_rules.specs.Paths.{HasContext}
 use Rattle.jc_rules.proofs.Places.{there, with_node-same, with-same}
-use Rattle.jc_rules.proofs.Steps.{by_axiom, one_premise, three_premises}
-use Rattle.jc_tree.specs.Tree.{Tree, HasPlace, here, or_none, IsChanged}
+use Rattle.jc_rules.proofs.Steps.{by_axiom, one_premise, three_premises, same_rows}
+use Rattle.jc_tree.specs.Tree.{Tree, HasPlace, IsLater, here, or_none, IsChanged}
+use Rattle.jc_tree.specs.CanGoBack.{CanGoBack}
+use Rattle.jc_tree.proofs.GoingBack.{nothing, tree_changed}
 use Rattle.jc_clear.specs.Clears.{Clears}
 use Rattle.jc_tree.proofs.Places.{then_here, then_place, then_now}
 use Rattle.jc_apply.specs.Fits.{or_new, empty_of}
-use Rattle.jc_apply.specs.Leads.{Leads, Enters, AssignsEmpty}
+use Rattle.jc_apply.specs.Leads.{Adds, IsAdded, TellsAdded, Leads, Enters, AssignsEmpty}
 
 -- a register that is there or not, by the rule that says so
 pub register_there : (c : Context) (k : Key) → true ≡ is_some (find key_cmp k (registers c)) → Follows R.ChildGet (Child c (RegT k)) (ToContent (Values (or_none (find key_cmp k (registers c))))) []
@@ -58,30 +60,36 @@ set_absent c k h = go (presence k c) refl h
     go None e f = (e, refl, refl)
     go (Some s) e f = absurd (let no : ⊥ = cc in no)
 
-pub added : (at : List Tagged) (k : Tagged) (key : Key) (i : Id) (m : Mutation) (rule : Rule) (a b : Tree) (t o u w : Rows) → m ≢ Delete → key_of k ≡ key → o ≡ below (pushed t R.AddId1) → IsChanged at (with_presence key (with_id i (or_none (presence key (here at a)))) (here at a)) a b → Follows rule (Presence (here at a) key) (ToIds (or_none (presence key (here at a)))) [] → u ≡ pushed o rule → w ≡ at_depth t.depth u → Leads (λ c. AddId c k i m) at a b t w
-added at k key i m rule a b t o u w ne ke oe z f ue we =
-    let s = or_none (presence key (here at a)) in
-    let d : Derives (Presence (here at a) key) (ToIds s) o u = rw ue (by_axiom rule (Presence (here at a) key) (ToIds s) o f) in
-    let d2 = subst (λ (r : Rows). Derives (Presence (here at a) key) (ToIds s) r u) oe d in
-    let d3 = subst (λ (j : Key). Derives (Presence (here at a) j) (ToIds s) (below (pushed t R.AddId1)) u) (sym ke) d2 in
-    rw we (record {
-      after = with_presence (key_of k) (with_id i s) (here at a);
-      derives = one_premise R.AddId1 _ _ _ _ t u d3 (s, ne, refl, refl);
-      now = z.now ∙ ap (λ j. with_node_at at (with_presence j (with_id i s) (here at a)) a.now) (sym ke);
-    })
+-- the rules that tell of an identifier that was added, or wasn't
+pub told_some : (was : Bool) (given : Option Bool) (rule : Rule) (t o u w : Rows) → given ≡ Some was → o ≡ below (pushed t R.AddId1) → ((c : Context) (k : Key) → was ≡ is_some (presence k c) → Follows rule (Presence c k) (ToIds (or_none (presence k c))) []) → u ≡ pushed o rule → w ≡ at_depth t.depth u → TellsAdded given t w
+told_some was given rule t o u w ge oe follows ue we k i m c d h =
+    let x : IsAdded k i m (Some was) c d = subst (λ (y : Option Bool). IsAdded k i m y c d) ge h in
+    let s = or_none (presence (key_of k) c) in
+    let p : Derives (Presence c (key_of k)) (ToIds s) o u = rw ue (by_axiom rule (Presence c (key_of k)) (ToIds s) o (follows c (key_of k) x.1)) in
+    let p2 = subst (λ (r : Rows). Derives (Presence c (key_of k)) (ToIds s) r u) oe p in
+    rw (we, x.2) (one_premise R.AddId1 _ _ _ _ t u p2 (s, x.0, refl, refl))
+
+pub told_none : (given : Option Bool) (t u : Rows) → given ≡ None → u ≡ pushed t R.AddId2 → TellsAdded given t u
+told_none given t u ge e k i m c d h =
+    let x : IsAdded k i m None c d = subst (λ (y : Option Bool). IsAdded k i m y c d) ge h in
+    rw (e, x.1) (by_axiom R.AddId2 _ _ t (x.0, refl, refl))
+
+-- an identifier is added to a presence set
+pub adds : (at : List Tagged) (k : Tagged) (key : Key) (i : Id) (m : Mutation) (was : Bool) (a b : Tree) → key ≡ key_of k → m ≢ Delete → was ≡ is_some (presence key (here at a)) → IsChanged at (with_presence key (with_id i (or_none (presence key (here at a)))) (here at a)) a b → Adds k i m (Some was) at a b
+adds at k key i m was a b ke ne has z =
+    record {
+      after = with_presence (key_of k) (with_id i (or_none (presence (key_of k) (here at a)))) (here at a);
+      added = (ne, has ∙ ap (λ (j : Key). is_some (presence j (here at a))) ke, refl);
+      now = z.now ∙ ap (λ (j : Key). with_node_at at (with_presence j (with_id i (or_none (presence j (here at a)))) (here at a)) a.now) ke;
+    }
+
+-- a deletion adds nothing
+pub adds_none : (at : List Tagged) (k : Tagged) (i : Id) (m : Mutation) (a : Tree) → HasPlace at a → m ≡ Delete → Adds k i m None at a a
+adds_none at k i m a p is = record { after = here at a; added = (is, refl); now = sym (with_node-same at (here at a) a.now (there at a.now p)) }
 
 -- an assignment adds its identifier
 pub adds_assigned : {v : Value} → Assign v ≢ Delete
 adds_assigned e = cc
-
--- a deletion adds nothing
-pub added_none : (at : List Tagged) (k : Tagged) (i : Id) (m : Mutation) (a b : Tree) (t u : Rows) → HasPlace at a → m ≡ Delete → u ≡ pushed t R.AddId2 → b ≡ a → Leads (λ c. AddId c k i m) at a b t u
-added_none at k i m a b t u p is e s =
-    rw (e, s) (record {
-      after = here at a;
-      derives = by_axiom R.AddId2 _ _ t (is, refl, refl);
-      now = sym (with_node-same at (here at a) a.now (there at a.now p));
-    })
 
 pub assigned : (at : List Tagged) (o : Op) (last : Key) (v new : Value) (key : Tagged) (rule : Rule) (a b d e : Tree) (ids : List Id) (t p u1 u2 u3 w : Rows) → HasPlace at a → IsPrimitive v → key ≡ RegT last → p ≡ below (pushed t R.Assign) → Clears (λ c. Clear c o.deps key) at a b ids p u1 → Leads (λ c. AddId c (RegT last) o.id (Assign v)) at b d u1 u2 → new ≡ v → IsChanged at (with_content (RegT last) (Values (put id_cmp o.id new (or_none (find key_cmp last (registers (here at d)))))) (here at d)) d e → Follows rule (Child (here at d) (RegT last)) (ToContent (Values (or_none (find key_cmp last (registers (here at d)))))) [] → u3 ≡ pushed u2 rule → w ≡ at_depth t.depth u3 → Leads (λ c. Operate c (moved o [] last (Assign v))) at a e t w
 assigned at o last v new key rule a b d e ids t p u1 u2 u3 w h prim ke pe x1 y ne s f ue we =
@@ -172,9 +180,21 @@ pub on_ok : {T E : Type 0} {A B : Type 0} (r : Result T E) → (A → B) → OnO
 on_ok (Ok x) f h = f h
 on_ok (Err e) f h = h
 
-pub adds : {T E : Type 0} (at : List Tagged) (k : Tagged) (key : Key) (i : Id) (m : Mutation) (a b : Tree) (t u : Rows) (r : Result T E) → key ≡ key_of k → m ≢ Delete → OnOk r ((j : Tagged) → (n : Mutation) → key_of j ≡ key → n ≢ Delete → Leads (λ c. AddId c j i n) at a b t u) → OnOk r (Leads (λ c. AddId c k i m) at a b t u)
-adds at k key i m a b t u (Ok x) e ne h = h k m (sym e) ne
-adds at k key i m a b t u (Err x) e ne h = h
+-- an identifier was added, and the rules told
+pub added : {T E : Type 0} (r : Result T E) (at : List Tagged) (key : Key) (i : Id) (was : Bool) (a b : Tree) (t u : Rows) → was ≡ is_some (presence key (here at a)) → IsChanged at (with_presence key (with_id i (or_none (presence key (here at a)))) (here at a)) a b → OnOk r (TellsAdded (Some was) t u) → OnOk r ((k : Tagged) → (m : Mutation) → key_of k ≡ key → m ≢ Delete → Leads (λ c. AddId c k i m) at a b t u)
+added r at key i was a b t u has z =
+    on_ok r (λ tells k m ke ne.
+    let x = adds at k key i m was a b (sym ke) ne has z in
+    record { after = x.after; derives = tells k i m (here at a) x.after x.added; now = x.now })
+
+-- a call that changes the tree alone
+pub only_tree : (a b : Tree) (t u : Rows) → IsLater a b → u ≡ t → CanGoBack a b t u
+only_tree a b t u h e = rw e (record { store = h; trace = same_rows t })
+
+-- a call that changes the tree or refuses
+pub tree_or_refused : {T E : Type 0} (r : Result T E) (at : List Tagged) (y : Context) (a b : Tree) (t u : Rows) → OnOk r (IsChanged at y a b) → OnErr r (b ≡ a) → u ≡ t → CanGoBack a b t u
+tree_or_refused (Ok x) at y a b t u h f e = tree_changed a b t u at y h e
+tree_or_refused (Err x) at y a b t u h f e = nothing a b t u f e
 
 -- a place stays where something was done
 pub after_clear : (q : Context → Question) (at : List Tagged) (a b : Tree) (ids : List Id) (t u : Rows) → HasPlace at a → Clears q at a b ids t u → HasPlace at b

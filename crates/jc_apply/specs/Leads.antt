@@ -1,20 +1,22 @@
 -- What a call says that changes the context at a place by the table.
-use Rattle.std.specs.Prelude.{◌≡◌, ◌≢◌, ◌≤◌, List, [], ◌∷◌, Some}
+use Rattle.std.specs.Prelude.{◌≡◌, ◌≢◌, ◌≤◌, List, [], ◌∷◌, Option, Some, None, Bool, is_some}
 use Rattle.jc_rules.specs.declared.id.Id.{Id}
 use Rattle.jc_rules.specs.declared.key.Key.{Key}
 use Rattle.jc_rules.specs.declared.key.Next.{Next}
 use Rattle.jc_rules.specs.declared.key.Tagged.{Tagged}
-use Rattle.jc_rules.specs.declared.operation.Mutation.TheVariants.{Assign}
+use Rattle.jc_rules.specs.declared.operation.Mutation.{Mutation}
+use Rattle.jc_rules.specs.declared.operation.Mutation.TheVariants.{Assign, Delete}
 use Rattle.jc_rules.specs.declared.operation.Op.{Op}
 use Rattle.jc_rules.specs.declared.rule.Rule.{Rule}
-use Rattle.jc_rules.specs.Context.{Context, Content, Node, with_content, links, next, key_of}
+use Rattle.jc_rules.specs.Ids.{with_id}
+use Rattle.jc_rules.specs.Context.{Context, Content, Node, with_content, presence, with_presence, links, next, key_of}
 use Rattle.jc_rules.specs.Places.{with_node_at}
 use Rattle.jc_rules.specs.Shape.{IsChained}
 use Rattle.jc_rules.specs.Derivation.{Question, Operate, ClearElem, AddId, Child, ToContext, ToContent, Cleared, gives}
 use Rattle.jc_rules.specs.Derives.{Derives}
 use Rattle.jc_rules.specs.Trace.{Rows, at_depth}
 use Rattle.jc_rules.specs.Table.{Follows, moved, IsBefore}
-use Rattle.jc_tree.specs.Tree.{Tree, here}
+use Rattle.jc_tree.specs.Tree.{Tree, here, or_none}
 use Rattle.jc_apply.specs.Fits.{child_of, empty_of, IsUnlinked}
 
 -- A derivation answers the question of the context at the place with another context, which is there afterwards, and
@@ -30,6 +32,27 @@ pub record Enters (key : Tagged) (at : List Tagged) (a b : Tree) (t u : Rows) : 
   pub is : child_of key (here at a) ≡ Some below
   pub derives : Derives (Child (here at a) key) (ToContent (Node below)) t u
   pub now : b.now ≡ with_node_at at (with_content key (Node below) (here at a)) a.now
+
+-- The identifier of an operation with this mutation is added to the first context under the tagged key, which gives the
+-- second: to a presence set that was there or to a new one, or for a deletion to none.
+abbrev pub IsAdded : Tagged → Id → Mutation → Option Bool → Context → Context → Type 0
+IsAdded k i m None c d = (m ≡ Delete) × (d ≡ c)
+IsAdded k i m (Some was) c d =
+    (m ≢ Delete)
+    × (was ≡ is_some (presence (key_of k) c))
+    × (d ≡ with_presence (key_of k) (with_id i (or_none (presence (key_of k) c))) c)
+
+-- The same was done with the context at the place.
+pub record Adds (k : Tagged) (i : Id) (m : Mutation) (was : Option Bool) (at : List Tagged) (a b : Tree) : Type 0 where
+  pub after : Context
+  pub added : IsAdded k i m was (here at a) after
+  pub now : b.now ≡ with_node_at at after a.now
+
+-- The rules that were added to the trace derive just that.
+abbrev pub TellsAdded : Option Bool → Rows → Rows → Type 0
+TellsAdded was t u =
+    (k : Tagged) (i : Id) (m : Mutation) (c d : Context)
+    → IsAdded k i m was c d → Derives (AddId c k i m) (ToContext d) t u
 
 -- No link of the place's context changed, lists are still chained, and no identifier got linked.
 pub record LinksNone (at : List Tagged) (a b : Tree) : Type 0 where

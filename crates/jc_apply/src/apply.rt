@@ -1,27 +1,27 @@
 //! Applying an operation to a document.
 
-ghost use Rattle.std.specs.Prelude.{◌≡◌, ◌≢◌, ◌≤◌, [], List, IsErrOf, OnOk, OnErr, length, take, drop};
+ghost use Rattle.std.specs.Prelude.{◌≡◌, ◌≢◌, ◌≤◌, [], List, IsErrOf, IfOk, OnOk, OnErr, length, take, drop};
 ghost use Rattle.jc_rules.specs.declared.id.Id.{Id as AnyId};
 ghost use Rattle.jc_rules.specs.declared.refusal.Refusal.TheVariants.{NotInList as PlaceNotInList};
-ghost use Rattle.jc_rules.specs.Derivation.{AddId, Operate, ToContext};
+ghost use Rattle.jc_rules.specs.Derivation.{Operate, ToContext};
 ghost use Rattle.jc_rules.specs.Derives.{Derives};
 ghost use Rattle.jc_rules.specs.Refused.{Refused, because};
 ghost use Rattle.jc_rules.specs.Shape.{IsChained};
 ghost use Rattle.jc_rules.specs.Table.{moved};
-ghost use Rattle.jc_tree.specs.Tree.{HasPlace, here};
+ghost use Rattle.jc_tree.specs.Tree.{HasPlace, IsLater, here};
 ghost use Rattle.jc_tree.specs.CanGoBack.{CanGoBack};
 ghost use Rattle.jc_sets.specs.Members.{with_deps};
 ghost use Rattle.jc_apply.specs.Applies.{AppliesFor};
 ghost use Rattle.jc_apply.specs.Fits.{Fits, HasNoAnswer, IsUnlinked};
-ghost use Rattle.jc_apply.specs.Leads.{Leads, LinksNone, LinksOnly};
+ghost use Rattle.jc_apply.specs.Leads.{Adds, Leads, LinksNone, LinksOnly};
 
-use crate::assigning::{add_id, assign};
-use crate::entering::enter;
+use crate::assigning::{assign, tell_added};
+use crate::entering::enter_below;
 use crate::fitting::fits;
 use crate::inserting::insert;
 use jc_clear::clear_elem;
 use jc_rules::{Mutation, Op, Rule, Tagged, Trace};
-use jc_tree::TreeStore;
+use jc_tree::{Place, TreeStore};
 use std::alloc::{AllocError, Global};
 
 /// Why an operation was refused.
@@ -80,38 +80,45 @@ fn operate_here<S: TreeStore>(
     }
 }
 
-/// Adds the operation's identifier to the presence set of a key on its path, unless the operation
-/// deletes.
+/// Adds the operation's identifier to the presence set of a key on its path, at the place with the
+/// given name, unless the operation deletes. Says whether there was a set, and nothing for a deletion.
 fn add_op<S: TreeStore>(
     store: &mut S,
+    place: Place,
     at: &[Tagged],
     key: &Tagged,
     op: &Op,
-    trace: &mut Trace,
-) -> Result<(), AllocError>
-    requires { HasPlace at.now (S.tree store.old) }
-    ensures ok { OnOk result (Leads (λ c. AddId c key.now op.now.id op.now.mutation)
-        at.now (S.tree store.old) (S.tree store.new) trace.old trace.new) }
+) -> Result<Option<bool>, AllocError>
+    requires there { HasPlace at.now (S.tree store.old) }
+    requires named { S.names store.old place at.now }
+    ensures ok { IfOk result (λ was. Adds key.now op.now.id op.now.mutation was
+        at.now (S.tree store.old) (S.tree store.new)) }
+    ensures named { OnOk result (S.names store.new place at.now) }
     ensures links { OnOk result (LinksNone at.now (S.tree store.old) (S.tree store.new)) }
-    ensures kept { CanGoBack (S.tree store.old) (S.tree store.new) trace.old trace.new }
+    ensures kept { IsLater (S.tree store.old) (S.tree store.new) }
 {
     match &op.mutation {
-        Mutation::Delete => trace.push(Rule::AddId2),
-        _ => add_id(store, at, key.key(), op.id, trace),
+        Mutation::Delete => Ok(None),
+        _ => {
+            let was = store.add_presence_at(place, at, key.key(), op.id)?;
+            Ok(Some(was))
+        }
     }
 }
 
 /// Applies the operation to the context that the first keys of its path lead to, as many as
-/// `depth` says.
+/// `depth` says. The place has the given name.
 fn operate<S: TreeStore>(
     alloc: Global,
     store: &mut S,
     op: &Op,
     depth: usize,
+    place: Place,
     trace: &mut Trace,
 ) -> Result<(), AllocError>
     requires within { depth ≤ length op.now.cursor.path }
     requires there { HasPlace (take depth op.now.cursor.path) (S.tree store.old) }
+    requires named { S.names store.old place (take depth op.now.cursor.path) }
     requires chained { IsChained (S.tree store.old).now }
     requires fresh { IsUnlinked op.now.id (S.tree store.old).now }
     requires fits { Fits (here (take depth op.now.cursor.path) (S.tree store.old))
@@ -130,9 +137,11 @@ fn operate<S: TreeStore>(
     let key = &path[depth];
     let above = trace.depth();
     trace.open(Rule::Descend)?;
-    enter(store, at, key, trace)?;
-    operate(alloc, store, op, depth + 1, trace)?;
-    add_op(store, at, key, op, trace)?;
+    // Added before the way down, while the place has its name: its rules come after.
+    let was = add_op(store, place, at, key, op)?;
+    let child = enter_below(store, place, at, key, trace)?;
+    operate(alloc, store, op, depth + 1, child, trace)?;
+    tell_added(was, trace)?;
     trace.close(above);
     Ok(())
 }
@@ -177,7 +186,8 @@ pub fn apply_op<S: TreeStore>(
     }
     let start = store.mark();
     let first = trace.mark();
-    if operate(alloc, store, op, 0, trace).is_err() {
+    let root = store.root();
+    if operate(alloc, store, op, 0, root, trace).is_err() {
         store.undo_to(start);
         trace.cut(first);
         return Err(ApplyFault::Memory);

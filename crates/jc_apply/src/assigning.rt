@@ -12,11 +12,12 @@ ghost use Rattle.jc_rules.specs.Context.{Context, Values, IsPrimitive, key_of, p
 ghost use Rattle.jc_rules.specs.Derivation.{AddId, Child, Operate, Presence, ToContent, ToIds};
 ghost use Rattle.jc_rules.specs.Shape.{IsChained};
 ghost use Rattle.jc_rules.specs.Table.{Follows, moved};
+ghost use Rattle.jc_rules.specs.Trace.{IsLonger};
 ghost use Rattle.jc_rules.specs.Paths.{HasContext};
 ghost use Rattle.jc_tree.specs.Tree.{HasPlace, here, or_none};
 ghost use Rattle.jc_tree.specs.CanGoBack.{CanGoBack};
 ghost use Rattle.jc_apply.specs.Fits.{empty_of};
-ghost use Rattle.jc_apply.specs.Leads.{Leads, LinksNone, AssignsEmpty};
+ghost use Rattle.jc_apply.specs.Leads.{Leads, LinksNone, AssignsEmpty, TellsAdded};
 
 use crate::entering::enter;
 use jc_clear::{clear, clear_elem};
@@ -44,6 +45,22 @@ fn register_rule(was: bool) -> Rule
     if was { Rule::ChildGet } else { Rule::ChildReg }
 }
 
+/// Adds the rules to the trace by which an operation's identifier was added to a presence set, which
+/// was there or not, or by which it wasn't added for a deletion.
+pub fn tell_added(was: Option<bool>, trace: &mut Trace) -> Result<(), AllocError>
+    ensures ok { OnOk result (TellsAdded was trace.old trace.new) }
+    ensures kept { IsLonger trace.old trace.new }
+{
+    let Some(was) = was else {
+        return trace.push(Rule::AddId2);
+    };
+    let depth = trace.depth();
+    trace.open(Rule::AddId1)?;
+    trace.push(presence_rule(was))?;
+    trace.close(depth);
+    Ok(())
+}
+
 /// Adds an identifier to the presence set of a key, for an operation that doesn't delete.
 pub fn add_id<S: TreeStore>(
     store: &mut S,
@@ -59,12 +76,8 @@ pub fn add_id<S: TreeStore>(
     ensures links { OnOk result (LinksNone at.now (S.tree store.old) (S.tree store.new)) }
     ensures kept { CanGoBack (S.tree store.old) (S.tree store.new) trace.old trace.new }
 {
-    let depth = trace.depth();
-    trace.open(Rule::AddId1)?;
     let was = store.add_presence(at, key, id)?;
-    trace.push(presence_rule(was))?;
-    trace.close(depth);
-    Ok(())
+    tell_added(Some(was), trace)
 }
 
 /// Assigns a primitive value to the register of a key.

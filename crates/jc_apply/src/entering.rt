@@ -1,6 +1,6 @@
 //! Entering the child under a tagged key.
 
-ghost use Rattle.std.specs.Prelude.{◌≡◌, [], None, OnOk};
+ghost use Rattle.std.specs.Prelude.{◌≡◌, [], ◌∷◌, ◌++◌, None, IfOk, OnOk};
 ghost use Rattle.jc_rules.specs.Context.{Context, content, new_content};
 ghost use Rattle.jc_rules.specs.Derivation.{Child, ToContent};
 ghost use Rattle.jc_rules.specs.Table.{Follows};
@@ -10,7 +10,7 @@ ghost use Rattle.jc_tree.specs.CanGoBack.{CanGoBack};
 ghost use Rattle.jc_apply.specs.Leads.{Enters, LinksNone};
 
 use jc_rules::{Rule, Tagged, Trace};
-use jc_tree::TreeStore;
+use jc_tree::{Place, TreeStore};
 use std::alloc::AllocError;
 
 /// The rule that makes what stands under a tagged key.
@@ -45,4 +45,29 @@ pub fn enter<S: TreeStore>(
         store.make_child(at, key)?;
     }
     Ok(())
+}
+
+/// Makes the context under the tagged key of the place, which has the given name, if it isn't there
+/// already. Gives its name.
+pub fn enter_below<S: TreeStore>(
+    store: &mut S,
+    place: Place,
+    at: &[Tagged],
+    key: &Tagged,
+    trace: &mut Trace,
+) -> Result<Place, AllocError>
+    requires there { HasPlace at.now (S.tree store.old) }
+    requires named { S.names store.old place at.now }
+    requires context { HasContext key.now }
+    ensures ok { OnOk result (Enters key.now at.now (S.tree store.old) (S.tree store.new) trace.old trace.new) }
+    ensures named { IfOk result (λ child. S.names store.new child (at.now ++ key.now ∷ [])) }
+    ensures links { OnOk result (LinksNone at.now (S.tree store.old) (S.tree store.new)) }
+    ensures kept { CanGoBack (S.tree store.old) (S.tree store.new) trace.old trace.new }
+{
+    if let Some(child) = store.below(place, at, key) {
+        trace.push(Rule::ChildGet)?;
+        return Ok(child);
+    }
+    trace.push(child_rule(key))?;
+    store.make_below(place, at, key)
 }

@@ -33,10 +33,13 @@ pub fn fits<S: TreeStore>(store: &S, cursor: &Cursor, mutation: &Mutation) -> bo
         → EachOp cursor.now mutation.now (λ o. (why : Cause) → Refused (Operate (S.tree store.now).now o) why → ⊥) }
 {
     let path = cursor.path.as_slice();
-    let mut there = true;
+    let mut place = Some(store.root());
     for (depth, key) in path.iter().enumerate() {
-        there = there && store.has(&path[..depth], key);
+        if let Some(parent) = place {
+            place = store.below(parent, &path[..depth], key);
+        }
     }
+    let there = place.is_some();
     match mutation {
         Mutation::Insert(_) if there => store.next(path, &cursor.last).is_some(),
         Mutation::Insert(_) => is_new_head(path.last(), &cursor.last),

@@ -1,14 +1,16 @@
-use Rattle.std.proofs.Common.{refl}
-use Rattle.jc_apply.proofs.Rules.{added_none, on_ok, adds}
+use Rattle.jc_tree.proofs.History.{later_changed}
+use Rattle.jc_apply.proofs.Links.{none_presence}
+use Rattle.jc_apply.proofs.Rules.{adds, adds_none}
 use Rattle.jc_apply.proofs.apply.add_op.Goals as goal
 
 pub returns-in-Delete-clause-ok : goal.returns-in-Delete-clause-ok
 returns-in-Delete-clause-ok g c =
-    on_ok _ (λ e. added_none _ _ _ _ _ _ _ _ c.requires c.in-Delete.is e refl) c.push.ensures.ok
+    adds_none c.args.at.now c.args.key.now c.args.op.now.id c.args.op.now.mutation _ c.requires.there c.in-Delete.is
 
-pub returns-in_default : goal.returns-in_default
-returns-in_default g c = record {
-  ok = adds c.args.at.now c.args.key.now c.key.result.now c.args.op.now.id c.args.op.now.mutation (g.S.TreeStore.tree c.args.store.now) (g.S.TreeStore.tree c.add_id.new.store) c.args.trace.now c.add_id.new.trace c.add_id.result c.key.ensures c.in_default.not-Delete c.add_id.ensures.ok;
-  links = c.add_id.ensures.links;
-  kept = c.add_id.ensures.kept;
+pub returns-in_ok-was-in_default : goal.returns-in_ok-was-in_default
+returns-in_ok-was-in_default g c = record {
+  ok = adds c.args.at.now c.args.key.now c.key.result.now c.args.op.now.id c.args.op.now.mutation _ _ _ c.key.ensures c.in_default.not-Delete c.in_ok-was-in_default.ensures.was c.in_ok-was-in_default.ensures.ok;
+  named = c.in_ok-was-in_default.ensures.named;
+  links = none_presence c.args.at.now c.key.result.now _ _ _ c.requires.there c.in_ok-was-in_default.ensures.ok;
+  kept = later_changed c.args.at.now _ _ _ c.in_ok-was-in_default.ensures.ok;
 }

@@ -1,29 +1,36 @@
-use Rattle.std.proofs.Common.{true, refl, ◌∙◌}
-use Rattle.jc_apply.proofs.Reaching.{key_on, walked_there, walked_new, insert_there, insert_new, other_fits}
+use Rattle.std.proofs.Common.{◌+◌, true, take, refl, sym, ◌∙◌, ap, is_some}
+use Rattle.jc_tree.specs.declared.store.Place.{Place}
+use Rattle.jc_apply.proofs.Reaching.{key_on, walked_there, walked_new, named_there, named_none, insert_there, insert_new, other_fits}
 use Rattle.jc_apply.proofs.Unanswered.{told}
 use Rattle.jc_apply.proofs.fitting.fits.Goals as goal
-use Rattle.jc_apply.proofs.fitting.fits.Goals.{then-there, else-there}
+use Rattle.jc_apply.proofs.fitting.fits.Goals.{in-Some, in_default}
 
 pub loop-depth-preserved : goal.loop-depth-preserved
 loop-depth-preserved g c =
     let key = key_on c.as_slice-path.result.now c.args.cursor.now.path c.loop-depth.depth c.index-path-depth.result c.as_slice-path.ensures.keys c.as_slice-path.ensures.path c.loop-depth-test.true c.index-path-depth.is in
-    elim c.if-there.branch [
-      | then-there w ↦ walked_there _ c.as_slice-path.result.now c.loop-depth.depth c.index-path-depth.result c.loop-depth.there c.if-there.there c.loop-depth-test.true c.index-path-depth.is key c.loop-depth.invariant w.if-there.true (w.there-is ∙ w.has-there.ensures)
-      | else-there w ↦ walked_new _ c.as_slice-path.result.now c.loop-depth.depth c.index-path-depth.result c.loop-depth.there c.if-there.there c.loop-depth-test.true c.index-path-depth.is key c.loop-depth.invariant w.if-there.false (w.there-is ∙ w.if-there.false)
+    elim c.match-place.branch [
+      | in-Some w ↦ record {
+        walked = walked_there (g.S.TreeStore.tree c.args.store.now).now c.as_slice-path.result.now c.loop-depth.depth c.index-path-depth.result (is_some c.loop-depth.place) (is_some c.match-place.place) c.loop-depth-test.true c.index-path-depth.is key c.loop-depth.invariant.walked (ap is_some w.in-Some.is) (ap is_some w.place-is ∙ w.below-place.ensures.some);
+        named = named_there Place (λ p at. g.S.TreeStore.names c.args.store.now p at) c.as_slice-path.result.now c.loop-depth.depth c.index-path-depth.result w.below-place.result c.match-place.place c.loop-depth-test.true c.index-path-depth.is w.place-is w.below-place.ensures.named;
+      }
+      | in_default w ↦ record {
+        walked = walked_new (g.S.TreeStore.tree c.args.store.now).now c.as_slice-path.result.now c.loop-depth.depth c.index-path-depth.result (is_some c.loop-depth.place) (is_some c.match-place.place) c.loop-depth-test.true c.index-path-depth.is key c.loop-depth.invariant.walked (ap is_some w.in_default.is) (ap is_some (w.place-is ∙ w.in_default.is));
+        named = named_none Place (λ p. g.S.TreeStore.names c.args.store.now p (take (c.loop-depth.depth + 1) c.as_slice-path.result.now)) c.match-place.place (w.place-is ∙ w.in_default.is);
+      }
     ]
 
 pub returns-in-Insert : goal.returns-in-Insert
 returns-in-Insert g c =
-    let t = told _ c.args.cursor.now c.args.mutation.now c.is_some.result c.as_slice-path.ensures.path (insert_there _ c.as_slice-path.result.now c.args.cursor.now.path c.loop-depth.depth c.loop-depth.there c.args.cursor.now.last c.args.mutation.now _ c.next.result c.is_some.result c.as_slice-path.ensures.keys c.loop-depth-test.false c.loop-depth.invariant c.if-there-2.true c.in-Insert.is c.next.ensures c.is_some.ensures) in
+    let t = told _ c.args.cursor.now c.args.mutation.now c.is_some.result c.as_slice-path.ensures.path (insert_there _ c.as_slice-path.result.now c.args.cursor.now.path c.loop-depth.depth (is_some c.loop-depth.place) c.args.cursor.now.last c.args.mutation.now _ c.next.result c.is_some.result c.as_slice-path.ensures.keys c.loop-depth-test.false c.loop-depth.invariant.walked (sym c.is_some-there.ensures ∙ c.if-there.true) c.in-Insert.is c.next.ensures c.is_some.ensures) in
     record { fits = t.fits; no_answer = t.no_answer; refused = t.refused; not_refused = t.not_refused }
 
 pub returns-in-Insert-2 : goal.returns-in-Insert-2
 returns-in-Insert-2 g c =
-    let t = told _ c.args.cursor.now c.args.mutation.now c.is_new_head.result c.as_slice-path.ensures.path (insert_new _ c.as_slice-path.result.now c.args.cursor.now.path c.loop-depth.depth c.loop-depth.there c.args.cursor.now.last c.args.mutation.now _ _ c.is_new_head.result c.as_slice-path.ensures.keys c.loop-depth-test.false c.loop-depth.auto.depth-end c.loop-depth.invariant c.if-there-2.false c.in-Insert-2.is c.last.ensures.value c.is_new_head.ensures) in
+    let t = told _ c.args.cursor.now c.args.mutation.now c.is_new_head.result c.as_slice-path.ensures.path (insert_new _ c.as_slice-path.result.now c.args.cursor.now.path c.loop-depth.depth (is_some c.loop-depth.place) c.args.cursor.now.last c.args.mutation.now _ _ c.is_new_head.result c.as_slice-path.ensures.keys c.loop-depth-test.false c.loop-depth.auto.depth-end c.loop-depth.invariant.walked (sym c.is_some-there.ensures ∙ c.if-there.false) c.in-Insert-2.is c.last.ensures.value c.is_new_head.ensures) in
     record { fits = t.fits; no_answer = t.no_answer; refused = t.refused; not_refused = t.not_refused }
 
-pub returns-in_default : goal.returns-in_default
-returns-in_default g c =
-    let fit = other_fits _ c.as_slice-path.result.now c.args.cursor.now.path c.loop-depth.depth c.loop-depth.there c.args.cursor.now.last c.args.mutation.now c.as_slice-path.ensures.keys c.loop-depth-test.false c.loop-depth.auto.depth-end c.loop-depth.invariant c.in_default.not-Insert in
+pub returns-in_default-mutation : goal.returns-in_default-mutation
+returns-in_default-mutation g c =
+    let fit = other_fits _ c.as_slice-path.result.now c.args.cursor.now.path c.loop-depth.depth (is_some c.loop-depth.place) c.args.cursor.now.last c.args.mutation.now c.as_slice-path.ensures.keys c.loop-depth-test.false c.loop-depth.auto.depth-end c.loop-depth.invariant.walked c.in_default-mutation.not-Insert in
     let t = told _ c.args.cursor.now c.args.mutation.now true c.as_slice-path.ensures.path (λ e. fit, λ f. refl) in
     record { fits = t.fits; no_answer = t.no_answer; refused = t.refused; not_refused = t.not_refused }
