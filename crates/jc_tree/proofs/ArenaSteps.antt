@@ -20,22 +20,22 @@ use Rattle.jc_tree.proofs.ArenaChanges.{read_here}
 pub node_read : (ns : List Flat) (n : ℕ) (x : Flat) → n < length ns → x ≡ get_or ns n x → flat_at ns n ≡ x
 node_read ns n x l e = get_or_default ns n blank x l ∙ sym e
 
-pub walk_step : (ns : List Flat) (at : List Tagged) (i n : ℕ) (k : Tagged) (x : Flat) (o : Option ℕ) → n < length ns → i < length at → k ≡ get_or at i k → x ≡ get_or ns n x → child_of k x ≡ o → walk ns n (drop i at) ≡ go_on o (λ c. walk ns c (drop (i + 1) at))
-walk_step ns at i n k x o l m e f h =
+pub walk_step : (ns : List Flat) (at : List Tagged) (i n : ℕ) (k : Tagged) (x : Flat) (o : Option ℕ) → i < length at → k ≡ get_or at i k → x ≡ flat_at ns n → child_of k x ≡ o → walk ns n (drop i at) ≡ go_on o (λ c. walk ns c (drop (i + 1) at))
+walk_step ns at i n k x o m e f h =
     ap (λ ks. walk ns n ks) (drop_more at i k m ∙ ap (λ t. t ∷ drop (i + 1) at) (sym e))
-    ∙ ap (λ y. go_on (child_of k y) (λ c. walk ns c (drop (i + 1) at))) (node_read ns n x l f)
+    ∙ ap (λ y. go_on (child_of k y) (λ c. walk ns c (drop (i + 1) at))) (sym f)
     ∙ ap (λ u. go_on u (λ c. walk ns c (drop (i + 1) at))) h
 
 -- where the path leads to no number, there is no place
 pub no_place_there : (ns : List Flat) (at : List Tagged) → IsGood ns → walk ns 0 at ≡ None → node_at at (content_of ns) ≢ None → ⊥
 no_place_there ns at g w h = h (absent ns at g.sound g.some w)
 
-pub child_within : (ns : List Flat) (n c : ℕ) (k : Tagged) (x : Flat) → IsGood ns → n < length ns → x ≡ get_or ns n x → child_of k x ≡ Some c → c < length ns
-child_within ns n c k x g l e h = (g.sound.inner n c k (ap (λ y. child_of k y) (node_read ns n x l e) ∙ h)).1
+pub child_within : (ns : List Flat) (n c : ℕ) (k : Tagged) (x : Flat) → IsGood ns → x ≡ flat_at ns n → child_of k x ≡ Some c → c < length ns
+child_within ns n c k x g e h = (g.sound.inner n c k (ap (λ y. child_of k y) (sym e) ∙ h)).1
 
 -- what is read of the node that the path leads to is read of the context at the place
-pub read_at : {A : Type 0} (P : Context → A) (Q : Flat → A) (ns : List Flat) (at : List Tagged) (i : ℕ) (x : Flat) (r : A) → IsGood ns → walk ns 0 at ≡ Some i → i < length ns → x ≡ get_or ns i x → ((g : ℕ → Context) (n : Flat) → P (filled g n) ≡ Q n) → r ≡ Q x → r ≡ P (context_at at (content_of ns))
-read_at P Q ns at i x r good path w e same h = h ∙ ap Q (sym (node_read ns i x w e)) ∙ sym (read_here P Q ns at i good path w same)
+pub read_at : {A : Type 0} (P : Context → A) (Q : Flat → A) (ns : List Flat) (at : List Tagged) (i : ℕ) (x : Flat) (r : A) → IsGood ns → walk ns 0 at ≡ Some i → i < length ns → x ≡ flat_at ns i → ((g : ℕ → Context) (n : Flat) → P (filled g n) ≡ Q n) → r ≡ Q x → r ≡ P (context_at at (content_of ns))
+read_at P Q ns at i x r good path w e same h = h ∙ ap Q e ∙ sym (read_here P Q ns at i good path w same)
 
 -- where no child is, there is no number
 pub content_absent : (ns : List Flat) (at : List Tagged) (i : ℕ) (t : Tagged) → IsGood ns → walk ns 0 at ≡ Some i → i < length ns → HasContext t → content t (context_at at (content_of ns)) ≡ None → child_of t (flat_at ns i) ≡ None

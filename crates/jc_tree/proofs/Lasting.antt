@@ -1,5 +1,5 @@
 -- Numbers of places last.
-use Rattle.std.proofs.Common.{◌≡◌, ℕ, ◌<◌, ◌≤◌, List, [], ◌∷◌, ◌++◌, length, get_or, Option, Some, None, Bool, true, false, is_some, ◌⊎◌, refl, sym, ◌∙◌, ap, arith, cond}
+use Rattle.std.proofs.Common.{◌≡◌, ℕ, ◌<◌, ◌≤◌, List, [], ◌∷◌, ◌++◌, length, Option, Some, None, Bool, true, false, is_some, ◌⊎◌, refl, sym, ◌∙◌, ap, arith, cond}
 use Rattle.std.specs.Ordering.{eq_by_cmp}
 use Rattle.std.proofs.lemmas.Option.{same_Some}
 use Rattle.std.proofs.lemmas.Bool.{cases_order}
@@ -19,7 +19,7 @@ use Rattle.jc_tree.specs.Arena.{Flat, flat_at, filled, content_of, child_of, go_
 use Rattle.jc_tree.specs.ArenaUndo.{IsGood}
 use Rattle.jc_tree.proofs.Places.{some_content, no_node}
 use Rattle.jc_tree.proofs.Numbers.{content_is, no_walk, past_blank}
-use Rattle.jc_tree.proofs.ArenaSteps.{node_read, read_at}
+use Rattle.jc_tree.proofs.ArenaSteps.{read_at}
 use Rattle.jc_tree.proofs.ArenaChanges.{with_child, with_change, no_child_blank, at_changed, at_other, same_edge}
 
 -- one key further down
@@ -54,11 +54,11 @@ child_is g n (ListT k) = some_content (ListT k) (filled g n) tt ∙ content_is g
 child_is g n (RegT k) = ap (λ o. is_some o) (no_node k (filled g n))
 
 -- what is read of a node as its child is the child at the place
-pub below_some : (ns : List Flat) (at : List Tagged) (i : ℕ) (t : Tagged) (x : Flat) (o : Option ℕ) → IsGood ns → walk ns 0 at ≡ Some i → x ≡ get_or ns i x → o ≡ child_of t x → is_some o ≡ is_some (node_in (content t (context_at at (content_of ns))))
+pub below_some : (ns : List Flat) (at : List Tagged) (i : ℕ) (t : Tagged) (x : Flat) (o : Option ℕ) → IsGood ns → walk ns 0 at ≡ Some i → x ≡ flat_at ns i → o ≡ child_of t x → is_some o ≡ is_some (node_in (content t (context_at at (content_of ns))))
 below_some ns at i t x o g path e h = read_at (λ d. is_some (node_in (content t d))) (λ n. is_some (child_of t n)) ns at i x (is_some o) g path (place_inside ns at i g path) e (λ f n. child_is f n t) (ap (λ u. is_some u) h)
 
-pub below_named : (ns : List Flat) (at : List Tagged) (i : ℕ) (t : Tagged) (x : Flat) (o : Option ℕ) → IsGood ns → walk ns 0 at ≡ Some i → x ≡ get_or ns i x → o ≡ child_of t x → walk ns 0 (at ++ t ∷ []) ≡ o
-below_named ns at i t x o g path e h = further_down ns at 0 i t path ∙ ap (λ n. child_of t n) (node_read ns i x (place_inside ns at i g path) e) ∙ sym h
+pub below_named : (ns : List Flat) (at : List Tagged) (i : ℕ) (t : Tagged) (x : Flat) (o : Option ℕ) → IsGood ns → walk ns 0 at ≡ Some i → x ≡ flat_at ns i → o ≡ child_of t x → walk ns 0 (at ++ t ∷ []) ≡ o
+below_named ns at i t x o g path e h = further_down ns at 0 i t path ∙ ap (λ n. child_of t n) (sym e) ∙ sym h
 
 -- where each child is still there, so is each place
 walk_lasts : (ns ms : List Flat) → ((a c : ℕ) (u : Tagged) → child_of u (flat_at ns a) ≡ Some c → child_of u (flat_at ms a) ≡ Some c) → (at : List Tagged) (a j : ℕ) → walk ns a at ≡ Some j → walk ms a at ≡ Some j

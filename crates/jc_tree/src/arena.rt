@@ -6,10 +6,10 @@ ghost use Rattle.jc_rules.specs.Context.{empty};
 ghost use Rattle.jc_rules.specs.Places.{node_at, context_at};
 ghost use Rattle.jc_tree.specs.Tree.{IsChanged};
 ghost use Rattle.jc_tree.specs.Change.{IsFit, changed_by};
-ghost use Rattle.jc_tree.specs.Arena.{IsInside, content_of, walk};
+ghost use Rattle.jc_tree.specs.Arena.{IsInside, content_of, flat_at, walk};
 ghost use Rattle.jc_tree.specs.ArenaUndo.{contents, fewer, back, tree_of, IsGood, AreGood, IsGood-single, AreGood-single};
 
-use crate::arena_node::{ArenaNode, former_of_node};
+use crate::arena_node::{ArenaNode, NodeId, former_of_node};
 use crate::ids::Ids;
 use crate::lists::Pairs;
 use crate::node::{Change, Former};
@@ -21,7 +21,7 @@ use std::alloc::{AllocError, Global};
 /// it, as it was before.
 #[derive(Drop)]
 pub struct Undo {
-    node: usize,
+    node: NodeId,
     former: Former,
 }
 
@@ -57,8 +57,9 @@ fn take_back(nodes: &mut Vec<ArenaNode>, undo: Undo)
 {
     let Undo { node, former } = undo;
     drop_node(nodes, &former);
-    if node < nodes.len() {
-        nodes[node].restore(former);
+    let number = node.number();
+    if number < nodes.len() {
+        nodes[number].restore(former);
     }
 }
 
@@ -76,15 +77,23 @@ impl ArenaTree {
         })
     }
 
+    /// The node with this number.
+    fn node(&self, id: NodeId) -> &ArenaNode
+        requires { id < length self.now.nodes.items }
+        ensures { result.now ≡ flat_at self.now.nodes.items id }
+    {
+        &self.nodes[id.number()]
+    }
+
     /// The number of the node that the path leads to.
-    fn find(&self, at: &[Tagged]) -> usize
+    fn find(&self, at: &[Tagged]) -> NodeId
         requires { node_at at.now (content_of self.now.nodes.items) ≢ None }
         ensures walk { walk self.now.nodes.items 0 at.now ≡ Some result }
         ensures within { result < length self.now.nodes.items }
     {
-        let mut node = 0;
+        let mut node = NodeId::new(0);
         for key in at {
-            match self.nodes[node].child(key) {
+            match self.node(node).child(key) {
                 Some(child) => node = child,
                 None => unreachable!(),
             }
@@ -94,7 +103,7 @@ impl ArenaTree {
 
     /// Makes one change of a node to which a path leads, and which makes no node, and keeps what takes it
     /// back. Paths lead to the same numbers then. After a refusal all is as it was.
-    fn change_node(&mut self, node: usize, change: Change) -> Result<(), AllocError>
+    fn change_node(&mut self, node: NodeId, change: Change) -> Result<(), AllocError>
         requires there { (at : List AnyTagged) × (walk self.old.nodes.items 0 at ≡ Some node) }
         requires within { node < length self.old.nodes.items }
         requires inside { IsInside change }
@@ -107,8 +116,9 @@ impl ArenaTree {
         ensures err { OnErr result (tree_of self.new.nodes.items self.new.undos.items
             ≡ tree_of self.old.nodes.items self.old.undos.items) }
     {
+        let number = node.number();
         self.undos.reserve(1)?;
-        let former = self.nodes[node].change(change, self.alloc)?;
+        let former = self.nodes[number].change(change, self.alloc)?;
         self.undos.push(Undo { node, former }).unwrap();
         Ok(())
     }
@@ -149,7 +159,7 @@ impl TreeStore for ArenaTree {
     ghost kept = { λ s. s.good.kept };
 
     fn has(&self, at: &[Tagged], key: &Tagged) -> bool {
-        self.nodes[self.find(at)].has(key)
+        self.node(self.find(at)).has(key)
     }
 
     fn make_child(&mut self, at: &[Tagged], key: &Tagged) -> Result<(), AllocError> {
@@ -157,7 +167,7 @@ impl TreeStore for ArenaTree {
             Tagged::RegT(_) => self.change(at, Change::Child(key.copy()?)),
             _ => {
                 let place = Place {
-                    number: self.find(at),
+                    number: self.find(at).number(),
                 };
                 self.make_below(place, at, key)?;
                 Ok(())
@@ -166,7 +176,7 @@ impl TreeStore for ArenaTree {
     }
 
     fn presence(&self, at: &[Tagged], key: &Key) -> Option<&[Id]> {
-        self.nodes[self.find(at)].presence(key)
+        self.node(self.find(at)).presence(key)
     }
 
     fn set_presence(&mut self, at: &[Tagged], key: &Key, ids: &[Id]) -> Result<(), AllocError> {
@@ -176,13 +186,13 @@ impl TreeStore for ArenaTree {
 
     fn add_presence(&mut self, at: &[Tagged], key: &Key, id: Id) -> Result<bool, AllocError> {
         let place = Place {
-            number: self.find(at),
+            number: self.find(at).number(),
         };
         self.add_presence_at(place, at, key, id)
     }
 
     fn next(&self, at: &[Tagged], key: &Key) -> Option<Next> {
-        self.nodes[self.find(at)].next(key)
+        self.node(self.find(at)).next(key)
     }
 
     fn set_next(&mut self, at: &[Tagged], key: &Key, next: Next) -> Result<(), AllocError> {
@@ -190,7 +200,7 @@ impl TreeStore for ArenaTree {
     }
 
     fn register(&self, at: &[Tagged], key: &Key) -> Option<&[(Id, Value)]> {
-        self.nodes[self.find(at)].register(key)
+        self.node(self.find(at)).register(key)
     }
 
     fn set_register(
@@ -210,21 +220,21 @@ impl TreeStore for ArenaTree {
         value: Value,
     ) -> Result<bool, AllocError> {
         let node = self.find(at);
-        let was = self.nodes[node].register(key).is_some();
+        let was = self.node(node).register(key).is_some();
         self.change_node(node, Change::PutValue(key.copy()?, id, value))?;
         Ok(was)
     }
 
     fn key_after(&self, at: &[Tagged], above: Option<&Key>) -> Option<&Key> {
-        self.nodes[self.find(at)].key_after(above)
+        self.node(self.find(at)).key_after(above)
     }
 
     fn presence_after(&self, at: &[Tagged], above: Option<&Key>) -> Option<&Key> {
-        self.nodes[self.find(at)].presence_after(above)
+        self.node(self.find(at)).presence_after(above)
     }
 
     fn link_after(&self, at: &[Tagged], above: Option<&Key>) -> Option<&Key> {
-        self.nodes[self.find(at)].link_after(above)
+        self.node(self.find(at)).link_after(above)
     }
 
     fn root(&self) -> Place {
@@ -232,8 +242,11 @@ impl TreeStore for ArenaTree {
     }
 
     fn below(&self, place: Place, at: &[Tagged], key: &Tagged) -> Option<Place> {
-        let number = self.nodes[place.number].child(key)?;
-        Some(Place { number })
+        let node = NodeId::new(place.number);
+        let child = self.node(node).child(key)?;
+        Some(Place {
+            number: child.number(),
+        })
     }
 
     fn make_below(
@@ -242,15 +255,15 @@ impl TreeStore for ArenaTree {
         at: &[Tagged],
         key: &Tagged,
     ) -> Result<Place, AllocError> {
-        let node = place.number;
         let number = self.nodes.len();
         let child = ArenaNode::of_child(self.alloc, key)?;
         let former = former_of_node(key)?;
         let copy = key.copy()?;
         self.undos.reserve(1)?;
         self.nodes.reserve(1)?;
-        self.nodes[node].name_child(copy, number)?;
+        self.nodes[place.number].name_child(copy, NodeId::new(number))?;
         self.nodes.push(child).unwrap();
+        let node = NodeId::new(place.number);
         self.undos.push(Undo { node, former }).unwrap();
         Ok(Place { number })
     }
@@ -262,8 +275,8 @@ impl TreeStore for ArenaTree {
         key: &Key,
         id: Id,
     ) -> Result<bool, AllocError> {
-        let node = place.number;
-        let was = self.nodes[node].presence(key).is_some();
+        let node = NodeId::new(place.number);
+        let was = self.node(node).presence(key).is_some();
         self.change_node(node, Change::AddId(key.copy()?, id))?;
         Ok(was)
     }

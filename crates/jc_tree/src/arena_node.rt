@@ -1,6 +1,6 @@
 //! The nodes of an arena.
 
-ghost use Rattle.std.specs.Prelude.{◌≡◌, ◌++◌, None, is_some, option_copied, IfOk, OnOk, OnErr};
+ghost use Rattle.std.specs.Prelude.{◌≡◌, ℕ, ◌++◌, None, is_some, option_copied, IfOk, OnOk, OnErr};
 ghost use Rattle.jc_rules.specs.Order.{key_cmp};
 ghost use Rattle.jc_rules.specs.Entries.{find, keys_of};
 ghost use Rattle.jc_rules.specs.Paths.{HasContext};
@@ -18,12 +18,40 @@ use std::alloc::{AllocError, Global};
 use std::collections::BTreeMap;
 use std::marker::Model;
 
+/// The number of a node in an arena's list.
+#[derive(Clone, Copy)]
+pub struct NodeId {
+    number: usize,
+}
+
+impl Model for NodeId {
+    ghost Value = { ℕ };
+
+    ghost view = { λ i. i.number };
+
+    ghost inverse = { λ n. record { number = n } };
+}
+
+impl NodeId {
+    pub fn new(number: usize) -> Self
+        ensures { result ≡ number }
+    {
+        NodeId { number }
+    }
+
+    pub fn number(self) -> usize
+        ensures { result ≡ self }
+    {
+        self.number
+    }
+}
+
 /// A context whose children are named by the numbers of their nodes: its entries by kind, each kind by
 /// key.
 #[derive(Drop)]
 pub struct ArenaNode {
-    maps: BTreeMap<Key, usize>,
-    lists: BTreeMap<Key, usize>,
+    maps: BTreeMap<Key, NodeId>,
+    lists: BTreeMap<Key, NodeId>,
     registers: BTreeMap<Key, Pairs>,
     presences: BTreeMap<Key, Ids>,
     links: BTreeMap<Key, Next>,
@@ -89,7 +117,7 @@ impl ArenaNode {
     }
 
     /// The number of the child under the tagged key.
-    pub fn child(&self, key: &Tagged) -> Option<usize>
+    pub fn child(&self, key: &Tagged) -> Option<NodeId>
         ensures { result ≡ child_of key.now self.now }
     {
         match key {
@@ -146,7 +174,7 @@ impl ArenaNode {
     }
 
     /// Names a child under the tagged key. After a refusal the node is as it was.
-    pub fn name_child(&mut self, key: Tagged, number: usize) -> Result<(), AllocError>
+    pub fn name_child(&mut self, key: Tagged, number: NodeId) -> Result<(), AllocError>
         requires { HasContext key }
         ensures ok { OnOk result (self.new ≡ with_number key number self.old) }
         ensures err { OnErr result (self.new ≡ self.old) }

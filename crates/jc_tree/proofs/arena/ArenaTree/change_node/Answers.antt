@@ -15,14 +15,14 @@ invariant_of-self-2 c =
     let self = c.args.self.now in
     let ns = self.nodes.items in
     let i = c.args.node in
-    let made = nodes_changed ns i c.args.change c.index_mut.result.now c.change.new.self c.index_mut.ensures.value c.requires.within c.in_ok-former.ensures.ok in
-    let former : c.in_ok-former.former ≡ former_of_flat c.args.change (flat_at ns i) = former_there ns i c.args.change c.index_mut.result.now _ c.index_mut.ensures.value c.requires.within c.in_ok-former.ensures.former in
+    let made = nodes_changed ns i c.args.change c.index_mut.result.now c.change.new.self (rw c.number-number.ensures at c.index_mut.ensures.value) c.requires.within c.in_ok-former.ensures.ok in
+    let former : c.in_ok-former.former ≡ former_of_flat c.args.change (flat_at ns i) = former_there ns i c.args.change c.index_mut.result.now _ (rw c.number-number.ensures at c.index_mut.ensures.value) c.requires.within c.in_ok-former.ensures.former in
     let change = inside_changes ns c.requires.there.0 i c.args.change self.good c.requires.there.1 c.requires.within c.requires.inside c.requires.fit in
     let undo : Undo = record { node = i; former = c.in_ok-former.former } in
     let all : c.push.new.self.items ≡ self.undos.items ++ undo ∷ [] = c.push.ensures.items ∙ pushed c.push.result c.reserve.new.self.items undo _ _ c.push.ensures.full c.in_ok-reserve.ensures.ok ∙ ap (λ us. us ++ undo ∷ []) c.in_ok-reserve.ensures.items in
     record {
-      good = rw made change.good;
-      earlier_good = rw (all, made) (good_pushed self.undos.items undo ns (with_change c.args.change i ns) self.earlier_good self.good (rw former change.back));
+      good = rw (c.number-number.ensures, made) change.good;
+      earlier_good = rw (all, c.number-number.ensures, made) (good_pushed self.undos.items undo ns (with_change c.args.change i ns) self.earlier_good self.good (rw former change.back));
     }
 
 pub returns-clause-ok : goal.returns-clause-ok
@@ -30,18 +30,18 @@ returns-clause-ok c at path =
     let self = c.args.self.now in
     let ns = self.nodes.items in
     let i = c.args.node in
-    let made = nodes_changed ns i c.args.change c.index_mut.result.now c.change.new.self c.index_mut.ensures.value c.requires.within c.in_ok-former.ensures.ok in
-    let former : c.in_ok-former.former ≡ former_of_flat c.args.change (flat_at ns i) = former_there ns i c.args.change c.index_mut.result.now _ c.index_mut.ensures.value c.requires.within c.in_ok-former.ensures.former in
+    let made = nodes_changed ns i c.args.change c.index_mut.result.now c.change.new.self (rw c.number-number.ensures at c.index_mut.ensures.value) c.requires.within c.in_ok-former.ensures.ok in
+    let former : c.in_ok-former.former ≡ former_of_flat c.args.change (flat_at ns i) = former_there ns i c.args.change c.index_mut.result.now _ (rw c.number-number.ensures at c.index_mut.ensures.value) c.requires.within c.in_ok-former.ensures.former in
     let change = inside_changes ns at i c.args.change self.good path c.requires.within c.requires.inside c.requires.fit in
     let undo : Undo = record { node = i; former = c.in_ok-former.former } in
     let here : Changes ns (with_change c.args.change i ns) at (changed_by c.args.change (context_at at (content_of ns))) i c.in_ok-former.former = rw former change in
     let all : c.push.new.self.items ≡ self.undos.items ++ undo ∷ [] = pushed_ok c.push.result _ c.reserve.new.self.items c.push.new.self.items undo c.unwrap.ensures c.push.ensures.items ∙ ap (λ us. us ++ undo ∷ []) c.in_ok-reserve.ensures.items in
-    rw made (changed_tree ns (with_change c.args.change i ns) self.undos.items c.push.new.self.items undo at _ here all)
+    rw (c.number-number.ensures, made) (changed_tree ns (with_change c.args.change i ns) self.undos.items c.push.new.self.items undo at _ here all)
 
 pub returns-clause-numbers : goal.returns-clause-numbers
 returns-clause-numbers c at =
     let self = c.args.self.now in
     let ns = self.nodes.items in
     let i = c.args.node in
-    let made = nodes_changed ns i c.args.change c.index_mut.result.now c.change.new.self c.index_mut.ensures.value c.requires.within c.in_ok-former.ensures.ok in
-    rw made (numbers_stay ns i c.args.change self.good c.requires.within at)
+    let made = nodes_changed ns i c.args.change c.index_mut.result.now c.change.new.self (rw c.number-number.ensures at c.index_mut.ensures.value) c.requires.within c.in_ok-former.ensures.ok in
+    rw (c.number-number.ensures, made) (numbers_stay ns i c.args.change self.good c.requires.within at)

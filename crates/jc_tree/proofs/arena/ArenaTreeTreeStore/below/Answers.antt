@@ -1,23 +1,23 @@
-use Rattle.std.proofs.Common.{is_some, sym, ◌∙◌, ap}
+use Rattle.std.proofs.Common.{Some, is_some, sym, ◌∙◌, ap}
 use Rattle.jc_tree.proofs.Lasting.{place_inside, below_some, below_named}
 use Rattle.jc_tree.proofs.arena.ArenaTreeTreeStore.below.Goals as goal
 
-pub index-requires : goal.index-requires
-index-requires c =
+pub node-requires : goal.node-requires
+node-requires c =
     let self = c.args.self.now in
-    rw self.nodes.ok.0 (place_inside self.nodes.items c.args.at.now c.args.place.number self.good c.requires.named)
+    rw c.new-node.ensures (place_inside self.nodes.items c.args.at.now c.args.place.number self.good c.requires.named)
 
-pub returns-in_err-number-clause-some : goal.returns-in_err-number-clause-some
-returns-in_err-number-clause-some c =
+pub returns-in_err-child-clause-some : goal.returns-in_err-child-clause-some
+returns-in_err-child-clause-some c =
     let self = c.args.self.now in
-    ap (λ o. is_some o) c.from_residual.ensures ∙ below_some self.nodes.items c.args.at.now c.args.place.number c.args.key.now c.index.result.now _ self.good c.requires.named c.index.ensures (sym c.in_err-number.was ∙ c.child.ensures)
+    ap (λ o. is_some o) c.from_residual.ensures ∙ below_some self.nodes.items c.args.at.now c.args.place.number c.args.key.now c.node.result.now _ self.good c.requires.named (rw c.new-node.ensures at c.node.ensures) (sym c.in_err-child.was ∙ c.child.ensures)
 
 pub returns-clause-some : goal.returns-clause-some
 returns-clause-some c =
     let self = c.args.self.now in
-    below_some self.nodes.items c.args.at.now c.args.place.number c.args.key.now c.index.result.now _ self.good c.requires.named c.index.ensures (sym c.in_ok-number.was ∙ c.child.ensures)
+    below_some self.nodes.items c.args.at.now c.args.place.number c.args.key.now c.node.result.now _ self.good c.requires.named (rw c.new-node.ensures at c.node.ensures) (sym c.in_ok-child.was ∙ c.child.ensures)
 
 pub returns-clause-named : goal.returns-clause-named
 returns-clause-named c =
     let self = c.args.self.now in
-    below_named self.nodes.items c.args.at.now c.args.place.number c.args.key.now c.index.result.now _ self.good c.requires.named c.index.ensures (sym c.in_ok-number.was ∙ c.child.ensures)
+    below_named self.nodes.items c.args.at.now c.args.place.number c.args.key.now c.node.result.now _ self.good c.requires.named (rw c.new-node.ensures at c.node.ensures) (sym c.in_ok-child.was ∙ c.child.ensures) ∙ ap (λ n. Some n) (sym c.number.ensures)

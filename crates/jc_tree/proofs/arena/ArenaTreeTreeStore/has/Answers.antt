@@ -9,4 +9,4 @@ use Rattle.jc_tree.proofs.arena.ArenaTreeTreeStore.has.Goals as goal
 pub returns : goal.returns
 returns c =
     let self = c.args.self.now in
-    read_at (λ d. is_some (content c.args.key.now d)) (λ (n : Flat). is_in c.args.key.now n) self.nodes.items c.args.at.now c.find.result c.index.result.now _ self.good c.find.ensures.walk c.find.ensures.within c.index.ensures (λ g n. content_is g n c.args.key.now) c.has.ensures
+    read_at (λ d. is_some (content c.args.key.now d)) (λ (n : Flat). is_in c.args.key.now n) self.nodes.items c.args.at.now c.find.result c.node.result.now _ self.good c.find.ensures.walk c.find.ensures.within c.node.ensures (λ g n. content_is g n c.args.key.now) c.has.ensures

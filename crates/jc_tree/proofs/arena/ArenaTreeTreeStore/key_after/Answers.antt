@@ -9,4 +9,4 @@ use Rattle.jc_tree.proofs.arena.ArenaTreeTreeStore.key_after.Goals as goal
 pub returns : goal.returns
 returns c =
     let self = c.args.self.now in
-    read_at (λ d. least_after (option_copied c.args.above) (keys d)) (λ (n : Flat). least_after (option_copied c.args.above) (keys_of n.maps ++ keys_of n.lists ++ keys_of n.registers)) self.nodes.items c.args.at.now c.find.result c.index.result.now _ self.good c.find.ensures.walk c.find.ensures.within c.index.ensures (λ g n. ap (λ ks. least_after (option_copied c.args.above) ks) (keys_filled g n)) c.key_after.ensures
+    read_at (λ d. least_after (option_copied c.args.above) (keys d)) (λ (n : Flat). least_after (option_copied c.args.above) (keys_of n.maps ++ keys_of n.lists ++ keys_of n.registers)) self.nodes.items c.args.at.now c.find.result c.node.result.now _ self.good c.find.ensures.walk c.find.ensures.within c.node.ensures (λ g n. ap (λ ks. least_after (option_copied c.args.above) ks) (keys_filled g n)) c.key_after.ensures

@@ -1,4 +1,4 @@
-use Rattle.std.proofs.Common.{◌≡◌, ◌∷◌, ◌++◌, [], sym, ◌∙◌, ap, subst, Some}
+use Rattle.std.proofs.Common.{◌≡◌, ℕ, ◌∷◌, ◌++◌, [], sym, ◌∙◌, ap, subst, Some}
 use Rattle.jc_rules.specs.Context.{with_content, new_content}
 use Rattle.jc_rules.specs.Places.{context_at}
 use Rattle.jc_tree.specs.Arena.{content_of}
@@ -33,14 +33,14 @@ invariant_of-self-2 c =
     let ns = self.nodes.items in
     let within = place_inside ns c.args.at.now c.args.place.number self.good c.requires.named in
     let key = c.args.key.now in
-    let made = nodes_made ns c.reserve-2.new.self.items c.push.new.self.items c.args.place.number c.len-number.result key c.in_ok-copy.copy c.index_mut.result.now c.name_child.new.self c.in_ok-child.child c.in_ok-reserve-2.ensures.items c.index_mut.ensures.value within c.in_ok-copy.ensures (c.len-number.ensures ∙ self.nodes.ok.0) c.in_ok-name_child.ensures.ok c.in_ok-child.ensures (pushed_ok c.push.result _ _ c.push.new.self.items _ c.unwrap.ensures c.push.ensures.items) in
+    let made = nodes_made ns c.reserve-2.new.self.items c.push.new.self.items c.args.place.number c.new.result key c.in_ok-copy.copy c.index_mut.result.now c.name_child.new.self c.in_ok-child.child c.in_ok-reserve-2.ensures.items c.index_mut.ensures.value within c.in_ok-copy.ensures (c.new.ensures ∙ c.len-number.ensures ∙ self.nodes.ok.0) c.in_ok-name_child.ensures.ok c.in_ok-child.ensures (pushed_ok c.push.result _ _ c.push.new.self.items _ c.unwrap.ensures c.push.ensures.items) in
     let absent = content_absent ns c.args.at.now c.args.place.number key self.good c.requires.named within c.requires.context c.requires.absent in
     let change : Changes ns c.push.new.self.items c.args.at.now (with_content key (new_content key) (context_at c.args.at.now (content_of ns))) c.args.place.number c.in_ok-former.former = rw (made, c.in_ok-former.ensures) (child_changes ns c.args.at.now c.args.place.number key self.good c.requires.named within c.requires.context absent) in
-    let undo : Undo = record { node = c.args.place.number; former = c.in_ok-former.former } in
-    let all : c.push-2.new.self.items ≡ self.undos.items ++ undo ∷ [] = c.push-2.ensures.items ∙ pushed c.push-2.result c.reserve.new.self.items undo _ _ c.push-2.ensures.full c.in_ok-reserve.ensures.ok ∙ ap (λ us. us ++ undo ∷ []) c.in_ok-reserve.ensures.items in
+    let undo : ℕ → Undo = λ i. record { node = i; former = c.in_ok-former.former } in
+    let all : c.push-2.new.self.items ≡ self.undos.items ++ undo c.args.place.number ∷ [] = c.push-2.ensures.items ∙ pushed c.push-2.result c.reserve.new.self.items (undo c.new-node.result) _ _ c.push-2.ensures.full c.in_ok-reserve.ensures.ok ∙ ap (λ us. us ++ undo c.new-node.result ∷ []) c.in_ok-reserve.ensures.items ∙ ap (λ i. self.undos.items ++ undo i ∷ []) c.new-node.ensures in
     record {
       good = change.good;
-      earlier_good = rw all (good_pushed self.undos.items undo ns c.push.new.self.items self.earlier_good self.good change.back);
+      earlier_good = rw all (good_pushed self.undos.items (undo c.args.place.number) ns c.push.new.self.items self.earlier_good self.good change.back);
     }
 
 pub returns-clause-ok : goal.returns-clause-ok
@@ -49,12 +49,12 @@ returns-clause-ok c =
     let ns = self.nodes.items in
     let within = place_inside ns c.args.at.now c.args.place.number self.good c.requires.named in
     let key = c.args.key.now in
-    let made = nodes_made ns c.reserve-2.new.self.items c.push.new.self.items c.args.place.number c.len-number.result key c.in_ok-copy.copy c.index_mut.result.now c.name_child.new.self c.in_ok-child.child c.in_ok-reserve-2.ensures.items c.index_mut.ensures.value within c.in_ok-copy.ensures (c.len-number.ensures ∙ self.nodes.ok.0) c.in_ok-name_child.ensures.ok c.in_ok-child.ensures (pushed_ok c.push.result _ _ c.push.new.self.items _ c.unwrap.ensures c.push.ensures.items) in
+    let made = nodes_made ns c.reserve-2.new.self.items c.push.new.self.items c.args.place.number c.new.result key c.in_ok-copy.copy c.index_mut.result.now c.name_child.new.self c.in_ok-child.child c.in_ok-reserve-2.ensures.items c.index_mut.ensures.value within c.in_ok-copy.ensures (c.new.ensures ∙ c.len-number.ensures ∙ self.nodes.ok.0) c.in_ok-name_child.ensures.ok c.in_ok-child.ensures (pushed_ok c.push.result _ _ c.push.new.self.items _ c.unwrap.ensures c.push.ensures.items) in
     let absent = content_absent ns c.args.at.now c.args.place.number key self.good c.requires.named within c.requires.context c.requires.absent in
-    let undo : Undo = record { node = c.args.place.number; former = c.in_ok-former.former } in
+    let undo : ℕ → Undo = λ i. record { node = i; former = c.in_ok-former.former } in
     let change : Changes ns c.push.new.self.items c.args.at.now (with_content key (new_content key) (context_at c.args.at.now (content_of ns))) c.args.place.number c.in_ok-former.former = rw (made, c.in_ok-former.ensures) (child_changes ns c.args.at.now c.args.place.number key self.good c.requires.named within c.requires.context absent) in
-    let all : c.push-2.new.self.items ≡ self.undos.items ++ undo ∷ [] = pushed_ok c.push-2.result _ c.reserve.new.self.items c.push-2.new.self.items undo c.unwrap-2.ensures c.push-2.ensures.items ∙ ap (λ us. us ++ undo ∷ []) c.in_ok-reserve.ensures.items in
-    changed_tree ns c.push.new.self.items self.undos.items c.push-2.new.self.items undo c.args.at.now _ change all
+    let all : c.push-2.new.self.items ≡ self.undos.items ++ undo c.args.place.number ∷ [] = pushed_ok c.push-2.result _ c.reserve.new.self.items c.push-2.new.self.items (undo c.new-node.result) c.unwrap-2.ensures c.push-2.ensures.items ∙ ap (λ us. us ++ undo c.new-node.result ∷ []) c.in_ok-reserve.ensures.items ∙ ap (λ i. self.undos.items ++ undo i ∷ []) c.new-node.ensures in
+    changed_tree ns c.push.new.self.items self.undos.items c.push-2.new.self.items (undo c.args.place.number) c.args.at.now _ change all
 
 pub returns-clause-named : goal.returns-clause-named
 returns-clause-named c =
@@ -62,6 +62,6 @@ returns-clause-named c =
     let ns = self.nodes.items in
     let within = place_inside ns c.args.at.now c.args.place.number self.good c.requires.named in
     let key = c.args.key.now in
-    let made = nodes_made ns c.reserve-2.new.self.items c.push.new.self.items c.args.place.number c.len-number.result key c.in_ok-copy.copy c.index_mut.result.now c.name_child.new.self c.in_ok-child.child c.in_ok-reserve-2.ensures.items c.index_mut.ensures.value within c.in_ok-copy.ensures (c.len-number.ensures ∙ self.nodes.ok.0) c.in_ok-name_child.ensures.ok c.in_ok-child.ensures (pushed_ok c.push.result _ _ c.push.new.self.items _ c.unwrap.ensures c.push.ensures.items) in
+    let made = nodes_made ns c.reserve-2.new.self.items c.push.new.self.items c.args.place.number c.new.result key c.in_ok-copy.copy c.index_mut.result.now c.name_child.new.self c.in_ok-child.child c.in_ok-reserve-2.ensures.items c.index_mut.ensures.value within c.in_ok-copy.ensures (c.new.ensures ∙ c.len-number.ensures ∙ self.nodes.ok.0) c.in_ok-name_child.ensures.ok c.in_ok-child.ensures (pushed_ok c.push.result _ _ c.push.new.self.items _ c.unwrap.ensures c.push.ensures.items) in
     let absent = content_absent ns c.args.at.now c.args.place.number key self.good c.requires.named within c.requires.context c.requires.absent in
     rw made (child_at ns c.args.place.number key self.good within absent c.args.at.now c.requires.named c.requires.context) ∙ ap (λ n. Some n) (sym (c.len-number.ensures ∙ self.nodes.ok.0))

@@ -11,7 +11,7 @@ change-requires c = record {
 pub make_below-requires : goal.make_below-requires
 make_below-requires c = record {
   there = c.requires.there;
-  named = c.find.ensures.walk;
+  named = rw c.number.ensures c.find.ensures.walk;
   absent = c.requires.absent;
   context = context_key c.args.key.now c.in_default.not-RegT;
 }

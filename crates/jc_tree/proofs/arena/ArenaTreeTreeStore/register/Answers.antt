@@ -9,4 +9,4 @@ use Rattle.jc_tree.proofs.arena.ArenaTreeTreeStore.register.Goals as goal
 pub returns : goal.returns
 returns c =
     let self = c.args.self.now in
-    read_at (λ d. find key_cmp c.args.key.now (registers d)) (λ (n : Flat). find key_cmp c.args.key.now n.registers) self.nodes.items c.args.at.now c.find.result c.index.result.now _ self.good c.find.ensures.walk c.find.ensures.within c.index.ensures (λ g n. refl) c.register.ensures
+    read_at (λ d. find key_cmp c.args.key.now (registers d)) (λ (n : Flat). find key_cmp c.args.key.now n.registers) self.nodes.items c.args.at.now c.find.result c.node.result.now _ self.good c.find.ensures.walk c.find.ensures.within c.node.ensures (λ g n. refl) c.register.ensures
