@@ -29,7 +29,7 @@ pub returns-in-Some-clause-former : goal.returns-in-Some-clause-former
 returns-in-Some-clause-former c =
     let found : find key_cmp c.args.key c.args.sets.now.entries ≡ Some c.in-Some.ids.now = sym (c.in-Some.ensures.value ∙ lookup_is c.args.key c.args.sets.now.entries) in
     let is : (b : Bool) → c.contains-was.result ≡ b → cond b F.Same (F.NoId c.args.key c.args.id) ≡ former_of_id c.args.key c.args.id (find key_cmp c.args.key c.args.sets.now.entries) =
-        λ b e. ap (λ d. cond d F.Same (F.NoId c.args.key c.args.id)) (sym e ∙ c.contains-was.ensures) ∙ ap (λ (o : Option (List Id)). former_of_id c.args.key c.args.id o) (sym found) in
+    λ b e. ap (λ d. cond d F.Same (F.NoId c.args.key c.args.id)) (sym e ∙ c.contains-was.ensures) ∙ ap (λ (o : Option (List Id)). former_of_id c.args.key c.args.id o) (sym found) in
     elim c.if-was.branch [
       | then-was+in-Name-1 w ↦ w.result-is ∙ is true w.if-was.true
       | then-was+in-Doc-1 w ↦ w.result-is ∙ is true w.if-was.true
