@@ -1,18 +1,22 @@
 -- What is read of an arena along a path.
-use Rattle.std.proofs.Common.{◌≡◌, ◌≢◌, ℕ, ◌+◌, ◌<◌, List, [], ◌∷◌, ◌++◌, length, drop, get_or, Bool, Option, Some, None, Bor, is_some, option_copied, false, refl, sym, ◌∙◌, ap}
+use Rattle.std.proofs.Common.{◌≡◌, ◌≢◌, ℕ, ◌+◌, ◌<◌, List, [], ◌∷◌, ◌++◌, length, drop, get_or, Bool, Option, Some, None, is_some, cond, true, false, refl, sym, ◌∙◌, ap}
 use Rattle.std.proofs.lemmas.List.{drop_more, get_or_default}
 use Rattle.jc_rules.specs.declared.key.Tagged.{Tagged}
 use Rattle.jc_rules.specs.declared.key.Tagged.TheVariants.{MapT, ListT, RegT}
+use Rattle.jc_rules.specs.declared.id.Id.{Id}
 use Rattle.jc_rules.specs.declared.key.Key.{Key}
 use Rattle.jc_rules.specs.Order.{key_cmp}
 use Rattle.jc_rules.specs.Entries.{find, keys_of}
 use Rattle.jc_rules.specs.Context.{Context, Register, content, keys}
+use Rattle.jc_rules.specs.Ids.{has_id}
 use Rattle.jc_rules.specs.Paths.{HasContext}
 use Rattle.jc_rules.specs.Places.{node_at, context_at}
 use Rattle.jc_rules.proofs.Places.{listed_children}
 use Rattle.jc_tree.specs.Tree.{least_after}
 use Rattle.jc_tree.specs.Arena.{Flat, blank, flat_at, filled_all, filled, content_of, child_of, is_in, go_on, walk}
 use Rattle.jc_tree.specs.ArenaUndo.{IsGood}
+use Rattle.jc_tree.specs.Undo.{was_there, former_of_id, former_of_value}
+use Rattle.jc_tree.specs.declared.node.Former.TheVariants as F
 use Rattle.jc_tree.proofs.Least.{least_of, least_after-append}
 use Rattle.jc_tree.proofs.Numbers.{absent, content_is}
 use Rattle.jc_tree.proofs.ArenaChanges.{read_here}
@@ -68,7 +72,15 @@ keys_filled g n = rw (listed_children (filled_all g n.maps), listed_children (fi
 pub least_by_kind : (m l : List (Key × ℕ)) (r : List (Key × Register)) (k : Option Key) → least_after k (keys_of m ++ keys_of l ++ keys_of r) ≡ least_of (least_of (least_after k (keys_of m)) (least_after k (keys_of l))) (least_after k (keys_of r))
 least_by_kind m l r k = least_after-append k (keys_of m ++ keys_of l) (keys_of r) ∙ ap (λ o. least_of o (least_after k (keys_of r))) (least_after-append k (keys_of m) (keys_of l))
 
--- whether something is lent
-pub lent_some : {X : Type 0} (b : Bool) (o : Option (Bor X)) (f : Option X) → b ≡ is_some o → option_copied o ≡ f → b ≡ is_some f
-lent_some b None f h g = h ∙ ap (λ x. is_some x) g
-lent_some b (Some x) f h g = h ∙ ap (λ y. is_some y) g
+-- whether there was a presence set or a register, by what takes it back that it was changed
+pub id_there : (k : Key) (i : Id) (o : Option (List Id)) → was_there (former_of_id k i o) ≡ is_some o
+id_there k i None = refl
+id_there k i (Some s) = go (has_id i s)
+  where
+    go : (b : Bool) → was_there (cond b F.Same (F.NoId k i)) ≡ true
+    go true = refl
+    go false = refl
+
+pub value_there : (k : Key) (i : Id) (o : Option Register) → was_there (former_of_value k i o) ≡ is_some o
+value_there k i None = refl
+value_there k i (Some r) = refl

@@ -1,5 +1,5 @@
 -- How changes are taken back.
-use Rattle.std.specs.Prelude.{List, [], ◌∷◌, Option, Some, None, cond}
+use Rattle.std.specs.Prelude.{List, [], ◌∷◌, Bool, true, false, Option, Some, None, cond}
 use Rattle.std.specs.Ordering.{eq_by_cmp}
 use Rattle.std.specs.declared.cmp.Ordering.{Ordering}
 use Rattle.jc_rules.specs.declared.id.Id.{Id}
@@ -52,6 +52,12 @@ former_of_id k i (Some s) = cond (has_id i s) F.Same (F.NoId k i)
 abbrev pub former_of_value : Key → Id → Option Register → Former
 former_of_value k i None = F.Register k None
 former_of_value k i (Some r) = F.Value k i (find id_cmp i r)
+
+-- whether there was a register or a presence set, by what takes it back that it was set
+abbrev pub was_there : Former → Bool
+was_there (F.Register k None) = false
+was_there (F.Presence k None) = false
+was_there _ = true
 
 -- what a change is going to set, as it is
 abbrev pub former_of : Change → Context → Former

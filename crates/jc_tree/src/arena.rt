@@ -6,7 +6,8 @@ ghost use Rattle.jc_rules.specs.Context.{empty};
 ghost use Rattle.jc_rules.specs.Places.{node_at, context_at};
 ghost use Rattle.jc_tree.specs.Tree.{IsChanged};
 ghost use Rattle.jc_tree.specs.Change.{IsFit, changed_by};
-ghost use Rattle.jc_tree.specs.Arena.{IsInside, content_of, flat_at, walk};
+ghost use Rattle.jc_tree.specs.Arena.{IsInside, content_of, flat_at, former_of_flat, walk};
+ghost use Rattle.jc_tree.specs.Undo.{was_there};
 ghost use Rattle.jc_tree.specs.ArenaUndo.{contents, fewer, back, tree_of, IsGood, AreGood, IsGood-single, AreGood-single};
 
 use crate::arena_node::{ArenaNode, NodeId, former_of_node};
@@ -102,8 +103,9 @@ impl ArenaTree {
     }
 
     /// Makes one change of a node to which a path leads, and which makes no node, and keeps what takes it
-    /// back. Paths lead to the same numbers then. After a refusal all is as it was.
-    fn change_node(&mut self, node: NodeId, change: Change) -> Result<(), AllocError>
+    /// back. Paths lead to the same numbers then. Says whether there was a register or a presence set, where
+    /// one was set. After a refusal all is as it was.
+    fn change_node(&mut self, node: NodeId, change: Change) -> Result<bool, AllocError>
         requires there { (at : List AnyTagged) × (walk self.old.nodes.items 0 at ≡ Some node) }
         requires within { node < length self.old.nodes.items }
         requires inside { IsInside change }
@@ -111,6 +113,8 @@ impl ArenaTree {
         ensures ok { OnOk result ((at : List AnyTagged) → walk self.old.nodes.items 0 at ≡ Some node → IsChanged at
             (changed_by change (context_at at (content_of self.old.nodes.items)))
             (tree_of self.old.nodes.items self.old.undos.items) (tree_of self.new.nodes.items self.new.undos.items)) }
+        ensures was { IfOk result (λ was.
+            was ≡ was_there (former_of_flat change (flat_at self.old.nodes.items node))) }
         ensures numbers { OnOk result ((at : List AnyTagged) →
             walk self.new.nodes.items 0 at ≡ walk self.old.nodes.items 0 at) }
         ensures err { OnErr result (tree_of self.new.nodes.items self.new.undos.items
@@ -119,8 +123,9 @@ impl ArenaTree {
         let number = node.number();
         self.undos.reserve(1)?;
         let former = self.nodes[number].change(change, self.alloc)?;
+        let was = former.was_there();
         self.undos.push(Undo { node, former }).unwrap();
-        Ok(())
+        Ok(was)
     }
 
     /// Makes one change at the place that makes no node. After a refusal all is as it was.
@@ -135,7 +140,8 @@ impl ArenaTree {
             ≡ tree_of self.old.nodes.items self.old.undos.items) }
     {
         let node = self.find(at);
-        self.change_node(node, change)
+        self.change_node(node, change)?;
+        Ok(())
     }
 
     /// Takes the latest change back.
@@ -220,9 +226,7 @@ impl TreeStore for ArenaTree {
         value: Value,
     ) -> Result<bool, AllocError> {
         let node = self.find(at);
-        let was = self.node(node).register(key).is_some();
-        self.change_node(node, Change::PutValue(key.copy()?, id, value))?;
-        Ok(was)
+        self.change_node(node, Change::PutValue(key.copy()?, id, value))
     }
 
     fn key_after(&self, at: &[Tagged], above: Option<&Key>) -> Option<&Key> {
@@ -276,9 +280,7 @@ impl TreeStore for ArenaTree {
         id: Id,
     ) -> Result<bool, AllocError> {
         let node = NodeId::new(place.number);
-        let was = self.node(node).presence(key).is_some();
-        self.change_node(node, Change::AddId(key.copy()?, id))?;
-        Ok(was)
+        self.change_node(node, Change::AddId(key.copy()?, id))
     }
 
     fn mark(&self) -> Mark {

@@ -9,7 +9,7 @@ ghost use Rattle.jc_tree.specs.Arena.{blank, new_flat, child_of, is_in, with_num
 
 use crate::ids::Ids;
 use crate::lists::Pairs;
-use crate::node::{Change, Former, former_of_id, lesser};
+use crate::node::{Change, Former, lesser};
 use crate::tables::{
     add_in, key_above_in, put_in, put_value_in, restore_in, restore_value_in, take_out_in, value_in,
 };
@@ -206,11 +206,7 @@ impl ArenaNode {
                 Ok(Former::Register(key.copy()?, put_in(&mut self.registers, key, pairs)?))
             }
             Change::Child(Tagged::MapT(_) | Tagged::ListT(_)) => unreachable!(),
-            Change::AddId(key, id) => {
-                let former = former_of_id(value_in(&self.presences, &key), &key, id)?;
-                add_in(&mut self.presences, key, id, alloc)?;
-                Ok(former)
-            }
+            Change::AddId(key, id) => add_in(&mut self.presences, key, id, alloc),
             Change::Presence(key, ids) => {
                 Ok(Former::Presence(key.copy()?, put_in(&mut self.presences, key, ids)?))
             }

@@ -9,7 +9,7 @@ ghost use Rattle.jc_rules.specs.Table.{least};
 ghost use Rattle.jc_tree.specs.Tree.{least_after};
 ghost use Rattle.jc_tree.specs.Sorted.{AreSorted};
 ghost use Rattle.jc_tree.specs.Change.{changed_by, changed_at};
-ghost use Rattle.jc_tree.specs.Undo.{former_of, former_of_id, restored_by, restored_at};
+ghost use Rattle.jc_tree.specs.Undo.{was_there, former_of, former_of_id, restored_by, restored_at};
 
 use crate::entries::{key_above, place_of, put_value, restore_value, value_of};
 use crate::ids::{Ids, add_to, take_from};
@@ -77,6 +77,15 @@ pub enum Former {
     Link(Key, Option<Next>),
     NoId(Key, Id),
     Same,
+}
+
+impl Former {
+    /// Whether there was a register or a presence set, where this takes it back that it was set.
+    pub fn was_there(&self) -> bool
+        ensures { result ≡ was_there self.now }
+    {
+        !matches!(self, Former::Register(_, None) | Former::Presence(_, None))
+    }
 }
 
 impl Node {

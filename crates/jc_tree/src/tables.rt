@@ -6,7 +6,7 @@ ghost use Rattle.jc_rules.specs.Entries.{find, put, keys_of};
 ghost use Rattle.jc_rules.specs.Ids.{with_id};
 ghost use Rattle.jc_tree.specs.Tree.{or_none, least_after};
 ghost use Rattle.jc_tree.specs.Sorted.{AreSorted};
-ghost use Rattle.jc_tree.specs.Undo.{restored, restored_value, former_of_value, out_of_set};
+ghost use Rattle.jc_tree.specs.Undo.{restored, restored_value, former_of_id, former_of_value, out_of_set};
 
 use crate::ids::Ids;
 use crate::lists::Pairs;
@@ -73,27 +73,35 @@ pub fn key_above_in<'a, X>(table: &'a BTreeMap<Key, X>, after: Option<&Key>) -> 
     Some(key)
 }
 
-/// Adds the identifier to the key's set, a new one where there is none. After a refusal the sets are
-/// as they were.
+/// Adds the identifier to the key's set, a new one where there is none, and gives what takes it
+/// back. After a refusal the sets are as they were.
 pub fn add_in(
     sets: &mut BTreeMap<Key, Ids>,
     key: Key,
     id: Id,
     alloc: Global,
-) -> Result<(), AllocError>
+) -> Result<Former, AllocError>
     requires { AreSorted sets.old.entries }
     ensures ok { OnOk result (sets.new.entries
         ≡ put key_cmp key (with_id id (or_none (find key_cmp key sets.old.entries))) sets.old.entries) }
+    ensures former { IfOk result (λ former. former ≡ former_of_id key id (find key_cmp key sets.old.entries)) }
     ensures err { OnErr result (sets.new.entries ≡ sets.old.entries) }
     ensures sorted { AreSorted sets.new.entries }
 {
     if let Some(ids) = sets.get_mut(&key) {
-        return ids.insert(id);
+        let was = ids.contains(id);
+        ids.insert(id)?;
+        return Ok(if was {
+            Former::Same
+        } else {
+            Former::NoId(key, id)
+        });
     }
     let mut ids = Vec::new(alloc);
     ids.push(id)?;
+    let former = Former::Presence(key.copy()?, None);
     put_in(sets, key, Ids::new(ids))?;
-    Ok(())
+    Ok(former)
 }
 
 /// Takes the identifier out of the key's set, where there is one. It takes no memory.

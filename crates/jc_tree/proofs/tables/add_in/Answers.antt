@@ -1,25 +1,40 @@
-use Rattle.std.proofs.Common.{◌≡◌, Some, None, ◌++◌, ◌∷◌, [], sym, ◌∙◌, ap}
+use Rattle.std.proofs.Common.{◌≡◌, Bool, true, false, cond, Some, None, Option, List, ◌++◌, ◌∷◌, [], sym, ◌∙◌, ap}
+use Rattle.jc_rules.specs.declared.id.Id.{Id}
+use Rattle.jc_rules.specs.declared.key.Key.{Key}
 use Rattle.jc_rules.specs.Order.{key_cmp}
 use Rattle.jc_rules.specs.Entries.{find, put}
 use Rattle.jc_rules.specs.Ids.{with_id}
 use Rattle.jc_rules.proofs.Order.{keys_total, exact_keys}
 use Rattle.jc_rules.proofs.Entries.{put-same}
 use Rattle.jc_tree.specs.Tree.{or_none}
-use Rattle.jc_tree.proofs.Nodes.{on_ok}
-use Rattle.jc_tree.proofs.Balanced.{lookup_is, write_put, on_err}
+use Rattle.jc_tree.specs.Undo.{former_of_id}
+use Rattle.jc_tree.specs.declared.node.Former.TheVariants as F
+use Rattle.jc_tree.proofs.Balanced.{lookup_is, write_put, as_err}
 use Rattle.jc_tree.proofs.tables.add_in.Goals as goal
+use Rattle.jc_tree.proofs.tables.add_in.Goals.{then-was+in-Name-1, then-was+in-Doc-1, else-was}
+
+pub returns-in_err-insert-clause-err : goal.returns-in_err-insert-clause-err
+returns-in_err-insert-clause-err c =
+    let es = c.args.sets.now.entries in
+    let found : find key_cmp c.args.key es ≡ Some c.in-Some.ids.now = sym (c.in-Some.ensures.value ∙ lookup_is c.args.key es) in
+    as_err _ ((c.get_mut.follows.holds c.insert.new.self).0 ∙ write_put c.args.key c.insert.new.self c.in-Some.ids.now es found ∙ ap (λ v. put key_cmp c.args.key v es) c.in_err-insert.ensures.err ∙ put-same keys_total exact_keys c.args.key c.in-Some.ids.now es found)
 
 pub returns-in-Some-clause-ok : goal.returns-in-Some-clause-ok
 returns-in-Some-clause-ok c =
     let es = c.args.sets.now.entries in
     let found : find key_cmp c.args.key es ≡ Some c.in-Some.ids.now = sym (c.in-Some.ensures.value ∙ lookup_is c.args.key es) in
-    on_ok _ (λ h. (c.get_mut.follows.holds c.insert.new.self).0 ∙ write_put c.args.key c.insert.new.self c.in-Some.ids.now es found ∙ ap (λ v. put key_cmp c.args.key v es) (h ∙ ap (λ o. with_id c.args.id (or_none o)) (sym found))) c.insert.ensures.ok
+    (c.get_mut.follows.holds c.insert.new.self).0 ∙ write_put c.args.key c.insert.new.self c.in-Some.ids.now es found ∙ ap (λ v. put key_cmp c.args.key v es) (c.in_ok-insert.ensures.ok ∙ ap (λ o. with_id c.args.id (or_none o)) (sym found))
 
-pub returns-in-Some-clause-err : goal.returns-in-Some-clause-err
-returns-in-Some-clause-err c =
-    let es = c.args.sets.now.entries in
-    let found : find key_cmp c.args.key es ≡ Some c.in-Some.ids.now = sym (c.in-Some.ensures.value ∙ lookup_is c.args.key es) in
-    on_err _ (λ h. (c.get_mut.follows.holds c.insert.new.self).0 ∙ write_put c.args.key c.insert.new.self c.in-Some.ids.now es found ∙ ap (λ v. put key_cmp c.args.key v es) h ∙ put-same keys_total exact_keys c.args.key c.in-Some.ids.now es found) c.insert.ensures.err
+pub returns-in-Some-clause-former : goal.returns-in-Some-clause-former
+returns-in-Some-clause-former c =
+    let found : find key_cmp c.args.key c.args.sets.now.entries ≡ Some c.in-Some.ids.now = sym (c.in-Some.ensures.value ∙ lookup_is c.args.key c.args.sets.now.entries) in
+    let is : (b : Bool) → c.contains-was.result ≡ b → cond b F.Same (F.NoId c.args.key c.args.id) ≡ former_of_id c.args.key c.args.id (find key_cmp c.args.key c.args.sets.now.entries) =
+    λ b e. ap (λ d. cond d F.Same (F.NoId c.args.key c.args.id)) (sym e ∙ c.contains-was.ensures) ∙ ap (λ (o : Option (List Id)). former_of_id c.args.key c.args.id o) (sym found) in
+    elim c.if-was.branch [
+      | then-was+in-Name-1 w ↦ w.result-is ∙ is true w.if-was.true
+      | then-was+in-Doc-1 w ↦ w.result-is ∙ is true w.if-was.true
+      | else-was w ↦ w.result-is ∙ is false w.if-was.false
+    ]
 
 pub returns-clause-ok : goal.returns-clause-ok
 returns-clause-ok c =
@@ -27,3 +42,8 @@ returns-clause-ok c =
     let absent : find key_cmp c.args.key es ≡ None = sym (c.in_default.ensures.value ∙ lookup_is c.args.key es) in
     let ids : c.new.result ≡ with_id c.args.id (or_none (find key_cmp c.args.key es)) = c.new.ensures ∙ c.in_ok-push.ensures.items ∙ ap (λ l. l ++ c.args.id ∷ []) c.new-ids.ensures.items ∙ ap (λ o. with_id c.args.id (or_none o)) (sym absent) in
     c.in_ok-put_in.ensures.ok ∙ (λ j. put key_cmp c.args.key (ids j) (c.get_mut.follows.holds-at-none j).entries)
+
+pub returns-clause-former : goal.returns-clause-former
+returns-clause-former c =
+    let absent : find key_cmp c.args.key c.args.sets.now.entries ≡ None = sym (c.in_default.ensures.value ∙ lookup_is c.args.key c.args.sets.now.entries) in
+    ap (λ (k : Key). F.Presence k None) c.in_ok-copy.ensures ∙ ap (λ (o : Option (List Id)). former_of_id c.args.key c.args.id o) (sym absent)
