@@ -6,7 +6,8 @@ use std::process::Abort;
 use std::sync::Wait;
 use std::thread::Threads;
 
-const TWO_KEYS: &str = "jsoncrdt 1 replica a { doc.get(\"a\") := 1; doc.get(\"b\") := 2 } schedule { a.done }";
+const TWO_KEYS: &str =
+    "jsoncrdt 1 replica a { doc.get(\"a\") := 1; doc.get(\"b\") := 2 } schedule { a.done }";
 
 /// The second replica is stuck at once, the first one isn't.
 const ONE_STUCK: &str =
