@@ -158,7 +158,8 @@ fn names_at<S: TreeStore>(alloc: Global, store: &S, at: &[Tagged]) -> Result<Nam
     requires { HasPlace at.now (S.tree store.now) }
     ensures { IfOk result (λ names. names ≡ names_in (here at.now (S.tree store.now))) }
 {
-    let mut names = Vec::new(alloc);
+    // Each name has such a set, so the list doesn't grow.
+    let mut names = Vec::with_capacity(alloc, store.count_present(at))?;
     let mut last = None;
     while let Some(key) = store.presence_after(at, last) {
         push_name(store, at, key, &mut names)?;

@@ -20,3 +20,4 @@ pub mod ArenaSteps
 pub mod ArenaHistory
 pub mod ArenaMaking
 pub mod Lasting
+pub mod Counting

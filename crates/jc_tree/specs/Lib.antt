@@ -10,3 +10,4 @@ pub mod Laws
 pub mod CanGoBack
 pub mod Arena
 pub mod ArenaUndo
+pub mod Counted

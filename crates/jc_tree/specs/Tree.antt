@@ -1,6 +1,7 @@
 -- What a store contains.
-use Rattle.std.specs.Prelude.{◌≡◌, ◌≢◌, List, [], ◌∷◌, ◌++◌, Option, Some, None, Bool, true, filter}
+use Rattle.std.specs.Prelude.{◌≡◌, ◌≢◌, ℕ, List, [], ◌∷◌, ◌++◌, Option, Some, None, Bool, true, false, filter, count_by}
 use Rattle.std.specs.Ordering.{is_lt}
+use Rattle.jc_rules.specs.declared.id.Id.{Id}
 use Rattle.jc_rules.specs.declared.key.Key.{Key}
 use Rattle.jc_rules.specs.declared.key.Tagged.{Tagged}
 use Rattle.jc_rules.specs.Order.{key_cmp}
@@ -49,3 +50,12 @@ is_after (Some j) k = is_lt (key_cmp j k)
 -- the least of the keys that come after the given one
 abbrev pub least_after : Option Key → List Key → Option Key
 least_after j ks = least (filter (λ k. is_after j k) ks)
+
+-- whether a presence set has an identifier
+abbrev pub has_ids : List Id → Bool
+has_ids [] = false
+has_ids (i ∷ is) = true
+
+-- how many of these keys have a presence set with an identifier
+abbrev pub count_present : List (Key × List Id) → ℕ
+count_present es = count_by (λ e. has_ids e.1) es

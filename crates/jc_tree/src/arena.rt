@@ -237,6 +237,10 @@ impl TreeStore for ArenaTree {
         self.node(self.find(at)).presence_after(above)
     }
 
+    fn count_present(&self, at: &[Tagged]) -> usize {
+        self.node(self.find(at)).count_present()
+    }
+
     fn link_after(&self, at: &[Tagged], above: Option<&Key>) -> Option<&Key> {
         self.node(self.find(at)).link_after(above)
     }

@@ -4,15 +4,13 @@ ghost use Rattle.std.specs.Prelude.{◌≡◌, ℕ, ◌++◌, None, is_some, opt
 ghost use Rattle.jc_rules.specs.Order.{key_cmp};
 ghost use Rattle.jc_rules.specs.Entries.{find, keys_of};
 ghost use Rattle.jc_rules.specs.Paths.{HasContext};
-ghost use Rattle.jc_tree.specs.Tree.{least_after};
+ghost use Rattle.jc_tree.specs.Tree.{least_after, count_present};
 ghost use Rattle.jc_tree.specs.Arena.{blank, new_flat, child_of, is_in, with_number, IsInside, changed_flat, former_of_node, former_of_flat, restored_flat};
 
-use crate::ids::Ids;
 use crate::lists::Pairs;
 use crate::node::{Change, Former, lesser};
-use crate::tables::{
-    add_in, key_above_in, put_in, put_value_in, restore_in, restore_value_in, take_out_in, value_in,
-};
+use crate::presences::Presences;
+use crate::tables::{key_above_in, put_in, put_value_in, restore_in, restore_value_in, value_in};
 use jc_rules::{Id, Key, Next, Tagged, Value};
 use std::alloc::{AllocError, Global};
 use std::collections::BTreeMap;
@@ -53,7 +51,7 @@ pub struct ArenaNode {
     maps: BTreeMap<Key, NodeId>,
     lists: BTreeMap<Key, NodeId>,
     registers: BTreeMap<Key, Pairs>,
-    presences: BTreeMap<Key, Ids>,
+    presences: Presences,
     links: BTreeMap<Key, Next>,
 }
 
@@ -62,9 +60,9 @@ impl Model for ArenaNode {
 
     ghost Value = { Flat };
 
-    ghost view = { λ a. record { maps = a.maps.entries; lists = a.lists.entries; registers = a.registers.entries; presences = a.presences.entries; links = a.links.entries } };
+    ghost view = { λ a. record { maps = a.maps.entries; lists = a.lists.entries; registers = a.registers.entries; presences = a.presences; links = a.links.entries } };
 
-    ghost invariant = { λ a. IsSortedFlat (record { maps = a.maps.entries; lists = a.lists.entries; registers = a.registers.entries; presences = a.presences.entries; links = a.links.entries }) };
+    ghost invariant = { λ a. IsSortedFlat (record { maps = a.maps.entries; lists = a.lists.entries; registers = a.registers.entries; presences = a.presences; links = a.links.entries }) };
 }
 
 /// What takes it back that a node is made under a tagged key.
@@ -88,7 +86,7 @@ impl ArenaNode {
             maps: BTreeMap::new(alloc),
             lists: BTreeMap::new(alloc),
             registers: BTreeMap::new(alloc),
-            presences: BTreeMap::new(alloc),
+            presences: Presences::new(alloc),
             links: BTreeMap::new(alloc),
         }
     }
@@ -131,7 +129,7 @@ impl ArenaNode {
     pub fn presence(&self, key: &Key) -> Option<&[Id]>
         ensures { option_copied result ≡ find key_cmp key.now self.now.presences }
     {
-        Some(value_in(&self.presences, key)?.as_slice())
+        Some(self.presences.get(key)?.as_slice())
     }
 
     /// What follows the key.
@@ -163,7 +161,14 @@ impl ArenaNode {
     pub fn presence_after(&self, after: Option<&Key>) -> Option<&Key>
         ensures { option_copied result ≡ least_after (option_copied after.entry) (keys_of self.now.presences) }
     {
-        key_above_in(&self.presences, after)
+        self.presences.key_above(after)
+    }
+
+    /// How many keys have a presence set with an identifier.
+    pub fn count_present(&self) -> usize
+        ensures { result ≡ count_present self.now.presences }
+    {
+        self.presences.count_present()
     }
 
     /// The least key that something follows, above the given one.
@@ -206,9 +211,9 @@ impl ArenaNode {
                 Ok(Former::Register(key.copy()?, put_in(&mut self.registers, key, pairs)?))
             }
             Change::Child(Tagged::MapT(_) | Tagged::ListT(_)) => unreachable!(),
-            Change::AddId(key, id) => add_in(&mut self.presences, key, id, alloc),
+            Change::AddId(key, id) => self.presences.add(key, id, alloc),
             Change::Presence(key, ids) => {
-                Ok(Former::Presence(key.copy()?, put_in(&mut self.presences, key, ids)?))
+                Ok(Former::Presence(key.copy()?, self.presences.put(key, ids)?))
             }
             Change::Link(key, next) => {
                 Ok(Former::Link(key.copy()?, put_in(&mut self.links, key, next)?))
@@ -227,13 +232,13 @@ impl ArenaNode {
         ensures { self.new ≡ restored_flat former self.old }
     {
         match former {
-            Former::Map(key) => restore_in(&mut self.maps, &key, None),
-            Former::List(key) => restore_in(&mut self.lists, &key, None),
-            Former::Register(key, pairs) => restore_in(&mut self.registers, &key, pairs),
+            Former::Map(key) => drop(restore_in(&mut self.maps, &key, None)),
+            Former::List(key) => drop(restore_in(&mut self.lists, &key, None)),
+            Former::Register(key, pairs) => drop(restore_in(&mut self.registers, &key, pairs)),
             Former::Value(key, id, value) => restore_value_in(&mut self.registers, &key, id, value),
-            Former::Presence(key, ids) => restore_in(&mut self.presences, &key, ids),
-            Former::Link(key, next) => restore_in(&mut self.links, &key, next),
-            Former::NoId(key, id) => take_out_in(&mut self.presences, &key, id),
+            Former::Presence(key, ids) => self.presences.restore(&key, ids),
+            Former::Link(key, next) => drop(restore_in(&mut self.links, &key, next)),
+            Former::NoId(key, id) => self.presences.take_out(&key, id),
             Former::Same => {}
         }
     }

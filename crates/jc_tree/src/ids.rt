@@ -1,10 +1,10 @@
 //! Presence sets that are changed in place.
 
-ghost use Rattle.std.specs.Prelude.{◌≡◌, OnOk, OnErr};
+ghost use Rattle.std.specs.Prelude.{◌≡◌, not, OnOk, OnErr};
 ghost use Rattle.jc_rules.specs.Ids.{AreRising, has_id, with_id};
 ghost use Rattle.jc_rules.specs.Order.{key_cmp};
 ghost use Rattle.jc_rules.specs.Entries.{find, put};
-ghost use Rattle.jc_tree.specs.Tree.{or_none};
+ghost use Rattle.jc_tree.specs.Tree.{or_none, has_ids, count_present};
 ghost use Rattle.jc_tree.specs.Sorted.{AreSorted};
 ghost use Rattle.jc_tree.specs.Undo.{taken_out, out_of_set};
 
@@ -45,6 +45,13 @@ impl Ids {
         self.ids.as_slice()
     }
 
+    /// Whether the set has no identifier.
+    pub fn is_empty(&self) -> bool
+        ensures { result ≡ not (has_ids self.now) }
+    {
+        self.ids.is_empty()
+    }
+
     /// Whether the identifier is in the set.
     pub fn contains(&self, id: Id) -> bool
         ensures { result ≡ has_id id self.now }
@@ -68,6 +75,19 @@ impl Ids {
             self.ids.remove(place);
         }
     }
+}
+
+/// How many of the keys have a set with an identifier.
+pub fn count_present(sets: &[(Key, Ids)]) -> usize
+    ensures { result ≡ count_present sets.now }
+{
+    let mut count = 0;
+    for (_, ids) in sets {
+        if !ids.is_empty() {
+            count += 1;
+        }
+    }
+    count
 }
 
 /// Adds the identifier to the key's set, a new one where there is none. After a refusal the sets are

@@ -6,13 +6,13 @@ ghost use Rattle.jc_rules.specs.Entries.{find, put, keys_of};
 ghost use Rattle.jc_rules.specs.Context.{empty, empty_list, content, presence, presences, links, next as next_of, registers, keys};
 ghost use Rattle.jc_rules.specs.Places.{node_in, node_at, context_at};
 ghost use Rattle.jc_rules.specs.Table.{least};
-ghost use Rattle.jc_tree.specs.Tree.{least_after};
+ghost use Rattle.jc_tree.specs.Tree.{least_after, count_present};
 ghost use Rattle.jc_tree.specs.Sorted.{AreSorted};
 ghost use Rattle.jc_tree.specs.Change.{changed_by, changed_at};
 ghost use Rattle.jc_tree.specs.Undo.{was_there, former_of, former_of_id, restored_by, restored_at};
 
 use crate::entries::{key_above, place_of, put_value, restore_value, value_of};
-use crate::ids::{Ids, add_to, take_from};
+use crate::ids::{Ids, add_to, count_present, take_from};
 use crate::lists::{Pairs, put_to, restore_from};
 use jc_rules::{Id, Key, Next, Tagged, Value, compare_keys};
 use std::alloc::{AllocError, Global};
@@ -184,6 +184,13 @@ impl Node {
         ensures { option_copied result ≡ least_after (option_copied after.entry) (keys_of (presences self.now)) }
     {
         key_above(self.presences.as_slice(), after)
+    }
+
+    /// How many keys have a presence set with an identifier.
+    pub fn count_present(&self) -> usize
+        ensures { result ≡ count_present (presences self.now) }
+    {
+        count_present(self.presences.as_slice())
     }
 
     /// The least key that something follows, above the given one.

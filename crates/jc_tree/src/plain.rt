@@ -149,6 +149,10 @@ impl TreeStore for PlainTree {
         self.root.node_at(at).presence_after(above)
     }
 
+    fn count_present(&self, at: &[Tagged]) -> usize {
+        self.root.node_at(at).count_present()
+    }
+
     fn link_after(&self, at: &[Tagged], above: Option<&Key>) -> Option<&Key> {
         self.root.node_at(at).link_after(above)
     }

@@ -11,7 +11,7 @@ ghost use Rattle.jc_rules.specs.Paths.{HasContext};
 ghost use Rattle.jc_rules.specs.Places.{node_in};
 ghost use Rattle.jc_rules.specs.Shape.{IsKept, IsKeptRegister};
 ghost use Rattle.jc_tree.specs.declared.store.Place.{Place as AnyPlace};
-ghost use Rattle.jc_tree.specs.Tree.{Tree, history, HasPlace, here, or_none, IsChanged, least_after};
+ghost use Rattle.jc_tree.specs.Tree.{Tree, history, HasPlace, here, or_none, IsChanged, least_after, count_present};
 
 use jc_rules::{Id, Key, Next, Tagged, Value};
 use std::alloc::AllocError;
@@ -140,6 +140,11 @@ pub trait TreeStore {
         requires { HasPlace at.now (tree self.now) }
         ensures { option_copied result
             ≡ least_after (option_copied above.entry) (keys_of (presences (here at.now (tree self.now)))) };
+
+    /// How many keys have a presence set with an identifier.
+    fn count_present(&self, at: &[Tagged]) -> usize
+        requires { HasPlace at.now (tree self.now) }
+        ensures { result ≡ count_present (presences (here at.now (tree self.now))) };
 
     /// The least key that something follows in a list, above the given one.
     fn link_after(&self, at: &[Tagged], above: Option<&Key>) -> Option<&Key>

@@ -4,7 +4,8 @@ ghost use Rattle.std.specs.Prelude.{◌≡◌, IfOk, OnOk, OnErr, option_copied}
 ghost use Rattle.jc_rules.specs.Order.{id_cmp, key_cmp};
 ghost use Rattle.jc_rules.specs.Entries.{find, put, keys_of};
 ghost use Rattle.jc_rules.specs.Ids.{with_id};
-ghost use Rattle.jc_tree.specs.Tree.{or_none, least_after};
+ghost use Rattle.jc_tree.specs.Tree.{or_none, least_after, has_ids};
+ghost use Rattle.jc_tree.specs.Counted.{is_last};
 ghost use Rattle.jc_tree.specs.Sorted.{AreSorted};
 ghost use Rattle.jc_tree.specs.Undo.{restored, restored_value, former_of_id, former_of_value, out_of_set};
 
@@ -14,6 +15,7 @@ use crate::node::Former;
 use jc_rules::{Id, Key, Value};
 use std::alloc::{AllocError, Global};
 use std::collections::BTreeMap;
+use std::mem;
 use std::ops::Bound;
 
 /// The value under the key.
@@ -40,23 +42,19 @@ pub fn put_in<X: Drop>(
     Ok(former)
 }
 
-/// Gives the key the value that it had, or takes its entry away where it had none. Takes no memory:
-/// a key without an entry gets none.
-pub fn restore_in<X: Drop>(table: &mut BTreeMap<Key, X>, key: &Key, former: Option<X>)
+/// Gives the key the value that it had, or takes its entry away where it had none, and gives the one
+/// that stood there. Takes no memory: a key without an entry gets none.
+pub fn restore_in<X: Drop>(table: &mut BTreeMap<Key, X>, key: &Key, former: Option<X>) -> Option<X>
     requires { AreSorted table.old.entries }
     ensures ok { table.new.entries ≡ restored key_cmp key.now former table.old.entries }
+    ensures stood { result ≡ find key_cmp key.now table.old.entries }
     ensures sorted { AreSorted table.new.entries }
 {
-    match former {
-        Some(value) => {
-            if let Some(slot) = table.get_mut(key) {
-                *slot = value;
-            }
-        }
-        None => {
-            table.remove(key);
-        }
-    }
+    let Some(value) = former else {
+        return table.remove(key);
+    };
+    let slot = table.get_mut(key)?;
+    Some(mem::replace(slot, value))
 }
 
 /// The least key above the given one, or the least of all where none is given.
@@ -73,46 +71,54 @@ pub fn key_above_in<'a, X>(table: &'a BTreeMap<Key, X>, after: Option<&Key>) -> 
     Some(key)
 }
 
-/// Adds the identifier to the key's set, a new one where there is none, and gives what takes it
-/// back. After a refusal the sets are as they were.
+/// Adds the identifier to the key's set, a new one where there is none. Gives what takes it back, and
+/// says whether the set had an identifier before. After a refusal the sets are as they were.
 pub fn add_in(
     sets: &mut BTreeMap<Key, Ids>,
     key: Key,
     id: Id,
     alloc: Global,
-) -> Result<Former, AllocError>
+) -> Result<(Former, bool), AllocError>
     requires { AreSorted sets.old.entries }
     ensures ok { OnOk result (sets.new.entries
         ≡ put key_cmp key (with_id id (or_none (find key_cmp key sets.old.entries))) sets.old.entries) }
-    ensures former { IfOk result (λ former. former ≡ former_of_id key id (find key_cmp key sets.old.entries)) }
+    ensures former { IfOk result (λ added. added.0 ≡ former_of_id key id (find key_cmp key sets.old.entries)) }
+    ensures was { IfOk result (λ added. added.1 ≡ has_ids (or_none (find key_cmp key sets.old.entries))) }
     ensures err { OnErr result (sets.new.entries ≡ sets.old.entries) }
     ensures sorted { AreSorted sets.new.entries }
 {
     if let Some(ids) = sets.get_mut(&key) {
-        let was = ids.contains(id);
+        let was = !ids.is_empty();
+        let had = ids.contains(id);
         ids.insert(id)?;
-        return Ok(if was {
+        let former = if had {
             Former::Same
         } else {
             Former::NoId(key, id)
-        });
+        };
+        return Ok((former, was));
     }
     let mut ids = Vec::new(alloc);
     ids.push(id)?;
     let former = Former::Presence(key.copy()?, None);
     put_in(sets, key, Ids::new(ids))?;
-    Ok(former)
+    Ok((former, false))
 }
 
-/// Takes the identifier out of the key's set, where there is one. It takes no memory.
-pub fn take_out_in(sets: &mut BTreeMap<Key, Ids>, key: &Key, id: Id)
+/// Takes the identifier out of the key's set, where there is one. Says whether it was the last one of
+/// the set. It takes no memory.
+pub fn take_out_in(sets: &mut BTreeMap<Key, Ids>, key: &Key, id: Id) -> bool
     requires { AreSorted sets.old.entries }
     ensures ok { sets.new.entries ≡ out_of_set key.now id (find key_cmp key.now sets.old.entries) sets.old.entries }
+    ensures last { result ≡ is_last id (or_none (find key_cmp key.now sets.old.entries)) }
     ensures sorted { AreSorted sets.new.entries }
 {
-    if let Some(ids) = sets.get_mut(key) {
-        ids.take_out(id);
-    }
+    let Some(ids) = sets.get_mut(key) else {
+        return false;
+    };
+    let was = !ids.is_empty();
+    ids.take_out(id);
+    was && ids.is_empty()
 }
 
 /// Puts the value under the identifier into the key's register, a new one where there is none, and

@@ -12,7 +12,7 @@ use std::test::Fail;
 
 const CHANGES: u64 = 20;
 
-const TURNS: u64 = 24;
+const TURNS: u64 = 25;
 
 fn children<S: TreeStore>(rt: &impl Abort, tree: &mut Placed<S>) -> Result<(), AllocError> {
     tree.expect_child(rt, &Tagged::MapT(Key::Doc), false);
@@ -127,6 +127,29 @@ fn link_keys<S: TreeStore>(rt: &impl Abort, tree: &mut Placed<S>) -> Result<(), 
     tree.put_next(rt, &keys[1], Next::Tail)?;
     tree.put_next(rt, &keys[0], Next::Elem(FIRST))?;
     tree.expect_keys(rt, Kind::Link, &keys);
+    Ok(())
+}
+
+/// Sets that get their first identifier and lose their last one, forwards and back.
+fn present_keys<S: TreeStore>(rt: &impl Abort, tree: &mut Placed<S>) -> Result<(), AllocError> {
+    tree.expect_present(rt, 0);
+    tree.put_ids(rt, &Key::Head, &[])?;
+    tree.expect_present(rt, 0);
+    let none = tree.store.mark();
+    tree.add_id(rt, &Key::Head, FIRST, true)?;
+    tree.add_id(rt, &Key::Head, SECOND, true)?;
+    tree.expect_present(rt, 1);
+    tree.add_id(rt, &Key::Doc, FIRST, false)?;
+    tree.expect_present(rt, 2);
+    let two = tree.store.mark();
+    tree.put_ids(rt, &Key::Head, &[])?;
+    tree.expect_present(rt, 1);
+    tree.put_ids(rt, &Key::Doc, [SECOND].as_slice())?;
+    tree.expect_present(rt, 1);
+    tree.go_back(rt, two);
+    tree.expect_present(rt, 2);
+    tree.go_back(rt, none);
+    tree.expect_present(rt, 0);
     Ok(())
 }
 
@@ -263,6 +286,7 @@ fn call<S: TreeStore>(rt: &impl Abort, tree: &mut Placed<S>, turn: u64) -> Resul
         20 => names_below(rt, tree),
         21 => ids_named(rt, tree),
         22 => refused_below(rt, tree),
+        23 => present_keys(rt, tree),
         _ => refused_id_named(rt, tree),
     }
 }

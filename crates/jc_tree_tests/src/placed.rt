@@ -149,6 +149,11 @@ impl<S: TreeStore> Placed<S> {
         assert!(rt; is_place(&self.store, at) && self.store.presence(at, key) == want);
     }
 
+    pub fn expect_present(&self, rt: &impl Abort, want: usize) {
+        let at = self.at.as_slice();
+        assert!(rt; is_place(&self.store, at) && self.store.count_present(at) == want);
+    }
+
     pub fn expect_next(&self, rt: &impl Abort, key: &Key, want: Option<Next>) {
         let at = self.at.as_slice();
         assert!(rt; is_place(&self.store, at) && self.store.next(at, key) == want);

@@ -159,10 +159,19 @@ impl Twins {
         Ok(())
     }
 
+    /// Expects as many keys with identifiers at the place.
+    fn expect_same_count(&self, rt: &impl Abort) {
+        let at = self.plain.at.as_slice();
+        let (plain, arena) = (&self.plain.store, &self.arena.store);
+        assert!(rt; is_place(plain, at) && is_place(arena, at));
+        assert!(rt; plain.count_present(at) == arena.count_present(at));
+    }
+
     /// Expects the same at the place.
     fn expect_same(&self, rt: &impl Abort) -> Result<(), AllocError> {
         assert!(rt; self.plain.at.as_slice() == self.arena.at.as_slice());
         assert!(rt; self.plain.store.mark() == self.arena.store.mark());
+        self.expect_same_count(rt);
         for number in 0..KEYS {
             let key = key_of(self.plain.alloc, number)?;
             self.expect_same_at(rt, &key);

@@ -5,7 +5,7 @@ use Rattle.jc_cursor.proofs.Naming.{IsNext, next_is, rise_at, named_begins, name
 use Rattle.jc_cursor.proofs.select.names_at.Goals as goal
 
 pub loop-key-init : goal.loop-key-init
-loop-key-init g c = named_begins _ _ c.new-names.ensures.items
+loop-key-init g c = named_begins _ _ c.in_ok-names.ensures.items
 
 pub loop-key-smaller : goal.loop-key-smaller
 loop-key-smaller g c =

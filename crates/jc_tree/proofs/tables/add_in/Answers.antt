@@ -1,4 +1,4 @@
-use Rattle.std.proofs.Common.{◌≡◌, Bool, true, false, cond, Some, None, Option, List, ◌++◌, ◌∷◌, [], sym, ◌∙◌, ap}
+use Rattle.std.proofs.Common.{◌≡◌, Bool, true, false, not, cond, Some, None, Option, List, ◌++◌, ◌∷◌, [], sym, ◌∙◌, ap}
 use Rattle.jc_rules.specs.declared.id.Id.{Id}
 use Rattle.jc_rules.specs.declared.key.Key.{Key}
 use Rattle.jc_rules.specs.Order.{key_cmp}
@@ -6,12 +6,13 @@ use Rattle.jc_rules.specs.Entries.{find, put}
 use Rattle.jc_rules.specs.Ids.{with_id}
 use Rattle.jc_rules.proofs.Order.{keys_total, exact_keys}
 use Rattle.jc_rules.proofs.Entries.{put-same}
-use Rattle.jc_tree.specs.Tree.{or_none}
+use Rattle.jc_tree.specs.Tree.{or_none, has_ids}
 use Rattle.jc_tree.specs.Undo.{former_of_id}
 use Rattle.jc_tree.specs.declared.node.Former.TheVariants as F
 use Rattle.jc_tree.proofs.Balanced.{lookup_is, write_put, as_err}
+use Rattle.jc_tree.proofs.Counting.{some_left}
 use Rattle.jc_tree.proofs.tables.add_in.Goals as goal
-use Rattle.jc_tree.proofs.tables.add_in.Goals.{then-was+in-Name-1, then-was+in-Doc-1, else-was}
+use Rattle.jc_tree.proofs.tables.add_in.Goals.{then-had+in-Name-1, then-had+in-Doc-1, else-had}
 
 pub returns-in_err-insert-clause-err : goal.returns-in_err-insert-clause-err
 returns-in_err-insert-clause-err c =
@@ -28,12 +29,12 @@ returns-in-Some-clause-ok c =
 pub returns-in-Some-clause-former : goal.returns-in-Some-clause-former
 returns-in-Some-clause-former c =
     let found : find key_cmp c.args.key c.args.sets.now.entries ≡ Some c.in-Some.ids.now = sym (c.in-Some.ensures.value ∙ lookup_is c.args.key c.args.sets.now.entries) in
-    let is : (b : Bool) → c.contains-was.result ≡ b → cond b F.Same (F.NoId c.args.key c.args.id) ≡ former_of_id c.args.key c.args.id (find key_cmp c.args.key c.args.sets.now.entries) =
-    λ b e. ap (λ d. cond d F.Same (F.NoId c.args.key c.args.id)) (sym e ∙ c.contains-was.ensures) ∙ ap (λ (o : Option (List Id)). former_of_id c.args.key c.args.id o) (sym found) in
-    elim c.if-was.branch [
-      | then-was+in-Name-1 w ↦ w.result-is ∙ is true w.if-was.true
-      | then-was+in-Doc-1 w ↦ w.result-is ∙ is true w.if-was.true
-      | else-was w ↦ w.result-is ∙ is false w.if-was.false
+    let is : (b : Bool) → c.contains-had.result ≡ b → cond b F.Same (F.NoId c.args.key c.args.id) ≡ former_of_id c.args.key c.args.id (find key_cmp c.args.key c.args.sets.now.entries) =
+    λ b e. ap (λ d. cond d F.Same (F.NoId c.args.key c.args.id)) (sym e ∙ c.contains-had.ensures) ∙ ap (λ (o : Option (List Id)). former_of_id c.args.key c.args.id o) (sym found) in
+    elim c.if-had.branch [
+      | then-had+in-Name-1 w ↦ w.former-is ∙ is true w.if-had.true
+      | then-had+in-Doc-1 w ↦ w.former-is ∙ is true w.if-had.true
+      | else-had w ↦ w.former-is ∙ is false w.if-had.false
     ]
 
 pub returns-clause-ok : goal.returns-clause-ok
@@ -47,3 +48,13 @@ pub returns-clause-former : goal.returns-clause-former
 returns-clause-former c =
     let absent : find key_cmp c.args.key c.args.sets.now.entries ≡ None = sym (c.in_default.ensures.value ∙ lookup_is c.args.key c.args.sets.now.entries) in
     ap (λ (k : Key). F.Presence k None) c.in_ok-copy.ensures ∙ ap (λ (o : Option (List Id)). former_of_id c.args.key c.args.id o) (sym absent)
+
+pub returns-in-Some-clause-was : goal.returns-in-Some-clause-was
+returns-in-Some-clause-was c =
+    let found : find key_cmp c.args.key c.args.sets.now.entries ≡ Some c.in-Some.ids.now = sym (c.in-Some.ensures.value ∙ lookup_is c.args.key c.args.sets.now.entries) in
+    some_left (c.is_empty-was.ensures ∙ ap (λ o. not (has_ids (or_none o))) (sym found))
+
+pub returns-clause-was : goal.returns-clause-was
+returns-clause-was c =
+    let absent : find key_cmp c.args.key c.args.sets.now.entries ≡ None = sym (c.in_default.ensures.value ∙ lookup_is c.args.key c.args.sets.now.entries) in
+    ap (λ o. has_ids (or_none o)) (sym absent)
