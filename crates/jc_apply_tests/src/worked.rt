@@ -9,6 +9,7 @@ ghost use Rattle.jc_rules.specs.Worked.{by_a};
 ghost use Rattle.jc_apply.specs.Fits.{IsUnlinked};
 
 use jc_apply::{ApplyFault, apply_op, fits};
+use jc_json::Tree;
 use jc_rules::{Cursor, Id, IdSet, Key, Mutation, Op, Path, Rule, Tagged, Text, Trace, Value};
 use jc_tree::{ArenaTree, PlainTree, TreeStore};
 use std::alloc::{AllocError, Global};
@@ -115,9 +116,15 @@ fn names(alloc: Global) -> Result<[Text; 2], AllocError> {
     Ok([text(alloc, "a")?, text(alloc, "b")?])
 }
 
+/// The text of a store's tree. Nothing but memory is refused.
 fn tree_text<S: TreeStore>(alloc: Global, store: &S) -> Result<String, AllocError> {
     let names = names(alloc)?;
-    jc_dump::tree_text(alloc, &names, store)
+    let tree = Tree {
+        alloc,
+        names: &names,
+        store,
+    };
+    serde_json::to_string(alloc, &tree).map_err(|_| AllocError)
 }
 
 /// A document, and the rules of the operations that were applied.

@@ -2,14 +2,15 @@
 use Rattle.std.proofs.Common.{◌≡◌, ℕ, List, [], ◌∷◌, ◌++◌, Some, codes, ap, ◌∙◌, refl}
 use Rattle.serde.specs.Event.{Log, Logs, map_begins, map_ends, field_key}
 use Rattle.serde.specs.declared.name.Case.TheVariants.{AsIs}
-use Rattle.serde_json.specs.Data.{boolean, number, unsigned, string}
+use Rattle.serde_json.specs.Data.{Data, boolean, number, unsigned, string}
 use Rattle.serde_json.specs.Events.{SendsValue}
 use Rattle.serde_json.specs.Written.{compact_text}
 use Rattle.jc_rules.specs.Context.{Context}
 use Rattle.jc_rules.specs.State.{State}
 use Rattle.jc_dump.specs.declared.dump.Shown.{Shown}
 use Rattle.jc_cursor.specs.Bounds.{vars_of}
-use Rattle.jc_dump.specs.Dump.{ids_data, context_data, vars_data, object_of, dump_members, dump_of, dump_line}
+use Rattle.jc_json.specs.Json.{ids_data, context_data, object_of}
+use Rattle.jc_dump.specs.Dump.{vars_data, dump_members, dump_of, dump_line}
 use Rattle.jc_dump.specs.DumpParts.{HasParts, shown_members}
 
 shown_is : (names : List (List ℕ)) (A : State) (shown : Shown) (tree : Context) → HasParts A shown tree → shown_members names shown tree ≡ dump_members names shown.name.now A
@@ -37,3 +38,7 @@ pub shown_sent : (names : List (List ℕ)) (shown : Shown) (tree : Context) (old
 unfolding shown_members
 shown_sent names shown tree old begun k1 v1 k2 v2 k3 v3 k4 v4 k5 v5 k6 v6 k7 v7 k8 v8 k9 v9 end b n1 s1 n2 s2 n3 s3 n4 s4 n5 s5 n6 s6 n7 s7 n8 s8 n9 s9 ended =
     (begun, b, (k1, v1, n1, s1, (k2, v2, n2, s2, (k3, v3, n3, s3, (k4, v4, n4, s4, (k5, v5, n5, s5, (k6, v6, n6, s6, (k7, v7, n7, s7, (k8, v8, n8, s8, (k9, v9, n9, s9, ended))))))))))
+
+-- an object with one member
+pub one_sent : (k : List ℕ) (d : Data) (old begun named mid end : Log) → Logs old begun (map_begins (Some 1)) → Logs begun named (field_key k AsIs) → SendsValue d named mid → Logs mid end map_ends → SendsValue (object_of ((k, d) ∷ [])) old end
+one_sent k d old begun named mid end b n s e = (begun, b, (named, mid, n, s, e))

@@ -9,7 +9,7 @@ use Rattle.jc_rules.proofs.Listed.{numbers_differ}
 use Rattle.jc_printer.specs.Canon.{canon_event}
 use Rattle.jc_network.specs.declared.fault.Stuck.{Stuck}
 use Rattle.jc_network.specs.Makes.{stuck_for, key_of}
-use Rattle.jc_dump.specs.Dump.{tagged_text}
+use Rattle.jc_json.specs.Json.{tagged_text}
 use Rattle.jc_dump.specs.Lines.{absent_text, stuck_text}
 
 absent_none : (names : List (List ℕ)) (why : Cause) → key_of why ≡ None → absent_text names why ≡ []

@@ -8,7 +8,7 @@ use Rattle.jc_rules.specs.Refused.{Cause, because, no_node, refusal_of}
 use Rattle.jc_printer.specs.Canon.{AreNamed, canon_event}
 use Rattle.jc_network.specs.declared.fault.Stuck.{Stuck}
 use Rattle.jc_network.specs.Makes.{stuck_for}
-use Rattle.jc_dump.specs.Dump.{tagged_text}
+use Rattle.jc_json.specs.Json.{tagged_text}
 
 -- a rule of a trace: its depth and its name
 abbrev pub row_text : (Rule × ℕ) → List ℕ

@@ -1,15 +1,12 @@
 //! What is shown of networks: dump lines, traces and stuck lines.
 #![tactic(auto)]
 
-pub mod dump;
+mod dump;
 mod lines;
 mod replica;
-mod send;
 mod texts;
-mod tree;
 mod vars;
 
 pub use lines::{stuck_text, trace_text};
 pub use replica::dump_replica;
 pub use texts::{block_text, refused_text};
-pub use tree::tree_text;

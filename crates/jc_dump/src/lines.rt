@@ -6,7 +6,7 @@ ghost use Rattle.jc_rules.specs.Refused.{Cause};
 ghost use Rattle.jc_network.specs.Makes.{stuck_for};
 ghost use Rattle.jc_dump.specs.Lines.{trace_text, stuck_text, IsNamedStuck};
 
-use crate::dump::tagged_text;
+use jc_json::tagged_text;
 use jc_network::{Net, Stuck};
 use jc_printer::print_event;
 use jc_rules::{Refusal, Trace};

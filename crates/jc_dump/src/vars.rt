@@ -5,12 +5,13 @@ ghost use Rattle.serde_json.specs.Data.{no_members};
 ghost use Rattle.serde_json.specs.Events.{SendsValue};
 ghost use Rattle.serde_json.specs.View.{view};
 ghost use Rattle.jc_cursor.specs.Bounds.{bound_of, vars_of};
-ghost use Rattle.jc_dump.specs.Dump.{put_all, texts_data, pair_data, pairs_data, cursor_data, bound_data, var_member, vars_data};
-ghost use Rattle.jc_dump.specs.DumpParts.{shown_as, bound_shown};
+ghost use Rattle.jc_json.specs.Json.{put_all, texts_data};
+ghost use Rattle.jc_json.specs.Parts.{shown_as};
+ghost use Rattle.jc_dump.specs.Dump.{pair_data, pairs_data, cursor_data, bound_data, var_member, vars_data};
+ghost use Rattle.jc_dump.specs.DumpParts.{bound_shown};
 
-use crate::dump::{id_text, json_value, key_text, tagged_text};
-use crate::send::{granted, send_value};
 use jc_cursor::Bound;
+use jc_json::{granted, id_text, json_value, key_text, send_value, tagged_text};
 use jc_rules::{Cursor, Id, Text, Value};
 use serde::Serializer;
 use serde_json::Value as Json;

@@ -2,7 +2,7 @@
 
 ghost use Rattle.std.specs.Prelude.{◌<◌};
 
-use jc_dump::tree_text;
+use jc_json::Tree;
 use jc_meaning::{have_distinct_ids, meaning, same_tree};
 use jc_network::Net;
 use jc_rules::{Op, Text};
@@ -14,8 +14,14 @@ use std::test::Fail;
 /// The text of the tree that the operations mean.
 fn meant(rt: &impl Abort, alloc: Global, names: &[Text], ops: &[Op]) -> Result<String, AllocError> {
     assert!(rt; have_distinct_ids(ops));
-    let tree = meaning(alloc, ops)?;
-    tree_text(alloc, names, &tree)
+    let store = meaning(alloc, ops)?;
+    let tree = Tree {
+        alloc,
+        names,
+        store: &store,
+    };
+    // Nothing but memory is refused.
+    serde_json::to_string(alloc, &tree).map_err(|_| AllocError)
 }
 
 fn is_text(rt: &impl Abort, got: &str, want: &str) {

@@ -1,7 +1,7 @@
 //! What is expected of networks.
 
 use crate::texts::{Part, line_of};
-use jc_dump::dump::tagged_text;
+use jc_json::tagged_text;
 use jc_network::{Net, StepFault};
 use jc_rules::{Event, Id, Op, Rule, Trace};
 use std::alloc::{AllocError, Global};

@@ -1,8 +1,7 @@
 //! States of replicas as texts.
 
 use jc_cursor::Bound;
-use jc_dump::dump::{id_text, key_text, tagged_text};
-use jc_dump::tree_text;
+use jc_json::{Tree, id_text, key_text, tagged_text};
 use jc_network::Net;
 use jc_replica::Replica;
 use jc_rules::{Id, Op, Tagged, Text};
@@ -108,8 +107,14 @@ pub fn push_tree(
     replica: &Replica<ArenaTree>,
     line: &mut String,
 ) -> Result<(), AllocError> {
-    let tree = tree_text(alloc, names, replica.tree())?;
-    line.push_str(tree.as_str())
+    let tree = Tree {
+        alloc,
+        names,
+        store: replica.tree(),
+    };
+    // Nothing but memory is refused.
+    let text = serde_json::to_string(alloc, &tree).map_err(|_| AllocError)?;
+    line.push_str(text.as_str())
 }
 
 /// Which part of a replica's state is shown.

@@ -1,7 +1,7 @@
 //! What is expected of replicas.
 
 use jc_cursor::Bound;
-use jc_dump::dump::{id_text, key_text, tagged_text};
+use jc_json::{Tree, id_text, key_text, tagged_text};
 use jc_replica::{Replica, ReplicaFault};
 use jc_rules::{Event, Rule, Text, Trace};
 use jc_tree::PlainTree;
@@ -77,9 +77,15 @@ pub fn names(alloc: Global) -> Result<[Text; 2], AllocError> {
     Ok([text(alloc, "a")?, text(alloc, "b")?])
 }
 
+/// The text of the replica's tree. Nothing but memory is refused.
 pub fn tree_text(alloc: Global, replica: &Replica<PlainTree>) -> Result<String, AllocError> {
     let names = names(alloc)?;
-    jc_dump::tree_text(alloc, &names, replica.tree())
+    let tree = Tree {
+        alloc,
+        names: &names,
+        store: replica.tree(),
+    };
+    serde_json::to_string(alloc, &tree).map_err(|_| AllocError)
 }
 
 /// The document has this dump.

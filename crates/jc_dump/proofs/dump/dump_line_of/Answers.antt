@@ -4,7 +4,7 @@ use Rattle.serde.specs.Event.{Log}
 use Rattle.serde_json.specs.Events.{SendsValue}
 use Rattle.serde_json.specs.Sent.{IsTextOf}
 use Rattle.serde_json.proofs.FreeTexts.{text_of_value}
-use Rattle.jc_dump.specs.Dump.{object_of}
+use Rattle.jc_json.specs.Json.{object_of}
 use Rattle.jc_dump.specs.DumpParts.{shown_members}
 use Rattle.jc_dump.proofs.DumpFloats.{shown_float}
 use Rattle.jc_dump.proofs.DumpShown.{line_is}

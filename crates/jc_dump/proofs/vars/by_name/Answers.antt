@@ -3,10 +3,12 @@ use Rattle.std.proofs.lemmas.List.{take_more, map-append}
 use Rattle.serde_json.specs.Data.{Members, no_members, put}
 use Rattle.jc_cursor.specs.declared.bound.Bound.{Bound}
 use Rattle.jc_cursor.specs.Bounds.{bound_of, var_of, vars_of}
-use Rattle.jc_dump.specs.Dump.{put_all, var_member, bound_data}
-use Rattle.jc_dump.specs.DumpParts.{shown_as, bound_shown}
-use Rattle.jc_dump.proofs.DumpLists.{put_all-append}
-use Rattle.jc_dump.proofs.Sending.{shown-insert}
+use Rattle.jc_json.specs.Json.{put_all}
+use Rattle.jc_json.specs.Parts.{shown_as}
+use Rattle.jc_json.proofs.Lists.{put_all-append}
+use Rattle.jc_json.proofs.Sending.{shown-insert}
+use Rattle.jc_dump.specs.Dump.{var_member, bound_data}
+use Rattle.jc_dump.specs.DumpParts.{bound_shown}
 use Rattle.jc_dump.proofs.vars.by_name.Goals as goal
 
 -- one more variable

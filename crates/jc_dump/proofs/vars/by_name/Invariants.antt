@@ -1,8 +1,10 @@
 use Rattle.std.proofs.Common.{◌≡◌, ℕ, List, map, take}
 use Rattle.serde_json.specs.Data.{no_members}
 use Rattle.jc_cursor.specs.Bounds.{vars_of}
-use Rattle.jc_dump.specs.Dump.{put_all, var_member}
-use Rattle.jc_dump.specs.DumpParts.{shown_as, bound_shown}
+use Rattle.jc_json.specs.Json.{put_all}
+use Rattle.jc_json.specs.Parts.{shown_as}
+use Rattle.jc_dump.specs.Dump.{var_member}
+use Rattle.jc_dump.specs.DumpParts.{bound_shown}
 use Rattle.jc_dump.proofs.vars.by_name.Given as goal
 
 abbrev pub invariant-loop-name : goal.invariant-loop-name

@@ -1,7 +1,7 @@
 use Rattle.std.proofs.Common.{◌≡◌, map, take}
 use Rattle.serde_json.specs.Data.{string}
 use Rattle.serde_json.specs.View.{view}
-use Rattle.jc_dump.specs.Dump.{tagged_text}
+use Rattle.jc_json.specs.Json.{tagged_text}
 use Rattle.jc_dump.proofs.vars.cursor_value.Given as goal
 
 abbrev pub invariant-loop-key : goal.invariant-loop-key

@@ -1,6 +1,0 @@
-use Rattle.std.proofs.Common.{rules}
-use Rattle.jc_dump.proofs.dump.tagged_text.Goals as goal
-
--- a list's tag
-pub returns-in-ListT : goal.returns-in-ListT
-returns-in-ListT c = search rules

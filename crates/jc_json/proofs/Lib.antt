@@ -1,0 +1,4 @@
+pub mod Sending
+pub mod Lists
+pub mod Places
+pub mod Floats

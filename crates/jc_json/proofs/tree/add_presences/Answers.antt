@@ -1,0 +1,54 @@
+use Rattle.std.proofs.Common.{rules, ◌≡◌, refl, string_bytes, option_copied, ap, sym, ◌∙◌, false, codes}
+use Rattle.std.specs.List.{AllByRecursion}
+use Rattle.jc_rules.specs.Order.{key_cmp}
+use Rattle.jc_rules.specs.Entries.{keys_of, find}
+use Rattle.jc_rules.specs.Context.{presences}
+use Rattle.jc_rules.specs.Shape.{IsKept}
+use Rattle.jc_tree.specs.Tree.{here, is_after}
+use Rattle.jc_json.specs.Json.{presence_member, entry_text}
+use Rattle.jc_json.specs.declared.tree.Part.TheVariants as P
+use Rattle.jc_json.proofs.Lists.{adding_begins, adding_goes_on, adding_ends, adds_one, adds_none}
+use Rattle.jc_tree.proofs.KeyWalk.{IsNext, next_is, none_is}
+use Rattle.jc_json.proofs.Places.{kept_at, presences_rise}
+use Rattle.jc_json.proofs.tree.add_presences.Goals as goal
+use Rattle.jc_json.proofs.tree.add_presences.Goals.{in-Some-presence+in_ok-name+in_ok-insert, in_default-presence}
+
+pub loop-key-init : goal.loop-key-init
+loop-key-init g c =
+    let d = here c.args.at.now (g.S.TreeStore.tree c.args.store.now) in
+    adding_begins c.args.names.now d (presence_member c.args.names.now) (presences d) c.args.parts.now.entries
+
+pub loop-key-smaller : goal.loop-key-smaller
+loop-key-smaller g c =
+    let d = here c.args.at.now (g.S.TreeStore.tree c.args.store.now) in
+    let n : IsNext (option_copied c.loop-key.last) (keys_of (presences d)) c.in-Some.key.now = next_is (option_copied c.loop-key.last) (keys_of (presences d)) c.in-Some.key.now (sym c.in-Some.ensures) in
+    n.fewer
+
+pub loop-key-preserved : goal.loop-key-preserved
+loop-key-preserved g c =
+    let t = g.S.TreeStore.tree c.args.store.now in
+    let d = here c.args.at.now t in
+    let key = c.in-Some.key.now in
+    let names = c.args.names.now in
+    let last = option_copied c.loop-key.last in
+    let n : IsNext last (keys_of (presences d)) key = next_is last (keys_of (presences d)) key (sym c.in-Some.ensures) in
+    let kept : IsKept d = kept_at c.args.at.now t.now c.requires (g.met.S.TreeStore.kept c.args.store.now) in
+    let old = c.loop-key.parts.entries in
+    let new = c.match-presence.parts.entries in
+    let found = find key_cmp key (presences d) in
+    adding_goes_on names d (presence_member names) (presences d) last key c.args.parts.now.entries old new n.after n.below (presences_rise d kept)
+    (elim c.match-presence.branch [
+      | in-Some-presence+in_ok-name+in_ok-insert w ↦
+          let shown = w.in-Some-presence.ids in
+          let name : string_bytes w.in_ok-name.name ≡ entry_text (codes "pres") names key = search rules in
+          adds_one names d (presence_member names) key shown.now found w.in_ok-name.name (P.Presence shown) old new w.in-Some-presence.ensures name refl tt (ap (λ m. m.entries) w.parts-is ∙ w.in_ok-insert.ensures.entries)
+      | in_default-presence w ↦ adds_none names d (presence_member names) key found old new w.in_default-presence.ensures (ap (λ m. m.entries) w.parts-is)
+    ])
+    c.loop-key.invariant
+
+pub returns : goal.returns
+returns g c =
+    let d = here c.args.at.now (g.S.TreeStore.tree c.args.store.now) in
+    let last = option_copied c.loop-key.last in
+    let all : AllByRecursion (λ j. is_after last j ≡ false) (keys_of (presences d)) = none_is last (keys_of (presences d)) (sym c.in_default.ensures) in
+    adding_ends c.args.names.now d (presence_member c.args.names.now) (presences d) last _ _ all c.loop-key.invariant

@@ -1,0 +1,12 @@
+//! Identifiers, keys, values and trees of documents as JSON.
+#![tactic(auto)]
+
+mod send;
+mod texts;
+mod tree;
+mod values;
+
+pub use send::{granted, send_ids, send_value};
+pub use texts::{id_text, key_text, tagged_text};
+pub use tree::Tree;
+pub use values::json_value;

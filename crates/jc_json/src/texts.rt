@@ -1,0 +1,64 @@
+//! The texts of identifiers and keys.
+
+ghost use Rattle.std.specs.Prelude.{◌≡◌, IfOk, string_bytes};
+ghost use Rattle.jc_json.specs.Json.{id_text, key_text, entry_text, tagged_text, next_text};
+
+use jc_rules::{Id, Key, Next, Tagged, Text, name_at};
+use serde_json::Value as Json;
+use std::alloc::{AllocError, Global};
+
+/// The text of an identifier, `c@name`.
+pub fn id_text(alloc: Global, names: &[Text], id: Id) -> Result<String, AllocError>
+    ensures { IfOk result (λ s. string_bytes s ≡ id_text names.now id) }
+{
+    let counter = id.counter;
+    let name = name_at(names, id.replica);
+    format!(in alloc; "{counter}@{name}")
+}
+
+/// The text of a key: `doc`, `head`, a name as a JSON string, or an identifier's text.
+pub fn key_text(alloc: Global, names: &[Text], key: &Key) -> Result<String, AllocError>
+    ensures { IfOk result (λ s. string_bytes s ≡ key_text names.now key.now) }
+{
+    match key {
+        Key::Doc => String::from_str(alloc, "doc"),
+        Key::Head => String::from_str(alloc, "head"),
+        Key::Name(name) => Json::try_from_str(alloc, name.as_str())?.to_string(alloc),
+        Key::Elem(id) => id_text(alloc, names, *id),
+    }
+}
+
+/// The name of a context's member: a kind of entry, and a key in brackets.
+pub(crate) fn entry_text(
+    alloc: Global,
+    kind: &str,
+    names: &[Text],
+    key: &Key,
+) -> Result<String, AllocError>
+    ensures { IfOk result (λ s. string_bytes s ≡ entry_text kind.now names.now key.now) }
+{
+    let key = key_text(alloc, names, key)?;
+    let key = key.as_str();
+    format!(in alloc; "{kind}({key})")
+}
+
+/// The text of a tagged key, as `mapT(doc)`.
+pub fn tagged_text(alloc: Global, names: &[Text], key: &Tagged) -> Result<String, AllocError>
+    ensures { IfOk result (λ s. string_bytes s ≡ tagged_text names.now key.now) }
+{
+    match key {
+        Tagged::MapT(key) => entry_text(alloc, "mapT", names, key),
+        Tagged::ListT(key) => entry_text(alloc, "listT", names, key),
+        Tagged::RegT(key) => entry_text(alloc, "regT", names, key),
+    }
+}
+
+/// What a list's link leads to.
+pub(crate) fn next_text(alloc: Global, names: &[Text], next: Next) -> Result<String, AllocError>
+    ensures { IfOk result (λ s. string_bytes s ≡ next_text names.now next) }
+{
+    match next {
+        Next::Tail => String::from_str(alloc, "tail"),
+        Next::Elem(id) => id_text(alloc, names, id),
+    }
+}
