@@ -13,7 +13,7 @@ pub fn no_choice_is_the_end()
 {}
 
 /// A scenario whose schedule is replaced by one that leads from its start, with 100,000 events at most, is well formed
-/// too: so it can be printed, and its text can be read.
+/// too: so it can be printed, and its text, within the limit for texts, can be read.
 pub fn schedules_are_well_formed()
     ensures { SchedulesAreWellFormed }
 {}

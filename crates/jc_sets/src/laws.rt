@@ -18,8 +18,8 @@ pub fn inserted_withdrawn()
     ensures { InsertedWithdrawn }
 {}
 
-/// Dependencies that agree on all identifiers that a document knows apply an operation alike: by the same rules, to the
-/// same document.
+/// Dependencies that agree on all identifiers that a document knows and on the operation's own apply it alike: by the same
+/// rules, to the same document.
 pub fn operate_alike()
     ensures { OperateAlike }
 {}
