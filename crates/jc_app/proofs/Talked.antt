@@ -4,10 +4,10 @@ use Rattle.std.specs.Str.{bytes_eq}
 use Rattle.std.proofs.lemmas.Slice.Eq.{bytes_eq-Decides}
 use Rattle.jc_rules.specs.Told.{IsFront}
 use Rattle.jc_session.specs.Answers.{Origin}
-use Rattle.jc_session.specs.Shown.{End, too_many, Shows, refused, talks}
+use Rattle.jc_session.specs.Shown.{End, finished, too_many, text_refused, Shows, refused, talks}
 use Rattle.jc_session.specs.Went.{WentToRead, WentWhole, WentFront, ShowsAll, WentRefused, OnScenario}
 use Rattle.jc_debug.specs.Session.{Session}
-use Rattle.jc_app.specs.Talked.{lines_by, TalksOn, StopsOn, HasTalked, HasStopped}
+use Rattle.jc_app.specs.Talked.{lines_by, ShowsTo, TalksOn, StopsOn, HasTalked, HasStopped}
 use Rattle.jc_app.specs.declared.work.WorkFault.{WorkFault}
 use Rattle.jc_app.specs.declared.work.WorkFault.TheVariants.{Read, Write, TooManyLines, NoThread, Memory}
 use Rattle.jc_app.proofs.Reading.{reads_whole}
@@ -31,11 +31,6 @@ lines_stay_by false new old name e h = of_the_input new name e ∙ (h (no_dash n
 pub lines_stay : (new old : Option (List ℕ)) (name : List ℕ) → (name ≢ codes "-" → new ≡ old) → lines_by new name ≡ lines_by old name
 lines_stay new old name h = lines_stay_by (bytes_eq name (codes "-")) new old name refl h
 
--- what is so of all lines is so of those that are told
-pub if_any : {P : List ℕ → Type 0} (lines : Option (List ℕ)) → ((l : List ℕ) → P l) → IfSome lines P
-if_any None h = tt
-if_any (Some l) h = h l
-
 -- ---- a front of the scenario's bytes, one byte longer than the longest scenario
 
 shows_whole : {text : List ℕ} {end : End} (n : ℕ) (b v l : List ℕ) → n ≡ 8388609 → v ≡ take n b → Shows v l text end → Shows b l text end
@@ -45,6 +40,11 @@ shows_whole n b v l is e (talks s i t) = talks s (reads_whole n b v (Ok s) is e 
 all_whole : (n : ℕ) (b v : List ℕ) (lines old new : Option (List ℕ)) (end : End) → n ≡ 8388609 → v ≡ take n b → IfSome lines (λ l. ShowsAll v l end old new) → IfSome lines (λ l. ShowsAll b l end old new)
 all_whole n b v None old new end is e h = tt
 all_whole n b v (Some l) old new end is e h = (h.0, shows_whole n b v l is e h.1, h.2)
+
+to_whole : (n : ℕ) (b v : List ℕ) (lines old new : Option (List ℕ)) (end : End) → n ≡ 8388609 → v ≡ take n b → ShowsTo v lines end old new → ShowsTo b lines end old new
+to_whole n b v lines old new finished is e h = all_whole n b v lines old new finished is e h
+to_whole n b v lines old new too_many is e h = all_whole n b v lines old new too_many is e h
+to_whole n b v lines old new (text_refused fault) is e h = λ l. all_whole n b v (Some l) old new (text_refused fault) is e (h l)
 
 scenario_whole : (Says : Origin → Session → Type 0) (n : ℕ) (b v : List ℕ) → n ≡ 8388609 → v ≡ take n b → OnScenario v Says → OnScenario b Says
 scenario_whole Says n b v is e h = (h.0, reads_whole n b v (Ok h.0) is e h.1, h.2)
@@ -66,7 +66,7 @@ stops_whole Memory n b v lines left old new is e (inr h) = inr (scenario_whole (
 
 pub talked_on_front : (n : ℕ) (told lines old new : Option (List ℕ)) (v : List ℕ) (status : ℕ) → n ≡ 8388609 → IsFront n told v → TalksOn v lines old new status → HasTalked told lines old new status
 talked_on_front n None lines old new v status is front h = (v, tt, h)
-talked_on_front n (Some bytes) lines old new v status is front h = (bytes, refl, (h.0, h.1, all_whole n bytes v lines old new h.0 is front h.2))
+talked_on_front n (Some bytes) lines old new v status is front h = (bytes, refl, (h.0, h.1, to_whole n bytes v lines old new h.0 is front h.2))
 
 pub stopped_on_front : (fault : WorkFault) (n : ℕ) (told lines left old new : Option (List ℕ)) (v : List ℕ) → n ≡ 8388609 → IsFront n told v → StopsOn fault v lines left old new → HasStopped fault told lines left old new
 stopped_on_front fault n None lines left old new v is front h = (v, tt, h)

@@ -17,11 +17,16 @@ session_status finished = Some 0
 session_status too_many = None
 session_status (text_refused fault) = Some 1
 
+-- The text of a session that ends so was appended, where the lines are told; that of a refused scenario, whatever they are.
+abbrev pub ShowsTo : List ℕ → Option (List ℕ) → End → Option (List ℕ) → Option (List ℕ) → Type 0
+ShowsTo bytes lines (text_refused fault) old new = (l : List ℕ) → ShowsAll bytes l (text_refused fault) old new
+ShowsTo bytes lines end old new = IfSome lines (λ l. ShowsAll bytes l end old new)
+
 -- A session on a scenario's bytes and the lines that are told, to its end: its text was appended, and it ends with this
 -- status.
 abbrev pub TalksOn : List ℕ → Option (List ℕ) → Option (List ℕ) → Option (List ℕ) → ℕ → Type 0
 TalksOn bytes lines old new status =
-    (end : End) × (session_status end ≡ Some status) × IfSome lines (λ l. ShowsAll bytes l end old new)
+    (end : End) × (session_status end ≡ Some status) × ShowsTo bytes lines end old new
 
 -- no line was read, and nothing was appended
 abbrev pub IsUnstarted : Option (List ℕ) → Option (List ℕ) → Option (List ℕ) → Option (List ℕ) → Type 0

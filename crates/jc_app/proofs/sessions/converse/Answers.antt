@@ -2,7 +2,6 @@ use Rattle.std.proofs.Common.{Result, Ok, Err, inr, refl, ap}
 use Rattle.jc_session.specs.declared.sessions.SessionEnd.{SessionEnd}
 use Rattle.jc_session.specs.declared.sessions.SessionFault.{SessionFault}
 use Rattle.jc_session.specs.Shown.{finished, text_refused}
-use Rattle.jc_app.proofs.Talked.{if_any}
 use Rattle.jc_app.proofs.sessions.converse.Goals as goal
 
 abbrev ended : SessionEnd → Result SessionEnd SessionFault
@@ -17,7 +16,7 @@ returns-in-Ok-Finished-clause-talked g c = (finished, refl, c.in-Ok-Finished.ens
 pub returns-in-Ok-TextRefused-clause-talked : goal.returns-in-Ok-TextRefused-clause-talked
 returns-in-Ok-TextRefused-clause-talked g c =
     let fault = c.in-Ok-TextRefused._fault in
-    (text_refused fault, refl, if_any (g.S.Source.left c.args.lines.now) (c.in-Ok-TextRefused.ensures.text_refused fault (ap ended c.in-Ok-TextRefused.field-0-is)).0)
+    (text_refused fault, refl, (c.in-Ok-TextRefused.ensures.text_refused fault (ap ended c.in-Ok-TextRefused.field-0-is)).0)
 
 pub returns-in-Ok-TextRefused-clause-refused : goal.returns-in-Ok-TextRefused-clause-refused
 returns-in-Ok-TextRefused-clause-refused g c = λ _.
