@@ -2,13 +2,13 @@
 #![tactic(auto)]
 
 #[cfg(test)]
-mod expecting;
+mod commands;
+#[cfg(test)]
+mod pair;
 #[cfg(test)]
 mod replicas;
 #[cfg(test)]
 mod rewinding;
-#[cfg(test)]
-mod running;
 #[cfg(test)]
 mod showing;
 #[cfg(test)]

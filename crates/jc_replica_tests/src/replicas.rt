@@ -6,15 +6,11 @@ ghost use Rattle.jc_rules.specs.declared.operation.Op.{Op as AnyOp};
 
 use jc_parser::parse_script;
 use jc_replica::{Replica, ReplicaFault};
-use jc_rules::{Id, Op, Trace};
+use jc_rules::{Event, Op, Trace};
 use jc_tree::PlainTree;
-use std::alloc::{AllocError, Global};
+use std::alloc::Global;
 use std::process::Abort;
 use std::test::Fail;
-
-pub fn id(counter: u64, replica: u16) -> Id {
-    Id { counter, replica }
-}
 
 /// The replica with this number and this script, at its start.
 pub fn replica(
@@ -28,30 +24,6 @@ pub fn replica(
     Ok(Replica::new(alloc, number, script, PlainTree::new(alloc)))
 }
 
-/// A script whose 515th command leads to the deepest cursor; the one after it would lead deeper.
-pub fn deepest_script(alloc: Global) -> Result<String, AllocError> {
-    let mut script = String::from_str(alloc, "let x = doc")?;
-    for _ in 0..512 {
-        script.push_str("; let x = x.get(\"a\")")?;
-    }
-    script.push_str("; x := 1; doc := {}; let x = x.get(\"a\")")?;
-    Ok(script)
-}
-
-/// Runs so many commands, none of which is refused.
-pub fn run(rt: &impl Abort, alloc: Global, replica: &mut Replica<PlainTree>, commands: u64) {
-    for command in 0..commands {
-        assert!(rt; replica.exec(alloc).is_ok(), "{command}");
-    }
-}
-
-/// Takes so many steps back.
-pub fn go_back(rt: &impl Abort, replica: &mut Replica<PlainTree>, steps: u64) {
-    for step in 0..steps {
-        assert!(rt; replica.undo(), "{step}");
-    }
-}
-
 /// Whether each counter is one that a replica may be handed.
 fn are_handed(ops: &[Op]) -> bool
     ensures { result ≡ list_all (λ (o : AnyOp). leb 1 o.id.counter && leb o.id.counter 4194304) ops.now }
@@ -62,7 +34,7 @@ fn are_handed(ops: &[Op]) -> bool
 
 /// The one replica receives what the other one offers.
 #[tactic(auto, using(crate::proofs::Handed::handed))]
-pub fn receive(
+fn receive(
     rt: &impl Abort,
     alloc: Global,
     to: &mut Replica<PlainTree>,
@@ -75,11 +47,29 @@ pub fn receive(
 
 /// The replica receives what it offers itself.
 #[tactic(auto, using(crate::proofs::Handed::handed))]
-pub fn receive_own(
+fn receive_own(
     rt: &impl Abort,
     alloc: Global,
     replica: &mut Replica<PlainTree>,
 ) -> Result<Trace, ReplicaFault> {
     assert!(rt; are_handed(replica.sent()));
     replica.recv_own(alloc)
+}
+
+/// The replica makes the event. What it receives of another one is what that one offers.
+pub fn make(
+    rt: &impl Abort,
+    alloc: Global,
+    replica: &mut Replica<PlainTree>,
+    other: &Replica<PlainTree>,
+    event: &Event,
+) -> Result<Trace, ReplicaFault> {
+    match event {
+        Event::Exec(_) => replica.exec(alloc),
+        Event::Send(_) => replica.send(alloc),
+        Event::Recv(p, q) if p == q => receive_own(rt, alloc, replica),
+        Event::Recv(_, _) => receive(rt, alloc, replica, other),
+        Event::Apply(_, id) => replica.apply(alloc, *id),
+        Event::Done(_) => replica.done(alloc),
+    }
 }

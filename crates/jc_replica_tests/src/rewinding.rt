@@ -1,16 +1,14 @@
 //! Every step of a script is taken back, and the whole state before it is there again.
 
-use crate::replicas::{deepest_script, receive, replica, run};
-use crate::showing::{is_shown, keep};
-use jc_replica::{Replica, ReplicaFault};
-use jc_rules::{Event, Id, Trace};
-use jc_tree::PlainTree;
+use crate::commands::deepest_script;
+use crate::pair::{Pair, Step};
+use jc_rules::{Event, Id};
 use std::alloc::Global;
 use std::process::Abort;
 use std::test::Fail;
 
 /// Replica 0 offers its first operation, which replica 1 applies; then each makes one, and they meet.
-const MEETING: &[Event] = &[
+const MEETING: [Event; 14] = [
     Event::Exec(0),
     Event::Send(0),
     Event::Done(0),
@@ -45,126 +43,112 @@ const MEETING: &[Event] = &[
     ),
 ];
 
-const DELETED_AND_ASSIGNED: &str =
-    "1 acted 2 2; 1@0 2@0; 1@0 2@0; 2@1; {\"mapT(doc)\":{\"mapT(\\\"m\\\")\":{\"pres(\\\"k\\\")\":[\"2@b\"],\"regT(\\\"k\\\")\":{\"2@b\":{\"n\":\"1\"}}},\"pres(\\\"m\\\")\":[\"2@b\"]},\"pres(doc)\":[\"1@a\",\"2@b\"]}";
+const DELETED_AND_ASSIGNED: &[Step] = &[Step::Shown(
+    0,
+    "1 acted 2 2; 1@0 2@0; 1@0 2@0; 2@1; {\"mapT(doc)\":{\"mapT(\\\"m\\\")\":{\"pres(\\\"k\\\")\":[\"2@b\"],\"regT(\\\"k\\\")\":{\"2@b\":{\"n\":\"1\"}}},\"pres(\\\"m\\\")\":[\"2@b\"]},\"pres(doc)\":[\"1@a\",\"2@b\"]}",
+)];
 
-const PAST_A_TOMBSTONE: &str =
+const MET: &[Step] = &[Step::Shown(
+    0,
+    "1 acted 2 2; 1@0 2@0; 1@0 2@0; 2@1; {\"mapT(doc)\":{\"listT(\\\"l\\\")\":{\"next(2@a)\":\"tail\",\"next(2@b)\":\"2@a\",\"next(head)\":\"2@b\",\"pres(2@a)\":[\"2@a\"],\"pres(2@b)\":[\"2@b\"],\"regT(2@a)\":{\"2@a\":\"x\"},\"regT(2@b)\":{\"2@b\":\"y\"}},\"pres(\\\"l\\\")\":[\"1@a\",\"2@a\",\"2@b\"]},\"pres(doc)\":[\"1@a\",\"2@a\",\"2@b\"]}",
+)];
+
+const TOMBSTONE: &str =
     "1 fresh 4 0; 1@0 2@0 3@0 4@0;;; z = listT(doc) 3@a; {\"listT(doc)\":{\"next(2@a)\":\"3@a\",\"next(3@a)\":\"tail\",\"next(head)\":\"2@a\",\"pres(2@a)\":[],\"pres(3@a)\":[\"3@a\"],\"regT(2@a)\":{},\"regT(3@a)\":{\"3@a\":\"y\"}},\"pres(doc)\":[\"1@a\",\"2@a\",\"3@a\"]}";
 
-const MET: &str =
-    "1 acted 2 2; 1@0 2@0; 1@0 2@0; 2@1; {\"mapT(doc)\":{\"listT(\\\"l\\\")\":{\"next(2@a)\":\"tail\",\"next(2@b)\":\"2@a\",\"next(head)\":\"2@b\",\"pres(2@a)\":[\"2@a\"],\"pres(2@b)\":[\"2@b\"],\"regT(2@a)\":{\"2@a\":\"x\"},\"regT(2@b)\":{\"2@b\":\"y\"}},\"pres(\\\"l\\\")\":[\"1@a\",\"2@a\",\"2@b\"]},\"pres(doc)\":[\"1@a\",\"2@a\",\"2@b\"]}";
+/// A refused command changes nothing.
+const PAST_A_TOMBSTONE: &[Step] = &[
+    Step::Shown(0, TOMBSTONE),
+    Step::Event(Event::Exec(0), 26),
+    Step::Shown(0, TOMBSTONE),
+];
 
-/// The replica makes the event; what it receives is what the other one offers.
-fn make(
-    rt: &impl Abort,
-    alloc: Global,
-    replica: &mut Replica<PlainTree>,
-    other: &Replica<PlainTree>,
-    event: &Event,
-) -> Result<Trace, ReplicaFault> {
-    match event {
-        Event::Exec(_) => replica.exec(alloc),
-        Event::Send(_) => replica.send(alloc),
-        Event::Recv(_, _) => receive(rt, alloc, replica, other),
-        Event::Apply(_, id) => replica.apply(alloc, *id),
-        Event::Done(_) => replica.done(alloc),
-    }
+const TOO_DEEP: &[Step] = &[Step::Event(Event::Exec(0), 29)];
+
+/// The line of a replica's state before a step of its own.
+#[derive(Drop)]
+struct Kept {
+    replica: u16,
+    line: String,
 }
 
-/// Both make their events, and the state before each is kept.
-fn meet(
+/// Makes the events, none of which is refused, and keeps the state before each.
+fn make_all(
     rt: &impl Abort,
     alloc: Global,
-    a: &mut Replica<PlainTree>,
-    b: &mut Replica<PlainTree>,
-    of_a: &mut Vec<String>,
-    of_b: &mut Vec<String>,
-) {
-    for event in MEETING {
-        if event.replica() == 0 {
-            keep(rt, alloc, a, of_a);
-            assert!(rt; make(rt, alloc, a, b, event).is_ok());
-        } else {
-            keep(rt, alloc, b, of_b);
-            assert!(rt; make(rt, alloc, b, a, event).is_ok());
+    pair: &mut Pair,
+    events: &[Event],
+) -> Result<Vec<Kept>, Fail> {
+    let mut kept = Vec::new(alloc);
+    for event in events {
+        let replica = event.replica();
+        let line = pair.line(rt, replica);
+        kept.push(Kept { replica, line })?;
+        pair.expect(rt, event, 0);
+    }
+    Ok(kept)
+}
+
+/// Takes each step of a replica back, up to the start: before each the state is as it was.
+fn expect_back(rt: &impl Abort, pair: &mut Pair, p: u16, kept: &[Kept]) {
+    for before in kept.iter().rev() {
+        if before.replica == p {
+            assert!(rt; pair.undo(p));
+            pair.expect_line(rt, p, before.line.as_str());
         }
     }
+    assert!(rt; !pair.undo(p));
 }
 
-/// Runs so many commands, and keeps the state before each.
-fn run_keeping(
+/// The events are made, what follows is done, and both replicas take all their steps back.
+fn expect_all_back(
     rt: &impl Abort,
     alloc: Global,
-    replica: &mut Replica<PlainTree>,
-    commands: u64,
-    kept: &mut Vec<String>,
-) {
-    for _ in 0..commands {
-        keep(rt, alloc, replica, kept);
-        run(rt, alloc, replica, 1);
-    }
-}
-
-/// Takes each step back, up to the start: before each the state is as it was.
-fn expect_back(rt: &impl Abort, alloc: Global, replica: &mut Replica<PlainTree>, kept: &[String]) {
-    for line in kept.iter().rev() {
-        assert!(rt; replica.undo());
-        assert!(rt; is_shown(alloc, replica, line.as_str()));
-    }
-    assert!(rt; !replica.undo());
-}
-
-/// Both meet, the first one ends so, and both take all their steps back.
-fn expect_meeting_back(
-    rt: &impl Abort,
-    alloc: Global,
-    a: &mut Replica<PlainTree>,
-    b: &mut Replica<PlainTree>,
-    end_of_a: &str,
-) {
-    let mut of_a = Vec::new(alloc);
-    let mut of_b = Vec::new(alloc);
-    meet(rt, alloc, a, b, &mut of_a, &mut of_b);
-    assert!(rt; is_shown(alloc, a, end_of_a));
-    assert_eq!(rt; of_a.len() + of_b.len(), 14);
-    expect_back(rt, alloc, a, of_a.as_slice());
-    expect_back(rt, alloc, b, of_b.as_slice());
-}
-
-#[test]
-fn deletion_that_meets(rt: HostRuntime) -> Result<(), Fail> {
-    let alloc = rt.alloc();
-    let script = "doc.get(\"m\") := {}; yield; doc.get(\"m\").delete; yield";
-    let mut a = replica(&rt, alloc, 0, script)?;
-    let script = "yield; doc.get(\"m\").get(\"k\") := 1; yield";
-    let mut b = replica(&rt, alloc, 1, script)?;
-    expect_meeting_back(&rt, alloc, &mut a, &mut b, DELETED_AND_ASSIGNED);
+    scripts: [&str; 2],
+    events: &[Event],
+    then: &[Step],
+) -> Result<(), Fail> {
+    let mut pair = Pair::new(rt, alloc, scripts)?;
+    let kept = make_all(rt, alloc, &mut pair, events)?;
+    pair.play(rt, then);
+    expect_back(rt, &mut pair, 0, kept.as_slice());
+    expect_back(rt, &mut pair, 1, kept.as_slice());
     Ok(())
 }
 
-#[test]
-fn inserts_that_meet(rt: HostRuntime) -> Result<(), Fail> {
-    let alloc = rt.alloc();
-    let script = "doc.get(\"l\") := []; yield; doc.get(\"l\").idx(0).insertAfter(\"x\"); yield";
-    let mut a = replica(&rt, alloc, 0, script)?;
-    let script = "yield; doc.get(\"l\").idx(0).insertAfter(\"y\"); yield";
-    let mut b = replica(&rt, alloc, 1, script)?;
-    expect_meeting_back(&rt, alloc, &mut a, &mut b, MET);
-    Ok(())
-}
+/// Two scripts, the events that are made, and what follows.
+const ROWS: [([&str; 2], &[Event], &[Step]); 3] = [
+    (
+        [
+            "doc.get(\"m\") := {}; yield; doc.get(\"m\").delete; yield",
+            "yield; doc.get(\"m\").get(\"k\") := 1; yield",
+        ],
+        &MEETING,
+        DELETED_AND_ASSIGNED,
+    ),
+    (
+        [
+            "doc.get(\"l\") := []; yield; doc.get(\"l\").idx(0).insertAfter(\"x\"); yield",
+            "yield; doc.get(\"l\").idx(0).insertAfter(\"y\"); yield",
+        ],
+        &MEETING,
+        MET,
+    ),
+    (
+        [
+            "doc := []; doc.idx(0).insertAfter(\"x\"); doc.idx(1).insertAfter(\"y\"); doc.idx(1).delete; let z = doc.idx(1); let w = doc.idx(2)",
+            "",
+        ],
+        &[Event::Exec(0); 5],
+        PAST_A_TOMBSTONE,
+    ),
+];
 
 #[test]
-fn list_with_a_tombstone(rt: HostRuntime) -> Result<(), Fail> {
-    let alloc = rt.alloc();
-    let script =
-        "doc := []; doc.idx(0).insertAfter(\"x\"); doc.idx(1).insertAfter(\"y\"); doc.idx(1).delete; let z = doc.idx(1); let w = doc.idx(2)";
-    let mut a = replica(&rt, alloc, 0, script)?;
-    let mut kept = Vec::new(alloc);
-    run_keeping(&rt, alloc, &mut a, 5, &mut kept);
-    assert!(rt; is_shown(alloc, &a, PAST_A_TOMBSTONE));
-    assert!(rt; a.exec(alloc).is_err());
-    assert!(rt; is_shown(alloc, &a, PAST_A_TOMBSTONE));
-    expect_back(&rt, alloc, &mut a, kept.as_slice());
+fn worked_runs(rt: HostRuntime) -> Result<(), Fail> {
+    for (scripts, events, then) in ROWS {
+        expect_all_back(&rt, rt.alloc(), scripts, events, then)?;
+    }
     Ok(())
 }
 
@@ -172,10 +156,6 @@ fn list_with_a_tombstone(rt: HostRuntime) -> Result<(), Fail> {
 fn deepest_cursor(rt: HostRuntime) -> Result<(), Fail> {
     let alloc = rt.alloc();
     let script = deepest_script(alloc)?;
-    let mut a = replica(&rt, alloc, 0, script.as_str())?;
-    let mut kept = Vec::new(alloc);
-    run_keeping(&rt, alloc, &mut a, 515, &mut kept);
-    assert!(rt; a.exec(alloc).is_err());
-    expect_back(&rt, alloc, &mut a, kept.as_slice());
-    Ok(())
+    let events = [Event::Exec(0); 515];
+    expect_all_back(&rt, alloc, [script.as_str(), ""], &events, TOO_DEEP)
 }

@@ -1,12 +1,101 @@
 //! The whole state of a replica as one line.
 
-use crate::expecting::{bound_text, tree_text};
 use jc_cursor::Bound;
-use jc_replica::Replica;
-use jc_rules::{Op, Text};
+use jc_json::{Tree, id_text, key_text, tagged_text};
+use jc_replica::{Replica, ReplicaFault};
+use jc_rules::{Cursor, Id, Op, Text, Trace, Value};
 use jc_tree::PlainTree;
 use std::alloc::{AllocError, Global};
-use std::process::Abort;
+
+/// The number of the refusal, 0 where there is none, and 255 for memory.
+pub fn number_of(outcome: &Result<Trace, ReplicaFault>) -> u8 {
+    match outcome {
+        Ok(_) => 0,
+        Err(ReplicaFault::NotInList) => 20,
+        Err(ReplicaFault::UnboundVariable) => 22,
+        Err(ReplicaFault::GetOnHead) => 23,
+        Err(ReplicaFault::NotACursor) => 24,
+        Err(ReplicaFault::NoSuchNode(_)) => 25,
+        Err(ReplicaFault::PastEnd) => 26,
+        Err(ReplicaFault::NoMap) => 27,
+        Err(ReplicaFault::NoRegister) => 28,
+        Err(ReplicaFault::TooDeep) => 29,
+        Err(ReplicaFault::NoCommand) => 30,
+        Err(ReplicaFault::AtYield) => 31,
+        Err(ReplicaFault::NotAtYield) => 32,
+        Err(ReplicaFault::NotActed) => 33,
+        Err(ReplicaFault::NotReceived) => 34,
+        Err(ReplicaFault::AlreadyApplied) => 35,
+        Err(ReplicaFault::DepsMissing) => 36,
+        Err(ReplicaFault::Memory) => 255,
+    }
+}
+
+/// The names of both replicas.
+fn names(alloc: Global) -> Result<[Text; 2], AllocError> {
+    let a = Text::new(String::from_str(alloc, "a")?);
+    let b = Text::new(String::from_str(alloc, "b")?);
+    Ok([a, b])
+}
+
+/// The text of the tagged key under which nothing stands, where that is the refusal.
+pub fn missing_text(
+    alloc: Global,
+    outcome: &Result<Trace, ReplicaFault>,
+) -> Result<String, AllocError> {
+    match outcome {
+        Err(ReplicaFault::NoSuchNode(key)) => tagged_text(alloc, &names(alloc)?, key),
+        _ => Ok(String::new(alloc)),
+    }
+}
+
+fn push_cursor(
+    alloc: Global,
+    line: &mut String,
+    names: &[Text],
+    cursor: &Cursor,
+) -> Result<(), AllocError> {
+    for key in cursor.path.as_slice() {
+        line.push_str(tagged_text(alloc, names, key)?.as_str())?;
+        line.push_str(" ")?;
+    }
+    line.push_str(key_text(alloc, names, &cursor.last)?.as_str())
+}
+
+fn push_names(line: &mut String, keys: &[Text]) -> Result<(), AllocError> {
+    for key in keys {
+        line.push_str(key.as_str())?;
+        line.push_str(" ")?;
+    }
+    Ok(())
+}
+
+fn push_pairs(
+    alloc: Global,
+    line: &mut String,
+    names: &[Text],
+    pairs: &[(Id, Value)],
+) -> Result<(), AllocError> {
+    for (id, _) in pairs {
+        line.push_str(id_text(alloc, names, *id)?.as_str())?;
+        line.push_str(" ")?;
+    }
+    Ok(())
+}
+
+/// Where a cursor leads, what names there are, or the identifiers of values, with blanks between.
+fn push_bound(
+    alloc: Global,
+    line: &mut String,
+    names: &[Text],
+    bound: &Bound,
+) -> Result<(), AllocError> {
+    match bound {
+        Bound::Cursor(cursor) => push_cursor(alloc, line, names, cursor),
+        Bound::Keys(keys) => push_names(line, keys.as_slice()),
+        Bound::Values(pairs) => push_pairs(alloc, line, names, pairs.as_slice()),
+    }
+}
 
 /// How many commands are left, whether an event of the yield was made, and the greatest counters
 /// applied of the two replicas.
@@ -29,56 +118,49 @@ fn push_ids(line: &mut String, ops: &[Op]) -> Result<(), AllocError> {
     Ok(())
 }
 
-fn push_var(
+fn push_vars(
     alloc: Global,
     line: &mut String,
-    name: &Text,
-    bound: &Bound,
+    names: &[Text],
+    vars: &[(Text, Bound)],
 ) -> Result<(), AllocError> {
-    let name = name.as_str();
-    let text = bound_text(alloc, bound)?;
-    write!(line, "; {name} = {text}")
-}
-
-fn push_vars(alloc: Global, line: &mut String, vars: &[(Text, Bound)]) -> Result<(), AllocError> {
     for (name, bound) in vars {
-        push_var(alloc, line, name, bound)?;
+        line.push_str("; ")?;
+        line.push_str(name.as_str())?;
+        line.push_str(" = ")?;
+        push_bound(alloc, line, names, bound)?;
     }
     Ok(())
 }
 
+/// The text of the replica's tree. Nothing but memory is refused.
 fn push_tree(
     alloc: Global,
     line: &mut String,
-    replica: &Replica<PlainTree>,
+    names: &[Text],
+    store: &PlainTree,
 ) -> Result<(), AllocError> {
-    let tree = tree_text(alloc, replica)?;
-    write!(line, "; {tree}")
+    let tree = Tree {
+        alloc,
+        names,
+        store,
+    };
+    line.push_str("; ")?;
+    let text = serde_json::to_string(alloc, &tree).map_err(|_| AllocError)?;
+    line.push_str(text.as_str())
 }
 
-/// All that the replica is seen as now.
-fn push_state(
-    alloc: Global,
-    line: &mut String,
-    replica: &Replica<PlainTree>,
-) -> Result<(), AllocError> {
-    push_counts(line, replica)?;
-    push_ids(line, replica.queue())?;
-    push_ids(line, replica.sent())?;
-    push_ids(line, replica.received())?;
-    push_vars(alloc, line, replica.vars())?;
-    push_tree(alloc, line, replica)
-}
-
-/// The replica's state has this line.
-pub fn is_shown(alloc: Global, replica: &Replica<PlainTree>, want: &str) -> bool {
+/// All that the replica is seen as now, as one line: how many commands are left, whether an event of
+/// the yield was made, the greatest counters applied of both replicas; its queue, what it offers and
+/// what it received; its variables; its tree.
+pub fn line_of(alloc: Global, replica: &Replica<PlainTree>) -> Result<String, AllocError> {
+    let names = names(alloc)?;
     let mut line = String::new(alloc);
-    push_state(alloc, &mut line, replica).is_ok() && line.as_str() == want
-}
-
-/// Puts the line of the replica's state behind the others.
-pub fn keep(rt: &impl Abort, alloc: Global, replica: &Replica<PlainTree>, kept: &mut Vec<String>) {
-    let mut line = String::new(alloc);
-    assert!(rt; push_state(alloc, &mut line, replica).is_ok());
-    assert!(rt; kept.push(line).is_ok());
+    push_counts(&mut line, replica)?;
+    push_ids(&mut line, replica.queue())?;
+    push_ids(&mut line, replica.sent())?;
+    push_ids(&mut line, replica.received())?;
+    push_vars(alloc, &mut line, &names, replica.vars())?;
+    push_tree(alloc, &mut line, &names, replica.tree())?;
+    Ok(line)
 }

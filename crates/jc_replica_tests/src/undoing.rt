@@ -1,19 +1,14 @@
 //! Steps that are taken back, and made once more.
 
-use crate::expecting::{
-    expect_counts, expect_number, expect_rows, expect_state, expect_tree, expect_vars,
-};
-use crate::replicas::{go_back, replica, run};
-use jc_rules::Rule;
+use crate::pair::{Step, play};
+use jc_rules::{Event, Rule};
 use std::test::Fail;
 
 const SCRIPT: &str = "let x = doc; x.get(\"a\") := 1; let x = x.get(\"a\"); x.delete; let x = doc";
 
+/// The whole script was run.
 const DELETED: &str =
-    "{\"mapT(doc)\":{\"pres(\\\"a\\\")\":[],\"regT(\\\"a\\\")\":{}},\"pres(doc)\":[\"1@a\"]}";
-
-const ASSIGNED: &str =
-    "{\"mapT(doc)\":{\"pres(\\\"a\\\")\":[\"1@a\"],\"regT(\\\"a\\\")\":{\"1@a\":{\"n\":\"1\"}}},\"pres(doc)\":[\"1@a\"]}";
+    "0 fresh 2 0; 1@0 2@0;;; x = doc; {\"mapT(doc)\":{\"pres(\\\"a\\\")\":[],\"regT(\\\"a\\\")\":{}},\"pres(doc)\":[\"1@a\"]}";
 
 /// `let x = x.get("a")`
 const BY_A_VARIABLE: [(Rule, u64); 4] = [
@@ -23,79 +18,64 @@ const BY_A_VARIABLE: [(Rule, u64); 4] = [
     (Rule::Var, 3),
 ];
 
+const COMMANDS: &[Step] = &[
+    Step::AtStart(0),
+    Step::Run(0, 5),
+    Step::Shown(0, DELETED),
+    Step::Back(0, 1),
+    Step::Shown(
+        0,
+        "1 fresh 2 0; 1@0 2@0;;; x = mapT(doc) \"a\"; {\"mapT(doc)\":{\"pres(\\\"a\\\")\":[],\"regT(\\\"a\\\")\":{}},\"pres(doc)\":[\"1@a\"]}",
+    ),
+    Step::Back(0, 2),
+    Step::Shown(
+        0,
+        "3 fresh 1 0; 1@0;;; x = doc; {\"mapT(doc)\":{\"pres(\\\"a\\\")\":[\"1@a\"],\"regT(\\\"a\\\")\":{\"1@a\":{\"n\":\"1\"}}},\"pres(doc)\":[\"1@a\"]}",
+    ),
+    Step::Rows(Event::Exec(0), &BY_A_VARIABLE),
+    Step::Run(0, 2),
+    Step::Shown(0, DELETED),
+    Step::Back(0, 5),
+    Step::AtStart(0),
+    Step::Shown(0, "5 fresh 0 0;;;; {}"),
+];
+
 #[test]
 fn commands(rt: HostRuntime) -> Result<(), Fail> {
-    let alloc = rt.alloc();
-    let mut a = replica(&rt, alloc, 0, SCRIPT)?;
-    run(&rt, alloc, &mut a, 5);
-    expect_tree(&rt, alloc, &a, DELETED);
-    expect_vars(&rt, alloc, &a, &[("x", "doc")]);
-    expect_state(&rt, &a, 0, false, [2, 0]);
-    go_back(&rt, &mut a, 1);
-    expect_tree(&rt, alloc, &a, DELETED);
-    expect_vars(&rt, alloc, &a, &[("x", "mapT(doc) \"a\"")]);
-    expect_state(&rt, &a, 1, false, [2, 0]);
-    go_back(&rt, &mut a, 2);
-    expect_tree(&rt, alloc, &a, ASSIGNED);
-    expect_vars(&rt, alloc, &a, &[("x", "doc")]);
-    expect_state(&rt, &a, 3, false, [1, 0]);
-    Ok(())
-}
-
-#[test]
-fn once_more(rt: HostRuntime) -> Result<(), Fail> {
-    let alloc = rt.alloc();
-    let mut a = replica(&rt, alloc, 0, SCRIPT)?;
-    run(&rt, alloc, &mut a, 5);
-    go_back(&rt, &mut a, 3);
-    expect_rows(&rt, &a.exec(alloc), &BY_A_VARIABLE);
-    run(&rt, alloc, &mut a, 2);
-    expect_tree(&rt, alloc, &a, DELETED);
-    expect_vars(&rt, alloc, &a, &[("x", "doc")]);
-    expect_state(&rt, &a, 0, false, [2, 0]);
-    Ok(())
-}
-
-#[test]
-fn to_the_start(rt: HostRuntime) -> Result<(), Fail> {
-    let alloc = rt.alloc();
-    let mut a = replica(&rt, alloc, 0, SCRIPT)?;
-    assert!(rt; !a.undo());
-    run(&rt, alloc, &mut a, 5);
-    go_back(&rt, &mut a, 5);
-    assert!(rt; !a.undo());
-    expect_tree(&rt, alloc, &a, "{}");
-    expect_vars(&rt, alloc, &a, &[]);
-    expect_state(&rt, &a, 5, false, [0, 0]);
-    expect_counts(&rt, &a, 0, 0, 0);
-    Ok(())
+    play(&rt, rt.alloc(), [SCRIPT, ""], COMMANDS)
 }
 
 /// What a yield did is taken back one event after the other.
+const YIELDS: &[Step] = &[
+    Step::Run(0, 1),
+    Step::Event(Event::Send(0), 0),
+    Step::Event(Event::Done(0), 0),
+    Step::Run(0, 1),
+    Step::Event(Event::Send(0), 0),
+    Step::Shown(
+        0,
+        "1 acted 2 0; 1@0 2@0; 1@0 2@0;; {\"mapT(doc)\":{\"pres(\\\"a\\\")\":[\"1@a\"],\"pres(\\\"b\\\")\":[\"2@a\"],\"regT(\\\"a\\\")\":{\"1@a\":{\"n\":\"1\"}},\"regT(\\\"b\\\")\":{\"2@a\":{\"n\":\"2\"}}},\"pres(doc)\":[\"1@a\",\"2@a\"]}",
+    ),
+    Step::Back(0, 1),
+    Step::Shown(
+        0,
+        "1 fresh 2 0; 1@0 2@0; 1@0;; {\"mapT(doc)\":{\"pres(\\\"a\\\")\":[\"1@a\"],\"pres(\\\"b\\\")\":[\"2@a\"],\"regT(\\\"a\\\")\":{\"1@a\":{\"n\":\"1\"}},\"regT(\\\"b\\\")\":{\"2@a\":{\"n\":\"2\"}}},\"pres(doc)\":[\"1@a\",\"2@a\"]}",
+    ),
+    Step::Back(0, 2),
+    Step::Shown(
+        0,
+        "3 acted 1 0; 1@0; 1@0;; {\"mapT(doc)\":{\"pres(\\\"a\\\")\":[\"1@a\"],\"regT(\\\"a\\\")\":{\"1@a\":{\"n\":\"1\"}}},\"pres(doc)\":[\"1@a\"]}",
+    ),
+    Step::Back(0, 1),
+    Step::Shown(
+        0,
+        "3 fresh 1 0; 1@0;;; {\"mapT(doc)\":{\"pres(\\\"a\\\")\":[\"1@a\"],\"regT(\\\"a\\\")\":{\"1@a\":{\"n\":\"1\"}}},\"pres(doc)\":[\"1@a\"]}",
+    ),
+    Step::Event(Event::Done(0), 33),
+];
+
 #[test]
 fn yields(rt: HostRuntime) -> Result<(), Fail> {
-    let alloc = rt.alloc();
-    let mut a = replica(
-        &rt,
-        alloc,
-        0,
-        "doc.get(\"a\") := 1; yield; doc.get(\"b\") := 2; yield",
-    )?;
-    run(&rt, alloc, &mut a, 1);
-    expect_number(&rt, &a.send(alloc), 0);
-    expect_number(&rt, &a.done(alloc), 0);
-    run(&rt, alloc, &mut a, 1);
-    expect_number(&rt, &a.send(alloc), 0);
-    expect_counts(&rt, &a, 2, 2, 0);
-    go_back(&rt, &mut a, 1);
-    expect_counts(&rt, &a, 2, 1, 0);
-    expect_state(&rt, &a, 1, false, [2, 0]);
-    go_back(&rt, &mut a, 2);
-    expect_counts(&rt, &a, 1, 1, 0);
-    expect_state(&rt, &a, 3, true, [1, 0]);
-    go_back(&rt, &mut a, 1);
-    expect_counts(&rt, &a, 1, 0, 0);
-    expect_state(&rt, &a, 3, false, [1, 0]);
-    expect_number(&rt, &a.done(alloc), 33);
-    Ok(())
+    let script = "doc.get(\"a\") := 1; yield; doc.get(\"b\") := 2; yield";
+    play(&rt, rt.alloc(), [script, ""], YIELDS)
 }
