@@ -136,9 +136,9 @@ fn expect_each_tried(rt: &impl Abort, alloc: Global, net: &mut Net, schedule: &[
 #[test]
 fn told_is_made(rt: HostRuntime) -> Result<(), Fail> {
     let alloc = rt.alloc();
-    let (mut net, schedule) = begun(alloc, met(alloc, DELETION)?.as_str())?;
-    expect_each_tried(&rt, alloc, &mut net, schedule.as_slice());
-    let (mut net, schedule) = begun(alloc, met(alloc, INSERTS)?.as_str())?;
-    expect_each_tried(&rt, alloc, &mut net, schedule.as_slice());
+    for scripts in [DELETION, INSERTS] {
+        let (mut net, schedule) = begun(alloc, met(alloc, scripts)?.as_str())?;
+        expect_each_tried(&rt, alloc, &mut net, schedule.as_slice());
+    }
     Ok(())
 }

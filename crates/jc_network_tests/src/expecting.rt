@@ -1,53 +1,40 @@
 //! What is expected of networks.
 
-use crate::texts::{Part, line_of};
+use jc_dump::dump_replica;
 use jc_json::tagged_text;
-use jc_network::{Net, StepFault};
-use jc_rules::{Event, Id, Op, Rule, Trace};
+use jc_network::{CompareFault, Net, StepFault};
+use jc_rules::{Event, Rule, Tagged, Trace};
 use std::alloc::{AllocError, Global};
 use std::process::Abort;
 
-/// The line has this text.
-pub fn expect_line(rt: &impl Abort, line: Result<String, AllocError>, want: &str) {
-    match line {
-        Ok(line) => assert_eq!(rt; line.as_str(), want),
-        Err(_) => panic!(rt; "no memory"),
+/// The dump line of replica p.
+pub fn dump(rt: &impl Abort, alloc: Global, net: &Net, p: u16) -> String {
+    match dump_replica(alloc, net, p) {
+        Ok(line) => line,
+        Err(_) => panic!(rt; "no dump"),
     }
 }
 
-/// These are the operations' identifiers.
-fn expect_ids(rt: &impl Abort, ids: &[Id], ops: &[Op]) {
-    assert!(rt; ids.len() == ops.len());
-    for (id, op) in ids.iter().zip(ops) {
-        assert!(rt; *id == op.id);
+/// Replica p has this dump line, but for its line feed.
+pub fn expect_dump(rt: &impl Abort, alloc: Global, net: &Net, p: u16, want: &str) {
+    let line = dump(rt, alloc, net, p);
+    let line = line.as_str();
+    assert!(rt; line.strip_suffix("\n") == Some(want), "{line}");
+}
+
+/// Whether the operations that replica p has applied have the identifiers that are told of them.
+fn are_told_alike(net: &Net, p: u16) -> Result<bool, CompareFault> {
+    let (ops, ids) = (net.applied(p)?, net.applied_ids(p)?);
+    let mut alike = ops.len() == ids.len();
+    for (op, id) in ops.iter().zip(&ids) {
+        alike = alike && op.id == *id;
     }
+    Ok(alike)
 }
 
-fn expect_part(rt: &impl Abort, alloc: Global, net: &Net, p: u16, part: Part, want: &str) {
-    let (Ok(applied), Ok(ids)) = (net.applied(p), net.applied_ids(p)) else {
-        panic!(rt; "no such replica");
-    };
-    expect_ids(rt, ids.as_slice(), applied.as_slice());
-    expect_line(
-        rt,
-        line_of(alloc, net, p, applied.as_slice(), &[part]),
-        want,
-    );
-}
-
-/// Replica p has this document.
-pub fn expect_tree(rt: &impl Abort, alloc: Global, net: &Net, p: u16, want: &str) {
-    expect_part(rt, alloc, net, p, Part::Tree, want);
-}
-
-/// Replica p has these variables.
-pub fn expect_vars(rt: &impl Abort, alloc: Global, net: &Net, p: u16, want: &str) {
-    expect_part(rt, alloc, net, p, Part::Vars, want);
-}
-
-/// Replica p has this state beside its document and its variables.
-pub fn expect_state(rt: &impl Abort, alloc: Global, net: &Net, p: u16, want: &str) {
-    expect_part(rt, alloc, net, p, Part::State, want);
+/// The operations that replica p has applied have the identifiers that are told of them.
+pub fn expect_ids(rt: &impl Abort, net: &Net, p: u16) {
+    assert!(rt; are_told_alike(net, p) == Ok(true));
 }
 
 /// The number of the refusal, 0 where there is none, and 255 for a refusal without a number.
@@ -61,35 +48,39 @@ fn number_of(outcome: &Result<Trace, StepFault>, event: &Event) -> u8 {
 
 /// The event is stuck for this number, or it is made where the number is 0.
 pub fn expect_number(rt: &impl Abort, net: &mut Net, event: Event, number: u8) {
-    assert_eq!(rt; number_of(&net.step(&event), &event), number);
+    assert!(rt; number_of(&net.step(&event), &event) == number);
 }
 
-fn missing_text(
-    alloc: Global,
-    net: &Net,
-    outcome: &Result<Trace, StepFault>,
-) -> Result<String, AllocError> {
+/// The tagged key with which the event is stuck for 25.
+fn missing_key<'a>(outcome: &'a Result<Trace, StepFault>, event: &Event) -> Option<&'a Tagged> {
     match outcome {
-        Err(StepFault::Stuck(stuck)) => match &stuck.key {
-            Some(key) => tagged_text(alloc, net.names(), key),
-            None => Ok(String::new(alloc)),
-        },
-        _ => Ok(String::new(alloc)),
+        Err(StepFault::Stuck(stuck)) if stuck.event == *event && stuck.number == 25 => {
+            stuck.key.as_ref()
+        }
+        _ => None,
+    }
+}
+
+fn missing_text(alloc: Global, net: &mut Net, event: &Event) -> Result<Option<String>, AllocError> {
+    let outcome = net.step(event);
+    match missing_key(&outcome, event) {
+        Some(key) => Ok(Some(tagged_text(alloc, net.names(), key)?)),
+        None => Ok(None),
     }
 }
 
 /// The event is stuck because nothing stands under the tagged key that has this text.
 pub fn expect_missing(rt: &impl Abort, alloc: Global, net: &mut Net, event: Event, want: &str) {
-    let outcome = net.step(&event);
-    assert_eq!(rt; number_of(&outcome, &event), 25);
-    expect_line(rt, missing_text(alloc, net, &outcome), want);
+    match missing_text(alloc, net, &event) {
+        Ok(Some(key)) => assert!(rt; key.as_str() == want),
+        _ => panic!(rt; "no key"),
+    }
 }
 
 /// The event is made, by these rules.
 pub fn expect_rows(rt: &impl Abort, net: &mut Net, event: Event, want: &[(Rule, u64)]) {
-    let same = match net.step(&event) {
-        Ok(trace) => trace.rows() == want,
-        Err(_) => false,
-    };
-    assert!(rt; same);
+    match net.step(&event) {
+        Ok(trace) => assert!(rt; trace.rows() == want),
+        Err(_) => panic!(rt; "stuck"),
+    }
 }

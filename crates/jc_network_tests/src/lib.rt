@@ -14,6 +14,6 @@ mod nets;
 #[cfg(test)]
 mod rows;
 #[cfg(test)]
-mod texts;
+mod steps;
 #[cfg(test)]
 mod undoing;

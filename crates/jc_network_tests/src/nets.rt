@@ -76,13 +76,6 @@ pub fn run_commands(rt: &impl Abort, net: &mut Net, commands: u64) {
     }
 }
 
-/// The network after its whole schedule.
-pub fn ended(rt: &impl Abort, alloc: Global, text: &str) -> Result<Net, Fail> {
-    let (mut net, schedule) = begun(alloc, text)?;
-    run(rt, &mut net, schedule.as_slice());
-    Ok(net)
-}
-
 /// Takes so many steps back.
 pub fn go_back(rt: &impl Abort, net: &mut Net, steps: u64) {
     for _ in 0..steps {
