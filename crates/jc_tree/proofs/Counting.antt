@@ -1,9 +1,8 @@
 -- How many presence sets have an identifier once one of them changed.
-use Rattle.std.proofs.Common.{◌≡◌, ℕ, ◌+◌, ◌≤◌, List, [], ◌∷◌, length, Bool, true, false, not, ◌&&◌, cond, Option, Some, None, refl, sym, ◌∙◌, ap, arith}
-use Rattle.std.specs.List.{count_by}
+use Rattle.std.proofs.Common.{◌≡◌, ℕ, ◌+◌, List, [], ◌∷◌, Bool, true, false, not, cond, Option, Some, None, refl, sym, ◌∙◌, ap, arith}
 use Rattle.std.specs.declared.cmp.Ordering.{Ordering}
 use Rattle.std.specs.declared.cmp.Ordering.TheVariants.{Less, Equal, Greater}
-use Rattle.std.proofs.lemmas.List.Sums.{sum_by-cons, count_by-le-length}
+use Rattle.std.proofs.lemmas.List.Sums.{sum_by-cons}
 use Rattle.jc_rules.specs.declared.id.Id.{Id}
 use Rattle.jc_rules.specs.declared.key.Key.{Key}
 use Rattle.jc_rules.specs.Order.{key_cmp, id_cmp}
@@ -118,9 +117,6 @@ count_out k i es = go (find key_cmp k es) refl
     go : (o : Option (List Id)) → find key_cmp k es ≡ o → count_present (out_of_set k i (find key_cmp k es) es) + cond (is_last i (or_none (find key_cmp k es))) 1 0 ≡ count_present es
     go None p = rw p (omega arith)
     go (Some s) p = rw p (omega (arith, count_put k (taken_out i s) es, ap one_of p, one_left i s))
-
-pub within_length : (es : List (Key × List Id)) → count_present es ≤ length es
-within_length es = count_by-le-length (λ (d : Key × List Id). has_ids d.1) es
 
 pub some_left : {a b : Bool} → a ≡ not b → not a ≡ b
 some_left {b} h = ap not h ∙ twice b
