@@ -1,8 +1,7 @@
 //! What expressions give: cursors, names and values.
 
-use crate::documents::{assign, assign_unseen, bound, change, document, name, text};
-use crate::expecting::{expect_cursor, expect_keys, expect_refused, expect_rows, expect_values};
-use jc_rules::{Id, Key, Mutation, Rule, Tagged, Value};
+use crate::scene::{Change, Step, play};
+use jc_rules::{Id, Rule};
 use std::test::Fail;
 
 /// The rules of `let z = doc.idx(1)` where the first element was deleted.
@@ -35,136 +34,70 @@ const OF_VALUES: [(Rule, u64); 7] = [
     (Rule::Val2, 4),
 ];
 
-fn id(counter: u64, replica: u16) -> Id {
-    Id { counter, replica }
-}
+const FIRST: Id = Id {
+    counter: 1,
+    replica: 0,
+};
 
-#[test]
-fn cursors(rt: HostRuntime) -> Result<(), Fail> {
-    let alloc = rt.alloc();
-    let store = document(alloc);
-    expect_cursor(&rt, alloc, &store, &[], "doc", &[], &Key::Doc);
-    let a = name(alloc, "a")?;
-    let path = [Tagged::MapT(Key::Doc)];
-    expect_cursor(&rt, alloc, &store, &[], "doc.get(\"a\")", &path, &a);
-    let vars = bound(&rt, alloc, &store, &[], "x", "doc.get(\"a\")")?;
-    expect_cursor(&rt, alloc, &store, &vars, "x", &path, &a);
-    Ok(())
-}
+const CURSORS: &[Step] = &[
+    Step::Gives("doc", "doc"),
+    Step::Gives("doc.get(\"a\")", "mapT(doc) \"a\""),
+    Step::Let("x", "doc.get(\"a\")"),
+    Step::Gives("x", "mapT(doc) \"a\""),
+];
 
 /// A deleted element isn't counted.
-#[test]
-fn elements(rt: HostRuntime) -> Result<(), Fail> {
-    let alloc = rt.alloc();
-    let mut store = document(alloc);
-    let mut count = 0;
-    let list = Mutation::Assign(Value::EmptyList);
-    change(&rt, alloc, &mut store, &mut count, &[], "doc", list)?;
-    let x = Mutation::Insert(Value::Str(text(alloc, "x")?));
-    change(&rt, alloc, &mut store, &mut count, &[], "doc.idx(0)", x)?;
-    let y = Mutation::Insert(Value::Str(text(alloc, "y")?));
-    change(&rt, alloc, &mut store, &mut count, &[], "doc.idx(1)", y)?;
-    change(
-        &rt,
-        alloc,
-        &mut store,
-        &mut count,
-        &[],
-        "doc.idx(1)",
-        Mutation::Delete,
-    )?;
-    let path = [Tagged::ListT(Key::Doc)];
-    expect_cursor(
-        &rt,
-        alloc,
-        &store,
-        &[],
-        "doc.idx(1)",
-        &path,
-        &Key::Elem(id(3, 0)),
-    );
-    expect_values(
-        &rt,
-        alloc,
-        &store,
-        &[],
-        "doc.idx(1).values",
-        &[(id(3, 0), "y")],
-    );
-    expect_rows(&rt, alloc, &store, "doc.idx(1)", &PAST_A_TOMBSTONE)?;
-    let rows = [
-        ("doc.idx(2)", 26),
-        ("doc.idx(3)", 26),
-        ("doc.idx(2).get(\"a\")", 26),
-    ];
-    expect_refused(&rt, alloc, &store, &[], &rows);
-    Ok(())
-}
+const ELEMENTS: &[Step] = &[
+    Step::Change("doc", Change::List),
+    Step::Change("doc.idx(0)", Change::Insert("x")),
+    Step::Change("doc.idx(1)", Change::Insert("y")),
+    Step::Change("doc.idx(1)", Change::Delete),
+    Step::Gives("doc.idx(1)", "listT(doc) 3@a"),
+    Step::Gives("doc.idx(1).values", "values 3@a y"),
+    Step::Rows("doc.idx(1)", &PAST_A_TOMBSTONE),
+    Step::Refused("doc.idx(2)", 26),
+    Step::Refused("doc.idx(3)", 26),
+    Step::Refused("doc.idx(2).get(\"a\")", 26),
+];
 
 /// Names come by their bytes. A cleared name isn't there, nor is what is no name.
-#[test]
-fn names(rt: HostRuntime) -> Result<(), Fail> {
-    let alloc = rt.alloc();
-    let mut store = document(alloc);
-    let mut count = 0;
-    assign(&rt, alloc, &mut store, &mut count, "doc.get(\"b\")", "x")?;
-    assign(&rt, alloc, &mut store, &mut count, "doc.get(\"a\")", "x")?;
-    assign(&rt, alloc, &mut store, &mut count, "doc.get(\"c\")", "x")?;
-    assign(&rt, alloc, &mut store, &mut count, "doc.get(\"B\")", "x")?;
-    change(
-        &rt,
-        alloc,
-        &mut store,
-        &mut count,
-        &[],
-        "doc.get(\"c\")",
-        Mutation::Delete,
-    )?;
-    assign_unseen(&rt, alloc, &mut store, &mut count, Key::Elem(id(1, 0)), "x")?;
-    let want = ["B", "a", "b"];
-    expect_keys(&rt, alloc, &store, &[], "doc.keys", &want);
-    expect_rows(&rt, alloc, &store, "doc.keys", &OF_KEYS)?;
-    let vars = bound(&rt, alloc, &store, &[], "x", "doc.keys")?;
-    expect_keys(&rt, alloc, &store, &vars, "x", &want);
-    expect_values(&rt, alloc, &store, &[], "doc.get(\"c\").values", &[]);
-    Ok(())
-}
+const NAMES: &[Step] = &[
+    Step::Change("doc.get(\"b\")", Change::String("x")),
+    Step::Change("doc.get(\"a\")", Change::String("x")),
+    Step::Change("doc.get(\"c\")", Change::String("x")),
+    Step::Change("doc.get(\"B\")", Change::String("x")),
+    Step::Change("doc.get(\"c\")", Change::Delete),
+    Step::UnseenElement(FIRST, "x"),
+    Step::Gives("doc.keys", "keys B a b"),
+    Step::Rows("doc.keys", &OF_KEYS),
+    Step::Let("x", "doc.keys"),
+    Step::Gives("x", "keys B a b"),
+    Step::Gives("doc.get(\"c\").values", "values"),
+];
 
 /// Two replicas assigned a key at the same time: both values are there, by identifier.
-#[test]
-fn values(rt: HostRuntime) -> Result<(), Fail> {
-    let alloc = rt.alloc();
-    let mut store = document(alloc);
-    let mut count = 0;
-    assign(&rt, alloc, &mut store, &mut count, "doc.get(\"k\")", "x")?;
-    assign_unseen(&rt, alloc, &mut store, &mut count, name(alloc, "k")?, "y")?;
-    assign(&rt, alloc, &mut store, &mut count, "doc.get(\"j\")", "z")?;
-    let want = [(id(1, 0), "x"), (id(2, 1), "y")];
-    expect_values(&rt, alloc, &store, &[], "doc.get(\"k\").values", &want);
-    expect_rows(&rt, alloc, &store, "doc.get(\"k\").values", &OF_VALUES)?;
-    let vars = bound(&rt, alloc, &store, &[], "x", "doc.get(\"k\").values")?;
-    expect_values(&rt, alloc, &store, &vars, "x", &want);
-    Ok(())
-}
+const VALUES: &[Step] = &[
+    Step::Change("doc.get(\"k\")", Change::String("x")),
+    Step::Unseen("k", "y"),
+    Step::Change("doc.get(\"j\")", Change::String("z")),
+    Step::Gives("doc.get(\"k\").values", "values 1@a x 2@b y"),
+    Step::Rows("doc.get(\"k\").values", &OF_VALUES),
+    Step::Let("x", "doc.get(\"k\").values"),
+    Step::Gives("x", "values 1@a x 2@b y"),
+];
 
 /// A register that a map was assigned over is still there, and has no value.
+const CLEARED_REGISTER: &[Step] = &[
+    Step::Change("doc.get(\"k\")", Change::String("x")),
+    Step::Change("doc.get(\"k\")", Change::Map),
+    Step::Gives("doc.get(\"k\").values", "values"),
+    Step::Gives("doc.get(\"k\").keys", "keys"),
+];
+
 #[test]
-fn cleared_register(rt: HostRuntime) -> Result<(), Fail> {
-    let alloc = rt.alloc();
-    let mut store = document(alloc);
-    let mut count = 0;
-    assign(&rt, alloc, &mut store, &mut count, "doc.get(\"k\")", "x")?;
-    let map = Mutation::Assign(Value::EmptyMap);
-    change(
-        &rt,
-        alloc,
-        &mut store,
-        &mut count,
-        &[],
-        "doc.get(\"k\")",
-        map,
-    )?;
-    expect_values(&rt, alloc, &store, &[], "doc.get(\"k\").values", &[]);
-    expect_keys(&rt, alloc, &store, &[], "doc.get(\"k\").keys", &[]);
+fn what_is_given(rt: HostRuntime) -> Result<(), Fail> {
+    for steps in [CURSORS, ELEMENTS, NAMES, VALUES, CLEARED_REGISTER] {
+        play(&rt, rt.alloc(), steps)?;
+    }
     Ok(())
 }

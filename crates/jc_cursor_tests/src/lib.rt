@@ -3,12 +3,12 @@
 #![tactic(auto)]
 
 #[cfg(test)]
-mod documents;
-#[cfg(test)]
-mod expecting;
-#[cfg(test)]
 mod given;
 #[cfg(test)]
 mod long;
 #[cfg(test)]
 mod refused;
+#[cfg(test)]
+mod scene;
+#[cfg(test)]
+mod showing;

@@ -7,11 +7,12 @@ ghost use Rattle.jc_rules.specs.Places.{node_at, node_in};
 ghost use Rattle.jc_rules.specs.Shape.{IsChained};
 ghost use Rattle.jc_tree.specs.Tree.{HasPlace};
 
-use crate::documents::{document, evaluated};
-use crate::expecting::{expect_cursor, expect_refused};
+use crate::scene::evaluated;
+use crate::showing::{bound_text, number_of};
+use jc_cursor::EvalFault;
 use jc_rules::{Id, Key, Next, Tagged, Trace};
-use jc_tree::TreeStore;
-use std::alloc::AllocError;
+use jc_tree::{PlainTree, TreeStore};
+use std::alloc::{AllocError, Global};
 use std::process::Abort;
 use std::test::Fail;
 
@@ -103,20 +104,42 @@ fn many_elements<S: TreeStore>(
     Ok(())
 }
 
+/// The expression gives the last element, by as many rules as there are elements, and four.
+fn expect_last<S: TreeStore>(
+    rt: &impl Abort,
+    alloc: Global,
+    store: &S,
+    expr: &str,
+) -> Result<(), EvalFault>
+    requires { IsChained (S.tree store.now).now }
+{
+    let mut trace = Trace::new(alloc);
+    let bound = evaluated(rt, alloc, store, &[], expr, &mut trace)?;
+    assert!(rt; trace.rows().len() == 60_004);
+    let given = bound_text(alloc, &bound)?;
+    assert!(rt; given.as_str() == "listT(doc) 59999@a");
+    Ok(())
+}
+
+/// The expression leads past the last element.
+fn expect_past_end<S: TreeStore>(rt: &impl Abort, alloc: Global, store: &S, expr: &str)
+    requires { IsChained (S.tree store.now).now }
+{
+    let mut trace = Trace::new(alloc);
+    let number = number_of(&evaluated(rt, alloc, store, &[], expr, &mut trace));
+    assert!(rt; number == 26, "{expr}");
+}
+
 #[test]
 fn long_list(rt: HostRuntime) -> Result<(), Fail> {
     let alloc = rt.alloc();
-    let mut store = document(alloc);
+    let mut store = PlainTree::new(alloc);
     let list = Tagged::ListT(Key::Doc);
     let at = [list.copy()?];
     make_list(&rt, &mut store, &at, &list)?;
     many_elements(&rt, &mut store, &at)?;
-    let mut trace = Trace::new(alloc);
-    assert!(rt; evaluated(&rt, alloc, &store, &[], "doc.idx(60000)", &mut trace).is_ok());
-    assert_eq!(rt; trace.rows().len(), 60_004);
-    let last = Key::Elem(id(ELEMENTS - 1));
-    expect_cursor(&rt, alloc, &store, &[], "doc.idx(60000)", &at, &last);
-    let rows = [("doc.idx(60001)", 26), ("doc.idx(4294967295)", 26)];
-    expect_refused(&rt, alloc, &store, &[], &rows);
+    expect_last(&rt, alloc, &store, "doc.idx(60000)")?;
+    expect_past_end(&rt, alloc, &store, "doc.idx(60001)");
+    expect_past_end(&rt, alloc, &store, "doc.idx(4294967295)");
     Ok(())
 }

@@ -10,6 +10,7 @@ use jc_fakes::{Bytes, Taken, TakesUpTo, Then};
 use jc_rules::io::{ReadFault, Source, read_up_to};
 use std::alloc::{AllocError, Global};
 use std::process::Abort;
+use std::{fs, io};
 
 /// Files in memory: the name and the bytes of each.
 #[derive(Drop)]
@@ -161,6 +162,15 @@ fn no_such_file(rt: HostRuntime) {
     expect_unread(&rt, &["run", "/no/such/file"], 4, b"read failed\n");
     expect_unread(&rt, &["check", "/no/such/file"], 4, b"read failed\n");
     expect_unread(&rt, &["debug", "/no/such/file"], 4, b"read failed\n");
+}
+
+/// A file of the machine, written for this, is read.
+#[test]
+fn file_of_the_machine(rt: HostRuntime) -> io::Result<()> {
+    fs::write(&rt, "scenario", ONE)?;
+    expect_shown(&rt, &rt, &["run", "scenario"], "", &[ONE_DUMP], 0);
+    expect_shown(&rt, &rt, &["check", "scenario"], "", &[COUNTS], 0);
+    fs::remove_file(&rt, "scenario")
 }
 
 /// Words that ask for help, and what it has in it.
