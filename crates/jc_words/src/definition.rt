@@ -95,6 +95,7 @@ pub(crate) fn definition<'a>(alloc: Global) -> Result<Command<'a>, AllocError>
     )?;
     let threads = threads(alloc)?;
     let top = Command::new(alloc, "jsoncrdt")
+        .bin_name("jsoncrdt")?
         .about("Runs scenarios of a replicated JSON document, and shows each rule that is used")
         .after_help(PROGRAM)
         .no_binary_name(true)

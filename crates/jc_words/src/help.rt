@@ -12,6 +12,23 @@ prints the state of replica a after its only event:\n  \
 \n\
 Without words it does `jsoncrdt run --trace -`. The help of a command has an example of it.\n\
 \n\
+Commands of a script, where P is `doc` or a variable, with any number of .get(\"KEY\") and\n\
+.idx(N) behind it, and V is a number, a string, true, false, null, {} or []:\n  \
+let NAME = P      bind a variable; also to P.keys or P.values\n  \
+P := V            assign\n  \
+P.insertAfter(V)  put a new element behind that at P; idx(1) is the first, idx(0) the head\n  \
+P.delete          delete what is at P\n  \
+yield             take part in the network, by the events below, until done\n\
+\n\
+Events of a schedule, where A and B are replicas:\n  \
+A.exec            run the next command of A\n  \
+A.send            at a yield, offer the operations that A made\n  \
+A.recv(B)         at a yield, receive the operations that B offers\n  \
+A.apply(N, B)     at a yield, apply the received operation of B with the counter N\n  \
+A.done            end the yield, after at least one of these three\n\
+\n\
+docs/FORMATS.md and docs/RULES.md in the repository say all of this exactly.\n\
+\n\
 Statuses:\n  \
 0  done, also after help\n  \
 1  the scenario's text was refused; the line printed says why and where\n  \
@@ -85,7 +102,7 @@ Lines, where N is a number:\n  \
 step [N], back [N]   make the next N events, or take back the last; one without N\n  \
 goto N               go to the position after event N\n  \
 run                  make events up to a breakpoint, a stuck event or the end\n  \
-act EVENT            make this event, and cut the schedule there\n  \
+act EVENT            make this event, as a.exec or a.recv(b), and cut the schedule there\n  \
 break at N, break rule NAME, break replica NAME\n                       \
 set a breakpoint\n  \
 unbreak N            clear the breakpoint of this number\n  \

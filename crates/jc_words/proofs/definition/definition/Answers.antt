@@ -17,7 +17,7 @@ bare_wanted a = record { top = record a.top { subcommand_required = true }; subs
 pub returns : goal.returns
 unfolding program bare_name bare_help bare_wanted
 returns c =
-    let named : app_of c.after_help.result ≡ new_app (codes "jsoncrdt") = ap app_of_fields c.after_help.ensures ∙ ap app_of_fields c.about.ensures ∙ c.new.ensures.app in
+    let named : app_of c.after_help.result ≡ new_app (codes "jsoncrdt") = ap app_of_fields c.after_help.ensures ∙ ap app_of_fields c.about.ensures ∙ ap app_of_fields c.in_ok-bin_name.ensures.0 ∙ c.new.ensures.app in
     let first = ap app_of_fields c.no_binary_name.ensures ∙ ap bare_name named in
     let second = ap app_of_fields c.disable_help_subcommand.ensures ∙ ap bare_help first in
     let top_is : app_of c.subcommand_required-top.result ≡ bare = ap app_of_fields c.subcommand_required-top.ensures ∙ ap bare_wanted second in
