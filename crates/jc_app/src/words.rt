@@ -4,7 +4,7 @@ ghost use Rattle.std.specs.Prelude.{◌≡◌, ◌≢◌, codes};
 ghost use Rattle.jc_app.specs.Due.{AppendsUpTo};
 
 use crate::work::{WorkFault, end};
-use jc_rules::io::Sink;
+use jc_rules::io::{Sink, write_all};
 use std::io::ErrorKind;
 use std::rt::Env;
 use std::{env, io};
@@ -18,15 +18,26 @@ pub fn words_of<R: Env + AllocGlobal>(rt: &R) -> io::Result<Vec<String>> {
     Ok(words)
 }
 
-/// The status where the words could not be read: 5 for want of memory, which is also a line of
-/// `err`, and 2 for every other cause, as for a word that is not UTF-8.
+/// The status where the words could not be read: 5 for want of memory, and 2 for every other cause,
+/// which is that a word is not UTF-8. Either is a line of `err`, of whose failure the status says
+/// nothing.
 pub fn refuse_words<E: Sink>(why: ErrorKind, err: &mut E) -> u8
     ensures memory { why ≡ ErrorKind.OutOfMemory
         → (result ≡ 5) × AppendsUpTo (E.taken err.old) (E.taken err.new) (codes "no memory\n") }
-    ensures other { why ≢ ErrorKind.OutOfMemory → (result ≡ 2) × (err.new ≡ err.old) }
+    ensures other { why ≢ ErrorKind.OutOfMemory
+        → (result ≡ 2) × AppendsUpTo (E.taken err.old) (E.taken err.new) (codes "a word is not UTF-8\n") }
 {
     match why {
         ErrorKind::OutOfMemory => end(WorkFault::Memory, err),
-        _ => 2,
+        _ => refuse_word(err),
     }
+}
+
+/// Tells that a word is not UTF-8, and answers the status of that.
+fn refuse_word<E: Sink>(err: &mut E) -> u8
+    ensures status { result ≡ 2 }
+    ensures line { AppendsUpTo (E.taken err.old) (E.taken err.new) (codes "a word is not UTF-8\n") }
+{
+    let _ = write_all(err, "a word is not UTF-8\n".as_bytes());
+    2
 }

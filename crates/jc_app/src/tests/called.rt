@@ -70,7 +70,7 @@ fn words_are_read(rt: HostRuntime) {
         alloc,
     )) {
         Ok(_) => panic!(rt; "a word that is not UTF-8"),
-        Err(error) => expect_refused(&rt, alloc, error.kind(), 2, b""),
+        Err(error) => expect_refused(&rt, alloc, error.kind(), 2, b"a word is not UTF-8\n"),
     }
 }
 
@@ -78,6 +78,18 @@ fn words_are_read(rt: HostRuntime) {
 fn words_that_cannot_be_read(rt: HostRuntime) {
     let alloc = rt.alloc();
     expect_refused(&rt, alloc, ErrorKind::OutOfMemory, 5, b"no memory\n");
-    expect_refused(&rt, alloc, ErrorKind::InvalidData, 2, b"");
-    expect_refused(&rt, alloc, ErrorKind::Interrupted, 2, b"");
+    expect_refused(
+        &rt,
+        alloc,
+        ErrorKind::InvalidData,
+        2,
+        b"a word is not UTF-8\n",
+    );
+    expect_refused(
+        &rt,
+        alloc,
+        ErrorKind::Interrupted,
+        2,
+        b"a word is not UTF-8\n",
+    );
 }
