@@ -3,10 +3,13 @@
 from rules import DOC, HEAD, LIST, MAP, REGISTER, TAIL
 
 REFUSALS = {
-    7: "Unexpected", 8: "EndOfText", 18: "UnknownReplica", 20: "NotInList", 22: "UnboundVariable", 23: "GetOnHead",
-    24: "NotACursor", 25: "NoSuchNode", 26: "PastEnd", 27: "NoMap", 28: "NoRegister", 29: "TooDeep", 30: "NoCommand",
-    31: "AtYield", 32: "NotAtYield", 33: "NotActed", 34: "NotReceived", 35: "AlreadyApplied", 36: "DepsMissing",
-    50: "AtStart", 51: "AtEnd", 52: "PastSchedule", 53: "NoSuchBreak", 54: "TooManyBreaks", 58: "BadLine",
+    1: "BadByte", 2: "OpenString", 3: "BadEscape", 4: "LoneSurrogate", 5: "BadNumber", 6: "TextTooLong",
+    7: "Unexpected", 8: "EndOfText", 9: "IndexTooLarge", 10: "ReservedName", 12: "TooLongExpression", 13: "NotUtf8",
+    14: "NoHeader", 15: "SameName", 16: "NoReplica", 17: "TooManyReplicas", 18: "UnknownReplica", 20: "NotInList",
+    22: "UnboundVariable", 23: "GetOnHead", 24: "NotACursor", 25: "NoSuchNode", 26: "PastEnd", 27: "NoMap",
+    28: "NoRegister", 29: "TooDeep", 30: "NoCommand", 31: "AtYield", 32: "NotAtYield", 33: "NotActed",
+    34: "NotReceived", 35: "AlreadyApplied", 36: "DepsMissing", 50: "AtStart", 51: "AtEnd", 52: "PastSchedule",
+    53: "NoSuchBreak", 54: "TooManyBreaks", 58: "BadLine",
 }
 
 ESCAPES = {0x22: b'\\"', 0x5C: b"\\\\", 8: b"\\b", 9: b"\\t", 10: b"\\n", 12: b"\\f", 13: b"\\r"}
