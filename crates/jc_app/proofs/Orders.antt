@@ -1,13 +1,13 @@
 -- Orders, and words that are none.
-use Rattle.std.proofs.Common.{◌≡◌, ◌⊎◌, ℕ, inl, inr, List, Option, Some, None, Ok, Err, refl, sym, ◌∙◌, subst}
+use Rattle.std.proofs.Common.{◌≡◌, ◌≢◌, ◌⊎◌, ℕ, inl, inr, List, [], Option, Some, None, Ok, Err, refl, sym, ◌∙◌, subst}
 use Rattle.std.proofs.lemmas.Option.{same_Some}
 use Rattle.jc_words.specs.declared.order.Order.{Order}
 use Rattle.jc_words.specs.declared.order.Task.{Task}
 use Rattle.jc_words.specs.declared.order.Task.TheVariants.{Show, Debug, Threads}
 use Rattle.jc_words.specs.declared.fault.WordsFault.{WordsFault}
 use Rattle.jc_words.specs.declared.fault.WordsFault.TheVariants as W
-use Rattle.jc_words.specs.Words.{IsWordsFault, words_order}
-use Rattle.jc_app.specs.Faults.{IsEndOf}
+use Rattle.jc_words.specs.Words.{HasText, IsWordsFault, words_order}
+use Rattle.jc_app.specs.Faults.{IsEndOf, words_text}
 use Rattle.jc_words.specs.declared.order.View.{View}
 use Rattle.jc_words.specs.declared.order.View.TheVariants.{Check, Print, Run}
 use Rattle.jc_session.specs.Shown.{End, finished, too_many, text_refused}
@@ -22,13 +22,19 @@ use Rattle.jc_app.proofs.Talked.{without_memory}
 nothing_done : (task : Task) (told lines out : Option (List ℕ)) → IsStopped task Memory told lines lines out out
 nothing_done (Show view) told lines out = begun_nothing view told out
 nothing_done Debug told lines out = without_memory told lines lines out refl
-nothing_done (Threads limit) told lines out = refl
+nothing_done (Threads limit) told lines out = (refl, refl)
 
 -- Words that are an order are refused for want of memory alone. Nothing was done of it then.
 pub unordered : (words : List (List ℕ)) (fault : WordsFault) (n : ℕ) (order : Order) (told lines a b : Option (List ℕ)) → IsWordsFault words fault → IsEndOf fault n → words_order words ≡ Some order → ((n ≡ 2) ⊎ (n ≡ 5) → b ≡ a) → (n ≡ 5) × IsStopped order.task Memory told lines lines a b
 unordered words (W.Help text) n order told lines a b why end some same = let bad : None ≡ Some order = sym why.0 ∙ some in cc
 unordered words (W.Usage text) n order told lines a b why end some same = let bad : None ≡ Some order = sym why.0 ∙ some in cc
 unordered words W.Memory n order told lines a b why end some same = (end, subst (λ o. IsStopped order.task Memory told lines lines a o) (sym (same (inr end))) (nothing_done order.task told lines a))
+
+-- where there was memory, something is told of words that are no order
+pub some_text : (fault : WordsFault) (n : ℕ) → HasText fault → IsEndOf fault n → n ≢ 5 → words_text fault ≢ []
+some_text (W.Help text) n some end other = some
+some_text (W.Usage text) n some end other = some
+some_text W.Memory n some end other = absurd (other end)
 
 -- ---- statuses
 
@@ -79,3 +85,7 @@ same_limit a b e = cc
 pub answered : {n a : ℕ} → (Some n ≡ None) ⊎ (Some n ≡ Some a) → Some n ≡ Some a
 answered (inl none) = cc
 answered (inr some) = some
+
+-- what is so of three values is so of those that they are
+pub in_place : {A B C : Type 0} (P : A → B → C → Type 0) (x a : A) (y b : B) (z c : C) → x ≡ a → y ≡ b → z ≡ c → P x y z → P a b c
+in_place P x a y b z c e f g h = subst (λ k. P k b c) e (subst (λ k. P x k c) f (subst (λ k. P x y k) g h))

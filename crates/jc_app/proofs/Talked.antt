@@ -1,5 +1,5 @@
 -- Sessions on the bytes that are told.
-use Rattle.std.proofs.Common.{◌≡◌, ◌≢◌, ◌∙◌, ℕ, inl, inr, List, [], take, Bool, true, false, Option, Some, None, Err, Ok, IfSome, codes, if◌then◌else◌, refl, ap, sym, subst}
+use Rattle.std.proofs.Common.{◌≡◌, ◌≢◌, ◌⊎◌, ◌∙◌, ℕ, inl, inr, List, [], take, Bool, true, false, Option, Some, None, Err, Ok, IfSome, codes, if◌then◌else◌, refl, ap, sym, subst}
 use Rattle.std.specs.Str.{bytes_eq}
 use Rattle.std.proofs.lemmas.Slice.Eq.{bytes_eq-Decides}
 use Rattle.jc_rules.specs.Told.{IsFront}
@@ -55,12 +55,17 @@ refused_whole n b v old new is e h = (h.0, h.1, reads_whole n b v (Err h.0) is e
 stops_whole : (fault : WorkFault) (n : ℕ) (b v : List ℕ) (lines left old new : Option (List ℕ)) → n ≡ 8388609 → v ≡ take n b → StopsOn fault v lines left old new → StopsOn fault b lines left old new
 stops_whole Read n b v lines left old new is e (inl h) = inl h
 stops_whole Read n b v lines left old new is e (inr h) = inr (scenario_whole (λ O A. IfSome lines (λ l. WentToRead O A l left old new)) n b v is e h)
-stops_whole Write n b v lines left old new is e (inl h) = inl (refused_whole n b v old new is e h)
+stops_whole Write n b v lines left old new is e (inl h) = inl (h.0, refused_whole n b v old new is e h.1)
 stops_whole Write n b v lines left old new is e (inr h) = inr (scenario_whole (λ O A. IfSome lines (λ l. WentFront O A l left old new)) n b v is e h)
 stops_whole TooManyLines n b v lines left old new is e h = all_whole n b v lines old new too_many is e h
 stops_whole NoThread n b v lines left old new is e h = absurd h
 stops_whole Memory n b v lines left old new is e (inl h) = inl h
 stops_whole Memory n b v lines left old new is e (inr h) = inr (scenario_whole (λ O A. IfSome lines (λ l. WentWhole O A l left old new)) n b v is e h)
+
+-- a failed write, where the source of the lines is in hand
+pub at_write : {S : Type 0} (left : S → Option (List ℕ)) (bytes : List ℕ) (a b : S) (old new : Option (List ℕ)) → ((b ≡ a) × WentRefused bytes old new) ⊎ OnScenario bytes (λ O A. IfSome (left a) (λ l. WentFront O A l (left b) old new)) → StopsOn Write bytes (left a) (left b) old new
+at_write left bytes a b old new (inl h) = inl (ap left h.0, h.1)
+at_write left bytes a b old new (inr h) = inr h
 
 -- ---- the bytes of the scenario, as far as they are told
 

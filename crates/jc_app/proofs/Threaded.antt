@@ -8,7 +8,7 @@ use Rattle.jc_scenario.specs.Scenarios.{Scenario, IsScenario}
 use Rattle.jc_threads.specs.Recordings.{IsRecording}
 use Rattle.jc_threads.specs.declared.recording.Recording.{Recording}
 use Rattle.jc_app.specs.Ran.{ReadsAs, IsRefused}
-use Rattle.jc_app.specs.Due.{AppendsUpTo, AppendsFrontOf, IsDueAt}
+use Rattle.jc_app.specs.Due.{AppendsUpTo, AppendsFrontOf, IsDueAt, Sends}
 use Rattle.jc_words.specs.declared.order.Task.{Task}
 use Rattle.jc_words.specs.declared.order.Task.TheVariants.{Threads}
 use Rattle.jc_app.specs.Faults.{fault_status, fault_line, IsCause}
@@ -16,7 +16,7 @@ use Rattle.jc_app.specs.Orders.{IsStopped}
 use Rattle.jc_app.specs.declared.work.WorkFault.{WorkFault}
 use Rattle.jc_app.specs.declared.work.WorkFault.TheVariants.{Read, Write, TooManyLines, NoThread, Memory}
 use Rattle.jc_app.specs.Threaded.{outcome_status, RanThreads, ThreadsRan, AreTextsOf, IsTextOf, HaveThreaded, HaveBegun}
-use Rattle.jc_app.proofs.Begun.{none_yet}
+use Rattle.jc_app.proofs.Begun.{none_yet, none_more}
 use Rattle.jc_app.proofs.Reading.{reads_whole, has_number}
 
 -- ---- recordings
@@ -36,8 +36,8 @@ none_begun IsRun a = ([], inl refl, none_yet a [])
 -- ---- what is so of one run is so of another
 
 module _ (P Q : List ℕ → List ℕ → ℕ → Type 0) (more : (out lines : List ℕ) (status : ℕ) → P out lines status → Q out lines status) where
-  pub texts_more : (old new err_old err_new : Option (List ℕ)) (status : ℕ) → AreTextsOf P old new err_old err_new status → AreTextsOf Q old new err_old err_new status
-  texts_more old new err_old err_new status h = (h.0, h.1, more h.0 h.1 status h.2, h.3, h.4)
+  pub texts_more : (old new : Option (List ℕ)) (WereSent : List ℕ → Type 0) (status : ℕ) → AreTextsOf P old new WereSent status → AreTextsOf Q old new WereSent status
+  texts_more old new WereSent status h = (h.0, h.1, more h.0 h.1 status h.2, h.3, h.4)
 
   text_more : (out : List ℕ) → IsTextOf P out → IsTextOf Q out
   text_more out (inl none) = inl none
@@ -48,6 +48,10 @@ module _ (P Q : List ℕ → List ℕ → ℕ → Type 0) (more : (out lines : L
 
 -- ---- texts
 
+-- a sink that was left alone was sent nothing
+none_sent : {S : Type 0} (taken : S → Option (List ℕ)) (failures : S → ℕ) (s : S) → Sends taken failures s s []
+none_sent taken failures s = inl (refl, none_more (taken s))
+
 pub of_scenario : (limit : ℕ) (bytes : List ℕ) (s : Scenario) → IsScenario bytes s → (out lines : List ℕ) (status : ℕ) → RanThreads limit s out lines status → ThreadsRan limit bytes out lines status
 of_scenario limit bytes s is out lines status h = (Ok s, is, h)
 
@@ -56,8 +60,8 @@ module _ (limit : ℕ) (bytes : List ℕ) (fault : ScenarioFault) (known : fault
   of_refusal out status h = (Err fault, known (has_number fault _ h.number), (h, refl))
 
   -- a refused text
-  pub refused : (old new err : Option (List ℕ)) (status : ℕ) → (shown : List ℕ) × IsRefused fault shown status × Appends old new shown → AreTextsOf (ThreadsRan limit bytes) old new err err status
-  refused old new err status h = (h.0, [], of_refusal h.0 status h.1, h.2, none_yet err [])
+  pub refused : {S : Type 0} (taken : S → Option (List ℕ)) (failures : S → ℕ) (err : S) (old new : Option (List ℕ)) (status : ℕ) → (shown : List ℕ) × IsRefused fault shown status × Appends old new shown → AreTextsOf (ThreadsRan limit bytes) old new (Sends taken failures err err) status
+  refused taken failures err old new status h = (h.0, [], of_refusal h.0 status h.1, h.2, none_sent taken failures err)
 
   due_text : (out : List ℕ) → IsDueAt fault out → IsTextOf (ThreadsRan limit bytes) out
   due_text out (inl none) = inl none
@@ -71,10 +75,10 @@ module _ (limit : ℕ) (bytes : List ℕ) (fault : ScenarioFault) (known : fault
 of_front : (limit n : ℕ) (b v : List ℕ) → n ≡ 8388609 → v ≡ take n b → (out lines : List ℕ) (status : ℕ) → ThreadsRan limit v out lines status → ThreadsRan limit b out lines status
 of_front limit n b v is e out lines status h = (h.0, reads_whole n b v h.0 is e h.1, h.2)
 
-pub threaded_on_front : (limit n : ℕ) (told old new err_old err_new : Option (List ℕ)) (v : List ℕ) (status : ℕ) → n ≡ 8388609 → IsFront n told v → AreTextsOf (ThreadsRan limit v) old new err_old err_new status → HaveThreaded limit told old new err_old err_new status
-threaded_on_front limit n None old new err_old err_new v status is front h = (v, tt, h)
-threaded_on_front limit n (Some bytes) old new err_old err_new v status is front h =
-    (bytes, refl, texts_more (ThreadsRan limit v) (ThreadsRan limit bytes) (of_front limit n bytes v is front) old new err_old err_new status h)
+pub threaded_on_front : (limit n : ℕ) (told old new : Option (List ℕ)) (WereSent : List ℕ → Type 0) (v : List ℕ) (status : ℕ) → n ≡ 8388609 → IsFront n told v → AreTextsOf (ThreadsRan limit v) old new WereSent status → HaveThreaded limit told old new WereSent status
+threaded_on_front limit n None old new WereSent v status is front h = (v, tt, h)
+threaded_on_front limit n (Some bytes) old new WereSent v status is front h =
+    (bytes, refl, texts_more (ThreadsRan limit v) (ThreadsRan limit bytes) (of_front limit n bytes v is front) old new WereSent status h)
 
 pub begun_on_front : (limit n : ℕ) (told old new : Option (List ℕ)) (v : List ℕ) → n ≡ 8388609 → IsFront n told v → AppendsFrontOf (IsTextOf (ThreadsRan limit v)) old new → HaveBegun limit told old new
 begun_on_front limit n None old new v is front h = (v, tt, h)
@@ -99,17 +103,17 @@ cause_of TooManyLines unread input_old input_new out_old out_new same h = (same,
 cause_of NoThread unread input_old input_new out_old out_new same h = (same, (h 0).1)
 cause_of Memory unread input_old input_new out_old out_new same h = (same, (h 0).1)
 
--- where there was no memory for the words, nothing was written
-pub unwritten : (limit : ℕ) (task : Task) (fault : WorkFault) (told lines left old new : Option (List ℕ)) → task ≡ Threads limit → IsStopped task fault told lines left old new → new ≡ old
+-- words that ask for threads are stopped by want of memory alone, and nothing was written
+pub unwritten : (limit : ℕ) (task : Task) (fault : WorkFault) (told lines left old new : Option (List ℕ)) → task ≡ Threads limit → IsStopped task fault told lines left old new → (fault ≡ Memory) × (new ≡ old)
 unwritten limit task fault told lines left old new is h = subst (λ (t : Task). IsStopped t fault told lines left old new) is h
 
 pub lacking : (limit : ℕ) (told old new : Option (List ℕ)) → new ≡ old → HaveBegun limit told old new
 lacking limit told old new same = subst (λ (o : Option (List ℕ)). HaveBegun limit told old o) (sym same) (not_begun limit told old)
 
 -- without memory, the line says so
-pub memory_only : (fault : WorkFault) (a b : Option (List ℕ)) → (fault ≡ NoThread → ⊥) → fault_status fault ≡ 5 → AppendsUpTo a b (fault_line fault) → AppendsUpTo a b (codes "no memory\n")
-memory_only Read a b other five line = cc
-memory_only Write a b other five line = cc
-memory_only TooManyLines a b other five line = cc
-memory_only NoThread a b other five line = absurd (other refl)
-memory_only Memory a b other five line = line
+pub memory_only : (fault : WorkFault) (WasSent : List ℕ → Type 0) → (fault ≡ NoThread → ⊥) → fault_status fault ≡ 5 → WasSent (fault_line fault) → WasSent (codes "no memory\n")
+memory_only Read WasSent other five line = cc
+memory_only Write WasSent other five line = cc
+memory_only TooManyLines WasSent other five line = cc
+memory_only NoThread WasSent other five line = absurd (other refl)
+memory_only Memory WasSent other five line = line

@@ -1,5 +1,5 @@
 -- What the program ends with where there is no status of a run.
-use Rattle.std.specs.Prelude.{◌≡◌, ◌≢◌, ◌⊎◌, ◌<◌, ℕ, List, Bool, IsTrue, codes}
+use Rattle.std.specs.Prelude.{◌≡◌, ◌≢◌, ◌⊎◌, ◌<◌, ℕ, List, Bool, IsTrue, codes, string_bytes}
 use Rattle.jc_words.specs.declared.fault.WordsFault.{WordsFault}
 use Rattle.jc_words.specs.declared.fault.WordsFault.TheVariants as words
 use Rattle.jc_app.specs.declared.work.WorkFault.{WorkFault}
@@ -25,6 +25,12 @@ abbrev pub IsEndOf : WordsFault → ℕ → Type 0
 IsEndOf (words.Help text) status = (status ≡ 0) ⊎ (status ≡ 4)
 IsEndOf (words.Usage text) status = status ≡ 2
 IsEndOf words.Memory status = status ≡ 5
+
+-- what is told of words that are no order: help, why they are none, or that there was no memory
+abbrev pub words_text : WordsFault → List ℕ
+words_text (words.Help text) = string_bytes text
+words_text (words.Usage text) = string_bytes text
+words_text words.Memory = fault_line Memory
 
 -- the file that an order names isn't standard input, and may fail to be read
 abbrev pub IsUnread : (List ℕ → Bool) → List ℕ → Type 0

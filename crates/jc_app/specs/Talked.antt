@@ -33,15 +33,16 @@ abbrev pub IsUnstarted : Option (List ℕ) → Option (List ℕ) → Option (Lis
 IsUnstarted lines left old new = (left ≡ lines) × (new ≡ old)
 
 -- What a session has left that a fault stopped. A failed read: the answers of all lines whose LF was read. A failed
--- write: those of some first lines, and a front of the next one; or a front of the scenario's refusal. Too many lines:
--- the whole text up to the limit. No memory: the answers of some first lines.
+-- write: those of some first lines, and a front of the next one; or a front of the scenario's refusal, where no line was
+-- read. Too many lines: the whole text up to the limit. No memory: the answers of some first lines.
 abbrev pub StopsOn
     : WorkFault → List ℕ → Option (List ℕ) → Option (List ℕ) → Option (List ℕ) → Option (List ℕ) → Type 0
 StopsOn Read bytes lines left old new =
     IsUnstarted lines left old new
     ⊎ OnScenario bytes (λ O A. IfSome lines (λ l. WentToRead O A l left old new))
 StopsOn Write bytes lines left old new =
-    WentRefused bytes old new ⊎ OnScenario bytes (λ O A. IfSome lines (λ l. WentFront O A l left old new))
+    ((left ≡ lines) × WentRefused bytes old new)
+    ⊎ OnScenario bytes (λ O A. IfSome lines (λ l. WentFront O A l left old new))
 StopsOn TooManyLines bytes lines left old new = IfSome lines (λ l. ShowsAll bytes l too_many old new)
 StopsOn NoThread bytes lines left old new = ⊥
 StopsOn Memory bytes lines left old new =

@@ -8,10 +8,10 @@ use Rattle.jc_threads.specs.declared.recording.Outcome.{Outcome}
 use Rattle.jc_threads.specs.declared.recording.Outcome.TheVariants.{NoMemory, Stuck, Done}
 use Rattle.jc_threads.specs.declared.recording.Recording.{Recording}
 use Rattle.jc_app.specs.Ran.{ReadsAs, IsRefused}
-use Rattle.jc_app.specs.Due.{AppendsUpTo, AppendsFrontOf, AreTold}
+use Rattle.jc_app.specs.Due.{AppendsFrontOf, AreTold}
 use Rattle.jc_app.specs.Faults.{fault_status, fault_line, IsCause}
 use Rattle.jc_app.specs.declared.work.WorkFault.{WorkFault}
-use Rattle.jc_app.specs.declared.work.WorkFault.TheVariants.{Write}
+use Rattle.jc_app.specs.declared.work.WorkFault.TheVariants.{Write, TooManyLines}
 
 abbrev pub outcome_status : Outcome → ℕ
 outcome_status NoMemory = 5
@@ -36,13 +36,12 @@ abbrev pub ThreadsRan : ℕ → List ℕ → List ℕ → List ℕ → ℕ → T
 ThreadsRan limit bytes out lines status =
     (read : Result Scenario ScenarioFault) × ReadsAs bytes read × ThreadsOn limit read out lines status
 
--- The text was appended to the output, and a front of the lines to standard error, whose failures change nothing.
+-- The text of such a run was appended to the output, and its lines were sent to standard error.
 abbrev pub AreTextsOf
     : (List ℕ → List ℕ → ℕ → Type 0)
-    → Option (List ℕ) → Option (List ℕ) → Option (List ℕ) → Option (List ℕ) → ℕ → Type 0
-AreTextsOf IsRun old new err_old err_new status =
-    (out : List ℕ) × (lines : List ℕ)
-    × IsRun out lines status × Appends old new out × AppendsUpTo err_old err_new lines
+    → Option (List ℕ) → Option (List ℕ) → (List ℕ → Type 0) → ℕ → Type 0
+AreTextsOf IsRun old new WereSent status =
+    (out : List ℕ) × (lines : List ℕ) × IsRun out lines status × Appends old new out × WereSent lines
 
 -- the text of such a run; or nothing, where it isn't there yet
 abbrev pub IsTextOf : (List ℕ → List ℕ → ℕ → Type 0) → List ℕ → Type 0
@@ -50,23 +49,24 @@ IsTextOf IsRun out = (out ≡ []) ⊎ ((lines : List ℕ) × (status : ℕ) × I
 
 -- threads on the bytes that are told, to their end
 abbrev pub HaveThreaded
-    : ℕ → Option (List ℕ) → Option (List ℕ) → Option (List ℕ) → Option (List ℕ) → Option (List ℕ) → ℕ → Type 0
-HaveThreaded limit told old new err_old err_new status =
-    (bytes : List ℕ) × AreTold told bytes × AreTextsOf (ThreadsRan limit bytes) old new err_old err_new status
+    : ℕ → Option (List ℕ) → Option (List ℕ) → Option (List ℕ) → (List ℕ → Type 0) → ℕ → Type 0
+HaveThreaded limit told old new WereSent status =
+    (bytes : List ℕ) × AreTold told bytes × AreTextsOf (ThreadsRan limit bytes) old new WereSent status
 
 -- up to a fault: a front of the text was appended
 abbrev pub HaveBegun : ℕ → Option (List ℕ) → Option (List ℕ) → Option (List ℕ) → Type 0
 HaveBegun limit told old new =
     (bytes : List ℕ) × AreTold told bytes × AppendsFrontOf (IsTextOf (ThreadsRan limit bytes)) old new
 
--- A fault stopped the command: it has the status and its line, and it says which failures were counted. A front of a
--- run's text is there where a write failed, and else nothing.
+-- A fault stopped the command, but never that there are too many lines: it has the status, its line was sent to standard
+-- error, and it says which failures were counted. A front of a run's text is there where a write failed, and else nothing.
 pub record IsThreadsFault
     (limit : ℕ) (told : Option (List ℕ)) (unread : Type 0) (input_old input_new out_old out_new : ℕ)
-    (old new err_old err_new : Option (List ℕ)) (status : ℕ) : Type 0 where
+    (old new : Option (List ℕ)) (WasSent : List ℕ → Type 0) (status : ℕ) : Type 0 where
   pub fault : WorkFault
+  pub no_lines : fault ≢ TooManyLines
   pub ends : status ≡ fault_status fault
-  pub line : AppendsUpTo err_old err_new (fault_line fault)
+  pub line : WasSent (fault_line fault)
   pub cause : IsCause fault unread input_old input_new out_old out_new
   pub begun : HaveBegun limit told old new
   pub unwritten : fault ≢ Write → new ≡ old

@@ -1,11 +1,12 @@
 //! The whole program.
 
-ghost use Rattle.std.specs.Prelude.{◌≡◌, ◌≢◌, ◌<◌, ◌⊎◌, ℕ, map, string_bytes, codes, Some, None};
+ghost use Rattle.std.specs.Prelude.{◌≡◌, ◌≢◌, ◌<◌, ◌⊎◌, ℕ, List, [], map, string_bytes, codes, Some, None};
+ghost use Rattle.std.specs.Io.KnownBytes.{Appends};
 ghost use Rattle.jc_rules.specs.Told.{LosesUpTo};
 ghost use Rattle.jc_words.specs.declared.order.Order.{Order};
 ghost use Rattle.jc_words.specs.declared.order.Task.TheVariants.{Threads as ThreadsTask};
 ghost use Rattle.jc_words.specs.Words.{words_order, AsksHelp};
-ghost use Rattle.jc_app.specs.Due.{AppendsUpTo, told_by};
+ghost use Rattle.jc_app.specs.Due.{Sends, told_by};
 ghost use Rattle.jc_app.specs.Faults.{fault_status, fault_line, IsCause, IsUnread};
 ghost use Rattle.jc_app.specs.Orders.{IsAlone, IsDone, IsStopped, IsThreadsOrder};
 ghost use Rattle.jc_app.specs.Talked.{lines_by};
@@ -33,11 +34,11 @@ fn work_threads<R: Threads + Wait + Sync + AllocGlobal + Files, I: Source, K: Si
         → words_order (map string_bytes words.now) ≡ Some order
         → order.task ≡ ThreadsTask limit
         → HaveThreaded limit (told_by (I.left input.old) (R.texts rt.now) order.file)
-        (K.taken out.old) (K.taken out.new) (E.taken err.old) (E.taken err.new) result
+        (K.taken out.old) (K.taken out.new) (Sends E.taken E.failures err.old err.new) result
         ⊎ IsThreadsFault limit (told_by (I.left input.old) (R.texts rt.now) order.file)
         (IsUnread (R.may_fail rt.now) order.file)
         (I.failures input.old) (I.failures input.new) (K.failures out.old) (K.failures out.new)
-        (K.taken out.old) (K.taken out.new) (E.taken err.old) (E.taken err.new) result }
+        (K.taken out.old) (K.taken out.new) (Sends E.taken E.failures err.old err.new) result }
     ensures most { LosesUpTo 8388609 (I.left input.old) (I.left input.new) }
     ensures other_file { (order : Order)
         → words_order (map string_bytes words.now) ≡ Some order
@@ -81,7 +82,7 @@ pub fn work<R: Threads + Wait + Sync + AllocGlobal + Files, I: Source, K: Sink, 
         → IsDone order.task (told_by (I.left input.old) (R.texts rt.now) order.file)
         (lines_by (I.left input.old) order.file) (K.taken out.old) (K.taken out.new) result }
 
-    // Else there is a fault. Its status is the answer, the error's sink has its line, and a front of
+    // Else there is a fault. Its status is the answer, its line was sent to the error's sink, and a front of
     // what the order shows was written.
     ensures stopped { (order : Order)
         → words_order (map string_bytes words.now) ≡ Some order
@@ -89,7 +90,7 @@ pub fn work<R: Threads + Wait + Sync + AllocGlobal + Files, I: Source, K: Sink, 
         → (result ≡ 4) ⊎ (result ≡ 5)
         → (fault : WorkFault)
         × (result ≡ fault_status fault)
-        × AppendsUpTo (E.taken err.old) (E.taken err.new) (fault_line fault)
+        × Sends E.taken E.failures err.old err.new (fault_line fault)
         × IsCause fault (IsUnread (R.may_fail rt.now) order.file)
         (I.failures input.old) (I.failures input.new) (K.failures out.old) (K.failures out.new)
         × IsStopped order.task fault (told_by (I.left input.old) (R.texts rt.now) order.file)
@@ -101,22 +102,28 @@ pub fn work<R: Threads + Wait + Sync + AllocGlobal + Files, I: Source, K: Sink, 
         → words_order (map string_bytes words.now) ≡ Some order
         → order.task ≡ ThreadsTask limit
         → HaveThreaded limit (told_by (I.left input.old) (R.texts rt.now) order.file)
-        (K.taken out.old) (K.taken out.new) (E.taken err.old) (E.taken err.new) result
+        (K.taken out.old) (K.taken out.new) (Sends E.taken E.failures err.old err.new) result
         ⊎ IsThreadsFault limit (told_by (I.left input.old) (R.texts rt.now) order.file)
         (IsUnread (R.may_fail rt.now) order.file)
         (I.failures input.old) (I.failures input.new) (K.failures out.old) (K.failures out.new)
-        (K.taken out.old) (K.taken out.new) (E.taken err.old) (E.taken err.new) result }
+        (K.taken out.old) (K.taken out.new) (Sends E.taken E.failures err.old err.new) result }
 
     // Words that are no order are help, or a fault of the command line.
     ensures help { AsksHelp (map string_bytes words.now) → (result ≡ 0) ⊎ ((result ≡ 4) ⊎ (result ≡ 5)) }
     ensures lost { words_order (map string_bytes words.now) ≡ None
         → result ≡ 4
         → (K.failures out.old < K.failures out.new)
-        × AppendsUpTo (E.taken err.old) (E.taken err.new) (codes "write failed\n") }
+        × Sends E.taken E.failures err.old err.new (codes "write failed\n") }
     ensures faulty { words_order (map string_bytes words.now) ≡ None
         → (AsksHelp (map string_bytes words.now) → ⊥)
         → (result ≡ 2) ⊎ (result ≡ 5) }
     ensures silent { result ≡ 2 → out.new ≡ out.old }
+    ensures unshown { words_order (map string_bytes words.now) ≡ None → result ≡ 5 → out.new ≡ out.old }
+    ensures shown { words_order (map string_bytes words.now) ≡ None
+        → result ≡ 0
+        → (text : List ℕ) × (text ≢ []) × Appends (K.taken out.old) (K.taken out.new) text }
+    ensures usage { result ≡ 2
+        → (text : List ℕ) × (text ≢ []) × Sends E.taken E.failures err.old err.new text }
 
     // Standard input is read where the order names it, and by a session. Of a text it is read in part at most.
     ensures unread { words_order (map string_bytes words.now) ≡ None → input.new ≡ input.old }
@@ -136,7 +143,7 @@ pub fn work<R: Threads + Wait + Sync + AllocGlobal + Files, I: Source, K: Sink, 
     // Unless threads are asked for, standard error is left alone but for faults, and want of memory has its one line.
     ensures memory_line { (IsThreadsOrder (map string_bytes words.now) → ⊥)
         → result ≡ 5
-        → AppendsUpTo (E.taken err.old) (E.taken err.new) (codes "no memory\n") }
+        → Sends E.taken E.failures err.old err.new (codes "no memory\n") }
     ensures quiet { (IsThreadsOrder (map string_bytes words.now) → ⊥)
         → result ≢ 2
         → result ≢ 4

@@ -1,18 +1,18 @@
 //! The command `threads`: what a scenario's replicas make in threads of their own.
 
-ghost use Rattle.std.specs.Prelude.{◌≡◌, ◌≢◌, ◌<◌, ◌≤◌, ℕ, codes, string_bytes, IfOk, IfErr, OnOk, OnErr};
+ghost use Rattle.std.specs.Prelude.{◌≡◌, ◌≢◌, ◌<◌, ◌≤◌, ℕ, codes, string_bytes, IfOk, IfErr, OnOk, OnErr, IsErrOf};
 ghost use Rattle.std.specs.Io.KnownBytes.{Appends};
 ghost use Rattle.jc_rules.specs.Told.{LosesUpTo};
 ghost use Rattle.jc_scenario.specs.Scenarios.{IsWellFormed};
 ghost use Rattle.jc_scenario.specs.Views.{scenario_view};
-ghost use Rattle.jc_app.specs.Due.{AppendsUpTo, AppendsFrontOf, told_by};
+ghost use Rattle.jc_app.specs.Due.{AppendsUpTo, AppendsFrontOf, Sends, told_by};
 ghost use Rattle.jc_app.specs.Faults.{IsCause, IsUnread};
 ghost use Rattle.jc_app.specs.Threaded.{outcome_status, RanThreads, ThreadsRan, AreTextsOf, IsTextOf, HaveThreaded, HaveBegun};
 
 use crate::files::Files;
-use crate::run::{RunFault, send};
+use crate::run::{RunFault, report, send};
 use crate::work::{WorkFault, refuse, text_of};
-use jc_rules::io::{ReadFault, Sink, Source, write_all};
+use jc_rules::io::{ReadFault, Sink, Source};
 use jc_scenario::{Scenario, read};
 use jc_threads::{Outcome, RecordFault, Recording, record};
 use std::sync::Wait;
@@ -33,7 +33,8 @@ fn status_of(outcome: Outcome) -> u8
 fn tell<K: Sink, E: Sink>(recording: &Recording, out: &mut K, err: &mut E) -> Result<u8, RunFault>
     ensures status { IfOk result (λ status. status ≡ outcome_status recording.now.outcome) }
     ensures shown { OnOk result (Appends (K.taken out.old) (K.taken out.new) (string_bytes recording.now.text)) }
-    ensures told { OnOk result (AppendsUpTo (E.taken err.old) (E.taken err.new) (string_bytes recording.now.lines)) }
+    ensures told { OnOk result
+        (Sends E.taken E.failures err.old err.new (string_bytes recording.now.lines)) }
     ensures begun { OnErr result
         (AppendsUpTo (K.taken out.old) (K.taken out.new) (string_bytes recording.now.text)) }
     ensures quiet { OnErr result (err.new ≡ err.old) }
@@ -41,7 +42,7 @@ fn tell<K: Sink, E: Sink>(recording: &Recording, out: &mut K, err: &mut E) -> Re
     ensures write { IfErr result (λ fault. (fault ≡ RunFault.Write) × (K.failures out.old < K.failures out.new)) }
 {
     send(out, recording.text.as_str())?;
-    let _ = write_all(err, recording.lines.as_str().as_bytes());
+    report(err, recording.lines.as_str());
     Ok(status_of(recording.outcome))
 }
 
@@ -56,10 +57,11 @@ fn run_all<R: Threads + Wait + Sync + AllocGlobal, K: Sink, E: Sink>(
     requires formed { IsWellFormed (scenario_view scenario) }
     requires limit { limit ≤ 100000 }
     ensures ok { IfOk result (AreTextsOf (RanThreads limit (scenario_view scenario))
-        (K.taken out.old) (K.taken out.new) (E.taken err.old) (E.taken err.new)) }
+        (K.taken out.old) (K.taken out.new) (Sends E.taken E.failures err.old err.new)) }
     ensures begun { OnErr result (AppendsFrontOf (IsTextOf (RanThreads limit (scenario_view scenario)))
         (K.taken out.old) (K.taken out.new)) }
     ensures unwritten { IfErr result (λ fault. fault ≢ WorkFault.Write → K.taken out.new ≡ K.taken out.old) }
+    ensures no_lines { IsErrOf result WorkFault.TooManyLines → ⊥ }
     ensures quiet { OnErr result (err.new ≡ err.old) }
     ensures same { OnOk result (K.failures out.new ≡ K.failures out.old) }
     ensures cause { IfErr result (λ fault. (n : ℕ)
@@ -85,10 +87,11 @@ fn run_text<R: Threads + Wait + Sync + AllocGlobal, K: Sink, E: Sink>(
 ) -> Result<u8, WorkFault>
     requires { limit ≤ 100000 }
     ensures ok { IfOk result (AreTextsOf (ThreadsRan limit text.now)
-        (K.taken out.old) (K.taken out.new) (E.taken err.old) (E.taken err.new)) }
+        (K.taken out.old) (K.taken out.new) (Sends E.taken E.failures err.old err.new)) }
     ensures begun { OnErr result (AppendsFrontOf (IsTextOf (ThreadsRan limit text.now))
         (K.taken out.old) (K.taken out.new)) }
     ensures unwritten { IfErr result (λ fault. fault ≢ WorkFault.Write → K.taken out.new ≡ K.taken out.old) }
+    ensures no_lines { IsErrOf result WorkFault.TooManyLines → ⊥ }
     ensures quiet { OnErr result (err.new ≡ err.old) }
     ensures same { OnOk result (K.failures out.new ≡ K.failures out.old) }
     ensures cause { IfErr result (λ fault. (n : ℕ)
@@ -118,10 +121,11 @@ pub fn threads<R: Threads + Wait + Sync + AllocGlobal + Files, I: Source, K: Sin
 ) -> Result<u8, WorkFault>
     requires { limit ≤ 100000 }
     ensures ok { IfOk result (HaveThreaded limit (told_by (I.left input.old) (R.texts rt.now) file.now)
-        (K.taken out.old) (K.taken out.new) (E.taken err.old) (E.taken err.new)) }
+        (K.taken out.old) (K.taken out.new) (Sends E.taken E.failures err.old err.new)) }
     ensures begun { OnErr result (HaveBegun limit (told_by (I.left input.old) (R.texts rt.now) file.now)
         (K.taken out.old) (K.taken out.new)) }
     ensures unwritten { IfErr result (λ fault. fault ≢ WorkFault.Write → K.taken out.new ≡ K.taken out.old) }
+    ensures no_lines { IsErrOf result WorkFault.TooManyLines → ⊥ }
     ensures quiet { OnErr result (err.new ≡ err.old) }
     ensures most { LosesUpTo 8388609 (I.left input.old) (I.left input.new) }
     ensures untouched { file.now ≢ codes "-" → input.new ≡ input.old }

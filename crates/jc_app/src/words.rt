@@ -1,10 +1,11 @@
 //! The words that the program is called with.
 
 ghost use Rattle.std.specs.Prelude.{◌≡◌, ◌≢◌, codes};
-ghost use Rattle.jc_app.specs.Due.{AppendsUpTo};
+ghost use Rattle.jc_app.specs.Due.{Sends};
 
+use crate::run::report;
 use crate::work::{WorkFault, end};
-use jc_rules::io::{Sink, write_all};
+use jc_rules::io::Sink;
 use std::io::ErrorKind;
 use std::rt::Env;
 use std::{env, io};
@@ -23,21 +24,15 @@ pub fn words_of<R: Env + AllocGlobal>(rt: &R) -> io::Result<Vec<String>> {
 /// nothing.
 pub fn refuse_words<E: Sink>(why: ErrorKind, err: &mut E) -> u8
     ensures memory { why ≡ ErrorKind.OutOfMemory
-        → (result ≡ 5) × AppendsUpTo (E.taken err.old) (E.taken err.new) (codes "no memory\n") }
+        → (result ≡ 5) × Sends E.taken E.failures err.old err.new (codes "no memory\n") }
     ensures other { why ≢ ErrorKind.OutOfMemory
-        → (result ≡ 2) × AppendsUpTo (E.taken err.old) (E.taken err.new) (codes "a word is not UTF-8\n") }
+        → (result ≡ 2) × Sends E.taken E.failures err.old err.new (codes "a word is not UTF-8\n") }
 {
     match why {
         ErrorKind::OutOfMemory => end(WorkFault::Memory, err),
-        _ => refuse_word(err),
+        _ => {
+            report(err, "a word is not UTF-8\n");
+            2
+        }
     }
-}
-
-/// Tells that a word is not UTF-8, and answers the status of that.
-fn refuse_word<E: Sink>(err: &mut E) -> u8
-    ensures status { result ≡ 2 }
-    ensures line { AppendsUpTo (E.taken err.old) (E.taken err.new) (codes "a word is not UTF-8\n") }
-{
-    let _ = write_all(err, "a word is not UTF-8\n".as_bytes());
-    2
 }

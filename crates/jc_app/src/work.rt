@@ -1,6 +1,6 @@
 //! The program's work, from bytes to printed lines.
 
-ghost use Rattle.std.specs.Prelude.{◌≡◌, ◌≢◌, ◌<◌, ◌≤◌, ◌⊎◌, ℕ, List, map, string_bytes, vec_len, codes, Some, None, Ok, IfOk, IfErr, OnOk, OnErr, IsErrOf};
+ghost use Rattle.std.specs.Prelude.{◌≡◌, ◌≢◌, ◌<◌, ◌≤◌, ◌⊎◌, ℕ, List, [], map, string_bytes, vec_len, codes, Some, None, Ok, IfOk, IfErr, OnOk, OnErr, IsErrOf};
 ghost use Rattle.std.specs.Io.KnownBytes.{Appends};
 ghost use Rattle.jc_rules.specs.Told.{IsFront, LosesUpTo};
 ghost use Rattle.jc_parser.specs.declared.fault.ScenarioFault.TheVariants.{Memory as NoMemoryRead};
@@ -9,19 +9,19 @@ ghost use Rattle.jc_scenario.specs.Views.{scenario_view};
 ghost use Rattle.jc_words.specs.declared.order.Order.{Order};
 ghost use Rattle.jc_words.specs.Words.{words_order, AsksHelp};
 ghost use Rattle.jc_app.specs.Ran.{Ran, RanThrough, Shows, IsRefused};
-ghost use Rattle.jc_app.specs.Due.{AppendsUpTo, AppendsFrontOf, IsRunDue, IsDueOf, IsDueAt, IsDue, HasRun, HasBegun, told_by};
-ghost use Rattle.jc_app.specs.Faults.{fault_status, fault_line, IsCause, IsEndOf, IsUnread};
-ghost use Rattle.jc_app.specs.Orders.{IsAlone, IsDone, IsStopped, IsThreadsOrder};
+ghost use Rattle.jc_app.specs.Due.{AppendsUpTo, AppendsFrontOf, IsRunDue, IsDueOf, IsDueAt, IsDue, HasRun, Sends, told_by};
+ghost use Rattle.jc_app.specs.Faults.{fault_status, fault_line, words_text, IsCause, IsEndOf, IsUnread};
+ghost use Rattle.jc_app.specs.Orders.{IsAlone, IsDone, IsStopped, IsThreadsOrder, StopsView};
 ghost use Rattle.jc_app.specs.Talked.{lines_by};
 
 use crate::files::Files;
-use crate::run::{RunFault, play, send, send_dumps};
+use crate::run::{RunFault, play, report, send, send_dumps};
 use crate::sessions::debug;
 use crate::texts::counts_of;
 use jc_dump::{refused_text, stuck_text};
 use jc_network::Net;
 use jc_rules::Refusal;
-use jc_rules::io::{ReadFault, Sink, Source, read_up_to, write_all};
+use jc_rules::io::{ReadFault, Sink, Source, read_up_to};
 use jc_scenario::{Scenario, ScenarioFault, print, read};
 use jc_words::{Order, Task, View, WordsFault, order_of};
 use std::alloc::Global;
@@ -172,9 +172,9 @@ impl WorkFault {
 /// Writes the line of a fault, and answers its status. A failure of `err` changes nothing.
 pub fn end<E: Sink>(fault: WorkFault, err: &mut E) -> u8
     ensures status { result ≡ fault_status fault }
-    ensures line { AppendsUpTo (E.taken err.old) (E.taken err.new) (fault_line fault) }
+    ensures line { Sends E.taken E.failures err.old err.new (fault_line fault) }
 {
-    let _ = write_all(err, fault.line().as_bytes());
+    report(err, fault.line());
     fault.status()
 }
 
@@ -211,15 +211,14 @@ fn show_file<R: AllocGlobal + Files, I: Source, K: Sink>(
 ) -> Result<u8, WorkFault>
     ensures ran { IfOk result (HasRun view (told_by (I.left input.old) (R.texts rt.now) file.now)
         (K.taken out.old) (K.taken out.new)) }
-    ensures begun { OnErr result (HasBegun view (told_by (I.left input.old) (R.texts rt.now) file.now)
-        (K.taken out.old) (K.taken out.new)) }
+    ensures stopped { IfErr result (λ fault. StopsView view fault
+        (told_by (I.left input.old) (R.texts rt.now) file.now) (K.taken out.old) (K.taken out.new)) }
     ensures most { LosesUpTo 8388609 (I.left input.old) (I.left input.new) }
     ensures untouched { file.now ≢ codes "-" → input.new ≡ input.old }
     ensures same { OnOk result
         ((I.failures input.new ≡ I.failures input.old) × (K.failures out.new ≡ K.failures out.old)) }
     ensures cause { IfErr result (λ fault. IsCause fault (IsUnread (R.may_fail rt.now) file.now)
         (I.failures input.old) (I.failures input.new) (K.failures out.old) (K.failures out.new)) }
-    ensures unthreaded { IsErrOf result WorkFault.NoThread → ⊥ }
 {
     let text = match text_of(rt, file, input) {
         Ok(text) => text,
@@ -268,12 +267,14 @@ fn carry_out<R: AllocGlobal + Files, I: Source, K: Sink>(
 /// Answers words that are no order: help on the output, and what is wrong with the words on `err`.
 pub fn explain<K: Sink, E: Sink>(fault: &WordsFault, out: &mut K, err: &mut E) -> u8
     ensures status { IsEndOf fault.now result }
-    ensures shown { (text : List ℕ) × AppendsUpTo (K.taken out.old) (K.taken out.new) text }
+    ensures help { result ≡ 0 → Appends (K.taken out.old) (K.taken out.new) (words_text fault.now) }
+    ensures begun { result ≡ 4 → AppendsUpTo (K.taken out.old) (K.taken out.new) (words_text fault.now) }
     ensures silent { (result ≡ 2) ⊎ (result ≡ 5) → out.new ≡ out.old }
     ensures same { result ≢ 4 → K.failures out.new ≡ K.failures out.old }
     ensures failed { result ≡ 4 → K.failures out.old < K.failures out.new }
-    ensures write_line { result ≡ 4 → AppendsUpTo (E.taken err.old) (E.taken err.new) (codes "write failed\n") }
-    ensures memory_line { result ≡ 5 → AppendsUpTo (E.taken err.old) (E.taken err.new) (codes "no memory\n") }
+    ensures usage { result ≡ 2 → Sends E.taken E.failures err.old err.new (words_text fault.now) }
+    ensures write_line { result ≡ 4 → Sends E.taken E.failures err.old err.new (codes "write failed\n") }
+    ensures memory_line { result ≡ 5 → Sends E.taken E.failures err.old err.new (codes "no memory\n") }
     ensures quiet { result ≡ 0 → err.new ≡ err.old }
 {
     match fault {
@@ -282,7 +283,7 @@ pub fn explain<K: Sink, E: Sink>(fault: &WordsFault, out: &mut K, err: &mut E) -
             Err(_) => end(WorkFault::Write, err),
         },
         WordsFault::Usage(text) => {
-            let _ = write_all(err, text.as_str().as_bytes());
+            report(err, text.as_str());
             2
         }
         WordsFault::Memory => end(WorkFault::Memory, err),
@@ -299,8 +300,8 @@ pub fn explain<K: Sink, E: Sink>(fault: &WordsFault, out: &mut K, err: &mut E) -
 /// A session reads its lines from the input, and answers each before it reads the next. Where the
 /// file is `-` it has no line.
 ///
-/// After 4 or 5 the output has a front of what the order shows, and `err` the line of the fault, as
-/// much of it as it took: its own failures change nothing.
+/// After 4 or 5 the output has a front of what the order shows, and `err` the line of the fault. Where
+/// a write of that failed it has a front of the line, and nothing else changes.
 ///
 /// Words that ask for help have it on the output, with status 0. Any others are status 2, and `err`
 /// says why. Then no text is read.
@@ -333,14 +334,14 @@ pub fn work_alone<R: AllocGlobal + Files, I: Source, K: Sink, E: Sink>(
         × IsDone order.task (told_by (I.left input.old) (R.texts rt.now) order.file)
         (lines_by (I.left input.old) order.file) (K.taken out.old) (K.taken out.new) status }
 
-    // Else there is a fault. Its status is the answer, the error's sink has its line, and a front of
+    // Else there is a fault. Its status is the answer, its line was sent to the error's sink, and a front of
     // what the order shows was written.
     ensures stopped { (order : Order)
         → words_order (map string_bytes words.now) ≡ Some order
         → (result ≡ Some 4) ⊎ (result ≡ Some 5)
         → (fault : WorkFault)
         × (result ≡ Some (fault_status fault))
-        × AppendsUpTo (E.taken err.old) (E.taken err.new) (fault_line fault)
+        × Sends E.taken E.failures err.old err.new (fault_line fault)
         × IsCause fault (IsUnread (R.may_fail rt.now) order.file)
         (I.failures input.old) (I.failures input.new) (K.failures out.old) (K.failures out.new)
         × IsStopped order.task fault (told_by (I.left input.old) (R.texts rt.now) order.file)
@@ -353,11 +354,17 @@ pub fn work_alone<R: AllocGlobal + Files, I: Source, K: Sink, E: Sink>(
     ensures lost { words_order (map string_bytes words.now) ≡ None
         → result ≡ Some 4
         → (K.failures out.old < K.failures out.new)
-        × AppendsUpTo (E.taken err.old) (E.taken err.new) (codes "write failed\n") }
+        × Sends E.taken E.failures err.old err.new (codes "write failed\n") }
     ensures faulty { words_order (map string_bytes words.now) ≡ None
         → (AsksHelp (map string_bytes words.now) → ⊥)
         → (result ≡ Some 2) ⊎ (result ≡ Some 5) }
-    ensures silent { (result ≡ Some 2) → out.new ≡ out.old }
+    ensures silent { result ≡ Some 2 → out.new ≡ out.old }
+    ensures unshown { words_order (map string_bytes words.now) ≡ None → result ≡ Some 5 → out.new ≡ out.old }
+    ensures shown { words_order (map string_bytes words.now) ≡ None
+        → result ≡ Some 0
+        → (text : List ℕ) × (text ≢ []) × Appends (K.taken out.old) (K.taken out.new) text }
+    ensures usage { result ≡ Some 2
+        → (text : List ℕ) × (text ≢ []) × Sends E.taken E.failures err.old err.new text }
 
     // Standard input is read where the order names it, and by a session. Of a text it is read in part at most.
     ensures unread { words_order (map string_bytes words.now) ≡ None → input.new ≡ input.old }
@@ -374,7 +381,7 @@ pub fn work_alone<R: AllocGlobal + Files, I: Source, K: Sink, E: Sink>(
     // Failures come with the status 4 alone.
     ensures failed { result ≢ Some 4
         → (I.failures input.new ≡ I.failures input.old) × (K.failures out.new ≡ K.failures out.old) }
-    ensures memory_line { result ≡ Some 5 → AppendsUpTo (E.taken err.old) (E.taken err.new) (codes "no memory\n") }
+    ensures memory_line { result ≡ Some 5 → Sends E.taken E.failures err.old err.new (codes "no memory\n") }
     ensures quiet { result ≢ Some 2 → result ≢ Some 4 → result ≢ Some 5 → err.new ≡ err.old }
 {
     let order = match order_of(rt.alloc(), words) {

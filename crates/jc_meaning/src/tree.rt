@@ -1,6 +1,6 @@
 //! The tree that a set of operations means.
 
-ghost use Rattle.std.specs.Prelude.{◌≡◌, ◌↔◌, List, map, is_some, IsTrue, IfOk};
+ghost use Rattle.std.specs.Prelude.{◌≡◌, ◌↔◌, List, [], map, is_some, IsTrue, IfOk};
 ghost use Rattle.jc_rules.specs.declared.operation.Op.{Op as AnyOp};
 ghost use Rattle.jc_rules.specs.Shape.{AreDistinct};
 ghost use Rattle.jc_rules.specs.Sound.{IsSound};
@@ -58,6 +58,8 @@ pub fn meaning(alloc: Global, ops: &[Op]) -> Result<PlainTree, AllocError>
         → IsSound set → AreOf set own → ops.now ≡ map kept_op own
         → IsMeaning own (⟦<PlainTree as TreeStore>⟧.tree tree).now) }
     ensures replicas { IfOk result (λ tree. IsTreeOfReplicas ops.now (⟦<PlainTree as TreeStore>⟧.tree tree).now) }
+    // No earlier content is kept.
+    ensures unmarked { IfOk result (λ tree. (⟦<PlainTree as TreeStore>⟧.tree tree).earlier ≡ []) }
 {
     let mut tree = PlainTree::new(alloc);
     fill(&mut tree, ops)?;

@@ -73,8 +73,12 @@ finished_in s p seen schedule M finished begins same legal =
 
 pub has_end : (s : Scenario) (p limit : ℕ) (seen mine schedule : List Event) (M : List State) (end : End) → IsWellFormed s → p < length s.scripts → EndsWith s p limit seen mine end → own_events seen p ≡ mine → IsPrefix seen schedule → own_events schedule p ≡ mine → IsLegal schedule s M → length schedule ≤ 100000
     → HasEnd s p limit schedule M end
-has_end s p limit seen mine schedule M N.Finished well low ends own begins owned legal small = finished_in s p seen schedule M ends begins (owned ∙ sym own) legal
-has_end s p limit seen mine schedule M (N.StuckAt stuck) well low ends own begins owned legal small = record { front = seen; begins = begins; has_all = own ∙ sym owned; is_stuck = ends; named = stuck_named s p seen stuck well low ends }
+has_end s p limit seen mine schedule M N.Finished well low ends own begins owned legal small =
+    (finished_in s p seen schedule M ends.0 begins (owned ∙ sym own) legal, omega (arith, ap length owned, ends.1))
+has_end s p limit seen mine schedule M (N.StuckAt stuck) well low ends own begins owned legal small = (
+  record { front = seen; begins = begins; has_all = own ∙ sym owned; room = ends.2; is_stuck = ends.0; named = stuck_named s p seen stuck well low ends.0 },
+  omega (arith, ap length owned, ends.1),
+)
 has_end s p limit seen mine schedule M N.LimitReached well low (inl made) own begins owned legal small = inl (ap length owned ∙ made)
 has_end s p limit seen mine schedule M N.LimitReached well low (inr full) own begins owned legal small =
     inr (let long = ap length begins.1 in omega (arith, full, small, long, length-append seen begins.0))

@@ -1,5 +1,5 @@
 -- What a step at the bench answers.
-use Rattle.std.specs.Prelude.{◌≡◌, ℕ, ◌+◌, List, [], ◌∷◌, ◌++◌, length}
+use Rattle.std.specs.Prelude.{◌≡◌, ℕ, ◌+◌, ◌<◌, List, [], ◌∷◌, ◌++◌, length}
 use Rattle.jc_rules.specs.declared.operation.Event.{Event}
 use Rattle.jc_rules.specs.declared.rule.Rule.{Rule}
 use Rattle.jc_rules.specs.State.{State}
@@ -23,11 +23,12 @@ pub record IsMade (s : Scenario) (e : Event) (seen mine new_mine : List Event) (
   pub legal : IsLegal before s network
   pub step : Step network e new_network rows
 
--- The event is stuck after the history, which has so many events.
+-- The event is stuck after the history, which has so many events, and not as many as can be.
 pub record IsRefused (s : Scenario) (e : Event) (seen mine new_mine : List Event) (front : ℕ)
     (stuck : Stuck) : Type 0 where
   pub network : List State
   pub is_front : front ≡ length seen
+  pub room : length seen < 100000
   pub stays : new_mine ≡ mine
   pub legal : IsLegal seen s network
   pub is_stuck : IsStuckFor network e stuck

@@ -22,19 +22,22 @@ pub record IsFinishedIn (network : List State) (p : ℕ) : Type 0 where
   pub is_there : slice_get network p ≡ Some state
   pub none_left : state.left ≡ []
 
--- Replica p chooses an event that is stuck after a beginning of the schedule that has all events of p. The event names
--- replicas of the scenario.
+-- Replica p chooses an event that is stuck after a beginning of the schedule that has all events of p, and isn't as long
+-- as a schedule can be. The event names replicas of the scenario.
 pub record IsStuckIn (s : Scenario) (p : ℕ) (schedule : List Event) (stuck : Stuck) : Type 0 where
   pub front : List Event
   pub begins : IsPrefix front schedule
   pub has_all : own_events front p ≡ own_events schedule p
+  pub room : length front < 100000
   pub is_stuck : IsStuckAfter s p front stuck
   pub named : AreNamed is_stuck.event (length s.names)
 
--- what the end of replica p says of the schedule and of the network to which it leads
+-- What the end of replica p says of the schedule and of the network to which it leads. Whether its script has ended, or
+-- its next event is stuck, the replica learns by one more take than it has made events.
 abbrev pub HasEnd : Scenario → ℕ → ℕ → List Event → List State → End → Type 0
-HasEnd s p limit schedule network N.Finished = IsFinishedIn network p
-HasEnd s p limit schedule network (N.StuckAt stuck) = IsStuckIn s p schedule stuck
+HasEnd s p limit schedule network N.Finished = IsFinishedIn network p × (length (own_events schedule p) < limit)
+HasEnd s p limit schedule network (N.StuckAt stuck) =
+    IsStuckIn s p schedule stuck × (length (own_events schedule p) < limit)
 HasEnd s p limit schedule network N.LimitReached =
     (length (own_events schedule p) ≡ limit) ⊎ (length schedule ≡ 100000)
 HasEnd s p limit schedule network N.NoMemory = Unit {0}

@@ -31,10 +31,12 @@ pub record IsStuckAfter (s : Scenario) (p : ℕ) (history : List Event) (stuck :
   pub is_chosen : chosen network p (last_of (own_events history p)) ≡ Some event
   pub is_stuck : IsStuckFor network event stuck
 
--- what each end says of the history that was seen, and of the pass's own events
+-- What each end says of the history that was seen, and of the pass's own events. That the script has ended, or that the
+-- next event is stuck, is found in a take of its own, and with 100,000 events no event is stuck.
 abbrev pub EndsWith : Scenario → ℕ → ℕ → List Event → List Event → End → Type 0
-EndsWith s p limit seen mine N.Finished = IsFinishedAfter s p seen
-EndsWith s p limit seen mine (N.StuckAt stuck) = IsStuckAfter s p seen stuck
+EndsWith s p limit seen mine N.Finished = IsFinishedAfter s p seen × (length mine < limit)
+EndsWith s p limit seen mine (N.StuckAt stuck) =
+    IsStuckAfter s p seen stuck × (length mine < limit) × (length seen < 100000)
 EndsWith s p limit seen mine N.LimitReached = (length mine ≡ limit) ⊎ (length seen ≡ 100000)
 EndsWith s p limit seen mine N.NoMemory = Unit {0}
 

@@ -1,5 +1,5 @@
 //! A network beside the events that led to it.
-ghost use Rattle.std.specs.Prelude.{◌≡◌, ◌∷◌, [], ◌++◌, length, IfOk, OnOk, OnErr, IsErrOf};
+ghost use Rattle.std.specs.Prelude.{◌≡◌, ◌<◌, ◌∷◌, [], ◌++◌, length, IfOk, OnOk, OnErr, IsErrOf};
 ghost use Rattle.jc_rules.specs.Step.{Step, replica_of};
 ghost use Rattle.jc_network.specs.declared.fault.StepFault.TheVariants as Fault;
 ghost use Rattle.jc_network.specs.declared.fault.Stuck.{Stuck as AnyStuck};
@@ -78,6 +78,7 @@ impl Recorded {
         ensures full { IsErrOf result Fault.Full → length self.old.schedule ≡ 100000 }
         ensures stuck { (s : AnyStuck) → IsErrOf result (Fault.Stuck s)
             → IsStuckFor self.old.net.network event.now s }
+        ensures room { (s : AnyStuck) → IsErrOf result (Fault.Stuck s) → length self.old.schedule < 100000 }
     {
         let Recorded {
             net,

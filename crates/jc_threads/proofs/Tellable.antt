@@ -13,7 +13,7 @@ use Rattle.jc_threads.specs.Ends.{IsTellable, AreTellable}
 
 tellable : (s : Scenario) (p limit : ℕ) (schedule : List Event) (network : List State) (end : End) → HasEnd s p limit schedule network end → IsTellable s.names end
 tellable s p limit schedule network N.Finished h = tt
-tellable s p limit schedule network (N.StuckAt stuck) h = record { why = h.is_stuck.is_stuck.why; event = h.is_stuck.event; is = h.is_stuck.is_stuck.is; named = h.named }
+tellable s p limit schedule network (N.StuckAt stuck) h = record { why = h.0.is_stuck.is_stuck.why; event = h.0.is_stuck.event; is = h.0.is_stuck.is_stuck.is; named = h.0.named }
 tellable s p limit schedule network N.LimitReached h = tt
 tellable s p limit schedule network N.NoMemory h = tt
 

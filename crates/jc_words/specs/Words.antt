@@ -1,5 +1,5 @@
 -- What the words are taken for that the program is called with.
-use Rattle.std.specs.Prelude.{◌≡◌, ◌≢◌, ◌≤◌, ⊤, ℕ, List, [], ◌∷◌, Bool, true, Option, Some, None, codes, if◌then◌else◌, option_map, unwrap_or}
+use Rattle.std.specs.Prelude.{◌≡◌, ◌≢◌, ◌≤◌, ⊤, ℕ, List, [], ◌∷◌, Bool, true, Option, Some, None, codes, if◌then◌else◌, option_map, unwrap_or, string_bytes}
 use Rattle.std.specs.Option.{option_and_then}
 use Rattle.std.specs.Str.{bytes_eq}
 use Rattle.std.specs.Str.Parse.{digits_value, without_leading_plus}
@@ -73,3 +73,9 @@ abbrev pub IsFaultBy : ErrorKind → WordsFault → Type 0
 IsFaultBy kind (Help text) = kind ≡ DisplayHelp
 IsFaultBy kind (Usage text) = (kind ≢ DisplayHelp) × (kind ≢ OutOfMemory)
 IsFaultBy kind Memory = Unit {0}
+
+-- what is told of words that are no order is never empty
+abbrev pub HasText : WordsFault → Type 0
+HasText (Help text) = string_bytes text ≢ []
+HasText (Usage text) = string_bytes text ≢ []
+HasText Memory = ⊤

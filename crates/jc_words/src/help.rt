@@ -1,5 +1,8 @@
 //! What help says beside the lists of commands and options.
 
+/// The command line in one line, where its parser has no text.
+pub(crate) const BRIEF: &str = "Usage: jsoncrdt <check|print|run|debug|threads> <FILE>\n";
+
 /// The help of the program.
 pub(crate) const PROGRAM: &str =
     "A scenario is a text with a script of commands for each replica,\n\

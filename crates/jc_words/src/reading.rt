@@ -5,10 +5,11 @@ ghost use Rattle.std.specs.Option.{option_and_then};
 ghost use Rattle.std.specs.Str.{bytes_eq};
 ghost use Rattle.clap.specs.Words.{FailsBy, fault_of, first_of, found_of, rows_of, subcommand_of, subcommand_rows_of};
 ghost use Rattle.jc_words.specs.Program.{program};
-ghost use Rattle.jc_words.specs.Words.{is_traced, limit_in, limit_of, task_in, order_in, words_order, AsksHelp, HasLimitInRange, IsWordsFault};
+ghost use Rattle.jc_words.specs.Words.{is_traced, limit_in, limit_of, task_in, order_in, words_order, AsksHelp, HasLimitInRange, HasText, IsWordsFault};
 
 use crate::definition::definition;
 use crate::fault::{WordsFault, fault_by};
+use crate::help::BRIEF;
 use crate::order::{Order, Task, View};
 use clap::{ArgMatches, Error};
 use jc_rules::Text;
@@ -106,6 +107,7 @@ pub fn order_of(alloc: Global, words: &[String]) -> Result<Order, WordsFault>
     // What is refused is no order; it is help where that is asked for, and else a fault.
     ensures err { IfErr result (IsWordsFault (map string_bytes words.now)) }
     ensures help { AsksHelp (map string_bytes words.now) → IsErr result }
+    ensures text { IfErr result HasText }
     // A limit is from 0 to 100,000.
     ensures limit { IfOk result (λ order. HasLimitInRange order.task) }
 {
@@ -122,6 +124,6 @@ pub fn order_of(alloc: Global, words: &[String]) -> Result<Order, WordsFault>
     };
     match order_matched(alloc, &matches)? {
         Some(order) => Ok(order),
-        None => Err(WordsFault::Usage(String::new(alloc))),
+        None => Err(WordsFault::Usage(String::from_str(alloc, BRIEF)?)),
     }
 }

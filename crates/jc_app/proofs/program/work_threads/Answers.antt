@@ -1,11 +1,11 @@
-use Rattle.std.proofs.Common.{◌≡◌, ◌∙◌, ℕ, List, Option, inr, map, string_bytes, refl, sym, ap, subst}
+use Rattle.std.proofs.Common.{◌≡◌, ◌∙◌, ℕ, List, Option, Err, inr, map, string_bytes, refl, sym, ap, subst}
 use Rattle.std.proofs.lemmas.Option.{same_Some}
 use Rattle.jc_words.specs.declared.order.Order.{Order}
-use Rattle.jc_app.specs.Due.{AppendsUpTo, told_by}
+use Rattle.jc_app.specs.Due.{Sends, told_by}
 use Rattle.jc_app.specs.Faults.{fault_line, IsCause, IsUnread}
 use Rattle.jc_app.specs.Talked.{lines_by}
 use Rattle.jc_app.specs.Threaded.{HaveBegun}
-use Rattle.jc_app.specs.declared.work.WorkFault.TheVariants.{Memory}
+use Rattle.jc_app.specs.declared.work.WorkFault.TheVariants.{TooManyLines, Memory}
 use Rattle.jc_app.proofs.Orders.{unordered, same_limit}
 use Rattle.jc_app.proofs.Threaded.{unwritten, lacking}
 use Rattle.jc_app.proofs.program.work_threads.Goals as goal
@@ -20,11 +20,12 @@ returns-in-Err-clause-threads g c = λ order limit some is.
     let same = unwritten limit order.task Memory told (lines_by left order.file) (lines_by left order.file) old (g.K.Sink.taken c.explain.new.out) is none.1 in
     inr (record {
       fault = Memory;
+      no_lines = λ e. (let bad : Memory ≡ TooManyLines = e in cc);
       ends = none.0;
       line = c.explain.ensures.memory_line none.0;
       cause = (refl, c.explain.ensures.same (λ e. (let bad : ◌≡◌ {A = ℕ} 5 4 = sym none.0 ∙ e in cc)));
-      begun = lacking limit told old (g.K.Sink.taken c.explain.new.out) same;
-      unwritten = λ other. same;
+      begun = lacking limit told old (g.K.Sink.taken c.explain.new.out) same.1;
+      unwritten = λ other. same.1;
     })
 
 -- a fault stopped the threads
@@ -41,8 +42,9 @@ returns-clause-threads g c = λ order limit some is.
     let file : c.as_str.result.now ≡ order.file = c.as_str.ensures ∙ ap (λ (o : Order). o.file) same in
     inr (record {
       fault = fault;
+      no_lines = λ e. c.in-Err-threads.ensures.no_lines (ap Err e);
       ends = c.end.ensures.status;
-      line = subst (λ (err : Option (List ℕ)). AppendsUpTo err (g.E.Sink.taken c.end.new.err) (fault_line fault)) (ap g.E.Sink.taken c.in-Err-threads.ensures.quiet) c.end.ensures.line;
+      line = subst (λ err. Sends g.E.Sink.taken g.E.Sink.failures err c.end.new.err (fault_line fault)) c.in-Err-threads.ensures.quiet c.end.ensures.line;
       cause = subst (λ (f : List ℕ). IsCause fault (IsUnread (g.R.Files.may_fail c.args.rt.now) f) (g.I.Source.failures c.args.input.now) (g.I.Source.failures c.threads.new.input) (g.K.Sink.failures c.args.out.now) (g.K.Sink.failures c.threads.new.out)) file c.in-Err-threads.ensures.cause;
       begun = subst (λ (f : List ℕ). HaveBegun limit (told_by left files f) old new) file (subst (λ (l : ℕ). HaveBegun l (told_by left files c.as_str.result.now) old new) limits c.in-Err-threads.ensures.begun);
       unwritten = c.in-Err-threads.ensures.unwritten;

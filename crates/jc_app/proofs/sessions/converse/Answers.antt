@@ -2,6 +2,7 @@ use Rattle.std.proofs.Common.{Result, Ok, Err, inr, refl, ap}
 use Rattle.jc_session.specs.declared.sessions.SessionEnd.{SessionEnd}
 use Rattle.jc_session.specs.declared.sessions.SessionFault.{SessionFault}
 use Rattle.jc_session.specs.Shown.{finished, text_refused}
+use Rattle.jc_app.proofs.Talked.{at_write}
 use Rattle.jc_app.proofs.sessions.converse.Goals as goal
 
 abbrev ended : SessionEnd → Result SessionEnd SessionFault
@@ -24,3 +25,7 @@ returns-in-Ok-TextRefused-clause-refused g c = λ _.
 
 pub returns-in-Err-ReadFailed-clause-stopped : goal.returns-in-Err-ReadFailed-clause-stopped
 returns-in-Err-ReadFailed-clause-stopped g c = inr (c.in-Err-ReadFailed.ensures.read (ap failed c.in-Err-ReadFailed.field-0-is))
+
+pub returns-in-Err-WriteFailed-clause-stopped : goal.returns-in-Err-WriteFailed-clause-stopped
+returns-in-Err-WriteFailed-clause-stopped g c =
+    at_write g.S.Source.left c.args.text.now c.args.lines.now c.session.new.lines (g.K.Sink.taken c.args.out.now) (g.K.Sink.taken c.session.new.out) (c.in-Err-WriteFailed.ensures.write (ap failed c.in-Err-WriteFailed.field-0-is))

@@ -1,5 +1,5 @@
 use Rattle.std.proofs.Common.{ℕ, List, refl, subst}
-use Rattle.jc_app.specs.Due.{AppendsFrontOf, told_by}
+use Rattle.jc_app.specs.Due.{AppendsFrontOf, Sends, told_by}
 use Rattle.jc_app.specs.Faults.{IsUnread}
 use Rattle.jc_app.specs.Threaded.{ThreadsRan, AreTextsOf, IsTextOf}
 use Rattle.jc_app.proofs.Begun.{on_err}
@@ -23,9 +23,8 @@ returns-clause-ok g c =
     let told = told_by (g.I.Source.left c.args.input.now) (g.R.Files.texts c.args.rt.now) c.args.file.now in
     let old = g.K.Sink.taken c.args.out.now in
     let new = g.K.Sink.taken c.run_text.new.out in
-    let err_old = g.E.Sink.taken c.args.err.now in
-    let err_new = g.E.Sink.taken c.run_text.new.err in
-    if_ok c.run_text.result (λ status h. threaded_on_front limit 8388609 told old new err_old err_new c.in-Ok.text.items status refl c.in-Ok.ensures.front (subst (λ (t : List ℕ). AreTextsOf (ThreadsRan limit t) old new err_old err_new status) c.deref.ensures.value h)) c.run_text.ensures.ok
+    let were_sent = Sends g.E.Sink.taken g.E.Sink.failures c.args.err.now c.run_text.new.err in
+    if_ok c.run_text.result (λ status h. threaded_on_front limit 8388609 told old new were_sent c.in-Ok.text.items status refl c.in-Ok.ensures.front (subst (λ (t : List ℕ). AreTextsOf (ThreadsRan limit t) old new were_sent status) c.deref.ensures.value h)) c.run_text.ensures.ok
 
 pub returns-clause-begun : goal.returns-clause-begun
 returns-clause-begun g c =

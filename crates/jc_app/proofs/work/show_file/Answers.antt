@@ -15,25 +15,21 @@ returns-in-Ok-show_text-clause-ran g c =
     (whole.0, ran.0, whole.1, whole.2, ran.2)
 
 -- nothing was read
-pub returns-in-Err-Failed-clause-begun : goal.returns-in-Err-Failed-clause-begun
-returns-in-Err-Failed-clause-begun g c =
-    begun_nothing c.args.view (told_by (g.I.Source.left c.args.input.now) (g.R.Files.texts c.args.rt.now) c.args.file.now) (g.K.Sink.taken c.args.out.now)
-
-pub returns-in-Err-Memory-clause-begun : goal.returns-in-Err-Memory-clause-begun
-returns-in-Err-Memory-clause-begun g c =
+pub returns-in-Err-Memory-clause-stopped : goal.returns-in-Err-Memory-clause-stopped
+returns-in-Err-Memory-clause-stopped g c =
     begun_nothing c.args.view (told_by (g.I.Source.left c.args.input.now) (g.R.Files.texts c.args.rt.now) c.args.file.now) (g.K.Sink.taken c.args.out.now)
 
 -- what is due on the front that was read is due on the whole
-pub returns-in-Err-Write-clause-begun : goal.returns-in-Err-Write-clause-begun
-returns-in-Err-Write-clause-begun g c =
+pub returns-in-Err-Write-clause-stopped : goal.returns-in-Err-Write-clause-stopped
+returns-in-Err-Write-clause-stopped g c =
     let view = c.args.view in
     let told : List ℕ → Option (List ℕ) = told_by (g.I.Source.left c.args.input.now) (g.R.Files.texts c.args.rt.now) in
     let front = c.in-Ok.ensures.front in
     begun_on_front view 8388609 (told c.args.file.now) (g.K.Sink.taken c.args.out.now) (g.K.Sink.taken c.show_text.new.out) c.in-Ok.text.items refl front
     (subst (λ (t : List ℕ). AppendsFrontOf (IsDue view t) (g.K.Sink.taken c.args.out.now) (g.K.Sink.taken c.show_text.new.out)) c.deref.ensures.value c.in-Err-Write.ensures.begun)
 
-pub returns-clause-begun : goal.returns-clause-begun
-returns-clause-begun g c =
+pub returns-clause-stopped : goal.returns-clause-stopped
+returns-clause-stopped g c =
     let view = c.args.view in
     let told : List ℕ → Option (List ℕ) = told_by (g.I.Source.left c.args.input.now) (g.R.Files.texts c.args.rt.now) in
     let front = c.in-Ok.ensures.front in

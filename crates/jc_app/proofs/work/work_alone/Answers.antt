@@ -1,11 +1,11 @@
-use Rattle.std.proofs.Common.{◌≡◌, Some, Err, map, string_bytes, refl, ap, sym, ◌∙◌}
+use Rattle.std.proofs.Common.{◌≡◌, ℕ, Some, Err, map, string_bytes, refl, ap, sym, ◌∙◌}
 use Rattle.std.proofs.lemmas.Option.{same_Some}
 use Rattle.jc_words.specs.declared.order.Order.{Order}
-use Rattle.jc_app.specs.Due.{told_by}
+use Rattle.jc_app.specs.Due.{Sends, told_by}
 use Rattle.jc_app.specs.Talked.{lines_by}
 use Rattle.jc_app.specs.declared.work.WorkFault.TheVariants.{Memory}
-use Rattle.jc_app.specs.Faults.{fault_status}
-use Rattle.jc_app.proofs.Orders.{unordered, no_fault}
+use Rattle.jc_app.specs.Faults.{fault_status, words_text}
+use Rattle.jc_app.proofs.Orders.{unordered, some_text, no_fault}
 use Rattle.jc_app.proofs.Threaded.{memory_only}
 use Rattle.jc_app.proofs.work.work_alone.Goals as goal
 
@@ -15,6 +15,17 @@ returns-in-Err-clause-stopped g c = λ order some _.
     let left = g.I.Source.left c.args.input.now in
     let none = unordered (map string_bytes c.args.words.now) c.in-Err.fault c.explain.result order (told_by left (g.R.Files.texts c.args.rt.now) order.file) (lines_by left order.file) (g.K.Sink.taken c.args.out.now) (g.K.Sink.taken c.explain.new.out) c.in-Err.ensures.err c.explain.ensures.status some (λ h. ap g.K.Sink.taken (c.explain.ensures.silent h)) in
     (Memory, ap Some none.0, c.explain.ensures.memory_line none.0, (refl, c.explain.ensures.same (λ e. (let bad : 5 ≡ 4 = sym none.0 ∙ e in cc))), none.1)
+
+-- help is some text, and so is why words are none
+pub returns-in-Err-clause-shown : goal.returns-in-Err-clause-shown
+returns-in-Err-clause-shown g c = λ none well.
+    let is : c.explain.result ≡ 0 = same_Some c.explain.result 0 well in
+    (words_text c.in-Err.fault, some_text c.in-Err.fault c.explain.result c.in-Err.ensures.text c.explain.ensures.status (λ five. (let bad : ◌≡◌ {A = ℕ} 0 5 = sym is ∙ five in cc)), c.explain.ensures.help is)
+
+pub returns-in-Err-clause-usage : goal.returns-in-Err-clause-usage
+returns-in-Err-clause-usage g c = λ two.
+    let is : c.explain.result ≡ 2 = same_Some c.explain.result 2 two in
+    (words_text c.in-Err.fault, some_text c.in-Err.fault c.explain.result c.in-Err.ensures.text c.explain.ensures.status (λ five. (let bad : ◌≡◌ {A = ℕ} 2 5 = sym is ∙ five in cc)), c.explain.ensures.usage is)
 
 -- an order asks for no help
 pub returns-in-Ok-carry_out-clause-help : goal.returns-in-Ok-carry_out-clause-help
@@ -37,4 +48,4 @@ returns-clause-threads g c = λ order limit some is.
 pub returns-clause-memory_line : goal.returns-clause-memory_line
 returns-clause-memory_line g c = λ five.
     let ends : fault_status c.in-Err-carry_out.fault ≡ 5 = sym c.end.ensures.status ∙ same_Some c.end.result 5 five in
-    memory_only c.in-Err-carry_out.fault (g.E.Sink.taken c.args.err.now) (g.E.Sink.taken c.end.new.err) (λ e. c.in-Err-carry_out.ensures.unthreaded (ap Err e)) ends c.end.ensures.line
+    memory_only c.in-Err-carry_out.fault (Sends g.E.Sink.taken g.E.Sink.failures c.args.err.now c.end.new.err) (λ e. c.in-Err-carry_out.ensures.unthreaded (ap Err e)) ends c.end.ensures.line

@@ -22,3 +22,6 @@ returns-clause-stands c = λ set own sound of kept. meant_kept set sound own of 
 
 pub returns-clause-replicas : goal.returns-clause-replicas
 returns-clause-replicas c = meaning_is_tree c.args.ops.now c.forget_marks.new.self.root c.forget_marks.new.self.root_kept (returns-clause-meaning c)
+
+pub returns-clause-unmarked : goal.returns-clause-unmarked
+returns-clause-unmarked c = ap (λ (t : Tree). t.earlier) c.forget_marks.ensures

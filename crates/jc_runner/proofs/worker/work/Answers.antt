@@ -1,4 +1,5 @@
-use Rattle.std.proofs.Common.{arith, ◌≡◌, ◌<◌, ◌+◌, ◌∷◌, [], ◌++◌, refl, sym, ◌∙◌, ap, subst, length, length-append, Some, inr}
+use Rattle.std.proofs.Common.{arith, ◌≡◌, ◌<◌, ◌+◌, List, ◌∷◌, [], ◌++◌, refl, sym, ◌∙◌, ap, subst, length, length-append, Some, inr}
+use Rattle.jc_rules.specs.declared.operation.Event.{Event}
 use Rattle.jc_lock.specs.Shows.{pass_number, pass_left, pass_origin, pass_seen, pass_mine, turn_value, turn_seen, turn_mine, turn_left}
 use Rattle.jc_scenario.specs.Views.{scenario_view}
 use Rattle.jc_runner.specs.Benches.{bench_start}
@@ -47,7 +48,7 @@ returns-in-None-choose g c =
     let worked : Worked = record { pass = c.give.result; made = c.loop.made; end = N.Finished } in
     subst (λ k. IsWorked c.args.bench.now k (pass_left c.args.pass) worked) c.number-p.ensures
     (ended c.args.bench.now p (pass_left c.args.pass) worked history (pass_mine c.loop.pass) give.lock (give.number.0 ∙ (ok.number.0 ∙ inv.number)) (give.origin ∙ (ok.origin.0 ∙ inv.origin)) give.own give.seen owned inv.made all
-    (is_finished s p history network c.loop.phase legal low (sym c.choose.ensures ∙ c.in-None-choose.is)))
+    (is_finished s p history network c.loop.phase legal low (sym c.choose.ensures ∙ c.in-None-choose.is), omega (arith, ok.number.1, inv.takes, inv.made)))
 
 pub make-back-requires-clause-number : goal.make-back-requires-clause-number
 make-back-requires-clause-number g c =
@@ -117,7 +118,7 @@ returns-in-loop g c =
           let a = answered _ what in
           let seen : pass_seen new ≡ history = m.list ∙ (ap (seen_after (turn_seen c.in-Ok.turn) e) what ∙ ok.list.0) in
           let other : IsLegal history s a.0.network = subst (λ t. IsLegal history t a.0.network) same (subst (λ h. IsLegal h (turn_value c.in-Ok.turn).start a.0.network) seen a.0.legal) in
-          done seen (subst (EndsWith s p limit history (pass_mine c.loop.pass)) (sym w.end-is) (is_stuck_after s p history (pass_mine c.loop.pass) network c.loop.phase next e a.0.network _ legal owned inv.phase is other a.0.is_stuck))
+          done seen (subst (EndsWith s p limit history (pass_mine c.loop.pass)) (sym w.end-is) (is_stuck_after s p history (pass_mine c.loop.pass) network c.loop.phase next e a.0.network _ legal owned inv.phase is other a.0.is_stuck, omega (arith, ok.number.1, inv.takes, inv.made), subst (λ (l : List Event). length l < 100000) seen a.0.room))
       | in-Full w ↦
           let what = w.in-Full.is in
           let a = answered _ what in

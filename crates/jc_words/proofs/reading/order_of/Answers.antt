@@ -14,7 +14,7 @@ returns-then-is_empty-clause-ok c =
 pub returns-in-Err-clause-err : goal.returns-in-Err-clause-err
 returns-in-Err-clause-err c =
     let some : length c.args.words.now ≢ 0 = false-eqb _ 0 c.if-is_empty.ensures in
-    faulty _ (map string_bytes c.args.words.now) c.fault_by.result (some_said string_bytes c.args.words.now some) c.in-Err.ensures.kinds c.fault_by.ensures
+    faulty _ (map string_bytes c.args.words.now) c.fault_by.result (some_said string_bytes c.args.words.now some) c.in-Err.ensures.kinds c.fault_by.ensures.kind
 
 pub returns-in-Some-clause-ok : goal.returns-in-Some-clause-ok
 returns-in-Some-clause-ok c =

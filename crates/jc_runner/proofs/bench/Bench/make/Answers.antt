@@ -9,6 +9,7 @@ returns-in-Err-Stuck-clause-answer c = (
   record {
     network = (turn_value c.args.turn).net.network;
     is_front = search rules;
+    room = let room = c.in-Err-Stuck.ensures.room c.in-Err-Stuck.stuck (search (rules, c.in-Err-Stuck.is)) in search (rules, room);
     stays = search rules;
     legal = search rules;
     is_stuck = subst (λ (r : Recording). IsStuckFor r.net.network c.args.event.now c.in-Err-Stuck.stuck) c.value_mut.ensures.value (c.in-Err-Stuck.ensures.stuck c.in-Err-Stuck.stuck (search (rules, c.in-Err-Stuck.is)));
