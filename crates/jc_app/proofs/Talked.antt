@@ -5,7 +5,7 @@ use Rattle.std.proofs.lemmas.Slice.Eq.{bytes_eq-Decides}
 use Rattle.jc_rules.specs.Told.{IsFront}
 use Rattle.jc_session.specs.Answers.{Origin}
 use Rattle.jc_session.specs.Shown.{End, finished, too_many, text_refused, Shows, refused, talks}
-use Rattle.jc_session.specs.Went.{WentToRead, WentWhole, WentFront, ShowsAll, WentRefused, OnScenario}
+use Rattle.jc_session.specs.Went.{WentToRead, WentWhole, WentFront, ShowsAll, IsPast, WentRefused, OnScenario}
 use Rattle.jc_debug.specs.Session.{Session}
 use Rattle.jc_app.specs.Talked.{lines_by, ShowsTo, TalksOn, StopsOn, HasTalked, HasStopped}
 use Rattle.jc_app.specs.declared.work.WorkFault.{WorkFault}
@@ -41,6 +41,10 @@ all_whole : (n : ℕ) (b v : List ℕ) (lines old new : Option (List ℕ)) (end 
 all_whole n b v None old new end is e h = tt
 all_whole n b v (Some l) old new end is e h = (h.0, shows_whole n b v l is e h.1, h.2)
 
+past_whole : (n : ℕ) (b v : List ℕ) (lines left old new : Option (List ℕ)) → n ≡ 8388609 → v ≡ take n b → IfSome lines (λ l. ShowsAll v l too_many old new × IsPast l left) → IfSome lines (λ l. ShowsAll b l too_many old new × IsPast l left)
+past_whole n b v None left old new is e h = tt
+past_whole n b v (Some l) left old new is e h = ((h.0.0, shows_whole n b v l is e h.0.1, h.0.2), h.1)
+
 to_whole : (n : ℕ) (b v : List ℕ) (lines old new : Option (List ℕ)) (end : End) → n ≡ 8388609 → v ≡ take n b → ShowsTo v lines end old new → ShowsTo b lines end old new
 to_whole n b v lines old new finished is e h = all_whole n b v lines old new finished is e h
 to_whole n b v lines old new too_many is e h = all_whole n b v lines old new too_many is e h
@@ -57,10 +61,15 @@ stops_whole Read n b v lines left old new is e (inl h) = inl h
 stops_whole Read n b v lines left old new is e (inr h) = inr (scenario_whole (λ O A. IfSome lines (λ l. WentToRead O A l left old new)) n b v is e h)
 stops_whole Write n b v lines left old new is e (inl h) = inl (h.0, refused_whole n b v old new is e h.1)
 stops_whole Write n b v lines left old new is e (inr h) = inr (scenario_whole (λ O A. IfSome lines (λ l. WentFront O A l left old new)) n b v is e h)
-stops_whole TooManyLines n b v lines left old new is e h = all_whole n b v lines old new too_many is e h
+stops_whole TooManyLines n b v lines left old new is e h = past_whole n b v lines left old new is e h
 stops_whole NoThread n b v lines left old new is e h = absurd h
 stops_whole Memory n b v lines left old new is e (inl h) = inl h
 stops_whole Memory n b v lines left old new is e (inr h) = inr (scenario_whole (λ O A. IfSome lines (λ l. WentWhole O A l left old new)) n b v is e h)
+
+-- what is so of told bytes in two ways
+pub if_both : (o : Option (List ℕ)) (P Q : List ℕ → Type 0) → IfSome o P → IfSome o Q → IfSome o (λ l. P l × Q l)
+if_both None P Q p q = tt
+if_both (Some l) P Q p q = (p, q)
 
 -- a failed write, where the source of the lines is in hand
 pub at_write : {S : Type 0} (left : S → Option (List ℕ)) (bytes : List ℕ) (a b : S) (old new : Option (List ℕ)) → ((b ≡ a) × WentRefused bytes old new) ⊎ OnScenario bytes (λ O A. IfSome (left a) (λ l. WentFront O A l (left b) old new)) → StopsOn Write bytes (left a) (left b) old new

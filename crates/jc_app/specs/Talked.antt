@@ -2,7 +2,7 @@
 use Rattle.std.specs.Prelude.{◌≡◌, ℕ, ◌⊎◌, List, [], Option, Some, None, IfSome, codes, if◌then◌else◌}
 use Rattle.std.specs.Str.{bytes_eq}
 use Rattle.jc_session.specs.Shown.{End, finished, too_many, text_refused}
-use Rattle.jc_session.specs.Went.{WentToRead, WentWhole, WentFront, WentRefused, ShowsAll, OnScenario}
+use Rattle.jc_session.specs.Went.{WentToRead, WentWhole, WentFront, WentRefused, IsPast, ShowsAll, OnScenario}
 use Rattle.jc_app.specs.Due.{AreTold}
 use Rattle.jc_app.specs.declared.work.WorkFault.{WorkFault}
 use Rattle.jc_app.specs.declared.work.WorkFault.TheVariants.{Read, Write, TooManyLines, NoThread, Memory}
@@ -34,7 +34,8 @@ IsUnstarted lines left old new = (left ≡ lines) × (new ≡ old)
 
 -- What a session has left that a fault stopped. A failed read: the answers of all lines whose LF was read. A failed
 -- write: those of some first lines, and a front of the next one; or a front of the scenario's refusal, where no line was
--- read. Too many lines: the whole text up to the limit. No memory: the answers of some first lines.
+-- read. Too many lines: the whole text up to the limit, where no more was read than shows that. No memory: the answers of
+-- some first lines.
 abbrev pub StopsOn
     : WorkFault → List ℕ → Option (List ℕ) → Option (List ℕ) → Option (List ℕ) → Option (List ℕ) → Type 0
 StopsOn Read bytes lines left old new =
@@ -43,7 +44,7 @@ StopsOn Read bytes lines left old new =
 StopsOn Write bytes lines left old new =
     ((left ≡ lines) × WentRefused bytes old new)
     ⊎ OnScenario bytes (λ O A. IfSome lines (λ l. WentFront O A l left old new))
-StopsOn TooManyLines bytes lines left old new = IfSome lines (λ l. ShowsAll bytes l too_many old new)
+StopsOn TooManyLines bytes lines left old new = IfSome lines (λ l. ShowsAll bytes l too_many old new × IsPast l left)
 StopsOn NoThread bytes lines left old new = ⊥
 StopsOn Memory bytes lines left old new =
     IsUnstarted lines left old new ⊎ OnScenario bytes (λ O A. IfSome lines (λ l. WentWhole O A l left old new))

@@ -16,7 +16,7 @@ use Rattle.jc_session.specs.Views.{bytes_of}
 use Rattle.jc_session.specs.Answers.{Origin, Answer}
 use Rattle.jc_session.specs.Shown.{Answers, finished, too_many, at_the_end, at_quit, AreDue}
 use Rattle.jc_session.specs.Reads.{StopsAt}
-use Rattle.jc_session.specs.Went.{AppendsSome, LosesFront, GoesOn, BreaksOff, Wrote, Answered, WentToRead, WentWhole, WentFront, IsNext, ends_in_lf, ends_at_end}
+use Rattle.jc_session.specs.Went.{AppendsSome, LosesFront, GoesOn, BreaksOff, Wrote, Answered, WentToRead, WentWhole, WentFront, IsNext, ends_in_lf, ends_at_end, IsPast}
 use Rattle.jc_session.specs.SoFar.{SoFar}
 use Rattle.jc_session.proofs.Naming.{answer_named}
 use Rattle.jc_session.proofs.Readings.{all_more}
@@ -220,9 +220,10 @@ at_quit_line O A B (Some bytes) (Some rest) (Some more) o p q n m raw line le fe
 
 -- ---- the line that comes next
 
-next_lf : (rest raw ahead : List ℕ) (left : Option (List ℕ)) → Consumes (Some rest) (prepend_known ahead left) (raw ++ 10 ∷ []) → Consumes (Some rest) left (raw ++ 10 ∷ ahead)
-next_lf rest raw ahead None h = absurd h
-next_lf rest raw ahead (Some ys) h = h ∙ append_assoc raw (10 ∷ []) (ahead ++ ys) ∙ sym (append_assoc raw (10 ∷ ahead) ys)
+-- what was read up to a byte, and then what was read ahead
+next_byte : (b : ℕ) (rest raw ahead : List ℕ) (left : Option (List ℕ)) → Consumes (Some rest) (prepend_known ahead left) (raw ++ b ∷ []) → Consumes (Some rest) left (raw ++ b ∷ ahead)
+next_byte b rest raw ahead None h = absurd h
+next_byte b rest raw ahead (Some ys) h = h ∙ append_assoc raw (b ∷ []) (ahead ++ ys) ∙ sym (append_assoc raw (b ∷ ahead) ys)
 
 none_behind : (xs ys : List ℕ) → xs ++ ys ≡ [] → ys ≡ []
 none_behind [] ys e = e
@@ -235,7 +236,7 @@ next_end rest raw ahead (Some ys) h e =
 
 pub next_whole : (now left : Option (List ℕ)) (raw ahead : List ℕ) (line : Line) → Lacks 10 raw → length ahead < 4096 → Consumes now (prepend_known ahead left) (raw ++ 10 ∷ []) → line ≡ whole_line raw → IfSome now (λ rest. IsNext rest line left)
 next_whole None left raw ahead line l few h e = tt
-next_whole (Some rest) left raw ahead line l few h e = subst (λ (x : Line). IsNext rest x left) (sym e) (ends_in_lf raw ahead l few (next_lf rest raw ahead left h))
+next_whole (Some rest) left raw ahead line l few h e = subst (λ (x : Line). IsNext rest x left) (sym e) (ends_in_lf raw ahead l few (next_byte 10 rest raw ahead left h))
 
 pub next_last : (now left : Option (List ℕ)) (raw ahead : List ℕ) (line : Line) → Lacks 10 raw → Consumes now (prepend_known ahead left) raw → IsAtEnd (prepend_known ahead left) → last_line raw ≡ line ∷ [] → IfSome now (λ rest. IsNext rest line left)
 next_last None left raw ahead line l h a e = tt
@@ -302,6 +303,31 @@ went_front O A B (Some bytes) (Some rest) left o p q n m line le few s next k = 
   answers = k.2;
   front = k.3.0;
   went = some_after o p q s.text k.1 k.3.0 s.went k.3.1;
+}
+
+behind_lines : (bytes lines rest part more : List ℕ) (left : Option (List ℕ)) → bytes ≡ lines ++ rest → Consumes (Some rest) left (part ++ more) → Consumes (Some bytes) left ((lines ++ part) ++ more)
+behind_lines bytes lines rest part more None e h = absurd h
+behind_lines bytes lines rest part more (Some ys) e h =
+    e ∙ ap (λ l. lines ++ l) h ∙ sym (append_assoc lines (part ++ more) ys) ∙ ap (λ l. l ++ ys) (sym (append_assoc lines part more))
+
+-- what was read, where a byte past a limit was
+pub past_limit : (O : Origin) (A B : Session) (first now left o p : Option (List ℕ)) (n m : ℕ) (raw ahead : List ℕ) (b : ℕ) → SoFar O A B first now o p n m → Lacks 10 raw → length ahead < 4096 → Consumes now (prepend_known ahead left) (raw ++ b ∷ []) → (n + length raw ≡ 67108864) ⊎ ((m ≡ 1000000) × (raw ≡ []))
+    → IfSome first (λ l. IsPast l left)
+past_limit O A B None now left o p n m raw ahead b s l few h e = tt
+past_limit O A B (Some bytes) None left o p n m raw ahead b s l few h e = absurd s.gone
+past_limit O A B (Some bytes) (Some rest) left o p n m raw ahead b s l few h e = record {
+  whole = s.whole;
+  part = raw;
+  byte = b;
+  ahead = ahead;
+  no_lf = s.no_lf;
+  part_no_lf = l;
+  at_limit = elim e [
+    | inl many ↦ inl (let size = s.bytes_are in omega (arith, size, many, length-append (ended s.whole) raw))
+    | inr all ↦ inr (let count = s.count_is in sym count ∙ all.0, all.1)
+  ];
+  few = few;
+  gone = behind_lines bytes (ended s.whole) rest raw (b ∷ ahead) left s.gone (next_byte b rest raw ahead left h);
 }
 
 -- a byte past a limit was read

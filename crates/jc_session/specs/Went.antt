@@ -1,5 +1,5 @@
 -- What went out of a session.
-use Rattle.std.specs.Prelude.{◌≡◌, ℕ, ◌≤◌, ◌<◌, List, [], ◌∷◌, ◌++◌, length, take, map, Option, Some, IfSome}
+use Rattle.std.specs.Prelude.{◌≡◌, ◌⊎◌, ℕ, ◌≤◌, ◌<◌, List, [], ◌∷◌, ◌++◌, length, take, map, Option, Some, IfSome}
 use Rattle.std.specs.List.{AllByRecursion}
 use Rattle.std.specs.Io.KnownBytes.{Appends, Consumes}
 use Rattle.jc_rules.specs.Told.{AppendsIfTold}
@@ -90,6 +90,19 @@ pub record WentFront (O : Origin) (A : Session) (bytes : List ℕ) (left old new
   pub answers : Answer O last line after answer
   pub front : ℕ
   pub went : AppendsIfTold old new (text ++ take front answer)
+
+-- Of the bytes a first one past the limits was read, which are 67,108,864 bytes and 1,000,000 lines, and less than 4,096
+-- bytes behind it; the others are left.
+pub record IsPast (bytes : List ℕ) (left : Option (List ℕ)) : Type 0 where
+  pub whole : List (List ℕ)
+  pub part : List ℕ
+  pub byte : ℕ
+  pub ahead : List ℕ
+  pub no_lf : AllByRecursion (Lacks 10) whole
+  pub part_no_lf : Lacks 10 part
+  pub at_limit : (length (ended whole ++ part) ≡ 67108864) ⊎ ((length whole ≡ 1000000) × (part ≡ []))
+  pub few : length ahead < 4096
+  pub gone : Consumes (Some bytes) left ((ended whole ++ part) ++ byte ∷ ahead)
 
 -- ---- whole sessions
 

@@ -75,7 +75,7 @@ impl Lines {
             × Consumes (prepend_known self.old.ahead (S.left source.old))
             (prepend_known self.new.ahead (S.left source.new)) (raw ++ b ∷ [])
             × (self.old.bytes + length raw ≤ 67108864)
-            × ((self.old.bytes + length raw ≡ 67108864) ⊎ (self.old.count ≡ 1000000)) }
+            × ((self.old.bytes + length raw ≡ 67108864) ⊎ ((self.old.count ≡ 1000000) × (raw ≡ []))) }
         ensures err { OnErr result ((raw : List ℕ) × Lacks 10 raw × (self.new.ahead ≡ [])
             × (self.old.bytes + length raw ≤ 67108864)
             × StopsAt (prepend_known self.old.ahead (S.left source.old)) (S.left source.new) raw) }

@@ -13,7 +13,7 @@ ghost use Rattle.jc_session.specs.Kinds.{IsOfAnswer};
 ghost use Rattle.jc_session.specs.Requests.{meaning, asks, quit};
 ghost use Rattle.jc_session.specs.Shown.{finished, too_many, text_refused, Shows};
 ghost use Rattle.jc_session.specs.Views.{bytes_of};
-ghost use Rattle.jc_session.specs.Went.{AppendsSome, LosesFront, GoesOn, BreaksOff, Wrote, WentToRead, WentWhole, WentFront, ShowsAll, WentRefused, OnScenario};
+ghost use Rattle.jc_session.specs.Went.{AppendsSome, LosesFront, GoesOn, BreaksOff, Wrote, WentToRead, WentWhole, WentFront, IsPast, ShowsAll, WentRefused, OnScenario};
 
 use crate::answers::{answer, fault_line};
 use crate::lines::{Lines, Next};
@@ -116,6 +116,8 @@ fn converse<S: Source, K: Sink>(
         Wrote (origin_in debugger.old) (session_of debugger.old) l finished (K.taken out.old) (K.taken out.new))) }
     ensures too_many { IsErrOf result SessionFault.TooManyLines → IfSome (S.left source.old) (λ l.
         Wrote (origin_in debugger.old) (session_of debugger.old) l too_many (K.taken out.old) (K.taken out.new)) }
+    ensures past { IsErrOf result SessionFault.TooManyLines
+        → IfSome (S.left source.old) (λ l. IsPast l (S.left source.new)) }
     // After a failed read, those of all lines whose LF was read.
     ensures read { IsErrOf result SessionFault.ReadFailed → IfSome (S.left source.old) (λ l.
         WentToRead (origin_in debugger.old) (session_of debugger.old) l (S.left source.new)
@@ -177,7 +179,8 @@ fn refuse<K: Sink>(alloc: Global, fault: &ScenarioFault, out: &mut K) -> Result<
 ///
 /// Refusals: `ReadFailed` after the answers of all lines whose LF was read; `TooManyLines` and `Memory` after those of
 /// the lines before, whole; `WriteFailed` after a front of the text that was due. After `Memory` and `WriteFailed` the
-/// line whose answer is missing was read, and less than 4,096 bytes behind it. What was read is lost.
+/// line whose answer is missing was read, and less than 4,096 bytes behind it; after `TooManyLines` a byte past the
+/// limits, and less than 4,096 behind it. What was read is lost.
 pub fn session<S: Source, K: Sink>(
     alloc: Global,
     scenario: &[u8],
@@ -192,6 +195,8 @@ pub fn session<S: Source, K: Sink>(
         × (lines.new ≡ lines.old) }
     ensures too_many { IsErrOf result SessionFault.TooManyLines → IfSome (S.left lines.old) (λ l.
         ShowsAll scenario.now l too_many (K.taken out.old) (K.taken out.new)) }
+    ensures past { IsErrOf result SessionFault.TooManyLines
+        → IfSome (S.left lines.old) (λ l. IsPast l (S.left lines.new)) }
     // After a failed read, the answers of all lines whose LF was read.
     ensures read { IsErrOf result SessionFault.ReadFailed → OnScenario scenario.now (λ O A.
         IfSome (S.left lines.old) (λ l. WentToRead O A l (S.left lines.new) (K.taken out.old) (K.taken out.new))) }

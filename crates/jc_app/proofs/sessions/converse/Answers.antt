@@ -1,8 +1,9 @@
 use Rattle.std.proofs.Common.{Result, Ok, Err, inr, refl, ap}
 use Rattle.jc_session.specs.declared.sessions.SessionEnd.{SessionEnd}
 use Rattle.jc_session.specs.declared.sessions.SessionFault.{SessionFault}
-use Rattle.jc_session.specs.Shown.{finished, text_refused}
-use Rattle.jc_app.proofs.Talked.{at_write}
+use Rattle.jc_session.specs.Shown.{finished, too_many, text_refused}
+use Rattle.jc_session.specs.Went.{ShowsAll, IsPast}
+use Rattle.jc_app.proofs.Talked.{if_both, at_write}
 use Rattle.jc_app.proofs.sessions.converse.Goals as goal
 
 abbrev ended : SessionEnd → Result SessionEnd SessionFault
@@ -29,3 +30,9 @@ returns-in-Err-ReadFailed-clause-stopped g c = inr (c.in-Err-ReadFailed.ensures.
 pub returns-in-Err-WriteFailed-clause-stopped : goal.returns-in-Err-WriteFailed-clause-stopped
 returns-in-Err-WriteFailed-clause-stopped g c =
     at_write g.S.Source.left c.args.text.now c.args.lines.now c.session.new.lines (g.K.Sink.taken c.args.out.now) (g.K.Sink.taken c.session.new.out) (c.in-Err-WriteFailed.ensures.write (ap failed c.in-Err-WriteFailed.field-0-is))
+
+pub returns-in-Err-TooManyLines-clause-stopped : goal.returns-in-Err-TooManyLines-clause-stopped
+returns-in-Err-TooManyLines-clause-stopped g c =
+    let e = ap failed c.in-Err-TooManyLines.field-0-is in
+    if_both (g.S.Source.left c.args.lines.now) (λ l. ShowsAll c.args.text.now l too_many (g.K.Sink.taken c.args.out.now) (g.K.Sink.taken c.session.new.out)) (λ l. IsPast l (g.S.Source.left c.session.new.lines))
+    (c.in-Err-TooManyLines.ensures.too_many e) (c.in-Err-TooManyLines.ensures.past e)

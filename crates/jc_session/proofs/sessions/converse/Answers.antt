@@ -1,8 +1,8 @@
-use Rattle.std.proofs.Common.{◌∙◌, [], ◌∷◌, ◌++◌, Ok, inr, ap, refl, arith}
+use Rattle.std.proofs.Common.{◌∙◌, [], ◌∷◌, ◌++◌, Ok, inl, inr, ap, refl, arith}
 use Rattle.std.specs.Io.KnownBytes.{prepend_known}
 use Rattle.jc_session.specs.Views.{bytes_of}
 use Rattle.jc_session.specs.Gives.{origin_in}
-use Rattle.jc_session.proofs.Talking.{goes_on, breaks_off, goes_named, all_named, is_kept, line_whole, line_last, so_far_more, at_end, at_last, at_quit_line, at_limit, next_whole, next_last, loses_front, went_whole, went_to_read, went_front, passed_on}
+use Rattle.jc_session.proofs.Talking.{goes_on, breaks_off, goes_named, all_named, is_kept, line_whole, line_last, so_far_more, at_end, at_last, at_quit_line, at_limit, past_limit, next_whole, next_last, loses_front, went_whole, went_to_read, went_front, passed_on}
 use Rattle.jc_session.proofs.sessions.converse.Goals as goal
 
 pub lines-preserved : goal.lines-preserved
@@ -111,7 +111,12 @@ pub returns-in-Ok-TooMany-clause-too_many : goal.returns-in-Ok-TooMany-clause-to
 returns-in-Ok-TooMany-clause-too_many g c = λ _.
     let inv = c.lines.invariant in
     let w = c.in-Ok-TooMany.ensures.too_many (ap Ok c.in-Ok-TooMany.field-0-is) in
-    at_limit (origin_in c.args.debugger.now) _ _ _ _ _ _ _ c.lines.lines.bytes c.lines.lines.count w.0 w.1 inv.bytes inv.count inv.so_far w.2 w.3 w.5
+    at_limit (origin_in c.args.debugger.now) _ _ _ _ _ _ _ c.lines.lines.bytes c.lines.lines.count w.0 w.1 inv.bytes inv.count inv.so_far w.2 w.3 (elim w.5 [ inl bytes ↦ inl bytes | inr lines ↦ inr lines.0 ])
+
+pub returns-in-Ok-TooMany-clause-past : goal.returns-in-Ok-TooMany-clause-past
+returns-in-Ok-TooMany-clause-past g c = λ _.
+    let w = c.in-Ok-TooMany.ensures.too_many (ap Ok c.in-Ok-TooMany.field-0-is) in
+    past_limit (origin_in c.args.debugger.now) _ _ _ _ (g.S.Source.left c.next.new.source) _ _ _ _ w.0 c.next.new.self.ahead w.1 c.lines.invariant.so_far w.2 c.in-Ok-TooMany.ensures.few w.3 w.5
 
 pub answer_line-requires : goal.answer_line-requires
 answer_line-requires g c = all_named (origin_in c.args.debugger.now) (origin_in c.lines.debugger) c.lines.debugger.schedule c.lines.invariant.origin c.lines.invariant.named

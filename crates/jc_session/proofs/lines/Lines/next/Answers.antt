@@ -1,4 +1,4 @@
-use Rattle.std.proofs.Common.{[], ◌∷◌, Ok, inl, inr, ap, arith}
+use Rattle.std.proofs.Common.{[], ◌∷◌, Ok, inl, inr, refl, ap, arith}
 use Rattle.std.proofs.KnownBytes.{Consumes-trans}
 use Rattle.jc_session.proofs.Readings.{reads_more, some_read, none_after, stops_err, to_lf, to_end}
 use Rattle.jc_session.proofs.lines.Lines.next.Goals as goal
@@ -10,7 +10,7 @@ returns-in_err-byte-clause-err g c =
 
 pub returns-in-Some-clause-too_many : goal.returns-in-Some-clause-too_many
 returns-in-Some-clause-too_many g c =
-    λ _. ([], c.in-Some.field-0, tt, c.in_ok-next.ensures.some c.in-Some.field-0 (ap Ok c.in-Some.is), omega (arith, c.requires.bytes), inr c.if-self-eq-MOST_LINES.true)
+    λ _. ([], c.in-Some.field-0, tt, c.in_ok-next.ensures.some c.in-Some.field-0 (ap Ok c.in-Some.is), omega (arith, c.requires.bytes), inr (c.if-self-eq-MOST_LINES.true, refl))
 
 pub returns-then-some-clause-last : goal.returns-then-some-clause-last
 returns-then-some-clause-last g c =
