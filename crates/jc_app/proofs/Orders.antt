@@ -36,6 +36,10 @@ some_text (W.Help text) n some end other = some
 some_text (W.Usage text) n some end other = some
 some_text W.Memory n some end other = absurd (other end)
 
+-- want of memory has its status
+pub of_memory : (fault : WordsFault) (n : ℕ) → fault ≡ W.Memory → IsEndOf fault n → n ≡ 5
+of_memory fault n is end = subst (λ (f : WordsFault). IsEndOf f n) is end
+
 -- ---- statuses
 
 -- the status of a task that is done: all went well, the text was refused, or an event was stuck

@@ -5,7 +5,7 @@ ghost use Rattle.std.specs.Io.KnownBytes.{Appends};
 ghost use Rattle.jc_rules.specs.Told.{LosesUpTo};
 ghost use Rattle.jc_words.specs.declared.order.Order.{Order};
 ghost use Rattle.jc_words.specs.declared.order.Task.TheVariants.{Threads as ThreadsTask};
-ghost use Rattle.jc_words.specs.Words.{words_order, AsksHelp};
+ghost use Rattle.jc_words.specs.Words.{words_order, AsksHelp, IsFaultless};
 ghost use Rattle.jc_app.specs.Due.{Sends, told_by};
 ghost use Rattle.jc_app.specs.Faults.{fault_status, fault_line, IsCause, IsUnread};
 ghost use Rattle.jc_app.specs.Orders.{IsAlone, IsDone, IsStopped, IsThreadsOrder};
@@ -71,9 +71,10 @@ pub fn work<R: Threads + Wait + Sync + AllocGlobal + Files, I: Source, K: Sink, 
     out: &mut K,
     err: &mut E,
 ) -> u8
-    // An order is never a fault of the words. Of one that is not for threads: if nothing failed and memory was
-    // there, what it shows was written, and its status is the answer.
+    // An order is never a fault of the words, nor are words in which the command line finds none. Of an order that is
+    // not for threads: if nothing failed and memory was there, what it shows was written, and its status is the answer.
     ensures order { (order : Order) → words_order (map string_bytes words.now) ≡ Some order → result ≢ 2 }
+    ensures taken { IsFaultless (map string_bytes words.now) → result ≢ 2 }
     ensures done { (order : Order)
         → words_order (map string_bytes words.now) ≡ Some order
         → IsAlone order.task

@@ -7,7 +7,7 @@ ghost use Rattle.jc_parser.specs.declared.fault.ScenarioFault.TheVariants.{Memor
 ghost use Rattle.jc_scenario.specs.Scenarios.{IsWellFormed};
 ghost use Rattle.jc_scenario.specs.Views.{scenario_view};
 ghost use Rattle.jc_words.specs.declared.order.Order.{Order};
-ghost use Rattle.jc_words.specs.Words.{words_order, AsksHelp};
+ghost use Rattle.jc_words.specs.Words.{words_order, AsksHelp, IsFaultless};
 ghost use Rattle.jc_app.specs.Ran.{Ran, RanThrough, Shows, IsRefused};
 ghost use Rattle.jc_app.specs.Due.{AppendsUpTo, AppendsFrontOf, IsRunDue, IsDueOf, IsDueAt, IsDue, HasRun, Sends, told_by};
 ghost use Rattle.jc_app.specs.Faults.{fault_status, fault_line, words_text, IsCause, IsEndOf, IsUnread};
@@ -321,9 +321,10 @@ pub fn work_alone<R: AllocGlobal + Files, I: Source, K: Sink, E: Sink>(
         → (result ≡ None) ⊎ (result ≡ Some 5) }
     ensures untouched { result ≡ None → (input.new ≡ input.old) × (out.new ≡ out.old) × (err.new ≡ err.old) }
 
-    // An order is never a fault of the words. If nothing failed and memory was there, what the order
-    // shows was written, and its status is the answer.
+    // An order is never a fault of the words, nor are words in which the command line finds none. If nothing failed
+    // and memory was there, what the order shows was written, and its status is the answer.
     ensures order { (order : Order) → words_order (map string_bytes words.now) ≡ Some order → result ≢ Some 2 }
+    ensures taken { IsFaultless (map string_bytes words.now) → result ≢ Some 2 }
     ensures done { (order : Order)
         → words_order (map string_bytes words.now) ≡ Some order
         → IsAlone order.task

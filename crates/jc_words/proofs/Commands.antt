@@ -9,6 +9,7 @@ use Rattle.clap.specs.declared.error.kind.ErrorKind.TheVariants.{DisplayHelp, Ou
 use Rattle.clap.specs.declared.parser.matches.ArgMatches.{ArgMatches}
 use Rattle.clap.specs.declared.parser.matches.ArgMatches.TheViews.{out-ArgMatches, out-SubCommand}
 use Rattle.clap.specs.declared.parser.matches.SubCommand.{SubCommand}
+use Rattle.jc_words.specs.Laws.{FaultlessAreOrders}
 use Rattle.jc_words.specs.Program.{program}
 use Rattle.jc_words.specs.Words.{order_by, order_in, with_file, words_order, AsksHelp, IsWordsFault, IsFaultBy}
 use Rattle.jc_words.proofs.Helping.{help_alone}
@@ -67,6 +68,11 @@ pub ordered : (words : List Text) (s : Option (Text × List Row)) (o : Option Or
 unfolding words_order
 ordered [] s o some none is e = absurd (some refl)
 ordered (w ∷ ws) s o some none is e = ap (λ kinds. order_by kinds (subcommand_of program (w ∷ ws))) none ∙ ap (option_and_then order_in) (sym is) ∙ sym e
+
+-- by the law, words without a fault are not without an order
+pub unordered : FaultlessAreOrders → (words : List Text) → words ≢ [] → fault_of program words ≡ [] → words_order words ≡ None → ⊥
+unordered law [] some none e = some refl
+unordered law (w ∷ ws) some none e = let bad = sym (law w ws none).1 ∙ e in cc
 
 -- without a file there is no order
 pub no_file : (t : Option Task) → with_file t None ≡ None

@@ -2,3 +2,6 @@ mod Commands
 mod Limits
 mod Literals
 mod Helping
+mod Readable
+mod Faultless
+mod Ordered

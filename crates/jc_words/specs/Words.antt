@@ -57,6 +57,10 @@ words_order (w ∷ ws) = order_by (fault_of program (w ∷ ws)) (subcommand_of p
 abbrev pub AsksHelp : List Text → Type 0
 AsksHelp words = fault_of program words ≡ DisplayHelp ∷ []
 
+-- the command line finds no fault in the words
+abbrev pub IsFaultless : List Text → Type 0
+IsFaultless words = fault_of program words ≡ []
+
 -- a limit that the task has is from 0 to 100,000
 abbrev pub HasLimitInRange : Task → Type 0
 HasLimitInRange (Threads limit) = limit ≤ 100000

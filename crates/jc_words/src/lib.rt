@@ -4,6 +4,7 @@
 mod definition;
 mod fault;
 mod help;
+pub mod laws;
 mod order;
 mod reading;
 

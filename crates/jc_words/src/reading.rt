@@ -5,11 +5,12 @@ ghost use Rattle.std.specs.Option.{option_and_then};
 ghost use Rattle.std.specs.Str.{bytes_eq};
 ghost use Rattle.clap.specs.Words.{FailsBy, fault_of, first_of, found_of, rows_of, subcommand_of, subcommand_rows_of};
 ghost use Rattle.jc_words.specs.Program.{program};
-ghost use Rattle.jc_words.specs.Words.{is_traced, limit_in, limit_of, task_in, order_in, words_order, AsksHelp, HasLimitInRange, HasText, IsWordsFault};
+ghost use Rattle.jc_words.specs.declared.fault.WordsFault.TheVariants.{Memory as NoMemory};
+ghost use Rattle.jc_words.specs.Words.{is_traced, limit_in, limit_of, task_in, order_in, words_order, AsksHelp, HasLimitInRange, HasText, IsFaultless, IsWordsFault};
 
 use crate::definition::definition;
 use crate::fault::{WordsFault, fault_by};
-use crate::help::BRIEF;
+use crate::laws::faultless_words_are_orders;
 use crate::order::{Order, Task, View};
 use clap::{ArgMatches, Error};
 use jc_rules::Text;
@@ -106,6 +107,8 @@ pub fn order_of(alloc: Global, words: &[String]) -> Result<Order, WordsFault>
     ensures ok { IfOk result (λ order. words_order (map string_bytes words.now) ≡ Some order) }
     // What is refused is no order; it is help where that is asked for, and else a fault.
     ensures err { IfErr result (IsWordsFault (map string_bytes words.now)) }
+    // Words without a fault are refused for want of memory alone.
+    ensures taken { IsFaultless (map string_bytes words.now) → IfErr result (λ fault. fault ≡ NoMemory) }
     ensures help { AsksHelp (map string_bytes words.now) → IsErr result }
     ensures text { IfErr result HasText }
     // A limit is from 0 to 100,000.
@@ -122,8 +125,9 @@ pub fn order_of(alloc: Global, words: &[String]) -> Result<Order, WordsFault>
         Ok(matches) => matches,
         Err(error) => return Err(fault_by(alloc, &error)),
     };
+    faultless_words_are_orders();
     match order_matched(alloc, &matches)? {
         Some(order) => Ok(order),
-        None => Err(WordsFault::Usage(String::from_str(alloc, BRIEF)?)),
+        None => unreachable!(),
     }
 }

@@ -5,7 +5,7 @@ use Rattle.jc_app.specs.Due.{Sends, told_by}
 use Rattle.jc_app.specs.Talked.{lines_by}
 use Rattle.jc_app.specs.declared.work.WorkFault.TheVariants.{Memory}
 use Rattle.jc_app.specs.Faults.{fault_status, words_text}
-use Rattle.jc_app.proofs.Orders.{unordered, some_text, no_fault}
+use Rattle.jc_app.proofs.Orders.{unordered, some_text, of_memory, no_fault}
 use Rattle.jc_app.proofs.Threaded.{memory_only}
 use Rattle.jc_app.proofs.work.work_alone.Goals as goal
 
@@ -26,6 +26,13 @@ pub returns-in-Err-clause-usage : goal.returns-in-Err-clause-usage
 returns-in-Err-clause-usage g c = λ two.
     let is : c.explain.result ≡ 2 = same_Some c.explain.result 2 two in
     (words_text c.in-Err.fault, some_text c.in-Err.fault c.explain.result c.in-Err.ensures.text c.explain.ensures.status (λ five. (let bad : ◌≡◌ {A = ℕ} 2 5 = sym is ∙ five in cc)), c.explain.ensures.usage is)
+
+-- words without a fault are refused for want of memory alone
+pub returns-in-Err-clause-taken : goal.returns-in-Err-clause-taken
+returns-in-Err-clause-taken g c = λ none two.
+    let five = of_memory c.in-Err.fault c.explain.result (c.in-Err.ensures.taken none) c.explain.ensures.status in
+    let bad : ◌≡◌ {A = ℕ} 5 2 = sym five ∙ same_Some c.explain.result 2 two in
+    cc
 
 -- an order asks for no help
 pub returns-in-Ok-carry_out-clause-help : goal.returns-in-Ok-carry_out-clause-help

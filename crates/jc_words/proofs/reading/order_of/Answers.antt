@@ -1,7 +1,7 @@
 use Rattle.std.proofs.Common.{◌≡◌, ◌≢◌, ◌∙◌, [], sym, None, length, map, string_bytes, true-eqb, false-eqb}
 use Rattle.clap.specs.Words.{fault_of, subcommand_rows_of}
 use Rattle.jc_words.specs.Program.{program}
-use Rattle.jc_words.proofs.Commands.{none_said, some_said, unasked, unsaid, faulty, ordered}
+use Rattle.jc_words.proofs.Commands.{none_said, some_said, unasked, unsaid, faulty, ordered, unordered}
 use Rattle.jc_words.proofs.Limits.{order_in_range}
 use Rattle.jc_words.proofs.reading.order_of.Goals as goal
 
@@ -16,19 +16,18 @@ returns-in-Err-clause-err c =
     let some : length c.args.words.now ≢ 0 = false-eqb _ 0 c.if-is_empty.ensures in
     faulty _ (map string_bytes c.args.words.now) c.fault_by.result (some_said string_bytes c.args.words.now some) c.in-Err.ensures.kinds c.fault_by.ensures.kind
 
-pub returns-in-Some-clause-ok : goal.returns-in-Some-clause-ok
-returns-in-Some-clause-ok c =
+pub returns-clause-ok : goal.returns-clause-ok
+returns-clause-ok c =
     let some : length c.args.words.now ≢ 0 = false-eqb _ 0 c.if-is_empty.ensures in
     ordered (map string_bytes c.args.words.now) _ _ (some_said string_bytes c.args.words.now some) c.in-Ok.ensures.kinds c.in-Ok.ensures.ok (sym c.in-Some.is ∙ c.in_ok-order.ensures)
 
--- what it takes without being an order
-pub returns-clause-err : goal.returns-clause-err
-returns-clause-err c =
-    let some : length c.args.words.now ≢ 0 = false-eqb _ 0 c.if-is_empty.ensures in
-    let none : fault_of program (map string_bytes c.args.words.now) ≡ [] = c.in-Ok.ensures.kinds in (
-      ordered (map string_bytes c.args.words.now) _ None (some_said string_bytes c.args.words.now some) none c.in-Ok.ensures.ok (sym c.in-None.is ∙ c.in_ok-order.ensures),
-      λ asks. (let bad = sym none ∙ asks in cc),
-    )
+-- what it takes is an order
+pub unreachable-requires : goal.unreachable-requires
+unreachable-requires c =
+    let words = map string_bytes c.args.words.now in
+    let some = some_said string_bytes c.args.words.now (false-eqb _ 0 c.if-is_empty.ensures) in
+    let none : fault_of program words ≡ [] = c.in-Ok.ensures.kinds in
+    unordered c.faultless_words_are_orders.ensures words some none (ordered words _ None some none c.in-Ok.ensures.ok (sym c.in-None.is ∙ c.in_ok-order.ensures))
 
 -- an order asks for no help
 pub returns-then-is_empty-clause-help : goal.returns-then-is_empty-clause-help
@@ -36,10 +35,10 @@ returns-then-is_empty-clause-help c = λ asks.
     let none : length c.args.words.now ≡ 0 = true-eqb _ 0 c.if-is_empty.ensures in
     absurd (unasked (map string_bytes c.args.words.now) (none_said string_bytes c.args.words.now none) asks)
 
-pub returns-in-Some-clause-help : goal.returns-in-Some-clause-help
-returns-in-Some-clause-help c = λ asks.
+pub returns-clause-help : goal.returns-clause-help
+returns-clause-help c = λ asks.
     let none : fault_of program (map string_bytes c.args.words.now) ≡ [] = c.in-Ok.ensures.kinds in
     let bad = sym none ∙ asks in cc
 
-pub returns-in-Some-clause-limit : goal.returns-in-Some-clause-limit
-returns-in-Some-clause-limit c = order_in_range (subcommand_rows_of c.in-Ok.matches) c.in-Some.order (sym (sym c.in-Some.is ∙ c.in_ok-order.ensures))
+pub returns-clause-limit : goal.returns-clause-limit
+returns-clause-limit c = order_in_range (subcommand_rows_of c.in-Ok.matches) c.in-Some.order (sym (sym c.in-Some.is ∙ c.in_ok-order.ensures))
