@@ -7,7 +7,7 @@ use Rattle.jc_words.specs.declared.order.Task.TheVariants.{Show, Debug, Threads}
 use Rattle.jc_words.specs.declared.fault.WordsFault.{WordsFault}
 use Rattle.jc_words.specs.declared.fault.WordsFault.TheVariants as W
 use Rattle.jc_words.specs.Words.{HasText, IsWordsFault, words_order}
-use Rattle.jc_app.specs.Faults.{IsEndOf, words_text}
+use Rattle.jc_faults.specs.Faults.{IsEndOf, words_text}
 use Rattle.jc_words.specs.declared.order.View.{View}
 use Rattle.jc_words.specs.declared.order.View.TheVariants.{Check, Print, Run}
 use Rattle.jc_session.specs.Shown.{End, finished, too_many, text_refused}
@@ -15,7 +15,7 @@ use Rattle.jc_app.specs.Orders.{IsDone, IsStopped}
 use Rattle.jc_app.specs.Ran.{Ran}
 use Rattle.jc_app.specs.Runs.{Stuck, status_of}
 use Rattle.jc_app.specs.Talked.{session_status}
-use Rattle.jc_app.specs.declared.work.WorkFault.TheVariants.{Memory}
+use Rattle.jc_faults.specs.declared.fault.WorkFault.TheVariants.{Memory}
 use Rattle.jc_app.proofs.Begun.{begun_nothing}
 use Rattle.jc_app.proofs.Talked.{without_memory}
 

@@ -8,8 +8,8 @@ use Rattle.jc_session.specs.Shown.{End, finished, too_many, text_refused, Shows,
 use Rattle.jc_session.specs.Went.{WentToRead, WentWhole, WentFront, ShowsAll, IsPast, WentRefused, OnScenario}
 use Rattle.jc_debug.specs.Session.{Session}
 use Rattle.jc_app.specs.Talked.{lines_by, ShowsTo, TalksOn, StopsOn, HasTalked, HasStopped}
-use Rattle.jc_app.specs.declared.work.WorkFault.{WorkFault}
-use Rattle.jc_app.specs.declared.work.WorkFault.TheVariants.{Read, Write, TooManyLines, NoThread, Memory}
+use Rattle.jc_faults.specs.declared.fault.WorkFault.{WorkFault}
+use Rattle.jc_faults.specs.declared.fault.WorkFault.TheVariants.{Read, Write, TooManyLines, NoThread, Memory}
 use Rattle.jc_app.proofs.Reading.{reads_whole}
 
 -- ---- what is told of the lines

@@ -8,13 +8,15 @@ use Rattle.jc_scenario.specs.Scenarios.{Scenario, IsScenario}
 use Rattle.jc_threads.specs.Recordings.{IsRecording}
 use Rattle.jc_threads.specs.declared.recording.Recording.{Recording}
 use Rattle.jc_app.specs.Ran.{ReadsAs, IsRefused}
-use Rattle.jc_app.specs.Due.{AppendsUpTo, AppendsFrontOf, IsDueAt, Sends}
+use Rattle.jc_faults.specs.Sent.{Sends}
+use Rattle.jc_app.specs.Due.{AppendsUpTo, AppendsFrontOf, IsDueAt}
 use Rattle.jc_words.specs.declared.order.Task.{Task}
 use Rattle.jc_words.specs.declared.order.Task.TheVariants.{Threads}
-use Rattle.jc_app.specs.Faults.{fault_status, fault_line, IsCause}
+use Rattle.jc_faults.specs.Faults.{fault_status, fault_line}
+use Rattle.jc_app.specs.Faults.{IsCause}
 use Rattle.jc_app.specs.Orders.{IsStopped}
-use Rattle.jc_app.specs.declared.work.WorkFault.{WorkFault}
-use Rattle.jc_app.specs.declared.work.WorkFault.TheVariants.{Read, Write, TooManyLines, NoThread, Memory}
+use Rattle.jc_faults.specs.declared.fault.WorkFault.{WorkFault}
+use Rattle.jc_faults.specs.declared.fault.WorkFault.TheVariants.{Read, Write, TooManyLines, NoThread, Memory}
 use Rattle.jc_app.specs.Threaded.{outcome_status, RanThreads, ThreadsRan, AreTextsOf, IsTextOf, HaveThreaded, HaveBegun}
 use Rattle.jc_app.proofs.Begun.{none_yet, none_more}
 use Rattle.jc_app.proofs.Reading.{reads_whole, has_number}

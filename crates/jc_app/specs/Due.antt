@@ -1,12 +1,12 @@
 -- What a view writes, whole or up to a failure.
-use Rattle.std.specs.Prelude.{◌≡◌, ℕ, ◌+◌, ◌⊎◌, List, [], ◌++◌, Bool, take, Option, Result, Ok, Err, IfSome, codes, if◌then◌else◌}
+use Rattle.std.specs.Prelude.{◌≡◌, ℕ, ◌⊎◌, List, [], ◌++◌, Bool, take, Option, Result, Ok, Err, IfSome, codes, if◌then◌else◌}
 use Rattle.std.specs.Str.{bytes_eq}
 use Rattle.std.specs.Io.KnownBytes.{Appends}
 use Rattle.jc_rules.specs.declared.operation.Event.{Event}
 use Rattle.jc_rules.specs.declared.rule.Rule.{Rule}
 use Rattle.jc_rules.specs.State.{State}
 use Rattle.jc_rules.specs.Step.{Step}
-use Rattle.jc_rules.specs.Told.{AppendsIfTold, AppendsFront}
+use Rattle.jc_rules.specs.Told.{AppendsIfTold}
 use Rattle.jc_parser.specs.declared.fault.ScenarioFault.{ScenarioFault}
 use Rattle.jc_app.specs.Texts.{event_text}
 use Rattle.jc_app.specs.Runs.{Made, GoesBy, events_of, events_text}
@@ -15,13 +15,6 @@ use Rattle.jc_network.specs.Laws.{starts}
 use Rattle.jc_words.specs.declared.order.View.{View}
 use Rattle.jc_words.specs.declared.order.View.TheVariants.{Check, Print, Run}
 use Rattle.jc_app.specs.Ran.{ReadsAs, RanThrough, Shows, IsRefused, Ran}
-
--- A text was sent to a sink, by what is told of the bytes that it took and by its failures: the whole of it was appended
--- and nothing failed; or one failure was counted, and a front of it was appended, and not the whole.
-abbrev pub Sends : {S : Type 0} → (S → Option (List ℕ)) → (S → ℕ) → S → S → List ℕ → Type 0
-Sends taken failures old new text =
-    ((failures new ≡ failures old) × Appends (taken old) (taken new) text)
-    ⊎ ((failures new ≡ failures old + 1) × AppendsFront (taken old) (taken new) text)
 
 -- a front of bs was appended, and perhaps the whole of it
 abbrev pub AppendsUpTo : Option (List ℕ) → Option (List ℕ) → List ℕ → Type 0

@@ -5,8 +5,8 @@ use Rattle.jc_words.specs.declared.order.Order.{Order}
 use Rattle.jc_words.specs.declared.order.Task.{Task}
 use Rattle.jc_words.specs.declared.order.Task.TheVariants.{Show, Debug, Threads}
 use Rattle.jc_words.specs.declared.order.View.{View}
-use Rattle.jc_app.specs.declared.work.WorkFault.{WorkFault}
-use Rattle.jc_app.specs.declared.work.WorkFault.TheVariants.{Read, Write, TooManyLines, NoThread, Memory}
+use Rattle.jc_faults.specs.declared.fault.WorkFault.{WorkFault}
+use Rattle.jc_faults.specs.declared.fault.WorkFault.TheVariants.{Read, Write, TooManyLines, NoThread, Memory}
 use Rattle.jc_app.specs.Due.{HasRun, HasBegun}
 use Rattle.jc_app.specs.Talked.{HasTalked, HasStopped}
 

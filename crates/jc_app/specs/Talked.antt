@@ -4,8 +4,8 @@ use Rattle.std.specs.Str.{bytes_eq}
 use Rattle.jc_session.specs.Shown.{End, finished, too_many, text_refused}
 use Rattle.jc_session.specs.Went.{WentToRead, WentWhole, WentFront, WentRefused, IsPast, ShowsAll, OnScenario}
 use Rattle.jc_app.specs.Due.{AreTold}
-use Rattle.jc_app.specs.declared.work.WorkFault.{WorkFault}
-use Rattle.jc_app.specs.declared.work.WorkFault.TheVariants.{Read, Write, TooManyLines, NoThread, Memory}
+use Rattle.jc_faults.specs.declared.fault.WorkFault.{WorkFault}
+use Rattle.jc_faults.specs.declared.fault.WorkFault.TheVariants.{Read, Write, TooManyLines, NoThread, Memory}
 
 -- What is told of the lines of a session: none are left at `-`, where the input has the scenario.
 abbrev pub lines_by : Option (List ℕ) → List ℕ → Option (List ℕ)

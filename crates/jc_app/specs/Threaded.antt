@@ -9,9 +9,10 @@ use Rattle.jc_threads.specs.declared.recording.Outcome.TheVariants.{NoMemory, St
 use Rattle.jc_threads.specs.declared.recording.Recording.{Recording}
 use Rattle.jc_app.specs.Ran.{ReadsAs, IsRefused}
 use Rattle.jc_app.specs.Due.{AppendsFrontOf, AreTold}
-use Rattle.jc_app.specs.Faults.{fault_status, fault_line, IsCause}
-use Rattle.jc_app.specs.declared.work.WorkFault.{WorkFault}
-use Rattle.jc_app.specs.declared.work.WorkFault.TheVariants.{Write, TooManyLines}
+use Rattle.jc_faults.specs.Faults.{fault_status, fault_line}
+use Rattle.jc_app.specs.Faults.{IsCause}
+use Rattle.jc_faults.specs.declared.fault.WorkFault.{WorkFault}
+use Rattle.jc_faults.specs.declared.fault.WorkFault.TheVariants.{Write, TooManyLines}
 
 abbrev pub outcome_status : Outcome → ℕ
 outcome_status NoMemory = 5

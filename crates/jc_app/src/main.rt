@@ -12,7 +12,8 @@ mod words;
 mod work;
 
 use crate::program::work;
-use crate::words::{refuse_words, words_of};
+use crate::words::words_of;
+use jc_faults::refuse_words;
 use jc_rules::io::{FromRead, ToWrite};
 use std::process::ExitCode;
 

@@ -5,7 +5,7 @@ ghost use Rattle.std.specs.Io.KnownBytes.{Appends};
 ghost use Rattle.jc_printer.specs.Canon.{AreNamed};
 ghost use Rattle.jc_dump.specs.Texts.{dumps_text};
 ghost use Rattle.jc_app.specs.Played.{PlaysNext, PlaysAll};
-ghost use Rattle.jc_app.specs.Due.{AppendsUpTo, AppendsFrontOf, IsNext, Begins, Sends};
+ghost use Rattle.jc_app.specs.Due.{AppendsUpTo, AppendsFrontOf, IsNext, Begins};
 ghost use Rattle.jc_app.specs.declared.run.RunFault.TheVariants.{Memory as NoMemory};
 
 use jc_dump::{block_text, dump_replica};
@@ -42,13 +42,6 @@ pub fn send<K: Sink>(out: &mut K, text: &str) -> Result<(), RunFault>
         Ok(()) => Ok(()),
         Err(Failed) => Err(RunFault::Write),
     }
-}
-
-/// Writes a text on standard error, whose failures change nothing.
-pub fn report<E: Sink>(err: &mut E, text: &str)
-    ensures { Sends E.taken E.failures err.old err.new text.now }
-{
-    let _ = write_all(err, text.as_bytes());
 }
 
 /// Makes the event, and with the trace writes its block under this number. Answers why, where it is

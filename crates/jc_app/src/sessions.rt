@@ -8,7 +8,8 @@ ghost use Rattle.jc_app.specs.Faults.{IsCause, IsUnread};
 ghost use Rattle.jc_app.specs.Talked.{lines_by, TalksOn, StopsOn, HasTalked, HasStopped};
 
 use crate::files::Files;
-use crate::work::{WorkFault, text_of};
+use crate::work::text_of;
+use jc_faults::WorkFault;
 use jc_rules::io::{Failed, ReadFault, Sink, Source};
 use jc_session::{SessionEnd, SessionFault, session};
 use std::alloc::Global;

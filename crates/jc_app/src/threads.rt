@@ -5,13 +5,15 @@ ghost use Rattle.std.specs.Io.KnownBytes.{Appends};
 ghost use Rattle.jc_rules.specs.Told.{LosesUpTo};
 ghost use Rattle.jc_scenario.specs.Scenarios.{IsWellFormed};
 ghost use Rattle.jc_scenario.specs.Views.{scenario_view};
-ghost use Rattle.jc_app.specs.Due.{AppendsUpTo, AppendsFrontOf, Sends, told_by};
+ghost use Rattle.jc_app.specs.Due.{AppendsUpTo, AppendsFrontOf, told_by};
+ghost use Rattle.jc_faults.specs.Sent.{Sends};
 ghost use Rattle.jc_app.specs.Faults.{IsCause, IsUnread};
 ghost use Rattle.jc_app.specs.Threaded.{outcome_status, RanThreads, ThreadsRan, AreTextsOf, IsTextOf, HaveThreaded, HaveBegun};
 
 use crate::files::Files;
-use crate::run::{RunFault, report, send};
-use crate::work::{WorkFault, refuse, text_of};
+use crate::run::{RunFault, send};
+use crate::work::{refuse, text_of};
+use jc_faults::{WorkFault, report};
 use jc_rules::io::{ReadFault, Sink, Source};
 use jc_scenario::{Scenario, read};
 use jc_threads::{Outcome, RecordFault, Recording, record};

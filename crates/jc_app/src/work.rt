@@ -9,21 +9,24 @@ ghost use Rattle.jc_scenario.specs.Views.{scenario_view};
 ghost use Rattle.jc_words.specs.declared.order.Order.{Order};
 ghost use Rattle.jc_words.specs.Words.{words_order, AsksHelp, IsFaultless};
 ghost use Rattle.jc_app.specs.Ran.{Ran, RanThrough, Shows, IsRefused};
-ghost use Rattle.jc_app.specs.Due.{AppendsUpTo, AppendsFrontOf, IsRunDue, IsDueOf, IsDueAt, IsDue, HasRun, Sends, told_by};
-ghost use Rattle.jc_app.specs.Faults.{fault_status, fault_line, words_text, IsCause, IsEndOf, IsUnread};
+ghost use Rattle.jc_app.specs.Due.{AppendsFrontOf, IsRunDue, IsDueOf, IsDueAt, IsDue, HasRun, told_by};
+ghost use Rattle.jc_faults.specs.Faults.{fault_status, fault_line};
+ghost use Rattle.jc_faults.specs.Sent.{Sends};
+ghost use Rattle.jc_app.specs.Faults.{IsCause, IsUnread};
 ghost use Rattle.jc_app.specs.Orders.{IsAlone, IsDone, IsStopped, IsThreadsOrder, StopsView};
 ghost use Rattle.jc_app.specs.Talked.{lines_by};
 
 use crate::files::Files;
-use crate::run::{RunFault, play, report, send, send_dumps};
+use crate::run::{RunFault, play, send, send_dumps};
 use crate::sessions::debug;
 use crate::texts::counts_of;
 use jc_dump::{refused_text, stuck_text};
+use jc_faults::{WorkFault, end, explain};
 use jc_network::Net;
 use jc_rules::Refusal;
 use jc_rules::io::{ReadFault, Sink, Source, read_up_to};
 use jc_scenario::{Scenario, ScenarioFault, print, read};
-use jc_words::{Order, Task, View, WordsFault, order_of};
+use jc_words::{Order, Task, View, order_of};
 use std::alloc::Global;
 
 /// One byte more than a scenario's text may have.
@@ -128,56 +131,6 @@ fn show_text<K: Sink>(alloc: Global, view: View, text: &[u8], out: &mut K) -> Re
     }
 }
 
-/// Why there is no status of a run.
-#[derive(Clone, Copy, Debug, PartialEq, Eq)]
-pub enum WorkFault {
-    /// A read failed.
-    Read,
-    /// A write failed.
-    Write,
-    /// A session had more lines than it may have.
-    TooManyLines,
-    /// A thread could not be made.
-    NoThread,
-    /// There was no memory.
-    Memory,
-}
-
-impl WorkFault {
-    fn line(self) -> &'static str
-        ensures { result.now ≡ fault_line self }
-    {
-        match self {
-            WorkFault::Read => "read failed\n",
-            WorkFault::Write => "write failed\n",
-            WorkFault::TooManyLines => "too many lines\n",
-            WorkFault::NoThread => "no thread\n",
-            WorkFault::Memory => "no memory\n",
-        }
-    }
-
-    fn status(self) -> u8
-        ensures { result ≡ fault_status self }
-    {
-        match self {
-            WorkFault::Read => 4,
-            WorkFault::Write => 4,
-            WorkFault::TooManyLines => 4,
-            WorkFault::NoThread => 5,
-            WorkFault::Memory => 5,
-        }
-    }
-}
-
-/// Writes the line of a fault, and answers its status. A failure of `err` changes nothing.
-pub fn end<E: Sink>(fault: WorkFault, err: &mut E) -> u8
-    ensures status { result ≡ fault_status fault }
-    ensures line { Sends E.taken E.failures err.old err.new (fault_line fault) }
-{
-    report(err, fault.line());
-    fault.status()
-}
-
 /// The text that an order names, up to its end or one byte past the longest that a scenario has.
 pub fn text_of<R: AllocGlobal + Files, I: Source>(
     rt: &R,
@@ -261,32 +214,6 @@ fn carry_out<R: AllocGlobal + Files, I: Source, K: Sink>(
         Task::Show(view) => show_file(rt, view, order.file.as_str(), input, out),
         Task::Debug => debug(rt, order.file.as_str(), input, out),
         Task::Threads { .. } => unreachable!(),
-    }
-}
-
-/// Answers words that are no order: help on the output, and what is wrong with the words on `err`.
-pub fn explain<K: Sink, E: Sink>(fault: &WordsFault, out: &mut K, err: &mut E) -> u8
-    ensures status { IsEndOf fault.now result }
-    ensures help { result ≡ 0 → Appends (K.taken out.old) (K.taken out.new) (words_text fault.now) }
-    ensures begun { result ≡ 4 → AppendsUpTo (K.taken out.old) (K.taken out.new) (words_text fault.now) }
-    ensures silent { (result ≡ 2) ⊎ (result ≡ 5) → out.new ≡ out.old }
-    ensures same { result ≢ 4 → K.failures out.new ≡ K.failures out.old }
-    ensures failed { result ≡ 4 → K.failures out.old < K.failures out.new }
-    ensures usage { result ≡ 2 → Sends E.taken E.failures err.old err.new (words_text fault.now) }
-    ensures write_line { result ≡ 4 → Sends E.taken E.failures err.old err.new (codes "write failed\n") }
-    ensures memory_line { result ≡ 5 → Sends E.taken E.failures err.old err.new (codes "no memory\n") }
-    ensures quiet { result ≡ 0 → err.new ≡ err.old }
-{
-    match fault {
-        WordsFault::Help(text) => match send(out, text.as_str()) {
-            Ok(()) => 0,
-            Err(_) => end(WorkFault::Write, err),
-        },
-        WordsFault::Usage(text) => {
-            report(err, text.as_str());
-            2
-        }
-        WordsFault::Memory => end(WorkFault::Memory, err),
     }
 }
 

@@ -1,8 +1,9 @@
 //! The words that the program is called with.
 
 use super::{counts, holds};
-use crate::words::{refuse_words, words_of};
+use crate::words::words_of;
 use jc_fakes::Taken;
+use jc_faults::refuse_words;
 use std::alloc::Global;
 use std::env::FillError;
 use std::io::ErrorKind;

@@ -1,9 +1,11 @@
 use Rattle.std.proofs.Common.{◌≡◌, ◌⊎◌, ◌∙◌, Some, inl, inr, refl, sym, ap}
 use Rattle.std.proofs.lemmas.Option.{same_Some}
-use Rattle.jc_app.specs.Due.{Sends, told_by}
-use Rattle.jc_app.specs.Faults.{fault_status, IsUnread}
+use Rattle.jc_faults.specs.Sent.{Sends}
+use Rattle.jc_app.specs.Due.{told_by}
+use Rattle.jc_faults.specs.Faults.{fault_status}
+use Rattle.jc_app.specs.Faults.{IsUnread}
 use Rattle.jc_app.specs.Talked.{lines_by}
-use Rattle.jc_app.specs.declared.work.WorkFault.TheVariants.{TooManyLines, Memory}
+use Rattle.jc_faults.specs.declared.fault.WorkFault.TheVariants.{TooManyLines, Memory}
 use Rattle.jc_app.specs.Threaded.{HaveThreaded, IsThreadsFault}
 use Rattle.jc_app.proofs.Orders.{answered, in_place}
 use Rattle.jc_app.proofs.Threaded.{unwritten, lacking}

@@ -1,11 +1,13 @@
 use Rattle.std.proofs.Common.{◌≡◌, ◌∙◌, ℕ, List, Option, Err, inr, map, string_bytes, refl, sym, ap, subst}
 use Rattle.std.proofs.lemmas.Option.{same_Some}
 use Rattle.jc_words.specs.declared.order.Order.{Order}
-use Rattle.jc_app.specs.Due.{Sends, told_by}
-use Rattle.jc_app.specs.Faults.{fault_line, IsCause, IsUnread}
+use Rattle.jc_faults.specs.Sent.{Sends}
+use Rattle.jc_app.specs.Due.{told_by}
+use Rattle.jc_faults.specs.Faults.{fault_line}
+use Rattle.jc_app.specs.Faults.{IsCause, IsUnread}
 use Rattle.jc_app.specs.Talked.{lines_by}
 use Rattle.jc_app.specs.Threaded.{HaveBegun}
-use Rattle.jc_app.specs.declared.work.WorkFault.TheVariants.{TooManyLines, Memory}
+use Rattle.jc_faults.specs.declared.fault.WorkFault.TheVariants.{TooManyLines, Memory}
 use Rattle.jc_app.proofs.Orders.{unordered, same_limit}
 use Rattle.jc_app.proofs.Threaded.{unwritten, lacking}
 use Rattle.jc_app.proofs.program.work_threads.Goals as goal

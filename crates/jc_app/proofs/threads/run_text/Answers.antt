@@ -1,5 +1,5 @@
 use Rattle.jc_scenario.specs.Views.{scenario_view}
-use Rattle.jc_app.specs.Due.{Sends}
+use Rattle.jc_faults.specs.Sent.{Sends}
 use Rattle.jc_app.specs.Threaded.{RanThreads, ThreadsRan}
 use Rattle.jc_app.proofs.Begun.{on_err}
 use Rattle.jc_app.proofs.Reading.{if_ok}

@@ -1,5 +1,6 @@
 use Rattle.std.proofs.Common.{ℕ, List, refl, subst}
-use Rattle.jc_app.specs.Due.{AppendsFrontOf, Sends, told_by}
+use Rattle.jc_faults.specs.Sent.{Sends}
+use Rattle.jc_app.specs.Due.{AppendsFrontOf, told_by}
 use Rattle.jc_app.specs.Faults.{IsUnread}
 use Rattle.jc_app.specs.Threaded.{ThreadsRan, AreTextsOf, IsTextOf}
 use Rattle.jc_app.proofs.Begun.{on_err}

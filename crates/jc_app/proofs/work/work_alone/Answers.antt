@@ -1,10 +1,11 @@
 use Rattle.std.proofs.Common.{◌≡◌, ℕ, Some, Err, map, string_bytes, refl, ap, sym, ◌∙◌}
 use Rattle.std.proofs.lemmas.Option.{same_Some}
 use Rattle.jc_words.specs.declared.order.Order.{Order}
-use Rattle.jc_app.specs.Due.{Sends, told_by}
+use Rattle.jc_faults.specs.Sent.{Sends}
+use Rattle.jc_app.specs.Due.{told_by}
 use Rattle.jc_app.specs.Talked.{lines_by}
-use Rattle.jc_app.specs.declared.work.WorkFault.TheVariants.{Memory}
-use Rattle.jc_app.specs.Faults.{fault_status, words_text}
+use Rattle.jc_faults.specs.declared.fault.WorkFault.TheVariants.{Memory}
+use Rattle.jc_faults.specs.Faults.{fault_status, words_text}
 use Rattle.jc_app.proofs.Orders.{unordered, some_text, of_memory, no_fault}
 use Rattle.jc_app.proofs.Threaded.{memory_only}
 use Rattle.jc_app.proofs.work.work_alone.Goals as goal
