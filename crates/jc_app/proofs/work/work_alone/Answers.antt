@@ -39,6 +39,10 @@ returns-in-Err-clause-taken g c = λ none two.
 pub returns-in-Ok-carry_out-clause-help : goal.returns-in-Ok-carry_out-clause-help
 returns-in-Ok-carry_out-clause-help g c = λ asks. (let bad = c.in-Ok.ensures.help asks in cc)
 
+-- what is done leaves standard error alone
+pub returns-in-Ok-carry_out-clause-quiet : goal.returns-in-Ok-carry_out-clause-quiet
+returns-in-Ok-carry_out-clause-quiet g c = λ _ _ _. refl
+
 -- what is done has the status of no fault
 pub returns-in-Ok-carry_out-clause-stopped : goal.returns-in-Ok-carry_out-clause-stopped
 returns-in-Ok-carry_out-clause-stopped g c = λ order some ends.
