@@ -5,7 +5,7 @@ ghost use Rattle.jc_rules.specs.Step.{replica_of};
 ghost use Rattle.jc_lock.specs.Shows.{pass_number};
 ghost use Rattle.jc_runner.specs.Benches.{IsPassAt, IsPassFor, IsNewAt};
 
-use crate::scenes::{DELETION, holds, scene};
+use crate::nets::{DELETION, holds, scene};
 use jc_rules::Event;
 use jc_runner::{Bench, BenchFault, CloseRefused, MOST_LIMIT, Pass, Recorded, StepAnswer};
 use std::alloc::Global;

@@ -1,14 +1,9 @@
 //! What a replica chooses, worked by hand.
 
-use crate::scenes::{DELETION, after, holds};
-use jc_rules::{Event, Id};
+use crate::nets::{DELETION, FIRST, after, holds};
+use jc_rules::Event;
 use jc_runner::{Phase, choose};
 use std::test::Fail;
-
-const FIRST: Id = Id {
-    counter: 1,
-    replica: 0,
-};
 
 /// The first events of the two replicas: the first one assigns the map and hands it on.
 const MEETING: &[Event] = &[

@@ -1,6 +1,6 @@
-//! What sessions are made of, and what is expected of them.
+//! What sessions are made of, and how they end.
 
-use jc_fakes::{Bytes, Taken};
+use crate::nets::holds;
 use jc_rules::io::{Sink, Source};
 use jc_session::{SessionEnd, SessionFault, session};
 use std::process::Abort;
@@ -13,10 +13,6 @@ pub const RECEIVED: &str = "jsoncrdt 1
     replica a { doc.get(\"a\") := 1; doc.get(\"a\") := 2; yield }
     replica b { yield }
     schedule { a.exec; a.exec; a.send; b.recv(a) }";
-
-pub fn is(rt: &impl Abort, got: &[u8], want: &str) {
-    assert_eq!(rt; got, want.as_bytes());
-}
 
 /// Expects a session to end so: 0 is finished, a fault of a text its number, and a fault of a session its number.
 pub fn ends<R: AllocGlobal + Abort, S: Source, K: Sink>(
@@ -34,12 +30,5 @@ pub fn ends<R: AllocGlobal + Abort, S: Source, K: Sink>(
         Err(SessionFault::TooManyLines) => 57,
         Err(SessionFault::Memory) => 255,
     };
-    assert_eq!(rt; end, want);
-}
-
-/// Expects a session of the lines to write this and to finish.
-pub fn shows<R: AllocGlobal + Abort>(rt: &R, scenario: &str, lines: &str, want: &str) {
-    let mut out = Taken::new(rt.alloc());
-    ends(rt, scenario, &mut Bytes::new(lines.as_bytes()), &mut out, 0);
-    is(rt, out.as_slice(), want);
+    holds(rt, end == want);
 }

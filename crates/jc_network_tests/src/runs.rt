@@ -6,7 +6,8 @@ ghost use Rattle.jc_scenario.specs.Views.{scenario_view};
 ghost use Rattle.jc_runner.specs.Laws.{with_schedule};
 
 use crate::gates::{Open, Signal, open_gates};
-use crate::scenes::{DELETION, INSERTS, ONE_STUCK, PAST_THE_END, holds, run, same_dumps, scene};
+use crate::nets::{DELETION, INSERTS, PAST_THE_END, dumps, has_dumps, holds, run, scene};
+use jc_network::Net;
 use jc_rules::Event;
 use jc_runner::{End, Gate, Report, RunFault, run_threads};
 use jc_scenario::{Scenario, print};
@@ -66,6 +67,25 @@ fn made_and_ended(rt: &impl Abort, report: &Report, want: &[(Option<u64>, Ends)]
     holds(rt, all == report.schedule.len() as u64);
 }
 
+/// The text of a scenario with the replicas of one and another schedule.
+fn text_of(alloc: Global, start: Scenario, schedule: Vec<Event>) -> Result<String, AllocError>
+    requires { IsWellFormed (with_schedule (scenario_view start) schedule.items) }
+{
+    let recorded = Scenario {
+        names: start.names,
+        scripts: start.scripts,
+        schedule,
+    };
+    print(alloc, &recorded)
+}
+
+/// The scenario with this text leads to a network with the dump lines of this one.
+fn leads_to(rt: &impl Abort, alloc: Global, text: &str, net: &Net) -> Result<(), Fail> {
+    let want = dumps(rt, alloc, net)?;
+    let again = run(rt, alloc, text)?;
+    Ok(has_dumps(rt, alloc, &again, want.as_str())?)
+}
+
 /// The text of the recorded scenario leads again to the report's network.
 fn runs_again(rt: &impl Abort, alloc: Global, report: Report) -> Result<(), Fail>
     requires { IsWellFormed (with_schedule (scenario_view report.start) report.schedule.items) }
@@ -77,15 +97,8 @@ fn runs_again(rt: &impl Abort, alloc: Global, report: Report) -> Result<(), Fail
         ends: _,
         start,
     } = report;
-    let recorded = Scenario {
-        names: start.names,
-        scripts: start.scripts,
-        schedule,
-    };
-    let text = print(alloc, &recorded)?;
-    let again = run(rt, alloc, text.as_str())?;
-    same_dumps(rt, alloc, &again, &net);
-    Ok(())
+    let text = text_of(alloc, start, schedule)?;
+    leads_to(rt, alloc, text.as_str(), &net)
 }
 
 const ANY: (Option<u64>, Ends) = (None, Ends::Finished);
@@ -198,6 +211,10 @@ fn limits_are_kept(rt: HostRuntime) -> Result<(), Fail> {
     holds(&rt, made == FIRST_OF_BOTH || made == FIRST_OF_BOTH_TURNED);
     runs_again(&rt, alloc, one)
 }
+
+/// The first replica is stuck at once, the second one isn't.
+const ONE_STUCK: &str =
+    "jsoncrdt 1 replica a { let s = doc.keys } replica b { doc.get(\"a\") := 1 }";
 
 const ALONE: &[Event] = &[Event::Exec(1)];
 

@@ -2,11 +2,13 @@
 
 ghost use Rattle.std.specs.Prelude.{◌<◌};
 
+use crate::nets::{
+    DELETION, EXECS, INSERTS, LISTS, MEETING, PAST_THE_END, after, deep, holds, scene,
+};
 use jc_json::Tree;
 use jc_meaning::{have_distinct_ids, meaning, same_tree};
 use jc_network::Net;
-use jc_rules::{Op, Text};
-use jc_scenario::read;
+use jc_rules::{Event, Op, Text};
 use std::alloc::{AllocError, Global};
 use std::process::Abort;
 use std::test::Fail;
@@ -39,14 +41,9 @@ pub fn is_meant(rt: &impl Abort, alloc: Global, net: &Net, p: u16) -> Result<(),
     Ok(())
 }
 
-/// After the events of the scenario the replica's operations mean this tree.
-fn expect(rt: &impl Abort, alloc: Global, scenario: &str, p: u16, want: &str) -> Result<(), Fail> {
-    let scenario = read(alloc, scenario.as_bytes())?;
-    let mut net = Net::start(alloc, &scenario)?;
-    for event in &scenario.schedule {
-        assert!(rt; net.step(event).is_ok());
-    }
-    is_meant(rt, alloc, &net, p)?;
+/// The replica's operations mean this tree, which is its own but for empty presence sets.
+fn means(rt: &impl Abort, alloc: Global, net: &Net, p: u16, want: &str) -> Result<(), AllocError> {
+    is_meant(rt, alloc, net, p)?;
     let Ok(ops) = net.applied(p) else {
         panic!(rt; "no replica");
     };
@@ -57,26 +54,9 @@ fn expect(rt: &impl Abort, alloc: Global, scenario: &str, p: u16, want: &str) ->
 
 const NOTHING: &str = "jsoncrdt 1 replica a { doc := 1 }";
 
-const MAP_THEN_VALUE: &str =
-    "jsoncrdt 1 replica a { doc.get(\"k\") := {}; doc.get(\"k\") := 1 } schedule { a.exec; a.exec }";
+const MAP_THEN_VALUE: &str = "jsoncrdt 1 replica a { doc.get(\"k\") := {}; doc.get(\"k\") := 1 }";
 
-const VALUE_THEN_MAP: &str =
-    "jsoncrdt 1 replica a { doc.get(\"k\") := 1; doc.get(\"k\") := {} } schedule { a.exec; a.exec }";
-
-/// One replica deletes a map in which the other one assigns a key.
-const DELETION: &str =
-    "jsoncrdt 1 replica a { doc.get(\"m\") := {}; yield; doc.get(\"m\").delete; yield } replica b { yield; doc.get(\"m\").get(\"k\") := 1; yield } schedule { a.exec; a.send; a.done; b.recv(a); b.apply(1, a); b.done; a.exec; b.exec; a.send; b.send; a.recv(b); b.recv(a); a.apply(2, b); b.apply(2, a) }";
-
-/// Both insert at the head of a list.
-const INSERTS: &str =
-    "jsoncrdt 1 replica a { doc.get(\"l\") := []; yield; doc.get(\"l\").idx(0).insertAfter(\"x\"); yield } replica b { yield; doc.get(\"l\").idx(0).insertAfter(\"y\"); yield } schedule { a.exec; a.send; a.done; b.recv(a); b.apply(1, a); b.done; a.exec; b.exec; a.send; b.send; a.recv(b); b.recv(a); a.apply(2, b); b.apply(2, a) }";
-
-const ELEMENT_DELETED: &str =
-    "jsoncrdt 1 replica a { doc := []; doc.idx(0).insertAfter(\"x\"); doc.idx(1).insertAfter(\"y\"); doc.idx(1).delete } schedule { a.exec; a.exec; a.exec; a.exec }";
-
-/// One deletes a number where the other one puts a list.
-const LISTS: &str =
-    "jsoncrdt 1 replica a { doc.get(\"l\") := 1; yield; doc.get(\"l\").delete; yield } replica b { yield; doc.get(\"l\") := []; yield } schedule { a.exec; a.send; a.done; b.recv(a); b.apply(1, a); b.done; a.exec; b.exec; a.send; b.send; a.recv(b); b.recv(a); a.apply(2, b); b.apply(2, a) }";
+const VALUE_THEN_MAP: &str = "jsoncrdt 1 replica a { doc.get(\"k\") := 1; doc.get(\"k\") := {} }";
 
 const UNDELETED: &str =
     "{\"mapT(doc)\":{\"mapT(\\\"m\\\")\":{\"pres(\\\"k\\\")\":[\"2@b\"],\"regT(\\\"k\\\")\":{\"2@b\":{\"n\":\"1\"}}},\"pres(\\\"m\\\")\":[\"2@b\"]},\"pres(doc)\":[\"1@a\",\"2@b\"]}";
@@ -87,61 +67,69 @@ const MET: &str =
 const NEW_LIST: &str =
     "{\"mapT(doc)\":{\"listT(\\\"l\\\")\":{\"next(head)\":\"tail\"},\"pres(\\\"l\\\")\":[\"2@b\"],\"regT(\\\"l\\\")\":{}},\"pres(doc)\":[\"1@a\",\"2@b\"]}";
 
-/// A scenario, a replica, and the tree that its operations mean then.
-const ROWS: [(&str, u16, &str); 10] = [
-    (NOTHING, 0, "{}"),
+const TWO: &[Event] = &[Event::Exec(0); 2];
+
+const FOUR: &[Event] = &[Event::Exec(0); 4];
+
+/// A scenario, events, a replica, and the tree that its operations mean then.
+const ROWS: [(&str, &[Event], u16, &str); 10] = [
+    (NOTHING, &[], 0, "{}"),
     (
         MAP_THEN_VALUE,
+        TWO,
         0,
         "{\"mapT(doc)\":{\"mapT(\\\"k\\\")\":{},\"pres(\\\"k\\\")\":[\"1@a\",\"2@a\"],\"regT(\\\"k\\\")\":{\"2@a\":{\"n\":\"1\"}}},\"pres(doc)\":[\"1@a\",\"2@a\"]}",
     ),
     (
         VALUE_THEN_MAP,
+        TWO,
         0,
         "{\"mapT(doc)\":{\"mapT(\\\"k\\\")\":{},\"pres(\\\"k\\\")\":[\"2@a\"],\"regT(\\\"k\\\")\":{}},\"pres(doc)\":[\"1@a\",\"2@a\"]}",
     ),
-    (DELETION, 0, UNDELETED),
-    (DELETION, 1, UNDELETED),
-    (INSERTS, 0, MET),
-    (INSERTS, 1, MET),
+    (DELETION, MEETING, 0, UNDELETED),
+    (DELETION, MEETING, 1, UNDELETED),
+    (INSERTS, MEETING, 0, MET),
+    (INSERTS, MEETING, 1, MET),
     (
-        ELEMENT_DELETED,
+        PAST_THE_END,
+        FOUR,
         0,
         "{\"listT(doc)\":{\"next(2@a)\":\"3@a\",\"next(3@a)\":\"tail\",\"next(head)\":\"2@a\",\"pres(3@a)\":[\"3@a\"],\"regT(2@a)\":{},\"regT(3@a)\":{\"3@a\":\"y\"}},\"pres(doc)\":[\"1@a\",\"2@a\",\"3@a\"]}",
     ),
-    (LISTS, 0, NEW_LIST),
-    (LISTS, 1, NEW_LIST),
+    (LISTS, MEETING, 0, NEW_LIST),
+    (LISTS, MEETING, 1, NEW_LIST),
 ];
 
 #[test]
 fn worked_runs(rt: HostRuntime) -> Result<(), Fail> {
-    for (scenario, p, want) in &ROWS {
-        expect(&rt, rt.alloc(), scenario, *p, want)?;
+    let alloc = rt.alloc();
+    for (scenario, events, p, want) in &ROWS {
+        let net = after(&rt, alloc, scenario, events)?;
+        means(&rt, alloc, &net, *p, want)?;
     }
     Ok(())
 }
 
-/// A value that is 512 keys deep, and then a new map for the document.
+/// A map 512 keys deep with a value that was cleared, in a new map for the document.
+fn deep_tree(alloc: Global) -> Result<String, AllocError> {
+    let mut tree = String::from_str(alloc, "{\"mapT(doc)\":{")?;
+    for _ in 1..512u16 {
+        tree.push_str("\"mapT(\\\"a\\\")\":{")?;
+    }
+    tree.push_str("\"regT(\\\"a\\\")\":{}}")?;
+    for _ in 1..512u16 {
+        tree.push_str("}")?;
+    }
+    tree.push_str(",\"pres(doc)\":[\"2@a\"]}")?;
+    Ok(tree)
+}
+
 #[test]
 fn deep_value(rt: HostRuntime) -> Result<(), Fail> {
     let alloc = rt.alloc();
-    let mut scenario = String::from_str(alloc, "jsoncrdt 1 replica a { let x = doc")?;
-    let mut want = String::from_str(alloc, "{\"mapT(doc)\":{")?;
-    let mut events = String::from_str(alloc, "a.exec; a.exec; a.exec; a.exec")?;
-    let mut closing = String::from_str(alloc, "\"regT(\\\"a\\\")\":{}}")?;
-    scenario.push_str("; let x = x.get(\"a\")")?;
-    for _ in 1..512u16 {
-        scenario.push_str("; let x = x.get(\"a\")")?;
-        events.push_str("; a.exec")?;
-        want.push_str("\"mapT(\\\"a\\\")\":{")?;
-        closing.push_str("}")?;
-    }
-    scenario.push_str("; x := 1; doc := {} } schedule { ")?;
-    scenario.push_str(events.as_str())?;
-    scenario.push_str(" }")?;
-    want.push_str(closing.as_str())?;
-    want.push_str(",\"pres(doc)\":[\"2@a\"]}")?;
-    expect(&rt, alloc, scenario.as_str(), 0, want.as_str())
+    let (text, tree) = (deep(alloc)?, deep_tree(alloc)?);
+    let net = after(&rt, alloc, text.as_str(), EXECS)?;
+    Ok(means(&rt, alloc, &net, 0, tree.as_str())?)
 }
 
 /// The next number below the count.
@@ -186,7 +174,7 @@ fn random_net(alloc: Global, seed: &mut u64) -> Result<Net, Fail> {
         text.push_str(name)?;
         push_script(&mut text, seed)?;
     }
-    let scenario = read(alloc, text.as_bytes())?;
+    let scenario = scene(alloc, text.as_str())?;
     Ok(Net::start(alloc, &scenario)?)
 }
 
@@ -198,7 +186,7 @@ fn make_some(rt: &impl Abort, net: &mut Net, count: u32, seed: &mut u64) -> Resu
             return Ok(());
         }
         let event = events[pick(seed, events.len())];
-        assert!(rt; net.step(&event).is_ok());
+        holds(rt, net.step(&event).is_ok());
     }
     Ok(())
 }

@@ -1,18 +1,14 @@
 //! More than a hundred operations on one list by four replicas, which apply them in different orders.
 
 use crate::meanings::{is_meant, pick};
+use crate::nets::{holds, scene};
 use jc_meaning::{Comparison, compare};
 use jc_network::Net;
 use jc_rules::{Event, Id, Key, Mutation, Next, Op, Tagged};
-use jc_scenario::read;
 use jc_tree::{TreeStore, is_place};
 use std::alloc::{AllocError, Global};
 use std::process::Abort;
 use std::test::Fail;
-
-fn is_true(rt: &impl Abort, told: bool) {
-    assert!(rt; told);
-}
 
 // ---- scripts: the document is the list
 
@@ -57,14 +53,14 @@ fn start(alloc: Global, seed: &mut u64) -> Result<Net, Fail> {
         push_later(alloc, &mut text, seed)?;
         text.push_str("; yield }")?;
     }
-    let scenario = read(alloc, text.as_bytes())?;
+    let scenario = scene(alloc, text.as_str())?;
     Ok(Net::start(alloc, &scenario)?)
 }
 
 // ---- the run
 
 fn make(rt: &impl Abort, net: &mut Net, event: Event) {
-    is_true(rt, net.step(&event).is_ok());
+    holds(rt, net.step(&event).is_ok());
 }
 
 /// The replica runs its commands up to the next yield.
@@ -256,14 +252,14 @@ fn has_all(rt: &impl Abort, alloc: Global, net: &Net, p: u16) -> Result<(), Allo
     let (Ok(ops), Some(replica)) = (net.applied(p), net.replica(p)) else {
         panic!(rt; "no replica");
     };
-    is_true(rt, ops.len() == 109);
+    holds(rt, ops.len() == 109);
     let ids = expected(alloc, ops.as_slice())?;
-    is_true(rt, ids == shown(rt, alloc, replica.tree())?);
+    holds(rt, ids == shown(rt, alloc, replica.tree())?);
     Ok(())
 }
 
 fn are_same(rt: &impl Abort, alloc: Global, net: &Net, p: u16, q: u16) {
-    is_true(
+    holds(
         rt,
         compare(alloc, net, p, q) == Ok(Comparison::SameOps { same_tree: true }),
     );
