@@ -4,8 +4,7 @@
 mod words;
 
 use crate::words::words_of;
-use jc_faults::refuse_words;
-use jc_program::work;
+use jc_program::{refuse_words, work};
 use jc_rules::io::{FromRead, ToWrite};
 use std::process::ExitCode;
 

@@ -8,3 +8,5 @@ pub mod OneRun
 pub mod Talked
 pub mod Orders
 mod Threaded
+mod Tellable
+mod Written

@@ -1,3 +1,7 @@
+pub mod Sent
+pub mod WorkFaults
+pub mod Ends
+pub mod Recordings
 pub mod Texts
 pub mod Runs
 pub mod Ran

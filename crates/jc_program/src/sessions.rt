@@ -8,8 +8,8 @@ ghost use Rattle.jc_program.specs.Faults.{IsCause, IsUnread};
 ghost use Rattle.jc_program.specs.Talked.{lines_by, TalksOn, StopsOn, HasTalked, HasStopped};
 
 use crate::alone::text_of;
+use crate::fault::WorkFault;
 use crate::files::Files;
-use jc_faults::WorkFault;
 use jc_rules::io::{Failed, ReadFault, Sink, Source};
 use jc_session::{SessionEnd, SessionFault, session};
 use std::alloc::Global;

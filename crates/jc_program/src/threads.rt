@@ -6,17 +6,18 @@ ghost use Rattle.jc_rules.specs.Told.{LosesUpTo};
 ghost use Rattle.jc_scenario.specs.Scenarios.{IsWellFormed};
 ghost use Rattle.jc_scenario.specs.Views.{scenario_view};
 ghost use Rattle.jc_program.specs.Due.{AppendsUpTo, AppendsFrontOf, told_by};
-ghost use Rattle.jc_faults.specs.Sent.{Sends};
+ghost use Rattle.jc_program.specs.Sent.{Sends};
 ghost use Rattle.jc_program.specs.Faults.{IsCause, IsUnread};
 ghost use Rattle.jc_program.specs.Threaded.{outcome_status, RanThreads, ThreadsRan, AreTextsOf, IsTextOf, HaveThreaded, HaveBegun};
 
 use crate::alone::{refuse, text_of};
+use crate::fault::WorkFault;
 use crate::files::Files;
+use crate::recording::{Outcome, RecordFault, Recording, record};
 use crate::run::{RunFault, send};
-use jc_faults::{WorkFault, report};
+use crate::sending::report;
 use jc_rules::io::{ReadFault, Sink, Source};
 use jc_scenario::{Scenario, read};
-use jc_threads::{Outcome, RecordFault, Recording, record};
 use std::sync::Wait;
 use std::thread::Threads;
 

@@ -6,6 +6,8 @@ mod commands;
 #[cfg(test)]
 mod examples;
 #[cfg(test)]
+mod recordings;
+#[cfg(test)]
 mod refused_words;
 #[cfg(test)]
 mod scenarios;

@@ -2,7 +2,7 @@
 
 use super::holds;
 use jc_fakes::Taken;
-use jc_faults::refuse_words;
+use jc_program::refuse_words;
 use std::alloc::Global;
 use std::io::ErrorKind;
 use std::process::Abort;

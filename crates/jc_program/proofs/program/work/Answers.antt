@@ -1,11 +1,11 @@
 use Rattle.std.proofs.Common.{◌≡◌, ◌⊎◌, ◌∙◌, Some, inl, inr, refl, sym, ap}
 use Rattle.std.proofs.lemmas.Option.{same_Some}
-use Rattle.jc_faults.specs.Sent.{Sends}
+use Rattle.jc_program.specs.Sent.{Sends}
 use Rattle.jc_program.specs.Due.{told_by}
-use Rattle.jc_faults.specs.Faults.{fault_status}
+use Rattle.jc_program.specs.WorkFaults.{fault_status}
 use Rattle.jc_program.specs.Faults.{IsUnread}
 use Rattle.jc_program.specs.Talked.{lines_by}
-use Rattle.jc_faults.specs.declared.fault.WorkFault.TheVariants.{TooManyLines, Memory}
+use Rattle.jc_program.specs.declared.fault.WorkFault.TheVariants.{TooManyLines, Memory}
 use Rattle.jc_program.specs.Threaded.{HaveThreaded, IsThreadsFault}
 use Rattle.jc_program.proofs.Orders.{answered, in_place}
 use Rattle.jc_program.proofs.Threaded.{unwritten, lacking}

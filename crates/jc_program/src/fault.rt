@@ -1,8 +1,8 @@
 //! Faults of the program's work.
 
 ghost use Rattle.std.specs.Prelude.{◌≡◌};
-ghost use Rattle.jc_faults.specs.Faults.{fault_status, fault_line};
-ghost use Rattle.jc_faults.specs.Sent.{Sends};
+ghost use Rattle.jc_program.specs.WorkFaults.{fault_status, fault_line};
+ghost use Rattle.jc_program.specs.Sent.{Sends};
 
 use crate::sending::report;
 use jc_rules::io::Sink;

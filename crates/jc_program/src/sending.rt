@@ -1,6 +1,6 @@
 //! What is told on standard error.
 
-ghost use Rattle.jc_faults.specs.Sent.{Sends};
+ghost use Rattle.jc_program.specs.Sent.{Sends};
 
 use jc_rules::io::{Sink, write_all};
 

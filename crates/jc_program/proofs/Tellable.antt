@@ -9,7 +9,7 @@ use Rattle.jc_runner.specs.declared.run.Report.{Report}
 use Rattle.jc_runner.specs.declared.worker.End.{End}
 use Rattle.jc_runner.specs.declared.worker.End.TheVariants as N
 use Rattle.jc_runner.specs.Reports.{IsReport, HasEnd}
-use Rattle.jc_threads.specs.Ends.{IsTellable, AreTellable}
+use Rattle.jc_program.specs.Ends.{IsTellable, AreTellable}
 
 tellable : (s : Scenario) (p limit : ℕ) (schedule : List Event) (network : List State) (end : End) → HasEnd s p limit schedule network end → IsTellable s.names end
 tellable s p limit schedule network N.Finished h = tt

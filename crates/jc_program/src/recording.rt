@@ -5,9 +5,9 @@ ghost use Rattle.std.specs.List.{list_any};
 ghost use Rattle.jc_scenario.specs.Scenarios.{IsWellFormed};
 ghost use Rattle.jc_scenario.specs.Views.{scenario_view};
 ghost use Rattle.jc_runner.specs.Reports.{IsReport};
-ghost use Rattle.jc_threads.specs.Ends.{is_stuck, lacks_memory, outcome_of};
-ghost use Rattle.jc_threads.specs.Recordings.{IsRecording};
-ghost use Rattle.jc_threads.specs.declared.recording.RecordFault.TheVariants.{Memory as WantOfMemory};
+ghost use Rattle.jc_program.specs.Ends.{is_stuck, lacks_memory, outcome_of};
+ghost use Rattle.jc_program.specs.Recordings.{IsRecording};
+ghost use Rattle.jc_program.specs.declared.recording.RecordFault.TheVariants.{Memory as WantOfMemory};
 
 use crate::lines::end_lines;
 use jc_runner::{End, Gate, Report, RunFault, run_threads};

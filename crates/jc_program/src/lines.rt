@@ -1,7 +1,7 @@
 //! The lines that say how the replicas' threads ended.
 
 ghost use Rattle.std.specs.Prelude.{◌≡◌, ◌++◌, IfOk, OnOk, string_bytes, codes, decimal};
-ghost use Rattle.jc_threads.specs.Ends.{IsEndText, IsTellable, AreTellable, AreEndLines};
+ghost use Rattle.jc_program.specs.Ends.{IsEndText, IsTellable, AreTellable, AreEndLines};
 
 use jc_dump::stuck_text;
 use jc_network::Net;

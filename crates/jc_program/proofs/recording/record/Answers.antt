@@ -1,8 +1,8 @@
 use Rattle.std.proofs.Common.{sym, subst}
 use Rattle.jc_scenario.specs.Scenarios.{Scenario}
 use Rattle.jc_runner.specs.Reports.{IsReport}
-use Rattle.jc_threads.specs.Recordings.{IsRecording}
-use Rattle.jc_threads.proofs.recording.record.Goals as goal
+use Rattle.jc_program.specs.Recordings.{IsRecording}
+use Rattle.jc_program.proofs.recording.record.Goals as goal
 
 pub told-requires : goal.told-requires
 told-requires g c =

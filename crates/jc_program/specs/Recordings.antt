@@ -5,8 +5,8 @@ use Rattle.jc_scenario.specs.Scenarios.{Scenario}
 use Rattle.jc_runner.specs.declared.run.Report.{Report}
 use Rattle.jc_runner.specs.Laws.{with_schedule}
 use Rattle.jc_runner.specs.Reports.{IsReport}
-use Rattle.jc_threads.specs.Ends.{AreEndLines, outcome_of}
-use Rattle.jc_threads.specs.declared.recording.Recording.{Recording}
+use Rattle.jc_program.specs.Ends.{AreEndLines, outcome_of}
+use Rattle.jc_program.specs.declared.recording.Recording.{Recording}
 
 -- There is a report of the run; the text is that of the scenario with its schedule, and the lines say what each replica
 -- made and how its thread ended.

@@ -1,7 +1,7 @@
 use Rattle.std.proofs.Common.{◌≡◌, ◌<◌, ◌++◌, refl, ap, arith, rules, append_assoc, length, codes, decimal, slice_index, slice_get, Some, ℕ, List, subst, string_bytes}
 use Rattle.std.proofs.lemmas.Option.{slice_get_read}
-use Rattle.jc_threads.proofs.Written.{one_more}
-use Rattle.jc_threads.proofs.lines.end_lines.Goals as goal
+use Rattle.jc_program.proofs.Written.{one_more}
+use Rattle.jc_program.proofs.lines.end_lines.Goals as goal
 
 pub loop-p-preserved : goal.loop-p-preserved
 loop-p-preserved c =

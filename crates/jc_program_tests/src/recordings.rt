@@ -1,7 +1,7 @@
 //! Runs that can go in one way alone, and what is told of them.
 
+use jc_program::{Outcome, record};
 use jc_scenario::read;
-use jc_threads::{Outcome, record};
 use std::process::Abort;
 use std::sync::Wait;
 use std::thread::Threads;

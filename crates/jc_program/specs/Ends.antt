@@ -8,8 +8,8 @@ use Rattle.jc_network.specs.Makes.{stuck_for}
 use Rattle.jc_dump.specs.Lines.{stuck_text, IsNamedStuck}
 use Rattle.jc_runner.specs.declared.worker.End.{End}
 use Rattle.jc_runner.specs.declared.worker.End.TheVariants as N
-use Rattle.jc_threads.specs.declared.recording.Outcome.{Outcome}
-use Rattle.jc_threads.specs.declared.recording.Outcome.TheVariants.{NoMemory, Stuck, Done}
+use Rattle.jc_program.specs.declared.recording.Outcome.{Outcome}
+use Rattle.jc_program.specs.declared.recording.Outcome.TheVariants.{NoMemory, Stuck, Done}
 
 -- ---- lines
 

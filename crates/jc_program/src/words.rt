@@ -3,8 +3,8 @@
 ghost use Rattle.std.specs.Prelude.{◌≡◌, ◌≢◌, ◌<◌, ◌⊎◌, codes};
 ghost use Rattle.std.specs.Io.KnownBytes.{Appends};
 ghost use Rattle.jc_rules.specs.Told.{AppendsFront};
-ghost use Rattle.jc_faults.specs.Faults.{words_text, IsEndOf};
-ghost use Rattle.jc_faults.specs.Sent.{Sends};
+ghost use Rattle.jc_program.specs.WorkFaults.{words_text, IsEndOf};
+ghost use Rattle.jc_program.specs.Sent.{Sends};
 
 use crate::fault::{WorkFault, end};
 use crate::sending::report;
