@@ -1,19 +1,10 @@
 //! `jsoncrdt`: checks, prints, runs and debugs scenarios, and runs their replicas in threads.
 #![tactic(auto)]
 
-mod files;
-mod laws;
-mod program;
-mod run;
-mod sessions;
-mod texts;
-mod threads;
 mod words;
-mod work;
 
-use crate::program::work;
 use crate::words::words_of;
-use jc_faults::refuse_words;
+use jc_program::{refuse_words, work};
 use jc_rules::io::{FromRead, ToWrite};
 use std::process::ExitCode;
 

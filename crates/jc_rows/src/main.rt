@@ -6,9 +6,11 @@
 //! input. The line feed before a line `--`, before the next row, or at the end belongs to neither text.
 #![tactic(auto)]
 
-use jc_fakes::Bytes;
-use jc_rules::io::{Failed, FromRead, Sink, ToWrite, read_up_to, write_all};
-use jc_session::{SessionEnd, session};
+ghost use Rattle.std.specs.Prelude.{None, true};
+
+use jc_fakes::{Bytes, Taken};
+use jc_program::{Files, work_alone};
+use jc_rules::io::{Failed, FromRead, ReadFault, Sink, ToWrite, read_up_to, write_all};
 use std::alloc::{AllocError, Global};
 use std::process::ExitCode;
 
@@ -27,7 +29,7 @@ struct Row<'a> {
 /// Why the rows end early.
 #[derive(Drop)]
 enum Fault {
-    /// A line of the rows is missing, or the words of a row are unknown.
+    /// A line of the rows is missing, or a row asks for threads.
     Row,
     /// A write failed, or there was no memory.
     Failed,
@@ -64,17 +66,55 @@ fn row_of(text: &str) -> Option<Row<'_>> {
     })
 }
 
-/// Writes what the program writes when it is called so, and gives its status.
+/// Files of which there is one, with the name `FILE`.
+#[derive(Drop)]
+struct OneFile<'a> {
+    alloc: Global,
+    text: &'a str,
+}
+
+impl Alloc for OneFile<'_> {
+    type A = Global;
+
+    fn alloc(&self) -> Global {
+        self.alloc
+    }
+}
+
+impl Files for OneFile<'_> {
+    ghost texts = { λ _ _. None };
+
+    ghost may_fail = { λ _ _. true };
+
+    fn read_file(&self, alloc: Global, name: &str, most: usize) -> Result<Vec<u8>, ReadFault> {
+        if name != "FILE" {
+            return Err(ReadFault::Failed);
+        }
+        read_up_to(alloc, &mut Bytes::new(self.text.as_bytes()), most)
+    }
+}
+
+/// The words of the line, each a text of its own.
+fn words_of(alloc: Global, line: &str) -> Result<Vec<String>, AllocError> {
+    let mut words = Vec::new(alloc);
+    for word in line.split_whitespace() {
+        words.push(String::from_str(alloc, word)?)?;
+    }
+    Ok(words)
+}
+
+/// Calls the program as the row says. Its standard error, if there is any, comes behind its output.
 fn work<K: Sink>(alloc: Global, row: &Row<'_>, out: &mut K) -> Result<u8, Fault> {
-    if row.words != "debug FILE" {
-        return Err(Fault::Row);
-    }
+    let files = OneFile {
+        alloc,
+        text: row.file,
+    };
+    let words = words_of(alloc, row.words)?;
     let mut input = Bytes::new(row.input.as_bytes());
-    match session(alloc, row.file.as_bytes(), &mut input, out) {
-        Ok(SessionEnd::Finished) => Ok(0),
-        Ok(SessionEnd::TextRefused(_)) => Ok(1),
-        Err(_) => Err(Fault::Failed),
-    }
+    let mut err = Taken::new(alloc);
+    let status = work_alone(&files, words.as_slice(), &mut input, out, &mut err);
+    write_all(out, err.as_slice())?;
+    status.ok_or(Fault::Row)
 }
 
 /// Shows a row: its title, what the program writes, and its status where that isn't 0.

@@ -1,0 +1,12 @@
+pub mod Playing
+pub mod Reading
+pub mod Begun
+pub mod Counting
+pub mod Dumping
+pub mod Ending
+pub mod OneRun
+pub mod Talked
+pub mod Orders
+mod Threaded
+mod Tellable
+mod Written
