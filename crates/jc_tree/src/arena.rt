@@ -266,12 +266,13 @@ impl TreeStore for ArenaTree {
         let number = self.nodes.len();
         self.undos.reserve(1)?;
         self.nodes.reserve(1)?;
-        let former = former_of_node(key)?;
+        let name = key.copy()?;
         let copy = key.copy()?;
         let child = ArenaNode::of_child(self.alloc, key)?;
         self.nodes[place.number].name_child(copy, NodeId::new(number))?;
         self.nodes.push(child).unwrap();
         let node = NodeId::new(place.number);
+        let former = former_of_node(name);
         self.undos.push(Undo { node, former }).unwrap();
         Ok(Place { number })
     }

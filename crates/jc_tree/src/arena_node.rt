@@ -67,13 +67,13 @@ impl Model for ArenaNode {
 }
 
 /// What takes it back that a node is made under a tagged key.
-pub fn former_of_node(key: &Tagged) -> Result<Former, AllocError>
-    requires { HasContext key.now }
-    ensures { IfOk result (λ former. former ≡ former_of_node key.now) }
+pub fn former_of_node(key: Tagged) -> Former
+    requires { HasContext key }
+    ensures { result ≡ former_of_node key }
 {
     match key {
-        Tagged::MapT(key) => Ok(Former::Map(key.copy()?)),
-        Tagged::ListT(key) => Ok(Former::List(key.copy()?)),
+        Tagged::MapT(key) => Former::Map(key),
+        Tagged::ListT(key) => Former::List(key),
         Tagged::RegT(_) => unreachable!(),
     }
 }

@@ -343,7 +343,7 @@ impl Node {
         match first {
             Tagged::MapT(key) => restore_in(&mut self.maps, key, rest, former),
             Tagged::ListT(key) => restore_in(&mut self.lists, key, rest, former),
-            Tagged::RegT(_) => {}
+            Tagged::RegT(_) => drop(former),
         }
     }
 }
@@ -393,8 +393,9 @@ fn restore_in(children: &mut Vec<(Key, Node)>, key: &Key, at: &[Tagged], former:
     ensures absent { find key_cmp key.now children.old.items ≡ None → children.new.items ≡ children.old.items }
     ensures still_sorted { AreSorted children.new.items }
 {
-    if let Ok(i) = place_of(children.as_slice(), key) {
-        children[i].1.restore_at(at, former);
+    match place_of(children.as_slice(), key) {
+        Ok(i) => children[i].1.restore_at(at, former),
+        Err(_) => drop(former),
     }
 }
 

@@ -58,8 +58,8 @@ impl PlainTree {
         ensures same_root { OnErr result (self.new.root ≡ self.old.root) }
         ensures same_undos { OnErr result (self.new.undos.items ≡ self.old.undos.items) }
     {
-        self.undos.reserve(1)?;
         let place = copy_place(self.alloc, at)?;
+        self.undos.reserve(1)?;
         let former = self.root.change_at(at, change, self.alloc)?;
         self.undos.push(Undo { at: place, former }).unwrap();
         Ok(())
