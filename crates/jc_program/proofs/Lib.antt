@@ -4,6 +4,8 @@ pub mod Begun
 pub mod Counting
 pub mod Dumping
 pub mod Ending
+pub mod Viewing
+pub mod Viewed
 pub mod OneRun
 pub mod Talked
 pub mod Orders
