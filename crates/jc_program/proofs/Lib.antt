@@ -7,6 +7,8 @@ pub mod Ending
 pub mod OneRun
 pub mod Talked
 pub mod Orders
-mod Threaded
+pub mod Threaded
+mod PromiseLemmas
+mod PromiseFactsLemmas
 mod Tellable
 mod Written
