@@ -1,11 +1,15 @@
-//! The words that the program is called with.
+//! The words that the program is called with, and the files of the machine.
 
+use crate::files::Host;
 use crate::words::words_of;
+use jc_program::Files;
+use jc_rules::io::ReadFault;
 use std::alloc::Global;
 use std::env::FillError;
 use std::io::ErrorKind;
 use std::process::Abort;
 use std::rt::Env;
+use std::{fs, io};
 
 /// A call of the program with these words, its name first.
 #[derive(Clone, Copy)]
@@ -66,4 +70,30 @@ fn words_are_read(rt: HostRuntime) {
         Ok(_) => panic!(&rt; "a word that is not UTF-8"),
         Err(error) => holds(&rt, error.kind() == ErrorKind::InvalidData),
     }
+}
+
+/// Expects what is read of a file, at most four bytes.
+fn expect_file<F: AllocGlobal + Files>(
+    rt: &impl Abort,
+    files: &F,
+    name: &str,
+    want: Option<&[u8]>,
+) {
+    match (files.read_file(files.alloc(), name, 4), want) {
+        (Ok(got), Some(want)) => holds(rt, got.as_slice() == want),
+        (Err(ReadFault::Failed), None) => {}
+        _ => panic!(rt; "{name}"),
+    }
+}
+
+#[test]
+fn files_are_read(rt: HostRuntime) -> io::Result<()> {
+    let host = Host { rt: &rt };
+    fs::write(&rt, "short", "abc")?;
+    fs::write(&rt, "long", "abcde")?;
+    expect_file(&rt, &host, "short", Some(b"abc"));
+    expect_file(&rt, &host, "long", Some(b"abcd"));
+    expect_file(&rt, &host, "missing", None);
+    fs::remove_file(&rt, "short")?;
+    fs::remove_file(&rt, "long")
 }

@@ -9,6 +9,8 @@ pub mod Viewed
 pub mod OneRun
 pub mod Talked
 pub mod Orders
-mod Threaded
+pub mod Threaded
+mod PromiseLemmas
+mod PromiseFactsLemmas
 mod Tellable
 mod Written

@@ -11,4 +11,6 @@ pub mod Faults
 pub mod Talked
 pub mod Orders
 pub mod Threaded
+pub mod Promise
+pub mod PromiseFacts
 pub mod Laws

@@ -1,6 +1,6 @@
 //! Sessions: lines are answered on a scenario's text.
 
-ghost use Rattle.std.specs.Prelude.{◌≡◌, ◌≢◌, ◌<◌, ◌⊎◌, [], Some, Ok, codes, IfOk, IfErr, OnOk, IsErrOf};
+ghost use Rattle.std.specs.Prelude.{◌≡◌, ◌≢◌, ◌<◌, ◌⊎◌, [], Some, Ok, codes, IfOk, IfErr, OnOk};
 ghost use Rattle.std.specs.Io.{ReadsAtMost};
 ghost use Rattle.jc_rules.specs.Told.{LosesUpTo, Reads};
 ghost use Rattle.jc_program.specs.Due.{told_by};
@@ -44,7 +44,6 @@ fn converse<S: Source, K: Sink>(
         ((S.failures lines.new ≡ S.failures lines.old) × (K.failures out.new ≡ K.failures out.old)) }
     ensures cause { IfErr result (λ fault. IsCause fault ⊥
         (S.failures lines.old) (S.failures lines.new) (K.failures out.old) (K.failures out.new)) }
-    ensures unthreaded { IsErrOf result WorkFault.NoThread → ⊥ }
 {
     match session(alloc, text, lines, out) {
         Ok(SessionEnd::Finished) => Ok(0),
@@ -75,7 +74,6 @@ pub fn debug<R: AllocGlobal + Files, I: Source, K: Sink>(
         ((I.failures input.new ≡ I.failures input.old) × (K.failures out.new ≡ K.failures out.old)) }
     ensures cause { IfErr result (λ fault. IsCause fault (IsUnread (R.may_fail rt.now) file.now)
         (I.failures input.old) (I.failures input.new) (K.failures out.old) (K.failures out.new)) }
-    ensures unthreaded { IsErrOf result WorkFault.NoThread → ⊥ }
 {
     let text = match text_of(rt, file, input) {
         Ok(text) => text,

@@ -1,6 +1,6 @@
 //! Words that are no order, or can't be read.
 
-ghost use Rattle.std.specs.Prelude.{◌≡◌, ◌≢◌, ◌<◌, ◌⊎◌, codes};
+ghost use Rattle.std.specs.Prelude.{◌≡◌, ◌≢◌, ◌+◌, ◌⊎◌, codes};
 ghost use Rattle.std.specs.Io.KnownBytes.{Appends};
 ghost use Rattle.jc_rules.specs.Told.{AppendsFront};
 ghost use Rattle.jc_program.specs.WorkFaults.{words_text, IsEndOf};
@@ -19,7 +19,7 @@ pub fn explain<K: Sink, E: Sink>(fault: &WordsFault, out: &mut K, err: &mut E) -
     ensures begun { result ≡ 4 → AppendsFront (K.taken out.old) (K.taken out.new) (words_text fault.now) }
     ensures silent { (result ≡ 2) ⊎ (result ≡ 5) → out.new ≡ out.old }
     ensures same { result ≢ 4 → K.failures out.new ≡ K.failures out.old }
-    ensures failed { result ≡ 4 → K.failures out.old < K.failures out.new }
+    ensures failed { result ≡ 4 → K.failures out.new ≡ K.failures out.old + 1 }
     ensures usage { result ≡ 2 → Sends E.taken E.failures err.old err.new (words_text fault.now) }
     ensures write_line { result ≡ 4 → Sends E.taken E.failures err.old err.new (codes "write failed\n") }
     ensures memory_line { result ≡ 5 → Sends E.taken E.failures err.old err.new (codes "no memory\n") }

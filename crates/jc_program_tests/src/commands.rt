@@ -9,7 +9,6 @@ use jc_program::{Files, work_alone};
 use jc_rules::io::{ReadFault, Source, read_up_to};
 use std::alloc::{AllocError, Global};
 use std::process::Abort;
-use std::{fs, io};
 
 /// Files in memory: the name and the bytes of each.
 #[derive(Drop)]
@@ -39,6 +38,11 @@ impl Files for Shelf<'_> {
         }
         Err(ReadFault::Failed)
     }
+}
+
+/// No file.
+pub(super) fn no_files<'a>(alloc: Global) -> Shelf<'a> {
+    Shelf { alloc, files: &[] }
 }
 
 /// The words, each a text of its own.
@@ -123,7 +127,7 @@ fn commands(rt: HostRuntime) {
 
 /// Expects words that end with this status before any text is read, and what the error's sink has
 /// then begins so.
-fn expect_unread<R: AllocGlobal + Files + Abort>(rt: &R, words: &[&str], status: u8, line: &[u8]) {
+fn expect_unread<R: AllocGlobal + Abort>(rt: &R, words: &[&str], status: u8, line: &[u8]) {
     let mut input = Bytes::new(ONE.as_bytes());
     let mut out = Taken::new(rt.alloc());
     let mut err = Taken::new(rt.alloc());
@@ -132,7 +136,13 @@ fn expect_unread<R: AllocGlobal + Files + Abort>(rt: &R, words: &[&str], status:
     };
     ends(
         rt,
-        work_alone(rt, &words, &mut input, &mut out, &mut err),
+        work_alone(
+            &no_files(rt.alloc()),
+            &words,
+            &mut input,
+            &mut out,
+            &mut err,
+        ),
         status,
     );
     holds(rt, out.as_slice().is_empty());
@@ -170,15 +180,6 @@ fn no_such_file(rt: HostRuntime) {
     expect_unread(&rt, &["run", "/no/such/file"], 4, b"read failed\n");
     expect_unread(&rt, &["check", "/no/such/file"], 4, b"read failed\n");
     expect_unread(&rt, &["debug", "/no/such/file"], 4, b"read failed\n");
-}
-
-/// A file of the machine, written for this, is read.
-#[test]
-fn file_of_the_machine(rt: HostRuntime) -> io::Result<()> {
-    fs::write(&rt, "scenario", ONE)?;
-    expect_shown(&rt, &rt, &["run", "scenario"], "", &[ONE_DUMP], 0);
-    expect_shown(&rt, &rt, &["check", "scenario"], "", &[COUNTS], 0);
-    fs::remove_file(&rt, "scenario")
 }
 
 /// Words that ask for help, and what it has in it.
@@ -256,7 +257,7 @@ const HELPS: &[(&[&str], &[&str])] = &[
 ];
 
 /// Expects help, with these parts.
-fn expect_help<R: AllocGlobal + Files + Abort>(rt: &R, words: &[&str], parts: &[&str]) {
+fn expect_help<R: AllocGlobal + Abort>(rt: &R, words: &[&str], parts: &[&str]) {
     let mut input = Bytes::new(b"");
     let mut out = Taken::new(rt.alloc());
     let mut err = Taken::new(rt.alloc());
@@ -265,7 +266,13 @@ fn expect_help<R: AllocGlobal + Files + Abort>(rt: &R, words: &[&str], parts: &[
     };
     ends(
         rt,
-        work_alone(rt, &words, &mut input, &mut out, &mut err),
+        work_alone(
+            &no_files(rt.alloc()),
+            &words,
+            &mut input,
+            &mut out,
+            &mut err,
+        ),
         0,
     );
     holds(rt, err.as_slice().is_empty());
@@ -294,7 +301,13 @@ fn help_that_is_not_written(rt: HostRuntime) {
     };
     ends(
         &rt,
-        work_alone(&rt, &words, &mut input, &mut out, &mut err),
+        work_alone(
+            &no_files(rt.alloc()),
+            &words,
+            &mut input,
+            &mut out,
+            &mut err,
+        ),
         4,
     );
     expect_text(&rt, err.as_slice(), &["write failed\n"]);

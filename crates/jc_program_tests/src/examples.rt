@@ -1,6 +1,6 @@
 //! The examples of the folder `examples`, each with the states that its run ends with.
 
-use super::commands::expect_shown;
+use super::commands::{expect_shown, no_files};
 
 /// A scenario, and what `run` prints for it.
 const EXAMPLES: &[(&str, &str)] = &[
@@ -38,8 +38,9 @@ const EXAMPLES: &[(&str, &str)] = &[
 
 #[test]
 fn examples_end(rt: HostRuntime) {
+    let files = no_files(rt.alloc());
     for (scenario, shown) in EXAMPLES {
-        expect_shown(&rt, &rt, &["run", "-"], scenario, &[*shown], 0);
-        expect_shown(&rt, &rt, &["print", "-"], scenario, &[*scenario], 0);
+        expect_shown(&rt, &files, &["run", "-"], scenario, &[*shown], 0);
+        expect_shown(&rt, &files, &["print", "-"], scenario, &[*scenario], 0);
     }
 }

@@ -3,7 +3,6 @@
 use super::holds;
 use super::whole_runs::{ends, work};
 use jc_fakes::{Bytes, Taken};
-use jc_program::Files;
 use std::process::Abort;
 
 /// A scenario, what its run ends with, and its status.
@@ -77,7 +76,7 @@ const RUNS: &[(&str, &str, u8)] = &[
 ];
 
 /// Expects the end of what a run shows, and its status.
-fn expect_end<R: AllocGlobal + Files + Abort>(rt: &R, scenario: &str, end: &str, status: u8) {
+fn expect_end<R: AllocGlobal + Abort>(rt: &R, scenario: &str, end: &str, status: u8) {
     let mut input = Bytes::new(scenario.as_bytes());
     let mut out = Taken::new(rt.alloc());
     let mut err = Taken::new(rt.alloc());

@@ -1,6 +1,6 @@
 //! The command `debug`.
 
-use super::commands::{Shelf, expect_shown, said};
+use super::commands::{Shelf, expect_shown, no_files, said};
 use super::holds;
 use super::whole_runs::{ONE, ONE_DUMP, ends, expect_text};
 use jc_fakes::{Bytes, Endless, FailsAt, OneByte, Taken, TakesUpTo, Then};
@@ -117,10 +117,7 @@ fn sessions(rt: HostRuntime) {
 
 #[test]
 fn scenario_on_the_input(rt: HostRuntime) {
-    let shelf = Shelf {
-        alloc: rt.alloc(),
-        files: &[],
-    };
+    let shelf = no_files(rt.alloc());
     let words = ["debug", "-"];
     expect_shown(&rt, &shelf, &words, ONE, &[], 0);
     expect_shown(&rt, &shelf, &words, "", &["refused 14 NoHeader at 0\n"], 1);

@@ -1,17 +1,48 @@
 //! The command `threads`, and the whole program.
 
+ghost use Rattle.std.specs.Prelude.{None, true};
+
 use super::commands::said;
 use super::holds;
 use super::whole_runs::{ONE, ONE_DUMP};
 use jc_fakes::{Bytes, FailsAt, Taken, TakesUpTo, Then};
 use jc_program::{Files, work};
-use jc_rules::io::{Sink, Source};
+use jc_rules::io::{ReadFault, Sink, Source};
+use std::alloc::Global;
 use std::process::Abort;
 use std::sync::Wait;
 use std::thread::Threads;
 
+/// A runtime without files.
+#[derive(Drop)]
+struct NoFiles<R> {
+    rt: R,
+}
+
+impl<R: Threads> Threads for NoFiles<R> {}
+
+impl<R: Wait> Wait for NoFiles<R> {}
+
+impl<R: Alloc> Alloc for NoFiles<R> {
+    type A = R::A;
+
+    fn alloc(&self) -> R::A {
+        self.rt.alloc()
+    }
+}
+
+impl<R> Files for NoFiles<R> {
+    ghost texts = { λ _ _. None };
+
+    ghost may_fail = { λ _ _. true };
+
+    fn read_file(&self, _alloc: Global, _name: &str, _most: usize) -> Result<Vec<u8>, ReadFault> {
+        Err(ReadFault::Failed)
+    }
+}
+
 /// The program's status on these words.
-fn status<R: Threads + Wait + Sync + AllocGlobal + Files + Abort, I: Source, K: Sink, E: Sink>(
+fn status<R: Threads + Wait + Sync + AllocGlobal + Abort, I: Source, K: Sink, E: Sink>(
     rt: &R,
     words: &[&str],
     input: &mut I,
@@ -21,7 +52,7 @@ fn status<R: Threads + Wait + Sync + AllocGlobal + Files + Abort, I: Source, K: 
     let Ok(words) = said(rt.alloc(), words) else {
         panic!(rt; "no memory for the words")
     };
-    work(rt, &words, input, out, err)
+    work(&NoFiles { rt }, &words, input, out, err)
 }
 
 const RECORDED: &str =
@@ -78,7 +109,7 @@ const RUNS: &[(&[&str], &str, &str, &str, u8)] = &[
 ];
 
 /// Expects what is written, and the status.
-fn expect_run<R: Threads + Wait + Sync + AllocGlobal + Files + Abort>(
+fn expect_run<R: Threads + Wait + Sync + AllocGlobal + Abort>(
     rt: &R,
     words: &[&str],
     text: &str,
@@ -112,7 +143,7 @@ const TWO: &str =
     "jsoncrdt 1 replica a { doc.get(\"a\") := 1; yield } replica b { doc.get(\"b\") := 2; yield }";
 
 /// What two replicas made in threads of their own.
-fn made_of_two<R: Threads + Wait + Sync + AllocGlobal + Files + Abort>(rt: &R) -> Taken {
+fn made_of_two<R: Threads + Wait + Sync + AllocGlobal + Abort>(rt: &R) -> Taken {
     let mut out = Taken::new(rt.alloc());
     let mut err = Taken::new(rt.alloc());
     let got = status(

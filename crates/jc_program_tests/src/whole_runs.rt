@@ -1,9 +1,10 @@
 //! Whole runs, over sources and sinks in memory.
 
+use super::commands::no_files;
 use super::{counts, holds};
 use jc_fakes::{Bytes, Endless, FailsAt, OneByte, Taken, TakesUpTo, Then};
-use jc_program::laws::one_run;
-use jc_program::{Files, work_alone};
+use jc_program::laws::{alone_promise_gives_facts, one_run, promise_gives_facts};
+use jc_program::work_alone;
 use jc_rules::io::{Sink, Source};
 use std::process::Abort;
 use std::test::Fail;
@@ -32,14 +33,14 @@ const TWO_DUMP: &str =
     "{\"acted\":false,\"left\":0,\"name\":\"a\",\"ops\":[\"1@a\",\"2@a\"],\"queue\":[\"1@a\",\"2@a\"],\"recv\":[],\"send\":[],\"tree\":{\"mapT(doc)\":{\"pres(\\\"a\\\")\":[\"1@a\",\"2@a\"],\"regT(\\\"a\\\")\":{\"2@a\":{\"n\":\"2\"}}},\"pres(doc)\":[\"1@a\",\"2@a\"]},\"vars\":{}}\n";
 
 /// Runs the program on these words.
-pub(super) fn work<R: AllocGlobal + Files, I: Source, K: Sink, E: Sink>(
+pub(super) fn work<R: AllocGlobal, I: Source, K: Sink, E: Sink>(
     rt: &R,
     words: &[String],
     input: &mut I,
     out: &mut K,
     err: &mut E,
 ) -> Option<u8> {
-    work_alone(rt, words, input, out, err)
+    work_alone(&no_files(rt.alloc()), words, input, out, err)
 }
 
 pub(super) fn ends(rt: &impl Abort, got: Option<u8>, want: u8) {
@@ -56,7 +57,7 @@ pub(super) fn expect_text(rt: &impl Abort, mut text: &[u8], parts: &[&str]) {
 }
 
 /// Expects the text and the status of a run without words, and nothing on the error's sink.
-fn expect_run<R: AllocGlobal + Files + Abort, I: Source + Drop>(
+fn expect_run<R: AllocGlobal + Abort, I: Source + Drop>(
     rt: &R,
     mut input: I,
     shown: &[&str],
@@ -71,8 +72,10 @@ fn expect_run<R: AllocGlobal + Files + Abort, I: Source + Drop>(
 
 #[test]
 fn runs(rt: HostRuntime) {
-    // Each of these bytes has one text and one status at most.
+    // Each of these bytes has one text and one status at most, and each run all that follows from the promise.
     one_run();
+    promise_gives_facts();
+    alone_promise_gives_facts();
     let one = [FIRST_BLOCK, ONE_DUMP];
     let stuck = [FIRST_BLOCK, ONE_DUMP, STUCK_LINE];
     let two = [FIRST_BLOCK, SECOND_BLOCK, TWO_DUMP];
@@ -129,7 +132,7 @@ fn longest_text(rt: HostRuntime) -> Result<(), Fail> {
 }
 
 /// Expects a run whose read number `at` fails, if it comes so far.
-fn expect_failed_read<R: AllocGlobal + Files + Abort, I: Source + Drop>(rt: &R, input: I, at: u64) {
+fn expect_failed_read<R: AllocGlobal + Abort, I: Source + Drop>(rt: &R, input: I, at: u64) {
     let mut input = FailsAt::new(input, at);
     let mut out = Taken::new(rt.alloc());
     let mut err = Taken::new(rt.alloc());
@@ -150,12 +153,7 @@ fn failed_reads(rt: HostRuntime) {
 }
 
 /// Expects a run whose output has room for so many bytes alone.
-fn expect_failed_write<R: AllocGlobal + Files + Abort>(
-    rt: &R,
-    shown: &[u8],
-    room: usize,
-    then: Then,
-) {
+fn expect_failed_write<R: AllocGlobal + Abort>(rt: &R, shown: &[u8], room: usize, then: Then) {
     let mut input = Bytes::new(STUCK.as_bytes());
     let mut out = TakesUpTo::new(Taken::new(rt.alloc()), room, then);
     let mut err = Taken::new(rt.alloc());
@@ -193,7 +191,7 @@ fn failed_writes(rt: HostRuntime) -> Result<(), Fail> {
 }
 
 /// Expects a run whose write number `at` fails, and that nothing is written after it.
-fn expect_lost_write<R: AllocGlobal + Files + Abort>(rt: &R, at: u64, shown: &[&str]) {
+fn expect_lost_write<R: AllocGlobal + Abort>(rt: &R, at: u64, shown: &[&str]) {
     let mut input = Bytes::new(STUCK.as_bytes());
     let mut out = FailsAt::new(Taken::new(rt.alloc()), at);
     let mut err = Taken::new(rt.alloc());
