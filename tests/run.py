@@ -6,15 +6,20 @@
 """
 
 import glob
+import json
 import os
 import re
 import shutil
 import subprocess
 import sys
 
-from blocks import commands_of
-
 ROOT = os.path.dirname(os.path.dirname(os.path.abspath(__file__)))
+sys.path += [os.path.join(ROOT, "tools"), os.path.join(ROOT, "oracle")]
+
+from blocks import commands_of
+from command_line import COMMANDS
+from grammar import RESERVED
+
 BUILT = os.path.join("crates", "jc_app", "out", "jc_app")
 IN_PYTHON = os.path.join("oracle", "jsoncrdt")
 EXPECTED = os.path.join("tests", "expected")
@@ -158,6 +163,30 @@ def try_shrink(tally, program):
     tally.same("tools/shrink", told.stdout.decode(), stored("tests/expected/out-of-order.shrunk"))
 
 
+def patterns_of(grammar):
+    """All regular expressions of a grammar for editors."""
+    if isinstance(grammar, list):
+        return [pattern for part in grammar for pattern in patterns_of(part)]
+    if not isinstance(grammar, dict):
+        return []
+    own = [grammar[name] for name in ("match", "begin", "end") if isinstance(grammar.get(name), str)]
+    return own + patterns_of(list(grammar.values()))
+
+
+def try_editors(tally, program):
+    """The files for shells and editors: they are what is made, and know the program's words."""
+    told = run(["tools/make-completions", "--check"], program)
+    tally.count("tools/make-completions --check", told.returncode == 0, told.stdout.decode())
+    told = run(["bash", "-n", "completions/jsoncrdt.bash"], program)
+    tally.count("completions/jsoncrdt.bash", told.returncode == 0, told.stderr.decode())
+    help_text = run([program, "--help"], program).stdout.decode()
+    lacking = [c.name for c in COMMANDS if not re.search(rf"^ +{c.name}\b", help_text, re.MULTILINE)]
+    tally.count("tools/command_line.py", set(lacking) <= {"threads", "view"}, f"--help doesn't name {lacking}")
+    patterns = "\n".join(re.compile(p).pattern for p in patterns_of(json.loads(stored("editors/jsoncrdt.tmLanguage.json"))))
+    words = [word.decode() for word in RESERVED if not re.search(rf"\b{word.decode()}\b", patterns.replace("\\b", " "))]
+    tally.count("editors/jsoncrdt.tmLanguage.json", not words, f"no pattern has {words}")
+
+
 def try_selftest(tally):
     told = subprocess.run(["oracle/selftest"], capture_output=True, check=False).stdout.decode()
     numbers = re.search(r"^(\d+) passed, (\d+) failed$", told, re.MULTILINE)
@@ -183,6 +212,8 @@ def main(words):
     if tally.wants("tools"):
         try_bad_input(tally, program)
         try_shrink(tally, program)
+    if tally.wants("editors"):
+        try_editors(tally, program)
     if tally.wants("oracle"):
         try_selftest(tally)
     for line in tally.skipped:
