@@ -12,6 +12,7 @@ import re
 import shutil
 import subprocess
 import sys
+import tempfile
 
 ROOT = os.path.dirname(os.path.dirname(os.path.abspath(__file__)))
 sys.path += [os.path.join(ROOT, "tools"), os.path.join(ROOT, "oracle")]
@@ -163,6 +164,38 @@ def try_shrink(tally, program):
     tally.same("tools/shrink", told.stdout.decode(), stored("tests/expected/out-of-order.shrunk"))
 
 
+RT = """#!/bin/sh
+[ "$2" = --cases ] && ls "$3"
+echo "$@" | sed 's/[^ ]*tmp[^ ]*/FOLDER/'
+cat
+"""
+
+
+def try_launcher(tally):
+    """What the launcher says by itself, with a command rt that only tells its arguments, or with none."""
+    with tempfile.TemporaryDirectory() as folder:
+        rt = os.path.join(folder, "rt")
+        with open(rt, "w", encoding="utf-8") as file:
+            file.write(RT)
+        os.chmod(rt, 0o755)
+        first, stuck = os.path.abspath("examples/first.jsoncrdt"), "examples/stuck.jsoncrdt"
+        there, nowhere = f"{folder}:/usr/bin:/bin", "/usr/bin:/bin"
+        cases = [
+            (nowhere, ["run", stuck], 127, "", "whose command rt isn't on the path"),
+            (there, ["run", "no-such-file"], 4, "", "there is no file no-such-file"),
+            (there, ["view", "--at", "3", "examples"], 4, "", "examples is a folder"),
+            (there, ["run", first], 0, f"try --data scenario={first} -- run scenario\n", "nothing is proved"),
+            (there, ["run", "--trace", first, stuck], 0,
+             "01-first.jsoncrdt\n02-stuck.jsoncrdt\ntry --cases FOLDER -- run --trace -\n", "nothing is proved"),
+            (there, ["debug", first], 0, f"try --data scenario={first} -- debug scenario\nstep\n", "nothing is proved"),
+        ]
+        for path, words, status, output, sentence in cases:
+            told = subprocess.run(["./jsoncrdt", "--unproved", *words], input=b"step\n", capture_output=True, check=False,
+                                  env={**os.environ, "PATH": path})
+            is_right = told.returncode == status and told.stdout.decode() == output and sentence in told.stderr.decode()
+            tally.count(f"./jsoncrdt --unproved {' '.join(words)}", is_right, f"{told}")
+
+
 def patterns_of(grammar):
     """All regular expressions of a grammar for editors."""
     if isinstance(grammar, list):
@@ -212,6 +245,8 @@ def main(words):
     if tally.wants("tools"):
         try_bad_input(tally, program)
         try_shrink(tally, program)
+    if tally.wants("launcher"):
+        try_launcher(tally)
     if tally.wants("editors"):
         try_editors(tally, program)
     if tally.wants("oracle"):
