@@ -10,6 +10,7 @@ import concurrent.futures
 import glob
 import json
 import os
+import pty
 import re
 import shutil
 import subprocess
@@ -218,6 +219,30 @@ def launcher():
                         "nothing is proved")
 
 
+def in_terminal(words, typed):
+    """What a command shows in a terminal in which these lines are typed."""
+    ours, theirs = pty.openpty()
+    with subprocess.Popen(words, stdin=theirs, stdout=theirs, stderr=theirs, close_fds=True) as process:
+        os.close(theirs)
+        os.write(ours, typed.encode())
+        shown = b""
+        try:
+            while part := os.read(ours, 4096):
+                shown += part
+        except OSError:  # the end of a terminal's output
+            pass
+        os.close(ours)
+    return shown.decode(), process.returncode
+
+
+def has_prompt(_):
+    """A session by hand has a prompt with the position, help, and documents."""
+    shown, status = in_terminal([IN_PYTHON, "debug", "examples/first.jsoncrdt"], "help\nstep\nview\nnext\nquit\n")
+    looked_for = ["(0/1) ", "(1/1) ", "cut off the rest", '{"doc":{"a":1},"name":"a"}', "no such line"]
+    lacking = [text for text in looked_for if text not in shown]
+    expect(not lacking and status == 0, f"status {status}, without {lacking}:\n{shown}")
+
+
 def patterns_of(grammar):
     """All regular expressions of a grammar for editors."""
     if isinstance(grammar, list):
@@ -256,6 +281,7 @@ def editors():
     yield ends_well(["bash", "-n", "completions/jsoncrdt.bash"])
     yield "editors: tools/command_line.py", names_commands
     yield "editors: editors/jsoncrdt.tmLanguage.json", colours_words
+    yield "oracle: a session in a terminal", has_prompt
 
 
 # ---- all of them
