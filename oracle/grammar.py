@@ -1,9 +1,11 @@
-"""What a text is refused for, or how many replicas, commands and events it has as a scenario, by docs/FORMATS.md.
+"""The scenario that a text is, or the fault for which it is refused, by docs/FORMATS.md.
 
-A fault is (place, number): the first by place is given, and the least number at one place. Of the limits, those of
-whole texts, scripts and schedules (6, 11, 19) aren't looked at, since the texts here are short.
+A fault is (place, number): the first by place is given, and the least number at one place. The trees of expressions,
+commands, values and events are the tuples of rules.py, with replicas by their numbers in the order of their names.
 """
 
+import collections
+import json
 import re
 
 RESERVED = {b"let", b"doc", b"yield", b"get", b"idx", b"keys", b"values", b"insertAfter", b"delete", b"true", b"false",
@@ -11,6 +13,11 @@ RESERVED = {b"let", b"doc", b"yield", b"get", b"idx", b"keys", b"values", b"inse
 SELECTORS = {b"get", b"idx", b"keys", b"values"}
 NAME, NUMBER, STRING, SIGN, END = "name", "number", "string", "sign", "end"
 MOST_SELECTORS = 256
+MOST_REPLICAS = 64
+MOST_COMMANDS = 65_536
+MOST_EVENTS = 100_000
+MOST_BYTES = 8_388_608
+LEAST_TOO_LARGE = 2 ** 32
 
 JSON_NUMBER = re.compile(rb"-?(0|[1-9][0-9]*)(\.[0-9]+)?([eE][+-]?[0-9]+)?")
 NUMBER_RUN = re.compile(rb"[0-9-][0-9A-Za-z_+.-]*")
@@ -90,162 +97,224 @@ def tokens(text):
 
 
 class Reader:
-    """Goes through the tokens. Faults of names and numbers are kept, since the sentence goes on behind them."""
+    """Goes through the tokens and gives the trees. Faults of names and numbers are kept, since the sentence goes on
+    behind them."""
 
     def __init__(self, text):
         self.tokens = tokens(text)
         self.next = 0
         self.faults = []
-        self.names = []
         self.asked = []
-        self.commands = 0
-        self.events = 0
+
+    @property
+    def place(self):
+        return self.tokens[self.next][2]
 
     def is_next(self, *spellings):
         kind, spelling, _ = self.tokens[self.next]
         return kind in (NAME, SIGN) and spelling in spellings
 
     def misfit(self):
-        kind, _, place = self.tokens[self.next]
-        raise Fault(place, 8 if kind == END else 7)
+        raise Fault(self.place, 8 if self.tokens[self.next][0] == END else 7)
 
     def take(self, *spellings):
+        """The next token's spelling, which must be one of these."""
         if not self.is_next(*spellings):
             self.misfit()
         self.next += 1
-        return self.tokens[self.next - 1]
+        return self.tokens[self.next - 1][1]
 
     def take_kind(self, *kinds):
         if self.tokens[self.next][0] not in kinds:
             self.misfit()
         self.next += 1
-        return self.tokens[self.next - 1]
+        return self.tokens[self.next - 1][1]
+
+    def end(self):
+        if self.tokens[self.next][0] != END:
+            self.misfit()
 
     def name(self):
         """A name that may not be a reserved word."""
-        _, spelling, place = self.take_kind(NAME)
+        place = self.place
+        spelling = self.take_kind(NAME)
         if spelling in RESERVED:
             self.faults.append((place, 10))
-        return spelling, place
+        return spelling
 
     def digits(self):
         kind, spelling, place = self.tokens[self.next]
         if kind != NUMBER or not spelling.isdigit():
             self.misfit()
-        if int(spelling) >= 2 ** 32:
-            self.faults.append((place, 9))
         self.next += 1
+        if len(spelling) > 10 or int(spelling) >= LEAST_TOO_LARGE:
+            self.faults.append((place, 9))
+            return LEAST_TOO_LARGE
+        return int(spelling)
+
+    def string(self):
+        """The bytes that a string stands for."""
+        return json.loads(self.take_kind(STRING).decode()).encode()
 
     def value(self):
-        if self.is_next(b"{", b"["):
-            _, opening, _ = self.take(b"{", b"[")
-            self.take(b"}" if opening == b"{" else b"]")
-        elif not self.is_next(b"true", b"false", b"null"):
-            self.take_kind(NUMBER, STRING)
-        else:
-            self.next += 1
+        kind = self.tokens[self.next][0]
+        if kind == STRING:
+            return ("string", self.string())
+        if kind == NUMBER:
+            return ("number", self.take_kind(NUMBER))
+        opening = self.take(b"{", b"[", b"true", b"false", b"null")
+        if opening == b"{":
+            self.take(b"}")
+            return ("map",)
+        if opening == b"[":
+            self.take(b"]")
+            return ("list",)
+        return (opening.decode(),)
 
-    def selectors(self, in_command):
-        """The selectors of an expression. In a command it gives the word that ends it, if one does."""
+    def selector(self, made, word):
+        """The expression that the selector makes of another."""
+        if word not in (b"get", b"idx"):
+            return (word.decode(), made)
+        self.take(b"(")
+        argument = self.string() if word == b"get" else self.digits()
+        self.take(b")")
+        return (word.decode(), made, argument)
+
+    def expression(self, in_command):
+        """An expression, and in a command the word that ends it, if one does."""
         endings = [b"insertAfter", b"delete"] if in_command else []
+        if self.is_next(b"doc"):
+            self.take(b"doc")
+            made = ("doc",)
+        else:
+            made = ("variable", self.name())
         count = 0
         while self.is_next(b"."):
-            _, _, dot = self.take(b".")
-            _, word, _ = self.take(*SELECTORS, *endings)
+            dot = self.place
+            self.take(b".")
+            word = self.take(*SELECTORS, *endings)
             if word in endings:
-                return word
+                return made, word
             count += 1
             if count == MOST_SELECTORS + 1:
                 self.faults.append((dot, 12))
-            if word in (b"get", b"idx"):
-                self.take(b"(")
-                if word == b"get":
-                    self.take_kind(STRING)
-                else:
-                    self.digits()
-                self.take(b")")
-        return None
-
-    def expression(self, in_command):
-        if self.is_next(b"doc"):
-            self.take(b"doc")
-        else:
-            self.name()
-        return self.selectors(in_command)
+            made = self.selector(made, word)
+        return made, None
 
     def command(self):
         if self.is_next(b"yield"):
             self.take(b"yield")
-        elif self.is_next(b"let"):
+            return ("yield",)
+        if self.is_next(b"let"):
             self.take(b"let")
-            self.name()
+            name = self.name()
             self.take(b"=")
-            self.expression(in_command=False)
-        else:
-            word = self.expression(in_command=True)
-            if word is None:
-                self.take(b":=")
-                self.value()
-            elif word == b"insertAfter":
-                self.take(b"(")
-                self.value()
-                self.take(b")")
-        self.commands += 1
+            return ("let", name, self.expression(in_command=False)[0])
+        of, word = self.expression(in_command=True)
+        if word == b"delete":
+            return ("delete", of)
+        if word == b"insertAfter":
+            self.take(b"(")
+            value = self.value()
+            self.take(b")")
+            return ("insert", of, value)
+        self.take(b":=")
+        return ("assign", of, self.value())
 
     def named(self):
-        _, spelling, place = self.take_kind(NAME)
-        self.asked.append((spelling, place))
+        self.asked.append((self.tokens[self.next][1], self.place))
+        return self.take_kind(NAME)
 
     def event(self):
-        self.named()
+        """An event, with the names of its replicas."""
+        replica = self.named()
         self.take(b".")
-        _, word, _ = self.take(b"exec", b"send", b"done", b"recv", b"apply")
-        if word in (b"recv", b"apply"):
-            self.take(b"(")
-            if word == b"apply":
-                self.digits()
-                self.take(b",")
-            self.named()
-            self.take(b")")
-        self.events += 1
+        word = self.take(b"exec", b"send", b"done", b"recv", b"apply").decode()
+        if word not in ("recv", "apply"):
+            return (word, replica)
+        self.take(b"(")
+        if word == "apply":
+            counter = self.digits()
+            self.take(b",")
+            made = (word, replica, (counter, self.named()))
+        else:
+            made = (word, replica, self.named())
+        self.take(b")")
+        return made
 
-    def block(self, item):
-        """Items in braces, parted by semicolons, of which one may stand behind the last."""
+    def block(self, item, most, number):
+        """Items in braces, parted by semicolons, of which one may stand behind the last; more than the most have this
+        fault."""
+        items = []
         self.take(b"{")
         while not self.is_next(b"}"):
-            item()
+            if len(items) == most:
+                self.faults.append((self.place, number))
+            items.append(item())
             if not self.is_next(b"}"):
                 self.take(b";")
         self.take(b"}")
+        return items
 
-    def replica(self):
+    def replica(self, scripts):
         self.take(b"replica")
-        spelling, place = self.name()
-        if spelling in self.names:
+        place = self.place
+        name = self.name()
+        if name in scripts:
             self.faults.append((place, 15))
-        self.names.append(spelling)
-        if len(self.names) == 65:
+        elif len(scripts) == MOST_REPLICAS:
             self.faults.append((place, 17))
-        self.block(self.command)
+        scripts[name] = self.block(self.command, MOST_COMMANDS, 11)
 
     def scenario(self):
+        """The scripts by the names of the replicas, and the schedule."""
         for word in (b"jsoncrdt", b"1"):
             if self.tokens[self.next][1] != word:
-                raise Fault(self.tokens[self.next][2], 14)
+                raise Fault(self.place, 14)
             self.next += 1
         if not self.is_next(b"replica"):
-            raise Fault(self.tokens[self.next][2], 16)
+            raise Fault(self.place, 16)
+        scripts, schedule = {}, []
         while self.is_next(b"replica"):
-            self.replica()
+            self.replica(scripts)
         if self.is_next(b"schedule"):
             self.take(b"schedule")
-            self.block(self.event)
-        if self.tokens[self.next][0] != END:
-            self.misfit()
+            schedule = self.block(self.event, MOST_EVENTS, 19)
+        self.end()
+        return scripts, schedule
+
+
+Scenario = collections.namedtuple("Scenario", "names scripts schedule")
+
+
+def resolved(event, names):
+    """The event by the numbers of its replicas."""
+    if event[0] == "recv":
+        return (event[0], names.index(event[1]), names.index(event[2]))
+    if event[0] == "apply":
+        counter, maker = event[2]
+        return (event[0], names.index(event[1]), (counter, names.index(maker)))
+    return (event[0], names.index(event[1]))
+
+
+def sentence(reader, read_it):
+    """What is read, or the first fault: those which were kept count with the one that ended it."""
+    made = None
+    try:
+        made = read_it()
+    except Fault as fault:
+        reader.faults.append(fault.at)
+    return made, min(reader.faults, default=None)
+
+
+def unknown(reader, names):
+    return min(((place, 18) for spelling, place in reader.asked if spelling not in names), default=None)
 
 
 def read(text):
-    """The numbers of replicas, commands and events, or the fault of the text."""
+    """The scenario that the text is, or its fault; the other is none."""
+    if len(text) > MOST_BYTES:
+        return None, (MOST_BYTES, 6)
     try:
         text.decode()
     except UnicodeDecodeError as error:
@@ -254,13 +323,28 @@ def read(text):
         reader = Reader(text)
     except Fault as fault:
         return None, fault.at
+    made, fault = sentence(reader, reader.scenario)
+    fault = fault or unknown(reader, made[0])
+    if fault:
+        return None, fault
+    scripts, schedule = made
+    names = sorted(scripts)
+    events = [resolved(event, names) for event in schedule]
+    return Scenario(names, [scripts[name] for name in names], events), None
+
+
+def read_event(text, names):
+    """The event of these replicas that the text is, or its fault; the other is none."""
     try:
-        reader.scenario()
+        reader = Reader(text)
     except Fault as fault:
-        reader.faults.append(fault.at)
-    if reader.faults:
-        return None, min(reader.faults)
-    unknown = [(place, 18) for spelling, place in reader.asked if spelling not in reader.names]
-    if unknown:
-        return None, min(unknown)
-    return (len(reader.names), reader.commands, reader.events), None
+        return None, fault.at
+
+    def whole():
+        made = reader.event()
+        reader.end()
+        return made
+
+    made, fault = sentence(reader, whole)
+    fault = fault or unknown(reader, names)
+    return (None, fault) if fault else (resolved(made, names), None)

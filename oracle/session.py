@@ -1,9 +1,10 @@
 """A session of the debugger: the answers to lines, which are given as tuples of their words."""
 
 from rules import Stuck, candidates, is_enabled, start, step, without_empty_sets
-from texts import REFUSALS, Texts
+from texts import Texts, refused
 
 MOST_BREAKPOINTS = 256
+MOST_STEPS = 100_000
 
 # Lines that are refused or have no answer, whatever was done before, in a session with no replica `nobody`.
 FIXED = {
@@ -42,9 +43,6 @@ class Session:
     def at(self):
         return b"at %d\n" % self.position
 
-    def refused(self, number):
-        return b"refused %d %s\n" % (number, REFUSALS[number].encode())
-
     def make(self, event):
         """Makes an event. Gives the line of one that is stuck, and else none."""
         try:
@@ -73,7 +71,7 @@ class Session:
 
     def run(self):
         if self.position == len(self.schedule):
-            return self.refused(51)
+            return refused(51)
         while self.position < len(self.schedule):
             stuck = self.make(self.schedule[self.position])
             if stuck:
@@ -85,6 +83,8 @@ class Session:
 
     def act(self, event):
         position = self.position
+        if position == MOST_STEPS:
+            return refused(19)
         stuck = self.make(event)
         if not stuck:
             self.schedule[position:] = [event]
@@ -93,7 +93,7 @@ class Session:
     def set_breakpoint(self, breakpoint):
         free = [number for number in range(1, MOST_BREAKPOINTS + 1) if number not in self.breakpoints]
         if not free:
-            return self.refused(54)
+            return refused(54)
         self.breakpoints[free[0]] = breakpoint
         return b"set %d\n" % free[0]
 
@@ -113,14 +113,14 @@ class Session:
         word, rest = line[0], line[1:]
         if word == "step":
             there = self.position + rest[0]
-            return self.refused(51) if there > len(self.schedule) else self.go_to(there)
+            return refused(51) if there > len(self.schedule) else self.go_to(there)
         if word == "back":
-            return self.refused(50) if rest[0] > self.position else self.go_to(self.position - rest[0])
+            return refused(50) if rest[0] > self.position else self.go_to(self.position - rest[0])
         if word == "goto":
-            return self.refused(52) if rest[0] > len(self.schedule) else self.go_to(rest[0])
+            return refused(52) if rest[0] > len(self.schedule) else self.go_to(rest[0])
         if word == "unbreak":
             found = self.breakpoints.pop(rest[0], None)
-            return b"cleared %d\n" % rest[0] if found else self.refused(53)
+            return b"cleared %d\n" % rest[0] if found else refused(53)
         if word == "state":
             shown = self.network if rest[0] is None else [self.network[rest[0]]]
             return b"".join(map(self.texts.dump, shown))

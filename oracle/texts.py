@@ -4,9 +4,9 @@ from rules import DOC, HEAD, LIST, MAP, REGISTER, TAIL
 
 REFUSALS = {
     1: "BadByte", 2: "OpenString", 3: "BadEscape", 4: "LoneSurrogate", 5: "BadNumber", 6: "TextTooLong",
-    7: "Unexpected", 8: "EndOfText", 9: "IndexTooLarge", 10: "ReservedName", 12: "TooLongExpression", 13: "NotUtf8",
-    14: "NoHeader", 15: "SameName", 16: "NoReplica", 17: "TooManyReplicas", 18: "UnknownReplica", 20: "NotInList",
-    22: "UnboundVariable", 23: "GetOnHead", 24: "NotACursor", 25: "NoSuchNode", 26: "PastEnd", 27: "NoMap",
+    7: "Unexpected", 8: "EndOfText", 9: "IndexTooLarge", 10: "ReservedName", 11: "TooManyCommands",
+    12: "TooLongExpression", 13: "NotUtf8", 14: "NoHeader", 15: "SameName", 16: "NoReplica", 17: "TooManyReplicas",
+    18: "UnknownReplica", 19: "TooManyEvents", 20: "NotInList", 22: "UnboundVariable", 23: "GetOnHead", 24: "NotACursor", 25: "NoSuchNode", 26: "PastEnd", 27: "NoMap",
     28: "NoRegister", 29: "TooDeep", 30: "NoCommand", 31: "AtYield", 32: "NotAtYield", 33: "NotActed",
     34: "NotReceived", 35: "AlreadyApplied", 36: "DepsMissing", 50: "AtStart", 51: "AtEnd", 52: "PastSchedule",
     53: "NoSuchBreak", 54: "TooManyBreaks", 58: "BadLine",
@@ -29,6 +29,12 @@ def array(texts):
 def object_of(members):
     """An object, its members by the bytes of their names."""
     return b"{" + b",".join(string(name) + b":" + text for name, text in sorted(members)) + b"}"
+
+
+def refused(number, place=None):
+    """The line that refuses a text at a place, or whatever else."""
+    at = b"" if place is None else b" at %d" % place
+    return b"refused %d %s" % (number, REFUSALS[number].encode()) + at + b"\n"
 
 
 class Texts:

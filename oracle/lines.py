@@ -1,0 +1,70 @@
+"""The lines of a session as they are read: what each asks, as session.py takes it, or the text that refuses it."""
+
+import re
+
+from grammar import read_event
+from texts import refused
+
+MOST_OF_LINE = 4096
+RULES = """
+EXEC LET VAR DOC GET IDX1 IDX2 IDX3 IDX4 IDX5 KEYS1 KEYS2 KEYS3 VAL1 VAL2 VAL3 MAKE-ASSIGN MAKE-INSERT MAKE-DELETE
+MAKE-OP APPLY-LOCAL SEND RECV APPLY-REMOTE DONE DESCEND CHILD-GET CHILD-MAP CHILD-LIST CHILD-REG ADD-ID1 ADD-ID2
+PRESENCE1 PRESENCE2 ASSIGN EMPTY-MAP EMPTY-LIST INSERT1 INSERT2 DELETE CLEAR-ELEM CLEAR-ANY CLEAR-NONE CLEAR-REG
+CLEAR-MAP1 CLEAR-MAP2 CLEAR-MAP3 CLEAR-LIST1 CLEAR-LIST2 CLEAR-LIST3
+""".split()
+ALONE = ("run", "trace", "enabled", "schedule", "where", "quit")
+NUMBER = re.compile(rb"0|[1-9][0-9]{0,9}")
+BAD = refused(58)
+UNKNOWN = refused(18)
+
+
+def without_end(line):
+    """The line without its LF and one CR right before it. A CR without LF stays."""
+    return re.sub(rb"\r?\n\Z", b"", line)
+
+
+def breakpoint_of(kind, what, names):
+    if kind == "at" and NUMBER.fullmatch(what):
+        return ("break", ("at", int(what))), b""
+    if kind == "rule" and what.decode() in RULES:
+        return ("break", ("rule", what.decode())), b""
+    if kind == "replica":
+        return (("break", ("replica", names.index(what))), b"") if what in names else (None, UNKNOWN)
+    return None, BAD
+
+
+def named(word, rest, names):
+    """A line that names replicas: state with one or none, compare with two."""
+    if any(name not in names for name in rest):
+        return None, UNKNOWN
+    return (word,) + (tuple(names.index(name) for name in rest) or (None,)), b""
+
+
+def event_of(line, names):
+    """The event of `act`: the rest of the line behind the word and its blanks."""
+    event, fault = read_event(re.sub(rb"\A[ \t]*act[ \t]*", b"", line), names)
+    return (("act", event), b"") if event else (None, refused(fault[1], fault[0]))
+
+
+def read_line(line, names):
+    """What a line asks, which is none where it has no word or is refused, and the text that refuses it."""
+    if len(line) - line.endswith(b"\n") > MOST_OF_LINE or any(byte >= 0x80 for byte in line):
+        return None, BAD
+    line = without_end(line)
+    words = [word for word in re.split(rb"[ \t]+", line) if word]
+    if not words:
+        return None, b""
+    word, rest = words[0].decode(), words[1:]
+    if word == "act":
+        return event_of(line, names)
+    if word in ALONE and not rest:
+        return (word,), b""
+    if word in ("step", "back") and not rest:
+        return (word, 1), b""
+    if word in ("step", "back", "goto", "unbreak") and len(rest) == 1 and NUMBER.fullmatch(rest[0]):
+        return (word, int(rest[0])), b""
+    if word == "state" and len(rest) <= 1 or word == "compare" and len(rest) == 2:
+        return named(word, rest, names)
+    if word == "break" and len(rest) == 2:
+        return breakpoint_of(rest[0].decode(), rest[1], names)
+    return None, BAD

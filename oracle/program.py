@@ -1,0 +1,180 @@
+"""The commands of the program, by the rules in Python: texts and statuses are those of docs/FORMATS.md."""
+
+import collections
+import re
+
+from grammar import read
+from lines import read_line
+from rules import Stuck, change, start
+from session import Session
+from texts import Texts, refused
+from view import line_of
+
+USAGE = "usage: oracle/jsoncrdt check|print|run [--trace]|view [--at N]|debug FILE    (--help says more)"
+HELP = """\
+usage: oracle/jsoncrdt COMMAND FILE      (FILE - is standard input; no arguments are run --trace -)
+
+The program by the same rules, written once more in Python. Nothing of it is proved.
+
+  check FILE            is this text a scenario? prints how many replicas, commands and events it has
+  print FILE            prints the scenario in its canonical text
+  run [--trace] FILE    executes the schedule and prints each replica's state, as a line of JSON;
+                        with --trace the rules that each event used come first (this may be long)
+  view [--at N] FILE    prints each replica's document as an application sees it, after N events
+  debug FILE            the debugger: steps forwards and backwards by lines of standard input;
+                        in a terminal it has a prompt and a history, and `help` lists the lines
+
+Statuses: 0 done; 1 the text was refused; 2 wrong arguments; 3 an event is stuck;
+4 a file can't be read or the output not be written; 5 Python's own limits.
+
+Not here: `threads`, which runs each replica in a thread of its own. The proved program has it.
+"""
+COMMANDS = ("check", "print", "run", "view", "debug")
+MOST_LINES, MOST_OF_LINES, MOST_EVENTS = 1_000_000, 67_108_864, 100_000
+
+Order = collections.namedtuple("Order", "command file traced at")
+
+
+class BadWords(Exception):
+    pass
+
+
+def taken(words, number):
+    """The word with this number, which must be there."""
+    if number == len(words):
+        raise BadWords(f"{words[-1]} needs a value")
+    return words[number]
+
+
+def limit(word):
+    if not re.fullmatch("[0-9]+", word) or int(word[-9:]) > MOST_EVENTS or len(word) > 9:
+        raise BadWords(f"{word} is no number from 0 to {MOST_EVENTS}")
+    return int(word)
+
+
+def order_of(words):
+    """What the words ask for."""
+    if not words:
+        return Order("run", "-", True, MOST_EVENTS)
+    command, files, traced, at, number = words[0], [], False, None, 1
+    if command == "threads":
+        raise BadWords("threads is a command of the proved program alone")
+    if command not in COMMANDS:
+        raise BadWords(f"there is no command {command}")
+    options = True
+    while number < len(words):
+        word = words[number]
+        number += 1
+        if options and word == "--":
+            options = False
+        elif options and word == "--trace" and command == "run" and not traced:
+            traced = True
+        elif options and command == "view" and at is None and (word == "--at" or word.startswith("--at=")):
+            given = word[5:] if word != "--at" else taken(words, number)
+            number += word == "--at"
+            at = limit(given)
+        elif options and word.startswith("-") and word != "-":
+            raise BadWords(f"{command} has no option {word}, or has it already")
+        else:
+            files.append(word)
+    if len(files) != 1:
+        raise BadWords(f"{command} needs one FILE")
+    return Order(command, files[0], traced, MOST_EVENTS if at is None else at)
+
+
+def made(scripts, events, texts=None, out=None):
+    """The network after the events, and how many were made, with why the next one is stuck. Blocks go to the output."""
+    network = start(scripts)
+    for number, event in enumerate(events, 1):
+        trace = []
+        try:
+            change(network, event, trace)
+        except Stuck as stuck:
+            return made(scripts, events[:number - 1])[0], number - 1, stuck
+        if out:
+            out.write(texts.block(number, event, trace))
+    return network, len(events), None
+
+
+def show(order, scenario, out):
+    """Executes the schedule, and shows states or documents."""
+    texts, events = Texts(scenario.names), scenario.schedule[:order.at]
+    network, count, stuck = made(scenario.scripts, events, texts, out if order.traced else None)
+    for replica in network:
+        out.write(line_of(texts, replica) if order.command == "view" else texts.dump(replica))
+    if stuck:
+        out.write(texts.stuck(stuck, events[count]))
+    return 3 if stuck else 0
+
+
+def lines_of(source):
+    """The lines of a session, up to its limits; none stands for what is past them."""
+    size = 0
+    for number, line in enumerate(source, 1):
+        size += len(line)
+        if number > MOST_LINES or size > MOST_OF_LINES:
+            yield None
+            return
+        yield line
+
+
+def answer(session, line):
+    """The answer to a line, or none where it ends the session."""
+    asked, refusal = read_line(line, session.texts.names)
+    if asked == ("quit",):
+        return None
+    return session.answer(asked) if asked else refusal
+
+
+def debug(scenario, lines, out, err):
+    session = Session(*scenario)
+    for line in lines_of(lines):
+        if line is None:
+            err.write("too many lines\n")
+            return 4
+        text = answer(session, line)
+        if text is None:
+            break
+        out.write(text)
+        out.flush()
+    return 0
+
+
+def text_of(file, source):
+    if file == "-":
+        return source.read()
+    with open(file, "rb") as opened:
+        return opened.read()
+
+
+def command_line(words, source, out, err, by_hand=None):
+    """Does what the words ask for, and gives the status. Source and out are files of bytes, err is one of text.
+
+    A session is given to by_hand, where that is there, instead of having its lines from the source.
+    """
+    try:
+        order = order_of(words)
+    except BadWords as fault:
+        err.write(f"oracle/jsoncrdt: {fault}\n{USAGE}\n")
+        return 2
+    try:
+        text = text_of(order.file, source)
+    except OSError as error:
+        err.write(f"read failed: {order.file}: {error.strerror}\n")
+        return 4
+    scenario, fault = read(text)
+    if fault:
+        out.write(refused(fault[1], fault[0]))
+        return 1
+    if order.command == "check":
+        counts = len(scenario.names), sum(map(len, scenario.scripts)), len(scenario.schedule)
+        out.write(b"replicas %d commands %d events %d\n" % counts)
+        return 0
+    if order.command == "print":
+        out.write(Texts(scenario.names).scenario(scenario.scripts, scenario.schedule))
+        return 0
+    if order.command == "debug":
+        if by_hand:
+            return by_hand(Session(*scenario))
+        return debug(scenario, () if order.file == "-" else source, out, err)
+    return show(order, scenario, out)
