@@ -1,5 +1,5 @@
 -- What the program's promise gives.
-use Rattle.std.proofs.Common.{◌≡◌, ◌≢◌, ◌⊎◌, ◌∙◌, ◌<◌, ℕ, inl, inr, List, [], ◌∷◌, Option, Some, None, codes, refl, sym, ap, subst, arith}
+use Rattle.std.proofs.Common.{◌≡◌, ◌≢◌, ◌⊎◌, ◌∙◌, ℕ, inl, inr, List, [], ◌∷◌, Option, Some, None, codes, refl, sym, ap, subst, arith}
 use Rattle.std.proofs.lemmas.Option.{same_Some}
 use Rattle.clap.proofs.OnLiterals.{clap_on_literals}
 use Rattle.clap.specs.Words.{fault_of, subcommand_of}
@@ -18,9 +18,9 @@ use Rattle.jc_program.specs.Talked.{lines_by}
 use Rattle.jc_program.specs.Orders.{IsAlone, IsDone, IsStopped, IsThreadsOrder}
 use Rattle.jc_program.specs.Threaded.{HaveThreaded, HaveBegun, IsThreadsFault}
 use Rattle.jc_rules.specs.Told.{LosesUpTo}
-use Rattle.jc_program.specs.Promise.{Stream, World, Files, Promise, PromiseAlone, All, Says, Carried, Stopped, Completes, Breaks, done, text_refused, stuck, thread_starved, help, usage, read_failed, write_failed, help_write_failed, too_many_lines, no_thread, no_memory, no_memory_for_words}
+use Rattle.jc_program.specs.Promise.{Stream, World, Files, Promise, All, Says, Carried, Stopped, Completes, Breaks, done, text_refused, stuck, thread_starved, help, usage, read_failed, write_failed, help_write_failed, too_many_lines, no_thread, no_memory, no_memory_for_words}
 use Rattle.jc_words.specs.Laws.{FaultlessAreOrders}
-use Rattle.jc_program.specs.PromiseFacts.{OrderFact, DoneFact, StoppedFact, ThreadsFact, HelpFact, LostFact, FaultyFact, SilentFact, UnshownFact, ShownFact, UsageFact, UnreadFact, OtherFileFact, MostFact, FailedFact, MemoryLineFact, QuietFact, Facts, AloneFacts}
+use Rattle.jc_program.specs.PromiseFacts.{OrderFact, DoneFact, StoppedFact, ThreadsFact, HelpFact, LostFact, FaultyFact, SilentFact, UnshownFact, ShownFact, UsageFact, UnreadFact, OtherFileFact, MostFact, FailedFact, MemoryLineFact, QuietFact, Facts}
 use Rattle.jc_program.specs.Laws.{PromiseGivesFacts, AlonePromiseGivesFacts}
 use Rattle.jc_program.proofs.Orders as E
 use Rattle.jc_program.proofs.Threaded.{lacking}
