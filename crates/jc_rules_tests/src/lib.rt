@@ -1,9 +1,16 @@
-//! Tests of `jc_rules`: each call where memory is ample.
+//! Tests of `jc_rules`, and of the sources and sinks of `jc_fakes`: each call where memory is ample, readings and
+//! writings whole and cut short, and what is shown by name and number.
 #![tactic(auto)]
 
 #[cfg(test)]
 mod calls;
 #[cfg(test)]
+mod fakes;
+#[cfg(test)]
 mod id_sets;
 #[cfg(test)]
-mod trace_copies;
+mod io;
+#[cfg(test)]
+mod shown;
+#[cfg(test)]
+mod testing;

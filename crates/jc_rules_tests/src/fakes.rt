@@ -1,28 +1,8 @@
 //! Each source and sink by itself.
 
+use crate::testing::{flushes, has_bytes, holds, reads, writes};
 use jc_fakes::{Bytes, CountsFlushes, Endless, FailsAt, OneByte, Taken, TakesUpTo, Then};
-use jc_rules::io::{Failed, Sink, Source};
-use std::process::Abort;
-
-fn reads<S: Source>(rt: &impl Abort, source: &mut S, buf: &mut [u8], want: Result<usize, Failed>) {
-    assert_eq!(rt; source.read(buf), want);
-}
-
-fn writes<K: Sink>(rt: &impl Abort, sink: &mut K, bytes: &[u8], want: Result<usize, Failed>) {
-    assert_eq!(rt; sink.write(bytes), want);
-}
-
-fn flushes<K: Sink>(rt: &impl Abort, sink: &mut K, want: Result<(), Failed>) {
-    assert_eq!(rt; sink.flush(), want);
-}
-
-fn holds(rt: &impl Abort, got: &[u8], want: &[u8]) {
-    assert_eq!(rt; got, want);
-}
-
-fn counts(rt: &impl Abort, got: u64, want: u64) {
-    assert_eq!(rt; got, want);
-}
+use jc_rules::io::Failed;
 
 #[test]
 fn bytes_fill_the_buffer(rt: HostRuntime) {
@@ -30,9 +10,9 @@ fn bytes_fill_the_buffer(rt: HostRuntime) {
     let mut buf = [0; 2];
     reads(&rt, &mut source, &mut [], Ok(0));
     reads(&rt, &mut source, &mut buf, Ok(2));
-    holds(&rt, &buf, b"ab");
+    has_bytes(&rt, &buf, b"ab");
     reads(&rt, &mut source, &mut buf, Ok(1));
-    holds(&rt, &buf, b"cb");
+    has_bytes(&rt, &buf, b"cb");
     reads(&rt, &mut source, &mut buf, Ok(0));
 }
 
@@ -41,7 +21,7 @@ fn endless_fills_the_buffer(rt: HostRuntime) {
     let mut source = Endless::new(b'\n');
     let mut buf = [0; 3];
     reads(&rt, &mut source, &mut buf, Ok(3));
-    holds(&rt, &buf, b"\n\n\n");
+    has_bytes(&rt, &buf, b"\n\n\n");
 }
 
 #[test]
@@ -50,7 +30,7 @@ fn one_byte_is_read(rt: HostRuntime) {
     let mut buf = [0; 2];
     reads(&rt, &mut source, &mut [], Ok(0));
     reads(&rt, &mut source, &mut buf, Ok(1));
-    holds(&rt, &buf, b"a\0");
+    has_bytes(&rt, &buf, b"a\0");
 }
 
 #[test]
@@ -59,8 +39,8 @@ fn one_byte_is_written(rt: HostRuntime) {
     writes(&rt, &mut sink, b"ab", Ok(1));
     writes(&rt, &mut sink, b"", Ok(0));
     flushes(&rt, &mut sink, Ok(()));
-    counts(&rt, sink.inner.flushes, 1);
-    holds(&rt, sink.inner.sink.as_slice(), b"a");
+    holds(&rt, "flushes", sink.inner.flushes == 1);
+    has_bytes(&rt, sink.inner.sink.as_slice(), b"a");
 }
 
 #[test]
@@ -73,38 +53,30 @@ fn one_read_fails(rt: HostRuntime) {
 }
 
 #[test]
-fn one_flush_fails(rt: HostRuntime) {
+fn one_flush_or_write_fails(rt: HostRuntime) {
     let mut sink = FailsAt::new(Taken::new(rt.alloc()), 1);
     writes(&rt, &mut sink, b"ab", Ok(2));
     flushes(&rt, &mut sink, Err(Failed));
     flushes(&rt, &mut sink, Ok(()));
     writes(&rt, &mut sink, b"c", Ok(1));
-    holds(&rt, sink.inner.as_slice(), b"abc");
-}
-
-#[test]
-fn one_write_fails(rt: HostRuntime) {
+    has_bytes(&rt, sink.inner.as_slice(), b"abc");
     let mut sink = FailsAt::new(Taken::new(rt.alloc()), 0);
     writes(&rt, &mut sink, b"ab", Err(Failed));
-    holds(&rt, sink.inner.as_slice(), b"");
+    has_bytes(&rt, sink.inner.as_slice(), b"");
 }
 
 #[test]
 fn flushes_are_counted(rt: HostRuntime) {
     let mut sink = CountsFlushes::new(Taken::new(rt.alloc()));
     writes(&rt, &mut sink, b"ab", Ok(2));
-    counts(&rt, sink.flushes, 0);
+    holds(&rt, "none", sink.flushes == 0);
     flushes(&rt, &mut sink, Ok(()));
     flushes(&rt, &mut sink, Ok(()));
-    counts(&rt, sink.flushes, 2);
-    holds(&rt, sink.sink.as_slice(), b"ab");
-}
-
-#[test]
-fn failed_flushes_are_counted(rt: HostRuntime) {
+    holds(&rt, "two", sink.flushes == 2);
+    has_bytes(&rt, sink.sink.as_slice(), b"ab");
     let mut sink = CountsFlushes::new(FailsAt::new(Taken::new(rt.alloc()), 0));
     flushes(&rt, &mut sink, Err(Failed));
-    counts(&rt, sink.flushes, 1);
+    holds(&rt, "a failed one", sink.flushes == 1);
 }
 
 #[test]
@@ -117,8 +89,7 @@ fn takes_up_to_its_room(rt: HostRuntime) {
         writes(&rt, &mut sink, b"d", refusal);
         writes(&rt, &mut sink, b"", Ok(0));
         flushes(&rt, &mut sink, Ok(()));
-        counts(&rt, sink.refused, 2);
-        counts(&rt, sink.sink.flushes, 1);
-        holds(&rt, sink.sink.sink.as_slice(), b"abc");
+        holds(&rt, "counts", sink.refused == 2 && sink.sink.flushes == 1);
+        has_bytes(&rt, sink.sink.sink.as_slice(), b"abc");
     }
 }

@@ -1,5 +1,0 @@
-//! Tests of `jc_sets`: its laws are there to be called.
-#![tactic(auto)]
-
-#[cfg(test)]
-mod laws;
