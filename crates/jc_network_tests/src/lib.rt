@@ -23,8 +23,6 @@ mod nets;
 #[cfg(test)]
 mod networks;
 #[cfg(test)]
-mod recordings;
-#[cfg(test)]
 mod runs;
 #[cfg(test)]
 mod sessions;

@@ -9,6 +9,7 @@ use jc_json::Tree;
 use jc_meaning::{have_distinct_ids, meaning, same_tree};
 use jc_network::Net;
 use jc_rules::{Event, Op, Text};
+use jc_tree::ArenaTree;
 use std::alloc::{AllocError, Global};
 use std::process::Abort;
 use std::test::Fail;
@@ -30,20 +31,31 @@ fn is_text(rt: &impl Abort, got: &str, want: &str) {
     assert!(rt; got == want, "{got}");
 }
 
+/// Whether the tree is what the operations mean, but for empty presence sets.
+fn is_meaning(
+    rt: &impl Abort,
+    alloc: Global,
+    ops: &[Op],
+    tree: &ArenaTree,
+) -> Result<bool, AllocError> {
+    assert!(rt; have_distinct_ids(ops));
+    let means = meaning(alloc, ops)?;
+    same_tree(alloc, &means, tree)
+}
+
 /// The replica's tree is what its operations mean, but for empty presence sets.
-pub fn is_meant(rt: &impl Abort, alloc: Global, net: &Net, p: u16) -> Result<(), AllocError> {
+pub fn is_meant(rt: &impl Abort, alloc: Global, net: &Net, p: u16) {
     let (Ok(ops), Some(replica)) = (net.applied(p), net.replica(p)) else {
         panic!(rt; "no replica");
     };
-    assert!(rt; have_distinct_ids(ops.as_slice()));
-    let tree = meaning(alloc, ops.as_slice())?;
-    assert!(rt; same_tree(alloc, &tree, replica.tree()) == Ok(true));
-    Ok(())
+    holds(
+        rt,
+        is_meaning(rt, alloc, ops.as_slice(), replica.tree()) == Ok(true),
+    );
 }
 
-/// The replica's operations mean this tree, which is its own but for empty presence sets.
+/// The replica's operations mean this tree.
 fn means(rt: &impl Abort, alloc: Global, net: &Net, p: u16, want: &str) -> Result<(), AllocError> {
-    is_meant(rt, alloc, net, p)?;
     let Ok(ops) = net.applied(p) else {
         panic!(rt; "no replica");
     };
@@ -105,6 +117,7 @@ fn worked_runs(rt: HostRuntime) -> Result<(), Fail> {
     let alloc = rt.alloc();
     for (scenario, events, p, want) in &ROWS {
         let net = after(&rt, alloc, scenario, events)?;
+        is_meant(&rt, alloc, &net, *p);
         means(&rt, alloc, &net, *p, want)?;
     }
     Ok(())
@@ -129,6 +142,7 @@ fn deep_value(rt: HostRuntime) -> Result<(), Fail> {
     let alloc = rt.alloc();
     let (text, tree) = (deep(alloc)?, deep_tree(alloc)?);
     let net = after(&rt, alloc, text.as_str(), EXECS)?;
+    is_meant(&rt, alloc, &net, 0);
     Ok(means(&rt, alloc, &net, 0, tree.as_str())?)
 }
 
@@ -199,9 +213,9 @@ fn random_networks(rt: HostRuntime) -> Result<(), Fail> {
     for _ in 0..1000u16 {
         let mut net = random_net(alloc, &mut seed)?;
         make_some(&rt, &mut net, 60, &mut seed)?;
-        is_meant(&rt, alloc, &net, 0)?;
-        is_meant(&rt, alloc, &net, 1)?;
-        is_meant(&rt, alloc, &net, 2)?;
+        for p in 0..3 {
+            is_meant(&rt, alloc, &net, p);
+        }
     }
     Ok(())
 }
