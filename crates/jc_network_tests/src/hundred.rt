@@ -1,7 +1,7 @@
 //! More than a hundred operations on one list by four replicas, which apply them in different orders.
 
 use crate::meanings::{is_meant, pick};
-use crate::nets::{holds, make, scene};
+use crate::nets::{after, holds, make, number_of};
 use jc_meaning::{Comparison, compare};
 use jc_network::Net;
 use jc_rules::{Event, Id, Key, Mutation, Next, Op, Tagged};
@@ -38,8 +38,8 @@ fn push_later(alloc: Global, text: &mut String, seed: &mut u64) -> Result<(), Al
     Ok(())
 }
 
-/// The four at their start.
-fn start(alloc: Global, seed: &mut u64) -> Result<Net, Fail> {
+/// A scenario of the four.
+fn scripts(alloc: Global, seed: &mut u64) -> Result<String, AllocError> {
     let mut text = String::from_str(alloc, "jsoncrdt 1")?;
     for begins in [
         " replica a { doc := []; yield",
@@ -53,8 +53,7 @@ fn start(alloc: Global, seed: &mut u64) -> Result<Net, Fail> {
         push_later(alloc, &mut text, seed)?;
         text.push_str("; yield }")?;
     }
-    let scenario = scene(alloc, text.as_str())?;
-    Ok(Net::start(alloc, &scenario)?)
+    Ok(text)
 }
 
 // ---- the run
@@ -62,7 +61,7 @@ fn start(alloc: Global, seed: &mut u64) -> Result<Net, Fail> {
 /// The replica runs its commands up to the next yield.
 fn run(net: &mut Net, p: u16) {
     for _ in 0..40u8 {
-        if net.step(&Event::Exec(p)).is_err() {
+        if number_of(net, &Event::Exec(p)) != 0 {
             return;
         }
     }
@@ -293,7 +292,8 @@ fn all_meet(rt: &impl Abort, alloc: Global, net: &mut Net) -> Result<(), AllocEr
 }
 
 fn expect(rt: &impl Abort, alloc: Global, seed: &mut u64) -> Result<(), Fail> {
-    let mut net = start(alloc, seed)?;
+    let text = scripts(alloc, seed)?;
+    let mut net = after(rt, alloc, text.as_str(), &[])?;
     Ok(all_meet(rt, alloc, &mut net)?)
 }
 

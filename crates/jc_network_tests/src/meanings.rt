@@ -3,7 +3,7 @@
 ghost use Rattle.std.specs.Prelude.{◌<◌};
 
 use crate::nets::{
-    DELETION, EXECS, INSERTS, LISTS, MEETING, PAST_THE_END, after, deep, holds, scene,
+    DELETION, EXECS, INSERTS, LISTS, MEETING, PAST_THE_END, after, deep, holds, make,
 };
 use jc_json::Tree;
 use jc_meaning::{have_distinct_ids, meaning, same_tree};
@@ -182,14 +182,13 @@ fn push_script(text: &mut String, seed: &mut u64) -> Result<(), AllocError> {
 }
 
 /// Three replicas with scripts at random.
-fn random_net(alloc: Global, seed: &mut u64) -> Result<Net, Fail> {
+fn random_text(alloc: Global, seed: &mut u64) -> Result<String, AllocError> {
     let mut text = String::from_str(alloc, "jsoncrdt 1")?;
     for name in [" replica a", " replica b", " replica c"] {
         text.push_str(name)?;
         push_script(&mut text, seed)?;
     }
-    let scenario = scene(alloc, text.as_str())?;
-    Ok(Net::start(alloc, &scenario)?)
+    Ok(text)
 }
 
 /// Makes so many events at random, as long as there are any.
@@ -200,7 +199,7 @@ fn make_some(rt: &impl Abort, net: &mut Net, count: u32, seed: &mut u64) -> Resu
             return Ok(());
         }
         let event = events[pick(seed, events.len())];
-        holds(rt, net.step(&event).is_ok());
+        make(rt, net, &[event]);
     }
     Ok(())
 }
@@ -211,7 +210,8 @@ fn random_networks(rt: HostRuntime) -> Result<(), Fail> {
     let alloc = rt.alloc();
     let mut seed = 1;
     for _ in 0..1000u16 {
-        let mut net = random_net(alloc, &mut seed)?;
+        let text = random_text(alloc, &mut seed)?;
+        let mut net = after(&rt, alloc, text.as_str(), &[])?;
         make_some(&rt, &mut net, 60, &mut seed)?;
         for p in 0..3 {
             is_meant(&rt, alloc, &net, p);
