@@ -2,12 +2,15 @@
 
 ghost use Rattle.std.specs.Prelude.{◌≡◌, All, IfOk};
 ghost use Rattle.jc_rules.specs.Step.{replica_of};
+ghost use Rattle.jc_scenario.specs.Scenarios.{IsWellFormed};
+ghost use Rattle.jc_scenario.specs.Views.{scenario_view};
 ghost use Rattle.jc_lock.specs.Shows.{pass_number};
 ghost use Rattle.jc_runner.specs.Benches.{IsPassAt, IsPassFor, IsNewAt};
 
 use crate::nets::{DELETION, holds, scene};
 use jc_rules::Event;
 use jc_runner::{Bench, BenchFault, CloseRefused, MOST_LIMIT, Pass, Recorded, StepAnswer};
+use jc_scenario::Scenario;
 use std::alloc::Global;
 use std::process::Abort;
 use std::sync::Wait;
@@ -102,18 +105,18 @@ fn is_spent<R: Wait + Abort>(rt: &R, bench: &Bench, pass: Pass, event: Event) ->
 }
 
 // The bench doesn't close with one pass of two, and closes with both.
-fn closed(rt: &impl Abort, alloc: Global, bench: Bench, a: Pass, b: Pass) -> Result<Recorded, Fail>
+fn closed(rt: &impl Abort, alloc: Global, bench: Bench, a: Pass, b: Pass) -> Recorded
     requires { IsPassAt bench a × IsPassAt bench b }
 {
-    let mut one = Vec::with_capacity(alloc, 2)?;
-    one.push_reserved(a);
+    let mut one = Vec::new(alloc);
+    one.push(a).ok().expect(rt, "memory");
     let CloseRefused { bench, mut passes } = match bench.close(one) {
         Ok(_) => panic!(rt; "closed without a pass"),
         Err(refused) => refused,
     };
     passes.push(b).ok().expect(rt, "memory");
     match bench.close(passes) {
-        Ok(recorded) => Ok(recorded),
+        Ok(recorded) => recorded,
         Err(_) => panic!(rt; "not closed"),
     }
 }
@@ -130,7 +133,7 @@ fn steps_are_recorded(rt: HostRuntime) -> Result<(), Fail> {
     let b = makes(&rt, &bench, b, Event::Send(1), 2);
     let b = makes(&rt, &bench, b, Event::Done(1), 3);
     let b = is_spent(&rt, &bench, b, Event::Done(1));
-    let recorded = closed(&rt, alloc, bench, a, b)?;
+    let recorded = closed(&rt, alloc, bench, a, b);
     holds(&rt, recorded.schedule.as_slice() == RECORDED);
     holds(
         &rt,
@@ -150,11 +153,19 @@ fn steps_under_pressure(rt: HostRuntime) -> Result<(), Fail> {
     Ok(())
 }
 
+fn is_too_large(alloc: Global, scenario: Scenario) -> bool
+    requires { IsWellFormed (scenario_view scenario) }
+{
+    matches!(
+        Bench::open(alloc, scenario, MOST_LIMIT + 1),
+        Err(BenchFault::LimitTooLarge)
+    )
+}
+
 #[test]
 fn limits_are_refused(rt: HostRuntime) -> Result<(), Fail> {
     let scenario = scene(rt.alloc(), DELETION)?;
-    let refused = Bench::open(rt.alloc(), scenario, MOST_LIMIT + 1);
-    holds(&rt, matches!(refused, Err(BenchFault::LimitTooLarge)));
+    holds(&rt, is_too_large(rt.alloc(), scenario));
     let (bench, _a, mut b) = opened(&rt, rt.alloc(), MOST_LIMIT)?;
     holds(&rt, bench.count(&mut b) == 0);
     Ok(())

@@ -14,13 +14,43 @@ fn begun(alloc: Global, text: &str) -> Result<Debugger, Fail> {
     Ok(Debugger::new(alloc, scenario)?)
 }
 
-/// The number of the event's refusal: 0 where it is made, and 255 for want of memory.
-fn number_of(debugger: &mut Debugger, event: &Event) -> u8 {
+// ---- outcomes as numbers: 0, the number of a refusal, or 255 for want of memory
+
+fn act(debugger: &mut Debugger, event: &Event) -> u8 {
     match debugger.act(event) {
         Ok(()) => 0,
         Err(ActFault::TooManyEvents) => 19,
         Err(ActFault::Stuck(stuck)) => stuck.number,
         Err(ActFault::Memory) => 255,
+    }
+}
+
+fn step(debugger: &mut Debugger, n: u64) -> u8 {
+    match debugger.step(n) {
+        Ok(()) => 0,
+        Err(StepFault::AtEnd) => 51,
+        Err(StepFault::Stuck(stuck)) => stuck.number,
+        Err(StepFault::Memory) => 255,
+    }
+}
+
+fn goto(debugger: &mut Debugger, n: u64) -> u8 {
+    match debugger.goto(n) {
+        Ok(()) => 0,
+        Err(GotoFault::PastSchedule) => 52,
+        Err(GotoFault::Stuck(stuck)) => stuck.number,
+        Err(GotoFault::Memory) => 255,
+    }
+}
+
+/// The end of a run, which is 0 at the schedule's end and 200 at a breakpoint.
+fn run(debugger: &mut Debugger) -> u8 {
+    match debugger.run() {
+        Ok(RunEnd::End) => 0,
+        Ok(RunEnd::Break(_)) => 200,
+        Ok(RunEnd::Stuck(stuck)) => stuck.number,
+        Err(RunFault::AtEnd) => 51,
+        Err(RunFault::Memory) => 255,
     }
 }
 
@@ -36,7 +66,7 @@ fn break_of(answer: Result<u16, BreakFault>) -> u16 {
 #[test]
 fn missing_replicas(rt: HostRuntime) -> Result<(), Fail> {
     let mut debugger = begun(rt.alloc(), YIELD)?;
-    holds(&rt, number_of(&mut debugger, &Event::Exec(5)) == 37);
+    holds(&rt, act(&mut debugger, &Event::Exec(5)) == 37);
     holds(
         &rt,
         debugger.position() == 0 && debugger.schedule().is_empty(),
@@ -47,7 +77,7 @@ fn missing_replicas(rt: HostRuntime) -> Result<(), Fail> {
 
 fn fill(rt: &impl Abort, debugger: &mut Debugger) {
     for _ in 0..100_000 {
-        holds(rt, debugger.act(&Event::Send(0)).is_ok());
+        holds(rt, act(debugger, &Event::Send(0)) == 0);
     }
 }
 
@@ -55,11 +85,11 @@ fn fill(rt: &impl Abort, debugger: &mut Debugger) {
 fn a_full_schedule(rt: HostRuntime) -> Result<(), Fail> {
     let mut debugger = begun(rt.alloc(), YIELD)?;
     fill(&rt, &mut debugger);
-    holds(&rt, number_of(&mut debugger, &Event::Send(0)) == 19);
-    holds(&rt, number_of(&mut debugger, &Event::Exec(5)) == 19);
+    holds(&rt, act(&mut debugger, &Event::Send(0)) == 19);
+    holds(&rt, act(&mut debugger, &Event::Exec(5)) == 19);
     holds(&rt, debugger.back(99_999) && debugger.position() == 1);
-    holds(&rt, debugger.goto(100_000).is_ok() && debugger.back(1));
-    holds(&rt, number_of(&mut debugger, &Event::Done(0)) == 0);
+    holds(&rt, goto(&mut debugger, 100_000) == 0 && debugger.back(1));
+    holds(&rt, act(&mut debugger, &Event::Done(0)) == 0);
     holds(&rt, debugger.position() == 100_000);
     Ok(())
 }
@@ -98,39 +128,36 @@ fn stays(rt: &impl Abort, debugger: &Debugger, from: u64, to: u64) {
 }
 
 fn steps_to(rt: &impl Abort, debugger: &mut Debugger, n: u64) {
-    if let Err(StepFault::Memory) = debugger.step(n) {
+    if step(debugger, n) == 255 {
         stays(rt, debugger, 0, n);
-        holds(rt, debugger.goto(n).is_ok());
+        holds(rt, goto(debugger, n) == 0);
     }
     holds(rt, debugger.position() == n);
 }
 
 fn goes(rt: &impl Abort, debugger: &mut Debugger, from: u64, to: u64) {
-    if let Err(GotoFault::Memory) = debugger.goto(to) {
+    if goto(debugger, to) == 255 {
         stays(rt, debugger, from, to);
-        holds(rt, debugger.goto(to).is_ok());
+        holds(rt, goto(debugger, to) == 0);
     }
     holds(rt, debugger.position() == to);
 }
 
 fn runs(rt: &impl Abort, debugger: &mut Debugger, from: u64, to: u64) {
-    let mut end = debugger.run();
-    if let Err(RunFault::Memory) = end {
+    let mut end = run(debugger);
+    if end == 255 {
         stays(rt, debugger, from, to);
-        end = debugger.run();
+        end = run(debugger);
     }
-    holds(
-        rt,
-        matches!(end, Ok(RunEnd::End)) && debugger.position() == to,
-    );
+    holds(rt, end == 0 && debugger.position() == to);
 }
 
 fn acts(rt: &impl Abort, debugger: &mut Debugger, event: &Event, from: u64, to: u64) {
     let events = debugger.schedule().len();
-    if number_of(debugger, event) == 255 {
+    if act(debugger, event) == 255 {
         stays(rt, debugger, from, to);
         holds(rt, debugger.schedule().len() == events);
-        holds(rt, number_of(debugger, event) == 0);
+        holds(rt, act(debugger, event) == 0);
     }
     holds(rt, debugger.position() == to);
 }
@@ -144,7 +171,7 @@ fn goes_on_after_refused_memory(rt: HostRuntime) -> Result<(), Fail> {
     goes(&rt, &mut debugger, 1, 4);
     acts(&rt, &mut debugger, &Event::Apply(1, FIRST), 4, 5);
     acts(&rt, &mut debugger, &Event::Apply(1, SECOND_OF_A), 5, 6);
-    holds(&rt, debugger.goto(0).is_ok());
+    holds(&rt, goto(&mut debugger, 0) == 0);
     goes(&rt, &mut debugger, 0, 6);
     holds(&rt, debugger.trace().is_some());
     Ok(())

@@ -1,7 +1,7 @@
 //! More than a hundred operations on one list by four replicas, which apply them in different orders.
 
 use crate::meanings::{is_meant, pick};
-use crate::nets::{holds, scene};
+use crate::nets::{after, holds, make, number_of};
 use jc_meaning::{Comparison, compare};
 use jc_network::Net;
 use jc_rules::{Event, Id, Key, Mutation, Next, Op, Tagged};
@@ -38,8 +38,8 @@ fn push_later(alloc: Global, text: &mut String, seed: &mut u64) -> Result<(), Al
     Ok(())
 }
 
-/// The four at their start.
-fn start(alloc: Global, seed: &mut u64) -> Result<Net, Fail> {
+/// A scenario of the four.
+fn scripts(alloc: Global, seed: &mut u64) -> Result<String, AllocError> {
     let mut text = String::from_str(alloc, "jsoncrdt 1")?;
     for begins in [
         " replica a { doc := []; yield",
@@ -53,20 +53,15 @@ fn start(alloc: Global, seed: &mut u64) -> Result<Net, Fail> {
         push_later(alloc, &mut text, seed)?;
         text.push_str("; yield }")?;
     }
-    let scenario = scene(alloc, text.as_str())?;
-    Ok(Net::start(alloc, &scenario)?)
+    Ok(text)
 }
 
 // ---- the run
 
-fn make(rt: &impl Abort, net: &mut Net, event: Event) {
-    holds(rt, net.step(&event).is_ok());
-}
-
 /// The replica runs its commands up to the next yield.
 fn run(net: &mut Net, p: u16) {
     for _ in 0..40u8 {
-        if net.step(&Event::Exec(p)).is_err() {
+        if number_of(net, &Event::Exec(p)) != 0 {
             return;
         }
     }
@@ -74,7 +69,7 @@ fn run(net: &mut Net, p: u16) {
 
 fn take_all(rt: &impl Abort, net: &mut Net, p: u16) {
     for q in 0..4 {
-        make(rt, net, Event::Recv(p, q));
+        make(rt, net, &[Event::Recv(p, q)]);
     }
 }
 
@@ -106,7 +101,7 @@ fn apply_all(rt: &impl Abort, alloc: Global, net: &mut Net, p: u16) -> Result<()
     for round in 0..100u16 {
         let due = due(alloc, net, p)?;
         match chosen(due.as_slice(), p, round) {
-            Some(event) => make(rt, net, *event),
+            Some(event) => make(rt, net, &[*event]),
             None => return Ok(()),
         }
     }
@@ -117,12 +112,12 @@ fn apply_all(rt: &impl Abort, alloc: Global, net: &mut Net, p: u16) -> Result<()
 fn meet(rt: &impl Abort, alloc: Global, net: &mut Net) -> Result<(), AllocError> {
     for p in 0..4 {
         run(net, p);
-        make(rt, net, Event::Send(p));
+        make(rt, net, &[Event::Send(p)]);
     }
     for p in 0..4 {
         take_all(rt, net, p);
         apply_all(rt, alloc, net, p)?;
-        make(rt, net, Event::Done(p));
+        make(rt, net, &[Event::Done(p)]);
     }
     Ok(())
 }
@@ -246,16 +241,28 @@ fn shown<S: TreeStore>(rt: &impl Abort, alloc: Global, store: &S) -> Result<Vec<
 
 // ---- the test
 
+/// Whether the tree shows the elements that the operations tell, in their order.
+fn is_shown<S: TreeStore>(
+    rt: &impl Abort,
+    alloc: Global,
+    ops: &[Op],
+    tree: &S,
+) -> Result<bool, AllocError> {
+    let ids = expected(alloc, ops)?;
+    Ok(ids == shown(rt, alloc, tree)?)
+}
+
 /// The replica has applied all operations, its tree is what they mean, and its list has the order that they tell.
-fn has_all(rt: &impl Abort, alloc: Global, net: &Net, p: u16) -> Result<(), AllocError> {
-    is_meant(rt, alloc, net, p)?;
+fn has_all(rt: &impl Abort, alloc: Global, net: &Net, p: u16) {
+    is_meant(rt, alloc, net, p);
     let (Ok(ops), Some(replica)) = (net.applied(p), net.replica(p)) else {
         panic!(rt; "no replica");
     };
     holds(rt, ops.len() == 109);
-    let ids = expected(alloc, ops.as_slice())?;
-    holds(rt, ids == shown(rt, alloc, replica.tree())?);
-    Ok(())
+    holds(
+        rt,
+        is_shown(rt, alloc, ops.as_slice(), replica.tree()) == Ok(true),
+    );
 }
 
 fn are_same(rt: &impl Abort, alloc: Global, net: &Net, p: u16, q: u16) {
@@ -272,16 +279,22 @@ fn is_like_all(rt: &impl Abort, alloc: Global, net: &Net, p: u16) {
     }
 }
 
-fn expect(rt: &impl Abort, alloc: Global, seed: &mut u64) -> Result<(), Fail> {
-    let mut net = start(alloc, seed)?;
+/// They meet until all have all operations.
+fn all_meet(rt: &impl Abort, alloc: Global, net: &mut Net) -> Result<(), AllocError> {
     for _ in 0..3u8 {
-        meet(rt, alloc, &mut net)?;
+        meet(rt, alloc, net)?;
     }
     for p in 0..4 {
-        has_all(rt, alloc, &net, p)?;
-        is_like_all(rt, alloc, &net, p);
+        has_all(rt, alloc, net, p);
+        is_like_all(rt, alloc, net, p);
     }
     Ok(())
+}
+
+fn expect(rt: &impl Abort, alloc: Global, seed: &mut u64) -> Result<(), Fail> {
+    let text = scripts(alloc, seed)?;
+    let mut net = after(rt, alloc, text.as_str(), &[])?;
+    Ok(all_meet(rt, alloc, &mut net)?)
 }
 
 #[test]

@@ -11,6 +11,8 @@ mod cut_short;
 #[cfg(test)]
 mod debugging;
 #[cfg(test)]
+mod documents;
+#[cfg(test)]
 mod gates;
 #[cfg(test)]
 mod hundred;

@@ -3,12 +3,13 @@
 ghost use Rattle.std.specs.Prelude.{◌<◌};
 
 use crate::nets::{
-    DELETION, EXECS, INSERTS, LISTS, MEETING, PAST_THE_END, after, deep, holds, scene,
+    DELETION, EXECS, INSERTS, LISTS, MEETING, PAST_THE_END, after, deep, holds, make,
 };
 use jc_json::Tree;
 use jc_meaning::{have_distinct_ids, meaning, same_tree};
 use jc_network::Net;
 use jc_rules::{Event, Op, Text};
+use jc_tree::ArenaTree;
 use std::alloc::{AllocError, Global};
 use std::process::Abort;
 use std::test::Fail;
@@ -30,20 +31,31 @@ fn is_text(rt: &impl Abort, got: &str, want: &str) {
     assert!(rt; got == want, "{got}");
 }
 
+/// Whether the tree is what the operations mean, but for empty presence sets.
+fn is_meaning(
+    rt: &impl Abort,
+    alloc: Global,
+    ops: &[Op],
+    tree: &ArenaTree,
+) -> Result<bool, AllocError> {
+    assert!(rt; have_distinct_ids(ops));
+    let means = meaning(alloc, ops)?;
+    same_tree(alloc, &means, tree)
+}
+
 /// The replica's tree is what its operations mean, but for empty presence sets.
-pub fn is_meant(rt: &impl Abort, alloc: Global, net: &Net, p: u16) -> Result<(), AllocError> {
+pub fn is_meant(rt: &impl Abort, alloc: Global, net: &Net, p: u16) {
     let (Ok(ops), Some(replica)) = (net.applied(p), net.replica(p)) else {
         panic!(rt; "no replica");
     };
-    assert!(rt; have_distinct_ids(ops.as_slice()));
-    let tree = meaning(alloc, ops.as_slice())?;
-    assert!(rt; same_tree(alloc, &tree, replica.tree()) == Ok(true));
-    Ok(())
+    holds(
+        rt,
+        is_meaning(rt, alloc, ops.as_slice(), replica.tree()) == Ok(true),
+    );
 }
 
-/// The replica's operations mean this tree, which is its own but for empty presence sets.
+/// The replica's operations mean this tree.
 fn means(rt: &impl Abort, alloc: Global, net: &Net, p: u16, want: &str) -> Result<(), AllocError> {
-    is_meant(rt, alloc, net, p)?;
     let Ok(ops) = net.applied(p) else {
         panic!(rt; "no replica");
     };
@@ -105,6 +117,7 @@ fn worked_runs(rt: HostRuntime) -> Result<(), Fail> {
     let alloc = rt.alloc();
     for (scenario, events, p, want) in &ROWS {
         let net = after(&rt, alloc, scenario, events)?;
+        is_meant(&rt, alloc, &net, *p);
         means(&rt, alloc, &net, *p, want)?;
     }
     Ok(())
@@ -129,6 +142,7 @@ fn deep_value(rt: HostRuntime) -> Result<(), Fail> {
     let alloc = rt.alloc();
     let (text, tree) = (deep(alloc)?, deep_tree(alloc)?);
     let net = after(&rt, alloc, text.as_str(), EXECS)?;
+    is_meant(&rt, alloc, &net, 0);
     Ok(means(&rt, alloc, &net, 0, tree.as_str())?)
 }
 
@@ -168,14 +182,13 @@ fn push_script(text: &mut String, seed: &mut u64) -> Result<(), AllocError> {
 }
 
 /// Three replicas with scripts at random.
-fn random_net(alloc: Global, seed: &mut u64) -> Result<Net, Fail> {
+fn random_text(alloc: Global, seed: &mut u64) -> Result<String, AllocError> {
     let mut text = String::from_str(alloc, "jsoncrdt 1")?;
     for name in [" replica a", " replica b", " replica c"] {
         text.push_str(name)?;
         push_script(&mut text, seed)?;
     }
-    let scenario = scene(alloc, text.as_str())?;
-    Ok(Net::start(alloc, &scenario)?)
+    Ok(text)
 }
 
 /// Makes so many events at random, as long as there are any.
@@ -186,7 +199,7 @@ fn make_some(rt: &impl Abort, net: &mut Net, count: u32, seed: &mut u64) -> Resu
             return Ok(());
         }
         let event = events[pick(seed, events.len())];
-        holds(rt, net.step(&event).is_ok());
+        make(rt, net, &[event]);
     }
     Ok(())
 }
@@ -197,11 +210,12 @@ fn random_networks(rt: HostRuntime) -> Result<(), Fail> {
     let alloc = rt.alloc();
     let mut seed = 1;
     for _ in 0..1000u16 {
-        let mut net = random_net(alloc, &mut seed)?;
+        let text = random_text(alloc, &mut seed)?;
+        let mut net = after(&rt, alloc, text.as_str(), &[])?;
         make_some(&rt, &mut net, 60, &mut seed)?;
-        is_meant(&rt, alloc, &net, 0)?;
-        is_meant(&rt, alloc, &net, 1)?;
-        is_meant(&rt, alloc, &net, 2)?;
+        for p in 0..3 {
+            is_meant(&rt, alloc, &net, p);
+        }
     }
     Ok(())
 }

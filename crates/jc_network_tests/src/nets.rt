@@ -5,7 +5,7 @@ ghost use Rattle.jc_scenario.specs.Scenarios.{IsWellFormed};
 ghost use Rattle.jc_scenario.specs.Views.{scenario_view};
 
 use jc_dump::dump_replica;
-use jc_network::Net;
+use jc_network::{Net, StepFault};
 use jc_rules::{Event, Id};
 use jc_scenario::{Scenario, ScenarioFault, read};
 use std::alloc::{AllocError, Global};
@@ -89,10 +89,24 @@ pub fn deep(alloc: Global) -> Result<String, AllocError> {
     Ok(text)
 }
 
+/// The number of the event's refusal: 0 where it is made, and 255 where it is told of another event or memory is wanting.
+pub fn number_of(net: &mut Net, event: &Event) -> u8 {
+    match net.step(event) {
+        Ok(_) => 0,
+        Err(StepFault::Full) => 38,
+        Err(StepFault::Stuck(stuck)) => if stuck.event == *event {
+            stuck.number
+        } else {
+            255
+        },
+        Err(StepFault::Memory) => 255,
+    }
+}
+
 /// Makes the events, none of which is refused.
 pub fn make(rt: &impl Abort, net: &mut Net, events: &[Event]) {
     for event in events {
-        holds(rt, net.step(event).is_ok());
+        holds(rt, number_of(net, event) == 0);
     }
 }
 

@@ -1,26 +1,15 @@
 //! Calls of networks: replicas that aren't there, networks that are full, what was applied, and what can be made.
 
 use crate::nets::{
-    DELETION, FIRST, INSERTS, MEETING, SECOND_OF_A, SECOND_OF_B, YIELD, after, holds,
+    DELETION, FIRST, INSERTS, MEETING, SECOND_OF_A, SECOND_OF_B, YIELD, after, holds, number_of,
 };
 use jc_dump::dump_replica;
 use jc_meaning::compare;
-use jc_network::{CompareFault, Net, StepFault};
+use jc_network::{CompareFault, Net};
 use jc_rules::{Event, Id};
 use std::alloc::AllocError;
 use std::process::Abort;
 use std::test::Fail;
-
-fn is_missing(net: &mut Net, event: &Event) -> bool {
-    match net.step(event) {
-        Err(StepFault::Stuck(stuck)) => stuck.number == 37 && stuck.event == *event,
-        _ => false,
-    }
-}
-
-fn is_full(net: &mut Net, event: &Event) -> bool {
-    matches!(net.step(event), Err(StepFault::Full))
-}
 
 /// Each call that asks for a replica by its number is refused where it isn't there.
 #[test]
@@ -28,7 +17,7 @@ fn missing_replicas(rt: HostRuntime) -> Result<(), Fail> {
     let alloc = rt.alloc();
     let mut net = after(&rt, alloc, YIELD, &[])?;
     for event in [Event::Exec(5), Event::Recv(5, 0), Event::Recv(0, 5)] {
-        holds(&rt, is_missing(&mut net, &event));
+        holds(&rt, number_of(&mut net, &event) == 37);
     }
     holds(
         &rt,
@@ -59,7 +48,7 @@ fn missing_replicas(rt: HostRuntime) -> Result<(), Fail> {
 
 fn send(rt: &impl Abort, net: &mut Net, times: u64) {
     for _ in 0..times {
-        holds(rt, net.step(&Event::Send(0)).is_ok());
+        holds(rt, number_of(net, &Event::Send(0)) == 0);
     }
 }
 
@@ -67,8 +56,8 @@ fn send(rt: &impl Abort, net: &mut Net, times: u64) {
 fn full(rt: HostRuntime) -> Result<(), Fail> {
     let mut net = after(&rt, rt.alloc(), YIELD, &[])?;
     send(&rt, &mut net, 100_000);
-    holds(&rt, is_full(&mut net, &Event::Send(0)));
-    holds(&rt, is_full(&mut net, &Event::Exec(5)));
+    holds(&rt, number_of(&mut net, &Event::Send(0)) == 38);
+    holds(&rt, number_of(&mut net, &Event::Exec(5)) == 38);
     holds(&rt, net.steps() == 100_000 && net.undo());
     send(&rt, &mut net, 1);
     Ok(())
@@ -106,7 +95,7 @@ fn tells_what_is_made(net: &mut Net) -> Result<bool, AllocError> {
     let told = net.enabled()?;
     let mut left = told.iter();
     for event in &EVENTS {
-        if net.step(event).is_ok() && !(net.undo() && left.next() == Some(event)) {
+        if number_of(net, event) == 0 && !(net.undo() && left.next() == Some(event)) {
             return Ok(false);
         }
     }

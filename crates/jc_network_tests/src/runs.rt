@@ -197,13 +197,16 @@ const FIRST_OF_BOTH: &[Event] = &[Event::Exec(0), Event::Send(1)];
 
 const FIRST_OF_BOTH_TURNED: &[Event] = &[Event::Send(1), Event::Exec(0)];
 
+fn nothing_is_made(rt: &impl Abort, report: Report) {
+    let nothing = (Some(0), Ends::AtLimit);
+    made_and_ended(rt, &report, &[nothing, nothing]);
+}
+
 /// Each makes one event, in either order.
 #[test]
 fn limits_are_kept(rt: HostRuntime) -> Result<(), Fail> {
     let alloc = rt.alloc();
-    let none = open_run(&rt, alloc, DELETION, 2, 0)?;
-    let nothing = (Some(0), Ends::AtLimit);
-    made_and_ended(&rt, &none, &[nothing, nothing]);
+    nothing_is_made(&rt, open_run(&rt, alloc, DELETION, 2, 0)?);
     let one = open_run(&rt, alloc, DELETION, 2, 1)?;
     let single = (Some(1), Ends::AtLimit);
     made_and_ended(&rt, &one, &[single, single]);

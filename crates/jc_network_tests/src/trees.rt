@@ -128,6 +128,16 @@ fn fill<S: TreeStore>(
     Ok(())
 }
 
+fn are_found<S: TreeStore, T: TreeStore>(
+    rt: &impl Abort,
+    alloc: Global,
+    one: &S,
+    other: &T,
+    same: bool,
+) {
+    assert!(rt; same_tree(alloc, one, other) == Ok(same));
+}
+
 /// Both trees are found the same or not, whichever comes first, and each is found the same as itself.
 fn expect(
     rt: &impl Abort,
@@ -140,10 +150,10 @@ fn expect(
     fill(rt, alloc, &mut left, one)?;
     let mut right = ArenaTree::new(alloc)?;
     fill(rt, alloc, &mut right, other)?;
-    assert!(rt; same_tree(alloc, &left, &right) == Ok(same));
-    assert!(rt; same_tree(alloc, &right, &left) == Ok(same));
-    assert!(rt; same_tree(alloc, &left, &left) == Ok(true));
-    assert!(rt; same_tree(alloc, &right, &right) == Ok(true));
+    are_found(rt, alloc, &left, &right, same);
+    are_found(rt, alloc, &right, &left, same);
+    are_found(rt, alloc, &left, &left, true);
+    are_found(rt, alloc, &right, &right, true);
     Ok(())
 }
 

@@ -21,7 +21,7 @@ fn run_seen(
     let mut before = Vec::new(alloc);
     for event in events {
         before.push(dumps(rt, alloc, net)?)?;
-        holds(rt, net.step(event).is_ok());
+        make(rt, net, &[*event]);
     }
     Ok(before)
 }
@@ -45,22 +45,26 @@ fn expect_before(
 fn there_and_back(
     rt: &impl Abort,
     alloc: Global,
-    text: &str,
+    net: &mut Net,
     events: &[Event],
-) -> Result<(), Fail> {
+) -> Result<(), AllocError> {
+    let before = run_seen(rt, alloc, net, events)?;
+    let last = dumps(rt, alloc, net)?;
+    expect_before(rt, alloc, net, before.as_slice())?;
+    make(rt, net, events);
+    has_dumps(rt, alloc, net, last.as_str())
+}
+
+fn expect(rt: &impl Abort, alloc: Global, text: &str, events: &[Event]) -> Result<(), Fail> {
     let mut net = after(rt, alloc, text, &[])?;
-    let before = run_seen(rt, alloc, &mut net, events)?;
-    let last = dumps(rt, alloc, &net)?;
-    expect_before(rt, alloc, &mut net, before.as_slice())?;
-    make(rt, &mut net, events);
-    Ok(has_dumps(rt, alloc, &net, last.as_str())?)
+    Ok(there_and_back(rt, alloc, &mut net, events)?)
 }
 
 #[test]
 fn steps_are_taken_back(rt: HostRuntime) -> Result<(), Fail> {
     let alloc = rt.alloc();
-    there_and_back(&rt, alloc, DELETION, MEETING)?;
-    there_and_back(&rt, alloc, INSERTS, MEETING)?;
-    there_and_back(&rt, alloc, PAST_THE_END, FIVE)?;
-    there_and_back(&rt, alloc, deep(alloc)?.as_str(), EXECS)
+    expect(&rt, alloc, DELETION, MEETING)?;
+    expect(&rt, alloc, INSERTS, MEETING)?;
+    expect(&rt, alloc, PAST_THE_END, FIVE)?;
+    expect(&rt, alloc, deep(alloc)?.as_str(), EXECS)
 }
