@@ -92,14 +92,15 @@ fn clear_map<S: TreeStore>(
 {
     let tagged = Tagged::MapT(key.copy()?);
     if !store.has(at.as_slice(), &tagged) {
+        drop(tagged);
         trace.push(Rule::ClearNone)?;
         return Ok(Vec::new(alloc));
     }
     let depth = trace.depth();
-    trace.open(Rule::ClearMap1)?;
     at.push(tagged)?;
+    trace.open(Rule::ClearMap1)?;
     let ids = map_in(alloc, store, deps, at, trace)?;
-    at.pop();
+    drop(at.pop());
     trace.close(depth);
     Ok(ids)
 }
@@ -124,8 +125,8 @@ fn map_in<S: TreeStore>(
     let mut ids = Vec::new(alloc);
     let mut last = None;
     while let Some(key) = store.key_after(at.as_slice(), last.as_ref()) {
-        let key = key.copy()?;
         trace.open(Rule::ClearMap2)?;
+        let key = key.copy()?;
         let more = elem_in(alloc, store, deps, at, &key, trace)?;
         ids = united(ids, more.as_slice())?;
         last = Some(key);
@@ -154,14 +155,15 @@ fn clear_list<S: TreeStore>(
 {
     let tagged = Tagged::ListT(key.copy()?);
     if !store.has(at.as_slice(), &tagged) {
+        drop(tagged);
         trace.push(Rule::ClearNone)?;
         return Ok(Vec::new(alloc));
     }
     let depth = trace.depth();
-    trace.open(Rule::ClearList1)?;
     at.push(tagged)?;
+    trace.open(Rule::ClearList1)?;
     let ids = list_in(alloc, store, deps, at, trace)?;
-    at.pop();
+    drop(at.pop());
     trace.close(depth);
     Ok(ids)
 }

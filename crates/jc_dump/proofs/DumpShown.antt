@@ -1,6 +1,6 @@
 -- What is shown of a state.
 use Rattle.std.proofs.Common.{◌≡◌, ℕ, List, [], ◌∷◌, ◌++◌, Some, codes, ap, ◌∙◌, refl}
-use Rattle.serde.specs.Event.{Log, Logs, map_begins, map_ends, field_key}
+use Rattle.serde.specs.Event.{Log, Logs, Sends, Then, map_begins, map_ends, field_key}
 use Rattle.serde.specs.declared.name.Case.TheVariants.{AsIs}
 use Rattle.serde_json.specs.Data.{Data, boolean, number, unsigned, string}
 use Rattle.serde_json.specs.Events.{SendsValue}
@@ -23,21 +23,25 @@ pub line_is : (names : List (List ℕ)) (A : State) (shown : Shown) (tree : Cont
 unfolding dump_line dump_of
 line_is names A shown tree h text line e f = f ∙ ap (λ t. t ++ 10 ∷ []) (e ∙ ap (λ ms. compact_text (object_of ms)) (shown_is names A shown tree h))
 
+-- a member is sent: its name, then its value
+abbrev pub Member : List ℕ → Data → Log → Log → Type 0
+Member name d = Then (Sends (field_key name AsIs)) (SendsValue d)
+
 -- what is sent member by member is the object of what is shown
-pub shown_sent : (names : List (List ℕ)) (shown : Shown) (tree : Context) (old begun k1 v1 k2 v2 k3 v3 k4 v4 k5 v5 k6 v6 k7 v7 k8 v8 k9 v9 end : Log) → Logs old begun (map_begins (Some 9))
-    → Logs begun k1 (field_key (codes "acted") AsIs) → SendsValue (boolean shown.acted) k1 v1
-    → Logs v1 k2 (field_key (codes "left") AsIs) → SendsValue (number (unsigned shown.left)) k2 v2
-    → Logs v2 k3 (field_key (codes "name") AsIs) → SendsValue (string shown.name.now) k3 v3
-    → Logs v3 k4 (field_key (codes "ops") AsIs) → SendsValue (ids_data names shown.ops.now) k4 v4
-    → Logs v4 k5 (field_key (codes "queue") AsIs) → SendsValue (ids_data names shown.queue.now) k5 v5
-    → Logs v5 k6 (field_key (codes "recv") AsIs) → SendsValue (ids_data names shown.recv.now) k6 v6
-    → Logs v6 k7 (field_key (codes "send") AsIs) → SendsValue (ids_data names shown.send.now) k7 v7
-    → Logs v7 k8 (field_key (codes "tree") AsIs) → SendsValue (context_data names tree) k8 v8
-    → Logs v8 k9 (field_key (codes "vars") AsIs) → SendsValue (vars_data names (vars_of shown.vars.now)) k9 v9
-    → Logs v9 end map_ends → SendsValue (object_of (shown_members names shown tree)) old end
+pub shown_sent : (names : List (List ℕ)) (shown : Shown) (tree : Context) (old begun acted left name ops queue recv send root named vars end : Log) → Logs old begun (map_begins (Some 9))
+    → Member (codes "acted") (boolean shown.acted) begun acted
+    → Member (codes "left") (number (unsigned shown.left)) acted left
+    → Member (codes "name") (string shown.name.now) left name
+    → Member (codes "ops") (ids_data names shown.ops.now) name ops
+    → Member (codes "queue") (ids_data names shown.queue.now) ops queue
+    → Member (codes "recv") (ids_data names shown.recv.now) queue recv
+    → Member (codes "send") (ids_data names shown.send.now) recv send
+    → Member (codes "tree") (context_data names tree) send root
+    → Logs root named (field_key (codes "vars") AsIs) → SendsValue (vars_data names (vars_of shown.vars.now)) named vars
+    → Logs vars end map_ends → SendsValue (object_of (shown_members names shown tree)) old end
 unfolding shown_members
-shown_sent names shown tree old begun k1 v1 k2 v2 k3 v3 k4 v4 k5 v5 k6 v6 k7 v7 k8 v8 k9 v9 end b n1 s1 n2 s2 n3 s3 n4 s4 n5 s5 n6 s6 n7 s7 n8 s8 n9 s9 ended =
-    (begun, b, (k1, v1, n1, s1, (k2, v2, n2, s2, (k3, v3, n3, s3, (k4, v4, n4, s4, (k5, v5, n5, s5, (k6, v6, n6, s6, (k7, v7, n7, s7, (k8, v8, n8, s8, (k9, v9, n9, s9, ended))))))))))
+shown_sent names shown tree old begun acted left name ops queue recv send root named vars end b m1 m2 m3 m4 m5 m6 m7 m8 n9 s9 ended =
+    (begun, b, (m1.0, acted, m1.1, m1.2, (m2.0, left, m2.1, m2.2, (m3.0, name, m3.1, m3.2, (m4.0, ops, m4.1, m4.2, (m5.0, queue, m5.1, m5.2, (m6.0, recv, m6.1, m6.2, (m7.0, send, m7.1, m7.2, (m8.0, root, m8.1, m8.2, (named, vars, n9, s9, ended))))))))))
 
 -- an object with one member
 pub one_sent : (k : List ℕ) (d : Data) (old begun named mid end : Log) → Logs old begun (map_begins (Some 1)) → Logs begun named (field_key k AsIs) → SendsValue d named mid → Logs mid end map_ends → SendsValue (object_of ((k, d) ∷ [])) old end

@@ -1,9 +1,11 @@
 //! The dump of a replica's state as one line of JSON.
 
 ghost use Rattle.std.specs.Prelude.{◌≡◌, Ok, IfOk, OnOk, string_bytes};
+ghost use Rattle.serde.specs.Event.{Sends, Then, field_key};
+ghost use Rattle.serde.specs.declared.name.Case.TheVariants.{AsIs};
 ghost use Rattle.serde_json.specs.Events.{SendsValue};
 ghost use Rattle.jc_rules.specs.State.{State};
-ghost use Rattle.jc_json.specs.Json.{object_of};
+ghost use Rattle.jc_json.specs.Json.{ids_data, object_of};
 ghost use Rattle.jc_dump.specs.Dump.{dump_line};
 ghost use Rattle.jc_dump.specs.DumpParts.{shown_members, HasParts};
 
@@ -45,47 +47,55 @@ impl<S: TreeStore> Described for Dump<'_, S> {
 }
 
 impl<S: TreeStore> Serialize for Dump<'_, S> {
+    /// The members stand in the order of their names.
     fn serialize<W: Serializer>(&self, out: &mut W) -> Result<(), W::Error> {
-        send_dump(self.alloc, self.names, self.shown, self.store, out)
+        let shown = self.shown;
+        out.begin_map(Some(9))?;
+        send_member("acted", &shown.acted, out)?;
+        send_member("left", &shown.left, out)?;
+        send_member("name", &shown.name, out)?;
+        send_ids_member(self.alloc, self.names, "ops", shown.ops, out)?;
+        send_ids_member(self.alloc, self.names, "queue", shown.queue, out)?;
+        send_ids_member(self.alloc, self.names, "recv", shown.recv, out)?;
+        send_ids_member(self.alloc, self.names, "send", shown.send, out)?;
+        let tree = Tree {
+            alloc: self.alloc,
+            names: self.names,
+            store: self.store,
+        };
+        send_member("tree", &tree, out)?;
+        out.key("vars")?;
+        send_vars(self.alloc, self.names, shown.vars, out)?;
+        out.end_map()
     }
 }
 
-/// Sends a dump, whose members stand in the order of their names.
-fn send_dump<S: TreeStore, W: Serializer>(
-    alloc: Global,
-    names: &[Text],
-    shown: &Shown,
-    store: &S,
+/// Sends a member of an object: its name, then its value.
+fn send_member<T: Serialize, W: Serializer>(
+    name: &str,
+    value: &T,
     out: &mut W,
 ) -> Result<(), W::Error>
-    ensures { OnOk result (SendsValue (object_of (shown_members names.now shown.now (S.tree store.now).now))
+    ensures { OnOk result (Then (Sends (field_key name.now AsIs)) (T.writes value.now)
         (W.written out.old) (W.written out.new)) }
 {
-    out.begin_map(Some(9))?;
-    out.key("acted")?;
-    out.bool(shown.acted)?;
-    out.key("left")?;
-    out.u64(shown.left as u64)?;
-    out.key("name")?;
-    out.str(shown.name)?;
-    out.key("ops")?;
-    send_ids(alloc, names, shown.ops, out)?;
-    out.key("queue")?;
-    send_ids(alloc, names, shown.queue, out)?;
-    out.key("recv")?;
-    send_ids(alloc, names, shown.recv, out)?;
-    out.key("send")?;
-    send_ids(alloc, names, shown.send, out)?;
-    out.key("tree")?;
-    let tree = Tree {
-        alloc,
-        names,
-        store,
-    };
-    tree.serialize(out)?;
-    out.key("vars")?;
-    send_vars(alloc, names, shown.vars, out)?;
-    out.end_map()
+    out.key(name)?;
+    value.serialize(out)
+}
+
+/// Sends a member whose value is a list of identifiers.
+fn send_ids_member<W: Serializer>(
+    alloc: Global,
+    names: &[Text],
+    name: &str,
+    ids: &[Id],
+    out: &mut W,
+) -> Result<(), W::Error>
+    ensures { OnOk result (Then (Sends (field_key name.now AsIs)) (SendsValue (ids_data names.now ids.now))
+        (W.written out.old) (W.written out.new)) }
+{
+    out.key(name)?;
+    send_ids(alloc, names, ids, out)
 }
 
 /// The text, unless memory ran out: nothing else is refused of a dump.

@@ -14,7 +14,7 @@ use Rattle.jc_replica.specs.Past.{Past, history}
 use Rattle.jc_network.specs.Applied.{applied_ops, IsApplied}
 use Rattle.jc_network.specs.Course.{kept_of, network_of, last_of, back, back_at, earlier_of, course_of, StepsTo}
 use Rattle.jc_network.specs.Laws.{starts}
-use Rattle.jc_network.specs.Makes.{AllHand, HasReplica, Acts}
+use Rattle.jc_network.specs.Makes.{AllHand, AllOwn, HasReplica, Acts}
 use Rattle.jc_network.specs.Run.{IsInRun, AreInRun, CanGoBack, AreBacked, AreNumbered, IsKeptNet}
 use Rattle.jc_network.specs.Seen.{AreSeen, IsAsked}
 use Rattle.jc_network.proofs.Acting.{well, as_many_states, kept_there}
@@ -22,7 +22,8 @@ use Rattle.jc_network.proofs.Applying.{applied_stands}
 use Rattle.jc_network.proofs.Handing.{offered_handed}
 use Rattle.jc_network.proofs.Members.{set_there, set_other}
 use Rattle.jc_network.proofs.Realizing.{seen_is_real}
-use Rattle.jc_network.proofs.Seeing.{steps_on}
+use Rattle.jc_network.proofs.Seeing.{steps_on, of_one}
+use Rattle.jc_replica.specs.Operations.{AreOfOne}
 
 last-end : (A B : State) (As : List State) → last_of A (As ++ B ∷ []) ≡ B
 last-end A B [] = refl
@@ -122,6 +123,7 @@ few_names count is ps h =
 -- the network after it
 record IsStepped (old new : List Past) (event : Event) (rows : Rows) : Type 0 where
   step : Step (network_of old) event (network_of new) rows.rows
+  depth : rows.depth ≡ 0
   run : IsInRun (network_of new) (kept_of new)
 
 step_of : (old new : List Past) (event : Event) (rows : Rows) → IsInRun (network_of old) (kept_of old) → AreNumbered old → Acts event old new (Ok rows) → IsStepped old new event rows
@@ -141,6 +143,7 @@ step_of old new event rows run numbered acts =
     let step = subst (λ M. Step N event M rows.rows) is s.step in
     record {
       step = step;
+      depth = s.depth;
       run = record {
         scripts = run.scripts;
         short = run.short;
@@ -176,6 +179,7 @@ stepped names old new whose more event rows is inv acts =
       kept = subst (λ w. IsKeptNet (length names) w new) (sym turned) kept;
       steps = record {
         step = s.step;
+        depth = s.depth;
         earlier = subst (λ w. earlier_of w new ≡ earlier_of (reverse whose) old ++ network_of old ∷ []) (sym turned) earlier;
         names = refl;
       };
@@ -194,6 +198,13 @@ pub all_hand : (count : ℕ) (is : List ℕ) (ps : List Past) → IsKeptNet coun
 all_hand count is ps h q past e =
     let run = run_now is ps h.runs in
     offered_handed run.scripts (network_of ps) run.reached run.short run.set (kept_of ps) run.seen q past.now (kept_there ps q past e)
+
+-- what each offers is one replica's own
+pub all_own : (count : ℕ) (is : List ℕ) (ps : List Past) → IsKeptNet count is ps → AllOwn ps
+all_own count is ps h q past e =
+    let run = run_now is ps h.runs in
+    let x = run.seen.each q past.now (kept_there ps q past e) in
+    subst AreOfOne (sym (ap (λ (S : State). S.send) x.seen.stands.is)) (of_one q x.at.send (λ o c. ((well run.scripts (network_of ps) run.reached).sets.sent q x.at o x.there c).0))
 
 -- what a replica keeps stands for its state
 pub has_replica : (count : ℕ) (is : List ℕ) (ps : List Past) → IsKeptNet count is ps → (p : ℕ) (past : Past) → slice_get ps p ≡ Some past → HasReplica (network_of ps) p past

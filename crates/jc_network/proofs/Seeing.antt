@@ -95,7 +95,7 @@ kept_own : (q : ℕ) (os : List Op) → ((o : Op) → Contains os o → o.id.rep
 kept_own q [] f = tt
 kept_own q (o ∷ os) f = (f o (first_in o os), kept_own q os (λ x c. f x (later_in x o os c)))
 
-of_one : (q : ℕ) (os : List Op) → ((o : Op) → Contains os o → o.id.replica ≡ q) → AreOfOne (map kept_op os)
+pub of_one : (q : ℕ) (os : List Op) → ((o : Op) → Contains os o → o.id.replica ≡ q) → AreOfOne (map kept_op os)
 of_one q [] f = tt
 of_one q (o ∷ os) f = kept_own o.id.replica os (λ x c. f x (later_in x o os c) ∙ sym (f o (first_in o os)))
 
@@ -226,6 +226,7 @@ module _ (set : List Op) (network kept : List State) (sound : HasSoundOps networ
           is_new = refl;
           is_trace = l.derives.rows;
         };
+        depth = l.derives.depth;
         seen = seen_after (replica_of event) x.at l.now old.now new.now x.there asked.there x.seen l.made l.seen l.queue l.fresh;
       }
 

@@ -32,6 +32,7 @@ started s = record { names = s.names; network = starts s.scripts; earlier = [] }
 -- The event is a step by these rules, and the network before it is kept.
 pub record StepsTo (old : Course) (event : Event) (new : Course) (rows : Rows) : Type 0 where
   pub step : Step old.network event new.network rows.rows
+  pub depth : rows.depth ≡ 0
   pub earlier : new.earlier ≡ old.earlier ++ old.network ∷ []
   pub names : new.names ≡ old.names
 

@@ -13,7 +13,7 @@ use Rattle.jc_rules.specs.Trace.{Rows}
 use Rattle.jc_sets.specs.States.{kept_state}
 use Rattle.jc_replica.specs.declared.fault.ReplicaFault.{ReplicaFault}
 use Rattle.jc_replica.specs.Answers.{Answers, RefusedFor}
-use Rattle.jc_replica.specs.Operations.{AreHanded}
+use Rattle.jc_replica.specs.Operations.{AreHanded, AreOfOne}
 use Rattle.jc_replica.specs.Past.{Past}
 use Rattle.jc_network.specs.declared.fault.StepFault.{StepFault}
 use Rattle.jc_network.specs.declared.fault.StepFault.TheVariants as E
@@ -61,6 +61,10 @@ sent_by (Some past) = past.now.send
 -- what replicas offer may be handed on
 abbrev pub AllHand : List Past → Type 0
 AllHand ps = (q : ℕ) (past : Past) → slice_get ps q ≡ Some past → AreHanded past.now.send
+
+-- what each offers is one replica's own
+abbrev pub AllOwn : List Past → Type 0
+AllOwn ps = (q : ℕ) (past : Past) → slice_get ps q ≡ Some past → AreOfOne past.now.send
 
 -- Replica p answered the event, and no other replica changed.
 pub record Moves (p : ℕ) (event : Event) (read : List Op) (old new : List Past) (result : Result Rows ReplicaFault) : Type 0 where

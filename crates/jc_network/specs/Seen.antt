@@ -38,6 +38,7 @@ pub record StepsOn (network : List State) (event : Event) (rows : Rows) (kept : 
   pub new : List State
   pub set : List Op
   pub step : Step network event new rows.rows
+  pub depth : rows.depth ≡ 0
   pub seen : AreSeen set new kept
 
 -- At the start, where nothing was made, kept states stand for themselves.

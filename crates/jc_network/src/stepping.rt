@@ -6,7 +6,7 @@ ghost use Rattle.jc_rules.specs.declared.refusal.Refusal.TheVariants.{NoSuchRepl
 ghost use Rattle.jc_rules.specs.Refused.{because};
 ghost use Rattle.jc_replica.specs.Answers.{cause_of};
 ghost use Rattle.jc_replica.specs.Operations.{AreHanded};
-ghost use Rattle.jc_network.specs.Makes.{Makes, Acts, Moves, AllHand, HasReplicas, fault_for, stuck_for, sent_by};
+ghost use Rattle.jc_network.specs.Makes.{Makes, Acts, Moves, AllHand, AllOwn, HasReplicas, fault_for, stuck_for, sent_by};
 ghost use Rattle.jc_network.specs.Run.{AreNumbered};
 
 use crate::fault::{StepFault, Stuck};
@@ -61,6 +61,7 @@ pub(crate) fn make(
 ) -> Result<Trace, StepFault>
     requires numbered { AreNumbered replicas.old }
     requires hand { AllHand replicas.old }
+    requires own { AllOwn replicas.old }
     ensures { Makes event.now replicas.old replicas.new result }
 {
     if usize::from(event.replica()) >= replicas.len() {
@@ -85,6 +86,7 @@ fn act(
 ) -> Result<Trace, ReplicaFault>
     requires numbered { AreNumbered replicas.old }
     requires hand { AllHand replicas.old }
+    requires own { AllOwn replicas.old }
     requires there { HasReplicas event.now replicas.old }
     ensures { Acts event.now replicas.old replicas.new result }
 {
@@ -107,6 +109,7 @@ fn receive(
 ) -> Result<Trace, ReplicaFault>
     requires numbered { AreNumbered replicas.old }
     requires hand { AllHand replicas.old }
+    requires own { AllOwn replicas.old }
     requires receiver { p < length replicas.old }
     requires sender { q < length replicas.old }
     ensures { Moves p (Recv p q) (sent_by (slice_get replicas.old q)) replicas.old replicas.new result }

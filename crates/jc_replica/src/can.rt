@@ -65,7 +65,7 @@ impl<S: TreeStore> Replica<S> {
     {
         let mut trace = Trace::new(alloc);
         if self.binds_next()? {
-            let _bound = self.bound_next(alloc, &mut trace)?;
+            drop(self.bound_next(alloc, &mut trace)?);
             return Ok(true);
         }
         let op = self.make_op(alloc, &mut trace)?;

@@ -111,8 +111,9 @@ impl<S: TreeStore> Replica<S> {
         };
         trace.open(Rule::Exec)?;
         trace.open(Rule::Let)?;
+        let copy = name.copy()?;
         let bound = eval(alloc, &self.store, self.vars.as_slice(), expr, trace)?;
-        Ok((name.copy()?, bound))
+        Ok((copy, bound))
     }
 
     /// Runs the next command, which binds a variable.

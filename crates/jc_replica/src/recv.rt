@@ -3,7 +3,7 @@
 ghost use Rattle.std.specs.Prelude.{◌≡◌, ℕ};
 ghost use Rattle.jc_rules.specs.declared.operation.Event.TheVariants as E;
 ghost use Rattle.jc_replica.specs.Answers.{Answers};
-ghost use Rattle.jc_replica.specs.Operations.{AreInOrder, AreHanded};
+ghost use Rattle.jc_replica.specs.Operations.{AreInOrder, AreHanded, AreOfOne};
 
 use crate::fault::ReplicaFault;
 use crate::record::{Change, Record};
@@ -21,6 +21,7 @@ impl<S: TreeStore> Replica<S> {
     pub fn recv(&mut self, alloc: Global, ops: &[Op]) -> Result<Trace, ReplicaFault>
         requires order { AreInOrder ops.now }
         requires handed { AreHanded ops.now }
+        requires own { AreOfOne ops.now }
         ensures { (q : ℕ) → Answers (E.Recv self.old.number q) ops.now self.old self.new result }
     {
         self.at_yield()?;

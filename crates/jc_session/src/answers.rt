@@ -1,10 +1,11 @@
 //! The answers of lines.
 
-ghost use Rattle.std.specs.Prelude.{◌≡◌, ◌++◌, ◌≤◌, ◌<◌, Option, IfOk, IfSome, IfNone, MatchOption, length, string_bytes};
+ghost use Rattle.std.specs.Prelude.{◌≡◌, ◌++◌, ◌≤◌, ◌<◌, ℕ, List, Option, IfOk, IfSome, IfNone, MatchOption, length, string_bytes};
 ghost use Rattle.jc_rules.specs.declared.operation.Event.{Event as AnyEvent};
 ghost use Rattle.jc_rules.specs.Refused.{Cause};
 ghost use Rattle.jc_network.specs.Makes.{stuck_for};
 ghost use Rattle.jc_dump.specs.Lines.{stuck_text, IsNamedStuck};
+ghost use Rattle.jc_parser.specs.Calls.{IsEventOf};
 ghost use Rattle.jc_session.specs.Answers.{IsNamed, IsStrange, IsRefusalAt};
 ghost use Rattle.jc_session.specs.Gives.{AllNamed, Gives, GivesLine, HasRefusal, Spells, set_text};
 ghost use Rattle.jc_session.specs.Requests as Q;
@@ -24,6 +25,7 @@ use jc_network::{Net, Stuck};
 use jc_parser::parse_event;
 use jc_rules::{Event, Refusal, Rule, Text};
 use jc_scenario::resolve;
+use jc_syntax::NamedEvent;
 use std::alloc::{AllocError, Global};
 
 // ---- moves
@@ -130,14 +132,22 @@ fn event_of(alloc: Global, names: &[Text], rest: &str) -> Result<Spelling, Alloc
     requires { length names.now ≤ 64 }
     ensures { IfOk result (λ spelling. Spells names.now rest.now spelling) }
 {
-    let named = match parse_event(alloc, rest) {
-        Ok(named) => named,
+    match parse_event(alloc, rest) {
+        Ok(named) => resolved(alloc, names, &named),
         Err(fault) => {
             let line = fault_line(alloc, fault.number(), fault.place())?;
-            return Ok(Spelling::Refused(line));
+            Ok(Spelling::Refused(line))
         }
-    };
-    match resolve(names, &named) {
+    }
+}
+
+/// What a text spells of which this event was read.
+fn resolved(alloc: Global, names: &[Text], named: &NamedEvent) -> Result<Spelling, AllocError>
+    requires { length names.now ≤ 64 }
+    ensures { IfOk result (λ spelling.
+        (text : List ℕ) → IsEventOf text named.now → Spells names.now text spelling) }
+{
+    match resolve(names, named) {
         Ok(event) => Ok(Spelling::Event(event)),
         Err(unknown) => {
             let line = refused_text(alloc, Refusal::UnknownReplica, unknown.place)?;
@@ -315,22 +325,22 @@ fn reply(
         (λ text. Gives debugger.old (request_view request.entry) debugger.new (string_bytes text))) }
 {
     match request {
-        Request::Step(n) => Ok(Some(step(alloc, debugger, n)?)),
-        Request::Back(n) => Ok(Some(back(alloc, debugger, n)?)),
-        Request::Goto(n) => Ok(Some(goto(alloc, debugger, n)?)),
-        Request::Act(rest) => Ok(Some(act(alloc, debugger, rest)?)),
-        Request::Run => Ok(Some(run(alloc, debugger)?)),
-        Request::BreakAt(n) => Ok(Some(break_at(alloc, debugger, n)?)),
-        Request::BreakRule(name) => Ok(Some(break_rule(alloc, debugger, name)?)),
-        Request::BreakReplica(name) => Ok(Some(break_replica(alloc, debugger, name)?)),
-        Request::Unbreak(k) => Ok(Some(unbreak(alloc, debugger, k)?)),
-        Request::State => Ok(Some(state(alloc, debugger)?)),
-        Request::StateOf(name) => Ok(Some(state_of(alloc, debugger, name)?)),
-        Request::Trace => Ok(Some(trace(alloc, debugger)?)),
-        Request::Enabled => Ok(Some(enabled(alloc, debugger)?)),
-        Request::Schedule => Ok(Some(schedule(alloc, debugger)?)),
-        Request::Position => Ok(Some(position(alloc, debugger)?)),
-        Request::Compare(name, other) => Ok(Some(comparison(alloc, debugger, name, other)?)),
+        Request::Step(n) => step(alloc, debugger, n).map(Some),
+        Request::Back(n) => back(alloc, debugger, n).map(Some),
+        Request::Goto(n) => goto(alloc, debugger, n).map(Some),
+        Request::Act(rest) => act(alloc, debugger, rest).map(Some),
+        Request::Run => run(alloc, debugger).map(Some),
+        Request::BreakAt(n) => break_at(alloc, debugger, n).map(Some),
+        Request::BreakRule(name) => break_rule(alloc, debugger, name).map(Some),
+        Request::BreakReplica(name) => break_replica(alloc, debugger, name).map(Some),
+        Request::Unbreak(k) => unbreak(alloc, debugger, k).map(Some),
+        Request::State => state(alloc, debugger).map(Some),
+        Request::StateOf(name) => state_of(alloc, debugger, name).map(Some),
+        Request::Trace => trace(alloc, debugger).map(Some),
+        Request::Enabled => enabled(alloc, debugger).map(Some),
+        Request::Schedule => schedule(alloc, debugger).map(Some),
+        Request::Position => position(alloc, debugger).map(Some),
+        Request::Compare(name, other) => comparison(alloc, debugger, name, other).map(Some),
         Request::Quit => Ok(None),
     }
 }

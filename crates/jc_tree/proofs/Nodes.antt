@@ -7,16 +7,15 @@ use Rattle.jc_rules.specs.declared.key.Tagged.{Tagged}
 use Rattle.jc_rules.specs.declared.key.Tagged.TheVariants.{MapT, ListT}
 use Rattle.jc_rules.specs.Order.{key_cmp}
 use Rattle.jc_rules.specs.Entries.{keys_of, find, put}
-use Rattle.jc_rules.specs.Context.{Context, context, children, Register, Content, Node, node_of, content, with_content, keys, empty, empty_list}
+use Rattle.jc_rules.specs.Context.{Context, context, children, Register, Content, Node, node_of, content, with_content, keys, empty_list}
 use Rattle.jc_rules.specs.Places.{node_in, node_at, with_node_at, context_at}
 use Rattle.jc_rules.proofs.Places.{listed_children}
 use Rattle.jc_tree.specs.Tree.{least_after}
 use Rattle.jc_tree.specs.Change.{changed_by}
-use Rattle.jc_tree.specs.declared.node.Change.{Change}
 use Rattle.jc_tree.specs.declared.node.Change.TheVariants.{Child}
 use Rattle.jc_tree.specs.declared.node.Former.{Former}
 use Rattle.jc_tree.specs.declared.node.Former.TheVariants as F
-use Rattle.jc_tree.specs.Undo.{removed, former_of, restored_by}
+use Rattle.jc_tree.specs.Undo.{removed, restored_by}
 use Rattle.jc_tree.proofs.Least.{least_of, least_after-append}
 
 module _ (m l : List (Key × Context)) (r : List (Key × Register)) (p : List (Key × List Id)) (n : List (Key × Next)) (s : Context) (v : context (children m) (children l) r p n ≡ s) where
@@ -51,11 +50,8 @@ lent_child o None x g e = rw (g, e) refl
 lent_child o (Some d) x g e = rw (g, e) refl
 
 module _ (m l : List (Key × Context)) (r : List (Key × Register)) (p : List (Key × List Id)) (n : List (Key × Next)) (s : Context) (v : context (children m) (children l) r p n ≡ s) where
-  pub new_map : (c : Change) (t : Tagged) (k : Key) (new : Context) (m2 : List (Key × Context)) → c ≡ Child t → t ≡ MapT k → new ≡ empty → m2 ≡ put key_cmp k new m → context (children m2) (children l) r p n ≡ changed_by c s
-  new_map c t k new m2 a b e w = rw (a, b) (map_with m l r p n s v k empty m2 (rw (← e) w))
-
-  pub new_list : (c : Change) (t : Tagged) (k : Key) (new : Context) (l2 : List (Key × Context)) → c ≡ Child t → t ≡ ListT k → new ≡ empty_list → l2 ≡ put key_cmp k new l → context (children m) (children l2) r p n ≡ changed_by c s
-  new_list c t k new l2 a b e w = rw (a, b) (list_with m l r p n s v k empty_list l2 (rw (← e) w))
+  pub new_list : (k : Key) (new : Context) (l2 : List (Key × Context)) → new ≡ empty_list → l2 ≡ put key_cmp k new l → context (children m) (children l2) r p n ≡ changed_by (Child (ListT k)) s
+  new_list k new l2 e w = list_with m l r p n s v k empty_list l2 (rw (← e) w)
 
   -- a place that begins under a map's key is in that child
   pub map_child : (k : Key) (ks : List Tagged) → node_at (MapT k ∷ ks) s ≢ None → IsSomeAnd (find key_cmp k m) (λ d. node_at ks d ≢ None)
@@ -101,13 +97,6 @@ module _ (m l : List (Key × Context)) (r : List (Key × Register)) (p : List (K
       go : (o : Option Context) → find key_cmp k l ≡ o → IsSomeAnd o (λ d. node_at ks d ≢ None) → IfSome o (λ d. P (context_at ks d)) → P (context_at (ListT k ∷ ks) s)
       go None e t h = absurd t
       go (Some d) e t h = rw (list_content m l r p n s v k, e) h
-
--- what takes it back that a child is made
-pub former_map : (c : Change) (t : Tagged) (k j : Key) (s : Context) → c ≡ Child t → t ≡ MapT k → j ≡ k → F.Map j ≡ former_of c s
-former_map c t k j s a b e = rw (a, b, e) refl
-
-pub former_list : (c : Change) (t : Tagged) (k j : Key) (s : Context) → c ≡ Child t → t ≡ ListT k → j ≡ k → F.List j ≡ former_of c s
-former_list c t k j s a b e = rw (a, b, e) refl
 
 pub if_some : (P : Context → Type 0) (o : Option Context) (d : Context) → o ≡ Some d → P d → IfSome o P
 if_some P None d e h = tt

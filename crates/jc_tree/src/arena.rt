@@ -264,14 +264,15 @@ impl TreeStore for ArenaTree {
         key: &Tagged,
     ) -> Result<Place, AllocError> {
         let number = self.nodes.len();
-        let child = ArenaNode::of_child(self.alloc, key)?;
-        let former = former_of_node(key)?;
-        let copy = key.copy()?;
         self.undos.reserve(1)?;
         self.nodes.reserve(1)?;
+        let name = key.copy()?;
+        let copy = key.copy()?;
+        let child = ArenaNode::of_child(self.alloc, key)?;
         self.nodes[place.number].name_child(copy, NodeId::new(number))?;
         self.nodes.push(child).unwrap();
         let node = NodeId::new(place.number);
+        let former = former_of_node(name);
         self.undos.push(Undo { node, former }).unwrap();
         Ok(Place { number })
     }

@@ -7,6 +7,7 @@ ghost use Rattle.jc_rules.specs.Paths.{HasContext};
 ghost use Rattle.jc_tree.specs.Tree.{least_after, count_present};
 ghost use Rattle.jc_tree.specs.Arena.{blank, new_flat, child_of, is_in, with_number, IsInside, changed_flat, former_of_node, former_of_flat, restored_flat};
 
+use crate::ids::Ids;
 use crate::lists::Pairs;
 use crate::node::{Change, Former, lesser};
 use crate::presences::Presences;
@@ -66,13 +67,13 @@ impl Model for ArenaNode {
 }
 
 /// What takes it back that a node is made under a tagged key.
-pub fn former_of_node(key: &Tagged) -> Result<Former, AllocError>
-    requires { HasContext key.now }
-    ensures { IfOk result (λ former. former ≡ former_of_node key.now) }
+pub fn former_of_node(key: Tagged) -> Former
+    requires { HasContext key }
+    ensures { result ≡ former_of_node key }
 {
     match key {
-        Tagged::MapT(key) => Ok(Former::Map(key.copy()?)),
-        Tagged::ListT(key) => Ok(Former::List(key.copy()?)),
+        Tagged::MapT(key) => Former::Map(key),
+        Tagged::ListT(key) => Former::List(key),
         Tagged::RegT(_) => unreachable!(),
     }
 }
@@ -197,6 +198,37 @@ impl ArenaNode {
         }
     }
 
+    /// Gives the key this register, and gives what takes it back. After a refusal the node is as it was.
+    fn put_register(&mut self, key: Key, pairs: Pairs) -> Result<Former, AllocError>
+        ensures ok { OnOk result (self.new ≡ changed_flat (Change.Register key pairs) self.old) }
+        ensures former { IfOk result (λ former. former ≡ former_of_flat (Change.Register key pairs) self.old) }
+        ensures err { OnErr result (self.new ≡ self.old) }
+    {
+        let copy = key.copy()?;
+        Ok(Former::Register(copy, put_in(&mut self.registers, key, pairs)?))
+    }
+
+    /// Gives the key this presence set, and gives what takes it back. After a refusal the node is as it
+    /// was.
+    fn put_presence(&mut self, key: Key, ids: Ids) -> Result<Former, AllocError>
+        ensures ok { OnOk result (self.new ≡ changed_flat (Change.Presence key ids) self.old) }
+        ensures former { IfOk result (λ former. former ≡ former_of_flat (Change.Presence key ids) self.old) }
+        ensures err { OnErr result (self.new ≡ self.old) }
+    {
+        let copy = key.copy()?;
+        Ok(Former::Presence(copy, self.presences.put(key, ids)?))
+    }
+
+    /// Sets what follows the key, and gives what takes it back. After a refusal the node is as it was.
+    fn put_link(&mut self, key: Key, next: Next) -> Result<Former, AllocError>
+        ensures ok { OnOk result (self.new ≡ changed_flat (Change.Link key next) self.old) }
+        ensures former { IfOk result (λ former. former ≡ former_of_flat (Change.Link key next) self.old) }
+        ensures err { OnErr result (self.new ≡ self.old) }
+    {
+        let copy = key.copy()?;
+        Ok(Former::Link(copy, put_in(&mut self.links, key, next)?))
+    }
+
     /// Makes a change that makes no node, and gives what takes it back. After a refusal the node is
     /// as it was.
     pub fn change(&mut self, change: Change, alloc: Global) -> Result<Former, AllocError>
@@ -207,23 +239,16 @@ impl ArenaNode {
     {
         match change {
             Change::Child(Tagged::RegT(key)) => {
-                let pairs = Pairs::new(Vec::new(alloc));
-                Ok(Former::Register(key.copy()?, put_in(&mut self.registers, key, pairs)?))
+                self.put_register(key, Pairs::new(Vec::new(alloc)))
             }
             Change::Child(Tagged::MapT(_) | Tagged::ListT(_)) => unreachable!(),
             Change::AddId(key, id) => self.presences.add(key, id, alloc),
-            Change::Presence(key, ids) => {
-                Ok(Former::Presence(key.copy()?, self.presences.put(key, ids)?))
-            }
-            Change::Link(key, next) => {
-                Ok(Former::Link(key.copy()?, put_in(&mut self.links, key, next)?))
-            }
+            Change::Presence(key, ids) => self.put_presence(key, ids),
+            Change::Link(key, next) => self.put_link(key, next),
             Change::PutValue(key, id, value) => {
                 put_value_in(&mut self.registers, key, id, value, alloc)
             }
-            Change::Register(key, pairs) => {
-                Ok(Former::Register(key.copy()?, put_in(&mut self.registers, key, pairs)?))
-            }
+            Change::Register(key, pairs) => self.put_register(key, pairs),
         }
     }
 

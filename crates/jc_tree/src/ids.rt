@@ -1,6 +1,6 @@
 //! Presence sets that are changed in place.
 
-ghost use Rattle.std.specs.Prelude.{◌≡◌, not, OnOk, OnErr};
+ghost use Rattle.std.specs.Prelude.{◌≡◌, [], ◌∷◌, not, IfOk, OnOk, OnErr};
 ghost use Rattle.jc_rules.specs.Ids.{AreRising, has_id, with_id};
 ghost use Rattle.jc_rules.specs.Order.{key_cmp};
 ghost use Rattle.jc_rules.specs.Entries.{find, put};
@@ -37,6 +37,15 @@ impl Ids {
         ensures { result ≡ ids.items }
     {
         Ids { ids }
+    }
+
+    /// The set of one identifier.
+    pub fn single(id: Id, alloc: Global) -> Result<Self, AllocError>
+        ensures { IfOk result (λ ids. ids ≡ id ∷ []) }
+    {
+        let mut ids = Vec::new(alloc);
+        ids.push(id)?;
+        Ok(Ids { ids })
     }
 
     pub fn as_slice(&self) -> &[Id]
@@ -102,9 +111,7 @@ pub fn add_to(sets: &mut Vec<(Key, Ids)>, key: Key, id: Id, alloc: Global) -> Re
     match place_of(sets.as_slice(), &key) {
         Ok(i) => sets[i].1.insert(id),
         Err(_) => {
-            let mut ids = Vec::new(alloc);
-            ids.push(id)?;
-            put_value(sets, key, Ids::new(ids))?;
+            put_value(sets, key, Ids::single(id, alloc)?)?;
             Ok(())
         }
     }

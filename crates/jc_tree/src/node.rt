@@ -200,6 +200,75 @@ impl Node {
         key_above(self.links.as_slice(), after)
     }
 
+    /// Puts an empty map under the key, and gives what takes it back. After a refusal the context is as
+    /// it was.
+    #[tactic(auto, using(crate::proofs::Nodes::map_with))]
+    fn make_map(&mut self, key: Key, alloc: Global) -> Result<Former, AllocError>
+        ensures ok { OnOk result (self.new ≡ changed_by (Change.Child (Tagged.MapT key)) self.old) }
+        ensures former { IfOk result (λ former. former ≡ former_of (Change.Child (Tagged.MapT key)) self.old) }
+        ensures err { OnErr result (self.new ≡ self.old) }
+    {
+        let copy = key.copy()?;
+        put_value(&mut self.maps, key, Node::new(alloc))?;
+        Ok(Former::Map(copy))
+    }
+
+    /// Puts an empty list under the key, and gives what takes it back. After a refusal the context is as
+    /// it was.
+    fn make_list(&mut self, key: Key, alloc: Global) -> Result<Former, AllocError>
+        ensures ok { OnOk result (self.new ≡ changed_by (Change.Child (Tagged.ListT key)) self.old) }
+        ensures former { IfOk result (λ former. former ≡ former_of (Change.Child (Tagged.ListT key)) self.old) }
+        ensures err { OnErr result (self.new ≡ self.old) }
+    {
+        let copy = key.copy()?;
+        put_value(&mut self.lists, key, Node::new_list(alloc)?)?;
+        Ok(Former::List(copy))
+    }
+
+    /// Gives the key this register, and gives what takes it back. After a refusal the context is as it
+    /// was.
+    fn put_register(&mut self, key: Key, pairs: Pairs) -> Result<Former, AllocError>
+        ensures ok { OnOk result (self.new ≡ changed_by (Change.Register key pairs) self.old) }
+        ensures former { IfOk result (λ former. former ≡ former_of (Change.Register key pairs) self.old) }
+        ensures err { OnErr result (self.new ≡ self.old) }
+    {
+        let copy = key.copy()?;
+        Ok(Former::Register(copy, put_value(&mut self.registers, key, pairs)?))
+    }
+
+    /// Gives the key this presence set, and gives what takes it back. After a refusal the context is as
+    /// it was.
+    fn put_presence(&mut self, key: Key, ids: Ids) -> Result<Former, AllocError>
+        ensures ok { OnOk result (self.new ≡ changed_by (Change.Presence key ids) self.old) }
+        ensures former { IfOk result (λ former. former ≡ former_of (Change.Presence key ids) self.old) }
+        ensures err { OnErr result (self.new ≡ self.old) }
+    {
+        let copy = key.copy()?;
+        Ok(Former::Presence(copy, put_value(&mut self.presences, key, ids)?))
+    }
+
+    /// Sets what follows the key, and gives what takes it back. After a refusal the context is as it was.
+    fn put_link(&mut self, key: Key, next: Next) -> Result<Former, AllocError>
+        ensures ok { OnOk result (self.new ≡ changed_by (Change.Link key next) self.old) }
+        ensures former { IfOk result (λ former. former ≡ former_of (Change.Link key next) self.old) }
+        ensures err { OnErr result (self.new ≡ self.old) }
+    {
+        let copy = key.copy()?;
+        Ok(Former::Link(copy, put_value(&mut self.links, key, next)?))
+    }
+
+    /// Adds the identifier to the key's presence set, a new one where there is none, and gives what takes
+    /// it back. After a refusal the context is as it was.
+    fn add_id(&mut self, key: Key, id: Id, alloc: Global) -> Result<Former, AllocError>
+        ensures ok { OnOk result (self.new ≡ changed_by (Change.AddId key id) self.old) }
+        ensures former { IfOk result (λ former. former ≡ former_of (Change.AddId key id) self.old) }
+        ensures err { OnErr result (self.new ≡ self.old) }
+    {
+        let former = former_of_id(value_of(self.presences.as_slice(), &key), &key, id)?;
+        add_to(&mut self.presences, key, id, alloc)?;
+        Ok(former)
+    }
+
     /// Changes this context, and gives the entry as it was. After a refusal the context is as it was.
     fn change(&mut self, change: Change, alloc: Global) -> Result<Former, AllocError>
         ensures ok { OnOk result (self.new ≡ changed_by change self.old) }
@@ -207,39 +276,18 @@ impl Node {
         ensures err { OnErr result (self.new ≡ self.old) }
     {
         match change {
-            Change::Child(Tagged::MapT(key)) => {
-                let map = Node::new(alloc);
-                let former = Former::Map(key.copy()?);
-                put_value(&mut self.maps, key, map)?;
-                Ok(former)
-            }
-            Change::Child(Tagged::ListT(key)) => {
-                let list = Node::new_list(alloc)?;
-                let former = Former::List(key.copy()?);
-                put_value(&mut self.lists, key, list)?;
-                Ok(former)
-            }
+            Change::Child(Tagged::MapT(key)) => self.make_map(key, alloc),
+            Change::Child(Tagged::ListT(key)) => self.make_list(key, alloc),
             Change::Child(Tagged::RegT(key)) => {
-                let pairs = Pairs::new(Vec::new(alloc));
-                Ok(Former::Register(key.copy()?, put_value(&mut self.registers, key, pairs)?))
+                self.put_register(key, Pairs::new(Vec::new(alloc)))
             }
-            Change::AddId(key, id) => {
-                let former = former_of_id(value_of(self.presences.as_slice(), &key), &key, id)?;
-                add_to(&mut self.presences, key, id, alloc)?;
-                Ok(former)
-            }
-            Change::Presence(key, ids) => {
-                Ok(Former::Presence(key.copy()?, put_value(&mut self.presences, key, ids)?))
-            }
-            Change::Link(key, next) => {
-                Ok(Former::Link(key.copy()?, put_value(&mut self.links, key, next)?))
-            }
+            Change::AddId(key, id) => self.add_id(key, id, alloc),
+            Change::Presence(key, ids) => self.put_presence(key, ids),
+            Change::Link(key, next) => self.put_link(key, next),
             Change::PutValue(key, id, value) => {
                 put_to(&mut self.registers, key, id, value, alloc)
             }
-            Change::Register(key, pairs) => {
-                Ok(Former::Register(key.copy()?, put_value(&mut self.registers, key, pairs)?))
-            }
+            Change::Register(key, pairs) => self.put_register(key, pairs),
         }
     }
 
@@ -295,7 +343,7 @@ impl Node {
         match first {
             Tagged::MapT(key) => restore_in(&mut self.maps, key, rest, former),
             Tagged::ListT(key) => restore_in(&mut self.lists, key, rest, former),
-            Tagged::RegT(_) => {}
+            Tagged::RegT(_) => drop(former),
         }
     }
 }
@@ -345,8 +393,9 @@ fn restore_in(children: &mut Vec<(Key, Node)>, key: &Key, at: &[Tagged], former:
     ensures absent { find key_cmp key.now children.old.items ≡ None → children.new.items ≡ children.old.items }
     ensures still_sorted { AreSorted children.new.items }
 {
-    if let Ok(i) = place_of(children.as_slice(), key) {
-        children[i].1.restore_at(at, former);
+    match place_of(children.as_slice(), key) {
+        Ok(i) => children[i].1.restore_at(at, former),
+        Err(_) => drop(former),
     }
 }
 

@@ -98,11 +98,9 @@ pub fn add_in(
         };
         return Ok((former, was));
     }
-    let mut ids = Vec::new(alloc);
-    ids.push(id)?;
-    let former = Former::Presence(key.copy()?, None);
-    put_in(sets, key, Ids::new(ids))?;
-    Ok((former, false))
+    let copy = key.copy()?;
+    put_in(sets, key, Ids::single(id, alloc)?)?;
+    Ok((Former::Presence(copy, None), false))
 }
 
 /// Takes the identifier out of the key's set, where there is one. Says whether it was the last one of
@@ -142,11 +140,9 @@ pub fn put_value_in(
         let former = pairs.put(id, value)?;
         return Ok(Former::Value(key, id, former));
     }
-    let mut pairs = Pairs::new(Vec::new(alloc));
-    pairs.put(id, value)?;
-    let former = Former::Register(key.copy()?, None);
-    put_in(registers, key, pairs)?;
-    Ok(former)
+    let copy = key.copy()?;
+    put_in(registers, key, Pairs::single(id, value, alloc)?)?;
+    Ok(Former::Register(copy, None))
 }
 
 /// Gives the identifier the value that it had in the key's register, where there is one. It takes no

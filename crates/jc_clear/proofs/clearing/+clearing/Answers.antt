@@ -223,7 +223,7 @@ pub clear_map-returns-in_err-open-clause-kept : goal.clear_map-returns-in_err-op
 clear_map-returns-in_err-open-clause-kept g t c = nothing _ _ _ _ refl c.in_err-open.ensures.err
 
 pub clear_map-returns-in_err-push-2-clause-kept : goal.clear_map-returns-in_err-push-2-clause-kept
-clear_map-returns-in_err-push-2-clause-kept g t c = rule_opened _ _ _ _ R.ClearMap1 refl c.in_ok-open.ensures.ok
+clear_map-returns-in_err-push-2-clause-kept g t c = nothing _ _ _ _ refl refl
 
 pub clear_map-returns-in_err-ids-clause-kept : goal.clear_map-returns-in_err-ids-clause-kept
 clear_map-returns-in_err-ids-clause-kept g t c = then _ _ _ _ _ _ (rule_opened _ _ _ _ R.ClearMap1 refl c.in_ok-open.ensures.ok) c.in_err-ids.ensures.kept
@@ -244,7 +244,7 @@ pub clear_list-returns-in_err-open-clause-kept : goal.clear_list-returns-in_err-
 clear_list-returns-in_err-open-clause-kept g t c = nothing _ _ _ _ refl c.in_err-open.ensures.err
 
 pub clear_list-returns-in_err-push-2-clause-kept : goal.clear_list-returns-in_err-push-2-clause-kept
-clear_list-returns-in_err-push-2-clause-kept g t c = rule_opened _ _ _ _ R.ClearList1 refl c.in_ok-open.ensures.ok
+clear_list-returns-in_err-push-2-clause-kept g t c = nothing _ _ _ _ refl refl
 
 pub clear_list-returns-in_err-ids-clause-kept : goal.clear_list-returns-in_err-ids-clause-kept
 clear_list-returns-in_err-ids-clause-kept g t c = then _ _ _ _ _ _ (rule_opened _ _ _ _ R.ClearList1 refl c.in_ok-open.ensures.ok) c.in_err-ids.ensures.kept
@@ -268,7 +268,7 @@ pub list_in-returns-clause-kept : goal.list_in-returns-clause-kept
 list_in-returns-clause-kept g t c = then _ _ _ _ _ _ c.loop-place.invariant.kept (then _ _ _ _ _ _ (rule_added _ _ _ _ R.ClearList3 refl c.in_ok-push.ensures.ok) (depth_changed _ _ _ _ _ refl c.close.ensures))
 
 pub map_in-returns-in_err-key-clause-kept : goal.map_in-returns-in_err-key-clause-kept
-map_in-returns-in_err-key-clause-kept g t c = c.loop-key.invariant.kept
+map_in-returns-in_err-key-clause-kept g t c = then _ _ _ _ _ _ c.loop-key.invariant.kept (rule_opened _ _ _ _ R.ClearMap2 refl c.in_ok-open.ensures.ok)
 
 pub map_in-returns-in_err-open-clause-kept : goal.map_in-returns-in_err-open-clause-kept
 map_in-returns-in_err-open-clause-kept g t c = then _ _ _ _ _ _ c.loop-key.invariant.kept (nothing _ _ _ _ refl c.in_err-open.ensures.err)

@@ -1,7 +1,7 @@
 use Rattle.std.proofs.Common.{◌≡◌, ◌<◌, ◌+◌, Some, length, ◌++◌, slice_get, slice_set, slice_index_or, refl, sym, ◌∙◌, ap, subst, arith}
 use Rattle.jc_rules.specs.declared.operation.Event.TheVariants.{Recv}
 use Rattle.jc_replica.specs.Answers.{Answers}
-use Rattle.jc_replica.specs.Operations.{AreHanded}
+use Rattle.jc_replica.specs.Operations.{AreHanded, AreOfOne}
 use Rattle.jc_network.proofs.Acting.{received}
 use Rattle.jc_network.proofs.Halves.{index_get, get_front, get_back, set_front, set_back}
 use Rattle.jc_network.proofs.stepping.receive.Goals as goal
@@ -35,6 +35,20 @@ recv-requires-clause-handed c =
     let other : slice_get ys 0 ≡ Some b = index_get ys 0 _ (omega (arith, whole_len, from, c.requires.sender)) c.index-back-0.is ∙ ap (λ x. Some x) c.index-back-0.is in
     let sender : slice_get whole c.args.q ≡ Some b = rw parts (subst (λ n. slice_get (xs ++ ys) n ≡ Some b) len (get_back xs ys b other)) in
     subst AreHanded (sym c.sent.ensures.sent) (c.requires.hand c.args.q b sender)
+
+pub recv-requires-clause-own : goal.recv-requires-clause-own
+recv-requires-clause-own c =
+    let whole = c.args.replicas.now in
+    let xs = c.split_at_mut-front.result.0.now in
+    let ys = c.split_at_mut-front.result.1.now in
+    let b = slice_index_or ys 0 c.index-back-0.result in
+    let from : c.from-from.result ≡ c.args.q = c.from-from.ensures in
+    let parts : whole ≡ xs ++ ys = c.split_at_mut-front.ensures.value in
+    let len : length xs ≡ c.args.q = c.split_at_mut-front.ensures.front_len ∙ from in
+    let whole_len : length ys + c.from-from.result ≡ length whole = c.split_at_mut-front.ensures.back_len in
+    let other : slice_get ys 0 ≡ Some b = index_get ys 0 _ (omega (arith, whole_len, from, c.requires.sender)) c.index-back-0.is ∙ ap (λ x. Some x) c.index-back-0.is in
+    let sender : slice_get whole c.args.q ≡ Some b = rw parts (subst (λ n. slice_get (xs ++ ys) n ≡ Some b) len (get_back xs ys b other)) in
+    subst AreOfOne (sym c.sent.ensures.sent) (c.requires.own c.args.q b sender)
 
 pub returns-then-to-from-2 : goal.returns-then-to-from-2
 returns-then-to-from-2 c =
@@ -72,6 +86,21 @@ recv-requires-else-to-from-2-clause-handed c =
     let other : slice_get xs c.from-from.result ≡ Some b = index_get xs _ _ (omega (arith, c.if-to-from.false, c.if-to-from-2.false, len, to)) c.index-front-from.is ∙ ap (λ x. Some x) c.index-front-from.is in
     let sender : slice_get whole c.args.q ≡ Some b = rw parts (subst (λ n. slice_get (xs ++ ys) n ≡ Some b) from (get_front xs ys _ b other)) in
     subst AreHanded (sym c.sent-else-to-from-2.ensures.sent) (c.requires.hand c.args.q b sender)
+
+pub recv-requires-else-to-from-2-clause-own : goal.recv-requires-else-to-from-2-clause-own
+recv-requires-else-to-from-2-clause-own c =
+    let whole = c.args.replicas.now in
+    let split = c.split_at_mut-front-else-to-from-2 in
+    let xs = split.result.0.now in
+    let ys = split.result.1.now in
+    let b = slice_index_or xs c.from-from.result c.index-front-from.result in
+    let to : c.from-to.result ≡ c.args.p = c.from-to.ensures in
+    let from : c.from-from.result ≡ c.args.q = c.from-from.ensures in
+    let parts : whole ≡ xs ++ ys = split.ensures.value in
+    let len : length xs ≡ c.args.p = split.ensures.front_len ∙ to in
+    let other : slice_get xs c.from-from.result ≡ Some b = index_get xs _ _ (omega (arith, c.if-to-from.false, c.if-to-from-2.false, len, to)) c.index-front-from.is ∙ ap (λ x. Some x) c.index-front-from.is in
+    let sender : slice_get whole c.args.q ≡ Some b = rw parts (subst (λ n. slice_get (xs ++ ys) n ≡ Some b) from (get_front xs ys _ b other)) in
+    subst AreOfOne (sym c.sent-else-to-from-2.ensures.sent) (c.requires.own c.args.q b sender)
 
 pub returns-else-to-from-2 : goal.returns-else-to-from-2
 returns-else-to-from-2 c =

@@ -1,4 +1,4 @@
-use Rattle.std.proofs.Common.{◌≡◌, Some, None, ◌++◌, ◌∷◌, [], sym, ◌∙◌, ap, subst}
+use Rattle.std.proofs.Common.{◌≡◌, Some, None, sym, ◌∙◌, ap, subst}
 use Rattle.jc_rules.specs.Order.{key_cmp}
 use Rattle.jc_rules.specs.Entries.{find, put}
 use Rattle.jc_rules.specs.Ids.{with_id}
@@ -28,5 +28,5 @@ returns-in_ok-put_value-in-Err-clause-ok c =
     let es = c.args.sets.now.items in
     let belongs = rw c.as_slice.ensures.value at c.in-Err.ensures in
     let absent : find key_cmp c.args.key es ≡ None = find-absent keys_total exact_keys c.args.key es _ belongs in
-    let ids : c.new.result ≡ with_id c.args.id (or_none (find key_cmp c.args.key es)) = c.new.ensures ∙ c.in_ok-push-in-Err.ensures.items ∙ ap (λ l. l ++ c.args.id ∷ []) c.new-ids.ensures.items ∙ ap (λ o. with_id c.args.id (or_none o)) (sym absent) in
+    let ids : c.in_ok-single-in-Err.field-0 ≡ with_id c.args.id (or_none (find key_cmp c.args.key es)) = c.in_ok-single-in-Err.ensures ∙ ap (λ o. with_id c.args.id (or_none o)) (sym absent) in
     c.in_ok-put_value-in-Err.ensures.ok ∙ ap (λ v. put key_cmp c.args.key v es) ids

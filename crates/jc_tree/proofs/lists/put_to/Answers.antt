@@ -38,7 +38,7 @@ returns-in_ok-put_value-in-Err-clause-ok c =
     let es = c.args.registers.now.items in
     let belongs = rw c.as_slice.ensures.value at c.in-Err.ensures in
     let absent : find key_cmp c.args.key es ≡ None = find-absent keys_total exact_keys c.args.key es _ belongs in
-    let new : c.put-in-Err.new.self ≡ put id_cmp c.args.id c.args.value (or_none (find key_cmp c.args.key es)) = c.in_ok-put-in-Err.ensures.ok ∙ ap (λ (r : Register). put id_cmp c.args.id c.args.value r) (c.new-pairs.ensures ∙ c.new.ensures.items) ∙ ap (λ (o : Option Register). put id_cmp c.args.id c.args.value (or_none o)) (sym absent) in
+    let new : c.in_ok-single-in-Err.field-0 ≡ put id_cmp c.args.id c.args.value (or_none (find key_cmp c.args.key es)) = c.in_ok-single-in-Err.ensures ∙ ap (λ (o : Option Register). put id_cmp c.args.id c.args.value (or_none o)) (sym absent) in
     c.in_ok-put_value-in-Err.ensures.ok ∙ ap (λ (r : Register). put key_cmp c.args.key r es) new
 
 pub returns-in_ok-put_value-in-Err-clause-former : goal.returns-in_ok-put_value-in-Err-clause-former

@@ -40,7 +40,7 @@ restore_in-returns-in-Ok-clause-still_sorted t c =
     let stands = rw c.as_slice.ensures.value at c.in-Ok.ensures in
     subst AreSorted (put-standing keys_total exact_keys _ _ _ _ c.restore_at.new.self c.requires.sorted stands c.index_mut.ensures.value) (rising-put keys_total exact_keys c.args.key.now c.restore_at.new.self c.args.children.now.items c.requires.sorted)
 
-pub restore_in-returns-in_default-clause-found : goal.restore_in-returns-in_default-clause-found
-restore_in-returns-in_default-clause-found t c =
-    let belongs = rw c.as_slice.ensures.value at c.in_default.ensures in
+pub restore_in-returns-in-Err-clause-found : goal.restore_in-returns-in-Err-clause-found
+restore_in-returns-in-Err-clause-found t c =
+    let belongs = rw c.as_slice.ensures.value at c.in-Err.ensures in
     rw (find-absent keys_total exact_keys _ _ _ belongs) tt

@@ -1,4 +1,4 @@
-use Rattle.std.proofs.Common.{◌≡◌, Bool, true, false, not, cond, Some, None, Option, List, ◌++◌, ◌∷◌, [], sym, ◌∙◌, ap}
+use Rattle.std.proofs.Common.{◌≡◌, Bool, true, false, not, cond, Some, None, Option, List, sym, ◌∙◌, ap}
 use Rattle.jc_rules.specs.declared.id.Id.{Id}
 use Rattle.jc_rules.specs.declared.key.Key.{Key}
 use Rattle.jc_rules.specs.Order.{key_cmp}
@@ -41,7 +41,7 @@ pub returns-clause-ok : goal.returns-clause-ok
 returns-clause-ok c =
     let es = c.args.sets.now.entries in
     let absent : find key_cmp c.args.key es ≡ None = sym (c.in_default.ensures.value ∙ lookup_is c.args.key es) in
-    let ids : c.new.result ≡ with_id c.args.id (or_none (find key_cmp c.args.key es)) = c.new.ensures ∙ c.in_ok-push.ensures.items ∙ ap (λ l. l ++ c.args.id ∷ []) c.new-ids.ensures.items ∙ ap (λ o. with_id c.args.id (or_none o)) (sym absent) in
+    let ids : c.in_ok-single.field-0 ≡ with_id c.args.id (or_none (find key_cmp c.args.key es)) = c.in_ok-single.ensures ∙ ap (λ o. with_id c.args.id (or_none o)) (sym absent) in
     c.in_ok-put_in.ensures.ok ∙ (λ j. put key_cmp c.args.key (ids j) (c.get_mut.follows.holds-at-none j).entries)
 
 pub returns-clause-former : goal.returns-clause-former

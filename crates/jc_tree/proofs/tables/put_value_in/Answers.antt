@@ -34,7 +34,7 @@ pub returns-clause-ok : goal.returns-clause-ok
 returns-clause-ok c =
     let es = c.args.registers.now.entries in
     let absent : find key_cmp c.args.key es ≡ None = sym (c.in_default.ensures.value ∙ lookup_is c.args.key es) in
-    let new : c.put-2.new.self ≡ put id_cmp c.args.id c.args.value (or_none (find key_cmp c.args.key es)) = c.in_ok-put.ensures.ok ∙ ap (λ (r : Register). put id_cmp c.args.id c.args.value r) (c.new-pairs.ensures ∙ c.new.ensures.items) ∙ ap (λ (o : Option Register). put id_cmp c.args.id c.args.value (or_none o)) (sym absent) in
+    let new : c.in_ok-single.field-0 ≡ put id_cmp c.args.id c.args.value (or_none (find key_cmp c.args.key es)) = c.in_ok-single.ensures ∙ ap (λ (o : Option Register). put id_cmp c.args.id c.args.value (or_none o)) (sym absent) in
     c.in_ok-put_in.ensures.ok ∙ (λ j. put key_cmp c.args.key (new j) (c.get_mut.follows.holds-at-none j).entries)
 
 pub returns-clause-former : goal.returns-clause-former

@@ -4,7 +4,7 @@ use Rattle.jc_network.specs.declared.fault.StepFault.TheVariants as E
 use Rattle.jc_network.specs.Course.{Course, course_of, StepsTo}
 use Rattle.jc_network.specs.Makes.{Makes, IsStuckFor}
 use Rattle.jc_network.proofs.Acting.{never_full, told_stuck, at_err}
-use Rattle.jc_network.proofs.Going.{stepped_whole, all_hand, now_in_run, as_many}
+use Rattle.jc_network.proofs.Going.{stepped_whole, all_hand, all_own, now_in_run, as_many}
 use Rattle.jc_network.proofs.net.Net.step.Goals as goal
 
 -- ---- the number of steps
@@ -43,6 +43,10 @@ returns-clause-full c =
 pub make-requires-clause-hand : goal.make-requires-clause-hand
 make-requires-clause-hand c = λ q past e.
     all_hand (length c.self.inside.names.items) (reverse c.self.inside.whose.items) c.self.inside.replicas.items c.self.invariant q past (subst (λ ps. slice_get ps q ≡ Some past) c.as_mut_slice.ensures.value e)
+
+pub make-requires-clause-own : goal.make-requires-clause-own
+make-requires-clause-own c = λ q past e.
+    all_own (length c.self.inside.names.items) (reverse c.self.inside.whose.items) c.self.inside.replicas.items c.self.invariant q past (subst (λ ps. slice_get ps q ≡ Some past) c.as_mut_slice.ensures.value e)
 
 pub returns-in_err-trace-clause-stuck : goal.returns-in_err-trace-clause-stuck
 returns-in_err-trace-clause-stuck c = λ s e.

@@ -11,7 +11,7 @@ use Rattle.jc_replica.proofs.Opening.{IsFree}
 use Rattle.jc_replica.proofs.replica.Replica.runs.Goals as goal
 
 pub returns-then-branch-clause-ok : goal.returns-then-branch-clause-ok
-returns-then-branch-clause-ok g c = can_bind c.args.self.now _ _ _ _ c.in_ok-_bound.ensures.ok
+returns-then-branch-clause-ok g c = can_bind c.args.self.now _ _ _ _ c.in_ok-bound_next.ensures.ok
 
 pub returns-clause-ok : goal.returns-clause-ok
 returns-clause-ok g c =
