@@ -1,19 +1,32 @@
-//! Tests of networks: runs worked by hand, forwards and backwards, what can be made, and laws.
+//! Tests of networks and of what stands on them: calls that no session of the debugger shows, sessions that are cut
+//! short, and threads. What sessions show is in the rows of `jc_rows`.
 #![tactic(auto)]
 
 #[cfg(test)]
-mod enabling;
+mod benches;
 #[cfg(test)]
-mod expecting;
+mod choices;
 #[cfg(test)]
-mod laws;
+mod cut_short;
 #[cfg(test)]
-mod limits;
+mod debugging;
+#[cfg(test)]
+mod gates;
+#[cfg(test)]
+mod hundred;
+#[cfg(test)]
+mod in_turn;
+#[cfg(test)]
+mod meanings;
 #[cfg(test)]
 mod nets;
 #[cfg(test)]
-mod rows;
+mod networks;
 #[cfg(test)]
-mod steps;
+mod runs;
+#[cfg(test)]
+mod sessions;
+#[cfg(test)]
+mod trees;
 #[cfg(test)]
 mod undoing;

@@ -1,84 +1,142 @@
-//! Networks that are made from texts.
+//! Scenarios, the networks to which their events lead, and what is expected of them.
 
+ghost use Rattle.std.specs.Prelude.{IfOk};
+ghost use Rattle.jc_scenario.specs.Scenarios.{IsWellFormed};
+ghost use Rattle.jc_scenario.specs.Views.{scenario_view};
+
+use jc_dump::dump_replica;
 use jc_network::Net;
 use jc_rules::{Event, Id};
-use jc_scenario::read;
+use jc_scenario::{Scenario, ScenarioFault, read};
 use std::alloc::{AllocError, Global};
 use std::process::Abort;
 use std::test::Fail;
 
 /// One replica deletes a map in which the other one assigns a key.
-pub const DELETION: [&str; 2] = [
-    "doc.get(\"m\") := {}; yield; doc.get(\"m\").delete; yield",
-    "yield; doc.get(\"m\").get(\"k\") := 1; yield",
-];
+pub const DELETION: &str =
+    "jsoncrdt 1 replica a { doc.get(\"m\") := {}; yield; doc.get(\"m\").delete; yield } replica b { yield; doc.get(\"m\").get(\"k\") := 1; yield }";
 
 /// Both insert at the head of a list.
-pub const INSERTS: [&str; 2] = [
-    "doc.get(\"l\") := []; yield; doc.get(\"l\").idx(0).insertAfter(\"x\"); yield",
-    "yield; doc.get(\"l\").idx(0).insertAfter(\"y\"); yield",
-];
+pub const INSERTS: &str =
+    "jsoncrdt 1 replica a { doc.get(\"l\") := []; yield; doc.get(\"l\").idx(0).insertAfter(\"x\"); yield } replica b { yield; doc.get(\"l\").idx(0).insertAfter(\"y\"); yield }";
 
 /// One deletes a number where the other one puts a list.
-pub const LISTS: [&str; 2] = [
-    "doc.get(\"l\") := 1; yield; doc.get(\"l\").delete; yield",
-    "yield; doc.get(\"l\") := []; yield",
+pub const LISTS: &str =
+    "jsoncrdt 1 replica a { doc.get(\"l\") := 1; yield; doc.get(\"l\").delete; yield } replica b { yield; doc.get(\"l\") := []; yield }";
+
+/// A replica alone, whose last command is stuck.
+pub const PAST_THE_END: &str =
+    "jsoncrdt 1 replica a { doc := []; doc.idx(0).insertAfter(\"x\"); doc.idx(1).insertAfter(\"y\"); doc.idx(1).delete; let z = doc.idx(1); let w = doc.idx(2) }";
+
+/// A replica that only yields.
+pub const YIELD: &str = "jsoncrdt 1 replica a { yield }";
+
+/// Commands of a replica alone.
+pub const EXECS: &[Event] = &[Event::Exec(0); 515];
+
+/// The first identifiers of the two replicas that meet.
+pub const FIRST: Id = Id {
+    counter: 1,
+    replica: 0,
+};
+
+pub const SECOND_OF_A: Id = Id {
+    counter: 2,
+    replica: 0,
+};
+
+pub const SECOND_OF_B: Id = Id {
+    counter: 2,
+    replica: 1,
+};
+
+/// The two replicas know the first operation, run a command each, and hand these to each other. One is done then.
+pub const MEETING: &[Event] = &[
+    Event::Exec(0),
+    Event::Send(0),
+    Event::Done(0),
+    Event::Recv(1, 0),
+    Event::Apply(1, FIRST),
+    Event::Done(1),
+    Event::Exec(0),
+    Event::Exec(1),
+    Event::Send(0),
+    Event::Send(1),
+    Event::Recv(0, 1),
+    Event::Recv(1, 0),
+    Event::Apply(0, SECOND_OF_B),
+    Event::Apply(1, SECOND_OF_A),
+    Event::Done(1),
 ];
 
-/// The two replicas know the first operation, run a command each, and hand these to each other.
-const MEETING: &str =
-    "a.exec; a.send; a.done; b.recv(a); b.apply(1, a); b.done; a.exec; b.exec; a.send; b.send; a.recv(b); b.recv(a); a.apply(2, b); b.apply(2, a)";
-
-pub fn id(counter: u64, replica: u16) -> Id {
-    Id { counter, replica }
+pub fn holds(rt: &impl Abort, fact: bool) {
+    assert!(rt; fact);
 }
 
-/// The text of a scenario in which two replicas with these scripts meet.
-pub fn met(alloc: Global, scripts: [&str; 2]) -> Result<String, AllocError> {
-    let [of_a, of_b] = scripts;
-    format!(in alloc;
-        "jsoncrdt 1 replica a {{ {of_a} }} replica b {{ {of_b} }} schedule {{ {MEETING} }}"
-    )
+pub fn scene(alloc: Global, text: &str) -> Result<Scenario, ScenarioFault>
+    ensures { IfOk result (λ s. IsWellFormed (scenario_view s)) }
+{
+    read(alloc, text.as_bytes())
 }
 
-/// The network at its start, and the schedule.
-pub fn begun(alloc: Global, text: &str) -> Result<(Net, Vec<Event>), Fail> {
-    let scenario = read(alloc, text.as_bytes())?;
-    let net = Net::start(alloc, &scenario)?;
-    Ok((net, scenario.schedule.as_slice().to_vec(alloc)?))
-}
-
-/// One replica with this script and no schedule.
-pub fn alone(alloc: Global, script: &str) -> Result<Net, Fail> {
-    let text = format!(in alloc; "jsoncrdt 1 replica a {{ {script} }}")?;
-    let scenario = read(alloc, text.as_bytes())?;
-    Ok(Net::start(alloc, &scenario)?)
+/// A path as long as a path may be, an assignment there, and one above, which takes it back.
+pub fn deep(alloc: Global) -> Result<String, AllocError> {
+    let mut text = String::from_str(alloc, "jsoncrdt 1 replica a { let x = doc; ")?;
+    for _ in 0..512 {
+        text.push_str("let x = x.get(\"a\"); ")?;
+    }
+    text.push_str("x := 1; doc := {} }")?;
+    Ok(text)
 }
 
 /// Makes the events, none of which is refused.
-pub fn run(rt: &impl Abort, net: &mut Net, events: &[Event]) {
+pub fn make(rt: &impl Abort, net: &mut Net, events: &[Event]) {
     for event in events {
-        assert!(rt; net.step(event).is_ok());
+        holds(rt, net.step(event).is_ok());
     }
 }
 
-/// Makes the first of the events.
-pub fn run_first(rt: &impl Abort, net: &mut Net, events: &[Event], count: usize) {
-    for event in events.iter().take(count) {
-        assert!(rt; net.step(event).is_ok());
-    }
+// The network to which the events lead from the scenario's start. None of them is refused.
+fn led_to(
+    rt: &impl Abort,
+    alloc: Global,
+    scenario: &Scenario,
+    events: &[Event],
+) -> Result<Net, AllocError>
+    requires { IsWellFormed (scenario_view scenario.now) }
+{
+    let mut net = Net::start(alloc, scenario)?;
+    make(rt, &mut net, events);
+    Ok(net)
 }
 
-/// Runs so many commands of the first replica.
-pub fn run_commands(rt: &impl Abort, net: &mut Net, commands: u64) {
-    for _ in 0..commands {
-        assert!(rt; net.step(&Event::Exec(0)).is_ok());
-    }
+/// The network after the events, in place of the scenario's schedule.
+pub fn after(rt: &impl Abort, alloc: Global, text: &str, events: &[Event]) -> Result<Net, Fail> {
+    let scenario = scene(alloc, text)?;
+    Ok(led_to(rt, alloc, &scenario, events)?)
 }
 
-/// Takes so many steps back.
-pub fn go_back(rt: &impl Abort, net: &mut Net, steps: u64) {
-    for _ in 0..steps {
-        assert!(rt; net.undo());
+/// The network after the scenario's own schedule.
+pub fn run(rt: &impl Abort, alloc: Global, text: &str) -> Result<Net, Fail> {
+    let scenario = scene(alloc, text)?;
+    Ok(led_to(rt, alloc, &scenario, scenario.schedule.as_slice())?)
+}
+
+/// The dump lines of all replicas.
+pub fn dumps(rt: &impl Abort, alloc: Global, net: &Net) -> Result<String, AllocError> {
+    let mut lines = String::new(alloc);
+    for p in 0..net.names().len() as u16 {
+        match dump_replica(alloc, net, p) {
+            Ok(line) => lines.push_str(line.as_str())?,
+            Err(_) => panic!(rt; "no dump"),
+        }
     }
+    Ok(lines)
+}
+
+/// The network has these dump lines.
+pub fn has_dumps(rt: &impl Abort, alloc: Global, net: &Net, want: &str) -> Result<(), AllocError> {
+    let lines = dumps(rt, alloc, net)?;
+    holds(rt, lines.as_str() == want);
+    Ok(())
 }

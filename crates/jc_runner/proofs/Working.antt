@@ -1,5 +1,5 @@
 -- What a replica's thread knows between two turns.
-use Rattle.std.proofs.Common.{arith, ◌≡◌, ℕ, ◌<◌, List, [], ◌∷◌, ◌++◌, sym, ◌∙◌, ap, subst, length, Option, Some, None}
+use Rattle.std.proofs.Common.{arith, ◌≡◌, ℕ, ◌<◌, ◌+◌, List, [], ◌∷◌, ◌++◌, sym, ◌∙◌, ap, subst, length, Option, Some, None, inr}
 use Rattle.std.proofs.lemmas.List.{length-map}
 use mathlib.Core.List.{IsPrefix}
 use Rattle.jc_rules.specs.declared.operation.Event.{Event}
@@ -21,8 +21,13 @@ use Rattle.jc_runner.specs.Legal.{IsLegal, own_events, IsChosenAfter, AllChosen}
 use Rattle.jc_lock.specs.Shows.{pass_number, pass_origin, pass_seen, pass_mine}
 use Rattle.jc_runner.specs.Benches.{IsPassAt, bench_start}
 use Rattle.jc_runner.specs.declared.bench.Bench.{Bench}
+use Rattle.jc_runner.specs.declared.bench.StepAnswer.{StepAnswer}
+use Rattle.jc_runner.specs.declared.bench.StepAnswer.TheVariants as A
+use Rattle.jc_runner.specs.declared.worker.End.{End}
+use Rattle.jc_runner.specs.declared.worker.End.TheVariants as Ends
 use Rattle.jc_runner.specs.declared.worker.Worked.{Worked}
-use Rattle.jc_runner.specs.Worked.{IsFinishedAfter, IsStuckAfter, EndsWith, IsWorked}
+use Rattle.jc_runner.specs.Answers.{IsAnswered, IsSpent, seen_after}
+use Rattle.jc_runner.specs.Worked.{IsFinishedAfter, IsStuckAfter, EndsWith, IsWorked, end_of}
 use Rattle.jc_runner.proofs.Histories.{chosen_longer, same_number, last_more}
 use Rattle.jc_runner.proofs.Choices.{choice_is, none_chosen}
 
@@ -83,6 +88,32 @@ ended bench p limit w history mine lock number origin own seen owned made all en
       chosen = subst (AllChosen (bench_start bench) p) (sym seen) all;
       ends = subst (λ l. EndsWith (bench_start bench) p limit l (pass_mine w.pass) w.end) (sym seen) (subst (λ l. EndsWith (bench_start bench) p limit history l w.end) (sym same) ends);
     }
+
+-- a thread goes on where the event was made
+pub goes_on : (s : Scenario) (e : Event) (seen mine new_mine history : List Event) (left new_left : ℕ) (a : StepAnswer)
+    → end_of a ≡ None → IsAnswered s e seen mine new_mine left new_left a → seen ≡ seen_after history e a
+    → (seen ≡ history ++ e ∷ []) × (new_mine ≡ mine ++ e ∷ []) × (new_left + 1 ≡ left)
+goes_on s e seen mine new_mine history left new_left (A.Made number trace) none h is = (is, h.0.grew, h.1)
+goes_on s e seen mine new_mine history left new_left (A.Refused front stuck) none h is = cc
+goes_on s e seen mine new_mine history left new_left (A.Full front) none h is = cc
+goes_on s e seen mine new_mine history left new_left A.Memory none h is = cc
+goes_on s e seen mine new_mine history left new_left A.Spent none h is = cc
+
+-- what an answer by which a thread ends says of the history in hand, where the pass's own events are below the limit
+module _ (s : Scenario) (p limit : ℕ) (history mine : List Event) (N : List State) (phase next : Phase) (e : Event)
+    (legal : IsLegal history s N) (own : own_events history p ≡ mine) (at : phase ≡ phase_after (last_of mine)) (is : choice N p phase ≡ Some (e, next)) (low : length mine < limit)
+    (seen old_mine new_mine : List Event) (left new_left : ℕ) where
+  pub ends_by : (a : StepAnswer) (end : End) → end_of a ≡ Some end → (IsSpent a → ⊥) → IsAnswered s e seen old_mine new_mine left new_left a → seen ≡ seen_after history e a
+      → (seen ≡ history) × EndsWith s p limit history mine end
+  ends_by (A.Made number trace) end some waited h same = cc
+  ends_by (A.Refused front stuck) end some waited h same =
+      let other : IsLegal history s h.0.network = subst (λ l. IsLegal l s h.0.network) same h.0.legal in
+      let stuck_after = is_stuck_after s p history mine N phase next e h.0.network stuck legal own at is other h.0.is_stuck in
+      (same, subst (EndsWith s p limit history mine) (same_Some (Ends.StuckAt stuck) end some) (stuck_after, low, subst (λ (l : List Event). length l < 100000) same h.0.room))
+  ends_by (A.Full front) end some waited h same =
+      (same, subst (EndsWith s p limit history mine) (same_Some Ends.LimitReached end some) (inr (ap length (sym same) ∙ h.1)))
+  ends_by A.Memory end some waited h same = (same, subst (EndsWith s p limit history mine) (same_Some Ends.NoMemory end some) tt)
+  ends_by A.Spent end some waited h same = absurd (waited tt)
 
 pub same_start : (r : Recording) (s : Scenario) (o : Option Scenario) → o ≡ Some r.start → o ≡ Some s → r.start ≡ s
 same_start r s o a b = same_Some r.start s (sym a ∙ b)

@@ -1,5 +1,5 @@
 -- What a replica's thread gives back.
-use Rattle.std.specs.Prelude.{◌≡◌, ◌⊎◌, ℕ, ◌<◌, List, [], length, get_or, Some, slice_get}
+use Rattle.std.specs.Prelude.{◌≡◌, ◌⊎◌, ℕ, ◌<◌, List, [], length, get_or, Option, None, Some, slice_get}
 use Rattle.jc_rules.specs.declared.operation.Event.{Event}
 use Rattle.jc_rules.specs.State.{State}
 use Rattle.jc_lock.specs.Shows.{pass_number, pass_origin, pass_seen, pass_mine}
@@ -7,6 +7,8 @@ use Rattle.jc_network.specs.declared.fault.Stuck.{Stuck}
 use Rattle.jc_network.specs.Makes.{IsStuckFor}
 use Rattle.jc_scenario.specs.Scenarios.{Scenario}
 use Rattle.jc_runner.specs.declared.bench.Bench.{Bench}
+use Rattle.jc_runner.specs.declared.bench.StepAnswer.{StepAnswer}
+use Rattle.jc_runner.specs.declared.bench.StepAnswer.TheVariants as A
 use Rattle.jc_runner.specs.declared.worker.End.{End}
 use Rattle.jc_runner.specs.declared.worker.End.TheVariants as N
 use Rattle.jc_runner.specs.declared.worker.Worked.{Worked}
@@ -39,6 +41,14 @@ EndsWith s p limit seen mine (N.StuckAt stuck) =
     IsStuckAfter s p seen stuck × (length mine < limit) × (length seen < 100000)
 EndsWith s p limit seen mine N.LimitReached = (length mine ≡ limit) ⊎ (length seen ≡ 100000)
 EndsWith s p limit seen mine N.NoMemory = Unit {0}
+
+-- How a thread ends by an answer; it goes on where the event was made.
+abbrev pub end_of : StepAnswer → Option End
+end_of (A.Made number trace) = None
+end_of (A.Refused front stuck) = Some (N.StuckAt stuck)
+end_of (A.Full front) = Some N.LimitReached
+end_of A.Memory = Some N.NoMemory
+end_of A.Spent = Some N.LimitReached
 
 -- The pass is back, and its events are those that its replica chose.
 pub record IsWorked (bench : Bench) (p limit : ℕ) (w : Worked) : Type 0 where

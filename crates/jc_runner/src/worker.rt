@@ -1,8 +1,8 @@
 //! The work of one replica's thread.
-ghost use Rattle.std.specs.Prelude.{◌<◌, length};
+ghost use Rattle.std.specs.Prelude.{◌≡◌, ◌<◌, length};
 ghost use Rattle.jc_lock.specs.Shows.{pass_number, pass_left};
 ghost use Rattle.jc_runner.specs.Benches.{IsNewAt, bench_start};
-ghost use Rattle.jc_runner.specs.Worked.{IsWorked};
+ghost use Rattle.jc_runner.specs.Worked.{IsWorked, end_of};
 
 use crate::bench::{Bench, Pass, StepAnswer};
 use crate::choosing::choose;
@@ -35,6 +35,21 @@ pub struct Worked {
     pub(crate) pass: Pass,
     pub(crate) made: u64,
     pub(crate) end: End,
+}
+
+/// How a thread ends by an answer at the bench; `None` where the event was made.
+fn end_of(answer: StepAnswer) -> Option<End>
+    ensures { result ≡ end_of answer }
+{
+    match answer {
+        StepAnswer::Made {
+            number: _,
+            trace: _,
+        } => None,
+        StepAnswer::Refused { front: _, stuck } => Some(End::StuckAt(stuck)),
+        StepAnswer::Full { front: _ } | StepAnswer::Spent => Some(End::LimitReached),
+        StepAnswer::Memory => Some(End::NoMemory),
+    }
 }
 
 /// Makes the events that the replica chooses, until it has no command left, one is stuck, the takes are made or memory
@@ -77,21 +92,11 @@ pub(crate) fn work<R: Wait, G: Gate + Drop>(
         };
         let (back, answer) = bench.make(turn, &event);
         pass = back;
-        let end = match answer {
-            StepAnswer::Made {
-                number: _,
-                trace: _,
-            } => {
-                made += 1;
-                phase = next;
-                continue;
-            }
-            StepAnswer::Refused { front: _, stuck } => End::StuckAt(stuck),
-            StepAnswer::Full { front: _ } => End::LimitReached,
-            StepAnswer::Memory => End::NoMemory,
-            StepAnswer::Spent => unreachable!(),
-        };
-        return Worked { pass, made, end };
+        if let Some(end) = end_of(answer) {
+            return Worked { pass, made, end };
+        }
+        made += 1;
+        phase = next;
     }
     unreachable!()
 }

@@ -9,7 +9,7 @@ use Rattle.clap.specs.ValueTests.{is_unsigned_in}
 use Rattle.clap.proofs.ValueTestLemmas.{accepts-Accepts, Accepts-accepts}
 use Rattle.clap.specs.Words.{Row, Text, first_of}
 use Rattle.clap.specs.declared.builder.value_parser.ValueParser.TheVariants.{Unsigned}
-use Rattle.jc_words.specs.Words.{is_traced, limit_in, limit_of, order_in, task_in, with_file, HasLimitInRange}
+use Rattle.jc_words.specs.Words.{is_traced, limit_in, limit_of, order_in, task_in, with_file, documents, HasLimitInRange}
 use Rattle.jc_words.specs.declared.order.Order.{Order}
 use Rattle.jc_words.specs.declared.order.Task.{Task}
 use Rattle.jc_words.specs.declared.order.Task.TheVariants.{Show, Debug, Threads}
@@ -58,13 +58,18 @@ of_rows : (rows : List Row) → IsInRange (option_map Threads (limit_of rows))
 of_rows rows =
     of_limit (limit_of rows) (λ n e. option_and_then_some limit_in (first_of (codes "limit") rows) n e (λ text _ is. text_in_range text n is))
 
+of_documents : (o : Option ℕ) → IsInRange (option_map documents o)
+of_documents None = none
+of_documents (Some n) = one (documents n) tt
+
 of_task : (name : Text) (rows : List Row) → IsInRange (task_in name rows)
 of_task name rows =
     by_test (bytes_eq name (codes "check")) (one (Show Check) tt)
     (by_test (bytes_eq name (codes "print")) (one (Show Print) tt)
     (by_test (bytes_eq name (codes "run")) (one (Show (Run (is_traced rows))) tt)
+    (by_test (bytes_eq name (codes "view")) (of_documents (limit_of rows))
     (by_test (bytes_eq name (codes "debug")) (one Debug tt)
-    (by_test (bytes_eq name (codes "threads")) (of_rows rows) none))))
+    (by_test (bytes_eq name (codes "threads")) (of_rows rows) none)))))
 
 of_file : (t : Option Task) (file : Option Text) (o : Order) → IsInRange t → with_file t file ≡ Some o → HasLimitInRange o.task
 of_file (Some task) (Some file) o p e =

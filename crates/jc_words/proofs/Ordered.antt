@@ -12,12 +12,12 @@ use Rattle.clap.specs.ValueTests.{is_unsigned_in}
 use Rattle.clap.specs.Walk.{Row, Text, answers_to, finished, first_of, has_row, nothing_held, reading_by, settled, stop_after, walk, walk_from, with_default}
 use Rattle.clap.specs.declared.error.kind.ErrorKind.TheVariants as K
 use Rattle.jc_words.specs.Laws.{FaultlessAreOrders}
-use Rattle.jc_words.specs.Program.{bare, plain_app, program, run_app, threads_app}
-use Rattle.jc_words.specs.Words.{is_traced, limit_of, order_by, order_in, task_in, with_file, words_order}
+use Rattle.jc_words.specs.Program.{bare, plain_app, program, run_app, threads_app, view_app}
+use Rattle.jc_words.specs.Words.{is_traced, limit_of, documents, order_by, order_in, task_in, with_file, words_order}
 use Rattle.jc_words.specs.declared.order.Task.{Task}
 use Rattle.jc_words.specs.declared.order.Task.TheVariants.{Show, Debug, Threads}
 use Rattle.jc_words.specs.declared.order.View.TheVariants.{Check, Print, Run}
-use Rattle.jc_words.proofs.Readable.{AreReadable, Each, IsSound, built_file, built_help, built_limit, built_trace, failed, first_there, found, given_row, neither, row_by_default, sound_file, sound_help, sound_limit, sound_trace, unfilled}
+use Rattle.jc_words.proofs.Readable.{AreReadable, Each, IsSound, built_file, built_at, built_help, built_limit, built_trace, failed, first_there, found, given_row, neither, row_by_default, sound_at, sound_file, sound_help, sound_limit, sound_trace, unfilled}
 use Rattle.jc_words.proofs.Faultless.{of_level}
 
 -- there is a value
@@ -56,6 +56,12 @@ limit_there rows h has =
     let first = first_there (codes "limit") rows h has in
     let number : is_unsigned_in 0 100000 first.0 ≡ true = first.2 in
     (Threads (digits_value 10 (without_leading_plus first.0)), rw (first.1, number) refl)
+
+documents_there : (rows : List Row) → AreReadable rows → has_row (codes "limit") rows ≡ true → IsThere (option_map documents (limit_of rows))
+documents_there rows h has =
+    let first = first_there (codes "limit") rows h has in
+    let number : is_unsigned_in 0 100000 first.0 ≡ true = first.2 in
+    (documents (digits_value 10 (without_leading_plus first.0)), rw (first.1, number) refl)
 
 -- a task and a file are an order
 ordered_by : (t : Option Task) (file : Option Text) → IsThere t → IsThere file → IsThere (with_file t file)
@@ -105,6 +111,20 @@ of_threads =
     orders_by (command threads_app) (sound_limit, (sound_file, (sound_help, tt))) (λ rows e. was_given (is_given (codes "file") rows) e)
     (λ before h. limit_there (fold with_default before (built_limit ∷ built_file ∷ built_help ∷ [])) h (limit_row before))
 
+-- so has the number of events
+at_row : (before : List Row) → has_row (codes "limit") (fold with_default before (built_at ∷ built_file ∷ built_help ∷ [])) ≡ true
+at_row before =
+    let limited = with_default before built_at in
+    let filed = with_default limited built_file in
+    let same = unfilled (has_row (codes "help") filed) filed ∙ unfilled (has_row (codes "file") limited) limited in
+    ap (has_row (codes "limit")) same ∙ row_by_default (codes "limit") (reading_by built_at) (codes "100000" ∷ []) before refl
+
+-- the command `view`
+of_view : Orders (command view_app)
+of_view =
+    orders_by (command view_app) (sound_at, (sound_file, (sound_help, tt))) (λ rows e. was_given (is_given (codes "file") rows) e)
+    (λ before h. documents_there (fold with_default before (built_at ∷ built_file ∷ built_help ∷ [])) h (at_row before))
+
 -- ---- the command that words name
 
 -- the command that was met has an order
@@ -142,7 +162,7 @@ each_command : Each Orders (built program).subs
 unfolding program clap_on_literals
 each_command = (
   of_plain (codes "check") (Show Check) (λ rows. refl),
-  (of_plain (codes "print") (Show Print) (λ rows. refl), (of_run, (of_plain (codes "debug") Debug (λ rows. refl), (of_threads, tt)))),
+  (of_plain (codes "print") (Show Print) (λ rows. refl), (of_run, (of_view, (of_plain (codes "debug") Debug (λ rows. refl), (of_threads, tt))))),
 )
 
 -- a command is wanted

@@ -16,7 +16,7 @@ use Rattle.clap.specs.declared.error.kind.ErrorKind.{ErrorKind}
 use Rattle.clap.specs.declared.parser.matches.ValueSource.{ValueSource}
 use Rattle.clap.specs.declared.parser.matches.ValueSource.TheVariants.{DefaultValue, CommandLine}
 use Rattle.clap.specs.declared.builder.value_parser.ValueParser.TheVariants.{Unsigned}
-use Rattle.jc_words.specs.Program.{file_rule, limit_rule, trace_rule}
+use Rattle.jc_words.specs.Program.{file_rule, limit_rule, at_rule, trace_rule}
 
 -- P holds of each element
 abbrev pub Each : {X : Type 0} → (X → Type 0) → List X → Type 0
@@ -160,6 +160,9 @@ built_trace = with_index 1 (filled trace_rule)
 abbrev pub built_limit : Rule
 built_limit = with_index 1 (filled limit_rule)
 
+abbrev pub built_at : Rule
+built_at = with_index 1 (filled at_rule)
+
 abbrev pub built_help : Rule
 built_help = with_index 1 (filled help_rule)
 
@@ -198,6 +201,21 @@ pub sound_limit : IsSound built_limit
 sound_limit = record {
   by_use = use_of_limit;
   by_default = λ rows h. filled_in (codes "limit") (reading_by built_limit) (codes "10000" ∷ []) rows refl h;
+}
+
+-- so has one of the number of events
+use_of_at : (again : Bool) (values : List Text) (rows : List Row) → use_fault again built_at values rows ≡ [] → AreReadable rows → AreReadable (used built_at values rows)
+use_of_at again [] rows e h = cc
+use_of_at again (v ∷ vs) rows e h =
+    let later = (neither (range_kinds 1 1 (length (v ∷ vs))) _ e).1 in
+    let taken = (neither (repeat_fault again (codes "limit") rows) (values_kinds false (Unsigned 0 100000) (v ∷ vs)) later).1 in
+    let number = passed _ (is_unsigned_in 0 100000 v) (neither _ (values_kinds false (Unsigned 0 100000) vs) taken).0 in
+    replaced (codes "limit") (reading_by built_at) (v ∷ vs) rows number h
+
+pub sound_at : IsSound built_at
+sound_at = record {
+  by_use = use_of_at;
+  by_default = λ rows h. filled_in (codes "limit") (reading_by built_at) (codes "100000" ∷ []) rows refl h;
 }
 
 -- help changes no row

@@ -32,6 +32,18 @@ plain_app name = with_rule (new_app name) file_rule
 abbrev pub run_app : App
 run_app = with_rule (with_rule (new_app (codes "run")) trace_rule) file_rule
 
+-- a number from 0 to 100,000, which is how many events a schedule has at most, and that where it is not said
+abbrev pub at_rule : Rule
+at_rule = record (new_rule (codes "limit")) {
+  long = Some (codes "at");
+  value_names = 1;
+  parser = Some (Unsigned 0 100000);
+  defaults = codes "100000" ∷ [];
+}
+
+abbrev pub view_app : App
+view_app = with_rule (with_rule (new_app (codes "view")) at_rule) file_rule
+
 abbrev pub threads_app : App
 threads_app = with_rule (with_rule (new_app (codes "threads")) limit_rule) file_rule
 
@@ -45,6 +57,6 @@ bare = record { top = bare_shape (new_app (codes "jsoncrdt")).top; subs = [] }
 
 unfoldable pub program : App
 program =
-    with_subcommand (with_subcommand (with_subcommand (with_subcommand (with_subcommand bare
-    (plain_app (codes "check")).top) (plain_app (codes "print")).top) run_app.top) (plain_app (codes "debug")).top)
-    threads_app.top
+    with_subcommand (with_subcommand (with_subcommand (with_subcommand (with_subcommand (with_subcommand bare
+    (plain_app (codes "check")).top) (plain_app (codes "print")).top) run_app.top) view_app.top)
+    (plain_app (codes "debug")).top) threads_app.top

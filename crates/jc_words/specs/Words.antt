@@ -11,7 +11,7 @@ use Rattle.jc_words.specs.Program.{program}
 use Rattle.jc_words.specs.declared.order.Order.{Order}
 use Rattle.jc_words.specs.declared.order.Task.{Task}
 use Rattle.jc_words.specs.declared.order.Task.TheVariants.{Show, Debug, Threads}
-use Rattle.jc_words.specs.declared.order.View.TheVariants.{Check, Print, Run}
+use Rattle.jc_words.specs.declared.order.View.TheVariants.{Check, Print, Run, Document}
 use Rattle.jc_words.specs.declared.fault.WordsFault.{WordsFault}
 use Rattle.jc_words.specs.declared.fault.WordsFault.TheVariants.{Help, Usage, Memory}
 
@@ -25,15 +25,20 @@ limit_in text = if is_unsigned_in 0 100000 text then Some (digits_value 10 (with
 abbrev pub limit_of : List Row → Option ℕ
 limit_of rows = option_and_then limit_in (first_of (codes "limit") rows)
 
+-- the documents after the first events, as many as the number at most
+abbrev pub documents : ℕ → Task
+documents n = Show (Document n)
+
 -- the task of the command with this name, by what the words gave its arguments
 abbrev pub task_in : Text → List Row → Option Task
 task_in name rows =
     if bytes_eq name (codes "check") then Some (Show Check)
     else (if bytes_eq name (codes "print") then Some (Show Print)
     else (if bytes_eq name (codes "run") then Some (Show (Run (is_traced rows)))
+    else (if bytes_eq name (codes "view") then option_map documents (limit_of rows)
     else (if bytes_eq name (codes "debug") then Some Debug
     else (if bytes_eq name (codes "threads") then option_map Threads (limit_of rows)
-    else None))))
+    else None)))))
 
 abbrev pub with_file : Option Task → Option Text → Option Order
 with_file (Some task) (Some file) = Some (record { task = task; file = file })

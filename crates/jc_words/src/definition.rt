@@ -2,9 +2,9 @@
 
 ghost use Rattle.std.specs.Prelude.{◌≡◌, IfOk, false};
 ghost use Rattle.clap.specs.Words.{app_of, rule_of, new_app, with_rule};
-ghost use Rattle.jc_words.specs.Program.{IsLocal, file_rule, plain_app, run_app, threads_app, program};
+ghost use Rattle.jc_words.specs.Program.{IsLocal, file_rule, plain_app, run_app, view_app, threads_app, program};
 
-use crate::help::{CHECK, DEBUG, PRINT, PROGRAM, RUN, THREADS};
+use crate::help::{CHECK, DEBUG, PRINT, PROGRAM, RUN, THREADS, VIEW};
 use clap::builder::ValueParser;
 use clap::{Arg, ArgAction, Command};
 use std::alloc::{AllocError, Global};
@@ -51,6 +51,25 @@ fn run<'a>(alloc: Global) -> Result<Command<'a>, AllocError>
         .arg(file(alloc))
 }
 
+fn view<'a>(alloc: Global) -> Result<Command<'a>, AllocError>
+    ensures shape { IfOk result (λ c. app_of c ≡ view_app) }
+    ensures local { IfOk result IsLocal }
+{
+    let limit = Arg::new(alloc, "limit")
+        .long("at")
+        .value_name("N")
+        .help("How many events of the schedule are made at most, from 0 to 100000")
+        .value_parser(ValueParser::unsigned(0, 100_000))
+        .default_value("100000");
+    Command::new(alloc, "view")
+        .about(
+            "Make the events of the schedule, and print each replica's document as an application sees it",
+        )
+        .after_help(VIEW)
+        .arg(limit)?
+        .arg(file(alloc))
+}
+
 fn threads<'a>(alloc: Global) -> Result<Command<'a>, AllocError>
     ensures shape { IfOk result (λ c. app_of c ≡ threads_app) }
     ensures local { IfOk result IsLocal }
@@ -70,30 +89,11 @@ fn threads<'a>(alloc: Global) -> Result<Command<'a>, AllocError>
         .arg(file(alloc))
 }
 
-/// The whole command line, but for the program's name.
+/// The whole command line, but for the program's name. Each command is made right before it is added,
+/// so that there is one to drop where memory is wanting.
 pub(crate) fn definition<'a>(alloc: Global) -> Result<Command<'a>, AllocError>
     ensures { IfOk result (λ c. app_of c ≡ program) }
 {
-    let check = plain(
-        alloc,
-        "check",
-        "Read the scenario, and print how many replicas, commands and events it has",
-        CHECK,
-    )?;
-    let print = plain(
-        alloc,
-        "print",
-        "Print the scenario in its canonical text",
-        PRINT,
-    )?;
-    let run = run(alloc)?;
-    let debug = plain(
-        alloc,
-        "debug",
-        "Answer the lines of standard input, which go through the schedule and look at the states",
-        DEBUG,
-    )?;
-    let threads = threads(alloc)?;
     let top = Command::new(alloc, "jsoncrdt")
         .bin_name("jsoncrdt")?
         .about("Runs scenarios of a replicated JSON document, and shows each rule that is used")
@@ -101,9 +101,31 @@ pub(crate) fn definition<'a>(alloc: Global) -> Result<Command<'a>, AllocError>
         .no_binary_name(true)
         .disable_help_subcommand(true)
         .subcommand_required(true);
-    top.subcommand(check)?
-        .subcommand(print)?
-        .subcommand(run)?
-        .subcommand(debug)?
-        .subcommand(threads)
+    let check = plain(
+        alloc,
+        "check",
+        "Read the scenario, and print how many replicas, commands and events it has",
+        CHECK,
+    )?;
+    let top = top.subcommand(check)?;
+    let print = plain(
+        alloc,
+        "print",
+        "Print the scenario in its canonical text",
+        PRINT,
+    )?;
+    let top = top.subcommand(print)?;
+    let run = run(alloc)?;
+    let top = top.subcommand(run)?;
+    let view = view(alloc)?;
+    let top = top.subcommand(view)?;
+    let debug = plain(
+        alloc,
+        "debug",
+        "Answer the lines of standard input, which go through the schedule and look at the states",
+        DEBUG,
+    )?;
+    let top = top.subcommand(debug)?;
+    let threads = threads(alloc)?;
+    top.subcommand(threads)
 }

@@ -1,7 +1,7 @@
 //! What help says beside the lists of commands and options.
 
 /// The command line in one line, where its parser has no text.
-pub(crate) const BRIEF: &str = "Usage: jsoncrdt <check|print|run|debug|threads> <FILE>\n";
+pub(crate) const BRIEF: &str = "Usage: jsoncrdt <check|print|run|view|debug|threads> <FILE>\n";
 
 /// The help of the program.
 pub(crate) const PROGRAM: &str =
@@ -88,6 +88,31 @@ prints the state of replica a after its only event:\n  \
 {\"acted\":false,\"left\":0,\"name\":\"a\",\"ops\":[\"1@a\"],\"queue\":[\"1@a\"],\"recv\":[],\"send\":[],\"tree\":{\"mapT(doc)\":{\"pres(\\\"a\\\")\":[\"1@a\"],\"regT(\\\"a\\\")\":{\"1@a\":{\"n\":\"1\"}}},\"pres(doc)\":[\"1@a\"]},\"vars\":{}}\n\
 With --trace the rules of that event come first, EXEC, MAKE-ASSIGN, GET, DOC and so on,\n\
 each with its depth.\n\
+\n\
+Statuses:\n  \
+0  done, also after help\n  \
+1  the scenario's text was refused; the line printed says why and where\n  \
+2  the words are no command\n  \
+3  an event was stuck, since no rule allows it; the last line says why\n  \
+4  a read or a write failed\n  \
+5  there was no memory";
+
+/// The help of `view`.
+pub(crate) const VIEW: &str = "A scenario is a text with a script of commands for each replica,\n\
+and a schedule of the events that run them.\n\
+\n\
+Prints a line of JSON for each replica, with its document after the first N events, or after all.\n\
+Where more than one thing stands at a place, all are shown, and none wins:\n  \
+{\"!conflict\":{\"list\":[..],\"map\":{..},\"values\":[[\"ID\",VALUE],..]}}\n\
+A name that begins with ! is shown with one more ! in front. A replica without a document has no\n\
+member doc.\n\
+\n\
+Example:\n  \
+echo 'jsoncrdt 1 replica a { doc.get(\"a\") := 1 } schedule { a.exec }' | jsoncrdt view -\n\
+prints the document of replica a after its only event:\n  \
+{\"doc\":{\"a\":1},\"name\":\"a\"}\n\
+With --at 0 it prints\n  \
+{\"name\":\"a\"}\n\
 \n\
 Statuses:\n  \
 0  done, also after help\n  \

@@ -14,6 +14,11 @@ pub enum View {
         /// Whether the rules of each event are shown too.
         trace: bool,
     },
+    /// Each replica's document after the first events, as an application sees it.
+    Document {
+        /// How many events are made at most.
+        events: u64,
+    },
 }
 
 /// What is done with a scenario.

@@ -52,7 +52,7 @@ fn limit_in(text: &str) -> Option<u64>
     }
 }
 
-/// How many events each replica makes at most.
+/// How many events are made at most, in all or by each replica.
 fn limit_of(matches: &ArgMatches<'_>) -> Option<u64>
     ensures { result ≡ limit_of (rows_of (found_of matches.now)) }
 {
@@ -72,6 +72,10 @@ fn task_of(name: &str, matches: &ArgMatches<'_>) -> Option<Task>
         "run" => Some(Task::Show(View::Run {
             trace: has_trace(matches),
         })),
+        "view" => match limit_of(matches) {
+            Some(events) => Some(Task::Show(View::Document { events })),
+            None => None,
+        },
         "debug" => Some(Task::Debug),
         "threads" => match limit_of(matches) {
             Some(limit) => Some(Task::Threads { limit }),

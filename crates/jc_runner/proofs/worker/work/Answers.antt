@@ -6,16 +6,14 @@ use Rattle.jc_runner.specs.Benches.{bench_start}
 use Rattle.jc_runner.specs.Phases.{last_of, phase_after}
 use Rattle.jc_runner.specs.Chosen.{choice}
 use Rattle.jc_runner.specs.Legal.{IsLegal, own_events, AllChosen}
-use Rattle.jc_runner.specs.declared.bench.StepAnswer.{StepAnswer}
 use Rattle.jc_runner.specs.Answers.{IsAnswered, seen_after}
 use Rattle.jc_runner.specs.declared.worker.Worked.{Worked}
 use Rattle.jc_runner.specs.declared.worker.End.TheVariants as N
 use Rattle.jc_runner.specs.Worked.{IsWorked, EndsWith}
 use Rattle.jc_runner.proofs.Histories.{chosen_none, chosen_more}
 use Rattle.jc_runner.proofs.Choices.{choice_is}
-use Rattle.jc_runner.proofs.Working.{same_start, in_hand, still_chosen, chosen_now, is_next, is_finished, is_stuck_after, ended}
+use Rattle.jc_runner.proofs.Working.{same_start, in_hand, still_chosen, chosen_now, is_next, is_finished, goes_on, ends_by, ended}
 use Rattle.jc_runner.proofs.worker.work.Goals as goal
-use Rattle.jc_runner.proofs.worker.work.Goals.{in-Refused, in-Full, in-Memory}
 
 pub loop-init : goal.loop-init
 loop-init g c =
@@ -73,10 +71,10 @@ loop-preserved g c =
     let is : choice network p c.loop.phase ≡ Some (e, next) = sym c.choose.ensures ∙ c.in-Some-choose.is in
     let m = c.make-back.ensures in
     let new = c.make-back.result.0 in
+    let a = c.make-back.result.1 in
     let number : pass_number new ≡ p = m.number.0 ∙ (ok.number.0 ∙ inv.number) in
-    let made = subst (IsAnswered (turn_value c.in-Ok.turn).start e (pass_seen new) (turn_mine c.in-Ok.turn) (pass_mine new) (turn_left c.in-Ok.turn + 1) (pass_left new)) c.in-Made.is m.answer in
-    let grown : pass_seen new ≡ history ++ e ∷ [] = m.list ∙ (ap (seen_after (turn_seen c.in-Ok.turn) e) c.in-Made.is ∙ ap (λ l. l ++ e ∷ []) ok.list.0) in
-    let mine : pass_mine new ≡ pass_mine c.loop.pass ++ e ∷ [] = made.0.grew ∙ ap (λ l. l ++ e ∷ []) ok.mine.0 in
+    let made = goes_on (turn_value c.in-Ok.turn).start e (pass_seen new) (turn_mine c.in-Ok.turn) (pass_mine new) history (turn_left c.in-Ok.turn + 1) (pass_left new) a (sym c.end_of.ensures ∙ c.in_default.is) m.answer (m.list ∙ ap (λ h. seen_after h e a) ok.list.0) in
+    let mine : pass_mine new ≡ pass_mine c.loop.pass ++ e ∷ [] = made.1 ∙ ap (λ l. l ++ e ∷ []) ok.mine.0 in
     record {
       of_bench = m.lock;
       number = number;
@@ -85,11 +83,11 @@ loop-preserved g c =
       made = omega (arith, ap length mine, length-append (pass_mine c.loop.pass) (e ∷ []), inv.made);
       takes = omega (arith, m.left, ok.number.1, inv.takes);
       phase = is_next p (pass_mine c.loop.pass) network c.loop.phase next e is ∙ ap (λ l. phase_after (last_of l)) (sym mine);
-      chosen = subst (AllChosen s p) (sym grown) (chosen_more s p history e all (chosen_now s p history (pass_mine c.loop.pass) network c.loop.phase next e legal owned inv.phase is));
+      chosen = subst (AllChosen s p) (sym made.0) (chosen_more s p history e all (chosen_now s p history (pass_mine c.loop.pass) network c.loop.phase next e legal owned inv.phase is));
     }
 
-pub returns-in-loop : goal.returns-in-loop
-returns-in-loop g c =
+pub returns-in-Some-end_of : goal.returns-in-Some-end_of
+returns-in-Some-end_of g c =
     let inv = c.loop.invariant in
     let ok = c.in-Ok.ensures in
     let s = bench_start c.args.bench.now in
@@ -105,27 +103,12 @@ returns-in-loop g c =
     let is : choice network p c.loop.phase ≡ Some (e, next) = sym c.choose.ensures ∙ c.in-Some-choose.is in
     let m = c.make-back.ensures in
     let new = c.make-back.result.0 in
+    let a = c.make-back.result.1 in
     let number : pass_number new ≡ p = m.number.0 ∙ (ok.number.0 ∙ inv.number) in
     let limit = pass_left c.args.pass in
-    let answered = λ (a : StepAnswer) (is : c.make-back.result.1 ≡ a). subst (IsAnswered (turn_value c.in-Ok.turn).start e (pass_seen new) (turn_mine c.in-Ok.turn) (pass_mine new) (turn_left c.in-Ok.turn + 1) (pass_left new)) is m.answer in
-    let worked : Worked = record { pass = new; made = c.loop.made; end = c.match-answer.end } in
-    let done = λ (seen : pass_seen new ≡ history) (ends : EndsWith s p limit history (pass_mine c.loop.pass) c.match-answer.end).
+    let answered = subst (λ t. IsAnswered t e (pass_seen new) (turn_mine c.in-Ok.turn) (pass_mine new) (turn_left c.in-Ok.turn + 1) (pass_left new) a) same m.answer in
+    let worked : Worked = record { pass = new; made = c.loop.made; end = c.in-Some-end_of.end } in
+    let by =
+    ends_by s p limit history (pass_mine c.loop.pass) network c.loop.phase next e legal owned inv.phase is (omega (arith, ok.number.1, inv.takes, inv.made)) (pass_seen new) (turn_mine c.in-Ok.turn) (pass_mine new) (turn_left c.in-Ok.turn + 1) (pass_left new) a c.in-Some-end_of.end (sym c.end_of.ensures ∙ c.in-Some-end_of.is) m.waited answered (m.list ∙ ap (λ h. seen_after h e a) ok.list.0) in
     subst (λ k. IsWorked c.args.bench.now k limit worked) c.number-p.ensures
-    (ended c.args.bench.now p limit worked history (pass_mine c.loop.pass) m.lock number (m.number.1 ∙ (ok.origin.0 ∙ inv.origin)) m.own seen owned inv.made all ends) in
-    elim c.match-answer.branch [
-      | in-Refused w ↦
-          let what = w.in-Refused.is in
-          let a = answered _ what in
-          let seen : pass_seen new ≡ history = m.list ∙ (ap (seen_after (turn_seen c.in-Ok.turn) e) what ∙ ok.list.0) in
-          let other : IsLegal history s a.0.network = subst (λ t. IsLegal history t a.0.network) same (subst (λ h. IsLegal h (turn_value c.in-Ok.turn).start a.0.network) seen a.0.legal) in
-          done seen (subst (EndsWith s p limit history (pass_mine c.loop.pass)) (sym w.end-is) (is_stuck_after s p history (pass_mine c.loop.pass) network c.loop.phase next e a.0.network _ legal owned inv.phase is other a.0.is_stuck, omega (arith, ok.number.1, inv.takes, inv.made), subst (λ (l : List Event). length l < 100000) seen a.0.room))
-      | in-Full w ↦
-          let what = w.in-Full.is in
-          let a = answered _ what in
-          let seen : pass_seen new ≡ history = m.list ∙ (ap (seen_after (turn_seen c.in-Ok.turn) e) what ∙ ok.list.0) in
-          done seen (subst (EndsWith s p limit history (pass_mine c.loop.pass)) (sym w.end-is) (inr (ap length (sym seen) ∙ a.1)))
-      | in-Memory w ↦
-          let what = w.in-Memory.is in
-          let seen : pass_seen new ≡ history = m.list ∙ (ap (seen_after (turn_seen c.in-Ok.turn) e) what ∙ ok.list.0) in
-          done seen (subst (EndsWith s p limit history (pass_mine c.loop.pass)) (sym w.end-is) tt)
-    ]
+    (ended c.args.bench.now p limit worked history (pass_mine c.loop.pass) m.lock number (m.number.1 ∙ (ok.origin.0 ∙ inv.origin)) m.own by.0 owned inv.made all by.1)

@@ -21,8 +21,9 @@ returns c =
     let first = ap app_of_fields c.no_binary_name.ensures ∙ ap bare_name named in
     let second = ap app_of_fields c.disable_help_subcommand.ensures ∙ ap bare_help first in
     let top_is : app_of c.subcommand_required-top.result ≡ bare = ap app_of_fields c.subcommand_required-top.ensures ∙ ap bare_wanted second in
-    let one = c.in_ok-subcommand.ensures.shape c.in_ok-check.ensures.local ∙ ap₂ with_subcommand top_is (ap (λ (a : App). a.top) c.in_ok-check.ensures.shape) in
-    let two = c.in_ok-subcommand-2.ensures.shape c.in_ok-print.ensures.local ∙ ap₂ with_subcommand one (ap (λ (a : App). a.top) c.in_ok-print.ensures.shape) in
-    let three = c.in_ok-subcommand-3.ensures.shape c.in_ok-run.ensures.local ∙ ap₂ with_subcommand two (ap (λ (a : App). a.top) c.in_ok-run.ensures.shape) in
-    let four = c.in_ok-subcommand-4.ensures.shape c.in_ok-debug.ensures.local ∙ ap₂ with_subcommand three (ap (λ (a : App). a.top) c.in_ok-debug.ensures.shape) in
-    IfOk-weaker c.subcommand-5.result _ _ (λ m h. h.shape c.in_ok-threads.ensures.local ∙ ap₂ with_subcommand four (ap (λ (a : App). a.top) c.in_ok-threads.ensures.shape)) c.subcommand-5.ensures
+    let one = c.in_ok-top.ensures.shape c.in_ok-check.ensures.local ∙ ap₂ with_subcommand top_is (ap (λ (a : App). a.top) c.in_ok-check.ensures.shape) in
+    let two = c.in_ok-top-2.ensures.shape c.in_ok-print.ensures.local ∙ ap₂ with_subcommand one (ap (λ (a : App). a.top) c.in_ok-print.ensures.shape) in
+    let three = c.in_ok-top-3.ensures.shape c.in_ok-run.ensures.local ∙ ap₂ with_subcommand two (ap (λ (a : App). a.top) c.in_ok-run.ensures.shape) in
+    let four = c.in_ok-top-4.ensures.shape c.in_ok-view.ensures.local ∙ ap₂ with_subcommand three (ap (λ (a : App). a.top) c.in_ok-view.ensures.shape) in
+    let five = c.in_ok-top-5.ensures.shape c.in_ok-debug.ensures.local ∙ ap₂ with_subcommand four (ap (λ (a : App). a.top) c.in_ok-debug.ensures.shape) in
+    IfOk-weaker c.subcommand-6.result _ _ (λ m h. h.shape c.in_ok-threads.ensures.local ∙ ap₂ with_subcommand five (ap (λ (a : App). a.top) c.in_ok-threads.ensures.shape)) c.subcommand-6.ensures

@@ -1,0 +1,161 @@
+//! Steps at a bench, from one thread.
+
+ghost use Rattle.std.specs.Prelude.{◌≡◌, All, IfOk};
+ghost use Rattle.jc_rules.specs.Step.{replica_of};
+ghost use Rattle.jc_lock.specs.Shows.{pass_number};
+ghost use Rattle.jc_runner.specs.Benches.{IsPassAt, IsPassFor, IsNewAt};
+
+use crate::nets::{DELETION, holds, scene};
+use jc_rules::Event;
+use jc_runner::{Bench, BenchFault, CloseRefused, MOST_LIMIT, Pass, Recorded, StepAnswer};
+use std::alloc::Global;
+use std::process::Abort;
+use std::sync::Wait;
+use std::test::Fail;
+
+// Takes the last pass out of the list.
+fn last_pass(rt: &impl Abort, bench: &Bench, limit: u64, passes: &mut Vec<Pass>) -> Pass
+    requires { All (IsNewAt bench.now limit) passes.old.items }
+    ensures { IsNewAt bench.now limit result × All (IsNewAt bench.now limit) passes.new.items }
+{
+    let _ = bench;
+    let _ = limit;
+    passes.pop().expect(rt, "a pass")
+}
+
+// A bench of two replicas, with the pass of each.
+fn opened(rt: &impl Abort, alloc: Global, limit: u64) -> Result<(Bench, Pass, Pass), Fail>
+    ensures { IfOk result (λ r. IsPassFor r.0 0 r.1 × IsPassFor r.0 1 r.2) }
+{
+    let scenario = scene(alloc, DELETION)?;
+    let (bench, mut passes) = match Bench::open(alloc, scenario, limit) {
+        Ok(opened) => opened,
+        Err(_) => panic!(rt; "no bench"),
+    };
+    let b = last_pass(rt, &bench, limit, &mut passes);
+    let a = last_pass(rt, &bench, limit, &mut passes);
+    assert!(rt; a.number() == 0 && b.number() == 1 && passes.is_empty());
+    Ok((bench, a, b))
+}
+
+// The answer to the event. Where memory was wanting nothing was counted, and the event is asked for once more.
+fn stepped<R: Wait + Abort>(rt: &R, bench: &Bench, pass: Pass, event: Event) -> (Pass, StepAnswer)
+    requires { IsPassFor bench.now (replica_of event) pass }
+    ensures { IsPassFor bench.now (replica_of event) result.0 }
+{
+    let (mut pass, answer) = bench.step(rt, pass, &event);
+    let before = bench.count(&mut pass);
+    match answer {
+        StepAnswer::Memory => {
+            let (mut pass, answer) = bench.step(rt, pass, &event);
+            let grew = u64::from(matches!(answer, StepAnswer::Made { .. }));
+            holds(rt, bench.count(&mut pass) == before.saturating_add(grew));
+            (pass, answer)
+        }
+        answer => (pass, answer),
+    }
+}
+
+// The event is made, and has this number.
+fn makes<R: Wait + Abort>(rt: &R, bench: &Bench, pass: Pass, event: Event, want: u64) -> Pass
+    requires { IsPassFor bench.now (replica_of event) pass }
+    ensures { IsPassFor bench.now (replica_of event) result }
+{
+    match stepped(rt, bench, pass, event) {
+        (pass, StepAnswer::Made { number, trace }) => {
+            holds(rt, number == want && !trace.rows().is_empty());
+            pass
+        }
+        _ => panic!(rt; "not made"),
+    }
+}
+
+// The event is stuck with this number after so many events.
+fn refuses<R: Wait + Abort>(
+    rt: &R,
+    bench: &Bench,
+    pass: Pass,
+    event: Event,
+    want: (u64, u8),
+) -> Pass
+    requires { IsPassFor bench.now (replica_of event) pass }
+    ensures { IsPassFor bench.now (replica_of event) result }
+{
+    match stepped(rt, bench, pass, event) {
+        (pass, StepAnswer::Refused { front, stuck }) => {
+            holds(rt, (front, stuck.number) == want && stuck.event == event);
+            pass
+        }
+        _ => panic!(rt; "not refused"),
+    }
+}
+
+// The pass has made its takes.
+fn is_spent<R: Wait + Abort>(rt: &R, bench: &Bench, pass: Pass, event: Event) -> Pass
+    requires { IsPassFor bench.now (replica_of event) pass }
+    ensures { IsPassFor bench.now (replica_of event) result }
+{
+    match bench.step(rt, pass, &event) {
+        (pass, StepAnswer::Spent) => pass,
+        _ => panic!(rt; "not spent"),
+    }
+}
+
+// The bench doesn't close with one pass of two, and closes with both.
+fn closed(rt: &impl Abort, alloc: Global, bench: Bench, a: Pass, b: Pass) -> Result<Recorded, Fail>
+    requires { IsPassAt bench a × IsPassAt bench b }
+{
+    let mut one = Vec::with_capacity(alloc, 2)?;
+    one.push_reserved(a);
+    let CloseRefused { bench, mut passes } = match bench.close(one) {
+        Ok(_) => panic!(rt; "closed without a pass"),
+        Err(refused) => refused,
+    };
+    passes.push(b).ok().expect(rt, "memory");
+    match bench.close(passes) {
+        Ok(recorded) => Ok(recorded),
+        Err(_) => panic!(rt; "not closed"),
+    }
+}
+
+const RECORDED: &[Event] = &[Event::Exec(0), Event::Send(1), Event::Done(1)];
+
+#[test]
+fn steps_are_recorded(rt: HostRuntime) -> Result<(), Fail> {
+    let alloc = rt.alloc();
+    let (bench, a, mut b) = opened(&rt, alloc, 3)?;
+    let a = makes(&rt, &bench, a, Event::Exec(0), 1);
+    holds(&rt, bench.count(&mut b) == 1);
+    let b = refuses(&rt, &bench, b, Event::Exec(1), (1, 31));
+    let b = makes(&rt, &bench, b, Event::Send(1), 2);
+    let b = makes(&rt, &bench, b, Event::Done(1), 3);
+    let b = is_spent(&rt, &bench, b, Event::Done(1));
+    let recorded = closed(&rt, alloc, bench, a, b)?;
+    holds(&rt, recorded.schedule.as_slice() == RECORDED);
+    holds(
+        &rt,
+        recorded.net.steps() == 3 && recorded.start.schedule.is_empty(),
+    );
+    Ok(())
+}
+
+// With more takes than events, so that an event can be asked for again.
+#[test]
+fn steps_under_pressure(rt: HostRuntime) -> Result<(), Fail> {
+    let (bench, a, b) = opened(&rt, rt.alloc(), 10)?;
+    let _a = makes(&rt, &bench, a, Event::Exec(0), 1);
+    let b = refuses(&rt, &bench, b, Event::Exec(1), (1, 31));
+    let b = makes(&rt, &bench, b, Event::Send(1), 2);
+    let _b = makes(&rt, &bench, b, Event::Done(1), 3);
+    Ok(())
+}
+
+#[test]
+fn limits_are_refused(rt: HostRuntime) -> Result<(), Fail> {
+    let scenario = scene(rt.alloc(), DELETION)?;
+    let refused = Bench::open(rt.alloc(), scenario, MOST_LIMIT + 1);
+    holds(&rt, matches!(refused, Err(BenchFault::LimitTooLarge)));
+    let (bench, _a, mut b) = opened(&rt, rt.alloc(), MOST_LIMIT)?;
+    holds(&rt, bench.count(&mut b) == 0);
+    Ok(())
+}

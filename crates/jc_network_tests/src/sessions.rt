@@ -1,0 +1,34 @@
+//! What sessions are made of, and how they end.
+
+use crate::nets::holds;
+use jc_rules::io::{Sink, Source};
+use jc_session::{SessionEnd, SessionFault, session};
+use std::process::Abort;
+
+/// One replica without commands.
+pub const EMPTY: &str = "jsoncrdt 1 replica a {} schedule {}";
+
+/// Two assignments of one replica, which the other has received.
+pub const RECEIVED: &str = "jsoncrdt 1
+    replica a { doc.get(\"a\") := 1; doc.get(\"a\") := 2; yield }
+    replica b { yield }
+    schedule { a.exec; a.exec; a.send; b.recv(a) }";
+
+/// Expects a session to end so: 0 is finished, a fault of a text its number, and a fault of a session its number.
+pub fn ends<R: AllocGlobal + Abort, S: Source, K: Sink>(
+    rt: &R,
+    scenario: &str,
+    lines: &mut S,
+    out: &mut K,
+    want: u8,
+) {
+    let end = match session(rt.alloc(), scenario.as_bytes(), lines, out) {
+        Ok(SessionEnd::Finished) => 0,
+        Ok(SessionEnd::TextRefused(fault)) => fault.number().unwrap_or(255),
+        Err(SessionFault::ReadFailed) => 55,
+        Err(SessionFault::WriteFailed) => 56,
+        Err(SessionFault::TooManyLines) => 57,
+        Err(SessionFault::Memory) => 255,
+    };
+    holds(rt, end == want);
+}

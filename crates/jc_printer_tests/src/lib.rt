@@ -1,5 +1,0 @@
-//! Tests of canonical texts.
-#![tactic(auto)]
-
-#[cfg(test)]
-mod tests;

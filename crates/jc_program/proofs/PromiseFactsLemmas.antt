@@ -1,0 +1,553 @@
+-- What the program's promise gives.
+use Rattle.std.proofs.Common.{◌≡◌, ◌≢◌, ◌⊎◌, ◌∙◌, ℕ, inl, inr, List, [], ◌∷◌, Option, Some, None, codes, refl, sym, ap, subst, arith}
+use Rattle.std.proofs.lemmas.Option.{same_Some}
+use Rattle.clap.proofs.OnLiterals.{clap_on_literals}
+use Rattle.clap.specs.Words.{fault_of, subcommand_of}
+use Rattle.clap.specs.declared.error.kind.ErrorKind.TheVariants as K
+use Rattle.jc_words.specs.Program.{program}
+use Rattle.jc_words.specs.Words.{words_order, order_by, AsksHelp, IsFaultless}
+use Rattle.jc_words.specs.declared.order.Order.{Order}
+use Rattle.jc_words.specs.declared.order.Task.{Task}
+use Rattle.jc_words.specs.declared.order.Task.TheVariants.{Show, Debug, Threads}
+use Rattle.jc_program.specs.declared.fault.WorkFault.{WorkFault}
+use Rattle.jc_program.specs.declared.fault.WorkFault.TheVariants.{Read, Write, TooManyLines, NoThread, Memory}
+use Rattle.jc_program.specs.WorkFaults.{fault_status, fault_line}
+use Rattle.jc_program.specs.Due.{AreTold, told_by}
+use Rattle.jc_program.specs.Faults.{IsCause, IsUnread}
+use Rattle.jc_program.specs.Talked.{lines_by}
+use Rattle.jc_program.specs.Orders.{IsAlone, IsDone, IsStopped, IsThreadsOrder}
+use Rattle.jc_program.specs.Threaded.{HaveThreaded, HaveBegun, IsThreadsFault}
+use Rattle.jc_rules.specs.Told.{LosesUpTo}
+use Rattle.jc_program.specs.Promise.{Stream, World, Files, Promise, All, Says, Carried, Stopped, Completes, Breaks, done, text_refused, stuck, thread_starved, help, usage, read_failed, write_failed, help_write_failed, too_many_lines, no_thread, no_memory, no_memory_for_words}
+use Rattle.jc_words.specs.Laws.{FaultlessAreOrders}
+use Rattle.jc_program.specs.PromiseFacts.{OrderFact, DoneFact, StoppedFact, ThreadsFact, HelpFact, LostFact, FaultyFact, SilentFact, UnshownFact, ShownFact, UsageFact, UnreadFact, OtherFileFact, MostFact, FailedFact, MemoryLineFact, QuietFact, Facts}
+use Rattle.jc_program.specs.Laws.{PromiseGivesFacts, AlonePromiseGivesFacts}
+use Rattle.jc_program.proofs.Orders as E
+use Rattle.jc_program.proofs.Threaded.{lacking}
+use Rattle.jc_program.proofs.PromiseLemmas.{alone_at, loses_none}
+
+-- ---- statuses
+
+five_is_no_end : E.IsEnd 5 → ⊥
+five_is_no_end e = at 5 e refl
+  where
+    at : (n : ℕ) → E.IsEnd n → n ≡ 5 → ⊥
+    at n E.well e = cc
+    at n E.refused e = cc
+    at n E.stuck e = cc
+
+-- a task that waits for nobody and is done hasn't the status 5
+pub not_starved : (task : Task) (bytes : List ℕ) (lines : Option (List ℕ)) (old new : World) → IsAlone task → Completes task bytes lines old new 5 → ⊥
+not_starved (Show view) bytes lines old new alone h = five_is_no_end (E.of_view view bytes h.0.0 5 h.0.1)
+not_starved Debug bytes lines old new alone h = five_is_no_end (E.of_session h.0.0 5 h.0.1)
+not_starved (Threads limit) bytes lines old new alone h = absurd alone
+
+pub none_some : {X : Type 0} {x : X} {o : Option X} → o ≡ None → o ≡ Some x → ⊥
+none_some {x = x} e f = let bad : None ≡ Some x = sym e ∙ f in cc
+
+not_0 : (◌≡◌ {A = ℕ} 0 4) ⊎ (◌≡◌ {A = ℕ} 0 5) → ⊥
+not_0 (inl e) = cc
+not_0 (inr e) = cc
+
+not_1 : (◌≡◌ {A = ℕ} 1 4) ⊎ (◌≡◌ {A = ℕ} 1 5) → ⊥
+not_1 (inl e) = cc
+not_1 (inr e) = cc
+
+not_3 : (◌≡◌ {A = ℕ} 3 4) ⊎ (◌≡◌ {A = ℕ} 3 5) → ⊥
+not_3 (inl e) = cc
+not_3 (inr e) = cc
+
+not_2 : (◌≡◌ {A = ℕ} 2 4) ⊎ (◌≡◌ {A = ℕ} 2 5) → ⊥
+not_2 (inl e) = cc
+not_2 (inr e) = cc
+
+-- ---- words
+
+no_words_wanted : fault_of program [] ≡ K.MissingSubcommand ∷ []
+unfolding program clap_on_literals
+no_words_wanted = refl
+
+-- words that ask for help are no order
+pub asks_none : (words : List (List ℕ)) → AsksHelp words → words_order words ≡ None
+unfolding words_order
+asks_none [] asks = let bad = sym no_words_wanted ∙ asks in cc
+asks_none (w ∷ ws) asks = ap (λ kinds. order_by kinds (subcommand_of program (w ∷ ws))) asks
+
+-- words without a fault are an order
+pub faultless_some : FaultlessAreOrders → (words : List (List ℕ)) → IsFaultless words → words_order words ≡ None → ⊥
+unfolding words_order
+faultless_some law [] free none = cc
+faultless_some law (w ∷ ws) free none = none_some none (law w ws free).1
+
+-- ---- what went out after a fault
+
+breaks_stop : (task : Task) (fault : WorkFault) (bytes : List ℕ) (told lines left : Option (List ℕ)) (old new : World) → AreTold told bytes → IsAlone task → Breaks task fault bytes lines left old new → IsStopped task fault told lines left old.out.bytes new.out.bytes
+breaks_stop (Show view) Read bytes told lines left old new is alone h = h
+breaks_stop (Show view) Write bytes told lines left old new is alone h = (bytes, is, h)
+breaks_stop (Show view) TooManyLines bytes told lines left old new is alone h = h
+breaks_stop (Show view) NoThread bytes told lines left old new is alone h = h
+breaks_stop (Show view) Memory bytes told lines left old new is alone h = (bytes, is, h)
+breaks_stop Debug fault bytes told lines left old new is alone h = (bytes, is, h)
+breaks_stop (Threads limit) fault bytes told lines left old new is alone h = absurd alone
+
+abbrev Stop : Files → World → World → WorkFault → Order → Type 0
+Stop files old new fault order =
+    IsCause fault (IsUnread files.may_fail order.file) old.input.failures new.input.failures old.out.failures new.out.failures
+    × IsStopped order.task fault (told_by old.input.bytes files.texts order.file) (lines_by old.input.bytes order.file) (lines_by new.input.bytes order.file) old.out.bytes new.out.bytes
+
+of_stop : {Does : Task → Type 0} (files : Files) (words : List (List ℕ)) (old new : World) (n : ℕ) (fault : WorkFault) → n ≡ fault_status fault → (s : Stopped Does files words old new fault) → IsCause fault (IsUnread files.may_fail s.order.file) old.input.failures new.input.failures old.out.failures new.out.failures → StoppedFact files words old new n
+of_stop files words old new n fault status s cause order some alone ends =
+    let same : s.order ≡ order = same_Some s.order order (sym s.is_order ∙ some) in
+    let own : IsAlone s.order.task = subst (λ (o : Order). IsAlone o.task) (sym same) alone in
+    let stop : Stop files old new fault order = subst (Stop files old new fault) same (cause, breaks_stop s.order.task fault s.bytes (told_by old.input.bytes files.texts s.order.file) (lines_by old.input.bytes s.order.file) (lines_by new.input.bytes s.order.file) old new s.told own s.breaks) in
+    (fault, status, s.line, stop.0, stop.1)
+
+-- ---- tasks
+
+complete_done : (task : Task) (bytes : List ℕ) (told lines : Option (List ℕ)) (old new : World) (n : ℕ) → IsAlone task → AreTold told bytes → Completes task bytes lines old new n → IsDone task told lines old.out.bytes new.out.bytes n
+complete_done (Show view) bytes told lines old new n alone is h = (bytes, h.0.0, is, h.0.1, h.0.2)
+complete_done Debug bytes told lines old new n alone is h = (bytes, is, h.0)
+complete_done (Threads limit) bytes told lines old new n alone is h = absurd alone
+
+pub complete_quiet : (task : Task) (bytes : List ℕ) (lines : Option (List ℕ)) (old new : World) (n : ℕ) → IsAlone task → Completes task bytes lines old new n → new.err ≡ old.err
+complete_quiet (Show view) bytes lines old new n alone h = h.1
+complete_quiet Debug bytes lines old new n alone h = h.1
+complete_quiet (Threads limit) bytes lines old new n alone h = absurd alone
+
+pub unthreaded : (task : Task) (bytes : List ℕ) (lines left : Option (List ℕ)) (old new : World) → IsAlone task → Breaks task NoThread bytes lines left old new → ⊥
+unthreaded (Show view) bytes lines left old new alone h = h
+unthreaded Debug bytes lines left old new alone h = h
+unthreaded (Threads limit) bytes lines left old new alone h = absurd alone
+
+fault_ends : (fault : WorkFault) (n : ℕ) → n ≡ fault_status fault → n ≢ 4 → n ≢ 5 → ⊥
+fault_ends Read n e four five = four e
+fault_ends Write n e four five = four e
+fault_ends TooManyLines n e four five = four e
+fault_ends NoThread n e four five = five e
+fault_ends Memory n e four five = five e
+
+fault_not_1 : (fault : WorkFault) (n : ℕ) → n ≡ fault_status fault → n ≡ 1 → ⊥
+fault_not_1 Read n e one = cc
+fault_not_1 Write n e one = cc
+fault_not_1 TooManyLines n e one = cc
+fault_not_1 NoThread n e one = cc
+fault_not_1 Memory n e one = cc
+
+threads_fault : (limit : ℕ) (fault : WorkFault) (bytes : List ℕ) (told lines left : Option (List ℕ)) (old new : World) → AreTold told bytes → Breaks (Threads limit) fault bytes lines left old new → (fault ≢ TooManyLines) × HaveBegun limit told old.out.bytes new.out.bytes × (fault ≢ Write → new.out.bytes ≡ old.out.bytes)
+threads_fault limit Read bytes told lines left old new is h = (λ e. (let bad : Read ≡ TooManyLines = e in cc), lacking limit told old.out.bytes new.out.bytes h, λ other. h)
+threads_fault limit Write bytes told lines left old new is h = (λ e. (let bad : Write ≡ TooManyLines = e in cc), (bytes, is, h), λ other. absurd (other refl))
+threads_fault limit TooManyLines bytes told lines left old new is h = absurd h
+threads_fault limit NoThread bytes told lines left old new is h = (λ e. (let bad : NoThread ≡ TooManyLines = e in cc), lacking limit told old.out.bytes new.out.bytes h, λ other. h)
+threads_fault limit Memory bytes told lines left old new is h = (λ e. (let bad : Memory ≡ TooManyLines = e in cc), lacking limit told old.out.bytes new.out.bytes h, λ other. h)
+
+module _ (Does : Task → Type 0) (files : Files) (words : List (List ℕ)) (old new : World) where
+  -- an order of which nothing was read or done
+  unstarted : (order : Order) → new.input ≡ old.input → new.out ≡ old.out → IsStopped order.task Memory (told_by old.input.bytes files.texts order.file) (lines_by old.input.bytes order.file) (lines_by new.input.bytes order.file) old.out.bytes new.out.bytes
+  unstarted order input out =
+      let told = told_by old.input.bytes files.texts order.file in
+      let lines = lines_by old.input.bytes order.file in
+      subst (λ (s : Stream). IsStopped order.task Memory told lines (lines_by s.bytes order.file) old.out.bytes new.out.bytes) (sym input)
+      (subst (λ (s : Stream). IsStopped order.task Memory told lines lines old.out.bytes s.bytes) (sym out) (E.nothing_done order.task told lines old.out.bytes))
+
+  pub stopped_of : {n : ℕ} → Promise Does files words old new n → StoppedFact files words old new n
+  stopped_of (done c) order some alone ends = absurd (not_0 ends)
+  stopped_of (text_refused c) order some alone ends = absurd (not_1 ends)
+  stopped_of (stuck c) order some alone ends = absurd (not_3 ends)
+  stopped_of (thread_starved c) order some alone ends =
+      let same : c.order ≡ order = same_Some c.order order (sym c.is_order ∙ some) in
+      let own : IsAlone c.order.task = subst (λ (o : Order). IsAlone o.task) (sym same) alone in
+      absurd (not_starved c.order.task c.bytes (lines_by old.input.bytes c.order.file) old new own c.completes)
+  stopped_of (help text none by full out failed input err) order some alone ends = absurd (none_some none some)
+  stopped_of (usage text none by full says input out) order some alone ends = absurd (none_some none some)
+  stopped_of (read_failed s cause same) order some alone ends = of_stop files words old new 4 Read refl s (cause, same) order some alone ends
+  stopped_of (write_failed s failed same) order some alone ends = of_stop files words old new 4 Write refl s (same, failed) order some alone ends
+  stopped_of (help_write_failed text none by front failed input says) order some alone ends = absurd (none_some none some)
+  stopped_of (too_many_lines s same) order some alone ends = of_stop files words old new 4 TooManyLines refl s (same.input, same.out) order some alone ends
+  stopped_of (no_thread s same) order some alone ends = of_stop files words old new 5 NoThread refl s (same.input, same.out) order some alone ends
+  stopped_of (no_memory s same) order some alone ends = of_stop files words old new 5 Memory refl s (same.input, same.out) order some alone ends
+  stopped_of (no_memory_for_words input out says) order some alone ends = (Memory, refl, says, (ap (λ (s : Stream). s.failures) input, ap (λ (s : Stream). s.failures) out), unstarted order input out)
+
+  -- ---- the words' status
+
+  ordered_help : {n : ℕ} → AsksHelp words → (c : Carried Does files words old new n) → ⊥
+  ordered_help asks c = none_some (asks_none words asks) c.is_order
+
+  pub help_of : {n : ℕ} → Promise Does files words old new n → HelpFact files words old new n
+  help_of (done c) asks = inl refl
+  help_of (text_refused c) asks = absurd (ordered_help asks c)
+  help_of (stuck c) asks = absurd (ordered_help asks c)
+  help_of (thread_starved c) asks = inr (inr refl)
+  help_of (help text none by full out failed input err) asks = inl refl
+  help_of (usage text none by full says input out) asks = absurd (by asks)
+  help_of (read_failed s cause same) asks = inr (inl refl)
+  help_of (write_failed s failed same) asks = inr (inl refl)
+  help_of (help_write_failed text none by front failed input says) asks = inr (inl refl)
+  help_of (too_many_lines s same) asks = inr (inl refl)
+  help_of (no_thread s same) asks = inr (inr refl)
+  help_of (no_memory s same) asks = inr (inr refl)
+  help_of (no_memory_for_words input out says) asks = inr (inr refl)
+
+  -- a status that is 2 is that of the words
+  usage_at : {n : ℕ} → Promise Does files words old new n → n ≡ 2 → (words_order words ≡ None) × ((text : List ℕ) × (text ≢ []) × Says old new text) × (new.out ≡ old.out)
+  usage_at (done c) e = cc
+  usage_at (text_refused c) e = cc
+  usage_at (stuck c) e = cc
+  usage_at (thread_starved c) e = cc
+  usage_at (help text none by full out failed input err) e = cc
+  usage_at (usage text none by full says input out) e = (none, (text, full, says), out)
+  usage_at (read_failed s cause same) e = cc
+  usage_at (write_failed s failed same) e = cc
+  usage_at (help_write_failed text none by front failed input says) e = cc
+  usage_at (too_many_lines s same) e = cc
+  usage_at (no_thread s same) e = cc
+  usage_at (no_memory s same) e = cc
+  usage_at (no_memory_for_words input out says) e = cc
+
+  pub order_of : {n : ℕ} → Promise Does files words old new n → OrderFact files words old new n
+  order_of p order some two = none_some (usage_at p two).0 some
+
+  pub silent_of : {n : ℕ} → Promise Does files words old new n → SilentFact files words old new n
+  silent_of p two = (usage_at p two).2
+
+  pub usage_of : {n : ℕ} → Promise Does files words old new n → UsageFact files words old new n
+  usage_of p two = (usage_at p two).1
+
+  -- ---- words that are no order
+
+  no_carried : {n : ℕ} → words_order words ≡ None → Carried Does files words old new n → ⊥
+  no_carried none c = none_some none c.is_order
+
+  no_stopped : {fault : WorkFault} → words_order words ≡ None → Stopped Does files words old new fault → ⊥
+  no_stopped none s = none_some none s.is_order
+
+  pub lost_of : {n : ℕ} → Promise Does files words old new n → LostFact files words old new n
+  lost_of (done c) n0 e = absurd (no_carried n0 c)
+  lost_of (text_refused c) n0 e = absurd (no_carried n0 c)
+  lost_of (stuck c) n0 e = absurd (no_carried n0 c)
+  lost_of (thread_starved c) n0 e = absurd (no_carried n0 c)
+  lost_of (help text none by full out failed input err) n0 e = cc
+  lost_of (usage text none by full says input out) n0 e = cc
+  lost_of (read_failed s cause same) n0 e = absurd (no_stopped n0 s)
+  lost_of (write_failed s failed same) n0 e = absurd (no_stopped n0 s)
+  lost_of (help_write_failed text none by front failed input says) n0 e = (omega (arith, failed), says)
+  lost_of (too_many_lines s same) n0 e = absurd (no_stopped n0 s)
+  lost_of (no_thread s same) n0 e = absurd (no_stopped n0 s)
+  lost_of (no_memory s same) n0 e = absurd (no_stopped n0 s)
+  lost_of (no_memory_for_words input out says) n0 e = cc
+
+  pub faulty_of : {n : ℕ} → Promise Does files words old new n → FaultyFact files words old new n
+  faulty_of (done c) n0 e = absurd (no_carried n0 c)
+  faulty_of (text_refused c) n0 e = absurd (no_carried n0 c)
+  faulty_of (stuck c) n0 e = absurd (no_carried n0 c)
+  faulty_of (thread_starved c) n0 e = absurd (no_carried n0 c)
+  faulty_of (help text none by full out failed input err) n0 e = absurd (e by)
+  faulty_of (usage text none by full says input out) n0 e = inl refl
+  faulty_of (read_failed s cause same) n0 e = absurd (no_stopped n0 s)
+  faulty_of (write_failed s failed same) n0 e = absurd (no_stopped n0 s)
+  faulty_of (help_write_failed text none by front failed input says) n0 e = absurd (e by)
+  faulty_of (too_many_lines s same) n0 e = absurd (no_stopped n0 s)
+  faulty_of (no_thread s same) n0 e = absurd (no_stopped n0 s)
+  faulty_of (no_memory s same) n0 e = absurd (no_stopped n0 s)
+  faulty_of (no_memory_for_words input out says) n0 e = inr refl
+
+  pub unshown_of : {n : ℕ} → Promise Does files words old new n → UnshownFact files words old new n
+  unshown_of (done c) n0 e = absurd (no_carried n0 c)
+  unshown_of (text_refused c) n0 e = absurd (no_carried n0 c)
+  unshown_of (stuck c) n0 e = absurd (no_carried n0 c)
+  unshown_of (thread_starved c) n0 e = absurd (no_carried n0 c)
+  unshown_of (help text none by full out failed input err) n0 e = cc
+  unshown_of (usage text none by full says input out) n0 e = out
+  unshown_of (read_failed s cause same) n0 e = absurd (no_stopped n0 s)
+  unshown_of (write_failed s failed same) n0 e = absurd (no_stopped n0 s)
+  unshown_of (help_write_failed text none by front failed input says) n0 e = cc
+  unshown_of (too_many_lines s same) n0 e = absurd (no_stopped n0 s)
+  unshown_of (no_thread s same) n0 e = absurd (no_stopped n0 s)
+  unshown_of (no_memory s same) n0 e = absurd (no_stopped n0 s)
+  unshown_of (no_memory_for_words input out says) n0 e = out
+
+  pub shown_of : {n : ℕ} → Promise Does files words old new n → ShownFact files words old new n
+  shown_of (done c) n0 e = absurd (no_carried n0 c)
+  shown_of (text_refused c) n0 e = absurd (no_carried n0 c)
+  shown_of (stuck c) n0 e = absurd (no_carried n0 c)
+  shown_of (thread_starved c) n0 e = absurd (no_carried n0 c)
+  shown_of (help text none by full out failed input err) n0 e = (text, full, out)
+  shown_of (usage text none by full says input out) n0 e = cc
+  shown_of (read_failed s cause same) n0 e = absurd (no_stopped n0 s)
+  shown_of (write_failed s failed same) n0 e = absurd (no_stopped n0 s)
+  shown_of (help_write_failed text none by front failed input says) n0 e = cc
+  shown_of (too_many_lines s same) n0 e = absurd (no_stopped n0 s)
+  shown_of (no_thread s same) n0 e = absurd (no_stopped n0 s)
+  shown_of (no_memory s same) n0 e = absurd (no_stopped n0 s)
+  shown_of (no_memory_for_words input out says) n0 e = cc
+
+  pub unread_of : {n : ℕ} → Promise Does files words old new n → UnreadFact files words old new n
+  unread_of (done c) n0 = absurd (no_carried n0 c)
+  unread_of (text_refused c) n0 = absurd (no_carried n0 c)
+  unread_of (stuck c) n0 = absurd (no_carried n0 c)
+  unread_of (thread_starved c) n0 = absurd (no_carried n0 c)
+  unread_of (help text none by full out failed input err) n0 = input
+  unread_of (usage text none by full says input out) n0 = input
+  unread_of (read_failed s cause same) n0 = absurd (no_stopped n0 s)
+  unread_of (write_failed s failed same) n0 = absurd (no_stopped n0 s)
+  unread_of (help_write_failed text none by front failed input says) n0 = input
+  unread_of (too_many_lines s same) n0 = absurd (no_stopped n0 s)
+  unread_of (no_thread s same) n0 = absurd (no_stopped n0 s)
+  unread_of (no_memory s same) n0 = absurd (no_stopped n0 s)
+  unread_of (no_memory_for_words input out says) n0 = input
+
+  -- ---- failures
+
+  pub failed_of : {n : ℕ} → Promise Does files words old new n → FailedFact files words old new n
+  failed_of (done c) e = (c.none_failed.input, c.none_failed.out)
+  failed_of (text_refused c) e = (c.none_failed.input, c.none_failed.out)
+  failed_of (stuck c) e = (c.none_failed.input, c.none_failed.out)
+  failed_of (thread_starved c) e = (c.none_failed.input, c.none_failed.out)
+  failed_of (help text none by full out failed input err) e = (failed.input, failed.out)
+  failed_of (usage text none by full says input out) e = (ap (λ (s : Stream). s.failures) input, ap (λ (s : Stream). s.failures) out)
+  failed_of (read_failed s cause same) e = absurd (e refl)
+  failed_of (write_failed s failed same) e = absurd (e refl)
+  failed_of (help_write_failed text none by front failed input says) e = absurd (e refl)
+  failed_of (too_many_lines s same) e = absurd (e refl)
+  failed_of (no_thread s same) e = (same.input, same.out)
+  failed_of (no_memory s same) e = (same.input, same.out)
+  failed_of (no_memory_for_words input out says) e = (ap (λ (s : Stream). s.failures) input, ap (λ (s : Stream). s.failures) out)
+
+  -- ---- orders
+
+  -- a fault of an order
+  abbrev Faulted : ℕ → Type 0
+  Faulted n = (fault : WorkFault) × (n ≡ fault_status fault) × ((s : Stopped Does files words old new fault) × IsCause fault (IsUnread files.may_fail s.order.file) old.input.failures new.input.failures old.out.failures new.out.failures)
+
+  -- there was no memory for the words
+  abbrev Unstarted : ℕ → Type 0
+  Unstarted n = (n ≡ 5) × (new.input ≡ old.input) × (new.out ≡ old.out) × Says old new (fault_line Memory)
+
+  abbrev Kind : ℕ → Type 0
+  Kind n = Carried Does files words old new n ⊎ (Faulted n ⊎ (Unstarted n ⊎ (words_order words ≡ None)))
+
+  kind_of : {n : ℕ} → Promise Does files words old new n → Kind n
+  kind_of (done c) = inl c
+  kind_of (text_refused c) = inl c
+  kind_of (stuck c) = inl c
+  kind_of (thread_starved c) = inl c
+  kind_of (help text none by full out failed input err) = inr (inr (inr none))
+  kind_of (usage text none by full says input out) = inr (inr (inr none))
+  kind_of (read_failed s cause same) = inr (inl (Read, refl, (s, (cause, same))))
+  kind_of (write_failed s failed same) = inr (inl (Write, refl, (s, (same, failed))))
+  kind_of (help_write_failed text none by front failed input says) = inr (inr (inr none))
+  kind_of (too_many_lines s same) = inr (inl (TooManyLines, refl, (s, (same.input, same.out))))
+  kind_of (no_thread s same) = inr (inl (NoThread, refl, (s, (same.input, same.out))))
+  kind_of (no_memory s same) = inr (inl (Memory, refl, (s, (same.input, same.out))))
+  kind_of (no_memory_for_words input out says) = inr (inr (inl (refl, input, out, says)))
+
+  done_at : {n : ℕ} → Kind n → DoneFact files words old new n
+  done_at {n} (inl c) order some alone four five =
+      let same : c.order ≡ order = same_Some c.order order (sym c.is_order ∙ some) in
+      let own : IsAlone c.order.task = subst (λ (o : Order). IsAlone o.task) (sym same) alone in
+      subst (λ (o : Order). IsDone o.task (told_by old.input.bytes files.texts o.file) (lines_by old.input.bytes o.file) old.out.bytes new.out.bytes n) same (complete_done c.order.task c.bytes (told_by old.input.bytes files.texts c.order.file) (lines_by old.input.bytes c.order.file) old new n own c.told c.completes)
+  done_at {n} (inr (inl f)) order some alone four five = absurd (fault_ends f.0 n f.1 four five)
+  done_at (inr (inr (inl u))) order some alone four five = absurd (five u.0)
+  done_at (inr (inr (inr none))) order some alone four five = absurd (none_some none some)
+
+  pub done_of : {n : ℕ} → Promise Does files words old new n → DoneFact files words old new n
+  done_of p = done_at (kind_of p)
+
+  abbrev Threaded : ℕ → ℕ → Order → Type 0
+  Threaded limit n order =
+      HaveThreaded limit (told_by old.input.bytes files.texts order.file) old.out.bytes new.out.bytes (Says old new) n
+      ⊎ IsThreadsFault limit (told_by old.input.bytes files.texts order.file) (IsUnread files.may_fail order.file) old.input.failures new.input.failures old.out.failures new.out.failures old.out.bytes new.out.bytes (Says old new) n
+
+  threads_at : {n : ℕ} → Kind n → ThreadsFact files words old new n
+  threads_at {n} (inl c) order limit some is =
+      let same : c.order ≡ order = same_Some c.order order (sym c.is_order ∙ some) in
+      let task : c.order.task ≡ Threads limit = ap (λ (o : Order). o.task) same ∙ is in
+      let h : Completes (Threads limit) c.bytes (lines_by old.input.bytes c.order.file) old new n = subst (λ (t : Task). Completes t c.bytes (lines_by old.input.bytes c.order.file) old new n) task c.completes in
+      subst (Threaded limit n) same (inl (c.bytes, c.told, (h.1.0, h.0, h.1.1, h.1.2, h.2)))
+  threads_at {n} (inr (inl (fault, ends, (s, cause)))) order limit some is =
+      let same : s.order ≡ order = same_Some s.order order (sym s.is_order ∙ some) in
+      let task : s.order.task ≡ Threads limit = ap (λ (o : Order). o.task) same ∙ is in
+      let lines = lines_by old.input.bytes s.order.file in
+      let left = lines_by new.input.bytes s.order.file in
+      let h : Breaks (Threads limit) fault s.bytes lines left old new = subst (λ (t : Task). Breaks t fault s.bytes lines left old new) task s.breaks in
+      let f = threads_fault limit fault s.bytes (told_by old.input.bytes files.texts s.order.file) lines left old new s.told h in
+      subst (Threaded limit n) same (inr (record { fault = fault; no_lines = f.0; ends = ends; line = s.line; cause = cause; begun = f.1; unwritten = f.2 }))
+  threads_at {n} (inr (inr (inl (five, input, out, says)))) order limit some is =
+      let same : new.out.bytes ≡ old.out.bytes = ap (λ (s : Stream). s.bytes) out in
+      let cause : IsCause Memory (IsUnread files.may_fail order.file) old.input.failures new.input.failures old.out.failures new.out.failures = (ap (λ (s : Stream). s.failures) input, ap (λ (s : Stream). s.failures) out) in
+      let told = told_by old.input.bytes files.texts order.file in
+      inr (record { fault = Memory; no_lines = λ e. (let bad : Memory ≡ TooManyLines = e in cc); ends = five; line = says; cause = cause; begun = lacking limit told old.out.bytes new.out.bytes same; unwritten = λ other. same })
+  threads_at (inr (inr (inr none))) order limit some is = absurd (none_some none some)
+
+  pub threads_of : {n : ℕ} → Promise Does files words old new n → ThreadsFact files words old new n
+  threads_of p = threads_at (kind_of p)
+
+  other_at : {n : ℕ} → Kind n → OtherFileFact files words old new n
+  other_at {n} (inl c) order some by other =
+      let same : c.order ≡ order = same_Some c.order order (sym c.is_order ∙ some) in
+      subst (λ (o : Order). (o.task ≢ Debug) ⊎ (n ≡ 1) → o.file ≢ codes "-" → new.input ≡ old.input) same (λ h. (c.reads (elim h [ inl a ↦ inl a | inr b ↦ inr (inl b) ])).other_file) by other
+  other_at {n} (inr (inl f)) order some (inl by) other =
+      let s = f.2.0 in
+      let same : s.order ≡ order = same_Some s.order order (sym s.is_order ∙ some) in
+      subst (λ (o : Order). o.task ≢ Debug → o.file ≢ codes "-" → new.input ≡ old.input) same (λ h. (s.reads (inl h)).other_file) by other
+  other_at {n} (inr (inl f)) order some (inr one) other = absurd (fault_not_1 f.0 n f.1 one)
+  other_at (inr (inr (inl u))) order some by other = u.1
+  other_at (inr (inr (inr none))) order some by other = absurd (none_some none some)
+
+  pub other_file_of : {n : ℕ} → Promise Does files words old new n → OtherFileFact files words old new n
+  other_file_of p = other_at (kind_of p)
+
+  most_at : {n : ℕ} → Kind n → MostFact files words old new n
+  most_at {n} (inl c) order some by =
+      let same : c.order ≡ order = same_Some c.order order (sym c.is_order ∙ some) in
+      subst (λ (o : Order). (o.task ≢ Debug) ⊎ (o.file ≡ codes "-") → LosesUpTo 8388609 old.input.bytes new.input.bytes) same (λ h. (c.reads (elim h [ inl a ↦ inl a | inr b ↦ inr (inr b) ])).most) by
+  most_at {n} (inr (inl f)) order some by =
+      let s = f.2.0 in
+      let same : s.order ≡ order = same_Some s.order order (sym s.is_order ∙ some) in
+      subst (λ (o : Order). (o.task ≢ Debug) ⊎ (o.file ≡ codes "-") → LosesUpTo 8388609 old.input.bytes new.input.bytes) same (λ h. (s.reads (elim h [ inl a ↦ inl a | inr b ↦ inr (inr b) ])).most) by
+  most_at (inr (inr (inl u))) order some by = loses_none old.input.bytes new.input.bytes (ap (λ (s : Stream). s.bytes) u.1)
+  most_at (inr (inr (inr none))) order some by = absurd (none_some none some)
+
+  pub most_of : {n : ℕ} → Promise Does files words old new n → MostFact files words old new n
+  most_of p = most_at (kind_of p)
+
+  -- ---- standard error
+
+  alone_of : (order : Order) → words_order words ≡ Some order → (IsThreadsOrder words → ⊥) → IsAlone order.task
+  alone_of order some none = alone_at order.task (λ limit is. none (order, limit, some, is))
+
+  pub memory_line_of : {n : ℕ} → Promise Does files words old new n → MemoryLineFact files words old new n
+  memory_line_of (done c) alone e = cc
+  memory_line_of (text_refused c) alone e = cc
+  memory_line_of (stuck c) alone e = cc
+  memory_line_of (thread_starved c) alone e = absurd (not_starved c.order.task c.bytes (lines_by old.input.bytes c.order.file) old new (alone_of c.order c.is_order alone) c.completes)
+  memory_line_of (help text none by full out failed input err) alone e = cc
+  memory_line_of (usage text none by full says input out) alone e = cc
+  memory_line_of (read_failed s cause same) alone e = cc
+  memory_line_of (write_failed s failed same) alone e = cc
+  memory_line_of (help_write_failed text none by front failed input says) alone e = cc
+  memory_line_of (too_many_lines s same) alone e = cc
+  memory_line_of (no_thread s same) alone e = absurd (unthreaded s.order.task s.bytes (lines_by old.input.bytes s.order.file) (lines_by new.input.bytes s.order.file) old new (alone_of s.order s.is_order alone) s.breaks)
+  memory_line_of (no_memory s same) alone e = s.line
+  memory_line_of (no_memory_for_words input out says) alone e = says
+
+  quiet_at : {n : ℕ} → (IsThreadsOrder words → ⊥) → Carried Does files words old new n → new.err ≡ old.err
+  quiet_at {n} alone c = complete_quiet c.order.task c.bytes (lines_by old.input.bytes c.order.file) old new n (alone_of c.order c.is_order alone) c.completes
+
+  pub quiet_of : {n : ℕ} → Promise Does files words old new n → QuietFact files words old new n
+  quiet_of (done c) alone two four five = quiet_at alone c
+  quiet_of (text_refused c) alone two four five = quiet_at alone c
+  quiet_of (stuck c) alone two four five = quiet_at alone c
+  quiet_of (thread_starved c) alone two four five = quiet_at alone c
+  quiet_of (help text none by full out failed input err) alone two four five = err
+  quiet_of (usage text none by full says input out) alone two four five = absurd (two refl)
+  quiet_of (read_failed s cause same) alone two four five = absurd (four refl)
+  quiet_of (write_failed s failed same) alone two four five = absurd (four refl)
+  quiet_of (help_write_failed text none by front failed input says) alone two four five = absurd (four refl)
+  quiet_of (too_many_lines s same) alone two four five = absurd (four refl)
+  quiet_of (no_thread s same) alone two four five = absurd (five refl)
+  quiet_of (no_memory s same) alone two four five = absurd (five refl)
+  quiet_of (no_memory_for_words input out says) alone two four five = absurd (five refl)
+
+facts_of : (Does : Task → Type 0) → FaultlessAreOrders → (files : Files) (words : List (List ℕ)) (old new : World) (n : ℕ) → Promise Does files words old new n → Facts files words old new n
+facts_of Does law files words old new n p = record {
+  order = order_of Does files words old new p;
+  taken = λ free two. faultless_some law words free (usage_at Does files words old new p two).0;
+  done = done_of Does files words old new p;
+  stopped = stopped_of Does files words old new p;
+  threads = threads_of Does files words old new p;
+  help = help_of Does files words old new p;
+  lost = lost_of Does files words old new p;
+  faulty = faulty_of Does files words old new p;
+  silent = silent_of Does files words old new p;
+  unshown = unshown_of Does files words old new p;
+  shown = shown_of Does files words old new p;
+  usage = usage_of Does files words old new p;
+  unread = unread_of Does files words old new p;
+  other_file = other_file_of Does files words old new p;
+  most = most_of Does files words old new p;
+  failed = failed_of Does files words old new p;
+  memory_line = memory_line_of Does files words old new p;
+  quiet = quiet_of Does files words old new p;
+}
+
+pub promise_gives_facts : FaultlessAreOrders → PromiseGivesFacts
+promise_gives_facts law = facts_of All law
+
+-- ---- the tasks that wait for nobody
+
+module _ (files : Files) (words : List (List ℕ)) (old new : World) where
+  module _ (order : Order) (limit : ℕ) (some : words_order words ≡ Some order) (is : order.task ≡ Threads limit) where
+    -- a run by threads isn't one of them
+    waits : (o : Order) → words_order words ≡ Some o → IsAlone o.task → ⊥
+    waits o other alone =
+        let same : o ≡ order = same_Some o order (sym other ∙ some) in
+        subst IsAlone (ap (λ (o : Order). o.task) same ∙ is) alone
+
+    -- for threads there was no memory for the words
+    starving : {n : ℕ} → Promise IsAlone files words old new n → (n ≡ 5) × (new.out ≡ old.out)
+    starving (done c) = absurd (waits c.order c.is_order c.does)
+    starving (text_refused c) = absurd (waits c.order c.is_order c.does)
+    starving (stuck c) = absurd (waits c.order c.is_order c.does)
+    starving (thread_starved c) = absurd (waits c.order c.is_order c.does)
+    starving (help text none by full out failed input err) = absurd (none_some none some)
+    starving (usage text none by full says input out) = absurd (none_some none some)
+    starving (read_failed s cause same) = absurd (waits s.order s.is_order s.does)
+    starving (write_failed s failed same) = absurd (waits s.order s.is_order s.does)
+    starving (help_write_failed text none by front failed input says) = absurd (none_some none some)
+    starving (too_many_lines s same) = absurd (waits s.order s.is_order s.does)
+    starving (no_thread s same) = absurd (waits s.order s.is_order s.does)
+    starving (no_memory s same) = absurd (waits s.order s.is_order s.does)
+    starving (no_memory_for_words input out says) = (refl, out)
+
+  line_of : {n : ℕ} → Promise IsAlone files words old new n → n ≡ 5 → Says old new (codes "no memory\n")
+  line_of (done c) e = cc
+  line_of (text_refused c) e = cc
+  line_of (stuck c) e = cc
+  line_of (thread_starved c) e = absurd (not_starved c.order.task c.bytes (lines_by old.input.bytes c.order.file) old new c.does c.completes)
+  line_of (help text none by full out failed input err) e = cc
+  line_of (usage text none by full says input out) e = cc
+  line_of (read_failed s cause same) e = cc
+  line_of (write_failed s failed same) e = cc
+  line_of (help_write_failed text none by front failed input says) e = cc
+  line_of (too_many_lines s same) e = cc
+  line_of (no_thread s same) e = absurd (unthreaded s.order.task s.bytes (lines_by old.input.bytes s.order.file) (lines_by new.input.bytes s.order.file) old new s.does s.breaks)
+  line_of (no_memory s same) e = s.line
+  line_of (no_memory_for_words input out says) e = says
+
+  calm_at : {n : ℕ} → Carried IsAlone files words old new n → new.err ≡ old.err
+  calm_at {n} c = complete_quiet c.order.task c.bytes (lines_by old.input.bytes c.order.file) old new n c.does c.completes
+
+  calm_of : {n : ℕ} → Promise IsAlone files words old new n → n ≢ 2 → n ≢ 4 → n ≢ 5 → new.err ≡ old.err
+  calm_of (done c) two four five = calm_at c
+  calm_of (text_refused c) two four five = calm_at c
+  calm_of (stuck c) two four five = calm_at c
+  calm_of (thread_starved c) two four five = calm_at c
+  calm_of (help text none by full out failed input err) two four five = err
+  calm_of (usage text none by full says input out) two four five = absurd (two refl)
+  calm_of (read_failed s cause same) two four five = absurd (four refl)
+  calm_of (write_failed s failed same) two four five = absurd (four refl)
+  calm_of (help_write_failed text none by front failed input says) two four five = absurd (four refl)
+  calm_of (too_many_lines s same) two four five = absurd (four refl)
+  calm_of (no_thread s same) two four five = absurd (five refl)
+  calm_of (no_memory s same) two four five = absurd (five refl)
+  calm_of (no_memory_for_words input out says) two four five = absurd (five refl)
+
+pub alone_promise_gives_facts : FaultlessAreOrders → AlonePromiseGivesFacts
+alone_promise_gives_facts law files words old new None (asks, same) = record {
+  waits = λ e. asks;
+  untouched = λ e. (ap (λ (w : World). w.input) same, ap (λ (w : World). w.out) same, ap (λ (w : World). w.err) same);
+  threads = λ order limit some is. inl refl;
+  unwritten = λ order limit some is e. cc;
+  facts = λ status e. cc;
+  memory_line = λ e. cc;
+  quiet = λ two four five. ap (λ (w : World). w.err) same;
+}
+alone_promise_gives_facts law files words old new (Some n) p = record {
+  waits = λ e. cc;
+  untouched = λ e. cc;
+  threads = λ order limit some is. inr (ap Some (starving files words old new order limit some is p).0);
+  unwritten = λ order limit some is e. (starving files words old new order limit some is p).1;
+  facts = λ status e. subst (Facts files words old new) (same_Some n status e) (facts_of IsAlone law files words old new n p);
+  memory_line = λ e. line_of files words old new p (same_Some n 5 e);
+  quiet = λ two four five. calm_of files words old new p (λ e. two (ap Some e)) (λ e. four (ap Some e)) (λ e. five (ap Some e));
+}

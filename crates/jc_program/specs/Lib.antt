@@ -1,0 +1,16 @@
+pub mod Sent
+pub mod WorkFaults
+pub mod Ends
+pub mod Recordings
+pub mod Texts
+pub mod Runs
+pub mod Ran
+pub mod Due
+pub mod Played
+pub mod Faults
+pub mod Talked
+pub mod Orders
+pub mod Threaded
+pub mod Promise
+pub mod PromiseFacts
+pub mod Laws

@@ -1,0 +1,222 @@
+-- The program's promise: the ways in which it may end, and what each leaves.
+use Rattle.std.specs.Prelude.{◌≡◌, ◌≢◌, ◌⊎◌, ◌<◌, ◌+◌, ℕ, List, [], Bool, Option, Some, None, codes}
+use Rattle.std.specs.Io.KnownBytes.{Appends}
+use Rattle.jc_rules.specs.Told.{AppendsFront, LosesUpTo}
+use Rattle.jc_rules.specs.declared.io.Source.{Ghosts as SourceGhosts}
+use Rattle.jc_rules.specs.declared.io.Sink.{Ghosts as SinkGhosts}
+use Rattle.jc_words.specs.Words.{words_order, AsksHelp}
+use Rattle.jc_words.specs.declared.order.Order.{Order}
+use Rattle.jc_words.specs.declared.order.Task.{Task}
+use Rattle.jc_words.specs.declared.order.Task.TheVariants.{Show, Debug, Threads}
+use Rattle.jc_program.specs.declared.fault.WorkFault.{WorkFault}
+use Rattle.jc_program.specs.declared.fault.WorkFault.TheVariants.{Read, Write, TooManyLines, NoThread, Memory}
+use Rattle.jc_program.specs.declared.files.Files.{Ghosts as FilesGhosts}
+use Rattle.jc_program.specs.WorkFaults.{fault_line}
+use Rattle.jc_program.specs.Sent.{Sends}
+use Rattle.jc_program.specs.Orders.{IsAlone, IsThreadsOrder}
+use Rattle.jc_program.specs.Ran.{Ran}
+use Rattle.jc_program.specs.Due.{AppendsUpTo, IsDue, AreTold, told_by}
+use Rattle.jc_program.specs.Faults.{IsUnread}
+use Rattle.jc_program.specs.Talked.{lines_by, TalksOn, StopsOn}
+use Rattle.jc_program.specs.Threaded.{ThreadsRan, IsTextOf}
+
+-- ---- the world
+
+-- What is told of a stream: its bytes, where they are known, which are left to be read or were written; and how many of
+-- its calls have failed.
+pub record Stream : Type 0 where
+  pub bytes : Option (List ℕ)
+  pub failures : ℕ
+
+-- standard input, standard output and standard error
+pub record World : Type 0 where
+  pub input : Stream
+  pub out : Stream
+  pub err : Stream
+
+-- What is told of the files by their names: the bytes, where they are known, and whether reading may fail. The program
+-- changes none.
+pub record Files : Type 0 where
+  pub texts : List ℕ → Option (List ℕ)
+  pub may_fail : List ℕ → Bool
+
+-- ---- what is written
+
+-- the whole of a text of this kind was written
+abbrev pub Written : (List ℕ → Type 0) → Stream → Stream → Type 0
+Written IsText old new = (text : List ℕ) × IsText text × Appends old.bytes new.bytes text
+
+-- a prefix of such a text was written, which may be the whole
+abbrev pub WrittenInPart : (List ℕ → Type 0) → Stream → Stream → Type 0
+WrittenInPart IsText old new = (text : List ℕ) × IsText text × AppendsUpTo old.bytes new.bytes text
+
+-- The text was sent to standard error: the whole was written; or one write failed, and a prefix was written.
+abbrev pub Says : World → World → List ℕ → Type 0
+Says old new text = Sends (λ (s : Stream). s.bytes) (λ (s : Stream). s.failures) old.err new.err text
+
+-- no read of standard input failed, and no write to standard output
+pub record NoneFailed (old new : World) : Type 0 where
+  pub input : new.input.failures ≡ old.input.failures
+  pub out : new.out.failures ≡ old.out.failures
+
+-- ---- what is read
+
+-- Standard input is read for the text of the file `-` alone, and at most 8,388,609 bytes of it.
+pub record ReadsText (file : List ℕ) (old new : World) : Type 0 where
+  pub other_file : file ≢ codes "-" → new.input ≡ old.input
+  pub most : LosesUpTo 8388609 old.input.bytes new.input.bytes
+
+-- What an order that ends so reads of standard input. A session reads its lines there, unless they are none, because the
+-- input has the scenario or the scenario was refused.
+abbrev pub ReadsFor : Order → ℕ → World → World → Type 0
+ReadsFor order status old new =
+    ((order.task ≢ Debug) ⊎ ((status ≡ 1) ⊎ (order.file ≡ codes "-")) → ReadsText order.file old new)
+
+-- ---- orders
+
+-- A task on a scenario's bytes and a session's lines, as far as these are told, came to its end with this status: its
+-- whole text was written.
+abbrev pub Completes : Task → List ℕ → Option (List ℕ) → World → World → ℕ → Type 0
+Completes (Show view) bytes lines old new status =
+    Written (λ text. Ran view bytes text status) old.out new.out × (new.err ≡ old.err)
+Completes Debug bytes lines old new status =
+    TalksOn bytes lines old.out.bytes new.out.bytes status × (new.err ≡ old.err)
+Completes (Threads limit) bytes lines old new status =
+    (said : List ℕ) × Written (λ text. ThreadsRan limit bytes text said status) old.out new.out × Says old new said
+
+-- A fault stopped a task on these bytes, and these lines, of which those are left: a prefix of its text was written. It
+-- has no byte where the text of a view or for threads wasn't read, and for threads unless a write failed.
+abbrev pub Breaks : Task → WorkFault → List ℕ → Option (List ℕ) → Option (List ℕ) → World → World → Type 0
+Breaks (Show view) Read bytes lines left old new = new.out.bytes ≡ old.out.bytes
+Breaks (Show view) Write bytes lines left old new = WrittenInPart (IsDue view bytes) old.out new.out
+Breaks (Show view) TooManyLines bytes lines left old new = ⊥
+Breaks (Show view) NoThread bytes lines left old new = ⊥
+Breaks (Show view) Memory bytes lines left old new = WrittenInPart (IsDue view bytes) old.out new.out
+Breaks Debug fault bytes lines left old new = StopsOn fault bytes lines left old.out.bytes new.out.bytes
+Breaks (Threads limit) Write bytes lines left old new =
+    WrittenInPart (IsTextOf (ThreadsRan limit bytes)) old.out new.out
+Breaks (Threads limit) TooManyLines bytes lines left old new = ⊥
+Breaks (Threads limit) fault bytes lines left old new = new.out.bytes ≡ old.out.bytes
+
+-- The words are an order with a task of this kind, which came to its end with this status.
+pub record Carried (Does : Task → Type 0) (files : Files) (words : List (List ℕ)) (old new : World) (status : ℕ)
+    : Type 0 where
+  pub order : Order
+  pub is_order : words_order words ≡ Some order
+  pub does : Does order.task
+  pub bytes : List ℕ
+  pub told : AreTold (told_by old.input.bytes files.texts order.file) bytes
+  pub completes : Completes order.task bytes (lines_by old.input.bytes order.file) old new status
+  pub reads : ReadsFor order status old new
+  pub none_failed : NoneFailed old new
+
+-- The words are an order with a task of this kind, which a fault stopped: its line was sent.
+pub record Stopped (Does : Task → Type 0) (files : Files) (words : List (List ℕ)) (old new : World) (fault : WorkFault)
+    : Type 0 where
+  pub order : Order
+  pub is_order : words_order words ≡ Some order
+  pub does : Does order.task
+  pub bytes : List ℕ
+  pub told : AreTold (told_by old.input.bytes files.texts order.file) bytes
+  pub breaks : Breaks order.task fault bytes (lines_by old.input.bytes order.file)
+      (lines_by new.input.bytes order.file) old new
+  pub reads : ReadsFor order 4 old new
+  pub line : Says old new (fault_line fault)
+
+-- the order's file isn't standard input, and may fail to be read
+abbrev pub IsUnreadable : {Does : Task → Type 0} {files : Files} {words : List (List ℕ)} {old new : World}
+    {fault : WorkFault} → Stopped Does files words old new fault → Type 0
+IsUnreadable {files = files} s = IsUnread files.may_fail s.order.file
+
+-- ---- the promise
+
+-- Called with these words, among these files, the program ends with the status; the world was the old one before and is
+-- the new one now. It carries out the orders with a task of this kind.
+pub data Promise (Does : Task → Type 0) (files : Files) (words : List (List ℕ)) (old new : World) : ℕ → Type 0 where
+  -- the order was carried out
+  done : Carried Does files words old new 0 → Promise Does files words old new 0
+  -- its text was refused
+  text_refused : Carried Does files words old new 1 → Promise Does files words old new 1
+  -- an event of it was stuck
+  stuck : Carried Does files words old new 3 → Promise Does files words old new 3
+  -- a thread of it had no memory; what all threads made is written
+  thread_starved : Carried Does files words old new 5 → Promise Does files words old new 5
+  -- the words ask for help, which was written
+  help : (text : List ℕ)
+      → words_order words ≡ None
+      → AsksHelp words
+      → text ≢ []
+      → Appends old.out.bytes new.out.bytes text
+      → NoneFailed old new
+      → new.input ≡ old.input
+      → new.err ≡ old.err
+      → Promise Does files words old new 0
+  -- the words are no order, nor do they ask for help; standard error was sent why
+  usage : (text : List ℕ)
+      → words_order words ≡ None
+      → (AsksHelp words → ⊥)
+      → text ≢ []
+      → Says old new text
+      → new.input ≡ old.input
+      → new.out ≡ old.out
+      → Promise Does files words old new 2
+  -- a read failed, or the order's file may fail to be read
+  read_failed : (s : Stopped Does files words old new Read)
+      → (old.input.failures < new.input.failures) ⊎ IsUnreadable s
+      → new.out.failures ≡ old.out.failures
+      → Promise Does files words old new 4
+  -- a write failed
+  write_failed : Stopped Does files words old new Write
+      → old.out.failures < new.out.failures
+      → new.input.failures ≡ old.input.failures
+      → Promise Does files words old new 4
+  -- a write of the help failed: a prefix of it was written, but not the whole
+  help_write_failed : (text : List ℕ)
+      → words_order words ≡ None
+      → AsksHelp words
+      → AppendsFront old.out.bytes new.out.bytes text
+      → new.out.failures ≡ old.out.failures + 1
+      → new.input ≡ old.input
+      → Says old new (fault_line Write)
+      → Promise Does files words old new 4
+  -- a session had more lines than it may have
+  too_many_lines : Stopped Does files words old new TooManyLines
+      → NoneFailed old new
+      → Promise Does files words old new 4
+  -- a thread couldn't be made
+  no_thread : Stopped Does files words old new NoThread
+      → NoneFailed old new
+      → Promise Does files words old new 5
+  -- there was no memory to carry the order out
+  no_memory : Stopped Does files words old new Memory
+      → NoneFailed old new
+      → Promise Does files words old new 5
+  -- there was no memory for the words, whatever they are; nothing was read or written but the line
+  no_memory_for_words : new.input ≡ old.input
+      → new.out ≡ old.out
+      → Says old new (fault_line Memory)
+      → Promise Does files words old new 5
+
+-- every task: those of the whole program
+abbrev pub All : Task → Type 0
+All task = Unit {0}
+
+-- The program but for runs by threads. Where the words ask for one it has no answer, and has done nothing; or there was no
+-- memory for the words.
+abbrev pub PromiseAlone : Files → List (List ℕ) → World → World → Option ℕ → Type 0
+PromiseAlone files words old new None = IsThreadsOrder words × (new ≡ old)
+PromiseAlone files words old new (Some status) = Promise IsAlone files words old new status
+
+-- ---- the world of a call
+
+abbrev pub source : {S : Type 0} → SourceGhosts S → S → Stream
+source g s = record { bytes = g.left s; failures = g.failures s }
+
+abbrev pub sink : {S : Type 0} → SinkGhosts S → S → Stream
+sink g s = record { bytes = g.taken s; failures = g.failures s }
+
+abbrev pub world : {I K E : Type 0} → SourceGhosts I → SinkGhosts K → SinkGhosts E → I → K → E → World
+world i k e input out err = record { input = source i input; out = sink k out; err = sink e err }
+
+abbrev pub files_of : {R : Type 0} → FilesGhosts R → R → Files
+files_of r rt = record { texts = r.texts rt; may_fail = r.may_fail rt }

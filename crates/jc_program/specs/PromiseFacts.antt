@@ -1,0 +1,140 @@
+-- What follows from the promise, fact by fact.
+use Rattle.std.specs.Prelude.{◌≡◌, ◌≢◌, ◌⊎◌, ◌<◌, ℕ, List, [], Option, Some, None, codes}
+use Rattle.std.specs.Io.KnownBytes.{Appends}
+use Rattle.jc_rules.specs.Told.{LosesUpTo}
+use Rattle.jc_words.specs.Words.{words_order, AsksHelp, IsFaultless}
+use Rattle.jc_words.specs.declared.order.Order.{Order}
+use Rattle.jc_words.specs.declared.order.Task.TheVariants.{Debug, Threads}
+use Rattle.jc_program.specs.declared.fault.WorkFault.{WorkFault}
+use Rattle.jc_program.specs.WorkFaults.{fault_status, fault_line}
+use Rattle.jc_program.specs.Due.{told_by}
+use Rattle.jc_program.specs.Faults.{IsCause, IsUnread}
+use Rattle.jc_program.specs.Talked.{lines_by}
+use Rattle.jc_program.specs.Orders.{IsAlone, IsDone, IsStopped, IsThreadsOrder}
+use Rattle.jc_program.specs.Threaded.{HaveThreaded, IsThreadsFault}
+use Rattle.jc_program.specs.Promise.{World, Files, Says}
+
+module _ (files : Files) (words : List (List ℕ)) (old new : World) (result : ℕ) where
+  -- an order is no fault of the words
+  abbrev pub OrderFact : Type 0
+  OrderFact = (order : Order) → words_order words ≡ Some order → result ≢ 2
+
+  -- nor are words in which the command line finds none
+  abbrev pub TakenFact : Type 0
+  TakenFact = IsFaultless words → result ≢ 2
+
+  -- an order that waits for nobody, and was done: what it shows was written
+  abbrev pub DoneFact : Type 0
+  DoneFact = (order : Order) → words_order words ≡ Some order → IsAlone order.task → result ≢ 4 → result ≢ 5
+      → IsDone order.task (told_by old.input.bytes files.texts order.file) (lines_by old.input.bytes order.file)
+      old.out.bytes new.out.bytes result
+
+  -- such an order that a fault stopped: its line was sent, and a prefix of what it shows was written
+  abbrev pub StoppedFact : Type 0
+  StoppedFact = (order : Order) → words_order words ≡ Some order → IsAlone order.task → (result ≡ 4) ⊎ (result ≡ 5)
+      → (fault : WorkFault) × (result ≡ fault_status fault) × Says old new (fault_line fault)
+      × IsCause fault (IsUnread files.may_fail order.file)
+      old.input.failures new.input.failures old.out.failures new.out.failures
+      × IsStopped order.task fault (told_by old.input.bytes files.texts order.file) (lines_by old.input.bytes order.file)
+      (lines_by new.input.bytes order.file) old.out.bytes new.out.bytes
+
+  -- threads ran to their end, or a fault stopped the command
+  abbrev pub ThreadsFact : Type 0
+  ThreadsFact = (order : Order) (limit : ℕ) → words_order words ≡ Some order → order.task ≡ Threads limit
+      → HaveThreaded limit (told_by old.input.bytes files.texts order.file) old.out.bytes new.out.bytes
+      (Says old new) result
+      ⊎ IsThreadsFault limit (told_by old.input.bytes files.texts order.file) (IsUnread files.may_fail order.file)
+      old.input.failures new.input.failures old.out.failures new.out.failures
+      old.out.bytes new.out.bytes (Says old new) result
+
+  -- words that ask for help
+  abbrev pub HelpFact : Type 0
+  HelpFact = AsksHelp words → (result ≡ 0) ⊎ ((result ≡ 4) ⊎ (result ≡ 5))
+
+  -- help that was not written
+  abbrev pub LostFact : Type 0
+  LostFact = words_order words ≡ None → result ≡ 4
+      → (old.out.failures < new.out.failures) × Says old new (codes "write failed\n")
+
+  -- words that are neither an order nor ask for help
+  abbrev pub FaultyFact : Type 0
+  FaultyFact = words_order words ≡ None → (AsksHelp words → ⊥) → (result ≡ 2) ⊎ (result ≡ 5)
+
+  -- a fault of the words writes nothing on standard output
+  abbrev pub SilentFact : Type 0
+  SilentFact = result ≡ 2 → new.out ≡ old.out
+
+  -- nor does want of memory for words that are no order
+  abbrev pub UnshownFact : Type 0
+  UnshownFact = words_order words ≡ None → result ≡ 5 → new.out ≡ old.out
+
+  -- help is a text
+  abbrev pub ShownFact : Type 0
+  ShownFact = words_order words ≡ None → result ≡ 0
+      → (text : List ℕ) × (text ≢ []) × Appends old.out.bytes new.out.bytes text
+
+  -- and so is why words are no order
+  abbrev pub UsageFact : Type 0
+  UsageFact = result ≡ 2 → (text : List ℕ) × (text ≢ []) × Says old new text
+
+  -- words that are no order read nothing
+  abbrev pub UnreadFact : Type 0
+  UnreadFact = words_order words ≡ None → new.input ≡ old.input
+
+  -- standard input is left alone where the order names another file, but by a session whose scenario is there
+  abbrev pub OtherFileFact : Type 0
+  OtherFileFact = (order : Order) → words_order words ≡ Some order → (order.task ≢ Debug) ⊎ (result ≡ 1)
+      → order.file ≢ codes "-" → new.input ≡ old.input
+
+  -- of a text at most so many bytes are read
+  abbrev pub MostFact : Type 0
+  MostFact = (order : Order) → words_order words ≡ Some order → (order.task ≢ Debug) ⊎ (order.file ≡ codes "-")
+      → LosesUpTo 8388609 old.input.bytes new.input.bytes
+
+  -- failures come with the status 4 alone
+  abbrev pub FailedFact : Type 0
+  FailedFact = result ≢ 4 → (new.input.failures ≡ old.input.failures) × (new.out.failures ≡ old.out.failures)
+
+  -- unless threads are asked for, want of memory has its line
+  abbrev pub MemoryLineFact : Type 0
+  MemoryLineFact = (IsThreadsOrder words → ⊥) → result ≡ 5 → Says old new (codes "no memory\n")
+
+  -- and standard error is left alone but for faults
+  abbrev pub QuietFact : Type 0
+  QuietFact = (IsThreadsOrder words → ⊥) → result ≢ 2 → result ≢ 4 → result ≢ 5 → new.err ≡ old.err
+
+-- all of them
+pub record Facts (files : Files) (words : List (List ℕ)) (old new : World) (result : ℕ) : Type 0 where
+  pub order : OrderFact files words old new result
+  pub taken : TakenFact files words old new result
+  pub done : DoneFact files words old new result
+  pub stopped : StoppedFact files words old new result
+  pub threads : ThreadsFact files words old new result
+  pub help : HelpFact files words old new result
+  pub lost : LostFact files words old new result
+  pub faulty : FaultyFact files words old new result
+  pub silent : SilentFact files words old new result
+  pub unshown : UnshownFact files words old new result
+  pub shown : ShownFact files words old new result
+  pub usage : UsageFact files words old new result
+  pub unread : UnreadFact files words old new result
+  pub other_file : OtherFileFact files words old new result
+  pub most : MostFact files words old new result
+  pub failed : FailedFact files words old new result
+  pub memory_line : MemoryLineFact files words old new result
+  pub quiet : QuietFact files words old new result
+
+-- The program but for runs by threads: where it has an answer, all of these facts are so of it.
+pub record AloneFacts (files : Files) (words : List (List ℕ)) (old new : World) (result : Option ℕ) : Type 0 where
+  -- it has no answer where threads are asked for alone
+  pub waits : result ≡ None → IsThreadsOrder words
+  pub untouched : result ≡ None → (new.input ≡ old.input) × (new.out ≡ old.out) × (new.err ≡ old.err)
+  -- there it has none, unless there was no memory for the words
+  pub threads : (order : Order) (limit : ℕ) → words_order words ≡ Some order → order.task ≡ Threads limit
+      → (result ≡ None) ⊎ (result ≡ Some 5)
+  pub unwritten : (order : Order) (limit : ℕ) → words_order words ≡ Some order → order.task ≡ Threads limit
+      → result ≡ Some 5 → new.out ≡ old.out
+  pub facts : (status : ℕ) → result ≡ Some status → Facts files words old new status
+  -- whatever the words are
+  pub memory_line : result ≡ Some 5 → Says old new (codes "no memory\n")
+  pub quiet : result ≢ Some 2 → result ≢ Some 4 → result ≢ Some 5 → new.err ≡ old.err

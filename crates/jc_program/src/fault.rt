@@ -1,0 +1,58 @@
+//! Faults of the program's work.
+
+ghost use Rattle.std.specs.Prelude.{◌≡◌};
+ghost use Rattle.jc_program.specs.WorkFaults.{fault_status, fault_line};
+ghost use Rattle.jc_program.specs.Sent.{Sends};
+
+use crate::sending::report;
+use jc_rules::io::Sink;
+
+/// Why there is no status of a run.
+#[derive(Clone, Copy, Debug, PartialEq, Eq)]
+pub enum WorkFault {
+    /// A read failed.
+    Read,
+    /// A write failed.
+    Write,
+    /// A session had more lines than it may have.
+    TooManyLines,
+    /// A thread could not be made.
+    NoThread,
+    /// There was no memory.
+    Memory,
+}
+
+impl WorkFault {
+    fn line(self) -> &'static str
+        ensures { result.now ≡ fault_line self }
+    {
+        match self {
+            WorkFault::Read => "read failed\n",
+            WorkFault::Write => "write failed\n",
+            WorkFault::TooManyLines => "too many lines\n",
+            WorkFault::NoThread => "no thread\n",
+            WorkFault::Memory => "no memory\n",
+        }
+    }
+
+    fn status(self) -> u8
+        ensures { result ≡ fault_status self }
+    {
+        match self {
+            WorkFault::Read => 4,
+            WorkFault::Write => 4,
+            WorkFault::TooManyLines => 4,
+            WorkFault::NoThread => 5,
+            WorkFault::Memory => 5,
+        }
+    }
+}
+
+/// Writes the line of a fault, and answers its status. A failure of `err` changes nothing.
+pub fn end<E: Sink>(fault: WorkFault, err: &mut E) -> u8
+    ensures status { result ≡ fault_status fault }
+    ensures line { Sends E.taken E.failures err.old err.new (fault_line fault) }
+{
+    report(err, fault.line());
+    fault.status()
+}

@@ -1,0 +1,22 @@
+//! The program: checks, prints, runs and debugs scenarios, and runs their replicas in threads.
+#![tactic(auto)]
+
+mod alone;
+mod fault;
+mod files;
+pub mod laws;
+mod lines;
+mod program;
+mod recording;
+mod run;
+mod sending;
+mod sessions;
+mod texts;
+mod threads;
+mod words;
+
+pub use alone::work_alone;
+pub use files::Files;
+pub use program::work;
+pub use recording::{Outcome, RecordFault, Recording, record};
+pub use words::refuse_words;

@@ -1,0 +1,64 @@
+//! The whole program.
+
+ghost use Rattle.std.specs.Prelude.{map, string_bytes};
+ghost use Rattle.jc_program.specs.Orders.{IsThreadsOrder};
+ghost use Rattle.jc_program.specs.Promise.{Promise, All, files_of, world};
+
+use crate::alone::work_alone;
+use crate::fault::{WorkFault, end};
+use crate::files::Files;
+use crate::threads::threads;
+use crate::words::explain;
+use jc_rules::io::{Sink, Source};
+use jc_words::{Task, order_of};
+use std::sync::Wait;
+use std::thread::Threads;
+
+/// Carries words out that ask for threads, and answers the status.
+fn work_threads<R: Threads + Wait + Sync + AllocGlobal + Files, I: Source, K: Sink, E: Sink>(
+    rt: &R,
+    words: &[String],
+    input: &mut I,
+    out: &mut K,
+    err: &mut E,
+) -> u8
+    requires { IsThreadsOrder (map string_bytes words.now) }
+    ensures { Promise All (files_of R.Files rt.now) (map string_bytes words.now)
+        (world I.Source K.Sink E.Sink input.old out.old err.old)
+        (world I.Source K.Sink E.Sink input.new out.new err.new) result }
+{
+    let order = match order_of(rt.alloc(), words) {
+        Ok(order) => order,
+        Err(fault) => return explain(&fault, out, err),
+    };
+    let Task::Threads { limit } = order.task else {
+        unreachable!()
+    };
+    match threads(rt, limit, order.file.as_str(), input, out, err) {
+        Ok(status) => status,
+        Err(fault) => end(fault, err),
+    }
+}
+
+/// The program: `work_alone`, and the command `threads`. This runs each replica in a thread of its
+/// own, and waits for them. The scenario with the schedule that they made is written on the output,
+/// and a line for each replica on `err`. Its status is 3 where an event was stuck, and 5 where one
+/// of the replicas, or the program, had no memory, or no thread could be made.
+///
+/// `specs/Promise.antt` says all ways in which it ends, and what each leaves.
+pub fn work<R: Threads + Wait + Sync + AllocGlobal + Files, I: Source, K: Sink, E: Sink>(
+    rt: &R,
+    words: &[String],
+    input: &mut I,
+    out: &mut K,
+    err: &mut E,
+) -> u8
+    ensures { Promise All (files_of R.Files rt.now) (map string_bytes words.now)
+        (world I.Source K.Sink E.Sink input.old out.old err.old)
+        (world I.Source K.Sink E.Sink input.new out.new err.new) result }
+{
+    match work_alone(rt, words, input, out, err) {
+        Some(status) => status,
+        None => work_threads(rt, words, input, out, err),
+    }
+}

@@ -1,0 +1,165 @@
+//! Runs of all replicas, each in a thread of its own.
+
+ghost use Rattle.std.specs.Prelude.{◌≡◌, ◌≤◌, ℕ, IfOk, vec_len};
+ghost use Rattle.std.specs.List.{list_any};
+ghost use Rattle.jc_scenario.specs.Scenarios.{IsWellFormed};
+ghost use Rattle.jc_scenario.specs.Views.{scenario_view};
+ghost use Rattle.jc_runner.specs.Reports.{IsReport};
+ghost use Rattle.jc_program.specs.Ends.{is_stuck, lacks_memory, outcome_of};
+ghost use Rattle.jc_program.specs.Recordings.{IsRecording};
+ghost use Rattle.jc_program.specs.declared.recording.RecordFault.TheVariants.{Memory as WantOfMemory};
+
+use crate::lines::end_lines;
+use jc_runner::{End, Gate, Report, RunFault, run_threads};
+use jc_scenario::{Scenario, print};
+use std::alloc::{AllocError, Global};
+use std::sync::Wait;
+use std::thread::Threads;
+
+/// How the threads ended, the worst first.
+#[derive(Clone, Copy, Debug, PartialEq, Eq)]
+pub enum Outcome {
+    /// One of them had no memory.
+    NoMemory,
+    /// One of them chose an event that is stuck.
+    Stuck,
+    /// Each came to the end of its script or to its limit.
+    Done,
+}
+
+/// What is told of a run.
+#[derive(Drop)]
+pub struct Recording {
+    /// The canonical text of the scenario, with the schedule that was made in place of its own.
+    pub text: String,
+    /// A line for each replica, in the order of their names: its name, how many events it made, and how it ended.
+    pub lines: String,
+    pub outcome: Outcome,
+}
+
+/// Why there is no recording.
+#[derive(Clone, Copy, Debug, PartialEq, Eq)]
+pub enum RecordFault {
+    /// A request for memory was refused.
+    Memory,
+    /// 47: a thread can't be made, for whatever cause.
+    NoThread,
+}
+
+impl From<AllocError> for RecordFault {
+    ghost from_gives = { λ _ fault. fault ≡ WantOfMemory };
+
+    fn from(_: AllocError) -> Self {
+        RecordFault::Memory
+    }
+}
+
+/// A gate that is open: its replica goes on at once.
+#[derive(Drop)]
+struct Open;
+
+impl Gate for Open {
+    fn before<R: Wait>(&mut self, _rt: &R, _replica: u16, _step: u64) {}
+}
+
+fn open_gates(alloc: Global, count: usize) -> Result<Vec<Open>, AllocError>
+    ensures { IfOk result (λ gates. vec_len gates ≡ count) }
+{
+    let mut gates = Vec::new(alloc);
+    for _ in 0..count {
+        gates.push(Open)?;
+    }
+    Ok(gates)
+}
+
+fn is_no_memory(end: &End) -> bool
+    ensures { result ≡ lacks_memory end.now }
+{
+    match end {
+        End::NoMemory => true,
+        End::Finished | End::StuckAt(_) | End::LimitReached => false,
+    }
+}
+
+fn is_stuck_end(end: &End) -> bool
+    ensures { result ≡ is_stuck end.now }
+{
+    match end {
+        End::StuckAt(_) => true,
+        End::Finished | End::LimitReached | End::NoMemory => false,
+    }
+}
+
+fn any_lacks_memory(ends: &[End]) -> bool
+    ensures { result ≡ list_any lacks_memory ends.now }
+{
+    ends.iter().any(|end| is_no_memory(end))
+}
+
+fn any_is_stuck(ends: &[End]) -> bool
+    ensures { result ≡ list_any is_stuck ends.now }
+{
+    ends.iter().any(|end| is_stuck_end(end))
+}
+
+fn outcome_of(ends: &[End]) -> Outcome
+    ensures { result ≡ outcome_of ends.now }
+{
+    if any_lacks_memory(ends) {
+        Outcome::NoMemory
+    } else if any_is_stuck(ends) {
+        Outcome::Stuck
+    } else {
+        Outcome::Done
+    }
+}
+
+/// The texts of a report.
+fn told(alloc: Global, report: Report) -> Result<Recording, AllocError>
+    requires { (limit : ℕ) × IsReport (scenario_view report.start) limit report }
+    ensures { IfOk result (λ r. (limit : ℕ)
+        → IsReport (scenario_view report.start) limit report
+        → IsRecording (scenario_view report.start) limit r) }
+{
+    let Report {
+        net,
+        schedule,
+        made,
+        ends,
+        start,
+    } = report;
+    let lines = end_lines(alloc, &net, &made, &ends)?;
+    let outcome = outcome_of(&ends);
+    let mut recorded = start;
+    recorded.schedule = schedule;
+    let text = print(alloc, &recorded)?;
+    Ok(Recording {
+        text,
+        lines,
+        outcome,
+    })
+}
+
+/// Runs one thread for each replica, each of which makes the events that its replica chooses, `limit` of them at most,
+/// and tells what they made. The scenario's own schedule is left aside.
+///
+/// Refused for want of memory, or where a thread can't be made; those that were started have ended then.
+pub fn record<R: Threads + Wait + Sync>(
+    rt: &R,
+    alloc: Global,
+    scenario: Scenario,
+    limit: u64,
+) -> Result<Recording, RecordFault>
+    requires scenario { IsWellFormed (scenario_view scenario) }
+    requires limit { limit ≤ 100000 }
+    ensures { IfOk result (IsRecording (scenario_view scenario) limit) }
+{
+    let gates = open_gates(alloc, scenario.scripts.len())?;
+    match run_threads(rt, alloc, scenario, gates, limit) {
+        Ok(report) => Ok(told(alloc, report)?),
+        Err(RunFault::NoThread) => Err(RecordFault::NoThread),
+        Err(RunFault::Memory) => Err(RecordFault::Memory),
+        Err(RunFault::GateCount) => unreachable!(),
+        Err(RunFault::LimitTooLarge) => unreachable!(),
+    }
+}

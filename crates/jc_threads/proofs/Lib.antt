@@ -1,2 +1,0 @@
-mod Tellable
-mod Written

@@ -1,0 +1,11 @@
+pub mod Applied
+pub mod Dropped
+pub mod Numbers
+pub mod Present
+pub mod Writing
+pub mod Elements
+pub mod Members
+pub mod Replicas
+pub mod Names
+pub mod Passing
+pub mod Shown

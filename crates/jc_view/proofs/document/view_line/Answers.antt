@@ -1,0 +1,38 @@
+use Rattle.std.proofs.Common.{rules, ◌≡◌, List, ℕ, [], ◌∷◌, ◌++◌, is_some, codes, ap, sym, ◌∙◌, subst}
+use Rattle.json.specs.Print.{print}
+use Rattle.json.specs.Token as T
+use Rattle.json.specs.Tree.{json_tokens}
+use Rattle.jc_rules.specs.declared.key.Key.TheVariants as K
+use Rattle.jc_rules.specs.Order.{key_cmp}
+use Rattle.jc_rules.specs.Entries.{find}
+use Rattle.jc_rules.specs.Context.{Context, presences}
+use Rattle.jc_rules.specs.Shape.{IsChained}
+use Rattle.jc_view.specs.Visible.{goes_by, present, view_json, view_line}
+use Rattle.jc_view.specs.Parts.{Gains, shown_at, part_tokens}
+use Rattle.jc_view.proofs.Writing.{gains_one, gains_then}
+use Rattle.jc_view.proofs.Members.{view_is, printed}
+use Rattle.jc_view.proofs.document.view_line.Goals as goal
+
+pub write_document-requires : goal.write_document-requires
+write_document-requires g c = subst IsChained (sym c.tree.ensures) c.requires
+
+pub returns : goal.returns
+unfolding view_line
+returns g c =
+    let d = c.args.replica.now.now.tree in
+    let goes = goes_by c.args.replica.now.now in
+    let names = c.args.names.now in
+    let name = c.args.name.now in
+    let a = c.new-out.result in
+    let g1 : Gains a c.begin_object.new.self (T.begin_object ∷ []) = gains_one _ _ _ _ _ c.in_ok-begin_object.was c.begin_object.ensures in
+    let g2 : Gains c.begin_object.new.self c.write_document.new.out (part_tokens (codes "doc") (is_some (find key_cmp K.Doc (present (presences d)))) (shown_at names goes [] d K.Doc)) =
+    subst (λ (x : Context). Gains c.begin_object.new.self c.write_document.new.out (part_tokens (codes "doc") (is_some (find key_cmp K.Doc (present (presences x)))) (shown_at names goes [] x K.Doc))) c.tree.ensures c.in_ok-write_document.ensures in
+    let g3 : Gains c.write_document.new.out c.key.new.self (T.key (codes "name") ∷ []) = gains_one _ _ _ _ _ c.in_ok-key.was c.key.ensures in
+    let g4 : Gains c.key.new.self c.string.new.self (T.string name ∷ []) = gains_one _ _ _ _ _ c.in_ok-string.was c.string.ensures in
+    let g5 : Gains c.string.new.self c.end_object.new.self (T.end_object ∷ []) = gains_one _ _ _ _ _ c.in_ok-end_object.was c.end_object.ensures in
+    let all = gains_then _ _ _ _ _ (gains_then _ _ _ _ _ (gains_then _ _ _ _ _ (gains_then _ _ _ _ _ g1 g2) g3) g4) g5 in
+    let all_is : Gains a c.end_object.new.self (json_tokens (view_json names name c.args.replica.now.now)) = subst (Gains a c.end_object.new.self) (sym (view_is names name goes d)) all in
+    let line : c.into_inner-line.result.items ≡ print (json_tokens (view_json names name c.args.replica.now.now)) =
+    printed a c.end_object.new.self _ _ (c.new-out.ensures.before ∙ c.new.ensures.items) c.new-out.ensures.tokens all_is c.into_inner-line.ensures.items in
+    let pushed : c.push.new.self.items ≡ c.into_inner-line.result.items ++ 10 ∷ [] = search rules in
+    pushed ∙ ap (λ (x : List ℕ). x ++ 10 ∷ []) line

@@ -1,0 +1,28 @@
+//! Laws of views. Each function does nothing: its contract is the law.
+
+ghost use Rattle.jc_view.specs.Laws.{DroppedShowTheSame, ViewsConverge, PresentAreAlive, ViewsHaveNumbers, NamesStayApart};
+
+/// Empty presence sets show nothing.
+pub fn dropped_show_the_same()
+    ensures { DroppedShowTheSame }
+{}
+
+/// In each network that is reached from a start, replicas that have applied the same operations show the same document.
+pub fn views_converge()
+    ensures { ViewsConverge }
+{}
+
+/// In each network that is reached from a start, a map or a list in which something is present is alive.
+pub fn present_are_alive()
+    ensures { PresentAreAlive }
+{}
+
+/// What is shown has numbers of JSON alone.
+pub fn views_have_numbers()
+    ensures { ViewsHaveNumbers }
+{}
+
+/// No name of a map is shown as a conflict is, and different names are shown as different ones.
+pub fn names_stay_apart()
+    ensures { NamesStayApart }
+{}

@@ -1,0 +1,11 @@
+//! The document of a replica as an application sees it.
+#![tactic(auto)]
+
+mod alive;
+mod document;
+pub mod laws;
+mod replica;
+mod values;
+
+pub use document::view_line;
+pub use replica::view_replica;
