@@ -4,7 +4,7 @@ _jsoncrdt() {
     local word=${COMP_WORDS[COMP_CWORD]} before=${COMP_WORDS[COMP_CWORD - 1]} options=
     COMPREPLY=()
     if [ "$COMP_CWORD" -eq 1 ]; then
-        COMPREPLY=($(compgen -W 'check print run view debug threads help --help --version' -- "$word"))
+        COMPREPLY=($(compgen -W 'check print run view debug threads --help' -- "$word"))
         return
     fi
     case ${COMP_WORDS[1]} in

@@ -7,7 +7,6 @@ Command = namedtuple("Command", "name options about more")
 
 ABOUT = "executes scenarios of a replicated JSON document, and debugs them forwards and backwards"
 HELP = Option("--help", None, "print the help of the program, or of the command before it")
-VERSION = Option("--version", None, "print the version")
 COMMANDS = [
     Command("check", [], "tell whether a text is a scenario",
             "Prints how many replicas, commands and events the scenario has."),
