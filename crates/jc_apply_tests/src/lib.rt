@@ -1,5 +1,0 @@
-//! Tests of applying operations.
-#![tactic(auto)]
-
-#[cfg(test)]
-mod worked;

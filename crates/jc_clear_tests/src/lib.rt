@@ -1,7 +1,0 @@
-//! Tests of clearing.
-#![tactic(auto)]
-
-#[cfg(test)]
-mod clearing;
-#[cfg(test)]
-mod placed;

@@ -1,5 +1,0 @@
-//! Tests of what fits.
-#![tactic(auto)]
-
-#[cfg(test)]
-mod fitting;

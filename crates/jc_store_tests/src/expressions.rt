@@ -1,0 +1,155 @@
+//! Expressions in documents that were made by operations or by hand.
+
+ghost use Rattle.jc_rules.specs.Shape.{IsChained};
+ghost use Rattle.jc_store_tests.specs.Ready.{IsReady};
+
+use crate::by_hand::{make_map, put_ids, put_true};
+use crate::keys::{At, Keys, SECOND, THIRD, text};
+use crate::operations::{FIRST_DELETED, id_of, make_all};
+use jc_cursor::{Bound, EvalFault, eval};
+use jc_parser::parse_expr;
+use jc_rules::{Key, Tagged, Text, Trace, Value};
+use jc_tree::{TreeStore, is_place};
+use std::alloc::{AllocError, Global};
+use std::process::Abort;
+
+/// What the expression gives.
+fn given<S: TreeStore>(
+    alloc: Global,
+    store: &S,
+    vars: &[(Text, Bound)],
+    expr: &str,
+    trace: &mut Trace,
+) -> Result<Bound, EvalFault>
+    requires { IsChained (S.tree store.now).now }
+{
+    let expr = parse_expr(alloc, expr).map_err(|_| AllocError)?;
+    eval(alloc, store, vars, &expr, trace)
+}
+
+/// Whether it is the cursor to this key of the document's list.
+fn is_element(bound: &Bound, last: &Key) -> bool {
+    match bound {
+        Bound::Cursor(cursor) => {
+            cursor.path.as_slice() == [Tagged::ListT(Key::Doc)].as_slice() && cursor.last == *last
+        }
+        _ => false,
+    }
+}
+
+/// Whether it is one name, `a`.
+fn is_name(bound: &Bound) -> bool {
+    match bound {
+        Bound::Keys(names) => match names.as_slice() {
+            [name] => name.as_str() == "a",
+            _ => false,
+        },
+        _ => false,
+    }
+}
+
+/// Whether it is one value, `y` of 3@a.
+fn is_value(bound: &Bound) -> bool {
+    match bound {
+        Bound::Values(pairs) => match pairs.as_slice() {
+            [(id, Value::Str(text))] => *id == THIRD && text.as_str() == "y",
+            _ => false,
+        },
+        _ => false,
+    }
+}
+
+/// What an expression gives, or why it is refused.
+#[derive(Clone, Copy)]
+pub enum Want {
+    /// The element of the document's list with this counter.
+    Element(u64),
+    /// The name `a` alone.
+    Name,
+    /// The value `y` of 3@a alone.
+    Value,
+    PastEnd,
+    NoMap,
+}
+
+fn is_given(bound: &Bound, want: Want) -> bool {
+    match want {
+        Want::Element(counter) => is_element(bound, &Key::Elem(id_of(counter))),
+        Want::Name => is_name(bound),
+        Want::Value => is_value(bound),
+        _ => false,
+    }
+}
+
+fn is_refused(fault: &EvalFault, want: Want) -> bool {
+    match want {
+        Want::PastEnd => *fault == EvalFault::PastEnd,
+        Want::NoMap => *fault == EvalFault::NoMap,
+        _ => false,
+    }
+}
+
+/// Whether it is given, and its copy too.
+fn are_given(bound: &Bound, want: Want) -> Result<bool, AllocError> {
+    Ok(is_given(bound, want) && is_given(&bound.copy()?, want))
+}
+
+/// Whether the expression gives that by so many rules; where it is refused, the trace is as it was.
+pub fn gives<S: TreeStore>(
+    alloc: Global,
+    store: &S,
+    vars: &[(Text, Bound)],
+    expr: &str,
+    want: Want,
+    rules: usize,
+) -> Result<bool, AllocError>
+    requires { IsChained (S.tree store.now).now }
+{
+    let mut trace = Trace::new(alloc);
+    let is = match given(alloc, store, vars, expr, &mut trace) {
+        Ok(bound) => are_given(&bound, want)?,
+        Err(fault) => is_refused(&fault, want),
+    };
+    Ok(is && trace.rows().len() == rules)
+}
+
+/// `x`, bound to the second element of the document's list.
+fn bound_x<S: TreeStore>(alloc: Global, store: &S) -> Result<(Text, Bound), AllocError>
+    requires { IsChained (S.tree store.now).now }
+{
+    let mut trace = Trace::new(alloc);
+    match given(alloc, store, &[], "doc.idx(1)", &mut trace) {
+        Ok(bound) => Ok((text(alloc, "x")?, bound)),
+        Err(_) => Err(AllocError),
+    }
+}
+
+/// Whether expressions in a list whose first element is deleted give what they should.
+pub fn in_a_list<S: TreeStore>(keys: &Keys, store: &mut S) -> Result<bool, AllocError>
+    requires { IsReady 0 (S.tree store.old).now }
+{
+    make_all(keys, store, FIRST_DELETED)?;
+    let is = gives(keys.alloc, store, &[], "doc.idx(1)", Want::Element(3), 6)?
+        && gives(keys.alloc, store, &[], "doc.idx(2)", Want::PastEnd, 0)?
+        && gives(keys.alloc, store, &[], "doc.idx(0).keys", Want::NoMap, 0)?;
+    let vars = [bound_x(keys.alloc, store)?];
+    Ok(is && gives(keys.alloc, store, &vars, "x.values", Want::Value, 4)?)
+}
+
+/// A map of two names, of which one has no identifier any more, and of a register under an element: one name is given.
+pub fn names_in_a_map<S: TreeStore>(
+    rt: &impl Abort,
+    keys: &Keys,
+    store: &mut S,
+) -> Result<bool, AllocError>
+    requires { IsChained (S.tree store.old).now }
+{
+    let at = [Tagged::MapT(Key::Doc)];
+    make_map(rt, store, &at[0])?;
+    assert!(rt; is_place(store, &at));
+    put_ids(store, &at, keys.key(At::A), &[SECOND])?;
+    put_ids(store, &at, keys.key(At::A1), &[])?;
+    put_true(keys.alloc, store, &at, keys.key(At::Third), THIRD)?;
+    put_ids(store, &at, keys.key(At::Third), &[THIRD])?;
+    gives(keys.alloc, store, &[], "doc.keys", Want::Name, 3)
+}

@@ -1,0 +1,239 @@
+//! A store and a place of it: each call, by the path and by the name of the place.
+
+ghost use Rattle.std.specs.Prelude.{IfSome};
+ghost use Rattle.jc_rules.specs.Ids.{AreRising};
+ghost use Rattle.jc_rules.specs.Context.{IsPrimitive};
+ghost use Rattle.jc_rules.specs.Paths.{HasContext};
+ghost use Rattle.jc_rules.specs.Shape.{IsKeptRegister};
+
+use crate::keys::{At, Keys, Tag, ids_of, values_of};
+use crate::steps::{Kind, Step};
+use jc_rules::{Id, Key, Next, Tagged, Value};
+use jc_tree::{Mark, Place, TreeStore, is_place};
+use std::alloc::AllocError;
+
+/// The name of the place, found key by key.
+fn name_of<S: TreeStore>(store: &S, at: &[Tagged]) -> Option<Place>
+    ensures { IfSome result (λ place. S.names store.now place at.now) }
+{
+    let mut place = store.root();
+    for (depth, key) in at.iter().enumerate() {
+        let above = &at[..depth];
+        if !is_place(store, above) {
+            return None;
+        }
+        place = store.below(place, above, key)?;
+    }
+    Some(place)
+}
+
+/// A store, and the place of it that is changed and looked at. Its calls say whether the store answered as it should;
+/// where there is no such place they say no.
+#[derive(Drop)]
+pub struct Placed<S> {
+    pub store: S,
+    pub at: Vec<Tagged>,
+}
+
+impl<S: TreeStore> Placed<S> {
+    fn make(&mut self, child: &Tagged) -> Result<bool, AllocError> {
+        let at = self.at.as_slice();
+        if !is_place(&self.store, at) || self.store.has(at, child) {
+            return Ok(false);
+        }
+        self.store.make_child(at, child)?;
+        Ok(true)
+    }
+
+    fn make_named(&mut self, child: &Tagged) -> Result<bool, AllocError>
+        requires { HasContext child.now }
+    {
+        let at = self.at.as_slice();
+        if !is_place(&self.store, at) || self.store.has(at, child) {
+            return Ok(false);
+        }
+        let Some(place) = name_of(&self.store, at) else {
+            return Ok(false);
+        };
+        self.store.make_below(place, at, child)?;
+        Ok(true)
+    }
+
+    pub fn put_ids(&mut self, key: &Key, ids: &[Id]) -> Result<bool, AllocError>
+        requires { AreRising ids.now }
+    {
+        if !is_place(&self.store, self.at.as_slice()) {
+            return Ok(false);
+        }
+        self.store.set_presence(self.at.as_slice(), key, ids)?;
+        Ok(true)
+    }
+
+    fn add_id(&mut self, key: &Key, id: Id) -> Result<bool, AllocError> {
+        let at = self.at.as_slice();
+        if !is_place(&self.store, at) {
+            return Ok(false);
+        }
+        let was = self.store.presence(at, key).is_some();
+        Ok(self.store.add_presence(at, key, id)? == was)
+    }
+
+    /// The name of the place lasts.
+    fn add_id_named(&mut self, key: &Key, id: Id) -> Result<bool, AllocError> {
+        let at = self.at.as_slice();
+        if !is_place(&self.store, at) {
+            return Ok(false);
+        }
+        let Some(place) = name_of(&self.store, at) else {
+            return Ok(false);
+        };
+        let was = self.store.presence(at, key).is_some();
+        let told = self.store.add_presence_at(place, at, key, id)?;
+        Ok(told == was && name_of(&self.store, at) == Some(place))
+    }
+
+    pub fn link(&mut self, key: &Key, next: Next) -> Result<bool, AllocError> {
+        if !is_place(&self.store, self.at.as_slice()) {
+            return Ok(false);
+        }
+        self.store.set_next(self.at.as_slice(), key, next)?;
+        Ok(true)
+    }
+
+    fn put_values(&mut self, key: &Key, pairs: Vec<(Id, Value)>) -> Result<bool, AllocError>
+        requires { IsKeptRegister pairs.items }
+    {
+        if !is_place(&self.store, self.at.as_slice()) {
+            return Ok(false);
+        }
+        self.store.set_register(self.at.as_slice(), key, pairs)?;
+        Ok(true)
+    }
+
+    fn put_value(&mut self, key: &Key, id: Id, value: Value) -> Result<bool, AllocError>
+        requires { IsPrimitive value }
+    {
+        let at = self.at.as_slice();
+        if !is_place(&self.store, at) {
+            return Ok(false);
+        }
+        let was = self.store.register(at, key).is_some();
+        Ok(self.store.put_value(at, key, id, value)? == was)
+    }
+
+    /// Makes the change.
+    pub fn change(&mut self, keys: &Keys, step: &Step) -> Result<bool, AllocError> {
+        match step {
+            Step::Make(tag, at) => self.make(&keys.child(*tag, *at)?),
+            Step::MakeNamed(Tag::Map, at) => {
+                self.make_named(&Tagged::MapT(keys.key(*at).copy()?))
+            }
+            Step::MakeNamed(_, at) => self.make_named(&Tagged::ListT(keys.key(*at).copy()?)),
+            Step::PutIds(at, ids) => self.put_ids(keys.key(*at), ids_of(*ids)),
+            Step::AddId(at, id) => self.add_id(keys.key(*at), *id),
+            Step::AddIdNamed(at, id) => self.add_id_named(keys.key(*at), *id),
+            Step::Link(at, next) => self.link(keys.key(*at), *next),
+            Step::PutValues(at, values) => {
+                self.put_values(keys.key(*at), values_of(keys.alloc, *values)?)
+            }
+            Step::PutValue(at, id, None) => self.put_value(keys.key(*at), *id, Value::Null),
+            Step::PutValue(at, id, Some(true)) => self.put_value(keys.key(*at), *id, Value::True),
+            Step::PutValue(at, id, Some(false)) => self.put_value(keys.key(*at), *id, Value::False),
+            _ => Ok(false),
+        }
+    }
+
+    /// Takes what was changed since the mark back.
+    pub fn undo_to(&mut self, mark: Mark) -> bool {
+        if self.store.mark().changes < mark.changes {
+            return false;
+        }
+        self.store.undo_to(mark);
+        self.store.mark() == mark
+    }
+
+    /// Goes to another place or back.
+    pub fn go(&mut self, keys: &Keys, step: &Step) -> Result<bool, AllocError> {
+        match step {
+            Step::Down(tag, at) => {
+                let child = keys.child(*tag, *at)?;
+                self.at.push(child)?;
+                Ok(true)
+            }
+            Step::Up => Ok(self.at.pop().is_some()),
+            Step::Back(changes) => match self.store.mark().changes.checked_sub(*changes) {
+                Some(changes) => Ok(self.undo_to(Mark { changes })),
+                None => Ok(false),
+            },
+            Step::ForgetMarks => {
+                self.store.forget_marks();
+                Ok(true)
+            }
+            _ => Ok(false),
+        }
+    }
+
+    pub fn has(&self, child: &Tagged) -> bool {
+        let at = self.at.as_slice();
+        is_place(&self.store, at) && self.store.has(at, child)
+    }
+
+    pub fn has_below(&self, child: &Tagged) -> bool {
+        let at = self.at.as_slice();
+        if !is_place(&self.store, at) {
+            return false;
+        }
+        let Some(place) = name_of(&self.store, at) else {
+            return false;
+        };
+        self.store.below(place, at, child).is_some()
+    }
+
+    /// The least key of the kind above the given one.
+    pub fn after(&self, of: Kind, above: Option<&Key>) -> Option<&Key> {
+        let at = self.at.as_slice();
+        if !is_place(&self.store, at) {
+            return None;
+        }
+        match of {
+            Kind::Child => self.store.key_after(at, above),
+            Kind::Presence => self.store.presence_after(at, above),
+            Kind::Link => self.store.link_after(at, above),
+        }
+    }
+
+    fn has_just(&self, keys: &Keys, of: Kind, want: &[At]) -> bool {
+        let mut last = None;
+        for at in want {
+            let key = Some(keys.key(*at));
+            if self.after(of, last) != key {
+                return false;
+            }
+            last = key;
+        }
+        self.after(of, last).is_none()
+    }
+
+    /// Whether the store has what is expected.
+    pub fn sees(&self, keys: &Keys, step: &Step) -> Result<bool, AllocError> {
+        let at = self.at.as_slice();
+        if !is_place(&self.store, at) {
+            return Ok(false);
+        }
+        Ok(match step {
+            Step::HasChild(tag, key, want) => self.has(&keys.child(*tag, *key)?) == *want,
+            Step::HasBelow(tag, key, want) => self.has_below(&keys.child(*tag, *key)?) == *want,
+            Step::Ids(key, want) => self.store.presence(at, keys.key(*key)) == *want,
+            Step::CountPresent(want) => self.store.count_present(at) == *want,
+            Step::Next(key, want) => self.store.next(at, keys.key(*key)) == *want,
+            Step::Values(key, None) => self.store.register(at, keys.key(*key)).is_none(),
+            Step::Values(key, Some(values)) => {
+                let want = values_of(keys.alloc, *values)?;
+                self.store.register(at, keys.key(*key)) == Some(want.as_slice())
+            }
+            Step::Keys(of, want) => self.has_just(keys, *of, want),
+            Step::Changes(want) => self.store.mark().changes == *want,
+            _ => false,
+        })
+    }
+}

@@ -1,0 +1,329 @@
+//! Two replicas on plain stores: each call with ample memory, what can be made, and the way back.
+
+ghost use Rattle.std.specs.Prelude.{◌≡◌, ◌&&◌, leb, eqb};
+ghost use Rattle.std.specs.List.{list_all};
+ghost use Rattle.jc_rules.specs.declared.operation.Op.{Op as AnyOp};
+
+use crate::texts::is_shown;
+use jc_parser::parse_script;
+use jc_replica::{Replica, ReplicaFault};
+use jc_rules::{Event, Id, Op, Trace};
+use jc_tree::PlainTree;
+use std::alloc::{AllocError, Global};
+use std::process::Abort;
+use std::test::Fail;
+
+/// The replica with this number and this script, at its start.
+fn replica(
+    rt: &impl Abort,
+    alloc: Global,
+    number: u16,
+    script: &str,
+) -> Result<Replica<PlainTree>, AllocError> {
+    let script = parse_script(alloc, script).map_err(|_| AllocError)?;
+    assert!(rt; script.len() <= 65_536);
+    Ok(Replica::new(alloc, number, script, PlainTree::new(alloc)))
+}
+
+/// Whether each counter is one that a replica may be handed.
+fn are_handed(ops: &[Op]) -> bool
+    ensures { result ≡ list_all (λ (o : AnyOp). leb 1 o.id.counter && leb o.id.counter 4194304) ops.now }
+{
+    ops.iter()
+        .all(|op| 1 <= op.id.counter && op.id.counter <= 4_194_304)
+}
+
+/// Whether the replica made each operation.
+fn are_of(replica: u16, ops: &[Op]) -> bool
+    ensures { result ≡ list_all (λ (o : AnyOp). eqb o.id.replica replica) ops.now }
+{
+    ops.iter().all(|op| op.id.replica == replica)
+}
+
+/// The one replica receives what the other one offers.
+#[tactic(auto, using(crate::proofs::Handed::handed))]
+fn receive(
+    rt: &impl Abort,
+    alloc: Global,
+    to: &mut Replica<PlainTree>,
+    from: &Replica<PlainTree>,
+) -> Result<Trace, ReplicaFault> {
+    let offered = from.sent();
+    assert!(rt; are_handed(offered));
+    assert!(rt; are_of(from.number(), offered));
+    to.recv(alloc, offered)
+}
+
+/// The replica receives what it offers itself.
+#[tactic(auto, using(crate::proofs::Handed::handed))]
+fn receive_own(
+    rt: &impl Abort,
+    alloc: Global,
+    replica: &mut Replica<PlainTree>,
+) -> Result<Trace, ReplicaFault> {
+    assert!(rt; are_handed(replica.sent()));
+    replica.recv_own(alloc)
+}
+
+/// The replica makes the event. What it receives of another one is what that one offers.
+fn make(
+    rt: &impl Abort,
+    alloc: Global,
+    replica: &mut Replica<PlainTree>,
+    other: &Replica<PlainTree>,
+    event: &Event,
+) -> Result<Trace, ReplicaFault> {
+    match event {
+        Event::Exec(_) => replica.exec(alloc),
+        Event::Send(_) => replica.send(alloc),
+        Event::Recv(p, q) if p == q => receive_own(rt, alloc, replica),
+        Event::Recv(_, _) => receive(rt, alloc, replica, other),
+        Event::Apply(_, id) => replica.apply(alloc, *id),
+        Event::Done(_) => replica.done(alloc),
+    }
+}
+
+/// What is seen of a replica: its commands left, whether it acted, its variables, the greatest counters applied of both
+/// replicas, and its operations made, offered and received.
+#[derive(Clone, Copy, PartialEq, Eq)]
+struct Seen {
+    left: usize,
+    acted: bool,
+    vars: usize,
+    greatest: (u64, u64),
+    made: usize,
+    offered: usize,
+    received: usize,
+}
+
+fn seen_of(replica: &Replica<PlainTree>) -> Seen {
+    Seen {
+        left: replica.left().len(),
+        acted: replica.acted(),
+        vars: replica.vars().len(),
+        greatest: (replica.ops().greatest_of(0), replica.ops().greatest_of(1)),
+        made: replica.queue().len(),
+        offered: replica.sent().len(),
+        received: replica.received().len(),
+    }
+}
+
+/// An event, and whether it is made: that is where it can be.
+type Row = (Event, bool);
+
+/// Whether the replica can make the event as expected, and makes it; where it is refused, nothing changes.
+fn is_made(
+    rt: &impl Abort,
+    alloc: Global,
+    replica: &mut Replica<PlainTree>,
+    other: &Replica<PlainTree>,
+    row: &Row,
+) -> Result<bool, AllocError> {
+    let (event, want) = row;
+    if event.replica() != replica.number() || replica.can(alloc, event)? != *want {
+        return Ok(false);
+    }
+    let before = seen_of(replica);
+    let is = make(rt, alloc, replica, other, event).is_ok();
+    Ok(is == *want && (is || seen_of(replica) == before))
+}
+
+/// Two replicas of one document.
+#[derive(Drop)]
+struct Pair {
+    a: Replica<PlainTree>,
+    b: Replica<PlainTree>,
+}
+
+impl Pair {
+    fn new(rt: &impl Abort, alloc: Global, scripts: &[&str; 2]) -> Result<Self, AllocError> {
+        let a = replica(rt, alloc, 0, scripts[0])?;
+        let b = replica(rt, alloc, 1, scripts[1])?;
+        Ok(Pair { a, b })
+    }
+
+    fn is_made(&mut self, rt: &impl Abort, alloc: Global, row: &Row) -> Result<bool, AllocError> {
+        if row.0.replica() == 0 {
+            is_made(rt, alloc, &mut self.a, &self.b, row)
+        } else {
+            is_made(rt, alloc, &mut self.b, &self.a, row)
+        }
+    }
+
+    fn seen(&self) -> (Seen, Seen) {
+        (seen_of(&self.a), seen_of(&self.b))
+    }
+
+    /// Makes the events, and keeps what was seen before each that is made.
+    fn make(
+        &mut self,
+        rt: &impl Abort,
+        alloc: Global,
+        rows: &[Row],
+        kept: &mut Vec<(u16, Seen, Seen)>,
+    ) -> Result<(), AllocError> {
+        for (number, row) in rows.iter().enumerate() {
+            let (of_a, of_b) = self.seen();
+            if row.1 {
+                kept.push((row.0.replica(), of_a, of_b))?;
+            }
+            assert!(rt; self.is_made(rt, alloc, row)?, "{number}");
+        }
+        Ok(())
+    }
+
+    /// Takes each step back: the same is seen as before it.
+    fn go_back(&mut self, rt: &impl Abort, kept: &[(u16, Seen, Seen)]) {
+        for (p, of_a, of_b) in kept.iter().rev() {
+            let is = if *p == 0 {
+                self.a.undo()
+            } else {
+                self.b.undo()
+            };
+            assert!(rt; is && self.seen() == (*of_a, *of_b));
+        }
+        assert!(rt; !self.a.undo() && !self.b.undo());
+    }
+}
+
+const ONE_A: Id = Id {
+    counter: 1,
+    replica: 0,
+};
+
+const TWO_A: Id = Id {
+    counter: 2,
+    replica: 0,
+};
+
+const TWO_B: Id = Id {
+    counter: 2,
+    replica: 1,
+};
+
+/// The identifier of no operation.
+const NINE_A: Id = Id {
+    counter: 9,
+    replica: 0,
+};
+
+/// Both replicas insert at the head of a list.
+const INSERTS: [&str; 2] = [
+    "doc.get(\"l\") := []; yield; doc.get(\"l\").idx(0).insertAfter(\"x\"); yield",
+    "yield; doc.get(\"l\").idx(0).insertAfter(\"y\"); yield",
+];
+
+/// They meet, with events on the way that can't be made.
+const MEETING: &[Row] = &[
+    (Event::Send(0), false),
+    (Event::Exec(0), true),
+    (Event::Exec(0), false),
+    (Event::Done(0), false),
+    (Event::Send(0), true),
+    (Event::Recv(0, 0), true),
+    (Event::Apply(0, ONE_A), false),
+    (Event::Apply(0, NINE_A), false),
+    (Event::Done(0), true),
+    (Event::Apply(1, ONE_A), false),
+    (Event::Recv(1, 0), true),
+    (Event::Apply(1, ONE_A), true),
+    (Event::Done(1), true),
+    (Event::Exec(0), true),
+    (Event::Exec(1), true),
+    (Event::Send(0), true),
+    (Event::Send(1), true),
+    (Event::Recv(0, 1), true),
+    (Event::Recv(1, 0), true),
+    (Event::Apply(0, TWO_B), true),
+    (Event::Apply(1, TWO_A), true),
+    (Event::Done(0), true),
+    (Event::Done(0), false),
+];
+
+const MET: &str =
+    "{\"mapT(doc)\":{\"listT(\\\"l\\\")\":{\"next(2@a)\":\"tail\",\"next(2@b)\":\"2@a\",\"next(head)\":\"2@b\",\"pres(2@a)\":[\"2@a\"],\"pres(2@b)\":[\"2@b\"],\"regT(2@a)\":{\"2@a\":\"x\"},\"regT(2@b)\":{\"2@b\":\"y\"}},\"pres(\\\"l\\\")\":[\"1@a\",\"2@a\",\"2@b\"]},\"pres(doc)\":[\"1@a\",\"2@a\",\"2@b\"]}";
+
+/// What is seen of replica 0, whose script has ended, and of replica 1, which is at its last yield.
+const MET_SEEN: (Seen, Seen) = (
+    Seen {
+        left: 0,
+        acted: false,
+        vars: 0,
+        greatest: (2, 2),
+        made: 2,
+        offered: 2,
+        received: 2,
+    },
+    Seen {
+        left: 1,
+        acted: true,
+        vars: 0,
+        greatest: (2, 2),
+        made: 1,
+        offered: 1,
+        received: 2,
+    },
+);
+
+/// The replicas meet, and take each step back.
+fn meet(
+    rt: &impl Abort,
+    alloc: Global,
+    pair: &mut Pair,
+    kept: &mut Vec<(u16, Seen, Seen)>,
+) -> Result<(), AllocError> {
+    pair.make(rt, alloc, MEETING, kept)?;
+    assert!(rt; pair.seen() == MET_SEEN);
+    let is = is_shown(alloc, pair.a.tree(), MET)? && is_shown(alloc, pair.b.tree(), MET)?;
+    assert!(rt; is);
+    pair.go_back(rt, kept.as_slice());
+    let is = is_shown(alloc, pair.a.tree(), "{}")? && is_shown(alloc, pair.b.tree(), "{}")?;
+    assert!(rt; is);
+    Ok(())
+}
+
+#[test]
+fn meeting(rt: HostRuntime) -> Result<(), Fail> {
+    let mut kept = Vec::new(rt.alloc());
+    let mut pair = Pair::new(&rt, rt.alloc(), &INSERTS)?;
+    meet(&rt, rt.alloc(), &mut pair, &mut kept)?;
+    Ok(())
+}
+
+/// A script whose 515th command leads to the deepest cursor; the one after it would lead deeper.
+fn deepest_script(alloc: Global) -> Result<String, AllocError> {
+    let mut script = String::from_str(alloc, "let x = doc")?;
+    for _ in 0..512 {
+        script.push_str("; let x = x.get(\"a\")")?;
+    }
+    script.push_str("; x := 1; doc := {}; let x = x.get(\"a\")")?;
+    Ok(script)
+}
+
+/// Replica 0 runs the script up to the command that would lead too deep, and takes each step back.
+fn go_deep(
+    rt: &impl Abort,
+    alloc: Global,
+    pair: &mut Pair,
+    kept: &mut Vec<(u16, Seen, Seen)>,
+) -> Result<(), AllocError> {
+    pair.make(rt, alloc, &[(Event::Exec(0), true); 515], kept)?;
+    pair.make(rt, alloc, &[(Event::Exec(0), false)], kept)?;
+    assert!(rt; pair.a.left().len() == 1);
+    pair.go_back(rt, kept.as_slice());
+    Ok(())
+}
+
+/// Two replicas, the first with that script.
+fn deep_pair(rt: &impl Abort, alloc: Global) -> Result<Pair, AllocError> {
+    let script = deepest_script(alloc)?;
+    Pair::new(rt, alloc, &[script.as_str(), ""])
+}
+
+#[test]
+fn deepest_cursor(rt: HostRuntime) -> Result<(), Fail> {
+    let mut kept = Vec::new(rt.alloc());
+    let mut pair = deep_pair(&rt, rt.alloc())?;
+    go_deep(&rt, rt.alloc(), &mut pair, &mut kept)?;
+    Ok(())
+}

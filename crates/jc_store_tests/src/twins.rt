@@ -1,0 +1,146 @@
+//! Two stores, a plain one and a fast one, that take the same steps.
+
+use crate::keys::{At, Keys, Tag};
+use crate::placed::Placed;
+use crate::steps::{Kind, Step};
+use jc_rules::{Key, Tagged};
+use jc_tree::{ArenaTree, PlainTree, TreeStore, is_place};
+use std::alloc::{AllocError, Global};
+use std::process::Abort;
+
+/// The keys that the walk uses.
+const KEYS: [At; 6] = [At::Doc, At::Head, At::A, At::A1, At::First, At::Second];
+
+const TAGS: [Tag; 3] = [Tag::Map, Tag::List, Tag::Register];
+
+#[derive(Drop)]
+pub struct Twins {
+    pub plain: Placed<PlainTree>,
+    pub arena: Placed<ArenaTree>,
+}
+
+impl Twins {
+    pub fn new(alloc: Global) -> Result<Self, AllocError> {
+        let arena = Placed {
+            store: ArenaTree::new(alloc)?,
+            at: Vec::new(alloc),
+        };
+        let plain = Placed {
+            store: PlainTree::new(alloc),
+            at: Vec::new(alloc),
+        };
+        Ok(Twins { plain, arena })
+    }
+
+    /// Whether the same stands under a key of the place, and comes after it.
+    fn is_same_at(&self, key: &Key) -> bool {
+        let at = self.plain.at.as_slice();
+        let (plain, arena) = (&self.plain.store, &self.arena.store);
+        is_place(plain, at)
+            && is_place(arena, at)
+            && plain.presence(at, key) == arena.presence(at, key)
+            && plain.next(at, key) == arena.next(at, key)
+            && plain.register(at, key) == arena.register(at, key)
+            && plain.count_present(at) == arena.count_present(at)
+    }
+
+    fn is_same_after(&self, key: &Key) -> bool {
+        for of in [Kind::Child, Kind::Presence, Kind::Link] {
+            if self.plain.after(of, Some(key)) != self.arena.after(of, Some(key)) {
+                return false;
+            }
+        }
+        true
+    }
+
+    fn is_same_child(&self, child: &Tagged) -> bool {
+        self.plain.has(child) == self.arena.has(child)
+            && self.plain.has_below(child) == self.arena.has_below(child)
+    }
+
+    /// Whether the same stands at the place.
+    pub fn is_same(&self, keys: &Keys) -> Result<bool, AllocError> {
+        if self.plain.at.as_slice() != self.arena.at.as_slice()
+            || self.plain.store.mark() != self.arena.store.mark()
+        {
+            return Ok(false);
+        }
+        for at in KEYS {
+            let key = keys.key(at);
+            if !self.is_same_at(key) || !self.is_same_after(key) {
+                return Ok(false);
+            }
+            for tag in TAGS {
+                if !self.is_same_child(&keys.child(tag, at)?) {
+                    return Ok(false);
+                }
+            }
+        }
+        Ok(true)
+    }
+
+    fn change_both(&mut self, keys: &Keys, step: &Step) -> Result<bool, AllocError> {
+        Ok(self.plain.change(keys, step)? && self.arena.change(keys, step)?)
+    }
+
+    /// Makes one change. Where memory is refused the store is as it was, and the change is made then.
+    pub fn change(&mut self, keys: &Keys, step: &Step) -> Result<bool, AllocError> {
+        let before = self.plain.store.mark();
+        let is = match self.change_both(keys, step) {
+            Ok(is) => is,
+            Err(_) => {
+                let are_back = self.plain.undo_to(before) && self.arena.undo_to(before);
+                are_back && self.is_same(keys)? && self.change_both(keys, step)?
+            }
+        };
+        let is_one = Some(self.plain.store.mark().changes) == before.changes.checked_add(1);
+        Ok(is && is_one && self.plain.store.mark() == self.arena.store.mark())
+    }
+
+    pub fn go(&mut self, keys: &Keys, step: &Step) -> Result<bool, AllocError> {
+        Ok(self.plain.go(keys, step)? && self.arena.go(keys, step)?)
+    }
+
+    fn step(&mut self, keys: &Keys, step: &Step) -> Result<bool, AllocError> {
+        match step {
+            Step::Make(_, _)
+            | Step::MakeNamed(_, _)
+            | Step::PutIds(_, _)
+            | Step::AddId(_, _)
+            | Step::AddIdNamed(_, _)
+            | Step::Link(_, _)
+            | Step::PutValues(_, _)
+            | Step::PutValue(_, _, _) => self.change(keys, step),
+            Step::Down(_, _) | Step::Up | Step::Back(_) | Step::ForgetMarks => self.go(keys, step),
+            _ => Ok(self.plain.sees(keys, step)? && self.arena.sees(keys, step)?),
+        }
+    }
+
+    /// Takes these steps, each of which both stores answer as they should.
+    pub fn play(
+        &mut self,
+        rt: &impl Abort,
+        keys: &Keys,
+        title: &str,
+        steps: &[Step],
+    ) -> Result<(), AllocError> {
+        for (number, step) in steps.iter().enumerate() {
+            let is = self.step(keys, step)?;
+            assert!(rt; is, "{title}, {number}");
+        }
+        Ok(())
+    }
+
+    /// Takes these steps at the place to which the way leads.
+    pub fn play_there(
+        &mut self,
+        rt: &impl Abort,
+        keys: &Keys,
+        title: &str,
+        way: &[Step],
+        steps: &[Step],
+    ) -> Result<(), AllocError> {
+        self.play(rt, keys, title, way)?;
+        self.play(rt, keys, title, steps)
+    }
+}
