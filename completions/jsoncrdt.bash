@@ -4,10 +4,11 @@ _jsoncrdt() {
     local word=${COMP_WORDS[COMP_CWORD]} before=${COMP_WORDS[COMP_CWORD - 1]} options=
     COMPREPLY=()
     if [ "$COMP_CWORD" -eq 1 ]; then
-        COMPREPLY=($(compgen -W 'check print run view debug threads --help' -- "$word"))
+        COMPREPLY=($(compgen -W 'check print run view debug threads help --help --version' -- "$word"))
         return
     fi
     case ${COMP_WORDS[1]} in
+        help) COMPREPLY=($(compgen -W 'check print run view debug threads' -- "$word")); return ;;
         check) options='--help' ;;
         print) options='--help' ;;
         run) options='--trace --help' ;;

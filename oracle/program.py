@@ -1,6 +1,7 @@
 """The commands of the program, by the rules in Python: texts and statuses are those of docs/FORMATS.md."""
 
 import collections
+import itertools
 import re
 
 from grammar import read
@@ -10,9 +11,11 @@ from session import Session
 from texts import Texts, refused
 from view import line_of
 
-USAGE = "usage: oracle/jsoncrdt check|print|run [--trace]|view [--at N]|debug FILE    (--help says more)"
+VERSION = "jsoncrdt 1.0.0\n"
+USAGE = "usage: oracle/jsoncrdt check|print|run [--trace]|view [--at N]|debug FILE    (help says more)"
 HELP = """\
 usage: oracle/jsoncrdt COMMAND FILE      (FILE - is standard input; no arguments are run --trace -)
+       oracle/jsoncrdt help | --version
 
 The program by the same rules, written once more in Python. Nothing of it is proved.
 
@@ -21,8 +24,9 @@ The program by the same rules, written once more in Python. Nothing of it is pro
   run [--trace] FILE    executes the schedule and prints each replica's state, as a line of JSON;
                         with --trace the rules that each event used come first (this may be long)
   view [--at N] FILE    prints each replica's document as an application sees it, after N events
-  debug FILE            the debugger: steps forwards and backwards by lines of standard input;
-                        in a terminal it has a prompt and a history, and `help` lists the lines
+  debug FILE            the debugger: steps forwards and backwards by lines of standard input (`act`
+                        cuts off the rest of the schedule for good); in a terminal it has a prompt
+                        and a history, and `help` lists the lines
 
 Statuses: 0 done; 1 the text was refused; 2 wrong arguments; 3 an event is stuck;
 4 a file can't be read or the output not be written; 5 Python's own limits.
@@ -37,6 +41,24 @@ Order = collections.namedtuple("Order", "command file traced at")
 
 class BadWords(Exception):
     pass
+
+
+def meant(words):
+    """The words as they are read: `help` is `--help`, and `help TOPIC` is `TOPIC --help`."""
+    if words[:1] != ["help"]:
+        return words
+    return ["--help"] if words[1:2] in ([], ["help"]) else [words[1], "--help"]
+
+
+def asked(words):
+    """The text that is asked for without a scenario, help or the version, or none."""
+    words = meant(words)
+    if words[:1] in (["--version"], ["-V"]):
+        return VERSION
+    options = itertools.takewhile(lambda word: word != "--", words)
+    if {"--help", "-h"} & set(options) and words[0] in (*COMMANDS, "threads", "--help", "-h"):
+        return HELP
+    return None
 
 
 def taken(words, number):
@@ -56,6 +78,7 @@ def order_of(words):
     """What the words ask for."""
     if not words:
         return Order("run", "-", True, MOST_EVENTS)
+    words = meant(words)
     command, files, traced, at, number = words[0], [], False, None, 1
     if command == "threads":
         raise BadWords("threads is a command of the proved program alone")

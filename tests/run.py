@@ -1,8 +1,8 @@
 """What needs no proof, tried at once. ./test starts it.
 
     ./test               tries all
-    ./test WORD..        tries what has one of these words in its name: examples, docs, README, tools, launcher, editors,
-                         oracle, or a part of a file's name or a command
+    ./test WORD..        tries what has one of these words in its name: examples, docs, README, tools, launcher, process,
+                         arguments, editors, oracle, or a part of a file's name or a command
     ./test --write       writes what the tools print of each example to tests/expected, to be read before it is kept
 """
 
@@ -20,6 +20,7 @@ import tempfile
 ROOT = os.path.dirname(os.path.dirname(os.path.abspath(__file__)))
 sys.path += [os.path.join(ROOT, "tools"), os.path.join(ROOT, "oracle")]
 
+import processes
 from blocks import commands_of
 from command_line import COMMANDS
 from grammar import RESERVED
@@ -219,6 +220,63 @@ def launcher():
                         "nothing is proved")
 
 
+# A command rt that ends as a program does.
+ENDING = """#!/bin/sh
+echo shown
+echo told >&2
+exit %d
+"""
+
+
+def status_case(status):
+    """An unproved run ends with the status of the program, and each stream has its lines."""
+
+    def tried(_):
+        with tempfile.TemporaryDirectory() as folder:
+            rt = os.path.join(folder, "rt")
+            with open(rt, "w", encoding="utf-8") as file:
+                file.write(ENDING % status)
+            os.chmod(rt, 0o755)
+            told = subprocess.run(["./jsoncrdt", "--unproved", "run", "examples/first.jsoncrdt"], capture_output=True,
+                                  check=False, env={**os.environ, "PATH": f"{folder}:/usr/bin:/bin"})
+        is_right = told.returncode == status and told.stdout == b"shown\n" and told.stderr.endswith(b"\ntold\n")
+        expect(is_right, f"{told}")
+
+    return f"launcher: --unproved ends with {status}", tried
+
+
+def process_case(row):
+    """The program ends as the row says, and so does the launcher, where it runs the built program."""
+
+    def tried(programs):
+        if processes.needs_built(row) and not programs.is_built:
+            raise NotTried("the built program")
+        with tempfile.TemporaryDirectory() as folder:
+            path = os.path.join(folder, "scenario")
+            with open(path, "w", encoding="utf-8") as file:
+                file.write(row.file)
+            found = processes.difference(programs.program, row, path, programs.is_built)
+            # Of a file that can't be read the launcher says more.
+            if not found and programs.is_built and " /" not in row.words:
+                found = processes.difference("./jsoncrdt", row, path, True)
+        expect(not found, found)
+
+    limit = f" within {row.limit} KiB" if row.limit else ""
+    name = row.words.encode("ascii", "backslashreplace").decode()
+    return f"process: {name} {row.shell}{limit}, status {row.status}", tried
+
+
+def quits_at_once(programs):
+    expect(processes.quits_at_once(programs.program, "examples/first.jsoncrdt"), "it didn't end, or not with 0")
+
+
+def process():
+    for status in range(6):
+        yield status_case(status)
+    yield from map(process_case, processes.ROWS)
+    yield "process: quit while the input stays open", quits_at_once
+
+
 def in_terminal(words, typed):
     """What a command shows in a terminal in which these lines are typed."""
     ours, theirs = pty.openpty()
@@ -267,6 +325,40 @@ def names_commands(programs):
     lacking = {command.name for command in COMMANDS if not re.search(rf"^ +{command.name}\b", text, re.MULTILINE)}
     missing = lacking - ({"view"} if programs.is_built and not programs.has_view else set())
     expect(not missing - (set() if programs.is_built else {"threads"}), f"--help doesn't name {missing}")
+
+
+# Arguments that ask for a text or for nothing that there is, with the status, and what stands in the text.
+ASKED = (
+    (["--version"], 0, "jsoncrdt 1.0.0\n"),
+    (["-V"], 0, "jsoncrdt 1.0.0\n"),
+    (["help", "--version"], 0, "jsoncrdt 1.0.0\n"),
+    (["help"], 0, "Statuses:"),
+    (["--help"], 0, "Statuses:"),
+    (["help", "help"], 0, "Statuses:"),
+    (["help", "debug"], 0, "for good"),
+    (["debug", "-h"], 0, "for good"),
+    (["help", "nothing"], 2, ""),
+    (["help", "--"], 2, ""),
+    (["run", "--version"], 2, ""),
+    (["version"], 2, ""),
+)
+
+
+def asked_case(program, words, status, text):
+    """Help and the version come on standard output alone, and wrong arguments are told on standard error alone."""
+
+    def tried(programs):
+        told = run([program or programs.program, *words], programs.program)
+        expect(told.returncode == status, f"{told}")
+        expect(text in told.stdout.decode() and (status == 0) == bool(told.stdout) != bool(told.stderr), f"{told}")
+
+    return f"arguments: {'oracle/jsoncrdt' if program else './jsoncrdt'} {' '.join(words)}", tried
+
+
+def arguments():
+    for words, status, text in ASKED:
+        yield asked_case(None, words, status, text)
+        yield asked_case(IN_PYTHON, words, status, text)
 
 
 def colours_words(_):
@@ -319,7 +411,7 @@ def main(words):
     print("test: nothing is proved here; the gate, rt ci, does that")
     if not programs.is_built:
         print("test: the built program isn't there, or its sources are newer; what is tried is the rules in Python")
-    cases = [*examples(write), *blocks(), *tools(), *launcher(), *editors()]
+    cases = [*examples(write), *blocks(), *tools(), *launcher(), *process(), *arguments(), *editors()]
     cases = [case for case in cases if not chosen or any(word in case[0] for word in chosen)]
     with concurrent.futures.ThreadPoolExecutor(AT_ONCE) as pool:
         results = list(pool.map(lambda case: result_of(case, programs), cases))

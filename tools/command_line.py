@@ -7,6 +7,8 @@ Command = namedtuple("Command", "name options about more")
 
 ABOUT = "executes scenarios of a replicated JSON document, and debugs them forwards and backwards"
 HELP = Option("--help", None, "print the help of the program, or of the command before it")
+VERSION = Option("--version", None, "print the version of the program")
+HELP_COMMAND = "help", "print the help of the program, or of a command"
 COMMANDS = [
     Command("check", [], "tell whether a text is a scenario",
             "Prints how many replicas, commands and events the scenario has."),
@@ -28,9 +30,9 @@ COMMANDS = [
             "isn't in the schedule that is printed."),
 ]
 STATUSES = [
-    (0, "done, also after help"),
+    (0, "done, also after help and the version"),
     (1, "the text was refused; the line that is printed says why and where"),
-    (2, "the arguments are no command"),
+    (2, "the arguments are wrong"),
     (3, "an event is stuck, since no rule allows it; a line says why"),
     (4, "a read or a write failed, or a session had too many lines"),
     (5, "there was no memory, or a thread could not be made"),

@@ -40,6 +40,25 @@ pub enum EvalFault {
     Memory,
 }
 
+impl EvalFault {
+    /// The same fault once more.
+    pub fn copy(&self) -> Result<EvalFault, AllocError>
+        ensures { IfOk result (λ fault. fault ≡ self.now) }
+    {
+        Ok(match self {
+            EvalFault::UnboundVariable => EvalFault::UnboundVariable,
+            EvalFault::GetOnHead => EvalFault::GetOnHead,
+            EvalFault::NotACursor => EvalFault::NotACursor,
+            EvalFault::NoSuchNode(key) => EvalFault::NoSuchNode(key.copy()?),
+            EvalFault::PastEnd => EvalFault::PastEnd,
+            EvalFault::NoMap => EvalFault::NoMap,
+            EvalFault::NoRegister => EvalFault::NoRegister,
+            EvalFault::TooDeep => EvalFault::TooDeep,
+            EvalFault::Memory => EvalFault::Memory,
+        })
+    }
+}
+
 impl From<AllocError> for EvalFault {
     ghost from_gives = { λ _ fault. fault ≡ NoMemory };
 

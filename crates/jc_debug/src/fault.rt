@@ -1,6 +1,9 @@
 //! How moves of a debugger end.
 
+ghost use Rattle.std.specs.Prelude.{◌≡◌, IfOk};
+
 use jc_network::Stuck;
+use std::alloc::AllocError;
 
 /// Why the next event wasn't made.
 #[derive(Drop)]
@@ -18,6 +21,19 @@ pub enum StepFault {
     Stuck(Stuck),
     /// There was no memory for the next event.
     Memory,
+}
+
+impl StepFault {
+    /// A copy.
+    pub fn copy(&self) -> Result<Self, AllocError>
+        ensures { IfOk result (λ fault. fault ≡ self.now) }
+    {
+        match self {
+            StepFault::AtEnd => Ok(StepFault::AtEnd),
+            StepFault::Stuck(stuck) => Ok(StepFault::Stuck(stuck.copy()?)),
+            StepFault::Memory => Ok(StepFault::Memory),
+        }
+    }
 }
 
 impl From<Halt> for StepFault {
@@ -45,6 +61,19 @@ pub enum GotoFault {
     Memory,
 }
 
+impl GotoFault {
+    /// A copy.
+    pub fn copy(&self) -> Result<Self, AllocError>
+        ensures { IfOk result (λ fault. fault ≡ self.now) }
+    {
+        match self {
+            GotoFault::PastSchedule => Ok(GotoFault::PastSchedule),
+            GotoFault::Stuck(stuck) => Ok(GotoFault::Stuck(stuck.copy()?)),
+            GotoFault::Memory => Ok(GotoFault::Memory),
+        }
+    }
+}
+
 impl From<Halt> for GotoFault {
     ghost use Rattle.std.specs.Prelude.{◌≡◌};
     ghost use Rattle.jc_debug.specs.Moves.{goto_fault};
@@ -70,6 +99,19 @@ pub enum RunEnd {
     End,
 }
 
+impl RunEnd {
+    /// A copy.
+    pub fn copy(&self) -> Result<Self, AllocError>
+        ensures { IfOk result (λ end. end ≡ self.now) }
+    {
+        match self {
+            RunEnd::Break(k) => Ok(RunEnd::Break(*k)),
+            RunEnd::Stuck(stuck) => Ok(RunEnd::Stuck(stuck.copy()?)),
+            RunEnd::End => Ok(RunEnd::End),
+        }
+    }
+}
+
 /// Why a run didn't end so.
 #[derive(Clone, Copy)]
 pub enum RunFault {
@@ -88,4 +130,17 @@ pub enum ActFault {
     Stuck(Stuck),
     /// There was no memory.
     Memory,
+}
+
+impl ActFault {
+    /// A copy.
+    pub fn copy(&self) -> Result<Self, AllocError>
+        ensures { IfOk result (λ fault. fault ≡ self.now) }
+    {
+        match self {
+            ActFault::TooManyEvents => Ok(ActFault::TooManyEvents),
+            ActFault::Stuck(stuck) => Ok(ActFault::Stuck(stuck.copy()?)),
+            ActFault::Memory => Ok(ActFault::Memory),
+        }
+    }
 }

@@ -1,6 +1,6 @@
 //! What is sent to a serializer part after part, so that no value of the whole is made.
 
-ghost use Rattle.std.specs.Prelude.{◌≡◌, Ok, IfOk, OnOk};
+ghost use Rattle.std.specs.Prelude.{◌≡◌, Ok, IfOk, OnOk, IsErr, MatchResult};
 ghost use Rattle.serde_json.specs.Data.{Data};
 ghost use Rattle.serde_json.specs.Events.{SendsValue};
 ghost use Rattle.serde_json.specs.View.{view};
@@ -12,9 +12,9 @@ use serde::{Serialize, Serializer};
 use serde_json::Value as Json;
 use std::alloc::{AllocError, Global};
 
-/// What was made, or the serializer's own error where memory ran out.
+/// What was made, or the serializer's own error where memory ran out, and only there.
 pub fn granted<T, W: Serializer>(made: Result<T, AllocError>, out: &W) -> Result<T, W::Error>
-    ensures { IfOk result (λ value. made ≡ Ok value) }
+    ensures { MatchResult result (λ value. made ≡ Ok value) (λ _. IsErr made) }
 {
     match made {
         Ok(value) => Ok(value),

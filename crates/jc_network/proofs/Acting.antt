@@ -9,6 +9,7 @@ use Rattle.jc_rules.specs.declared.refusal.Refusal.TheVariants.{NoSuchReplica}
 use Rattle.jc_rules.specs.Refused.{Cause, because, IsStuck, no_replica, no_sender}
 use Rattle.jc_rules.specs.State.{State}
 use Rattle.jc_rules.specs.Step.{replica_of, read_by, send_of}
+use Rattle.jc_rules.specs.Syntax.{Cmd}
 use Rattle.jc_rules.specs.Trace.{Rows}
 use Rattle.jc_replica.specs.declared.fault.ReplicaFault.{ReplicaFault}
 use Rattle.jc_replica.specs.Answers.{Answers, RefusedFor, cause_of}
@@ -100,14 +101,14 @@ as_many_states ps = length-map (kept_of ps) _ ∙ length-map ps _
 pub no_state : (ps : List Past) (p : ℕ) → length ps ≤ p → slice_get (network_of ps) p ≡ None
 no_state ps p l = slice_get_past (network_of ps) p (let m = as_many_states ps in omega (arith, l, m))
 
-pub stopped : (event : Event) (ps : List Past) (why : Cause) → IsInRun (network_of ps) (kept_of ps) → Stops event ps why → IsStuck (network_of ps) event why
-stopped event ps why run (inl (w, m)) = subst (IsStuck (network_of ps) event) (sym w) (go m)
+pub stopped : (scripts : List (List Cmd)) (event : Event) (ps : List Past) (why : Cause) → IsInRun scripts (network_of ps) (kept_of ps) → Stops event ps why → IsStuck (network_of ps) event why
+stopped scripts event ps why run (inl (w, m)) = subst (IsStuck (network_of ps) event) (sym w) (go m)
   where
     go : IsMissing event ps → IsStuck (network_of ps) event (because NoSuchReplica)
     go (inl l) = no_replica (no_state ps (replica_of event) l)
     go (inr (p, q, is, l)) = subst (λ v. IsStuck (network_of ps) v (because NoSuchReplica)) (sym is) (no_sender (ap send_of (no_state ps q l)))
-stopped event ps why run (inr by) =
-    is_stuck run.set (network_of ps) (kept_of ps) (well run.scripts (network_of ps) run.reached).sets run.seen event by.read by.past why by.asked by.refuses
+stopped scripts event ps why run (inr by) =
+    is_stuck run.set (network_of ps) (kept_of ps) (well scripts (network_of ps) run.reached).sets run.seen event by.read by.past why by.asked by.refuses
 
 pub never_full : (event : Event) (old new : List Past) (fault : StepFault) → Makes event old new (Err fault) → fault ≡ E.Full → ⊥
 never_full event old new E.Full m e = m
@@ -115,10 +116,10 @@ never_full event old new (E.Stuck s) m e = cc
 never_full event old new E.Memory m e = cc
 
 -- what an event that is stuck has told
-pub told_stuck : (event : Event) (old new : List Past) (fault : StepFault) (s : Stuck) → IsInRun (network_of old) (kept_of old) → Makes event old new (Err fault) → fault ≡ E.Stuck s → IsStuckFor (network_of old) event s
-told_stuck event old new fault s run m e =
+pub told_stuck : (scripts : List (List Cmd)) (event : Event) (old new : List Past) (fault : StepFault) (s : Stuck) → IsInRun scripts (network_of old) (kept_of old) → Makes event old new (Err fault) → fault ≡ E.Stuck s → IsStuckFor (network_of old) event s
+told_stuck scripts event old new fault s run m e =
     let h : Makes event old new (Err (E.Stuck s)) = subst (λ f. Makes event old new (Err f)) e m in
-    record { why = h.1; stuck = stopped event old h.1 run h.3; is = h.2 }
+    record { why = h.1; stuck = stopped scripts event old h.1 run h.3; is = h.2 }
 
 pub at_err : {A E : Type 0} (P : E → Type 0) (r : Result A E) (y : E) → IsErrAnd r P → r ≡ Err y → P y
 at_err {A = A} P r y h e = subst (λ q. IsErrAnd {T = A} q P) e h

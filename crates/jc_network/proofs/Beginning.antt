@@ -10,7 +10,7 @@ use Rattle.jc_replica.specs.Past.{Past}
 use Rattle.jc_network.specs.Course.{kept_of, network_of}
 use Rattle.jc_network.specs.Laws.{starts}
 use Rattle.jc_network.specs.Real.{real}
-use Rattle.jc_network.specs.Run.{IsKeptNet}
+use Rattle.jc_network.specs.Run.{IsInRun, IsKeptNet}
 use Rattle.jc_network.specs.Seen.{AreSeen, AreShort}
 use Rattle.jc_network.specs.Start.{pasts_from}
 use Rattle.jc_network.proofs.Realizing.{seen_is_real}
@@ -38,17 +38,18 @@ real_start scripts = ap real (kept_start 0 scripts) ∙ sym (seen_is_real [] (st
 
 pub starts_in_run : (scripts : List (List Cmd)) → AreShort scripts → IsKeptNet (length scripts) [] (pasts_from 0 scripts)
 starts_in_run scripts short =
+    let now : IsInRun scripts (network_of (pasts_from 0 scripts)) (kept_of (pasts_from 0 scripts)) = record {
+      short = short;
+      reached = ([], sym (real_start scripts));
+      set = [];
+      seen = subst (λ N. AreSeen [] N (kept_of (pasts_from 0 scripts))) (sym (real_start scripts)) (subst (AreSeen [] (starts scripts)) (sym (kept_start 0 scripts)) (start_seen scripts));
+    } in
     record {
       each = as_many 0 scripts;
       numbered = λ p past e. let h = numbered_from 0 scripts p past e in omega (arith, h);
       backed = tt;
-      runs = record {
-        scripts = scripts;
-        short = short;
-        reached = ([], sym (real_start scripts));
-        set = [];
-        seen = subst (λ N. AreSeen [] N (kept_of (pasts_from 0 scripts))) (sym (real_start scripts)) (subst (AreSeen [] (starts scripts)) (sym (kept_start 0 scripts)) (start_seen scripts));
-      };
+      scripts = scripts;
+      runs = (now, real_start scripts);
     }
 
 -- one replica more

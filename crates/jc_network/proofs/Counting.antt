@@ -11,11 +11,11 @@ use Rattle.jc_rules.specs.Step.{Step, After, replica_of}
 use Rattle.jc_rules.specs.Syntax.{Cmd}
 use Rattle.jc_rules.proofs.Ids.{same_id-self}
 use Rattle.jc_network.specs.Network.{IsAt, IsMade, IsWell, commands_left, IsCounted}
-use Rattle.jc_network.specs.Laws.{starts}
+use Rattle.jc_network.specs.Laws.{starts, CountersAreRun}
 use Rattle.jc_network.proofs.Members.{in_with, set_there, set_other}
 use Rattle.jc_network.proofs.Did.{new_op, Did, bound, made, sent, received, applied, done, did}
 use Rattle.jc_network.proofs.Trees.{step_well}
-use Rattle.jc_network.proofs.Starting.{none_made}
+use Rattle.jc_network.proofs.Starting.{none_made, start_well, after_well, held_made}
 
 -- one replica's commands
 set_left : (N : List State) (p : ℕ) (A B : State) → IsAt N p A → commands_left (slice_set N p B) + length A.left ≡ commands_left N + length B.left
@@ -102,3 +102,11 @@ after_counted total N (e ∷ es) M w c a = after_counted total a.0 es M (step_we
 
 pub start_counted : (scripts : List (List Cmd)) → IsCounted (commands_left (starts scripts)) (starts scripts)
 start_counted scripts = record { left = omega arith; counters = λ o m. none_made scripts o m }
+
+-- no counter is above the number of commands that were run
+pub run_counted : CountersAreRun
+run_counted scripts network r o k =
+    let total = commands_left (starts scripts) in
+    let well = after_well (starts scripts) r.0 network (start_well scripts) r.1 in
+    let counted = after_counted total (starts scripts) r.0 network (start_well scripts) (start_counted scripts) r.1 in
+    counted.counters o (held_made network well o k)

@@ -13,7 +13,6 @@ use Rattle.jc_rules.specs.Syntax.{Cmd}
 use Rattle.jc_sets.specs.States.{kept_op}
 use Rattle.jc_replica.specs.Can.{CanOccur, MayRead}
 use Rattle.jc_replica.specs.Past.{Past}
-use Rattle.jc_replica.specs.Seen.{IsSeenAs}
 use Rattle.jc_network.specs.Course.{kept_of}
 use Rattle.jc_network.specs.Enabled.{receivings, applyings, events_of, events_from, candidates, AreChosen, IsAnyStuck, IsNotStuck, AreEnabled, Lists, Tells, AreTold, chosen, left_out, no_more}
 use Rattle.jc_network.specs.Run.{AreNumbered}
@@ -185,7 +184,7 @@ reading kept p os e (of_recv q l s) = subst (IsReading kept) (sym s) (let x = so
 reading kept p os e (of_apply o k s) = subst (IsReading kept) (sym s) (record { read = []; reads = refl; may = refl })
 reading kept p os e (of_done s) = subst (IsReading kept) (sym s) (record { read = []; reads = refl; may = refl })
 
-module _ (set : List Op) (network : List State) (pasts : List Past) (sound : HasSoundOps network) (seen : AreSeen set network (kept_of pasts)) (numbered : AreNumbered pasts) where
+module _ (set : List Op) (network : List State) (pasts : List Past) (sound : HasSoundOps network) (seen : AreSeen set network (kept_of pasts)) where
   abbrev kept : List State
   kept = kept_of pasts
 
@@ -195,22 +194,19 @@ module _ (set : List Op) (network : List State) (pasts : List Past) (sound : Has
   seen_past : (p : ℕ) (past : Past) → slice_get pasts p ≡ Some past → HasSeen set p network past.now
   seen_past p past t = seen.each p past.now (state_at pasts p past t)
 
-  seen_as : (p : ℕ) (past : Past) → slice_get pasts p ≡ Some past → (x : HasSeen set p network past.now) → IsSeenAs set past.number x.at past.now
-  seen_as p past t x = subst (λ n. IsSeenAs set n x.at past.now) (sym (numbered p past t)) x.seen
-
   not_stuck : (e : Event) → Contains (candidates kept) e → Tells pasts true e → IsNotStuck network e
   not_stuck e k t why s =
       let x = seen_past (replica_of e) t.past t.there in
       let r = asks e k in
       let os = reads_stand set network kept sound seen e r.read r.reads in
-      t.answer set os.os r.read x.at why r.may (seen_as (replica_of e) t.past t.there x) os.is (stuck_refused network e why s x.at os.os x.there os.reads)
+      t.answer set os.os r.read x.at why r.may x.seen.stands os.is (stuck_refused network e why s x.at os.os x.there os.reads)
 
   any_stuck : (e : Event) → Contains (candidates kept) e → Tells pasts false e → IsAnyStuck network e
   any_stuck e k t =
       let x = seen_past (replica_of e) t.past t.there in
       let r = asks e k in
       let os = reads_stand set network kept sound seen e r.read r.reads in
-      let w = t.answer set os.os r.read x.at r.may (seen_as (replica_of e) t.past t.there x) os.is in
+      let w = t.answer set os.os r.read x.at r.may x.seen.stands os.is in
       (w.0, refused x.there os.reads w.1)
 
   like : (i : ℕ) (K : State) → IsAt kept i K → IsLike network i K
@@ -223,7 +219,7 @@ module _ (set : List Op) (network : List State) (pasts : List Past) (sound : Has
   told_enabled listed h = subst (λ (cs : List Event). AreEnabled network cs listed) alike (chosen_as not_stuck any_stuck h)
 
 -- What the replicas of a network that is reached tell is what is enabled in it.
-pub enabled_stands : (scripts : List (List Cmd)) (network : List State) → IsReached scripts network → (set : List Op) (pasts : List Past) → AreSeen set network (kept_of pasts) → AreNumbered pasts → (listed : List Event) → AreTold pasts listed → AreEnabled network (candidates network) listed
-enabled_stands scripts network r set pasts seen numbered listed h =
+pub enabled_stands : (scripts : List (List Cmd)) (network : List State) → IsReached scripts network → (set : List Op) (pasts : List Past) → AreSeen set network (kept_of pasts) → (listed : List Event) → AreTold pasts listed → AreEnabled network (candidates network) listed
+enabled_stands scripts network r set pasts seen listed h =
     let well = after_well (starts scripts) r.0 network (start_well scripts) r.1 in
-    told_enabled set network pasts well.sets seen numbered listed h
+    told_enabled set network pasts well.sets seen listed h

@@ -1,5 +1,5 @@
 -- A step of a network, and the way back.
-use Rattle.std.proofs.Common.{◌≡◌, ◌≢◌, ℕ, zero, suc, ◌+◌, ◌-◌, ◌<◌, ◌≤◌, ◌⊎◌, inl, inr, List, [], ◌∷◌, ◌++◌, Option, Some, None, IfSome, Bor, Ok, Bool, true, false, IsTrue, IsFalse, reverse, length, take, drop, slice_get, slice_set, refl, sym, ◌∙◌, ap, subst, arith}
+use Rattle.std.proofs.Common.{◌≡◌, ◌≢◌, ℕ, zero, suc, ◌+◌, ◌-◌, ◌<◌, ◌≤◌, ◌⊎◌, inl, inr, List, [], ◌∷◌, ◌++◌, Option, Some, None, IfSome, Bor, Ok, Bool, true, false, IsTrue, IsFalse, reverse, map, length, take, drop, unwrap_or, slice_get, slice_set, refl, sym, ◌∙◌, ap, subst, arith}
 use Rattle.std.proofs.lemmas.Option.{same_Some, slice_get-map, slice_get_read, slice_get_within}
 use Rattle.std.specs.Slice.{IsItemAt}
 use Rattle.std.proofs.Math.Seq.{take-append_seam}
@@ -9,13 +9,14 @@ use Rattle.jc_rules.specs.declared.operation.Op.{Op}
 use Rattle.jc_rules.specs.declared.rule.Rule.{Rule}
 use Rattle.jc_rules.specs.State.{State}
 use Rattle.jc_rules.specs.Step.{Step, After, replica_of}
+use Rattle.jc_rules.specs.Syntax.{Cmd}
 use Rattle.jc_rules.specs.Trace.{Rows}
 use Rattle.jc_replica.specs.Past.{Past, history}
 use Rattle.jc_network.specs.Applied.{applied_ops, IsApplied}
-use Rattle.jc_network.specs.Course.{kept_of, network_of, last_of, back, back_at, earlier_of, course_of, StepsTo}
-use Rattle.jc_network.specs.Laws.{starts}
+use Rattle.jc_network.specs.Course.{scripts_of, kept_of, network_of, last_of, back, back_at, earlier_of, course_of, StepsTo}
+use Rattle.jc_network.specs.Laws.{starts, IsReached}
 use Rattle.jc_network.specs.Makes.{AllHand, AllOwn, HasReplica, Acts}
-use Rattle.jc_network.specs.Run.{IsInRun, AreInRun, CanGoBack, AreBacked, AreNumbered, IsKeptNet}
+use Rattle.jc_network.specs.Run.{HasBegun, IsInRun, AreInRun, CanGoBack, AreBacked, AreNumbered, IsKeptNet}
 use Rattle.jc_network.specs.Seen.{AreSeen, IsAsked}
 use Rattle.jc_network.proofs.Acting.{well, as_many_states, kept_there}
 use Rattle.jc_network.proofs.Applying.{applied_stands}
@@ -85,12 +86,12 @@ numbered_set ps p A B there same numbered q C e = go (set_other ps p q B)
         sym (ap (λ (x : Past). x.number) is) ∙ (same ∙ (numbered p A there ∙ sym s))
     go (inr s) = numbered q C (sym s ∙ e)
 
-run_now : (is : List ℕ) (ps : List Past) → AreInRun is ps → IsInRun (network_of ps) (kept_of ps)
-run_now [] ps h = h
-run_now (i ∷ is) ps h = h.0
+run_now : (scripts : List (List Cmd)) (is : List ℕ) (ps : List Past) → AreInRun scripts is ps → IsInRun scripts (network_of ps) (kept_of ps)
+run_now scripts [] ps h = h.0
+run_now scripts (i ∷ is) ps h = h.0
 
-pub now_in_run : (count : ℕ) (is : List ℕ) (ps : List Past) → IsKeptNet count is ps → IsInRun (network_of ps) (kept_of ps)
-now_in_run count is ps h = run_now is ps h.runs
+pub now_in_run : (count : ℕ) (is : List ℕ) (ps : List Past) → (h : IsKeptNet count is ps) → IsInRun h.scripts (network_of ps) (kept_of ps)
+now_in_run count is ps h = run_now h.scripts is ps h.runs
 
 length_set : (ps : List Past) (p : ℕ) (B : Past) → length (slice_set ps p B) ≡ length ps
 length_set [] p B = refl
@@ -110,24 +111,53 @@ after_count N (e ∷ es) M a = after_count a.0 es M a.3 ∙ (ap length a.2.is_ne
 -- a network has a replica for each name, and at most 64
 pub few_names : (count : ℕ) (is : List ℕ) (ps : List Past) → IsKeptNet count is ps → (length (network_of ps) ≡ count) × (count ≤ 64)
 few_names count is ps h =
-    let run = run_now is ps h.runs in
+    let run = run_now h.scripts is ps h.runs in
     let n : length (network_of ps) ≡ length ps = as_many_states ps in
-    let m : length (network_of ps) ≡ length (starts run.scripts) = after_count (starts run.scripts) run.reached.0 (network_of ps) run.reached.1 in
-    let l : length (starts run.scripts) ≡ length run.scripts = length-map run.scripts _ in
-    let many : length run.scripts ≤ 64 = run.short.many in
+    let m : length (network_of ps) ≡ length (starts h.scripts) = after_count (starts h.scripts) run.reached.0 (network_of ps) run.reached.1 in
+    let l : length (starts h.scripts) ≡ length h.scripts = length-map h.scripts _ in
+    let many : length h.scripts ≤ 64 = run.short.many in
     let each : length ps ≡ count = h.each in
     (n ∙ each, omega (arith, n, m, l, many, each))
+
+-- ---- the start
+
+-- the first network of these
+abbrev first_in : List (List State) → List State
+first_in Ns = unwrap_or (slice_get Ns 0) []
+
+first_more : (Ns : List (List State)) (N M : List State) → first_in ((Ns ++ N ∷ []) ++ M ∷ []) ≡ first_in (Ns ++ N ∷ [])
+first_more [] N M = refl
+first_more (L ∷ Ns) N M = refl
+
+-- it is the start of the scripts
+first_starts : (scripts : List (List Cmd)) (is : List ℕ) (ps : List Past) → AreInRun scripts is ps → first_in (earlier_of is ps ++ network_of ps ∷ []) ≡ starts scripts
+first_starts scripts [] ps h = h.1
+first_starts scripts (i ∷ is) ps h = first_more (earlier_of is (back_at i ps)) (network_of (back_at i ps)) (network_of ps) ∙ first_starts scripts is (back_at i ps) h.1
+
+-- at their start all of each script is left
+left_at_start : (scripts : List (List Cmd)) → map (λ (A : State). A.left) (starts scripts) ≡ scripts
+left_at_start [] = refl
+left_at_start (s ∷ scripts) = ap (λ (l : List (List Cmd)). s ∷ l) (left_at_start scripts)
+
+pub has_begun : (names : List (List ℕ)) (is : List ℕ) (ps : List Past) → IsKeptNet (length names) is ps → HasBegun (course_of names is ps)
+has_begun names is ps h =
+    let first = first_starts h.scripts is ps h.runs in
+    let own : scripts_of (course_of names is ps) ≡ h.scripts = ap (map (λ (A : State). A.left)) first ∙ left_at_start h.scripts in
+    record {
+      first = first ∙ ap starts (sym own);
+      reached = subst (λ s. IsReached s (network_of ps)) (sym own) (run_now h.scripts is ps h.runs).reached;
+    }
 
 -- ---- a step
 
 -- the network after it
-record IsStepped (old new : List Past) (event : Event) (rows : Rows) : Type 0 where
+record IsStepped (scripts : List (List Cmd)) (old new : List Past) (event : Event) (rows : Rows) : Type 0 where
   step : Step (network_of old) event (network_of new) rows.rows
   depth : rows.depth ≡ 0
-  run : IsInRun (network_of new) (kept_of new)
+  run : IsInRun scripts (network_of new) (kept_of new)
 
-step_of : (old new : List Past) (event : Event) (rows : Rows) → IsInRun (network_of old) (kept_of old) → AreNumbered old → Acts event old new (Ok rows) → IsStepped old new event rows
-step_of old new event rows run numbered acts =
+step_of : (scripts : List (List Cmd)) (old new : List Past) (event : Event) (rows : Rows) → IsInRun scripts (network_of old) (kept_of old) → AreNumbered old → Acts event old new (Ok rows) → IsStepped scripts old new event rows
+step_of scripts old new event rows run numbered acts =
     let m = acts.moves in
     let p = replica_of event in
     let N = network_of old in
@@ -136,7 +166,7 @@ step_of old new event rows run numbered acts =
       there = slice_get-map (λ (q : Past). q.now) old p ∙ rw m.there refl;
       reads = acts.reads;
     } in
-    let s = steps_on run.set N (kept_of old) (well run.scripts N run.reached).sets run.seen event acts.read m.before m.after rows asked m.answers in
+    let s = steps_on run.set N (kept_of old) (well scripts N run.reached).sets run.seen event acts.read m.before m.after rows asked m.answers in
     let kept : slice_set (kept_of old) p m.after.now ≡ kept_of new = sym (ap kept_of m.now ∙ map-set _ old p m.after) in
     let seen = subst (AreSeen s.set s.new) kept s.seen in
     let is : s.new ≡ network_of new = seen_is_real s.set s.new (kept_of new) seen in
@@ -145,9 +175,8 @@ step_of old new event rows run numbered acts =
       step = step;
       depth = s.depth;
       run = record {
-        scripts = run.scripts;
         short = run.short;
-        reached = (run.reached.0 ++ event ∷ [], after_end (starts run.scripts) run.reached.0 N (network_of new) event rows.rows run.reached.1 step);
+        reached = (run.reached.0 ++ event ∷ [], after_end (starts scripts) run.reached.0 N (network_of new) event rows.rows run.reached.1 step);
         set = s.set;
         seen = subst (λ M. AreSeen s.set M (kept_of new)) is seen;
       };
@@ -163,7 +192,7 @@ stepped names old new whose more event rows is inv acts =
     let m = acts.moves in
     let p = replica_of event in
     let turned : reverse more ≡ p ∷ reverse whose = ap reverse is ∙ reverse-append whose (p ∷ []) in
-    let s = step_of old new event rows (run_now (reverse whose) old inv.runs) inv.numbered acts in
+    let s = step_of inv.scripts old new event rows (run_now inv.scripts (reverse whose) old inv.runs) inv.numbered acts in
     let goes : back m.after ≡ m.before = back_is m.before m.after (sym m.answers.number) m.answers.earlier in
     let before : back_at p new ≡ old = ap (back_at p) m.now ∙ back_at-set old p m.before m.after m.there goes in
     let there : slice_get new p ≡ Some m.after = subst (λ (ps : List Past). slice_get ps p ≡ Some m.after) (sym m.now) (set_there old p m.before m.after m.there) in
@@ -172,7 +201,8 @@ stepped names old new whose more event rows is inv acts =
       each = ap length m.now ∙ (length_set old p m.after ∙ inv.each);
       numbered = subst AreNumbered (sym m.now) (numbered_set old p m.before m.after m.there m.answers.number inv.numbered);
       backed = (can, subst (AreBacked (reverse whose)) (sym before) inv.backed);
-      runs = (s.run, subst (AreInRun (reverse whose)) (sym before) inv.runs);
+      scripts = inv.scripts;
+      runs = (s.run, subst (AreInRun inv.scripts (reverse whose)) (sym before) inv.runs);
     } in
     let earlier : earlier_of (p ∷ reverse whose) new ≡ earlier_of (reverse whose) old ++ network_of old ∷ [] = ap (λ ps. earlier_of (reverse whose) ps ++ network_of ps ∷ []) before in
     record {
@@ -196,20 +226,20 @@ stepped_whole names old new n whose more event rows len is inv acts =
 -- what the replicas offer may be handed on
 pub all_hand : (count : ℕ) (is : List ℕ) (ps : List Past) → IsKeptNet count is ps → AllHand ps
 all_hand count is ps h q past e =
-    let run = run_now is ps h.runs in
-    offered_handed run.scripts (network_of ps) run.reached run.short run.set (kept_of ps) run.seen q past.now (kept_there ps q past e)
+    let run = run_now h.scripts is ps h.runs in
+    offered_handed h.scripts (network_of ps) run.reached run.short run.set (kept_of ps) run.seen q past.now (kept_there ps q past e)
 
 -- what each offers is one replica's own
 pub all_own : (count : ℕ) (is : List ℕ) (ps : List Past) → IsKeptNet count is ps → AllOwn ps
 all_own count is ps h q past e =
-    let run = run_now is ps h.runs in
+    let run = run_now h.scripts is ps h.runs in
     let x = run.seen.each q past.now (kept_there ps q past e) in
-    subst AreOfOne (sym (ap (λ (S : State). S.send) x.seen.stands.is)) (of_one q x.at.send (λ o c. ((well run.scripts (network_of ps) run.reached).sets.sent q x.at o x.there c).0))
+    subst AreOfOne (sym (ap (λ (S : State). S.send) x.seen.stands.is)) (of_one q x.at.send (λ o c. ((well h.scripts (network_of ps) run.reached).sets.sent q x.at o x.there c).0))
 
 -- what a replica keeps stands for its state
 pub has_replica : (count : ℕ) (is : List ℕ) (ps : List Past) → IsKeptNet count is ps → (p : ℕ) (past : Past) → slice_get ps p ≡ Some past → HasReplica (network_of ps) p past
 has_replica count is ps h p past e =
-    let run = run_now is ps h.runs in
+    let run = run_now h.scripts is ps h.runs in
     let x = run.seen.each p past.now (kept_there ps p past e) in
     record { at = x.at; there = x.there; number = h.numbered p past e; kept = x.seen.stands.is }
 
@@ -227,7 +257,7 @@ some_lent ps i (Some y) x f e =
 -- what a replica has applied
 pub applies : (count : ℕ) (is : List ℕ) (ps : List Past) → IsKeptNet count is ps → (p : ℕ) (past : Past) (ops : List Op) → slice_get ps p ≡ Some past → ops ≡ applied_ops past.now → IsApplied (network_of ps) p ops
 applies count is ps h p past ops e found =
-    let run = run_now is ps h.runs in
+    let run = run_now h.scripts is ps h.runs in
     subst (IsApplied (network_of ps) p) (sym found) (applied_stands run.set (network_of ps) (kept_of ps) run.seen p past.now (kept_there ps p past e))
 
 -- ---- the way back
@@ -262,7 +292,8 @@ undone count ps p a b whose fewer is inv there number was =
         each = length_set ps p b ∙ h.each;
         numbered = numbered_set ps p a b there number h.numbered;
         backed = subst (AreBacked (reverse fewer)) (sym new) h.backed.1;
-        runs = subst (AreInRun (reverse fewer)) (sym new) h.runs.1;
+        scripts = h.scripts;
+        runs = subst (AreInRun h.scripts (reverse fewer)) (sym new) h.runs.1;
       };
       earlier = subst (λ w. earlier_of w ps ≡ earlier_of (reverse fewer) (slice_set ps p b) ++ network_of (slice_set ps p b) ∷ []) (sym turned) (ap (λ qs. earlier_of (reverse fewer) qs ++ network_of qs ∷ []) (sym new));
     }

@@ -11,13 +11,13 @@ use Rattle.jc_rules.specs.Step.{replica_of, read_by, send_of}
 use Rattle.jc_rules.specs.Syntax.{Cmd}
 use Rattle.jc_rules.specs.Table.{op_of, with_op}
 use Rattle.jc_rules.specs.Trace.{Rows}
-use Rattle.jc_sets.specs.States.{kept_op}
+use Rattle.jc_sets.specs.States.{HasOwn, kept_op}
 use Rattle.jc_sets.proofs.Own.{own_are_applied}
 use Rattle.jc_sets.proofs.States.{state_stays}
 use Rattle.jc_replica.specs.Answers.{Occurs, RefusedFor}
 use Rattle.jc_replica.specs.Operations.{AreOfOne, AreOwn}
 use Rattle.jc_replica.specs.Past.{Past}
-use Rattle.jc_replica.specs.Seen.{IsSeenAs, IsRead, Leads, grown, queued}
+use Rattle.jc_replica.specs.Seen.{IsSeenAs, HasOwnFor, IsRead, Leads, grown, queued}
 use Rattle.jc_network.specs.Laws.{starts}
 use Rattle.jc_network.specs.Network.{IsAt, IsMade, HasSoundOps}
 use Rattle.jc_network.specs.Seen.{HasSeen, AreSeen, IsAsked, StepsOn}
@@ -53,6 +53,14 @@ length_set : (xs : List State) (p : ℕ) (b : State) → length (slice_set xs p 
 length_set [] p b = refl
 length_set (x ∷ xs) zero b = refl
 length_set (x ∷ xs) (suc p) b = ap suc (length_set xs p b)
+
+-- what an event's promise asks, where all own operations are applied
+own_for : (event : Event) (set : List Op) (p : ℕ) (A : State) → HasOwn set p A → HasOwnFor event set p A
+own_for (Exec q) set p A h = h
+own_for (Send q) set p A h = tt
+own_for (Recv q r) set p A h = tt
+own_for (Apply q i) set p A h = tt
+own_for (Done q) set p A h = tt
 
 -- ---- the start
 
@@ -210,7 +218,7 @@ module _ (set : List Op) (network kept : List State) (sound : HasSoundOps networ
       let x = seen.each (replica_of event) old.now asked.there in
       let r = reads_stand event read asked.reads in
       let known = subst (λ n. IsSeenAs set n x.at old.now) (sym asked.number) x.seen in
-      let l = subst (λ n. Leads set event n r.os x.at new.now rows) asked.number (occurs.leads set r.os x.at known r.is) in
+      let l = subst (λ n. Leads set event n r.os x.at new.now rows) asked.number (occurs.leads set r.os x.at known.stands (own_for event set old.number x.at known.own) r.is) in
       record {
         new = slice_set network (replica_of event) l.now;
         set = grown l.made set;
@@ -227,12 +235,11 @@ module _ (set : List Op) (network kept : List State) (sound : HasSoundOps networ
           is_trace = l.derives.rows;
         };
         depth = l.derives.depth;
-        seen = seen_after (replica_of event) x.at l.now old.now new.now x.there asked.there x.seen l.made l.seen l.queue l.fresh;
+        seen = seen_after (replica_of event) x.at l.now old.now new.now x.there asked.there x.seen l.made (record { stands = l.stands; own = l.own x.seen.own }) l.queue l.fresh;
       }
 
   pub is_stuck : (event : Event) (read : List Op) (old : Past) (why : Cause) → IsAsked kept event read old → RefusedFor event read old why → IsStuck network event why
   is_stuck event read old why asked refuses =
       let x = seen.each (replica_of event) old.now asked.there in
       let r = reads_stand event read asked.reads in
-      let known = subst (λ n. IsSeenAs set n x.at old.now) (sym asked.number) x.seen in
-      refused x.there r.reads (refuses set r.os x.at known r.is)
+      refused x.there r.reads (refuses set r.os x.at x.seen.stands r.is)

@@ -1,9 +1,10 @@
 -- What a network is seen as.
-use Rattle.std.specs.Prelude.{◌≡◌, ℕ, zero, suc, ◌-◌, List, [], ◌∷◌, ◌++◌, length, take, map, refl}
+use Rattle.std.specs.Prelude.{◌≡◌, ℕ, zero, suc, ◌-◌, List, [], ◌∷◌, ◌++◌, length, take, map, slice_get, unwrap_or, refl}
 use Rattle.std.specs.Coded.{Coded, code_by, coded×, coded_ℕ, coded_list}
 use Rattle.jc_rules.specs.declared.operation.Event.{Event}
 use Rattle.jc_rules.specs.State.{State}
 use Rattle.jc_rules.specs.Step.{Step}
+use Rattle.jc_rules.specs.Syntax.{Cmd}
 use Rattle.jc_rules.specs.Trace.{Rows}
 use Rattle.jc_replica.specs.Codes.{state_code}
 use Rattle.jc_replica.specs.Past.{Past}
@@ -28,6 +29,14 @@ course_code =
 -- the network at the start of the scenario
 abbrev pub started : Scenario → Course
 started s = record { names = s.names; network = starts s.scripts; earlier = [] }
+
+-- the network before all steps
+abbrev pub first_of : Course → List State
+first_of c = unwrap_or (slice_get (c.earlier ++ c.network ∷ []) 0) []
+
+-- the scripts of the start: what is left of each in the first network
+abbrev pub scripts_of : Course → List (List Cmd)
+scripts_of c = map (λ A. A.left) (first_of c)
 
 -- The event is a step by these rules, and the network before it is kept.
 pub record StepsTo (old : Course) (event : Event) (new : Course) (rows : Rows) : Type 0 where

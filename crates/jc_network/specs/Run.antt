@@ -1,17 +1,17 @@
 -- What the type of a network keeps.
-use Rattle.std.specs.Prelude.{◌≡◌, ◌≢◌, ℕ, List, [], ◌∷◌, Some, length, slice_get}
+use Rattle.std.specs.Prelude.{◌≡◌, ◌≢◌, ◌≤◌, ◌+◌, ℕ, List, [], ◌∷◌, Some, Contains, length, slice_get}
 use Rattle.jc_rules.specs.declared.operation.Op.{Op}
 use Rattle.jc_rules.specs.State.{State}
 use Rattle.jc_rules.specs.Syntax.{Cmd}
 use Rattle.jc_replica.specs.Past.{Past}
-use Rattle.jc_network.specs.Course.{kept_of, network_of, back_at}
-use Rattle.jc_network.specs.Laws.{IsReached}
+use Rattle.jc_network.specs.Course.{Course, first_of, scripts_of, kept_of, network_of, back_at}
+use Rattle.jc_network.specs.Laws.{starts, held, IsReached}
+use Rattle.jc_network.specs.Network.{commands_left}
 use Rattle.jc_network.specs.Seen.{AreSeen, AreShort}
 
--- Events have led to the network from the start of short scripts, and in the set of what was made the kept states stand
--- for it.
-pub record IsInRun (network kept : List State) : Type 0 where
-  pub scripts : List (List Cmd)
+-- Events have led to the network from the start of the scripts, which are short, and in the set of what was made the
+-- kept states stand for it.
+pub record IsInRun (scripts : List (List Cmd)) (network kept : List State) : Type 0 where
   pub short : AreShort scripts
   pub reached : IsReached scripts network
   pub set : List Op
@@ -21,10 +21,24 @@ pub record IsInRun (network kept : List State) : Type 0 where
 abbrev pub IsFromStart : List State → Type 0
 IsFromStart network = (scripts : List (List Cmd)) × IsReached scripts network
 
--- the network and all before it, by whose steps they were, the last one first
-abbrev pub AreInRun : List ℕ → List Past → Type 0
-AreInRun [] ps = IsInRun (network_of ps) (kept_of ps)
-AreInRun (i ∷ is) ps = IsInRun (network_of ps) (kept_of ps) × AreInRun is (back_at i ps)
+-- The first network of a course is the start of its own scripts, and events have led from there to the one now.
+pub record HasBegun (c : Course) : Type 0 where
+  pub first : first_of c ≡ starts (scripts_of c)
+  pub reached : IsReached (scripts_of c) c.network
+
+-- In a network at hand no counter is above the number of commands of its own scripts that were run.
+abbrev pub OwnCountersAreRun : Type 0
+OwnCountersAreRun =
+    (c : Course)
+    → HasBegun c
+    → (o : Op)
+    → Contains (held c.network) o
+    → o.id.counter + commands_left c.network ≤ commands_left (first_of c)
+
+-- the network and all before it, back to the start of the scripts, by whose steps they were, the last one first
+abbrev pub AreInRun : List (List Cmd) → List ℕ → List Past → Type 0
+AreInRun scripts [] ps = IsInRun scripts (network_of ps) (kept_of ps) × (network_of ps ≡ starts scripts)
+AreInRun scripts (i ∷ is) ps = IsInRun scripts (network_of ps) (kept_of ps) × AreInRun scripts is (back_at i ps)
 
 -- the replica i can go back
 pub record CanGoBack (i : ℕ) (ps : List Past) : Type 0 where
@@ -45,4 +59,5 @@ pub record IsKeptNet (count : ℕ) (whose : List ℕ) (ps : List Past) : Type 0 
   pub each : length ps ≡ count
   pub numbered : AreNumbered ps
   pub backed : AreBacked whose ps
-  pub runs : AreInRun whose ps
+  pub scripts : List (List Cmd)
+  pub runs : AreInRun scripts whose ps

@@ -12,7 +12,6 @@ use std::alloc::{AllocError, Global};
 
 /// Lists the event, which is the replica's, if the replica can make it.
 fn list<S: TreeStore>(
-    alloc: Global,
     replica: &Replica<S>,
     event: Event,
     events: &mut Vec<Event>,
@@ -20,7 +19,7 @@ fn list<S: TreeStore>(
     requires { replica_of event ≡ replica.now.number }
     ensures { OnOk result (Lists replica.now (event ∷ []) events.old.items events.new.items) }
 {
-    if replica.can(alloc, &event)? {
+    if replica.can(&event)? {
         events.push(event)?;
     }
     Ok(())
@@ -28,7 +27,6 @@ fn list<S: TreeStore>(
 
 /// Lists the events in which the replica receives from one of so many replicas.
 fn list_receivings<S: TreeStore>(
-    alloc: Global,
     replica: &Replica<S>,
     count: u16,
     events: &mut Vec<Event>,
@@ -37,19 +35,13 @@ fn list_receivings<S: TreeStore>(
         events.old.items events.new.items) }
 {
     for sender in 0..count {
-        list(
-            alloc,
-            replica,
-            Event::Recv(replica.number(), sender),
-            events,
-        )?;
+        list(replica, Event::Recv(replica.number(), sender), events)?;
     }
     Ok(())
 }
 
 /// Lists the events in which the replica applies an operation that it has received.
 fn list_applyings<S: TreeStore>(
-    alloc: Global,
     replica: &Replica<S>,
     events: &mut Vec<Event>,
 ) -> Result<(), AllocError>
@@ -57,19 +49,13 @@ fn list_applyings<S: TreeStore>(
         events.old.items events.new.items) }
 {
     for op in replica.received() {
-        list(
-            alloc,
-            replica,
-            Event::Apply(replica.number(), op.id),
-            events,
-        )?;
+        list(replica, Event::Apply(replica.number(), op.id), events)?;
     }
     Ok(())
 }
 
 /// Lists the events that the replica can make, which is one of so many.
 fn list_events<S: TreeStore>(
-    alloc: Global,
     replica: &Replica<S>,
     count: u16,
     events: &mut Vec<Event>,
@@ -78,11 +64,11 @@ fn list_events<S: TreeStore>(
         events.old.items events.new.items) }
 {
     let number = replica.number();
-    list(alloc, replica, Event::Exec(number), events)?;
-    list(alloc, replica, Event::Send(number), events)?;
-    list_receivings(alloc, replica, count, events)?;
-    list_applyings(alloc, replica, events)?;
-    list(alloc, replica, Event::Done(number), events)
+    list(replica, Event::Exec(number), events)?;
+    list(replica, Event::Send(number), events)?;
+    list_receivings(replica, count, events)?;
+    list_applyings(replica, events)?;
+    list(replica, Event::Done(number), events)
 }
 
 /// The events that can be made: of each replica in order exec, send, recv from each replica, apply of each operation
@@ -98,7 +84,7 @@ pub(crate) fn enabled_in<S: TreeStore>(
     let count = replicas.len() as u16;
     let mut events = Vec::new(alloc);
     for replica in replicas {
-        list_events(alloc, replica, count, &mut events)?;
+        list_events(replica, count, &mut events)?;
     }
     Ok(events)
 }

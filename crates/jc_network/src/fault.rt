@@ -1,6 +1,6 @@
 //! Why calls of a network are refused.
 
-ghost use Rattle.std.specs.Prelude.{◌≡◌};
+ghost use Rattle.std.specs.Prelude.{◌≡◌, IfOk};
 
 use jc_rules::{Event, Tagged};
 use std::alloc::AllocError;
@@ -13,6 +13,29 @@ pub struct Stuck {
     pub event: Event,
 }
 
+/// A copy of the key, if there is one.
+fn copy_key(key: &Option<Tagged>) -> Result<Option<Tagged>, AllocError>
+    ensures { IfOk result (λ copy. copy ≡ key.now) }
+{
+    match key {
+        Some(key) => Ok(Some(key.copy()?)),
+        None => Ok(None),
+    }
+}
+
+impl Stuck {
+    /// A copy.
+    pub fn copy(&self) -> Result<Self, AllocError>
+        ensures { IfOk result (λ stuck. stuck ≡ self.now) }
+    {
+        Ok(Stuck {
+            number: self.number,
+            key: copy_key(&self.key)?,
+            event: self.event,
+        })
+    }
+}
+
 /// Why an event wasn't made.
 #[derive(Drop)]
 pub enum StepFault {
@@ -22,6 +45,19 @@ pub enum StepFault {
     Stuck(Stuck),
     /// There was no memory.
     Memory,
+}
+
+impl StepFault {
+    /// A copy.
+    pub fn copy(&self) -> Result<Self, AllocError>
+        ensures { IfOk result (λ fault. fault ≡ self.now) }
+    {
+        match self {
+            StepFault::Full => Ok(StepFault::Full),
+            StepFault::Stuck(stuck) => Ok(StepFault::Stuck(stuck.copy()?)),
+            StepFault::Memory => Ok(StepFault::Memory),
+        }
+    }
 }
 
 impl From<AllocError> for StepFault {

@@ -3,6 +3,7 @@
 ghost use Rattle.jc_network.specs.Applied.{AppliedAreAll};
 ghost use Rattle.jc_network.specs.Enabled.{OthersAreStuck, EnabledHaveSteps};
 ghost use Rattle.jc_network.specs.Laws.{HeldIsSound, OfferedIsOwn, CountersAreRun, AppliesAtYield, NeverStuckAtYield, LinksAreApplied, StepOrStuck};
+ghost use Rattle.jc_network.specs.Run.{OwnCountersAreRun};
 ghost use Rattle.jc_network.specs.Seen.{StartIsSeen, EventSteps, EventIsStuck, OfferedIsHanded};
 
 /// In each network that is reached from a start, all operations are a sound and rooted set, and what each replica has
@@ -19,6 +20,11 @@ pub fn offered_is_own()
 /// No counter is above the number of commands that were run.
 pub fn counters_are_run()
     ensures { CountersAreRun }
+{}
+
+/// Nor, in a network at hand, above the number of commands of its own scripts that were run.
+pub fn own_counters_are_run()
+    ensures { OwnCountersAreRun }
 {}
 
 /// At a yield, to apply an operation that was received and isn't applied, though its dependencies are, leads to a

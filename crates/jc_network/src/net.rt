@@ -10,7 +10,7 @@ ghost use Rattle.jc_network.specs.Applied.{IsApplied, AreAppliedIds};
 ghost use Rattle.jc_network.specs.Course.{started, StepsTo};
 ghost use Rattle.jc_network.specs.Enabled.{AreEnabled, candidates};
 ghost use Rattle.jc_network.specs.Makes.{IsStuckFor, HasReplica};
-ghost use Rattle.jc_network.specs.Run.{IsFromStart};
+ghost use Rattle.jc_network.specs.Run.{IsFromStart, HasBegun};
 
 use crate::applied::{applied_ids_of, applied_of};
 use crate::enabled::enabled_in;
@@ -74,10 +74,12 @@ impl Net {
         self.names.as_slice()
     }
 
-    /// The number of steps. Events have led to the network from a start, so the laws of runs hold of it.
+    /// The number of steps. Events have led to the network from the start of its own scripts, so the laws of runs
+    /// hold of it.
     pub fn steps(&self) -> u64
         ensures steps { result ≡ length self.now.earlier }
         ensures reached { IsFromStart self.now.network }
+        ensures begun { HasBegun self.now }
     {
         self.whose.len() as u64
     }
@@ -138,7 +140,7 @@ impl Net {
         if self.whose.reserve(1).is_err() {
             return Err(StepFault::Memory);
         }
-        let trace = make(self.alloc, self.replicas.as_mut_slice(), event)?;
+        let trace = make(self.replicas.as_mut_slice(), event)?;
         self.whose.push(event.replica()).unwrap();
         Ok(trace)
     }

@@ -13,7 +13,6 @@ use crate::fault::{StepFault, Stuck};
 use jc_replica::{Replica, ReplicaFault};
 use jc_rules::{Event, Refusal, Trace};
 use jc_tree::ArenaTree;
-use std::alloc::Global;
 
 /// That a replica which the event names isn't there.
 fn missing(event: Event) -> Stuck
@@ -54,11 +53,7 @@ fn step_fault(fault: ReplicaFault, event: Event) -> StepFault
 }
 
 /// Has the event's replica make the event. After a refusal all is as it was.
-pub(crate) fn make(
-    alloc: Global,
-    replicas: &mut [Replica<ArenaTree>],
-    event: &Event,
-) -> Result<Trace, StepFault>
+pub(crate) fn make(replicas: &mut [Replica<ArenaTree>], event: &Event) -> Result<Trace, StepFault>
     requires numbered { AreNumbered replicas.old }
     requires hand { AllHand replicas.old }
     requires own { AllOwn replicas.old }
@@ -72,18 +67,14 @@ pub(crate) fn make(
             return Err(StepFault::Stuck(missing(*event)));
         }
     }
-    match act(alloc, replicas, event) {
+    match act(replicas, event) {
         Ok(trace) => Ok(trace),
         Err(fault) => Err(step_fault(fault, *event)),
     }
 }
 
 /// The same, where the replicas are there.
-fn act(
-    alloc: Global,
-    replicas: &mut [Replica<ArenaTree>],
-    event: &Event,
-) -> Result<Trace, ReplicaFault>
+fn act(replicas: &mut [Replica<ArenaTree>], event: &Event) -> Result<Trace, ReplicaFault>
     requires numbered { AreNumbered replicas.old }
     requires hand { AllHand replicas.old }
     requires own { AllOwn replicas.old }
@@ -91,22 +82,17 @@ fn act(
     ensures { Acts event.now replicas.old replicas.new result }
 {
     match event {
-        Event::Exec(p) => replicas[usize::from(*p)].exec(alloc),
-        Event::Send(p) => replicas[usize::from(*p)].send(alloc),
-        Event::Recv(p, q) => receive(alloc, replicas, *p, *q),
-        Event::Apply(p, id) => replicas[usize::from(*p)].apply(alloc, *id),
-        Event::Done(p) => replicas[usize::from(*p)].done(alloc),
+        Event::Exec(p) => replicas[usize::from(*p)].exec(),
+        Event::Send(p) => replicas[usize::from(*p)].send(),
+        Event::Recv(p, q) => receive(replicas, *p, *q),
+        Event::Apply(p, id) => replicas[usize::from(*p)].apply(*id),
+        Event::Done(p) => replicas[usize::from(*p)].done(),
     }
 }
 
 /// Replica p takes in what replica q offers, which may be itself. No operation is copied to hand
 /// it on.
-fn receive(
-    alloc: Global,
-    replicas: &mut [Replica<ArenaTree>],
-    p: u16,
-    q: u16,
-) -> Result<Trace, ReplicaFault>
+fn receive(replicas: &mut [Replica<ArenaTree>], p: u16, q: u16) -> Result<Trace, ReplicaFault>
     requires numbered { AreNumbered replicas.old }
     requires hand { AllHand replicas.old }
     requires own { AllOwn replicas.old }
@@ -117,12 +103,12 @@ fn receive(
     let to = usize::from(p);
     let from = usize::from(q);
     if to == from {
-        replicas[to].recv_own(alloc)
+        replicas[to].recv_own()
     } else if to < from {
         let (front, back) = replicas.split_at_mut(from);
-        front[to].recv(alloc, back[0].sent())
+        front[to].recv(back[0].sent())
     } else {
         let (front, back) = replicas.split_at_mut(to);
-        back[0].recv(alloc, front[from].sent())
+        back[0].recv(front[from].sent())
     }
 }

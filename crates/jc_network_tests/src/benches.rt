@@ -104,6 +104,31 @@ fn is_spent<R: Wait + Abort>(rt: &R, bench: &Bench, pass: Pass, event: Event) ->
     }
 }
 
+// Makes as many events as can be: the replica, which yields, sends again and again.
+fn fills<R: Wait + Abort>(rt: &R, bench: &Bench, mut pass: Pass) -> Pass
+    requires { IsPassFor bench.now 1 pass }
+    ensures { IsPassFor bench.now 1 result }
+{
+    for number in 1..=MOST_LIMIT {
+        pass = makes(rt, bench, pass, Event::Send(1), number);
+    }
+    pass
+}
+
+// No event more can be made.
+fn is_full<R: Wait + Abort>(rt: &R, bench: &Bench, pass: Pass, event: Event) -> Pass
+    requires { IsPassFor bench.now (replica_of event) pass }
+    ensures { IsPassFor bench.now (replica_of event) result }
+{
+    match bench.step(rt, pass, &event) {
+        (pass, StepAnswer::Full { front }) => {
+            holds(rt, front == 100_000);
+            pass
+        }
+        _ => panic!(rt; "not full"),
+    }
+}
+
 // The bench doesn't close with one pass of two, and closes with both.
 fn closed(rt: &impl Abort, alloc: Global, bench: Bench, a: Pass, b: Pass) -> Recorded
     requires { IsPassAt bench a × IsPassAt bench b }
@@ -142,14 +167,15 @@ fn steps_are_recorded(rt: HostRuntime) -> Result<(), Fail> {
     Ok(())
 }
 
-// With more takes than events, so that an event can be asked for again.
 #[test]
-fn steps_under_pressure(rt: HostRuntime) -> Result<(), Fail> {
-    let (bench, a, b) = opened(&rt, rt.alloc(), 10)?;
-    let _a = makes(&rt, &bench, a, Event::Exec(0), 1);
-    let b = refuses(&rt, &bench, b, Event::Exec(1), (1, 31));
-    let b = makes(&rt, &bench, b, Event::Send(1), 2);
-    let _b = makes(&rt, &bench, b, Event::Done(1), 3);
+fn a_bench_is_filled(rt: HostRuntime) -> Result<(), Fail> {
+    let alloc = rt.alloc();
+    let (bench, a, b) = opened(&rt, alloc, MOST_LIMIT)?;
+    let b = fills(&rt, &bench, b);
+    let b = is_spent(&rt, &bench, b, Event::Send(1));
+    let a = is_full(&rt, &bench, a, Event::Exec(0));
+    let recorded = closed(&rt, alloc, bench, a, b);
+    holds(&rt, recorded.schedule.len() == 100_000);
     Ok(())
 }
 

@@ -1,8 +1,11 @@
 //! What a replica chooses, worked by hand.
 
-use crate::nets::{DELETION, FIRST, after, holds};
+use crate::nets::{DELETION, FIRST, holds};
+use crate::turns::{Turn, in_network};
+use jc_network::Net;
 use jc_rules::Event;
 use jc_runner::{Phase, choose};
+use std::process::Abort;
 use std::test::Fail;
 
 /// The first events of the two replicas: the first one assigns the map and hands it on.
@@ -88,12 +91,17 @@ const ROWS: &[Row] = &[
     (0, 2, Phase::Start, None),
 ];
 
+/// The replica chooses this in the phase.
+pub fn chooses(rt: &impl Abort, net: &Net, p: u16, phase: Phase, want: &Option<(Event, Phase)>) {
+    holds(rt, choose(net, p, phase) == *want);
+}
+
 #[test]
 fn choices_are_those(rt: HostRuntime) -> Result<(), Fail> {
     for (count, p, phase, want) in ROWS {
         let events = MEETING.get(..*count).unwrap_or(MEETING);
-        let net = after(&rt, rt.alloc(), DELETION, events)?;
-        holds(&rt, choose(&net, *p, *phase) == *want);
+        let turn = Turn::Choice(*p, *phase, *want);
+        in_network(&rt, rt.alloc(), DELETION, events, &turn)?;
     }
     Ok(())
 }

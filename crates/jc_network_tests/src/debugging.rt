@@ -1,7 +1,7 @@
-//! Calls of the debugger that no session shows: by numbers, at its limits, and where memory is wanting.
+//! Calls of the debugger that no session shows: by numbers, and at its limits.
 
-use crate::nets::{FIRST, SECOND_OF_A, YIELD, holds};
-use jc_debug::{ActFault, BreakFault, Debugger, GotoFault, RunEnd, RunFault, StepFault};
+use crate::nets::{YIELD, holds};
+use jc_debug::{ActFault, BreakFault, Debugger, GotoFault};
 use jc_rules::{Event, Rule};
 use jc_scenario::read;
 use std::alloc::Global;
@@ -25,32 +25,12 @@ fn act(debugger: &mut Debugger, event: &Event) -> u8 {
     }
 }
 
-fn step(debugger: &mut Debugger, n: u64) -> u8 {
-    match debugger.step(n) {
-        Ok(()) => 0,
-        Err(StepFault::AtEnd) => 51,
-        Err(StepFault::Stuck(stuck)) => stuck.number,
-        Err(StepFault::Memory) => 255,
-    }
-}
-
 fn goto(debugger: &mut Debugger, n: u64) -> u8 {
     match debugger.goto(n) {
         Ok(()) => 0,
         Err(GotoFault::PastSchedule) => 52,
         Err(GotoFault::Stuck(stuck)) => stuck.number,
         Err(GotoFault::Memory) => 255,
-    }
-}
-
-/// The end of a run, which is 0 at the schedule's end and 200 at a breakpoint.
-fn run(debugger: &mut Debugger) -> u8 {
-    match debugger.run() {
-        Ok(RunEnd::End) => 0,
-        Ok(RunEnd::Break(_)) => 200,
-        Ok(RunEnd::Stuck(stuck)) => stuck.number,
-        Err(RunFault::AtEnd) => 51,
-        Err(RunFault::Memory) => 255,
     }
 }
 
@@ -63,16 +43,13 @@ fn break_of(answer: Result<u16, BreakFault>) -> u16 {
     }
 }
 
-#[test]
-fn missing_replicas(rt: HostRuntime) -> Result<(), Fail> {
-    let mut debugger = begun(rt.alloc(), YIELD)?;
-    holds(&rt, act(&mut debugger, &Event::Exec(5)) == 37);
+fn missing_replicas(rt: &impl Abort, debugger: &mut Debugger) {
+    holds(rt, act(debugger, &Event::Exec(5)) == 37);
     holds(
-        &rt,
+        rt,
         debugger.position() == 0 && debugger.schedule().is_empty(),
     );
-    holds(&rt, break_of(debugger.break_replica(1)) == 1037);
-    Ok(())
+    holds(rt, break_of(debugger.break_replica(1)) == 1037);
 }
 
 fn fill(rt: &impl Abort, debugger: &mut Debugger) {
@@ -81,17 +58,14 @@ fn fill(rt: &impl Abort, debugger: &mut Debugger) {
     }
 }
 
-#[test]
-fn a_full_schedule(rt: HostRuntime) -> Result<(), Fail> {
-    let mut debugger = begun(rt.alloc(), YIELD)?;
-    fill(&rt, &mut debugger);
-    holds(&rt, act(&mut debugger, &Event::Send(0)) == 19);
-    holds(&rt, act(&mut debugger, &Event::Exec(5)) == 19);
-    holds(&rt, debugger.back(99_999) && debugger.position() == 1);
-    holds(&rt, goto(&mut debugger, 100_000) == 0 && debugger.back(1));
-    holds(&rt, act(&mut debugger, &Event::Done(0)) == 0);
-    holds(&rt, debugger.position() == 100_000);
-    Ok(())
+fn a_full_schedule(rt: &impl Abort, debugger: &mut Debugger) {
+    fill(rt, debugger);
+    holds(rt, act(debugger, &Event::Send(0)) == 19);
+    holds(rt, act(debugger, &Event::Exec(5)) == 19);
+    holds(rt, debugger.back(99_999) && debugger.position() == 1);
+    holds(rt, goto(debugger, 100_000) == 0 && debugger.back(1));
+    holds(rt, act(debugger, &Event::Done(0)) == 0);
+    holds(rt, debugger.position() == 100_000);
 }
 
 fn break_all(rt: &impl Abort, debugger: &mut Debugger) {
@@ -100,79 +74,51 @@ fn break_all(rt: &impl Abort, debugger: &mut Debugger) {
     }
 }
 
-#[test]
-fn no_number_is_left(rt: HostRuntime) -> Result<(), Fail> {
-    let mut debugger = begun(rt.alloc(), YIELD)?;
-    break_all(&rt, &mut debugger);
-    holds(&rt, break_of(debugger.break_rule(Rule::Exec)) == 1054);
-    holds(&rt, break_of(debugger.break_replica(1)) == 1037);
+fn no_number_is_left(rt: &impl Abort, debugger: &mut Debugger) {
+    break_all(rt, debugger);
+    holds(rt, break_of(debugger.break_rule(Rule::Exec)) == 1054);
+    holds(rt, break_of(debugger.break_replica(1)) == 1037);
     holds(
-        &rt,
+        rt,
         !debugger.unbreak(0) && !debugger.unbreak(257) && debugger.unbreak(256),
     );
-    holds(&rt, break_of(debugger.break_replica(0)) == 256);
+    holds(rt, break_of(debugger.break_replica(0)) == 256);
+}
+
+// ---- the tests: a debugger has one owner
+
+#[derive(Clone, Copy)]
+enum Test {
+    MissingReplicas,
+    FullSchedule,
+    NoNumberIsLeft,
+}
+
+fn run_test(rt: &impl Abort, debugger: &mut Debugger, test: Test) {
+    match test {
+        Test::MissingReplicas => missing_replicas(rt, debugger),
+        Test::FullSchedule => a_full_schedule(rt, debugger),
+        Test::NoNumberIsLeft => no_number_is_left(rt, debugger),
+    }
+}
+
+fn in_debugger(rt: &impl Abort, alloc: Global, text: &str, test: Test) -> Result<(), Fail> {
+    let mut debugger = begun(alloc, text)?;
+    run_test(rt, &mut debugger, test);
     Ok(())
-}
-
-// ---- Calls for which memory may be refused once. In a plain run it never is; each request can be refused in turn by
-// hand, and then the position stays before an event, and the call made again ends as it does with ample memory.
-
-/// A second replica receives what the first one made.
-const RECEIVED: &str =
-    "jsoncrdt 1 replica a { doc.get(\"a\") := 1; doc.get(\"a\") := 2; yield } replica b { yield }
-    schedule { a.exec; a.exec; a.send; b.recv(a) }";
-
-/// The position is from one to before another, since memory was refused on the way.
-fn stays(rt: &impl Abort, debugger: &Debugger, from: u64, to: u64) {
-    holds(rt, from <= debugger.position() && debugger.position() < to);
-}
-
-fn steps_to(rt: &impl Abort, debugger: &mut Debugger, n: u64) {
-    if step(debugger, n) == 255 {
-        stays(rt, debugger, 0, n);
-        holds(rt, goto(debugger, n) == 0);
-    }
-    holds(rt, debugger.position() == n);
-}
-
-fn goes(rt: &impl Abort, debugger: &mut Debugger, from: u64, to: u64) {
-    if goto(debugger, to) == 255 {
-        stays(rt, debugger, from, to);
-        holds(rt, goto(debugger, to) == 0);
-    }
-    holds(rt, debugger.position() == to);
-}
-
-fn runs(rt: &impl Abort, debugger: &mut Debugger, from: u64, to: u64) {
-    let mut end = run(debugger);
-    if end == 255 {
-        stays(rt, debugger, from, to);
-        end = run(debugger);
-    }
-    holds(rt, end == 0 && debugger.position() == to);
-}
-
-fn acts(rt: &impl Abort, debugger: &mut Debugger, event: &Event, from: u64, to: u64) {
-    let events = debugger.schedule().len();
-    if act(debugger, event) == 255 {
-        stays(rt, debugger, from, to);
-        holds(rt, debugger.schedule().len() == events);
-        holds(rt, act(debugger, event) == 0);
-    }
-    holds(rt, debugger.position() == to);
 }
 
 #[test]
-fn goes_on_after_refused_memory(rt: HostRuntime) -> Result<(), Fail> {
-    let mut debugger = begun(rt.alloc(), RECEIVED)?;
-    steps_to(&rt, &mut debugger, 2);
-    runs(&rt, &mut debugger, 2, 4);
-    holds(&rt, debugger.back(3));
-    goes(&rt, &mut debugger, 1, 4);
-    acts(&rt, &mut debugger, &Event::Apply(1, FIRST), 4, 5);
-    acts(&rt, &mut debugger, &Event::Apply(1, SECOND_OF_A), 5, 6);
-    holds(&rt, goto(&mut debugger, 0) == 0);
-    goes(&rt, &mut debugger, 0, 6);
-    holds(&rt, debugger.trace().is_some());
-    Ok(())
+fn debugged_replicas_are_missing(rt: HostRuntime) -> Result<(), Fail> {
+    in_debugger(&rt, rt.alloc(), YIELD, Test::MissingReplicas)
+}
+
+#[test]
+fn the_schedule_is_full(rt: HostRuntime) -> Result<(), Fail> {
+    in_debugger(&rt, rt.alloc(), YIELD, Test::FullSchedule)
+}
+
+#[test]
+fn all_numbers_are_taken(rt: HostRuntime) -> Result<(), Fail> {
+    in_debugger(&rt, rt.alloc(), YIELD, Test::NoNumberIsLeft)
 }

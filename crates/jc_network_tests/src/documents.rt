@@ -1,6 +1,7 @@
 //! The documents of replicas, by calls with ample memory.
 
-use crate::nets::{DELETION, MEETING, after, holds};
+use crate::nets::{DELETION, MEETING, holds};
+use crate::turns::{Turn, in_network};
 use jc_network::{CompareFault, Net};
 use jc_view::view_replica;
 use std::alloc::Global;
@@ -21,19 +22,21 @@ fn shows(rt: &impl Abort, alloc: Global, net: &Net, p: u16, want: &str) {
     }
 }
 
-#[test]
-fn documents_are_shown(rt: HostRuntime) -> Result<(), Fail> {
-    let alloc = rt.alloc();
-    let net = after(&rt, alloc, DELETION, MEETING)?;
+/// The replicas have these lines, and one that isn't there has none.
+pub fn documents_are_shown(rt: &impl Abort, alloc: Global, net: &Net) {
     for (p, want) in LINES {
-        shows(&rt, alloc, &net, *p, want);
+        shows(rt, alloc, net, *p, want);
     }
     holds(
-        &rt,
+        rt,
         matches!(
-            view_replica(alloc, &net, 2),
+            view_replica(alloc, net, 2),
             Err(CompareFault::NoSuchReplica)
         ),
     );
-    Ok(())
+}
+
+#[test]
+fn documents(rt: HostRuntime) -> Result<(), Fail> {
+    in_network(&rt, rt.alloc(), DELETION, MEETING, &Turn::Documents)
 }

@@ -1,9 +1,12 @@
 //! Gates, and flags by which they meet.
 
+ghost use Rattle.std.specs.Prelude.{None, Some, if◌then◌else◌};
+ghost use Rattle.jc_runner.specs.Asked.{questions_of};
+
 use jc_runner::Gate;
 use std::alloc::{AllocError, Global};
 use std::sync::Wait;
-use std::sync::atomic::{AtomicBool, Ordering};
+use std::sync::atomic::{AtomicBool, AtomicU64, Ordering};
 
 /// How often a flag is looked at.
 const LOOKS: u64 = 1_000_000_000;
@@ -23,6 +26,8 @@ pub fn is_seen(flag: &AtomicBool) -> bool {
 pub struct Open;
 
 impl Gate for Open {
+    ghost asked = { λ _. None };
+
     fn before<R: Wait>(&mut self, _rt: &R, _replica: u16, _step: u64) {}
 }
 
@@ -43,6 +48,8 @@ pub struct Signal<'a> {
 }
 
 impl<'a> Gate for Signal<'a> {
+    ghost asked = { λ _. None };
+
     fn before<R: Wait>(&mut self, _rt: &R, _replica: u16, step: u64) {
         if let Some((at, flag)) = self.raises {
             if at == step {
@@ -53,6 +60,32 @@ impl<'a> Gate for Signal<'a> {
             if at == step && is_seen(flag) {
                 found.store(true, Ordering::SeqCst);
             }
+        }
+    }
+}
+
+/// The gate of one replica. It counts its questions, puts the count down, and raises a flag where one has another number
+/// than its replica's, or another number of events than it was asked before. It tells its questions as long as none has.
+#[derive(Drop)]
+pub struct Own<'a> {
+    pub replica: u16,
+    pub times: u64,
+    pub right: bool,
+    pub count: &'a AtomicU64,
+    pub wrong: &'a AtomicBool,
+}
+
+impl<'a> Gate for Own<'a> {
+    ghost asked = { λ g. if g.right then Some (questions_of g.replica g.times) else None };
+
+    #[tactic(auto, using(crate::proofs::Gating::one_more, crate::proofs::Gating::no_more))]
+    fn before<R: Wait>(&mut self, _rt: &R, replica: u16, step: u64) {
+        if self.right && replica == self.replica && step == self.times && step < u64::MAX {
+            self.times += 1;
+            self.count.store(self.times, Ordering::SeqCst);
+        } else {
+            self.right = false;
+            self.wrong.store(true, Ordering::SeqCst);
         }
     }
 }

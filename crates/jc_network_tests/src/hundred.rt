@@ -1,307 +1,40 @@
-//! More than a hundred operations on one list by four replicas, which apply them in different orders.
+//! More than a hundred operations on one list by four replicas, which apply them in different orders: what they mean. What
+//! order the list has, and that all have the same tree, is in the rows of `jc_rows`, which have the same scenarios.
 
-use crate::meanings::{is_meant, pick};
-use crate::nets::{after, holds, make, number_of};
-use jc_meaning::{Comparison, compare};
+use crate::meanings::is_meant;
+use crate::nets::holds;
+use crate::turns::{Turn, in_run};
 use jc_network::Net;
-use jc_rules::{Event, Id, Key, Mutation, Next, Op, Tagged};
-use jc_tree::{TreeStore, is_place};
-use std::alloc::{AllocError, Global};
+use std::alloc::Global;
 use std::process::Abort;
 use std::test::Fail;
 
-// ---- scripts: the document is the list
+/// The scenarios, with their schedules.
+const SCENARIOS: [&str; 3] = [
+    "jsoncrdt 1 replica a { doc := []; yield; doc.idx(0).insertAfter(1); doc.idx(1).insertAfter(2); doc.idx(0).insertAfter(3); doc.idx(2).insertAfter(4); doc.idx(4).insertAfter(5); doc.idx(5).insertAfter(6); doc.idx(3).insertAfter(7); doc.idx(6).insertAfter(8); doc.idx(3).insertAfter(9); doc.idx(6).insertAfter(10); doc.idx(5).insertAfter(11); doc.idx(10).insertAfter(12); doc.idx(1) := 20; doc.idx(1).get(\"x\") := 21; doc.idx(3).delete; yield; doc.idx(20).insertAfter(30); doc.idx(11) := 30; doc.idx(16).delete; doc.idx(36).insertAfter(31); doc.idx(6) := 31; doc.idx(28).delete; doc.idx(1).insertAfter(32); doc.idx(7) := 32; doc.idx(11).delete; doc.idx(29).insertAfter(33); doc.idx(9) := 33; doc.idx(5).delete; yield } replica b { yield; doc.idx(0).insertAfter(1); doc.idx(1).insertAfter(2); doc.idx(1).insertAfter(3); doc.idx(3).insertAfter(4); doc.idx(3).insertAfter(5); doc.idx(0).insertAfter(6); doc.idx(6).insertAfter(7); doc.idx(6).insertAfter(8); doc.idx(0).insertAfter(9); doc.idx(6).insertAfter(10); doc.idx(8).insertAfter(11); doc.idx(4).insertAfter(12); doc.idx(2) := 20; doc.idx(12).get(\"x\") := 21; doc.idx(5).delete; yield; doc.idx(6).insertAfter(30); doc.idx(1) := 30; doc.idx(22).delete; doc.idx(2).insertAfter(31); doc.idx(29) := 31; doc.idx(22).delete; doc.idx(15).insertAfter(32); doc.idx(35) := 32; doc.idx(3).delete; doc.idx(32).insertAfter(33); doc.idx(37) := 33; doc.idx(35).delete; yield } replica c { yield; doc.idx(0).insertAfter(1); doc.idx(0).insertAfter(2); doc.idx(2).insertAfter(3); doc.idx(3).insertAfter(4); doc.idx(2).insertAfter(5); doc.idx(4).insertAfter(6); doc.idx(5).insertAfter(7); doc.idx(6).insertAfter(8); doc.idx(3).insertAfter(9); doc.idx(1).insertAfter(10); doc.idx(2).insertAfter(11); doc.idx(11).insertAfter(12); doc.idx(8) := 20; doc.idx(1).get(\"x\") := 21; doc.idx(7).delete; yield; doc.idx(3).insertAfter(30); doc.idx(3) := 30; doc.idx(22).delete; doc.idx(29).insertAfter(31); doc.idx(29) := 31; doc.idx(16).delete; doc.idx(12).insertAfter(32); doc.idx(10) := 32; doc.idx(15).delete; doc.idx(19).insertAfter(33); doc.idx(6) := 33; doc.idx(2).delete; yield } replica d { yield; doc.idx(0).insertAfter(1); doc.idx(1).insertAfter(2); doc.idx(2).insertAfter(3); doc.idx(2).insertAfter(4); doc.idx(2).insertAfter(5); doc.idx(2).insertAfter(6); doc.idx(6).insertAfter(7); doc.idx(0).insertAfter(8); doc.idx(4).insertAfter(9); doc.idx(2).insertAfter(10); doc.idx(8).insertAfter(11); doc.idx(3).insertAfter(12); doc.idx(3) := 20; doc.idx(6).get(\"x\") := 21; doc.idx(3).delete; yield; doc.idx(37).insertAfter(30); doc.idx(5) := 30; doc.idx(20).delete; doc.idx(0).insertAfter(31); doc.idx(10) := 31; doc.idx(25).delete; doc.idx(2).insertAfter(32); doc.idx(27) := 32; doc.idx(39).delete; doc.idx(33).insertAfter(33); doc.idx(37) := 33; doc.idx(20).delete; yield } schedule {   a.exec; a.send; b.send; c.send; d.send; a.recv(a); a.recv(b); a.recv(c); a.recv(d); a.done; b.recv(a); b.recv(b);   b.recv(c); b.recv(d); b.apply(1, a); b.done; c.recv(a); c.recv(b); c.recv(c); c.recv(d); c.apply(1, a); c.done; d.recv(a); d.recv(b);   d.recv(c); d.recv(d); d.apply(1, a); d.done; a.exec; a.exec; a.exec; a.exec; a.exec; a.exec; a.exec; a.exec;   a.exec; a.exec; a.exec; a.exec; a.exec; a.exec; a.exec; a.send; b.exec; b.exec; b.exec; b.exec;   b.exec; b.exec; b.exec; b.exec; b.exec; b.exec; b.exec; b.exec; b.exec; b.exec; b.exec; b.send;   c.exec; c.exec; c.exec; c.exec; c.exec; c.exec; c.exec; c.exec; c.exec; c.exec; c.exec; c.exec;   c.exec; c.exec; c.exec; c.send; d.exec; d.exec; d.exec; d.exec; d.exec; d.exec; d.exec; d.exec;   d.exec; d.exec; d.exec; d.exec; d.exec; d.exec; d.exec; d.send; a.recv(a); a.recv(b); a.recv(c); a.recv(d);   a.apply(2, b); a.apply(2, c); a.apply(2, d); a.apply(3, b); a.apply(3, c); a.apply(3, d); a.apply(4, b); a.apply(4, c); a.apply(4, d); a.apply(5, b); a.apply(5, c); a.apply(5, d);   a.apply(6, b); a.apply(6, c); a.apply(6, d); a.apply(7, b); a.apply(7, c); a.apply(7, d); a.apply(8, b); a.apply(8, c); a.apply(8, d); a.apply(9, b); a.apply(9, c); a.apply(9, d);   a.apply(10, b); a.apply(10, c); a.apply(10, d); a.apply(11, b); a.apply(11, c); a.apply(11, d); a.apply(12, b); a.apply(12, c); a.apply(12, d); a.apply(13, b); a.apply(13, c); a.apply(13, d);   a.apply(14, b); a.apply(14, c); a.apply(14, d); a.apply(15, b); a.apply(15, c); a.apply(15, d); a.apply(16, b); a.apply(16, c); a.apply(16, d); a.done; b.recv(a); b.recv(b);   b.recv(c); b.recv(d); b.apply(2, d); b.apply(3, d); b.apply(4, d); b.apply(5, d); b.apply(6, d); b.apply(7, d); b.apply(8, d); b.apply(9, d); b.apply(10, d); b.apply(11, d);   b.apply(12, d); b.apply(13, d); b.apply(14, d); b.apply(15, d); b.apply(16, d); b.apply(2, c); b.apply(3, c); b.apply(4, c); b.apply(5, c); b.apply(6, c); b.apply(7, c); b.apply(8, c);   b.apply(9, c); b.apply(10, c); b.apply(11, c); b.apply(12, c); b.apply(13, c); b.apply(14, c); b.apply(15, c); b.apply(16, c); b.apply(2, a); b.apply(3, a); b.apply(4, a); b.apply(5, a);   b.apply(6, a); b.apply(7, a); b.apply(8, a); b.apply(9, a); b.apply(10, a); b.apply(11, a); b.apply(12, a); b.apply(13, a); b.apply(14, a); b.apply(15, a); b.apply(16, a); b.done;   c.recv(a); c.recv(b); c.recv(c); c.recv(d); c.apply(2, b); c.apply(2, d); c.apply(3, b); c.apply(3, d); c.apply(4, b); c.apply(4, d); c.apply(5, b); c.apply(5, d);   c.apply(6, b); c.apply(6, d); c.apply(7, b); c.apply(7, d); c.apply(8, b); c.apply(8, d); c.apply(9, b); c.apply(9, d); c.apply(10, b); c.apply(10, d); c.apply(11, b); c.apply(11, d);   c.apply(12, b); c.apply(12, d); c.apply(13, b); c.apply(13, d); c.apply(14, b); c.apply(14, d); c.apply(15, b); c.apply(15, d); c.apply(16, b); c.apply(16, d); c.apply(2, a); c.apply(3, a);   c.apply(4, a); c.apply(5, a); c.apply(6, a); c.apply(7, a); c.apply(8, a); c.apply(9, a); c.apply(10, a); c.apply(11, a); c.apply(12, a); c.apply(13, a); c.apply(14, a); c.apply(15, a);   c.apply(16, a); c.done; d.recv(a); d.recv(b); d.recv(c); d.recv(d); d.apply(2, a); d.apply(3, a); d.apply(2, b); d.apply(4, a); d.apply(2, c); d.apply(5, a);   d.apply(3, b); d.apply(6, a); d.apply(3, c); d.apply(7, a); d.apply(4, b); d.apply(8, a); d.apply(4, c); d.apply(9, a); d.apply(5, b); d.apply(10, a); d.apply(5, c); d.apply(11, a);   d.apply(6, b); d.apply(12, a); d.apply(6, c); d.apply(13, a); d.apply(7, b); d.apply(14, a); d.apply(7, c); d.apply(15, a); d.apply(8, b); d.apply(16, a); d.apply(8, c); d.apply(9, c);   d.apply(9, b); d.apply(10, c); d.apply(10, b); d.apply(11, c); d.apply(11, b); d.apply(12, c); d.apply(12, b); d.apply(13, c); d.apply(13, b); d.apply(14, c); d.apply(14, b); d.apply(15, c);   d.apply(15, b); d.apply(16, c); d.apply(16, b); d.done; a.exec; a.exec; a.exec; a.exec; a.exec; a.exec; a.exec; a.exec;   a.exec; a.exec; a.exec; a.exec; a.send; b.exec; b.exec; b.exec; b.exec; b.exec; b.exec; b.exec;   b.exec; b.exec; b.exec; b.exec; b.exec; b.send; c.exec; c.exec; c.exec; c.exec; c.exec; c.exec;   c.exec; c.exec; c.exec; c.exec; c.exec; c.exec; c.send; d.exec; d.exec; d.exec; d.exec; d.exec;   d.exec; d.exec; d.exec; d.exec; d.exec; d.exec; d.exec; d.send; a.recv(a); a.recv(b); a.recv(c); a.recv(d);   a.apply(17, b); a.apply(17, c); a.apply(17, d); a.apply(18, b); a.apply(18, c); a.apply(18, d); a.apply(19, b); a.apply(19, c); a.apply(19, d); a.apply(20, b); a.apply(20, c); a.apply(20, d);   a.apply(21, b); a.apply(21, c); a.apply(21, d); a.apply(22, b); a.apply(22, c); a.apply(22, d); a.apply(23, b); a.apply(23, c); a.apply(23, d); a.apply(24, b); a.apply(24, c); a.apply(24, d);   a.apply(25, b); a.apply(25, c); a.apply(25, d); a.apply(26, b); a.apply(26, c); a.apply(26, d); a.apply(27, b); a.apply(27, c); a.apply(27, d); a.apply(28, b); a.apply(28, c); a.apply(28, d);   a.done; b.recv(a); b.recv(b); b.recv(c); b.recv(d); b.apply(17, d); b.apply(18, d); b.apply(19, d); b.apply(20, d); b.apply(21, d); b.apply(22, d); b.apply(23, d);   b.apply(24, d); b.apply(25, d); b.apply(26, d); b.apply(27, d); b.apply(28, d); b.apply(17, c); b.apply(18, c); b.apply(19, c); b.apply(20, c); b.apply(21, c); b.apply(22, c); b.apply(23, c);   b.apply(24, c); b.apply(25, c); b.apply(26, c); b.apply(27, c); b.apply(28, c); b.apply(17, a); b.apply(18, a); b.apply(19, a); b.apply(20, a); b.apply(21, a); b.apply(22, a); b.apply(23, a);   b.apply(24, a); b.apply(25, a); b.apply(26, a); b.apply(27, a); b.apply(28, a); b.done; c.recv(a); c.recv(b); c.recv(c); c.recv(d); c.apply(17, b); c.apply(17, d);   c.apply(18, b); c.apply(18, d); c.apply(19, b); c.apply(19, d); c.apply(20, b); c.apply(20, d); c.apply(21, b); c.apply(21, d); c.apply(22, b); c.apply(22, d); c.apply(23, b); c.apply(23, d);   c.apply(24, b); c.apply(24, d); c.apply(25, b); c.apply(25, d); c.apply(26, b); c.apply(26, d); c.apply(27, b); c.apply(27, d); c.apply(28, b); c.apply(28, d); c.apply(17, a); c.apply(18, a);   c.apply(19, a); c.apply(20, a); c.apply(21, a); c.apply(22, a); c.apply(23, a); c.apply(24, a); c.apply(25, a); c.apply(26, a); c.apply(27, a); c.apply(28, a); c.done; d.recv(a);   d.recv(b); d.recv(c); d.recv(d); d.apply(17, a); d.apply(18, a); d.apply(17, b); d.apply(19, a); d.apply(17, c); d.apply(20, a); d.apply(18, b); d.apply(21, a); d.apply(18, c);   d.apply(22, a); d.apply(19, b); d.apply(23, a); d.apply(19, c); d.apply(24, a); d.apply(20, b); d.apply(25, a); d.apply(20, c); d.apply(26, a); d.apply(21, b); d.apply(27, a); d.apply(21, c);   d.apply(28, a); d.apply(22, b); d.apply(23, b); d.apply(22, c); d.apply(24, b); d.apply(23, c); d.apply(25, b); d.apply(24, c); d.apply(26, b); d.apply(25, c); d.apply(27, b); d.apply(26, c);   d.apply(28, b); d.apply(27, c); d.apply(28, c); d.done }",
+    "jsoncrdt 1 replica a { doc := []; yield; doc.idx(0).insertAfter(1); doc.idx(0).insertAfter(2); doc.idx(1).insertAfter(3); doc.idx(0).insertAfter(4); doc.idx(3).insertAfter(5); doc.idx(5).insertAfter(6); doc.idx(1).insertAfter(7); doc.idx(1).insertAfter(8); doc.idx(3).insertAfter(9); doc.idx(4).insertAfter(10); doc.idx(9).insertAfter(11); doc.idx(8).insertAfter(12); doc.idx(7) := 20; doc.idx(1).get(\"x\") := 21; doc.idx(8).delete; yield; doc.idx(25).insertAfter(30); doc.idx(36) := 30; doc.idx(10).delete; doc.idx(6).insertAfter(31); doc.idx(9) := 31; doc.idx(7).delete; doc.idx(8).insertAfter(32); doc.idx(29) := 32; doc.idx(22).delete; doc.idx(28).insertAfter(33); doc.idx(4) := 33; doc.idx(7).delete; yield } replica b { yield; doc.idx(0).insertAfter(1); doc.idx(0).insertAfter(2); doc.idx(0).insertAfter(3); doc.idx(3).insertAfter(4); doc.idx(4).insertAfter(5); doc.idx(0).insertAfter(6); doc.idx(4).insertAfter(7); doc.idx(6).insertAfter(8); doc.idx(5).insertAfter(9); doc.idx(1).insertAfter(10); doc.idx(4).insertAfter(11); doc.idx(8).insertAfter(12); doc.idx(3) := 20; doc.idx(12).get(\"x\") := 21; doc.idx(11).delete; yield; doc.idx(41).insertAfter(30); doc.idx(26) := 30; doc.idx(38).delete; doc.idx(13).insertAfter(31); doc.idx(19) := 31; doc.idx(26).delete; doc.idx(25).insertAfter(32); doc.idx(10) := 32; doc.idx(27).delete; doc.idx(7).insertAfter(33); doc.idx(37) := 33; doc.idx(34).delete; yield } replica c { yield; doc.idx(0).insertAfter(1); doc.idx(0).insertAfter(2); doc.idx(2).insertAfter(3); doc.idx(1).insertAfter(4); doc.idx(1).insertAfter(5); doc.idx(3).insertAfter(6); doc.idx(1).insertAfter(7); doc.idx(5).insertAfter(8); doc.idx(3).insertAfter(9); doc.idx(7).insertAfter(10); doc.idx(5).insertAfter(11); doc.idx(8).insertAfter(12); doc.idx(2) := 20; doc.idx(3).get(\"x\") := 21; doc.idx(9).delete; yield; doc.idx(29).insertAfter(30); doc.idx(20) := 30; doc.idx(4).delete; doc.idx(13).insertAfter(31); doc.idx(13) := 31; doc.idx(10).delete; doc.idx(1).insertAfter(32); doc.idx(23) := 32; doc.idx(3).delete; doc.idx(30).insertAfter(33); doc.idx(32) := 33; doc.idx(26).delete; yield } replica d { yield; doc.idx(0).insertAfter(1); doc.idx(0).insertAfter(2); doc.idx(2).insertAfter(3); doc.idx(0).insertAfter(4); doc.idx(4).insertAfter(5); doc.idx(4).insertAfter(6); doc.idx(5).insertAfter(7); doc.idx(4).insertAfter(8); doc.idx(8).insertAfter(9); doc.idx(8).insertAfter(10); doc.idx(6).insertAfter(11); doc.idx(1).insertAfter(12); doc.idx(9) := 20; doc.idx(7).get(\"x\") := 21; doc.idx(11).delete; yield; doc.idx(18).insertAfter(30); doc.idx(28) := 30; doc.idx(31).delete; doc.idx(41).insertAfter(31); doc.idx(32) := 31; doc.idx(37).delete; doc.idx(16).insertAfter(32); doc.idx(18) := 32; doc.idx(2).delete; doc.idx(37).insertAfter(33); doc.idx(31) := 33; doc.idx(2).delete; yield } schedule {   a.exec; a.send; b.send; c.send; d.send; a.recv(a); a.recv(b); a.recv(c); a.recv(d); a.done; b.recv(a); b.recv(b);   b.recv(c); b.recv(d); b.apply(1, a); b.done; c.recv(a); c.recv(b); c.recv(c); c.recv(d); c.apply(1, a); c.done; d.recv(a); d.recv(b);   d.recv(c); d.recv(d); d.apply(1, a); d.done; a.exec; a.exec; a.exec; a.exec; a.exec; a.exec; a.exec; a.exec;   a.exec; a.exec; a.exec; a.exec; a.exec; a.exec; a.exec; a.send; b.exec; b.exec; b.exec; b.exec;   b.exec; b.exec; b.exec; b.exec; b.exec; b.exec; b.exec; b.exec; b.exec; b.exec; b.exec; b.send;   c.exec; c.exec; c.exec; c.exec; c.exec; c.exec; c.exec; c.exec; c.exec; c.exec; c.exec; c.exec;   c.exec; c.exec; c.exec; c.send; d.exec; d.exec; d.exec; d.exec; d.exec; d.exec; d.exec; d.exec;   d.exec; d.exec; d.exec; d.exec; d.exec; d.exec; d.exec; d.send; a.recv(a); a.recv(b); a.recv(c); a.recv(d);   a.apply(2, b); a.apply(2, c); a.apply(2, d); a.apply(3, b); a.apply(3, c); a.apply(3, d); a.apply(4, b); a.apply(4, c); a.apply(4, d); a.apply(5, b); a.apply(5, c); a.apply(5, d);   a.apply(6, b); a.apply(6, c); a.apply(6, d); a.apply(7, b); a.apply(7, c); a.apply(7, d); a.apply(8, b); a.apply(8, c); a.apply(8, d); a.apply(9, b); a.apply(9, c); a.apply(9, d);   a.apply(10, b); a.apply(10, c); a.apply(10, d); a.apply(11, b); a.apply(11, c); a.apply(11, d); a.apply(12, b); a.apply(12, c); a.apply(12, d); a.apply(13, b); a.apply(13, c); a.apply(13, d);   a.apply(14, b); a.apply(14, c); a.apply(14, d); a.apply(15, b); a.apply(15, c); a.apply(15, d); a.apply(16, b); a.apply(16, c); a.apply(16, d); a.done; b.recv(a); b.recv(b);   b.recv(c); b.recv(d); b.apply(2, d); b.apply(3, d); b.apply(4, d); b.apply(5, d); b.apply(6, d); b.apply(7, d); b.apply(8, d); b.apply(9, d); b.apply(10, d); b.apply(11, d);   b.apply(12, d); b.apply(13, d); b.apply(14, d); b.apply(15, d); b.apply(16, d); b.apply(2, c); b.apply(3, c); b.apply(4, c); b.apply(5, c); b.apply(6, c); b.apply(7, c); b.apply(8, c);   b.apply(9, c); b.apply(10, c); b.apply(11, c); b.apply(12, c); b.apply(13, c); b.apply(14, c); b.apply(15, c); b.apply(16, c); b.apply(2, a); b.apply(3, a); b.apply(4, a); b.apply(5, a);   b.apply(6, a); b.apply(7, a); b.apply(8, a); b.apply(9, a); b.apply(10, a); b.apply(11, a); b.apply(12, a); b.apply(13, a); b.apply(14, a); b.apply(15, a); b.apply(16, a); b.done;   c.recv(a); c.recv(b); c.recv(c); c.recv(d); c.apply(2, b); c.apply(2, d); c.apply(3, b); c.apply(3, d); c.apply(4, b); c.apply(4, d); c.apply(5, b); c.apply(5, d);   c.apply(6, b); c.apply(6, d); c.apply(7, b); c.apply(7, d); c.apply(8, b); c.apply(8, d); c.apply(9, b); c.apply(9, d); c.apply(10, b); c.apply(10, d); c.apply(11, b); c.apply(11, d);   c.apply(12, b); c.apply(12, d); c.apply(13, b); c.apply(13, d); c.apply(14, b); c.apply(14, d); c.apply(15, b); c.apply(15, d); c.apply(16, b); c.apply(16, d); c.apply(2, a); c.apply(3, a);   c.apply(4, a); c.apply(5, a); c.apply(6, a); c.apply(7, a); c.apply(8, a); c.apply(9, a); c.apply(10, a); c.apply(11, a); c.apply(12, a); c.apply(13, a); c.apply(14, a); c.apply(15, a);   c.apply(16, a); c.done; d.recv(a); d.recv(b); d.recv(c); d.recv(d); d.apply(2, a); d.apply(3, a); d.apply(2, b); d.apply(4, a); d.apply(2, c); d.apply(5, a);   d.apply(3, b); d.apply(6, a); d.apply(3, c); d.apply(7, a); d.apply(4, b); d.apply(8, a); d.apply(4, c); d.apply(9, a); d.apply(5, b); d.apply(10, a); d.apply(5, c); d.apply(11, a);   d.apply(6, b); d.apply(12, a); d.apply(6, c); d.apply(13, a); d.apply(7, b); d.apply(14, a); d.apply(7, c); d.apply(15, a); d.apply(8, b); d.apply(16, a); d.apply(8, c); d.apply(9, c);   d.apply(9, b); d.apply(10, c); d.apply(10, b); d.apply(11, c); d.apply(11, b); d.apply(12, c); d.apply(12, b); d.apply(13, c); d.apply(13, b); d.apply(14, c); d.apply(14, b); d.apply(15, c);   d.apply(15, b); d.apply(16, c); d.apply(16, b); d.done; a.exec; a.exec; a.exec; a.exec; a.exec; a.exec; a.exec; a.exec;   a.exec; a.exec; a.exec; a.exec; a.send; b.exec; b.exec; b.exec; b.exec; b.exec; b.exec; b.exec;   b.exec; b.exec; b.exec; b.exec; b.exec; b.send; c.exec; c.exec; c.exec; c.exec; c.exec; c.exec;   c.exec; c.exec; c.exec; c.exec; c.exec; c.exec; c.send; d.exec; d.exec; d.exec; d.exec; d.exec;   d.exec; d.exec; d.exec; d.exec; d.exec; d.exec; d.exec; d.send; a.recv(a); a.recv(b); a.recv(c); a.recv(d);   a.apply(17, b); a.apply(17, c); a.apply(17, d); a.apply(18, b); a.apply(18, c); a.apply(18, d); a.apply(19, b); a.apply(19, c); a.apply(19, d); a.apply(20, b); a.apply(20, c); a.apply(20, d);   a.apply(21, b); a.apply(21, c); a.apply(21, d); a.apply(22, b); a.apply(22, c); a.apply(22, d); a.apply(23, b); a.apply(23, c); a.apply(23, d); a.apply(24, b); a.apply(24, c); a.apply(24, d);   a.apply(25, b); a.apply(25, c); a.apply(25, d); a.apply(26, b); a.apply(26, c); a.apply(26, d); a.apply(27, b); a.apply(27, c); a.apply(27, d); a.apply(28, b); a.apply(28, c); a.apply(28, d);   a.done; b.recv(a); b.recv(b); b.recv(c); b.recv(d); b.apply(17, d); b.apply(18, d); b.apply(19, d); b.apply(20, d); b.apply(21, d); b.apply(22, d); b.apply(23, d);   b.apply(24, d); b.apply(25, d); b.apply(26, d); b.apply(27, d); b.apply(28, d); b.apply(17, c); b.apply(18, c); b.apply(19, c); b.apply(20, c); b.apply(21, c); b.apply(22, c); b.apply(23, c);   b.apply(24, c); b.apply(25, c); b.apply(26, c); b.apply(27, c); b.apply(28, c); b.apply(17, a); b.apply(18, a); b.apply(19, a); b.apply(20, a); b.apply(21, a); b.apply(22, a); b.apply(23, a);   b.apply(24, a); b.apply(25, a); b.apply(26, a); b.apply(27, a); b.apply(28, a); b.done; c.recv(a); c.recv(b); c.recv(c); c.recv(d); c.apply(17, b); c.apply(17, d);   c.apply(18, b); c.apply(18, d); c.apply(19, b); c.apply(19, d); c.apply(20, b); c.apply(20, d); c.apply(21, b); c.apply(21, d); c.apply(22, b); c.apply(22, d); c.apply(23, b); c.apply(23, d);   c.apply(24, b); c.apply(24, d); c.apply(25, b); c.apply(25, d); c.apply(26, b); c.apply(26, d); c.apply(27, b); c.apply(27, d); c.apply(28, b); c.apply(28, d); c.apply(17, a); c.apply(18, a);   c.apply(19, a); c.apply(20, a); c.apply(21, a); c.apply(22, a); c.apply(23, a); c.apply(24, a); c.apply(25, a); c.apply(26, a); c.apply(27, a); c.apply(28, a); c.done; d.recv(a);   d.recv(b); d.recv(c); d.recv(d); d.apply(17, a); d.apply(18, a); d.apply(17, b); d.apply(19, a); d.apply(17, c); d.apply(20, a); d.apply(18, b); d.apply(21, a); d.apply(18, c);   d.apply(22, a); d.apply(19, b); d.apply(23, a); d.apply(19, c); d.apply(24, a); d.apply(20, b); d.apply(25, a); d.apply(20, c); d.apply(26, a); d.apply(21, b); d.apply(27, a); d.apply(21, c);   d.apply(28, a); d.apply(22, b); d.apply(23, b); d.apply(22, c); d.apply(24, b); d.apply(23, c); d.apply(25, b); d.apply(24, c); d.apply(26, b); d.apply(25, c); d.apply(27, b); d.apply(26, c);   d.apply(28, b); d.apply(27, c); d.apply(28, c); d.done }",
+    "jsoncrdt 1 replica a { doc := []; yield; doc.idx(0).insertAfter(1); doc.idx(1).insertAfter(2); doc.idx(0).insertAfter(3); doc.idx(2).insertAfter(4); doc.idx(2).insertAfter(5); doc.idx(3).insertAfter(6); doc.idx(6).insertAfter(7); doc.idx(4).insertAfter(8); doc.idx(5).insertAfter(9); doc.idx(9).insertAfter(10); doc.idx(3).insertAfter(11); doc.idx(4).insertAfter(12); doc.idx(12) := 20; doc.idx(12).get(\"x\") := 21; doc.idx(3).delete; yield; doc.idx(6).insertAfter(30); doc.idx(6) := 30; doc.idx(17).delete; doc.idx(18).insertAfter(31); doc.idx(29) := 31; doc.idx(28).delete; doc.idx(3).insertAfter(32); doc.idx(10) := 32; doc.idx(30).delete; doc.idx(42).insertAfter(33); doc.idx(35) := 33; doc.idx(18).delete; yield } replica b { yield; doc.idx(0).insertAfter(1); doc.idx(1).insertAfter(2); doc.idx(1).insertAfter(3); doc.idx(3).insertAfter(4); doc.idx(3).insertAfter(5); doc.idx(1).insertAfter(6); doc.idx(3).insertAfter(7); doc.idx(7).insertAfter(8); doc.idx(5).insertAfter(9); doc.idx(7).insertAfter(10); doc.idx(3).insertAfter(11); doc.idx(6).insertAfter(12); doc.idx(10) := 20; doc.idx(3).get(\"x\") := 21; doc.idx(10).delete; yield; doc.idx(27).insertAfter(30); doc.idx(15) := 30; doc.idx(5).delete; doc.idx(18).insertAfter(31); doc.idx(16) := 31; doc.idx(13).delete; doc.idx(22).insertAfter(32); doc.idx(38) := 32; doc.idx(26).delete; doc.idx(0).insertAfter(33); doc.idx(18) := 33; doc.idx(38).delete; yield } replica c { yield; doc.idx(0).insertAfter(1); doc.idx(0).insertAfter(2); doc.idx(2).insertAfter(3); doc.idx(0).insertAfter(4); doc.idx(0).insertAfter(5); doc.idx(0).insertAfter(6); doc.idx(5).insertAfter(7); doc.idx(3).insertAfter(8); doc.idx(2).insertAfter(9); doc.idx(2).insertAfter(10); doc.idx(10).insertAfter(11); doc.idx(11).insertAfter(12); doc.idx(3) := 20; doc.idx(4).get(\"x\") := 21; doc.idx(6).delete; yield; doc.idx(28).insertAfter(30); doc.idx(12) := 30; doc.idx(40).delete; doc.idx(20).insertAfter(31); doc.idx(26) := 31; doc.idx(21).delete; doc.idx(37).insertAfter(32); doc.idx(2) := 32; doc.idx(3).delete; doc.idx(5).insertAfter(33); doc.idx(31) := 33; doc.idx(6).delete; yield } replica d { yield; doc.idx(0).insertAfter(1); doc.idx(0).insertAfter(2); doc.idx(2).insertAfter(3); doc.idx(2).insertAfter(4); doc.idx(1).insertAfter(5); doc.idx(3).insertAfter(6); doc.idx(4).insertAfter(7); doc.idx(1).insertAfter(8); doc.idx(5).insertAfter(9); doc.idx(0).insertAfter(10); doc.idx(10).insertAfter(11); doc.idx(9).insertAfter(12); doc.idx(7) := 20; doc.idx(4).get(\"x\") := 21; doc.idx(10).delete; yield; doc.idx(31).insertAfter(30); doc.idx(34) := 30; doc.idx(24).delete; doc.idx(41).insertAfter(31); doc.idx(16) := 31; doc.idx(35).delete; doc.idx(6).insertAfter(32); doc.idx(40) := 32; doc.idx(24).delete; doc.idx(19).insertAfter(33); doc.idx(24) := 33; doc.idx(8).delete; yield } schedule {   a.exec; a.send; b.send; c.send; d.send; a.recv(a); a.recv(b); a.recv(c); a.recv(d); a.done; b.recv(a); b.recv(b);   b.recv(c); b.recv(d); b.apply(1, a); b.done; c.recv(a); c.recv(b); c.recv(c); c.recv(d); c.apply(1, a); c.done; d.recv(a); d.recv(b);   d.recv(c); d.recv(d); d.apply(1, a); d.done; a.exec; a.exec; a.exec; a.exec; a.exec; a.exec; a.exec; a.exec;   a.exec; a.exec; a.exec; a.exec; a.exec; a.exec; a.exec; a.send; b.exec; b.exec; b.exec; b.exec;   b.exec; b.exec; b.exec; b.exec; b.exec; b.exec; b.exec; b.exec; b.exec; b.exec; b.exec; b.send;   c.exec; c.exec; c.exec; c.exec; c.exec; c.exec; c.exec; c.exec; c.exec; c.exec; c.exec; c.exec;   c.exec; c.exec; c.exec; c.send; d.exec; d.exec; d.exec; d.exec; d.exec; d.exec; d.exec; d.exec;   d.exec; d.exec; d.exec; d.exec; d.exec; d.exec; d.exec; d.send; a.recv(a); a.recv(b); a.recv(c); a.recv(d);   a.apply(2, b); a.apply(2, c); a.apply(2, d); a.apply(3, b); a.apply(3, c); a.apply(3, d); a.apply(4, b); a.apply(4, c); a.apply(4, d); a.apply(5, b); a.apply(5, c); a.apply(5, d);   a.apply(6, b); a.apply(6, c); a.apply(6, d); a.apply(7, b); a.apply(7, c); a.apply(7, d); a.apply(8, b); a.apply(8, c); a.apply(8, d); a.apply(9, b); a.apply(9, c); a.apply(9, d);   a.apply(10, b); a.apply(10, c); a.apply(10, d); a.apply(11, b); a.apply(11, c); a.apply(11, d); a.apply(12, b); a.apply(12, c); a.apply(12, d); a.apply(13, b); a.apply(13, c); a.apply(13, d);   a.apply(14, b); a.apply(14, c); a.apply(14, d); a.apply(15, b); a.apply(15, c); a.apply(15, d); a.apply(16, b); a.apply(16, c); a.apply(16, d); a.done; b.recv(a); b.recv(b);   b.recv(c); b.recv(d); b.apply(2, d); b.apply(3, d); b.apply(4, d); b.apply(5, d); b.apply(6, d); b.apply(7, d); b.apply(8, d); b.apply(9, d); b.apply(10, d); b.apply(11, d);   b.apply(12, d); b.apply(13, d); b.apply(14, d); b.apply(15, d); b.apply(16, d); b.apply(2, c); b.apply(3, c); b.apply(4, c); b.apply(5, c); b.apply(6, c); b.apply(7, c); b.apply(8, c);   b.apply(9, c); b.apply(10, c); b.apply(11, c); b.apply(12, c); b.apply(13, c); b.apply(14, c); b.apply(15, c); b.apply(16, c); b.apply(2, a); b.apply(3, a); b.apply(4, a); b.apply(5, a);   b.apply(6, a); b.apply(7, a); b.apply(8, a); b.apply(9, a); b.apply(10, a); b.apply(11, a); b.apply(12, a); b.apply(13, a); b.apply(14, a); b.apply(15, a); b.apply(16, a); b.done;   c.recv(a); c.recv(b); c.recv(c); c.recv(d); c.apply(2, b); c.apply(2, d); c.apply(3, b); c.apply(3, d); c.apply(4, b); c.apply(4, d); c.apply(5, b); c.apply(5, d);   c.apply(6, b); c.apply(6, d); c.apply(7, b); c.apply(7, d); c.apply(8, b); c.apply(8, d); c.apply(9, b); c.apply(9, d); c.apply(10, b); c.apply(10, d); c.apply(11, b); c.apply(11, d);   c.apply(12, b); c.apply(12, d); c.apply(13, b); c.apply(13, d); c.apply(14, b); c.apply(14, d); c.apply(15, b); c.apply(15, d); c.apply(16, b); c.apply(16, d); c.apply(2, a); c.apply(3, a);   c.apply(4, a); c.apply(5, a); c.apply(6, a); c.apply(7, a); c.apply(8, a); c.apply(9, a); c.apply(10, a); c.apply(11, a); c.apply(12, a); c.apply(13, a); c.apply(14, a); c.apply(15, a);   c.apply(16, a); c.done; d.recv(a); d.recv(b); d.recv(c); d.recv(d); d.apply(2, a); d.apply(3, a); d.apply(2, b); d.apply(4, a); d.apply(2, c); d.apply(5, a);   d.apply(3, b); d.apply(6, a); d.apply(3, c); d.apply(7, a); d.apply(4, b); d.apply(8, a); d.apply(4, c); d.apply(9, a); d.apply(5, b); d.apply(10, a); d.apply(5, c); d.apply(11, a);   d.apply(6, b); d.apply(12, a); d.apply(6, c); d.apply(13, a); d.apply(7, b); d.apply(14, a); d.apply(7, c); d.apply(15, a); d.apply(8, b); d.apply(16, a); d.apply(8, c); d.apply(9, c);   d.apply(9, b); d.apply(10, c); d.apply(10, b); d.apply(11, c); d.apply(11, b); d.apply(12, c); d.apply(12, b); d.apply(13, c); d.apply(13, b); d.apply(14, c); d.apply(14, b); d.apply(15, c);   d.apply(15, b); d.apply(16, c); d.apply(16, b); d.done; a.exec; a.exec; a.exec; a.exec; a.exec; a.exec; a.exec; a.exec;   a.exec; a.exec; a.exec; a.exec; a.send; b.exec; b.exec; b.exec; b.exec; b.exec; b.exec; b.exec;   b.exec; b.exec; b.exec; b.exec; b.exec; b.send; c.exec; c.exec; c.exec; c.exec; c.exec; c.exec;   c.exec; c.exec; c.exec; c.exec; c.exec; c.exec; c.send; d.exec; d.exec; d.exec; d.exec; d.exec;   d.exec; d.exec; d.exec; d.exec; d.exec; d.exec; d.exec; d.send; a.recv(a); a.recv(b); a.recv(c); a.recv(d);   a.apply(17, b); a.apply(17, c); a.apply(17, d); a.apply(18, b); a.apply(18, c); a.apply(18, d); a.apply(19, b); a.apply(19, c); a.apply(19, d); a.apply(20, b); a.apply(20, c); a.apply(20, d);   a.apply(21, b); a.apply(21, c); a.apply(21, d); a.apply(22, b); a.apply(22, c); a.apply(22, d); a.apply(23, b); a.apply(23, c); a.apply(23, d); a.apply(24, b); a.apply(24, c); a.apply(24, d);   a.apply(25, b); a.apply(25, c); a.apply(25, d); a.apply(26, b); a.apply(26, c); a.apply(26, d); a.apply(27, b); a.apply(27, c); a.apply(27, d); a.apply(28, b); a.apply(28, c); a.apply(28, d);   a.done; b.recv(a); b.recv(b); b.recv(c); b.recv(d); b.apply(17, d); b.apply(18, d); b.apply(19, d); b.apply(20, d); b.apply(21, d); b.apply(22, d); b.apply(23, d);   b.apply(24, d); b.apply(25, d); b.apply(26, d); b.apply(27, d); b.apply(28, d); b.apply(17, c); b.apply(18, c); b.apply(19, c); b.apply(20, c); b.apply(21, c); b.apply(22, c); b.apply(23, c);   b.apply(24, c); b.apply(25, c); b.apply(26, c); b.apply(27, c); b.apply(28, c); b.apply(17, a); b.apply(18, a); b.apply(19, a); b.apply(20, a); b.apply(21, a); b.apply(22, a); b.apply(23, a);   b.apply(24, a); b.apply(25, a); b.apply(26, a); b.apply(27, a); b.apply(28, a); b.done; c.recv(a); c.recv(b); c.recv(c); c.recv(d); c.apply(17, b); c.apply(17, d);   c.apply(18, b); c.apply(18, d); c.apply(19, b); c.apply(19, d); c.apply(20, b); c.apply(20, d); c.apply(21, b); c.apply(21, d); c.apply(22, b); c.apply(22, d); c.apply(23, b); c.apply(23, d);   c.apply(24, b); c.apply(24, d); c.apply(25, b); c.apply(25, d); c.apply(26, b); c.apply(26, d); c.apply(27, b); c.apply(27, d); c.apply(28, b); c.apply(28, d); c.apply(17, a); c.apply(18, a);   c.apply(19, a); c.apply(20, a); c.apply(21, a); c.apply(22, a); c.apply(23, a); c.apply(24, a); c.apply(25, a); c.apply(26, a); c.apply(27, a); c.apply(28, a); c.done; d.recv(a);   d.recv(b); d.recv(c); d.recv(d); d.apply(17, a); d.apply(18, a); d.apply(17, b); d.apply(19, a); d.apply(17, c); d.apply(20, a); d.apply(18, b); d.apply(21, a); d.apply(18, c);   d.apply(22, a); d.apply(19, b); d.apply(23, a); d.apply(19, c); d.apply(24, a); d.apply(20, b); d.apply(25, a); d.apply(20, c); d.apply(26, a); d.apply(21, b); d.apply(27, a); d.apply(21, c);   d.apply(28, a); d.apply(22, b); d.apply(23, b); d.apply(22, c); d.apply(24, b); d.apply(23, c); d.apply(25, b); d.apply(24, c); d.apply(26, b); d.apply(25, c); d.apply(27, b); d.apply(26, c);   d.apply(28, b); d.apply(27, c); d.apply(28, c); d.done }",
+];
 
-/// Pushes twelve inserts into the list, which has no others then, two assignments into elements, and a deletion.
-fn push_first(alloc: Global, text: &mut String, seed: &mut u64) -> Result<(), AllocError> {
-    for count in 1..13usize {
-        let place = pick(seed, count);
-        let insert = format!(in alloc; "; doc.idx({place}).insertAfter({count})")?;
-        text.push_str(insert.as_str())?;
-    }
-    let (one, other, gone) = (pick(seed, 12) + 1, pick(seed, 12) + 1, pick(seed, 12) + 1);
-    let changes = format!(in alloc;
-        "; doc.idx({one}) := 20; doc.idx({other}).get(\"x\") := 21; doc.idx({gone}).delete"
-    )?;
-    text.push_str(changes.as_str())
-}
-
-/// Pushes four times an insert, an assignment and a deletion, where 44 elements are in the list.
-fn push_later(alloc: Global, text: &mut String, seed: &mut u64) -> Result<(), AllocError> {
-    for count in 30..34u8 {
-        let (place, one, gone) = (pick(seed, 44), pick(seed, 40) + 1, pick(seed, 40) + 1);
-        let changes = format!(in alloc;
-            "; doc.idx({place}).insertAfter({count}); doc.idx({one}) := {count}; doc.idx({gone}).delete"
-        )?;
-        text.push_str(changes.as_str())?;
-    }
-    Ok(())
-}
-
-/// A scenario of the four.
-fn scripts(alloc: Global, seed: &mut u64) -> Result<String, AllocError> {
-    let mut text = String::from_str(alloc, "jsoncrdt 1")?;
-    for begins in [
-        " replica a { doc := []; yield",
-        " replica b { yield",
-        " replica c { yield",
-        " replica d { yield",
-    ] {
-        text.push_str(begins)?;
-        push_first(alloc, &mut text, seed)?;
-        text.push_str("; yield")?;
-        push_later(alloc, &mut text, seed)?;
-        text.push_str("; yield }")?;
-    }
-    Ok(text)
-}
-
-// ---- the run
-
-/// The replica runs its commands up to the next yield.
-fn run(net: &mut Net, p: u16) {
-    for _ in 0..40u8 {
-        if number_of(net, &Event::Exec(p)) != 0 {
-            return;
-        }
-    }
-}
-
-fn take_all(rt: &impl Abort, net: &mut Net, p: u16) {
-    for q in 0..4 {
-        make(rt, net, &[Event::Recv(p, q)]);
-    }
-}
-
-/// What the replica can apply, by identifier.
-fn due(alloc: Global, net: &Net, p: u16) -> Result<Vec<Event>, AllocError> {
-    let mut due = Vec::new(alloc);
-    for event in net.enabled()?.as_slice() {
-        match event {
-            Event::Apply(q, _) if *q == p => due.push(*event)?,
-            _ => {}
-        }
-    }
-    Ok(due)
-}
-
-/// Which of the operations it applies next: the first, the last, one in the middle, or the first and the last in turn.
-fn chosen(due: &[Event], p: u16, round: u16) -> Option<&Event> {
-    match p {
-        0 => due.first(),
-        1 => due.last(),
-        2 => due.get(due.len() / 2),
-        _ if round % 2 == 0 => due.first(),
-        _ => due.last(),
-    }
-}
-
-/// The replica applies all that it has received, in its own order.
-fn apply_all(rt: &impl Abort, alloc: Global, net: &mut Net, p: u16) -> Result<(), AllocError> {
-    for round in 0..100u16 {
-        let due = due(alloc, net, p)?;
-        match chosen(due.as_slice(), p, round) {
-            Some(event) => make(rt, net, &[*event]),
-            None => return Ok(()),
-        }
-    }
-    Ok(())
-}
-
-/// All run up to their yields, and hand each other what they have made.
-fn meet(rt: &impl Abort, alloc: Global, net: &mut Net) -> Result<(), AllocError> {
-    for p in 0..4 {
-        run(net, p);
-        make(rt, net, &[Event::Send(p)]);
-    }
-    for p in 0..4 {
-        take_all(rt, net, p);
-        apply_all(rt, alloc, net, p)?;
-        make(rt, net, &[Event::Done(p)]);
-    }
-    Ok(())
-}
-
-// ---- the order, told by the operations alone
-
-/// The element after which it was inserted, where that isn't the head.
-fn parent(ops: &[Op], id: Id) -> Option<Id> {
-    let op = ops.iter().find(|op| op.id == id)?;
-    match &op.cursor.last {
-        Key::Elem(parent) => Some(*parent),
-        _ => None,
-    }
-}
-
-/// How many elements lead to it from the head.
-fn depth(ops: &[Op], id: Id) -> usize {
-    let mut at = id;
-    for depth in 0..ops.len() {
-        match parent(ops, at) {
-            Some(up) => at = up,
-            None => return depth,
-        }
-    }
-    ops.len()
-}
-
-fn ancestor(ops: &[Op], id: Id, steps: usize) -> Id {
-    let mut at = id;
-    for _ in 0..steps {
-        match parent(ops, at) {
-            Some(up) => at = up,
-            None => return at,
-        }
-    }
-    at
-}
-
-/// Whether the first one comes before the other: an ancestor does, and where their ways part the greater identifier.
-fn is_before(ops: &[Op], first: Id, second: Id) -> bool {
-    let (depth_of_first, depth_of_second) = (depth(ops, first), depth(ops, second));
-    let mut one = ancestor(ops, first, depth_of_first.saturating_sub(depth_of_second));
-    let mut other = ancestor(ops, second, depth_of_second.saturating_sub(depth_of_first));
-    if one == other {
-        return depth_of_first < depth_of_second;
-    }
-    for _ in 0..ops.len() {
-        match (parent(ops, one), parent(ops, other)) {
-            (Some(up), Some(also)) if up != also => {
-                one = up;
-                other = also;
-            }
-            _ => return one > other,
-        }
-    }
-    false
-}
-
-/// The element that the operation inserts, deletes or changes.
-fn element(op: &Op) -> Option<Id> {
-    if matches!(op.mutation, Mutation::Insert(_)) {
-        return Some(op.id);
-    }
-    let key = match op.cursor.path.as_slice().get(1) {
-        Some(below) => below.key(),
-        None => &op.cursor.last,
-    };
-    match key {
-        Key::Elem(id) => Some(*id),
-        _ => None,
-    }
-}
-
-/// Whether some deletion of the element knew the operation.
-fn is_deleted(ops: &[Op], id: Id, by: Id) -> bool {
-    ops.iter().any(|op| {
-        op.mutation == Mutation::Delete && element(op) == Some(id) && op.deps.contains(by)
-    })
-}
-
-/// Whether some operation on the element, but a deletion, was unknown to all of its deletions.
-fn is_visible(ops: &[Op], id: Id) -> bool {
-    ops.iter().any(|op| {
-        op.mutation != Mutation::Delete && element(op) == Some(id) && !is_deleted(ops, id, op.id)
-    })
-}
-
-/// The visible elements in their order.
-fn expected(alloc: Global, ops: &[Op]) -> Result<Vec<Id>, AllocError> {
-    let mut ids = Vec::new(alloc);
-    for op in ops {
-        if matches!(op.mutation, Mutation::Insert(_)) && is_visible(ops, op.id) {
-            let id = op.id;
-            let place = ids.iter().position(|other| is_before(ops, id, *other));
-            ids.insert(place.unwrap_or(ids.len()), id)?;
-        }
-    }
-    Ok(ids)
-}
-
-/// The elements that the tree shows, along its links.
-fn shown<S: TreeStore>(rt: &impl Abort, alloc: Global, store: &S) -> Result<Vec<Id>, AllocError> {
-    let at = [Tagged::ListT(Key::Doc)];
-    assert!(rt; is_place(store, &at));
-    let mut ids = Vec::new(alloc);
-    let mut last = Key::Head;
-    for _ in 0..1000u16 {
-        let Some(Next::Elem(id)) = store.next(&at, &last) else {
-            return Ok(ids);
-        };
-        last = Key::Elem(id);
-        if store
-            .presence(&at, &last)
-            .is_some_and(|ids| !ids.is_empty())
-        {
-            ids.push(id)?;
-        }
-    }
-    Ok(ids)
-}
-
-// ---- the test
-
-/// Whether the tree shows the elements that the operations tell, in their order.
-fn is_shown<S: TreeStore>(
-    rt: &impl Abort,
-    alloc: Global,
-    ops: &[Op],
-    tree: &S,
-) -> Result<bool, AllocError> {
-    let ids = expected(alloc, ops)?;
-    Ok(ids == shown(rt, alloc, tree)?)
-}
-
-/// The replica has applied all operations, its tree is what they mean, and its list has the order that they tell.
 fn has_all(rt: &impl Abort, alloc: Global, net: &Net, p: u16) {
     is_meant(rt, alloc, net, p);
-    let (Ok(ops), Some(replica)) = (net.applied(p), net.replica(p)) else {
-        panic!(rt; "no replica");
-    };
-    holds(rt, ops.len() == 109);
-    holds(
-        rt,
-        is_shown(rt, alloc, ops.as_slice(), replica.tree()) == Ok(true),
-    );
-}
-
-fn are_same(rt: &impl Abort, alloc: Global, net: &Net, p: u16, q: u16) {
-    holds(
-        rt,
-        compare(alloc, net, p, q) == Ok(Comparison::SameOps { same_tree: true }),
-    );
-}
-
-/// Its tree is that of each other one.
-fn is_like_all(rt: &impl Abort, alloc: Global, net: &Net, p: u16) {
-    for q in 0..4 {
-        are_same(rt, alloc, net, p, q);
+    match net.applied(p) {
+        Ok(ops) => holds(rt, ops.len() == 109),
+        Err(_) => panic!(rt; "no replica"),
     }
 }
 
-/// They meet until all have all operations.
-fn all_meet(rt: &impl Abort, alloc: Global, net: &mut Net) -> Result<(), AllocError> {
-    for _ in 0..3u8 {
-        meet(rt, alloc, net)?;
-    }
+/// Each replica has applied all operations, and its tree is what they mean.
+pub fn have_all(rt: &impl Abort, alloc: Global, net: &Net) {
     for p in 0..4 {
         has_all(rt, alloc, net, p);
-        is_like_all(rt, alloc, net, p);
     }
-    Ok(())
-}
-
-fn expect(rt: &impl Abort, alloc: Global, seed: &mut u64) -> Result<(), Fail> {
-    let text = scripts(alloc, seed)?;
-    let mut net = after(rt, alloc, text.as_str(), &[])?;
-    Ok(all_meet(rt, alloc, &mut net)?)
 }
 
 #[test]
 fn four_replicas(rt: HostRuntime) -> Result<(), Fail> {
-    let mut seed = 1;
-    for _ in 0..3u8 {
-        expect(&rt, rt.alloc(), &mut seed)?;
+    for text in SCENARIOS {
+        in_run(&rt, rt.alloc(), text, &Turn::HasAll)?;
     }
     Ok(())
 }

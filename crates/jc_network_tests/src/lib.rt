@@ -7,6 +7,8 @@ mod benches;
 #[cfg(test)]
 mod choices;
 #[cfg(test)]
+mod copies;
+#[cfg(test)]
 mod cut_short;
 #[cfg(test)]
 mod debugging;
@@ -19,6 +21,8 @@ mod hundred;
 #[cfg(test)]
 mod in_turn;
 #[cfg(test)]
+mod limits;
+#[cfg(test)]
 mod meanings;
 #[cfg(test)]
 mod nets;
@@ -30,5 +34,7 @@ mod runs;
 mod sessions;
 #[cfg(test)]
 mod trees;
+#[cfg(test)]
+mod turns;
 #[cfg(test)]
 mod undoing;

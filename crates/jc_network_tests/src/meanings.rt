@@ -2,29 +2,37 @@
 
 ghost use Rattle.std.specs.Prelude.{◌<◌};
 
-use crate::nets::{
-    DELETION, EXECS, INSERTS, LISTS, MEETING, PAST_THE_END, after, deep, holds, make,
-};
+use crate::nets::{DELETION, EXECS, INSERTS, LISTS, MEETING, PAST_THE_END, deep, holds, make};
+use crate::turns::{Turn, in_network};
 use jc_json::Tree;
 use jc_meaning::{have_distinct_ids, meaning, same_tree};
 use jc_network::Net;
 use jc_rules::{Event, Op, Text};
-use jc_tree::ArenaTree;
+use jc_tree::{ArenaTree, PlainTree};
 use std::alloc::{AllocError, Global};
+use std::cell::Cell;
 use std::process::Abort;
 use std::test::Fail;
+
+/// The text of the tree.
+fn text_of(alloc: Global, names: &[Text], store: &PlainTree) -> Result<String, AllocError> {
+    let tree = Tree {
+        alloc,
+        names,
+        store,
+    };
+    // Nothing but memory is refused.
+    match serde_json::to_string(alloc, &tree) {
+        Ok(text) => Ok(text),
+        Err(_) => Err(AllocError),
+    }
+}
 
 /// The text of the tree that the operations mean.
 fn meant(rt: &impl Abort, alloc: Global, names: &[Text], ops: &[Op]) -> Result<String, AllocError> {
     assert!(rt; have_distinct_ids(ops));
     let store = meaning(alloc, ops)?;
-    let tree = Tree {
-        alloc,
-        names,
-        store: &store,
-    };
-    // Nothing but memory is refused.
-    serde_json::to_string(alloc, &tree).map_err(|_| AllocError)
+    text_of(alloc, names, &store)
 }
 
 fn is_text(rt: &impl Abort, got: &str, want: &str) {
@@ -54,14 +62,31 @@ pub fn is_meant(rt: &impl Abort, alloc: Global, net: &Net, p: u16) {
     );
 }
 
-/// The replica's operations mean this tree.
-fn means(rt: &impl Abort, alloc: Global, net: &Net, p: u16, want: &str) -> Result<(), AllocError> {
+fn mean(
+    rt: &impl Abort,
+    alloc: Global,
+    names: &[Text],
+    ops: &[Op],
+    want: &str,
+) -> Result<(), AllocError> {
+    let text = meant(rt, alloc, names, ops)?;
+    is_text(rt, text.as_str(), want);
+    Ok(())
+}
+
+/// The replica's tree is what its operations mean, and they mean this tree.
+pub fn is_meant_as(
+    rt: &impl Abort,
+    alloc: Global,
+    net: &Net,
+    p: u16,
+    want: &str,
+) -> Result<(), AllocError> {
+    is_meant(rt, alloc, net, p);
     let Ok(ops) = net.applied(p) else {
         panic!(rt; "no replica");
     };
-    let text = meant(rt, alloc, net.names(), ops.as_slice())?;
-    is_text(rt, text.as_str(), want);
-    Ok(())
+    mean(rt, alloc, net.names(), ops.as_slice(), want)
 }
 
 const NOTHING: &str = "jsoncrdt 1 replica a { doc := 1 }";
@@ -114,11 +139,8 @@ const ROWS: [(&str, &[Event], u16, &str); 10] = [
 
 #[test]
 fn worked_runs(rt: HostRuntime) -> Result<(), Fail> {
-    let alloc = rt.alloc();
     for (scenario, events, p, want) in &ROWS {
-        let net = after(&rt, alloc, scenario, events)?;
-        is_meant(&rt, alloc, &net, *p);
-        means(&rt, alloc, &net, *p, want)?;
+        in_network(&rt, rt.alloc(), scenario, events, &Turn::Meaning(*p, want))?;
     }
     Ok(())
 }
@@ -137,17 +159,19 @@ fn deep_tree(alloc: Global) -> Result<String, AllocError> {
     Ok(tree)
 }
 
+fn is_deep(rt: &impl Abort, alloc: Global, text: &str) -> Result<(), Fail> {
+    let tree = deep_tree(alloc)?;
+    in_network(rt, alloc, text, EXECS, &Turn::Meaning(0, tree.as_str()))
+}
+
 #[test]
 fn deep_value(rt: HostRuntime) -> Result<(), Fail> {
-    let alloc = rt.alloc();
-    let (text, tree) = (deep(alloc)?, deep_tree(alloc)?);
-    let net = after(&rt, alloc, text.as_str(), EXECS)?;
-    is_meant(&rt, alloc, &net, 0);
-    Ok(means(&rt, alloc, &net, 0, tree.as_str())?)
+    let text = deep(rt.alloc())?;
+    is_deep(&rt, rt.alloc(), text.as_str())
 }
 
 /// The next number below the count.
-pub fn pick(seed: &mut u64, count: usize) -> usize
+fn pick(seed: &mut u64, count: usize) -> usize
     requires { 0 < count }
     ensures { result < count }
 {
@@ -191,31 +215,60 @@ fn random_text(alloc: Global, seed: &mut u64) -> Result<String, AllocError> {
     Ok(text)
 }
 
+/// One of the events, at random, where there are any.
+fn one_of(events: &[Event], seed: &mut u64) -> Option<Event> {
+    if events.is_empty() {
+        return None;
+    }
+    Some(events[pick(seed, events.len())])
+}
+
+/// One of the events that can be made.
+fn any_of(net: &Net, seed: &mut u64) -> Result<Option<Event>, AllocError> {
+    let events = net.enabled()?;
+    Ok(one_of(events.as_slice(), seed))
+}
+
 /// Makes so many events at random, as long as there are any.
 fn make_some(rt: &impl Abort, net: &mut Net, count: u32, seed: &mut u64) -> Result<(), AllocError> {
     for _ in 0..count {
-        let events = net.enabled()?;
-        if events.is_empty() {
-            return Ok(());
+        match any_of(net, seed)? {
+            Some(event) => make(rt, net, &[event]),
+            None => return Ok(()),
         }
-        let event = events[pick(seed, events.len())];
-        make(rt, net, &[event]);
     }
     Ok(())
+}
+
+/// After events at random each replica's tree is what its operations mean.
+pub fn have_run(
+    rt: &impl Abort,
+    alloc: Global,
+    net: &mut Net,
+    seed: &Cell<u64>,
+) -> Result<(), AllocError> {
+    let mut number = seed.get();
+    make_some(rt, net, 60, &mut number)?;
+    seed.set(number);
+    for p in 0..3 {
+        is_meant(rt, alloc, net, p);
+    }
+    Ok(())
+}
+
+fn run_one(rt: &impl Abort, alloc: Global, seed: &Cell<u64>) -> Result<(), Fail> {
+    let mut number = seed.get();
+    let text = random_text(alloc, &mut number)?;
+    seed.set(number);
+    in_network(rt, alloc, text.as_str(), &[], &Turn::Random(&*seed))
 }
 
 /// In a thousand random networks each replica's tree is what its operations mean.
 #[test]
 fn random_networks(rt: HostRuntime) -> Result<(), Fail> {
-    let alloc = rt.alloc();
-    let mut seed = 1;
+    let seed = Cell::new(1);
     for _ in 0..1000u16 {
-        let text = random_text(alloc, &mut seed)?;
-        let mut net = after(&rt, alloc, text.as_str(), &[])?;
-        make_some(&rt, &mut net, 60, &mut seed)?;
-        for p in 0..3 {
-            is_meant(&rt, alloc, &net, p);
-        }
+        run_one(&rt, rt.alloc(), &seed)?;
     }
     Ok(())
 }

@@ -1,49 +1,55 @@
 //! Calls of networks: replicas that aren't there, networks that are full, what was applied, and what can be made.
 
 use crate::nets::{
-    DELETION, FIRST, INSERTS, MEETING, SECOND_OF_A, SECOND_OF_B, YIELD, after, holds, number_of,
+    DELETION, FIRST, INSERTS, MEETING, SECOND_OF_A, SECOND_OF_B, YIELD, holds, number_of,
 };
+use crate::turns::{Turn, in_network};
 use jc_dump::dump_replica;
 use jc_meaning::compare;
 use jc_network::{CompareFault, Net};
 use jc_rules::{Event, Id};
-use std::alloc::AllocError;
+use std::alloc::{AllocError, Global};
 use std::process::Abort;
 use std::test::Fail;
 
-/// Each call that asks for a replica by its number is refused where it isn't there.
-#[test]
-fn missing_replicas(rt: HostRuntime) -> Result<(), Fail> {
-    let alloc = rt.alloc();
-    let mut net = after(&rt, alloc, YIELD, &[])?;
+/// Each event of a replica that isn't there is refused.
+fn events_are_refused(rt: &impl Abort, net: &mut Net) {
     for event in [Event::Exec(5), Event::Recv(5, 0), Event::Recv(0, 5)] {
-        holds(&rt, number_of(&mut net, &event) == 37);
+        holds(rt, number_of(net, &event) == 37);
     }
+}
+
+fn are_compared(alloc: Global, net: &Net, p: u16, q: u16) -> bool {
+    !matches!(compare(alloc, net, p, q), Err(CompareFault::NoSuchReplica))
+}
+
+fn is_dumped(alloc: Global, net: &Net, p: u16) -> bool {
+    !matches!(
+        dump_replica(alloc, net, p),
+        Err(CompareFault::NoSuchReplica)
+    )
+}
+
+/// Each call that asks for a replica by its number is refused where it isn't there.
+pub fn missing_replicas(rt: &impl Abort, alloc: Global, net: &mut Net) {
+    events_are_refused(rt, net);
     holds(
-        &rt,
+        rt,
         matches!(net.applied(5), Err(CompareFault::NoSuchReplica)),
     );
     holds(
-        &rt,
+        rt,
         matches!(net.applied_ids(5), Err(CompareFault::NoSuchReplica)),
     );
-    holds(
-        &rt,
-        matches!(
-            dump_replica(alloc, &net, 1),
-            Err(CompareFault::NoSuchReplica)
-        ),
-    );
-    holds(
-        &rt,
-        matches!(compare(alloc, &net, 0, 9), Err(CompareFault::NoSuchReplica)),
-    );
-    holds(
-        &rt,
-        matches!(compare(alloc, &net, 1, 0), Err(CompareFault::NoSuchReplica)),
-    );
-    holds(&rt, net.replica(5).is_none());
-    Ok(())
+    holds(rt, !is_dumped(alloc, net, 1));
+    holds(rt, !are_compared(alloc, net, 0, 9));
+    holds(rt, !are_compared(alloc, net, 1, 0));
+    holds(rt, net.replica(5).is_none());
+}
+
+#[test]
+fn replicas_are_missing(rt: HostRuntime) -> Result<(), Fail> {
+    in_network(&rt, rt.alloc(), YIELD, &[], &Turn::MissingReplicas)
 }
 
 fn send(rt: &impl Abort, net: &mut Net, times: u64) {
@@ -52,15 +58,18 @@ fn send(rt: &impl Abort, net: &mut Net, times: u64) {
     }
 }
 
+/// A network takes 100,000 events, and no more until one is taken back.
+pub fn takes_100_000(rt: &impl Abort, net: &mut Net) {
+    send(rt, net, 100_000);
+    holds(rt, number_of(net, &Event::Send(0)) == 38);
+    holds(rt, number_of(net, &Event::Exec(5)) == 38);
+    holds(rt, net.steps() == 100_000 && net.undo());
+    send(rt, net, 1);
+}
+
 #[test]
 fn full(rt: HostRuntime) -> Result<(), Fail> {
-    let mut net = after(&rt, rt.alloc(), YIELD, &[])?;
-    send(&rt, &mut net, 100_000);
-    holds(&rt, number_of(&mut net, &Event::Send(0)) == 38);
-    holds(&rt, number_of(&mut net, &Event::Exec(5)) == 38);
-    holds(&rt, net.steps() == 100_000 && net.undo());
-    send(&rt, &mut net, 1);
-    Ok(())
+    in_network(&rt, rt.alloc(), YIELD, &[], &Turn::Full)
 }
 
 const SECOND: Id = Id {
@@ -113,7 +122,7 @@ fn are_told_alike(net: &Net, p: u16) -> Result<bool, CompareFault> {
 }
 
 /// What is told of the network is so in each from which events lead to it.
-fn all_is_told(rt: &impl Abort, net: &mut Net) {
+pub fn all_is_told(rt: &impl Abort, net: &mut Net) {
     for steps in (0..=MEETING.len() as u64).rev() {
         holds(rt, tells_what_is_made(net) == Ok(true));
         holds(rt, are_told_alike(net, 0) == Ok(true));
@@ -124,9 +133,6 @@ fn all_is_told(rt: &impl Abort, net: &mut Net) {
 
 #[test]
 fn told_is_made(rt: HostRuntime) -> Result<(), Fail> {
-    for text in [DELETION, INSERTS] {
-        let mut net = after(&rt, rt.alloc(), text, MEETING)?;
-        all_is_told(&rt, &mut net);
-    }
-    Ok(())
+    in_network(&rt, rt.alloc(), DELETION, MEETING, &Turn::ToldIsMade)?;
+    in_network(&rt, rt.alloc(), INSERTS, MEETING, &Turn::ToldIsMade)
 }

@@ -5,8 +5,9 @@ ghost use Rattle.jc_scenario.specs.Scenarios.{IsWellFormed};
 ghost use Rattle.jc_scenario.specs.Views.{scenario_view};
 ghost use Rattle.jc_runner.specs.Laws.{with_schedule};
 
-use crate::gates::{Open, Signal, open_gates};
-use crate::nets::{DELETION, INSERTS, PAST_THE_END, dumps, has_dumps, holds, run, scene};
+use crate::gates::{Open, Own, Signal, open_gates};
+use crate::nets::{DELETION, INSERTS, PAST_THE_END, dumps, holds, scene};
+use crate::turns::{Turn, in_run};
 use jc_network::Net;
 use jc_rules::Event;
 use jc_runner::{End, Gate, Report, RunFault, run_threads};
@@ -14,7 +15,7 @@ use jc_scenario::{Scenario, print};
 use std::alloc::{AllocError, Global};
 use std::process::Abort;
 use std::sync::Wait;
-use std::sync::atomic::{AtomicBool, Ordering};
+use std::sync::atomic::{AtomicBool, AtomicU64, Ordering};
 use std::test::Fail;
 use std::thread::Threads;
 
@@ -82,8 +83,7 @@ fn text_of(alloc: Global, start: Scenario, schedule: Vec<Event>) -> Result<Strin
 /// The scenario with this text leads to a network with the dump lines of this one.
 fn leads_to(rt: &impl Abort, alloc: Global, text: &str, net: &Net) -> Result<(), Fail> {
     let want = dumps(rt, alloc, net)?;
-    let again = run(rt, alloc, text)?;
-    Ok(has_dumps(rt, alloc, &again, want.as_str())?)
+    in_run(rt, alloc, text, &Turn::Dumps(want.as_str()))
 }
 
 /// The text of the recorded scenario leads again to the report's network.
@@ -99,6 +99,41 @@ fn runs_again(rt: &impl Abort, alloc: Global, report: Report) -> Result<(), Fail
     } = report;
     let text = text_of(alloc, start, schedule)?;
     leads_to(rt, alloc, text.as_str(), &net)
+}
+
+/// What is expected of a report: how many events each replica made, and how it ended; where there are any, one of
+/// these schedules; the schedule's first events.
+#[derive(Clone, Copy)]
+struct Want<'a> {
+    ends: &'a [(Option<u64>, Ends)],
+    schedules: &'a [&'a [Event]],
+    first: &'a [Event],
+}
+
+fn is_one_of(made: &[Event], schedules: &[&[Event]]) -> bool {
+    for schedule in schedules {
+        if made == *schedule {
+            return true;
+        }
+    }
+    schedules.is_empty()
+}
+
+fn is_wanted(rt: &impl Abort, report: &Report, want: &Want) {
+    made_and_ended(rt, report, want.ends);
+    let made = report.schedule.as_slice();
+    holds(
+        rt,
+        is_one_of(made, want.schedules) && made.starts_with(want.first),
+    );
+}
+
+/// The report is the one that is expected, and its schedule runs again.
+fn is_so(rt: &impl Abort, alloc: Global, report: Report, want: &Want) -> Result<(), Fail>
+    requires { IsWellFormed (with_schedule (scenario_view report.start) report.schedule.items) }
+{
+    is_wanted(rt, &report, want);
+    runs_again(rt, alloc, report)
 }
 
 const ANY: (Option<u64>, Ends) = (None, Ends::Finished);
@@ -121,6 +156,17 @@ fn meeting<'a>(
     Ok(gates)
 }
 
+/// The report of a run with these gates, and with ample takes, is the one that is expected.
+fn gated_run<R: Threads + Wait + Sync + Abort>(
+    rt: &R,
+    alloc: Global,
+    gates: Vec<Signal>,
+    want: &Want,
+) -> Result<(), Fail> {
+    let report = report(rt, alloc, DELETION, gates, 100)?;
+    is_so(rt, alloc, report, want)
+}
+
 /// Both threads are in a gate at the same time.
 #[test]
 fn two_meet(rt: HostRuntime) -> Result<(), Fail> {
@@ -128,13 +174,35 @@ fn two_meet(rt: HostRuntime) -> Result<(), Fail> {
     let (a, b) = (AtomicBool::new(false), AtomicBool::new(false));
     let (found_a, found_b) = (AtomicBool::new(false), AtomicBool::new(false));
     let gates = meeting(alloc, [&a, &b], [&found_a, &found_b])?;
-    let report = report(&rt, alloc, DELETION, gates, 100)?;
+    let want = Want {
+        ends: &[ANY, ANY],
+        schedules: &[],
+        first: &[],
+    };
+    gated_run(&rt, alloc, gates, &want)?;
     holds(
         &rt,
         found_a.load(Ordering::SeqCst) && found_b.load(Ordering::SeqCst),
     );
-    made_and_ended(&rt, &report, &[ANY, ANY]);
-    runs_again(&rt, alloc, report)
+    Ok(())
+}
+
+/// Two gates: the first one raises the flag before the third event, the second one waits for it.
+fn late<'a>(
+    alloc: Global,
+    flag: &'a AtomicBool,
+    found: &'a AtomicBool,
+) -> Result<Vec<Signal<'a>>, AllocError> {
+    let mut gates = Vec::new(alloc);
+    gates.push(Signal {
+        raises: Some((2, flag)),
+        looks: None,
+    })?;
+    gates.push(Signal {
+        raises: None,
+        looks: Some((0, flag, found)),
+    })?;
+    Ok(gates)
 }
 
 /// The second thread waits until the first one has made two events.
@@ -142,95 +210,135 @@ fn two_meet(rt: HostRuntime) -> Result<(), Fail> {
 fn b_late(rt: HostRuntime) -> Result<(), Fail> {
     let alloc = rt.alloc();
     let (flag, found) = (AtomicBool::new(false), AtomicBool::new(false));
-    let mut gates = Vec::new(alloc);
-    gates.push(Signal {
-        raises: Some((2, &flag)),
-        looks: None,
-    })?;
-    gates.push(Signal {
-        raises: None,
-        looks: Some((0, &flag, &found)),
-    })?;
-    let report = report(&rt, alloc, DELETION, gates, 100)?;
+    let gates = late(alloc, &flag, &found)?;
+    let want = Want {
+        ends: &[ANY, ANY],
+        schedules: &[],
+        first: &[Event::Exec(0), Event::Send(0)],
+    };
+    gated_run(&rt, alloc, gates, &want)?;
     holds(&rt, found.load(Ordering::SeqCst));
-    made_and_ended(&rt, &report, &[ANY, ANY]);
-    holds(
-        &rt,
-        report
-            .schedule
-            .as_slice()
-            .starts_with(&[Event::Exec(0), Event::Send(0)]),
-    );
-    runs_again(&rt, alloc, report)
+    Ok(())
 }
 
-/// A run with open gates, as many as replicas.
+/// A gate for each of two replicas, which expects its own number.
+fn own_gates<'a>(
+    alloc: Global,
+    counts: [&'a AtomicU64; 2],
+    wrong: &'a AtomicBool,
+) -> Result<Vec<Own<'a>>, AllocError> {
+    let mut gates = Vec::new(alloc);
+    for (replica, count) in [(0, counts[0]), (1, counts[1])] {
+        gates.push(Own {
+            replica,
+            times: 0,
+            right: true,
+            count,
+            wrong,
+        })?;
+    }
+    Ok(gates)
+}
+
+/// Each gate was asked once more than its replica made events.
+fn are_asked(rt: &impl Abort, report: &Report, asked: &[u64]) {
+    made_and_ended(rt, report, &[ANY, ANY]);
+    for (made, asked) in report.made.iter().zip(asked) {
+        holds(rt, made.checked_add(1) == Some(*asked));
+    }
+}
+
+/// Each gate is asked for its own replica, once before each take.
+#[test]
+fn gates_are_asked_for_their_replicas(rt: HostRuntime) -> Result<(), Fail> {
+    let alloc = rt.alloc();
+    let (a, b) = (AtomicU64::new(0), AtomicU64::new(0));
+    let wrong = AtomicBool::new(false);
+    let gates = own_gates(alloc, [&a, &b], &wrong)?;
+    let report = report(&rt, alloc, DELETION, gates, 100)?;
+    let asked = [a.load(Ordering::SeqCst), b.load(Ordering::SeqCst)];
+    are_asked(&rt, &report, &asked);
+    holds(&rt, !wrong.load(Ordering::SeqCst));
+    Ok(())
+}
+
+/// A run with open gates, as many as replicas, whose report is the one that is expected.
 fn open_run<R: Threads + Wait + Sync + Abort>(
     rt: &R,
     alloc: Global,
     text: &str,
-    replicas: usize,
     limit: u64,
-) -> Result<Report, Fail>
-    ensures { IfOk result (λ r. IsWellFormed (with_schedule (scenario_view r.start) r.schedule.items)) }
-{
-    let gates = open_gates(alloc, replicas)?;
-    report(rt, alloc, text, gates, limit)
+    want: &Want,
+) -> Result<(), Fail> {
+    let gates = open_gates(alloc, want.ends.len())?;
+    let report = report(rt, alloc, text, gates, limit)?;
+    is_so(rt, alloc, report, want)
 }
 
-#[test]
-fn schedules_run_again(rt: HostRuntime) -> Result<(), Fail> {
-    let alloc = rt.alloc();
-    let inserted = open_run(&rt, alloc, INSERTS, 2, 100)?;
-    // Where the second replica meets its list too early, it is stuck there.
-    holds(
-        &rt,
-        inserted.ends.len() == 2 && ends_so(&inserted.ends[0], Ends::Finished),
-    );
-    runs_again(&rt, alloc, inserted)?;
-    let ended = open_run(&rt, alloc, PAST_THE_END, 1, 100)?;
-    made_and_ended(&rt, &ended, &[(Some(5), Ends::Stuck(26))]);
-    runs_again(&rt, alloc, ended)
-}
-
-const FIRST_OF_BOTH: &[Event] = &[Event::Exec(0), Event::Send(1)];
-
-const FIRST_OF_BOTH_TURNED: &[Event] = &[Event::Send(1), Event::Exec(0)];
-
-fn nothing_is_made(rt: &impl Abort, report: Report) {
-    let nothing = (Some(0), Ends::AtLimit);
-    made_and_ended(rt, &report, &[nothing, nothing]);
-}
-
-/// Each makes one event, in either order.
-#[test]
-fn limits_are_kept(rt: HostRuntime) -> Result<(), Fail> {
-    let alloc = rt.alloc();
-    nothing_is_made(&rt, open_run(&rt, alloc, DELETION, 2, 0)?);
-    let one = open_run(&rt, alloc, DELETION, 2, 1)?;
-    let single = (Some(1), Ends::AtLimit);
-    made_and_ended(&rt, &one, &[single, single]);
-    let made = one.schedule.as_slice();
-    holds(&rt, made == FIRST_OF_BOTH || made == FIRST_OF_BOTH_TURNED);
-    runs_again(&rt, alloc, one)
-}
+/// A scenario, the limit, and how many events each replica makes and how it ends; where there are any, one of these
+/// schedules.
+type Row<'a> = (&'a str, u64, &'a [(Option<u64>, Ends)], &'a [&'a [Event]]);
 
 /// The first replica is stuck at once, the second one isn't.
 const ONE_STUCK: &str =
     "jsoncrdt 1 replica a { let s = doc.keys } replica b { doc.get(\"a\") := 1 }";
 
-const ALONE: &[Event] = &[Event::Exec(1)];
+const ROWS: [Row; 4] = [
+    (PAST_THE_END, 100, &[(Some(5), Ends::Stuck(26))], &[]),
+    // none makes an event
+    (
+        DELETION,
+        0,
+        &[(Some(0), Ends::AtLimit), (Some(0), Ends::AtLimit)],
+        &[],
+    ),
+    // each makes one, in either order
+    (
+        DELETION,
+        1,
+        &[(Some(1), Ends::AtLimit), (Some(1), Ends::AtLimit)],
+        &[
+            &[Event::Exec(0), Event::Send(1)],
+            &[Event::Send(1), Event::Exec(0)],
+        ],
+    ),
+    (
+        ONE_STUCK,
+        10,
+        &[(Some(0), Ends::Stuck(27)), (Some(1), Ends::Finished)],
+        &[&[Event::Exec(1)]],
+    ),
+];
 
 #[test]
-fn a_stuck_replica_beside_another(rt: HostRuntime) -> Result<(), Fail> {
-    let report = open_run(&rt, rt.alloc(), ONE_STUCK, 2, 10)?;
-    made_and_ended(
-        &rt,
-        &report,
-        &[(Some(0), Ends::Stuck(27)), (Some(1), Ends::Finished)],
-    );
-    holds(&rt, report.schedule.as_slice() == ALONE);
+fn runs_end(rt: HostRuntime) -> Result<(), Fail> {
+    for (text, limit, ends, schedules) in &ROWS {
+        let want = Want {
+            ends: *ends,
+            schedules: *schedules,
+            first: &[],
+        };
+        open_run(&rt, rt.alloc(), text, *limit, &want)?;
+    }
     Ok(())
+}
+
+/// Where the second replica meets its list too early, it is stuck there; the first one finishes.
+fn first_finishes(rt: &impl Abort, alloc: Global, report: Report) -> Result<(), Fail>
+    requires { IsWellFormed (with_schedule (scenario_view report.start) report.schedule.items) }
+{
+    holds(
+        rt,
+        report.ends.len() == 2 && ends_so(&report.ends[0], Ends::Finished),
+    );
+    runs_again(rt, alloc, report)
+}
+
+#[test]
+fn a_list_that_may_be_too_late(rt: HostRuntime) -> Result<(), Fail> {
+    let gates = open_gates(rt.alloc(), 2)?;
+    let report = report(&rt, rt.alloc(), INSERTS, gates, 100)?;
+    first_finishes(&rt, rt.alloc(), report)
 }
 
 /// So many replicas, r00 and on, each of which makes one assignment.
@@ -242,16 +350,68 @@ fn many(alloc: Global, replicas: u16) -> Result<String, AllocError> {
     Ok(text)
 }
 
+/// Each of the 64 has made its event, and the schedule runs again.
+fn each_has_run(rt: &impl Abort, alloc: Global, report: Report) -> Result<(), Fail>
+    requires { IsWellFormed (with_schedule (scenario_view report.start) report.schedule.items) }
+{
+    made_and_ended(rt, &report, &[(Some(1), Ends::Finished); 64]);
+    for p in 0..64 {
+        holds(rt, report.schedule.contains(&Event::Exec(p)));
+    }
+    runs_again(rt, alloc, report)
+}
+
+fn run_many<R: Threads + Wait + Sync + Abort>(
+    rt: &R,
+    alloc: Global,
+    text: &str,
+) -> Result<(), Fail> {
+    let gates = open_gates(alloc, 64)?;
+    let report = report(rt, alloc, text, gates, 10)?;
+    each_has_run(rt, alloc, report)
+}
+
 #[test]
 fn each_of_many_runs(rt: HostRuntime) -> Result<(), Fail> {
-    let alloc = rt.alloc();
-    let text = many(alloc, 64)?;
-    let report = open_run(&rt, alloc, text.as_str(), 64, 10)?;
-    made_and_ended(&rt, &report, &[(Some(1), Ends::Finished); 64]);
-    for p in 0..64 {
-        holds(&rt, report.schedule.contains(&Event::Exec(p)));
+    let text = many(rt.alloc(), 64)?;
+    run_many(&rt, rt.alloc(), text.as_str())
+}
+
+/// Adds the script of a replica that only yields, so often.
+fn add_yields(text: &mut String, name: &str, times: u32) -> Result<(), AllocError> {
+    text.push_str(" replica ")?;
+    text.push_str(name)?;
+    text.push_str(" { yield")?;
+    for _ in 1..times {
+        text.push_str("; yield")?;
     }
-    runs_again(&rt, alloc, report)
+    text.push_str(" }")?;
+    Ok(())
+}
+
+fn is_filled(rt: &impl Abort, report: &Report) {
+    let full = (None, Ends::AtLimit);
+    made_and_ended(rt, report, &[full, full]);
+    holds(
+        rt,
+        report.schedule.len() == 100_000 && report.net.steps() == 100_000,
+    );
+}
+
+fn fill<R: Threads + Wait + Sync + Abort>(rt: &R, alloc: Global, text: &str) -> Result<(), Fail> {
+    let gates = open_gates(alloc, 2)?;
+    let report = report(rt, alloc, text, gates, 100_000)?;
+    is_filled(rt, &report);
+    Ok(())
+}
+
+/// Both replicas have commands left when the schedule is as long as one can be.
+#[test]
+fn a_schedule_is_filled(rt: HostRuntime) -> Result<(), Fail> {
+    let mut text = String::from_str(rt.alloc(), "jsoncrdt 1")?;
+    add_yields(&mut text, "a", 65_536)?;
+    add_yields(&mut text, "b", 65_536)?;
+    fill(&rt, rt.alloc(), text.as_str())
 }
 
 /// The number of the refusal, 0 where there is none.
@@ -281,22 +441,6 @@ fn runs_are_refused(rt: HostRuntime) -> Result<(), Fail> {
         (2, 100_000, 0),
     ] {
         holds(&rt, refusal(&rt, rt.alloc(), gates, limit)? == number);
-    }
-    Ok(())
-}
-
-/// Where memory is wanting there is no report, or an end says so, or all is well.
-#[test]
-fn runs_under_pressure(rt: HostRuntime) -> Result<(), Fail> {
-    let gates = open_gates(rt.alloc(), 2)?;
-    let scenario = scene(rt.alloc(), DELETION)?;
-    match run_threads(&rt, rt.alloc(), scenario, gates, 100) {
-        Ok(report) => {
-            for end in &report.ends {
-                holds(&rt, matches!(end, End::Finished | End::NoMemory));
-            }
-        }
-        Err(fault) => holds(&rt, matches!(fault, RunFault::Memory | RunFault::NoThread)),
     }
     Ok(())
 }

@@ -139,25 +139,46 @@ fn are_found<S: TreeStore, T: TreeStore>(
 }
 
 /// Both trees are found the same or not, whichever comes first, and each is found the same as itself.
-fn expect(
+fn are_compared(rt: &impl Abort, alloc: Global, left: &PlainTree, right: &ArenaTree, same: bool) {
+    are_found(rt, alloc, left, right, same);
+    are_found(rt, alloc, right, left, same);
+    are_found(rt, alloc, left, left, true);
+    are_found(rt, alloc, right, right, true);
+}
+
+/// Two trees, which have these entries then.
+fn fill_both(
     rt: &impl Abort,
     alloc: Global,
-    one: &Entries,
-    other: &Entries,
-    same: bool,
+    left: &mut PlainTree,
+    right: &mut ArenaTree,
+    row: &Row,
 ) -> Result<(), AllocError> {
-    let mut left = PlainTree::new(alloc);
-    fill(rt, alloc, &mut left, one)?;
-    let mut right = ArenaTree::new(alloc)?;
-    fill(rt, alloc, &mut right, other)?;
-    are_found(rt, alloc, &left, &right, same);
-    are_found(rt, alloc, &right, &left, same);
-    are_found(rt, alloc, &left, &left, true);
-    are_found(rt, alloc, &right, &right, true);
+    fill(rt, alloc, left, &row.0)?;
+    fill(rt, alloc, right, &row.1)?;
+    are_compared(rt, alloc, left, right, row.2);
     Ok(())
 }
 
-const ROWS: [(Entries, Entries, bool); 12] = [
+fn expect_of(
+    rt: &impl Abort,
+    alloc: Global,
+    left: &mut PlainTree,
+    row: &Row,
+) -> Result<(), AllocError> {
+    let mut right = ArenaTree::new(alloc)?;
+    fill_both(rt, alloc, left, &mut right, row)
+}
+
+fn expect(rt: &impl Abort, alloc: Global, row: &Row) -> Result<(), AllocError> {
+    let mut left = PlainTree::new(alloc);
+    expect_of(rt, alloc, &mut left, row)
+}
+
+/// The entries of two trees, and whether they are the same.
+type Row = (Entries, Entries, bool);
+
+const ROWS: [Row; 12] = [
     ((&[], &[]), (&[], &[]), true),
     ((&[Entry::NoIds], &[]), (&[], &[]), true),
     ((&[Entry::Ids(FIRST)], &[]), (&[], &[]), false),
@@ -190,8 +211,8 @@ const ROWS: [(Entries, Entries, bool); 12] = [
 
 #[test]
 fn one_entry(rt: HostRuntime) -> Result<(), Fail> {
-    for (one, other, same) in &ROWS {
-        expect(&rt, rt.alloc(), one, other, *same)?;
+    for row in &ROWS {
+        expect(&rt, rt.alloc(), row)?;
     }
     Ok(())
 }

@@ -1,8 +1,9 @@
 //! Networks back to their start.
 
 use crate::nets::{
-    DELETION, EXECS, INSERTS, MEETING, PAST_THE_END, after, deep, dumps, has_dumps, holds, make,
+    DELETION, EXECS, INSERTS, MEETING, PAST_THE_END, deep, dumps, has_dumps, holds, make,
 };
+use crate::turns::{Turn, in_network};
 use jc_network::Net;
 use jc_rules::Event;
 use std::alloc::{AllocError, Global};
@@ -41,8 +42,22 @@ fn expect_before(
     Ok(())
 }
 
+/// The way back, and there once more.
+fn back_and_there(
+    rt: &impl Abort,
+    alloc: Global,
+    net: &mut Net,
+    events: &[Event],
+    before: &[String],
+    last: &str,
+) -> Result<(), AllocError> {
+    expect_before(rt, alloc, net, before)?;
+    make(rt, net, events);
+    has_dumps(rt, alloc, net, last)
+}
+
 /// The events lead there and back, and there once more.
-fn there_and_back(
+pub fn there_and_back(
     rt: &impl Abort,
     alloc: Global,
     net: &mut Net,
@@ -50,14 +65,16 @@ fn there_and_back(
 ) -> Result<(), AllocError> {
     let before = run_seen(rt, alloc, net, events)?;
     let last = dumps(rt, alloc, net)?;
-    expect_before(rt, alloc, net, before.as_slice())?;
-    make(rt, net, events);
-    has_dumps(rt, alloc, net, last.as_str())
+    back_and_there(rt, alloc, net, events, before.as_slice(), last.as_str())
 }
 
 fn expect(rt: &impl Abort, alloc: Global, text: &str, events: &[Event]) -> Result<(), Fail> {
-    let mut net = after(rt, alloc, text, &[])?;
-    Ok(there_and_back(rt, alloc, &mut net, events)?)
+    in_network(rt, alloc, text, &[], &Turn::ThereAndBack(&*events))
+}
+
+fn expect_deep(rt: &impl Abort, alloc: Global) -> Result<(), Fail> {
+    let text = deep(alloc)?;
+    expect(rt, alloc, text.as_str(), EXECS)
 }
 
 #[test]
@@ -66,5 +83,5 @@ fn steps_are_taken_back(rt: HostRuntime) -> Result<(), Fail> {
     expect(&rt, alloc, DELETION, MEETING)?;
     expect(&rt, alloc, INSERTS, MEETING)?;
     expect(&rt, alloc, PAST_THE_END, FIVE)?;
-    expect(&rt, alloc, deep(alloc)?.as_str(), EXECS)
+    expect_deep(&rt, alloc)
 }

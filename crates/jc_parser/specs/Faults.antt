@@ -1,5 +1,8 @@
--- The number and the place of a fault.
-use Rattle.std.specs.Prelude.{◌≡◌, ℕ, Option, Some, None}
+-- The number and the place of a fault, and what it is shown as.
+use Rattle.std.specs.Prelude.{◌≡◌, ℕ, Option, Some, None, List}
+use Rattle.jc_rules.specs.declared.refusal.Refusal.{Refusal}
+use Rattle.jc_rules.specs.declared.refusal.Refusal.TheVariants as refusals
+use Rattle.jc_syntax.specs.Faults.{shown_at}
 use Rattle.jc_syntax.specs.declared.fault.LexFault.{LexFault}
 use Rattle.jc_syntax.specs.declared.fault.LexFault.TheVariants as lexical
 use Rattle.jc_parser.specs.declared.parse_fault.ParseFault.{ParseFault}
@@ -50,6 +53,31 @@ place_of (TooManyReplicas place) = Some place
 place_of (UnknownReplica place) = Some place
 place_of (TooManyEvents place) = Some place
 place_of Memory = None
+
+abbrev pub refusal_of : ScenarioFault → Option Refusal
+refusal_of (BadByte place) = Some refusals.BadByte
+refusal_of (OpenString place) = Some refusals.OpenString
+refusal_of (BadEscape place) = Some refusals.BadEscape
+refusal_of (LoneSurrogate place) = Some refusals.LoneSurrogate
+refusal_of (BadNumber place) = Some refusals.BadNumber
+refusal_of (TextTooLong place) = Some refusals.TextTooLong
+refusal_of (Unexpected place) = Some refusals.Unexpected
+refusal_of (EndOfText place) = Some refusals.EndOfText
+refusal_of (IndexTooLarge place) = Some refusals.IndexTooLarge
+refusal_of (ReservedName place) = Some refusals.ReservedName
+refusal_of (TooManyCommands place) = Some refusals.TooManyCommands
+refusal_of (TooLongExpression place) = Some refusals.TooLongExpression
+refusal_of (NotUtf8 place) = Some refusals.NotUtf8
+refusal_of (NoHeader place) = Some refusals.NoHeader
+refusal_of (SameName place) = Some refusals.SameName
+refusal_of (NoReplica place) = Some refusals.NoReplica
+refusal_of (TooManyReplicas place) = Some refusals.TooManyReplicas
+refusal_of (UnknownReplica place) = Some refusals.UnknownReplica
+refusal_of (TooManyEvents place) = Some refusals.TooManyEvents
+refusal_of Memory = None
+
+abbrev pub text_of : ScenarioFault → List ℕ
+text_of fault = shown_at (refusal_of fault) (place_of fault)
 
 -- a lexical fault of a scenario's text
 abbrev pub from_lexer : LexFault → ScenarioFault

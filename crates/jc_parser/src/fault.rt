@@ -1,16 +1,17 @@
 //! Why a text is no scenario.
 
-ghost use Rattle.std.specs.Prelude.{◌≡◌};
+ghost use Rattle.std.specs.Prelude.{◌≡◌, Some};
 ghost use Rattle.jc_parser.specs.declared.fault.ScenarioFault.TheVariants.{Memory};
-ghost use Rattle.jc_parser.specs.Faults.{number_of, place_of, from_lexer};
+ghost use Rattle.jc_parser.specs.Faults.{number_of, place_of, refusal_of, text_of, from_lexer};
 
+use jc_rules::Refusal;
 use jc_syntax::LexFault;
 use std::alloc::{AllocError, AllocFailed};
-use std::error::Error;
 use std::fmt;
+use thiserror::Error;
 
 /// Why a text is no scenario. Places are byte numbers from 0.
-#[derive(Clone, Copy)]
+#[derive(Clone, Copy, Error)]
 pub enum ScenarioFault {
     /// A byte that begins no token, or a control byte inside a string.
     BadByte { place: usize },
@@ -111,50 +112,58 @@ impl ScenarioFault {
         }
     }
 
-    fn name(&self) -> &'static str {
+    /// The refusal that the fault is; want of memory is none.
+    fn refusal(&self) -> Option<Refusal>
+        ensures { result ≡ refusal_of self.now }
+    {
         match self {
-            ScenarioFault::BadByte { .. } => "BadByte",
-            ScenarioFault::OpenString { .. } => "OpenString",
-            ScenarioFault::BadEscape { .. } => "BadEscape",
-            ScenarioFault::LoneSurrogate { .. } => "LoneSurrogate",
-            ScenarioFault::BadNumber { .. } => "BadNumber",
-            ScenarioFault::TextTooLong { .. } => "TextTooLong",
-            ScenarioFault::Unexpected { .. } => "Unexpected",
-            ScenarioFault::EndOfText { .. } => "EndOfText",
-            ScenarioFault::IndexTooLarge { .. } => "IndexTooLarge",
-            ScenarioFault::ReservedName { .. } => "ReservedName",
-            ScenarioFault::TooManyCommands { .. } => "TooManyCommands",
-            ScenarioFault::TooLongExpression { .. } => "TooLongExpression",
-            ScenarioFault::NotUtf8 { .. } => "NotUtf8",
-            ScenarioFault::NoHeader { .. } => "NoHeader",
-            ScenarioFault::SameName { .. } => "SameName",
-            ScenarioFault::NoReplica { .. } => "NoReplica",
-            ScenarioFault::TooManyReplicas { .. } => "TooManyReplicas",
-            ScenarioFault::UnknownReplica { .. } => "UnknownReplica",
-            ScenarioFault::TooManyEvents { .. } => "TooManyEvents",
-            ScenarioFault::Memory => "no memory",
+            ScenarioFault::BadByte { .. } => Some(Refusal::BadByte),
+            ScenarioFault::OpenString { .. } => Some(Refusal::OpenString),
+            ScenarioFault::BadEscape { .. } => Some(Refusal::BadEscape),
+            ScenarioFault::LoneSurrogate { .. } => Some(Refusal::LoneSurrogate),
+            ScenarioFault::BadNumber { .. } => Some(Refusal::BadNumber),
+            ScenarioFault::TextTooLong { .. } => Some(Refusal::TextTooLong),
+            ScenarioFault::Unexpected { .. } => Some(Refusal::Unexpected),
+            ScenarioFault::EndOfText { .. } => Some(Refusal::EndOfText),
+            ScenarioFault::IndexTooLarge { .. } => Some(Refusal::IndexTooLarge),
+            ScenarioFault::ReservedName { .. } => Some(Refusal::ReservedName),
+            ScenarioFault::TooManyCommands { .. } => Some(Refusal::TooManyCommands),
+            ScenarioFault::TooLongExpression { .. } => Some(Refusal::TooLongExpression),
+            ScenarioFault::NotUtf8 { .. } => Some(Refusal::NotUtf8),
+            ScenarioFault::NoHeader { .. } => Some(Refusal::NoHeader),
+            ScenarioFault::SameName { .. } => Some(Refusal::SameName),
+            ScenarioFault::NoReplica { .. } => Some(Refusal::NoReplica),
+            ScenarioFault::TooManyReplicas { .. } => Some(Refusal::TooManyReplicas),
+            ScenarioFault::UnknownReplica { .. } => Some(Refusal::UnknownReplica),
+            ScenarioFault::TooManyEvents { .. } => Some(Refusal::TooManyEvents),
+            ScenarioFault::Memory => None,
         }
     }
 }
 
-// By its name: a derived match of every variant is dear to prove.
+// By hand, since no contract says what a derived one writes.
 impl fmt::Display for ScenarioFault {
+    ghost output = { λ fault. Some (text_of fault) };
+
     fn fmt<W: fmt::Write>(&self, f: &mut fmt::Formatter<W>) -> fmt::Result {
-        f.write_str(self.name())?;
-        match self.place() {
-            Some(place) => write!(f, " at {place}"),
-            None => Ok(()),
+        match (self.refusal(), self.place()) {
+            (Some(refusal), Some(place)) => {
+                let name = refusal.name();
+                write!(f, "{name} at {place}")
+            }
+            _ => f.write_str("no memory"),
         }
     }
 }
 
+// As it is shown: a derived match of every variant is dear to prove.
 impl fmt::Debug for ScenarioFault {
+    ghost debug_output = { λ fault. Some (text_of fault) };
+
     fn fmt<W: fmt::Write>(&self, f: &mut fmt::Formatter<W>) -> fmt::Result {
         fmt::Display::fmt(self, f)
     }
 }
-
-impl Error for ScenarioFault {}
 
 impl From<LexFault> for ScenarioFault {
     ghost from_gives = { λ fault e. e ≡ from_lexer fault };

@@ -1,14 +1,14 @@
 //! Why a text is no sentence of the language.
 
-ghost use Rattle.std.specs.Prelude.{◌≡◌};
-ghost use Rattle.jc_parser.specs.Faults.{number_of, place_of, from_sentence, IsOfSentence};
+ghost use Rattle.std.specs.Prelude.{◌≡◌, Some};
+ghost use Rattle.jc_parser.specs.Faults.{number_of, place_of, text_of, from_sentence, IsOfSentence};
 
 use crate::fault::ScenarioFault;
-use std::error::Error;
 use std::fmt;
+use thiserror::Error;
 
 /// Why a text is no script, expression or event. Places are byte numbers from 0.
-#[derive(Clone, Copy)]
+#[derive(Clone, Copy, Error)]
 pub enum ParseFault {
     /// A byte that begins no token, or a control byte inside a string.
     BadByte { place: usize },
@@ -76,18 +76,21 @@ impl ParseFault {
 }
 
 impl fmt::Display for ParseFault {
+    ghost output = { λ fault. Some (text_of (from_sentence fault)) };
+
     fn fmt<W: fmt::Write>(&self, f: &mut fmt::Formatter<W>) -> fmt::Result {
         fmt::Display::fmt(&self.of_scenario(), f)
     }
 }
 
+// As it is shown: a derived match of every variant is dear to prove.
 impl fmt::Debug for ParseFault {
+    ghost debug_output = { λ fault. Some (text_of (from_sentence fault)) };
+
     fn fmt<W: fmt::Write>(&self, f: &mut fmt::Formatter<W>) -> fmt::Result {
         fmt::Display::fmt(self, f)
     }
 }
-
-impl Error for ParseFault {}
 
 /// A fault that a sentence can have, as such.
 pub(crate) fn of_sentence(fault: ScenarioFault) -> ParseFault

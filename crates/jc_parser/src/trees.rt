@@ -15,8 +15,8 @@ use crate::fault::ScenarioFault;
 use crate::parser::{MAX_EVENTS, front};
 use crate::scripts::closed_script;
 use jc_rules::Text;
-use jc_syntax::{Cmd, NamedEvent, Token, TokenKind};
-use std::alloc::Global;
+use jc_syntax::{Cmd, NamedEvent, Token, TokenKind, copy_script};
+use std::alloc::{AllocError, Global};
 
 /// How many replicas a scenario may have.
 const MAX_REPLICAS: usize = 64;
@@ -34,6 +34,51 @@ pub struct NamedReplica {
 pub struct NamedScenario {
     pub replicas: Vec<NamedReplica>,
     pub events: Vec<NamedEvent>,
+}
+
+impl NamedReplica {
+    /// The same replica once more.
+    pub fn copy(&self) -> Result<NamedReplica, AllocError>
+        ensures { IfOk result (λ replica. part_view replica ≡ part_view self.now) }
+    {
+        Ok(NamedReplica {
+            name: self.name.copy()?,
+            script: copy_script(*self.script.allocator(), &self.script)?,
+        })
+    }
+}
+
+impl NamedScenario {
+    /// The same scenario once more.
+    pub fn copy(&self) -> Result<NamedScenario, AllocError>
+        ensures { IfOk result (λ scenario. tree_view scenario ≡ tree_view self.now) }
+    {
+        let alloc = *self.replicas.allocator();
+        Ok(NamedScenario {
+            replicas: copy_replicas(alloc, &self.replicas)?,
+            events: copy_events(alloc, &self.events)?,
+        })
+    }
+}
+
+fn copy_replicas(alloc: Global, replicas: &[NamedReplica]) -> Result<Vec<NamedReplica>, AllocError>
+    ensures { IfOk result (λ copies. map part_view copies.items ≡ map part_view replicas.now) }
+{
+    let mut copies = Vec::new(alloc);
+    for replica in replicas {
+        copies.push(replica.copy()?)?;
+    }
+    Ok(copies)
+}
+
+fn copy_events(alloc: Global, events: &[NamedEvent]) -> Result<Vec<NamedEvent>, AllocError>
+    ensures { IfOk result (λ copies. copies.items ≡ events.now) }
+{
+    let mut copies = Vec::new(alloc);
+    for event in events {
+        copies.push(event.copy()?)?;
+    }
+    Ok(copies)
 }
 
 /// Whether one of the replicas has this name.

@@ -1,6 +1,6 @@
 //! The canonical texts.
 
-ghost use Rattle.std.specs.Prelude.{◌≡◌, ◌++◌, ◌<◌, length, map, codes, decimal, OnOk, IfOk, string_bytes};
+ghost use Rattle.std.specs.Prelude.{◌≡◌, ◌++◌, ◌<◌, length, map, codes, decimal, OnOk, OnErr, IfOk, string_bytes};
 ghost use Rattle.jc_syntax.specs.Trees.{expr_of, cmd_of};
 ghost use Rattle.jc_printer.specs.Canon.{canon_expr, canon_value, canon_cmd, canon_script, canon_event, AreNamed};
 
@@ -17,10 +17,10 @@ pub fn print_script(alloc: Global, script: &[Cmd]) -> Result<String, AllocError>
     let [first, rest @ ..] = script else {
         return Ok(out);
     };
-    push_cmd(&mut out, first)?;
+    write_cmd(&mut out, first)?;
     for cmd in rest {
         out.push_str("; ")?;
-        push_cmd(&mut out, cmd)?;
+        write_cmd(&mut out, cmd)?;
     }
     Ok(out)
 }
@@ -79,8 +79,18 @@ fn apply_event(alloc: Global, name: &str, counter: u64, author: &str) -> Result<
     format!(in alloc; "{name}.apply({counter}, {author})")
 }
 
-/// Writes the canonical text of a command behind what is there.
+/// Writes the canonical text of a command behind what is there. A refusal leaves it as it was.
 pub fn push_cmd(out: &mut String, cmd: &Cmd) -> Result<(), AllocError>
+    ensures ok { OnOk result (string_bytes out.new ≡ string_bytes out.old ++ canon_cmd (cmd_of cmd.now)) }
+    ensures err { OnErr result (string_bytes out.new ≡ string_bytes out.old) }
+{
+    let mut text = String::new(*out.allocator());
+    write_cmd(&mut text, cmd)?;
+    out.push_str(text.as_str())
+}
+
+/// Writes the canonical text of a command behind what is there. A refusal may leave a part of it.
+fn write_cmd(out: &mut String, cmd: &Cmd) -> Result<(), AllocError>
     ensures { OnOk result (string_bytes out.new ≡ string_bytes out.old ++ canon_cmd (cmd_of cmd.now)) }
 {
     match cmd {

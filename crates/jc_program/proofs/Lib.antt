@@ -7,10 +7,12 @@ pub mod Ending
 pub mod Viewing
 pub mod Viewed
 pub mod OneRun
+pub mod SomeRun
 pub mod Talked
 pub mod Orders
 pub mod Threaded
 mod PromiseLemmas
 mod PromiseFactsLemmas
 mod Tellable
+mod Refusing
 mod Written

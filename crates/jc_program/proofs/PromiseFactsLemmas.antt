@@ -1,11 +1,7 @@
 -- What the program's promise gives.
-use Rattle.std.proofs.Common.{◌≡◌, ◌≢◌, ◌⊎◌, ◌∙◌, ℕ, inl, inr, List, [], ◌∷◌, Option, Some, None, codes, refl, sym, ap, subst, arith}
+use Rattle.std.proofs.Common.{◌≡◌, ◌≢◌, ◌⊎◌, ◌∙◌, ℕ, inl, inr, List, [], ◌∷◌, Option, Some, None, codes, refl, sym, ap, subst}
 use Rattle.std.proofs.lemmas.Option.{same_Some}
-use Rattle.clap.proofs.OnLiterals.{clap_on_literals}
-use Rattle.clap.specs.Words.{fault_of, subcommand_of}
-use Rattle.clap.specs.declared.error.kind.ErrorKind.TheVariants as K
-use Rattle.jc_words.specs.Program.{program}
-use Rattle.jc_words.specs.Words.{words_order, order_by, AsksHelp, IsFaultless}
+use Rattle.jc_words.specs.Words.{words_order, AsksHelp, IsFaultless}
 use Rattle.jc_words.specs.declared.order.Order.{Order}
 use Rattle.jc_words.specs.declared.order.Task.{Task}
 use Rattle.jc_words.specs.declared.order.Task.TheVariants.{Show, Debug, Threads}
@@ -16,10 +12,12 @@ use Rattle.jc_program.specs.Due.{AreTold, told_by}
 use Rattle.jc_program.specs.Faults.{IsCause, IsUnread}
 use Rattle.jc_program.specs.Talked.{lines_by}
 use Rattle.jc_program.specs.Orders.{IsAlone, IsDone, IsStopped, IsThreadsOrder}
-use Rattle.jc_program.specs.Threaded.{HaveThreaded, HaveBegun, IsThreadsFault}
+use Rattle.jc_program.specs.Threaded.{HaveThreaded, IsThreadsFault}
 use Rattle.jc_rules.specs.Told.{LosesUpTo}
-use Rattle.jc_program.specs.Promise.{Stream, World, Files, Promise, All, Says, Carried, Stopped, Completes, Breaks, done, text_refused, stuck, thread_starved, help, usage, read_failed, write_failed, help_write_failed, too_many_lines, no_thread, no_memory, no_memory_for_words}
+use Rattle.jc_session.specs.Written.{Stream}
+use Rattle.jc_program.specs.Promise.{World, Files, Promise, All, Says, Carried, Stopped, Completes, Breaks, done, text_refused, stuck, thread_starved, help, usage, read_failed, write_failed, help_write_failed, too_many_lines, no_thread, no_memory, no_memory_for_words}
 use Rattle.jc_words.specs.Laws.{FaultlessAreOrders}
+use Rattle.jc_words.proofs.Commands.{asks_none}
 use Rattle.jc_program.specs.PromiseFacts.{OrderFact, DoneFact, StoppedFact, ThreadsFact, HelpFact, LostFact, FaultyFact, SilentFact, UnshownFact, ShownFact, UsageFact, UnreadFact, OtherFileFact, MostFact, FailedFact, MemoryLineFact, QuietFact, Facts}
 use Rattle.jc_program.specs.Laws.{PromiseGivesFacts, AlonePromiseGivesFacts}
 use Rattle.jc_program.proofs.Orders as E
@@ -63,16 +61,6 @@ not_2 (inr e) = cc
 
 -- ---- words
 
-no_words_wanted : fault_of program [] ≡ K.MissingSubcommand ∷ []
-unfolding program clap_on_literals
-no_words_wanted = refl
-
--- words that ask for help are no order
-pub asks_none : (words : List (List ℕ)) → AsksHelp words → words_order words ≡ None
-unfolding words_order
-asks_none [] asks = let bad = sym no_words_wanted ∙ asks in cc
-asks_none (w ∷ ws) asks = ap (λ kinds. order_by kinds (subcommand_of program (w ∷ ws))) asks
-
 -- words without a fault are an order
 pub faultless_some : FaultlessAreOrders → (words : List (List ℕ)) → IsFaultless words → words_order words ≡ None → ⊥
 unfolding words_order
@@ -81,31 +69,27 @@ faultless_some law (w ∷ ws) free none = none_some none (law w ws free).1
 
 -- ---- what went out after a fault
 
-breaks_stop : (task : Task) (fault : WorkFault) (bytes : List ℕ) (told lines left : Option (List ℕ)) (old new : World) → AreTold told bytes → IsAlone task → Breaks task fault bytes lines left old new → IsStopped task fault told lines left old.out.bytes new.out.bytes
-breaks_stop (Show view) Read bytes told lines left old new is alone h = h
-breaks_stop (Show view) Write bytes told lines left old new is alone h = (bytes, is, h)
-breaks_stop (Show view) TooManyLines bytes told lines left old new is alone h = h
-breaks_stop (Show view) NoThread bytes told lines left old new is alone h = h
-breaks_stop (Show view) Memory bytes told lines left old new is alone h = (bytes, is, h)
+breaks_stop : (task : Task) (fault : WorkFault) (bytes : List ℕ) (told lines left : Option (List ℕ)) (old new : Stream) → AreTold told bytes → IsAlone task → Breaks task fault bytes lines left old new → IsStopped task fault told lines left old new
+breaks_stop (Show view) fault bytes told lines left old new is alone h = (bytes, is, h)
 breaks_stop Debug fault bytes told lines left old new is alone h = (bytes, is, h)
 breaks_stop (Threads limit) fault bytes told lines left old new is alone h = absurd alone
 
 abbrev Stop : Files → World → World → WorkFault → Order → Type 0
 Stop files old new fault order =
     IsCause fault (IsUnread files.may_fail order.file) old.input.failures new.input.failures old.out.failures new.out.failures
-    × IsStopped order.task fault (told_by old.input.bytes files.texts order.file) (lines_by old.input.bytes order.file) (lines_by new.input.bytes order.file) old.out.bytes new.out.bytes
+    × IsStopped order.task fault (told_by old.input.bytes files.texts order.file) (lines_by old.input.bytes order.file) (lines_by new.input.bytes order.file) old.out new.out
 
 of_stop : {Does : Task → Type 0} (files : Files) (words : List (List ℕ)) (old new : World) (n : ℕ) (fault : WorkFault) → n ≡ fault_status fault → (s : Stopped Does files words old new fault) → IsCause fault (IsUnread files.may_fail s.order.file) old.input.failures new.input.failures old.out.failures new.out.failures → StoppedFact files words old new n
 of_stop files words old new n fault status s cause order some alone ends =
     let same : s.order ≡ order = same_Some s.order order (sym s.is_order ∙ some) in
     let own : IsAlone s.order.task = subst (λ (o : Order). IsAlone o.task) (sym same) alone in
-    let stop : Stop files old new fault order = subst (Stop files old new fault) same (cause, breaks_stop s.order.task fault s.bytes (told_by old.input.bytes files.texts s.order.file) (lines_by old.input.bytes s.order.file) (lines_by new.input.bytes s.order.file) old new s.told own s.breaks) in
+    let stop : Stop files old new fault order = subst (Stop files old new fault) same (cause, breaks_stop s.order.task fault s.bytes (told_by old.input.bytes files.texts s.order.file) (lines_by old.input.bytes s.order.file) (lines_by new.input.bytes s.order.file) old.out new.out s.told own s.breaks) in
     (fault, status, s.line, stop.0, stop.1)
 
 -- ---- tasks
 
-complete_done : (task : Task) (bytes : List ℕ) (told lines : Option (List ℕ)) (old new : World) (n : ℕ) → IsAlone task → AreTold told bytes → Completes task bytes lines old new n → IsDone task told lines old.out.bytes new.out.bytes n
-complete_done (Show view) bytes told lines old new n alone is h = (bytes, h.0.0, is, h.0.1, h.0.2)
+complete_done : (task : Task) (bytes : List ℕ) (told lines : Option (List ℕ)) (old new : World) (n : ℕ) → IsAlone task → AreTold told bytes → Completes task bytes lines old new n → IsDone task told lines old.out new.out n
+complete_done (Show view) bytes told lines old new n alone is h = (bytes, is, h.0)
 complete_done Debug bytes told lines old new n alone is h = (bytes, is, h.0)
 complete_done (Threads limit) bytes told lines old new n alone is h = absurd alone
 
@@ -114,7 +98,7 @@ complete_quiet (Show view) bytes lines old new n alone h = h.1
 complete_quiet Debug bytes lines old new n alone h = h.1
 complete_quiet (Threads limit) bytes lines old new n alone h = absurd alone
 
-pub unthreaded : (task : Task) (bytes : List ℕ) (lines left : Option (List ℕ)) (old new : World) → IsAlone task → Breaks task NoThread bytes lines left old new → ⊥
+pub unthreaded : (task : Task) (bytes : List ℕ) (lines left : Option (List ℕ)) (old new : Stream) → IsAlone task → Breaks task NoThread bytes lines left old new → ⊥
 unthreaded (Show view) bytes lines left old new alone h = h
 unthreaded Debug bytes lines left old new alone h = h
 unthreaded (Threads limit) bytes lines left old new alone h = absurd alone
@@ -133,21 +117,14 @@ fault_not_1 TooManyLines n e one = cc
 fault_not_1 NoThread n e one = cc
 fault_not_1 Memory n e one = cc
 
-threads_fault : (limit : ℕ) (fault : WorkFault) (bytes : List ℕ) (told lines left : Option (List ℕ)) (old new : World) → AreTold told bytes → Breaks (Threads limit) fault bytes lines left old new → (fault ≢ TooManyLines) × HaveBegun limit told old.out.bytes new.out.bytes × (fault ≢ Write → new.out.bytes ≡ old.out.bytes)
-threads_fault limit Read bytes told lines left old new is h = (λ e. (let bad : Read ≡ TooManyLines = e in cc), lacking limit told old.out.bytes new.out.bytes h, λ other. h)
-threads_fault limit Write bytes told lines left old new is h = (λ e. (let bad : Write ≡ TooManyLines = e in cc), (bytes, is, h), λ other. absurd (other refl))
-threads_fault limit TooManyLines bytes told lines left old new is h = absurd h
-threads_fault limit NoThread bytes told lines left old new is h = (λ e. (let bad : NoThread ≡ TooManyLines = e in cc), lacking limit told old.out.bytes new.out.bytes h, λ other. h)
-threads_fault limit Memory bytes told lines left old new is h = (λ e. (let bad : Memory ≡ TooManyLines = e in cc), lacking limit told old.out.bytes new.out.bytes h, λ other. h)
-
 module _ (Does : Task → Type 0) (files : Files) (words : List (List ℕ)) (old new : World) where
   -- an order of which nothing was read or done
-  unstarted : (order : Order) → new.input ≡ old.input → new.out ≡ old.out → IsStopped order.task Memory (told_by old.input.bytes files.texts order.file) (lines_by old.input.bytes order.file) (lines_by new.input.bytes order.file) old.out.bytes new.out.bytes
+  unstarted : (order : Order) → new.input ≡ old.input → new.out ≡ old.out → IsStopped order.task Memory (told_by old.input.bytes files.texts order.file) (lines_by old.input.bytes order.file) (lines_by new.input.bytes order.file) old.out new.out
   unstarted order input out =
       let told = told_by old.input.bytes files.texts order.file in
       let lines = lines_by old.input.bytes order.file in
-      subst (λ (s : Stream). IsStopped order.task Memory told lines (lines_by s.bytes order.file) old.out.bytes new.out.bytes) (sym input)
-      (subst (λ (s : Stream). IsStopped order.task Memory told lines lines old.out.bytes s.bytes) (sym out) (E.nothing_done order.task told lines old.out.bytes))
+      subst (λ (s : Stream). IsStopped order.task Memory told lines (lines_by s.bytes order.file) old.out new.out) (sym input)
+      (E.nothing_done order.task told lines old.out new.out out)
 
   pub stopped_of : {n : ℕ} → Promise Does files words old new n → StoppedFact files words old new n
   stopped_of (done c) order some alone ends = absurd (not_0 ends)
@@ -157,11 +134,11 @@ module _ (Does : Task → Type 0) (files : Files) (words : List (List ℕ)) (old
       let same : c.order ≡ order = same_Some c.order order (sym c.is_order ∙ some) in
       let own : IsAlone c.order.task = subst (λ (o : Order). IsAlone o.task) (sym same) alone in
       absurd (not_starved c.order.task c.bytes (lines_by old.input.bytes c.order.file) old new own c.completes)
-  stopped_of (help text none by full out failed input err) order some alone ends = absurd (none_some none some)
+  stopped_of (help text none by full out input err) order some alone ends = absurd (none_some none some)
   stopped_of (usage text none by full says input out) order some alone ends = absurd (none_some none some)
   stopped_of (read_failed s cause same) order some alone ends = of_stop files words old new 4 Read refl s (cause, same) order some alone ends
   stopped_of (write_failed s failed same) order some alone ends = of_stop files words old new 4 Write refl s (same, failed) order some alone ends
-  stopped_of (help_write_failed text none by front failed input says) order some alone ends = absurd (none_some none some)
+  stopped_of (help_write_failed text none by part input says) order some alone ends = absurd (none_some none some)
   stopped_of (too_many_lines s same) order some alone ends = of_stop files words old new 4 TooManyLines refl s (same.input, same.out) order some alone ends
   stopped_of (no_thread s same) order some alone ends = of_stop files words old new 5 NoThread refl s (same.input, same.out) order some alone ends
   stopped_of (no_memory s same) order some alone ends = of_stop files words old new 5 Memory refl s (same.input, same.out) order some alone ends
@@ -177,11 +154,11 @@ module _ (Does : Task → Type 0) (files : Files) (words : List (List ℕ)) (old
   help_of (text_refused c) asks = absurd (ordered_help asks c)
   help_of (stuck c) asks = absurd (ordered_help asks c)
   help_of (thread_starved c) asks = inr (inr refl)
-  help_of (help text none by full out failed input err) asks = inl refl
+  help_of (help text none by full out input err) asks = inl refl
   help_of (usage text none by full says input out) asks = absurd (by asks)
   help_of (read_failed s cause same) asks = inr (inl refl)
   help_of (write_failed s failed same) asks = inr (inl refl)
-  help_of (help_write_failed text none by front failed input says) asks = inr (inl refl)
+  help_of (help_write_failed text none by part input says) asks = inr (inl refl)
   help_of (too_many_lines s same) asks = inr (inl refl)
   help_of (no_thread s same) asks = inr (inr refl)
   help_of (no_memory s same) asks = inr (inr refl)
@@ -193,11 +170,11 @@ module _ (Does : Task → Type 0) (files : Files) (words : List (List ℕ)) (old
   usage_at (text_refused c) e = cc
   usage_at (stuck c) e = cc
   usage_at (thread_starved c) e = cc
-  usage_at (help text none by full out failed input err) e = cc
+  usage_at (help text none by full out input err) e = cc
   usage_at (usage text none by full says input out) e = (none, (text, full, says), out)
   usage_at (read_failed s cause same) e = cc
   usage_at (write_failed s failed same) e = cc
-  usage_at (help_write_failed text none by front failed input says) e = cc
+  usage_at (help_write_failed text none by part input says) e = cc
   usage_at (too_many_lines s same) e = cc
   usage_at (no_thread s same) e = cc
   usage_at (no_memory s same) e = cc
@@ -225,11 +202,11 @@ module _ (Does : Task → Type 0) (files : Files) (words : List (List ℕ)) (old
   lost_of (text_refused c) n0 e = absurd (no_carried n0 c)
   lost_of (stuck c) n0 e = absurd (no_carried n0 c)
   lost_of (thread_starved c) n0 e = absurd (no_carried n0 c)
-  lost_of (help text none by full out failed input err) n0 e = cc
+  lost_of (help text none by full out input err) n0 e = cc
   lost_of (usage text none by full says input out) n0 e = cc
   lost_of (read_failed s cause same) n0 e = absurd (no_stopped n0 s)
   lost_of (write_failed s failed same) n0 e = absurd (no_stopped n0 s)
-  lost_of (help_write_failed text none by front failed input says) n0 e = (omega (arith, failed), says)
+  lost_of (help_write_failed text none by part input says) n0 e = ((text, part), says)
   lost_of (too_many_lines s same) n0 e = absurd (no_stopped n0 s)
   lost_of (no_thread s same) n0 e = absurd (no_stopped n0 s)
   lost_of (no_memory s same) n0 e = absurd (no_stopped n0 s)
@@ -240,11 +217,11 @@ module _ (Does : Task → Type 0) (files : Files) (words : List (List ℕ)) (old
   faulty_of (text_refused c) n0 e = absurd (no_carried n0 c)
   faulty_of (stuck c) n0 e = absurd (no_carried n0 c)
   faulty_of (thread_starved c) n0 e = absurd (no_carried n0 c)
-  faulty_of (help text none by full out failed input err) n0 e = absurd (e by)
+  faulty_of (help text none by full out input err) n0 e = absurd (e by)
   faulty_of (usage text none by full says input out) n0 e = inl refl
   faulty_of (read_failed s cause same) n0 e = absurd (no_stopped n0 s)
   faulty_of (write_failed s failed same) n0 e = absurd (no_stopped n0 s)
-  faulty_of (help_write_failed text none by front failed input says) n0 e = absurd (e by)
+  faulty_of (help_write_failed text none by part input says) n0 e = absurd (e by)
   faulty_of (too_many_lines s same) n0 e = absurd (no_stopped n0 s)
   faulty_of (no_thread s same) n0 e = absurd (no_stopped n0 s)
   faulty_of (no_memory s same) n0 e = absurd (no_stopped n0 s)
@@ -255,11 +232,11 @@ module _ (Does : Task → Type 0) (files : Files) (words : List (List ℕ)) (old
   unshown_of (text_refused c) n0 e = absurd (no_carried n0 c)
   unshown_of (stuck c) n0 e = absurd (no_carried n0 c)
   unshown_of (thread_starved c) n0 e = absurd (no_carried n0 c)
-  unshown_of (help text none by full out failed input err) n0 e = cc
+  unshown_of (help text none by full out input err) n0 e = cc
   unshown_of (usage text none by full says input out) n0 e = out
   unshown_of (read_failed s cause same) n0 e = absurd (no_stopped n0 s)
   unshown_of (write_failed s failed same) n0 e = absurd (no_stopped n0 s)
-  unshown_of (help_write_failed text none by front failed input says) n0 e = cc
+  unshown_of (help_write_failed text none by part input says) n0 e = cc
   unshown_of (too_many_lines s same) n0 e = absurd (no_stopped n0 s)
   unshown_of (no_thread s same) n0 e = absurd (no_stopped n0 s)
   unshown_of (no_memory s same) n0 e = absurd (no_stopped n0 s)
@@ -270,11 +247,11 @@ module _ (Does : Task → Type 0) (files : Files) (words : List (List ℕ)) (old
   shown_of (text_refused c) n0 e = absurd (no_carried n0 c)
   shown_of (stuck c) n0 e = absurd (no_carried n0 c)
   shown_of (thread_starved c) n0 e = absurd (no_carried n0 c)
-  shown_of (help text none by full out failed input err) n0 e = (text, full, out)
+  shown_of (help text none by full out input err) n0 e = (text, full, out)
   shown_of (usage text none by full says input out) n0 e = cc
   shown_of (read_failed s cause same) n0 e = absurd (no_stopped n0 s)
   shown_of (write_failed s failed same) n0 e = absurd (no_stopped n0 s)
-  shown_of (help_write_failed text none by front failed input says) n0 e = cc
+  shown_of (help_write_failed text none by part input says) n0 e = cc
   shown_of (too_many_lines s same) n0 e = absurd (no_stopped n0 s)
   shown_of (no_thread s same) n0 e = absurd (no_stopped n0 s)
   shown_of (no_memory s same) n0 e = absurd (no_stopped n0 s)
@@ -285,11 +262,11 @@ module _ (Does : Task → Type 0) (files : Files) (words : List (List ℕ)) (old
   unread_of (text_refused c) n0 = absurd (no_carried n0 c)
   unread_of (stuck c) n0 = absurd (no_carried n0 c)
   unread_of (thread_starved c) n0 = absurd (no_carried n0 c)
-  unread_of (help text none by full out failed input err) n0 = input
+  unread_of (help text none by full out input err) n0 = input
   unread_of (usage text none by full says input out) n0 = input
   unread_of (read_failed s cause same) n0 = absurd (no_stopped n0 s)
   unread_of (write_failed s failed same) n0 = absurd (no_stopped n0 s)
-  unread_of (help_write_failed text none by front failed input says) n0 = input
+  unread_of (help_write_failed text none by part input says) n0 = input
   unread_of (too_many_lines s same) n0 = absurd (no_stopped n0 s)
   unread_of (no_thread s same) n0 = absurd (no_stopped n0 s)
   unread_of (no_memory s same) n0 = absurd (no_stopped n0 s)
@@ -302,11 +279,11 @@ module _ (Does : Task → Type 0) (files : Files) (words : List (List ℕ)) (old
   failed_of (text_refused c) e = (c.none_failed.input, c.none_failed.out)
   failed_of (stuck c) e = (c.none_failed.input, c.none_failed.out)
   failed_of (thread_starved c) e = (c.none_failed.input, c.none_failed.out)
-  failed_of (help text none by full out failed input err) e = (failed.input, failed.out)
+  failed_of (help text none by full out input err) e = (ap (λ (s : Stream). s.failures) input, out.1)
   failed_of (usage text none by full says input out) e = (ap (λ (s : Stream). s.failures) input, ap (λ (s : Stream). s.failures) out)
   failed_of (read_failed s cause same) e = absurd (e refl)
   failed_of (write_failed s failed same) e = absurd (e refl)
-  failed_of (help_write_failed text none by front failed input says) e = absurd (e refl)
+  failed_of (help_write_failed text none by part input says) e = absurd (e refl)
   failed_of (too_many_lines s same) e = absurd (e refl)
   failed_of (no_thread s same) e = (same.input, same.out)
   failed_of (no_memory s same) e = (same.input, same.out)
@@ -330,11 +307,11 @@ module _ (Does : Task → Type 0) (files : Files) (words : List (List ℕ)) (old
   kind_of (text_refused c) = inl c
   kind_of (stuck c) = inl c
   kind_of (thread_starved c) = inl c
-  kind_of (help text none by full out failed input err) = inr (inr (inr none))
+  kind_of (help text none by full out input err) = inr (inr (inr none))
   kind_of (usage text none by full says input out) = inr (inr (inr none))
   kind_of (read_failed s cause same) = inr (inl (Read, refl, (s, (cause, same))))
   kind_of (write_failed s failed same) = inr (inl (Write, refl, (s, (same, failed))))
-  kind_of (help_write_failed text none by front failed input says) = inr (inr (inr none))
+  kind_of (help_write_failed text none by part input says) = inr (inr (inr none))
   kind_of (too_many_lines s same) = inr (inl (TooManyLines, refl, (s, (same.input, same.out))))
   kind_of (no_thread s same) = inr (inl (NoThread, refl, (s, (same.input, same.out))))
   kind_of (no_memory s same) = inr (inl (Memory, refl, (s, (same.input, same.out))))
@@ -344,7 +321,7 @@ module _ (Does : Task → Type 0) (files : Files) (words : List (List ℕ)) (old
   done_at {n} (inl c) order some alone four five =
       let same : c.order ≡ order = same_Some c.order order (sym c.is_order ∙ some) in
       let own : IsAlone c.order.task = subst (λ (o : Order). IsAlone o.task) (sym same) alone in
-      subst (λ (o : Order). IsDone o.task (told_by old.input.bytes files.texts o.file) (lines_by old.input.bytes o.file) old.out.bytes new.out.bytes n) same (complete_done c.order.task c.bytes (told_by old.input.bytes files.texts c.order.file) (lines_by old.input.bytes c.order.file) old new n own c.told c.completes)
+      subst (λ (o : Order). IsDone o.task (told_by old.input.bytes files.texts o.file) (lines_by old.input.bytes o.file) old.out new.out n) same (complete_done c.order.task c.bytes (told_by old.input.bytes files.texts c.order.file) (lines_by old.input.bytes c.order.file) old new n own c.told c.completes)
   done_at {n} (inr (inl f)) order some alone four five = absurd (fault_ends f.0 n f.1 four five)
   done_at (inr (inr (inl u))) order some alone four five = absurd (five u.0)
   done_at (inr (inr (inr none))) order some alone four five = absurd (none_some none some)
@@ -354,28 +331,26 @@ module _ (Does : Task → Type 0) (files : Files) (words : List (List ℕ)) (old
 
   abbrev Threaded : ℕ → ℕ → Order → Type 0
   Threaded limit n order =
-      HaveThreaded limit (told_by old.input.bytes files.texts order.file) old.out.bytes new.out.bytes (Says old new) n
-      ⊎ IsThreadsFault limit (told_by old.input.bytes files.texts order.file) (IsUnread files.may_fail order.file) old.input.failures new.input.failures old.out.failures new.out.failures old.out.bytes new.out.bytes (Says old new) n
+      HaveThreaded limit (told_by old.input.bytes files.texts order.file) old.out new.out (Says old new) n
+      ⊎ IsThreadsFault limit (told_by old.input.bytes files.texts order.file) (IsUnread files.may_fail order.file) old.input.failures new.input.failures old.out new.out (Says old new) n
 
   threads_at : {n : ℕ} → Kind n → ThreadsFact files words old new n
   threads_at {n} (inl c) order limit some is =
       let same : c.order ≡ order = same_Some c.order order (sym c.is_order ∙ some) in
       let task : c.order.task ≡ Threads limit = ap (λ (o : Order). o.task) same ∙ is in
       let h : Completes (Threads limit) c.bytes (lines_by old.input.bytes c.order.file) old new n = subst (λ (t : Task). Completes t c.bytes (lines_by old.input.bytes c.order.file) old new n) task c.completes in
-      subst (Threaded limit n) same (inl (c.bytes, c.told, (h.1.0, h.0, h.1.1, h.1.2, h.2)))
+      subst (Threaded limit n) same (inl (c.bytes, c.told, h))
   threads_at {n} (inr (inl (fault, ends, (s, cause)))) order limit some is =
       let same : s.order ≡ order = same_Some s.order order (sym s.is_order ∙ some) in
       let task : s.order.task ≡ Threads limit = ap (λ (o : Order). o.task) same ∙ is in
       let lines = lines_by old.input.bytes s.order.file in
       let left = lines_by new.input.bytes s.order.file in
-      let h : Breaks (Threads limit) fault s.bytes lines left old new = subst (λ (t : Task). Breaks t fault s.bytes lines left old new) task s.breaks in
-      let f = threads_fault limit fault s.bytes (told_by old.input.bytes files.texts s.order.file) lines left old new s.told h in
-      subst (Threaded limit n) same (inr (record { fault = fault; no_lines = f.0; ends = ends; line = s.line; cause = cause; begun = f.1; unwritten = f.2 }))
+      let h : Breaks (Threads limit) fault s.bytes lines left old.out new.out = subst (λ (t : Task). Breaks t fault s.bytes lines left old.out new.out) task s.breaks in
+      subst (Threaded limit n) same (inr (record { fault = fault; ends = ends; line = s.line; cause = cause; stops = (s.bytes, s.told, h) }))
   threads_at {n} (inr (inr (inl (five, input, out, says)))) order limit some is =
-      let same : new.out.bytes ≡ old.out.bytes = ap (λ (s : Stream). s.bytes) out in
       let cause : IsCause Memory (IsUnread files.may_fail order.file) old.input.failures new.input.failures old.out.failures new.out.failures = (ap (λ (s : Stream). s.failures) input, ap (λ (s : Stream). s.failures) out) in
       let told = told_by old.input.bytes files.texts order.file in
-      inr (record { fault = Memory; no_lines = λ e. (let bad : Memory ≡ TooManyLines = e in cc); ends = five; line = says; cause = cause; begun = lacking limit told old.out.bytes new.out.bytes same; unwritten = λ other. same })
+      inr (record { fault = Memory; ends = five; line = says; cause = cause; stops = lacking limit told old.out new.out out })
   threads_at (inr (inr (inr none))) order limit some is = absurd (none_some none some)
 
   pub threads_of : {n : ℕ} → Promise Does files words old new n → ThreadsFact files words old new n
@@ -420,13 +395,13 @@ module _ (Does : Task → Type 0) (files : Files) (words : List (List ℕ)) (old
   memory_line_of (text_refused c) alone e = cc
   memory_line_of (stuck c) alone e = cc
   memory_line_of (thread_starved c) alone e = absurd (not_starved c.order.task c.bytes (lines_by old.input.bytes c.order.file) old new (alone_of c.order c.is_order alone) c.completes)
-  memory_line_of (help text none by full out failed input err) alone e = cc
+  memory_line_of (help text none by full out input err) alone e = cc
   memory_line_of (usage text none by full says input out) alone e = cc
   memory_line_of (read_failed s cause same) alone e = cc
   memory_line_of (write_failed s failed same) alone e = cc
-  memory_line_of (help_write_failed text none by front failed input says) alone e = cc
+  memory_line_of (help_write_failed text none by part input says) alone e = cc
   memory_line_of (too_many_lines s same) alone e = cc
-  memory_line_of (no_thread s same) alone e = absurd (unthreaded s.order.task s.bytes (lines_by old.input.bytes s.order.file) (lines_by new.input.bytes s.order.file) old new (alone_of s.order s.is_order alone) s.breaks)
+  memory_line_of (no_thread s same) alone e = absurd (unthreaded s.order.task s.bytes (lines_by old.input.bytes s.order.file) (lines_by new.input.bytes s.order.file) old.out new.out (alone_of s.order s.is_order alone) s.breaks)
   memory_line_of (no_memory s same) alone e = s.line
   memory_line_of (no_memory_for_words input out says) alone e = says
 
@@ -438,11 +413,11 @@ module _ (Does : Task → Type 0) (files : Files) (words : List (List ℕ)) (old
   quiet_of (text_refused c) alone two four five = quiet_at alone c
   quiet_of (stuck c) alone two four five = quiet_at alone c
   quiet_of (thread_starved c) alone two four five = quiet_at alone c
-  quiet_of (help text none by full out failed input err) alone two four five = err
+  quiet_of (help text none by full out input err) alone two four five = err
   quiet_of (usage text none by full says input out) alone two four five = absurd (two refl)
   quiet_of (read_failed s cause same) alone two four five = absurd (four refl)
   quiet_of (write_failed s failed same) alone two four five = absurd (four refl)
-  quiet_of (help_write_failed text none by front failed input says) alone two four five = absurd (four refl)
+  quiet_of (help_write_failed text none by part input says) alone two four five = absurd (four refl)
   quiet_of (too_many_lines s same) alone two four five = absurd (four refl)
   quiet_of (no_thread s same) alone two four five = absurd (five refl)
   quiet_of (no_memory s same) alone two four five = absurd (five refl)
@@ -489,11 +464,11 @@ module _ (files : Files) (words : List (List ℕ)) (old new : World) where
     starving (text_refused c) = absurd (waits c.order c.is_order c.does)
     starving (stuck c) = absurd (waits c.order c.is_order c.does)
     starving (thread_starved c) = absurd (waits c.order c.is_order c.does)
-    starving (help text none by full out failed input err) = absurd (none_some none some)
+    starving (help text none by full out input err) = absurd (none_some none some)
     starving (usage text none by full says input out) = absurd (none_some none some)
     starving (read_failed s cause same) = absurd (waits s.order s.is_order s.does)
     starving (write_failed s failed same) = absurd (waits s.order s.is_order s.does)
-    starving (help_write_failed text none by front failed input says) = absurd (none_some none some)
+    starving (help_write_failed text none by part input says) = absurd (none_some none some)
     starving (too_many_lines s same) = absurd (waits s.order s.is_order s.does)
     starving (no_thread s same) = absurd (waits s.order s.is_order s.does)
     starving (no_memory s same) = absurd (waits s.order s.is_order s.does)
@@ -504,13 +479,13 @@ module _ (files : Files) (words : List (List ℕ)) (old new : World) where
   line_of (text_refused c) e = cc
   line_of (stuck c) e = cc
   line_of (thread_starved c) e = absurd (not_starved c.order.task c.bytes (lines_by old.input.bytes c.order.file) old new c.does c.completes)
-  line_of (help text none by full out failed input err) e = cc
+  line_of (help text none by full out input err) e = cc
   line_of (usage text none by full says input out) e = cc
   line_of (read_failed s cause same) e = cc
   line_of (write_failed s failed same) e = cc
-  line_of (help_write_failed text none by front failed input says) e = cc
+  line_of (help_write_failed text none by part input says) e = cc
   line_of (too_many_lines s same) e = cc
-  line_of (no_thread s same) e = absurd (unthreaded s.order.task s.bytes (lines_by old.input.bytes s.order.file) (lines_by new.input.bytes s.order.file) old new s.does s.breaks)
+  line_of (no_thread s same) e = absurd (unthreaded s.order.task s.bytes (lines_by old.input.bytes s.order.file) (lines_by new.input.bytes s.order.file) old.out new.out s.does s.breaks)
   line_of (no_memory s same) e = s.line
   line_of (no_memory_for_words input out says) e = says
 
@@ -522,11 +497,11 @@ module _ (files : Files) (words : List (List ℕ)) (old new : World) where
   calm_of (text_refused c) two four five = calm_at c
   calm_of (stuck c) two four five = calm_at c
   calm_of (thread_starved c) two four five = calm_at c
-  calm_of (help text none by full out failed input err) two four five = err
+  calm_of (help text none by full out input err) two four five = err
   calm_of (usage text none by full says input out) two four five = absurd (two refl)
   calm_of (read_failed s cause same) two four five = absurd (four refl)
   calm_of (write_failed s failed same) two four five = absurd (four refl)
-  calm_of (help_write_failed text none by front failed input says) two four five = absurd (four refl)
+  calm_of (help_write_failed text none by part input says) two four five = absurd (four refl)
   calm_of (too_many_lines s same) two four five = absurd (four refl)
   calm_of (no_thread s same) two four five = absurd (five refl)
   calm_of (no_memory s same) two four five = absurd (five refl)

@@ -1,9 +1,8 @@
 -- How the program's ends keep its promise.
-use Rattle.std.proofs.Common.{◌≡◌, ◌≢◌, ◌⊎◌, ◌≤◌, ◌∙◌, ◌+◌, ℕ, inl, inr, List, [], Bool, true, false, Option, Some, None, Ok, Err, codes, string_bytes, refl, sym, ap, subst, arith}
-use Rattle.std.specs.Io.KnownBytes.{Appends}
+use Rattle.std.proofs.Common.{◌≡◌, ◌≢◌, ◌⊎◌, ◌≤◌, ◌∙◌, ℕ, inl, inr, List, [], Bool, true, false, Option, Some, None, Ok, Err, codes, string_bytes, refl, sym, ap, subst, arith}
 use Rattle.std.proofs.lemmas.Slice.Eq.{bytes_eq-Decides}
 use Rattle.std.specs.Str.{bytes_eq}
-use Rattle.jc_rules.specs.Told.{AppendsFront, LosesUpTo, ConsumesIfTold}
+use Rattle.jc_rules.specs.Told.{LosesUpTo, ConsumesIfTold}
 use Rattle.jc_words.specs.Words.{words_order, IsWordsFault, HasText}
 use Rattle.jc_words.specs.declared.fault.WordsFault.{WordsFault}
 use Rattle.jc_words.specs.declared.fault.WordsFault.TheVariants as W
@@ -14,44 +13,29 @@ use Rattle.jc_program.specs.declared.fault.WorkFault.{WorkFault}
 use Rattle.jc_program.specs.declared.fault.WorkFault.TheVariants.{Read, Write, TooManyLines, NoThread, Memory}
 use Rattle.jc_program.specs.declared.recording.Outcome.{Outcome}
 use Rattle.jc_program.specs.declared.recording.Outcome.TheVariants as O
-use Rattle.jc_program.specs.WorkFaults.{IsEndOf, words_text, fault_status, fault_line}
+use Rattle.jc_program.specs.WorkFaults.{Explains, fault_status, fault_line}
 use Rattle.jc_program.specs.Due.{AreTold, told_by}
 use Rattle.jc_program.specs.Faults.{IsCause, IsUnread}
 use Rattle.jc_program.specs.Talked.{lines_by}
-use Rattle.jc_program.specs.Threaded.{outcome_status, ThreadsRan, HaveThreaded, HaveBegun}
+use Rattle.jc_program.specs.Threaded.{outcome_status, ThreadsRan, HaveThreaded, HaveStopped}
 use Rattle.jc_program.specs.Orders.{IsAlone, IsDone, IsStopped}
-use Rattle.jc_program.specs.Promise.{Stream, World, Files, NoneFailed, ReadsFor, Promise, All, Says, Carried, Stopped, Completes, Breaks, done, text_refused, stuck, thread_starved, help, usage, read_failed, write_failed, help_write_failed, too_many_lines, no_thread, no_memory, no_memory_for_words}
+use Rattle.jc_session.specs.Written.{Stream}
+use Rattle.jc_program.specs.Promise.{World, Files, NoneFailed, ReadsFor, Promise, All, Says, Carried, Stopped, Completes, Breaks, done, text_refused, stuck, thread_starved, help, usage, read_failed, write_failed, help_write_failed, too_many_lines, no_thread, no_memory, no_memory_for_words}
 use Rattle.jc_program.proofs.Orders as E
 
 -- ---- tasks
 
 -- a task that waits for nobody was done
-completed : (task : Task) (told lines : Option (List ℕ)) (old new : World) (n : ℕ) → IsDone task told lines old.out.bytes new.out.bytes n → new.err ≡ old.err → (bytes : List ℕ) × AreTold told bytes × Completes task bytes lines old new n
-completed (Show view) told lines old new n h quiet = (h.0, h.2, ((h.1, h.3, h.4), quiet))
+completed : (task : Task) (told lines : Option (List ℕ)) (old new : World) (n : ℕ) → IsDone task told lines old.out new.out n → new.err ≡ old.err → (bytes : List ℕ) × AreTold told bytes × Completes task bytes lines old new n
+completed (Show view) told lines old new n h quiet = (h.0, h.1, (h.2, quiet))
 completed Debug told lines old new n h quiet = (h.0, h.1, (h.2, quiet))
 completed (Threads limit) told lines old new n h quiet = absurd h
 
-some_told : (told : Option (List ℕ)) → (bytes : List ℕ) × AreTold told bytes
-some_told None = ([], tt)
-some_told (Some bytes) = (bytes, refl)
-
 -- a fault stopped it
-broken : (task : Task) (fault : WorkFault) (told lines left : Option (List ℕ)) (old new : World) → IsAlone task → IsStopped task fault told lines left old.out.bytes new.out.bytes → (bytes : List ℕ) × AreTold told bytes × Breaks task fault bytes lines left old new
-broken (Show view) Read told lines left old new alone h = ((some_told told).0, (some_told told).1, h)
-broken (Show view) Write told lines left old new alone h = h
-broken (Show view) TooManyLines told lines left old new alone h = absurd h
-broken (Show view) NoThread told lines left old new alone h = absurd h
-broken (Show view) Memory told lines left old new alone h = h
+broken : (task : Task) (fault : WorkFault) (told lines left : Option (List ℕ)) (old new : Stream) → IsAlone task → IsStopped task fault told lines left old new → (bytes : List ℕ) × AreTold told bytes × Breaks task fault bytes lines left old new
+broken (Show view) fault told lines left old new alone h = h
 broken Debug fault told lines left old new alone h = h
 broken (Threads limit) fault told lines left old new alone h = absurd alone
-
--- a fault stopped a run by threads
-threads_broken : (limit : ℕ) (fault : WorkFault) (told lines left : Option (List ℕ)) (old new : World) → fault ≢ TooManyLines → HaveBegun limit told old.out.bytes new.out.bytes → (fault ≢ Write → new.out.bytes ≡ old.out.bytes) → (bytes : List ℕ) × AreTold told bytes × Breaks (Threads limit) fault bytes lines left old new
-threads_broken limit Read told lines left old new few begun same = (begun.0, begun.1, same (λ e. (let bad : Read ≡ Write = e in cc)))
-threads_broken limit Write told lines left old new few begun same = begun
-threads_broken limit TooManyLines told lines left old new few begun same = absurd (few refl)
-threads_broken limit NoThread told lines left old new few begun same = (begun.0, begun.1, same (λ e. (let bad : NoThread ≡ Write = e in cc)))
-threads_broken limit Memory told lines left old new few begun same = (begun.0, begun.1, same (λ e. (let bad : Memory ≡ Write = e in cc)))
 
 -- a task that isn't for threads waits for nobody
 pub alone_at : (task : Task) → ((limit : ℕ) → task ≡ Threads limit → ⊥) → IsAlone task
@@ -114,16 +98,11 @@ module _ (order : Order) (n : ℕ) (old new : World)
 
 module _ (Does : Task → Type 0) (files : Files) (words : List (List ℕ)) (old new : World) where
   -- words that are no order were answered, and nothing was read
-  pub explained : (fault : WordsFault) (n : ℕ) → IsWordsFault words fault → HasText fault → IsEndOf fault n → new.input ≡ old.input → (n ≡ 0 → Appends old.out.bytes new.out.bytes (words_text fault)) → (n ≡ 4 → AppendsFront old.out.bytes new.out.bytes (words_text fault)) → ((n ≡ 2) ⊎ (n ≡ 5) → new.out ≡ old.out) → (n ≢ 4 → new.out.failures ≡ old.out.failures) → (n ≡ 4 → new.out.failures ≡ old.out.failures + 1) → (n ≡ 2 → Says old new (words_text fault)) → (n ≡ 4 → Says old new (codes "write failed\n")) → (n ≡ 5 → Says old new (codes "no memory\n")) → (n ≡ 0 → new.err ≡ old.err) → Promise Does files words old new n
-  explained (W.Help text) n why some (inl e) input shown begun silent same failed told lost lacking quiet =
-      let free : NoneFailed old new = record { input = ap (λ (s : Stream). s.failures) input; out = same (λ four. (let bad : ◌≡◌ {A = ℕ} 0 4 = sym e ∙ four in cc)) } in
-      subst (Promise Does files words old new) (sym e) (help (string_bytes text) why.0 why.1 some (shown e) free input (quiet e))
-  explained (W.Help text) n why some (inr e) input shown begun silent same failed told lost lacking quiet =
-      subst (Promise Does files words old new) (sym e) (help_write_failed (string_bytes text) why.0 why.1 (begun e) (failed e) input (lost e))
-  explained (W.Usage text) n why some e input shown begun silent same failed told lost lacking quiet =
-      subst (Promise Does files words old new) (sym e) (usage (string_bytes text) why.0 why.1 some (told e) input (silent (inl e)))
-  explained W.Memory n why some e input shown begun silent same failed told lost lacking quiet =
-      subst (Promise Does files words old new) (sym e) (no_memory_for_words input (silent (inr e)) (lacking e))
+  pub explained : (fault : WordsFault) (n : ℕ) → IsWordsFault words fault → HasText fault → Explains fault old.out new.out old.err new.err n → new.input ≡ old.input → Promise Does files words old new n
+  explained (W.Help text) n why some (inl (e, wrote, quiet)) input = subst (Promise Does files words old new) (sym e) (help (string_bytes text) why.0 why.1 some wrote input quiet)
+  explained (W.Help text) n why some (inr (e, part, says)) input = subst (Promise Does files words old new) (sym e) (help_write_failed (string_bytes text) why.0 why.1 part input says)
+  explained (W.Usage text) n why some (e, out, says) input = subst (Promise Does files words old new) (sym e) (usage (string_bytes text) why.0 why.1 some says input out)
+  explained W.Memory n why some (e, out, says) input = subst (Promise Does files words old new) (sym e) (no_memory_for_words input out says)
 
   ended : {n : ℕ} → IsStatus n → Carried Does files words old new n → Promise Does files words old new n
   ended (at_end E.well) c = done c
@@ -140,34 +119,34 @@ module _ (Does : Task → Type 0) (files : Files) (words : List (List ℕ)) (old
 
   module _ (order : Order) (is_order : words_order words ≡ Some order) (does : Does order.task) where
     -- a task that waits for nobody was done
-    pub carried : (n : ℕ) → IsDone order.task (told_by old.input.bytes files.texts order.file) (lines_by old.input.bytes order.file) old.out.bytes new.out.bytes n → new.err ≡ old.err → ReadsFor order n old new → NoneFailed old new → Promise Does files words old new n
+    pub carried : (n : ℕ) → IsDone order.task (told_by old.input.bytes files.texts order.file) (lines_by old.input.bytes order.file) old.out new.out n → new.err ≡ old.err → ReadsFor order n old new → NoneFailed old new → Promise Does files words old new n
     carried n h quiet reads free =
         let told = told_by old.input.bytes files.texts order.file in
         let lines = lines_by old.input.bytes order.file in
         let c = completed order.task told lines old new n h quiet in
-        ended (at_end (E.is_end order.task told lines old.out.bytes new.out.bytes n h)) (record { order = order; is_order = is_order; does = does; bytes = c.0; told = c.1; completes = c.2; reads = reads; none_failed = free })
+        ended (at_end (E.is_end order.task told lines old.out new.out n h)) (record { order = order; is_order = is_order; does = does; bytes = c.0; told = c.1; completes = c.2; reads = reads; none_failed = free })
 
     -- a fault stopped it
-    pub stopped : (fault : WorkFault) (n : ℕ) → n ≡ fault_status fault → IsAlone order.task → IsStopped order.task fault (told_by old.input.bytes files.texts order.file) (lines_by old.input.bytes order.file) (lines_by new.input.bytes order.file) old.out.bytes new.out.bytes → IsCause fault (IsUnread files.may_fail order.file) old.input.failures new.input.failures old.out.failures new.out.failures → ReadsFor order 4 old new → Says old new (fault_line fault) → Promise Does files words old new n
+    pub stopped : (fault : WorkFault) (n : ℕ) → n ≡ fault_status fault → IsAlone order.task → IsStopped order.task fault (told_by old.input.bytes files.texts order.file) (lines_by old.input.bytes order.file) (lines_by new.input.bytes order.file) old.out new.out → IsCause fault (IsUnread files.may_fail order.file) old.input.failures new.input.failures old.out.failures new.out.failures → ReadsFor order 4 old new → Says old new (fault_line fault) → Promise Does files words old new n
     stopped fault n e alone h cause reads line =
-        let b = broken order.task fault (told_by old.input.bytes files.texts order.file) (lines_by old.input.bytes order.file) (lines_by new.input.bytes order.file) old new alone h in
+        let b = broken order.task fault (told_by old.input.bytes files.texts order.file) (lines_by old.input.bytes order.file) (lines_by new.input.bytes order.file) old.out new.out alone h in
         halted fault n e (record { order = order; is_order = is_order; does = does; bytes = b.0; told = b.1; breaks = b.2; reads = reads; line = line }) cause
 
     module _ (limit : ℕ) (is : order.task ≡ Threads limit) where
       -- threads ran to their end
-      pub threaded : (n : ℕ) → HaveThreaded limit (told_by old.input.bytes files.texts order.file) old.out.bytes new.out.bytes (Says old new) n → ReadsFor order n old new → NoneFailed old new → Promise Does files words old new n
-      threaded n (bytes, told, (out, said, ran, shown, sent)) reads free =
+      pub threaded : (n : ℕ) → HaveThreaded limit (told_by old.input.bytes files.texts order.file) old.out new.out (Says old new) n → ReadsFor order n old new → NoneFailed old new → Promise Does files words old new n
+      threaded n (bytes, told, texts) reads free =
           let lines = lines_by old.input.bytes order.file in
-          let c : Completes (Threads limit) bytes lines old new n = (said, (out, ran, shown), sent) in
-          ended (of_threads limit bytes out said n ran) (record { order = order; is_order = is_order; does = does; bytes = bytes; told = told; completes = subst (λ (k : Task). Completes k bytes lines old new n) (sym is) c; reads = reads; none_failed = free })
+          let c : Completes (Threads limit) bytes lines old new n = texts in
+          ended (of_threads limit bytes texts.1.0 texts.0 n texts.1.1) (record { order = order; is_order = is_order; does = does; bytes = bytes; told = told; completes = subst (λ (k : Task). Completes k bytes lines old new n) (sym is) c; reads = reads; none_failed = free })
 
       -- a fault stopped the command
-      pub threads_stopped : (fault : WorkFault) (n : ℕ) → n ≡ fault_status fault → fault ≢ TooManyLines → HaveBegun limit (told_by old.input.bytes files.texts order.file) old.out.bytes new.out.bytes → (fault ≢ Write → new.out.bytes ≡ old.out.bytes) → IsCause fault (IsUnread files.may_fail order.file) old.input.failures new.input.failures old.out.failures new.out.failures → ReadsFor order 4 old new → Says old new (fault_line fault) → Promise Does files words old new n
-      threads_stopped fault n e few begun same cause reads line =
+      pub threads_stopped : (fault : WorkFault) (n : ℕ) → n ≡ fault_status fault → HaveStopped limit fault (told_by old.input.bytes files.texts order.file) old.out new.out → IsCause fault (IsUnread files.may_fail order.file) old.input.failures new.input.failures old.out.failures new.out.failures → ReadsFor order 4 old new → Says old new (fault_line fault) → Promise Does files words old new n
+      threads_stopped fault n e (bytes, told, stops) cause reads line =
           let lines = lines_by old.input.bytes order.file in
           let left = lines_by new.input.bytes order.file in
-          let b = threads_broken limit fault (told_by old.input.bytes files.texts order.file) lines left old new few begun same in
-          halted fault n e (record { order = order; is_order = is_order; does = does; bytes = b.0; told = b.1; breaks = subst (λ (k : Task). Breaks k fault b.0 lines left old new) (sym is) b.2; reads = reads; line = line }) cause
+          let b : Breaks (Threads limit) fault bytes lines left old.out new.out = stops in
+          halted fault n e (record { order = order; is_order = is_order; does = does; bytes = bytes; told = told; breaks = subst (λ (k : Task). Breaks k fault bytes lines left old.out new.out) (sym is) b; reads = reads; line = line }) cause
 
 -- ---- more tasks
 
@@ -184,11 +163,11 @@ module _ (files : Files) (words : List (List ℕ)) (old new : World) where
   more_tasks (text_refused c) = text_refused (carried_more c)
   more_tasks (stuck c) = stuck (carried_more c)
   more_tasks (thread_starved c) = thread_starved (carried_more c)
-  more_tasks (help text none by full out failed input err) = help text none by full out failed input err
+  more_tasks (help text none by full out input err) = help text none by full out input err
   more_tasks (usage text none by full says input out) = usage text none by full says input out
   more_tasks (read_failed s cause same) = read_failed (stopped_more s) cause same
   more_tasks (write_failed s failed same) = write_failed (stopped_more s) failed same
-  more_tasks (help_write_failed text none by front failed input says) = help_write_failed text none by front failed input says
+  more_tasks (help_write_failed text none by part input says) = help_write_failed text none by part input says
   more_tasks (too_many_lines s same) = too_many_lines (stopped_more s) same
   more_tasks (no_thread s same) = no_thread (stopped_more s) same
   more_tasks (no_memory s same) = no_memory (stopped_more s) same

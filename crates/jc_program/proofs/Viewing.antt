@@ -1,13 +1,11 @@
 -- Documents that are written one after the other.
-use Rattle.std.proofs.Common.{◌≡◌, ℕ, zero, suc, ◌+◌, ◌<◌, List, [], ◌∷◌, ◌++◌, length, take, get_or, slice_get, Option, Some, refl, sym, ◌∙◌, ap, subst, append_assoc, append-nil, arith}
-use Rattle.std.specs.Io.KnownBytes.{Appends}
-use Rattle.std.proofs.KnownBytes.{Appends-trans}
+use Rattle.std.proofs.Common.{◌≡◌, ℕ, zero, suc, ◌+◌, ◌<◌, List, [], ◌∷◌, ◌++◌, length, take, get_or, slice_get, Some, refl, sym, ◌∙◌, ap, subst, append_assoc, append-nil, arith}
 use Rattle.std.proofs.lemmas.Option.{slice_get-get_or, same_Some}
 use Rattle.jc_rules.specs.Names.{name_at}
 use Rattle.jc_rules.specs.State.{State, start}
 use Rattle.jc_view.specs.Visible.{view_line, views_from, views_text}
-use Rattle.jc_program.specs.Due.{AppendsUpTo}
-use Rattle.jc_program.proofs.Begun.{up_to_all, up_to_longer, then_up_to}
+use Rattle.jc_session.specs.Written.{Stream, Wrote, WrotePart}
+use Rattle.jc_session.proofs.Writing.{wrote_both, part_after, part_of_longer}
 
 next_views : (names : List (List ℕ)) (n p : ℕ) (network : List State) (A : State) → slice_get network p ≡ Some A → views_from n names (take (suc p) network) ≡ views_from n names (take p network) ++ view_line names (name_at names (n + p)) A
 next_views names n p [] A e = cc
@@ -43,19 +41,13 @@ module _ (names : List (List ℕ)) (network : List State) (p : ℕ) where
       let there = slice_get-get_or network p (start []) l in
       views_more names p network (get_or network p (start [])) there ∙ ap (λ t. views_text names (take p network) ++ t) (sym (h (get_or network p (start [])) there))
 
-  pub views_go_on : (text : List ℕ) (a b c : Option (List ℕ)) → p < length network → ((A : State) → slice_get network p ≡ Some A → text ≡ view_line names (name_at names p) A) → Appends a b (views_text names (take p network)) → Appends b c text → Appends a c (views_text names (take (p + 1) network))
+  pub views_go_on : (text : List ℕ) (a b c : Stream) → p < length network → ((A : State) → slice_get network p ≡ Some A → text ≡ view_line names (name_at names p) A) → Wrote (views_text names (take p network)) a b → Wrote text b c → Wrote (views_text names (take (p + 1) network)) a c
   views_go_on text a b c l h front next =
-      subst (Appends a c) (sym (one_more text l h)) (Appends-trans a b c (views_text names (take p network)) text front next)
+      subst (λ t. Wrote t a c) (sym (one_more text l h)) (wrote_both a b c (views_text names (take p network)) text front next)
 
-  -- a dump was begun
-  pub views_begun : (text : List ℕ) (a b c : Option (List ℕ)) → p < length network → ((A : State) → slice_get network p ≡ Some A → text ≡ view_line names (name_at names p) A) → Appends a b (views_text names (take p network)) → AppendsUpTo b c text → AppendsUpTo a c (views_text names network)
+  -- a line was begun
+  pub views_begun : (text : List ℕ) (a b c : Stream) → p < length network → ((A : State) → slice_get network p ≡ Some A → text ≡ view_line names (name_at names p) A) → Wrote (views_text names (take p network)) a b → WrotePart text b c → WrotePart (views_text names network) a c
   views_begun text a b c l h front next =
       let split = views_split 0 (p + 1) names network in
-      let upto = subst (AppendsUpTo a c) (sym (one_more text l h)) (then_up_to a b c (views_text names (take p network)) text front next) in
-      subst (AppendsUpTo a c) (sym split.1) (up_to_longer a c (views_text names (take (p + 1) network)) split.0 upto)
-
-  -- those before it are there
-  pub views_stay : (a b : Option (List ℕ)) → Appends a b (views_text names (take p network)) → AppendsUpTo a b (views_text names network)
-  views_stay a b front =
-      let split = views_split 0 p names network in
-      subst (AppendsUpTo a b) (sym split.1) (up_to_longer a b (views_text names (take p network)) split.0 (up_to_all a b (views_text names (take p network)) front))
+      let part = subst (λ t. WrotePart t a c) (sym (one_more text l h)) (part_after a b c (views_text names (take p network)) text front next) in
+      subst (λ t. WrotePart t a c) (sym split.1) (part_of_longer a c (views_text names (take (p + 1) network)) split.0 part)

@@ -1,4 +1,3 @@
-pub mod Sent
 pub mod WorkFaults
 pub mod Ends
 pub mod Recordings

@@ -1,9 +1,11 @@
 -- The program's promise: the ways in which it may end, and what each leaves.
-use Rattle.std.specs.Prelude.{◌≡◌, ◌≢◌, ◌⊎◌, ◌<◌, ◌+◌, ℕ, List, [], Bool, Option, Some, None, codes}
-use Rattle.std.specs.Io.KnownBytes.{Appends}
-use Rattle.jc_rules.specs.Told.{AppendsFront, LosesUpTo}
+use Rattle.std.specs.Prelude.{◌≡◌, ◌≢◌, ◌⊎◌, ◌<◌, ◌+◌, ℕ, List, [], Bool, Option, Some, None, Result, Ok, Err, codes, map, string_bytes, String}
+use Rattle.std.specs.declared.alloc.Global.{Global}
+use Rattle.std.specs.declared.vec.Vec.{Vec}
+use Rattle.jc_rules.specs.Told.{LosesUpTo}
 use Rattle.jc_rules.specs.declared.io.Source.{Ghosts as SourceGhosts}
 use Rattle.jc_rules.specs.declared.io.Sink.{Ghosts as SinkGhosts}
+use Rattle.jc_session.specs.Written.{Stream, sink, Wrote, WrotePart, Sent, Written}
 use Rattle.jc_words.specs.Words.{words_order, AsksHelp}
 use Rattle.jc_words.specs.declared.order.Order.{Order}
 use Rattle.jc_words.specs.declared.order.Task.{Task}
@@ -12,23 +14,17 @@ use Rattle.jc_program.specs.declared.fault.WorkFault.{WorkFault}
 use Rattle.jc_program.specs.declared.fault.WorkFault.TheVariants.{Read, Write, TooManyLines, NoThread, Memory}
 use Rattle.jc_program.specs.declared.files.Files.{Ghosts as FilesGhosts}
 use Rattle.jc_program.specs.WorkFaults.{fault_line}
-use Rattle.jc_program.specs.Sent.{Sends}
 use Rattle.jc_program.specs.Orders.{IsAlone, IsThreadsOrder}
 use Rattle.jc_program.specs.Ran.{Ran}
-use Rattle.jc_program.specs.Due.{AppendsUpTo, IsDue, AreTold, told_by}
+use Rattle.jc_program.specs.Due.{AreTold, told_by, StopsView}
 use Rattle.jc_program.specs.Faults.{IsUnread}
 use Rattle.jc_program.specs.Talked.{lines_by, TalksOn, StopsOn}
-use Rattle.jc_program.specs.Threaded.{ThreadsRan, IsTextOf}
+use Rattle.jc_program.specs.Threaded.{ThreadsRan, AreTextsOf, StopsThreads}
 
 -- ---- the world
 
--- What is told of a stream: its bytes, where they are known, which are left to be read or were written; and how many of
--- its calls have failed.
-pub record Stream : Type 0 where
-  pub bytes : Option (List ℕ)
-  pub failures : ℕ
-
--- standard input, standard output and standard error
+-- Standard input, standard output and standard error, each as a `Stream`: its bytes, where they are known, and how many
+-- of its calls have failed.
 pub record World : Type 0 where
   pub input : Stream
   pub out : Stream
@@ -42,17 +38,10 @@ pub record Files : Type 0 where
 
 -- ---- what is written
 
--- the whole of a text of this kind was written
-abbrev pub Written : (List ℕ → Type 0) → Stream → Stream → Type 0
-Written IsText old new = (text : List ℕ) × IsText text × Appends old.bytes new.bytes text
-
--- a prefix of such a text was written, which may be the whole
-abbrev pub WrittenInPart : (List ℕ → Type 0) → Stream → Stream → Type 0
-WrittenInPart IsText old new = (text : List ℕ) × IsText text × AppendsUpTo old.bytes new.bytes text
-
--- The text was sent to standard error: the whole was written; or one write failed, and a prefix was written.
+-- The text was sent to standard error: the whole was written; or one write failed, and a prefix was written, not the
+-- whole.
 abbrev pub Says : World → World → List ℕ → Type 0
-Says old new text = Sends (λ (s : Stream). s.bytes) (λ (s : Stream). s.failures) old.err new.err text
+Says old new text = Sent text old.err new.err
 
 -- no read of standard input failed, and no write to standard output
 pub record NoneFailed (old new : World) : Type 0 where
@@ -80,23 +69,18 @@ abbrev pub Completes : Task → List ℕ → Option (List ℕ) → World → Wor
 Completes (Show view) bytes lines old new status =
     Written (λ text. Ran view bytes text status) old.out new.out × (new.err ≡ old.err)
 Completes Debug bytes lines old new status =
-    TalksOn bytes lines old.out.bytes new.out.bytes status × (new.err ≡ old.err)
+    TalksOn bytes lines old.out new.out status × (new.err ≡ old.err)
 Completes (Threads limit) bytes lines old new status =
-    (said : List ℕ) × Written (λ text. ThreadsRan limit bytes text said status) old.out new.out × Says old new said
+    AreTextsOf (ThreadsRan limit bytes) old.out new.out (Says old new) status
 
--- A fault stopped a task on these bytes, and these lines, of which those are left: a prefix of its text was written. It
--- has no byte where the text of a view or for threads wasn't read, and for threads unless a write failed.
-abbrev pub Breaks : Task → WorkFault → List ℕ → Option (List ℕ) → Option (List ℕ) → World → World → Type 0
-Breaks (Show view) Read bytes lines left old new = new.out.bytes ≡ old.out.bytes
-Breaks (Show view) Write bytes lines left old new = WrittenInPart (IsDue view bytes) old.out new.out
-Breaks (Show view) TooManyLines bytes lines left old new = ⊥
-Breaks (Show view) NoThread bytes lines left old new = ⊥
-Breaks (Show view) Memory bytes lines left old new = WrittenInPart (IsDue view bytes) old.out new.out
-Breaks Debug fault bytes lines left old new = StopsOn fault bytes lines left old.out.bytes new.out.bytes
-Breaks (Threads limit) Write bytes lines left old new =
-    WrittenInPart (IsTextOf (ThreadsRan limit bytes)) old.out new.out
-Breaks (Threads limit) TooManyLines bytes lines left old new = ⊥
-Breaks (Threads limit) fault bytes lines left old new = new.out.bytes ≡ old.out.bytes
+-- A fault stopped a task on these bytes, and these lines, of which those are left. After a failed write a prefix of its
+-- text was written, and not the whole, unless it was the flush of an answer that failed; else whole texts, before that
+-- which is missing. Nothing was written where the text of a view or for threads wasn't read, and for threads unless a
+-- write failed.
+abbrev pub Breaks : Task → WorkFault → List ℕ → Option (List ℕ) → Option (List ℕ) → Stream → Stream → Type 0
+Breaks (Show view) fault bytes lines left old new = StopsView view bytes fault old new
+Breaks Debug fault bytes lines left old new = StopsOn fault bytes lines left old new
+Breaks (Threads limit) fault bytes lines left old new = StopsThreads (ThreadsRan limit bytes) fault old new
 
 -- The words are an order with a task of this kind, which came to its end with this status.
 pub record Carried (Does : Task → Type 0) (files : Files) (words : List (List ℕ)) (old new : World) (status : ℕ)
@@ -119,7 +103,7 @@ pub record Stopped (Does : Task → Type 0) (files : Files) (words : List (List 
   pub bytes : List ℕ
   pub told : AreTold (told_by old.input.bytes files.texts order.file) bytes
   pub breaks : Breaks order.task fault bytes (lines_by old.input.bytes order.file)
-      (lines_by new.input.bytes order.file) old new
+      (lines_by new.input.bytes order.file) old.out new.out
   pub reads : ReadsFor order 4 old new
   pub line : Says old new (fault_line fault)
 
@@ -146,8 +130,7 @@ pub data Promise (Does : Task → Type 0) (files : Files) (words : List (List �
       → words_order words ≡ None
       → AsksHelp words
       → text ≢ []
-      → Appends old.out.bytes new.out.bytes text
-      → NoneFailed old new
+      → Wrote text old.out new.out
       → new.input ≡ old.input
       → new.err ≡ old.err
       → Promise Does files words old new 0
@@ -165,17 +148,16 @@ pub data Promise (Does : Task → Type 0) (files : Files) (words : List (List �
       → (old.input.failures < new.input.failures) ⊎ IsUnreadable s
       → new.out.failures ≡ old.out.failures
       → Promise Does files words old new 4
-  -- a write failed
+  -- one write failed, and none after it
   write_failed : Stopped Does files words old new Write
-      → old.out.failures < new.out.failures
+      → new.out.failures ≡ old.out.failures + 1
       → new.input.failures ≡ old.input.failures
       → Promise Does files words old new 4
   -- a write of the help failed: a prefix of it was written, but not the whole
   help_write_failed : (text : List ℕ)
       → words_order words ≡ None
       → AsksHelp words
-      → AppendsFront old.out.bytes new.out.bytes text
-      → new.out.failures ≡ old.out.failures + 1
+      → WrotePart text old.out new.out
       → new.input ≡ old.input
       → Says old new (fault_line Write)
       → Promise Does files words old new 4
@@ -207,13 +189,21 @@ abbrev pub PromiseAlone : Files → List (List ℕ) → World → World → Opti
 PromiseAlone files words old new None = IsThreadsOrder words × (new ≡ old)
 PromiseAlone files words old new (Some status) = Promise IsAlone files words old new status
 
+-- ---- the process
+
+-- The process, among these files, whose words may be unreadable. Then nothing is read, and nothing written but a line:
+-- there was no memory for them, or one isn't UTF-8.
+abbrev pub ProcessPromise : {E : Type 0} → Files → Result (Vec (String Global) Global) E → World → World → ℕ → Type 0
+ProcessPromise files (Ok words) old new status = Promise All files (map string_bytes words.items) old new status
+ProcessPromise files (Err e) old new status =
+    (new.input ≡ old.input) × (new.out ≡ old.out)
+    × (((status ≡ 5) × Says old new (codes "no memory\n"))
+    ⊎ ((status ≡ 2) × Says old new (codes "a word is not UTF-8\n")))
+
 -- ---- the world of a call
 
 abbrev pub source : {S : Type 0} → SourceGhosts S → S → Stream
 source g s = record { bytes = g.left s; failures = g.failures s }
-
-abbrev pub sink : {S : Type 0} → SinkGhosts S → S → Stream
-sink g s = record { bytes = g.taken s; failures = g.failures s }
 
 abbrev pub world : {I K E : Type 0} → SourceGhosts I → SinkGhosts K → SinkGhosts E → I → K → E → World
 world i k e input out err = record { input = source i input; out = sink k out; err = sink e err }

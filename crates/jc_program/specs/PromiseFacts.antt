@@ -1,6 +1,6 @@
 -- What follows from the promise, fact by fact.
-use Rattle.std.specs.Prelude.{◌≡◌, ◌≢◌, ◌⊎◌, ◌<◌, ℕ, List, [], Option, Some, None, codes}
-use Rattle.std.specs.Io.KnownBytes.{Appends}
+use Rattle.std.specs.Prelude.{◌≡◌, ◌≢◌, ◌⊎◌, ℕ, List, [], Option, Some, None, codes}
+use Rattle.jc_session.specs.Written.{Wrote, WrotePart}
 use Rattle.jc_rules.specs.Told.{LosesUpTo}
 use Rattle.jc_words.specs.Words.{words_order, AsksHelp, IsFaultless}
 use Rattle.jc_words.specs.declared.order.Order.{Order}
@@ -27,34 +27,32 @@ module _ (files : Files) (words : List (List ℕ)) (old new : World) (result : �
   abbrev pub DoneFact : Type 0
   DoneFact = (order : Order) → words_order words ≡ Some order → IsAlone order.task → result ≢ 4 → result ≢ 5
       → IsDone order.task (told_by old.input.bytes files.texts order.file) (lines_by old.input.bytes order.file)
-      old.out.bytes new.out.bytes result
+      old.out new.out result
 
-  -- such an order that a fault stopped: its line was sent, and a prefix of what it shows was written
+  -- such an order that a fault stopped: its line was sent, and what was written is up to the fault
   abbrev pub StoppedFact : Type 0
   StoppedFact = (order : Order) → words_order words ≡ Some order → IsAlone order.task → (result ≡ 4) ⊎ (result ≡ 5)
       → (fault : WorkFault) × (result ≡ fault_status fault) × Says old new (fault_line fault)
       × IsCause fault (IsUnread files.may_fail order.file)
       old.input.failures new.input.failures old.out.failures new.out.failures
       × IsStopped order.task fault (told_by old.input.bytes files.texts order.file) (lines_by old.input.bytes order.file)
-      (lines_by new.input.bytes order.file) old.out.bytes new.out.bytes
+      (lines_by new.input.bytes order.file) old.out new.out
 
   -- threads ran to their end, or a fault stopped the command
   abbrev pub ThreadsFact : Type 0
   ThreadsFact = (order : Order) (limit : ℕ) → words_order words ≡ Some order → order.task ≡ Threads limit
-      → HaveThreaded limit (told_by old.input.bytes files.texts order.file) old.out.bytes new.out.bytes
-      (Says old new) result
+      → HaveThreaded limit (told_by old.input.bytes files.texts order.file) old.out new.out (Says old new) result
       ⊎ IsThreadsFault limit (told_by old.input.bytes files.texts order.file) (IsUnread files.may_fail order.file)
-      old.input.failures new.input.failures old.out.failures new.out.failures
-      old.out.bytes new.out.bytes (Says old new) result
+      old.input.failures new.input.failures old.out new.out (Says old new) result
 
   -- words that ask for help
   abbrev pub HelpFact : Type 0
   HelpFact = AsksHelp words → (result ≡ 0) ⊎ ((result ≡ 4) ⊎ (result ≡ 5))
 
-  -- help that was not written
+  -- help of which one write failed: a prefix of it was written, and not the whole
   abbrev pub LostFact : Type 0
   LostFact = words_order words ≡ None → result ≡ 4
-      → (old.out.failures < new.out.failures) × Says old new (codes "write failed\n")
+      → ((text : List ℕ) × WrotePart text old.out new.out) × Says old new (codes "write failed\n")
 
   -- words that are neither an order nor ask for help
   abbrev pub FaultyFact : Type 0
@@ -71,7 +69,7 @@ module _ (files : Files) (words : List (List ℕ)) (old new : World) (result : �
   -- help is a text
   abbrev pub ShownFact : Type 0
   ShownFact = words_order words ≡ None → result ≡ 0
-      → (text : List ℕ) × (text ≢ []) × Appends old.out.bytes new.out.bytes text
+      → (text : List ℕ) × (text ≢ []) × Wrote text old.out new.out
 
   -- and so is why words are no order
   abbrev pub UsageFact : Type 0

@@ -7,6 +7,17 @@ use Rattle.jc_runner.specs.Laws.{with_schedule}
 use Rattle.jc_runner.specs.Reports.{IsReport}
 use Rattle.jc_program.specs.Ends.{AreEndLines, outcome_of}
 use Rattle.jc_program.specs.declared.recording.Recording.{Recording}
+use Rattle.jc_runner.specs.declared.run.RunFault.{RunFault}
+use Rattle.jc_runner.specs.declared.run.RunFault.TheVariants as R
+use Rattle.jc_program.specs.declared.recording.RecordFault.{RecordFault}
+use Rattle.jc_program.specs.declared.recording.RecordFault.TheVariants as F
+
+-- how it is told what a run was refused for, with as many gates as replicas and a limit that may be
+abbrev pub IsToldAs : RunFault → RecordFault → Type 0
+IsToldAs R.GateCount told = ⊥
+IsToldAs R.LimitTooLarge told = ⊥
+IsToldAs R.Memory told = told ≡ F.Memory
+IsToldAs R.NoThread told = told ≡ F.NoThread
 
 -- There is a report of the run; the text is that of the scenario with its schedule, and the lines say what each replica
 -- made and how its thread ended.

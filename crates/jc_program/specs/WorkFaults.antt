@@ -1,5 +1,6 @@
 -- What the program ends with where there is no status of a run, and what is told of it.
 use Rattle.std.specs.Prelude.{◌≡◌, ◌⊎◌, ℕ, List, codes, string_bytes}
+use Rattle.jc_session.specs.Written.{Stream, Wrote, WrotePart, Sent}
 use Rattle.jc_words.specs.declared.fault.WordsFault.{WordsFault}
 use Rattle.jc_words.specs.declared.fault.WordsFault.TheVariants as words
 use Rattle.jc_program.specs.declared.fault.WorkFault.{WorkFault}
@@ -20,14 +21,13 @@ fault_line TooManyLines = codes "too many lines\n"
 fault_line NoThread = codes "no thread\n"
 fault_line Memory = codes "no memory\n"
 
--- the status that words have which are no order: help may fail to be written
-abbrev pub IsEndOf : WordsFault → ℕ → Type 0
-IsEndOf (words.Help text) status = (status ≡ 0) ⊎ (status ≡ 4)
-IsEndOf (words.Usage text) status = status ≡ 2
-IsEndOf words.Memory status = status ≡ 5
-
--- what is told of words that are no order: help, why they are none, or that there was no memory
-abbrev pub words_text : WordsFault → List ℕ
-words_text (words.Help text) = string_bytes text
-words_text (words.Usage text) = string_bytes text
-words_text words.Memory = fault_line Memory
+-- How words that are no order are answered, by what is told of the output and of standard error, and with which status:
+-- help on the output, unless a write fails; why they are none, or that there was no memory, on standard error.
+abbrev pub Explains : WordsFault → Stream → Stream → Stream → Stream → ℕ → Type 0
+Explains (words.Help text) old_out new_out old_err new_err status =
+    ((status ≡ 0) × Wrote (string_bytes text) old_out new_out × (new_err ≡ old_err))
+    ⊎ ((status ≡ 4) × WrotePart (string_bytes text) old_out new_out × Sent (fault_line Write) old_err new_err)
+Explains (words.Usage text) old_out new_out old_err new_err status =
+    (status ≡ 2) × (new_out ≡ old_out) × Sent (string_bytes text) old_err new_err
+Explains words.Memory old_out new_out old_err new_err status =
+    (status ≡ 5) × (new_out ≡ old_out) × Sent (fault_line Memory) old_err new_err

@@ -2,7 +2,7 @@
 
 ghost use Rattle.std.specs.Prelude.{◌≡◌};
 ghost use Rattle.jc_program.specs.WorkFaults.{fault_status, fault_line};
-ghost use Rattle.jc_program.specs.Sent.{Sends};
+ghost use Rattle.jc_session.specs.Written.{sink, Sent};
 
 use crate::sending::report;
 use jc_rules::io::Sink;
@@ -51,7 +51,7 @@ impl WorkFault {
 /// Writes the line of a fault, and answers its status. A failure of `err` changes nothing.
 pub fn end<E: Sink>(fault: WorkFault, err: &mut E) -> u8
     ensures status { result ≡ fault_status fault }
-    ensures line { Sends E.taken E.failures err.old err.new (fault_line fault) }
+    ensures line { Sent (fault_line fault) (sink E.Sink err.old) (sink E.Sink err.new) }
 {
     report(err, fault.line());
     fault.status()

@@ -17,6 +17,6 @@ mod words;
 
 pub use alone::work_alone;
 pub use files::Files;
-pub use program::work;
+pub use program::{exit, work};
 pub use recording::{Outcome, RecordFault, Recording, record};
 pub use words::refuse_words;

@@ -1,16 +1,19 @@
 //! The whole program.
 
 ghost use Rattle.std.specs.Prelude.{map, string_bytes};
+ghost use Rattle.std.specs.Process.{exit_status};
 ghost use Rattle.jc_program.specs.Orders.{IsThreadsOrder};
-ghost use Rattle.jc_program.specs.Promise.{Promise, All, files_of, world};
+ghost use Rattle.jc_program.specs.Promise.{Promise, All, ProcessPromise, files_of, world};
 
 use crate::alone::work_alone;
 use crate::fault::{WorkFault, end};
 use crate::files::Files;
 use crate::threads::threads;
-use crate::words::explain;
+use crate::words::{explain, refuse_words};
 use jc_rules::io::{Sink, Source};
 use jc_words::{Task, order_of};
+use std::io;
+use std::process::ExitCode;
 use std::sync::Wait;
 use std::thread::Threads;
 
@@ -60,5 +63,24 @@ pub fn work<R: Threads + Wait + Sync + AllocGlobal + Files, I: Source, K: Sink, 
     match work_alone(rt, words, input, out, err) {
         Some(status) => status,
         None => work_threads(rt, words, input, out, err),
+    }
+}
+
+/// What a process ends with that is called with these words, or whose words can't be read: the program's status. Words
+/// that can't be read are told of on `err`, and nothing else is read or written.
+pub fn exit<R: Threads + Wait + Sync + AllocGlobal + Files, I: Source, K: Sink, E: Sink>(
+    rt: &R,
+    words: io::Result<Vec<String>>,
+    input: &mut I,
+    out: &mut K,
+    err: &mut E,
+) -> ExitCode
+    ensures { ProcessPromise (files_of R.Files rt.now) words
+        (world I.Source K.Sink E.Sink input.old out.old err.old)
+        (world I.Source K.Sink E.Sink input.new out.new err.new) (exit_status result) }
+{
+    match words {
+        Ok(words) => ExitCode::from(work(rt, &words, input, out, err)),
+        Err(error) => ExitCode::from(refuse_words(error.kind(), err)),
     }
 }

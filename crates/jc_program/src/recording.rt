@@ -4,9 +4,9 @@ ghost use Rattle.std.specs.Prelude.{◌≡◌, ◌≤◌, ℕ, IfOk, vec_len};
 ghost use Rattle.std.specs.List.{list_any};
 ghost use Rattle.jc_scenario.specs.Scenarios.{IsWellFormed};
 ghost use Rattle.jc_scenario.specs.Views.{scenario_view};
-ghost use Rattle.jc_runner.specs.Reports.{IsReport};
+ghost use Rattle.jc_runner.specs.Reports.{IsReport, IsLateFault};
 ghost use Rattle.jc_program.specs.Ends.{is_stuck, lacks_memory, outcome_of};
-ghost use Rattle.jc_program.specs.Recordings.{IsRecording};
+ghost use Rattle.jc_program.specs.Recordings.{IsRecording, IsToldAs};
 ghost use Rattle.jc_program.specs.declared.recording.RecordFault.TheVariants.{Memory as WantOfMemory};
 
 use crate::lines::end_lines;
@@ -54,11 +54,15 @@ impl From<AllocError> for RecordFault {
     }
 }
 
-/// A gate that is open: its replica goes on at once.
+/// A gate that is open: its replica goes on at once. It tells no question.
 #[derive(Drop)]
 struct Open;
 
 impl Gate for Open {
+    ghost use Rattle.std.specs.Prelude.{None};
+
+    ghost asked = { λ _. None };
+
     fn before<R: Wait>(&mut self, _rt: &R, _replica: u16, _step: u64) {}
 }
 
@@ -140,6 +144,18 @@ fn told(alloc: Global, report: Report) -> Result<Recording, AllocError>
     })
 }
 
+/// How it is told that a run had no memory or no thread.
+fn fault_of(fault: RunFault) -> RecordFault
+    requires { IsLateFault fault }
+    ensures { IsToldAs fault result }
+{
+    match fault {
+        RunFault::Memory => RecordFault::Memory,
+        RunFault::NoThread => RecordFault::NoThread,
+        RunFault::GateCount | RunFault::LimitTooLarge => unreachable!(),
+    }
+}
+
 /// Runs one thread for each replica, each of which makes the events that its replica chooses, `limit` of them at most,
 /// and tells what they made. The scenario's own schedule is left aside.
 ///
@@ -157,9 +173,6 @@ pub fn record<R: Threads + Wait + Sync>(
     let gates = open_gates(alloc, scenario.scripts.len())?;
     match run_threads(rt, alloc, scenario, gates, limit) {
         Ok(report) => Ok(told(alloc, report)?),
-        Err(RunFault::NoThread) => Err(RecordFault::NoThread),
-        Err(RunFault::Memory) => Err(RecordFault::Memory),
-        Err(RunFault::GateCount) => unreachable!(),
-        Err(RunFault::LimitTooLarge) => unreachable!(),
+        Err(fault) => Err(fault_of(fault)),
     }
 }

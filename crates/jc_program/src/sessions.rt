@@ -3,6 +3,7 @@
 ghost use Rattle.std.specs.Prelude.{◌≡◌, ◌≢◌, ◌<◌, ◌⊎◌, [], Some, Ok, codes, IfOk, IfErr, OnOk};
 ghost use Rattle.std.specs.Io.{ReadsAtMost};
 ghost use Rattle.jc_rules.specs.Told.{LosesUpTo, Reads};
+ghost use Rattle.jc_session.specs.Written.{sink};
 ghost use Rattle.jc_program.specs.Due.{told_by};
 ghost use Rattle.jc_program.specs.Faults.{IsCause, IsUnread};
 ghost use Rattle.jc_program.specs.Talked.{lines_by, TalksOn, StopsOn, HasTalked, HasStopped};
@@ -36,9 +37,9 @@ fn converse<S: Source, K: Sink>(
     lines: &mut S,
     out: &mut K,
 ) -> Result<u8, WorkFault>
-    ensures talked { IfOk result (TalksOn text.now (S.left lines.old) (K.taken out.old) (K.taken out.new)) }
+    ensures talked { IfOk result (TalksOn text.now (S.left lines.old) (sink K.Sink out.old) (sink K.Sink out.new)) }
     ensures stopped { IfErr result (λ fault. StopsOn fault text.now (S.left lines.old) (S.left lines.new)
-        (K.taken out.old) (K.taken out.new)) }
+        (sink K.Sink out.old) (sink K.Sink out.new)) }
     ensures refused { result ≡ Ok 1 → lines.new ≡ lines.old }
     ensures same { OnOk result
         ((S.failures lines.new ≡ S.failures lines.old) × (K.failures out.new ≡ K.failures out.old)) }
@@ -64,10 +65,10 @@ pub fn debug<R: AllocGlobal + Files, I: Source, K: Sink>(
     out: &mut K,
 ) -> Result<u8, WorkFault>
     ensures talked { IfOk result (HasTalked (told_by (I.left input.old) (R.texts rt.now) file.now)
-        (lines_by (I.left input.old) file.now) (K.taken out.old) (K.taken out.new)) }
+        (lines_by (I.left input.old) file.now) (sink K.Sink out.old) (sink K.Sink out.new)) }
     ensures stopped { IfErr result (λ fault. HasStopped fault
         (told_by (I.left input.old) (R.texts rt.now) file.now) (lines_by (I.left input.old) file.now)
-        (lines_by (I.left input.new) file.now) (K.taken out.old) (K.taken out.new)) }
+        (lines_by (I.left input.new) file.now) (sink K.Sink out.old) (sink K.Sink out.new)) }
     ensures most { file.now ≡ codes "-" → LosesUpTo 8388609 (I.left input.old) (I.left input.new) }
     ensures untouched { result ≡ Ok 1 → file.now ≢ codes "-" → input.new ≡ input.old }
     ensures same { OnOk result

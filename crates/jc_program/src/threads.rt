@@ -1,14 +1,13 @@
 //! The command `threads`: what a scenario's replicas make in threads of their own.
 
-ghost use Rattle.std.specs.Prelude.{◌≡◌, ◌≢◌, ◌<◌, ◌≤◌, ℕ, codes, string_bytes, IfOk, IfErr, OnOk, OnErr, IsErrOf};
-ghost use Rattle.std.specs.Io.KnownBytes.{Appends};
+ghost use Rattle.std.specs.Prelude.{◌≡◌, ◌≢◌, ◌≤◌, ℕ, codes, string_bytes, IfOk, IfErr, OnOk, OnErr};
 ghost use Rattle.jc_rules.specs.Told.{LosesUpTo};
 ghost use Rattle.jc_scenario.specs.Scenarios.{IsWellFormed};
 ghost use Rattle.jc_scenario.specs.Views.{scenario_view};
-ghost use Rattle.jc_program.specs.Due.{AppendsUpTo, AppendsFrontOf, told_by};
-ghost use Rattle.jc_program.specs.Sent.{Sends};
+ghost use Rattle.jc_session.specs.Written.{sink, Wrote, WrotePart, Sent};
+ghost use Rattle.jc_program.specs.Due.{told_by};
 ghost use Rattle.jc_program.specs.Faults.{IsCause, IsUnread};
-ghost use Rattle.jc_program.specs.Threaded.{outcome_status, RanThreads, ThreadsRan, AreTextsOf, IsTextOf, HaveThreaded, HaveBegun};
+ghost use Rattle.jc_program.specs.Threaded.{outcome_status, RanThreads, ThreadsRan, AreTextsOf, StopsThreads, HaveThreaded, HaveStopped};
 
 use crate::alone::{refuse, text_of};
 use crate::fault::WorkFault;
@@ -20,6 +19,19 @@ use jc_rules::io::{ReadFault, Sink, Source};
 use jc_scenario::{Scenario, read};
 use std::sync::Wait;
 use std::thread::Threads;
+
+impl From<RecordFault> for WorkFault {
+    ghost use Rattle.jc_program.specs.Threaded.{work_fault};
+
+    ghost from_gives = { λ fault work. work ≡ work_fault fault };
+
+    fn from(fault: RecordFault) -> Self {
+        match fault {
+            RecordFault::Memory => WorkFault::Memory,
+            RecordFault::NoThread => WorkFault::NoThread,
+        }
+    }
+}
 
 fn status_of(outcome: Outcome) -> u8
     ensures { result ≡ outcome_status outcome }
@@ -34,15 +46,12 @@ fn status_of(outcome: Outcome) -> u8
 /// Writes a recording: its text on the output, and then its lines on `err`, whose failures change
 /// nothing.
 fn tell<K: Sink, E: Sink>(recording: &Recording, out: &mut K, err: &mut E) -> Result<u8, RunFault>
-    ensures status { IfOk result (λ status. status ≡ outcome_status recording.now.outcome) }
-    ensures shown { OnOk result (Appends (K.taken out.old) (K.taken out.new) (string_bytes recording.now.text)) }
-    ensures told { OnOk result
-        (Sends E.taken E.failures err.old err.new (string_bytes recording.now.lines)) }
-    ensures begun { OnErr result
-        (AppendsUpTo (K.taken out.old) (K.taken out.new) (string_bytes recording.now.text)) }
+    ensures ok { IfOk result (λ status. (status ≡ outcome_status recording.now.outcome)
+        × Wrote (string_bytes recording.now.text) (sink K.Sink out.old) (sink K.Sink out.new)
+        × Sent (string_bytes recording.now.lines) (sink E.Sink err.old) (sink E.Sink err.new)) }
+    ensures err { OnErr result
+        (WrotePart (string_bytes recording.now.text) (sink K.Sink out.old) (sink K.Sink out.new)) }
     ensures quiet { OnErr result (err.new ≡ err.old) }
-    ensures same { OnOk result (K.failures out.new ≡ K.failures out.old) }
-    ensures write { IfErr result (λ fault. (fault ≡ RunFault.Write) × (K.failures out.old < K.failures out.new)) }
 {
     send(out, recording.text.as_str())?;
     report(err, recording.lines.as_str());
@@ -60,13 +69,10 @@ fn run_all<R: Threads + Wait + Sync + AllocGlobal, K: Sink, E: Sink>(
     requires formed { IsWellFormed (scenario_view scenario) }
     requires limit { limit ≤ 100000 }
     ensures ok { IfOk result (AreTextsOf (RanThreads limit (scenario_view scenario))
-        (K.taken out.old) (K.taken out.new) (Sends E.taken E.failures err.old err.new)) }
-    ensures begun { OnErr result (AppendsFrontOf (IsTextOf (RanThreads limit (scenario_view scenario)))
-        (K.taken out.old) (K.taken out.new)) }
-    ensures unwritten { IfErr result (λ fault. fault ≢ WorkFault.Write → K.taken out.new ≡ K.taken out.old) }
-    ensures no_lines { IsErrOf result WorkFault.TooManyLines → ⊥ }
+        (sink K.Sink out.old) (sink K.Sink out.new) (λ lines. Sent lines (sink E.Sink err.old) (sink E.Sink err.new))) }
+    ensures stopped { IfErr result (λ fault. StopsThreads (RanThreads limit (scenario_view scenario)) fault
+        (sink K.Sink out.old) (sink K.Sink out.new)) }
     ensures quiet { OnErr result (err.new ≡ err.old) }
-    ensures same { OnOk result (K.failures out.new ≡ K.failures out.old) }
     ensures cause { IfErr result (λ fault. (n : ℕ)
         → IsCause fault ⊥ n n (K.failures out.old) (K.failures out.new)) }
 {
@@ -75,8 +81,7 @@ fn run_all<R: Threads + Wait + Sync + AllocGlobal, K: Sink, E: Sink>(
             Ok(status) => Ok(status),
             Err(_) => Err(WorkFault::Write),
         },
-        Err(RecordFault::NoThread) => Err(WorkFault::NoThread),
-        Err(RecordFault::Memory) => Err(WorkFault::Memory),
+        Err(fault) => Err(WorkFault::from(fault)),
     }
 }
 
@@ -89,14 +94,11 @@ fn run_text<R: Threads + Wait + Sync + AllocGlobal, K: Sink, E: Sink>(
     err: &mut E,
 ) -> Result<u8, WorkFault>
     requires { limit ≤ 100000 }
-    ensures ok { IfOk result (AreTextsOf (ThreadsRan limit text.now)
-        (K.taken out.old) (K.taken out.new) (Sends E.taken E.failures err.old err.new)) }
-    ensures begun { OnErr result (AppendsFrontOf (IsTextOf (ThreadsRan limit text.now))
-        (K.taken out.old) (K.taken out.new)) }
-    ensures unwritten { IfErr result (λ fault. fault ≢ WorkFault.Write → K.taken out.new ≡ K.taken out.old) }
-    ensures no_lines { IsErrOf result WorkFault.TooManyLines → ⊥ }
+    ensures ok { IfOk result (AreTextsOf (ThreadsRan limit text.now) (sink K.Sink out.old) (sink K.Sink out.new)
+        (λ lines. Sent lines (sink E.Sink err.old) (sink E.Sink err.new))) }
+    ensures stopped { IfErr result (λ fault. StopsThreads (ThreadsRan limit text.now) fault
+        (sink K.Sink out.old) (sink K.Sink out.new)) }
     ensures quiet { OnErr result (err.new ≡ err.old) }
-    ensures same { OnOk result (K.failures out.new ≡ K.failures out.old) }
     ensures cause { IfErr result (λ fault. (n : ℕ)
         → IsCause fault ⊥ n n (K.failures out.old) (K.failures out.new)) }
 {
@@ -124,11 +126,9 @@ pub fn threads<R: Threads + Wait + Sync + AllocGlobal + Files, I: Source, K: Sin
 ) -> Result<u8, WorkFault>
     requires { limit ≤ 100000 }
     ensures ok { IfOk result (HaveThreaded limit (told_by (I.left input.old) (R.texts rt.now) file.now)
-        (K.taken out.old) (K.taken out.new) (Sends E.taken E.failures err.old err.new)) }
-    ensures begun { OnErr result (HaveBegun limit (told_by (I.left input.old) (R.texts rt.now) file.now)
-        (K.taken out.old) (K.taken out.new)) }
-    ensures unwritten { IfErr result (λ fault. fault ≢ WorkFault.Write → K.taken out.new ≡ K.taken out.old) }
-    ensures no_lines { IsErrOf result WorkFault.TooManyLines → ⊥ }
+        (sink K.Sink out.old) (sink K.Sink out.new) (λ lines. Sent lines (sink E.Sink err.old) (sink E.Sink err.new))) }
+    ensures stopped { IfErr result (λ fault. HaveStopped limit fault
+        (told_by (I.left input.old) (R.texts rt.now) file.now) (sink K.Sink out.old) (sink K.Sink out.new)) }
     ensures quiet { OnErr result (err.new ≡ err.old) }
     ensures most { LosesUpTo 8388609 (I.left input.old) (I.left input.new) }
     ensures untouched { file.now ≢ codes "-" → input.new ≡ input.old }

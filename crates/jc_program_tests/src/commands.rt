@@ -159,7 +159,8 @@ const UNKNOWN: &[&[&str]] = &[
     &["threads", "--limit", "100001", "-"],
     &["threads", "--limit", "x", "-"],
     &["jump"],
-    &["help"],
+    &["help", "jump"],
+    &["run", "--version"],
     &[""],
     &["run"],
     &["run", "-", "-"],
@@ -182,14 +183,17 @@ fn no_such_file(rt: HostRuntime) {
     expect_unread(&rt, &["debug", "/no/such/file"], 4, b"read failed\n");
 }
 
-/// Words that ask for help, and what it has in it.
+/// The view of two values under one key.
+const CONFLICT: &str =
+    "{\"doc\":{\"key\":{\"!conflict\":{\"values\":[[\"1@p\",\"B\"],[\"1@q\",\"C\"]]}}},\"name\":\"q\"}\n";
+
+/// Words that ask for help or the version, and what it has in it.
 const HELPS: &[(&[&str], &[&str])] = &[
     (
         &["--help"],
         &[
             "A scenario is",
-            ONE,
-            ONE_DUMP,
+            CONFLICT,
             "check",
             "print",
             "run",
@@ -200,7 +204,17 @@ const HELPS: &[(&[&str], &[&str])] = &[
             "  3  an event was stuck",
         ],
     ),
-    (&["-h"], &["A scenario is", ONE, ONE_DUMP]),
+    (&["-h"], &["A scenario is", CONFLICT]),
+    (&["help"], &["A scenario is", CONFLICT]),
+    (
+        &["help", "run"],
+        &[
+            "A scenario is",
+            ONE,
+            "Usage: jsoncrdt run [OPTIONS] <FILE>\n",
+        ],
+    ),
+    (&["--version"], &["jsoncrdt 1.0.0\n"]),
     (
         &["check", "--help"],
         &[

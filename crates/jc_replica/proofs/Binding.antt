@@ -16,10 +16,10 @@ use Rattle.jc_syntax.specs.declared.tree.Cmd.TheVariants.{Let, Set, InsertAfter 
 use Rattle.jc_syntax.specs.declared.tree.Expr.{Expr as ExprTree}
 use Rattle.jc_syntax.specs.Trees.{cmd_of}
 use Rattle.jc_cursor.specs.Evaluates.{Evaluates, IsRefused}
-use Rattle.jc_sets.specs.States.{kept_state}
+use Rattle.jc_sets.specs.States.{kept_state, StateStandsFor}
 use Rattle.jc_replica.specs.Past.{no_rows}
 use Rattle.jc_replica.specs.Makes.{Binds, BindsNext, opened}
-use Rattle.jc_replica.specs.Seen.{IsSeenAs, Leads}
+use Rattle.jc_replica.specs.Seen.{Leads}
 use Rattle.jc_replica.proofs.Seeing.{left_seen, has_seen}
 
 not_yield : (x : List ℕ) (e : Expr) → LetIn x e ≢ Yield
@@ -31,25 +31,23 @@ executed A p x e b rest os t u l d =
     let d1 : Derives (Run p A (LetIn x e)) (ToState B) (opened t R.Exec) (at_depth (t.depth + 1) u) = one_premise R.Let (Run p A (LetIn x e)) (ToState B) (Evaluate A e) (ToBound b) (opened t R.Exec) u d (b, refl, refl) in
     one_premise R.Exec (Occur A (E.Exec p) os) (ToState (record B { left = rest })) (Run p A (LetIn x e)) (ToState B) t (at_depth (t.depth + 1) u) d1 (LetIn x e, rest, B, l, not_yield x e, refl, refl)
 
-module _ (set : List Op) (p : ℕ) (A K : State) (seen : IsSeenAs set p A K) (os : List Op) where
+module _ (set : List Op) (p : ℕ) (A K : State) (stands : StateStandsFor set A K) (os : List Op) where
   pub leads_bound : (x : List ℕ) (b : Bound) (new : State) (u w : Rows) → (m : Binds K x b no_rows u) → new ≡ record K { left = m.next.rest; vars = bind x b K.vars } → w ≡ at_depth 0 u → Leads set (E.Exec p) p os A new w
   leads_bound x b new u w m ne we =
       let B : State = record A { left = m.next.rest; vars = bind m.next.name b A.vars } in
-      let is : new ≡ kept_state B = ne ∙ ap (λ (y : List ℕ). record K { left = m.next.rest; vars = bind y b K.vars }) m.name ∙ ap (λ (S : State). record S { left = m.next.rest; vars = bind m.next.name b S.vars }) seen.stands.is in
+      let is : new ≡ kept_state B = ne ∙ ap (λ (y : List ℕ). record K { left = m.next.rest; vars = bind y b K.vars }) m.name ∙ ap (λ (S : State). record S { left = m.next.rest; vars = bind m.next.name b S.vars }) stands.is in
       record {
         now = B;
         made = None;
-        derives = rw we (executed A p m.next.name m.next.expr b m.next.rest os no_rows u (left_seen set p A K seen ∙ m.next.next) (m.evaluates A (has_seen set p A K seen)));
-        seen = record {
-          stands = record { sound = seen.stands.sound; is = is; applied = seen.stands.applied; made = seen.stands.made; offered = seen.stands.offered; received = seen.stands.received; knows = seen.stands.knows };
-          own = seen.own;
-        };
+        derives = rw we (executed A p m.next.name m.next.expr b m.next.rest os no_rows u (left_seen set A K stands ∙ m.next.next) (m.evaluates A (has_seen set A K stands)));
+        stands = record { sound = stands.sound; is = is; applied = stands.applied; made = stands.made; offered = stands.offered; received = stands.received; knows = stands.knows };
+        own = λ all. all;
         queue = refl;
         fresh = tt;
       }
 
   pub refused_let : (next : BindsNext K.left) (why : Cause) → IsRefused K.tree K.vars next.expr why → Refused (Occur A (E.Exec p) os) why
-  refused_let next why h = in_command (left_seen set p A K seen ∙ next.next) (not_yield next.name next.expr) (in_first refl (h A (has_seen set p A K seen)))
+  refused_let next why h = in_command (left_seen set A K stands ∙ next.next) (not_yield next.name next.expr) (in_first refl (h A (has_seen set A K stands)))
 
 -- the next command is the one that is read
 pub only_let : (c : CmdTree) (x : List ℕ) (e : Expr) → cmd_of c ≡ LetIn x e → ((y : List ℕ) (f : ExprTree) → c ≡ Let y f → ⊥) → ⊥

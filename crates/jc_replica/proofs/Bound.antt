@@ -54,11 +54,11 @@ module _ (script : List Cmd) (h : Held) (vars : List (List ℕ × Bound)) (x : L
       }
 
   pub binds_event : (p : ℕ) (c : Context) (u : Rows) → Binds (state_of script h c) x b no_rows u → Leading p (E.Exec p) [] (state_of script h c) (state_of script (bound_held h vars) c) (at_depth 0 u)
-  binds_event p c u m set os A seen read =
+  binds_event p c u m set os A stands own read =
       let K = state_of script h c in
       let left : drop (h.done + 1) script ≡ m.next.rest = drop-more h.done script _ m.next.rest m.next.next in
       let same : state_of script (bound_held h vars) c ≡ record K { left = m.next.rest; vars = bind x b K.vars } = ap (λ (l : List Cmd). record K { left = l; vars = vars }) left ∙ ap (λ (vs : List (List ℕ × Bound)). record K { left = m.next.rest; vars = vs }) is.bound in
-      leads_bound set p A K seen os x b (state_of script (bound_held h vars) c) u (at_depth 0 u) m same refl
+      leads_bound set p A K stands os x b (state_of script (bound_held h vars) c) u (at_depth 0 u) m same refl
 
 -- the step of a command that binds a variable
 module _ {script : List Cmd} {t : Tree} {rs : List Record} {h : Held} (k : IsKeptReplica script t rs h) (number : ℕ) (x : List ℕ) (b : Bound) (t0 u : Rows) (none : t0 ≡ no_rows) (m0 : Binds (state_of script h t.now) x b t0 u) (vars : List (List ℕ × Bound)) (at : ℕ) (before : Option BoundInMemory) (is : IsBound x b at (option_map bound_of before) h.vars vars) (ss : List Record) (h2 : Held) (mark : Mark) (he : h2 ≡ bound_held h vars) (se : ss ≡ rs ++ (record { mark = mark; change = C.Bound at before }) ∷ []) (me : mark.changes ≡ length t.earlier) where

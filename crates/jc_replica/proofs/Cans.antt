@@ -34,9 +34,9 @@ cause_there (Some why) s P h = (why, h)
 -- An event can't be made that is refused whatever it may read.
 pub cannot_occur : (event : Event) (now : Past) (fault : ReplicaFault) → ((read : List Op) → MayRead event read → IsRefused event read now fault) → (r : Result Bool AllocError) → IfOk r (λ b. IsFalse b × IsSome (cause_of fault)) → IfOk r (λ b. CanOccur event now b)
 cannot_occur event now fault h (Err e) t = tt
-cannot_occur event now fault h (Ok b) t = subst (CanOccur event now) (sym t.0) (λ set os read A may seen of.
+cannot_occur event now fault h (Ok b) t = subst (CanOccur event now) (sym t.0) (λ set os read A may stands of.
     let w = cause_there (cause_of fault) t.1 (RefusedFor event read now) (h read may) in
-    (w.0, w.1 set os A seen of))
+    (w.0, w.1 set os A stands of))
 
 -- commands
 
@@ -48,12 +48,12 @@ open_run p A (LetIn x e) making h = absurd making
 open_run p A Yield making h = absurd making
 
 pub can_bind : (now : Past) (x : List ℕ) (b : Bound) (t u : Rows) → Binds now.now x b t u → CanOccur (E.Exec now.number) now true
-can_bind now x b t u m = λ set os read A why may seen of r.
-    let d = m.evaluates A (has_seen set now.number A now.now seen) in
+can_bind now x b t u m = λ set os read A why may stands of r.
+    let d = m.evaluates A (has_seen set A now.now stands) in
     let s : IsAnswered (Evaluate A m.next.expr) (ToBound b) = record { derivation = d.derivation; holds = d.holds; concludes = d.concludes } in
     let free : IsFree (Run now.number A (LetIn m.next.name m.next.expr)) = λ w k. unrefused k (answered_free (Evaluate A m.next.expr) (ToBound b) s) in
     let other : LetIn m.next.name m.next.expr ≢ Yield = λ e. cc in
-    unrefused r (LetIn m.next.name m.next.expr, m.next.rest, left_seen set now.number A now.now seen ∙ m.next.next, other, free)
+    unrefused r (LetIn m.next.name m.next.expr, m.next.rest, left_seen set A now.now stands ∙ m.next.next, other, free)
 
 module _ (now : Past) (o : Op) (t u : Rows) (m : Makes now.now now.number o t u) where
   at_cursor : o.cursor ≡ m.cursor
@@ -63,22 +63,22 @@ module _ (now : Past) (o : Op) (t u : Rows) (m : Makes now.now now.number o t u)
   does = ap (λ (x : Op). x.mutation) m.is
 
   can_make : EachOp o.cursor o.mutation (λ x. IsFree (Operate now.now.tree x)) → CanOccur (E.Exec now.number) now true
-  can_make each = λ set os read A why may seen of r.
+  can_make each = λ set os read A why may stands of r.
       let p = now.number in
       let c = m.next.command in
-      let d = m.evaluates A (has_seen set p A now.now seen) in
+      let d = m.evaluates A (has_seen set A now.now stands) in
       let a = new_op p A.ops m.cursor (mutation_by c) in
-      let tree : now.now.tree ≡ A.tree = ap (λ (S : State). S.tree) seen.stands.is in
+      let tree : now.now.tree ≡ A.tree = ap (λ (S : State). S.tree) stands.is in
       let free : IsFree (Operate A.tree a) = subst (λ (x : Context). IsFree (Operate x a)) tree (each a (sym at_cursor) (sym does)) in
       let makable : IsMakable p A (expr_by c) (mutation_by c) = record { cursor = m.cursor; answered = record { derivation = d.derivation; holds = d.holds; concludes = d.concludes }; free = free } in
       let run : IsFree (Run p A c) = λ w k. unrefused k (open_run p A c m.next.makes makable) in
-      unrefused r (c, m.next.rest, left_seen set p A now.now seen ∙ m.next.next, not_yield c m.next.makes, run)
+      unrefused r (c, m.next.rest, left_seen set A now.now stands ∙ m.next.next, not_yield c m.next.makes, run)
 
   cannot_make : EachOp o.cursor o.mutation (λ x. Refused (Operate now.now.tree x) (because F.NotInList)) → CanOccur (E.Exec now.number) now false
-  cannot_make each = λ set os read A may seen of.
+  cannot_make each = λ set os read A may stands of.
       let c = m.next.command in
       let k = new_op now.number now.now.ops m.cursor (mutation_by c) in
-      (because F.NotInList, refused_made set now.number A now.now seen c m.next.rest m.next.next m.next.makes os m.cursor _ _ (because F.NotInList) m.evaluates (λ deps. each (with_deps deps k) (sym at_cursor) (sym does)))
+      (because F.NotInList, refused_made set now.number A now.now stands c m.next.rest m.next.next m.next.makes os m.cursor _ _ (because F.NotInList) m.evaluates (λ deps. each (with_deps deps k) (sym at_cursor) (sym does)))
 
   pub can_make_where : (b : Bool) → (IsFalse b → EachOp o.cursor o.mutation (λ x. Refused (Operate now.now.tree x) (because F.NotInList))) → (IsTrue b → EachOp o.cursor o.mutation (λ x. IsFree (Operate now.now.tree x))) → CanOccur (E.Exec now.number) now b
   can_make_where true g h = can_make (h refl)
@@ -88,16 +88,16 @@ module _ (now : Past) (o : Op) (t u : Rows) (m : Makes now.now now.number o t u)
 
 module _ (now : Past) (i : Id) (k : Op) (takes : Takes now.now i k) where
   can_take : EachOp k.cursor k.mutation (λ x. IsFree (Operate now.now.tree x)) → CanOccur (E.Apply now.number i) now true
-  can_take each = λ set os read A why may seen of r.
-      let x = stood_for set now.number A now.now seen i k takes.received in
+  can_take each = λ set os read A why may stands of r.
+      let x = stood_for set now.number A now.now stands i k takes.received in
       let o = x.operation in
-      let tree : now.now.tree ≡ A.tree = ap (λ (S : State). S.tree) seen.stands.is in
+      let tree : now.now.tree ≡ A.tree = ap (λ (S : State). S.tree) stands.is in
       let free : IsFree (Operate A.tree o) = subst (λ (c : Context). IsFree (Operate c o)) tree (each o (sym (ap (λ (e : Op). e.cursor) x.is)) (sym (ap (λ (e : Op). e.mutation) x.is))) in
-      unrefused r (takes.rest, left_seen set now.number A now.now seen ∙ takes.yields, o, x.found, sym x.applied ∙ takes.new, x.deps.0 takes.deps, free)
+      unrefused r (takes.rest, left_seen set A now.now stands ∙ takes.yields, o, x.found, sym x.applied ∙ takes.new, x.deps.0 takes.deps, free)
 
   cannot_take : EachOp k.cursor k.mutation (λ x. Refused (Operate now.now.tree x) (because F.NotInList)) → CanOccur (E.Apply now.number i) now false
-  cannot_take each = λ set os read A may seen of.
-      (because F.NotInList, refused_taken set now.number A now.now seen i k os (because F.NotInList) takes (λ deps. each (with_deps deps k) refl refl))
+  cannot_take each = λ set os read A may stands of.
+      (because F.NotInList, refused_taken set now.number A now.now stands i k os (because F.NotInList) takes (λ deps. each (with_deps deps k) refl refl))
 
   pub can_take_where : (b : Bool) → (IsFalse b → EachOp k.cursor k.mutation (λ x. Refused (Operate now.now.tree x) (because F.NotInList))) → (IsTrue b → EachOp k.cursor k.mutation (λ x. IsFree (Operate now.now.tree x))) → CanOccur (E.Apply now.number i) now b
   can_take_where true g h = can_take (h refl)
@@ -106,10 +106,10 @@ module _ (now : Past) (i : Id) (k : Op) (takes : Takes now.now i k) where
 -- the end of a yield
 
 can_end : (now : Past) (p : ℕ) (rest : List Cmd) → now.now.left ≡ Yield ∷ rest → now.now.acted ≡ true → CanOccur (E.Done p) now true
-can_end now p rest l a = λ set os read A why may seen of r. unrefused r (rest, left_seen set now.number A now.now seen ∙ l, acted_seen set now.number A now.now seen ∙ a)
+can_end now p rest l a = λ set os read A why may stands of r. unrefused r (rest, left_seen set A now.now stands ∙ l, acted_seen set A now.now stands ∙ a)
 
 cannot_end : (now : Past) (p : ℕ) (rest : List Cmd) → now.now.left ≡ Yield ∷ rest → now.now.acted ≡ false → CanOccur (E.Done p) now false
-cannot_end now p rest l a = λ set os read A may seen of. (because F.NotActed, not_acted (left_seen set now.number A now.now seen ∙ l) (acted_seen set now.number A now.now seen ∙ a))
+cannot_end now p rest l a = λ set os read A may stands of. (because F.NotActed, not_acted (left_seen set A now.now stands ∙ l) (acted_seen set A now.now stands ∙ a))
 
 pub can_end_where : (now : Past) (p : ℕ) (rest : List Cmd) → now.now.left ≡ Yield ∷ rest → (b : Bool) → now.now.acted ≡ b → CanOccur (E.Done p) now b
 can_end_where now p rest l true a = can_end now p rest l a

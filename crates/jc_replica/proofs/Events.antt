@@ -16,7 +16,8 @@ use Rattle.jc_replica.specs.declared.record.Change.TheVariants as C
 use Rattle.jc_replica.specs.Ready.{IsReady}
 use Rattle.jc_replica.specs.Past.{Past, no_rows}
 use Rattle.jc_replica.specs.Answers.{Occurs}
-use Rattle.jc_replica.specs.Seen.{IsSeenAs, IsRead, Leads}
+use Rattle.jc_sets.specs.States.{StateStandsFor}
+use Rattle.jc_replica.specs.Seen.{HasOwnFor, IsRead, Leads}
 use Rattle.jc_replica.specs.Undo.{Held, held, back, state_of, states, past_of}
 use Rattle.jc_replica.specs.Kept.{IsKeptReplica}
 use Rattle.jc_replica.proofs.Scripts.{drop-more, one_less}
@@ -29,7 +30,7 @@ all_last P (y ∷ ys) x a = all_last P ys x a.1
 
 -- in each sound set an event leads from what the one kept state stands for to what the other one does
 abbrev pub Leading : ℕ → Event → List Op → State → State → Rows → Type 0
-Leading p event read K new rows = (set os : List Op) (A : State) → IsSeenAs set p A K → IsRead set os read → Leads set event p os A new rows
+Leading p event read K new rows = (set os : List Op) (A : State) → StateStandsFor set A K → HasOwnFor event set p A → IsRead set os read → Leads set event p os A new rows
 
 pub ready_now : {script : List Cmd} {t : Tree} {rs : List Record} {h : Held} → IsKeptReplica script t rs h → IsReady (state_of script h t.now)
 ready_now {script} {t} {rs} {h} k = all_last IsReady (states script (history t) rs h) (state_of script h t.now) k.ready
@@ -55,10 +56,10 @@ sent_ready script h h2 c r e = rw e (record {
 })
 
 pub sends : (p : ℕ) (script : List Cmd) (h h2 : Held) (c : Context) (rest : List Cmd) (u : Rows) → IsReady (state_of script h c) → drop h.done script ≡ Yield ∷ rest → h2 ≡ held h.done true h.vars h.ops h.queue (length h.queue) h.recv → u ≡ pushed no_rows R.Send → Leading p (E.Send p) [] (state_of script h c) (state_of script h2 c) u
-sends p script h h2 c rest u r l e ue set os A seen read =
+sends p script h h2 c rest u r l e ue set os A stands own read =
     let K = state_of script h c in
     let all : take (length h.queue) h.queue ≡ h.queue = take_all (length h.queue) h.queue (omega arith) in
-    leads_sent set p A K seen os rest (state_of script h2 c) u l (both-front h.sent h.queue r.in_order) (ap (λ (x : Held). state_of script x c) e ∙ ap (λ (q : List Op). record K { acted = true; send = q }) all) ue
+    leads_sent set p A K stands os rest (state_of script h2 c) u l (both-front h.sent h.queue r.in_order) (ap (λ (x : Held). state_of script x c) e ∙ ap (λ (q : List Op). record K { acted = true; send = q }) all) ue
 
 -- the end of a yield
 pub done_ready : (script : List Cmd) (h h2 : Held) (c : Context) (rest : List Cmd) → IsReady (state_of script h c) → drop h.done script ≡ Yield ∷ rest → h2 ≡ held (h.done + 1) false h.vars h.ops h.queue h.sent h.recv → IsReady (state_of script h2 c)
@@ -78,9 +79,9 @@ done_ready script h h2 c rest r l e =
     })
 
 pub ends : (p : ℕ) (script : List Cmd) (h h2 : Held) (c : Context) (rest : List Cmd) (u : Rows) → drop h.done script ≡ Yield ∷ rest → h.acted ≡ true → h2 ≡ held (h.done + 1) false h.vars h.ops h.queue h.sent h.recv → u ≡ pushed no_rows R.Done → Leading p (E.Done p) [] (state_of script h c) (state_of script h2 c) u
-ends p script h h2 c rest u l a e ue set os A seen read =
+ends p script h h2 c rest u l a e ue set os A stands own read =
     let K = state_of script h c in
-    leads_done set p A K seen os rest (state_of script h2 c) u l a (ap (λ (x : Held). state_of script x c) e ∙ ap (λ (q : List Cmd). record K { left = q; acted = false }) (drop-more h.done script Yield rest l)) ue
+    leads_done set p A K stands os rest (state_of script h2 c) u l a (ap (λ (x : Held). state_of script x c) e ∙ ap (λ (q : List Cmd). record K { left = q; acted = false }) (drop-more h.done script Yield rest l)) ue
 
 pub ended_back : (h : Held) → h.acted ≡ true → back C.Ended (held (h.done + 1) false h.vars h.ops h.queue h.sent h.recv) ≡ h
 ended_back h e =

@@ -78,14 +78,14 @@ still_sent n os o l = go n os l
     go (suc n) (x ∷ xs) l = ap (λ (y : List Op). x ∷ y) (go n xs (omega (arith, l)))
 
 pub makes_event : (p : ℕ) (script : List Cmd) (h : Held) (c d : Context) (o : Op) (u v : Rows) → IsReady (state_of script h c) → o.id.counter ≡ greatest h.ops + 1 → h.sent ≤ length h.queue → Makes (state_of script h c) p o no_rows u → Derives (Operate c o) (ToContext d) u v → Leading p (E.Exec p) [] (state_of script h c) (state_of script (made_held h o) d) (at_depth 0 v)
-makes_event p script h c d o u v ready new sent m de set os A seen read =
+makes_event p script h c d o u v ready new sent m de set os A stands own read =
     let K = state_of script h c in
     let left : drop (h.done + 1) script ≡ m.next.rest = drop-more h.done script m.next.command m.next.rest m.next.next in
     let queue : h.queue ++ o ∷ [] ≡ with_op o h.queue = sym (with_op-last (greatest h.ops) o h.queue ready.numbered (omega (arith, new))) in
     let send = still_sent h.sent h.queue o sent in
     let is : state_of script (made_held h o) d ≡ record (made_kept o d K) { left = m.next.rest } =
     λ i. record { left = left i; acted = h.acted; vars = h.vars; tree = d; ops = union (counted o.id.replica o.id.counter) h.ops; queue = queue i; send = send i; recv = h.recv } in
-    leads_made set p A K seen os o d (state_of script (made_held h o) d) u v (at_depth 0 v) m de is refl
+    leads_made set p A K stands own os o d (state_of script (made_held h o) d) u v (at_depth 0 v) m de is refl
 
 -- the step of a command that makes an operation
 module _ {script : List Cmd} {t : Tree} {rs : List Record} {h : Held} (k : IsKeptReplica script t rs h) (number : ℕ) (o : Op) (t0 u : Rows) (none : t0 ≡ no_rows) (m0 : Makes (state_of script h t.now) number o t0 u) where

@@ -25,11 +25,11 @@ use Rattle.jc_cursor.specs.declared.bound.Bound.TheVariants as B
 use Rattle.jc_cursor.specs.Bounds.{bound_of}
 use Rattle.jc_cursor.specs.Evaluates.{Evaluates, IsRefused}
 use Rattle.jc_sets.specs.Members.{with_deps}
-use Rattle.jc_sets.specs.States.{new_op, made, made_kept, kept_state}
+use Rattle.jc_sets.specs.States.{new_op, made, made_kept, kept_state, StateStandsFor, HasOwn}
 use Rattle.jc_sets.proofs.Making.{make_stands}
 use Rattle.jc_replica.specs.Past.{no_rows}
 use Rattle.jc_replica.specs.Makes.{Makes, MakesNext, BindsNext, IsMaking, IsLet, opened, rule_by, expr_by, mutation_by}
-use Rattle.jc_replica.specs.Seen.{IsSeenAs, Leads}
+use Rattle.jc_replica.specs.Seen.{Leads}
 use Rattle.jc_replica.proofs.Seeing.{left_seen, has_seen}
 
 -- a command that makes an operation
@@ -75,46 +75,44 @@ executed A p c rest cursor tree os t between w l making de d1 =
     let d5 = two_premises (rule_by c) (Run p A c) (ToState B) (Evaluate A (expr_by c)) (ToBound (ACursor cursor)) (Make p A cursor m) (ToState B) (opened t R.Exec) between (at_depth between.depth w) de d4 (follows_make p A c making _ _ (cursor, B, refl, refl)) in
     one_premise R.Exec (Occur A (E.Exec p) os) (ToState (record B { left = rest })) (Run p A c) (ToState B) t (at_depth (t.depth + 1) w) d5 (c, rest, B, l, not_yield c making, refl, refl)
 
-pub leads_made : (set : List Op) (p : ℕ) (A K : State) → IsSeenAs set p A K → (os : List Op) (o : Op) (tree : Context) (new : State) (u v w : Rows) → (m : Makes K p o no_rows u) → Derives (Operate K.tree o) (ToContext tree) u v → new ≡ record (made_kept o tree K) { left = m.next.rest } → w ≡ at_depth 0 v → Leads set (E.Exec p) p os A new w
-leads_made set p A K seen os o tree new u v w m d ne we =
+pub leads_made : (set : List Op) (p : ℕ) (A K : State) → StateStandsFor set A K → HasOwn set p A → (os : List Op) (o : Op) (tree : Context) (new : State) (u v w : Rows) → (m : Makes K p o no_rows u) → Derives (Operate K.tree o) (ToContext tree) u v → new ≡ record (made_kept o tree K) { left = m.next.rest } → w ≡ at_depth 0 v → Leads set (E.Exec p) p os A new w
+leads_made set p A K stands own os o tree new u v w m d ne we =
     let c = m.next.command in
     let k = new_op p K.ops m.cursor (mutation_by c) in
     let a = new_op p A.ops m.cursor (mutation_by c) in
     let d0 : Derives (Operate K.tree k) (ToContext tree) (opened (opened m.between R.MakeOp) R.ApplyLocal) v = subst (λ (r : Rows). Derives (Operate K.tree k) (ToContext tree) r v) m.rows (subst (λ (x : Op). Derives (Operate K.tree x) (ToContext tree) u v) m.is d) in
-    let all = make_stands set A K p m.cursor (mutation_by c) tree _ v seen.stands seen.own d0 in
+    let all = make_stands set A K p m.cursor (mutation_by c) tree _ v stands own d0 in
     let after = all.2 in
     let B : State = record (made a tree A) { left = m.next.rest } in
     let is : new ≡ kept_state B = ne ∙ ap (λ (x : Op). record (made_kept x tree K) { left = m.next.rest }) m.is ∙ ap (λ (S : State). record S { left = m.next.rest }) after.is in
     record {
       now = B;
       made = Some a;
-      derives = rw we (executed A p c m.next.rest m.cursor tree os no_rows m.between v (left_seen set p A K seen ∙ m.next.next) m.next.makes (m.evaluates A (has_seen set p A K seen)) all.1);
-      seen = record {
-        stands = record { sound = after.sound; is = is; applied = after.applied; made = after.made; offered = after.offered; received = after.received; knows = after.knows };
-        own = all.3;
-      };
+      derives = rw we (executed A p c m.next.rest m.cursor tree os no_rows m.between v (left_seen set A K stands ∙ m.next.next) m.next.makes (m.evaluates A (has_seen set A K stands)) all.1);
+      stands = record { sound = after.sound; is = is; applied = after.applied; made = after.made; offered = after.offered; received = after.received; knows = after.knows };
+      own = λ were. all.3;
       queue = refl;
       fresh = (all.0, refl);
     }
 
 -- why it is refused
-module _ (set : List Op) (p : ℕ) (A K : State) (seen : IsSeenAs set p A K) (c : Cmd) (rest : List Cmd) (l : K.left ≡ c ∷ rest) (making : IsMaking c) (os : List Op) where
+module _ (set : List Op) (p : ℕ) (A K : State) (stands : StateStandsFor set A K) (c : Cmd) (rest : List Cmd) (l : K.left ≡ c ∷ rest) (making : IsMaking c) (os : List Op) where
   pub refused_first : (why : Cause) → IsRefused K.tree K.vars (expr_by c) why → Refused (Occur A (E.Exec p) os) why
-  refused_first why h = in_command (left_seen set p A K seen ∙ l) (not_yield c making) (in_first (first_is p A c making) (h A (has_seen set p A K seen)))
+  refused_first why h = in_command (left_seen set A K stands ∙ l) (not_yield c making) (in_first (first_is p A c making) (h A (has_seen set A K stands)))
 
   pub refused_bound : (b : Bound) (t u : Rows) → Evaluates K.tree K.vars (expr_by c) b t u → (IsCursor b → ⊥) → Refused (Occur A (E.Exec p) os) (because F.NotACursor)
   refused_bound b t u h n =
-      let d = h A (has_seen set p A K seen) in
-      in_command (left_seen set p A K seen ∙ l) (not_yield c making) (not_a_cursor (first_is p A c making) (wants_cursor p A c making) (record { derivation = d.derivation; holds = d.holds; concludes = d.concludes }) n)
+      let d = h A (has_seen set A K stands) in
+      in_command (left_seen set A K stands ∙ l) (not_yield c making) (not_a_cursor (first_is p A c making) (wants_cursor p A c making) (record { derivation = d.derivation; holds = d.holds; concludes = d.concludes }) n)
 
   pub refused_made : (cursor : Cursor) (t u : Rows) (why : Cause) → Evaluates K.tree K.vars (expr_by c) (ACursor cursor) t u → ((deps : List Id) → Refused (Operate K.tree (with_deps deps (new_op p K.ops cursor (mutation_by c)))) why) → Refused (Occur A (E.Exec p) os) why
   refused_made cursor t u why h r =
-      let d = h A (has_seen set p A K seen) in
-      let for_ops : StandsFor set A.ops K.ops = record { sound = seen.stands.sound; closed = seen.stands.applied; is = ap (λ (S : State). S.ops) seen.stands.is } in
-      let tree : K.tree ≡ A.tree = ap (λ (S : State). S.tree) seen.stands.is in
+      let d = h A (has_seen set A K stands) in
+      let for_ops : StandsFor set A.ops K.ops = record { sound = stands.sound; closed = stands.applied; is = ap (λ (S : State). S.ops) stands.is } in
+      let tree : K.tree ≡ A.tree = ap (λ (S : State). S.tree) stands.is in
       let one : with_deps A.ops (new_op p K.ops cursor (mutation_by c)) ≡ new_op p A.ops cursor (mutation_by c) = ap (λ (n : ℕ). record { id = record { counter = n + 1; replica = p }; deps = A.ops; cursor = cursor; mutation = mutation_by c }) (greatest_stands set A.ops K.ops for_ops) in
       let s : Refused (Operate A.tree (new_op p A.ops cursor (mutation_by c))) why = subst (λ (x : Context). Refused (Operate x (new_op p A.ops cursor (mutation_by c))) why) tree (subst (λ (o : Op). Refused (Operate K.tree o) why) one (r A.ops)) in
-      in_command (left_seen set p A K seen ∙ l) (not_yield c making) (in_making (made_is c making) (record { derivation = d.derivation; holds = d.holds; concludes = d.concludes }) (in_made (in_applied s)))
+      in_command (left_seen set A K stands ∙ l) (not_yield c making) (in_making (made_is c making) (record { derivation = d.derivation; holds = d.holds; concludes = d.concludes }) (in_made (in_applied s)))
 
 -- what is said of a document and variables by other words
 pub evaluated_in : {c d : Context} {vs ws : List (List ℕ × Bound)} {e f : Expr} {b : Bound} {t u : Rows} → c ≡ d → vs ≡ ws → e ≡ f → Evaluates c vs e b t u → Evaluates d ws f b t u

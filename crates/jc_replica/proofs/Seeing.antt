@@ -10,36 +10,35 @@ use Rattle.jc_rules.specs.Table.{both}
 use Rattle.jc_rules.specs.Trace.{Rows, pushed}
 use Rattle.jc_rules.proofs.Steps.{by_axiom}
 use Rattle.jc_cursor.specs.Evaluates.{Has}
-use Rattle.jc_sets.specs.States.{kept_op, kept_state}
+use Rattle.jc_sets.specs.States.{kept_op, kept_state, StateStandsFor}
 use Rattle.jc_sets.proofs.Uniting.{union_stands}
 use Rattle.jc_replica.specs.Past.{no_rows}
-use Rattle.jc_replica.specs.Seen.{IsSeenAs, Leads}
+use Rattle.jc_replica.specs.Seen.{Leads}
 
-module _ (set : List Op) (p : ℕ) (A K : State) (seen : IsSeenAs set p A K) where
+module _ (set : List Op) (A K : State) (stands : StateStandsFor set A K) where
   pub left_seen : A.left ≡ K.left
-  left_seen = ap (λ (S : State). S.left) (sym seen.stands.is)
+  left_seen = ap (λ (S : State). S.left) (sym stands.is)
 
   pub acted_seen : A.acted ≡ K.acted
-  acted_seen = ap (λ (S : State). S.acted) (sym seen.stands.is)
+  acted_seen = ap (λ (S : State). S.acted) (sym stands.is)
 
   pub has_seen : Has K.tree K.vars A
-  has_seen = record { tree = ap (λ (S : State). S.tree) (sym seen.stands.is); vars = ap (λ (S : State). S.vars) (sym seen.stands.is) }
+  has_seen = record { tree = ap (λ (S : State). S.tree) (sym stands.is); vars = ap (λ (S : State). S.vars) (sym stands.is) }
 
+module _ (set : List Op) (p : ℕ) (A K : State) (stands : StateStandsFor set A K) where
   -- offering
   pub leads_sent : (os : List Op) (rest : List Cmd) (new : State) (rows : Rows) → K.left ≡ Yield ∷ rest → both K.send K.queue ≡ K.queue → new ≡ record K { acted = true; send = K.queue } → rows ≡ pushed no_rows R.Send → Leads set (E.Send p) p os A new rows
   leads_sent os rest new rows l b ne re =
       let B : State = record A { acted = true; send = both A.send A.queue } in
-      let u = union_stands set A.send A.queue seen.stands.offered seen.stands.made in
-      let kept : K.queue ≡ map kept_op (both A.send A.queue) = sym b ∙ ap (λ (S : State). both S.send S.queue) seen.stands.is ∙ u.0 in
-      let is : new ≡ kept_state B = ne ∙ ap (λ (q : List Op). record K { acted = true; send = q }) kept ∙ ap (λ (S : State). record S { acted = true; send = map kept_op (both A.send A.queue) }) seen.stands.is in
+      let u = union_stands set A.send A.queue stands.offered stands.made in
+      let kept : K.queue ≡ map kept_op (both A.send A.queue) = sym b ∙ ap (λ (S : State). both S.send S.queue) stands.is ∙ u.0 in
+      let is : new ≡ kept_state B = ne ∙ ap (λ (q : List Op). record K { acted = true; send = q }) kept ∙ ap (λ (S : State). record S { acted = true; send = map kept_op (both A.send A.queue) }) stands.is in
       record {
         now = B;
         made = None;
-        derives = rw re (by_axiom R.Send (Occur A (E.Send p) os) (ToState B) no_rows (rest, left_seen ∙ l, refl, refl));
-        seen = record {
-          stands = record { sound = seen.stands.sound; is = is; applied = seen.stands.applied; made = seen.stands.made; offered = u.1; received = seen.stands.received; knows = seen.stands.knows };
-          own = seen.own;
-        };
+        derives = rw re (by_axiom R.Send (Occur A (E.Send p) os) (ToState B) no_rows (rest, left_seen set A K stands ∙ l, refl, refl));
+        stands = record { sound = stands.sound; is = is; applied = stands.applied; made = stands.made; offered = u.1; received = stands.received; knows = stands.knows };
+        own = λ all. all;
         queue = refl;
         fresh = tt;
       }
@@ -51,11 +50,9 @@ module _ (set : List Op) (p : ℕ) (A K : State) (seen : IsSeenAs set p A K) whe
       record {
         now = B;
         made = None;
-        derives = rw re (by_axiom R.Done (Occur A (E.Done p) os) (ToState B) no_rows (rest, left_seen ∙ l, acted_seen ∙ a, refl, refl));
-        seen = record {
-          stands = record { sound = seen.stands.sound; is = ne ∙ ap (λ (S : State). record S { left = rest; acted = false }) seen.stands.is; applied = seen.stands.applied; made = seen.stands.made; offered = seen.stands.offered; received = seen.stands.received; knows = seen.stands.knows };
-          own = seen.own;
-        };
+        derives = rw re (by_axiom R.Done (Occur A (E.Done p) os) (ToState B) no_rows (rest, left_seen set A K stands ∙ l, acted_seen set A K stands ∙ a, refl, refl));
+        stands = record { sound = stands.sound; is = ne ∙ ap (λ (S : State). record S { left = rest; acted = false }) stands.is; applied = stands.applied; made = stands.made; offered = stands.offered; received = stands.received; knows = stands.knows };
+        own = λ all. all;
         queue = refl;
         fresh = tt;
       }

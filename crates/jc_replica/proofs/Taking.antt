@@ -26,7 +26,7 @@ use Rattle.jc_rules.proofs.Steps.{one_premise}
 use Rattle.jc_rules.proofs.Withdrawn.{lowered-inserted}
 use Rattle.jc_apply.specs.Fits.{IsUnlinked}
 use Rattle.jc_sets.specs.Members.{with_deps}
-use Rattle.jc_sets.specs.States.{kept_op, HasOwn, taken, taken_kept}
+use Rattle.jc_sets.specs.States.{kept_op, StateStandsFor, HasOwn, taken, taken_kept}
 use Rattle.jc_sets.proofs.Applying.{kept_found, of_set, deps_closed, apply_stands}
 use Rattle.jc_replica.specs.declared.record.Change.TheVariants as C
 use Rattle.jc_replica.specs.declared.fault.ReplicaFault.{ReplicaFault}
@@ -39,7 +39,7 @@ use Rattle.jc_replica.specs.Makes.{opened}
 use Rattle.jc_replica.specs.Operations.{IsHanded}
 use Rattle.jc_replica.specs.Past.{Past, no_rows}
 use Rattle.jc_replica.specs.Ready.{IsReady}
-use Rattle.jc_replica.specs.Seen.{IsSeenAs, Leads}
+use Rattle.jc_replica.specs.Seen.{Leads}
 use Rattle.jc_replica.specs.Takes.{Takes}
 use Rattle.jc_replica.specs.Undo.{Held, held, back, state_of}
 use Rattle.jc_replica.proofs.Adding.{counters_after, greatest_after, is_greatest, still_linked}
@@ -65,66 +65,67 @@ pub record StoodFor (A K : State) (i : Id) (k : Op) : Type 0 where
   pub applied : has_id i K.ops ≡ has_id i A.ops
   pub deps : AreIn k.deps K.ops ↔ AreIn operation.deps A.ops
 
-module _ (set : List Op) (p : ℕ) (A K : State) (seen : IsSeenAs set p A K) where
+module _ (set : List Op) (p : ℕ) (A K : State) (stands : StateStandsFor set A K) where
   absent_seen : (i : Id) → op_of i K.recv ≡ None → op_of i A.recv ≡ None
-  absent_seen i h = kept_absent i A.recv (sym (ap (λ (S : State). op_of i S.recv) seen.stands.is) ∙ h)
+  absent_seen i h = kept_absent i A.recv (sym (ap (λ (S : State). op_of i S.recv) stands.is) ∙ h)
 
   pub stood_for : (i : Id) (k : Op) → op_of i K.recv ≡ Some k → StoodFor A K i k
-  stood_for i k h = go (kept_found i A.recv k (sym (ap (λ (S : State). op_of i S.recv) seen.stands.is) ∙ h))
+  stood_for i k h = go (kept_found i A.recv k (sym (ap (λ (S : State). op_of i S.recv) stands.is) ∙ h))
     where
       go : ((o : Op) × (op_of i A.recv ≡ Some o) × (k ≡ kept_op o)) → StoodFor A K i k
       go x =
           let o : Op = x.0 in
-          let of : op_of i set ≡ Some o = of_set set A.recv i o seen.stands.received x.1 in
-          let ops : K.ops ≡ filled A.ops = ap (λ (S : State). S.ops) seen.stands.is in
-          let both = subset_both set o.deps A.ops seen.stands.sound (deps_closed set i o seen.stands.sound of) seen.stands.applied in
+          let of : op_of i set ≡ Some o = of_set set A.recv i o stands.received x.1 in
+          let ops : K.ops ≡ filled A.ops = ap (λ (S : State). S.ops) stands.is in
+          let both = subset_both set o.deps A.ops stands.sound (deps_closed set i o stands.sound of) stands.applied in
           let same : AreIn k.deps K.ops ≡ AreIn (filled o.deps) (filled A.ops) = λ n. AreIn (x.2 n).deps (ops n) in
           record {
             operation = o;
             found = x.1;
             is = x.2;
-            applied = ap (has_id i) ops ∙ counters_tell set A.ops seen.stands.sound seen.stands.applied i o of;
+            applied = ap (has_id i) ops ∙ counters_tell set A.ops stands.sound stands.applied i o of;
             deps = (λ h. both.0 (subst (λ (T : Type 0). T) same h), λ h. subst (λ (T : Type 0). T) (sym same) (both.1 h));
           }
 
   -- why it is refused
   pub refused_absent : (i : Id) (os : List Op) (rest : List Cmd) → K.left ≡ Yield ∷ rest → op_of i K.recv ≡ None → Refused (Occur A (E.Apply p i) os) (because F.NotReceived)
-  refused_absent i os rest l h = not_received (left_seen set p A K seen ∙ l) (absent_seen i h)
+  refused_absent i os rest l h = not_received (left_seen set A K stands ∙ l) (absent_seen i h)
 
   pub refused_applied : (i : Id) (k : Op) (os : List Op) (rest : List Cmd) → K.left ≡ Yield ∷ rest → op_of i K.recv ≡ Some k → has_id i K.ops ≡ true → Refused (Occur A (E.Apply p i) os) (because F.AlreadyApplied)
   refused_applied i k os rest l f h =
       let x = stood_for i k f in
-      already_applied (left_seen set p A K seen ∙ l) x.found (sym x.applied ∙ h)
+      already_applied (left_seen set A K stands ∙ l) x.found (sym x.applied ∙ h)
 
   pub refused_missing : (i : Id) (k : Op) (os : List Op) (rest : List Cmd) → K.left ≡ Yield ∷ rest → op_of i K.recv ≡ Some k → has_id i K.ops ≡ false → (AreIn k.deps K.ops → ⊥) → Refused (Occur A (E.Apply p i) os) (because F.DepsMissing)
   refused_missing i k os rest l f h n =
       let x = stood_for i k f in
-      deps_missing (left_seen set p A K seen ∙ l) x.found (sym x.applied ∙ h) (λ d. n (x.deps.1 d))
+      deps_missing (left_seen set A K stands ∙ l) x.found (sym x.applied ∙ h) (λ d. n (x.deps.1 d))
 
   pub refused_taken : (i : Id) (k : Op) (os : List Op) (why : Cause) → Takes K i k → ((deps : List Id) → Refused (Operate K.tree (with_deps deps k)) why) → Refused (Occur A (E.Apply p i) os) why
   refused_taken i k os why t r =
       let x = stood_for i k t.received in
       let o = x.operation in
-      let tree : K.tree ≡ A.tree = ap (λ (S : State). S.tree) seen.stands.is in
+      let tree : K.tree ≡ A.tree = ap (λ (S : State). S.tree) stands.is in
       let one : with_deps o.deps k ≡ o = ap (with_deps o.deps) x.is in
       let s : Refused (Operate A.tree o) why = subst (λ (c : Context). Refused (Operate c o) why) tree (subst (λ (e : Op). Refused (Operate K.tree e) why) one (r o.deps)) in
-      in_received (left_seen set p A K seen ∙ t.yields) x.found (sym x.applied ∙ t.new) (x.deps.0 t.deps) s
+      in_received (left_seen set A K stands ∙ t.yields) x.found (sym x.applied ∙ t.new) (x.deps.0 t.deps) s
 
   -- the event, from the derivation of the kept operation
-  own_taken : (i : Id) (t : Context) → HasOwn set p (taken i t A)
-  own_taken i t e there own = has_id-with e.id i A.ops ∙ right_in (same_id e.id i) (has_id e.id A.ops) (seen.own e there own)
+  own_taken : (i : Id) (t : Context) → HasOwn set p A → HasOwn set p (taken i t A)
+  own_taken i t all e there own = has_id-with e.id i A.ops ∙ right_in (same_id e.id i) (has_id e.id A.ops) (all e there own)
 
   pub leads_taken : (i : Id) (k : Op) (tree : Context) (os : List Op) (u v : Rows) → Takes K i k → u ≡ opened no_rows R.ApplyRemote → Derives (Operate K.tree k) (ToContext tree) u v → Leads set (E.Apply p i) p os A (taken_kept i tree K) (at_depth 0 v)
   leads_taken i k tree os u v t ue d =
       let d0 : Derives (Operate K.tree k) (ToContext tree) (opened no_rows R.ApplyRemote) v = subst (λ (r : Rows). Derives (Operate K.tree k) (ToContext tree) r v) ue d in
-      let all = apply_stands set A K i k tree (opened no_rows R.ApplyRemote) v seen.stands t.received t.new t.deps d0 in
+      let all = apply_stands set A K i k tree (opened no_rows R.ApplyRemote) v stands t.received t.new t.deps d0 in
       let o : Op = all.0 in
       let B : State = taken i tree A in
       record {
         now = B;
         made = None;
-        derives = one_premise R.ApplyRemote (Occur A (E.Apply p i) os) (ToState B) (Operate A.tree o) (ToContext tree) no_rows v all.4 (t.rest, o, tree, left_seen set p A K seen ∙ t.yields, all.1, all.2, all.3, refl, refl);
-        seen = record { stands = all.5; own = own_taken i tree };
+        derives = one_premise R.ApplyRemote (Occur A (E.Apply p i) os) (ToState B) (Operate A.tree o) (ToContext tree) no_rows v all.4 (t.rest, o, tree, left_seen set A K stands ∙ t.yields, all.1, all.2, all.3, refl, refl);
+        stands = all.5;
+        own = own_taken i tree;
         queue = refl;
         fresh = tt;
       }
@@ -194,7 +195,7 @@ module _ (script : List Cmd) (h : Held) (c : Context) (i : Id) (k : Op) (ready :
       }
 
 pub takes_event : (p : ℕ) (script : List Cmd) (h : Held) (c d : Context) (i : Id) (k : Op) (u v : Rows) → Takes (state_of script h c) i k → u ≡ opened no_rows R.ApplyRemote → Derives (Operate c k) (ToContext d) u v → Leading p (E.Apply p i) [] (state_of script h c) (state_of script (taken_held h i) d) (at_depth 0 v)
-takes_event p script h c d i k u v t ue de set os A seen read = leads_taken set p A (state_of script h c) seen i k d os u v t ue de
+takes_event p script h c d i k u v t ue de set os A stands own read = leads_taken set p A (state_of script h c) stands i k d os u v t ue de
 
 -- the same operation, where the state is seen
 pub takes_again : (K L : State) (i : Id) (k o : Op) → Takes K i k → K ≡ L → op_of i L.recv ≡ Some o → Takes L i o
@@ -232,7 +233,7 @@ some_each (Some why) P Q f h = f why h
 pub refused_all : (old : Past) (i : Id) (k : Op) (c : Context) (fault : ReplicaFault) → c ≡ old.now.tree → Takes old.now i k → IfSome (cause_of fault) (λ why. (deps : List Id) → Refused (Operate c (with_deps deps k)) why) → IsRefused (E.Apply old.number i) [] old fault
 refused_all old i k c fault e t h =
     some_each (cause_of fault) (λ why. (deps : List Id) → Refused (Operate c (with_deps deps k)) why) (RefusedFor (E.Apply old.number i) [] old)
-    (λ why r set os A seen read. refused_taken set old.number A old.now seen i k os why t (subst (λ (x : Context). (deps : List Id) → Refused (Operate x (with_deps deps k)) why) e r)) h
+    (λ why r set os A stands read. refused_taken set old.number A old.now stands i k os why t (subst (λ (x : Context). (deps : List Id) → Refused (Operate x (with_deps deps k)) why) e r)) h
 
 -- what isn't found
 pub none_found : {X : Type 0} (o : Option (Bor X)) → ((x : Bor X) → o ≡ Some x → ⊥) → option_copied o ≡ None

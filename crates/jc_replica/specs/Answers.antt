@@ -12,13 +12,14 @@ use Rattle.jc_apply.specs.declared.apply.ApplyFault.TheVariants as A
 use Rattle.jc_replica.specs.declared.fault.ReplicaFault.{ReplicaFault}
 use Rattle.jc_replica.specs.declared.fault.ReplicaFault.TheVariants as E
 use Rattle.jc_replica.specs.Past.{Past}
-use Rattle.jc_replica.specs.Seen.{IsSeenAs, IsRead, Leads}
+use Rattle.jc_sets.specs.States.{StateStandsFor}
+use Rattle.jc_replica.specs.Seen.{HasOwnFor, IsRead, Leads}
 
 -- One step: in each sound set the event leads by the table from what the old state stands for to what the new one
 -- stands for, with these rules, and the state before it is kept.
 pub record Occurs (event : Event) (read : List Op) (old new : Past) (rows : Rows) : Type 0 where
   pub leads : (set os : List Op) (A : State)
-      → IsSeenAs set old.number A old.now → IsRead set os read
+      → StateStandsFor set A old.now → HasOwnFor event set old.number A → IsRead set os read
       → Leads set event old.number os A new.now rows
   pub earlier : new.earlier ≡ old.earlier ++ old.now ∷ []
   pub number : new.number ≡ old.number
@@ -52,7 +53,7 @@ apply_cause A.Memory = None
 abbrev pub RefusedFor : Event → List Op → Past → Cause → Type 0
 RefusedFor event read old why =
     (set os : List Op) (A : State)
-    → IsSeenAs set old.number A old.now → IsRead set os read
+    → StateStandsFor set A old.now → IsRead set os read
     → Refused (Occur A event os) why
 
 -- the event is refused for the fault's cause, unless memory was refused

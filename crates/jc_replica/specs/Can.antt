@@ -6,8 +6,9 @@ use Rattle.jc_rules.specs.declared.operation.Op.{Op}
 use Rattle.jc_rules.specs.Derivation.{Occur}
 use Rattle.jc_rules.specs.Refused.{Cause, Refused}
 use Rattle.jc_rules.specs.State.{State}
+use Rattle.jc_sets.specs.States.{StateStandsFor}
 use Rattle.jc_replica.specs.Past.{Past}
-use Rattle.jc_replica.specs.Seen.{IsSeenAs, IsRead}
+use Rattle.jc_replica.specs.Seen.{IsRead}
 
 -- what an event may read: whatever is offered where it receives, and else nothing
 abbrev pub MayRead : Event → List Op → Type 0
@@ -18,9 +19,9 @@ MayRead _ read = read ≡ []
 abbrev pub CanOccur : Event → Past → Bool → Type 0
 CanOccur event now true =
     (set os read : List Op) (A : State) (why : Cause)
-    → MayRead event read → IsSeenAs set now.number A now.now → IsRead set os read
+    → MayRead event read → StateStandsFor set A now.now → IsRead set os read
     → Refused (Occur A event os) why → ⊥
 CanOccur event now false =
     (set os read : List Op) (A : State)
-    → MayRead event read → IsSeenAs set now.number A now.now → IsRead set os read
+    → MayRead event read → StateStandsFor set A now.now → IsRead set os read
     → (why : Cause) × Refused (Occur A event os) why

@@ -11,7 +11,6 @@ use crate::record::{Change, Record};
 use crate::replica::Replica;
 use jc_rules::{Id, Op, Rule, Trace};
 use jc_tree::TreeStore;
-use std::alloc::Global;
 
 impl<S: TreeStore> Replica<S> {
     /// The received operation with the identifier, where a yield comes next and all that it depends
@@ -38,20 +37,20 @@ impl<S: TreeStore> Replica<S> {
     /// It is refused, in this order, with `NoCommand` or `NotAtYield` where no yield comes next, `NotReceived`,
     /// `AlreadyApplied`, `DepsMissing` where it depends on one that isn't applied, and `NotInList`. After a
     /// refusal all is as it was.
-    pub fn apply(&mut self, alloc: Global, id: Id) -> Result<Trace, ReplicaFault>
+    pub fn apply(&mut self, id: Id) -> Result<Trace, ReplicaFault>
         ensures { Answers (E.Apply self.old.number id) [] self.old self.new result }
     {
         self.takes(id)?;
         let Some(op) = self.recv.find(id) else {
             unreachable!();
         };
-        let mut trace = Trace::new(alloc);
+        let mut trace = Trace::new(self.alloc);
         trace.open(Rule::ApplyRemote)?;
         self.steps.reserve(1)?;
         let mark = self.store.mark();
         let acted = self.acted;
         let before = self.ops.greatest_of(id.replica);
-        apply_to(alloc, &mut self.store, &mut self.ops, op, &mut trace)?;
+        apply_to(self.alloc, &mut self.store, &mut self.ops, op, &mut trace)?;
         trace.close(0);
         self.acted = true;
         let change = Change::Applied { id, before, acted };

@@ -12,7 +12,7 @@ use crate::replica::Replica;
 use jc_apply::fits;
 use jc_rules::{Event, Id, Trace};
 use jc_tree::TreeStore;
-use std::alloc::{AllocError, Global};
+use std::alloc::AllocError;
 
 /// That an event refused for this can't be made, unless memory was refused.
 fn cannot(fault: ReplicaFault) -> Result<bool, AllocError>
@@ -27,25 +27,25 @@ fn cannot(fault: ReplicaFault) -> Result<bool, AllocError>
 impl<S: TreeStore> Replica<S> {
     /// Whether the event, which is the replica's, can be made: whether its call isn't refused, other
     /// than for want of memory, whatever a replica offers. Only for a command does it take memory.
-    pub fn can(&self, alloc: Global, event: &Event) -> Result<bool, AllocError>
+    pub fn can(&self, event: &Event) -> Result<bool, AllocError>
         requires { replica_of event.now ≡ self.now.number }
         ensures { IfOk result (λ b. CanOccur event.now self.now b) }
     {
-        match self.tells(alloc, event) {
+        match self.tells(event) {
             Ok(can) => Ok(can),
             Err(fault) => cannot(fault),
         }
     }
 
     /// Whether the event can be made, or why it can't.
-    fn tells(&self, alloc: Global, event: &Event) -> Result<bool, ReplicaFault>
+    fn tells(&self, event: &Event) -> Result<bool, ReplicaFault>
         requires { replica_of event.now ≡ self.now.number }
         ensures ok { IfOk result (λ b. CanOccur event.now self.now b) }
         ensures err { IfErr result (λ f. (read : List AnyOp)
             → MayRead event.now read → IsRefused event.now read self.now f) }
     {
         match event {
-            Event::Exec(_) => self.runs(alloc),
+            Event::Exec(_) => self.runs(),
             Event::Apply(_, id) => self.applies(*id),
             Event::Send(_) | Event::Recv(_, _) => {
                 self.at_yield()?;
@@ -59,16 +59,16 @@ impl<S: TreeStore> Replica<S> {
     }
 
     /// Whether the next command can be run, or why it can't.
-    fn runs(&self, alloc: Global) -> Result<bool, ReplicaFault>
+    fn runs(&self) -> Result<bool, ReplicaFault>
         ensures ok { IfOk result (λ b. CanOccur (E.Exec self.now.number) self.now b) }
         ensures err { IfErr result (λ f. IsRefused (E.Exec self.now.number) [] self.now f) }
     {
-        let mut trace = Trace::new(alloc);
+        let mut trace = Trace::new(self.alloc);
         if self.binds_next()? {
-            drop(self.bound_next(alloc, &mut trace)?);
+            drop(self.bound_next(&mut trace)?);
             return Ok(true);
         }
-        let op = self.make_op(alloc, &mut trace)?;
+        let op = self.make_op(&mut trace)?;
         Ok(fits(&self.store, &op.cursor, &op.mutation))
     }
 

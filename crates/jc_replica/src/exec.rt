@@ -17,7 +17,7 @@ use jc_cursor::{Bound, eval};
 use jc_rules::{Id, Mutation, Op, Rule, Text, Trace};
 use jc_syntax::{Cmd, Expr};
 use jc_tree::TreeStore;
-use std::alloc::{AllocError, Global};
+use std::alloc::AllocError;
 
 /// The rule by which the command makes an operation.
 fn rule_of(command: &Cmd) -> Rule
@@ -69,13 +69,16 @@ impl<S: TreeStore> Replica<S> {
     /// comes next, for the first condition that fails in the command's expression, `NotACursor`
     /// where an operation is to be made at what is no cursor, and `NotInList` where an insert has no
     /// place. After a refusal all is as it was.
-    pub fn exec(&mut self, alloc: Global) -> Result<Trace, ReplicaFault>
+    ///
+    /// What is said of the new state rests on all of the replica's own operations being applied, since
+    /// an operation is made with a greater counter than all that was applied. No other event asks it.
+    pub fn exec(&mut self) -> Result<Trace, ReplicaFault>
         ensures { Answers (E.Exec self.old.number) [] self.old self.new result }
     {
         if self.binds_next()? {
-            self.bind(alloc)
+            self.bind()
         } else {
-            self.make(alloc)
+            self.make()
         }
     }
 
@@ -97,11 +100,7 @@ impl<S: TreeStore> Replica<S> {
     }
 
     /// What the next command binds which variable to.
-    pub(crate) fn bound_next(
-        &self,
-        alloc: Global,
-        trace: &mut Trace,
-    ) -> Result<(Text, Bound), ReplicaFault>
+    pub(crate) fn bound_next(&self, trace: &mut Trace) -> Result<(Text, Bound), ReplicaFault>
         requires { BindsNext self.now.now.left }
         ensures ok { IfOk result (λ var. Binds self.now.now var.0 (bound_of var.1) trace.old trace.new) }
         ensures err { IfErr result (λ f. IsRefused (E.Exec self.now.number) [] self.now f) }
@@ -112,17 +111,17 @@ impl<S: TreeStore> Replica<S> {
         trace.open(Rule::Exec)?;
         trace.open(Rule::Let)?;
         let copy = name.copy()?;
-        let bound = eval(alloc, &self.store, self.vars.as_slice(), expr, trace)?;
+        let bound = eval(self.alloc, &self.store, self.vars.as_slice(), expr, trace)?;
         Ok((copy, bound))
     }
 
     /// Runs the next command, which binds a variable.
-    fn bind(&mut self, alloc: Global) -> Result<Trace, ReplicaFault>
+    fn bind(&mut self) -> Result<Trace, ReplicaFault>
         requires { BindsNext self.old.now.left }
         ensures { Answers (E.Exec self.old.number) [] self.old self.new result }
     {
-        let mut trace = Trace::new(alloc);
-        let (name, bound) = self.bound_next(alloc, &mut trace)?;
+        let mut trace = Trace::new(self.alloc);
+        let (name, bound) = self.bound_next(&mut trace)?;
         self.steps.reserve(1)?;
         let mark = self.store.mark();
         let (place, before) = bind_var(&mut self.vars, name, bound)?;
@@ -134,7 +133,7 @@ impl<S: TreeStore> Replica<S> {
     }
 
     /// The operation that the next command makes.
-    pub(crate) fn make_op(&self, alloc: Global, trace: &mut Trace) -> Result<Op, ReplicaFault>
+    pub(crate) fn make_op(&self, trace: &mut Trace) -> Result<Op, ReplicaFault>
         requires { MakesNext self.now.now.left }
         ensures ok { IfOk result (λ op. Makes self.now.now self.now.number op trace.old trace.new) }
         ensures err { IfErr result (λ f. IsRefused (E.Exec self.now.number) [] self.now f) }
@@ -143,7 +142,7 @@ impl<S: TreeStore> Replica<S> {
         trace.open(Rule::Exec)?;
         trace.open(rule_of(command))?;
         let bound = eval(
-            alloc,
+            self.alloc,
             &self.store,
             self.vars.as_slice(),
             place_of(command),
@@ -166,18 +165,18 @@ impl<S: TreeStore> Replica<S> {
     }
 
     /// Runs the next command, which makes an operation.
-    fn make(&mut self, alloc: Global) -> Result<Trace, ReplicaFault>
+    fn make(&mut self) -> Result<Trace, ReplicaFault>
         requires { MakesNext self.old.now.left }
         ensures { Answers (E.Exec self.old.number) [] self.old self.new result }
     {
-        let mut trace = Trace::new(alloc);
-        let op = self.make_op(alloc, &mut trace)?;
+        let mut trace = Trace::new(self.alloc);
+        let op = self.make_op(&mut trace)?;
         self.steps.reserve(1)?;
         self.queue.reserve(1)?;
         let mark = self.store.mark();
         let id = op.id;
         let before = self.ops.greatest_of(id.replica);
-        apply_to(alloc, &mut self.store, &mut self.ops, &op, &mut trace)?;
+        apply_to(self.alloc, &mut self.store, &mut self.ops, &op, &mut trace)?;
         trace.close(0);
         self.done += 1;
         self.queue.push(op).unwrap();

@@ -1,6 +1,6 @@
 //! Why events of a replica are refused.
 
-ghost use Rattle.std.specs.Prelude.{◌≡◌};
+ghost use Rattle.std.specs.Prelude.{◌≡◌, IfOk};
 ghost use Rattle.jc_cursor.specs.Evaluates.{cause_of as eval_cause};
 ghost use Rattle.jc_replica.specs.declared.fault.ReplicaFault.TheVariants.{Memory as NoMemory};
 ghost use Rattle.jc_replica.specs.Answers.{cause_of, apply_cause};
@@ -47,6 +47,33 @@ pub enum ReplicaFault {
     DepsMissing,
     /// There was no memory.
     Memory,
+}
+
+impl ReplicaFault {
+    /// A copy.
+    pub fn copy(&self) -> Result<Self, AllocError>
+        ensures { IfOk result (λ fault. fault ≡ self.now) }
+    {
+        match self {
+            ReplicaFault::NotInList => Ok(ReplicaFault::NotInList),
+            ReplicaFault::UnboundVariable => Ok(ReplicaFault::UnboundVariable),
+            ReplicaFault::GetOnHead => Ok(ReplicaFault::GetOnHead),
+            ReplicaFault::NotACursor => Ok(ReplicaFault::NotACursor),
+            ReplicaFault::NoSuchNode(key) => Ok(ReplicaFault::NoSuchNode(key.copy()?)),
+            ReplicaFault::PastEnd => Ok(ReplicaFault::PastEnd),
+            ReplicaFault::NoMap => Ok(ReplicaFault::NoMap),
+            ReplicaFault::NoRegister => Ok(ReplicaFault::NoRegister),
+            ReplicaFault::TooDeep => Ok(ReplicaFault::TooDeep),
+            ReplicaFault::NoCommand => Ok(ReplicaFault::NoCommand),
+            ReplicaFault::AtYield => Ok(ReplicaFault::AtYield),
+            ReplicaFault::NotAtYield => Ok(ReplicaFault::NotAtYield),
+            ReplicaFault::NotActed => Ok(ReplicaFault::NotActed),
+            ReplicaFault::NotReceived => Ok(ReplicaFault::NotReceived),
+            ReplicaFault::AlreadyApplied => Ok(ReplicaFault::AlreadyApplied),
+            ReplicaFault::DepsMissing => Ok(ReplicaFault::DepsMissing),
+            ReplicaFault::Memory => Ok(ReplicaFault::Memory),
+        }
+    }
 }
 
 impl From<AllocError> for ReplicaFault {

@@ -10,7 +10,6 @@ use crate::record::{Change, Record};
 use crate::replica::Replica;
 use jc_rules::{Op, Rule, Trace};
 use jc_tree::TreeStore;
-use std::alloc::Global;
 
 impl<S: TreeStore> Replica<S> {
     /// Takes in what a replica offers, its own operations by identifier, and gives the trace of the
@@ -18,17 +17,17 @@ impl<S: TreeStore> Replica<S> {
     ///
     /// It is refused with `NoCommand` or `NotAtYield` where no yield comes next. After a refusal all
     /// is as it was.
-    pub fn recv(&mut self, alloc: Global, ops: &[Op]) -> Result<Trace, ReplicaFault>
+    pub fn recv(&mut self, ops: &[Op]) -> Result<Trace, ReplicaFault>
         requires order { AreInOrder ops.now }
         requires handed { AreHanded ops.now }
         requires own { AreOfOne ops.now }
         ensures { (q : ℕ) → Answers (E.Recv self.old.number q) ops.now self.old self.new result }
     {
         self.at_yield()?;
-        let mut trace = Trace::new(alloc);
+        let mut trace = Trace::new(self.alloc);
         trace.push(Rule::Recv)?;
         self.steps.reserve(1)?;
-        let came = self.recv.unite(alloc, ops)?;
+        let came = self.recv.unite(self.alloc, ops)?;
         let mark = self.store.mark();
         let acted = self.acted;
         self.acted = true;
@@ -38,15 +37,15 @@ impl<S: TreeStore> Replica<S> {
     }
 
     /// Takes in what the replica itself offers, as `recv` does.
-    pub fn recv_own(&mut self, alloc: Global) -> Result<Trace, ReplicaFault>
+    pub fn recv_own(&mut self) -> Result<Trace, ReplicaFault>
         requires { AreHanded self.old.now.send }
         ensures { Answers (E.Recv self.old.number self.old.number) self.old.now.send self.old self.new result }
     {
         self.at_yield()?;
-        let mut trace = Trace::new(alloc);
+        let mut trace = Trace::new(self.alloc);
         trace.push(Rule::Recv)?;
         self.steps.reserve(1)?;
-        let came = self.recv.unite(alloc, &self.queue[..self.sent])?;
+        let came = self.recv.unite(self.alloc, &self.queue[..self.sent])?;
         let mark = self.store.mark();
         let acted = self.acted;
         self.acted = true;

@@ -36,6 +36,7 @@ pub struct Replica<S: TreeStore> {
     /// The operations received, by identifier.
     pub(crate) recv: Received,
     pub(crate) steps: Vec<Record>,
+    pub(crate) alloc: Global,
 }
 
 impl<S: TreeStore> Model for Replica<S> {
@@ -76,6 +77,7 @@ impl<S: TreeStore> Replica<S> {
             sent: 0,
             recv: Received::new(alloc),
             steps: Vec::new(alloc),
+            alloc,
         }
     }
 

@@ -15,7 +15,6 @@ use crate::replica::Replica;
 use jc_rules::{Rule, Trace};
 use jc_syntax::Cmd;
 use jc_tree::TreeStore;
-use std::alloc::Global;
 
 /// Whether the command is `yield`.
 pub fn is_yield(command: &Cmd) -> bool
@@ -49,11 +48,11 @@ impl<S: TreeStore> Replica<S> {
     ///
     /// It is refused with `NoCommand` or `NotAtYield` where no yield comes next. After a refusal all
     /// is as it was.
-    pub fn send(&mut self, alloc: Global) -> Result<Trace, ReplicaFault>
+    pub fn send(&mut self) -> Result<Trace, ReplicaFault>
         ensures { Answers (E.Send self.old.number) [] self.old self.new result }
     {
         self.at_yield()?;
-        let mut trace = Trace::new(alloc);
+        let mut trace = Trace::new(self.alloc);
         trace.push(Rule::Send)?;
         self.steps.reserve(1)?;
         let record = Record {
@@ -73,14 +72,14 @@ impl<S: TreeStore> Replica<S> {
     ///
     /// It is refused, in this order, with `NoCommand` or `NotAtYield` where no yield comes next, and
     /// `NotActed` where no event of the yield was made. After a refusal all is as it was.
-    pub fn done(&mut self, alloc: Global) -> Result<Trace, ReplicaFault>
+    pub fn done(&mut self) -> Result<Trace, ReplicaFault>
         ensures { Answers (E.Done self.old.number) [] self.old self.new result }
     {
         self.at_yield()?;
         if !self.acted {
             return Err(ReplicaFault::NotActed);
         }
-        let mut trace = Trace::new(alloc);
+        let mut trace = Trace::new(self.alloc);
         trace.push(Rule::Done)?;
         self.steps.reserve(1)?;
         let record = Record {

@@ -7,3 +7,4 @@ mod Handing
 mod Schedules
 mod Reporting
 mod Crossing
+mod Asking

@@ -1,5 +1,5 @@
 -- What the passes tell of the history that the closed bench gives.
-use Rattle.std.proofs.Common.{rules, arith, ◌≡◌, ℕ, zero, suc, ◌+◌, ◌≤◌, ◌<◌, List, [], ◌∷◌, ◌++◌, refl, sym, ◌∙◌, ap, subst, Bool, true, false, nat_eq, length, length-append, sum, map, get_or, inl, inr, slice_get, slice_set}
+use Rattle.std.proofs.Common.{rules, arith, ◌≡◌, ℕ, zero, suc, ◌+◌, ◌≤◌, ◌<◌, List, [], ◌∷◌, ◌++◌, refl, sym, ◌∙◌, ap, subst, Bool, true, false, nat_eq, length, length-append, append-nil, sum, map, get_or, inl, inr, slice_get, slice_set}
 use Rattle.std.specs.Prelude.{All}
 use Rattle.std.specs.List.{range_with_len}
 use Rattle.std.proofs.lemmas.List.Elements.{All-nil, All-cons, All-head, All-tail, All-get_or}
@@ -17,7 +17,7 @@ use Rattle.jc_runner.specs.declared.worker.End.TheVariants as N
 use Rattle.jc_network.specs.Laws.{starts}
 use Rattle.jc_runner.specs.Legal.{IsLegal, own_events}
 use Rattle.jc_runner.specs.Benches.{bench_start}
-use Rattle.jc_runner.specs.Worked.{IsFinishedAfter, EndsWith, HaveWorked}
+use Rattle.jc_runner.specs.Worked.{IsFinishedAfter, ChoosesAfter, EndsWith, HaveWorked}
 use Rattle.std.proofs.lemmas.List.{get_or-map, length-map}
 use Rattle.std.proofs.lemmas.List.Sums.{sum_by-cons}
 use Rattle.std.proofs.lemmas.Option.{get_or_from_slice_get}
@@ -71,6 +71,10 @@ finished_in s p seen schedule M finished begins same legal =
       none_left = finished.none_left;
     }
 
+none_of : (es : List Event) → length es ≡ 0 → es ≡ []
+none_of [] none = refl
+none_of (e ∷ es) none = absurd (omega (arith, none))
+
 pub has_end : (s : Scenario) (p limit : ℕ) (seen mine schedule : List Event) (M : List State) (end : End) → IsWellFormed s → p < length s.scripts → EndsWith s p limit seen mine end → own_events seen p ≡ mine → IsPrefix seen schedule → own_events schedule p ≡ mine → IsLegal schedule s M → length schedule ≤ 100000
     → HasEnd s p limit schedule M end
 has_end s p limit seen mine schedule M N.Finished well low ends own begins owned legal small =
@@ -81,8 +85,14 @@ has_end s p limit seen mine schedule M (N.StuckAt stuck) well low ends own begin
 )
 has_end s p limit seen mine schedule M N.LimitReached well low (inl made) own begins owned legal small = inl (ap length owned ∙ made)
 has_end s p limit seen mine schedule M N.LimitReached well low (inr full) own begins owned legal small =
-    inr (let long = ap length begins.1 in omega (arith, full, small, long, length-append seen begins.0))
-has_end s p limit seen mine schedule M N.NoMemory well low ends own begins owned legal small = tt
+    let long = ap length begins.1 in
+    let none : begins.0 ≡ [] = none_of begins.0 (omega (arith, full.0, small, long, length-append seen begins.0)) in
+    let same : seen ≡ schedule = sym (append-nil seen) ∙ (ap (λ l. seen ++ l) (sym none) ∙ begins.1) in
+    inr (subst (λ (l : List Event). (length l ≡ 100000) × ChoosesAfter s p l) same full)
+has_end s p limit seen mine schedule M N.NoMemory well low ends own begins owned legal small = (
+  record { front = seen; begins = begins; has_all = own ∙ sym owned; room = ends.2; chooses = ends.0 },
+  omega (arith, ap length owned, ends.1),
+)
 
 -- a list that is known by its places
 pub numbered : {X : Type 0} → (f : X → ℕ) (a n : ℕ) (xs : List X) → length xs ≡ n → ((k : ℕ) (d : X) → k < n → f (get_or xs k d) ≡ a + k) → map f xs ≡ range_with_len a n

@@ -27,7 +27,7 @@ use Rattle.jc_runner.specs.declared.worker.End.{End}
 use Rattle.jc_runner.specs.declared.worker.End.TheVariants as Ends
 use Rattle.jc_runner.specs.declared.worker.Worked.{Worked}
 use Rattle.jc_runner.specs.Answers.{IsAnswered, IsSpent, seen_after}
-use Rattle.jc_runner.specs.Worked.{IsFinishedAfter, IsStuckAfter, EndsWith, IsWorked, end_of}
+use Rattle.jc_runner.specs.Worked.{IsFinishedAfter, IsStuckAfter, ChoosesAfter, EndsWith, IsWorked, end_of}
 use Rattle.jc_runner.proofs.Histories.{chosen_longer, same_number, last_more}
 use Rattle.jc_runner.proofs.Choices.{choice_is, none_chosen}
 
@@ -59,6 +59,15 @@ pub is_finished : (s : Scenario) (p : ℕ) (history : List Event) (N : List Stat
 is_finished s p history N phase legal low is =
     let at = none_chosen N p phase (omega (arith, as_many s history N legal, low)) is in
     record { network = N; state = at.0; legal = legal; is_there = at.1; none_left = at.2 }
+
+pub chooses_after : (s : Scenario) (p : ℕ) (history mine : List Event) (N : List State) (phase next : Phase) (e : Event)
+    → IsLegal history s N → own_events history p ≡ mine → phase ≡ phase_after (last_of mine) → choice N p phase ≡ Some (e, next) → ChoosesAfter s p history
+chooses_after s p history mine N phase next e legal own at is = record {
+  network = N;
+  event = e;
+  legal = legal;
+  is_chosen = (λ i. event_in (choice N p (phase_after (last_of (own i))))) ∙ (ap (λ ph. event_in (choice N p ph)) (sym at) ∙ ap event_in is);
+}
 
 pub is_stuck_after : (s : Scenario) (p : ℕ) (history mine : List Event) (N : List State) (phase next : Phase) (e : Event) (M : List State) (stuck : Stuck)
     → IsLegal history s N → own_events history p ≡ mine → phase ≡ phase_after (last_of mine) → choice N p phase ≡ Some (e, next) → IsLegal history s M → IsStuckFor M e stuck → IsStuckAfter s p history stuck
@@ -111,8 +120,9 @@ module _ (s : Scenario) (p limit : ℕ) (history mine : List Event) (N : List St
       let stuck_after = is_stuck_after s p history mine N phase next e h.0.network stuck legal own at is other h.0.is_stuck in
       (same, subst (EndsWith s p limit history mine) (same_Some (Ends.StuckAt stuck) end some) (stuck_after, low, subst (λ (l : List Event). length l < 100000) same h.0.room))
   ends_by (A.Full front) end some waited h same =
-      (same, subst (EndsWith s p limit history mine) (same_Some Ends.LimitReached end some) (inr (ap length (sym same) ∙ h.1)))
-  ends_by A.Memory end some waited h same = (same, subst (EndsWith s p limit history mine) (same_Some Ends.NoMemory end some) tt)
+      (same, subst (EndsWith s p limit history mine) (same_Some Ends.LimitReached end some) (inr (ap length (sym same) ∙ h.1, chooses_after s p history mine N phase next e legal own at is)))
+  ends_by A.Memory end some waited h same =
+      (same, subst (EndsWith s p limit history mine) (same_Some Ends.NoMemory end some) (chooses_after s p history mine N phase next e legal own at is, low, subst (λ (l : List Event). length l < 100000) same h.0))
   ends_by A.Spent end some waited h same = absurd (waited tt)
 
 pub same_start : (r : Recording) (s : Scenario) (o : Option Scenario) → o ≡ Some r.start → o ≡ Some s → r.start ≡ s

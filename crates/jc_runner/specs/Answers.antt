@@ -41,7 +41,8 @@ IsAnswered s e seen mine new_mine left new_left (A.Refused front stuck) =
     IsRefused s e seen mine new_mine front stuck × (new_left + 1 ≡ left)
 IsAnswered s e seen mine new_mine left new_left (A.Full front) =
     (front ≡ 100000) × (length seen ≡ 100000) × (new_mine ≡ mine) × (new_left + 1 ≡ left)
-IsAnswered s e seen mine new_mine left new_left A.Memory = (new_mine ≡ mine) × (new_left + 1 ≡ left)
+IsAnswered s e seen mine new_mine left new_left A.Memory =
+    (length seen < 100000) × (new_mine ≡ mine) × (new_left + 1 ≡ left)
 IsAnswered s e seen mine new_mine left new_left A.Spent = (new_mine ≡ mine) × (new_left ≡ left)
 
 -- the history after the answer

@@ -1,7 +1,7 @@
 -- What contracts see of a bench and of its passes.
-use Rattle.std.specs.Prelude.{◌≡◌, ℕ, ◌≤◌, ◌<◌, Some}
+use Rattle.std.specs.Prelude.{◌≡◌, ℕ, ◌≤◌, ◌<◌}
 use Rattle.jc_lock.specs.declared.lock.Pass.{Pass}
-use Rattle.jc_lock.specs.Shows.{IsPassOf, IsNewPass, IsSameLock, lock_passes, opened_value, pass_number, pass_origin}
+use Rattle.jc_lock.specs.Shows.{IsPassOf, IsNewPass, IsSameLock, lock_passes, opened_value, pass_number}
 use Rattle.jc_rules.specs.declared.operation.Event.{Event}
 use Rattle.jc_scenario.specs.Scenarios.{Scenario}
 use Rattle.jc_runner.specs.declared.bench.Bench.{Bench}
@@ -27,8 +27,7 @@ IsPassAt bench pass = IsPassOf bench.lock pass
 
 -- a pass of the bench for replica p
 abbrev pub IsPassFor : Bench → ℕ → ReplicaPass → Type 0
-IsPassFor bench p pass =
-    IsPassAt bench pass × (pass_number pass ≡ p) × (pass_origin pass ≡ Some (bench_start bench))
+IsPassFor bench p pass = IsPassAt bench pass × (pass_number pass ≡ p)
 
 -- a pass of the bench that has made no take and has seen nothing
 abbrev pub IsNewAt : Bench → ℕ → ReplicaPass → Type 0

@@ -14,7 +14,7 @@ use Rattle.jc_runner.specs.declared.run.RunFault.{RunFault}
 use Rattle.jc_runner.specs.declared.run.RunFault.TheVariants as R
 use Rattle.jc_runner.specs.Laws.{with_schedule}
 use Rattle.jc_runner.specs.Legal.{IsLegal, AllChosen, own_events}
-use Rattle.jc_runner.specs.Worked.{IsStuckAfter}
+use Rattle.jc_runner.specs.Worked.{IsStuckAfter, ChoosesAfter}
 
 -- no command of replica p is left in the network
 pub record IsFinishedIn (network : List State) (p : ℕ) : Type 0 where
@@ -32,15 +32,25 @@ pub record IsStuckIn (s : Scenario) (p : ℕ) (schedule : List Event) (stuck : S
   pub is_stuck : IsStuckAfter s p front stuck
   pub named : AreNamed is_stuck.event (length s.names)
 
--- What the end of replica p says of the schedule and of the network to which it leads. Whether its script has ended, or
--- its next event is stuck, the replica learns by one more take than it has made events.
+-- Replica p chooses an event, for which memory was wanting, after a beginning of the schedule that has all events of p,
+-- and isn't as long as a schedule can be.
+pub record IsHaltedIn (s : Scenario) (p : ℕ) (schedule : List Event) : Type 0 where
+  pub front : List Event
+  pub begins : IsPrefix front schedule
+  pub has_all : own_events front p ≡ own_events schedule p
+  pub room : length front < 100000
+  pub chooses : ChoosesAfter s p front
+
+-- What the end of replica p says of the schedule and of the network to which it leads. Whether its script has ended, its
+-- next event is stuck, or memory is wanting for it, the replica learns by one more take than it has made events.
 abbrev pub HasEnd : Scenario → ℕ → ℕ → List Event → List State → End → Type 0
 HasEnd s p limit schedule network N.Finished = IsFinishedIn network p × (length (own_events schedule p) < limit)
 HasEnd s p limit schedule network (N.StuckAt stuck) =
     IsStuckIn s p schedule stuck × (length (own_events schedule p) < limit)
 HasEnd s p limit schedule network N.LimitReached =
-    (length (own_events schedule p) ≡ limit) ⊎ (length schedule ≡ 100000)
-HasEnd s p limit schedule network N.NoMemory = Unit {0}
+    (length (own_events schedule p) ≡ limit) ⊎ ((length schedule ≡ 100000) × ChoosesAfter s p schedule)
+HasEnd s p limit schedule network N.NoMemory =
+    IsHaltedIn s p schedule × (length (own_events schedule p) < limit)
 
 -- of replica p: how many events it made, that it chose each, and how it ended
 pub record HasWorked (s : Scenario) (limit : ℕ) (r : Report) (p : ℕ) : Type 0 where

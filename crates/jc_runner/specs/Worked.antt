@@ -33,14 +33,24 @@ pub record IsStuckAfter (s : Scenario) (p : ℕ) (history : List Event) (stuck :
   pub is_chosen : chosen network p (last_of (own_events history p)) ≡ Some event
   pub is_stuck : IsStuckFor network event stuck
 
--- What each end says of the history that was seen, and of the pass's own events. That the script has ended, or that the
--- next event is stuck, is found in a take of its own, and with 100,000 events no event is stuck.
+-- after the history replica p chooses an event
+pub record ChoosesAfter (s : Scenario) (p : ℕ) (history : List Event) : Type 0 where
+  pub network : List State
+  pub event : Event
+  pub legal : IsLegal history s network
+  pub is_chosen : chosen network p (last_of (own_events history p)) ≡ Some event
+
+-- What each end says of the history that was seen, and of the pass's own events. That the script has ended, that the
+-- next event is stuck, or that memory is wanting for it, is found in a take of its own. With 100,000 events no event is
+-- stuck, and no memory is asked for.
 abbrev pub EndsWith : Scenario → ℕ → ℕ → List Event → List Event → End → Type 0
 EndsWith s p limit seen mine N.Finished = IsFinishedAfter s p seen × (length mine < limit)
 EndsWith s p limit seen mine (N.StuckAt stuck) =
     IsStuckAfter s p seen stuck × (length mine < limit) × (length seen < 100000)
-EndsWith s p limit seen mine N.LimitReached = (length mine ≡ limit) ⊎ (length seen ≡ 100000)
-EndsWith s p limit seen mine N.NoMemory = Unit {0}
+EndsWith s p limit seen mine N.LimitReached =
+    (length mine ≡ limit) ⊎ ((length seen ≡ 100000) × ChoosesAfter s p seen)
+EndsWith s p limit seen mine N.NoMemory =
+    ChoosesAfter s p seen × (length mine < limit) × (length seen < 100000)
 
 -- How a thread ends by an answer; it goes on where the event was made.
 abbrev pub end_of : StepAnswer → Option End

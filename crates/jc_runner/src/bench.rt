@@ -51,13 +51,13 @@ pub enum StepAnswer {
 }
 
 impl Bench {
-    ghost use Rattle.std.specs.Prelude.{◌≡◌, ◌+◌, ◌<◌, ◌≤◌, ◌↔◌, length, All, map, IfOk, IfErr, IsOk};
+    ghost use Rattle.std.specs.Prelude.{◌≡◌, ◌+◌, ◌<◌, ◌≤◌, ◌↔◌, length, All, map, IfOk, IfErr, IsOk, IsSome, Some};
     ghost use Rattle.std.specs.List.{range_with_len};
     ghost use mathlib.Core.List.{IsPrefix};
     ghost use Rattle.jc_rules.specs.Step.{replica_of};
     ghost use Rattle.jc_lock.specs.Numbers.{EachOnce};
     ghost use Rattle.jc_lock.specs.Shows.{IsTurnOf, pass_number, pass_left, pass_origin, pass_seen, pass_mine, turn_number, turn_left, turn_origin, turn_seen, turn_mine, turn_value};
-    ghost use Rattle.jc_scenario.specs.Scenarios.{IsWellFormed};
+    ghost use Rattle.jc_scenario.specs.Scenarios.{Scenario as Start, IsWellFormed};
     ghost use Rattle.jc_scenario.specs.Views.{scenario_view};
     ghost use Rattle.jc_runner.specs.Answers.{IsAnswered, IsSpent, seen_after};
     ghost use Rattle.jc_runner.specs.Benches.{IsPassAt, IsPassFor, IsNewAt, IsSameBench, IsOpenFault, bench_start, bench_passes};
@@ -78,6 +78,7 @@ impl Bench {
         ensures numbers { IfOk result (λ r.
             map pass_number r.1.items ≡ range_with_len 0 (length (scenario_view scenario).scripts)) }
         ensures new { IfOk result (λ r. All (IsNewAt r.0 limit) r.1.items) }
+        ensures own { IfOk result (λ r. All (λ p. own_events (pass_seen p) (pass_number p) ≡ pass_mine p) r.1.items) }
         ensures limit { IfOk result (λ r. limit ≤ 100000) }
         ensures refused { IfErr result (λ fault. IsOpenFault fault limit) }
     {
@@ -130,17 +131,22 @@ impl Bench {
     }
 
     /// Waits for the pass's turn, and makes the event there, which must be of the pass's replica. The pass comes back with
-    /// a take less, and has then seen the history as the answer found it or made it.
+    /// a take less, and has then seen the history as the answer found it or made it. That history leads from the start of
+    /// the scenario with which the pass began.
     ///
     /// `Spent` exactly where the pass has made its takes: then it doesn't wait, and the pass comes back as it was.
     pub fn step<R: Wait>(&self, rt: &R, pass: Pass, event: &Event) -> (Pass, StepAnswer)
         requires { IsPassFor self.now (replica_of event.now) pass }
         ensures pass { IsPassFor self.now (replica_of event.now) result.0 }
+        ensures origin { pass_origin result.0 ≡ pass_origin pass }
         ensures seen { IsPrefix (pass_seen pass) (pass_seen result.0) }
+        ensures own { own_events (pass_seen result.0) (pass_number result.0) ≡ pass_mine result.0 }
         ensures when { IsSpent result.1 ↔ (pass_left pass ≡ 0) }
         ensures spent { IsSpent result.1 → result.0 ≡ pass }
-        ensures answer { IsAnswered (bench_start self.now) event.now (pass_seen result.0)
+        ensures answer { (s : Start) → pass_origin pass ≡ Some s
+            → IsAnswered s event.now (pass_seen result.0)
             (pass_mine pass) (pass_mine result.0) (pass_left pass) (pass_left result.0) result.1 }
+        ensures begun { (IsSpent result.1 → ⊥) → IsSome (pass_origin pass) }
     {
         match self.lock.take(rt, pass) {
             Ok(turn) => self.make(turn, event),
@@ -157,6 +163,7 @@ impl Bench {
         ensures number { (pass_number pass.new ≡ pass_number pass.old) × (pass_left pass.new ≡ pass_left pass.old) }
         ensures origin { pass_origin pass.new ≡ pass_origin pass.old }
         ensures mine { pass_mine pass.new ≡ pass_mine pass.old }
+        ensures own { own_events (pass_seen pass.new) (pass_number pass.new) ≡ pass_mine pass.new }
     {
         self.lock.count(pass)
     }

@@ -1,5 +1,5 @@
 //! A network beside the events that led to it.
-ghost use Rattle.std.specs.Prelude.{◌≡◌, ◌<◌, ◌∷◌, [], ◌++◌, length, IfOk, OnOk, OnErr, IsErrOf};
+ghost use Rattle.std.specs.Prelude.{◌≡◌, ◌<◌, ◌∷◌, [], ◌++◌, ◌↔◌, length, IfOk, OnOk, OnErr, IsErrOf};
 ghost use Rattle.jc_rules.specs.Step.{Step, replica_of};
 ghost use Rattle.jc_network.specs.declared.fault.StepFault.TheVariants as Fault;
 ghost use Rattle.jc_network.specs.declared.fault.Stuck.{Stuck as AnyStuck};
@@ -10,6 +10,9 @@ use jc_network::{Net, StepFault};
 use jc_rules::{Event, Trace};
 use jc_scenario::Scenario;
 use std::marker::Model;
+
+/// The most events of a network.
+const MOST_EVENTS: usize = 100_000;
 
 /// A network, the events that were made from a scenario's start, and the scenario. The events lead to the network: the
 /// type keeps it. They are 100,000 at most.
@@ -75,7 +78,8 @@ impl Recorded {
             Step self.old.net.network event.now self.new.net.network trace.rows) }
         ensures made { OnOk result (self.new.schedule ≡ self.old.schedule ++ event.now ∷ []) }
         ensures same { OnErr result (self.new ≡ self.old) }
-        ensures full { IsErrOf result Fault.Full → length self.old.schedule ≡ 100000 }
+        ensures full { IsErrOf result Fault.Full ↔ (length self.old.schedule ≡ 100000) }
+        ensures memory { IsErrOf result Fault.Memory → length self.old.schedule < 100000 }
         ensures stuck { (s : AnyStuck) → IsErrOf result (Fault.Stuck s)
             → IsStuckFor self.old.net.network event.now s }
         ensures room { (s : AnyStuck) → IsErrOf result (Fault.Stuck s) → length self.old.schedule < 100000 }
@@ -85,7 +89,11 @@ impl Recorded {
             schedule,
             start: _,
         } = self;
-        // Room for the record comes first, so that nothing is refused once the event is made.
+        // Where no more events may be made, no memory is asked for.
+        if schedule.len() >= MOST_EVENTS {
+            return Err(StepFault::Full);
+        }
+        // Room for the record comes before the event, so that nothing is refused once it is made.
         if schedule.reserve(1).is_err() {
             return Err(StepFault::Memory);
         }

@@ -4,6 +4,7 @@ ghost use Rattle.jc_scenario.specs.Scenarios.{IsWellFormed};
 ghost use Rattle.jc_scenario.specs.Views.{scenario_view};
 ghost use Rattle.jc_runner.specs.Worked.{HaveWorked, CanStart};
 ghost use Rattle.jc_runner.specs.Reports.{IsReport, IsRunFault, IsLateFault};
+ghost use Rattle.jc_runner.specs.declared.run.RunFault.TheVariants.{Memory as WantOfMemory, NoThread as WantOfThread};
 
 use crate::bench::{Bench, BenchFault, Pass};
 use crate::recorded::Recorded;
@@ -11,11 +12,11 @@ use crate::worker::{End, Gate, Worked, work};
 use jc_network::Net;
 use jc_rules::Event;
 use jc_scenario::Scenario;
-use std::alloc::Global;
+use std::alloc::{AllocError, Global};
 use std::snapshot::Snapshot;
 use std::sync::Wait;
 use std::thread;
-use std::thread::{Promise, PromisedHandle, Scope, Threads, join_promised};
+use std::thread::{Promise, PromisedHandle, Scope, SpawnError, Threads, join_promised};
 
 /// Why there is no report.
 #[derive(Drop)]
@@ -28,6 +29,23 @@ pub enum RunFault {
     Memory,
     /// 47: a thread can't be made, for whatever cause.
     NoThread,
+}
+
+impl From<AllocError> for RunFault {
+    ghost from_gives = { λ _ fault. fault ≡ WantOfMemory };
+
+    fn from(_: AllocError) -> Self {
+        RunFault::Memory
+    }
+}
+
+// A refused start tells no cause.
+impl<F: Drop> From<SpawnError<F>> for RunFault {
+    ghost from_gives = { λ _ fault. fault ≡ WantOfThread };
+
+    fn from(_: SpawnError<F>) -> Self {
+        RunFault::NoThread
+    }
 }
 
 /// What a replica's thread promises.
@@ -65,9 +83,7 @@ fn start_all<'s, E, R: Threads + Wait + Sync, G: Gate + Send + Drop + 's>(
     ensures each { IfOk result (λ ws. HaveWorked bench.now limit (vec_len passes) ws.items) }
     ensures fault { IfErr result (λ fault. IsLateFault fault) }
 {
-    let Ok(mut handles) = Vec::with_capacity(alloc, passes.len()) else {
-        return Err(RunFault::Memory);
-    };
+    let mut handles = Vec::with_capacity(alloc, passes.len())?;
     let mut gates = gates.into_iter();
     for pass in passes {
         let Some(gate) = gates.next() else {
@@ -80,9 +96,9 @@ fn start_all<'s, E, R: Threads + Wait + Sync, G: Gate + Send + Drop + 's>(
         };
         match scope.spawn_with(promise, move || work(rt, bench, pass, gate)) {
             Ok(handle) => handles.push_reserved(handle),
-            Err(_refused) => {
+            Err(refused) => {
                 join_each(rt, handles);
-                return Err(RunFault::NoThread);
+                return Err(RunFault::from(refused));
             }
         }
     }

@@ -1,6 +1,7 @@
 //! The work of one replica's thread.
-ghost use Rattle.std.specs.Prelude.{◌≡◌, ◌<◌, length};
+ghost use Rattle.std.specs.Prelude.{◌≡◌, ◌+◌, ◌<◌, ◌∷◌, [], List, Option, length};
 ghost use Rattle.jc_lock.specs.Shows.{pass_number, pass_left};
+ghost use Rattle.jc_runner.specs.Asked.{Question, Asks, questions_of};
 ghost use Rattle.jc_runner.specs.Benches.{IsNewAt, bench_start};
 ghost use Rattle.jc_runner.specs.Worked.{IsWorked, end_of};
 
@@ -11,9 +12,14 @@ use jc_network::Stuck;
 use std::sync::Wait;
 
 /// What a replica's thread does before each take, while it holds no turn.
+///
+/// Contracts see a gate as the questions that it was asked so far, where it tells them.
 pub trait Gate {
+    ghost asked: { Self → Option (List Question) };
+
     /// `step` is the number of events that the replica has made.
-    fn before<R: Wait>(&mut self, rt: &R, replica: u16, step: u64);
+    fn before<R: Wait>(&mut self, rt: &R, replica: u16, step: u64)
+        ensures { Asks (asked self.old) (asked self.new) ((replica, step) ∷ []) };
 }
 
 /// How a replica's thread ended.
@@ -53,16 +59,14 @@ fn end_of(answer: StepAnswer) -> Option<End>
 }
 
 /// Makes the events that the replica chooses, until it has no command left, one is stuck, the takes are made or memory
-/// is wanting. The replica chooses while it holds the turn, from the network in hand.
-pub(crate) fn work<R: Wait, G: Gate + Drop>(
-    rt: &R,
-    bench: &Bench,
-    mut pass: Pass,
-    mut gate: G,
-) -> Worked
+/// is wanting. The replica chooses while it holds the turn, from the network in hand. It asks the gate once before each
+/// take, also before the last one, which makes no event.
+fn work_through<R: Wait, G: Gate>(rt: &R, bench: &Bench, mut pass: Pass, gate: &mut G) -> Worked
     requires new { IsNewAt bench.now (pass_left pass) pass }
     requires there { pass_number pass < length (bench_start bench.now).scripts }
-    ensures { IsWorked bench.now (pass_number pass) (pass_left pass) result }
+    ensures worked { IsWorked bench.now (pass_number pass) (pass_left pass) result }
+    ensures asked { Asks (G.asked gate.old) (G.asked gate.new)
+        (questions_of (pass_number pass) (result.made + 1)) }
 {
     let p = pass.number();
     let mut made = 0;
@@ -99,4 +103,18 @@ pub(crate) fn work<R: Wait, G: Gate + Drop>(
         phase = next;
     }
     unreachable!()
+}
+
+/// The same with a gate of its own.
+pub(crate) fn work<R: Wait, G: Gate + Drop>(
+    rt: &R,
+    bench: &Bench,
+    pass: Pass,
+    mut gate: G,
+) -> Worked
+    requires new { IsNewAt bench.now (pass_left pass) pass }
+    requires there { pass_number pass < length (bench_start bench.now).scripts }
+    ensures { IsWorked bench.now (pass_number pass) (pass_left pass) result }
+{
+    work_through(rt, bench, pass, &mut gate)
 }

@@ -1,11 +1,10 @@
 //! Scenarios.
 
-ghost use Rattle.std.specs.Prelude.{◌≡◌, IfOk, map};
-ghost use Rattle.jc_syntax.specs.Trees.{cmd_of};
+ghost use Rattle.std.specs.Prelude.{◌≡◌, IfOk};
 ghost use Rattle.jc_scenario.specs.Views.{scripts_view};
 
 use jc_rules::{Event, Text};
-use jc_syntax::Cmd;
+use jc_syntax::{Cmd, copy_script};
 use std::alloc::{AllocError, Global};
 
 /// Replicas in the order of their names, each with its script, and a schedule of events by the numbers
@@ -41,17 +40,6 @@ pub fn copy_names(alloc: Global, names: &[Text]) -> Result<Vec<Text>, AllocError
     let mut copies = Vec::new(alloc);
     for name in names {
         copies.push(name.copy()?)?;
-    }
-    Ok(copies)
-}
-
-/// The same script once more.
-pub fn copy_script(alloc: Global, script: &[Cmd]) -> Result<Vec<Cmd>, AllocError>
-    ensures { IfOk result (λ copies. map cmd_of copies.items ≡ map cmd_of script.now) }
-{
-    let mut copies = Vec::new(alloc);
-    for cmd in script {
-        copies.push(cmd.copy(alloc)?)?;
     }
     Ok(copies)
 }

@@ -1,6 +1,5 @@
 -- Sessions on the scenario that bytes are, from its start.
-use Rattle.std.proofs.Common.{◌≡◌, ◌≢◌, ℕ, List, [], Option, None, Some, IfSome, IsErrOf, Ok, Err, ◌⊎◌, inl, inr, subst}
-use Rattle.std.specs.Io.KnownBytes.{Appends}
+use Rattle.std.proofs.Common.{◌≡◌, ◌≢◌, ℕ, List, [], Option, None, Some, IsErrOf, Ok, Err, ◌⊎◌, inl, inr, subst}
 use Rattle.std.proofs.KnownBytes.{Consumes-nil}
 use Rattle.jc_parser.specs.declared.fault.ScenarioFault.{ScenarioFault}
 use Rattle.jc_parser.specs.declared.fault.ScenarioFault.TheVariants as S
@@ -13,27 +12,37 @@ use Rattle.jc_debug.proofs.Replying.{begun_at}
 use Rattle.jc_session.specs.Answers.{Origin, origin_of, IsFaultLine}
 use Rattle.jc_session.specs.Gives.{origin_in}
 use Rattle.jc_session.specs.Shown.{End, text_refused, Talks, refused, talks}
-use Rattle.jc_session.specs.Went.{AppendsSome, LosesFront, Wrote, ShowsAll, WentRefused, OnScenario}
+use Rattle.jc_session.specs.Went.{OfLines, OfLinesLeft, LosesFront, IsPast, AnsweredAll, ShowsAll, WentRefused, OnScenario}
+use Rattle.jc_session.specs.Written.{Stream, Interrupted, Written}
 use Rattle.jc_session.proofs.Spelling.{not_memory}
 use Rattle.jc_session.proofs.Talking.{passed_on}
 
 pub origin_is : (d : Seen) (s : Scenario) → d.net ≡ started s → origin_in d ≡ origin_of s
 origin_is d s e = let starts_so = begun_at d s e in λ i. record { names = (e i).names; start = starts_so i }
 
-pub text_refused_shown : (b : List ℕ) (f fault : ScenarioFault) (o p : Option (List ℕ)) → (f ≢ S.Memory → IsFault b f) → ((text : List ℕ) × IsFaultLine f text × Appends o p text) → f ≡ fault → (l : List ℕ) → ShowsAll b l (text_refused fault) o p
+pub text_refused_shown : (b : List ℕ) (f fault : ScenarioFault) (o p : Stream) → (f ≢ S.Memory → IsFault b f) → Written (IsFaultLine f) o p → f ≡ fault → (l : List ℕ) → ShowsAll b l (text_refused fault) o p
 text_refused_shown b f fault o p is h same l = subst (λ (x : ScenarioFault). ShowsAll b l (text_refused x) o p) same (h.0, refused f (is (not_memory f h.0 h.1)) h.1, h.2)
 
-pub refused_front : (b : List ℕ) (f : ScenarioFault) (o p : Option (List ℕ)) → (f ≢ S.Memory → IsFault b f) → (text : List ℕ) → IsFaultLine f text → AppendsSome o p text → WentRefused b o p
+pub refused_front : (b : List ℕ) (f : ScenarioFault) (o p : Stream) → (f ≢ S.Memory → IsFault b f) → (text : List ℕ) → IsFaultLine f text → Interrupted text o p → WentRefused b o p
 refused_front b f o p is text line went = (f, text, is (not_memory f text line), line, went)
 
 pub on_scenario : (Says : Origin → Session → Type 0) (b : List ℕ) (s : Scenario) (d : Seen) (A : Session) → IsScenario b s → d.net ≡ started s → A ≡ begun s.schedule → Says (origin_in d) A → OnScenario b Says
 on_scenario Says b s d A is net at h = (s, is, subst (λ (B : Session). Says (origin_of s) B) at (subst (λ (P : Origin). Says P A) (origin_is d s net) h))
 
-pub shown_by : (b : List ℕ) (s : Scenario) (d : Seen) (A : Session) (first : Option (List ℕ)) (end : End) (o p : Option (List ℕ)) → IsScenario b s → d.net ≡ started s → A ≡ begun s.schedule → IfSome first (λ l. Wrote (origin_in d) A l end o p) → IfSome first (λ l. ShowsAll b l end o p)
-shown_by b s d A None end o p is net at h = tt
-shown_by b s d A (Some l) end o p is net at h =
+shown : (b : List ℕ) (s : Scenario) (d : Seen) (A : Session) (l : List ℕ) (end : End) (o p : Stream) → IsScenario b s → d.net ≡ started s → A ≡ begun s.schedule → AnsweredAll (origin_in d) A l end o p → ShowsAll b l end o p
+shown b s d A l end o p is net at h =
     let on = subst (λ (B : Session). Talks (origin_of s) B l h.0 end) at (subst (λ (P : Origin). Talks P A l h.0 end) (origin_is d s net) h.1) in
     (h.0, talks s is on, h.2)
+
+pub shown_by : (b : List ℕ) (s : Scenario) (d : Seen) (A : Session) (first : Option (List ℕ)) (end : End) (o p : Stream) → IsScenario b s → d.net ≡ started s → A ≡ begun s.schedule → OfLines first (λ l. AnsweredAll (origin_in d) A l end o p) → OfLines first (λ l. ShowsAll b l end o p)
+shown_by b s d A None end o p is net at h = (h.0, shown b s d A h.0 end o p is net at h.1)
+shown_by b s d A (Some l) end o p is net at h = shown b s d A l end o p is net at h
+
+-- past a limit
+pub shown_past : (b : List ℕ) (s : Scenario) (d : Seen) (A : Session) (first left : Option (List ℕ)) (end : End) (o p : Stream) → IsScenario b s → d.net ≡ started s → A ≡ begun s.schedule
+    → OfLinesLeft first left (λ l now_left. AnsweredAll (origin_in d) A l end o p × IsPast l now_left) → OfLinesLeft first left (λ l now_left. ShowsAll b l end o p × IsPast l now_left)
+shown_past b s d A None left end o p is net at h = (h.0, h.1, (shown b s d A h.0 end o p is net at h.2.0, h.2.1))
+shown_past b s d A (Some l) left end o p is net at h = (shown b s d A l end o p is net at h.0, h.1)
 
 -- ---- what is left
 

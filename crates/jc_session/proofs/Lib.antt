@@ -3,6 +3,7 @@ pub mod Readings
 pub mod Words
 pub mod Due
 pub mod Naming
+pub mod Writing
 pub mod Talking
 pub mod Listing
 pub mod Replying
@@ -10,3 +11,8 @@ pub mod Spelling
 pub mod Alone
 pub mod OneText
 pub mod Begun
+pub mod Faults
+pub mod Choosing
+pub mod Leading
+pub mod SomeReply
+pub mod SomeText

@@ -10,3 +10,7 @@ OneSession =
     → Shows scenario lines other other_end
     → (text ≡ other)
     × (end ≡ other_end)
+
+-- They have one: whatever they are, there is a text that the session shows, and a way in which it ends.
+abbrev pub SessionHasAText : Type 0
+SessionHasAText = (scenario lines : List ℕ) → (text : List ℕ) × (end : End) × Shows scenario lines text end

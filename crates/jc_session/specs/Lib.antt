@@ -5,6 +5,7 @@ pub mod Views
 pub mod Texts
 pub mod Answers
 pub mod Shown
+pub mod Written
 pub mod Went
 pub mod SoFar
 pub mod Gives

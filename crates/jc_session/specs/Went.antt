@@ -1,8 +1,7 @@
 -- What went out of a session.
-use Rattle.std.specs.Prelude.{◌≡◌, ◌⊎◌, ℕ, ◌≤◌, ◌<◌, List, [], ◌∷◌, ◌++◌, length, take, map, Option, Some, IfSome}
+use Rattle.std.specs.Prelude.{◌≡◌, ◌⊎◌, ℕ, ◌≤◌, ◌<◌, List, [], ◌∷◌, ◌++◌, length, map, Option, Some, None, IfSome}
 use Rattle.std.specs.List.{AllByRecursion}
-use Rattle.std.specs.Io.KnownBytes.{Appends, Consumes}
-use Rattle.jc_rules.specs.Told.{AppendsIfTold}
+use Rattle.std.specs.Io.KnownBytes.{Consumes}
 use Rattle.jc_parser.specs.declared.fault.ScenarioFault.{ScenarioFault}
 use Rattle.jc_scenario.specs.Scenarios.{Scenario, IsScenario}
 use Rattle.jc_scenario.specs.Faults.{IsFault}
@@ -10,26 +9,23 @@ use Rattle.jc_debug.specs.Session.{Session, begun}
 use Rattle.jc_session.specs.Lines.{Line, Lacks, ended, whole_line, last_line}
 use Rattle.jc_session.specs.Answers.{Origin, origin_of, IsFaultLine, Answer}
 use Rattle.jc_session.specs.Shown.{Answers, Talks, End, Shows}
+use Rattle.jc_session.specs.Written.{Stream, Wrote, Interrupted, Written}
 
--- a front of the bytes was appended, where that is told
-abbrev pub AppendsSome : Option (List ℕ) → Option (List ℕ) → List ℕ → Type 0
-AppendsSome old new bs = (n : ℕ) × AppendsIfTold old new (take n bs)
+-- the answer of a line was written, and the session goes on
+abbrev pub GoesOn : Origin → Session → Line → Session → Stream → Stream → Type 0
+GoesOn O A line B old new = Written (λ text. Answer O A line B text) old new
 
--- the answer of a line went out, and the session goes on
-abbrev pub GoesOn : Origin → Session → Line → Session → Option (List ℕ) → Option (List ℕ) → Type 0
-GoesOn O A line B old new = (text : List ℕ) × Answer O A line B text × Appends old new text
-
--- a front of the answer of a line went out
-abbrev pub BreaksOff : Origin → Session → Line → Option (List ℕ) → Option (List ℕ) → Type 0
-BreaksOff O A line old new = (B : Session) × (text : List ℕ) × Answer O A line B text × AppendsSome old new text
+-- the answer of a line was interrupted
+abbrev pub BreaksOff : Origin → Session → Line → Stream → Stream → Type 0
+BreaksOff O A line old new = (B : Session) × (text : List ℕ) × Answer O A line B text × Interrupted text old new
 
 -- of the bytes that were left a front is gone
 abbrev pub LosesFront : Option (List ℕ) → Option (List ℕ) → Type 0
 LosesFront old new = (bs : List ℕ) × Consumes old new bs
 
--- a whole session went out
-abbrev pub Wrote : Origin → Session → List ℕ → End → Option (List ℕ) → Option (List ℕ) → Type 0
-Wrote O A bytes end old new = (text : List ℕ) × Talks O A bytes text end × Appends old new text
+-- all lines were answered
+abbrev pub AnsweredAll : Origin → Session → List ℕ → End → Stream → Stream → Type 0
+AnsweredAll O A bytes end old new = Written (λ text. Talks O A bytes text end) old new
 
 -- The first whole lines of the bytes, within the limits, and their answers.
 pub record Answered (O : Origin) (A : Session) (bytes : List ℕ) (whole : List (List ℕ)) (rest : List ℕ) (B : Session)
@@ -41,7 +37,8 @@ pub record Answered (O : Origin) (A : Session) (bytes : List ℕ) (whole : List 
   pub answers : Answers O A (map whole_line whole) B text
 
 -- Exactly the answers of all lines whose LF was read went out: of the bytes some were read, and the others are left.
-pub record WentToRead (O : Origin) (A : Session) (bytes : List ℕ) (left old new : Option (List ℕ)) : Type 0 where
+pub record WentToRead (O : Origin) (A : Session) (bytes : List ℕ) (left : Option (List ℕ)) (old new : Stream)
+    : Type 0 where
   pub whole : List (List ℕ)
   pub part : List ℕ
   pub rest : List ℕ
@@ -50,7 +47,7 @@ pub record WentToRead (O : Origin) (A : Session) (bytes : List ℕ) (left old ne
   pub part_no_lf : Lacks 10 part
   pub answered : Answered O A bytes whole (part ++ rest) last text
   pub is_left : IfSome left (λ ys. ys ≡ rest)
-  pub went : Appends old new text
+  pub went : Wrote text old new
 
 -- The line that comes next was read, and less than 4,096 bytes behind it; the others are left.
 pub data IsNext : List ℕ → Line → Option (List ℕ) → Type 0 where
@@ -66,7 +63,8 @@ pub data IsNext : List ℕ → Line → Option (List ℕ) → Type 0 where
       → IsNext rest line left
 
 -- The answers of some first lines went out, whole, and the next line was read.
-pub record WentWhole (O : Origin) (A : Session) (bytes : List ℕ) (left old new : Option (List ℕ)) : Type 0 where
+pub record WentWhole (O : Origin) (A : Session) (bytes : List ℕ) (left : Option (List ℕ)) (old new : Stream)
+    : Type 0 where
   pub whole : List (List ℕ)
   pub rest : List ℕ
   pub last : Session
@@ -74,10 +72,11 @@ pub record WentWhole (O : Origin) (A : Session) (bytes : List ℕ) (left old new
   pub answered : Answered O A bytes whole rest last text
   pub line : Line
   pub next : IsNext rest line left
-  pub went : Appends old new text
+  pub went : Wrote text old new
 
--- The answers of some first lines went out, and a front of the next line's.
-pub record WentFront (O : Origin) (A : Session) (bytes : List ℕ) (left old new : Option (List ℕ)) : Type 0 where
+-- The answers of some first lines went out, whole, and the next line's was interrupted.
+pub record WentFront (O : Origin) (A : Session) (bytes : List ℕ) (left : Option (List ℕ)) (old new : Stream)
+    : Type 0 where
   pub whole : List (List ℕ)
   pub rest : List ℕ
   pub last : Session
@@ -85,11 +84,9 @@ pub record WentFront (O : Origin) (A : Session) (bytes : List ℕ) (left old new
   pub answered : Answered O A bytes whole rest last text
   pub line : Line
   pub next : IsNext rest line left
-  pub after : Session
-  pub answer : List ℕ
-  pub answers : Answer O last line after answer
-  pub front : ℕ
-  pub went : AppendsIfTold old new (text ++ take front answer)
+  pub between : Stream
+  pub went : Wrote text old between
+  pub breaks_off : BreaksOff O last line between new
 
 -- Of the bytes a first one past the limits was read, which are 67,108,864 bytes and 1,000,000 lines, and less than 4,096
 -- bytes behind it; the others are left.
@@ -104,16 +101,28 @@ pub record IsPast (bytes : List ℕ) (left : Option (List ℕ)) : Type 0 where
   pub few : length ahead < 4096
   pub gone : Consumes (Some bytes) left ((ended whole ++ part) ++ byte ∷ ahead)
 
+-- ---- lines that may not be told
+
+-- It is said of the lines that are told, and else of some, as at a terminal.
+abbrev pub OfLines : Option (List ℕ) → (List ℕ → Type 0) → Type 0
+OfLines None Says = (l : List ℕ) × Says l
+OfLines (Some l) Says = Says l
+
+-- It is said of the lines that are told and of what is left of them, and else of some and of what is left of these.
+abbrev pub OfLinesLeft : Option (List ℕ) → Option (List ℕ) → (List ℕ → Option (List ℕ) → Type 0) → Type 0
+OfLinesLeft None left Says = (l : List ℕ) × (rest : List ℕ) × Says l (Some rest)
+OfLinesLeft (Some l) left Says = Says l left
+
 -- ---- whole sessions
 
--- The text of a session went out, which ends so.
-abbrev pub ShowsAll : List ℕ → List ℕ → End → Option (List ℕ) → Option (List ℕ) → Type 0
-ShowsAll b l end old new = (text : List ℕ) × Shows b l text end × Appends old new text
+-- The text of a session was written, which ends so.
+abbrev pub ShowsAll : List ℕ → List ℕ → End → Stream → Stream → Type 0
+ShowsAll b l end old new = Written (λ text. Shows b l text end) old new
 
--- The scenario is refused, and a front of the line for that went out.
-abbrev pub WentRefused : List ℕ → Option (List ℕ) → Option (List ℕ) → Type 0
+-- The scenario is refused, and the line for that was interrupted.
+abbrev pub WentRefused : List ℕ → Stream → Stream → Type 0
 WentRefused b old new =
-    (fault : ScenarioFault) × (text : List ℕ) × IsFault b fault × IsFaultLine fault text × AppendsSome old new text
+    (fault : ScenarioFault) × (text : List ℕ) × IsFault b fault × IsFaultLine fault text × Interrupted text old new
 
 -- what is said of a session on the scenario that the bytes are, from its start
 abbrev pub OnScenario : List ℕ → (Origin → Session → Type 0) → Type 0

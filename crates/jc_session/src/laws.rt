@@ -1,7 +1,9 @@
 //! Laws of the definitions alone: each contract is the law.
 
-ghost use Rattle.jc_session.specs.Laws.{OneSession};
+ghost use Rattle.jc_session.specs.Laws.{OneSession, SessionHasAText};
 
+use jc_meaning::laws as meanings;
+use jc_network::laws as networks;
 use jc_parser::laws as sentences;
 use jc_scenario::laws as scenarios;
 
@@ -16,4 +18,15 @@ pub fn one_session()
     sentences::one_event();
     sentences::one_event_fault();
     sentences::event_or_fault();
+}
+
+/// The bytes of a scenario and of lines have a text, whatever they are: each line but `quit` has its answer.
+pub fn session_has_a_text()
+    ensures { SessionHasAText }
+{
+    scenarios::scenario_else_fault();
+    scenarios::scenarios_are_well_formed();
+    sentences::event_else_fault();
+    networks::step_or_stuck();
+    meanings::trees_converge();
 }

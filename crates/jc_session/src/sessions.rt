@@ -1,7 +1,6 @@
 //! Sessions: a scenario is read, and lines are answered one by one.
 
-ghost use Rattle.std.specs.Prelude.{◌≡◌, ◌≢◌, ℕ, ◌+◌, ◌<◌, ◌⊎◌, List, Ok, true, false, IfErr, OnOk, OnErr, IfSome, IsErrOf, IfOk};
-ghost use Rattle.std.specs.Io.KnownBytes.{Appends};
+ghost use Rattle.std.specs.Prelude.{◌≡◌, ◌≢◌, ℕ, ◌+◌, ◌<◌, ◌⊎◌, List, Ok, true, false, IfErr, OnOk, OnErr, IsErrOf, IfOk};
 ghost use Rattle.jc_parser.specs.declared.fault.ScenarioFault.{ScenarioFault as TextFault};
 ghost use Rattle.jc_parser.specs.declared.fault.ScenarioFault.TheVariants as T;
 ghost use Rattle.jc_scenario.specs.Scenarios.{Scenario, IsScenario};
@@ -13,7 +12,8 @@ ghost use Rattle.jc_session.specs.Kinds.{IsOfAnswer};
 ghost use Rattle.jc_session.specs.Requests.{meaning, asks, quit};
 ghost use Rattle.jc_session.specs.Shown.{finished, too_many, text_refused, Shows};
 ghost use Rattle.jc_session.specs.Views.{bytes_of};
-ghost use Rattle.jc_session.specs.Went.{AppendsSome, LosesFront, GoesOn, BreaksOff, Wrote, WentToRead, WentWhole, WentFront, IsPast, ShowsAll, WentRefused, OnScenario};
+ghost use Rattle.jc_session.specs.Went.{OfLines, OfLinesLeft, LosesFront, GoesOn, BreaksOff, AnsweredAll, WentToRead, WentWhole, WentFront, IsPast, ShowsAll, WentRefused, OnScenario};
+ghost use Rattle.jc_session.specs.Written.{sink, Wrote, Interrupted, Written};
 
 use crate::answers::{answer, fault_line};
 use crate::lines::{Lines, Next};
@@ -56,10 +56,8 @@ impl From<AllocError> for SessionFault {
 
 /// Writes an answer and flushes it. An empty one needs neither.
 fn send<K: Sink>(out: &mut K, text: &str) -> Result<(), SessionFault>
-    ensures ok { OnOk result (Appends (K.taken out.old) (K.taken out.new) text.now) }
-    ensures err { OnErr result (AppendsSome (K.taken out.old) (K.taken out.new) text.now) }
-    ensures same { OnOk result (K.failures out.new ≡ K.failures out.old) }
-    ensures grow { OnErr result (K.failures out.old < K.failures out.new) }
+    ensures ok { OnOk result (Wrote text.now (sink K.Sink out.old) (sink K.Sink out.new)) }
+    ensures err { OnErr result (Interrupted text.now (sink K.Sink out.old) (sink K.Sink out.new)) }
     ensures kind { IfErr result (λ e. e ≡ SessionFault.WriteFailed) }
 {
     if text.is_empty() {
@@ -83,17 +81,14 @@ fn answer_line<K: Sink>(
 ) -> Result<bool, SessionFault>
     requires { AllNamed debugger.old }
     ensures goes { result ≡ Ok true → GoesOn (origin_in debugger.old) (session_of debugger.old) (bytes_of line.entry)
-        (session_of debugger.new) (K.taken out.old) (K.taken out.new) }
+        (session_of debugger.new) (sink K.Sink out.old) (sink K.Sink out.new) }
     ensures origin { result ≡ Ok true → origin_in debugger.new ≡ origin_in debugger.old }
     ensures quits { result ≡ Ok false
-        → (meaning (bytes_of line.entry) ≡ asks quit) × (K.taken out.new ≡ K.taken out.old) }
-    ensures same { OnOk result (K.failures out.new ≡ K.failures out.old) }
-    ensures memory { IsErrOf result SessionFault.Memory
-        → (K.failures out.new ≡ K.failures out.old) × (K.taken out.new ≡ K.taken out.old) }
+        → (meaning (bytes_of line.entry) ≡ asks quit) × (out.new ≡ out.old) }
+    ensures memory { IsErrOf result SessionFault.Memory → out.new ≡ out.old }
     ensures write { IsErrOf result SessionFault.WriteFailed
-        → (K.failures out.old < K.failures out.new)
-        × BreaksOff (origin_in debugger.old) (session_of debugger.old) (bytes_of line.entry)
-        (K.taken out.old) (K.taken out.new) }
+        → BreaksOff (origin_in debugger.old) (session_of debugger.old) (bytes_of line.entry)
+        (sink K.Sink out.old) (sink K.Sink out.new) }
     ensures kind { IfErr result IsOfAnswer }
 {
     let Some(text) = answer(alloc, debugger, line)? else {
@@ -112,30 +107,34 @@ fn converse<S: Source, K: Sink>(
 ) -> Result<(), SessionFault>
     requires { AllNamed debugger.old }
     // Where nothing failed, exactly the answers of the lines went out.
-    ensures finished { OnOk result (IfSome (S.left source.old) (λ l.
-        Wrote (origin_in debugger.old) (session_of debugger.old) l finished (K.taken out.old) (K.taken out.new))) }
-    ensures too_many { IsErrOf result SessionFault.TooManyLines → IfSome (S.left source.old) (λ l.
-        Wrote (origin_in debugger.old) (session_of debugger.old) l too_many (K.taken out.old) (K.taken out.new)) }
-    ensures past { IsErrOf result SessionFault.TooManyLines
-        → IfSome (S.left source.old) (λ l. IsPast l (S.left source.new)) }
+    ensures finished { OnOk result (OfLines (S.left source.old) (λ l.
+        AnsweredAll (origin_in debugger.old) (session_of debugger.old) l finished (sink K.Sink out.old)
+        (sink K.Sink out.new))) }
+    ensures too_many { IsErrOf result SessionFault.TooManyLines
+        → OfLinesLeft (S.left source.old) (S.left source.new) (λ l left.
+        AnsweredAll (origin_in debugger.old) (session_of debugger.old) l too_many (sink K.Sink out.old)
+        (sink K.Sink out.new) × IsPast l left) }
     // After a failed read, those of all lines whose LF was read.
-    ensures read { IsErrOf result SessionFault.ReadFailed → IfSome (S.left source.old) (λ l.
-        WentToRead (origin_in debugger.old) (session_of debugger.old) l (S.left source.new)
-        (K.taken out.old) (K.taken out.new)) }
+    ensures read { IsErrOf result SessionFault.ReadFailed
+        → OfLinesLeft (S.left source.old) (S.left source.new) (λ l left.
+        WentToRead (origin_in debugger.old) (session_of debugger.old) l left
+        (sink K.Sink out.old) (sink K.Sink out.new)) }
     // Without memory, those of the lines before, whole.
-    ensures memory { IsErrOf result SessionFault.Memory → IfSome (S.left source.old) (λ l.
-        WentWhole (origin_in debugger.old) (session_of debugger.old) l (S.left source.new)
-        (K.taken out.old) (K.taken out.new)) }
-    // After a failed write, those of the lines before, and a front of the next one.
-    ensures write { IsErrOf result SessionFault.WriteFailed → IfSome (S.left source.old) (λ l.
-        WentFront (origin_in debugger.old) (session_of debugger.old) l (S.left source.new)
-        (K.taken out.old) (K.taken out.new)) }
+    ensures memory { IsErrOf result SessionFault.Memory
+        → OfLinesLeft (S.left source.old) (S.left source.new) (λ l left.
+        WentWhole (origin_in debugger.old) (session_of debugger.old) l left
+        (sink K.Sink out.old) (sink K.Sink out.new)) }
+    // After a failed write, those of the lines before, whole, and the next one up to the failure.
+    ensures write { IsErrOf result SessionFault.WriteFailed
+        → OfLinesLeft (S.left source.old) (S.left source.new) (λ l left.
+        WentFront (origin_in debugger.old) (session_of debugger.old) l left
+        (sink K.Sink out.old) (sink K.Sink out.new)) }
     // Where no read failed, what was read is a front of what was left.
     ensures left { IsErrOf result SessionFault.ReadFailed ⊎ LosesFront (S.left source.old) (S.left source.new) }
     // Failures come with these answers alone.
     ensures reads { (IsErrOf result SessionFault.ReadFailed → S.failures source.old < S.failures source.new)
         × ((IsErrOf result SessionFault.ReadFailed → ⊥) → S.failures source.new ≡ S.failures source.old) }
-    ensures writes { (IsErrOf result SessionFault.WriteFailed → K.failures out.old < K.failures out.new)
+    ensures writes { (IsErrOf result SessionFault.WriteFailed → K.failures out.new ≡ K.failures out.old + 1)
         × ((IsErrOf result SessionFault.WriteFailed → ⊥) → K.failures out.new ≡ K.failures out.old) }
 {
     let mut lines = Lines::new();
@@ -159,14 +158,11 @@ fn converse<S: Source, K: Sink>(
 
 /// Writes the line of a refused text. Want of memory has no line.
 fn refuse<K: Sink>(alloc: Global, fault: &ScenarioFault, out: &mut K) -> Result<(), SessionFault>
-    ensures ok { OnOk result ((text : List ℕ) × IsFaultLine fault.now text
-        × Appends (K.taken out.old) (K.taken out.new) text) }
-    ensures same { OnOk result (K.failures out.new ≡ K.failures out.old) }
-    ensures memory { IsErrOf result SessionFault.Memory
-        → (K.failures out.new ≡ K.failures out.old) × (K.taken out.new ≡ K.taken out.old) }
+    ensures ok { OnOk result (Written (IsFaultLine fault.now) (sink K.Sink out.old) (sink K.Sink out.new)) }
+    ensures memory { IsErrOf result SessionFault.Memory → out.new ≡ out.old }
     ensures write { IsErrOf result SessionFault.WriteFailed
-        → (K.failures out.old < K.failures out.new)
-        × (text : List ℕ) × IsFaultLine fault.now text × AppendsSome (K.taken out.old) (K.taken out.new) text }
+        → (text : List ℕ) × IsFaultLine fault.now text
+        × Interrupted text (sink K.Sink out.old) (sink K.Sink out.new) }
     ensures kind { IfErr result IsOfAnswer }
 {
     let line = fault_line(alloc, fault.number(), fault.place())?;
@@ -178,44 +174,48 @@ fn refuse<K: Sink>(alloc: Global, fault: &ScenarioFault, out: &mut K) -> Result<
 /// It ends at `quit` or where the lines end. A scenario that is refused is shown so, and no line is read.
 ///
 /// Refusals: `ReadFailed` after the answers of all lines whose LF was read; `TooManyLines` and `Memory` after those of
-/// the lines before, whole; `WriteFailed` after a front of the text that was due. After `Memory` and `WriteFailed` the
-/// line whose answer is missing was read, and less than 4,096 bytes behind it; after `TooManyLines` a byte past the
-/// limits, and less than 4,096 behind it. What was read is lost.
+/// the lines before, whole; `WriteFailed` after those and a prefix of the answer that was due, which is the whole only
+/// where its flush failed. Nothing is written after a failure. After `Memory` and `WriteFailed` the line whose answer
+/// is missing was read, and less than 4,096 bytes behind it; after `TooManyLines` a byte past the limits, and less than
+/// 4,096 behind it. What was read is lost.
 pub fn session<S: Source, K: Sink>(
     alloc: Global,
     scenario: &[u8],
     lines: &mut S,
     out: &mut K,
 ) -> Result<SessionEnd, SessionFault>
-    // Where nothing failed, exactly the text of the session went out.
-    ensures finished { result ≡ Ok SessionEnd.Finished → IfSome (S.left lines.old) (λ l.
-        ShowsAll scenario.now l finished (K.taken out.old) (K.taken out.new)) }
+    // Where nothing failed, exactly the text of the session went out: on the lines that are told, and else on some.
+    ensures finished { result ≡ Ok SessionEnd.Finished → OfLines (S.left lines.old) (λ l.
+        ShowsAll scenario.now l finished (sink K.Sink out.old) (sink K.Sink out.new)) }
     ensures text_refused { (fault : TextFault) → result ≡ Ok (SessionEnd.TextRefused fault)
-        → ((l : List ℕ) → ShowsAll scenario.now l (text_refused fault) (K.taken out.old) (K.taken out.new))
+        → ((l : List ℕ) → ShowsAll scenario.now l (text_refused fault) (sink K.Sink out.old) (sink K.Sink out.new))
         × (lines.new ≡ lines.old) }
-    ensures too_many { IsErrOf result SessionFault.TooManyLines → IfSome (S.left lines.old) (λ l.
-        ShowsAll scenario.now l too_many (K.taken out.old) (K.taken out.new)) }
-    ensures past { IsErrOf result SessionFault.TooManyLines
-        → IfSome (S.left lines.old) (λ l. IsPast l (S.left lines.new)) }
+    ensures too_many { IsErrOf result SessionFault.TooManyLines
+        → OfLinesLeft (S.left lines.old) (S.left lines.new) (λ l left.
+        ShowsAll scenario.now l too_many (sink K.Sink out.old) (sink K.Sink out.new) × IsPast l left) }
     // After a failed read, the answers of all lines whose LF was read.
     ensures read { IsErrOf result SessionFault.ReadFailed → OnScenario scenario.now (λ O A.
-        IfSome (S.left lines.old) (λ l. WentToRead O A l (S.left lines.new) (K.taken out.old) (K.taken out.new))) }
+        OfLinesLeft (S.left lines.old) (S.left lines.new) (λ l left.
+        WentToRead O A l left (sink K.Sink out.old) (sink K.Sink out.new))) }
     // Without memory, those of the lines before, whole; or nothing, where there was none before the first line.
     ensures memory { IsErrOf result SessionFault.Memory
-        → ((lines.new ≡ lines.old) × (K.taken out.new ≡ K.taken out.old))
+        → ((lines.new ≡ lines.old) × (out.new ≡ out.old))
         ⊎ OnScenario scenario.now (λ O A.
-        IfSome (S.left lines.old) (λ l. WentWhole O A l (S.left lines.new) (K.taken out.old) (K.taken out.new))) }
-    // After a failed write, those of the lines before and a front of the next one; or of the scenario's refusal.
+        OfLinesLeft (S.left lines.old) (S.left lines.new) (λ l left.
+        WentWhole O A l left (sink K.Sink out.old) (sink K.Sink out.new))) }
+    // After a failed write, those of the lines before, whole, and the next one up to the failure; or the scenario's
+    // refusal up to it.
     ensures write { IsErrOf result SessionFault.WriteFailed
-        → ((lines.new ≡ lines.old) × WentRefused scenario.now (K.taken out.old) (K.taken out.new))
+        → ((lines.new ≡ lines.old) × WentRefused scenario.now (sink K.Sink out.old) (sink K.Sink out.new))
         ⊎ OnScenario scenario.now (λ O A.
-        IfSome (S.left lines.old) (λ l. WentFront O A l (S.left lines.new) (K.taken out.old) (K.taken out.new))) }
+        OfLinesLeft (S.left lines.old) (S.left lines.new) (λ l left.
+        WentFront O A l left (sink K.Sink out.old) (sink K.Sink out.new))) }
     // Where no read failed, what was read is a front of the lines.
     ensures left { IsErrOf result SessionFault.ReadFailed ⊎ LosesFront (S.left lines.old) (S.left lines.new) }
     // Failures come with these answers alone.
     ensures reads { (IsErrOf result SessionFault.ReadFailed → S.failures lines.old < S.failures lines.new)
         × ((IsErrOf result SessionFault.ReadFailed → ⊥) → S.failures lines.new ≡ S.failures lines.old) }
-    ensures writes { (IsErrOf result SessionFault.WriteFailed → K.failures out.old < K.failures out.new)
+    ensures writes { (IsErrOf result SessionFault.WriteFailed → K.failures out.new ≡ K.failures out.old + 1)
         × ((IsErrOf result SessionFault.WriteFailed → ⊥) → K.failures out.new ≡ K.failures out.old) }
 {
     let scenario = match read(alloc, scenario) {

@@ -4,7 +4,7 @@ ghost use Rattle.jc_rules.specs.Shape.{IsChained};
 ghost use Rattle.jc_tree.specs.Tree.{HasPlace};
 
 use crate::by_hand::{make_map, put_ids, put_true};
-use crate::keys::{At, Keys, SECOND, Set, THIRD, ids_of};
+use crate::keys::{At, Keys, SECOND, Set, THIRD, Tag, ids_of};
 use crate::operations::all_to;
 use jc_clear::{clear, clear_elem, presence_of};
 use jc_rules::{Id, IdSet, Key, Rule, Tagged, Trace};
@@ -58,6 +58,24 @@ enum Cleared<'a> {
     Key(&'a Key),
 }
 
+/// Clears at the place, and gives the identifiers that are left.
+fn left_after<S: TreeStore>(
+    alloc: Global,
+    store: &mut S,
+    deps: &IdSet,
+    at: &[Tagged],
+    what: &Cleared,
+    trace: &mut Trace,
+) -> Result<Vec<Id>, AllocError>
+    requires there { HasPlace at.now (S.tree store.old) }
+    requires chained { IsChained (S.tree store.old).now }
+{
+    match what {
+        Cleared::Child(key) => clear(alloc, store, deps, at, key, trace),
+        Cleared::Key(key) => clear_elem(alloc, store, deps, at, key, trace),
+    }
+}
+
 /// Whether clearing at the place leaves these identifiers, by these rules.
 fn clears<S: TreeStore>(
     alloc: Global,
@@ -72,10 +90,7 @@ fn clears<S: TreeStore>(
     requires chained { IsChained (S.tree store.old).now }
 {
     let mut trace = Trace::new(alloc);
-    let ids = match what {
-        Cleared::Child(key) => clear(alloc, store, deps, at, key, &mut trace)?,
-        Cleared::Key(key) => clear_elem(alloc, store, deps, at, key, &mut trace)?,
-    };
+    let ids = left_after(alloc, store, deps, at, what, &mut trace)?;
     Ok(ids.as_slice() == left && trace.rows() == rows && trace.depth() == 0)
 }
 
@@ -103,7 +118,7 @@ fn clears_a_map<S: TreeStore>(
     rt: &impl Abort,
     keys: &Keys,
     store: &mut S,
-    at: &[Tagged; 1],
+    at: &[Tagged],
     deps: &IdSet,
 ) -> Result<bool, AllocError>
     requires { IsChained (S.tree store.old).now }
@@ -112,7 +127,7 @@ fn clears_a_map<S: TreeStore>(
     put_true(keys.alloc, store, at, keys.key(At::A1), THIRD)?;
     put_true(keys.alloc, store, at, keys.key(At::A), SECOND)?;
     put_ids(store, at, keys.key(At::A), &[SECOND])?;
-    let what = Cleared::Child(&at[0]);
+    let what = Cleared::Child(keys.child(Tag::Map, At::Doc));
     let is = clears(keys.alloc, store, deps, &[], &what, &[THIRD], &OF_A_MAP)?;
     Ok(
         is && has(store, at, keys.key(At::A), &[], 0)
@@ -128,16 +143,9 @@ fn clears_nothing<S: TreeStore>(
 ) -> Result<bool, AllocError>
     requires { IsChained (S.tree store.old).now }
 {
-    let what = Cleared::Child(&Tagged::RegT(Key::Doc));
-    clears(
-        keys.alloc,
-        store,
-        deps,
-        &[],
-        &what,
-        &[],
-        &[(Rule::ClearNone, 0)],
-    )
+    let what = Cleared::Child(keys.child(Tag::Register, At::Doc));
+    let rows = [(Rule::ClearNone, 0)];
+    clears(keys.alloc, store, deps, &[], &what, &[], &rows)
 }
 
 /// Whether the presence set that is put is read.
@@ -152,6 +160,26 @@ pub fn reads_presence<S: TreeStore>(keys: &Keys, store: &mut S) -> Result<bool, 
     )
 }
 
+fn clears_in_turn<S: TreeStore>(
+    rt: &impl Abort,
+    keys: &Keys,
+    store: &mut S,
+    deps: &IdSet,
+    turn: u64,
+) -> Result<bool, AllocError>
+    requires { IsChained (S.tree store.old).now }
+{
+    if turn == 7 {
+        return clears_nothing(keys, store, deps);
+    }
+    make_map(rt, store, keys.child(Tag::Map, At::Doc))?;
+    if turn == 8 {
+        clears_a_key(rt, keys, store, keys.in_the_map(), deps)
+    } else {
+        clears_a_map(rt, keys, store, keys.in_the_map(), deps)
+    }
+}
+
 /// Whether a part of an empty document is cleared as it should be: the one whose turn it is.
 pub fn clears_by_hand<S: TreeStore>(
     rt: &impl Abort,
@@ -161,15 +189,6 @@ pub fn clears_by_hand<S: TreeStore>(
 ) -> Result<bool, AllocError>
     requires { IsChained (S.tree store.old).now }
 {
-    let at = [Tagged::MapT(Key::Doc)];
     let deps = all_to(keys.alloc, 2)?;
-    if turn == 7 {
-        return clears_nothing(keys, store, &deps);
-    }
-    make_map(rt, store, &at[0])?;
-    if turn == 8 {
-        clears_a_key(rt, keys, store, &at, &deps)
-    } else {
-        clears_a_map(rt, keys, store, &at, &deps)
-    }
+    clears_in_turn(rt, keys, store, &deps, turn)
 }

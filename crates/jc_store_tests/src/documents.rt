@@ -10,7 +10,6 @@ use crate::operations::{fast, fit_in_both, give_a_tree, is_refused, plain};
 use jc_tree::TreeStore;
 use std::alloc::AllocError;
 use std::process::Abort;
-use std::test::Fail;
 
 /// How many turns there are.
 const TURNS: u64 = 10;
@@ -36,25 +35,21 @@ fn works<S: TreeStore>(
     }
 }
 
-fn works_in_both(rt: &impl Abort, keys: &Keys, turn: u64) -> Result<bool, AllocError> {
-    if !works(rt, keys, &mut plain(keys.alloc), turn)? {
-        return Ok(false);
-    }
-    works(rt, keys, &mut fast(keys.alloc)?, turn)
+fn works_in_a_plain_one(rt: &impl Abort, keys: &Keys, turn: u64) -> Result<bool, AllocError> {
+    let mut store = plain(keys.alloc);
+    works(rt, keys, &mut store, turn)
+}
+
+fn works_in_a_fast_one(rt: &impl Abort, keys: &Keys, turn: u64) -> Result<bool, AllocError> {
+    let mut store = fast(keys.alloc)?;
+    works(rt, keys, &mut store, turn)
 }
 
 /// All turns work in both stores.
-fn all_work(rt: &impl Abort, keys: &Keys) -> Result<(), AllocError> {
+pub fn all_work(rt: &impl Abort, keys: &Keys) -> Result<(), AllocError> {
     for turn in 0..TURNS {
-        let is = works_in_both(rt, keys, turn)?;
+        let is = works_in_a_plain_one(rt, keys, turn)? && works_in_a_fast_one(rt, keys, turn)?;
         assert!(rt; is, "{turn}");
     }
-    Ok(())
-}
-
-#[test]
-fn documents(rt: HostRuntime) -> Result<(), Fail> {
-    let keys = Keys::new(rt.alloc())?;
-    all_work(&rt, &keys)?;
     Ok(())
 }

@@ -4,7 +4,7 @@ ghost use Rattle.jc_rules.specs.Shape.{IsChained};
 ghost use Rattle.jc_store_tests.specs.Ready.{IsReady};
 
 use crate::by_hand::{make_map, put_ids, put_true};
-use crate::keys::{At, Keys, SECOND, THIRD, text};
+use crate::keys::{At, Keys, SECOND, THIRD, Tag, text};
 use crate::operations::{FIRST_DELETED, id_of, make_all};
 use jc_cursor::{Bound, EvalFault, eval};
 use jc_parser::parse_expr;
@@ -23,7 +23,9 @@ fn given<S: TreeStore>(
 ) -> Result<Bound, EvalFault>
     requires { IsChained (S.tree store.now).now }
 {
-    let expr = parse_expr(alloc, expr).map_err(|_| AllocError)?;
+    let Ok(expr) = parse_expr(alloc, expr) else {
+        return Err(EvalFault::Memory);
+    };
     eval(alloc, store, vars, &expr, trace)
 }
 
@@ -94,6 +96,19 @@ fn are_given(bound: &Bound, want: Want) -> Result<bool, AllocError> {
     Ok(is_given(bound, want) && is_given(&bound.copy()?, want))
 }
 
+/// Whether it is refused so, and the copy of the fault too.
+fn are_refused(fault: &EvalFault, want: Want) -> Result<bool, AllocError> {
+    Ok(is_refused(fault, want) && is_refused(&fault.copy()?, want))
+}
+
+/// Whether that is what came out.
+fn is_as(outcome: &Result<Bound, EvalFault>, want: Want) -> Result<bool, AllocError> {
+    match outcome {
+        Ok(bound) => are_given(bound, want),
+        Err(fault) => are_refused(fault, want),
+    }
+}
+
 /// Whether the expression gives that by so many rules; where it is refused, the trace is as it was.
 pub fn gives<S: TreeStore>(
     alloc: Global,
@@ -106,22 +121,39 @@ pub fn gives<S: TreeStore>(
     requires { IsChained (S.tree store.now).now }
 {
     let mut trace = Trace::new(alloc);
-    let is = match given(alloc, store, vars, expr, &mut trace) {
-        Ok(bound) => are_given(&bound, want)?,
-        Err(fault) => is_refused(&fault, want),
-    };
-    Ok(is && trace.rows().len() == rules)
+    let outcome = given(alloc, store, vars, expr, &mut trace);
+    if trace.rows().len() == rules {
+        is_as(&outcome, want)
+    } else {
+        Ok(false)
+    }
+}
+
+fn second<S: TreeStore>(alloc: Global, store: &S) -> Result<Bound, AllocError>
+    requires { IsChained (S.tree store.now).now }
+{
+    let mut trace = Trace::new(alloc);
+    match given(alloc, store, &[], "doc.idx(1)", &mut trace) {
+        Ok(bound) => Ok(bound),
+        Err(_) => Err(AllocError),
+    }
 }
 
 /// `x`, bound to the second element of the document's list.
 fn bound_x<S: TreeStore>(alloc: Global, store: &S) -> Result<(Text, Bound), AllocError>
     requires { IsChained (S.tree store.now).now }
 {
-    let mut trace = Trace::new(alloc);
-    match given(alloc, store, &[], "doc.idx(1)", &mut trace) {
-        Ok(bound) => Ok((text(alloc, "x")?, bound)),
-        Err(_) => Err(AllocError),
-    }
+    let name = text(alloc, "x")?;
+    let bound = second(alloc, store)?;
+    Ok((name, bound))
+}
+
+/// Whether a variable gives what the element has that it is bound to.
+fn of_a_variable<S: TreeStore>(keys: &Keys, store: &S) -> Result<bool, AllocError>
+    requires { IsChained (S.tree store.now).now }
+{
+    let vars = [bound_x(keys.alloc, store)?];
+    gives(keys.alloc, store, &vars, "x.values", Want::Value, 4)
 }
 
 /// Whether expressions in a list whose first element is deleted give what they should.
@@ -132,8 +164,7 @@ pub fn in_a_list<S: TreeStore>(keys: &Keys, store: &mut S) -> Result<bool, Alloc
     let is = gives(keys.alloc, store, &[], "doc.idx(1)", Want::Element(3), 6)?
         && gives(keys.alloc, store, &[], "doc.idx(2)", Want::PastEnd, 0)?
         && gives(keys.alloc, store, &[], "doc.idx(0).keys", Want::NoMap, 0)?;
-    let vars = [bound_x(keys.alloc, store)?];
-    Ok(is && gives(keys.alloc, store, &vars, "x.values", Want::Value, 4)?)
+    Ok(is && of_a_variable(keys, store)?)
 }
 
 /// A map of two names, of which one has no identifier any more, and of a register under an element: one name is given.
@@ -144,12 +175,12 @@ pub fn names_in_a_map<S: TreeStore>(
 ) -> Result<bool, AllocError>
     requires { IsChained (S.tree store.old).now }
 {
-    let at = [Tagged::MapT(Key::Doc)];
-    make_map(rt, store, &at[0])?;
-    assert!(rt; is_place(store, &at));
-    put_ids(store, &at, keys.key(At::A), &[SECOND])?;
-    put_ids(store, &at, keys.key(At::A1), &[])?;
-    put_true(keys.alloc, store, &at, keys.key(At::Third), THIRD)?;
-    put_ids(store, &at, keys.key(At::Third), &[THIRD])?;
+    let at = keys.in_the_map();
+    make_map(rt, store, keys.child(Tag::Map, At::Doc))?;
+    assert!(rt; is_place(store, at));
+    put_ids(store, at, keys.key(At::A), &[SECOND])?;
+    put_ids(store, at, keys.key(At::A1), &[])?;
+    put_true(keys.alloc, store, at, keys.key(At::Third), THIRD)?;
+    put_ids(store, at, keys.key(At::Third), &[THIRD])?;
     gives(keys.alloc, store, &[], "doc.keys", Want::Name, 3)
 }

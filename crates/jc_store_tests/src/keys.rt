@@ -54,58 +54,92 @@ pub enum Tag {
     Register,
 }
 
-/// The keys themselves.
+/// The keys themselves, in their order, under each tag.
 #[derive(Drop)]
 pub struct Keys {
     pub alloc: Global,
-    doc: Key,
-    head: Key,
-    a: Key,
-    a1: Key,
-    first: Key,
-    second: Key,
-    third: Key,
+    /// The names of the replicas.
+    pub names: [Text; 2],
+    maps: [Tagged; 7],
+    lists: [Tagged; 7],
+    registers: [Tagged; 7],
 }
 
 pub fn text(alloc: Global, text: &str) -> Result<Text, AllocError> {
     Ok(Text::new(String::from_str(alloc, text)?))
 }
 
+fn names(alloc: Global) -> Result<[Text; 2], AllocError> {
+    let first = text(alloc, "a")?;
+    Ok([first, text(alloc, "b")?])
+}
+
+fn tagged(tag: Tag, key: Key) -> Tagged {
+    match tag {
+        Tag::Map => Tagged::MapT(key),
+        Tag::List => Tagged::ListT(key),
+        Tag::Register => Tagged::RegT(key),
+    }
+}
+
+fn all_under(alloc: Global, tag: Tag) -> Result<[Tagged; 7], AllocError> {
+    let a = text(alloc, "a")?;
+    let a1 = text(alloc, "a1")?;
+    Ok([
+        tagged(tag, Key::Doc),
+        tagged(tag, Key::Head),
+        tagged(tag, Key::Name(a)),
+        tagged(tag, Key::Name(a1)),
+        tagged(tag, Key::Elem(FIRST)),
+        tagged(tag, Key::Elem(SECOND)),
+        tagged(tag, Key::Elem(THIRD)),
+    ])
+}
+
 impl Keys {
     pub fn new(alloc: Global) -> Result<Self, AllocError> {
-        let a = Key::Name(text(alloc, "a")?);
-        let a1 = Key::Name(text(alloc, "a1")?);
+        let maps = all_under(alloc, Tag::Map)?;
+        let lists = all_under(alloc, Tag::List)?;
+        let registers = all_under(alloc, Tag::Register)?;
+        let names = names(alloc)?;
         Ok(Keys {
             alloc,
-            doc: Key::Doc,
-            head: Key::Head,
-            a,
-            a1,
-            first: Key::Elem(FIRST),
-            second: Key::Elem(SECOND),
-            third: Key::Elem(THIRD),
+            names,
+            maps,
+            lists,
+            registers,
         })
     }
 
-    pub fn key(&self, at: At) -> &Key {
+    pub fn child(&self, tag: Tag, at: At) -> &Tagged {
+        let keys = match tag {
+            Tag::Map => &self.maps,
+            Tag::List => &self.lists,
+            Tag::Register => &self.registers,
+        };
         match at {
-            At::Doc => &self.doc,
-            At::Head => &self.head,
-            At::A => &self.a,
-            At::A1 => &self.a1,
-            At::First => &self.first,
-            At::Second => &self.second,
-            At::Third => &self.third,
+            At::Doc => &keys[0],
+            At::Head => &keys[1],
+            At::A => &keys[2],
+            At::A1 => &keys[3],
+            At::First => &keys[4],
+            At::Second => &keys[5],
+            At::Third => &keys[6],
         }
     }
 
-    pub fn child(&self, tag: Tag, at: At) -> Result<Tagged, AllocError> {
-        let key = self.key(at).copy()?;
-        Ok(match tag {
-            Tag::Map => Tagged::MapT(key),
-            Tag::List => Tagged::ListT(key),
-            Tag::Register => Tagged::RegT(key),
-        })
+    pub fn key(&self, at: At) -> &Key {
+        self.child(Tag::Map, at).key()
+    }
+
+    /// The path to the document's map.
+    pub fn in_the_map(&self) -> &[Tagged] {
+        &self.maps[..1]
+    }
+
+    /// The path to the document's list.
+    pub fn in_the_list(&self) -> &[Tagged] {
+        &self.lists[..1]
     }
 }
 

@@ -8,7 +8,6 @@ use jc_rules::{Id, Key, Next};
 use jc_tree::{TreeStore, is_place};
 use std::alloc::AllocError;
 use std::process::Abort;
-use std::test::Fail;
 
 const MANY: u64 = 60_000;
 
@@ -23,10 +22,14 @@ fn element(counter: u64) -> Key {
 }
 
 impl<S: TreeStore> Placed<S> {
-    /// Puts what the key of this number gets.
+    /// Puts what a key gets.
+    fn put_key(&mut self, key: &Key) -> Result<bool, AllocError> {
+        Ok(self.put_ids(key, ids_of(Set::Second))? && self.link(key, Next::Elem(SECOND))?)
+    }
+
     fn put_number(&mut self, number: u64) -> Result<bool, AllocError> {
         let key = element(number);
-        Ok(self.put_ids(&key, ids_of(Set::Second))? && self.link(&key, Next::Elem(SECOND))?)
+        self.put_key(&key)
     }
 
     /// Puts all the keys, one in sixty after all the others.
@@ -47,35 +50,45 @@ impl<S: TreeStore> Placed<S> {
         Ok(true)
     }
 
+    /// Whether the key of this number is the one behind the given key.
+    fn comes_after(&self, of: Kind, above: Option<&Key>, number: u64) -> bool {
+        self.after(of, above) == Some(&element(number))
+    }
+
     /// Whether just these keys are there, behind the given one.
-    fn has_many(&self, of: Kind, first: Option<Key>) -> bool {
-        let mut last = first;
-        for number in 0..MANY {
-            let key = element(number);
-            if self.after(of, last.as_ref()) != Some(&key) {
+    fn has_many(&self, of: Kind, first: Option<&Key>) -> bool {
+        for number in 1..MANY {
+            if !self.comes_after(of, Some(&element(number - 1)), number) {
                 return false;
             }
-            last = Some(key);
         }
-        self.after(of, last.as_ref()).is_none()
+        self.comes_after(of, first, 0) && self.after(of, Some(&element(MANY - 1))).is_none()
+    }
+
+    fn has_key(&self, key: &Key) -> bool {
+        let at = self.at.as_slice();
+        is_place(&self.store, at)
+            && self.store.presence(at, key) == Some(&[SECOND])
+            && self.store.next(at, key) == Some(Next::Elem(SECOND))
     }
 
     fn has_number(&self, number: u64) -> bool {
-        let at = self.at.as_slice();
         let key = element(number);
-        is_place(&self.store, at)
-            && self.store.presence(at, &key) == Some(&[SECOND])
-            && self.store.next(at, &key) == Some(Next::Elem(SECOND))
+        self.has_key(&key)
+    }
+
+    /// Whether the keys are there, with presence sets and with links, which stand behind the given key.
+    fn has_all(&self, first: Option<&Key>) -> bool {
+        self.has_many(Kind::Presence, None)
+            && self.has_many(Kind::Link, first)
+            && self.has_number(MANY / 2)
+            && self.has_number(MANY - 1)
     }
 
     /// So many keys in the context, with presence sets and links, which are taken back then.
-    fn holds_many(&mut self, first: Option<Key>) -> Result<bool, AllocError> {
+    fn holds_many(&mut self, first: Option<&Key>) -> Result<bool, AllocError> {
         let mark = self.store.mark();
-        let is = self.put_many()?
-            && self.has_many(Kind::Presence, None)
-            && self.has_many(Kind::Link, first)
-            && self.has_number(MANY / 2)
-            && self.has_number(MANY - 1);
+        let is = self.put_many()? && self.has_all(first);
         Ok(is && self.undo_to(mark))
     }
 }
@@ -97,21 +110,19 @@ const HEAD_LEFT: &[Step] = &[
     Step::Changes(1),
 ];
 
-/// Both stores hold many keys in the root, and then in a list.
-fn hold_many(rt: &impl Abort, keys: &Keys, twins: &mut Twins) -> Result<(), AllocError> {
-    let is = twins.plain.holds_many(None)? && twins.arena.holds_many(None)?;
-    assert!(rt; is);
-    twins.play(rt, keys, "none left", NONE_LEFT)?;
-    twins.play(rt, keys, "a list", A_LIST)?;
-    let is = twins.plain.holds_many(Some(Key::Head))? && twins.arena.holds_many(Some(Key::Head))?;
-    assert!(rt; is);
-    twins.play(rt, keys, "head left", HEAD_LEFT)
+impl Twins {
+    fn hold_many(&mut self, rt: &impl Abort, first: Option<&Key>) -> Result<(), AllocError> {
+        let is = self.plain.holds_many(first)? && self.arena.holds_many(first)?;
+        assert!(rt; is);
+        Ok(())
+    }
 }
 
-#[test]
-fn many_keys(rt: HostRuntime) -> Result<(), Fail> {
-    let keys = Keys::new(rt.alloc())?;
-    let mut twins = Twins::new(rt.alloc())?;
-    hold_many(&rt, &keys, &mut twins)?;
-    Ok(())
+/// Both stores hold many keys in the root, and then in a list.
+pub fn hold_many(rt: &impl Abort, keys: &Keys, twins: &mut Twins) -> Result<(), AllocError> {
+    twins.hold_many(rt, None)?;
+    twins.play(rt, keys, "none left", NONE_LEFT)?;
+    twins.play(rt, keys, "a list", A_LIST)?;
+    twins.hold_many(rt, Some(keys.key(At::Head)))?;
+    twins.play(rt, keys, "head left", HEAD_LEFT)
 }

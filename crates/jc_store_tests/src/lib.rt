@@ -11,6 +11,8 @@ mod documents;
 #[cfg(test)]
 mod expressions;
 #[cfg(test)]
+mod faults;
+#[cfg(test)]
 mod keys;
 #[cfg(test)]
 mod large;
@@ -28,6 +30,8 @@ mod steps;
 mod tables;
 #[cfg(test)]
 mod texts;
+#[cfg(test)]
+mod turns;
 #[cfg(test)]
 mod twins;
 #[cfg(test)]

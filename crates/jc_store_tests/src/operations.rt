@@ -31,20 +31,29 @@ pub struct Made {
     pub does: Does,
 }
 
-/// The cursor with these keys.
-fn cursor_of(keys: &Keys, below: &[(Tag, At)], last: At) -> Result<Cursor, AllocError> {
+fn push_key(keys: &Keys, path: &mut Path, tag: Tag, at: At) -> Result<(), AllocError> {
+    if path.as_slice().len() >= 512 {
+        return Err(AllocError);
+    }
+    let key = keys.key(at).copy()?;
+    match tag {
+        Tag::Map => path.push(Tagged::MapT(key)),
+        _ => path.push(Tagged::ListT(key)),
+    }
+}
+
+fn path_of(keys: &Keys, below: &[(Tag, At)]) -> Result<Path, AllocError> {
     let mut path = Path::new(keys.alloc);
     for (tag, at) in below {
-        let key = keys.key(*at).copy()?;
-        if path.as_slice().len() >= 512 {
-            return Err(AllocError);
-        }
-        match tag {
-            Tag::Map => path.push(Tagged::MapT(key))?,
-            _ => path.push(Tagged::ListT(key))?,
-        }
+        push_key(keys, &mut path, *tag, *at)?;
     }
+    Ok(path)
+}
+
+/// The cursor with these keys.
+fn cursor_of(keys: &Keys, below: &[(Tag, At)], last: At) -> Result<Cursor, AllocError> {
     let last = keys.key(last).copy()?;
+    let path = path_of(keys, below)?;
     Ok(Cursor { path, last })
 }
 
@@ -194,20 +203,25 @@ pub fn give_a_tree<S: TreeStore>(keys: &Keys, store: &mut S) -> Result<bool, All
     requires { IsReady 0 (S.tree store.old).now }
 {
     make_all(keys, store, FIRST_DELETED)?;
-    is_shown(keys.alloc, store, ITS_TREE)
+    is_shown(keys, store, ITS_TREE)
+}
+
+/// Whether an insert into the document's map is refused, since it is no list.
+fn refuses<S: TreeStore>(keys: &Keys, store: &mut S) -> Result<bool, AllocError>
+    requires { IsReady 0 (S.tree store.old).now }
+{
+    let cursor = cursor_of(keys, &[(Tag::Map, At::Doc)], At::A)?;
+    let (deps, mutation) = (IdSet::new(keys.alloc), Mutation::Insert(Value::True));
+    let outcome = apply_next(keys.alloc, store, 0, deps, cursor, mutation);
+    Ok(outcome == Err(ApplyFault::NotInList))
 }
 
 /// Whether an insert into a map is refused, and changes nothing.
 pub fn is_refused<S: TreeStore>(keys: &Keys, store: &mut S) -> Result<bool, AllocError>
     requires { IsReady 0 (S.tree store.old).now }
 {
-    let cursor = cursor_of(keys, &[(Tag::Map, At::Doc)], At::A)?;
-    let (deps, mutation) = (IdSet::new(keys.alloc), Mutation::Insert(Value::True));
-    let outcome = apply_next(keys.alloc, store, 0, deps, cursor, mutation);
-    if outcome != Err(ApplyFault::NotInList) || store.mark().changes != 0 {
-        return Ok(false);
-    }
-    is_shown(keys.alloc, store, "{}")
+    let is = refuses(keys, store)? && store.mark().changes == 0;
+    Ok(is && is_shown(keys, store, "{}")?)
 }
 
 /// A path and a last key, and whether an insert fits there. The other mutations fit everywhere.
@@ -272,12 +286,18 @@ fn others_fit<S: TreeStore>(store: &S, cursor: &Cursor) -> bool {
         && fits_as(store, cursor, Mutation::Delete, true)
 }
 
+/// Whether operations fit at the place as it is said.
+fn fit_at<S: TreeStore>(keys: &Keys, store: &S, place: &Place) -> Result<bool, AllocError> {
+    let (path, last, want) = place;
+    let cursor = cursor_of(keys, path, *last)?;
+    let insert = Mutation::Insert(Value::True);
+    Ok(fits_as(store, &cursor, insert, *want) && others_fit(store, &cursor))
+}
+
 /// Whether operations fit as the table says.
 fn fit<S: TreeStore>(keys: &Keys, store: &S, places: &[Place]) -> Result<bool, AllocError> {
-    for (path, last, want) in places {
-        let cursor = cursor_of(keys, path, *last)?;
-        let is = fits_as(store, &cursor, Mutation::Insert(Value::True), *want);
-        if !is || !others_fit(store, &cursor) {
+    for place in places {
+        if !fit_at(keys, store, place)? {
             return Ok(false);
         }
     }

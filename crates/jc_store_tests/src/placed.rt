@@ -4,9 +4,8 @@ ghost use Rattle.std.specs.Prelude.{IfSome};
 ghost use Rattle.jc_rules.specs.Ids.{AreRising};
 ghost use Rattle.jc_rules.specs.Context.{IsPrimitive};
 ghost use Rattle.jc_rules.specs.Paths.{HasContext};
-ghost use Rattle.jc_rules.specs.Shape.{IsKeptRegister};
 
-use crate::keys::{At, Keys, Tag, ids_of, values_of};
+use crate::keys::{At, Keys, Values, ids_of, values_of};
 use crate::steps::{Kind, Step};
 use jc_rules::{Id, Key, Next, Tagged, Value};
 use jc_tree::{Mark, Place, TreeStore, is_place};
@@ -45,7 +44,7 @@ impl<S: TreeStore> Placed<S> {
         Ok(true)
     }
 
-    fn make_named(&mut self, child: &Tagged) -> Result<bool, AllocError>
+    fn make_context(&mut self, child: &Tagged) -> Result<bool, AllocError>
         requires { HasContext child.now }
     {
         let at = self.at.as_slice();
@@ -57,6 +56,14 @@ impl<S: TreeStore> Placed<S> {
         };
         self.store.make_below(place, at, child)?;
         Ok(true)
+    }
+
+    fn make_named(&mut self, child: &Tagged) -> Result<bool, AllocError> {
+        match child {
+            Tagged::MapT(_) => self.make_context(child),
+            Tagged::ListT(_) => self.make_context(child),
+            Tagged::RegT(_) => Ok(false),
+        }
     }
 
     pub fn put_ids(&mut self, key: &Key, ids: &[Id]) -> Result<bool, AllocError>
@@ -100,17 +107,17 @@ impl<S: TreeStore> Placed<S> {
         Ok(true)
     }
 
-    fn put_values(&mut self, key: &Key, pairs: Vec<(Id, Value)>) -> Result<bool, AllocError>
-        requires { IsKeptRegister pairs.items }
-    {
+    fn put_values(&mut self, keys: &Keys, at: At, values: Values) -> Result<bool, AllocError> {
         if !is_place(&self.store, self.at.as_slice()) {
             return Ok(false);
         }
-        self.store.set_register(self.at.as_slice(), key, pairs)?;
+        let pairs = values_of(keys.alloc, values)?;
+        self.store
+            .set_register(self.at.as_slice(), keys.key(at), pairs)?;
         Ok(true)
     }
 
-    fn put_value(&mut self, key: &Key, id: Id, value: Value) -> Result<bool, AllocError>
+    fn put(&mut self, key: &Key, id: Id, value: Value) -> Result<bool, AllocError>
         requires { IsPrimitive value }
     {
         let at = self.at.as_slice();
@@ -121,24 +128,26 @@ impl<S: TreeStore> Placed<S> {
         Ok(self.store.put_value(at, key, id, value)? == was)
     }
 
+    /// Puts `true`, `false` or, for none, `null`.
+    fn put_value(&mut self, key: &Key, id: Id, value: Option<bool>) -> Result<bool, AllocError> {
+        match value {
+            None => self.put(key, id, Value::Null),
+            Some(true) => self.put(key, id, Value::True),
+            Some(false) => self.put(key, id, Value::False),
+        }
+    }
+
     /// Makes the change.
     pub fn change(&mut self, keys: &Keys, step: &Step) -> Result<bool, AllocError> {
         match step {
-            Step::Make(tag, at) => self.make(&keys.child(*tag, *at)?),
-            Step::MakeNamed(Tag::Map, at) => {
-                self.make_named(&Tagged::MapT(keys.key(*at).copy()?))
-            }
-            Step::MakeNamed(_, at) => self.make_named(&Tagged::ListT(keys.key(*at).copy()?)),
+            Step::Make(tag, at) => self.make(keys.child(*tag, *at)),
+            Step::MakeNamed(tag, at) => self.make_named(keys.child(*tag, *at)),
             Step::PutIds(at, ids) => self.put_ids(keys.key(*at), ids_of(*ids)),
             Step::AddId(at, id) => self.add_id(keys.key(*at), *id),
             Step::AddIdNamed(at, id) => self.add_id_named(keys.key(*at), *id),
             Step::Link(at, next) => self.link(keys.key(*at), *next),
-            Step::PutValues(at, values) => {
-                self.put_values(keys.key(*at), values_of(keys.alloc, *values)?)
-            }
-            Step::PutValue(at, id, None) => self.put_value(keys.key(*at), *id, Value::Null),
-            Step::PutValue(at, id, Some(true)) => self.put_value(keys.key(*at), *id, Value::True),
-            Step::PutValue(at, id, Some(false)) => self.put_value(keys.key(*at), *id, Value::False),
+            Step::PutValues(at, values) => self.put_values(keys, *at, *values),
+            Step::PutValue(at, id, value) => self.put_value(keys.key(*at), *id, *value),
             _ => Ok(false),
         }
     }
@@ -152,19 +161,26 @@ impl<S: TreeStore> Placed<S> {
         self.store.mark() == mark
     }
 
+    fn down(&mut self, child: &Tagged) -> Result<bool, AllocError> {
+        let child = child.copy()?;
+        self.at.push(child)?;
+        Ok(true)
+    }
+
+    /// Takes so many changes back.
+    fn back(&mut self, changes: usize) -> bool {
+        match self.store.mark().changes.checked_sub(changes) {
+            Some(changes) => self.undo_to(Mark { changes }),
+            None => false,
+        }
+    }
+
     /// Goes to another place or back.
     pub fn go(&mut self, keys: &Keys, step: &Step) -> Result<bool, AllocError> {
         match step {
-            Step::Down(tag, at) => {
-                let child = keys.child(*tag, *at)?;
-                self.at.push(child)?;
-                Ok(true)
-            }
+            Step::Down(tag, at) => self.down(keys.child(*tag, *at)),
             Step::Up => Ok(self.at.pop().is_some()),
-            Step::Back(changes) => match self.store.mark().changes.checked_sub(*changes) {
-                Some(changes) => Ok(self.undo_to(Mark { changes })),
-                None => Ok(false),
-            },
+            Step::Back(changes) => Ok(self.back(*changes)),
             Step::ForgetMarks => {
                 self.store.forget_marks();
                 Ok(true)
@@ -214,26 +230,38 @@ impl<S: TreeStore> Placed<S> {
         self.after(of, last).is_none()
     }
 
-    /// Whether the store has what is expected.
-    pub fn sees(&self, keys: &Keys, step: &Step) -> Result<bool, AllocError> {
+    fn has_values(&self, keys: &Keys, key: At, values: Values) -> Result<bool, AllocError> {
         let at = self.at.as_slice();
         if !is_place(&self.store, at) {
             return Ok(false);
         }
-        Ok(match step {
-            Step::HasChild(tag, key, want) => self.has(&keys.child(*tag, *key)?) == *want,
-            Step::HasBelow(tag, key, want) => self.has_below(&keys.child(*tag, *key)?) == *want,
+        let want = values_of(keys.alloc, values)?;
+        Ok(self.store.register(at, keys.key(key)) == Some(want.as_slice()))
+    }
+
+    fn shows(&self, keys: &Keys, step: &Step) -> bool {
+        let at = self.at.as_slice();
+        if !is_place(&self.store, at) {
+            return false;
+        }
+        match step {
+            Step::HasChild(tag, key, want) => self.has(keys.child(*tag, *key)) == *want,
+            Step::HasBelow(tag, key, want) => self.has_below(keys.child(*tag, *key)) == *want,
             Step::Ids(key, want) => self.store.presence(at, keys.key(*key)) == *want,
             Step::CountPresent(want) => self.store.count_present(at) == *want,
             Step::Next(key, want) => self.store.next(at, keys.key(*key)) == *want,
             Step::Values(key, None) => self.store.register(at, keys.key(*key)).is_none(),
-            Step::Values(key, Some(values)) => {
-                let want = values_of(keys.alloc, *values)?;
-                self.store.register(at, keys.key(*key)) == Some(want.as_slice())
-            }
             Step::Keys(of, want) => self.has_just(keys, *of, want),
             Step::Changes(want) => self.store.mark().changes == *want,
             _ => false,
-        })
+        }
+    }
+
+    /// Whether the store has what is expected.
+    pub fn sees(&self, keys: &Keys, step: &Step) -> Result<bool, AllocError> {
+        match step {
+            Step::Values(key, Some(values)) => self.has_values(keys, *key, *values),
+            _ => Ok(self.shows(keys, step)),
+        }
     }
 }

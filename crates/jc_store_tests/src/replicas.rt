@@ -4,6 +4,7 @@ ghost use Rattle.std.specs.Prelude.{◌≡◌, ◌&&◌, leb, eqb};
 ghost use Rattle.std.specs.List.{list_all};
 ghost use Rattle.jc_rules.specs.declared.operation.Op.{Op as AnyOp};
 
+use crate::keys::Keys;
 use crate::texts::is_shown;
 use jc_parser::parse_script;
 use jc_replica::{Replica, ReplicaFault};
@@ -11,7 +12,6 @@ use jc_rules::{Event, Id, Op, Trace};
 use jc_tree::PlainTree;
 use std::alloc::{AllocError, Global};
 use std::process::Abort;
-use std::test::Fail;
 
 /// The replica with this number and this script, at its start.
 fn replica(
@@ -20,7 +20,9 @@ fn replica(
     number: u16,
     script: &str,
 ) -> Result<Replica<PlainTree>, AllocError> {
-    let script = parse_script(alloc, script).map_err(|_| AllocError)?;
+    let Ok(script) = parse_script(alloc, script) else {
+        return Err(AllocError);
+    };
     assert!(rt; script.len() <= 65_536);
     Ok(Replica::new(alloc, number, script, PlainTree::new(alloc)))
 }
@@ -44,42 +46,36 @@ fn are_of(replica: u16, ops: &[Op]) -> bool
 #[tactic(auto, using(crate::proofs::Handed::handed))]
 fn receive(
     rt: &impl Abort,
-    alloc: Global,
     to: &mut Replica<PlainTree>,
     from: &Replica<PlainTree>,
 ) -> Result<Trace, ReplicaFault> {
     let offered = from.sent();
     assert!(rt; are_handed(offered));
     assert!(rt; are_of(from.number(), offered));
-    to.recv(alloc, offered)
+    to.recv(offered)
 }
 
 /// The replica receives what it offers itself.
 #[tactic(auto, using(crate::proofs::Handed::handed))]
-fn receive_own(
-    rt: &impl Abort,
-    alloc: Global,
-    replica: &mut Replica<PlainTree>,
-) -> Result<Trace, ReplicaFault> {
+fn receive_own(rt: &impl Abort, replica: &mut Replica<PlainTree>) -> Result<Trace, ReplicaFault> {
     assert!(rt; are_handed(replica.sent()));
-    replica.recv_own(alloc)
+    replica.recv_own()
 }
 
 /// The replica makes the event. What it receives of another one is what that one offers.
 fn make(
     rt: &impl Abort,
-    alloc: Global,
     replica: &mut Replica<PlainTree>,
     other: &Replica<PlainTree>,
     event: &Event,
 ) -> Result<Trace, ReplicaFault> {
     match event {
-        Event::Exec(_) => replica.exec(alloc),
-        Event::Send(_) => replica.send(alloc),
-        Event::Recv(p, q) if p == q => receive_own(rt, alloc, replica),
-        Event::Recv(_, _) => receive(rt, alloc, replica, other),
-        Event::Apply(_, id) => replica.apply(alloc, *id),
-        Event::Done(_) => replica.done(alloc),
+        Event::Exec(_) => replica.exec(),
+        Event::Send(_) => replica.send(),
+        Event::Recv(p, q) if p == q => receive_own(rt, replica),
+        Event::Recv(_, _) => receive(rt, replica, other),
+        Event::Apply(_, id) => replica.apply(*id),
+        Event::Done(_) => replica.done(),
     }
 }
 
@@ -114,17 +110,16 @@ type Row = (Event, bool);
 /// Whether the replica can make the event as expected, and makes it; where it is refused, nothing changes.
 fn is_made(
     rt: &impl Abort,
-    alloc: Global,
     replica: &mut Replica<PlainTree>,
     other: &Replica<PlainTree>,
     row: &Row,
 ) -> Result<bool, AllocError> {
     let (event, want) = row;
-    if event.replica() != replica.number() || replica.can(alloc, event)? != *want {
+    if event.replica() != replica.number() || replica.can(event)? != *want {
         return Ok(false);
     }
     let before = seen_of(replica);
-    let is = make(rt, alloc, replica, other, event).is_ok();
+    let is = make(rt, replica, other, event).is_ok();
     Ok(is == *want && (is || seen_of(replica) == before))
 }
 
@@ -142,11 +137,11 @@ impl Pair {
         Ok(Pair { a, b })
     }
 
-    fn is_made(&mut self, rt: &impl Abort, alloc: Global, row: &Row) -> Result<bool, AllocError> {
+    fn is_made(&mut self, rt: &impl Abort, row: &Row) -> Result<bool, AllocError> {
         if row.0.replica() == 0 {
-            is_made(rt, alloc, &mut self.a, &self.b, row)
+            is_made(rt, &mut self.a, &self.b, row)
         } else {
-            is_made(rt, alloc, &mut self.b, &self.a, row)
+            is_made(rt, &mut self.b, &self.a, row)
         }
     }
 
@@ -158,7 +153,6 @@ impl Pair {
     fn make(
         &mut self,
         rt: &impl Abort,
-        alloc: Global,
         rows: &[Row],
         kept: &mut Vec<(u16, Seen, Seen)>,
     ) -> Result<(), AllocError> {
@@ -167,7 +161,7 @@ impl Pair {
             if row.1 {
                 kept.push((row.0.replica(), of_a, of_b))?;
             }
-            assert!(rt; self.is_made(rt, alloc, row)?, "{number}");
+            assert!(rt; self.is_made(rt, row)?, "{number}");
         }
         Ok(())
     }
@@ -265,29 +259,54 @@ const MET_SEEN: (Seen, Seen) = (
     },
 );
 
+/// Whether the trees of both are shown so.
+fn are_shown(keys: &Keys, pair: &Pair, want: &str) -> Result<bool, AllocError> {
+    Ok(is_shown(keys, pair.a.tree(), want)? && is_shown(keys, pair.b.tree(), want)?)
+}
+
 /// The replicas meet, and take each step back.
 fn meet(
     rt: &impl Abort,
-    alloc: Global,
+    keys: &Keys,
     pair: &mut Pair,
     kept: &mut Vec<(u16, Seen, Seen)>,
 ) -> Result<(), AllocError> {
-    pair.make(rt, alloc, MEETING, kept)?;
-    assert!(rt; pair.seen() == MET_SEEN);
-    let is = is_shown(alloc, pair.a.tree(), MET)? && is_shown(alloc, pair.b.tree(), MET)?;
+    pair.make(rt, MEETING, kept)?;
+    let is = pair.seen() == MET_SEEN && are_shown(keys, pair, MET)?;
     assert!(rt; is);
     pair.go_back(rt, kept.as_slice());
-    let is = is_shown(alloc, pair.a.tree(), "{}")? && is_shown(alloc, pair.b.tree(), "{}")?;
+    let is = are_shown(keys, pair, "{}")?;
     assert!(rt; is);
     Ok(())
 }
 
-#[test]
-fn meeting(rt: HostRuntime) -> Result<(), Fail> {
-    let mut kept = Vec::new(rt.alloc());
-    let mut pair = Pair::new(&rt, rt.alloc(), &INSERTS)?;
-    meet(&rt, rt.alloc(), &mut pair, &mut kept)?;
-    Ok(())
+/// Two new replicas with these scripts meet, or the first one goes as deep as it can.
+fn play(
+    rt: &impl Abort,
+    keys: &Keys,
+    scripts: &[&str; 2],
+    is_deep: bool,
+) -> Result<(), AllocError> {
+    let mut pair = Pair::new(rt, keys.alloc, scripts)?;
+    play_with(rt, keys, &mut pair, is_deep)
+}
+
+fn play_with(
+    rt: &impl Abort,
+    keys: &Keys,
+    pair: &mut Pair,
+    is_deep: bool,
+) -> Result<(), AllocError> {
+    let mut kept = Vec::new(keys.alloc);
+    if is_deep {
+        go_deep(rt, pair, &mut kept)
+    } else {
+        meet(rt, keys, pair, &mut kept)
+    }
+}
+
+pub fn meeting(rt: &impl Abort, keys: &Keys) -> Result<(), AllocError> {
+    play(rt, keys, &INSERTS, false)
 }
 
 /// A script whose 515th command leads to the deepest cursor; the one after it would lead deeper.
@@ -303,27 +322,17 @@ fn deepest_script(alloc: Global) -> Result<String, AllocError> {
 /// Replica 0 runs the script up to the command that would lead too deep, and takes each step back.
 fn go_deep(
     rt: &impl Abort,
-    alloc: Global,
     pair: &mut Pair,
     kept: &mut Vec<(u16, Seen, Seen)>,
 ) -> Result<(), AllocError> {
-    pair.make(rt, alloc, &[(Event::Exec(0), true); 515], kept)?;
-    pair.make(rt, alloc, &[(Event::Exec(0), false)], kept)?;
+    pair.make(rt, &[(Event::Exec(0), true); 515], kept)?;
+    pair.make(rt, &[(Event::Exec(0), false)], kept)?;
     assert!(rt; pair.a.left().len() == 1);
     pair.go_back(rt, kept.as_slice());
     Ok(())
 }
 
-/// Two replicas, the first with that script.
-fn deep_pair(rt: &impl Abort, alloc: Global) -> Result<Pair, AllocError> {
-    let script = deepest_script(alloc)?;
-    Pair::new(rt, alloc, &[script.as_str(), ""])
-}
-
-#[test]
-fn deepest_cursor(rt: HostRuntime) -> Result<(), Fail> {
-    let mut kept = Vec::new(rt.alloc());
-    let mut pair = deep_pair(&rt, rt.alloc())?;
-    go_deep(&rt, rt.alloc(), &mut pair, &mut kept)?;
-    Ok(())
+pub fn deepest_cursor(rt: &impl Abort, keys: &Keys) -> Result<(), AllocError> {
+    let script = deepest_script(keys.alloc)?;
+    play(rt, keys, &[script.as_str(), ""], true)
 }

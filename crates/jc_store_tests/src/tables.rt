@@ -3,12 +3,12 @@
 
 use crate::keys::{At, FIRST, Keys, SECOND, Set, Tag, Values};
 use crate::steps::{Kind, Step};
+use crate::turns::{Steps, Turn, in_new_stores};
 use crate::twins::Twins;
 use jc_rules::Next;
 use jc_tree::laws;
 use std::alloc::AllocError;
 use std::process::Abort;
-use std::test::Fail;
 
 const CHILDREN: &[Step] = &[
     Step::HasChild(Tag::Map, At::Doc, false),
@@ -271,46 +271,47 @@ const THREE_DOWN: &[Step] = &[
 ];
 
 /// Takes the steps of each table at the place to which the way leads, in stores of its own.
-fn play_all(rt: &impl Abort, keys: &Keys, way: &[Step]) -> Result<(), AllocError> {
+fn play_all(rt: &impl Abort, keys: &Keys, way: Steps) -> Result<(), AllocError> {
     for (title, steps) in TABLES {
-        let mut twins = Twins::new(keys.alloc)?;
-        twins.play_there(rt, keys, title, way, steps)?;
+        in_new_stores(rt, keys, &Turn::Steps(title, way, steps))?;
     }
     Ok(())
 }
 
-#[test]
-fn worked_steps(rt: HostRuntime) -> Result<(), Fail> {
-    let keys = Keys::new(rt.alloc())?;
-    play_all(&rt, &keys, HERE)?;
-    play_all(&rt, &keys, THREE_DOWN)?;
+pub fn worked_steps(rt: &impl Abort, keys: &Keys) -> Result<(), AllocError> {
+    play_all(rt, keys, HERE)?;
+    play_all(rt, keys, THREE_DOWN)
+}
+
+fn five_times(
+    rt: &impl Abort,
+    keys: &Keys,
+    twins: &mut Twins,
+    steps: &[Step],
+) -> Result<(), AllocError> {
+    for _ in 0..5 {
+        twins.play(rt, keys, "five times", steps)?;
+    }
     Ok(())
 }
 
 /// Twenty changes at five depths are taken back one by one, and once more at once.
-fn change_and_undo(
+pub fn change_and_undo(
     rt: &impl Abort,
     keys: &Keys,
     twins: &mut Twins,
     way: &[Step],
 ) -> Result<(), AllocError> {
     twins.play(rt, keys, "way", way)?;
-    for steps in [FOUR_CHANGES, EACH_TAKEN_BACK, FOUR_CHANGES] {
-        for _ in 0..5 {
-            twins.play(rt, keys, "five times", steps)?;
-        }
-    }
+    five_times(rt, keys, twins, FOUR_CHANGES)?;
+    five_times(rt, keys, twins, EACH_TAKEN_BACK)?;
+    five_times(rt, keys, twins, FOUR_CHANGES)?;
     twins.play(rt, keys, "at once", ALL_TAKEN_BACK)
 }
 
-#[test]
-fn many_changes(rt: HostRuntime) -> Result<(), Fail> {
-    let keys = Keys::new(rt.alloc())?;
-    for way in [HERE, THREE_DOWN] {
-        let mut twins = Twins::new(rt.alloc())?;
-        change_and_undo(&rt, &keys, &mut twins, way)?;
-    }
-    Ok(())
+pub fn many_changes(rt: &impl Abort, keys: &Keys) -> Result<(), AllocError> {
+    in_new_stores(rt, keys, &Turn::Changes(HERE))?;
+    in_new_stores(rt, keys, &Turn::Changes(THREE_DOWN))
 }
 
 // Laws are contracts, and hold where they can be called.

@@ -8,13 +8,6 @@ use jc_rules::{Key, Tagged, Text};
 use jc_tree::TreeStore;
 use std::alloc::{AllocError, Global};
 use std::process::Abort;
-use std::test::Fail;
-
-/// The names of the replicas.
-fn names(alloc: Global) -> Result<[Text; 2], AllocError> {
-    let first = text(alloc, "a")?;
-    Ok([first, text(alloc, "b")?])
-}
 
 fn is_key(alloc: Global, names: &[Text], key: &Key, want: &str) -> Result<bool, AllocError> {
     Ok(key_text(alloc, names, key)?.as_str() == want)
@@ -25,14 +18,15 @@ fn is_tagged(alloc: Global, names: &[Text], key: &Tagged, want: &str) -> Result<
 }
 
 /// Whether the tree of the store is shown so.
-pub fn is_shown<S: TreeStore>(alloc: Global, store: &S, want: &str) -> Result<bool, AllocError> {
-    let names = names(alloc)?;
+pub fn is_shown<S: TreeStore>(keys: &Keys, store: &S, want: &str) -> Result<bool, AllocError> {
     let tree = Tree {
-        alloc,
-        names: &names,
+        alloc: keys.alloc,
+        names: &keys.names,
         store,
     };
-    let line = serde_json::to_string(alloc, &tree).map_err(|_| AllocError)?;
+    let Ok(line) = serde_json::to_string(keys.alloc, &tree) else {
+        return Err(AllocError);
+    };
     Ok(line.as_str() == want)
 }
 
@@ -49,33 +43,43 @@ const CHILDREN: &[(Tag, At, &str)] = &[
     (Tag::Register, At::First, "regT(1@b)"),
 ];
 
-/// Whether the keys of the tables have their texts.
-fn are_keys(keys: &Keys, names: &[Text]) -> Result<bool, AllocError> {
+fn are_keys(keys: &Keys) -> Result<bool, AllocError> {
     for (at, want) in KEYS {
-        if !is_key(keys.alloc, names, keys.key(*at), want)? {
-            return Ok(false);
-        }
-    }
-    for (tag, at, want) in CHILDREN {
-        if !is_tagged(keys.alloc, names, &keys.child(*tag, *at)?, want)? {
+        if !is_key(keys.alloc, &keys.names, keys.key(*at), want)? {
             return Ok(false);
         }
     }
     Ok(true)
 }
 
-/// Whether a name is told with each escape, and an identifier.
-fn are_texts(alloc: Global, names: &[Text]) -> Result<bool, AllocError> {
-    let odd = Key::Name(text(alloc, "\"\\/\u{8}\u{c}\n\r\t\u{1f}é")?);
-    let is = is_key(alloc, names, &odd, "\"\\\"\\\\/\\b\\f\\n\\r\\t\\u001fé\"")?;
-    Ok(is && id_text(alloc, names, FIRST)?.as_str() == "1@b")
+fn are_children(keys: &Keys) -> Result<bool, AllocError> {
+    for (tag, at, want) in CHILDREN {
+        if !is_tagged(keys.alloc, &keys.names, keys.child(*tag, *at), want)? {
+            return Ok(false);
+        }
+    }
+    Ok(true)
 }
 
-#[test]
-fn keys_and_identifiers(rt: HostRuntime) -> Result<(), Fail> {
-    let keys = Keys::new(rt.alloc())?;
-    let names = names(rt.alloc())?;
-    assert!(rt; are_keys(&keys, &names) == Ok(true) && are_texts(rt.alloc(), &names) == Ok(true));
+/// Whether a name is told with each escape.
+fn is_escaped(keys: &Keys) -> Result<bool, AllocError> {
+    let odd = Key::Name(text(keys.alloc, "\"\\/\u{8}\u{c}\n\r\t\u{1f}é")?);
+    is_key(
+        keys.alloc,
+        &keys.names,
+        &odd,
+        "\"\\\"\\\\/\\b\\f\\n\\r\\t\\u001fé\"",
+    )
+}
+
+fn is_identifier(keys: &Keys) -> Result<bool, AllocError> {
+    Ok(id_text(keys.alloc, &keys.names, FIRST)?.as_str() == "1@b")
+}
+
+/// Keys, a name and an identifier have their texts.
+pub fn keys_and_identifiers(rt: &impl Abort, keys: &Keys) -> Result<(), AllocError> {
+    let is = are_keys(keys)? && are_children(keys)? && is_escaped(keys)? && is_identifier(keys)?;
+    assert!(rt; is);
     Ok(())
 }
 
@@ -92,19 +96,11 @@ const UNDER_ONE_NAME: &[Step] = &[
 const MEMBERS: &str =
     "{\"mapT(doc)\":{\"mapT(\\\"a\\\")\":{},\"pres(\\\"a\\\")\":[],\"pres(\\\"a1\\\")\":[],\"regT(\\\"a\\\")\":{\"10@a\":null,\"2@a\":true,\"2@b\":false}}}";
 
-/// Makes them in both stores, and whether they are shown so.
-fn show_members(rt: &impl Abort, keys: &Keys, twins: &mut Twins) -> Result<bool, AllocError> {
+/// Makes them in both stores, which are shown so.
+pub fn show_members(rt: &impl Abort, keys: &Keys, twins: &mut Twins) -> Result<(), AllocError> {
     twins.play(rt, keys, "under one name", UNDER_ONE_NAME)?;
-    Ok(
-        is_shown(keys.alloc, &twins.plain.store, MEMBERS)?
-            && is_shown(keys.alloc, &twins.arena.store, MEMBERS)?,
-    )
-}
-
-#[test]
-fn trees(rt: HostRuntime) -> Result<(), Fail> {
-    let keys = Keys::new(rt.alloc())?;
-    let mut twins = Twins::new(rt.alloc())?;
-    assert!(rt; show_members(&rt, &keys, &mut twins) == Ok(true));
+    let is = is_shown(keys, &twins.plain.store, MEMBERS)?
+        && is_shown(keys, &twins.arena.store, MEMBERS)?;
+    assert!(rt; is);
     Ok(())
 }

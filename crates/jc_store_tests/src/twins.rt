@@ -4,7 +4,7 @@ use crate::keys::{At, Keys, Tag};
 use crate::placed::Placed;
 use crate::steps::{Kind, Step};
 use jc_rules::{Key, Tagged};
-use jc_tree::{ArenaTree, PlainTree, TreeStore, is_place};
+use jc_tree::{ArenaTree, Mark, PlainTree, TreeStore, is_place};
 use std::alloc::{AllocError, Global};
 use std::process::Abort;
 
@@ -58,40 +58,45 @@ impl Twins {
             && self.plain.has_below(child) == self.arena.has_below(child)
     }
 
+    fn is_same_under(&self, keys: &Keys, at: At) -> bool {
+        for tag in TAGS {
+            if !self.is_same_child(keys.child(tag, at)) {
+                return false;
+            }
+        }
+        self.is_same_at(keys.key(at)) && self.is_same_after(keys.key(at))
+    }
+
     /// Whether the same stands at the place.
-    pub fn is_same(&self, keys: &Keys) -> Result<bool, AllocError> {
-        if self.plain.at.as_slice() != self.arena.at.as_slice()
-            || self.plain.store.mark() != self.arena.store.mark()
-        {
-            return Ok(false);
-        }
+    pub fn is_same(&self, keys: &Keys) -> bool {
         for at in KEYS {
-            let key = keys.key(at);
-            if !self.is_same_at(key) || !self.is_same_after(key) {
-                return Ok(false);
-            }
-            for tag in TAGS {
-                if !self.is_same_child(&keys.child(tag, at)?) {
-                    return Ok(false);
-                }
+            if !self.is_same_under(keys, at) {
+                return false;
             }
         }
-        Ok(true)
+        self.plain.at.as_slice() == self.arena.at.as_slice()
+            && self.plain.store.mark() == self.arena.store.mark()
     }
 
     fn change_both(&mut self, keys: &Keys, step: &Step) -> Result<bool, AllocError> {
         Ok(self.plain.change(keys, step)? && self.arena.change(keys, step)?)
     }
 
-    /// Makes one change. Where memory is refused the store is as it was, and the change is made then.
+    /// Makes the change again, where memory was refused: both stores are as they were.
+    fn change_again(&mut self, keys: &Keys, step: &Step, before: Mark) -> Result<bool, AllocError> {
+        let are_back = self.plain.undo_to(before) && self.arena.undo_to(before);
+        if !are_back || !self.is_same(keys) {
+            return Ok(false);
+        }
+        self.change_both(keys, step)
+    }
+
+    /// Makes one change.
     pub fn change(&mut self, keys: &Keys, step: &Step) -> Result<bool, AllocError> {
         let before = self.plain.store.mark();
         let is = match self.change_both(keys, step) {
             Ok(is) => is,
-            Err(_) => {
-                let are_back = self.plain.undo_to(before) && self.arena.undo_to(before);
-                are_back && self.is_same(keys)? && self.change_both(keys, step)?
-            }
+            Err(_) => self.change_again(keys, step, before)?,
         };
         let is_one = Some(self.plain.store.mark().changes) == before.changes.checked_add(1);
         Ok(is && is_one && self.plain.store.mark() == self.arena.store.mark())

@@ -1,35 +1,30 @@
 //! Why a text has no list of tokens.
 
-ghost use Rattle.std.specs.Prelude.{◌≡◌};
+ghost use Rattle.std.specs.Prelude.{◌≡◌, Some};
 ghost use Rattle.jc_syntax.specs.declared.fault.LexFault.TheVariants.{Memory};
-ghost use Rattle.jc_syntax.specs.Faults.{number_of, place_of};
+ghost use Rattle.jc_syntax.specs.Faults.{number_of, place_of, refusal_of, text_of};
 
+use jc_rules::Refusal;
 use std::alloc::{AllocError, AllocFailed};
+use std::fmt;
 use thiserror::Error;
 
 /// Why a text has no list of tokens. Places are byte numbers from 0.
 #[derive(Clone, Copy, Debug, Error)]
 pub enum LexFault {
     /// A byte that begins no token, or a control byte inside a string.
-    #[error("BadByte at {place}")]
     BadByte { place: usize },
     /// A string without a closing quote; the place is its opening quote.
-    #[error("OpenString at {place}")]
     OpenString { place: usize },
     /// A backslash that begins no escape.
-    #[error("BadEscape at {place}")]
     BadEscape { place: usize },
     /// The escape of a surrogate that is no half of a pair; the place is its backslash.
-    #[error("LoneSurrogate at {place}")]
     LoneSurrogate { place: usize },
     /// What begins like a number and is no JSON number.
-    #[error("BadNumber at {place}")]
     BadNumber { place: usize },
     /// A text or a token that is longer than its limit; for a token the place is its start.
-    #[error("TextTooLong at {place}")]
     TextTooLong { place: usize },
     /// A request for memory was refused.
-    #[error("no memory")]
     Memory,
 }
 
@@ -61,6 +56,36 @@ impl LexFault {
             | LexFault::BadNumber { place }
             | LexFault::TextTooLong { place } => Some(*place),
             LexFault::Memory => None,
+        }
+    }
+
+    /// The refusal that the fault is; want of memory is none.
+    fn refusal(&self) -> Option<Refusal>
+        ensures { result ≡ refusal_of self.now }
+    {
+        match self {
+            LexFault::BadByte { .. } => Some(Refusal::BadByte),
+            LexFault::OpenString { .. } => Some(Refusal::OpenString),
+            LexFault::BadEscape { .. } => Some(Refusal::BadEscape),
+            LexFault::LoneSurrogate { .. } => Some(Refusal::LoneSurrogate),
+            LexFault::BadNumber { .. } => Some(Refusal::BadNumber),
+            LexFault::TextTooLong { .. } => Some(Refusal::TextTooLong),
+            LexFault::Memory => None,
+        }
+    }
+}
+
+// By hand, since no contract says what a derived one writes.
+impl fmt::Display for LexFault {
+    ghost output = { λ fault. Some (text_of fault) };
+
+    fn fmt<W: fmt::Write>(&self, f: &mut fmt::Formatter<W>) -> fmt::Result {
+        match (self.refusal(), self.place()) {
+            (Some(refusal), Some(place)) => {
+                let name = refusal.name();
+                write!(f, "{name} at {place}")
+            }
+            _ => f.write_str("no memory"),
         }
     }
 }

@@ -1,6 +1,6 @@
 //! Trees of commands, expressions and events, as they are read.
 
-ghost use Rattle.std.specs.Prelude.{◌≡◌, IfOk};
+ghost use Rattle.std.specs.Prelude.{◌≡◌, IfOk, map};
 ghost use Rattle.jc_syntax.specs.Trees.{expr_of, cmd_of};
 
 use jc_rules::{Text, Value};
@@ -93,6 +93,17 @@ impl Cmd {
             Cmd::Yield => Cmd::Yield,
         })
     }
+}
+
+/// The same script once more.
+pub fn copy_script(alloc: Global, script: &[Cmd]) -> Result<Vec<Cmd>, AllocError>
+    ensures { IfOk result (λ copies. map cmd_of copies.items ≡ map cmd_of script.now) }
+{
+    let mut copies = Vec::new(alloc);
+    for cmd in script {
+        copies.push(cmd.copy(alloc)?)?;
+    }
+    Ok(copies)
 }
 
 impl Named {

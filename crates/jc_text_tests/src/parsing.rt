@@ -1,6 +1,6 @@
 //! The faults of scripts, expressions and events.
 
-use crate::testing::{Fault, Parts, fault, is_fault, repeated};
+use crate::testing::{Fault, Parts, fault, is_fault, is_text, repeated};
 use jc_parser::{ParseFault, event_at, parse_event, parse_expr, parse_script, script_at};
 use jc_syntax::lex;
 use std::alloc::Global;
@@ -132,6 +132,32 @@ fn faults(rt: HostRuntime) {
     have_faults(&rt, rt.alloc(), Reading::Script, SCRIPTS);
     have_faults(&rt, rt.alloc(), Reading::Expression, EXPRESSIONS);
     have_faults(&rt, rt.alloc(), Reading::Event, EVENTS);
+}
+
+/// Texts of expressions, and what their faults are shown as.
+const SHOWN: &[(&str, &str)] = &[
+    ("#", "BadByte at 0"),
+    ("doc.get(\"a", "OpenString at 8"),
+    ("doc.get(\"\\q\")", "BadEscape at 9"),
+    ("doc.get(\"\\ud800\")", "LoneSurrogate at 9"),
+    ("doc.idx(01)", "BadNumber at 8"),
+    ("doc doc", "Unexpected at 4"),
+    ("doc.", "EndOfText at 4"),
+    ("doc.idx(4294967296)", "IndexTooLarge at 8"),
+    ("let", "ReservedName at 0"),
+];
+
+#[test]
+fn faults_are_shown(rt: HostRuntime) -> Result<(), Fail> {
+    for (text, want) in SHOWN {
+        let Err(why) = parse_expr(rt.alloc(), text) else {
+            assert!(rt; false, "{text}");
+            continue;
+        };
+        let shown = why.to_string(rt.alloc())?;
+        is_text(&rt, shown.as_str(), want);
+    }
+    Ok(())
 }
 
 /// Texts at their limits and past them.

@@ -3,7 +3,7 @@
 
 use crate::testing::{Fault, Parts, fault, holds, is_fault, is_text, repeated};
 use jc_rules::{Event, Id, Text};
-use jc_scenario::{Scenario, print, read, resolve};
+use jc_scenario::{Scenario, ScenarioFault, print, read, resolve};
 use jc_syntax::{Cmd, Named, NamedEvent};
 use std::alloc::{AllocError, Global};
 use std::process::Abort;
@@ -27,6 +27,33 @@ fn bytes_that_are_no_text(rt: HostRuntime) {
     for (bytes, want) in NOT_UTF8 {
         is_fault(&rt, "no text", fault_of(rt.alloc(), bytes), *want);
     }
+}
+
+/// Bytes that are no scenario, and what their faults are shown as.
+const SHOWN: &[(&[u8], &str)] = &[
+    (b"jsoncrdt 1 \xff", "NotUtf8 at 11"),
+    (b"jsoncrdt 2", "NoHeader at 9"),
+    (b"jsoncrdt 1", "NoReplica at 10"),
+    (b"jsoncrdt 1 replica a {} replica a {}", "SameName at 32"),
+    (
+        b"jsoncrdt 1 replica a {} schedule {z.exec}",
+        "UnknownReplica at 34",
+    ),
+];
+
+#[test]
+fn faults_are_shown(rt: HostRuntime) -> Result<(), Fail> {
+    for (bytes, want) in SHOWN {
+        let Err(why) = read(rt.alloc(), bytes) else {
+            assert!(rt; false, "{want}");
+            continue;
+        };
+        let shown = why.to_string(rt.alloc())?;
+        is_text(&rt, shown.as_str(), want);
+    }
+    let memory = ScenarioFault::from(AllocError).to_string(rt.alloc())?;
+    is_text(&rt, memory.as_str(), "no memory");
+    Ok(())
 }
 
 /// What stands before an event.

@@ -198,6 +198,8 @@ fn fault_texts(rt: HostRuntime) -> Result<(), Fail> {
     let shown = LexFault::BadNumber { place: 7 }.to_string(rt.alloc())?;
     is_text(&rt, shown.as_str(), "BadNumber at 7");
     let memory = LexFault::from(AllocError);
+    let shown = memory.to_string(rt.alloc())?;
+    is_text(&rt, shown.as_str(), "no memory");
     let is_memory = matches!(memory, LexFault::Memory);
     holds(
         &rt,

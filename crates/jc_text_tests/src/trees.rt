@@ -187,15 +187,28 @@ fn scenario_in(alloc: Global, text: &str) -> Result<NamedScenario, Fail> {
     Ok(scenario_of(alloc, text, &tokens)?)
 }
 
+/// Two replicas, out of order, and two events.
+const TWO: &str = "jsoncrdt 1 replica b {} replica a {yield} schedule {a.recv(b); c.send}";
+
+fn is_two(scenario: &NamedScenario) -> bool {
+    are_the_replicas(&scenario.replicas) && are_the_events(&scenario.events)
+}
+
 // Names in events are not looked up there.
 #[test]
 fn scenarios_of_tokens(rt: HostRuntime) -> Result<(), Fail> {
-    let two = "jsoncrdt 1 replica b {} replica a {yield} schedule {a.recv(b); c.send}";
-    let scenario = scenario_in(rt.alloc(), two)?;
-    let is_it = are_the_replicas(&scenario.replicas) && are_the_events(&scenario.events);
-    holds(&rt, two, is_it);
+    let scenario = scenario_in(rt.alloc(), TWO)?;
+    holds(&rt, TWO, is_two(&scenario));
     let one = "jsoncrdt 1 replica a {} schedule {b.exec}";
     let scenario = scenario_in(rt.alloc(), one)?;
     holds(&rt, one, scenario.events.len() == 1);
+    Ok(())
+}
+
+#[test]
+fn scenarios_are_copied(rt: HostRuntime) -> Result<(), Fail> {
+    let scenario = scenario_in(rt.alloc(), TWO)?;
+    let copy = scenario.copy()?;
+    holds(&rt, TWO, is_two(&copy));
     Ok(())
 }

@@ -2,18 +2,18 @@
 use Rattle.std.proofs.Common.{◌≡◌, ◌≢◌, ◌⊎◌, List, [], ◌∷◌, subst, true, Option, Some, None, Box, option_map, refl, ap, sym, ◌∙◌, inl, inr, codes, length, map}
 use Rattle.std.specs.Box.{box_value}
 use Rattle.std.specs.Option.{option_and_then}
-use Rattle.clap.specs.Words.{IsAmong, Kinds, Row, Text, fault_of, subcommand_of, subcommand_name_of, subcommand_rows_of}
+use Rattle.clap.specs.Words.{IsAmong, Kinds, Row, Text, subcommand_of, subcommand_name_of, subcommand_rows_of}
 use Rattle.clap.specs.Simple.{subcommand_rows}
 use Rattle.clap.specs.declared.error.kind.ErrorKind.{ErrorKind}
-use Rattle.clap.specs.declared.error.kind.ErrorKind.TheVariants.{DisplayHelp, OutOfMemory}
+use Rattle.clap.specs.declared.error.kind.ErrorKind.TheVariants.{DisplayHelp, DisplayVersion, OutOfMemory}
 use Rattle.clap.specs.declared.parser.matches.ArgMatches.{ArgMatches}
 use Rattle.clap.specs.declared.parser.matches.ArgMatches.TheViews.{out-ArgMatches, out-SubCommand}
 use Rattle.clap.specs.declared.parser.matches.SubCommand.{SubCommand}
 use Rattle.jc_words.specs.Laws.{FaultlessAreOrders}
 use Rattle.jc_words.specs.Program.{program}
-use Rattle.jc_words.specs.Words.{order_by, order_in, with_file, words_order, AsksHelp, IsWordsFault, IsFaultBy}
-use Rattle.jc_words.proofs.Helping.{help_alone}
-use Rattle.jc_words.proofs.Literals.{none_wanted}
+use Rattle.jc_words.specs.Words.{meant, order_by, order_in, with_file, words_faults, words_order, AsksHelp, IsCall, IsFaultBy, IsFaultless, IsWordsFault}
+use Rattle.jc_words.proofs.Helping.{call_alone}
+use Rattle.jc_words.proofs.Literals.{none_asked}
 use Rattle.jc_words.specs.declared.order.Task.{Task}
 use Rattle.jc_words.specs.declared.order.Task.TheVariants.{Show}
 use Rattle.jc_words.specs.declared.order.View.TheVariants.{Run}
@@ -40,37 +40,63 @@ name_is m = names (out-ArgMatches m).subcommand
 
 -- ---- words that have a fault
 
-among_one : (k : ErrorKind) (kinds : Kinds) → IsAmong k kinds → kinds ≡ DisplayHelp ∷ [] → k ≡ DisplayHelp
-among_one k (x ∷ []) (inl same) e = let first : x ≡ DisplayHelp = cc in same ∙ first
-among_one k (x ∷ []) (inr more) e = absurd more
-among_one k (x ∷ y ∷ kinds) among e = cc
-among_one k [] among e = absurd among
+among_one : (k call : ErrorKind) (kinds : Kinds) → IsAmong k kinds → kinds ≡ call ∷ [] → k ≡ call
+among_one k call (x ∷ []) (inl same) e = let first : x ≡ call = cc in same ∙ first
+among_one k call (x ∷ []) (inr more) e = absurd more
+among_one k call (x ∷ y ∷ kinds) among e = cc
+among_one k call [] among e = absurd among
 
 no_order : (k : ErrorKind) (kinds : Kinds) (s : Option (Text × List Row)) → IsAmong k kinds → order_by kinds s ≡ None
 no_order k [] s among = absurd among
 no_order k (x ∷ kinds) s among = refl
 
-pub no_words_order : (k : ErrorKind) (words : List Text) → words ≢ [] → IsAmong k (fault_of program words) → words_order words ≡ None
+pub no_words_order : (k : ErrorKind) (words : List Text) → words ≢ [] → IsAmong k (words_faults words) → words_order words ≡ None
 unfolding words_order
 no_words_order k [] some among = absurd (some refl)
-no_words_order k (w ∷ ws) some among = no_order k (fault_of program (w ∷ ws)) _ among
+no_words_order k (w ∷ ws) some among = no_order k (words_faults (w ∷ ws)) _ among
+
+-- a call among the faults is what the words ask
+asks_by : (k : ErrorKind) (words : List Text) → IsCall k → IsAmong k (words_faults words) → AsksHelp words
+asks_by k words (inl help) among = inl (subst (λ (x : ErrorKind). words_faults words ≡ x ∷ []) help (call_alone k (meant words) (inl help) among))
+asks_by k words (inr version) among = inr (subst (λ (x : ErrorKind). words_faults words ≡ x ∷ []) version (call_alone k (meant words) (inr version) among))
+
+-- where the words ask, each of the faults is a call
+call_by : (k : ErrorKind) (words : List Text) → IsAmong k (words_faults words) → AsksHelp words → IsCall k
+call_by k words among (inl help) = inl (among_one k DisplayHelp (words_faults words) among help)
+call_by k words among (inr version) = inr (among_one k DisplayVersion (words_faults words) among version)
+
+memory_no_call : (k : ErrorKind) → k ≡ OutOfMemory → IsCall k → ⊥
+memory_no_call k memory (inl help) = let bad : OutOfMemory ≡ DisplayHelp = sym memory ∙ help in cc
+memory_no_call k memory (inr version) = let bad : OutOfMemory ≡ DisplayVersion = sym memory ∙ version in cc
 
 -- the answer for an error is why the words are no order
-pub faulty : (k : ErrorKind) (words : List Text) (fault : WordsFault) → words ≢ [] → (k ≡ OutOfMemory) ⊎ IsAmong k (fault_of program words) → IsFaultBy k fault → IsWordsFault words fault
+pub faulty : (k : ErrorKind) (words : List Text) (fault : WordsFault) → words ≢ [] → (k ≡ OutOfMemory) ⊎ IsAmong k (words_faults words) → IsFaultBy k fault → IsWordsFault words fault
 faulty k words Memory some why by = tt
-faulty k words (Help text) some (inl memory) help = let bad : OutOfMemory ≡ DisplayHelp = sym memory ∙ help in cc
-faulty k words (Help text) some (inr among) help = (no_words_order k words some among, help_alone words (subst (λ (x : ErrorKind). IsAmong x (fault_of program words)) help among))
-faulty k words (Usage text) some (inl memory) (no_help, no_memory) = absurd (no_memory memory)
-faulty k words (Usage text) some (inr among) (no_help, no_memory) = (no_words_order k words some among, λ asks. no_help (among_one k (fault_of program words) among asks))
+faulty k words (Help text) some (inl memory) call = absurd (memory_no_call k memory call)
+faulty k words (Help text) some (inr among) call = (no_words_order k words some among, asks_by k words call among)
+faulty k words (Usage text) some (inl memory) (no_call, no_memory) = absurd (no_memory memory)
+faulty k words (Usage text) some (inr among) (no_call, no_memory) = (no_words_order k words some among, λ asks. no_call (call_by k words among asks))
+
+-- words that ask for help are no order
+pub asks_none : (words : List Text) → AsksHelp words → words_order words ≡ None
+unfolding words_order
+asks_none [] asks = absurd (none_asked asks)
+asks_none (w ∷ ws) (inl help) = ap (λ kinds. order_by kinds (subcommand_of program (meant (w ∷ ws)))) help
+asks_none (w ∷ ws) (inr version) = ap (λ kinds. order_by kinds (subcommand_of program (meant (w ∷ ws)))) version
+
+-- words without a fault ask for nothing
+pub faultless_asks_nothing : (words : List Text) → IsFaultless words → AsksHelp words → ⊥
+faultless_asks_nothing words none (inl help) = let bad : [] ≡ DisplayHelp ∷ [] = sym none ∙ help in cc
+faultless_asks_nothing words none (inr version) = let bad : [] ≡ DisplayVersion ∷ [] = sym none ∙ version in cc
 
 -- without a fault the words are taken for the order of their command
-pub ordered : (words : List Text) (s : Option (Text × List Row)) (o : Option Order) → words ≢ [] → fault_of program words ≡ [] → s ≡ subcommand_of program words → o ≡ option_and_then order_in s → words_order words ≡ o
+pub ordered : (words : List Text) (s : Option (Text × List Row)) (o : Option Order) → words ≢ [] → words_faults words ≡ [] → s ≡ subcommand_of program (meant words) → o ≡ option_and_then order_in s → words_order words ≡ o
 unfolding words_order
 ordered [] s o some none is e = absurd (some refl)
-ordered (w ∷ ws) s o some none is e = ap (λ kinds. order_by kinds (subcommand_of program (w ∷ ws))) none ∙ ap (option_and_then order_in) (sym is) ∙ sym e
+ordered (w ∷ ws) s o some none is e = ap (λ kinds. order_by kinds (subcommand_of program (meant (w ∷ ws)))) none ∙ ap (option_and_then order_in) (sym is) ∙ sym e
 
 -- by the law, words without a fault are not without an order
-pub unordered : FaultlessAreOrders → (words : List Text) → words ≢ [] → fault_of program words ≡ [] → words_order words ≡ None → ⊥
+pub unordered : FaultlessAreOrders → (words : List Text) → words ≢ [] → IsFaultless words → words_order words ≡ None → ⊥
 unordered law [] some none e = some refl
 unordered law (w ∷ ws) some none e = let bad = sym (law w ws none).1 ∙ e in cc
 
@@ -95,5 +121,4 @@ some_said f (x ∷ xs) some e = cc
 
 -- no words ask for no help
 pub unasked : (words : List Text) → words ≡ [] → AsksHelp words → ⊥
-unasked [] e asks = let bad = sym none_wanted ∙ asks in cc
-unasked (w ∷ ws) e asks = cc
+unasked words e asks = none_asked (subst AsksHelp e asks)

@@ -1,5 +1,5 @@
--- Where the faults of words have a call for help among them, it is the only one.
-use Rattle.std.proofs.Common.{◌≡◌, ◌&&◌, ◌||◌, ◌==◌, ◌+◌, ℕ, zero, suc, nat_lt, List, [], ◌∷◌, Bool, true, false, not, Option, Some, None, if◌then◌else◌, inl, inr, refl, ap, sym, min, drop, length, is_some, find, slice_get, codes, encode_utf8}
+-- Where the faults of words have a call for help or for the version among them, it is the only one.
+use Rattle.std.proofs.Common.{◌≡◌, ◌&&◌, ◌||◌, ◌==◌, ◌+◌, ℕ, zero, suc, nat_lt, List, [], ◌∷◌, Bool, true, false, not, Option, Some, None, if◌then◌else◌, inl, inr, refl, ap, sym, ◌∙◌, min, drop, length, is_some, find, slice_get, codes, encode_utf8}
 use Rattle.std.specs.List.{list_any}
 use Rattle.std.specs.Option.{option_map_or}
 use Rattle.std.specs.Str.{bytes_eq, chars}
@@ -20,19 +20,20 @@ use Rattle.clap.specs.declared.builder.value_parser.ValueParser.{ValueParser}
 use Rattle.clap.specs.declared.error.kind.ErrorKind.{ErrorKind}
 use Rattle.clap.specs.declared.error.kind.ErrorKind.TheVariants as K
 use Rattle.jc_words.specs.Program.{program}
+use Rattle.jc_words.specs.Words.{IsCall}
 
 record IsAlone (kinds : Kinds) : Type 0 where
-  alone : IsAmong K.DisplayHelp kinds → kinds ≡ K.DisplayHelp ∷ []
+  alone : (call : ErrorKind) → IsCall call → IsAmong call kinds → kinds ≡ call ∷ []
 
 none : IsAlone []
-none = record { alone = λ h. absurd h }
+none = record { alone = λ call is h. absurd h }
 
-one_is : (k : ErrorKind) → IsAmong K.DisplayHelp (k ∷ []) → k ∷ [] ≡ K.DisplayHelp ∷ []
-one_is k (inl same) = ap (λ (x : ErrorKind). x ∷ []) (sym same)
-one_is k (inr more) = absurd more
+one_is : (k call : ErrorKind) → IsAmong call (k ∷ []) → k ∷ [] ≡ call ∷ []
+one_is k call (inl same) = ap (λ (x : ErrorKind). x ∷ []) (sym same)
+one_is k call (inr more) = absurd more
 
 one : (k : ErrorKind) → IsAlone (k ∷ [])
-one k = record { alone = one_is k }
+one k = record { alone = λ call is h. one_is k call h }
 
 either : {a b : Kinds} → IsAlone a → IsAlone b → IsAlone (or_else a b)
 either {a = []} p q = q
@@ -148,10 +149,12 @@ of_other s (Some name) word h p =
     disabled_help (bytes_eq name (codes "help")) s.disable_help_subcommand (K.DisplayHelp ∷ K.InvalidSubcommand ∷ []) (p name refl)
 of_other s None word h p = by_test (bytes_eq word (45 ∷ 45 ∷ [])) none (of_flag_word s.rules s.args_override_self (long_of word) word h)
 
-stray_is : IsAmong K.DisplayHelp (K.UnknownArgument ∷ K.InvalidSubcommand ∷ []) → K.UnknownArgument ∷ K.InvalidSubcommand ∷ [] ≡ K.DisplayHelp ∷ []
-stray_is (inl same) = cc
-stray_is (inr (inl same)) = cc
-stray_is (inr (inr more)) = absurd more
+stray_is : (call : ErrorKind) → IsCall call → IsAmong call (K.UnknownArgument ∷ K.InvalidSubcommand ∷ []) → K.UnknownArgument ∷ K.InvalidSubcommand ∷ [] ≡ call ∷ []
+stray_is call (inl help) (inl same) = let bad = sym help ∙ same in cc
+stray_is call (inr version) (inl same) = let bad = sym version ∙ same in cc
+stray_is call (inl help) (inr (inl same)) = let bad = sym help ∙ same in cc
+stray_is call (inr version) (inr (inl same)) = let bad = sym version ∙ same in cc
+stray_is call is (inr (inr more)) = absurd more
 
 of_stray : (s : Shape) → IsAlone (stray_fault s)
 of_stray s = by_test s.is_leaf (one K.UnknownArgument) (record { alone = stray_is })
@@ -213,6 +216,6 @@ disabled : (built program).top.disable_help_subcommand ≡ true
 unfolding program clap_on_literals
 disabled = refl
 
--- help among the faults of words is the only fault
-pub help_alone : (words : List Text) → IsAmong K.DisplayHelp (fault_of program words) → fault_of program words ≡ K.DisplayHelp ∷ []
-help_alone words = (of_built (built program) nothing_held (argument_words program words) disabled).alone
+-- a call among the faults of words is the only fault
+pub call_alone : (call : ErrorKind) (words : List Text) → IsCall call → IsAmong call (fault_of program words) → fault_of program words ≡ call ∷ []
+call_alone call words is among = (of_built (built program) nothing_held (argument_words program words) disabled).alone call is among

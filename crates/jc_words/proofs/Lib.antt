@@ -1,4 +1,4 @@
-mod Commands
+pub mod Commands
 mod Limits
 mod Literals
 mod Helping

@@ -1,9 +1,10 @@
 -- What the definition is, and what some words are taken for.
-use Rattle.std.proofs.Common.{◌≡◌, [], ◌∷◌, true, refl}
-use Rattle.clap.specs.Words.{is_simple, is_simple_and_free, fault_of}
+use Rattle.std.proofs.Common.{◌≡◌, ◌∙◌, inl, inr, [], ◌∷◌, true, refl, sym}
+use Rattle.clap.specs.Words.{is_simple, is_simple_and_free}
 use Rattle.clap.proofs.OnLiterals.{clap_on_literals}
-use Rattle.clap.specs.declared.error.kind.ErrorKind.TheVariants.{MissingSubcommand}
+use Rattle.clap.specs.declared.error.kind.ErrorKind.TheVariants.{DisplayHelp, DisplayVersion, MissingSubcommand}
 use Rattle.jc_words.specs.Program.{program}
+use Rattle.jc_words.specs.Words.{meant, words_faults, AsksHelp}
 
 pub simple : is_simple program ≡ true
 unfolding program clap_on_literals
@@ -14,6 +15,11 @@ unfolding program clap_on_literals
 free = refl
 
 -- no words: a command is wanted
-pub none_wanted : fault_of program [] ≡ MissingSubcommand ∷ []
-unfolding program clap_on_literals
+none_wanted : words_faults [] ≡ MissingSubcommand ∷ []
+unfolding program clap_on_literals meant
 none_wanted = refl
+
+-- so they ask for no help
+pub none_asked : AsksHelp [] → ⊥
+none_asked (inl help) = let bad : MissingSubcommand ∷ [] ≡ DisplayHelp ∷ [] = sym none_wanted ∙ help in cc
+none_asked (inr version) = let bad : MissingSubcommand ∷ [] ≡ DisplayVersion ∷ [] = sym none_wanted ∙ version in cc

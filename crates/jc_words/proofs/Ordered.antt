@@ -13,7 +13,7 @@ use Rattle.clap.specs.Walk.{Row, Text, answers_to, finished, first_of, has_row, 
 use Rattle.clap.specs.declared.error.kind.ErrorKind.TheVariants as K
 use Rattle.jc_words.specs.Laws.{FaultlessAreOrders}
 use Rattle.jc_words.specs.Program.{bare, plain_app, program, run_app, threads_app, view_app}
-use Rattle.jc_words.specs.Words.{is_traced, limit_of, documents, order_by, order_in, task_in, with_file, words_order}
+use Rattle.jc_words.specs.Words.{meant, is_traced, limit_of, documents, order_by, order_in, task_in, with_file, words_order}
 use Rattle.jc_words.specs.declared.order.Task.{Task}
 use Rattle.jc_words.specs.declared.order.Task.TheVariants.{Show, Debug, Threads}
 use Rattle.jc_words.specs.declared.order.View.TheVariants.{Check, Print, Run}
@@ -174,5 +174,5 @@ is_wanted = refl
 pub faultless_are_orders : FaultlessAreOrders
 unfolding words_order
 faultless_are_orders word words e =
-    let met = by_words (built program) (argument_words program (word ∷ words)) each_command is_wanted e in
-    (met.2.0, ap (λ kinds. order_by kinds (subcommand_of program (word ∷ words))) e ∙ ap (option_and_then order_in) met.1 ∙ met.2.1)
+    let met = by_words (built program) (argument_words program (meant (word ∷ words))) each_command is_wanted e in
+    (met.2.0, ap (λ kinds. order_by kinds (subcommand_of program (meant (word ∷ words)))) e ∙ ap (option_and_then order_in) met.1 ∙ met.2.1)

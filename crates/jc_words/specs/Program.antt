@@ -47,10 +47,10 @@ view_app = with_rule (with_rule (new_app (codes "view")) at_rule) file_rule
 abbrev pub threads_app : App
 threads_app = with_rule (with_rule (new_app (codes "threads")) limit_rule) file_rule
 
--- The program without its commands: one of them is wanted. Help is asked for by a flag alone, so that each fault of the
--- words has one kind.
+-- The program without its commands: one of them is wanted. It has a version. Help is asked for by a flag alone, so that
+-- each fault of the words has one kind; `meant` of Words says which flag the word `help` stands for.
 abbrev pub bare_shape : Shape → Shape
-bare_shape s = record s { no_binary_name = true; disable_help_subcommand = true; subcommand_required = true }
+bare_shape s = record s { no_binary_name = true; disable_help_subcommand = true; subcommand_required = true; has_version = true }
 
 abbrev pub bare : App
 bare = record { top = bare_shape (new_app (codes "jsoncrdt")).top; subs = [] }

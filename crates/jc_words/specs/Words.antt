@@ -1,12 +1,12 @@
 -- What the words are taken for that the program is called with.
-use Rattle.std.specs.Prelude.{◌≡◌, ◌≢◌, ◌≤◌, ⊤, ℕ, List, [], ◌∷◌, Bool, true, Option, Some, None, codes, if◌then◌else◌, option_map, unwrap_or, string_bytes}
+use Rattle.std.specs.Prelude.{◌≡◌, ◌≢◌, ◌≤◌, ◌⊎◌, ⊤, ℕ, List, [], ◌∷◌, Bool, true, Option, Some, None, codes, if◌then◌else◌, option_map, unwrap_or, string_bytes}
 use Rattle.std.specs.Option.{option_and_then}
 use Rattle.std.specs.Str.{bytes_eq}
 use Rattle.std.specs.Str.Parse.{digits_value, without_leading_plus}
 use Rattle.clap.specs.ValueTests.{is_unsigned_in}
 use Rattle.clap.specs.Words.{Kinds, Row, Text, fault_of, first_of, subcommand_of}
 use Rattle.clap.specs.declared.error.kind.ErrorKind.{ErrorKind}
-use Rattle.clap.specs.declared.error.kind.ErrorKind.TheVariants.{DisplayHelp, OutOfMemory}
+use Rattle.clap.specs.declared.error.kind.ErrorKind.TheVariants.{DisplayHelp, DisplayVersion, OutOfMemory}
 use Rattle.jc_words.specs.Program.{program}
 use Rattle.jc_words.specs.declared.order.Order.{Order}
 use Rattle.jc_words.specs.declared.order.Task.{Task}
@@ -53,18 +53,36 @@ abbrev pub order_by : Kinds → Option (Text × List Row) → Option Order
 order_by [] s = option_and_then order_in s
 order_by (k ∷ kinds) s = None
 
+-- The words for which `help` stands in front of these. What is behind the topic isn't read.
+abbrev pub asked_of : List Text → List Text
+asked_of [] = codes "--help" ∷ []
+asked_of (topic ∷ rest) = if bytes_eq topic (codes "help") then codes "--help" ∷ [] else topic ∷ codes "--help" ∷ []
+
+-- The words as they are parsed: `help` is `--help`, and `help TOPIC` is `TOPIC --help`.
+unfoldable pub meant : List Text → List Text
+meant [] = []
+meant (w ∷ ws) = if bytes_eq w (codes "help") then asked_of ws else w ∷ ws
+
+-- what the parser finds wrong with the words
+abbrev pub words_faults : List Text → Kinds
+words_faults words = fault_of program (meant words)
+
 -- What words are taken for; no words are `run --trace -`.
 unfoldable pub words_order : List Text → Option Order
 words_order [] = Some (record { task = Show (Run true); file = codes "-" })
-words_order (w ∷ ws) = order_by (fault_of program (w ∷ ws)) (subcommand_of program (w ∷ ws))
+words_order (w ∷ ws) = order_by (words_faults (w ∷ ws)) (subcommand_of program (meant (w ∷ ws)))
 
--- the words are a call for help; they have no other fault then
+-- a call for help, or for the version, which is answered in the same way
+abbrev pub IsCall : ErrorKind → Type 0
+IsCall kind = (kind ≡ DisplayHelp) ⊎ (kind ≡ DisplayVersion)
+
+-- the words are such a call; they have no other fault then
 abbrev pub AsksHelp : List Text → Type 0
-AsksHelp words = fault_of program words ≡ DisplayHelp ∷ []
+AsksHelp words = (words_faults words ≡ DisplayHelp ∷ []) ⊎ (words_faults words ≡ DisplayVersion ∷ [])
 
 -- the command line finds no fault in the words
 abbrev pub IsFaultless : List Text → Type 0
-IsFaultless words = fault_of program words ≡ []
+IsFaultless words = words_faults words ≡ []
 
 -- a limit that the task has is from 0 to 100,000
 abbrev pub HasLimitInRange : Task → Type 0
@@ -79,8 +97,8 @@ IsWordsFault words Memory = Unit {0}
 
 -- what is answered for an error of this kind
 abbrev pub IsFaultBy : ErrorKind → WordsFault → Type 0
-IsFaultBy kind (Help text) = kind ≡ DisplayHelp
-IsFaultBy kind (Usage text) = (kind ≢ DisplayHelp) × (kind ≢ OutOfMemory)
+IsFaultBy kind (Help text) = IsCall kind
+IsFaultBy kind (Usage text) = (IsCall kind → ⊥) × (kind ≢ OutOfMemory)
 IsFaultBy kind Memory = Unit {0}
 
 -- what is told of words that are no order is never empty

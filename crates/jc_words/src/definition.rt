@@ -4,7 +4,7 @@ ghost use Rattle.std.specs.Prelude.{◌≡◌, IfOk, false};
 ghost use Rattle.clap.specs.Words.{app_of, rule_of, new_app, with_rule};
 ghost use Rattle.jc_words.specs.Program.{IsLocal, file_rule, plain_app, run_app, view_app, threads_app, program};
 
-use crate::help::{CHECK, DEBUG, PRINT, PROGRAM, RUN, THREADS, VIEW};
+use crate::help::{ABOUT, CHECK, DEBUG, PRINT, PROGRAM, RUN, THREADS, USAGE, VERSION, VIEW};
 use clap::builder::ValueParser;
 use clap::{Arg, ArgAction, Command};
 use std::alloc::{AllocError, Global};
@@ -42,10 +42,10 @@ fn run<'a>(alloc: Global) -> Result<Command<'a>, AllocError>
 {
     let trace = Arg::new(alloc, "trace")
         .long("trace")
-        .help("Show the rules that each event used")
+        .help("Print the rules that each event used, before the states (this may be long)")
         .action(ArgAction::SetTrue);
     Command::new(alloc, "run")
-        .about("Make the events of the schedule, and print each replica's state")
+        .about("Execute the schedule, and print the state of each replica")
         .after_help(RUN)
         .arg(trace)?
         .arg(file(alloc))
@@ -58,12 +58,12 @@ fn view<'a>(alloc: Global) -> Result<Command<'a>, AllocError>
     let limit = Arg::new(alloc, "limit")
         .long("at")
         .value_name("N")
-        .help("How many events of the schedule are made at most, from 0 to 100000")
+        .help("Execute the first N events of the schedule only, from 0 to 100000")
         .value_parser(ValueParser::unsigned(0, 100_000))
         .default_value("100000");
     Command::new(alloc, "view")
         .about(
-            "Make the events of the schedule, and print each replica's document as an application sees it",
+            "Execute the schedule, and print the document of each replica as an application sees it",
         )
         .after_help(VIEW)
         .arg(limit)?
@@ -77,7 +77,7 @@ fn threads<'a>(alloc: Global) -> Result<Command<'a>, AllocError>
     let limit = Arg::new(alloc, "limit")
         .long("limit")
         .value_name("N")
-        .help("How many events each replica makes at most, from 0 to 100000")
+        .help("Let each replica execute N events at most, from 0 to 100000")
         .value_parser(ValueParser::unsigned(0, 100_000))
         .default_value("10000");
     Command::new(alloc, "threads")
@@ -96,7 +96,9 @@ pub(crate) fn definition<'a>(alloc: Global) -> Result<Command<'a>, AllocError>
 {
     let top = Command::new(alloc, "jsoncrdt")
         .bin_name("jsoncrdt")?
-        .about("Runs scenarios of a replicated JSON document, and shows each rule that is used")
+        .about(ABOUT)
+        .override_usage(USAGE)
+        .version(VERSION)
         .after_help(PROGRAM)
         .no_binary_name(true)
         .disable_help_subcommand(true)
@@ -104,7 +106,7 @@ pub(crate) fn definition<'a>(alloc: Global) -> Result<Command<'a>, AllocError>
     let check = plain(
         alloc,
         "check",
-        "Read the scenario, and print how many replicas, commands and events it has",
+        "Tell whether a text is a scenario, and how many replicas, commands and events it has",
         CHECK,
     )?;
     let top = top.subcommand(check)?;
@@ -122,7 +124,7 @@ pub(crate) fn definition<'a>(alloc: Global) -> Result<Command<'a>, AllocError>
     let debug = plain(
         alloc,
         "debug",
-        "Answer the lines of standard input, which go through the schedule and look at the states",
+        "Debugger: step through the schedule, forwards and backwards, by lines of standard input",
         DEBUG,
     )?;
     let top = top.subcommand(debug)?;

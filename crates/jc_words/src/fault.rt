@@ -13,7 +13,7 @@ use std::alloc::{AllocError, Global};
 /// Why words are no order. A text is never empty.
 #[derive(Debug, Drop)]
 pub enum WordsFault {
-    /// They ask for help, and this is it.
+    /// They ask for help, or for the version, and this is it.
     Help(String),
     /// They are no command line, for the reason that this text gives.
     Usage(String),
@@ -50,7 +50,7 @@ pub(crate) fn fault_by(alloc: Global, error: &Error) -> WordsFault
     };
     match error.kind() {
         ErrorKind::OutOfMemory => WordsFault::Memory,
-        ErrorKind::DisplayHelp => WordsFault::Help(text),
+        ErrorKind::DisplayHelp | ErrorKind::DisplayVersion => WordsFault::Help(text),
         _ => WordsFault::Usage(text),
     }
 }

@@ -1,19 +1,34 @@
 //! What help says beside the lists of commands and options.
 
+/// The version of the program. Its first number is that of the scenario's header.
+pub(crate) const VERSION: &str = "1.0.0";
+
+/// What the program is for.
+pub(crate) const ABOUT: &str =
+    "A command machine and time-travelling debugger for the JSON CRDT of Kleppmann and Beresford (2017).\n\
+It executes scenarios of concurrent edits by the published rules, forwards and backwards, and shows\n\
+what they give, and why.";
+
+/// The command line of the program itself.
+pub(crate) const USAGE: &str = "jsoncrdt [COMMAND]\n       jsoncrdt help [COMMAND]";
+
 /// The command line in one line, where its parser has no text.
-pub(crate) const BRIEF: &str = "Usage: jsoncrdt <check|print|run|view|debug|threads> <FILE>\n";
+pub(crate) const BRIEF: &str = "Usage: jsoncrdt [check|print|run|view|debug|threads] [FILE]\n";
 
 /// The help of the program.
 pub(crate) const PROGRAM: &str =
-    "A scenario is a text with a script of commands for each replica,\n\
-and a schedule of the events that run them.\n\
+    "A scenario is a text with a script of commands for each replica, and a schedule of the events\n\
+that execute them. Without arguments it acts as `run --trace -`.\n\
+`jsoncrdt help COMMAND` and `jsoncrdt COMMAND --help` print the help of a command, with an example.\n\
 \n\
-Example:\n  \
-echo 'jsoncrdt 1 replica a { doc.get(\"a\") := 1 } schedule { a.exec }' | jsoncrdt run -\n\
-prints the state of replica a after its only event:\n  \
-{\"acted\":false,\"left\":0,\"name\":\"a\",\"ops\":[\"1@a\"],\"queue\":[\"1@a\"],\"recv\":[],\"send\":[],\"tree\":{\"mapT(doc)\":{\"pres(\\\"a\\\")\":[\"1@a\"],\"regT(\\\"a\\\")\":{\"1@a\":{\"n\":\"1\"}}},\"pres(doc)\":[\"1@a\"]},\"vars\":{}}\n\
-\n\
-Without words it does `jsoncrdt run --trace -`. The help of a command has an example of it.\n\
+Example, a conflict: p and q assign under one key, and then q applies the operation of p.\n  \
+echo 'jsoncrdt 1\n    \
+replica p { doc.get(\"key\") := \"B\"; yield }\n    \
+replica q { doc.get(\"key\") := \"C\"; yield }\n    \
+schedule { p.exec; q.exec; p.send; q.recv(p); q.apply(1, p) }' | jsoncrdt view -\n\
+prints the document of each. At q both values stand, each with the operation that assigned it:\n  \
+{\"doc\":{\"key\":\"B\"},\"name\":\"p\"}\n  \
+{\"doc\":{\"key\":{\"!conflict\":{\"values\":[[\"1@p\",\"B\"],[\"1@q\",\"C\"]]}}},\"name\":\"q\"}\n\
 \n\
 Commands of a script, where P is `doc` or a variable, with any number of .get(\"KEY\") and\n\
 .idx(N) behind it, and V is a number, a string, true, false, null, {} or []:\n  \
@@ -24,7 +39,7 @@ P.delete          delete what is at P\n  \
 yield             take part in the network, by the events below, until done\n\
 \n\
 Events of a schedule, where A and B are replicas:\n  \
-A.exec            run the next command of A\n  \
+A.exec            execute the next command of A\n  \
 A.send            at a yield, offer the operations that A made\n  \
 A.recv(B)         at a yield, receive the operations that B offers\n  \
 A.apply(N, B)     at a yield, apply the received operation of B with the counter N\n  \
@@ -33,16 +48,20 @@ A.done            end the yield, after at least one of these three\n\
 docs/FORMATS.md and docs/RULES.md in the repository say all of this exactly.\n\
 \n\
 Statuses:\n  \
-0  done, also after help\n  \
+0  done, also after help and the version\n  \
 1  the scenario's text was refused; the line printed says why and where\n  \
-2  the words are no command\n  \
+2  the arguments are wrong: no such command or option, no file, a number out of its range,\n     \
+or an argument that isn't UTF-8\n  \
 3  an event was stuck, since no rule allows it; a line says why\n  \
 4  a read or a write failed, or a session had too many lines\n  \
 5  there was no memory, or a thread could not be made";
 
 /// The help of `check`.
-pub(crate) const CHECK: &str = "A scenario is a text with a script of commands for each replica,\n\
-and a schedule of the events that run them.\n\
+pub(crate) const CHECK: &str =
+    "A scenario is a text with a script of commands for each replica, and a schedule of the events\n\
+that execute them.\n\
+A text that is none is refused with the first fault in it and its place, counted in bytes.\n\
+No event is executed.\n\
 \n\
 Example:\n  \
 echo 'jsoncrdt 1 replica a { doc.get(\"a\") := 1 } schedule { a.exec }' | jsoncrdt check -\n\
@@ -52,13 +71,16 @@ replicas 1 commands 1 events 1\n\
 Statuses:\n  \
 0  done, also after help\n  \
 1  the scenario's text was refused; the line printed says why and where\n  \
-2  the words are no command\n  \
+2  the arguments are wrong\n  \
 4  a read or a write failed\n  \
 5  there was no memory";
 
 /// The help of `print`.
-pub(crate) const PRINT: &str = "A scenario is a text with a script of commands for each replica,\n\
-and a schedule of the events that run them.\n\
+pub(crate) const PRINT: &str =
+    "A scenario is a text with a script of commands for each replica, and a schedule of the events\n\
+that execute them.\n\
+The canonical text has a line for each command and each event, and the replicas by their names.\n\
+It is read as the same scenario.\n\
 \n\
 Example:\n  \
 echo 'jsoncrdt 1 replica a { doc.get(\"a\") := 1 } schedule { a.exec }' | jsoncrdt print -\n\
@@ -74,32 +96,36 @@ a.exec;\n  \
 Statuses:\n  \
 0  done, also after help\n  \
 1  the scenario's text was refused; the line printed says why and where\n  \
-2  the words are no command\n  \
+2  the arguments are wrong\n  \
 4  a read or a write failed\n  \
 5  there was no memory";
 
 /// The help of `run`.
-pub(crate) const RUN: &str = "A scenario is a text with a script of commands for each replica,\n\
-and a schedule of the events that run them.\n\
+pub(crate) const RUN: &str =
+    "A scenario is a text with a script of commands for each replica, and a schedule of the events\n\
+that execute them.\n\
+It stops before an event that no rule allows: the states are those before it, and the last line\n\
+says why it is stuck.\n\
 \n\
 Example:\n  \
 echo 'jsoncrdt 1 replica a { doc.get(\"a\") := 1 } schedule { a.exec }' | jsoncrdt run -\n\
 prints the state of replica a after its only event:\n  \
 {\"acted\":false,\"left\":0,\"name\":\"a\",\"ops\":[\"1@a\"],\"queue\":[\"1@a\"],\"recv\":[],\"send\":[],\"tree\":{\"mapT(doc)\":{\"pres(\\\"a\\\")\":[\"1@a\"],\"regT(\\\"a\\\")\":{\"1@a\":{\"n\":\"1\"}}},\"pres(doc)\":[\"1@a\"]},\"vars\":{}}\n\
 With --trace the rules of that event come first, EXEC, MAKE-ASSIGN, GET, DOC and so on,\n\
-each with its depth.\n\
+each with its depth. A trace may be very long: an event can use thousands of rules.\n\
 \n\
 Statuses:\n  \
 0  done, also after help\n  \
 1  the scenario's text was refused; the line printed says why and where\n  \
-2  the words are no command\n  \
+2  the arguments are wrong\n  \
 3  an event was stuck, since no rule allows it; the last line says why\n  \
 4  a read or a write failed\n  \
 5  there was no memory";
 
 /// The help of `view`.
-pub(crate) const VIEW: &str = "A scenario is a text with a script of commands for each replica,\n\
-and a schedule of the events that run them.\n\
+pub(crate) const VIEW: &str =
+    "A scenario is a text with a script of commands for each replica, and a schedule of the events\n\
+that execute them.\n\
 \n\
 Prints a line of JSON for each replica, with its document after the first N events, or after all.\n\
 Where more than one thing stands at a place, all are shown, and none wins:\n  \
@@ -117,31 +143,40 @@ With --at 0 it prints\n  \
 Statuses:\n  \
 0  done, also after help\n  \
 1  the scenario's text was refused; the line printed says why and where\n  \
-2  the words are no command\n  \
+2  the arguments are wrong\n  \
 3  an event was stuck, since no rule allows it; the last line says why\n  \
 4  a read or a write failed\n  \
 5  there was no memory";
 
 /// The help of `debug`.
-pub(crate) const DEBUG: &str = "A scenario is a text with a script of commands for each replica,\n\
-and a schedule of the events that run them.\n\
+pub(crate) const DEBUG: &str =
+    "A scenario is a text with a script of commands for each replica, and a schedule of the events\n\
+that execute them.\n\
+The session begins before the first event. It reads a line, answers it, and then reads the next.\n\
+With the file - there are no lines, since the scenario takes up standard input.\n\
 \n\
-Lines, where N is a number:\n  \
-step [N], back [N]   make the next N events, or take back the last; one without N\n  \
-goto N               go to the position after event N\n  \
-run                  make events up to a breakpoint, a stuck event or the end\n  \
-act EVENT            make this event, as a.exec or a.recv(b), and cut the schedule there\n  \
-break at N, break rule NAME, break replica NAME\n                       \
-set a breakpoint\n  \
-unbreak N            clear the breakpoint of this number\n  \
-state [NAME]         the state of each replica, or of one\n  \
-trace                the rules that the last event used\n  \
-enabled              the events that could be made now\n  \
-compare NAME NAME    whether two replicas applied the same operations, and have one tree\n  \
-schedule             the events of the schedule\n  \
-where                the position, and how many events there are\n  \
-quit                 end, as the end of the input does\n\
-Each is answered before the next is read. With the file - there is no line.\n\
+Lines and their answers, where N, P, M and K are numbers:\n  \
+step [N]            execute the next N events, or one: `at P`, the position\n  \
+back [N]            take back the last N events, or one: `at P`\n  \
+goto N              go to the position after event N, of which 0 is the start: `at P`\n  \
+act EVENT           execute this event, as a.exec or a.recv(b), and cut off the rest of the\n                      \
+schedule, for good: `at P`\n  \
+run                 execute events up to a breakpoint, a stuck event or the end:\n                      \
+`at P`, and then `break K`, `stuck ..` or `end`\n  \
+break at N, break rule NAME, break replica NAME\n                      \
+set a breakpoint for `run`: `set K`\n  \
+unbreak K           clear the breakpoint with this number: `cleared K`\n  \
+state [NAME]        the state of each replica, or of one: a line of JSON each\n  \
+trace               the rules that the last event used: `event P EVENT` and a line each, or `start`\n  \
+enabled             the events that could be executed now: a line each, or `none`\n  \
+compare NAME NAME   whether two replicas applied the same operations, and whether their trees\n                      \
+are the same: `same operations same tree` or `different operations`\n  \
+schedule            the events of the schedule: a line `N EVENT` each, or `none`\n  \
+where               the position, and how many events there are: `at P of M`\n  \
+quit                end, as the end of the input does\n\
+An event that no rule allows isn't executed; behind `at P` a line `stuck ..` says why. Any other line\n\
+is answered by `refused 58 BadLine`, and one that can't be carried out by another refusal, which\n\
+changes nothing. docs/ERRORS.md says what each means.\n\
 \n\
 Example, where the file `one` has the text of a scenario:\n  \
 jsoncrdt 1 replica a { doc.get(\"a\") := 1 } schedule { a.exec }\n\
@@ -153,23 +188,25 @@ at 1 of 1\n  \
 {\"acted\":false,\"left\":0,\"name\":\"a\",\"ops\":[\"1@a\"],\"queue\":[\"1@a\"],\"recv\":[],\"send\":[],\"tree\":{\"mapT(doc)\":{\"pres(\\\"a\\\")\":[\"1@a\"],\"regT(\\\"a\\\")\":{\"1@a\":{\"n\":\"1\"}}},\"pres(doc)\":[\"1@a\"]},\"vars\":{}}\n\
 \n\
 Statuses:\n  \
-0  done, also after help\n  \
+0  done, also after help, after a refused line and after a stuck event\n  \
 1  the scenario's text was refused; the line printed says why and where\n  \
-2  the words are no command\n  \
+2  the arguments are wrong\n  \
 4  a read or a write failed, or there were more than 1,000,000 lines or 67,108,864 bytes of them\n  \
 5  there was no memory";
 
 /// The help of `threads`.
 pub(crate) const THREADS: &str =
-    "A scenario is a text with a script of commands for each replica,\n\
-and a schedule of the events that run them.\n\
-That schedule is left aside. Each replica makes events by itself, and the schedule printed\n\
-has the events of all replicas in the order in which they were made.\n\
+    "A scenario is a text with a script of commands for each replica, and a schedule of the events\n\
+that execute them.\n\
+The schedule of FILE isn't looked at. Each thread chooses the events of its replica: it executes\n\
+the commands one by one, and at a yield it sends, receives from each other replica, applies what\n\
+can be applied, and is done. The schedule printed has the events of all in the order in which they\n\
+were executed, which may be another one each time. A stuck event isn't in it.\n\
 \n\
 For each replica a line `NAME made M END` goes to standard error, where M is how many events\n\
-it made, and END is why it made no more:\n  \
-finished   its script is done\n  \
-limit      it made N events, or the schedule has 100000\n  \
+it executed, and END is why it executed no more:\n  \
+finished   its script is done, which it learns in a turn after the last event\n  \
+limit      it executed N events, or the schedule has 100000\n  \
 no memory  there was no memory for more\n  \
 stuck ..   no rule allows its next event; the line says why\n\
 \n\
@@ -189,7 +226,7 @@ a made 1 finished\n\
 Statuses:\n  \
 0  done, also after help\n  \
 1  the scenario's text was refused; the line printed says why and where\n  \
-2  the words are no command\n  \
+2  the arguments are wrong\n  \
 3  a replica's event was stuck, since no rule allows it; its line says why\n  \
 4  a read or a write failed\n  \
 5  there was no memory, or a thread could not be made";

@@ -1,12 +1,12 @@
 //! What words are taken for.
 
-ghost use Rattle.std.specs.Prelude.{◌≡◌, ◌≢◌, [], IfOk, IfErr, IsErr, Some, codes, map, string_bytes, option_map};
+ghost use Rattle.std.specs.Prelude.{◌≡◌, ◌≢◌, [], ◌∷◌, IfOk, IfErr, IsErr, Some, codes, map, string_bytes, option_map};
 ghost use Rattle.std.specs.Option.{option_and_then};
 ghost use Rattle.std.specs.Str.{bytes_eq};
 ghost use Rattle.clap.specs.Words.{FailsBy, fault_of, first_of, found_of, rows_of, subcommand_of, subcommand_rows_of};
 ghost use Rattle.jc_words.specs.Program.{program};
 ghost use Rattle.jc_words.specs.declared.fault.WordsFault.TheVariants.{Memory as NoMemory};
-ghost use Rattle.jc_words.specs.Words.{is_traced, limit_in, limit_of, task_in, order_in, words_order, AsksHelp, HasLimitInRange, HasText, IsFaultless, IsWordsFault};
+ghost use Rattle.jc_words.specs.Words.{is_traced, limit_in, limit_of, task_in, order_in, asked_of, meant, words_order, AsksHelp, HasLimitInRange, HasText, IsFaultless, IsWordsFault};
 
 use crate::definition::definition;
 use crate::fault::{WordsFault, fault_by};
@@ -23,11 +23,56 @@ fn copied(alloc: Global, text: &str) -> Result<Text, AllocError>
     Ok(Text::new(String::from_str(alloc, text)?))
 }
 
+/// The words themselves.
+fn said_by<'a>(alloc: Global, words: &'a [String]) -> Result<Vec<&'a str>, AllocError>
+    ensures { IfOk result (λ said. map (λ s. s.now) said.items ≡ map string_bytes words.now) }
+{
+    let mut said = Vec::new(alloc);
+    for word in words {
+        said.push(word.as_str())?;
+    }
+    Ok(said)
+}
+
+/// The words for which `help` stands in front of these.
+fn asked_by<'a>(alloc: Global, rest: &'a [String]) -> Result<Vec<&'a str>, AllocError>
+    ensures { IfOk result (λ said. map (λ s. s.now) said.items ≡ asked_of (map string_bytes rest.now)) }
+{
+    let mut asked = Vec::new(alloc);
+    match rest {
+        [] => {}
+        [topic, ..] => {
+            if topic.as_str() != "help" {
+                asked.push(topic.as_str())?;
+            }
+        }
+    }
+    asked.push("--help")?;
+    Ok(asked)
+}
+
+/// The words as they are parsed.
+#[tactic(auto, unfolding(crate::specs::Words::meant))]
+fn meant_by<'a>(alloc: Global, words: &'a [String]) -> Result<Vec<&'a str>, AllocError>
+    ensures { IfOk result (λ said. map (λ s. s.now) said.items ≡ meant (map string_bytes words.now)) }
+{
+    match words {
+        [] => said_by(alloc, words),
+        [first, rest @ ..] => {
+            if first.as_str() == "help" {
+                asked_by(alloc, rest)
+            } else {
+                said_by(alloc, words)
+            }
+        }
+    }
+}
+
 /// What the words match of the command line.
-fn matches_of<'a>(alloc: Global, words: &'a [String]) -> Result<ArgMatches<'a>, Error>
+fn matches_of<'a>(alloc: Global, words: &'a [&'a str]) -> Result<ArgMatches<'a>, Error>
     ensures ok { IfOk result (λ m.
-        subcommand_rows_of m ≡ subcommand_of program (map string_bytes words.entry.now)) }
-    ensures kinds { FailsBy (fault_of program (map string_bytes words.entry.now)) result }
+        subcommand_rows_of m ≡ subcommand_of program (map (λ s. s.now) words.entry.now)) }
+    ensures kinds { FailsBy (fault_of program (map (λ s. s.now) words.entry.now)) result }
 {
     definition(alloc)?.try_get_matches_from(words)
 }
@@ -104,8 +149,8 @@ fn order_matched(alloc: Global, matches: &ArgMatches<'_>) -> Result<Option<Order
 
 /// What the words after the program's name are taken for; no words are `run --trace -`.
 ///
-/// Refusals: `Help` where they ask for help, `Usage` where they are no command line, and `Memory`
-/// where there was no memory.
+/// Refusals: `Help` where they ask for help or for the version, `Usage` where they are no command line,
+/// and `Memory` where there was no memory.
 pub fn order_of(alloc: Global, words: &[String]) -> Result<Order, WordsFault>
     // What is answered is what they are taken for.
     ensures ok { IfOk result (λ order. words_order (map string_bytes words.now) ≡ Some order) }
@@ -125,7 +170,8 @@ pub fn order_of(alloc: Global, words: &[String]) -> Result<Order, WordsFault>
             file,
         });
     }
-    let matches = match matches_of(alloc, words) {
+    let said = meant_by(alloc, words)?;
+    let matches = match matches_of(alloc, &said) {
         Ok(matches) => matches,
         Err(error) => return Err(fault_by(alloc, &error)),
     };

@@ -117,7 +117,26 @@ const WORDS: &[(&[&str], Taken, &str)] = &[
     ),
     (&["threads", "--trace", "x"], Taken::Usage, ""),
     (&["run", "--limit", "5", "x"], Taken::Usage, ""),
-    (&["help"], Taken::Usage, ""),
+    (&["help"], Taken::Help, ""),
+    (&["help", "run"], Taken::Help, ""),
+    (&["help", "run", "x", "y"], Taken::Help, ""),
+    (&["help", "help"], Taken::Help, ""),
+    (&["help", "--help"], Taken::Help, ""),
+    (&["help", "nothing"], Taken::Usage, ""),
+    (&["help", "--"], Taken::Usage, ""),
+    (&["help", ""], Taken::Usage, ""),
+    (&["--help", "nothing"], Taken::Help, ""),
+    (&["run", "help"], Taken::Run, "help"),
+    (&["Help"], Taken::Usage, ""),
+    (&["--", "help"], Taken::Usage, ""),
+    (&["--version"], Taken::Help, ""),
+    (&["-V"], Taken::Help, ""),
+    (&["--version", "nothing"], Taken::Help, ""),
+    (&["help", "--version"], Taken::Help, ""),
+    (&["--version=1"], Taken::Usage, ""),
+    (&["version"], Taken::Usage, ""),
+    (&["run", "--version"], Taken::Usage, ""),
+    (&["run", "--", "--version"], Taken::Run, "--version"),
     (&["--"], Taken::Usage, ""),
     (&[""], Taken::Usage, ""),
     (&["jsoncrdt", "run", "x"], Taken::Usage, ""),
@@ -128,4 +147,85 @@ fn words_are_taken(rt: HostRuntime) {
     for (words, want, file) in WORDS {
         expect_taken(&rt, words, *want, file);
     }
+}
+
+/// What is told of words that are no order: whether they ask for help or the version, and the text.
+fn told<R: AllocGlobal + Abort>(rt: &R, words: &[&str]) -> (bool, String) {
+    let Ok(words) = said(rt.alloc(), words) else {
+        panic!(rt; "no memory for the words")
+    };
+    match order_of(rt.alloc(), &words) {
+        Err(WordsFault::Help(text)) => (true, text),
+        Err(WordsFault::Usage(text)) => (false, text),
+        Err(WordsFault::Memory) => panic!(rt; "no memory for the text"),
+        Ok(_) => panic!(rt; "the words are an order"),
+    }
+}
+
+#[test]
+fn version_is_told(rt: HostRuntime) {
+    let (is_asked, text) = told(&rt, &["--version"]);
+    assert!(&rt; is_asked);
+    assert!(&rt; text.as_str() == "jsoncrdt 1.0.0\n");
+}
+
+/// Words that ask for help by `help`, those that ask for it by `--help`, and what is in it.
+const CALLS: &[(&[&str], &[&str], &str)] = &[
+    (&["help"], &["--help"], "\nUsage: jsoncrdt [COMMAND]\n"),
+    (
+        &["help", "help"],
+        &["-h"],
+        "  -V, --version  Print version\n",
+    ),
+    (
+        &["help", "check"],
+        &["check", "--help"],
+        "\nUsage: jsoncrdt check <FILE>\n",
+    ),
+    (
+        &["help", "print"],
+        &["print", "-h"],
+        "\nUsage: jsoncrdt print <FILE>\n",
+    ),
+    (
+        &["help", "run"],
+        &["run", "--help"],
+        "A trace may be very long",
+    ),
+    (
+        &["help", "view", "x"],
+        &["view", "--help"],
+        "\nUsage: jsoncrdt view [OPTIONS] <FILE>\n",
+    ),
+    (
+        &["help", "debug"],
+        &["debug", "--help"],
+        "Debugger: step through the schedule",
+    ),
+    (
+        &["help", "threads"],
+        &["threads", "--help"],
+        "A stuck event isn't in it.",
+    ),
+];
+
+#[test]
+fn help_is_that_of_the_flag(rt: HostRuntime) {
+    for (words, flagged, part) in CALLS {
+        let (is_asked, text) = told(&rt, words);
+        let (_, want) = told(&rt, flagged);
+        assert!(&rt; is_asked);
+        assert!(&rt; text.as_str() == want.as_str());
+        assert!(&rt; text.as_str().contains(*part));
+    }
+}
+
+#[test]
+fn unknown_topic_is_told(rt: HostRuntime) {
+    let (is_asked, text) = told(&rt, &["help", "nothing"]);
+    assert!(&rt; !is_asked);
+    assert!(&rt;
+        text.as_str()
+            .starts_with("error: unrecognized subcommand 'nothing'\n")
+    );
 }

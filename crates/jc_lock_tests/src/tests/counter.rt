@@ -7,7 +7,8 @@ use jc_lock::{CloseRefused, HistoryLock, Kept, MOST_TAKES, OpenFault, OpenRefuse
 use std::alloc::Global;
 use std::process::Abort;
 use std::sync::Wait;
-use std::thread::join;
+use std::sync::atomic::{AtomicU64, Ordering};
+use std::thread::{Threads, join};
 
 #[derive(Drop)]
 struct Counter {
@@ -148,6 +149,75 @@ fn two_threads_take_in_turn(rt: HostRuntime) {
     hand_in(&rt, &lock, &mut passes, b.1);
     hand_in(&rt, &lock, &mut passes, a.1);
     closes(&rt, lock, passes, 200);
+}
+
+/// How often a thread looks whether the others have come.
+const LOOKS: u64 = 1_000_000_000;
+
+// Waits until so many threads have come, so that all of them want turns at once.
+fn meets(rt: &impl Abort, come: &AtomicU64, all: u64) {
+    come.fetch_add(1, Ordering::SeqCst);
+    for _ in 0..LOOKS {
+        if come.load(Ordering::SeqCst) == all {
+            return;
+        }
+    }
+    panic!(rt; "not all have come")
+}
+
+fn meet_and_add<R: Wait + Abort>(
+    rt: &R,
+    lock: &HistoryLock<Counter>,
+    come: &AtomicU64,
+    pass: Pass<Counter>,
+) -> (u64, Pass<Counter>)
+    requires { IsPassOf lock.now pass }
+    ensures { IsPassOf lock.now result.1 }
+{
+    meets(rt, come, 4);
+    add_all(rt, lock, pass)
+}
+
+// Two of four threads.
+fn add_both<R: Threads + Wait + Abort + Sync>(
+    rt: &R,
+    lock: &HistoryLock<Counter>,
+    come: &AtomicU64,
+    one: Pass<Counter>,
+    other: Pass<Counter>,
+) -> (Pass<Counter>, Pass<Counter>)
+    requires { IsPassOf lock.now one × IsPassOf lock.now other }
+    ensures { IsPassOf lock.now result.0 × IsPassOf lock.now result.1 }
+{
+    let (a, b) = join(
+        rt,
+        || meet_and_add(rt, lock, come, one),
+        || meet_and_add(rt, lock, come, other),
+    );
+    holds(rt, a.0 == 1000 && b.0 == 1000);
+    (a.1, b.1)
+}
+
+// A turn that is passed on without waking those who wait for it leaves them asleep, and no contract can say it: then
+// this test doesn't end.
+#[test]
+fn four_threads_take_a_thousand_turns_each(rt: HostRuntime) {
+    let (lock, mut passes) = opened(&rt, rt.alloc(), 4, 1000);
+    let fourth = last_pass(&rt, &lock, &mut passes);
+    let third = last_pass(&rt, &lock, &mut passes);
+    let second = last_pass(&rt, &lock, &mut passes);
+    let first = last_pass(&rt, &lock, &mut passes);
+    let come = AtomicU64::new(0);
+    let (front, back) = join(
+        &rt,
+        || add_both(&rt, &lock, &come, first, second),
+        || add_both(&rt, &lock, &come, third, fourth),
+    );
+    hand_in(&rt, &lock, &mut passes, front.0);
+    hand_in(&rt, &lock, &mut passes, front.1);
+    hand_in(&rt, &lock, &mut passes, back.0);
+    hand_in(&rt, &lock, &mut passes, back.1);
+    closes(&rt, lock, passes, 4000);
 }
 
 // Each allocation is refused in turn by `rt try --test --fail-alloc N`.

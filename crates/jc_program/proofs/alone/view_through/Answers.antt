@@ -1,37 +1,57 @@
-use Rattle.std.proofs.Common.{[], inl, ◌∙◌, ap, take}
+use Rattle.std.proofs.Common.{◌∙◌, ap, take, false}
 use Rattle.jc_scenario.specs.Views.{scenario_view}
-use Rattle.jc_program.proofs.Begun.{if_refused, none_yet}
-use Rattle.jc_program.proofs.Viewed.{none_viewed, ended, stopped, viewing, viewed_all, telling}
+use Rattle.jc_session.specs.Written.{sink}
+use Rattle.jc_view.specs.Visible.{views_text}
+use Rattle.jc_program.proofs.Reading.{handed}
+use Rattle.jc_program.proofs.Begun.{unstarted, events_stand}
+use Rattle.jc_program.proofs.Ending.{replicas_stand, all_stand}
+use Rattle.jc_program.proofs.Viewed.{ended, stopped, no_part, viewing, telling}
 use Rattle.jc_program.proofs.alone.view_through.Goals as goal
 
 -- what was written, if no event was stuck
 pub returns-in-None-clause-ok : goal.returns-in-None-clause-ok
 returns-in-None-clause-ok g c =
-    ended c.args.events (scenario_view c.args.scenario.now) c.in_ok-net.net c.play.new.net c.first_events-schedule.result.now _ _ c.in_ok-stuck.stuck c.in_ok-net.ensures (c.first_events-schedule.ensures ∙ ap (take c.args.events) c.deref.ensures.value) c.in_ok-stuck.ensures.ok _ c.in-None.is c.in_ok-send_views.ensures.ok
+    ended c.args.events (scenario_view c.args.scenario.now) c.in_ok-net.net c.play.new.net c.first_events-schedule.result.now (sink g.K.Sink c.args.out.now) (sink g.K.Sink c.play.new.out) c.in_ok-stuck.stuck c.in_ok-net.ensures (c.first_events-schedule.ensures ∙ ap (take c.args.events) c.deref.ensures.value) c.in_ok-stuck.ensures.ok (sink g.K.Sink c.send_views.new.out) c.in-None.is c.in_ok-send_views.ensures.ok
 
 -- and if one was
 pub returns-clause-ok : goal.returns-clause-ok
 returns-clause-ok g c =
-    stopped c.args.events (scenario_view c.args.scenario.now) c.in_ok-net.net c.play.new.net c.first_events-schedule.result.now _ _ c.in_ok-stuck.stuck c.in_ok-net.ensures (c.first_events-schedule.ensures ∙ ap (take c.args.events) c.deref.ensures.value) c.in_ok-stuck.ensures.ok _ _ c.in-Some.stuck c.as_str.result.now c.in-Some.is (λ why event e. c.as_str.ensures.value ∙ c.in_ok-line-in-Some.ensures why event e) c.in_ok-send_views.ensures.ok c.in_ok-send-in-Some.ensures.ok
+    stopped c.args.events (scenario_view c.args.scenario.now) c.in_ok-net.net c.play.new.net c.first_events-schedule.result.now (sink g.K.Sink c.args.out.now) (sink g.K.Sink c.play.new.out) c.in_ok-stuck.stuck c.in_ok-net.ensures (c.first_events-schedule.ensures ∙ ap (take c.args.events) c.deref.ensures.value) c.in_ok-stuck.ensures.ok (sink g.K.Sink c.send_views.new.out) (sink g.K.Sink c.send.new.out) c.in-Some.stuck c.as_str.result.now c.in-Some.is (λ why event e. c.as_str.ensures.value ∙ c.in_ok-line-in-Some.ensures why event e) c.in_ok-send_views.ensures.ok c.in_ok-send-in-Some.ensures.ok
+
+-- ---- without memory
 
 -- nothing is there
-pub returns-in_err-net-clause-begun : goal.returns-in_err-net-clause-begun
-returns-in_err-net-clause-begun g c = if_refused c.from_residual.result ([], inl (none_viewed c.args.events (scenario_view c.args.scenario.now)), none_yet _ [])
+pub returns-in_err-net-clause-memory : goal.returns-in_err-net-clause-memory
+returns-in_err-net-clause-memory g c = λ _. unstarted false (scenario_view c.args.scenario.now) (take c.args.events (scenario_view c.args.scenario.now).schedule) (views_text (scenario_view c.args.scenario.now).names) (sink g.K.Sink c.args.out.now)
 
--- the blocks are there, and a front of the lines
-pub returns-in_err-send_views-clause-begun : goal.returns-in_err-send_views-clause-begun
-returns-in_err-send_views-clause-begun g c =
-    if_refused c.from_residual-in_err-send_views.result
-    (viewing c.args.events (scenario_view c.args.scenario.now) c.in_ok-net.net c.play.new.net c.first_events-schedule.result.now _ _ c.in_ok-stuck.stuck c.in_ok-net.ensures (c.first_events-schedule.ensures ∙ ap (take c.args.events) c.deref.ensures.value) c.in_ok-stuck.ensures.ok _ c.in_err-send_views.ensures.begun)
+-- the blocks of some events are
+pub returns-in_err-stuck-clause-memory : goal.returns-in_err-stuck-clause-memory
+returns-in_err-stuck-clause-memory g c = λ k.
+    events_stand false (scenario_view c.args.scenario.now) (take c.args.events (scenario_view c.args.scenario.now).schedule) (views_text (scenario_view c.args.scenario.now).names) c.in_ok-net.net c.first_events-schedule.result.now (sink g.K.Sink c.args.out.now) (sink g.K.Sink c.play.new.out) c.in_ok-net.ensures (c.first_events-schedule.ensures ∙ ap (take c.args.events) c.deref.ensures.value) (c.in_err-stuck.ensures.memory (handed _ _ _ c.from_residual-in_err-stuck.ensures.1 k))
 
--- the lines are there too, and nothing of the stuck line
-pub returns-in_err-line-in-Some-clause-begun : goal.returns-in_err-line-in-Some-clause-begun
-returns-in_err-line-in-Some-clause-begun g c =
-    if_refused c.from_residual-in_err-line-in-Some.result
-    (viewed_all c.args.events (scenario_view c.args.scenario.now) c.in_ok-net.net c.play.new.net c.first_events-schedule.result.now _ _ c.in_ok-stuck.stuck c.in_ok-net.ensures (c.first_events-schedule.ensures ∙ ap (take c.args.events) c.deref.ensures.value) c.in_ok-stuck.ensures.ok _ c.in_ok-send_views.ensures.ok)
+-- the blocks are there, and the lines of some replicas
+pub returns-in_err-send_views-clause-memory : goal.returns-in_err-send_views-clause-memory
+returns-in_err-send_views-clause-memory g c = λ k.
+    replicas_stand false (scenario_view c.args.scenario.now) (take c.args.events (scenario_view c.args.scenario.now).schedule) views_text c.in_ok-net.net c.play.new.net c.first_events-schedule.result.now (sink g.K.Sink c.args.out.now) (sink g.K.Sink c.play.new.out) c.in_ok-stuck.stuck c.in_ok-net.ensures (c.first_events-schedule.ensures ∙ ap (take c.args.events) c.deref.ensures.value) c.in_ok-stuck.ensures.ok (sink g.K.Sink c.send_views.new.out) (c.in_err-send_views.ensures.memory (handed _ _ _ c.from_residual-in_err-send_views.ensures.1 k))
 
--- the lines are there too, and a front of the stuck line
-pub returns-in_err-send-in-Some-clause-begun : goal.returns-in_err-send-in-Some-clause-begun
-returns-in_err-send-in-Some-clause-begun g c =
-    if_refused c.from_residual-in_err-send-in-Some.result
-    (telling c.args.events (scenario_view c.args.scenario.now) c.in_ok-net.net c.play.new.net c.first_events-schedule.result.now _ _ c.in_ok-stuck.stuck c.in_ok-net.ensures (c.first_events-schedule.ensures ∙ ap (take c.args.events) c.deref.ensures.value) c.in_ok-stuck.ensures.ok _ _ c.in-Some.stuck c.as_str.result.now c.in-Some.is (λ why event e. c.as_str.ensures.value ∙ c.in_ok-line-in-Some.ensures why event e) c.in_ok-send_views.ensures.ok c.in_err-send-in-Some.ensures.begun)
+-- those of all, and nothing of the stuck line
+pub returns-in_err-line-in-Some-clause-memory : goal.returns-in_err-line-in-Some-clause-memory
+returns-in_err-line-in-Some-clause-memory g c = λ _.
+    all_stand false (scenario_view c.args.scenario.now) (take c.args.events (scenario_view c.args.scenario.now).schedule) views_text c.in_ok-net.net c.play.new.net c.first_events-schedule.result.now (sink g.K.Sink c.args.out.now) (sink g.K.Sink c.play.new.out) c.in_ok-stuck.stuck c.in_ok-net.ensures (c.first_events-schedule.ensures ∙ ap (take c.args.events) c.deref.ensures.value) c.in_ok-stuck.ensures.ok (sink g.K.Sink c.send_views.new.out) c.in-Some.stuck c.in-Some.is c.in_ok-send_views.ensures.ok
+
+-- ---- after a failed write
+
+-- of a block
+pub returns-in_err-stuck-clause-write : goal.returns-in_err-stuck-clause-write
+returns-in_err-stuck-clause-write g c = λ k.
+    absurd (no_part c.in_ok-net.net.names c.in_ok-net.net.network c.first_events-schedule.result.now (sink g.K.Sink c.args.out.now) (sink g.K.Sink c.play.new.out) (c.in_err-stuck.ensures.write (handed _ _ _ c.from_residual-in_err-stuck.ensures.1 k)))
+
+-- of a line of a replica
+pub returns-in_err-send_views-clause-write : goal.returns-in_err-send_views-clause-write
+returns-in_err-send_views-clause-write g c = λ k.
+    viewing c.args.events (scenario_view c.args.scenario.now) c.in_ok-net.net c.play.new.net c.first_events-schedule.result.now (sink g.K.Sink c.args.out.now) (sink g.K.Sink c.play.new.out) c.in_ok-stuck.stuck c.in_ok-net.ensures (c.first_events-schedule.ensures ∙ ap (take c.args.events) c.deref.ensures.value) c.in_ok-stuck.ensures.ok (sink g.K.Sink c.send_views.new.out) (c.in_err-send_views.ensures.write (handed _ _ _ c.from_residual-in_err-send_views.ensures.1 k))
+
+-- of the stuck line
+pub returns-in_err-send-in-Some-clause-write : goal.returns-in_err-send-in-Some-clause-write
+returns-in_err-send-in-Some-clause-write g c = λ _.
+    telling c.args.events (scenario_view c.args.scenario.now) c.in_ok-net.net c.play.new.net c.first_events-schedule.result.now (sink g.K.Sink c.args.out.now) (sink g.K.Sink c.play.new.out) c.in_ok-stuck.stuck c.in_ok-net.ensures (c.first_events-schedule.ensures ∙ ap (take c.args.events) c.deref.ensures.value) c.in_ok-stuck.ensures.ok (sink g.K.Sink c.send_views.new.out) (sink g.K.Sink c.send.new.out) c.in-Some.stuck c.as_str.result.now c.in-Some.is (λ why event e. c.as_str.ensures.value ∙ c.in_ok-line-in-Some.ensures why event e) c.in_ok-send_views.ensures.ok c.in_err-send-in-Some.ensures.err.1

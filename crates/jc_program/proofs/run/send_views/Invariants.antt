@@ -1,11 +1,10 @@
-use Rattle.std.proofs.Common.{◌≡◌, take}
-use Rattle.std.specs.Io.KnownBytes.{Appends}
+use Rattle.std.proofs.Common.{take}
+use Rattle.jc_session.specs.Written.{sink, Wrote}
 use Rattle.jc_view.specs.Visible.{views_text}
 use Rattle.jc_program.proofs.run.send_views.Given as goal
 
 -- the lines of the replicas below p were written
 abbrev pub invariant-loop-p : goal.invariant-loop-p
 invariant-loop-p g l = record {
-  failures : g.K.Sink.failures l.out ≡ g.K.Sink.failures l.initial.out;
-  written : Appends (g.K.Sink.taken l.initial.out) (g.K.Sink.taken l.out) (views_text l.net.names (take l.p l.net.network));
+  written : Wrote (views_text l.net.names (take l.p l.net.network)) (sink g.K.Sink l.initial.out) (sink g.K.Sink l.out);
 }

@@ -5,11 +5,12 @@ use Rattle.jc_printer.specs.Canon.{AreNamed}
 use Rattle.jc_debug.specs.Trail.{session_of}
 use Rattle.jc_session.specs.Gives.{origin_in}
 use Rattle.jc_session.specs.SoFar.{SoFar}
+use Rattle.jc_session.specs.Written.{sink}
 use Rattle.jc_session.proofs.sessions.converse.Given as goal
 
 abbrev pub invariant-lines : goal.invariant-lines
 invariant-lines g l = record {
-  so_far : SoFar (origin_in l.initial.debugger) (session_of l.initial.debugger) (session_of l.debugger) (g.S.Source.left l.initial.source) (prepend_known l.lines.ahead (g.S.Source.left l.source)) (g.K.Sink.taken l.initial.out) (g.K.Sink.taken l.out) l.lines.bytes l.lines.count;
+  so_far : SoFar (origin_in l.initial.debugger) (session_of l.initial.debugger) (session_of l.debugger) (g.S.Source.left l.initial.source) (prepend_known l.lines.ahead (g.S.Source.left l.source)) (sink g.K.Sink l.initial.out) (sink g.K.Sink l.out) l.lines.bytes l.lines.count;
   origin : origin_in l.debugger ≡ origin_in l.initial.debugger;
   named : All (λ e. AreNamed e (length (origin_in l.initial.debugger).names)) l.debugger.schedule;
   bytes : l.lines.bytes ≤ 67108864;

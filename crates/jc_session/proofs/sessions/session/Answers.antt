@@ -1,4 +1,4 @@
-use Rattle.std.proofs.Common.{◌≡◌, IfSome, inl, inr, refl}
+use Rattle.std.proofs.Common.{◌≡◌, inl, inr, refl}
 use Rattle.jc_scenario.specs.Views.{scenario_view}
 use Rattle.jc_debug.specs.Session.{Session}
 use Rattle.jc_debug.specs.Trail.{session_of}
@@ -6,40 +6,41 @@ use Rattle.jc_session.specs.Answers.{Origin}
 use Rattle.jc_session.specs.Shown.{finished, too_many}
 use Rattle.jc_session.specs.declared.sessions.SessionEnd.TheVariants.{Finished}
 use Rattle.jc_session.specs.declared.sessions.SessionFault.TheVariants.{ReadFailed}
-use Rattle.jc_session.specs.Went.{LosesFront, WentToRead, WentWhole, WentFront}
-use Rattle.jc_session.proofs.Begun.{text_refused_shown, refused_front, on_scenario, shown_by, none_lost, left_after_ok, left_after_err}
+use Rattle.jc_session.specs.Went.{OfLinesLeft, LosesFront, WentToRead, WentWhole, WentFront}
+use Rattle.jc_session.specs.Written.{sink}
+use Rattle.jc_session.proofs.Begun.{text_refused_shown, refused_front, on_scenario, shown_by, shown_past, none_lost, left_after_ok, left_after_err}
 use Rattle.jc_session.proofs.Talking.{passed_on}
 use Rattle.jc_session.proofs.sessions.session.Goals as goal
 
 pub returns-in-Ok-refuse-clause-text_refused : goal.returns-in-Ok-refuse-clause-text_refused
 returns-in-Ok-refuse-clause-text_refused g c = λ fault e.
     let same : c.in-Err.fault ≡ fault = cc in
-    (text_refused_shown c.args.scenario.now c.in-Err.fault fault (g.K.Sink.taken c.args.out.now) (g.K.Sink.taken c.refuse.new.out) c.in-Err.ensures.fault c.in-Ok-refuse.ensures.ok same, refl)
+    (text_refused_shown c.args.scenario.now c.in-Err.fault fault (sink g.K.Sink c.args.out.now) (sink g.K.Sink c.refuse.new.out) c.in-Err.ensures.fault c.in-Ok-refuse.ensures.ok same, refl)
 
 pub returns-in-Err-refuse-clause-write : goal.returns-in-Err-refuse-clause-write
 returns-in-Err-refuse-clause-write g c = λ k.
     let w = c.in-Err-refuse.ensures.write (passed_on _ _ k) in
-    inl (refl, refused_front c.args.scenario.now c.in-Err.fault (g.K.Sink.taken c.args.out.now) (g.K.Sink.taken c.refuse.new.out) c.in-Err.ensures.fault w.1 w.2 w.3)
+    inl (refl, refused_front c.args.scenario.now c.in-Err.fault (sink g.K.Sink c.args.out.now) (sink g.K.Sink c.refuse.new.out) c.in-Err.ensures.fault w.0 w.1 w.2)
 
 pub returns-in-Ok-converse-clause-finished : goal.returns-in-Ok-converse-clause-finished
 returns-in-Ok-converse-clause-finished g c = λ _.
-    shown_by c.args.scenario.now (scenario_view c.in-Ok.scenario) c.in-Ok-new.debugger (session_of c.in-Ok-new.debugger) (g.S.Source.left c.args.lines.now) finished (g.K.Sink.taken c.args.out.now) (g.K.Sink.taken c.converse.new.out) c.in-Ok.ensures.scenario c.in-Ok-new.ensures.net c.in-Ok-new.ensures.session c.in-Ok-converse.ensures.finished
+    shown_by c.args.scenario.now (scenario_view c.in-Ok.scenario) c.in-Ok-new.debugger (session_of c.in-Ok-new.debugger) (g.S.Source.left c.args.lines.now) finished (sink g.K.Sink c.args.out.now) (sink g.K.Sink c.converse.new.out) c.in-Ok.ensures.scenario c.in-Ok-new.ensures.net c.in-Ok-new.ensures.session c.in-Ok-converse.ensures.finished
 
 pub returns-clause-too_many : goal.returns-clause-too_many
 returns-clause-too_many g c = λ k.
-    shown_by c.args.scenario.now (scenario_view c.in-Ok.scenario) c.in-Ok-new.debugger (session_of c.in-Ok-new.debugger) (g.S.Source.left c.args.lines.now) too_many (g.K.Sink.taken c.args.out.now) (g.K.Sink.taken c.converse.new.out) c.in-Ok.ensures.scenario c.in-Ok-new.ensures.net c.in-Ok-new.ensures.session (c.in-Err-converse.ensures.too_many (passed_on _ _ k))
+    shown_past c.args.scenario.now (scenario_view c.in-Ok.scenario) c.in-Ok-new.debugger (session_of c.in-Ok-new.debugger) (g.S.Source.left c.args.lines.now) (g.S.Source.left c.converse.new.source) too_many (sink g.K.Sink c.args.out.now) (sink g.K.Sink c.converse.new.out) c.in-Ok.ensures.scenario c.in-Ok-new.ensures.net c.in-Ok-new.ensures.session (c.in-Err-converse.ensures.too_many (passed_on _ _ k))
 
 pub returns-clause-read : goal.returns-clause-read
 returns-clause-read g c = λ k.
-    on_scenario (λ (O : Origin) (A : Session). IfSome (g.S.Source.left c.args.lines.now) (λ l. WentToRead O A l (g.S.Source.left c.converse.new.source) (g.K.Sink.taken c.args.out.now) (g.K.Sink.taken c.converse.new.out))) c.args.scenario.now (scenario_view c.in-Ok.scenario) c.in-Ok-new.debugger (session_of c.in-Ok-new.debugger) c.in-Ok.ensures.scenario c.in-Ok-new.ensures.net c.in-Ok-new.ensures.session (c.in-Err-converse.ensures.read (passed_on _ _ k))
+    on_scenario (λ (O : Origin) (A : Session). OfLinesLeft (g.S.Source.left c.args.lines.now) (g.S.Source.left c.converse.new.source) (λ l left. WentToRead O A l left (sink g.K.Sink c.args.out.now) (sink g.K.Sink c.converse.new.out))) c.args.scenario.now (scenario_view c.in-Ok.scenario) c.in-Ok-new.debugger (session_of c.in-Ok-new.debugger) c.in-Ok.ensures.scenario c.in-Ok-new.ensures.net c.in-Ok-new.ensures.session (c.in-Err-converse.ensures.read (passed_on _ _ k))
 
 pub returns-clause-memory : goal.returns-clause-memory
 returns-clause-memory g c = λ k.
-    inr (on_scenario (λ (O : Origin) (A : Session). IfSome (g.S.Source.left c.args.lines.now) (λ l. WentWhole O A l (g.S.Source.left c.converse.new.source) (g.K.Sink.taken c.args.out.now) (g.K.Sink.taken c.converse.new.out))) c.args.scenario.now (scenario_view c.in-Ok.scenario) c.in-Ok-new.debugger (session_of c.in-Ok-new.debugger) c.in-Ok.ensures.scenario c.in-Ok-new.ensures.net c.in-Ok-new.ensures.session (c.in-Err-converse.ensures.memory (passed_on _ _ k)))
+    inr (on_scenario (λ (O : Origin) (A : Session). OfLinesLeft (g.S.Source.left c.args.lines.now) (g.S.Source.left c.converse.new.source) (λ l left. WentWhole O A l left (sink g.K.Sink c.args.out.now) (sink g.K.Sink c.converse.new.out))) c.args.scenario.now (scenario_view c.in-Ok.scenario) c.in-Ok-new.debugger (session_of c.in-Ok-new.debugger) c.in-Ok.ensures.scenario c.in-Ok-new.ensures.net c.in-Ok-new.ensures.session (c.in-Err-converse.ensures.memory (passed_on _ _ k)))
 
 pub returns-clause-write : goal.returns-clause-write
 returns-clause-write g c = λ k.
-    inr (on_scenario (λ (O : Origin) (A : Session). IfSome (g.S.Source.left c.args.lines.now) (λ l. WentFront O A l (g.S.Source.left c.converse.new.source) (g.K.Sink.taken c.args.out.now) (g.K.Sink.taken c.converse.new.out))) c.args.scenario.now (scenario_view c.in-Ok.scenario) c.in-Ok-new.debugger (session_of c.in-Ok-new.debugger) c.in-Ok.ensures.scenario c.in-Ok-new.ensures.net c.in-Ok-new.ensures.session (c.in-Err-converse.ensures.write (passed_on _ _ k)))
+    inr (on_scenario (λ (O : Origin) (A : Session). OfLinesLeft (g.S.Source.left c.args.lines.now) (g.S.Source.left c.converse.new.source) (λ l left. WentFront O A l left (sink g.K.Sink c.args.out.now) (sink g.K.Sink c.converse.new.out))) c.args.scenario.now (scenario_view c.in-Ok.scenario) c.in-Ok-new.debugger (session_of c.in-Ok-new.debugger) c.in-Ok.ensures.scenario c.in-Ok-new.ensures.net c.in-Ok-new.ensures.session (c.in-Err-converse.ensures.write (passed_on _ _ k)))
 
 pub returns-in-Ok-refuse-clause-left : goal.returns-in-Ok-refuse-clause-left
 returns-in-Ok-refuse-clause-left g c = inr (none_lost (g.S.Source.left c.args.lines.now))

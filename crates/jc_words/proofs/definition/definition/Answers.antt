@@ -14,11 +14,15 @@ bare_help a = record { top = record a.top { disable_help_subcommand = true }; su
 bare_wanted : App → App
 bare_wanted a = record { top = record a.top { subcommand_required = true }; subs = a.subs }
 
+bare_version : App → App
+bare_version a = record { top = record a.top { has_version = true }; subs = a.subs }
+
 pub returns : goal.returns
-unfolding program bare_name bare_help bare_wanted
+unfolding program bare_name bare_help bare_wanted bare_version
 returns c =
-    let named : app_of c.after_help.result ≡ new_app (codes "jsoncrdt") = ap app_of_fields c.after_help.ensures ∙ ap app_of_fields c.about.ensures ∙ ap app_of_fields c.in_ok-bin_name.ensures.0 ∙ c.new.ensures.app in
-    let first = ap app_of_fields c.no_binary_name.ensures ∙ ap bare_name named in
+    let named : app_of c.override_usage.result ≡ new_app (codes "jsoncrdt") = ap app_of_fields c.override_usage.ensures ∙ ap app_of_fields c.about.ensures ∙ ap app_of_fields c.in_ok-bin_name.ensures.0 ∙ c.new.ensures.app in
+    let dated : app_of c.after_help.result ≡ bare_version (new_app (codes "jsoncrdt")) = ap app_of_fields c.after_help.ensures ∙ ap app_of_fields c.version.ensures ∙ ap bare_version named in
+    let first = ap app_of_fields c.no_binary_name.ensures ∙ ap bare_name dated in
     let second = ap app_of_fields c.disable_help_subcommand.ensures ∙ ap bare_help first in
     let top_is : app_of c.subcommand_required-top.result ≡ bare = ap app_of_fields c.subcommand_required-top.ensures ∙ ap bare_wanted second in
     let one = c.in_ok-top.ensures.shape c.in_ok-check.ensures.local ∙ ap₂ with_subcommand top_is (ap (λ (a : App). a.top) c.in_ok-check.ensures.shape) in

@@ -16,4 +16,4 @@ returns-in_ok-applied_ids_of-in-Some-clause-applied c =
     let run = now_in_run count whose items c.self.invariant in
     let stands = applies count whose items c.self.invariant c.args.p c.in-Some.replica.now _ (subst (λ n. slice_get items n ≡ Some c.in-Some.replica.now) c.from.ensures there) refl in
     subst (λ (v : Course). AreAppliedIds v.network c.args.p c.in_ok-applied_ids_of-in-Some.field-0.items) c.self.view_is
-    (subst (AreAppliedIds _ c.args.p) (sym c.in_ok-applied_ids_of-in-Some.ensures) (are_applied_ids _ c.args.p (applied_ops c.in-Some.replica.now.now) (run.scripts, run.reached) stands))
+    (subst (AreAppliedIds _ c.args.p) (sym c.in_ok-applied_ids_of-in-Some.ensures) (are_applied_ids _ c.args.p (applied_ops c.in-Some.replica.now.now) (c.self.invariant.scripts, run.reached) stands))

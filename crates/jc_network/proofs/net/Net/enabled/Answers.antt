@@ -20,5 +20,5 @@ returns c =
     let run = now_in_run (length c.self.inside.names.items) (reverse c.self.inside.whose.items) items c.self.invariant in
     IfOk-weaker c.enabled_in.result _ _ (λ events told.
     subst (λ (v : Course). AreEnabled v.network (candidates v.network) events.items) c.self.view_is
-    (enabled_stands run.scripts (network_of items) run.reached run.set items run.seen c.self.invariant.numbered events.items (subst (λ ps. AreTold ps events.items) c.deref.ensures.value told)))
+    (enabled_stands c.self.invariant.scripts (network_of items) run.reached run.set items run.seen events.items (subst (λ ps. AreTold ps events.items) c.deref.ensures.value told)))
     c.enabled_in.ensures

@@ -1,7 +1,7 @@
 use Rattle.std.proofs.Common.{length, reverse, ap, subst, arith}
 use Rattle.jc_network.specs.Course.{Course}
-use Rattle.jc_network.specs.Run.{IsFromStart}
-use Rattle.jc_network.proofs.Going.{as_many, now_in_run}
+use Rattle.jc_network.specs.Run.{IsFromStart, HasBegun}
+use Rattle.jc_network.proofs.Going.{as_many, now_in_run, has_begun}
 use Rattle.jc_network.proofs.net.Net.steps.Goals as goal
 
 pub returns-clause-steps : goal.returns-clause-steps
@@ -15,4 +15,8 @@ returns-clause-steps c =
 pub returns-clause-reached : goal.returns-clause-reached
 returns-clause-reached c =
     let run = now_in_run (length c.self.inside.names.items) (reverse c.self.inside.whose.items) c.self.inside.replicas.items c.self.invariant in
-    subst (λ (v : Course). IsFromStart v.network) c.self.view_is (run.scripts, run.reached)
+    subst (λ (v : Course). IsFromStart v.network) c.self.view_is (c.self.invariant.scripts, run.reached)
+
+pub returns-clause-begun : goal.returns-clause-begun
+returns-clause-begun c =
+    subst HasBegun c.self.view_is (has_begun c.self.inside.names.items (reverse c.self.inside.whose.items) c.self.inside.replicas.items c.self.invariant)

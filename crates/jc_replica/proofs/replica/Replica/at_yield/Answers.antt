@@ -9,9 +9,9 @@ use Rattle.jc_replica.proofs.Seeing.{left_seen}
 use Rattle.jc_replica.proofs.replica.Replica.at_yield.Goals as goal
 
 pub returns-then-self-len-clause-err : goal.returns-then-self-len-clause-err
-returns-then-self-len-clause-err g c = λ event read y. λ set os A seen of.
+returns-then-self-len-clause-err g c = λ event read y. λ set os A stands of.
     let all : length c.self.inside.script.items ≤ c.self.inside.done = search rules in
-    no_yield y (left_seen set _ A _ seen ∙ ap (λ (p : Past). p.now.left) (sym c.self.view_is) ∙ none_left c.self.inside.script.items c.self.inside.done all)
+    no_yield y (left_seen set A _ stands ∙ ap (λ (p : Past). p.now.left) (sym c.self.view_is) ∙ none_left c.self.inside.script.items c.self.inside.done all)
 
 pub returns-then-is_yield-clause-ok : goal.returns-then-is_yield-clause-ok
 returns-then-is_yield-clause-ok g c =
@@ -25,9 +25,9 @@ returns-then-is_yield-clause-ok g c =
     )
 
 pub returns-else-is_yield-clause-err : goal.returns-else-is_yield-clause-err
-returns-else-is_yield-clause-err g c = λ event read y. λ set os A seen of.
+returns-else-is_yield-clause-err g c = λ event read y. λ set os A stands of.
     let len : c.len.result ≡ length c.self.inside.script.items = search rules in
     let within : c.self.inside.done < length c.self.inside.script.items = omega (arith, c.self.invariant.bounds.done, length-map c.self.inside.script.items cmd_of, len, c.if-self-len.false) in
     let is : c.index-command.result.now ≡ get_or c.self.inside.script.items c.self.inside.done c.index-command.result.now = search rules in
     let other : cmd_of c.index-command.result.now ≢ Yield = λ e. (let f : false ≡ true = sym c.if-is_yield.false ∙ c.is_yield.ensures.1 e in cc) in
-    not_at_yield y (left_seen set _ A _ seen ∙ ap (λ (p : Past). p.now.left) (sym c.self.view_is) ∙ next_is c.self.inside.script.items c.self.inside.done c.index-command.result.now within is) other
+    not_at_yield y (left_seen set A _ stands ∙ ap (λ (p : Past). p.now.left) (sym c.self.view_is) ∙ next_is c.self.inside.script.items c.self.inside.done c.index-command.result.now within is) other

@@ -11,18 +11,18 @@ use Rattle.jc_replica.proofs.Seeing.{left_seen}
 use Rattle.jc_replica.proofs.replica.Replica.binds_next.Goals as goal
 
 pub returns-then-self-len-clause-err : goal.returns-then-self-len-clause-err
-returns-then-self-len-clause-err g c = λ set os A seen of.
+returns-then-self-len-clause-err g c = λ set os A stands of.
     let all : length c.self.inside.script.items ≤ c.self.inside.done = search rules in
-    no_command (left_seen set _ A _ seen ∙ ap (λ (p : Past). p.now.left) (sym c.self.view_is) ∙ none_left c.self.inside.script.items c.self.inside.done all)
+    no_command (left_seen set A _ stands ∙ ap (λ (p : Past). p.now.left) (sym c.self.view_is) ∙ none_left c.self.inside.script.items c.self.inside.done all)
 
 pub returns-then-is_yield-clause-err : goal.returns-then-is_yield-clause-err
-returns-then-is_yield-clause-err g c = λ set os A seen of.
+returns-then-is_yield-clause-err g c = λ set os A stands of.
     let i = c.self.inside in
     let len : c.len.result ≡ length i.script.items = search rules in
     let within : i.done < length i.script.items = omega (arith, c.self.invariant.bounds.done, length-map i.script.items cmd_of, len, c.if-self-len.false) in
     let is : c.index-command.result.now ≡ get_or i.script.items i.done c.index-command.result.now = search rules in
     let rest = drop (suc i.done) (map cmd_of i.script.items) in
-    at_yield {rest = rest} (left_seen set _ A _ seen
+    at_yield {rest = rest} (left_seen set A _ stands
     ∙ ap (λ (p : Past). p.now.left) (sym c.self.view_is)
     ∙ next_is i.script.items i.done c.index-command.result.now within is
     ∙ ap (λ x. x ∷ rest) (c.is_yield.ensures.0 c.if-is_yield.true))

@@ -32,7 +32,7 @@ returns-in_err-bound-clause-err g c =
     let vars = ap (λ vs. vars_of vs) all ∙ ap (λ (p : Past). p.now.vars) c.self.view_is in
     let tree = ap (λ (p : Past). p.now.tree) c.self.view_is in
     handed_up (E.Exec c.args.self.now.number) [] c.args.self.now c.from_residual-in_err-bound.result (cause_of c.in_err-bound.field-0.0) (λ why. IsRefused (g.S.TreeStore.tree i.store).now (vars_of c.as_slice.result.now) (expr_of c.in-Let.expr) why) c.from_residual-in_err-bound.ensures.1
-    (λ why r. λ set os A seen of. refused_let set c.args.self.now.number A c.args.self.now.now seen os c.requires why (refused_in tree vars same.1 r))
+    (λ why r. λ set os A stands of. refused_let set c.args.self.now.number A c.args.self.now.now stands os c.requires why (refused_in tree vars same.1 r))
     c.in_err-bound.ensures.refused
 
 pub returns-clause-ok : goal.returns-clause-ok

@@ -44,4 +44,4 @@ returns g c =
     occurs c.self.invariant i.number _ c.self.view_is E.Done [] t c.push-2.new.self.items h2 _ (ends _ script h h2 t.now _ _ left acted refl rows) s.earlier
 
 pub returns-then-not-self : goal.returns-then-not-self
-returns-then-not-self g c = (refl, λ set os A seen of. not_acted (left_seen set _ A _ seen ∙ c.in_ok-at_yield.ensures.ok.1) (acted_seen set _ A _ seen ∙ ap (λ (p : Past). p.now.acted) (sym c.self.view_is) ∙ c.if-not-self.true))
+returns-then-not-self g c = (refl, λ set os A stands of. not_acted (left_seen set A _ stands ∙ c.in_ok-at_yield.ensures.ok.1) (acted_seen set A _ stands ∙ ap (λ (p : Past). p.now.acted) (sym c.self.view_is) ∙ c.if-not-self.true))

@@ -51,7 +51,7 @@ returns-in_err-apply_to g c =
     let tree = ap (λ (p : Past). p.now.tree) c.self.view_is in
     refused_call (E.Exec old.number) [] old _ c.from_residual-in_err-apply_to.result c.in_err-apply_to.field-0.0 c.from_residual-in_err-apply_to.ensures.1 same
     (for_cause (E.Exec old.number) [] old c.in_err-apply_to.field-0.0 (cause_of c.in_err-apply_to.field-0.0) (λ why. (deps : List Id) → Refused (Operate (g.S.TreeStore.tree i.store).now (with_deps deps c.in_ok-op.op)) why) refl
-    (λ why r. λ set os A seen of. refused_made set old.number A old.now seen m.next.command m.next.rest m.next.next m.next.makes os m.cursor _ _ why m.evaluates
+    (λ why r. λ set os A stands of. refused_made set old.number A old.now stands m.next.command m.next.rest m.next.next m.next.makes os m.cursor _ _ why m.evaluates
     (λ deps. subst (λ (x : Context). Refused (Operate x (with_deps deps (new_op old.number old.now.ops m.cursor (mutation_by m.next.command)))) why) tree (subst (λ (o : Op). Refused (Operate (g.S.TreeStore.tree i.store).now (with_deps deps o)) why) m.is (r deps))))
     c.in_err-apply_to.ensures.refused)
 

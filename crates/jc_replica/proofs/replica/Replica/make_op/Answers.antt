@@ -32,7 +32,7 @@ returns-in_err-bound-clause-err g c =
     let tree = ap (λ (p : Past). p.now.tree) c.self.view_is in
     let expr = c.place_of.ensures ∙ ap expr_by next in
     handed_up (E.Exec c.args.self.now.number) [] c.args.self.now c.from_residual-in_err-bound.result (cause_of c.in_err-bound.field-0.0) (λ why. IsRefused (g.S.TreeStore.tree i.store).now (vars_of c.as_slice.result.now) (expr_of c.place_of.result.now) why) c.from_residual-in_err-bound.ensures.1
-    (λ why r. λ set os A seen of. refused_first set c.args.self.now.number A c.args.self.now.now seen c.requires.command c.requires.rest c.requires.next c.requires.makes os why (refused_in tree vars expr r))
+    (λ why r. λ set os A stands of. refused_first set c.args.self.now.number A c.args.self.now.now stands c.requires.command c.requires.rest c.requires.next c.requires.makes os why (refused_in tree vars expr r))
     c.in_err-bound.ensures.refused
 
 pub returns-in_default : goal.returns-in_default
@@ -46,7 +46,7 @@ returns-in_default g c =
     let expr = c.place_of.ensures ∙ ap expr_by next in
     record {
       ok = tt;
-      err = λ set os A seen of. refused_bound set c.args.self.now.number A c.args.self.now.now seen c.requires.command c.requires.rest c.requires.next c.requires.makes os (bound_of c.in_ok-bound.bound) _ _ (evaluated_in tree vars expr c.in_ok-bound.ensures.ok) (no_cursor c.in_ok-bound.bound c.in_default.not-Cursor);
+      err = λ set os A stands of. refused_bound set c.args.self.now.number A c.args.self.now.now stands c.requires.command c.requires.rest c.requires.next c.requires.makes os (bound_of c.in_ok-bound.bound) _ _ (evaluated_in tree vars expr c.in_ok-bound.ensures.ok) (no_cursor c.in_ok-bound.bound c.in_default.not-Cursor);
     }
 
 pub overflow_add-result : goal.overflow_add-result

@@ -10,19 +10,19 @@ refuted : {b : Bool} → b ≡ true → b ≡ false → ⊥
 refuted e f = let no : true ≡ false = sym e ∙ f in cc
 
 pub returns-in_default-clause-err : goal.returns-in_default-clause-err
-returns-in_default-clause-err g c = λ set os A seen read.
+returns-in_default-clause-err g c = λ set os A stands read.
     let yields = c.in_ok-at_yield.ensures.ok in
     let found = ap (λ (p : Past). op_of c.args.id p.now.recv) (sym c.self.view_is) ∙ sym c.find.ensures in
-    refused_absent set _ A _ seen c.args.id os yields.0 yields.1 (found ∙ none_found c.find.result (λ x e. c.in_default.not-Some x e))
+    refused_absent set _ A _ stands c.args.id os yields.0 yields.1 (found ∙ none_found c.find.result (λ x e. c.in_default.not-Some x e))
 
 pub returns-then-contains-clause-err : goal.returns-then-contains-clause-err
-returns-then-contains-clause-err g c = λ set os A seen read.
+returns-then-contains-clause-err g c = λ set os A stands read.
     let yields = c.in_ok-at_yield.ensures.ok in
     let applied : has_id c.args.id c.args.self.now.now.ops ≡ true = ap (λ (p : Past). has_id c.args.id p.now.ops) (sym c.self.view_is) ∙ sym c.contains.ensures.exact ∙ c.if-contains.true in
-    refused_applied set _ A _ seen c.args.id c.in-Some.op.now os yields.0 yields.1 (ap (λ (p : Past). op_of c.args.id p.now.recv) (sym c.self.view_is) ∙ sym c.find.ensures ∙ ap option_copied c.in-Some.is) applied
+    refused_applied set _ A _ stands c.args.id c.in-Some.op.now os yields.0 yields.1 (ap (λ (p : Past). op_of c.args.id p.now.recv) (sym c.self.view_is) ∙ sym c.find.ensures ∙ ap option_copied c.in-Some.is) applied
 
 pub returns-then-not-is_subset-clause-err : goal.returns-then-not-is_subset-clause-err
-returns-then-not-is_subset-clause-err g c = λ set os A seen read.
+returns-then-not-is_subset-clause-err g c = λ set os A stands read.
     let yields = c.in_ok-at_yield.ensures.ok in
     let new : has_id c.args.id c.args.self.now.now.ops ≡ false = ap (λ (p : Past). has_id c.args.id p.now.ops) (sym c.self.view_is) ∙ sym c.contains.ensures.exact ∙ c.if-contains.false in
-    refused_missing set _ A _ seen c.args.id c.in-Some.op.now os yields.0 yields.1 (ap (λ (p : Past). op_of c.args.id p.now.recv) (sym c.self.view_is) ∙ sym c.find.ensures ∙ ap option_copied c.in-Some.is) new (λ h. refuted (c.is_subset.ensures.exact.1 (subst (λ (s : List Id). AreIn c.in-Some.op.now.deps s) (ap (λ (p : Past). p.now.ops) (sym c.self.view_is)) h)) c.if-not-is_subset.true)
+    refused_missing set _ A _ stands c.args.id c.in-Some.op.now os yields.0 yields.1 (ap (λ (p : Past). op_of c.args.id p.now.recv) (sym c.self.view_is) ∙ sym c.find.ensures ∙ ap option_copied c.in-Some.is) new (λ h. refuted (c.is_subset.ensures.exact.1 (subst (λ (s : List Id). AreIn c.in-Some.op.now.deps s) (ap (λ (p : Past). p.now.ops) (sym c.self.view_is)) h)) c.if-not-is_subset.true)

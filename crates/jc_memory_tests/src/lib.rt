@@ -1,0 +1,30 @@
+//! Tests in which requests for memory are refused: each call is made with no memory, and with a little more each time,
+//! until there is enough. After each refusal all must stand as it did.
+#![tactic(auto)]
+
+#[cfg(test)]
+mod attempts;
+#[cfg(test)]
+mod benches;
+#[cfg(test)]
+mod commands;
+#[cfg(test)]
+mod debugging;
+#[cfg(test)]
+mod due;
+#[cfg(test)]
+mod memory;
+#[cfg(test)]
+mod networks;
+#[cfg(test)]
+mod rows;
+#[cfg(test)]
+mod scenarios;
+#[cfg(test)]
+mod sessions;
+#[cfg(test)]
+mod steps;
+#[cfg(test)]
+mod stores;
+#[cfg(test)]
+mod threads;

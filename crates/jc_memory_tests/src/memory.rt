@@ -1,0 +1,110 @@
+//! Memory that runs out: blocks to which nothing is written take the whole address space of the test's own process, but
+//! for so many bytes.
+//!
+//! A test makes each call with ample memory first. So the stack has grown then as far as the call needs; later it can't.
+
+use std::alloc::{AllocError, Global};
+use std::process::Abort;
+
+/// How large the largest block is, and how many there are at most.
+const LARGEST: usize = 1 << 34;
+
+const MANY: usize = 1 << 17;
+
+/// The room that is left, in pieces: what is made ready for a call and looked at after it has its memory here. It is
+/// smaller than the holes for threads, which would be cut out of it else.
+const PIECE: usize = 1 << 22;
+
+const PIECES: usize = 8;
+
+/// How many blocks the room is cut into at most.
+const FEW: usize = 20_000;
+
+/// What a call can get at most.
+pub const SPARE: usize = 1 << 18;
+
+/// By so many bytes what a call can get grows. No block of the C library has less than twice as many.
+pub const UNIT: usize = 16;
+
+/// Above this size the C library keeps no list of freed blocks for each size.
+const LISTED: usize = 1_032;
+
+/// The next size that is tried. Of small sizes each is tried, since freed blocks of one size serve no other.
+fn smaller(size: usize) -> usize {
+    if size > LISTED {
+        size / 2
+    } else {
+        size.saturating_sub(UNIT)
+    }
+}
+
+/// A block of so many bytes.
+pub fn block(alloc: Global, bytes: usize) -> Result<Vec<u8>, AllocError> {
+    Vec::with_capacity(alloc, bytes)
+}
+
+/// Takes blocks of falling size, until there is memory for none.
+fn take(alloc: Global, largest: usize, many: usize) -> Result<Vec<Vec<u8>>, AllocError> {
+    let mut blocks = Vec::with_capacity(alloc, many)?;
+    let mut size = largest;
+    for _ in 0..many {
+        if size == 0 {
+            break;
+        }
+        match block(alloc, size) {
+            Ok(block) => blocks.push(block)?,
+            Err(_) => size = smaller(size),
+        }
+    }
+    Ok(blocks)
+}
+
+fn room(alloc: Global) -> Result<Vec<Vec<u8>>, AllocError> {
+    let mut pieces = Vec::with_capacity(alloc, PIECES)?;
+    for _ in 0..PIECES {
+        pieces.push(block(alloc, PIECE)?)?;
+    }
+    Ok(pieces)
+}
+
+fn all_but_room(alloc: Global) -> Result<Vec<Vec<u8>>, AllocError> {
+    // After a large block was freed, the C library cuts blocks up to its size out of one heap.
+    drop(block(alloc, 4 * PIECE)?);
+    let room = room(alloc)?;
+    let blocks = take(alloc, LARGEST, MANY)?;
+    drop(room);
+    Ok(blocks)
+}
+
+/// The room but for so many bytes, which stand in one piece.
+fn room_but(alloc: Global, bytes: usize) -> Result<Vec<Vec<u8>>, AllocError> {
+    let spare = block(alloc, SPARE)?;
+    let mut blocks = take(alloc, PIECE, FEW)?;
+    drop(spare);
+    blocks.push(block(alloc, SPARE.saturating_sub(bytes))?)?;
+    // Those that were taken last are freed first. Else the room falls to small pieces.
+    blocks.reverse();
+    Ok(blocks)
+}
+
+/// Takes all memory but the room. It is free again where these blocks are.
+pub fn fill(rt: &impl Abort, alloc: Global) -> Vec<Vec<u8>> {
+    all_but_room(alloc).ok().expect(rt, "the blocks")
+}
+
+/// How much a call gets: all that it may need, or what it gets when it is made for the time n.
+pub fn budget(is_ample: bool, n: usize) -> usize {
+    if is_ample {
+        SPARE
+    } else {
+        n.saturating_mul(UNIT)
+    }
+}
+
+/// Takes the room too, but for so many bytes. For a call with ample memory nothing is taken.
+pub fn leave(rt: &impl Abort, alloc: Global, bytes: usize) -> Vec<Vec<u8>> {
+    if bytes >= SPARE {
+        return Vec::new(alloc);
+    }
+    room_but(alloc, bytes).ok().expect(rt, "the blocks")
+}

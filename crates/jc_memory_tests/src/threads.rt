@@ -1,0 +1,278 @@
+//! Runs by threads with too little memory: no report, or one in which an end says so.
+//!
+//! Each thread would get a heap of its own from the C library. So the memory is filled before the first thread is made,
+//! but for a hole in which stacks fit and no such heap does. A stack is kept for the next thread; after the first run
+//! what threads take comes page by page out of a second hole, and what the thread takes that started them out of the
+//! room.
+
+ghost use Rattle.std.specs.Prelude.{None, true};
+ghost use Rattle.jc_scenario.specs.Scenarios.{IsWellFormed};
+ghost use Rattle.jc_scenario.specs.Views.{scenario_view};
+
+use crate::attempts::{Outcome, done_if, holds, is_done, refused_if};
+use crate::commands::texts;
+use crate::due::AnyOf;
+use crate::memory::{SPARE, block, fill, leave};
+use crate::rows::{DELETION, scene};
+use jc_fakes::Bytes;
+use jc_program::{Files, work};
+use jc_rules::io::ReadFault;
+use jc_runner::{End, Gate, Report, RunFault, run_threads};
+use jc_scenario::Scenario;
+use std::alloc::{AllocError, Global};
+use std::process::Abort;
+use std::sync::Wait;
+use std::test::Fail;
+use std::thread::Threads;
+
+/// The C library frees blocks of this size to the system at once, and makes no heap in so small a hole.
+const HOLE: usize = 48 << 20;
+
+const PAGE: usize = 4_096;
+
+/// How many pages threads get at most.
+const PAGES: usize = 4_000;
+
+/// What the caller gets where the threads are to be refused: all that it needs.
+const AMPLE: usize = SPARE / 2;
+
+/// By so many bytes what the caller gets grows where it is to be refused, and how often.
+const STEP: usize = 64;
+
+const STEPS: usize = 256;
+
+/// A gate that is open. It tells no question.
+#[derive(Drop)]
+struct Open;
+
+impl Gate for Open {
+    ghost use Rattle.std.specs.Prelude.{None};
+
+    ghost asked = { λ _. None };
+
+    fn before<R: Wait>(&mut self, _rt: &R, _replica: u16, _step: u64) {}
+}
+
+fn gates(alloc: Global) -> Result<Vec<Open>, AllocError> {
+    let mut gates = Vec::with_capacity(alloc, 2)?;
+    gates.push(Open)?;
+    gates.push(Open)?;
+    Ok(gates)
+}
+
+/// Whether all replicas had memory; each end says that one hadn't, or that its script ended.
+fn outcome_of(report: &Report) -> Outcome {
+    let mut outcome = Outcome::Done;
+    for end in &report.ends {
+        match end {
+            End::Finished => {}
+            End::NoMemory => outcome = Outcome::Refused,
+            _ => return Outcome::Wrong,
+        }
+    }
+    outcome
+}
+
+/// Whether as many events stand in the schedule as were made.
+fn is_summed(report: &Report) -> bool {
+    let mut all = 0u64;
+    for made in &report.made {
+        all = all.saturating_add(*made);
+    }
+    all == report.schedule.len() as u64 && all == report.net.steps()
+}
+
+/// A run of two threads.
+fn run<R: Threads + Wait + Sync>(
+    rt: &R,
+    alloc: Global,
+    scenario: Scenario,
+    gates: Vec<Open>,
+) -> Outcome
+    requires { IsWellFormed (scenario_view scenario) }
+{
+    match run_threads(rt, alloc, scenario, gates, 100) {
+        Ok(report) => {
+            if is_summed(&report) {
+                outcome_of(&report)
+            } else {
+                Outcome::Wrong
+            }
+        }
+        Err(RunFault::Memory | RunFault::NoThread) => Outcome::Refused,
+        Err(_) => Outcome::Wrong,
+    }
+}
+
+/// A runtime without files.
+#[derive(Drop)]
+struct NoFiles<R> {
+    rt: R,
+}
+
+impl<R: Threads> Threads for NoFiles<R> {}
+
+impl<R: Wait> Wait for NoFiles<R> {}
+
+impl<R: Alloc> Alloc for NoFiles<R> {
+    type A = R::A;
+
+    fn alloc(&self) -> R::A {
+        self.rt.alloc()
+    }
+}
+
+impl<R> Files for NoFiles<R> {
+    ghost texts = { λ _ _. None };
+
+    ghost may_fail = { λ _ _. true };
+
+    fn read_file(&self, _alloc: Global, _name: &str, _most: usize) -> Result<Vec<u8>, ReadFault> {
+        Err(ReadFault::Failed)
+    }
+}
+
+const ONE: &str = "jsoncrdt 1 replica a { doc := 1 }";
+
+const RECORDED: &str = "jsoncrdt 1\nreplica a {\n  doc := 1;\n}\nschedule {\n  a.exec;\n}\n";
+
+const UNBEGUN: &str = "jsoncrdt 1\nreplica a {\n  doc := 1;\n}\nschedule {\n}\n";
+
+/// What standard error has: where there was too little memory, and the last where there was enough.
+const LINES: [&str; 5] = [
+    "no memory\n",
+    "no thread\n",
+    "a made 0 no memory\n",
+    "a made 1 no memory\n",
+    "a made 1 finished\n",
+];
+
+/// The command `threads`, or what else the words ask for.
+fn command<R: Threads + Wait + Sync + AllocGlobal>(rt: &R, words: &[String]) -> Outcome {
+    let mut out = AnyOf::new([RECORDED, UNBEGUN, "", "", ""]);
+    let mut err = AnyOf::new(LINES);
+    let mut input = Bytes::new(ONE.as_bytes());
+    match work(&NoFiles { rt }, words, &mut input, &mut out, &mut err) {
+        0 => done_if(out.is_whole(0) && err.is_whole(4)),
+        5 => refused_if(out.is_one() && err.is_one() && !err.is_whole(4)),
+        _ => Outcome::Wrong,
+    }
+}
+
+fn hole(rt: &impl Abort, alloc: Global) -> Vec<u8> {
+    block(alloc, HOLE).ok().expect(rt, "a hole")
+}
+
+/// Takes all memory, but for so many bytes of the room and so many pages of the hole.
+fn leave_both(rt: &impl Abort, alloc: Global, bytes: usize, pages: usize) -> Vec<Vec<u8>> {
+    let hole = hole(rt, alloc);
+    let mut blocks = leave(rt, alloc, bytes);
+    drop(hole);
+    let taken = HOLE.saturating_sub(pages.saturating_mul(PAGE));
+    let filler = block(alloc, taken).ok().expect(rt, "the hole");
+    blocks.push(filler).ok().expect(rt, "room for a block");
+    blocks
+}
+
+fn run_with<R: Threads + Wait + Sync + Abort>(
+    rt: &R,
+    alloc: Global,
+    bytes: usize,
+    pages: usize,
+) -> Outcome {
+    let scenario = scene(rt, alloc, DELETION);
+    let gates = gates(alloc).ok().expect(rt, "gates");
+    let blocks = leave_both(rt, alloc, bytes, pages);
+    let outcome = run(rt, alloc, scenario, gates);
+    drop(blocks);
+    outcome
+}
+
+/// Runs whose caller has more each time, and whose threads have nothing.
+fn refuse_callers<R: Threads + Wait + Sync + Abort>(rt: &R, alloc: Global) {
+    for n in 0..STEPS {
+        let outcome = run_with(rt, alloc, n * STEP, 0);
+        holds(rt, outcome == Outcome::Refused);
+    }
+}
+
+/// How often the threads of a run are refused memory before each replica has enough.
+fn refused_runs<R: Threads + Wait + Sync + Abort>(rt: &R, alloc: Global) -> u64 {
+    for pages in 0..PAGES {
+        if is_done(rt, run_with(rt, alloc, AMPLE, pages)) {
+            return pages as u64;
+        }
+    }
+    panic!(rt; "it is always refused")
+}
+
+#[test]
+fn runs_are_refused(rt: HostRuntime) -> Result<(), Fail> {
+    let alloc = rt.alloc();
+    let scenario = scene(&rt, alloc, DELETION);
+    let gates = gates(alloc)?;
+    let (stacks, apart, pages) = (hole(&rt, alloc), hole(&rt, alloc), hole(&rt, alloc));
+    let blocks = fill(&rt, alloc);
+    drop(stacks);
+    holds(&rt, run(&rt, alloc, scenario, gates) == Outcome::Done);
+    drop(pages);
+    refuse_callers(&rt, alloc);
+    holds(&rt, refused_runs(&rt, alloc) > 0);
+    drop(apart);
+    drop(blocks);
+    Ok(())
+}
+
+fn command_with<R: Threads + Wait + Sync + AllocGlobal + Abort>(
+    rt: &R,
+    words: &[String],
+    bytes: usize,
+    pages: usize,
+) -> Outcome {
+    let blocks = leave_both(rt, rt.alloc(), bytes, pages);
+    let outcome = command(rt, words);
+    drop(blocks);
+    outcome
+}
+
+/// The command where its caller has more each time, and its threads have nothing.
+fn refuse_words<R: Threads + Wait + Sync + AllocGlobal + Abort>(rt: &R, words: &[String]) {
+    for n in 0..STEPS {
+        let outcome = command_with(rt, words, n * STEP, 0);
+        holds(rt, outcome == Outcome::Refused);
+    }
+}
+
+/// How often the threads of the command are refused memory before it is done.
+fn refused_commands<R: Threads + Wait + Sync + AllocGlobal + Abort>(
+    rt: &R,
+    words: &[String],
+) -> u64 {
+    for pages in 0..PAGES {
+        if is_done(rt, command_with(rt, words, AMPLE, pages)) {
+            return pages as u64;
+        }
+    }
+    panic!(rt; "it is always refused")
+}
+
+#[test]
+fn the_command_is_refused(rt: HostRuntime) -> Result<(), Fail> {
+    let alloc = rt.alloc();
+    // By this call, which is another, the stack grows.
+    holds(
+        &rt,
+        command(&rt, &texts(alloc, &["check", "-"])?) == Outcome::Wrong,
+    );
+    let words = texts(alloc, &["threads", "-"])?;
+    let (stacks, apart, pages) = (hole(&rt, alloc), hole(&rt, alloc), hole(&rt, alloc));
+    let blocks = fill(&rt, alloc);
+    drop(stacks);
+    holds(&rt, command(&rt, &words) == Outcome::Done);
+    drop(pages);
+    refuse_words(&rt, &words);
+    holds(&rt, refused_commands(&rt, &words) > 0);
+    drop(apart);
+    drop(blocks);
+    Ok(())
+}

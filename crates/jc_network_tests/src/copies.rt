@@ -1,0 +1,103 @@
+//! Copies of what refused or stuck events give.
+
+use crate::nets::{after, holds, scene};
+use jc_debug::{ActFault, Debugger, GotoFault, RunEnd, StepFault};
+use jc_network::{StepFault as NetFault, Stuck};
+use jc_rules::Event;
+use std::alloc::{AllocError, Global};
+use std::test::Fail;
+
+/// A replica alone, whose command is stuck for a tagged key.
+const NOTHING: &str = "jsoncrdt 1 replica a { let x = doc.get(\"a\").idx(0) } schedule { a.exec }";
+
+fn are_alike(one: &Stuck, other: &Stuck) -> bool {
+    one.number == 25
+        && one.key.is_some()
+        && one.number == other.number
+        && one.key == other.key
+        && one.event == other.event
+}
+
+fn is_net_fault_copied(fault: &NetFault) -> Result<bool, AllocError> {
+    match (fault, &fault.copy()?) {
+        (NetFault::Stuck(stuck), NetFault::Stuck(copy)) => Ok(are_alike(stuck, copy)),
+        _ => Ok(false),
+    }
+}
+
+fn is_step_fault_copied(fault: &StepFault) -> Result<bool, AllocError> {
+    match (fault, &fault.copy()?) {
+        (StepFault::Stuck(stuck), StepFault::Stuck(copy)) => Ok(are_alike(stuck, copy)),
+        _ => Ok(false),
+    }
+}
+
+fn is_goto_fault_copied(fault: &GotoFault) -> Result<bool, AllocError> {
+    match (fault, &fault.copy()?) {
+        (GotoFault::Stuck(stuck), GotoFault::Stuck(copy)) => Ok(are_alike(stuck, copy)),
+        _ => Ok(false),
+    }
+}
+
+fn is_act_fault_copied(fault: &ActFault) -> Result<bool, AllocError> {
+    match (fault, &fault.copy()?) {
+        (ActFault::Stuck(stuck), ActFault::Stuck(copy)) => Ok(are_alike(stuck, copy)),
+        _ => Ok(false),
+    }
+}
+
+fn is_run_end_copied(end: &RunEnd) -> Result<bool, AllocError> {
+    match (end, &end.copy()?) {
+        (RunEnd::Stuck(stuck), RunEnd::Stuck(copy)) => Ok(are_alike(stuck, copy)),
+        _ => Ok(false),
+    }
+}
+
+#[test]
+fn of_networks(rt: HostRuntime) -> Result<(), Fail> {
+    let mut net = after(&rt, rt.alloc(), NOTHING, &[])?;
+    let copied = match net.step(&Event::Exec(0)) {
+        Ok(_) => false,
+        Err(fault) => is_net_fault_copied(&fault)?,
+    };
+    holds(&rt, copied);
+    Ok(())
+}
+
+/// A debugger before an event that is stuck.
+fn begun(alloc: Global) -> Result<Debugger, Fail> {
+    let scenario = scene(alloc, NOTHING)?;
+    Ok(Debugger::new(alloc, scenario)?)
+}
+
+fn are_moves_copied(debugger: &mut Debugger) -> Result<bool, AllocError> {
+    let stepped = match debugger.step(1) {
+        Ok(()) => false,
+        Err(fault) => is_step_fault_copied(&fault)?,
+    };
+    let gone = match debugger.goto(1) {
+        Ok(()) => false,
+        Err(fault) => is_goto_fault_copied(&fault)?,
+    };
+    Ok(stepped && gone)
+}
+
+fn are_ends_copied(debugger: &mut Debugger) -> Result<bool, AllocError> {
+    let ran = match debugger.run() {
+        Ok(end) => is_run_end_copied(&end)?,
+        Err(_) => false,
+    };
+    let acted = match debugger.act(&Event::Exec(0)) {
+        Ok(()) => false,
+        Err(fault) => is_act_fault_copied(&fault)?,
+    };
+    Ok(ran && acted)
+}
+
+#[test]
+fn of_debuggers(rt: HostRuntime) -> Result<(), Fail> {
+    let mut debugger = begun(rt.alloc())?;
+    holds(&rt, are_moves_copied(&mut debugger)?);
+    holds(&rt, are_ends_copied(&mut debugger)?);
+    Ok(())
+}

@@ -1,0 +1,107 @@
+-- Each view of bytes has a text and a status.
+use Rattle.std.proofs.Common.{◌≡◌, inl, inr, ℕ, ◌+◌, List, [], ◌∷◌, ◌++◌, take, Bool, false, Option, Some, None, Ok, Err, refl}
+use Rattle.jc_rules.specs.declared.operation.Event.{Event}
+use Rattle.jc_rules.specs.State.{State}
+use Rattle.jc_rules.specs.Syntax.{Cmd}
+use Rattle.jc_parser.specs.declared.fault.ScenarioFault.{ScenarioFault}
+use Rattle.jc_scenario.specs.Canon.{canon}
+use Rattle.jc_scenario.specs.Faults.{IsFault}
+use Rattle.jc_scenario.specs.Laws.{ScenarioElseFault}
+use Rattle.jc_scenario.specs.Scenarios.{Scenario}
+use Rattle.jc_network.specs.Laws.{starts, IsReached, StepOrStuck}
+use Rattle.jc_dump.specs.Texts.{dumps_text}
+use Rattle.jc_view.specs.Visible.{views_text}
+use Rattle.jc_session.proofs.Faults.{fault_line, fault_told}
+use Rattle.jc_session.proofs.Leading.{after_more}
+use Rattle.jc_words.specs.declared.order.View.{View}
+use Rattle.jc_words.specs.declared.order.View.TheVariants.{Check, Print, Run, Document}
+use Rattle.jc_program.specs.Laws.{RunHasAText}
+use Rattle.jc_program.specs.Ran.{RanThrough, ViewedThrough, Shows, IsRefused}
+use Rattle.jc_program.specs.Runs.{Made, GoesBy, EndsAt, Stuck, events_text, stuck_line, status_of}
+use Rattle.jc_program.specs.Texts.{counts_text}
+
+-- from a network a schedule is made up to its end or its first stuck event
+record Played (network : List State) (schedule : List Event) : Type 0 where
+  last : List State
+  made : List Made
+  stuck : Option Stuck
+  goes : GoesBy network made last
+  ends : EndsAt schedule made last stuck
+
+ends_more : (e : Event) (m : Made) (es : List Event) (made : List Made) (last : List State) (stuck : Option Stuck) → e ≡ m.0 → EndsAt es made last stuck → EndsAt (e ∷ es) (m ∷ made) last stuck
+ends_more e m es made last None same h = λ i. same i ∷ h i
+ends_more e m es made last (Some (event, why)) same (more, is, stuck) = (more, λ i. same i ∷ is i, stuck)
+
+-- without the trace nothing is shown of events
+none_shown : (names : List (List ℕ)) (n : ℕ) (made : List Made) → [] ≡ events_text false names n made
+none_shown names n [] = refl
+none_shown names n (m ∷ made) = none_shown names (n + 1) made
+
+module _ (step_or_stuck : StepOrStuck) where
+  played : (scripts : List (List Cmd)) (network : List State) → IsReached scripts network → (es : List Event) → Played network es
+  played scripts network reached [] = record { last = network; made = []; stuck = None; goes = refl; ends = refl }
+  played scripts network reached (e ∷ es) =
+      elim ((step_or_stuck scripts network reached e).0) [
+        | inl (new, rows, step) ↦
+            let rest = played scripts new (reached.0 ++ e ∷ [], after_more (starts scripts) reached.0 network e new rows reached.1 step) es in
+            record {
+              last = rest.last;
+              made = (e, rows) ∷ rest.made;
+              stuck = rest.stuck;
+              goes = (new, step, rest.goes);
+              ends = ends_more e (e, rows) es rest.made rest.last rest.stuck refl rest.ends;
+            }
+        | inr (why, stuck) ↦ record { last = network; made = []; stuck = Some (e, why); goes = refl; ends = (es, refl, stuck) }
+      ]
+
+  -- from the start of a scenario
+  from_start : (s : Scenario) (es : List Event) → Played (starts s.scripts) es
+  from_start s es = played s.scripts (starts s.scripts) ([], refl) es
+
+  run_of : (trace : Bool) (s : Scenario) → (out : List ℕ) × (status : ℕ) × RanThrough trace s out status
+  run_of trace s =
+      let p = from_start s s.schedule in
+      let blocks = events_text trace s.names 1 p.made in (
+        blocks ++ dumps_text s.names p.last ++ stuck_line s.names p.stuck,
+        status_of p.stuck,
+        record {
+          last = p.last;
+          stuck = p.stuck;
+          blocks = blocks;
+          plays = record { made = p.made; goes = p.goes; ends = p.ends; shown = refl };
+          written = refl;
+          ends = refl;
+        },
+      )
+
+  view_of : (n : ℕ) (s : Scenario) → (out : List ℕ) × (status : ℕ) × ViewedThrough n s out status
+  view_of n s =
+      let p = from_start s (take n s.schedule) in (
+        views_text s.names p.last ++ stuck_line s.names p.stuck,
+        status_of p.stuck,
+        record {
+          last = p.last;
+          stuck = p.stuck;
+          plays = record { made = p.made; goes = p.goes; ends = p.ends; shown = none_shown s.names 1 p.made };
+          written = refl;
+          ends = refl;
+        },
+      )
+
+  shown_of : (view : View) (s : Scenario) → (out : List ℕ) × (status : ℕ) × Shows view s out status
+  shown_of Check s = (counts_text s, 0, (refl, refl))
+  shown_of Print s = (canon s, 0, (refl, refl))
+  shown_of (Run trace) s = run_of trace s
+  shown_of (Document n) s = view_of n s
+
+refused_of : (bytes : List ℕ) (fault : ScenarioFault) → IsFault bytes fault → (out : List ℕ) × (status : ℕ) × IsRefused fault out status
+refused_of bytes fault is =
+    let (text, line) = fault_line fault (fault_told bytes fault is) in
+    (text, 1, record { refusal = line.refusal; place = line.place; number = line.is_number; stands = line.is_place; written = line.written; ends = refl })
+
+pub run_has_a_text : ScenarioElseFault → StepOrStuck → RunHasAText
+run_has_a_text either step_or_stuck view bytes =
+    elim (either bytes) [
+      | inl (s, is) ↦ let (out, status, shows) = shown_of step_or_stuck view s in (out, status, (Ok s, is, shows))
+      | inr (fault, is) ↦ let (out, status, refused) = refused_of bytes fault is in (out, status, (Err fault, is, refused))
+    ]

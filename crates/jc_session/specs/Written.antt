@@ -1,0 +1,42 @@
+-- What was written of a text, by what is told of a stream.
+use Rattle.std.specs.Prelude.{◌≡◌, ℕ, ◌+◌, ◌⊎◌, List, Option}
+use Rattle.std.specs.Io.KnownBytes.{Appends}
+use Rattle.jc_rules.specs.Told.{AppendsIfTold, AppendsFront}
+use Rattle.jc_rules.specs.declared.io.Sink.{Ghosts as SinkGhosts}
+
+-- What is told of a stream: its bytes, where they are known, which are left to be read or were written; and how many of
+-- its calls have failed.
+pub record Stream : Type 0 where
+  pub bytes : Option (List ℕ)
+  pub failures : ℕ
+
+abbrev pub sink : {S : Type 0} → SinkGhosts S → S → Stream
+sink g s = record { bytes = g.taken s; failures = g.failures s }
+
+-- The text was written, and nothing failed.
+abbrev pub Wrote : List ℕ → Stream → Stream → Type 0
+Wrote text old new = Appends old.bytes new.bytes text × (new.failures ≡ old.failures)
+
+-- One write of the text failed: a prefix of it was written, and not the whole.
+abbrev pub WrotePart : List ℕ → Stream → Stream → Type 0
+WrotePart text old new = AppendsFront old.bytes new.bytes text × (new.failures ≡ old.failures + 1)
+
+-- The text was written, and the one flush behind it failed.
+abbrev pub WroteUnflushed : List ℕ → Stream → Stream → Type 0
+WroteUnflushed text old new = AppendsIfTold old.bytes new.bytes text × (new.failures ≡ old.failures + 1)
+
+-- The text was sent to a stream whose failures change nothing else.
+abbrev pub Sent : List ℕ → Stream → Stream → Type 0
+Sent text old new = Wrote text old new ⊎ WrotePart text old new
+
+-- The text was to be written and flushed, and one of these failed.
+abbrev pub Interrupted : List ℕ → Stream → Stream → Type 0
+Interrupted text old new = WrotePart text old new ⊎ WroteUnflushed text old new
+
+-- the whole of a text of this kind was written
+abbrev pub Written : (List ℕ → Type 0) → Stream → Stream → Type 0
+Written IsText old new = (text : List ℕ) × IsText text × Wrote text old new
+
+-- a prefix of such a text, up to the one write that failed, and not the whole
+abbrev pub WrittenInPart : (List ℕ → Type 0) → Stream → Stream → Type 0
+WrittenInPart IsText old new = (text : List ℕ) × IsText text × WrotePart text old new
