@@ -8,6 +8,7 @@ from grammar import read
 from lines import read_line
 from rules import Stuck, change, start
 from session import Session
+from streams import reason_of
 from texts import Texts, refused
 from view import line_of
 
@@ -41,6 +42,10 @@ Order = collections.namedtuple("Order", "command file traced at")
 
 class BadWords(Exception):
     pass
+
+
+class NotRead(Exception):
+    """A file or standard input that can't be read, and why."""
 
 
 def meant(words):
@@ -133,12 +138,15 @@ def show(order, scenario, out):
 def lines_of(source):
     """The lines of a session, up to its limits; none stands for what is past them."""
     size = 0
-    for number, line in enumerate(source, 1):
-        size += len(line)
-        if number > MOST_LINES or size > MOST_OF_LINES:
-            yield None
-            return
-        yield line
+    try:
+        for number, line in enumerate(source, 1):
+            size += len(line)
+            if number > MOST_LINES or size > MOST_OF_LINES:
+                yield None
+                return
+            yield line
+    except OSError as error:
+        raise NotRead(f"standard input: {reason_of(error)}") from error
 
 
 def answer(session, line):
@@ -164,28 +172,18 @@ def debug(scenario, lines, out, err):
 
 
 def text_of(file, source):
-    if file == "-":
-        return source.read()
-    with open(file, "rb") as opened:
-        return opened.read()
-
-
-def command_line(words, source, out, err, by_hand=None):
-    """Does what the words ask for, and gives the status. Source and out are files of bytes, err is one of text.
-
-    A session is given to by_hand, where that is there, instead of having its lines from the source.
-    """
     try:
-        order = order_of(words)
-    except BadWords as fault:
-        err.write(f"oracle/jsoncrdt: {fault}\n{USAGE}\n")
-        return 2
-    try:
-        text = text_of(order.file, source)
+        if file == "-":
+            return source.read()
+        with open(file, "rb") as opened:
+            return opened.read()
     except OSError as error:
-        err.write(f"read failed: {order.file}: {error.strerror}\n")
-        return 4
-    scenario, fault = read(text)
+        raise NotRead(f"{file}: {reason_of(error)}") from error
+
+
+def done(order, source, out, err, by_hand):
+    """Does what the order says, and gives the status."""
+    scenario, fault = read(text_of(order.file, source))
     if fault:
         out.write(refused(fault[1], fault[0]))
         return 1
@@ -201,3 +199,18 @@ def command_line(words, source, out, err, by_hand=None):
             return by_hand(Session(*scenario))
         return debug(scenario, () if order.file == "-" else source, out, err)
     return show(order, scenario, out)
+
+
+def command_line(words, source, out, err, by_hand=None):
+    """Does what the words ask for, and gives the status. Source and out are files of bytes, err is one of text.
+
+    A session is given to by_hand, where that is there, instead of having its lines from the source.
+    """
+    try:
+        return done(order_of(words), source, out, err, by_hand)
+    except BadWords as fault:
+        err.write(f"oracle/jsoncrdt: {fault}\n{USAGE}\n")
+        return 2
+    except NotRead as fault:
+        err.write(f"read failed: {fault}\n")
+        return 4

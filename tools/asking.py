@@ -4,7 +4,6 @@ The program is that which the variable JSONCRDT of the environment names; else t
 the command line over the rules in Python, which gives the same texts.
 """
 
-import argparse
 import json
 import os
 import re
@@ -15,20 +14,9 @@ import tempfile
 ROOT = os.path.dirname(os.path.dirname(os.path.abspath(__file__)))
 BUILT = os.path.join(ROOT, "crates", "jc_app", "out", "jc_app")
 IN_PYTHON = os.path.join(ROOT, "oracle", "jsoncrdt")
+sys.path.append(os.path.join(ROOT, "oracle"))
 
-
-class Parser(argparse.ArgumentParser):
-    """Wrong arguments are told in one line."""
-
-    def error(self, message):
-        stop(f"{message} (--help says more)")
-
-
-def stop(message, status=2):
-    """Ends the tool with one line on standard error."""
-    name = os.path.basename(sys.argv[0])
-    sys.stderr.write(f"{name}: {' '.join(str(message).split())}\n")
-    sys.exit(status)
+from streams import READ_OR_WRITE_FAILED, Parser, number_from, reason_of, run, stop
 
 
 def program():
@@ -40,13 +28,16 @@ def program():
 def told(words, text=""):
     """What the program writes on its output, and its status. Where it can't read, write or be found, the tool ends."""
     try:
-        run = subprocess.run([program(), *words], input=text.encode(), capture_output=True, check=False)
+        ended = subprocess.run([program(), *words], input=text.encode(), capture_output=True, check=False)
     except OSError as error:
-        stop(f"{program()}: {error.strerror}")
-    if run.returncode not in (0, 1, 3):
-        last = run.stderr.decode(errors="replace").strip().split("\n")[-1]
-        stop(last or f"{program()} ended with {run.returncode}", run.returncode if run.returncode > 0 else 2)
-    return run.stdout.decode(), run.returncode
+        stop(f"{program()}: {reason_of(error)}")
+    if ended.returncode not in (0, 1, 3):
+        last = ended.stderr.decode(errors="replace").strip().split("\n")[-1]
+        stop(last or f"{program()} ended with {ended.returncode}", ended.returncode if ended.returncode > 0 else 2)
+    output = ended.stdout.decode(errors="replace")
+    if ended.returncode == 1 and not output.startswith("refused "):
+        stop(f"{program()} isn't jsoncrdt: it ended with 1 and told no refusal")
+    return output, ended.returncode
 
 
 def text_of(file):
@@ -57,7 +48,7 @@ def text_of(file):
         with open(file, "rb") as opened:
             return opened.read().decode()
     except OSError as error:
-        stop(f"{file}: {error.strerror}")
+        stop(f"read failed: {file}: {reason_of(error)}", READ_OR_WRITE_FAILED)
     except UnicodeDecodeError as error:
         stop(f"{file}: refused 13 NotUtf8 at {error.start}", 1)
 
@@ -69,6 +60,8 @@ class Scenario:
         printed, status = told(["print", "-"], text)
         if status:
             stop(printed, status)
+        if not printed.startswith("jsoncrdt 1\n"):
+            stop(f"{program()} isn't jsoncrdt: it printed no scenario")
         self.scripts, self.events, block = {}, [], None
         for line in printed.split("\n"):
             if line.startswith("replica "):
