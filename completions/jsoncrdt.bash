@@ -4,17 +4,17 @@ _jsoncrdt() {
     local word=${COMP_WORDS[COMP_CWORD]} before=${COMP_WORDS[COMP_CWORD - 1]} options=
     COMPREPLY=()
     if [ "$COMP_CWORD" -eq 1 ]; then
-        COMPREPLY=($(compgen -W 'check print run view debug threads help --help --version' -- "$word"))
+        COMPREPLY=($(compgen -W 'check print run view debug threads help -h --help -V --version' -- "$word"))
         return
     fi
     case ${COMP_WORDS[1]} in
         help) COMPREPLY=($(compgen -W 'check print run view debug threads' -- "$word")); return ;;
-        check) options='--help' ;;
-        print) options='--help' ;;
-        run) options='--trace --help' ;;
-        view) options='--at --help' ;;
-        debug) options='--help' ;;
-        threads) options='--limit --help' ;;
+        check) options='-h --help' ;;
+        print) options='-h --help' ;;
+        run) options='--trace -h --help' ;;
+        view) options='--at -h --help' ;;
+        debug) options='-h --help' ;;
+        threads) options='--limit -h --help' ;;
     esac
     case $before in --at|--limit) return ;; esac
     if [[ $word == -* ]]; then

@@ -30,12 +30,16 @@ class Command:
         return re.fullmatch(pattern, "".join(line.rstrip() + "\n" for line in output.split("\n")[:-1])) is not None
 
 
+def lines_of(path):
+    """The lines with their numbers."""
+    with open(path, encoding="utf-8") as file:
+        return list(enumerate(file.read().split("\n"), 1))
+
+
 def commands_of(path):
     """The commands that have input or output, in the order in which they stand."""
     found, open_command = [], None
-    with open(path, encoding="utf-8") as file:
-        lines = file.read().split("\n")
-    for number, line in enumerate(lines, 1):
+    for number, line in lines_of(path):
         in_block = line.startswith("    ")
         if not in_block and line:
             open_command = None
@@ -45,3 +49,30 @@ def commands_of(path):
         elif in_block and open_command:
             open_command.add(line[4:].rstrip())
     return [command for command in found if command.output]
+
+
+def bare_blocks(path):
+    """The numbers of the lines at which a block begins without a command, so that nothing tells whether it is true."""
+    is_fenced = in_block = False
+    for number, line in lines_of(path):
+        is_fenced ^= line.startswith("```")
+        if line.startswith("    ") and not is_fenced:
+            if not in_block and not line.startswith("    $ "):
+                yield number
+            in_block = True
+        elif line:
+            in_block = False
+
+
+def long_paragraphs(path, most):
+    """The numbers of the lines at which paragraphs and items of lists begin that have more lines than that."""
+    is_fenced, begin = False, None
+    for number, line in lines_of(path):
+        is_fenced ^= line.startswith("```")
+        is_item = re.match(r"(-|\d+\.) ", line)
+        if begin and (is_item or is_fenced or not line or line.startswith("    ")):
+            if number - begin > most:
+                yield begin
+            begin = None
+        if is_item or (begin is None and line and line[0] not in " |#`" and not is_fenced):
+            begin = number

@@ -1,10 +1,4 @@
-"""What needs no proof, tried at once. ./test starts it.
-
-    ./test               tries all
-    ./test WORD..        tries what has one of these words in its name: examples, docs, README, tools, launcher, process,
-                         arguments, editors, oracle, or a part of a file's name or a command
-    ./test --write       writes what the tools print of each example to tests/expected, to be read before it is kept
-"""
+"""What needs no proof, tried at once. ./test starts it."""
 
 import concurrent.futures
 import glob
@@ -19,73 +13,29 @@ import tempfile
 
 ROOT = os.path.dirname(os.path.dirname(os.path.abspath(__file__)))
 sys.path += [os.path.join(ROOT, "tools"), os.path.join(ROOT, "oracle")]
+# What is wrong is told by the name of the script that starts this.
+sys.argv[0] = os.path.join(ROOT, "test")
 
+import command_line
+import definition
 import processes
-from blocks import commands_of
-from command_line import COMMANDS
+import streams
+from blocks import bare_blocks, commands_of, long_paragraphs
+from cases import IN_PYTHON, IN_TEST, NotTried, Programs, Wrong, expect, expect_same, run, stored
+from faults import faults
 from grammar import RESERVED
+from scripts import scripts
 
-BUILT = os.path.join("crates", "jc_app", "out", "jc_app")
-IN_PYTHON = os.path.join("oracle", "jsoncrdt")
 EXPECTED = os.path.join("tests", "expected")
-DOCUMENTS = ("README.md", "docs/*.md", "examples/*.md", "crates/*/README.md")
+DOCUMENTS = ("README.md", "docs/*.md", "examples/*.md", "editors/*.md", "crates/*/README.md")
 AT_ONCE = 4
-
-
-class NotTried(Exception):
-    """A case that can't be tried here, and what it needs."""
-
-
-class Wrong(Exception):
-    """A case that failed, and what was told."""
-
-
-def sources():
-    found = glob.glob("crates/*/src/**/*.rt", recursive=True) + ["crates.txt"]
-    return [file for file in found if "_tests/" not in file and "/src/tests" not in file]
-
-
-def is_built():
-    """Whether the built program is there and no source is newer."""
-    return os.access(BUILT, os.X_OK) and all(os.path.getmtime(BUILT) >= os.path.getmtime(f) for f in sources())
-
-
-def run(words, program, text="", shell=False):
-    environment = {**os.environ, "JSONCRDT": os.path.abspath(program)}
-    return subprocess.run(words, input=text.encode(), capture_output=True, shell=shell, env=environment, check=False)
-
-
-def stored(path):
-    with open(path, encoding="utf-8") as file:
-        return file.read()
-
-
-def expect(is_right, told):
-    if not is_right:
-        raise Wrong(told)
-
-
-def expect_same(got, want):
-    """Both texts are the same; else the first line is told in which they differ."""
-    if got != want:
-        pairs = enumerate(zip(got.split("\n") + ["(end)"], want.split("\n") + ["(end)"]), 1)
-        number, (one, other) = next((n, pair) for n, pair in pairs if pair[0] != pair[1])
-        raise Wrong(f"line {number} is\n{one}\nand not\n{other}")
-
-
-class Programs:
-    """The program that is tried, and the rules in Python for a command that it hasn't."""
-
-    def __init__(self):
-        self.is_built = is_built()
-        self.program = BUILT if self.is_built else IN_PYTHON
-        self.has_view = not self.is_built or run([BUILT, "view", "--help"], BUILT).returncode == 0
-
-    def of(self, command):
-        return self.program if self.has_view or "jsoncrdt view" not in command else IN_PYTHON
-
-
-# ---- cases: a name, and what is called with the programs; it raises Wrong or NotTried
+MOST_OF_README, MOST_OF_PARAGRAPH = 150, 12
+ABOUT = """\
+Runs what needs no proof: blocks of the documents, examples, tools, scripts, and the rules in Python. It proves nothing;
+the gate, rt ci, does that. The last line is `N passed, M failed`, and the status is 1 where one failed."""
+WORDS = """\
+With words, what has one of them in its name: examples, README, docs, pages, tools, faults, launcher, more-edits, gate,
+process, arguments, editors, oracle, or a part of a file's name or of a command."""
 
 
 def block_case(command):
@@ -102,10 +52,30 @@ def block_case(command):
     return command.place, tried
 
 
+def documents():
+    return [path for pattern in DOCUMENTS for path in sorted(glob.glob(pattern))]
+
+
 def blocks():
-    for pattern in DOCUMENTS:
-        for path in sorted(glob.glob(pattern)):
-            yield from map(block_case, commands_of(path))
+    for path in documents():
+        yield from map(block_case, commands_of(path))
+
+
+def page_case(path):
+    """A document can be read: its blocks have commands, which are tried, and its paragraphs are short."""
+
+    def tried(_):
+        bare, long = list(bare_blocks(path)), list(long_paragraphs(path, MOST_OF_PARAGRAPH))
+        expect(not bare, f"blocks without a command begin at the lines {bare}")
+        expect(not long, f"paragraphs of more than {MOST_OF_PARAGRAPH} lines begin at the lines {long}")
+        count = stored(path).count("\n")
+        expect(path != "README.md" or count <= MOST_OF_README, f"it has {count} lines, and {MOST_OF_README} are the most")
+
+    return f"pages: {path}", tried
+
+
+def pages():
+    yield from map(page_case, documents())
 
 
 def told_case(name, words, path, write=False):
@@ -142,107 +112,10 @@ def examples(write):
             yield told_case(f"examples: {' '.join(words)}", words, path, write)
 
 
-BAD_INPUT = [
-    (["tools/lanes", "no-such-file"], 2), (["tools/lanes"], 2), (["tools/lanes", "examples"], 2),
-    (["tools/lanes", "--svg", "--mermaid", "examples/first.jsoncrdt"], 2), (["tools/lanes", "test"], 1),
-    (["tools/tree", "examples/first.jsoncrdt"], 2), (["tools/tree", "examples/first.jsoncrdt", "b"], 2),
-    (["tools/tree", "examples/first.jsoncrdt", "a", "--at", "2"], 2), (["tools/tree", "test", "a"], 1),
-    (["tools/tree", "examples/first.jsoncrdt", "a", "--at", "x"], 2), (["tools/tree", "examples/stuck.jsoncrdt", "q"], 3),
-    (["tools/shrink", "examples/first.jsoncrdt"], 2), (["tools/shrink", "examples/first.jsoncrdt", "false"], 2),
-    (["tools/shrink", "examples/first.jsoncrdt", "./no-such-command"], 2), (["tools/shrink", "test", "true"], 1),
-]
-
-
-def bad_input_case(words, status):
-    """A tool tells bad input in one line of standard error, with this status."""
-
-    def tried(programs):
-        told = run(words, programs.program)
-        is_right = told.returncode == status and told.stderr.count(b"\n") == 1
-        expect(is_right, f"status {told.returncode}\n{told.stderr.decode()}")
-
-    return "tools: " + " ".join(words), tried
-
-
-def help_case(tool):
-    def tried(programs):
-        told = run([f"tools/{tool}", "--help"], programs.program)
-        expect(told.returncode == 0 and not told.stderr and told.stdout.startswith(b"usage"), f"{told}")
-
-    return f"tools: {tool} --help", tried
-
-
 def tools():
-    for words, status in BAD_INPUT:
-        yield bad_input_case(words, status)
-    for tool in ("lanes", "tree", "shrink", "make-completions"):
-        yield help_case(tool)
     agrees = '"$JSONCRDT" run - 2>/dev/null | grep -q "^stuck 36"'
     yield told_case("tools: shrink", ["tools/shrink", "examples/out-of-order.jsoncrdt", "sh", "-c", agrees],
                     os.path.join(EXPECTED, "out-of-order.shrunk"))
-
-
-# A command rt for the launcher, which only tells its arguments, the files of a folder of cases, and its input.
-RT = """#!/bin/sh
-[ "$2" = --cases ] && ls "$3"
-echo "$@" | sed 's/[^ ]*tmp[^ ]*/FOLDER/'
-cat
-"""
-
-
-def launcher_case(has_rt, words, status, output, sentence):
-    """The launcher says a sentence by itself, and hands the rest to rt, where it is there."""
-
-    def tried(_):
-        with tempfile.TemporaryDirectory() as folder:
-            rt = os.path.join(folder, "rt")
-            with open(rt, "w", encoding="utf-8") as file:
-                file.write(RT)
-            os.chmod(rt, 0o755)
-            path = f"{folder}:/usr/bin:/bin" if has_rt else "/usr/bin:/bin"
-            told = subprocess.run(["./jsoncrdt", "--unproved", *words], input=b"step\n", capture_output=True, check=False,
-                                  env={**os.environ, "PATH": path})
-        is_right = told.returncode == status and told.stdout.decode() == output and sentence in told.stderr.decode()
-        expect(is_right, f"{told}")
-
-    return f"launcher: --unproved {' '.join(words)}" + ("" if has_rt else ", without rt"), tried
-
-
-def launcher():
-    first, stuck = os.path.abspath("examples/first.jsoncrdt"), "examples/stuck.jsoncrdt"
-    yield launcher_case(False, ["run", stuck], 127, "", "whose command rt isn't on the path")
-    yield launcher_case(True, ["run", "no-such-file"], 4, "", "there is no file no-such-file")
-    yield launcher_case(True, ["view", "--at", "3", "examples"], 4, "", "examples is a folder")
-    yield launcher_case(True, ["run", first], 0, f"try --data scenario={first} -- run scenario\n", "nothing is proved")
-    yield launcher_case(True, ["run", "--trace", first, stuck], 0,
-                        "01-first.jsoncrdt\n02-stuck.jsoncrdt\ntry --cases FOLDER -- run --trace -\n", "nothing is proved")
-    yield launcher_case(True, ["debug", first], 0, f"try --data scenario={first} -- debug scenario\nstep\n",
-                        "nothing is proved")
-
-
-# A command rt that ends as a program does.
-ENDING = """#!/bin/sh
-echo shown
-echo told >&2
-exit %d
-"""
-
-
-def status_case(status):
-    """An unproved run ends with the status of the program, and each stream has its lines."""
-
-    def tried(_):
-        with tempfile.TemporaryDirectory() as folder:
-            rt = os.path.join(folder, "rt")
-            with open(rt, "w", encoding="utf-8") as file:
-                file.write(ENDING % status)
-            os.chmod(rt, 0o755)
-            told = subprocess.run(["./jsoncrdt", "--unproved", "run", "examples/first.jsoncrdt"], capture_output=True,
-                                  check=False, env={**os.environ, "PATH": f"{folder}:/usr/bin:/bin"})
-        is_right = told.returncode == status and told.stdout == b"shown\n" and told.stderr.endswith(b"\ntold\n")
-        expect(is_right, f"{told}")
-
-    return f"launcher: --unproved ends with {status}", tried
 
 
 def process_case(row):
@@ -271,8 +144,6 @@ def quits_at_once(programs):
 
 
 def process():
-    for status in range(6):
-        yield status_case(status)
     yield from map(process_case, processes.ROWS)
     yield "process: quit while the input stays open", quits_at_once
 
@@ -312,17 +183,38 @@ def patterns_of(grammar):
 
 
 def ends_well(words):
+    """The command ends with 0 and tells nothing."""
+
     def tried(programs):
+        if not shutil.which(words[0]):
+            raise NotTried(words[0])
         told = run(words, programs.program)
-        expect(told.returncode == 0, (told.stdout + told.stderr).decode())
+        expect(told.returncode == 0 and not told.stderr, (told.stdout + told.stderr).decode())
 
     return "editors: " + " ".join(words), tried
+
+
+def completed_case(words, offered):
+    """What bash offers behind these words, of which the last may be a beginning."""
+
+    def tried(programs):
+        script = '. completions/jsoncrdt.bash; COMP_WORDS=("$@"); COMP_CWORD=$(($# - 1)); _jsoncrdt; echo "${COMPREPLY[@]}"'
+        told = run(["bash", "-c", script, "bash", *words], programs.program)
+        expect_same(told.stdout.decode(), offered + "\n")
+
+    return f"editors: completion of {' '.join(words)}", tried
+
+
+def is_defined(_):
+    """The table of the command line is what the program's sources define."""
+    found = list(definition.differences(command_line))
+    expect(not found, "\n".join(found))
 
 
 def names_commands(programs):
     """The table of the command line has the commands that the help lists; view is newer, and threads is not in Python."""
     text = run([programs.program, "--help"], programs.program).stdout.decode()
-    lacking = {command.name for command in COMMANDS if not re.search(rf"^ +{command.name}\b", text, re.MULTILINE)}
+    lacking = {c.name for c in command_line.COMMANDS if not re.search(rf"^ +{c.name}\b", text, re.MULTILINE)}
     missing = lacking - ({"view"} if programs.is_built and not programs.has_view else set())
     expect(not missing - (set() if programs.is_built else {"threads"}), f"--help doesn't name {missing}")
 
@@ -371,12 +263,15 @@ def colours_words(_):
 def editors():
     yield ends_well(["tools/make-completions", "--check"])
     yield ends_well(["bash", "-n", "completions/jsoncrdt.bash"])
-    yield "editors: tools/command_line.py", names_commands
+    yield ends_well(["groff", "-man", "-ww", "-z", "completions/jsoncrdt.1"])
+    yield completed_case(["jsoncrdt", "r"], "run")
+    yield completed_case(["jsoncrdt", "-"], "-h --help -V --version")
+    yield completed_case(["jsoncrdt", "view", "-"], "--at -h --help")
+    yield completed_case(["jsoncrdt", "run", "examples/tw"], "examples/two-lists.jsoncrdt examples/two-types.jsoncrdt")
+    yield "editors: tools/command_line.py and the sources of the program", is_defined
+    yield "editors: tools/command_line.py and --help", names_commands
     yield "editors: editors/jsoncrdt.tmLanguage.json", colours_words
     yield "oracle: a session in a terminal", has_prompt
-
-
-# ---- all of them
 
 
 PASSED, FAILED, NOT_TRIED = "passed", "failed", "not tried"
@@ -391,6 +286,8 @@ def result_of(case, programs):
         return NOT_TRIED, f"not tried: {name} needs {lack}"
     except Wrong as wrong:
         return FAILED, f"FAILED {name}\n  " + str(wrong).rstrip().replace("\n", "\n  ")
+    except Exception as fault:  # of the test itself; the others are tried all the same
+        return FAILED, f"FAILED {name}\n  {fault!r}"
     return PASSED, None
 
 
@@ -404,18 +301,32 @@ def results_of_rules():
     return [(PASSED, None)] * int(numbers[1]) + [(FAILED, told.rstrip() if n == 0 else None) for n in range(failed)]
 
 
-def main(words):
+def chosen_of(cases, words):
+    """The cases that have one of the words in their names. A word that none has is told."""
+    for word in words:
+        if not any(word in name for name, _ in cases):
+            streams.stop(f"no case has {word} in its name (--help says more)")
+    return [case for case in cases if not words or any(word in case[0] for word in words)]
+
+
+def main():
     os.chdir(ROOT)
-    chosen, write = [word for word in words if word != "--write"], "--write" in words
-    programs = Programs()
+    parser = streams.Parser(prog="./test", description=ABOUT, epilog=WORDS)
+    parser.add_argument("words", metavar="WORD", nargs="*", help="only what has one of these words in its name")
+    parser.add_argument("--write", action="store_true",
+                        help="write what the tools print of each example to tests/expected, to be read before it is kept")
+    asked, programs = parser.parse_args(), Programs()
+    cases = [*examples(asked.write), *blocks(), *pages(), *tools(), *faults(), *scripts(), *process(), *arguments(),
+             *editors()]
+    cases = chosen_of(cases, asked.words)
+    if IN_TEST in os.environ:
+        streams.stop("a test runs no tests")
     print("test: nothing is proved here; the gate, rt ci, does that")
     if not programs.is_built:
         print("test: the built program isn't there, or its sources are newer; what is tried is the rules in Python")
-    cases = [*examples(write), *blocks(), *tools(), *launcher(), *process(), *arguments(), *editors()]
-    cases = [case for case in cases if not chosen or any(word in case[0] for word in chosen)]
     with concurrent.futures.ThreadPoolExecutor(AT_ONCE) as pool:
         results = list(pool.map(lambda case: result_of(case, programs), cases))
-    if not chosen or "oracle" in chosen:
+    if not asked.words or "oracle" in asked.words:
         results += results_of_rules()
     for _, line in results:
         if line:
@@ -425,4 +336,4 @@ def main(words):
     return 1 if counts[FAILED] else 0
 
 
-sys.exit(main(sys.argv[1:]))
+streams.run(main)

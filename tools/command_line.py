@@ -1,39 +1,54 @@
-"""The command line of `jsoncrdt` as a table, from which tools/make-completions makes the completions and the man page."""
+"""The command line of `jsoncrdt` as a table, from which tools/make-completions makes the completions and the man page.
+
+./test compares it with the program's own definition, in crates/jc_words. What a command does besides (`more`), the
+command help and status 127 stand here alone.
+"""
 
 from collections import namedtuple
 
-Option = namedtuple("Option", "name value about")
+Option = namedtuple("Option", "name short value about default", defaults=(None, None, "", None))
 Command = namedtuple("Command", "name options about more")
 
-ABOUT = "executes scenarios of a replicated JSON document, and debugs them forwards and backwards"
-HELP = Option("--help", None, "print the help of the program, or of the command before it")
-VERSION = Option("--version", None, "print the version of the program")
-HELP_COMMAND = "help", "print the help of the program, or of a command"
+ABOUT = ("A command machine and time-travelling debugger for the JSON CRDT of Kleppmann and Beresford (2017). It executes "
+         "scenarios of concurrent edits by the published rules, forwards and backwards, and shows what they give, and why.")
+HELP = Option("--help", "-h", about="Print help")
+VERSION = Option("--version", "-V", about="Print version")
+HELP_COMMAND = "help", "Print the help of the program, or of a command"
 COMMANDS = [
-    Command("check", [], "tell whether a text is a scenario",
-            "Prints how many replicas, commands and events the scenario has."),
-    Command("print", [], "print the scenario in its canonical text", ""),
-    Command("run", [Option("--trace", None, "print the rules that each event used, before the states")],
-            "execute the schedule, and print the state of each replica",
+    Command("check", [],
+            "Tell whether a text is a scenario, and how many replicas, commands and events it has",
+            "No event is executed."),
+    Command("print", [],
+            "Print the scenario in its canonical text",
+            "That has a line for each command and each event, and the replicas by their names."),
+    Command("run",
+            [Option("--trace", about="Print the rules that each event used, before the states (this may be long)")],
+            "Execute the schedule, and print the state of each replica",
             "Prints a line of JSON for each replica, in the order of their names; then, where an event is stuck, its "
-            "line. A trace may be very long."),
-    Command("view", [Option("--at", "N", "execute N events only")],
-            "print the document of each replica as an application sees it",
+            "line."),
+    Command("view",
+            [Option("--at", value="N", about="Execute the first N events of the schedule only, from 0 to 100000",
+                    default="100000")],
+            "Execute the schedule, and print the document of each replica as an application sees it",
             "Prints a line of JSON for each replica. More than one alternative at a place is shown under the name "
             "!conflict."),
-    Command("debug", [], "step through the schedule, forwards and backwards, by lines of standard input",
+    Command("debug", [],
+            "Debugger: step through the schedule, forwards and backwards, by lines of standard input",
             "Answers each line before it reads the next. debug --help lists the lines; act cuts off the rest of the "
             "schedule for good."),
-    Command("threads", [Option("--limit", "N", "let each replica execute N events at most (10000)")],
-            "run each replica in a thread of its own, and print the scenario with the schedule that they made",
+    Command("threads",
+            [Option("--limit", value="N", about="Let each replica execute N events at most, from 0 to 100000",
+                    default="10000")],
+            "Run each replica in a thread of its own, and print the scenario with the schedule that they made",
             "The schedule in the file isn't looked at. A line for each replica goes to standard error. A stuck event "
             "isn't in the schedule that is printed."),
 ]
 STATUSES = [
     (0, "done, also after help and the version"),
-    (1, "the text was refused; the line that is printed says why and where"),
-    (2, "the arguments are wrong"),
-    (3, "an event is stuck, since no rule allows it; a line says why"),
+    (1, "the scenario's text was refused; the line printed says why and where"),
+    (2, "the arguments are wrong: no such command or option, no file, a number out of its range, or an argument that "
+        "isn't UTF-8"),
+    (3, "an event was stuck, since no rule allows it; a line says why"),
     (4, "a read or a write failed, or a session had too many lines"),
     (5, "there was no memory, or a thread could not be made"),
     (127, "the launcher could not build the program"),

@@ -1,0 +1,81 @@
+"""What all tests have in common. A case is a name and what is called with the programs; it raises Wrong or NotTried."""
+
+import contextlib
+import glob
+import os
+import subprocess
+import tempfile
+
+BUILT = os.path.join("crates", "jc_app", "out", "jc_app")
+IN_PYTHON = os.path.join("oracle", "jsoncrdt")
+# Stands in the environment of what a test runs. There ./test runs no tests, which else might go on without end.
+IN_TEST = "JSONCRDT_IN_TEST"
+
+
+class NotTried(Exception):
+    """A case that can't be tried here, and what it needs."""
+
+
+class Wrong(Exception):
+    """A case that failed, and what was told."""
+
+
+def sources():
+    found = glob.glob("crates/*/src/**/*.rt", recursive=True) + ["crates.txt"]
+    return [file for file in found if "_tests/" not in file and "/src/tests" not in file]
+
+
+def is_built():
+    """Whether the built program is there and no source is newer."""
+    return os.access(BUILT, os.X_OK) and all(os.path.getmtime(BUILT) >= os.path.getmtime(f) for f in sources())
+
+
+class Programs:
+    """The program that is tried, and the rules in Python for a command that it hasn't."""
+
+    def __init__(self):
+        self.is_built = is_built()
+        self.program = BUILT if self.is_built else IN_PYTHON
+        self.has_view = not self.is_built or run([BUILT, "view", "--help"], BUILT).returncode == 0
+
+    def of(self, command):
+        return self.program if self.has_view or "jsoncrdt view" not in command else IN_PYTHON
+
+
+def run(words, program, text="", shell=False, path=None):
+    """How the command ends that these words are, or this line of a shell; where a path is given, folders on it come first."""
+    environment = {**os.environ, "JSONCRDT": os.path.abspath(program), IN_TEST: "yes"}
+    if path:
+        environment["PATH"] = f"{path}:{environment['PATH']}"
+    return subprocess.run(words, input=text.encode(), capture_output=True, shell=shell, env=environment, check=False)
+
+
+@contextlib.contextmanager
+def folder_of(commands):
+    """A folder with commands, each with the text of its script, for as long as it is used."""
+    with tempfile.TemporaryDirectory() as folder:
+        for name, text in commands.items():
+            path = os.path.join(folder, name)
+            os.makedirs(os.path.dirname(path), exist_ok=True)
+            with open(path, "w", encoding="utf-8") as file:
+                file.write(text)
+            os.chmod(path, 0o755)
+        yield folder
+
+
+def stored(path):
+    with open(path, encoding="utf-8") as file:
+        return file.read()
+
+
+def expect(is_right, told):
+    if not is_right:
+        raise Wrong(told)
+
+
+def expect_same(got, want):
+    """Both texts are the same; else the first line is told in which they differ."""
+    if got != want:
+        pairs = enumerate(zip(got.split("\n") + ["(end)"], want.split("\n") + ["(end)"]), 1)
+        number, (one, other) = next((n, pair) for n, pair in pairs if pair[0] != pair[1])
+        raise Wrong(f"line {number} is\n{one}\nand not\n{other}")

@@ -1,0 +1,118 @@
+"""Commands that end with a fault: wrong arguments, files that can't be read, streams that fail, a program that is none. Each
+is told in one line on standard error, with the status that the program has for it."""
+
+from cases import expect, folder_of, run
+
+FIRST = "examples/first.jsoncrdt"
+DEEP = "jsoncrdt 1 replica a { let x = doc" + '.get("k")' * 250 + "; x" + '.get("k")' * 250 + " := 1 } schedule { a.exec; a.exec }"
+
+# A line of a shell, its status, and a part of what it tells on standard error, or nothing where it tells nothing.
+ROWS = [
+    # Arguments.
+    ("tools/lanes", 2, "lanes: "),
+    ("tools/lanes --svg --mermaid " + FIRST, 2, "lanes: "),
+    ("tools/lanes test", 1, "lanes: refused "),
+    ("tools/tree " + FIRST, 2, "tree: "),
+    ("tools/tree " + FIRST + " b", 2, "tree: no replica b"),
+    ("tools/tree " + FIRST + " a --at 2", 2, "tree: the schedule has 1 events"),
+    ("tools/tree " + FIRST + " a --at x", 2, "tree: "),
+    ("tools/tree " + FIRST + " a --at -1", 2, "tree: "),
+    ("tools/tree test a", 1, "tree: refused "),
+    ("tools/tree examples/stuck.jsoncrdt q", 3, "tree: stuck "),
+    ("tools/shrink " + FIRST, 2, "shrink: "),
+    ("tools/shrink " + FIRST + " false", 2, "shrink: COMMAND doesn't end with 0"),
+    ("tools/shrink " + FIRST + " ./no-such-command", 2, "shrink: ./no-such-command: "),
+    ("tools/shrink test true", 1, "shrink: refused "),
+    ("tools/make-completions now", 2, "make-completions: "),
+    ("oracle/compare x", 2, "compare: argument COUNT"),
+    ("oracle/compare -1", 2, "compare: argument COUNT"),
+    ("oracle/compare 1 x", 2, "compare: argument FIRST"),
+    ("oracle/compare --program /no/such 1", 2, "compare: /no/such: "),
+    ("oracle/compare --program /bin/false 1", 127, "compare: /bin/false doesn't answer"),
+    ("oracle/selftest x", 2, "selftest: "),
+    ("examples/engine/compare x", 2, "compare: argument COUNT"),
+    ("examples/engine/compare -1", 2, "compare: argument COUNT"),
+    ("examples/engine/compare 0", 2, "compare: argument COUNT"),
+    # The quotes keep the word out of the case's own name: a case that the word selects would run itself again and again.
+    ("./test no-such-''word", 2, "test: no case has no-such-word in its name"),
+    ("./test --nothing", 2, "test: "),
+    ("bench/run nothing", 2, "bench: nothing is no case"),
+    ("bench/run flat", 2, "bench: flat is no case"),
+    # Files and streams that can't be read.
+    ("tools/lanes no-such-file", 4, "lanes: read failed: no-such-file: "),
+    ("tools/lanes examples", 4, "lanes: read failed: examples: "),
+    ("tools/lanes - <&-", 4, "lanes: read failed: -: "),
+    ("tools/tree - a <&-", 4, "tree: read failed: -: "),
+    ("tools/shrink - true <&-", 4, "shrink: read failed: -: "),
+    ("oracle/jsoncrdt run - <&-", 4, "read failed: -: "),
+    ("oracle/jsoncrdt debug " + FIRST + " <&-", 4, "read failed: standard input: "),
+    # A standard error that is closed or full changes no status.
+    ("tools/lanes no-such-file 2>&-", 4, ""),
+    ("tools/lanes no-such-file 2>/dev/full", 4, ""),
+    ("oracle/compare x 2>&-", 2, ""),
+    ("./test no-such-''word 2>&-", 2, ""),
+    # A program that is none.
+    ("JSONCRDT=/bin/false tools/lanes " + FIRST, 2, "lanes: /bin/false isn't jsoncrdt"),
+    ("JSONCRDT=/bin/true tools/tree " + FIRST + " a", 2, "tree: /bin/true isn't jsoncrdt"),
+    ("JSONCRDT=/no/such tools/shrink " + FIRST + " true", 2, "shrink: /no/such: "),
+    ("JSONCRDT=/bin/true examples/engine/compare 1", 2, "compare: /bin/true isn't jsoncrdt"),
+    # No fault: 500 maps in one another, and a letter that the terminal hasn't.
+    (f"echo '{DEEP}' | tools/tree - a >/dev/null", 0, ""),
+    ("""echo 'jsoncrdt 1 replica a { doc := "\u00e9" } schedule { a.exec }' | PYTHONIOENCODING=ascii tools/lanes -""", 0, ""),
+]
+
+# Commands whose output is tried full and closed, and what they tell.
+WRITING = [
+    ("tools/lanes " + FIRST, "lanes: write failed: "),
+    ("tools/lanes --help", "lanes: write failed: "),
+    ("tools/tree " + FIRST + " a", "tree: write failed: "),
+    ("tools/shrink " + FIRST + " true", "shrink: write failed: "),
+    ("tools/make-completions --help", "make-completions: write failed: "),
+    ("oracle/jsoncrdt --help", "write failed"),
+    ("oracle/jsoncrdt help run", "write failed"),
+    ("oracle/jsoncrdt --version", "write failed"),
+    ("oracle/jsoncrdt debug " + FIRST + " <test", "write failed"),
+    ("oracle/compare --help", "compare: write failed: "),
+    ("oracle/selftest --help", "selftest: write failed: "),
+    ("examples/engine/compare 1", "compare: write failed: "),
+    ("./test --help", "test: write failed: "),
+]
+HELPED = ("tools/lanes", "tools/tree", "tools/shrink", "tools/make-completions", "oracle/compare", "oracle/selftest",
+          "examples/engine/compare", "./test")
+UNPROVED = "oracle/jsoncrdt: these are the rules in Python"
+# A command rt that tells that it was called, so that nothing here can build.
+NO_RT = "#!/bin/sh\necho rt was called >&2\nexit 1\n"
+
+
+def ended(line, programs):
+    """The status of a line of a shell, its output, and the lines that it tells but for that of the rules in Python."""
+    with folder_of({"rt": NO_RT}) as folder:
+        told = run(line, programs.program, shell=True, path=folder)
+    lines = told.stderr.decode(errors="replace").splitlines()
+    return told.returncode, told.stdout.decode(), [text for text in lines if not text.startswith(UNPROVED)]
+
+
+def fault_case(line, status, told):
+    def tried(programs):
+        got, _, lines = ended(line, programs)
+        is_told = len(lines) == 1 and told in lines[0] if told else not lines
+        expect(got == status and is_told, "\n".join([f"status {got}", *lines]))
+
+    return "faults: " + (line if len(line) < 200 else line[:60] + ".." + line[-60:]), tried
+
+
+def help_case(command):
+    def tried(programs):
+        got, output, lines = ended(command + " --help", programs)
+        expect(got == 0 and not lines and output.startswith("usage: "), "\n".join([f"status {got}", output, *lines]))
+
+    return f"faults: {command} --help", tried
+
+
+def faults():
+    for line, status, told in ROWS:
+        yield fault_case(line, status, told)
+    for line, told in WRITING:
+        yield fault_case(line + " >/dev/full", 4, told)
+        yield fault_case(line + " >&-", 4, told)
+    yield from map(help_case, HELPED)

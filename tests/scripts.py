@@ -1,0 +1,115 @@
+"""The scripts that call rt, tried with a command rt that is none: the launcher, ./more-edits and .ci/run."""
+
+import os
+import shutil
+import subprocess
+
+from cases import expect, expect_same, folder_of, stored
+
+# A command rt for the launcher, which only tells its arguments, the files of a folder of cases, and its input.
+TELLING = """#!/bin/sh
+if [ "$2" = --cases ]; then
+    ls "$3"
+    shift 3
+    set -- try --cases FOLDER "$@"
+fi
+echo "$@"
+cat
+"""
+# One that ends as a program does.
+ENDING = """#!/bin/sh
+echo shown
+echo told >&2
+exit %d
+"""
+# One for which an edit of the crate jc_b isn't refused, and for which the gate ends as it is told.
+REFUSING = """#!/bin/sh
+case "$1 ${2-}" in
+    "must-fail jc_b") exit 1 ;;
+    must-fail*) echo "refused: $2" ;;
+    *) exit "${GATE:-0}" ;;
+esac
+"""
+
+
+def launcher_case(has_rt, words, status, output, sentence):
+    """The launcher says a sentence by itself, and hands the rest to rt, where it is there."""
+
+    def tried(_):
+        with folder_of({"rt": TELLING}) as folder:
+            path = f"{folder}:/usr/bin:/bin" if has_rt else "/usr/bin:/bin"
+            told = subprocess.run(["./jsoncrdt", "--unproved", *words], input=b"step\n", capture_output=True, check=False,
+                                  env={**os.environ, "PATH": path})
+        is_right = told.returncode == status and told.stdout.decode() == output and sentence in told.stderr.decode()
+        expect(is_right, f"{told}")
+
+    return f"launcher: --unproved {' '.join(words)}" + ("" if has_rt else ", without rt"), tried
+
+
+def status_case(status):
+    """An unproved run ends with the status of the program, and each stream has its lines."""
+
+    def tried(_):
+        with folder_of({"rt": ENDING % status}) as folder:
+            told = subprocess.run(["./jsoncrdt", "--unproved", "run", "examples/first.jsoncrdt"], capture_output=True,
+                                  check=False, env={**os.environ, "PATH": f"{folder}:/usr/bin:/bin"})
+        is_right = told.returncode == status and told.stdout == b"shown\n" and told.stderr.endswith(b"\ntold\n")
+        expect(is_right, f"{told}")
+
+    return f"launcher: --unproved ends with {status}", tried
+
+
+def launcher():
+    first, stuck = os.path.abspath("examples/first.jsoncrdt"), "examples/stuck.jsoncrdt"
+    yield launcher_case(False, ["run", stuck], 127, "", "whose command rt isn't on the path")
+    yield launcher_case(True, ["run", "no-such-file"], 4, "", "there is no file no-such-file")
+    yield launcher_case(True, ["view", "--at", "3", "examples"], 4, "", "examples is a folder")
+    yield launcher_case(True, ["run", first], 0, f"try --data scenario={first} -- run scenario\n", "nothing is proved")
+    yield launcher_case(True, ["run", "--trace", first, stuck], 0,
+                        "01-first.jsoncrdt\n02-stuck.jsoncrdt\ntry --cases FOLDER -- run --trace -\n", "nothing is proved")
+    yield launcher_case(True, ["debug", first], 0, f"try --data scenario={first} -- debug scenario\nstep\n",
+                        "nothing is proved")
+    for status in range(6):
+        yield status_case(status)
+
+
+def called(folder, words, **variables):
+    """How a script ends that stands in the folder, where the command rt is too."""
+    environment = {**os.environ, **variables, "PATH": f"{folder}:{os.environ['PATH']}"}
+    return subprocess.run(words, cwd=folder, capture_output=True, check=False, env=environment)
+
+
+def goes_on(_):
+    """Where an edit of one crate isn't refused, those of the others are tried all the same, and it isn't recorded."""
+    files = {f"crates/{name}/more-edits/one.edit": name for name in ("jc_a", "jc_b", "jc_c")}
+    with folder_of({"rt": REFUSING, "crates.txt": "", "HANDLES": "", **files}) as folder:
+        shutil.copy("more-edits", folder)
+        all_of_them, again = called(folder, ["./more-edits"]), called(folder, ["./more-edits"])
+        checked, alone = called(folder, ["./more-edits", "--check"]), called(folder, ["./more-edits", "jc_c"])
+        recorded = [line.split()[0] for line in stored(os.path.join(folder, "more-edits.txt")).splitlines()]
+    expect(all_of_them.returncode == 1 and again.returncode == 1, f"{all_of_them}\n{again}")
+    expect_same(all_of_them.stdout.decode(), "refused: jc_a\nrefused: jc_c\n")
+    expect(all_of_them.stderr.endswith(b"in: jc_b\n") and again.stdout == b"", f"{all_of_them}\n{again}")
+    expect(recorded == ["jc_a", "jc_c"] and checked.returncode == 1 and alone.returncode == 0, f"{recorded} {checked} {alone}")
+
+
+def gate_case(gate, tests, status, output):
+    """The gate ends as ./test does, or as rt ci where this failed, and tells the processor time of rt ci at its end."""
+
+    def tried(_):
+        ending = f"#!/bin/sh\necho {tests} failed\nexit {tests}\n"
+        with folder_of({"rt": REFUSING, "test": ending, "more-edits": "#!/bin/sh\nexit 1\n", ".ci/run": ""}) as folder:
+            shutil.copy(".ci/run", os.path.join(folder, ".ci"))
+            told = called(folder, [".ci/run"], GATE=str(gate))
+        expect(told.returncode == status and told.stdout.decode() == output, f"{told}")
+        expect_same(told.stderr.decode(), "gate: rt ci took 0.0 processor minutes\n")
+
+    return f"gate: rt ci ends with {gate}, ./test with {tests}", tried
+
+
+def scripts():
+    yield from launcher()
+    yield "more-edits: goes on behind a crate that fails", goes_on
+    yield gate_case(0, 0, 0, "0 failed\n")
+    yield gate_case(0, 1, 1, "1 failed\n")
+    yield gate_case(3, 0, 3, "")
