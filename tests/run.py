@@ -30,6 +30,7 @@ EXPECTED = os.path.join("tests", "expected")
 DOCUMENTS = ("README.md", "docs/*.md", "examples/*.md", "editors/*.md", "crates/*/README.md")
 AT_ONCE = 4
 MOST_OF_README, MOST_OF_PARAGRAPH = 150, 12
+HEADINGS = ("## What the layer above sees", "## Only tested")
 ABOUT = """\
 Runs what needs no proof: blocks of the documents, examples, tools, scripts, and the rules in Python. It proves nothing;
 the gate, rt ci, does that. The last line is `N passed, M failed`, and the status is 1 where one failed."""
@@ -74,8 +75,21 @@ def page_case(path):
     return f"pages: {path}", tried
 
 
+def readme_case(crate):
+    """A crate has a page that says what is seen of it and what is only tested."""
+
+    def tried(_):
+        path = os.path.join(crate, "README.md")
+        expect(os.path.exists(path), "it isn't there")
+        lacking = [heading for heading in HEADINGS if f"\n{heading}\n" not in stored(path)]
+        expect(not lacking, f"it lacks {lacking}")
+
+    return f"pages: headings of {crate}/README.md", tried
+
+
 def pages():
     yield from map(page_case, documents())
+    yield from map(readme_case, sorted(glob.glob("crates/*")))
 
 
 def told_case(name, words, path, write=False):
