@@ -20,9 +20,13 @@ UNBEGUN = "jsoncrdt 1\nreplica a {\n  let s = doc.keys;\n}\nschedule {\n}\n"
 FULL = "jsoncrdt 1 replica a {yield} schedule {" + "a.send;" * 100_000 + "}"
 # A text of nearly eight MiB, which is a scenario.
 LARGE = "jsoncrdt 1" + "".join(f" replica r{n} {{{'yield;' * 65_536}}}" for n in range(20))
-# 67,108,864 bytes of empty lines.
-MOST_BYTES = (" " * 4_095 + "\n") * 16_384
 MANY_REPLICAS = "jsoncrdt 1" + "".join(f" replica r{n} {{doc := 1}}" for n in range(64))
+
+
+def most_bytes(front, end):
+    """A text that is made where it is used: 67,108,864 bytes of lines, which begin so and are else empty, and an end."""
+    return lambda: front + ((" " * 4_095 + "\n") * 16_384)[len(front):] + end
+
 
 # The words, where FILE is the name of a file with the first text; standard input; the exit code; what standard output
 # has, and what standard error. `shell` is what a shell does with the streams, `limit` the KiB of memory that there are.
@@ -60,8 +64,8 @@ ROWS = [
     # The limits of a session, and one byte more. Python is slow at these.
     Row("debug FILE", NOTHING, "\n" * 1_000_000, 0, "", "", built=True),
     Row("debug FILE", NOTHING, "\n" * 1_000_001, 4, "", "too many lines\n", built=True),
-    Row("debug FILE", NOTHING, "where\n" + MOST_BYTES[6:], 0, "at 0 of 0\n", "", built=True),
-    Row("debug FILE", NOTHING, "where\n" + MOST_BYTES[6:] + " ", 4, "at 0 of 0\n", "too many lines\n",
+    Row("debug FILE", NOTHING, most_bytes("where\n", ""), 0, "at 0 of 0\n", "", built=True),
+    Row("debug FILE", NOTHING, most_bytes("where\n", " "), 4, "at 0 of 0\n", "too many lines\n",
         built=True),
     # No event more than there may be: what is no event comes first.
     Row("debug FILE", FULL, "goto 100000\nact a.send\nact a.exec\nact b.send\nact a.jump\nback\nact a.send\n", 0,
@@ -94,8 +98,9 @@ def ended(program, row, path):
     words = ["FILE" == word and path or word for word in row.words.split()]
     limit = f"ulimit -v {row.limit}; " if row.limit else ""
     line = f'{limit}exec "$0" "$@" {row.shell}'
-    told = subprocess.run(["sh", "-c", line, program, *words], input=row.input.encode(), capture_output=True,
-                          check=False, timeout=60)
+    text = row.input() if callable(row.input) else row.input
+    told = subprocess.run(["sh", "-c", line, program, *words], input=text.encode(), capture_output=True, check=False,
+                          timeout=60)
     return told.returncode, told.stdout.decode(), told.stderr.decode()
 
 
