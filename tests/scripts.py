@@ -22,10 +22,10 @@ echo shown
 echo told >&2
 exit %d
 """
-# One for which an edit of the crate jc_b isn't refused, and for which the gate ends as it is told.
+# One for which the edits of the crate jc_b end as it is told, and the gate too.
 REFUSING = """#!/bin/sh
 case "$1 ${2-}" in
-    "must-fail jc_b") exit 1 ;;
+    "must-fail jc_b") exit "$EDITS" ;;
     must-fail*) echo "refused: $2" ;;
     *) exit "${GATE:-0}" ;;
 esac
@@ -81,16 +81,25 @@ def called(folder, words, **variables):
 
 def goes_on(_):
     """Where an edit of one crate isn't refused, those of the others are tried all the same, and it isn't recorded."""
-    files = {f"crates/{name}/more-edits/one.edit": name for name in ("jc_a", "jc_b", "jc_c")}
+    names = ["jc_a", "jc_b", "jc_c"]
+    files = {f"crates/{name}/more-edits/one.edit": name for name in names}
+    # What is tried, how the edits of jc_b end, the status, what rt says, and which crates have their checksums after it.
+    steps = [
+        ([], 0, 0, "refused: jc_a\nrefused: jc_c\n", names),
+        (["--check"], 0, 0, "", names),
+        (names, 1, 1, "refused: jc_a\nrefused: jc_c\n", ["jc_a", "jc_c"]),
+        (["--check"], 1, 1, "", ["jc_a", "jc_c"]),
+        ([], 1, 1, "", ["jc_a", "jc_c"]),
+        (["jc_c"], 1, 0, "refused: jc_c\n", ["jc_a", "jc_c"]),
+    ]
     with folder_of({"rt": REFUSING, "crates.txt": "", "HANDLES": "", **files}) as folder:
         shutil.copy("more-edits", folder)
-        all_of_them, again = called(folder, ["./more-edits"]), called(folder, ["./more-edits"])
-        checked, alone = called(folder, ["./more-edits", "--check"]), called(folder, ["./more-edits", "jc_c"])
-        recorded = [line.split()[0] for line in stored(os.path.join(folder, "more-edits.txt")).splitlines()]
-    expect(all_of_them.returncode == 1 and again.returncode == 1, f"{all_of_them}\n{again}")
-    expect_same(all_of_them.stdout.decode(), "refused: jc_a\nrefused: jc_c\n")
-    expect(all_of_them.stderr.endswith(b"in: jc_b\n") and again.stdout == b"", f"{all_of_them}\n{again}")
-    expect(recorded == ["jc_a", "jc_c"] and checked.returncode == 1 and alone.returncode == 0, f"{recorded} {checked} {alone}")
+        for words, edits, status, output, recorded in steps:
+            told = called(folder, ["./more-edits", *words], EDITS=str(edits))
+            lines = stored(os.path.join(folder, "more-edits.txt")).splitlines()
+            expect(told.returncode == status and told.stdout.decode() == output, f"{words}: {told}")
+            expect([line.split()[0] for line in lines] == recorded, f"{words}: {lines}")
+            expect(status == 0 or told.stderr.rstrip().endswith(b"jc_b"), f"{words}: {told}")
 
 
 def gate_case(gate, tests, status, output):
