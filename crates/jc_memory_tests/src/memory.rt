@@ -11,11 +11,16 @@ const LARGEST: usize = 1 << 34;
 
 const MANY: usize = 1 << 17;
 
-/// The room that is left, in pieces: what is made ready for a call and looked at after it has its memory here. It is
-/// smaller than the holes for threads, which would be cut out of it else.
+/// The room that is left, in pieces: what is made ready for a call and looked at after it has its memory here.
 const PIECE: usize = 1 << 22;
 
-const PIECES: usize = 8;
+/// How many pieces there are. The C library keeps up to seven freed blocks of each of 64 small sizes where they are, so
+/// 448 in all; between two of them there is room here for the longest list and the spare block.
+const PIECES: usize = 128;
+
+/// How many there are beside threads. This is less than a heap of a thread's own, and than the holes for threads, which
+/// would be cut out of it else.
+const PIECES_BESIDE_THREADS: usize = 11;
 
 /// How many blocks the room is cut into at most.
 const FEW: usize = 20_000;
@@ -59,18 +64,18 @@ fn take(alloc: Global, largest: usize, many: usize) -> Result<Vec<Vec<u8>>, Allo
     Ok(blocks)
 }
 
-fn room(alloc: Global) -> Result<Vec<Vec<u8>>, AllocError> {
-    let mut pieces = Vec::with_capacity(alloc, PIECES)?;
-    for _ in 0..PIECES {
-        pieces.push(block(alloc, PIECE)?)?;
+fn room(alloc: Global, pieces: usize) -> Result<Vec<Vec<u8>>, AllocError> {
+    let mut room = Vec::with_capacity(alloc, pieces)?;
+    for _ in 0..pieces {
+        room.push(block(alloc, PIECE)?)?;
     }
-    Ok(pieces)
+    Ok(room)
 }
 
-fn all_but_room(alloc: Global) -> Result<Vec<Vec<u8>>, AllocError> {
+fn all_but_room(alloc: Global, pieces: usize) -> Result<Vec<Vec<u8>>, AllocError> {
     // After a large block was freed, the C library cuts blocks up to its size out of one heap.
     drop(block(alloc, 4 * PIECE)?);
-    let room = room(alloc)?;
+    let room = room(alloc, pieces)?;
     let blocks = take(alloc, LARGEST, MANY)?;
     drop(room);
     Ok(blocks)
@@ -89,7 +94,14 @@ fn room_but(alloc: Global, bytes: usize) -> Result<Vec<Vec<u8>>, AllocError> {
 
 /// Takes all memory but the room. It is free again where these blocks are.
 pub fn fill(rt: &impl Abort, alloc: Global) -> Vec<Vec<u8>> {
-    all_but_room(alloc).ok().expect(rt, "the blocks")
+    all_but_room(alloc, PIECES).ok().expect(rt, "the blocks")
+}
+
+/// The same where threads are made behind it.
+pub fn fill_beside_threads(rt: &impl Abort, alloc: Global) -> Vec<Vec<u8>> {
+    all_but_room(alloc, PIECES_BESIDE_THREADS)
+        .ok()
+        .expect(rt, "the blocks")
 }
 
 /// How much a call gets: all that it may need, or what it gets when it is made for the time n.

@@ -1,9 +1,9 @@
 //! Runs by threads with too little memory: no report, or one in which an end says so.
 //!
 //! Each thread would get a heap of its own from the C library. So the memory is filled before the first thread is made,
-//! but for a hole in which stacks fit and no such heap does. A stack is kept for the next thread; after the first run
+//! but for a hole in which stacks fit and no such heap does. Stacks are kept for the next threads; after the first run
 //! what threads take comes page by page out of a second hole, and what the thread takes that started them out of the
-//! room.
+//! room. Where the C library does otherwise, fewer requests are refused, and what must be so after each is the same.
 
 ghost use Rattle.std.specs.Prelude.{None, true};
 ghost use Rattle.jc_scenario.specs.Scenarios.{IsWellFormed};
@@ -12,7 +12,7 @@ ghost use Rattle.jc_scenario.specs.Views.{scenario_view};
 use crate::attempts::{Outcome, done_if, holds, is_done, refused_if};
 use crate::commands::texts;
 use crate::due::AnyOf;
-use crate::memory::{SPARE, block, fill, leave};
+use crate::memory::{SPARE, block, fill_beside_threads, leave};
 use crate::rows::{DELETION, scene};
 use jc_fakes::Bytes;
 use jc_program::{Files, work};
@@ -22,24 +22,29 @@ use jc_scenario::Scenario;
 use std::alloc::{AllocError, Global};
 use std::process::Abort;
 use std::sync::Wait;
+use std::sync::atomic::{AtomicBool, Ordering};
 use std::test::Fail;
 use std::thread::Threads;
 
-/// The C library frees blocks of this size to the system at once, and makes no heap in so small a hole.
-const HOLE: usize = 48 << 20;
+/// The C library frees blocks of these sizes to the system at once, and makes no heap in so small a hole. The first one
+/// for which there is room is taken, since a stack may stand in a hole that was given back.
+const HOLES: [usize; 3] = [48 << 20, 40 << 20, 32 << 20];
 
 const PAGE: usize = 4_096;
 
-/// How many pages threads get at most.
-const PAGES: usize = 4_000;
+/// How many pages threads get at most. In fewer than 256 the C library makes no heap for their caller.
+const PAGES: usize = 200;
 
 /// What the caller gets where the threads are to be refused: all that it needs.
 const AMPLE: usize = SPARE / 2;
 
 /// By so many bytes what the caller gets grows where it is to be refused, and how often.
-const STEP: usize = 64;
+const STEP: usize = 128;
 
-const STEPS: usize = 256;
+const STEPS: usize = 128;
+
+/// How often a flag is looked at.
+const LOOKS: u64 = 1_000_000_000;
 
 /// A gate that is open. It tells no question.
 #[derive(Drop)]
@@ -57,6 +62,39 @@ fn gates(alloc: Global) -> Result<Vec<Open>, AllocError> {
     let mut gates = Vec::with_capacity(alloc, 2)?;
     gates.push(Open)?;
     gates.push(Open)?;
+    Ok(gates)
+}
+
+/// A gate at which a thread waits for the other one, so that both have stacks at one time. It tells no question.
+#[derive(Drop)]
+struct Meeting<'a> {
+    mine: &'a AtomicBool,
+    other: &'a AtomicBool,
+}
+
+impl<'a> Gate for Meeting<'a> {
+    ghost use Rattle.std.specs.Prelude.{None};
+
+    ghost asked = { λ _. None };
+
+    fn before<R: Wait>(&mut self, _rt: &R, _replica: u16, _step: u64) {
+        self.mine.store(true, Ordering::SeqCst);
+        for _ in 0..LOOKS {
+            if self.other.load(Ordering::SeqCst) {
+                break;
+            }
+        }
+    }
+}
+
+fn meetings<'a>(
+    alloc: Global,
+    a: &'a AtomicBool,
+    b: &'a AtomicBool,
+) -> Result<Vec<Meeting<'a>>, AllocError> {
+    let mut gates = Vec::with_capacity(alloc, 2)?;
+    gates.push(Meeting { mine: a, other: b })?;
+    gates.push(Meeting { mine: b, other: a })?;
     Ok(gates)
 }
 
@@ -83,11 +121,11 @@ fn is_summed(report: &Report) -> bool {
 }
 
 /// A run of two threads.
-fn run<R: Threads + Wait + Sync>(
+fn run<R: Threads + Wait + Sync, G: Gate + Send + Drop>(
     rt: &R,
     alloc: Global,
     scenario: Scenario,
-    gates: Vec<Open>,
+    gates: Vec<G>,
 ) -> Outcome
     requires { IsWellFormed (scenario_view scenario) }
 {
@@ -159,101 +197,121 @@ fn command<R: Threads + Wait + Sync + AllocGlobal>(rt: &R, words: &[String]) -> 
     }
 }
 
-fn hole(rt: &impl Abort, alloc: Global) -> Vec<u8> {
-    block(alloc, HOLE).ok().expect(rt, "a hole")
+/// A hole, or an empty block where there is no room for one.
+fn hole(alloc: Global) -> Vec<u8> {
+    for size in HOLES {
+        if let Ok(hole) = block(alloc, size) {
+            return hole;
+        }
+    }
+    Vec::new(alloc)
 }
 
 /// Takes all memory, but for so many bytes of the room and so many pages of the hole.
 fn leave_both(rt: &impl Abort, alloc: Global, bytes: usize, pages: usize) -> Vec<Vec<u8>> {
-    let hole = hole(rt, alloc);
+    let hole = hole(alloc);
+    let size = hole.capacity();
     let mut blocks = leave(rt, alloc, bytes);
     drop(hole);
-    let taken = HOLE.saturating_sub(pages.saturating_mul(PAGE));
-    let filler = block(alloc, taken).ok().expect(rt, "the hole");
-    blocks.push(filler).ok().expect(rt, "room for a block");
+    let rest = block(alloc, size.saturating_sub(pages.saturating_mul(PAGE)));
+    if let Ok(rest) = rest {
+        blocks.push(rest).ok().expect(rt, "room for a block");
+    }
     blocks
 }
 
-fn run_with<R: Threads + Wait + Sync + Abort>(
+/// Whether a run is done with so much memory.
+fn is_run<R: Threads + Wait + Sync + Abort>(
     rt: &R,
     alloc: Global,
     bytes: usize,
     pages: usize,
-) -> Outcome {
+) -> bool {
     let scenario = scene(rt, alloc, DELETION);
     let gates = gates(alloc).ok().expect(rt, "gates");
     let blocks = leave_both(rt, alloc, bytes, pages);
     let outcome = run(rt, alloc, scenario, gates);
     drop(blocks);
-    outcome
+    is_done(rt, outcome)
 }
 
-/// Runs whose caller has more each time, and whose threads have nothing.
-fn refuse_callers<R: Threads + Wait + Sync + Abort>(rt: &R, alloc: Global) {
+/// How many runs are refused whose caller has more each time, and whose threads have nothing.
+fn refused_callers<R: Threads + Wait + Sync + Abort>(rt: &R, alloc: Global) -> u64 {
+    let mut refused = 0u64;
     for n in 0..STEPS {
-        let outcome = run_with(rt, alloc, n * STEP, 0);
-        holds(rt, outcome == Outcome::Refused);
-    }
-}
-
-/// How often the threads of a run are refused memory before each replica has enough.
-fn refused_runs<R: Threads + Wait + Sync + Abort>(rt: &R, alloc: Global) -> u64 {
-    for pages in 0..PAGES {
-        if is_done(rt, run_with(rt, alloc, AMPLE, pages)) {
-            return pages as u64;
+        if !is_run(rt, alloc, n * STEP, 0) {
+            refused = refused.saturating_add(1);
         }
     }
-    panic!(rt; "it is always refused")
+    refused
+}
+
+/// How many runs are refused whose threads have more each time.
+fn refused_threads<R: Threads + Wait + Sync + Abort>(rt: &R, alloc: Global) -> u64 {
+    let mut refused = 0u64;
+    for pages in 0..PAGES {
+        if !is_run(rt, alloc, AMPLE, pages) {
+            refused = refused.saturating_add(1);
+        }
+    }
+    refused
 }
 
 #[test]
 fn runs_are_refused(rt: HostRuntime) -> Result<(), Fail> {
     let alloc = rt.alloc();
+    let (a, b) = (AtomicBool::new(false), AtomicBool::new(false));
     let scenario = scene(&rt, alloc, DELETION);
-    let gates = gates(alloc)?;
-    let (stacks, apart, pages) = (hole(&rt, alloc), hole(&rt, alloc), hole(&rt, alloc));
-    let blocks = fill(&rt, alloc);
+    let gates = meetings(alloc, &a, &b)?;
+    let (stacks, apart, pages) = (hole(alloc), hole(alloc), hole(alloc));
+    let blocks = fill_beside_threads(&rt, alloc);
     drop(stacks);
     holds(&rt, run(&rt, alloc, scenario, gates) == Outcome::Done);
     drop(pages);
-    refuse_callers(&rt, alloc);
-    holds(&rt, refused_runs(&rt, alloc) > 0);
+    holds(&rt, refused_callers(&rt, alloc) > 0);
+    holds(&rt, refused_threads(&rt, alloc) > 0);
     drop(apart);
     drop(blocks);
+    holds(&rt, is_run(&rt, alloc, SPARE, 0));
     Ok(())
 }
 
-fn command_with<R: Threads + Wait + Sync + AllocGlobal + Abort>(
+/// Whether the command is done with so much memory.
+fn is_carried_out<R: Threads + Wait + Sync + AllocGlobal + Abort>(
     rt: &R,
     words: &[String],
     bytes: usize,
     pages: usize,
-) -> Outcome {
+) -> bool {
     let blocks = leave_both(rt, rt.alloc(), bytes, pages);
     let outcome = command(rt, words);
     drop(blocks);
-    outcome
+    is_done(rt, outcome)
 }
 
-/// The command where its caller has more each time, and its threads have nothing.
-fn refuse_words<R: Threads + Wait + Sync + AllocGlobal + Abort>(rt: &R, words: &[String]) {
+/// How often the command is refused where its caller has more each time, and its threads have nothing.
+fn refused_words<R: Threads + Wait + Sync + AllocGlobal + Abort>(rt: &R, words: &[String]) -> u64 {
+    let mut refused = 0u64;
     for n in 0..STEPS {
-        let outcome = command_with(rt, words, n * STEP, 0);
-        holds(rt, outcome == Outcome::Refused);
+        if !is_carried_out(rt, words, n * STEP, 0) {
+            refused = refused.saturating_add(1);
+        }
     }
+    refused
 }
 
-/// How often the threads of the command are refused memory before it is done.
+/// How often it is refused where its threads have more each time.
 fn refused_commands<R: Threads + Wait + Sync + AllocGlobal + Abort>(
     rt: &R,
     words: &[String],
 ) -> u64 {
+    let mut refused = 0u64;
     for pages in 0..PAGES {
-        if is_done(rt, command_with(rt, words, AMPLE, pages)) {
-            return pages as u64;
+        if !is_carried_out(rt, words, AMPLE, pages) {
+            refused = refused.saturating_add(1);
         }
     }
-    panic!(rt; "it is always refused")
+    refused
 }
 
 #[test]
@@ -265,14 +323,15 @@ fn the_command_is_refused(rt: HostRuntime) -> Result<(), Fail> {
         command(&rt, &texts(alloc, &["check", "-"])?) == Outcome::Wrong,
     );
     let words = texts(alloc, &["threads", "-"])?;
-    let (stacks, apart, pages) = (hole(&rt, alloc), hole(&rt, alloc), hole(&rt, alloc));
-    let blocks = fill(&rt, alloc);
+    let (stacks, apart, pages) = (hole(alloc), hole(alloc), hole(alloc));
+    let blocks = fill_beside_threads(&rt, alloc);
     drop(stacks);
     holds(&rt, command(&rt, &words) == Outcome::Done);
     drop(pages);
-    refuse_words(&rt, &words);
+    holds(&rt, refused_words(&rt, &words) > 0);
     holds(&rt, refused_commands(&rt, &words) > 0);
     drop(apart);
     drop(blocks);
+    holds(&rt, is_carried_out(&rt, &words, SPARE, 0));
     Ok(())
 }
