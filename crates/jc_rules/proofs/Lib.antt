@@ -7,6 +7,8 @@ pub mod Ids
 pub mod Determined
 pub mod Listed
 pub mod Network
+pub mod Versions
+pub mod Fifty
 pub mod Refusing
 pub mod Steps
 pub mod Shown

@@ -31,7 +31,7 @@ use Rattle.jc_rules.specs.State.{State, Bound, ACursor, Names, Pairs}
 use Rattle.jc_rules.specs.Derivation.{Question, Occur, Run, Evaluate, SelectIndex, SelectKeys, SelectValues, Make, ApplyOp, Operate, Child, AddId, Presence, Clear, ClearAny, ClearElem, ClearMap, ClearList, Answer, ToBound, ToContent, Judgement, gives, asked, answered, Derivation, derive, Premises, none, premise, conclusion, conclusions}
 use Rattle.jc_rules.specs.Table.{Follows, Holds, AllHold, cursor, moved, op_of, IsEmptyIds}
 use Rattle.jc_rules.specs.Step.{Step}
-use Rattle.jc_rules.specs.Refused.{Cause, because, no_node, IsAnswered, IsCursor, IsYieldEvent, first_expr, WantsCursor, made_by, Refused, no_command, at_yield, in_command, no_yield, not_at_yield, not_acted, not_received, already_applied, deps_missing, in_received, in_first, not_a_cursor, in_making, in_made, in_applied, unbound, get_on_head, get_too_deep, index_too_deep, in_index, in_keys, in_values, index_no_node, keys_no_node, values_no_node, index_below, keys_below, values_below, past_end, in_counted, in_passed, no_map, no_register, operate_below, not_in_list, insert_later, IsStuck, no_replica, no_sender, refused}
+use Rattle.jc_rules.specs.Refused.{Cause, because, no_node, IsAnswered, IsCursor, IsYieldEvent, first_expr, WantsCursor, made_by, Refused, no_command, at_yield, in_command, no_yield, not_at_yield, not_acted, not_received, not_offered, already_applied, deps_missing, in_received, in_first, not_a_cursor, in_making, in_made, in_applied, unbound, get_on_head, get_too_deep, index_too_deep, in_index, in_keys, in_values, index_no_node, keys_no_node, values_no_node, index_below, keys_below, values_below, past_end, in_counted, in_passed, no_map, no_register, operate_below, not_in_list, insert_later, IsStuck, no_replica, no_sender, refused}
 use Rattle.jc_rules.proofs.Determined.{same_derivation}
 
 -- what is tried, in order: a numbered condition, or a premise and what its answer leads to
@@ -104,6 +104,7 @@ abbrev pub tests_of : Question → Tests
 tests_of (Occur A (E.Exec p) _) = at_command A.left (λ c. condition (c ≢ Yield) (because F.AtYield) (ask (Run p A c) no_more))
 tests_of (Occur A (E.Send p) _) = at_the_yield A passed
 tests_of (Occur A (E.Recv p q) _) = at_the_yield A passed
+tests_of (Occur A (E.Take p q i) sent) = at_the_yield A (if_none (op_of i sent) (because F.NotReceived) (λ o. passed))
 tests_of (Occur A (E.Apply p i) _) = at_the_yield A (if_none (op_of i A.recv) (because F.NotReceived) (λ o. condition (has_id i A.ops ≡ false) (because F.AlreadyApplied) (condition (AreIn o.deps A.ops) (because F.DepsMissing) (ask (Operate A.tree o) no_more))))
 tests_of (Occur A (E.Done p) _) = at_the_yield A (condition (A.acted ≡ true) (because F.NotActed) passed)
 tests_of (Run p A (LetIn x e)) = ask (Evaluate A e) no_more
@@ -229,6 +230,7 @@ rule_passes R.MakeOp (Make p A cur m) a ps (B, x1, x2) h = alone _ _ ps h x1
 rule_passes R.ApplyLocal (ApplyOp p A o) a ps (t, x1, x2) h = alone _ _ ps h x1
 rule_passes R.Send (Occur A (E.Send p) _) a ps (rest, x1, x2, x3) h = rw x1 (refl, tt)
 rule_passes R.Recv (Occur A (E.Recv p q) sent) a ps (rest, x1, x2, x3) h = rw x1 (refl, tt)
+rule_passes R.RecvOne (Occur A (E.Take p q i) sent) a ps (rest, o, x2, x3, x4, x5) h = rw (x2, x3) (refl, tt)
 rule_passes R.ApplyRemote (Occur A (E.Apply p i) _) a ps (rest, o, t, x3, x4, x5, x6, x7, x8) h = rw (x3, x4) (refl, (x5, (x6, alone _ _ ps h x7)))
 rule_passes R.Done (Occur A (E.Done p) _) a ps (rest, x1, x2, x3, x4) h = rw x1 (refl, (x2, tt))
 rule_passes R.Descend (Operate c o) a ps (k1, rest, d, e, c2, x5, x6, x7) h = rw x5 (_, first_is _ _ _ ps h x6, (_, second_is _ _ _ _ ps h x6, tt))
@@ -329,6 +331,7 @@ yields : (A : State) (event : Event) (read : List Op) → IsYieldEvent event →
 yields A (E.Exec p) read h = absurd h
 yields A (E.Send p) read h = (_, refl)
 yields A (E.Recv p q) read h = (_, refl)
+yields A (E.Take p q i) read h = (_, refl)
 yields A (E.Apply p i) read h = (_, refl)
 yields A (E.Done p) read h = (_, refl)
 
@@ -357,6 +360,7 @@ refusal_stops (no_yield {A = A} {event = event} {read = read} h e) = (1, rw ((yi
 refusal_stops (not_at_yield {A = A} {event = event} {read = read} {c = c} {rest = rest} h e k) = (1, rw ((yields A event read h).1) (command_is (At 0 (because F.NotAtYield)) A.left c rest _ e (inl (k, refl))))
 refusal_stops (not_acted {A = A} {rest = rest} e f) = (1, command_is (At 0 (because F.NotActed)) A.left Yield rest _ e (inr (refl, inl ((λ h. cc), refl))))
 refusal_stops (not_received {A = A} {rest = rest} e f) = (1, command_is (At 0 (because F.NotReceived)) A.left Yield rest _ e (inr (refl, rw f refl)))
+refusal_stops (not_offered {A = A} {rest = rest} e f) = (1, command_is (At 0 (because F.NotReceived)) A.left Yield rest _ e (inr (refl, rw f refl)))
 refusal_stops (already_applied {A = A} {i = i} {rest = rest} {o = o} e f g) = (1, command_is (At 0 (because F.AlreadyApplied)) A.left Yield rest _ e (inr (refl, some_is (At 0 (because F.AlreadyApplied)) (op_of i A.recv) o _ _ f (inl ((λ h. cc), refl)))))
 refusal_stops (deps_missing {A = A} {i = i} {rest = rest} {o = o} e f g h) = (1, command_is (At 0 (because F.DepsMissing)) A.left Yield rest _ e (inr (refl, some_is (At 0 (because F.DepsMissing)) (op_of i A.recv) o _ _ f (inr (g, inl (h, refl))))))
 refusal_stops (in_received {A = A} {i = i} {rest = rest} {o = o} {why = why} e f g h r) =

@@ -242,6 +242,11 @@ pub recv : {n p q : ℕ} {A : State} {sent : List Op} {rest : List Cmd}
     → Shown n (Occur A (E.Recv p q) sent) (ToState (record A { acted = true; recv = both A.recv sent })) ((R.Recv, n) ∷ [])
 recv {rest = rest} e = by R.Recv nothing (rest, e, refl, refl)
 
+pub take_one : {n p q : ℕ} {i : Id} {A : State} {sent : List Op} {rest : List Cmd} {o : Op}
+    → A.left ≡ Yield ∷ rest → op_of i sent ≡ Some o
+    → Shown n (Occur A (E.Take p q i) sent) (ToState (record A { acted = true; recv = both A.recv (o ∷ []) })) ((R.RecvOne, n) ∷ [])
+take_one {rest = rest} {o = o} e f = by R.RecvOne nothing (rest, o, e, f, refl, refl)
+
 pub apply_remote : {n p : ℕ} {i : Id} {A : State} {read : List Op} {rest : List Cmd} {o : Op} {t : Context} {rs : List (Rule × ℕ)}
     → A.left ≡ Yield ∷ rest → op_of i A.recv ≡ Some o → has_id i A.ops ≡ false → AreIn o.deps A.ops
     → Shown (n + 1) (Operate A.tree o) (ToContext t) rs

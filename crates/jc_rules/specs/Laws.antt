@@ -1,21 +1,22 @@
 -- What the definitions promise by themselves.
-use Rattle.std.specs.Prelude.{◌≡◌, ◌≢◌, ℕ, List, not, ◌||◌, ◌&&◌}
+use Rattle.std.specs.Prelude.{◌≡◌, ◌≢◌, ◌↔◌, ℕ, List, not, ◌||◌, ◌&&◌}
 use Rattle.std.specs.Cmp.{IsTotalOrder}
 use Rattle.std.specs.declared.cmp.Ordering.{Ordering}
 use Rattle.std.specs.declared.cmp.Ordering.TheVariants.{Equal}
 use Rattle.jc_rules.specs.declared.id.Id.{Id}
 use Rattle.jc_rules.specs.declared.operation.Event.{Event}
 use Rattle.jc_rules.specs.declared.rule.Rule.{Rule}
+use Rattle.jc_rules.specs.declared.rule.Rule.TheVariants.{RecvOne}
 use Rattle.jc_rules.specs.declared.refusal.Refusal.{Refusal}
 use Rattle.jc_rules.specs.Order.{id_cmp, name_cmp, key_cmp, same_id}
 use Rattle.jc_rules.specs.Ids.{AreRising, has_id, with_id, union, without}
 use Rattle.jc_rules.specs.RuleNames.{rule_name}
 use Rattle.jc_rules.specs.Refusals.{number_of}
 use Rattle.jc_rules.specs.State.{State}
-use Rattle.jc_rules.specs.Derivation.{Question, Derivation, conclusion, asked}
-use Rattle.jc_rules.specs.Table.{Holds}
-use Rattle.jc_rules.specs.Step.{Step, After}
-use Rattle.jc_rules.specs.Refused.{Cause, Refused, IsStuck}
+use Rattle.jc_rules.specs.Derivation.{Question, Derivation, derive, Premises, none, premise, conclusion, asked}
+use Rattle.jc_rules.specs.Table.{Holds, HoldsFifty}
+use Rattle.jc_rules.specs.Step.{Step, After, Network, StepIn, AfterIn}
+use Rattle.jc_rules.specs.Refused.{Cause, Refused, IsStuck, IsStuckIn}
 
 -- Two derivations that hold and answer one question are one.
 abbrev pub OneDerivation : Type 0
@@ -32,6 +33,30 @@ abbrev pub OneAfter : Type 0
 OneAfter =
     (network : List State) (events : List Event) (last other : List State)
     → After network events last → After network events other → last ≡ other
+
+-- The same of a network of some version.
+abbrev pub OneStepIn : Type 0
+OneStepIn =
+    (network : Network) (event : Event) (new other : Network) (rows other_rows : List (Rule × ℕ))
+    → StepIn network event new rows → StepIn network event other other_rows → (new ≡ other) × (rows ≡ other_rows)
+
+abbrev pub OneAfterIn : Type 0
+OneAfterIn =
+    (network : Network) (events : List Event) (last other : Network)
+    → AfterIn network events last → AfterIn network events other → last ≡ other
+
+-- the rule stands nowhere in the derivation
+abbrev mutual
+  pub Lacks : Rule → Derivation → Type 0
+  Lacks rule (derive r j ps) = (r ≢ rule) × AllLack rule ps
+
+  pub AllLack : Rule → Premises → Type 0
+  AllLack rule none = Unit {0}
+  AllLack rule (premise d ps) = Lacks rule d × AllLack rule ps
+
+-- A derivation without RECV-ONE holds in the table exactly where it holds in that of the fifty rules.
+abbrev pub FiftyRulesStand : Type 0
+FiftyRulesStand = (d : Derivation) → Lacks RecvOne d → Holds d ↔ HoldsFifty d
 
 -- A question that is refused has no derivation.
 abbrev pub RefusedHasNone : Type 0
@@ -52,6 +77,17 @@ abbrev pub OneStuck : Type 0
 OneStuck =
     (network : List State) (event : Event) (why other : Cause)
     → IsStuck network event why → IsStuck network event other → why ≡ other
+
+-- The same of a network of some version.
+abbrev pub StuckInHasNone : Type 0
+StuckInHasNone =
+    (network new : Network) (event : Event) (why : Cause) (rows : List (Rule × ℕ))
+    → IsStuckIn network event why → StepIn network event new rows → ⊥
+
+abbrev pub OneStuckIn : Type 0
+OneStuckIn =
+    (network : Network) (event : Event) (why other : Cause)
+    → IsStuckIn network event why → IsStuckIn network event other → why ≡ other
 
 -- an order that tells different keys apart
 pub record IsExactOrder {K : Type 0} (R : K → K → Ordering) : Type 0 where

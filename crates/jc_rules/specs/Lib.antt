@@ -12,6 +12,7 @@ pub mod Derivation
 pub mod Table
 pub mod Trace
 pub mod Derives
+pub mod Version
 pub mod Step
 pub mod Refused
 pub mod Sound

@@ -24,10 +24,11 @@ use Rattle.jc_rules.specs.Syntax.{Expr, Variable, GetKey, Index, KeysOf, ValuesO
 use Rattle.jc_rules.specs.State.{State, Bound, ACursor}
 use Rattle.jc_rules.specs.Derivation.{Question, Occur, Run, Evaluate, SelectIndex, SelectKeys, SelectValues, Make, ApplyOp, Operate, Child, Answer, ToBound, ToContent, gives, Derivation, conclusion}
 use Rattle.jc_rules.specs.Table.{Holds, cursor, moved, IsEmptyIds, op_of}
-use Rattle.jc_rules.specs.Step.{replica_of, read_by}
+use Rattle.jc_rules.specs.Step.{replica_of, read_by, Network}
+use Rattle.jc_rules.specs.Version.{Allows}
 
 -- The refusal, and for a node that isn't there its tagged key. Only the refusals of rules and of replicas that aren't
--- there are ever derived: 20, 22 to 24 and 26 to 37 by `because`, and 25 by `no_node` alone, never without its key. The
+-- there are ever derived: 20, 22 to 24, 26 to 37 and 39 by `because`, and 25 by `no_node` alone, never without its key. The
 -- other numbers are those of texts and of other calls.
 pub data Cause : Type 0 where
   because : Refusal → Cause
@@ -92,7 +93,7 @@ pub data Refused : Question → Cause → Type 0 where
       → c ≢ Yield
       → Refused (Run p A c) why
       → Refused (Occur A (E.Exec p) read) why
-  -- events of a yield (SEND, RECV, APPLY-REMOTE, DONE)
+  -- events of a yield (SEND, RECV, RECV-ONE, APPLY-REMOTE, DONE)
   no_yield : {A : State} {event : Event} {read : List Op}
       → IsYieldEvent event
       → A.left ≡ []
@@ -128,6 +129,10 @@ pub data Refused : Question → Cause → Type 0 where
       → AreIn o.deps A.ops
       → Refused (Operate A.tree o) why
       → Refused (Occur A (E.Apply p i) read) why
+  not_offered : {A : State} {p q : ℕ} {i : Id} {read : List Op} {rest : List Cmd}
+      → A.left ≡ Yield ∷ rest
+      → op_of i read ≡ None
+      → Refused (Occur A (E.Take p q i) read) (because F.NotReceived)
   -- what is evaluated first
   in_first : {q : Question} {A : State} {e : Expr} {why : Cause}
       → first_expr q ≡ Some (A, e)
@@ -271,3 +276,24 @@ pub data IsStuck : List State → Event → Cause → Type 0 where
       → read_by event network ≡ Some read
       → Refused (Occur A event read) why
       → IsStuck network event why
+
+-- The same in a network of some version: first that a replica is missing, then that the version has no such event, then
+-- what its question is refused for.
+pub data IsStuckIn : Network → Event → Cause → Type 0 where
+  replica_missing : {network : Network} {event : Event}
+      → slice_get network.states (replica_of event) ≡ None
+      → IsStuckIn network event (because F.NoSuchReplica)
+  sender_missing : {network : Network} {event : Event}
+      → read_by event network.states ≡ None
+      → IsStuckIn network event (because F.NoSuchReplica)
+  wrong_version : {network : Network} {event : Event} {A : State} {read : List Op}
+      → slice_get network.states (replica_of event) ≡ Some A
+      → read_by event network.states ≡ Some read
+      → (Allows event network.version → ⊥)
+      → IsStuckIn network event (because F.WrongVersion)
+  question_refused : {network : Network} {event : Event} {A : State} {read : List Op} {why : Cause}
+      → slice_get network.states (replica_of event) ≡ Some A
+      → read_by event network.states ≡ Some read
+      → Allows event network.version
+      → Refused (Occur A event read) why
+      → IsStuckIn network event why

@@ -103,107 +103,108 @@ IsMake p A e m a ps =
     ∷ [])
     × (a ≡ ToState B)
 
--- Follows rule question answer premises: the rule concludes the answer from the premises.
+-- The fifty rules of version 1.
+-- FollowsFifty rule question answer premises: the rule concludes the answer from the premises.
 -- In each clause what the question leaves unknown is named first. Then come the conditions, one a line, in the order in
 -- which they are tried, and together in ps the judgements from which the rule concludes. The last line is the answer.
-abbrev pub Follows : Rule → Question → Answer → List Judgement → Type 0
+abbrev pub FollowsFifty : Rule → Question → Answer → List Judgement → Type 0
 -- Commands and expressions
-Follows R.Exec (Occur A (E.Exec p) _) a ps =
+FollowsFifty R.Exec (Occur A (E.Exec p) _) a ps =
     (c : Cmd) × (rest : List Cmd) × (B : State)
     × (A.left ≡ c ∷ rest)
     × (c ≢ Yield)
     × (ps ≡ gives (Run p A c) (ToState B) ∷ [])
     × (a ≡ ToState (record B { left = rest }))
-Follows R.Let (Run p A (LetIn x e)) a ps =
+FollowsFifty R.Let (Run p A (LetIn x e)) a ps =
     (b : Bound)
     × (ps ≡ gives (Evaluate A e) (ToBound b) ∷ [])
     × (a ≡ ToState (record A { vars = bind x b A.vars }))
-Follows R.Var (Evaluate A (Variable x)) a ps =
+FollowsFifty R.Var (Evaluate A (Variable x)) a ps =
     (b : Bound)
     × (find name_cmp x A.vars ≡ Some b)
     × (ps ≡ [])
     × (a ≡ ToBound b)
-Follows R.Doc (Evaluate A TheDoc) a ps =
+FollowsFifty R.Doc (Evaluate A TheDoc) a ps =
     (ps ≡ [])
     × (a ≡ ToBound (ACursor (cursor [] K.Doc)))
-Follows R.Get (Evaluate A (GetKey e name)) a ps =
+FollowsFifty R.Get (Evaluate A (GetKey e name)) a ps =
     (cur : Cursor)
     × (ps ≡ gives (Evaluate A e) (ToBound (ACursor cur)) ∷ [])
     × (cur.last ≢ K.Head)
     × (length cur.path ≤ 511)
     × (a ≡ ToBound (ACursor (cursor (cur.path ++ MapT cur.last ∷ []) (K.Name name))))
-Follows R.Idx1 (Evaluate A (Index e i)) a ps =
+FollowsFifty R.Idx1 (Evaluate A (Index e i)) a ps =
     (cur : Cursor) × (new : Cursor)
     × (length cur.path ≤ 511)
     × (ps ≡ gives (Evaluate A e) (ToBound (ACursor cur))
     ∷ gives (SelectIndex A.tree (cursor (cur.path ++ ListT cur.last ∷ []) K.Head) i) (ToCursor new)
     ∷ [])
     × (a ≡ ToBound (ACursor new))
-Follows R.Idx2 (SelectIndex c cur i) a ps =
+FollowsFifty R.Idx2 (SelectIndex c cur i) a ps =
     (k1 : Tagged) × (rest : List Tagged) × (d : Context) × (new : Cursor)
     × (cur.path ≡ k1 ∷ rest)
     × (content k1 c ≡ Some (Node d))
     × (new.path ≡ rest)
     × (ps ≡ gives (SelectIndex d (cursor rest cur.last) i) (ToCursor new) ∷ [])
     × (a ≡ ToCursor (cursor cur.path new.last))
-Follows R.Idx3 (SelectIndex c cur (suc i)) a ps =
+FollowsFifty R.Idx3 (SelectIndex c cur (suc i)) a ps =
     (j : Id) × (new : Cursor)
     × (cur.path ≡ [])
     × (next cur.last c ≡ Some (To j))
     × (IsEmptyIds (presence (K.Elem j) c) → ⊥)
     × (ps ≡ gives (SelectIndex c (cursor [] (K.Elem j)) i) (ToCursor new) ∷ [])
     × (a ≡ ToCursor new)
-Follows R.Idx4 (SelectIndex c cur (suc i)) a ps =
+FollowsFifty R.Idx4 (SelectIndex c cur (suc i)) a ps =
     (j : Id) × (new : Cursor)
     × (cur.path ≡ [])
     × (next cur.last c ≡ Some (To j))
     × IsEmptyIds (presence (K.Elem j) c)
     × (ps ≡ gives (SelectIndex c (cursor [] (K.Elem j)) (suc i)) (ToCursor new) ∷ [])
     × (a ≡ ToCursor new)
-Follows R.Idx5 (SelectIndex c cur zero) a ps =
+FollowsFifty R.Idx5 (SelectIndex c cur zero) a ps =
     (cur.path ≡ [])
     × (ps ≡ [])
     × (a ≡ ToCursor (cursor [] cur.last))
-Follows R.Keys1 (Evaluate A (KeysOf e)) a ps =
+FollowsFifty R.Keys1 (Evaluate A (KeysOf e)) a ps =
     (cur : Cursor) × (ks : List (List ℕ))
     × (ps ≡ gives (Evaluate A e) (ToBound (ACursor cur))
     ∷ gives (SelectKeys A.tree cur) (ToNames ks)
     ∷ [])
     × (a ≡ ToBound (Names ks))
-Follows R.Keys2 (SelectKeys c cur) a ps =
+FollowsFifty R.Keys2 (SelectKeys c cur) a ps =
     (d : Context)
     × (cur.path ≡ [])
     × (content (MapT cur.last) c ≡ Some (Node d))
     × (ps ≡ [])
     × (a ≡ ToNames (names_in d))
-Follows R.Keys3 (SelectKeys c cur) a ps =
+FollowsFifty R.Keys3 (SelectKeys c cur) a ps =
     (k1 : Tagged) × (rest : List Tagged) × (d : Context) × (ks : List (List ℕ))
     × (cur.path ≡ k1 ∷ rest)
     × (content k1 c ≡ Some (Node d))
     × (ps ≡ gives (SelectKeys d (cursor rest cur.last)) (ToNames ks) ∷ [])
     × (a ≡ ToNames ks)
-Follows R.Val1 (Evaluate A (ValuesOf e)) a ps =
+FollowsFifty R.Val1 (Evaluate A (ValuesOf e)) a ps =
     (cur : Cursor) × (vs : List (Id × Value))
     × (ps ≡ gives (Evaluate A e) (ToBound (ACursor cur))
     ∷ gives (SelectValues A.tree cur) (ToPairs vs)
     ∷ [])
     × (a ≡ ToBound (Pairs vs))
-Follows R.Val2 (SelectValues c cur) a ps =
+FollowsFifty R.Val2 (SelectValues c cur) a ps =
     (r : Register)
     × (cur.path ≡ [])
     × (content (RegT cur.last) c ≡ Some (Values r))
     × (ps ≡ [])
     × (a ≡ ToPairs r)
-Follows R.Val3 (SelectValues c cur) a ps =
+FollowsFifty R.Val3 (SelectValues c cur) a ps =
     (k1 : Tagged) × (rest : List Tagged) × (d : Context) × (vs : List (Id × Value))
     × (cur.path ≡ k1 ∷ rest)
     × (content k1 c ≡ Some (Node d))
     × (ps ≡ gives (SelectValues d (cursor rest cur.last)) (ToPairs vs) ∷ [])
     × (a ≡ ToPairs vs)
-Follows R.MakeAssign (Run p A (SetTo e v)) a ps = IsMake p A e (M.Assign v) a ps
-Follows R.MakeInsert (Run p A (InsertAfter e v)) a ps = IsMake p A e (M.Insert v) a ps
-Follows R.MakeDelete (Run p A (DeleteAt e)) a ps = IsMake p A e M.Delete a ps
-Follows R.MakeOp (Make p A cur m) a ps =
+FollowsFifty R.MakeAssign (Run p A (SetTo e v)) a ps = IsMake p A e (M.Assign v) a ps
+FollowsFifty R.MakeInsert (Run p A (InsertAfter e v)) a ps = IsMake p A e (M.Insert v) a ps
+FollowsFifty R.MakeDelete (Run p A (DeleteAt e)) a ps = IsMake p A e M.Delete a ps
+FollowsFifty R.MakeOp (Make p A cur m) a ps =
     (B : State)
     × (ps ≡ gives (ApplyOp p A (record {
       id = record { counter = greatest A.ops + 1; replica = p };
@@ -212,22 +213,22 @@ Follows R.MakeOp (Make p A cur m) a ps =
       mutation = m;
     })) (ToState B) ∷ [])
     × (a ≡ ToState B)
-Follows R.ApplyLocal (ApplyOp p A o) a ps =
+FollowsFifty R.ApplyLocal (ApplyOp p A o) a ps =
     (t : Context)
     × (ps ≡ gives (Operate A.tree o) (ToContext t) ∷ [])
     × (a ≡ ToState (record A { tree = t; queue = with_op o A.queue; ops = with_id o.id A.ops }))
 -- Yield events
-Follows R.Send (Occur A (E.Send p) _) a ps =
+FollowsFifty R.Send (Occur A (E.Send p) _) a ps =
     (rest : List Cmd)
     × (A.left ≡ Yield ∷ rest)
     × (ps ≡ [])
     × (a ≡ ToState (record A { acted = true; send = both A.send A.queue }))
-Follows R.Recv (Occur A (E.Recv p q) sent) a ps =
+FollowsFifty R.Recv (Occur A (E.Recv p q) sent) a ps =
     (rest : List Cmd)
     × (A.left ≡ Yield ∷ rest)
     × (ps ≡ [])
     × (a ≡ ToState (record A { acted = true; recv = both A.recv sent }))
-Follows R.ApplyRemote (Occur A (E.Apply p i) _) a ps =
+FollowsFifty R.ApplyRemote (Occur A (E.Apply p i) _) a ps =
     (rest : List Cmd) × (o : Op) × (t : Context)
     × (A.left ≡ Yield ∷ rest)
     × (op_of i A.recv ≡ Some o)
@@ -235,14 +236,14 @@ Follows R.ApplyRemote (Occur A (E.Apply p i) _) a ps =
     × AreIn o.deps A.ops
     × (ps ≡ gives (Operate A.tree o) (ToContext t) ∷ [])
     × (a ≡ ToState (record A { acted = true; tree = t; ops = with_id i A.ops }))
-Follows R.Done (Occur A (E.Done p) _) a ps =
+FollowsFifty R.Done (Occur A (E.Done p) _) a ps =
     (rest : List Cmd)
     × (A.left ≡ Yield ∷ rest)
     × (A.acted ≡ true)
     × (ps ≡ [])
     × (a ≡ ToState (record A { left = rest; acted = false }))
 -- Operations
-Follows R.Descend (Operate c o) a ps =
+FollowsFifty R.Descend (Operate c o) a ps =
     (k1 : Tagged) × (rest : List Tagged) × (d : Context) × (e : Context) × (c2 : Context)
     × (o.cursor.path ≡ k1 ∷ rest)
     × (ps ≡ gives (Child c k1) (ToContent (Node d))
@@ -250,42 +251,42 @@ Follows R.Descend (Operate c o) a ps =
     ∷ gives (AddId c k1 o.id o.mutation) (ToContext c2)
     ∷ [])
     × (a ≡ ToContext (with_content k1 (Node e) c2))
-Follows R.ChildGet (Child c k) a ps =
+FollowsFifty R.ChildGet (Child c k) a ps =
     (x : Content)
     × (content k c ≡ Some x)
     × (ps ≡ [])
     × (a ≡ ToContent x)
-Follows R.ChildMap (Child c (MapT k)) a ps =
+FollowsFifty R.ChildMap (Child c (MapT k)) a ps =
     (content (MapT k) c ≡ None)
     × (ps ≡ [])
     × (a ≡ ToContent (new_content (MapT k)))
-Follows R.ChildList (Child c (ListT k)) a ps =
+FollowsFifty R.ChildList (Child c (ListT k)) a ps =
     (content (ListT k) c ≡ None)
     × (ps ≡ [])
     × (a ≡ ToContent (new_content (ListT k)))
-Follows R.ChildReg (Child c (RegT k)) a ps =
+FollowsFifty R.ChildReg (Child c (RegT k)) a ps =
     (content (RegT k) c ≡ None)
     × (ps ≡ [])
     × (a ≡ ToContent (new_content (RegT k)))
-Follows R.AddId1 (AddId c k i m) a ps =
+FollowsFifty R.AddId1 (AddId c k i m) a ps =
     (s : List Id)
     × (m ≢ M.Delete)
     × (ps ≡ gives (Presence c (key_of k)) (ToIds s) ∷ [])
     × (a ≡ ToContext (with_presence (key_of k) (with_id i s) c))
-Follows R.AddId2 (AddId c k i m) a ps =
+FollowsFifty R.AddId2 (AddId c k i m) a ps =
     (m ≡ M.Delete)
     × (ps ≡ [])
     × (a ≡ ToContext c)
-Follows R.Presence1 (Presence c k) a ps =
+FollowsFifty R.Presence1 (Presence c k) a ps =
     (s : List Id)
     × (presence k c ≡ Some s)
     × (ps ≡ [])
     × (a ≡ ToIds s)
-Follows R.Presence2 (Presence c k) a ps =
+FollowsFifty R.Presence2 (Presence c k) a ps =
     (presence k c ≡ None)
     × (ps ≡ [])
     × (a ≡ ToIds [])
-Follows R.Assign (Operate c o) a ps =
+FollowsFifty R.Assign (Operate c o) a ps =
     (v : Value) × (c1 : Context) × (s : List Id) × (c2 : Context) × (r : Register)
     × (o.cursor.path ≡ [])
     × (o.mutation ≡ M.Assign v)
@@ -295,7 +296,7 @@ Follows R.Assign (Operate c o) a ps =
     ∷ gives (Child c2 (RegT o.cursor.last)) (ToContent (Values r))
     ∷ [])
     × (a ≡ ToContext (with_content (RegT o.cursor.last) (Values (put id_cmp o.id v r)) c2))
-Follows R.EmptyMap (Operate c o) a ps =
+FollowsFifty R.EmptyMap (Operate c o) a ps =
     (c1 : Context) × (s : List Id) × (c2 : Context) × (x : Content)
     × (o.cursor.path ≡ [])
     × (o.mutation ≡ M.Assign V.EmptyMap)
@@ -304,7 +305,7 @@ Follows R.EmptyMap (Operate c o) a ps =
     ∷ gives (Child c2 (MapT o.cursor.last)) (ToContent x)
     ∷ [])
     × (a ≡ ToContext (with_content (MapT o.cursor.last) x c2))
-Follows R.EmptyList (Operate c o) a ps =
+FollowsFifty R.EmptyList (Operate c o) a ps =
     (c1 : Context) × (s : List Id) × (c2 : Context) × (x : Content)
     × (o.cursor.path ≡ [])
     × (o.mutation ≡ M.Assign V.EmptyList)
@@ -313,7 +314,7 @@ Follows R.EmptyList (Operate c o) a ps =
     ∷ gives (Child c2 (ListT o.cursor.last)) (ToContent x)
     ∷ [])
     × (a ≡ ToContext (with_content (ListT o.cursor.last) x c2))
-Follows R.Insert1 (Operate c o) a ps =
+FollowsFifty R.Insert1 (Operate c o) a ps =
     (v : Value) × (n : Next) × (d : Context)
     × (o.cursor.path ≡ [])
     × (o.mutation ≡ M.Insert v)
@@ -321,7 +322,7 @@ Follows R.Insert1 (Operate c o) a ps =
     × IsBefore n o.id
     × (ps ≡ gives (Operate c (moved o [] (K.Elem o.id) (M.Assign v))) (ToContext d) ∷ [])
     × (a ≡ ToContext (with_next (K.Elem o.id) n (with_next o.cursor.last (To o.id) d)))
-Follows R.Insert2 (Operate c o) a ps =
+FollowsFifty R.Insert2 (Operate c o) a ps =
     (v : Value) × (n : Id) × (d : Context)
     × (o.cursor.path ≡ [])
     × (o.mutation ≡ M.Insert v)
@@ -329,67 +330,92 @@ Follows R.Insert2 (Operate c o) a ps =
     × (id_cmp o.id n ≡ Less)
     × (ps ≡ gives (Operate c (moved o [] (K.Elem n) o.mutation)) (ToContext d) ∷ [])
     × (a ≡ ToContext d)
-Follows R.Delete (Operate c o) a ps =
+FollowsFifty R.Delete (Operate c o) a ps =
     (d : Context) × (s : List Id)
     × (o.cursor.path ≡ [])
     × (o.mutation ≡ M.Delete)
     × (ps ≡ gives (ClearElem c o.deps o.cursor.last) (Cleared d s) ∷ [])
     × (a ≡ ToContext d)
 -- Clearing
-Follows R.ClearElem (ClearElem c deps k) a ps =
+FollowsFifty R.ClearElem (ClearElem c deps k) a ps =
     (d : Context) × (s1 : List Id) × (s2 : List Id)
     × (ps ≡ gives (ClearAny c deps k) (Cleared d s1)
     ∷ gives (Presence d k) (ToIds s2)
     ∷ [])
     × (a ≡ Cleared (with_presence k (without (union s1 s2) deps) d) (without (union s1 s2) deps))
-Follows R.ClearAny (ClearAny c deps k) a ps =
+FollowsFifty R.ClearAny (ClearAny c deps k) a ps =
     (c1 : Context) × (s1 : List Id) × (c2 : Context) × (s2 : List Id) × (c3 : Context) × (s3 : List Id)
     × (ps ≡ gives (Clear c deps (MapT k)) (Cleared c1 s1)
     ∷ gives (Clear c1 deps (ListT k)) (Cleared c2 s2)
     ∷ gives (Clear c2 deps (RegT k)) (Cleared c3 s3)
     ∷ [])
     × (a ≡ Cleared c3 (union s1 (union s2 s3)))
-Follows R.ClearNone (Clear c deps k) a ps =
+FollowsFifty R.ClearNone (Clear c deps k) a ps =
     (content k c ≡ None)
     × (ps ≡ [])
     × (a ≡ Cleared c [])
-Follows R.ClearReg (Clear c deps (RegT k)) a ps =
+FollowsFifty R.ClearReg (Clear c deps (RegT k)) a ps =
     (r : Register)
     × (content (RegT k) c ≡ Some (Values r))
     × (ps ≡ [])
     × (a ≡ Cleared (with_content (RegT k) (Values (kept deps r)) c) (keys_of (kept deps r)))
-Follows R.ClearMap1 (Clear c deps (MapT k)) a ps =
+FollowsFifty R.ClearMap1 (Clear c deps (MapT k)) a ps =
     (d : Context) × (e : Context) × (s : List Id)
     × (content (MapT k) c ≡ Some (Node d))
     × (ps ≡ gives (ClearMap d deps []) (Cleared e s) ∷ [])
     × (a ≡ Cleared (with_content (MapT k) (Node e) c) s)
-Follows R.ClearMap2 (ClearMap c deps done) a ps =
+FollowsFifty R.ClearMap2 (ClearMap c deps done) a ps =
     (k : Key) × (c1 : Context) × (s1 : List Id) × (c2 : Context) × (s2 : List Id)
     × (least_left done c ≡ Some k)
     × (ps ≡ gives (ClearElem c deps k) (Cleared c1 s1)
     ∷ gives (ClearMap c1 deps (k ∷ done)) (Cleared c2 s2)
     ∷ [])
     × (a ≡ Cleared c2 (union s1 s2))
-Follows R.ClearMap3 (ClearMap c deps done) a ps =
+FollowsFifty R.ClearMap3 (ClearMap c deps done) a ps =
     (least_left done c ≡ None)
     × (ps ≡ [])
     × (a ≡ Cleared c [])
-Follows R.ClearList1 (Clear c deps (ListT k)) a ps =
+FollowsFifty R.ClearList1 (Clear c deps (ListT k)) a ps =
     (d : Context) × (e : Context) × (s : List Id)
     × (content (ListT k) c ≡ Some (Node d))
     × (ps ≡ gives (ClearList d deps (Some K.Head)) (Cleared e s) ∷ [])
     × (a ≡ Cleared (with_content (ListT k) (Node e) c) s)
-Follows R.ClearList2 (ClearList c deps (Some k)) a ps =
+FollowsFifty R.ClearList2 (ClearList c deps (Some k)) a ps =
     (n : Next) × (c1 : Context) × (s1 : List Id) × (c2 : Context) × (s2 : List Id)
     × (next k c ≡ Some n)
     × (ps ≡ gives (ClearElem c deps k) (Cleared c1 s1)
     ∷ gives (ClearList c1 deps (after n)) (Cleared c2 s2)
     ∷ [])
     × (a ≡ Cleared c2 (union s1 s2))
-Follows R.ClearList3 (ClearList c deps None) a ps =
+FollowsFifty R.ClearList3 (ClearList c deps None) a ps =
     (ps ≡ [])
     × (a ≡ Cleared c [])
-Follows _ _ _ _ = ⊥
+FollowsFifty _ _ _ _ = ⊥
+
+-- each node follows by one of the fifty rules from its premises
+abbrev mutual
+  pub HoldsFifty : Derivation → Type 0
+  HoldsFifty (derive r (gives q a) ps) = FollowsFifty r q a (conclusions ps) × AllHoldFifty ps
+
+  pub AllHoldFifty : Premises → Type 0
+  AllHoldFifty none = Unit {0}
+  AllHoldFifty (premise d ps) = HoldsFifty d × AllHoldFifty ps
+
+-- The rule that version 2 has beside them (RECV-ONE): of what the other replica offers the operation with the
+-- identifier is received.
+abbrev pub TakesOne : Question → Answer → List Judgement → Type 0
+TakesOne (Occur A (E.Take p q i) sent) a ps =
+    (rest : List Cmd) × (o : Op)
+    × (A.left ≡ Yield ∷ rest)
+    × (op_of i sent ≡ Some o)
+    × (ps ≡ [])
+    × (a ≡ ToState (record A { acted = true; recv = both A.recv (o ∷ []) }))
+TakesOne _ _ _ = ⊥
+
+-- The table: this rule, and the fifty.
+abbrev pub Follows : Rule → Question → Answer → List Judgement → Type 0
+Follows R.RecvOne q a ps = TakesOne q a ps
+Follows r q a ps = FollowsFifty r q a ps
 
 -- each node follows by its rule from its premises
 abbrev mutual

@@ -15,6 +15,7 @@ mod rule;
 mod text;
 mod trace;
 mod value;
+mod version;
 pub mod worked;
 
 pub use id::Id;
@@ -29,3 +30,4 @@ pub use rule::Rule;
 pub use text::{Text, name_at};
 pub use trace::{Trace, TraceMark};
 pub use value::Value;
+pub use version::Version;

@@ -83,6 +83,8 @@ pub enum Event {
     Send(u16),
     /// At a yield: takes what the second replica offers.
     Recv(u16, u16),
+    /// At a yield: takes one operation of what the second replica offers.
+    Take(u16, u16, Id),
     /// At a yield: applies a received operation.
     Apply(u16, Id),
     /// Ends the yield.
@@ -97,6 +99,7 @@ impl Event {
         match self {
             Event::Exec(p) | Event::Send(p) | Event::Done(p) => *p,
             Event::Recv(p, _) => *p,
+            Event::Take(p, _, _) => *p,
             Event::Apply(p, _) => *p,
         }
     }

@@ -32,6 +32,7 @@ pub enum Rule {
     ApplyLocal,
     Send,
     Recv,
+    RecvOne,
     ApplyRemote,
     Done,
     Descend,
@@ -62,7 +63,7 @@ pub enum Rule {
 }
 
 /// Every rule, in the order of the table.
-const RULES: [Rule; 50] = [
+const RULES: [Rule; 51] = [
     Rule::Exec,
     Rule::Let,
     Rule::Var,
@@ -86,6 +87,7 @@ const RULES: [Rule; 50] = [
     Rule::ApplyLocal,
     Rule::Send,
     Rule::Recv,
+    Rule::RecvOne,
     Rule::ApplyRemote,
     Rule::Done,
     Rule::Descend,
@@ -144,6 +146,7 @@ impl Rule {
             Rule::ApplyLocal => "APPLY-LOCAL",
             Rule::Send => "SEND",
             Rule::Recv => "RECV",
+            Rule::RecvOne => "RECV-ONE",
             Rule::ApplyRemote => "APPLY-REMOTE",
             Rule::Done => "DONE",
             Rule::Descend => "DESCEND",

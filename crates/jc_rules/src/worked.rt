@@ -4,9 +4,9 @@
 ghost use Rattle.jc_rules.specs.Worked.Registers.{FirstAssignment, KeysOfDocument, ValuesOfRegister, VariableGoesOn, RegisterDeleted, LaterAssignment, ConcurrentAssignment, ValuesOfBoth, KeysPastDeleted, AssignmentOfDocument};
 ghost use Rattle.jc_rules.specs.Worked.Maps.{FirstMap, AssignmentOverMap, MapOverAssignment, ValuesUnderMap, KeysOfInnerMap, MapOfTwoDeleted, NothingDeleted};
 ghost use Rattle.jc_rules.specs.Worked.Lists.{FirstList, InsertAtHead, InsertAfterElement, DeleteElement, IndexPastTombstone, WholeListDeleted, InsertOfMap};
-ghost use Rattle.jc_rules.specs.Worked.Inserts.{SendsMade, YieldEnds, ReceivesOffered, ReceivesOwn, AppliesReceived, ConcurrentInsert, InsertBeforeLesser, InsertLater};
+ghost use Rattle.jc_rules.specs.Worked.Inserts.{SendsMade, YieldEnds, ReceivesOffered, TakesOffered, ReceivesOwn, AppliesReceived, ConcurrentInsert, InsertBeforeLesser, InsertLater};
 ghost use Rattle.jc_rules.specs.Worked.Deletions.{MapDeletion, AssignmentInDeletedMap, ListDeletion, ListAfterDeletion};
-ghost use Rattle.jc_rules.specs.Worked.Stuck.{SendBeforeYield, RunAtYield, DoneTooEarly, ApplyTwice, ApplyUnreceived, RunPastScript, DonePastScript, DependencyMissing, IndexInNothing, IndexInMap, IndexPastEnd, VariableUnbound, KeysOfNothing, ValuesOfNothing, InsertInNothing, AssignmentToNames, KeyOfHead, KeyTooDeep, KeysOfRegister, KeysInNothing, ValuesInNothing, KeysBelowRegister, FromNobody, ByNobody, OfNobody};
+ghost use Rattle.jc_rules.specs.Worked.Stuck.{SendBeforeYield, RunAtYield, DoneTooEarly, ApplyTwice, ApplyUnreceived, RunPastScript, DonePastScript, DependencyMissing, IndexInNothing, IndexInMap, IndexPastEnd, VariableUnbound, KeysOfNothing, ValuesOfNothing, InsertInNothing, AssignmentToNames, KeyOfHead, KeyTooDeep, KeysOfRegister, KeysInNothing, ValuesInNothing, KeysBelowRegister, FromNobody, ByNobody, OfNobody, TakeUnoffered, TakeInFirst, TakeFromNobody};
 ghost use Rattle.jc_rules.specs.Worked.Schedules.{InsertsMeet, MapDeletionMeets, ListDeletionMeets};
 
 /// One assignment on a fresh replica.
@@ -142,6 +142,11 @@ pub fn yield_ends()
 /// A replica takes what another one offers.
 pub fn receives_offered()
     ensures { ReceivesOffered }
+{}
+
+/// One of the operations that another replica offers is received.
+pub fn takes_offered()
+    ensures { TakesOffered }
 {}
 
 /// A replica takes what it offers itself.
@@ -327,4 +332,19 @@ pub fn by_nobody()
 /// Stuck: an operation of a replica that isn't there is only missing among those received.
 pub fn of_nobody()
     ensures { OfNobody }
+{}
+
+/// To take an operation that isn't offered.
+pub fn take_unoffered()
+    ensures { TakeUnoffered }
+{}
+
+/// To take one in version 1.
+pub fn take_in_first()
+    ensures { TakeInFirst }
+{}
+
+/// To take one of a replica that isn't there, whatever the version.
+pub fn take_from_nobody()
+    ensures { TakeFromNobody }
 {}

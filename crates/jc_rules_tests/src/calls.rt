@@ -2,8 +2,8 @@
 
 use crate::testing::{holds, is_text};
 use jc_rules::{
-    Cursor, Event, Id, IdSet, Key, Mutation, Next, Op, Path, Tagged, Text, Value, compare_ids,
-    compare_keys, name_at,
+    Cursor, Event, Id, IdSet, Key, Mutation, Next, Op, Path, Tagged, Text, Value, Version,
+    compare_ids, compare_keys, name_at,
 };
 use std::alloc::{AllocError, Global};
 use std::cmp::Ordering;
@@ -152,9 +152,21 @@ fn events_name_their_replica(rt: HostRuntime) {
         Event::Exec(3),
         Event::Send(3),
         Event::Recv(3, 4),
+        Event::Take(3, 4, id(1, 5)),
         Event::Apply(3, id(1, 4)),
         Event::Done(3),
     ] {
         are_same(&rt, &event.replica(), &3);
     }
+}
+
+/// Takes are of version 2 alone.
+#[test]
+fn versions_allow_events(rt: HostRuntime) {
+    let take = Event::Take(0, 1, id(1, 1));
+    let recv = Event::Recv(0, 1);
+    holds(&rt, "take in 1", !Version::One.allows(&take));
+    holds(&rt, "take in 2", Version::Two.allows(&take));
+    holds(&rt, "recv in 1", Version::One.allows(&recv));
+    holds(&rt, "recv in 2", Version::Two.allows(&recv));
 }

@@ -8,6 +8,7 @@ use std::test::Fail;
 const RULES: &[(&str, Option<Rule>)] = &[
     ("CLEAR-LIST3", Some(Rule::ClearList3)),
     ("IDX3", Some(Rule::Idx3)),
+    ("RECV-ONE", Some(Rule::RecvOne)),
     ("idx3", None),
     ("", None),
 ];
@@ -18,8 +19,8 @@ const REFUSALS: &[(u8, Option<Refusal>)] = &[
     (58, Some(Refusal::BadLine)),
     (0, None),
     (21, None),
-    (39, None),
-    (44, None),
+    (39, Some(Refusal::WrongVersion)),
+    (44, Some(Refusal::GivenStuck)),
     (48, None),
     (49, None),
     (59, None),

@@ -68,6 +68,7 @@ step R.MakeOp (Make p A cur m) a ps (B, e1, e2) g =
 step R.ApplyLocal (ApplyOp p A o) a ps (t, e1, e2) g = rw e2 (with_more_in o.id A.ops)
 step R.Send (Occur A (E.Send p) os) a ps (rest, e1, e2, e3) g = rw e3 (λ i h. h)
 step R.Recv (Occur A (E.Recv p q) os) a ps (rest, e1, e2, e3) g = rw e3 (λ i h. h)
+step R.RecvOne (Occur A (E.Take p q i) os) a ps (rest, o, e1, e2, e3, e4) g = rw e4 (λ j h. h)
 step R.ApplyRemote (Occur A (E.Apply p i) os) a ps (rest, o, t, e1, e2, e3, d, e4, e5) g = rw e5 (with_more_in i A.ops)
 step R.Done (Occur A (E.Done p) os) a ps (rest, e1, e2, e3, e4) g = rw e4 (λ i h. h)
 step _ _ a ps h g = absurd h

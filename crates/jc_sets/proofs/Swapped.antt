@@ -109,6 +109,7 @@ module _ (P : Id → Type 0) (e : List Id) where
   step R.ApplyLocal (ApplyOp p A o) a ps h k0 = absurd k0
   step R.Send (Occur A (E.Send p) _) a ps h k0 = absurd k0
   step R.Recv (Occur A (E.Recv p q) sent) a ps h k0 = absurd k0
+  step R.RecvOne (Occur A (E.Take p q i) sent) a ps h k0 = absurd k0
   step R.ApplyRemote (Occur A (E.Apply p i) _) a ps h k0 = absurd k0
   step R.Done (Occur A (E.Done p) _) a ps h k0 = absurd k0
   step R.Descend (Operate c o) a ps (k1, rest, d, en, c2, e1, e2, e3) k =

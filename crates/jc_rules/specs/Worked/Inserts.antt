@@ -118,6 +118,10 @@ b_applied = record b_received { tree = new_tree; ops = by_a 1 ∷ [] }
 abbrev pub ReceivesOffered : Type 0
 ReceivesOffered = IsWorked (start b_script) (E.Recv 1 0) (make_list ∷ []) b_received ((R.Recv, 0) ∷ [])
 
+-- `b.take(a, 1, a)`: it offers no other, so this comes to the same, by another rule
+abbrev pub TakesOffered : Type 0
+TakesOffered = IsWorked (start b_script) (E.Take 1 0 (by_a 1)) (make_list ∷ []) b_received ((R.RecvOne, 0) ∷ [])
+
 -- `a.recv(a)`, as a step of a network of a alone: a receives what it offers itself
 abbrev pub ReceivesOwn : Type 0
 ReceivesOwn = Step

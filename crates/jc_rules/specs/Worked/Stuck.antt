@@ -5,12 +5,15 @@ use Rattle.jc_rules.specs.declared.key.Tagged.{Tagged}
 use Rattle.jc_rules.specs.declared.key.Tagged.TheVariants.{MapT, ListT}
 use Rattle.jc_rules.specs.declared.operation.Event.{Event}
 use Rattle.jc_rules.specs.declared.operation.Event.TheVariants as E
+use Rattle.jc_rules.specs.declared.version.Version.{Version}
+use Rattle.jc_rules.specs.declared.version.Version.TheVariants.{One, Two}
 use Rattle.jc_rules.specs.Context.{empty}
 use Rattle.jc_rules.specs.Syntax.{Expr, TheDoc, Variable, GetKey, Index, KeysOf, ValuesOf, LetIn, SetTo, InsertAfter, Yield}
 use Rattle.jc_rules.specs.State.{State, start, ACursor, Names}
 use Rattle.jc_rules.specs.Derivation.{Occur}
-use Rattle.jc_rules.specs.Refused.{Cause, because, no_node, Refused, IsStuck}
+use Rattle.jc_rules.specs.Refused.{Cause, because, no_node, Refused, IsStuck, IsStuckIn}
 use Rattle.jc_rules.specs.declared.refusal.Refusal.TheVariants as F
+use Rattle.jc_rules.specs.Step.{Network}
 use Rattle.jc_rules.specs.Table.{cursor}
 use Rattle.jc_rules.specs.Worked.{by_a, alone}
 use Rattle.jc_rules.specs.Worked.Registers.{one, assign_one, assign_two, assigned}
@@ -135,3 +138,17 @@ ByNobody = IsStuck (start (Yield ∷ []) ∷ []) (E.Exec 1) (because F.NoSuchRep
 
 abbrev pub OfNobody : Type 0
 OfNobody = IsStuck (start (Yield ∷ []) ∷ []) (E.Apply 0 (record { counter = 1; replica = 1 })) (because F.NotReceived)
+
+-- It takes an operation that it doesn't offer itself; where scenarios have no such events; and from a second replica,
+-- which isn't there.
+abbrev pub in_version : Version → Network
+in_version version = record { version = version; states = start (Yield ∷ []) ∷ [] }
+
+abbrev pub TakeUnoffered : Type 0
+TakeUnoffered = IsStuckIn (in_version Two) (E.Take 0 0 (by_a 1)) (because F.NotReceived)
+
+abbrev pub TakeInFirst : Type 0
+TakeInFirst = IsStuckIn (in_version One) (E.Take 0 0 (by_a 1)) (because F.WrongVersion)
+
+abbrev pub TakeFromNobody : Type 0
+TakeFromNobody = IsStuckIn (in_version One) (E.Take 0 1 (by_a 1)) (because F.NoSuchReplica)

@@ -1,0 +1,5 @@
+use Rattle.jc_rules.proofs.Versions.{one_after_in}
+use Rattle.jc_rules.proofs.laws.one_after_in.Goals as goal
+
+pub returns : goal.returns
+returns c = one_after_in
