@@ -9,7 +9,7 @@ use Rattle.jc_parser.specs.Reading.{◌>>=◌, one, named_at}
 use Rattle.jc_parser.specs.Parts.{ended}
 use Rattle.jc_parser.specs.Language.{is_numeral, numeral_value}
 use Rattle.jc_parser.specs.LanguageParts.{index_at}
-use Rattle.jc_parser.specs.Calls.{Call, executes, sends, receives, applies, ends, IsCallSpelled, IsCallWellFormed, IsCounterPast, IsCallExcess}
+use Rattle.jc_parser.specs.Calls.{Call, executes, sends, receives, takes, applies, ends, IsCallSpelled, IsCallWellFormed, IsCounterPast, IsCallExcess}
 use Rattle.jc_parser.specs.CallParts.{last_name_at, sender_at, application_at, action_at, any_event_at}
 use Rattle.jc_parser.proofs.Expressions.{Within}
 use Rattle.jc_parser.proofs.Spelled.{reading, at_place, Answers}
@@ -88,6 +88,7 @@ unfolding any_event_at action_at named_at one
 call_again k (executes p) w y stop text within = word_again k (executes p) p (codes "exec") w y stop (λ a b d. refl) text
 call_again k (sends p) w y stop text within = word_again k (sends p) p (codes "send") w y stop (λ a b d. refl) text
 call_again k (receives p q) w y stop text within = receipt_again k p q w y stop text
+call_again k (takes p q counter r) w y stop text within = absurd text
 call_again k (applies p counter q) w y stop (digits, numeral, same, text) within = application_again k p q counter digits w y stop numeral same within text
 call_again k (ends p) w y stop text within = word_again k (ends p) p (codes "done") w y stop (λ a b d. refl) text
 

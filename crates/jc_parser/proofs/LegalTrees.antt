@@ -11,7 +11,7 @@ use Rattle.jc_syntax.specs.Lexemes.{AreTokensOf, IsTokenOf}
 use Rattle.jc_parser.specs.Symbols.{Symbol, dot, open_paren, close_paren, close_brace, assign, word, semicolon, lexemes, symbols}
 use Rattle.jc_parser.specs.Language.{IsSpelled}
 use Rattle.jc_parser.specs.Scripts.{IsValueSpelled, IsCommandSpelled, IsScriptSpelled}
-use Rattle.jc_parser.specs.Calls.{Call, executes, sends, receives, applies, ends, call_of, IsCallSpelled}
+use Rattle.jc_parser.specs.Calls.{Call, executes, sends, receives, takes, applies, ends, call_of, IsCallSpelled}
 use Rattle.jc_parser.specs.ClosedScripts.{IsClosedSpelled}
 use Rattle.jc_parser.specs.Words.{IsListText}
 use Rattle.jc_parser.specs.Trees.{Part, Tree, tree_of, ArePartsSpelled, IsScheduleSpelled, IsTreeSpelled}
@@ -75,6 +75,7 @@ call_legal : (call : Call) (w : List Symbol) → IsCallSpelled call w → AreLeg
 call_legal (executes p) w h l = (subst AreLegal h l).0
 call_legal (sends p) w h l = (subst AreLegal h l).0
 call_legal (receives p q) w h l = let all = subst AreLegal h l in (all.0, all.1.1.1.1.0)
+call_legal (takes p q counter r) w h l = absurd h
 call_legal (applies p counter q) w (digits, numeral, counts, is) l = let all = subst AreLegal is l in (all.0, all.1.1.1.1.1.1.0)
 call_legal (ends p) w h l = (subst AreLegal h l).0
 

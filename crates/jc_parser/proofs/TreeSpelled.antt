@@ -11,7 +11,7 @@ use Rattle.jc_parser.specs.Words.{is_reserved, IsListText}
 use Rattle.jc_parser.specs.Scripts.{IsScriptWellFormed}
 use Rattle.jc_parser.specs.ScriptParts.{closed_script_at}
 use Rattle.jc_parser.specs.ClosedScripts.{IsClosedSpelled}
-use Rattle.jc_parser.specs.Calls.{Call, executes, sends, receives, applies, ends, call_of, IsCallSpelled, IsCallWellFormed}
+use Rattle.jc_parser.specs.Calls.{Call, executes, sends, receives, takes, applies, ends, call_of, IsCallSpelled, IsCallWellFormed}
 use Rattle.jc_parser.specs.CallParts.{any_event_at}
 use Rattle.jc_parser.specs.Trees.{Part, NamedTree, IsPartSpelled, ArePartsSpelled, IsScheduleSpelled}
 use Rattle.jc_parser.specs.TreeParts.{is_among, other_name_at, new_name_at, body_at, part_at, events_at, block_at, schedule_at, tree, with_part, tail_at}
@@ -49,6 +49,7 @@ pub call_first : (c : Call) (w y : List Lexeme) → IsCallSpelled c (symbols w) 
 call_first (executes p) w y text = named_first w y p _ (split_one w (word p) _ text)
 call_first (sends p) w y text = named_first w y p _ (split_one w (word p) _ text)
 call_first (receives p q) w y text = named_first w y p _ (split_one w (word p) _ text)
+call_first (takes p q counter r) w y text = absurd text
 call_first (applies p counter q) w y (digits, numeral, same, text) = named_first w y p _ (split_one w (word p) _ text)
 call_first (ends p) w y text = named_first w y p _ (split_one w (word p) _ text)
 

@@ -16,6 +16,7 @@ pub data Call : Type 0 where
   executes : List ℕ → Call
   sends : List ℕ → Call
   receives : List ℕ → List ℕ → Call
+  takes : List ℕ → List ℕ → ℕ → List ℕ → Call
   applies : List ℕ → ℕ → List ℕ → Call
   ends : List ℕ → Call
 
@@ -26,10 +27,12 @@ call_of (Recv p q) = receives p.name q.name
 call_of (Apply p counter q) = applies p.name counter q.name
 call_of (Done p) = ends p.name
 
+-- no text is a take
 abbrev pub IsCallSpelled : Call → List Symbol → Type 0
 IsCallSpelled (executes p) w = w ≡ word p ∷ dot ∷ word (codes "exec") ∷ []
 IsCallSpelled (sends p) w = w ≡ word p ∷ dot ∷ word (codes "send") ∷ []
 IsCallSpelled (receives p q) w = w ≡ word p ∷ dot ∷ word (codes "recv") ∷ open_paren ∷ word q ∷ close_paren ∷ []
+IsCallSpelled (takes p q counter r) w = ⊥
 IsCallSpelled (applies p counter q) w =
     (digits : List ℕ)
     × (is_numeral digits ≡ true)
@@ -39,6 +42,7 @@ IsCallSpelled (ends p) w = w ≡ word p ∷ dot ∷ word (codes "done") ∷ []
 
 abbrev pub IsCallWellFormed : Call → Type 0
 IsCallWellFormed (applies p counter q) = counter < 4294967296
+IsCallWellFormed (takes p q counter r) = counter < 4294967296
 IsCallWellFormed call = Unit {0}
 
 -- a counter of 2 to the 32 or more comes next

@@ -3,13 +3,13 @@ use Rattle.std.specs.Prelude.{◌≡◌, ℕ, ◌<◌, ◌≤◌, List, length, 
 use Rattle.std.specs.List.{AllPass}
 use Rattle.std.specs.Str.{IsUtf8}
 use Rattle.jc_rules.specs.declared.operation.Event.{Event}
-use Rattle.jc_rules.specs.declared.operation.Event.TheVariants.{Exec, Send, Recv, Apply, Done}
+use Rattle.jc_rules.specs.declared.operation.Event.TheVariants.{Exec, Send, Recv, Take, Apply, Done}
 use Rattle.jc_rules.specs.declared.value.Value.{Value}
 use Rattle.jc_rules.specs.declared.value.Value.TheVariants as values
 use Rattle.jc_rules.specs.Syntax.{Expr, TheDoc, Variable, GetKey, Index, KeysOf, ValuesOf, Cmd, LetIn, SetTo, InsertAfter, DeleteAt, Yield}
 use Rattle.jc_syntax.specs.Bytes.{is_name_start, is_name_byte}
 use Rattle.jc_syntax.specs.Numbers.{IsNumber}
-use Rattle.jc_parser.specs.Calls.{Call, executes, sends, receives, applies, ends}
+use Rattle.jc_parser.specs.Calls.{Call, executes, sends, receives, takes, applies, ends}
 use Rattle.jc_parser.specs.Trees.{Part, Tree}
 use Rattle.jc_rules.specs.Names.{name_at}
 
@@ -52,6 +52,7 @@ abbrev pub IsLegalCall : Call → Type 0
 IsLegalCall (executes p) = IsName p
 IsLegalCall (sends p) = IsName p
 IsLegalCall (receives p q) = IsName p × IsName q
+IsLegalCall (takes p q counter r) = IsName p × IsName q × IsName r
 IsLegalCall (applies p counter q) = IsName p × IsName q
 IsLegalCall (ends p) = IsName p
 
@@ -60,12 +61,14 @@ abbrev pub call_by : List (List ℕ) → Event → Call
 call_by names (Exec p) = executes (name_at names p)
 call_by names (Send p) = sends (name_at names p)
 call_by names (Recv p q) = receives (name_at names p) (name_at names q)
+call_by names (Take p q i) = takes (name_at names p) (name_at names q) i.counter (name_at names i.replica)
 call_by names (Apply p i) = applies (name_at names p) i.counter (name_at names i.replica)
 call_by names (Done p) = ends (name_at names p)
 
 -- a counter that a text may have
 abbrev pub IsCounterBelow : Event → Type 0
 IsCounterBelow (Apply p i) = i.counter < 4294967296
+IsCounterBelow (Take p q i) = i.counter < 4294967296
 IsCounterBelow e = Unit {0}
 
 -- ---- scenarios

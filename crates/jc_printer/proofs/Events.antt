@@ -5,7 +5,9 @@ use Rattle.std.specs.List.{All}
 use Rattle.std.proofs.lemmas.List.Elements.{All-get_or}
 use Rattle.std.proofs.lemmas.Option.{unwrap_or-slice_get}
 use Rattle.jc_rules.specs.declared.operation.Event.{Event}
-use Rattle.jc_rules.specs.declared.operation.Event.TheVariants.{Exec, Send, Recv, Apply, Done}
+use Rattle.jc_rules.specs.declared.operation.Event.TheVariants.{Exec, Send, Recv, Take, Apply, Done}
+use Rattle.jc_rules.specs.declared.version.Version.TheVariants.{One}
+use Rattle.jc_rules.specs.Version.{Allows}
 use Rattle.jc_syntax.specs.declared.tree.Named.{Named}
 use Rattle.jc_syntax.specs.declared.tree.NamedEvent.{NamedEvent}
 use Rattle.jc_syntax.specs.declared.tree.NamedEvent.TheVariants as named
@@ -57,28 +59,29 @@ apply_printed name digits author is digits_is author_is =
     put (word name) (dot ∷ word (codes "apply") ∷ open_paren ∷ number digits ∷ comma ∷ word author ∷ close_paren ∷ []) name (codes ".apply(" ++ (digits ++ (codes ", " ++ (author ++ codes ")")))) (refl, is, refl)
     (dotted (codes "apply") (open_paren ∷ number digits ∷ comma ∷ word author ∷ close_paren ∷ []) (40 ∷ (digits ++ (codes ", " ++ (author ++ codes ")")))) (keyword (codes "apply") refl refl (omega arith)) refl (identifier_printed digits author digits_is author_is))
 
-pub event_printed : (names : List (List ℕ)) (e : Event) → All IsName names → AreNamed e (length names) → IsCounterBelow e → IsCallPrinted names e
-event_printed names (Exec p) all within small = record {
+pub event_printed : (names : List (List ℕ)) (e : Event) → All IsName names → AreNamed e (length names) → IsCounterBelow e → Allows e One → IsCallPrinted names e
+event_printed names (Exec p) all within small allowed = record {
   text = word (name_at names p) ∷ dot ∷ word (codes "exec") ∷ [];
   spelled = refl;
   printed = plain_printed (name_at names p) (codes "exec") (named_legal names p all within) (keyword (codes "exec") refl refl (omega arith));
 }
-event_printed names (Send p) all within small = record {
+event_printed names (Send p) all within small allowed = record {
   text = word (name_at names p) ∷ dot ∷ word (codes "send") ∷ [];
   spelled = refl;
   printed = plain_printed (name_at names p) (codes "send") (named_legal names p all within) (keyword (codes "send") refl refl (omega arith));
 }
-event_printed names (Done p) all within small = record {
+event_printed names (Done p) all within small allowed = record {
   text = word (name_at names p) ∷ dot ∷ word (codes "done") ∷ [];
   spelled = refl;
   printed = plain_printed (name_at names p) (codes "done") (named_legal names p all within) (keyword (codes "done") refl refl (omega arith));
 }
-event_printed names (Recv p q) all within small = record {
+event_printed names (Recv p q) all within small allowed = record {
   text = word (name_at names p) ∷ dot ∷ word (codes "recv") ∷ open_paren ∷ word (name_at names q) ∷ close_paren ∷ [];
   spelled = refl;
   printed = subst (IsPrinted (word (name_at names p) ∷ dot ∷ word (codes "recv") ∷ open_paren ∷ word (name_at names q) ∷ close_paren ∷ [])) (sym (regroup_three (name_at names p) (codes ".recv(") (name_at names q) (codes ")"))) (recv_printed (name_at names p) (name_at names q) (named_legal names p all within.0) (named_legal names q all within.1));
 }
-event_printed names (Apply p i) all within small =
+event_printed names (Take p q i) all within small allowed = absurd allowed
+event_printed names (Apply p i) all within small allowed =
     let fits : i.counter < 2 ^ 64 = omega (arith, small) in
     record {
       text = word (name_at names p) ∷ dot ∷ word (codes "apply") ∷ open_paren ∷ number (decimal i.counter) ∷ comma ∷ word (name_at names i.replica) ∷ close_paren ∷ [];
@@ -116,6 +119,7 @@ named_event names (Recv p q) ls small spelled =
     let here = nth_stands ls 0 (omega (arith, ap length spelled)) in
     let other = nth_stands ls 4 (omega (arith, ap length spelled)) in
     record { event = named.Recv (stood (name_at names p) here.0) (stood (name_at names q) other.0); same = refl; is = record { spelled = spelled; within = tt; placed = (here.1, other.1) } }
+named_event names (Take p q i) ls small spelled = absurd spelled
 named_event names (Apply p i) ls small spelled =
     let here = nth_stands ls 0 (omega (arith, ap length spelled.3)) in
     let author = nth_stands ls 6 (omega (arith, ap length spelled.3)) in

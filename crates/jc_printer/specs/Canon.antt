@@ -2,7 +2,7 @@
 use Rattle.std.specs.Prelude.{ℕ, ◌/◌, ◌%◌, ◌<◌, Bool, not, ◌&&◌, ◌==◌, nat_le, if◌then◌else◌, List, [], ◌∷◌, ◌++◌, codes, decimal, flat_map}
 use Rattle.std.specs.Char.{digit_char}
 use Rattle.jc_rules.specs.declared.operation.Event.{Event}
-use Rattle.jc_rules.specs.declared.operation.Event.TheVariants.{Exec, Send, Recv, Apply, Done}
+use Rattle.jc_rules.specs.declared.operation.Event.TheVariants.{Exec, Send, Recv, Take, Apply, Done}
 use Rattle.jc_rules.specs.declared.value.Value.{Value}
 use Rattle.jc_rules.specs.declared.value.Value.TheVariants as V
 use Rattle.jc_rules.specs.Names.{name_at}
@@ -71,6 +71,9 @@ abbrev pub canon_event : List (List ℕ) → Event → List ℕ
 canon_event names (Exec p) = name_at names p ++ codes ".exec"
 canon_event names (Send p) = name_at names p ++ codes ".send"
 canon_event names (Recv p q) = name_at names p ++ codes ".recv(" ++ name_at names q ++ codes ")"
+canon_event names (Take p q i) =
+    name_at names p ++ codes ".take(" ++ name_at names q ++ codes ", " ++ decimal i.counter ++ codes ", "
+    ++ name_at names i.replica ++ codes ")"
 canon_event names (Apply p i) =
     name_at names p ++ codes ".apply(" ++ decimal i.counter ++ codes ", " ++ name_at names i.replica ++ codes ")"
 canon_event names (Done p) = name_at names p ++ codes ".done"
@@ -80,5 +83,6 @@ abbrev pub AreNamed : Event → ℕ → Type 0
 AreNamed (Exec p) n = p < n
 AreNamed (Send p) n = p < n
 AreNamed (Recv p q) n = (p < n) × (q < n)
+AreNamed (Take p q i) n = (p < n) × (q < n) × (i.replica < n)
 AreNamed (Apply p i) n = (p < n) × (i.replica < n)
 AreNamed (Done p) n = p < n

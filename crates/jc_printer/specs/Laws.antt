@@ -2,7 +2,9 @@
 -- tokens have and the text isn't too long.
 use Rattle.std.specs.Prelude.{◌≡◌, ℕ, ◌≤◌, List, length, All}
 use Rattle.jc_rules.specs.declared.operation.Event.{Event}
+use Rattle.jc_rules.specs.declared.version.Version.TheVariants.{One}
 use Rattle.jc_rules.specs.Syntax.{Expr, Cmd}
+use Rattle.jc_rules.specs.Version.{Allows}
 use Rattle.jc_syntax.specs.declared.tree.NamedEvent.{NamedEvent}
 use Rattle.jc_parser.specs.Language.{IsWellFormed}
 use Rattle.jc_parser.specs.LanguageFaults.{IsExpressionOf}
@@ -20,9 +22,9 @@ ScriptsReadBack =
     (script : List Cmd) → IsScriptWellFormed script → All IsLegalCmd script → length (canon_script script) ≤ 8388608
     → IsScriptOf (canon_script script) script
 
--- an event is read back with the names of its replicas, each at its place
+-- an event of version 1 is read back with the names of its replicas, each at its place
 abbrev pub EventsReadBack : Type 0
 EventsReadBack =
     (names : List (List ℕ)) (event : Event) → All IsName names → AreNamed event (length names) → IsCounterBelow event
-    → length (canon_event names event) ≤ 8388608
+    → Allows event One → length (canon_event names event) ≤ 8388608
     → (read : NamedEvent) × IsEventOf (canon_event names event) read × (call_of read ≡ call_by names event)

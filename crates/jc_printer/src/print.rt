@@ -52,6 +52,11 @@ pub fn print_event(alloc: Global, names: &[Text], event: &Event) -> Result<Strin
         Event::Exec(p) => plain_event(alloc, name_at(names, *p), "exec"),
         Event::Send(p) => plain_event(alloc, name_at(names, *p), "send"),
         Event::Recv(p, q) => recv_event(alloc, name_at(names, *p), name_at(names, *q)),
+        Event::Take(p, q, id) => {
+            let name = name_at(names, *p);
+            let sender = name_at(names, *q);
+            take_event(alloc, name, sender, id.counter, name_at(names, id.replica))
+        }
         Event::Apply(p, id) => {
             let author = name_at(names, id.replica);
             apply_event(alloc, name_at(names, *p), id.counter, author)
@@ -70,6 +75,20 @@ fn recv_event(alloc: Global, name: &str, other: &str) -> Result<String, AllocErr
     ensures { IfOk result (λ text. string_bytes text ≡ name.now ++ codes ".recv(" ++ other.now ++ codes ")") }
 {
     format!(in alloc; "{name}.recv({other})")
+}
+
+fn take_event(
+    alloc: Global,
+    name: &str,
+    sender: &str,
+    counter: u64,
+    author: &str,
+) -> Result<String, AllocError>
+    ensures { IfOk result (λ text. string_bytes text
+        ≡ name.now ++ codes ".take(" ++ sender.now ++ codes ", " ++ decimal counter ++ codes ", " ++ author.now
+        ++ codes ")") }
+{
+    format!(in alloc; "{name}.take({sender}, {counter}, {author})")
 }
 
 fn apply_event(alloc: Global, name: &str, counter: u64, author: &str) -> Result<String, AllocError>

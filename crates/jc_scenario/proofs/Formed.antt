@@ -1,17 +1,20 @@
 -- The scenario of a legal tree is well formed.
-use Rattle.std.proofs.Common.{◌≡◌, ◌≢◌, ℕ, List, [], ◌∷◌, map, length, false, refl, sym, ap, subst, ◌∙◌, arith}
+use Rattle.std.proofs.Common.{◌≡◌, ◌≢◌, ℕ, List, [], ◌∷◌, map, length, false, inl, inr, refl, sym, ap, subst, ◌∙◌, arith}
 use Rattle.std.specs.Prelude.{All}
 use Rattle.std.proofs.lemmas.List.{length-map}
 use Rattle.std.proofs.lemmas.List.Elements.{All-nil, All-cons, All-head, All-tail, All-map}
 use Rattle.std.proofs.lemmas.List.Sorted.{All-permutation, length_permutation}
 use Rattle.jc_rules.specs.declared.operation.Event.{Event}
-use Rattle.jc_rules.specs.declared.operation.Event.TheVariants.{Exec, Send, Recv, Apply, Done}
+use Rattle.jc_rules.specs.declared.operation.Event.TheVariants.{Exec, Send, Recv, Take, Apply, Done}
+use Rattle.jc_rules.specs.declared.version.Version.TheVariants.{One}
 use Rattle.jc_rules.specs.Syntax.{Cmd}
-use Rattle.jc_parser.specs.Words.{is_reserved}
+use Rattle.jc_rules.specs.Version.{Allows}
+use Rattle.jc_parser.specs.Symbols.{Symbol}
+use Rattle.jc_parser.specs.Words.{is_reserved, IsListText}
 use Rattle.jc_parser.specs.Scripts.{IsScriptWellFormed}
-use Rattle.jc_parser.specs.Calls.{IsCallWellFormed}
+use Rattle.jc_parser.specs.Calls.{Call, IsCallSpelled, IsCallWellFormed}
 use Rattle.jc_parser.specs.Legal.{IsName, IsLegalCmd, call_by, IsCounterBelow}
-use Rattle.jc_parser.specs.Trees.{Part, Tree, name_of, IsTreeWithin}
+use Rattle.jc_parser.specs.Trees.{Part, Tree, name_of, IsScheduleSpelled, IsTreeWithin}
 use Rattle.jc_scenario.specs.Scenarios.{Scenario, parts_of, IsOfTree, IsWellFormed}
 use Rattle.jc_scenario.proofs.Apart.{names-parts}
 use Rattle.jc_scenario.proofs.Unique.{script_of, scripts-parts}
@@ -33,6 +36,7 @@ counter_below : (names : List (List ℕ)) (e : Event) → IsCallWellFormed (call
 counter_below names (Exec p) small = tt
 counter_below names (Send p) small = tt
 counter_below names (Recv p q) small = tt
+counter_below names (Take p q i) small = small
 counter_below names (Apply p i) small = small
 counter_below names (Done p) small = tt
 
@@ -41,12 +45,35 @@ each_counter names [] all = All-nil IsCounterBelow
 each_counter names (e ∷ es) all =
     All-cons IsCounterBelow e es (counter_below names e (All-head IsCallWellFormed (call_by names e) (map (call_by names) es) all)) (each_counter names es (All-tail IsCallWellFormed (call_by names e) (map (call_by names) es) all))
 
+-- what a text spells is of version 1
+event_allowed : (names : List (List ℕ)) (e : Event) (w : List Symbol) → IsCallSpelled (call_by names e) w → Allows e One
+event_allowed names (Exec p) w spelled = tt
+event_allowed names (Send p) w spelled = tt
+event_allowed names (Recv p q) w spelled = tt
+event_allowed names (Take p q i) w spelled = spelled
+event_allowed names (Apply p i) w spelled = tt
+event_allowed names (Done p) w spelled = tt
+
+listed_allowed : (names : List (List ℕ)) (es : List Event) (w : List Symbol) → IsListText IsCallSpelled (map (call_by names) es) w → All (λ e. Allows e One) es
+listed_allowed names [] w spelled = All-nil (λ e. Allows e One)
+listed_allowed names (e ∷ []) w (u, own, rest) = All-cons (λ e. Allows e One) e [] (event_allowed names e u own) (All-nil (λ e. Allows e One))
+listed_allowed names (e ∷ f ∷ es) w (u, own, inl (last, text)) = cc last
+listed_allowed names (e ∷ f ∷ es) w (u, own, inr (v, text, rest)) = All-cons (λ e. Allows e One) e (f ∷ es) (event_allowed names e u own) (listed_allowed names (f ∷ es) v rest)
+
+none_called : (names : List (List ℕ)) (es : List Event) → map (call_by names) es ≡ [] → es ≡ []
+none_called names [] none = refl
+none_called names (e ∷ es) none = cc
+
+each_allowed : (names : List (List ℕ)) (es : List Event) (w : List Symbol) → IsScheduleSpelled (map (call_by names) es) w → All (λ e. Allows e One) es
+each_allowed names es w (inl (none, text)) = subst (All (λ e. Allows e One)) (sym (none_called names es none)) (All-nil (λ e. Allows e One))
+each_allowed names es w (inr (u, listed, text)) = listed_allowed names es u listed
+
 none_there : (ps : List Part) → length ps ≡ 0 → ps ≡ []
 none_there [] e = refl
 none_there (p ∷ ps) e = absurd (omega arith)
 
-pub well_formed : (t : Tree) (s : Scenario) → IsOfTree t s → t.parts ≢ [] → IsTreeWithin t → All (λ p. IsName p.name) t.parts → All (λ p. All IsLegalCmd p.script) t.parts → IsWellFormed s
-well_formed t s is some within names commands = record {
+pub well_formed : (t : Tree) (s : Scenario) (w : List Symbol) → IsOfTree t s → t.parts ≢ [] → IsScheduleSpelled t.calls w → IsTreeWithin t → All (λ p. IsName p.name) t.parts → All (λ p. All IsLegalCmd p.script) t.parts → IsWellFormed s
+well_formed t s w is some schedule within names commands = record {
   some = λ none. some (none_there t.parts (sym (count t s is) ∙ ap length none));
   few = omega (arith, count t s is, within.parts.few);
   legal = each_name t s is IsName names;
@@ -58,4 +85,5 @@ well_formed t s is some within names commands = record {
   short = omega (arith, length-map s.schedule (call_by s.names), ap length is.called, within.few);
   known = is.known;
   counters = each_counter s.names s.schedule (subst (All IsCallWellFormed) (sym is.called) within.calls);
+  allowed = each_allowed s.names s.schedule w (subst (λ (calls : List Call). IsScheduleSpelled calls w) (sym is.called) schedule);
 }

@@ -3,7 +3,9 @@ use Rattle.std.proofs.Common.{◌≡◌, ℕ, List, [], ◌∷◌, ◌++◌, map
 use Rattle.std.specs.Prelude.{codes, flat_map, All}
 use Rattle.std.proofs.lemmas.List.Elements.{All-head, All-tail}
 use Rattle.jc_rules.specs.declared.operation.Event.{Event}
+use Rattle.jc_rules.specs.declared.version.Version.TheVariants.{One}
 use Rattle.jc_rules.specs.Syntax.{Cmd}
+use Rattle.jc_rules.specs.Version.{Allows}
 use Rattle.jc_parser.specs.Symbols.{Symbol, word, open_brace, close_brace, semicolon}
 use Rattle.jc_parser.specs.Words.{IsListText}
 use Rattle.jc_parser.specs.Scripts.{IsCommandSpelled, IsCommandWellFormed}
@@ -44,12 +46,12 @@ commands_printed (c ∷ cs) after rest legal formed p =
           (subst (IsPrinted (one.text ++ semicolon ∷ (more.text ++ after))) (sym (line_before (canon_cmd c) (canon_commands cs) rest)) (indented (one.text ++ semicolon ∷ (more.text ++ after)) _ one.printed));
     }
 
-pub events_printed : (names : List (List ℕ)) (es : List Event) (after : List Symbol) (rest : List ℕ) → All IsName names → All (λ e. AreNamed e (length names)) es → All IsCounterBelow es → IsPrinted after rest → PrintsAs (IsListText IsCallSpelled (map (call_by names) es)) (canon_events names es) after rest
-events_printed names [] after rest legal known small p = record { text = []; spelled = refl; printed = p }
-events_printed names (e ∷ es) after rest legal known small p =
+pub events_printed : (names : List (List ℕ)) (es : List Event) (after : List Symbol) (rest : List ℕ) → All IsName names → All (λ e. AreNamed e (length names)) es → All IsCounterBelow es → All (λ e. Allows e One) es → IsPrinted after rest → PrintsAs (IsListText IsCallSpelled (map (call_by names) es)) (canon_events names es) after rest
+events_printed names [] after rest legal known small allowed p = record { text = []; spelled = refl; printed = p }
+events_printed names (e ∷ es) after rest legal known small allowed p =
     let named : Event → Type 0 = λ e. AreNamed e (length names) in
-    let more = events_printed names es after rest legal (All-tail (λ e. AreNamed e (length names)) e es known) (All-tail IsCounterBelow e es small) p in
-    let one = event_printed names e legal (All-head (λ e. AreNamed e (length names)) e es known) (All-head IsCounterBelow e es small) in
+    let more = events_printed names es after rest legal (All-tail (λ e. AreNamed e (length names)) e es known) (All-tail IsCounterBelow e es small) (All-tail (λ e. Allows e One) e es allowed) p in
+    let one = event_printed names e legal (All-head (λ e. AreNamed e (length names)) e es known) (All-head IsCounterBelow e es small) (All-head (λ e. Allows e One) e es allowed) in
     let line = joined one.text (semicolon ∷ (more.text ++ after)) (canon_event names e) (59 ∷ 10 ∷ (canon_events names es ++ rest)) refl one.printed (ended (more.text ++ after) (canon_events names es ++ rest) more.printed) in
     record {
       text = one.text ++ semicolon ∷ more.text;
@@ -114,9 +116,9 @@ pub record IsSchedulePrinted (names : List (List ℕ)) (es : List Event) : Type 
   pub spelled : IsScheduleSpelled (map (call_by names) es) text
   pub printed : IsPrinted text (canon_schedule names es)
 
-pub schedule_printed : (names : List (List ℕ)) (es : List Event) → All IsName names → All (λ e. AreNamed e (length names)) es → All IsCounterBelow es → IsSchedulePrinted names es
-schedule_printed names es legal known small =
-    let body = events_printed names es (close_brace ∷ []) (125 ∷ 10 ∷ []) legal known small (closed [] [] refl) in
+pub schedule_printed : (names : List (List ℕ)) (es : List Event) → All IsName names → All (λ e. AreNamed e (length names)) es → All IsCounterBelow es → All (λ e. Allows e One) es → IsSchedulePrinted names es
+schedule_printed names es legal known small allowed =
+    let body = events_printed names es (close_brace ∷ []) (125 ∷ 10 ∷ []) legal known small allowed (closed [] [] refl) in
     let begun = opened (body.text ++ close_brace ∷ []) (canon_events names es ++ 125 ∷ 10 ∷ []) body.printed in
     let whole = put (word (codes "schedule")) (open_brace ∷ (body.text ++ close_brace ∷ [])) (codes "schedule") (32 ∷ 123 ∷ 10 ∷ (canon_events names es ++ 125 ∷ 10 ∷ [])) (refl, keyword (codes "schedule") refl refl (omega arith), refl) (spaced (open_brace ∷ (body.text ++ close_brace ∷ [])) 32 (123 ∷ 10 ∷ (canon_events names es ++ 125 ∷ 10 ∷ [])) refl begun) in
     record {

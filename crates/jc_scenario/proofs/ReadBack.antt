@@ -8,7 +8,7 @@ use Rattle.std.proofs.lemmas.List.Elements.{All-nil, All-cons, All-head, All-tai
 use Rattle.std.proofs.lemmas.List.Sorted.{IsPermutation-refl}
 use Rattle.std.proofs.lemmas.List.Sums.{AllPass-from_list_all}
 use Rattle.jc_rules.specs.declared.operation.Event.{Event}
-use Rattle.jc_rules.specs.declared.operation.Event.TheVariants.{Exec, Send, Recv, Apply, Done}
+use Rattle.jc_rules.specs.declared.operation.Event.TheVariants.{Exec, Send, Recv, Take, Apply, Done}
 use Rattle.jc_rules.specs.Syntax.{Cmd}
 use Rattle.jc_parser.specs.Symbols.{Symbol, word, number, symbols}
 use Rattle.jc_parser.specs.Words.{is_reserved}
@@ -57,6 +57,7 @@ call_small : (names : List (List ℕ)) (e : Event) → IsCounterBelow e → IsCa
 call_small names (Exec p) small = tt
 call_small names (Send p) small = tt
 call_small names (Recv p q) small = tt
+call_small names (Take p q i) small = small
 call_small names (Apply p i) small = small
 call_small names (Done p) small = tt
 
@@ -110,7 +111,7 @@ header_bytes parts schedule = simp append_assoc
 
 whole : (s : Scenario) → IsWellFormed s → IsWhole s
 whole s w =
-    let schedule = schedule_printed s.names s.schedule w.legal w.known w.counters in
+    let schedule = schedule_printed s.names s.schedule w.legal w.known w.counters w.allowed in
     let parts = parts_printed (parts_of s.names s.scripts) schedule.text (canon_schedule s.names s.schedule) (legal_parts s.names s.scripts w.legal w.commands w.formed) schedule.printed in
     let ss : List Symbol = parts.text ++ schedule.text in
     let bs : List ℕ = flat_map canon_part (parts_of s.names s.scripts) ++ canon_schedule s.names s.schedule in

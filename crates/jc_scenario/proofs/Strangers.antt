@@ -55,6 +55,7 @@ event_known names (E.Send p) (N.Send q) a same = (has_name names q.name p a cc, 
 event_known names (E.Done p) (N.Done q) a same = (has_name names q.name p a cc, tt)
 event_known names (E.Recv p r) (N.Recv q s) a same = (has_name names q.name p a.0 cc, (has_name names s.name r a.1 cc, tt))
 event_known names (E.Apply p r) (N.Apply q counter s) a same = (has_name names q.name p a.0 cc, (has_name names s.name r.replica a.1 cc, tt))
+event_known names (E.Take p r i) (N.Exec q) a same = cc
 event_known names e x a same = cc
 
 all_known : (names : List (List ℕ)) (es : List Event) (xs : List NamedEvent) → All (λ e. AreNamed e (length names)) es → map (call_by names) es ≡ map call_of xs → AreKnown names (all_names_in xs)

@@ -8,7 +8,7 @@ use Rattle.std.proofs.lemmas.List.Elements.{All-head, All-tail}
 use Rattle.std.proofs.lemmas.List.Sorted.{IsPermutation-sym, Contains-permutation}
 use Rattle.std.proofs.lemmas.Option.{unwrap_or-slice_get}
 use Rattle.jc_rules.specs.declared.operation.Event.{Event}
-use Rattle.jc_rules.specs.declared.operation.Event.TheVariants.{Exec, Send, Recv, Apply, Done}
+use Rattle.jc_rules.specs.declared.operation.Event.TheVariants.{Exec, Send, Recv, Take, Apply, Done}
 use Rattle.jc_rules.specs.Entries.{IsRising}
 use Rattle.jc_rules.specs.Names.{name_at}
 use Rattle.jc_rules.specs.Order.{name_cmp}
@@ -95,6 +95,15 @@ same_event names (Recv p r) (Recv q s) h a b same =
     let first : p ≡ q = same_number names p q h a.0 b.0 name in
     let second : r ≡ s = same_number names r s h a.1 b.1 other in
     λ i. Recv (first i) (second i)
+same_event names (Take p from r) (Take q other s) h a b same =
+    let name : name_at names p ≡ name_at names q = cc in
+    let sender : name_at names from ≡ name_at names other = cc in
+    let counter : r.counter ≡ s.counter = cc in
+    let author : name_at names r.replica ≡ name_at names s.replica = cc in
+    let first : p ≡ q = same_number names p q h a.0 b.0 name in
+    let second : from ≡ other = same_number names from other h a.1 b.1 sender in
+    let third : r.replica ≡ s.replica = same_number names r.replica s.replica h a.2 b.2 author in
+    λ i. Take (first i) (second i) (record { counter = counter i; replica = third i })
 same_event names (Apply p r) (Apply q s) h a b same =
     let name : name_at names p ≡ name_at names q = cc in
     let counter : r.counter ≡ s.counter = cc in

@@ -2,9 +2,11 @@
 use Rattle.std.specs.Prelude.{◌≡◌, ◌≢◌, ℕ, ◌≤◌, List, [], ◌∷◌, length, map, false, All, IsPermutation}
 use Rattle.std.specs.Str.{IsUtf8}
 use Rattle.jc_rules.specs.declared.operation.Event.{Event}
+use Rattle.jc_rules.specs.declared.version.Version.TheVariants.{One}
 use Rattle.jc_rules.specs.Entries.{IsRising}
 use Rattle.jc_rules.specs.Order.{name_cmp}
 use Rattle.jc_rules.specs.Syntax.{Cmd}
+use Rattle.jc_rules.specs.Version.{Allows}
 use Rattle.jc_syntax.specs.declared.token.Token.{Token}
 use Rattle.jc_syntax.specs.Lexemes.{AreTokensOf}
 use Rattle.jc_parser.specs.Reading.{Reading, reading}
@@ -43,6 +45,7 @@ pub record IsWellFormed (s : Scenario) : Type 0 where
   pub short : length s.schedule ≤ 100000
   pub known : All (λ e. AreNamed e (length s.names)) s.schedule
   pub counters : All IsCounterBelow s.schedule
+  pub allowed : All (λ e. Allows e One) s.schedule
 
 -- ---- scenarios of texts
 

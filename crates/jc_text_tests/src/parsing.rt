@@ -120,6 +120,8 @@ const EVENTS: &[(&str, Fault)] = &[
     ("a.recv", Some((8, 6))),
     ("a.recv()", Some((7, 7))),
     ("a.jump", Some((7, 2))),
+    ("a.take(a, 1, a)", Some((7, 2))),
+    ("a.take", Some((7, 2))),
     ("a.exec b", Some((7, 7))),
     ("a.done;", Some((7, 6))),
     ("1.exec", Some((5, 0))),

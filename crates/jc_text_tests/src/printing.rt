@@ -155,6 +155,8 @@ fn events(rt: HostRuntime) -> Result<(), Fail> {
     prints_event(&rt, alloc, &Event::Exec(0), "a.exec")?;
     prints_event(&rt, alloc, &Event::Send(1), "b.send")?;
     prints_event(&rt, alloc, &Event::Recv(0, 1), "a.recv(b)")?;
+    prints_event(&rt, alloc, &Event::Take(0, 1, MADE), "a.take(b, 2, a)")?;
+    prints_event(&rt, alloc, &Event::Take(1, 0, MADE), "b.take(a, 2, a)")?;
     prints_event(&rt, alloc, &Event::Done(1), "b.done")?;
     Ok(())
 }
