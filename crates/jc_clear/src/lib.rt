@@ -6,4 +6,3 @@ mod registers;
 mod sets;
 
 pub use clearing::{clear, clear_elem};
-pub use registers::presence_of;

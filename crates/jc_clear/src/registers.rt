@@ -21,7 +21,7 @@ use std::alloc::{AllocError, Global};
 ///
 /// The rule is added to the trace at its depth. Only memory can be refused; the trace is then as it
 /// was before.
-pub fn presence_of<S: TreeStore>(
+pub(crate) fn presence_of<S: TreeStore>(
     alloc: Global,
     store: &S,
     at: &[Tagged],

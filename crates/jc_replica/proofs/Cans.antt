@@ -1,5 +1,5 @@
 -- Which events can be made, of what the state stands for.
-use Rattle.std.proofs.Common.{◌≡◌, ◌≢◌, ℕ, List, ◌∷◌, Option, Some, None, IfSome, IsSome, Bool, true, false, IsTrue, IsFalse, Result, Ok, Err, IfOk, refl, sym, ◌∙◌, ap, subst}
+use Rattle.std.proofs.Common.{◌≡◌, ◌≢◌, ◌⊎◌, inl, inr, ℕ, List, ◌∷◌, Option, Some, None, IfSome, IsSome, Bool, true, false, IsTrue, IsFalse, Result, Ok, Err, IfOk, refl, sym, ◌∙◌, ap, subst}
 use Rattle.std.specs.declared.alloc.AllocError.{AllocError}
 use Rattle.jc_rules.specs.declared.id.Id.{Id}
 use Rattle.jc_rules.specs.declared.operation.Event.{Event}
@@ -11,10 +11,12 @@ use Rattle.jc_rules.specs.Derivation.{Run, Evaluate, Operate, ToBound}
 use Rattle.jc_rules.specs.Refused.{Cause, because, Refused, IsAnswered, not_acted}
 use Rattle.jc_rules.specs.State.{State, Bound}
 use Rattle.jc_rules.specs.Syntax.{Cmd, LetIn, SetTo, InsertAfter, DeleteAt, Yield}
+use Rattle.jc_rules.specs.Table.{op_of}
 use Rattle.jc_rules.specs.Trace.{Rows}
 use Rattle.jc_apply.specs.Fits.{EachOp}
 use Rattle.jc_sets.specs.Members.{with_deps}
 use Rattle.jc_sets.specs.States.{new_op}
+use Rattle.jc_sets.proofs.Applying.{kept_found}
 use Rattle.jc_replica.specs.declared.fault.ReplicaFault.{ReplicaFault}
 use Rattle.jc_replica.specs.Answers.{cause_of, RefusedFor, IsRefused}
 use Rattle.jc_replica.specs.Can.{CanOccur, MayRead}
@@ -102,6 +104,35 @@ module _ (now : Past) (i : Id) (k : Op) (takes : Takes now.now i k) where
   pub can_take_where : (b : Bool) → (IsFalse b → EachOp k.cursor k.mutation (λ x. Refused (Operate now.now.tree x) (because F.NotInList))) → (IsTrue b → EachOp k.cursor k.mutation (λ x. IsFree (Operate now.now.tree x))) → CanOccur (E.Apply now.number i) now b
   can_take_where true g h = can_take (h refl)
   can_take_where false g h = cannot_take (g refl)
+
+-- at a yield
+
+-- an event that sends or receives
+abbrev pub IsReading : Event → Type 0
+IsReading (E.Send p) = Unit {0}
+IsReading (E.Recv p q) = Unit {0}
+IsReading (E.Take p q i) = Unit {0}
+IsReading _ = ⊥
+
+pub is_reading : (event : Event) → ((p : ℕ) × (event ≡ E.Send p)) ⊎ (((p : ℕ) × (q : ℕ) × (event ≡ E.Recv p q)) ⊎ ((p : ℕ) × (q : ℕ) × (i : Id) × (event ≡ E.Take p q i))) → IsReading event
+is_reading event (inl (p, e)) = subst IsReading (sym e) tt
+is_reading event (inr (inl (p, q, e))) = subst IsReading (sym e) tt
+is_reading event (inr (inr (p, q, i, e))) = subst IsReading (sym e) tt
+
+is_some : {X : Type 0} (x : Option X) → IsSome x → (k : X) × (x ≡ Some k)
+is_some None s = cc
+is_some (Some k) s = (k, refl)
+
+pub can_read : (now : Past) (event : Event) (rest : List Cmd) → now.now.left ≡ Yield ∷ rest → IsReading event → CanOccur event now true
+can_read now (E.Send p) rest l y = λ set os read A why may stands of r. unrefused r (rest, left_seen set A now.now stands ∙ l)
+can_read now (E.Recv p q) rest l y = λ set os read A why may stands of r. unrefused r (rest, left_seen set A now.now stands ∙ l)
+can_read now (E.Take p q i) rest l y = λ set os read A why may stands of r.
+    let k = is_some (op_of i read) may in
+    let x = kept_found i os k.0 (ap (op_of i) (sym of.is) ∙ k.1) in
+    unrefused r (rest, left_seen set A now.now stands ∙ l, x.0, x.1)
+can_read now (E.Exec p) rest l y = absurd y
+can_read now (E.Apply p i) rest l y = absurd y
+can_read now (E.Done p) rest l y = absurd y
 
 -- the end of a yield
 

@@ -11,7 +11,7 @@ use Rattle.jc_rules.specs.Syntax.{Expr, Cmd, LetIn, SetTo, InsertAfter, DeleteAt
 use Rattle.jc_rules.specs.State.{State, Bound, ACursor}
 use Rattle.jc_rules.specs.Derivation.{Question, Occur, Run, Evaluate, Make, ApplyOp, Operate, Answer, ToBound, asked, answered, conclusion}
 use Rattle.jc_rules.specs.Table.{op_of}
-use Rattle.jc_rules.specs.Refused.{Cause, Refused, IsAnswered, IsCursor, IsYieldEvent, WantsCursor, first_expr, made_by, no_command, at_yield, in_command, no_yield, not_at_yield, not_acted, not_received, already_applied, deps_missing, in_received, in_first, not_a_cursor, in_making, in_made, in_applied}
+use Rattle.jc_rules.specs.Refused.{Cause, Refused, IsAnswered, IsCursor, IsYieldEvent, WantsCursor, first_expr, made_by, no_command, at_yield, in_command, no_yield, not_at_yield, not_acted, not_received, not_offered, already_applied, deps_missing, in_received, in_first, not_a_cursor, in_making, in_made, in_applied}
 use Rattle.jc_rules.proofs.Determined.{same_derivation}
 use Rattle.jc_rules.proofs.Refusing.{refused_has_none}
 use Rattle.jc_sets.specs.States.{new_op}
@@ -31,6 +31,7 @@ abbrev pub IsOpen : Question → Type 0
 IsOpen (Occur A (E.Exec p) os) = (c : Cmd) × (rest : List Cmd) × (A.left ≡ c ∷ rest) × (c ≢ Yield) × IsFree (Run p A c)
 IsOpen (Occur A (E.Send p) os) = (rest : List Cmd) × (A.left ≡ Yield ∷ rest)
 IsOpen (Occur A (E.Recv p q) os) = (rest : List Cmd) × (A.left ≡ Yield ∷ rest)
+IsOpen (Occur A (E.Take p q i) os) = (rest : List Cmd) × (A.left ≡ Yield ∷ rest) × (o : Op) × (op_of i os ≡ Some o)
 IsOpen (Occur A (E.Apply p i) os) = (rest : List Cmd) × (A.left ≡ Yield ∷ rest) × (o : Op) × (op_of i A.recv ≡ Some o) × (has_id i A.ops ≡ false) × AreIn o.deps A.ops × IsFree (Operate A.tree o)
 IsOpen (Occur A (E.Done p) os) = (rest : List Cmd) × (A.left ≡ Yield ∷ rest) × (A.acted ≡ true)
 IsOpen (Run p A (LetIn x e)) = IsFree (Evaluate A e)
@@ -53,6 +54,7 @@ yield_left : (A : State) (event : Event) (os : List Op) → IsYieldEvent event �
 yield_left A (E.Exec p) os y h = absurd y
 yield_left A (E.Send p) os y h = h
 yield_left A (E.Recv p q) os y h = h
+yield_left A (E.Take p q i) os y h = (h.0, h.1)
 yield_left A (E.Apply p i) os y h = (h.0, h.1)
 yield_left A (E.Done p) os y h = (h.0, h.1)
 
@@ -128,6 +130,7 @@ unrefused (no_yield {A = A} {event = event} {read = read} y e) h = none_left e (
 unrefused (not_at_yield {A = A} {event = event} {read = read} y e n) h = n (same_next e (yield_left A event read y h).1)
 unrefused (not_acted e f) h = neither h.2 f
 unrefused (not_received e f) h = let no : None ≡ Some h.2 = sym f ∙ h.3 in cc
+unrefused (not_offered e f) h = let no : None ≡ Some h.2 = sym f ∙ h.3 in cc
 unrefused (already_applied e f g) h = neither g h.4
 unrefused (deps_missing {A = A} {o = o} e f g n) h = n (subst (λ (x : Op). AreIn x.deps A.ops) (same_found h.3 f) h.5)
 unrefused (in_received {A = A} {o = o} {why = why} e f g d r) h = h.6 why (subst (λ (x : Op). Refused (Operate A.tree x) why) (same_found f h.3) r)

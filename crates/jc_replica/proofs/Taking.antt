@@ -49,7 +49,7 @@ use Rattle.jc_replica.proofs.Seeing.{left_seen}
 use Rattle.jc_replica.proofs.Whole.{found_in}
 
 -- what isn't among the kept operations isn't among those that they stand for
-kept_absent : (i : Id) (os : List Op) → op_of i (map kept_op os) ≡ None → op_of i os ≡ None
+pub kept_absent : (i : Id) (os : List Op) → op_of i (map kept_op os) ≡ None → op_of i os ≡ None
 kept_absent i [] h = refl
 kept_absent i (e ∷ os) h = go (same_id i e.id) refl (kept_absent i os)
   where

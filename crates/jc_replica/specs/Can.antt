@@ -1,5 +1,5 @@
 -- Which events can be made.
-use Rattle.std.specs.Prelude.{◌≡◌, List, [], Bool, true, false}
+use Rattle.std.specs.Prelude.{◌≡◌, List, [], Bool, true, false, IsSome}
 use Rattle.jc_rules.specs.declared.operation.Event.{Event}
 use Rattle.jc_rules.specs.declared.operation.Event.TheVariants as E
 use Rattle.jc_rules.specs.declared.operation.Op.{Op}
@@ -7,12 +7,15 @@ use Rattle.jc_rules.specs.Derivation.{Occur}
 use Rattle.jc_rules.specs.Refused.{Cause, Refused}
 use Rattle.jc_rules.specs.State.{State}
 use Rattle.jc_sets.specs.States.{StateStandsFor}
+use Rattle.jc_rules.specs.Table.{op_of}
 use Rattle.jc_replica.specs.Past.{Past}
 use Rattle.jc_replica.specs.Seen.{IsRead}
 
--- what an event may read: whatever is offered where it receives, and else nothing
+-- what an event may read: whatever is offered where it receives, something with the identifier where it takes one, and
+-- else nothing
 abbrev pub MayRead : Event → List Op → Type 0
 MayRead (E.Recv p q) read = Unit {0}
+MayRead (E.Take p q i) read = IsSome (op_of i read)
 MayRead _ read = read ≡ []
 
 -- In each sound set, whatever is read: what the state stands for refuses the event for no cause, or for one.

@@ -1,13 +1,15 @@
 -- Lists of received operations, and how far nothing of a sender's is missing in them.
-use Rattle.std.specs.Prelude.{◌≡◌, ◌≤◌, ◌<◌, ℕ, Bool, List, length, insert, not, slice_get, Some, None, Result, Ok, Err}
+use Rattle.std.specs.Prelude.{◌≡◌, ◌≤◌, ◌<◌, ℕ, Bool, true, List, [], ◌∷◌, ◌++◌, length, insert, not, slice_get, Some, None, Result, Ok, Err}
 use Rattle.std.specs.List.{AllByRecursion}
 use Rattle.jc_rules.specs.declared.id.Id.{Id}
 use Rattle.jc_rules.specs.declared.operation.Op.{Op}
 use Rattle.jc_rules.specs.Filled.{filled, greatest_of}
 use Rattle.jc_rules.specs.Ids.{has_id}
-use Rattle.jc_rules.specs.Table.{op_of, with_op}
+use Rattle.jc_rules.specs.Sound.{IsSound}
+use Rattle.jc_rules.specs.Table.{op_of, with_op, both}
 use Rattle.jc_sets.specs.States.{kept_op}
-use Rattle.jc_replica.specs.Operations.{identifiers, AreInOrder}
+use Rattle.jc_replica.specs.Operations.{identifiers, AreInOrder, AreOfOne}
+use Rattle.jc_replica.specs.Past.{Past}
 
 -- the operation with the identifier stands there
 pub record StandsAt (i : Id) (os : List Op) (n : ℕ) : Type 0 where
@@ -32,6 +34,18 @@ is_new os p = not (has_id p.id (identifiers os))
 -- each is an operation of the set as it is kept
 abbrev pub AreKeptOf : List Op → List Op → Type 0
 AreKeptOf set os = AllByRecursion (λ k. (o : Op) × (op_of k.id set ≡ Some o) × (k ≡ kept_op o)) os
+
+-- in each sound set that both are of, these are united
+abbrev pub IsUnited : List Op → List Op → List Op → Type 0
+IsUnited old read new =
+    (set : List Op) → IsSound set → AreKeptOf set old → AreKeptOf set read → AreOfOne read → new ≡ both old read
+
+-- these were received: one step, by which they are united with what was received before
+pub record HasReceived (read : List Op) (old new : Past) : Type 0 where
+  pub united : IsUnited old.now.recv read new.now.recv
+  pub now : new.now ≡ record old.now { acted = true; recv = new.now.recv }
+  pub earlier : new.earlier ≡ old.earlier ++ old.now ∷ []
+  pub number : new.number ≡ old.number
 
 -- Of the replica's own nothing is missing up to the counter: the operation that has it is there, and so is all on which
 -- that one depends, the nearest first.

@@ -26,7 +26,8 @@ fn cannot(fault: ReplicaFault) -> Result<bool, AllocError>
 
 impl<S: TreeStore> Replica<S> {
     /// Whether the event, which is the replica's, can be made: whether its call isn't refused, other
-    /// than for want of memory, whatever a replica offers. Only for a command does it take memory.
+    /// than for want of memory, whatever a replica offers. Where one operation is to be taken in, it is
+    /// asked of a replica that offers it. Only for a command does it take memory.
     pub fn can(&self, event: &Event) -> Result<bool, AllocError>
         requires { replica_of event.now ≡ self.now.number }
         ensures { IfOk result (λ b. CanOccur event.now self.now b) }
@@ -47,7 +48,7 @@ impl<S: TreeStore> Replica<S> {
         match event {
             Event::Exec(_) => self.runs(),
             Event::Apply(_, id) => self.applies(*id),
-            Event::Send(_) | Event::Recv(_, _) => {
+            Event::Send(_) | Event::Recv(_, _) | Event::Take(_, _, _) => {
                 self.at_yield()?;
                 Ok(true)
             }

@@ -4,11 +4,10 @@ ghost use Rattle.std.specs.Prelude.{◌≡◌, ◌≤◌, ◌+◌, ◌∷◌, �
 ghost use Rattle.std.specs.List.{AllByRecursion};
 ghost use Rattle.jc_rules.specs.declared.operation.Op.{Op as AnyOp};
 ghost use Rattle.jc_rules.specs.Filled.{filled, greatest_of};
-ghost use Rattle.jc_rules.specs.Sound.{IsSound};
 ghost use Rattle.jc_rules.specs.Table.{op_of, both};
 ghost use Rattle.jc_replica.specs.Operations.{identifiers, AreInOrder, AreHanded, AreOwn, AreOfOne};
 ghost use Rattle.jc_replica.specs.Undo.{without_ops};
-ghost use Rattle.jc_replica.specs.Received.{IsPlace, AreKeptOf, IsWholeTo, AreAmong, is_new};
+ghost use Rattle.jc_replica.specs.Received.{IsPlace, IsUnited, IsWholeTo, AreAmong, is_new};
 
 use jc_rules::{Id, IdSet, Op};
 use std::alloc::{AllocError, Global};
@@ -43,6 +42,17 @@ fn place_of(ops: &[Op], id: Id) -> Result<usize, usize>
     ensures { IsPlace id ops.now result }
 {
     ops.binary_search_by_key(&id, |op| op.id)
+}
+
+/// The operation with the identifier.
+pub fn find(ops: &[Op], id: Id) -> Option<&Op>
+    requires { AreInOrder ops.now }
+    ensures { option_copied result ≡ op_of id ops.now }
+{
+    match place_of(ops, id) {
+        Ok(place) => Some(&ops[place]),
+        Err(_) => None,
+    }
 }
 
 /// The replica whose own they are.
@@ -168,19 +178,14 @@ impl Received {
     pub fn find(&self, id: Id) -> Option<&Op>
         ensures { option_copied result ≡ op_of id self.now }
     {
-        match place_of(self.ops.as_slice(), id) {
-            Ok(place) => Some(&self.ops[place]),
-            Err(_) => None,
-        }
+        find(self.ops.as_slice(), id)
     }
 
     /// Takes in what one replica offers, which is its own, and gives the identifiers of what came in.
     /// After a refusal all is as it was.
     pub fn unite(&mut self, alloc: Global, offered: &[Op]) -> Result<Vec<Id>, AllocError>
         requires { AreInOrder offered.now }
-        ensures ok { OnOk result ((set : List AnyOp) → IsSound set
-            → AreKeptOf set self.old → AreKeptOf set offered.now → AreOfOne offered.now
-            → self.new ≡ both self.old offered.now) }
+        ensures ok { OnOk result (IsUnited self.old offered.now self.new) }
         ensures back { IfOk result (λ came. without_ops came.items self.new ≡ self.old) }
         ensures order { AreInOrder self.new }
         ensures handed { AreHanded self.old → AreHanded offered.now → AreHanded self.new }

@@ -1,15 +1,21 @@
 //! Receiving operations.
 
-ghost use Rattle.std.specs.Prelude.{◌≡◌, ℕ};
+ghost use Rattle.std.specs.Prelude.{◌≡◌, ℕ, IfOk, OnOk, OnErr, IfSome, option_copied, unwrap_or};
 ghost use Rattle.jc_rules.specs.declared.operation.Event.TheVariants as E;
+ghost use Rattle.jc_rules.specs.Trace.{pushed};
 ghost use Rattle.jc_replica.specs.Answers.{Answers};
 ghost use Rattle.jc_replica.specs.Operations.{AreInOrder, AreHanded, AreOfOne};
+ghost use Rattle.jc_replica.specs.Past.{no_rows};
+ghost use Rattle.jc_replica.specs.Received.{HasReceived};
 
 use crate::fault::ReplicaFault;
+use crate::received::find;
 use crate::record::{Change, Record};
 use crate::replica::Replica;
-use jc_rules::{Op, Rule, Trace};
+use jc_rules::{Id, Op, Rule, Trace};
 use jc_tree::TreeStore;
+use std::alloc::AllocError;
+use std::slice::from_ref;
 
 impl<S: TreeStore> Replica<S> {
     /// Takes in what a replica offers, its own operations by identifier, and gives the trace of the
@@ -24,16 +30,7 @@ impl<S: TreeStore> Replica<S> {
         ensures { (q : ℕ) → Answers (E.Recv self.old.number q) ops.now self.old self.new result }
     {
         self.at_yield()?;
-        let mut trace = Trace::new(self.alloc);
-        trace.push(Rule::Recv)?;
-        self.steps.reserve(1)?;
-        let came = self.recv.unite(self.alloc, ops)?;
-        let mark = self.store.mark();
-        let acted = self.acted;
-        self.acted = true;
-        let change = Change::Received { came, acted };
-        self.steps.push(Record { mark, change }).unwrap();
-        Ok(trace)
+        Ok(self.receive(Rule::Recv, Some(ops))?)
     }
 
     /// Takes in what the replica itself offers, as `recv` does.
@@ -42,10 +39,56 @@ impl<S: TreeStore> Replica<S> {
         ensures { Answers (E.Recv self.old.number self.old.number) self.old.now.send self.old self.new result }
     {
         self.at_yield()?;
+        Ok(self.receive(Rule::Recv, None)?)
+    }
+
+    /// Takes in one operation of what a replica offers, its own operations by identifier: the one with
+    /// the identifier. It gives the trace of the event.
+    ///
+    /// It is refused, in this order, with `NoCommand` or `NotAtYield` where no yield comes next, and
+    /// `NotReceived` where no operation that is offered has the identifier. After a refusal all is as
+    /// it was.
+    pub fn recv_one(&mut self, ops: &[Op], id: Id) -> Result<Trace, ReplicaFault>
+        requires order { AreInOrder ops.now }
+        requires handed { AreHanded ops.now }
+        requires own { AreOfOne ops.now }
+        ensures { (q : ℕ) → Answers (E.Take self.old.number q id) ops.now self.old self.new result }
+    {
+        self.at_yield()?;
+        let Some(op) = find(ops, id) else {
+            return Err(ReplicaFault::NotReceived);
+        };
+        Ok(self.receive(Rule::RecvOne, Some(from_ref(op)))?)
+    }
+
+    /// Takes in one operation of what the replica itself offers, as `recv_one` does.
+    pub fn recv_one_own(&mut self, id: Id) -> Result<Trace, ReplicaFault>
+        requires { AreHanded self.old.now.send }
+        ensures { Answers (E.Take self.old.number self.old.number id) self.old.now.send self.old self.new result }
+    {
+        self.at_yield()?;
+        let Some(op) = find(self.sent(), id) else {
+            return Err(ReplicaFault::NotReceived);
+        };
+        let copy = op.copy()?;
+        Ok(self.receive(Rule::RecvOne, Some(from_ref(&copy)))?)
+    }
+
+    /// Takes in by the rule what is offered, or else what the replica itself offers, and gives the trace.
+    /// After a refusal all is as it was.
+    fn receive(&mut self, rule: Rule, offered: Option<&[Op]>) -> Result<Trace, AllocError>
+        requires order { IfSome offered (λ ops. AreInOrder ops.now) }
+        requires handed { AreHanded (unwrap_or (option_copied offered) self.old.now.send) }
+        ensures trace { IfOk result (λ trace. trace ≡ pushed no_rows rule) }
+        ensures received { OnOk result
+            (HasReceived (unwrap_or (option_copied offered.entry) self.old.now.send) self.old self.new) }
+        ensures err { OnErr result (self.new ≡ self.old) }
+    {
         let mut trace = Trace::new(self.alloc);
-        trace.push(Rule::Recv)?;
+        trace.push(rule)?;
         self.steps.reserve(1)?;
-        let came = self.recv.unite(self.alloc, &self.queue[..self.sent])?;
+        let ops = offered.unwrap_or(&self.queue[..self.sent]);
+        let came = self.recv.unite(self.alloc, ops)?;
         let mark = self.store.mark();
         let acted = self.acted;
         self.acted = true;

@@ -4,9 +4,9 @@ ghost use Rattle.jc_rules.specs.Shape.{IsChained};
 ghost use Rattle.jc_tree.specs.Tree.{HasPlace};
 
 use crate::by_hand::{make_map, put_ids, put_true};
-use crate::keys::{At, Keys, SECOND, Set, THIRD, Tag, ids_of};
+use crate::keys::{At, Keys, SECOND, THIRD, Tag};
 use crate::operations::all_to;
-use jc_clear::{clear, clear_elem, presence_of};
+use jc_clear::{clear, clear_elem};
 use jc_rules::{Id, IdSet, Key, Rule, Tagged, Trace};
 use jc_tree::{TreeStore, is_place};
 use std::alloc::{AllocError, Global};
@@ -148,18 +148,6 @@ fn clears_nothing<S: TreeStore>(
     clears(keys.alloc, store, deps, &[], &what, &[], &rows)
 }
 
-/// Whether the presence set that is put is read.
-pub fn reads_presence<S: TreeStore>(keys: &Keys, store: &mut S) -> Result<bool, AllocError> {
-    store.set_presence(&[], keys.key(At::Doc), ids_of(Set::Both))?;
-    let mut trace = Trace::new(keys.alloc);
-    let ids = presence_of(keys.alloc, store, &[], keys.key(At::Doc), &mut trace)?;
-    Ok(
-        ids.as_slice() == ids_of(Set::Both)
-            && trace.rows() == [(Rule::Presence1, 0)].as_slice()
-            && trace.depth() == 0,
-    )
-}
-
 fn clears_in_turn<S: TreeStore>(
     rt: &impl Abort,
     keys: &Keys,
@@ -169,11 +157,11 @@ fn clears_in_turn<S: TreeStore>(
 ) -> Result<bool, AllocError>
     requires { IsChained (S.tree store.old).now }
 {
-    if turn == 7 {
+    if turn == 6 {
         return clears_nothing(keys, store, deps);
     }
     make_map(rt, store, keys.child(Tag::Map, At::Doc))?;
-    if turn == 8 {
+    if turn == 7 {
         clears_a_key(rt, keys, store, keys.in_the_map(), deps)
     } else {
         clears_a_map(rt, keys, store, keys.in_the_map(), deps)

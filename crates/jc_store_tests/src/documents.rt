@@ -2,7 +2,7 @@
 
 ghost use Rattle.jc_store_tests.specs.Ready.{IsReady};
 
-use crate::clearing::{clears_by_hand, reads_presence};
+use crate::clearing::clears_by_hand;
 use crate::expressions::{in_a_list, names_in_a_map};
 use crate::keys::Keys;
 use crate::long::is_long;
@@ -12,7 +12,7 @@ use std::alloc::AllocError;
 use std::process::Abort;
 
 /// How many turns there are.
-const TURNS: u64 = 10;
+const TURNS: u64 = 9;
 
 /// Whether what has its turn works as it should in an empty document.
 fn works<S: TreeStore>(
@@ -30,7 +30,6 @@ fn works<S: TreeStore>(
         3 => in_a_list(keys, store),
         4 => names_in_a_map(rt, keys, store),
         5 => is_long(keys, store),
-        6 => reads_presence(keys, store),
         _ => clears_by_hand(rt, keys, store, turn),
     }
 }

@@ -8,7 +8,7 @@ use crate::keys::Keys;
 use crate::texts::is_shown;
 use jc_parser::parse_script;
 use jc_replica::{Replica, ReplicaFault};
-use jc_rules::{Event, Id, Op, Trace};
+use jc_rules::{Event, Id, Op, Rule, Trace};
 use jc_tree::PlainTree;
 use std::alloc::{AllocError, Global};
 use std::process::Abort;
@@ -62,6 +62,31 @@ fn receive_own(rt: &impl Abort, replica: &mut Replica<PlainTree>) -> Result<Trac
     replica.recv_own()
 }
 
+/// The one replica takes one operation of what the other one offers.
+#[tactic(auto, using(crate::proofs::Handed::handed))]
+fn take(
+    rt: &impl Abort,
+    to: &mut Replica<PlainTree>,
+    from: &Replica<PlainTree>,
+    id: Id,
+) -> Result<Trace, ReplicaFault> {
+    let offered = from.sent();
+    assert!(rt; are_handed(offered));
+    assert!(rt; are_of(from.number(), offered));
+    to.recv_one(offered, id)
+}
+
+/// The replica takes one operation of what it offers itself.
+#[tactic(auto, using(crate::proofs::Handed::handed))]
+fn take_own(
+    rt: &impl Abort,
+    replica: &mut Replica<PlainTree>,
+    id: Id,
+) -> Result<Trace, ReplicaFault> {
+    assert!(rt; are_handed(replica.sent()));
+    replica.recv_one_own(id)
+}
+
 /// The replica makes the event. What it receives of another one is what that one offers.
 fn make(
     rt: &impl Abort,
@@ -74,6 +99,8 @@ fn make(
         Event::Send(_) => replica.send(),
         Event::Recv(p, q) if p == q => receive_own(rt, replica),
         Event::Recv(_, _) => receive(rt, replica, other),
+        Event::Take(p, q, id) if p == q => take_own(rt, replica, *id),
+        Event::Take(_, _, id) => take(rt, replica, other, *id),
         Event::Apply(_, id) => replica.apply(*id),
         Event::Done(_) => replica.done(),
     }
@@ -123,6 +150,62 @@ fn is_made(
     Ok(is == *want && (is || seen_of(replica) == before))
 }
 
+/// An event, the number of its refusal, which is 0 where it is made, and what its replica has received after it.
+type Taking = (Event, u8, &'static [Id]);
+
+fn number_of(made: &Result<Trace, ReplicaFault>) -> u8 {
+    match made {
+        Ok(_) => 0,
+        Err(ReplicaFault::NoCommand) => 30,
+        Err(ReplicaFault::NotAtYield) => 32,
+        Err(ReplicaFault::NotReceived) => 34,
+        Err(ReplicaFault::DepsMissing) => 36,
+        Err(_) => 255,
+    }
+}
+
+/// Whether a trace, where there is one, is that of a take.
+fn is_traced(made: &Result<Trace, ReplicaFault>) -> bool {
+    match made {
+        Ok(trace) => trace.rows() == [(Rule::RecvOne, 0)].as_slice(),
+        Err(_) => true,
+    }
+}
+
+/// Whether the operations that the replica has received have these identifiers.
+fn has_received(replica: &Replica<PlainTree>, ids: &[Id]) -> bool {
+    let ops = replica.received();
+    let mut alike = ops.len() == ids.len();
+    for (op, id) in ops.iter().zip(ids) {
+        alike = alike && op.id == *id;
+    }
+    alike
+}
+
+/// Whether the event is made or refused so. A take that is made sets `acted` and what was received, and nothing else; one
+/// that is refused sets nothing.
+fn is_taken(
+    rt: &impl Abort,
+    replica: &mut Replica<PlainTree>,
+    other: &Replica<PlainTree>,
+    row: &Taking,
+) -> bool {
+    let (event, want, received) = row;
+    let mut due = seen_of(replica);
+    let made = make(rt, replica, other, event);
+    if number_of(&made) != *want || !has_received(replica, received) {
+        return false;
+    }
+    if !matches!(event, Event::Take(_, _, _)) {
+        return true;
+    }
+    if made.is_ok() {
+        due.acted = true;
+        due.received = received.len();
+    }
+    is_traced(&made) && seen_of(replica) == due
+}
+
 /// Two replicas of one document.
 #[derive(Drop)]
 struct Pair {
@@ -162,6 +245,31 @@ impl Pair {
                 kept.push((row.0.replica(), of_a, of_b))?;
             }
             assert!(rt; self.is_made(rt, row)?, "{number}");
+        }
+        Ok(())
+    }
+
+    fn is_taken(&mut self, rt: &impl Abort, row: &Taking) -> bool {
+        if row.0.replica() == 0 {
+            is_taken(rt, &mut self.a, &self.b, row)
+        } else {
+            is_taken(rt, &mut self.b, &self.a, row)
+        }
+    }
+
+    /// Makes the events of such a table, and keeps what was seen before each that is made.
+    fn take(
+        &mut self,
+        rt: &impl Abort,
+        rows: &[Taking],
+        kept: &mut Vec<(u16, Seen, Seen)>,
+    ) -> Result<(), AllocError> {
+        for (number, row) in rows.iter().enumerate() {
+            let (of_a, of_b) = self.seen();
+            if row.1 == 0 {
+                kept.push((row.0.replica(), of_a, of_b))?;
+            }
+            assert!(rt; self.is_taken(rt, row), "{number}");
         }
         Ok(())
     }
@@ -280,33 +388,111 @@ fn meet(
     Ok(())
 }
 
-/// Two new replicas with these scripts meet, or the first one goes as deep as it can.
-fn play(
-    rt: &impl Abort,
-    keys: &Keys,
-    scripts: &[&str; 2],
-    is_deep: bool,
-) -> Result<(), AllocError> {
-    let mut pair = Pair::new(rt, keys.alloc, scripts)?;
-    play_with(rt, keys, &mut pair, is_deep)
+/// What two replicas do.
+#[derive(Clone, Copy)]
+enum Deed {
+    /// They meet.
+    Meet,
+    /// The first one goes as deep as it can.
+    GoDeep,
+    /// They take operations one at a time.
+    Take,
 }
 
-fn play_with(
-    rt: &impl Abort,
-    keys: &Keys,
-    pair: &mut Pair,
-    is_deep: bool,
-) -> Result<(), AllocError> {
+/// Two new replicas with these scripts do this.
+fn play(rt: &impl Abort, keys: &Keys, scripts: &[&str; 2], deed: Deed) -> Result<(), AllocError> {
+    let mut pair = Pair::new(rt, keys.alloc, scripts)?;
+    play_with(rt, keys, &mut pair, deed)
+}
+
+fn play_with(rt: &impl Abort, keys: &Keys, pair: &mut Pair, deed: Deed) -> Result<(), AllocError> {
     let mut kept = Vec::new(keys.alloc);
-    if is_deep {
-        go_deep(rt, pair, &mut kept)
-    } else {
-        meet(rt, keys, pair, &mut kept)
+    match deed {
+        Deed::Meet => meet(rt, keys, pair, &mut kept),
+        Deed::GoDeep => go_deep(rt, pair, &mut kept),
+        Deed::Take => take_each(rt, pair, &mut kept),
     }
 }
 
 pub fn meeting(rt: &impl Abort, keys: &Keys) -> Result<(), AllocError> {
-    play(rt, keys, &INSERTS, false)
+    play(rt, keys, &INSERTS, Deed::Meet)
+}
+
+/// Replica 0 assigns twice; replica 1 has two yields.
+const ASSIGNMENTS: [&str; 2] = [
+    "doc.get(\"a\") := 1; doc.get(\"a\") := 2; yield",
+    "yield; yield",
+];
+
+/// Takes of what is offered and of what isn't, out of order and again, also of the replica's own.
+const TAKINGS: &[Taking] = &[
+    // no yield comes next, and nothing is offered
+    (Event::Take(0, 1, NINE_A), 32, &[]),
+    (Event::Take(0, 0, NINE_A), 32, &[]),
+    // nothing is made, and then nothing offered
+    (Event::Take(1, 0, ONE_A), 34, &[]),
+    (Event::Exec(0), 0, &[]),
+    (Event::Exec(0), 0, &[]),
+    (Event::Take(1, 0, ONE_A), 34, &[]),
+    (Event::Send(0), 0, &[]),
+    (Event::Take(1, 0, NINE_A), 34, &[]),
+    (Event::Take(1, 0, TWO_B), 34, &[]),
+    (Event::Take(1, 1, ONE_A), 34, &[]),
+    // the second one first, and in the next yield again
+    (Event::Take(1, 0, TWO_A), 0, &[TWO_A]),
+    (Event::Apply(1, TWO_A), 36, &[TWO_A]),
+    (Event::Done(1), 0, &[TWO_A]),
+    (Event::Take(1, 0, TWO_A), 0, &[TWO_A]),
+    (Event::Take(1, 0, ONE_A), 0, &[ONE_A, TWO_A]),
+    // nothing new is left for recv
+    (Event::Recv(1, 0), 0, &[ONE_A, TWO_A]),
+    (Event::Apply(1, ONE_A), 0, &[ONE_A, TWO_A]),
+    (Event::Apply(1, TWO_A), 0, &[ONE_A, TWO_A]),
+    // what the replica offers itself
+    (Event::Take(0, 0, NINE_A), 34, &[]),
+    (Event::Take(0, 0, TWO_A), 0, &[TWO_A]),
+    // behind the last command
+    (Event::Done(1), 0, &[ONE_A, TWO_A]),
+    (Event::Take(1, 0, ONE_A), 30, &[ONE_A, TWO_A]),
+    (Event::Take(1, 0, NINE_A), 30, &[ONE_A, TWO_A]),
+];
+
+/// What is seen then.
+const TAKEN_SEEN: (Seen, Seen) = (
+    Seen {
+        left: 1,
+        acted: true,
+        vars: 0,
+        greatest: (2, 0),
+        made: 2,
+        offered: 2,
+        received: 1,
+    },
+    Seen {
+        left: 0,
+        acted: false,
+        vars: 0,
+        greatest: (2, 0),
+        made: 0,
+        offered: 0,
+        received: 2,
+    },
+);
+
+/// The replicas take operations one at a time, and take each step back.
+fn take_each(
+    rt: &impl Abort,
+    pair: &mut Pair,
+    kept: &mut Vec<(u16, Seen, Seen)>,
+) -> Result<(), AllocError> {
+    pair.take(rt, TAKINGS, kept)?;
+    assert!(rt; pair.seen() == TAKEN_SEEN);
+    pair.go_back(rt, kept.as_slice());
+    Ok(())
+}
+
+pub fn takings(rt: &impl Abort, keys: &Keys) -> Result<(), AllocError> {
+    play(rt, keys, &ASSIGNMENTS, Deed::Take)
 }
 
 /// A script whose 515th command leads to the deepest cursor; the one after it would lead deeper.
@@ -334,5 +520,5 @@ fn go_deep(
 
 pub fn deepest_cursor(rt: &impl Abort, keys: &Keys) -> Result<(), AllocError> {
     let script = deepest_script(keys.alloc)?;
-    play(rt, keys, &[script.as_str(), ""], true)
+    play(rt, keys, &[script.as_str(), ""], Deed::GoDeep)
 }

@@ -4,7 +4,7 @@
 use crate::documents::all_work;
 use crate::keys::Keys;
 use crate::large::hold_many;
-use crate::replicas::{deepest_cursor, meeting};
+use crate::replicas::{deepest_cursor, meeting, takings};
 use crate::steps::Step;
 use crate::tables::{change_and_undo, many_changes, worked_steps};
 use crate::texts::{keys_and_identifiers, show_members};
@@ -55,6 +55,7 @@ enum Test {
     Documents,
     Meeting,
     DeepestCursor,
+    Takings,
 }
 
 fn run(rt: &impl Abort, keys: &Keys, test: Test) -> Result<(), AllocError> {
@@ -68,6 +69,7 @@ fn run(rt: &impl Abort, keys: &Keys, test: Test) -> Result<(), AllocError> {
         Test::Documents => all_work(rt, keys),
         Test::Meeting => meeting(rt, keys),
         Test::DeepestCursor => deepest_cursor(rt, keys),
+        Test::Takings => takings(rt, keys),
     }
 }
 
@@ -119,4 +121,9 @@ fn replicas_meet(rt: HostRuntime) -> Result<(), Fail> {
 #[test]
 fn the_deepest_cursor(rt: HostRuntime) -> Result<(), Fail> {
     Ok(run_with_keys(&rt, rt.alloc(), Test::DeepestCursor)?)
+}
+
+#[test]
+fn operations_are_taken_one_at_a_time(rt: HostRuntime) -> Result<(), Fail> {
+    Ok(run_with_keys(&rt, rt.alloc(), Test::Takings)?)
 }
