@@ -4,30 +4,40 @@ use Rattle.std.proofs.lemmas.List.{length-map}
 use Rattle.std.proofs.lemmas.Option.{slice_get-map, slice_get_past}
 use Rattle.jc_rules.specs.declared.operation.Event.{Event}
 use Rattle.jc_rules.specs.declared.operation.Event.TheVariants as V
+use Rattle.jc_rules.specs.declared.id.Id.{Id}
 use Rattle.jc_rules.specs.declared.operation.Op.{Op}
-use Rattle.jc_rules.specs.declared.refusal.Refusal.TheVariants.{NoSuchReplica}
-use Rattle.jc_rules.specs.Refused.{Cause, because, IsStuck, no_replica, no_sender}
+use Rattle.jc_rules.specs.declared.version.Version.{Version}
+use Rattle.jc_rules.specs.declared.refusal.Refusal.TheVariants.{NoSuchReplica, WrongVersion}
+use Rattle.jc_rules.specs.Refused.{Cause, because, IsStuckIn, replica_missing, sender_missing, wrong_version}
 use Rattle.jc_rules.specs.State.{State}
 use Rattle.jc_rules.specs.Step.{replica_of, read_by, send_of}
 use Rattle.jc_rules.specs.Syntax.{Cmd}
 use Rattle.jc_rules.specs.Trace.{Rows}
+use Rattle.jc_rules.specs.Version.{Allows}
+use Rattle.jc_rules.proofs.Versions.{stuck_in, after_states}
 use Rattle.jc_replica.specs.declared.fault.ReplicaFault.{ReplicaFault}
 use Rattle.jc_replica.specs.Answers.{Answers, RefusedFor, cause_of}
 use Rattle.jc_replica.specs.Past.{Past}
 use Rattle.jc_network.specs.declared.fault.StepFault.{StepFault}
 use Rattle.jc_network.specs.declared.fault.StepFault.TheVariants as E
 use Rattle.jc_network.specs.declared.fault.Stuck.{Stuck}
-use Rattle.jc_network.specs.Course.{kept_of, network_of}
+use Rattle.jc_network.specs.Course.{kept_of, network_of, of_version}
 use Rattle.jc_network.specs.Laws.{starts, IsReached}
-use Rattle.jc_network.specs.Makes.{stuck_for, fault_for, IsStuckFor, sent_by, Moves, Acts, IsMissing, IsRefusedBy, Stops, Makes}
+use Rattle.jc_network.specs.Makes.{stuck_for, fault_for, IsStuckFor, sent_by, Moves, Acts, HasReplicas, IsMissing, IsRefusedBy, Stops, stops_missing, stops_version, stops_refused, Makes, reading, sender_of}
 use Rattle.jc_network.specs.Network.{IsWell}
 use Rattle.jc_network.specs.Run.{IsInRun, AreNumbered}
 use Rattle.jc_network.proofs.Halves.{index_get}
+use Rattle.jc_network.proofs.Members.{some_at}
 use Rattle.jc_network.proofs.Seeing.{is_stuck}
 use Rattle.jc_network.proofs.Starting.{start_well, after_well}
 
 pub well : (scripts : List _) (network : List State) → IsReached scripts network → IsWell network
 well scripts network r = after_well (starts scripts) r.0 network (start_well scripts) r.1
+
+-- what events of a version led to is reached
+pub reached : (version : Version) (scripts : List (List Cmd)) (network kept : List State) → IsInRun version scripts network kept → IsReached scripts network
+reached version scripts network kept run =
+    (run.events, after_states (of_version version (starts scripts)) run.events (of_version version network) run.led)
 
 pub kept_there : (ps : List Past) (p : ℕ) (past : Past) → slice_get ps p ≡ Some past → slice_get (kept_of ps) p ≡ Some past.now
 kept_there ps p past e = slice_get-map (λ (q : Past). q.now) ps p ∙ ap (option_map (λ (q : Past). q.now)) e
@@ -58,9 +68,13 @@ reads_sent [] q l = absurd (omega (arith, l))
 reads_sent (p ∷ ps) zero l = refl
 reads_sent (p ∷ ps) (suc q) l = reads_sent ps q (omega (arith, l))
 
-pub acts_received : (old new : List Past) (event : Event) (p q : ℕ) (result : Result Rows ReplicaFault) → event ≡ V.Recv p q → q < length old → Moves p (V.Recv p q) (sent_by (slice_get old q)) old new result → Acts event old new result
-acts_received old new event p q result is l m =
-    subst (λ v. Acts v old new result) (sym is) (record { read = sent_by (slice_get old q); reads = reads_sent old q l; moves = m })
+acts_reading : (old new : List Past) (p q : ℕ) (id : Option Id) (result : Result Rows ReplicaFault) → q < length old → Moves p (reading q id p) (sent_by (slice_get old q)) old new result → Acts (reading q id p) old new result
+acts_reading old new p q None result l m = record { read = sent_by (slice_get old q); reads = reads_sent old q l; moves = m }
+acts_reading old new p q (Some i) result l m = record { read = sent_by (slice_get old q); reads = reads_sent old q l; moves = m }
+
+pub acts_received : (old new : List Past) (event : Event) (p q : ℕ) (id : Option Id) (result : Result Rows ReplicaFault) → event ≡ reading q id p → q < length old → Moves p (reading q id p) (sent_by (slice_get old q)) old new result → Acts event old new result
+acts_received old new event p q id result is l m =
+    subst (λ v. Acts v old new result) (sym is) (acts_reading old new p q id result l m)
 
 -- ---- refusals
 
@@ -72,8 +86,8 @@ set_same (q ∷ ps) (suc p) A e = ap (λ l. q ∷ l) (set_same ps p A e)
 unmoved : (p : ℕ) (old new : List Past) (A B : Past) → slice_get old p ≡ Some A → new ≡ slice_set old p B → B ≡ A → new ≡ old
 unmoved p old new A B there now same = now ∙ (ap (slice_set old p) same ∙ set_same old p A there)
 
-pub act_refused : (event : Event) (old new : List Past) (fault : ReplicaFault) (result : StepFault) → AreNumbered old → result ≡ fault_for (cause_of fault) event → Acts event old new (Err fault) → Makes event old new (Err result)
-act_refused event old new fault result numbered is acts = go (cause_of fault) is m.answers.1
+pub act_refused : (version : Version) (event : Event) (old new : List Past) (fault : ReplicaFault) (result : StepFault) → Allows event version → AreNumbered old → result ≡ fault_for (cause_of fault) event → Acts event old new (Err fault) → Makes version event old new (Err result)
+act_refused version event old new fault result allowed numbered is acts = go (cause_of fault) is m.answers.1
   where
     m : Moves (replica_of event) event acts.read old new (Err fault)
     m = acts.moves
@@ -81,7 +95,7 @@ act_refused event old new fault result numbered is acts = go (cause_of fault) is
     same : new ≡ old
     same = unmoved (replica_of event) old new m.before m.after m.there m.now m.answers.0
 
-    go : (o : Option Cause) → result ≡ fault_for o event → IfSome o (λ why. RefusedFor event acts.read m.before why) → Makes event old new (Err result)
+    go : (o : Option Cause) → result ≡ fault_for o event → IfSome o (λ why. RefusedFor event acts.read m.before why) → Makes version event old new (Err result)
     go (Some why) r h =
         let by : IsRefusedBy event old why = record {
           read = acts.read;
@@ -89,11 +103,14 @@ act_refused event old new fault result numbered is acts = go (cause_of fault) is
           asked = record { number = numbered (replica_of event) m.before m.there; there = kept_there old (replica_of event) m.before m.there; reads = acts.reads };
           refuses = h;
         } in
-        subst (λ x. Makes event old new (Err x)) (sym r) (same, why, refl, inr by)
-    go None r h = subst (λ x. Makes event old new (Err x)) (sym r) same
+        subst (λ x. Makes version event old new (Err x)) (sym r) (same, why, refl, stops_refused allowed by)
+    go None r h = subst (λ x. Makes version event old new (Err x)) (sym r) same
 
-pub missing_stops : (event : Event) (ps : List Past) (s : Stuck) → s ≡ stuck_for (because NoSuchReplica) event → IsMissing event ps → Makes event ps ps (Err (E.Stuck s))
-missing_stops event ps s is m = (refl, because NoSuchReplica, is, inl (refl, m))
+pub missing_stops : (version : Version) (event : Event) (ps : List Past) (s : Stuck) → s ≡ stuck_for (because NoSuchReplica) event → IsMissing event ps → Makes version event ps ps (Err (E.Stuck s))
+missing_stops version event ps s is m = (refl, because NoSuchReplica, is, stops_missing m)
+
+pub version_stops : (version : Version) (event : Event) (ps : List Past) (s : Stuck) → s ≡ stuck_for (because WrongVersion) event → HasReplicas event ps → (Allows event version → ⊥) → Makes version event ps ps (Err (E.Stuck s))
+version_stops version event ps s is there bars = (refl, because WrongVersion, is, stops_version there bars)
 
 pub as_many_states : (ps : List Past) → length (network_of ps) ≡ length ps
 as_many_states ps = length-map (kept_of ps) _ ∙ length-map ps _
@@ -101,25 +118,46 @@ as_many_states ps = length-map (kept_of ps) _ ∙ length-map ps _
 pub no_state : (ps : List Past) (p : ℕ) → length ps ≤ p → slice_get (network_of ps) p ≡ None
 no_state ps p l = slice_get_past (network_of ps) p (let m = as_many_states ps in omega (arith, l, m))
 
-pub stopped : (scripts : List (List Cmd)) (event : Event) (ps : List Past) (why : Cause) → IsInRun scripts (network_of ps) (kept_of ps) → Stops event ps why → IsStuck (network_of ps) event why
-stopped scripts event ps why run (inl (w, m)) = subst (IsStuck (network_of ps) event) (sym w) (go m)
-  where
-    go : IsMissing event ps → IsStuck (network_of ps) event (because NoSuchReplica)
-    go (inl l) = no_replica (no_state ps (replica_of event) l)
-    go (inr (p, q, is, l)) = subst (λ v. IsStuck (network_of ps) v (because NoSuchReplica)) (sym is) (no_sender (ap send_of (no_state ps q l)))
-stopped scripts event ps why run (inr by) =
-    is_stuck run.set (network_of ps) (kept_of ps) (well scripts (network_of ps) run.reached).sets run.seen event by.read by.past why by.asked by.refuses
+-- where it receives from a replica that isn't there
+nothing_read : (event : Event) (q : ℕ) (ps : List Past) → sender_of event ≡ Some q → length ps ≤ q → read_by event (network_of ps) ≡ None
+nothing_read (V.Recv p r) q ps is l = let s : r ≡ q = cc in ap send_of (no_state ps r (omega (arith, s, l)))
+nothing_read (V.Take p r i) q ps is l = let s : r ≡ q = cc in ap send_of (no_state ps r (omega (arith, s, l)))
+nothing_read (V.Exec p) q ps is l = cc
+nothing_read (V.Send p) q ps is l = cc
+nothing_read (V.Apply p i) q ps is l = cc
+nothing_read (V.Done p) q ps is l = cc
 
-pub never_full : (event : Event) (old new : List Past) (fault : StepFault) → Makes event old new (Err fault) → fault ≡ E.Full → ⊥
-never_full event old new E.Full m e = m
-never_full event old new (E.Stuck s) m e = cc
-never_full event old new E.Memory m e = cc
+state_there : (ps : List Past) (p : ℕ) → p < length ps → (A : State) × (slice_get (network_of ps) p ≡ Some A)
+state_there ps p l = some_at (network_of ps) p (let m = as_many_states ps in omega (arith, l, m))
+
+-- where its replicas are there it reads something, or nothing at all
+some_read : (event : Event) (ps : List Past) → HasReplicas event ps → (read : List Op) × (read_by event (network_of ps) ≡ Some read)
+some_read (V.Recv p q) ps h = let x = state_there ps q (h.1 q refl) in (x.0.send, ap send_of x.1)
+some_read (V.Take p q i) ps h = let x = state_there ps q (h.1 q refl) in (x.0.send, ap send_of x.1)
+some_read (V.Exec p) ps h = ([], refl)
+some_read (V.Send p) ps h = ([], refl)
+some_read (V.Apply p i) ps h = ([], refl)
+some_read (V.Done p) ps h = ([], refl)
+
+pub stopped : (version : Version) (scripts : List (List Cmd)) (event : Event) (ps : List Past) (why : Cause) → IsInRun version scripts (network_of ps) (kept_of ps) → Stops version event ps why → IsStuckIn (of_version version (network_of ps)) event why
+stopped version scripts event ps why run (stops_missing (inl l)) = replica_missing (no_state ps (replica_of event) l)
+stopped version scripts event ps why run (stops_missing (inr (q, is, l))) = sender_missing (nothing_read event q ps is l)
+stopped version scripts event ps why run (stops_version there bars) =
+    wrong_version (state_there ps (replica_of event) there.0).1 (some_read event ps there).1 bars
+stopped version scripts event ps why run (stops_refused allowed by) =
+    stuck_in (of_version version (network_of ps)) event why allowed
+    (is_stuck run.set (network_of ps) (kept_of ps) (well scripts (network_of ps) (reached version scripts (network_of ps) (kept_of ps) run)).sets run.seen event by.read by.past why by.asked by.refuses)
+
+pub never_full : (version : Version) (event : Event) (old new : List Past) (fault : StepFault) → Makes version event old new (Err fault) → fault ≡ E.Full → ⊥
+never_full version event old new E.Full m e = m
+never_full version event old new (E.Stuck s) m e = cc
+never_full version event old new E.Memory m e = cc
 
 -- what an event that is stuck has told
-pub told_stuck : (scripts : List (List Cmd)) (event : Event) (old new : List Past) (fault : StepFault) (s : Stuck) → IsInRun scripts (network_of old) (kept_of old) → Makes event old new (Err fault) → fault ≡ E.Stuck s → IsStuckFor (network_of old) event s
-told_stuck scripts event old new fault s run m e =
-    let h : Makes event old new (Err (E.Stuck s)) = subst (λ f. Makes event old new (Err f)) e m in
-    record { why = h.1; stuck = stopped scripts event old h.1 run h.3; is = h.2 }
+pub told_stuck : (version : Version) (scripts : List (List Cmd)) (event : Event) (old new : List Past) (fault : StepFault) (s : Stuck) → IsInRun version scripts (network_of old) (kept_of old) → Makes version event old new (Err fault) → fault ≡ E.Stuck s → IsStuckFor (of_version version (network_of old)) event s
+told_stuck version scripts event old new fault s run m e =
+    let h : Makes version event old new (Err (E.Stuck s)) = subst (λ f. Makes version event old new (Err f)) e m in
+    record { why = h.1; stuck = stopped version scripts event old h.1 run h.3; is = h.2 }
 
 pub at_err : {A E : Type 0} (P : E → Type 0) (r : Result A E) (y : E) → IsErrAnd r P → r ≡ Err y → P y
 at_err {A = A} P r y h e = subst (λ q. IsErrAnd {T = A} q P) e h
@@ -127,13 +165,13 @@ at_err {A = A} P r y h e = subst (λ q. IsErrAnd {T = A} q P) e h
 -- ---- receiving
 
 -- what the replica q offers is what the replica p reads
-pub received : (whole new : List Past) (p q : ℕ) (a b s : Past) (read : List Op) (result : Result Rows ReplicaFault) → slice_get whole p ≡ Some a → slice_get whole q ≡ Some s → read ≡ s.now.send → new ≡ slice_set whole p b → a.number ≡ p → Answers (V.Recv a.number q) read a b result → Moves p (V.Recv p q) (sent_by (slice_get whole q)) whole new result
-received whole new p q a b s read result there sender is now number answers =
+pub received : (whole new : List Past) (p q : ℕ) (id : Option Id) (a b s : Past) (read : List Op) (result : Result Rows ReplicaFault) → slice_get whole p ≡ Some a → slice_get whole q ≡ Some s → read ≡ s.now.send → new ≡ slice_set whole p b → a.number ≡ p → Answers (reading q id a.number) read a b result → Moves p (reading q id p) (sent_by (slice_get whole q)) whole new result
+received whole new p q id a b s read result there sender is now number answers =
     let sent : read ≡ sent_by (slice_get whole q) = is ∙ sym (ap sent_by sender) in
     record {
       before = a;
       after = b;
       there = there;
       now = now;
-      answers = subst (λ r. Answers (V.Recv p q) r a b result) sent (subst (λ n. Answers (V.Recv n q) read a b result) number answers);
+      answers = subst (λ r. Answers (reading q id p) r a b result) sent (subst (λ n. Answers (reading q id n) read a b result) number answers);
     }

@@ -4,10 +4,11 @@ use Rattle.std.specs.List.{AllByRecursion}
 use Rattle.std.proofs.lemmas.List.{length-take-le, take_more}
 use Rattle.std.proofs.lemmas.Option.{same_Some, slice_get_within, get_or_from_slice_get}
 use Rattle.jc_parser.specs.Scripts.{IsScriptWellFormed}
+use Rattle.jc_rules.specs.declared.version.Version.{Version}
 use Rattle.jc_rules.specs.State.{start}
 use Rattle.jc_rules.specs.Syntax.{Cmd}
 use Rattle.jc_replica.specs.Past.{Past}
-use Rattle.jc_network.specs.Course.{kept_of, network_of}
+use Rattle.jc_network.specs.Course.{kept_of, network_of, of_version}
 use Rattle.jc_network.specs.Laws.{starts}
 use Rattle.jc_network.specs.Real.{real}
 use Rattle.jc_network.specs.Run.{IsInRun, IsKeptNet}
@@ -36,11 +37,12 @@ numbered_from n (s ∷ scripts) (suc p) past e = let h : past.number ≡ suc n +
 pub real_start : (scripts : List (List Cmd)) → network_of (pasts_from 0 scripts) ≡ starts scripts
 real_start scripts = ap real (kept_start 0 scripts) ∙ sym (seen_is_real [] (starts scripts) (starts scripts) (start_seen scripts))
 
-pub starts_in_run : (scripts : List (List Cmd)) → AreShort scripts → IsKeptNet (length scripts) [] (pasts_from 0 scripts)
-starts_in_run scripts short =
-    let now : IsInRun scripts (network_of (pasts_from 0 scripts)) (kept_of (pasts_from 0 scripts)) = record {
+pub starts_in_run : (version : Version) (scripts : List (List Cmd)) → AreShort scripts → IsKeptNet version (length scripts) [] (pasts_from 0 scripts)
+starts_in_run version scripts short =
+    let now : IsInRun version scripts (network_of (pasts_from 0 scripts)) (kept_of (pasts_from 0 scripts)) = record {
       short = short;
-      reached = ([], sym (real_start scripts));
+      events = [];
+      led = ap (of_version version) (sym (real_start scripts));
       set = [];
       seen = subst (λ N. AreSeen [] N (kept_of (pasts_from 0 scripts))) (sym (real_start scripts)) (subst (AreSeen [] (starts scripts)) (sym (kept_start 0 scripts)) (start_seen scripts));
     } in

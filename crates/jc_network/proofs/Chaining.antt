@@ -32,7 +32,7 @@ use Rattle.jc_network.specs.Laws.{starts}
 use Rattle.jc_network.proofs.Everywhere.{OfNew, all_follow}
 use Rattle.jc_network.proofs.Keeping.{operates}
 use Rattle.jc_network.proofs.Members.{op_in, set_other, set_there, below_greatest}
-use Rattle.jc_network.proofs.Did.{new_op, Did, bound, made, sent, received, applied, done, did}
+use Rattle.jc_network.proofs.Did.{new_op, Did, bound, made, sent, received, took, applied, done, did}
 use Rattle.jc_network.proofs.Trees.{step_well}
 use Rattle.jc_network.proofs.Starting.{started}
 
@@ -171,6 +171,7 @@ treed A event read B (made p rest c e cur m t is left s op new) =
     subst (λ (S : State). Treed A S) (sym new) (operated (new_op p A cur m) (new_unapplied p A) op)
 treed A event read B (sent p rest is left new) = same (ap (λ (S : State). S.tree) new)
 treed A event read B (received p q rest is left new) = same (ap (λ (S : State). S.tree) new)
+treed A event read B (took p q i rest o is left found new) = same (ap (λ (S : State). S.tree) new)
 treed A event read B (applied p i rest o t is left found unapplied deps op new) =
     subst (λ (S : State). Treed A S) (sym new) (operated o (subst (λ j. has_id j A.ops ≡ false) (sym (op_in i A.recv o found).1) unapplied) op)
 treed A event read B (done p rest is left new) = same (ap (λ (S : State). S.tree) new)

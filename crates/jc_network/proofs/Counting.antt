@@ -13,7 +13,7 @@ use Rattle.jc_rules.proofs.Ids.{same_id-self}
 use Rattle.jc_network.specs.Network.{IsAt, IsMade, IsWell, commands_left, IsCounted}
 use Rattle.jc_network.specs.Laws.{starts, CountersAreRun}
 use Rattle.jc_network.proofs.Members.{in_with, set_there, set_other}
-use Rattle.jc_network.proofs.Did.{new_op, Did, bound, made, sent, received, applied, done, did}
+use Rattle.jc_network.proofs.Did.{new_op, Did, bound, made, sent, received, took, applied, done, did}
 use Rattle.jc_network.proofs.Trees.{step_well}
 use Rattle.jc_network.proofs.Starting.{none_made, start_well, after_well, held_made}
 
@@ -42,6 +42,7 @@ runs A event read B (made p rest c e cur m t is left s op new) = subst (λ (S : 
     go y (inr h) = inl h
 runs A event read B (sent p rest is left new) = subst (λ (S : State). Runs A S) (sym new) (record { left = omega arith; queue = λ y k. inl k })
 runs A event read B (received p q rest is left new) = subst (λ (S : State). Runs A S) (sym new) (record { left = omega arith; queue = λ y k. inl k })
+runs A event read B (took p q i rest o is left found new) = subst (λ (S : State). Runs A S) (sym new) (record { left = omega arith; queue = λ y k. inl k })
 runs A event read B (applied p i rest o t is left there new_id deps op new) = subst (λ (S : State). Runs A S) (sym new) (record { left = omega arith; queue = λ y k. inl k })
 runs A event read B (done p rest is left new) =
     let f : length A.left ≡ length rest + 1 = ap length left ∙ omega arith in

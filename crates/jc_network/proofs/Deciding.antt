@@ -30,7 +30,7 @@ use Rattle.jc_rules.specs.Step.{Step, replica_of, read_by}
 use Rattle.jc_rules.specs.Syntax.{Expr, TheDoc, Variable, GetKey, Index, KeysOf, ValuesOf, Cmd, LetIn, SetTo, InsertAfter, DeleteAt, Yield}
 use Rattle.jc_rules.specs.Derivation.{Question, Occur, Run, Evaluate, SelectIndex, SelectKeys, SelectValues, Make, ApplyOp, Operate, Child, Answer, ToState, ToBound, ToCursor, ToNames, ToPairs, ToContext, ToContent}
 use Rattle.jc_rules.specs.Table.{cursor, moved, IsEmptyIds, names_in, op_of}
-use Rattle.jc_rules.specs.Refused.{Cause, because, no_node, IsAnswered, IsYieldEvent, first_expr, WantsCursor, Refused, no_command, at_yield, in_command, no_yield, not_at_yield, not_acted, not_received, already_applied, deps_missing, in_first, not_a_cursor, in_making, in_made, in_applied, unbound, get_on_head, get_too_deep, index_too_deep, in_index, in_keys, in_values, index_no_node, keys_no_node, values_no_node, index_below, keys_below, values_below, past_end, in_counted, in_passed, no_map, no_register, operate_below, not_in_list, IsStuck, no_replica, no_sender, refused}
+use Rattle.jc_rules.specs.Refused.{Cause, because, no_node, IsAnswered, IsYieldEvent, first_expr, WantsCursor, Refused, no_command, at_yield, in_command, no_yield, not_at_yield, not_acted, not_received, not_offered, already_applied, deps_missing, in_first, not_a_cursor, in_making, in_made, in_applied, unbound, get_on_head, get_too_deep, index_too_deep, in_index, in_keys, in_values, index_no_node, keys_no_node, values_no_node, index_below, keys_below, values_below, past_end, in_counted, in_passed, no_map, no_register, operate_below, not_in_list, IsStuck, no_replica, no_sender, refused}
 use Rattle.jc_rules.proofs.Ids.{same_id-self, same_id-true}
 use Rattle.jc_clear.proofs.Bare.{map_below, list_below}
 use Rattle.jc_clear.proofs.Lists.{leads_from}
@@ -380,6 +380,13 @@ module _ (N : List State) (w : IsWell N) (p : ℕ) (A : State) (there : IsAt N p
       go None e = inr (because F.NotReceived, not_received left e)
       go (Some o) e = known o e (has_id i A.ops) refl
 
+  took : (q from : ℕ) (i : Id) (read : List Op) (rest : List Cmd) → A.left ≡ Yield ∷ rest → Decided ToState (Occur A (E.Take q from i) read)
+  took q from i read rest left = go (op_of i read) refl
+    where
+      go : (x : Option Op) → op_of i read ≡ x → Decided ToState (Occur A (E.Take q from i) read)
+      go None e = inr (because F.NotReceived, not_offered left e)
+      go (Some o) e = inl (_, by_rule R.RecvOne (Occur A (E.Take q from i) read) _ [] (rest, o, left, e, refl, refl) tt)
+
   ended : (read : List Op) (rest : List Cmd) → A.left ≡ Yield ∷ rest → Decided ToState (Occur A (E.Done p) read)
   ended read rest left = go A.acted refl
     where
@@ -391,6 +398,7 @@ module _ (N : List State) (w : IsWell N) (p : ℕ) (A : State) (there : IsAt N p
   event_decided (E.Exec q) read s = subst (λ n. Decided ToState (Occur A (E.Exec n) read)) (sym s) (executed read)
   event_decided (E.Send q) read s = at_a_yield (E.Send q) read tt (λ rest l. inl (_, by_rule R.Send (Occur A (E.Send q) read) _ [] (rest, l, refl, refl) tt))
   event_decided (E.Recv q from) read s = at_a_yield (E.Recv q from) read tt (λ rest l. inl (_, by_rule R.Recv (Occur A (E.Recv q from) read) _ [] (rest, l, refl, refl) tt))
+  event_decided (E.Take q from i) read s = at_a_yield (E.Take q from i) read tt (took q from i read)
   event_decided (E.Apply q i) read s = subst (λ n. Decided ToState (Occur A (E.Apply n i) read)) (sym s) (at_a_yield (E.Apply p i) read tt (received i read))
   event_decided (E.Done q) read s = subst (λ n. Decided ToState (Occur A (E.Done n) read)) (sym s) (at_a_yield (E.Done p) read tt (ended read))
 

@@ -27,6 +27,7 @@ pub data Did (A : State) (event : Event) (read : List Op) (B : State) : Type 0 w
   made : (p : ℕ) (rest : List Cmd) (c : Cmd) (e : Expr) (cur : Cursor) (m : Mutation) (t : Context) → event ≡ E.Exec p → A.left ≡ c ∷ rest → IsAnswered (Evaluate A e) (ToBound (ACursor cur)) → IsAnswered (Operate A.tree (new_op p A cur m)) (ToContext t) → B ≡ record A { left = rest; tree = t; queue = with_op (new_op p A cur m) A.queue; ops = with_id (record { counter = greatest A.ops + 1; replica = p }) A.ops } → Did A event read B
   sent : (p : ℕ) (rest : List Cmd) → event ≡ E.Send p → A.left ≡ Yield ∷ rest → B ≡ record A { acted = true; send = both A.send A.queue } → Did A event read B
   received : (p q : ℕ) (rest : List Cmd) → event ≡ E.Recv p q → A.left ≡ Yield ∷ rest → B ≡ record A { acted = true; recv = both A.recv read } → Did A event read B
+  took : (p q : ℕ) (i : Id) (rest : List Cmd) (o : Op) → event ≡ E.Take p q i → A.left ≡ Yield ∷ rest → op_of i read ≡ Some o → B ≡ record A { acted = true; recv = both A.recv (o ∷ []) } → Did A event read B
   applied : (p : ℕ) (i : Id) (rest : List Cmd) (o : Op) (t : Context) → event ≡ E.Apply p i → A.left ≡ Yield ∷ rest → op_of i A.recv ≡ Some o → has_id i A.ops ≡ false → AreIn o.deps A.ops → IsAnswered (Operate A.tree o) (ToContext t) → B ≡ record A { acted = true; tree = t; ops = with_id i A.ops } → Did A event read B
   done : (p : ℕ) (rest : List Cmd) → event ≡ E.Done p → A.left ≡ Yield ∷ rest → B ≡ record A { left = rest; acted = false } → Did A event read B
 
@@ -95,6 +96,7 @@ occurs R.Exec A (E.Exec p) read B ps (c, rest, C, left, other, f, q) h =
     go (ran_make e cur m t k) = made p rest c e cur m k.tree refl left t k.operates (with_left B C _ rest (same_state _ _ q) k.is)
 occurs R.Send A (E.Send p) read B ps (rest, left, f, q) h = sent p rest refl left (same_state _ _ q)
 occurs R.Recv A (E.Recv p q) read B ps (rest, left, f, e) h = received p q rest refl left (same_state _ _ e)
+occurs R.RecvOne A (E.Take p q i) read B ps (rest, o, left, found, f, e) h = took p q i rest o refl left found (same_state _ _ e)
 occurs R.ApplyRemote A (E.Apply p i) read B ps (rest, o, t, left, there, new, deps, f, q) h = applied p i rest o t refl left there new deps (first_is _ _ [] ps h f) (same_state _ _ q)
 occurs R.Done A (E.Done p) read B ps (rest, left, acted, f, q) h = done p rest refl left (same_state _ _ q)
 occurs _ A event read B ps h hs = absurd h

@@ -11,23 +11,26 @@ use Rattle.jc_replica.specs.Operations.{AreInOrder}
 use Rattle.jc_replica.proofs.Unions.{with-in_order, both-in_order}
 use Rattle.jc_network.specs.Laws.{starts, IsReached}
 use Rattle.jc_network.specs.Network.{IsAt}
-use Rattle.jc_network.proofs.Did.{new_op, Did, bound, made, sent, received, applied, done, did}
+use Rattle.jc_network.proofs.Did.{new_op, Did, bound, made, sent, received, took, applied, done, did}
 use Rattle.jc_network.proofs.Members.{set_there, set_other}
 use Rattle.jc_network.proofs.Starting.{started}
 
 pub record IsOrdered (A : State) : Type 0 where
   pub made : AreInOrder A.queue
+  pub offered : AreInOrder A.send
   pub received : AreInOrder A.recv
 
 order_did : (A : State) (event : Event) (read : List Op) (B : State) → Did A event read B → IsOrdered A → IsOrdered B
-order_did A event read B (bound p rest x e b is left s new) h = subst IsOrdered (sym new) (record { made = h.made; received = h.received })
+order_did A event read B (bound p rest x e b is left s new) h = subst IsOrdered (sym new) (record { made = h.made; offered = h.offered; received = h.received })
 order_did A event read B (made p rest c e cur m t is left s op new) h =
-    subst IsOrdered (sym new) (record { made = with-in_order (new_op p A cur m) A.queue h.made; received = h.received })
-order_did A event read B (sent p rest is left new) h = subst IsOrdered (sym new) (record { made = h.made; received = h.received })
+    subst IsOrdered (sym new) (record { made = with-in_order (new_op p A cur m) A.queue h.made; offered = h.offered; received = h.received })
+order_did A event read B (sent p rest is left new) h = subst IsOrdered (sym new) (record { made = h.made; offered = both-in_order A.send A.queue h.offered; received = h.received })
 order_did A event read B (received p q rest is left new) h =
-    subst IsOrdered (sym new) (record { made = h.made; received = both-in_order A.recv read h.received })
-order_did A event read B (applied p i rest o t is left there new_id deps op new) h = subst IsOrdered (sym new) (record { made = h.made; received = h.received })
-order_did A event read B (done p rest is left new) h = subst IsOrdered (sym new) (record { made = h.made; received = h.received })
+    subst IsOrdered (sym new) (record { made = h.made; offered = h.offered; received = both-in_order A.recv read h.received })
+order_did A event read B (took p q i rest o is left found new) h =
+    subst IsOrdered (sym new) (record { made = h.made; offered = h.offered; received = both-in_order A.recv (o ∷ []) h.received })
+order_did A event read B (applied p i rest o t is left there new_id deps op new) h = subst IsOrdered (sym new) (record { made = h.made; offered = h.offered; received = h.received })
+order_did A event read B (done p rest is left new) h = subst IsOrdered (sym new) (record { made = h.made; offered = h.offered; received = h.received })
 
 abbrev AreOrdered : List State → Type 0
 AreOrdered network = (p : ℕ) (A : State) → IsAt network p A → IsOrdered A
@@ -55,7 +58,7 @@ order_after N [] M h a = subst AreOrdered a h
 order_after N (e ∷ es) M h a = order_after a.0 es M (order_step N e a.0 a.1 h a.2) a.3
 
 order_start : (scripts : List (List Cmd)) → AreOrdered (starts scripts)
-order_start scripts p A there = let x = started scripts p A there in subst IsOrdered (sym x.1) (record { made = tt; received = tt })
+order_start scripts p A there = let x = started scripts p A there in subst IsOrdered (sym x.1) (record { made = tt; offered = tt; received = tt })
 
 pub ordered : (scripts : List (List Cmd)) (network : List State) → IsReached scripts network → (p : ℕ) (A : State) → IsAt network p A → IsOrdered A
 ordered scripts network r = order_after (starts scripts) r.0 network (order_start scripts) r.1

@@ -21,7 +21,7 @@ use Rattle.jc_rules.specs.State.{State}
 use Rattle.jc_rules.specs.Syntax.{Expr, Cmd, Yield}
 use Rattle.jc_rules.specs.Derivation.{Question, Occur, Run, Evaluate, SelectIndex, SelectKeys, SelectValues, Make, ApplyOp, Operate, Child, AddId, Presence, Clear, ClearAny, ClearElem, ClearMap, ClearList, ToContent}
 use Rattle.jc_rules.specs.Table.{op_of, moved}
-use Rattle.jc_rules.specs.Refused.{Cause, IsAnswered, first_expr, Refused, no_command, at_yield, in_command, no_yield, not_at_yield, not_acted, not_received, already_applied, deps_missing, in_received, in_first, not_a_cursor, in_making, in_made, in_applied, unbound, get_on_head, get_too_deep, index_too_deep, in_index, in_keys, in_values, index_no_node, keys_no_node, values_no_node, index_below, keys_below, values_below, past_end, in_counted, in_passed, no_map, no_register, operate_below, not_in_list, insert_later, IsStuck, no_replica, no_sender, refused}
+use Rattle.jc_rules.specs.Refused.{Cause, IsAnswered, first_expr, Refused, no_command, at_yield, in_command, no_yield, not_at_yield, not_acted, not_received, not_offered, already_applied, deps_missing, in_received, in_first, not_a_cursor, in_making, in_made, in_applied, unbound, get_on_head, get_too_deep, index_too_deep, in_index, in_keys, in_values, index_no_node, keys_no_node, values_no_node, index_below, keys_below, values_below, past_end, in_counted, in_passed, no_map, no_register, operate_below, not_in_list, insert_later, IsStuck, no_replica, no_sender, refused}
 use Rattle.jc_network.specs.Everywhere.{LinksAt, Everywhere, Reach}
 use Rattle.jc_apply.specs.Fits.{child_of, InChild, or_new}
 use Rattle.jc_rules.specs.Places.{node_in}
@@ -53,6 +53,7 @@ first_never (Occur B (E.Apply p i) read) A e h = cc
 first_never (Occur B (E.Exec p) read) A e h = tt
 first_never (Occur B (E.Send p) read) A e h = tt
 first_never (Occur B (E.Recv p q) read) A e h = tt
+first_never (Occur B (E.Take p q i) read) A e h = tt
 first_never (Occur B (E.Done p) read) A e h = tt
 first_never (Run p B c) A e h = tt
 first_never (Evaluate B d) A e h = tt
@@ -77,6 +78,7 @@ no_yield_never A (E.Apply p i) read e = λ rest o f x y z u v. let g : [] ≡ Yi
 no_yield_never A (E.Exec p) read e = tt
 no_yield_never A (E.Send p) read e = tt
 no_yield_never A (E.Recv p q) read e = tt
+no_yield_never A (E.Take p q i) read e = tt
 no_yield_never A (E.Done p) read e = tt
 
 not_at_never : (A : State) (event : Event) (read : List Op) (c : Cmd) (rest : List Cmd) → A.left ≡ c ∷ rest → c ≢ Yield → Never (Occur A event read)
@@ -84,6 +86,7 @@ not_at_never A (E.Apply p i) read c rest e n = λ more o f x y z u v. n (let g :
 not_at_never A (E.Exec p) read c rest e n = tt
 not_at_never A (E.Send p) read c rest e n = tt
 not_at_never A (E.Recv p q) read c rest e n = tt
+not_at_never A (E.Take p q i) read c rest e n = tt
 not_at_never A (E.Done p) read c rest e n = tt
 
 below_never : (c : Context) (o : Op) (t : Tagged) (rest : List Tagged) (d : Context) → o.cursor.path ≡ t ∷ rest → IsAnswered (Child c t) (ToContent (Node d)) → Never (Operate d (moved o rest o.cursor.last o.mutation)) → Never (Operate c o)
@@ -110,6 +113,7 @@ never_refused (no_yield {A = A} {event = event} {read = read} h e) = no_yield_ne
 never_refused (not_at_yield {A = A} {event = event} {read = read} {c = c} {rest = rest} h e k) = not_at_never A event read c rest e k
 never_refused (not_acted e f) = tt
 never_refused (not_received e f) = λ rest o x y z u v w. let g : None ≡ Some o = sym f ∙ y in cc
+never_refused (not_offered e f) = tt
 never_refused (already_applied e f g) = λ rest o x y z u v w. let h : true ≡ false = sym g ∙ z in cc
 never_refused (deps_missing {o = o} e f g h) = λ rest p x y z u v w. let s : o ≡ p = same_Some o p (sym f ∙ y) in h (λ i d. u i (subst (λ (q : Op). has_id i q.deps ≡ true) s d))
 never_refused (in_received {A = A} {o = o} e f g h r) =

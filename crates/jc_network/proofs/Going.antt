@@ -7,18 +7,20 @@ use Rattle.std.proofs.lemmas.List.{map-set, length-map, reverse-append, length-r
 use Rattle.jc_rules.specs.declared.operation.Event.{Event}
 use Rattle.jc_rules.specs.declared.operation.Op.{Op}
 use Rattle.jc_rules.specs.declared.rule.Rule.{Rule}
+use Rattle.jc_rules.specs.declared.version.Version.{Version}
+use Rattle.jc_rules.specs.Version.{Allows}
 use Rattle.jc_rules.specs.State.{State}
-use Rattle.jc_rules.specs.Step.{Step, After, replica_of}
+use Rattle.jc_rules.specs.Step.{Step, After, Network, StepIn, AfterIn, replica_of}
 use Rattle.jc_rules.specs.Syntax.{Cmd}
 use Rattle.jc_rules.specs.Trace.{Rows}
 use Rattle.jc_replica.specs.Past.{Past, history}
 use Rattle.jc_network.specs.Applied.{applied_ops, IsApplied}
-use Rattle.jc_network.specs.Course.{scripts_of, kept_of, network_of, last_of, back, back_at, earlier_of, course_of, StepsTo}
+use Rattle.jc_network.specs.Course.{scripts_of, kept_of, network_of, last_of, back, back_at, earlier_of, course_of, of_version, StepsTo}
 use Rattle.jc_network.specs.Laws.{starts, IsReached}
 use Rattle.jc_network.specs.Makes.{AllHand, AllOwn, HasReplica, Acts}
 use Rattle.jc_network.specs.Run.{HasBegun, IsInRun, AreInRun, CanGoBack, AreBacked, AreNumbered, IsKeptNet}
 use Rattle.jc_network.specs.Seen.{AreSeen, IsAsked}
-use Rattle.jc_network.proofs.Acting.{well, as_many_states, kept_there}
+use Rattle.jc_network.proofs.Acting.{well, reached, as_many_states, kept_there}
 use Rattle.jc_network.proofs.Applying.{applied_stands}
 use Rattle.jc_network.proofs.Handing.{offered_handed}
 use Rattle.jc_network.proofs.Members.{set_there, set_other}
@@ -73,8 +75,8 @@ not_empty : (A : State) (As : List State) → As ++ A ∷ [] ≢ []
 not_empty A [] e = cc
 not_empty A (B ∷ As) e = cc
 
-after_end : (N : List State) (es : List Event) (M K : List State) (e : Event) (rows : List (Rule × ℕ)) → After N es M → Step M e K rows → After N (es ++ e ∷ []) K
-after_end N [] M K e rows a s = (K, rows, subst (λ L. Step L e K rows) (sym a) s, refl)
+after_end : (N : Network) (es : List Event) (M K : Network) (e : Event) (rows : List (Rule × ℕ)) → AfterIn N es M → StepIn M e K rows → AfterIn N (es ++ e ∷ []) K
+after_end N [] M K e rows a s = (K, rows, subst (λ L. StepIn L e K rows) (sym a) s, refl)
 after_end N (f ∷ es) M K e rows a s = (a.0, a.1, a.2, after_end a.0 es M K e rows a.3 s)
 
 numbered_set : (ps : List Past) (p : ℕ) (A B : Past) → slice_get ps p ≡ Some A → B.number ≡ A.number → AreNumbered ps → AreNumbered (slice_set ps p B)
@@ -86,12 +88,16 @@ numbered_set ps p A B there same numbered q C e = go (set_other ps p q B)
         sym (ap (λ (x : Past). x.number) is) ∙ (same ∙ (numbered p A there ∙ sym s))
     go (inr s) = numbered q C (sym s ∙ e)
 
-run_now : (scripts : List (List Cmd)) (is : List ℕ) (ps : List Past) → AreInRun scripts is ps → IsInRun scripts (network_of ps) (kept_of ps)
-run_now scripts [] ps h = h.0
-run_now scripts (i ∷ is) ps h = h.0
+run_now : (version : Version) (scripts : List (List Cmd)) (is : List ℕ) (ps : List Past) → AreInRun version scripts is ps → IsInRun version scripts (network_of ps) (kept_of ps)
+run_now version scripts [] ps h = h.0
+run_now version scripts (i ∷ is) ps h = h.0
 
-pub now_in_run : (count : ℕ) (is : List ℕ) (ps : List Past) → (h : IsKeptNet count is ps) → IsInRun h.scripts (network_of ps) (kept_of ps)
-now_in_run count is ps h = run_now h.scripts is ps h.runs
+pub now_in_run : (version : Version) (count : ℕ) (is : List ℕ) (ps : List Past) → (h : IsKeptNet version count is ps) → IsInRun version h.scripts (network_of ps) (kept_of ps)
+now_in_run version count is ps h = run_now version h.scripts is ps h.runs
+
+-- and reached
+pub now_reached : (version : Version) (count : ℕ) (is : List ℕ) (ps : List Past) → (h : IsKeptNet version count is ps) → IsReached h.scripts (network_of ps)
+now_reached version count is ps h = reached version h.scripts (network_of ps) (kept_of ps) (now_in_run version count is ps h)
 
 length_set : (ps : List Past) (p : ℕ) (B : Past) → length (slice_set ps p B) ≡ length ps
 length_set [] p B = refl
@@ -109,55 +115,69 @@ after_count N [] M a = ap length (sym a)
 after_count N (e ∷ es) M a = after_count a.0 es M a.3 ∙ (ap length a.2.is_new ∙ states_set N (replica_of e) a.2.after)
 
 -- a network has a replica for each name, and at most 64
-pub few_names : (count : ℕ) (is : List ℕ) (ps : List Past) → IsKeptNet count is ps → (length (network_of ps) ≡ count) × (count ≤ 64)
-few_names count is ps h =
-    let run = run_now h.scripts is ps h.runs in
+pub few_names : (version : Version) (count : ℕ) (is : List ℕ) (ps : List Past) → IsKeptNet version count is ps → (length (network_of ps) ≡ count) × (count ≤ 64)
+few_names version count is ps h =
+    let run = now_in_run version count is ps h in
+    let led = now_reached version count is ps h in
     let n : length (network_of ps) ≡ length ps = as_many_states ps in
-    let m : length (network_of ps) ≡ length (starts h.scripts) = after_count (starts h.scripts) run.reached.0 (network_of ps) run.reached.1 in
+    let m : length (network_of ps) ≡ length (starts h.scripts) = after_count (starts h.scripts) led.0 (network_of ps) led.1 in
     let l : length (starts h.scripts) ≡ length h.scripts = length-map h.scripts _ in
     let many : length h.scripts ≤ 64 = run.short.many in
     let each : length ps ≡ count = h.each in
     (n ∙ each, omega (arith, n, m, l, many, each))
 
+-- ---- networks of the version
+
+versions-push : (version : Version) (Ns : List (List State)) (N : List State) → map (of_version version) (Ns ++ N ∷ []) ≡ map (of_version version) Ns ++ of_version version N ∷ []
+versions-push version [] N = refl
+versions-push version (M ∷ Ns) N = ap (λ l. of_version version M ∷ l) (versions-push version Ns N)
+
 -- ---- the start
 
--- the first network of these
-abbrev first_in : List (List State) → List State
-first_in Ns = unwrap_or (slice_get Ns 0) []
+-- the first network of these, or another one where there is none
+abbrev first_or : Network → List Network → Network
+first_or other Ns = unwrap_or (slice_get Ns 0) other
 
-first_more : (Ns : List (List State)) (N M : List State) → first_in ((Ns ++ N ∷ []) ++ M ∷ []) ≡ first_in (Ns ++ N ∷ [])
-first_more [] N M = refl
-first_more (L ∷ Ns) N M = refl
+first_more : (Ns : List Network) (N M other : Network) → first_or other ((Ns ++ N ∷ []) ++ M ∷ []) ≡ first_or N (Ns ++ N ∷ [])
+first_more [] N M other = refl
+first_more (L ∷ Ns) N M other = refl
 
 -- it is the start of the scripts
-first_starts : (scripts : List (List Cmd)) (is : List ℕ) (ps : List Past) → AreInRun scripts is ps → first_in (earlier_of is ps ++ network_of ps ∷ []) ≡ starts scripts
-first_starts scripts [] ps h = h.1
-first_starts scripts (i ∷ is) ps h = first_more (earlier_of is (back_at i ps)) (network_of (back_at i ps)) (network_of ps) ∙ first_starts scripts is (back_at i ps) h.1
+first_starts : (version : Version) (scripts : List (List Cmd)) (is : List ℕ) (ps : List Past) → AreInRun version scripts is ps → first_or (of_version version (network_of ps)) (map (of_version version) (earlier_of is ps) ++ of_version version (network_of ps) ∷ []) ≡ of_version version (starts scripts)
+first_starts version scripts [] ps h = ap (of_version version) h.1
+first_starts version scripts (i ∷ is) ps h =
+    let now = of_version version (network_of ps) in
+    let before = of_version version (network_of (back_at i ps)) in
+    let front : List Network = map (of_version version) (earlier_of is (back_at i ps)) in
+    ap (λ (Ns : List Network). first_or now (Ns ++ now ∷ [])) (versions-push version (earlier_of is (back_at i ps)) (network_of (back_at i ps)))
+    ∙ (first_more front before now now ∙ first_starts version scripts is (back_at i ps) h.1)
 
 -- at their start all of each script is left
 left_at_start : (scripts : List (List Cmd)) → map (λ (A : State). A.left) (starts scripts) ≡ scripts
 left_at_start [] = refl
 left_at_start (s ∷ scripts) = ap (λ (l : List (List Cmd)). s ∷ l) (left_at_start scripts)
 
-pub has_begun : (names : List (List ℕ)) (is : List ℕ) (ps : List Past) → IsKeptNet (length names) is ps → HasBegun (course_of names is ps)
-has_begun names is ps h =
-    let first = first_starts h.scripts is ps h.runs in
-    let own : scripts_of (course_of names is ps) ≡ h.scripts = ap (map (λ (A : State). A.left)) first ∙ left_at_start h.scripts in
+pub has_begun : (version : Version) (names : List (List ℕ)) (is : List ℕ) (ps : List Past) → IsKeptNet version (length names) is ps → HasBegun (course_of version names is ps)
+has_begun version names is ps h =
+    let first = first_starts version h.scripts is ps h.runs in
+    let own : scripts_of (course_of version names is ps) ≡ h.scripts = ap (λ (N : Network). map (λ (A : State). A.left) N.states) first ∙ left_at_start h.scripts in
+    let run = now_in_run version (length names) is ps h in
     record {
-      first = first ∙ ap starts (sym own);
-      reached = subst (λ s. IsReached s (network_of ps)) (sym own) (run_now h.scripts is ps h.runs).reached;
+      first = first ∙ ap (λ (s : List (List Cmd)). of_version version (starts s)) (sym own);
+      events = run.events;
+      led = subst (λ (N : Network). AfterIn N run.events (of_version version (network_of ps))) (sym first) run.led;
     }
 
 -- ---- a step
 
 -- the network after it
-record IsStepped (scripts : List (List Cmd)) (old new : List Past) (event : Event) (rows : Rows) : Type 0 where
-  step : Step (network_of old) event (network_of new) rows.rows
+record IsStepped (version : Version) (scripts : List (List Cmd)) (old new : List Past) (event : Event) (rows : Rows) : Type 0 where
+  step : StepIn (of_version version (network_of old)) event (of_version version (network_of new)) rows.rows
   depth : rows.depth ≡ 0
-  run : IsInRun scripts (network_of new) (kept_of new)
+  run : IsInRun version scripts (network_of new) (kept_of new)
 
-step_of : (scripts : List (List Cmd)) (old new : List Past) (event : Event) (rows : Rows) → IsInRun scripts (network_of old) (kept_of old) → AreNumbered old → Acts event old new (Ok rows) → IsStepped scripts old new event rows
-step_of scripts old new event rows run numbered acts =
+step_of : (version : Version) (scripts : List (List Cmd)) (old new : List Past) (event : Event) (rows : Rows) → Allows event version → IsInRun version scripts (network_of old) (kept_of old) → AreNumbered old → Acts event old new (Ok rows) → IsStepped version scripts old new event rows
+step_of version scripts old new event rows allowed run numbered acts =
     let m = acts.moves in
     let p = replica_of event in
     let N = network_of old in
@@ -166,80 +186,83 @@ step_of scripts old new event rows run numbered acts =
       there = slice_get-map (λ (q : Past). q.now) old p ∙ rw m.there refl;
       reads = acts.reads;
     } in
-    let s = steps_on run.set N (kept_of old) (well scripts N run.reached).sets run.seen event acts.read m.before m.after rows asked m.answers in
+    let s = steps_on run.set N (kept_of old) (well scripts N (reached version scripts N (kept_of old) run)).sets run.seen event acts.read m.before m.after rows asked m.answers in
     let kept : slice_set (kept_of old) p m.after.now ≡ kept_of new = sym (ap kept_of m.now ∙ map-set _ old p m.after) in
     let seen = subst (AreSeen s.set s.new) kept s.seen in
     let is : s.new ≡ network_of new = seen_is_real s.set s.new (kept_of new) seen in
-    let step = subst (λ M. Step N event M rows.rows) is s.step in
+    let step : StepIn (of_version version N) event (of_version version (network_of new)) rows.rows =
+    record { allowed = allowed; version = refl; step = subst (λ M. Step N event M rows.rows) is s.step } in
     record {
       step = step;
       depth = s.depth;
       run = record {
         short = run.short;
-        reached = (run.reached.0 ++ event ∷ [], after_end (starts scripts) run.reached.0 N (network_of new) event rows.rows run.reached.1 step);
+        events = run.events ++ event ∷ [];
+        led = after_end (of_version version (starts scripts)) run.events (of_version version N) (of_version version (network_of new)) event rows.rows run.led step;
         set = s.set;
         seen = subst (λ M. AreSeen s.set M (kept_of new)) is seen;
       };
     }
 
 -- what holds of a network after a step
-pub record IsAfter (names : List (List ℕ)) (old new : List Past) (whose more : List ℕ) (event : Event) (rows : Rows) : Type 0 where
-  pub kept : IsKeptNet (length names) (reverse more) new
-  pub steps : StepsTo (course_of names (reverse whose) old) event (course_of names (reverse more) new) rows
+pub record IsAfter (version : Version) (names : List (List ℕ)) (old new : List Past) (whose more : List ℕ) (event : Event) (rows : Rows) : Type 0 where
+  pub kept : IsKeptNet version (length names) (reverse more) new
+  pub steps : StepsTo (course_of version names (reverse whose) old) event (course_of version names (reverse more) new) rows
 
-pub stepped : (names : List (List ℕ)) (old new : List Past) (whose more : List ℕ) (event : Event) (rows : Rows) → more ≡ whose ++ replica_of event ∷ [] → IsKeptNet (length names) (reverse whose) old → Acts event old new (Ok rows) → IsAfter names old new whose more event rows
-stepped names old new whose more event rows is inv acts =
+pub stepped : (version : Version) (names : List (List ℕ)) (old new : List Past) (whose more : List ℕ) (event : Event) (rows : Rows) → Allows event version → more ≡ whose ++ replica_of event ∷ [] → IsKeptNet version (length names) (reverse whose) old → Acts event old new (Ok rows) → IsAfter version names old new whose more event rows
+stepped version names old new whose more event rows allowed is inv acts =
     let m = acts.moves in
     let p = replica_of event in
     let turned : reverse more ≡ p ∷ reverse whose = ap reverse is ∙ reverse-append whose (p ∷ []) in
-    let s = step_of inv.scripts old new event rows (run_now inv.scripts (reverse whose) old inv.runs) inv.numbered acts in
+    let s = step_of version inv.scripts old new event rows allowed (run_now version inv.scripts (reverse whose) old inv.runs) inv.numbered acts in
     let goes : back m.after ≡ m.before = back_is m.before m.after (sym m.answers.number) m.answers.earlier in
     let before : back_at p new ≡ old = ap (back_at p) m.now ∙ back_at-set old p m.before m.after m.there goes in
     let there : slice_get new p ≡ Some m.after = subst (λ (ps : List Past). slice_get ps p ≡ Some m.after) (sym m.now) (set_there old p m.before m.after m.there) in
     let can : CanGoBack p new = record { past = m.after; there = there; some = λ e. not_empty m.before.now m.before.earlier (sym m.answers.earlier ∙ e) } in
-    let kept : IsKeptNet (length names) (p ∷ reverse whose) new = record {
+    let kept : IsKeptNet version (length names) (p ∷ reverse whose) new = record {
       each = ap length m.now ∙ (length_set old p m.after ∙ inv.each);
       numbered = subst AreNumbered (sym m.now) (numbered_set old p m.before m.after m.there m.answers.number inv.numbered);
       backed = (can, subst (AreBacked (reverse whose)) (sym before) inv.backed);
       scripts = inv.scripts;
-      runs = (s.run, subst (AreInRun inv.scripts (reverse whose)) (sym before) inv.runs);
+      runs = (s.run, subst (AreInRun version inv.scripts (reverse whose)) (sym before) inv.runs);
     } in
     let earlier : earlier_of (p ∷ reverse whose) new ≡ earlier_of (reverse whose) old ++ network_of old ∷ [] = ap (λ ps. earlier_of (reverse whose) ps ++ network_of ps ∷ []) before in
     record {
-      kept = subst (λ w. IsKeptNet (length names) w new) (sym turned) kept;
+      kept = subst (λ w. IsKeptNet version (length names) w new) (sym turned) kept;
       steps = record {
         step = s.step;
         depth = s.depth;
-        earlier = subst (λ w. earlier_of w new ≡ earlier_of (reverse whose) old ++ network_of old ∷ []) (sym turned) earlier;
+        earlier = ap (map (of_version version)) (subst (λ w. earlier_of w new ≡ earlier_of (reverse whose) old ++ network_of old ∷ []) (sym turned) earlier)
+            ∙ versions-push version (earlier_of (reverse whose) old) (network_of old);
         names = refl;
       };
     }
 
 -- what a loan of the whole list has given back
-pub stepped_whole : (names : List (List ℕ)) (old new : List Past) (n : ℕ) (whose more : List ℕ) (event : Event) (rows : Rows) → n ≡ length old → more ≡ whose ++ replica_of event ∷ [] → IsKeptNet (length names) (reverse whose) old → Acts event old new (Ok rows) → IsAfter names old (take n (new ++ drop (length new) old)) whose more event rows
-stepped_whole names old new n whose more event rows len is inv acts =
+pub stepped_whole : (version : Version) (names : List (List ℕ)) (old new : List Past) (n : ℕ) (whose more : List ℕ) (event : Event) (rows : Rows) → Allows event version → n ≡ length old → more ≡ whose ++ replica_of event ∷ [] → IsKeptNet version (length names) (reverse whose) old → Acts event old new (Ok rows) → IsAfter version names old (take n (new ++ drop (length new) old)) whose more event rows
+stepped_whole version names old new n whose more event rows allowed len is inv acts =
     let m = acts.moves in
     let count : length new ≡ length old = ap length m.now ∙ length_set old (replica_of event) m.after in
     let whole : take n (new ++ drop (length new) old) ≡ new = subst (λ k. take k (new ++ drop (length new) old) ≡ new) (count ∙ sym len) (take-append_seam new (drop (length new) old)) in
-    subst (λ ps. IsAfter names old ps whose more event rows) (sym whole) (stepped names old new whose more event rows is inv acts)
+    subst (λ ps. IsAfter version names old ps whose more event rows) (sym whole) (stepped version names old new whose more event rows allowed is inv acts)
 
 -- what the replicas offer may be handed on
-pub all_hand : (count : ℕ) (is : List ℕ) (ps : List Past) → IsKeptNet count is ps → AllHand ps
-all_hand count is ps h q past e =
-    let run = run_now h.scripts is ps h.runs in
-    offered_handed h.scripts (network_of ps) run.reached run.short run.set (kept_of ps) run.seen q past.now (kept_there ps q past e)
+pub all_hand : (version : Version) (count : ℕ) (is : List ℕ) (ps : List Past) → IsKeptNet version count is ps → AllHand ps
+all_hand version count is ps h q past e =
+    let run = now_in_run version count is ps h in
+    offered_handed h.scripts (network_of ps) (now_reached version count is ps h) run.short run.set (kept_of ps) run.seen q past.now (kept_there ps q past e)
 
 -- what each offers is one replica's own
-pub all_own : (count : ℕ) (is : List ℕ) (ps : List Past) → IsKeptNet count is ps → AllOwn ps
-all_own count is ps h q past e =
-    let run = run_now h.scripts is ps h.runs in
+pub all_own : (version : Version) (count : ℕ) (is : List ℕ) (ps : List Past) → IsKeptNet version count is ps → AllOwn ps
+all_own version count is ps h q past e =
+    let run = now_in_run version count is ps h in
     let x = run.seen.each q past.now (kept_there ps q past e) in
-    subst AreOfOne (sym (ap (λ (S : State). S.send) x.seen.stands.is)) (of_one q x.at.send (λ o c. ((well h.scripts (network_of ps) run.reached).sets.sent q x.at o x.there c).0))
+    subst AreOfOne (sym (ap (λ (S : State). S.send) x.seen.stands.is)) (of_one q x.at.send (λ o c. ((well h.scripts (network_of ps) (now_reached version count is ps h)).sets.sent q x.at o x.there c).0))
 
 -- what a replica keeps stands for its state
-pub has_replica : (count : ℕ) (is : List ℕ) (ps : List Past) → IsKeptNet count is ps → (p : ℕ) (past : Past) → slice_get ps p ≡ Some past → HasReplica (network_of ps) p past
-has_replica count is ps h p past e =
-    let run = run_now h.scripts is ps h.runs in
+pub has_replica : (version : Version) (count : ℕ) (is : List ℕ) (ps : List Past) → IsKeptNet version count is ps → (p : ℕ) (past : Past) → slice_get ps p ≡ Some past → HasReplica (network_of ps) p past
+has_replica version count is ps h p past e =
+    let run = now_in_run version count is ps h in
     let x = run.seen.each p past.now (kept_there ps p past e) in
     record { at = x.at; there = x.there; number = h.numbered p past e; kept = x.seen.stands.is }
 
@@ -255,37 +278,37 @@ some_lent ps i (Some y) x f e =
     subst (λ (z : Bor Past). slice_get ps i ≡ Some z.now) same (slice_get_read ps (length ps) i y.now refl f.3.0 (f.3.1 y.now))
 
 -- what a replica has applied
-pub applies : (count : ℕ) (is : List ℕ) (ps : List Past) → IsKeptNet count is ps → (p : ℕ) (past : Past) (ops : List Op) → slice_get ps p ≡ Some past → ops ≡ applied_ops past.now → IsApplied (network_of ps) p ops
-applies count is ps h p past ops e found =
-    let run = run_now h.scripts is ps h.runs in
+pub applies : (version : Version) (count : ℕ) (is : List ℕ) (ps : List Past) → IsKeptNet version count is ps → (p : ℕ) (past : Past) (ops : List Op) → slice_get ps p ≡ Some past → ops ≡ applied_ops past.now → IsApplied (network_of ps) p ops
+applies version count is ps h p past ops e found =
+    let run = now_in_run version count is ps h in
     subst (IsApplied (network_of ps) p) (sym found) (applied_stands run.set (network_of ps) (kept_of ps) run.seen p past.now (kept_there ps p past e))
 
 -- ---- the way back
 
-pub record IsBefore (count : ℕ) (old new : List Past) (whose fewer : List ℕ) : Type 0 where
-  pub kept : IsKeptNet count (reverse fewer) new
+pub record IsBefore (version : Version) (count : ℕ) (old new : List Past) (whose fewer : List ℕ) : Type 0 where
+  pub kept : IsKeptNet version count (reverse fewer) new
   pub earlier : earlier_of (reverse whose) old ≡ earlier_of (reverse fewer) new ++ network_of new ∷ []
 
 turned_back : (whose fewer : List ℕ) (p : ℕ) → whose ≡ fewer ++ p ∷ [] → reverse whose ≡ p ∷ reverse fewer
 turned_back whose fewer p is = ap reverse is ∙ reverse-append fewer (p ∷ [])
 
 -- the replica whose step was the last is there
-pub can_index : (count : ℕ) (ps : List Past) (p : ℕ) (whose fewer : List ℕ) → whose ≡ fewer ++ p ∷ [] → IsKeptNet count (reverse whose) ps → p < length ps
-can_index count ps p whose fewer is inv =
-    let h : IsKeptNet count (p ∷ reverse fewer) ps = subst (λ w. IsKeptNet count w ps) (turned_back whose fewer p is) inv in
+pub can_index : (version : Version) (count : ℕ) (ps : List Past) (p : ℕ) (whose fewer : List ℕ) → whose ≡ fewer ++ p ∷ [] → IsKeptNet version count (reverse whose) ps → p < length ps
+can_index version count ps p whose fewer is inv =
+    let h : IsKeptNet version count (p ∷ reverse fewer) ps = subst (λ w. IsKeptNet version count w ps) (turned_back whose fewer p is) inv in
     slice_get_within ps p h.backed.0.past h.backed.0.there
 
 -- and it can go back
-pub goes_back : (count : ℕ) (ps : List Past) (p : ℕ) (a : Past) (whose fewer : List ℕ) → whose ≡ fewer ++ p ∷ [] → IsKeptNet count (reverse whose) ps → slice_get ps p ≡ Some a → a.earlier ≢ []
-goes_back count ps p a whose fewer is inv there e =
-    let h : IsKeptNet count (p ∷ reverse fewer) ps = subst (λ w. IsKeptNet count w ps) (turned_back whose fewer p is) inv in
+pub goes_back : (version : Version) (count : ℕ) (ps : List Past) (p : ℕ) (a : Past) (whose fewer : List ℕ) → whose ≡ fewer ++ p ∷ [] → IsKeptNet version count (reverse whose) ps → slice_get ps p ≡ Some a → a.earlier ≢ []
+goes_back version count ps p a whose fewer is inv there e =
+    let h : IsKeptNet version count (p ∷ reverse fewer) ps = subst (λ w. IsKeptNet version count w ps) (turned_back whose fewer p is) inv in
     let s : h.backed.0.past ≡ a = same_Some h.backed.0.past a (sym h.backed.0.there ∙ there) in
     h.backed.0.some (ap (λ (q : Past). q.earlier) s ∙ e)
 
-pub undone : (count : ℕ) (ps : List Past) (p : ℕ) (a b : Past) (whose fewer : List ℕ) → whose ≡ fewer ++ p ∷ [] → IsKeptNet count (reverse whose) ps → slice_get ps p ≡ Some a → b.number ≡ a.number → history b ≡ a.earlier → IsBefore count ps (slice_set ps p b) whose fewer
-undone count ps p a b whose fewer is inv there number was =
+pub undone : (version : Version) (count : ℕ) (ps : List Past) (p : ℕ) (a b : Past) (whose fewer : List ℕ) → whose ≡ fewer ++ p ∷ [] → IsKeptNet version count (reverse whose) ps → slice_get ps p ≡ Some a → b.number ≡ a.number → history b ≡ a.earlier → IsBefore version count ps (slice_set ps p b) whose fewer
+undone version count ps p a b whose fewer is inv there number was =
     let turned = turned_back whose fewer p is in
-    let h : IsKeptNet count (p ∷ reverse fewer) ps = subst (λ w. IsKeptNet count w ps) turned inv in
+    let h : IsKeptNet version count (p ∷ reverse fewer) ps = subst (λ w. IsKeptNet version count w ps) turned inv in
     let new : slice_set ps p b ≡ back_at p ps = ap (slice_set ps p) (sym (back_is b a number (sym was))) ∙ sym (back_at-is p ps a there) in
     record {
       kept = record {
@@ -293,19 +316,23 @@ undone count ps p a b whose fewer is inv there number was =
         numbered = numbered_set ps p a b there number h.numbered;
         backed = subst (AreBacked (reverse fewer)) (sym new) h.backed.1;
         scripts = h.scripts;
-        runs = subst (AreInRun h.scripts (reverse fewer)) (sym new) h.runs.1;
+        runs = subst (AreInRun version h.scripts (reverse fewer)) (sym new) h.runs.1;
       };
       earlier = subst (λ w. earlier_of w ps ≡ earlier_of (reverse fewer) (slice_set ps p b) ++ network_of (slice_set ps p b) ∷ []) (sym turned) (ap (λ qs. earlier_of (reverse fewer) qs ++ network_of qs ∷ []) (sym new));
     }
 
+-- as networks of the version
+pub versions_before : (version : Version) (count : ℕ) (old new : List Past) (whose fewer : List ℕ) → IsBefore version count old new whose fewer → map (of_version version) (earlier_of (reverse whose) old) ≡ map (of_version version) (earlier_of (reverse fewer) new) ++ of_version version (network_of new) ∷ []
+versions_before version count old new whose fewer h = ap (map (of_version version)) h.earlier ∙ versions-push version (earlier_of (reverse fewer) new) (network_of new)
+
 -- the same, where the replica says whether it went back
-pub undone_by : (count : ℕ) (ps : List Past) (p : ℕ) (a b : Past) (whose fewer : List ℕ) → whose ≡ fewer ++ p ∷ [] → IsKeptNet count (reverse whose) ps → slice_get ps p ≡ Some a → b.number ≡ a.number → (result : Bool) → (IsTrue result → history b ≡ a.earlier) → (IsFalse result → (b ≡ a) × (a.earlier ≡ [])) → IsBefore count ps (slice_set ps p b) whose fewer
-undone_by count ps p a b whose fewer is inv there number true was none = undone count ps p a b whose fewer is inv there number (was refl)
-undone_by count ps p a b whose fewer is inv there number false was none = absurd (goes_back count ps p a whose fewer is inv there (none refl).1)
+pub undone_by : (version : Version) (count : ℕ) (ps : List Past) (p : ℕ) (a b : Past) (whose fewer : List ℕ) → whose ≡ fewer ++ p ∷ [] → IsKeptNet version count (reverse whose) ps → slice_get ps p ≡ Some a → b.number ≡ a.number → (result : Bool) → (IsTrue result → history b ≡ a.earlier) → (IsFalse result → (b ≡ a) × (a.earlier ≡ [])) → IsBefore version count ps (slice_set ps p b) whose fewer
+undone_by version count ps p a b whose fewer is inv there number true was none = undone version count ps p a b whose fewer is inv there number (was refl)
+undone_by version count ps p a b whose fewer is inv there number false was none = absurd (goes_back version count ps p a whose fewer is inv there (none refl).1)
 
 -- ---- the number of steps
 
-length_end : {X : Type 0} (xs : List X) (x : X) → length (xs ++ x ∷ []) ≡ length xs + 1
+pub length_end : {X : Type 0} (xs : List X) (x : X) → length (xs ++ x ∷ []) ≡ length xs + 1
 length_end [] x = refl
 length_end (y ∷ xs) x = let h : length (xs ++ x ∷ []) ≡ length xs + 1 = length_end xs x in omega (arith, h)
 
@@ -316,5 +343,5 @@ length_earlier (i ∷ is) ps =
     let g : length (earlier_of (i ∷ is) ps) ≡ length (earlier_of is (back_at i ps)) + 1 = length_end (earlier_of is (back_at i ps)) (network_of (back_at i ps)) in
     omega (arith, h, g)
 
-pub as_many : (whose : List ℕ) (ps : List Past) → length (earlier_of (reverse whose) ps) ≡ length whose
-as_many whose ps = length_earlier (reverse whose) ps ∙ length-reverse whose
+pub as_many : (version : Version) (whose : List ℕ) (ps : List Past) → length (map (of_version version) (earlier_of (reverse whose) ps)) ≡ length whose
+as_many version whose ps = length-map (earlier_of (reverse whose) ps) (of_version version) ∙ length_earlier (reverse whose) ps ∙ length-reverse whose

@@ -1,5 +1,5 @@
 -- Members of lists of operations, and the states of a network.
-use Rattle.std.proofs.Common.{◌≡◌, ◌≢◌, ℕ, zero, suc, ◌≤◌, List, [], ◌∷◌, Some, Bool, true, false, ◌||◌, Contains, ◌⊎◌, inl, inr, slice_get, slice_set, refl, sym, ◌∙◌, ap, subst, arith}
+use Rattle.std.proofs.Common.{◌≡◌, ◌≢◌, ℕ, zero, suc, ◌<◌, ◌≤◌, List, [], ◌∷◌, length, Some, Bool, true, false, ◌||◌, Contains, ◌⊎◌, inl, inr, slice_get, slice_set, refl, sym, ◌∙◌, ap, subst, arith}
 use Rattle.std.specs.declared.cmp.Ordering.{Ordering}
 use Rattle.std.specs.declared.cmp.Ordering.TheVariants.{Less, Equal, Greater}
 use Rattle.std.proofs.lemmas.Option.{same_Some}
@@ -134,7 +134,14 @@ still_with_id k i s h = has_id-with k i s ∙ or_right (same_id k i) (has_id k s
 pub now_with_id : (i : Id) (s : List Id) → has_id i (with_id i s) ≡ true
 now_with_id i s = has_id-with i i s ∙ rw (same_id-self i) refl
 
--- ---- one state of a network is set
+-- ---- one state of a network
+
+pub some_at : {X : Type 0} (xs : List X) (p : ℕ) → p < length xs → (x : X) × (slice_get xs p ≡ Some x)
+some_at [] p l = absurd (omega (arith, l))
+some_at (x ∷ xs) zero l = (x, refl)
+some_at (x ∷ xs) (suc p) l = some_at xs p (omega (arith, l))
+
+-- ---- it is set
 
 pub set_there : {X : Type 0} (xs : List X) (p : ℕ) (a b : X) → slice_get xs p ≡ Some a → slice_get (slice_set xs p b) p ≡ Some b
 set_there [] p a b h = cc

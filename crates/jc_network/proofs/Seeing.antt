@@ -2,8 +2,9 @@
 use Rattle.std.proofs.Common.{◌≡◌, ◌≢◌, ℕ, zero, suc, List, [], ◌∷◌, Option, Some, None, IfSome, Contains, ◌⊎◌, inl, inr, map, length, slice_get, slice_set, refl, sym, ◌∙◌, ap, subst, arith}
 use Rattle.std.specs.List.{AllByRecursion}
 use Rattle.std.proofs.lemmas.Option.{same_Some}
+use Rattle.jc_rules.specs.declared.id.Id.{Id}
 use Rattle.jc_rules.specs.declared.operation.Event.{Event}
-use Rattle.jc_rules.specs.declared.operation.Event.TheVariants.{Exec, Send, Recv, Apply, Done}
+use Rattle.jc_rules.specs.declared.operation.Event.TheVariants.{Exec, Send, Recv, Take, Apply, Done}
 use Rattle.jc_rules.specs.declared.operation.Op.{Op}
 use Rattle.jc_rules.specs.Refused.{Cause, IsStuck, refused}
 use Rattle.jc_rules.specs.State.{State, start}
@@ -59,6 +60,7 @@ own_for : (event : Event) (set : List Op) (p : ℕ) (A : State) → HasOwn set p
 own_for (Exec q) set p A h = h
 own_for (Send q) set p A h = tt
 own_for (Recv q r) set p A h = tt
+own_for (Take q r i) set p A h = tt
 own_for (Apply q i) set p A h = tt
 own_for (Done q) set p A h = tt
 
@@ -133,8 +135,13 @@ module _ (set : List Op) (network kept : List State) (sound : HasSoundOps networ
         };
       }
 
+  -- to take one operation reads what is offered, as to receive does
+  reads_to_take : (p q : ℕ) (i : Id) (read : List Op) → Reads set network (Recv p q) read → Reads set network (Take p q i) read
+  reads_to_take p q i read r = record { os = r.os; reads = r.reads; is = r.is }
+
   pub reads_stand : (event : Event) (read : List Op) → read_by event kept ≡ Some read → Reads set network event read
   reads_stand (Recv p q) read h = reads_sent p q read (slice_get kept q) refl h
+  reads_stand (Take p q i) read h = reads_to_take p q i read (reads_sent p q read (slice_get kept q) refl h)
   reads_stand (Exec p) read h = reads_nothing set network (Exec p) read refl h
   reads_stand (Send p) read h = reads_nothing set network (Send p) read refl h
   reads_stand (Apply p i) read h = reads_nothing set network (Apply p i) read refl h

@@ -1,5 +1,5 @@
 -- A network after a step.
-use Rattle.std.proofs.Common.{◌≡◌, ◌≢◌, ℕ, ◌+◌, ◌≤◌, List, [], Option, Some, None, Bool, true, false, Contains, ◌⊎◌, inl, inr, slice_get, slice_set, refl, sym, ◌∙◌, ap, subst, arith}
+use Rattle.std.proofs.Common.{◌≡◌, ◌≢◌, ℕ, zero, suc, ◌+◌, ◌≤◌, List, [], ◌∷◌, Option, Some, None, Bool, true, false, Contains, ◌⊎◌, inl, inr, slice_get, slice_set, refl, sym, ◌∙◌, ap, subst, arith}
 use Rattle.std.specs.List.{AllByRecursion}
 use Rattle.std.proofs.lemmas.Option.{same_Some}
 use Rattle.jc_rules.specs.declared.id.Id.{Id}
@@ -25,7 +25,7 @@ use Rattle.jc_network.proofs.Keeping.{Operates, operates}
 use Rattle.jc_network.proofs.Cursors.{evaluated}
 use Rattle.jc_network.proofs.Members.{none_in, in_with, still_with, now_with, in_both, still_both, op_in, in_with_id, still_with_id, now_with_id, below_greatest}
 use Rattle.jc_network.proofs.Rooted.{cursor_still, vars_still, tree_still, tree_after, reached_listed}
-use Rattle.jc_network.proofs.Did.{new_op, Did, bound, made, sent, received, applied, done, did}
+use Rattle.jc_network.proofs.Did.{new_op, Did, bound, made, sent, received, took, applied, done, did}
 use Rattle.jc_rules.proofs.Ids.{with-rises}
 use Rattle.jc_network.proofs.Growing.{IsNew, Comes, Grows, Stands, moved, stayed, stands, new_unapplied, made_before, made_still, made_now, sets_after}
 
@@ -253,10 +253,20 @@ reads_made N (E.Recv p q) read w e x k = go (slice_get N q) refl e
     go : (o : Option State) → slice_get N q ≡ o → send_of o ≡ Some read → IsMade N x
     go None f g = cc
     go (Some C) f g = (w.sets.sent q C x f (subst (λ s. Contains s x) (sym (same_Some C.send read g)) k)).1
+reads_made N (E.Take p q i) read w e x k = go (slice_get N q) refl e
+  where
+    go : (o : Option State) → slice_get N q ≡ o → send_of o ≡ Some read → IsMade N x
+    go None f g = cc
+    go (Some C) f g = (w.sets.sent q C x f (subst (λ s. Contains s x) (sym (same_Some C.send read g)) k)).1
 reads_made N (E.Exec p) read w e x k = none_in x (subst (λ s. Contains s x) (sym (same_Some [] read e)) k)
 reads_made N (E.Send p) read w e x k = none_in x (subst (λ s. Contains s x) (sym (same_Some [] read e)) k)
 reads_made N (E.Apply p i) read w e x k = none_in x (subst (λ s. Contains s x) (sym (same_Some [] read e)) k)
 reads_made N (E.Done p) read w e x k = none_in x (subst (λ s. Contains s x) (sym (same_Some [] read e)) k)
+
+-- the one of a list of one
+one_is : (x o : Op) → Contains (o ∷ []) x → o ≡ x
+one_is x o (zero, l, e) = e
+one_is x o (suc n, l, e) = absurd (omega (arith, l))
 
 did_well : (N : List State) (p : ℕ) (A : State) (event : Event) (read : List Op) (B : State) → IsAt N p A → IsWell N → ((x : Op) → Contains read x → IsMade N x) → replica_of event ≡ p → Did A event read B → IsWell (slice_set N p B)
 did_well N p A event read B there w reads r (bound q rest x e b is left s new) = subst (λ (D : State). IsWell (slice_set N p D)) (sym new) (bound_well N p A there w rest x b (evaluated (IsMade N) A e b (old_known N p A there w) s))
@@ -265,6 +275,9 @@ did_well N p A event read B there w reads r (made q rest c e cur m t is left s o
     subst (λ (D : State). IsWell (slice_set N p D)) (sym new) (local_well N p A there w rest (new_op q A cur m) t refl same refl (evaluated (IsMade N) A e _ (old_known N p A there w) s) op)
 did_well N p A event read B there w reads r (sent q rest is left new) = subst (λ (D : State). IsWell (slice_set N p D)) (sym new) (sent_well N p A there w)
 did_well N p A event read B there w reads r (received q from rest is left new) = subst (λ (D : State). IsWell (slice_set N p D)) (sym new) (received_well N p A there w read reads)
+did_well N p A event read B there w reads r (took q from i rest o is left found new) =
+    let m : IsMade N o = reads o (op_in i read o found).0 in
+    subst (λ (D : State). IsWell (slice_set N p D)) (sym new) (received_well N p A there w (o ∷ []) (λ x k. subst (IsMade N) (one_is x o k) m))
 did_well N p A event read B there w reads r (applied q i rest o t is left found new deps op new_state) =
     let x = op_in i A.recv o found in
     let f : B ≡ record A { acted = true; tree = t; ops = with_id o.id A.ops } = new_state ∙ ap (λ j. record A { acted = true; tree = t; ops = with_id j A.ops }) (sym x.1) in

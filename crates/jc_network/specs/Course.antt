@@ -2,8 +2,11 @@
 use Rattle.std.specs.Prelude.{◌≡◌, ℕ, zero, suc, ◌-◌, List, [], ◌∷◌, ◌++◌, length, take, map, slice_get, unwrap_or, refl}
 use Rattle.std.specs.Coded.{Coded, code_by, coded×, coded_ℕ, coded_list}
 use Rattle.jc_rules.specs.declared.operation.Event.{Event}
+use Rattle.jc_rules.specs.declared.version.Version.{Version}
+use Rattle.jc_rules.specs.declared.version.Version.TheVariants.{One}
+use Rattle.jc_rules.specs.contracts.version.Version.{the_row as version_row}
 use Rattle.jc_rules.specs.State.{State}
-use Rattle.jc_rules.specs.Step.{Step}
+use Rattle.jc_rules.specs.Step.{Network, StepIn}
 use Rattle.jc_rules.specs.Syntax.{Cmd}
 use Rattle.jc_rules.specs.Trace.{Rows}
 use Rattle.jc_replica.specs.Codes.{state_code}
@@ -15,32 +18,44 @@ use Rattle.jc_network.specs.Real.{real}
 -- the replicas' names, the network, and the networks before its steps, the oldest first
 pub record Course : Type 0 where
   pub names : List (List ℕ)
-  pub network : List State
-  pub earlier : List (List State)
+  pub network : Network
+  pub earlier : List Network
+
+-- the states as a network of the version
+abbrev pub of_version : Version → List State → Network
+of_version version states = record { version = version; states = states }
+
+abbrev pub network_code : Coded Network
+network_code =
+    code_by (Version × List State)
+    (coded× version_row.coded (coded_list state_code))
+    (λ n. (n.version, n.states))
+    (λ t. record { version = t.0; states = t.1 })
+    (λ _. refl)
 
 abbrev pub course_code : Coded Course
 course_code =
-    code_by (List (List ℕ) × (List State × List (List State)))
-    (coded× (coded_list (coded_list coded_ℕ)) (coded× (coded_list state_code) (coded_list (coded_list state_code))))
+    code_by (List (List ℕ) × (Network × List Network))
+    (coded× (coded_list (coded_list coded_ℕ)) (coded× network_code (coded_list network_code)))
     (λ c. (c.names, (c.network, c.earlier)))
     (λ t. record { names = t.0; network = t.1.0; earlier = t.1.1 })
     (λ _. refl)
 
--- the network at the start of the scenario
+-- the network at the start of the scenario, of version 1
 abbrev pub started : Scenario → Course
-started s = record { names = s.names; network = starts s.scripts; earlier = [] }
+started s = record { names = s.names; network = of_version One (starts s.scripts); earlier = [] }
 
 -- the network before all steps
-abbrev pub first_of : Course → List State
-first_of c = unwrap_or (slice_get (c.earlier ++ c.network ∷ []) 0) []
+abbrev pub first_of : Course → Network
+first_of c = unwrap_or (slice_get (c.earlier ++ c.network ∷ []) 0) c.network
 
 -- the scripts of the start: what is left of each in the first network
 abbrev pub scripts_of : Course → List (List Cmd)
-scripts_of c = map (λ A. A.left) (first_of c)
+scripts_of c = map (λ A. A.left) (first_of c).states
 
--- The event is a step by these rules, and the network before it is kept.
+-- The event is a step by these rules, in the network's version, and the network before it is kept.
 pub record StepsTo (old : Course) (event : Event) (new : Course) (rows : Rows) : Type 0 where
-  pub step : Step old.network event new.network rows.rows
+  pub step : StepIn old.network event new.network rows.rows
   pub depth : rows.depth ≡ 0
   pub earlier : new.earlier ≡ old.earlier ++ old.network ∷ []
   pub names : new.names ≡ old.names
@@ -76,5 +91,9 @@ abbrev pub earlier_of : List ℕ → List Past → List (List State)
 earlier_of [] ps = []
 earlier_of (i ∷ is) ps = earlier_of is (back_at i ps) ++ network_of (back_at i ps) ∷ []
 
-abbrev pub course_of : List (List ℕ) → List ℕ → List Past → Course
-course_of names whose ps = record { names = names; network = network_of ps; earlier = earlier_of whose ps }
+abbrev pub course_of : Version → List (List ℕ) → List ℕ → List Past → Course
+course_of version names whose ps = record {
+  names = names;
+  network = of_version version (network_of ps);
+  earlier = map (of_version version) (earlier_of whose ps);
+}

@@ -4,11 +4,14 @@ use Rattle.jc_rules.specs.declared.key.Tagged.{Tagged}
 use Rattle.jc_rules.specs.declared.operation.Event.{Event}
 use Rattle.jc_rules.specs.declared.operation.Event.TheVariants as V
 use Rattle.jc_rules.specs.declared.operation.Op.{Op}
-use Rattle.jc_rules.specs.declared.refusal.Refusal.TheVariants.{NoSuchReplica}
+use Rattle.jc_rules.specs.declared.id.Id.{Id}
+use Rattle.jc_rules.specs.declared.refusal.Refusal.TheVariants.{NoSuchReplica, WrongVersion}
+use Rattle.jc_rules.specs.declared.version.Version.{Version}
 use Rattle.jc_rules.specs.Refusals.{number_of}
-use Rattle.jc_rules.specs.Refused.{Cause, because, no_node, refusal_of, IsStuck}
+use Rattle.jc_rules.specs.Refused.{Cause, because, no_node, refusal_of, IsStuckIn}
 use Rattle.jc_rules.specs.State.{State}
-use Rattle.jc_rules.specs.Step.{replica_of, read_by}
+use Rattle.jc_rules.specs.Step.{replica_of, read_by, Network}
+use Rattle.jc_rules.specs.Version.{Allows}
 use Rattle.jc_rules.specs.Trace.{Rows}
 use Rattle.jc_sets.specs.States.{kept_state}
 use Rattle.jc_replica.specs.declared.fault.ReplicaFault.{ReplicaFault}
@@ -32,9 +35,9 @@ abbrev pub stuck_for : Cause → Event → Stuck
 stuck_for why event = record { number = number_of (refusal_of why); key = key_of why; event = event }
 
 -- The event is stuck in the network, for this cause.
-pub record IsStuckFor (network : List State) (event : Event) (s : Stuck) : Type 0 where
+pub record IsStuckFor (network : Network) (event : Event) (s : Stuck) : Type 0 where
   pub why : Cause
-  pub stuck : IsStuck network event why
+  pub stuck : IsStuckIn network event why
   pub is : s ≡ stuck_for why event
 
 -- for the cause, or for want of memory
@@ -80,15 +83,26 @@ pub record Acts (event : Event) (old new : List Past) (result : Result Rows Repl
   pub reads : read_by event (kept_of old) ≡ Some read
   pub moves : Moves (replica_of event) event read old new result
 
+-- the event in which replica p receives from q: all that it offers, or the operation with the identifier
+abbrev pub reading : ℕ → Option Id → ℕ → Event
+reading q None p = V.Recv p q
+reading q (Some i) p = V.Take p q i
+
+-- the replica from which the event receives
+abbrev pub sender_of : Event → Option ℕ
+sender_of (V.Recv p q) = Some q
+sender_of (V.Take p q i) = Some q
+sender_of event = None
+
 -- the replicas that the event names are there
 abbrev pub HasReplicas : Event → List Past → Type 0
-HasReplicas (V.Recv p q) ps = (p < length ps) × (q < length ps)
-HasReplicas event ps = replica_of event < length ps
+HasReplicas event ps =
+    (replica_of event < length ps) × ((q : ℕ) → sender_of event ≡ Some q → q < length ps)
 
 -- one of them isn't
 abbrev pub IsMissing : Event → List Past → Type 0
 IsMissing event ps =
-    (length ps ≤ replica_of event) ⊎ ((p q : ℕ) × (event ≡ V.Recv p q) × (length ps ≤ q))
+    (length ps ≤ replica_of event) ⊎ ((q : ℕ) × (sender_of event ≡ Some q) × (length ps ≤ q))
 
 -- the event's replica refuses it
 pub record IsRefusedBy (event : Event) (ps : List Past) (why : Cause) : Type 0 where
@@ -97,12 +111,15 @@ pub record IsRefusedBy (event : Event) (ps : List Past) (why : Cause) : Type 0 w
   pub asked : IsAsked (kept_of ps) event read past
   pub refuses : RefusedFor event read past why
 
--- The event isn't made, for this cause.
-abbrev pub Stops : Event → List Past → Cause → Type 0
-Stops event ps why = ((why ≡ because NoSuchReplica) × IsMissing event ps) ⊎ IsRefusedBy event ps why
+-- The event isn't made by a network of the version, for this cause.
+pub data Stops (version : Version) (event : Event) (ps : List Past) : Cause → Type 0 where
+  stops_missing : IsMissing event ps → Stops version event ps (because NoSuchReplica)
+  stops_version : HasReplicas event ps → (Allows event version → ⊥) → Stops version event ps (because WrongVersion)
+  stops_refused : {why : Cause} → Allows event version → IsRefusedBy event ps why → Stops version event ps why
 
-abbrev pub Makes : Event → List Past → List Past → Result Rows StepFault → Type 0
-Makes event old new (Ok rows) = Acts event old new (Ok rows)
-Makes event old new (Err (E.Stuck s)) = (new ≡ old) × (why : Cause) × (s ≡ stuck_for why event) × Stops event old why
-Makes event old new (Err E.Memory) = new ≡ old
-Makes event old new (Err E.Full) = ⊥
+abbrev pub Makes : Version → Event → List Past → List Past → Result Rows StepFault → Type 0
+Makes version event old new (Ok rows) = Allows event version × Acts event old new (Ok rows)
+Makes version event old new (Err (E.Stuck s)) =
+    (new ≡ old) × (why : Cause) × (s ≡ stuck_for why event) × Stops version event old why
+Makes version event old new (Err E.Memory) = new ≡ old
+Makes version event old new (Err E.Full) = ⊥

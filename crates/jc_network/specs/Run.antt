@@ -1,19 +1,23 @@
 -- What the type of a network keeps.
 use Rattle.std.specs.Prelude.{◌≡◌, ◌≢◌, ◌≤◌, ◌+◌, ℕ, List, [], ◌∷◌, Some, Contains, length, slice_get}
+use Rattle.jc_rules.specs.declared.operation.Event.{Event}
 use Rattle.jc_rules.specs.declared.operation.Op.{Op}
+use Rattle.jc_rules.specs.declared.version.Version.{Version}
 use Rattle.jc_rules.specs.State.{State}
+use Rattle.jc_rules.specs.Step.{AfterIn}
 use Rattle.jc_rules.specs.Syntax.{Cmd}
 use Rattle.jc_replica.specs.Past.{Past}
-use Rattle.jc_network.specs.Course.{Course, first_of, scripts_of, kept_of, network_of, back_at}
+use Rattle.jc_network.specs.Course.{Course, of_version, first_of, scripts_of, kept_of, network_of, back_at}
 use Rattle.jc_network.specs.Laws.{starts, held, IsReached}
 use Rattle.jc_network.specs.Network.{commands_left}
 use Rattle.jc_network.specs.Seen.{AreSeen, AreShort}
 
--- Events have led to the network from the start of the scripts, which are short, and in the set of what was made the
--- kept states stand for it.
-pub record IsInRun (scripts : List (List Cmd)) (network kept : List State) : Type 0 where
+-- Events of the version have led to the network from the start of the scripts, which are short, and in the set of what
+-- was made the kept states stand for it.
+pub record IsInRun (version : Version) (scripts : List (List Cmd)) (network kept : List State) : Type 0 where
   pub short : AreShort scripts
-  pub reached : IsReached scripts network
+  pub events : List Event
+  pub led : AfterIn (of_version version (starts scripts)) events (of_version version network)
   pub set : List Op
   pub seen : AreSeen set network kept
 
@@ -21,10 +25,12 @@ pub record IsInRun (scripts : List (List Cmd)) (network kept : List State) : Typ
 abbrev pub IsFromStart : List State → Type 0
 IsFromStart network = (scripts : List (List Cmd)) × IsReached scripts network
 
--- The first network of a course is the start of its own scripts, and events have led from there to the one now.
+-- The first network of a course is the start of its own scripts, in the version of the one now, and events of that
+-- version have led from there to the one now.
 pub record HasBegun (c : Course) : Type 0 where
-  pub first : first_of c ≡ starts (scripts_of c)
-  pub reached : IsReached (scripts_of c) c.network
+  pub first : first_of c ≡ of_version c.network.version (starts (scripts_of c))
+  pub events : List Event
+  pub led : AfterIn (first_of c) events c.network
 
 -- In a network at hand no counter is above the number of commands of its own scripts that were run.
 abbrev pub OwnCountersAreRun : Type 0
@@ -32,13 +38,15 @@ OwnCountersAreRun =
     (c : Course)
     → HasBegun c
     → (o : Op)
-    → Contains (held c.network) o
-    → o.id.counter + commands_left c.network ≤ commands_left (first_of c)
+    → Contains (held c.network.states) o
+    → o.id.counter + commands_left c.network.states ≤ commands_left (first_of c).states
 
 -- the network and all before it, back to the start of the scripts, by whose steps they were, the last one first
-abbrev pub AreInRun : List (List Cmd) → List ℕ → List Past → Type 0
-AreInRun scripts [] ps = IsInRun scripts (network_of ps) (kept_of ps) × (network_of ps ≡ starts scripts)
-AreInRun scripts (i ∷ is) ps = IsInRun scripts (network_of ps) (kept_of ps) × AreInRun scripts is (back_at i ps)
+abbrev pub AreInRun : Version → List (List Cmd) → List ℕ → List Past → Type 0
+AreInRun version scripts [] ps =
+    IsInRun version scripts (network_of ps) (kept_of ps) × (network_of ps ≡ starts scripts)
+AreInRun version scripts (i ∷ is) ps =
+    IsInRun version scripts (network_of ps) (kept_of ps) × AreInRun version scripts is (back_at i ps)
 
 -- the replica i can go back
 pub record CanGoBack (i : ℕ) (ps : List Past) : Type 0 where
@@ -55,9 +63,9 @@ abbrev pub AreNumbered : List Past → Type 0
 AreNumbered ps = (p : ℕ) (past : Past) → slice_get ps p ≡ Some past → past.number ≡ p
 
 -- a replica for each of so many names
-pub record IsKeptNet (count : ℕ) (whose : List ℕ) (ps : List Past) : Type 0 where
+pub record IsKeptNet (version : Version) (count : ℕ) (whose : List ℕ) (ps : List Past) : Type 0 where
   pub each : length ps ≡ count
   pub numbered : AreNumbered ps
   pub backed : AreBacked whose ps
   pub scripts : List (List Cmd)
-  pub runs : AreInRun scripts whose ps
+  pub runs : AreInRun version scripts whose ps

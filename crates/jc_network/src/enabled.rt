@@ -2,11 +2,12 @@
 
 ghost use Rattle.std.specs.Prelude.{◌≡◌, ◌≤◌, ◌∷◌, [], length, OnOk, IfOk};
 ghost use Rattle.jc_rules.specs.Step.{replica_of};
-ghost use Rattle.jc_network.specs.Enabled.{receivings, applyings, events_of, Lists, AreTold};
+ghost use Rattle.jc_network.specs.Course.{kept_of, of_version};
+ghost use Rattle.jc_network.specs.Enabled.{receivings, takings_of, takings, applyings, events_of, Lists, AreTold};
 ghost use Rattle.jc_network.specs.Run.{AreNumbered};
 
 use jc_replica::Replica;
-use jc_rules::Event;
+use jc_rules::{Event, Op, Version};
 use jc_tree::TreeStore;
 use std::alloc::{AllocError, Global};
 
@@ -40,6 +41,49 @@ fn list_receivings<S: TreeStore>(
     Ok(())
 }
 
+/// Lists the events in which the replica takes one of the operations that another one offers.
+fn list_offered<S: TreeStore>(
+    replica: &Replica<S>,
+    sender: u16,
+    offered: &[Op],
+    events: &mut Vec<Event>,
+) -> Result<(), AllocError>
+    ensures { OnOk result (Lists replica.now (takings_of replica.now.number sender offered.now)
+        events.old.items events.new.items) }
+{
+    for op in offered {
+        list(
+            replica,
+            Event::Take(replica.number(), sender, op.id),
+            events,
+        )?;
+    }
+    Ok(())
+}
+
+/// Lists the events in which the replica takes an operation that one of these replicas offers.
+fn list_takings<S: TreeStore>(
+    version: Version,
+    replica: &Replica<S>,
+    replicas: &[Replica<S>],
+    events: &mut Vec<Event>,
+) -> Result<(), AllocError>
+    requires few { length replicas.now ≤ 65535 }
+    ensures { OnOk result (Lists replica.now (takings version replica.now.number (kept_of replicas.now))
+        events.old.items events.new.items) }
+{
+    match version {
+        Version::One => return Ok(()),
+        Version::Two => {}
+    }
+    let mut number: u16 = 0;
+    for sender in replicas {
+        list_offered(replica, number, sender.sent(), events)?;
+        number += 1;
+    }
+    Ok(())
+}
+
 /// Lists the events in which the replica applies an operation that it has received.
 fn list_applyings<S: TreeStore>(
     replica: &Replica<S>,
@@ -54,37 +98,42 @@ fn list_applyings<S: TreeStore>(
     Ok(())
 }
 
-/// Lists the events that the replica can make, which is one of so many.
+/// Lists the events that the replica can make, which is one of these.
 fn list_events<S: TreeStore>(
+    version: Version,
     replica: &Replica<S>,
-    count: u16,
+    replicas: &[Replica<S>],
     events: &mut Vec<Event>,
 ) -> Result<(), AllocError>
-    ensures { OnOk result (Lists replica.now (events_of replica.now.number count replica.now.now.recv)
+    requires few { length replicas.now ≤ 65535 }
+    ensures { OnOk result (Lists replica.now
+        (events_of (of_version version (kept_of replicas.now)) replica.now.number replica.now.now.recv)
         events.old.items events.new.items) }
 {
+    let count = replicas.len() as u16;
     let number = replica.number();
     list(replica, Event::Exec(number), events)?;
     list(replica, Event::Send(number), events)?;
     list_receivings(replica, count, events)?;
+    list_takings(version, replica, replicas, events)?;
     list_applyings(replica, events)?;
     list(replica, Event::Done(number), events)
 }
 
-/// The events that can be made: of each replica in order exec, send, recv from each replica, apply of each operation
-/// that it has received, by identifier, and done.
+/// The events that can be made: of each replica in order exec, send, recv from each replica, in version 2 take of each
+/// operation that each replica offers, apply of each operation that it has received, by identifier, and done.
 pub(crate) fn enabled_in<S: TreeStore>(
     alloc: Global,
+    version: Version,
     replicas: &[Replica<S>],
 ) -> Result<Vec<Event>, AllocError>
     requires few { length replicas.now ≤ 65535 }
     requires numbered { AreNumbered replicas.now }
-    ensures { IfOk result (λ events. AreTold replicas.now events.items) }
+    ensures { IfOk result (λ events. AreTold version replicas.now events.items) }
 {
-    let count = replicas.len() as u16;
     let mut events = Vec::new(alloc);
     for replica in replicas {
-        list_events(replica, count, &mut events)?;
+        list_events(version, replica, replicas, &mut events)?;
     }
     Ok(events)
 }

@@ -68,8 +68,8 @@ pub fn offered_is_handed()
     ensures { OfferedIsHanded }
 {}
 
-/// An event that isn't asked for in what is enabled is stuck: a replica is missing, or an operation wasn't received or
-/// no yield comes next.
+/// An event that isn't asked for in what is enabled is stuck: a replica is missing, or the version has no such event, or
+/// an operation wasn't offered or received, or no yield comes next.
 pub fn others_are_stuck()
     ensures { OthersAreStuck }
 {}

@@ -1,6 +1,6 @@
 //! Networks.
 
-ghost use Rattle.std.specs.Prelude.{◌≡◌, ◌≤◌, ◌++◌, ◌∷◌, ◌↔◌, [], length, slice_get, IfOk, IfSome, OnErr, IsErrOf, IsTrue, IsFalse, IfNone};
+ghost use Rattle.std.specs.Prelude.{◌≡◌, ◌≤◌, ◌++◌, ◌∷◌, ◌↔◌, [], length, slice_get, ℕ, IfOk, IfSome, OnOk, OnErr, IsErrOf, IsTrue, IsFalse, IfNone};
 ghost use Rattle.jc_scenario.specs.Scenarios.{IsWellFormed};
 ghost use Rattle.jc_scenario.specs.Views.{scenario_view};
 ghost use Rattle.jc_network.specs.declared.fault.CompareFault.TheVariants as C;
@@ -18,7 +18,7 @@ use crate::fault::{CompareFault, StepFault};
 use crate::replicas::replicas_of;
 use crate::stepping::make;
 use jc_replica::Replica;
-use jc_rules::{Event, Id, Op, Text, Trace};
+use jc_rules::{Event, Id, Op, Text, Trace, Version};
 use jc_scenario::{Scenario, copy_names};
 use jc_tree::ArenaTree;
 use std::alloc::{AllocError, Global};
@@ -28,6 +28,7 @@ use std::marker::Model;
 /// networks before its steps.
 #[derive(Drop)]
 pub struct Net {
+    version: Version,
     names: Vec<Text>,
     replicas: Vec<Replica<ArenaTree>>,
     /// Whose step each was.
@@ -44,9 +45,9 @@ impl Model for Net {
 
     ghost coded = { course_code };
 
-    ghost view = { λ a. course_of a.names.items (reverse a.whose.items) a.replicas.items };
+    ghost view = { λ a. course_of a.version a.names.items (reverse a.whose.items) a.replicas.items };
 
-    ghost invariant = { λ a. IsKeptNet (length a.names.items) (reverse a.whose.items) a.replicas.items };
+    ghost invariant = { λ a. IsKeptNet a.version (length a.names.items) (reverse a.whose.items) a.replicas.items };
 }
 
 impl Net {
@@ -58,6 +59,7 @@ impl Net {
         let names = copy_names(alloc, &scenario.names)?;
         let replicas = replicas_of(alloc, &scenario.scripts)?;
         Ok(Net {
+            version: Version::One,
             names,
             replicas,
             whose: Vec::new(alloc),
@@ -68,17 +70,24 @@ impl Net {
     /// The replicas' names, in order.
     pub fn names(&self) -> &[Text]
         ensures names { result.now ≡ self.now.names }
-        ensures each { length self.now.network ≡ length self.now.names }
+        ensures each { length self.now.network.states ≡ length self.now.names }
         ensures few { length self.now.names ≤ 64 }
     {
         self.names.as_slice()
     }
 
-    /// The number of steps. Events have led to the network from the start of its own scripts, so the laws of runs
-    /// hold of it.
+    /// The version of the scenario, which no step changes.
+    pub fn version(&self) -> Version
+        ensures { result ≡ self.now.network.version }
+    {
+        self.version
+    }
+
+    /// The number of steps. Events of its version have led to the network from the start of its own scripts, so the
+    /// laws of runs hold of it.
     pub fn steps(&self) -> u64
         ensures steps { result ≡ length self.now.earlier }
-        ensures reached { IsFromStart self.now.network }
+        ensures reached { IsFromStart self.now.network.states }
         ensures begun { HasBegun self.now }
     {
         self.whose.len() as u64
@@ -86,25 +95,26 @@ impl Net {
 
     /// The replica with the number, if there is one.
     pub fn replica(&self, p: u16) -> Option<&Replica<ArenaTree>>
-        ensures some { IfSome result (λ replica. HasReplica self.now.network p replica.now) }
-        ensures none { IfNone result (length self.now.network ≤ p) }
+        ensures some { IfSome result (λ replica. HasReplica self.now.network.states p replica.now) }
+        ensures none { IfNone result (length self.now.network.states ≤ p) }
     {
         self.replicas.get(usize::from(p))
     }
 
-    /// The events that aren't stuck, each once: of each replica in order exec, send, recv from each replica, apply
-    /// by identifier, and done. That there are 100,000 steps is left aside.
+    /// The events that aren't stuck, each once: of each replica in order exec, send, recv from each replica, in
+    /// version 2 take of each operation that each replica offers, apply by identifier, and done. That there are
+    /// 100,000 steps is left aside.
     pub fn enabled(&self) -> Result<Vec<Event>, AllocError>
         ensures { IfOk result (λ events.
             AreEnabled self.now.network (candidates self.now.network) events.items) }
     {
-        enabled_in(self.alloc, &self.replicas)
+        enabled_in(self.alloc, self.version, &self.replicas)
     }
 
     /// The operations that the replica has applied, by identifier.
     pub fn applied(&self, p: u16) -> Result<Vec<Op>, CompareFault>
-        ensures applied { IfOk result (λ ops. IsApplied self.now.network p ops.items) }
-        ensures missing { IsErrOf result C.NoSuchReplica ↔ length self.now.network ≤ p }
+        ensures applied { IfOk result (λ ops. IsApplied self.now.network.states p ops.items) }
+        ensures missing { IsErrOf result C.NoSuchReplica ↔ length self.now.network.states ≤ p }
     {
         match self.replicas.get(usize::from(p)) {
             Some(replica) => Ok(applied_of(self.alloc, replica)?),
@@ -114,8 +124,8 @@ impl Net {
 
     /// The identifiers of the operations that the replica has applied, rising.
     pub fn applied_ids(&self, p: u16) -> Result<Vec<Id>, CompareFault>
-        ensures applied { IfOk result (λ ids. AreAppliedIds self.now.network p ids.items) }
-        ensures missing { IsErrOf result C.NoSuchReplica ↔ length self.now.network ≤ p }
+        ensures applied { IfOk result (λ ids. AreAppliedIds self.now.network.states p ids.items) }
+        ensures missing { IsErrOf result C.NoSuchReplica ↔ length self.now.network.states ≤ p }
     {
         match self.replicas.get(usize::from(p)) {
             Some(replica) => Ok(applied_ids_of(self.alloc, replica)?),
@@ -126,7 +136,8 @@ impl Net {
     /// Makes the event, and gives its trace.
     ///
     /// It is refused with `Full` after 100,000 steps; else with `Stuck`, where the replica that the event names
-    /// first isn't there, or the other one, or for what the replica refuses it. After a refusal all is as it was.
+    /// first isn't there, or the other one, or the network's version has no such event, or for what the replica
+    /// refuses it. After a refusal all is as it was.
     pub fn step(&mut self, event: &Event) -> Result<Trace, StepFault>
         ensures made { IfOk result (λ trace. StepsTo self.old event.now self.new trace) }
         ensures stuck { (s : AnyStuck) → IsErrOf result (E.Stuck s) → IsStuckFor self.old.network event.now s }
@@ -140,7 +151,7 @@ impl Net {
         if self.whose.reserve(1).is_err() {
             return Err(StepFault::Memory);
         }
-        let trace = make(self.replicas.as_mut_slice(), event)?;
+        let trace = make(self.version, self.replicas.as_mut_slice(), event)?;
         self.whose.push(event.replica()).unwrap();
         Ok(trace)
     }
@@ -148,6 +159,7 @@ impl Net {
     /// Takes the last step back, and says whether there was one. It takes no memory.
     pub fn undo(&mut self) -> bool
         ensures undone { IsTrue result → self.old.earlier ≡ self.new.earlier ++ self.new.network ∷ [] }
+        ensures version { self.new.network.version ≡ self.old.network.version }
         ensures names { self.new.names ≡ self.old.names }
         ensures none { IsFalse result → (self.new ≡ self.old) × (self.old.earlier ≡ []) }
     {

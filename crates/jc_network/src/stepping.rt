@@ -1,17 +1,16 @@
 //! Events of the replicas of a network.
 
-ghost use Rattle.std.specs.Prelude.{◌≡◌, ◌<◌, ◌≤◌, length, slice_get};
-ghost use Rattle.jc_rules.specs.declared.operation.Event.TheVariants.{Recv};
-ghost use Rattle.jc_rules.specs.declared.refusal.Refusal.TheVariants.{NoSuchReplica as Missing};
+ghost use Rattle.std.specs.Prelude.{◌≡◌, ◌<◌, ◌≤◌, ℕ, length, slice_get, MatchBool};
+ghost use Rattle.jc_rules.specs.declared.refusal.Refusal.TheVariants.{NoSuchReplica as Missing, WrongVersion as OfAnother};
 ghost use Rattle.jc_rules.specs.Refused.{because};
-ghost use Rattle.jc_replica.specs.Answers.{cause_of};
-ghost use Rattle.jc_replica.specs.Operations.{AreHanded};
-ghost use Rattle.jc_network.specs.Makes.{Makes, Acts, Moves, AllHand, AllOwn, HasReplicas, fault_for, stuck_for, sent_by};
+ghost use Rattle.jc_replica.specs.Answers.{Answers, cause_of};
+ghost use Rattle.jc_replica.specs.Operations.{AreInOrder, AreHanded, AreOfOne};
+ghost use Rattle.jc_network.specs.Makes.{Makes, Acts, Moves, AllHand, AllOwn, HasReplicas, IsMissing, fault_for, stuck_for, sent_by, sender_of, reading};
 ghost use Rattle.jc_network.specs.Run.{AreNumbered};
 
 use crate::fault::{StepFault, Stuck};
 use jc_replica::{Replica, ReplicaFault};
-use jc_rules::{Event, Refusal, Trace};
+use jc_rules::{Event, Id, Op, Refusal, Trace, Version};
 use jc_tree::ArenaTree;
 
 /// That a replica which the event names isn't there.
@@ -23,6 +22,42 @@ fn missing(event: Event) -> Stuck
         key: None,
         event,
     }
+}
+
+/// That a network of the version has no such event.
+fn wrong_version(event: Event) -> Stuck
+    ensures { result ≡ stuck_for (because OfAnother) event }
+{
+    Stuck {
+        number: Refusal::WrongVersion.number(),
+        key: None,
+        event,
+    }
+}
+
+/// The replica from which the event receives.
+fn sender_of(event: &Event) -> Option<u16>
+    ensures { result ≡ sender_of event.now }
+{
+    match event {
+        Event::Recv(_, from) | Event::Take(_, from, _) => Some(*from),
+        Event::Exec(_) | Event::Send(_) | Event::Apply(_, _) | Event::Done(_) => None,
+    }
+}
+
+/// Whether the replicas that the event names are there.
+fn are_there(event: &Event, replicas: &[Replica<ArenaTree>]) -> bool
+    ensures { MatchBool result (HasReplicas event.now replicas.now) (IsMissing event.now replicas.now) }
+{
+    if usize::from(event.replica()) >= replicas.len() {
+        return false;
+    }
+    if let Some(from) = sender_of(event) {
+        if usize::from(from) >= replicas.len() {
+            return false;
+        }
+    }
+    true
 }
 
 /// What the replica's refusal of the event is for the network.
@@ -52,20 +87,23 @@ fn step_fault(fault: ReplicaFault, event: Event) -> StepFault
     StepFault::Stuck(Stuck { number, key, event })
 }
 
-/// Has the event's replica make the event. After a refusal all is as it was.
-pub(crate) fn make(replicas: &mut [Replica<ArenaTree>], event: &Event) -> Result<Trace, StepFault>
+/// Has the event's replica make the event, where its replicas are there and the version has such events. After a refusal
+/// all is as it was.
+pub(crate) fn make(
+    version: Version,
+    replicas: &mut [Replica<ArenaTree>],
+    event: &Event,
+) -> Result<Trace, StepFault>
     requires numbered { AreNumbered replicas.old }
     requires hand { AllHand replicas.old }
     requires own { AllOwn replicas.old }
-    ensures { Makes event.now replicas.old replicas.new result }
+    ensures { Makes version event.now replicas.old replicas.new result }
 {
-    if usize::from(event.replica()) >= replicas.len() {
+    if !are_there(event, replicas) {
         return Err(StepFault::Stuck(missing(*event)));
     }
-    if let Event::Recv(_, from) = event {
-        if usize::from(*from) >= replicas.len() {
-            return Err(StepFault::Stuck(missing(*event)));
-        }
+    if !version.allows(event) {
+        return Err(StepFault::Stuck(wrong_version(*event)));
     }
     match act(replicas, event) {
         Ok(trace) => Ok(trace),
@@ -84,31 +122,66 @@ fn act(replicas: &mut [Replica<ArenaTree>], event: &Event) -> Result<Trace, Repl
     match event {
         Event::Exec(p) => replicas[usize::from(*p)].exec(),
         Event::Send(p) => replicas[usize::from(*p)].send(),
-        Event::Recv(p, q) => receive(replicas, *p, *q),
+        Event::Recv(p, q) => receive(replicas, *p, *q, None),
+        Event::Take(p, q, id) => receive(replicas, *p, *q, Some(*id)),
         Event::Apply(p, id) => replicas[usize::from(*p)].apply(*id),
         Event::Done(p) => replicas[usize::from(*p)].done(),
     }
 }
 
-/// Replica p takes in what replica q offers, which may be itself. No operation is copied to hand
-/// it on.
-fn receive(replicas: &mut [Replica<ArenaTree>], p: u16, q: u16) -> Result<Trace, ReplicaFault>
+/// The replica takes in what another one offers: all of it, or the operation with the identifier.
+fn read_from(
+    replica: &mut Replica<ArenaTree>,
+    offered: &[Op],
+    id: Option<Id>,
+) -> Result<Trace, ReplicaFault>
+    requires order { AreInOrder offered.now }
+    requires handed { AreHanded offered.now }
+    requires own { AreOfOne offered.now }
+    ensures { (q : ℕ) → Answers (reading q id replica.old.number) offered.now replica.old replica.new result }
+{
+    match id {
+        None => replica.recv(offered),
+        Some(id) => replica.recv_one(offered, id),
+    }
+}
+
+/// The same of what it offers itself.
+fn read_own(replica: &mut Replica<ArenaTree>, id: Option<Id>) -> Result<Trace, ReplicaFault>
+    requires { AreHanded replica.old.now.send }
+    ensures { Answers (reading replica.old.number id replica.old.number) replica.old.now.send
+        replica.old replica.new result }
+{
+    match id {
+        None => replica.recv_own(),
+        Some(id) => replica.recv_one_own(id),
+    }
+}
+
+/// Replica p takes in what replica q offers, which may be itself: all of it, or the operation with the
+/// identifier. No operation is copied to hand it on.
+fn receive(
+    replicas: &mut [Replica<ArenaTree>],
+    p: u16,
+    q: u16,
+    id: Option<Id>,
+) -> Result<Trace, ReplicaFault>
     requires numbered { AreNumbered replicas.old }
     requires hand { AllHand replicas.old }
     requires own { AllOwn replicas.old }
     requires receiver { p < length replicas.old }
     requires sender { q < length replicas.old }
-    ensures { Moves p (Recv p q) (sent_by (slice_get replicas.old q)) replicas.old replicas.new result }
+    ensures { Moves p (reading q id p) (sent_by (slice_get replicas.old q)) replicas.old replicas.new result }
 {
     let to = usize::from(p);
     let from = usize::from(q);
     if to == from {
-        replicas[to].recv_own()
+        read_own(&mut replicas[to], id)
     } else if to < from {
         let (front, back) = replicas.split_at_mut(from);
-        front[to].recv(back[0].sent())
+        read_from(&mut front[to], back[0].sent(), id)
     } else {
         let (front, back) = replicas.split_at_mut(to);
-        back[0].recv(front[from].sent())
+        read_from(&mut back[0], front[from].sent(), id)
     }
 }

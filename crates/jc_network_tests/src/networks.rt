@@ -7,14 +7,21 @@ use crate::turns::{Turn, in_network};
 use jc_dump::dump_replica;
 use jc_meaning::compare;
 use jc_network::{CompareFault, Net};
-use jc_rules::{Event, Id};
+use jc_rules::{Event, Id, Version};
 use std::alloc::{AllocError, Global};
 use std::process::Abort;
 use std::test::Fail;
 
-/// Each event of a replica that isn't there is refused.
+/// Each event of a replica that isn't there is refused, also one that the version hasn't.
 fn events_are_refused(rt: &impl Abort, net: &mut Net) {
-    for event in [Event::Exec(5), Event::Recv(5, 0), Event::Recv(0, 5)] {
+    for event in [
+        Event::Exec(5),
+        Event::Recv(5, 0),
+        Event::Recv(0, 5),
+        Event::Take(5, 0, FIRST),
+        Event::Take(0, 5, FIRST),
+        Event::Take(5, 5, FIRST),
+    ] {
         holds(rt, number_of(net, &event) == 37);
     }
 }
@@ -72,17 +79,42 @@ fn full(rt: HostRuntime) -> Result<(), Fail> {
     in_network(&rt, rt.alloc(), YIELD, &[], &Turn::Full)
 }
 
+/// In a network of version 1 each take of replicas that are there is refused for the version, whether a yield comes next
+/// or a command, whether the operation is offered or not; and nothing changes.
+pub fn takes_are_refused(rt: &impl Abort, net: &mut Net) {
+    let steps = net.steps();
+    for event in [
+        Event::Take(0, 0, FIRST),
+        Event::Take(0, 1, FIRST),
+        Event::Take(1, 0, FIRST),
+        Event::Take(1, 0, SECOND_OF_B),
+        Event::Take(1, 1, FIRST),
+    ] {
+        holds(rt, number_of(net, &event) == 39);
+    }
+    holds(rt, net.version() == Version::One && net.steps() == steps);
+}
+
+#[test]
+fn takes_of_version_1(rt: HostRuntime) -> Result<(), Fail> {
+    for events in [&MEETING[..0], &MEETING[..2], &MEETING[..5], MEETING] {
+        in_network(&rt, rt.alloc(), DELETION, events, &Turn::TakesAreRefused)?;
+    }
+    Ok(())
+}
+
 const SECOND: Id = Id {
     counter: 1,
     replica: 1,
 };
 
 /// The events of both replicas with each other and with some identifiers, in the order in which they are told.
-const EVENTS: [Event; 18] = [
+const EVENTS: [Event; 20] = [
     Event::Exec(0),
     Event::Send(0),
     Event::Recv(0, 0),
     Event::Recv(0, 1),
+    Event::Take(0, 1, SECOND_OF_B),
     Event::Apply(0, FIRST),
     Event::Apply(0, SECOND),
     Event::Apply(0, SECOND_OF_A),
@@ -92,6 +124,7 @@ const EVENTS: [Event; 18] = [
     Event::Send(1),
     Event::Recv(1, 0),
     Event::Recv(1, 1),
+    Event::Take(1, 0, FIRST),
     Event::Apply(1, FIRST),
     Event::Apply(1, SECOND),
     Event::Apply(1, SECOND_OF_A),

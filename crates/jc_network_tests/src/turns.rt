@@ -5,7 +5,7 @@ use crate::documents::documents_are_shown;
 use crate::hundred::have_all;
 use crate::meanings::{have_run, is_meant_as};
 use crate::nets::{after, has_dumps, run};
-use crate::networks::{all_is_told, missing_replicas, takes_100_000};
+use crate::networks::{all_is_told, missing_replicas, takes_100_000, takes_are_refused};
 use crate::undoing::there_and_back;
 use jc_network::Net;
 use jc_rules::Event;
@@ -19,6 +19,7 @@ use std::test::Fail;
 #[derive(Clone, Copy)]
 pub enum Turn<'a> {
     MissingReplicas,
+    TakesAreRefused,
     Full,
     ToldIsMade,
     Documents,
@@ -38,6 +39,7 @@ pub enum Turn<'a> {
 fn take(rt: &impl Abort, alloc: Global, net: &mut Net, turn: &Turn) -> Result<(), Fail> {
     match turn {
         Turn::MissingReplicas => missing_replicas(rt, alloc, net),
+        Turn::TakesAreRefused => takes_are_refused(rt, net),
         Turn::Full => takes_100_000(rt, net),
         Turn::ToldIsMade => all_is_told(rt, net),
         Turn::Documents => documents_are_shown(rt, alloc, net),

@@ -1,7 +1,7 @@
 use Rattle.std.proofs.Common.{◌≡◌, ◌<◌, ◌+◌, Some, length, ◌++◌, slice_get, slice_set, slice_index_or, refl, sym, ◌∙◌, ap, subst, arith}
-use Rattle.jc_rules.specs.declared.operation.Event.TheVariants.{Recv}
 use Rattle.jc_replica.specs.Answers.{Answers}
 use Rattle.jc_replica.specs.Operations.{AreHanded, AreOfOne}
+use Rattle.jc_network.specs.Makes.{reading}
 use Rattle.jc_network.proofs.Acting.{received}
 use Rattle.jc_network.proofs.Halves.{index_get, get_front, get_back, set_front, set_back}
 use Rattle.jc_network.proofs.stepping.receive.Goals as goal
@@ -17,13 +17,13 @@ returns-then-to-from c =
     let same : c.args.p ≡ c.args.q = sym is ∙ (c.if-to-from.true ∙ c.from-from.ensures) in
     let sender : slice_get xs c.args.q ≡ Some a = subst (λ n. slice_get xs n ≡ Some a) same there in
     let number : a.number ≡ c.args.p = c.requires.numbered c.args.p a there in
-    let answers = subst (λ n. Answers (Recv a.number n) a.now.send a c.recv_own.new.self c.recv_own.result) (number ∙ same) c.recv_own.ensures in
-    received xs _ c.args.p c.args.q a c.recv_own.new.self a a.now.send c.recv_own.result there sender refl (ap (λ n. slice_set xs n c.recv_own.new.self) is) number answers
+    let answers = subst (λ n. Answers (reading n c.args.id a.number) a.now.send a c.read_own.new.replica c.read_own.result) (number ∙ same) c.read_own.ensures in
+    received xs _ c.args.p c.args.q c.args.id a c.read_own.new.replica a a.now.send c.read_own.result there sender refl (ap (λ n. slice_set xs n c.read_own.new.replica) is) number answers
 
 -- ---- from a later one
 
-pub recv-requires-clause-handed : goal.recv-requires-clause-handed
-recv-requires-clause-handed c =
+pub read_from-requires-clause-handed : goal.read_from-requires-clause-handed
+read_from-requires-clause-handed c =
     let whole = c.args.replicas.now in
     let xs = c.split_at_mut-front.result.0.now in
     let ys = c.split_at_mut-front.result.1.now in
@@ -36,8 +36,8 @@ recv-requires-clause-handed c =
     let sender : slice_get whole c.args.q ≡ Some b = rw parts (subst (λ n. slice_get (xs ++ ys) n ≡ Some b) len (get_back xs ys b other)) in
     subst AreHanded (sym c.sent.ensures.sent) (c.requires.hand c.args.q b sender)
 
-pub recv-requires-clause-own : goal.recv-requires-clause-own
-recv-requires-clause-own c =
+pub read_from-requires-clause-own : goal.read_from-requires-clause-own
+read_from-requires-clause-own c =
     let whole = c.args.replicas.now in
     let xs = c.split_at_mut-front.result.0.now in
     let ys = c.split_at_mut-front.result.1.now in
@@ -67,13 +67,13 @@ returns-then-to-from-2 c =
     let other : slice_get ys 0 ≡ Some b = index_get ys 0 _ (omega (arith, whole_len, from, c.requires.sender)) c.index-back-0.is ∙ ap (λ x. Some x) c.index-back-0.is in
     let there : slice_get whole c.args.p ≡ Some a = rw parts (subst (λ n. slice_get (xs ++ ys) n ≡ Some a) to (get_front xs ys _ a have)) in
     let sender : slice_get whole c.args.q ≡ Some b = rw parts (subst (λ n. slice_get (xs ++ ys) n ≡ Some b) len (get_back xs ys b other)) in
-    let now = sym (rw parts (subst (λ n. slice_set (xs ++ ys) n c.recv.new.self ≡ slice_set xs c.from-to.result c.recv.new.self ++ ys) to (set_front xs ys _ a c.recv.new.self have))) in
-    received whole _ c.args.p c.args.q a c.recv.new.self b _ _ there sender c.sent.ensures.sent now (c.requires.numbered c.args.p a there) (c.recv.ensures c.args.q)
+    let now = sym (rw parts (subst (λ n. slice_set (xs ++ ys) n c.read_from.new.replica ≡ slice_set xs c.from-to.result c.read_from.new.replica ++ ys) to (set_front xs ys _ a c.read_from.new.replica have))) in
+    received whole _ c.args.p c.args.q c.args.id a c.read_from.new.replica b _ _ there sender c.sent.ensures.sent now (c.requires.numbered c.args.p a there) (c.read_from.ensures c.args.q)
 
 -- ---- from an earlier one
 
-pub recv-requires-else-to-from-2-clause-handed : goal.recv-requires-else-to-from-2-clause-handed
-recv-requires-else-to-from-2-clause-handed c =
+pub read_from-requires-else-to-from-2-clause-handed : goal.read_from-requires-else-to-from-2-clause-handed
+read_from-requires-else-to-from-2-clause-handed c =
     let whole = c.args.replicas.now in
     let split = c.split_at_mut-front-else-to-from-2 in
     let xs = split.result.0.now in
@@ -87,8 +87,8 @@ recv-requires-else-to-from-2-clause-handed c =
     let sender : slice_get whole c.args.q ≡ Some b = rw parts (subst (λ n. slice_get (xs ++ ys) n ≡ Some b) from (get_front xs ys _ b other)) in
     subst AreHanded (sym c.sent-else-to-from-2.ensures.sent) (c.requires.hand c.args.q b sender)
 
-pub recv-requires-else-to-from-2-clause-own : goal.recv-requires-else-to-from-2-clause-own
-recv-requires-else-to-from-2-clause-own c =
+pub read_from-requires-else-to-from-2-clause-own : goal.read_from-requires-else-to-from-2-clause-own
+read_from-requires-else-to-from-2-clause-own c =
     let whole = c.args.replicas.now in
     let split = c.split_at_mut-front-else-to-from-2 in
     let xs = split.result.0.now in
@@ -110,7 +110,7 @@ returns-else-to-from-2 c =
     let ys = split.result.1.now in
     let b = slice_index_or xs c.from-from.result c.index-front-from.result in
     let a = slice_index_or ys 0 c.index-back-0-else-to-from-2.result in
-    let new = c.recv-else-to-from-2.new.self in
+    let new = c.read_from-else-to-from-2.new.replica in
     let to : c.from-to.result ≡ c.args.p = c.from-to.ensures in
     let from : c.from-from.result ≡ c.args.q = c.from-from.ensures in
     let parts : whole ≡ xs ++ ys = split.ensures.value in
@@ -121,4 +121,4 @@ returns-else-to-from-2 c =
     let there : slice_get whole c.args.p ≡ Some a = rw parts (subst (λ n. slice_get (xs ++ ys) n ≡ Some a) len (get_back xs ys a have)) in
     let sender : slice_get whole c.args.q ≡ Some b = rw parts (subst (λ n. slice_get (xs ++ ys) n ≡ Some b) from (get_front xs ys _ b other)) in
     let now = sym (rw parts (subst (λ n. slice_set (xs ++ ys) n new ≡ xs ++ slice_set ys 0 new) len (set_back xs ys new))) in
-    received whole _ c.args.p c.args.q a new b _ _ there sender c.sent-else-to-from-2.ensures.sent now (c.requires.numbered c.args.p a there) (c.recv-else-to-from-2.ensures c.args.q)
+    received whole _ c.args.p c.args.q c.args.id a new b _ _ there sender c.sent-else-to-from-2.ensures.sent now (c.requires.numbered c.args.p a there) (c.read_from-else-to-from-2.ensures c.args.q)

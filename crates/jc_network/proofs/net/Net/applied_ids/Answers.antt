@@ -3,7 +3,7 @@ use Rattle.std.specs.Slice.{IsItemAt}
 use Rattle.jc_network.specs.Applied.{applied_ops, AreAppliedIds}
 use Rattle.jc_network.specs.Course.{Course}
 use Rattle.jc_network.proofs.AppliedIds.{are_applied_ids}
-use Rattle.jc_network.proofs.Going.{applies, now_in_run, some_lent}
+use Rattle.jc_network.proofs.Going.{applies, now_reached, some_lent}
 use Rattle.jc_network.proofs.net.Net.applied_ids.Goals as goal
 
 pub returns-in_ok-applied_ids_of-in-Some-clause-applied : goal.returns-in_ok-applied_ids_of-in-Some-clause-applied
@@ -13,7 +13,7 @@ returns-in_ok-applied_ids_of-in-Some-clause-applied c =
     let there = some_lent items c.from.result c.get.result c.in-Some.replica lookup c.in-Some.is in
     let count = length c.self.inside.names.items in
     let whose = reverse c.self.inside.whose.items in
-    let run = now_in_run count whose items c.self.invariant in
-    let stands = applies count whose items c.self.invariant c.args.p c.in-Some.replica.now _ (subst (λ n. slice_get items n ≡ Some c.in-Some.replica.now) c.from.ensures there) refl in
-    subst (λ (v : Course). AreAppliedIds v.network c.args.p c.in_ok-applied_ids_of-in-Some.field-0.items) c.self.view_is
-    (subst (AreAppliedIds _ c.args.p) (sym c.in_ok-applied_ids_of-in-Some.ensures) (are_applied_ids _ c.args.p (applied_ops c.in-Some.replica.now.now) (c.self.invariant.scripts, run.reached) stands))
+    let reached = now_reached c.self.inside.version count whose items c.self.invariant in
+    let stands = applies c.self.inside.version count whose items c.self.invariant c.args.p c.in-Some.replica.now _ (subst (λ n. slice_get items n ≡ Some c.in-Some.replica.now) c.from.ensures there) refl in
+    subst (λ (v : Course). AreAppliedIds v.network.states c.args.p c.in_ok-applied_ids_of-in-Some.field-0.items) c.self.view_is
+    (subst (AreAppliedIds _ c.args.p) (sym c.in_ok-applied_ids_of-in-Some.ensures) (are_applied_ids _ c.args.p (applied_ops c.in-Some.replica.now.now) (c.self.invariant.scripts, reached) stands))

@@ -5,4 +5,4 @@ use Rattle.jc_network.proofs.net.Net.names.Goals as goal
 
 pub returns-clause-few : goal.returns-clause-few
 returns-clause-few c =
-    subst (λ (v : Course). length v.names ≤ 64) c.self.view_is (few_names (length c.self.inside.names.items) (reverse c.self.inside.whose.items) c.self.inside.replicas.items c.self.invariant).1
+    subst (λ (v : Course). length v.names ≤ 64) c.self.view_is (few_names c.self.inside.version (length c.self.inside.names.items) (reverse c.self.inside.whose.items) c.self.inside.replicas.items c.self.invariant).1

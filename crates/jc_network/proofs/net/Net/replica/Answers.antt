@@ -9,6 +9,6 @@ pub returns-clause-some : goal.returns-clause-some
 returns-clause-some c =
     let items = c.self.inside.replicas.items in
     let lookup = subst (λ ps. IsItemAt ps c.from.result c.get.result) c.deref.ensures.value c.get.ensures.lookup in
-    if_lent items c.from.result c.get.result (λ a. HasReplica c.args.self.now.network c.args.p a) lookup (λ a e.
-    subst (λ (v : Course). HasReplica v.network c.args.p a) c.self.view_is
-    (has_replica (length c.self.inside.names.items) (reverse c.self.inside.whose.items) items c.self.invariant c.args.p a (subst (λ n. slice_get items n ≡ Some a) c.from.ensures e)))
+    if_lent items c.from.result c.get.result (λ a. HasReplica c.args.self.now.network.states c.args.p a) lookup (λ a e.
+    subst (λ (v : Course). HasReplica v.network.states c.args.p a) c.self.view_is
+    (has_replica c.self.inside.version (length c.self.inside.names.items) (reverse c.self.inside.whose.items) items c.self.invariant c.args.p a (subst (λ n. slice_get items n ≡ Some a) c.from.ensures e)))
