@@ -3,10 +3,9 @@ use Rattle.std.proofs.Common.{◌≡◌, ◌↔◌, ℕ, ◌+◌, ◌<◌, ◌�
 use Rattle.std.proofs.lemmas.Option.{slice_get_within, same_Some}
 use Rattle.jc_rules.specs.declared.operation.Event.{Event}
 use Rattle.jc_rules.specs.declared.rule.Rule.{Rule}
-use Rattle.jc_rules.specs.State.{State}
-use Rattle.jc_rules.specs.Step.{Step, replica_of}
+use Rattle.jc_rules.specs.Step.{Network, StepIn, replica_of}
 use Rattle.jc_rules.specs.Trace.{Rows}
-use Rattle.jc_rules.proofs.Network.{one_step, one_after}
+use Rattle.jc_rules.proofs.Versions.{one_step_in, one_after_in}
 use Rattle.jc_debug.specs.declared.breaks.Break.{Break}
 use Rattle.jc_debug.specs.declared.breaks.Break.TheVariants as Kind
 use Rattle.jc_debug.specs.Moves.{IsTraceOf}
@@ -16,12 +15,12 @@ use Rattle.jc_debug.specs.Trail.{Seen, IsOnTrail, start_of, session_of, placed_i
 -- ---- rules of a trace
 
 -- an event has one trace at a position
-pub one_makes : (S : List State) (es : List Event) (n : ℕ) (e f : Event) (rows more : List (Rule × ℕ)) → Makes S es n e rows → Makes S es n f more → (e ≡ f) × (rows ≡ more)
+pub one_makes : (S : Network) (es : List Event) (n : ℕ) (e f : Event) (rows more : List (Rule × ℕ)) → Makes S es n e rows → Makes S es n f more → (e ≡ f) × (rows ≡ more)
 one_makes S es n e f rows more a b =
-    let before : a.before ≡ b.before = one_after S (take n es) a.before b.before a.is_at.after b.is_at.after in
+    let before : a.before ≡ b.before = one_after_in S (take n es) a.before b.before a.is_at.after b.is_at.after in
     let event : e ≡ f = same_Some e f (sym a.is ∙ b.is) in
-    let step = subst (λ (x : Event). Step b.before x a.after rows) event (subst (λ (N : List State). Step N e a.after rows) before a.step) in
-    (event, (one_step b.before f a.after b.after rows more step b.step).1)
+    let step = subst (λ (x : Event). StepIn b.before x a.after rows) event (subst (λ (N : Network). StepIn N e a.after rows) before a.step) in
+    (event, (one_step_in b.before f a.after b.after rows more step b.step).1)
 
 -- a breakpoint for a rule names the position exactly where the trace of the event that led to it has the rule
 pub rule_named : (d : Seen) (t : Rows) (rule : Rule) → IsTraceOf d t → HasRule t.rows rule ↔ Names (start_of d) d.schedule (Kind.Rule rule) (length d.traces)
@@ -58,20 +57,20 @@ last_of es m n event q p e at is = (
 
 -- ---- any breakpoint
 
-pub as_break : (S : List State) (es : List Event) (n : ℕ) (b c : Break) (t : Bool) → b ≡ c → (IsTrue t ↔ Names S es c n) → (IsTrue t ↔ Names S es b n)
+pub as_break : (S : Network) (es : List Event) (n : ℕ) (b c : Break) (t : Bool) → b ≡ c → (IsTrue t ↔ Names S es c n) → (IsTrue t ↔ Names S es b n)
 as_break S es n b c t e h = subst (λ (x : Break). IsTrue t ↔ Names S es x n) (sym e) h
 
 pub both_ways : {P Q T : Type 0} → (P ↔ Q) → (Q ↔ T) → (P ↔ T)
 both_ways a b = (λ p. b.0 (a.0 p), λ t. a.1 (b.1 t))
 
-pub no_at_none : (S : List State) (A : Session) (n j : ℕ) → slice_get A.breaks j ≡ Some None → NamesAt S A n j → ⊥
+pub no_at_none : (S : Network) (A : Session) (n j : ℕ) → slice_get A.breaks j ≡ Some None → NamesAt S A n j → ⊥
 no_at_none S A n j e (b, at, names) = cc
 
 not_true : (t : Bool) → t ≡ false → IsTrue t → ⊥
 not_true true e y = cc
 not_true false e y = cc
 
-pub no_at_other : (S : List State) (A : Session) (n j : ℕ) (b : Break) (t : Bool) → slice_get A.breaks j ≡ Some (Some b) → (IsTrue t ↔ Names S A.schedule b n) → t ≡ false → NamesAt S A n j → ⊥
+pub no_at_other : (S : Network) (A : Session) (n j : ℕ) (b : Break) (t : Bool) → slice_get A.breaks j ≡ Some (Some b) → (IsTrue t ↔ Names S A.schedule b n) → t ≡ false → NamesAt S A n j → ⊥
 no_at_other S A n j b t e h f (c, at, names) =
     let same : c ≡ b = same_Some c b (same_Some (Some c) (Some b) (sym at ∙ e)) in
     not_true t f (h.1 (subst (λ (x : Break). Names S A.schedule x n) same names))

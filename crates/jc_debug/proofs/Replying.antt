@@ -4,7 +4,6 @@ use Rattle.jc_rules.specs.declared.operation.Event.{Event}
 use Rattle.jc_rules.specs.Refused.{Cause}
 use Rattle.jc_network.specs.declared.fault.Stuck.{Stuck}
 use Rattle.jc_network.specs.Course.{Course, started}
-use Rattle.jc_network.specs.Laws.{starts}
 use Rattle.jc_network.specs.Makes.{stuck_for}
 use Rattle.jc_scenario.specs.Scenarios.{Scenario}
 use Rattle.jc_debug.specs.declared.breaks.Break.{Break}
@@ -15,7 +14,7 @@ use Rattle.jc_debug.specs.Trail.{Seen, start_of, session_of, IsOnTrail, IsMoved,
 use Rattle.jc_debug.proofs.Trails.{at_old}
 
 -- a new debugger is at the scenario's start
-pub begun_at : (d : Seen) (s : Scenario) → d.net ≡ started s → start_of d ≡ starts s.scripts
+pub begun_at : (d : Seen) (s : Scenario) → d.net ≡ started s → start_of d ≡ (started s).network
 begun_at d s e = ap (λ (c : Course). start_of (record { net = c; schedule = []; traces = []; breaks = [] })) e
 
 pub moved_session : (d e : Seen) (n : ℕ) → IsMoved d e n → session_of e ≡ moved (session_of d) n

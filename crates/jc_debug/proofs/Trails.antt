@@ -5,15 +5,14 @@ use Rattle.std.specs.Borrow.{Bor}
 use Rattle.std.specs.Option.{option_copied}
 use Rattle.jc_rules.specs.declared.operation.Event.{Event}
 use Rattle.jc_rules.specs.declared.rule.Rule.{Rule}
-use Rattle.jc_rules.specs.State.{State}
-use Rattle.jc_rules.specs.Step.{Step, After}
+use Rattle.jc_rules.specs.Step.{Network, StepIn, AfterIn}
 use Rattle.jc_rules.specs.Trace.{Rows}
 use Rattle.jc_network.specs.Course.{Course, StepsTo}
 use Rattle.jc_network.proofs.Halves.{get_front, get_back}
 use Rattle.jc_debug.specs.declared.breaks.Break.{Break}
 use Rattle.jc_debug.specs.Moves.{IsTraceOf}
 use Rattle.jc_debug.specs.Session.{IsAt}
-use Rattle.jc_debug.specs.Trail.{Seen, networks_of, start_of, Follows, IsOnTrail, IsMoved}
+use Rattle.jc_debug.specs.Trail.{Seen, networks_of, no_network, start_of, Follows, IsOnTrail, IsMoved}
 
 abbrev pub seen : Course → List Event → List Rows → List (Option Break) → Seen
 seen net schedule traces breaks = record { net = net; schedule = schedule; traces = traces; breaks = breaks }
@@ -39,7 +38,7 @@ take_get (y ∷ xs) (suc k) x e = ap (λ l. y ∷ l) (take_get xs k x e)
 
 -- ---- one event on
 
-follows_on : (d e : Seen) (k : ℕ) → Follows d k → (ns : List (List State)) → networks_of e.net ≡ networks_of d.net ++ ns → e.schedule ≡ d.schedule → (ts : List Rows) → e.traces ≡ d.traces ++ ts → Follows e k
+follows_on : (d e : Seen) (k : ℕ) → Follows d k → (ns : List Network) → networks_of e.net ≡ networks_of d.net ++ ns → e.schedule ≡ d.schedule → (ts : List Rows) → e.traces ≡ d.traces ++ ts → Follows e k
 follows_on d e k f ns n s ts t = record {
   before = f.before;
   after = f.after;
@@ -84,7 +83,7 @@ trail_on d e t event h i s sc tr br =
 
 -- the first network stays
 pub start_on : (d e : Seen) → e.net.earlier ≡ networks_of d.net → start_of e ≡ start_of d
-start_on d e n = ap (λ l. unwrap_or (slice_get (l ++ e.net.network ∷ []) 0) []) n ∙ ap (λ o. unwrap_or o []) (first_stays d.net.earlier (e.net.network ∷ []) d.net.network)
+start_on d e n = ap (λ l. unwrap_or (slice_get (l ++ e.net.network ∷ []) 0) no_network) n ∙ ap (λ o. unwrap_or o no_network) (first_stays d.net.earlier (e.net.network ∷ []) d.net.network)
 
 pub moved_on : (d e : Seen) (t : Rows) (event : Event) → StepsTo d.net event e.net t → e.schedule ≡ d.schedule → e.traces ≡ d.traces ++ t ∷ [] → e.breaks ≡ d.breaks → IsMoved d e (length d.traces + 1)
 moved_on d e t event s sc tr br = record {
@@ -97,7 +96,7 @@ moved_on d e t event s sc tr br = record {
 
 -- ---- one event back
 
-follows_back : (d e : Seen) (k : ℕ) → Follows d k → (ns : List (List State)) → networks_of d.net ≡ networks_of e.net ++ ns → e.schedule ≡ d.schedule → (ts : List Rows) → d.traces ≡ e.traces ++ ts → k + 1 < length (networks_of e.net) → k < length e.traces → Follows e k
+follows_back : (d e : Seen) (k : ℕ) → Follows d k → (ns : List Network) → networks_of d.net ≡ networks_of e.net ++ ns → e.schedule ≡ d.schedule → (ts : List Rows) → d.traces ≡ e.traces ++ ts → k + 1 < length (networks_of e.net) → k < length e.traces → Follows e k
 follows_back d e k f ns n s ts t in_networks in_traces = record {
   before = f.before;
   after = f.after;
@@ -161,29 +160,29 @@ pub moved_more : (old now new : Seen) (i : ℕ) → IsMoved old now i → IsMove
 moved_more old now new i a b = let p = a.position in moved_both old now new i (length now.traces + 1) (i + 1) a b (omega (arith, p))
 
 -- what holds at a new position, said of the old debugger's start, schedule and breakpoints
-pub carried : (P : List State → List Event → List (Option Break) → ℕ → Type 0) (old now : Seen) (n : ℕ) → IsMoved old now n → P (start_of now) now.schedule now.breaks (length now.traces) → P (start_of old) old.schedule old.breaks n
+pub carried : (P : Network → List Event → List (Option Break) → ℕ → Type 0) (old now : Seen) (n : ℕ) → IsMoved old now n → P (start_of now) now.schedule now.breaks (length now.traces) → P (start_of old) old.schedule old.breaks n
 carried P old now n m h =
-    subst (λ (S : List State). P S old.schedule old.breaks n) m.start
+    subst (λ (S : Network). P S old.schedule old.breaks n) m.start
     (subst (λ (es : List Event). P (start_of now) es old.breaks n) m.schedule
     (subst (λ (bs : List (Option Break)). P (start_of now) now.schedule bs n) m.breaks
     (subst (λ (k : ℕ). P (start_of now) now.schedule now.breaks k) m.position h)))
 
 -- ---- where the schedule leads
 
-after_more : (S : List State) (es : List Event) (M : List State) (e : Event) (N : List State) (rows : List (Rule × ℕ)) → After S es M → Step M e N rows → After S (es ++ e ∷ []) N
-after_more S [] M e N rows h s = (N, rows, subst (λ (X : List State). Step X e N rows) (sym h) s, refl)
+after_more : (S : Network) (es : List Event) (M : Network) (e : Event) (N : Network) (rows : List (Rule × ℕ)) → AfterIn S es M → StepIn M e N rows → AfterIn S (es ++ e ∷ []) N
+after_more S [] M e N rows h s = (N, rows, subst (λ (X : Network). StepIn X e N rows) (sym h) s, refl)
 after_more S (x ∷ es) M e N rows h s = (h.0, h.1, h.2, after_more h.0 es M e N rows h.3 s)
 
 -- the network at each position is the one that the schedule leads to
-pub after_first : (d : Seen) → IsOnTrail d → (k : ℕ) → k ≤ length d.traces → (N : List State) → slice_get (networks_of d.net) k ≡ Some N → After (start_of d) (take k d.schedule) N
-after_first d h zero le N e = ap (λ o. unwrap_or o []) e
+pub after_first : (d : Seen) → IsOnTrail d → (k : ℕ) → k ≤ length d.traces → (N : Network) → slice_get (networks_of d.net) k ≡ Some N → AfterIn (start_of d) (take k d.schedule) N
+after_first d h zero le N e = ap (λ o. unwrap_or o no_network) e
 after_first d h (suc k) le N e =
     let f = h.follows k (omega arith) in
     let next : slice_get (networks_of d.net) (k + 1) ≡ Some N = ap (slice_get (networks_of d.net)) (omega arith) ∙ e in
     let same : f.after ≡ N = same_Some f.after N (sym f.is_after ∙ next) in
     let before = after_first d h k (omega arith) f.before f.is_before in
-    subst (λ (es : List Event). After (start_of d) es N) (sym (take_get d.schedule k f.event f.is_event))
-    (after_more (start_of d) (take k d.schedule) f.before f.event N f.rows.rows before (subst (λ (X : List State). Step f.before f.event X f.rows.rows) same f.step))
+    subst (λ (es : List Event). AfterIn (start_of d) es N) (sym (take_get d.schedule k f.event f.is_event))
+    (after_more (start_of d) (take k d.schedule) f.before f.event N f.rows.rows before (subst (λ (X : Network). StepIn f.before f.event X f.rows.rows) same f.step))
 
 pub is_at : (d : Seen) → IsOnTrail d → IsAt (start_of d) d.schedule (length d.traces) d.net.network
 is_at d h = record {
@@ -209,7 +208,7 @@ trace_of d h n t e at =
         after = f.after;
         is_at = record { within = omega (arith, e, w); after = after_first d h n (omega (arith, e)) f.before f.is_before };
         is = f.is_event;
-        step = subst (λ (r : Rows). Step f.before f.event f.after r.rows) same f.step;
+        step = subst (λ (r : Rows). StepIn f.before f.event f.after r.rows) same f.step;
       };
     }
 

@@ -3,13 +3,13 @@ use Rattle.std.specs.Prelude.{◌≡◌, ℕ, List, Option}
 use Rattle.jc_rules.specs.declared.operation.Event.{Event}
 use Rattle.jc_rules.specs.declared.rule.Rule.{Rule}
 use Rattle.jc_rules.specs.Refused.{Cause}
-use Rattle.jc_rules.specs.State.{State}
+use Rattle.jc_rules.specs.Step.{Network}
 use Rattle.jc_debug.specs.Session.{Session, IsAt, Makes, IsStuckAt, StuckEvent, Goes, Outcome, Runs}
 
 -- One network stands at a position.
 abbrev pub OneNetwork : Type 0
 OneNetwork =
-    (start : List State) (events : List Event) (n : ℕ) (network other : List State)
+    (start : Network) (events : List Event) (n : ℕ) (network other : Network)
     → IsAt start events n network
     → IsAt start events n other
     → network ≡ other
@@ -17,7 +17,7 @@ OneNetwork =
 -- One event leads to it, by one trace.
 abbrev pub OneTrace : Type 0
 OneTrace =
-    (start : List State) (events : List Event) (n : ℕ) (event other : Event) (rows other_rows : List (Rule × ℕ))
+    (start : Network) (events : List Event) (n : ℕ) (event other : Event) (rows other_rows : List (Rule × ℕ))
     → Makes start events n event rows
     → Makes start events n other other_rows
     → (event ≡ other)
@@ -26,7 +26,7 @@ OneTrace =
 -- One event is stuck there, for one cause, and then none leads on.
 abbrev pub OneStuckEvent : Type 0
 OneStuckEvent =
-    (start : List State) (events : List Event) (n : ℕ) (event other : Event) (why : Cause)
+    (start : Network) (events : List Event) (n : ℕ) (event other : Event) (why : Cause)
     → IsStuckAt start events n event why
     → ((due : Cause) → IsStuckAt start events n other due → (event ≡ other) × (why ≡ due))
     × ((rows : List (Rule × ℕ)) → Makes start events n other rows → ⊥)
@@ -34,7 +34,7 @@ OneStuckEvent =
 -- A move forward comes to one position, and ends in one way.
 abbrev pub OneMove : Type 0
 OneMove =
-    (start : List State) (events : List Event) (from to n m : ℕ) (end other : Option StuckEvent)
+    (start : Network) (events : List Event) (from to n m : ℕ) (end other : Option StuckEvent)
     → Goes start events from to n end
     → Goes start events from to m other
     → (n ≡ m)
@@ -43,7 +43,7 @@ OneMove =
 -- So does a run.
 abbrev pub OneRun : Type 0
 OneRun =
-    (start : List State) (A : Session) (n m : ℕ) (outcome other : Outcome)
+    (start : Network) (A : Session) (n m : ℕ) (outcome other : Outcome)
     → Runs start A n outcome
     → Runs start A m other
     → (n ≡ m)

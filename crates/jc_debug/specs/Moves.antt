@@ -3,8 +3,7 @@ use Rattle.std.specs.Prelude.{◌≡◌, ◌≢◌, ℕ, ◌+◌, ◌<◌, ◌�
 use Rattle.jc_rules.specs.declared.operation.Event.{Event}
 use Rattle.jc_rules.specs.declared.rule.Rule.{Rule}
 use Rattle.jc_rules.specs.Refused.{Cause}
-use Rattle.jc_rules.specs.State.{State}
-use Rattle.jc_rules.specs.Step.{Step}
+use Rattle.jc_rules.specs.Step.{Network, StepIn}
 use Rattle.jc_rules.specs.Trace.{Rows}
 use Rattle.jc_network.specs.declared.fault.Stuck.{Stuck}
 use Rattle.jc_network.specs.Makes.{IsStuckFor, stuck_for}
@@ -29,7 +28,7 @@ use Rattle.jc_debug.specs.Trail.{Seen, IsMoved, start_of, session_of, placed_in}
 -- ---- moves
 
 -- The event that comes after the first n is stuck, as is told.
-pub record IsToldAt (start : List State) (events : List Event) (n : ℕ) (s : Stuck) : Type 0 where
+pub record IsToldAt (start : Network) (events : List Event) (n : ℕ) (s : Stuck) : Type 0 where
   pub why : Cause
   pub event : Event
   pub is : s ≡ stuck_for why event
@@ -103,11 +102,11 @@ IsRunFault old new R.AtEnd = new ≡ old
 
 -- ---- events of a caller
 
--- The event is a step from the network at the position, and the schedule was cut there.
+-- The event is a step from the network at the position, in its version, and the schedule was cut there.
 pub record IsActed (old new : Seen) (event : Event) : Type 0 where
   pub rows : List (Rule × ℕ)
   pub is_at : IsAt (start_of old) old.schedule (length old.traces) old.net.network
-  pub step : Step old.net.network event new.net.network rows
+  pub step : StepIn old.net.network event new.net.network rows
   pub names : new.net.names ≡ old.net.names
   pub start : start_of new ≡ start_of old
   pub session : session_of new ≡ acted (session_of old) event

@@ -2,9 +2,8 @@
 use Rattle.std.specs.Prelude.{◌≡◌, ℕ, ◌+◌, ◌≤◌, ◌<◌, List, [], ◌∷◌, ◌++◌, length, take, replicate, slice_get, slice_set, Option, Some, None}
 use Rattle.jc_rules.specs.declared.operation.Event.{Event}
 use Rattle.jc_rules.specs.declared.rule.Rule.{Rule}
-use Rattle.jc_rules.specs.State.{State}
-use Rattle.jc_rules.specs.Step.{Step, After, replica_of}
-use Rattle.jc_rules.specs.Refused.{Cause, IsStuck}
+use Rattle.jc_rules.specs.Step.{Network, StepIn, AfterIn, replica_of}
+use Rattle.jc_rules.specs.Refused.{Cause, IsStuckIn}
 use Rattle.jc_debug.specs.declared.breaks.Break.{Break}
 use Rattle.jc_debug.specs.declared.breaks.Break.TheVariants as B
 
@@ -32,36 +31,36 @@ placed A j b = record A { breaks = slice_set A.breaks j b }
 
 -- ---- along a schedule
 
--- the network after the first n events
-pub record IsAt (start : List State) (events : List Event) (n : ℕ) (network : List State) : Type 0 where
+-- the network after the first n events, of the version of the start
+pub record IsAt (start : Network) (events : List Event) (n : ℕ) (network : Network) : Type 0 where
   pub within : n ≤ length events
-  pub after : After start (take n events) network
+  pub after : AfterIn start (take n events) network
 
--- The event that comes after the first n is a step from where they lead, by these rules.
-pub record Makes (start : List State) (events : List Event) (n : ℕ) (event : Event)
+-- The event that comes after the first n is a step from where they lead, by these rules, in the network's version.
+pub record Makes (start : Network) (events : List Event) (n : ℕ) (event : Event)
     (rows : List (Rule × ℕ)) : Type 0 where
-  pub before : List State
-  pub after : List State
+  pub before : Network
+  pub after : Network
   pub is_at : IsAt start events n before
   pub is : slice_get events n ≡ Some event
-  pub step : Step before event after rows
+  pub step : StepIn before event after rows
 
 -- It is stuck there, for this cause.
-pub record IsStuckAt (start : List State) (events : List Event) (n : ℕ) (event : Event)
+pub record IsStuckAt (start : Network) (events : List Event) (n : ℕ) (event : Event)
     (why : Cause) : Type 0 where
-  pub before : List State
+  pub before : Network
   pub is_at : IsAt start events n before
   pub is : slice_get events n ≡ Some event
-  pub stuck : IsStuck before event why
+  pub stuck : IsStuckIn before event why
 
 -- an event that is stuck, and why
 abbrev pub StuckEvent : Type 0
 StuckEvent = Event × Cause
 
 -- On the way from a position to a later one the later one is come to, or one before it, whose event is stuck.
-pub data Goes (start : List State) (events : List Event) (from to : ℕ)
+pub data Goes (start : Network) (events : List Event) (from to : ℕ)
     : ℕ → Option StuckEvent → Type 0 where
-  arrives : {network : List State} → IsAt start events to network → Goes start events from to to None
+  arrives : {network : Network} → IsAt start events to network → Goes start events from to to None
   stops : {n : ℕ} {event : Event} {why : Cause}
       → from ≤ n
       → n < to
@@ -75,7 +74,7 @@ abbrev pub HasRule : List (Rule × ℕ) → Rule → Type 0
 HasRule rows rule = (k : ℕ) × (depth : ℕ) × (slice_get rows k ≡ Some (rule, depth))
 
 -- The breakpoint names the position: by its number, or by the rules or the replica of the event that leads to it.
-abbrev pub Names : List State → List Event → Break → ℕ → Type 0
+abbrev pub Names : Network → List Event → Break → ℕ → Type 0
 Names start events (B.Position m) n = n ≡ m
 Names start events (B.Rule rule) n =
     (m : ℕ) × (event : Event) × (rows : List (Rule × ℕ))
@@ -86,11 +85,11 @@ Names start events (B.Replica p) n =
     (m : ℕ) × (event : Event) × (n ≡ m + 1) × (slice_get events m ≡ Some event) × (replica_of event ≡ p)
 
 -- that of place j names it
-abbrev pub NamesAt : List State → Session → ℕ → ℕ → Type 0
+abbrev pub NamesAt : Network → Session → ℕ → ℕ → Type 0
 NamesAt start A n j = (b : Break) × (slice_get A.breaks j ≡ Some (Some b)) × Names start A.schedule b n
 
 -- none names it
-abbrev pub IsFree : List State → Session → ℕ → Type 0
+abbrev pub IsFree : Network → Session → ℕ → Type 0
 IsFree start A n = (j : ℕ) → NamesAt start A n j → ⊥
 
 -- the number is one of these, and no smaller one is
@@ -108,14 +107,14 @@ pub data Outcome : Type 0 where
 
 -- How a run can end at a position: the least breakpoint names it, and it is a later one than the first; its event is
 -- stuck, or it is the last one, and no breakpoint names it, or it is the first.
-abbrev pub EndsAt : List State → Session → ℕ → Outcome → Type 0
+abbrev pub EndsAt : Network → Session → ℕ → Outcome → Type 0
 EndsAt start A n (breaks j) = (A.position < n) × IsLeast (NamesAt start A n) j
 EndsAt start A n (sticks event why) = (A.position < n → IsFree start A n) × IsStuckAt start A.schedule n event why
 EndsAt start A n ends = (n ≡ length A.schedule) × IsFree start A n
 
 -- A run goes from the position to the first one at which it can end: no breakpoint names one on the way.
-pub record Runs (start : List State) (A : Session) (n : ℕ) (outcome : Outcome) : Type 0 where
-  pub network : List State
+pub record Runs (start : Network) (A : Session) (n : ℕ) (outcome : Outcome) : Type 0 where
+  pub network : Network
   pub is_at : IsAt start A.schedule n network
   pub forward : A.position ≤ n
   pub quiet : (m : ℕ) → A.position < m → m < n → IsFree start A m

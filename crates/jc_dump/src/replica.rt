@@ -57,9 +57,9 @@ fn line_of(
 /// `NoSuchReplica` where there is none.
 pub fn dump_replica(alloc: Global, net: &Net, p: u16) -> Result<String, CompareFault>
     ensures dump { IfOk result (λ line.
-        (A : State) → slice_get net.now.network p ≡ Some A
+        (A : State) → slice_get net.now.network.states p ≡ Some A
         → string_bytes line ≡ dump_line net.now.names (name_at net.now.names p) A) }
-    ensures missing { IsErrOf result E.NoSuchReplica ↔ length net.now.network ≤ p }
+    ensures missing { IsErrOf result E.NoSuchReplica ↔ length net.now.network.states ≤ p }
 {
     let Some(replica) = net.replica(p) else {
         return Err(CompareFault::NoSuchReplica);

@@ -24,7 +24,7 @@ use Rattle.jc_network.specs.Laws.{starts, IsReached}
 use Rattle.jc_network.specs.Network.{IsAt, IsMade, IsWell}
 use Rattle.jc_network.specs.Rooted.{IsRootKey, head, element}
 use Rattle.jc_network.proofs.Applying.{applied_is, applied_has}
-use Rattle.jc_network.proofs.Did.{new_op, Did, bound, made, sent, received, applied, done, did}
+use Rattle.jc_network.proofs.Did.{new_op, Did, bound, made, sent, received, took, applied, done, did}
 use Rattle.jc_network.proofs.Members.{none_in, in_cons, op_in, of_id, below_greatest, set_there, set_other, still_with, now_with}
 use Rattle.jc_network.proofs.Starting.{start_well, started, at_member}
 use Rattle.jc_network.proofs.Trees.{step_well}
@@ -147,6 +147,7 @@ treed A event read B own (made p rest c e cur m t is left s op new) = subst (λ 
         cc
 treed A event read B own (sent p rest is left new) = subst (λ (S : State). Treed A S) (sym new) (quiet refl refl (λ y k. k))
 treed A event read B own (received p q rest is left new) = subst (λ (S : State). Treed A S) (sym new) (quiet refl refl (λ y k. k))
+treed A event read B own (took p q i rest o is left found new) = subst (λ (S : State). Treed A S) (sym new) (quiet refl refl (λ y k. k))
 treed A event read B own (applied p i rest o t is left found unapplied deps op new) =
     let x = op_in i A.recv o found in
     subst (λ (S : State). Treed A S) (sym new) (operated o (subst (λ j. has_id j A.ops ≡ false) (sym x.1) unapplied) deps op (ap (λ j. with_id j A.ops) (sym x.1)) (λ y k. k) (inr x.0))

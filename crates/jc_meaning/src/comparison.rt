@@ -24,9 +24,9 @@ pub enum Comparison {
 ///
 /// It is refused with `NoSuchReplica` exactly where one of them isn't there.
 pub fn compare(alloc: Global, net: &Net, p: u16, q: u16) -> Result<Comparison, CompareFault>
-    ensures compared { IfOk result (λ comparison. IsComparison net.now.network p q comparison) }
+    ensures compared { IfOk result (λ comparison. IsComparison net.now.network.states p q comparison) }
     ensures missing { IsErrOf result C.NoSuchReplica
-        ↔ ((length net.now.network ≤ p) ⊎ (length net.now.network ≤ q)) }
+        ↔ ((length net.now.network.states ≤ p) ⊎ (length net.now.network.states ≤ q)) }
 {
     // Events have led to the network from a start, so that greatest counters tell what is applied.
     let _steps = net.steps();

@@ -16,6 +16,7 @@ use Rattle.jc_rules.proofs.operation.Event.TheSendSync as event
 use Rattle.jc_rules.proofs.operation.Op.TheSendSync as op
 use Rattle.jc_rules.proofs.text.Text.TheSendSync as text
 use Rattle.jc_rules.proofs.value.Value.TheSendSync as value
+use Rattle.jc_rules.proofs.version.Version.TheSendSync as version
 use Rattle.jc_cursor.proofs.bound.Bound.TheSendSync as bound
 use Rattle.jc_replica.proofs.received.Received.TheSendSync as received
 use Rattle.jc_replica.proofs.record.Record.TheSendSync as recorded_step
@@ -36,7 +37,7 @@ use Rattle.jc_runner.specs.contracts.recorded.RecordedKept.TheImpl.{ghosts}
 use Rattle.jc_runner.specs.contracts.worker.Worked.{the_row as worked_row}
 use Rattle.jc_runner.proofs.worker.End.TheSendSync as end
 
-pub ruleset parts = (id_set.the_send, event.the_send, event.the_field_send, op.the_send, text.the_send, value.the_send, value.the_field_send, bound.the_send, bound.the_field_send, received.the_send, recorded_step.the_send, arena.the_send)
+pub ruleset parts = (id_set.the_send, event.the_send, event.the_field_send, op.the_send, text.the_send, value.the_send, value.the_field_send, version.the_send, version.the_field_send, bound.the_send, bound.the_field_send, received.the_send, recorded_step.the_send, arena.the_send)
 
 pub expr_field_send : IsSend (expr_field).row
 expr_field_send = send-Expr (search (sendable, parts)) Box-send (search sendable)

@@ -20,6 +20,7 @@ use Rattle.jc_runner.specs.Chosen.{choice, chosen_in, chosen_by, at_yield, apply
 use Rattle.jc_runner.specs.Phases.{phase_after, last_of}
 use Rattle.jc_runner.specs.Legal.{own_events}
 use Rattle.jc_runner.specs.Worked.{IsStuckAfter}
+use Rattle.jc_runner.proofs.Histories.{legal_states}
 use Rattle.jc_runner.proofs.Working.{as_many}
 
 abbrev IsNamedId : ℕ → Option Id → Type 0
@@ -84,8 +85,8 @@ event_named n (Some c) e named is = subst (λ x. AreNamed x n) (same_Some c.0 e 
 -- an event that a replica chose, and that is stuck
 pub stuck_named : (s : Scenario) (p : ℕ) (history : List Event) (stuck : Stuck) → IsWellFormed s → p < length s.scripts → (t : IsStuckAfter s p history stuck) → AreNamed t.event (length s.names)
 stuck_named s p history stuck well low t =
-    let count : length t.network ≡ length s.scripts = as_many s history t.network t.legal in
-    let kept : IsWell t.network = after_well (starts s.scripts) history t.network (start_well s.scripts) t.legal.after in
+    let count : length t.network.states ≡ length s.scripts = as_many s history t.network t.legal in
+    let kept : IsWell t.network.states = after_well (starts s.scripts) history t.network.states (start_well s.scripts) (legal_states s history t.network t.legal) in
     let phase = phase_after (last_of (own_events history p)) in
-    let named = chosen_named t.network p phase kept (omega (arith, low, count)) in
-    subst (AreNamed t.event) (count ∙ well.each) (event_named (length t.network) (choice t.network p phase) t.event named t.is_chosen)
+    let named = chosen_named t.network.states p phase kept (omega (arith, low, count)) in
+    subst (AreNamed t.event) (count ∙ well.each) (event_named (length t.network.states) (choice t.network.states p phase) t.event named t.is_chosen)

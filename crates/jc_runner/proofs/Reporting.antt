@@ -8,13 +8,13 @@ use native.Mathlib.Decide.{ℕ_discrete}
 use mathlib.Core.List.{IsPrefix}
 use Rattle.jc_rules.specs.declared.operation.Event.{Event}
 use Rattle.jc_rules.specs.State.{State}
-use Rattle.jc_rules.specs.Step.{After, replica_of}
-use Rattle.jc_rules.proofs.Network.{one_after}
+use Rattle.jc_rules.specs.Step.{After, Network, AfterIn, replica_of}
+use Rattle.jc_rules.proofs.Versions.{one_after_in, after_states}
 use Rattle.jc_scenario.specs.Scenarios.{Scenario, IsWellFormed}
 use Rattle.jc_scenario.specs.Views.{scenario_view}
 use Rattle.jc_runner.specs.declared.worker.End.{End}
 use Rattle.jc_runner.specs.declared.worker.End.TheVariants as N
-use Rattle.jc_network.specs.Laws.{starts}
+use Rattle.jc_network.specs.Course.{started}
 use Rattle.jc_runner.specs.Legal.{IsLegal, own_events}
 use Rattle.jc_runner.specs.Benches.{bench_start}
 use Rattle.jc_runner.specs.Worked.{IsFinishedAfter, ChoosesAfter, EndsWith, HaveWorked}
@@ -56,18 +56,18 @@ untouched p K (e ∷ es) M after none = go (nat_eq (replica_of e) p) refl (λ h.
         let apart : replica_of e ≡ p → ⊥ = λ is. search (rules, other, is) in
         more (search (rules, none, other)) ∙ (ap (λ l. slice_get l p) after.2.is_new ∙ set_elsewhere K (replica_of e) p after.2.after apart)
 
-after_both : (N : List State) (xs ys : List Event) (M : List State) → After N (xs ++ ys) M → (K : List State) × After N xs K × After K ys M
+after_both : (N : Network) (xs ys : List Event) (M : Network) → AfterIn N (xs ++ ys) M → (K : Network) × AfterIn N xs K × AfterIn K ys M
 after_both N [] ys M after = (N, refl, after)
 after_both N (x ∷ xs) ys M after = let more = after_both after.0 xs ys M after.3 in (more.0, (after.0, after.1, after.2, more.1), more.2)
 
-pub finished_in : (s : Scenario) (p : ℕ) (seen schedule : List Event) (M : List State) → IsFinishedAfter s p seen → IsPrefix seen schedule → own_events schedule p ≡ own_events seen p → IsLegal schedule s M → IsFinishedIn M p
+pub finished_in : (s : Scenario) (p : ℕ) (seen schedule : List Event) (M : Network) → IsFinishedAfter s p seen → IsPrefix seen schedule → own_events schedule p ≡ own_events seen p → IsLegal schedule s M → IsFinishedIn M p
 finished_in s p seen schedule M finished begins same legal =
-    let split = after_both (starts s.scripts) seen begins.0 M (subst (λ l. After (starts s.scripts) l M) (sym begins.1) legal.after) in
-    let one : split.0 ≡ finished.network = one_after (starts s.scripts) seen split.0 finished.network split.1 finished.legal.after in
+    let split = after_both (started s).network seen begins.0 M (subst (λ l. AfterIn (started s).network l M) (sym begins.1) legal.after) in
+    let one : split.0 ≡ finished.network = one_after_in (started s).network seen split.0 finished.network split.1 finished.legal.after in
     let none = nothing_more (own_events seen p) (own_events begins.0 p) (sym (own_both p seen begins.0) ∙ (ap (λ l. own_events l p) begins.1 ∙ same)) in
     record {
       state = finished.state;
-      is_there = untouched p split.0 begins.0 M split.2 none ∙ (ap (λ l. slice_get l p) one ∙ finished.is_there);
+      is_there = untouched p split.0.states begins.0 M.states (after_states split.0 begins.0 M split.2) none ∙ (ap (λ (K : Network). slice_get K.states p) one ∙ finished.is_there);
       none_left = finished.none_left;
     }
 
@@ -75,7 +75,7 @@ none_of : (es : List Event) → length es ≡ 0 → es ≡ []
 none_of [] none = refl
 none_of (e ∷ es) none = absurd (omega (arith, none))
 
-pub has_end : (s : Scenario) (p limit : ℕ) (seen mine schedule : List Event) (M : List State) (end : End) → IsWellFormed s → p < length s.scripts → EndsWith s p limit seen mine end → own_events seen p ≡ mine → IsPrefix seen schedule → own_events schedule p ≡ mine → IsLegal schedule s M → length schedule ≤ 100000
+pub has_end : (s : Scenario) (p limit : ℕ) (seen mine schedule : List Event) (M : Network) (end : End) → IsWellFormed s → p < length s.scripts → EndsWith s p limit seen mine end → own_events seen p ≡ mine → IsPrefix seen schedule → own_events schedule p ≡ mine → IsLegal schedule s M → length schedule ≤ 100000
     → HasEnd s p limit schedule M end
 has_end s p limit seen mine schedule M N.Finished well low ends own begins owned legal small =
     (finished_in s p seen schedule M ends.0 begins (owned ∙ sym own) legal, omega (arith, ap length owned, ends.1))

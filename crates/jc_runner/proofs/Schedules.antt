@@ -1,34 +1,36 @@
 -- A schedule that leads from a scenario's start is one that a scenario may have.
-use Rattle.std.proofs.Common.{arith, ◌≡◌, ℕ, ◌*◌, ◌≤◌, ◌<◌, List, [], ◌∷◌, Option, Some, None, refl, ◌∙◌, ap, subst, length, slice_get}
+use Rattle.std.proofs.Common.{arith, ◌≡◌, ℕ, ◌*◌, ◌≤◌, ◌<◌, List, [], ◌∷◌, Option, Some, None, Contains, refl, sym, ◌∙◌, ap, subst, length, slice_get}
 use Rattle.std.specs.Prelude.{All}
 use Rattle.std.specs.List.{AllByRecursion}
 use Rattle.std.proofs.lemmas.List.{length-map}
 use Rattle.std.proofs.lemmas.List.Elements.{All-nil, All-cons}
-use Rattle.std.proofs.lemmas.Option.{slice_get_within}
+use Rattle.std.proofs.lemmas.Option.{same_Some, slice_get_within}
 use Rattle.jc_rules.specs.declared.id.Id.{Id}
 use Rattle.jc_rules.specs.declared.operation.Op.{Op}
 use Rattle.jc_rules.specs.declared.operation.Event.{Event}
 use Rattle.jc_rules.specs.declared.operation.Event.TheVariants as E
 use Rattle.jc_rules.specs.declared.rule.Rule.{Rule}
 use Rattle.jc_rules.specs.State.{State, start}
-use Rattle.jc_rules.specs.Step.{Step, After, replica_of, read_by, send_of}
+use Rattle.jc_rules.specs.Step.{Step, After, Network, AfterIn, replica_of, read_by, send_of}
 use Rattle.jc_rules.specs.Syntax.{Cmd}
 use Rattle.jc_rules.specs.Table.{op_of}
+use Rattle.jc_rules.specs.Version.{Allows}
 use Rattle.jc_rules.proofs.Stands.{looked_up}
 use Rattle.jc_parser.specs.Legal.{IsCounterBelow}
 use Rattle.jc_printer.specs.Canon.{AreNamed}
 use Rattle.jc_scenario.specs.Scenarios.{Scenario, IsWellFormed}
+use Rattle.jc_network.specs.Course.{started}
 use Rattle.jc_network.specs.Laws.{starts}
 use Rattle.jc_network.specs.Network.{IsMade, IsWell, IsCounted, commands_left}
 use Rattle.jc_network.specs.Seen.{AreShort}
 use Rattle.jc_network.proofs.Beginning.{short_scripts}
 use Rattle.jc_network.proofs.Counting.{start_counted, step_counted}
-use Rattle.jc_network.proofs.Did.{Did, bound, made, sent, received, applied, done, did}
+use Rattle.jc_network.proofs.Did.{Did, bound, made, sent, received, took, applied, done, did}
 use Rattle.jc_network.proofs.Starting.{start_well}
 use Rattle.jc_network.proofs.Trees.{step_well}
 use Rattle.jc_runner.specs.Legal.{IsLegal}
 use Rattle.jc_runner.specs.Laws.{with_schedule}
-use Rattle.jc_runner.proofs.Histories.{same_number}
+use Rattle.jc_runner.proofs.Histories.{legal_states, same_number}
 
 -- replicas and counters that the event may name in a scenario of n replicas
 abbrev IsFit : ℕ → Event → Type 0
@@ -38,6 +40,7 @@ abbrev id_or : Id → Event → Id
 id_or i (E.Exec p) = i
 id_or i (E.Send p) = i
 id_or i (E.Recv p q) = i
+id_or i (E.Take p q j) = j
 id_or i (E.Apply p j) = j
 id_or i (E.Done p) = i
 
@@ -47,12 +50,23 @@ received_op A B p i read (bound q rest x e b is left s new) = cc
 received_op A B p i read (made q rest c e cur m t is left s op new) = cc
 received_op A B p i read (sent q rest is left new) = cc
 received_op A B p i read (received q r rest is left new) = cc
+received_op A B p i read (took q r j rest o is left found new) = cc
 received_op A B p i read (applied q j rest o t is left there new_id deps op new) = (o, ap (λ e. op_of (id_or i e) A.recv) is ∙ there)
 received_op A B p i read (done q rest is left new) = cc
 
-there_is : (o : Option State) (read : List Op) → send_of o ≡ Some read → (A : State) × (o ≡ Some A)
+-- what is taken is offered
+taken_op : (A B : State) (p q : ℕ) (i : Id) (read : List Op) → Did A (E.Take p q i) read B → (o : Op) × (op_of i read ≡ Some o)
+taken_op A B p q i read (bound r rest x e b is left s new) = cc
+taken_op A B p q i read (made r rest c e cur m t is left s op new) = cc
+taken_op A B p q i read (sent r rest is left new) = cc
+taken_op A B p q i read (received r s rest is left new) = cc
+taken_op A B p q i read (took r s j rest o is left found new) = (o, ap (λ e. op_of (id_or i e) read) is ∙ found)
+taken_op A B p q i read (applied r j rest o t is left there new_id deps op new) = cc
+taken_op A B p q i read (done r rest is left new) = cc
+
+there_is : (o : Option State) (read : List Op) → send_of o ≡ Some read → (A : State) × (o ≡ Some A) × (A.send ≡ read)
 there_is None read e = cc
-there_is (Some A) read e = (A, refl)
+there_is (Some A) read e = (A, refl, same_Some A.send read e)
 
 module _ (total : ℕ) (few : total < 4294967296) (N : List State) (w : IsWell N) (c : IsCounted total N) where
   -- an operation that was made names a replica, and its counter is small
@@ -67,6 +81,13 @@ module _ (total : ℕ) (few : total < 4294967296) (N : List State) (w : IsWell N
   event_fit (E.Recv p q) A B read there reads d =
       let other = there_is (slice_get N q) read reads in
       ((slice_get_within N p A there, slice_get_within N q other.0 other.1), tt)
+  event_fit (E.Take p q i) A B read there reads d =
+      let other = there_is (slice_get N q) read reads in
+      let of = taken_op A B p q i read d in
+      let at = looked_up i read of.0 of.1 in
+      let offered = w.sets.sent q other.0 of.0 other.1 (subst (λ (os : List Op). Contains os of.0) (sym other.2) at.1) in
+      let fit = made_fit q of.0 (slice_get_within N q other.0 other.1) offered.1 in
+      subst (λ j. IsFit (length N) (E.Take p q j)) at.0 ((slice_get_within N p A there, fit.0.0, fit.0.1), fit.1)
   event_fit (E.Apply p i) A B read there reads d =
       let of = received_op A B p i read d in
       let at = looked_up i A.recv of.0 of.1 in
@@ -92,7 +113,14 @@ commands_few (s ∷ scripts) h =
     let rest : commands_left (starts scripts) ≤ length scripts * 65536 = commands_few scripts h.1 in
     omega (arith, first, rest)
 
-pub well_formed_with : (s : Scenario) (history : List Event) (N : List State) → IsWellFormed s → IsLegal history s N → length history ≤ 100000 → IsWellFormed (with_schedule s history)
+-- each event of a history is one that its network's version has
+all_allowed : (N : Network) (es : List Event) (M : Network) → AfterIn N es M → All (λ e. Allows e N.version) es
+all_allowed N [] M after = All-nil (λ e. Allows e N.version)
+all_allowed N (e ∷ es) M after =
+    All-cons (λ f. Allows f N.version) e es after.2.allowed
+    (subst (λ v. All (λ f. Allows f v) es) after.2.version (all_allowed after.0 es M after.3))
+
+pub well_formed_with : (s : Scenario) (history : List Event) (N : Network) → IsWellFormed s → IsLegal history s N → length history ≤ 100000 → IsWellFormed (with_schedule s history)
 well_formed_with s history N well legal small =
     let many : length s.scripts ≤ 64 = omega (arith, well.each, well.few) in
     let short : AreShort s.scripts = short_scripts s.scripts many well.formed in
@@ -100,7 +128,7 @@ well_formed_with s history N well legal small =
     let total = commands_left (starts s.scripts) in
     let few : total < 4294967296 = omega (arith, bounded, many) in
     let count : length (starts s.scripts) ≡ length s.names = length-map s.scripts start ∙ well.each in
-    let fit : All (IsFit (length s.names)) history = subst (λ n. All (IsFit n) history) count (all_fit total few (starts s.scripts) history N (start_well s.scripts) (start_counted s.scripts) legal.after) in
+    let fit : All (IsFit (length s.names)) history = subst (λ n. All (IsFit n) history) count (all_fit total few (starts s.scripts) history N.states (start_well s.scripts) (start_counted s.scripts) (legal_states s history N legal)) in
     record {
       some = well.some;
       few = well.few;
@@ -113,4 +141,5 @@ well_formed_with s history N well legal small =
       short = small;
       known = λ k d low. (fit k d low).0;
       counters = λ k d low. (fit k d low).1;
+      allowed = all_allowed (started s).network history N legal.after;
     }

@@ -3,13 +3,13 @@ use Rattle.std.proofs.Common.{arith, ◌≡◌, ℕ, ◌<◌, ◌+◌, List, [],
 use Rattle.std.proofs.lemmas.List.{length-map}
 use mathlib.Core.List.{IsPrefix}
 use Rattle.jc_rules.specs.declared.operation.Event.{Event}
-use Rattle.jc_rules.specs.State.{State, start}
-use Rattle.jc_rules.specs.Step.{replica_of}
-use Rattle.jc_rules.proofs.Network.{one_after}
+use Rattle.jc_rules.specs.State.{start}
+use Rattle.jc_rules.specs.Step.{Network, replica_of}
+use Rattle.jc_rules.proofs.Versions.{one_after_in}
 use Rattle.jc_lock.specs.Knowledge.{own}
 use Rattle.jc_scenario.specs.Scenarios.{Scenario}
 use Rattle.jc_network.specs.declared.fault.Stuck.{Stuck}
-use Rattle.jc_network.specs.Course.{Course}
+use Rattle.jc_network.specs.Course.{Course, started}
 use Rattle.jc_runner.specs.declared.phase.Phase.{Phase}
 use Rattle.std.proofs.lemmas.Option.{same_Some}
 use Rattle.jc_runner.specs.Recording.{Recording, recording, IsRecorded}
@@ -28,12 +28,12 @@ use Rattle.jc_runner.specs.declared.worker.End.TheVariants as Ends
 use Rattle.jc_runner.specs.declared.worker.Worked.{Worked}
 use Rattle.jc_runner.specs.Answers.{IsAnswered, IsSpent, seen_after}
 use Rattle.jc_runner.specs.Worked.{IsFinishedAfter, IsStuckAfter, ChoosesAfter, EndsWith, IsWorked, end_of}
-use Rattle.jc_runner.proofs.Histories.{chosen_longer, same_number, last_more}
+use Rattle.jc_runner.proofs.Histories.{legal_states, chosen_longer, same_number, last_more}
 use Rattle.jc_runner.proofs.Choices.{choice_is, none_chosen}
 
 -- the network in hand has the scenario's replicas
-pub as_many : (s : Scenario) (history : List Event) (N : List State) → IsLegal history s N → length N ≡ length s.scripts
-as_many s history N legal = same_number (starts s.scripts) history N legal.after ∙ length-map s.scripts start
+pub as_many : (s : Scenario) (history : List Event) (N : Network) → IsLegal history s N → length N.states ≡ length s.scripts
+as_many s history N legal = same_number (starts s.scripts) history N.states (legal_states s history N legal) ∙ length-map s.scripts start
 
 -- what is known of the own events stands in the longer history too
 pub still_chosen : (s : Scenario) (p : ℕ) (seen longer mine : List Event) → IsPrefix seen longer → own_events seen p ≡ mine → own_events longer p ≡ mine → AllChosen s p seen → AllChosen s p longer
@@ -41,43 +41,43 @@ still_chosen s p seen longer mine begins before after all =
     subst (AllChosen s p) begins.1 (chosen_longer s p seen begins.0 (ap (λ l. own_events l p) begins.1 ∙ (after ∙ sym before)) all)
 
 -- the event in hand is the chosen one
-pub chosen_now : (s : Scenario) (p : ℕ) (history mine : List Event) (N : List State) (phase next : Phase) (e : Event)
-    → IsLegal history s N → own_events history p ≡ mine → phase ≡ phase_after (last_of mine) → choice N p phase ≡ Some (e, next) → IsChosenAfter s history e
+pub chosen_now : (s : Scenario) (p : ℕ) (history mine : List Event) (N : Network) (phase next : Phase) (e : Event)
+    → IsLegal history s N → own_events history p ≡ mine → phase ≡ phase_after (last_of mine) → choice N.states p phase ≡ Some (e, next) → IsChosenAfter s history e
 chosen_now s p history mine N phase next e legal own at is =
-    let of : replica_of e ≡ p = (choice_is N p phase e next is).0 in
+    let of : replica_of e ≡ p = (choice_is N.states p phase e next is).0 in
     let same : phase_after (last_of (own_events history (replica_of e))) ≡ phase = ap (λ q. phase_after (last_of (own_events history q))) of ∙ (ap (λ l. phase_after (last_of l)) own ∙ sym at) in
     record {
       network = N;
       legal = legal;
-      is_chosen = (λ i. event_in (choice N (of i) (same i))) ∙ ap event_in is;
+      is_chosen = (λ i. event_in (choice N.states (of i) (same i))) ∙ ap event_in is;
     }
 
-pub is_next : (p : ℕ) (mine : List Event) (N : List State) (phase next : Phase) (e : Event) → choice N p phase ≡ Some (e, next) → next ≡ phase_after (last_of (mine ++ e ∷ []))
-is_next p mine N phase next e is = (choice_is N p phase e next is).1 ∙ ap phase_after (sym (last_more mine e))
+pub is_next : (p : ℕ) (mine : List Event) (N : Network) (phase next : Phase) (e : Event) → choice N.states p phase ≡ Some (e, next) → next ≡ phase_after (last_of (mine ++ e ∷ []))
+is_next p mine N phase next e is = (choice_is N.states p phase e next is).1 ∙ ap phase_after (sym (last_more mine e))
 
-pub is_finished : (s : Scenario) (p : ℕ) (history : List Event) (N : List State) (phase : Phase) → IsLegal history s N → p < length s.scripts → choice N p phase ≡ None → IsFinishedAfter s p history
+pub is_finished : (s : Scenario) (p : ℕ) (history : List Event) (N : Network) (phase : Phase) → IsLegal history s N → p < length s.scripts → choice N.states p phase ≡ None → IsFinishedAfter s p history
 is_finished s p history N phase legal low is =
-    let at = none_chosen N p phase (omega (arith, as_many s history N legal, low)) is in
+    let at = none_chosen N.states p phase (omega (arith, as_many s history N legal, low)) is in
     record { network = N; state = at.0; legal = legal; is_there = at.1; none_left = at.2 }
 
-pub chooses_after : (s : Scenario) (p : ℕ) (history mine : List Event) (N : List State) (phase next : Phase) (e : Event)
-    → IsLegal history s N → own_events history p ≡ mine → phase ≡ phase_after (last_of mine) → choice N p phase ≡ Some (e, next) → ChoosesAfter s p history
+pub chooses_after : (s : Scenario) (p : ℕ) (history mine : List Event) (N : Network) (phase next : Phase) (e : Event)
+    → IsLegal history s N → own_events history p ≡ mine → phase ≡ phase_after (last_of mine) → choice N.states p phase ≡ Some (e, next) → ChoosesAfter s p history
 chooses_after s p history mine N phase next e legal own at is = record {
   network = N;
   event = e;
   legal = legal;
-  is_chosen = (λ i. event_in (choice N p (phase_after (last_of (own i))))) ∙ (ap (λ ph. event_in (choice N p ph)) (sym at) ∙ ap event_in is);
+  is_chosen = (λ i. event_in (choice N.states p (phase_after (last_of (own i))))) ∙ (ap (λ ph. event_in (choice N.states p ph)) (sym at) ∙ ap event_in is);
 }
 
-pub is_stuck_after : (s : Scenario) (p : ℕ) (history mine : List Event) (N : List State) (phase next : Phase) (e : Event) (M : List State) (stuck : Stuck)
-    → IsLegal history s N → own_events history p ≡ mine → phase ≡ phase_after (last_of mine) → choice N p phase ≡ Some (e, next) → IsLegal history s M → IsStuckFor M e stuck → IsStuckAfter s p history stuck
+pub is_stuck_after : (s : Scenario) (p : ℕ) (history mine : List Event) (N : Network) (phase next : Phase) (e : Event) (M : Network) (stuck : Stuck)
+    → IsLegal history s N → own_events history p ≡ mine → phase ≡ phase_after (last_of mine) → choice N.states p phase ≡ Some (e, next) → IsLegal history s M → IsStuckFor M e stuck → IsStuckAfter s p history stuck
 is_stuck_after s p history mine N phase next e M stuck legal own at is other is_stuck =
-    let same : M ≡ N = one_after (starts s.scripts) history M N other.after legal.after in
+    let same : M ≡ N = one_after_in (started s).network history M N other.after legal.after in
     record {
       network = N;
       event = e;
       legal = legal;
-      is_chosen = (λ i. event_in (choice N p (phase_after (last_of (own i))))) ∙ (ap (λ ph. event_in (choice N p ph)) (sym at) ∙ ap event_in is);
+      is_chosen = (λ i. event_in (choice N.states p (phase_after (last_of (own i))))) ∙ (ap (λ ph. event_in (choice N.states p ph)) (sym at) ∙ ap event_in is);
       is_stuck = subst (λ K. IsStuckFor K e stuck) same is_stuck;
     }
 
@@ -109,8 +109,8 @@ goes_on s e seen mine new_mine history left new_left A.Memory none h is = cc
 goes_on s e seen mine new_mine history left new_left A.Spent none h is = cc
 
 -- what an answer by which a thread ends says of the history in hand, where the pass's own events are below the limit
-module _ (s : Scenario) (p limit : ℕ) (history mine : List Event) (N : List State) (phase next : Phase) (e : Event)
-    (legal : IsLegal history s N) (own : own_events history p ≡ mine) (at : phase ≡ phase_after (last_of mine)) (is : choice N p phase ≡ Some (e, next)) (low : length mine < limit)
+module _ (s : Scenario) (p limit : ℕ) (history mine : List Event) (N : Network) (phase next : Phase) (e : Event)
+    (legal : IsLegal history s N) (own : own_events history p ≡ mine) (at : phase ≡ phase_after (last_of mine)) (is : choice N.states p phase ≡ Some (e, next)) (low : length mine < limit)
     (seen old_mine new_mine : List Event) (left new_left : ℕ) where
   pub ends_by : (a : StepAnswer) (end : End) → end_of a ≡ Some end → (IsSpent a → ⊥) → IsAnswered s e seen old_mine new_mine left new_left a → seen ≡ seen_after history e a
       → (seen ≡ history) × EndsWith s p limit history mine end

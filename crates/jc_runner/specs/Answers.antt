@@ -2,8 +2,7 @@
 use Rattle.std.specs.Prelude.{◌≡◌, ℕ, ◌+◌, ◌<◌, List, [], ◌∷◌, ◌++◌, length}
 use Rattle.jc_rules.specs.declared.operation.Event.{Event}
 use Rattle.jc_rules.specs.declared.rule.Rule.{Rule}
-use Rattle.jc_rules.specs.State.{State}
-use Rattle.jc_rules.specs.Step.{Step}
+use Rattle.jc_rules.specs.Step.{Network, StepIn}
 use Rattle.jc_network.specs.declared.fault.Stuck.{Stuck}
 use Rattle.jc_network.specs.Makes.{IsStuckFor}
 use Rattle.jc_scenario.specs.Scenarios.{Scenario}
@@ -15,18 +14,18 @@ use Rattle.jc_runner.specs.Legal.{IsLegal}
 pub record IsMade (s : Scenario) (e : Event) (seen mine new_mine : List Event) (number : ℕ)
     (rows : List (Rule × ℕ)) : Type 0 where
   pub before : List Event
-  pub network : List State
-  pub new_network : List State
+  pub network : Network
+  pub new_network : Network
   pub ends : seen ≡ before ++ e ∷ []
   pub is_number : number ≡ length seen
   pub grew : new_mine ≡ mine ++ e ∷ []
   pub legal : IsLegal before s network
-  pub step : Step network e new_network rows
+  pub step : StepIn network e new_network rows
 
 -- The event is stuck after the history, which has so many events, and not as many as can be.
 pub record IsRefused (s : Scenario) (e : Event) (seen mine new_mine : List Event) (front : ℕ)
     (stuck : Stuck) : Type 0 where
-  pub network : List State
+  pub network : Network
   pub is_front : front ≡ length seen
   pub room : length seen < 100000
   pub stays : new_mine ≡ mine

@@ -32,7 +32,8 @@ apply_or_end p None = (E.Done p, P.Start)
 abbrev pub past_own : ℕ → ℕ → ℕ
 past_own p q = cond (nat_eq q p) (q + 1) q
 
--- what replica p of n does at a yield: it sends, receives from each other replica, applies what is ready, and ends
+-- What replica p of n does at a yield: it sends, receives from each other replica, applies what is ready, and ends. It
+-- takes nothing alone.
 abbrev pub at_yield : ℕ → ℕ → State → Phase → Event × Phase
 at_yield n p A P.Start = (E.Send p, P.Receiving 0)
 at_yield n p A (P.Receiving q) =

@@ -2,7 +2,7 @@
 use Rattle.std.specs.Prelude.{◌≡◌, ℕ, ◌<◌, ◌≤◌, List, [], Some, None, length, slice_get}
 use Rattle.jc_rules.specs.declared.operation.Event.{Event}
 use Rattle.jc_rules.specs.State.{State}
-use Rattle.jc_rules.specs.Step.{replica_of}
+use Rattle.jc_rules.specs.Step.{Network, replica_of}
 use Rattle.jc_scenario.specs.Scenarios.{Scenario, IsWellFormed}
 use Rattle.jc_runner.specs.declared.phase.Phase.{Phase}
 use Rattle.jc_runner.specs.Chosen.{choice}
@@ -31,7 +31,7 @@ with_schedule s events = record { names = s.names; scripts = s.scripts; schedule
 -- A scenario may have each schedule that leads from its start to a network, where that is not too long.
 abbrev pub SchedulesAreWellFormed : Type 0
 SchedulesAreWellFormed =
-    (s : Scenario) (schedule : List Event) (network : List State)
+    (s : Scenario) (schedule : List Event) (network : Network)
     → IsWellFormed s
     → IsLegal schedule s network
     → length schedule ≤ 100000

@@ -1,17 +1,16 @@
 -- Histories, and the events in them that are chosen.
 use Rattle.std.specs.Prelude.{◌≡◌, ℕ, List, ◌∷◌, ◌++◌, Some}
 use Rattle.jc_rules.specs.declared.operation.Event.{Event}
-use Rattle.jc_rules.specs.State.{State}
-use Rattle.jc_rules.specs.Step.{After, replica_of}
+use Rattle.jc_rules.specs.Step.{Network, AfterIn, replica_of}
 use Rattle.jc_lock.specs.Knowledge.{own}
-use Rattle.jc_network.specs.Laws.{starts}
+use Rattle.jc_network.specs.Course.{started}
 use Rattle.jc_scenario.specs.Scenarios.{Scenario}
 use Rattle.jc_runner.specs.Phases.{last_of}
 use Rattle.jc_runner.specs.Chosen.{chosen}
 
 -- the network follows from the scenario's start by the events, in their order
-pub record IsLegal (history : List Event) (s : Scenario) (network : List State) : Type 0 where
-  pub after : After (starts s.scripts) history network
+pub record IsLegal (history : List Event) (s : Scenario) (network : Network) : Type 0 where
+  pub after : AfterIn (started s).network history network
 
 -- the events of replica p, in their order
 abbrev pub own_events : List Event → ℕ → List Event
@@ -19,9 +18,9 @@ own_events history p = own replica_of history p
 
 -- after these events it is what its replica chooses
 pub record IsChosenAfter (s : Scenario) (before : List Event) (e : Event) : Type 0 where
-  pub network : List State
+  pub network : Network
   pub legal : IsLegal before s network
-  pub is_chosen : chosen network (replica_of e) (last_of (own_events before (replica_of e))) ≡ Some e
+  pub is_chosen : chosen network.states (replica_of e) (last_of (own_events before (replica_of e))) ≡ Some e
 
 -- each event of replica p was chosen at its place
 abbrev pub AllChosen : Scenario → ℕ → List Event → Type 0

@@ -15,5 +15,6 @@ phase_after None = P.Start
 phase_after (Some (E.Exec p)) = P.Start
 phase_after (Some (E.Send p)) = P.Receiving 0
 phase_after (Some (E.Recv p q)) = P.Receiving (q + 1)
+phase_after (Some (E.Take p q i)) = P.Start
 phase_after (Some (E.Apply p i)) = P.Applying
 phase_after (Some (E.Done p)) = P.Start

@@ -3,6 +3,7 @@ use Rattle.std.specs.Prelude.{◌≡◌, ◌≢◌, ◌⊎◌, ℕ, ◌<◌, ◌
 use mathlib.Core.List.{IsPrefix}
 use Rattle.jc_rules.specs.declared.operation.Event.{Event}
 use Rattle.jc_rules.specs.State.{State}
+use Rattle.jc_rules.specs.Step.{Network}
 use Rattle.jc_network.specs.declared.fault.Stuck.{Stuck}
 use Rattle.jc_printer.specs.Canon.{AreNamed}
 use Rattle.jc_scenario.specs.Scenarios.{Scenario, IsWellFormed}
@@ -17,9 +18,9 @@ use Rattle.jc_runner.specs.Legal.{IsLegal, AllChosen, own_events}
 use Rattle.jc_runner.specs.Worked.{IsStuckAfter, ChoosesAfter}
 
 -- no command of replica p is left in the network
-pub record IsFinishedIn (network : List State) (p : ℕ) : Type 0 where
+pub record IsFinishedIn (network : Network) (p : ℕ) : Type 0 where
   pub state : State
-  pub is_there : slice_get network p ≡ Some state
+  pub is_there : slice_get network.states p ≡ Some state
   pub none_left : state.left ≡ []
 
 -- Replica p chooses an event that is stuck after a beginning of the schedule that has all events of p, and isn't as long
@@ -43,7 +44,7 @@ pub record IsHaltedIn (s : Scenario) (p : ℕ) (schedule : List Event) : Type 0 
 
 -- What the end of replica p says of the schedule and of the network to which it leads. Whether its script has ended, its
 -- next event is stuck, or memory is wanting for it, the replica learns by one more take than it has made events.
-abbrev pub HasEnd : Scenario → ℕ → ℕ → List Event → List State → End → Type 0
+abbrev pub HasEnd : Scenario → ℕ → ℕ → List Event → Network → End → Type 0
 HasEnd s p limit schedule network N.Finished = IsFinishedIn network p × (length (own_events schedule p) < limit)
 HasEnd s p limit schedule network (N.StuckAt stuck) =
     IsStuckIn s p schedule stuck × (length (own_events schedule p) < limit)

@@ -2,6 +2,7 @@
 use Rattle.std.specs.Prelude.{◌≡◌, ◌⊎◌, ℕ, ◌<◌, List, [], length, get_or, Option, None, Some, slice_get}
 use Rattle.jc_rules.specs.declared.operation.Event.{Event}
 use Rattle.jc_rules.specs.State.{State}
+use Rattle.jc_rules.specs.Step.{Network}
 use Rattle.jc_lock.specs.Shows.{pass_number, pass_origin, pass_seen, pass_mine}
 use Rattle.jc_network.specs.declared.fault.Stuck.{Stuck}
 use Rattle.jc_network.specs.Makes.{IsStuckFor}
@@ -19,26 +20,26 @@ use Rattle.jc_runner.specs.Legal.{IsLegal, AllChosen, own_events}
 
 -- after the history no command of replica p is left
 pub record IsFinishedAfter (s : Scenario) (p : ℕ) (history : List Event) : Type 0 where
-  pub network : List State
+  pub network : Network
   pub state : State
   pub legal : IsLegal history s network
-  pub is_there : slice_get network p ≡ Some state
+  pub is_there : slice_get network.states p ≡ Some state
   pub none_left : state.left ≡ []
 
 -- after the history replica p chooses an event that is stuck
 pub record IsStuckAfter (s : Scenario) (p : ℕ) (history : List Event) (stuck : Stuck) : Type 0 where
-  pub network : List State
+  pub network : Network
   pub event : Event
   pub legal : IsLegal history s network
-  pub is_chosen : chosen network p (last_of (own_events history p)) ≡ Some event
+  pub is_chosen : chosen network.states p (last_of (own_events history p)) ≡ Some event
   pub is_stuck : IsStuckFor network event stuck
 
 -- after the history replica p chooses an event
 pub record ChoosesAfter (s : Scenario) (p : ℕ) (history : List Event) : Type 0 where
-  pub network : List State
+  pub network : Network
   pub event : Event
   pub legal : IsLegal history s network
-  pub is_chosen : chosen network p (last_of (own_events history p)) ≡ Some event
+  pub is_chosen : chosen network.states p (last_of (own_events history p)) ≡ Some event
 
 -- What each end says of the history that was seen, and of the pass's own events. That the script has ended, that the
 -- next event is stuck, or that memory is wanting for it, is found in a take of its own. With 100,000 events no event is

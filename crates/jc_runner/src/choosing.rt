@@ -97,7 +97,7 @@ fn chosen_of<S: TreeStore>(
 /// then applies the operations that are ready, each time the least, and is done: where it stands in this its phase says,
 /// which is `Start` at first.
 pub fn choose(net: &Net, p: u16, phase: Phase) -> Option<(Event, Phase)>
-    ensures { result ≡ choice net.now.network p phase }
+    ensures { result ≡ choice net.now.network.states p phase }
 {
     // Events have led to the network from a start, so that kept counters tell what is applied.
     net.steps();

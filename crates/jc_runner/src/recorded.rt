@@ -1,6 +1,6 @@
 //! A network beside the events that led to it.
 ghost use Rattle.std.specs.Prelude.{◌≡◌, ◌<◌, ◌∷◌, [], ◌++◌, ◌↔◌, length, IfOk, OnOk, OnErr, IsErrOf};
-ghost use Rattle.jc_rules.specs.Step.{Step, replica_of};
+ghost use Rattle.jc_rules.specs.Step.{StepIn, replica_of};
 ghost use Rattle.jc_network.specs.declared.fault.StepFault.TheVariants as Fault;
 ghost use Rattle.jc_network.specs.declared.fault.Stuck.{Stuck as AnyStuck};
 ghost use Rattle.jc_network.specs.Makes.{IsStuckFor};
@@ -75,7 +75,7 @@ impl Recorded {
     pub(crate) fn add(&mut self, event: &Event) -> Result<Trace, StepFault>
         ensures start { self.new.start ≡ self.old.start }
         ensures step { IfOk result (λ trace.
-            Step self.old.net.network event.now self.new.net.network trace.rows) }
+            StepIn self.old.net.network event.now self.new.net.network trace.rows) }
         ensures made { OnOk result (self.new.schedule ≡ self.old.schedule ++ event.now ∷ []) }
         ensures same { OnErr result (self.new ≡ self.old) }
         ensures full { IsErrOf result Fault.Full ↔ (length self.old.schedule ≡ 100000) }

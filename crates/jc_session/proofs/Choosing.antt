@@ -9,6 +9,8 @@ use Rattle.jc_rules.specs.declared.operation.Event.{Event}
 use Rattle.jc_rules.specs.declared.operation.Event.TheVariants as E
 use Rattle.jc_rules.specs.declared.rule.Rule.{Rule}
 use Rattle.jc_rules.specs.declared.rule.Rule.TheVariants as R
+use Rattle.jc_rules.specs.declared.version.Version.{Version}
+use Rattle.jc_rules.specs.declared.version.Version.TheVariants.{One, Two}
 use Rattle.jc_rules.specs.Names.{name_at}
 use Rattle.jc_rules.specs.Order.{same_id}
 use Rattle.jc_rules.specs.RuleNames.{rule_name}
@@ -20,7 +22,7 @@ use Rattle.jc_syntax.specs.declared.tree.NamedEvent.TheVariants as N
 use Rattle.jc_parser.specs.Calls.{executes, sends, receives, applies, ends}
 use Rattle.jc_scenario.specs.Resolved.{IsResolved, names_in, IsFirstStranger}
 use Rattle.jc_debug.specs.Session.{HasRule, IsLeast}
-use Rattle.jc_session.specs.Answers.{IsNamed, IsStrange}
+use Rattle.jc_session.specs.Answers.{IsNamed, IsStrange, Knows}
 
 -- it holds or it doesn't
 abbrev pub Decided : Type 0 → Type 0
@@ -91,7 +93,7 @@ every_rule : (rules : List Rule) × ((r d : Rule) → get_or rules (rule_place r
 every_rule = (
   R.Exec ∷ R.Let ∷ R.Var ∷ R.Doc ∷ R.Get ∷ R.Idx1 ∷ R.Idx2 ∷ R.Idx3 ∷ R.Idx4 ∷ R.Idx5
       ∷ R.Keys1 ∷ R.Keys2 ∷ R.Keys3 ∷ R.Val1 ∷ R.Val2 ∷ R.Val3 ∷ R.MakeAssign ∷ R.MakeInsert ∷ R.MakeDelete ∷ R.MakeOp
-      ∷ R.ApplyLocal ∷ R.Send ∷ R.Recv ∷ R.ApplyRemote ∷ R.Done ∷ R.Descend ∷ R.ChildGet ∷ R.ChildMap ∷ R.ChildList ∷ R.ChildReg
+      ∷ R.ApplyLocal ∷ R.Send ∷ R.Recv ∷ R.RecvOne ∷ R.ApplyRemote ∷ R.Done ∷ R.Descend ∷ R.ChildGet ∷ R.ChildMap ∷ R.ChildList ∷ R.ChildReg
       ∷ R.AddId1 ∷ R.AddId2 ∷ R.Presence1 ∷ R.Presence2 ∷ R.Assign ∷ R.EmptyMap ∷ R.EmptyList ∷ R.Insert1 ∷ R.Insert2 ∷ R.Delete
       ∷ R.ClearElem ∷ R.ClearAny ∷ R.ClearNone ∷ R.ClearReg ∷ R.ClearMap1 ∷ R.ClearMap2 ∷ R.ClearMap3 ∷ R.ClearList1 ∷ R.ClearList2 ∷ R.ClearList3 ∷ [],
   rule_at,
@@ -105,12 +107,34 @@ unfolding HasName
 has_name name k = same_bytes (rule_name (get_or every_rule.0 k R.Exec)) name
 
 -- a rule has the name, or none has it
-pub rule_or_none : (name : List ℕ) → ((rule : Rule) × (rule_name rule ≡ name)) ⊎ ((rule : Rule) → rule_name rule ≢ name)
+rule_or_none : (name : List ℕ) → ((rule : Rule) × (rule_name rule ≡ name)) ⊎ ((rule : Rule) → rule_name rule ≢ name)
 unfolding HasName
 rule_or_none name =
-    elim (least (HasName name) (has_name name) 50) [
+    elim (least (HasName name) (has_name name) 51) [
       | inl (k, is) ↦ inl (get_or every_rule.0 k R.Exec, is.0)
       | inr none ↦ inr (λ rule is. none (rule_place rule) (rule_within rule) (ap rule_name (every_rule.1 rule R.Exec) ∙ is))
+    ]
+
+knows_or_not : (rule : Rule) (version : Version) → Decided (Knows rule version)
+knows_or_not R.RecvOne One = inr (λ known. known)
+knows_or_not R.RecvOne Two = inl tt
+knows_or_not rule version = inl tt
+
+-- where a rule of the name isn't known no other one is
+pub not_known : (rule : Rule) (version : Version) (name : List ℕ) → rule_name rule ≡ name → (Knows rule version → ⊥) → (other : Rule) → Knows other version → rule_name other ≢ name
+not_known rule version name is bars other known it =
+    bars (subst (λ (r : Rule). Knows r version) (names_differ other rule (it ∙ sym is)) known)
+
+-- a rule that is known in the version has the name, or none has it
+pub known_or_none : (version : Version) (name : List ℕ) → ((rule : Rule) × Knows rule version × (rule_name rule ≡ name)) ⊎ ((rule : Rule) → Knows rule version → rule_name rule ≢ name)
+known_or_none version name =
+    elim (rule_or_none name) [
+      | inr none ↦ inr (λ rule known. none rule)
+      | inl (rule, is) ↦
+          elim (knows_or_not rule version) [
+            | inl known ↦ inl (rule, known, is)
+            | inr bars ↦ inr (not_known rule version name is bars)
+          ]
     ]
 
 further : (r rule : Rule) (depth : ℕ) (rows : List (Rule × ℕ)) → (r ≡ rule → ⊥) → (HasRule rows rule → ⊥) → (k d : ℕ) → slice_get ((r, depth) ∷ rows) k ≡ Some (rule, d) → ⊥

@@ -5,12 +5,13 @@ use Rattle.std.proofs.lemmas.Option.{slice_get_within}
 use Rattle.std.proofs.lemmas.List.Elements.{All-nil, All-cons, All-append, All-take}
 use Rattle.jc_rules.specs.declared.operation.Event.{Event}
 use Rattle.jc_rules.specs.State.{State}
+use Rattle.jc_rules.specs.Step.{Network}
 use Rattle.jc_printer.specs.Canon.{AreNamed}
 use Rattle.jc_network.specs.Enabled.{AreChosen, no_more, chosen, left_out, AreEnabled, candidates}
 use Rattle.jc_network.specs.Laws.{starts}
 use Rattle.jc_network.specs.Network.{HasSoundOps}
 use Rattle.jc_network.specs.Run.{IsFromStart}
-use Rattle.jc_network.proofs.Enabling.{IsEventOf, of_exec, of_send, of_recv, of_apply, of_done, in_from}
+use Rattle.jc_network.proofs.Enabling.{IsEventOf, of_exec, of_send, of_recv, of_take, of_apply, of_done, in_from}
 use Rattle.jc_network.proofs.Members.{first_in, later_in}
 use Rattle.jc_network.proofs.Starting.{start_well, after_well}
 use Rattle.jc_debug.specs.Session.{Session}
@@ -22,14 +23,24 @@ use Rattle.jc_session.specs.Answers.{Origin, Replies, Acts, Sets, Answer}
 -- ---- events that can be made
 
 -- the event of a replica that is there
-of_kind : (N : List State) (p q : ℕ) (e : Event) (A : State) → HasSoundOps N → slice_get N p ≡ Some A → q ≡ p → IsEventOf q (length N) A.recv e → AreNamed e (length N)
-of_kind N p q e A h there s (of_exec w) = subst (λ (x : Event). AreNamed x (length N)) (sym w) (subst (λ (n : ℕ). n < length N) (sym s) (slice_get_within N p A there))
-of_kind N p q e A h there s (of_send w) = subst (λ (x : Event). AreNamed x (length N)) (sym w) (subst (λ (n : ℕ). n < length N) (sym s) (slice_get_within N p A there))
-of_kind N p q e A h there s (of_recv r l w) = subst (λ (x : Event). AreNamed x (length N)) (sym w) (subst (λ (n : ℕ). n < length N) (sym s) (slice_get_within N p A there), l)
-of_kind N p q e A h there s (of_apply o k w) =
-    let made = h.received p A o there k in
-    subst (λ (x : Event). AreNamed x (length N)) (sym w) (subst (λ (n : ℕ). n < length N) (sym s) (slice_get_within N p A there), slice_get_within N o.id.replica made.at made.there)
-of_kind N p q e A h there s (of_done w) = subst (λ (x : Event). AreNamed x (length N)) (sym w) (subst (λ (n : ℕ). n < length N) (sym s) (slice_get_within N p A there))
+of_kind : (M : Network) (p q : ℕ) (e : Event) (A : State) → HasSoundOps M.states → slice_get M.states p ≡ Some A → q ≡ p → IsEventOf M q A.recv e → AreNamed e (length M.states)
+of_kind M p q e A h there s event = go event
+  where
+    own : q < length M.states
+    own = subst (λ (m : ℕ). m < length M.states) (sym s) (slice_get_within M.states p A there)
+
+    go : IsEventOf M q A.recv e → AreNamed e (length M.states)
+    go (of_exec w) = subst (λ (x : Event). AreNamed x (length M.states)) (sym w) own
+    go (of_send w) = subst (λ (x : Event). AreNamed x (length M.states)) (sym w) own
+    go (of_recv r l w) = subst (λ (x : Event). AreNamed x (length M.states)) (sym w) (own, l)
+    go (of_take t) =
+        let made = (h.sent t.sender t.at t.op t.there t.offered).1 in
+        subst (λ (x : Event). AreNamed x (length M.states)) (sym t.is)
+        (own, slice_get_within M.states t.sender t.at t.there, slice_get_within M.states t.op.id.replica made.at made.there)
+    go (of_apply o k w) =
+        let made = h.received p A o there k in
+        subst (λ (x : Event). AreNamed x (length M.states)) (sym w) (own, slice_get_within M.states o.id.replica made.at made.there)
+    go (of_done w) = subst (λ (x : Event). AreNamed x (length M.states)) (sym w) own
 
 chosen_named : {Yes No : Event → Type 0} {cs ls : List Event} (P : Event → Type 0) → AreChosen Yes No cs ls → ((e : Event) → Contains cs e → P e) → All P ls
 chosen_named P no_more f = All-nil P
@@ -37,14 +48,14 @@ chosen_named P (chosen {event = e} {asked = cs} {listed = ls} y a) f = All-cons 
 chosen_named P (left_out {event = e} {asked = cs} n a) f = chosen_named P a (λ x k. f x (later_in x e cs k))
 
 -- each event that can be made names replicas of the network
-pub enabled_named : (N : List State) (events : List Event) (n : ℕ) → n ≡ length N → IsFromStart N → AreEnabled N (candidates N) events → All (λ e. AreNamed e n) events
-enabled_named N events n same r h =
-    let well = after_well (starts r.0) r.1.0 N (start_well r.0) r.1.1 in
+pub enabled_named : (M : Network) (events : List Event) (n : ℕ) → n ≡ length M.states → IsFromStart M.states → AreEnabled M (candidates M) events → All (λ e. AreNamed e n) events
+enabled_named M events n same r h =
+    let well = after_well (starts r.0) r.1.0 M.states (start_well r.0) r.1.1 in
     subst (λ (m : ℕ). All (λ e. AreNamed e m) events) (sym same)
-    (chosen_named (λ e. AreNamed e (length N)) h (λ e k.
-    let x = in_from 0 (length N) N e k in
+    (chosen_named (λ e. AreNamed e (length M.states)) h (λ e k.
+    let x = in_from M 0 M.states e k in
     let place = x.1.is in
-    of_kind N x.0 x.1.number e x.1.at well.sets x.1.there (omega (arith, place)) x.1.event))
+    of_kind M x.0 x.1.number e x.1.at well.sets x.1.there (omega (arith, place)) x.1.event))
 
 -- ---- events of a schedule
 
@@ -72,7 +83,7 @@ replies_named O A B request text (N.acts_misspelled m) h = h
 replies_named O A B request text (N.runs lt runs) h = h
 replies_named O A B request text (N.runs_past is) h = h
 replies_named O A B request text (N.breaks_at {n} sets) h = sets_named (length O.names) A B _ text sets h
-replies_named O A B request text (N.breaks_rule rule is sets) h = sets_named (length O.names) A B _ text sets h
+replies_named O A B request text (N.breaks_rule rule has is sets) h = sets_named (length O.names) A B _ text sets h
 replies_named O A B request text (N.no_rule none) h = h
 replies_named O A B request text (N.breaks_replica p is sets) h = sets_named (length O.names) A B _ text sets h
 replies_named O A B request text (N.no_replica none) h = h

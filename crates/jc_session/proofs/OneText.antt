@@ -6,11 +6,11 @@ use Rattle.jc_rules.specs.declared.refusal.Refusal.TheVariants as F
 use Rattle.jc_rules.specs.declared.rule.Rule.{Rule}
 use Rattle.jc_rules.specs.Entries.{IsRising}
 use Rattle.jc_rules.specs.Order.{name_cmp}
-use Rattle.jc_rules.specs.Refused.{Cause, IsStuck}
-use Rattle.jc_rules.specs.Step.{Step}
+use Rattle.jc_rules.specs.Refused.{Cause, IsStuckIn}
+use Rattle.jc_rules.specs.Step.{Network, StepIn}
 use Rattle.jc_rules.specs.State.{State}
 use Rattle.jc_rules.proofs.Listed.{names_differ}
-use Rattle.jc_rules.proofs.Refusing.{stuck_has_none, one_stuck}
+use Rattle.jc_rules.proofs.Versions.{stuck_in_has_none, one_stuck_in}
 use Rattle.jc_network.specs.Enabled.{AreChosen, no_more, chosen, left_out, AreEnabled, IsNotStuck, IsAnyStuck, candidates}
 use Rattle.jc_dump.specs.Dump.{dump_line}
 use Rattle.jc_dump.specs.Lines.{stuck_text}
@@ -37,7 +37,7 @@ abbrev Same : Session → Session → List ℕ → List ℕ → Type 0
 Same B C t u = (B ≡ C) × (t ≡ u)
 
 -- the text of what is seen in the network at the position
-seen_in : (O : Origin) (A : Session) (N M : List State) (text : List State → List ℕ) → IsAt O.start A.schedule A.position N → IsAt O.start A.schedule A.position M → Same A A (text N) (text M)
+seen_in : (O : Origin) (A : Session) (N M : Network) (text : Network → List ℕ) → IsAt O.start A.schedule A.position N → IsAt O.start A.schedule A.position M → Same A A (text N) (text M)
 seen_in O A N M text a b = (refl, ap text (one_network O.start A.schedule A.position N M a b))
 
 -- ---- moves and runs
@@ -54,9 +54,9 @@ ran_once O A n m end other a b =
 
 -- ---- events of a line
 
-no_step : (O : Origin) (A : Session) (event : Event) (why : Cause) (N M new : List State) (rows : List (Rule × ℕ)) → IsAt O.start A.schedule A.position N → IsStuck N event why → IsAt O.start A.schedule A.position M → Step M event new rows → ⊥
+no_step : (O : Origin) (A : Session) (event : Event) (why : Cause) (N M new : Network) (rows : List (Rule × ℕ)) → IsAt O.start A.schedule A.position N → IsStuckIn N event why → IsAt O.start A.schedule A.position M → StepIn M event new rows → ⊥
 no_step O A event why N M new rows a stuck b step =
-    stuck_has_none M new event why rows (subst (λ (L : List State). IsStuck L event why) (one_network O.start A.schedule A.position N M a b) stuck) step
+    stuck_in_has_none M new event why rows (subst (λ (L : Network). IsStuckIn L event why) (one_network O.start A.schedule A.position N M a b) stuck) step
 
 acts_once : (O : Origin) (A B C : Session) (event : Event) (t u : List ℕ) → Acts O A event B t → Acts O A event C u → Same B C t u
 acts_once O A B C event t u (N.full is) (N.full it) = (refl, refl)
@@ -64,8 +64,8 @@ acts_once O A B C event t u (N.full is) (N.stuck due M lt b other) = absurd (ome
 acts_once O A B C event t u (N.full is) (N.made M new rows lt b step) = absurd (omega (arith, is, lt))
 acts_once O A B C event t u (N.stuck why L lt a stuck) (N.full is) = absurd (omega (arith, is, lt))
 acts_once O A B C event t u (N.stuck why L lt a stuck) (N.stuck due M less b other) =
-    let same : IsStuck M event why = subst (λ (X : List State). IsStuck X event why) (one_network O.start A.schedule A.position L M a b) stuck in
-    (refl, ap (λ (x : Cause). at_line A.position ++ stuck_text O.names x event) (one_stuck M event why due same other))
+    let same : IsStuckIn M event why = subst (λ (X : Network). IsStuckIn X event why) (one_network O.start A.schedule A.position L M a b) stuck in
+    (refl, ap (λ (x : Cause). at_line A.position ++ stuck_text O.names x event) (one_stuck_in M event why due same other))
 acts_once O A B C event t u (N.stuck why L lt a stuck) (N.made M new rows less b step) = absurd (no_step O A event why L M new rows a stuck b step)
 acts_once O A B C event t u (N.made L new rows lt a step) (N.full is) = absurd (omega (arith, is, lt))
 acts_once O A B C event t u (N.made L new rows lt a step) (N.stuck why M less b stuck) = absurd (no_step O A event why M L new rows b stuck a step)
@@ -115,8 +115,8 @@ clears_once A B C k t u (no_such none B_is t_is) (no_such other C_is u_is) = (B_
 known : (names : List (List ℕ)) (name : List ℕ) (p : ℕ) → IsNamed names name p → IsStrange names name → ⊥
 known names name p is none = none (p, slice_get_within names p name is, get_or_from_slice_get names p name name is)
 
-there_once : (N M : List State) (p q : ℕ) (C D : State) → N ≡ M → p ≡ q → slice_get N p ≡ Some C → slice_get M q ≡ Some D → C ≡ D
-there_once N M p q C D same number a b = same_Some C D (sym a ∙ (λ i. slice_get (same i) (number i)) ∙ b)
+there_once : (L M : Network) (p q : ℕ) (C D : State) → L ≡ M → p ≡ q → slice_get L.states p ≡ Some C → slice_get M.states q ≡ Some D → C ≡ D
+there_once L M p q C D same number a b = same_Some C D (sym a ∙ (λ i. slice_get (same i).states (number i)) ∙ b)
 
 -- the events chosen from a list are one list
 chosen_once : {Yes No : Event → Type 0} (cs ls ms : List Event) → ((e : Event) → Yes e → No e → ⊥) → AreChosen Yes No cs ls → AreChosen Yes No cs ms → ls ≡ ms
@@ -126,9 +126,9 @@ chosen_once cs ls ms never (chosen {event = e} y a) (left_out n b) = absurd (nev
 chosen_once cs ls ms never (left_out {event = e} n a) (chosen y b) = absurd (never e y n)
 chosen_once cs ls ms never (left_out {asked = ds} {listed = xs} n a) (left_out {listed = ys} m b) = chosen_once ds xs ys never a b
 
-enabled_once : (O : Origin) (A : Session) (N M : List State) (ls ms : List Event) → IsAt O.start A.schedule A.position N → IsAt O.start A.schedule A.position M → AreEnabled N (candidates N) ls → AreEnabled M (candidates M) ms → ls ≡ ms
+enabled_once : (O : Origin) (A : Session) (N M : Network) (ls ms : List Event) → IsAt O.start A.schedule A.position N → IsAt O.start A.schedule A.position M → AreEnabled N (candidates N) ls → AreEnabled M (candidates M) ms → ls ≡ ms
 enabled_once O A N M ls ms a b listed other =
-    let here = subst (λ (L : List State). AreEnabled L (candidates L) ls) (one_network O.start A.schedule A.position N M a b) listed in
+    let here = subst (λ (L : Network). AreEnabled L (candidates L) ls) (one_network O.start A.schedule A.position N M a b) listed in
     chosen_once {Yes = IsNotStuck M} {No = IsAnyStuck M} (candidates M) ls ms (λ e free stuck. free stuck.0 stuck.1) here other
 
 compared_once : (C D : State) (t u : List ℕ) → Compares C D t → Compares C D u → t ≡ u
@@ -173,11 +173,11 @@ one_reply laws O A q rising B t (N.runs lt runs) C u (N.runs_past is) = absurd (
 one_reply laws O A q rising B t (N.runs_past is) C u (N.runs lt runs) = absurd (omega (arith, lt, is))
 one_reply laws O A q rising B t (N.runs_past is) C u (N.runs_past it) = (refl, refl)
 one_reply laws O A q rising B t (N.breaks_at {n} a) C u (N.breaks_at b) = sets_once A B C (Kind.Position n) t u a b
-one_reply laws O A q rising B t (N.breaks_rule rule is a) C u (N.breaks_rule other it b) =
+one_reply laws O A q rising B t (N.breaks_rule rule has is a) C u (N.breaks_rule other too it b) =
     let same : rule ≡ other = names_differ rule other (is ∙ sym it) in
     sets_once A B C (Kind.Rule other) t u (subst (λ (r : Rule). Sets A (Kind.Rule r) B t) same a) b
-one_reply laws O A q rising B t (N.breaks_rule rule is a) C u (N.no_rule none) = absurd (none rule is)
-one_reply laws O A q rising B t (N.no_rule none) C u (N.breaks_rule rule is a) = absurd (none rule is)
+one_reply laws O A q rising B t (N.breaks_rule rule has is a) C u (N.no_rule none) = absurd (none rule has is)
+one_reply laws O A q rising B t (N.no_rule none) C u (N.breaks_rule rule has is a) = absurd (none rule has is)
 one_reply laws O A q rising B t (N.no_rule none) C u (N.no_rule other) = (refl, refl)
 one_reply laws O A q rising B t (N.breaks_replica {name} p is a) C u (N.breaks_replica r it b) =
     let same : p ≡ r = one_named O.names name p r rising is it in
@@ -187,7 +187,7 @@ one_reply laws O A q rising B t (N.no_replica {name} none) C u (N.breaks_replica
 one_reply laws O A q rising B t (N.no_replica none) C u (N.no_replica other) = (refl, refl)
 one_reply laws O A q rising B t (N.clears j b is) C u r = clears_once A B C (j + 1) t u (cleared j b refl is refl refl) (clears_of O A C (Q.unbreak (j + 1)) (j + 1) u refl r)
 one_reply laws O A q rising B t (N.no_break {k} none) C u r = clears_once A B C k t u (no_such none refl refl) (clears_of O A C (Q.unbreak k) k u refl r)
-one_reply laws O A q rising B t (N.states L is) C u (N.states M it) = seen_in O A L M (dumps_text O.names) is it
+one_reply laws O A q rising B t (N.states L is) C u (N.states M it) = seen_in O A L M (λ (K : Network). dumps_text O.names K.states) is it
 one_reply laws O A q rising B t (N.state_of {name} L p D is named here) C u (N.state_of M r E it other there) =
     let same : L ≡ M = one_network O.start A.schedule A.position L M is it in
     (refl, ap (dump_line O.names name) (there_once L M p r D E same (one_named O.names name p r rising named other) here there))

@@ -1,11 +1,12 @@
 -- What the contracts of a debugger's calls say is what the answers of requests say.
-use Rattle.std.proofs.Common.{◌≡◌, ◌≢◌, ◌↔◌, ℕ, ◌+◌, ◌-◌, ◌<◌, ◌≤◌, List, [], ◌++◌, length, slice_get, get_or, unwrap_or, Option, None, Some, Result, Ok, Err, Contains, MatchOption, IsFalse, true, false, codes, decimal, inl, inr, ◌⊎◌, refl, ap, sym, subst, ◌∙◌, arith}
+use Rattle.std.proofs.Common.{◌≡◌, ◌≢◌, ◌↔◌, ℕ, ◌+◌, ◌-◌, ◌<◌, ◌≤◌, List, [], ◌++◌, length, take, slice_get, get_or, unwrap_or, Option, None, Some, Result, Ok, Err, Contains, MatchOption, IsFalse, true, false, codes, decimal, inl, inr, ◌⊎◌, refl, ap, sym, subst, ◌∙◌, arith}
 use Rattle.std.specs.List.{All}
 use Rattle.std.proofs.lemmas.Bool.{cases_lt}
 use Rattle.std.proofs.lemmas.Option.{slice_get_within, get_or_from_slice_get, slice_get-get_or}
 use Rattle.jc_rules.specs.declared.operation.Event.{Event}
 use Rattle.jc_rules.specs.declared.refusal.Refusal.TheVariants as F
 use Rattle.jc_rules.specs.declared.rule.Rule.{Rule}
+use Rattle.jc_rules.specs.declared.version.Version.{Version}
 use Rattle.jc_rules.specs.Names.{name_at}
 use Rattle.jc_rules.specs.RuleNames.{rule_name}
 use Rattle.jc_rules.specs.Refused.{Cause}
@@ -39,10 +40,11 @@ use Rattle.jc_debug.specs.Trail.{Seen, start_of, session_of, IsOnTrail, IsMoved}
 use Rattle.jc_debug.proofs.Replying.{moved_session, arrived, stopped}
 use Rattle.jc_session.specs.Answers as A
 use Rattle.jc_session.specs.Lines.{Line}
-use Rattle.jc_session.specs.Answers.{Origin, Replies, Sets, Acts, IsNamed, IsSpelled, Answer}
+use Rattle.jc_session.specs.Answers.{Origin, Replies, Sets, Acts, IsNamed, IsSpelled, Knows, Answer}
 use Rattle.jc_session.specs.Gives.{origin_in, AllNamed, Gives, GivesLine, set_text}
 use Rattle.jc_session.specs.Requests as Q
 use Rattle.jc_session.specs.Requests.{Request, nothing, asks, bad, meaning}
+use Rattle.jc_session.proofs.Leading.{after_version}
 use Rattle.jc_meaning.specs.declared.comparison.Comparison.{Comparison}
 use Rattle.jc_meaning.specs.declared.comparison.Comparison.TheVariants.{SameOps, DifferentOps}
 use Rattle.jc_meaning.specs.Found.{IsFound, IsComparison}
@@ -316,8 +318,18 @@ reply_set d e b (Err B.NoSuchReplica) text is other h = absurd (other refl)
 pub reply_break_at : (d e : Seen) (n : ℕ) (r : Result ℕ BreakFault) (text : List ℕ) → IsSet d e (Kind.Position n) r → r ≢ Err B.NoSuchReplica → text ≡ set_text r → Gives d (Q.break_at n) e text
 reply_break_at d e n r text set other h = let s = reply_set d e (Kind.Position n) r text set other h in record { replies = A.breaks_at s.0; origin = s.1 }
 
-pub reply_break_rule : (d e : Seen) (rule : Rule) (name : List ℕ) (r : Result ℕ BreakFault) (text : List ℕ) → rule_name rule ≡ name → IsSet d e (Kind.Rule rule) r → r ≢ Err B.NoSuchReplica → text ≡ set_text r → Gives d (Q.break_rule name) e text
-reply_break_rule d e rule name r text is set other h = let s = reply_set d e (Kind.Rule rule) r text set other h in record { replies = A.breaks_rule rule is s.0; origin = s.1 }
+-- the version of the network at the position is that of the first
+same_version : (d : Seen) (net : Course) (version : Version) → version ≡ net.network.version → IsAt (start_of d) d.schedule (length d.traces) net.network → version ≡ (start_of d).version
+same_version d net version is at = is ∙ after_version (start_of d) (take (length d.traces) d.schedule) net.network at.after
+
+pub known_here : (d : Seen) (net : Course) (version : Version) (rule : Rule) → version ≡ net.network.version → IsAt (start_of d) d.schedule (length d.traces) net.network → Knows rule version → Knows rule (start_of d).version
+known_here d net version rule is at known = subst (Knows rule) (same_version d net version is at) known
+
+pub unknown_here : (d : Seen) (net : Course) (version : Version) (name : List ℕ) → version ≡ net.network.version → IsAt (start_of d) d.schedule (length d.traces) net.network → ((rule : Rule) → Knows rule version → rule_name rule ≢ name) → (rule : Rule) → Knows rule (start_of d).version → rule_name rule ≢ name
+unknown_here d net version name is at none rule known = none rule (subst (Knows rule) (sym (same_version d net version is at)) known)
+
+pub reply_break_rule : (d e : Seen) (rule : Rule) (name : List ℕ) (r : Result ℕ BreakFault) (text : List ℕ) → Knows rule (start_of d).version → rule_name rule ≡ name → IsSet d e (Kind.Rule rule) r → r ≢ Err B.NoSuchReplica → text ≡ set_text r → Gives d (Q.break_rule name) e text
+reply_break_rule d e rule name r text known is set other h = let s = reply_set d e (Kind.Rule rule) r text set other h in record { replies = A.breaks_rule rule known is s.0; origin = s.1 }
 
 pub reply_break_replica : (d e : Seen) (p : ℕ) (name : List ℕ) (r : Result ℕ BreakFault) (text : List ℕ) → IsNamed d.net.names name p → IsSet d e (Kind.Replica p) r → ((r ≡ Err B.NoSuchReplica) ↔ (length d.net.names ≤ p)) → text ≡ set_text r → Gives d (Q.break_replica name) e text
 reply_break_replica d e p name r text named set missing h =
@@ -337,18 +349,18 @@ reply_unbreak d e k text c h =
 
 -- ---- what is shown
 
-pub reply_state : (d : Seen) (net : Course) (text : List ℕ) → net ≡ d.net → IsAt (start_of d) d.schedule (length d.traces) net.network → text ≡ dumps_text net.names net.network → Gives d Q.state d text
+pub reply_state : (d : Seen) (net : Course) (text : List ℕ) → net ≡ d.net → IsAt (start_of d) d.schedule (length d.traces) net.network → text ≡ dumps_text net.names net.network.states → Gives d Q.state d text
 reply_state d net text same is h =
-    let due : text ≡ dumps_text d.net.names net.network = h ∙ ap (λ (c : Course). dumps_text c.names net.network) same in
-    gives_same d d Q.state text refl (same_text (origin_in d) (session_of d) (session_of d) Q.state (dumps_text d.net.names net.network) text due (A.states net.network is))
+    let due : text ≡ dumps_text d.net.names net.network.states = h ∙ ap (λ (c : Course). dumps_text c.names net.network.states) same in
+    gives_same d d Q.state text refl (same_text (origin_in d) (session_of d) (session_of d) Q.state (dumps_text d.net.names net.network.states) text due (A.states net.network is))
 
-pub reply_state_of : (d : Seen) (net : Course) (names : List (List ℕ)) (name : List ℕ) (p : ℕ) (text : List ℕ) → net ≡ d.net → names ≡ net.names → IsAt (start_of d) d.schedule (length d.traces) net.network → length net.network ≡ length net.names → IsNamed names name p
-    → ((C : State) → slice_get net.network p ≡ Some C → text ≡ dump_line net.names (name_at net.names p) C) → Gives d (Q.state_of name) d text
+pub reply_state_of : (d : Seen) (net : Course) (names : List (List ℕ)) (name : List ℕ) (p : ℕ) (text : List ℕ) → net ≡ d.net → names ≡ net.names → IsAt (start_of d) d.schedule (length d.traces) net.network → length net.network.states ≡ length net.names → IsNamed names name p
+    → ((C : State) → slice_get net.network.states p ≡ Some C → text ≡ dump_line net.names (name_at net.names p) C) → Gives d (Q.state_of name) d text
 reply_state_of d net names name p text same is is_at each named h =
     let here : IsNamed net.names name p = subst (λ (ns : List (List ℕ)). IsNamed ns name p) is named in
-    let within : p < length net.network = subst (λ (n : ℕ). p < n) (sym each) (slice_get_within net.names p name here) in
-    let C = get_or net.network p (start []) in
-    let there = slice_get-get_or net.network p (start []) within in
+    let within : p < length net.network.states = subst (λ (n : ℕ). p < n) (sym each) (slice_get_within net.names p name here) in
+    let C = get_or net.network.states p (start []) in
+    let there = slice_get-get_or net.network.states p (start []) within in
     let called : name_at net.names p ≡ name = ap (λ o. unwrap_or o []) here in
     let known : net.names ≡ d.net.names = ap (λ (c : Course). c.names) same in
     let due : text ≡ dump_line d.net.names name C = h C there ∙ (λ i. dump_line (known i) (called i) C) in
@@ -415,7 +427,7 @@ found_text C D (SameOps true) (ops, tree, is) = A.same_tree ops tree
 found_text C D (SameOps false) (ops, tree, is) = let no : false ≡ true = is in absurd (cc)
 found_text C D DifferentOps ops = A.different_ops ops
 
-pub reply_compare : (d : Seen) (net : Course) (names : List (List ℕ)) (name other : List ℕ) (p q : ℕ) (found : Comparison) (text : List ℕ) → net ≡ d.net → names ≡ net.names → IsAt (start_of d) d.schedule (length d.traces) net.network → IsNamed names name p → IsNamed names other q → IsComparison net.network p q found → text ≡ compared_line found → Gives d (Q.compare name other) d text
+pub reply_compare : (d : Seen) (net : Course) (names : List (List ℕ)) (name other : List ℕ) (p q : ℕ) (found : Comparison) (text : List ℕ) → net ≡ d.net → names ≡ net.names → IsAt (start_of d) d.schedule (length d.traces) net.network → IsNamed names name p → IsNamed names other q → IsComparison net.network.states p q found → text ≡ compared_line found → Gives d (Q.compare name other) d text
 reply_compare d net names name other p q found text same is is_at one two c h =
     gives_same d d (Q.compare name other) text refl
     (same_text (origin_in d) (session_of d) (session_of d) (Q.compare name other) (compared_line found) text h
@@ -426,7 +438,7 @@ reply_compare d net names name other p q found text same is is_at one two c h =
 shows : (d : Seen) (q : Request) (due text : List ℕ) → text ≡ due → Replies (origin_in d) (session_of d) q (session_of d) due → Gives d q d text
 shows d q due text h r = gives_same d d q text refl (same_text (origin_in d) (session_of d) (session_of d) q due text h r)
 
-pub reply_no_rule : (d : Seen) (name text : List ℕ) → ((rule : Rule) → rule_name rule ≢ name) → text ≡ refusal_line F.BadLine → Gives d (Q.break_rule name) d text
+pub reply_no_rule : (d : Seen) (name text : List ℕ) → ((rule : Rule) → Knows rule (start_of d).version → rule_name rule ≢ name) → text ≡ refusal_line F.BadLine → Gives d (Q.break_rule name) d text
 reply_no_rule d name text none h = shows d (Q.break_rule name) (refusal_line F.BadLine) text h (A.no_rule none)
 
 pub reply_no_replica : (d : Seen) (name text : List ℕ) → (Contains d.net.names name → ⊥) → text ≡ refusal_line F.UnknownReplica → Gives d (Q.break_replica name) d text

@@ -5,11 +5,16 @@ use Rattle.std.proofs.lemmas.List.{length-map}
 use Rattle.std.proofs.lemmas.Option.{slice_get_within, get_or_from_slice_get}
 use Rattle.jc_rules.specs.declared.operation.Event.{Event}
 use Rattle.jc_rules.specs.declared.refusal.Refusal.TheVariants as F
+use Rattle.jc_rules.specs.declared.version.Version.TheVariants.{One}
 use Rattle.jc_rules.specs.State.{State, start}
+use Rattle.jc_rules.specs.Step.{Network}
+use Rattle.jc_rules.proofs.Versions.{after_states, stuck_in_has_none}
 use Rattle.jc_parser.specs.CallLaws.{EventElseFault}
 use Rattle.jc_scenario.specs.Scenarios.{Scenario, IsWellFormed}
+use Rattle.jc_network.specs.Course.{started}
 use Rattle.jc_network.specs.Enabled.{no_more, chosen, left_out, AreEnabled, IsNotStuck, IsAnyStuck, candidates}
-use Rattle.jc_network.specs.Laws.{starts, StepOrStuck}
+use Rattle.jc_network.specs.Laws.{starts, IsReached, StepOrStuck}
+use Rattle.jc_network.proofs.Enabling.{decided_in}
 use Rattle.jc_meaning.specs.Laws.{TreesConverge}
 use Rattle.jc_dump.specs.Dump.{dump_line}
 use Rattle.jc_dump.specs.Lines.{stuck_text}
@@ -22,7 +27,7 @@ use Rattle.jc_session.specs.Answers.{origin_of, IsNamed, IsMisspelled, IsSpelled
 use Rattle.jc_session.specs.Requests as Q
 use Rattle.jc_session.specs.Requests.{Request, Word}
 use Rattle.jc_session.specs.Texts.{refusal_line, at_line, set_line, cleared_line, where_line, went_text, ran_text, numbered_lines, event_lines, or_none}
-use Rattle.jc_session.proofs.Choosing.{Decided, least, same_ops, named_or_strange, rule_or_none, resolved_or_strange}
+use Rattle.jc_session.proofs.Choosing.{Decided, least, same_ops, named_or_strange, known_or_none, resolved_or_strange}
 use Rattle.jc_session.proofs.Faults.{fault_line, event_told}
 use Rattle.jc_session.proofs.Leading.{element, Decides, same_count, at_earlier, made_before, acted_at, move, come_to, run}
 
@@ -35,8 +40,8 @@ pub record ReplyLaws : Type 0 where
 -- The schedule is within the limit, and events have led to the position.
 pub record IsGood (s : Scenario) (A : Session) : Type 0 where
   pub short : length A.schedule ≤ 100000
-  pub network : List State
-  pub is_at : IsAt (starts s.scripts) A.schedule A.position network
+  pub network : Network
+  pub is_at : IsAt (started s).network A.schedule A.position network
 
 -- a request has an answer, and leads to such a state again
 pub record Replied (s : Scenario) (A : Session) (q : Request) : Type 0 where
@@ -53,7 +58,7 @@ record SetsOne (A : Session) (b : Break) : Type 0 where
 
 -- ---- parts of answers
 
-good_at : (s : Scenario) (A : Session) (n : ℕ) → IsGood s A → (N : List State) × IsAt (starts s.scripts) A.schedule n N → IsGood s (moved A n)
+good_at : (s : Scenario) (A : Session) (n : ℕ) → IsGood s A → (N : Network) × IsAt (started s).network A.schedule n N → IsGood s (moved A n)
 good_at s A n good (N, a) = record { short = good.short; network = N; is_at = a }
 
 -- the text of a request that changes nothing
@@ -91,25 +96,28 @@ acted_short A event within room =
 
 module _ (laws : ReplyLaws) (s : Scenario) (formed : IsWellFormed s) where
   -- at each position an event is made or stuck
-  decides : Decides (starts s.scripts)
-  decides es N after event = (laws.step_or_stuck s.scripts N (es, after) event).0
+  decides : Decides (started s).network
+  decides es M after event = decided_in M (λ e. (laws.step_or_stuck s.scripts M.states (es, after_states (started s).network es M after) e).0) event
+
+  reached : (A : Session) (good : IsGood s A) → IsReached s.scripts good.network.states
+  reached A good = (take A.position A.schedule, after_states (started s).network (take A.position A.schedule) good.network good.is_at.after)
 
   -- each name has its replica
-  replica : (A : Session) (good : IsGood s A) (name : List ℕ) (p : ℕ) → IsNamed s.names name p → (C : State) × (slice_get good.network p ≡ Some C)
+  replica : (A : Session) (good : IsGood s A) (name : List ℕ) (p : ℕ) → IsNamed s.names name p → (C : State) × (slice_get good.network.states p ≡ Some C)
   replica A good name p is =
       let within = slice_get_within s.names p name is in
       let each = formed.each in
-      let count : length good.network ≡ length (starts s.scripts) = same_count (starts s.scripts) (take A.position A.schedule) good.network good.is_at.after in
+      let count : length good.network.states ≡ length (starts s.scripts) = same_count (started s).network (take A.position A.schedule) good.network good.is_at.after in
       let scripts : length (starts s.scripts) ≡ length s.scripts = length-map s.scripts start in
-      element good.network p (omega (arith, within, each, count, scripts))
+      element good.network.states p (omega (arith, within, each, count, scripts))
 
   -- ---- moves
 
-  moves_to : (A : Session) → IsGood s A → (n : ℕ) → n ≤ length A.schedule → (p : ℕ) × (end : Option StuckEvent) × Goes (starts s.scripts) A.schedule A.position n p end
+  moves_to : (A : Session) → IsGood s A → (n : ℕ) → n ≤ length A.schedule → (p : ℕ) × (end : Option StuckEvent) × Goes (started s).network A.schedule A.position n p end
   moves_to A good n within =
       elim (cases_lt A.position n) [
-        | inl ahead ↦ move (starts s.scripts) decides A.schedule (n - A.position) A.position A.position n good.network (omega arith) (omega (arith, ahead)) within good.is_at
-        | inr behind ↦ let (M, a) = at_earlier (starts s.scripts) A.schedule n A.position good.network behind good.is_at in (n, None, arrives a)
+        | inl ahead ↦ move (started s).network decides A.schedule (n - A.position) A.position A.position n good.network (omega arith) (omega (arith, ahead)) within good.is_at
+        | inr behind ↦ let (M, a) = at_earlier (started s).network A.schedule n A.position good.network behind good.is_at in (n, None, arrives a)
       ]
 
   steps : (A : Session) → IsGood s A → (n : ℕ) → Replied s A (Q.step n)
@@ -121,7 +129,7 @@ module _ (laws : ReplyLaws) (s : Scenario) (formed : IsWellFormed s) where
             record {
               after = moved A p;
               text = went_text s.names p end;
-              good = good_at s A p good (come_to (starts s.scripts) A.schedule A.position (A.position + n) p end goes);
+              good = good_at s A p good (come_to (started s).network A.schedule A.position (A.position + n) p end goes);
               replies = N.steps within goes;
             }
       ]
@@ -135,7 +143,7 @@ module _ (laws : ReplyLaws) (s : Scenario) (formed : IsWellFormed s) where
             record {
               after = moved A p;
               text = went_text s.names p end;
-              good = good_at s A p good (come_to (starts s.scripts) A.schedule A.position n p end goes);
+              good = good_at s A p good (come_to (started s).network A.schedule A.position n p end goes);
               replies = N.goes_to within goes;
             }
       ]
@@ -148,7 +156,7 @@ module _ (laws : ReplyLaws) (s : Scenario) (formed : IsWellFormed s) where
             record {
               after = moved A (A.position - n);
               text = at_line (A.position - n);
-              good = good_at s A (A.position - n) good (at_earlier (starts s.scripts) A.schedule (A.position - n) A.position good.network (omega arith) good.is_at);
+              good = good_at s A (A.position - n) good (at_earlier (started s).network A.schedule (A.position - n) A.position good.network (omega arith) good.is_at);
               replies = N.goes_back within;
             }
       ]
@@ -157,7 +165,7 @@ module _ (laws : ReplyLaws) (s : Scenario) (formed : IsWellFormed s) where
   runs A good =
       elim (cases_lt A.position (length A.schedule)) [
         | inl some ↦
-            let (n, end, ran) = run (starts s.scripts) decides A good.network some good.is_at in
+            let (n, end, ran) = run (started s).network decides A good.network some good.is_at in
             record { after = moved A n; text = ran_text s.names n end; good = good_at s A n good (ran.network, ran.is_at); replies = N.runs some ran }
         | inr none ↦
             let within = good.is_at.within in
@@ -179,7 +187,7 @@ module _ (laws : ReplyLaws) (s : Scenario) (formed : IsWellFormed s) where
         | inl room ↦
             elim (decides (take A.position A.schedule) good.network good.is_at.after event) [
               | inl (new, rows, step) ↦
-                  let a = acted_at (starts s.scripts) A.schedule A.position good.network event new rows good.is_at step in
+                  let a = acted_at (started s).network A.schedule A.position good.network event new rows good.is_at step in
                   record {
                     after = acted A event;
                     text = at_line (A.position + 1);
@@ -214,10 +222,10 @@ module _ (laws : ReplyLaws) (s : Scenario) (formed : IsWellFormed s) where
 
   breaks_rule : (A : Session) → IsGood s A → (name : Word) → Replied s A (Q.break_rule name)
   breaks_rule A good name =
-      elim (rule_or_none name) [
-        | inl (rule, is) ↦
+      elim (known_or_none One name) [
+        | inl (rule, known, is) ↦
             let b = sets_one A (Kind.Rule rule) in
-            record { after = b.after; text = b.text; good = good_set s A (Kind.Rule rule) b.after b.text good b.sets; replies = N.breaks_rule rule is b.sets }
+            record { after = b.after; text = b.text; good = good_set s A (Kind.Rule rule) b.after b.text good b.sets; replies = N.breaks_rule rule known is b.sets }
         | inr none ↦ stays s A (Q.break_rule name) (refusal_line F.BadLine) good (N.no_rule none)
       ]
 
@@ -260,7 +268,7 @@ module _ (laws : ReplyLaws) (s : Scenario) (formed : IsWellFormed s) where
   -- ---- what is shown
 
   states : (A : Session) → IsGood s A → Replied s A Q.state
-  states A good = stays s A Q.state (dumps_text s.names good.network) good (N.states good.network good.is_at)
+  states A good = stays s A Q.state (dumps_text s.names good.network.states) good (N.states good.network good.is_at)
 
   state_of : (A : Session) → IsGood s A → (name : Word) → Replied s A (Q.state_of name)
   state_of A good name =
@@ -274,10 +282,10 @@ module _ (laws : ReplyLaws) (s : Scenario) (formed : IsWellFormed s) where
   traces : (A : Session) → IsGood s A → (m : ℕ) → A.position ≡ m → Replied s A Q.trace
   traces A good zero e = stays s A Q.trace (codes "start\n") good (N.at_start e)
   traces A good (suc n) e =
-      let (event, rows, makes) = made_before (starts s.scripts) A.schedule n A.position good.network (omega (arith, e)) good.is_at in
+      let (event, rows, makes) = made_before (started s).network A.schedule n A.position good.network (omega (arith, e)) good.is_at in
       stays s A Q.trace (block_text s.names (n + 1) event rows) good (N.traces {n = n} {event = event} {rows = rows} (omega (arith, e)) makes)
 
-  some_chosen : (N : List State) → ((event : Event) → IsNotStuck N event ⊎ IsAnyStuck N event) → (asked : List Event) → (listed : List Event) × AreEnabled N asked listed
+  some_chosen : (N : Network) → ((event : Event) → IsNotStuck N event ⊎ IsAnyStuck N event) → (asked : List Event) → (listed : List Event) × AreEnabled N asked listed
   some_chosen N either [] = ([], no_more)
   some_chosen N either (event ∷ asked) =
       let (listed, are) = some_chosen N either asked in
@@ -288,9 +296,8 @@ module _ (laws : ReplyLaws) (s : Scenario) (formed : IsWellFormed s) where
 
   free_or_stuck : (A : Session) (good : IsGood s A) (event : Event) → IsNotStuck good.network event ⊎ IsAnyStuck good.network event
   free_or_stuck A good event =
-      let (either, never) = laws.step_or_stuck s.scripts good.network (take A.position A.schedule, good.is_at.after) event in
-      elim either [
-        | inl (new, rows, step) ↦ inl (λ why stuck. never new rows why step stuck)
+      elim (decides (take A.position A.schedule) good.network good.is_at.after event) [
+        | inl (new, rows, step) ↦ inl (λ why stuck. stuck_in_has_none good.network new event why rows stuck step)
         | inr stuck ↦ inr stuck
       ]
 
@@ -301,10 +308,10 @@ module _ (laws : ReplyLaws) (s : Scenario) (formed : IsWellFormed s) where
 
   -- ---- comparisons
 
-  compared : (A : Session) (good : IsGood s A) (C D : State) → Contains good.network C → Contains good.network D → (text : List ℕ) × Compares C D text
+  compared : (A : Session) (good : IsGood s A) (C D : State) → Contains good.network.states C → Contains good.network.states D → (text : List ℕ) × Compares C D text
   compared A good C D one other =
       elim (same_ops C.ops D.ops) [
-        | inl same ↦ (codes "same operations same tree\n", N.same_tree same (laws.trees_converge s.scripts good.network (take A.position A.schedule, good.is_at.after) C D one other same))
+        | inl same ↦ (codes "same operations same tree\n", N.same_tree same (laws.trees_converge s.scripts good.network.states (reached A good) C D one other same))
         | inr different ↦ (codes "different operations\n", N.different_ops different)
       ]
 
@@ -318,7 +325,7 @@ module _ (laws : ReplyLaws) (s : Scenario) (formed : IsWellFormed s) where
               | inl (q, too) ↦
                   let (C, here) = replica A good name p is in
                   let (D, there) = replica A good other q too in
-                  let (text, found) = compared A good C D (in_list good.network p C here) (in_list good.network q D there) in
+                  let (text, found) = compared A good C D (in_list good.network.states p C here) (in_list good.network.states q D there) in
                   stays s A (Q.compare name other) text good (N.compares good.network p q C D good.is_at is too here there found)
             ]
       ]

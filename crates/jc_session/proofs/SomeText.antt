@@ -1,7 +1,7 @@
 -- Each scenario's bytes and each bytes of lines have a text.
 use Rattle.std.proofs.Common.{◌≡◌, ◌⊎◌, inl, inr, ℕ, List, [], ◌∷◌, ◌++◌, length, take, map, nat_le, ◌&&◌, if◌then◌else◌, refl, ap, ◌∙◌, arith}
 use Rattle.jc_rules.specs.declared.refusal.Refusal.TheVariants as F
-use Rattle.jc_network.specs.Laws.{starts}
+use Rattle.jc_network.specs.Course.{started}
 use Rattle.jc_debug.specs.Session.{Session, begun}
 use Rattle.jc_scenario.specs.Laws.{ScenarioElseFault, ScenariosAreWellFormed}
 use Rattle.jc_scenario.specs.Scenarios.{Scenario, IsWellFormed}
@@ -80,7 +80,7 @@ module _ (laws : ReplyLaws) (s : Scenario) (formed : IsWellFormed s) where
 
   -- at the start of the schedule
   good_start : IsGood s (begun s.schedule)
-  good_start = record { short = formed.short; network = starts s.scripts; is_at = record { within = omega arith; after = refl } }
+  good_start = record { short = formed.short; network = (started s).network; is_at = record { within = omega arith; after = refl } }
 
   some_talk : (bytes : List ℕ) → (text : List ℕ) × (end : End) × Talks (origin_of s) (begun s.schedule) bytes text end
   some_talk bytes =

@@ -4,20 +4,23 @@ use Rattle.jc_rules.specs.declared.operation.Event.{Event}
 use Rattle.jc_rules.specs.declared.refusal.Refusal.{Refusal}
 use Rattle.jc_rules.specs.declared.refusal.Refusal.TheVariants as F
 use Rattle.jc_rules.specs.declared.rule.Rule.{Rule}
+use Rattle.jc_rules.specs.declared.rule.Rule.TheVariants as R
+use Rattle.jc_rules.specs.declared.version.Version.{Version}
+use Rattle.jc_rules.specs.declared.version.Version.TheVariants.{One, Two}
 use Rattle.jc_rules.specs.RuleNames.{rule_name}
 use Rattle.jc_rules.specs.Refusals.{number_of}
-use Rattle.jc_rules.specs.Refused.{Cause, IsStuck}
+use Rattle.jc_rules.specs.Refused.{Cause, IsStuckIn}
 use Rattle.jc_rules.specs.Shape.{drop}
 use Rattle.jc_rules.specs.State.{State}
-use Rattle.jc_rules.specs.Step.{Step}
+use Rattle.jc_rules.specs.Step.{Network, StepIn}
 use Rattle.jc_syntax.specs.declared.tree.NamedEvent.{NamedEvent}
 use Rattle.jc_parser.specs.declared.fault.ScenarioFault.{ScenarioFault}
 use Rattle.jc_parser.specs.Faults.{number_of as fault_number, place_of}
 use Rattle.jc_parser.specs.Calls.{IsEventOf, IsEventFault}
 use Rattle.jc_scenario.specs.Resolved.{IsResolved, names_in, IsFirstStranger}
 use Rattle.jc_scenario.specs.Scenarios.{Scenario}
+use Rattle.jc_network.specs.Course.{started}
 use Rattle.jc_network.specs.Enabled.{AreEnabled, candidates}
-use Rattle.jc_network.specs.Laws.{starts}
 use Rattle.jc_dump.specs.Dump.{dump_line}
 use Rattle.jc_dump.specs.Lines.{stuck_text}
 use Rattle.jc_dump.specs.Texts.{block_text, dumps_text, refused_text}
@@ -32,10 +35,10 @@ use Rattle.jc_session.specs.Texts.{refusal_line, at_line, set_line, cleared_line
 -- what no line of a session changes: the replicas' names, and the network at position 0
 pub record Origin : Type 0 where
   pub names : List (List ℕ)
-  pub start : List State
+  pub start : Network
 
 abbrev pub origin_of : Scenario → Origin
-origin_of s = record { names = s.names; start = starts s.scripts }
+origin_of s = record { names = s.names; start = (started s).network }
 
 -- the replica of this number has the name
 abbrev pub IsNamed : List (List ℕ) → List ℕ → ℕ → Type 0
@@ -44,6 +47,12 @@ IsNamed names name p = slice_get names p ≡ Some name
 -- no replica has the name
 abbrev pub IsStrange : List (List ℕ) → List ℕ → Type 0
 IsStrange names name = Contains names name → ⊥
+
+-- a session of the version knows the rule: RECV-ONE is of version 2 alone
+abbrev pub Knows : Rule → Version → Type 0
+Knows R.RecvOne One = ⊥
+Knows R.RecvOne Two = Unit {0}
+Knows rule version = Unit {0}
 
 -- The line of a refusal that has a place.
 pub record IsRefusalAt (number at : Option ℕ) (text : List ℕ) : Type 0 where
@@ -79,15 +88,15 @@ pub record IsSpelled (names : List (List ℕ)) (rest : List ℕ) (event : Event)
 -- An event is made at the position, if it is not the last one that there may be and the event is not stuck.
 pub data Acts (O : Origin) (A : Session) (event : Event) : Session → List ℕ → Type 0 where
   full : A.position ≡ 100000 → Acts O A event A (refusal_line F.TooManyEvents)
-  stuck : (why : Cause) (network : List State)
+  stuck : (why : Cause) (network : Network)
       → A.position < 100000
       → IsAt O.start A.schedule A.position network
-      → IsStuck network event why
+      → IsStuckIn network event why
       → Acts O A event A (at_line A.position ++ stuck_text O.names why event)
-  made : (network new : List State) (rows : List (Rule × ℕ))
+  made : (network new : Network) (rows : List (Rule × ℕ))
       → A.position < 100000
       → IsAt O.start A.schedule A.position network
-      → Step network event new rows
+      → StepIn network event new rows
       → Acts O A event (acted A event) (at_line (A.position + 1))
 
 -- A new breakpoint gets the least place that is free.
@@ -142,11 +151,12 @@ pub data Replies (O : Origin) (A : Session) : Request → Session → List ℕ �
       → Sets A (Kind.Position n) B text
       → Replies O A (Q.break_at n) B text
   breaks_rule : {name text : List ℕ} {B : Session} (rule : Rule)
+      → Knows rule O.start.version
       → rule_name rule ≡ name
       → Sets A (Kind.Rule rule) B text
       → Replies O A (Q.break_rule name) B text
   no_rule : {name : List ℕ}
-      → ((rule : Rule) → rule_name rule ≢ name)
+      → ((rule : Rule) → Knows rule O.start.version → rule_name rule ≢ name)
       → Replies O A (Q.break_rule name) A (refusal_line F.BadLine)
   breaks_replica : {name text : List ℕ} {B : Session} (p : ℕ)
       → IsNamed O.names name p
@@ -161,13 +171,13 @@ pub data Replies (O : Origin) (A : Session) : Request → Session → List ℕ �
   no_break : {k : ℕ}
       → ((j : ℕ) (b : Break) → k ≡ j + 1 → slice_get A.breaks j ≢ Some (Some b))
       → Replies O A (Q.unbreak k) A (refusal_line F.NoSuchBreak)
-  states : (network : List State)
+  states : (network : Network)
       → IsAt O.start A.schedule A.position network
-      → Replies O A Q.state A (dumps_text O.names network)
-  state_of : {name : List ℕ} (network : List State) (p : ℕ) (C : State)
+      → Replies O A Q.state A (dumps_text O.names network.states)
+  state_of : {name : List ℕ} (network : Network) (p : ℕ) (C : State)
       → IsAt O.start A.schedule A.position network
       → IsNamed O.names name p
-      → slice_get network p ≡ Some C
+      → slice_get network.states p ≡ Some C
       → Replies O A (Q.state_of name) A (dump_line O.names name C)
   no_state : {name : List ℕ}
       → IsStrange O.names name
@@ -177,18 +187,18 @@ pub data Replies (O : Origin) (A : Session) : Request → Session → List ℕ �
       → Makes O.start A.schedule n event rows
       → Replies O A Q.trace A (block_text O.names (n + 1) event rows)
   at_start : A.position ≡ 0 → Replies O A Q.trace A (codes "start\n")
-  enables : (network : List State) (events : List Event)
+  enables : (network : Network) (events : List Event)
       → IsAt O.start A.schedule A.position network
       → AreEnabled network (candidates network) events
       → Replies O A Q.enabled A (or_none (event_lines O.names events))
   lists : Replies O A Q.schedule A (or_none (numbered_lines O.names 1 A.schedule))
   tells : Replies O A Q.position A (where_line A.position (length A.schedule))
-  compares : {name other text : List ℕ} (network : List State) (p q : ℕ) (C D : State)
+  compares : {name other text : List ℕ} (network : Network) (p q : ℕ) (C D : State)
       → IsAt O.start A.schedule A.position network
       → IsNamed O.names name p
       → IsNamed O.names other q
-      → slice_get network p ≡ Some C
-      → slice_get network q ≡ Some D
+      → slice_get network.states p ≡ Some C
+      → slice_get network.states q ≡ Some D
       → Compares C D text
       → Replies O A (Q.compare name other) A text
   no_compared : {name other : List ℕ}

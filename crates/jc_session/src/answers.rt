@@ -1,12 +1,14 @@
 //! The answers of lines.
 
-ghost use Rattle.std.specs.Prelude.{◌≡◌, ◌++◌, ◌≤◌, ◌<◌, ℕ, List, Option, IfOk, IfSome, IfNone, MatchOption, length, string_bytes};
+ghost use Rattle.std.specs.Prelude.{◌≡◌, ◌≢◌, ◌↔◌, ◌++◌, ◌≤◌, ◌<◌, ℕ, List, Option, IfOk, IfSome, IfNone, IsTrue, MatchOption, length, string_bytes};
 ghost use Rattle.jc_rules.specs.declared.operation.Event.{Event as AnyEvent};
+ghost use Rattle.jc_rules.specs.declared.rule.Rule.{Rule as AnyRule};
 ghost use Rattle.jc_rules.specs.Refused.{Cause};
+ghost use Rattle.jc_rules.specs.RuleNames.{rule_name};
 ghost use Rattle.jc_network.specs.Makes.{stuck_for};
 ghost use Rattle.jc_dump.specs.Lines.{stuck_text, IsNamedStuck};
 ghost use Rattle.jc_parser.specs.Calls.{IsEventOf};
-ghost use Rattle.jc_session.specs.Answers.{IsNamed, IsStrange, IsRefusalAt};
+ghost use Rattle.jc_session.specs.Answers.{IsNamed, IsStrange, IsRefusalAt, Knows};
 ghost use Rattle.jc_session.specs.Gives.{AllNamed, Gives, GivesLine, HasRefusal, Spells, set_text};
 ghost use Rattle.jc_session.specs.Requests as Q;
 ghost use Rattle.jc_session.specs.Requests.{meaning, asks};
@@ -23,7 +25,7 @@ use jc_dump::{block_text, dump_replica, refused_text, stuck_text};
 use jc_meaning::compare;
 use jc_network::{Net, Stuck};
 use jc_parser::parse_event;
-use jc_rules::{Event, Refusal, Rule, Text};
+use jc_rules::{Event, Refusal, Rule, Text, Version};
 use jc_scenario::resolve;
 use jc_syntax::NamedEvent;
 use std::alloc::{AllocError, Global};
@@ -203,10 +205,33 @@ fn break_at(alloc: Global, debugger: &mut Debugger, n: u64) -> Result<String, Al
     set_text(alloc, debugger.break_at(n))
 }
 
+/// Whether a session of the version knows the rule: RECV-ONE is of version 2 alone.
+fn knows(version: Version, rule: Rule) -> bool
+    ensures { IsTrue result ↔ Knows rule version }
+{
+    match rule {
+        Rule::RecvOne => version == Version::Two,
+        _ => true,
+    }
+}
+
+/// The rule with the name, if a session of the version knows it.
+fn rule_of(version: Version, name: &str) -> Option<Rule>
+    ensures some { IfSome result (λ rule. Knows rule version × (rule_name rule ≡ name.now)) }
+    ensures none { IfNone result ((rule : AnyRule) → Knows rule version → rule_name rule ≢ name.now) }
+{
+    let rule = Rule::of_name(name)?;
+    if knows(version, rule) {
+        Some(rule)
+    } else {
+        None
+    }
+}
+
 fn break_rule(alloc: Global, debugger: &mut Debugger, name: &str) -> Result<String, AllocError>
     ensures { IfOk result (λ text. Gives debugger.old (Q.break_rule name.now) debugger.new (string_bytes text)) }
 {
-    match Rule::of_name(name) {
+    match rule_of(debugger.net().version(), name) {
         Some(rule) => set_text(alloc, debugger.break_rule(rule)),
         None => refusal_line(alloc, Refusal::BadLine),
     }

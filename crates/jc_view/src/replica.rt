@@ -15,9 +15,9 @@ use std::alloc::Global;
 /// `NoSuchReplica` where there is none.
 pub fn view_replica(alloc: Global, net: &Net, p: u16) -> Result<Vec<u8>, CompareFault>
     ensures view { IfOk result (λ line.
-        (A : State) → slice_get net.now.network p ≡ Some A
+        (A : State) → slice_get net.now.network.states p ≡ Some A
         → line.items ≡ view_line net.now.names (name_at net.now.names p) A) }
-    ensures missing { IsErrOf result E.NoSuchReplica ↔ length net.now.network ≤ p }
+    ensures missing { IsErrOf result E.NoSuchReplica ↔ length net.now.network.states ≤ p }
 {
     // Events have led to the network from a start, so that lists are chained.
     let _steps = net.steps();

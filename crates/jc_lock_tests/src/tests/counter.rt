@@ -220,7 +220,8 @@ fn four_threads_take_a_thousand_turns_each(rt: HostRuntime) {
     closes(&rt, lock, passes, 4000);
 }
 
-// Each allocation is refused in turn by `rt try --test --fail-alloc N`.
+// The gate refuses no memory here; in `jc_memory_tests` it does so to runs by threads, which open a lock. By hand,
+// `rt try --test --fail-alloc N` refuses the Nth request.
 #[test]
 fn opens_or_gives_the_value_back(rt: HostRuntime) {
     match HistoryLock::open(rt.alloc(), Counter { count: 7 }, 3, 1) {

@@ -1,6 +1,5 @@
-use Rattle.std.proofs.Common.{arith, ◌≡◌, ◌<◌, ◌+◌, List, ◌∷◌, [], ◌++◌, refl, sym, ◌∙◌, ap, subst, length, length-append, Some, inr}
-use Rattle.jc_rules.specs.declared.operation.Event.{Event}
-use Rattle.jc_lock.specs.Shows.{pass_number, pass_left, pass_origin, pass_seen, pass_mine, turn_value, turn_seen, turn_mine, turn_left}
+use Rattle.std.proofs.Common.{arith, ◌≡◌, ◌<◌, ◌+◌, ◌∷◌, [], ◌++◌, refl, sym, ◌∙◌, ap, subst, length, length-append, Some}
+use Rattle.jc_lock.specs.Shows.{pass_number, pass_left, pass_origin, pass_seen, pass_mine, turn_value, turn_mine, turn_left}
 use Rattle.jc_scenario.specs.Views.{scenario_view}
 use Rattle.jc_runner.specs.Benches.{bench_start}
 use Rattle.jc_runner.specs.Phases.{last_of, phase_after}
@@ -10,7 +9,7 @@ use Rattle.jc_runner.specs.Asked.{Asks, questions_of}
 use Rattle.jc_runner.specs.Answers.{IsAnswered, seen_after}
 use Rattle.jc_runner.specs.declared.worker.Worked.{Worked}
 use Rattle.jc_runner.specs.declared.worker.End.TheVariants as N
-use Rattle.jc_runner.specs.Worked.{IsWorked, EndsWith}
+use Rattle.jc_runner.specs.Worked.{IsWorked}
 use Rattle.jc_runner.proofs.Histories.{chosen_none, chosen_more}
 use Rattle.jc_runner.proofs.Choices.{choice_is}
 use Rattle.jc_runner.proofs.Working.{same_start, in_hand, still_chosen, chosen_now, is_next, is_finished, goes_on, ends_by, ended}
@@ -54,7 +53,7 @@ returns-in-None-choose-clause-worked g c =
 pub make-back-requires-clause-number : goal.make-back-requires-clause-number
 make-back-requires-clause-number g c =
     let inv = c.loop.invariant in
-    let is : choice (c.recorded.inside.net.network) c.number-p.result c.loop.phase ≡ Some (c.in-Some-choose.chosen.0, c.in-Some-choose.chosen.1) = sym c.choose.ensures ∙ c.in-Some-choose.is in
+    let is : choice c.recorded.inside.net.network.states c.number-p.result c.loop.phase ≡ Some (c.in-Some-choose.chosen.0, c.in-Some-choose.chosen.1) = sym c.choose.ensures ∙ c.in-Some-choose.is in
     (choice_is _ _ _ _ _ is).0 ∙ (sym inv.number ∙ sym c.in-Ok.ensures.number.0)
 
 pub loop-preserved : goal.loop-preserved
@@ -71,7 +70,7 @@ loop-preserved g c =
     let all : AllChosen s p history = still_chosen s p (pass_seen c.loop.pass) history (pass_mine c.loop.pass) ok.list.1 inv.own owned inv.chosen in
     let e = c.in-Some-choose.chosen.0 in
     let next = c.in-Some-choose.chosen.1 in
-    let is : choice network p c.loop.phase ≡ Some (e, next) = sym c.choose.ensures ∙ c.in-Some-choose.is in
+    let is : choice network.states p c.loop.phase ≡ Some (e, next) = sym c.choose.ensures ∙ c.in-Some-choose.is in
     let m = c.make-back.ensures in
     let new = c.make-back.result.0 in
     let a = c.make-back.result.1 in
@@ -104,7 +103,7 @@ returns-in-Some-end_of-clause-worked g c =
     let all : AllChosen s p history = still_chosen s p (pass_seen c.loop.pass) history (pass_mine c.loop.pass) ok.list.1 inv.own owned inv.chosen in
     let e = c.in-Some-choose.chosen.0 in
     let next = c.in-Some-choose.chosen.1 in
-    let is : choice network p c.loop.phase ≡ Some (e, next) = sym c.choose.ensures ∙ c.in-Some-choose.is in
+    let is : choice network.states p c.loop.phase ≡ Some (e, next) = sym c.choose.ensures ∙ c.in-Some-choose.is in
     let m = c.make-back.ensures in
     let new = c.make-back.result.0 in
     let a = c.make-back.result.1 in
