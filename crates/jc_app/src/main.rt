@@ -2,20 +2,20 @@
 #![tactic(auto)]
 
 mod files;
+mod process;
 mod words;
 
 use crate::files::Host;
+use crate::process::{Ended, run};
 use crate::words::words_of;
-use jc_program::exit;
 use jc_rules::io::{FromRead, ToWrite};
-use std::process::ExitCode;
 
-/// Calls `exit` with the process's words, its standard streams and the files of its machine.
-fn main(rt: HostRuntime) -> ExitCode {
+/// Calls `run` with the process's words, its standard streams and the files of its machine.
+fn main(rt: HostRuntime) -> Ended {
     let mut input = FromRead::new(rt.stdin());
     let mut out = ToWrite::new(rt.stdout());
     let mut err = ToWrite::new(rt.stderr());
-    exit(
+    run(
         &Host { rt: &rt },
         words_of(&rt),
         &mut input,

@@ -94,6 +94,8 @@ fn files_are_read(rt: HostRuntime) -> io::Result<()> {
     expect_file(&rt, &host, "short", Some(b"abc"));
     expect_file(&rt, &host, "long", Some(b"abcd"));
     expect_file(&rt, &host, "missing", None);
+    // A folder is opened, and then its read fails.
+    expect_file(&rt, &host, "/", None);
     fs::remove_file(&rt, "short")?;
     fs::remove_file(&rt, "long")
 }

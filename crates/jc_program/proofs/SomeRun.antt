@@ -1,14 +1,16 @@
 -- Each view of bytes has a text and a status.
 use Rattle.std.proofs.Common.{◌≡◌, inl, inr, ℕ, ◌+◌, List, [], ◌∷◌, ◌++◌, take, Bool, false, Option, Some, None, Ok, Err, refl}
 use Rattle.jc_rules.specs.declared.operation.Event.{Event}
-use Rattle.jc_rules.specs.State.{State}
-use Rattle.jc_rules.specs.Syntax.{Cmd}
+use Rattle.jc_rules.specs.Step.{Network, AfterIn}
+use Rattle.jc_rules.proofs.Versions.{after_states}
 use Rattle.jc_parser.specs.declared.fault.ScenarioFault.{ScenarioFault}
 use Rattle.jc_scenario.specs.Canon.{canon}
 use Rattle.jc_scenario.specs.Faults.{IsFault}
 use Rattle.jc_scenario.specs.Laws.{ScenarioElseFault}
 use Rattle.jc_scenario.specs.Scenarios.{Scenario}
-use Rattle.jc_network.specs.Laws.{starts, IsReached, StepOrStuck}
+use Rattle.jc_network.specs.Course.{started}
+use Rattle.jc_network.specs.Laws.{StepOrStuck}
+use Rattle.jc_network.proofs.Enabling.{decided_in}
 use Rattle.jc_dump.specs.Texts.{dumps_text}
 use Rattle.jc_view.specs.Visible.{views_text}
 use Rattle.jc_session.proofs.Faults.{fault_line, fault_told}
@@ -21,14 +23,14 @@ use Rattle.jc_program.specs.Runs.{Made, GoesBy, EndsAt, Stuck, events_text, stuc
 use Rattle.jc_program.specs.Texts.{counts_text}
 
 -- from a network a schedule is made up to its end or its first stuck event
-record Played (network : List State) (schedule : List Event) : Type 0 where
-  last : List State
+record Played (network : Network) (schedule : List Event) : Type 0 where
+  last : Network
   made : List Made
   stuck : Option Stuck
   goes : GoesBy network made last
   ends : EndsAt schedule made last stuck
 
-ends_more : (e : Event) (m : Made) (es : List Event) (made : List Made) (last : List State) (stuck : Option Stuck) → e ≡ m.0 → EndsAt es made last stuck → EndsAt (e ∷ es) (m ∷ made) last stuck
+ends_more : (e : Event) (m : Made) (es : List Event) (made : List Made) (last : Network) (stuck : Option Stuck) → e ≡ m.0 → EndsAt es made last stuck → EndsAt (e ∷ es) (m ∷ made) last stuck
 ends_more e m es made last None same h = λ i. same i ∷ h i
 ends_more e m es made last (Some (event, why)) same (more, is, stuck) = (more, λ i. same i ∷ is i, stuck)
 
@@ -38,12 +40,12 @@ none_shown names n [] = refl
 none_shown names n (m ∷ made) = none_shown names (n + 1) made
 
 module _ (step_or_stuck : StepOrStuck) where
-  played : (scripts : List (List Cmd)) (network : List State) → IsReached scripts network → (es : List Event) → Played network es
-  played scripts network reached [] = record { last = network; made = []; stuck = None; goes = refl; ends = refl }
-  played scripts network reached (e ∷ es) =
-      elim ((step_or_stuck scripts network reached e).0) [
+  played : (s : Scenario) (before : List Event) (network : Network) → AfterIn (started s).network before network → (es : List Event) → Played network es
+  played s before network led [] = record { last = network; made = []; stuck = None; goes = refl; ends = refl }
+  played s before network led (e ∷ es) =
+      elim (decided_in network (λ x. (step_or_stuck s.scripts network.states (before, after_states (started s).network before network led) x).0) e) [
         | inl (new, rows, step) ↦
-            let rest = played scripts new (reached.0 ++ e ∷ [], after_more (starts scripts) reached.0 network e new rows reached.1 step) es in
+            let rest = played s (before ++ e ∷ []) new (after_more (started s).network before network e new rows led step) es in
             record {
               last = rest.last;
               made = (e, rows) ∷ rest.made;
@@ -55,14 +57,14 @@ module _ (step_or_stuck : StepOrStuck) where
       ]
 
   -- from the start of a scenario
-  from_start : (s : Scenario) (es : List Event) → Played (starts s.scripts) es
-  from_start s es = played s.scripts (starts s.scripts) ([], refl) es
+  from_start : (s : Scenario) (es : List Event) → Played (started s).network es
+  from_start s es = played s [] (started s).network refl es
 
   run_of : (trace : Bool) (s : Scenario) → (out : List ℕ) × (status : ℕ) × RanThrough trace s out status
   run_of trace s =
       let p = from_start s s.schedule in
       let blocks = events_text trace s.names 1 p.made in (
-        blocks ++ dumps_text s.names p.last ++ stuck_line s.names p.stuck,
+        blocks ++ dumps_text s.names p.last.states ++ stuck_line s.names p.stuck,
         status_of p.stuck,
         record {
           last = p.last;
@@ -77,7 +79,7 @@ module _ (step_or_stuck : StepOrStuck) where
   view_of : (n : ℕ) (s : Scenario) → (out : List ℕ) × (status : ℕ) × ViewedThrough n s out status
   view_of n s =
       let p = from_start s (take n s.schedule) in (
-        views_text s.names p.last ++ stuck_line s.names p.stuck,
+        views_text s.names p.last.states ++ stuck_line s.names p.stuck,
         status_of p.stuck,
         record {
           last = p.last;

@@ -2,7 +2,7 @@
 use Rattle.std.proofs.Common.{arith, ◌≡◌, ◌∙◌, ℕ, List, length, sym, ap, subst}
 use Rattle.std.proofs.lemmas.Option.{slice_get_within}
 use Rattle.jc_rules.specs.declared.operation.Event.{Event}
-use Rattle.jc_rules.specs.State.{State}
+use Rattle.jc_rules.specs.Step.{Network}
 use Rattle.jc_scenario.specs.Scenarios.{Scenario}
 use Rattle.jc_scenario.specs.Views.{scenario_view}
 use Rattle.jc_runner.specs.declared.run.Report.{Report}
@@ -11,7 +11,7 @@ use Rattle.jc_runner.specs.declared.worker.End.TheVariants as N
 use Rattle.jc_runner.specs.Reports.{IsReport, HasEnd}
 use Rattle.jc_program.specs.Ends.{IsTellable, AreTellable}
 
-tellable : (s : Scenario) (p limit : ℕ) (schedule : List Event) (network : List State) (end : End) → HasEnd s p limit schedule network end → IsTellable s.names end
+tellable : (s : Scenario) (p limit : ℕ) (schedule : List Event) (network : Network) (end : End) → HasEnd s p limit schedule network end → IsTellable s.names end
 tellable s p limit schedule network N.Finished h = tt
 tellable s p limit schedule network (N.StuckAt stuck) h = record { why = h.0.is_stuck.is_stuck.why; event = h.0.is_stuck.event; is = h.0.is_stuck.is_stuck.is; named = h.0.named }
 tellable s p limit schedule network N.LimitReached h = tt

@@ -7,7 +7,7 @@ use Rattle.jc_network.specs.declared.fault.Stuck.{Stuck as StuckEvent}
 use Rattle.jc_network.specs.Course.{Course, started}
 use Rattle.jc_network.specs.Makes.{stuck_for}
 use Rattle.jc_dump.specs.Lines.{stuck_text}
-use Rattle.jc_rules.specs.State.{State}
+use Rattle.jc_rules.specs.Step.{Network}
 use Rattle.jc_session.specs.Written.{Stream, Wrote, WrotePart, Written, WrittenInPart}
 use Rattle.jc_session.proofs.Writing.{wrote_both, part_after, part_of_longer}
 use Rattle.jc_program.specs.Due.{Begins, IsViewDue}
@@ -23,14 +23,14 @@ no_blocks names n [] = refl
 no_blocks names n (m ∷ made) = no_blocks names (n + 1) made
 
 -- so no block is begun
-pub no_part : (names : List (List ℕ)) (network : List State) (schedule : List Event) (a b : Stream) → WrittenInPart (Begins false names network schedule) a b → ⊥
+pub no_part : (names : List (List ℕ)) (network : Network) (schedule : List Event) (a b : Stream) → WrittenInPart (Begins false names network schedule) a b → ⊥
 no_part names network schedule a b (text, begins, ((n, inside, told), failed)) =
     let none : text ≡ [] = begins.shown ∙ no_blocks names 1 begins.made in
     let size : length text ≡ 0 = ap length none in
     omega (arith, inside, size)
 
 -- what was played of a scenario, with the documents and the stuck line, is its view
-viewed : (n : ℕ) (s : Scenario) (first last : Course) (schedule : List Event) (a b : Stream) (answer : Option StuckEvent) → first ≡ started s → schedule ≡ take n s.schedule → (h : PlaysAll false first last schedule a b answer) → (shown : List ℕ) → shown ≡ h.text ++ views_text last.names last.network ++ stuck_line last.names h.stuck → ViewedThrough n s shown (status_of h.stuck)
+viewed : (n : ℕ) (s : Scenario) (first last : Course) (schedule : List Event) (a b : Stream) (answer : Option StuckEvent) → first ≡ started s → schedule ≡ take n s.schedule → (h : PlaysAll false first last schedule a b answer) → (shown : List ℕ) → shown ≡ h.text ++ views_text last.names last.network.states ++ stuck_line last.names h.stuck → ViewedThrough n s shown (status_of h.stuck)
 viewed n s first last schedule a b answer from events h shown is =
     let names : last.names ≡ s.names = h.names ∙ ap (λ (c : Course). c.names) from in
     let none : h.text ≡ [] = h.plays.shown ∙ no_blocks first.names 1 h.plays.made in
@@ -40,13 +40,13 @@ viewed n s first last schedule a b answer from events h shown is =
       last = last.network;
       stuck = h.stuck;
       plays = subst (λ (c : Course). Plays false c.names c.network (take n s.schedule) last.network h.stuck []) from there;
-      written = is ∙ (ap (λ t. t ++ views_text last.names last.network ++ stuck_line last.names h.stuck) none ∙ ap (λ ns. views_text ns last.network ++ stuck_line ns h.stuck) names);
+      written = is ∙ (ap (λ t. t ++ views_text last.names last.network.states ++ stuck_line last.names h.stuck) none ∙ ap (λ ns. views_text ns last.network.states ++ stuck_line ns h.stuck) names);
       ends = refl;
     }
 
 module _ (n : ℕ) (s : Scenario) (first last : Course) (schedule : List Event) (a b : Stream) (answer : Option StuckEvent) (from : first ≡ started s) (events : schedule ≡ take n s.schedule) (h : PlaysAll false first last schedule a b answer) where
   abbrev views : List ℕ
-  views = views_text last.names last.network
+  views = views_text last.names last.network.states
 
   abbrev shown : List ℕ
   shown = h.text ++ views ++ stuck_line last.names h.stuck

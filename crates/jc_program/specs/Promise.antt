@@ -1,6 +1,8 @@
 -- The program's promise: the ways in which it may end, and what each leaves.
 use Rattle.std.specs.Prelude.{◌≡◌, ◌≢◌, ◌⊎◌, ◌<◌, ◌+◌, ℕ, List, [], Bool, Option, Some, None, Result, Ok, Err, codes, map, string_bytes, String}
+use Rattle.std.specs.IoError.{error_kind}
 use Rattle.std.specs.declared.alloc.Global.{Global}
+use Rattle.std.specs.declared.io.Error.{Error}
 use Rattle.std.specs.declared.vec.Vec.{Vec}
 use Rattle.jc_rules.specs.Told.{LosesUpTo}
 use Rattle.jc_rules.specs.declared.io.Source.{Ghosts as SourceGhosts}
@@ -13,13 +15,13 @@ use Rattle.jc_words.specs.declared.order.Task.TheVariants.{Show, Debug, Threads}
 use Rattle.jc_program.specs.declared.fault.WorkFault.{WorkFault}
 use Rattle.jc_program.specs.declared.fault.WorkFault.TheVariants.{Read, Write, TooManyLines, NoThread, Memory}
 use Rattle.jc_program.specs.declared.files.Files.{Ghosts as FilesGhosts}
-use Rattle.jc_program.specs.WorkFaults.{fault_line}
+use Rattle.jc_program.specs.WorkFaults.{fault_line, RefusesWords}
 use Rattle.jc_program.specs.Orders.{IsAlone, IsThreadsOrder}
 use Rattle.jc_program.specs.Ran.{Ran}
 use Rattle.jc_program.specs.Due.{AreTold, told_by, StopsView}
 use Rattle.jc_program.specs.Faults.{IsUnread}
 use Rattle.jc_program.specs.Talked.{lines_by, TalksOn, StopsOn}
-use Rattle.jc_program.specs.Threaded.{ThreadsRan, AreTextsOf, StopsThreads}
+use Rattle.jc_program.specs.Threaded.{ThreadsRan, AreTextsOf, AreScenario, StopsThreads}
 
 -- ---- the world
 
@@ -76,11 +78,12 @@ Completes (Threads limit) bytes lines old new status =
 -- A fault stopped a task on these bytes, and these lines, of which those are left. After a failed write a prefix of its
 -- text was written, and not the whole, unless it was the flush of an answer that failed; else whole texts, before that
 -- which is missing. Nothing was written where the text of a view or for threads wasn't read, and for threads unless a
--- write failed.
+-- write failed. A thread is wanting for a scenario alone.
 abbrev pub Breaks : Task → WorkFault → List ℕ → Option (List ℕ) → Option (List ℕ) → Stream → Stream → Type 0
 Breaks (Show view) fault bytes lines left old new = StopsView view bytes fault old new
 Breaks Debug fault bytes lines left old new = StopsOn fault bytes lines left old new
-Breaks (Threads limit) fault bytes lines left old new = StopsThreads (ThreadsRan limit bytes) fault old new
+Breaks (Threads limit) fault bytes lines left old new =
+    StopsThreads (AreScenario bytes) (ThreadsRan limit bytes) fault old new
 
 -- The words are an order with a task of this kind, which came to its end with this status.
 pub record Carried (Does : Task → Type 0) (files : Files) (words : List (List ℕ)) (old new : World) (status : ℕ)
@@ -165,7 +168,7 @@ pub data Promise (Does : Task → Type 0) (files : Files) (words : List (List �
   too_many_lines : Stopped Does files words old new TooManyLines
       → NoneFailed old new
       → Promise Does files words old new 4
-  -- a thread couldn't be made
+  -- a thread for a scenario couldn't be made
   no_thread : Stopped Does files words old new NoThread
       → NoneFailed old new
       → Promise Does files words old new 5
@@ -192,13 +195,11 @@ PromiseAlone files words old new (Some status) = Promise IsAlone files words old
 -- ---- the process
 
 -- The process, among these files, whose words may be unreadable. Then nothing is read, and nothing written but a line:
--- there was no memory for them, or one isn't UTF-8.
-abbrev pub ProcessPromise : {E : Type 0} → Files → Result (Vec (String Global) Global) E → World → World → ℕ → Type 0
+-- by the error there was no memory for them, or one isn't UTF-8.
+abbrev pub ProcessPromise : Files → Result (Vec (String Global) Global) Error → World → World → ℕ → Type 0
 ProcessPromise files (Ok words) old new status = Promise All files (map string_bytes words.items) old new status
-ProcessPromise files (Err e) old new status =
-    (new.input ≡ old.input) × (new.out ≡ old.out)
-    × (((status ≡ 5) × Says old new (codes "no memory\n"))
-    ⊎ ((status ≡ 2) × Says old new (codes "a word is not UTF-8\n")))
+ProcessPromise files (Err error) old new status =
+    (new.input ≡ old.input) × (new.out ≡ old.out) × RefusesWords (error_kind error) old.err new.err status
 
 -- ---- the world of a call
 

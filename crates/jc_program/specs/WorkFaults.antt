@@ -1,5 +1,7 @@
 -- What the program ends with where there is no status of a run, and what is told of it.
-use Rattle.std.specs.Prelude.{◌≡◌, ◌⊎◌, ℕ, List, codes, string_bytes}
+use Rattle.std.specs.Prelude.{◌≡◌, ◌≢◌, ◌⊎◌, ℕ, List, codes, string_bytes}
+use Rattle.std.specs.declared.io.ErrorKind.{ErrorKind}
+use Rattle.std.specs.declared.io.ErrorKind.TheVariants.{OutOfMemory}
 use Rattle.jc_session.specs.Written.{Stream, Wrote, WrotePart, Sent}
 use Rattle.jc_words.specs.declared.fault.WordsFault.{WordsFault}
 use Rattle.jc_words.specs.declared.fault.WordsFault.TheVariants as words
@@ -31,3 +33,10 @@ Explains (words.Usage text) old_out new_out old_err new_err status =
     (status ≡ 2) × (new_out ≡ old_out) × Sent (string_bytes text) old_err new_err
 Explains words.Memory old_out new_out old_err new_err status =
     (status ≡ 5) × (new_out ≡ old_out) × Sent (fault_line Memory) old_err new_err
+
+-- How words that can't be read are answered on standard error, by the kind of the error: there was no memory for them;
+-- every other one says that a word isn't UTF-8.
+abbrev pub RefusesWords : ErrorKind → Stream → Stream → ℕ → Type 0
+RefusesWords kind old_err new_err status =
+    ((kind ≡ OutOfMemory) × (status ≡ 5) × Sent (fault_line Memory) old_err new_err)
+    ⊎ ((kind ≢ OutOfMemory) × (status ≡ 2) × Sent (codes "a word is not UTF-8\n") old_err new_err)

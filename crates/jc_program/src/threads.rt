@@ -1,13 +1,13 @@
 //! The command `threads`: what a scenario's replicas make in threads of their own.
 
-ghost use Rattle.std.specs.Prelude.{◌≡◌, ◌≢◌, ◌≤◌, ℕ, codes, string_bytes, IfOk, IfErr, OnOk, OnErr};
+ghost use Rattle.std.specs.Prelude.{◌≡◌, ◌≢◌, ◌≤◌, ℕ, ⊤, codes, string_bytes, IfOk, IfErr, OnOk, OnErr};
 ghost use Rattle.jc_rules.specs.Told.{LosesUpTo};
 ghost use Rattle.jc_scenario.specs.Scenarios.{IsWellFormed};
 ghost use Rattle.jc_scenario.specs.Views.{scenario_view};
 ghost use Rattle.jc_session.specs.Written.{sink, Wrote, WrotePart, Sent};
 ghost use Rattle.jc_program.specs.Due.{told_by};
 ghost use Rattle.jc_program.specs.Faults.{IsCause, IsUnread};
-ghost use Rattle.jc_program.specs.Threaded.{outcome_status, RanThreads, ThreadsRan, AreTextsOf, StopsThreads, HaveThreaded, HaveStopped};
+ghost use Rattle.jc_program.specs.Threaded.{outcome_status, RanThreads, ThreadsRan, AreTextsOf, AreScenario, StopsThreads, HaveThreaded, HaveStopped};
 
 use crate::alone::{refuse, text_of};
 use crate::fault::WorkFault;
@@ -70,7 +70,7 @@ fn run_all<R: Threads + Wait + Sync + AllocGlobal, K: Sink, E: Sink>(
     requires limit { limit ≤ 100000 }
     ensures ok { IfOk result (AreTextsOf (RanThreads limit (scenario_view scenario))
         (sink K.Sink out.old) (sink K.Sink out.new) (λ lines. Sent lines (sink E.Sink err.old) (sink E.Sink err.new))) }
-    ensures stopped { IfErr result (λ fault. StopsThreads (RanThreads limit (scenario_view scenario)) fault
+    ensures stopped { IfErr result (λ fault. StopsThreads ⊤ (RanThreads limit (scenario_view scenario)) fault
         (sink K.Sink out.old) (sink K.Sink out.new)) }
     ensures quiet { OnErr result (err.new ≡ err.old) }
     ensures cause { IfErr result (λ fault. (n : ℕ)
@@ -96,7 +96,7 @@ fn run_text<R: Threads + Wait + Sync + AllocGlobal, K: Sink, E: Sink>(
     requires { limit ≤ 100000 }
     ensures ok { IfOk result (AreTextsOf (ThreadsRan limit text.now) (sink K.Sink out.old) (sink K.Sink out.new)
         (λ lines. Sent lines (sink E.Sink err.old) (sink E.Sink err.new))) }
-    ensures stopped { IfErr result (λ fault. StopsThreads (ThreadsRan limit text.now) fault
+    ensures stopped { IfErr result (λ fault. StopsThreads (AreScenario text.now) (ThreadsRan limit text.now) fault
         (sink K.Sink out.old) (sink K.Sink out.new)) }
     ensures quiet { OnErr result (err.new ≡ err.old) }
     ensures cause { IfErr result (λ fault. (n : ℕ)

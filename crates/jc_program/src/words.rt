@@ -1,8 +1,7 @@
 //! Words that are no order, or can't be read.
 
-ghost use Rattle.std.specs.Prelude.{◌≡◌, ◌≢◌, codes};
-ghost use Rattle.jc_session.specs.Written.{sink, Sent};
-ghost use Rattle.jc_program.specs.WorkFaults.{Explains};
+ghost use Rattle.jc_session.specs.Written.{sink};
+ghost use Rattle.jc_program.specs.WorkFaults.{Explains, RefusesWords};
 
 use crate::fault::{WorkFault, end};
 use crate::sending::report;
@@ -32,10 +31,7 @@ pub fn explain<K: Sink, E: Sink>(fault: &WordsFault, out: &mut K, err: &mut E) -
 /// which is that a word is not UTF-8. Either is a line of `err`, of whose failure the status says
 /// nothing.
 pub fn refuse_words<E: Sink>(why: ErrorKind, err: &mut E) -> u8
-    ensures memory { why ≡ ErrorKind.OutOfMemory
-        → (result ≡ 5) × Sent (codes "no memory\n") (sink E.Sink err.old) (sink E.Sink err.new) }
-    ensures other { why ≢ ErrorKind.OutOfMemory
-        → (result ≡ 2) × Sent (codes "a word is not UTF-8\n") (sink E.Sink err.old) (sink E.Sink err.new) }
+    ensures { RefusesWords why (sink E.Sink err.old) (sink E.Sink err.new) result }
 {
     match why {
         ErrorKind::OutOfMemory => end(WorkFault::Memory, err),

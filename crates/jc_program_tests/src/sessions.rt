@@ -81,9 +81,10 @@ const SESSIONS: &[(&str, &str, &[&str], u8)] = &[
     // Lines that are refused.
     (
         ONE,
-        "\nstep x\nbreak replica z\nact a.jump\nact\nact z.exec\nunbreak 1\nbreak at 1\nbreak replica a\nunbreak 1\nbreak rule EXEC\nrun\nquit\nwhere\n",
+        "\nstep x\nbreak rule RECV-ONE\nact a.take(a, 1, a)\nbreak replica z\nact a.jump\nact\nact z.exec\nunbreak 1\nbreak at 1\nbreak replica a\nunbreak 1\nbreak rule EXEC\nrun\nquit\nwhere\n",
         &[
-            "refused 58 BadLine\nrefused 18 UnknownReplica\nrefused 7 Unexpected at 2\nrefused 8 EndOfText at 0\n",
+            "refused 58 BadLine\nrefused 58 BadLine\nrefused 7 Unexpected at 2\n",
+            "refused 18 UnknownReplica\nrefused 7 Unexpected at 2\nrefused 8 EndOfText at 0\n",
             "refused 18 UnknownReplica at 0\nrefused 53 NoSuchBreak\nset 1\nset 2\ncleared 1\nset 1\nat 1\nbreak 1\n",
         ],
         0,

@@ -1,0 +1,48 @@
+//! The process: its streams, and how it ends.
+
+ghost use Rattle.std.specs.Prelude.{◌≡◌};
+ghost use Rattle.std.specs.Process.{exit_status};
+ghost use Rattle.jc_program.specs.Promise.{ProcessPromise, files_of, world};
+
+use jc_program::{Files, exit};
+use jc_rules::io::{FromRead, Sink, Source, ToWrite};
+use std::io;
+use std::io::Eprint;
+use std::process::{ExitCode, Termination};
+use std::rt::{Stderr, Stdin, Stdout};
+use std::sync::Wait;
+use std::thread::Threads;
+
+/// How the process ends. Nothing but `run` makes one, so `main` ends by it.
+#[derive(Drop)]
+pub struct Ended {
+    status: ExitCode,
+}
+
+impl Termination for Ended {
+    fn report<R: Eprint>(self, _rt: &R) -> ExitCode
+        ensures { result ≡ self.status }
+    {
+        self.status
+    }
+}
+
+/// Calls `exit` with the process's standard streams. Each has a type of its own, so none stands in another's place.
+pub fn run<R: Threads + Wait + Sync + AllocGlobal + Files>(
+    rt: &R,
+    words: io::Result<Vec<String>>,
+    input: &mut FromRead<Stdin>,
+    out: &mut ToWrite<Stdout>,
+    err: &mut ToWrite<Stderr>,
+) -> Ended
+    ensures { ProcessPromise (files_of R.Files rt.now) words
+        (world ⟦<FromRead<Stdin> as Source>⟧ ⟦<ToWrite<Stdout> as Sink>⟧ ⟦<ToWrite<Stderr> as Sink>⟧
+        input.old out.old err.old)
+        (world ⟦<FromRead<Stdin> as Source>⟧ ⟦<ToWrite<Stdout> as Sink>⟧ ⟦<ToWrite<Stderr> as Sink>⟧
+        input.new out.new err.new)
+        (exit_status result.status) }
+{
+    Ended {
+        status: exit(rt, words, input, out, err),
+    }
+}
