@@ -101,7 +101,7 @@ def ended(program, row, path):
     text = row.input() if callable(row.input) else row.input
     told = subprocess.run(["sh", "-c", line, program, *words], input=text.encode(), capture_output=True, check=False,
                           timeout=60)
-    return told.returncode, told.stdout.decode(), told.stderr.decode()
+    return told.returncode, told.stdout.decode(), told.stderr.decode(errors="backslashreplace")
 
 
 def is_told(got, want, is_exact):

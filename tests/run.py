@@ -143,8 +143,8 @@ def process_case(row):
             with open(path, "w", encoding="utf-8") as file:
                 file.write(row.file)
             found = processes.difference(programs.program, row, path, programs.is_built)
-            # Of a file that can't be read the launcher says more.
-            if not found and programs.is_built and " /" not in row.words:
+            # Of a file that isn't there or can't be read the launcher says more.
+            if not found and programs.is_built and " /" not in row.words and row.words.isascii():
                 found = processes.difference("./jsoncrdt", row, path, True)
         expect(not found, found)
 
