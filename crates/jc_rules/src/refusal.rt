@@ -1,6 +1,6 @@
 //! The refusals: their numbers and names.
 
-ghost use Rattle.std.specs.Prelude.{◌≡◌, ◌≢◌, IfSome, IfNone};
+ghost use Rattle.std.specs.Prelude.{◌≡◌, ◌≢◌, IfSome, IfNone, Some};
 ghost use Rattle.jc_rules.specs.declared.refusal.Refusal.{Refusal as AnyRefusal};
 ghost use Rattle.jc_rules.specs.Refusals.{number_of, name_of};
 
@@ -268,6 +268,8 @@ impl Refusal {
 
 // By its name: a derived match of every variant is dear to prove.
 impl fmt::Debug for Refusal {
+    ghost debug_output = { λ refusal. Some (name_of refusal) };
+
     fn fmt<W: fmt::Write>(&self, f: &mut fmt::Formatter<W>) -> fmt::Result {
         f.write_str(self.name())
     }

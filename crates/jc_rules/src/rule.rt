@@ -1,6 +1,6 @@
 //! The rules of the table and their names.
 
-ghost use Rattle.std.specs.Prelude.{◌≡◌, ◌≢◌, IfSome, IfNone};
+ghost use Rattle.std.specs.Prelude.{◌≡◌, ◌≢◌, IfSome, IfNone, Some};
 ghost use Rattle.jc_rules.specs.declared.rule.Rule.{Rule as AnyRule};
 ghost use Rattle.jc_rules.specs.RuleNames.{rule_name};
 
@@ -193,6 +193,8 @@ impl Rule {
 
 // By its name: a derived match of every variant is dear to prove.
 impl fmt::Debug for Rule {
+    ghost debug_output = { λ rule. Some (rule_name rule) };
+
     fn fmt<W: fmt::Write>(&self, f: &mut fmt::Formatter<W>) -> fmt::Result {
         f.write_str(self.name())
     }
