@@ -3,16 +3,12 @@ use Rattle.std.specs.Prelude.{◌≡◌, ℕ, zero, suc, ◌-◌, List, [], ◌�
 use Rattle.std.specs.Coded.{Coded, code_by, coded×, coded_ℕ, coded_list}
 use Rattle.jc_rules.specs.declared.operation.Event.{Event}
 use Rattle.jc_rules.specs.declared.version.Version.{Version}
-use Rattle.jc_rules.specs.declared.version.Version.TheVariants.{One}
 use Rattle.jc_rules.specs.contracts.version.Version.{the_row as version_row}
 use Rattle.jc_rules.specs.State.{State}
 use Rattle.jc_rules.specs.Step.{Network, StepIn}
-use Rattle.jc_rules.specs.Syntax.{Cmd}
 use Rattle.jc_rules.specs.Trace.{Rows}
 use Rattle.jc_replica.specs.Codes.{state_code}
 use Rattle.jc_replica.specs.Past.{Past}
-use Rattle.jc_scenario.specs.Scenarios.{Scenario}
-use Rattle.jc_network.specs.Laws.{starts}
 use Rattle.jc_network.specs.Real.{real}
 
 -- the replicas' names, the network, and the networks before its steps, the oldest first
@@ -41,17 +37,9 @@ course_code =
     (λ t. record { names = t.0; network = t.1.0; earlier = t.1.1 })
     (λ _. refl)
 
--- the network at the start of the scenario, of version 1
-abbrev pub started : Scenario → Course
-started s = record { names = s.names; network = of_version One (starts s.scripts); earlier = [] }
-
 -- the network before all steps
 abbrev pub first_of : Course → Network
 first_of c = unwrap_or (slice_get (c.earlier ++ c.network ∷ []) 0) c.network
-
--- the scripts of the start: what is left of each in the first network
-abbrev pub scripts_of : Course → List (List Cmd)
-scripts_of c = map (λ A. A.left) (first_of c).states
 
 -- The event is a step by these rules, in the network's version, and the network before it is kept.
 pub record StepsTo (old : Course) (event : Event) (new : Course) (rows : Rows) : Type 0 where

@@ -7,17 +7,21 @@ use Rattle.jc_rules.specs.State.{State}
 use Rattle.jc_rules.specs.Step.{AfterIn}
 use Rattle.jc_rules.specs.Syntax.{Cmd}
 use Rattle.jc_replica.specs.Past.{Past}
-use Rattle.jc_network.specs.Course.{Course, of_version, first_of, scripts_of, kept_of, network_of, back_at}
+use Rattle.jc_scenario.specs.Scenarios.{Scenario}
+use Rattle.jc_network.specs.Course.{Course, of_version, first_of, kept_of, network_of, back_at}
+use Rattle.jc_network.specs.Given.{IsStart}
 use Rattle.jc_network.specs.Laws.{starts, held, IsReached}
 use Rattle.jc_network.specs.Network.{commands_left}
 use Rattle.jc_network.specs.Seen.{AreSeen, AreShort}
 
--- Events of the version have led to the network from the start of the scripts, which are short, and in the set of what
--- was made the kept states stand for it.
-pub record IsInRun (version : Version) (scripts : List (List Cmd)) (network kept : List State) : Type 0 where
+-- Events of the version have led to the first network from the start of the scripts, which are short, and others from
+-- there to the network; in the set of what was made the kept states stand for it.
+pub record IsInRun (version : Version) (scripts : List (List Cmd)) (first network kept : List State) : Type 0 where
   pub short : AreShort scripts
+  pub given : List Event
+  pub before : AfterIn (of_version version (starts scripts)) given (of_version version first)
   pub events : List Event
-  pub led : AfterIn (of_version version (starts scripts)) events (of_version version network)
+  pub led : AfterIn (of_version version first) events (of_version version network)
   pub set : List Op
   pub seen : AreSeen set network kept
 
@@ -25,28 +29,32 @@ pub record IsInRun (version : Version) (scripts : List (List Cmd)) (network kept
 abbrev pub IsFromStart : List State → Type 0
 IsFromStart network = (scripts : List (List Cmd)) × IsReached scripts network
 
--- The first network of a course is the start of its own scripts, in the version of the one now, and events of that
--- version have led from there to the one now.
+-- Events have led to the first network of a course from the start of some scripts, in the version of the one now, and
+-- others from there to the one now.
 pub record HasBegun (c : Course) : Type 0 where
-  pub first : first_of c ≡ of_version c.network.version (starts (scripts_of c))
+  pub scripts : List (List Cmd)
+  pub given : List Event
+  pub before : AfterIn (of_version c.network.version (starts scripts)) given (first_of c)
   pub events : List Event
   pub led : AfterIn (first_of c) events c.network
 
--- In a network at hand no counter is above the number of commands of its own scripts that were run.
+-- In a network at hand, which began at the start of a scenario, no counter is above the number of commands of that
+-- scenario that were run.
 abbrev pub OwnCountersAreRun : Type 0
 OwnCountersAreRun =
-    (c : Course)
+    (s : Scenario) (c : Course)
+    → IsStart s (first_of c)
     → HasBegun c
     → (o : Op)
     → Contains (held c.network.states) o
-    → o.id.counter + commands_left c.network.states ≤ commands_left (first_of c).states
+    → o.id.counter + commands_left c.network.states ≤ commands_left (starts s.scripts)
 
--- the network and all before it, back to the start of the scripts, by whose steps they were, the last one first
-abbrev pub AreInRun : Version → List (List Cmd) → List ℕ → List Past → Type 0
-AreInRun version scripts [] ps =
-    IsInRun version scripts (network_of ps) (kept_of ps) × (network_of ps ≡ starts scripts)
-AreInRun version scripts (i ∷ is) ps =
-    IsInRun version scripts (network_of ps) (kept_of ps) × AreInRun version scripts is (back_at i ps)
+-- The network and all before it, back to the first one, by whose steps they were, the last one first.
+abbrev pub AreInRun : Version → List (List Cmd) → List State → List ℕ → List Past → Type 0
+AreInRun version scripts first [] ps =
+    IsInRun version scripts first (network_of ps) (kept_of ps) × (network_of ps ≡ first)
+AreInRun version scripts first (i ∷ is) ps =
+    IsInRun version scripts first (network_of ps) (kept_of ps) × AreInRun version scripts first is (back_at i ps)
 
 -- the replica i can go back
 pub record CanGoBack (i : ℕ) (ps : List Past) : Type 0 where
@@ -68,4 +76,5 @@ pub record IsKeptNet (version : Version) (count : ℕ) (whose : List ℕ) (ps : 
   pub numbered : AreNumbered ps
   pub backed : AreBacked whose ps
   pub scripts : List (List Cmd)
-  pub runs : AreInRun version scripts whose ps
+  pub first : List State
+  pub runs : AreInRun version scripts first whose ps

@@ -70,6 +70,25 @@ impl From<AllocError> for StepFault {
     }
 }
 
+/// Why a network isn't at the start of a scenario.
+#[derive(Drop)]
+pub enum StartFault {
+    /// 44: of the given events the one of this number, from 1, is the first that is stuck.
+    Given { at: u64, stuck: Stuck },
+    /// There was no memory.
+    Memory,
+}
+
+impl From<AllocError> for StartFault {
+    ghost use Rattle.jc_network.specs.declared.fault.StartFault.TheVariants.{Memory as NoMemory};
+
+    ghost from_gives = { λ _ fault. fault ≡ NoMemory };
+
+    fn from(_: AllocError) -> Self {
+        StartFault::Memory
+    }
+}
+
 /// Why replicas weren't compared or looked at.
 #[derive(Clone, Copy, PartialEq, Eq)]
 pub enum CompareFault {

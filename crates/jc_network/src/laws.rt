@@ -2,6 +2,7 @@
 
 ghost use Rattle.jc_network.specs.Applied.{AppliedAreAll};
 ghost use Rattle.jc_network.specs.Enabled.{OthersAreStuck, EnabledHaveSteps};
+ghost use Rattle.jc_network.specs.Given.{OneStart, OneGivenStuck, LedOrStuck};
 ghost use Rattle.jc_network.specs.Laws.{HeldIsSound, OfferedIsOwn, CountersAreRun, AppliesAtYield, NeverStuckAtYield, LinksAreApplied, StepOrStuck};
 ghost use Rattle.jc_network.specs.Run.{OwnCountersAreRun};
 ghost use Rattle.jc_network.specs.Seen.{StartIsSeen, EventSteps, EventIsStuck, OfferedIsHanded};
@@ -22,7 +23,7 @@ pub fn counters_are_run()
     ensures { CountersAreRun }
 {}
 
-/// Nor, in a network at hand, above the number of commands of its own scripts that were run.
+/// Nor, in a network at hand, above the number of commands of its scenario that were run.
 pub fn own_counters_are_run()
     ensures { OwnCountersAreRun }
 {}
@@ -82,4 +83,19 @@ pub fn enabled_have_steps()
 /// What a replica has applied is of what it made or received, by identifier, and each identifier applied is there.
 pub fn applied_are_all()
     ensures { AppliedAreAll }
+{}
+
+/// A scenario has one start at most.
+pub fn one_start()
+    ensures { OneStart }
+{}
+
+/// One given event is the first that is stuck, for one cause.
+pub fn one_given_stuck()
+    ensures { OneGivenStuck }
+{}
+
+/// Given events lead to a network, or one of them is the first that is stuck, and never both.
+pub fn led_or_stuck()
+    ensures { LedOrStuck }
 {}

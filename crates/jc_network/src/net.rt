@@ -4,17 +4,20 @@ ghost use Rattle.std.specs.Prelude.{◌≡◌, ◌≤◌, ◌++◌, ◌∷◌, �
 ghost use Rattle.jc_scenario.specs.Scenarios.{IsWellFormed};
 ghost use Rattle.jc_scenario.specs.Views.{scenario_view};
 ghost use Rattle.jc_network.specs.declared.fault.CompareFault.TheVariants as C;
+ghost use Rattle.jc_network.specs.declared.fault.StartFault.TheVariants as S;
 ghost use Rattle.jc_network.specs.declared.fault.StepFault.TheVariants as E;
 ghost use Rattle.jc_network.specs.declared.fault.Stuck.{Stuck as AnyStuck};
 ghost use Rattle.jc_network.specs.Applied.{IsApplied, AreAppliedIds};
-ghost use Rattle.jc_network.specs.Course.{started, StepsTo};
+ghost use Rattle.jc_network.specs.Course.{StepsTo};
 ghost use Rattle.jc_network.specs.Enabled.{AreEnabled, candidates};
+ghost use Rattle.jc_network.specs.Given.{bare, IsStarted, IsGivenFault};
 ghost use Rattle.jc_network.specs.Makes.{IsStuckFor, HasReplica};
 ghost use Rattle.jc_network.specs.Run.{IsFromStart, HasBegun};
+ghost use Rattle.jc_rules.specs.Step.{AfterIn};
 
 use crate::applied::{applied_ids_of, applied_of};
 use crate::enabled::enabled_in;
-use crate::fault::{CompareFault, StepFault};
+use crate::fault::{CompareFault, StartFault, StepFault};
 use crate::replicas::replicas_of;
 use crate::stepping::make;
 use jc_replica::Replica;
@@ -51,20 +54,28 @@ impl Model for Net {
 }
 
 impl Net {
-    /// The network at the start of the scenario.
-    pub fn start(alloc: Global, scenario: &Scenario) -> Result<Self, AllocError>
+    /// The network at the start of the scenario: that to which its given events lead. Steps are counted from there, and
+    /// none is taken back past it.
+    ///
+    /// `Given` exactly where no network is the start, with the first given event that is stuck.
+    pub fn start(alloc: Global, scenario: &Scenario) -> Result<Self, StartFault>
         requires { IsWellFormed (scenario_view scenario.now) }
-        ensures { IfOk result (λ net. net ≡ started (scenario_view scenario.now)) }
+        ensures started { IfOk result (λ net. IsStarted (scenario_view scenario.now) net) }
+        ensures given { (at : ℕ) (s : AnyStuck) → IsErrOf result (S.Given at s)
+            → IsGivenFault (bare (scenario_view scenario.now)) (scenario_view scenario.now).given at s }
     {
         let names = copy_names(alloc, &scenario.names)?;
         let replicas = replicas_of(alloc, &scenario.scripts)?;
-        Ok(Net {
-            version: Version::One,
+        let mut net = Net {
+            version: scenario.version,
             names,
             replicas,
             whose: Vec::new(alloc),
             alloc,
-        })
+        };
+        net.lead(&scenario.given)?;
+        net.begin();
+        Ok(net)
     }
 
     /// The replicas' names, in order.
@@ -167,5 +178,34 @@ impl Net {
             Some(p) => self.replicas[usize::from(p)].undo(),
             None => false,
         }
+    }
+
+    /// Makes the given events. Where not all are made, it isn't told how the network stands then.
+    fn lead(&mut self, given: &[Event]) -> Result<(), StartFault>
+        requires new { self.old.earlier ≡ [] }
+        requires short { length given.now ≤ 100000 }
+        ensures led { OnOk result (AfterIn self.old.network given.now self.new.network) }
+        ensures names { OnOk result (self.new.names ≡ self.old.names) }
+        ensures stuck { (at : ℕ) (s : AnyStuck) → IsErrOf result (S.Given at s)
+            → IsGivenFault self.old.network given.now at s }
+    {
+        let mut at = 0u64;
+        for event in given {
+            at += 1;
+            match self.step(event) {
+                Ok(_trace) => {}
+                Err(StepFault::Full) => unreachable!(),
+                Err(StepFault::Stuck(stuck)) => return Err(StartFault::Given { at, stuck }),
+                Err(StepFault::Memory) => return Err(StartFault::Memory),
+            }
+        }
+        Ok(())
+    }
+
+    /// Counts steps from here on: none was made, and none can be taken back. It takes no memory.
+    fn begin(&mut self)
+        ensures { self.new ≡ record self.old { earlier = [] } }
+    {
+        self.whose.clear();
     }
 }

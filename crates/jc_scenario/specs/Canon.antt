@@ -1,6 +1,8 @@
 -- The canonical text of a scenario. Each line ends with LF.
 use Rattle.std.specs.Prelude.{ℕ, List, ◌++◌, codes, flat_map}
 use Rattle.jc_rules.specs.declared.operation.Event.{Event}
+use Rattle.jc_rules.specs.declared.version.Version.{Version}
+use Rattle.jc_rules.specs.declared.version.Version.TheVariants.{One, Two}
 use Rattle.jc_rules.specs.Syntax.{Cmd}
 use Rattle.jc_parser.specs.Trees.{Part}
 use Rattle.jc_printer.specs.Canon.{canon_cmd, canon_event}
@@ -19,9 +21,21 @@ canon_part p = codes "replica " ++ p.name ++ codes " {\n" ++ canon_commands p.sc
 abbrev pub canon_events : List (List ℕ) → List Event → List ℕ
 canon_events names events = flat_map (λ e. line_of (canon_event names e)) events
 
+-- the first line
+abbrev pub header_text : Version → List ℕ
+header_text One = codes "jsoncrdt 1\n"
+header_text Two = codes "jsoncrdt 2\n"
+
+-- The given events, which version 2 alone has. Where it has none, their block is written too.
+abbrev pub canon_given : Version → List (List ℕ) → List Event → List ℕ
+canon_given One names events = []
+canon_given Two names events = codes "given {\n" ++ canon_events names events ++ codes "}\n"
+
 -- a schedule without events is written too
 abbrev pub canon_schedule : List (List ℕ) → List Event → List ℕ
 canon_schedule names events = codes "schedule {\n" ++ canon_events names events ++ codes "}\n"
 
 abbrev pub canon : Scenario → List ℕ
-canon s = codes "jsoncrdt 1\n" ++ flat_map canon_part (parts_of s.names s.scripts) ++ canon_schedule s.names s.schedule
+canon s =
+    header_text s.version ++ flat_map canon_part (parts_of s.names s.scripts) ++ canon_given s.version s.names s.given
+    ++ canon_schedule s.names s.schedule

@@ -2,6 +2,7 @@
 use Rattle.std.specs.Prelude.{◌≡◌, ◌≢◌, ℕ, ◌≤◌, List, [], ◌∷◌, length, map, false, All, IsPermutation}
 use Rattle.std.specs.Str.{IsUtf8}
 use Rattle.jc_rules.specs.declared.operation.Event.{Event}
+use Rattle.jc_rules.specs.declared.version.Version.{Version}
 use Rattle.jc_rules.specs.declared.version.Version.TheVariants.{One}
 use Rattle.jc_rules.specs.Entries.{IsRising}
 use Rattle.jc_rules.specs.Order.{name_cmp}
@@ -16,10 +17,13 @@ use Rattle.jc_parser.specs.Legal.{IsName, IsLegalCmd, call_by, IsCounterBelow}
 use Rattle.jc_parser.specs.Trees.{Part, Tree, NamedTree, tree_of, IsNamedTree}
 use Rattle.jc_printer.specs.Canon.{AreNamed}
 
--- the replicas' names, their scripts, and events by the numbers of the replicas
+-- The version of its text, the replicas' names, their scripts, and events by the numbers of the replicas: those that are
+-- given, which run before the schedule's first, and the schedule.
 pub record Scenario : Type 0 where
+  pub version : Version
   pub names : List (List ℕ)
   pub scripts : List (List Cmd)
+  pub given : List Event
   pub schedule : List Event
 
 -- each name with its script
@@ -41,16 +45,23 @@ pub record IsWellFormed (s : Scenario) : Type 0 where
   pub each : length s.scripts ≡ length s.names
   pub formed : All IsScriptWellFormed s.scripts
   pub commands : All (λ script. All IsLegalCmd script) s.scripts
-  -- the schedule
+  -- the given events, of which version 1 has none
+  pub first_given : s.version ≡ One → s.given ≡ []
+  pub given_short : length s.given ≤ 100000
+  pub given_known : All (λ e. AreNamed e (length s.names)) s.given
+  pub given_counters : All IsCounterBelow s.given
+  -- the schedule, whose events the version has
   pub short : length s.schedule ≤ 100000
   pub known : All (λ e. AreNamed e (length s.names)) s.schedule
   pub counters : All IsCounterBelow s.schedule
-  pub allowed : All (λ e. Allows e One) s.schedule
+  pub allowed : All (λ e. Allows e s.version) s.schedule
 
 -- ---- scenarios of texts
 
 -- a text with these replicas, in its own order, and with these events, is this scenario
 pub record IsOfTree (t : Tree) (s : Scenario) : Type 0 where
+  pub version : s.version ≡ One
+  pub given : s.given ≡ []
   pub rising : IsRising name_cmp s.names
   pub each : length s.scripts ≡ length s.names
   pub same : IsPermutation t.parts (parts_of s.names s.scripts)

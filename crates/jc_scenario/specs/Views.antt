@@ -13,7 +13,9 @@ scripts_view scripts = map (λ script. map cmd_of script.items) scripts
 
 abbrev pub scenario_view : code.Scenario → Scenario
 scenario_view s = record {
+  version = s.version;
   names = s.names.items;
   scripts = scripts_view s.scripts.items;
+  given = s.given.items;
   schedule = s.schedule.items;
 }

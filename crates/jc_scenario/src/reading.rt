@@ -13,7 +13,7 @@ use crate::names::resolve;
 use crate::order::arranged;
 use crate::scenario::Scenario;
 use jc_parser::{NamedScenario, ScenarioFault, scenario_of};
-use jc_rules::{Event, Text};
+use jc_rules::{Event, Text, Version};
 use jc_syntax::{MAX_TEXT, NamedEvent, Token, lex};
 use std::alloc::Global;
 
@@ -45,8 +45,10 @@ fn scenario(alloc: Global, text: &str, tokens: &[Token]) -> Result<Scenario, Sce
     let (names, scripts) = arranged(alloc, replicas)?;
     let schedule = resolved(alloc, &names, &events)?;
     Ok(Scenario {
+        version: Version::One,
         names,
         scripts,
+        given: Vec::new(alloc),
         schedule,
     })
 }

@@ -3,7 +3,7 @@
 ghost use Rattle.std.specs.Prelude.{◌≡◌, IfOk};
 ghost use Rattle.jc_scenario.specs.Views.{scripts_view};
 
-use jc_rules::{Event, Text};
+use jc_rules::{Event, Text, Version};
 use jc_syntax::{Cmd, copy_script};
 use std::alloc::{AllocError, Global};
 
@@ -11,9 +11,13 @@ use std::alloc::{AllocError, Global};
 /// of the replicas.
 #[derive(Drop)]
 pub struct Scenario {
+    /// The version of its text.
+    pub version: Version,
     pub names: Vec<Text>,
     /// The script of each replica.
     pub scripts: Vec<Vec<Cmd>>,
+    /// Events that run before the first one of the schedule. They lead to its start. In version 1 there is none.
+    pub given: Vec<Event>,
     pub schedule: Vec<Event>,
 }
 
@@ -26,8 +30,10 @@ impl Scenario {
     {
         let alloc = *self.names.allocator();
         Ok(Scenario {
+            version: self.version,
             names: copy_names(alloc, &self.names)?,
             scripts: copy_scripts(alloc, &self.scripts)?,
+            given: self.given.as_slice().to_vec(alloc)?,
             schedule: self.schedule.as_slice().to_vec(alloc)?,
         })
     }

@@ -1,0 +1,69 @@
+-- The start of a scenario: the network to which its given events lead.
+use Rattle.std.specs.Prelude.{◌≡◌, ◌⊎◌, ℕ, ◌+◌, List, [], take, slice_get, Some}
+use Rattle.jc_rules.specs.declared.operation.Event.{Event}
+use Rattle.jc_rules.specs.Refused.{Cause, IsStuckIn}
+use Rattle.jc_rules.specs.Step.{Network, AfterIn}
+use Rattle.jc_rules.specs.Syntax.{Cmd}
+use Rattle.jc_scenario.specs.Scenarios.{Scenario}
+use Rattle.jc_network.specs.declared.fault.Stuck.{Stuck}
+use Rattle.jc_network.specs.Course.{Course, of_version}
+use Rattle.jc_network.specs.Laws.{starts, IsReached}
+use Rattle.jc_network.specs.Makes.{stuck_for}
+
+-- before the given events: each replica with its script, in the scenario's version
+abbrev pub bare : Scenario → Network
+bare s = of_version s.version (starts s.scripts)
+
+-- the given events have led there
+abbrev pub IsStart : Scenario → Network → Type 0
+IsStart s network = AfterIn (bare s) s.given network
+
+-- It is at the start of the scenario, and no step was made.
+pub record IsStarted (s : Scenario) (c : Course) : Type 0 where
+  pub names : c.names ≡ s.names
+  pub start : IsStart s c.network
+  pub earlier : c.earlier ≡ []
+
+-- Of the events that are given from the network on, this one, of the number `at` from 1, is the first that is stuck, for
+-- this cause.
+pub record IsGivenStuck (first : Network) (given : List Event) (at : ℕ) (event : Event) (why : Cause) : Type 0 where
+  pub before : ℕ
+  pub network : Network
+  pub at_is : at ≡ before + 1
+  pub led : AfterIn first (take before given) network
+  pub is : slice_get given before ≡ Some event
+  pub stuck : IsStuckIn network event why
+
+-- the same as it is told
+pub record IsGivenFault (first : Network) (given : List Event) (at : ℕ) (s : Stuck) : Type 0 where
+  pub event : Event
+  pub why : Cause
+  pub is : s ≡ stuck_for why event
+  pub stuck : IsGivenStuck first given at event why
+
+-- ---- laws
+
+-- A scenario has one start at most.
+abbrev pub OneStart : Type 0
+OneStart = (s : Scenario) (network other : Network) → IsStart s network → IsStart s other → network ≡ other
+
+-- One given event is the first that is stuck, for one cause.
+abbrev pub OneGivenStuck : Type 0
+OneGivenStuck =
+    (first : Network) (given : List Event) (at n : ℕ) (event other : Event) (why due : Cause)
+    → IsGivenStuck first given at event why
+    → IsGivenStuck first given n other due
+    → (at ≡ n) × (event ≡ other) × (why ≡ due)
+
+-- From a network that is reached from a start given events lead to another, or one of them is the first that is stuck,
+-- and never both.
+abbrev pub LedOrStuck : Type 0
+LedOrStuck =
+    (scripts : List (List Cmd)) (first : Network) (given : List Event)
+    → IsReached scripts first.states
+    → (((last : Network) × AfterIn first given last)
+    ⊎ ((at : ℕ) × (event : Event) × (why : Cause) × IsGivenStuck first given at event why))
+    × ((last : Network) (at : ℕ) (event : Event) (why : Cause)
+    → AfterIn first given last
+    → IsGivenStuck first given at event why
+    → ⊥)
