@@ -104,12 +104,18 @@ unfolding is_version
 version_passes One = refl
 version_passes Two = refl
 
+-- the second symbol is the number of version 1
+is_first_version : List Symbol → Bool
+is_first_version (a ∷ b ∷ xs) = is_number (codes "1") b
+is_first_version xs = false
+
 -- texts of two versions have two headers
 pub same_version : (u v : Version) (a b : List Symbol) → header u ++ a ≡ header v ++ b → u ≡ v
+unfolding is_first_version
 same_version One One a b same = refl
 same_version Two Two a b same = refl
-same_version One Two a b same = absurd cc
-same_version Two One a b same = absurd cc
+same_version One Two a b same = let bad : true ≡ false = ap is_first_version same in absurd cc
+same_version Two One a b same = let bad : false ≡ true = ap is_first_version same in absurd cc
 
 -- ---- the front
 
