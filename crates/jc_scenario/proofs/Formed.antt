@@ -16,7 +16,6 @@ use Rattle.jc_parser.specs.Scripts.{IsScriptWellFormed}
 use Rattle.jc_parser.specs.Calls.{Call, IsCallSpelled, IsCallWellFormed}
 use Rattle.jc_parser.specs.Legal.{IsName, IsLegalCmd, call_by, IsCounterBelow}
 use Rattle.jc_parser.specs.Trees.{Part, Tree, name_of, IsGivenSpelled, IsScheduleSpelled, IsTreeWithin}
-use Rattle.jc_printer.specs.Canon.{AreNamed}
 use Rattle.jc_scenario.specs.Scenarios.{Scenario, parts_of, IsOfTree, IsWellFormed}
 use Rattle.jc_scenario.proofs.Apart.{names-parts}
 use Rattle.jc_scenario.proofs.Unique.{script_of, scripts-parts}
