@@ -53,10 +53,10 @@ pub is_version : Symbol → Bool
 is_version s = is_number (codes "1") s || is_number (codes "2") s
 
 -- the number of this version is taken
-abbrev TakesNumber : Version → Reading → Reading → Type 0
+abbrev pub TakesNumber : Version → Reading → Reading → Type 0
 TakesNumber v r s = (x : Lexeme) × (r.left ≡ x ∷ s.left) × (x.symbol ≡ number (version_text v)) × (s.stop ≡ r.stop)
 
-version_ok : (r s : Reading) (v : Version) → version_at r ≡ Ok (v, s) → TakesNumber v r s
+pub version_ok : (r s : Reading) (v : Version) → version_at r ≡ Ok (v, s) → TakesNumber v r s
 unfolding version_at
 version_ok r s v h = by_test (cases_Bool (begins_with (is_number (codes "2")) r.left)) h
   where

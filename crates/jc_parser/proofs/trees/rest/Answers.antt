@@ -55,4 +55,4 @@ returns-in_err-given c =
     rw (p.1, p.2) (λ kept. c.replicas.invariant ∙ replicas_end c.args.version 100000 c.replicas.left (names_of c.replicas.replicas.items) (map part_view c.replicas.replicas.items) c.replicas.cursor c.in_err-given.field-0.0 (sym c.begins_word.ensures ∙ c.replicas-test.false) (c.in_err-given.ensures kept))
 
 pub returns : goal.returns
-returns c = c.replicas.invariant ∙ replicas_done c.args.version 100000 c.replicas.left (names_of c.replicas.replicas.items) (map part_view c.replicas.replicas.items) c.replicas.cursor c.blocks.new.cursor c.in_ok-given.given.items c.in_ok-given.events.items (sym c.begins_word.ensures ∙ c.replicas-test.false) c.in_ok-given.ensures
+returns c = c.replicas.invariant ∙ replicas_done c.args.version 100000 c.replicas.left (names_of c.replicas.replicas.items) (map part_view c.replicas.replicas.items) c.replicas.cursor c.blocks-2.new.cursor c.in_ok-given.given.items c.in_ok-given.events.items (sym c.begins_word.ensures ∙ c.replicas-test.false) c.in_ok-given.ensures
