@@ -1,7 +1,9 @@
 //! The debugger.
 
 ghost use Rattle.std.specs.Prelude.{◌≡◌, ◌≢◌, ◌+◌, ◌-◌, ◌<◌, ◌≤◌, ◌↔◌, ℕ, length, slice_get, Some, None, Err, IsTrue, IsFalse, IsOk, IsNone, IfOk, IfErr, IfSome, IfNone, OnOk, OnErr, IsErrOf};
-ghost use Rattle.jc_network.specs.Course.{started};
+ghost use Rattle.jc_network.specs.declared.fault.StartFault.TheVariants as Start;
+ghost use Rattle.jc_network.specs.declared.fault.Stuck.{Stuck as AnyStuck};
+ghost use Rattle.jc_network.specs.Given.{bare, IsStarted, IsGivenFault};
 ghost use Rattle.jc_scenario.specs.Scenarios.{IsWellFormed};
 ghost use Rattle.jc_scenario.specs.Views.{scenario_view};
 ghost use Rattle.jc_debug.specs.declared.breaks.Break.TheVariants as Kind;
@@ -16,10 +18,10 @@ ghost use Rattle.jc_debug.specs.Trail.{IsOnTrail, IsMoved, start_of, session_of,
 
 use crate::breaks::{Break, BreakFault};
 use crate::fault::{ActFault, GotoFault, Halt, RunEnd, RunFault, StepFault};
-use jc_network::{Net, StepFault as NetFault};
+use jc_network::{Net, StartFault, StepFault as NetFault};
 use jc_rules::{Event, Rule, Trace};
 use jc_scenario::Scenario;
-use std::alloc::{AllocError, Global};
+use std::alloc::Global;
 use std::marker::Model;
 
 /// A network that goes along a schedule, forwards and backwards. It is seen as its networks at the positions up to the
@@ -52,10 +54,14 @@ impl Model for Debugger {
 
 impl Debugger {
     /// A debugger at the start of the scenario, without breakpoints.
-    pub fn new(alloc: Global, scenario: Scenario) -> Result<Self, AllocError>
+    ///
+    /// `Given` exactly where no network is the start, with the first given event that is stuck.
+    pub fn new(alloc: Global, scenario: Scenario) -> Result<Self, StartFault>
         requires { IsWellFormed (scenario_view scenario) }
-        ensures net { IfOk result (λ debugger. debugger.net ≡ started (scenario_view scenario)) }
+        ensures net { IfOk result (λ debugger. IsStarted (scenario_view scenario) debugger.net) }
         ensures session { IfOk result (λ debugger. session_of debugger ≡ begun scenario.schedule.items) }
+        ensures given { (at : ℕ) (s : AnyStuck) → IsErrOf result (Start.Given at s)
+            → IsGivenFault (bare (scenario_view scenario)) (scenario_view scenario).given at s }
     {
         let net = Net::start(alloc, &scenario)?;
         Ok(Debugger {

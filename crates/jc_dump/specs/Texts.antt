@@ -2,13 +2,15 @@
 use Rattle.std.specs.Prelude.{ℕ, suc, List, [], ◌∷◌, ◌++◌, codes, decimal}
 use Rattle.jc_rules.specs.declared.operation.Event.{Event}
 use Rattle.jc_rules.specs.declared.refusal.Refusal.{Refusal}
+use Rattle.jc_rules.specs.declared.refusal.Refusal.TheVariants.{GivenStuck}
 use Rattle.jc_rules.specs.declared.rule.Rule.{Rule}
 use Rattle.jc_rules.specs.Names.{name_at}
 use Rattle.jc_rules.specs.Refusals.{number_of, name_of}
+use Rattle.jc_rules.specs.Refused.{Cause}
 use Rattle.jc_rules.specs.State.{State}
 use Rattle.jc_printer.specs.Canon.{canon_event}
 use Rattle.jc_dump.specs.Dump.{dump_line}
-use Rattle.jc_dump.specs.Lines.{trace_text}
+use Rattle.jc_dump.specs.Lines.{trace_text, stuck_text}
 
 -- the block of an event by its number
 abbrev pub block_text : List (List ℕ) → ℕ → Event → List (Rule × ℕ) → List ℕ
@@ -20,6 +22,10 @@ abbrev pub refused_text : Refusal → ℕ → List ℕ
 refused_text refusal place =
     codes "refused " ++ decimal (number_of refusal) ++ codes " " ++ name_of refusal ++ codes " at " ++ decimal place
     ++ codes "\n"
+
+-- the lines of the first given event that is stuck, which is of this number from 1
+abbrev pub given_text : List (List ℕ) → ℕ → Cause → Event → List ℕ
+given_text names at why event = refused_text GivenStuck at ++ stuck_text names why event
 
 -- the dump lines of replicas, of which the first one has the number p
 abbrev pub dumps_from : ℕ → List (List ℕ) → List State → List ℕ

@@ -4,9 +4,14 @@ use Rattle.std.specs.IoError.{error_kind}
 use Rattle.std.specs.declared.alloc.Global.{Global}
 use Rattle.std.specs.declared.io.Error.{Error}
 use Rattle.std.specs.declared.vec.Vec.{Vec}
+use Rattle.jc_rules.specs.declared.operation.Event.{Event}
+use Rattle.jc_rules.specs.Refused.{Cause}
+use Rattle.jc_rules.specs.Step.{Network}
 use Rattle.jc_rules.specs.Told.{LosesUpTo}
 use Rattle.jc_rules.specs.declared.io.Source.{Ghosts as SourceGhosts}
 use Rattle.jc_rules.specs.declared.io.Sink.{Ghosts as SinkGhosts}
+use Rattle.jc_scenario.specs.Scenarios.{Scenario, IsScenario}
+use Rattle.jc_network.specs.Given.{bare, IsStart, IsGivenStuck}
 use Rattle.jc_session.specs.Written.{Stream, sink, Wrote, WrotePart, Sent, Written}
 use Rattle.jc_words.specs.Words.{words_order, AsksHelp}
 use Rattle.jc_words.specs.declared.order.Order.{Order}
@@ -58,10 +63,10 @@ pub record ReadsText (file : List ℕ) (old new : World) : Type 0 where
   pub most : LosesUpTo 8388609 old.input.bytes new.input.bytes
 
 -- What an order that ends so reads of standard input. A session reads its lines there, unless they are none, because the
--- input has the scenario or the scenario was refused.
+-- input has the scenario, or because the scenario was refused or a given event of it is stuck.
 abbrev pub ReadsFor : Order → ℕ → World → World → Type 0
 ReadsFor order status old new =
-    ((order.task ≢ Debug) ⊎ ((status ≡ 1) ⊎ (order.file ≡ codes "-")) → ReadsText order.file old new)
+    ((order.task ≢ Debug) ⊎ ((status ≡ 1) ⊎ ((status ≡ 3) ⊎ (order.file ≡ codes "-"))) → ReadsText order.file old new)
 
 -- ---- orders
 
@@ -115,6 +120,17 @@ abbrev pub IsUnreadable : {Does : Task → Type 0} {files : Files} {words : List
     {fault : WorkFault} → Stopped Does files words old new fault → Type 0
 IsUnreadable {files = files} s = IsUnread files.may_fail s.order.file
 
+-- the bytes are a scenario whose given events lead to its start
+abbrev pub HasStart : List ℕ → Type 0
+HasStart bytes = (s : Scenario) × (start : Network) × IsScenario bytes s × IsStart s start
+
+-- the bytes are a scenario of which a given event is stuck
+abbrev pub HasStuckGiven : List ℕ → Type 0
+HasStuckGiven bytes =
+    (s : Scenario) × (at : ℕ) × (event : Event) × (why : Cause)
+    × IsScenario bytes s
+    × IsGivenStuck (bare s) s.given at event why
+
 -- ---- the promise
 
 -- Called with these words, among these files, the program ends with the status; the world was the old one before and is
@@ -124,8 +140,10 @@ pub data Promise (Does : Task → Type 0) (files : Files) (words : List (List �
   done : Carried Does files words old new 0 → Promise Does files words old new 0
   -- its text was refused
   text_refused : Carried Does files words old new 1 → Promise Does files words old new 1
-  -- an event of it was stuck
-  stuck : Carried Does files words old new 3 → Promise Does files words old new 3
+  -- an event of its schedule, or one that a thread chose, was stuck
+  stuck : (c : Carried Does files words old new 3) → HasStart c.bytes → Promise Does files words old new 3
+  -- a given event of it was stuck
+  given_stuck : (c : Carried Does files words old new 3) → HasStuckGiven c.bytes → Promise Does files words old new 3
   -- a thread of it had no memory; what all threads made is written
   thread_starved : Carried Does files words old new 5 → Promise Does files words old new 5
   -- the words ask for help, which was written

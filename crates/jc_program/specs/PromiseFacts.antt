@@ -79,9 +79,9 @@ module _ (files : Files) (words : List (List ℕ)) (old new : World) (result : �
   abbrev pub UnreadFact : Type 0
   UnreadFact = words_order words ≡ None → new.input ≡ old.input
 
-  -- standard input is left alone where the order names another file, but by a session whose scenario is there
+  -- standard input is left alone where the order names another file, but by a session that has a start
   abbrev pub OtherFileFact : Type 0
-  OtherFileFact = (order : Order) → words_order words ≡ Some order → (order.task ≢ Debug) ⊎ (result ≡ 1)
+  OtherFileFact = (order : Order) → words_order words ≡ Some order → (order.task ≢ Debug) ⊎ ((result ≡ 1) ⊎ (result ≡ 3))
       → order.file ≢ codes "-" → new.input ≡ old.input
 
   -- of a text at most so many bytes are read

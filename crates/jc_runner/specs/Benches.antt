@@ -2,6 +2,7 @@
 use Rattle.std.specs.Prelude.{◌≡◌, ℕ, ◌≤◌, ◌<◌}
 use Rattle.jc_lock.specs.declared.lock.Pass.{Pass}
 use Rattle.jc_lock.specs.Shows.{IsPassOf, IsNewPass, IsSameLock, lock_passes, opened_value, pass_number}
+use Rattle.jc_network.specs.Given.{bare, IsGivenFault}
 use Rattle.jc_rules.specs.declared.operation.Event.{Event}
 use Rattle.jc_scenario.specs.Scenarios.{Scenario}
 use Rattle.jc_runner.specs.declared.bench.Bench.{Bench}
@@ -38,6 +39,7 @@ abbrev pub IsSameBench : Bench → Bench → Type 0
 IsSameBench bench other = IsSameLock bench.lock other.lock
 
 -- each refusal of `open`, in order
-abbrev pub IsOpenFault : BenchFault → ℕ → Type 0
-IsOpenFault B.LimitTooLarge limit = 100000 < limit
-IsOpenFault B.Memory limit = limit ≤ 100000
+abbrev pub IsOpenFault : BenchFault → Scenario → ℕ → Type 0
+IsOpenFault B.LimitTooLarge s limit = 100000 < limit
+IsOpenFault (B.Given at stuck) s limit = (limit ≤ 100000) × IsGivenFault (bare s) s.given at stuck
+IsOpenFault B.Memory s limit = limit ≤ 100000

@@ -26,7 +26,7 @@ NoChoiceIsTheEnd =
 
 -- the scenario with these events in place of its own
 abbrev pub with_schedule : Scenario → List Event → Scenario
-with_schedule s events = record { names = s.names; scripts = s.scripts; schedule = events }
+with_schedule s events = record s { schedule = events }
 
 -- A scenario may have each schedule that leads from its start to a network, where that is not too long.
 abbrev pub SchedulesAreWellFormed : Type 0

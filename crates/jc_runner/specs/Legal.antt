@@ -3,14 +3,16 @@ use Rattle.std.specs.Prelude.{◌≡◌, ℕ, List, ◌∷◌, ◌++◌, Some}
 use Rattle.jc_rules.specs.declared.operation.Event.{Event}
 use Rattle.jc_rules.specs.Step.{Network, AfterIn, replica_of}
 use Rattle.jc_lock.specs.Knowledge.{own}
-use Rattle.jc_network.specs.Course.{started}
+use Rattle.jc_network.specs.Given.{IsStart}
 use Rattle.jc_scenario.specs.Scenarios.{Scenario}
 use Rattle.jc_runner.specs.Phases.{last_of}
 use Rattle.jc_runner.specs.Chosen.{chosen}
 
 -- the network follows from the scenario's start by the events, in their order
 pub record IsLegal (history : List Event) (s : Scenario) (network : Network) : Type 0 where
-  pub after : AfterIn (started s).network history network
+  pub start : Network
+  pub is_start : IsStart s start
+  pub after : AfterIn start history network
 
 -- the events of replica p, in their order
 abbrev pub own_events : List Event → ℕ → List Event

@@ -3,6 +3,8 @@ use Rattle.std.specs.Prelude.{◌≡◌, ℕ, ◌≤◌, List, length, refl}
 use Rattle.std.specs.Coded.{Coded, code_by, coded×, coded_ℕ, coded_list}
 use Rattle.jc_rules.specs.declared.operation.Event.{Event}
 use Rattle.jc_rules.specs.contracts.operation.Event.{the_row as event_row}
+use Rattle.jc_rules.specs.declared.version.Version.{Version}
+use Rattle.jc_rules.specs.contracts.version.Version.{the_row as version_row}
 use Rattle.jc_rules.specs.Syntax.{Cmd}
 use Rattle.jc_replica.specs.Codes.{cmd_code}
 use Rattle.jc_network.specs.Course.{Course, course_code}
@@ -17,10 +19,12 @@ pub record Recording : Type 0 where
 
 abbrev pub scenario_code : Coded Scenario
 scenario_code =
-    code_by (List (List ℕ) × (List (List Cmd) × List Event))
-    (coded× (coded_list (coded_list coded_ℕ)) (coded× (coded_list (coded_list cmd_code)) (coded_list event_row.coded)))
-    (λ s. (s.names, (s.scripts, s.schedule)))
-    (λ t. record { names = t.0; scripts = t.1.0; schedule = t.1.1 })
+    code_by (Version × (List (List ℕ) × (List (List Cmd) × (List Event × List Event))))
+    (coded× version_row.coded
+    (coded× (coded_list (coded_list coded_ℕ))
+    (coded× (coded_list (coded_list cmd_code)) (coded× (coded_list event_row.coded) (coded_list event_row.coded)))))
+    (λ s. (s.version, (s.names, (s.scripts, (s.given, s.schedule)))))
+    (λ t. record { version = t.0; names = t.1.0; scripts = t.1.1.0; given = t.1.1.1.0; schedule = t.1.1.1.1 })
     (λ _. refl)
 
 abbrev pub recording_code : Coded Recording

@@ -5,6 +5,7 @@ use Rattle.jc_rules.specs.declared.operation.Event.{Event}
 use Rattle.jc_rules.specs.State.{State}
 use Rattle.jc_rules.specs.Step.{Network}
 use Rattle.jc_network.specs.declared.fault.Stuck.{Stuck}
+use Rattle.jc_network.specs.Given.{bare, IsGivenFault}
 use Rattle.jc_printer.specs.Canon.{AreNamed}
 use Rattle.jc_scenario.specs.Scenarios.{Scenario, IsWellFormed}
 use Rattle.jc_scenario.specs.Views.{scenario_view}
@@ -76,12 +77,15 @@ pub record IsReport (s : Scenario) (limit : ℕ) (r : Report) : Type 0 where
 abbrev pub IsLateFault : RunFault → Type 0
 IsLateFault R.GateCount = ⊥
 IsLateFault R.LimitTooLarge = ⊥
+IsLateFault (R.Given at stuck) = ⊥
 IsLateFault R.Memory = Unit {0}
 IsLateFault R.NoThread = Unit {0}
 
 -- each refusal of a run, in order
-abbrev pub IsRunFault : RunFault → ℕ → ℕ → ℕ → Type 0
-IsRunFault R.GateCount gates replicas limit = gates ≢ replicas
-IsRunFault R.LimitTooLarge gates replicas limit = (gates ≡ replicas) × (100000 < limit)
-IsRunFault R.Memory gates replicas limit = (gates ≡ replicas) × (limit ≤ 100000)
-IsRunFault R.NoThread gates replicas limit = (gates ≡ replicas) × (limit ≤ 100000)
+abbrev pub IsRunFault : RunFault → Scenario → ℕ → ℕ → Type 0
+IsRunFault R.GateCount s gates limit = gates ≢ length s.scripts
+IsRunFault R.LimitTooLarge s gates limit = (gates ≡ length s.scripts) × (100000 < limit)
+IsRunFault (R.Given at stuck) s gates limit =
+    (gates ≡ length s.scripts) × (limit ≤ 100000) × IsGivenFault (bare s) s.given at stuck
+IsRunFault R.Memory s gates limit = (gates ≡ length s.scripts) × (limit ≤ 100000)
+IsRunFault R.NoThread s gates limit = (gates ≡ length s.scripts) × (limit ≤ 100000)

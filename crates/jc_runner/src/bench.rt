@@ -1,7 +1,7 @@
 //! The bench: replicas of one network step there in turn, and each step is recorded.
 use crate::recorded::Recorded;
 use jc_lock::{HistoryLock, Kept, OpenRefused, Turn};
-use jc_network::{Net, StepFault, Stuck};
+use jc_network::{Net, StartFault, StepFault, Stuck};
 use jc_rules::{Event, Trace};
 use jc_scenario::Scenario;
 use std::alloc::Global;
@@ -24,6 +24,8 @@ pub const MOST_LIMIT: u64 = 100_000;
 pub enum BenchFault {
     /// 46: the limit is above `MOST_LIMIT`.
     LimitTooLarge,
+    /// 44: of the given events the one of this number, from 1, is the first that is stuck.
+    Given { at: u64, stuck: Stuck },
     /// A request for memory was refused.
     Memory,
 }
@@ -66,7 +68,8 @@ impl Bench {
     /// A bench at the scenario's start, and one pass for each replica, each of `limit` takes. The scenario's schedule is
     /// left aside.
     ///
-    /// Refused, in this order: 46 where the limit is above `MOST_LIMIT`, then want of memory.
+    /// Refused, in this order: 46 where the limit is above `MOST_LIMIT`, then 44 where a given event is stuck, or want of
+    /// memory.
     pub fn open(
         alloc: Global,
         scenario: Scenario,
@@ -80,14 +83,16 @@ impl Bench {
         ensures new { IfOk result (λ r. All (IsNewAt r.0 limit) r.1.items) }
         ensures own { IfOk result (λ r. All (λ p. own_events (pass_seen p) (pass_number p) ≡ pass_mine p) r.1.items) }
         ensures limit { IfOk result (λ r. limit ≤ 100000) }
-        ensures refused { IfErr result (λ fault. IsOpenFault fault limit) }
+        ensures refused { IfErr result (λ fault. IsOpenFault fault (scenario_view scenario) limit) }
     {
         if limit > MOST_LIMIT {
             return Err(BenchFault::LimitTooLarge);
         }
         let passes = scenario.scripts.len() as u16;
-        let Ok(net) = Net::start(alloc, &scenario) else {
-            return Err(BenchFault::Memory);
+        let net = match Net::start(alloc, &scenario) {
+            Ok(net) => net,
+            Err(StartFault::Given { at, stuck }) => return Err(BenchFault::Given { at, stuck }),
+            Err(StartFault::Memory) => return Err(BenchFault::Memory),
         };
         let recorded = Recorded {
             net,

@@ -9,7 +9,7 @@ ghost use Rattle.jc_runner.specs.declared.run.RunFault.TheVariants.{Memory as Wa
 use crate::bench::{Bench, BenchFault, Pass};
 use crate::recorded::Recorded;
 use crate::worker::{End, Gate, Worked, work};
-use jc_network::Net;
+use jc_network::{Net, Stuck};
 use jc_rules::Event;
 use jc_scenario::Scenario;
 use std::alloc::{AllocError, Global};
@@ -25,6 +25,8 @@ pub enum RunFault {
     GateCount,
     /// 46: the limit is above `MOST_LIMIT`.
     LimitTooLarge,
+    /// 44: of the given events the one of this number, from 1, is the first that is stuck.
+    Given { at: u64, stuck: Stuck },
     /// A request for memory was refused.
     Memory,
     /// 47: a thread can't be made, for whatever cause.
@@ -182,7 +184,8 @@ fn run_on<R: Threads + Wait + Sync, G: Gate + Send + Drop>(
 /// reported leads from the scenario's start to the network that is reported.
 ///
 /// Refused, in this order: 45 where the gates aren't as many as the replicas, 46 where the limit is above `MOST_LIMIT`;
-/// then want of memory, or 47 where a thread can't be made, once those that were started are joined.
+/// 44 where a given event is stuck, before any thread is made; then want of memory, or 47 where a thread can't be made,
+/// once those that were started are joined.
 pub fn run_threads<R: Threads + Wait + Sync, G: Gate + Send + Drop>(
     rt: &R,
     alloc: Global,
@@ -193,7 +196,7 @@ pub fn run_threads<R: Threads + Wait + Sync, G: Gate + Send + Drop>(
     requires { IsWellFormed (scenario_view scenario) }
     ensures accepted { IfOk result (λ r. (vec_len gates ≡ vec_len scenario.scripts) × (limit ≤ 100000)) }
     ensures report { IfOk result (λ r. IsReport (scenario_view scenario) limit r) }
-    ensures fault { IfErr result (λ fault. IsRunFault fault (vec_len gates) (vec_len scenario.scripts) limit) }
+    ensures fault { IfErr result (λ fault. IsRunFault fault (scenario_view scenario) (vec_len gates) limit) }
 {
     if gates.len() != scenario.scripts.len() {
         return Err(RunFault::GateCount);
@@ -201,6 +204,7 @@ pub fn run_threads<R: Threads + Wait + Sync, G: Gate + Send + Drop>(
     let (bench, passes) = match Bench::open(alloc, scenario, limit) {
         Ok(opened) => opened,
         Err(BenchFault::LimitTooLarge) => return Err(RunFault::LimitTooLarge),
+        Err(BenchFault::Given { at, stuck }) => return Err(RunFault::Given { at, stuck }),
         Err(BenchFault::Memory) => return Err(RunFault::Memory),
     };
     let all = run_on(rt, alloc, &bench, passes, gates, limit)?;

@@ -19,7 +19,6 @@ use Rattle.jc_parser.specs.Faults.{number_of as fault_number, place_of}
 use Rattle.jc_parser.specs.Calls.{IsEventOf, IsEventFault}
 use Rattle.jc_scenario.specs.Resolved.{IsResolved, names_in, IsFirstStranger}
 use Rattle.jc_scenario.specs.Scenarios.{Scenario}
-use Rattle.jc_network.specs.Course.{started}
 use Rattle.jc_network.specs.Enabled.{AreEnabled, candidates}
 use Rattle.jc_dump.specs.Dump.{dump_line}
 use Rattle.jc_dump.specs.Lines.{stuck_text}
@@ -37,8 +36,9 @@ pub record Origin : Type 0 where
   pub names : List (List ℕ)
   pub start : Network
 
-abbrev pub origin_of : Scenario → Origin
-origin_of s = record { names = s.names; start = (started s).network }
+-- of the scenario, from the network at its start
+abbrev pub origin_of : Scenario → Network → Origin
+origin_of s start = record { names = s.names; start = start }
 
 -- the replica of this number has the name
 abbrev pub IsNamed : List (List ℕ) → List ℕ → ℕ → Type 0
@@ -68,21 +68,22 @@ IsFaultLine fault text = IsRefusalAt (fault_number fault) (place_of fault) text
 
 -- ---- parts of answers
 
--- The rest of an `act` line is no event, or it has a name that no replica has. Its text is the refusal's line.
-pub data IsMisspelled (names : List (List ℕ)) (rest : List ℕ) : List ℕ → Type 0 where
+-- The rest of an `act` line is no event of the version, or it has a name that no replica has. Its text is the refusal's
+-- line.
+pub data IsMisspelled (version : Version) (names : List (List ℕ)) (rest : List ℕ) : List ℕ → Type 0 where
   faulty : {text : List ℕ} (fault : ScenarioFault)
-      → IsEventFault rest fault
+      → IsEventFault version rest fault
       → IsFaultLine fault text
-      → IsMisspelled names rest text
+      → IsMisspelled version names rest text
   strange : (named : NamedEvent) (place : ℕ)
-      → IsEventOf rest named
+      → IsEventOf version rest named
       → IsFirstStranger names (names_in named) place
-      → IsMisspelled names rest (refused_text F.UnknownReplica place)
+      → IsMisspelled version names rest (refused_text F.UnknownReplica place)
 
--- the rest of an `act` line is this event
-pub record IsSpelled (names : List (List ℕ)) (rest : List ℕ) (event : Event) : Type 0 where
+-- the rest of an `act` line is this event of the version
+pub record IsSpelled (version : Version) (names : List (List ℕ)) (rest : List ℕ) (event : Event) : Type 0 where
   pub named : NamedEvent
-  pub is : IsEventOf rest named
+  pub is : IsEventOf version rest named
   pub resolved : IsResolved names named event
 
 -- An event is made at the position, if it is not the last one that there may be and the event is not stuck.
@@ -136,11 +137,11 @@ pub data Replies (O : Origin) (A : Session) : Request → Session → List ℕ �
       → Replies O A (Q.goto n) (moved A p) (went_text O.names p end)
   goes_past : {n : ℕ} → length A.schedule < n → Replies O A (Q.goto n) A (refusal_line F.PastSchedule)
   acts : {rest text : List ℕ} {B : Session} (event : Event)
-      → IsSpelled O.names rest event
+      → IsSpelled O.start.version O.names rest event
       → Acts O A event B text
       → Replies O A (Q.act rest) B text
   acts_misspelled : {rest text : List ℕ}
-      → IsMisspelled O.names rest text
+      → IsMisspelled O.start.version O.names rest text
       → Replies O A (Q.act rest) A text
   runs : {n : ℕ} {end : Outcome}
       → A.position < length A.schedule

@@ -2,6 +2,7 @@
 use Rattle.std.specs.Prelude.{◌≡◌, List, ℕ, length, All, Result, Ok, Err, string_bytes}
 use Rattle.jc_rules.specs.declared.refusal.Refusal.{Refusal}
 use Rattle.jc_rules.specs.declared.refusal.Refusal.TheVariants as F
+use Rattle.jc_rules.specs.declared.version.Version.{Version}
 use Rattle.jc_rules.specs.Refusals.{number_of}
 use Rattle.jc_printer.specs.Canon.{AreNamed}
 use Rattle.jc_debug.specs.declared.breaks.BreakFault.{BreakFault}
@@ -38,9 +39,9 @@ abbrev pub HasRefusal : ℕ → Type 0
 HasRefusal n = (refusal : Refusal) × (number_of refusal ≡ n)
 
 -- what the rest of an `act` line spells
-abbrev pub Spells : List (List ℕ) → List ℕ → Spelling → Type 0
-Spells names rest (S.Event event) = IsSpelled names rest event
-Spells names rest (S.Refused line) = IsMisspelled names rest (string_bytes line)
+abbrev pub Spells : Version → List (List ℕ) → List ℕ → Spelling → Type 0
+Spells version names rest (S.Event event) = IsSpelled version names rest event
+Spells version names rest (S.Refused line) = IsMisspelled version names rest (string_bytes line)
 
 -- the line of a breakpoint that was set, or could not be
 abbrev pub set_text : Result ℕ BreakFault → List ℕ

@@ -1,8 +1,13 @@
 -- The text of a session.
 use Rattle.std.specs.Prelude.{◌≡◌, ℕ, nat_le, ◌&&◌, List, [], ◌∷◌, ◌++◌, length, take, map, if◌then◌else◌}
+use Rattle.jc_rules.specs.declared.operation.Event.{Event}
+use Rattle.jc_rules.specs.Refused.{Cause}
+use Rattle.jc_rules.specs.Step.{Network}
 use Rattle.jc_parser.specs.declared.fault.ScenarioFault.{ScenarioFault}
 use Rattle.jc_scenario.specs.Scenarios.{Scenario, IsScenario}
 use Rattle.jc_scenario.specs.Faults.{IsFault}
+use Rattle.jc_network.specs.Given.{bare, IsStart, IsGivenStuck}
+use Rattle.jc_dump.specs.Texts.{given_text}
 use Rattle.jc_debug.specs.Session.{Session, begun}
 use Rattle.jc_session.specs.Lines.{Line, AreLines, whole_line, last_line}
 use Rattle.jc_session.specs.Requests.{asks, quit, meaning}
@@ -17,11 +22,13 @@ Answers O A (x ∷ xs) B text =
     × Answers O M xs B u
     × (text ≡ t ++ u)
 
--- How a session ends: at `quit` or where the lines end; past a limit; with a refused scenario.
+-- How a session ends: at `quit` or where the lines end; past a limit; with a refused scenario; with a given event that is
+-- stuck.
 pub data End : Type 0 where
   finished : End
   too_many : End
   text_refused : ScenarioFault → End
+  given_stuck : End
 
 -- Of the lines that are due all are answered, or those before a `quit`.
 pub data Ends : List Line → End → List Line → End → Type 0 where
@@ -64,7 +71,12 @@ pub data Shows (b l : List ℕ) : List ℕ → End → Type 0 where
       → IsFault b fault
       → IsFaultLine fault text
       → Shows b l text (text_refused fault)
-  talks : {text : List ℕ} {end : End} (s : Scenario)
+  stuck : (s : Scenario) (at : ℕ) (event : Event) (why : Cause)
       → IsScenario b s
-      → Talks (origin_of s) (begun s.schedule) l text end
+      → IsGivenStuck (bare s) s.given at event why
+      → Shows b l (given_text s.names at why event) given_stuck
+  talks : {text : List ℕ} {end : End} (s : Scenario) (start : Network)
+      → IsScenario b s
+      → IsStart s start
+      → Talks (origin_of s start) (begun s.schedule) l text end
       → Shows b l text end

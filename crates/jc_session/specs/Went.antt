@@ -2,9 +2,14 @@
 use Rattle.std.specs.Prelude.{◌≡◌, ◌⊎◌, ℕ, ◌≤◌, ◌<◌, List, [], ◌∷◌, ◌++◌, length, map, Option, Some, None, IfSome}
 use Rattle.std.specs.List.{AllByRecursion}
 use Rattle.std.specs.Io.KnownBytes.{Consumes}
+use Rattle.jc_rules.specs.declared.operation.Event.{Event}
+use Rattle.jc_rules.specs.Refused.{Cause}
+use Rattle.jc_rules.specs.Step.{Network}
 use Rattle.jc_parser.specs.declared.fault.ScenarioFault.{ScenarioFault}
 use Rattle.jc_scenario.specs.Scenarios.{Scenario, IsScenario}
 use Rattle.jc_scenario.specs.Faults.{IsFault}
+use Rattle.jc_network.specs.Given.{bare, IsStart, IsGivenStuck}
+use Rattle.jc_dump.specs.Texts.{given_text}
 use Rattle.jc_debug.specs.Session.{Session, begun}
 use Rattle.jc_session.specs.Lines.{Line, Lacks, ended, whole_line, last_line}
 use Rattle.jc_session.specs.Answers.{Origin, origin_of, IsFaultLine, Answer}
@@ -124,6 +129,18 @@ abbrev pub WentRefused : List ℕ → Stream → Stream → Type 0
 WentRefused b old new =
     (fault : ScenarioFault) × (text : List ℕ) × IsFault b fault × IsFaultLine fault text × Interrupted text old new
 
+-- A given event of the scenario is stuck, and the lines for that were interrupted.
+abbrev pub WentGiven : List ℕ → Stream → Stream → Type 0
+WentGiven b old new =
+    (s : Scenario) × (at : ℕ) × (event : Event) × (why : Cause)
+    × IsScenario b s
+    × IsGivenStuck (bare s) s.given at event why
+    × Interrupted (given_text s.names at why event) old new
+
 -- what is said of a session on the scenario that the bytes are, from its start
 abbrev pub OnScenario : List ℕ → (Origin → Session → Type 0) → Type 0
-OnScenario b Says = (s : Scenario) × IsScenario b s × Says (origin_of s) (begun s.schedule)
+OnScenario b Says =
+    (s : Scenario) × (start : Network)
+    × IsScenario b s
+    × IsStart s start
+    × Says (origin_of s start) (begun s.schedule)

@@ -10,9 +10,9 @@ ghost use Rattle.jc_session.specs.Answers.{origin_of, IsFaultLine};
 ghost use Rattle.jc_session.specs.Gives.{origin_in, AllNamed};
 ghost use Rattle.jc_session.specs.Kinds.{IsOfAnswer};
 ghost use Rattle.jc_session.specs.Requests.{meaning, asks, quit};
-ghost use Rattle.jc_session.specs.Shown.{finished, too_many, text_refused, Shows};
+ghost use Rattle.jc_session.specs.Shown.{finished, too_many, text_refused, given_stuck, Shows};
 ghost use Rattle.jc_session.specs.Views.{bytes_of};
-ghost use Rattle.jc_session.specs.Went.{OfLines, OfLinesLeft, LosesFront, GoesOn, BreaksOff, AnsweredAll, WentToRead, WentWhole, WentFront, IsPast, ShowsAll, WentRefused, OnScenario};
+ghost use Rattle.jc_session.specs.Went.{OfLines, OfLinesLeft, LosesFront, GoesOn, BreaksOff, AnsweredAll, WentToRead, WentWhole, WentFront, IsPast, ShowsAll, WentRefused, WentGiven, OnScenario};
 ghost use Rattle.jc_session.specs.Written.{sink, Wrote, Interrupted, Written};
 
 use crate::answers::{answer, fault_line};
@@ -29,6 +29,8 @@ pub enum SessionEnd {
     Finished,
     /// The scenario was refused, for this fault, and no line was read.
     TextRefused(ScenarioFault),
+    /// A given event of the scenario is stuck, and no line was read.
+    GivenStuck,
 }
 
 /// Why a session ended early.
@@ -171,7 +173,8 @@ fn refuse<K: Sink>(alloc: Global, fault: &ScenarioFault, out: &mut K) -> Result<
 
 /// A session: reads the scenario, and answers the lines one by one, each before the next is read.
 ///
-/// It ends at `quit` or where the lines end. A scenario that is refused is shown so, and no line is read.
+/// It ends at `quit` or where the lines end. A scenario that is refused is shown so, and so is one with a given event that
+/// is stuck; then no line is read.
 ///
 /// Refusals: `ReadFailed` after the answers of all lines whose LF was read; `TooManyLines` and `Memory` after those of
 /// the lines before, whole; `WriteFailed` after those and a prefix of the answer that was due, which is the whole only
@@ -190,6 +193,9 @@ pub fn session<S: Source, K: Sink>(
     ensures text_refused { (fault : TextFault) → result ≡ Ok (SessionEnd.TextRefused fault)
         → ((l : List ℕ) → ShowsAll scenario.now l (text_refused fault) (sink K.Sink out.old) (sink K.Sink out.new))
         × (lines.new ≡ lines.old) }
+    ensures given_stuck { result ≡ Ok SessionEnd.GivenStuck
+        → ((l : List ℕ) → ShowsAll scenario.now l given_stuck (sink K.Sink out.old) (sink K.Sink out.new))
+        × (lines.new ≡ lines.old) }
     ensures too_many { IsErrOf result SessionFault.TooManyLines
         → OfLinesLeft (S.left lines.old) (S.left lines.new) (λ l left.
         ShowsAll scenario.now l too_many (sink K.Sink out.old) (sink K.Sink out.new) × IsPast l left) }
@@ -203,10 +209,11 @@ pub fn session<S: Source, K: Sink>(
         ⊎ OnScenario scenario.now (λ O A.
         OfLinesLeft (S.left lines.old) (S.left lines.new) (λ l left.
         WentWhole O A l left (sink K.Sink out.old) (sink K.Sink out.new))) }
-    // After a failed write, those of the lines before, whole, and the next one up to the failure; or the scenario's
-    // refusal up to it.
+    // After a failed write, those of the lines before, whole, and the next one up to the failure; or up to it the
+    // scenario's refusal, or the lines of a given event that is stuck.
     ensures write { IsErrOf result SessionFault.WriteFailed
         → ((lines.new ≡ lines.old) × WentRefused scenario.now (sink K.Sink out.old) (sink K.Sink out.new))
+        ⊎ ((lines.new ≡ lines.old) × WentGiven scenario.now (sink K.Sink out.old) (sink K.Sink out.new))
         ⊎ OnScenario scenario.now (λ O A.
         OfLinesLeft (S.left lines.old) (S.left lines.new) (λ l left.
         WentFront O A l left (sink K.Sink out.old) (sink K.Sink out.new))) }
