@@ -4,7 +4,7 @@ use Rattle.jc_rules.specs.Step.{Network, AfterIn}
 use Rattle.jc_scenario.specs.Views.{scenario_view, scripts_view}
 use Rattle.jc_network.specs.declared.fault.StartFault.TheVariants as S
 use Rattle.jc_network.specs.Course.{Course, network_of, of_version}
-use Rattle.jc_network.specs.Given.{bare, IsStarted, IsGivenFault}
+use Rattle.jc_network.specs.Given.{IsStarted, IsGivenFault}
 use Rattle.jc_network.specs.Run.{IsKeptNet}
 use Rattle.jc_network.specs.Start.{pasts_from}
 use Rattle.jc_network.proofs.Acting.{at_err}
