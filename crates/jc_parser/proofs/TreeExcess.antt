@@ -2,6 +2,7 @@
 use Rattle.std.proofs.Common.{◌≡◌, ◌≢◌, ℕ, zero, suc, ◌+◌, inl, inr, true, false, not, List, [], ◌∷◌, ◌++◌, map, length, refl, sym, ap, subst, ◌∙◌, append_assoc, arith}
 use Rattle.std.proofs.lemmas.List.{append-nil, length-append, length-map, map-append}
 use Rattle.std.proofs.lemmas.List.Elements.{All-map}
+use Rattle.jc_rules.specs.declared.version.Version.TheVariants.{One}
 use Rattle.jc_syntax.specs.declared.token.TokenKind.TheVariants.{Name}
 use Rattle.jc_parser.specs.declared.fault.ScenarioFault.{ScenarioFault}
 use Rattle.jc_parser.specs.Symbols.{Symbol, word, Lexeme}
@@ -91,8 +92,8 @@ schedule_excess m n em ps w d xs after h some (y, text, inl (x, others, next, fa
       some = some;
       calls = map call_of es;
       listed = y;
-      spelled = start_map (Calls true) IsCallSpelled call_of (λ e u t. t.0) es y start;
-      small = All-map IsCallWellFormed call_of es (start_all (Calls true) (λ e. IsCallWellFormed (call_of e)) (λ e u t. t.1) es y start);
+      spelled = start_map (Calls One true) (IsCallSpelled One) call_of (λ e u t. t.0) es y start;
+      small = All-map IsCallWellFormed call_of es (start_all (Calls One true) (λ e. IsCallWellFormed (call_of e)) (λ e u t. t.1) es y start);
       event = [];
       is = ap (λ (l : List Symbol). w ++ l) (text ∙ ap (λ (l : List Symbol). schedule_head ++ l) (sym (append-nil y)));
       excess = inl (count ∙ full ∙ em, refl, x, others, next, value_of x.symbol, kind_is Name x.symbol fits, fault);
@@ -106,8 +107,8 @@ schedule_excess m n em ps w d xs after h some (y, text, inr (es, u, v, few, star
       some = some;
       calls = map call_of es;
       listed = u;
-      spelled = start_map (Calls true) IsCallSpelled call_of (λ e u t. t.0) es u start;
-      small = All-map IsCallWellFormed call_of es (start_all (Calls true) (λ e. IsCallWellFormed (call_of e)) (λ e u t. t.1) es u start);
+      spelled = start_map (Calls One true) (IsCallSpelled One) call_of (λ e u t. t.0) es u start;
+      small = All-map IsCallWellFormed call_of es (start_all (Calls One true) (λ e. IsCallWellFormed (call_of e)) (λ e u t. t.1) es u start);
       event = v;
       is = ap (λ (l : List Symbol). w ++ l) (text ∙ ap (λ (l : List Symbol). schedule_head ++ l) parts);
       excess = inr (omega (arith, count, few, em), o);

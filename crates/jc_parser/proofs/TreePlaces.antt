@@ -2,6 +2,7 @@
 use Rattle.std.proofs.Common.{◌≡◌, ◌≢◌, ℕ, zero, suc, ◌⊎◌, inl, inr, Bool, true, false, cond, List, [], ◌∷◌, ◌++◌, Result, Ok, Err, refl, sym, ap, subst, ◌∙◌, append_assoc}
 use Rattle.std.specs.Prelude.{codes, IfOk, IfErr}
 use Rattle.std.proofs.lemmas.Bool.{cases_Bool}
+use Rattle.jc_rules.specs.declared.version.Version.TheVariants.{One}
 use Rattle.jc_syntax.specs.declared.token.TokenKind.TheVariants.{Name, BraceL, BraceR, Semi}
 use Rattle.jc_syntax.specs.declared.tree.NamedEvent.{NamedEvent}
 use Rattle.jc_parser.specs.declared.fault.ScenarioFault.{ScenarioFault}
@@ -58,7 +59,7 @@ events_listed zero r rest es h = by_test (cases_Bool (begins_with (has_kind Name
     by_test (inr none) h = let read = rw none at h in given [] es r r rest read ([], refl, refl)
 events_listed (suc n) r rest es h = by_test (events_listed n) (cases_Bool (begins_with (has_kind Name) r.left)) h
   where
-    behind : ((s end : Reading) (fs : List NamedEvent) → events_at n s ≡ Ok (fs, end) → Listed fs s end) → (x : NamedEvent) (a : Reading) (u : List Lexeme) → r.left ≡ u ++ a.left → IsEvent x u → (begins_with (has_kind Semi) a.left ≡ true) ⊎ (begins_with (has_kind Semi) a.left ≡ false) → after_event n x a ≡ Ok (es, rest) → Listed es r rest
+    behind : ((s end : Reading) (fs : List NamedEvent) → events_at n s ≡ Ok (fs, end) → Listed fs s end) → (x : NamedEvent) (a : Reading) (u : List Lexeme) → r.left ≡ u ++ a.left → IsEvent One x u → (begins_with (has_kind Semi) a.left ≡ true) ⊎ (begins_with (has_kind Semi) a.left ≡ false) → after_event n x a ≡ Ok (es, rest) → Listed es r rest
     behind others x a u parts one (inr none) h = let read = rw none at h in given (x ∷ []) es r a rest read (u, parts, (u, one, inl (refl, refl)))
     behind others x a u parts one (inl some) h =
         let read = rw some at h in
@@ -73,8 +74,8 @@ events_listed (suc n) r rest es h = by_test (events_listed n) (cases_Bool (begin
     by_test others (inr none) h = let read = rw none at h in given [] es r r rest read ([], refl, refl)
     by_test others (inl some) h =
         let read = rw some at h in
-        let (x, first, last) = bind_ok (any_event_at r) (λ x. after_event n x.0 x.1) (es, rest) read in
-        let p = event_read r x.1 x.0 first in
+        let (x, first, last) = bind_ok (any_event_at One r) (λ x. after_event n x.0 x.1) (es, rest) read in
+        let p = event_read One r x.1 x.0 first in
         behind others x.0 x.1 p.before p.parts p.event (cases_Bool (begins_with (has_kind Semi) x.1.left)) last
 
 -- ---- the schedule

@@ -6,6 +6,7 @@ use Rattle.std.proofs.lemmas.Bool.{cases_Bool}
 use Rattle.std.proofs.lemmas.List.{length-append}
 use Rattle.std.proofs.lemmas.List.Elements.{All-nil}
 use Rattle.std.proofs.lemmas.Slice.Eq.{bytes_eq-Decides}
+use Rattle.jc_rules.specs.declared.version.Version.TheVariants.{One}
 use Rattle.jc_syntax.specs.declared.token.TokenKind.TheVariants.{Name, BraceL, BraceR}
 use Rattle.jc_syntax.specs.declared.tree.NamedEvent.{NamedEvent}
 use Rattle.jc_rules.specs.Syntax.{Cmd}
@@ -188,13 +189,13 @@ reads_part names =
 -- ---- the schedule
 
 abbrev pub EventsExcess : ℕ → Excess
-EventsExcess n = ListExcess Calls (has_kind Name) (λ x. TooManyEvents x.place) IsCallExcess n
+EventsExcess n = ListExcess (Calls One) (has_kind Name) (λ x. TooManyEvents x.place) (IsCallExcess One) n
 
-pub reads_events : (n : ℕ) → Reads (Lists Calls n) (EventsExcess n) (events_at n)
-reads_events n = reads_items (has_kind Name) (λ r. TooManyEvents (place r)) (λ x. TooManyEvents x.place) (λ n x xs. refl) reads_event n
+pub reads_events : (n : ℕ) → Reads (Lists (Calls One) n) (EventsExcess n) (events_at n)
+reads_events n = reads_items (has_kind Name) (λ r. TooManyEvents (place r)) (λ x. TooManyEvents x.place) (λ n x xs. refl) (reads_event One) n
 
 abbrev Closed : ℕ → Language (List NamedEvent)
-Closed n k es w = (u : List Symbol) × Lists Calls n k es u × (w ≡ u ++ close_brace ∷ [])
+Closed n k es w = (u : List Symbol) × Lists (Calls One) n k es u × (w ≡ u ++ close_brace ∷ [])
 
 abbrev Braced : ℕ → Language (List NamedEvent)
 Braced n k es w = (y : List Symbol) × (w ≡ open_brace ∷ y) × Closed n k es y
@@ -203,7 +204,7 @@ abbrev BracedExcess : ℕ → Excess
 BracedExcess n d xs after = (y : List Symbol) × (xs ≡ open_brace ∷ y) × EventsExcess n d y after
 
 abbrev pub Blocks : ℕ → Language (List NamedEvent)
-Blocks n k es w = (u : List Symbol) × Lists Calls n k es u × (w ≡ schedule_head ++ (u ++ close_brace ∷ []))
+Blocks n k es w = (u : List Symbol) × Lists (Calls One) n k es u × (w ≡ schedule_head ++ (u ++ close_brace ∷ []))
 
 abbrev pub BlockExcess : ℕ → Excess
 BlockExcess n d xs after = (y : List Symbol) × (xs ≡ schedule_head ++ y) × EventsExcess n d y after

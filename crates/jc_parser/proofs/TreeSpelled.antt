@@ -2,6 +2,7 @@
 use Rattle.std.proofs.Common.{◌≡◌, ℕ, zero, suc, ◌≤◌, ◌⊎◌, inl, inr, Bool, true, false, List, [], ◌∷◌, ◌++◌, map, length, Ok, refl, sym, ap, subst, ◌∙◌, append_assoc, arith}
 use Rattle.std.specs.Prelude.{codes, All}
 use Rattle.std.proofs.lemmas.Bool.{cases_Bool}
+use Rattle.jc_rules.specs.declared.version.Version.TheVariants.{One}
 use Rattle.jc_syntax.specs.declared.token.TokenKind.TheVariants.{Name}
 use Rattle.jc_syntax.specs.declared.tree.NamedEvent.{NamedEvent}
 use Rattle.jc_parser.specs.declared.fault.ScenarioFault.TheVariants.{ReservedName, SameName, TooManyReplicas, TooManyEvents}
@@ -31,13 +32,13 @@ use Rattle.jc_parser.proofs.TreeTails.{replica, is_replica, AreNew}
 abbrev Called : Given NamedEvent Call
 Called e c w = call_of e ≡ c
 
-call_read : (k : Bool) (c : Call) (r rest : Reading) → Answers k (call_at r) c rest → ((e : NamedEvent) × (call_of e ≡ c) × (any_event_at r ≡ Ok (e, rest))) ⊎ IsPast k (any_event_at r)
+call_read : (k : Bool) (c : Call) (r rest : Reading) → Answers k (call_at One r) c rest → ((e : NamedEvent) × (call_of e ≡ c) × (any_event_at One r ≡ Ok (e, rest))) ⊎ IsPast k (any_event_at One r)
 call_read k c r rest (inl read) =
-    let (x, first, last) = bind_ok (any_event_at r) (λ e. Ok (call_of e.0, e.1)) (c, rest) read in
+    let (x, first, last) = bind_ok (any_event_at One r) (λ e. Ok (call_of e.0, e.1)) (c, rest) read in
     let (same, left) = ok_parts (call_of x.0) c x.1 rest last in
     inl (x.0, same, first ∙ ap (λ (s : Reading). read_as x.0 s) left)
 call_read k c r rest (inr (may, e, fails, limit)) =
-    elim (bind_err (any_event_at r) (λ e. Ok (call_of e.0, e.1)) e fails) [
+    elim (bind_err (any_event_at One r) (λ e. Ok (call_of e.0, e.1)) e fails) [
       | inl here ↦ inr (may, e, here, limit)
       | inr (x, first, bad) ↦ absurd cc
     ]
@@ -45,7 +46,7 @@ call_read k c r rest (inr (may, e, fails, limit)) =
 named_first : (w y : List Lexeme) (p : List ℕ) (b : List Symbol) → First w (word p) b → begins_with (has_kind Name) (w ++ y) ≡ true
 named_first w y p b (at, v, parts, rest) = rw parts refl
 
-pub call_first : (c : Call) (w y : List Lexeme) → IsCallSpelled c (symbols w) → begins_with (has_kind Name) (w ++ y) ≡ true
+pub call_first : (c : Call) (w y : List Lexeme) → IsCallSpelled One c (symbols w) → begins_with (has_kind Name) (w ++ y) ≡ true
 call_first (executes p) w y text = named_first w y p _ (split_one w (word p) _ text)
 call_first (sends p) w y text = named_first w y p _ (split_one w (word p) _ text)
 call_first (receives p q) w y text = named_first w y p _ (split_one w (word p) _ text)
@@ -53,13 +54,13 @@ call_first (takes p q counter r) w y text = absurd text
 call_first (applies p counter q) w y (digits, numeral, same, text) = named_first w y p _ (split_one w (word p) _ text)
 call_first (ends p) w y text = named_first w y p _ (split_one w (word p) _ text)
 
-pub calls_are : IsItem (has_kind Name) any_event_at IsCallSpelled Called IsCallWellFormed
+pub calls_are : IsItem (has_kind Name) (any_event_at One) (IsCallSpelled One) Called IsCallWellFormed
 calls_are = record {
-  again = λ k c w y stop l small no_dot. call_read k c (reading stop (w ++ y)) (reading stop y) (call_again k c w y stop l small);
+  again = λ k c w y stop l small no_dot. call_read k c (reading stop (w ++ y)) (reading stop y) (call_again One k c w y stop l small);
   first = λ c w y l. call_first c w y l;
 }
 
-same_calls : (es : List NamedEvent) (cs : List Call) (w : List Lexeme) → Stands Called IsCallSpelled es cs w → map call_of es ≡ cs
+same_calls : (es : List NamedEvent) (cs : List Call) (w : List Lexeme) → Stands Called (IsCallSpelled One) es cs w → map call_of es ≡ cs
 same_calls [] [] w s = refl
 same_calls [] (c ∷ cs) w s = absurd s
 same_calls (e ∷ es) [] w s = absurd s
@@ -70,12 +71,12 @@ same_calls (e ∷ es) (c ∷ cs) w (u, same, l, inr (q, v, text, rest)) = rw (sa
 abbrev pub Scheduled : Bool → List Call → ℕ → Outcome (List NamedEvent) → Type 0
 Scheduled k calls stop r = ((es : List NamedEvent) × (map call_of es ≡ calls) × (r ≡ Ok (es, reading stop []))) ⊎ IsPast k r
 
-events_again : (k : Bool) (m : ℕ) (calls : List Call) (stop d : ℕ) (u : List Lexeme) → IsListText IsCallSpelled calls (symbols u) → Within k (length calls ≤ m) → Within k (All IsCallWellFormed calls)
-    → ReadList Called IsCallSpelled k calls u (events_at m (reading stop (u ++ at_place d close_brace ∷ []))) (reading stop (at_place d close_brace ∷ []))
+events_again : (k : Bool) (m : ℕ) (calls : List Call) (stop d : ℕ) (u : List Lexeme) → IsListText (IsCallSpelled One) calls (symbols u) → Within k (length calls ≤ m) → Within k (All IsCallWellFormed calls)
+    → ReadList Called (IsCallSpelled One) k calls u (events_at m (reading stop (u ++ at_place d close_brace ∷ []))) (reading stop (at_place d close_brace ∷ []))
 events_again k m calls stop d u text few small =
-    items_again (has_kind Name) any_event_at (λ r. TooManyEvents (place r)) calls_are (λ r. tt) m k calls u (at_place d close_brace ∷ []) stop text few small (record { no_item = refl; no_semicolon = refl; no_dot = refl })
+    items_again (has_kind Name) (any_event_at One) (λ r. TooManyEvents (place r)) calls_are (λ r. tt) m k calls u (at_place d close_brace ∷ []) stop text few small (record { no_item = refl; no_semicolon = refl; no_dot = refl })
 
-block_again : (k : Bool) (m : ℕ) (calls : List Call) (stop a b d : ℕ) (u : List Lexeme) → ReadList Called IsCallSpelled k calls u (events_at m (reading stop (u ++ at_place d close_brace ∷ []))) (reading stop (at_place d close_brace ∷ []))
+block_again : (k : Bool) (m : ℕ) (calls : List Call) (stop a b d : ℕ) (u : List Lexeme) → ReadList Called (IsCallSpelled One) k calls u (events_at m (reading stop (u ++ at_place d close_brace ∷ []))) (reading stop (at_place d close_brace ∷ []))
     → Scheduled k calls stop (schedule_at m (reading stop (at_place a (word (codes "schedule")) ∷ at_place b open_brace ∷ (u ++ at_place d close_brace ∷ []))))
 unfolding schedule_at block_at one
 block_again k m calls stop a b d u (inl (es, stands, read)) = inl (es, same_calls es calls u stands, rw read refl)
@@ -93,9 +94,9 @@ schedule_again k m calls stop w (inr (x, list, text)) few small =
     let (a, v1, e1, r1) = split_one w (word (codes "schedule")) (open_brace ∷ (x ++ close_brace ∷ [])) text in
     let (b, v2, e2, r2) = split_one v1 open_brace (x ++ close_brace ∷ []) r1 in
     let (u, d, t, e3, left, right) = split_around v2 x close_brace [] r2 in
-    moved w v1 v2 t a b d u e1 e2 e3 (split_none t right) (subst (IsListText IsCallSpelled calls) (sym left) list)
+    moved w v1 v2 t a b d u e1 e2 e3 (split_none t right) (subst (IsListText (IsCallSpelled One) calls) (sym left) list)
   where
-    moved : (w v1 v2 t : List Lexeme) (a b d : ℕ) (u : List Lexeme) → w ≡ at_place a (word (codes "schedule")) ∷ v1 → v1 ≡ at_place b open_brace ∷ v2 → v2 ≡ u ++ at_place d close_brace ∷ t → t ≡ [] → IsListText IsCallSpelled calls (symbols u) → Scheduled k calls stop (schedule_at m (reading stop w))
+    moved : (w v1 v2 t : List Lexeme) (a b d : ℕ) (u : List Lexeme) → w ≡ at_place a (word (codes "schedule")) ∷ v1 → v1 ≡ at_place b open_brace ∷ v2 → v2 ≡ u ++ at_place d close_brace ∷ t → t ≡ [] → IsListText (IsCallSpelled One) calls (symbols u) → Scheduled k calls stop (schedule_at m (reading stop w))
     moved w v1 v2 t a b d u e1 e2 e3 e4 own =
         let whole : w ≡ at_place a (word (codes "schedule")) ∷ at_place b open_brace ∷ (u ++ at_place d close_brace ∷ []) = rw (e1, e2, e3, e4) refl in
         subst (λ (l : List Lexeme). Scheduled k calls stop (schedule_at m (reading stop l))) (sym whole) (block_again k m calls stop a b d u (events_again k m calls stop d u own few small))

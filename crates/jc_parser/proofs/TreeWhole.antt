@@ -3,6 +3,7 @@ use Rattle.std.proofs.Common.{◌≡◌, ◌≢◌, ℕ, zero, suc, ◌+◌, ◌
 use Rattle.std.specs.Prelude.{codes, All}
 use Rattle.std.proofs.lemmas.List.{append-nil, length-map}
 use Rattle.std.proofs.lemmas.List.Elements.{All-nil, All-map}
+use Rattle.jc_rules.specs.declared.version.Version.TheVariants.{One}
 use Rattle.jc_syntax.specs.declared.tree.NamedEvent.{NamedEvent}
 use Rattle.jc_parser.specs.declared.fault.ScenarioFault.{ScenarioFault}
 use Rattle.jc_parser.specs.declared.fault.ScenarioFault.TheVariants.{NoHeader, NoReplica, Unexpected}
@@ -37,7 +38,7 @@ some_parts m k (p ∷ ps) es u v w parts events text = λ none. absurd cc
 
 calls_spelled : (m : ℕ) (k : Bool) (es : List NamedEvent) (v : List Symbol) → Schedules m k es v → IsScheduleSpelled (map call_of es) v
 calls_spelled m k es v (inl (none, nil)) = inl (ap (map call_of) none, nil)
-calls_spelled m k es v (inr (u, l, text)) = inr (u, list_map (Calls k) IsCallSpelled call_of (λ e u t. t.0) es u l.0, text)
+calls_spelled m k es v (inr (u, l, text)) = inr (u, list_map (Calls One k) (IsCallSpelled One) call_of (λ e u t. t.0) es u l.0, text)
 
 rest_text : (m : ℕ) (k : Bool) (t : NamedTree) (w : List Symbol) → IsTail m k t (replica ∷ w) → IsRestSpelled (tree_of t) w
 rest_text m k t w (u, v, parts, events, text) =
@@ -48,7 +49,7 @@ calls_within m es v (inl (none, nil)) = rw none (omega arith, All-nil IsCallWell
 calls_within m es v (inr (u, (text, few), own)) =
     let count : length (map call_of es) ≡ length es = length-map es call_of in
     let less : length es ≤ m = few in
-    (omega (arith, count, less), All-map IsCallWellFormed call_of es (list_all (Calls true) (λ e. IsCallWellFormed (call_of e)) (λ e u t. t.1) es u text))
+    (omega (arith, count, less), All-map IsCallWellFormed call_of es (list_all (Calls One true) (λ e. IsCallWellFormed (call_of e)) (λ e u t. t.1) es u text))
 
 open_within : (ps : List Part) → AreNew [] ps → length ps ≤ 64 → IsTreeWithin (record { parts = ps; calls = [] })
 open_within ps new few = record { parts = parts_within ps new few; few = omega arith; calls = All-nil IsCallWellFormed }
