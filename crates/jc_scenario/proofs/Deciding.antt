@@ -16,6 +16,7 @@ use Rattle.std.proofs.lemmas.Slice.Eq.{bytes_eq-Decides}
 use Rattle.std.proofs.lemmas.Str.{IsUtf8-from_is_utf8, is_utf8-from_IsUtf8}
 use Rattle.jc_rules.specs.declared.operation.Event.{Event}
 use Rattle.jc_rules.specs.declared.operation.Event.TheVariants as E
+use Rattle.jc_rules.specs.declared.version.Version.TheVariants.{One}
 use Rattle.jc_rules.specs.Entries.{IsRising}
 use Rattle.jc_rules.specs.Names.{name_at}
 use Rattle.jc_rules.specs.Order.{name_cmp}
@@ -189,7 +190,7 @@ scenario_or_stranger r t named =
     elim (known_or_strange ns (all_names_in t.events)) [
       | inl known ↦
           let (es, so) = events_of ns t.events known in
-          inl (record { names = ns; scripts = ss; schedule = es }, scenario_read r t ns ss es named a so)
+          inl (record { version = One; names = ns; scripts = ss; given = []; schedule = es }, scenario_read r t ns ss es named a so)
       | inr (at, first) ↦ inr (UnknownReplica at, stranger_read r t ns ss at named a first)
     ]
 

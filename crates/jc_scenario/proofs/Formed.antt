@@ -6,6 +6,7 @@ use Rattle.std.proofs.lemmas.List.Elements.{All-nil, All-cons, All-head, All-tai
 use Rattle.std.proofs.lemmas.List.Sorted.{All-permutation, length_permutation}
 use Rattle.jc_rules.specs.declared.operation.Event.{Event}
 use Rattle.jc_rules.specs.declared.operation.Event.TheVariants.{Exec, Send, Recv, Take, Apply, Done}
+use Rattle.jc_rules.specs.declared.version.Version.{Version}
 use Rattle.jc_rules.specs.declared.version.Version.TheVariants.{One}
 use Rattle.jc_rules.specs.Syntax.{Cmd}
 use Rattle.jc_rules.specs.Version.{Allows}
@@ -15,6 +16,7 @@ use Rattle.jc_parser.specs.Scripts.{IsScriptWellFormed}
 use Rattle.jc_parser.specs.Calls.{Call, IsCallSpelled, IsCallWellFormed}
 use Rattle.jc_parser.specs.Legal.{IsName, IsLegalCmd, call_by, IsCounterBelow}
 use Rattle.jc_parser.specs.Trees.{Part, Tree, name_of, IsScheduleSpelled, IsTreeWithin}
+use Rattle.jc_printer.specs.Canon.{AreNamed}
 use Rattle.jc_scenario.specs.Scenarios.{Scenario, parts_of, IsOfTree, IsWellFormed}
 use Rattle.jc_scenario.proofs.Apart.{names-parts}
 use Rattle.jc_scenario.proofs.Unique.{script_of, scripts-parts}
@@ -82,8 +84,14 @@ well_formed t s w is some schedule within names commands = record {
   each = is.each;
   formed = each_script t s is IsScriptWellFormed within.parts.scripts;
   commands = each_script t s is (λ script. All IsLegalCmd script) commands;
+  first_given = λ first. is.given;
+  given_short = omega (arith, ap length is.given);
+  given_known = subst (All (λ e. AreNamed e (length s.names))) (sym is.given) (All-nil (λ e. AreNamed e (length s.names)));
+  given_counters = subst (All IsCounterBelow) (sym is.given) (All-nil IsCounterBelow);
   short = omega (arith, length-map s.schedule (call_by s.names), ap length is.called, within.few);
   known = is.known;
   counters = each_counter s.names s.schedule (subst (All IsCallWellFormed) (sym is.called) within.calls);
-  allowed = each_allowed s.names s.schedule w (subst (λ (calls : List Call). IsScheduleSpelled calls w) (sym is.called) schedule);
+  allowed =
+      subst (λ (v : Version). All (λ e. Allows e v) s.schedule) (sym is.version)
+      (each_allowed s.names s.schedule w (subst (λ (calls : List Call). IsScheduleSpelled calls w) (sym is.called) schedule));
 }
