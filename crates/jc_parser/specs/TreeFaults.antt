@@ -2,6 +2,7 @@
 -- another question: here they are names.
 use Rattle.std.specs.Prelude.{◌≡◌, ◌≢◌, ℕ, ◌<◌, ◌⊎◌, List, [], ◌∷◌, ◌++◌, length, map, codes, true, false, All}
 use Rattle.std.specs.List.{Contains}
+use Rattle.jc_rules.specs.declared.version.Version.TheVariants.{One}
 use Rattle.jc_parser.specs.declared.fault.ScenarioFault.{ScenarioFault}
 use Rattle.jc_parser.specs.declared.fault.ScenarioFault.TheVariants.{ReservedName, NoHeader, SameName, NoReplica, TooManyReplicas, TooManyEvents}
 use Rattle.jc_parser.specs.Symbols.{Symbol, word, dot, Lexeme, symbols}
@@ -89,7 +90,7 @@ IsEventExcess n fault xs after =
     × (name : List ℕ)
     × (next.symbol ≡ word name)
     × (fault ≡ TooManyEvents next.place))
-    ⊎ ((n < 100000) × IsCallExcess fault xs after)
+    ⊎ ((n < 100000) × IsCallExcess One fault xs after)
 
 -- too much in the schedule
 pub record IsScheduleExcess (fault : ScenarioFault) (xs : List Symbol) (after : List Lexeme) : Type 0 where
@@ -99,7 +100,7 @@ pub record IsScheduleExcess (fault : ScenarioFault) (xs : List Symbol) (after : 
   pub some : parts ≢ []
   pub calls : List Call
   pub listed : List Symbol
-  pub spelled : IsStartText IsCallSpelled calls listed
+  pub spelled : IsStartText (IsCallSpelled One) calls listed
   pub small : All IsCallWellFormed calls
   pub event : List Symbol
   pub is : xs ≡ before ++ (schedule_head ++ (listed ++ event))

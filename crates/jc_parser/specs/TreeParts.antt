@@ -2,6 +2,7 @@
 use Rattle.std.specs.Prelude.{ℕ, zero, suc, List, [], ◌∷◌, ◌++◌, Bool, false, if◌then◌else◌, codes, Result, Ok, Err}
 use Rattle.std.specs.Str.{bytes_eq}
 use Rattle.std.specs.List.{list_any}
+use Rattle.jc_rules.specs.declared.version.Version.TheVariants.{One}
 use Rattle.jc_syntax.specs.declared.token.TokenKind.TheVariants.{Name, BraceL, BraceR}
 use Rattle.jc_syntax.specs.declared.tree.NamedEvent.{NamedEvent}
 use Rattle.jc_rules.specs.Syntax.{Cmd}
@@ -51,7 +52,7 @@ part_at names r = do
 
 -- at most n events, with the places of their names
 abbrev pub events_at : ℕ → Reading → Outcome (List NamedEvent)
-events_at n r = items_at (has_kind Name) any_event_at (λ s. TooManyEvents (place s)) n r
+events_at n r = items_at (has_kind Name) (any_event_at One) (λ s. TooManyEvents (place s)) n r
 
 unfoldable pub block_at : ℕ → Reading → Outcome (List NamedEvent)
 block_at n r = do

@@ -1,6 +1,7 @@
 -- What scenarios are written with: replicas in the order of the text, and events by the names of their replicas.
 use Rattle.std.specs.Prelude.{◌≡◌, ◌≢◌, ℕ, ◌≤◌, ◌⊎◌, List, [], ◌∷◌, ◌++◌, length, map, codes, false, All}
 use Rattle.std.specs.List.{AllPairs}
+use Rattle.jc_rules.specs.declared.version.Version.TheVariants.{One}
 use Rattle.jc_rules.specs.Syntax.{Cmd}
 use Rattle.jc_syntax.specs.declared.tree.NamedEvent.{NamedEvent}
 use Rattle.jc_parser.specs.Symbols.{Symbol, word, number, open_brace, close_brace, semicolon, Lexeme, symbols}
@@ -55,7 +56,7 @@ ArePartsSpelled (p ∷ ps) w =
 abbrev pub IsScheduleSpelled : List Call → List Symbol → Type 0
 IsScheduleSpelled calls w =
     ((calls ≡ []) × (w ≡ []))
-    ⊎ ((u : List Symbol) × IsListText IsCallSpelled calls u × (w ≡ schedule_head ++ (u ++ close_brace ∷ [])))
+    ⊎ ((u : List Symbol) × IsListText (IsCallSpelled One) calls u × (w ≡ schedule_head ++ (u ++ close_brace ∷ [])))
 
 abbrev pub IsTreeSpelled : Tree → List Symbol → Type 0
 IsTreeSpelled t w =
@@ -87,7 +88,7 @@ abbrev pub AreEvents : List NamedEvent → List Lexeme → Type 0
 AreEvents [] ls = ls ≡ []
 AreEvents (e ∷ es) ls =
     (u : List Lexeme)
-    × IsEvent e u
+    × IsEvent One e u
     × (((es ≡ []) × (ls ≡ u))
     ⊎ ((s : Lexeme) × (v : List Lexeme) × (s.symbol ≡ semicolon) × (ls ≡ u ++ s ∷ v) × AreEvents es v))
 

@@ -14,7 +14,7 @@ use crate::events::event;
 use crate::fault::ScenarioFault;
 use crate::parser::{MAX_EVENTS, front};
 use crate::scripts::closed_script;
-use jc_rules::Text;
+use jc_rules::{Text, Version};
 use jc_syntax::{Cmd, NamedEvent, Token, TokenKind, copy_script};
 use std::alloc::{AllocError, Global};
 
@@ -170,7 +170,7 @@ fn events(alloc: Global, cursor: &mut Cursor) -> Result<Vec<NamedEvent>, Scenari
                 place: cursor.place(),
             });
         }
-        let event = event(alloc, cursor)?;
+        let event = event(alloc, Version::One, cursor)?;
         events.push(event)?;
         if !cursor.begins(TokenKind::Semi) {
             return Ok(events);
