@@ -28,10 +28,9 @@ OneFault =
 abbrev pub ScenariosAreWellFormed : Type 0
 ScenariosAreWellFormed = (bytes : List ℕ) (s : Scenario) → IsScenario bytes s → IsWellFormed s
 
--- The canonical text of a well-formed scenario of version 1, within the limit for texts, is that scenario.
+-- The canonical text of a well-formed scenario, within the limit for texts, is that scenario.
 abbrev pub ScenariosReadBack : Type 0
-ScenariosReadBack =
-    (s : Scenario) → IsWellFormed s → s.version ≡ One → length (canon s) ≤ 8388608 → IsScenario (canon s) s
+ScenariosReadBack = (s : Scenario) → IsWellFormed s → length (canon s) ≤ 8388608 → IsScenario (canon s) s
 
 -- A scenario of version 1 is written as version 1 writes it: without given events.
 abbrev pub FirstVersionStays : Type 0

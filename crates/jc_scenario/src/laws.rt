@@ -51,7 +51,7 @@ pub fn scenarios_are_well_formed()
     sentences::legal_scenarios();
 }
 
-/// The canonical text of a well-formed scenario of version 1, within the limit for texts, is that scenario.
+/// The canonical text of a well-formed scenario, within the limit for texts, is that scenario.
 pub fn scenarios_read_back()
     ensures { ScenariosReadBack }
 {}
