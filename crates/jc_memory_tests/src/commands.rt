@@ -69,6 +69,20 @@ const ROWS: &[Row] = &[
         status: 3,
     },
     Row {
+        words: &["run", "-"],
+        file: "",
+        input: "jsoncrdt 2 replica a { doc := 1 } given { a.exec; a.exec }",
+        shown: "refused 44 GivenStuck at 2\nstuck 30 NoCommand a.exec\n",
+        status: 3,
+    },
+    Row {
+        words: &["debug", "file"],
+        file: "jsoncrdt 2 replica a {} given { a.exec }",
+        input: "where\n",
+        shown: "refused 44 GivenStuck at 1\nstuck 30 NoCommand a.exec\n",
+        status: 3,
+    },
+    Row {
         words: &["view", "-"],
         file: "",
         input: TWO,
@@ -86,7 +100,7 @@ const ROWS: &[Row] = &[
         words: &["check", "-"],
         file: "",
         input: WORDS,
-        shown: "replicas 2 commands 13 events 5\n",
+        shown: "replicas 2 commands 13 given 2 events 5\n",
         status: 0,
     },
     Row {

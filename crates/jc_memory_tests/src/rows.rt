@@ -26,9 +26,9 @@ pub const TOMBSTONE: &str =
 pub const DEEP: &str =
     "jsoncrdt 1 replica a { let x = doc; let x = x.get(\"a\"); let x = x.get(\"a\"); let x = x.get(\"a\"); let x = x.get(\"a\"); let x = x.get(\"a\"); let x = x.get(\"a\"); let x = x.get(\"a\"); let x = x.get(\"a\"); x := 1; doc := {}; let x = x.get(\"a\") } schedule { a.exec; a.exec; a.exec; a.exec; a.exec; a.exec; a.exec; a.exec; a.exec; a.exec; a.exec; a.exec }";
 
-/// Each kind of command, expression and value.
+/// Each kind of command, expression and value, and given events.
 pub const WORDS: &str =
-    "jsoncrdt 1\nreplica a {\n  let x = doc.get(\"k\\n\").idx(4294967295);\n  x := -1.5e3;\n  x.insertAfter(\"s\");\n  x.delete;\n  let y = x.keys;\n  let z = doc.values;\n  doc := true;\n  doc := false;\n  doc := null;\n  doc := {};\n  doc := [];\n  yield;\n}\nreplica b {\n  yield;\n}\nschedule {\n  a.exec;\n  a.send;\n  a.done;\n  b.recv(a);\n  b.apply(1, a);\n}\n";
+    "jsoncrdt 2\nreplica a {\n  let x = doc.get(\"k\\n\").idx(4294967295);\n  x := -1.5e3;\n  x.insertAfter(\"s\");\n  x.delete;\n  let y = x.keys;\n  let z = doc.values;\n  doc := true;\n  doc := false;\n  doc := null;\n  doc := {};\n  doc := [];\n  yield;\n}\nreplica b {\n  yield;\n}\ngiven {\n  b.send;\n  b.recv(a);\n}\nschedule {\n  a.exec;\n  a.send;\n  a.done;\n  b.recv(a);\n  b.apply(1, a);\n}\n";
 
 /// The scenario with this text, which is one.
 pub fn scene(rt: &impl Abort, alloc: Global, text: &str) -> Scenario

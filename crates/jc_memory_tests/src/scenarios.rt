@@ -36,7 +36,9 @@ struct Reading<'a> {
 impl<'a> Attempt for Reading<'a> {
     fn make(&mut self) -> Outcome {
         match read(self.alloc, self.text.as_bytes()) {
-            Ok(scenario) => done_if(scenario.schedule.as_slice() == SCHEDULE),
+            Ok(scenario) => done_if(
+                scenario.given.len() == 2 && scenario.schedule.as_slice() == SCHEDULE,
+            ),
             Err(ScenarioFault::Memory) => Outcome::Refused,
             Err(_) => Outcome::Wrong,
         }
@@ -80,7 +82,7 @@ fn made_of(alloc: Global, scenario: &Scenario, made: Made) -> Outcome
             Err(_) => Outcome::Refused,
         },
         Made::Copy => match scenario.copy() {
-            Ok(copy) => done_if(copy.schedule.as_slice() == SCHEDULE),
+            Ok(copy) => done_if(copy.given.len() == 2 && copy.schedule.as_slice() == SCHEDULE),
             Err(_) => Outcome::Refused,
         },
     }

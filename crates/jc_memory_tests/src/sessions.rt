@@ -95,6 +95,7 @@ impl<'a> Attempt for Talk<'a> {
         match session(self.alloc, self.scenario.as_bytes(), &mut lines, &mut out) {
             Ok(SessionEnd::Finished) => done_if(!self.scenario.is_empty() && out.is_whole()),
             Ok(SessionEnd::TextRefused(_)) => done_if(self.scenario.is_empty() && out.is_whole()),
+            Ok(SessionEnd::GivenStuck) => Outcome::Wrong,
             Err(SessionFault::Memory) => match out.flushed_to() {
                 Some(bytes) => refused_if(are_last(self.talk, bytes)),
                 None => Outcome::Wrong,

@@ -7,7 +7,7 @@ ghost use Rattle.jc_scenario.specs.Views.{scenario_view};
 ghost use Rattle.jc_lock.specs.Shows.{pass_number};
 ghost use Rattle.jc_runner.specs.Benches.{IsPassAt, IsPassFor, IsNewAt};
 
-use crate::nets::{DELETION, holds, scene};
+use crate::nets::{DELETION, STUCK_GIVEN, holds, scene};
 use jc_rules::Event;
 use jc_runner::{Bench, BenchFault, CloseRefused, MOST_LIMIT, Pass, Recorded, StepAnswer};
 use jc_scenario::Scenario;
@@ -179,19 +179,28 @@ fn a_bench_is_filled(rt: HostRuntime) -> Result<(), Fail> {
     Ok(())
 }
 
-fn is_too_large(alloc: Global, scenario: Scenario) -> bool
+// The number of the refusal, and which given event is stuck; zeros where there is none.
+fn refusal(alloc: Global, scenario: Scenario, limit: u64) -> (u8, u64)
     requires { IsWellFormed (scenario_view scenario) }
 {
-    matches!(
-        Bench::open(alloc, scenario, MOST_LIMIT + 1),
-        Err(BenchFault::LimitTooLarge)
-    )
+    match Bench::open(alloc, scenario, limit) {
+        Ok(_) => (0, 0),
+        Err(BenchFault::LimitTooLarge) => (46, 0),
+        Err(BenchFault::Given { at, stuck: _ }) => (44, at),
+        Err(BenchFault::Memory) => (255, 0),
+    }
 }
 
 #[test]
 fn limits_are_refused(rt: HostRuntime) -> Result<(), Fail> {
-    let scenario = scene(rt.alloc(), DELETION)?;
-    holds(&rt, is_too_large(rt.alloc(), scenario));
+    for (text, limit, want) in [
+        (DELETION, MOST_LIMIT + 1, (46, 0)),
+        (STUCK_GIVEN, MOST_LIMIT + 1, (46, 0)),
+        (STUCK_GIVEN, MOST_LIMIT, (44, 2)),
+    ] {
+        let scenario = scene(rt.alloc(), text)?;
+        holds(&rt, refusal(rt.alloc(), scenario, limit) == want);
+    }
     let (bench, _a, mut b) = opened(&rt, rt.alloc(), MOST_LIMIT)?;
     holds(&rt, bench.count(&mut b) == 0);
     Ok(())

@@ -65,9 +65,9 @@ fn of_networks(rt: HostRuntime) -> Result<(), Fail> {
 }
 
 /// A debugger before an event that is stuck.
-fn begun(alloc: Global) -> Result<Debugger, Fail> {
+fn begun(rt: &impl Abort, alloc: Global) -> Result<Debugger, Fail> {
     let scenario = scene(alloc, NOTHING)?;
-    Ok(Debugger::new(alloc, scenario)?)
+    Ok(Debugger::new(alloc, scenario).ok().expect(rt, "a debugger"))
 }
 
 fn are_moves_copied(debugger: &mut Debugger) -> Result<bool, AllocError> {
@@ -96,7 +96,7 @@ fn are_ends_copied(debugger: &mut Debugger) -> Result<bool, AllocError> {
 
 #[test]
 fn of_debuggers(rt: HostRuntime) -> Result<(), Fail> {
-    let mut debugger = begun(rt.alloc())?;
+    let mut debugger = begun(&rt, rt.alloc())?;
     holds(&rt, are_moves_copied(&mut debugger)?);
     holds(&rt, are_ends_copied(&mut debugger)?);
     Ok(())

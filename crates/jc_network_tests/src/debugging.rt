@@ -1,17 +1,17 @@
 //! Calls of the debugger that no session shows: by numbers, and at its limits.
 
-use crate::nets::{YIELD, holds};
+use crate::nets::{STUCK_GIVEN, YIELD, holds, scene};
 use jc_debug::{ActFault, BreakFault, Debugger, GotoFault};
+use jc_network::StartFault;
 use jc_rules::{Event, Rule};
-use jc_scenario::read;
 use std::alloc::Global;
 use std::process::Abort;
 use std::test::Fail;
 
 /// A debugger at the start of the scenario with this text.
-fn begun(alloc: Global, text: &str) -> Result<Debugger, Fail> {
-    let scenario = read(alloc, text.as_bytes())?;
-    Ok(Debugger::new(alloc, scenario)?)
+fn begun(rt: &impl Abort, alloc: Global, text: &str) -> Result<Debugger, Fail> {
+    let scenario = scene(alloc, text)?;
+    Ok(Debugger::new(alloc, scenario).ok().expect(rt, "a debugger"))
 }
 
 // ---- outcomes as numbers: 0, the number of a refusal, or 255 for want of memory
@@ -103,7 +103,7 @@ fn run_test(rt: &impl Abort, debugger: &mut Debugger, test: Test) {
 }
 
 fn in_debugger(rt: &impl Abort, alloc: Global, text: &str, test: Test) -> Result<(), Fail> {
-    let mut debugger = begun(alloc, text)?;
+    let mut debugger = begun(rt, alloc, text)?;
     run_test(rt, &mut debugger, test);
     Ok(())
 }
@@ -121,4 +121,15 @@ fn the_schedule_is_full(rt: HostRuntime) -> Result<(), Fail> {
 #[test]
 fn all_numbers_are_taken(rt: HostRuntime) -> Result<(), Fail> {
     in_debugger(&rt, rt.alloc(), YIELD, Test::NoNumberIsLeft)
+}
+
+/// There is no debugger where a given event is stuck.
+#[test]
+fn a_debugger_has_no_start(rt: HostRuntime) -> Result<(), Fail> {
+    let scenario = scene(rt.alloc(), STUCK_GIVEN)?;
+    match Debugger::new(rt.alloc(), scenario) {
+        Err(StartFault::Given { at, stuck }) => holds(&rt, at == 2 && stuck.number == 30),
+        _ => panic!(rt; "a start"),
+    }
+    Ok(())
 }

@@ -5,7 +5,7 @@ ghost use Rattle.jc_scenario.specs.Scenarios.{IsWellFormed};
 ghost use Rattle.jc_scenario.specs.Views.{scenario_view};
 
 use jc_dump::dump_replica;
-use jc_network::{Net, StepFault};
+use jc_network::{Net, StartFault, StepFault};
 use jc_rules::{Event, Id};
 use jc_scenario::{Scenario, ScenarioFault, read};
 use std::alloc::{AllocError, Global};
@@ -30,6 +30,14 @@ pub const PAST_THE_END: &str =
 
 /// A replica that only yields.
 pub const YIELD: &str = "jsoncrdt 1 replica a { yield }";
+
+/// The scripts of the deletion, in version 2.
+pub const DELETION_IN_TWO: &str =
+    "jsoncrdt 2 replica a { doc.get(\"m\") := {}; yield; doc.get(\"m\").delete; yield } replica b { yield; doc.get(\"m\").get(\"k\") := 1; yield }";
+
+/// A given event is stuck: the second, since the replica has no command then.
+pub const STUCK_GIVEN: &str =
+    "jsoncrdt 2 replica a { doc := 1 } replica b {} given { a.exec; a.exec; b.exec }";
 
 /// Commands of a replica alone.
 pub const EXECS: &[Event] = &[Event::Exec(0); 515];
@@ -110,30 +118,36 @@ pub fn make(rt: &impl Abort, net: &mut Net, events: &[Event]) {
     }
 }
 
-// The network to which the events lead from the scenario's start. None of them is refused.
-fn led_to(
-    rt: &impl Abort,
-    alloc: Global,
-    scenario: &Scenario,
-    events: &[Event],
-) -> Result<Net, AllocError>
+// The network to which the events lead from the scenario's start, which there is. None of them is refused.
+fn led_to(rt: &impl Abort, alloc: Global, scenario: &Scenario, events: &[Event]) -> Net
     requires { IsWellFormed (scenario_view scenario.now) }
 {
-    let mut net = Net::start(alloc, scenario)?;
+    let mut net = Net::start(alloc, scenario).ok().expect(rt, "a start");
     make(rt, &mut net, events);
-    Ok(net)
+    net
 }
 
 /// The network after the events, in place of the scenario's schedule.
 pub fn after(rt: &impl Abort, alloc: Global, text: &str, events: &[Event]) -> Result<Net, Fail> {
     let scenario = scene(alloc, text)?;
-    Ok(led_to(rt, alloc, &scenario, events)?)
+    Ok(led_to(rt, alloc, &scenario, events))
 }
 
 /// The network after the scenario's own schedule.
 pub fn run(rt: &impl Abort, alloc: Global, text: &str) -> Result<Net, Fail> {
     let scenario = scene(alloc, text)?;
-    Ok(led_to(rt, alloc, &scenario, scenario.schedule.as_slice())?)
+    Ok(led_to(rt, alloc, &scenario, scenario.schedule.as_slice()))
+}
+
+/// Which given event of the scenario is stuck, and the number of its refusal; zeros where there is a start.
+pub fn stuck_given(alloc: Global, scenario: &Scenario) -> (u64, u8)
+    requires { IsWellFormed (scenario_view scenario.now) }
+{
+    match Net::start(alloc, scenario) {
+        Ok(_) => (0, 0),
+        Err(StartFault::Given { at, stuck }) => (at, stuck.number),
+        Err(StartFault::Memory) => (0, 255),
+    }
 }
 
 /// The dump lines of all replicas.

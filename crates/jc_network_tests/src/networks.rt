@@ -1,7 +1,8 @@
 //! Calls of networks: replicas that aren't there, networks that are full, what was applied, and what can be made.
 
 use crate::nets::{
-    DELETION, FIRST, INSERTS, MEETING, SECOND_OF_A, SECOND_OF_B, YIELD, holds, number_of,
+    DELETION, DELETION_IN_TWO, FIRST, INSERTS, MEETING, SECOND_OF_A, SECOND_OF_B, STUCK_GIVEN,
+    YIELD, holds, number_of, scene, stuck_given,
 };
 use crate::turns::{Turn, in_network};
 use jc_dump::dump_replica;
@@ -79,6 +80,37 @@ fn full(rt: HostRuntime) -> Result<(), Fail> {
     in_network(&rt, rt.alloc(), YIELD, &[], &Turn::Full)
 }
 
+/// A replica that yields, and has sent 100,000 times before its start.
+fn given_sends(alloc: Global) -> Result<String, AllocError> {
+    let mut text = String::from_str(alloc, "jsoncrdt 2 replica a { yield } given { ")?;
+    for _ in 0..100_000 {
+        text.push_str("a.send;")?;
+    }
+    text.push_str(" }")?;
+    Ok(text)
+}
+
+/// No given event is counted, nor taken back.
+pub fn counts_none_given(rt: &impl Abort, net: &mut Net) {
+    holds(rt, net.steps() == 0 && !net.undo());
+    takes_100_000(rt, net);
+    holds(rt, net.version() == Version::Two);
+}
+
+#[test]
+fn given_events_are_not_counted(rt: HostRuntime) -> Result<(), Fail> {
+    let text = given_sends(rt.alloc())?;
+    in_network(&rt, rt.alloc(), text.as_str(), &[], &Turn::NoneGivenIsCounted)
+}
+
+/// The first given event that is stuck is told by its number from 1.
+#[test]
+fn a_given_event_is_stuck(rt: HostRuntime) -> Result<(), Fail> {
+    let scenario = scene(rt.alloc(), STUCK_GIVEN)?;
+    holds(&rt, stuck_given(rt.alloc(), &scenario) == (2, 30));
+    Ok(())
+}
+
 /// In a network of version 1 each take of replicas that are there is refused for the version, whether a yield comes next
 /// or a command, whether the operation is offered or not; and nothing changes.
 pub fn takes_are_refused(rt: &impl Abort, net: &mut Net) {
@@ -109,11 +141,13 @@ const SECOND: Id = Id {
 };
 
 /// The events of both replicas with each other and with some identifiers, in the order in which they are told.
-const EVENTS: [Event; 20] = [
+const EVENTS: [Event; 24] = [
     Event::Exec(0),
     Event::Send(0),
     Event::Recv(0, 0),
     Event::Recv(0, 1),
+    Event::Take(0, 0, FIRST),
+    Event::Take(0, 0, SECOND_OF_A),
     Event::Take(0, 1, SECOND_OF_B),
     Event::Apply(0, FIRST),
     Event::Apply(0, SECOND),
@@ -125,6 +159,8 @@ const EVENTS: [Event; 20] = [
     Event::Recv(1, 0),
     Event::Recv(1, 1),
     Event::Take(1, 0, FIRST),
+    Event::Take(1, 0, SECOND_OF_A),
+    Event::Take(1, 1, SECOND_OF_B),
     Event::Apply(1, FIRST),
     Event::Apply(1, SECOND),
     Event::Apply(1, SECOND_OF_A),
@@ -167,5 +203,6 @@ pub fn all_is_told(rt: &impl Abort, net: &mut Net) {
 #[test]
 fn told_is_made(rt: HostRuntime) -> Result<(), Fail> {
     in_network(&rt, rt.alloc(), DELETION, MEETING, &Turn::ToldIsMade)?;
-    in_network(&rt, rt.alloc(), INSERTS, MEETING, &Turn::ToldIsMade)
+    in_network(&rt, rt.alloc(), INSERTS, MEETING, &Turn::ToldIsMade)?;
+    in_network(&rt, rt.alloc(), DELETION_IN_TWO, MEETING, &Turn::ToldIsMade)
 }

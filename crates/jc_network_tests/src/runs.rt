@@ -6,7 +6,7 @@ ghost use Rattle.jc_scenario.specs.Views.{scenario_view};
 ghost use Rattle.jc_runner.specs.Laws.{with_schedule};
 
 use crate::gates::{Open, Own, Signal, open_gates};
-use crate::nets::{DELETION, INSERTS, PAST_THE_END, dumps, holds, scene};
+use crate::nets::{DELETION, INSERTS, PAST_THE_END, STUCK_GIVEN, dumps, holds, scene};
 use crate::turns::{Turn, in_run};
 use jc_network::Net;
 use jc_rules::Event;
@@ -72,11 +72,8 @@ fn made_and_ended(rt: &impl Abort, report: &Report, want: &[(Option<u64>, Ends)]
 fn text_of(alloc: Global, start: Scenario, schedule: Vec<Event>) -> Result<String, AllocError>
     requires { IsWellFormed (with_schedule (scenario_view start) schedule.items) }
 {
-    let recorded = Scenario {
-        names: start.names,
-        scripts: start.scripts,
-        schedule,
-    };
+    let mut recorded = start;
+    recorded.schedule = schedule;
     print(alloc, &recorded)
 }
 
@@ -283,7 +280,18 @@ type Row<'a> = (&'a str, u64, &'a [(Option<u64>, Ends)], &'a [&'a [Event]]);
 const ONE_STUCK: &str =
     "jsoncrdt 1 replica a { let s = doc.keys } replica b { doc.get(\"a\") := 1 }";
 
-const ROWS: [Row; 4] = [
+/// The second replica has taken the operation of the first one before its start.
+const GIVEN: &str =
+    "jsoncrdt 2 replica a { doc := 1; yield } replica b { yield } given { a.exec; a.send; b.take(a, 1, a) }";
+
+const ROWS: [Row; 5] = [
+    // the first one sends, receives and ends; the second one applies as well
+    (
+        GIVEN,
+        100,
+        &[(Some(3), Ends::Finished), (Some(4), Ends::Finished)],
+        &[],
+    ),
     (PAST_THE_END, 100, &[(Some(5), Ends::Stuck(26))], &[]),
     // none makes an event
     (
@@ -418,13 +426,16 @@ fn a_schedule_is_filled(rt: HostRuntime) -> Result<(), Fail> {
 fn refusal<R: Threads + Wait + Sync>(
     rt: &R,
     alloc: Global,
+    text: &str,
     gates: usize,
     limit: u64,
 ) -> Result<u8, Fail> {
     let gates: Vec<Open> = open_gates(alloc, gates)?;
-    let scenario = scene(alloc, DELETION)?;
+    let scenario = scene(alloc, text)?;
     match run_threads(rt, alloc, scenario, gates, limit) {
         Ok(_) => Ok(0),
+        Err(RunFault::Given { at: 2, stuck }) if stuck.number == 30 => Ok(44),
+        Err(RunFault::Given { .. }) => Ok(254),
         Err(RunFault::GateCount) => Ok(45),
         Err(RunFault::LimitTooLarge) => Ok(46),
         Err(RunFault::NoThread) => Ok(47),
@@ -434,13 +445,19 @@ fn refusal<R: Threads + Wait + Sync>(
 
 #[test]
 fn runs_are_refused(rt: HostRuntime) -> Result<(), Fail> {
-    for (gates, limit, number) in [
-        (1, 100, 45),
-        (3, 100_001, 45),
-        (2, 100_001, 46),
-        (2, 100_000, 0),
+    for (text, gates, limit, number) in [
+        (DELETION, 1, 100, 45),
+        (DELETION, 3, 100_001, 45),
+        (DELETION, 2, 100_001, 46),
+        (DELETION, 2, 100_000, 0),
+        (STUCK_GIVEN, 1, 100_001, 45),
+        (STUCK_GIVEN, 2, 100_001, 46),
+        (STUCK_GIVEN, 2, 100_000, 44),
     ] {
-        holds(&rt, refusal(&rt, rt.alloc(), gates, limit)? == number);
+        holds(
+            &rt,
+            refusal(&rt, rt.alloc(), text, gates, limit)? == number,
+        );
     }
     Ok(())
 }

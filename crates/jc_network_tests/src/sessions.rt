@@ -25,6 +25,7 @@ pub fn ends<R: AllocGlobal + Abort, S: Source, K: Sink>(
     let end = match session(rt.alloc(), scenario.as_bytes(), lines, out) {
         Ok(SessionEnd::Finished) => 0,
         Ok(SessionEnd::TextRefused(fault)) => fault.number().unwrap_or(255),
+        Ok(SessionEnd::GivenStuck) => 44,
         Err(SessionFault::ReadFailed) => 55,
         Err(SessionFault::WriteFailed) => 56,
         Err(SessionFault::TooManyLines) => 57,

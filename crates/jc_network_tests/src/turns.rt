@@ -5,7 +5,9 @@ use crate::documents::documents_are_shown;
 use crate::hundred::have_all;
 use crate::meanings::{have_run, is_meant_as};
 use crate::nets::{after, has_dumps, run};
-use crate::networks::{all_is_told, missing_replicas, takes_100_000, takes_are_refused};
+use crate::networks::{
+    all_is_told, counts_none_given, missing_replicas, takes_100_000, takes_are_refused,
+};
 use crate::undoing::there_and_back;
 use jc_network::Net;
 use jc_rules::Event;
@@ -21,6 +23,7 @@ pub enum Turn<'a> {
     MissingReplicas,
     TakesAreRefused,
     Full,
+    NoneGivenIsCounted,
     ToldIsMade,
     Documents,
     /// A replica chooses in a phase: the event, and its phase after it.
@@ -41,6 +44,7 @@ fn take(rt: &impl Abort, alloc: Global, net: &mut Net, turn: &Turn) -> Result<()
         Turn::MissingReplicas => missing_replicas(rt, alloc, net),
         Turn::TakesAreRefused => takes_are_refused(rt, net),
         Turn::Full => takes_100_000(rt, net),
+        Turn::NoneGivenIsCounted => counts_none_given(rt, net),
         Turn::ToldIsMade => all_is_told(rt, net),
         Turn::Documents => documents_are_shown(rt, alloc, net),
         Turn::Choice(p, phase, want) => chooses(rt, net, *p, *phase, want),

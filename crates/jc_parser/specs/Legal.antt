@@ -78,4 +78,4 @@ IsLegalPart p = IsName p.name × All IsLegalCmd p.script
 
 -- names, numbers and strings of the replicas, and names in the events
 abbrev pub IsLegalTree : Tree → Type 0
-IsLegalTree t = All IsLegalPart t.parts × All IsLegalCall t.calls
+IsLegalTree t = All IsLegalPart t.parts × All IsLegalCall t.given × All IsLegalCall t.calls

@@ -1,6 +1,7 @@
 -- What is parsed is legal: within the limits, with names, numbers and strings such as the tokens of a UTF-8 text have.
 use Rattle.std.specs.Prelude.{ℕ, List, All}
 use Rattle.std.specs.Str.{IsUtf8}
+use Rattle.jc_rules.specs.declared.version.Version.{Version}
 use Rattle.jc_syntax.specs.declared.token.Token.{Token}
 use Rattle.jc_syntax.specs.declared.tree.NamedEvent.{NamedEvent}
 use Rattle.jc_syntax.specs.Lexemes.{IsTokenOf}
@@ -30,9 +31,9 @@ LegalScripts =
 
 abbrev pub LegalEvents : Type 0
 LegalEvents =
-    (text : List ℕ) (e : NamedEvent)
+    (v : Version) (text : List ℕ) (e : NamedEvent)
     → IsUtf8 text
-    → IsEventOf text e
+    → IsEventOf v text e
     → IsCallWellFormed (call_of e) × IsLegalCall (call_of e)
 
 -- ---- among the tokens of a text
@@ -47,10 +48,10 @@ LegalScriptsAt =
 
 abbrev pub LegalEventsAt : Type 0
 LegalEventsAt =
-    (text : List ℕ) (tokens : List Token) (from : ℕ) (e : NamedEvent) (next : ℕ)
+    (v : Version) (text : List ℕ) (tokens : List Token) (from : ℕ) (e : NamedEvent) (next : ℕ)
     → IsUtf8 text
     → All (IsTokenOf text) tokens
-    → IsEventAt text tokens from e next
+    → IsEventAt v text tokens from e next
     → IsCallWellFormed (call_of e) × IsLegalCall (call_of e)
 
 abbrev pub LegalScenarios : Type 0

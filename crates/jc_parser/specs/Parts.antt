@@ -1,6 +1,8 @@
 -- The parts of a scenario, read from left to right.
 use Rattle.std.specs.Prelude.{ℕ, zero, suc, List, [], ◌∷◌, Bool, if◌then◌else◌, codes, Result, Ok, Err}
 use Rattle.jc_syntax.specs.declared.token.TokenKind.TheVariants.{Number, Str, ParenL, ParenR, Semi}
+use Rattle.jc_rules.specs.declared.version.Version.{Version}
+use Rattle.jc_rules.specs.declared.version.Version.TheVariants.{One, Two}
 use Rattle.jc_rules.specs.declared.value.Value.{Value}
 use Rattle.jc_rules.specs.declared.value.Value.TheVariants as values
 use Rattle.jc_parser.specs.declared.fault.ScenarioFault.{ScenarioFault}
@@ -78,8 +80,17 @@ ended x = if is_at_end x.1 then Ok x.0 else Err (stuck x.1)
 abbrev pub skip_or : (ℕ → ScenarioFault) → (Symbol → Bool) → Reading → Outcome (Unit {0})
 skip_or fault p r = if begins p r then skip p r else Err (fault (place r))
 
-unfoldable pub front_at : Reading → Outcome (Unit {0})
+-- the number of a version, which has a fault of its own
+unfoldable pub version_at : Reading → Outcome Version
+version_at r =
+    if begins (is_number (codes "2")) r
+    then (skip (is_number (codes "2")) r >>= λ a. Ok (Two, a.1))
+    else (skip_or (λ at. NoHeader at) (is_number (codes "1")) r >>= λ a. Ok (One, a.1))
+
+-- the header and the word before the first replica
+unfoldable pub front_at : Reading → Outcome Version
 front_at r = do
   a ← skip_or (λ at. NoHeader at) (is_word (codes "jsoncrdt")) r
-  b ← skip_or (λ at. NoHeader at) (is_number (codes "1")) a.1
-  skip_or (λ at. NoReplica at) (is_word (codes "replica")) b.1
+  v ← version_at a.1
+  b ← skip_or (λ at. NoReplica at) (is_word (codes "replica")) v.1
+  Ok (v.0, b.1)

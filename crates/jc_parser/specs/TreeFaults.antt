@@ -2,6 +2,8 @@
 -- another question: here they are names.
 use Rattle.std.specs.Prelude.{◌≡◌, ◌≢◌, ℕ, ◌<◌, ◌⊎◌, List, [], ◌∷◌, ◌++◌, length, map, codes, true, false, All}
 use Rattle.std.specs.List.{Contains}
+use Rattle.jc_rules.specs.declared.version.Version.{Version}
+use Rattle.jc_rules.specs.declared.version.Version.TheVariants.{One, Two}
 use Rattle.jc_parser.specs.declared.fault.ScenarioFault.{ScenarioFault}
 use Rattle.jc_parser.specs.declared.fault.ScenarioFault.TheVariants.{ReservedName, NoHeader, SameName, NoReplica, TooManyReplicas, TooManyEvents}
 use Rattle.jc_parser.specs.Symbols.{Symbol, word, dot, Lexeme, symbols}
@@ -10,7 +12,7 @@ use Rattle.jc_parser.specs.Words.{is_reserved, IsStartText}
 use Rattle.jc_parser.specs.Scripts.{IsScriptExcess}
 use Rattle.jc_parser.specs.Calls.{Call, IsCallSpelled, IsCallWellFormed, IsCallExcess}
 use Rattle.jc_parser.specs.Sentences.{Begins, FitsNothing}
-use Rattle.jc_parser.specs.Trees.{Part, name_of, header, part_head, schedule_head, ArePartsSpelled, ArePartsWithin, IsTreeSpelled, IsTreeWithin}
+use Rattle.jc_parser.specs.Trees.{Part, name_of, header, part_head, given_head, schedule_head, ArePartsSpelled, ArePartsWithin, IsGivenSpelled, IsTreeSpelled, IsTreeWithin}
 
 -- ---- what fits nothing
 
@@ -22,11 +24,11 @@ misfit_fault (a ∷ b ∷ []) stop after = NoReplica (place_at stop after)
 misfit_fault (a ∷ b ∷ c ∷ xs) stop after = stuck_at stop after
 
 -- the header and replicas within the limits
-pub record AreDone (ps : List Part) (w : List Symbol) : Type 0 where
+pub record AreDone (v : Version) (ps : List Part) (w : List Symbol) : Type 0 where
   pub parts : List Symbol
   pub spelled : ArePartsSpelled ps parts
   pub within : ArePartsWithin ps
-  pub is : w ≡ header ++ parts
+  pub is : w ≡ header v ++ parts
 
 -- A scenario begins so, and no limit is passed, but perhaps by the last symbol: whether a dot is one too many, or the
 -- word before a replica, only what follows it says.
@@ -37,7 +39,7 @@ pub record IsBegun (xs : List Symbol) : Type 0 where
   pub rest :
       (xs ≡ kept)
       ⊎ ((xs ≡ kept ++ dot ∷ [])
-      ⊎ ((ps : List Part) × AreDone ps kept × (xs ≡ kept ++ word (codes "replica") ∷ [])))
+      ⊎ ((v : Version) × (ps : List Part) × AreDone v ps kept × (xs ≡ kept ++ word (codes "replica") ∷ [])))
 
 -- after these lexemes, which begin a scenario, comes what fits nothing
 pub record IsOutOfPlace (fault : ScenarioFault) (stop : ℕ) (before after : List Lexeme) : Type 0 where
@@ -57,9 +59,10 @@ IsNameFault ps name place fault =
 
 -- the name of one replica more comes next
 pub record IsNameExcess (fault : ScenarioFault) (xs : List Symbol) (next : Lexeme) : Type 0 where
+  pub version : Version
   pub parts : List Part
   pub before : List Symbol
-  pub done : AreDone parts before
+  pub done : AreDone version parts before
   pub is : xs ≡ before ++ word (codes "replica") ∷ []
   pub name : List ℕ
   pub next_is : next.symbol ≡ word name
@@ -67,9 +70,10 @@ pub record IsNameExcess (fault : ScenarioFault) (xs : List Symbol) (next : Lexem
 
 -- too much in the script of one replica more
 pub record IsPartExcess (fault : ScenarioFault) (xs : List Symbol) (after : List Lexeme) : Type 0 where
+  pub version : Version
   pub parts : List Part
   pub before : List Symbol
-  pub done : AreDone parts before
+  pub done : AreDone version parts before
   pub room : length parts < 64
   pub name : List ℕ
   pub free : is_reserved name ≡ false
@@ -78,9 +82,9 @@ pub record IsPartExcess (fault : ScenarioFault) (xs : List Symbol) (after : List
   pub is : xs ≡ before ++ (part_head name ++ script)
   pub excess : IsScriptExcess fault script after
 
--- after so many events, one too many begins, or the counter of an event is too large
-abbrev pub IsEventExcess : ℕ → ScenarioFault → List Symbol → List Lexeme → Type 0
-IsEventExcess n fault xs after =
+-- after so many events of a block, one too many begins, or the counter of an event is too large
+abbrev pub IsEventExcess : Version → ℕ → ScenarioFault → List Symbol → List Lexeme → Type 0
+IsEventExcess v n fault xs after =
     ((n ≡ 100000)
     × (xs ≡ [])
     × (next : Lexeme)
@@ -89,26 +93,48 @@ IsEventExcess n fault xs after =
     × (name : List ℕ)
     × (next.symbol ≡ word name)
     × (fault ≡ TooManyEvents next.place))
-    ⊎ ((n < 100000) × IsCallExcess fault xs after)
+    ⊎ ((n < 100000) × IsCallExcess v fault xs after)
 
--- too much in the schedule
-pub record IsScheduleExcess (fault : ScenarioFault) (xs : List Symbol) (after : List Lexeme) : Type 0 where
-  pub parts : List Part
-  pub before : List Symbol
-  pub done : AreDone parts before
-  pub some : parts ≢ []
+-- too much in a block with this head
+pub record IsBlockExcess (head : List Symbol) (v : Version) (fault : ScenarioFault) (xs : List Symbol) (after : List Lexeme) : Type 0 where
   pub calls : List Call
   pub listed : List Symbol
-  pub spelled : IsStartText IsCallSpelled calls listed
+  pub spelled : IsStartText (IsCallSpelled v) calls listed
   pub small : All IsCallWellFormed calls
   pub event : List Symbol
-  pub is : xs ≡ before ++ (schedule_head ++ (listed ++ event))
-  pub excess : IsEventExcess (length calls) fault event after
+  pub is : xs ≡ head ++ (listed ++ event)
+  pub excess : IsEventExcess v (length calls) fault event after
+
+abbrev pub IsGivenExcess : Version → ScenarioFault → List Symbol → List Lexeme → Type 0
+IsGivenExcess One fault xs after = ⊥
+IsGivenExcess Two fault xs after = IsBlockExcess given_head Two fault xs after
+
+-- given events within the limits, and too much in the schedule behind them
+pub record IsScheduleExcess (v : Version) (fault : ScenarioFault) (xs : List Symbol) (after : List Lexeme) : Type 0 where
+  pub given : List Call
+  pub before : List Symbol
+  pub spelled : IsGivenSpelled v given before
+  pub few : length given ≤ 100000
+  pub small : All IsCallWellFormed given
+  pub schedule : List Symbol
+  pub is : xs ≡ before ++ schedule
+  pub excess : IsBlockExcess schedule_head v fault schedule after
+
+-- behind some replicas, too much in the given events or in the schedule
+pub record IsEventsExcess (fault : ScenarioFault) (xs : List Symbol) (after : List Lexeme) : Type 0 where
+  pub version : Version
+  pub parts : List Part
+  pub before : List Symbol
+  pub done : AreDone version parts before
+  pub some : parts ≢ []
+  pub blocks : List Symbol
+  pub is : xs ≡ before ++ blocks
+  pub excess : IsGivenExcess version fault blocks after ⊎ IsScheduleExcess version fault blocks after
 
 abbrev pub IsExcess : ScenarioFault → List Symbol → List Lexeme → Type 0
 IsExcess fault xs after =
     ((next : Lexeme) × (rest : List Lexeme) × (after ≡ next ∷ rest) × IsNameExcess fault xs next)
-    ⊎ (IsPartExcess fault xs after ⊎ IsScheduleExcess fault xs after)
+    ⊎ (IsPartExcess fault xs after ⊎ IsEventsExcess fault xs after)
 
 -- ---- the fault
 

@@ -2,6 +2,8 @@
 use Rattle.std.specs.Prelude.{ℕ, zero, suc, List, [], ◌∷◌, ◌++◌, Bool, false, if◌then◌else◌, codes, Result, Ok, Err}
 use Rattle.std.specs.Str.{bytes_eq}
 use Rattle.std.specs.List.{list_any}
+use Rattle.jc_rules.specs.declared.version.Version.{Version}
+use Rattle.jc_rules.specs.declared.version.Version.TheVariants.{One, Two}
 use Rattle.jc_syntax.specs.declared.token.TokenKind.TheVariants.{Name, BraceL, BraceR}
 use Rattle.jc_syntax.specs.declared.tree.NamedEvent.{NamedEvent}
 use Rattle.jc_rules.specs.Syntax.{Cmd}
@@ -47,31 +49,45 @@ part_at names r = do
   s ← body_at n.1
   Ok (record { name = n.0; script = s.0 }, s.1)
 
--- ---- the schedule
+-- ---- blocks of events
 
 -- at most n events, with the places of their names
-abbrev pub events_at : ℕ → Reading → Outcome (List NamedEvent)
-events_at n r = items_at (has_kind Name) any_event_at (λ s. TooManyEvents (place s)) n r
+abbrev pub events_at : Version → ℕ → Reading → Outcome (List NamedEvent)
+events_at v n r = items_at (has_kind Name) (any_event_at v) (λ s. TooManyEvents (place s)) n r
 
-unfoldable pub block_at : ℕ → Reading → Outcome (List NamedEvent)
-block_at n r = do
-  a ← skip (is_word (codes "schedule")) r
+-- a block with this word
+unfoldable pub block_at : List ℕ → Version → ℕ → Reading → Outcome (List NamedEvent)
+block_at name v n r = do
+  a ← skip (is_word name) r
   b ← skip (has_kind BraceL) a.1
-  es ← events_at n b.1
+  es ← events_at v n b.1
   c ← skip (has_kind BraceR) es.1
   Ok (es.0, c.1)
 
-unfoldable pub schedule_at : ℕ → Reading → Outcome (List NamedEvent)
-schedule_at n r = if begins (is_word (codes "schedule")) r then block_at n r else Ok ([], r)
+-- a block with this word, or nothing
+unfoldable pub any_block_at : List ℕ → Version → ℕ → Reading → Outcome (List NamedEvent)
+any_block_at name v n r = if begins (is_word name) r then block_at name v n r else Ok ([], r)
+
+-- the given events, which version 2 alone has
+unfoldable pub given_at : Version → ℕ → Reading → Outcome (List NamedEvent)
+given_at One n r = Ok ([], r)
+given_at Two n r = any_block_at (codes "given") Two n r
 
 -- ---- scenarios
 
-abbrev pub tree : List Part → List NamedEvent → NamedTree
-tree parts events = record { parts = parts; events = events }
+abbrev pub tree : Version → List Part → List NamedEvent → List NamedEvent → NamedTree
+tree v parts given events = record { version = v; parts = parts; given = given; events = events }
+
+-- the given events and the schedule, behind the replicas
+unfoldable pub blocks_at : Version → ℕ → Reading → Outcome NamedTree
+blocks_at v n r = do
+  g ← given_at v n r
+  s ← any_block_at (codes "schedule") v n g.1
+  Ok (tree v [] g.0 s.0, s.1)
 
 -- a replica before the others
 abbrev pub with_part : Part → NamedTree → NamedTree
-with_part p t = tree (p ∷ t.parts) t.events
+with_part p t = tree t.version (p ∷ t.parts) t.given t.events
 
 -- the fault of one replica more than there may be, after its word
 abbrev pub crowd_at : List (List ℕ) → Reading → ScenarioFault
@@ -80,29 +96,29 @@ crowd_at names r =
     else (if begins (known names) r then SameName (place r)
     else (if begins (has_kind Name) r then TooManyReplicas (place r) else stuck r))
 
--- at most n replicas more, and at most m events
-unfoldable pub tail_at : ℕ → ℕ → List (List ℕ) → Reading → Outcome NamedTree
-tail_at m zero names r =
+-- at most n replicas more, and at most m events in each block
+unfoldable pub tail_at : Version → ℕ → ℕ → List (List ℕ) → Reading → Outcome NamedTree
+tail_at v m zero names r =
     if begins (is_word (codes "replica")) r
     then (skip (is_word (codes "replica")) r >>= λ a. Err (crowd_at names a.1))
-    else (schedule_at m r >>= λ es. Ok (tree [] es.0, es.1))
-tail_at m (suc n) names r =
+    else blocks_at v m r
+tail_at v m (suc n) names r =
     if begins (is_word (codes "replica")) r
     then (skip (is_word (codes "replica")) r >>= λ a. part_at names a.1
-    >>= λ p. tail_at m n (names ++ p.0.name ∷ []) p.1
+    >>= λ p. tail_at v m n (names ++ p.0.name ∷ []) p.1
     >>= λ t. Ok (with_part p.0 t.0, t.1))
-    else (schedule_at m r >>= λ es. Ok (tree [] es.0, es.1))
+    else blocks_at v m r
 
 -- a scenario from the name of its first replica on
-unfoldable pub rest_at : ℕ → ℕ → Reading → Outcome NamedTree
-rest_at m n r = do
+unfoldable pub rest_at : Version → ℕ → ℕ → Reading → Outcome NamedTree
+rest_at v m n r = do
   p ← part_at [] r
-  t ← tail_at m n (p.0.name ∷ []) p.1
+  t ← tail_at v m n (p.0.name ∷ []) p.1
   Ok (with_part p.0 t.0, t.1)
 
 -- a scenario and nothing more
 unfoldable pub tree_at : Reading → Result NamedTree ScenarioFault
 tree_at r = do
   a ← front_at r
-  t ← rest_at 100000 63 a.1
+  t ← rest_at a.0 100000 63 a.1
   ended t

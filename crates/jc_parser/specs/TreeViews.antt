@@ -9,7 +9,8 @@ abbrev pub part_view : replicas.NamedReplica → Part
 part_view p = record { name = p.name; script = map cmd_of p.script.items }
 
 abbrev pub tree_view : scenarios.NamedScenario → NamedTree
-tree_view t = record { parts = map part_view t.replicas.items; events = t.events.items }
+tree_view t =
+    record { version = t.version; parts = map part_view t.replicas.items; given = t.given.items; events = t.events.items }
 
 -- the names of these replicas
 abbrev pub names_of : List replicas.NamedReplica → List (List ℕ)

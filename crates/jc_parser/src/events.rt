@@ -1,17 +1,18 @@
-//! Events of the whole language.
+//! Events of the whole language: version 2 has one more, `take`.
 
 ghost use Rattle.std.specs.Prelude.{◌≡◌, ◌≢◌, ◌≤◌, IfOk, IfErr, All, length};
 ghost use Rattle.jc_syntax.specs.Lexemes.{IsTokenOf};
 ghost use Rattle.jc_parser.specs.Symbols.{lexemes};
 ghost use Rattle.jc_parser.specs.Reading.{Gives, reading};
 ghost use Rattle.jc_parser.specs.Calls.{IsEvent, IsEventOf, IsEventFault, IsAhead, HasNoEvent, IsEventAt, IsEventFaultAt, IsCallSpelled, IsCallWellFormed, IsCallExcess};
-ghost use Rattle.jc_parser.specs.CallParts.{last_name_at, sender_at, application_at, action_at, any_event_at, only_event_at};
+ghost use Rattle.jc_parser.specs.CallParts.{last_name_at, sender_at, last_identifier_at, taking_at, application_at, common_action_at, action_at, any_event_at, only_event_at};
 ghost use Rattle.jc_parser.specs.Sentences.{IsStopped};
 ghost use Rattle.jc_parser.specs.Faults.{from_sentence, IsOfSentence};
 
 use crate::cursor::Cursor;
 use crate::fault::ScenarioFault;
 use crate::parse_fault::{ParseFault, of_sentence};
+use jc_rules::Version;
 use jc_syntax::{Named, NamedEvent, Token, TokenKind, lex};
 use std::alloc::Global;
 
@@ -35,6 +36,35 @@ fn sender(alloc: Global, cursor: &mut Cursor) -> Result<Named, ScenarioFault>
     last_name(alloc, cursor)
 }
 
+/// An identifier and the closing parenthesis.
+#[tactic(auto, unfolding(crate::specs::CallParts::last_identifier_at))]
+fn last_identifier(alloc: Global, cursor: &mut Cursor) -> Result<(u32, Named), ScenarioFault>
+    ensures { Gives (λ i. (i, cursor.new)) result (last_identifier_at cursor.old) }
+{
+    let counter = cursor.index()?;
+    cursor.mark(TokenKind::Comma)?;
+    let author = last_name(alloc, cursor)?;
+    Ok((counter, author))
+}
+
+/// The event `take` of a replica, from its word on.
+#[tactic(auto, unfolding(crate::specs::CallParts::taking_at))]
+fn taking(alloc: Global, cursor: &mut Cursor, replica: Named) -> Result<NamedEvent, ScenarioFault>
+    ensures { Gives (λ e. (e, cursor.new)) result (taking_at replica cursor.old) }
+{
+    cursor.word("take")?;
+    cursor.mark(TokenKind::ParenL)?;
+    let sender = cursor.name(alloc)?;
+    cursor.mark(TokenKind::Comma)?;
+    let (counter, author) = last_identifier(alloc, cursor)?;
+    Ok(NamedEvent::Take {
+        replica,
+        sender,
+        counter,
+        author,
+    })
+}
+
 /// The event `apply` of a replica, from its word on.
 #[tactic(auto, unfolding(crate::specs::CallParts::application_at))]
 fn application(
@@ -46,9 +76,7 @@ fn application(
 {
     cursor.word("apply")?;
     cursor.mark(TokenKind::ParenL)?;
-    let counter = cursor.index()?;
-    cursor.mark(TokenKind::Comma)?;
-    let author = last_name(alloc, cursor)?;
+    let (counter, author) = last_identifier(alloc, cursor)?;
     Ok(NamedEvent::Apply {
         replica,
         counter,
@@ -56,10 +84,14 @@ fn application(
     })
 }
 
-/// The event of a replica, after its dot.
-#[tactic(auto, unfolding(crate::specs::CallParts::action_at))]
-fn action(alloc: Global, cursor: &mut Cursor, replica: Named) -> Result<NamedEvent, ScenarioFault>
-    ensures { Gives (λ e. (e, cursor.new)) result (action_at replica cursor.old) }
+/// The event of a replica, after its dot, where each version has it.
+#[tactic(auto, unfolding(crate::specs::CallParts::common_action_at))]
+fn common_action(
+    alloc: Global,
+    cursor: &mut Cursor,
+    replica: Named,
+) -> Result<NamedEvent, ScenarioFault>
+    ensures { Gives (λ e. (e, cursor.new)) result (common_action_at replica cursor.old) }
 {
     if cursor.begins_word("exec") {
         cursor.advance();
@@ -80,59 +112,97 @@ fn action(alloc: Global, cursor: &mut Cursor, replica: Named) -> Result<NamedEve
     Ok(NamedEvent::Done(replica))
 }
 
+/// The event of a replica, after its dot.
+#[tactic(auto, unfolding(crate::specs::CallParts::action_at))]
+fn action(
+    alloc: Global,
+    version: Version,
+    cursor: &mut Cursor,
+    replica: Named,
+) -> Result<NamedEvent, ScenarioFault>
+    ensures { Gives (λ e. (e, cursor.new)) result (action_at version replica cursor.old) }
+{
+    match version {
+        Version::One => common_action(alloc, cursor, replica),
+        Version::Two => {
+            if cursor.begins_word("take") {
+                return taking(alloc, cursor, replica);
+            }
+            common_action(alloc, cursor, replica)
+        }
+    }
+}
+
 /// An event.
 #[tactic(auto, unfolding(crate::specs::CallParts::any_event_at))]
-pub(crate) fn event(alloc: Global, cursor: &mut Cursor) -> Result<NamedEvent, ScenarioFault>
-    ensures { Gives (λ e. (e, cursor.new)) result (any_event_at cursor.old) }
+pub(crate) fn event(
+    alloc: Global,
+    version: Version,
+    cursor: &mut Cursor,
+) -> Result<NamedEvent, ScenarioFault>
+    ensures { Gives (λ e. (e, cursor.new)) result (any_event_at version cursor.old) }
 {
     let replica = cursor.name(alloc)?;
     cursor.mark(TokenKind::Dot)?;
-    action(alloc, cursor, replica)
+    action(alloc, version, cursor, replica)
 }
 
 /// The event that all of the tokens are.
 #[tactic(auto, unfolding(crate::specs::CallParts::only_event_at))]
-fn only_event(alloc: Global, cursor: &mut Cursor) -> Result<NamedEvent, ScenarioFault>
-    ensures { Gives (λ e. e) result (only_event_at cursor.old) }
+fn only_event(
+    alloc: Global,
+    version: Version,
+    cursor: &mut Cursor,
+) -> Result<NamedEvent, ScenarioFault>
+    ensures { Gives (λ e. e) result (only_event_at version cursor.old) }
 {
-    let event = event(alloc, cursor)?;
+    let event = event(alloc, version, cursor)?;
     cursor.value_if(cursor.is_at_end(), event)
 }
 
 /// The event of a text, from its tokens.
-fn event_of(alloc: Global, text: &str, tokens: &[Token]) -> Result<NamedEvent, ScenarioFault>
+fn event_of(
+    alloc: Global,
+    version: Version,
+    text: &str,
+    tokens: &[Token],
+) -> Result<NamedEvent, ScenarioFault>
     requires { All (IsTokenOf text.now) tokens.now }
-    ensures tree { IfOk result (λ e. IsEvent e (lexemes text.now tokens.now)) }
+    ensures tree { IfOk result (λ e. IsEvent version e (lexemes text.now tokens.now)) }
     ensures fault { IfErr result (λ e. e ≢ ScenarioFault.Memory
-        → IsStopped IsCallSpelled IsCallWellFormed IsCallExcess (reading text.now tokens.now) e) }
+        → IsStopped (IsCallSpelled version) IsCallWellFormed (IsCallExcess version) (reading text.now tokens.now) e) }
     ensures kind { IfErr result IsOfSentence }
 {
     let mut cursor = Cursor::new(text, tokens);
-    only_event(alloc, &mut cursor)
+    only_event(alloc, version, &mut cursor)
 }
 
 /// The event that a text is.
-fn event_in(alloc: Global, text: &str) -> Result<NamedEvent, ScenarioFault>
-    ensures tree { IfOk result (λ e. IsEventOf text.now e) }
-    ensures fault { IfErr result (λ e. e ≢ ScenarioFault.Memory → IsEventFault text.now e) }
+fn event_in(alloc: Global, version: Version, text: &str) -> Result<NamedEvent, ScenarioFault>
+    ensures tree { IfOk result (λ e. IsEventOf version text.now e) }
+    ensures fault { IfErr result (λ e. e ≢ ScenarioFault.Memory → IsEventFault version text.now e) }
     ensures kind { IfErr result IsOfSentence }
 {
     let tokens = lex(alloc, text)?;
-    event_of(alloc, text, &tokens)
+    event_of(alloc, version, text, &tokens)
 }
 
-/// Reads an event that is the whole text. Names of replicas are not looked up.
+/// Reads an event of a version that is the whole text. Names of replicas are not looked up.
 ///
 /// Refusals: `TextTooLong` for a text over 8,388,608 bytes; then the first fault of a token; then
 /// the first by place of `Unexpected`, `EndOfText` and `IndexTooLarge`, at one place that with the
 /// smaller number.
-pub fn parse_event(alloc: Global, text: &str) -> Result<NamedEvent, ParseFault>
+pub fn parse_event(
+    alloc: Global,
+    version: Version,
+    text: &str,
+) -> Result<NamedEvent, ParseFault>
     // What is read is the event that the text is, each name with its place.
-    ensures tree { IfOk result (λ e. IsEventOf text.now e) }
+    ensures tree { IfOk result (λ e. IsEventOf version text.now e) }
     // What is refused has this fault.
-    ensures fault { IfErr result (λ e. e ≢ ParseFault.Memory → IsEventFault text.now (from_sentence e)) }
+    ensures fault { IfErr result (λ e. e ≢ ParseFault.Memory → IsEventFault version text.now (from_sentence e)) }
 {
-    match event_in(alloc, text) {
+    match event_in(alloc, version, text) {
         Ok(event) => Ok(event),
         Err(fault) => Err(of_sentence(fault)),
     }
@@ -141,25 +211,27 @@ pub fn parse_event(alloc: Global, text: &str) -> Result<NamedEvent, ParseFault>
 /// The event at the front of the tokens, and how many tokens are left behind it.
 fn event_before(
     alloc: Global,
+    version: Version,
     text: &str,
     tokens: &[Token],
 ) -> Result<(NamedEvent, usize), ScenarioFault>
     requires { All (IsTokenOf text.now) tokens.now }
-    ensures tree { IfOk result (λ x. IsAhead (lexemes text.now tokens.now) x.0 x.1) }
-    ensures fault { IfErr result (λ e. e ≢ ScenarioFault.Memory → HasNoEvent (reading text.now tokens.now) e) }
+    ensures tree { IfOk result (λ x. IsAhead version (lexemes text.now tokens.now) x.0 x.1) }
+    ensures fault { IfErr result (λ e. e ≢ ScenarioFault.Memory → HasNoEvent version (reading text.now tokens.now) e) }
     ensures kind { IfErr result IsOfSentence }
 {
     let mut cursor = Cursor::new(text, tokens);
-    let event = event(alloc, &mut cursor)?;
+    let event = event(alloc, version, &mut cursor)?;
     Ok((event, cursor.left()))
 }
 
-/// Reads the event that stands in the tokens of a text from the token of the number `from` on, and
-/// gives the number of the token behind it. Names of replicas are not looked up.
+/// Reads the event of a version that stands in the tokens of a text from the token of the number
+/// `from` on, and gives the number of the token behind it. Names of replicas are not looked up.
 ///
 /// Refusals: the first by place of `Unexpected`, `EndOfText` and `IndexTooLarge`.
 pub fn event_at(
     alloc: Global,
+    version: Version,
     text: &str,
     tokens: &[Token],
     from: usize,
@@ -167,12 +239,12 @@ pub fn event_at(
     requires lexed { All (IsTokenOf text.now) tokens.now }
     requires within { from ≤ length tokens.now }
     // What is read is the event that these tokens are, each name with its place.
-    ensures tree { IfOk result (λ x. IsEventAt text.now tokens.now from x.0 x.1) }
+    ensures tree { IfOk result (λ x. IsEventAt version text.now tokens.now from x.0 x.1) }
     // Where it refuses no event stands there, and reading stops so.
     ensures fault { IfErr result (λ e. e ≢ ParseFault.Memory
-        → IsEventFaultAt text.now tokens.now from (from_sentence e)) }
+        → IsEventFaultAt version text.now tokens.now from (from_sentence e)) }
 {
-    match event_before(alloc, text, &tokens[from..]) {
+    match event_before(alloc, version, text, &tokens[from..]) {
         Ok((event, left)) => Ok((event, tokens.len() - left)),
         Err(fault) => Err(of_sentence(fault)),
     }

@@ -1,11 +1,11 @@
 //! The parts of a scenario that several sentences have, read from left to right.
 
 ghost use Rattle.jc_parser.specs.Reading.{Gives};
-ghost use Rattle.jc_parser.specs.Parts.{get_at, value_at, name_at, front_at};
+ghost use Rattle.jc_parser.specs.Parts.{get_at, value_at, name_at, version_at, front_at};
 
 use crate::cursor::Cursor;
 use crate::fault::ScenarioFault;
-use jc_rules::{Text, Value};
+use jc_rules::{Text, Value, Version};
 use jc_syntax::TokenKind;
 use std::alloc::Global;
 
@@ -13,7 +13,7 @@ use std::alloc::Global;
 pub(crate) const MAX_COMMANDS: usize = 65536;
 /// How many selectors an expression may have.
 pub(crate) const MAX_SELECTORS: usize = 256;
-/// How many events a schedule may have.
+/// How many events a block may have.
 pub(crate) const MAX_EVENTS: usize = 100000;
 
 /// The key of a selector `get`, from its word on.
@@ -67,25 +67,38 @@ pub(crate) fn name(alloc: Global, cursor: &mut Cursor) -> Result<Text, ScenarioF
     Ok(named.name)
 }
 
-/// The header and the word `replica`.
+/// The number of a version.
+#[tactic(auto, unfolding(crate::specs::Parts::version_at))]
+fn version(cursor: &mut Cursor) -> Result<Version, ScenarioFault>
+    ensures { Gives (λ v. (v, cursor.new)) result (version_at cursor.old) }
+{
+    let place = cursor.place();
+    if cursor.begins_number("2") {
+        cursor.advance();
+        return Ok(Version::Two);
+    }
+    if !cursor.begins_number("1") {
+        return Err(ScenarioFault::NoHeader { place });
+    }
+    cursor.advance();
+    Ok(Version::One)
+}
+
+/// The header, which gives the version, and the word `replica`.
 #[tactic(auto, unfolding(crate::specs::Parts::front_at))]
-pub(crate) fn front(cursor: &mut Cursor) -> Result<(), ScenarioFault>
-    ensures { Gives (λ _. (tt, cursor.new)) result (front_at cursor.old) }
+pub(crate) fn front(cursor: &mut Cursor) -> Result<Version, ScenarioFault>
+    ensures { Gives (λ v. (v, cursor.new)) result (front_at cursor.old) }
 {
     let place = cursor.place();
     if !cursor.begins_word("jsoncrdt") {
         return Err(ScenarioFault::NoHeader { place });
     }
     cursor.advance();
-    let place = cursor.place();
-    if !cursor.begins_number("1") {
-        return Err(ScenarioFault::NoHeader { place });
-    }
-    cursor.advance();
+    let version = version(cursor)?;
     let place = cursor.place();
     if !cursor.begins_word("replica") {
         return Err(ScenarioFault::NoReplica { place });
     }
     cursor.advance();
-    Ok(())
+    Ok(version)
 }

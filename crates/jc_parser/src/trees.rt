@@ -1,12 +1,12 @@
 //! Scenarios of the whole language, from their tokens.
 
-ghost use Rattle.std.specs.Prelude.{◌≡◌, ◌≢◌, IfOk, IfErr, All, map};
+ghost use Rattle.std.specs.Prelude.{◌≡◌, ◌≢◌, [], IfOk, IfErr, All, map};
 ghost use Rattle.jc_syntax.specs.Lexemes.{IsTokenOf};
 ghost use Rattle.jc_syntax.specs.Trees.{cmd_of};
 ghost use Rattle.jc_parser.specs.Reading.{Gives, reading};
 ghost use Rattle.jc_parser.specs.Trees.{name_of, IsNamedTree};
 ghost use Rattle.jc_parser.specs.TreeFaults.{IsTreeFault};
-ghost use Rattle.jc_parser.specs.TreeParts.{is_among, other_name_at, new_name_at, body_at, part_at, crowd_at, events_at, block_at, schedule_at, rest_at, tree_at};
+ghost use Rattle.jc_parser.specs.TreeParts.{is_among, other_name_at, new_name_at, body_at, part_at, crowd_at, events_at, block_at, any_block_at, given_at, blocks_at, tree, rest_at, tree_at};
 ghost use Rattle.jc_parser.specs.TreeViews.{part_view, tree_view, names_of};
 
 use crate::cursor::Cursor;
@@ -14,7 +14,7 @@ use crate::events::event;
 use crate::fault::ScenarioFault;
 use crate::parser::{MAX_EVENTS, front};
 use crate::scripts::closed_script;
-use jc_rules::Text;
+use jc_rules::{Text, Version};
 use jc_syntax::{Cmd, NamedEvent, Token, TokenKind, copy_script};
 use std::alloc::{AllocError, Global};
 
@@ -28,11 +28,15 @@ pub struct NamedReplica {
     pub script: Vec<Cmd>,
 }
 
-/// What the text of a scenario says: its replicas in the order of the text, and its events with the
-/// names of replicas and where these stand.
+/// What the text of a scenario says: its version, its replicas in the order of the text, and its
+/// events with the names of replicas and where these stand.
 #[derive(Drop)]
 pub struct NamedScenario {
+    pub version: Version,
     pub replicas: Vec<NamedReplica>,
+    /// The events that run before the schedule. Version 1 has none.
+    pub given: Vec<NamedEvent>,
+    /// The schedule.
     pub events: Vec<NamedEvent>,
 }
 
@@ -55,7 +59,9 @@ impl NamedScenario {
     {
         let alloc = *self.replicas.allocator();
         Ok(NamedScenario {
+            version: self.version,
             replicas: copy_replicas(alloc, &self.replicas)?,
+            given: copy_events(alloc, &self.given)?,
             events: copy_events(alloc, &self.events)?,
         })
     }
@@ -158,9 +164,13 @@ fn crowd(alloc: Global, cursor: &mut Cursor, replicas: &[NamedReplica]) -> Scena
     }
 }
 
-/// The events of a schedule, up to what begins none.
-fn events(alloc: Global, cursor: &mut Cursor) -> Result<Vec<NamedEvent>, ScenarioFault>
-    ensures { Gives (λ es. (es.items, cursor.new)) result (events_at 100000 cursor.old) }
+/// The events of a block, up to what begins none.
+fn events(
+    alloc: Global,
+    version: Version,
+    cursor: &mut Cursor,
+) -> Result<Vec<NamedEvent>, ScenarioFault>
+    ensures { Gives (λ es. (es.items, cursor.new)) result (events_at version 100000 cursor.old) }
 {
     let mut events = Vec::new(alloc);
     let mut left = MAX_EVENTS;
@@ -170,7 +180,7 @@ fn events(alloc: Global, cursor: &mut Cursor) -> Result<Vec<NamedEvent>, Scenari
                 place: cursor.place(),
             });
         }
-        let event = event(alloc, cursor)?;
+        let event = event(alloc, version, cursor)?;
         events.push(event)?;
         if !cursor.begins(TokenKind::Semi) {
             return Ok(events);
@@ -181,33 +191,76 @@ fn events(alloc: Global, cursor: &mut Cursor) -> Result<Vec<NamedEvent>, Scenari
     Ok(events)
 }
 
-/// A schedule, from its word on.
+/// A block of events, from its word on.
 #[tactic(auto, unfolding(crate::specs::TreeParts::block_at))]
-fn block(alloc: Global, cursor: &mut Cursor) -> Result<Vec<NamedEvent>, ScenarioFault>
-    ensures { Gives (λ es. (es.items, cursor.new)) result (block_at 100000 cursor.old) }
+fn block(
+    alloc: Global,
+    version: Version,
+    cursor: &mut Cursor,
+    word: &str,
+) -> Result<Vec<NamedEvent>, ScenarioFault>
+    ensures { Gives (λ es. (es.items, cursor.new)) result (block_at word.now version 100000 cursor.old) }
 {
-    cursor.word("schedule")?;
+    cursor.word(word)?;
     cursor.mark(TokenKind::BraceL)?;
-    let events = events(alloc, cursor)?;
+    let events = events(alloc, version, cursor)?;
     cursor.mark(TokenKind::BraceR)?;
     Ok(events)
 }
 
-/// A schedule, or nothing.
-#[tactic(auto, unfolding(crate::specs::TreeParts::schedule_at))]
-fn schedule(alloc: Global, cursor: &mut Cursor) -> Result<Vec<NamedEvent>, ScenarioFault>
-    ensures { Gives (λ es. (es.items, cursor.new)) result (schedule_at 100000 cursor.old) }
+/// A block of events with this word, or nothing.
+#[tactic(auto, unfolding(crate::specs::TreeParts::any_block_at))]
+fn any_block(
+    alloc: Global,
+    version: Version,
+    cursor: &mut Cursor,
+    word: &str,
+) -> Result<Vec<NamedEvent>, ScenarioFault>
+    ensures { Gives (λ es. (es.items, cursor.new)) result (any_block_at word.now version 100000 cursor.old) }
 {
-    if cursor.begins_word("schedule") {
-        block(alloc, cursor)
+    if cursor.begins_word(word) {
+        block(alloc, version, cursor, word)
     } else {
         Ok(Vec::new(alloc))
     }
 }
 
-/// The replicas and the schedule, from the first replica's name on.
-fn rest(alloc: Global, cursor: &mut Cursor) -> Result<NamedScenario, ScenarioFault>
-    ensures { Gives (λ t. (tree_view t, cursor.new)) result (rest_at 100000 63 cursor.old) }
+/// The given events, which version 2 alone has.
+#[tactic(auto, unfolding(crate::specs::TreeParts::given_at))]
+fn given(
+    alloc: Global,
+    version: Version,
+    cursor: &mut Cursor,
+) -> Result<Vec<NamedEvent>, ScenarioFault>
+    ensures { Gives (λ es. (es.items, cursor.new)) result (given_at version 100000 cursor.old) }
+{
+    match version {
+        Version::One => Ok(Vec::new(alloc)),
+        Version::Two => any_block(alloc, version, cursor, "given"),
+    }
+}
+
+/// The given events and the schedule, behind the replicas.
+#[tactic(auto, unfolding(crate::specs::TreeParts::blocks_at))]
+fn blocks(
+    alloc: Global,
+    version: Version,
+    cursor: &mut Cursor,
+) -> Result<(Vec<NamedEvent>, Vec<NamedEvent>), ScenarioFault>
+    ensures { Gives (λ b. (tree version [] b.0.items b.1.items, cursor.new)) result (blocks_at version 100000 cursor.old) }
+{
+    let given = given(alloc, version, cursor)?;
+    let events = any_block(alloc, version, cursor, "schedule")?;
+    Ok((given, events))
+}
+
+/// The replicas and the events, from the first replica's name on.
+fn rest(
+    alloc: Global,
+    version: Version,
+    cursor: &mut Cursor,
+) -> Result<NamedScenario, ScenarioFault>
+    ensures { Gives (λ t. (tree_view t, cursor.new)) result (rest_at version 100000 63 cursor.old) }
 {
     let mut replicas = Vec::new(alloc);
     let first = replica(alloc, cursor, &replicas)?;
@@ -222,8 +275,13 @@ fn rest(alloc: Global, cursor: &mut Cursor) -> Result<NamedScenario, ScenarioFau
         replicas.push(next)?;
         left -= 1;
     }
-    let events = schedule(alloc, cursor)?;
-    Ok(NamedScenario { replicas, events })
+    let (given, events) = blocks(alloc, version, cursor)?;
+    Ok(NamedScenario {
+        version,
+        replicas,
+        given,
+        events,
+    })
 }
 
 /// The scenario that all of the tokens are.
@@ -231,8 +289,8 @@ fn rest(alloc: Global, cursor: &mut Cursor) -> Result<NamedScenario, ScenarioFau
 fn whole(alloc: Global, cursor: &mut Cursor) -> Result<NamedScenario, ScenarioFault>
     ensures { Gives tree_view result (tree_at cursor.old) }
 {
-    front(cursor)?;
-    let scenario = rest(alloc, cursor)?;
+    let version = front(cursor)?;
+    let scenario = rest(alloc, version, cursor)?;
     cursor.value_if(cursor.is_at_end(), scenario)
 }
 
@@ -240,7 +298,8 @@ fn whole(alloc: Global, cursor: &mut Cursor) -> Result<NamedScenario, ScenarioFa
 ///
 /// Refusals: the first by place of `NoHeader`, `NoReplica`, `Unexpected`, `EndOfText`,
 /// `IndexTooLarge`, `ReservedName`, `TooManyCommands`, `TooLongExpression`, `SameName`,
-/// `TooManyReplicas` and `TooManyEvents`, at one place that with the smaller number.
+/// `TooManyReplicas` and `TooManyEvents`, at one place that with the smaller number. The given events
+/// and the schedule are counted apart.
 pub fn scenario_of(
     alloc: Global,
     text: &str,

@@ -2,7 +2,7 @@
 -- tokens have and the text isn't too long.
 use Rattle.std.specs.Prelude.{◌≡◌, ℕ, ◌≤◌, List, length, All}
 use Rattle.jc_rules.specs.declared.operation.Event.{Event}
-use Rattle.jc_rules.specs.declared.version.Version.TheVariants.{One}
+use Rattle.jc_rules.specs.declared.version.Version.{Version}
 use Rattle.jc_rules.specs.Syntax.{Expr, Cmd}
 use Rattle.jc_rules.specs.Version.{Allows}
 use Rattle.jc_syntax.specs.declared.tree.NamedEvent.{NamedEvent}
@@ -22,9 +22,9 @@ ScriptsReadBack =
     (script : List Cmd) → IsScriptWellFormed script → All IsLegalCmd script → length (canon_script script) ≤ 8388608
     → IsScriptOf (canon_script script) script
 
--- an event of version 1 is read back with the names of its replicas, each at its place
+-- an event is read back with the names of its replicas, each at its place, in each version that has it
 abbrev pub EventsReadBack : Type 0
 EventsReadBack =
-    (names : List (List ℕ)) (event : Event) → All IsName names → AreNamed event (length names) → IsCounterBelow event
-    → Allows event One → length (canon_event names event) ≤ 8388608
-    → (read : NamedEvent) × IsEventOf (canon_event names event) read × (call_of read ≡ call_by names event)
+    (v : Version) (names : List (List ℕ)) (event : Event) → All IsName names → AreNamed event (length names) → IsCounterBelow event
+    → Allows event v → length (canon_event names event) ≤ 8388608
+    → (read : NamedEvent) × IsEventOf v (canon_event names event) read × (call_of read ≡ call_by names event)

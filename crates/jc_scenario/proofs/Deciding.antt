@@ -1,5 +1,5 @@
 -- Bytes that are no scenario have a fault.
-use Rattle.std.proofs.Common.{◌≡◌, ◌≢◌, ℕ, zero, suc, ◌≤◌, ◌<◌, ◌⊎◌, inl, inr, List, [], ◌∷◌, map, length, get_or, refl, sym, ap, subst, ◌∙◌, arith}
+use Rattle.std.proofs.Common.{◌≡◌, ◌≢◌, ℕ, zero, suc, ◌≤◌, ◌<◌, ◌⊎◌, inl, inr, List, [], ◌∷◌, ◌++◌, map, length, get_or, refl, sym, ap, subst, ◌∙◌, arith}
 use Rattle.std.specs.List.{AllPairs, Contains, insert}
 use Rattle.std.specs.Str.{IsUtf8, bytes_eq, is_utf8}
 use Rattle.std.specs.Str.Lossy.{utf8_valid_len}
@@ -30,7 +30,7 @@ use Rattle.jc_syntax.specs.declared.tree.NamedEvent.TheVariants as N
 use Rattle.jc_syntax.specs.Lexemes.{AreTokensOf, IsFaultOf}
 use Rattle.jc_parser.specs.declared.fault.ScenarioFault.{ScenarioFault}
 use Rattle.jc_parser.specs.declared.fault.ScenarioFault.TheVariants.{TextTooLong, NotUtf8, UnknownReplica}
-use Rattle.jc_parser.specs.Calls.{Call, executes, sends, receives, applies, ends, call_of}
+use Rattle.jc_parser.specs.Calls.{Call, executes, sends, receives, takes, applies, ends, call_of}
 use Rattle.jc_parser.specs.Faults.{from_lexer}
 use Rattle.jc_parser.specs.Legal.{call_by}
 use Rattle.jc_parser.specs.Reading.{Reading, reading}
@@ -43,7 +43,7 @@ use Rattle.jc_scenario.specs.Resolved.{IsResolved, names_in, IsFirstStranger, Ar
 use Rattle.jc_scenario.specs.Scenarios.{Scenario, parts_of, AreScenario, IsScenario}
 use Rattle.jc_scenario.proofs.Inserting.{part, rises, parts-insert}
 use Rattle.jc_scenario.proofs.Scenarios.{AreArranged, scenario_read, stranger_read}
-use Rattle.jc_scenario.proofs.Strangers.{AreKnown, known_parts, same_names}
+use Rattle.jc_scenario.proofs.Strangers.{AreKnown, known_parts, same_names, both_lists}
 
 -- ---- names of replicas
 
@@ -101,6 +101,19 @@ event_of names (N.Recv q s) k =
     let (p, inside, is) = numbered names q.name k.0 in
     let (r, other_inside, other) = numbered names s.name k.1.0 in
     (E.Recv p r, record { known = (inside, other_inside); called = ap (λ (n : List ℕ). receives n (name_at names r)) is ∙ ap (λ (n : List ℕ). receives q.name n) other })
+event_of names (N.Take q s counter t) k =
+    let (p, inside, is) = numbered names q.name k.0 in
+    let (r, other_inside, other) = numbered names s.name k.1.0 in
+    let (u, author_inside, author) = numbered names t.name k.1.1.0 in (
+      E.Take p r (record { counter = counter; replica = u }),
+      record {
+        known = (inside, other_inside, author_inside);
+        called =
+            ap (λ (n : List ℕ). takes n (name_at names r) counter (name_at names u)) is
+            ∙ ap (λ (n : List ℕ). takes q.name n counter (name_at names u)) other
+            ∙ ap (λ (n : List ℕ). takes q.name s.name counter n) author;
+      },
+    )
 event_of names (N.Apply q counter s) k =
     let (p, inside, is) = numbered names q.name k.0 in
     let (r, other_inside, other) = numbered names s.name k.1.0 in
@@ -186,10 +199,12 @@ arranged (p ∷ ps) apart = by_rest (arranged ps (λ i j d less inside. apart (s
 scenario_or_stranger : (r : Reading) (t : NamedTree) → IsNamedTree r t → ((s : Scenario) × AreScenario r s) ⊎ ((fault : ScenarioFault) × IsStranger r fault)
 scenario_or_stranger r t named =
     let (ns, ss, a) = arranged t.parts named.within.parts.apart in
-    elim (known_or_strange ns (all_names_in t.events)) [
+    elim (known_or_strange ns (all_names_in (t.given ++ t.events))) [
       | inl known ↦
-          let (es, so) = events_of ns t.events known in
-          inl (record { names = ns; scripts = ss; schedule = es }, scenario_read r t ns ss es named a so)
+          let (own, rest) = known_parts ns (all_names_in t.given) (all_names_in t.events) (subst (AreKnown ns) (both_lists t.given t.events) known) in
+          let (gs, given) = events_of ns t.given own in
+          let (es, so) = events_of ns t.events rest in
+          inl (record { version = t.version; names = ns; scripts = ss; given = gs; schedule = es }, scenario_read r t ns ss gs es named a given so)
       | inr (at, first) ↦ inr (UnknownReplica at, stranger_read r t ns ss at named a first)
     ]
 

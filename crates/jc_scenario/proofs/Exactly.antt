@@ -1,5 +1,5 @@
 -- Bytes are one scenario, or have one fault, and not both.
-use Rattle.std.proofs.Common.{◌≡◌, ℕ, ◌≤◌, inl, inr, List, [], ◌∷◌, length, map, sym, ap, subst, ◌∙◌, arith}
+use Rattle.std.proofs.Common.{◌≡◌, ℕ, ◌≤◌, inl, inr, List, [], ◌∷◌, ◌++◌, length, map, sym, ap, subst, ◌∙◌, arith}
 use Rattle.std.specs.Prelude.{All}
 use Rattle.std.proofs.lemmas.List.Elements.{All-nil, All-cons, All-weaker}
 use Rattle.jc_syntax.specs.declared.fault.LexFault.{LexFault}
@@ -45,7 +45,7 @@ no_fault_among : OneNamedTree → NamedTreeOrFault → (r : Reading) (s : Scenar
 no_fault_among one_tree no_fault r s e a (inl f) = no_fault r a.tree e a.named f
 no_fault_among one_tree no_fault r s e a (inr f) =
     let tree : f.tree ≡ a.tree = one_tree r f.tree a.tree f.named a.named in
-    no_stranger a.tree s f.place a.of_tree (subst (λ (t : NamedTree). IsFirstStranger (map name_of t.parts) (all_names_in t.events) f.place) tree f.first)
+    no_stranger a.tree s f.place a.of_tree (subst (λ (t : NamedTree). IsFirstStranger (map name_of t.parts) (all_names_in (t.given ++ t.events)) f.place) tree f.first)
 
 pub scenario_or_fault : OneList → NoLexical → OneNamedTree → NamedTreeOrFault → ScenarioOrFault
 scenario_or_fault one_list no_lexical one_tree no_fault bytes s e a (inl (long, is)) = let short : length bytes ≤ 8388608 = a.lexed.0 in absurd (omega arith)
@@ -63,7 +63,7 @@ one_among one_tree no_fault one r e f (inl a) (inr b) = absurd (no_fault r b.tre
 one_among one_tree no_fault one r e f (inr a) (inl b) = absurd (no_fault r a.tree f a.named b)
 one_among one_tree no_fault one r e f (inr a) (inr b) =
     let tree : a.tree ≡ b.tree = one_tree r a.tree b.tree a.named b.named in
-    let place : a.place ≡ b.place = one_stranger (map name_of b.tree.parts) (all_names_in b.tree.events) a.place b.place (subst (λ (t : NamedTree). IsFirstStranger (map name_of t.parts) (all_names_in t.events) a.place) tree a.first) b.first in
+    let place : a.place ≡ b.place = one_stranger (map name_of b.tree.parts) (all_names_in (b.tree.given ++ b.tree.events)) a.place b.place (subst (λ (t : NamedTree). IsFirstStranger (map name_of t.parts) (all_names_in (t.given ++ t.events)) a.place) tree a.first) b.first in
     a.is ∙ ap UnknownReplica place ∙ sym b.is
 
 one_within : OneList → OneLexical → NoLexical → OneNamedTree → NamedTreeOrFault → OneTreeFault → (bytes : List ℕ) (e f : ScenarioFault) → IsFaultWithin bytes e → IsFaultWithin bytes f → e ≡ f
@@ -93,7 +93,7 @@ pub well_formed_scenarios : LegalScenarios → ScenariosAreWellFormed
 well_formed_scenarios legal bytes s a =
     let each : All (IsTokenOf bytes) a.tokens = each_token bytes 0 a.lexed.1 a.tokens a.lexed.0 a.lexed.2 in
     let own = legal bytes a.tokens a.scenario.tree a.valid each a.scenario.named in
-    let (parts, schedule, some, replicas, events, text) = a.scenario.named.spelled in
-    well_formed (tree_of a.scenario.tree) s schedule a.scenario.of_tree some events own.0
+    let (parts, given, schedule, some, replicas, led, events, text) = a.scenario.named.spelled in
+    well_formed (tree_of a.scenario.tree) s given schedule a.scenario.of_tree some led events own.0
     (All-weaker IsLegalPart (λ p. IsName p.name) (λ p l. l.0) a.scenario.tree.parts own.1.0)
     (All-weaker IsLegalPart (λ p. All IsLegalCmd p.script) (λ p l. l.1) a.scenario.tree.parts own.1.0)

@@ -6,7 +6,8 @@ use Rattle.std.proofs.lemmas.List.Elements.{All-nil, All-cons, All-head, All-tai
 use Rattle.std.proofs.lemmas.List.Sorted.{All-permutation, length_permutation}
 use Rattle.jc_rules.specs.declared.operation.Event.{Event}
 use Rattle.jc_rules.specs.declared.operation.Event.TheVariants.{Exec, Send, Recv, Take, Apply, Done}
-use Rattle.jc_rules.specs.declared.version.Version.TheVariants.{One}
+use Rattle.jc_rules.specs.declared.version.Version.{Version}
+use Rattle.jc_rules.specs.declared.version.Version.TheVariants.{One, Two}
 use Rattle.jc_rules.specs.Syntax.{Cmd}
 use Rattle.jc_rules.specs.Version.{Allows}
 use Rattle.jc_parser.specs.Symbols.{Symbol}
@@ -14,7 +15,8 @@ use Rattle.jc_parser.specs.Words.{is_reserved, IsListText}
 use Rattle.jc_parser.specs.Scripts.{IsScriptWellFormed}
 use Rattle.jc_parser.specs.Calls.{Call, IsCallSpelled, IsCallWellFormed}
 use Rattle.jc_parser.specs.Legal.{IsName, IsLegalCmd, call_by, IsCounterBelow}
-use Rattle.jc_parser.specs.Trees.{Part, Tree, name_of, IsScheduleSpelled, IsTreeWithin}
+use Rattle.jc_parser.specs.Trees.{Part, Tree, name_of, schedule_head, IsBlockSpelled, IsGivenSpelled, IsTreeWithin}
+use Rattle.jc_printer.specs.Canon.{AreNamed}
 use Rattle.jc_scenario.specs.Scenarios.{Scenario, parts_of, IsOfTree, IsWellFormed}
 use Rattle.jc_scenario.proofs.Apart.{names-parts}
 use Rattle.jc_scenario.proofs.Unique.{script_of, scripts-parts}
@@ -45,35 +47,41 @@ each_counter names [] all = All-nil IsCounterBelow
 each_counter names (e ∷ es) all =
     All-cons IsCounterBelow e es (counter_below names e (All-head IsCallWellFormed (call_by names e) (map (call_by names) es) all)) (each_counter names es (All-tail IsCallWellFormed (call_by names e) (map (call_by names) es) all))
 
--- what a text spells is of version 1
-event_allowed : (names : List (List ℕ)) (e : Event) (w : List Symbol) → IsCallSpelled (call_by names e) w → Allows e One
-event_allowed names (Exec p) w spelled = tt
-event_allowed names (Send p) w spelled = tt
-event_allowed names (Recv p q) w spelled = tt
-event_allowed names (Take p q i) w spelled = spelled
-event_allowed names (Apply p i) w spelled = tt
-event_allowed names (Done p) w spelled = tt
+-- what a text of a version spells, the version has
+event_allowed : (v : Version) (names : List (List ℕ)) (e : Event) (w : List Symbol) → IsCallSpelled v (call_by names e) w → Allows e v
+event_allowed v names (Exec p) w spelled = tt
+event_allowed v names (Send p) w spelled = tt
+event_allowed v names (Recv p q) w spelled = tt
+event_allowed One names (Take p q i) w spelled = absurd spelled
+event_allowed Two names (Take p q i) w spelled = tt
+event_allowed v names (Apply p i) w spelled = tt
+event_allowed v names (Done p) w spelled = tt
 
-listed_allowed : (names : List (List ℕ)) (es : List Event) (w : List Symbol) → IsListText IsCallSpelled (map (call_by names) es) w → All (λ e. Allows e One) es
-listed_allowed names [] w spelled = All-nil (λ e. Allows e One)
-listed_allowed names (e ∷ []) w (u, own, rest) = All-cons (λ e. Allows e One) e [] (event_allowed names e u own) (All-nil (λ e. Allows e One))
-listed_allowed names (e ∷ f ∷ es) w (u, own, inl (last, text)) = cc last
-listed_allowed names (e ∷ f ∷ es) w (u, own, inr (v, text, rest)) = All-cons (λ e. Allows e One) e (f ∷ es) (event_allowed names e u own) (listed_allowed names (f ∷ es) v rest)
+listed_allowed : (v : Version) (names : List (List ℕ)) (es : List Event) (w : List Symbol) → IsListText (IsCallSpelled v) (map (call_by names) es) w → All (λ e. Allows e v) es
+listed_allowed v names [] w spelled = All-nil (λ e. Allows e v)
+listed_allowed v names (e ∷ []) w (u, own, rest) = All-cons (λ e. Allows e v) e [] (event_allowed v names e u own) (All-nil (λ e. Allows e v))
+listed_allowed v names (e ∷ f ∷ es) w (u, own, inl (last, text)) = cc last
+listed_allowed v names (e ∷ f ∷ es) w (u, own, inr (x, text, rest)) = All-cons (λ e. Allows e v) e (f ∷ es) (event_allowed v names e u own) (listed_allowed v names (f ∷ es) x rest)
 
 none_called : (names : List (List ℕ)) (es : List Event) → map (call_by names) es ≡ [] → es ≡ []
 none_called names [] none = refl
 none_called names (e ∷ es) none = cc
 
-each_allowed : (names : List (List ℕ)) (es : List Event) (w : List Symbol) → IsScheduleSpelled (map (call_by names) es) w → All (λ e. Allows e One) es
-each_allowed names es w (inl (none, text)) = subst (All (λ e. Allows e One)) (sym (none_called names es none)) (All-nil (λ e. Allows e One))
-each_allowed names es w (inr (u, listed, text)) = listed_allowed names es u listed
+each_allowed : (v : Version) (names : List (List ℕ)) (es : List Event) (w : List Symbol) → IsBlockSpelled schedule_head v (map (call_by names) es) w → All (λ e. Allows e v) es
+each_allowed v names es w (inl (none, text)) = subst (All (λ e. Allows e v)) (sym (none_called names es none)) (All-nil (λ e. Allows e v))
+each_allowed v names es w (inr (u, listed, text)) = listed_allowed v names es u listed
+
+-- version 1 has no block of given events
+none_given : (v : Version) (names : List (List ℕ)) (es : List Event) (w : List Symbol) → IsGivenSpelled v (map (call_by names) es) w → v ≡ One → es ≡ []
+none_given One names es w spelled first = none_called names es spelled.0
+none_given Two names es w spelled first = cc first
 
 none_there : (ps : List Part) → length ps ≡ 0 → ps ≡ []
 none_there [] e = refl
 none_there (p ∷ ps) e = absurd (omega arith)
 
-pub well_formed : (t : Tree) (s : Scenario) (w : List Symbol) → IsOfTree t s → t.parts ≢ [] → IsScheduleSpelled t.calls w → IsTreeWithin t → All (λ p. IsName p.name) t.parts → All (λ p. All IsLegalCmd p.script) t.parts → IsWellFormed s
-well_formed t s w is some schedule within names commands = record {
+pub well_formed : (t : Tree) (s : Scenario) (g w : List Symbol) → IsOfTree t s → t.parts ≢ [] → IsGivenSpelled t.version t.given g → IsBlockSpelled schedule_head t.version t.calls w → IsTreeWithin t → All (λ p. IsName p.name) t.parts → All (λ p. All IsLegalCmd p.script) t.parts → IsWellFormed s
+well_formed t s g w is some given schedule within names commands = record {
   some = λ none. some (none_there t.parts (sym (count t s is) ∙ ap length none));
   few = omega (arith, count t s is, within.parts.few);
   legal = each_name t s is IsName names;
@@ -82,8 +90,14 @@ well_formed t s w is some schedule within names commands = record {
   each = is.each;
   formed = each_script t s is IsScriptWellFormed within.parts.scripts;
   commands = each_script t s is (λ script. All IsLegalCmd script) commands;
+  first_given = λ first. none_given t.version s.names s.given g (subst (λ (calls : List Call). IsGivenSpelled t.version calls g) (sym is.given_called) given) (sym is.version ∙ first);
+  given_short = omega (arith, length-map s.given (call_by s.names), ap length is.given_called, within.given_few);
+  given_known = is.given_known;
+  given_counters = each_counter s.names s.given (subst (All IsCallWellFormed) (sym is.given_called) within.given_calls);
   short = omega (arith, length-map s.schedule (call_by s.names), ap length is.called, within.few);
   known = is.known;
   counters = each_counter s.names s.schedule (subst (All IsCallWellFormed) (sym is.called) within.calls);
-  allowed = each_allowed s.names s.schedule w (subst (λ (calls : List Call). IsScheduleSpelled calls w) (sym is.called) schedule);
+  allowed =
+      subst (λ (v : Version). All (λ e. Allows e v) s.schedule) (sym is.version)
+      (each_allowed t.version s.names s.schedule w (subst (λ (calls : List Call). IsBlockSpelled schedule_head t.version calls w) (sym is.called) schedule));
 }

@@ -1,9 +1,11 @@
 -- The canonical text of a scenario is written with symbols of its tree.
-use Rattle.std.proofs.Common.{◌≡◌, ℕ, List, [], ◌∷◌, ◌++◌, map, length, inr, refl, sym, subst, arith, append_assoc}
+use Rattle.std.proofs.Common.{◌≡◌, ℕ, List, [], ◌∷◌, ◌++◌, map, length, inr, refl, sym, ap, subst, arith, append_assoc}
 use Rattle.std.specs.Prelude.{codes, flat_map, All}
-use Rattle.std.proofs.lemmas.List.Elements.{All-head, All-tail}
+use Rattle.std.proofs.lemmas.List.Elements.{All-nil, All-cons, All-head, All-tail}
 use Rattle.jc_rules.specs.declared.operation.Event.{Event}
-use Rattle.jc_rules.specs.declared.version.Version.TheVariants.{One}
+use Rattle.jc_rules.specs.declared.operation.Event.TheVariants.{Exec, Send, Recv, Take, Apply, Done}
+use Rattle.jc_rules.specs.declared.version.Version.{Version}
+use Rattle.jc_rules.specs.declared.version.Version.TheVariants.{One, Two}
 use Rattle.jc_rules.specs.Syntax.{Cmd}
 use Rattle.jc_rules.specs.Version.{Allows}
 use Rattle.jc_parser.specs.Symbols.{Symbol, word, open_brace, close_brace, semicolon}
@@ -11,12 +13,12 @@ use Rattle.jc_parser.specs.Words.{IsListText}
 use Rattle.jc_parser.specs.Scripts.{IsCommandSpelled, IsCommandWellFormed}
 use Rattle.jc_parser.specs.Calls.{IsCallSpelled}
 use Rattle.jc_parser.specs.Legal.{IsName, IsLegalCmd, call_by, IsCounterBelow}
-use Rattle.jc_parser.specs.Trees.{Part, part_head, IsPartSpelled, ArePartsSpelled, IsScheduleSpelled, schedule_head}
+use Rattle.jc_parser.specs.Trees.{Part, part_head, IsPartSpelled, ArePartsSpelled, given_head, schedule_head, IsBlockSpelled, IsGivenSpelled}
 use Rattle.jc_printer.specs.Canon.{canon_cmd, canon_event, AreNamed}
 use Rattle.jc_printer.proofs.Printed.{IsPrinted, put, spaced}
-use Rattle.jc_printer.proofs.Trees.{PrintsAs, keyword, command_printed}
+use Rattle.jc_printer.proofs.Trees.{PrintsAs, alone, keyword, command_printed}
 use Rattle.jc_printer.proofs.Events.{event_printed}
-use Rattle.jc_scenario.specs.Canon.{line_of, canon_commands, canon_part, canon_events, canon_schedule}
+use Rattle.jc_scenario.specs.Canon.{line_of, canon_commands, canon_part, canon_events, canon_given, canon_schedule}
 use Rattle.jc_scenario.proofs.Joined.{joined}
 
 -- ---- lines
@@ -46,12 +48,11 @@ commands_printed (c ∷ cs) after rest legal formed p =
           (subst (IsPrinted (one.text ++ semicolon ∷ (more.text ++ after))) (sym (line_before (canon_cmd c) (canon_commands cs) rest)) (indented (one.text ++ semicolon ∷ (more.text ++ after)) _ one.printed));
     }
 
-pub events_printed : (names : List (List ℕ)) (es : List Event) (after : List Symbol) (rest : List ℕ) → All IsName names → All (λ e. AreNamed e (length names)) es → All IsCounterBelow es → All (λ e. Allows e One) es → IsPrinted after rest → PrintsAs (IsListText IsCallSpelled (map (call_by names) es)) (canon_events names es) after rest
-events_printed names [] after rest legal known small allowed p = record { text = []; spelled = refl; printed = p }
-events_printed names (e ∷ es) after rest legal known small allowed p =
-    let named : Event → Type 0 = λ e. AreNamed e (length names) in
-    let more = events_printed names es after rest legal (All-tail (λ e. AreNamed e (length names)) e es known) (All-tail IsCounterBelow e es small) (All-tail (λ e. Allows e One) e es allowed) p in
-    let one = event_printed names e legal (All-head (λ e. AreNamed e (length names)) e es known) (All-head IsCounterBelow e es small) (All-head (λ e. Allows e One) e es allowed) in
+pub events_printed : (v : Version) (names : List (List ℕ)) (es : List Event) (after : List Symbol) (rest : List ℕ) → All IsName names → All (λ e. AreNamed e (length names)) es → All IsCounterBelow es → All (λ e. Allows e v) es → IsPrinted after rest → PrintsAs (IsListText (IsCallSpelled v) (map (call_by names) es)) (canon_events names es) after rest
+events_printed v names [] after rest legal known small allowed p = record { text = []; spelled = refl; printed = p }
+events_printed v names (e ∷ es) after rest legal known small allowed p =
+    let more = events_printed v names es after rest legal (All-tail (λ e. AreNamed e (length names)) e es known) (All-tail IsCounterBelow e es small) (All-tail (λ e. Allows e v) e es allowed) p in
+    let one = event_printed v names e legal (All-head (λ e. AreNamed e (length names)) e es known) (All-head IsCounterBelow e es small) (All-head (λ e. Allows e v) e es allowed) in
     let line = joined one.text (semicolon ∷ (more.text ++ after)) (canon_event names e) (59 ∷ 10 ∷ (canon_events names es ++ rest)) refl one.printed (ended (more.text ++ after) (canon_events names es ++ rest) more.printed) in
     record {
       text = one.text ++ semicolon ∷ more.text;
@@ -107,22 +108,50 @@ parts_printed (q ∷ qs) after rest legal p =
           (subst (IsPrinted (one.text ++ (more.text ++ after))) (sym (append_assoc (canon_part q) (flat_map canon_part qs) rest)) one.printed);
     }
 
-schedule_bytes : (lines : List ℕ) → (codes "schedule {\n" ++ lines) ++ codes "}\n" ≡ codes "schedule" ++ 32 ∷ 123 ∷ 10 ∷ (lines ++ 125 ∷ 10 ∷ [])
-schedule_bytes lines = simp append_assoc
+-- ---- blocks of events
+
+events_bytes : (word lines rest : List ℕ) → (((word ++ codes " {\n") ++ lines) ++ codes "}\n") ++ rest ≡ word ++ 32 ∷ 123 ∷ 10 ∷ (lines ++ 125 ∷ 10 ∷ rest)
+events_bytes word lines rest = simp append_assoc
+
+-- a word and events in braces
+events_block : (v : Version) (lead : List ℕ) (names : List (List ℕ)) (es : List Event) (after : List Symbol) (rest : List ℕ) → IsName lead → All IsName names → All (λ e. AreNamed e (length names)) es → All IsCounterBelow es → All (λ e. Allows e v) es → IsPrinted after rest → PrintsAs (IsBlockSpelled (word lead ∷ open_brace ∷ []) v (map (call_by names) es)) (((lead ++ codes " {\n") ++ canon_events names es) ++ codes "}\n") after rest
+events_block v lead names es after rest leads legal known small allowed p =
+    let body = events_printed v names es (close_brace ∷ after) (125 ∷ 10 ∷ rest) legal known small allowed (closed after rest p) in
+    let begun = opened (body.text ++ close_brace ∷ after) (canon_events names es ++ 125 ∷ 10 ∷ rest) body.printed in
+    let whole = put (word lead) (open_brace ∷ (body.text ++ close_brace ∷ after)) lead (32 ∷ 123 ∷ 10 ∷ (canon_events names es ++ 125 ∷ 10 ∷ rest)) (refl, leads, refl) (spaced (open_brace ∷ (body.text ++ close_brace ∷ after)) 32 (123 ∷ 10 ∷ (canon_events names es ++ 125 ∷ 10 ∷ rest)) refl begun) in
+    record {
+      text = word lead ∷ open_brace ∷ (body.text ++ close_brace ∷ []);
+      spelled = inr (body.text, body.spelled, refl);
+      printed =
+          subst (λ (ss : List Symbol). IsPrinted (word lead ∷ open_brace ∷ ss) ((((lead ++ codes " {\n") ++ canon_events names es) ++ codes "}\n") ++ rest)) (sym (append_assoc body.text (close_brace ∷ []) after))
+          (subst (IsPrinted (word lead ∷ open_brace ∷ (body.text ++ close_brace ∷ after))) (sym (events_bytes lead (canon_events names es) rest)) whole);
+    }
+
+-- version 2 has each event
+second_allows : (e : Event) → Allows e Two
+second_allows (Exec p) = tt
+second_allows (Send p) = tt
+second_allows (Recv p q) = tt
+second_allows (Take p q i) = tt
+second_allows (Apply p i) = tt
+second_allows (Done p) = tt
+
+all_allowed : (es : List Event) → All (λ e. Allows e Two) es
+all_allowed [] = All-nil (λ e. Allows e Two)
+all_allowed (e ∷ es) = All-cons (λ e. Allows e Two) e es (second_allows e) (all_allowed es)
+
+-- symbols of the given events, before those of the schedule
+pub given_printed : (v : Version) (names : List (List ℕ)) (es : List Event) (after : List Symbol) (rest : List ℕ) → All IsName names → All (λ e. AreNamed e (length names)) es → All IsCounterBelow es → (v ≡ One → es ≡ []) → IsPrinted after rest → PrintsAs (IsGivenSpelled v (map (call_by names) es)) (canon_given v names es) after rest
+given_printed One names es after rest legal known small none p = record { text = []; spelled = (ap (map (call_by names)) (none refl), refl); printed = p }
+given_printed Two names es after rest legal known small none p = events_block Two (codes "given") names es after rest (keyword (codes "given") refl refl (omega arith)) legal known small (all_allowed es) p
 
 -- symbols of the schedule, to the end of the text
-pub record IsSchedulePrinted (names : List (List ℕ)) (es : List Event) : Type 0 where
+pub record IsSchedulePrinted (v : Version) (names : List (List ℕ)) (es : List Event) : Type 0 where
   pub text : List Symbol
-  pub spelled : IsScheduleSpelled (map (call_by names) es) text
+  pub spelled : IsBlockSpelled schedule_head v (map (call_by names) es) text
   pub printed : IsPrinted text (canon_schedule names es)
 
-pub schedule_printed : (names : List (List ℕ)) (es : List Event) → All IsName names → All (λ e. AreNamed e (length names)) es → All IsCounterBelow es → All (λ e. Allows e One) es → IsSchedulePrinted names es
-schedule_printed names es legal known small allowed =
-    let body = events_printed names es (close_brace ∷ []) (125 ∷ 10 ∷ []) legal known small allowed (closed [] [] refl) in
-    let begun = opened (body.text ++ close_brace ∷ []) (canon_events names es ++ 125 ∷ 10 ∷ []) body.printed in
-    let whole = put (word (codes "schedule")) (open_brace ∷ (body.text ++ close_brace ∷ [])) (codes "schedule") (32 ∷ 123 ∷ 10 ∷ (canon_events names es ++ 125 ∷ 10 ∷ [])) (refl, keyword (codes "schedule") refl refl (omega arith), refl) (spaced (open_brace ∷ (body.text ++ close_brace ∷ [])) 32 (123 ∷ 10 ∷ (canon_events names es ++ 125 ∷ 10 ∷ [])) refl begun) in
-    record {
-      text = schedule_head ++ (body.text ++ close_brace ∷ []);
-      spelled = inr (body.text, body.spelled, refl);
-      printed = subst (IsPrinted (schedule_head ++ (body.text ++ close_brace ∷ []))) (sym (schedule_bytes (canon_events names es))) whole;
-    }
+pub schedule_printed : (v : Version) (names : List (List ℕ)) (es : List Event) → All IsName names → All (λ e. AreNamed e (length names)) es → All IsCounterBelow es → All (λ e. Allows e v) es → IsSchedulePrinted v names es
+schedule_printed v names es legal known small allowed =
+    let block = events_block v (codes "schedule") names es [] [] (keyword (codes "schedule") refl refl (omega arith)) legal known small allowed refl in
+    record { text = block.text; spelled = block.spelled; printed = alone block.text (canon_schedule names es) block.printed }

@@ -1,5 +1,5 @@
 -- The canonical text of a well-formed scenario is that scenario.
-use Rattle.std.proofs.Common.{◌≡◌, ◌≢◌, ℕ, ◌≤◌, List, [], ◌∷◌, ◌++◌, map, length, false, inl, inr, refl, sym, ap, subst, ◌∙◌, arith, append_assoc}
+use Rattle.std.proofs.Common.{◌≡◌, ◌≢◌, ℕ, ◌≤◌, List, [], ◌∷◌, ◌++◌, map, length, false, inl, inr, refl, sym, ap, subst, ◌∙◌, arith, append_assoc, append-nil}
 use Rattle.std.specs.Prelude.{codes, flat_map, All}
 use Rattle.std.specs.Char.{is_ascii_digit}
 use Rattle.std.specs.List.{AllPairs}
@@ -9,7 +9,10 @@ use Rattle.std.proofs.lemmas.List.Sorted.{IsPermutation-refl}
 use Rattle.std.proofs.lemmas.List.Sums.{AllPass-from_list_all}
 use Rattle.jc_rules.specs.declared.operation.Event.{Event}
 use Rattle.jc_rules.specs.declared.operation.Event.TheVariants.{Exec, Send, Recv, Take, Apply, Done}
+use Rattle.jc_rules.specs.declared.version.Version.{Version}
+use Rattle.jc_rules.specs.declared.version.Version.TheVariants.{One}
 use Rattle.jc_rules.specs.Syntax.{Cmd}
+use Rattle.jc_rules.specs.Version.{Allows}
 use Rattle.jc_parser.specs.Symbols.{Symbol, word, number, symbols}
 use Rattle.jc_parser.specs.Words.{is_reserved}
 use Rattle.jc_parser.specs.Scripts.{IsScriptWellFormed}
@@ -20,7 +23,7 @@ use Rattle.jc_parser.specs.Trees.{Tree, tree_of, name_of, header, ArePartsWithin
 use Rattle.jc_printer.proofs.Printed.{IsPrinted, put, spaced, printed_text}
 use Rattle.jc_printer.proofs.Trees.{keyword}
 use Rattle.jc_scenario.specs.Scenarios.{Scenario, parts_of, IsWellFormed, IsOfTree, AreScenario, IsScenario}
-use Rattle.jc_scenario.specs.Canon.{canon_part, canon_schedule, canon}
+use Rattle.jc_scenario.specs.Canon.{header_text, canon_part, canon_given, canon_schedule, canon, canon_one}
 use Rattle.jc_scenario.proofs.Apart.{names-parts, rising_apart}
 use Rattle.jc_scenario.proofs.Lines.{AreLegalParts, parts_printed, schedule_printed}
 use Rattle.jc_scenario.proofs.Placed.{placed_tree}
@@ -104,14 +107,14 @@ version_number = (
 record IsWhole (s : Scenario) : Type 0 where
   text : List Symbol
   spelled : IsTreeSpelled (tree_for s) text
-  printed : IsPrinted text (canon s)
+  printed : IsPrinted text (canon_one s)
 
 header_bytes : (parts schedule : List ℕ) → (codes "jsoncrdt 1\n" ++ parts) ++ schedule ≡ codes "jsoncrdt" ++ 32 ∷ (codes "1" ++ 10 ∷ (parts ++ schedule))
 header_bytes parts schedule = simp append_assoc
 
-whole : (s : Scenario) → IsWellFormed s → IsWhole s
-whole s w =
-    let schedule = schedule_printed s.names s.schedule w.legal w.known w.counters w.allowed in
+whole : (s : Scenario) → IsWellFormed s → s.version ≡ One → IsWhole s
+whole s w first =
+    let schedule = schedule_printed s.names s.schedule w.legal w.known w.counters (subst (λ (v : Version). All (λ e. Allows e v) s.schedule) first w.allowed) in
     let parts = parts_printed (parts_of s.names s.scripts) schedule.text (canon_schedule s.names s.schedule) (legal_parts s.names s.scripts w.legal w.commands w.formed) schedule.printed in
     let ss : List Symbol = parts.text ++ schedule.text in
     let bs : List ℕ = flat_map canon_part (parts_of s.names s.scripts) ++ canon_schedule s.names s.schedule in
@@ -123,8 +126,10 @@ whole s w =
       printed = subst (IsPrinted (header ++ (parts.text ++ schedule.text))) (sym (header_bytes (flat_map canon_part (parts_of s.names s.scripts)) (canon_schedule s.names s.schedule))) all;
     }
 
-of_tree : (s : Scenario) → IsWellFormed s → IsOfTree (tree_for s) s
-of_tree s w = record {
+of_tree : (s : Scenario) → IsWellFormed s → s.version ≡ One → IsOfTree (tree_for s) s
+of_tree s w first = record {
+  version = first;
+  given = w.first_given first;
   rising = w.rising;
   each = w.each;
   same = IsPermutation-refl (parts_of s.names s.scripts);
@@ -133,23 +138,31 @@ of_tree s w = record {
 }
 
 -- these lexemes are the scenario, and each name in its events has its place
-placed_scenario : (s : Scenario) → IsWellFormed s → (r : Reading) → IsTreeSpelled (tree_for s) (symbols r.left) → AreScenario r s
-placed_scenario s w r spelled =
+placed_scenario : (s : Scenario) → IsWellFormed s → s.version ≡ One → (r : Reading) → IsTreeSpelled (tree_for s) (symbols r.left) → AreScenario r s
+placed_scenario s w first r spelled =
     let placed = placed_tree s.names (parts_of s.names s.scripts) s.schedule r.left w.counters spelled in
     let same : tree_of placed.tree ≡ tree_for s = placed.same in
     record {
       tree = placed.tree;
       named = record { spelled = subst (λ (t : Tree). IsTreeSpelled t (symbols r.left)) (sym same) spelled; within = subst IsTreeWithin (sym same) (tree_within s w); placed = placed.placed };
-      of_tree = subst (λ (t : Tree). IsOfTree t s) (sym same) (of_tree s w);
+      of_tree = subst (λ (t : Tree). IsOfTree t s) (sym same) (of_tree s w first);
     }
 
-pub reads_back : (s : Scenario) → IsWellFormed s → length (canon s) ≤ 8388608 → IsScenario (canon s) s
-reads_back s w short =
-    let own = whole s w in
-    let text = printed_text own.text (canon s) own.printed short in
+pub first_stays : (s : Scenario) → s.version ≡ One → canon s ≡ canon_one s
+first_stays s first =
+    ap (λ (v : Version). ((header_text v ++ flat_map canon_part (parts_of s.names s.scripts)) ++ canon_given v s.names s.given) ++ canon_schedule s.names s.schedule) first
+    ∙ ap (λ (l : List ℕ). l ++ canon_schedule s.names s.schedule) (append-nil (codes "jsoncrdt 1\n" ++ flat_map canon_part (parts_of s.names s.scripts)))
+
+one_back : (s : Scenario) → IsWellFormed s → s.version ≡ One → length (canon_one s) ≤ 8388608 → IsScenario (canon_one s) s
+one_back s w first short =
+    let own = whole s w first in
+    let text = printed_text own.text (canon_one s) own.printed short in
     record {
-      valid = printed_utf8 own.text (canon s) own.printed;
+      valid = printed_utf8 own.text (canon_one s) own.printed;
       tokens = text.tokens;
       lexed = text.lexed;
-      scenario = placed_scenario s w (reading (canon s) text.tokens) (rw text.spell own.spelled);
+      scenario = placed_scenario s w first (reading (canon_one s) text.tokens) (rw text.spell own.spelled);
     }
+
+pub reads_back : (s : Scenario) → IsWellFormed s → s.version ≡ One → length (canon s) ≤ 8388608 → IsScenario (canon s) s
+reads_back s w first = subst (λ (bytes : List ℕ). length bytes ≤ 8388608 → IsScenario bytes s) (sym (first_stays s first)) (one_back s w first)

@@ -1,5 +1,5 @@
 -- The scenario of tokens, or its fault, from what is read, arranged and resolved.
-use Rattle.std.proofs.Common.{◌≡◌, ℕ, ◌≤◌, List, map, length, refl, ap, ◌∙◌, arith}
+use Rattle.std.proofs.Common.{◌≡◌, ℕ, ◌≤◌, List, ◌++◌, map, length, refl, ap, ◌∙◌, arith}
 use Rattle.std.specs.List.Sorted.{IsPermutation}
 use Rattle.std.proofs.lemmas.List.{length-map}
 use Rattle.std.proofs.lemmas.List.Sorted.{length_permutation}
@@ -29,18 +29,27 @@ pub few_names : (ps : List Part) (ns : List (List ℕ)) (ss : List (List Cmd)) �
 few_names ps ns ss a few =
     omega (arith, ap length (names-parts ns ss a.each), length-map (parts_of ns ss) name_of, length_permutation ps (parts_of ns ss) a.same, few)
 
-pub scenario_read : (r : Reading) (t : NamedTree) (ns : List (List ℕ)) (ss : List (List Cmd)) (es : List Event) → IsNamedTree r t → AreArranged t.parts ns ss → AreResolved ns t.events es → AreScenario r (record { names = ns; scripts = ss; schedule = es })
-scenario_read r t ns ss es named a so = record {
+pub scenario_read : (r : Reading) (t : NamedTree) (ns : List (List ℕ)) (ss : List (List Cmd)) (gs es : List Event) → IsNamedTree r t → AreArranged t.parts ns ss → AreResolved ns t.given gs → AreResolved ns t.events es → AreScenario r (record { version = t.version; names = ns; scripts = ss; given = gs; schedule = es })
+scenario_read r t ns ss gs es named a given so = record {
   tree = t;
   named = named;
-  of_tree = record { rising = a.rising; each = a.each; same = a.same; known = so.known; called = so.called };
+  of_tree = record {
+    version = refl;
+    rising = a.rising;
+    each = a.each;
+    same = a.same;
+    given_known = given.known;
+    given_called = given.called;
+    known = so.known;
+    called = so.called;
+  };
 }
 
-pub stranger_read : (r : Reading) (t : NamedTree) (ns : List (List ℕ)) (ss : List (List Cmd)) (at : ℕ) → IsNamedTree r t → AreArranged t.parts ns ss → IsFirstStranger ns (all_names_in t.events) at → IsStranger r (UnknownReplica at)
+pub stranger_read : (r : Reading) (t : NamedTree) (ns : List (List ℕ)) (ss : List (List Cmd)) (at : ℕ) → IsNamedTree r t → AreArranged t.parts ns ss → IsFirstStranger ns (all_names_in (t.given ++ t.events)) at → IsStranger r (UnknownReplica at)
 stranger_read r t ns ss at named a first = record {
   tree = t;
   named = named;
   place = at;
-  first = strange_too ns (map name_of t.parts) (all_names_in t.events) at (same_names t.parts ns ss a.each a.same) first;
+  first = strange_too ns (map name_of t.parts) (all_names_in (t.given ++ t.events)) at (same_names t.parts ns ss a.each a.same) first;
   is = refl;
 }

@@ -4,6 +4,7 @@ use Rattle.std.specs.Prelude.{All}
 use Rattle.std.specs.List.{Contains}
 use Rattle.std.specs.List.Sorted.{IsPermutation}
 use Rattle.std.proofs.lemmas.List.{map-append, map_more}
+use Rattle.std.proofs.lemmas.Grind.{flat_map-append}
 use Rattle.std.proofs.lemmas.List.Elements.{All-head, All-tail, All-push, Contains-get_or}
 use Rattle.std.proofs.lemmas.List.Sorted.{IsPermutation-map, IsPermutation-sym, Contains-permutation}
 use Rattle.std.proofs.lemmas.Option.{unwrap_or-slice_get}
@@ -55,10 +56,13 @@ event_known names (E.Send p) (N.Send q) a same = (has_name names q.name p a cc, 
 event_known names (E.Done p) (N.Done q) a same = (has_name names q.name p a cc, tt)
 event_known names (E.Recv p r) (N.Recv q s) a same = (has_name names q.name p a.0 cc, (has_name names s.name r a.1 cc, tt))
 event_known names (E.Apply p r) (N.Apply q counter s) a same = (has_name names q.name p a.0 cc, (has_name names s.name r.replica a.1 cc, tt))
-event_known names (E.Take p r i) (N.Exec q) a same = cc
+event_known names (E.Take p r i) (N.Take q s counter t) a same = (
+  has_name names q.name p a.0 cc,
+  (has_name names s.name r a.1 cc, (has_name names t.name i.replica a.2 cc, tt)),
+)
 event_known names e x a same = cc
 
-all_known : (names : List (List ℕ)) (es : List Event) (xs : List NamedEvent) → All (λ e. AreNamed e (length names)) es → map (call_by names) es ≡ map call_of xs → AreKnown names (all_names_in xs)
+pub all_known : (names : List (List ℕ)) (es : List Event) (xs : List NamedEvent) → All (λ e. AreNamed e (length names)) es → map (call_by names) es ≡ map call_of xs → AreKnown names (all_names_in xs)
 all_known names [] [] a same = tt
 all_known names [] (x ∷ xs) a same = cc
 all_known names (e ∷ es) [] a same = cc
@@ -85,13 +89,20 @@ same_names ps ns ss each same =
       λ n c. Contains-permutation (map name_of ps) ns n names c,
     )
 
-pub no_stranger : (t : NamedTree) (s : Scenario) (at : ℕ) → IsOfTree (tree_of t) s → IsFirstStranger (map name_of t.parts) (all_names_in t.events) at → ⊥
+-- names of the one list of events and of the other
+pub both_lists : (xs ys : List NamedEvent) → all_names_in (xs ++ ys) ≡ all_names_in xs ++ all_names_in ys
+both_lists xs ys = flat_map-append names_in xs ys
+
+pub no_stranger : (t : NamedTree) (s : Scenario) (at : ℕ) → IsOfTree (tree_of t) s → IsFirstStranger (map name_of t.parts) (all_names_in (t.given ++ t.events)) at → ⊥
 no_stranger t s at is h =
     let same = same_names t.parts s.names s.scripts is.each is.same in
-    none_strange s.names (all_names_in t.events) at (all_known s.names s.schedule t.events is.known is.called)
-    (strange_too (map name_of t.parts) s.names (all_names_in t.events) at (same.1, same.0) h)
+    let given = all_known s.names s.given t.given is.given_known is.given_called in
+    let schedule = all_known s.names s.schedule t.events is.known is.called in
+    let first : IsFirstStranger s.names (all_names_in t.given ++ all_names_in t.events) at =
+    subst (λ (xs : List Named). IsFirstStranger s.names xs at) (both_lists t.given t.events) (strange_too (map name_of t.parts) s.names (all_names_in (t.given ++ t.events)) at (same.1, same.0) h) in
+    none_strange s.names (all_names_in t.given ++ all_names_in t.events) at (both_known s.names (all_names_in t.given) (all_names_in t.events) given schedule) first
 
--- ---- the first stranger of a schedule
+-- ---- the first stranger of events
 
 pub known_parts : (names : List (List ℕ)) (xs ys : List Named) → AreKnown names (xs ++ ys) → AreKnown names xs × AreKnown names ys
 known_parts names [] ys k = (tt, k)
@@ -116,6 +127,13 @@ first_there names (y ∷ ys) (suc i) x at inside is k h =
 -- after events that are resolved
 pub first_stranger : (names : List (List ℕ)) (xs : List NamedEvent) (es : List Event) (i : ℕ) (x : NamedEvent) (at : ℕ) → i < length xs → x ≡ get_or xs i x → AreResolved names (take i xs) es → IsFirstStranger names (names_in x) at → IsFirstStranger names (all_names_in xs) at
 first_stranger names xs es i x at inside is so h = first_there names xs i x at inside is (all_known names es (take i xs) so.known so.called) h
+
+-- among the given events, or in the schedule after given events that are resolved
+pub first_given : (names : List (List ℕ)) (xs ys : List NamedEvent) (at : ℕ) → IsFirstStranger names (all_names_in xs) at → IsFirstStranger names (all_names_in (xs ++ ys)) at
+first_given names xs ys at h = rw (both_lists xs ys) (first_before names (all_names_in xs) (all_names_in ys) at h)
+
+pub first_scheduled : (names : List (List ℕ)) (xs ys : List NamedEvent) (es : List Event) (at : ℕ) → AreResolved names xs es → IsFirstStranger names (all_names_in ys) at → IsFirstStranger names (all_names_in (xs ++ ys)) at
+first_scheduled names xs ys es at so h = rw (both_lists xs ys) (first_after names (all_names_in xs) (all_names_in ys) at (all_known names es xs so.known so.called) h)
 
 -- one event more is resolved
 pub one_more : (names : List (List ℕ)) (xs : List NamedEvent) (es : List Event) (i : ℕ) (x : NamedEvent) (e : Event) → i < length xs → x ≡ get_or xs i x → AreResolved names (take i xs) es → IsResolved names x e → AreResolved names (take (i + 1) xs) (es ++ e ∷ [])

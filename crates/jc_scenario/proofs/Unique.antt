@@ -141,4 +141,8 @@ one_of_tree t s u a b =
     let known : All (λ e. AreNamed e (length s.names)) u.schedule = subst (λ (l : List (List ℕ)). All (λ e. AreNamed e (length l)) u.schedule) (sym names) b.known in
     let called : map (call_by s.names) u.schedule ≡ t.calls = subst (λ (l : List (List ℕ)). map (call_by l) u.schedule ≡ t.calls) (sym names) b.called in
     let schedule : s.schedule ≡ u.schedule = same_events s.names s.schedule u.schedule a.rising a.known known (a.called ∙ sym called) in
-    λ i. record { names = names i; scripts = scripts i; schedule = schedule i }
+    let version : s.version ≡ u.version = a.version ∙ sym b.version in
+    let given_known : All (λ e. AreNamed e (length s.names)) u.given = subst (λ (l : List (List ℕ)). All (λ e. AreNamed e (length l)) u.given) (sym names) b.given_known in
+    let given_called : map (call_by s.names) u.given ≡ t.given = subst (λ (l : List (List ℕ)). map (call_by l) u.given ≡ t.given) (sym names) b.given_called in
+    let given : s.given ≡ u.given = same_events s.names s.given u.given a.rising a.given_known given_known (a.given_called ∙ sym given_called) in
+    λ i. record { version = version i; names = names i; scripts = scripts i; given = given i; schedule = schedule i }

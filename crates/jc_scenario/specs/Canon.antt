@@ -1,5 +1,5 @@
 -- The canonical text of a scenario. Each line ends with LF.
-use Rattle.std.specs.Prelude.{ℕ, List, ◌++◌, codes, flat_map}
+use Rattle.std.specs.Prelude.{ℕ, List, [], ◌++◌, codes, flat_map}
 use Rattle.jc_rules.specs.declared.operation.Event.{Event}
 use Rattle.jc_rules.specs.declared.version.Version.{Version}
 use Rattle.jc_rules.specs.declared.version.Version.TheVariants.{One, Two}
@@ -39,3 +39,7 @@ abbrev pub canon : Scenario → List ℕ
 canon s =
     header_text s.version ++ flat_map canon_part (parts_of s.names s.scripts) ++ canon_given s.version s.names s.given
     ++ canon_schedule s.names s.schedule
+
+-- the text of version 1: the header, the replicas and the schedule
+abbrev pub canon_one : Scenario → List ℕ
+canon_one s = codes "jsoncrdt 1\n" ++ flat_map canon_part (parts_of s.names s.scripts) ++ canon_schedule s.names s.schedule

@@ -1,5 +1,5 @@
 -- The fault of bytes that are no scenario, and its place.
-use Rattle.std.specs.Prelude.{◌≡◌, ℕ, ◌≤◌, ◌<◌, ◌⊎◌, List, length, map}
+use Rattle.std.specs.Prelude.{◌≡◌, ℕ, ◌≤◌, ◌<◌, ◌⊎◌, List, ◌++◌, length, map}
 use Rattle.std.specs.Str.{IsUtf8}
 use Rattle.std.specs.Str.Lossy.{utf8_valid_len}
 use Rattle.jc_syntax.specs.declared.token.Token.{Token}
@@ -13,12 +13,13 @@ use Rattle.jc_parser.specs.Trees.{NamedTree, name_of, IsNamedTree}
 use Rattle.jc_parser.specs.TreeFaults.{IsTreeFault}
 use Rattle.jc_scenario.specs.Resolved.{all_names_in, IsFirstStranger}
 
--- These lexemes are a scenario, but for a name in its events that no replica has; the first such name stands there.
+-- These lexemes are a scenario, but for a name in its events that no replica has; the first such name stands there. The
+-- given events stand before the schedule's.
 pub record IsStranger (r : Reading) (fault : ScenarioFault) : Type 0 where
   pub tree : NamedTree
   pub named : IsNamedTree r tree
   pub place : ℕ
-  pub first : IsFirstStranger (map name_of tree.parts) (all_names_in tree.events) place
+  pub first : IsFirstStranger (map name_of tree.parts) (all_names_in (tree.given ++ tree.events)) place
   pub is : fault ≡ UnknownReplica place
 
 -- the fault of these lexemes: that of the scenario's sentence, or else of a name in its events

@@ -1,9 +1,10 @@
 -- What the definitions promise by themselves.
 use Rattle.std.specs.Prelude.{◌≡◌, ◌⊎◌, ℕ, ◌≤◌, List, length}
+use Rattle.jc_rules.specs.declared.version.Version.TheVariants.{One}
 use Rattle.jc_parser.specs.declared.fault.ScenarioFault.{ScenarioFault}
 use Rattle.jc_scenario.specs.Scenarios.{Scenario, IsWellFormed, IsScenario}
 use Rattle.jc_scenario.specs.Faults.{IsFault}
-use Rattle.jc_scenario.specs.Canon.{canon}
+use Rattle.jc_scenario.specs.Canon.{canon, canon_one}
 
 -- Bytes are one scenario at most.
 abbrev pub OneScenario : Type 0
@@ -30,3 +31,7 @@ ScenariosAreWellFormed = (bytes : List ℕ) (s : Scenario) → IsScenario bytes 
 -- The canonical text of a well-formed scenario, within the limit for texts, is that scenario.
 abbrev pub ScenariosReadBack : Type 0
 ScenariosReadBack = (s : Scenario) → IsWellFormed s → length (canon s) ≤ 8388608 → IsScenario (canon s) s
+
+-- A scenario of version 1 is written as version 1 writes it: without given events.
+abbrev pub FirstVersionStays : Type 0
+FirstVersionStays = (s : Scenario) → s.version ≡ One → canon s ≡ canon_one s

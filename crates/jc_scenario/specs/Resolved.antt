@@ -4,7 +4,7 @@ use Rattle.std.specs.List.{Contains}
 use Rattle.jc_rules.specs.declared.operation.Event.{Event}
 use Rattle.jc_syntax.specs.declared.tree.Named.{Named}
 use Rattle.jc_syntax.specs.declared.tree.NamedEvent.{NamedEvent}
-use Rattle.jc_syntax.specs.declared.tree.NamedEvent.TheVariants.{Exec, Send, Recv, Apply, Done}
+use Rattle.jc_syntax.specs.declared.tree.NamedEvent.TheVariants.{Exec, Send, Recv, Take, Apply, Done}
 use Rattle.jc_parser.specs.Calls.{call_of}
 use Rattle.jc_parser.specs.Legal.{call_by}
 use Rattle.jc_printer.specs.Canon.{AreNamed}
@@ -21,6 +21,7 @@ abbrev pub names_in : NamedEvent → List Named
 names_in (Exec p) = p ∷ []
 names_in (Send p) = p ∷ []
 names_in (Recv p q) = p ∷ q ∷ []
+names_in (Take p q counter r) = p ∷ q ∷ r ∷ []
 names_in (Apply p counter q) = p ∷ q ∷ []
 names_in (Done p) = p ∷ []
 
@@ -31,7 +32,7 @@ IsFirstStranger names (x ∷ xs) at =
     ((Contains names x.name → ⊥) × (at ≡ x.place))
     ⊎ (Contains names x.name × IsFirstStranger names xs at)
 
--- ---- a schedule
+-- ---- a list of events
 
 pub record AreResolved (names : List (List ℕ)) (named : List NamedEvent) (events : List Event) : Type 0 where
   pub known : All (λ e. AreNamed e (length names)) events

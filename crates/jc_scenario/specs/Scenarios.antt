@@ -60,11 +60,12 @@ pub record IsWellFormed (s : Scenario) : Type 0 where
 
 -- a text with these replicas, in its own order, and with these events, is this scenario
 pub record IsOfTree (t : Tree) (s : Scenario) : Type 0 where
-  pub version : s.version ≡ One
-  pub given : s.given ≡ []
+  pub version : s.version ≡ t.version
   pub rising : IsRising name_cmp s.names
   pub each : length s.scripts ≡ length s.names
   pub same : IsPermutation t.parts (parts_of s.names s.scripts)
+  pub given_known : All (λ e. AreNamed e (length s.names)) s.given
+  pub given_called : map (call_by s.names) s.given ≡ t.given
   pub known : All (λ e. AreNamed e (length s.names)) s.schedule
   pub called : map (call_by s.names) s.schedule ≡ t.calls
 

@@ -1,7 +1,7 @@
 //! Laws of the definitions: bytes are one scenario or have one fault, what is read is well formed, and what
 //! is printed is read back.
 
-ghost use Rattle.jc_scenario.specs.Laws.{OneScenario, ScenarioOrFault, ScenarioElseFault, OneFault, ScenariosAreWellFormed, ScenariosReadBack};
+ghost use Rattle.jc_scenario.specs.Laws.{OneScenario, ScenarioOrFault, ScenarioElseFault, OneFault, ScenariosAreWellFormed, ScenariosReadBack, FirstVersionStays};
 
 use jc_parser::laws as sentences;
 use jc_syntax::laws as lexemes;
@@ -54,4 +54,9 @@ pub fn scenarios_are_well_formed()
 /// The canonical text of a well-formed scenario, within the limit for texts, is that scenario.
 pub fn scenarios_read_back()
     ensures { ScenariosReadBack }
+{}
+
+/// The canonical text of a scenario of version 1 has no given events, as scenarios of version 1 have none.
+pub fn first_version_stays()
+    ensures { FirstVersionStays }
 {}

@@ -57,6 +57,20 @@ pub fn resolve(names: &[Text], event: &NamedEvent) -> Result<Event, UnknownRepli
             let sender = number_of(names, q)?;
             Ok(Event::Recv(receiver, sender))
         }
+        NamedEvent::Take {
+            replica,
+            sender,
+            counter,
+            author,
+        } => {
+            let receiver = number_of(names, replica)?;
+            let from = number_of(names, sender)?;
+            let id = Id {
+                counter: u64::from(*counter),
+                replica: number_of(names, author)?,
+            };
+            Ok(Event::Take(receiver, from, id))
+        }
         NamedEvent::Apply {
             replica,
             counter,

@@ -4,12 +4,12 @@ ghost use Rattle.std.specs.Prelude.{◌≡◌, ◌++◌, ◌<◌, ◌≤◌, OnO
 ghost use Rattle.jc_syntax.specs.Trees.{cmd_of};
 ghost use Rattle.jc_printer.specs.Canon.{canon_cmd, canon_event, AreNamed};
 ghost use Rattle.jc_scenario.specs.Scenarios.{parts_of, IsWellFormed};
-ghost use Rattle.jc_scenario.specs.Canon.{line_of, canon_commands, canon_part, canon_events, canon_schedule, canon};
+ghost use Rattle.jc_scenario.specs.Canon.{line_of, canon_commands, canon_part, canon_events, header_text, canon_given, canon_schedule, canon};
 ghost use Rattle.jc_scenario.specs.Views.{scripts_view, scenario_view};
 
 use crate::scenario::Scenario;
 use jc_printer::{print_event, push_cmd};
-use jc_rules::{Event, Text};
+use jc_rules::{Event, Text, Version};
 use jc_syntax::Cmd;
 use std::alloc::{AllocError, Global};
 
@@ -18,10 +18,27 @@ pub fn print(alloc: Global, scenario: &Scenario) -> Result<String, AllocError>
     requires { IsWellFormed (scenario_view scenario.now) }
     ensures { IfOk result (λ text. string_bytes text ≡ canon (scenario_view scenario.now)) }
 {
-    let mut out = String::from_str(alloc, "jsoncrdt 1\n")?;
+    let mut out = String::from_str(alloc, header(scenario.version))?;
     push_parts(&mut out, &scenario.names, &scenario.scripts)?;
+    push_given(
+        alloc,
+        &mut out,
+        scenario.version,
+        &scenario.names,
+        &scenario.given,
+    )?;
     push_schedule(alloc, &mut out, &scenario.names, &scenario.schedule)?;
     Ok(out)
+}
+
+/// The first line of a text of the version.
+fn header(version: Version) -> &'static str
+    ensures { result.now ≡ header_text version }
+{
+    match version {
+        Version::One => "jsoncrdt 1\n",
+        Version::Two => "jsoncrdt 2\n",
+    }
 }
 
 /// The replicas, one after another.
@@ -66,6 +83,23 @@ fn push_command(out: &mut String, cmd: &Cmd) -> Result<(), AllocError>
     out.push_str(";\n")
 }
 
+/// The given events in version 2. In version 1 there is no block for them.
+fn push_given(
+    alloc: Global,
+    out: &mut String,
+    version: Version,
+    names: &[Text],
+    given: &[Event],
+) -> Result<(), AllocError>
+    requires { All (λ e. AreNamed e (length names.now)) given.now }
+    ensures { OnOk result (string_bytes out.new ≡ string_bytes out.old ++ canon_given version names.now given.now) }
+{
+    match version {
+        Version::One => Ok(()),
+        Version::Two => push_block(alloc, out, "given {\n", names, given),
+    }
+}
+
 fn push_schedule(
     alloc: Global,
     out: &mut String,
@@ -75,8 +109,23 @@ fn push_schedule(
     requires { All (λ e. AreNamed e (length names.now)) schedule.now }
     ensures { OnOk result (string_bytes out.new ≡ string_bytes out.old ++ canon_schedule names.now schedule.now) }
 {
-    out.push_str("schedule {\n")?;
-    push_events(alloc, out, names, schedule)?;
+    push_block(alloc, out, "schedule {\n", names, schedule)
+}
+
+/// Events between the head of their block and its end.
+fn push_block(
+    alloc: Global,
+    out: &mut String,
+    head: &str,
+    names: &[Text],
+    events: &[Event],
+) -> Result<(), AllocError>
+    requires { All (λ e. AreNamed e (length names.now)) events.now }
+    ensures { OnOk result (string_bytes out.new ≡
+        string_bytes out.old ++ (head.now ++ canon_events names.now events.now ++ codes "}\n")) }
+{
+    out.push_str(head)?;
+    push_events(alloc, out, names, events)?;
     out.push_str("}\n")?;
     Ok(())
 }
@@ -85,12 +134,12 @@ fn push_events(
     alloc: Global,
     out: &mut String,
     names: &[Text],
-    schedule: &[Event],
+    events: &[Event],
 ) -> Result<(), AllocError>
-    requires { All (λ e. AreNamed e (length names.now)) schedule.now }
-    ensures { OnOk result (string_bytes out.new ≡ string_bytes out.old ++ canon_events names.now schedule.now) }
+    requires { All (λ e. AreNamed e (length names.now)) events.now }
+    ensures { OnOk result (string_bytes out.new ≡ string_bytes out.old ++ canon_events names.now events.now) }
 {
-    for event in schedule {
+    for event in events {
         push_event(alloc, out, names, event)?;
     }
     Ok(())

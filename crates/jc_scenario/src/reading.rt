@@ -13,11 +13,11 @@ use crate::names::resolve;
 use crate::order::arranged;
 use crate::scenario::Scenario;
 use jc_parser::{NamedScenario, ScenarioFault, scenario_of};
-use jc_rules::{Event, Text, Version};
+use jc_rules::{Event, Text};
 use jc_syntax::{MAX_TEXT, NamedEvent, Token, lex};
 use std::alloc::Global;
 
-/// The events of a schedule by the numbers of their replicas, if each name is a replica's.
+/// The events of a list by the numbers of their replicas, if each name is a replica's.
 fn resolved(
     alloc: Global,
     names: &[Text],
@@ -28,11 +28,11 @@ fn resolved(
     ensures fault { IfErr result (λ e. e ≢ ScenarioFault.Memory →
         (at : ℕ) × IsFirstStranger names.now (all_names_in events.now) at × (e ≡ ScenarioFault.UnknownReplica at)) }
 {
-    let mut schedule = Vec::new(alloc);
+    let mut numbered = Vec::new(alloc);
     for event in events {
-        schedule.push(resolve(names, event)?)?;
+        numbered.push(resolve(names, event)?)?;
     }
-    Ok(schedule)
+    Ok(numbered)
 }
 
 /// The scenario that all of the tokens are.
@@ -41,14 +41,20 @@ fn scenario(alloc: Global, text: &str, tokens: &[Token]) -> Result<Scenario, Sce
     ensures scenario { IfOk result (λ s. AreScenario (reading text.now tokens.now) (scenario_view s)) }
     ensures fault { IfErr result (λ e. e ≢ ScenarioFault.Memory → IsFaultAmong (reading text.now tokens.now) e) }
 {
-    let NamedScenario { replicas, events } = scenario_of(alloc, text, tokens)?;
+    let NamedScenario {
+        version,
+        replicas,
+        given,
+        events,
+    } = scenario_of(alloc, text, tokens)?;
     let (names, scripts) = arranged(alloc, replicas)?;
+    let given = resolved(alloc, &names, &given)?;
     let schedule = resolved(alloc, &names, &events)?;
     Ok(Scenario {
-        version: Version::One,
+        version,
         names,
         scripts,
-        given: Vec::new(alloc),
+        given,
         schedule,
     })
 }
@@ -60,7 +66,9 @@ fn scenario(alloc: Global, text: &str, tokens: &[Token]) -> Result<Scenario, Sce
 /// fault of a token; `NoHeader`; then the first by place of `Unexpected`, `EndOfText`,
 /// `IndexTooLarge`, `ReservedName`, `TooManyCommands`, `TooLongExpression`, `SameName`,
 /// `NoReplica`, `TooManyReplicas` and `TooManyEvents`, at one place that with the smaller number;
-/// then `UnknownReplica` at the first such name.
+/// then `UnknownReplica` at the first such name. Given events and those of the schedule are counted
+/// apart for `TooManyEvents`. Events that take one operation and given events are of version 2, and
+/// `Unexpected` in version 1.
 pub fn read(alloc: Global, bytes: &[u8]) -> Result<Scenario, ScenarioFault>
     // What is read is the scenario that the bytes are.
     ensures scenario { IfOk result (λ s. IsScenario bytes.now (scenario_view s)) }

@@ -54,6 +54,13 @@ pub enum NamedEvent {
     Send(Named),
     /// `p.recv(q)`
     Recv(Named, Named),
+    /// `p.take(q, counter, author)`, which names an identifier.
+    Take {
+        replica: Named,
+        sender: Named,
+        counter: u32,
+        author: Named,
+    },
     /// `p.apply(counter, author)`, which names an identifier.
     Apply {
         replica: Named,
@@ -127,6 +134,17 @@ impl NamedEvent {
             NamedEvent::Exec(p) => NamedEvent::Exec(p.copy()?),
             NamedEvent::Send(p) => NamedEvent::Send(p.copy()?),
             NamedEvent::Recv(p, q) => NamedEvent::Recv(p.copy()?, q.copy()?),
+            NamedEvent::Take {
+                replica,
+                sender,
+                counter,
+                author,
+            } => NamedEvent::Take {
+                replica: replica.copy()?,
+                sender: sender.copy()?,
+                counter: *counter,
+                author: author.copy()?,
+            },
             NamedEvent::Apply {
                 replica,
                 counter,

@@ -2,7 +2,7 @@
 //! texts that are too long.
 
 use crate::testing::{Fault, Parts, fault, holds, is_fault, is_text, repeated};
-use jc_rules::{Event, Id, Text};
+use jc_rules::{Event, Id, Text, Version};
 use jc_scenario::{Scenario, ScenarioFault, print, read, resolve};
 use jc_syntax::{Cmd, Named, NamedEvent};
 use std::alloc::{AllocError, Global};
@@ -32,8 +32,9 @@ fn bytes_that_are_no_text(rt: HostRuntime) {
 /// Bytes that are no scenario, and what their faults are shown as.
 const SHOWN: &[(&[u8], &str)] = &[
     (b"jsoncrdt 1 \xff", "NotUtf8 at 11"),
-    (b"jsoncrdt 2", "NoHeader at 9"),
+    (b"jsoncrdt 3", "NoHeader at 9"),
     (b"jsoncrdt 1", "NoReplica at 10"),
+    (b"jsoncrdt 2", "NoReplica at 10"),
     (b"jsoncrdt 1 replica a {} replica a {}", "SameName at 32"),
     (
         b"jsoncrdt 1 replica a {} schedule {z.exec}",
@@ -76,6 +77,32 @@ const EVENTS: &[(Parts, Fault)] = &[
 #[test]
 fn events(rt: HostRuntime) -> Result<(), Fail> {
     Ok(have_faults(&rt, rt.alloc(), EVENTS)?)
+}
+
+/// What stands before a given event.
+const GIVEN: &str = "jsoncrdt 2 replica a {} given {";
+
+const GIVEN_EVENTS: &[(Parts, Fault)] = &[
+    ((GIVEN, "a.send;", 100000, "}"), None),
+    ((GIVEN, "a.send;", 100001, "}"), Some((19, 700031))),
+];
+
+/// Events behind as many given ones as there may be.
+const BEHIND: &[(usize, Fault)] = &[(100000, None), (100001, Some((19, 1400043)))];
+
+/// Given events and those of the schedule are counted apart.
+#[test]
+fn given_events(rt: HostRuntime) -> Result<(), Fail> {
+    have_faults(&rt, rt.alloc(), GIVEN_EVENTS)?;
+    let head = repeated(
+        rt.alloc(),
+        (GIVEN, "a.send;", 100000, "} schedule {"),
+    )?;
+    for (times, want) in BEHIND {
+        let row = ((head.as_str(), "a.send;", *times, "}"), *want);
+        have_faults(&rt, rt.alloc(), &[row])?;
+    }
+    Ok(())
 }
 
 /// Events of no replica: all are counted before a name is looked up.
@@ -125,9 +152,9 @@ fn bytes(rt: HostRuntime) -> Result<(), Fail> {
     Ok(())
 }
 
-/// Replicas out of order, with events of both.
-const TWO: &[u8] = b"jsoncrdt 1 replica b{yield} replica a{doc:=1;yield}
-    schedule {a.exec; a.send; b.recv(a); b.apply(1, a); b.done}";
+/// Replicas out of order, with events of both, and one that is given.
+const TWO: &[u8] = b"jsoncrdt 2 replica b{yield} replica a{doc:=1;yield}
+    given {b.send} schedule {a.exec; a.send; b.recv(a); b.apply(1, a); b.done}";
 
 /// Whether these are `a` and `b`.
 fn are_the_names(names: &[Text]) -> bool {
@@ -165,6 +192,8 @@ const SCHEDULE: [Event; 5] = [
 fn is_two(scenario: &Scenario) -> bool {
     are_the_names(&scenario.names)
         && are_the_scripts(&scenario.scripts)
+        && scenario.version == Version::Two
+        && scenario.given.as_slice() == [Event::Send(1)]
         && scenario.schedule.as_slice() == SCHEDULE.as_slice()
 }
 
@@ -191,6 +220,10 @@ const PRINTED: &[(&str, &str)] = &[
     (
         "jsoncrdt 1 replica b{} replica a1{} replica _{} replica a{} replica B{} schedule {b.recv(B)}",
         "jsoncrdt 1\nreplica B {\n}\nreplica _ {\n}\nreplica a {\n}\nreplica a1 {\n}\nreplica b {\n}\nschedule {\n  b.recv(B);\n}\n",
+    ),
+    (
+        "jsoncrdt 2 replica b{yield} replica a{doc:=1;yield} given{a.exec;a.send}schedule{b . take ( a,1 , a );b.apply(1,a)}",
+        "jsoncrdt 2\nreplica a {\n  doc := 1;\n  yield;\n}\nreplica b {\n  yield;\n}\ngiven {\n  a.exec;\n  a.send;\n}\nschedule {\n  b.take(a, 1, a);\n  b.apply(1, a);\n}\n",
     ),
     (
         "jsoncrdt 1 replica a {} schedule {a.apply(4294967295,a);}",
@@ -233,8 +266,29 @@ fn receiving(alloc: Global, sender: &str) -> Result<Result<Event, usize>, AllocE
     Ok(resolve(&names, &event).map_err(|unknown| unknown.place))
 }
 
+/// What `b.take` of the operation 2 of this author from `a` is, or the place of the unknown name.
+fn taking(alloc: Global, author: &str) -> Result<Result<Event, usize>, AllocError> {
+    let first = text(alloc, "a")?;
+    let names = [first, text(alloc, "b")?];
+    let event = NamedEvent::Take {
+        replica: named(alloc, "b", 7)?,
+        sender: named(alloc, "a", 14)?,
+        counter: 2,
+        author: named(alloc, author, 20)?,
+    };
+    Ok(resolve(&names, &event).map_err(|unknown| unknown.place))
+}
+
 #[test]
 fn names_of_replicas(rt: HostRuntime) -> Result<(), Fail> {
+    let id = Id {
+        counter: 2,
+        replica: 1,
+    };
+    let taken = taking(rt.alloc(), "b")?;
+    holds(&rt, "b", taken == Ok(Event::Take(1, 0, id)));
+    let unknown = taking(rt.alloc(), "c")?;
+    holds(&rt, "c", unknown == Err(20));
     let known = receiving(rt.alloc(), "a")?;
     holds(&rt, "a", known == Ok(Event::Recv(1, 0)));
     let unknown = receiving(rt.alloc(), "c")?;

@@ -1,4 +1,4 @@
-use Rattle.std.proofs.Common.{map, inr}
+use Rattle.std.proofs.Common.{◌≡◌, [], map, inr}
 use Rattle.std.proofs.lemmas.Result.{err_from_is_err_and}
 use Rattle.jc_syntax.specs.Trees.{cmd_of}
 use Rattle.jc_parser.specs.Reading.{reading}
@@ -31,4 +31,6 @@ returns-clause-scenario c =
     let t = tree_view c.in_ok-replicas.field-0 in
     let a = in_order (λ script. map cmd_of script.items) t.parts c.in_ok-names.names.items c.in_ok-names.scripts.items d.rising d.each d.same in
     let events = rw (c.deref.ensures.value, c.deref-2.ensures.value) at c.in_ok-schedule.ensures.events in
-    scenario_read (reading c.args.text.now c.args.tokens.now) t c.in_ok-names.names.items (scripts_view c.in_ok-names.scripts.items) c.in_ok-schedule.schedule.items c.in_ok-replicas.ensures.tree a events
+    let none : c.new.result.items ≡ [] = cc in
+    rw none
+    (scenario_read (reading c.args.text.now c.args.tokens.now) t c.in_ok-names.names.items (scripts_view c.in_ok-names.scripts.items) c.in_ok-schedule.schedule.items c.in_ok-replicas.ensures.tree a events)

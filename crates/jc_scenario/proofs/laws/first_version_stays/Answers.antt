@@ -1,0 +1,5 @@
+use Rattle.jc_scenario.proofs.ReadBack.{first_stays}
+use Rattle.jc_scenario.proofs.laws.first_version_stays.Goals as goal
+
+pub returns : goal.returns
+returns c = first_stays
