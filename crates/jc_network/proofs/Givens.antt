@@ -1,5 +1,5 @@
 -- Given events lead from one network to another, and aren't passed on the way back.
-use Rattle.std.proofs.Common.{◌≡◌, ℕ, suc, ◌+◌, ◌<◌, ◌≤◌, Result, Err, List, [], ◌∷◌, ◌++◌, length, take, get_or, map, refl, sym, ◌∙◌, ap, subst, arith}
+use Rattle.std.proofs.Common.{◌≡◌, ℕ, ◌+◌, ◌<◌, ◌≤◌, Result, Err, List, [], ◌∷◌, ◌++◌, length, take, get_or, refl, sym, ◌∙◌, ap, subst, arith}
 use Rattle.std.proofs.lemmas.List.{take_more, take_all, length-map}
 use Rattle.std.proofs.lemmas.Option.{slice_get-get_or}
 use Rattle.jc_rules.specs.declared.operation.Event.{Event}
@@ -98,13 +98,16 @@ begun version count whose ps h =
       backed = tt;
       scripts = h.scripts;
       first = network_of ps;
-      runs = (record {
-        short = run.short;
-        given = run.given ++ run.events;
-        before = after_more (of_version version (starts h.scripts)) run.given (of_version version h.first) run.events now run.before run.led;
-        events = [];
-        led = refl;
-        set = run.set;
-        seen = run.seen;
-      }, refl);
+      runs = (
+        record {
+          short = run.short;
+          given = run.given ++ run.events;
+          before = after_more (of_version version (starts h.scripts)) run.given (of_version version h.first) run.events now run.before run.led;
+          events = [];
+          led = refl;
+          set = run.set;
+          seen = run.seen;
+        },
+        refl,
+      );
     }

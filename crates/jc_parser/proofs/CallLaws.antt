@@ -1,10 +1,11 @@
 -- A text is one event at most, or has one fault at most, and not both; so do the tokens from one of them on.
 use Rattle.std.proofs.Common.{◌≡◌, ℕ, inl, inr, true, List, ◌++◌, refl, sym, ap, subst, ◌∙◌}
 use Rattle.std.specs.Prelude.{drop, slice_range}
+use Rattle.jc_rules.specs.declared.version.Version.{Version}
 use Rattle.jc_syntax.specs.declared.token.Token.{Token}
 use Rattle.jc_syntax.specs.declared.tree.Named.{Named}
 use Rattle.jc_syntax.specs.declared.tree.NamedEvent.{NamedEvent}
-use Rattle.jc_syntax.specs.declared.tree.NamedEvent.TheVariants.{Exec, Send, Recv, Apply, Done}
+use Rattle.jc_syntax.specs.declared.tree.NamedEvent.TheVariants.{Exec, Send, Recv, Take, Apply, Done}
 use Rattle.jc_parser.specs.Symbols.{Lexeme, lexemes}
 use Rattle.jc_parser.specs.Reading.{Reading, reading as read_from}
 use Rattle.jc_parser.specs.Sentences.{IsSentence}
@@ -31,6 +32,12 @@ same_event (Exec p) (Exec q) ls h a b = ap (λ (n : Named). Exec n) (same_named 
 same_event (Send p) (Send q) ls h a b = ap (λ (n : Named). Send n) (same_named p q ls 0 (cc) a b)
 same_event (Recv p from) (Recv q other) ls h (a, c) (b, d) =
     ap (λ (n : Named). Recv n from) (same_named p q ls 0 (cc) a b) ∙ ap (λ (n : Named). Recv q n) (same_named from other ls 4 (cc) c d)
+same_event (Take p from i author) (Take q sender j other) ls h (a, c, d) (b, f, g) =
+    let counter : i ≡ j = cc in
+    ap (λ (n : Named). Take n from i author) (same_named p q ls 0 (cc) a b)
+    ∙ ap (λ (n : Named). Take q n i author) (same_named from sender ls 4 (cc) c f)
+    ∙ ap (λ (k : ℕ). Take q sender k author) counter
+    ∙ ap (λ (n : Named). Take q sender j n) (same_named author other ls 8 (cc) d g)
 same_event (Apply p i author) (Apply q j other) ls h (a, c) (b, d) =
     let counter : i ≡ j = cc in
     ap (λ (n : Named). Apply n i author) (same_named p q ls 0 (cc) a b) ∙ ap (λ (k : ℕ). Apply q k author) counter ∙ ap (λ (n : Named). Apply q j n) (same_named author other ls 6 (cc) c d)
@@ -39,40 +46,40 @@ same_event e other ls h a b = absurd cc
 
 -- ---- texts
 
-as_sentence : (text : List ℕ) (e : NamedEvent) → IsEventOf text e → IsSentence IsCallSpelled IsCallWellFormed text (call_of e)
-as_sentence text e a = record { tokens = a.tokens; lexed = a.lexed; spelled = a.event.spelled; within = a.event.within }
+as_sentence : (v : Version) (text : List ℕ) (e : NamedEvent) → IsEventOf v text e → IsSentence (IsCallSpelled v) IsCallWellFormed text (call_of e)
+as_sentence v text e a = record { tokens = a.tokens; lexed = a.lexed; spelled = a.event.spelled; within = a.event.within }
 
 pub one_event_of_text : OneList → OneEvent
-one_event_of_text one_list text e other a b =
+one_event_of_text one_list v text e other a b =
     let same : b.tokens ≡ a.tokens = one_list text b.tokens a.tokens b.lexed a.lexed in
-    let tree : call_of e ≡ call_of other = one_tree_of_text IsCallSpelled IsCallWellFormed call_at reads_spelled one_list text (call_of e) (call_of other) (as_sentence text e a) (as_sentence text other b) in
+    let tree : call_of e ≡ call_of other = one_tree_of_text (IsCallSpelled v) IsCallWellFormed (call_at v) (reads_spelled v) one_list text (call_of e) (call_of other) (as_sentence v text e a) (as_sentence v text other b) in
     same_event e other (lexemes text a.tokens) tree a.event.placed (subst (λ (ts : List Token). ArePlaced other (lexemes text ts)) same b.event.placed)
 
 pub event_or_fault_of_text : OneList → NoLexical → EventOrFault
-event_or_fault_of_text one_list no_lexical text e fault a h = no_fault_of_text IsCallSpelled IsCallWellFormed IsCallExcess call_at reads_spelled has_limits one_list no_lexical text (call_of e) fault (as_sentence text e a) h
+event_or_fault_of_text one_list no_lexical v text e fault a h = no_fault_of_text (IsCallSpelled v) IsCallWellFormed (IsCallExcess v) (call_at v) (reads_spelled v) (has_limits v) one_list no_lexical text (call_of e) fault (as_sentence v text e a) h
 
 pub one_event_fault_of_text : OneList → OneLexical → NoLexical → OneEventFault
-one_event_fault_of_text one_list one_lexical no_lexical text fault other a b = one_fault_of_text IsCallSpelled IsCallWellFormed IsCallExcess call_at reads_spelled has_limits one_list one_lexical no_lexical text fault other a b
+one_event_fault_of_text one_list one_lexical no_lexical v text fault other a b = one_fault_of_text (IsCallSpelled v) IsCallWellFormed (IsCallExcess v) (call_at v) (reads_spelled v) (has_limits v) one_list one_lexical no_lexical text fault other a b
 
 -- ---- tokens
 
-read_at : (text : List ℕ) (tokens : List Token) (from next : ℕ) (e : NamedEvent) → IsEventAt text tokens from e next → call_at (reading 0 (lexemes text (drop from tokens))) ≡ read_as (call_of e) (reading 0 (lexemes text (drop next tokens)))
-read_at text tokens from next e a =
-    let here : call_at (reading 0 (lexemes text (drop from tokens))) ≡ call_at (reading 0 (lexemes text (slice_range tokens from next) ++ lexemes text (drop next tokens))) = ap (λ (l : List Lexeme). call_at (reading 0 l)) (parts_at text tokens from next a.ordered) in
-    elim (call_again true (call_of e) (lexemes text (slice_range tokens from next)) (lexemes text (drop next tokens)) 0 a.event.spelled a.event.within) [
+read_at : (v : Version) (text : List ℕ) (tokens : List Token) (from next : ℕ) (e : NamedEvent) → IsEventAt v text tokens from e next → call_at v (reading 0 (lexemes text (drop from tokens))) ≡ read_as (call_of e) (reading 0 (lexemes text (drop next tokens)))
+read_at v text tokens from next e a =
+    let here : call_at v (reading 0 (lexemes text (drop from tokens))) ≡ call_at v (reading 0 (lexemes text (slice_range tokens from next) ++ lexemes text (drop next tokens))) = ap (λ (l : List Lexeme). call_at v (reading 0 l)) (parts_at text tokens from next a.ordered) in
+    elim (call_again v true (call_of e) (lexemes text (slice_range tokens from next)) (lexemes text (drop next tokens)) 0 a.event.spelled a.event.within) [
       | inl read ↦ here ∙ read
-      | inr past ↦ absurd (not_past true (call_at (reading 0 (lexemes text (slice_range tokens from next) ++ lexemes text (drop next tokens)))) refl past)
+      | inr past ↦ absurd (not_past true (call_at v (reading 0 (lexemes text (slice_range tokens from next) ++ lexemes text (drop next tokens)))) refl past)
     ]
 
 pub one_event_of_tokens : OneEventAt
-one_event_of_tokens text tokens from next other_next e other a b =
-    let both : read_as (call_of e) (reading 0 (lexemes text (drop next tokens))) ≡ read_as (call_of other) (reading 0 (lexemes text (drop other_next tokens))) = sym (read_at text tokens from next e a) ∙ read_at text tokens from other_next other b in
+one_event_of_tokens v text tokens from next other_next e other a b =
+    let both : read_as (call_of e) (reading 0 (lexemes text (drop next tokens))) ≡ read_as (call_of other) (reading 0 (lexemes text (drop other_next tokens))) = sym (read_at v text tokens from next e a) ∙ read_at v text tokens from other_next other b in
     let (tree, left) = ok_parts (call_of e) (call_of other) (reading 0 (lexemes text (drop next tokens))) (reading 0 (lexemes text (drop other_next tokens))) both in
     let same : next ≡ other_next = left_same text tokens next other_next a.ends b.ends (ap (λ (r : Reading). r.left) left) in
     (same_event e other (lexemes text (slice_range tokens from next)) tree a.event.placed (subst (λ n. ArePlaced other (lexemes text (slice_range tokens from n))) (sym same) b.event.placed), same)
 
 pub event_or_fault_of_tokens : EventOrFaultAt
-event_or_fault_of_tokens text tokens from next e fault a h = h.none e (lexemes text (slice_range tokens from next)) (lexemes text (drop next tokens)) (parts_at text tokens from next a.ordered) a.event
+event_or_fault_of_tokens v text tokens from next e fault a h = h.none e (lexemes text (slice_range tokens from next)) (lexemes text (drop next tokens)) (parts_at text tokens from next a.ordered) a.event
 
 pub one_event_fault_of_tokens : OneEventFaultAt
-one_event_fault_of_tokens text tokens from fault other a b = one_stop IsCallSpelled IsCallWellFormed IsCallExcess call_at reads_spelled has_limits (read_from text (drop from tokens)) fault other a.stops b.stops
+one_event_fault_of_tokens v text tokens from fault other a b = one_stop (IsCallSpelled v) IsCallWellFormed (IsCallExcess v) (call_at v) (reads_spelled v) (has_limits v) (read_from text (drop from tokens)) fault other a.stops b.stops

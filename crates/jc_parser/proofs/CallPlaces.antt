@@ -2,16 +2,18 @@
 use Rattle.std.proofs.Common.{◌≡◌, ℕ, zero, suc, ◌<◌, ◌⊎◌, inl, inr, Bool, true, false, cond, List, [], ◌∷◌, ◌++◌, length, Ok, refl, sym, ap, subst, ◌∙◌, arith}
 use Rattle.std.specs.Prelude.{codes}
 use Rattle.std.proofs.lemmas.List.{length-map}
+use Rattle.jc_rules.specs.declared.version.Version.{Version}
+use Rattle.jc_rules.specs.declared.version.Version.TheVariants.{One, Two}
 use Rattle.jc_syntax.specs.declared.token.TokenKind.TheVariants.{Name, Dot, ParenL, ParenR, Comma}
 use Rattle.jc_syntax.specs.declared.tree.Named.{Named}
 use Rattle.jc_syntax.specs.declared.tree.NamedEvent.{NamedEvent}
-use Rattle.jc_syntax.specs.declared.tree.NamedEvent.TheVariants.{Exec, Send, Recv, Apply, Done}
+use Rattle.jc_syntax.specs.declared.tree.NamedEvent.TheVariants.{Exec, Send, Recv, Take, Apply, Done}
 use Rattle.jc_parser.specs.declared.fault.ScenarioFault.TheVariants.{Unexpected}
 use Rattle.jc_parser.specs.Symbols.{Symbol, number, Lexeme, symbols}
 use Rattle.jc_parser.specs.Reading.{Reading, Outcome, ◌>>=◌, value_of, has_kind, is_word, begins, take_one, one, skip, named_at}
 use Rattle.jc_parser.specs.LanguageParts.{index_at}
 use Rattle.jc_parser.specs.Calls.{call_of, IsCallSpelled, StandsAt, ArePlaced}
-use Rattle.jc_parser.specs.CallParts.{last_name_at, sender_at, application_at, action_at, any_event_at}
+use Rattle.jc_parser.specs.CallParts.{last_name_at, sender_at, last_identifier_at, taking_at, application_at, common_action_at, action_at, any_event_at}
 use Rattle.jc_parser.proofs.Readers.{read_as, bind_ok, chosen_ok, ok_parts}
 use Rattle.jc_parser.proofs.LanguageReaders.{reads_index}
 
@@ -81,6 +83,19 @@ sender_taken r s q h =
     stands_later q.place r.left a.1.left 1 (skip_taken (is_word (codes "recv")) r a.1 a.0 first)
     (stands_later q.place a.1.left b.1.left 0 (skip_taken (has_kind ParenL) a.1 b.1 b.0 second) (last_name_taken b.1 s q last))
 
+identifier_taken : (r s : Reading) (i : ℕ × Named) → last_identifier_at r ≡ Ok (i, s) → StandsAt i.1.place r.left 2
+unfolding last_identifier_at
+identifier_taken r s i h =
+    let (n, first, h1) = bind_ok (index_at r) (λ n. skip (has_kind Comma) n.1 >>= λ a. last_name_at a.1 >>= λ q. Ok ((n.0, q.0), q.1)) (i, s) h in
+    let (a, second, h2) = bind_ok (skip (has_kind Comma) n.1) (λ a. last_name_at a.1 >>= λ q. Ok ((n.0, q.0), q.1)) (i, s) h1 in
+    let (q, third, h3) = bind_ok (last_name_at a.1) (λ q. Ok ((n.0, q.0), q.1)) (i, s) h2 in
+    let own : ℕ × Named = (n.0, q.0) in
+    let (same, left) = ok_parts own i q.1 s h3 in
+    let stands : StandsAt q.0.place r.left 2 =
+    stands_later q.0.place r.left n.1.left 1 (index_taken r n.1 n.0 first)
+    (stands_later q.0.place n.1.left a.1.left 0 (skip_taken (has_kind Comma) n.1 a.1 a.0 second) (last_name_taken a.1 q.1 q.0 third)) in
+    subst (λ (t : ℕ × Named). StandsAt t.1.place r.left 2) same stands
+
 -- ---- events
 
 -- the replica's name is the one before, and an other name stands at its place after the dot
@@ -88,6 +103,7 @@ abbrev AreActionPlaced : Named → NamedEvent → List Lexeme → Type 0
 AreActionPlaced p (Exec own) ls = own ≡ p
 AreActionPlaced p (Send own) ls = own ≡ p
 AreActionPlaced p (Recv own q) ls = (own ≡ p) × StandsAt q.place ls 2
+AreActionPlaced p (Take own q counter author) ls = (own ≡ p) × StandsAt q.place ls 2 × StandsAt author.place ls 6
 AreActionPlaced p (Apply own counter q) ls = (own ≡ p) × StandsAt q.place ls 4
 AreActionPlaced p (Done own) ls = own ≡ p
 
@@ -99,17 +115,34 @@ given p own e ls t s h placed =
 application_placed : (p : Named) (r s : Reading) (e : NamedEvent) → application_at p r ≡ Ok (e, s) → AreActionPlaced p e r.left
 unfolding application_at
 application_placed p r s e h =
-    let (a, first, h1) = bind_ok (skip (is_word (codes "apply")) r) (λ a. skip (has_kind ParenL) a.1 >>= λ b. index_at b.1 >>= λ i. skip (has_kind Comma) i.1 >>= λ c. last_name_at c.1 >>= λ q. Ok (Apply p i.0 q.0, q.1)) (e, s) h in
-    let (b, second, h2) = bind_ok (skip (has_kind ParenL) a.1) (λ b. index_at b.1 >>= λ i. skip (has_kind Comma) i.1 >>= λ c. last_name_at c.1 >>= λ q. Ok (Apply p i.0 q.0, q.1)) (e, s) h1 in
-    let (i, third, h3) = bind_ok (index_at b.1) (λ i. skip (has_kind Comma) i.1 >>= λ c. last_name_at c.1 >>= λ q. Ok (Apply p i.0 q.0, q.1)) (e, s) h2 in
-    let (c, fourth, h4) = bind_ok (skip (has_kind Comma) i.1) (λ c. last_name_at c.1 >>= λ q. Ok (Apply p i.0 q.0, q.1)) (e, s) h3 in
-    let (q, fifth, h5) = bind_ok (last_name_at c.1) (λ q. Ok (Apply p i.0 q.0, q.1)) (e, s) h4 in
-    given p (Apply p i.0 q.0) e r.left q.1 s h5 (
+    let (a, first, h1) = bind_ok (skip (is_word (codes "apply")) r) (λ a. skip (has_kind ParenL) a.1 >>= λ b. last_identifier_at b.1 >>= λ i. Ok (Apply p i.0.0 i.0.1, i.1)) (e, s) h in
+    let (b, second, h2) = bind_ok (skip (has_kind ParenL) a.1) (λ b. last_identifier_at b.1 >>= λ i. Ok (Apply p i.0.0 i.0.1, i.1)) (e, s) h1 in
+    let (i, third, h3) = bind_ok (last_identifier_at b.1) (λ i. Ok (Apply p i.0.0 i.0.1, i.1)) (e, s) h2 in
+    given p (Apply p i.0.0 i.0.1) e r.left i.1 s h3 (
       refl,
-      stands_later q.0.place r.left a.1.left 3 (skip_taken (is_word (codes "apply")) r a.1 a.0 first)
-          (stands_later q.0.place a.1.left b.1.left 2 (skip_taken (has_kind ParenL) a.1 b.1 b.0 second)
-          (stands_later q.0.place b.1.left i.1.left 1 (index_taken b.1 i.1 i.0 third)
-          (stands_later q.0.place i.1.left c.1.left 0 (skip_taken (has_kind Comma) i.1 c.1 c.0 fourth) (last_name_taken c.1 q.1 q.0 fifth)))),
+      stands_later i.0.1.place r.left a.1.left 3 (skip_taken (is_word (codes "apply")) r a.1 a.0 first)
+          (stands_later i.0.1.place a.1.left b.1.left 2 (skip_taken (has_kind ParenL) a.1 b.1 b.0 second) (identifier_taken b.1 i.1 i.0 third)),
+    )
+
+taking_placed : (p : Named) (r s : Reading) (e : NamedEvent) → taking_at p r ≡ Ok (e, s) → AreActionPlaced p e r.left
+unfolding taking_at
+taking_placed p r s e h =
+    let (a, first, h1) = bind_ok (skip (is_word (codes "take")) r) (λ a. skip (has_kind ParenL) a.1 >>= λ b. named_at b.1 >>= λ q. skip (has_kind Comma) q.1 >>= λ c. last_identifier_at c.1 >>= λ i. Ok (Take p q.0 i.0.0 i.0.1, i.1)) (e, s) h in
+    let (b, second, h2) = bind_ok (skip (has_kind ParenL) a.1) (λ b. named_at b.1 >>= λ q. skip (has_kind Comma) q.1 >>= λ c. last_identifier_at c.1 >>= λ i. Ok (Take p q.0 i.0.0 i.0.1, i.1)) (e, s) h1 in
+    let (q, third, h3) = bind_ok (named_at b.1) (λ q. skip (has_kind Comma) q.1 >>= λ c. last_identifier_at c.1 >>= λ i. Ok (Take p q.0 i.0.0 i.0.1, i.1)) (e, s) h2 in
+    let (c, fourth, h4) = bind_ok (skip (has_kind Comma) q.1) (λ c. last_identifier_at c.1 >>= λ i. Ok (Take p q.0 i.0.0 i.0.1, i.1)) (e, s) h3 in
+    let (i, fifth, h5) = bind_ok (last_identifier_at c.1) (λ i. Ok (Take p q.0 i.0.0 i.0.1, i.1)) (e, s) h4 in
+    let word_goes : Taken r.left a.1.left = skip_taken (is_word (codes "take")) r a.1 a.0 first in
+    let paren_goes : Taken a.1.left b.1.left = skip_taken (has_kind ParenL) a.1 b.1 b.0 second in
+    let (x, at_x, place) = name_taken b.1 q.1 q.0 third in
+    let sender : StandsAt q.0.place b.1.left 0 = rw at_x place in
+    let author : StandsAt i.0.1.place b.1.left 4 =
+    stands_later i.0.1.place b.1.left q.1.left 3 (x, at_x)
+    (stands_later i.0.1.place q.1.left c.1.left 2 (skip_taken (has_kind Comma) q.1 c.1 c.0 fourth) (identifier_taken c.1 i.1 i.0 fifth)) in
+    given p (Take p q.0 i.0.0 i.0.1) e r.left i.1 s h5 (
+      refl,
+      stands_later q.0.place r.left a.1.left 1 word_goes (stands_later q.0.place a.1.left b.1.left 0 paren_goes sender),
+      stands_later i.0.1.place r.left a.1.left 5 word_goes (stands_later i.0.1.place a.1.left b.1.left 4 paren_goes author),
     )
 
 word_placed : (p : Named) (name : List ℕ) (own e : NamedEvent) (r s : Reading) → AreActionPlaced p own r.left → (skip (is_word name) r >>= λ a. read_as own a.1) ≡ Ok (e, s) → AreActionPlaced p e r.left
@@ -126,9 +159,9 @@ either : (b : Bool) (f g x : Outcome NamedEvent) → cond b f g ≡ x → (f ≡
 either true f g x h = inl h
 either false f g x h = inr h
 
-action_placed : (p : Named) (r s : Reading) (e : NamedEvent) → action_at p r ≡ Ok (e, s) → AreActionPlaced p e r.left
-unfolding action_at
-action_placed p r s e h =
+common_placed : (p : Named) (r s : Reading) (e : NamedEvent) → common_action_at p r ≡ Ok (e, s) → AreActionPlaced p e r.left
+unfolding common_action_at
+common_placed p r s e h =
     elim (either (begins (is_word (codes "exec")) r) _ _ (Ok (e, s)) h) [
       | inl exec ↦ word_placed p (codes "exec") (Exec p) e r s refl exec
       | inr h1 ↦
@@ -146,22 +179,32 @@ action_placed p r s e h =
           ]
     ]
 
+action_placed : (v : Version) (p : Named) (r s : Reading) (e : NamedEvent) → action_at v p r ≡ Ok (e, s) → AreActionPlaced p e r.left
+unfolding action_at
+action_placed One p r s e h = common_placed p r s e h
+action_placed Two p r s e h =
+    elim (either (begins (is_word (codes "take")) r) (taking_at p r) (common_action_at p r) (Ok (e, s)) h) [
+      | inl takes ↦ taking_placed p r s e takes
+      | inr common ↦ common_placed p r s e common
+    ]
+
 from_action : (p : Named) (e : NamedEvent) (x y : Lexeme) (ls : List Lexeme) → p.place ≡ x.place → AreActionPlaced p e ls → ArePlaced e (x ∷ y ∷ ls)
 from_action p (Exec own) x y ls place is = ap (λ (n : Named). n.place) is ∙ place
 from_action p (Send own) x y ls place is = ap (λ (n : Named). n.place) is ∙ place
 from_action p (Recv own q) x y ls place (is, other) = (ap (λ (n : Named). n.place) is ∙ place, other)
+from_action p (Take own q counter author) x y ls place (is, sender, other) = (ap (λ (n : Named). n.place) is ∙ place, sender, other)
 from_action p (Apply own counter q) x y ls place (is, other) = (ap (λ (n : Named). n.place) is ∙ place, other)
 from_action p (Done own) x y ls place is = ap (λ (n : Named). n.place) is ∙ place
 
-pub event_placed : (r s : Reading) (e : NamedEvent) → any_event_at r ≡ Ok (e, s) → ArePlaced e r.left
+pub event_placed : (v : Version) (r s : Reading) (e : NamedEvent) → any_event_at v r ≡ Ok (e, s) → ArePlaced e r.left
 unfolding any_event_at
-event_placed r s e h =
-    let (p, first, rest) = bind_ok (named_at r) (λ p. skip (has_kind Dot) p.1 >>= λ a. action_at p.0 a.1) (e, s) h in
-    let (a, second, last) = bind_ok (skip (has_kind Dot) p.1) (λ a. action_at p.0 a.1) (e, s) rest in
+event_placed v r s e h =
+    let (p, first, rest) = bind_ok (named_at r) (λ p. skip (has_kind Dot) p.1 >>= λ a. action_at v p.0 a.1) (e, s) h in
+    let (a, second, last) = bind_ok (skip (has_kind Dot) p.1) (λ a. action_at v p.0 a.1) (e, s) rest in
     let (x, at_x, place) = name_taken r p.1 p.0 first in
     let (y, at_y) = skip_taken (has_kind Dot) p.1 a.1 a.0 second in
     let whole : r.left ≡ x ∷ y ∷ a.1.left = at_x ∙ ap (λ (l : List Lexeme). x ∷ l) at_y in
-    subst (ArePlaced e) (sym whole) (from_action p.0 e x y a.1.left place (action_placed p.0 a.1 s e last))
+    subst (ArePlaced e) (sym whole) (from_action p.0 e x y a.1.left place (action_placed v p.0 a.1 s e last))
 
 -- ---- places say no more than one event
 
@@ -180,9 +223,11 @@ long : (ls : List Lexeme) (w : List Symbol) → symbols ls ≡ w → length ls �
 long ls w text = sym (length-map ls (λ (l : Lexeme). l.symbol)) ∙ ap length text
 
 -- an event's lexemes are enough for the places of its names
-pub placed_before : (e : NamedEvent) (ls more : List Lexeme) → IsCallSpelled (call_of e) (symbols ls) → ArePlaced e (ls ++ more) → ArePlaced e ls
-placed_before (Exec p) ls more text placed = stands_before p.place ls more 0 (omega (arith, long ls _ text)) placed
-placed_before (Send p) ls more text placed = stands_before p.place ls more 0 (omega (arith, long ls _ text)) placed
-placed_before (Recv p q) ls more text (first, second) = (stands_before p.place ls more 0 (omega (arith, long ls _ text)) first, stands_before q.place ls more 4 (omega (arith, long ls _ text)) second)
-placed_before (Apply p counter q) ls more (digits, numeral, same, text) (first, second) = (stands_before p.place ls more 0 (omega (arith, long ls _ text)) first, stands_before q.place ls more 6 (omega (arith, long ls _ text)) second)
-placed_before (Done p) ls more text placed = stands_before p.place ls more 0 (omega (arith, long ls _ text)) placed
+pub placed_before : (v : Version) (e : NamedEvent) (ls more : List Lexeme) → IsCallSpelled v (call_of e) (symbols ls) → ArePlaced e (ls ++ more) → ArePlaced e ls
+placed_before v (Exec p) ls more text placed = stands_before p.place ls more 0 (omega (arith, long ls _ text)) placed
+placed_before v (Send p) ls more text placed = stands_before p.place ls more 0 (omega (arith, long ls _ text)) placed
+placed_before v (Recv p q) ls more text (first, second) = (stands_before p.place ls more 0 (omega (arith, long ls _ text)) first, stands_before q.place ls more 4 (omega (arith, long ls _ text)) second)
+placed_before One (Take p q counter r) ls more text placed = absurd text
+placed_before Two (Take p q counter r) ls more (digits, numeral, same, text) (first, second, third) = (stands_before p.place ls more 0 (omega (arith, long ls _ text)) first, stands_before q.place ls more 4 (omega (arith, long ls _ text)) second, stands_before r.place ls more 8 (omega (arith, long ls _ text)) third)
+placed_before v (Apply p counter q) ls more (digits, numeral, same, text) (first, second) = (stands_before p.place ls more 0 (omega (arith, long ls _ text)) first, stands_before q.place ls more 6 (omega (arith, long ls _ text)) second)
+placed_before v (Done p) ls more text placed = stands_before p.place ls more 0 (omega (arith, long ls _ text)) placed

@@ -2,6 +2,7 @@
 use Rattle.std.proofs.Common.{◌≡◌, ◌≢◌, ℕ, ◌-◌, ◌≤◌, inl, inr, true, List, [], ◌++◌, length, Result, Ok, Err, refl, sym, ap, subst, ◌∙◌}
 use Rattle.std.specs.Prelude.{IfOk, IfErr, drop}
 use Rattle.std.proofs.lemmas.List.{append-nil}
+use Rattle.jc_rules.specs.declared.version.Version.{Version}
 use Rattle.jc_syntax.specs.declared.token.Token.{Token}
 use Rattle.jc_syntax.specs.declared.tree.NamedEvent.{NamedEvent}
 use Rattle.jc_parser.specs.declared.parse_fault.ParseFault.TheVariants as sentence
@@ -26,26 +27,26 @@ use Rattle.jc_parser.proofs.CallPlaces.{event_placed, placed_before}
 -- ---- what is read
 
 -- an event and the lexemes that it is
-pub record IsRead (r : Reading) (e : NamedEvent) (s : Reading) : Type 0 where
+pub record IsRead (v : Version) (r : Reading) (e : NamedEvent) (s : Reading) : Type 0 where
   pub before : List Lexeme
   pub parts : r.left ≡ before ++ s.left
-  pub event : IsEvent e before
+  pub event : IsEvent v e before
 
-pub event_read : (r s : Reading) (e : NamedEvent) → any_event_at r ≡ Ok (e, s) → IsRead r e s
-event_read r s e h =
-    let t = reads_event.ok r e s h in
+pub event_read : (v : Version) (r s : Reading) (e : NamedEvent) → any_event_at v r ≡ Ok (e, s) → IsRead v r e s
+event_read v r s e h =
+    let t = (reads_event v).ok r e s h in
     let (spelled, small) = t.spells true in
-    record { before = t.text; parts = t.parts; event = record { spelled = spelled; within = small; placed = placed_before e t.text s.left spelled (subst (ArePlaced e) t.parts (event_placed r s e h)) } }
+    record { before = t.text; parts = t.parts; event = record { spelled = spelled; within = small; placed = placed_before v e t.text s.left spelled (subst (ArePlaced e) t.parts (event_placed v r s e h)) } }
 
-pub whole_ok : (r : Reading) (e : NamedEvent) → only_event_at r ≡ Ok e → IsEvent e r.left
+pub whole_ok : (v : Version) (r : Reading) (e : NamedEvent) → only_event_at v r ≡ Ok e → IsEvent v e r.left
 unfolding only_event_at
-whole_ok r e h =
-    let (x, first, last) = bind_ok (any_event_at r) ended e h in
+whole_ok v r e h =
+    let (x, first, last) = bind_ok (any_event_at v r) ended e h in
     let (none, same) = chosen_ok (is_at_end x.1) x.0 e (stuck x.1) last in
-    let p = event_read r x.1 x.0 first in
+    let p = event_read v r x.1 x.0 first in
     let rest : x.1.left ≡ [] = none_left x.1.left none in
     let all : p.before ≡ r.left = sym (p.parts ∙ ap (λ (l : List Lexeme). p.before ++ l) rest ∙ append-nil p.before) in
-    subst (λ (u : NamedEvent). IsEvent u r.left) same (subst (IsEvent x.0) all p.event)
+    subst (λ (u : NamedEvent). IsEvent v u r.left) same (subst (IsEvent v x.0) all p.event)
 
 -- ---- what is refused
 
@@ -53,50 +54,50 @@ call_err : (read : Outcome NamedEvent) (d : ScenarioFault) → (read >>= ended) 
 call_err (Ok x) d h = let (more, same) = chosen_err (is_at_end x.1) x.0 (stuck x.1) d h in rw more (ap Err same)
 call_err (Err f) d h = let same : f ≡ d = cc in ap Err same
 
-pub whole_err : (r : Reading) (d : ScenarioFault) → only_event_at r ≡ Err d → IsStopped IsCallSpelled IsCallWellFormed IsCallExcess r d
+pub whole_err : (v : Version) (r : Reading) (d : ScenarioFault) → only_event_at v r ≡ Err d → IsStopped (IsCallSpelled v) IsCallWellFormed (IsCallExcess v) r d
 unfolding only_event_at
-whole_err r d h = sentence_err reads_call reads_spelled r d (call_err (any_event_at r) d h)
+whole_err v r d h = sentence_err (reads_call v) (reads_spelled v) r d (call_err (any_event_at v r) d h)
 
-none_ahead : (r : Reading) (d : ScenarioFault) → any_event_at r ≡ Err d → NoneAhead r.left
-none_ahead r d h e before after parts event =
-    let here : call_at (reading r.stop (before ++ after)) ≡ Err d = subst (λ (l : List Lexeme). call_at (reading r.stop l) ≡ Err d) parts (rw h refl) in
-    elim (call_again true (call_of e) before after r.stop event.spelled event.within) [
+none_ahead : (v : Version) (r : Reading) (d : ScenarioFault) → any_event_at v r ≡ Err d → NoneAhead v r.left
+none_ahead v r d h e before after parts event =
+    let here : call_at v (reading r.stop (before ++ after)) ≡ Err d = subst (λ (l : List Lexeme). call_at v (reading r.stop l) ≡ Err d) parts (rw h refl) in
+    elim (call_again v true (call_of e) before after r.stop event.spelled event.within) [
       | inl read ↦ let bad : fault_as d ≡ read_as (call_of e) (reading r.stop after) = sym here ∙ read in cc
-      | inr past ↦ not_past true (call_at (reading r.stop (before ++ after))) refl past
+      | inr past ↦ not_past true (call_at v (reading r.stop (before ++ after))) refl past
     ]
 
-pub ahead_err : (r : Reading) (d : ScenarioFault) → any_event_at r ≡ Err d → HasNoEvent r d
+pub ahead_err : (v : Version) (r : Reading) (d : ScenarioFault) → any_event_at v r ≡ Err d → HasNoEvent v r d
 unfolding only_event_at
-ahead_err r d h = record { none = none_ahead r d h; stops = whole_err r d (rw h refl) }
+ahead_err v r d h = record { none = none_ahead v r d h; stops = whole_err v r d (rw h refl) }
 
-pub excess_is : Limits IsCallExcess
-excess_is (all.IndexTooLarge p) xs after o = (sentence.IndexTooLarge p, refl)
-excess_is d xs after o = absurd o
+pub excess_is : (v : Version) → Limits (IsCallExcess v)
+excess_is v (all.IndexTooLarge p) xs after o = (sentence.IndexTooLarge p, refl)
+excess_is v d xs after o = absurd o
 
 -- ---- as the clauses have it
 
-pub event_so : (result : Result NamedEvent ScenarioFault) (r : Reading) → Gives (λ e. e) result (only_event_at r) → IfOk result (λ e. IsEvent e r.left)
-event_so (Ok e) r h = whole_ok r e h
-event_so (Err d) r h = tt
+pub event_so : (v : Version) (result : Result NamedEvent ScenarioFault) (r : Reading) → Gives (λ e. e) result (only_event_at v r) → IfOk result (λ e. IsEvent v e r.left)
+event_so v (Ok e) r h = whole_ok v r e h
+event_so v (Err d) r h = tt
 
-pub refused_so : (result : Result NamedEvent ScenarioFault) (r : Reading) → Gives (λ e. e) result (only_event_at r) → IfErr result (λ d. d ≢ all.Memory → IsStopped IsCallSpelled IsCallWellFormed IsCallExcess r d)
-refused_so (Ok e) r h = tt
-refused_so (Err d) r h = λ kept. whole_err r d (h kept)
+pub refused_so : (v : Version) (result : Result NamedEvent ScenarioFault) (r : Reading) → Gives (λ e. e) result (only_event_at v r) → IfErr result (λ d. d ≢ all.Memory → IsStopped (IsCallSpelled v) IsCallWellFormed (IsCallExcess v) r d)
+refused_so v (Ok e) r h = tt
+refused_so v (Err d) r h = λ kept. whole_err v r d (h kept)
 
-pub kind_so : (result : Result NamedEvent ScenarioFault) (r : Reading) → Gives (λ e. e) result (only_event_at r) → IfErr result IsOfSentence
-kind_so (Ok e) r h = tt
-kind_so (Err d) r h = kind_is excess_is r d (λ kept. whole_err r d (h kept))
+pub kind_so : (v : Version) (result : Result NamedEvent ScenarioFault) (r : Reading) → Gives (λ e. e) result (only_event_at v r) → IfErr result IsOfSentence
+kind_so v (Ok e) r h = tt
+kind_so v (Err d) r h = kind_is (excess_is v) r d (λ kept. whole_err v r d (h kept))
 
 -- ---- an event at the front
 
-pub ahead_ok : (r s : Reading) (e : NamedEvent) → any_event_at r ≡ Ok (e, s) → IsAhead r.left e (length s.left)
-ahead_ok r s e h = let p = event_read r s e h in record { before = p.before; after = s.left; parts = p.parts; event = p.event; count = refl }
+pub ahead_ok : (v : Version) (r s : Reading) (e : NamedEvent) → any_event_at v r ≡ Ok (e, s) → IsAhead v r.left e (length s.left)
+ahead_ok v r s e h = let p = event_read v r s e h in record { before = p.before; after = s.left; parts = p.parts; event = p.event; count = refl }
 
-pub ahead_kind : (r : Reading) (d : ScenarioFault) → (d ≢ all.Memory → any_event_at r ≡ Err d) → IsOfSentence d
-ahead_kind r d h = kind_is excess_is r d (λ kept. (ahead_err r d (h kept)).stops)
+pub ahead_kind : (v : Version) (r : Reading) (d : ScenarioFault) → (d ≢ all.Memory → any_event_at v r ≡ Err d) → IsOfSentence d
+ahead_kind v r d h = kind_is (excess_is v) r d (λ kept. (ahead_err v r d (h kept)).stops)
 
 -- the lexemes up to the next token are the event's
-pub at_front : (text : List ℕ) (tokens : List Token) (from : ℕ) (e : NamedEvent) (left : ℕ) → from ≤ length tokens → IsAhead (lexemes text (drop from tokens)) e left → IsEventAt text tokens from e (length tokens - left)
-at_front text tokens from e left within a =
+pub at_front : (v : Version) (text : List ℕ) (tokens : List Token) (from : ℕ) (e : NamedEvent) (left : ℕ) → from ≤ length tokens → IsAhead v (lexemes text (drop from tokens)) e left → IsEventAt v text tokens from e (length tokens - left)
+at_front v text tokens from e left within a =
     let front = are_front text tokens from left a.before a.after within a.parts a.count in
-    record { ordered = front.ordered; ends = front.ends; event = subst (IsEvent e) (sym front.are) a.event }
+    record { ordered = front.ordered; ends = front.ends; event = subst (IsEvent v e) (sym front.are) a.event }

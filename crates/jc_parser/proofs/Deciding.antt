@@ -49,22 +49,22 @@ sentence_else_fault {T} L W V f F again lexed text =
 -- ---- events
 
 pub event_else_fault : EachHasTokens → EventElseFault
-event_else_fault lexed text =
+event_else_fault lexed v text =
     elim (lexed text) [
-      | inl (ts, are) ↦ by_read ts are (only_event_at (reading text ts)) refl
+      | inl (ts, are) ↦ by_read ts are (only_event_at v (reading text ts)) refl
       | inr (e, is) ↦ inr (from_lexer e, inl (e, is, refl))
     ]
   where
-    by_read : (ts : List Token) → AreTokensOf text ts → (read : Result NamedEvent ScenarioFault) → only_event_at (reading text ts) ≡ read → ((e : NamedEvent) × IsEventOf text e) ⊎ ((d : ScenarioFault) × IsEventFault text d)
-    by_read ts are (Ok e) h = inl (e, record { tokens = ts; lexed = are; event = calls.whole_ok (reading text ts) e h })
-    by_read ts are (Err d) h = inr (d, inr (ts, are, calls.whole_err (reading text ts) d h))
+    by_read : (ts : List Token) → AreTokensOf text ts → (read : Result NamedEvent ScenarioFault) → only_event_at v (reading text ts) ≡ read → ((e : NamedEvent) × IsEventOf v text e) ⊎ ((d : ScenarioFault) × IsEventFault v text d)
+    by_read ts are (Ok e) h = inl (e, record { tokens = ts; lexed = are; event = calls.whole_ok v (reading text ts) e h })
+    by_read ts are (Err d) h = inr (d, inr (ts, are, calls.whole_err v (reading text ts) d h))
 
 pub event_else_fault_at : EventElseFaultAt
-event_else_fault_at text tokens from within = by_read (any_event_at (reading text (drop from tokens))) refl
+event_else_fault_at v text tokens from within = by_read (any_event_at v (reading text (drop from tokens))) refl
   where
-    by_read : (read : Outcome NamedEvent) → any_event_at (reading text (drop from tokens)) ≡ read → ((e : NamedEvent) × (next : ℕ) × IsEventAt text tokens from e next) ⊎ ((d : ScenarioFault) × IsEventFaultAt text tokens from d)
-    by_read (Ok x) h = inl (x.0, length tokens - length x.1.left, calls.at_front text tokens from x.0 (length x.1.left) within (calls.ahead_ok (reading text (drop from tokens)) x.1 x.0 h))
-    by_read (Err d) h = inr (d, calls.ahead_err (reading text (drop from tokens)) d h)
+    by_read : (read : Outcome NamedEvent) → any_event_at v (reading text (drop from tokens)) ≡ read → ((e : NamedEvent) × (next : ℕ) × IsEventAt v text tokens from e next) ⊎ ((d : ScenarioFault) × IsEventFaultAt v text tokens from d)
+    by_read (Ok x) h = inl (x.0, length tokens - length x.1.left, calls.at_front v text tokens from x.0 (length x.1.left) within (calls.ahead_ok v (reading text (drop from tokens)) x.1 x.0 h))
+    by_read (Err d) h = inr (d, calls.ahead_err v (reading text (drop from tokens)) d h)
 
 -- ---- scripts among tokens
 

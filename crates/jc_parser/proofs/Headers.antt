@@ -1,17 +1,20 @@
 -- The header of a scenario and the word before its first replica, which have faults of their own.
-use Rattle.std.proofs.Common.{◌≡◌, ℕ, ◌⊎◌, inl, inr, Bool, true, false, List, [], ◌∷◌, ◌++◌, Ok, Err, refl, sym, ap, ◌∙◌, append_assoc}
+use Rattle.std.proofs.Common.{◌≡◌, ℕ, ◌⊎◌, inl, inr, Bool, true, false, ◌||◌, List, [], ◌∷◌, ◌++◌, Ok, Err, refl, sym, ap, subst, ◌∙◌, append_assoc}
 use Rattle.std.specs.Prelude.{codes}
 use Rattle.std.proofs.lemmas.Bool.{cases_Bool}
 use Rattle.std.proofs.lemmas.List.{append-nil}
+use Rattle.jc_rules.specs.declared.version.Version.{Version}
+use Rattle.jc_rules.specs.declared.version.Version.TheVariants.{One, Two}
 use Rattle.jc_parser.specs.declared.fault.ScenarioFault.{ScenarioFault}
 use Rattle.jc_parser.specs.declared.fault.ScenarioFault.TheVariants.{NoHeader, NoReplica}
 use Rattle.jc_parser.specs.Symbols.{Symbol, word, number, Lexeme}
-use Rattle.jc_parser.specs.Reading.{Reading, is_word, is_number, begins_with, place_at, one}
-use Rattle.jc_parser.specs.Parts.{front_at, skip_or}
+use Rattle.jc_parser.specs.Reading.{Reading, ◌>>=◌, is_word, is_number, begins_with, place_at, one, skip}
+use Rattle.jc_parser.specs.Parts.{version_at, front_at, skip_or}
 use Rattle.jc_parser.specs.Sentences.{FitsNothing}
-use Rattle.jc_parser.proofs.Readers.{bind_ok, read_as, ok_parts}
+use Rattle.jc_parser.specs.Trees.{version_text, header}
+use Rattle.jc_parser.proofs.Readers.{bind_ok, bind_err, read_as, ok_parts}
 use Rattle.jc_parser.proofs.Expressions.{word_is, number_is}
-use Rattle.jc_parser.proofs.Spelled.{reading}
+use Rattle.jc_parser.proofs.Spelled.{reading, at_place}
 
 -- ---- the header and the word `replica`
 
@@ -39,63 +42,132 @@ missed_one fault p stop (x ∷ xs) e h = missed_by fault p stop x xs e (cases_Bo
     missed_by fault p stop x xs e (inl fits) h = let read = rw fits at h in absurd cc
     missed_by fault p stop x xs e (inr other) h = let read = rw other at h in (other, cc)
 
-pub front_again : (stop : ℕ) (a b c : Lexeme) (ls : List Lexeme) → is_word (codes "jsoncrdt") a.symbol ≡ true → is_number (codes "1") b.symbol ≡ true → is_word (codes "replica") c.symbol ≡ true → front_at (reading stop (a ∷ b ∷ c ∷ ls)) ≡ Ok (tt, reading stop ls)
-unfolding front_at one
-front_again stop a b c ls fa fb fc = rw (fa, fb, fc) refl
+pub front_again : (v : Version) (stop p : ℕ) (a c : Lexeme) (ls : List Lexeme) → is_word (codes "jsoncrdt") a.symbol ≡ true → is_word (codes "replica") c.symbol ≡ true → front_at (reading stop (a ∷ at_place p (number (version_text v)) ∷ c ∷ ls)) ≡ Ok (v, reading stop ls)
+unfolding front_at version_at one
+front_again One stop p a c ls fa fc = rw (fa, fc) refl
+front_again Two stop p a c ls fa fc = rw (fa, fc) refl
+
+-- ---- the number of a version
+
+pub is_version : Symbol → Bool
+is_version s = is_number (codes "1") s || is_number (codes "2") s
+
+-- the number of this version is taken
+abbrev pub TakesNumber : Version → Reading → Reading → Type 0
+TakesNumber v r s = (x : Lexeme) × (r.left ≡ x ∷ s.left) × (x.symbol ≡ number (version_text v)) × (s.stop ≡ r.stop)
+
+pub version_ok : (r s : Reading) (v : Version) → version_at r ≡ Ok (v, s) → TakesNumber v r s
+unfolding version_at
+version_ok r s v h = by_test (cases_Bool (begins_with (is_number (codes "2")) r.left)) h
+  where
+    taken : (u : Version) (p : Symbol → Bool) (x : Unit {0} × Reading) → ((y : Symbol) → p y ≡ true → y ≡ number (version_text u)) → skip_or (λ at. NoHeader at) p r ≡ Ok x → read_as u x.1 ≡ read_as v s → TakesNumber v r s
+    taken u p x only first last =
+        let (a, parts, fits, stop) = took_one (λ at. NoHeader at) p r.stop r.left x.1 first in
+        let (same, left) = ok_parts u v x.1 s last in
+        (a, parts ∙ ap (λ (q : Reading). a ∷ q.left) left, only a.symbol fits ∙ ap (λ w. number (version_text w)) same, ap (λ (q : Reading). q.stop) (sym left) ∙ stop)
+
+    by_test : (begins_with (is_number (codes "2")) r.left ≡ true) ⊎ (begins_with (is_number (codes "2")) r.left ≡ false) → version_at r ≡ Ok (v, s) → TakesNumber v r s
+    by_test (inl some) h =
+        let read = rw some at h in
+        let (x, first, last) = bind_ok (skip (is_number (codes "2")) r) (λ a. Ok (Two, a.1)) (v, s) read in
+        taken Two (is_number (codes "2")) x (number_is (codes "2")) (rw some first) last
+    by_test (inr none) h =
+        let read = rw none at h in
+        let (x, first, last) = bind_ok (skip_or (λ at. NoHeader at) (is_number (codes "1")) r) (λ a. Ok (One, a.1)) (v, s) read in
+        taken One (is_number (codes "1")) x (number_is (codes "1")) first last
+
+neither : (ls : List Lexeme) → begins_with (is_number (codes "1")) ls ≡ false → begins_with (is_number (codes "2")) ls ≡ false → begins_with is_version ls ≡ false
+unfolding is_version
+neither [] one two = refl
+neither (x ∷ xs) one two = rw (one, two) refl
+
+pub version_err : (r : Reading) (e : ScenarioFault) → version_at r ≡ Err e → (begins_with is_version r.left ≡ false) × (e ≡ NoHeader (place_at r.stop r.left))
+unfolding version_at
+version_err r e h = by_test (cases_Bool (begins_with (is_number (codes "2")) r.left)) h
+  where
+    by_test : (begins_with (is_number (codes "2")) r.left ≡ true) ⊎ (begins_with (is_number (codes "2")) r.left ≡ false) → version_at r ≡ Err e → (begins_with is_version r.left ≡ false) × (e ≡ NoHeader (place_at r.stop r.left))
+    by_test (inl some) h =
+        let read = rw some at h in
+        elim (bind_err (skip (is_number (codes "2")) r) (λ a. Ok (Two, a.1)) e read) [
+          | inl fails ↦ let missed = missed_one (λ at. NoHeader at) (is_number (codes "2")) r.stop r.left e (rw some fails) in let bad : true ≡ false = sym some ∙ missed.0 in absurd cc
+          | inr (x, first, bad) ↦ absurd cc
+        ]
+    by_test (inr none) h =
+        let read = rw none at h in
+        elim (bind_err (skip_or (λ at. NoHeader at) (is_number (codes "1")) r) (λ a. Ok (One, a.1)) e read) [
+          | inl fails ↦ let missed = missed_one (λ at. NoHeader at) (is_number (codes "1")) r.stop r.left e fails in (neither r.left missed.0 none, missed.1)
+          | inr (x, first, bad) ↦ absurd cc
+        ]
+
+pub version_passes : (v : Version) → is_version (number (version_text v)) ≡ true
+unfolding is_version
+version_passes One = refl
+version_passes Two = refl
+
+-- the second symbol is the number of version 1
+is_first_version : List Symbol → Bool
+is_first_version (a ∷ b ∷ xs) = is_number (codes "1") b
+is_first_version xs = false
+
+-- texts of two versions have two headers
+pub same_version : (u v : Version) (a b : List Symbol) → header u ++ a ≡ header v ++ b → u ≡ v
+unfolding is_first_version
+same_version One One a b same = refl
+same_version Two Two a b same = refl
+same_version One Two a b same = let bad : true ≡ false = ap is_first_version same in absurd cc
+same_version Two One a b same = let bad : false ≡ true = ap is_first_version same in absurd cc
+
+-- ---- the front
 
 -- what the front takes
-pub record Front (r s : Reading) : Type 0 where
+pub record Front (v : Version) (r s : Reading) : Type 0 where
   pub a : Lexeme
   pub b : Lexeme
   pub c : Lexeme
   pub parts : r.left ≡ a ∷ b ∷ c ∷ s.left
-  pub is_a : is_word (codes "jsoncrdt") a.symbol ≡ true
-  pub is_b : is_number (codes "1") b.symbol ≡ true
-  pub is_c : is_word (codes "replica") c.symbol ≡ true
+  pub is_a : a.symbol ≡ word (codes "jsoncrdt")
+  pub is_b : b.symbol ≡ number (version_text v)
+  pub is_c : c.symbol ≡ word (codes "replica")
   pub stop : s.stop ≡ r.stop
 
-pub front_ok : (r s : Reading) → front_at r ≡ Ok (tt, s) → Front r s
+pub front_ok : (r s : Reading) (v : Version) → front_at r ≡ Ok (v, s) → Front v r s
 unfolding front_at
-front_ok r s h =
-    let (x, hx, h2) = bind_ok (skip_or (λ at. NoHeader at) (is_word (codes "jsoncrdt")) r) _ (tt, s) h in
-    let (y, hy, hz) = bind_ok (skip_or (λ at. NoHeader at) (is_number (codes "1")) x.1) _ (tt, s) h2 in
+front_ok r s v h =
+    let (x, hx, h2) = bind_ok (skip_or (λ at. NoHeader at) (is_word (codes "jsoncrdt")) r) _ (v, s) h in
+    let (y, hy, h3) = bind_ok (version_at x.1) _ (v, s) h2 in
+    let (z, hz, last) = bind_ok (skip_or (λ at. NoReplica at) (is_word (codes "replica")) y.1) (λ b. Ok (y.0, b.1)) (v, s) h3 in
+    let (same, left) = ok_parts y.0 v z.1 s last in
     let (a, ea, fa, sa) = took_one (λ at. NoHeader at) (is_word (codes "jsoncrdt")) r.stop r.left x.1 hx in
-    let (b, eb, fb, sb) = took_one (λ at. NoHeader at) (is_number (codes "1")) x.1.stop x.1.left y.1 hy in
-    let (c, ec, fc, sc) = took_one (λ at. NoReplica at) (is_word (codes "replica")) y.1.stop y.1.left s hz in
+    let (b, eb, fb, sb) = version_ok x.1 y.1 y.0 hy in
+    let (c, ec, fc, sc) = took_one (λ at. NoReplica at) (is_word (codes "replica")) y.1.stop y.1.left z.1 hz in
     record {
       a = a;
       b = b;
       c = c;
-      parts = ea ∙ ap (λ (l : List Lexeme). a ∷ l) (eb ∙ ap (λ (l : List Lexeme). b ∷ l) ec);
-      is_a = fa;
-      is_b = fb;
-      is_c = fc;
-      stop = sc ∙ sb ∙ sa;
+      parts = ea ∙ ap (λ (l : List Lexeme). a ∷ l) (eb ∙ ap (λ (l : List Lexeme). b ∷ l) (ec ∙ ap (λ (q : Reading). c ∷ q.left) left));
+      is_a = word_is (codes "jsoncrdt") a.symbol fa;
+      is_b = fb ∙ ap (λ w. number (version_text w)) same;
+      is_c = word_is (codes "replica") c.symbol fc;
+      stop = ap (λ (q : Reading). q.stop) (sym left) ∙ sc ∙ sb ∙ sa;
     }
 
 -- ---- what fits nothing
 
-cancel : (xs a b : List Symbol) → xs ++ a ≡ xs ++ b → a ≡ b
-cancel [] a b e = e
-cancel (x ∷ xs) a b e = cancel xs a b cc
+-- the first symbol passes the test
+abbrev pub HasFirst : (Symbol → Bool) → List Symbol → Type 0
+HasFirst p more = (s : Symbol) × (rest : List Symbol) × (p s ≡ true) × (more ≡ s ∷ rest)
 
--- where each tree has a certain symbol, another fits nothing
-pub unfit_at : {T : Type 0} (L : T → List Symbol → Type 0) (xs : List Symbol) (s : Symbol) (p : Symbol → Bool) → p s ≡ true → ((t : T) (w : List Symbol) → L t w → (rest : List Symbol) × (w ≡ xs ++ s ∷ rest)) → (after : List Lexeme) → begins_with p after ≡ false → FitsNothing L xs after
-unfit_at L xs s p fits always [] none = λ t text.
-    let (rest, e) = always t xs text in
-    let bad : [] ≡ s ∷ rest = cancel xs [] (s ∷ rest) (append-nil xs ∙ e) in
+-- where each tree goes on with a symbol that passes the test, another fits nothing
+pub unfit_at : {T : Type 0} (L : T → List Symbol → Type 0) (xs : List Symbol) (p : Symbol → Bool) → ((t : T) (more : List Symbol) → L t (xs ++ more) → HasFirst p more) → (after : List Lexeme) → begins_with p after ≡ false → FitsNothing L xs after
+unfit_at L xs p always [] none = λ t text.
+    let (s, rest, fits, e) = always t [] (subst (L t) (sym (append-nil xs)) text) in
     absurd cc
-unfit_at L xs s p fits always (x ∷ after) none = λ (t, more, text).
-    let (rest, e) = always t ((xs ++ x.symbol ∷ []) ++ more) text in
-    let same : x.symbol ∷ more ≡ s ∷ rest = cancel xs (x.symbol ∷ more) (s ∷ rest) (sym (append_assoc xs (x.symbol ∷ []) more) ∙ e) in
+unfit_at L xs p always (x ∷ after) none = λ (t, more, text).
+    let (s, rest, fits, e) = always t (x.symbol ∷ more) (subst (L t) (append_assoc xs (x.symbol ∷ []) more) text) in
     let first : x.symbol ≡ s = cc in
     let bad : true ≡ false = sym (ap p first ∙ fits) ∙ none in
     absurd cc
 
 -- the symbols of the front
-pub front_symbols : (r s : Reading) (f : Front r s) → f.a.symbol ∷ f.b.symbol ∷ f.c.symbol ∷ [] ≡ word (codes "jsoncrdt") ∷ number (codes "1") ∷ word (codes "replica") ∷ []
-front_symbols r s f =
-    let a : f.a.symbol ≡ word (codes "jsoncrdt") = word_is (codes "jsoncrdt") f.a.symbol f.is_a in
-    let b : f.b.symbol ≡ number (codes "1") = number_is (codes "1") f.b.symbol f.is_b in
-    let c : f.c.symbol ≡ word (codes "replica") = word_is (codes "replica") f.c.symbol f.is_c in
-    cc
+pub front_symbols : (v : Version) (r s : Reading) (f : Front v r s) → f.a.symbol ∷ f.b.symbol ∷ f.c.symbol ∷ [] ≡ word (codes "jsoncrdt") ∷ number (version_text v) ∷ word (codes "replica") ∷ []
+front_symbols v r s f = rw (f.is_a, f.is_b, f.is_c) refl

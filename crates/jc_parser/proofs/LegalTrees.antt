@@ -6,6 +6,8 @@ use Rattle.std.proofs.lemmas.List.Elements.{All-nil, All-cons, All-take, All-dro
 use Rattle.jc_rules.specs.declared.value.Value.{Value}
 use Rattle.jc_rules.specs.declared.value.Value.TheVariants as values
 use Rattle.jc_rules.specs.Syntax.{Expr, TheDoc, Variable, GetKey, Index, KeysOf, ValuesOf, Cmd, LetIn, SetTo, InsertAfter, DeleteAt, Yield}
+use Rattle.jc_rules.specs.declared.version.Version.{Version}
+use Rattle.jc_rules.specs.declared.version.Version.TheVariants.{One, Two}
 use Rattle.jc_syntax.specs.declared.token.Token.{Token}
 use Rattle.jc_syntax.specs.Lexemes.{AreTokensOf, IsTokenOf}
 use Rattle.jc_parser.specs.Symbols.{Symbol, dot, open_paren, close_paren, close_brace, assign, word, semicolon, lexemes, symbols}
@@ -71,23 +73,24 @@ script_legal (c ∷ cs) w (u, own, inr (v, is, rest)) l =
 closed_legal : (script : List Cmd) (w : List Symbol) → IsClosedSpelled script w → AreLegal w → All IsLegalCmd script
 closed_legal script w (u, own, is) l = script_legal script u own (split w u (close_brace ∷ []) is l).0
 
-call_legal : (call : Call) (w : List Symbol) → IsCallSpelled call w → AreLegal w → IsLegalCall call
-call_legal (executes p) w h l = (subst AreLegal h l).0
-call_legal (sends p) w h l = (subst AreLegal h l).0
-call_legal (receives p q) w h l = let all = subst AreLegal h l in (all.0, all.1.1.1.1.0)
-call_legal (takes p q counter r) w h l = absurd h
-call_legal (applies p counter q) w (digits, numeral, counts, is) l = let all = subst AreLegal is l in (all.0, all.1.1.1.1.1.1.0)
-call_legal (ends p) w h l = (subst AreLegal h l).0
+call_legal : (v : Version) (call : Call) (w : List Symbol) → IsCallSpelled v call w → AreLegal w → IsLegalCall call
+call_legal v (executes p) w h l = (subst AreLegal h l).0
+call_legal v (sends p) w h l = (subst AreLegal h l).0
+call_legal v (receives p q) w h l = let all = subst AreLegal h l in (all.0, all.1.1.1.1.0)
+call_legal One (takes p q counter r) w h l = absurd h
+call_legal Two (takes p q counter r) w (digits, numeral, counts, is) l = let all = subst AreLegal is l in (all.0, all.1.1.1.1.0, all.1.1.1.1.1.1.1.1.0)
+call_legal v (applies p counter q) w (digits, numeral, counts, is) l = let all = subst AreLegal is l in (all.0, all.1.1.1.1.1.1.0)
+call_legal v (ends p) w h l = (subst AreLegal h l).0
 
 -- ---- scenarios
 
-calls_legal : (calls : List Call) (w : List Symbol) → IsListText IsCallSpelled calls w → AreLegal w → All IsLegalCall calls
+calls_legal : (calls : List Call) (w : List Symbol) → IsListText (IsCallSpelled One) calls w → AreLegal w → All IsLegalCall calls
 calls_legal [] w h l = All-nil IsLegalCall
 calls_legal (c ∷ cs) w (u, own, inl (none, is)) l =
-    All-cons IsLegalCall c cs (call_legal c u own (subst AreLegal is l)) (subst (All IsLegalCall) (sym none) (All-nil IsLegalCall))
+    All-cons IsLegalCall c cs (call_legal One c u own (subst AreLegal is l)) (subst (All IsLegalCall) (sym none) (All-nil IsLegalCall))
 calls_legal (c ∷ cs) w (u, own, inr (v, is, rest)) l =
     let parts = split w u (semicolon ∷ v) is l in
-    All-cons IsLegalCall c cs (call_legal c u own parts.0) (calls_legal cs v rest parts.1.1)
+    All-cons IsLegalCall c cs (call_legal One c u own parts.0) (calls_legal cs v rest parts.1.1)
 
 schedule_legal : (calls : List Call) (w : List Symbol) → IsScheduleSpelled calls w → AreLegal w → All IsLegalCall calls
 schedule_legal calls w (inl (none, is)) l = subst (All IsLegalCall) (sym none) (All-nil IsLegalCall)
@@ -120,13 +123,13 @@ pub scripts_legal : LegalStrings → LegalScripts
 scripts_legal strings text script utf8 is = (is.within, script_legal script (symbols (lexemes text is.tokens)) is.spelled (text_legal strings text is.tokens utf8 is.lexed))
 
 pub events_legal : LegalStrings → LegalEvents
-events_legal strings text e utf8 is = (is.event.within, call_legal (call_of e) (symbols (lexemes text is.tokens)) is.event.spelled (text_legal strings text is.tokens utf8 is.lexed))
+events_legal strings v text e utf8 is = (is.event.within, call_legal v (call_of e) (symbols (lexemes text is.tokens)) is.event.spelled (text_legal strings text is.tokens utf8 is.lexed))
 
 pub scripts_at_legal : LegalStrings → LegalScriptsAt
 scripts_at_legal strings text ts from brace script utf8 each is = (is.closed.within, closed_legal script (symbols (lexemes text (slice_range ts from (brace + 1)))) is.closed.spelled (part_legal strings text ts from (brace + 1) utf8 each))
 
 pub events_at_legal : LegalStrings → LegalEventsAt
-events_at_legal strings text ts from e next utf8 each is = (is.event.within, call_legal (call_of e) (symbols (lexemes text (slice_range ts from next))) is.event.spelled (part_legal strings text ts from next utf8 each))
+events_at_legal strings v text ts from e next utf8 each is = (is.event.within, call_legal v (call_of e) (symbols (lexemes text (slice_range ts from next))) is.event.spelled (part_legal strings text ts from next utf8 each))
 
 pub scenarios_legal : LegalStrings → LegalScenarios
 scenarios_legal strings text ts t utf8 each is = (is.within, tree_legal (tree_of t) (symbols (lexemes text ts)) is.spelled (symbols_legal strings text ts utf8 each))

@@ -2,6 +2,7 @@
 use Rattle.std.proofs.Common.{◌≡◌, ◌≢◌, ℕ, zero, suc, ◌+◌, ◌-◌, ◌≤◌, ◌⊎◌, inl, inr, true, false, List, [], ◌∷◌, ◌++◌, map, length, Ok, refl, sym, ap, subst, ◌∙◌, append_assoc, arith}
 use Rattle.std.specs.Prelude.{codes}
 use Rattle.std.proofs.lemmas.List.{append-nil, length-map}
+use Rattle.jc_rules.specs.declared.version.Version.TheVariants.{One}
 use Rattle.jc_syntax.specs.declared.token.TokenKind.TheVariants.{Name, Semi}
 use Rattle.jc_syntax.specs.declared.tree.NamedEvent.{NamedEvent}
 use Rattle.jc_parser.specs.declared.fault.ScenarioFault.TheVariants.{TooManyEvents}
@@ -93,23 +94,23 @@ whole_read t ls stop (u, v, some, parts, schedule, text) within =
 
 -- ---- events, with their places
 
-event_front : (e : NamedEvent) (w y : List Lexeme) (stop : ℕ) → IsEvent e w → any_event_at (reading stop (w ++ y)) ≡ Ok (e, reading stop y)
+event_front : (e : NamedEvent) (w y : List Lexeme) (stop : ℕ) → IsEvent One e w → any_event_at One (reading stop (w ++ y)) ≡ Ok (e, reading stop y)
 event_front e w y stop h =
-    elim (call_again true (call_of e) w y stop h.spelled h.within) [
+    elim (call_again One true (call_of e) w y stop h.spelled h.within) [
       | inl read ↦
-          let (x, first, last) = bind_ok (any_event_at (reading stop (w ++ y))) (λ f. Ok (call_of f.0, f.1)) (call_of e, reading stop y) read in
+          let (x, first, last) = bind_ok (any_event_at One (reading stop (w ++ y))) (λ f. Ok (call_of f.0, f.1)) (call_of e, reading stop y) read in
           let (same, left) = ok_parts (call_of x.0) (call_of e) x.1 (reading stop y) last in
-          let placed : ArePlaced x.0 w = placed_before x.0 w y (subst (λ (c : Call). IsCallSpelled c (symbols w)) (sym same) h.spelled) (event_placed (reading stop (w ++ y)) x.1 x.0 first) in
+          let placed : ArePlaced x.0 w = placed_before One x.0 w y (subst (λ (c : Call). IsCallSpelled One c (symbols w)) (sym same) h.spelled) (event_placed One (reading stop (w ++ y)) x.1 x.0 first) in
           let is : x.0 ≡ e = same_event x.0 e w same placed h.placed in
           first ∙ ap (λ (f : NamedEvent). read_as f x.1) is ∙ ap (λ (s : Reading). read_as e s) left
       | inr past ↦ absurd (not_past true _ refl past)
     ]
 
-last_event : (m stop : ℕ) (e : NamedEvent) (w y : List Lexeme) → begins_with (has_kind Name) (w ++ y) ≡ true → any_event_at (reading stop (w ++ y)) ≡ Ok (e, reading stop y) → begins_with (has_kind Semi) y ≡ false → events_at (suc m) (reading stop (w ++ y)) ≡ Ok (e ∷ [], reading stop y)
+last_event : (m stop : ℕ) (e : NamedEvent) (w y : List Lexeme) → begins_with (has_kind Name) (w ++ y) ≡ true → any_event_at One (reading stop (w ++ y)) ≡ Ok (e, reading stop y) → begins_with (has_kind Semi) y ≡ false → events_at (suc m) (reading stop (w ++ y)) ≡ Ok (e ∷ [], reading stop y)
 unfolding items_at
 last_event m stop e w y fits read ends = rw (fits, read, ends) refl
 
-next_event : (m stop at : ℕ) (e : NamedEvent) (es : List NamedEvent) (w ls y : List Lexeme) → begins_with (has_kind Name) (w ++ at_place at semicolon ∷ ls) ≡ true → any_event_at (reading stop (w ++ at_place at semicolon ∷ ls)) ≡ Ok (e, reading stop (at_place at semicolon ∷ ls)) → events_at m (reading stop ls) ≡ Ok (es, reading stop y)
+next_event : (m stop at : ℕ) (e : NamedEvent) (es : List NamedEvent) (w ls y : List Lexeme) → begins_with (has_kind Name) (w ++ at_place at semicolon ∷ ls) ≡ true → any_event_at One (reading stop (w ++ at_place at semicolon ∷ ls)) ≡ Ok (e, reading stop (at_place at semicolon ∷ ls)) → events_at m (reading stop ls) ≡ Ok (es, reading stop y)
     → events_at (suc m) (reading stop (w ++ at_place at semicolon ∷ ls)) ≡ Ok (e ∷ es, reading stop y)
 unfolding items_at one
 next_event m stop at e es w ls y fits read rest = rw (fits, read, rest) refl
@@ -120,7 +121,7 @@ record IsBehindEvents (y : List Lexeme) : Type 0 where
   no_semicolon : begins_with (has_kind Semi) y ≡ false
 
 events_front : (m : ℕ) (es : List NamedEvent) (ls y : List Lexeme) (stop : ℕ) → AreEvents es ls → length es ≤ m → IsBehindEvents y → events_at m (reading stop (ls ++ y)) ≡ Ok (es, reading stop y)
-events_front m [] ls y stop none few ends = rw none (none_again (has_kind Name) any_event_at (λ r. TooManyEvents (place r)) m y stop ends.no_event)
+events_front m [] ls y stop none few ends = rw none (none_again (has_kind Name) (any_event_at One) (λ r. TooManyEvents (place r)) m y stop ends.no_event)
 events_front zero (e ∷ es) ls y stop events few ends = absurd (omega (arith, few))
 events_front (suc m) (e ∷ es) ls y stop (u, event, inl (none, same)) few ends =
     rw (same, none) (last_event m stop e u y (call_first (call_of e) u y event.spelled) (event_front e u y stop event) ends.no_semicolon)

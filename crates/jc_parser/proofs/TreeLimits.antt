@@ -4,6 +4,7 @@ use Rattle.std.specs.Prelude.{codes, All}
 use Rattle.std.specs.List.{Contains}
 use Rattle.std.proofs.lemmas.Bool.{cases_Bool}
 use Rattle.std.proofs.lemmas.List.{append-nil}
+use Rattle.jc_rules.specs.declared.version.Version.TheVariants.{One}
 use Rattle.jc_syntax.specs.declared.token.TokenKind.TheVariants.{Name}
 use Rattle.jc_syntax.specs.declared.tree.NamedEvent.{NamedEvent}
 use Rattle.jc_rules.specs.Syntax.{Cmd}
@@ -227,10 +228,10 @@ tail_refused : (m n : ℕ) (names : List (List ℕ)) (p q stop : ℕ) (e : Scena
 tail_refused m n names p q stop e y fails = tail_last m n names (reading stop (block p q y)) refl ∙ ap (λ (r : Outcome (List _)). r >>= λ es. Ok (tree [] es.0, es.1)) (block_refused m p q stop e y fails)
 
 -- replicas, and events up to the beginning of one more
-one_call_spelled : (ps : List Part) (calls : List Call) (call : Call) (w v z : List Symbol) → AreDone ps w → ps ≢ [] → IsStartText IsCallSpelled calls v → IsCallSpelled call z → IsTreeSpelled (record { parts = ps; calls = calls ++ call ∷ [] }) (w ++ (schedule_head ++ ((v ++ z) ++ close_brace ∷ [])))
+one_call_spelled : (ps : List Part) (calls : List Call) (call : Call) (w v z : List Symbol) → AreDone ps w → ps ≢ [] → IsStartText (IsCallSpelled One) calls v → IsCallSpelled One call z → IsTreeSpelled (record { parts = ps; calls = calls ++ call ∷ [] }) (w ++ (schedule_head ++ ((v ++ z) ++ close_brace ∷ [])))
 one_call_spelled ps calls call w v z done some start own =
     let tail : List Symbol = schedule_head ++ ((v ++ z) ++ close_brace ∷ []) in
-    (done.parts, tail, some, done.spelled, inr (v ++ z, list_more IsCallSpelled calls (call ∷ []) v z start (z, own, inl (refl, refl)), refl), ap (λ (l : List Symbol). l ++ tail) done.is)
+    (done.parts, tail, some, done.spelled, inr (v ++ z, list_more (IsCallSpelled One) calls (call ∷ []) v z start (z, own, inl (refl, refl)), refl), ap (λ (l : List Symbol). l ++ tail) done.is)
 
 -- the lexemes of events, and those of one more up to where a limit is passed
 record IsEventCut (stop : ℕ) (e : ScenarioFault) (calls : List Call) (listed ls : List Lexeme) : Type 0 where
@@ -239,14 +240,14 @@ record IsEventCut (stop : ℕ) (e : ScenarioFault) (calls : List Call) (listed l
   is : ls ≡ taken ++ left
   call : Call
   more : List Symbol
-  spelled : IsCallSpelled call (symbols taken ++ more)
+  spelled : IsCallSpelled One call (symbols taken ++ more)
   others : List Symbol
   last : Symbol
   ends : symbols taken ≡ others ++ last ∷ []
   no_dot : last ≢ dot
   refused : (y : List Lexeme) → events_at 100000 (reading stop (listed ++ (taken ++ y))) ≡ Err e
 
-cut_of : (stop : ℕ) (e : ScenarioFault) (ps : List Part) (calls : List Call) (w listed ls : List Lexeme) (p q : ℕ) → AreDone ps (symbols w) → ps ≢ [] → IsStartText IsCallSpelled calls (symbols listed) → IsEventCut stop e calls listed ls → IsCut stop e (w ++ block p q (listed ++ ls))
+cut_of : (stop : ℕ) (e : ScenarioFault) (ps : List Part) (calls : List Call) (w listed ls : List Lexeme) (p q : ℕ) → AreDone ps (symbols w) → ps ≢ [] → IsStartText (IsCallSpelled One) calls (symbols listed) → IsEventCut stop e calls listed ls → IsCut stop e (w ++ block p q (listed ++ ls))
 cut_of stop e ps calls w listed ls p q done some start c =
     let few : length ps ≤ 64 = done.within.few in
     let text : symbols (block p q (listed ++ c.taken)) ++ (c.more ++ close_brace ∷ []) ≡ schedule_head ++ ((symbols listed ++ (symbols c.taken ++ c.more)) ++ close_brace ∷ []) =
@@ -274,7 +275,7 @@ cut_of stop e ps calls w listed ls p q done some start c =
     }
 
 -- one event too many
-crowd_cut : (stop : ℕ) (calls : List Call) (listed rest : List Lexeme) (next : Lexeme) (name : List ℕ) → length calls ≡ 100000 → IsStartText IsCallSpelled calls (symbols listed) → All IsCallWellFormed calls → next.symbol ≡ word name → IsEventCut stop (TooManyEvents next.place) calls listed (next ∷ rest)
+crowd_cut : (stop : ℕ) (calls : List Call) (listed rest : List Lexeme) (next : Lexeme) (name : List ℕ) → length calls ≡ 100000 → IsStartText (IsCallSpelled One) calls (symbols listed) → All IsCallWellFormed calls → next.symbol ≡ word name → IsEventCut stop (TooManyEvents next.place) calls listed (next ∷ rest)
 crowd_cut stop calls listed rest next name full start small is = record {
   taken = next ∷ [];
   left = rest;
@@ -286,7 +287,7 @@ crowd_cut stop calls listed rest next name full start small is = record {
   last = next.symbol;
   ends = refl;
   no_dot = no_dot_word name next.symbol is;
-  refused = λ y. crowded (has_kind Name) any_event_at (λ r. TooManyEvents (place r)) calls_are 100000 calls listed next y stop start full small (ap (has_kind Name) is);
+  refused = λ y. crowded (has_kind Name) (any_event_at One) (λ r. TooManyEvents (place r)) calls_are 100000 calls listed next y stop start full small (ap (has_kind Name) is);
 }
 
 -- an event as it is called
@@ -297,7 +298,7 @@ call_refused : (read : Outcome NamedEvent) (e : ScenarioFault) → called read �
 call_refused (Ok x) e h = absurd cc
 call_refused (Err d) e h = let same : d ≡ e = cc in ap Err same
 
-call_limit : (e : ScenarioFault) (xs : List Symbol) (after : List Lexeme) → IsCallExcess e xs after → IsLimitFault e
+call_limit : (e : ScenarioFault) (xs : List Symbol) (after : List Lexeme) → IsCallExcess One e xs after → IsLimitFault e
 call_limit (IndexTooLarge p) xs (next ∷ after) h = tt
 call_limit e xs after h = absurd h
 
@@ -305,8 +306,8 @@ call_limit e xs after h = absurd h
 abbrev BeginsNamed : List Symbol → Type 0
 BeginsNamed xs = (name : List ℕ) × (rest : List Symbol) × (xs ≡ word name ∷ rest)
 
-call_begins : (e : ScenarioFault) (xs : List Symbol) (after : List Lexeme) → IsCallExcess e xs after → BeginsNamed xs
-call_begins (IndexTooLarge p) xs (next ∷ after) (place, h) = (h.name, _, h.is)
+call_begins : (e : ScenarioFault) (xs : List Symbol) (after : List Lexeme) → IsCallExcess One e xs after → BeginsNamed xs
+call_begins (IndexTooLarge p) xs (next ∷ after) (place, h) = elim h.counter [ inl (name, is) ↦ (name, _, is) | inr none ↦ absurd none ]
 call_begins e xs after h = absurd h
 
 still_named : (before after taken left y : List Lexeme) (others : List Symbol) (last : Symbol) → BeginsNamed (symbols before) → before ++ after ≡ taken ++ left → symbols taken ≡ others ++ last ∷ [] → begins_with (has_kind Name) (taken ++ y) ≡ true
@@ -318,9 +319,9 @@ still_named before after taken left y others last (name, rest, text) parts ends 
         rw first refl
 
 -- too much in an event
-call_cut : (stop : ℕ) (e : ScenarioFault) (calls : List Call) (listed before after : List Lexeme) → length calls < 100000 → IsStartText IsCallSpelled calls (symbols listed) → All IsCallWellFormed calls → IsCallExcess e (symbols before) after → IsEventCut stop e calls listed (before ++ after)
+call_cut : (stop : ℕ) (e : ScenarioFault) (calls : List Call) (listed before after : List Lexeme) → length calls < 100000 → IsStartText (IsCallSpelled One) calls (symbols listed) → All IsCallWellFormed calls → IsCallExcess One e (symbols before) after → IsEventCut stop e calls listed (before ++ after)
 call_cut stop e calls listed before after room start small h =
-    let l = call_limits stop e before after h in
+    let l = call_limits One stop e before after h in
     let (call, more, own) = l.begins in
     record {
       taken = l.taken;
@@ -334,11 +335,11 @@ call_cut stop e calls listed before after room start small h =
       ends = l.ends;
       no_dot = l.no_dot;
       refused = λ y.
-          let fails : any_event_at (reading stop (l.taken ++ y)) ≡ Err e = call_refused (any_event_at (reading stop (l.taken ++ y))) e (before_end (call_at (reading stop (l.taken ++ y))) e (call_limit e (symbols before) after h) (l.refused y)) in
-          broken (has_kind Name) any_event_at (λ r. TooManyEvents (place r)) calls_are 100000 calls listed (l.taken ++ y) stop e start room small (still_named before after l.taken l.left y l.others l.last (call_begins e (symbols before) after h) l.parts l.ends) fails;
+          let fails : any_event_at One (reading stop (l.taken ++ y)) ≡ Err e = call_refused (any_event_at One (reading stop (l.taken ++ y))) e (before_end (call_at One (reading stop (l.taken ++ y))) e (call_limit e (symbols before) after h) (l.refused y)) in
+          broken (has_kind Name) (any_event_at One) (λ r. TooManyEvents (place r)) calls_are 100000 calls listed (l.taken ++ y) stop e start room small (still_named before after l.taken l.left y l.others l.last (call_begins e (symbols before) after h) l.parts l.ends) fails;
     }
 
-event_cut : (stop : ℕ) (e : ScenarioFault) (calls : List Call) (listed before after : List Lexeme) → IsStartText IsCallSpelled calls (symbols listed) → All IsCallWellFormed calls → IsEventExcess (length calls) e (symbols before) after → IsEventCut stop e calls listed (before ++ after)
+event_cut : (stop : ℕ) (e : ScenarioFault) (calls : List Call) (listed before after : List Lexeme) → IsStartText (IsCallSpelled One) calls (symbols listed) → All IsCallWellFormed calls → IsEventExcess (length calls) e (symbols before) after → IsEventCut stop e calls listed (before ++ after)
 event_cut stop e calls listed before after start small (inl (full, none, next, rest, is, name, named, fault)) =
     let empty : before ≡ [] = split_none before none in
     rw (empty, is, fault) (crowd_cut stop calls listed rest next name full start small named)
@@ -354,7 +355,7 @@ schedule_cut stop e before after h =
     by_parts : (w : List Lexeme) (p q : ℕ) (v z : List Lexeme) → before ≡ w ++ block p q (v ++ z) → symbols w ≡ h.before → symbols v ≡ h.listed → symbols z ≡ h.event → IsCut stop e (before ++ after)
     by_parts w p q v z parts left listed event =
         let done : AreDone h.parts (symbols w) = subst (AreDone h.parts) (sym left) h.done in
-        let start : IsStartText IsCallSpelled h.calls (symbols v) = subst (IsStartText IsCallSpelled h.calls) (sym listed) h.spelled in
+        let start : IsStartText (IsCallSpelled One) h.calls (symbols v) = subst (IsStartText (IsCallSpelled One) h.calls) (sym listed) h.spelled in
         let excess : IsEventExcess (length h.calls) e (symbols z) after = subst (λ (l : List Symbol). IsEventExcess (length h.calls) e l after) (sym event) h.excess in
         let whole : before ++ after ≡ w ++ block p q (v ++ (z ++ after)) = ap (λ (l : List Lexeme). l ++ after) parts ∙ append_assoc w (block p q (v ++ z)) after ∙ ap (λ (l : List Lexeme). w ++ block p q l) (append_assoc v z after) in
         subst (IsCut stop e) (sym whole) (cut_of stop e h.parts h.calls w v (z ++ after) p q done h.some start (event_cut stop e h.calls v z after start h.small excess))

@@ -5,6 +5,7 @@ use Rattle.std.specs.List.{list_any}
 use Rattle.std.proofs.lemmas.List.{append-nil}
 use Rattle.std.proofs.lemmas.Bool.{cases_Bool}
 use Rattle.std.proofs.Common.{inl, inr}
+use Rattle.jc_rules.specs.declared.version.Version.{Version}
 use Rattle.jc_syntax.specs.declared.tree.NamedEvent.{NamedEvent}
 use Rattle.jc_parser.specs.declared.fault.ScenarioFault.{ScenarioFault}
 use Rattle.jc_parser.specs.declared.fault.ScenarioFault.TheVariants.{TooManyReplicas, Memory}
@@ -13,7 +14,7 @@ use Rattle.jc_parser.specs.Symbols.{Symbol, word, Lexeme}
 use Rattle.jc_parser.specs.Reading.{Reading, Outcome, Gives, ◌>>=◌, begins, place_at, one, skip, named_at}
 use Rattle.jc_parser.specs.Words.{is_reserved}
 use Rattle.jc_parser.specs.Trees.{Part, NamedTree}
-use Rattle.jc_parser.specs.TreeParts.{is_among, other_name_at, new_name_at, part_at, schedule_at, tree, with_part, crowd_at, tail_at, rest_at}
+use Rattle.jc_parser.specs.TreeParts.{is_among, other_name_at, new_name_at, part_at, tree, blocks_at, with_part, crowd_at, tail_at, rest_at}
 use Rattle.jc_parser.specs.TreeViews.{part_view, names_of}
 use Rattle.jc_parser.proofs.Spelled.{reading}
 use Rattle.jc_parser.proofs.TreeTails.{is_replica}
@@ -74,42 +75,42 @@ crowd_err names r e h = by_left r.stop r.left h
 
 -- ---- replicas
 
-pub first_fails : (m n : ℕ) (r : Reading) (e : ScenarioFault) → part_at [] r ≡ Err e → rest_at m n r ≡ Err e
+pub first_fails : (v : Version) (m n : ℕ) (r : Reading) (e : ScenarioFault) → part_at [] r ≡ Err e → rest_at v m n r ≡ Err e
 unfolding rest_at
-first_fails m n r e fails = rw fails refl
+first_fails v m n r e fails = rw fails refl
 
-pub first_read : (m n : ℕ) (r s : Reading) (p : Part) → part_at [] r ≡ Ok (p, s) → rest_at m n r ≡ then_parts (p ∷ []) (tail_at m n (p.name ∷ []) s)
+pub first_read : (v : Version) (m n : ℕ) (r s : Reading) (p : Part) → part_at [] r ≡ Ok (p, s) → rest_at v m n r ≡ then_parts (p ∷ []) (tail_at v m n (p.name ∷ []) s)
 unfolding rest_at
-first_read m n r s p read = rw read refl
+first_read v m n r s p read = rw read refl
 
-pub replicas_full : (m n : ℕ) (names : List (List ℕ)) (ps : List Part) (r a : Reading) → n ≡ 0 → begins is_replica r ≡ true → skip is_replica r ≡ Ok (tt, a) → then_parts ps (tail_at m n names r) ≡ Err (crowd_at names a)
+pub replicas_full : (v : Version) (m n : ℕ) (names : List (List ℕ)) (ps : List Part) (r a : Reading) → n ≡ 0 → begins is_replica r ≡ true → skip is_replica r ≡ Ok (tt, a) → then_parts ps (tail_at v m n names r) ≡ Err (crowd_at names a)
 unfolding tail_at
-replicas_full m zero names ps r a z some takes = rw (some, takes) refl
-replicas_full m (suc n) names ps r a z some takes = absurd (omega (arith, z))
+replicas_full v m zero names ps r a z some takes = rw (some, takes) refl
+replicas_full v m (suc n) names ps r a z some takes = absurd (omega (arith, z))
 
-pub replicas_fail : (m n : ℕ) (names : List (List ℕ)) (ps : List Part) (r a : Reading) (e : ScenarioFault) → n ≢ 0 → begins is_replica r ≡ true → skip is_replica r ≡ Ok (tt, a) → part_at names a ≡ Err e → then_parts ps (tail_at m n names r) ≡ Err e
+pub replicas_fail : (v : Version) (m n : ℕ) (names : List (List ℕ)) (ps : List Part) (r a : Reading) (e : ScenarioFault) → n ≢ 0 → begins is_replica r ≡ true → skip is_replica r ≡ Ok (tt, a) → part_at names a ≡ Err e → then_parts ps (tail_at v m n names r) ≡ Err e
 unfolding tail_at
-replicas_fail m zero names ps r a e z some takes fails = absurd (z refl)
-replicas_fail m (suc n) names ps r a e z some takes fails = rw (some, takes, fails) refl
+replicas_fail v m zero names ps r a e z some takes fails = absurd (z refl)
+replicas_fail v m (suc n) names ps r a e z some takes fails = rw (some, takes, fails) refl
 
 regroup : (ps : List Part) (p : Part) (r : Outcome NamedTree) → then_parts ps (r >>= λ t. Ok (with_part p t.0, t.1)) ≡ then_parts (ps ++ p ∷ []) r
-regroup ps p (Ok x) = ap (λ qs. Ok (tree qs x.0.events, x.1)) (sym (append_assoc ps (p ∷ []) x.0.parts))
+regroup ps p (Ok x) = ap (λ qs. Ok (tree x.0.version qs x.0.given x.0.events, x.1)) (sym (append_assoc ps (p ∷ []) x.0.parts))
 regroup ps p (Err e) = refl
 
-pub replicas_next : (m n : ℕ) (names : List (List ℕ)) (ps : List Part) (r a b : Reading) (p : Part) → n ≢ 0 → begins is_replica r ≡ true → skip is_replica r ≡ Ok (tt, a) → part_at names a ≡ Ok (p, b) → then_parts ps (tail_at m n names r) ≡ then_parts (ps ++ p ∷ []) (tail_at m (n - 1) (names ++ p.name ∷ []) b)
+pub replicas_next : (v : Version) (m n : ℕ) (names : List (List ℕ)) (ps : List Part) (r a b : Reading) (p : Part) → n ≢ 0 → begins is_replica r ≡ true → skip is_replica r ≡ Ok (tt, a) → part_at names a ≡ Ok (p, b) → then_parts ps (tail_at v m n names r) ≡ then_parts (ps ++ p ∷ []) (tail_at v m (n - 1) (names ++ p.name ∷ []) b)
 unfolding tail_at
-replicas_next m zero names ps r a b p z some takes reads = absurd (z refl)
-replicas_next m (suc n) names ps r a b p z some takes reads = rw (some, takes, reads, sub-one) (regroup ps p (tail_at m n (names ++ p.name ∷ []) b))
+replicas_next v m zero names ps r a b p z some takes reads = absurd (z refl)
+replicas_next v m (suc n) names ps r a b p z some takes reads = rw (some, takes, reads, sub-one) (regroup ps p (tail_at v m n (names ++ p.name ∷ []) b))
 
-pub replicas_done : (m n : ℕ) (names : List (List ℕ)) (ps : List Part) (r s : Reading) (es : List NamedEvent) → begins is_replica r ≡ false → schedule_at m r ≡ Ok (es, s) → then_parts ps (tail_at m n names r) ≡ Ok (tree ps es, s)
+pub replicas_done : (v : Version) (m n : ℕ) (names : List (List ℕ)) (ps : List Part) (r s : Reading) (given es : List NamedEvent) → begins is_replica r ≡ false → blocks_at v m r ≡ Ok (tree v [] given es, s) → then_parts ps (tail_at v m n names r) ≡ Ok (tree v ps given es, s)
 unfolding tail_at
-replicas_done m zero names ps r s es none reads = rw (none, reads) (ap (λ qs. Ok (tree qs es, s)) (append-nil ps))
-replicas_done m (suc n) names ps r s es none reads = rw (none, reads) (ap (λ qs. Ok (tree qs es, s)) (append-nil ps))
+replicas_done v m zero names ps r s given es none reads = rw (none, reads) (ap (λ qs. Ok (tree v qs given es, s)) (append-nil ps))
+replicas_done v m (suc n) names ps r s given es none reads = rw (none, reads) (ap (λ qs. Ok (tree v qs given es, s)) (append-nil ps))
 
-pub replicas_end : (m n : ℕ) (names : List (List ℕ)) (ps : List Part) (r : Reading) (e : ScenarioFault) → begins is_replica r ≡ false → schedule_at m r ≡ Err e → then_parts ps (tail_at m n names r) ≡ Err e
+pub replicas_end : (v : Version) (m n : ℕ) (names : List (List ℕ)) (ps : List Part) (r : Reading) (e : ScenarioFault) → begins is_replica r ≡ false → blocks_at v m r ≡ Err e → then_parts ps (tail_at v m n names r) ≡ Err e
 unfolding tail_at
-replicas_end m zero names ps r e none fails = rw (none, fails) refl
-replicas_end m (suc n) names ps r e none fails = rw (none, fails) refl
+replicas_end v m zero names ps r e none fails = rw (none, fails) refl
+replicas_end v m (suc n) names ps r e none fails = rw (none, fails) refl
 
 -- ---- a name as a function returned it
 

@@ -6,6 +6,8 @@ use Rattle.std.proofs.lemmas.Bool.{cases_Bool}
 use Rattle.std.proofs.lemmas.List.{length-append}
 use Rattle.std.proofs.lemmas.List.Elements.{All-nil}
 use Rattle.std.proofs.lemmas.Slice.Eq.{bytes_eq-Decides}
+use Rattle.jc_rules.specs.declared.version.Version.{Version}
+use Rattle.jc_rules.specs.declared.version.Version.TheVariants.{One, Two}
 use Rattle.jc_syntax.specs.declared.token.TokenKind.TheVariants.{Name, BraceL, BraceR}
 use Rattle.jc_syntax.specs.declared.tree.NamedEvent.{NamedEvent}
 use Rattle.jc_rules.specs.Syntax.{Cmd}
@@ -18,10 +20,10 @@ use Rattle.jc_parser.specs.Scripts.{IsScriptWellFormed, IsScriptExcess}
 use Rattle.jc_parser.specs.ScriptParts.{closed_script_at}
 use Rattle.jc_parser.specs.ClosedScripts.{IsClosedSpelled}
 use Rattle.jc_parser.specs.Calls.{IsCallExcess}
-use Rattle.jc_parser.specs.Trees.{Part, schedule_head}
-use Rattle.jc_parser.specs.TreeParts.{is_among, known, other_name_at, new_name_at, body_at, part_at, events_at, block_at, schedule_at}
+use Rattle.jc_parser.specs.Trees.{Part, NamedTree, block_head}
+use Rattle.jc_parser.specs.TreeParts.{is_among, known, other_name_at, new_name_at, body_at, part_at, events_at, block_at, any_block_at, given_at, tree, blocks_at}
 use Rattle.jc_parser.proofs.Readers.{Language, Excess, Never, Reads, reads_one, reads_symbol, reads_then, reads_if, reads_done, reads_map, reads_refused, reads_same, reads_as, reads_more}
-use Rattle.jc_parser.proofs.Expressions.{kind_is, word_is, Within, within}
+use Rattle.jc_parser.proofs.Expressions.{kind_is, word_is, same_bytes, Within, within}
 use Rattle.jc_parser.proofs.Sentences.{Spelling}
 use Rattle.jc_parser.proofs.Items.{Lists, ListExcess, reads_items}
 use Rattle.jc_parser.proofs.LanguageTests.{both_true}
@@ -185,28 +187,29 @@ reads_part names =
     (λ d x after o. inl o)
     (λ name d x w after l o. inr (name, w, l.1, rw (l.0) refl, o))
 
--- ---- the schedule
+-- ---- blocks of events
 
-abbrev pub EventsExcess : ℕ → Excess
-EventsExcess n = ListExcess Calls (has_kind Name) (λ x. TooManyEvents x.place) IsCallExcess n
+abbrev pub EventsExcess : Version → ℕ → Excess
+EventsExcess v n = ListExcess (Calls v) (has_kind Name) (λ x. TooManyEvents x.place) (IsCallExcess v) n
 
-pub reads_events : (n : ℕ) → Reads (Lists Calls n) (EventsExcess n) (events_at n)
-reads_events n = reads_items (has_kind Name) (λ r. TooManyEvents (place r)) (λ x. TooManyEvents x.place) (λ n x xs. refl) reads_event n
+pub reads_events : (v : Version) (n : ℕ) → Reads (Lists (Calls v) n) (EventsExcess v n) (events_at v n)
+reads_events v n = reads_items (has_kind Name) (λ r. TooManyEvents (place r)) (λ x. TooManyEvents x.place) (λ n x xs. refl) (reads_event v) n
 
-abbrev Closed : ℕ → Language (List NamedEvent)
-Closed n k es w = (u : List Symbol) × Lists Calls n k es u × (w ≡ u ++ close_brace ∷ [])
+abbrev Closed : Version → ℕ → Language (List NamedEvent)
+Closed v n k es w = (u : List Symbol) × Lists (Calls v) n k es u × (w ≡ u ++ close_brace ∷ [])
 
-abbrev Braced : ℕ → Language (List NamedEvent)
-Braced n k es w = (y : List Symbol) × (w ≡ open_brace ∷ y) × Closed n k es y
+abbrev Braced : Version → ℕ → Language (List NamedEvent)
+Braced v n k es w = (y : List Symbol) × (w ≡ open_brace ∷ y) × Closed v n k es y
 
-abbrev BracedExcess : ℕ → Excess
-BracedExcess n d xs after = (y : List Symbol) × (xs ≡ open_brace ∷ y) × EventsExcess n d y after
+abbrev BracedExcess : Version → ℕ → Excess
+BracedExcess v n d xs after = (y : List Symbol) × (xs ≡ open_brace ∷ y) × EventsExcess v n d y after
 
-abbrev pub Blocks : ℕ → Language (List NamedEvent)
-Blocks n k es w = (u : List Symbol) × Lists Calls n k es u × (w ≡ schedule_head ++ (u ++ close_brace ∷ []))
+-- blocks with this word
+abbrev pub Blocks : List ℕ → Version → ℕ → Language (List NamedEvent)
+Blocks name v n k es w = (u : List Symbol) × Lists (Calls v) n k es u × (w ≡ block_head name ++ (u ++ close_brace ∷ []))
 
-abbrev pub BlockExcess : ℕ → Excess
-BlockExcess n d xs after = (y : List Symbol) × (xs ≡ schedule_head ++ y) × EventsExcess n d y after
+abbrev pub BlockExcess : List ℕ → Version → ℕ → Excess
+BlockExcess name v n d xs after = (y : List Symbol) × (xs ≡ block_head name ++ y) × EventsExcess v n d y after
 
 reads_end : (es : List NamedEvent) → Reads (λ k fs w. (fs ≡ es) × (w ≡ close_brace ∷ [])) Never (λ r. skip (has_kind BraceR) r >>= λ c. Ok (es, c.1))
 reads_end es =
@@ -216,38 +219,100 @@ reads_end es =
     (λ k fs w. (fs ≡ es) × (w ≡ close_brace ∷ [])) Never
     (λ k fs y m. (m.0, ap (λ (l : List Symbol). close_brace ∷ l) m.1)) (λ d y after o. o)
 
-reads_inner : (n : ℕ) → Reads (Closed n) (EventsExcess n) (λ r. events_at n r >>= λ es. skip (has_kind BraceR) es.1 >>= λ c. Ok (es.0, c.1))
-reads_inner n =
+reads_inner : (v : Version) (n : ℕ) → Reads (Closed v n) (EventsExcess v n) (λ r. events_at v n r >>= λ es. skip (has_kind BraceR) es.1 >>= λ c. Ok (es.0, c.1))
+reads_inner v n =
     reads_then (λ es k fs w. (fs ≡ es) × (w ≡ close_brace ∷ [])) (λ _. Never) (λ es r. skip (has_kind BraceR) r >>= λ c. Ok (es, c.1))
-    (Closed n) (EventsExcess n) (reads_events n) reads_end
+    (Closed v n) (EventsExcess v n) (reads_events v n) reads_end
     (λ es. (es, close_brace ∷ [], λ k. (refl, refl)))
     (λ k es fs x w l m. (x, rw (m.0) l, rw (m.1) refl))
     (λ d x after o. o) (λ es d x y after l o. absurd o)
 
-no_events : (n : ℕ) (k : Bool) → Closed n k [] (close_brace ∷ [])
-no_events n k = ([], (refl, within k (omega arith)), refl)
+no_events : (v : Version) (n : ℕ) (k : Bool) → Closed v n k [] (close_brace ∷ [])
+no_events v n k = ([], (refl, within k (omega arith)), refl)
 
-reads_block : (n : ℕ) → Reads (Blocks n) (BlockExcess n) (block_at n)
+reads_block : (name : List ℕ) (v : Version) (n : ℕ) → Reads (Blocks name v n) (BlockExcess name v n) (block_at name v n)
 unfolding block_at
-reads_block n =
-    reads_symbol (is_word (codes "schedule")) (word (codes "schedule")) refl (word_is (codes "schedule"))
-    (Braced n) (BracedExcess n)
-    (λ r. skip (has_kind BraceL) r >>= λ b. events_at n b.1 >>= λ es. skip (has_kind BraceR) es.1 >>= λ c. Ok (es.0, c.1))
+reads_block name v n =
+    reads_symbol (is_word name) (word name) (same_bytes name) (word_is name)
+    (Braced v n) (BracedExcess v n)
+    (λ r. skip (has_kind BraceL) r >>= λ b. events_at v n b.1 >>= λ es. skip (has_kind BraceR) es.1 >>= λ c. Ok (es.0, c.1))
     (reads_symbol (has_kind BraceL) open_brace refl (kind_is BraceL)
-    (Closed n) (EventsExcess n)
-    (λ r. events_at n r >>= λ es. skip (has_kind BraceR) es.1 >>= λ c. Ok (es.0, c.1))
-    (reads_inner n)
-    ([], close_brace ∷ [], λ k. no_events n k)
-    (Braced n) (BracedExcess n)
+    (Closed v n) (EventsExcess v n)
+    (λ r. events_at v n r >>= λ es. skip (has_kind BraceR) es.1 >>= λ c. Ok (es.0, c.1))
+    (reads_inner v n)
+    ([], close_brace ∷ [], λ k. no_events v n k)
+    (Braced v n) (BracedExcess v n)
     (λ k es y m. (y, refl, m)) (λ d y after o. (y, refl, o)))
-    ([], open_brace ∷ close_brace ∷ [], λ k. (close_brace ∷ [], refl, no_events n k))
-    (Blocks n) (BlockExcess n)
+    ([], open_brace ∷ close_brace ∷ [], λ k. (close_brace ∷ [], refl, no_events v n k))
+    (Blocks name v n) (BlockExcess name v n)
     (λ k es y m. let (z, brace, (u, l, text)) = m in (u, l, rw (brace, text) refl))
     (λ d y after o. let (z, brace, e) = o in (z, rw brace refl, e))
 
-abbrev pub Schedules : ℕ → Language (List NamedEvent)
-Schedules n k es w = ((es ≡ []) × (w ≡ [])) ⊎ Blocks n k es w
+-- such a block, or nothing
+abbrev pub AnyBlocks : List ℕ → Version → ℕ → Language (List NamedEvent)
+AnyBlocks name v n k es w = ((es ≡ []) × (w ≡ [])) ⊎ Blocks name v n k es w
 
-pub reads_schedule : (n : ℕ) → Reads (Schedules n) (BlockExcess n) (schedule_at n)
-unfolding schedule_at
-reads_schedule n = reads_if (is_word (codes "schedule")) (reads_as (Schedules n) (λ k es w l. inr l) (reads_block n)) (reads_done [] (λ k. inl (refl, refl)))
+pub reads_any_block : (name : List ℕ) (v : Version) (n : ℕ) → Reads (AnyBlocks name v n) (BlockExcess name v n) (any_block_at name v n)
+unfolding any_block_at
+reads_any_block name v n = reads_if (is_word name) (reads_as (AnyBlocks name v n) (λ k es w l. inr l) (reads_block name v n)) (reads_done [] (λ k. inl (refl, refl)))
+
+-- ---- the given events and the schedule
+
+abbrev pub Givens : Version → ℕ → Language (List NamedEvent)
+Givens One n k es w = (es ≡ []) × (w ≡ [])
+Givens Two n k es w = AnyBlocks (codes "given") Two n k es w
+
+abbrev pub GivenExcess : Version → ℕ → Excess
+GivenExcess One n d xs after = ⊥
+GivenExcess Two n d xs after = BlockExcess (codes "given") Two n d xs after
+
+reads_given : (v : Version) (n : ℕ) → Reads (Givens v n) (GivenExcess v n) (given_at v n)
+unfolding given_at
+reads_given One n = reads_done [] (λ k. (refl, refl))
+reads_given Two n = reads_any_block (codes "given") Two n
+
+none_given : (v : Version) (n : ℕ) (k : Bool) → Givens v n k [] []
+none_given One n k = (refl, refl)
+none_given Two n k = inl (refl, refl)
+
+abbrev pub Schedules : Version → ℕ → Language (List NamedEvent)
+Schedules v n k es w = AnyBlocks (codes "schedule") v n k es w
+
+-- the events of a scenario, behind its replicas
+abbrev pub HasBlocks : Version → ℕ → Bool → NamedTree → List Symbol → Type 0
+HasBlocks v n k t w =
+    (a : List Symbol) × (b : List Symbol) × (t.version ≡ v) × Givens v n k t.given a × Schedules v n k t.events b × (w ≡ a ++ b)
+
+pub no_blocks : (v : Version) (n : ℕ) (k : Bool) (ps : List Part) → HasBlocks v n k (tree v ps [] []) []
+no_blocks v n k ps = ([], [], refl, none_given v n k, inl (refl, refl), refl)
+
+-- a scenario that has no replica as yet
+abbrev pub Ends : Version → ℕ → Language NamedTree
+Ends v n k t w = (t.parts ≡ []) × HasBlocks v n k t w
+
+-- too much in the schedule, behind given events
+abbrev pub LaterExcess : Version → ℕ → Excess
+LaterExcess v n d xs after =
+    (g : List NamedEvent) × (a : List Symbol) × (b : List Symbol) × Givens v n true g a × (xs ≡ a ++ b) × BlockExcess (codes "schedule") v n d b after
+
+abbrev pub BlocksExcess : Version → ℕ → Excess
+BlocksExcess v n d xs after = GivenExcess v n d xs after ⊎ LaterExcess v n d xs after
+
+-- the schedule behind these given events
+abbrev Behind : Version → ℕ → List NamedEvent → Language NamedTree
+Behind v n g k t w = (es : List NamedEvent) × (t ≡ tree v [] g es) × Schedules v n k es w
+
+joined : (v : Version) (n : ℕ) (k : Bool) (g : List NamedEvent) (t : NamedTree) (x w : List Symbol) → Givens v n k g x → Behind v n g k t w → Ends v n k t (x ++ w)
+joined v n k g t x w l (es, same, m) = rw same (refl, (x, w, refl, l, m, refl))
+
+pub reads_blocks : (v : Version) (n : ℕ) → Reads (Ends v n) (BlocksExcess v n) (blocks_at v n)
+unfolding blocks_at
+reads_blocks v n =
+    reads_then (Behind v n) (λ _. BlockExcess (codes "schedule") v n) (λ g r. any_block_at (codes "schedule") v n r >>= λ s. Ok (tree v [] g s.0, s.1))
+    (Ends v n) (BlocksExcess v n)
+    (reads_given v n)
+    (λ g. reads_map (λ es. tree v [] g es) (Behind v n g) (reads_any_block (codes "schedule") v n) (λ k es w l. (es, refl, l)))
+    (λ g. (tree v [] g [], [], λ k. ([], refl, inl (refl, refl))))
+    (λ k g t x w l m. joined v n k g t x w l m)
+    (λ d x after o. inl o)
+    (λ g d x w after l o. inr (g, x, w, l, refl, o))

@@ -192,11 +192,7 @@ fn event_in(alloc: Global, version: Version, text: &str) -> Result<NamedEvent, S
 /// Refusals: `TextTooLong` for a text over 8,388,608 bytes; then the first fault of a token; then
 /// the first by place of `Unexpected`, `EndOfText` and `IndexTooLarge`, at one place that with the
 /// smaller number.
-pub fn parse_event(
-    alloc: Global,
-    version: Version,
-    text: &str,
-) -> Result<NamedEvent, ParseFault>
+pub fn parse_event(alloc: Global, version: Version, text: &str) -> Result<NamedEvent, ParseFault>
     // What is read is the event that the text is, each name with its place.
     ensures tree { IfOk result (λ e. IsEventOf version text.now e) }
     // What is refused has this fault.

@@ -12,7 +12,7 @@ pub fn scripts_read_back()
     ensures { ScriptsReadBack }
 {}
 
-/// A canonical event of version 1 is read back with the names of its replicas.
+/// A canonical event is read back with the names of its replicas, in each version that has it.
 pub fn events_read_back()
     ensures { EventsReadBack }
 {}

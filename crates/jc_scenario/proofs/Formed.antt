@@ -15,8 +15,7 @@ use Rattle.jc_parser.specs.Words.{is_reserved, IsListText}
 use Rattle.jc_parser.specs.Scripts.{IsScriptWellFormed}
 use Rattle.jc_parser.specs.Calls.{Call, IsCallSpelled, IsCallWellFormed}
 use Rattle.jc_parser.specs.Legal.{IsName, IsLegalCmd, call_by, IsCounterBelow}
-use Rattle.jc_parser.specs.Trees.{Part, Tree, name_of, schedule_head, IsBlockSpelled, IsGivenSpelled, IsTreeWithin}
-use Rattle.jc_printer.specs.Canon.{AreNamed}
+use Rattle.jc_parser.specs.Trees.{Part, Tree, name_of, IsGivenSpelled, IsScheduleSpelled, IsTreeWithin}
 use Rattle.jc_scenario.specs.Scenarios.{Scenario, parts_of, IsOfTree, IsWellFormed}
 use Rattle.jc_scenario.proofs.Apart.{names-parts}
 use Rattle.jc_scenario.proofs.Unique.{script_of, scripts-parts}
@@ -67,7 +66,7 @@ none_called : (names : List (List ℕ)) (es : List Event) → map (call_by names
 none_called names [] none = refl
 none_called names (e ∷ es) none = cc
 
-each_allowed : (v : Version) (names : List (List ℕ)) (es : List Event) (w : List Symbol) → IsBlockSpelled schedule_head v (map (call_by names) es) w → All (λ e. Allows e v) es
+each_allowed : (v : Version) (names : List (List ℕ)) (es : List Event) (w : List Symbol) → IsScheduleSpelled v (map (call_by names) es) w → All (λ e. Allows e v) es
 each_allowed v names es w (inl (none, text)) = subst (All (λ e. Allows e v)) (sym (none_called names es none)) (All-nil (λ e. Allows e v))
 each_allowed v names es w (inr (u, listed, text)) = listed_allowed v names es u listed
 
@@ -80,7 +79,7 @@ none_there : (ps : List Part) → length ps ≡ 0 → ps ≡ []
 none_there [] e = refl
 none_there (p ∷ ps) e = absurd (omega arith)
 
-pub well_formed : (t : Tree) (s : Scenario) (g w : List Symbol) → IsOfTree t s → t.parts ≢ [] → IsGivenSpelled t.version t.given g → IsBlockSpelled schedule_head t.version t.calls w → IsTreeWithin t → All (λ p. IsName p.name) t.parts → All (λ p. All IsLegalCmd p.script) t.parts → IsWellFormed s
+pub well_formed : (t : Tree) (s : Scenario) (g w : List Symbol) → IsOfTree t s → t.parts ≢ [] → IsGivenSpelled t.version t.given g → IsScheduleSpelled t.version t.calls w → IsTreeWithin t → All (λ p. IsName p.name) t.parts → All (λ p. All IsLegalCmd p.script) t.parts → IsWellFormed s
 well_formed t s g w is some given schedule within names commands = record {
   some = λ none. some (none_there t.parts (sym (count t s is) ∙ ap length none));
   few = omega (arith, count t s is, within.parts.few);
@@ -91,13 +90,13 @@ well_formed t s g w is some given schedule within names commands = record {
   formed = each_script t s is IsScriptWellFormed within.parts.scripts;
   commands = each_script t s is (λ script. All IsLegalCmd script) commands;
   first_given = λ first. none_given t.version s.names s.given g (subst (λ (calls : List Call). IsGivenSpelled t.version calls g) (sym is.given_called) given) (sym is.version ∙ first);
-  given_short = omega (arith, length-map s.given (call_by s.names), ap length is.given_called, within.given_few);
+  given_short = omega (arith, length-map s.given (call_by s.names), ap length is.given_called, within.few_given);
   given_known = is.given_known;
-  given_counters = each_counter s.names s.given (subst (All IsCallWellFormed) (sym is.given_called) within.given_calls);
+  given_counters = each_counter s.names s.given (subst (All IsCallWellFormed) (sym is.given_called) within.given);
   short = omega (arith, length-map s.schedule (call_by s.names), ap length is.called, within.few);
   known = is.known;
   counters = each_counter s.names s.schedule (subst (All IsCallWellFormed) (sym is.called) within.calls);
   allowed =
       subst (λ (v : Version). All (λ e. Allows e v) s.schedule) (sym is.version)
-      (each_allowed t.version s.names s.schedule w (subst (λ (calls : List Call). IsBlockSpelled schedule_head t.version calls w) (sym is.called) schedule));
+      (each_allowed t.version s.names s.schedule w (subst (λ (calls : List Call). IsScheduleSpelled t.version calls w) (sym is.called) schedule));
 }

@@ -13,7 +13,7 @@ use Rattle.jc_parser.specs.Words.{IsListText}
 use Rattle.jc_parser.specs.Scripts.{IsCommandSpelled, IsCommandWellFormed}
 use Rattle.jc_parser.specs.Calls.{IsCallSpelled}
 use Rattle.jc_parser.specs.Legal.{IsName, IsLegalCmd, call_by, IsCounterBelow}
-use Rattle.jc_parser.specs.Trees.{Part, part_head, IsPartSpelled, ArePartsSpelled, given_head, schedule_head, IsBlockSpelled, IsGivenSpelled}
+use Rattle.jc_parser.specs.Trees.{Part, part_head, IsPartSpelled, ArePartsSpelled, block_head, IsBlockSpelled, IsGivenSpelled, IsScheduleSpelled}
 use Rattle.jc_printer.specs.Canon.{canon_cmd, canon_event, AreNamed}
 use Rattle.jc_printer.proofs.Printed.{IsPrinted, put, spaced}
 use Rattle.jc_printer.proofs.Trees.{PrintsAs, alone, keyword, command_printed}
@@ -110,21 +110,21 @@ parts_printed (q ∷ qs) after rest legal p =
 
 -- ---- blocks of events
 
-events_bytes : (word lines rest : List ℕ) → (((word ++ codes " {\n") ++ lines) ++ codes "}\n") ++ rest ≡ word ++ 32 ∷ 123 ∷ 10 ∷ (lines ++ 125 ∷ 10 ∷ rest)
-events_bytes word lines rest = simp append_assoc
+events_bytes : (lead lines rest : List ℕ) → (((lead ++ codes " {\n") ++ lines) ++ codes "}\n") ++ rest ≡ lead ++ 32 ∷ 123 ∷ 10 ∷ (lines ++ 125 ∷ 10 ∷ rest)
+events_bytes lead lines rest = simp append_assoc
 
 -- a word and events in braces
-events_block : (v : Version) (lead : List ℕ) (names : List (List ℕ)) (es : List Event) (after : List Symbol) (rest : List ℕ) → IsName lead → All IsName names → All (λ e. AreNamed e (length names)) es → All IsCounterBelow es → All (λ e. Allows e v) es → IsPrinted after rest → PrintsAs (IsBlockSpelled (word lead ∷ open_brace ∷ []) v (map (call_by names) es)) (((lead ++ codes " {\n") ++ canon_events names es) ++ codes "}\n") after rest
+events_block : (v : Version) (lead : List ℕ) (names : List (List ℕ)) (es : List Event) (after : List Symbol) (rest : List ℕ) → IsName lead → All IsName names → All (λ e. AreNamed e (length names)) es → All IsCounterBelow es → All (λ e. Allows e v) es → IsPrinted after rest → PrintsAs (IsBlockSpelled (block_head lead) v (map (call_by names) es)) (((lead ++ codes " {\n") ++ canon_events names es) ++ codes "}\n") after rest
 events_block v lead names es after rest leads legal known small allowed p =
     let body = events_printed v names es (close_brace ∷ after) (125 ∷ 10 ∷ rest) legal known small allowed (closed after rest p) in
     let begun = opened (body.text ++ close_brace ∷ after) (canon_events names es ++ 125 ∷ 10 ∷ rest) body.printed in
     let whole = put (word lead) (open_brace ∷ (body.text ++ close_brace ∷ after)) lead (32 ∷ 123 ∷ 10 ∷ (canon_events names es ++ 125 ∷ 10 ∷ rest)) (refl, leads, refl) (spaced (open_brace ∷ (body.text ++ close_brace ∷ after)) 32 (123 ∷ 10 ∷ (canon_events names es ++ 125 ∷ 10 ∷ rest)) refl begun) in
     record {
-      text = word lead ∷ open_brace ∷ (body.text ++ close_brace ∷ []);
+      text = block_head lead ++ (body.text ++ close_brace ∷ []);
       spelled = inr (body.text, body.spelled, refl);
       printed =
-          subst (λ (ss : List Symbol). IsPrinted (word lead ∷ open_brace ∷ ss) ((((lead ++ codes " {\n") ++ canon_events names es) ++ codes "}\n") ++ rest)) (sym (append_assoc body.text (close_brace ∷ []) after))
-          (subst (IsPrinted (word lead ∷ open_brace ∷ (body.text ++ close_brace ∷ after))) (sym (events_bytes lead (canon_events names es) rest)) whole);
+          subst (λ (ss : List Symbol). IsPrinted (block_head lead ++ ss) ((((lead ++ codes " {\n") ++ canon_events names es) ++ codes "}\n") ++ rest)) (sym (append_assoc body.text (close_brace ∷ []) after))
+          (subst (IsPrinted (block_head lead ++ (body.text ++ close_brace ∷ after))) (sym (events_bytes lead (canon_events names es) rest)) whole);
     }
 
 -- version 2 has each event
@@ -148,7 +148,7 @@ given_printed Two names es after rest legal known small none p = events_block Tw
 -- symbols of the schedule, to the end of the text
 pub record IsSchedulePrinted (v : Version) (names : List (List ℕ)) (es : List Event) : Type 0 where
   pub text : List Symbol
-  pub spelled : IsBlockSpelled schedule_head v (map (call_by names) es) text
+  pub spelled : IsScheduleSpelled v (map (call_by names) es) text
   pub printed : IsPrinted text (canon_schedule names es)
 
 pub schedule_printed : (v : Version) (names : List (List ℕ)) (es : List Event) → All IsName names → All (λ e. AreNamed e (length names)) es → All IsCounterBelow es → All (λ e. Allows e v) es → IsSchedulePrinted v names es

@@ -1,14 +1,16 @@
 -- Lexemes that a scenario is written with give each name in its events its place.
-use Rattle.std.proofs.Common.{◌≡◌, ℕ, List, [], ◌∷◌, ◌++◌, map, inl, inr, ◌⊎◌, refl, sym, ap, subst, ◌∙◌, append_assoc}
+use Rattle.std.proofs.Common.{◌≡◌, ℕ, List, [], ◌∷◌, ◌++◌, map, inl, inr, refl, sym, ap, subst, ◌∙◌}
 use Rattle.std.specs.Prelude.{All}
 use Rattle.std.proofs.lemmas.List.Elements.{All-head, All-tail}
 use Rattle.jc_rules.specs.declared.operation.Event.{Event}
+use Rattle.jc_rules.specs.declared.version.Version.{Version}
+use Rattle.jc_rules.specs.declared.version.Version.TheVariants.{One, Two}
 use Rattle.jc_syntax.specs.declared.tree.NamedEvent.{NamedEvent}
 use Rattle.jc_parser.specs.Symbols.{Symbol, close_brace, semicolon, Lexeme, symbols}
 use Rattle.jc_parser.specs.Words.{IsListText}
 use Rattle.jc_parser.specs.Calls.{Call, call_of, IsCallSpelled}
 use Rattle.jc_parser.specs.Legal.{call_by, IsCounterBelow}
-use Rattle.jc_parser.specs.Trees.{Part, Tree, NamedTree, tree_of, header, schedule_head, IsTreeSpelled, AreEvents, AreBlock}
+use Rattle.jc_parser.specs.Trees.{Part, Tree, NamedTree, tree_of, header, given_head, schedule_head, IsBlockSpelled, IsGivenSpelled, IsScheduleSpelled, IsTreeSpelled, AreEvents, AreBlock, AreGiven, AreBlocks}
 use Rattle.jc_printer.proofs.Events.{named_event}
 
 -- lexemes of symbols that stand one behind the other
@@ -52,61 +54,82 @@ none_left (l ∷ ls) same = cc
 
 -- ---- events
 
-record ArePlacedEvents (names : List (List ℕ)) (es : List Event) (ls : List Lexeme) : Type 0 where
+-- lexemes of events by numbers, as events with the places of their names
+record ArePlaced (Are : List NamedEvent → List Lexeme → Type 0) (names : List (List ℕ)) (es : List Event) (ls : List Lexeme) : Type 0 where
   events : List NamedEvent
   same : map call_of events ≡ map (call_by names) es
-  are : AreEvents events ls
+  are : Are events ls
 
-placed_events : (names : List (List ℕ)) (es : List Event) (ls : List Lexeme) → All IsCounterBelow es → IsListText IsCallSpelled (map (call_by names) es) (symbols ls) → ArePlacedEvents names es ls
-placed_events names [] ls small none = record { events = []; same = refl; are = none_left ls none }
-placed_events names (e ∷ []) ls small (u, spelled, inl (last, text)) =
-    let one = named_event names e ls (All-head IsCounterBelow e [] small) (subst (IsCallSpelled (call_by names e)) (sym text) spelled) in
+placed_events : (v : Version) (names : List (List ℕ)) (es : List Event) (ls : List Lexeme) → All IsCounterBelow es → IsListText (IsCallSpelled v) (map (call_by names) es) (symbols ls) → ArePlaced (AreEvents v) names es ls
+placed_events v names [] ls small none = record { events = []; same = refl; are = none_left ls none }
+placed_events v names (e ∷ []) ls small (u, spelled, inl (last, text)) =
+    let one = named_event v names e ls (All-head IsCounterBelow e [] small) (subst (IsCallSpelled v (call_by names e)) (sym text) spelled) in
     record { events = one.event ∷ []; same = ap (λ (c : Call). c ∷ []) one.same; are = (ls, one.is, inl (refl, refl)) }
-placed_events names (e ∷ f ∷ es) ls small (u, spelled, inl (last, text)) = cc last
-placed_events names (e ∷ es) ls small (u, spelled, inr (v, text, rest)) =
-    let parts = parted ls u (semicolon ∷ v) text in
-    let mark = leads parts.back semicolon v parts.second in
-    let one = named_event names e parts.front (All-head IsCounterBelow e es small) (subst (IsCallSpelled (call_by names e)) (sym parts.first) spelled) in
-    let more = placed_events names es mark.others (All-tail IsCounterBelow e es small) (subst (IsListText IsCallSpelled (map (call_by names) es)) (sym mark.second) rest) in
+placed_events v names (e ∷ f ∷ es) ls small (u, spelled, inl (last, text)) = cc last
+placed_events v names (e ∷ es) ls small (u, spelled, inr (w, text, rest)) =
+    let parts = parted ls u (semicolon ∷ w) text in
+    let mark = leads parts.back semicolon w parts.second in
+    let one = named_event v names e parts.front (All-head IsCounterBelow e es small) (subst (IsCallSpelled v (call_by names e)) (sym parts.first) spelled) in
+    let more = placed_events v names es mark.others (All-tail IsCounterBelow e es small) (subst (IsListText (IsCallSpelled v) (map (call_by names) es)) (sym mark.second) rest) in
     record {
       events = one.event ∷ more.events;
       same = λ i. one.same i ∷ more.same i;
       are = (parts.front, one.is, inr (mark.first, mark.others, mark.symbol, parts.is ∙ ap (λ (l : List Lexeme). parts.front ++ l) mark.is, more.are));
     }
 
--- ---- scenarios
+-- ---- blocks
 
 -- the lexemes of a block, from three parts
 block_parts : (ls front back listed last others : List Lexeme) (brace : Lexeme) → ls ≡ front ++ back → back ≡ listed ++ last → last ≡ brace ∷ others → symbols others ≡ [] → ls ≡ front ++ (listed ++ brace ∷ [])
 block_parts ls front back listed last others brace whole inner end none = rw (whole, inner, end, none_left others none) refl
 
+placed_block : (head : List Symbol) (v : Version) (names : List (List ℕ)) (es : List Event) (ls : List Lexeme) → All IsCounterBelow es → IsBlockSpelled head v (map (call_by names) es) (symbols ls) → ArePlaced (AreBlock head v) names es ls
+placed_block head v names es ls small (inl (none, nil)) = record { events = []; same = sym none; are = inl (refl, none_left ls nil) }
+placed_block head v names es ls small (inr (l, listed, block)) =
+    let whole = parted ls head (l ++ close_brace ∷ []) block in
+    let inner = parted whole.back l (close_brace ∷ []) whole.second in
+    let brace = leads inner.back close_brace [] inner.second in
+    let events = placed_events v names es inner.front small (subst (IsListText (IsCallSpelled v) (map (call_by names) es)) (sym inner.first) listed) in
+    record {
+      events = events.events;
+      same = events.same;
+      are = inr (whole.front, inner.front, brace.first, whole.first, events.are, brace.symbol, block_parts ls whole.front whole.back inner.front inner.back brace.others brace.first whole.is inner.is brace.is brace.second);
+    }
+
+placed_given : (v : Version) (names : List (List ℕ)) (es : List Event) (ls : List Lexeme) → All IsCounterBelow es → IsGivenSpelled v (map (call_by names) es) (symbols ls) → ArePlaced (AreGiven v) names es ls
+placed_given One names es ls small (none, nil) = record { events = []; same = sym none; are = (refl, none_left ls nil) }
+placed_given Two names es ls small spelled =
+    let block = placed_block given_head Two names es ls small spelled in
+    record { events = block.events; same = block.same; are = block.are }
+
+-- ---- scenarios
+
 pub record IsPlacedTree (t : Tree) (ls : List Lexeme) : Type 0 where
   pub tree : NamedTree
   pub same : tree_of tree ≡ t
-  pub placed : (tree.events ≡ []) ⊎ AreBlock tree ls
+  pub placed : AreBlocks tree ls
 
-pub placed_tree : (names : List (List ℕ)) (ps : List Part) (es : List Event) (ls : List Lexeme) → All IsCounterBelow es → IsTreeSpelled (record { parts = ps; calls = map (call_by names) es }) (symbols ls) → IsPlacedTree (record { parts = ps; calls = map (call_by names) es }) ls
-placed_tree names ps es ls small (u, v, some, parts, inl (none, nil), text) =
-    record { tree = record { parts = ps; events = [] }; same = ap (λ (cs : List Call). record { parts = ps; calls = cs }) (sym none); placed = inl refl }
-placed_tree names ps es ls small (u, v, some, parts, inr (l, listed, block), text) =
-    let bytes : symbols ls ≡ (header ++ (u ++ schedule_head)) ++ (l ++ close_brace ∷ []) =
-    text ∙ ap (λ (w : List Symbol). header ++ (u ++ w)) block ∙ ap (λ (w : List Symbol). header ++ w) (sym (append_assoc u schedule_head (l ++ close_brace ∷ []))) in
-    let whole = parted ls (header ++ (u ++ schedule_head)) (l ++ close_brace ∷ []) bytes in
-    let inner = parted whole.back l (close_brace ∷ []) whole.second in
-    let brace = leads inner.back close_brace [] inner.second in
-    let events = placed_events names es inner.front small (subst (IsListText IsCallSpelled (map (call_by names) es)) (sym inner.first) listed) in
+abbrev pub numbered_tree : Version → List (List ℕ) → List Part → List Event → List Event → Tree
+numbered_tree v names ps gs es = record { version = v; parts = ps; given = map (call_by names) gs; calls = map (call_by names) es }
+
+pub placed_tree : (v : Version) (names : List (List ℕ)) (ps : List Part) (gs es : List Event) (ls : List Lexeme) → All IsCounterBelow gs → All IsCounterBelow es → IsTreeSpelled (numbered_tree v names ps gs es) (symbols ls) → IsPlacedTree (numbered_tree v names ps gs es) ls
+placed_tree v names ps gs es ls few small (u, g, w, some, parts, led, listed, text) =
+    let whole = parted ls (header v ++ u) (g ++ w) text in
+    let blocks = parted whole.back g w whole.second in
+    let given = placed_given v names gs blocks.front few (subst (IsGivenSpelled v (map (call_by names) gs)) (sym blocks.first) led) in
+    let schedule = placed_block schedule_head v names es blocks.back small (subst (IsScheduleSpelled v (map (call_by names) es)) (sym blocks.second) listed) in
     record {
-      tree = record { parts = ps; events = events.events };
-      same = ap (λ (cs : List Call). record { parts = ps; calls = cs }) {x = map call_of events.events} events.same;
-      placed = inr (record {
+      tree = record { version = v; parts = ps; given = given.events; events = schedule.events };
+      same = λ i. record { version = v; parts = ps; given = given.same i; calls = schedule.same i };
+      placed = record {
         front = whole.front;
         parts = u;
         spelled = parts;
         front_is = whole.first;
-        listed = inner.front;
-        events = events.are;
-        brace = brace.first;
-        brace_is = brace.symbol;
-        is = block_parts ls whole.front whole.back inner.front inner.back brace.others brace.first whole.is inner.is brace.is brace.second;
-      });
+        given = blocks.front;
+        given_are = given.are;
+        schedule = blocks.back;
+        schedule_are = schedule.are;
+        is = whole.is ∙ ap (λ (l : List Lexeme). whole.front ++ l) blocks.is;
+      };
     }

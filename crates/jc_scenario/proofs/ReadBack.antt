@@ -1,8 +1,9 @@
 -- The canonical text of a well-formed scenario is that scenario.
-use Rattle.std.proofs.Common.{◌≡◌, ◌≢◌, ℕ, ◌≤◌, List, [], ◌∷◌, ◌++◌, map, length, false, inl, inr, refl, sym, ap, subst, ◌∙◌, arith, append_assoc, append-nil}
+use Rattle.std.proofs.Common.{◌≡◌, ◌≢◌, ℕ, ◌≤◌, List, [], ◌∷◌, ◌++◌, map, length, true, false, inl, inr, refl, sym, ap, subst, ◌∙◌, arith, append_assoc, append-nil}
 use Rattle.std.specs.Prelude.{codes, flat_map, All}
 use Rattle.std.specs.Char.{is_ascii_digit}
 use Rattle.std.specs.List.{AllPairs}
+use Rattle.std.proofs.lemmas.Bool.{and_from}
 use Rattle.std.proofs.lemmas.List.{length-map}
 use Rattle.std.proofs.lemmas.List.Elements.{All-nil, All-cons, All-head, All-tail, All-map, All-weaker}
 use Rattle.std.proofs.lemmas.List.Sorted.{IsPermutation-refl}
@@ -10,23 +11,22 @@ use Rattle.std.proofs.lemmas.List.Sums.{AllPass-from_list_all}
 use Rattle.jc_rules.specs.declared.operation.Event.{Event}
 use Rattle.jc_rules.specs.declared.operation.Event.TheVariants.{Exec, Send, Recv, Take, Apply, Done}
 use Rattle.jc_rules.specs.declared.version.Version.{Version}
-use Rattle.jc_rules.specs.declared.version.Version.TheVariants.{One}
+use Rattle.jc_rules.specs.declared.version.Version.TheVariants.{One, Two}
 use Rattle.jc_rules.specs.Syntax.{Cmd}
-use Rattle.jc_rules.specs.Version.{Allows}
 use Rattle.jc_parser.specs.Symbols.{Symbol, word, number, symbols}
 use Rattle.jc_parser.specs.Words.{is_reserved}
 use Rattle.jc_parser.specs.Scripts.{IsScriptWellFormed}
 use Rattle.jc_parser.specs.Calls.{IsCallWellFormed}
 use Rattle.jc_parser.specs.Legal.{IsName, IsNumeric, IsLegalCmd, call_by, IsCounterBelow}
 use Rattle.jc_parser.specs.Reading.{Reading, reading}
-use Rattle.jc_parser.specs.Trees.{Tree, tree_of, name_of, header, ArePartsWithin, IsTreeSpelled, IsTreeWithin}
+use Rattle.jc_parser.specs.Trees.{Tree, tree_of, name_of, version_text, header, ArePartsWithin, IsTreeSpelled, IsTreeWithin}
 use Rattle.jc_printer.proofs.Printed.{IsPrinted, put, spaced, printed_text}
 use Rattle.jc_printer.proofs.Trees.{keyword}
 use Rattle.jc_scenario.specs.Scenarios.{Scenario, parts_of, IsWellFormed, IsOfTree, AreScenario, IsScenario}
 use Rattle.jc_scenario.specs.Canon.{header_text, canon_part, canon_given, canon_schedule, canon, canon_one}
 use Rattle.jc_scenario.proofs.Apart.{names-parts, rising_apart}
-use Rattle.jc_scenario.proofs.Lines.{AreLegalParts, parts_printed, schedule_printed}
-use Rattle.jc_scenario.proofs.Placed.{placed_tree}
+use Rattle.jc_scenario.proofs.Lines.{AreLegalParts, parts_printed, given_printed, schedule_printed}
+use Rattle.jc_scenario.proofs.Placed.{numbered_tree, placed_tree}
 use Rattle.jc_scenario.proofs.Utf8.{printed_utf8}
 
 -- ---- names and scripts side by side
@@ -54,7 +54,7 @@ each_script P (n ∷ ns) (s ∷ ss) all = All-cons (λ p. P p.script) (record { 
 -- ---- within the limits
 
 abbrev tree_for : Scenario → Tree
-tree_for s = record { parts = parts_of s.names s.scripts; calls = map (call_by s.names) s.schedule }
+tree_for s = numbered_tree s.version s.names (parts_of s.names s.scripts) s.given s.schedule
 
 call_small : (names : List (List ℕ)) (e : Event) → IsCounterBelow e → IsCallWellFormed (call_by names e)
 call_small names (Exec p) small = tt
@@ -78,6 +78,8 @@ parts_within s w = record {
 tree_within : (s : Scenario) → IsWellFormed s → IsTreeWithin (tree_for s)
 tree_within s w = record {
   parts = parts_within s w;
+  few_given = omega (arith, length-map s.given (call_by s.names), w.given_short);
+  given = All-map IsCallWellFormed (call_by s.names) s.given (All-weaker IsCounterBelow (λ e. IsCallWellFormed (call_by s.names e)) (call_small s.names) s.given w.given_counters);
   few = omega (arith, length-map s.schedule (call_by s.names), w.short);
   calls = All-map IsCallWellFormed (call_by s.names) s.schedule (All-weaker IsCounterBelow (λ e. IsCallWellFormed (call_by s.names e)) (call_small s.names) s.schedule w.counters);
 }
@@ -87,82 +89,91 @@ some_parts s w none = w.some (sym (names-parts s.names s.scripts w.each) ∙ ap 
 
 -- ---- the text
 
-version_number : IsNumeric (codes "1")
-version_number = (
+digit_numeric : (d : ℕ) → is_ascii_digit d ≡ true → d ≢ 48 → IsNumeric (d ∷ [])
+digit_numeric d digit other = (
   record {
     minus = [];
-    whole = codes "1";
+    whole = d ∷ [];
     fraction = [];
     exponent = [];
     parts = refl;
     is_minus = inl refl;
-    is_whole = inr ((omega arith, AllPass-from_list_all is_ascii_digit (codes "1") refl), λ nought. absurd (omega (arith, nought)));
+    is_whole = inr ((omega arith, AllPass-from_list_all is_ascii_digit (d ∷ []) (and_from (is_ascii_digit d) true digit refl)), other);
     is_fraction = inl refl;
     is_exponent = inl refl;
   },
   omega arith,
 )
 
+version_number : (v : Version) → IsNumeric (version_text v)
+version_number One = digit_numeric 49 refl (λ nought. absurd (omega (arith, nought)))
+version_number Two = digit_numeric 50 refl (λ nought. absurd (omega (arith, nought)))
+
 -- symbols of a scenario, and its text
 record IsWhole (s : Scenario) : Type 0 where
   text : List Symbol
   spelled : IsTreeSpelled (tree_for s) text
-  printed : IsPrinted text (canon_one s)
+  printed : IsPrinted text (canon s)
 
-header_bytes : (parts schedule : List ℕ) → (codes "jsoncrdt 1\n" ++ parts) ++ schedule ≡ codes "jsoncrdt" ++ 32 ∷ (codes "1" ++ 10 ∷ (parts ++ schedule))
-header_bytes parts schedule = simp append_assoc
+header_bytes : (v : Version) (parts given schedule : List ℕ) → ((header_text v ++ parts) ++ given) ++ schedule ≡ codes "jsoncrdt" ++ 32 ∷ (version_text v ++ 10 ∷ (parts ++ (given ++ schedule)))
+header_bytes One parts given schedule = simp append_assoc
+header_bytes Two parts given schedule = simp append_assoc
 
-whole : (s : Scenario) → IsWellFormed s → s.version ≡ One → IsWhole s
-whole s w first =
-    let schedule = schedule_printed s.names s.schedule w.legal w.known w.counters (subst (λ (v : Version). All (λ e. Allows e v) s.schedule) first w.allowed) in
-    let parts = parts_printed (parts_of s.names s.scripts) schedule.text (canon_schedule s.names s.schedule) (legal_parts s.names s.scripts w.legal w.commands w.formed) schedule.printed in
-    let ss : List Symbol = parts.text ++ schedule.text in
-    let bs : List ℕ = flat_map canon_part (parts_of s.names s.scripts) ++ canon_schedule s.names s.schedule in
-    let version = put (number (codes "1")) (parts.text ++ schedule.text) (codes "1") (10 ∷ (flat_map canon_part (parts_of s.names s.scripts) ++ canon_schedule s.names s.schedule)) (refl, version_number, refl) (spaced (parts.text ++ schedule.text) 10 (flat_map canon_part (parts_of s.names s.scripts) ++ canon_schedule s.names s.schedule) refl parts.printed) in
-    let all = put (word (codes "jsoncrdt")) (number (codes "1") ∷ (parts.text ++ schedule.text)) (codes "jsoncrdt") (32 ∷ (codes "1" ++ 10 ∷ (flat_map canon_part (parts_of s.names s.scripts) ++ canon_schedule s.names s.schedule))) (refl, keyword (codes "jsoncrdt") refl refl (omega arith), refl) (spaced (number (codes "1") ∷ (parts.text ++ schedule.text)) 32 (codes "1" ++ 10 ∷ (flat_map canon_part (parts_of s.names s.scripts) ++ canon_schedule s.names s.schedule)) refl version) in
+header_printed : (v : Version) (ss : List Symbol) (bs : List ℕ) → IsPrinted ss bs → IsPrinted (header v ++ ss) (codes "jsoncrdt" ++ 32 ∷ (version_text v ++ 10 ∷ bs))
+header_printed v ss bs p =
+    let version = put (number (version_text v)) ss (version_text v) (10 ∷ bs) (refl, version_number v, refl) (spaced ss 10 bs refl p) in
+    put (word (codes "jsoncrdt")) (number (version_text v) ∷ ss) (codes "jsoncrdt") (32 ∷ (version_text v ++ 10 ∷ bs)) (refl, keyword (codes "jsoncrdt") refl refl (omega arith), refl) (spaced (number (version_text v) ∷ ss) 32 (version_text v ++ 10 ∷ bs) refl version)
+
+whole : (s : Scenario) → IsWellFormed s → IsWhole s
+whole s w =
+    let schedule = schedule_printed s.version s.names s.schedule w.legal w.known w.counters w.allowed in
+    let given = given_printed s.version s.names s.given schedule.text (canon_schedule s.names s.schedule) w.legal w.given_known w.given_counters w.first_given schedule.printed in
+    let parts = parts_printed (parts_of s.names s.scripts) (given.text ++ schedule.text) (canon_given s.version s.names s.given ++ canon_schedule s.names s.schedule) (legal_parts s.names s.scripts w.legal w.commands w.formed) given.printed in
     record {
-      text = header ++ (parts.text ++ schedule.text);
-      spelled = (parts.text, schedule.text, some_parts s w, parts.spelled, schedule.spelled, refl);
-      printed = subst (IsPrinted (header ++ (parts.text ++ schedule.text))) (sym (header_bytes (flat_map canon_part (parts_of s.names s.scripts)) (canon_schedule s.names s.schedule))) all;
+      text = header s.version ++ (parts.text ++ (given.text ++ schedule.text));
+      spelled = (parts.text, given.text, schedule.text, some_parts s w, parts.spelled, given.spelled, schedule.spelled, refl);
+      printed =
+          subst (IsPrinted (header s.version ++ (parts.text ++ (given.text ++ schedule.text)))) (sym (header_bytes s.version (flat_map canon_part (parts_of s.names s.scripts)) (canon_given s.version s.names s.given) (canon_schedule s.names s.schedule)))
+          (header_printed s.version (parts.text ++ (given.text ++ schedule.text)) (flat_map canon_part (parts_of s.names s.scripts) ++ (canon_given s.version s.names s.given ++ canon_schedule s.names s.schedule)) parts.printed);
     }
 
-of_tree : (s : Scenario) → IsWellFormed s → s.version ≡ One → IsOfTree (tree_for s) s
-of_tree s w first = record {
-  version = first;
-  given = w.first_given first;
+of_tree : (s : Scenario) → IsWellFormed s → IsOfTree (tree_for s) s
+of_tree s w = record {
+  version = refl;
   rising = w.rising;
   each = w.each;
   same = IsPermutation-refl (parts_of s.names s.scripts);
+  given_known = w.given_known;
+  given_called = refl;
   known = w.known;
   called = refl;
 }
 
 -- these lexemes are the scenario, and each name in its events has its place
-placed_scenario : (s : Scenario) → IsWellFormed s → s.version ≡ One → (r : Reading) → IsTreeSpelled (tree_for s) (symbols r.left) → AreScenario r s
-placed_scenario s w first r spelled =
-    let placed = placed_tree s.names (parts_of s.names s.scripts) s.schedule r.left w.counters spelled in
+placed_scenario : (s : Scenario) → IsWellFormed s → (r : Reading) → IsTreeSpelled (tree_for s) (symbols r.left) → AreScenario r s
+placed_scenario s w r spelled =
+    let placed = placed_tree s.version s.names (parts_of s.names s.scripts) s.given s.schedule r.left w.given_counters w.counters spelled in
     let same : tree_of placed.tree ≡ tree_for s = placed.same in
     record {
       tree = placed.tree;
       named = record { spelled = subst (λ (t : Tree). IsTreeSpelled t (symbols r.left)) (sym same) spelled; within = subst IsTreeWithin (sym same) (tree_within s w); placed = placed.placed };
-      of_tree = subst (λ (t : Tree). IsOfTree t s) (sym same) (of_tree s w first);
+      of_tree = subst (λ (t : Tree). IsOfTree t s) (sym same) (of_tree s w);
     }
+
+pub reads_back : (s : Scenario) → IsWellFormed s → length (canon s) ≤ 8388608 → IsScenario (canon s) s
+reads_back s w short =
+    let own = whole s w in
+    let text = printed_text own.text (canon s) own.printed short in
+    record {
+      valid = printed_utf8 own.text (canon s) own.printed;
+      tokens = text.tokens;
+      lexed = text.lexed;
+      scenario = placed_scenario s w (reading (canon s) text.tokens) (rw text.spell own.spelled);
+    }
+
+-- ---- version 1
 
 pub first_stays : (s : Scenario) → s.version ≡ One → canon s ≡ canon_one s
 first_stays s first =
     ap (λ (v : Version). ((header_text v ++ flat_map canon_part (parts_of s.names s.scripts)) ++ canon_given v s.names s.given) ++ canon_schedule s.names s.schedule) first
     ∙ ap (λ (l : List ℕ). l ++ canon_schedule s.names s.schedule) (append-nil (codes "jsoncrdt 1\n" ++ flat_map canon_part (parts_of s.names s.scripts)))
-
-one_back : (s : Scenario) → IsWellFormed s → s.version ≡ One → length (canon_one s) ≤ 8388608 → IsScenario (canon_one s) s
-one_back s w first short =
-    let own = whole s w first in
-    let text = printed_text own.text (canon_one s) own.printed short in
-    record {
-      valid = printed_utf8 own.text (canon_one s) own.printed;
-      tokens = text.tokens;
-      lexed = text.lexed;
-      scenario = placed_scenario s w first (reading (canon_one s) text.tokens) (rw text.spell own.spelled);
-    }
-
-pub reads_back : (s : Scenario) → IsWellFormed s → s.version ≡ One → length (canon s) ≤ 8388608 → IsScenario (canon s) s
-reads_back s w first = subst (λ (bytes : List ℕ). length bytes ≤ 8388608 → IsScenario bytes s) (sym (first_stays s first)) (one_back s w first)

@@ -1,5 +1,5 @@
 -- Sessions on the scenario that bytes are, from its start.
-use Rattle.std.proofs.Common.{◌≡◌, ◌≢◌, ℕ, List, [], length, Option, None, Some, IsErrOf, Ok, Err, ◌⊎◌, inl, inr, sym, subst}
+use Rattle.std.proofs.Common.{◌≡◌, ◌≢◌, ℕ, ◌+◌, List, [], length, Option, None, Some, IsErrOf, Ok, Err, ◌⊎◌, inl, inr, sym, subst}
 use Rattle.std.proofs.KnownBytes.{Consumes-nil}
 use Rattle.jc_rules.specs.declared.operation.Event.{Event}
 use Rattle.jc_rules.specs.Refused.{Cause}
@@ -24,6 +24,7 @@ use Rattle.jc_session.specs.Written.{Stream, Wrote, Interrupted, Written}
 use Rattle.jc_session.proofs.Replying.{of_all}
 use Rattle.jc_session.proofs.Spelling.{not_memory}
 use Rattle.jc_session.proofs.Talking.{passed_on}
+use Rattle.jc_session.proofs.Writing.{one_failure}
 
 pub origin_is : (d : Seen) (s : Scenario) → IsStarted s d.net → origin_in d ≡ origin_of s (start_of d)
 origin_is d s h = let names = h.names in λ i. record { names = names i; start = start_of d }
@@ -59,6 +60,13 @@ given_shown b s names at t o p is same g h l =
 pub given_front : (b : List ℕ) (s : Scenario) (names : List (List ℕ)) (at : ℕ) (t : Stuck) (o p : Stream) → IsScenario b s → names ≡ s.names → IsGivenFault (bare s) s.given at t → OfGiven names at t (λ text. Interrupted text o p) → WentGiven b o p
 given_front b s names at t o p is same g h =
     (s, at, g.event, g.why, is, g.stuck, of_given s names at t (λ text. Interrupted text o p) same g h)
+
+-- then no write failed, or one did
+pub given_written : (s : Scenario) (names : List (List ℕ)) (at : ℕ) (t : Stuck) (o p : Stream) → IsGivenFault (bare s) s.given at t → OfGiven names at t (λ text. Wrote text o p) → p.failures ≡ o.failures
+given_written s names at t o p g h = (h g.why g.event g.is).1
+
+pub given_failed : (s : Scenario) (names : List (List ℕ)) (at : ℕ) (t : Stuck) (o p : Stream) → IsGivenFault (bare s) s.given at t → OfGiven names at t (λ text. Interrupted text o p) → p.failures ≡ o.failures + 1
+given_failed s names at t o p g h = one_failure o p (given_text names at g.why g.event) (h g.why g.event g.is)
 
 -- ---- from the start
 

@@ -178,7 +178,7 @@ fn refuse<K: Sink>(alloc: Global, fault: &ScenarioFault, out: &mut K) -> Result<
     send(out, line.as_str())
 }
 
-/// Writes the lines of the first given event that is stuck, which is of this number, where the replicas have these names.
+/// Writes the lines of a given event that is stuck, by its number from 1 and the names of replicas.
 fn show_stuck<K: Sink>(
     alloc: Global,
     names: Vec<Text>,
@@ -196,7 +196,7 @@ fn show_stuck<K: Sink>(
         → Interrupted (given_text names.items at why event) (sink K.Sink out.old) (sink K.Sink out.new) }
     ensures kind { IfErr result IsOfAnswer }
 {
-    // The names are all that the text takes of a scenario.
+    // The lines take nothing but the names of a scenario.
     let named = Scenario {
         version: Version::One,
         names,

@@ -2,6 +2,7 @@
 
 use crate::testing::{Fault, Parts, fault, is_fault, is_text, repeated};
 use jc_parser::{ParseFault, event_at, parse_event, parse_expr, parse_script, script_at};
+use jc_rules::Version;
 use jc_syntax::lex;
 use std::alloc::Global;
 use std::process::Abort;
@@ -19,14 +20,14 @@ fn fault_in<T: Drop>(parsed: Result<T, ParseFault>) -> Fault {
 enum Reading {
     Script,
     Expression,
-    Event,
+    Event(Version),
 }
 
 fn fault_of(alloc: Global, reading: Reading, text: &str) -> Fault {
     match reading {
         Reading::Script => fault_in(parse_script(alloc, text)),
         Reading::Expression => fault_in(parse_expr(alloc, text)),
-        Reading::Event => fault_in(parse_event(alloc, text)),
+        Reading::Event(version) => fault_in(parse_event(alloc, version, text)),
     }
 }
 
@@ -101,6 +102,7 @@ const EXPRESSIONS: &[(&str, Fault)] = &[
     ("document.keys", None),
 ];
 
+/// Events of both versions.
 const EVENTS: &[(&str, Fault)] = &[
     // counters
     ("a.apply(0,b)", None),
@@ -120,20 +122,58 @@ const EVENTS: &[(&str, Fault)] = &[
     ("a.recv", Some((8, 6))),
     ("a.recv()", Some((7, 7))),
     ("a.jump", Some((7, 2))),
-    ("a.take(a, 1, a)", Some((7, 2))),
-    ("a.take", Some((7, 2))),
     ("a.exec b", Some((7, 7))),
     ("a.done;", Some((7, 6))),
     ("1.exec", Some((5, 0))),
     ("\"a\".exec", Some((7, 0))),
     ("a.exec \"\\ud800\"", Some((4, 8))),
+    // words that are not reserved
+    ("take.exec", None),
+    ("given.recv(take)", None),
+];
+
+/// Takes in version 1, which doesn't have them.
+const TAKES_IN_ONE: &[(&str, Fault)] = &[
+    ("a.take(a, 1, a)", Some((7, 2))),
+    ("a.take(a, 4294967296, a)", Some((7, 2))),
+    ("a.take", Some((7, 2))),
+];
+
+/// Takes in version 2.
+const TAKES_IN_TWO: &[(&str, Fault)] = &[
+    ("b.take(a, 2, a)", None),
+    ("take . take ( given ,0,take )", None),
+    // counters
+    ("a.take(a, 4294967295, a)", None),
+    ("a.take(a, 4294967296, a)", Some((9, 10))),
+    ("a.take(a, 4294967296", Some((9, 10))),
+    ("a.take(a, -1, a)", Some((7, 10))),
+    ("a.take(a, 01, a)", Some((5, 10))),
+    ("a.take(a, b, 1)", Some((7, 10))),
+    // commas
+    ("a.take(a 1, a)", Some((7, 9))),
+    ("a.take(a, 1 a)", Some((7, 12))),
+    ("a.take(a, 1)", Some((7, 11))),
+    ("a.take(a, 1, a, a)", Some((7, 14))),
+    // ends and strangers
+    ("a.take", Some((8, 6))),
+    ("a.take()", Some((7, 7))),
+    ("a.take(1, a)", Some((7, 7))),
+    ("a.take(a)", Some((7, 8))),
+    ("a.take(a, 1, 2)", Some((7, 13))),
+    ("a.take(a, 1, a", Some((8, 14))),
+    ("a.take(a, 1, a);", Some((7, 15))),
+    ("a.takes(a, 1, a)", Some((7, 2))),
 ];
 
 #[test]
 fn faults(rt: HostRuntime) {
     have_faults(&rt, rt.alloc(), Reading::Script, SCRIPTS);
     have_faults(&rt, rt.alloc(), Reading::Expression, EXPRESSIONS);
-    have_faults(&rt, rt.alloc(), Reading::Event, EVENTS);
+    have_faults(&rt, rt.alloc(), Reading::Event(Version::One), EVENTS);
+    have_faults(&rt, rt.alloc(), Reading::Event(Version::Two), EVENTS);
+    have_faults(&rt, rt.alloc(), Reading::Event(Version::One), TAKES_IN_ONE);
+    have_faults(&rt, rt.alloc(), Reading::Event(Version::Two), TAKES_IN_TWO);
 }
 
 /// Texts of expressions, and what their faults are shown as.
@@ -302,7 +342,7 @@ fn no_event_among_tokens(rt: HostRuntime) -> Result<(), Fail> {
     assert!(rt; tokens.len() == 5);
     for (from, want) in NO_EVENTS_AT {
         assert!(rt; *from <= tokens.len());
-        let got = fault_in(event_at(rt.alloc(), text, &tokens, *from));
+        let got = fault_in(event_at(rt.alloc(), Version::One, text, &tokens, *from));
         is_fault(&rt, text, got, *want);
     }
     Ok(())

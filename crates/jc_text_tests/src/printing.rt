@@ -6,7 +6,7 @@ ghost use Rattle.jc_printer.specs.Canon.{AreNamed};
 use crate::testing::{holds, is_text};
 use jc_parser::{parse_event, parse_expr, parse_script};
 use jc_printer::{print_event, print_expr, print_script, print_value, push_cmd};
-use jc_rules::{Event, Id, Text, Value};
+use jc_rules::{Event, Id, Text, Value, Version};
 use jc_syntax::{Cmd, Expr, NamedEvent};
 use std::alloc::{AllocError, Global};
 use std::process::Abort;
@@ -173,11 +173,30 @@ fn is_apply(event: &NamedEvent) -> bool {
     }
 }
 
+/// Whether the event is `b.take(a, 2, a)`.
+fn is_take(event: &NamedEvent) -> bool {
+    match event {
+        NamedEvent::Take {
+            replica,
+            sender,
+            counter,
+            author,
+        } => {
+            let names = replica.name.as_str() == "b" && sender.name.as_str() == "a";
+            names && *counter == 2 && author.name.as_str() == "a"
+        }
+        _ => false,
+    }
+}
+
 #[test]
 fn an_event_is_read_back(rt: HostRuntime) -> Result<(), Fail> {
     let names = names(rt.alloc())?;
     let printed = print_event(rt.alloc(), &names, &Event::Apply(1, MADE))?;
-    let event = parse_event(rt.alloc(), printed.as_str())?;
+    let event = parse_event(rt.alloc(), Version::One, printed.as_str())?;
     holds(&rt, "an apply", is_apply(&event));
+    let printed = print_event(rt.alloc(), &names, &Event::Take(1, 0, MADE))?;
+    let event = parse_event(rt.alloc(), Version::Two, printed.as_str())?;
+    holds(&rt, "a take", is_take(&event));
     Ok(())
 }

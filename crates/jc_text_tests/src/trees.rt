@@ -4,7 +4,7 @@ use crate::testing::holds;
 use jc_parser::{
     NamedReplica, NamedScenario, event_at, parse_event, parse_expr, parse_script, scenario_of,
 };
-use jc_rules::Value;
+use jc_rules::{Value, Version};
 use jc_syntax::{Cmd, Expr, Named, NamedEvent, lex};
 use std::alloc::Global;
 use std::test::Fail;
@@ -93,6 +93,7 @@ fn is_event(event: &NamedEvent, (kind, own, other, number): Event) -> bool {
             let names = is_named(replica, own) && is_named(author, other);
             kind == "apply" && names && *counter == number
         }
+        NamedEvent::Take { .. } => false,
     }
 }
 
@@ -114,11 +115,66 @@ const EVENTS: &[(&str, Event)] = &[
 #[test]
 fn each_event_and_its_copy(rt: HostRuntime) -> Result<(), Fail> {
     for (text, want) in EVENTS {
-        let event = parse_event(rt.alloc(), text)?;
+        let event = parse_event(rt.alloc(), Version::One, text)?;
         holds(&rt, text, is_event(&event, *want));
         let copy = event.copy()?;
         holds(&rt, text, copy == event);
+        let second = parse_event(rt.alloc(), Version::Two, text)?;
+        holds(&rt, text, second == event);
     }
+    Ok(())
+}
+
+/// The replica, the sender and the author of a take with their places, and its counter.
+type Take = (
+    (&'static str, usize),
+    (&'static str, usize),
+    (&'static str, usize),
+    u32,
+);
+
+fn is_take(event: &NamedEvent, (own, from, made_by, number): Take) -> bool {
+    match event {
+        NamedEvent::Take {
+            replica,
+            sender,
+            counter,
+            author,
+        } => {
+            let names = is_named(replica, own) && is_named(sender, from);
+            names && is_named(author, made_by) && *counter == number
+        }
+        _ => false,
+    }
+}
+
+const TAKES: &[(&str, Take)] = &[
+    ("b.take(a, 2, a)", (("b", 0), ("a", 7), ("a", 13), 2)),
+    (
+        " take . take( given ,4294967295, let )",
+        (("take", 1), ("given", 14), ("let", 33), 4294967295),
+    ),
+];
+
+#[test]
+fn each_take_and_its_copy(rt: HostRuntime) -> Result<(), Fail> {
+    for (text, want) in TAKES {
+        let event = parse_event(rt.alloc(), Version::Two, text)?;
+        holds(&rt, text, is_take(&event, *want));
+        let copy = event.copy()?;
+        holds(&rt, text, copy == event);
+    }
+    Ok(())
+}
+
+#[test]
+fn a_take_among_tokens(rt: HostRuntime) -> Result<(), Fail> {
+    let text = "a.exec; b.take(a, 2, a)} c";
+    let tokens = lex(rt.alloc(), text)?;
+    assert!(rt; tokens.len() == 16);
+    let (event, next) = event_at(rt.alloc(), Version::Two, text, &tokens, 4)?;
+    let want = (("b", 8), ("a", 15), ("a", 21), 2);
+    holds(&rt, text, next == 14 && is_take(&event, want));
     Ok(())
 }
 
@@ -135,7 +191,7 @@ fn events_among_tokens(rt: HostRuntime) -> Result<(), Fail> {
     assert!(rt; tokens.len() == 12);
     for (from, after, want) in EVENTS_AT {
         assert!(rt; *from <= tokens.len());
-        let (event, next) = event_at(rt.alloc(), text, &tokens, *from)?;
+        let (event, next) = event_at(rt.alloc(), Version::One, text, &tokens, *from)?;
         holds(&rt, text, next == *after && is_event(&event, *want));
     }
     Ok(())

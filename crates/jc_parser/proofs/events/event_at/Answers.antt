@@ -8,5 +8,5 @@ use Rattle.jc_parser.proofs.events.event_at.Goals as goal
 
 pub returns-in-Ok-clause-tree : goal.returns-in-Ok-clause-tree
 returns-in-Ok-clause-tree c =
-    at_front c.args.text.now c.args.tokens.now c.args.from c.in-Ok.event c.in-Ok.left c.requires.within
-    (subst (λ (ts : List Token). IsAhead (lexemes c.args.text.now ts) c.in-Ok.event c.in-Ok.left) (rest_of c.args.tokens.now c.args.from) c.in-Ok.ensures.tree)
+    at_front c.args.version c.args.text.now c.args.tokens.now c.args.from c.in-Ok.event c.in-Ok.left c.requires.within
+    (subst (λ (ts : List Token). IsAhead c.args.version (lexemes c.args.text.now ts) c.in-Ok.event c.in-Ok.left) (rest_of c.args.tokens.now c.args.from) c.in-Ok.ensures.tree)

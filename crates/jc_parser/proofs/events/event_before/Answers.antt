@@ -9,14 +9,14 @@ use Rattle.jc_parser.proofs.events.event_before.Goals as goal
 pub returns-in_err-event-clause-fault : goal.returns-in_err-event-clause-fault
 returns-in_err-event-clause-fault c =
     let p = err_from_is_err_and c.from_residual.result c.from_residual.ensures.1 in
-    rw (p.1, p.2) (λ kept. subst (λ (r : Reading). HasNoEvent r c.in_err-event.field-0.0) c.new-cursor.ensures (ahead_err c.new-cursor.result c.in_err-event.field-0.0 (c.in_err-event.ensures kept)))
+    rw (p.1, p.2) (λ kept. subst (λ (r : Reading). HasNoEvent c.args.version r c.in_err-event.field-0.0) c.new-cursor.ensures (ahead_err c.args.version c.new-cursor.result c.in_err-event.field-0.0 (c.in_err-event.ensures kept)))
 
 pub returns-in_err-event-clause-kind : goal.returns-in_err-event-clause-kind
 returns-in_err-event-clause-kind c =
     let p = err_from_is_err_and c.from_residual.result c.from_residual.ensures.1 in
-    rw (p.1, p.2) (ahead_kind c.new-cursor.result c.in_err-event.field-0.0 c.in_err-event.ensures)
+    rw (p.1, p.2) (ahead_kind c.args.version c.new-cursor.result c.in_err-event.field-0.0 c.in_err-event.ensures)
 
 pub returns-clause-tree : goal.returns-clause-tree
 returns-clause-tree c =
-    subst (IsAhead (lexemes c.args.text.now c.args.tokens.now) c.in_ok-event.event) (sym c.left.ensures)
-    (subst (λ (r : Reading). IsAhead r.left c.in_ok-event.event (length c.event.new.cursor.left)) c.new-cursor.ensures (ahead_ok c.new-cursor.result c.event.new.cursor c.in_ok-event.event c.in_ok-event.ensures))
+    subst (IsAhead c.args.version (lexemes c.args.text.now c.args.tokens.now) c.in_ok-event.event) (sym c.left.ensures)
+    (subst (λ (r : Reading). IsAhead c.args.version r.left c.in_ok-event.event (length c.event.new.cursor.left)) c.new-cursor.ensures (ahead_ok c.args.version c.new-cursor.result c.event.new.cursor c.in_ok-event.event c.in_ok-event.ensures))

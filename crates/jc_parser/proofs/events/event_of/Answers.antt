@@ -5,10 +5,10 @@ use Rattle.jc_parser.proofs.CallWhole.{event_so, refused_so, kind_so}
 use Rattle.jc_parser.proofs.events.event_of.Goals as goal
 
 pub returns-clause-tree : goal.returns-clause-tree
-returns-clause-tree c = event_so c.only_event.result (reading c.args.text.now c.args.tokens.now) (subst (λ (r : Reading). Gives (λ e. e) c.only_event.result (only_event_at r)) c.new-cursor.ensures c.only_event.ensures)
+returns-clause-tree c = event_so c.args.version c.only_event.result (reading c.args.text.now c.args.tokens.now) (subst (λ (r : Reading). Gives (λ e. e) c.only_event.result (only_event_at c.args.version r)) c.new-cursor.ensures c.only_event.ensures)
 
 pub returns-clause-fault : goal.returns-clause-fault
-returns-clause-fault c = refused_so c.only_event.result (reading c.args.text.now c.args.tokens.now) (subst (λ (r : Reading). Gives (λ e. e) c.only_event.result (only_event_at r)) c.new-cursor.ensures c.only_event.ensures)
+returns-clause-fault c = refused_so c.args.version c.only_event.result (reading c.args.text.now c.args.tokens.now) (subst (λ (r : Reading). Gives (λ e. e) c.only_event.result (only_event_at c.args.version r)) c.new-cursor.ensures c.only_event.ensures)
 
 pub returns-clause-kind : goal.returns-clause-kind
-returns-clause-kind c = kind_so c.only_event.result (reading c.args.text.now c.args.tokens.now) (subst (λ (r : Reading). Gives (λ e. e) c.only_event.result (only_event_at r)) c.new-cursor.ensures c.only_event.ensures)
+returns-clause-kind c = kind_so c.args.version c.only_event.result (reading c.args.text.now c.args.tokens.now) (subst (λ (r : Reading). Gives (λ e. e) c.only_event.result (only_event_at c.args.version r)) c.new-cursor.ensures c.only_event.ensures)

@@ -4,4 +4,4 @@ use Rattle.jc_parser.proofs.SentenceClauses.{memory_is}
 use Rattle.jc_parser.proofs.events.parse_event.Goals as goal
 
 pub returns-in-Err-clause-fault : goal.returns-in-Err-clause-fault
-returns-in-Err-clause-fault c = λ kept. subst (IsEventFault c.args.text.now) (sym c.of_sentence.ensures) (c.in-Err.ensures.fault (λ is. kept (memory_is c.of_sentence.result (c.of_sentence.ensures ∙ is))))
+returns-in-Err-clause-fault c = λ kept. subst (IsEventFault c.args.version c.args.text.now) (sym c.of_sentence.ensures) (c.in-Err.ensures.fault (λ is. kept (memory_is c.of_sentence.result (c.of_sentence.ensures ∙ is))))

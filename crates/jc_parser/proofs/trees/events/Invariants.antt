@@ -5,7 +5,7 @@ use Rattle.jc_parser.proofs.trees.events.Given as goal
 
 -- the events so far, and those to come
 abbrev pub invariant-events : goal.invariant-events
-invariant-events l = events_at 100000 l.fn.cursor ≡ with_front l.events.items (events_at l.left l.cursor)
+invariant-events l = events_at l.fn.version 100000 l.fn.cursor ≡ with_front l.events.items (events_at l.fn.version l.left l.cursor)
 
 abbrev pub decreases-events : goal.decreases-events
 decreases-events l = l.left

@@ -5,8 +5,8 @@ use Rattle.jc_printer.proofs.Printed.{printed_text}
 use Rattle.jc_printer.proofs.laws.events_read_back.Goals as goal
 
 pub returns : goal.returns
-returns c names event legal within small allowed short =
-    let call = event_printed names event legal within small allowed in
+returns c v names event legal within small allowed short =
+    let call = event_printed v names event legal within small allowed in
     let text = printed_text call.text (canon_event names event) call.printed short in
-    let read = named_event names event (lexemes (canon_event names event) text.tokens) small (rw text.spell call.spelled) in
+    let read = named_event v names event (lexemes (canon_event names event) text.tokens) small (rw text.spell call.spelled) in
     (read.event, record { tokens = text.tokens; lexed = text.lexed; event = read.is }, read.same)

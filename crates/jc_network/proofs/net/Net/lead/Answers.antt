@@ -19,9 +19,10 @@ returns-in-Err-Stuck-clause-stuck c =
     lead_fails c.args.self.now c.loop-event.self c.args.given.now c.loop-event.event-index c.loop-event.at _ c.step.result _ c.loop-event-test.true c.loop-event.invariant.0 c.loop-event.invariant.1 c.step.ensures.stuck (c.in-Err-Stuck.is ∙ ap Err (c.in-Err-Stuck.field-0-is ∙ ap E.Stuck (sym c.in-Err-Stuck.stuck-is)))
 
 pub loop-event-preserved : goal.loop-event-preserved
-loop-event-preserved c =
-    (ap (λ n. n + 1) c.loop-event.invariant.0,
-     led_more c.args.self.now c.loop-event.self c.step.new.self c.args.given.now c.loop-event.event-index _ _ c.loop-event-test.true c.loop-event.invariant.1 c.in-Ok.ensures.made)
+loop-event-preserved c = (
+  ap (λ n. n + 1) c.loop-event.invariant.0,
+  led_more c.args.self.now c.loop-event.self c.step.new.self c.args.given.now c.loop-event.event-index _ _ c.loop-event-test.true c.loop-event.invariant.1 c.in-Ok.ensures.made,
+)
 
 pub returns-clause-led : goal.returns-clause-led
 returns-clause-led c = led_all c.args.self.now c.loop-event.self c.args.given.now c.loop-event.event-index (omega (arith, c.loop-event-test.false, c.loop-event.auto.event-index-end)) c.loop-event.invariant.1

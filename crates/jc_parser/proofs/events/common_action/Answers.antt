@@ -1,7 +1,7 @@
 use Rattle.std.proofs.Common.{rules}
-use Rattle.jc_parser.specs.CallParts.{action_at}
-use Rattle.jc_parser.proofs.events.action.Goals as goal
+use Rattle.jc_parser.specs.CallParts.{common_action_at}
+use Rattle.jc_parser.proofs.events.common_action.Goals as goal
 
 pub returns-then-begins_word-3 : goal.returns-then-begins_word-3
-unfolding action_at
+unfolding common_action_at
 returns-then-begins_word-3 c = search rules
