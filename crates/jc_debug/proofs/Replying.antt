@@ -1,21 +1,24 @@
 -- What the contracts of a debugger's calls say of the session that is seen in it.
-use Rattle.std.proofs.Common.{◌≡◌, ℕ, [], length, Option, Some, None, ap, refl}
+use Rattle.std.proofs.Common.{◌≡◌, ℕ, List, [], ◌∷◌, ◌++◌, length, slice_get, unwrap_or, Option, Some, None, ap, refl, sym, subst}
 use Rattle.jc_rules.specs.declared.operation.Event.{Event}
 use Rattle.jc_rules.specs.Refused.{Cause}
 use Rattle.jc_network.specs.declared.fault.Stuck.{Stuck}
-use Rattle.jc_network.specs.Course.{Course, started}
+use Rattle.jc_rules.specs.Step.{Network}
+use Rattle.jc_network.specs.Given.{IsStart, IsStarted}
 use Rattle.jc_network.specs.Makes.{stuck_for}
 use Rattle.jc_scenario.specs.Scenarios.{Scenario}
 use Rattle.jc_debug.specs.declared.breaks.Break.{Break}
 use Rattle.jc_debug.specs.declared.fault.Halt.TheVariants as H
 use Rattle.jc_debug.specs.Moves.{IsHalted}
 use Rattle.jc_debug.specs.Session.{Goes, arrives, stops, moved, placed}
-use Rattle.jc_debug.specs.Trail.{Seen, start_of, session_of, IsOnTrail, IsMoved, placed_in}
+use Rattle.jc_debug.specs.Trail.{Seen, no_network, start_of, session_of, IsOnTrail, IsMoved, placed_in}
 use Rattle.jc_debug.proofs.Trails.{at_old}
 
 -- a new debugger is at the scenario's start
-pub begun_at : (d : Seen) (s : Scenario) → d.net ≡ started s → start_of d ≡ (started s).network
-begun_at d s e = ap (λ (c : Course). start_of (record { net = c; schedule = []; traces = []; breaks = [] })) e
+pub begun_at : (d : Seen) (s : Scenario) → IsStarted s d.net → IsStart s (start_of d)
+begun_at d s h =
+    let first : start_of d ≡ d.net.network = ap (λ (es : List Network). unwrap_or (slice_get (es ++ d.net.network ∷ []) 0) no_network) h.earlier in
+    subst (IsStart s) (sym first) h.start
 
 pub moved_session : (d e : Seen) (n : ℕ) → IsMoved d e n → session_of e ≡ moved (session_of d) n
 moved_session d e n m = λ i. record { schedule = m.schedule i; position = m.position i; breaks = m.breaks i }

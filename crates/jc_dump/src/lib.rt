@@ -7,6 +7,6 @@ mod replica;
 mod texts;
 mod vars;
 
-pub use lines::{given_text, stuck_text, trace_text};
+pub use lines::{stuck_text, trace_text};
 pub use replica::dump_replica;
-pub use texts::{block_text, refused_text};
+pub use texts::{block_text, given_text, refused_text};

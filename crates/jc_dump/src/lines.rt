@@ -9,7 +9,7 @@ ghost use Rattle.jc_dump.specs.Lines.{trace_text, stuck_text, IsNamedStuck};
 use jc_json::tagged_text;
 use jc_network::{Net, Stuck};
 use jc_printer::print_event;
-use jc_rules::{Refusal, Trace};
+use jc_rules::{Refusal, Text, Trace};
 use std::alloc::{AllocError, Global};
 use std::fmt::Write;
 
@@ -40,7 +40,21 @@ pub fn stuck_text(alloc: Global, net: &Net, stuck: &Stuck) -> Result<String, All
         → stuck.now ≡ stuck_for why event
         → string_bytes text ≡ stuck_text net.now.names why event) }
 {
-    let names = net.names();
+    named_stuck_text(alloc, net.names(), stuck)
+}
+
+/// The same, where the list of names has the name of each replica at its number.
+pub(crate) fn named_stuck_text(
+    alloc: Global,
+    names: &[Text],
+    stuck: &Stuck,
+) -> Result<String, AllocError>
+    requires { IsNamedStuck names.now stuck.now }
+    ensures { IfOk result (λ text.
+        (why : Cause) (event : AnyEvent)
+        → stuck.now ≡ stuck_for why event
+        → string_bytes text ≡ stuck_text names.now why event) }
+{
     let event = print_event(alloc, names, &stuck.event)?;
     let Some(refusal) = Refusal::of_number(stuck.number) else {
         unreachable!();

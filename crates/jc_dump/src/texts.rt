@@ -1,12 +1,18 @@
-//! Trace blocks and the lines of refused texts.
+//! Trace blocks, the lines of refused texts, and those of a given event that is stuck.
 
 ghost use Rattle.std.specs.Prelude.{◌≡◌, ◌++◌, IfOk, length, string_bytes, codes, decimal};
+ghost use Rattle.jc_rules.specs.declared.operation.Event.{Event as AnyEvent};
+ghost use Rattle.jc_rules.specs.Refused.{Cause};
 ghost use Rattle.jc_printer.specs.Canon.{AreNamed};
-ghost use Rattle.jc_dump.specs.Texts.{block_text, refused_text};
+ghost use Rattle.jc_network.specs.Makes.{stuck_for};
+ghost use Rattle.jc_dump.specs.Lines.{IsNamedStuck};
+ghost use Rattle.jc_dump.specs.Texts.{block_text, given_text, refused_text};
 
-use crate::lines::trace_text;
+use crate::lines::{named_stuck_text, trace_text};
+use jc_network::Stuck;
 use jc_printer::print_event;
 use jc_rules::{Event, Refusal, Text, Trace};
+use jc_scenario::Scenario;
 use std::alloc::{AllocError, Global};
 
 /// The trace block of an event by its number: a line with the event, and the text of its trace.
@@ -37,6 +43,26 @@ pub fn refused_text(alloc: Global, refusal: Refusal, place: usize) -> Result<Str
     ensures { IfOk result (λ text. string_bytes text ≡ refused_text refusal place) }
 {
     refused_line(alloc, refusal.number(), refusal.name(), place)
+}
+
+/// The lines of a scenario that has no start: the given event of this number, from 1, is the first that is stuck. The
+/// scenario tells the names of its replicas.
+pub fn given_text(
+    alloc: Global,
+    scenario: &Scenario,
+    at: u64,
+    stuck: &Stuck,
+) -> Result<String, AllocError>
+    requires { IsNamedStuck scenario.now.names.items stuck.now }
+    ensures { IfOk result (λ text.
+        (why : Cause) (event : AnyEvent)
+        → stuck.now ≡ stuck_for why event
+        → string_bytes text ≡ given_text scenario.now.names.items at why event) }
+{
+    let mut text = refused_text(alloc, Refusal::GivenStuck, at as usize)?;
+    let line = named_stuck_text(alloc, scenario.names.as_slice(), stuck)?;
+    text.push_str(line.as_str())?;
+    Ok(text)
 }
 
 fn refused_line(alloc: Global, number: u8, cause: &str, place: usize) -> Result<String, AllocError>

@@ -1,5 +1,5 @@
 -- What replicas answer, as events of a network.
-use Rattle.std.proofs.Common.{◌≡◌, ℕ, zero, suc, ◌<◌, ◌≤◌, List, [], ◌∷◌, Option, Some, None, IfSome, IsErrAnd, Result, Err, inl, inr, option_map, length, slice_get, slice_set, slice_index_or, refl, sym, ◌∙◌, ap, subst, arith}
+use Rattle.std.proofs.Common.{◌≡◌, ℕ, zero, suc, ◌<◌, ◌≤◌, List, [], ◌∷◌, ◌++◌, Option, Some, None, IfSome, IsErrAnd, Result, Err, inl, inr, option_map, length, slice_get, slice_set, slice_index_or, refl, sym, ◌∙◌, ap, subst, arith}
 use Rattle.std.proofs.lemmas.List.{length-map}
 use Rattle.std.proofs.lemmas.Option.{slice_get-map, slice_get_past}
 use Rattle.jc_rules.specs.declared.operation.Event.{Event}
@@ -26,6 +26,7 @@ use Rattle.jc_network.specs.Laws.{starts, IsReached}
 use Rattle.jc_network.specs.Makes.{stuck_for, fault_for, IsStuckFor, sent_by, Moves, Acts, HasReplicas, IsMissing, IsRefusedBy, Stops, stops_missing, stops_version, stops_refused, Makes, reading, sender_of}
 use Rattle.jc_network.specs.Network.{IsWell}
 use Rattle.jc_network.specs.Run.{IsInRun, AreNumbered}
+use Rattle.jc_network.proofs.Following.{after_more}
 use Rattle.jc_network.proofs.Halves.{index_get}
 use Rattle.jc_network.proofs.Members.{some_at}
 use Rattle.jc_network.proofs.Seeing.{is_stuck}
@@ -35,9 +36,11 @@ pub well : (scripts : List _) (network : List State) → IsReached scripts netwo
 well scripts network r = after_well (starts scripts) r.0 network (start_well scripts) r.1
 
 -- what events of a version led to is reached
-pub reached : (version : Version) (scripts : List (List Cmd)) (network kept : List State) → IsInRun version scripts network kept → IsReached scripts network
-reached version scripts network kept run =
-    (run.events, after_states (of_version version (starts scripts)) run.events (of_version version network) run.led)
+pub reached : (version : Version) (scripts : List (List Cmd)) (first network kept : List State) → IsInRun version scripts first network kept → IsReached scripts network
+reached version scripts first network kept run =
+    let start = of_version version (starts scripts) in
+    let now = of_version version network in
+    (run.given ++ run.events, after_states start (run.given ++ run.events) now (after_more start run.given (of_version version first) run.events now run.before run.led))
 
 pub kept_there : (ps : List Past) (p : ℕ) (past : Past) → slice_get ps p ≡ Some past → slice_get (kept_of ps) p ≡ Some past.now
 kept_there ps p past e = slice_get-map (λ (q : Past). q.now) ps p ∙ ap (option_map (λ (q : Past). q.now)) e
@@ -139,14 +142,14 @@ some_read (V.Send p) ps h = ([], refl)
 some_read (V.Apply p i) ps h = ([], refl)
 some_read (V.Done p) ps h = ([], refl)
 
-pub stopped : (version : Version) (scripts : List (List Cmd)) (event : Event) (ps : List Past) (why : Cause) → IsInRun version scripts (network_of ps) (kept_of ps) → Stops version event ps why → IsStuckIn (of_version version (network_of ps)) event why
-stopped version scripts event ps why run (stops_missing (inl l)) = replica_missing (no_state ps (replica_of event) l)
-stopped version scripts event ps why run (stops_missing (inr (q, is, l))) = sender_missing (nothing_read event q ps is l)
-stopped version scripts event ps why run (stops_version there bars) =
+pub stopped : (version : Version) (scripts : List (List Cmd)) (first : List State) (event : Event) (ps : List Past) (why : Cause) → IsInRun version scripts first (network_of ps) (kept_of ps) → Stops version event ps why → IsStuckIn (of_version version (network_of ps)) event why
+stopped version scripts first event ps why run (stops_missing (inl l)) = replica_missing (no_state ps (replica_of event) l)
+stopped version scripts first event ps why run (stops_missing (inr (q, is, l))) = sender_missing (nothing_read event q ps is l)
+stopped version scripts first event ps why run (stops_version there bars) =
     wrong_version (state_there ps (replica_of event) there.0).1 (some_read event ps there).1 bars
-stopped version scripts event ps why run (stops_refused allowed by) =
+stopped version scripts first event ps why run (stops_refused allowed by) =
     stuck_in (of_version version (network_of ps)) event why allowed
-    (is_stuck run.set (network_of ps) (kept_of ps) (well scripts (network_of ps) (reached version scripts (network_of ps) (kept_of ps) run)).sets run.seen event by.read by.past why by.asked by.refuses)
+    (is_stuck run.set (network_of ps) (kept_of ps) (well scripts (network_of ps) (reached version scripts first (network_of ps) (kept_of ps) run)).sets run.seen event by.read by.past why by.asked by.refuses)
 
 pub never_full : (version : Version) (event : Event) (old new : List Past) (fault : StepFault) → Makes version event old new (Err fault) → fault ≡ E.Full → ⊥
 never_full version event old new E.Full m e = m
@@ -154,10 +157,10 @@ never_full version event old new (E.Stuck s) m e = cc
 never_full version event old new E.Memory m e = cc
 
 -- what an event that is stuck has told
-pub told_stuck : (version : Version) (scripts : List (List Cmd)) (event : Event) (old new : List Past) (fault : StepFault) (s : Stuck) → IsInRun version scripts (network_of old) (kept_of old) → Makes version event old new (Err fault) → fault ≡ E.Stuck s → IsStuckFor (of_version version (network_of old)) event s
-told_stuck version scripts event old new fault s run m e =
+pub told_stuck : (version : Version) (scripts : List (List Cmd)) (first : List State) (event : Event) (old new : List Past) (fault : StepFault) (s : Stuck) → IsInRun version scripts first (network_of old) (kept_of old) → Makes version event old new (Err fault) → fault ≡ E.Stuck s → IsStuckFor (of_version version (network_of old)) event s
+told_stuck version scripts first event old new fault s run m e =
     let h : Makes version event old new (Err (E.Stuck s)) = subst (λ f. Makes version event old new (Err f)) e m in
-    record { why = h.1; stuck = stopped version scripts event old h.1 run h.3; is = h.2 }
+    record { why = h.1; stuck = stopped version scripts first event old h.1 run h.3; is = h.2 }
 
 pub at_err : {A E : Type 0} (P : E → Type 0) (r : Result A E) (y : E) → IsErrAnd r P → r ≡ Err y → P y
 at_err {A = A} P r y h e = subst (λ q. IsErrAnd {T = A} q P) e h

@@ -39,8 +39,10 @@ real_start scripts = ap real (kept_start 0 scripts) ∙ sym (seen_is_real [] (st
 
 pub starts_in_run : (version : Version) (scripts : List (List Cmd)) → AreShort scripts → IsKeptNet version (length scripts) [] (pasts_from 0 scripts)
 starts_in_run version scripts short =
-    let now : IsInRun version scripts (network_of (pasts_from 0 scripts)) (kept_of (pasts_from 0 scripts)) = record {
+    let now : IsInRun version scripts (starts scripts) (network_of (pasts_from 0 scripts)) (kept_of (pasts_from 0 scripts)) = record {
       short = short;
+      given = [];
+      before = refl;
       events = [];
       led = ap (of_version version) (sym (real_start scripts));
       set = [];
@@ -51,6 +53,7 @@ starts_in_run version scripts short =
       numbered = λ p past e. let h = numbered_from 0 scripts p past e in omega (arith, h);
       backed = tt;
       scripts = scripts;
+      first = starts scripts;
       runs = (now, real_start scripts);
     }
 

@@ -6,22 +6,22 @@ use Rattle.std.proofs.Math.Seq.{take-append_seam}
 use Rattle.std.proofs.lemmas.List.{map-set, length-map, reverse-append, length-reverse}
 use Rattle.jc_rules.specs.declared.operation.Event.{Event}
 use Rattle.jc_rules.specs.declared.operation.Op.{Op}
-use Rattle.jc_rules.specs.declared.rule.Rule.{Rule}
 use Rattle.jc_rules.specs.declared.version.Version.{Version}
 use Rattle.jc_rules.specs.Version.{Allows}
 use Rattle.jc_rules.specs.State.{State}
-use Rattle.jc_rules.specs.Step.{Step, After, Network, StepIn, AfterIn, replica_of}
+use Rattle.jc_rules.specs.Step.{Step, Network, StepIn, AfterIn, replica_of}
 use Rattle.jc_rules.specs.Syntax.{Cmd}
 use Rattle.jc_rules.specs.Trace.{Rows}
 use Rattle.jc_replica.specs.Past.{Past, history}
 use Rattle.jc_network.specs.Applied.{applied_ops, IsApplied}
-use Rattle.jc_network.specs.Course.{scripts_of, kept_of, network_of, last_of, back, back_at, earlier_of, course_of, of_version, StepsTo}
+use Rattle.jc_network.specs.Course.{kept_of, network_of, last_of, back, back_at, earlier_of, course_of, of_version, StepsTo}
 use Rattle.jc_network.specs.Laws.{starts, IsReached}
 use Rattle.jc_network.specs.Makes.{AllHand, AllOwn, HasReplica, Acts}
 use Rattle.jc_network.specs.Run.{HasBegun, IsInRun, AreInRun, CanGoBack, AreBacked, AreNumbered, IsKeptNet}
 use Rattle.jc_network.specs.Seen.{AreSeen, IsAsked}
 use Rattle.jc_network.proofs.Acting.{well, reached, as_many_states, kept_there}
 use Rattle.jc_network.proofs.Applying.{applied_stands}
+use Rattle.jc_network.proofs.Following.{after_count, after_end}
 use Rattle.jc_network.proofs.Handing.{offered_handed}
 use Rattle.jc_network.proofs.Members.{set_there, set_other}
 use Rattle.jc_network.proofs.Realizing.{seen_is_real}
@@ -75,10 +75,6 @@ not_empty : (A : State) (As : List State) → As ++ A ∷ [] ≢ []
 not_empty A [] e = cc
 not_empty A (B ∷ As) e = cc
 
-after_end : (N : Network) (es : List Event) (M K : Network) (e : Event) (rows : List (Rule × ℕ)) → AfterIn N es M → StepIn M e K rows → AfterIn N (es ++ e ∷ []) K
-after_end N [] M K e rows a s = (K, rows, subst (λ L. StepIn L e K rows) (sym a) s, refl)
-after_end N (f ∷ es) M K e rows a s = (a.0, a.1, a.2, after_end a.0 es M K e rows a.3 s)
-
 numbered_set : (ps : List Past) (p : ℕ) (A B : Past) → slice_get ps p ≡ Some A → B.number ≡ A.number → AreNumbered ps → AreNumbered (slice_set ps p B)
 numbered_set ps p A B there same numbered q C e = go (set_other ps p q B)
   where
@@ -88,31 +84,21 @@ numbered_set ps p A B there same numbered q C e = go (set_other ps p q B)
         sym (ap (λ (x : Past). x.number) is) ∙ (same ∙ (numbered p A there ∙ sym s))
     go (inr s) = numbered q C (sym s ∙ e)
 
-run_now : (version : Version) (scripts : List (List Cmd)) (is : List ℕ) (ps : List Past) → AreInRun version scripts is ps → IsInRun version scripts (network_of ps) (kept_of ps)
-run_now version scripts [] ps h = h.0
-run_now version scripts (i ∷ is) ps h = h.0
+run_now : (version : Version) (scripts : List (List Cmd)) (first : List State) (is : List ℕ) (ps : List Past) → AreInRun version scripts first is ps → IsInRun version scripts first (network_of ps) (kept_of ps)
+run_now version scripts first [] ps h = h.0
+run_now version scripts first (i ∷ is) ps h = h.0
 
-pub now_in_run : (version : Version) (count : ℕ) (is : List ℕ) (ps : List Past) → (h : IsKeptNet version count is ps) → IsInRun version h.scripts (network_of ps) (kept_of ps)
-now_in_run version count is ps h = run_now version h.scripts is ps h.runs
+pub now_in_run : (version : Version) (count : ℕ) (is : List ℕ) (ps : List Past) → (h : IsKeptNet version count is ps) → IsInRun version h.scripts h.first (network_of ps) (kept_of ps)
+now_in_run version count is ps h = run_now version h.scripts h.first is ps h.runs
 
 -- and reached
 pub now_reached : (version : Version) (count : ℕ) (is : List ℕ) (ps : List Past) → (h : IsKeptNet version count is ps) → IsReached h.scripts (network_of ps)
-now_reached version count is ps h = reached version h.scripts (network_of ps) (kept_of ps) (now_in_run version count is ps h)
+now_reached version count is ps h = reached version h.scripts h.first (network_of ps) (kept_of ps) (now_in_run version count is ps h)
 
 length_set : (ps : List Past) (p : ℕ) (B : Past) → length (slice_set ps p B) ≡ length ps
 length_set [] p B = refl
 length_set (q ∷ ps) zero B = refl
 length_set (q ∷ ps) (suc p) B = ap suc (length_set ps p B)
-
-states_set : (N : List State) (p : ℕ) (B : State) → length (slice_set N p B) ≡ length N
-states_set [] p B = refl
-states_set (A ∷ N) zero B = refl
-states_set (A ∷ N) (suc p) B = ap suc (states_set N p B)
-
--- events add no replica
-after_count : (N : List State) (es : List Event) (M : List State) → After N es M → length M ≡ length N
-after_count N [] M a = ap length (sym a)
-after_count N (e ∷ es) M a = after_count a.0 es M a.3 ∙ (ap length a.2.is_new ∙ states_set N (replica_of e) a.2.after)
 
 -- a network has a replica for each name, and at most 64
 pub few_names : (version : Version) (count : ℕ) (is : List ℕ) (ps : List Past) → IsKeptNet version count is ps → (length (network_of ps) ≡ count) × (count ≤ 64)
@@ -142,28 +128,24 @@ first_more : (Ns : List Network) (N M other : Network) → first_or other ((Ns +
 first_more [] N M other = refl
 first_more (L ∷ Ns) N M other = refl
 
--- it is the start of the scripts
-first_starts : (version : Version) (scripts : List (List Cmd)) (is : List ℕ) (ps : List Past) → AreInRun version scripts is ps → first_or (of_version version (network_of ps)) (map (of_version version) (earlier_of is ps) ++ of_version version (network_of ps) ∷ []) ≡ of_version version (starts scripts)
-first_starts version scripts [] ps h = ap (of_version version) h.1
-first_starts version scripts (i ∷ is) ps h =
+-- it is the first one of these
+first_is : (version : Version) (scripts : List (List Cmd)) (first : List State) (is : List ℕ) (ps : List Past) → AreInRun version scripts first is ps → first_or (of_version version (network_of ps)) (map (of_version version) (earlier_of is ps) ++ of_version version (network_of ps) ∷ []) ≡ of_version version first
+first_is version scripts first [] ps h = ap (of_version version) h.1
+first_is version scripts first (i ∷ is) ps h =
     let now = of_version version (network_of ps) in
     let before = of_version version (network_of (back_at i ps)) in
     let front : List Network = map (of_version version) (earlier_of is (back_at i ps)) in
     ap (λ (Ns : List Network). first_or now (Ns ++ now ∷ [])) (versions-push version (earlier_of is (back_at i ps)) (network_of (back_at i ps)))
-    ∙ (first_more front before now now ∙ first_starts version scripts is (back_at i ps) h.1)
-
--- at their start all of each script is left
-left_at_start : (scripts : List (List Cmd)) → map (λ (A : State). A.left) (starts scripts) ≡ scripts
-left_at_start [] = refl
-left_at_start (s ∷ scripts) = ap (λ (l : List (List Cmd)). s ∷ l) (left_at_start scripts)
+    ∙ (first_more front before now now ∙ first_is version scripts first is (back_at i ps) h.1)
 
 pub has_begun : (version : Version) (names : List (List ℕ)) (is : List ℕ) (ps : List Past) → IsKeptNet version (length names) is ps → HasBegun (course_of version names is ps)
 has_begun version names is ps h =
-    let first = first_starts version h.scripts is ps h.runs in
-    let own : scripts_of (course_of version names is ps) ≡ h.scripts = ap (λ (N : Network). map (λ (A : State). A.left) N.states) first ∙ left_at_start h.scripts in
+    let first = first_is version h.scripts h.first is ps h.runs in
     let run = now_in_run version (length names) is ps h in
     record {
-      first = first ∙ ap (λ (s : List (List Cmd)). of_version version (starts s)) (sym own);
+      scripts = h.scripts;
+      given = run.given;
+      before = subst (AfterIn (of_version version (starts h.scripts)) run.given) (sym first) run.before;
       events = run.events;
       led = subst (λ (N : Network). AfterIn N run.events (of_version version (network_of ps))) (sym first) run.led;
     }
@@ -171,13 +153,13 @@ has_begun version names is ps h =
 -- ---- a step
 
 -- the network after it
-record IsStepped (version : Version) (scripts : List (List Cmd)) (old new : List Past) (event : Event) (rows : Rows) : Type 0 where
+record IsStepped (version : Version) (scripts : List (List Cmd)) (first : List State) (old new : List Past) (event : Event) (rows : Rows) : Type 0 where
   step : StepIn (of_version version (network_of old)) event (of_version version (network_of new)) rows.rows
   depth : rows.depth ≡ 0
-  run : IsInRun version scripts (network_of new) (kept_of new)
+  run : IsInRun version scripts first (network_of new) (kept_of new)
 
-step_of : (version : Version) (scripts : List (List Cmd)) (old new : List Past) (event : Event) (rows : Rows) → Allows event version → IsInRun version scripts (network_of old) (kept_of old) → AreNumbered old → Acts event old new (Ok rows) → IsStepped version scripts old new event rows
-step_of version scripts old new event rows allowed run numbered acts =
+step_of : (version : Version) (scripts : List (List Cmd)) (first : List State) (old new : List Past) (event : Event) (rows : Rows) → Allows event version → IsInRun version scripts first (network_of old) (kept_of old) → AreNumbered old → Acts event old new (Ok rows) → IsStepped version scripts first old new event rows
+step_of version scripts first old new event rows allowed run numbered acts =
     let m = acts.moves in
     let p = replica_of event in
     let N = network_of old in
@@ -186,7 +168,7 @@ step_of version scripts old new event rows allowed run numbered acts =
       there = slice_get-map (λ (q : Past). q.now) old p ∙ rw m.there refl;
       reads = acts.reads;
     } in
-    let s = steps_on run.set N (kept_of old) (well scripts N (reached version scripts N (kept_of old) run)).sets run.seen event acts.read m.before m.after rows asked m.answers in
+    let s = steps_on run.set N (kept_of old) (well scripts N (reached version scripts first N (kept_of old) run)).sets run.seen event acts.read m.before m.after rows asked m.answers in
     let kept : slice_set (kept_of old) p m.after.now ≡ kept_of new = sym (ap kept_of m.now ∙ map-set _ old p m.after) in
     let seen = subst (AreSeen s.set s.new) kept s.seen in
     let is : s.new ≡ network_of new = seen_is_real s.set s.new (kept_of new) seen in
@@ -197,8 +179,10 @@ step_of version scripts old new event rows allowed run numbered acts =
       depth = s.depth;
       run = record {
         short = run.short;
+        given = run.given;
+        before = run.before;
         events = run.events ++ event ∷ [];
-        led = after_end (of_version version (starts scripts)) run.events (of_version version N) (of_version version (network_of new)) event rows.rows run.led step;
+        led = after_end (of_version version first) run.events (of_version version N) (of_version version (network_of new)) event rows.rows run.led step;
         set = s.set;
         seen = subst (λ M. AreSeen s.set M (kept_of new)) is seen;
       };
@@ -214,7 +198,7 @@ stepped version names old new whose more event rows allowed is inv acts =
     let m = acts.moves in
     let p = replica_of event in
     let turned : reverse more ≡ p ∷ reverse whose = ap reverse is ∙ reverse-append whose (p ∷ []) in
-    let s = step_of version inv.scripts old new event rows allowed (run_now version inv.scripts (reverse whose) old inv.runs) inv.numbered acts in
+    let s = step_of version inv.scripts inv.first old new event rows allowed (run_now version inv.scripts inv.first (reverse whose) old inv.runs) inv.numbered acts in
     let goes : back m.after ≡ m.before = back_is m.before m.after (sym m.answers.number) m.answers.earlier in
     let before : back_at p new ≡ old = ap (back_at p) m.now ∙ back_at-set old p m.before m.after m.there goes in
     let there : slice_get new p ≡ Some m.after = subst (λ (ps : List Past). slice_get ps p ≡ Some m.after) (sym m.now) (set_there old p m.before m.after m.there) in
@@ -224,7 +208,8 @@ stepped version names old new whose more event rows allowed is inv acts =
       numbered = subst AreNumbered (sym m.now) (numbered_set old p m.before m.after m.there m.answers.number inv.numbered);
       backed = (can, subst (AreBacked (reverse whose)) (sym before) inv.backed);
       scripts = inv.scripts;
-      runs = (s.run, subst (AreInRun version inv.scripts (reverse whose)) (sym before) inv.runs);
+      first = inv.first;
+      runs = (s.run, subst (AreInRun version inv.scripts inv.first (reverse whose)) (sym before) inv.runs);
     } in
     let earlier : earlier_of (p ∷ reverse whose) new ≡ earlier_of (reverse whose) old ++ network_of old ∷ [] = ap (λ ps. earlier_of (reverse whose) ps ++ network_of ps ∷ []) before in
     record {
@@ -316,7 +301,8 @@ undone version count ps p a b whose fewer is inv there number was =
         numbered = numbered_set ps p a b there number h.numbered;
         backed = subst (AreBacked (reverse fewer)) (sym new) h.backed.1;
         scripts = h.scripts;
-        runs = subst (AreInRun version h.scripts (reverse fewer)) (sym new) h.runs.1;
+        first = h.first;
+        runs = subst (AreInRun version h.scripts h.first (reverse fewer)) (sym new) h.runs.1;
       };
       earlier = subst (λ w. earlier_of w ps ≡ earlier_of (reverse fewer) (slice_set ps p b) ++ network_of (slice_set ps p b) ∷ []) (sym turned) (ap (λ qs. earlier_of (reverse fewer) qs ++ network_of qs ∷ []) (sym new));
     }

@@ -94,8 +94,8 @@ impl Net {
         self.version
     }
 
-    /// The number of steps. Events of its version have led to the network from the start of its own scripts, so the
-    /// laws of runs hold of it.
+    /// The number of steps. Events of its version have led to its first network from the start of some scripts, and
+    /// others from there to the one now, so the laws of runs hold of it.
     pub fn steps(&self) -> u64
         ensures steps { result ≡ length self.now.earlier }
         ensures reached { IsFromStart self.now.network.states }

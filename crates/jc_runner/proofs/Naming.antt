@@ -1,5 +1,5 @@
 -- What a replica chooses names replicas of the network.
-use Rattle.std.proofs.Common.{rules, arith, ◌≡◌, ℕ, ◌+◌, ◌<◌, List, [], ◌∷◌, Option, Some, None, Bool, true, false, cond, nat_lt, Contains, refl, ◌∙◌, subst, length, slice_get}
+use Rattle.std.proofs.Common.{rules, arith, ◌≡◌, ℕ, ◌+◌, ◌<◌, List, [], ◌∷◌, ◌++◌, Option, Some, None, Bool, true, false, cond, nat_lt, Contains, refl, ◌∙◌, subst, length, slice_get}
 use Rattle.std.proofs.lemmas.Option.{same_Some, slice_get_within}
 use Rattle.jc_rules.specs.declared.id.Id.{Id}
 use Rattle.jc_rules.specs.declared.operation.Op.{Op}
@@ -86,7 +86,7 @@ event_named n (Some c) e named is = subst (λ x. AreNamed x n) (same_Some c.0 e 
 pub stuck_named : (s : Scenario) (p : ℕ) (history : List Event) (stuck : Stuck) → IsWellFormed s → p < length s.scripts → (t : IsStuckAfter s p history stuck) → AreNamed t.event (length s.names)
 stuck_named s p history stuck well low t =
     let count : length t.network.states ≡ length s.scripts = as_many s history t.network t.legal in
-    let kept : IsWell t.network.states = after_well (starts s.scripts) history t.network.states (start_well s.scripts) (legal_states s history t.network t.legal) in
+    let kept : IsWell t.network.states = after_well (starts s.scripts) (s.given ++ history) t.network.states (start_well s.scripts) (legal_states s history t.network t.legal) in
     let phase = phase_after (last_of (own_events history p)) in
     let named = chosen_named t.network.states p phase kept (omega (arith, low, count)) in
     subst (AreNamed t.event) (count ∙ well.each) (event_named (length t.network.states) (choice t.network.states p phase) t.event named t.is_chosen)

@@ -8,20 +8,19 @@ use native.Mathlib.Decide.{ℕ_discrete}
 use mathlib.Core.List.{IsPrefix}
 use Rattle.jc_rules.specs.declared.operation.Event.{Event}
 use Rattle.jc_rules.specs.State.{State}
-use Rattle.jc_rules.specs.Step.{After, Network, AfterIn, replica_of}
-use Rattle.jc_rules.proofs.Versions.{one_after_in, after_states}
+use Rattle.jc_rules.specs.Step.{After, Network, replica_of}
+use Rattle.jc_rules.proofs.Versions.{after_states}
 use Rattle.jc_scenario.specs.Scenarios.{Scenario, IsWellFormed}
 use Rattle.jc_scenario.specs.Views.{scenario_view}
 use Rattle.jc_runner.specs.declared.worker.End.{End}
 use Rattle.jc_runner.specs.declared.worker.End.TheVariants as N
-use Rattle.jc_network.specs.Course.{started}
 use Rattle.jc_runner.specs.Legal.{IsLegal, own_events}
 use Rattle.jc_runner.specs.Benches.{bench_start}
 use Rattle.jc_runner.specs.Worked.{IsFinishedAfter, ChoosesAfter, EndsWith, HaveWorked}
 use Rattle.std.proofs.lemmas.List.{get_or-map, length-map}
 use Rattle.std.proofs.lemmas.List.Sums.{sum_by-cons}
 use Rattle.std.proofs.lemmas.Option.{get_or_from_slice_get}
-use Rattle.jc_runner.proofs.Histories.{own_both, nothing_more}
+use Rattle.jc_runner.proofs.Histories.{one_legal, legal_both, own_both, nothing_more}
 use Rattle.jc_runner.proofs.Naming.{stuck_named}
 use Rattle.jc_runner.proofs.Schedules.{well_formed_with}
 use Rattle.jc_runner.proofs.Working.{still_chosen}
@@ -56,14 +55,10 @@ untouched p K (e ∷ es) M after none = go (nat_eq (replica_of e) p) refl (λ h.
         let apart : replica_of e ≡ p → ⊥ = λ is. search (rules, other, is) in
         more (search (rules, none, other)) ∙ (ap (λ l. slice_get l p) after.2.is_new ∙ set_elsewhere K (replica_of e) p after.2.after apart)
 
-after_both : (N : Network) (xs ys : List Event) (M : Network) → AfterIn N (xs ++ ys) M → (K : Network) × AfterIn N xs K × AfterIn K ys M
-after_both N [] ys M after = (N, refl, after)
-after_both N (x ∷ xs) ys M after = let more = after_both after.0 xs ys M after.3 in (more.0, (after.0, after.1, after.2, more.1), more.2)
-
 pub finished_in : (s : Scenario) (p : ℕ) (seen schedule : List Event) (M : Network) → IsFinishedAfter s p seen → IsPrefix seen schedule → own_events schedule p ≡ own_events seen p → IsLegal schedule s M → IsFinishedIn M p
 finished_in s p seen schedule M finished begins same legal =
-    let split = after_both (started s).network seen begins.0 M (subst (λ l. AfterIn (started s).network l M) (sym begins.1) legal.after) in
-    let one : split.0 ≡ finished.network = one_after_in (started s).network seen split.0 finished.network split.1 finished.legal.after in
+    let split = legal_both s seen begins.0 M (subst (λ l. IsLegal l s M) (sym begins.1) legal) in
+    let one : split.0 ≡ finished.network = one_legal s seen split.0 finished.network split.1 finished.legal in
     let none = nothing_more (own_events seen p) (own_events begins.0 p) (sym (own_both p seen begins.0) ∙ (ap (λ l. own_events l p) begins.1 ∙ same)) in
     record {
       state = finished.state;

@@ -1,9 +1,9 @@
 -- A schedule that leads from a scenario's start is one that a scenario may have.
-use Rattle.std.proofs.Common.{arith, ◌≡◌, ℕ, ◌*◌, ◌≤◌, ◌<◌, List, [], ◌∷◌, Option, Some, None, Contains, refl, sym, ◌∙◌, ap, subst, length, slice_get}
+use Rattle.std.proofs.Common.{arith, ◌≡◌, ℕ, ◌*◌, ◌≤◌, ◌<◌, List, [], ◌∷◌, ◌++◌, Option, Some, None, Contains, refl, sym, ◌∙◌, ap, subst, length, slice_get}
 use Rattle.std.specs.Prelude.{All}
 use Rattle.std.specs.List.{AllByRecursion}
 use Rattle.std.proofs.lemmas.List.{length-map}
-use Rattle.std.proofs.lemmas.List.Elements.{All-nil, All-cons}
+use Rattle.std.proofs.lemmas.List.Elements.{All-nil, All-cons, All-tail}
 use Rattle.std.proofs.lemmas.Option.{same_Some, slice_get_within}
 use Rattle.jc_rules.specs.declared.id.Id.{Id}
 use Rattle.jc_rules.specs.declared.operation.Op.{Op}
@@ -19,7 +19,7 @@ use Rattle.jc_rules.proofs.Stands.{looked_up}
 use Rattle.jc_parser.specs.Legal.{IsCounterBelow}
 use Rattle.jc_printer.specs.Canon.{AreNamed}
 use Rattle.jc_scenario.specs.Scenarios.{Scenario, IsWellFormed}
-use Rattle.jc_network.specs.Course.{started}
+use Rattle.jc_network.specs.Given.{bare}
 use Rattle.jc_network.specs.Laws.{starts}
 use Rattle.jc_network.specs.Network.{IsMade, IsWell, IsCounted, commands_left}
 use Rattle.jc_network.specs.Seen.{AreShort}
@@ -120,6 +120,15 @@ all_allowed N (e ∷ es) M after =
     All-cons (λ f. Allows f N.version) e es after.2.allowed
     (subst (λ v. All (λ f. Allows f v) es) after.2.version (all_allowed after.0 es M after.3))
 
+-- no event changes the version
+same_version : (N : Network) (es : List Event) (M : Network) → AfterIn N es M → M.version ≡ N.version
+same_version N [] M after = ap (λ (K : Network). K.version) (sym after)
+same_version N (e ∷ es) M after = same_version after.0 es M after.3 ∙ after.2.version
+
+all_behind : (P : Event → Type 0) (xs ys : List Event) → All P (xs ++ ys) → All P ys
+all_behind P [] ys all = all
+all_behind P (x ∷ xs) ys all = all_behind P xs ys (All-tail P x (xs ++ ys) all)
+
 pub well_formed_with : (s : Scenario) (history : List Event) (N : Network) → IsWellFormed s → IsLegal history s N → length history ≤ 100000 → IsWellFormed (with_schedule s history)
 well_formed_with s history N well legal small =
     let many : length s.scripts ≤ 64 = omega (arith, well.each, well.few) in
@@ -128,7 +137,10 @@ well_formed_with s history N well legal small =
     let total = commands_left (starts s.scripts) in
     let few : total < 4294967296 = omega (arith, bounded, many) in
     let count : length (starts s.scripts) ≡ length s.names = length-map s.scripts start ∙ well.each in
-    let fit : All (IsFit (length s.names)) history = subst (λ n. All (IsFit n) history) count (all_fit total few (starts s.scripts) history N.states (start_well s.scripts) (start_counted s.scripts) (legal_states s history N legal)) in
+    let events = s.given ++ history in
+    let all : All (IsFit (length s.names)) events = subst (λ n. All (IsFit n) events) count (all_fit total few (starts s.scripts) events N.states (start_well s.scripts) (start_counted s.scripts) (legal_states s history N legal)) in
+    let fit : All (IsFit (length s.names)) history = all_behind (IsFit (length s.names)) s.given history all in
+    let version : legal.start.version ≡ s.version = same_version (bare s) s.given legal.start legal.is_start in
     record {
       some = well.some;
       few = well.few;
@@ -138,8 +150,12 @@ well_formed_with s history N well legal small =
       each = well.each;
       formed = well.formed;
       commands = well.commands;
+      first_given = well.first_given;
+      given_short = well.given_short;
+      given_known = well.given_known;
+      given_counters = well.given_counters;
       short = small;
       known = λ k d low. (fit k d low).0;
       counters = λ k d low. (fit k d low).1;
-      allowed = all_allowed (started s).network history N legal.after;
+      allowed = subst (λ v. All (λ e. Allows e v) history) version (all_allowed legal.start history N legal.after);
     }

@@ -5,11 +5,10 @@ use mathlib.Core.List.{IsPrefix}
 use Rattle.jc_rules.specs.declared.operation.Event.{Event}
 use Rattle.jc_rules.specs.State.{start}
 use Rattle.jc_rules.specs.Step.{Network, replica_of}
-use Rattle.jc_rules.proofs.Versions.{one_after_in}
 use Rattle.jc_lock.specs.Knowledge.{own}
 use Rattle.jc_scenario.specs.Scenarios.{Scenario}
 use Rattle.jc_network.specs.declared.fault.Stuck.{Stuck}
-use Rattle.jc_network.specs.Course.{Course, started}
+use Rattle.jc_network.specs.Course.{Course}
 use Rattle.jc_runner.specs.declared.phase.Phase.{Phase}
 use Rattle.std.proofs.lemmas.Option.{same_Some}
 use Rattle.jc_runner.specs.Recording.{Recording, recording, IsRecorded}
@@ -28,12 +27,12 @@ use Rattle.jc_runner.specs.declared.worker.End.TheVariants as Ends
 use Rattle.jc_runner.specs.declared.worker.Worked.{Worked}
 use Rattle.jc_runner.specs.Answers.{IsAnswered, IsSpent, seen_after}
 use Rattle.jc_runner.specs.Worked.{IsFinishedAfter, IsStuckAfter, ChoosesAfter, EndsWith, IsWorked, end_of}
-use Rattle.jc_runner.proofs.Histories.{legal_states, chosen_longer, same_number, last_more}
+use Rattle.jc_runner.proofs.Histories.{legal_states, one_legal, chosen_longer, same_number, last_more}
 use Rattle.jc_runner.proofs.Choices.{choice_is, none_chosen}
 
 -- the network in hand has the scenario's replicas
 pub as_many : (s : Scenario) (history : List Event) (N : Network) → IsLegal history s N → length N.states ≡ length s.scripts
-as_many s history N legal = same_number (starts s.scripts) history N.states (legal_states s history N legal) ∙ length-map s.scripts start
+as_many s history N legal = same_number (starts s.scripts) (s.given ++ history) N.states (legal_states s history N legal) ∙ length-map s.scripts start
 
 -- what is known of the own events stands in the longer history too
 pub still_chosen : (s : Scenario) (p : ℕ) (seen longer mine : List Event) → IsPrefix seen longer → own_events seen p ≡ mine → own_events longer p ≡ mine → AllChosen s p seen → AllChosen s p longer
@@ -72,7 +71,7 @@ chooses_after s p history mine N phase next e legal own at is = record {
 pub is_stuck_after : (s : Scenario) (p : ℕ) (history mine : List Event) (N : Network) (phase next : Phase) (e : Event) (M : Network) (stuck : Stuck)
     → IsLegal history s N → own_events history p ≡ mine → phase ≡ phase_after (last_of mine) → choice N.states p phase ≡ Some (e, next) → IsLegal history s M → IsStuckFor M e stuck → IsStuckAfter s p history stuck
 is_stuck_after s p history mine N phase next e M stuck legal own at is other is_stuck =
-    let same : M ≡ N = one_after_in (started s).network history M N other.after legal.after in
+    let same : M ≡ N = one_legal s history M N other legal in
     record {
       network = N;
       event = e;

@@ -5,8 +5,8 @@
 //! `count` looks how much that is. `close` gives the network back beside its schedule. `run_threads` does this with one
 //! thread for each replica, which makes the events that `choose` gives.
 //!
-//! Refusals: 42 of a step whose pass is spent, 43 of `close`, 44 where a given event is stuck, 45 `GateCount`, 46 `LimitTooLarge`, 47 `NoThread`; and those
-//! of the network's events.
+//! Refusals: 42 of a step whose pass is spent, 43 of `close`, 44 where a given event is stuck, 45 `GateCount`, 46
+//! `LimitTooLarge`, 47 `NoThread`; and those of the network's events.
 #![tactic(auto)]
 
 mod bench;

@@ -8,6 +8,8 @@ use Rattle.std.proofs.lemmas.List.Elements.{All-nil, All-cons}
 use Rattle.std.proofs.lemmas.List.Sorted.{IsPermutation-refl}
 use Rattle.jc_rules.specs.declared.operation.Event.{Event}
 use Rattle.jc_rules.specs.declared.refusal.Refusal.TheVariants as F
+use Rattle.jc_rules.specs.declared.version.Version.{Version}
+use Rattle.jc_rules.specs.declared.version.Version.TheVariants.{One}
 use Rattle.jc_rules.specs.Entries.{IsRising}
 use Rattle.jc_rules.specs.Order.{name_cmp}
 use Rattle.jc_rules.specs.Refusals.{number_of}
@@ -57,17 +59,20 @@ abbrev no_scripts : List (List ℕ) → List (List Cmd)
 no_scripts names = map no_script names
 
 abbrev of_event : List (List ℕ) → Event → Scenario
-of_event names event = record { names = names; scripts = no_scripts names; schedule = event ∷ [] }
+of_event names event = record { version = One; names = names; scripts = no_scripts names; given = []; schedule = event ∷ [] }
 
 -- its text
 abbrev tree_with : List (List ℕ) → NamedEvent → NamedTree
-tree_with names named = record { parts = parts_of names (no_scripts names); events = named ∷ [] }
+tree_with names named = record { version = One; parts = parts_of names (no_scripts names); given = []; events = named ∷ [] }
 
 is_of_tree : (names : List (List ℕ)) (named : NamedEvent) (event : Event) → IsRising name_cmp names → IsResolved names named event → IsOfTree (tree_of (tree_with names named)) (of_event names event)
 is_of_tree names named event rising r = record {
+  version = refl;
   rising = rising;
   each = length-map names no_script;
   same = IsPermutation-refl (parts_of names (no_scripts names));
+  given_known = All-nil (λ e. AreNamed e (length names));
+  given_called = refl;
   known = All-cons (λ e. AreNamed e (length names)) event [] r.known (All-nil (λ e. AreNamed e (length names)));
   called = ap (λ c. c ∷ []) r.called;
 }
@@ -104,23 +109,23 @@ pub record EventLaws : Type 0 where
   pub one_fault : OneEventFault
   pub never_both : EventOrFault
 
-pub one_spelled : (laws : EventLaws) (names : List (List ℕ)) (rest : List ℕ) (e f : Event) → IsRising name_cmp names → IsSpelled names rest e → IsSpelled names rest f → e ≡ f
-one_spelled laws names rest e f rising a b =
-    let same : a.named ≡ b.named = laws.one_event rest a.named b.named a.is b.is in
+pub one_spelled : (laws : EventLaws) (version : Version) (names : List (List ℕ)) (rest : List ℕ) (e f : Event) → IsRising name_cmp names → IsSpelled version names rest e → IsSpelled version names rest f → e ≡ f
+one_spelled laws version names rest e f rising a b =
+    let same : a.named ≡ b.named = laws.one_event version rest a.named b.named a.is b.is in
     one_resolved names b.named e f rising (subst (λ (n : NamedEvent). IsResolved names n e) same a.resolved) b.resolved
 
-pub spelled_or_not : (laws : EventLaws) (names : List (List ℕ)) (rest text : List ℕ) (e : Event) → IsRising name_cmp names → IsSpelled names rest e → IsMisspelled names rest text → ⊥
-spelled_or_not laws names rest text e rising a (faulty fault is line) = laws.never_both rest a.named fault a.is is
-spelled_or_not laws names rest text e rising a (strange named place is first) =
-    let same : a.named ≡ named = laws.one_event rest a.named named a.is is in
+pub spelled_or_not : (laws : EventLaws) (version : Version) (names : List (List ℕ)) (rest text : List ℕ) (e : Event) → IsRising name_cmp names → IsSpelled version names rest e → IsMisspelled version names rest text → ⊥
+spelled_or_not laws version names rest text e rising a (faulty fault is line) = laws.never_both version rest a.named fault a.is is
+spelled_or_not laws version names rest text e rising a (strange named place is first) =
+    let same : a.named ≡ named = laws.one_event version rest a.named named a.is is in
     none_strange names named e place rising (subst (λ (n : NamedEvent). IsResolved names n e) same a.resolved) first
 
-pub one_misspelling : (laws : EventLaws) (names : List (List ℕ)) (rest text other : List ℕ) → IsMisspelled names rest text → IsMisspelled names rest other → text ≡ other
-one_misspelling laws names rest text other (faulty fault is line) (faulty due it more) = one_fault_line fault due text other (laws.one_fault rest fault due is it) line more
-one_misspelling laws names rest text other (faulty fault is line) (strange named place it first) = absurd (laws.never_both rest named fault it is)
-one_misspelling laws names rest text other (strange named place it first) (faulty fault is line) = absurd (laws.never_both rest named fault it is)
-one_misspelling laws names rest text other (strange named place is first) (strange due there it second) =
-    let same : named ≡ due = laws.one_event rest named due is it in
+pub one_misspelling : (laws : EventLaws) (version : Version) (names : List (List ℕ)) (rest text other : List ℕ) → IsMisspelled version names rest text → IsMisspelled version names rest other → text ≡ other
+one_misspelling laws version names rest text other (faulty fault is line) (faulty due it more) = one_fault_line fault due text other (laws.one_fault version rest fault due is it) line more
+one_misspelling laws version names rest text other (faulty fault is line) (strange named place it first) = absurd (laws.never_both version rest named fault it is)
+one_misspelling laws version names rest text other (strange named place it first) (faulty fault is line) = absurd (laws.never_both version rest named fault it is)
+one_misspelling laws version names rest text other (strange named place is first) (strange due there it second) =
+    let same : named ≡ due = laws.one_event version rest named due is it in
     ap (refused_text F.UnknownReplica) (one_stranger names (names_in due) place there (subst (λ (n : NamedEvent). IsFirstStranger names (names_in n) place) same first) second)
 
 -- ---- lines

@@ -19,7 +19,7 @@ use Rattle.jc_rules.proofs.Listed.{rule_place, rule_at, rule_within, names_diffe
 use Rattle.jc_syntax.specs.declared.tree.Named.{Named}
 use Rattle.jc_syntax.specs.declared.tree.NamedEvent.{NamedEvent}
 use Rattle.jc_syntax.specs.declared.tree.NamedEvent.TheVariants as N
-use Rattle.jc_parser.specs.Calls.{executes, sends, receives, applies, ends}
+use Rattle.jc_parser.specs.Calls.{executes, sends, receives, takes, applies, ends}
 use Rattle.jc_scenario.specs.Resolved.{IsResolved, names_in, IsFirstStranger}
 use Rattle.jc_debug.specs.Session.{HasRule, IsLeast}
 use Rattle.jc_session.specs.Answers.{IsNamed, IsStrange, Knows}
@@ -200,6 +200,21 @@ by_two names x q s are known =
           ]
     ]
 
+by_three : (names : List (List ℕ)) (x : NamedEvent) (q s t : Named) → names_in x ≡ q ∷ s ∷ t ∷ [] → (AreNumbered names q.name → AreNumbered names s.name → AreNumbered names t.name → (event : Event) × IsResolved names x event) → Resolved names x
+by_three names x q s t are known =
+    elim (named_or_strange names q.name) [
+      | inr new ↦ inr (q.place, subst (λ (l : List Named). IsFirstStranger names l q.place) (sym are) (inl (new, refl)))
+      | inl (p, is) ↦
+          elim (named_or_strange names s.name) [
+            | inr new ↦ inr (s.place, subst (λ (l : List Named). IsFirstStranger names l s.place) (sym are) (inr (is_known names q.name p is, inl (new, refl))))
+            | inl (r, other) ↦
+                elim (named_or_strange names t.name) [
+                  | inl (i, third) ↦ inl (known (numbered names q.name p is) (numbered names s.name r other) (numbered names t.name i third))
+                  | inr new ↦ inr (t.place, subst (λ (l : List Named). IsFirstStranger names l t.place) (sym are) (inr (is_known names q.name p is, inr (is_known names s.name r other, inl (new, refl)))))
+                ]
+          ]
+    ]
+
 -- an event by names is one by numbers, or the first name that no replica has stands somewhere
 pub resolved_or_strange : (names : List (List ℕ)) (x : NamedEvent) → Resolved names x
 resolved_or_strange names (N.Exec q) = by_one names (N.Exec q) q refl (λ (p, inside, is). (E.Exec p, record { known = inside; called = ap executes is }))
@@ -208,6 +223,10 @@ resolved_or_strange names (N.Done q) = by_one names (N.Done q) q refl (λ (p, in
 resolved_or_strange names (N.Recv q s) =
     by_two names (N.Recv q s) q s refl
     (λ (p, inside, is) (r, within, other). (E.Recv p r, record { known = (inside, within); called = λ i. receives (is i) (other i) }))
+resolved_or_strange names (N.Take q s counter t) =
+    by_three names (N.Take q s counter t) q s t refl
+    (λ (p, inside, is) (r, within, other) (o, under, third).
+    (E.Take p r (record { counter = counter; replica = o }), record { known = (inside, within, under); called = λ i. takes (is i) (other i) counter (third i) }))
 resolved_or_strange names (N.Apply q counter s) =
     by_two names (N.Apply q counter s) q s refl
     (λ (p, inside, is) (r, within, other). (E.Apply p (record { counter = counter; replica = r }), record { known = (inside, within); called = λ i. applies (is i) counter (other i) }))

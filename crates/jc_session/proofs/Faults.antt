@@ -1,10 +1,12 @@
 -- No text has want of memory for its fault, so the fault of each has a number, a place and a line.
-use Rattle.std.proofs.Common.{◌≡◌, ◌≢◌, ℕ, ◌+◌, List, [], ◌∷◌, length, Bool, true, false, ◌==◌, nat_lt, if◌then◌else◌, Option, Some, None, Result, Ok, Err, inl, inr, refl, sym, subst, ◌∙◌}
+use Rattle.std.proofs.Common.{◌≡◌, ◌≢◌, ℕ, ◌+◌, List, [], ◌∷◌, length, Bool, true, false, ◌==◌, nat_lt, if◌then◌else◌, Option, Some, None, Result, Ok, Err, ◌⊎◌, inl, inr, refl, sym, subst, ◌∙◌}
 use Rattle.std.specs.Prelude.{slice_index}
 use Rattle.std.specs.Str.Lossy.{utf8_valid_len}
 use Rattle.jc_rules.specs.declared.refusal.Refusal.{Refusal}
 use Rattle.jc_rules.specs.declared.refusal.Refusal.TheVariants as F
 use Rattle.jc_rules.specs.Refusals.{number_of as refusal_number}
+use Rattle.jc_rules.specs.declared.version.Version.{Version}
+use Rattle.jc_rules.specs.declared.version.Version.TheVariants.{One, Two}
 use Rattle.jc_syntax.specs.declared.fault.LexFault.{LexFault}
 use Rattle.jc_syntax.specs.declared.fault.LexFault.TheVariants as L
 use Rattle.jc_syntax.specs.declared.token.TokenKind.{TokenKind}
@@ -19,8 +21,8 @@ use Rattle.jc_parser.specs.LanguageFaults.{IsExpressionExcess}
 use Rattle.jc_parser.specs.Reading.{Reading, reading, stuck_at}
 use Rattle.jc_parser.specs.Scripts.{IsNextExcess, IsScriptExcess}
 use Rattle.jc_parser.specs.Symbols.{Symbol, Lexeme, symbols}
-use Rattle.jc_parser.specs.Trees.{Part}
-use Rattle.jc_parser.specs.TreeFaults.{misfit_fault, IsNameFault, IsEventExcess, IsExcess, IsTreeFault}
+use Rattle.jc_parser.specs.Trees.{Part, given_head, schedule_head}
+use Rattle.jc_parser.specs.TreeFaults.{misfit_fault, IsNameFault, IsEventExcess, IsBlockExcess, IsGivenExcess, IsScheduleExcess, IsExcess, IsTreeFault}
 use Rattle.jc_dump.specs.Texts.{refused_text}
 use Rattle.jc_scenario.specs.Faults.{IsFault}
 use Rattle.jc_session.specs.Answers.{IsFaultLine}
@@ -132,8 +134,8 @@ stuck_told : (stop : ℕ) (after : List Lexeme) → stuck_at stop after ≢ S.Me
 stuck_told stop [] e = cc
 stuck_told stop (x ∷ xs) e = cc
 
-call_told : (fault : ScenarioFault) (xs : List Symbol) (after : List Lexeme) → IsCallExcess fault xs after → fault ≢ S.Memory
-call_told fault xs after h e = subst (λ (f : ScenarioFault). IsCallExcess f xs after) e h
+call_told : (version : Version) (fault : ScenarioFault) (xs : List Symbol) (after : List Lexeme) → IsCallExcess version fault xs after → fault ≢ S.Memory
+call_told version fault xs after h e = subst (λ (f : ScenarioFault). IsCallExcess version f xs after) e h
 
 expression_told : (fault : ScenarioFault) (xs : List Symbol) (after : List Lexeme) → IsExpressionExcess fault xs after → fault ≢ S.Memory
 expression_told fault xs after h e = subst (λ (f : ScenarioFault). IsExpressionExcess f xs after) e h
@@ -147,12 +149,12 @@ script_told fault xs after (inr (inl h)) = expression_told fault h.expression af
 script_told fault xs after (inr (inr h)) = expression_told fault (h.first ∷ h.expression) after h.excess
 
 -- the fault of a text that is no event
-pub event_told : (text : List ℕ) (fault : ScenarioFault) → IsEventFault text fault → fault ≢ S.Memory
-event_told text fault (inl (lexical, is, same)) = lexed_told text lexical fault is same
-event_told text fault (inr (tokens, are, stopped)) =
+pub event_told : (version : Version) (text : List ℕ) (fault : ScenarioFault) → IsEventFault version text fault → fault ≢ S.Memory
+event_told version text fault (inl (lexical, is, same)) = lexed_told text lexical fault is same
+event_told version text fault (inr (tokens, are, stopped)) =
     elim stopped.stops [
       | inl out ↦ λ e. stuck_told (length text) stopped.after (sym out.is ∙ e)
-      | inr excess ↦ call_told fault (symbols stopped.before) stopped.after excess
+      | inr excess ↦ call_told version fault (symbols stopped.before) stopped.after excess
     ]
 
 -- ---- scenarios
@@ -168,14 +170,25 @@ name_told parts name place fault (inl (reserved, is)) = λ e. (let no : S.Reserv
 name_told parts name place fault (inr (free, inl (same, is))) = λ e. (let no : S.SameName place ≡ S.Memory = sym is ∙ e in cc)
 name_told parts name place fault (inr (free, inr (new, full, is))) = λ e. (let no : S.TooManyReplicas place ≡ S.Memory = sym is ∙ e in cc)
 
-one_event_told : (n : ℕ) (fault : ScenarioFault) (xs : List Symbol) (after : List Lexeme) → IsEventExcess n fault xs after → fault ≢ S.Memory
-one_event_told n fault xs after (inl h) = λ e. (let no : S.TooManyEvents h.2.place ≡ S.Memory = sym h.7 ∙ e in cc)
-one_event_told n fault xs after (inr (few, h)) = call_told fault xs after h
+one_event_told : (version : Version) (n : ℕ) (fault : ScenarioFault) (xs : List Symbol) (after : List Lexeme) → IsEventExcess version n fault xs after → fault ≢ S.Memory
+one_event_told version n fault xs after (inl h) = λ e. (let no : S.TooManyEvents h.2.place ≡ S.Memory = sym h.7 ∙ e in cc)
+one_event_told version n fault xs after (inr (few, h)) = call_told version fault xs after h
+
+block_told : (head : List Symbol) (version : Version) (fault : ScenarioFault) (xs : List Symbol) (after : List Lexeme) → IsBlockExcess head version fault xs after → fault ≢ S.Memory
+block_told head version fault xs after h = one_event_told version (length h.calls) fault h.event after h.excess
+
+given_told : (version : Version) (fault : ScenarioFault) (xs : List Symbol) (after : List Lexeme) → IsGivenExcess version fault xs after → fault ≢ S.Memory
+given_told One fault xs after h = absurd h
+given_told Two fault xs after h = block_told given_head Two fault xs after h
+
+events_told : (version : Version) (fault : ScenarioFault) (xs : List Symbol) (after : List Lexeme) → IsGivenExcess version fault xs after ⊎ IsScheduleExcess version fault xs after → fault ≢ S.Memory
+events_told version fault xs after (inl h) = given_told version fault xs after h
+events_told version fault xs after (inr h) = block_told schedule_head version fault h.schedule after h.excess
 
 excess_told : (fault : ScenarioFault) (xs : List Symbol) (after : List Lexeme) → IsExcess fault xs after → fault ≢ S.Memory
 excess_told fault xs after (inl (next, rest, is, h)) = name_told h.parts h.name next.place fault h.which
 excess_told fault xs after (inr (inl h)) = script_told fault h.script after h.excess
-excess_told fault xs after (inr (inr h)) = one_event_told (length h.calls) fault h.event after h.excess
+excess_told fault xs after (inr (inr h)) = events_told h.version fault h.blocks after h.excess
 
 tree_told : (r : Reading) (fault : ScenarioFault) → IsTreeFault r fault → fault ≢ S.Memory
 tree_told r fault h =

@@ -12,9 +12,10 @@ use Rattle.jc_rules.specs.State.{State}
 use Rattle.jc_rules.proofs.Listed.{names_differ}
 use Rattle.jc_rules.proofs.Versions.{stuck_in_has_none, one_stuck_in}
 use Rattle.jc_network.specs.Enabled.{AreChosen, no_more, chosen, left_out, AreEnabled, IsNotStuck, IsAnyStuck, candidates}
+use Rattle.jc_network.specs.Given.{bare, IsStart, IsGivenStuck, OneStart, OneGivenStuck, LedOrStuck}
 use Rattle.jc_dump.specs.Dump.{dump_line}
 use Rattle.jc_dump.specs.Lines.{stuck_text}
-use Rattle.jc_dump.specs.Texts.{block_text, dumps_text}
+use Rattle.jc_dump.specs.Texts.{block_text, dumps_text, given_text}
 use Rattle.jc_debug.specs.declared.breaks.Break.{Break}
 use Rattle.jc_debug.specs.declared.breaks.Break.TheVariants as Kind
 use Rattle.jc_debug.specs.Session.{Session, IsAt, Makes, StuckEvent, Goes, Outcome, Runs, moved, placed, begun}
@@ -28,6 +29,7 @@ use Rattle.jc_session.specs.Laws.{OneSession}
 use Rattle.jc_session.specs.Lines.{Line}
 use Rattle.jc_session.specs.Requests as Q
 use Rattle.jc_session.specs.Requests.{Request, nothing, asks, bad, meaning}
+use Rattle.jc_session.specs.Shown as H
 use Rattle.jc_session.specs.Shown.{Answers, End, finished, text_refused, Ends, at_the_end, at_quit, Talks, refused, talks}
 use Rattle.jc_session.specs.Texts.{refusal_line, at_line, set_line, cleared_line, went_text, ran_text, event_lines, or_none}
 use Rattle.jc_session.proofs.Alone.{one_named, one_fault_line, EventLaws, one_spelled, spelled_or_not, one_misspelling, one_within}
@@ -163,11 +165,11 @@ one_reply laws O A q rising B t (N.goes_to le goes) C u (N.goes_past lt) = absur
 one_reply laws O A q rising B t (N.goes_past lt) C u (N.goes_to le goes) = absurd (omega (arith, le, lt))
 one_reply laws O A q rising B t (N.goes_past lt) C u (N.goes_past less) = (refl, refl)
 one_reply laws O A q rising B t (N.acts {rest} e spelled a) C u (N.acts f spelled_too b) =
-    let event : e ≡ f = one_spelled laws O.names rest e f rising spelled spelled_too in
+    let event : e ≡ f = one_spelled laws O.start.version O.names rest e f rising spelled spelled_too in
     acts_once O A B C f t u (subst (λ (x : Event). Acts O A x B t) event a) b
-one_reply laws O A q rising B t (N.acts {rest} e spelled a) C u (N.acts_misspelled m) = absurd (spelled_or_not laws O.names rest u e rising spelled m)
-one_reply laws O A q rising B t (N.acts_misspelled {rest} m) C u (N.acts e spelled a) = absurd (spelled_or_not laws O.names rest t e rising spelled m)
-one_reply laws O A q rising B t (N.acts_misspelled {rest} m) C u (N.acts_misspelled n) = (refl, one_misspelling laws O.names rest t u m n)
+one_reply laws O A q rising B t (N.acts {rest} e spelled a) C u (N.acts_misspelled m) = absurd (spelled_or_not laws O.start.version O.names rest u e rising spelled m)
+one_reply laws O A q rising B t (N.acts_misspelled {rest} m) C u (N.acts e spelled a) = absurd (spelled_or_not laws O.start.version O.names rest t e rising spelled m)
+one_reply laws O A q rising B t (N.acts_misspelled {rest} m) C u (N.acts_misspelled n) = (refl, one_misspelling laws O.start.version O.names rest t u m n)
 one_reply laws O A q rising B t (N.runs {n} {end} lt runs) C u (N.runs {n = m} {end = other} less moves) = ran_once O A n m end other runs moves
 one_reply laws O A q rising B t (N.runs lt runs) C u (N.runs_past is) = absurd (omega (arith, lt, is))
 one_reply laws O A q rising B t (N.runs_past is) C u (N.runs lt runs) = absurd (omega (arith, lt, is))
@@ -278,12 +280,45 @@ one_ending laws O A bytes t u end other rising a b =
     let s = rest_of b.lines b.due other b.due_end b.ends in
     one_talk laws O A a.last b.last a.lines b.lines r.0 s.0 b.due_end end other t u rising (sym r.1 ∙ due.0 ∙ s.1) (subst (λ (x : End). Rest x r.0 end) due.1 r.2) s.2 a.answers b.answers
 
-pub one_session : EventLaws → OneScenario → OneFault → ScenarioOrFault → ScenariosAreWellFormed → OneSession
-one_session laws one_scenario one_fault never_both formed b l t u end other (refused fault is line) (refused due it more) =
+-- what is said of the start of a scenario
+pub record StartLaws : Type 0 where
+  pub one_start : OneStart
+  pub one_given_stuck : OneGivenStuck
+  pub led_or_stuck : LedOrStuck
+
+-- the given events of one scenario are stuck once
+one_stuck : (starts : StartLaws) (s r : Scenario) (at n : ℕ) (event other : Event) (why due : Cause) → s ≡ r → IsGivenStuck (bare s) s.given at event why → IsGivenStuck (bare r) r.given n other due → given_text s.names at why event ≡ given_text r.names n due other
+one_stuck starts s r at n event other why due same g h =
+    let here = subst (λ (x : Scenario). IsGivenStuck (bare x) x.given at event why) same g in
+    let one = starts.one_given_stuck (bare r) r.given at n event other why due here h in
+    λ i. given_text (same i).names (one.0 i) (one.2 i) (one.1 i)
+
+-- and not where there is a start
+started_or_stuck : (starts : StartLaws) (s r : Scenario) (start : Network) (at : ℕ) (event : Event) (why : Cause) → s ≡ r → IsStart s start → IsGivenStuck (bare r) r.given at event why → ⊥
+started_or_stuck starts s r start at event why same is g =
+    (starts.led_or_stuck r.scripts (bare r) r.given ([], refl)).1 start at event why (subst (λ (x : Scenario). IsStart x start) same is) g
+
+-- the talk of one scenario goes on from its one start
+same_talk : (starts : StartLaws) (s r : Scenario) (start other : Network) (l t : List ℕ) (end : End) → s ≡ r → IsStart s start → IsStart r other → Talks (origin_of s start) (begun s.schedule) l t end → Talks (origin_of r other) (begun r.schedule) l t end
+same_talk starts s r start other l t end same is it a =
+    let one : start ≡ other = starts.one_start r start other (subst (λ (x : Scenario). IsStart x start) same is) it in
+    subst (λ (N : Network). Talks (origin_of r N) (begun r.schedule) l t end) one
+    (subst (λ (x : Scenario). Talks (origin_of x start) (begun x.schedule) l t end) same a)
+
+pub one_session : EventLaws → StartLaws → OneScenario → OneFault → ScenarioOrFault → ScenariosAreWellFormed → OneSession
+one_session laws starts one_scenario one_fault never_both formed b l t u end other (refused fault is line) (refused due it more) =
     let same : fault ≡ due = one_fault b fault due is it in
     (one_fault_line fault due t u same line more, ap text_refused same)
-one_session laws one_scenario one_fault never_both formed b l t u end other (refused fault is line) (talks s is_scenario a) = absurd (never_both b s fault is_scenario is)
-one_session laws one_scenario one_fault never_both formed b l t u end other (talks s is_scenario a) (refused fault is line) = absurd (never_both b s fault is_scenario is)
-one_session laws one_scenario one_fault never_both formed b l t u end other (talks s is a) (talks r it c) =
-    let same : s ≡ r = one_scenario b s r is it in
-    one_ending laws (origin_of r) (begun r.schedule) l t u end other (formed b r it).rising (subst (λ (x : Scenario). Talks (origin_of x) (begun x.schedule) l t end) same a) c
+one_session laws starts one_scenario one_fault never_both formed b l t u end other (refused fault is line) (H.stuck s at event why it g) = absurd (never_both b s fault it is)
+one_session laws starts one_scenario one_fault never_both formed b l t u end other (refused fault is line) (talks s start it begins a) = absurd (never_both b s fault it is)
+one_session laws starts one_scenario one_fault never_both formed b l t u end other (H.stuck s at event why is g) (refused fault it line) = absurd (never_both b s fault is it)
+one_session laws starts one_scenario one_fault never_both formed b l t u end other (H.stuck s at event why is g) (H.stuck r n next due it h) =
+    (one_stuck starts s r at n event next why due (one_scenario b s r is it) g h, refl)
+one_session laws starts one_scenario one_fault never_both formed b l t u end other (H.stuck s at event why is g) (talks r start it begins a) =
+    absurd (started_or_stuck starts r s start at event why (one_scenario b r s it is) begins g)
+one_session laws starts one_scenario one_fault never_both formed b l t u end other (talks s start is begins a) (refused fault it line) = absurd (never_both b s fault is it)
+one_session laws starts one_scenario one_fault never_both formed b l t u end other (talks s start is begins a) (H.stuck r at event why it g) =
+    absurd (started_or_stuck starts s r start at event why (one_scenario b s r is it) begins g)
+one_session laws starts one_scenario one_fault never_both formed b l t u end other (talks s start is begins a) (talks r from it begins_too c) =
+    one_ending laws (origin_of r from) (begun r.schedule) l t u end other (formed b r it).rising
+    (same_talk starts s r start from l t end (one_scenario b s r is it) begins begins_too a) c

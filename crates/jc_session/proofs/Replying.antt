@@ -241,7 +241,7 @@ ran_named d e net s all same r =
 
 -- ---- events of a line
 
-pub reply_act : (d e : Seen) (rest text : List ℕ) (event : Event) (m : ℕ) → IsSpelled d.net.names rest event → IsOnTrail e → IsActed d e event → m ≡ length e.traces → text ≡ at_line m → Gives d (Q.act rest) e text
+pub reply_act : (d e : Seen) (rest text : List ℕ) (event : Event) (m : ℕ) → IsSpelled (start_of d).version d.net.names rest event → IsOnTrail e → IsActed d e event → m ≡ length e.traces → text ≡ at_line m → Gives d (Q.act rest) e text
 reply_act d e rest text event m spelled trail a at h =
     let position : length e.traces ≡ length d.traces + 1 = ap (λ (S : Session). S.position) a.session in
     let within = trail.within in
@@ -254,11 +254,11 @@ reply_act d e rest text event m spelled trail a at h =
       origin = λ i. record { names = a.names i; start = a.start i };
     }
 
-pub reply_act_full : (d e : Seen) (rest text : List ℕ) (event : Event) → IsSpelled d.net.names rest event → length d.traces ≡ 100000 → e ≡ d → text ≡ refusal_line F.TooManyEvents → Gives d (Q.act rest) e text
+pub reply_act_full : (d e : Seen) (rest text : List ℕ) (event : Event) → IsSpelled (start_of d).version d.net.names rest event → length d.traces ≡ 100000 → e ≡ d → text ≡ refusal_line F.TooManyEvents → Gives d (Q.act rest) e text
 reply_act_full d e rest text event spelled full same h =
     gives_same d e (Q.act rest) text same (same_text (origin_in d) (session_of d) (session_of d) (Q.act rest) (refusal_line F.TooManyEvents) text h (A.acts event spelled (A.full full)))
 
-pub act_full : (d e : Seen) (rest text : List ℕ) (event : Event) (fault : ActFault) → IsSpelled d.net.names rest event → fault ≡ AF.TooManyEvents → IsActFault d event fault → e ≡ d → text ≡ refusal_line F.TooManyEvents → Gives d (Q.act rest) e text
+pub act_full : (d e : Seen) (rest text : List ℕ) (event : Event) (fault : ActFault) → IsSpelled (start_of d).version d.net.names rest event → fault ≡ AF.TooManyEvents → IsActFault d event fault → e ≡ d → text ≡ refusal_line F.TooManyEvents → Gives d (Q.act rest) e text
 act_full d e rest text event fault spelled is h same due = reply_act_full d e rest text event spelled (subst (λ (f : ActFault). IsActFault d event f) is h) same due
 
 pub act_stuck_here : (d : Seen) (event : Event) (fault : ActFault) (s : Stuck) → fault ≡ AF.Stuck s → IsActFault d event fault → IsStuckHere d event s
@@ -276,13 +276,21 @@ acted_named d e event net s named same net_is here =
     let names : d.net.names ≡ net.names = sym (ap (λ (c : Course). c.names) net_is ∙ ap (λ (v : Seen). v.net.names) same) in
     record { why = here.stuck.why; event = event; is = here.stuck.is; named = subst (λ (ns : List (List ℕ)). AreNamed event (length ns)) names named }
 
-pub spelled_in : (d : Seen) (net : Course) (names : List (List ℕ)) (rest : List ℕ) (event : Event) → net ≡ d.net → names ≡ net.names → IsSpelled names rest event → IsSpelled d.net.names rest event
-spelled_in d net names rest event same is h = subst (λ (ns : List (List ℕ)). IsSpelled ns rest event) (is ∙ ap (λ (c : Course). c.names) same) h
+-- the version of the network at the position is that of the first
+same_version : (d : Seen) (net : Course) (version : Version) → version ≡ net.network.version → IsAt (start_of d) d.schedule (length d.traces) net.network → version ≡ (start_of d).version
+same_version d net version is at = is ∙ after_version (start_of d) (take (length d.traces) d.schedule) net.network at.after
 
-pub reply_misspelled : (d : Seen) (net : Course) (names : List (List ℕ)) (rest text : List ℕ) → net ≡ d.net → names ≡ net.names → A.IsMisspelled names rest text → Gives d (Q.act rest) d text
-reply_misspelled d net names rest text same is h = record { replies = A.acts_misspelled (subst (λ (ns : List (List ℕ)). A.IsMisspelled ns rest text) (is ∙ ap (λ (c : Course). c.names) same) h); origin = refl }
+pub spelled_in : (d : Seen) (net : Course) (version : Version) (names : List (List ℕ)) (rest : List ℕ) (event : Event) → version ≡ net.network.version → IsAt (start_of d) d.schedule (length d.traces) net.network → net ≡ d.net → names ≡ net.names → IsSpelled version names rest event → IsSpelled (start_of d).version d.net.names rest event
+spelled_in d net version names rest event of at same is h =
+    subst (λ (v : Version). IsSpelled v d.net.names rest event) (same_version d net version of at)
+    (subst (λ (ns : List (List ℕ)). IsSpelled version ns rest event) (is ∙ ap (λ (c : Course). c.names) same) h)
 
-pub reply_act_stuck : (d e : Seen) (rest text : List ℕ) (event : Event) (m : ℕ) (net : Course) (s : Stuck) → IsSpelled d.net.names rest event → IsOnTrail e → (length d.traces ≡ 100000 → ⊥) → e ≡ d → IsStuckHere d event s → m ≡ length e.traces → net ≡ e.net → TellsStuck m net s text → Gives d (Q.act rest) e text
+pub reply_misspelled : (d : Seen) (net : Course) (version : Version) (names : List (List ℕ)) (rest text : List ℕ) → version ≡ net.network.version → IsAt (start_of d) d.schedule (length d.traces) net.network → net ≡ d.net → names ≡ net.names → A.IsMisspelled version names rest text → Gives d (Q.act rest) d text
+reply_misspelled d net version names rest text of at same is h =
+    let named = subst (λ (ns : List (List ℕ)). A.IsMisspelled version ns rest text) (is ∙ ap (λ (c : Course). c.names) same) h in
+    record { replies = A.acts_misspelled (subst (λ (v : Version). A.IsMisspelled v d.net.names rest text) (same_version d net version of at) named); origin = refl }
+
+pub reply_act_stuck : (d e : Seen) (rest text : List ℕ) (event : Event) (m : ℕ) (net : Course) (s : Stuck) → IsSpelled (start_of d).version d.net.names rest event → IsOnTrail e → (length d.traces ≡ 100000 → ⊥) → e ≡ d → IsStuckHere d event s → m ≡ length e.traces → net ≡ e.net → TellsStuck m net s text → Gives d (Q.act rest) e text
 reply_act_stuck d e rest text event m net s spelled trail other same here at net_is told =
     let why = here.stuck.why in
     let number : m ≡ length d.traces = at ∙ ap (λ (v : Seen). length v.traces) same in
@@ -317,10 +325,6 @@ reply_set d e b (Err B.NoSuchReplica) text is other h = absurd (other refl)
 
 pub reply_break_at : (d e : Seen) (n : ℕ) (r : Result ℕ BreakFault) (text : List ℕ) → IsSet d e (Kind.Position n) r → r ≢ Err B.NoSuchReplica → text ≡ set_text r → Gives d (Q.break_at n) e text
 reply_break_at d e n r text set other h = let s = reply_set d e (Kind.Position n) r text set other h in record { replies = A.breaks_at s.0; origin = s.1 }
-
--- the version of the network at the position is that of the first
-same_version : (d : Seen) (net : Course) (version : Version) → version ≡ net.network.version → IsAt (start_of d) d.schedule (length d.traces) net.network → version ≡ (start_of d).version
-same_version d net version is at = is ∙ after_version (start_of d) (take (length d.traces) d.schedule) net.network at.after
 
 pub known_here : (d : Seen) (net : Course) (version : Version) (rule : Rule) → version ≡ net.network.version → IsAt (start_of d) d.schedule (length d.traces) net.network → Knows rule version → Knows rule (start_of d).version
 known_here d net version rule is at known = subst (Knows rule) (same_version d net version is at) known

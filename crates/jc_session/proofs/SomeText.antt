@@ -1,7 +1,9 @@
 -- Each scenario's bytes and each bytes of lines have a text.
 use Rattle.std.proofs.Common.{◌≡◌, ◌⊎◌, inl, inr, ℕ, List, [], ◌∷◌, ◌++◌, length, take, map, nat_le, ◌&&◌, if◌then◌else◌, refl, ap, ◌∙◌, arith}
 use Rattle.jc_rules.specs.declared.refusal.Refusal.TheVariants as F
-use Rattle.jc_network.specs.Course.{started}
+use Rattle.jc_rules.specs.Step.{Network}
+use Rattle.jc_network.specs.Given.{bare, IsStart, LedOrStuck}
+use Rattle.jc_dump.specs.Texts.{given_text}
 use Rattle.jc_debug.specs.Session.{Session, begun}
 use Rattle.jc_scenario.specs.Laws.{ScenarioElseFault, ScenariosAreWellFormed}
 use Rattle.jc_scenario.specs.Scenarios.{Scenario, IsWellFormed}
@@ -11,7 +13,7 @@ use Rattle.jc_session.specs.Laws.{SessionHasAText}
 use Rattle.jc_session.specs.Lines.{Line, whole_line, last_line}
 use Rattle.jc_session.specs.Requests as Q
 use Rattle.jc_session.specs.Requests.{Request, Meaning, nothing, asks, bad, meaning}
-use Rattle.jc_session.specs.Shown.{Answers, End, finished, too_many, text_refused, Ends, at_the_end, at_quit, AreWithin, Talks, refused, talks}
+use Rattle.jc_session.specs.Shown.{Answers, End, finished, too_many, text_refused, given_stuck, Ends, at_the_end, at_quit, AreWithin, Talks, refused, stuck, talks}
 use Rattle.jc_session.specs.Texts.{refusal_line}
 use Rattle.jc_session.proofs.Due.{lines_of}
 use Rattle.jc_session.proofs.Faults.{fault_line, fault_told}
@@ -31,37 +33,37 @@ some_within m k bytes =
 -- ---- answers
 
 -- the line is `quit`, or has an answer
-data Turn (s : Scenario) (A : Session) (x : Line) : Type 0 where
-  quits : meaning x ≡ asks Q.quit → Turn s A x
-  goes_on : (M : Session) (text : List ℕ) → IsGood s M → Answer (origin_of s) A x M text → Turn s A x
+data Turn (s : Scenario) (start : Network) (A : Session) (x : Line) : Type 0 where
+  quits : meaning x ≡ asks Q.quit → Turn s start A x
+  goes_on : (M : Session) (text : List ℕ) → IsGood start M → Answer (origin_of s start) A x M text → Turn s start A x
 
 -- the lines that are due are answered, up to a `quit` if there is one
-record Talked (s : Scenario) (A : Session) (due : List Line) (due_end : End) : Type 0 where
+record Talked (s : Scenario) (start : Network) (A : Session) (due : List Line) (due_end : End) : Type 0 where
   lines : List Line
   end : End
   ends : Ends lines end due due_end
   last : Session
   text : List ℕ
-  answers : Answers (origin_of s) A lines last text
+  answers : Answers (origin_of s start) A lines last text
 
 ends_more : (x : Line) (lines due : List Line) (end due_end : End) → Ends lines end due due_end → Ends (x ∷ lines) end (x ∷ due) due_end
 ends_more x lines due end due_end at_the_end = at_the_end
 ends_more x lines due end due_end (at_quit y more is q) = at_quit y more (ap (λ (l : List Line). x ∷ l) is) q
 
-module _ (laws : ReplyLaws) (s : Scenario) (formed : IsWellFormed s) where
-  turn : (A : Session) → IsGood s A → (x : Line) → Turn s A x
+module _ (laws : ReplyLaws) (s : Scenario) (start : Network) (begins : IsStart s start) (formed : IsWellFormed s) where
+  turn : (A : Session) → IsGood start A → (x : Line) → Turn s start A x
   turn A good x = by_meaning (meaning x) refl
     where
-      by_reply : (q : Request) → meaning x ≡ asks q → (q ≡ Q.quit) ⊎ Replied s A q → Turn s A x
+      by_reply : (q : Request) → meaning x ≡ asks q → (q ≡ Q.quit) ⊎ Replied s start A q → Turn s start A x
       by_reply q e (inl same) = quits (e ∙ ap asks same)
       by_reply q e (inr r) = goes_on r.after r.text r.good (N.replies q e r.replies)
 
-      by_meaning : (m : Meaning) → meaning x ≡ m → Turn s A x
+      by_meaning : (m : Meaning) → meaning x ≡ m → Turn s start A x
       by_meaning nothing e = goes_on A [] good (N.empty e)
       by_meaning bad e = goes_on A (refusal_line F.BadLine) good (N.refused e)
-      by_meaning (asks q) e = by_reply q e (some_reply laws s formed A good q)
+      by_meaning (asks q) e = by_reply q e (some_reply laws s start begins formed A good q)
 
-  talked : (due : List Line) (due_end : End) (A : Session) → IsGood s A → Talked s A due due_end
+  talked : (due : List Line) (due_end : End) (A : Session) → IsGood start A → Talked s start A due due_end
   talked [] due_end A good = record { lines = []; end = due_end; ends = at_the_end; last = A; text = []; answers = (refl, refl) }
   talked (x ∷ due) due_end A good =
       elim (turn A good x) [
@@ -79,18 +81,22 @@ module _ (laws : ReplyLaws) (s : Scenario) (formed : IsWellFormed s) where
       ]
 
   -- at the start of the schedule
-  good_start : IsGood s (begun s.schedule)
-  good_start = record { short = formed.short; network = (started s).network; is_at = record { within = omega arith; after = refl } }
+  good_start : IsGood start (begun s.schedule)
+  good_start = record { short = formed.short; network = start; is_at = record { within = omega arith; after = refl } }
 
-  some_talk : (bytes : List ℕ) → (text : List ℕ) × (end : End) × Talks (origin_of s) (begun s.schedule) bytes text end
+  some_talk : (bytes : List ℕ) → (text : List ℕ) × (end : End) × Talks (origin_of s start) (begun s.schedule) bytes text end
   some_talk bytes =
       let (due, due_end, are_due) = some_within 67108864 1000000 bytes in
       let t = talked due due_end (begun s.schedule) good_start in
       (t.text, t.end, record { due = due; due_end = due_end; are_due = are_due; lines = t.lines; ends = t.ends; last = t.last; answers = t.answers })
 
-pub session_has_a_text : ReplyLaws → ScenarioElseFault → ScenariosAreWellFormed → SessionHasAText
-session_has_a_text laws either formed b l =
+pub session_has_a_text : ReplyLaws → ScenarioElseFault → ScenariosAreWellFormed → LedOrStuck → SessionHasAText
+session_has_a_text laws either formed led b l =
     elim (either b) [
-      | inl (s, is) ↦ let (text, end, t) = some_talk laws s (formed b s is) l in (text, end, talks s is t)
+      | inl (s, is) ↦
+          elim ((led s.scripts (bare s) s.given ([], refl)).0) [
+            | inl (start, begins) ↦ let (text, end, t) = some_talk laws s start begins (formed b s is) l in (text, end, talks s start is begins t)
+            | inr (at, event, why, g) ↦ (given_text s.names at why event, given_stuck, stuck s at event why is g)
+          ]
       | inr (fault, is) ↦ let (text, line) = fault_line fault (fault_told b fault is) in (text, text_refused fault, refused fault is line)
     ]

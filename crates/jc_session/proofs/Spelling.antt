@@ -1,6 +1,7 @@
 -- Lines of faults, and what the rest of an `act` line spells.
 use Rattle.std.proofs.Common.{◌≡◌, ◌≢◌, ℕ, List, Option, None, Some, refl, ap, sym, subst, ◌∙◌, IfSome}
 use Rattle.jc_rules.specs.declared.refusal.Refusal.TheVariants as F
+use Rattle.jc_rules.specs.declared.version.Version.{Version}
 use Rattle.jc_parser.specs.declared.fault.ScenarioFault.{ScenarioFault}
 use Rattle.jc_parser.specs.declared.fault.ScenarioFault.TheVariants as S
 use Rattle.jc_parser.specs.declared.parse_fault.ParseFault.{ParseFault}
@@ -43,7 +44,7 @@ line_of_fault fault number place text e f h = record { refusal = h.refusal; plac
 pub not_memory : (fault : ScenarioFault) (text : List ℕ) → IsFaultLine fault text → fault ≢ S.Memory
 not_memory fault text h same = let none : None ≡ Some _ = sym (ap number_of same) ∙ h.is_number in cc
 
-pub misspelled : (names : List (List ℕ)) (rest text : List ℕ) (fault : ParseFault) (number place : Option ℕ) → number ≡ number_of (from_sentence fault) → place ≡ place_of (from_sentence fault) → (fault ≢ P.Memory → IsEventFault rest (from_sentence fault)) → IsRefusalAt number place text → IsMisspelled names rest text
-misspelled names rest text fault number place e f h r =
+pub misspelled : (version : Version) (names : List (List ℕ)) (rest text : List ℕ) (fault : ParseFault) (number place : Option ℕ) → number ≡ number_of (from_sentence fault) → place ≡ place_of (from_sentence fault) → (fault ≢ P.Memory → IsEventFault version rest (from_sentence fault)) → IsRefusalAt number place text → IsMisspelled version names rest text
+misspelled version names rest text fault number place e f h r =
     let line = line_of_fault (from_sentence fault) number place text e f r in
     faulty (from_sentence fault) (h (λ same. not_memory (from_sentence fault) text line (ap from_sentence same))) line

@@ -3,6 +3,7 @@
 ghost use Rattle.std.specs.Prelude.{◌≡◌, ◌≢◌, ◌↔◌, ◌++◌, ◌≤◌, ◌<◌, ℕ, List, Option, IfOk, IfSome, IfNone, IsTrue, MatchOption, length, string_bytes};
 ghost use Rattle.jc_rules.specs.declared.operation.Event.{Event as AnyEvent};
 ghost use Rattle.jc_rules.specs.declared.rule.Rule.{Rule as AnyRule};
+ghost use Rattle.jc_rules.specs.declared.version.Version.{Version as AnyVersion};
 ghost use Rattle.jc_rules.specs.Refused.{Cause};
 ghost use Rattle.jc_rules.specs.RuleNames.{rule_name};
 ghost use Rattle.jc_network.specs.Makes.{stuck_for};
@@ -130,11 +131,16 @@ pub fn fault_line(
     refused_text(alloc, refusal, place)
 }
 
-fn event_of(alloc: Global, names: &[Text], rest: &str) -> Result<Spelling, AllocError>
+fn event_of(
+    alloc: Global,
+    version: Version,
+    names: &[Text],
+    rest: &str,
+) -> Result<Spelling, AllocError>
     requires { length names.now ≤ 64 }
-    ensures { IfOk result (λ spelling. Spells names.now rest.now spelling) }
+    ensures { IfOk result (λ spelling. Spells version names.now rest.now spelling) }
 {
-    match parse_event(alloc, rest) {
+    match parse_event(alloc, version, rest) {
         Ok(named) => resolved(alloc, names, &named),
         Err(fault) => {
             let line = fault_line(alloc, fault.number(), fault.place())?;
@@ -147,7 +153,9 @@ fn event_of(alloc: Global, names: &[Text], rest: &str) -> Result<Spelling, Alloc
 fn resolved(alloc: Global, names: &[Text], named: &NamedEvent) -> Result<Spelling, AllocError>
     requires { length names.now ≤ 64 }
     ensures { IfOk result (λ spelling.
-        (text : List ℕ) → IsEventOf text named.now → Spells names.now text spelling) }
+        (version : AnyVersion) (text : List ℕ)
+        → IsEventOf version text named.now
+        → Spells version names.now text spelling) }
 {
     match resolve(names, named) {
         Ok(event) => Ok(Spelling::Event(event)),
@@ -161,7 +169,8 @@ fn resolved(alloc: Global, names: &[Text], named: &NamedEvent) -> Result<Spellin
 fn act(alloc: Global, debugger: &mut Debugger, rest: &str) -> Result<String, AllocError>
     ensures { IfOk result (λ text. Gives debugger.old (Q.act rest.now) debugger.new (string_bytes text)) }
 {
-    let event = match event_of(alloc, debugger.net().names(), rest)? {
+    let net = debugger.net();
+    let event = match event_of(alloc, net.version(), net.names(), rest)? {
         Spelling::Event(event) => event,
         Spelling::Refused(line) => return Ok(line),
     };

@@ -15,6 +15,9 @@ pub fn one_session()
     scenarios::one_fault();
     scenarios::scenario_or_fault();
     scenarios::scenarios_are_well_formed();
+    networks::one_start();
+    networks::one_given_stuck();
+    networks::led_or_stuck();
     sentences::one_event();
     sentences::one_event_fault();
     sentences::event_or_fault();
@@ -27,6 +30,7 @@ pub fn session_has_a_text()
     scenarios::scenario_else_fault();
     scenarios::scenarios_are_well_formed();
     sentences::event_else_fault();
+    networks::led_or_stuck();
     networks::step_or_stuck();
     meanings::trees_converge();
 }

@@ -3,7 +3,11 @@
 ghost use Rattle.std.specs.Prelude.{◌≡◌, ◌≢◌, ℕ, ◌+◌, ◌<◌, ◌⊎◌, List, Ok, true, false, IfErr, OnOk, OnErr, IsErrOf, IfOk};
 ghost use Rattle.jc_parser.specs.declared.fault.ScenarioFault.{ScenarioFault as TextFault};
 ghost use Rattle.jc_parser.specs.declared.fault.ScenarioFault.TheVariants as T;
-ghost use Rattle.jc_scenario.specs.Scenarios.{Scenario, IsScenario};
+ghost use Rattle.jc_rules.specs.declared.operation.Event.{Event as AnyEvent};
+ghost use Rattle.jc_rules.specs.Refused.{Cause};
+ghost use Rattle.jc_network.specs.Makes.{stuck_for};
+ghost use Rattle.jc_dump.specs.Lines.{IsNamedStuck};
+ghost use Rattle.jc_dump.specs.Texts.{given_text};
 ghost use Rattle.jc_debug.specs.Session.{begun};
 ghost use Rattle.jc_debug.specs.Trail.{session_of};
 ghost use Rattle.jc_session.specs.Answers.{origin_of, IsFaultLine};
@@ -18,8 +22,11 @@ ghost use Rattle.jc_session.specs.Written.{sink, Wrote, Interrupted, Written};
 use crate::answers::{answer, fault_line};
 use crate::lines::{Lines, Next};
 use jc_debug::Debugger;
+use jc_dump::given_text;
+use jc_network::{StartFault, Stuck};
 use jc_rules::io::{Failed, Sink, Source, write_all};
-use jc_scenario::{ScenarioFault, read};
+use jc_rules::{Text, Version};
+use jc_scenario::{Scenario, ScenarioFault, copy_names, read};
 use std::alloc::{AllocError, Global};
 
 /// How a session ended.
@@ -171,6 +178,36 @@ fn refuse<K: Sink>(alloc: Global, fault: &ScenarioFault, out: &mut K) -> Result<
     send(out, line.as_str())
 }
 
+/// Writes the lines of a given event that is stuck, by its number from 1 and the names of replicas.
+fn show_stuck<K: Sink>(
+    alloc: Global,
+    names: Vec<Text>,
+    at: u64,
+    stuck: &Stuck,
+    out: &mut K,
+) -> Result<(), SessionFault>
+    requires { IsNamedStuck names.items stuck.now }
+    ensures ok { OnOk result ((why : Cause) (event : AnyEvent)
+        → stuck.now ≡ stuck_for why event
+        → Wrote (given_text names.items at why event) (sink K.Sink out.old) (sink K.Sink out.new)) }
+    ensures memory { IsErrOf result SessionFault.Memory → out.new ≡ out.old }
+    ensures write { IsErrOf result SessionFault.WriteFailed → (why : Cause) (event : AnyEvent)
+        → stuck.now ≡ stuck_for why event
+        → Interrupted (given_text names.items at why event) (sink K.Sink out.old) (sink K.Sink out.new) }
+    ensures kind { IfErr result IsOfAnswer }
+{
+    // The lines take nothing but the names of a scenario.
+    let named = Scenario {
+        version: Version::One,
+        names,
+        scripts: Vec::new(alloc),
+        given: Vec::new(alloc),
+        schedule: Vec::new(alloc),
+    };
+    let text = given_text(alloc, &named, at, stuck)?;
+    send(out, text.as_str())
+}
+
 /// A session: reads the scenario, and answers the lines one by one, each before the next is read.
 ///
 /// It ends at `quit` or where the lines end. A scenario that is refused is shown so, and so is one with a given event that
@@ -234,9 +271,17 @@ pub fn session<S: Source, K: Sink>(
             };
         }
     };
+    // The debugger takes the scenario; where a given event is stuck, its line needs the names.
+    let names = copy_names(alloc, &scenario.names)?;
     let mut debugger = match Debugger::new(alloc, scenario) {
         Ok(debugger) => debugger,
-        Err(_) => return Err(SessionFault::Memory),
+        Err(StartFault::Given { at, stuck }) => {
+            return match show_stuck(alloc, names, at, &stuck, out) {
+                Ok(()) => Ok(SessionEnd::GivenStuck),
+                Err(fault) => Err(fault),
+            };
+        }
+        Err(StartFault::Memory) => return Err(SessionFault::Memory),
     };
     match converse(alloc, &mut debugger, lines, out) {
         Ok(()) => Ok(SessionEnd::Finished),

@@ -55,7 +55,7 @@ returns-in_err-trace-clause-stuck c = λ s e.
     let m = subst (λ ps. Makes c.self.inside.version c.args.event.now ps c.make.new.replicas (Err c.in_err-trace.field-0.0)) c.as_mut_slice.ensures.value c.in_err-trace.ensures in
     let q = at_err _ c.from_residual.result (E.Stuck s) c.from_residual.ensures.1 e in
     let is : c.in_err-trace.field-0.0 ≡ E.Stuck s = cc in
-    subst (λ (v : Course). IsStuckFor v.network c.args.event.now s) c.self.view_is (told_stuck c.self.inside.version c.self.invariant.scripts c.args.event.now items c.make.new.replicas c.in_err-trace.field-0.0 s run m is)
+    subst (λ (v : Course). IsStuckFor v.network c.args.event.now s) c.self.view_is (told_stuck c.self.inside.version c.self.invariant.scripts c.self.invariant.first c.args.event.now items c.make.new.replicas c.in_err-trace.field-0.0 s run m is)
 
 pub invariant_of-self-2 : goal.invariant_of-self-2
 invariant_of-self-2 c =

@@ -11,7 +11,7 @@ invariant_of-self-2 c =
     let older = length-append c.self.inside.net.earlier (c.self.inside.net.network ∷ []) in
     let room = lt_of_not-le (λ (h : 100000 ≤ length c.self.inside.net.earlier). let z = c.in_ok-trace.ensures.full.1 h in cc) in
     rw (c.push_reserved.ensures.items, c.reserve.ensures.items) (record {
-      legal = record { after = after_one_more _ _ _ _ _ _ was.legal.after made.step };
+      legal = record { start = was.legal.start; is_start = was.legal.is_start; after = after_one_more _ _ _ _ _ _ was.legal.after made.step };
       named = made.names ∙ was.named;
       counted = omega (arith, was.counted, ap length counted, older, longer);
       small = omega (arith, was.counted, room, longer);

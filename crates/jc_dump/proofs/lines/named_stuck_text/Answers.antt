@@ -1,12 +1,12 @@
-use Rattle.std.proofs.Common.{◌≡◌, string_bytes, ap, ◌∙◌}
+use Rattle.std.proofs.Common.{◌≡◌, string_bytes, ◌∙◌}
 use Rattle.std.proofs.lemmas.Result.{IfOk-weaker}
 use Rattle.jc_printer.specs.Canon.{canon_event}
 use Rattle.jc_dump.proofs.StuckLines.{line_without}
-use Rattle.jc_dump.proofs.lines.stuck_text.Goals as goal
+use Rattle.jc_dump.proofs.lines.named_stuck_text.Goals as goal
 
 pub returns : goal.returns
 returns c =
-    let names = c.args.net.now.names in
+    let names = c.args.names.now in
     let s = c.args.stuck.now in
-    let text : c.as_str-in-None.result.now ≡ canon_event names s.event = c.as_str-in-None.ensures.value ∙ c.in_ok-event.ensures ∙ ap (λ ns. canon_event ns s.event) c.names-names.ensures.names in
+    let text : c.as_str-in-None.result.now ≡ canon_event names s.event = c.as_str-in-None.ensures.value ∙ c.in_ok-event.ensures in
     IfOk-weaker c.stuck_line.result _ _ (λ line shown why event is. line_without names s why event is c.in-Some.refusal c.in-Some.ensures.numbered c.number-in-None.result c.name-in-None.result.now c.as_str-in-None.result.now (string_bytes line) c.in-None.is c.number-in-None.ensures c.name-in-None.ensures text shown) c.stuck_line.ensures

@@ -1,0 +1,25 @@
+-- Networks that follow from one another by events.
+use Rattle.std.proofs.Common.{◌≡◌, ℕ, zero, suc, List, [], ◌∷◌, ◌++◌, length, slice_set, refl, sym, ◌∙◌, ap, subst}
+use Rattle.jc_rules.specs.declared.operation.Event.{Event}
+use Rattle.jc_rules.specs.declared.rule.Rule.{Rule}
+use Rattle.jc_rules.specs.State.{State}
+use Rattle.jc_rules.specs.Step.{After, Network, StepIn, AfterIn, replica_of}
+
+-- one network after another
+pub after_more : (N : Network) (es : List Event) (M : Network) (fs : List Event) (K : Network) → AfterIn N es M → AfterIn M fs K → AfterIn N (es ++ fs) K
+after_more N [] M fs K a b = subst (λ (L : Network). AfterIn L fs K) (sym a) b
+after_more N (e ∷ es) M fs K a b = (a.0, a.1, a.2, after_more a.0 es M fs K a.3 b)
+
+-- by one step more
+pub after_end : (N : Network) (es : List Event) (M K : Network) (e : Event) (rows : List (Rule × ℕ)) → AfterIn N es M → StepIn M e K rows → AfterIn N (es ++ e ∷ []) K
+after_end N es M K e rows a s = after_more N es M (e ∷ []) K a (K, rows, s, refl)
+
+states_set : (N : List State) (p : ℕ) (B : State) → length (slice_set N p B) ≡ length N
+states_set [] p B = refl
+states_set (A ∷ N) zero B = refl
+states_set (A ∷ N) (suc p) B = ap suc (states_set N p B)
+
+-- events add no replica
+pub after_count : (N : List State) (es : List Event) (M : List State) → After N es M → length M ≡ length N
+after_count N [] M a = ap length (sym a)
+after_count N (e ∷ es) M a = after_count a.0 es M a.3 ∙ (ap length a.2.is_new ∙ states_set N (replica_of e) a.2.after)

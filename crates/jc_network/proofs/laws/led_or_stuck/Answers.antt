@@ -1,0 +1,5 @@
+use Rattle.jc_network.proofs.Leading.{led_or_stuck}
+use Rattle.jc_network.proofs.laws.led_or_stuck.Goals as goal
+
+pub returns : goal.returns
+returns c = led_or_stuck
