@@ -94,10 +94,7 @@ const BEHIND: &[(usize, Fault)] = &[(100000, None), (100001, Some((19, 1400043))
 #[test]
 fn given_events(rt: HostRuntime) -> Result<(), Fail> {
     have_faults(&rt, rt.alloc(), GIVEN_EVENTS)?;
-    let given = repeated(
-        rt.alloc(),
-        (GIVEN, "a.send;", 100000, "} schedule {"),
-    )?;
+    let given = repeated(rt.alloc(), (GIVEN, "a.send;", 100000, "} schedule {"))?;
     for (times, want) in BEHIND {
         let schedule = "a.send;".repeat(rt.alloc(), *times)?;
         let text = format!(in rt.alloc(); "{given}{schedule}}}")?;
