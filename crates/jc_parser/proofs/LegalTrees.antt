@@ -1,5 +1,6 @@
 -- What is written with legal symbols is legal.
 use Rattle.std.proofs.Common.{◌≡◌, ℕ, ◌+◌, List, [], ◌∷◌, ◌++◌, inl, inr, sym, subst}
+use Rattle.std.specs.Prelude.{codes}
 use Rattle.std.specs.List.{All, AllByRecursion, slice_range}
 use Rattle.std.specs.Str.{IsUtf8}
 use Rattle.std.proofs.lemmas.List.Elements.{All-nil, All-cons, All-take, All-drop}
@@ -16,7 +17,7 @@ use Rattle.jc_parser.specs.Scripts.{IsValueSpelled, IsCommandSpelled, IsScriptSp
 use Rattle.jc_parser.specs.Calls.{Call, executes, sends, receives, takes, applies, ends, call_of, IsCallSpelled}
 use Rattle.jc_parser.specs.ClosedScripts.{IsClosedSpelled}
 use Rattle.jc_parser.specs.Words.{IsListText}
-use Rattle.jc_parser.specs.Trees.{Part, Tree, tree_of, ArePartsSpelled, IsScheduleSpelled, IsTreeSpelled}
+use Rattle.jc_parser.specs.Trees.{Part, Tree, tree_of, block_head, ArePartsSpelled, IsBlockSpelled, IsGivenSpelled, IsTreeSpelled}
 use Rattle.jc_parser.specs.Legal.{IsLegalExpr, IsLegalValue, IsLegalCmd, IsLegalCall, IsLegalPart, IsLegalTree}
 use Rattle.jc_parser.specs.LegalLaws.{LegalExpressions, LegalScripts, LegalEvents, LegalScriptsAt, LegalEventsAt, LegalScenarios}
 use Rattle.jc_parser.proofs.LegalTokens.{LegalStrings, IsLegalSymbol, symbols_legal, each_token}
@@ -84,17 +85,21 @@ call_legal v (ends p) w h l = (subst AreLegal h l).0
 
 -- ---- scenarios
 
-calls_legal : (calls : List Call) (w : List Symbol) → IsListText (IsCallSpelled One) calls w → AreLegal w → All IsLegalCall calls
-calls_legal [] w h l = All-nil IsLegalCall
-calls_legal (c ∷ cs) w (u, own, inl (none, is)) l =
-    All-cons IsLegalCall c cs (call_legal One c u own (subst AreLegal is l)) (subst (All IsLegalCall) (sym none) (All-nil IsLegalCall))
-calls_legal (c ∷ cs) w (u, own, inr (v, is, rest)) l =
-    let parts = split w u (semicolon ∷ v) is l in
-    All-cons IsLegalCall c cs (call_legal One c u own parts.0) (calls_legal cs v rest parts.1.1)
+calls_legal : (v : Version) (calls : List Call) (w : List Symbol) → IsListText (IsCallSpelled v) calls w → AreLegal w → All IsLegalCall calls
+calls_legal v [] w h l = All-nil IsLegalCall
+calls_legal v (c ∷ cs) w (u, own, inl (none, is)) l =
+    All-cons IsLegalCall c cs (call_legal v c u own (subst AreLegal is l)) (subst (All IsLegalCall) (sym none) (All-nil IsLegalCall))
+calls_legal v (c ∷ cs) w (u, own, inr (rest, is, others)) l =
+    let parts = split w u (semicolon ∷ rest) is l in
+    All-cons IsLegalCall c cs (call_legal v c u own parts.0) (calls_legal v cs rest others parts.1.1)
 
-schedule_legal : (calls : List Call) (w : List Symbol) → IsScheduleSpelled calls w → AreLegal w → All IsLegalCall calls
-schedule_legal calls w (inl (none, is)) l = subst (All IsLegalCall) (sym none) (All-nil IsLegalCall)
-schedule_legal calls w (inr (u, own, is)) l = calls_legal calls u own (both u (close_brace ∷ []) (subst AreLegal is l).1.1).0
+block_legal : (name : List ℕ) (v : Version) (calls : List Call) (w : List Symbol) → IsBlockSpelled (block_head name) v calls w → AreLegal w → All IsLegalCall calls
+block_legal name v calls w (inl (none, is)) l = subst (All IsLegalCall) (sym none) (All-nil IsLegalCall)
+block_legal name v calls w (inr (u, own, is)) l = calls_legal v calls u own (both u (close_brace ∷ []) (subst AreLegal is l).1.1).0
+
+given_legal : (v : Version) (calls : List Call) (w : List Symbol) → IsGivenSpelled v calls w → AreLegal w → All IsLegalCall calls
+given_legal One calls w (none, is) l = subst (All IsLegalCall) (sym none) (All-nil IsLegalCall)
+given_legal Two calls w h l = block_legal (codes "given") Two calls w h l
 
 parts_legal : (ps : List Part) (w : List Symbol) → ArePartsSpelled ps w → AreLegal w → All IsLegalPart ps
 parts_legal [] w h l = All-nil IsLegalPart
@@ -104,9 +109,10 @@ parts_legal (p ∷ ps) w (u, v, (z, closed, own), rest, is) l =
     All-cons IsLegalPart p ps (first.1.0, closed_legal p.script z closed first.1.1.1) (parts_legal ps v rest parts.1)
 
 tree_legal : (t : Tree) (w : List Symbol) → IsTreeSpelled t w → AreLegal w → IsLegalTree t
-tree_legal t w (u, v, some, parts, schedule, is) l =
-    let rest = both u v (subst AreLegal is l).1.1 in
-    (parts_legal t.parts u parts rest.0, schedule_legal t.calls v schedule rest.1)
+tree_legal t w (u, x, y, some, parts, given, schedule, is) l =
+    let rest = both u (x ++ y) (subst AreLegal is l).1.1 in
+    let blocks = both x y rest.1 in
+    (parts_legal t.parts u parts rest.0, given_legal t.version t.given x given blocks.0, block_legal (codes "schedule") t.version t.calls y schedule blocks.1)
 
 -- ---- texts
 

@@ -1,6 +1,7 @@
 -- Tokens are one scenario at most, or have one fault at most, and not both.
 use Rattle.std.proofs.Common.{◌≡◌, ℕ, zero, suc, ◌+◌, ◌-◌, ◌≤◌, ◌⊎◌, inl, inr, true, List, [], ◌∷◌, ◌++◌, map, length, Ok, Err, refl, sym, ap, subst, ◌∙◌, append_assoc, arith}
 use Rattle.std.proofs.lemmas.List.{append-nil}
+use Rattle.jc_rules.specs.declared.version.Version.{Version}
 use Rattle.jc_parser.specs.declared.fault.ScenarioFault.{ScenarioFault}
 use Rattle.jc_parser.specs.declared.fault.ScenarioFault.TheVariants.{Unexpected, EndOfText}
 use Rattle.jc_parser.specs.Symbols.{Symbol, dot, Lexeme, symbols}
@@ -16,6 +17,7 @@ use Rattle.jc_parser.proofs.Spelled.{reading, at_place, split_around, split_none
 use Rattle.jc_parser.proofs.Stopping.{IsStray, IsAllowed, stray_is_none, limit_is_none, stray_or_limit, one_limit, one_stray}
 use Rattle.jc_parser.proofs.TreeTails.{replica}
 use Rattle.jc_parser.proofs.TreeFronts.{then_parts}
+use Rattle.jc_parser.proofs.TreeWhole.{open_tree}
 use Rattle.jc_parser.proofs.TreeAgain.{front_read, whole_read, named_read}
 use Rattle.jc_parser.proofs.TreeLimits.{IsWaiting, Texts, IsOver, limits}
 
@@ -27,32 +29,32 @@ one_named r t other a b = let both : Ok t ≡ Ok other = sym (named_read r t a) 
 -- ---- what the limits allow
 
 -- after the word before a replica nothing is no name, and a dot is none
-word_ends : (m n stop c : ℕ) (names : List (List ℕ)) → tail_at m n names (reading stop (at_place c replica ∷ [])) ≡ Err (EndOfText stop)
+word_ends : (v : Version) (m n stop c : ℕ) (names : List (List ℕ)) → tail_at v m n names (reading stop (at_place c replica ∷ [])) ≡ Err (EndOfText stop)
 unfolding tail_at part_at new_name_at other_name_at named_at one
-word_ends m zero stop c names = refl
-word_ends m (suc n) stop c names = refl
+word_ends v m zero stop c names = refl
+word_ends v m (suc n) stop c names = refl
 
-no_dot : (m n stop c : ℕ) (names : List (List ℕ)) → tail_at m n names (reading stop (at_place c replica ∷ at_place 0 dot ∷ [])) ≡ Err (Unexpected 0)
+no_dot : (v : Version) (m n stop c : ℕ) (names : List (List ℕ)) → tail_at v m n names (reading stop (at_place c replica ∷ at_place 0 dot ∷ [])) ≡ Err (Unexpected 0)
 unfolding tail_at part_at new_name_at other_name_at named_at one
-no_dot m zero stop c names = refl
-no_dot m (suc n) stop c names = refl
+no_dot v m zero stop c names = refl
+no_dot v m (suc n) stop c names = refl
 
 -- two texts that begin so have two faults
 not_waiting : (stop : ℕ) (t : Tree) (ls : List Lexeme) (e : ScenarioFault) → IsWaiting t (symbols ls) → ((y : List Lexeme) → tree_at (reading stop (ls ++ y)) ≡ Err e) → ⊥
 not_waiting stop t ls e (kept, done, text) refused =
     let (w, c, v, parts, left, right) = split_around ls kept replica [] text in
-    by_parts w c (parts ∙ ap (λ (l : List Lexeme). w ++ at_place c replica ∷ l) (split_none v right)) (subst (AreDone t.parts) (sym left) done)
+    by_parts w c (parts ∙ ap (λ (l : List Lexeme). w ++ at_place c replica ∷ l) (split_none v right)) (subst (AreDone t.version t.parts) (sym left) done)
   where
-    by_parts : (w : List Lexeme) (c : ℕ) → ls ≡ w ++ at_place c replica ∷ [] → AreDone t.parts (symbols w) → ⊥
+    by_parts : (w : List Lexeme) (c : ℕ) → ls ≡ w ++ at_place c replica ∷ [] → AreDone t.version t.parts (symbols w) → ⊥
     by_parts w c parts done =
         let room : ℕ = 64 - length t.parts in
         let few : length t.parts ≤ 64 = done.within.few in
         let count : 64 ≡ length t.parts + room = omega (arith, few) in
-        let behind : (y : List Lexeme) (d : ScenarioFault) → tail_at 100000 room (map name_of t.parts) (reading stop (at_place c replica ∷ y)) ≡ Err d → Err d ≡ Err e = λ y d fails.
-        sym (ap (λ (l : List Lexeme). tree_at (reading stop (l ++ y))) parts ∙ ap (λ (l : List Lexeme). tree_at (reading stop l)) (append_assoc w (at_place c replica ∷ []) y) ∙ front_read stop room t.parts w (at_place c replica ∷ y) count done (inr refl) ∙ ap (λ (o : Outcome NamedTree). then_parts t.parts o >>= ended) fails)
+        let behind : (y : List Lexeme) (d : ScenarioFault) → tail_at t.version 100000 room (map name_of t.parts) (reading stop (at_place c replica ∷ y)) ≡ Err d → Err d ≡ Err e = λ y d fails.
+        sym (ap (λ (l : List Lexeme). tree_at (reading stop (l ++ y))) parts ∙ ap (λ (l : List Lexeme). tree_at (reading stop l)) (append_assoc w (at_place c replica ∷ []) y) ∙ front_read t.version stop room t.parts w (at_place c replica ∷ y) count done (inr refl) ∙ ap (λ (o : Outcome NamedTree). then_parts t.parts o >>= ended) fails)
         ∙ refused y in
-        let first : Err (EndOfText stop) ≡ Err e = behind [] (EndOfText stop) (word_ends 100000 room stop c (map name_of t.parts)) in
-        let second : Err (Unexpected 0) ≡ Err e = behind (at_place 0 dot ∷ []) (Unexpected 0) (no_dot 100000 room stop c (map name_of t.parts)) in
+        let first : Err (EndOfText stop) ≡ Err e = behind [] (EndOfText stop) (word_ends t.version 100000 room stop c (map name_of t.parts)) in
+        let second : Err (Unexpected 0) ≡ Err e = behind (at_place 0 dot ∷ []) (Unexpected 0) (no_dot t.version 100000 room stop c (map name_of t.parts)) in
         absurd cc
 
 allowed : (stop : ℕ) → IsAllowed Texts (λ l. tree_at (reading stop l))
@@ -84,10 +86,10 @@ stray_of stop e ls before after parts m = by_rest m.begun.rest
     kept_within : Begun (Texts true) m.begun.kept
     kept_within = let (t, more, both) = m.begun.within in (t, more, inl both)
 
-    by_rest : (symbols before ≡ m.begun.kept) ⊎ ((symbols before ≡ m.begun.kept ++ dot ∷ []) ⊎ ((ps : List Part) × AreDone ps m.begun.kept × (symbols before ≡ m.begun.kept ++ replica ∷ []))) → IsStray Texts ls before after
+    by_rest : (symbols before ≡ m.begun.kept) ⊎ ((symbols before ≡ m.begun.kept ++ dot ∷ []) ⊎ ((v : Version) × (ps : List Part) × AreDone v ps m.begun.kept × (symbols before ≡ m.begun.kept ++ replica ∷ []))) → IsStray Texts ls before after
     by_rest (inl all) = stray m.begun.kept kept_within (inl all)
     by_rest (inr (inl some)) = stray m.begun.kept kept_within (inr some)
-    by_rest (inr (inr (ps, done, word_last))) = stray (symbols before) (record { parts = ps; calls = [] }, [], inr (m.begun.kept, done, append-nil (symbols before) ∙ word_last)) (inl refl)
+    by_rest (inr (inr (v, ps, done, word_last))) = stray (symbols before) (open_tree v ps, [], inr (m.begun.kept, done, append-nil (symbols before) ∙ word_last)) (inl refl)
 
 -- what fits nothing, or past a limit
 abbrev IsKind : ℕ → ScenarioFault → List Lexeme → Type 0

@@ -50,7 +50,8 @@ rest_text v m k t w (u, y, parts, (a, b, is, first, second, both), text) =
     let schedule : IsScheduleSpelled t.version (map call_of t.events) b = subst (λ x. IsScheduleSpelled x (map call_of t.events) b) (sym is) (schedule_spelled v m k t.events b second) in
     (u, a, b, some_parts v m k t.parts t.given t.events u a b w parts first second whole, parts, given, schedule, ap (λ (l : List Symbol). header v ++ l) whole ∙ ap (λ x. header x ++ (u ++ (a ++ b))) (sym is))
 
-abbrev open_tree : Version → List Part → Tree
+-- replicas alone
+abbrev pub open_tree : Version → List Part → Tree
 open_tree v ps = record { version = v; parts = ps; given = []; calls = [] }
 
 open_within : (v : Version) (ps : List Part) → AreNew [] ps → length ps ≤ 64 → IsTreeWithin (open_tree v ps)
@@ -84,7 +85,7 @@ settled v m n em en t w (new, few, inr (u, full, none, parts, text)) = subst IsT
 
 -- ---- the beginning of a scenario
 
-no_given : (v : Version) → IsGivenSpelled v [] []
+pub no_given : (v : Version) → IsGivenSpelled v [] []
 no_given One = (refl, refl)
 no_given Two = inl (refl, refl)
 
