@@ -8,7 +8,7 @@ use Rattle.jc_rules.specs.declared.version.Version.TheVariants.{One, Two}
 use Rattle.jc_parser.specs.declared.fault.ScenarioFault.{ScenarioFault}
 use Rattle.jc_parser.specs.declared.fault.ScenarioFault.TheVariants.{NoHeader, NoReplica}
 use Rattle.jc_parser.specs.Symbols.{Symbol, word, number, Lexeme}
-use Rattle.jc_parser.specs.Reading.{Reading, ◌>>=◌, is_word, is_number, begins_with, place_at, one, skip}
+use Rattle.jc_parser.specs.Reading.{Reading, is_word, is_number, begins_with, place_at, one, skip}
 use Rattle.jc_parser.specs.Parts.{version_at, front_at, skip_or}
 use Rattle.jc_parser.specs.Sentences.{FitsNothing}
 use Rattle.jc_parser.specs.Trees.{version_text, header}

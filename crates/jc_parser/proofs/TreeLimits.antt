@@ -12,7 +12,7 @@ use Rattle.jc_rules.specs.Syntax.{Cmd}
 use Rattle.jc_parser.specs.declared.fault.ScenarioFault.{ScenarioFault}
 use Rattle.jc_parser.specs.declared.fault.ScenarioFault.TheVariants.{IndexTooLarge, TooManyEvents}
 use Rattle.jc_parser.specs.Symbols.{Symbol, word, dot, open_brace, close_brace, Lexeme, symbols}
-use Rattle.jc_parser.specs.Reading.{Reading, Outcome, ◌>>=◌, has_kind, is_word, begins_with, place, stuck, is_at_end, one, named_at}
+use Rattle.jc_parser.specs.Reading.{Outcome, ◌>>=◌, has_kind, is_word, begins_with, place, stuck, is_at_end, one, named_at}
 use Rattle.jc_parser.specs.Parts.{ended}
 use Rattle.jc_parser.specs.Words.{is_reserved, IsStartText}
 use Rattle.jc_parser.specs.Scripts.{IsScriptExcess}

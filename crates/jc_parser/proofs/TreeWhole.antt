@@ -9,7 +9,7 @@ use Rattle.jc_syntax.specs.declared.tree.NamedEvent.{NamedEvent}
 use Rattle.jc_parser.specs.declared.fault.ScenarioFault.{ScenarioFault}
 use Rattle.jc_parser.specs.declared.fault.ScenarioFault.TheVariants.{NoHeader, NoReplica, Unexpected}
 use Rattle.jc_parser.specs.Symbols.{Symbol, word, number, dot, open_brace, close_brace, Lexeme, symbols}
-use Rattle.jc_parser.specs.Reading.{Reading, ◌>>=◌, is_word, is_number, begins_with, place_at, stuck_at, stuck, no_more, is_at_end, one}
+use Rattle.jc_parser.specs.Reading.{Reading, ◌>>=◌, is_word, begins_with, place_at, stuck_at, stuck, no_more, is_at_end, one}
 use Rattle.jc_parser.specs.Parts.{version_at, front_at, skip_or, ended}
 use Rattle.jc_parser.specs.Sentences.{Begins, FitsNothing}
 use Rattle.jc_parser.specs.Calls.{call_of, IsCallWellFormed}
