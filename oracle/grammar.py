@@ -11,6 +11,7 @@ import re
 RESERVED = {b"let", b"doc", b"yield", b"get", b"idx", b"keys", b"values", b"insertAfter", b"delete", b"true", b"false",
             b"null"}
 SELECTORS = {b"get", b"idx", b"keys", b"values"}
+EVENTS = (b"exec", b"send", b"done", b"recv", b"apply")
 NAME, NUMBER, STRING, SIGN, END = "name", "number", "string", "sign", "end"
 MOST_SELECTORS = 256
 MOST_REPLICAS = 64
@@ -98,9 +99,10 @@ def tokens(text):
 
 class Reader:
     """Goes through the tokens and gives the trees. Faults of names and numbers are kept, since the sentence goes on
-    behind them."""
+    behind them. Version 2 alone has takes and given events; a scenario says itself of which version it is."""
 
-    def __init__(self, text):
+    def __init__(self, text, version=None):
+        self.version = version
         self.tokens = tokens(text)
         self.next = 0
         self.faults = []
@@ -229,18 +231,24 @@ class Reader:
         """An event, with the names of its replicas."""
         replica = self.named()
         self.take(b".")
-        word = self.take(b"exec", b"send", b"done", b"recv", b"apply").decode()
-        if word not in ("recv", "apply"):
-            return (word, replica)
+        word = self.take(*EVENTS, *((b"take",) if self.version == 2 else ())).decode()
+        made = (word, replica)
+        if word not in ("recv", "take", "apply"):
+            return made
         self.take(b"(")
-        if word == "apply":
-            counter = self.digits()
+        if word != "apply":
+            made += (self.named(),)
+        if word == "take":
             self.take(b",")
-            made = (word, replica, (counter, self.named()))
-        else:
-            made = (word, replica, self.named())
+        if word != "recv":
+            made += (self.identifier(),)
         self.take(b")")
         return made
+
+    def identifier(self):
+        counter = self.digits()
+        self.take(b",")
+        return (counter, self.named())
 
     def block(self, item, most, number):
         """Items in braces, parted by semicolons, of which one may stand behind the last; more than the most have this
@@ -266,35 +274,44 @@ class Reader:
             self.faults.append((place, 17))
         scripts[name] = self.block(self.command, MOST_COMMANDS, 11)
 
-    def scenario(self):
-        """The scripts by the names of the replicas, and the schedule."""
-        for word in (b"jsoncrdt", b"1"):
-            if self.tokens[self.next][1] != word:
+    def header(self):
+        for words in ((b"jsoncrdt",), (b"1", b"2")):
+            if self.tokens[self.next][1] not in words:
                 raise Fault(self.place, 14)
             self.next += 1
+        self.version = int(self.tokens[self.next - 1][1])
         if not self.is_next(b"replica"):
             raise Fault(self.place, 16)
-        scripts, schedule = {}, []
+
+    def events(self, word):
+        """The events of the block that begins with this word; where it isn't there, none."""
+        if not self.is_next(word):
+            return []
+        self.take(word)
+        return self.block(self.event, MOST_EVENTS, 19)
+
+    def scenario(self):
+        """The scripts by the names of the replicas, the given events and the schedule."""
+        self.header()
+        scripts = {}
         while self.is_next(b"replica"):
             self.replica(scripts)
-        if self.is_next(b"schedule"):
-            self.take(b"schedule")
-            schedule = self.block(self.event, MOST_EVENTS, 19)
+        given = self.events(b"given") if self.version == 2 else []
+        schedule = self.events(b"schedule")
         self.end()
-        return scripts, schedule
+        return scripts, given, schedule
 
 
-Scenario = collections.namedtuple("Scenario", "names scripts schedule")
+Scenario = collections.namedtuple("Scenario", "version names scripts given schedule")
 
 
 def resolved(event, names):
-    """The event by the numbers of its replicas."""
-    if event[0] == "recv":
-        return (event[0], names.index(event[1]), names.index(event[2]))
-    if event[0] == "apply":
-        counter, maker = event[2]
-        return (event[0], names.index(event[1]), (counter, names.index(maker)))
-    return (event[0], names.index(event[1]))
+    """The event by the numbers of its replicas: what is a name, or the second part of an identifier."""
+
+    def by_number(part):
+        return (part[0], names.index(part[1])) if isinstance(part, tuple) else names.index(part)
+
+    return (event[0], *map(by_number, event[1:]))
 
 
 def sentence(reader, read_it):
@@ -327,16 +344,16 @@ def read(text):
     fault = fault or unknown(reader, made[0])
     if fault:
         return None, fault
-    scripts, schedule = made
+    scripts, *lists = made
     names = sorted(scripts)
-    events = [resolved(event, names) for event in schedule]
-    return Scenario(names, [scripts[name] for name in names], events), None
+    given, schedule = ([resolved(event, names) for event in events] for events in lists)
+    return Scenario(reader.version, names, [scripts[name] for name in names], given, schedule), None
 
 
-def read_event(text, names):
+def read_event(text, names, version):
     """The event of these replicas that the text is, or its fault; the other is none."""
     try:
-        reader = Reader(text)
+        reader = Reader(text, version)
     except Fault as fault:
         return None, fault.at
 

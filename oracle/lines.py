@@ -8,10 +8,11 @@ from texts import refused
 MOST_OF_LINE = 4096
 RULES = """
 EXEC LET VAR DOC GET IDX1 IDX2 IDX3 IDX4 IDX5 KEYS1 KEYS2 KEYS3 VAL1 VAL2 VAL3 MAKE-ASSIGN MAKE-INSERT MAKE-DELETE
-MAKE-OP APPLY-LOCAL SEND RECV APPLY-REMOTE DONE DESCEND CHILD-GET CHILD-MAP CHILD-LIST CHILD-REG ADD-ID1 ADD-ID2
+MAKE-OP APPLY-LOCAL SEND RECV RECV-ONE APPLY-REMOTE DONE DESCEND CHILD-GET CHILD-MAP CHILD-LIST CHILD-REG ADD-ID1 ADD-ID2
 PRESENCE1 PRESENCE2 ASSIGN EMPTY-MAP EMPTY-LIST INSERT1 INSERT2 DELETE CLEAR-ELEM CLEAR-ANY CLEAR-NONE CLEAR-REG
 CLEAR-MAP1 CLEAR-MAP2 CLEAR-MAP3 CLEAR-LIST1 CLEAR-LIST2 CLEAR-LIST3
 """.split()
+OF_VERSION_TWO = ("RECV-ONE",)
 ALONE = ("run", "trace", "enabled", "schedule", "where", "quit")
 NUMBER = re.compile(rb"0|[1-9][0-9]{0,9}")
 BAD = refused(58)
@@ -23,10 +24,15 @@ def without_end(line):
     return re.sub(rb"\r?\n\Z", b"", line)
 
 
-def breakpoint_of(kind, what, names):
+def is_rule(name, version):
+    """Whether a rule of this version has the name."""
+    return name in RULES and (version == 2 or name not in OF_VERSION_TWO)
+
+
+def breakpoint_of(kind, what, names, version):
     if kind == "at" and NUMBER.fullmatch(what):
         return ("break", ("at", int(what))), b""
-    if kind == "rule" and what.decode() in RULES:
+    if kind == "rule" and is_rule(what.decode(), version):
         return ("break", ("rule", what.decode())), b""
     if kind == "replica":
         return (("break", ("replica", names.index(what))), b"") if what in names else (None, UNKNOWN)
@@ -40,14 +46,15 @@ def named(word, rest, names):
     return (word,) + (tuple(names.index(name) for name in rest) or (None,)), b""
 
 
-def event_of(line, names):
+def event_of(line, names, version):
     """The event of `act`: the rest of the line behind the word and its blanks."""
-    event, fault = read_event(re.sub(rb"\A[ \t]*act[ \t]*", b"", line), names)
+    event, fault = read_event(re.sub(rb"\A[ \t]*act[ \t]*", b"", line), names, version)
     return (("act", event), b"") if event else (None, refused(fault[1], fault[0]))
 
 
-def read_line(line, names):
-    """What a line asks, which is none where it has no word or is refused, and the text that refuses it."""
+def read_line(line, names, version):
+    """What a line asks in a session of a scenario of this version, which is none where it has no word or is refused, and
+    the text that refuses it."""
     if len(line) - line.endswith(b"\n") > MOST_OF_LINE or any(byte >= 0x80 for byte in line):
         return None, BAD
     line = without_end(line)
@@ -56,7 +63,7 @@ def read_line(line, names):
         return None, b""
     word, rest = words[0].decode(), words[1:]
     if word == "act":
-        return event_of(line, names)
+        return event_of(line, names, version)
     if word in ALONE and not rest:
         return (word,), b""
     if word in ("step", "back") and not rest:
@@ -66,5 +73,5 @@ def read_line(line, names):
     if word == "state" and len(rest) <= 1 or word == "compare" and len(rest) == 2:
         return named(word, rest, names)
     if word == "break" and len(rest) == 2:
-        return breakpoint_of(rest[0].decode(), rest[1], names)
+        return breakpoint_of(rest[0].decode(), rest[1], names, version)
     return None, BAD

@@ -6,13 +6,13 @@ import re
 
 from grammar import read
 from lines import read_line
-from rules import Stuck, change, start
+from rules import GivenStuck, Stuck, change, start
 from session import Session
 from streams import reason_of
-from texts import Texts, refused
+from texts import Texts, counts_of, refused
 from view import line_of
 
-VERSION = "jsoncrdt 1.0.0\n"
+VERSION = "jsoncrdt 2.0.0\n"
 USAGE = "usage: oracle/jsoncrdt check|print|run [--trace]|view [--at N]|debug FILE    (help says more)"
 HELP = """\
 usage: oracle/jsoncrdt COMMAND FILE      (FILE - is standard input; no arguments are run --trace -)
@@ -29,7 +29,10 @@ The program by the same rules, written once more in Python. Nothing of it is pro
                         cuts off the rest of the schedule for good); in a terminal it has a prompt
                         and a history, and `help` lists the lines
 
-Statuses: 0 done; 1 the text was refused; 2 wrong arguments; 3 an event is stuck;
+A scenario of version 2 begins with `jsoncrdt 2`, and may have a block `given { .. }` of events before its
+schedule, which are made before event 1.
+
+Statuses: 0 done; 1 the text was refused; 2 wrong arguments; 3 an event is stuck, also one that is given;
 4 a file can't be read or the output not be written; 5 Python's own limits.
 
 Not here: `threads`, which runs each replica in a thread of its own. The proved program has it.
@@ -110,15 +113,15 @@ def order_of(words):
     return Order(command, files[0], traced, MOST_EVENTS if at is None else at)
 
 
-def made(scripts, events, texts=None, out=None):
+def made(scenario, events, texts=None, out=None):
     """The network after the events, and how many were made, with why the next one is stuck. Blocks go to the output."""
-    network = start(scripts)
+    network = start(scenario)
     for number, event in enumerate(events, 1):
         trace = []
         try:
             change(network, event, trace)
         except Stuck as stuck:
-            return made(scripts, events[:number - 1])[0], number - 1, stuck
+            return made(scenario, events[:number - 1])[0], number - 1, stuck
         if out:
             out.write(texts.block(number, event, trace))
     return network, len(events), None
@@ -127,7 +130,7 @@ def made(scripts, events, texts=None, out=None):
 def show(order, scenario, out):
     """Executes the schedule, and shows states or documents."""
     texts, events = Texts(scenario.names), scenario.schedule[:order.at]
-    network, count, stuck = made(scenario.scripts, events, texts, out if order.traced else None)
+    network, count, stuck = made(scenario, events, texts, out if order.traced else None)
     for replica in network:
         out.write(line_of(texts, replica) if order.command == "view" else texts.dump(replica))
     if stuck:
@@ -151,14 +154,13 @@ def lines_of(source):
 
 def answer(session, line):
     """The answer to a line, or none where it ends the session."""
-    asked, refusal = read_line(line, session.texts.names)
+    asked, refusal = read_line(line, session.texts.names, session.version)
     if asked == ("quit",):
         return None
     return session.answer(asked) if asked else refusal
 
 
-def debug(scenario, lines, out, err):
-    session = Session(*scenario)
+def debug(session, lines, out, err):
     for line in lines_of(lines):
         if line is None:
             err.write("too many lines\n")
@@ -187,18 +189,18 @@ def done(order, source, out, err, by_hand):
     if fault:
         out.write(refused(fault[1], fault[0]))
         return 1
-    if order.command == "check":
-        counts = len(scenario.names), sum(map(len, scenario.scripts)), len(scenario.schedule)
-        out.write(b"replicas %d commands %d events %d\n" % counts)
+    texts = Texts(scenario.names)
+    if order.command in ("check", "print"):
+        out.write(counts_of(scenario) if order.command == "check" else texts.scenario(scenario))
         return 0
-    if order.command == "print":
-        out.write(Texts(scenario.names).scenario(scenario.scripts, scenario.schedule))
-        return 0
-    if order.command == "debug":
-        if by_hand:
-            return by_hand(Session(*scenario))
-        return debug(scenario, () if order.file == "-" else source, out, err)
-    return show(order, scenario, out)
+    try:
+        if order.command != "debug":
+            return show(order, scenario, out)
+        session = Session(scenario)
+    except GivenStuck as given:
+        out.write(texts.given_stuck(given))
+        return 3
+    return by_hand(session) if by_hand else debug(session, () if order.file == "-" else source, out, err)
 
 
 def command_line(words, source, out, err, by_hand=None):

@@ -35,6 +35,14 @@ class Stuck(Exception):
         self.key = key
 
 
+class GivenStuck(Exception):
+    """The first given event that is stuck, its number from 1, and why."""
+
+    def __init__(self, number, event, stuck):
+        super().__init__(number)
+        self.number, self.event, self.stuck = number, event, stuck
+
+
 class Context:
     def __init__(self):
         self.entries = {MAP: {}, LIST: {}, REGISTER: {}}
@@ -76,6 +84,14 @@ class Replica:
         self.queue = {}
         self.sent = {}
         self.received = {}
+
+
+class Network(list):
+    """The replicas by their numbers, and the version of the scenario."""
+
+    def __init__(self, version, scripts):
+        super().__init__(Replica(number, script) for number, script in enumerate(scripts))
+        self.version = version
 
 
 def new_content(tag):
@@ -330,9 +346,21 @@ def apply_received(replica, identifier, trace):
     replica.applied.add(identifier)
 
 
+def receive_one(replica, offered, identifier, trace):
+    if identifier not in offered:
+        raise Stuck(34)
+    trace.append((0, "RECV-ONE"))
+    replica.received = {identifier: offered[identifier], **replica.received}
+
+
 def change(network, event, trace):
     """Makes the event in the network itself, which is of no use any more where it is stuck."""
-    kind, replica = event[0], network[event[1]]
+    kind = event[0]
+    if max(event[1:3] if kind in ("recv", "take") else event[1:2]) >= len(network):
+        raise Stuck(37)
+    if kind == "take" and network.version == 1:
+        raise Stuck(39)
+    replica = network[event[1]]
     if not replica.left:
         raise Stuck(30)
     if kind == "exec":
@@ -353,6 +381,8 @@ def change(network, event, trace):
     elif kind == "recv":
         trace.append((0, "RECV"))
         replica.received = {**network[event[2]].sent, **replica.received}
+    elif kind == "take":
+        receive_one(replica, network[event[2]].sent, event[3], trace)
     else:
         apply_received(replica, event[2], trace)
     replica.acted = True
@@ -365,15 +395,23 @@ def step(network, event):
     return after, trace
 
 
-def start(scripts):
-    return [Replica(number, script) for number, script in enumerate(scripts)]
+def start(scenario):
+    """The network to which the given events lead."""
+    network = Network(scenario.version, scenario.scripts)
+    for number, event in enumerate(scenario.given, 1):
+        try:
+            change(network, event, [])
+        except Stuck as stuck:
+            raise GivenStuck(number, event, stuck) from stuck
+    return network
 
 
 def candidates(network, p):
     """The events that a replica may make, in the order in which they are listed."""
     applies = [("apply", p, identifier) for identifier in sorted(network[p].received)]
     receives = [("recv", p, q) for q in range(len(network))]
-    return [("exec", p), ("send", p)] + receives + applies + [("done", p)]
+    takes = [("take", p, q, identifier) for q, other in enumerate(network) for identifier in sorted(other.sent)]
+    return [("exec", p), ("send", p)] + receives + takes * (network.version == 2) + applies + [("done", p)]
 
 
 def is_enabled(network, event):
@@ -391,7 +429,7 @@ def chosen(network, p, last):
         return None
     if replica.left[0][0] != "yield":
         return ("exec", p)
-    if last is None or last[0] in ("exec", "done"):
+    if last is None or last[0] in ("exec", "take", "done"):
         return ("send", p)
     if last[0] != "apply":
         ahead = range(0 if last[0] == "send" else last[2] + 1, len(network))

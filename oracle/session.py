@@ -25,10 +25,13 @@ FIXED = {
 
 
 class Session:
-    def __init__(self, names, scripts, schedule):
-        self.texts = Texts(names)
-        self.schedule = list(schedule)
-        self.networks = [start(scripts)]
+    """A session of a scenario whose given events aren't stuck. They are made before position 0, and never taken back."""
+
+    def __init__(self, scenario):
+        self.texts = Texts(scenario.names)
+        self.version = scenario.version
+        self.schedule = list(scenario.schedule)
+        self.networks = [start(scenario)]
         self.traces = []
         self.breakpoints = {}
 

@@ -6,9 +6,10 @@ REFUSALS = {
     1: "BadByte", 2: "OpenString", 3: "BadEscape", 4: "LoneSurrogate", 5: "BadNumber", 6: "TextTooLong",
     7: "Unexpected", 8: "EndOfText", 9: "IndexTooLarge", 10: "ReservedName", 11: "TooManyCommands",
     12: "TooLongExpression", 13: "NotUtf8", 14: "NoHeader", 15: "SameName", 16: "NoReplica", 17: "TooManyReplicas",
-    18: "UnknownReplica", 19: "TooManyEvents", 20: "NotInList", 22: "UnboundVariable", 23: "GetOnHead", 24: "NotACursor", 25: "NoSuchNode", 26: "PastEnd", 27: "NoMap",
-    28: "NoRegister", 29: "TooDeep", 30: "NoCommand", 31: "AtYield", 32: "NotAtYield", 33: "NotActed",
-    34: "NotReceived", 35: "AlreadyApplied", 36: "DepsMissing", 50: "AtStart", 51: "AtEnd", 52: "PastSchedule",
+    18: "UnknownReplica", 19: "TooManyEvents", 20: "NotInList", 22: "UnboundVariable", 23: "GetOnHead",
+    24: "NotACursor", 25: "NoSuchNode", 26: "PastEnd", 27: "NoMap", 28: "NoRegister", 29: "TooDeep", 30: "NoCommand",
+    31: "AtYield", 32: "NotAtYield", 33: "NotActed", 34: "NotReceived", 35: "AlreadyApplied", 36: "DepsMissing",
+    37: "NoSuchReplica", 39: "WrongVersion", 44: "GivenStuck", 50: "AtStart", 51: "AtEnd", 52: "PastSchedule",
     53: "NoSuchBreak", 54: "TooManyBreaks", 58: "BadLine",
 }
 
@@ -111,8 +112,9 @@ class Texts:
         text = b"%s.%s" % (self.names[event[1]], event[0].encode())
         if event[0] == "recv":
             return text + b"(%s)" % self.names[event[2]]
-        if event[0] == "apply":
-            return text + b"(%d, %s)" % (event[2][0], self.names[event[2][1]])
+        if event[0] in ("take", "apply"):
+            sender = b"%s, " % self.names[event[2]] if event[0] == "take" else b""
+            return text + b"(%s%d, %s)" % (sender, event[-1][0], self.names[event[-1][1]])
         return text
 
     def block(self, number, event, trace):
@@ -122,6 +124,10 @@ class Texts:
     def stuck(self, stuck, event):
         key = self.tagged(stuck.key) + b" " if stuck.key else b""
         return b"stuck %d %s " % (stuck.number, REFUSALS[stuck.number].encode()) + key + self.event(event) + b"\n"
+
+    def given_stuck(self, given):
+        """The lines of the given event that is stuck."""
+        return refused(44, given.number) + self.stuck(given.stuck, given.event)
 
     # ---- scenarios
 
@@ -152,9 +158,22 @@ class Texts:
             return text + b" := " + self.literal(command[2])
         return text + (b".insertAfter(%s)" % self.literal(command[2]) if kind == "insert" else b".delete")
 
-    def scenario(self, scripts, schedule):
-        text = b"jsoncrdt 1\n"
-        for name, script in zip(self.names, scripts):
+    def events(self, word, events):
+        """The block of events that begins with this word."""
+        return b"%s {\n%s}\n" % (word, b"".join(b"  %s;\n" % self.event(event) for event in events))
+
+    def scenario(self, scenario):
+        text = b"jsoncrdt %d\n" % scenario.version
+        for name, script in zip(scenario.names, scenario.scripts):
             lines = b"".join(b"  %s;\n" % self.command(command) for command in script)
             text += b"replica %s {\n%s}\n" % (name, lines)
-        return text + b"schedule {\n%s}\n" % b"".join(b"  %s;\n" % self.event(event) for event in schedule)
+        if scenario.version == 2:
+            text += self.events(b"given", scenario.given)
+        return text + self.events(b"schedule", scenario.schedule)
+
+
+def counts_of(scenario):
+    """The line that says how much there is of a scenario."""
+    given = b" given %d" % len(scenario.given) if scenario.version == 2 else b""
+    counts = len(scenario.names), sum(map(len, scenario.scripts)), given, len(scenario.schedule)
+    return b"replicas %d commands %d%s events %d\n" % counts

@@ -19,6 +19,8 @@ ROWS = [
     ("tools/tree " + FIRST + " a --at -1", 2, "tree: "),
     ("tools/tree test a", 1, "tree: refused "),
     ("tools/tree examples/stuck.jsoncrdt q", 3, "tree: stuck "),
+    ("echo 'jsoncrdt 2 replica a {} given {a.exec}' | tools/tree - a", 3, "tree: refused 44 GivenStuck at 1 stuck 30 "),
+    ("echo 'jsoncrdt 2 replica a {} given {a.exec}' | tools/lanes - >/dev/null", 3, ""),
     ("tools/shrink " + FIRST, 2, "shrink: "),
     ("tools/shrink " + FIRST + " false", 2, "shrink: COMMAND doesn't end with 0"),
     ("tools/shrink " + FIRST + " ./no-such-command", 2, "shrink: ./no-such-command: "),

@@ -14,7 +14,13 @@ EMPTY = '{"acted":false,"left":0,"name":"a","ops":[],"queue":[],"recv":[],"send"
 NOTHING = "jsoncrdt 1 replica a {} schedule {}"
 PAST_THE_END = "jsoncrdt 1 replica a {} schedule {a.exec}"
 NO_COMMAND = "stuck 30 NoCommand a.exec\n"
+STUCK_BEFORE = "jsoncrdt 2 replica a {yield} given {a.send; a.exec}"
+GIVEN_STUCK = "refused 44 GivenStuck at 2\nstuck 31 AtYield a.exec\n"
 RECORDED = 'jsoncrdt 1\nreplica a {\n  doc.get("a") := 1;\n}\nschedule {\n  a.exec;\n}\n'
+# The first command is executed by a given event, the second one by the thread.
+BEGUN = 'jsoncrdt 2 replica a { doc.get("a") := 1; doc.get("a") := 2 } given {a.exec} schedule {a.send}'
+RECORDED_TWO = ('jsoncrdt 2\nreplica a {\n  doc.get("a") := 1;\n  doc.get("a") := 2;\n}\ngiven {\n  a.exec;\n}\nschedule {\n'
+                '  a.exec;\n}\n')
 UNBEGUN = "jsoncrdt 1\nreplica a {\n  let s = doc.keys;\n}\nschedule {\n}\n"
 # The most events that there may be, and one replica that sends at each.
 FULL = "jsoncrdt 1 replica a {yield} schedule {" + "a.send;" * 100_000 + "}"
@@ -36,12 +42,19 @@ Row = collections.namedtuple("Row", "words file input status out err shell limit
 ROWS = [
     Row("run FILE", ONE, "", 0, DUMP, ""),
     Row("run -", "", ONE, 0, DUMP, ""),
-    Row("check FILE", "jsoncrdt 2", "", 1, "refused 14 NoHeader at 9\n", ""),
+    Row("check FILE", "jsoncrdt 2", "", 1, "refused 16 NoReplica at 10\n", ""),
+    Row("check FILE", "jsoncrdt 3", "", 1, "refused 14 NoHeader at 9\n", ""),
     Row("debug FILE", "", "step\n", 1, "refused 14 NoHeader at 0\n", ""),
     Row("jump", ONE, "", 2, "", "error: "),
     Row("run", ONE, "", 2, "", "error: "),
     Row("run FILE", PAST_THE_END, "", 3, EMPTY + NO_COMMAND, ""),
     Row("view FILE", PAST_THE_END, "", 3, '{"name":"a"}\n' + NO_COMMAND, ""),
+    # A given event that is stuck: the lines of a session aren't read.
+    Row("run FILE", STUCK_BEFORE, "", 3, GIVEN_STUCK, ""),
+    Row("view FILE", STUCK_BEFORE, "", 3, GIVEN_STUCK, ""),
+    Row("debug FILE", STUCK_BEFORE, "where\n", 3, GIVEN_STUCK, ""),
+    Row("check FILE", STUCK_BEFORE, "", 0, "replicas 1 commands 1 given 2 events 0\n", ""),
+    Row("debug FILE", STUCK_BEFORE, "where\n", 4, "", "write failed\n", ">/dev/full"),
     # A file that isn't there, and one that opens and can't be read.
     Row("run /no/such/file", "", "", 4, "", "read failed\n"),
     Row("run /", "", "", 4, "", "read failed\n"),
@@ -77,6 +90,8 @@ ROWS = [
     Row("threads FILE", "jsoncrdt 1 replica a { let s = doc.keys }", "", 3, UNBEGUN,
         "a made 0 stuck 27 NoMap a.exec\n"),
     Row("threads FILE", "", "", 1, "refused 14 NoHeader at 0\n", ""),
+    Row("threads FILE", BEGUN, "", 0, RECORDED_TWO, "a made 1 finished\n"),
+    Row("threads FILE", STUCK_BEFORE, "", 3, GIVEN_STUCK, ""),
     Row("threads --limit 100001 FILE", ONE, "", 2, "", "error: "),
     Row("threads /", "", "", 4, "", "read failed\n"),
     Row("threads FILE", ONE, "", 4, "", "write failed\n", ">/dev/full"),

@@ -23,7 +23,7 @@ import streams
 from blocks import bare_blocks, commands_of, long_paragraphs
 from cases import IN_PYTHON, IN_TEST, NotTried, Programs, Wrong, expect, expect_same, run, stored
 from faults import faults
-from grammar import RESERVED
+from grammar import EVENTS, RESERVED
 from scripts import scripts
 
 EXPECTED = os.path.join("tests", "expected")
@@ -126,10 +126,18 @@ def examples(write):
             yield told_case(f"examples: {' '.join(words)}", words, path, write)
 
 
-def tools():
-    agrees = '"$JSONCRDT" run - 2>/dev/null | grep -q "^stuck 36"'
-    yield told_case("tools: shrink", ["tools/shrink", "examples/out-of-order.jsoncrdt", "sh", "-c", agrees],
-                    os.path.join(EXPECTED, "out-of-order.shrunk"))
+# Examples that are made smaller, each as long as this is found in what a command tells of it.
+SHRUNK = (
+    ("out-of-order", "run", "^stuck 36"),
+    ("answer-first", "view", '"answer":"now".*"name":"r"'),
+)
+
+
+def tools(write):
+    for name, command, looked_for in SHRUNK:
+        agrees = f"\"$JSONCRDT\" {command} - 2>/dev/null | grep -q '{looked_for}'"
+        yield told_case(f"tools: shrink {name}", ["tools/shrink", f"examples/{name}.jsoncrdt", "sh", "-c", agrees],
+                        os.path.join(EXPECTED, f"{name}.shrunk"), write)
 
 
 def process_case(row):
@@ -235,9 +243,9 @@ def names_commands(programs):
 
 # Arguments that ask for a text or for nothing that there is, with the status, and what stands in the text.
 ASKED = (
-    (["--version"], 0, "jsoncrdt 1.0.0\n"),
-    (["-V"], 0, "jsoncrdt 1.0.0\n"),
-    (["help", "--version"], 0, "jsoncrdt 1.0.0\n"),
+    (["--version"], 0, "jsoncrdt 2.0.0\n"),
+    (["-V"], 0, "jsoncrdt 2.0.0\n"),
+    (["help", "--version"], 0, "jsoncrdt 2.0.0\n"),
     (["help"], 0, "Statuses:"),
     (["--help"], 0, "Statuses:"),
     (["help", "help"], 0, "Statuses:"),
@@ -270,7 +278,8 @@ def arguments():
 def colours_words(_):
     grammar = json.loads(stored("editors/jsoncrdt.tmLanguage.json"))
     text = "\n".join(re.compile(pattern).pattern for pattern in patterns_of(grammar)).replace("\\b", " ")
-    words = [word.decode() for word in RESERVED if not re.search(rf"\b{word.decode()}\b", text)]
+    looked_for = sorted(RESERVED | {*EVENTS, b"take", b"given", b"schedule", b"replica", b"jsoncrdt"})
+    words = [word.decode() for word in looked_for if not re.search(rf"\b{word.decode()}\b", text)]
     expect(not words, f"no pattern has {words}")
 
 
@@ -330,7 +339,7 @@ def main():
     parser.add_argument("--write", action="store_true",
                         help="write what the tools print of each example to tests/expected, to be read before it is kept")
     asked, programs = parser.parse_args(), Programs()
-    cases = [*examples(asked.write), *blocks(), *pages(), *tools(), *faults(), *scripts(), *process(), *arguments(),
+    cases = [*examples(asked.write), *blocks(), *pages(), *tools(asked.write), *faults(), *scripts(), *process(), *arguments(),
              *editors()]
     cases = chosen_of(cases, asked.words)
     if IN_TEST in os.environ:

@@ -4,6 +4,7 @@ The program is that which the variable JSONCRDT of the environment names; else t
 the command line over the rules in Python, which gives the same texts.
 """
 
+import collections
 import json
 import os
 import re
@@ -54,64 +55,88 @@ def text_of(file):
 
 
 class Scenario:
-    """The canonical text of a scenario: the commands of each replica, and the events, as they are written there."""
+    """The canonical text of a scenario: its version, the commands of each replica, the given events and those of the
+    schedule, as they are written there."""
 
     def __init__(self, text):
         printed, status = told(["print", "-"], text)
         if status:
             stop(printed, status)
-        if not printed.startswith("jsoncrdt 1\n"):
+        header = re.match(r"jsoncrdt ([12])\n", printed)
+        if not header:
             stop(f"{program()} isn't jsoncrdt: it printed no scenario")
-        self.scripts, self.events, block = {}, [], None
+        self.version, self.text = int(header[1]), printed
+        self.scripts, self.given, self.events, block = {}, [], [], None
         for line in printed.split("\n"):
             if line.startswith("replica "):
                 block = self.scripts.setdefault(line.split()[1], [])
-            elif line.startswith("schedule "):
-                block = self.events
+            elif line in ("given {", "schedule {"):
+                block = self.given if line == "given {" else self.events
             elif line.startswith("  "):
                 block.append(line[2:-1])
-        self.text = printed
+
+    def past(self):
+        """The text of the scenario in which what is given here is the schedule, and nothing is given."""
+        front = self.text[:self.text.index("\ngiven {\n")]
+        return "\n".join([front, "given {", "}", "schedule {", *(f"  {event};" for event in self.given), "}", ""])
 
 
-EVENT = re.compile(r"(\w+)\.(exec|send|done|recv|apply)(?:\((?:(\d+), )?(\w+)\))?")
+EVENT = re.compile(r"(\w+)\.(exec|send|done|recv|take|apply)(?:\((?:([A-Za-z_]\w*), )?(?:(\d+), )?(\w+)\))?")
+
+# The replica of an event, its kind, for recv and take the sender, and for take and apply the counter and the maker of the
+# operation. What an event hasn't is none.
+Parts = collections.namedtuple("Parts", "replica kind sender counter maker")
 
 
 def parts_of(event):
-    """The replica of an event, its kind, and for recv and apply its counter and its other replica."""
-    replica, kind, counter, other = EVENT.fullmatch(event).groups()
-    return replica, kind, counter, other
+    replica, kind, sender, counter, other = EVENT.fullmatch(event).groups()
+    return Parts(replica, kind, other, None, None) if kind == "recv" else Parts(replica, kind, sender, counter, other)
 
 
-def session(scenario, lines):
-    """The answers to lines of a session, as one text."""
+def session(text, lines):
+    """The answers to lines of a session on the scenario, as one text. Where a given event is stuck the tool ends."""
     with tempfile.NamedTemporaryFile("w", encoding="utf-8", newline="") as file:
-        file.write(scenario.text)
+        file.write(text)
         file.flush()
-        return told(["debug", file.name], "".join(line + "\n" for line in lines))[0]
+        answers, status = told(["debug", file.name], "".join(line + "\n" for line in lines))
+    if status:
+        stop(answers, status)
+    return answers
 
 
 class Step:
-    """An event of the schedule: its number from 1, its text, the state of its replica before and after it, and the line
-    that says why it is stuck, where it is."""
+    """An event that is given or of the schedule: its number from 1, its text, the state of its replica before and after
+    it, and the line that says why it is stuck, where it is."""
 
-    def __init__(self, number, event, before, after, stuck):
-        self.number, self.event, self.before, self.after, self.stuck = number, event, before, after, stuck
+    def __init__(self, is_given, number, event, before, after, stuck):
+        self.is_given, self.number, self.event = is_given, number, event
+        self.before, self.after, self.stuck = before, after, stuck
 
 
-def steps(scenario):
-    """The events of the schedule up to the first that is stuck, each as a step."""
+def steps_of(text, names, events, is_given):
+    """The events, which are the schedule of the text, up to the first that is stuck, each as a step."""
     asked = ["state"]
-    for event in scenario.events:
-        asked += ["step", "state " + parts_of(event)[0]]
-    answers = iter(session(scenario, asked).split("\n"))
+    for event in events:
+        asked += ["step", "state " + parts_of(event).replica]
+    answers = iter(session(text, asked).split("\n"))
     states = {}
-    for name in scenario.scripts:
+    for name in names:
         states[name] = json.loads(next(answers))
-    for number, event in enumerate(scenario.events, 1):
-        name = parts_of(event)[0]
+    for number, event in enumerate(events, 1):
+        name = parts_of(event).replica
         stuck = next(answers) if next(answers) != f"at {number}" else None
         after = json.loads(next(answers))
-        yield Step(number, event, states[name], after, stuck)
+        yield Step(is_given, number, event, states[name], after, stuck)
         if stuck:
             return
         states[name] = after
+
+
+def steps(scenario):
+    """The given events and those of the schedule, up to the first that is stuck, each as a step."""
+    step = None
+    if scenario.given:
+        for step in steps_of(scenario.past(), scenario.scripts, scenario.given, True):
+            yield step
+    if not step or not step.stuck:
+        yield from steps_of(scenario.text, scenario.scripts, scenario.events, False)

@@ -17,7 +17,7 @@ HELP_COMMAND = "help", "Print the help of the program, or of a command"
 COMMANDS = [
     Command("check", [],
             "Tell whether a text is a scenario, and how many replicas, commands and events it has",
-            "No event is executed."),
+            "Of a scenario of version 2 given events are counted too. No event is executed."),
     Command("print", [],
             "Print the scenario in its canonical text",
             "That has a line for each command and each event, and the replicas by their names."),
@@ -40,8 +40,8 @@ COMMANDS = [
             [Option("--limit", value="N", about="Let each replica execute N events at most, from 0 to 100000",
                     default="10000")],
             "Run each replica in a thread of its own, and print the scenario with the schedule that they made",
-            "The schedule in the file isn't looked at. A line for each replica goes to standard error. A stuck event "
-            "isn't in the schedule that is printed."),
+            "The schedule in the file isn't looked at; given events are executed first, and kept. A line for each replica "
+            "goes to standard error. A stuck event isn't in the schedule that is printed."),
 ]
 STATUSES = [
     (0, "done, also after help and the version"),

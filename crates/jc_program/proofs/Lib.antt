@@ -4,6 +4,7 @@ pub mod Begun
 pub mod Counting
 pub mod Dumping
 pub mod Ending
+pub mod GivenStuck
 pub mod Viewing
 pub mod Viewed
 pub mod OneRun

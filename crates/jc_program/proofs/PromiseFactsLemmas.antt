@@ -15,7 +15,7 @@ use Rattle.jc_program.specs.Orders.{IsAlone, IsDone, IsStopped, IsThreadsOrder}
 use Rattle.jc_program.specs.Threaded.{HaveThreaded, IsThreadsFault}
 use Rattle.jc_rules.specs.Told.{LosesUpTo}
 use Rattle.jc_session.specs.Written.{Stream}
-use Rattle.jc_program.specs.Promise.{World, Files, Promise, All, Says, Carried, Stopped, Completes, Breaks, done, text_refused, stuck, thread_starved, help, usage, read_failed, write_failed, help_write_failed, too_many_lines, no_thread, no_memory, no_memory_for_words}
+use Rattle.jc_program.specs.Promise.{World, Files, Promise, All, Says, Carried, Stopped, Completes, Breaks, done, text_refused, stuck, given_stuck, thread_starved, help, usage, read_failed, write_failed, help_write_failed, too_many_lines, no_thread, no_memory, no_memory_for_words}
 use Rattle.jc_words.specs.Laws.{FaultlessAreOrders}
 use Rattle.jc_words.proofs.Commands.{asks_none}
 use Rattle.jc_program.specs.PromiseFacts.{OrderFact, DoneFact, StoppedFact, ThreadsFact, HelpFact, LostFact, FaultyFact, SilentFact, UnshownFact, ShownFact, UsageFact, UnreadFact, OtherFileFact, MostFact, FailedFact, MemoryLineFact, QuietFact, Facts}
@@ -26,18 +26,19 @@ use Rattle.jc_program.proofs.PromiseLemmas.{alone_at, loses_none}
 
 -- ---- statuses
 
-five_is_no_end : E.IsEnd 5 → ⊥
-five_is_no_end e = at 5 e refl
+five_is_no_end : (bytes : List ℕ) → E.IsEnd bytes 5 → ⊥
+five_is_no_end bytes e = at 5 e refl
   where
-    at : (n : ℕ) → E.IsEnd n → n ≡ 5 → ⊥
+    at : (n : ℕ) → E.IsEnd bytes n → n ≡ 5 → ⊥
     at n E.well e = cc
-    at n E.refused e = cc
-    at n E.stuck e = cc
+    at n E.text_refused e = cc
+    at n (E.event_stuck start) e = cc
+    at n (E.given_stuck given) e = cc
 
 -- a task that waits for nobody and is done hasn't the status 5
 pub not_starved : (task : Task) (bytes : List ℕ) (lines : Option (List ℕ)) (old new : World) → IsAlone task → Completes task bytes lines old new 5 → ⊥
-not_starved (Show view) bytes lines old new alone h = five_is_no_end (E.of_view view bytes h.0.0 5 h.0.1)
-not_starved Debug bytes lines old new alone h = five_is_no_end (E.of_session h.0.0 5 h.0.1)
+not_starved (Show view) bytes lines old new alone h = five_is_no_end bytes (E.of_view view bytes h.0.0 5 h.0.1)
+not_starved Debug bytes lines old new alone h = five_is_no_end bytes (E.of_session bytes lines h.0.0 old.out new.out 5 h.0.1 h.0.2)
 not_starved (Threads limit) bytes lines old new alone h = absurd alone
 
 pub none_some : {X : Type 0} {x : X} {o : Option X} → o ≡ None → o ≡ Some x → ⊥
@@ -110,12 +111,23 @@ fault_ends TooManyLines n e four five = four e
 fault_ends NoThread n e four five = five e
 fault_ends Memory n e four five = five e
 
-fault_not_1 : (fault : WorkFault) (n : ℕ) → n ≡ fault_status fault → n ≡ 1 → ⊥
-fault_not_1 Read n e one = cc
-fault_not_1 Write n e one = cc
-fault_not_1 TooManyLines n e one = cc
-fault_not_1 NoThread n e one = cc
-fault_not_1 Memory n e one = cc
+fault_no_refusal : (fault : WorkFault) (n : ℕ) → n ≡ fault_status fault → (n ≡ 1) ⊎ (n ≡ 3) → ⊥
+fault_no_refusal Read n e (inl one) = cc
+fault_no_refusal Read n e (inr three) = cc
+fault_no_refusal Write n e (inl one) = cc
+fault_no_refusal Write n e (inr three) = cc
+fault_no_refusal TooManyLines n e (inl one) = cc
+fault_no_refusal TooManyLines n e (inr three) = cc
+fault_no_refusal NoThread n e (inl one) = cc
+fault_no_refusal NoThread n e (inr three) = cc
+fault_no_refusal Memory n e (inl one) = cc
+fault_no_refusal Memory n e (inr three) = cc
+
+-- where no line is read
+no_lines : {A B C D : Type 0} → A ⊎ (B ⊎ C) → A ⊎ (B ⊎ (C ⊎ D))
+no_lines (inl a) = inl a
+no_lines (inr (inl b)) = inr (inl b)
+no_lines (inr (inr c)) = inr (inr (inl c))
 
 module _ (Does : Task → Type 0) (files : Files) (words : List (List ℕ)) (old new : World) where
   -- an order of which nothing was read or done
@@ -129,7 +141,8 @@ module _ (Does : Task → Type 0) (files : Files) (words : List (List ℕ)) (old
   pub stopped_of : {n : ℕ} → Promise Does files words old new n → StoppedFact files words old new n
   stopped_of (done c) order some alone ends = absurd (not_0 ends)
   stopped_of (text_refused c) order some alone ends = absurd (not_1 ends)
-  stopped_of (stuck c) order some alone ends = absurd (not_3 ends)
+  stopped_of (stuck c start) order some alone ends = absurd (not_3 ends)
+  stopped_of (given_stuck c given) order some alone ends = absurd (not_3 ends)
   stopped_of (thread_starved c) order some alone ends =
       let same : c.order ≡ order = same_Some c.order order (sym c.is_order ∙ some) in
       let own : IsAlone c.order.task = subst (λ (o : Order). IsAlone o.task) (sym same) alone in
@@ -152,7 +165,8 @@ module _ (Does : Task → Type 0) (files : Files) (words : List (List ℕ)) (old
   pub help_of : {n : ℕ} → Promise Does files words old new n → HelpFact files words old new n
   help_of (done c) asks = inl refl
   help_of (text_refused c) asks = absurd (ordered_help asks c)
-  help_of (stuck c) asks = absurd (ordered_help asks c)
+  help_of (stuck c start) asks = absurd (ordered_help asks c)
+  help_of (given_stuck c given) asks = absurd (ordered_help asks c)
   help_of (thread_starved c) asks = inr (inr refl)
   help_of (help text none by full out input err) asks = inl refl
   help_of (usage text none by full says input out) asks = absurd (by asks)
@@ -168,7 +182,8 @@ module _ (Does : Task → Type 0) (files : Files) (words : List (List ℕ)) (old
   usage_at : {n : ℕ} → Promise Does files words old new n → n ≡ 2 → (words_order words ≡ None) × ((text : List ℕ) × (text ≢ []) × Says old new text) × (new.out ≡ old.out)
   usage_at (done c) e = cc
   usage_at (text_refused c) e = cc
-  usage_at (stuck c) e = cc
+  usage_at (stuck c start) e = cc
+  usage_at (given_stuck c given) e = cc
   usage_at (thread_starved c) e = cc
   usage_at (help text none by full out input err) e = cc
   usage_at (usage text none by full says input out) e = (none, (text, full, says), out)
@@ -200,7 +215,8 @@ module _ (Does : Task → Type 0) (files : Files) (words : List (List ℕ)) (old
   pub lost_of : {n : ℕ} → Promise Does files words old new n → LostFact files words old new n
   lost_of (done c) n0 e = absurd (no_carried n0 c)
   lost_of (text_refused c) n0 e = absurd (no_carried n0 c)
-  lost_of (stuck c) n0 e = absurd (no_carried n0 c)
+  lost_of (stuck c start) n0 e = absurd (no_carried n0 c)
+  lost_of (given_stuck c given) n0 e = absurd (no_carried n0 c)
   lost_of (thread_starved c) n0 e = absurd (no_carried n0 c)
   lost_of (help text none by full out input err) n0 e = cc
   lost_of (usage text none by full says input out) n0 e = cc
@@ -215,7 +231,8 @@ module _ (Does : Task → Type 0) (files : Files) (words : List (List ℕ)) (old
   pub faulty_of : {n : ℕ} → Promise Does files words old new n → FaultyFact files words old new n
   faulty_of (done c) n0 e = absurd (no_carried n0 c)
   faulty_of (text_refused c) n0 e = absurd (no_carried n0 c)
-  faulty_of (stuck c) n0 e = absurd (no_carried n0 c)
+  faulty_of (stuck c start) n0 e = absurd (no_carried n0 c)
+  faulty_of (given_stuck c given) n0 e = absurd (no_carried n0 c)
   faulty_of (thread_starved c) n0 e = absurd (no_carried n0 c)
   faulty_of (help text none by full out input err) n0 e = absurd (e by)
   faulty_of (usage text none by full says input out) n0 e = inl refl
@@ -230,7 +247,8 @@ module _ (Does : Task → Type 0) (files : Files) (words : List (List ℕ)) (old
   pub unshown_of : {n : ℕ} → Promise Does files words old new n → UnshownFact files words old new n
   unshown_of (done c) n0 e = absurd (no_carried n0 c)
   unshown_of (text_refused c) n0 e = absurd (no_carried n0 c)
-  unshown_of (stuck c) n0 e = absurd (no_carried n0 c)
+  unshown_of (stuck c start) n0 e = absurd (no_carried n0 c)
+  unshown_of (given_stuck c given) n0 e = absurd (no_carried n0 c)
   unshown_of (thread_starved c) n0 e = absurd (no_carried n0 c)
   unshown_of (help text none by full out input err) n0 e = cc
   unshown_of (usage text none by full says input out) n0 e = out
@@ -245,7 +263,8 @@ module _ (Does : Task → Type 0) (files : Files) (words : List (List ℕ)) (old
   pub shown_of : {n : ℕ} → Promise Does files words old new n → ShownFact files words old new n
   shown_of (done c) n0 e = absurd (no_carried n0 c)
   shown_of (text_refused c) n0 e = absurd (no_carried n0 c)
-  shown_of (stuck c) n0 e = absurd (no_carried n0 c)
+  shown_of (stuck c start) n0 e = absurd (no_carried n0 c)
+  shown_of (given_stuck c given) n0 e = absurd (no_carried n0 c)
   shown_of (thread_starved c) n0 e = absurd (no_carried n0 c)
   shown_of (help text none by full out input err) n0 e = (text, full, out)
   shown_of (usage text none by full says input out) n0 e = cc
@@ -260,7 +279,8 @@ module _ (Does : Task → Type 0) (files : Files) (words : List (List ℕ)) (old
   pub unread_of : {n : ℕ} → Promise Does files words old new n → UnreadFact files words old new n
   unread_of (done c) n0 = absurd (no_carried n0 c)
   unread_of (text_refused c) n0 = absurd (no_carried n0 c)
-  unread_of (stuck c) n0 = absurd (no_carried n0 c)
+  unread_of (stuck c start) n0 = absurd (no_carried n0 c)
+  unread_of (given_stuck c given) n0 = absurd (no_carried n0 c)
   unread_of (thread_starved c) n0 = absurd (no_carried n0 c)
   unread_of (help text none by full out input err) n0 = input
   unread_of (usage text none by full says input out) n0 = input
@@ -277,7 +297,8 @@ module _ (Does : Task → Type 0) (files : Files) (words : List (List ℕ)) (old
   pub failed_of : {n : ℕ} → Promise Does files words old new n → FailedFact files words old new n
   failed_of (done c) e = (c.none_failed.input, c.none_failed.out)
   failed_of (text_refused c) e = (c.none_failed.input, c.none_failed.out)
-  failed_of (stuck c) e = (c.none_failed.input, c.none_failed.out)
+  failed_of (stuck c start) e = (c.none_failed.input, c.none_failed.out)
+  failed_of (given_stuck c given) e = (c.none_failed.input, c.none_failed.out)
   failed_of (thread_starved c) e = (c.none_failed.input, c.none_failed.out)
   failed_of (help text none by full out input err) e = (ap (λ (s : Stream). s.failures) input, out.1)
   failed_of (usage text none by full says input out) e = (ap (λ (s : Stream). s.failures) input, ap (λ (s : Stream). s.failures) out)
@@ -305,7 +326,8 @@ module _ (Does : Task → Type 0) (files : Files) (words : List (List ℕ)) (old
   kind_of : {n : ℕ} → Promise Does files words old new n → Kind n
   kind_of (done c) = inl c
   kind_of (text_refused c) = inl c
-  kind_of (stuck c) = inl c
+  kind_of (stuck c start) = inl c
+  kind_of (given_stuck c given) = inl c
   kind_of (thread_starved c) = inl c
   kind_of (help text none by full out input err) = inr (inr (inr none))
   kind_of (usage text none by full says input out) = inr (inr (inr none))
@@ -359,12 +381,12 @@ module _ (Does : Task → Type 0) (files : Files) (words : List (List ℕ)) (old
   other_at : {n : ℕ} → Kind n → OtherFileFact files words old new n
   other_at {n} (inl c) order some by other =
       let same : c.order ≡ order = same_Some c.order order (sym c.is_order ∙ some) in
-      subst (λ (o : Order). (o.task ≢ Debug) ⊎ (n ≡ 1) → o.file ≢ codes "-" → new.input ≡ old.input) same (λ h. (c.reads (elim h [ inl a ↦ inl a | inr b ↦ inr (inl b) ])).other_file) by other
+      subst (λ (o : Order). (o.task ≢ Debug) ⊎ ((n ≡ 1) ⊎ (n ≡ 3)) → o.file ≢ codes "-" → new.input ≡ old.input) same (λ h. (c.reads (no_lines h)).other_file) by other
   other_at {n} (inr (inl f)) order some (inl by) other =
       let s = f.2.0 in
       let same : s.order ≡ order = same_Some s.order order (sym s.is_order ∙ some) in
       subst (λ (o : Order). o.task ≢ Debug → o.file ≢ codes "-" → new.input ≡ old.input) same (λ h. (s.reads (inl h)).other_file) by other
-  other_at {n} (inr (inl f)) order some (inr one) other = absurd (fault_not_1 f.0 n f.1 one)
+  other_at {n} (inr (inl f)) order some (inr known) other = absurd (fault_no_refusal f.0 n f.1 known)
   other_at (inr (inr (inl u))) order some by other = u.1
   other_at (inr (inr (inr none))) order some by other = absurd (none_some none some)
 
@@ -374,11 +396,11 @@ module _ (Does : Task → Type 0) (files : Files) (words : List (List ℕ)) (old
   most_at : {n : ℕ} → Kind n → MostFact files words old new n
   most_at {n} (inl c) order some by =
       let same : c.order ≡ order = same_Some c.order order (sym c.is_order ∙ some) in
-      subst (λ (o : Order). (o.task ≢ Debug) ⊎ (o.file ≡ codes "-") → LosesUpTo 8388609 old.input.bytes new.input.bytes) same (λ h. (c.reads (elim h [ inl a ↦ inl a | inr b ↦ inr (inr b) ])).most) by
+      subst (λ (o : Order). (o.task ≢ Debug) ⊎ (o.file ≡ codes "-") → LosesUpTo 8388609 old.input.bytes new.input.bytes) same (λ h. (c.reads (elim h [ inl a ↦ inl a | inr b ↦ inr (inr (inr b)) ])).most) by
   most_at {n} (inr (inl f)) order some by =
       let s = f.2.0 in
       let same : s.order ≡ order = same_Some s.order order (sym s.is_order ∙ some) in
-      subst (λ (o : Order). (o.task ≢ Debug) ⊎ (o.file ≡ codes "-") → LosesUpTo 8388609 old.input.bytes new.input.bytes) same (λ h. (s.reads (elim h [ inl a ↦ inl a | inr b ↦ inr (inr b) ])).most) by
+      subst (λ (o : Order). (o.task ≢ Debug) ⊎ (o.file ≡ codes "-") → LosesUpTo 8388609 old.input.bytes new.input.bytes) same (λ h. (s.reads (elim h [ inl a ↦ inl a | inr b ↦ inr (inr (inr b)) ])).most) by
   most_at (inr (inr (inl u))) order some by = loses_none old.input.bytes new.input.bytes (ap (λ (s : Stream). s.bytes) u.1)
   most_at (inr (inr (inr none))) order some by = absurd (none_some none some)
 
@@ -393,7 +415,8 @@ module _ (Does : Task → Type 0) (files : Files) (words : List (List ℕ)) (old
   pub memory_line_of : {n : ℕ} → Promise Does files words old new n → MemoryLineFact files words old new n
   memory_line_of (done c) alone e = cc
   memory_line_of (text_refused c) alone e = cc
-  memory_line_of (stuck c) alone e = cc
+  memory_line_of (stuck c start) alone e = cc
+  memory_line_of (given_stuck c given) alone e = cc
   memory_line_of (thread_starved c) alone e = absurd (not_starved c.order.task c.bytes (lines_by old.input.bytes c.order.file) old new (alone_of c.order c.is_order alone) c.completes)
   memory_line_of (help text none by full out input err) alone e = cc
   memory_line_of (usage text none by full says input out) alone e = cc
@@ -411,7 +434,8 @@ module _ (Does : Task → Type 0) (files : Files) (words : List (List ℕ)) (old
   pub quiet_of : {n : ℕ} → Promise Does files words old new n → QuietFact files words old new n
   quiet_of (done c) alone two four five = quiet_at alone c
   quiet_of (text_refused c) alone two four five = quiet_at alone c
-  quiet_of (stuck c) alone two four five = quiet_at alone c
+  quiet_of (stuck c start) alone two four five = quiet_at alone c
+  quiet_of (given_stuck c given) alone two four five = quiet_at alone c
   quiet_of (thread_starved c) alone two four five = quiet_at alone c
   quiet_of (help text none by full out input err) alone two four five = err
   quiet_of (usage text none by full says input out) alone two four five = absurd (two refl)
@@ -462,7 +486,8 @@ module _ (files : Files) (words : List (List ℕ)) (old new : World) where
     starving : {n : ℕ} → Promise IsAlone files words old new n → (n ≡ 5) × (new.out ≡ old.out)
     starving (done c) = absurd (waits c.order c.is_order c.does)
     starving (text_refused c) = absurd (waits c.order c.is_order c.does)
-    starving (stuck c) = absurd (waits c.order c.is_order c.does)
+    starving (stuck c start) = absurd (waits c.order c.is_order c.does)
+    starving (given_stuck c given) = absurd (waits c.order c.is_order c.does)
     starving (thread_starved c) = absurd (waits c.order c.is_order c.does)
     starving (help text none by full out input err) = absurd (none_some none some)
     starving (usage text none by full says input out) = absurd (none_some none some)
@@ -477,7 +502,8 @@ module _ (files : Files) (words : List (List ℕ)) (old new : World) where
   line_of : {n : ℕ} → Promise IsAlone files words old new n → n ≡ 5 → Says old new (codes "no memory\n")
   line_of (done c) e = cc
   line_of (text_refused c) e = cc
-  line_of (stuck c) e = cc
+  line_of (stuck c start) e = cc
+  line_of (given_stuck c given) e = cc
   line_of (thread_starved c) e = absurd (not_starved c.order.task c.bytes (lines_by old.input.bytes c.order.file) old new c.does c.completes)
   line_of (help text none by full out input err) e = cc
   line_of (usage text none by full says input out) e = cc
@@ -495,7 +521,8 @@ module _ (files : Files) (words : List (List ℕ)) (old new : World) where
   calm_of : {n : ℕ} → Promise IsAlone files words old new n → n ≢ 2 → n ≢ 4 → n ≢ 5 → new.err ≡ old.err
   calm_of (done c) two four five = calm_at c
   calm_of (text_refused c) two four five = calm_at c
-  calm_of (stuck c) two four five = calm_at c
+  calm_of (stuck c start) two four five = calm_at c
+  calm_of (given_stuck c given) two four five = calm_at c
   calm_of (thread_starved c) two four five = calm_at c
   calm_of (help text none by full out input err) two four five = err
   calm_of (usage text none by full says input out) two four five = absurd (two refl)

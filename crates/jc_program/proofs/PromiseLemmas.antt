@@ -20,7 +20,7 @@ use Rattle.jc_program.specs.Talked.{lines_by}
 use Rattle.jc_program.specs.Threaded.{outcome_status, ThreadsRan, HaveThreaded, HaveStopped}
 use Rattle.jc_program.specs.Orders.{IsAlone, IsDone, IsStopped}
 use Rattle.jc_session.specs.Written.{Stream}
-use Rattle.jc_program.specs.Promise.{World, Files, NoneFailed, ReadsFor, Promise, All, Says, Carried, Stopped, Completes, Breaks, done, text_refused, stuck, thread_starved, help, usage, read_failed, write_failed, help_write_failed, too_many_lines, no_thread, no_memory, no_memory_for_words}
+use Rattle.jc_program.specs.Promise.{World, Files, NoneFailed, ReadsFor, HasStart, Promise, All, Says, Carried, Stopped, Completes, Breaks, done, text_refused, stuck, given_stuck, thread_starved, help, usage, read_failed, write_failed, help_write_failed, too_many_lines, no_thread, no_memory, no_memory_for_words}
 use Rattle.jc_program.proofs.Orders as E
 
 -- ---- tasks
@@ -45,19 +45,27 @@ alone_at (Threads limit) none = absurd (none limit refl)
 
 -- ---- statuses
 
--- a status of an order that was carried out
-data IsStatus : ℕ → Type 0 where
-  at_end : {n : ℕ} → E.IsEnd n → IsStatus n
-  at_5 : IsStatus 5
+-- a status of an order on these bytes that was carried out
+data IsStatus (bytes : List ℕ) : ℕ → Type 0 where
+  at_end : {n : ℕ} → E.IsEnd bytes n → IsStatus bytes n
+  at_5 : IsStatus bytes 5
 
-of_outcome : (outcome : Outcome) → IsStatus (outcome_status outcome)
-of_outcome O.NoMemory = at_5
-of_outcome O.Stuck = at_end E.stuck
-of_outcome O.Done = at_end E.well
+of_outcome : (bytes : List ℕ) → HasStart bytes → (outcome : Outcome) → IsStatus bytes (outcome_status outcome)
+of_outcome bytes start O.NoMemory = at_5
+of_outcome bytes start O.Stuck = at_end (E.event_stuck start)
+of_outcome bytes start O.Done = at_end E.well
 
-of_threads : (limit : ℕ) (bytes out lines : List ℕ) (n : ℕ) → ThreadsRan limit bytes out lines n → IsStatus n
-of_threads limit bytes out lines n (Ok s, is, h) = subst IsStatus (sym h.ends) (of_outcome h.recording.outcome)
-of_threads limit bytes out lines n (Err fault, is, h) = subst IsStatus (sym h.0.ends) (at_end E.refused)
+of_threads : (limit : ℕ) (bytes out lines : List ℕ) (n : ℕ) → ThreadsRan limit bytes out lines n → IsStatus bytes n
+of_threads limit bytes out lines n (Ok s, is, inl h) =
+    let legal = h.is_recording.is_report.legal in
+    subst (IsStatus bytes) (sym h.ends) (of_outcome bytes (s, legal.start, is, legal.is_start) h.recording.outcome)
+of_threads limit bytes out lines n (Ok s, is, inr h) = at_end (E.of_given bytes s out n is h.0)
+of_threads limit bytes out lines n (Err fault, is, h) = subst (IsStatus bytes) (sym h.0.ends) (at_end E.text_refused)
+
+of_task : (task : Task) (bytes : List ℕ) (lines : Option (List ℕ)) (old new : World) (n : ℕ) → Completes task bytes lines old new n → IsStatus bytes n
+of_task (Show view) bytes lines old new n h = at_end (E.of_view view bytes h.0.0 n h.0.1)
+of_task Debug bytes lines old new n h = at_end (E.of_session bytes lines h.0.0 old.out new.out n h.0.1 h.0.2)
+of_task (Threads limit) bytes lines old new n h = of_threads limit bytes h.1.0 h.0 n h.1.1
 
 -- ---- what is read
 
@@ -80,16 +88,21 @@ loses_none a b same = ([], nat_0, subst (λ (o : Option (List ℕ)). ConsumesIfT
 
 module _ (order : Order) (n : ℕ) (old new : World)
     (most : (order.task ≢ Debug) ⊎ (order.file ≡ codes "-") → LosesUpTo 8388609 old.input.bytes new.input.bytes)
-    (untouched : (order.task ≢ Debug) ⊎ (n ≡ 1) → order.file ≢ codes "-" → new.input ≡ old.input) where
-  loses : (order.task ≢ Debug) ⊎ ((n ≡ 1) ⊎ (order.file ≡ codes "-")) → LosesUpTo 8388609 old.input.bytes new.input.bytes
-  loses (inl other) = most (inl other)
-  loses (inr (inr file)) = most (inr file)
-  loses (inr (inl one)) = elim (is_dash order.file) [ inl file ↦ most (inr file) | inr file ↦ loses_none old.input.bytes new.input.bytes (ap (λ (s : Stream). s.bytes) (untouched (inr one) file)) ]
+    (untouched : (order.task ≢ Debug) ⊎ ((n ≡ 1) ⊎ (n ≡ 3)) → order.file ≢ codes "-" → new.input ≡ old.input) where
+  left_alone : (order.task ≢ Debug) ⊎ ((n ≡ 1) ⊎ (n ≡ 3)) → LosesUpTo 8388609 old.input.bytes new.input.bytes
+  left_alone by = elim (is_dash order.file) [ inl file ↦ most (inr file) | inr file ↦ loses_none old.input.bytes new.input.bytes (ap (λ (s : Stream). s.bytes) (untouched by file)) ]
 
-  elsewhere : (order.task ≢ Debug) ⊎ ((n ≡ 1) ⊎ (order.file ≡ codes "-")) → order.file ≢ codes "-" → new.input ≡ old.input
+  loses : (order.task ≢ Debug) ⊎ ((n ≡ 1) ⊎ ((n ≡ 3) ⊎ (order.file ≡ codes "-"))) → LosesUpTo 8388609 old.input.bytes new.input.bytes
+  loses (inl other) = most (inl other)
+  loses (inr (inl one)) = left_alone (inr (inl one))
+  loses (inr (inr (inl three))) = left_alone (inr (inr three))
+  loses (inr (inr (inr file))) = most (inr file)
+
+  elsewhere : (order.task ≢ Debug) ⊎ ((n ≡ 1) ⊎ ((n ≡ 3) ⊎ (order.file ≡ codes "-"))) → order.file ≢ codes "-" → new.input ≡ old.input
   elsewhere (inl other) = untouched (inl other)
-  elsewhere (inr (inl one)) = untouched (inr one)
-  elsewhere (inr (inr file)) = λ other. absurd (other file)
+  elsewhere (inr (inl one)) = untouched (inr (inl one))
+  elsewhere (inr (inr (inl three))) = untouched (inr (inr three))
+  elsewhere (inr (inr (inr file))) = λ other. absurd (other file)
 
   pub reads_for : ReadsFor order n old new
   reads_for by = record { other_file = elsewhere by; most = loses by }
@@ -104,11 +117,15 @@ module _ (Does : Task → Type 0) (files : Files) (words : List (List ℕ)) (old
   explained (W.Usage text) n why some (e, out, says) input = subst (Promise Does files words old new) (sym e) (usage (string_bytes text) why.0 why.1 some says input out)
   explained W.Memory n why some (e, out, says) input = subst (Promise Does files words old new) (sym e) (no_memory_for_words input out says)
 
-  ended : {n : ℕ} → IsStatus n → Carried Does files words old new n → Promise Does files words old new n
-  ended (at_end E.well) c = done c
-  ended (at_end E.refused) c = text_refused c
-  ended (at_end E.stuck) c = stuck c
-  ended at_5 c = thread_starved c
+  at_status : {n : ℕ} (c : Carried Does files words old new n) → IsStatus c.bytes n → Promise Does files words old new n
+  at_status c (at_end E.well) = done c
+  at_status c (at_end E.text_refused) = text_refused c
+  at_status c (at_end (E.event_stuck start)) = stuck c start
+  at_status c (at_end (E.given_stuck given)) = given_stuck c given
+  at_status c at_5 = thread_starved c
+
+  ended : {n : ℕ} → Carried Does files words old new n → Promise Does files words old new n
+  ended {n} c = at_status c (of_task c.order.task c.bytes (lines_by old.input.bytes c.order.file) old new n c.completes)
 
   halted : (fault : WorkFault) (n : ℕ) → n ≡ fault_status fault → (s : Stopped Does files words old new fault) → IsCause fault (IsUnread files.may_fail s.order.file) old.input.failures new.input.failures old.out.failures new.out.failures → Promise Does files words old new n
   halted Read n e s c = subst (Promise Does files words old new) (sym e) (read_failed s c.0 c.1)
@@ -124,7 +141,7 @@ module _ (Does : Task → Type 0) (files : Files) (words : List (List ℕ)) (old
         let told = told_by old.input.bytes files.texts order.file in
         let lines = lines_by old.input.bytes order.file in
         let c = completed order.task told lines old new n h quiet in
-        ended (at_end (E.is_end order.task told lines old.out new.out n h)) (record { order = order; is_order = is_order; does = does; bytes = c.0; told = c.1; completes = c.2; reads = reads; none_failed = free })
+        ended (record { order = order; is_order = is_order; does = does; bytes = c.0; told = c.1; completes = c.2; reads = reads; none_failed = free })
 
     -- a fault stopped it
     pub stopped : (fault : WorkFault) (n : ℕ) → n ≡ fault_status fault → IsAlone order.task → IsStopped order.task fault (told_by old.input.bytes files.texts order.file) (lines_by old.input.bytes order.file) (lines_by new.input.bytes order.file) old.out new.out → IsCause fault (IsUnread files.may_fail order.file) old.input.failures new.input.failures old.out.failures new.out.failures → ReadsFor order 4 old new → Says old new (fault_line fault) → Promise Does files words old new n
@@ -138,7 +155,7 @@ module _ (Does : Task → Type 0) (files : Files) (words : List (List ℕ)) (old
       threaded n (bytes, told, texts) reads free =
           let lines = lines_by old.input.bytes order.file in
           let c : Completes (Threads limit) bytes lines old new n = texts in
-          ended (of_threads limit bytes texts.1.0 texts.0 n texts.1.1) (record { order = order; is_order = is_order; does = does; bytes = bytes; told = told; completes = subst (λ (k : Task). Completes k bytes lines old new n) (sym is) c; reads = reads; none_failed = free })
+          ended (record { order = order; is_order = is_order; does = does; bytes = bytes; told = told; completes = subst (λ (k : Task). Completes k bytes lines old new n) (sym is) c; reads = reads; none_failed = free })
 
       -- a fault stopped the command
       pub threads_stopped : (fault : WorkFault) (n : ℕ) → n ≡ fault_status fault → HaveStopped limit fault (told_by old.input.bytes files.texts order.file) old.out new.out → IsCause fault (IsUnread files.may_fail order.file) old.input.failures new.input.failures old.out.failures new.out.failures → ReadsFor order 4 old new → Says old new (fault_line fault) → Promise Does files words old new n
@@ -161,7 +178,8 @@ module _ (files : Files) (words : List (List ℕ)) (old new : World) where
   pub more_tasks : {n : ℕ} → Promise IsAlone files words old new n → Promise All files words old new n
   more_tasks (done c) = done (carried_more c)
   more_tasks (text_refused c) = text_refused (carried_more c)
-  more_tasks (stuck c) = stuck (carried_more c)
+  more_tasks (stuck c start) = stuck (carried_more c) start
+  more_tasks (given_stuck c given) = given_stuck (carried_more c) given
   more_tasks (thread_starved c) = thread_starved (carried_more c)
   more_tasks (help text none by full out input err) = help text none by full out input err
   more_tasks (usage text none by full says input out) = usage text none by full says input out

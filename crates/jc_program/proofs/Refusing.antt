@@ -1,12 +1,29 @@
 -- Runs that are refused.
-use Rattle.std.proofs.Common.{arith, ◌≡◌, ◌≤◌, ℕ}
+use Rattle.std.proofs.Common.{arith, ◌≡◌, ◌≤◌, ℕ, List, length, String, string_bytes, Err, refl}
+use Rattle.std.specs.declared.alloc.Global.{Global}
+use Rattle.jc_scenario.specs.Scenarios.{Scenario, IsWellFormed}
 use Rattle.jc_runner.specs.declared.run.RunFault.{RunFault}
 use Rattle.jc_runner.specs.declared.run.RunFault.TheVariants as R
-use Rattle.jc_runner.specs.Reports.{IsRunFault, IsLateFault}
+use Rattle.jc_runner.specs.Reports.{IsRunFault}
+use Rattle.jc_program.specs.declared.recording.RecordFault.{RecordFault}
+use Rattle.jc_program.specs.declared.recording.RecordFault.TheVariants as F
+use Rattle.jc_program.specs.Recordings.{IsRecordFault, IsTellableFault, IsToldAs}
+use Rattle.jc_program.proofs.GivenStuck.{given_named, given_shown}
 
--- with as many gates as replicas, and a limit that may be, memory or a thread was wanting
-pub late : (fault : RunFault) (gates replicas limit : ℕ) → gates ≡ replicas → limit ≤ 100000 → IsRunFault fault gates replicas limit → IsLateFault fault
-late R.GateCount gates replicas limit same small is = is same
-late R.LimitTooLarge gates replicas limit same small is = absurd (omega (arith, small, is.1))
-late R.Memory gates replicas limit same small is = tt
-late R.NoThread gates replicas limit same small is = tt
+-- With as many gates as replicas, and a limit that may be, memory or a thread was wanting, or a given event is stuck.
+pub tellable : (fault : RunFault) (s : Scenario) (gates limit : ℕ) → IsWellFormed s → gates ≡ length s.scripts → limit ≤ 100000 → IsRunFault fault s gates limit → IsTellableFault s.names fault
+tellable R.GateCount s gates limit formed same small is = is same
+tellable R.LimitTooLarge s gates limit formed same small is = absurd (omega (arith, small, is.1))
+tellable (R.Given at stuck) s gates limit formed same small is = given_named s at stuck is.2 formed
+tellable R.Memory s gates limit formed same small is = tt
+tellable R.NoThread s gates limit formed same small is = tt
+
+-- what is told of it says what is so of the scenario
+pub told_fault : (fault : RunFault) (told : RecordFault) (s : Scenario) (gates limit : ℕ) → IsRunFault fault s gates limit → IsToldAs s.names fault told → IsRecordFault s told
+told_fault fault F.Memory s gates limit is h = tt
+told_fault fault F.NoThread s gates limit is h = tt
+told_fault R.GateCount (F.Given lines) s gates limit is h = absurd h
+told_fault R.LimitTooLarge (F.Given lines) s gates limit is h = absurd h
+told_fault (R.Given at stuck) (F.Given lines) s gates limit is h = given_shown s at stuck is.2 (string_bytes lines) h
+told_fault R.Memory (F.Given lines) s gates limit is h = absurd cc
+told_fault R.NoThread (F.Given lines) s gates limit is h = absurd cc

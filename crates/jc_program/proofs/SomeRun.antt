@@ -1,6 +1,7 @@
 -- Each view of bytes has a text and a status.
 use Rattle.std.proofs.Common.{◌≡◌, inl, inr, ℕ, ◌+◌, List, [], ◌∷◌, ◌++◌, take, Bool, false, Option, Some, None, Ok, Err, refl}
 use Rattle.jc_rules.specs.declared.operation.Event.{Event}
+use Rattle.jc_rules.specs.Refused.{Cause}
 use Rattle.jc_rules.specs.Step.{Network, AfterIn}
 use Rattle.jc_rules.proofs.Versions.{after_states}
 use Rattle.jc_parser.specs.declared.fault.ScenarioFault.{ScenarioFault}
@@ -8,17 +9,17 @@ use Rattle.jc_scenario.specs.Canon.{canon}
 use Rattle.jc_scenario.specs.Faults.{IsFault}
 use Rattle.jc_scenario.specs.Laws.{ScenarioElseFault}
 use Rattle.jc_scenario.specs.Scenarios.{Scenario}
-use Rattle.jc_network.specs.Course.{started}
+use Rattle.jc_network.specs.Given.{bare, IsStart, IsGivenStuck, LedOrStuck}
 use Rattle.jc_network.specs.Laws.{StepOrStuck}
 use Rattle.jc_network.proofs.Enabling.{decided_in}
-use Rattle.jc_dump.specs.Texts.{dumps_text}
+use Rattle.jc_dump.specs.Texts.{dumps_text, given_text}
 use Rattle.jc_view.specs.Visible.{views_text}
 use Rattle.jc_session.proofs.Faults.{fault_line, fault_told}
 use Rattle.jc_session.proofs.Leading.{after_more}
 use Rattle.jc_words.specs.declared.order.View.{View}
 use Rattle.jc_words.specs.declared.order.View.TheVariants.{Check, Print, Run, Document}
 use Rattle.jc_program.specs.Laws.{RunHasAText}
-use Rattle.jc_program.specs.Ran.{RanThrough, ViewedThrough, Shows, IsRefused}
+use Rattle.jc_program.specs.Ran.{IsGivenShown, Shows, IsRefused}
 use Rattle.jc_program.specs.Runs.{Made, GoesBy, EndsAt, Stuck, events_text, stuck_line, status_of}
 use Rattle.jc_program.specs.Texts.{counts_text}
 
@@ -39,13 +40,13 @@ none_shown : (names : List (List ℕ)) (n : ℕ) (made : List Made) → [] ≡ e
 none_shown names n [] = refl
 none_shown names n (m ∷ made) = none_shown names (n + 1) made
 
-module _ (step_or_stuck : StepOrStuck) where
-  played : (s : Scenario) (before : List Event) (network : Network) → AfterIn (started s).network before network → (es : List Event) → Played network es
+module _ (step_or_stuck : StepOrStuck) (led_or_stuck : LedOrStuck) where
+  played : (s : Scenario) (before : List Event) (network : Network) → AfterIn (bare s) before network → (es : List Event) → Played network es
   played s before network led [] = record { last = network; made = []; stuck = None; goes = refl; ends = refl }
   played s before network led (e ∷ es) =
-      elim (decided_in network (λ x. (step_or_stuck s.scripts network.states (before, after_states (started s).network before network led) x).0) e) [
+      elim (decided_in network (λ x. (step_or_stuck s.scripts network.states (before, after_states (bare s) before network led) x).0) e) [
         | inl (new, rows, step) ↦
-            let rest = played s (before ++ e ∷ []) new (after_more (started s).network before network e new rows led step) es in
+            let rest = played s (before ++ e ∷ []) new (after_more (bare s) before network e new rows led step) es in
             record {
               last = rest.last;
               made = (e, rows) ∷ rest.made;
@@ -57,53 +58,69 @@ module _ (step_or_stuck : StepOrStuck) where
       ]
 
   -- from the start of a scenario
-  from_start : (s : Scenario) (es : List Event) → Played (started s).network es
-  from_start s es = played s [] (started s).network refl es
+  from_start : (s : Scenario) (start : Network) → IsStart s start → (es : List Event) → Played start es
+  from_start s start led es = played s s.given start led es
 
-  run_of : (trace : Bool) (s : Scenario) → (out : List ℕ) × (status : ℕ) × RanThrough trace s out status
-  run_of trace s =
-      let p = from_start s s.schedule in
+  run_of : (trace : Bool) (s : Scenario) (start : Network) → IsStart s start → (out : List ℕ) × (status : ℕ) × Shows (Run trace) s out status
+  run_of trace s start led =
+      let p = from_start s start led s.schedule in
       let blocks = events_text trace s.names 1 p.made in (
         blocks ++ dumps_text s.names p.last.states ++ stuck_line s.names p.stuck,
         status_of p.stuck,
-        record {
+        inl (record {
+          start = start;
+          is_start = led;
           last = p.last;
           stuck = p.stuck;
           blocks = blocks;
           plays = record { made = p.made; goes = p.goes; ends = p.ends; shown = refl };
           written = refl;
           ends = refl;
-        },
+        }),
       )
 
-  view_of : (n : ℕ) (s : Scenario) → (out : List ℕ) × (status : ℕ) × ViewedThrough n s out status
-  view_of n s =
-      let p = from_start s (take n s.schedule) in (
+  view_of : (n : ℕ) (s : Scenario) (start : Network) → IsStart s start → (out : List ℕ) × (status : ℕ) × Shows (Document n) s out status
+  view_of n s start led =
+      let p = from_start s start led (take n s.schedule) in (
         views_text s.names p.last.states ++ stuck_line s.names p.stuck,
         status_of p.stuck,
-        record {
+        inl (record {
+          start = start;
+          is_start = led;
           last = p.last;
           stuck = p.stuck;
           plays = record { made = p.made; goes = p.goes; ends = p.ends; shown = none_shown s.names 1 p.made };
           written = refl;
           ends = refl;
-        },
+        }),
       )
+
+  -- where a given event is stuck
+  given_of : (s : Scenario) (at : ℕ) (event : Event) (why : Cause) → IsGivenStuck (bare s) s.given at event why → IsGivenShown s (given_text s.names at why event) 3
+  given_of s at event why stuck = record { at = at; event = event; why = why; stuck = stuck; written = refl; ends = refl }
 
   shown_of : (view : View) (s : Scenario) → (out : List ℕ) × (status : ℕ) × Shows view s out status
   shown_of Check s = (counts_text s, 0, (refl, refl))
   shown_of Print s = (canon s, 0, (refl, refl))
-  shown_of (Run trace) s = run_of trace s
-  shown_of (Document n) s = view_of n s
+  shown_of (Run trace) s =
+      elim ((led_or_stuck s.scripts (bare s) s.given ([], refl)).0) [
+        | inl (start, led) ↦ run_of trace s start led
+        | inr (at, event, why, stuck) ↦ (given_text s.names at why event, 3, inr (given_of s at event why stuck))
+      ]
+  shown_of (Document n) s =
+      elim ((led_or_stuck s.scripts (bare s) s.given ([], refl)).0) [
+        | inl (start, led) ↦ view_of n s start led
+        | inr (at, event, why, stuck) ↦ (given_text s.names at why event, 3, inr (given_of s at event why stuck))
+      ]
 
 refused_of : (bytes : List ℕ) (fault : ScenarioFault) → IsFault bytes fault → (out : List ℕ) × (status : ℕ) × IsRefused fault out status
 refused_of bytes fault is =
     let (text, line) = fault_line fault (fault_told bytes fault is) in
     (text, 1, record { refusal = line.refusal; place = line.place; number = line.is_number; stands = line.is_place; written = line.written; ends = refl })
 
-pub run_has_a_text : ScenarioElseFault → StepOrStuck → RunHasAText
-run_has_a_text either step_or_stuck view bytes =
+pub run_has_a_text : ScenarioElseFault → StepOrStuck → LedOrStuck → RunHasAText
+run_has_a_text either step_or_stuck led_or_stuck view bytes =
     elim (either bytes) [
-      | inl (s, is) ↦ let (out, status, shows) = shown_of step_or_stuck view s in (out, status, (Ok s, is, shows))
+      | inl (s, is) ↦ let (out, status, shows) = shown_of step_or_stuck led_or_stuck view s in (out, status, (Ok s, is, shows))
       | inr (fault, is) ↦ let (out, status, refused) = refused_of bytes fault is in (out, status, (Err fault, is, refused))
     ]

@@ -1,23 +1,52 @@
 -- What is told of a run of all threads.
-use Rattle.std.specs.Prelude.{◌≡◌, ℕ, string_bytes}
+use Rattle.std.specs.Prelude.{◌≡◌, ℕ, List, string_bytes}
+use Rattle.jc_rules.specs.declared.operation.Event.{Event}
+use Rattle.jc_rules.specs.Refused.{Cause}
 use Rattle.jc_scenario.specs.Canon.{canon}
 use Rattle.jc_scenario.specs.Scenarios.{Scenario}
+use Rattle.jc_network.specs.declared.fault.Stuck.{Stuck}
+use Rattle.jc_network.specs.Makes.{stuck_for}
+use Rattle.jc_dump.specs.Lines.{IsNamedStuck}
+use Rattle.jc_dump.specs.Texts.{given_text}
 use Rattle.jc_runner.specs.declared.run.Report.{Report}
 use Rattle.jc_runner.specs.Laws.{with_schedule}
 use Rattle.jc_runner.specs.Reports.{IsReport}
 use Rattle.jc_program.specs.Ends.{AreEndLines, outcome_of}
 use Rattle.jc_program.specs.declared.recording.Recording.{Recording}
+use Rattle.jc_program.specs.Ran.{IsGivenShown}
 use Rattle.jc_runner.specs.declared.run.RunFault.{RunFault}
 use Rattle.jc_runner.specs.declared.run.RunFault.TheVariants as R
 use Rattle.jc_program.specs.declared.recording.RecordFault.{RecordFault}
 use Rattle.jc_program.specs.declared.recording.RecordFault.TheVariants as F
 
--- how it is told what a run was refused for, with as many gates as replicas and a limit that may be
-abbrev pub IsToldAs : RunFault → RecordFault → Type 0
-IsToldAs R.GateCount told = ⊥
-IsToldAs R.LimitTooLarge told = ⊥
-IsToldAs R.Memory told = told ≡ F.Memory
-IsToldAs R.NoThread told = told ≡ F.NoThread
+-- Memory or a thread was wanting, or a given event is stuck whose replicas have names.
+abbrev pub IsTellableFault : List (List ℕ) → RunFault → Type 0
+IsTellableFault names R.GateCount = ⊥
+IsTellableFault names R.LimitTooLarge = ⊥
+IsTellableFault names (R.Given at s) = IsNamedStuck names s
+IsTellableFault names R.Memory = Unit {0}
+IsTellableFault names R.NoThread = Unit {0}
+
+-- these are the lines of a given event that is stuck
+abbrev pub AreGivenLines : List (List ℕ) → ℕ → Stuck → List ℕ → Type 0
+AreGivenLines names at s lines =
+    (why : Cause) (event : Event) → s ≡ stuck_for why event → lines ≡ given_text names at why event
+
+-- How it is told what a run was refused for, with as many gates as replicas and a limit that may be. Of a given event
+-- that is stuck the lines are told, unless there was no memory for them.
+abbrev pub IsToldAs : List (List ℕ) → RunFault → RecordFault → Type 0
+IsToldAs names R.GateCount told = ⊥
+IsToldAs names R.LimitTooLarge told = ⊥
+IsToldAs names (R.Given at s) (F.Given lines) = AreGivenLines names at s (string_bytes lines)
+IsToldAs names (R.Given at s) told = told ≡ F.Memory
+IsToldAs names R.Memory told = told ≡ F.Memory
+IsToldAs names R.NoThread told = told ≡ F.NoThread
+
+-- what is told where there is no recording: of a given event that is stuck its lines
+abbrev pub IsRecordFault : Scenario → RecordFault → Type 0
+IsRecordFault s (F.Given lines) = IsGivenShown s (string_bytes lines) 3
+IsRecordFault s F.Memory = Unit {0}
+IsRecordFault s F.NoThread = Unit {0}
 
 -- There is a report of the run; the text is that of the scenario with its schedule, and the lines say what each replica
 -- made and how its thread ended.

@@ -46,7 +46,8 @@ fn work_threads<R: Threads + Wait + Sync + AllocGlobal + Files, I: Source, K: Si
 /// The program: `work_alone`, and the command `threads`. This runs each replica in a thread of its
 /// own, and waits for them. The scenario with the schedule that they made is written on the output,
 /// and a line for each replica on `err`. Its status is 3 where an event was stuck, and 5 where one
-/// of the replicas, or the program, had no memory, or no thread could be made.
+/// of the replicas, or the program, had no memory, or no thread could be made. Where a given event
+/// is stuck no thread is made, and its lines are written on the output.
 ///
 /// `specs/Promise.antt` says all ways in which it ends, and what each leaves.
 pub fn work<R: Threads + Wait + Sync + AllocGlobal + Files, I: Source, K: Sink, E: Sink>(

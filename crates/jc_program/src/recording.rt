@@ -1,17 +1,25 @@
 //! Runs of all replicas, each in a thread of its own.
 
-ghost use Rattle.std.specs.Prelude.{◌≡◌, ◌≤◌, ℕ, IfOk, vec_len};
+ghost use Rattle.std.specs.Prelude.{◌≡◌, ◌≤◌, ℕ, IfOk, IfErr, string_bytes, vec_len};
 ghost use Rattle.std.specs.List.{list_any};
+ghost use Rattle.jc_rules.specs.declared.operation.Event.{Event as AnyEvent};
+ghost use Rattle.jc_rules.specs.Refused.{Cause};
+ghost use Rattle.jc_network.specs.Makes.{stuck_for};
+ghost use Rattle.jc_dump.specs.Lines.{IsNamedStuck};
+ghost use Rattle.jc_dump.specs.Texts.{given_text};
 ghost use Rattle.jc_scenario.specs.Scenarios.{IsWellFormed};
 ghost use Rattle.jc_scenario.specs.Views.{scenario_view};
 ghost use Rattle.jc_runner.specs.Reports.{IsReport, IsLateFault};
 ghost use Rattle.jc_program.specs.Ends.{is_stuck, lacks_memory, outcome_of};
-ghost use Rattle.jc_program.specs.Recordings.{IsRecording, IsToldAs};
+ghost use Rattle.jc_program.specs.Recordings.{IsRecording, IsRecordFault, IsTellableFault, IsToldAs};
 ghost use Rattle.jc_program.specs.declared.recording.RecordFault.TheVariants.{Memory as WantOfMemory};
 
 use crate::lines::end_lines;
+use jc_dump::given_text;
+use jc_network::Stuck;
+use jc_rules::{Text, Version};
 use jc_runner::{End, Gate, Report, RunFault, run_threads};
-use jc_scenario::{Scenario, print};
+use jc_scenario::{Scenario, copy_names, print};
 use std::alloc::{AllocError, Global};
 use std::sync::Wait;
 use std::thread::Threads;
@@ -38,10 +46,12 @@ pub struct Recording {
 }
 
 /// Why there is no recording.
-#[derive(Clone, Copy, Debug, PartialEq, Eq)]
+#[derive(Debug, Drop)]
 pub enum RecordFault {
     /// A request for memory was refused.
     Memory,
+    /// 44: a given event is stuck, and no thread was started. These are the lines that say so.
+    Given(String),
     /// 47: a thread can't be made, for whatever cause.
     NoThread,
 }
@@ -144,22 +154,50 @@ fn told(alloc: Global, report: Report) -> Result<Recording, AllocError>
     })
 }
 
-/// How it is told that a run had no memory or no thread.
-fn fault_of(fault: RunFault) -> RecordFault
-    requires { IsLateFault fault }
-    ensures { IsToldAs fault result }
+/// The lines of a given event that is stuck, in a scenario with these names.
+fn given_lines(
+    alloc: Global,
+    names: Vec<Text>,
+    at: u64,
+    stuck: &Stuck,
+) -> Result<String, AllocError>
+    requires { IsNamedStuck names.items stuck.now }
+    ensures { IfOk result (λ text.
+        (why : Cause) (event : AnyEvent)
+        → stuck.now ≡ stuck_for why event
+        → string_bytes text ≡ given_text names.items at why event) }
+{
+    let named = Scenario {
+        version: Version::Two,
+        names,
+        scripts: Vec::new(alloc),
+        given: Vec::new(alloc),
+        schedule: Vec::new(alloc),
+    };
+    given_text(alloc, &named, at, stuck)
+}
+
+/// How it is told what a run of a scenario with these names was refused for.
+fn fault_of(alloc: Global, names: Vec<Text>, fault: RunFault) -> RecordFault
+    requires { IsTellableFault names.items fault }
+    ensures { IsToldAs names.items fault result }
 {
     match fault {
         RunFault::Memory => RecordFault::Memory,
         RunFault::NoThread => RecordFault::NoThread,
+        RunFault::Given { at, stuck } => match given_lines(alloc, names, at, &stuck) {
+            Ok(lines) => RecordFault::Given(lines),
+            Err(AllocError) => RecordFault::Memory,
+        },
         RunFault::GateCount | RunFault::LimitTooLarge => unreachable!(),
     }
 }
 
 /// Runs one thread for each replica, each of which makes the events that its replica chooses, `limit` of them at most,
-/// and tells what they made. The scenario's own schedule is left aside.
+/// and tells what they made. Before that the given events are made. The scenario's own schedule is left aside.
 ///
-/// Refused for want of memory, or where a thread can't be made; those that were started have ended then.
+/// `Given` where a given event is stuck, before any thread is made. Else refused for want of memory, or where a thread
+/// can't be made; those that were started have ended then.
 pub fn record<R: Threads + Wait + Sync>(
     rt: &R,
     alloc: Global,
@@ -168,11 +206,13 @@ pub fn record<R: Threads + Wait + Sync>(
 ) -> Result<Recording, RecordFault>
     requires scenario { IsWellFormed (scenario_view scenario) }
     requires limit { limit ≤ 100000 }
-    ensures { IfOk result (IsRecording (scenario_view scenario) limit) }
+    ensures recorded { IfOk result (IsRecording (scenario_view scenario) limit) }
+    ensures fault { IfErr result (IsRecordFault (scenario_view scenario)) }
 {
+    let names = copy_names(alloc, &scenario.names)?;
     let gates = open_gates(alloc, scenario.scripts.len())?;
     match run_threads(rt, alloc, scenario, gates, limit) {
         Ok(report) => Ok(told(alloc, report)?),
-        Err(fault) => Err(fault_of(fault)),
+        Err(fault) => Err(fault_of(alloc, names, fault)),
     }
 }

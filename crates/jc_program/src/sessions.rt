@@ -40,7 +40,7 @@ fn converse<S: Source, K: Sink>(
     ensures talked { IfOk result (TalksOn text.now (S.left lines.old) (sink K.Sink out.old) (sink K.Sink out.new)) }
     ensures stopped { IfErr result (λ fault. StopsOn fault text.now (S.left lines.old) (S.left lines.new)
         (sink K.Sink out.old) (sink K.Sink out.new)) }
-    ensures refused { result ≡ Ok 1 → lines.new ≡ lines.old }
+    ensures unread { (result ≡ Ok 1) ⊎ (result ≡ Ok 3) → lines.new ≡ lines.old }
     ensures same { OnOk result
         ((S.failures lines.new ≡ S.failures lines.old) × (K.failures out.new ≡ K.failures out.old)) }
     ensures cause { IfErr result (λ fault. IsCause fault ⊥
@@ -49,6 +49,7 @@ fn converse<S: Source, K: Sink>(
     match session(alloc, text, lines, out) {
         Ok(SessionEnd::Finished) => Ok(0),
         Ok(SessionEnd::TextRefused(_fault)) => Ok(1),
+        Ok(SessionEnd::GivenStuck) => Ok(3),
         Err(SessionFault::ReadFailed) => Err(WorkFault::Read),
         Err(SessionFault::WriteFailed) => Err(WorkFault::Write),
         Err(SessionFault::TooManyLines) => Err(WorkFault::TooManyLines),
@@ -70,7 +71,7 @@ pub fn debug<R: AllocGlobal + Files, I: Source, K: Sink>(
         (told_by (I.left input.old) (R.texts rt.now) file.now) (lines_by (I.left input.old) file.now)
         (lines_by (I.left input.new) file.now) (sink K.Sink out.old) (sink K.Sink out.new)) }
     ensures most { file.now ≡ codes "-" → LosesUpTo 8388609 (I.left input.old) (I.left input.new) }
-    ensures untouched { result ≡ Ok 1 → file.now ≢ codes "-" → input.new ≡ input.old }
+    ensures untouched { (result ≡ Ok 1) ⊎ (result ≡ Ok 3) → file.now ≢ codes "-" → input.new ≡ input.old }
     ensures same { OnOk result
         ((I.failures input.new ≡ I.failures input.old) × (K.failures out.new ≡ K.failures out.old)) }
     ensures cause { IfErr result (λ fault. IsCause fault (IsUnread (R.may_fail rt.now) file.now)

@@ -7,7 +7,7 @@ ghost use Rattle.jc_scenario.specs.Views.{scenario_view};
 ghost use Rattle.jc_session.specs.Written.{sink, Wrote, WrotePart, Sent};
 ghost use Rattle.jc_program.specs.Due.{told_by};
 ghost use Rattle.jc_program.specs.Faults.{IsCause, IsUnread};
-ghost use Rattle.jc_program.specs.Threaded.{outcome_status, RanThreads, ThreadsRan, AreTextsOf, AreScenario, StopsThreads, HaveThreaded, HaveStopped};
+ghost use Rattle.jc_program.specs.Threaded.{outcome_status, IsUnrecorded, ShowsThreads, ThreadsRan, AreTextsOf, AreScenario, StopsThreads, HaveThreaded, HaveStopped};
 
 use crate::alone::{refuse, text_of};
 use crate::fault::WorkFault;
@@ -19,19 +19,6 @@ use jc_rules::io::{ReadFault, Sink, Source};
 use jc_scenario::{Scenario, read};
 use std::sync::Wait;
 use std::thread::Threads;
-
-impl From<RecordFault> for WorkFault {
-    ghost use Rattle.jc_program.specs.Threaded.{work_fault};
-
-    ghost from_gives = { λ fault work. work ≡ work_fault fault };
-
-    fn from(fault: RecordFault) -> Self {
-        match fault {
-            RecordFault::Memory => WorkFault::Memory,
-            RecordFault::NoThread => WorkFault::NoThread,
-        }
-    }
-}
 
 fn status_of(outcome: Outcome) -> u8
     ensures { result ≡ outcome_status outcome }
@@ -58,7 +45,22 @@ fn tell<K: Sink, E: Sink>(recording: &Recording, out: &mut K, err: &mut E) -> Re
     Ok(status_of(recording.outcome))
 }
 
-/// Runs a scenario's replicas in threads, and tells what they made.
+/// What is answered where there is no recording. Of a given event that is stuck its lines are written.
+fn unrecorded<K: Sink>(fault: &RecordFault, out: &mut K) -> Result<u8, WorkFault>
+    ensures { IsUnrecorded fault.now (sink K.Sink out.old) (sink K.Sink out.new) result }
+{
+    match fault {
+        RecordFault::Given(lines) => match send(out, lines.as_str()) {
+            Ok(()) => Ok(3),
+            Err(_) => Err(WorkFault::Write),
+        },
+        RecordFault::Memory => Err(WorkFault::Memory),
+        RecordFault::NoThread => Err(WorkFault::NoThread),
+    }
+}
+
+/// Runs a scenario's replicas in threads, and tells what they made. Where a given event is stuck it has its lines, and
+/// no thread is started.
 fn run_all<R: Threads + Wait + Sync + AllocGlobal, K: Sink, E: Sink>(
     rt: &R,
     scenario: Scenario,
@@ -68,9 +70,9 @@ fn run_all<R: Threads + Wait + Sync + AllocGlobal, K: Sink, E: Sink>(
 ) -> Result<u8, WorkFault>
     requires formed { IsWellFormed (scenario_view scenario) }
     requires limit { limit ≤ 100000 }
-    ensures ok { IfOk result (AreTextsOf (RanThreads limit (scenario_view scenario))
+    ensures ok { IfOk result (AreTextsOf (ShowsThreads limit (scenario_view scenario))
         (sink K.Sink out.old) (sink K.Sink out.new) (λ lines. Sent lines (sink E.Sink err.old) (sink E.Sink err.new))) }
-    ensures stopped { IfErr result (λ fault. StopsThreads ⊤ (RanThreads limit (scenario_view scenario)) fault
+    ensures stopped { IfErr result (λ fault. StopsThreads ⊤ (ShowsThreads limit (scenario_view scenario)) fault
         (sink K.Sink out.old) (sink K.Sink out.new)) }
     ensures quiet { OnErr result (err.new ≡ err.old) }
     ensures cause { IfErr result (λ fault. (n : ℕ)
@@ -81,7 +83,7 @@ fn run_all<R: Threads + Wait + Sync + AllocGlobal, K: Sink, E: Sink>(
             Ok(status) => Ok(status),
             Err(_) => Err(WorkFault::Write),
         },
-        Err(fault) => Err(WorkFault::from(fault)),
+        Err(fault) => unrecorded(&fault, out),
     }
 }
 
@@ -115,7 +117,8 @@ fn run_text<R: Threads + Wait + Sync + AllocGlobal, K: Sink, E: Sink>(
 
 /// Runs the replicas of the scenario in a file in threads, each of which makes `limit` events at
 /// most. Writes the scenario with the schedule that they made, and on `err` a line for each replica,
-/// and answers the status. After a fault nothing is written on `err`.
+/// and answers the status. Where a given event is stuck its lines are all. After a fault nothing is
+/// written on `err`.
 pub fn threads<R: Threads + Wait + Sync + AllocGlobal + Files, I: Source, K: Sink, E: Sink>(
     rt: &R,
     limit: u64,

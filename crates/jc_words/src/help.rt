@@ -1,7 +1,7 @@
 //! What help says beside the lists of commands and options.
 
-/// The version of the program. Its first number is that of the scenario's header.
-pub(crate) const VERSION: &str = "1.0.0";
+/// The version of the program. Its first number is that of the newest header of a scenario that it reads.
+pub(crate) const VERSION: &str = "2.0.0";
 
 /// What the program is for.
 pub(crate) const ABOUT: &str =
@@ -38,12 +38,16 @@ P.insertAfter(V)  put a new element behind that at P; idx(1) is the first, idx(0
 P.delete          delete what is at P\n  \
 yield             take part in the network, by the events below, until done\n\
 \n\
-Events of a schedule, where A and B are replicas:\n  \
+Events of a schedule, where A, B and C are replicas:\n  \
 A.exec            execute the next command of A\n  \
 A.send            at a yield, offer the operations that A made\n  \
 A.recv(B)         at a yield, receive the operations that B offers\n  \
+A.take(B, N, C)   at a yield, receive one of these, that of C with the counter N (version 2)\n  \
 A.apply(N, B)     at a yield, apply the received operation of B with the counter N\n  \
-A.done            end the yield, after at least one of these three\n\
+A.done            end the yield, after at least one of these four\n\
+\n\
+A scenario of version 2 begins with `jsoncrdt 2`. Behind the replicas it may have a block\n\
+`given { .. }` of events, which run before the first one of the schedule.\n\
 \n\
 docs/FORMATS.md and docs/RULES.md in the repository say all of this exactly.\n\
 \n\
@@ -105,7 +109,8 @@ pub(crate) const RUN: &str =
     "A scenario is a text with a script of commands for each replica, and a schedule of the events\n\
 that execute them.\n\
 It stops before an event that no rule allows: the states are those before it, and the last line\n\
-says why it is stuck.\n\
+says why it is stuck. Where that is a given event, of version 2, no state is printed, but a line\n\
+`refused 44 GivenStuck at N`, where N is its number, and that last line.\n\
 \n\
 Example:\n  \
 echo 'jsoncrdt 1 replica a { doc.get(\"a\") := 1 } schedule { a.exec }' | jsoncrdt run -\n\
@@ -128,6 +133,8 @@ pub(crate) const VIEW: &str =
 that execute them.\n\
 \n\
 Prints a line of JSON for each replica, with its document after the first N events, or after all.\n\
+Given events, of version 2, run before these. Where one is stuck no document is printed, but a line\n\
+`refused 44 GivenStuck at N`, where N is its number, and a line that says why.\n\
 Where more than one thing stands at a place, all are shown, and none wins:\n  \
 {\"!conflict\":{\"list\":[..],\"map\":{..},\"values\":[[\"ID\",VALUE],..]}}\n\
 A name that begins with ! is shown with one more ! in front. A replica without a document has no\n\
@@ -153,6 +160,8 @@ pub(crate) const DEBUG: &str =
     "A scenario is a text with a script of commands for each replica, and a schedule of the events\n\
 that execute them.\n\
 The session begins before the first event. It reads a line, answers it, and then reads the next.\n\
+Given events, of version 2, have run then. Where one is stuck no line is read: its number and why it\n\
+is stuck are printed.\n\
 With the file - there are no lines, since the scenario takes up standard input.\n\
 \n\
 Lines and their answers, where N, P, M and K are numbers:\n  \
@@ -191,6 +200,7 @@ Statuses:\n  \
 0  done, also after help, after a refused line and after a stuck event\n  \
 1  the scenario's text was refused; the line printed says why and where\n  \
 2  the arguments are wrong\n  \
+3  a given event was stuck, since no rule allows it; the last line says why\n  \
 4  a read or a write failed, or there were more than 1,000,000 lines or 67,108,864 bytes of them\n  \
 5  there was no memory";
 
@@ -202,6 +212,8 @@ The schedule of FILE isn't looked at. Each thread chooses the events of its repl
 the commands one by one, and at a yield it sends, receives from each other replica, applies what\n\
 can be applied, and is done. The schedule printed has the events of all in the order in which they\n\
 were executed, which may be another one each time. A stuck event isn't in it.\n\
+Given events, of version 2, run before any thread starts. Where one is stuck none does: its number\n\
+and why it is stuck are printed, and nothing goes to standard error.\n\
 \n\
 For each replica a line `NAME made M END` goes to standard error, where M is how many events\n\
 it executed, and END is why it executed no more:\n  \
@@ -227,6 +239,6 @@ Statuses:\n  \
 0  done, also after help\n  \
 1  the scenario's text was refused; the line printed says why and where\n  \
 2  the arguments are wrong\n  \
-3  a replica's event was stuck, since no rule allows it; its line says why\n  \
+3  a given event or a replica's was stuck, since no rule allows it; its line says why\n  \
 4  a read or a write failed\n  \
 5  there was no memory, or a thread could not be made";

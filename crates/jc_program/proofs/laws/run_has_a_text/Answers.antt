@@ -2,4 +2,4 @@ use Rattle.jc_program.proofs.SomeRun.{run_has_a_text}
 use Rattle.jc_program.proofs.laws.run_has_a_text.Goals as goal
 
 pub returns : goal.returns
-returns c = run_has_a_text c.scenario_else_fault.ensures c.step_or_stuck.ensures
+returns c = run_has_a_text c.scenario_else_fault.ensures c.step_or_stuck.ensures c.led_or_stuck.ensures
