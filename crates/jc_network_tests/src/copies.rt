@@ -5,6 +5,7 @@ use jc_debug::{ActFault, Debugger, GotoFault, RunEnd, StepFault};
 use jc_network::{StepFault as NetFault, Stuck};
 use jc_rules::Event;
 use std::alloc::{AllocError, Global};
+use std::process::Abort;
 use std::test::Fail;
 
 /// A replica alone, whose command is stuck for a tagged key.
