@@ -100,7 +100,13 @@ pub fn counts_none_given(rt: &impl Abort, net: &mut Net) {
 #[test]
 fn given_events_are_not_counted(rt: HostRuntime) -> Result<(), Fail> {
     let text = given_sends(rt.alloc())?;
-    in_network(&rt, rt.alloc(), text.as_str(), &[], &Turn::NoneGivenIsCounted)
+    in_network(
+        &rt,
+        rt.alloc(),
+        text.as_str(),
+        &[],
+        &Turn::NoneGivenIsCounted,
+    )
 }
 
 /// The first given event that is stuck is told by its number from 1.

@@ -454,10 +454,7 @@ fn runs_are_refused(rt: HostRuntime) -> Result<(), Fail> {
         (STUCK_GIVEN, 2, 100_001, 46),
         (STUCK_GIVEN, 2, 100_000, 44),
     ] {
-        holds(
-            &rt,
-            refusal(&rt, rt.alloc(), text, gates, limit)? == number,
-        );
+        holds(&rt, refusal(&rt, rt.alloc(), text, gates, limit)? == number);
     }
     Ok(())
 }

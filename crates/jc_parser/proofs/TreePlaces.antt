@@ -119,11 +119,11 @@ given_listed One n r rest es h = let (same, left) = ok_parts [] es r rest h in (
 given_listed Two n r rest es h = any_block_listed (codes "given") Two n r rest es h
 
 -- the lexemes of the given events, and those of the schedule
-abbrev HasBlocks : Version → NamedTree → Reading → Reading → Type 0
-HasBlocks v t r rest =
+abbrev HasPlacedBlocks : Version → NamedTree → Reading → Reading → Type 0
+HasPlacedBlocks v t r rest =
     (t.version ≡ v) × (g : List Lexeme) × (s : List Lexeme) × AreGiven v t.given g × AreBlock schedule_head v t.events s × (r.left ≡ g ++ (s ++ rest.left))
 
-blocks_listed : (v : Version) (n : ℕ) (r rest : Reading) (t : NamedTree) → blocks_at v n r ≡ Ok (t, rest) → (t.parts ≡ []) × HasBlocks v t r rest
+blocks_listed : (v : Version) (n : ℕ) (r rest : Reading) (t : NamedTree) → blocks_at v n r ≡ Ok (t, rest) → (t.parts ≡ []) × HasPlacedBlocks v t r rest
 unfolding blocks_at
 blocks_listed v n r rest t h =
     let (g, first, h1) = bind_ok (given_at v n r) (λ g. any_block_at (codes "schedule") v n g.1 >>= λ s. Ok (tree v [] g.0 s.0, s.1)) (t, rest) h in
@@ -132,14 +132,14 @@ blocks_listed v n r rest t h =
     let (ks, listed, behind) = any_block_listed (codes "schedule") v n g.1 s.1 s.0 second in
     let (same, left) = ok_parts (tree v [] g.0 s.0) t s.1 rest last in
     let whole : r.left ≡ ls ++ (ks ++ rest.left) = parts ∙ ap (λ (l : List Lexeme). ls ++ l) (behind ∙ ap (λ (q : Reading). ks ++ q.left) left) in
-    subst (λ (u : NamedTree). (u.parts ≡ []) × HasBlocks v u r rest) same (refl, (refl, ls, ks, are, listed, whole))
+    subst (λ (u : NamedTree). (u.parts ≡ []) × HasPlacedBlocks v u r rest) same (refl, (refl, ls, ks, are, listed, whole))
 
 -- ---- replicas before the events
 
 -- the lexemes of these replicas, and behind them those of the events
 abbrev Reached : Version → NamedTree → Reading → Reading → Type 0
 Reached v t r rest =
-    (w : List Lexeme) × (s : Reading) × ArePartsSpelled t.parts (symbols w) × (r.left ≡ w ++ s.left) × HasBlocks v t s rest
+    (w : List Lexeme) × (s : Reading) × ArePartsSpelled t.parts (symbols w) × (r.left ≡ w ++ s.left) × HasPlacedBlocks v t s rest
 
 last_reached : (v : Version) (m : ℕ) (r rest : Reading) (t : NamedTree) → blocks_at v m r ≡ Ok (t, rest) → Reached v t r rest
 last_reached v m r rest t h = let (none, blocks) = blocks_listed v m r rest t h in ([], r, subst (λ (ps : List Part). ArePartsSpelled ps []) (sym none) refl, refl, blocks)
@@ -149,7 +149,7 @@ abbrev next_at : Version → ℕ → ℕ → List (List ℕ) → Reading → Out
 next_at v m n names r = part_at names r >>= λ p. tail_at v m n (names ++ p.0.name ∷ []) p.1 >>= λ t. Ok (with_part p.0 t.0, t.1)
 
 next_reached : (v : Version) (m n : ℕ) (names : List (List ℕ)) (r rest : Reading) (t : NamedTree) (x : Lexeme) → x.symbol ≡ replica → ((names : List (List ℕ)) (s end : Reading) (u : NamedTree) → tail_at v m n names s ≡ Ok (u, end) → Reached v u s end) → next_at v m n names r ≡ Ok (t, rest)
-    → (w : List Lexeme) × (s : Reading) × ArePartsSpelled t.parts (symbols w) × (x ∷ r.left ≡ w ++ s.left) × HasBlocks v t s rest
+    → (w : List Lexeme) × (s : Reading) × ArePartsSpelled t.parts (symbols w) × (x ∷ r.left ≡ w ++ s.left) × HasPlacedBlocks v t s rest
 next_reached v m n names r rest t x is others h =
     let (p, first, h1) = bind_ok (part_at names r) (λ p. tail_at v m n (names ++ p.0.name ∷ []) p.1 >>= λ t. Ok (with_part p.0 t.0, t.1)) (t, rest) h in
     let (u, second, last) = bind_ok (tail_at v m n (names ++ p.0.name ∷ []) p.1) (λ t. Ok (with_part p.0 t.0, t.1)) (t, rest) h1 in
@@ -159,12 +159,12 @@ next_reached v m n names r rest t x is others h =
     let all : x ∷ r.left ≡ ((x ∷ took.text) ++ w) ++ s.left = ap (λ (l : List Lexeme). x ∷ l) (took.parts ∙ ap (λ (l : List Lexeme). took.text ++ l) parts ∙ sym (append_assoc took.text w s.left)) in
     let (same, left) = ok_parts (with_part p.0 u.0) t u.1 rest last in
     let whole : ArePartsSpelled (p.0 ∷ u.0.parts) (symbols ((x ∷ took.text) ++ w)) = (symbols (x ∷ took.text), symbols w, own, spelled, symbols-append (x ∷ took.text) w) in
-    let behind : HasBlocks v (with_part p.0 u.0) s rest = subst (HasBlocks v (with_part p.0 u.0) s) left blocks in (
+    let behind : HasPlacedBlocks v (with_part p.0 u.0) s rest = subst (HasPlacedBlocks v (with_part p.0 u.0) s) left blocks in (
       (x ∷ took.text) ++ w,
       s,
       subst (λ (y : NamedTree). ArePartsSpelled y.parts (symbols ((x ∷ took.text) ++ w))) same whole,
       all,
-      subst (λ (y : NamedTree). HasBlocks v y s rest) same behind,
+      subst (λ (y : NamedTree). HasPlacedBlocks v y s rest) same behind,
     )
 
 pub tail_reached : (v : Version) (m n : ℕ) (names : List (List ℕ)) (r rest : Reading) (t : NamedTree) → tail_at v m n names r ≡ Ok (t, rest) → Reached v t r rest
@@ -187,7 +187,7 @@ tail_reached v m (suc n) names r rest t h = by_test (λ ns s end u h. tail_reach
 
 -- ---- the whole
 
-blocks_of : (v : Version) (r : Reading) (t : NamedTree) (a b : Lexeme) (w : List Lexeme) (s rest : Reading) → a.symbol ≡ word (codes "jsoncrdt") → b.symbol ≡ number (version_text v) → r.left ≡ a ∷ b ∷ (w ++ s.left) → ArePartsSpelled t.parts (symbols w) → rest.left ≡ [] → HasBlocks v t s rest → AreBlocks t r.left
+blocks_of : (v : Version) (r : Reading) (t : NamedTree) (a b : Lexeme) (w : List Lexeme) (s rest : Reading) → a.symbol ≡ word (codes "jsoncrdt") → b.symbol ≡ number (version_text v) → r.left ≡ a ∷ b ∷ (w ++ s.left) → ArePartsSpelled t.parts (symbols w) → rest.left ≡ [] → HasPlacedBlocks v t s rest → AreBlocks t r.left
 blocks_of v r t a b w s rest is_a is_b parts spelled none (same, g, e, given, schedule, left) = record {
   front = a ∷ b ∷ w;
   parts = symbols w;

@@ -274,11 +274,11 @@ pub tail_again : (v : Version) (k : Bool) (m n : ℕ) (names : List (List ℕ)) 
 tail_again v k m n names [] given calls x y ls stop parts (g, s, first, second, both) text new few small fewer =
     let own : symbols ls ≡ g ++ s = text ∙ ap (λ (l : List Symbol). l ++ y) parts ∙ both in
     subst (Told k (bare v given calls) stop) (sym (tail_last v m n names (reading stop ls) (blocks_first v given calls g s ls first second own))) (blocks_again v k m given calls g s ls stop first second own small fewer)
-tail_again v k m zero names (p ∷ ps) given calls x y ls stop (a1, z, own, parts, text) blocks whole new few small fewer =
-    let (c, a, b, w, rest, is, closed, left) = lined p a1 (z ++ y) ls own (whole ∙ ap (λ (l : List Symbol). l ++ y) text ∙ append_assoc a1 z y) in
+tail_again v k m zero names (p ∷ ps) given calls x y ls stop (front, z, own, parts, text) blocks whole new few small fewer =
+    let (c, a, b, w, rest, is, closed, left) = lined p front (z ++ y) ls own (whole ∙ ap (λ (l : List Symbol). l ++ y) text ∙ append_assoc front z y) in
     inr (rw is (crowd_past v k m names p c a b stop (w ++ rest) (no_room k (length ps) few)))
-tail_again v k m (suc n) names (p ∷ ps) given calls x y ls stop (a1, z, own, parts, text) blocks whole new few small fewer =
-    let (c, a, b, w, rest, is, closed, left) = lined p a1 (z ++ y) ls own (whole ∙ ap (λ (l : List Symbol). l ++ y) text ∙ append_assoc a1 z y) in
+tail_again v k m (suc n) names (p ∷ ps) given calls x y ls stop (front, z, own, parts, text) blocks whole new few small fewer =
+    let (c, a, b, w, rest, is, closed, left) = lined p front (z ++ y) ls own (whole ∙ ap (λ (l : List Symbol). l ++ y) text ∙ append_assoc front z y) in
     let first = part_again k names p a b stop w rest closed (within-map k (λ (h : AreNew names (p ∷ ps)). h.0) new) (within-map k (λ (h : AreNew names (p ∷ ps)). h.1) new) in
     let others = tail_again v k m n (names ++ p.name ∷ []) ps given calls z y rest stop parts blocks left (within-map k (λ (h : AreNew names (p ∷ ps)). h.2) new) (within-map k (λ le. let less : length ps ≤ n = omega (arith, le) in less) few) small fewer in
     rw is (told_next v k m n names p (record { version = v; parts = ps; given = given; calls = calls }) c a b stop w rest first others)

@@ -214,7 +214,7 @@ const HELPS: &[(&[&str], &[&str])] = &[
             "Usage: jsoncrdt run [OPTIONS] <FILE>\n",
         ],
     ),
-    (&["--version"], &["jsoncrdt 1.0.0\n"]),
+    (&["--version"], &["jsoncrdt 2.0.0\n"]),
     (
         &["check", "--help"],
         &[

@@ -1,5 +1,5 @@
 -- Sessions on the scenario that bytes are, from its start.
-use Rattle.std.proofs.Common.{◌≡◌, ◌≢◌, ℕ, ◌+◌, List, [], length, Option, None, Some, IsErrOf, Ok, Err, ◌⊎◌, inl, inr, sym, subst}
+use Rattle.std.proofs.Common.{◌≡◌, ◌≢◌, ℕ, ◌+◌, List, [], length, Option, None, Some, Result, Ok, Err, IsErrOf, IsErrAnd, ◌⊎◌, inl, inr, refl, ap, sym, subst, ◌∙◌}
 use Rattle.std.proofs.KnownBytes.{Consumes-nil}
 use Rattle.jc_rules.specs.declared.operation.Event.{Event}
 use Rattle.jc_rules.specs.Refused.{Cause}
@@ -17,13 +17,16 @@ use Rattle.jc_debug.specs.Session.{Session, begun}
 use Rattle.jc_debug.specs.Trail.{Seen, start_of}
 use Rattle.jc_debug.proofs.Replying.{begun_at}
 use Rattle.jc_session.specs.Answers.{Origin, origin_of, IsFaultLine}
+use Rattle.jc_session.specs.declared.sessions.SessionFault.{SessionFault}
+use Rattle.jc_session.specs.declared.sessions.SessionFault.TheVariants.{WriteFailed, Memory}
 use Rattle.jc_session.specs.Gives.{origin_in}
+use Rattle.jc_session.specs.Kinds.{IsOfAnswer}
 use Rattle.jc_session.specs.Shown.{End, text_refused, given_stuck, Talks, refused, stuck, talks}
 use Rattle.jc_session.specs.Went.{OfLines, OfLinesLeft, LosesFront, IsPast, AnsweredAll, ShowsAll, WentRefused, WentGiven, OnScenario}
 use Rattle.jc_session.specs.Written.{Stream, Wrote, Interrupted, Written}
 use Rattle.jc_session.proofs.Replying.{of_all}
 use Rattle.jc_session.proofs.Spelling.{not_memory}
-use Rattle.jc_session.proofs.Talking.{passed_on}
+use Rattle.jc_session.proofs.Talking.{passed_on, some_failed}
 use Rattle.jc_session.proofs.Writing.{one_failure}
 
 pub origin_is : (d : Seen) (s : Scenario) → IsStarted s d.net → origin_in d ≡ origin_of s (start_of d)
@@ -67,6 +70,18 @@ given_written s names at t o p g h = (h g.why g.event g.is).1
 
 pub given_failed : (s : Scenario) (names : List (List ℕ)) (at : ℕ) (t : Stuck) (o p : Stream) → IsGivenFault (bare s) s.given at t → OfGiven names at t (λ text. Interrupted text o p) → p.failures ≡ o.failures + 1
 given_failed s names at t o p g h = one_failure o p (given_text names at g.why g.event) (h g.why g.event g.is)
+
+-- ---- a fault that is handed up
+
+pub handed : {T U E : Type 0} (f x : E) (r : Result T E) → IsErrAnd r (λ e. e ≡ f) → IsErrOf r x → IsErrOf {T = U} (Err f) x
+handed f x (Ok v) h k = absurd h
+handed f x (Err e) h k = let same : e ≡ x = cc in ap Err (sym h ∙ same)
+
+pub failed_handed : {T U : Type 0} (f : SessionFault) (r : Result T SessionFault) (a b : ℕ) → IsErrAnd r (λ e. e ≡ f) → IsOfAnswer f → (IsErrOf {T = U} (Err f) Memory → b ≡ a) → (IsErrOf {T = U} (Err f) WriteFailed → b ≡ a + 1) → (IsErrOf r WriteFailed → b ≡ a + 1) × ((IsErrOf r WriteFailed → ⊥) → b ≡ a)
+failed_handed f (Ok v) a b h kind memory write = absurd h
+failed_handed {T} {U} f (Err e) a b h kind memory write =
+    subst (λ (x : SessionFault). (IsErrOf {T = T} (Err x) WriteFailed → b ≡ a + 1) × ((IsErrOf {T = T} (Err x) WriteFailed → ⊥) → b ≡ a)) (sym h)
+    (some_failed {T = U} {U = T} f a a b refl kind memory write)
 
 -- ---- from the start
 

@@ -276,10 +276,8 @@ pub fn session<S: Source, K: Sink>(
     let mut debugger = match Debugger::new(alloc, scenario) {
         Ok(debugger) => debugger,
         Err(StartFault::Given { at, stuck }) => {
-            return match show_stuck(alloc, names, at, &stuck, out) {
-                Ok(()) => Ok(SessionEnd::GivenStuck),
-                Err(fault) => Err(fault),
-            };
+            show_stuck(alloc, names, at, &stuck, out)?;
+            return Ok(SessionEnd::GivenStuck);
         }
         Err(StartFault::Memory) => return Err(SessionFault::Memory),
     };

@@ -94,13 +94,16 @@ const BEHIND: &[(usize, Fault)] = &[(100000, None), (100001, Some((19, 1400043))
 #[test]
 fn given_events(rt: HostRuntime) -> Result<(), Fail> {
     have_faults(&rt, rt.alloc(), GIVEN_EVENTS)?;
-    let head = repeated(
-        rt.alloc(),
-        (GIVEN, "a.send;", 100000, "} schedule {"),
-    )?;
+    let given = repeated(rt.alloc(), (GIVEN, "a.send;", 100000, "} schedule {"))?;
     for (times, want) in BEHIND {
-        let row = ((head.as_str(), "a.send;", *times, "}"), *want);
-        have_faults(&rt, rt.alloc(), &[row])?;
+        let schedule = "a.send;".repeat(rt.alloc(), *times)?;
+        let text = format!(in rt.alloc(); "{given}{schedule}}}")?;
+        is_fault(
+            &rt,
+            "behind given events",
+            fault_of(rt.alloc(), text.as_bytes()),
+            *want,
+        );
     }
     Ok(())
 }
@@ -193,7 +196,7 @@ fn is_two(scenario: &Scenario) -> bool {
     are_the_names(&scenario.names)
         && are_the_scripts(&scenario.scripts)
         && scenario.version == Version::Two
-        && scenario.given.as_slice() == [Event::Send(1)]
+        && scenario.given.as_slice() == [Event::Send(1)].as_slice()
         && scenario.schedule.as_slice() == SCHEDULE.as_slice()
 }
 

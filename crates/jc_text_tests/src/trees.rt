@@ -1,6 +1,6 @@
 //! The trees of scripts, expressions, events and scenarios, and copies of them.
 
-use crate::testing::holds;
+use crate::testing::{Fault, fault, holds, is_fault, repeated};
 use jc_parser::{
     NamedReplica, NamedScenario, event_at, parse_event, parse_expr, parse_script, scenario_of,
 };
@@ -247,7 +247,8 @@ fn scenario_in(alloc: Global, text: &str) -> Result<NamedScenario, Fail> {
 const TWO: &str = "jsoncrdt 1 replica b {} replica a {yield} schedule {a.recv(b); c.send}";
 
 fn is_two(scenario: &NamedScenario) -> bool {
-    are_the_replicas(&scenario.replicas) && are_the_events(&scenario.events)
+    let first = scenario.version == Version::One && scenario.given.is_empty();
+    first && are_the_replicas(&scenario.replicas) && are_the_events(&scenario.events)
 }
 
 // Names in events are not looked up there.
@@ -266,5 +267,110 @@ fn scenarios_are_copied(rt: HostRuntime) -> Result<(), Fail> {
     let scenario = scenario_in(rt.alloc(), TWO)?;
     let copy = scenario.copy()?;
     holds(&rt, TWO, is_two(&copy));
+    Ok(())
+}
+
+/// A scenario of version 2: a given event, which is a take, and an event of the schedule.
+const SECOND: &str =
+    "jsoncrdt 2 replica given {} replica take {} given {take.take(given, 7, z);} schedule {a.send}";
+
+fn is_second(scenario: &NamedScenario) -> bool {
+    match (&*scenario.given, &*scenario.events) {
+        ([take], [send]) => {
+            let taken = is_take(take, (("take", 51), ("given", 61), ("z", 71), 7));
+            let sent = is_event(send, ("send", ("a", 86), ("", 0), 0));
+            scenario.version == Version::Two && taken && sent
+        }
+        _ => false,
+    }
+}
+
+#[test]
+fn given_events_and_their_copy(rt: HostRuntime) -> Result<(), Fail> {
+    let scenario = scenario_in(rt.alloc(), SECOND)?;
+    holds(&rt, SECOND, is_second(&scenario));
+    let copy = scenario.copy()?;
+    holds(&rt, SECOND, is_second(&copy));
+    Ok(())
+}
+
+fn scenario_fault(alloc: Global, text: &str) -> Result<Fault, Fail> {
+    let tokens = lex(alloc, text)?;
+    match scenario_of(alloc, text, &tokens) {
+        Ok(_) => Ok(None),
+        Err(why) => Ok(fault(why.number(), why.place())),
+    }
+}
+
+/// Texts of both versions, and their faults.
+const SCENARIOS: &[(&str, Fault)] = &[
+    ("jsoncrdt 1", Some((16, 10))),
+    ("jsoncrdt 2", Some((16, 10))),
+    ("jsoncrdt 3", Some((14, 9))),
+    ("jsoncrdt 2.0", Some((14, 9))),
+    ("jsoncrdt two", Some((14, 9))),
+    ("jsoncrdt 2 given {}", Some((16, 11))),
+    ("jsoncrdt 1 replica a {} given {}", Some((7, 24))),
+    ("jsoncrdt 2 replica a {} given {}", None),
+    ("jsoncrdt 2 replica a {} given {} schedule {}", None),
+    (
+        "jsoncrdt 2 replica a {} schedule {} given {}",
+        Some((7, 36)),
+    ),
+    ("jsoncrdt 2 replica a {} given {} given {}", Some((7, 33))),
+    (
+        "jsoncrdt 2 replica a {} given {} replica b {}",
+        Some((7, 33)),
+    ),
+    ("jsoncrdt 2 replica a {} given", Some((8, 29))),
+    ("jsoncrdt 2 replica a {} given {a.exec", Some((8, 37))),
+    (
+        "jsoncrdt 1 replica a {} schedule {a.take(a, 1, a)}",
+        Some((7, 36)),
+    ),
+    ("jsoncrdt 2 replica a {} schedule {a.take(a, 1, a)}", None),
+    (
+        "jsoncrdt 2 replica a {} given {a.take(a, 4294967296, a)}",
+        Some((9, 41)),
+    ),
+    ("jsoncrdt 2 replica a {} given {a.given}", Some((7, 33))),
+];
+
+#[test]
+fn faults_of_scenarios(rt: HostRuntime) -> Result<(), Fail> {
+    for (text, want) in SCENARIOS {
+        is_fault(&rt, text, scenario_fault(rt.alloc(), text)?, *want);
+    }
+    Ok(())
+}
+
+/// The fault of a scenario with so many given events, and so many in the schedule.
+fn fault_of_counts(alloc: Global, given: usize, events: usize) -> Result<Fault, Fail> {
+    let head = "jsoncrdt 2 replica a {} given {";
+    let before = repeated(alloc, (head, "a.send;", given, "} schedule {"))?;
+    let schedule = repeated(alloc, ("", "a.send;", events, "}"))?;
+    let text = format!(in alloc; "{before}{schedule}")?;
+    scenario_fault(alloc, &text)
+}
+
+// Each block is counted apart.
+#[test]
+fn two_full_blocks(rt: HostRuntime) -> Result<(), Fail> {
+    let got = fault_of_counts(rt.alloc(), 100000, 100000)?;
+    is_fault(&rt, "two full blocks", got, None);
+    Ok(())
+}
+
+#[test]
+fn one_given_event_too_many(rt: HostRuntime) -> Result<(), Fail> {
+    let got = fault_of_counts(rt.alloc(), 100001, 0)?;
+    is_fault(&rt, "given", got, Some((19, 700031)));
+    Ok(())
+}
+
+#[test]
+fn one_event_too_many_behind_a_given_one(rt: HostRuntime) -> Result<(), Fail> {
+    let got = fault_of_counts(rt.alloc(), 1, 100001)?;
+    is_fault(&rt, "schedule", got, Some((19, 700050)));
     Ok(())
 }

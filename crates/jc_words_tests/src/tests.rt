@@ -166,7 +166,7 @@ fn told<R: AllocGlobal + Abort>(rt: &R, words: &[&str]) -> (bool, String) {
 fn version_is_told(rt: HostRuntime) {
     let (is_asked, text) = told(&rt, &["--version"]);
     assert!(&rt; is_asked);
-    assert!(&rt; text.as_str() == "jsoncrdt 1.0.0\n");
+    assert!(&rt; text.as_str() == "jsoncrdt 2.0.0\n");
 }
 
 /// Words that ask for help by `help`, those that ask for it by `--help`, and what is in it.

@@ -1,4 +1,4 @@
-use Rattle.std.proofs.Common.{◌≡◌, inl, inr, refl}
+use Rattle.std.proofs.Common.{◌≡◌, Err, inl, inr, ap, refl, ◌∙◌}
 use Rattle.jc_scenario.specs.Views.{scenario_view}
 use Rattle.jc_debug.specs.Session.{Session}
 use Rattle.jc_debug.specs.Trail.{session_of}
@@ -8,8 +8,8 @@ use Rattle.jc_session.specs.declared.sessions.SessionEnd.TheVariants.{Finished}
 use Rattle.jc_session.specs.declared.sessions.SessionFault.TheVariants.{ReadFailed}
 use Rattle.jc_session.specs.Went.{OfLinesLeft, LosesFront, WentToRead, WentWhole, WentFront}
 use Rattle.jc_session.specs.Written.{sink}
-use Rattle.jc_session.proofs.Begun.{text_refused_shown, refused_front, on_scenario, shown_by, shown_past, none_lost, left_after_ok, left_after_err}
-use Rattle.jc_session.proofs.Talking.{passed_on}
+use Rattle.jc_session.proofs.Begun.{text_refused_shown, refused_front, given_named, given_shown, given_front, given_written, given_failed, handed, failed_handed, on_scenario, shown_by, shown_past, none_lost, left_after_ok, left_after_err}
+use Rattle.jc_session.proofs.Talking.{passed_on, none_failed}
 use Rattle.jc_session.proofs.sessions.session.Goals as goal
 
 pub returns-in-Ok-refuse-clause-text_refused : goal.returns-in-Ok-refuse-clause-text_refused
@@ -21,6 +21,25 @@ pub returns-in-Err-refuse-clause-write : goal.returns-in-Err-refuse-clause-write
 returns-in-Err-refuse-clause-write g c = λ k.
     let w = c.in-Err-refuse.ensures.write (passed_on _ _ k) in
     inl (refl, refused_front c.args.scenario.now c.in-Err.fault (sink g.K.Sink c.args.out.now) (sink g.K.Sink c.refuse.new.out) c.in-Err.ensures.fault w.0 w.1 w.2)
+
+pub show_stuck-requires : goal.show_stuck-requires
+show_stuck-requires g c =
+    let w = c.in-Err-Given in
+    let given = w.ensures.given w.at w.stuck (ap Err w.field-0-is) in
+    given_named (scenario_view c.in-Ok.scenario) c.in_ok-names.names.items w.at w.stuck c.in-Ok.ensures.well_formed (c.in_ok-names.ensures ∙ c.deref.ensures.value) given
+
+pub returns-in-Err-Given-clause-given_stuck : goal.returns-in-Err-Given-clause-given_stuck
+returns-in-Err-Given-clause-given_stuck g c = λ _.
+    let w = c.in-Err-Given in
+    let given = w.ensures.given w.at w.stuck (ap Err w.field-0-is) in
+    (given_shown c.args.scenario.now (scenario_view c.in-Ok.scenario) c.in_ok-names.names.items w.at w.stuck (sink g.K.Sink c.args.out.now) (sink g.K.Sink c.show_stuck.new.out) c.in-Ok.ensures.scenario (c.in_ok-names.ensures ∙ c.deref.ensures.value) given c.in_ok-show_stuck-in-Err-Given.ensures.ok, refl)
+
+pub returns-in_err-show_stuck-in-Err-Given-clause-write : goal.returns-in_err-show_stuck-in-Err-Given-clause-write
+returns-in_err-show_stuck-in-Err-Given-clause-write g c = λ k.
+    let w = c.in-Err-Given in
+    let given = w.ensures.given w.at w.stuck (ap Err w.field-0-is) in
+    let interrupted = c.in_err-show_stuck-in-Err-Given.ensures.write (handed _ _ _ c.from_residual-in_err-show_stuck-in-Err-Given.ensures.1 k) in
+    inr (inl (refl, given_front c.args.scenario.now (scenario_view c.in-Ok.scenario) c.in_ok-names.names.items w.at w.stuck (sink g.K.Sink c.args.out.now) (sink g.K.Sink c.show_stuck.new.out) c.in-Ok.ensures.scenario (c.in_ok-names.ensures ∙ c.deref.ensures.value) given interrupted))
 
 pub returns-in-Ok-converse-clause-finished : goal.returns-in-Ok-converse-clause-finished
 returns-in-Ok-converse-clause-finished g c = λ _.
@@ -40,7 +59,7 @@ returns-clause-memory g c = λ k.
 
 pub returns-clause-write : goal.returns-clause-write
 returns-clause-write g c = λ k.
-    inr (on_scenario (λ (O : Origin) (A : Session). OfLinesLeft (g.S.Source.left c.args.lines.now) (g.S.Source.left c.converse.new.source) (λ l left. WentFront O A l left (sink g.K.Sink c.args.out.now) (sink g.K.Sink c.converse.new.out))) c.args.scenario.now (scenario_view c.in-Ok.scenario) c.in-Ok-new.debugger (session_of c.in-Ok-new.debugger) c.in-Ok.ensures.scenario c.in-Ok-new.ensures.net c.in-Ok-new.ensures.session (c.in-Err-converse.ensures.write (passed_on _ _ k)))
+    inr (inr (on_scenario (λ (O : Origin) (A : Session). OfLinesLeft (g.S.Source.left c.args.lines.now) (g.S.Source.left c.converse.new.source) (λ l left. WentFront O A l left (sink g.K.Sink c.args.out.now) (sink g.K.Sink c.converse.new.out))) c.args.scenario.now (scenario_view c.in-Ok.scenario) c.in-Ok-new.debugger (session_of c.in-Ok-new.debugger) c.in-Ok.ensures.scenario c.in-Ok-new.ensures.net c.in-Ok-new.ensures.session (c.in-Err-converse.ensures.write (passed_on _ _ k))))
 
 pub returns-in-Ok-refuse-clause-left : goal.returns-in-Ok-refuse-clause-left
 returns-in-Ok-refuse-clause-left g c = inr (none_lost (g.S.Source.left c.args.lines.now))
@@ -55,3 +74,19 @@ returns-in-Ok-converse-clause-left g c =
 pub returns-clause-left : goal.returns-clause-left
 returns-clause-left g c =
     left_after_err c.in-Err-converse.fault ReadFailed (LosesFront (g.S.Source.left c.args.lines.now) (g.S.Source.left c.converse.new.source)) c.in-Err-converse.ensures.left
+
+-- ---- failures
+
+pub returns-in-Err-Given-clause-writes : goal.returns-in-Err-Given-clause-writes
+returns-in-Err-Given-clause-writes g c =
+    let w = c.in-Err-Given in
+    let given = w.ensures.given w.at w.stuck (ap Err w.field-0-is) in
+    none_failed _ _ _ _ (given_written (scenario_view c.in-Ok.scenario) c.in_ok-names.names.items w.at w.stuck (sink g.K.Sink c.args.out.now) (sink g.K.Sink c.show_stuck.new.out) given c.in_ok-show_stuck-in-Err-Given.ensures.ok)
+
+pub returns-in_err-show_stuck-in-Err-Given-clause-writes : goal.returns-in_err-show_stuck-in-Err-Given-clause-writes
+returns-in_err-show_stuck-in-Err-Given-clause-writes g c =
+    let w = c.in-Err-Given in
+    let e = c.in_err-show_stuck-in-Err-Given.ensures in
+    let given = w.ensures.given w.at w.stuck (ap Err w.field-0-is) in
+    failed_handed _ _ _ _ c.from_residual-in_err-show_stuck-in-Err-Given.ensures.1 e.kind (λ k. ap g.K.Sink.failures (e.memory k))
+    (λ k. given_failed (scenario_view c.in-Ok.scenario) c.in_ok-names.names.items w.at w.stuck (sink g.K.Sink c.args.out.now) (sink g.K.Sink c.show_stuck.new.out) given (e.write k))
