@@ -1,4 +1,4 @@
-use Rattle.std.proofs.Common.{ℕ, List, rules, sym, subst}
+use Rattle.std.proofs.Common.{◌∙◌, ℕ, List, rules, sym, subst}
 use Rattle.jc_scenario.specs.Scenarios.{Scenario}
 use Rattle.jc_runner.specs.Reports.{IsReport}
 use Rattle.jc_scenario.specs.Views.{scenario_view}
@@ -19,10 +19,10 @@ returns-in_ok-told-in-Ok-clause-recorded g c =
 
 pub fault_of-requires : goal.fault_of-requires
 fault_of-requires g c =
-    subst (λ (names : List (List ℕ)). IsTellableFault names c.in-Err.fault) (sym c.in_ok-names.ensures)
+    subst (λ (names : List (List ℕ)). IsTellableFault names c.in-Err.fault) (sym (c.in_ok-names.ensures ∙ c.deref.ensures.value))
     (tellable c.in-Err.fault (scenario_view c.args.scenario) _ c.args.limit c.requires.scenario (search rules) c.requires.limit c.in-Err.ensures.fault)
 
 pub returns-in-Err-clause-fault : goal.returns-in-Err-clause-fault
 returns-in-Err-clause-fault g c =
     told_fault c.in-Err.fault c.fault_of.result (scenario_view c.args.scenario) _ c.args.limit c.in-Err.ensures.fault
-    (subst (λ (names : List (List ℕ)). IsToldAs names c.in-Err.fault c.fault_of.result) c.in_ok-names.ensures c.fault_of.ensures)
+    (subst (λ (names : List (List ℕ)). IsToldAs names c.in-Err.fault c.fault_of.result) (c.in_ok-names.ensures ∙ c.deref.ensures.value) c.fault_of.ensures)
