@@ -65,7 +65,7 @@ returns-in_err-send-in-Some-clause-write g c = λ _.
 
 -- ---- where a given event is stuck
 
-pub send_given-requires-clause-stuck : goal.send_given-requires-stuck
+pub send_given-requires-clause-stuck : goal.send_given-requires-clause-stuck
 send_given-requires-clause-stuck g c = c.in-Err-Given.ensures.given c.in-Err-Given.at c.in-Err-Given.stuck (ap failed c.in-Err-Given.field-0-is)
 
 pub returns-in-Err-Given-clause-ok : goal.returns-in-Err-Given-clause-ok
