@@ -1,4 +1,4 @@
-use Rattle.std.proofs.Common.{◌≡◌, ◌∙◌}
+use Rattle.std.proofs.Common.{◌∙◌}
 use Rattle.jc_scenario.specs.Views.{scenario_view}
 use Rattle.jc_program.specs.Ran.{IsGivenShown}
 use Rattle.jc_program.proofs.GivenStuck.{given_named, given_shown}
