@@ -1,6 +1,5 @@
 -- Runs that are refused.
-use Rattle.std.proofs.Common.{arith, ◌≡◌, ◌≤◌, ℕ, List, length, String, string_bytes, Err, refl}
-use Rattle.std.specs.declared.alloc.Global.{Global}
+use Rattle.std.proofs.Common.{arith, ◌≡◌, ◌≤◌, ℕ, length, string_bytes}
 use Rattle.jc_scenario.specs.Scenarios.{Scenario, IsWellFormed}
 use Rattle.jc_runner.specs.declared.run.RunFault.{RunFault}
 use Rattle.jc_runner.specs.declared.run.RunFault.TheVariants as R

@@ -81,8 +81,8 @@ module _ (files : Files) (words : List (List ℕ)) (old new : World) (result : �
 
   -- standard input is left alone where the order names another file, but by a session that has a start
   abbrev pub OtherFileFact : Type 0
-  OtherFileFact = (order : Order) → words_order words ≡ Some order → (order.task ≢ Debug) ⊎ ((result ≡ 1) ⊎ (result ≡ 3))
-      → order.file ≢ codes "-" → new.input ≡ old.input
+  OtherFileFact = (order : Order) → words_order words ≡ Some order
+      → (order.task ≢ Debug) ⊎ ((result ≡ 1) ⊎ (result ≡ 3)) → order.file ≢ codes "-" → new.input ≡ old.input
 
   -- of a text at most so many bytes are read
   abbrev pub MostFact : Type 0

@@ -9,7 +9,7 @@ ghost use Rattle.jc_dump.specs.Lines.{IsNamedStuck};
 ghost use Rattle.jc_dump.specs.Texts.{given_text};
 ghost use Rattle.jc_scenario.specs.Scenarios.{IsWellFormed};
 ghost use Rattle.jc_scenario.specs.Views.{scenario_view};
-ghost use Rattle.jc_runner.specs.Reports.{IsReport, IsLateFault};
+ghost use Rattle.jc_runner.specs.Reports.{IsReport};
 ghost use Rattle.jc_program.specs.Ends.{is_stuck, lacks_memory, outcome_of};
 ghost use Rattle.jc_program.specs.Recordings.{IsRecording, IsRecordFault, IsTellableFault, IsToldAs};
 ghost use Rattle.jc_program.specs.declared.recording.RecordFault.TheVariants.{Memory as WantOfMemory};

@@ -1,4 +1,4 @@
-use Rattle.std.proofs.Common.{◌≡◌, ◌∙◌}
+use Rattle.std.proofs.Common.{◌∙◌}
 use Rattle.jc_scenario.specs.Views.{scenario_view}
 use Rattle.jc_program.specs.Ran.{IsGivenShown}
 use Rattle.jc_program.proofs.GivenStuck.{given_named, given_shown}
@@ -7,8 +7,8 @@ use Rattle.jc_program.proofs.alone.send_given.Goals as goal
 pub given_text-requires : goal.given_text-requires
 given_text-requires g c = given_named (scenario_view c.args.scenario.now) c.args.at c.args.stuck.now c.requires.stuck c.requires.formed
 
-pub returns-in_ok-send-clause-ok : goal.returns-in_ok-send-clause-ok
-returns-in_ok-send-clause-ok g c =
+pub returns-clause-ok : goal.returns-clause-ok
+returns-clause-ok g c =
     let is : IsGivenShown (scenario_view c.args.scenario.now) c.as_str.result.now 3 = given_shown (scenario_view c.args.scenario.now) c.args.at c.args.stuck.now c.requires.stuck c.as_str.result.now (λ why event e. c.as_str.ensures.value ∙ c.in_ok-lines.ensures why event e) in
     (c.as_str.result.now, is, c.in_ok-send.ensures.ok)
 

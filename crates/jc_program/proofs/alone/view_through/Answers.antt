@@ -34,7 +34,7 @@ returns-in-Err-Memory-clause-memory g c = λ _. unstarted false (scenario_view c
 -- the blocks of some events are
 pub returns-in_err-stuck-clause-memory : goal.returns-in_err-stuck-clause-memory
 returns-in_err-stuck-clause-memory g c = λ k.
-    events_stand false (scenario_view c.args.scenario.now) (take c.args.events (scenario_view c.args.scenario.now).schedule) (views_text (scenario_view c.args.scenario.now).names) c.in-Ok.net c.first_events-schedule.result.now (sink g.K.Sink c.args.out.now) (sink g.K.Sink c.play.new.out) c.in-Ok.ensures.started (c.first_events-schedule.ensures ∙ ap (take c.args.events) c.deref.ensures.value) (c.in_err-stuck.ensures.memory (handed _ _ _ c.from_residual-in_err-stuck.ensures.1 k))
+    events_stand false (scenario_view c.args.scenario.now) (take c.args.events (scenario_view c.args.scenario.now).schedule) (views_text (scenario_view c.args.scenario.now).names) c.in-Ok.net c.first_events-schedule.result.now (sink g.K.Sink c.args.out.now) (sink g.K.Sink c.play.new.out) c.in-Ok.ensures.started (c.first_events-schedule.ensures ∙ ap (take c.args.events) c.deref.ensures.value) (c.in_err-stuck.ensures.memory (handed _ _ _ c.from_residual.ensures.1 k))
 
 -- the blocks are there, and the lines of some replicas
 pub returns-in_err-send_views-clause-memory : goal.returns-in_err-send_views-clause-memory
@@ -51,7 +51,7 @@ returns-in_err-line-in-Some-clause-memory g c = λ _.
 -- of a block
 pub returns-in_err-stuck-clause-write : goal.returns-in_err-stuck-clause-write
 returns-in_err-stuck-clause-write g c = λ k.
-    absurd (no_part c.in-Ok.net.names c.in-Ok.net.network c.first_events-schedule.result.now (sink g.K.Sink c.args.out.now) (sink g.K.Sink c.play.new.out) (c.in_err-stuck.ensures.write (handed _ _ _ c.from_residual-in_err-stuck.ensures.1 k)))
+    absurd (no_part c.in-Ok.net.names c.in-Ok.net.network c.first_events-schedule.result.now (sink g.K.Sink c.args.out.now) (sink g.K.Sink c.play.new.out) (c.in_err-stuck.ensures.write (handed _ _ _ c.from_residual.ensures.1 k)))
 
 -- of a line of a replica
 pub returns-in_err-send_views-clause-write : goal.returns-in_err-send_views-clause-write
@@ -65,8 +65,8 @@ returns-in_err-send-in-Some-clause-write g c = λ _.
 
 -- ---- where a given event is stuck
 
-pub send_given-requires-stuck : goal.send_given-requires-stuck
-send_given-requires-stuck g c = c.in-Err-Given.ensures.given c.in-Err-Given.at c.in-Err-Given.stuck (ap failed c.in-Err-Given.field-0-is)
+pub send_given-requires-clause-stuck : goal.send_given-requires-clause-stuck
+send_given-requires-clause-stuck g c = c.in-Err-Given.ensures.given c.in-Err-Given.at c.in-Err-Given.stuck (ap failed c.in-Err-Given.field-0-is)
 
 pub returns-in-Err-Given-clause-ok : goal.returns-in-Err-Given-clause-ok
 returns-in-Err-Given-clause-ok g c =

@@ -1,8 +1,9 @@
-use Rattle.std.proofs.Common.{ℕ, List, rules, sym, subst}
+use Rattle.std.proofs.Common.{◌≡◌, ◌∙◌, ℕ, List, length, vec_len, sym, subst, arith}
 use Rattle.jc_scenario.specs.Scenarios.{Scenario}
 use Rattle.jc_runner.specs.Reports.{IsReport}
-use Rattle.jc_scenario.specs.Views.{scenario_view}
+use Rattle.jc_scenario.specs.Views.{scenario_view, scripts_view}
 use Rattle.jc_program.specs.Recordings.{IsRecording, IsTellableFault, IsToldAs}
+use Rattle.jc_program.proofs.Counting.{as_many}
 use Rattle.jc_program.proofs.Refusing.{tellable, told_fault}
 use Rattle.jc_program.proofs.recording.record.Goals as goal
 
@@ -19,10 +20,12 @@ returns-in_ok-told-in-Ok-clause-recorded g c =
 
 pub fault_of-requires : goal.fault_of-requires
 fault_of-requires g c =
-    subst (λ (names : List (List ℕ)). IsTellableFault names c.in-Err.fault) (sym c.in_ok-names.ensures)
-    (tellable c.in-Err.fault (scenario_view c.args.scenario) _ c.args.limit c.requires.scenario (search rules) c.requires.limit c.in-Err.ensures.fault)
+    let scripts = c.args.scenario.scripts in
+    let many : vec_len c.in_ok-gates.gates ≡ length (scripts_view scripts.items) = omega (arith, c.in_ok-gates.ensures, as_many scripts.items, scripts.ok.0) in
+    subst (λ (names : List (List ℕ)). IsTellableFault names c.in-Err.fault) (sym (c.in_ok-names.ensures ∙ c.deref.ensures.value))
+    (tellable c.in-Err.fault (scenario_view c.args.scenario) _ c.args.limit c.requires.scenario many c.requires.limit c.in-Err.ensures.fault)
 
 pub returns-in-Err-clause-fault : goal.returns-in-Err-clause-fault
 returns-in-Err-clause-fault g c =
     told_fault c.in-Err.fault c.fault_of.result (scenario_view c.args.scenario) _ c.args.limit c.in-Err.ensures.fault
-    (subst (λ (names : List (List ℕ)). IsToldAs names c.in-Err.fault c.fault_of.result) c.in_ok-names.ensures c.fault_of.ensures)
+    (subst (λ (names : List (List ℕ)). IsToldAs names c.in-Err.fault c.fault_of.result) (c.in_ok-names.ensures ∙ c.deref.ensures.value) c.fault_of.ensures)
