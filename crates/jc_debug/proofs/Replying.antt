@@ -2,8 +2,8 @@
 use Rattle.std.proofs.Common.{◌≡◌, ℕ, List, [], ◌∷◌, ◌++◌, length, slice_get, unwrap_or, Option, Some, None, ap, refl, sym, subst}
 use Rattle.jc_rules.specs.declared.operation.Event.{Event}
 use Rattle.jc_rules.specs.Refused.{Cause}
-use Rattle.jc_network.specs.declared.fault.Stuck.{Stuck}
 use Rattle.jc_rules.specs.Step.{Network}
+use Rattle.jc_network.specs.declared.fault.Stuck.{Stuck}
 use Rattle.jc_network.specs.Given.{IsStart, IsStarted}
 use Rattle.jc_network.specs.Makes.{stuck_for}
 use Rattle.jc_scenario.specs.Scenarios.{Scenario}
