@@ -88,7 +88,7 @@ fn runs(rt: HostRuntime) {
 /// Texts that are no scenario, and the line of each.
 const REFUSED: &[(&[u8], &str)] = &[
     (b"", "refused 14 NoHeader at 0\n"),
-    (b"jsoncrdt 2", "refused 14 NoHeader at 9\n"),
+    (b"jsoncrdt 3", "refused 14 NoHeader at 9\n"),
     (b"jsoncrdt 1", "refused 16 NoReplica at 10\n"),
     (b"jsoncrdt 1 \xff", "refused 13 NotUtf8 at 11\n"),
     (
