@@ -1,9 +1,9 @@
-"""The command line as the program defines it: commands and options by crates/jc_words/src/definition.rt, texts and statuses
+"""The command line as the program defines it: commands and options by crates/jc_cli/src/definition.rt, texts and statuses
 by help.rt there, and the flags that its parser adds by the help that crates/jc_rows shows."""
 
 import re
 
-DEFINITION, HELP = "crates/jc_words/src/definition.rt", "crates/jc_words/src/help.rt"
+DEFINITION, HELP = "crates/jc_cli/src/definition.rt", "crates/jc_cli/src/help.rt"
 SHOWN, ROW = "crates/jc_rows/stdout", "== words: the help of the program has its commands\n"
 STRING = r'"((?:[^"\\]|\\.)*)"'
 CONSTANT = re.compile(rf"const (\w+): &str =\s*{STRING};", re.DOTALL)

@@ -1,6 +1,6 @@
 """The command line of `jsoncrdt` as a table, from which tools/make-completions makes the completions and the man page.
 
-./test compares it with the program's own definition, in crates/jc_words. What a command does besides (`more`), the
+./test compares it with the program's own definition, in crates/jc_cli. What a command does besides (`more`), the
 command help and status 127 stand here alone.
 """
 

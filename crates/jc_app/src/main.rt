@@ -8,7 +8,7 @@ mod words;
 use crate::files::Host;
 use crate::process::{Ended, run};
 use crate::words::words_of;
-use jc_rules::io::{FromRead, ToWrite};
+use jc_io::{FromRead, ToWrite};
 
 /// Calls `run` with the process's words, its standard streams and the files of its machine.
 fn main(rt: HostRuntime) -> Ended {

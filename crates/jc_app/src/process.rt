@@ -4,8 +4,8 @@ ghost use Rattle.std.specs.Prelude.{◌≡◌};
 ghost use Rattle.std.specs.Process.{exit_status};
 ghost use Rattle.jc_program.specs.Promise.{ProcessPromise, files_of, world};
 
+use jc_io::{FromRead, Sink, Source, ToWrite};
 use jc_program::{Files, exit};
-use jc_rules::io::{FromRead, Sink, Source, ToWrite};
 use std::io;
 use std::io::Eprint;
 use std::process::{ExitCode, Termination};

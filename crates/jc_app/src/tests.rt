@@ -2,8 +2,8 @@
 
 use crate::files::Host;
 use crate::words::words_of;
+use jc_io::ReadFault;
 use jc_program::Files;
-use jc_rules::io::ReadFault;
 use std::alloc::Global;
 use std::env::FillError;
 use std::io::ErrorKind;

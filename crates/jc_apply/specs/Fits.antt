@@ -14,7 +14,7 @@ use Rattle.jc_rules.specs.declared.operation.Op.{Op}
 use Rattle.jc_rules.specs.declared.value.Value.{Value}
 use Rattle.jc_rules.specs.declared.value.Value.TheVariants.{EmptyMap, EmptyList, Null}
 use Rattle.jc_rules.specs.Context.{Context, context, Children, no_child, child, Content, content, new_content, next}
-use Rattle.jc_rules.specs.Places.{node_in, or_empty}
+use Rattle.jc_rules.specs.ContextsAt.{node_in, or_empty}
 use Rattle.jc_rules.specs.Derivation.{Question, Answer}
 use Rattle.jc_rules.specs.Refused.{IsAnswered}
 
@@ -26,13 +26,13 @@ HasNoAnswer q = (a : Answer) → IsAnswered q a → ⊥
 abbrev pub EachOp : Cursor → Mutation → (Op → Type 0) → Type 0
 EachOp cursor mutation P = (o : Op) → o.cursor ≡ cursor → o.mutation ≡ mutation → P o
 
-abbrev pub or_new : Tagged → Option Content → Content
-or_new k None = new_content k
-or_new k (Some x) = x
+abbrev pub content_or_new : Tagged → Option Content → Content
+content_or_new k None = new_content k
+content_or_new k (Some x) = x
 
 -- the context under the tagged key, or the new one that is made there
-abbrev pub child_of : Tagged → Context → Option Context
-child_of k c = node_in (Some (or_new k (content k c)))
+abbrev pub child_context : Tagged → Context → Option Context
+child_context k c = node_in (Some (content_or_new k (content k c)))
 
 -- only an insert asks for something: that its place is linked
 abbrev pub FitsHere : Context → Key → Mutation → Type 0
@@ -47,7 +47,7 @@ InChild (Some d) P = P d
 -- the path leads through contexts, some of them new, to one where the mutation fits
 abbrev pub Fits : Context → List Tagged → Key → Mutation → Type 0
 Fits c [] k m = FitsHere c k m
-Fits c (t ∷ ts) k m = InChild (child_of t c) (λ d. Fits d ts k m)
+Fits c (t ∷ ts) k m = InChild (child_context t c) (λ d. Fits d ts k m)
 
 -- the context that was just made under a tagged key
 abbrev pub made_under : Option Tagged → Context

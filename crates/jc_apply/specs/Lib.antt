@@ -1,3 +1,3 @@
 pub mod Fits
-pub mod Leads
+pub mod AppliesAlong
 pub mod Applies

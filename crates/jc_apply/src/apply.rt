@@ -6,16 +6,16 @@ ghost use Rattle.jc_rules.specs.declared.refusal.Refusal.TheVariants.{NotInList 
 ghost use Rattle.jc_rules.specs.Derivation.{Operate, ToContext};
 ghost use Rattle.jc_rules.specs.Derives.{Derives};
 ghost use Rattle.jc_rules.specs.Refused.{Refused, because};
-ghost use Rattle.jc_rules.specs.Shape.{IsChained};
+ghost use Rattle.jc_rules.specs.WellFormed.{IsChained};
 ghost use Rattle.jc_rules.specs.Table.{moved};
 ghost use Rattle.jc_tree.specs.Tree.{HasPlace, IsLater, here};
-ghost use Rattle.jc_tree.specs.CanGoBack.{CanGoBack};
-ghost use Rattle.jc_sets.specs.Members.{with_deps};
+ghost use Rattle.jc_tree.specs.CanGoBack.{TreeCanGoBack};
+ghost use Rattle.jc_vectors.specs.OperationIds.{with_deps};
 ghost use Rattle.jc_apply.specs.Applies.{AppliesFor};
 ghost use Rattle.jc_apply.specs.Fits.{Fits, HasNoAnswer, IsUnlinked};
-ghost use Rattle.jc_apply.specs.Leads.{Adds, Leads, LinksNone, LinksOnly};
+ghost use Rattle.jc_apply.specs.AppliesAlong.{AddsId, LeadsTo, LinksNone, LinksOnly};
 
-use crate::assigning::{assign, tell_added};
+use crate::assigning::{assign, trace_added};
 use crate::entering::enter_below;
 use crate::fitting::fits;
 use crate::inserting::insert;
@@ -44,10 +44,10 @@ fn delete<S: TreeStore>(
     requires there { HasPlace at.now (S.tree store.old) }
     requires chained { IsChained (S.tree store.old).now }
     requires deletes { op.now.mutation ≡ Mutation.Delete }
-    ensures ok { OnOk result (Leads (λ c. Operate c (moved op.now [] op.now.cursor.last op.now.mutation))
+    ensures ok { OnOk result (LeadsTo (λ c. Operate c (moved op.now [] op.now.cursor.last op.now.mutation))
         at.now (S.tree store.old) (S.tree store.new) trace.old trace.new) }
     ensures links { OnOk result (LinksNone at.now (S.tree store.old) (S.tree store.new)) }
-    ensures kept { CanGoBack (S.tree store.old) (S.tree store.new) trace.old trace.new }
+    ensures kept { TreeCanGoBack (S.tree store.old) (S.tree store.new) trace.old trace.new }
 {
     let depth = trace.depth();
     trace.open(Rule::Delete)?;
@@ -68,10 +68,10 @@ fn operate_here<S: TreeStore>(
     requires chained { IsChained (S.tree store.old).now }
     requires fresh { IsUnlinked op.now.id (S.tree store.old).now }
     requires fits { Fits (here at.now (S.tree store.old)) [] op.now.cursor.last op.now.mutation }
-    ensures ok { OnOk result (Leads (λ c. Operate c (moved op.now [] op.now.cursor.last op.now.mutation))
+    ensures ok { OnOk result (LeadsTo (λ c. Operate c (moved op.now [] op.now.cursor.last op.now.mutation))
         at.now (S.tree store.old) (S.tree store.new) trace.old trace.new) }
     ensures links { OnOk result (LinksOnly op.now.id (S.tree store.old) (S.tree store.new)) }
-    ensures kept { CanGoBack (S.tree store.old) (S.tree store.new) trace.old trace.new }
+    ensures kept { TreeCanGoBack (S.tree store.old) (S.tree store.new) trace.old trace.new }
 {
     match &op.mutation {
         Mutation::Assign(value) => assign(alloc, store, at, op, &op.cursor.last, value, trace),
@@ -91,7 +91,7 @@ fn add_op<S: TreeStore>(
 ) -> Result<Option<bool>, AllocError>
     requires there { HasPlace at.now (S.tree store.old) }
     requires named { S.names store.old place at.now }
-    ensures ok { IfOk result (λ was. Adds key.now op.now.id op.now.mutation was
+    ensures ok { IfOk result (λ was. AddsId key.now op.now.id op.now.mutation was
         at.now (S.tree store.old) (S.tree store.new)) }
     ensures named { OnOk result (S.names store.new place at.now) }
     ensures links { OnOk result (LinksNone at.now (S.tree store.old) (S.tree store.new)) }
@@ -123,11 +123,11 @@ fn operate<S: TreeStore>(
     requires fresh { IsUnlinked op.now.id (S.tree store.old).now }
     requires fits { Fits (here (take depth op.now.cursor.path) (S.tree store.old))
         (drop depth op.now.cursor.path) op.now.cursor.last op.now.mutation }
-    ensures ok { OnOk result (Leads
+    ensures ok { OnOk result (LeadsTo
         (λ c. Operate c (moved op.now (drop depth op.now.cursor.path) op.now.cursor.last op.now.mutation))
         (take depth op.now.cursor.path) (S.tree store.old) (S.tree store.new) trace.old trace.new) }
     ensures links { OnOk result (LinksOnly op.now.id (S.tree store.old) (S.tree store.new)) }
-    ensures kept { CanGoBack (S.tree store.old) (S.tree store.new) trace.old trace.new }
+    ensures kept { TreeCanGoBack (S.tree store.old) (S.tree store.new) trace.old trace.new }
 {
     let path = op.cursor.path.as_slice();
     if depth == path.len() {
@@ -141,7 +141,7 @@ fn operate<S: TreeStore>(
     let was = add_op(store, place, at, key, op)?;
     let child = enter_below(store, place, at, key, trace)?;
     operate(alloc, store, op, depth + 1, child, trace)?;
-    tell_added(was, trace)?;
+    trace_added(was, trace)?;
     trace.close(above);
     Ok(())
 }
@@ -176,7 +176,7 @@ pub fn apply_op<S: TreeStore>(
         → Refused (Operate (S.tree store.old).now (with_deps deps op.now)) (because PlaceNotInList) }
     ensures err_store { OnErr result (S.tree store.new ≡ S.tree store.old) }
     ensures err_trace { OnErr result (trace.new ≡ trace.old) }
-    ensures kept { CanGoBack (S.tree store.old) (S.tree store.new) trace.old trace.new }
+    ensures kept { TreeCanGoBack (S.tree store.old) (S.tree store.new) trace.old trace.new }
     ensures chained { IsChained (S.tree store.new).now }
     ensures unlinked { (i : AnyId) → i ≢ op.now.id
         → IsUnlinked i (S.tree store.old).now → IsUnlinked i (S.tree store.new).now }

@@ -8,16 +8,16 @@ ghost use Rattle.jc_rules.specs.declared.operation.Mutation.{Mutation as AnyMuta
 ghost use Rattle.jc_rules.specs.declared.operation.Mutation.TheVariants.{Assign, Delete};
 ghost use Rattle.jc_rules.specs.Order.{key_cmp};
 ghost use Rattle.jc_rules.specs.Entries.{find};
-ghost use Rattle.jc_rules.specs.Context.{Context, Values, IsPrimitive, key_of, presence, registers};
+ghost use Rattle.jc_rules.specs.Context.{Context, Values, IsPrimitive, key_of_tagged, presence, registers};
 ghost use Rattle.jc_rules.specs.Derivation.{AddId, Child, Operate, Presence, ToContent, ToIds};
-ghost use Rattle.jc_rules.specs.Shape.{IsChained};
+ghost use Rattle.jc_rules.specs.WellFormed.{IsChained};
 ghost use Rattle.jc_rules.specs.Table.{Follows, moved};
 ghost use Rattle.jc_rules.specs.Trace.{IsLonger};
 ghost use Rattle.jc_rules.specs.Paths.{HasContext};
-ghost use Rattle.jc_tree.specs.Tree.{HasPlace, here, or_none};
-ghost use Rattle.jc_tree.specs.CanGoBack.{CanGoBack};
+ghost use Rattle.jc_tree.specs.Tree.{HasPlace, here, or_no_entries};
+ghost use Rattle.jc_tree.specs.CanGoBack.{TreeCanGoBack};
 ghost use Rattle.jc_apply.specs.Fits.{empty_of};
-ghost use Rattle.jc_apply.specs.Leads.{Leads, LinksNone, AssignsEmpty, TellsAdded};
+ghost use Rattle.jc_apply.specs.AppliesAlong.{LeadsTo, LinksNone, AssignsEmpty, TellsAdded};
 
 use crate::entering::enter;
 use jc_clear::{clear, clear_elem};
@@ -28,7 +28,7 @@ use std::alloc::{AllocError, Global};
 /// The rule by which a key's presence set is found, or found absent.
 fn presence_rule(was: bool) -> Rule
     ensures { (c : Context) (k : AnyKey) → was ≡ is_some (presence k c)
-        → Follows result (Presence c k) (ToIds (or_none (presence k c))) [] }
+        → Follows result (Presence c k) (ToIds (or_no_entries (presence k c))) [] }
 {
     if was {
         Rule::Presence1
@@ -40,14 +40,14 @@ fn presence_rule(was: bool) -> Rule
 /// The rule by which a key's register is found, or a new one made.
 fn register_rule(was: bool) -> Rule
     ensures { (c : Context) (k : AnyKey) → was ≡ is_some (find key_cmp k (registers c))
-        → Follows result (Child c (RegT k)) (ToContent (Values (or_none (find key_cmp k (registers c))))) [] }
+        → Follows result (Child c (RegT k)) (ToContent (Values (or_no_entries (find key_cmp k (registers c))))) [] }
 {
     if was { Rule::ChildGet } else { Rule::ChildReg }
 }
 
 /// Adds the rules to the trace by which an operation's identifier was added to a presence set, which
 /// was there or not, or by which it wasn't added for a deletion.
-pub fn tell_added(was: Option<bool>, trace: &mut Trace) -> Result<(), AllocError>
+pub fn trace_added(was: Option<bool>, trace: &mut Trace) -> Result<(), AllocError>
     ensures ok { OnOk result (TellsAdded was trace.old trace.new) }
     ensures kept { IsLonger trace.old trace.new }
 {
@@ -70,14 +70,14 @@ pub fn add_id<S: TreeStore>(
     trace: &mut Trace,
 ) -> Result<(), AllocError>
     requires { HasPlace at.now (S.tree store.old) }
-    ensures ok { OnOk result ((k : Tagged) → (m : AnyMutation) → key_of k ≡ key.now → m ≢ Delete
-        → Leads (λ c. AddId c k id m)
+    ensures ok { OnOk result ((k : Tagged) → (m : AnyMutation) → key_of_tagged k ≡ key.now → m ≢ Delete
+        → LeadsTo (λ c. AddId c k id m)
         at.now (S.tree store.old) (S.tree store.new) trace.old trace.new) }
     ensures links { OnOk result (LinksNone at.now (S.tree store.old) (S.tree store.new)) }
-    ensures kept { CanGoBack (S.tree store.old) (S.tree store.new) trace.old trace.new }
+    ensures kept { TreeCanGoBack (S.tree store.old) (S.tree store.new) trace.old trace.new }
 {
     let was = store.add_presence(at, key, id)?;
-    tell_added(Some(was), trace)
+    trace_added(Some(was), trace)
 }
 
 /// Assigns a primitive value to the register of a key.
@@ -93,10 +93,10 @@ fn assign_primitive<S: TreeStore>(
     requires there { HasPlace at.now (S.tree store.old) }
     requires chained { IsChained (S.tree store.old).now }
     requires primitive { IsPrimitive value.now }
-    ensures ok { OnOk result (Leads (λ c. Operate c (moved op.now [] last.now (Assign value.now)))
+    ensures ok { OnOk result (LeadsTo (λ c. Operate c (moved op.now [] last.now (Assign value.now)))
         at.now (S.tree store.old) (S.tree store.new) trace.old trace.new) }
     ensures links { OnOk result (LinksNone at.now (S.tree store.old) (S.tree store.new)) }
-    ensures kept { CanGoBack (S.tree store.old) (S.tree store.new) trace.old trace.new }
+    ensures kept { TreeCanGoBack (S.tree store.old) (S.tree store.new) trace.old trace.new }
 {
     let depth = trace.depth();
     trace.open(Rule::Assign)?;
@@ -140,10 +140,10 @@ fn assign_empty<S: TreeStore>(
     requires there { HasPlace at.now (S.tree store.old) }
     requires chained { IsChained (S.tree store.old).now }
     requires context { HasContext key.now }
-    ensures ok { OnOk result (Leads (λ c. Operate c (moved op.now [] (key_of key.now) (Assign (empty_of key.now))))
+    ensures ok { OnOk result (LeadsTo (λ c. Operate c (moved op.now [] (key_of_tagged key.now) (Assign (empty_of key.now))))
         at.now (S.tree store.old) (S.tree store.new) trace.old trace.new) }
     ensures links { OnOk result (LinksNone at.now (S.tree store.old) (S.tree store.new)) }
-    ensures kept { CanGoBack (S.tree store.old) (S.tree store.new) trace.old trace.new }
+    ensures kept { TreeCanGoBack (S.tree store.old) (S.tree store.new) trace.old trace.new }
 {
     let depth = trace.depth();
     trace.open(empty_rule(key))?;
@@ -166,10 +166,10 @@ pub fn assign<S: TreeStore>(
 ) -> Result<(), AllocError>
     requires there { HasPlace at.now (S.tree store.old) }
     requires chained { IsChained (S.tree store.old).now }
-    ensures ok { OnOk result (Leads (λ c. Operate c (moved op.now [] last.now (Assign value.now)))
+    ensures ok { OnOk result (LeadsTo (λ c. Operate c (moved op.now [] last.now (Assign value.now)))
         at.now (S.tree store.old) (S.tree store.new) trace.old trace.new) }
     ensures links { OnOk result (LinksNone at.now (S.tree store.old) (S.tree store.new)) }
-    ensures kept { CanGoBack (S.tree store.old) (S.tree store.new) trace.old trace.new }
+    ensures kept { TreeCanGoBack (S.tree store.old) (S.tree store.new) trace.old trace.new }
 {
     match value {
         Value::EmptyMap => assign_empty(alloc, store, at, op, &Tagged::MapT(last.copy()?), trace),

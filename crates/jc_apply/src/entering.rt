@@ -6,8 +6,8 @@ ghost use Rattle.jc_rules.specs.Derivation.{Child, ToContent};
 ghost use Rattle.jc_rules.specs.Table.{Follows};
 ghost use Rattle.jc_rules.specs.Paths.{HasContext};
 ghost use Rattle.jc_tree.specs.Tree.{HasPlace, here};
-ghost use Rattle.jc_tree.specs.CanGoBack.{CanGoBack};
-ghost use Rattle.jc_apply.specs.Leads.{Enters, LinksNone};
+ghost use Rattle.jc_tree.specs.CanGoBack.{TreeCanGoBack};
+ghost use Rattle.jc_apply.specs.AppliesAlong.{Enters, LinksNone};
 
 use jc_rules::{Rule, Tagged, Trace};
 use jc_tree::{Place, TreeStore};
@@ -36,7 +36,7 @@ pub fn enter<S: TreeStore>(
     requires context { HasContext key.now }
     ensures ok { OnOk result (Enters key.now at.now (S.tree store.old) (S.tree store.new) trace.old trace.new) }
     ensures links { OnOk result (LinksNone at.now (S.tree store.old) (S.tree store.new)) }
-    ensures kept { CanGoBack (S.tree store.old) (S.tree store.new) trace.old trace.new }
+    ensures kept { TreeCanGoBack (S.tree store.old) (S.tree store.new) trace.old trace.new }
 {
     if store.has(at, key) {
         trace.push(Rule::ChildGet)?;
@@ -62,7 +62,7 @@ pub fn enter_below<S: TreeStore>(
     ensures ok { OnOk result (Enters key.now at.now (S.tree store.old) (S.tree store.new) trace.old trace.new) }
     ensures named { IfOk result (λ child. S.names store.new child (at.now ++ key.now ∷ [])) }
     ensures links { OnOk result (LinksNone at.now (S.tree store.old) (S.tree store.new)) }
-    ensures kept { CanGoBack (S.tree store.old) (S.tree store.new) trace.old trace.new }
+    ensures kept { TreeCanGoBack (S.tree store.old) (S.tree store.new) trace.old trace.new }
 {
     if let Some(child) = store.below(place, at, key) {
         trace.push(Rule::ChildGet)?;

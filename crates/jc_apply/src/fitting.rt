@@ -5,7 +5,7 @@ ghost use Rattle.jc_rules.specs.declared.refusal.Refusal.TheVariants.{NotInList}
 ghost use Rattle.jc_rules.specs.Context.{next as next_of};
 ghost use Rattle.jc_rules.specs.Derivation.{Operate};
 ghost use Rattle.jc_rules.specs.Refused.{Cause, Refused, because};
-ghost use Rattle.jc_rules.specs.Shape.{IsChained};
+ghost use Rattle.jc_rules.specs.WellFormed.{IsChained};
 ghost use Rattle.jc_apply.specs.Fits.{Fits, HasNoAnswer, EachOp, made_under};
 
 use jc_rules::{Cursor, Key, Mutation, Tagged};

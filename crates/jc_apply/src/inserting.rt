@@ -9,13 +9,13 @@ ghost use Rattle.jc_rules.specs.declared.value.Value.{Value as AnyValue};
 ghost use Rattle.jc_rules.specs.Order.{id_cmp};
 ghost use Rattle.jc_rules.specs.Context.{next as next_of};
 ghost use Rattle.jc_rules.specs.Derivation.{Operate};
-ghost use Rattle.jc_rules.specs.Shape.{IsChained};
+ghost use Rattle.jc_rules.specs.WellFormed.{IsChained};
 ghost use Rattle.jc_rules.specs.Trace.{IsLonger};
 ghost use Rattle.jc_rules.specs.Table.{moved};
 ghost use Rattle.jc_tree.specs.Tree.{HasPlace, here};
-ghost use Rattle.jc_tree.specs.CanGoBack.{CanGoBack};
+ghost use Rattle.jc_tree.specs.CanGoBack.{TreeCanGoBack};
 ghost use Rattle.jc_apply.specs.Fits.{IsUnlinked};
-ghost use Rattle.jc_apply.specs.Leads.{Leads, LinksOnly, Passes};
+ghost use Rattle.jc_apply.specs.AppliesAlong.{LeadsTo, LinksOnly, Passes};
 
 use crate::assigning::assign;
 use jc_rules::{Id, Key, Next, Op, Rule, Tagged, Trace, Value, compare_ids};
@@ -86,10 +86,10 @@ pub fn insert<S: TreeStore>(
     requires fresh { IsUnlinked op.now.id (S.tree store.old).now }
     requires inserts { op.now.mutation ≡ Insert value.now }
     requires linked { next_of op.now.cursor.last (here at.now (S.tree store.old)) ≢ None }
-    ensures ok { OnOk result (Leads (λ c. Operate c (moved op.now [] op.now.cursor.last op.now.mutation))
+    ensures ok { OnOk result (LeadsTo (λ c. Operate c (moved op.now [] op.now.cursor.last op.now.mutation))
         at.now (S.tree store.old) (S.tree store.new) trace.old trace.new) }
     ensures links { OnOk result (LinksOnly op.now.id (S.tree store.old) (S.tree store.new)) }
-    ensures kept { CanGoBack (S.tree store.old) (S.tree store.new) trace.old trace.new }
+    ensures kept { TreeCanGoBack (S.tree store.old) (S.tree store.new) trace.old trace.new }
 {
     let depth = trace.depth();
     let (place, next) = pass(store, at, op, trace)?;

@@ -1,8 +1,8 @@
-pub mod Union
-pub mod Bare
-pub mod Places
-pub mod Rules
-pub mod Turns
-pub mod Lists
-pub mod Maps
-pub mod Standing
+pub mod UnionLemmas
+pub mod BareLemmas
+pub mod ClearsBelowLemmas
+pub mod ClearRulesLemmas
+pub mod ClearsLemmas
+pub mod ClearListLemmas
+pub mod ClearMapLemmas
+pub mod ClearRepresentsLemmas

@@ -2,7 +2,7 @@
 use Rattle.std.specs.Prelude.{List, [], map}
 use Rattle.jc_rules.specs.declared.key.Key.{Key}
 use Rattle.jc_rules.specs.Context.{Context, context, Children, no_child, child, Register}
-use Rattle.jc_rules.specs.Shape.{AreChained, AreLists}
+use Rattle.jc_rules.specs.WellFormed.{AreChained, AreLists}
 
 -- the keys of registers, with no values
 abbrev pub emptied : List (Key × Register) → List (Key × Register)

@@ -5,8 +5,8 @@ ghost use Rattle.std.specs.Prelude.{◌≡◌, [], Some, IfOk, OnOk, OnErr};
 ghost use Rattle.jc_rules.specs.declared.key.Key.TheVariants.{Head};
 ghost use Rattle.jc_rules.specs.declared.key.Tagged.TheVariants.{MapT, ListT};
 ghost use Rattle.jc_rules.specs.Derivation.{Clear, ClearAny, ClearElem, ClearList, ClearMap};
-ghost use Rattle.jc_rules.specs.Shape.{IsChained, IsChainedList};
-ghost use Rattle.jc_tree.specs.CanGoBack.{CanGoBack};
+ghost use Rattle.jc_rules.specs.WellFormed.{IsChained, IsChainedList};
+ghost use Rattle.jc_tree.specs.CanGoBack.{TreeCanGoBack};
 ghost use Rattle.jc_tree.specs.Tree.{HasPlace, here};
 ghost use Rattle.jc_clear.specs.Bare.{AreChainedBelow};
 ghost use Rattle.jc_clear.specs.Clears.{Clears, ClearsFor};
@@ -32,7 +32,7 @@ fn elem_in<S: TreeStore>(
     ensures ok { IfOk result (λ ids. Clears (λ c. ClearElem c deps.now key.now)
         at.old.items (S.tree store.old) (S.tree store.new) ids.items trace.old trace.new) }
     ensures path { OnOk result (at.new.items ≡ at.old.items) }
-    ensures kept { CanGoBack (S.tree store.old) (S.tree store.new) trace.old trace.new }
+    ensures kept { TreeCanGoBack (S.tree store.old) (S.tree store.new) trace.old trace.new }
 {
     let depth = trace.depth();
     trace.open(Rule::ClearElem)?;
@@ -60,7 +60,7 @@ fn any_in<S: TreeStore>(
     ensures ok { IfOk result (λ ids. Clears (λ c. ClearAny c deps.now key.now)
         at.old.items (S.tree store.old) (S.tree store.new) ids.items trace.old trace.new) }
     ensures path { OnOk result (at.new.items ≡ at.old.items) }
-    ensures kept { CanGoBack (S.tree store.old) (S.tree store.new) trace.old trace.new }
+    ensures kept { TreeCanGoBack (S.tree store.old) (S.tree store.new) trace.old trace.new }
 {
     let depth = trace.depth();
     trace.open(Rule::ClearAny)?;
@@ -88,7 +88,7 @@ fn clear_map<S: TreeStore>(
     ensures ok { IfOk result (λ ids. Clears (λ c. Clear c deps.now (MapT key.now))
         at.old.items (S.tree store.old) (S.tree store.new) ids.items trace.old trace.new) }
     ensures path { OnOk result (at.new.items ≡ at.old.items) }
-    ensures kept { CanGoBack (S.tree store.old) (S.tree store.new) trace.old trace.new }
+    ensures kept { TreeCanGoBack (S.tree store.old) (S.tree store.new) trace.old trace.new }
 {
     let tagged = Tagged::MapT(key.copy()?);
     if !store.has(at.as_slice(), &tagged) {
@@ -119,7 +119,7 @@ fn map_in<S: TreeStore>(
     ensures ok { IfOk result (λ ids. Clears (λ c. ClearMap c deps.now [])
         at.old.items (S.tree store.old) (S.tree store.new) ids.items trace.old trace.new) }
     ensures path { OnOk result (at.new.items ≡ at.old.items) }
-    ensures kept { CanGoBack (S.tree store.old) (S.tree store.new) trace.old trace.new }
+    ensures kept { TreeCanGoBack (S.tree store.old) (S.tree store.new) trace.old trace.new }
 {
     let depth = trace.depth();
     let mut ids = Vec::new(alloc);
@@ -151,7 +151,7 @@ fn clear_list<S: TreeStore>(
     ensures ok { IfOk result (λ ids. Clears (λ c. Clear c deps.now (ListT key.now))
         at.old.items (S.tree store.old) (S.tree store.new) ids.items trace.old trace.new) }
     ensures path { OnOk result (at.new.items ≡ at.old.items) }
-    ensures kept { CanGoBack (S.tree store.old) (S.tree store.new) trace.old trace.new }
+    ensures kept { TreeCanGoBack (S.tree store.old) (S.tree store.new) trace.old trace.new }
 {
     let tagged = Tagged::ListT(key.copy()?);
     if !store.has(at.as_slice(), &tagged) {
@@ -182,7 +182,7 @@ fn list_in<S: TreeStore>(
     ensures ok { IfOk result (λ ids. Clears (λ c. ClearList c deps.now (Some Head))
         at.old.items (S.tree store.old) (S.tree store.new) ids.items trace.old trace.new) }
     ensures path { OnOk result (at.new.items ≡ at.old.items) }
-    ensures kept { CanGoBack (S.tree store.old) (S.tree store.new) trace.old trace.new }
+    ensures kept { TreeCanGoBack (S.tree store.old) (S.tree store.new) trace.old trace.new }
 {
     let depth = trace.depth();
     let mut ids = Vec::new(alloc);
@@ -217,7 +217,7 @@ fn tagged_in<S: TreeStore>(
     requires chained { AreChainedBelow (here at.old.items (S.tree store.old)) }
     ensures ok { IfOk result (λ ids. Clears (λ c. Clear c deps.now key.now)
         at.old.items (S.tree store.old) (S.tree store.new) ids.items trace.old trace.new) }
-    ensures kept { CanGoBack (S.tree store.old) (S.tree store.new) trace.old trace.new }
+    ensures kept { TreeCanGoBack (S.tree store.old) (S.tree store.new) trace.old trace.new }
 {
     match key {
         Tagged::MapT(key) => clear_map(alloc, store, deps, at, key, trace),
@@ -259,7 +259,7 @@ pub fn clear<S: TreeStore>(
         deps.now at.now (S.tree store.old) (S.tree store.new) ids.items trace.old trace.new) }
     ensures err_store { OnErr result (S.tree store.new ≡ S.tree store.old) }
     ensures err_trace { OnErr result (trace.new ≡ trace.old) }
-    ensures kept { CanGoBack (S.tree store.old) (S.tree store.new) trace.old trace.new }
+    ensures kept { TreeCanGoBack (S.tree store.old) (S.tree store.new) trace.old trace.new }
     ensures chained { IsChained (S.tree store.new).now }
 {
     let mut path = copied(alloc, at)?;
@@ -297,7 +297,7 @@ pub fn clear_elem<S: TreeStore>(
         deps.now at.now (S.tree store.old) (S.tree store.new) ids.items trace.old trace.new) }
     ensures err_store { OnErr result (S.tree store.new ≡ S.tree store.old) }
     ensures err_trace { OnErr result (trace.new ≡ trace.old) }
-    ensures kept { CanGoBack (S.tree store.old) (S.tree store.new) trace.old trace.new }
+    ensures kept { TreeCanGoBack (S.tree store.old) (S.tree store.new) trace.old trace.new }
     ensures chained { IsChained (S.tree store.new).now }
 {
     let mut path = copied(alloc, at)?;

@@ -7,7 +7,7 @@ ghost use Rattle.jc_rules.specs.Derivation.{Presence, Clear, ToIds};
 ghost use Rattle.jc_rules.specs.Derives.{Derives};
 ghost use Rattle.jc_rules.specs.Trace.{IsLonger};
 ghost use Rattle.jc_rules.specs.Table.{kept};
-ghost use Rattle.jc_tree.specs.CanGoBack.{CanGoBack};
+ghost use Rattle.jc_tree.specs.CanGoBack.{TreeCanGoBack};
 ghost use Rattle.jc_tree.specs.Tree.{HasPlace, here};
 ghost use Rattle.jc_clear.specs.Clears.{Clears};
 
@@ -73,7 +73,7 @@ pub fn clear_register<S: TreeStore>(
     requires { HasPlace at.now (S.tree store.old) }
     ensures ok { IfOk result (λ ids. Clears (λ c. Clear c deps.now (RegT key.now))
         at.now (S.tree store.old) (S.tree store.new) ids.items trace.old trace.new) }
-    ensures kept { CanGoBack (S.tree store.old) (S.tree store.new) trace.old trace.new }
+    ensures kept { TreeCanGoBack (S.tree store.old) (S.tree store.new) trace.old trace.new }
 {
     match store.register(at, key) {
         None => {

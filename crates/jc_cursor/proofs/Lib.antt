@@ -1,6 +1,6 @@
-pub mod Growing
-pub mod Down
-pub mod Elements
-pub mod Naming
-pub mod Selections
-pub mod Expressions
+pub mod TraceGrowsLemmas
+pub mod WayDownLemmas
+pub mod ElementsLemmas
+pub mod MapNamesLemmas
+pub mod SelectLemmas
+pub mod EvaluatesLemmas

@@ -10,7 +10,7 @@ use Rattle.jc_rules.specs.State.{State, Bound, ACursor}
 use Rattle.jc_rules.specs.Derivation.{Evaluate, ToBound}
 use Rattle.jc_rules.specs.Derives.{Derives}
 use Rattle.jc_rules.specs.Refused.{Cause, because, no_node, IsAnswered, Refused}
-use Rattle.jc_rules.specs.Trace.{Rows, pushed, below, at_depth}
+use Rattle.jc_rules.specs.Trace.{Rows, pushed, one_deeper, at_depth}
 use Rattle.jc_cursor.specs.declared.evaluating.EvalFault.{EvalFault}
 use Rattle.jc_cursor.specs.declared.evaluating.EvalFault.TheVariants as E
 
@@ -25,20 +25,20 @@ abbrev pub Evaluates : Context → List (List ℕ × Bound) → Expr → Bound �
 Evaluates c vars e b t u = (A : State) → Has c vars A → Derives (Evaluate A e) (ToBound b) t u
 
 -- In each such state the expression is refused for this cause.
-abbrev pub IsRefused : Context → List (List ℕ × Bound) → Expr → Cause → Type 0
-IsRefused c vars e why = (A : State) → Has c vars A → Refused (Evaluate A e) why
+abbrev pub IsEvalRefused : Context → List (List ℕ × Bound) → Expr → Cause → Type 0
+IsEvalRefused c vars e why = (A : State) → Has c vars A → Refused (Evaluate A e) why
 
 -- the cause in the table, but for want of memory
-abbrev pub cause_of : EvalFault → Option Cause
-cause_of E.UnboundVariable = Some (because F.UnboundVariable)
-cause_of E.GetOnHead = Some (because F.GetOnHead)
-cause_of E.NotACursor = Some (because F.NotACursor)
-cause_of (E.NoSuchNode k) = Some (no_node k)
-cause_of E.PastEnd = Some (because F.PastEnd)
-cause_of E.NoMap = Some (because F.NoMap)
-cause_of E.NoRegister = Some (because F.NoRegister)
-cause_of E.TooDeep = Some (because F.TooDeep)
-cause_of E.Memory = None
+abbrev pub eval_cause_of : EvalFault → Option Cause
+eval_cause_of E.UnboundVariable = Some (because F.UnboundVariable)
+eval_cause_of E.GetOnHead = Some (because F.GetOnHead)
+eval_cause_of E.NotACursor = Some (because F.NotACursor)
+eval_cause_of (E.NoSuchNode k) = Some (no_node k)
+eval_cause_of E.PastEnd = Some (because F.PastEnd)
+eval_cause_of E.NoMap = Some (because F.NoMap)
+eval_cause_of E.NoRegister = Some (because F.NoRegister)
+eval_cause_of E.TooDeep = Some (because F.TooDeep)
+eval_cause_of E.Memory = None
 
 -- the rule that evaluates the expression
 abbrev pub rule_of : Expr → Rule
@@ -69,7 +69,7 @@ from_of (ValuesOf e) = e
 abbrev pub Selects : Expr → Context → Cursor → Bound → Rows → Rows → Type 0
 Selects e c cur b u v =
     (A : State) (t : Rows) → A.tree ≡ c
-    → Derives (Evaluate A (from_of e)) (ToBound (ACursor cur)) (below (pushed t (rule_of e))) u
+    → Derives (Evaluate A (from_of e)) (ToBound (ACursor cur)) (one_deeper (pushed t (rule_of e))) u
     → Derives (Evaluate A e) (ToBound b) t (at_depth t.depth v)
 
 -- Where the cursor is what stands before the last selector, the whole is refused for this cause.

@@ -2,13 +2,13 @@
 
 ghost use Rattle.std.specs.Prelude.{◌≡◌, IfOk, IfErr, IfSome, OnErr};
 ghost use Rattle.jc_rules.specs.Context.{Context as AnyContext};
-ghost use Rattle.jc_rules.specs.Shape.{IsChained};
+ghost use Rattle.jc_rules.specs.WellFormed.{IsChained};
 ghost use Rattle.jc_rules.specs.Syntax.{Variable};
 ghost use Rattle.jc_syntax.specs.Trees.{expr_of};
 ghost use Rattle.jc_cursor.specs.declared.evaluating.EvalFault.TheVariants.{Memory as NoMemory};
 ghost use Rattle.jc_cursor.specs.Bounds.{bound_of, vars_of};
-ghost use Rattle.jc_cursor.specs.Evaluates.{Evaluates, IsRefused, cause_of, rule_of};
-ghost use Rattle.jc_cursor.specs.Ways.{IsGrown};
+ghost use Rattle.jc_cursor.specs.Evaluates.{Evaluates, IsEvalRefused, eval_cause_of, rule_of};
+ghost use Rattle.jc_cursor.specs.WayDown.{IsGrown};
 
 use crate::bound::{Bound, bound_to};
 use crate::select::select;
@@ -86,7 +86,7 @@ fn variable(vars: &[(Text, Bound)], name: &Text, trace: &mut Trace) -> Result<Bo
     ensures ok { IfOk result (λ b.
         (c : AnyContext) → Evaluates c (vars_of vars.now) (Variable name.now) (bound_of b) trace.old trace.new) }
     ensures refused { IfErr result (λ f.
-        IfSome (cause_of f) (λ why. (c : AnyContext) → IsRefused c (vars_of vars.now) (Variable name.now) why)) }
+        IfSome (eval_cause_of f) (λ why. (c : AnyContext) → IsEvalRefused c (vars_of vars.now) (Variable name.now) why)) }
     ensures grown { IsGrown trace.old trace.new }
 {
     let Some(bound) = bound_to(vars, name) else {
@@ -108,7 +108,7 @@ fn evaluate<S: TreeStore>(
     ensures ok { IfOk result (λ b.
         Evaluates (S.tree store.now).now (vars_of vars.now) (expr_of expr.now) (bound_of b) trace.old trace.new) }
     ensures refused { IfErr result (λ f.
-        IfSome (cause_of f) (λ why. IsRefused (S.tree store.now).now (vars_of vars.now) (expr_of expr.now) why)) }
+        IfSome (eval_cause_of f) (λ why. IsEvalRefused (S.tree store.now).now (vars_of vars.now) (expr_of expr.now) why)) }
     ensures grown { IsGrown trace.old trace.new }
 {
     match expr {
@@ -149,7 +149,7 @@ pub fn eval<S: TreeStore>(
     ensures ok { IfOk result (λ b.
         Evaluates (S.tree store.now).now (vars_of vars.now) (expr_of expr.now) (bound_of b) trace.old trace.new) }
     ensures refused { IfErr result (λ f.
-        IfSome (cause_of f) (λ why. IsRefused (S.tree store.now).now (vars_of vars.now) (expr_of expr.now) why)) }
+        IfSome (eval_cause_of f) (λ why. IsEvalRefused (S.tree store.now).now (vars_of vars.now) (expr_of expr.now) why)) }
     ensures err_trace { OnErr result (trace.new ≡ trace.old) }
 {
     let start = trace.mark();

@@ -12,15 +12,15 @@ ghost use Rattle.jc_rules.specs.Derivation.{SelectIndex, SelectKeys, SelectValue
 ghost use Rattle.jc_rules.specs.Derives.{Derives};
 ghost use Rattle.jc_rules.specs.Refused.{Refused, because};
 ghost use Rattle.jc_rules.specs.Syntax.{Expr as AnyExpr, GetKey, Index};
-ghost use Rattle.jc_rules.specs.Shape.{IsChained};
-ghost use Rattle.jc_rules.specs.Table.{cursor as cursor_at, name_of, names_in};
+ghost use Rattle.jc_rules.specs.WellFormed.{IsChained};
+ghost use Rattle.jc_rules.specs.Table.{cursor as cursor_at, name_in_presence, names_in};
 ghost use Rattle.jc_rules.specs.Trace.{Rows, at_depth};
 ghost use Rattle.jc_syntax.specs.Trees.{expr_of};
 ghost use Rattle.jc_tree.specs.Tree.{HasPlace, here};
 ghost use Rattle.jc_rules.specs.Paths.{HasContext};
 ghost use Rattle.jc_cursor.specs.Bounds.{bound_of};
-ghost use Rattle.jc_cursor.specs.Evaluates.{Selects, RefusedAfter, IsSelection, cause_of};
-ghost use Rattle.jc_cursor.specs.Ways.{IsGrown};
+ghost use Rattle.jc_cursor.specs.Evaluates.{Selects, RefusedAfter, IsSelection, eval_cause_of};
+ghost use Rattle.jc_cursor.specs.WayDown.{IsGrown};
 
 use crate::bound::Bound;
 use crate::evaluating::EvalFault;
@@ -38,7 +38,7 @@ fn path_below(path: Path, key: Tagged) -> Result<Path, EvalFault>
     requires { HasContext key }
     ensures ok { IfOk result (λ longer. longer ≡ path ++ key ∷ []) }
     ensures short { OnOk result (length path ≤ 511) }
-    ensures refused { IfErr result (λ f. IfSome (cause_of f) (λ why. (why ≡ because F.TooDeep) × (511 < length path))) }
+    ensures refused { IfErr result (λ f. IfSome (eval_cause_of f) (λ why. (why ≡ because F.TooDeep) × (511 < length path))) }
 {
     let mut longer = path;
     if longer.as_slice().len() > LONGEST {
@@ -58,7 +58,7 @@ fn is_head(key: &Key) -> bool
 fn name_below(last: &Key, name: &Text) -> Result<Key, EvalFault>
     ensures ok { IfOk result (λ key. key ≡ ToName name.now) }
     ensures no_head { OnOk result (last.now ≢ Head) }
-    ensures refused { IfErr result (λ f. IfSome (cause_of f) (λ why. (why ≡ because F.GetOnHead) × (last.now ≡ Head))) }
+    ensures refused { IfErr result (λ f. IfSome (eval_cause_of f) (λ why. (why ≡ because F.GetOnHead) × (last.now ≡ Head))) }
 {
     if is_head(last) {
         return Err(EvalFault::GetOnHead);
@@ -71,7 +71,7 @@ fn get_in(cursor: Cursor, name: &Text) -> Result<Bound, EvalFault>
     ensures ok { IfOk result (λ b.
         (from : AnyExpr) (c : AnyContext) (u : Rows) → Selects (GetKey from name.now) c cursor (bound_of b) u u) }
     ensures refused { IfErr result (λ f.
-        IfSome (cause_of f) (λ why.
+        IfSome (eval_cause_of f) (λ why.
         (from : AnyExpr) (c : AnyContext) → RefusedAfter (GetKey from name.now) c cursor why)) }
 {
     let last = name_below(&cursor.last, name)?;
@@ -92,7 +92,7 @@ fn element_below<S: TreeStore>(
         Derives (SelectIndex (S.tree store.now).now (cursor_at path.now Head) index)
         (ToCursor (cursor_at path.now k)) trace.old (at_depth trace.old.depth trace.new)) }
     ensures refused { IfErr result (λ f.
-        IfSome (cause_of f) (λ why.
+        IfSome (eval_cause_of f) (λ why.
         Refused (SelectIndex (S.tree store.now).now (cursor_at path.now Head) index) why)) }
     ensures grown { IsGrown trace.old trace.new }
 {
@@ -112,7 +112,7 @@ fn index_in<S: TreeStore>(
         (from : AnyExpr)
         → Selects (Index from index) (S.tree store.now).now cursor (bound_of b) trace.old trace.new) }
     ensures refused { IfErr result (λ f.
-        IfSome (cause_of f) (λ why.
+        IfSome (eval_cause_of f) (λ why.
         (from : AnyExpr) → RefusedAfter (Index from index) (S.tree store.now).now cursor why)) }
     ensures grown { IsGrown trace.old trace.new }
 {
@@ -143,7 +143,7 @@ fn push_name<S: TreeStore>(
     requires { HasPlace at.now (S.tree store.now) }
     ensures { OnOk result
         ((ids : List AnyId) → presence_set key.now (here at.now (S.tree store.now)) ≡ Some ids
-        → names.new.items ≡ names.old.items ++ filter_map name_of ((key.now, ids) ∷ [])) }
+        → names.new.items ≡ names.old.items ++ filter_map name_in_presence ((key.now, ids) ∷ [])) }
 {
     if let Key::Name(name) = key
         && is_present(store, at, key)
@@ -188,7 +188,7 @@ fn names_below<S: TreeStore>(
         Derives (SelectKeys (S.tree store.now).now cursor.now) (ToNames names) trace.old
         (at_depth trace.old.depth trace.new)) }
     ensures refused { IfErr result (λ f.
-        IfSome (cause_of f) (λ why. Refused (SelectKeys (S.tree store.now).now cursor.now) why)) }
+        IfSome (eval_cause_of f) (λ why. Refused (SelectKeys (S.tree store.now).now cursor.now) why)) }
     ensures grown { IsGrown trace.old trace.new }
 {
     let at = cursor.path.as_slice();
@@ -212,7 +212,7 @@ fn values_below<S: TreeStore>(
         Derives (SelectValues (S.tree store.now).now cursor.now) (ToPairs pairs) trace.old
         (at_depth trace.old.depth trace.new)) }
     ensures refused { IfErr result (λ f.
-        IfSome (cause_of f) (λ why. Refused (SelectValues (S.tree store.now).now cursor.now) why)) }
+        IfSome (eval_cause_of f) (λ why. Refused (SelectValues (S.tree store.now).now cursor.now) why)) }
     ensures grown { IsGrown trace.old trace.new }
 {
     let at = cursor.path.as_slice();
@@ -237,7 +237,7 @@ pub fn select<S: TreeStore>(
     ensures ok { IfOk result (λ b.
         Selects (expr_of expr.now) (S.tree store.now).now cursor (bound_of b) trace.old trace.new) }
     ensures refused { IfErr result (λ f.
-        IfSome (cause_of f) (λ why. RefusedAfter (expr_of expr.now) (S.tree store.now).now cursor why)) }
+        IfSome (eval_cause_of f) (λ why. RefusedAfter (expr_of expr.now) (S.tree store.now).now cursor why)) }
     ensures grown { IsGrown trace.old trace.new }
 {
     match expr {

@@ -10,13 +10,13 @@ ghost use Rattle.jc_rules.specs.Context.{presence as presence_set, next as next_
 ghost use Rattle.jc_rules.specs.Derivation.{SelectIndex, ToCursor};
 ghost use Rattle.jc_rules.specs.Derives.{Derives};
 ghost use Rattle.jc_rules.specs.Refused.{Refused};
-ghost use Rattle.jc_rules.specs.Shape.{IsChained};
+ghost use Rattle.jc_rules.specs.WellFormed.{IsChained};
 ghost use Rattle.jc_rules.specs.Table.{cursor, IsEmptyIds};
 ghost use Rattle.jc_rules.specs.Trace.{at_depth};
 ghost use Rattle.jc_tree.specs.Tree.{HasPlace, here};
 ghost use Rattle.jc_rules.specs.Paths.{HasContext};
-ghost use Rattle.jc_cursor.specs.Ways.{IsGrown, LeadsDown, RefusesDown, RefusedOnWay};
-ghost use Rattle.jc_cursor.specs.Evaluates.{cause_of};
+ghost use Rattle.jc_cursor.specs.WayDown.{IsGrown, LeadsDown, RefusesDown, RefusedOnWay};
+ghost use Rattle.jc_cursor.specs.Evaluates.{eval_cause_of};
 
 use crate::evaluating::EvalFault;
 use jc_rules::{Id, Key, Next, Rule, Tagged, Trace};
@@ -34,7 +34,7 @@ pub fn go_down<S: TreeStore>(
     ensures leads { OnOk result (LeadsDown rule path.now (S.tree store.now).now trace.old trace.new) }
     ensures refuses { OnOk result (RefusesDown path.now (S.tree store.now).now) }
     ensures refused { IfErr result (λ f.
-        IfSome (cause_of f) (λ why. RefusedOnWay path.now (S.tree store.now).now why)) }
+        IfSome (eval_cause_of f) (λ why. RefusedOnWay path.now (S.tree store.now).now why)) }
     ensures grown { IsGrown trace.old trace.new }
 {
     for (depth, key) in path.iter().enumerate() {
@@ -83,7 +83,7 @@ pub fn element_at<S: TreeStore>(
         Derives (SelectIndex (here at.now (S.tree store.now)) (cursor [] Head) index) (ToCursor (cursor [] k))
         trace.old (at_depth trace.old.depth trace.new)) }
     ensures refused { IfErr result (λ f.
-        IfSome (cause_of f) (λ why.
+        IfSome (eval_cause_of f) (λ why.
         Refused (SelectIndex (here at.now (S.tree store.now)) (cursor [] Head) index) why)) }
     ensures grown { IsGrown trace.old trace.new }
 {

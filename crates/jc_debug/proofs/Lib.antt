@@ -1,7 +1,7 @@
-pub mod Trails
-pub mod Halting
-pub mod Naming
-pub mod Running
-pub mod Acting
-pub mod Unique
-pub mod Replying
+pub mod InvariantLemmas
+pub mod HaltLemmas
+pub mod BreaksLemmas
+pub mod RunLemmas
+pub mod ActLemmas
+pub mod LawsLemmas
+pub mod RepliesLemmas

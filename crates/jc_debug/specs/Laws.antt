@@ -4,22 +4,22 @@ use Rattle.jc_rules.specs.declared.operation.Event.{Event}
 use Rattle.jc_rules.specs.declared.rule.Rule.{Rule}
 use Rattle.jc_rules.specs.Refused.{Cause}
 use Rattle.jc_rules.specs.Step.{Network}
-use Rattle.jc_debug.specs.Session.{Session, IsAt, Makes, IsStuckAt, StuckEvent, Goes, Outcome, Runs}
+use Rattle.jc_debug.specs.DebuggerState.{Session, IsNetworkAt, MakesEvent, IsStuckAt, StuckEvent, GoesTo, RunOutcome, Runs}
 
 -- One network stands at a position.
 abbrev pub OneNetwork : Type 0
 OneNetwork =
     (start : Network) (events : List Event) (n : ℕ) (network other : Network)
-    → IsAt start events n network
-    → IsAt start events n other
+    → IsNetworkAt start events n network
+    → IsNetworkAt start events n other
     → network ≡ other
 
 -- One event leads to it, by one trace.
 abbrev pub OneTrace : Type 0
 OneTrace =
     (start : Network) (events : List Event) (n : ℕ) (event other : Event) (rows other_rows : List (Rule × ℕ))
-    → Makes start events n event rows
-    → Makes start events n other other_rows
+    → MakesEvent start events n event rows
+    → MakesEvent start events n other other_rows
     → (event ≡ other)
     × (rows ≡ other_rows)
 
@@ -29,21 +29,21 @@ OneStuckEvent =
     (start : Network) (events : List Event) (n : ℕ) (event other : Event) (why : Cause)
     → IsStuckAt start events n event why
     → ((due : Cause) → IsStuckAt start events n other due → (event ≡ other) × (why ≡ due))
-    × ((rows : List (Rule × ℕ)) → Makes start events n other rows → ⊥)
+    × ((rows : List (Rule × ℕ)) → MakesEvent start events n other rows → ⊥)
 
 -- A move forward comes to one position, and ends in one way.
 abbrev pub OneMove : Type 0
 OneMove =
     (start : Network) (events : List Event) (from to n m : ℕ) (end other : Option StuckEvent)
-    → Goes start events from to n end
-    → Goes start events from to m other
+    → GoesTo start events from to n end
+    → GoesTo start events from to m other
     → (n ≡ m)
     × (end ≡ other)
 
 -- So does a run.
-abbrev pub OneRun : Type 0
-OneRun =
-    (start : Network) (A : Session) (n m : ℕ) (outcome other : Outcome)
+abbrev pub OneDebugRun : Type 0
+OneDebugRun =
+    (start : Network) (A : Session) (n m : ℕ) (outcome other : RunOutcome)
     → Runs start A n outcome
     → Runs start A m other
     → (n ≡ m)

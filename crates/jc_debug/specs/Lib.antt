@@ -1,5 +1,5 @@
-pub mod Session
-pub mod Trail
+pub mod DebuggerState
+pub mod Invariant
 pub mod Stored
 pub mod Moves
 pub mod Laws

@@ -6,7 +6,7 @@ use Rattle.jc_rules.specs.Refused.{Cause}
 use Rattle.jc_rules.specs.Step.{Network, StepIn}
 use Rattle.jc_rules.specs.Trace.{Rows}
 use Rattle.jc_network.specs.declared.fault.Stuck.{Stuck}
-use Rattle.jc_network.specs.Makes.{IsStuckFor, stuck_for}
+use Rattle.jc_network.specs.Steps.{IsStuckFor, stuck_for}
 use Rattle.jc_debug.specs.declared.breaks.Break.{Break}
 use Rattle.jc_debug.specs.declared.breaks.BreakFault.{BreakFault}
 use Rattle.jc_debug.specs.declared.breaks.BreakFault.TheVariants as B
@@ -22,8 +22,8 @@ use Rattle.jc_debug.specs.declared.fault.RunEnd.{RunEnd}
 use Rattle.jc_debug.specs.declared.fault.RunEnd.TheVariants as E
 use Rattle.jc_debug.specs.declared.fault.RunFault.{RunFault}
 use Rattle.jc_debug.specs.declared.fault.RunFault.TheVariants as R
-use Rattle.jc_debug.specs.Session.{IsAt, IsStuckAt, Makes, IsFree, IsLeast, Outcome, breaks, sticks, ends, Runs, acted}
-use Rattle.jc_debug.specs.Trail.{Seen, IsMoved, start_of, session_of, placed_in}
+use Rattle.jc_debug.specs.DebuggerState.{IsNetworkAt, IsStuckAt, MakesEvent, IsFree, IsLeast, RunOutcome, breaks, sticks, ends, Runs, acted}
+use Rattle.jc_debug.specs.Invariant.{Seen, IsMoved, start_of, session_of, placed_in}
 
 -- ---- moves
 
@@ -35,7 +35,7 @@ pub record IsToldAt (start : Network) (events : List Event) (n : ℕ) (s : Stuck
   pub stuck : IsStuckAt start events n event why
 
 -- A move forward to a position ended at an earlier one.
-pub record StopsAt (old new : Seen) (to n : ℕ) : Type 0 where
+pub record MoveStopsAt (old new : Seen) (to n : ℕ) : Type 0 where
   pub forward : length old.traces ≤ n
   pub short : n < to
   pub moved : IsMoved old new n
@@ -47,8 +47,8 @@ IsNextHalted d H.Memory = Unit {0}
 
 -- It ended so before an event that is stuck, or for which there was no memory.
 abbrev pub IsHalted : Seen → Seen → ℕ → Halt → Type 0
-IsHalted old new to (H.Stuck s) = (n : ℕ) × StopsAt old new to n × IsToldAt (start_of old) old.schedule n s
-IsHalted old new to H.Memory = (n : ℕ) × StopsAt old new to n
+IsHalted old new to (H.Stuck s) = (n : ℕ) × MoveStopsAt old new to n × IsToldAt (start_of old) old.schedule n s
+IsHalted old new to H.Memory = (n : ℕ) × MoveStopsAt old new to n
 
 -- Or nothing moved.
 abbrev pub IsStepFault : Seen → Seen → ℕ → StepFault → Type 0
@@ -74,38 +74,38 @@ pub record IsTraceOf (d : Seen) (t : Rows) : Type 0 where
   pub before : ℕ
   pub event : Event
   pub position : length d.traces ≡ before + 1
-  pub makes : Makes (start_of d) d.schedule before event t.rows
+  pub makes : MakesEvent (start_of d) d.schedule before event t.rows
 
 -- ---- runs
 
 -- the end of a run as it is told; breakpoint j + 1 stands at place j
-abbrev pub IsEnd : RunEnd → Outcome → Type 0
+abbrev pub IsEnd : RunEnd → RunOutcome → Type 0
 IsEnd (E.Break k) outcome = (j : ℕ) × (k ≡ j + 1) × (outcome ≡ breaks j)
 IsEnd (E.Stuck s) outcome = (why : Cause) × (event : Event) × (s ≡ stuck_for why event) × (outcome ≡ sticks event why)
 IsEnd E.End outcome = outcome ≡ ends
 
 -- a run that came to its end
-pub record Ran (old new : Seen) (end : RunEnd) : Type 0 where
+pub record RunMoves (old new : Seen) (end : RunEnd) : Type 0 where
   pub position : ℕ
-  pub outcome : Outcome
+  pub outcome : RunOutcome
   pub is_end : IsEnd end outcome
   pub moved : IsMoved old new position
   pub runs : Runs (start_of old) (session_of old) position outcome
 
 -- A run for which there was no memory: no breakpoint named a later position up to where it stopped.
-abbrev pub IsRunFault : Seen → Seen → RunFault → Type 0
-IsRunFault old new R.Memory =
+abbrev pub IsDebugRunFault : Seen → Seen → RunFault → Type 0
+IsDebugRunFault old new R.Memory =
     (n : ℕ)
-    × StopsAt old new (length old.schedule) n
+    × MoveStopsAt old new (length old.schedule) n
     × ((m : ℕ) → length old.traces < m → m ≤ n → IsFree (start_of old) (session_of old) m)
-IsRunFault old new R.AtEnd = new ≡ old
+IsDebugRunFault old new R.AtEnd = new ≡ old
 
 -- ---- events of a caller
 
 -- The event is a step from the network at the position, in its version, and the schedule was cut there.
 pub record IsActed (old new : Seen) (event : Event) : Type 0 where
   pub rows : List (Rule × ℕ)
-  pub is_at : IsAt (start_of old) old.schedule (length old.traces) old.net.network
+  pub is_at : IsNetworkAt (start_of old) old.schedule (length old.traces) old.net.network
   pub step : StepIn old.net.network event new.net.network rows
   pub names : new.net.names ≡ old.net.names
   pub start : start_of new ≡ start_of old
@@ -113,7 +113,7 @@ pub record IsActed (old new : Seen) (event : Event) : Type 0 where
 
 -- It is stuck at the position, as is told.
 pub record IsStuckHere (d : Seen) (event : Event) (s : Stuck) : Type 0 where
-  pub is_at : IsAt (start_of d) d.schedule (length d.traces) d.net.network
+  pub is_at : IsNetworkAt (start_of d) d.schedule (length d.traces) d.net.network
   pub stuck : IsStuckFor d.net.network event s
 
 abbrev pub IsActFault : Seen → Event → ActFault → Type 0

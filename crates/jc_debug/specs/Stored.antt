@@ -4,24 +4,24 @@ use Rattle.std.specs.Coded.{Coded, code_by, coded×, coded_list, coded_option}
 use Rattle.jc_rules.specs.declared.operation.Event.{Event}
 use Rattle.jc_rules.specs.contracts.operation.Event.{the_row as event_row}
 use Rattle.jc_rules.specs.Trace.{Rows, rows_code}
-use Rattle.jc_network.specs.Course.{Course, course_code}
+use Rattle.jc_network.specs.NetworkHistory.{Course, course_code}
 use Rattle.jc_debug.specs.declared.breaks.Break.{Break}
 use Rattle.jc_debug.specs.contracts.breaks.Break.{the_row as break_row}
-use Rattle.jc_debug.specs.Trail.{Seen}
+use Rattle.jc_debug.specs.Invariant.{Seen}
 
-abbrev Fields : Type 0
-Fields = Course × (List Event × (List Rows × List (Option Break)))
+abbrev SeenFields : Type 0
+SeenFields = Course × (List Event × (List Rows × List (Option Break)))
 
-abbrev fields_code : Coded Fields
-fields_code =
+abbrev seen_fields_code : Coded SeenFields
+seen_fields_code =
     coded× course_code
     (coded× (coded_list event_row.coded) (coded× (coded_list rows_code) (coded_list (coded_option break_row.coded))))
 
-abbrev fields : Seen → Fields
-fields d = (d.net, (d.schedule, (d.traces, d.breaks)))
+abbrev seen_fields : Seen → SeenFields
+seen_fields d = (d.net, (d.schedule, (d.traces, d.breaks)))
 
-abbrev with_fields : Fields → Seen
-with_fields f = record { net = f.0; schedule = f.1.0; traces = f.1.1.0; breaks = f.1.1.1 }
+abbrev seen_with_fields : SeenFields → Seen
+seen_with_fields f = record { net = f.0; schedule = f.1.0; traces = f.1.1.0; breaks = f.1.1.1 }
 
 abbrev pub seen_code : Coded Seen
-seen_code = code_by Fields fields_code fields with_fields (λ _. refl)
+seen_code = code_by SeenFields seen_fields_code seen_fields seen_with_fields (λ _. refl)

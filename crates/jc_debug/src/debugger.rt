@@ -3,8 +3,8 @@
 ghost use Rattle.std.specs.Prelude.{◌≡◌, ◌≢◌, ◌+◌, ◌-◌, ◌<◌, ◌≤◌, ◌↔◌, ℕ, length, slice_get, Some, None, Err, IsTrue, IsFalse, IsOk, IsNone, IfOk, IfErr, IfSome, IfNone, OnOk, OnErr, IsErrOf};
 ghost use Rattle.jc_network.specs.declared.fault.StartFault.TheVariants as Start;
 ghost use Rattle.jc_network.specs.declared.fault.Stuck.{Stuck as AnyStuck};
-ghost use Rattle.jc_network.specs.Given.{bare, IsStarted, IsGivenFault};
-ghost use Rattle.jc_scenario.specs.Scenarios.{IsWellFormed};
+ghost use Rattle.jc_network.specs.Given.{before_given, IsStarted, IsGivenFault};
+ghost use Rattle.jc_scenario.specs.WellFormed.{IsWellFormedScenario};
 ghost use Rattle.jc_scenario.specs.Views.{scenario_view};
 ghost use Rattle.jc_debug.specs.declared.breaks.Break.TheVariants as Kind;
 ghost use Rattle.jc_debug.specs.declared.breaks.BreakFault.TheVariants as B;
@@ -12,9 +12,9 @@ ghost use Rattle.jc_debug.specs.declared.fault.ActFault.TheVariants as A;
 ghost use Rattle.jc_debug.specs.declared.fault.GotoFault.TheVariants as G;
 ghost use Rattle.jc_debug.specs.declared.fault.RunFault.TheVariants as R;
 ghost use Rattle.jc_debug.specs.declared.fault.StepFault.TheVariants as S;
-ghost use Rattle.jc_debug.specs.Moves.{IsNextHalted, IsHalted, IsStepFault, IsGotoFault, IsTraceOf, Ran, IsRunFault, IsActed, IsActFault, IsSet, IsCleared, IsNoBreak};
-ghost use Rattle.jc_debug.specs.Session.{IsAt, Names, NamesAt, IsFree, IsLeast, HasRule, begun};
-ghost use Rattle.jc_debug.specs.Trail.{IsOnTrail, IsMoved, start_of, session_of, placed_in};
+ghost use Rattle.jc_debug.specs.Moves.{IsNextHalted, IsHalted, IsStepFault, IsGotoFault, IsTraceOf, RunMoves, IsDebugRunFault, IsActed, IsActFault, IsSet, IsCleared, IsNoBreak};
+ghost use Rattle.jc_debug.specs.DebuggerState.{IsNetworkAt, Names, NamesAt, IsFree, IsLeast, HasRule, begun};
+ghost use Rattle.jc_debug.specs.Invariant.{IsOnTrail, IsMoved, start_of, session_of, placed_in};
 
 use crate::breaks::{Break, BreakFault};
 use crate::fault::{ActFault, GotoFault, Halt, RunEnd, RunFault, StepFault};
@@ -38,7 +38,7 @@ pub struct Debugger {
 }
 
 impl Model for Debugger {
-    ghost use Rattle.jc_debug.specs.Trail.{Seen, IsOnTrail};
+    ghost use Rattle.jc_debug.specs.Invariant.{Seen, IsOnTrail};
     ghost use Rattle.jc_debug.specs.Stored.{seen_code};
 
     ghost Value = { Seen };
@@ -57,11 +57,11 @@ impl Debugger {
     ///
     /// `Given` exactly where no network is the start, with the first given event that is stuck.
     pub fn new(alloc: Global, scenario: Scenario) -> Result<Self, StartFault>
-        requires { IsWellFormed (scenario_view scenario) }
+        requires { IsWellFormedScenario (scenario_view scenario) }
         ensures net { IfOk result (λ debugger. IsStarted (scenario_view scenario) debugger.net) }
         ensures session { IfOk result (λ debugger. session_of debugger ≡ begun scenario.schedule.items) }
         ensures given { (at : ℕ) (s : AnyStuck) → IsErrOf result (Start.Given at s)
-            → IsGivenFault (bare (scenario_view scenario)) (scenario_view scenario).given at s }
+            → IsGivenFault (before_given (scenario_view scenario)) (scenario_view scenario).given at s }
     {
         let net = Net::start(alloc, &scenario)?;
         Ok(Debugger {
@@ -92,7 +92,7 @@ impl Debugger {
     /// The network to which the events before the position lead from the start.
     pub fn net(&self) -> &Net
         ensures net { result.now ≡ self.now.net }
-        ensures is_at { IsAt (start_of self.now) self.now.schedule (length self.now.traces) result.now.network }
+        ensures is_at { IsNetworkAt (start_of self.now) self.now.schedule (length self.now.traces) result.now.network }
     {
         &self.net
     }
@@ -165,9 +165,9 @@ impl Debugger {
     /// schedule's end. It is refused with `AtEnd` where it is there already. Where there was no memory it stays before
     /// the event that wasn't made.
     pub fn run(&mut self) -> Result<RunEnd, RunFault>
-        ensures ok { IfOk result (Ran self.old self.new) }
+        ensures ok { IfOk result (RunMoves self.old self.new) }
         ensures end { IsErrOf result R.AtEnd ↔ (length self.old.traces ≡ length self.old.schedule) }
-        ensures err { IfErr result (IsRunFault self.old self.new) }
+        ensures err { IfErr result (IsDebugRunFault self.old self.new) }
     {
         let here = self.position();
         let end = self.events();

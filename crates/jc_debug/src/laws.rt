@@ -1,6 +1,6 @@
 //! Laws of the definitions alone. The functions do nothing: their contracts are the laws.
 
-ghost use Rattle.jc_debug.specs.Laws.{OneNetwork, OneTrace, OneStuckEvent, OneMove, OneRun};
+ghost use Rattle.jc_debug.specs.Laws.{OneNetwork, OneTrace, OneStuckEvent, OneMove, OneDebugRun};
 
 /// One network stands at a position of a schedule.
 pub fn one_network()
@@ -24,5 +24,5 @@ pub fn one_move()
 
 /// A run comes to one position, and ends in one way.
 pub fn one_run()
-    ensures { OneRun }
+    ensures { OneDebugRun }
 {}

@@ -1,5 +1,5 @@
-pub mod DumpLists
-pub mod DumpFloats
-pub mod DumpShown
-pub mod StuckLines
-pub mod Replicas
+pub mod DumpListsLemmas
+pub mod DumpFloatsLemmas
+pub mod DumpPartsLemmas
+pub mod LinesLemmas
+pub mod DumpReplicaLemmas

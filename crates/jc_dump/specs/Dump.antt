@@ -37,8 +37,8 @@ vars_data names vars = object_of (map (var_member names) vars)
 
 -- ---- the dump
 
-abbrev pub ids_of : List Op → List Id
-ids_of ops = map (λ o. o.id) ops
+abbrev pub ids_of_dumped : List Op → List Id
+ids_of_dumped ops = map (λ o. o.id) ops
 
 -- the members of the dump of a replica of this name in this state
 abbrev pub dump_members : List (List ℕ) → List ℕ → State → List (List ℕ × Data)
@@ -47,9 +47,9 @@ dump_members names name A =
     ∷ (codes "left", number (unsigned (length A.left)))
     ∷ (codes "name", string name)
     ∷ (codes "ops", ids_data names A.ops)
-    ∷ (codes "queue", ids_data names (ids_of A.queue))
-    ∷ (codes "recv", ids_data names (ids_of A.recv))
-    ∷ (codes "send", ids_data names (ids_of A.send))
+    ∷ (codes "queue", ids_data names (ids_of_dumped A.queue))
+    ∷ (codes "recv", ids_data names (ids_of_dumped A.recv))
+    ∷ (codes "send", ids_data names (ids_of_dumped A.send))
     ∷ (codes "tree", context_data names A.tree)
     ∷ (codes "vars", vars_data names A.vars)
     ∷ []

@@ -8,7 +8,7 @@ use Rattle.jc_json.specs.Json.{ids_data, context_data}
 use Rattle.jc_cursor.specs.declared.bound.Bound.{Bound as BoundInMemory}
 use Rattle.jc_cursor.specs.Bounds.{bound_of, vars_of}
 use Rattle.jc_dump.specs.declared.dump.Shown.{Shown}
-use Rattle.jc_dump.specs.Dump.{bound_data, vars_data, ids_of}
+use Rattle.jc_dump.specs.Dump.{bound_data, vars_data, ids_of_dumped}
 
 abbrev pub bound_shown : List (List ℕ) → Bor BoundInMemory → Data
 bound_shown names b = bound_data names (bound_of b.now)
@@ -32,8 +32,8 @@ pub record HasParts (A : State) (shown : Shown) (tree : Context) : Type 0 where
   pub acted : A.acted ≡ shown.acted
   pub left : length A.left ≡ shown.left
   pub ops : A.ops ≡ shown.ops.now
-  pub queue : ids_of A.queue ≡ shown.queue.now
-  pub recv : ids_of A.recv ≡ shown.recv.now
-  pub send : ids_of A.send ≡ shown.send.now
+  pub queue : ids_of_dumped A.queue ≡ shown.queue.now
+  pub recv : ids_of_dumped A.recv ≡ shown.recv.now
+  pub send : ids_of_dumped A.send ≡ shown.send.now
   pub tree_is : A.tree ≡ tree
   pub vars : A.vars ≡ vars_of shown.vars.now

@@ -3,11 +3,11 @@ use Rattle.std.specs.Prelude.{◌≡◌, ℕ, List, [], ◌++◌, length, codes,
 use Rattle.jc_rules.specs.declared.operation.Event.{Event}
 use Rattle.jc_rules.specs.declared.rule.Rule.{Rule}
 use Rattle.jc_rules.specs.RuleNames.{rule_name}
-use Rattle.jc_rules.specs.Refusals.{number_of, name_of}
+use Rattle.jc_rules.specs.Refusals.{refusal_number, refusal_name}
 use Rattle.jc_rules.specs.Refused.{Cause, because, no_node, refusal_of}
 use Rattle.jc_printer.specs.Canon.{AreNamed, canon_event}
 use Rattle.jc_network.specs.declared.fault.Stuck.{Stuck}
-use Rattle.jc_network.specs.Makes.{stuck_for}
+use Rattle.jc_network.specs.Steps.{stuck_for}
 use Rattle.jc_json.specs.Json.{tagged_text}
 
 -- a rule of a trace: its depth and its name
@@ -25,7 +25,7 @@ absent_text names (no_node k) = tagged_text names k ++ codes " "
 -- the line of a stuck event
 abbrev pub stuck_text : List (List ℕ) → Cause → Event → List ℕ
 stuck_text names why event =
-    codes "stuck " ++ decimal (number_of (refusal_of why)) ++ codes " " ++ name_of (refusal_of why) ++ codes " "
+    codes "stuck " ++ decimal (refusal_number (refusal_of why)) ++ codes " " ++ refusal_name (refusal_of why) ++ codes " "
     ++ absent_text names why ++ canon_event names event ++ codes "\n"
 
 -- an event that is stuck for a cause, and whose replicas have names

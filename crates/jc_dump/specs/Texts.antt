@@ -4,8 +4,8 @@ use Rattle.jc_rules.specs.declared.operation.Event.{Event}
 use Rattle.jc_rules.specs.declared.refusal.Refusal.{Refusal}
 use Rattle.jc_rules.specs.declared.refusal.Refusal.TheVariants.{GivenStuck}
 use Rattle.jc_rules.specs.declared.rule.Rule.{Rule}
-use Rattle.jc_rules.specs.Names.{name_at}
-use Rattle.jc_rules.specs.Refusals.{number_of, name_of}
+use Rattle.jc_rules.specs.ReplicaNames.{name_at}
+use Rattle.jc_rules.specs.Refusals.{refusal_number, refusal_name}
 use Rattle.jc_rules.specs.Refused.{Cause}
 use Rattle.jc_rules.specs.State.{State}
 use Rattle.jc_printer.specs.Canon.{canon_event}
@@ -20,7 +20,7 @@ block_text names n event rows =
 -- the line of a refused text
 abbrev pub refused_text : Refusal → ℕ → List ℕ
 refused_text refusal place =
-    codes "refused " ++ decimal (number_of refusal) ++ codes " " ++ name_of refusal ++ codes " at " ++ decimal place
+    codes "refused " ++ decimal (refusal_number refusal) ++ codes " " ++ refusal_name refusal ++ codes " at " ++ decimal place
     ++ codes "\n"
 
 -- the lines of the first given event that is stuck, which is of this number from 1

@@ -3,7 +3,7 @@
 ghost use Rattle.std.specs.Prelude.{◌≡◌, ◌++◌, IfOk, OnOk, string_bytes, codes, decimal};
 ghost use Rattle.jc_rules.specs.declared.operation.Event.{Event as AnyEvent};
 ghost use Rattle.jc_rules.specs.Refused.{Cause};
-ghost use Rattle.jc_network.specs.Makes.{stuck_for};
+ghost use Rattle.jc_network.specs.Steps.{stuck_for};
 ghost use Rattle.jc_dump.specs.Lines.{trace_text, stuck_text, IsNamedStuck};
 
 use jc_json::tagged_text;

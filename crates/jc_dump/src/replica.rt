@@ -1,11 +1,11 @@
 //! The dump of a network's replica.
 
 ghost use Rattle.std.specs.Prelude.{◌≡◌, ◌≤◌, ◌↔◌, Some, length, slice_get, string_bytes, IfOk, IsErrOf};
-ghost use Rattle.jc_rules.specs.Names.{name_at};
+ghost use Rattle.jc_rules.specs.ReplicaNames.{name_at};
 ghost use Rattle.jc_rules.specs.State.{State};
-ghost use Rattle.jc_sets.specs.States.{kept_state};
+ghost use Rattle.jc_vectors.specs.StoredStates.{stored_state};
 ghost use Rattle.jc_network.specs.declared.fault.CompareFault.TheVariants as E;
-ghost use Rattle.jc_dump.specs.Dump.{ids_of, dump_line};
+ghost use Rattle.jc_dump.specs.Dump.{ids_of_dumped, dump_line};
 
 use crate::dump::{Shown, dump_line_of};
 use jc_network::{CompareFault, Net};
@@ -16,7 +16,7 @@ use std::alloc::{AllocError, Global};
 
 /// The identifiers of operations.
 fn ids_of(alloc: Global, ops: &[Op]) -> Result<Vec<Id>, AllocError>
-    ensures { IfOk result (λ ids. ids.items ≡ ids_of ops.now) }
+    ensures { IfOk result (λ ids. ids.items ≡ ids_of_dumped ops.now) }
 {
     let mut ids = Vec::new(alloc);
     for op in ops {
@@ -34,7 +34,7 @@ fn line_of(
     applied: &[Id],
 ) -> Result<String, AllocError>
     ensures { IfOk result (λ line.
-        (A : State) → replica.now.now ≡ kept_state A → applied.now ≡ A.ops
+        (A : State) → replica.now.now ≡ stored_state A → applied.now ≡ A.ops
         → string_bytes line ≡ dump_line names.now (name_at names.now p) A) }
 {
     let queue = ids_of(alloc, replica.queue())?;

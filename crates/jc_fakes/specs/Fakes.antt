@@ -1,6 +1,6 @@
 -- What the sources and sinks for tests hold and answer.
 use Rattle.std.specs.Prelude.{ℕ, zero, suc, List, Option, Some, None, Result, Ok, Err}
-use Rattle.jc_rules.specs.declared.io.Failed.{Failed}
+use Rattle.jc_io.specs.declared.io.Failed.{Failed}
 use Rattle.jc_fakes.specs.declared.Then.{Then}
 use Rattle.jc_fakes.specs.declared.Then.TheVariants.{Fails, TakesNone}
 
@@ -21,6 +21,6 @@ failures_made None = 1
 failures_made (Some n) = 0
 
 -- what a sink without room answers to some bytes
-abbrev pub refusal_of : Then → Result ℕ Failed
-refusal_of Fails = Err (record {})
-refusal_of TakesNone = Ok 0
+abbrev pub result_of_fake : Then → Result ℕ Failed
+result_of_fake Fails = Err (record {})
+result_of_fake TakesNone = Ok 0

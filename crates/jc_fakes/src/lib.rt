@@ -4,10 +4,10 @@
 ghost use Rattle.std.specs.Prelude.{◌≡◌, ℕ, ◌+◌, ◌-◌, ◌^◌, ◌<◌, ◌≤◌, ◌↔◌, min, List, [], length, replicate, Some, None, Ok, Err, IsTrue, IsOk, IsErr, IfOk, OnOk, OnErr};
 ghost use Rattle.std.specs.Io.{ReadsAtMost, WritesAtMost};
 ghost use Rattle.std.specs.Io.KnownBytes.{Keeps};
-ghost use Rattle.jc_rules.specs.Told.{Reads, Writes, Stays, failures_of, write_failures, told};
-ghost use Rattle.jc_fakes.specs.Fakes.{one_call_on, failures_made, refusal_of};
+ghost use Rattle.jc_io.specs.Streams.{ReadsBytes, WritesBytes, StaysIfKnown, failures_of, write_failures, known_if_counted};
+ghost use Rattle.jc_fakes.specs.Fakes.{one_call_on, failures_made, result_of_fake};
 
-use jc_rules::io::{Failed, Sink, Source};
+use jc_io::{Failed, Sink, Source};
 use std::alloc::Global;
 use std::marker::Model;
 
@@ -40,7 +40,7 @@ impl<'a> Source for Bytes<'a> {
 
     fn read(&mut self, buf: &mut [u8]) -> Result<usize, Failed>
         ensures bound { ReadsAtMost result buf.new }
-        ensures bytes { Reads (Some self.old) (Some self.new) result buf.new }
+        ensures bytes { ReadsBytes (Some self.old) (Some self.new) result buf.new }
         ensures count { result ≡ Ok (min (length self.old) (length buf.old)) }
     {
         let n = buf.len().min(self.left.len());
@@ -72,7 +72,7 @@ impl<S: Source> Source for OneByte<S> {
 
     fn read(&mut self, buf: &mut [u8]) -> Result<usize, Failed>
         ensures bound { ReadsAtMost result buf.new }
-        ensures bytes { Reads (S.left self.old.inner) (S.left self.new.inner) result buf.new }
+        ensures bytes { ReadsBytes (S.left self.old.inner) (S.left self.new.inner) result buf.new }
         ensures failures { S.failures self.new.inner ≡ S.failures self.old.inner + failures_of result }
         ensures one { IfOk result (λ n. n ≤ 1) }
     {
@@ -88,7 +88,7 @@ impl<K: Sink> Sink for OneByte<K> {
 
     fn write(&mut self, bytes: &[u8]) -> Result<usize, Failed>
         ensures bound { WritesAtMost result bytes.now }
-        ensures bytes { Writes (K.taken self.old.inner) (K.taken self.new.inner) result bytes.now }
+        ensures bytes { WritesBytes (K.taken self.old.inner) (K.taken self.new.inner) result bytes.now }
         ensures failures { K.failures self.new.inner
             ≡ K.failures self.old.inner + write_failures result bytes.now }
         ensures one { IfOk result (λ n. n ≤ 1) }
@@ -179,7 +179,7 @@ impl<S: Source> Source for FailsAt<S> {
 
     fn read(&mut self, buf: &mut [u8]) -> Result<usize, Failed>
         ensures bound { ReadsAtMost result buf.new }
-        ensures bytes { Reads (S.left self.old.inner) (S.left self.new.inner) result buf.new }
+        ensures bytes { ReadsBytes (S.left self.old.inner) (S.left self.new.inner) result buf.new }
         ensures failures { S.failures self.new.inner + failures_made self.new.at
             ≡ S.failures self.old.inner + failures_made self.old.at + failures_of result }
         ensures due { self.old.at ≡ Some 0 → IsErr result × (self.new.inner ≡ self.old.inner) }
@@ -199,7 +199,7 @@ impl<K: Sink> Sink for FailsAt<K> {
 
     fn write(&mut self, bytes: &[u8]) -> Result<usize, Failed>
         ensures bound { WritesAtMost result bytes.now }
-        ensures bytes { Writes (K.taken self.old.inner) (K.taken self.new.inner) result bytes.now }
+        ensures bytes { WritesBytes (K.taken self.old.inner) (K.taken self.new.inner) result bytes.now }
         ensures failures { K.failures self.new.inner + failures_made self.new.at
             ≡ K.failures self.old.inner + failures_made self.old.at + write_failures result bytes.now }
         ensures due { self.old.at ≡ Some 0 → IsErr result × (self.new.inner ≡ self.old.inner) }
@@ -213,7 +213,7 @@ impl<K: Sink> Sink for FailsAt<K> {
 
     fn flush(&mut self) -> Result<(), Failed>
         ensures bytes { OnOk result (Keeps (K.taken self.old.inner) (K.taken self.new.inner)) }
-        ensures stays { OnErr result (Stays (K.taken self.old.inner) (K.taken self.new.inner)) }
+        ensures stays { OnErr result (StaysIfKnown (K.taken self.old.inner) (K.taken self.new.inner)) }
         ensures failures { K.failures self.new.inner + failures_made self.new.at
             ≡ K.failures self.old.inner + failures_made self.old.at + failures_of result }
         ensures due { self.old.at ≡ Some 0 → IsErr result × (self.new.inner ≡ self.old.inner) }
@@ -263,14 +263,14 @@ impl Taken {
 }
 
 impl Sink for Taken {
-    ghost taken = { λ s. told s.failures (Some s.bytes) };
+    ghost taken = { λ s. known_if_counted s.failures (Some s.bytes) };
 
     ghost failures = { λ s. s.failures };
 
     fn write(&mut self, bytes: &[u8]) -> Result<usize, Failed>
         ensures bound { WritesAtMost result bytes.now }
-        ensures bytes { Writes (told self.old.failures (Some self.old.bytes))
-            (told self.new.failures (Some self.new.bytes)) result bytes.now }
+        ensures bytes { WritesBytes (known_if_counted self.old.failures (Some self.old.bytes))
+            (known_if_counted self.new.failures (Some self.new.bytes)) result bytes.now }
         ensures failures { self.new.failures ≡ self.old.failures + write_failures result bytes.now }
         ensures whole { IfOk result (λ n. n ≡ length bytes.now) }
     {
@@ -316,7 +316,7 @@ impl<K: Sink> Sink for CountsFlushes<K> {
 
     fn write(&mut self, bytes: &[u8]) -> Result<usize, Failed>
         ensures bound { WritesAtMost result bytes.now }
-        ensures bytes { Writes (K.taken self.old.sink) (K.taken self.new.sink) result bytes.now }
+        ensures bytes { WritesBytes (K.taken self.old.sink) (K.taken self.new.sink) result bytes.now }
         ensures failures { K.failures self.new.sink
             ≡ K.failures self.old.sink + write_failures result bytes.now }
         ensures same { self.new.flushes ≡ self.old.flushes }
@@ -326,7 +326,7 @@ impl<K: Sink> Sink for CountsFlushes<K> {
 
     fn flush(&mut self) -> Result<(), Failed>
         ensures bytes { OnOk result (Keeps (K.taken self.old.sink) (K.taken self.new.sink)) }
-        ensures stays { OnErr result (Stays (K.taken self.old.sink) (K.taken self.new.sink)) }
+        ensures stays { OnErr result (StaysIfKnown (K.taken self.old.sink) (K.taken self.new.sink)) }
         ensures failures { K.failures self.new.sink ≡ K.failures self.old.sink + failures_of result }
         ensures counted { self.new.flushes ≡ min (self.old.flushes + 1) (2 ^ 64 - 1) }
     {
@@ -363,20 +363,20 @@ impl<K: Sink> TakesUpTo<K> {
 }
 
 impl<K: Sink> Sink for TakesUpTo<K> {
-    ghost taken = { λ s. told s.refused (K.taken s.sink) };
+    ghost taken = { λ s. known_if_counted s.refused (K.taken s.sink) };
 
     ghost failures = { λ s. K.failures s.sink + s.refused };
 
     fn write(&mut self, bytes: &[u8]) -> Result<usize, Failed>
         ensures bound { WritesAtMost result bytes.now }
-        ensures bytes { Writes (told self.old.refused (K.taken self.old.sink))
-            (told self.new.refused (K.taken self.new.sink)) result bytes.now }
+        ensures bytes { WritesBytes (known_if_counted self.old.refused (K.taken self.old.sink))
+            (known_if_counted self.new.refused (K.taken self.new.sink)) result bytes.now }
         ensures failures { K.failures self.new.sink + self.new.refused
             ≡ K.failures self.old.sink + self.old.refused + write_failures result bytes.now }
         ensures room { self.old.refused < 2 ^ 64 - 1
             → IfOk result (λ n. self.new.room + n ≡ self.old.room) }
         ensures refuses { self.old.refused < 2 ^ 64 - 1 → self.old.room ≡ 0 → 0 < length bytes.now
-            → (result ≡ refusal_of self.old.then)
+            → (result ≡ result_of_fake self.old.then)
             × (self.new ≡ record self.old { refused = self.old.refused + 1 }) }
         ensures takes { 0 < self.old.room → self.new.refused ≡ self.old.refused }
         ensures lasting { OnErr result (self.new.room ≡ self.old.room) }
@@ -400,10 +400,10 @@ impl<K: Sink> Sink for TakesUpTo<K> {
     }
 
     fn flush(&mut self) -> Result<(), Failed>
-        ensures bytes { OnOk result (Keeps (told self.old.refused (K.taken self.old.sink))
-            (told self.new.refused (K.taken self.new.sink))) }
-        ensures stays { OnErr result (Stays (told self.old.refused (K.taken self.old.sink))
-            (told self.new.refused (K.taken self.new.sink))) }
+        ensures bytes { OnOk result (Keeps (known_if_counted self.old.refused (K.taken self.old.sink))
+            (known_if_counted self.new.refused (K.taken self.new.sink))) }
+        ensures stays { OnErr result (StaysIfKnown (known_if_counted self.old.refused (K.taken self.old.sink))
+            (known_if_counted self.new.refused (K.taken self.new.sink))) }
         ensures failures { K.failures self.new.sink + self.new.refused
             ≡ K.failures self.old.sink + self.old.refused + failures_of result }
         ensures same { self.new ≡ record self.old { sink = self.new.sink } }

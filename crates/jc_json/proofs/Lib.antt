@@ -1,4 +1,4 @@
-pub mod Sending
-pub mod Lists
-pub mod Places
-pub mod Floats
+pub mod PartsSendLemmas
+pub mod PartsListsLemmas
+pub mod PartsPlacesLemmas
+pub mod JsonFloatsLemmas

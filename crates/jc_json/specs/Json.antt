@@ -13,7 +13,7 @@ use Rattle.jc_rules.specs.declared.key.Next.TheVariants as N
 use Rattle.jc_rules.specs.declared.value.Value.{Value}
 use Rattle.jc_rules.specs.declared.value.Value.TheVariants as V
 use Rattle.jc_rules.specs.Context.{Context, context, Children, no_child, child, Register}
-use Rattle.jc_rules.specs.Names.{name_at}
+use Rattle.jc_rules.specs.ReplicaNames.{name_at}
 
 -- ---- texts
 

@@ -10,7 +10,7 @@ use Rattle.jc_rules.specs.declared.key.Tagged.TheVariants.{MapT, ListT}
 use Rattle.jc_rules.specs.Context.{Context, context, Children, content, listed}
 use Rattle.jc_rules.specs.Order.{key_cmp}
 use Rattle.jc_rules.specs.Entries.{find}
-use Rattle.jc_rules.specs.Places.{or_empty}
+use Rattle.jc_rules.specs.ContextsAt.{or_empty}
 use Rattle.jc_tree.specs.Walks.{entry_of}
 use Rattle.jc_json.specs.declared.tree.Branch.{Branch}
 use Rattle.jc_json.specs.declared.tree.Branch.TheVariants as B
@@ -61,7 +61,7 @@ abbrev pub HasPartsOf : Context → List (String Global × Part) → Type 0
 HasPartsOf c es = AllByRecursion (λ e. IsPartOf c e.1) es
 
 -- The new parts of a context are the old ones, with those of these members.
-pub record Adds (names : List (List ℕ)) (c : Context) (ms : List (List ℕ × Data)) (old new : List (String Global × Part)) : Type 0 where
+pub record AddsMembers (names : List (List ℕ)) (c : Context) (ms : List (List ℕ × Data)) (old new : List (String Global × Part)) : Type 0 where
   pub shown : shown_as (part_data names c) new ≡ put_all ms (shown_as (part_data names c) old)
   pub parts : HasPartsOf c old → HasPartsOf c new
 

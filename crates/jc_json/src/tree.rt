@@ -5,7 +5,7 @@ ghost use Rattle.serde_json.specs.Events.{SendsValue};
 ghost use Rattle.jc_rules.specs.Context.{registers, presences, links};
 ghost use Rattle.jc_tree.specs.Tree.{HasPlace, here};
 ghost use Rattle.jc_json.specs.Json.{context_data, register_member, presence_member, next_member};
-ghost use Rattle.jc_json.specs.Parts.{tag_of, child_at, children_members, part_data, IsPartOf, shown_as, Adds, ArePartsOf};
+ghost use Rattle.jc_json.specs.Parts.{tag_of, child_at, children_members, part_data, IsPartOf, shown_as, AddsMembers, ArePartsOf};
 
 use crate::send::{granted, send_ids, send_value};
 use crate::texts::{entry_text, next_text, tagged_text};
@@ -53,7 +53,7 @@ fn add_children<'a, S: TreeStore>(
     parts: &mut BTreeMap<String, Part<'a>>,
 ) -> Result<(), AllocError>
     requires { HasPlace at.now (S.tree store.now) }
-    ensures { OnOk result (Adds names.now (here at.now (S.tree store.now))
+    ensures { OnOk result (AddsMembers names.now (here at.now (S.tree store.now))
         (children_members names.now branch (here at.now (S.tree store.now)))
         parts.old.entries parts.new.entries) }
 {
@@ -76,7 +76,7 @@ fn add_child<'a, S: TreeStore>(
     parts: &mut BTreeMap<String, Part<'a>>,
 ) -> Result<(), AllocError>
     requires { HasPlace at.now (S.tree store.now) }
-    ensures { OnOk result (Adds names.now (here at.now (S.tree store.now))
+    ensures { OnOk result (AddsMembers names.now (here at.now (S.tree store.now))
         (child_at names.now branch key.now (here at.now (S.tree store.now)))
         parts.old.entries parts.new.entries) }
 {
@@ -97,7 +97,7 @@ fn add_registers<'a, S: TreeStore>(
     parts: &mut BTreeMap<String, Part<'a>>,
 ) -> Result<(), AllocError>
     requires { HasPlace at.now (S.tree store.now) }
-    ensures { OnOk result (Adds names.now (here at.now (S.tree store.now))
+    ensures { OnOk result (AddsMembers names.now (here at.now (S.tree store.now))
         (map (register_member names.now) (registers (here at.now (S.tree store.now))))
         parts.old.entries parts.new.entries) }
 {
@@ -121,7 +121,7 @@ fn add_presences<'a, S: TreeStore>(
     parts: &mut BTreeMap<String, Part<'a>>,
 ) -> Result<(), AllocError>
     requires { HasPlace at.now (S.tree store.now) }
-    ensures { OnOk result (Adds names.now (here at.now (S.tree store.now))
+    ensures { OnOk result (AddsMembers names.now (here at.now (S.tree store.now))
         (map (presence_member names.now) (presences (here at.now (S.tree store.now))))
         parts.old.entries parts.new.entries) }
 {
@@ -145,7 +145,7 @@ fn add_links<S: TreeStore>(
     parts: &mut BTreeMap<String, Part<'_>>,
 ) -> Result<(), AllocError>
     requires { HasPlace at.now (S.tree store.now) }
-    ensures { OnOk result (Adds names.now (here at.now (S.tree store.now))
+    ensures { OnOk result (AddsMembers names.now (here at.now (S.tree store.now))
         (map (next_member names.now) (links (here at.now (S.tree store.now))))
         parts.old.entries parts.new.entries) }
 {

@@ -1,6 +1,6 @@
-pub mod Closing
-pub mod Dealing
-pub mod Keeping
-pub mod Marking
-pub mod Numbering
-pub mod Sums
+pub mod GatheredLemmas
+pub mod DealLemmas
+pub mod StepsLemmas
+pub mod MarksLemmas
+pub mod NumbersLemmas
+pub mod RulesSumsLemmas

@@ -86,8 +86,8 @@ module _ {K E O : Type 0} (origin : K → O) (list : K → List E) (maker : E �
 abbrev pub Publishes : {K E O : Type 0} → (K → List E) → Step (Option K) → Sat K E O → ℕ → Sat K E O → Type 0
 Publishes list step me found me' = me' ≡ (with_grown me.0 (list_in list me.1), me.1)
 
-abbrev pub Reads : {K E O : Type 0} → (E → ℕ) → Step (Option K) → Sat K E O → ℕ → Sat K E O → Type 0
-Reads {E = E} maker step me found me' =
+abbrev pub ReadsWord : {K E O : Type 0} → (E → ℕ) → Step (Option K) → Sat K E O → ℕ → Sat K E O → Type 0
+ReadsWord {E = E} maker step me found me' =
     (history : List E)
     × (me' ≡ (with_seen me.0 history, me.1))
     × (found ≡ length history)

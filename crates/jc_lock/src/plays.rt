@@ -1,5 +1,5 @@
 //! What each step on the lock's words tells, and how seats are cut in two and joined.
-ghost use Rattle.jc_lock.specs.Steps.{Draws, Looks, PassesOn, Publishes, Reads, rest_of_deal, next_of_deal, join_of, spent_view};
+ghost use Rattle.jc_lock.specs.Steps.{Draws, Looks, PassesOn, Publishes, ReadsWord, rest_of_deal, next_of_deal, join_of, spent_view};
 
 use crate::kept::Kept;
 use crate::view::View;
@@ -37,7 +37,7 @@ impl<K: Kept> Play<Option<K>, View<K::Entry, K::Origin>> for PassOn {
 pub(crate) struct Read;
 
 impl<K: Kept> Play<Option<K>, View<K::Entry, K::Origin>> for Read {
-    ghost then = { Reads K.maker };
+    ghost then = { ReadsWord K.maker };
 }
 
 /// Makes the seat of the next pass.

@@ -7,8 +7,8 @@ use Rattle.jc_rules.specs.declared.key.Tagged.TheVariants.{MapT, ListT}
 use Rattle.jc_rules.specs.Order.{key_cmp}
 use Rattle.jc_rules.specs.Entries.{find}
 use Rattle.jc_rules.specs.Context.{Context, registers, content, next}
-use Rattle.jc_rules.specs.Places.{node_in}
-use Rattle.jc_rules.specs.Shape.{drop}
+use Rattle.jc_rules.specs.ContextsAt.{node_in}
+use Rattle.jc_rules.specs.WellFormed.{drop}
 use Rattle.jc_meaning.specs.Seen.{ids_at}
 
 -- both are there and related, or neither is

@@ -7,9 +7,9 @@ use Rattle.jc_rules.specs.declared.operation.Op.{Op}
 use Rattle.jc_rules.specs.Ids.{has_id}
 use Rattle.jc_rules.specs.Context.{Context, empty}
 use Rattle.jc_rules.specs.Derivation.{Operate, ClearElem, ToContext, Cleared}
-use Rattle.jc_rules.specs.Places.{node_at}
+use Rattle.jc_rules.specs.ContextsAt.{node_at}
 use Rattle.jc_rules.specs.Refused.{IsAnswered}
-use Rattle.jc_rules.specs.Shape.{IsKept, drop}
+use Rattle.jc_rules.specs.WellFormed.{IsWellFormedContext, drop}
 use Rattle.jc_rules.specs.Sound.{IsSound, IsRooted}
 use Rattle.jc_rules.specs.State.{State}
 use Rattle.jc_rules.specs.Syntax.{Cmd}
@@ -19,7 +19,7 @@ use Rattle.jc_network.specs.Laws.{IsReached}
 use Rattle.jc_meaning.specs.Seen.{ids_at}
 use Rattle.jc_meaning.specs.Meaning.{Means, IsMeaning}
 use Rattle.jc_meaning.specs.Replicas.{IsTreeOfReplicas}
-use Rattle.jc_meaning.specs.Tidy.{Tidy, Takes, in_key}
+use Rattle.jc_meaning.specs.ClearingEffects.{Tidy, TakesAway, in_key}
 
 -- what the operation depends on is in the set
 abbrev pub AreDepsIn : List Op → Op → Type 0
@@ -63,11 +63,11 @@ OneMoreMeans =
     → IsAnswered (Operate t o) (ToContext d)
     → Means (o ∷ set) d
 
--- What a closed set means is tidy.
+-- What a causally closed set means is tidy.
 abbrev pub MeaningsAreTidy : Type 0
 MeaningsAreTidy = (set : List Op) (t : Context) → IsClosedSet set → Means set t → Tidy false t
 
--- In what a closed set means, clearing a key takes exactly the given identifiers from the presence sets and registers
+-- In what a causally closed set means, clearing a key takes exactly the given identifiers from the presence sets and registers
 -- at the key and below it, and answers what stays in its presence set.
 abbrev pub ClearingTakesDeps : Type 0
 ClearingTakesDeps =
@@ -77,7 +77,7 @@ ClearingTakesDeps =
     → (path : List Tagged) (c d : Context) (deps s : List Id) (k : Key)
     → node_at path t ≡ Some c
     → IsAnswered (ClearElem c deps k) (Cleared d s)
-    → Takes c d deps (in_key k) (in_key k)
+    → TakesAway c d deps (in_key k) (in_key k)
     × ((i : Id) → has_id i s ≡ (has_id i (ids_at k c) && not (has_id i deps)))
 
 -- The tree of each replica is what the operations mean that it has applied, in each network that events lead to.
@@ -101,14 +101,14 @@ DroppedTreesAreMeanings =
 -- The other way round, what the operations mean that a replica has applied, as they are kept, is its tree without empty
 -- presence sets.
 abbrev pub MeaningsAreTrees : Type 0
-MeaningsAreTrees = (ops : List Op) (t : Context) → IsKept t → IsMeaning ops t → IsTreeOfReplicas ops t
+MeaningsAreTrees = (ops : List Op) (t : Context) → IsWellFormedContext t → IsMeaning ops t → IsTreeOfReplicas ops t
 
 -- A meaning is one tree, but for empty presence sets, whatever the order of the list.
 abbrev pub OneTree : Type 0
 OneTree =
     (set : List Op) (t d : Context)
-    → IsKept t
-    → IsKept d
+    → IsWellFormedContext t
+    → IsWellFormedContext d
     → Means set t
     → Means set d
     → drop t ≡ drop d

@@ -1,11 +1,11 @@
-pub mod Touching
+pub mod Effects
 pub mod Seen
 pub mod Forest
 pub mod Meaning
 pub mod Replicas
-pub mod Tidy
-pub mod Built
+pub mod ClearingEffects
+pub mod Growth
 pub mod Listing
 pub mod Compared
-pub mod Found
+pub mod Comparison
 pub mod Laws

@@ -9,11 +9,11 @@ use Rattle.jc_rules.specs.declared.key.Tagged.{Tagged}
 use Rattle.jc_rules.specs.declared.operation.Op.{Op}
 use Rattle.jc_rules.specs.Ids.{has_id}
 use Rattle.jc_rules.specs.Context.{Context, next}
-use Rattle.jc_meaning.specs.Touching.{same_path, list_at, is_insert}
-use Rattle.jc_meaning.specs.Seen.{seen, ids_at, value_at, has_tag}
+use Rattle.jc_meaning.specs.Effects.{same_path, list_at, is_insert}
+use Rattle.jc_meaning.specs.Seen.{seen, ids_at, value_seen_at, has_tag}
 use Rattle.jc_meaning.specs.Forest.{Forest, preorder, Hangs, follow}
 use Rattle.jc_meaning.specs.Meaning.{some_op, hangs_at, AreFilled}
-use Rattle.jc_meaning.specs.Built.{Links}
+use Rattle.jc_meaning.specs.Growth.{LinksIds}
 
 -- The identifiers are those of the inserts that are reached from the head of the list at the path, in the list's order.
 pub record IsListing (O : List Op) (P : List Tagged) (is : List Id) : Type 0 where
@@ -41,11 +41,11 @@ pub record AreLinked (some all : List Op) (c : Context) : Type 0 where
 abbrev pub LinksNew : List Tagged → List Op → Context → Context → Type 0
 LinksNew P O c d =
     ((next K.Head (seen P c) ≢ Some Tail) × (d ≡ c))
-    ⊎ ((next K.Head (seen P c) ≡ Some Tail) × (is : List Id) × IsListing O P is × Links P is c d)
+    ⊎ ((next K.Head (seen P c) ≡ Some Tail) × (is : List Id) × IsListing O P is × LinksIds P is c d)
 
 -- All but the links is as it was.
 pub record IsSameButLinks (c d : Context) : Type 0 where
   pub tags : (P : List Tagged) (u : Tagged) → has_tag u (seen P d) ≡ has_tag u (seen P c)
   pub ids : (P : List Tagged) (k : Key) (i : Id) → has_id i (ids_at k (seen P d)) ≡ has_id i (ids_at k (seen P c))
-  pub values : (P : List Tagged) (k : Key) (i : Id) → value_at i k (seen P d) ≡ value_at i k (seen P c)
+  pub values : (P : List Tagged) (k : Key) (i : Id) → value_seen_at i k (seen P d) ≡ value_seen_at i k (seen P c)
   pub filled : AreFilled c → AreFilled d

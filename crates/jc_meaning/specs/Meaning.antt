@@ -11,8 +11,8 @@ use Rattle.jc_rules.specs.Order.{same_key}
 use Rattle.jc_rules.specs.Ids.{has_id}
 use Rattle.jc_rules.specs.Context.{Context, context, Children, no_child, child, next}
 use Rattle.jc_rules.specs.Table.{op_of}
-use Rattle.jc_meaning.specs.Touching.{same_path, list_at, is_insert, touches, clears, written_by, overwrites, goes_through}
-use Rattle.jc_meaning.specs.Seen.{seen, ids_at, value_at, has_tag}
+use Rattle.jc_meaning.specs.Effects.{same_path, list_at, is_insert, touches, clears, written_by, overwrites, goes_through}
+use Rattle.jc_meaning.specs.Seen.{seen, ids_at, value_seen_at, has_tag}
 use Rattle.jc_meaning.specs.Forest.{Forest, preorder, Hangs, follow}
 
 -- whether it holds of some operation
@@ -37,8 +37,8 @@ written_of None P k = None
 written_of (Some o) P k = written_by o P k
 
 -- what its operation has written there, unless that is cleared or overwritten by an operation that depends on it
-abbrev pub value_of : List Op → List Tagged → Key → Id → Option Value
-value_of O P k i =
+abbrev pub value_written : List Op → List Tagged → Key → Id → Option Value
+value_written O P k i =
     cond (is_cleared O P k i || some_op (λ a. overwrites a P k && has_id i a.deps) O)
     None
     (written_of (op_of i O) P k)
@@ -69,7 +69,7 @@ LinksOf false O P d = (k : Key) → next k d ≡ None
 pub record Means (O : List Op) (t : Context) : Type 0 where
   pub tags : (P : List Tagged) (u : Tagged) → has_tag u (seen P t) ≡ goes O P u
   pub ids : (P : List Tagged) (k : Key) (i : Id) → has_id i (ids_at k (seen P t)) ≡ is_present O P k i
-  pub values : (P : List Tagged) (k : Key) (i : Id) → value_at i k (seen P t) ≡ value_of O P k i
+  pub values : (P : List Tagged) (k : Key) (i : Id) → value_seen_at i k (seen P t) ≡ value_written O P k i
   pub links : (P : List Tagged) → LinksOf (list_at false P) O P (seen P t)
 
 -- no presence set is empty, at every depth

@@ -2,16 +2,16 @@
 use Rattle.std.specs.Prelude.{◌≡◌, ◌↔◌, List, map, Contains}
 use Rattle.jc_rules.specs.declared.operation.Op.{Op}
 use Rattle.jc_rules.specs.Context.{Context}
-use Rattle.jc_rules.specs.Shape.{drop}
+use Rattle.jc_rules.specs.WellFormed.{drop}
 use Rattle.jc_rules.specs.State.{State}
 use Rattle.jc_rules.specs.Syntax.{Cmd}
-use Rattle.jc_sets.specs.States.{kept_op}
+use Rattle.jc_vectors.specs.StoredStates.{stored_op}
 use Rattle.jc_network.specs.Applied.{applied_ops}
 use Rattle.jc_network.specs.Laws.{IsReached}
 
 -- These are just the operations that the replica has applied, as they are kept, in any order.
 abbrev pub HasApplied : State → List Op → Type 0
-HasApplied A ops = (o : Op) → Contains ops o ↔ Contains (map kept_op (applied_ops A)) o
+HasApplied A ops = (o : Op) → Contains ops o ↔ Contains (map stored_op (applied_ops A)) o
 
 -- In each network that events lead to from a start, it is the tree of each replica that has applied just these
 -- operations, without its empty presence sets.

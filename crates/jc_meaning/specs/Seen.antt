@@ -10,14 +10,14 @@ use Rattle.jc_rules.specs.Entries.{find}
 use Rattle.jc_rules.specs.Context.{Context, registers, Register, Content, Node, content, presence, empty, empty_list}
 
 -- the context under a tagged key, or what is new there
-abbrev pub or_new : Option Content → Tagged → Context
-or_new (Some (Node d)) t = d
-or_new _ (ListT k) = empty_list
-or_new _ _ = empty
+abbrev pub context_or_new : Option Content → Tagged → Context
+context_or_new (Some (Node d)) t = d
+context_or_new _ (ListT k) = empty_list
+context_or_new _ _ = empty
 
 abbrev pub seen : List Tagged → Context → Context
 seen [] c = c
-seen (t ∷ ts) c = seen ts (or_new (content t c) t)
+seen (t ∷ ts) c = seen ts (context_or_new (content t c) t)
 
 abbrev pub ids_of_some : Option (List Id) → List Id
 ids_of_some None = []
@@ -34,8 +34,8 @@ abbrev pub value_in_some : Id → Option Register → Option Value
 value_in_some i None = None
 value_in_some i (Some r) = find id_cmp i r
 
-abbrev pub value_at : Id → Key → Context → Option Value
-value_at i k c = value_in_some i (reg_at k c)
+abbrev pub value_seen_at : Id → Key → Context → Option Value
+value_seen_at i k c = value_in_some i (reg_at k c)
 
 abbrev pub has_tag : Tagged → Context → Bool
 has_tag u c = is_some (content u c)

@@ -5,13 +5,13 @@ ghost use Rattle.jc_rules.specs.declared.key.Tagged.{Tagged as AnyTagged};
 ghost use Rattle.jc_rules.specs.declared.key.Tagged.TheVariants.{RegT};
 ghost use Rattle.jc_rules.specs.Order.{same_id};
 ghost use Rattle.jc_rules.specs.Context.{IsPrimitive};
-ghost use Rattle.jc_rules.specs.Shape.{AreDistinct};
+ghost use Rattle.jc_rules.specs.WellFormed.{AreDistinct};
 ghost use Rattle.jc_replica.specs.Operations.{identifiers};
 ghost use Rattle.jc_tree.specs.Tree.{HasPlace, here};
-ghost use Rattle.jc_meaning.specs.Touching.{same_tagged, made as is_made, primitive, value_in, target as target_in};
+ghost use Rattle.jc_meaning.specs.Effects.{same_tagged, is_made_by as is_made, primitive, value_in, target as target_in};
 ghost use Rattle.jc_meaning.specs.Seen.{has_tag};
-ghost use Rattle.jc_meaning.specs.Meaning.{is_present, value_of, goes};
-ghost use Rattle.jc_meaning.specs.Built.{Grows, no_tag, no_id, no_value, tag_here, key_here, tag_on, key_on, stays, brings_value, Brings, made_here};
+ghost use Rattle.jc_meaning.specs.Meaning.{is_present, value_written, goes};
+ghost use Rattle.jc_meaning.specs.Growth.{Grows, no_tag, no_id, no_value, tag_here, key_here, tag_on, key_on, stays, brings_value, Brings, made_here};
 
 use crate::touching::{is_cleared, is_delete, is_gone, is_primitive, target};
 use jc_rules::{Id, Key, Mutation, Op, Tagged, Value};
@@ -143,7 +143,7 @@ fn add<S: TreeStore>(store: &mut S, ops: &[Op], op: &Op) -> Result<(), AllocErro
 pub fn fill<S: TreeStore>(store: &mut S, ops: &[Op]) -> Result<(), AllocError>
     requires { AreDistinct (identifiers ops.now) }
     ensures { OnOk result (Grows (S.tree store.old).now (S.tree store.new).now
-        (goes ops.now) (is_present ops.now) (value_of ops.now)) }
+        (goes ops.now) (is_present ops.now) (value_written ops.now)) }
 {
     for op in ops {
         add(store, ops, op)?;

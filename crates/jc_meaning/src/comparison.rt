@@ -2,7 +2,7 @@
 
 ghost use Rattle.std.specs.Prelude.{◌≤◌, ◌⊎◌, ◌↔◌, length, IfOk, IsErrOf};
 ghost use Rattle.jc_network.specs.declared.fault.CompareFault.TheVariants as C;
-ghost use Rattle.jc_meaning.specs.Found.{IsComparison};
+ghost use Rattle.jc_meaning.specs.Comparison.{IsComparison};
 
 use crate::sameness::same_tree;
 use jc_network::{CompareFault, Net};

@@ -18,13 +18,13 @@ pub fn one_more_means()
     ensures { OneMoreMeans }
 {}
 
-/// What a closed set means is tidy: what stands below a key or in its register is in its presence set, a key with a
+/// What a causally closed set means is tidy: what stands below a key or in its register is in its presence set, a key with a
 /// presence set that isn't empty has a tag, and in a list each key with a tag is linked.
 pub fn meanings_are_tidy()
     ensures { MeaningsAreTidy }
 {}
 
-/// In what a closed set means, clearing a key takes exactly the given identifiers at the key and below it, and leaves
+/// In what a causally closed set means, clearing a key takes exactly the given identifiers at the key and below it, and leaves
 /// all else but empty presence sets as it was.
 pub fn clearing_takes_deps()
     ensures { ClearingTakesDeps }

@@ -8,13 +8,13 @@ ghost use Rattle.jc_rules.specs.declared.key.Next.TheVariants.{Tail};
 ghost use Rattle.jc_rules.specs.declared.key.Tagged.{Tagged as AnyTagged};
 ghost use Rattle.jc_rules.specs.Ids.{AreRising, has_id};
 ghost use Rattle.jc_rules.specs.Context.{next as next_of};
-ghost use Rattle.jc_rules.specs.Shape.{AreDistinct, chain_of};
+ghost use Rattle.jc_rules.specs.WellFormed.{AreDistinct, chain_of};
 ghost use Rattle.jc_replica.specs.Operations.{identifiers};
 ghost use Rattle.jc_tree.specs.Tree.{HasPlace, here};
 ghost use Rattle.jc_meaning.specs.Seen.{seen, has_tag};
 ghost use Rattle.jc_meaning.specs.Forest.{follow};
 ghost use Rattle.jc_meaning.specs.Meaning.{names as names_at, hangs_at, goes};
-ghost use Rattle.jc_meaning.specs.Built.{Links};
+ghost use Rattle.jc_meaning.specs.Growth.{LinksIds};
 ghost use Rattle.jc_meaning.specs.Listing.{IsListing, LinksNew, IsSameButLinks, AreLinked};
 
 use crate::touching::{is_insert, is_path};
@@ -70,7 +70,7 @@ fn link<S: TreeStore>(store: &mut S, at: &[Tagged], ids: &[Id]) -> Result<(), Al
     requires there { HasPlace at.now (S.tree store.old) }
     requires new { (k : AnyKey) → next_of k (here at.now (S.tree store.old)) ≡ follow Head [] k }
     requires apart { AreDistinct (chain_of ids.now) }
-    ensures { OnOk result (Links at.now ids.now (S.tree store.old).now (S.tree store.new).now) }
+    ensures { OnOk result (LinksIds at.now ids.now (S.tree store.old).now (S.tree store.new).now) }
 {
     let mut last = Key::Head;
     for id in ids {

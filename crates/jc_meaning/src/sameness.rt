@@ -2,7 +2,7 @@
 
 ghost use Rattle.std.specs.Prelude.{◌≡◌, ◌↔◌, IsTrue, Some, IfOk, OnOk, option_copied};
 ghost use Rattle.jc_rules.specs.Paths.{HasContext};
-ghost use Rattle.jc_rules.specs.Shape.{drop};
+ghost use Rattle.jc_rules.specs.WellFormed.{drop};
 ghost use Rattle.jc_tree.specs.Tree.{HasPlace, here};
 ghost use Rattle.jc_meaning.specs.Compared.{SameTree, IsSameNode, IsSameRegister, IsSameKey, HasPresence, ArePresencesSame, HasLink, AreLinksSame};
 

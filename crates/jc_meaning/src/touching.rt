@@ -2,9 +2,9 @@
 
 ghost use Rattle.std.specs.Prelude.{◌≡◌, ◌&&◌, is_some, IfOk};
 ghost use Rattle.jc_rules.specs.Ids.{has_id};
-ghost use Rattle.jc_meaning.specs.Touching.{same_path, is_at_or_above, is_delete as is_deletion, is_insert as is_insertion, is_clearing as is_clear, clears as clears_at, primitive, overwrites as overwrites_at, target as target_in};
+ghost use Rattle.jc_meaning.specs.Effects.{same_path, is_at_or_above, is_delete as is_deletion, is_insert as is_insertion, is_clearing as is_clear, clears as clears_at, primitive, overwrites as overwrites_at, target as target_in};
 ghost use Rattle.jc_meaning.specs.Meaning.{some_op, is_cleared as is_cleared_by};
-ghost use Rattle.jc_meaning.specs.Built.{is_gone as is_gone_by};
+ghost use Rattle.jc_meaning.specs.Growth.{is_gone as is_gone_by};
 
 use jc_rules::{Id, Key, Mutation, Op, Tagged, Value, compare_keys};
 use std::alloc::AllocError;

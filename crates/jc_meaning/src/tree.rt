@@ -2,10 +2,10 @@
 
 ghost use Rattle.std.specs.Prelude.{◌≡◌, ◌↔◌, List, [], map, is_some, IsTrue, IfOk};
 ghost use Rattle.jc_rules.specs.declared.operation.Op.{Op as AnyOp};
-ghost use Rattle.jc_rules.specs.Shape.{AreDistinct};
+ghost use Rattle.jc_rules.specs.WellFormed.{AreDistinct};
 ghost use Rattle.jc_rules.specs.Sound.{IsSound};
 ghost use Rattle.jc_rules.specs.Table.{op_of};
-ghost use Rattle.jc_sets.specs.States.{AreOf, kept_op};
+ghost use Rattle.jc_vectors.specs.StoredStates.{AreOf, stored_op};
 ghost use Rattle.jc_replica.specs.Operations.{identifiers};
 ghost use Rattle.jc_meaning.specs.Meaning.{IsMeaning};
 ghost use Rattle.jc_meaning.specs.Replicas.{IsTreeOfReplicas};
@@ -55,7 +55,7 @@ pub fn meaning(alloc: Global, ops: &[Op]) -> Result<PlainTree, AllocError>
     requires { AreDistinct (identifiers ops.now) }
     ensures meaning { IfOk result (λ tree. IsMeaning ops.now (⟦<PlainTree as TreeStore>⟧.tree tree).now) }
     ensures stands { IfOk result (λ tree. (set own : List AnyOp)
-        → IsSound set → AreOf set own → ops.now ≡ map kept_op own
+        → IsSound set → AreOf set own → ops.now ≡ map stored_op own
         → IsMeaning own (⟦<PlainTree as TreeStore>⟧.tree tree).now) }
     ensures replicas { IfOk result (λ tree. IsTreeOfReplicas ops.now (⟦<PlainTree as TreeStore>⟧.tree tree).now) }
     // No earlier content is kept.

@@ -1,6 +1,6 @@
 //! Moves of a debugger with too little memory stay before an event, and end with enough.
 
-ghost use Rattle.jc_scenario.specs.Scenarios.{IsWellFormed};
+ghost use Rattle.jc_scenario.specs.WellFormed.{IsWellFormedScenario};
 ghost use Rattle.jc_scenario.specs.Views.{scenario_view};
 
 use crate::attempts::{Attempt, MOST, Outcome, done_if, holds, is_done, refusals};
@@ -14,7 +14,7 @@ use std::process::Abort;
 use std::test::Fail;
 
 fn begun_of(alloc: Global, scenario: Scenario) -> Outcome
-    requires { IsWellFormed (scenario_view scenario) }
+    requires { IsWellFormedScenario (scenario_view scenario) }
 {
     match Debugger::new(alloc, scenario) {
         Ok(debugger) => done_if(debugger.position() == 0 && debugger.schedule().len() == 14),

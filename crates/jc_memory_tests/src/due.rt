@@ -2,7 +2,7 @@
 
 ghost use Rattle.std.specs.Prelude.{None};
 
-use jc_rules::io::{Failed, Sink};
+use jc_io::{Failed, Sink};
 
 /// A sink that compares what it is given with what is due. It takes no memory.
 #[derive(Drop)]

@@ -1,6 +1,6 @@
 //! Scenarios, and the networks at their starts.
 
-ghost use Rattle.jc_scenario.specs.Scenarios.{IsWellFormed};
+ghost use Rattle.jc_scenario.specs.WellFormed.{IsWellFormedScenario};
 ghost use Rattle.jc_scenario.specs.Views.{scenario_view};
 
 use jc_dump::dump_replica;
@@ -32,7 +32,7 @@ pub const WORDS: &str =
 
 /// The scenario with this text, which is one.
 pub fn scene(rt: &impl Abort, alloc: Global, text: &str) -> Scenario
-    ensures { IsWellFormed (scenario_view result) }
+    ensures { IsWellFormedScenario (scenario_view result) }
 {
     match read(alloc, text.as_bytes()) {
         Ok(scenario) => scenario,

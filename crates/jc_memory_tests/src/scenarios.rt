@@ -1,6 +1,6 @@
 //! Scenarios read, printed and begun with too little memory.
 
-ghost use Rattle.jc_scenario.specs.Scenarios.{IsWellFormed};
+ghost use Rattle.jc_scenario.specs.WellFormed.{IsWellFormedScenario};
 ghost use Rattle.jc_scenario.specs.Views.{scenario_view};
 
 use crate::attempts::{Attempt, MOST, Outcome, done_if, holds, is_done, refusals};
@@ -70,7 +70,7 @@ enum Made {
 }
 
 fn made_of(alloc: Global, scenario: &Scenario, made: Made) -> Outcome
-    requires { IsWellFormed (scenario_view scenario.now) }
+    requires { IsWellFormedScenario (scenario_view scenario.now) }
 {
     match made {
         Made::Text => match print(alloc, scenario) {
@@ -95,7 +95,7 @@ fn made_with(
     made: Made,
     bytes: usize,
 ) -> Outcome
-    requires { IsWellFormed (scenario_view scenario.now) }
+    requires { IsWellFormedScenario (scenario_view scenario.now) }
 {
     let blocks = leave(rt, alloc, bytes);
     let outcome = made_of(alloc, scenario, made);
@@ -105,7 +105,7 @@ fn made_with(
 
 /// How often it is refused before it is made.
 fn refused(rt: &impl Abort, alloc: Global, scenario: &Scenario, made: Made) -> u64
-    requires { IsWellFormed (scenario_view scenario.now) }
+    requires { IsWellFormedScenario (scenario_view scenario.now) }
 {
     for n in 0..MOST {
         if is_done(rt, made_with(rt, alloc, scenario, made, n * UNIT)) {

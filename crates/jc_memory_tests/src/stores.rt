@@ -4,7 +4,7 @@
 ghost use Rattle.std.specs.Prelude.{◌≡◌, ◌≢◌, ◌+◌, ◌<◌, false, IfOk, OnOk};
 ghost use Rattle.jc_rules.specs.declared.id.Id.{Id as AnyId};
 ghost use Rattle.jc_apply.specs.Fits.{IsUnlinked};
-ghost use Rattle.jc_rules.specs.Shape.{IsChained};
+ghost use Rattle.jc_rules.specs.WellFormed.{IsChained};
 ghost use Rattle.jc_memory_tests.specs.Ready.{IsReady};
 
 use crate::attempts::{MOST, Outcome, done_if, holds, is_done, refused_if};
@@ -222,7 +222,7 @@ fn is_applied<S: TreeStore>(
 
 /// Applies the operation that comes after so many, once there is enough memory. Says how often there was too little.
 /// Then document and trace were as before.
-#[tactic(auto, using(crate::proofs::Made::ready_on))]
+#[tactic(auto, using(crate::proofs::MadeLemmas::ready_on))]
 fn applied_at_last<S: TreeStore>(
     rt: &impl Abort,
     alloc: Global,
@@ -347,7 +347,7 @@ fn refused_values<S: TreeStore>(
 }
 
 /// Clears the document's map with so much memory, or all of the document. Says whether there was enough.
-#[tactic(auto, using(crate::proofs::Made::at_top))]
+#[tactic(auto, using(crate::proofs::MadeLemmas::at_top))]
 fn is_cleared<S: TreeStore>(
     rt: &impl Abort,
     alloc: Global,

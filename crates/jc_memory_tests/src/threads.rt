@@ -6,7 +6,7 @@
 //! room. Where the C library does otherwise, fewer requests are refused, and what must be so after each is the same.
 
 ghost use Rattle.std.specs.Prelude.{None, true};
-ghost use Rattle.jc_scenario.specs.Scenarios.{IsWellFormed};
+ghost use Rattle.jc_scenario.specs.WellFormed.{IsWellFormedScenario};
 ghost use Rattle.jc_scenario.specs.Views.{scenario_view};
 
 use crate::attempts::{Outcome, done_if, holds, is_done, refused_if};
@@ -15,8 +15,8 @@ use crate::due::AnyOf;
 use crate::memory::{SPARE, block, fill_beside_threads, leave};
 use crate::rows::{DELETION, scene};
 use jc_fakes::Bytes;
+use jc_io::ReadFault;
 use jc_program::{Files, work};
-use jc_rules::io::ReadFault;
 use jc_runner::{End, Gate, Report, RunFault, run_threads};
 use jc_scenario::Scenario;
 use std::alloc::{AllocError, Global};
@@ -127,7 +127,7 @@ fn run<R: Threads + Wait + Sync, G: Gate + Send + Drop>(
     scenario: Scenario,
     gates: Vec<G>,
 ) -> Outcome
-    requires { IsWellFormed (scenario_view scenario) }
+    requires { IsWellFormedScenario (scenario_view scenario) }
 {
     match run_threads(rt, alloc, scenario, gates, 100) {
         Ok(report) => {

@@ -6,7 +6,7 @@ use Rattle.jc_rules.specs.Ids.{has_id}
 use Rattle.jc_rules.specs.State.{State}
 use Rattle.jc_rules.specs.Syntax.{Cmd}
 use Rattle.jc_rules.specs.Table.{both}
-use Rattle.jc_sets.specs.States.{kept_op}
+use Rattle.jc_vectors.specs.StoredStates.{stored_op}
 use Rattle.jc_replica.specs.Operations.{AreInOrder}
 use Rattle.jc_network.specs.Laws.{IsReached}
 
@@ -18,7 +18,7 @@ applied_ops A = filter (λ o. has_id o.id A.ops) (both A.queue A.recv)
 pub record IsApplied (network : List State) (p : ℕ) (ops : List Op) : Type 0 where
   pub at : State
   pub there : slice_get network p ≡ Some at
-  pub ops_are : ops ≡ map kept_op (applied_ops at)
+  pub ops_are : ops ≡ map stored_op (applied_ops at)
 
 -- the identifiers that replica p has applied
 abbrev pub AreAppliedIds : List State → ℕ → List Id → Type 0

@@ -13,8 +13,8 @@ use Rattle.jc_rules.specs.State.{State}
 use Rattle.jc_rules.specs.Step.{Network, StepIn, replica_of}
 use Rattle.jc_rules.specs.Syntax.{Cmd}
 use Rattle.jc_replica.specs.Can.{CanOccur}
-use Rattle.jc_replica.specs.Past.{Past}
-use Rattle.jc_network.specs.Course.{kept_of, of_version}
+use Rattle.jc_replica.specs.ReplicaHistory.{Past}
+use Rattle.jc_network.specs.NetworkHistory.{kept_of, of_version}
 use Rattle.jc_network.specs.Laws.{IsReached}
 
 -- replica p receives from each of the first n replicas
@@ -41,15 +41,15 @@ abbrev pub applyings : ℕ → List Op → List Event
 applyings p os = map (λ o. Apply p o.id) os
 
 -- The events of replica p that are asked for in the network, which has received these operations.
-abbrev pub events_of : Network → ℕ → List Op → List Event
-events_of network p received =
+abbrev pub applyings_of : Network → ℕ → List Op → List Event
+applyings_of network p received =
     Exec p ∷ Send p ∷ receivings p (length network.states) ++ takings network.version p network.states
     ++ applyings p received ++ Done p ∷ []
 
 -- those of these replicas, of which the first one is p
 abbrev pub events_from : Network → ℕ → List State → List Event
 events_from network p [] = []
-events_from network p (A ∷ states) = events_of network p A.recv ++ events_from network (suc p) states
+events_from network p (A ∷ states) = applyings_of network p A.recv ++ events_from network (suc p) states
 
 -- The events that are asked for in a network: of each replica in order exec, send, recv from each replica, in version 2
 -- take of each operation that each replica offers, apply of each operation that it has received, and done.
@@ -127,12 +127,12 @@ pub record Lists (past : Past) (asked old new : List Event) : Type 0 where
   pub those : AreChosen (λ e. CanOccur e past true) (λ e. CanOccur e past false) asked listed
 
 -- the event's replica can make it, or can't
-pub record Tells (pasts : List Past) (can : Bool) (event : Event) : Type 0 where
+pub record TellsEnabled (pasts : List Past) (can : Bool) (event : Event) : Type 0 where
   pub past : Past
   pub there : slice_get pasts (replica_of event) ≡ Some past
   pub answer : CanOccur event past can
 
 -- Of the events that are asked for just those are listed that their replicas can make.
-abbrev pub AreTold : Version → List Past → List Event → Type 0
-AreTold version pasts listed =
-    AreChosen (Tells pasts true) (Tells pasts false) (candidates (of_version version (kept_of pasts))) listed
+abbrev pub AreEnabledAsKnown : Version → List Past → List Event → Type 0
+AreEnabledAsKnown version pasts listed =
+    AreChosen (TellsEnabled pasts true) (TellsEnabled pasts false) (candidates (of_version version (kept_of pasts))) listed

@@ -4,19 +4,19 @@ use Rattle.jc_rules.specs.declared.operation.Event.{Event}
 use Rattle.jc_rules.specs.Refused.{Cause, IsStuckIn}
 use Rattle.jc_rules.specs.Step.{Network, AfterIn}
 use Rattle.jc_rules.specs.Syntax.{Cmd}
-use Rattle.jc_scenario.specs.Scenarios.{Scenario}
+use Rattle.jc_scenario.specs.WellFormed.{Scenario}
 use Rattle.jc_network.specs.declared.fault.Stuck.{Stuck}
-use Rattle.jc_network.specs.Course.{Course, of_version}
+use Rattle.jc_network.specs.NetworkHistory.{Course, of_version}
 use Rattle.jc_network.specs.Laws.{starts, IsReached}
-use Rattle.jc_network.specs.Makes.{stuck_for}
+use Rattle.jc_network.specs.Steps.{stuck_for}
 
 -- before the given events: each replica with its script, in the scenario's version
-abbrev pub bare : Scenario → Network
-bare s = of_version s.version (starts s.scripts)
+abbrev pub before_given : Scenario → Network
+before_given s = of_version s.version (starts s.scripts)
 
 -- the given events have led there
 abbrev pub IsStart : Scenario → Network → Type 0
-IsStart s network = AfterIn (bare s) s.given network
+IsStart s network = AfterIn (before_given s) s.given network
 
 -- It is at the start of the scenario, and no step was made.
 pub record IsStarted (s : Scenario) (c : Course) : Type 0 where

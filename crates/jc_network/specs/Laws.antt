@@ -7,14 +7,14 @@ use Rattle.jc_rules.specs.declared.operation.Event.TheVariants.{Apply}
 use Rattle.jc_rules.specs.declared.rule.Rule.{Rule}
 use Rattle.jc_rules.specs.Ids.{has_id, AreIn}
 use Rattle.jc_rules.specs.Sound.{IsSound, IsRooted}
-use Rattle.jc_rules.specs.Shape.{IsChained}
+use Rattle.jc_rules.specs.WellFormed.{IsChained}
 use Rattle.jc_rules.specs.State.{State, start}
 use Rattle.jc_rules.specs.Step.{Step, After}
 use Rattle.jc_rules.specs.Syntax.{Cmd, Yield}
 use Rattle.jc_rules.specs.Table.{op_of}
 use Rattle.jc_rules.specs.Refused.{Cause, IsStuck}
 use Rattle.jc_apply.specs.Fits.{IsUnlinked}
-use Rattle.jc_network.specs.Network.{commands_left}
+use Rattle.jc_network.specs.RunInvariant.{commands_left}
 
 -- the network at the start, one script for each replica
 abbrev pub starts : List (List Cmd) → List State
@@ -25,9 +25,9 @@ abbrev pub IsReached : List (List Cmd) → List State → Type 0
 IsReached scripts network = (events : List Event) × After (starts scripts) events network
 
 -- the operations in all queues, all that are offered and all that were received
-abbrev pub held : List State → List Op
-held [] = []
-held (A ∷ network) = A.queue ++ (A.send ++ (A.recv ++ held network))
+abbrev pub ops_held : List State → List Op
+ops_held [] = []
+ops_held (A ∷ network) = A.queue ++ (A.send ++ (A.recv ++ ops_held network))
 
 -- Each identifier that a replica has applied is that of an operation that it made or received, and what that
 -- operation depends on is applied too.
@@ -45,8 +45,8 @@ abbrev pub HeldIsSound : Type 0
 HeldIsSound =
     (scripts : List (List Cmd)) (network : List State)
     → IsReached scripts network
-    → IsSound (held network)
-    × IsRooted (held network)
+    → IsSound (ops_held network)
+    × IsRooted (ops_held network)
     × ((A : State) → Contains network A → AreApplied A)
 
 -- What a replica offers it made itself.
@@ -65,11 +65,11 @@ CountersAreRun =
     (scripts : List (List Cmd)) (network : List State)
     → IsReached scripts network
     → (o : Op)
-    → Contains (held network) o
+    → Contains (ops_held network) o
     → o.id.counter + commands_left network ≤ commands_left (starts scripts)
 
 -- At a yield of replica p the operation i was received and isn't applied, though its dependencies are.
-pub record IsDueAt (network : List State) (p : ℕ) (i : Id) : Type 0 where
+pub record IsOpDueAt (network : List State) (p : ℕ) (i : Id) : Type 0 where
   pub at : State
   pub there : slice_get network p ≡ Some at
   pub rest : List Cmd
@@ -85,7 +85,7 @@ AppliesAtYield =
     (scripts : List (List Cmd)) (network : List State)
     → IsReached scripts network
     → (p : ℕ) (i : Id)
-    → IsDueAt network p i
+    → IsOpDueAt network p i
     → (new : List State)
     × (rows : List (Rule × ℕ))
     × Step network (Apply p i) new rows
@@ -96,7 +96,7 @@ NeverStuckAtYield =
     (scripts : List (List Cmd)) (network : List State)
     → IsReached scripts network
     → (p : ℕ) (i : Id)
-    → IsDueAt network p i
+    → IsOpDueAt network p i
     → (why : Cause)
     → IsStuck network (Apply p i) why
     → ⊥

@@ -13,10 +13,10 @@ use Rattle.jc_rules.specs.declared.operation.Cursor.{Cursor}
 use Rattle.jc_rules.specs.Order.{key_cmp}
 use Rattle.jc_rules.specs.Entries.{find}
 use Rattle.jc_rules.specs.Ids.{has_id}
-use Rattle.jc_rules.specs.Places.{IsAtOrAbove}
+use Rattle.jc_rules.specs.ContextsAt.{IsAtOrAbove}
 use Rattle.jc_rules.specs.Sound.{IsInsert}
 use Rattle.jc_rules.specs.State.{Bound, ACursor, Names, Pairs}
-use Rattle.jc_network.specs.Everywhere.{Links}
+use Rattle.jc_network.specs.LinksEverywhere.{LinksHold}
 use Rattle.jc_rules.specs.Paths.{HasContext}
 
 -- a path that ends in a list
@@ -50,7 +50,7 @@ IsRootedBound In ops (Pairs vs) = Unit {0}
 
 -- The links of the context at P: only lists have some, each key may stand there, what follows a key has a link too,
 -- and a list's head has one.
-pub record AreRightLinks (In : Op → Type 0) (ops : List Id) (P : List Tagged) (n : Links) : Type 0 where
+pub record AreRightLinks (In : Op → Type 0) (ops : List Id) (P : List Tagged) (n : LinksHold) : Type 0 where
   pub keys : AllByRecursion (λ e. IsListPath P × IsRootKey In ops P e.0) n
   pub closed : (k : Key) (j : Id) → find key_cmp k n ≡ Some (To j) → find key_cmp (Elem j) n ≢ None
   pub headed : IsListPath P → find key_cmp Head n ≢ None

@@ -2,7 +2,7 @@
 use Rattle.std.specs.Prelude.{ℕ, suc, List, [], ◌∷◌}
 use Rattle.jc_rules.specs.State.{start}
 use Rattle.jc_rules.specs.Syntax.{Cmd}
-use Rattle.jc_replica.specs.Past.{Past}
+use Rattle.jc_replica.specs.ReplicaHistory.{Past}
 
 -- a replica at its start for each script, numbered from n
 abbrev pub pasts_from : ℕ → List (List Cmd) → List Past

@@ -2,9 +2,9 @@
 
 ghost use Rattle.std.specs.Prelude.{◌≡◌, ◌≤◌, ◌∷◌, [], length, OnOk, IfOk};
 ghost use Rattle.jc_rules.specs.Step.{replica_of};
-ghost use Rattle.jc_network.specs.Course.{kept_of, of_version};
-ghost use Rattle.jc_network.specs.Enabled.{receivings, takings_of, takings, applyings, events_of, Lists, AreTold};
-ghost use Rattle.jc_network.specs.Run.{AreNumbered};
+ghost use Rattle.jc_network.specs.NetworkHistory.{kept_of, of_version};
+ghost use Rattle.jc_network.specs.Enabled.{receivings, takings_of, takings, applyings, applyings_of, Lists, AreEnabledAsKnown};
+ghost use Rattle.jc_network.specs.Invariant.{AreNumbered};
 
 use jc_replica::Replica;
 use jc_rules::{Event, Op, Version};
@@ -107,7 +107,7 @@ fn list_events<S: TreeStore>(
 ) -> Result<(), AllocError>
     requires few { length replicas.now ≤ 65535 }
     ensures { OnOk result (Lists replica.now
-        (events_of (of_version version (kept_of replicas.now)) replica.now.number replica.now.now.recv)
+        (applyings_of (of_version version (kept_of replicas.now)) replica.now.number replica.now.now.recv)
         events.old.items events.new.items) }
 {
     let count = replicas.len() as u16;
@@ -129,7 +129,7 @@ pub(crate) fn enabled_in<S: TreeStore>(
 ) -> Result<Vec<Event>, AllocError>
     requires few { length replicas.now ≤ 65535 }
     requires numbered { AreNumbered replicas.now }
-    ensures { IfOk result (λ events. AreTold version replicas.now events.items) }
+    ensures { IfOk result (λ events. AreEnabledAsKnown version replicas.now events.items) }
 {
     let mut events = Vec::new(alloc);
     for replica in replicas {

@@ -4,8 +4,8 @@ ghost use Rattle.jc_network.specs.Applied.{AppliedAreAll};
 ghost use Rattle.jc_network.specs.Enabled.{OthersAreStuck, EnabledHaveSteps};
 ghost use Rattle.jc_network.specs.Given.{OneStart, OneGivenStuck, LedOrStuck};
 ghost use Rattle.jc_network.specs.Laws.{HeldIsSound, OfferedIsOwn, CountersAreRun, AppliesAtYield, NeverStuckAtYield, LinksAreApplied, StepOrStuck};
-ghost use Rattle.jc_network.specs.Run.{OwnCountersAreRun};
-ghost use Rattle.jc_network.specs.Seen.{StartIsSeen, EventSteps, EventIsStuck, OfferedIsHanded};
+ghost use Rattle.jc_network.specs.Invariant.{OwnCountersAreRun};
+ghost use Rattle.jc_network.specs.Refines.{StartIsSeen, EventSteps, EventIsStuck, OfferedIsHanded};
 
 /// In each network that is reached from a start, all operations are a sound and rooted set, and what each replica has
 /// applied is what it made or received, closed under dependencies.
@@ -49,12 +49,12 @@ pub fn step_or_stuck()
     ensures { StepOrStuck }
 {}
 
-/// At the start kept states stand for themselves.
+/// At the start stored states stand for themselves.
 pub fn start_is_seen()
     ensures { StartIsSeen }
 {}
 
-/// What a replica's call makes of the state that it keeps is a step of the network that the kept states stand for.
+/// What a replica's call makes of the state that it keeps is a step of the network that the stored states stand for.
 pub fn event_steps()
     ensures { EventSteps }
 {}

@@ -1,18 +1,18 @@
 //! Networks.
 
 ghost use Rattle.std.specs.Prelude.{◌≡◌, ◌≤◌, ◌++◌, ◌∷◌, ◌↔◌, [], length, slice_get, ℕ, IfOk, IfSome, OnOk, OnErr, IsErrOf, IsTrue, IsFalse, IfNone};
-ghost use Rattle.jc_scenario.specs.Scenarios.{IsWellFormed};
+ghost use Rattle.jc_scenario.specs.WellFormed.{IsWellFormedScenario};
 ghost use Rattle.jc_scenario.specs.Views.{scenario_view};
 ghost use Rattle.jc_network.specs.declared.fault.CompareFault.TheVariants as C;
 ghost use Rattle.jc_network.specs.declared.fault.StartFault.TheVariants as S;
 ghost use Rattle.jc_network.specs.declared.fault.StepFault.TheVariants as E;
 ghost use Rattle.jc_network.specs.declared.fault.Stuck.{Stuck as AnyStuck};
 ghost use Rattle.jc_network.specs.Applied.{IsApplied, AreAppliedIds};
-ghost use Rattle.jc_network.specs.Course.{StepsTo};
+ghost use Rattle.jc_network.specs.NetworkHistory.{StepsTo};
 ghost use Rattle.jc_network.specs.Enabled.{AreEnabled, candidates};
-ghost use Rattle.jc_network.specs.Given.{bare, IsStarted, IsGivenFault};
-ghost use Rattle.jc_network.specs.Makes.{IsStuckFor, HasReplica};
-ghost use Rattle.jc_network.specs.Run.{IsFromStart, HasBegun};
+ghost use Rattle.jc_network.specs.Given.{before_given, IsStarted, IsGivenFault};
+ghost use Rattle.jc_network.specs.Steps.{IsStuckFor, HasReplica};
+ghost use Rattle.jc_network.specs.Invariant.{IsFromStart, HasBegun};
 ghost use Rattle.jc_rules.specs.Step.{AfterIn};
 
 use crate::applied::{applied_ids_of, applied_of};
@@ -41,8 +41,8 @@ pub struct Net {
 
 impl Model for Net {
     ghost use Rattle.std.specs.Prelude.{length, reverse};
-    ghost use Rattle.jc_network.specs.Course.{Course, course_code, course_of};
-    ghost use Rattle.jc_network.specs.Run.{IsKeptNet};
+    ghost use Rattle.jc_network.specs.NetworkHistory.{Course, course_code, course_of};
+    ghost use Rattle.jc_network.specs.Invariant.{IsKeptNet};
 
     ghost Value = { Course };
 
@@ -59,10 +59,10 @@ impl Net {
     ///
     /// `Given` exactly where no network is the start, with the first given event that is stuck.
     pub fn start(alloc: Global, scenario: &Scenario) -> Result<Self, StartFault>
-        requires { IsWellFormed (scenario_view scenario.now) }
+        requires { IsWellFormedScenario (scenario_view scenario.now) }
         ensures started { IfOk result (λ net. IsStarted (scenario_view scenario.now) net) }
         ensures given { (at : ℕ) (s : AnyStuck) → IsErrOf result (S.Given at s)
-            → IsGivenFault (bare (scenario_view scenario.now)) (scenario_view scenario.now).given at s }
+            → IsGivenFault (before_given (scenario_view scenario.now)) (scenario_view scenario.now).given at s }
     {
         let names = copy_names(alloc, &scenario.names)?;
         let replicas = replicas_of(alloc, &scenario.scripts)?;

@@ -3,10 +3,10 @@
 ghost use Rattle.std.specs.Prelude.{◌≡◌, ◌<◌, ◌≤◌, ℕ, length, slice_get, MatchBool};
 ghost use Rattle.jc_rules.specs.declared.refusal.Refusal.TheVariants.{NoSuchReplica as Missing, WrongVersion as OfAnother};
 ghost use Rattle.jc_rules.specs.Refused.{because};
-ghost use Rattle.jc_replica.specs.Answers.{Answers, cause_of};
+ghost use Rattle.jc_replica.specs.Answers.{AnswersEvent, fault_cause_of};
 ghost use Rattle.jc_replica.specs.Operations.{AreInOrder, AreHanded, AreOfOne};
-ghost use Rattle.jc_network.specs.Makes.{Makes, Acts, Moves, AllHand, AllOwn, HasReplicas, IsMissing, fault_for, stuck_for, sent_by, sender_of, reading};
-ghost use Rattle.jc_network.specs.Run.{AreNumbered};
+ghost use Rattle.jc_network.specs.Steps.{MakesStep, ActsReplica, Moves, AllHand, AllOwn, HasReplicas, IsMissing, fault_for, stuck_for, sent_by, sender_of, receiving_event};
+ghost use Rattle.jc_network.specs.Invariant.{AreNumbered};
 
 use crate::fault::{StepFault, Stuck};
 use jc_replica::{Replica, ReplicaFault};
@@ -62,7 +62,7 @@ fn are_there(event: &Event, replicas: &[Replica<ArenaTree>]) -> bool
 
 /// What the replica's refusal of the event is for the network.
 fn step_fault(fault: ReplicaFault, event: Event) -> StepFault
-    ensures { result ≡ fault_for (cause_of fault) event }
+    ensures { result ≡ fault_for (fault_cause_of fault) event }
 {
     let (refusal, key) = match fault {
         ReplicaFault::NotInList => (Refusal::NotInList, None),
@@ -97,7 +97,7 @@ pub(crate) fn make(
     requires numbered { AreNumbered replicas.old }
     requires hand { AllHand replicas.old }
     requires own { AllOwn replicas.old }
-    ensures { Makes version event.now replicas.old replicas.new result }
+    ensures { MakesStep version event.now replicas.old replicas.new result }
 {
     if !are_there(event, replicas) {
         return Err(StepFault::Stuck(missing(*event)));
@@ -117,7 +117,7 @@ fn act(replicas: &mut [Replica<ArenaTree>], event: &Event) -> Result<Trace, Repl
     requires hand { AllHand replicas.old }
     requires own { AllOwn replicas.old }
     requires there { HasReplicas event.now replicas.old }
-    ensures { Acts event.now replicas.old replicas.new result }
+    ensures { ActsReplica event.now replicas.old replicas.new result }
 {
     match event {
         Event::Exec(p) => replicas[usize::from(*p)].exec(),
@@ -138,7 +138,7 @@ fn read_from(
     requires order { AreInOrder offered.now }
     requires handed { AreHanded offered.now }
     requires own { AreOfOne offered.now }
-    ensures { (q : ℕ) → Answers (reading q id replica.old.number) offered.now replica.old replica.new result }
+    ensures { (q : ℕ) → AnswersEvent (receiving_event q id replica.old.number) offered.now replica.old replica.new result }
 {
     match id {
         None => replica.recv(offered),
@@ -149,7 +149,7 @@ fn read_from(
 /// The same of what it offers itself.
 fn read_own(replica: &mut Replica<ArenaTree>, id: Option<Id>) -> Result<Trace, ReplicaFault>
     requires { AreHanded replica.old.now.send }
-    ensures { Answers (reading replica.old.number id replica.old.number) replica.old.now.send
+    ensures { AnswersEvent (receiving_event replica.old.number id replica.old.number) replica.old.now.send
         replica.old replica.new result }
 {
     match id {
@@ -171,7 +171,7 @@ fn receive(
     requires own { AllOwn replicas.old }
     requires receiver { p < length replicas.old }
     requires sender { q < length replicas.old }
-    ensures { Moves p (reading q id p) (sent_by (slice_get replicas.old q)) replicas.old replicas.new result }
+    ensures { Moves p (receiving_event q id p) (sent_by (slice_get replicas.old q)) replicas.old replicas.new result }
 {
     let to = usize::from(p);
     let from = usize::from(q);

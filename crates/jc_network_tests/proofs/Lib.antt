@@ -1,1 +1,1 @@
-pub mod Gating
+pub mod GatingLemmas

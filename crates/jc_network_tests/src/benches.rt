@@ -2,7 +2,7 @@
 
 ghost use Rattle.std.specs.Prelude.{◌≡◌, All, IfOk};
 ghost use Rattle.jc_rules.specs.Step.{replica_of};
-ghost use Rattle.jc_scenario.specs.Scenarios.{IsWellFormed};
+ghost use Rattle.jc_scenario.specs.WellFormed.{IsWellFormedScenario};
 ghost use Rattle.jc_scenario.specs.Views.{scenario_view};
 ghost use Rattle.jc_lock.specs.Shows.{pass_number};
 ghost use Rattle.jc_runner.specs.Benches.{IsPassAt, IsPassFor, IsNewAt};
@@ -181,7 +181,7 @@ fn a_bench_is_filled(rt: HostRuntime) -> Result<(), Fail> {
 
 // The number of the refusal, and which given event is stuck; zeros where there is none.
 fn refusal(alloc: Global, scenario: Scenario, limit: u64) -> (u8, u64)
-    requires { IsWellFormed (scenario_view scenario) }
+    requires { IsWellFormedScenario (scenario_view scenario) }
 {
     match Bench::open(alloc, scenario, limit) {
         Ok(_) => (0, 0),

@@ -3,7 +3,7 @@
 use crate::nets::holds;
 use crate::sessions::{EMPTY, RECEIVED, ends};
 use jc_fakes::{Bytes, FailsAt, OneByte, Taken, TakesUpTo, Then};
-use jc_rules::io::Source;
+use jc_io::Source;
 use std::process::Abort;
 use std::test::Fail;
 

@@ -78,7 +78,7 @@ pub struct Own<'a> {
 impl<'a> Gate for Own<'a> {
     ghost asked = { λ g. if g.right then Some (questions_of g.replica g.times) else None };
 
-    #[tactic(auto, using(crate::proofs::Gating::one_more, crate::proofs::Gating::no_more))]
+    #[tactic(auto, using(crate::proofs::GatingLemmas::one_more, crate::proofs::GatingLemmas::no_more))]
     fn before<R: Wait>(&mut self, _rt: &R, replica: u16, step: u64) {
         if self.right && replica == self.replica && step == self.times && step < u64::MAX {
             self.times += 1;

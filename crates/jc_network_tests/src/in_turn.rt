@@ -3,7 +3,7 @@
 use crate::nets::holds;
 use crate::sessions::{RECEIVED, ends};
 use jc_fakes::Taken;
-use jc_rules::io::{Failed, Sink, Source};
+use jc_io::{Failed, Sink, Source};
 use std::cell::Cell;
 
 const LINES: &str = "goto 4\nact b.apply(2, a)\nact b.apply(1, a)\nact b.apply(2, a)\nwhere\n";

@@ -3,7 +3,7 @@
 use crate::nets::holds;
 use crate::sessions::{EMPTY, ends};
 use jc_fakes::{Bytes, Taken};
-use jc_rules::io::{Failed, Source};
+use jc_io::{Failed, Source};
 use std::alloc::{AllocError, Global};
 use std::process::Abort;
 use std::test::Fail;

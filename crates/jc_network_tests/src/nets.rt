@@ -1,7 +1,7 @@
 //! Scenarios, the networks to which their events lead, and what is expected of them.
 
 ghost use Rattle.std.specs.Prelude.{IfOk};
-ghost use Rattle.jc_scenario.specs.Scenarios.{IsWellFormed};
+ghost use Rattle.jc_scenario.specs.WellFormed.{IsWellFormedScenario};
 ghost use Rattle.jc_scenario.specs.Views.{scenario_view};
 
 use jc_dump::dump_replica;
@@ -82,7 +82,7 @@ pub fn holds(rt: &impl Abort, fact: bool) {
 }
 
 pub fn scene(alloc: Global, text: &str) -> Result<Scenario, ScenarioFault>
-    ensures { IfOk result (λ s. IsWellFormed (scenario_view s)) }
+    ensures { IfOk result (λ s. IsWellFormedScenario (scenario_view s)) }
 {
     read(alloc, text.as_bytes())
 }
@@ -120,7 +120,7 @@ pub fn make(rt: &impl Abort, net: &mut Net, events: &[Event]) {
 
 // The network to which the events lead from the scenario's start, which there is. None of them is refused.
 fn led_to(rt: &impl Abort, alloc: Global, scenario: &Scenario, events: &[Event]) -> Net
-    requires { IsWellFormed (scenario_view scenario.now) }
+    requires { IsWellFormedScenario (scenario_view scenario.now) }
 {
     let mut net = Net::start(alloc, scenario).ok().expect(rt, "a start");
     make(rt, &mut net, events);
@@ -141,7 +141,7 @@ pub fn run(rt: &impl Abort, alloc: Global, text: &str) -> Result<Net, Fail> {
 
 /// Which given event of the scenario is stuck, and the number of its refusal; zeros where there is a start.
 pub fn stuck_given(alloc: Global, scenario: &Scenario) -> (u64, u8)
-    requires { IsWellFormed (scenario_view scenario.now) }
+    requires { IsWellFormedScenario (scenario_view scenario.now) }
 {
     match Net::start(alloc, scenario) {
         Ok(_) => (0, 0),

@@ -1,7 +1,7 @@
 //! Threads that really run.
 
 ghost use Rattle.std.specs.Prelude.{IfOk};
-ghost use Rattle.jc_scenario.specs.Scenarios.{IsWellFormed};
+ghost use Rattle.jc_scenario.specs.WellFormed.{IsWellFormedScenario};
 ghost use Rattle.jc_scenario.specs.Views.{scenario_view};
 ghost use Rattle.jc_runner.specs.Laws.{with_schedule};
 
@@ -27,7 +27,7 @@ fn report<R: Threads + Wait + Sync + Abort, G: Gate + Send + Drop>(
     gates: Vec<G>,
     limit: u64,
 ) -> Result<Report, Fail>
-    ensures { IfOk result (λ r. IsWellFormed (with_schedule (scenario_view r.start) r.schedule.items)) }
+    ensures { IfOk result (λ r. IsWellFormedScenario (with_schedule (scenario_view r.start) r.schedule.items)) }
 {
     let scenario = scene(alloc, text)?;
     match run_threads(rt, alloc, scenario, gates, limit) {
@@ -70,7 +70,7 @@ fn made_and_ended(rt: &impl Abort, report: &Report, want: &[(Option<u64>, Ends)]
 
 /// The text of a scenario with the replicas of one and another schedule.
 fn text_of(alloc: Global, start: Scenario, schedule: Vec<Event>) -> Result<String, AllocError>
-    requires { IsWellFormed (with_schedule (scenario_view start) schedule.items) }
+    requires { IsWellFormedScenario (with_schedule (scenario_view start) schedule.items) }
 {
     let mut recorded = start;
     recorded.schedule = schedule;
@@ -85,7 +85,7 @@ fn leads_to(rt: &impl Abort, alloc: Global, text: &str, net: &Net) -> Result<(),
 
 /// The text of the recorded scenario leads again to the report's network.
 fn runs_again(rt: &impl Abort, alloc: Global, report: Report) -> Result<(), Fail>
-    requires { IsWellFormed (with_schedule (scenario_view report.start) report.schedule.items) }
+    requires { IsWellFormedScenario (with_schedule (scenario_view report.start) report.schedule.items) }
 {
     let Report {
         net,
@@ -127,7 +127,7 @@ fn is_wanted(rt: &impl Abort, report: &Report, want: &Want) {
 
 /// The report is the one that is expected, and its schedule runs again.
 fn is_so(rt: &impl Abort, alloc: Global, report: Report, want: &Want) -> Result<(), Fail>
-    requires { IsWellFormed (with_schedule (scenario_view report.start) report.schedule.items) }
+    requires { IsWellFormedScenario (with_schedule (scenario_view report.start) report.schedule.items) }
 {
     is_wanted(rt, &report, want);
     runs_again(rt, alloc, report)
@@ -333,7 +333,7 @@ fn runs_end(rt: HostRuntime) -> Result<(), Fail> {
 
 /// Where the second replica meets its list too early, it is stuck there; the first one finishes.
 fn first_finishes(rt: &impl Abort, alloc: Global, report: Report) -> Result<(), Fail>
-    requires { IsWellFormed (with_schedule (scenario_view report.start) report.schedule.items) }
+    requires { IsWellFormedScenario (with_schedule (scenario_view report.start) report.schedule.items) }
 {
     holds(
         rt,
@@ -360,7 +360,7 @@ fn many(alloc: Global, replicas: u16) -> Result<String, AllocError> {
 
 /// Each of the 64 has made its event, and the schedule runs again.
 fn each_has_run(rt: &impl Abort, alloc: Global, report: Report) -> Result<(), Fail>
-    requires { IsWellFormed (with_schedule (scenario_view report.start) report.schedule.items) }
+    requires { IsWellFormedScenario (with_schedule (scenario_view report.start) report.schedule.items) }
 {
     made_and_ended(rt, &report, &[(Some(1), Ends::Finished); 64]);
     for p in 0..64 {

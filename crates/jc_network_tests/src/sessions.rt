@@ -1,7 +1,7 @@
 //! What sessions are made of, and how they end.
 
 use crate::nets::holds;
-use jc_rules::io::{Sink, Source};
+use jc_io::{Sink, Source};
 use jc_session::{SessionEnd, SessionFault, session};
 use std::process::Abort;
 

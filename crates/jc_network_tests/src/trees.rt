@@ -1,7 +1,7 @@
 //! Trees that differ in one entry, or in none but empty presence sets.
 
 ghost use Rattle.std.specs.Prelude.{IfOk};
-ghost use Rattle.jc_rules.specs.Shape.{IsKeptRegister};
+ghost use Rattle.jc_rules.specs.WellFormed.{IsWellFormedRegister};
 
 use jc_meaning::same_tree;
 use jc_rules::{Id, Key, Next, Tagged, Value};
@@ -75,7 +75,7 @@ fn link<S: TreeStore>(
 }
 
 fn values(alloc: Global, id: Option<Id>) -> Result<Vec<(Id, Value)>, AllocError>
-    ensures { IfOk result (λ pairs. IsKeptRegister pairs.items) }
+    ensures { IfOk result (λ pairs. IsWellFormedRegister pairs.items) }
 {
     match id {
         Some(id) => Ok(vec![in alloc; (id, Value::True)]?),
@@ -89,7 +89,7 @@ fn put_values<S: TreeStore>(
     at: &[Tagged],
     pairs: Vec<(Id, Value)>,
 ) -> Result<(), AllocError>
-    requires { IsKeptRegister pairs.items }
+    requires { IsWellFormedRegister pairs.items }
 {
     assert!(rt; is_place(store, at));
     store.set_register(at, &Key::Doc, pairs)

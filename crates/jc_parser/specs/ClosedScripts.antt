@@ -4,7 +4,7 @@ use Rattle.jc_syntax.specs.declared.token.Token.{Token}
 use Rattle.jc_rules.specs.Syntax.{Cmd}
 use Rattle.jc_parser.specs.declared.fault.ScenarioFault.{ScenarioFault}
 use Rattle.jc_parser.specs.Symbols.{Symbol, close_brace, Lexeme, lexemes, symbols}
-use Rattle.jc_parser.specs.Reading.{Reading, reading}
+use Rattle.jc_parser.specs.ReaderState.{Reading, reading_of}
 use Rattle.jc_parser.specs.Sentences.{IsStopped}
 use Rattle.jc_parser.specs.Scripts.{IsScriptSpelled, IsScriptWellFormed, IsScriptExcess}
 
@@ -12,7 +12,7 @@ abbrev pub IsClosedSpelled : List Cmd → List Symbol → Type 0
 IsClosedSpelled script w = (u : List Symbol) × IsScriptSpelled script u × (w ≡ u ++ close_brace ∷ [])
 
 -- these lexemes are this script and a closing brace
-pub record IsClosed (script : List Cmd) (ls : List Lexeme) : Type 0 where
+pub record IsClosedScript (script : List Cmd) (ls : List Lexeme) : Type 0 where
   pub spelled : IsClosedSpelled script (symbols ls)
   pub within : IsScriptWellFormed script
 
@@ -21,18 +21,18 @@ pub record IsClosedAhead (ls : List Lexeme) (script : List Cmd) (left : ℕ) : T
   pub before : List Lexeme
   pub after : List Lexeme
   pub parts : ls ≡ before ++ after
-  pub closed : IsClosed script before
+  pub closed : IsClosedScript script before
   pub count : left ≡ length after
 
 -- the tokens from the number `from` up to the number `brace` are this script, and at that number stands a closing brace
 pub record IsScriptAt (text : List ℕ) (tokens : List Token) (from : ℕ) (script : List Cmd) (brace : ℕ) : Type 0 where
   pub ordered : from ≤ brace
   pub inside : brace < length tokens
-  pub closed : IsClosed script (lexemes text (slice_range tokens from (brace + 1)))
+  pub closed : IsClosedScript script (lexemes text (slice_range tokens from (brace + 1)))
 
 -- no script with a closing brace stands at the front of these lexemes
 abbrev pub NoneClosed : List Lexeme → Type 0
-NoneClosed ls = (script : List Cmd) (before after : List Lexeme) → ls ≡ before ++ after → IsClosed script before → ⊥
+NoneClosed ls = (script : List Cmd) (before after : List Lexeme) → ls ≡ before ++ after → IsClosedScript script before → ⊥
 
 -- no script with a closing brace stands at the front of what is left, and its fault is this
 pub record HasNoScript (r : Reading) (fault : ScenarioFault) : Type 0 where
@@ -41,7 +41,7 @@ pub record HasNoScript (r : Reading) (fault : ScenarioFault) : Type 0 where
 
 -- from the token of this number on stands no script with a closing brace
 abbrev pub IsScriptFaultAt : List ℕ → List Token → ℕ → ScenarioFault → Type 0
-IsScriptFaultAt text tokens from fault = HasNoScript (reading text (drop from tokens)) fault
+IsScriptFaultAt text tokens from fault = HasNoScript (reading_of text (drop from tokens)) fault
 
 -- ---- what these definitions promise
 

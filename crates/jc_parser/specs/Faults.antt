@@ -2,7 +2,7 @@
 use Rattle.std.specs.Prelude.{◌≡◌, ℕ, Option, Some, None, List}
 use Rattle.jc_rules.specs.declared.refusal.Refusal.{Refusal}
 use Rattle.jc_rules.specs.declared.refusal.Refusal.TheVariants as refusals
-use Rattle.jc_syntax.specs.Faults.{shown_at}
+use Rattle.jc_syntax.specs.Faults.{lex_fault_line}
 use Rattle.jc_syntax.specs.declared.fault.LexFault.{LexFault}
 use Rattle.jc_syntax.specs.declared.fault.LexFault.TheVariants as lexical
 use Rattle.jc_parser.specs.declared.parse_fault.ParseFault.{ParseFault}
@@ -10,74 +10,74 @@ use Rattle.jc_parser.specs.declared.parse_fault.ParseFault.TheVariants as senten
 use Rattle.jc_parser.specs.declared.fault.ScenarioFault.{ScenarioFault}
 use Rattle.jc_parser.specs.declared.fault.ScenarioFault.TheVariants.{BadByte, OpenString, BadEscape, LoneSurrogate, BadNumber, TextTooLong, Unexpected, EndOfText, IndexTooLarge, ReservedName, TooManyCommands, TooLongExpression, NotUtf8, NoHeader, SameName, NoReplica, TooManyReplicas, UnknownReplica, TooManyEvents, Memory}
 
-abbrev pub number_of : ScenarioFault → Option ℕ
-number_of (BadByte place) = Some 1
-number_of (OpenString place) = Some 2
-number_of (BadEscape place) = Some 3
-number_of (LoneSurrogate place) = Some 4
-number_of (BadNumber place) = Some 5
-number_of (TextTooLong place) = Some 6
-number_of (Unexpected place) = Some 7
-number_of (EndOfText place) = Some 8
-number_of (IndexTooLarge place) = Some 9
-number_of (ReservedName place) = Some 10
-number_of (TooManyCommands place) = Some 11
-number_of (TooLongExpression place) = Some 12
-number_of (NotUtf8 place) = Some 13
-number_of (NoHeader place) = Some 14
-number_of (SameName place) = Some 15
-number_of (NoReplica place) = Some 16
-number_of (TooManyReplicas place) = Some 17
-number_of (UnknownReplica place) = Some 18
-number_of (TooManyEvents place) = Some 19
-number_of Memory = None
+abbrev pub fault_number : ScenarioFault → Option ℕ
+fault_number (BadByte place) = Some 1
+fault_number (OpenString place) = Some 2
+fault_number (BadEscape place) = Some 3
+fault_number (LoneSurrogate place) = Some 4
+fault_number (BadNumber place) = Some 5
+fault_number (TextTooLong place) = Some 6
+fault_number (Unexpected place) = Some 7
+fault_number (EndOfText place) = Some 8
+fault_number (IndexTooLarge place) = Some 9
+fault_number (ReservedName place) = Some 10
+fault_number (TooManyCommands place) = Some 11
+fault_number (TooLongExpression place) = Some 12
+fault_number (NotUtf8 place) = Some 13
+fault_number (NoHeader place) = Some 14
+fault_number (SameName place) = Some 15
+fault_number (NoReplica place) = Some 16
+fault_number (TooManyReplicas place) = Some 17
+fault_number (UnknownReplica place) = Some 18
+fault_number (TooManyEvents place) = Some 19
+fault_number Memory = None
 
-abbrev pub place_of : ScenarioFault → Option ℕ
-place_of (BadByte place) = Some place
-place_of (OpenString place) = Some place
-place_of (BadEscape place) = Some place
-place_of (LoneSurrogate place) = Some place
-place_of (BadNumber place) = Some place
-place_of (TextTooLong place) = Some place
-place_of (Unexpected place) = Some place
-place_of (EndOfText place) = Some place
-place_of (IndexTooLarge place) = Some place
-place_of (ReservedName place) = Some place
-place_of (TooManyCommands place) = Some place
-place_of (TooLongExpression place) = Some place
-place_of (NotUtf8 place) = Some place
-place_of (NoHeader place) = Some place
-place_of (SameName place) = Some place
-place_of (NoReplica place) = Some place
-place_of (TooManyReplicas place) = Some place
-place_of (UnknownReplica place) = Some place
-place_of (TooManyEvents place) = Some place
-place_of Memory = None
+abbrev pub fault_offset : ScenarioFault → Option ℕ
+fault_offset (BadByte place) = Some place
+fault_offset (OpenString place) = Some place
+fault_offset (BadEscape place) = Some place
+fault_offset (LoneSurrogate place) = Some place
+fault_offset (BadNumber place) = Some place
+fault_offset (TextTooLong place) = Some place
+fault_offset (Unexpected place) = Some place
+fault_offset (EndOfText place) = Some place
+fault_offset (IndexTooLarge place) = Some place
+fault_offset (ReservedName place) = Some place
+fault_offset (TooManyCommands place) = Some place
+fault_offset (TooLongExpression place) = Some place
+fault_offset (NotUtf8 place) = Some place
+fault_offset (NoHeader place) = Some place
+fault_offset (SameName place) = Some place
+fault_offset (NoReplica place) = Some place
+fault_offset (TooManyReplicas place) = Some place
+fault_offset (UnknownReplica place) = Some place
+fault_offset (TooManyEvents place) = Some place
+fault_offset Memory = None
 
-abbrev pub refusal_of : ScenarioFault → Option Refusal
-refusal_of (BadByte place) = Some refusals.BadByte
-refusal_of (OpenString place) = Some refusals.OpenString
-refusal_of (BadEscape place) = Some refusals.BadEscape
-refusal_of (LoneSurrogate place) = Some refusals.LoneSurrogate
-refusal_of (BadNumber place) = Some refusals.BadNumber
-refusal_of (TextTooLong place) = Some refusals.TextTooLong
-refusal_of (Unexpected place) = Some refusals.Unexpected
-refusal_of (EndOfText place) = Some refusals.EndOfText
-refusal_of (IndexTooLarge place) = Some refusals.IndexTooLarge
-refusal_of (ReservedName place) = Some refusals.ReservedName
-refusal_of (TooManyCommands place) = Some refusals.TooManyCommands
-refusal_of (TooLongExpression place) = Some refusals.TooLongExpression
-refusal_of (NotUtf8 place) = Some refusals.NotUtf8
-refusal_of (NoHeader place) = Some refusals.NoHeader
-refusal_of (SameName place) = Some refusals.SameName
-refusal_of (NoReplica place) = Some refusals.NoReplica
-refusal_of (TooManyReplicas place) = Some refusals.TooManyReplicas
-refusal_of (UnknownReplica place) = Some refusals.UnknownReplica
-refusal_of (TooManyEvents place) = Some refusals.TooManyEvents
-refusal_of Memory = None
+abbrev pub parse_refusal : ScenarioFault → Option Refusal
+parse_refusal (BadByte place) = Some refusals.BadByte
+parse_refusal (OpenString place) = Some refusals.OpenString
+parse_refusal (BadEscape place) = Some refusals.BadEscape
+parse_refusal (LoneSurrogate place) = Some refusals.LoneSurrogate
+parse_refusal (BadNumber place) = Some refusals.BadNumber
+parse_refusal (TextTooLong place) = Some refusals.TextTooLong
+parse_refusal (Unexpected place) = Some refusals.Unexpected
+parse_refusal (EndOfText place) = Some refusals.EndOfText
+parse_refusal (IndexTooLarge place) = Some refusals.IndexTooLarge
+parse_refusal (ReservedName place) = Some refusals.ReservedName
+parse_refusal (TooManyCommands place) = Some refusals.TooManyCommands
+parse_refusal (TooLongExpression place) = Some refusals.TooLongExpression
+parse_refusal (NotUtf8 place) = Some refusals.NotUtf8
+parse_refusal (NoHeader place) = Some refusals.NoHeader
+parse_refusal (SameName place) = Some refusals.SameName
+parse_refusal (NoReplica place) = Some refusals.NoReplica
+parse_refusal (TooManyReplicas place) = Some refusals.TooManyReplicas
+parse_refusal (UnknownReplica place) = Some refusals.UnknownReplica
+parse_refusal (TooManyEvents place) = Some refusals.TooManyEvents
+parse_refusal Memory = None
 
-abbrev pub text_of : ScenarioFault → List ℕ
-text_of fault = shown_at (refusal_of fault) (place_of fault)
+abbrev pub parse_fault_text : ScenarioFault → List ℕ
+parse_fault_text fault = lex_fault_line (parse_refusal fault) (fault_offset fault)
 
 -- a lexical fault of a scenario's text
 abbrev pub from_lexer : LexFault → ScenarioFault

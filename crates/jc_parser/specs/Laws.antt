@@ -2,7 +2,7 @@
 use Rattle.std.specs.Prelude.{◌≡◌, ◌⊎◌, ℕ, List}
 use Rattle.jc_rules.specs.Syntax.{Expr, Cmd}
 use Rattle.jc_parser.specs.declared.fault.ScenarioFault.{ScenarioFault}
-use Rattle.jc_parser.specs.LanguageFaults.{IsExpressionOf, IsExpressionFault}
+use Rattle.jc_parser.specs.ExpressionFaults.{IsExpressionOf, IsExpressionFault}
 use Rattle.jc_parser.specs.Scripts.{IsScriptOf, IsScriptFault}
 
 -- A text is one expression at most.

@@ -7,9 +7,9 @@ use Rattle.jc_rules.specs.Syntax.{Expr, TheDoc, Variable, GetKey, Index, KeysOf,
 use Rattle.jc_parser.specs.declared.fault.ScenarioFault.{ScenarioFault}
 use Rattle.jc_parser.specs.declared.fault.ScenarioFault.TheVariants.{ReservedName, TooManyCommands}
 use Rattle.jc_parser.specs.Symbols.{Symbol, word, dot, open_paren, close_paren, open_brace, close_brace, open_bracket, close_bracket, assign, equals, Lexeme}
-use Rattle.jc_parser.specs.Words.{is_reserved, IsValueText, IsListText, IsStartText}
-use Rattle.jc_parser.specs.Language.{IsSpelled, IsWellFormed}
-use Rattle.jc_parser.specs.LanguageFaults.{IsExpressionExcess}
+use Rattle.jc_parser.specs.ReservedWords.{is_reserved, IsValueText, IsListText, IsStartText}
+use Rattle.jc_parser.specs.Expressions.{IsExpressionText, IsWellFormedExpression}
+use Rattle.jc_parser.specs.ExpressionFaults.{IsExpressionExcess}
 use Rattle.jc_parser.specs.Sentences.{IsSentence, IsSentenceFault}
 
 -- ---- commands
@@ -20,35 +20,35 @@ IsValueSpelled values.EmptyList w = w ≡ open_bracket ∷ close_bracket ∷ []
 IsValueSpelled v w = IsValueText v w
 
 -- `let` and `yield` are keywords at a command's start, and no variables
-abbrev pub Leads : Expr → Type 0
-Leads TheDoc = Unit {0}
-Leads (Variable name) = (bytes_eq name (codes "let") ≡ false) × (bytes_eq name (codes "yield") ≡ false)
-Leads (GetKey e key) = Leads e
-Leads (Index e i) = Leads e
-Leads (KeysOf e) = Leads e
-Leads (ValuesOf e) = Leads e
+abbrev pub LeadsToPlace : Expr → Type 0
+LeadsToPlace TheDoc = Unit {0}
+LeadsToPlace (Variable name) = (bytes_eq name (codes "let") ≡ false) × (bytes_eq name (codes "yield") ≡ false)
+LeadsToPlace (GetKey e key) = LeadsToPlace e
+LeadsToPlace (Index e i) = LeadsToPlace e
+LeadsToPlace (KeysOf e) = LeadsToPlace e
+LeadsToPlace (ValuesOf e) = LeadsToPlace e
 
 abbrev pub IsCommandSpelled : Cmd → List Symbol → Type 0
 IsCommandSpelled Yield w = w ≡ word (codes "yield") ∷ []
 IsCommandSpelled (LetIn name e) w =
-    (u : List Symbol) × IsSpelled e u × (w ≡ word (codes "let") ∷ word name ∷ equals ∷ u)
+    (u : List Symbol) × IsExpressionText e u × (w ≡ word (codes "let") ∷ word name ∷ equals ∷ u)
 IsCommandSpelled (SetTo e v) w =
-    (x : List Symbol) × (y : List Symbol) × Leads e × IsSpelled e x × IsValueSpelled v y × (w ≡ x ++ assign ∷ y)
+    (x : List Symbol) × (y : List Symbol) × LeadsToPlace e × IsExpressionText e x × IsValueSpelled v y × (w ≡ x ++ assign ∷ y)
 IsCommandSpelled (InsertAfter e v) w =
     (x : List Symbol) × (y : List Symbol)
-    × Leads e
-    × IsSpelled e x
+    × LeadsToPlace e
+    × IsExpressionText e x
     × IsValueSpelled v y
     × (w ≡ x ++ dot ∷ word (codes "insertAfter") ∷ open_paren ∷ (y ++ close_paren ∷ []))
 IsCommandSpelled (DeleteAt e) w =
-    (x : List Symbol) × Leads e × IsSpelled e x × (w ≡ x ++ dot ∷ word (codes "delete") ∷ [])
+    (x : List Symbol) × LeadsToPlace e × IsExpressionText e x × (w ≡ x ++ dot ∷ word (codes "delete") ∷ [])
 
 abbrev pub IsCommandWellFormed : Cmd → Type 0
 IsCommandWellFormed Yield = Unit {0}
-IsCommandWellFormed (LetIn name e) = (is_reserved name ≡ false) × IsWellFormed e
-IsCommandWellFormed (SetTo e v) = IsWellFormed e
-IsCommandWellFormed (InsertAfter e v) = IsWellFormed e
-IsCommandWellFormed (DeleteAt e) = IsWellFormed e
+IsCommandWellFormed (LetIn name e) = (is_reserved name ≡ false) × IsWellFormedExpression e
+IsCommandWellFormed (SetTo e v) = IsWellFormedExpression e
+IsCommandWellFormed (InsertAfter e v) = IsWellFormedExpression e
+IsCommandWellFormed (DeleteAt e) = IsWellFormedExpression e
 
 -- ---- scripts
 
@@ -62,7 +62,7 @@ pub record IsScriptWellFormed (script : List Cmd) : Type 0 where
 -- ---- what is too much
 
 -- commands within the limits, each with its `;`
-pub record AreDone (script : List Cmd) (w : List Symbol) : Type 0 where
+pub record CommandsAreDone (script : List Cmd) (w : List Symbol) : Type 0 where
   pub spelled : IsStartText IsCommandSpelled script w
   pub each : All IsCommandWellFormed script
 
@@ -74,7 +74,7 @@ BeginsCommand name =
 -- after 65,536 commands one more begins
 pub record IsCommandPast (xs : List Symbol) (next : Symbol) : Type 0 where
   pub script : List Cmd
-  pub done : AreDone script xs
+  pub done : CommandsAreDone script xs
   pub full : length script ≡ 65536
   pub name : List ℕ
   pub is : next ≡ word name
@@ -84,7 +84,7 @@ pub record IsCommandPast (xs : List Symbol) (next : Symbol) : Type 0 where
 pub record IsReservedBinding (xs : List Symbol) (next : Symbol) : Type 0 where
   pub script : List Cmd
   pub before : List Symbol
-  pub done : AreDone script before
+  pub done : CommandsAreDone script before
   pub room : length script < 65536
   pub is : xs ≡ before ++ word (codes "let") ∷ []
   pub name : List ℕ
@@ -94,7 +94,7 @@ pub record IsReservedBinding (xs : List Symbol) (next : Symbol) : Type 0 where
 -- a variable at a command's start is a reserved word, and no keyword there; the command may be one too many
 pub record IsReservedLead (xs : List Symbol) (next : Symbol) : Type 0 where
   pub script : List Cmd
-  pub done : AreDone script xs
+  pub done : CommandsAreDone script xs
   pub room : length script ≤ 65536
   pub name : List ℕ
   pub is : next ≡ word name
@@ -107,7 +107,7 @@ pub record IsReservedLead (xs : List Symbol) (next : Symbol) : Type 0 where
 pub record IsBindingExcess (fault : ScenarioFault) (xs : List Symbol) (after : List Lexeme) : Type 0 where
   pub script : List Cmd
   pub before : List Symbol
-  pub done : AreDone script before
+  pub done : CommandsAreDone script before
   pub room : length script < 65536
   pub name : List ℕ
   pub free : is_reserved name ≡ false
@@ -119,7 +119,7 @@ pub record IsBindingExcess (fault : ScenarioFault) (xs : List Symbol) (after : L
 pub record IsLeadExcess (fault : ScenarioFault) (xs : List Symbol) (after : List Lexeme) : Type 0 where
   pub script : List Cmd
   pub before : List Symbol
-  pub done : AreDone script before
+  pub done : CommandsAreDone script before
   pub room : length script < 65536
   pub first : Symbol
   pub no_let : first ≡ word (codes "let") → ⊥

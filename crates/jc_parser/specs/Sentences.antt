@@ -6,7 +6,7 @@ use Rattle.jc_syntax.specs.declared.fault.LexFault.{LexFault}
 use Rattle.jc_syntax.specs.Lexemes.{AreTokensOf, IsFaultOf}
 use Rattle.jc_parser.specs.declared.fault.ScenarioFault.{ScenarioFault}
 use Rattle.jc_parser.specs.Symbols.{Symbol, dot, Lexeme, lexemes, symbols}
-use Rattle.jc_parser.specs.Reading.{Reading, reading, stuck_at}
+use Rattle.jc_parser.specs.ReaderState.{Reading, reading_of, stuck_at}
 use Rattle.jc_parser.specs.Faults.{from_lexer}
 
 -- a sentence begins so
@@ -57,4 +57,4 @@ abbrev pub IsSentenceFault :
     {T : Type 0} → (T → List Symbol → Type 0) → (T → Type 0) → Excess → List ℕ → ScenarioFault → Type 0
 IsSentenceFault L W V text fault =
     ((lexical : LexFault) × IsFaultOf text lexical × (fault ≡ from_lexer lexical))
-    ⊎ ((tokens : List Token) × AreTokensOf text tokens × IsStopped L W V (reading text tokens) fault)
+    ⊎ ((tokens : List Token) × AreTokensOf text tokens × IsStopped L W V (reading_of text tokens) fault)

@@ -3,7 +3,7 @@ use Rattle.std.specs.Prelude.{ℕ, List, map}
 use Rattle.jc_syntax.specs.declared.token.Token.{Token}
 use Rattle.jc_syntax.specs.declared.token.TokenKind.{TokenKind}
 use Rattle.jc_syntax.specs.declared.token.TokenKind.TheVariants.{Name, Number, Str, Dot, ParenL, ParenR, BraceL, BraceR, BracketL, BracketR, Comma, Semi, Assign, Equals}
-use Rattle.jc_syntax.specs.Lexemes.{bytes_of, content_of}
+use Rattle.jc_syntax.specs.Lexemes.{token_bytes, token_content}
 
 -- a word and a number have their bytes, a string has what it spells
 pub data Symbol : Type 0 where
@@ -45,7 +45,7 @@ pub record Lexeme : Type 0 where
   pub symbol : Symbol
 
 abbrev pub lexeme : List ℕ → Token → Lexeme
-lexeme text t = record { place = t.start; symbol = symbol_of t.kind (bytes_of text t) (content_of text t) }
+lexeme text t = record { place = t.start; symbol = symbol_of t.kind (token_bytes text t) (token_content text t) }
 
 abbrev pub lexemes : List ℕ → List Token → List Lexeme
 lexemes text ts = map (lexeme text) ts

@@ -1,10 +1,10 @@
 -- What contracts see of what was parsed.
 use Rattle.jc_syntax.specs.Trees.{expr_of}
-use Rattle.jc_parser.specs.declared.language.Selector as language
-use Rattle.jc_parser.specs.declared.language.Selector.TheVariants as selectors
-use Rattle.jc_parser.specs.declared.language.Chain as chains
-use Rattle.jc_parser.specs.Language.{Selector, by_key, by_index, by_keys, by_values}
-use Rattle.jc_parser.specs.LanguageParts.{Chain}
+use Rattle.jc_parser.specs.declared.expressions.Selector as language
+use Rattle.jc_parser.specs.declared.expressions.Selector.TheVariants as selectors
+use Rattle.jc_parser.specs.declared.expressions.Chain as chains
+use Rattle.jc_parser.specs.Expressions.{Selector, by_key, by_index, by_keys, by_values}
+use Rattle.jc_parser.specs.ExpressionReader.{Chain}
 
 abbrev pub selector_view : language.Selector → Selector
 selector_view (selectors.Get key) = by_key key

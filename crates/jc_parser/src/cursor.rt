@@ -4,12 +4,12 @@ ghost use Rattle.std.specs.Prelude.{◌≡◌, All, IfOk, Bool, Ok, Err, true, n
 ghost use Rattle.std.specs.Str.{all_ascii_digits};
 ghost use Rattle.jc_syntax.specs.declared.token.TokenKind.TheVariants.{Name, Number, Str};
 ghost use Rattle.jc_syntax.specs.Lexemes.{IsTokenOf};
-ghost use Rattle.jc_parser.specs.Reading.{Gives, reading, place, stuck, begins, has_kind, is_word, is_number, reserved, skip, take, named_at, is_at_end};
-ghost use Rattle.jc_parser.specs.Words as words;
-ghost use Rattle.jc_parser.specs.Language as language;
-ghost use Rattle.jc_parser.specs.Language.{numeral_value};
-ghost use Rattle.jc_parser.specs.LanguageParts.{index_at};
-ghost use Rattle.jc_parser.specs.ScriptParts.{is_misused as misused};
+ghost use Rattle.jc_parser.specs.ReaderState.{MapsResult, reading_of, place, stuck, begins, has_kind, is_word, is_number_symbol, reserved, skip, take, named_at, is_at_end};
+ghost use Rattle.jc_parser.specs.ReservedWords as words;
+ghost use Rattle.jc_parser.specs.Expressions as language;
+ghost use Rattle.jc_parser.specs.Expressions.{numeral_value};
+ghost use Rattle.jc_parser.specs.ExpressionReader.{index_at};
+ghost use Rattle.jc_parser.specs.ScriptReader.{is_misused as misused};
 ghost use Rattle.jc_parser.specs.Symbols.{Symbol, word, number};
 
 use crate::fault::ScenarioFault;
@@ -28,11 +28,11 @@ pub(crate) struct Cursor<'a> {
 impl<'a> Model for Cursor<'a> {
     ghost use Rattle.std.specs.Prelude.{All};
     ghost use Rattle.jc_syntax.specs.Lexemes.{IsTokenOf};
-    ghost use Rattle.jc_parser.specs.Reading.{Reading, reading};
+    ghost use Rattle.jc_parser.specs.ReaderState.{Reading, reading_of};
 
     ghost Value = { Reading };
 
-    ghost view = { λ c. reading c.text.now c.tokens.now };
+    ghost view = { λ c. reading_of c.text.now c.tokens.now };
 
     ghost invariant = { λ c. All (IsTokenOf c.text.now) c.tokens.now };
 }
@@ -40,7 +40,7 @@ impl<'a> Model for Cursor<'a> {
 impl<'a> Cursor<'a> {
     pub(crate) fn new(text: &'a str, tokens: &'a [Token]) -> Cursor<'a>
         requires { All (IsTokenOf text.now) tokens.now }
-        ensures { result ≡ reading text.now tokens.now }
+        ensures { result ≡ reading_of text.now tokens.now }
     {
         Cursor { text, tokens }
     }
@@ -115,7 +115,7 @@ impl<'a> Cursor<'a> {
 
     /// Whether this number comes next, spelled so.
     pub(crate) fn begins_number(&self, digits: &str) -> bool
-        ensures { result ≡ begins (is_number digits.now) self.now }
+        ensures { result ≡ begins (is_number_symbol digits.now) self.now }
     {
         if !self.begins(TokenKind::Number) {
             return false;
@@ -174,7 +174,7 @@ impl<'a> Cursor<'a> {
 
     /// Takes a token of this kind.
     pub(crate) fn mark(&mut self, kind: TokenKind) -> Result<(), ScenarioFault>
-        ensures { Gives (λ _. (tt, self.new)) result (skip (has_kind kind) self.old) }
+        ensures { MapsResult (λ _. (tt, self.new)) result (skip (has_kind kind) self.old) }
     {
         if !self.begins(kind) {
             return Err(self.stuck());
@@ -184,9 +184,9 @@ impl<'a> Cursor<'a> {
     }
 
     /// Takes this word.
-    #[tactic(auto, using(crate::proofs::FirstTokens::not_skipped))]
+    #[tactic(auto, using(crate::proofs::FirstTokensLemmas::not_skipped))]
     pub(crate) fn word(&mut self, word: &str) -> Result<(), ScenarioFault>
-        ensures { Gives (λ _. (tt, self.new)) result (skip (is_word word.now) self.old) }
+        ensures { MapsResult (λ _. (tt, self.new)) result (skip (is_word word.now) self.old) }
     {
         if !self.begins_word(word) {
             return Err(self.stuck());
@@ -197,7 +197,7 @@ impl<'a> Cursor<'a> {
 
     /// Takes a string, and gives what it spells.
     pub(crate) fn string(&mut self, alloc: Global) -> Result<Text, ScenarioFault>
-        ensures { Gives (λ t. (t, self.new)) result (take (has_kind Str) self.old) }
+        ensures { MapsResult (λ t. (t, self.new)) result (take (has_kind Str) self.old) }
     {
         if !self.begins(TokenKind::Str) {
             return Err(self.stuck());
@@ -212,7 +212,7 @@ impl<'a> Cursor<'a> {
 
     /// Takes a number, and gives its text.
     pub(crate) fn number(&mut self, alloc: Global) -> Result<Text, ScenarioFault>
-        ensures { Gives (λ t. (t, self.new)) result (take (has_kind Number) self.old) }
+        ensures { MapsResult (λ t. (t, self.new)) result (take (has_kind Number) self.old) }
     {
         if !self.begins(TokenKind::Number) {
             return Err(self.stuck());
@@ -226,9 +226,9 @@ impl<'a> Cursor<'a> {
     }
 
     /// Takes a number of digits alone, below 2 to the 32.
-    #[tactic(auto, unfolding(crate::specs::Reading::one, crate::specs::LanguageParts::index_at), using(crate::proofs::SymbolTests::kinds))]
+    #[tactic(auto, unfolding(crate::specs::ReaderState::one, crate::specs::ExpressionReader::index_at), using(crate::proofs::SymbolTestsLemmas::kinds))]
     pub(crate) fn index(&mut self) -> Result<u32, ScenarioFault>
-        ensures { Gives (λ i. (i, self.new)) result (index_at self.old) }
+        ensures { MapsResult (λ i. (i, self.new)) result (index_at self.old) }
     {
         match self.tokens {
             [first, rest @ ..] if first.kind == TokenKind::Number => {
@@ -248,7 +248,7 @@ impl<'a> Cursor<'a> {
 
     /// Takes a name, and gives it with its place.
     pub(crate) fn name(&mut self, alloc: Global) -> Result<Named, ScenarioFault>
-        ensures { Gives (λ n. (n, self.new)) result (named_at self.old) }
+        ensures { MapsResult (λ n. (n, self.new)) result (named_at self.old) }
     {
         if !self.begins(TokenKind::Name) {
             return Err(self.stuck());

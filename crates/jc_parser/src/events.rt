@@ -3,9 +3,9 @@
 ghost use Rattle.std.specs.Prelude.{◌≡◌, ◌≢◌, ◌≤◌, IfOk, IfErr, All, length};
 ghost use Rattle.jc_syntax.specs.Lexemes.{IsTokenOf};
 ghost use Rattle.jc_parser.specs.Symbols.{lexemes};
-ghost use Rattle.jc_parser.specs.Reading.{Gives, reading};
-ghost use Rattle.jc_parser.specs.Calls.{IsEvent, IsEventOf, IsEventFault, IsAhead, HasNoEvent, IsEventAt, IsEventFaultAt, IsCallSpelled, IsCallWellFormed, IsCallExcess};
-ghost use Rattle.jc_parser.specs.CallParts.{last_name_at, sender_at, last_identifier_at, taking_at, application_at, common_action_at, action_at, any_event_at, only_event_at};
+ghost use Rattle.jc_parser.specs.ReaderState.{MapsResult, reading_of};
+ghost use Rattle.jc_parser.specs.Events.{IsEvent, IsEventOf, IsEventFault, IsAhead, HasNoEvent, IsEventAt, IsEventFaultAt, IsCallSpelled, IsCallWellFormed, IsCallExcess};
+ghost use Rattle.jc_parser.specs.EventReader.{last_name_at, sender_at, last_identifier_at, taking_at, application_at, common_action_at, action_at, any_event_at, only_event_at};
 ghost use Rattle.jc_parser.specs.Sentences.{IsStopped};
 ghost use Rattle.jc_parser.specs.Faults.{from_sentence, IsOfSentence};
 
@@ -17,9 +17,9 @@ use jc_syntax::{Named, NamedEvent, Token, TokenKind, lex};
 use std::alloc::Global;
 
 /// A name and the closing parenthesis.
-#[tactic(auto, unfolding(crate::specs::CallParts::last_name_at))]
+#[tactic(auto, unfolding(crate::specs::EventReader::last_name_at))]
 fn last_name(alloc: Global, cursor: &mut Cursor) -> Result<Named, ScenarioFault>
-    ensures { Gives (λ n. (n, cursor.new)) result (last_name_at cursor.old) }
+    ensures { MapsResult (λ n. (n, cursor.new)) result (last_name_at cursor.old) }
 {
     let name = cursor.name(alloc)?;
     cursor.mark(TokenKind::ParenR)?;
@@ -27,9 +27,9 @@ fn last_name(alloc: Global, cursor: &mut Cursor) -> Result<Named, ScenarioFault>
 }
 
 /// The sender of `recv`, from its word on.
-#[tactic(auto, unfolding(crate::specs::CallParts::sender_at))]
+#[tactic(auto, unfolding(crate::specs::EventReader::sender_at))]
 fn sender(alloc: Global, cursor: &mut Cursor) -> Result<Named, ScenarioFault>
-    ensures { Gives (λ n. (n, cursor.new)) result (sender_at cursor.old) }
+    ensures { MapsResult (λ n. (n, cursor.new)) result (sender_at cursor.old) }
 {
     cursor.word("recv")?;
     cursor.mark(TokenKind::ParenL)?;
@@ -37,9 +37,9 @@ fn sender(alloc: Global, cursor: &mut Cursor) -> Result<Named, ScenarioFault>
 }
 
 /// An identifier and the closing parenthesis.
-#[tactic(auto, unfolding(crate::specs::CallParts::last_identifier_at))]
+#[tactic(auto, unfolding(crate::specs::EventReader::last_identifier_at))]
 fn last_identifier(alloc: Global, cursor: &mut Cursor) -> Result<(u32, Named), ScenarioFault>
-    ensures { Gives (λ i. (i, cursor.new)) result (last_identifier_at cursor.old) }
+    ensures { MapsResult (λ i. (i, cursor.new)) result (last_identifier_at cursor.old) }
 {
     let counter = cursor.index()?;
     cursor.mark(TokenKind::Comma)?;
@@ -48,9 +48,9 @@ fn last_identifier(alloc: Global, cursor: &mut Cursor) -> Result<(u32, Named), S
 }
 
 /// The event `take` of a replica, from its word on.
-#[tactic(auto, unfolding(crate::specs::CallParts::taking_at))]
+#[tactic(auto, unfolding(crate::specs::EventReader::taking_at))]
 fn taking(alloc: Global, cursor: &mut Cursor, replica: Named) -> Result<NamedEvent, ScenarioFault>
-    ensures { Gives (λ e. (e, cursor.new)) result (taking_at replica cursor.old) }
+    ensures { MapsResult (λ e. (e, cursor.new)) result (taking_at replica cursor.old) }
 {
     cursor.word("take")?;
     cursor.mark(TokenKind::ParenL)?;
@@ -66,13 +66,13 @@ fn taking(alloc: Global, cursor: &mut Cursor, replica: Named) -> Result<NamedEve
 }
 
 /// The event `apply` of a replica, from its word on.
-#[tactic(auto, unfolding(crate::specs::CallParts::application_at))]
+#[tactic(auto, unfolding(crate::specs::EventReader::application_at))]
 fn application(
     alloc: Global,
     cursor: &mut Cursor,
     replica: Named,
 ) -> Result<NamedEvent, ScenarioFault>
-    ensures { Gives (λ e. (e, cursor.new)) result (application_at replica cursor.old) }
+    ensures { MapsResult (λ e. (e, cursor.new)) result (application_at replica cursor.old) }
 {
     cursor.word("apply")?;
     cursor.mark(TokenKind::ParenL)?;
@@ -85,13 +85,13 @@ fn application(
 }
 
 /// The event of a replica, after its dot, where each version has it.
-#[tactic(auto, unfolding(crate::specs::CallParts::common_action_at))]
+#[tactic(auto, unfolding(crate::specs::EventReader::common_action_at))]
 fn common_action(
     alloc: Global,
     cursor: &mut Cursor,
     replica: Named,
 ) -> Result<NamedEvent, ScenarioFault>
-    ensures { Gives (λ e. (e, cursor.new)) result (common_action_at replica cursor.old) }
+    ensures { MapsResult (λ e. (e, cursor.new)) result (common_action_at replica cursor.old) }
 {
     if cursor.begins_word("exec") {
         cursor.advance();
@@ -113,14 +113,14 @@ fn common_action(
 }
 
 /// The event of a replica, after its dot.
-#[tactic(auto, unfolding(crate::specs::CallParts::action_at))]
+#[tactic(auto, unfolding(crate::specs::EventReader::action_at))]
 fn action(
     alloc: Global,
     version: Version,
     cursor: &mut Cursor,
     replica: Named,
 ) -> Result<NamedEvent, ScenarioFault>
-    ensures { Gives (λ e. (e, cursor.new)) result (action_at version replica cursor.old) }
+    ensures { MapsResult (λ e. (e, cursor.new)) result (action_at version replica cursor.old) }
 {
     match version {
         Version::One => common_action(alloc, cursor, replica),
@@ -134,13 +134,13 @@ fn action(
 }
 
 /// An event.
-#[tactic(auto, unfolding(crate::specs::CallParts::any_event_at))]
+#[tactic(auto, unfolding(crate::specs::EventReader::any_event_at))]
 pub(crate) fn event(
     alloc: Global,
     version: Version,
     cursor: &mut Cursor,
 ) -> Result<NamedEvent, ScenarioFault>
-    ensures { Gives (λ e. (e, cursor.new)) result (any_event_at version cursor.old) }
+    ensures { MapsResult (λ e. (e, cursor.new)) result (any_event_at version cursor.old) }
 {
     let replica = cursor.name(alloc)?;
     cursor.mark(TokenKind::Dot)?;
@@ -148,13 +148,13 @@ pub(crate) fn event(
 }
 
 /// The event that all of the tokens are.
-#[tactic(auto, unfolding(crate::specs::CallParts::only_event_at))]
+#[tactic(auto, unfolding(crate::specs::EventReader::only_event_at))]
 fn only_event(
     alloc: Global,
     version: Version,
     cursor: &mut Cursor,
 ) -> Result<NamedEvent, ScenarioFault>
-    ensures { Gives (λ e. e) result (only_event_at version cursor.old) }
+    ensures { MapsResult (λ e. e) result (only_event_at version cursor.old) }
 {
     let event = event(alloc, version, cursor)?;
     cursor.value_if(cursor.is_at_end(), event)
@@ -170,7 +170,7 @@ fn event_of(
     requires { All (IsTokenOf text.now) tokens.now }
     ensures tree { IfOk result (λ e. IsEvent version e (lexemes text.now tokens.now)) }
     ensures fault { IfErr result (λ e. e ≢ ScenarioFault.Memory
-        → IsStopped (IsCallSpelled version) IsCallWellFormed (IsCallExcess version) (reading text.now tokens.now) e) }
+        → IsStopped (IsCallSpelled version) IsCallWellFormed (IsCallExcess version) (reading_of text.now tokens.now) e) }
     ensures kind { IfErr result IsOfSentence }
 {
     let mut cursor = Cursor::new(text, tokens);
@@ -213,7 +213,7 @@ fn event_before(
 ) -> Result<(NamedEvent, usize), ScenarioFault>
     requires { All (IsTokenOf text.now) tokens.now }
     ensures tree { IfOk result (λ x. IsAhead version (lexemes text.now tokens.now) x.0 x.1) }
-    ensures fault { IfErr result (λ e. e ≢ ScenarioFault.Memory → HasNoEvent version (reading text.now tokens.now) e) }
+    ensures fault { IfErr result (λ e. e ≢ ScenarioFault.Memory → HasNoEvent version (reading_of text.now tokens.now) e) }
     ensures kind { IfErr result IsOfSentence }
 {
     let mut cursor = Cursor::new(text, tokens);

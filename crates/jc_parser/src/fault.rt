@@ -2,7 +2,7 @@
 
 ghost use Rattle.std.specs.Prelude.{◌≡◌, Some};
 ghost use Rattle.jc_parser.specs.declared.fault.ScenarioFault.TheVariants.{Memory};
-ghost use Rattle.jc_parser.specs.Faults.{number_of, place_of, refusal_of, text_of, from_lexer};
+ghost use Rattle.jc_parser.specs.Faults.{fault_number, fault_offset, parse_refusal, parse_fault_text, from_lexer};
 
 use jc_rules::Refusal;
 use jc_syntax::LexFault;
@@ -58,7 +58,7 @@ pub enum ScenarioFault {
 impl ScenarioFault {
     /// The number of the refusal, from 1 to 19; want of memory has none.
     pub fn number(&self) -> Option<u8>
-        ensures { result ≡ number_of self.now }
+        ensures { result ≡ fault_number self.now }
     {
         match self {
             ScenarioFault::BadByte { .. } => Some(1),
@@ -86,7 +86,7 @@ impl ScenarioFault {
 
     /// Where the fault stands in the text; want of memory stands nowhere.
     pub fn place(&self) -> Option<usize>
-        ensures { result ≡ place_of self.now }
+        ensures { result ≡ fault_offset self.now }
     {
         match self {
             ScenarioFault::BadByte { place }
@@ -114,7 +114,7 @@ impl ScenarioFault {
 
     /// The refusal that the fault is; want of memory is none.
     fn refusal(&self) -> Option<Refusal>
-        ensures { result ≡ refusal_of self.now }
+        ensures { result ≡ parse_refusal self.now }
     {
         match self {
             ScenarioFault::BadByte { .. } => Some(Refusal::BadByte),
@@ -143,7 +143,7 @@ impl ScenarioFault {
 
 // By hand, since no contract says what a derived one writes.
 impl fmt::Display for ScenarioFault {
-    ghost output = { λ fault. Some (text_of fault) };
+    ghost output = { λ fault. Some (parse_fault_text fault) };
 
     fn fmt<W: fmt::Write>(&self, f: &mut fmt::Formatter<W>) -> fmt::Result {
         match (self.refusal(), self.place()) {
@@ -158,7 +158,7 @@ impl fmt::Display for ScenarioFault {
 
 // As it is shown: a derived match of every variant is dear to prove.
 impl fmt::Debug for ScenarioFault {
-    ghost debug_output = { λ fault. Some (text_of fault) };
+    ghost debug_output = { λ fault. Some (parse_fault_text fault) };
 
     fn fmt<W: fmt::Write>(&self, f: &mut fmt::Formatter<W>) -> fmt::Result {
         fmt::Display::fmt(self, f)

@@ -3,9 +3,9 @@
 
 ghost use Rattle.jc_parser.specs.Laws.{OneExpression, ExpressionOrFault, ExpressionElseFault, OneExpressionFault, OneScript, ScriptOrFault, ScriptElseFault, OneScriptFault};
 ghost use Rattle.jc_parser.specs.ClosedScripts.{OneScriptAt, ScriptOrFaultAt, ScriptElseFaultAt, OneScriptFaultAt};
-ghost use Rattle.jc_parser.specs.CallLaws.{OneEvent, EventOrFault, EventElseFault, OneEventFault, OneEventAt, EventOrFaultAt, EventElseFaultAt, OneEventFaultAt};
-ghost use Rattle.jc_parser.specs.TreeLaws.{OneNamedTree, NamedTreeOrFault, NamedTreeElseFault, OneTreeFault};
-ghost use Rattle.jc_parser.specs.LegalLaws.{LegalExpressions, LegalScripts, LegalEvents, LegalScriptsAt, LegalEventsAt, LegalScenarios};
+ghost use Rattle.jc_parser.specs.EventLaws.{OneEvent, EventOrFault, EventElseFault, OneEventFault, OneEventAt, EventOrFaultAt, EventElseFaultAt, OneEventFaultAt};
+ghost use Rattle.jc_parser.specs.ScenarioLaws.{OneNamedTree, NamedTreeOrFault, NamedTreeElseFault, OneTreeFault};
+ghost use Rattle.jc_parser.specs.LegalSymbolLaws.{LegalExpressions, LegalScripts, LegalEvents, LegalScriptsAt, LegalEventsAt, LegalScenarios};
 
 use jc_syntax::laws as lexemes;
 

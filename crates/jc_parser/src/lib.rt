@@ -3,17 +3,17 @@
 
 mod cursor;
 mod events;
+mod expressions;
 mod fault;
-mod language;
 pub mod laws;
 mod parse_fault;
-mod parser;
+mod parts;
+mod scenarios;
 mod scripts;
-mod trees;
 
 pub use events::{event_at, parse_event};
+pub use expressions::parse_expr;
 pub use fault::ScenarioFault;
-pub use language::parse_expr;
 pub use parse_fault::ParseFault;
+pub use scenarios::{NamedReplica, NamedScenario, scenario_of};
 pub use scripts::{parse_script, script_at};
-pub use trees::{NamedReplica, NamedScenario, scenario_of};

@@ -1,7 +1,7 @@
 //! Why a text is no sentence of the language.
 
 ghost use Rattle.std.specs.Prelude.{◌≡◌, Some};
-ghost use Rattle.jc_parser.specs.Faults.{number_of, place_of, text_of, from_sentence, IsOfSentence};
+ghost use Rattle.jc_parser.specs.Faults.{fault_number, fault_offset, parse_fault_text, from_sentence, IsOfSentence};
 
 use crate::fault::ScenarioFault;
 use std::fmt;
@@ -62,21 +62,21 @@ impl ParseFault {
 
     /// The number of the refusal, from 1 to 12; want of memory has none.
     pub fn number(&self) -> Option<u8>
-        ensures { result ≡ number_of (from_sentence self.now) }
+        ensures { result ≡ fault_number (from_sentence self.now) }
     {
         self.of_scenario().number()
     }
 
     /// Where the fault stands in the text; want of memory stands nowhere.
     pub fn place(&self) -> Option<usize>
-        ensures { result ≡ place_of (from_sentence self.now) }
+        ensures { result ≡ fault_offset (from_sentence self.now) }
     {
         self.of_scenario().place()
     }
 }
 
 impl fmt::Display for ParseFault {
-    ghost output = { λ fault. Some (text_of (from_sentence fault)) };
+    ghost output = { λ fault. Some (parse_fault_text (from_sentence fault)) };
 
     fn fmt<W: fmt::Write>(&self, f: &mut fmt::Formatter<W>) -> fmt::Result {
         fmt::Display::fmt(&self.of_scenario(), f)
@@ -85,7 +85,7 @@ impl fmt::Display for ParseFault {
 
 // As it is shown: a derived match of every variant is dear to prove.
 impl fmt::Debug for ParseFault {
-    ghost debug_output = { λ fault. Some (text_of (from_sentence fault)) };
+    ghost debug_output = { λ fault. Some (parse_fault_text (from_sentence fault)) };
 
     fn fmt<W: fmt::Write>(&self, f: &mut fmt::Formatter<W>) -> fmt::Result {
         fmt::Display::fmt(self, f)

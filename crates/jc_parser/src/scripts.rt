@@ -4,8 +4,8 @@ ghost use Rattle.std.specs.Prelude.{◌≡◌, ◌≢◌, ◌≤◌, ◌<◌, If
 ghost use Rattle.jc_rules.specs.Syntax.{Expr, SetTo, InsertAfter};
 ghost use Rattle.jc_syntax.specs.Trees.{cmd_of, expr_of};
 ghost use Rattle.jc_syntax.specs.Lexemes.{IsTokenOf};
-ghost use Rattle.jc_parser.specs.Reading.{Gives, reading};
-ghost use Rattle.jc_parser.specs.ScriptParts.{any_value_at, assignment_at, binding_at, insertion_at, finish_at, update_at, command_at, crowd_at, commands_at, only_script_at, closed_script_at};
+ghost use Rattle.jc_parser.specs.ReaderState.{MapsResult, reading_of};
+ghost use Rattle.jc_parser.specs.ScriptReader.{any_value_at, assignment_at, binding_at, insertion_at, finish_at, update_at, command_at, too_many_commands_at, commands_at, only_script_at, closed_script_at};
 ghost use Rattle.jc_parser.specs.Scripts.{IsScriptSpelled, IsScriptWellFormed, IsScriptExcess, IsScriptOf, IsScriptFault};
 ghost use Rattle.jc_parser.specs.ClosedScripts.{IsClosedAhead, HasNoScript, IsScriptAt, IsScriptFaultAt};
 ghost use Rattle.jc_parser.specs.Sentences.{IsStopped};
@@ -13,18 +13,18 @@ ghost use Rattle.jc_parser.specs.Symbols.{lexemes, symbols};
 ghost use Rattle.jc_parser.specs.Faults.{from_sentence, IsOfSentence};
 
 use crate::cursor::Cursor;
+use crate::expressions::{Chain, expression, follow, root};
 use crate::fault::ScenarioFault;
-use crate::language::{Chain, expression, follow, root};
 use crate::parse_fault::{ParseFault, of_sentence};
-use crate::parser::{MAX_COMMANDS, name, value as plain_value};
+use crate::parts::{MAX_COMMANDS, name, value as plain_value};
 use jc_rules::Value;
 use jc_syntax::{Cmd, Token, TokenKind, lex};
 use std::alloc::Global;
 
 /// A value.
-#[tactic(auto, unfolding(crate::specs::ScriptParts::any_value_at))]
+#[tactic(auto, unfolding(crate::specs::ScriptReader::any_value_at))]
 fn value(alloc: Global, cursor: &mut Cursor) -> Result<Value, ScenarioFault>
-    ensures { Gives (λ v. (v, cursor.new)) result (any_value_at cursor.old) }
+    ensures { MapsResult (λ v. (v, cursor.new)) result (any_value_at cursor.old) }
 {
     if cursor.begins(TokenKind::BraceL) {
         cursor.advance();
@@ -40,9 +40,9 @@ fn value(alloc: Global, cursor: &mut Cursor) -> Result<Value, ScenarioFault>
 }
 
 /// A command `let`, from its word on.
-#[tactic(auto, unfolding(crate::specs::ScriptParts::binding_at))]
+#[tactic(auto, unfolding(crate::specs::ScriptReader::binding_at))]
 fn binding(alloc: Global, cursor: &mut Cursor) -> Result<Cmd, ScenarioFault>
-    ensures { Gives (λ c. (cmd_of c, cursor.new)) result (binding_at cursor.old) }
+    ensures { MapsResult (λ c. (cmd_of c, cursor.new)) result (binding_at cursor.old) }
 {
     cursor.word("let")?;
     let name = name(alloc, cursor)?;
@@ -52,18 +52,18 @@ fn binding(alloc: Global, cursor: &mut Cursor) -> Result<Cmd, ScenarioFault>
 }
 
 /// The value of an assignment, from its sign on.
-#[tactic(auto, unfolding(crate::specs::ScriptParts::assignment_at))]
+#[tactic(auto, unfolding(crate::specs::ScriptReader::assignment_at))]
 fn assigned(alloc: Global, cursor: &mut Cursor) -> Result<Value, ScenarioFault>
-    ensures { (place : Expr) → Gives (λ v. (SetTo place v, cursor.new)) result (assignment_at place cursor.old) }
+    ensures { (place : Expr) → MapsResult (λ v. (SetTo place v, cursor.new)) result (assignment_at place cursor.old) }
 {
     cursor.mark(TokenKind::Assign)?;
     value(alloc, cursor)
 }
 
 /// The value of a command `insertAfter`, from its word on.
-#[tactic(auto, unfolding(crate::specs::ScriptParts::insertion_at))]
+#[tactic(auto, unfolding(crate::specs::ScriptReader::insertion_at))]
 fn inserted(alloc: Global, cursor: &mut Cursor) -> Result<Value, ScenarioFault>
-    ensures { (place : Expr) → Gives (λ v. (InsertAfter place v, cursor.new)) result (insertion_at place cursor.old) }
+    ensures { (place : Expr) → MapsResult (λ v. (InsertAfter place v, cursor.new)) result (insertion_at place cursor.old) }
 {
     cursor.word("insertAfter")?;
     cursor.mark(TokenKind::ParenL)?;
@@ -73,10 +73,10 @@ fn inserted(alloc: Global, cursor: &mut Cursor) -> Result<Value, ScenarioFault>
 }
 
 /// What follows the expression of a command.
-// A call lets go of the expression: each `?` would do so variant by variant, and is dear to prove.
-#[tactic(auto, unfolding(crate::specs::ScriptParts::finish_at, crate::specs::ScriptParts::deletion_at))]
+// A call drops the expression: each `?` would do so variant by variant, and is dear to prove.
+#[tactic(auto, unfolding(crate::specs::ScriptReader::finish_at, crate::specs::ScriptReader::deletion_at))]
 fn finish(alloc: Global, cursor: &mut Cursor, chain: Chain) -> Result<Cmd, ScenarioFault>
-    ensures { Gives (λ c. (cmd_of c, cursor.new)) result
+    ensures { MapsResult (λ c. (cmd_of c, cursor.new)) result
         (finish_at (expr_of chain.expression) chain.dotted cursor.old) }
 {
     let Chain { expression, dotted } = chain;
@@ -103,9 +103,9 @@ fn finish(alloc: Global, cursor: &mut Cursor, chain: Chain) -> Result<Cmd, Scena
 }
 
 /// A command that begins with an expression.
-#[tactic(auto, unfolding(crate::specs::ScriptParts::update_at))]
+#[tactic(auto, unfolding(crate::specs::ScriptReader::update_at))]
 fn update(alloc: Global, cursor: &mut Cursor) -> Result<Cmd, ScenarioFault>
-    ensures { Gives (λ c. (cmd_of c, cursor.new)) result (update_at cursor.old) }
+    ensures { MapsResult (λ c. (cmd_of c, cursor.new)) result (update_at cursor.old) }
 {
     let root = root(alloc, cursor)?;
     let chain = follow(alloc, cursor, root)?;
@@ -113,9 +113,9 @@ fn update(alloc: Global, cursor: &mut Cursor) -> Result<Cmd, ScenarioFault>
 }
 
 /// A command.
-#[tactic(auto, unfolding(crate::specs::ScriptParts::command_at, crate::specs::ScriptParts::yield_at))]
+#[tactic(auto, unfolding(crate::specs::ScriptReader::command_at, crate::specs::ScriptReader::yield_at))]
 fn command(alloc: Global, cursor: &mut Cursor) -> Result<Cmd, ScenarioFault>
-    ensures { Gives (λ c. (cmd_of c, cursor.new)) result (command_at cursor.old) }
+    ensures { MapsResult (λ c. (cmd_of c, cursor.new)) result (command_at cursor.old) }
 {
     if cursor.begins_word("yield") {
         cursor.advance();
@@ -129,7 +129,7 @@ fn command(alloc: Global, cursor: &mut Cursor) -> Result<Cmd, ScenarioFault>
 
 /// The fault of one command more than there may be.
 fn crowd(cursor: &Cursor) -> ScenarioFault
-    ensures { result ≡ crowd_at cursor.now }
+    ensures { result ≡ too_many_commands_at cursor.now }
 {
     let place = cursor.place();
     if cursor.begins_misused() {
@@ -141,7 +141,7 @@ fn crowd(cursor: &Cursor) -> ScenarioFault
 
 /// The commands of a script, up to what begins none.
 pub(crate) fn script(alloc: Global, cursor: &mut Cursor) -> Result<Vec<Cmd>, ScenarioFault>
-    ensures { Gives (λ s. (map cmd_of s.items, cursor.new)) result (commands_at 65536 cursor.old) }
+    ensures { MapsResult (λ s. (map cmd_of s.items, cursor.new)) result (commands_at 65536 cursor.old) }
 {
     let mut script = Vec::new(alloc);
     let mut left = MAX_COMMANDS;
@@ -161,9 +161,9 @@ pub(crate) fn script(alloc: Global, cursor: &mut Cursor) -> Result<Vec<Cmd>, Sce
 }
 
 /// The script that all of the tokens are.
-#[tactic(auto, unfolding(crate::specs::ScriptParts::only_script_at, crate::specs::ScriptParts::script_at))]
+#[tactic(auto, unfolding(crate::specs::ScriptReader::only_script_at, crate::specs::ScriptReader::script_at))]
 fn only_script(alloc: Global, cursor: &mut Cursor) -> Result<Vec<Cmd>, ScenarioFault>
-    ensures { Gives (λ s. map cmd_of s.items) result (only_script_at cursor.old) }
+    ensures { MapsResult (λ s. map cmd_of s.items) result (only_script_at cursor.old) }
 {
     let script = script(alloc, cursor)?;
     cursor.value_if(cursor.is_at_end(), script)
@@ -175,7 +175,7 @@ fn script_of(alloc: Global, text: &str, tokens: &[Token]) -> Result<Vec<Cmd>, Sc
     ensures spelled { IfOk result (λ s. IsScriptSpelled (map cmd_of s.items) (symbols (lexemes text.now tokens.now))) }
     ensures within { IfOk result (λ s. IsScriptWellFormed (map cmd_of s.items)) }
     ensures fault { IfErr result (λ e. e ≢ ScenarioFault.Memory
-        → IsStopped IsScriptSpelled IsScriptWellFormed IsScriptExcess (reading text.now tokens.now) e) }
+        → IsStopped IsScriptSpelled IsScriptWellFormed IsScriptExcess (reading_of text.now tokens.now) e) }
     ensures kind { IfErr result IsOfSentence }
 {
     let mut cursor = Cursor::new(text, tokens);
@@ -210,9 +210,9 @@ pub fn parse_script(alloc: Global, text: &str) -> Result<Vec<Cmd>, ParseFault>
 }
 
 /// A script and the closing brace behind it.
-#[tactic(auto, unfolding(crate::specs::ScriptParts::closed_script_at, crate::specs::ScriptParts::script_at))]
+#[tactic(auto, unfolding(crate::specs::ScriptReader::closed_script_at, crate::specs::ScriptReader::script_at))]
 pub(crate) fn closed_script(alloc: Global, cursor: &mut Cursor) -> Result<Vec<Cmd>, ScenarioFault>
-    ensures { Gives (λ s. (map cmd_of s.items, cursor.new)) result (closed_script_at cursor.old) }
+    ensures { MapsResult (λ s. (map cmd_of s.items, cursor.new)) result (closed_script_at cursor.old) }
 {
     let commands = script(alloc, cursor)?;
     cursor.mark(TokenKind::BraceR)?;
@@ -228,7 +228,7 @@ fn closed_before(
     requires { All (IsTokenOf text.now) tokens.now }
     ensures tree { IfOk result (λ x. IsClosedAhead (lexemes text.now tokens.now) (map cmd_of x.0.items) x.1) }
     ensures fewer { IfOk result (λ x. x.1 < length tokens.now) }
-    ensures fault { IfErr result (λ e. e ≢ ScenarioFault.Memory → HasNoScript (reading text.now tokens.now) e) }
+    ensures fault { IfErr result (λ e. e ≢ ScenarioFault.Memory → HasNoScript (reading_of text.now tokens.now) e) }
     ensures kind { IfErr result IsOfSentence }
 {
     let mut cursor = Cursor::new(text, tokens);

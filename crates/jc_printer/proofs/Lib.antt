@@ -1,10 +1,10 @@
-pub mod Escapes
-pub mod Events
-pub mod Front
-pub mod NumberBytes
-pub mod Numerals
-pub mod Printed
-mod Pushed
-pub mod Quoted
-pub mod Trees
-pub mod Written
+pub mod EscapesLemmas
+pub mod CanonEventsLemmas
+pub mod PrefixLemmas
+pub mod NumberBytesLemmas
+pub mod NumeralsLemmas
+pub mod PrintedSymbolsLemmas
+mod PushedTextsLemmas
+pub mod QuotedLemmas
+pub mod CanonTreesLemmas
+pub mod WrittenSymbolsLemmas

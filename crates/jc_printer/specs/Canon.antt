@@ -5,14 +5,14 @@ use Rattle.jc_rules.specs.declared.operation.Event.{Event}
 use Rattle.jc_rules.specs.declared.operation.Event.TheVariants.{Exec, Send, Recv, Take, Apply, Done}
 use Rattle.jc_rules.specs.declared.value.Value.{Value}
 use Rattle.jc_rules.specs.declared.value.Value.TheVariants as V
-use Rattle.jc_rules.specs.Names.{name_at}
+use Rattle.jc_rules.specs.ReplicaNames.{name_at}
 use Rattle.jc_rules.specs.Syntax.{Expr, TheDoc, Variable, GetKey, Index, KeysOf, ValuesOf, Cmd, LetIn, SetTo, InsertAfter, DeleteAt, Yield}
 
 -- ---- string literals
 
 -- a byte that stands for itself in a string: neither a control byte nor a quote nor a backslash
-abbrev pub is_plain : ℕ → Bool
-is_plain b = nat_le 32 b && (not (b == 34) && not (b == 92))
+abbrev pub is_plain_char : ℕ → Bool
+is_plain_char b = nat_le 32 b && (not (b == 34) && not (b == 92))
 
 -- what stands in a string for a byte: the short escapes, `\u00` with two lower-case digits, or the byte
 abbrev pub escape_byte : ℕ → List ℕ

@@ -6,16 +6,16 @@ use Rattle.jc_rules.specs.declared.version.Version.{Version}
 use Rattle.jc_rules.specs.Syntax.{Expr, Cmd}
 use Rattle.jc_rules.specs.Version.{Allows}
 use Rattle.jc_syntax.specs.declared.tree.NamedEvent.{NamedEvent}
-use Rattle.jc_parser.specs.Language.{IsWellFormed}
-use Rattle.jc_parser.specs.LanguageFaults.{IsExpressionOf}
+use Rattle.jc_parser.specs.Expressions.{IsWellFormedExpression}
+use Rattle.jc_parser.specs.ExpressionFaults.{IsExpressionOf}
 use Rattle.jc_parser.specs.Scripts.{IsScriptWellFormed, IsScriptOf}
-use Rattle.jc_parser.specs.Calls.{call_of, IsEventOf}
+use Rattle.jc_parser.specs.Events.{call_of, IsEventOf}
 use Rattle.jc_printer.specs.Canon.{canon_expr, canon_script, canon_event, AreNamed}
-use Rattle.jc_parser.specs.Legal.{IsName, IsLegalExpr, IsLegalCmd, call_by, IsCounterBelow}
+use Rattle.jc_parser.specs.LegalSymbols.{IsName, IsLegalExpr, IsLegalCmd, call_by, IsCounterBelow}
 
 abbrev pub ExpressionsReadBack : Type 0
 ExpressionsReadBack =
-    (e : Expr) → IsWellFormed e → IsLegalExpr e → length (canon_expr e) ≤ 8388608 → IsExpressionOf (canon_expr e) e
+    (e : Expr) → IsWellFormedExpression e → IsLegalExpr e → length (canon_expr e) ≤ 8388608 → IsExpressionOf (canon_expr e) e
 
 abbrev pub ScriptsReadBack : Type 0
 ScriptsReadBack =

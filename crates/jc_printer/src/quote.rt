@@ -3,7 +3,7 @@
 ghost use Rattle.std.specs.Prelude.{◌≡◌, ◌++◌, ◌<◌, ◌≤◌, length, slice_index, OnOk, string_bytes, false, [], ◌∷◌, take, drop, MatchOption, IfSome, IsUtf8};
 ghost use Rattle.std.specs.List.{prefix_len};
 ghost use Rattle.std.specs.Char.{digit_char};
-ghost use Rattle.jc_printer.specs.Canon.{is_plain, escape_byte, escape, quoted};
+ghost use Rattle.jc_printer.specs.Canon.{is_plain_char, escape_byte, escape, quoted};
 
 use std::alloc::AllocError;
 
@@ -33,13 +33,13 @@ fn push_content(out: &mut String, text: &str) -> Result<(), AllocError>
 }
 
 fn is_plain(byte: u8) -> bool
-    ensures { result ≡ is_plain byte }
+    ensures { result ≡ is_plain_char byte }
 {
     byte >= 0x20 && byte != b'"' && byte != b'\\'
 }
 
 fn plain_run(bytes: &[u8]) -> usize
-    ensures run { result ≡ prefix_len is_plain bytes.now }
+    ensures run { result ≡ prefix_len is_plain_char bytes.now }
     ensures within { result ≤ length bytes.now }
 {
     bytes.iter().take_while(|byte| is_plain(**byte)).count()
@@ -47,8 +47,8 @@ fn plain_run(bytes: &[u8]) -> usize
 
 /// The plain bytes at the front, and the rest.
 fn split_plain(text: &str) -> (&str, &str)
-    ensures front { result.0.now ≡ take (prefix_len is_plain text.now) text.now }
-    ensures back { result.1.now ≡ drop (prefix_len is_plain text.now) text.now }
+    ensures front { result.0.now ≡ take (prefix_len is_plain_char text.now) text.now }
+    ensures back { result.1.now ≡ drop (prefix_len is_plain_char text.now) text.now }
 {
     text.split_at(plain_run(text.as_bytes()))
 }
@@ -67,7 +67,7 @@ fn split_first(text: &str) -> Option<(u8, &str)>
 
 /// Writes what stands in a string for a byte that isn't plain.
 fn push_escape(out: &mut String, byte: u8) -> Result<(), AllocError>
-    requires { is_plain byte ≡ false }
+    requires { is_plain_char byte ≡ false }
     ensures { OnOk result (string_bytes out.new ≡ string_bytes out.old ++ escape_byte byte) }
 {
     match byte {

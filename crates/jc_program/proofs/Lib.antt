@@ -1,19 +1,19 @@
-pub mod Playing
-pub mod Reading
-pub mod Begun
-pub mod Counting
-pub mod Dumping
-pub mod Ending
-pub mod GivenStuck
-pub mod Viewing
-pub mod Viewed
-pub mod OneRun
-pub mod SomeRun
-pub mod Talked
-pub mod Orders
-pub mod Threaded
+pub mod PlayResultLemmas
+pub mod ReadsScenarioLemmas
+pub mod ViewOutputLemmas
+pub mod CommandCountLemmas
+pub mod DumpsLemmas
+pub mod ViewTextLemmas
+pub mod GivenStuckLemmas
+pub mod DocumentsLemmas
+pub mod ViewsLemmas
+pub mod LawsLemmas
+pub mod SomeRunLemmas
+pub mod SessionRunsLemmas
+pub mod CommandsLemmas
+pub mod ThreadRunsLemmas
 mod PromiseLemmas
 mod PromiseFactsLemmas
-mod Tellable
-mod Refusing
-mod Written
+mod EndsLemmas
+mod RefusedViewLemmas
+mod EndLinesLemmas

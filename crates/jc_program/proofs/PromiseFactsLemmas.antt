@@ -1,27 +1,27 @@
 -- What the program's promise gives.
 use Rattle.std.proofs.Common.{◌≡◌, ◌≢◌, ◌⊎◌, ◌∙◌, ℕ, inl, inr, List, [], ◌∷◌, Option, Some, None, codes, refl, sym, ap, subst}
 use Rattle.std.proofs.lemmas.Option.{same_Some}
-use Rattle.jc_words.specs.Words.{words_order, AsksHelp, IsFaultless}
-use Rattle.jc_words.specs.declared.order.Order.{Order}
-use Rattle.jc_words.specs.declared.order.Task.{Task}
-use Rattle.jc_words.specs.declared.order.Task.TheVariants.{Show, Debug, Threads}
+use Rattle.jc_cli.specs.Arguments.{words_order, AsksHelp, IsFaultless}
+use Rattle.jc_cli.specs.declared.order.Order.{Order}
+use Rattle.jc_cli.specs.declared.order.Task.{Task}
+use Rattle.jc_cli.specs.declared.order.Task.TheVariants.{Show, Debug, Threads}
 use Rattle.jc_program.specs.declared.fault.WorkFault.{WorkFault}
 use Rattle.jc_program.specs.declared.fault.WorkFault.TheVariants.{Read, Write, TooManyLines, NoThread, Memory}
 use Rattle.jc_program.specs.WorkFaults.{fault_status, fault_line}
-use Rattle.jc_program.specs.Due.{AreTold, told_by}
+use Rattle.jc_program.specs.ViewOutput.{AreTold, told_by}
 use Rattle.jc_program.specs.Faults.{IsCause, IsUnread}
-use Rattle.jc_program.specs.Talked.{lines_by}
-use Rattle.jc_program.specs.Orders.{IsAlone, IsDone, IsStopped, IsThreadsOrder}
-use Rattle.jc_program.specs.Threaded.{HaveThreaded, IsThreadsFault}
-use Rattle.jc_rules.specs.Told.{LosesUpTo}
+use Rattle.jc_program.specs.SessionRuns.{lines_by}
+use Rattle.jc_program.specs.Commands.{IsAlone, IsDone, IsStoppedCommand, IsThreadsOrder}
+use Rattle.jc_program.specs.ThreadRuns.{HaveThreaded, IsThreadsFault}
+use Rattle.jc_io.specs.Streams.{ConsumesUpTo}
 use Rattle.jc_session.specs.Written.{Stream}
 use Rattle.jc_program.specs.Promise.{World, Files, Promise, All, Says, Carried, Stopped, Completes, Breaks, done, text_refused, stuck, given_stuck, thread_starved, help, usage, read_failed, write_failed, help_write_failed, too_many_lines, no_thread, no_memory, no_memory_for_words}
-use Rattle.jc_words.specs.Laws.{FaultlessAreOrders}
-use Rattle.jc_words.proofs.Commands.{asks_none}
+use Rattle.jc_cli.specs.Laws.{FaultlessAreOrders}
+use Rattle.jc_cli.proofs.ProgramCommandsLemmas.{asks_none}
 use Rattle.jc_program.specs.PromiseFacts.{OrderFact, DoneFact, StoppedFact, ThreadsFact, HelpFact, LostFact, FaultyFact, SilentFact, UnshownFact, ShownFact, UsageFact, UnreadFact, OtherFileFact, MostFact, FailedFact, MemoryLineFact, QuietFact, Facts}
 use Rattle.jc_program.specs.Laws.{PromiseGivesFacts, AlonePromiseGivesFacts}
-use Rattle.jc_program.proofs.Orders as E
-use Rattle.jc_program.proofs.Threaded.{lacking}
+use Rattle.jc_program.proofs.CommandsLemmas as E
+use Rattle.jc_program.proofs.ThreadRunsLemmas.{lacking}
 use Rattle.jc_program.proofs.PromiseLemmas.{alone_at, loses_none}
 
 -- ---- statuses
@@ -70,7 +70,7 @@ faultless_some law (w ∷ ws) free none = none_some none (law w ws free).1
 
 -- ---- what went out after a fault
 
-breaks_stop : (task : Task) (fault : WorkFault) (bytes : List ℕ) (told lines left : Option (List ℕ)) (old new : Stream) → AreTold told bytes → IsAlone task → Breaks task fault bytes lines left old new → IsStopped task fault told lines left old new
+breaks_stop : (task : Task) (fault : WorkFault) (bytes : List ℕ) (told lines left : Option (List ℕ)) (old new : Stream) → AreTold told bytes → IsAlone task → Breaks task fault bytes lines left old new → IsStoppedCommand task fault told lines left old new
 breaks_stop (Show view) fault bytes told lines left old new is alone h = (bytes, is, h)
 breaks_stop Debug fault bytes told lines left old new is alone h = (bytes, is, h)
 breaks_stop (Threads limit) fault bytes told lines left old new is alone h = absurd alone
@@ -78,7 +78,7 @@ breaks_stop (Threads limit) fault bytes told lines left old new is alone h = abs
 abbrev Stop : Files → World → World → WorkFault → Order → Type 0
 Stop files old new fault order =
     IsCause fault (IsUnread files.may_fail order.file) old.input.failures new.input.failures old.out.failures new.out.failures
-    × IsStopped order.task fault (told_by old.input.bytes files.texts order.file) (lines_by old.input.bytes order.file) (lines_by new.input.bytes order.file) old.out new.out
+    × IsStoppedCommand order.task fault (told_by old.input.bytes files.texts order.file) (lines_by old.input.bytes order.file) (lines_by new.input.bytes order.file) old.out new.out
 
 of_stop : {Does : Task → Type 0} (files : Files) (words : List (List ℕ)) (old new : World) (n : ℕ) (fault : WorkFault) → n ≡ fault_status fault → (s : Stopped Does files words old new fault) → IsCause fault (IsUnread files.may_fail s.order.file) old.input.failures new.input.failures old.out.failures new.out.failures → StoppedFact files words old new n
 of_stop files words old new n fault status s cause order some alone ends =
@@ -131,11 +131,11 @@ no_lines (inr (inr c)) = inr (inr (inl c))
 
 module _ (Does : Task → Type 0) (files : Files) (words : List (List ℕ)) (old new : World) where
   -- an order of which nothing was read or done
-  unstarted : (order : Order) → new.input ≡ old.input → new.out ≡ old.out → IsStopped order.task Memory (told_by old.input.bytes files.texts order.file) (lines_by old.input.bytes order.file) (lines_by new.input.bytes order.file) old.out new.out
+  unstarted : (order : Order) → new.input ≡ old.input → new.out ≡ old.out → IsStoppedCommand order.task Memory (told_by old.input.bytes files.texts order.file) (lines_by old.input.bytes order.file) (lines_by new.input.bytes order.file) old.out new.out
   unstarted order input out =
       let told = told_by old.input.bytes files.texts order.file in
       let lines = lines_by old.input.bytes order.file in
-      subst (λ (s : Stream). IsStopped order.task Memory told lines (lines_by s.bytes order.file) old.out new.out) (sym input)
+      subst (λ (s : Stream). IsStoppedCommand order.task Memory told lines (lines_by s.bytes order.file) old.out new.out) (sym input)
       (E.nothing_done order.task told lines old.out new.out out)
 
   pub stopped_of : {n : ℕ} → Promise Does files words old new n → StoppedFact files words old new n
@@ -396,11 +396,11 @@ module _ (Does : Task → Type 0) (files : Files) (words : List (List ℕ)) (old
   most_at : {n : ℕ} → Kind n → MostFact files words old new n
   most_at {n} (inl c) order some by =
       let same : c.order ≡ order = same_Some c.order order (sym c.is_order ∙ some) in
-      subst (λ (o : Order). (o.task ≢ Debug) ⊎ (o.file ≡ codes "-") → LosesUpTo 8388609 old.input.bytes new.input.bytes) same (λ h. (c.reads (elim h [ inl a ↦ inl a | inr b ↦ inr (inr (inr b)) ])).most) by
+      subst (λ (o : Order). (o.task ≢ Debug) ⊎ (o.file ≡ codes "-") → ConsumesUpTo 8388609 old.input.bytes new.input.bytes) same (λ h. (c.reads (elim h [ inl a ↦ inl a | inr b ↦ inr (inr (inr b)) ])).most) by
   most_at {n} (inr (inl f)) order some by =
       let s = f.2.0 in
       let same : s.order ≡ order = same_Some s.order order (sym s.is_order ∙ some) in
-      subst (λ (o : Order). (o.task ≢ Debug) ⊎ (o.file ≡ codes "-") → LosesUpTo 8388609 old.input.bytes new.input.bytes) same (λ h. (s.reads (elim h [ inl a ↦ inl a | inr b ↦ inr (inr (inr b)) ])).most) by
+      subst (λ (o : Order). (o.task ≢ Debug) ⊎ (o.file ≡ codes "-") → ConsumesUpTo 8388609 old.input.bytes new.input.bytes) same (λ h. (s.reads (elim h [ inl a ↦ inl a | inr b ↦ inr (inr (inr b)) ])).most) by
   most_at (inr (inr (inl u))) order some by = loses_none old.input.bytes new.input.bytes (ap (λ (s : Stream). s.bytes) u.1)
   most_at (inr (inr (inr none))) order some by = absurd (none_some none some)
 

@@ -2,26 +2,26 @@
 use Rattle.std.proofs.Common.{◌≡◌, ◌≢◌, ◌⊎◌, ◌≤◌, ◌∙◌, ℕ, inl, inr, List, [], Bool, true, false, Option, Some, None, Ok, Err, codes, string_bytes, refl, sym, ap, subst, arith}
 use Rattle.std.proofs.lemmas.Slice.Eq.{bytes_eq-Decides}
 use Rattle.std.specs.Str.{bytes_eq}
-use Rattle.jc_rules.specs.Told.{LosesUpTo, ConsumesIfTold}
-use Rattle.jc_words.specs.Words.{words_order, IsWordsFault, HasText}
-use Rattle.jc_words.specs.declared.fault.WordsFault.{WordsFault}
-use Rattle.jc_words.specs.declared.fault.WordsFault.TheVariants as W
-use Rattle.jc_words.specs.declared.order.Order.{Order}
-use Rattle.jc_words.specs.declared.order.Task.{Task}
-use Rattle.jc_words.specs.declared.order.Task.TheVariants.{Show, Debug, Threads}
+use Rattle.jc_io.specs.Streams.{ConsumesUpTo, ConsumesIfKnown}
+use Rattle.jc_cli.specs.Arguments.{words_order, IsWordsFault, HasText}
+use Rattle.jc_cli.specs.declared.fault.WordsFault.{WordsFault}
+use Rattle.jc_cli.specs.declared.fault.WordsFault.TheVariants as W
+use Rattle.jc_cli.specs.declared.order.Order.{Order}
+use Rattle.jc_cli.specs.declared.order.Task.{Task}
+use Rattle.jc_cli.specs.declared.order.Task.TheVariants.{Show, Debug, Threads}
 use Rattle.jc_program.specs.declared.fault.WorkFault.{WorkFault}
 use Rattle.jc_program.specs.declared.fault.WorkFault.TheVariants.{Read, Write, TooManyLines, NoThread, Memory}
 use Rattle.jc_program.specs.declared.recording.Outcome.{Outcome}
 use Rattle.jc_program.specs.declared.recording.Outcome.TheVariants as O
 use Rattle.jc_program.specs.WorkFaults.{Explains, fault_status, fault_line}
-use Rattle.jc_program.specs.Due.{AreTold, told_by}
+use Rattle.jc_program.specs.ViewOutput.{AreTold, told_by}
 use Rattle.jc_program.specs.Faults.{IsCause, IsUnread}
-use Rattle.jc_program.specs.Talked.{lines_by}
-use Rattle.jc_program.specs.Threaded.{outcome_status, ThreadsRan, HaveThreaded, HaveStopped}
-use Rattle.jc_program.specs.Orders.{IsAlone, IsDone, IsStopped}
+use Rattle.jc_program.specs.SessionRuns.{lines_by}
+use Rattle.jc_program.specs.ThreadRuns.{outcome_status, ThreadsRan, HaveThreaded, HaveStopped}
+use Rattle.jc_program.specs.Commands.{IsAlone, IsDone, IsStoppedCommand}
 use Rattle.jc_session.specs.Written.{Stream}
 use Rattle.jc_program.specs.Promise.{World, Files, NoneFailed, ReadsFor, HasStart, Promise, All, Says, Carried, Stopped, Completes, Breaks, done, text_refused, stuck, given_stuck, thread_starved, help, usage, read_failed, write_failed, help_write_failed, too_many_lines, no_thread, no_memory, no_memory_for_words}
-use Rattle.jc_program.proofs.Orders as E
+use Rattle.jc_program.proofs.CommandsLemmas as E
 
 -- ---- tasks
 
@@ -32,7 +32,7 @@ completed Debug told lines old new n h quiet = (h.0, h.1, (h.2, quiet))
 completed (Threads limit) told lines old new n h quiet = absurd h
 
 -- a fault stopped it
-broken : (task : Task) (fault : WorkFault) (told lines left : Option (List ℕ)) (old new : Stream) → IsAlone task → IsStopped task fault told lines left old new → (bytes : List ℕ) × AreTold told bytes × Breaks task fault bytes lines left old new
+broken : (task : Task) (fault : WorkFault) (told lines left : Option (List ℕ)) (old new : Stream) → IsAlone task → IsStoppedCommand task fault told lines left old new → (bytes : List ℕ) × AreTold told bytes × Breaks task fault bytes lines left old new
 broken (Show view) fault told lines left old new alone h = h
 broken Debug fault told lines left old new alone h = h
 broken (Threads limit) fault told lines left old new alone h = absurd alone
@@ -76,23 +76,23 @@ is_dash file = by (bytes_eq file (codes "-")) refl
     by true e = inl ((bytes_eq-Decides file (codes "-")).0 e)
     by false e = inr (λ same. (let bad : true ≡ false = sym ((bytes_eq-Decides file (codes "-")).1 same) ∙ e in cc))
 
-none_lost : (a : Option (List ℕ)) → ConsumesIfTold a a []
+none_lost : (a : Option (List ℕ)) → ConsumesIfKnown a a []
 none_lost None = tt
 none_lost (Some xs) = refl
 
-pub loses_none : (a b : Option (List ℕ)) → b ≡ a → LosesUpTo 8388609 a b
-loses_none a b same = ([], nat_0, subst (λ (o : Option (List ℕ)). ConsumesIfTold a o []) (sym same) (none_lost a))
+pub loses_none : (a b : Option (List ℕ)) → b ≡ a → ConsumesUpTo 8388609 a b
+loses_none a b same = ([], nat_0, subst (λ (o : Option (List ℕ)). ConsumesIfKnown a o []) (sym same) (none_lost a))
   where
     nat_0 : 0 ≤ 8388609
     nat_0 = omega arith
 
 module _ (order : Order) (n : ℕ) (old new : World)
-    (most : (order.task ≢ Debug) ⊎ (order.file ≡ codes "-") → LosesUpTo 8388609 old.input.bytes new.input.bytes)
+    (most : (order.task ≢ Debug) ⊎ (order.file ≡ codes "-") → ConsumesUpTo 8388609 old.input.bytes new.input.bytes)
     (untouched : (order.task ≢ Debug) ⊎ ((n ≡ 1) ⊎ (n ≡ 3)) → order.file ≢ codes "-" → new.input ≡ old.input) where
-  left_alone : (order.task ≢ Debug) ⊎ ((n ≡ 1) ⊎ (n ≡ 3)) → LosesUpTo 8388609 old.input.bytes new.input.bytes
+  left_alone : (order.task ≢ Debug) ⊎ ((n ≡ 1) ⊎ (n ≡ 3)) → ConsumesUpTo 8388609 old.input.bytes new.input.bytes
   left_alone by = elim (is_dash order.file) [ inl file ↦ most (inr file) | inr file ↦ loses_none old.input.bytes new.input.bytes (ap (λ (s : Stream). s.bytes) (untouched by file)) ]
 
-  loses : (order.task ≢ Debug) ⊎ ((n ≡ 1) ⊎ ((n ≡ 3) ⊎ (order.file ≡ codes "-"))) → LosesUpTo 8388609 old.input.bytes new.input.bytes
+  loses : (order.task ≢ Debug) ⊎ ((n ≡ 1) ⊎ ((n ≡ 3) ⊎ (order.file ≡ codes "-"))) → ConsumesUpTo 8388609 old.input.bytes new.input.bytes
   loses (inl other) = most (inl other)
   loses (inr (inl one)) = left_alone (inr (inl one))
   loses (inr (inr (inl three))) = left_alone (inr (inr three))
@@ -144,7 +144,7 @@ module _ (Does : Task → Type 0) (files : Files) (words : List (List ℕ)) (old
         ended (record { order = order; is_order = is_order; does = does; bytes = c.0; told = c.1; completes = c.2; reads = reads; none_failed = free })
 
     -- a fault stopped it
-    pub stopped : (fault : WorkFault) (n : ℕ) → n ≡ fault_status fault → IsAlone order.task → IsStopped order.task fault (told_by old.input.bytes files.texts order.file) (lines_by old.input.bytes order.file) (lines_by new.input.bytes order.file) old.out new.out → IsCause fault (IsUnread files.may_fail order.file) old.input.failures new.input.failures old.out.failures new.out.failures → ReadsFor order 4 old new → Says old new (fault_line fault) → Promise Does files words old new n
+    pub stopped : (fault : WorkFault) (n : ℕ) → n ≡ fault_status fault → IsAlone order.task → IsStoppedCommand order.task fault (told_by old.input.bytes files.texts order.file) (lines_by old.input.bytes order.file) (lines_by new.input.bytes order.file) old.out new.out → IsCause fault (IsUnread files.may_fail order.file) old.input.failures new.input.failures old.out.failures new.out.failures → ReadsFor order 4 old new → Says old new (fault_line fault) → Promise Does files words old new n
     stopped fault n e alone h cause reads line =
         let b = broken order.task fault (told_by old.input.bytes files.texts order.file) (lines_by old.input.bytes order.file) (lines_by new.input.bytes order.file) old.out new.out alone h in
         halted fault n e (record { order = order; is_order = is_order; does = does; bytes = b.0; told = b.1; breaks = b.2; reads = reads; line = line }) cause

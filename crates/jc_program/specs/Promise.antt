@@ -7,26 +7,26 @@ use Rattle.std.specs.declared.vec.Vec.{Vec}
 use Rattle.jc_rules.specs.declared.operation.Event.{Event}
 use Rattle.jc_rules.specs.Refused.{Cause}
 use Rattle.jc_rules.specs.Step.{Network}
-use Rattle.jc_rules.specs.Told.{LosesUpTo}
-use Rattle.jc_rules.specs.declared.io.Source.{Ghosts as SourceGhosts}
-use Rattle.jc_rules.specs.declared.io.Sink.{Ghosts as SinkGhosts}
-use Rattle.jc_scenario.specs.Scenarios.{Scenario, IsScenario}
-use Rattle.jc_network.specs.Given.{bare, IsStart, IsGivenStuck}
+use Rattle.jc_io.specs.Streams.{ConsumesUpTo}
+use Rattle.jc_io.specs.declared.io.Source.{Ghosts as SourceGhosts}
+use Rattle.jc_io.specs.declared.io.Sink.{Ghosts as SinkGhosts}
+use Rattle.jc_scenario.specs.WellFormed.{Scenario, IsScenario}
+use Rattle.jc_network.specs.Given.{before_given, IsStart, IsGivenStuck}
 use Rattle.jc_session.specs.Written.{Stream, sink, Wrote, WrotePart, Sent, Written}
-use Rattle.jc_words.specs.Words.{words_order, AsksHelp}
-use Rattle.jc_words.specs.declared.order.Order.{Order}
-use Rattle.jc_words.specs.declared.order.Task.{Task}
-use Rattle.jc_words.specs.declared.order.Task.TheVariants.{Show, Debug, Threads}
+use Rattle.jc_cli.specs.Arguments.{words_order, AsksHelp}
+use Rattle.jc_cli.specs.declared.order.Order.{Order}
+use Rattle.jc_cli.specs.declared.order.Task.{Task}
+use Rattle.jc_cli.specs.declared.order.Task.TheVariants.{Show, Debug, Threads}
 use Rattle.jc_program.specs.declared.fault.WorkFault.{WorkFault}
 use Rattle.jc_program.specs.declared.fault.WorkFault.TheVariants.{Read, Write, TooManyLines, NoThread, Memory}
 use Rattle.jc_program.specs.declared.files.Files.{Ghosts as FilesGhosts}
 use Rattle.jc_program.specs.WorkFaults.{fault_line, RefusesWords}
-use Rattle.jc_program.specs.Orders.{IsAlone, IsThreadsOrder}
-use Rattle.jc_program.specs.Ran.{Ran}
-use Rattle.jc_program.specs.Due.{AreTold, told_by, StopsView}
+use Rattle.jc_program.specs.Commands.{IsAlone, IsThreadsOrder}
+use Rattle.jc_program.specs.ViewText.{Ran}
+use Rattle.jc_program.specs.ViewOutput.{AreTold, told_by, StopsView}
 use Rattle.jc_program.specs.Faults.{IsUnread}
-use Rattle.jc_program.specs.Talked.{lines_by, TalksOn, StopsOn}
-use Rattle.jc_program.specs.Threaded.{ThreadsRan, AreTextsOf, AreScenario, StopsThreads}
+use Rattle.jc_program.specs.SessionRuns.{lines_by, TalksOn, StopsOn}
+use Rattle.jc_program.specs.ThreadRuns.{ThreadsRan, AreTextsOf, AreThreadScenario, StopsThreads}
 
 -- ---- the world
 
@@ -60,7 +60,7 @@ pub record NoneFailed (old new : World) : Type 0 where
 -- Standard input is read for the text of the file `-` alone, and at most 8,388,609 bytes of it.
 pub record ReadsText (file : List ℕ) (old new : World) : Type 0 where
   pub other_file : file ≢ codes "-" → new.input ≡ old.input
-  pub most : LosesUpTo 8388609 old.input.bytes new.input.bytes
+  pub most : ConsumesUpTo 8388609 old.input.bytes new.input.bytes
 
 -- What an order that ends so reads of standard input. A session reads its lines there, unless they are none, because the
 -- input has the scenario, or because the scenario was refused or a given event of it is stuck.
@@ -88,7 +88,7 @@ abbrev pub Breaks : Task → WorkFault → List ℕ → Option (List ℕ) → Op
 Breaks (Show view) fault bytes lines left old new = StopsView view bytes fault old new
 Breaks Debug fault bytes lines left old new = StopsOn fault bytes lines left old new
 Breaks (Threads limit) fault bytes lines left old new =
-    StopsThreads (AreScenario bytes) (ThreadsRan limit bytes) fault old new
+    StopsThreads (AreThreadScenario bytes) (ThreadsRan limit bytes) fault old new
 
 -- The words are an order with a task of this kind, which came to its end with this status.
 pub record Carried (Does : Task → Type 0) (files : Files) (words : List (List ℕ)) (old new : World) (status : ℕ)
@@ -129,7 +129,7 @@ abbrev pub HasStuckGiven : List ℕ → Type 0
 HasStuckGiven bytes =
     (s : Scenario) × (at : ℕ) × (event : Event) × (why : Cause)
     × IsScenario bytes s
-    × IsGivenStuck (bare s) s.given at event why
+    × IsGivenStuck (before_given s) s.given at event why
 
 -- ---- the promise
 

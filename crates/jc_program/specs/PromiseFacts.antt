@@ -1,17 +1,17 @@
 -- What follows from the promise, fact by fact.
 use Rattle.std.specs.Prelude.{◌≡◌, ◌≢◌, ◌⊎◌, ℕ, List, [], Option, Some, None, codes}
 use Rattle.jc_session.specs.Written.{Wrote, WrotePart}
-use Rattle.jc_rules.specs.Told.{LosesUpTo}
-use Rattle.jc_words.specs.Words.{words_order, AsksHelp, IsFaultless}
-use Rattle.jc_words.specs.declared.order.Order.{Order}
-use Rattle.jc_words.specs.declared.order.Task.TheVariants.{Debug, Threads}
+use Rattle.jc_io.specs.Streams.{ConsumesUpTo}
+use Rattle.jc_cli.specs.Arguments.{words_order, AsksHelp, IsFaultless}
+use Rattle.jc_cli.specs.declared.order.Order.{Order}
+use Rattle.jc_cli.specs.declared.order.Task.TheVariants.{Debug, Threads}
 use Rattle.jc_program.specs.declared.fault.WorkFault.{WorkFault}
 use Rattle.jc_program.specs.WorkFaults.{fault_status, fault_line}
-use Rattle.jc_program.specs.Due.{told_by}
+use Rattle.jc_program.specs.ViewOutput.{told_by}
 use Rattle.jc_program.specs.Faults.{IsCause, IsUnread}
-use Rattle.jc_program.specs.Talked.{lines_by}
-use Rattle.jc_program.specs.Orders.{IsAlone, IsDone, IsStopped, IsThreadsOrder}
-use Rattle.jc_program.specs.Threaded.{HaveThreaded, IsThreadsFault}
+use Rattle.jc_program.specs.SessionRuns.{lines_by}
+use Rattle.jc_program.specs.Commands.{IsAlone, IsDone, IsStoppedCommand, IsThreadsOrder}
+use Rattle.jc_program.specs.ThreadRuns.{HaveThreaded, IsThreadsFault}
 use Rattle.jc_program.specs.Promise.{World, Files, Says}
 
 module _ (files : Files) (words : List (List ℕ)) (old new : World) (result : ℕ) where
@@ -35,7 +35,7 @@ module _ (files : Files) (words : List (List ℕ)) (old new : World) (result : �
       → (fault : WorkFault) × (result ≡ fault_status fault) × Says old new (fault_line fault)
       × IsCause fault (IsUnread files.may_fail order.file)
       old.input.failures new.input.failures old.out.failures new.out.failures
-      × IsStopped order.task fault (told_by old.input.bytes files.texts order.file) (lines_by old.input.bytes order.file)
+      × IsStoppedCommand order.task fault (told_by old.input.bytes files.texts order.file) (lines_by old.input.bytes order.file)
       (lines_by new.input.bytes order.file) old.out new.out
 
   -- threads ran to their end, or a fault stopped the command
@@ -87,7 +87,7 @@ module _ (files : Files) (words : List (List ℕ)) (old new : World) (result : �
   -- of a text at most so many bytes are read
   abbrev pub MostFact : Type 0
   MostFact = (order : Order) → words_order words ≡ Some order → (order.task ≢ Debug) ⊎ (order.file ≡ codes "-")
-      → LosesUpTo 8388609 old.input.bytes new.input.bytes
+      → ConsumesUpTo 8388609 old.input.bytes new.input.bytes
 
   -- failures come with the status 4 alone
   abbrev pub FailedFact : Type 0

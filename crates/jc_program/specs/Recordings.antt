@@ -3,9 +3,9 @@ use Rattle.std.specs.Prelude.{◌≡◌, ℕ, List, string_bytes}
 use Rattle.jc_rules.specs.declared.operation.Event.{Event}
 use Rattle.jc_rules.specs.Refused.{Cause}
 use Rattle.jc_scenario.specs.Canon.{canon}
-use Rattle.jc_scenario.specs.Scenarios.{Scenario}
+use Rattle.jc_scenario.specs.WellFormed.{Scenario}
 use Rattle.jc_network.specs.declared.fault.Stuck.{Stuck}
-use Rattle.jc_network.specs.Makes.{stuck_for}
+use Rattle.jc_network.specs.Steps.{stuck_for}
 use Rattle.jc_dump.specs.Lines.{IsNamedStuck}
 use Rattle.jc_dump.specs.Texts.{given_text}
 use Rattle.jc_runner.specs.declared.run.Report.{Report}
@@ -13,7 +13,7 @@ use Rattle.jc_runner.specs.Laws.{with_schedule}
 use Rattle.jc_runner.specs.Reports.{IsReport}
 use Rattle.jc_program.specs.Ends.{AreEndLines, outcome_of}
 use Rattle.jc_program.specs.declared.recording.Recording.{Recording}
-use Rattle.jc_program.specs.Ran.{IsGivenShown}
+use Rattle.jc_program.specs.ViewText.{IsGivenShown}
 use Rattle.jc_runner.specs.declared.run.RunFault.{RunFault}
 use Rattle.jc_runner.specs.declared.run.RunFault.TheVariants as R
 use Rattle.jc_program.specs.declared.recording.RecordFault.{RecordFault}

@@ -3,8 +3,8 @@ use Rattle.std.specs.Prelude.{◌≡◌, ◌≢◌, ◌⊎◌, ℕ, List, codes,
 use Rattle.std.specs.declared.io.ErrorKind.{ErrorKind}
 use Rattle.std.specs.declared.io.ErrorKind.TheVariants.{OutOfMemory}
 use Rattle.jc_session.specs.Written.{Stream, Wrote, WrotePart, Sent}
-use Rattle.jc_words.specs.declared.fault.WordsFault.{WordsFault}
-use Rattle.jc_words.specs.declared.fault.WordsFault.TheVariants as words
+use Rattle.jc_cli.specs.declared.fault.WordsFault.{WordsFault}
+use Rattle.jc_cli.specs.declared.fault.WordsFault.TheVariants as words
 use Rattle.jc_program.specs.declared.fault.WorkFault.{WorkFault}
 use Rattle.jc_program.specs.declared.fault.WorkFault.TheVariants.{Read, Write, TooManyLines, NoThread, Memory}
 

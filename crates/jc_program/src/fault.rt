@@ -5,7 +5,7 @@ ghost use Rattle.jc_program.specs.WorkFaults.{fault_status, fault_line};
 ghost use Rattle.jc_session.specs.Written.{sink, Sent};
 
 use crate::sending::report;
-use jc_rules::io::Sink;
+use jc_io::Sink;
 
 /// Why there is no status of a run.
 #[derive(Clone, Copy, Debug, PartialEq, Eq)]

@@ -2,7 +2,7 @@
 
 ghost use Rattle.std.specs.Prelude.{map, string_bytes};
 ghost use Rattle.std.specs.Process.{exit_status};
-ghost use Rattle.jc_program.specs.Orders.{IsThreadsOrder};
+ghost use Rattle.jc_program.specs.Commands.{IsThreadsOrder};
 ghost use Rattle.jc_program.specs.Promise.{Promise, All, ProcessPromise, files_of, world};
 
 use crate::alone::work_alone;
@@ -10,8 +10,8 @@ use crate::fault::{WorkFault, end};
 use crate::files::Files;
 use crate::threads::threads;
 use crate::words::{explain, refuse_words};
-use jc_rules::io::{Sink, Source};
-use jc_words::{Task, order_of};
+use jc_cli::{Task, order_of};
+use jc_io::{Sink, Source};
 use std::io;
 use std::process::ExitCode;
 use std::sync::Wait;

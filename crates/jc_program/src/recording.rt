@@ -4,10 +4,10 @@ ghost use Rattle.std.specs.Prelude.{◌≡◌, ◌≤◌, ℕ, IfOk, IfErr, stri
 ghost use Rattle.std.specs.List.{list_any};
 ghost use Rattle.jc_rules.specs.declared.operation.Event.{Event as AnyEvent};
 ghost use Rattle.jc_rules.specs.Refused.{Cause};
-ghost use Rattle.jc_network.specs.Makes.{stuck_for};
+ghost use Rattle.jc_network.specs.Steps.{stuck_for};
 ghost use Rattle.jc_dump.specs.Lines.{IsNamedStuck};
 ghost use Rattle.jc_dump.specs.Texts.{given_text};
-ghost use Rattle.jc_scenario.specs.Scenarios.{IsWellFormed};
+ghost use Rattle.jc_scenario.specs.WellFormed.{IsWellFormedScenario};
 ghost use Rattle.jc_scenario.specs.Views.{scenario_view};
 ghost use Rattle.jc_runner.specs.Reports.{IsReport};
 ghost use Rattle.jc_program.specs.Ends.{is_stuck, lacks_memory, outcome_of};
@@ -204,7 +204,7 @@ pub fn record<R: Threads + Wait + Sync>(
     scenario: Scenario,
     limit: u64,
 ) -> Result<Recording, RecordFault>
-    requires scenario { IsWellFormed (scenario_view scenario) }
+    requires scenario { IsWellFormedScenario (scenario_view scenario) }
     requires limit { limit ≤ 100000 }
     ensures recorded { IfOk result (IsRecording (scenario_view scenario) limit) }
     ensures fault { IfErr result (IsRecordFault (scenario_view scenario)) }

@@ -2,7 +2,7 @@
 
 ghost use Rattle.jc_session.specs.Written.{sink, Sent};
 
-use jc_rules::io::{Sink, write_all};
+use jc_io::{Sink, write_all};
 
 /// Writes a text on standard error, whose failures change nothing.
 pub fn report<E: Sink>(err: &mut E, text: &str)

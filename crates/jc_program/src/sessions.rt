@@ -2,16 +2,16 @@
 
 ghost use Rattle.std.specs.Prelude.{◌≡◌, ◌≢◌, ◌<◌, ◌⊎◌, [], Some, Ok, codes, IfOk, IfErr, OnOk};
 ghost use Rattle.std.specs.Io.{ReadsAtMost};
-ghost use Rattle.jc_rules.specs.Told.{LosesUpTo, Reads};
+ghost use Rattle.jc_io.specs.Streams.{ConsumesUpTo, ReadsBytes};
 ghost use Rattle.jc_session.specs.Written.{sink};
-ghost use Rattle.jc_program.specs.Due.{told_by};
+ghost use Rattle.jc_program.specs.ViewOutput.{told_by};
 ghost use Rattle.jc_program.specs.Faults.{IsCause, IsUnread};
-ghost use Rattle.jc_program.specs.Talked.{lines_by, TalksOn, StopsOn, HasTalked, HasStopped};
+ghost use Rattle.jc_program.specs.SessionRuns.{lines_by, TalksOn, StopsOn, HasTalked, HasStopped};
 
 use crate::alone::text_of;
 use crate::fault::WorkFault;
 use crate::files::Files;
-use jc_rules::io::{Failed, ReadFault, Sink, Source};
+use jc_io::{Failed, ReadFault, Sink, Source};
 use jc_session::{SessionEnd, SessionFault, session};
 use std::alloc::Global;
 
@@ -70,7 +70,7 @@ pub fn debug<R: AllocGlobal + Files, I: Source, K: Sink>(
     ensures stopped { IfErr result (λ fault. HasStopped fault
         (told_by (I.left input.old) (R.texts rt.now) file.now) (lines_by (I.left input.old) file.now)
         (lines_by (I.left input.new) file.now) (sink K.Sink out.old) (sink K.Sink out.new)) }
-    ensures most { file.now ≡ codes "-" → LosesUpTo 8388609 (I.left input.old) (I.left input.new) }
+    ensures most { file.now ≡ codes "-" → ConsumesUpTo 8388609 (I.left input.old) (I.left input.new) }
     ensures untouched { (result ≡ Ok 1) ⊎ (result ≡ Ok 3) → file.now ≢ codes "-" → input.new ≡ input.old }
     ensures same { OnOk result
         ((I.failures input.new ≡ I.failures input.old) × (K.failures out.new ≡ K.failures out.old)) }

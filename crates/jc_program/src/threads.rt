@@ -1,13 +1,13 @@
 //! The command `threads`: what a scenario's replicas make in threads of their own.
 
 ghost use Rattle.std.specs.Prelude.{◌≡◌, ◌≢◌, ◌≤◌, ℕ, ⊤, codes, string_bytes, IfOk, IfErr, OnOk, OnErr};
-ghost use Rattle.jc_rules.specs.Told.{LosesUpTo};
-ghost use Rattle.jc_scenario.specs.Scenarios.{IsWellFormed};
+ghost use Rattle.jc_io.specs.Streams.{ConsumesUpTo};
+ghost use Rattle.jc_scenario.specs.WellFormed.{IsWellFormedScenario};
 ghost use Rattle.jc_scenario.specs.Views.{scenario_view};
 ghost use Rattle.jc_session.specs.Written.{sink, Wrote, WrotePart, Sent};
-ghost use Rattle.jc_program.specs.Due.{told_by};
+ghost use Rattle.jc_program.specs.ViewOutput.{told_by};
 ghost use Rattle.jc_program.specs.Faults.{IsCause, IsUnread};
-ghost use Rattle.jc_program.specs.Threaded.{outcome_status, IsUnrecorded, ShowsThreads, ThreadsRan, AreTextsOf, AreScenario, StopsThreads, HaveThreaded, HaveStopped};
+ghost use Rattle.jc_program.specs.ThreadRuns.{outcome_status, IsUnrecorded, ShowsThreads, ThreadsRan, AreTextsOf, AreThreadScenario, StopsThreads, HaveThreaded, HaveStopped};
 
 use crate::alone::{refuse, text_of};
 use crate::fault::WorkFault;
@@ -15,7 +15,7 @@ use crate::files::Files;
 use crate::recording::{Outcome, RecordFault, Recording, record};
 use crate::run::{RunFault, send};
 use crate::sending::report;
-use jc_rules::io::{ReadFault, Sink, Source};
+use jc_io::{ReadFault, Sink, Source};
 use jc_scenario::{Scenario, read};
 use std::sync::Wait;
 use std::thread::Threads;
@@ -68,7 +68,7 @@ fn run_all<R: Threads + Wait + Sync + AllocGlobal, K: Sink, E: Sink>(
     out: &mut K,
     err: &mut E,
 ) -> Result<u8, WorkFault>
-    requires formed { IsWellFormed (scenario_view scenario) }
+    requires formed { IsWellFormedScenario (scenario_view scenario) }
     requires limit { limit ≤ 100000 }
     ensures ok { IfOk result (AreTextsOf (ShowsThreads limit (scenario_view scenario))
         (sink K.Sink out.old) (sink K.Sink out.new) (λ lines. Sent lines (sink E.Sink err.old) (sink E.Sink err.new))) }
@@ -98,7 +98,7 @@ fn run_text<R: Threads + Wait + Sync + AllocGlobal, K: Sink, E: Sink>(
     requires { limit ≤ 100000 }
     ensures ok { IfOk result (AreTextsOf (ThreadsRan limit text.now) (sink K.Sink out.old) (sink K.Sink out.new)
         (λ lines. Sent lines (sink E.Sink err.old) (sink E.Sink err.new))) }
-    ensures stopped { IfErr result (λ fault. StopsThreads (AreScenario text.now) (ThreadsRan limit text.now) fault
+    ensures stopped { IfErr result (λ fault. StopsThreads (AreThreadScenario text.now) (ThreadsRan limit text.now) fault
         (sink K.Sink out.old) (sink K.Sink out.new)) }
     ensures quiet { OnErr result (err.new ≡ err.old) }
     ensures cause { IfErr result (λ fault. (n : ℕ)
@@ -133,7 +133,7 @@ pub fn threads<R: Threads + Wait + Sync + AllocGlobal + Files, I: Source, K: Sin
     ensures stopped { IfErr result (λ fault. HaveStopped limit fault
         (told_by (I.left input.old) (R.texts rt.now) file.now) (sink K.Sink out.old) (sink K.Sink out.new)) }
     ensures quiet { OnErr result (err.new ≡ err.old) }
-    ensures most { LosesUpTo 8388609 (I.left input.old) (I.left input.new) }
+    ensures most { ConsumesUpTo 8388609 (I.left input.old) (I.left input.new) }
     ensures untouched { file.now ≢ codes "-" → input.new ≡ input.old }
     ensures same { OnOk result
         ((I.failures input.new ≡ I.failures input.old) × (K.failures out.new ≡ K.failures out.old)) }

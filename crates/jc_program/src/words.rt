@@ -5,8 +5,8 @@ ghost use Rattle.jc_program.specs.WorkFaults.{Explains, RefusesWords};
 
 use crate::fault::{WorkFault, end};
 use crate::sending::report;
-use jc_rules::io::{Failed, Sink, write_all};
-use jc_words::WordsFault;
+use jc_cli::WordsFault;
+use jc_io::{Failed, Sink, write_all};
 use std::io::ErrorKind;
 
 /// Answers words that are no order: help on the output, and what is wrong with the words on `err`.

@@ -5,8 +5,8 @@ ghost use Rattle.std.specs.Prelude.{None, true};
 use super::holds;
 use super::whole_runs::{FIRST_BLOCK, ONE, ONE_DUMP, ends, expect_text};
 use jc_fakes::{Bytes, Taken, TakesUpTo, Then};
+use jc_io::{ReadFault, Source, read_up_to};
 use jc_program::{Files, work_alone};
-use jc_rules::io::{ReadFault, Source, read_up_to};
 use std::alloc::{AllocError, Global};
 use std::process::Abort;
 

@@ -4,8 +4,8 @@ use super::commands::{Shelf, expect_shown, no_files, said};
 use super::holds;
 use super::whole_runs::{ONE, ONE_DUMP, ends, expect_text};
 use jc_fakes::{Bytes, Endless, FailsAt, OneByte, Taken, TakesUpTo, Then};
+use jc_io::{Sink, Source};
 use jc_program::work_alone;
-use jc_rules::io::{Sink, Source};
 use std::alloc::Global;
 use std::process::Abort;
 

@@ -3,9 +3,9 @@
 use super::commands::no_files;
 use super::{counts, holds};
 use jc_fakes::{Bytes, Endless, FailsAt, OneByte, Taken, TakesUpTo, Then};
+use jc_io::{Sink, Source};
 use jc_program::laws::{alone_promise_gives_facts, one_run, promise_gives_facts};
 use jc_program::work_alone;
-use jc_rules::io::{Sink, Source};
 use std::process::Abort;
 use std::test::Fail;
 

@@ -11,38 +11,38 @@ use Rattle.jc_apply.specs.declared.apply.ApplyFault.{ApplyFault}
 use Rattle.jc_apply.specs.declared.apply.ApplyFault.TheVariants as A
 use Rattle.jc_replica.specs.declared.fault.ReplicaFault.{ReplicaFault}
 use Rattle.jc_replica.specs.declared.fault.ReplicaFault.TheVariants as E
-use Rattle.jc_replica.specs.Past.{Past}
-use Rattle.jc_sets.specs.States.{StateStandsFor}
-use Rattle.jc_replica.specs.Seen.{HasOwnFor, IsRead, Leads}
+use Rattle.jc_replica.specs.ReplicaHistory.{Past}
+use Rattle.jc_vectors.specs.StoredStates.{RepresentsState}
+use Rattle.jc_replica.specs.Refines.{HasOwnFor, IsRead, LeadsReplica}
 
 -- One step: in each sound set the event leads by the table from what the old state stands for to what the new one
 -- stands for, with these rules, and the state before it is kept.
 pub record Occurs (event : Event) (read : List Op) (old new : Past) (rows : Rows) : Type 0 where
   pub leads : (set os : List Op) (A : State)
-      → StateStandsFor set A old.now → HasOwnFor event set old.number A → IsRead set os read
-      → Leads set event old.number os A new.now rows
+      → RepresentsState set A old.now → HasOwnFor event set old.number A → IsRead set os read
+      → LeadsReplica set event old.number os A new.now rows
   pub earlier : new.earlier ≡ old.earlier ++ old.now ∷ []
   pub number : new.number ≡ old.number
 
 -- the cause in the table, but for want of memory
-abbrev pub cause_of : ReplicaFault → Option Cause
-cause_of E.NotInList = Some (because F.NotInList)
-cause_of E.UnboundVariable = Some (because F.UnboundVariable)
-cause_of E.GetOnHead = Some (because F.GetOnHead)
-cause_of E.NotACursor = Some (because F.NotACursor)
-cause_of (E.NoSuchNode k) = Some (no_node k)
-cause_of E.PastEnd = Some (because F.PastEnd)
-cause_of E.NoMap = Some (because F.NoMap)
-cause_of E.NoRegister = Some (because F.NoRegister)
-cause_of E.TooDeep = Some (because F.TooDeep)
-cause_of E.NoCommand = Some (because F.NoCommand)
-cause_of E.AtYield = Some (because F.AtYield)
-cause_of E.NotAtYield = Some (because F.NotAtYield)
-cause_of E.NotActed = Some (because F.NotActed)
-cause_of E.NotReceived = Some (because F.NotReceived)
-cause_of E.AlreadyApplied = Some (because F.AlreadyApplied)
-cause_of E.DepsMissing = Some (because F.DepsMissing)
-cause_of E.Memory = None
+abbrev pub fault_cause_of : ReplicaFault → Option Cause
+fault_cause_of E.NotInList = Some (because F.NotInList)
+fault_cause_of E.UnboundVariable = Some (because F.UnboundVariable)
+fault_cause_of E.GetOnHead = Some (because F.GetOnHead)
+fault_cause_of E.NotACursor = Some (because F.NotACursor)
+fault_cause_of (E.NoSuchNode k) = Some (no_node k)
+fault_cause_of E.PastEnd = Some (because F.PastEnd)
+fault_cause_of E.NoMap = Some (because F.NoMap)
+fault_cause_of E.NoRegister = Some (because F.NoRegister)
+fault_cause_of E.TooDeep = Some (because F.TooDeep)
+fault_cause_of E.NoCommand = Some (because F.NoCommand)
+fault_cause_of E.AtYield = Some (because F.AtYield)
+fault_cause_of E.NotAtYield = Some (because F.NotAtYield)
+fault_cause_of E.NotActed = Some (because F.NotActed)
+fault_cause_of E.NotReceived = Some (because F.NotReceived)
+fault_cause_of E.AlreadyApplied = Some (because F.AlreadyApplied)
+fault_cause_of E.DepsMissing = Some (because F.DepsMissing)
+fault_cause_of E.Memory = None
 
 -- the same of an operation that isn't applied
 abbrev pub apply_cause : ApplyFault → Option Cause
@@ -53,14 +53,14 @@ apply_cause A.Memory = None
 abbrev pub RefusedFor : Event → List Op → Past → Cause → Type 0
 RefusedFor event read old why =
     (set os : List Op) (A : State)
-    → StateStandsFor set A old.now → IsRead set os read
+    → RepresentsState set A old.now → IsRead set os read
     → Refused (Occur A event os) why
 
 -- the event is refused for the fault's cause, unless memory was refused
-abbrev pub IsRefused : Event → List Op → Past → ReplicaFault → Type 0
-IsRefused event read old fault = IfSome (cause_of fault) (λ why. RefusedFor event read old why)
+abbrev pub IsEventRefused : Event → List Op → Past → ReplicaFault → Type 0
+IsEventRefused event read old fault = IfSome (fault_cause_of fault) (λ why. RefusedFor event read old why)
 
 -- A call makes its event, or it is refused; then all is as it was.
-abbrev pub Answers : Event → List Op → Past → Past → Result Rows ReplicaFault → Type 0
-Answers event read old new (Ok rows) = Occurs event read old new rows
-Answers event read old new (Err fault) = (new ≡ old) × IsRefused event read old fault
+abbrev pub AnswersEvent : Event → List Op → Past → Past → Result Rows ReplicaFault → Type 0
+AnswersEvent event read old new (Ok rows) = Occurs event read old new rows
+AnswersEvent event read old new (Err fault) = (new ≡ old) × IsEventRefused event read old fault

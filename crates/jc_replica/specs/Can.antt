@@ -6,10 +6,10 @@ use Rattle.jc_rules.specs.declared.operation.Op.{Op}
 use Rattle.jc_rules.specs.Derivation.{Occur}
 use Rattle.jc_rules.specs.Refused.{Cause, Refused}
 use Rattle.jc_rules.specs.State.{State}
-use Rattle.jc_sets.specs.States.{StateStandsFor}
+use Rattle.jc_vectors.specs.StoredStates.{RepresentsState}
 use Rattle.jc_rules.specs.Table.{op_of}
-use Rattle.jc_replica.specs.Past.{Past}
-use Rattle.jc_replica.specs.Seen.{IsRead}
+use Rattle.jc_replica.specs.ReplicaHistory.{Past}
+use Rattle.jc_replica.specs.Refines.{IsRead}
 
 -- what an event may read: whatever is offered where it receives, something with the identifier where it takes one, and
 -- else nothing
@@ -22,9 +22,9 @@ MayRead _ read = read ≡ []
 abbrev pub CanOccur : Event → Past → Bool → Type 0
 CanOccur event now true =
     (set os read : List Op) (A : State) (why : Cause)
-    → MayRead event read → StateStandsFor set A now.now → IsRead set os read
+    → MayRead event read → RepresentsState set A now.now → IsRead set os read
     → Refused (Occur A event os) why → ⊥
 CanOccur event now false =
     (set os read : List Op) (A : State)
-    → MayRead event read → StateStandsFor set A now.now → IsRead set os read
+    → MayRead event read → RepresentsState set A now.now → IsRead set os read
     → (why : Cause) × Refused (Occur A event os) why

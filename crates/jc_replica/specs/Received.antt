@@ -3,29 +3,29 @@ use Rattle.std.specs.Prelude.{◌≡◌, ◌≤◌, ◌<◌, ℕ, Bool, true, Li
 use Rattle.std.specs.List.{AllByRecursion}
 use Rattle.jc_rules.specs.declared.id.Id.{Id}
 use Rattle.jc_rules.specs.declared.operation.Op.{Op}
-use Rattle.jc_rules.specs.Filled.{filled, greatest_of}
+use Rattle.jc_rules.specs.VersionVectors.{covered, greatest_of}
 use Rattle.jc_rules.specs.Ids.{has_id}
 use Rattle.jc_rules.specs.Sound.{IsSound}
 use Rattle.jc_rules.specs.Table.{op_of, with_op, both}
-use Rattle.jc_sets.specs.States.{kept_op}
+use Rattle.jc_vectors.specs.StoredStates.{stored_op}
 use Rattle.jc_replica.specs.Operations.{identifiers, AreInOrder, AreOfOne}
-use Rattle.jc_replica.specs.Past.{Past}
+use Rattle.jc_replica.specs.ReplicaHistory.{Past}
 
 -- the operation with the identifier stands there
-pub record StandsAt (i : Id) (os : List Op) (n : ℕ) : Type 0 where
+pub record IsOpAt (i : Id) (os : List Op) (n : ℕ) : Type 0 where
   pub operation : Op
   pub entry : slice_get os n ≡ Some operation
   pub found : op_of i os ≡ Some operation
 
 -- no operation has the identifier, and one that had it would come in there
-pub record BelongsAt (i : Id) (os : List Op) (n : ℕ) : Type 0 where
+pub record OpBelongsAt (i : Id) (os : List Op) (n : ℕ) : Type 0 where
   pub within : n ≤ length os
   pub absent : op_of i os ≡ None
   pub place : (o : Op) → o.id ≡ i → with_op o os ≡ insert os n o
 
-abbrev pub IsPlace : Id → List Op → Result ℕ ℕ → Type 0
-IsPlace i os (Ok n) = StandsAt i os n
-IsPlace i os (Err n) = BelongsAt i os n
+abbrev pub IsOpPlace : Id → List Op → Result ℕ ℕ → Type 0
+IsOpPlace i os (Ok n) = IsOpAt i os n
+IsOpPlace i os (Err n) = OpBelongsAt i os n
 
 -- no operation of the list has the identifier of this one
 abbrev pub is_new : List Op → Op → Bool
@@ -33,7 +33,7 @@ is_new os p = not (has_id p.id (identifiers os))
 
 -- each is an operation of the set as it is kept
 abbrev pub AreKeptOf : List Op → List Op → Type 0
-AreKeptOf set os = AllByRecursion (λ k. (o : Op) × (op_of k.id set ≡ Some o) × (k ≡ kept_op o)) os
+AreKeptOf set os = AllByRecursion (λ k. (o : Op) × (op_of k.id set ≡ Some o) × (k ≡ stored_op o)) os
 
 -- in each sound set that both are of, these are united
 abbrev pub IsUnited : List Op → List Op → List Op → Type 0
@@ -49,13 +49,13 @@ pub record HasReceived (read : List Op) (old new : Past) : Type 0 where
 
 -- Of the replica's own nothing is missing up to the counter: the operation that has it is there, and so is all on which
 -- that one depends, the nearest first.
-pub data IsWholeTo (q : ℕ) (os : List Op) : ℕ → Type 0 where
-  none : IsWholeTo q os 0
+pub data IsContiguousTo (q : ℕ) (os : List Op) : ℕ → Type 0 where
+  none : IsContiguousTo q os 0
   more : {n : ℕ} {o : Op}
       → op_of (record { counter = n; replica = q }) os ≡ Some o
       → greatest_of q o.deps < n
-      → IsWholeTo q os (greatest_of q o.deps)
-      → IsWholeTo q os n
+      → IsContiguousTo q os (greatest_of q o.deps)
+      → IsContiguousTo q os n
 
 -- each is in the list
 abbrev pub AreAmong : List Op → List Op → Type 0
@@ -64,5 +64,5 @@ AreAmong ps os = AllByRecursion (λ p. op_of p.id os ≡ Some p) ps
 -- the list stands by identifier, and of each replica nothing up to its greatest counter is missing
 pub record IsKeptList (os : List Op) (whole : List Id) : Type 0 where
   pub order : AreInOrder os
-  pub filled : whole ≡ filled whole
-  pub missing : (q : ℕ) → IsWholeTo q os (greatest_of q whole)
+  pub filled : whole ≡ covered whole
+  pub missing : (q : ℕ) → IsContiguousTo q os (greatest_of q whole)

@@ -4,17 +4,17 @@ use Rattle.std.specs.Option.{option_map}
 use Rattle.jc_rules.specs.declared.id.Id.{Id}
 use Rattle.jc_rules.specs.declared.operation.Op.{Op}
 use Rattle.jc_rules.specs.Context.{Context}
-use Rattle.jc_rules.specs.Filled.{lowered}
+use Rattle.jc_rules.specs.VersionVectors.{truncated}
 use Rattle.jc_rules.specs.Ids.{has_id}
-use Rattle.jc_rules.specs.Places.{or_empty}
+use Rattle.jc_rules.specs.ContextsAt.{or_empty}
 use Rattle.jc_rules.specs.State.{State, Bound}
 use Rattle.jc_rules.specs.Syntax.{Cmd}
-use Rattle.jc_tree.specs.Tree.{Tree, history}
+use Rattle.jc_tree.specs.Tree.{Tree, tree_history}
 use Rattle.jc_cursor.specs.Bounds.{bound_of}
 use Rattle.jc_replica.specs.declared.record.Change.{Change}
 use Rattle.jc_replica.specs.declared.record.Change.TheVariants as C
 use Rattle.jc_replica.specs.declared.record.Record.{Record}
-use Rattle.jc_replica.specs.Past.{Past}
+use Rattle.jc_replica.specs.ReplicaHistory.{Past}
 
 -- What a replica holds beside its script and its document: the number of commands that have ended, whether a yield
 -- event was made, the variables, the identifiers applied, the operations made and how many of them are offered, and
@@ -28,8 +28,8 @@ pub record Held : Type 0 where
   pub sent : ℕ
   pub recv : List Op
 
-abbrev pub held : ℕ → Bool → List (List ℕ × Bound) → List Id → List Op → ℕ → List Op → Held
-held done acted vars ops queue sent recv =
+abbrev pub held_of : ℕ → Bool → List (List ℕ × Bound) → List Id → List Op → ℕ → List Op → Held
+held_of done acted vars ops queue sent recv =
     record { done = done; acted = acted; vars = vars; ops = ops; queue = queue; sent = sent; recv = recv }
 
 abbrev pub state_of : List Cmd → Held → Context → State
@@ -56,20 +56,20 @@ abbrev pub without_ops : List Id → List Op → List Op
 without_ops ids os = filter (λ o. not (has_id o.id ids)) os
 
 -- what was held before the change
-abbrev pub back : Change → Held → Held
-back (C.Bound place before) h =
+abbrev pub undone_once : Change → Held → Held
+undone_once (C.Bound place before) h =
     record h { done = h.done - 1; vars = unbound place (option_map bound_of before) h.vars }
-back (C.Made i before) h =
-    record h { done = h.done - 1; ops = lowered i.replica before h.ops; queue = take (length h.queue - 1) h.queue }
-back (C.Sent sent acted) h = record h { acted = acted; sent = sent }
-back (C.Received came acted) h = record h { acted = acted; recv = without_ops came.items h.recv }
-back (C.Applied i before acted) h = record h { acted = acted; ops = lowered i.replica before h.ops }
-back C.Ended h = record h { done = h.done - 1; acted = true }
+undone_once (C.Made i before) h =
+    record h { done = h.done - 1; ops = truncated i.replica before h.ops; queue = take (length h.queue - 1) h.queue }
+undone_once (C.Sent sent acted) h = record h { acted = acted; sent = sent }
+undone_once (C.Received came acted) h = record h { acted = acted; recv = without_ops came.items h.recv }
+undone_once (C.Applied i before acted) h = record h { acted = acted; ops = truncated i.replica before h.ops }
+undone_once C.Ended h = record h { done = h.done - 1; acted = true }
 
 -- what was held before all these steps, of which the last was the latest
-abbrev pub undone : List Record → Held → Held
-undone [] h = h
-undone (r ∷ rs) h = back r.change (undone rs h)
+abbrev pub steps_undone : List Record → Held → Held
+steps_undone [] h = h
+steps_undone (r ∷ rs) h = undone_once r.change (steps_undone rs h)
 
 -- the content at a mark of the store
 abbrev pub content_at : List Context → ℕ → Context
@@ -79,8 +79,8 @@ content_at contents n = or_empty (slice_get contents n)
 abbrev pub states : List Cmd → List Context → List Record → Held → List State
 states script contents [] h = []
 states script contents (r ∷ rs) h =
-    state_of script (undone (r ∷ rs) h) (content_at contents r.mark.changes) ∷ states script contents rs h
+    state_of script (steps_undone (r ∷ rs) h) (content_at contents r.mark.changes) ∷ states script contents rs h
 
 abbrev pub past_of : ℕ → List Cmd → Tree → List Record → Held → Past
 past_of number script t steps h =
-    record { number = number; now = state_of script h t.now; earlier = states script (history t) steps h }
+    record { number = number; now = state_of script h t.now; earlier = states script (tree_history t) steps h }

@@ -2,11 +2,11 @@
 
 ghost use Rattle.std.specs.Prelude.{◌≡◌, [], IfOk, IfErr};
 ghost use Rattle.jc_rules.specs.declared.operation.Event.TheVariants as E;
-ghost use Rattle.jc_replica.specs.Answers.{Answers, IsRefused};
-ghost use Rattle.jc_replica.specs.Takes.{Takes};
+ghost use Rattle.jc_replica.specs.Answers.{AnswersEvent, IsEventRefused};
+ghost use Rattle.jc_replica.specs.MayApply.{TakesOp};
 
-use crate::applying::apply_to;
 use crate::fault::ReplicaFault;
+use crate::operation::apply_to;
 use crate::record::{Change, Record};
 use crate::replica::Replica;
 use jc_rules::{Id, Op, Rule, Trace};
@@ -16,8 +16,8 @@ impl<S: TreeStore> Replica<S> {
     /// The received operation with the identifier, where a yield comes next and all that it depends
     /// on was applied, but it wasn't.
     pub(crate) fn takes(&self, id: Id) -> Result<&Op, ReplicaFault>
-        ensures ok { IfOk result (λ op. Takes self.now.now id op.now) }
-        ensures err { IfErr result (λ f. IsRefused (E.Apply self.now.number id) [] self.now f) }
+        ensures ok { IfOk result (λ op. TakesOp self.now.now id op.now) }
+        ensures err { IfErr result (λ f. IsEventRefused (E.Apply self.now.number id) [] self.now f) }
     {
         self.at_yield()?;
         let Some(op) = self.recv.find(id) else {
@@ -38,7 +38,7 @@ impl<S: TreeStore> Replica<S> {
     /// `AlreadyApplied`, `DepsMissing` where it depends on one that isn't applied, and `NotInList`. After a
     /// refusal all is as it was.
     pub fn apply(&mut self, id: Id) -> Result<Trace, ReplicaFault>
-        ensures { Answers (E.Apply self.old.number id) [] self.old self.new result }
+        ensures { AnswersEvent (E.Apply self.old.number id) [] self.old self.new result }
     {
         self.takes(id)?;
         let Some(op) = self.recv.find(id) else {

@@ -4,7 +4,7 @@ ghost use Rattle.std.specs.Prelude.{◌≡◌, List, [], IfOk, IfErr, IsFalse, I
 ghost use Rattle.jc_rules.specs.declared.operation.Event.TheVariants as E;
 ghost use Rattle.jc_rules.specs.declared.operation.Op.{Op as AnyOp};
 ghost use Rattle.jc_rules.specs.Step.{replica_of};
-ghost use Rattle.jc_replica.specs.Answers.{cause_of, IsRefused};
+ghost use Rattle.jc_replica.specs.Answers.{fault_cause_of, IsEventRefused};
 ghost use Rattle.jc_replica.specs.Can.{CanOccur, MayRead};
 
 use crate::fault::ReplicaFault;
@@ -16,7 +16,7 @@ use std::alloc::AllocError;
 
 /// That an event refused for this can't be made, unless memory was refused.
 fn cannot(fault: ReplicaFault) -> Result<bool, AllocError>
-    ensures { IfOk result (λ b. IsFalse b × IsSome (cause_of fault)) }
+    ensures { IfOk result (λ b. IsFalse b × IsSome (fault_cause_of fault)) }
 {
     match fault {
         ReplicaFault::Memory => Err(AllocError),
@@ -43,7 +43,7 @@ impl<S: TreeStore> Replica<S> {
         requires { replica_of event.now ≡ self.now.number }
         ensures ok { IfOk result (λ b. CanOccur event.now self.now b) }
         ensures err { IfErr result (λ f. (read : List AnyOp)
-            → MayRead event.now read → IsRefused event.now read self.now f) }
+            → MayRead event.now read → IsEventRefused event.now read self.now f) }
     {
         match event {
             Event::Exec(_) => self.runs(),
@@ -62,7 +62,7 @@ impl<S: TreeStore> Replica<S> {
     /// Whether the next command can be run, or why it can't.
     fn runs(&self) -> Result<bool, ReplicaFault>
         ensures ok { IfOk result (λ b. CanOccur (E.Exec self.now.number) self.now b) }
-        ensures err { IfErr result (λ f. IsRefused (E.Exec self.now.number) [] self.now f) }
+        ensures err { IfErr result (λ f. IsEventRefused (E.Exec self.now.number) [] self.now f) }
     {
         let mut trace = Trace::new(self.alloc);
         if self.binds_next()? {
@@ -76,7 +76,7 @@ impl<S: TreeStore> Replica<S> {
     /// Whether the received operation with the identifier can be applied, or why it can't.
     fn applies(&self, id: Id) -> Result<bool, ReplicaFault>
         ensures ok { IfOk result (λ b. CanOccur (E.Apply self.now.number id) self.now b) }
-        ensures err { IfErr result (λ f. IsRefused (E.Apply self.now.number id) [] self.now f) }
+        ensures err { IfErr result (λ f. IsEventRefused (E.Apply self.now.number id) [] self.now f) }
     {
         let op = self.takes(id)?;
         Ok(fits(&self.store, &op.cursor, &op.mutation))

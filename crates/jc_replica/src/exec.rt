@@ -4,11 +4,11 @@ ghost use Rattle.std.specs.Prelude.{◌≡◌, [], ◌↔◌, IsTrue, IsFalse, I
 ghost use Rattle.jc_rules.specs.declared.operation.Event.TheVariants as E;
 ghost use Rattle.jc_syntax.specs.Trees.{cmd_of, expr_of};
 ghost use Rattle.jc_cursor.specs.Bounds.{bound_of};
-ghost use Rattle.jc_replica.specs.Answers.{Answers, IsRefused};
-ghost use Rattle.jc_replica.specs.Makes.{Makes, MakesNext, Binds, BindsNext, IsMaking, IsLet, rule_by, mutation_by, expr_by};
+ghost use Rattle.jc_replica.specs.Answers.{AnswersEvent, IsEventRefused};
+ghost use Rattle.jc_replica.specs.NextCommand.{MakesOp, MakesNext, Binds, BindsNext, IsMaking, IsLet, rule_by, mutation_by, expr_by};
 
-use crate::applying::apply_to;
 use crate::fault::ReplicaFault;
+use crate::operation::apply_to;
 use crate::record::{Change, Record};
 use crate::replica::Replica;
 use crate::vars::bind_var;
@@ -73,7 +73,7 @@ impl<S: TreeStore> Replica<S> {
     /// What is said of the new state rests on all of the replica's own operations being applied, since
     /// an operation is made with a greater counter than all that was applied. No other event asks it.
     pub fn exec(&mut self) -> Result<Trace, ReplicaFault>
-        ensures { Answers (E.Exec self.old.number) [] self.old self.new result }
+        ensures { AnswersEvent (E.Exec self.old.number) [] self.old self.new result }
     {
         if self.binds_next()? {
             self.bind()
@@ -87,7 +87,7 @@ impl<S: TreeStore> Replica<S> {
     pub(crate) fn binds_next(&self) -> Result<bool, ReplicaFault>
         ensures binds { IfOk result (λ b. IsTrue b → BindsNext self.now.now.left) }
         ensures makes { IfOk result (λ b. IsFalse b → MakesNext self.now.now.left) }
-        ensures err { IfErr result (λ f. IsRefused (E.Exec self.now.number) [] self.now f) }
+        ensures err { IfErr result (λ f. IsEventRefused (E.Exec self.now.number) [] self.now f) }
     {
         if self.done == self.script.len() {
             return Err(ReplicaFault::NoCommand);
@@ -103,7 +103,7 @@ impl<S: TreeStore> Replica<S> {
     pub(crate) fn bound_next(&self, trace: &mut Trace) -> Result<(Text, Bound), ReplicaFault>
         requires { BindsNext self.now.now.left }
         ensures ok { IfOk result (λ var. Binds self.now.now var.0 (bound_of var.1) trace.old trace.new) }
-        ensures err { IfErr result (λ f. IsRefused (E.Exec self.now.number) [] self.now f) }
+        ensures err { IfErr result (λ f. IsEventRefused (E.Exec self.now.number) [] self.now f) }
     {
         let Cmd::Let(name, expr) = &self.script[self.done] else {
             unreachable!();
@@ -118,7 +118,7 @@ impl<S: TreeStore> Replica<S> {
     /// Runs the next command, which binds a variable.
     fn bind(&mut self) -> Result<Trace, ReplicaFault>
         requires { BindsNext self.old.now.left }
-        ensures { Answers (E.Exec self.old.number) [] self.old self.new result }
+        ensures { AnswersEvent (E.Exec self.old.number) [] self.old self.new result }
     {
         let mut trace = Trace::new(self.alloc);
         let (name, bound) = self.bound_next(&mut trace)?;
@@ -135,8 +135,8 @@ impl<S: TreeStore> Replica<S> {
     /// The operation that the next command makes.
     pub(crate) fn make_op(&self, trace: &mut Trace) -> Result<Op, ReplicaFault>
         requires { MakesNext self.now.now.left }
-        ensures ok { IfOk result (λ op. Makes self.now.now self.now.number op trace.old trace.new) }
-        ensures err { IfErr result (λ f. IsRefused (E.Exec self.now.number) [] self.now f) }
+        ensures ok { IfOk result (λ op. MakesOp self.now.now self.now.number op trace.old trace.new) }
+        ensures err { IfErr result (λ f. IsEventRefused (E.Exec self.now.number) [] self.now f) }
     {
         let command = &self.script[self.done];
         trace.open(Rule::Exec)?;
@@ -167,7 +167,7 @@ impl<S: TreeStore> Replica<S> {
     /// Runs the next command, which makes an operation.
     fn make(&mut self) -> Result<Trace, ReplicaFault>
         requires { MakesNext self.old.now.left }
-        ensures { Answers (E.Exec self.old.number) [] self.old self.new result }
+        ensures { AnswersEvent (E.Exec self.old.number) [] self.old self.new result }
     {
         let mut trace = Trace::new(self.alloc);
         let op = self.make_op(&mut trace)?;

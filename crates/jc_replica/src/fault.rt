@@ -1,9 +1,9 @@
 //! Why events of a replica are refused.
 
 ghost use Rattle.std.specs.Prelude.{◌≡◌, IfOk};
-ghost use Rattle.jc_cursor.specs.Evaluates.{cause_of as eval_cause};
+ghost use Rattle.jc_cursor.specs.Evaluates.{eval_cause_of as eval_cause};
 ghost use Rattle.jc_replica.specs.declared.fault.ReplicaFault.TheVariants.{Memory as NoMemory};
-ghost use Rattle.jc_replica.specs.Answers.{cause_of, apply_cause};
+ghost use Rattle.jc_replica.specs.Answers.{fault_cause_of, apply_cause};
 
 use jc_apply::ApplyFault;
 use jc_cursor::EvalFault;
@@ -85,7 +85,7 @@ impl From<AllocError> for ReplicaFault {
 }
 
 impl From<EvalFault> for ReplicaFault {
-    ghost from_gives = { λ why fault. cause_of fault ≡ eval_cause why };
+    ghost from_gives = { λ why fault. fault_cause_of fault ≡ eval_cause why };
 
     fn from(fault: EvalFault) -> Self {
         match fault {
@@ -103,7 +103,7 @@ impl From<EvalFault> for ReplicaFault {
 }
 
 impl From<ApplyFault> for ReplicaFault {
-    ghost from_gives = { λ why fault. cause_of fault ≡ apply_cause why };
+    ghost from_gives = { λ why fault. fault_cause_of fault ≡ apply_cause why };
 
     fn from(fault: ApplyFault) -> Self {
         match fault {

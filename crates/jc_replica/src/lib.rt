@@ -2,10 +2,10 @@
 #![tactic(auto)]
 
 mod apply;
-mod applying;
 mod can;
 mod exec;
 mod fault;
+mod operation;
 mod received;
 mod record;
 mod recv;

@@ -3,11 +3,11 @@
 ghost use Rattle.std.specs.Prelude.{◌≡◌, ◌≤◌, ◌+◌, ◌∷◌, ℕ, List, [], Some, true, IfOk, OnOk, OnErr, option_copied, vec_len, vec_capacity, length, take, filter};
 ghost use Rattle.std.specs.List.{AllByRecursion};
 ghost use Rattle.jc_rules.specs.declared.operation.Op.{Op as AnyOp};
-ghost use Rattle.jc_rules.specs.Filled.{filled, greatest_of};
+ghost use Rattle.jc_rules.specs.VersionVectors.{covered, greatest_of};
 ghost use Rattle.jc_rules.specs.Table.{op_of, both};
 ghost use Rattle.jc_replica.specs.Operations.{identifiers, AreInOrder, AreHanded, AreOwn, AreOfOne};
 ghost use Rattle.jc_replica.specs.Undo.{without_ops};
-ghost use Rattle.jc_replica.specs.Received.{IsPlace, IsUnited, IsWholeTo, AreAmong, is_new};
+ghost use Rattle.jc_replica.specs.Received.{IsOpPlace, IsUnited, IsContiguousTo, AreAmong, is_new};
 
 use jc_rules::{Id, IdSet, Op};
 use std::alloc::{AllocError, Global};
@@ -21,7 +21,7 @@ use std::marker::Model;
 pub struct Received {
     ops: Vec<Op>,
     /// Of each sender the identifiers up to which nothing is missing.
-    whole: IdSet,
+    contiguous: IdSet,
 }
 
 impl Model for Received {
@@ -33,13 +33,13 @@ impl Model for Received {
 
     ghost view = { λ a. a.ops.items };
 
-    ghost invariant = { λ a. IsKeptList a.ops.items a.whole };
+    ghost invariant = { λ a. IsKeptList a.ops.items a.contiguous };
 }
 
 /// Where the operation with the identifier stands, or else where it belongs.
 fn place_of(ops: &[Op], id: Id) -> Result<usize, usize>
     requires { AreInOrder ops.now }
-    ensures { IsPlace id ops.now result }
+    ensures { IsOpPlace id ops.now result }
 {
     ops.binary_search_by_key(&id, |op| op.id)
 }
@@ -102,7 +102,7 @@ fn ids_of(alloc: Global, ops: &[Op]) -> Result<Vec<Id>, AllocError>
 /// The counter up to which nothing of the replica's own is missing once these are there, where
 /// nothing was up to `from`: each depends on all that its replica made before it.
 fn whole_to(ops: &[Op], replica: u16, from: u64) -> u64
-    ensures { (os : List AnyOp) → AreAmong ops.now os → IsWholeTo replica os from → IsWholeTo replica os result }
+    ensures { (os : List AnyOp) → AreAmong ops.now os → IsContiguousTo replica os from → IsContiguousTo replica os result }
 {
     let mut last = from;
     for op in ops {
@@ -132,15 +132,15 @@ fn bring_in(ops: &mut Vec<Op>, fresh: Vec<Op>)
 }
 
 /// Lowers the counter of the operation's replica to one up to which nothing is missing without it.
-fn lower(whole: &mut IdSet, op: &Op)
-    requires { whole.old ≡ filled whole.old }
-    ensures filled { whole.new ≡ filled whole.new }
+fn lower(contiguous: &mut IdSet, op: &Op)
+    requires { contiguous.old ≡ covered contiguous.old }
+    ensures filled { contiguous.new ≡ covered contiguous.new }
     ensures missing { (os : List AnyOp) → op_of op.now.id os ≡ Some op.now
-        → ((q : ℕ) → IsWholeTo q os (greatest_of q whole.old))
-        → (q : ℕ) → IsWholeTo q (without_ops (op.now.id ∷ []) os) (greatest_of q whole.new) }
+        → ((q : ℕ) → IsContiguousTo q os (greatest_of q contiguous.old))
+        → (q : ℕ) → IsContiguousTo q (without_ops (op.now.id ∷ []) os) (greatest_of q contiguous.new) }
 {
     let id = op.id;
-    let last = whole.greatest_of(id.replica);
+    let last = contiguous.greatest_of(id.replica);
     let before = if id.counter == last {
         op.deps.greatest_of(id.replica)
     } else {
@@ -151,7 +151,7 @@ fn lower(whole: &mut IdSet, op: &Op)
             counter: last,
             replica: id.replica,
         };
-        whole.withdraw(greatest, before);
+        contiguous.withdraw(greatest, before);
     }
 }
 
@@ -162,7 +162,7 @@ impl Received {
     {
         Received {
             ops: Vec::new(alloc),
-            whole: IdSet::new(alloc),
+            contiguous: IdSet::new(alloc),
         }
     }
 
@@ -192,7 +192,7 @@ impl Received {
         ensures err { OnErr result (self.new ≡ self.old) }
     {
         let sender = sender_of(offered);
-        let last = self.whole.greatest_of(sender);
+        let last = self.contiguous.greatest_of(sender);
         let start = up_to(offered, last);
         let fresh = new_ones(alloc, self.ops.as_slice(), &offered[start..])?;
         let came = ids_of(alloc, fresh.as_slice())?;
@@ -201,7 +201,7 @@ impl Received {
         }
         self.ops.reserve(fresh.len())?;
         let counter = whole_to(fresh.as_slice(), sender, last);
-        self.whole.insert(Id {
+        self.contiguous.insert(Id {
             counter,
             replica: sender,
         })?;
@@ -216,7 +216,7 @@ impl Received {
         let Ok(place) = place_of(self.ops.as_slice(), id) else {
             return;
         };
-        lower(&mut self.whole, &self.ops[place]);
+        lower(&mut self.contiguous, &self.ops[place]);
         self.ops.remove(place);
     }
 

@@ -3,9 +3,9 @@
 ghost use Rattle.std.specs.Prelude.{◌≡◌, ℕ, IfOk, OnOk, OnErr, IfSome, option_copied, unwrap_or};
 ghost use Rattle.jc_rules.specs.declared.operation.Event.TheVariants as E;
 ghost use Rattle.jc_rules.specs.Trace.{pushed};
-ghost use Rattle.jc_replica.specs.Answers.{Answers};
+ghost use Rattle.jc_replica.specs.Answers.{AnswersEvent};
 ghost use Rattle.jc_replica.specs.Operations.{AreInOrder, AreHanded, AreOfOne};
-ghost use Rattle.jc_replica.specs.Past.{no_rows};
+ghost use Rattle.jc_replica.specs.ReplicaHistory.{no_rows};
 ghost use Rattle.jc_replica.specs.Received.{HasReceived};
 
 use crate::fault::ReplicaFault;
@@ -27,7 +27,7 @@ impl<S: TreeStore> Replica<S> {
         requires order { AreInOrder ops.now }
         requires handed { AreHanded ops.now }
         requires own { AreOfOne ops.now }
-        ensures { (q : ℕ) → Answers (E.Recv self.old.number q) ops.now self.old self.new result }
+        ensures { (q : ℕ) → AnswersEvent (E.Recv self.old.number q) ops.now self.old self.new result }
     {
         self.at_yield()?;
         Ok(self.receive(Rule::Recv, Some(ops))?)
@@ -36,7 +36,7 @@ impl<S: TreeStore> Replica<S> {
     /// Takes in what the replica itself offers, as `recv` does.
     pub fn recv_own(&mut self) -> Result<Trace, ReplicaFault>
         requires { AreHanded self.old.now.send }
-        ensures { Answers (E.Recv self.old.number self.old.number) self.old.now.send self.old self.new result }
+        ensures { AnswersEvent (E.Recv self.old.number self.old.number) self.old.now.send self.old self.new result }
     {
         self.at_yield()?;
         Ok(self.receive(Rule::Recv, None)?)
@@ -52,7 +52,7 @@ impl<S: TreeStore> Replica<S> {
         requires order { AreInOrder ops.now }
         requires handed { AreHanded ops.now }
         requires own { AreOfOne ops.now }
-        ensures { (q : ℕ) → Answers (E.Take self.old.number q id) ops.now self.old self.new result }
+        ensures { (q : ℕ) → AnswersEvent (E.Take self.old.number q id) ops.now self.old self.new result }
     {
         self.at_yield()?;
         let Some(op) = find(ops, id) else {
@@ -64,7 +64,7 @@ impl<S: TreeStore> Replica<S> {
     /// Takes in one operation of what the replica itself offers, as `recv_one` does.
     pub fn recv_one_own(&mut self, id: Id) -> Result<Trace, ReplicaFault>
         requires { AreHanded self.old.now.send }
-        ensures { Answers (E.Take self.old.number self.old.number id) self.old.now.send self.old self.new result }
+        ensures { AnswersEvent (E.Take self.old.number self.old.number id) self.old.now.send self.old self.new result }
     {
         self.at_yield()?;
         let Some(op) = find(self.sent(), id) else {

@@ -43,19 +43,19 @@ impl<S: TreeStore> Model for Replica<S> {
     ghost use Rattle.std.specs.Prelude.{map};
     ghost use Rattle.jc_syntax.specs.Trees.{cmd_of};
     ghost use Rattle.jc_cursor.specs.Bounds.{vars_of};
-    ghost use Rattle.jc_replica.specs.Past.{Past, past_code};
-    ghost use Rattle.jc_replica.specs.Undo.{past_of, held};
-    ghost use Rattle.jc_replica.specs.Kept.{IsKeptReplica};
+    ghost use Rattle.jc_replica.specs.ReplicaHistory.{Past, past_code};
+    ghost use Rattle.jc_replica.specs.Undo.{past_of, held_of};
+    ghost use Rattle.jc_replica.specs.Invariant.{IsKeptReplica};
 
     ghost Value = { Past };
 
     ghost coded = { past_code };
 
     ghost view = { λ a. past_of a.number (map cmd_of a.script.items) (S.tree a.store) a.steps.items
-        (held a.done a.acted (vars_of a.vars.items) a.ops a.queue.items a.sent a.recv) };
+        (held_of a.done a.acted (vars_of a.vars.items) a.ops a.queue.items a.sent a.recv) };
 
     ghost invariant = { λ a. IsKeptReplica (map cmd_of a.script.items) (S.tree a.store) a.steps.items
-        (held a.done a.acted (vars_of a.vars.items) a.ops a.queue.items a.sent a.recv) };
+        (held_of a.done a.acted (vars_of a.vars.items) a.ops a.queue.items a.sent a.recv) };
 }
 
 impl<S: TreeStore> Replica<S> {

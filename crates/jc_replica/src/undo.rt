@@ -1,7 +1,7 @@
 //! Taking steps back.
 
 ghost use Rattle.std.specs.Prelude.{◌≡◌, ◌-◌, [], length, take, IsTrue, IsFalse};
-ghost use Rattle.jc_replica.specs.Past.{history};
+ghost use Rattle.jc_replica.specs.ReplicaHistory.{replica_history};
 
 use crate::record::{Change, Record};
 use crate::replica::Replica;
@@ -20,7 +20,7 @@ fn drop_last(queue: &mut Vec<Op>)
 impl<S: TreeStore> Replica<S> {
     /// Takes the last step back, and says whether there was one. It takes no memory.
     pub fn undo(&mut self) -> bool
-        ensures undone { IsTrue result → history self.new ≡ self.old.earlier }
+        ensures undone { IsTrue result → replica_history self.new ≡ self.old.earlier }
         ensures none { IsFalse result → (self.new ≡ self.old) × (self.old.earlier ≡ []) }
         ensures number { self.new.number ≡ self.old.number }
     {

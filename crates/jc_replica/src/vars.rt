@@ -6,7 +6,7 @@ ghost use Rattle.jc_rules.specs.Entries.{IsRising, keys_of};
 ghost use Rattle.jc_rules.specs.Order.{name_cmp};
 ghost use Rattle.jc_cursor.specs.Bounds.{bound_of, vars_of};
 ghost use Rattle.jc_replica.specs.Undo.{unbound};
-ghost use Rattle.jc_replica.specs.Binds.{IsBound, first_from};
+ghost use Rattle.jc_replica.specs.Variables.{IsBound, first_from};
 
 use jc_cursor::Bound;
 use jc_rules::Text;

@@ -7,7 +7,7 @@ ghost use Rattle.jc_rules.specs.declared.operation.Op.{Op as AnyOp};
 ghost use Rattle.jc_rules.specs.Refused.{IsYieldEvent};
 ghost use Rattle.jc_rules.specs.Syntax.{Cmd as AnyCmd, Yield};
 ghost use Rattle.jc_syntax.specs.Trees.{cmd_of};
-ghost use Rattle.jc_replica.specs.Answers.{Answers, IsRefused};
+ghost use Rattle.jc_replica.specs.Answers.{AnswersEvent, IsEventRefused};
 
 use crate::fault::ReplicaFault;
 use crate::record::{Change, Record};
@@ -31,7 +31,7 @@ impl<S: TreeStore> Replica<S> {
     pub(crate) fn at_yield(&self) -> Result<(), ReplicaFault>
         ensures ok { IfOk result (λ _. (rest : List AnyCmd) × (self.now.now.left ≡ Yield ∷ rest)) }
         ensures err { IfErr result (λ f. (event : AnyEvent) → (read : List AnyOp)
-            → IsYieldEvent event → IsRefused event read self.now f) }
+            → IsYieldEvent event → IsEventRefused event read self.now f) }
     {
         if self.done == self.script.len() {
             return Err(ReplicaFault::NoCommand);
@@ -49,7 +49,7 @@ impl<S: TreeStore> Replica<S> {
     /// It is refused with `NoCommand` or `NotAtYield` where no yield comes next. After a refusal all
     /// is as it was.
     pub fn send(&mut self) -> Result<Trace, ReplicaFault>
-        ensures { Answers (E.Send self.old.number) [] self.old self.new result }
+        ensures { AnswersEvent (E.Send self.old.number) [] self.old self.new result }
     {
         self.at_yield()?;
         let mut trace = Trace::new(self.alloc);
@@ -73,7 +73,7 @@ impl<S: TreeStore> Replica<S> {
     /// It is refused, in this order, with `NoCommand` or `NotAtYield` where no yield comes next, and
     /// `NotActed` where no event of the yield was made. After a refusal all is as it was.
     pub fn done(&mut self) -> Result<Trace, ReplicaFault>
-        ensures { Answers (E.Done self.old.number) [] self.old self.new result }
+        ensures { AnswersEvent (E.Done self.old.number) [] self.old self.new result }
     {
         self.at_yield()?;
         if !self.acted {

@@ -9,8 +9,8 @@
 ghost use Rattle.std.specs.Prelude.{None, true};
 
 use jc_fakes::{Bytes, Taken};
+use jc_io::{Failed, FromRead, ReadFault, Sink, ToWrite, read_up_to, write_all};
 use jc_program::{Files, work_alone};
-use jc_rules::io::{Failed, FromRead, ReadFault, Sink, ToWrite, read_up_to, write_all};
 use std::alloc::{AllocError, Global};
 use std::process::ExitCode;
 

@@ -107,10 +107,10 @@ next k c = find key_cmp k (links c)
 abbrev pub with_next : Key → Next → Context → Context
 with_next k n (context m l r p ns) = context m l r p (put key_cmp k n ns)
 
-abbrev pub key_of : Tagged → Key
-key_of (MapT k) = k
-key_of (ListT k) = k
-key_of (RegT k) = k
+abbrev pub key_of_tagged : Tagged → Key
+key_of_tagged (MapT k) = k
+key_of_tagged (ListT k) = k
+key_of_tagged (RegT k) = k
 
 -- the keys with a tag in the context
 abbrev pub keys : Context → List Key

@@ -11,7 +11,7 @@ use Rattle.jc_rules.specs.declared.refusal.Refusal.{Refusal}
 use Rattle.jc_rules.specs.Order.{id_cmp, name_cmp, key_cmp, same_id}
 use Rattle.jc_rules.specs.Ids.{AreRising, has_id, with_id, union, without}
 use Rattle.jc_rules.specs.RuleNames.{rule_name}
-use Rattle.jc_rules.specs.Refusals.{number_of}
+use Rattle.jc_rules.specs.Refusals.{refusal_number}
 use Rattle.jc_rules.specs.State.{State}
 use Rattle.jc_rules.specs.Derivation.{Question, Derivation, derive, Premises, none, premise, conclusion, asked}
 use Rattle.jc_rules.specs.Table.{Holds, HoldsFifty}
@@ -114,4 +114,4 @@ abbrev pub NamesDiffer : Type 0
 NamesDiffer = (r s : Rule) → rule_name r ≡ rule_name s → r ≡ s
 
 abbrev pub NumbersDiffer : Type 0
-NumbersDiffer = (r s : Refusal) → number_of r ≡ number_of s → r ≡ s
+NumbersDiffer = (r s : Refusal) → refusal_number r ≡ refusal_number s → r ≡ s

@@ -1,11 +1,11 @@
 pub mod Order
-pub mod Names
+pub mod ReplicaNames
 pub mod Entries
 pub mod Ids
 pub mod Context
 pub mod Paths
-pub mod Places
-pub mod Shape
+pub mod ContextsAt
+pub mod WellFormed
 pub mod Syntax
 pub mod State
 pub mod Derivation
@@ -19,7 +19,6 @@ pub mod Sound
 pub mod RuleNames
 pub mod Refusals
 pub mod Laws
-pub mod Worked
-pub mod Told
-pub mod Filled
-pub mod Stands
+pub mod Examples
+pub mod VersionVectors
+pub mod Representation

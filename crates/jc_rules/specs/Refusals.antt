@@ -60,8 +60,8 @@ row_of F.WriteFailed = (56, codes "WriteFailed")
 row_of F.TooManyLines = (57, codes "TooManyLines")
 row_of F.BadLine = (58, codes "BadLine")
 
-abbrev pub number_of : Refusal → ℕ
-number_of refusal = (row_of refusal).0
+abbrev pub refusal_number : Refusal → ℕ
+refusal_number refusal = (row_of refusal).0
 
-abbrev pub name_of : Refusal → List ℕ
-name_of refusal = (row_of refusal).1
+abbrev pub refusal_name : Refusal → List ℕ
+refusal_name refusal = (row_of refusal).1

@@ -9,7 +9,7 @@ use Rattle.jc_rules.specs.declared.operation.Op.{Op}
 use Rattle.jc_rules.specs.declared.operation.Mutation.{Mutation}
 use Rattle.jc_rules.specs.declared.operation.Mutation.TheVariants.{Assign, Insert, Delete}
 use Rattle.jc_rules.specs.Ids.{AreRising, has_id, AreIn}
-use Rattle.jc_rules.specs.Places.{IsAtOrAbove}
+use Rattle.jc_rules.specs.ContextsAt.{IsAtOrAbove}
 use Rattle.jc_rules.specs.Table.{op_of}
 
 -- an operation on which another one depends: it has a smaller counter, and what it depends on is depended on too

@@ -21,7 +21,7 @@ use Rattle.jc_rules.specs.declared.value.Value.TheVariants as V
 use Rattle.jc_rules.specs.Order.{id_cmp, key_cmp, name_cmp, same_id, same_key}
 use Rattle.jc_rules.specs.Entries.{find, put, keys_of}
 use Rattle.jc_rules.specs.Ids.{has_id, with_id, union, without, greatest, AreIn}
-use Rattle.jc_rules.specs.Context.{Context, Content, Node, Values, Register, IsPrimitive, content, with_content, new_content, presence, with_presence, next, with_next, key_of, keys, presences}
+use Rattle.jc_rules.specs.Context.{Context, Content, Node, Values, Register, IsPrimitive, content, with_content, new_content, presence, with_presence, next, with_next, key_of_tagged, keys, presences}
 use Rattle.jc_rules.specs.Syntax.{Expr, TheDoc, Variable, GetKey, Index, KeysOf, ValuesOf, Cmd, LetIn, SetTo, InsertAfter, DeleteAt, Yield}
 use Rattle.jc_rules.specs.State.{State, Bound, ACursor, Names, Pairs}
 use Rattle.jc_rules.specs.Derivation.{Question, Occur, Run, Evaluate, SelectIndex, SelectKeys, SelectValues, Make, ApplyOp, Operate, Child, AddId, Presence, Clear, ClearAny, ClearElem, ClearMap, ClearList, Answer, ToState, ToBound, ToCursor, ToNames, ToPairs, ToContext, ToContent, ToIds, Cleared, Judgement, gives, Derivation, derive, Premises, none, premise, conclusions}
@@ -68,12 +68,12 @@ abbrev pub least_left : List Key → Context → Option Key
 least_left done c = least (filter (λ k. not (is_done done k)) (keys c))
 
 -- a name whose presence set is not empty
-abbrev pub name_of : (Key × List Id) → Option (List ℕ)
-name_of ((K.Name s), (i ∷ is)) = Some s
-name_of _ = None
+abbrev pub name_in_presence : (Key × List Id) → Option (List ℕ)
+name_in_presence ((K.Name s), (i ∷ is)) = Some s
+name_in_presence _ = None
 
 abbrev pub names_in : Context → List (List ℕ)
-names_in c = filter_map name_of (presences c)
+names_in c = filter_map name_in_presence (presences c)
 
 -- the operation with the identifier
 abbrev pub op_of : Id → List Op → Option Op
@@ -271,8 +271,8 @@ FollowsFifty R.ChildReg (Child c (RegT k)) a ps =
 FollowsFifty R.AddId1 (AddId c k i m) a ps =
     (s : List Id)
     × (m ≢ M.Delete)
-    × (ps ≡ gives (Presence c (key_of k)) (ToIds s) ∷ [])
-    × (a ≡ ToContext (with_presence (key_of k) (with_id i s) c))
+    × (ps ≡ gives (Presence c (key_of_tagged k)) (ToIds s) ∷ [])
+    × (a ≡ ToContext (with_presence (key_of_tagged k) (with_id i s) c))
 FollowsFifty R.AddId2 (AddId c k i m) a ps =
     (m ≡ M.Delete)
     × (ps ≡ [])

@@ -22,11 +22,11 @@ abbrev pub pushed : Rows → Rule → Rows
 pushed t r = record { rows = t.rows ++ (r, t.depth) ∷ []; depth = t.depth }
 
 -- at the premises
-abbrev pub below : Rows → Rows
-below t = record { rows = t.rows; depth = t.depth + 1 }
+abbrev pub one_deeper : Rows → Rows
+one_deeper t = record { rows = t.rows; depth = t.depth + 1 }
 
-abbrev pub above : Rows → Rows
-above t = record { rows = t.rows; depth = t.depth - 1 }
+abbrev pub one_higher : Rows → Rows
+one_higher t = record { rows = t.rows; depth = t.depth - 1 }
 
 abbrev pub at_depth : ℕ → Rows → Rows
 at_depth n t = record { rows = t.rows; depth = n }

@@ -6,8 +6,8 @@ ghost use Rattle.jc_rules.specs.declared.id.Id.{Id as AnyId};
 ghost use Rattle.jc_rules.specs.declared.operation.Op.{Op};
 ghost use Rattle.jc_rules.specs.Ids.{has_id, with_id, without, union, greatest, AreIn, AreRising};
 ghost use Rattle.jc_rules.specs.Table.{op_of};
-ghost use Rattle.jc_rules.specs.Filled.{counted, greatest_of, lowered, AreOneEach};
-ghost use Rattle.jc_rules.specs.Stands.{IsClosed, StandsFor};
+ghost use Rattle.jc_rules.specs.VersionVectors.{ids_up_to, greatest_of, truncated, IsVersionVector};
+ghost use Rattle.jc_rules.specs.Representation.{IsCausallyClosed, Represents};
 
 use crate::id::Id;
 use std::alloc::{AllocError, Global};
@@ -27,13 +27,13 @@ pub struct IdSet {
 impl Model for IdSet {
     ghost use Rattle.std.specs.Prelude.{List};
     ghost use Rattle.jc_rules.specs.declared.id.Id.{Id};
-    ghost use Rattle.jc_rules.specs.Filled.{filled, AreOneEach};
+    ghost use Rattle.jc_rules.specs.VersionVectors.{covered, IsVersionVector};
 
     ghost Value = { List Id };
 
-    ghost view = { λ a. filled a.last.items };
+    ghost view = { λ a. covered a.last.items };
 
-    ghost invariant = { λ a. AreOneEach a.last.items };
+    ghost invariant = { λ a. IsVersionVector a.last.items };
 }
 
 impl IdSet {
@@ -50,7 +50,7 @@ impl IdSet {
     pub fn contains(&self, id: Id) -> bool
         ensures exact { result ≡ has_id id self.now }
         ensures stands { (set : List Op) (s : List AnyId) (o : Op)
-            → StandsFor set s self.now → op_of id set ≡ Some o
+            → Represents set s self.now → op_of id set ≡ Some o
             → result ≡ has_id id s }
     {
         0 < id.counter && id.counter <= counter_of(self.last.as_slice(), id.replica)
@@ -58,10 +58,10 @@ impl IdSet {
 
     /// Adds the identifier, and with it all of its replica with smaller counters. After a refusal the set is as it was.
     pub fn insert(&mut self, id: Id) -> Result<(), AllocError>
-        ensures exact { OnOk result (self.new ≡ union (counted id.replica id.counter) self.old) }
+        ensures exact { OnOk result (self.new ≡ union (ids_up_to id.replica id.counter) self.old) }
         ensures stands { OnOk result ((set : List Op) (s : List AnyId) (o : Op)
-            → StandsFor set s self.old → op_of id set ≡ Some o → AreIn o.deps s
-            → StandsFor set (with_id id s) self.new) }
+            → Represents set s self.old → op_of id set ≡ Some o → AreIn o.deps s
+            → Represents set (with_id id s) self.new) }
         ensures err { OnErr result (self.new ≡ self.old) }
     {
         match place_of(self.last.as_slice(), id.replica) {
@@ -79,7 +79,7 @@ impl IdSet {
     pub fn is_subset(&self, other: &IdSet) -> bool
         ensures exact { IsTrue result ↔ AreIn self.now other.now }
         ensures stands { (set : List Op) (s t : List AnyId)
-            → StandsFor set s self.now → StandsFor set t other.now
+            → Represents set s self.now → Represents set t other.now
             → IsTrue result ↔ AreIn s t }
     {
         are_below(self.last.as_slice(), other.last.as_slice())
@@ -88,7 +88,7 @@ impl IdSet {
     /// The greatest counter, or 0. It takes no memory.
     pub fn greatest(&self) -> u64
         ensures exact { result ≡ greatest self.now }
-        ensures stands { (set : List Op) (s : List AnyId) → StandsFor set s self.now → result ≡ greatest s }
+        ensures stands { (set : List Op) (s : List AnyId) → Represents set s self.now → result ≡ greatest s }
     {
         greatest_in(self.last.as_slice())
     }
@@ -97,7 +97,7 @@ impl IdSet {
     pub fn greatest_of(&self, replica: u16) -> u64
         ensures exact { result ≡ greatest_of replica self.now }
         ensures stands { (set : List Op) (s : List AnyId)
-            → StandsFor set s self.now → result ≡ greatest_of replica s }
+            → Represents set s self.now → result ≡ greatest_of replica s }
     {
         counter_of(self.last.as_slice(), replica)
     }
@@ -107,11 +107,11 @@ impl IdSet {
     pub fn withdraw(&mut self, id: Id, before: u64)
         requires greatest { greatest_of id.replica self.old ≡ id.counter }
         requires lower { before < id.counter }
-        ensures exact { self.new ≡ lowered id.replica before self.old }
+        ensures exact { self.new ≡ truncated id.replica before self.old }
         ensures stands { (set : List Op) (s : List AnyId)
-            → StandsFor set s self.old
-            → IsClosed set (without s (id ∷ [])) → before ≡ greatest_of id.replica (without s (id ∷ []))
-            → StandsFor set (without s (id ∷ [])) self.new }
+            → Represents set s self.old
+            → IsCausallyClosed set (without s (id ∷ [])) → before ≡ greatest_of id.replica (without s (id ∷ []))
+            → Represents set (without s (id ∷ [])) self.new }
     {
         let Some(place) = place_of(self.last.as_slice(), id.replica) else {
             unreachable!();
@@ -142,7 +142,7 @@ fn place_of(last: &[Id], replica: u16) -> Option<usize>
 
 /// The counter of the replica's identifier, or 0.
 fn counter_of(last: &[Id], replica: u16) -> u64
-    requires { AreOneEach last.now }
+    requires { IsVersionVector last.now }
     ensures { result ≡ greatest_of replica last.now }
 {
     match place_of(last, replica) {
@@ -153,7 +153,7 @@ fn counter_of(last: &[Id], replica: u16) -> u64
 
 /// Whether each is at or below the other list's counter of its replica.
 fn are_below(last: &[Id], others: &[Id]) -> bool
-    requires { AreOneEach others.now }
+    requires { IsVersionVector others.now }
     ensures { result ≡ list_all (λ id. leb id.counter (greatest_of id.replica others.now)) last.now }
 {
     last.iter()

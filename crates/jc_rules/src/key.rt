@@ -2,7 +2,7 @@
 
 ghost use Rattle.std.specs.Prelude.{◌≡◌, IfOk};
 ghost use Rattle.jc_rules.specs.Order.{id_cmp, key_cmp};
-ghost use Rattle.jc_rules.specs.Context.{key_of};
+ghost use Rattle.jc_rules.specs.Context.{key_of_tagged};
 
 use crate::id::Id;
 use crate::text::Text;
@@ -55,7 +55,7 @@ impl Tagged {
 
     /// The key without its tag.
     pub fn key(&self) -> &Key
-        ensures { result.now ≡ key_of self.now }
+        ensures { result.now ≡ key_of_tagged self.now }
     {
         match self {
             Tagged::MapT(key) => key,

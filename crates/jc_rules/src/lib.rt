@@ -1,9 +1,9 @@
 //! The rules of the JSON CRDT: one table, what it speaks of, and the small types that every layer shares.
 #![tactic(auto)]
 
+pub mod examples;
 mod id;
 mod id_set;
-pub mod io;
 mod key;
 pub mod laws;
 mod names;
@@ -16,7 +16,6 @@ mod text;
 mod trace;
 mod value;
 mod version;
-pub mod worked;
 
 pub use id::Id;
 pub use id_set::{IdSet, insert_id};

@@ -2,7 +2,7 @@
 
 ghost use Rattle.std.specs.Prelude.{◌≡◌, ◌≢◌, IfSome, IfNone, Some};
 ghost use Rattle.jc_rules.specs.declared.refusal.Refusal.{Refusal as AnyRefusal};
-ghost use Rattle.jc_rules.specs.Refusals.{number_of, name_of};
+ghost use Rattle.jc_rules.specs.Refusals.{refusal_number, refusal_name};
 
 use std::fmt;
 
@@ -128,7 +128,7 @@ const REFUSALS: [Refusal; 55] = [
 impl Refusal {
     /// The refusal's number.
     pub fn number(self) -> u8
-        ensures { result ≡ number_of self }
+        ensures { result ≡ refusal_number self }
     {
         match self {
             Refusal::BadByte => 1,
@@ -191,7 +191,7 @@ impl Refusal {
 
     /// The refusal's name.
     pub fn name(self) -> &'static str
-        ensures { result.now ≡ name_of self }
+        ensures { result.now ≡ refusal_name self }
     {
         match self {
             Refusal::BadByte => "BadByte",
@@ -254,8 +254,8 @@ impl Refusal {
 
     /// The refusal with the number, if there is one.
     pub fn of_number(number: u8) -> Option<Refusal>
-        ensures numbered { IfSome result (λ refusal. number_of refusal ≡ number) }
-        ensures unknown { IfNone result ((refusal : AnyRefusal) → number_of refusal ≢ number) }
+        ensures numbered { IfSome result (λ refusal. refusal_number refusal ≡ number) }
+        ensures unknown { IfNone result ((refusal : AnyRefusal) → refusal_number refusal ≢ number) }
     {
         for refusal in REFUSALS {
             if refusal.number() == number {
@@ -268,7 +268,7 @@ impl Refusal {
 
 // By its name: a derived match of every variant is dear to prove.
 impl fmt::Debug for Refusal {
-    ghost debug_output = { λ refusal. Some (name_of refusal) };
+    ghost debug_output = { λ refusal. Some (refusal_name refusal) };
 
     fn fmt<W: fmt::Write>(&self, f: &mut fmt::Formatter<W>) -> fmt::Result {
         f.write_str(self.name())

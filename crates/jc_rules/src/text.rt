@@ -6,7 +6,7 @@ ghost use Rattle.std.specs.Cmp.{partial_order_from_own_ties};
 ghost use Rattle.std.specs.Cmp.Rules.{comparing};
 ghost use Rattle.std.specs.Ordering.{nat_cmp, as_partial_cmp};
 ghost use Rattle.std.specs.Cmp.Lexicographic.{slice_cmp, pointwise};
-ghost use Rattle.jc_rules.specs.Names.{name_at};
+ghost use Rattle.jc_rules.specs.ReplicaNames.{name_at};
 
 use std::alloc::AllocError;
 use std::cmp::Ordering;

@@ -1,7 +1,7 @@
 //! Traces of derivations.
 
 ghost use Rattle.std.specs.Prelude.{◌≡◌, ◌<◌, ◌≤◌, [], length, take, IfOk, OnOk, OnErr};
-ghost use Rattle.jc_rules.specs.Trace.{pushed, below, above, at_depth};
+ghost use Rattle.jc_rules.specs.Trace.{pushed, one_deeper, one_higher, at_depth};
 
 use crate::rule::Rule;
 use std::alloc::{AllocError, Global};
@@ -58,7 +58,7 @@ impl Trace {
     /// Goes to the premises of the last rule.
     pub fn down(&mut self)
         requires { self.old.depth < length self.old.rows }
-        ensures { self.new ≡ below self.old }
+        ensures { self.new ≡ one_deeper self.old }
     {
         self.depth += 1;
     }
@@ -66,14 +66,14 @@ impl Trace {
     /// Goes back from the premises.
     pub fn up(&mut self)
         requires { 0 < self.old.depth }
-        ensures { self.new ≡ above self.old }
+        ensures { self.new ≡ one_higher self.old }
     {
         self.depth -= 1;
     }
 
     /// Appends the rule and goes to its premises. After a refusal the trace is as it was.
     pub fn open(&mut self, rule: Rule) -> Result<(), AllocError>
-        ensures ok { OnOk result (self.new ≡ below (pushed self.old rule)) }
+        ensures ok { OnOk result (self.new ≡ one_deeper (pushed self.old rule)) }
         ensures err { OnErr result (self.new ≡ self.old) }
     {
         self.push(rule)?;

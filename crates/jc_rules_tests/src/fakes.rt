@@ -2,7 +2,7 @@
 
 use crate::testing::{flushes, has_bytes, holds, reads, writes};
 use jc_fakes::{Bytes, CountsFlushes, Endless, FailsAt, OneByte, Taken, TakesUpTo, Then};
-use jc_rules::io::Failed;
+use jc_io::Failed;
 
 #[test]
 fn bytes_fill_the_buffer(rt: HostRuntime) {

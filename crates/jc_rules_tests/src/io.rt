@@ -2,7 +2,7 @@
 
 use crate::testing::{flushes, has_bytes, holds, reads, writes};
 use jc_fakes::{Bytes, Endless, FailsAt, OneByte, Taken, TakesUpTo, Then};
-use jc_rules::io::{Failed, FromRead, ReadFault, Sink, Source, ToWrite, read_up_to, write_all};
+use jc_io::{Failed, FromRead, ReadFault, Sink, Source, ToWrite, read_up_to, write_all};
 use std::alloc::Global;
 use std::io;
 use std::io::{ErrorKind, Read, Write};

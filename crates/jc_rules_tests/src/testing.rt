@@ -1,6 +1,6 @@
 //! What the tests share.
 
-use jc_rules::io::{Failed, Sink, Source};
+use jc_io::{Failed, Sink, Source};
 use std::process::Abort;
 
 pub fn is_text(rt: &impl Abort, got: &str, want: &str) {

@@ -4,14 +4,14 @@ use Rattle.jc_rules.specs.declared.operation.Event.{Event}
 use Rattle.jc_rules.specs.declared.rule.Rule.{Rule}
 use Rattle.jc_rules.specs.Step.{Network, StepIn}
 use Rattle.jc_network.specs.declared.fault.Stuck.{Stuck}
-use Rattle.jc_network.specs.Makes.{IsStuckFor}
-use Rattle.jc_scenario.specs.Scenarios.{Scenario}
+use Rattle.jc_network.specs.Steps.{IsStuckFor}
+use Rattle.jc_scenario.specs.WellFormed.{Scenario}
 use Rattle.jc_runner.specs.declared.bench.StepAnswer.{StepAnswer}
 use Rattle.jc_runner.specs.declared.bench.StepAnswer.TheVariants as A
 use Rattle.jc_runner.specs.Legal.{IsLegal}
 
 -- The history ends with the event, which has its number, and the rules lead from the network before it by the event.
-pub record IsMade (s : Scenario) (e : Event) (seen mine new_mine : List Event) (number : ℕ)
+pub record IsMadeEvent (s : Scenario) (e : Event) (seen mine new_mine : List Event) (number : ℕ)
     (rows : List (Rule × ℕ)) : Type 0 where
   pub before : List Event
   pub network : Network
@@ -23,7 +23,7 @@ pub record IsMade (s : Scenario) (e : Event) (seen mine new_mine : List Event) (
   pub step : StepIn network e new_network rows
 
 -- The event is stuck after the history, which has so many events, and not as many as can be.
-pub record IsRefused (s : Scenario) (e : Event) (seen mine new_mine : List Event) (front : ℕ)
+pub record IsStepRefused (s : Scenario) (e : Event) (seen mine new_mine : List Event) (front : ℕ)
     (stuck : Stuck) : Type 0 where
   pub network : Network
   pub is_front : front ≡ length seen
@@ -33,16 +33,16 @@ pub record IsRefused (s : Scenario) (e : Event) (seen mine new_mine : List Event
   pub is_stuck : IsStuckFor network e stuck
 
 -- what an answer says of the history that is then seen, of the pass's own events before and after, and of its takes
-abbrev pub IsAnswered : Scenario → Event → List Event → List Event → List Event → ℕ → ℕ → StepAnswer → Type 0
-IsAnswered s e seen mine new_mine left new_left (A.Made number trace) =
-    IsMade s e seen mine new_mine number trace.rows × (new_left + 1 ≡ left)
-IsAnswered s e seen mine new_mine left new_left (A.Refused front stuck) =
-    IsRefused s e seen mine new_mine front stuck × (new_left + 1 ≡ left)
-IsAnswered s e seen mine new_mine left new_left (A.Full front) =
+abbrev pub IsStepAnswered : Scenario → Event → List Event → List Event → List Event → ℕ → ℕ → StepAnswer → Type 0
+IsStepAnswered s e seen mine new_mine left new_left (A.Made number trace) =
+    IsMadeEvent s e seen mine new_mine number trace.rows × (new_left + 1 ≡ left)
+IsStepAnswered s e seen mine new_mine left new_left (A.Refused front stuck) =
+    IsStepRefused s e seen mine new_mine front stuck × (new_left + 1 ≡ left)
+IsStepAnswered s e seen mine new_mine left new_left (A.Full front) =
     (front ≡ 100000) × (length seen ≡ 100000) × (new_mine ≡ mine) × (new_left + 1 ≡ left)
-IsAnswered s e seen mine new_mine left new_left A.Memory =
+IsStepAnswered s e seen mine new_mine left new_left A.Memory =
     (length seen < 100000) × (new_mine ≡ mine) × (new_left + 1 ≡ left)
-IsAnswered s e seen mine new_mine left new_left A.Spent = (new_mine ≡ mine) × (new_left ≡ left)
+IsStepAnswered s e seen mine new_mine left new_left A.Spent = (new_mine ≡ mine) × (new_left ≡ left)
 
 -- the history after the answer
 abbrev pub seen_after : List Event → Event → StepAnswer → List Event

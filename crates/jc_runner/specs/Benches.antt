@@ -2,9 +2,9 @@
 use Rattle.std.specs.Prelude.{◌≡◌, ℕ, ◌≤◌, ◌<◌}
 use Rattle.jc_lock.specs.declared.lock.Pass.{Pass}
 use Rattle.jc_lock.specs.Shows.{IsPassOf, IsNewPass, IsSameLock, lock_passes, opened_value, pass_number}
-use Rattle.jc_network.specs.Given.{bare, IsGivenFault}
+use Rattle.jc_network.specs.Given.{before_given, IsGivenFault}
 use Rattle.jc_rules.specs.declared.operation.Event.{Event}
-use Rattle.jc_scenario.specs.Scenarios.{Scenario}
+use Rattle.jc_scenario.specs.WellFormed.{Scenario}
 use Rattle.jc_runner.specs.declared.bench.Bench.{Bench}
 use Rattle.jc_runner.specs.declared.bench.BenchFault.{BenchFault}
 use Rattle.jc_runner.specs.declared.bench.BenchFault.TheVariants as B
@@ -41,5 +41,5 @@ IsSameBench bench other = IsSameLock bench.lock other.lock
 -- each refusal of `open`, in order
 abbrev pub IsOpenFault : BenchFault → Scenario → ℕ → Type 0
 IsOpenFault B.LimitTooLarge s limit = 100000 < limit
-IsOpenFault (B.Given at stuck) s limit = (limit ≤ 100000) × IsGivenFault (bare s) s.given at stuck
+IsOpenFault (B.Given at stuck) s limit = (limit ≤ 100000) × IsGivenFault (before_given s) s.given at stuck
 IsOpenFault B.Memory s limit = limit ≤ 100000

@@ -3,7 +3,7 @@ use Rattle.std.specs.Prelude.{◌≡◌, ℕ, ◌<◌, ◌≤◌, List, [], Some
 use Rattle.jc_rules.specs.declared.operation.Event.{Event}
 use Rattle.jc_rules.specs.State.{State}
 use Rattle.jc_rules.specs.Step.{Network, replica_of}
-use Rattle.jc_scenario.specs.Scenarios.{Scenario, IsWellFormed}
+use Rattle.jc_scenario.specs.WellFormed.{Scenario, IsWellFormedScenario}
 use Rattle.jc_runner.specs.declared.phase.Phase.{Phase}
 use Rattle.jc_runner.specs.Chosen.{choice}
 use Rattle.jc_runner.specs.Legal.{IsLegal}
@@ -32,7 +32,7 @@ with_schedule s events = record s { schedule = events }
 abbrev pub SchedulesAreWellFormed : Type 0
 SchedulesAreWellFormed =
     (s : Scenario) (schedule : List Event) (network : Network)
-    → IsWellFormed s
+    → IsWellFormedScenario s
     → IsLegal schedule s network
     → length schedule ≤ 100000
-    → IsWellFormed (with_schedule s schedule)
+    → IsWellFormedScenario (with_schedule s schedule)

@@ -4,8 +4,8 @@ use Rattle.jc_rules.specs.declared.operation.Event.{Event}
 use Rattle.jc_rules.specs.Step.{Network, AfterIn, replica_of}
 use Rattle.jc_lock.specs.Knowledge.{own}
 use Rattle.jc_network.specs.Given.{IsStart}
-use Rattle.jc_scenario.specs.Scenarios.{Scenario}
-use Rattle.jc_runner.specs.Phases.{last_of}
+use Rattle.jc_scenario.specs.WellFormed.{Scenario}
+use Rattle.jc_runner.specs.Phases.{last_event_of}
 use Rattle.jc_runner.specs.Chosen.{chosen}
 
 -- the network follows from the scenario's start by the events, in their order
@@ -22,7 +22,7 @@ own_events history p = own replica_of history p
 pub record IsChosenAfter (s : Scenario) (before : List Event) (e : Event) : Type 0 where
   pub network : Network
   pub legal : IsLegal before s network
-  pub is_chosen : chosen network.states (replica_of e) (last_of (own_events before (replica_of e))) ≡ Some e
+  pub is_chosen : chosen network.states (replica_of e) (last_event_of (own_events before (replica_of e))) ≡ Some e
 
 -- each event of replica p was chosen at its place
 abbrev pub AllChosen : Scenario → ℕ → List Event → Type 0

@@ -6,5 +6,5 @@ pub mod Asked
 pub mod Benches
 pub mod Answers
 pub mod Laws
-pub mod Worked
+pub mod WorkerResult
 pub mod Reports

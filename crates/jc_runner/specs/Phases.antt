@@ -5,10 +5,10 @@ use Rattle.jc_rules.specs.declared.operation.Event.TheVariants as E
 use Rattle.jc_runner.specs.declared.phase.Phase.{Phase}
 use Rattle.jc_runner.specs.declared.phase.Phase.TheVariants as P
 
-abbrev pub last_of : List Event → Option Event
-last_of [] = None
-last_of (e ∷ []) = Some e
-last_of (e ∷ f ∷ es) = last_of (f ∷ es)
+abbrev pub last_event_of : List Event → Option Event
+last_event_of [] = None
+last_event_of (e ∷ []) = Some e
+last_event_of (e ∷ f ∷ es) = last_event_of (f ∷ es)
 
 abbrev pub phase_after : Option Event → Phase
 phase_after None = P.Start

@@ -7,8 +7,8 @@ use Rattle.jc_rules.specs.declared.version.Version.{Version}
 use Rattle.jc_rules.specs.contracts.version.Version.{the_row as version_row}
 use Rattle.jc_rules.specs.Syntax.{Cmd}
 use Rattle.jc_replica.specs.Codes.{cmd_code}
-use Rattle.jc_network.specs.Course.{Course, course_code}
-use Rattle.jc_scenario.specs.Scenarios.{Scenario}
+use Rattle.jc_network.specs.NetworkHistory.{Course, course_code}
+use Rattle.jc_scenario.specs.WellFormed.{Scenario}
 use Rattle.jc_runner.specs.Legal.{IsLegal}
 
 -- a network, the events that were made, and the scenario from whose start they were made

@@ -5,9 +5,9 @@ use Rattle.jc_rules.specs.declared.operation.Event.{Event}
 use Rattle.jc_rules.specs.State.{State}
 use Rattle.jc_rules.specs.Step.{Network}
 use Rattle.jc_network.specs.declared.fault.Stuck.{Stuck}
-use Rattle.jc_network.specs.Given.{bare, IsGivenFault}
+use Rattle.jc_network.specs.Given.{before_given, IsGivenFault}
 use Rattle.jc_printer.specs.Canon.{AreNamed}
-use Rattle.jc_scenario.specs.Scenarios.{Scenario, IsWellFormed}
+use Rattle.jc_scenario.specs.WellFormed.{Scenario, IsWellFormedScenario}
 use Rattle.jc_scenario.specs.Views.{scenario_view}
 use Rattle.jc_runner.specs.declared.worker.End.{End}
 use Rattle.jc_runner.specs.declared.worker.End.TheVariants as N
@@ -16,7 +16,7 @@ use Rattle.jc_runner.specs.declared.run.RunFault.{RunFault}
 use Rattle.jc_runner.specs.declared.run.RunFault.TheVariants as R
 use Rattle.jc_runner.specs.Laws.{with_schedule}
 use Rattle.jc_runner.specs.Legal.{IsLegal, AllChosen, own_events}
-use Rattle.jc_runner.specs.Worked.{IsStuckAfter, ChoosesAfter}
+use Rattle.jc_runner.specs.WorkerResult.{IsStuckAfter, ChoosesAfter}
 
 -- no command of replica p is left in the network
 pub record IsFinishedIn (network : Network) (p : ℕ) : Type 0 where
@@ -26,7 +26,7 @@ pub record IsFinishedIn (network : Network) (p : ℕ) : Type 0 where
 
 -- Replica p chooses an event that is stuck after a beginning of the schedule that has all events of p, and isn't as long
 -- as a schedule can be. The event names replicas of the scenario.
-pub record IsStuckIn (s : Scenario) (p : ℕ) (schedule : List Event) (stuck : Stuck) : Type 0 where
+pub record IsReportedStuck (s : Scenario) (p : ℕ) (schedule : List Event) (stuck : Stuck) : Type 0 where
   pub front : List Event
   pub begins : IsPrefix front schedule
   pub has_all : own_events front p ≡ own_events schedule p
@@ -48,7 +48,7 @@ pub record IsHaltedIn (s : Scenario) (p : ℕ) (schedule : List Event) : Type 0 
 abbrev pub HasEnd : Scenario → ℕ → ℕ → List Event → Network → End → Type 0
 HasEnd s p limit schedule network N.Finished = IsFinishedIn network p × (length (own_events schedule p) < limit)
 HasEnd s p limit schedule network (N.StuckAt stuck) =
-    IsStuckIn s p schedule stuck × (length (own_events schedule p) < limit)
+    IsReportedStuck s p schedule stuck × (length (own_events schedule p) < limit)
 HasEnd s p limit schedule network N.LimitReached =
     (length (own_events schedule p) ≡ limit) ⊎ ((length schedule ≡ 100000) × ChoosesAfter s p schedule)
 HasEnd s p limit schedule network N.NoMemory =
@@ -65,7 +65,7 @@ pub record HasWorked (s : Scenario) (limit : ℕ) (r : Report) (p : ℕ) : Type 
 pub record IsReport (s : Scenario) (limit : ℕ) (r : Report) : Type 0 where
   pub start : scenario_view r.start ≡ s
   pub legal : IsLegal r.schedule.items s r.net.network
-  pub well_formed : IsWellFormed (with_schedule (scenario_view r.start) r.schedule.items)
+  pub well_formed : IsWellFormedScenario (with_schedule (scenario_view r.start) r.schedule.items)
   pub named : r.net.names ≡ s.names
   pub small : length r.schedule.items ≤ 100000
   pub each_made : length r.made.items ≡ length s.scripts
@@ -82,10 +82,10 @@ IsLateFault R.Memory = Unit {0}
 IsLateFault R.NoThread = Unit {0}
 
 -- each refusal of a run, in order
-abbrev pub IsRunFault : RunFault → Scenario → ℕ → ℕ → Type 0
-IsRunFault R.GateCount s gates limit = gates ≢ length s.scripts
-IsRunFault R.LimitTooLarge s gates limit = (gates ≡ length s.scripts) × (100000 < limit)
-IsRunFault (R.Given at stuck) s gates limit =
-    (gates ≡ length s.scripts) × (limit ≤ 100000) × IsGivenFault (bare s) s.given at stuck
-IsRunFault R.Memory s gates limit = (gates ≡ length s.scripts) × (limit ≤ 100000)
-IsRunFault R.NoThread s gates limit = (gates ≡ length s.scripts) × (limit ≤ 100000)
+abbrev pub IsReportedFault : RunFault → Scenario → ℕ → ℕ → Type 0
+IsReportedFault R.GateCount s gates limit = gates ≢ length s.scripts
+IsReportedFault R.LimitTooLarge s gates limit = (gates ≡ length s.scripts) × (100000 < limit)
+IsReportedFault (R.Given at stuck) s gates limit =
+    (gates ≡ length s.scripts) × (limit ≤ 100000) × IsGivenFault (before_given s) s.given at stuck
+IsReportedFault R.Memory s gates limit = (gates ≡ length s.scripts) × (limit ≤ 100000)
+IsReportedFault R.NoThread s gates limit = (gates ≡ length s.scripts) × (limit ≤ 100000)

@@ -59,9 +59,9 @@ impl Bench {
     ghost use Rattle.jc_rules.specs.Step.{replica_of};
     ghost use Rattle.jc_lock.specs.Numbers.{EachOnce};
     ghost use Rattle.jc_lock.specs.Shows.{IsTurnOf, pass_number, pass_left, pass_origin, pass_seen, pass_mine, turn_number, turn_left, turn_origin, turn_seen, turn_mine, turn_value};
-    ghost use Rattle.jc_scenario.specs.Scenarios.{Scenario as Start, IsWellFormed};
+    ghost use Rattle.jc_scenario.specs.WellFormed.{Scenario as Start, IsWellFormedScenario};
     ghost use Rattle.jc_scenario.specs.Views.{scenario_view};
-    ghost use Rattle.jc_runner.specs.Answers.{IsAnswered, IsSpent, seen_after};
+    ghost use Rattle.jc_runner.specs.Answers.{IsStepAnswered, IsSpent, seen_after};
     ghost use Rattle.jc_runner.specs.Benches.{IsPassAt, IsPassFor, IsNewAt, IsSameBench, IsOpenFault, bench_start, bench_passes};
     ghost use Rattle.jc_runner.specs.Legal.{IsLegal, own_events};
 
@@ -75,7 +75,7 @@ impl Bench {
         scenario: Scenario,
         limit: u64,
     ) -> Result<(Bench, Vec<Pass>), BenchFault>
-        requires { IsWellFormed (scenario_view scenario) }
+        requires { IsWellFormedScenario (scenario_view scenario) }
         ensures start { IfOk result (λ r. bench_start r.0 ≡ scenario_view scenario) }
         ensures passes { IfOk result (λ r. bench_passes r.0 ≡ length (scenario_view scenario).scripts) }
         ensures numbers { IfOk result (λ r.
@@ -116,7 +116,7 @@ impl Bench {
         ensures left { pass_left result.0 ≡ turn_left turn }
         ensures seen { IsPrefix (turn_seen turn) (pass_seen result.0) }
         ensures own { own_events (pass_seen result.0) (pass_number result.0) ≡ pass_mine result.0 }
-        ensures answer { IsAnswered (turn_value turn).start event.now (pass_seen result.0)
+        ensures answer { IsStepAnswered (turn_value turn).start event.now (pass_seen result.0)
             (turn_mine turn) (pass_mine result.0) (turn_left turn + 1) (pass_left result.0) result.1 }
         ensures list { pass_seen result.0 ≡ seen_after (turn_seen turn) event.now result.1 }
         ensures waited { IsSpent result.1 → ⊥ }
@@ -149,7 +149,7 @@ impl Bench {
         ensures when { IsSpent result.1 ↔ (pass_left pass ≡ 0) }
         ensures spent { IsSpent result.1 → result.0 ≡ pass }
         ensures answer { (s : Start) → pass_origin pass ≡ Some s
-            → IsAnswered s event.now (pass_seen result.0)
+            → IsStepAnswered s event.now (pass_seen result.0)
             (pass_mine pass) (pass_mine result.0) (pass_left pass) (pass_left result.0) result.1 }
         ensures begun { (IsSpent result.1 → ⊥) → IsSome (pass_origin pass) }
     {

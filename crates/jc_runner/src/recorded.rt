@@ -3,7 +3,7 @@ ghost use Rattle.std.specs.Prelude.{◌≡◌, ◌<◌, ◌∷◌, [], ◌++◌,
 ghost use Rattle.jc_rules.specs.Step.{StepIn, replica_of};
 ghost use Rattle.jc_network.specs.declared.fault.StepFault.TheVariants as Fault;
 ghost use Rattle.jc_network.specs.declared.fault.Stuck.{Stuck as AnyStuck};
-ghost use Rattle.jc_network.specs.Makes.{IsStuckFor};
+ghost use Rattle.jc_network.specs.Steps.{IsStuckFor};
 
 use jc_lock::Kept;
 use jc_network::{Net, StepFault};
@@ -42,7 +42,7 @@ pub struct Beginning {
 }
 
 impl Model for Beginning {
-    ghost use Rattle.jc_scenario.specs.Scenarios.{Scenario};
+    ghost use Rattle.jc_scenario.specs.WellFormed.{Scenario};
     ghost use Rattle.jc_scenario.specs.Views.{scenario_view};
     ghost use Rattle.jc_runner.specs.Recording.{scenario_code};
 

@@ -1,9 +1,9 @@
 //! One thread for each replica.
 ghost use Rattle.std.specs.Prelude.{◌≡◌, ◌≤◌, map, vec_len, IfOk, IfErr, IfSome};
-ghost use Rattle.jc_scenario.specs.Scenarios.{IsWellFormed};
+ghost use Rattle.jc_scenario.specs.WellFormed.{IsWellFormedScenario};
 ghost use Rattle.jc_scenario.specs.Views.{scenario_view};
-ghost use Rattle.jc_runner.specs.Worked.{HaveWorked, CanStart};
-ghost use Rattle.jc_runner.specs.Reports.{IsReport, IsRunFault, IsLateFault};
+ghost use Rattle.jc_runner.specs.WorkerResult.{HaveWorked, CanStart};
+ghost use Rattle.jc_runner.specs.Reports.{IsReport, IsReportedFault, IsLateFault};
 ghost use Rattle.jc_runner.specs.declared.run.RunFault.TheVariants.{Memory as WantOfMemory, NoThread as WantOfThread};
 
 use crate::bench::{Bench, BenchFault, Pass};
@@ -59,9 +59,9 @@ pub struct Works {
 }
 
 impl Promise<Worked> for Works {
-    ghost use Rattle.jc_runner.specs.Worked.{IsWorked};
+    ghost use Rattle.jc_runner.specs.WorkerResult.{IsWorkerResult};
 
-    ghost kept_by = { λ p w. IsWorked p.bench.value p.number p.limit w };
+    ghost kept_by = { λ p w. IsWorkerResult p.bench.value p.number p.limit w };
 }
 
 fn join_each<R: Threads>(rt: &R, handles: Vec<PromisedHandle<Worked, Works>>) {
@@ -193,10 +193,10 @@ pub fn run_threads<R: Threads + Wait + Sync, G: Gate + Send + Drop>(
     gates: Vec<G>,
     limit: u64,
 ) -> Result<Report, RunFault>
-    requires { IsWellFormed (scenario_view scenario) }
+    requires { IsWellFormedScenario (scenario_view scenario) }
     ensures accepted { IfOk result (λ r. (vec_len gates ≡ vec_len scenario.scripts) × (limit ≤ 100000)) }
     ensures report { IfOk result (λ r. IsReport (scenario_view scenario) limit r) }
-    ensures fault { IfErr result (λ fault. IsRunFault fault (scenario_view scenario) (vec_len gates) limit) }
+    ensures fault { IfErr result (λ fault. IsReportedFault fault (scenario_view scenario) (vec_len gates) limit) }
 {
     if gates.len() != scenario.scripts.len() {
         return Err(RunFault::GateCount);

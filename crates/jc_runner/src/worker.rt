@@ -1,9 +1,9 @@
 //! The work of one replica's thread.
 ghost use Rattle.std.specs.Prelude.{◌≡◌, ◌+◌, ◌<◌, ◌∷◌, [], List, Option, length};
 ghost use Rattle.jc_lock.specs.Shows.{pass_number, pass_left};
-ghost use Rattle.jc_runner.specs.Asked.{Question, Asks, questions_of};
+ghost use Rattle.jc_runner.specs.Asked.{GateQuestion, Asks, questions_of};
 ghost use Rattle.jc_runner.specs.Benches.{IsNewAt, bench_start};
-ghost use Rattle.jc_runner.specs.Worked.{IsWorked, end_of};
+ghost use Rattle.jc_runner.specs.WorkerResult.{IsWorkerResult, end_of};
 
 use crate::bench::{Bench, Pass, StepAnswer};
 use crate::choosing::choose;
@@ -15,7 +15,7 @@ use std::sync::Wait;
 ///
 /// Contracts see a gate as the questions that it was asked so far, where it tells them.
 pub trait Gate {
-    ghost asked: { Self → Option (List Question) };
+    ghost asked: { Self → Option (List GateQuestion) };
 
     /// `step` is the number of events that the replica has made.
     fn before<R: Wait>(&mut self, rt: &R, replica: u16, step: u64)
@@ -64,7 +64,7 @@ fn end_of(answer: StepAnswer) -> Option<End>
 fn work_through<R: Wait, G: Gate>(rt: &R, bench: &Bench, mut pass: Pass, gate: &mut G) -> Worked
     requires new { IsNewAt bench.now (pass_left pass) pass }
     requires there { pass_number pass < length (bench_start bench.now).scripts }
-    ensures worked { IsWorked bench.now (pass_number pass) (pass_left pass) result }
+    ensures worked { IsWorkerResult bench.now (pass_number pass) (pass_left pass) result }
     ensures asked { Asks (G.asked gate.old) (G.asked gate.new)
         (questions_of (pass_number pass) (result.made + 1)) }
 {
@@ -114,7 +114,7 @@ pub(crate) fn work<R: Wait, G: Gate + Drop>(
 ) -> Worked
     requires new { IsNewAt bench.now (pass_left pass) pass }
     requires there { pass_number pass < length (bench_start bench.now).scripts }
-    ensures { IsWorked bench.now (pass_number pass) (pass_left pass) result }
+    ensures { IsWorkerResult bench.now (pass_number pass) (pass_left pass) result }
 {
     work_through(rt, bench, pass, &mut gate)
 }

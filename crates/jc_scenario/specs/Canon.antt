@@ -4,9 +4,9 @@ use Rattle.jc_rules.specs.declared.operation.Event.{Event}
 use Rattle.jc_rules.specs.declared.version.Version.{Version}
 use Rattle.jc_rules.specs.declared.version.Version.TheVariants.{One, Two}
 use Rattle.jc_rules.specs.Syntax.{Cmd}
-use Rattle.jc_parser.specs.Trees.{Part}
+use Rattle.jc_parser.specs.Scenarios.{Part}
 use Rattle.jc_printer.specs.Canon.{canon_cmd, canon_event}
-use Rattle.jc_scenario.specs.Scenarios.{Scenario, parts_of}
+use Rattle.jc_scenario.specs.WellFormed.{Scenario, parts_of}
 
 -- a line inside a block: two blanks, the text and `;`
 abbrev pub line_of : List ℕ → List ℕ

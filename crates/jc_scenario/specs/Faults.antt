@@ -8,9 +8,9 @@ use Rattle.jc_syntax.specs.Lexemes.{AreTokensOf, IsFaultOf}
 use Rattle.jc_parser.specs.declared.fault.ScenarioFault.{ScenarioFault}
 use Rattle.jc_parser.specs.declared.fault.ScenarioFault.TheVariants.{TextTooLong, NotUtf8, UnknownReplica}
 use Rattle.jc_parser.specs.Faults.{from_lexer}
-use Rattle.jc_parser.specs.Reading.{Reading, reading}
-use Rattle.jc_parser.specs.Trees.{NamedTree, name_of, IsNamedTree}
-use Rattle.jc_parser.specs.TreeFaults.{IsTreeFault}
+use Rattle.jc_parser.specs.ReaderState.{Reading, reading_of}
+use Rattle.jc_parser.specs.Scenarios.{NamedTree, name_of_part, IsNamedTree}
+use Rattle.jc_parser.specs.ScenarioFaults.{IsTreeFault}
 use Rattle.jc_scenario.specs.Resolved.{all_names_in, IsFirstStranger}
 
 -- These lexemes are a scenario, but for a name in its events that no replica has; the first such name stands there. The
@@ -19,7 +19,7 @@ pub record IsStranger (r : Reading) (fault : ScenarioFault) : Type 0 where
   pub tree : NamedTree
   pub named : IsNamedTree r tree
   pub place : ℕ
-  pub first : IsFirstStranger (map name_of tree.parts) (all_names_in (tree.given ++ tree.events)) place
+  pub first : IsFirstStranger (map name_of_part tree.parts) (all_names_in (tree.given ++ tree.events)) place
   pub is : fault ≡ UnknownReplica place
 
 -- the fault of these lexemes: that of the scenario's sentence, or else of a name in its events
@@ -32,7 +32,7 @@ abbrev pub IsFaultWithin : List ℕ → ScenarioFault → Type 0
 IsFaultWithin bytes fault =
     ((IsUtf8 bytes → ⊥) × (fault ≡ NotUtf8 (utf8_valid_len bytes)))
     ⊎ (IsUtf8 bytes × (((lexical : LexFault) × IsFaultOf bytes lexical × (fault ≡ from_lexer lexical))
-    ⊎ ((tokens : List Token) × AreTokensOf bytes tokens × IsFaultAmong (reading bytes tokens) fault)))
+    ⊎ ((tokens : List Token) × AreTokensOf bytes tokens × IsFaultAmong (reading_of bytes tokens) fault)))
 
 -- the fault of bytes
 abbrev pub IsFault : List ℕ → ScenarioFault → Type 0

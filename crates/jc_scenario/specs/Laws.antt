@@ -2,7 +2,7 @@
 use Rattle.std.specs.Prelude.{◌≡◌, ◌⊎◌, ℕ, ◌≤◌, List, length}
 use Rattle.jc_rules.specs.declared.version.Version.TheVariants.{One}
 use Rattle.jc_parser.specs.declared.fault.ScenarioFault.{ScenarioFault}
-use Rattle.jc_scenario.specs.Scenarios.{Scenario, IsWellFormed, IsScenario}
+use Rattle.jc_scenario.specs.WellFormed.{Scenario, IsWellFormedScenario, IsScenario}
 use Rattle.jc_scenario.specs.Faults.{IsFault}
 use Rattle.jc_scenario.specs.Canon.{canon, canon_one}
 
@@ -26,11 +26,11 @@ OneFault =
 
 -- The scenario that bytes are is well formed.
 abbrev pub ScenariosAreWellFormed : Type 0
-ScenariosAreWellFormed = (bytes : List ℕ) (s : Scenario) → IsScenario bytes s → IsWellFormed s
+ScenariosAreWellFormed = (bytes : List ℕ) (s : Scenario) → IsScenario bytes s → IsWellFormedScenario s
 
 -- The canonical text of a well-formed scenario, within the limit for texts, is that scenario.
 abbrev pub ScenariosReadBack : Type 0
-ScenariosReadBack = (s : Scenario) → IsWellFormed s → length (canon s) ≤ 8388608 → IsScenario (canon s) s
+ScenariosReadBack = (s : Scenario) → IsWellFormedScenario s → length (canon s) ≤ 8388608 → IsScenario (canon s) s
 
 -- A scenario of version 1 is written as version 1 writes it: without given events.
 abbrev pub FirstVersionStays : Type 0

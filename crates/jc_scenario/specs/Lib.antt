@@ -1,4 +1,4 @@
-pub mod Scenarios
+pub mod WellFormed
 pub mod Resolved
 pub mod Faults
 pub mod Canon

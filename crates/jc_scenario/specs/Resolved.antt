@@ -5,8 +5,8 @@ use Rattle.jc_rules.specs.declared.operation.Event.{Event}
 use Rattle.jc_syntax.specs.declared.tree.Named.{Named}
 use Rattle.jc_syntax.specs.declared.tree.NamedEvent.{NamedEvent}
 use Rattle.jc_syntax.specs.declared.tree.NamedEvent.TheVariants.{Exec, Send, Recv, Take, Apply, Done}
-use Rattle.jc_parser.specs.Calls.{call_of}
-use Rattle.jc_parser.specs.Legal.{call_by}
+use Rattle.jc_parser.specs.Events.{call_of}
+use Rattle.jc_parser.specs.LegalSymbols.{call_by}
 use Rattle.jc_printer.specs.Canon.{AreNamed}
 
 -- ---- one event
@@ -17,13 +17,13 @@ pub record IsResolved (names : List (List ℕ)) (named : NamedEvent) (event : Ev
   pub called : call_by names event ≡ call_of named
 
 -- the names in it, from left to right
-abbrev pub names_in : NamedEvent → List Named
-names_in (Exec p) = p ∷ []
-names_in (Send p) = p ∷ []
-names_in (Recv p q) = p ∷ q ∷ []
-names_in (Take p q counter r) = p ∷ q ∷ r ∷ []
-names_in (Apply p counter q) = p ∷ q ∷ []
-names_in (Done p) = p ∷ []
+abbrev pub names_in_event : NamedEvent → List Named
+names_in_event (Exec p) = p ∷ []
+names_in_event (Send p) = p ∷ []
+names_in_event (Recv p q) = p ∷ q ∷ []
+names_in_event (Take p q counter r) = p ∷ q ∷ r ∷ []
+names_in_event (Apply p counter q) = p ∷ q ∷ []
+names_in_event (Done p) = p ∷ []
 
 -- the first of these names that no replica has stands there
 abbrev pub IsFirstStranger : List (List ℕ) → List Named → ℕ → Type 0
@@ -39,4 +39,4 @@ pub record AreResolved (names : List (List ℕ)) (named : List NamedEvent) (even
   pub called : map (call_by names) events ≡ map call_of named
 
 abbrev pub all_names_in : List NamedEvent → List Named
-all_names_in events = flat_map names_in events
+all_names_in events = flat_map names_in_event events

@@ -6,7 +6,7 @@ use Rattle.jc_rules.specs.Syntax as rules
 use Rattle.jc_syntax.specs.Trees.{cmd_of}
 use Rattle.jc_syntax.specs.declared.tree.Cmd.{Cmd}
 use Rattle.jc_scenario.specs.declared.scenario.Scenario as code
-use Rattle.jc_scenario.specs.Scenarios.{Scenario}
+use Rattle.jc_scenario.specs.WellFormed.{Scenario}
 
 abbrev pub scripts_view : List (Vec Cmd Global) → List (List rules.Cmd)
 scripts_view scripts = map (λ script. map cmd_of script.items) scripts

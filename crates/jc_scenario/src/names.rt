@@ -2,7 +2,7 @@
 
 ghost use Rattle.std.specs.Prelude.{◌≡◌, ◌≢◌, ◌≤◌, IfOk, IfErr, Some, length, slice_get, Contains};
 ghost use Rattle.jc_parser.specs.declared.fault.ScenarioFault.TheVariants as faults;
-ghost use Rattle.jc_scenario.specs.Resolved.{IsResolved, names_in, IsFirstStranger};
+ghost use Rattle.jc_scenario.specs.Resolved.{IsResolved, names_in_event, IsFirstStranger};
 
 use jc_parser::ScenarioFault;
 use jc_rules::{Event, Id, Text};
@@ -47,7 +47,7 @@ pub fn resolve(names: &[Text], event: &NamedEvent) -> Result<Event, UnknownRepli
     // Each replica has its number.
     ensures event { IfOk result (λ e. IsResolved names.now event.now e) }
     // The first name that no replica has stands there.
-    ensures fault { IfErr result (λ e. IsFirstStranger names.now (names_in event.now) e.place) }
+    ensures fault { IfErr result (λ e. IsFirstStranger names.now (names_in_event event.now) e.place) }
 {
     match event {
         NamedEvent::Exec(p) => Ok(Event::Exec(number_of(names, p)?)),

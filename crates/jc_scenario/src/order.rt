@@ -3,8 +3,8 @@
 ghost use Rattle.std.specs.Prelude.{◌≡◌, ◌≢◌, ◌∷◌, IfOk, OnOk, All, AllPairs, Contains, IsPermutation, length, map};
 ghost use Rattle.jc_rules.specs.Entries.{IsRising};
 ghost use Rattle.jc_rules.specs.Order.{name_cmp};
-ghost use Rattle.jc_parser.specs.TreeViews.{part_view, names_of};
-ghost use Rattle.jc_scenario.specs.Scenarios.{parts_of};
+ghost use Rattle.jc_parser.specs.ScenarioViews.{part_view, names_of};
+ghost use Rattle.jc_scenario.specs.WellFormed.{parts_of};
 ghost use Rattle.jc_scenario.specs.Views.{scripts_view};
 
 use jc_parser::NamedReplica;

@@ -3,7 +3,7 @@
 ghost use Rattle.std.specs.Prelude.{◌≡◌, ◌++◌, ◌<◌, ◌≤◌, OnOk, IfOk, All, string_bytes, map, length, codes, flat_map};
 ghost use Rattle.jc_syntax.specs.Trees.{cmd_of};
 ghost use Rattle.jc_printer.specs.Canon.{canon_cmd, canon_event, AreNamed};
-ghost use Rattle.jc_scenario.specs.Scenarios.{parts_of, IsWellFormed};
+ghost use Rattle.jc_scenario.specs.WellFormed.{parts_of, IsWellFormedScenario};
 ghost use Rattle.jc_scenario.specs.Canon.{line_of, canon_commands, canon_part, canon_events, header_text, canon_given, canon_schedule, canon};
 ghost use Rattle.jc_scenario.specs.Views.{scripts_view, scenario_view};
 
@@ -15,7 +15,7 @@ use std::alloc::{AllocError, Global};
 
 /// The canonical text of a scenario. It may be longer than a text that `read` takes.
 pub fn print(alloc: Global, scenario: &Scenario) -> Result<String, AllocError>
-    requires { IsWellFormed (scenario_view scenario.now) }
+    requires { IsWellFormedScenario (scenario_view scenario.now) }
     ensures { IfOk result (λ text. string_bytes text ≡ canon (scenario_view scenario.now)) }
 {
     let mut out = String::from_str(alloc, header(scenario.version))?;

@@ -2,9 +2,9 @@
 
 ghost use Rattle.std.specs.Prelude.{◌≡◌, ◌≢◌, ℕ, ◌≤◌, IfOk, IfErr, All, length};
 ghost use Rattle.jc_syntax.specs.Lexemes.{IsTokenOf};
-ghost use Rattle.jc_parser.specs.Reading.{reading};
+ghost use Rattle.jc_parser.specs.ReaderState.{reading_of};
 ghost use Rattle.jc_scenario.specs.Resolved.{AreResolved, all_names_in, IsFirstStranger};
-ghost use Rattle.jc_scenario.specs.Scenarios.{AreScenario, IsScenario, IsWellFormed};
+ghost use Rattle.jc_scenario.specs.WellFormed.{AreScenario, IsScenario, IsWellFormedScenario};
 ghost use Rattle.jc_scenario.specs.Faults.{IsFaultAmong, IsFault};
 ghost use Rattle.jc_scenario.specs.Views.{scenario_view};
 
@@ -38,8 +38,8 @@ fn resolved(
 /// The scenario that all of the tokens are.
 fn scenario(alloc: Global, text: &str, tokens: &[Token]) -> Result<Scenario, ScenarioFault>
     requires { All (IsTokenOf text.now) tokens.now }
-    ensures scenario { IfOk result (λ s. AreScenario (reading text.now tokens.now) (scenario_view s)) }
-    ensures fault { IfErr result (λ e. e ≢ ScenarioFault.Memory → IsFaultAmong (reading text.now tokens.now) e) }
+    ensures scenario { IfOk result (λ s. AreScenario (reading_of text.now tokens.now) (scenario_view s)) }
+    ensures fault { IfErr result (λ e. e ≢ ScenarioFault.Memory → IsFaultAmong (reading_of text.now tokens.now) e) }
 {
     let NamedScenario {
         version,
@@ -72,7 +72,7 @@ fn scenario(alloc: Global, text: &str, tokens: &[Token]) -> Result<Scenario, Sce
 pub fn read(alloc: Global, bytes: &[u8]) -> Result<Scenario, ScenarioFault>
     // What is read is the scenario that the bytes are.
     ensures scenario { IfOk result (λ s. IsScenario bytes.now (scenario_view s)) }
-    ensures well_formed { IfOk result (λ s. IsWellFormed (scenario_view s)) }
+    ensures well_formed { IfOk result (λ s. IsWellFormedScenario (scenario_view s)) }
     // What is refused has this fault.
     ensures fault { IfErr result (λ e. e ≢ ScenarioFault.Memory → IsFault bytes.now e) }
 {

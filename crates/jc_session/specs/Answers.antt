@@ -8,28 +8,28 @@ use Rattle.jc_rules.specs.declared.rule.Rule.TheVariants as R
 use Rattle.jc_rules.specs.declared.version.Version.{Version}
 use Rattle.jc_rules.specs.declared.version.Version.TheVariants.{One, Two}
 use Rattle.jc_rules.specs.RuleNames.{rule_name}
-use Rattle.jc_rules.specs.Refusals.{number_of}
+use Rattle.jc_rules.specs.Refusals.{refusal_number}
 use Rattle.jc_rules.specs.Refused.{Cause, IsStuckIn}
-use Rattle.jc_rules.specs.Shape.{drop}
+use Rattle.jc_rules.specs.WellFormed.{drop}
 use Rattle.jc_rules.specs.State.{State}
 use Rattle.jc_rules.specs.Step.{Network, StepIn}
 use Rattle.jc_syntax.specs.declared.tree.NamedEvent.{NamedEvent}
 use Rattle.jc_parser.specs.declared.fault.ScenarioFault.{ScenarioFault}
-use Rattle.jc_parser.specs.Faults.{number_of as fault_number, place_of}
-use Rattle.jc_parser.specs.Calls.{IsEventOf, IsEventFault}
-use Rattle.jc_scenario.specs.Resolved.{IsResolved, names_in, IsFirstStranger}
-use Rattle.jc_scenario.specs.Scenarios.{Scenario}
+use Rattle.jc_parser.specs.Faults.{fault_number as fault_number, fault_offset}
+use Rattle.jc_parser.specs.Events.{IsEventOf, IsEventFault}
+use Rattle.jc_scenario.specs.Resolved.{IsResolved, names_in_event, IsFirstStranger}
+use Rattle.jc_scenario.specs.WellFormed.{Scenario}
 use Rattle.jc_network.specs.Enabled.{AreEnabled, candidates}
 use Rattle.jc_dump.specs.Dump.{dump_line}
 use Rattle.jc_dump.specs.Lines.{stuck_text}
 use Rattle.jc_dump.specs.Texts.{block_text, dumps_text, refused_text}
 use Rattle.jc_debug.specs.declared.breaks.Break.{Break}
 use Rattle.jc_debug.specs.declared.breaks.Break.TheVariants as Kind
-use Rattle.jc_debug.specs.Session.{Session, IsAt, Makes, StuckEvent, Goes, IsLeast, Outcome, Runs, moved, acted, placed}
+use Rattle.jc_debug.specs.DebuggerState.{Session, IsNetworkAt, MakesEvent, StuckEvent, GoesTo, IsLeast, RunOutcome, Runs, moved_to, acted, with_break}
 use Rattle.jc_session.specs.Lines.{Line}
 use Rattle.jc_session.specs.Requests as Q
 use Rattle.jc_session.specs.Requests.{Request, nothing, asks, bad, meaning}
-use Rattle.jc_session.specs.Texts.{refusal_line, at_line, set_line, cleared_line, where_line, went_text, ran_text, numbered_lines, event_lines, or_none}
+use Rattle.jc_session.specs.Texts.{refusal_line, at_line, set_line, cleared_line, where_line, went_text, ran_text, numbered_lines, event_lines, or_none_text}
 
 -- what no line of a session changes: the replicas' names, and the network at position 0
 pub record Origin : Type 0 where
@@ -58,13 +58,13 @@ Knows rule version = Unit {0}
 pub record IsRefusalAt (number at : Option ℕ) (text : List ℕ) : Type 0 where
   pub refusal : Refusal
   pub place : ℕ
-  pub is_number : number ≡ Some (number_of refusal)
+  pub is_number : number ≡ Some (refusal_number refusal)
   pub is_place : at ≡ Some place
   pub written : text ≡ refused_text refusal place
 
 -- the line of a text's fault
 abbrev pub IsFaultLine : ScenarioFault → List ℕ → Type 0
-IsFaultLine fault text = IsRefusalAt (fault_number fault) (place_of fault) text
+IsFaultLine fault text = IsRefusalAt (fault_number fault) (fault_offset fault) text
 
 -- ---- parts of answers
 
@@ -77,34 +77,34 @@ pub data IsMisspelled (version : Version) (names : List (List ℕ)) (rest : List
       → IsMisspelled version names rest text
   strange : (named : NamedEvent) (place : ℕ)
       → IsEventOf version rest named
-      → IsFirstStranger names (names_in named) place
+      → IsFirstStranger names (names_in_event named) place
       → IsMisspelled version names rest (refused_text F.UnknownReplica place)
 
 -- the rest of an `act` line is this event of the version
-pub record IsSpelled (version : Version) (names : List (List ℕ)) (rest : List ℕ) (event : Event) : Type 0 where
+pub record IsEventText (version : Version) (names : List (List ℕ)) (rest : List ℕ) (event : Event) : Type 0 where
   pub named : NamedEvent
   pub is : IsEventOf version rest named
   pub resolved : IsResolved names named event
 
 -- An event is made at the position, if it is not the last one that there may be and the event is not stuck.
-pub data Acts (O : Origin) (A : Session) (event : Event) : Session → List ℕ → Type 0 where
-  full : A.position ≡ 100000 → Acts O A event A (refusal_line F.TooManyEvents)
+pub data ActsOn (O : Origin) (A : Session) (event : Event) : Session → List ℕ → Type 0 where
+  full : A.position ≡ 100000 → ActsOn O A event A (refusal_line F.TooManyEvents)
   stuck : (why : Cause) (network : Network)
       → A.position < 100000
-      → IsAt O.start A.schedule A.position network
+      → IsNetworkAt O.start A.schedule A.position network
       → IsStuckIn network event why
-      → Acts O A event A (at_line A.position ++ stuck_text O.names why event)
+      → ActsOn O A event A (at_line A.position ++ stuck_text O.names why event)
   made : (network new : Network) (rows : List (Rule × ℕ))
       → A.position < 100000
-      → IsAt O.start A.schedule A.position network
+      → IsNetworkAt O.start A.schedule A.position network
       → StepIn network event new rows
-      → Acts O A event (acted A event) (at_line (A.position + 1))
+      → ActsOn O A event (acted A event) (at_line (A.position + 1))
 
 -- A new breakpoint gets the least place that is free.
 pub data Sets (A : Session) (b : Break) : Session → List ℕ → Type 0 where
   set : {j : ℕ}
       → IsLeast (λ i. slice_get A.breaks i ≡ Some None) j
-      → Sets A b (placed A j (Some b)) (set_line (j + 1))
+      → Sets A b (with_break A j (Some b)) (set_line (j + 1))
   none_free : ((j : ℕ) → slice_get A.breaks j ≢ Some None) → Sets A b A (refusal_line F.TooManyBreaks)
 
 -- Two states have applied the same operations, and their trees are the same or not once empty presence sets are
@@ -122,31 +122,31 @@ pub data Compares (C D : State) : List ℕ → Type 0 where
 pub data Replies (O : Origin) (A : Session) : Request → Session → List ℕ → Type 0 where
   steps : {n p : ℕ} {end : Option StuckEvent}
       → A.position + n ≤ length A.schedule
-      → Goes O.start A.schedule A.position (A.position + n) p end
-      → Replies O A (Q.step n) (moved A p) (went_text O.names p end)
+      → GoesTo O.start A.schedule A.position (A.position + n) p end
+      → Replies O A (Q.step n) (moved_to A p) (went_text O.names p end)
   steps_past : {n : ℕ}
       → length A.schedule < A.position + n
       → Replies O A (Q.step n) A (refusal_line F.AtEnd)
   goes_back : {n : ℕ}
       → n ≤ A.position
-      → Replies O A (Q.back n) (moved A (A.position - n)) (at_line (A.position - n))
+      → Replies O A (Q.back n) (moved_to A (A.position - n)) (at_line (A.position - n))
   back_past : {n : ℕ} → A.position < n → Replies O A (Q.back n) A (refusal_line F.AtStart)
   goes_to : {n p : ℕ} {end : Option StuckEvent}
       → n ≤ length A.schedule
-      → Goes O.start A.schedule A.position n p end
-      → Replies O A (Q.goto n) (moved A p) (went_text O.names p end)
+      → GoesTo O.start A.schedule A.position n p end
+      → Replies O A (Q.goto n) (moved_to A p) (went_text O.names p end)
   goes_past : {n : ℕ} → length A.schedule < n → Replies O A (Q.goto n) A (refusal_line F.PastSchedule)
   acts : {rest text : List ℕ} {B : Session} (event : Event)
-      → IsSpelled O.start.version O.names rest event
-      → Acts O A event B text
+      → IsEventText O.start.version O.names rest event
+      → ActsOn O A event B text
       → Replies O A (Q.act rest) B text
   acts_misspelled : {rest text : List ℕ}
       → IsMisspelled O.start.version O.names rest text
       → Replies O A (Q.act rest) A text
-  runs : {n : ℕ} {end : Outcome}
+  runs : {n : ℕ} {end : RunOutcome}
       → A.position < length A.schedule
       → Runs O.start A n end
-      → Replies O A Q.run (moved A n) (ran_text O.names n end)
+      → Replies O A Q.run (moved_to A n) (ran_text O.names n end)
   runs_past : A.position ≡ length A.schedule → Replies O A Q.run A (refusal_line F.AtEnd)
   breaks_at : {n : ℕ} {text : List ℕ} {B : Session}
       → Sets A (Kind.Position n) B text
@@ -168,15 +168,15 @@ pub data Replies (O : Origin) (A : Session) : Request → Session → List ℕ �
       → Replies O A (Q.break_replica name) A (refusal_line F.UnknownReplica)
   clears : (j : ℕ) (b : Break)
       → slice_get A.breaks j ≡ Some (Some b)
-      → Replies O A (Q.unbreak (j + 1)) (placed A j None) (cleared_line (j + 1))
+      → Replies O A (Q.unbreak (j + 1)) (with_break A j None) (cleared_line (j + 1))
   no_break : {k : ℕ}
       → ((j : ℕ) (b : Break) → k ≡ j + 1 → slice_get A.breaks j ≢ Some (Some b))
       → Replies O A (Q.unbreak k) A (refusal_line F.NoSuchBreak)
   states : (network : Network)
-      → IsAt O.start A.schedule A.position network
+      → IsNetworkAt O.start A.schedule A.position network
       → Replies O A Q.state A (dumps_text O.names network.states)
   state_of : {name : List ℕ} (network : Network) (p : ℕ) (C : State)
-      → IsAt O.start A.schedule A.position network
+      → IsNetworkAt O.start A.schedule A.position network
       → IsNamed O.names name p
       → slice_get network.states p ≡ Some C
       → Replies O A (Q.state_of name) A (dump_line O.names name C)
@@ -185,17 +185,17 @@ pub data Replies (O : Origin) (A : Session) : Request → Session → List ℕ �
       → Replies O A (Q.state_of name) A (refusal_line F.UnknownReplica)
   traces : {n : ℕ} {event : Event} {rows : List (Rule × ℕ)}
       → A.position ≡ n + 1
-      → Makes O.start A.schedule n event rows
+      → MakesEvent O.start A.schedule n event rows
       → Replies O A Q.trace A (block_text O.names (n + 1) event rows)
   at_start : A.position ≡ 0 → Replies O A Q.trace A (codes "start\n")
   enables : (network : Network) (events : List Event)
-      → IsAt O.start A.schedule A.position network
+      → IsNetworkAt O.start A.schedule A.position network
       → AreEnabled network (candidates network) events
-      → Replies O A Q.enabled A (or_none (event_lines O.names events))
-  lists : Replies O A Q.schedule A (or_none (numbered_lines O.names 1 A.schedule))
+      → Replies O A Q.enabled A (or_none_text (event_lines O.names events))
+  lists : Replies O A Q.schedule A (or_none_text (numbered_lines O.names 1 A.schedule))
   tells : Replies O A Q.position A (where_line A.position (length A.schedule))
   compares : {name other text : List ℕ} (network : Network) (p q : ℕ) (C D : State)
-      → IsAt O.start A.schedule A.position network
+      → IsNetworkAt O.start A.schedule A.position network
       → IsNamed O.names name p
       → IsNamed O.names other q
       → slice_get network.states p ≡ Some C
@@ -209,10 +209,10 @@ pub data Replies (O : Origin) (A : Session) : Request → Session → List ℕ �
 -- ---- lines
 
 -- The session goes on after the line, with this answer. A line of no word has an empty one, and `quit` has none.
-pub data Answer (O : Origin) (A : Session) (l : Line) : Session → List ℕ → Type 0 where
-  empty : meaning l ≡ nothing → Answer O A l A []
-  refused : meaning l ≡ bad → Answer O A l A (refusal_line F.BadLine)
+pub data LineAnswer (O : Origin) (A : Session) (l : Line) : Session → List ℕ → Type 0 where
+  empty : meaning l ≡ nothing → LineAnswer O A l A []
+  refused : meaning l ≡ bad → LineAnswer O A l A (refusal_line F.BadLine)
   replies : {B : Session} {text : List ℕ} (request : Request)
       → meaning l ≡ asks request
       → Replies O A request B text
-      → Answer O A l B text
+      → LineAnswer O A l B text

@@ -11,12 +11,12 @@ abbrev pub Lacks : ℕ → List ℕ → Type 0
 Lacks b bytes = AllByRecursion (λ x. x ≢ b) bytes
 
 -- lines, and an LF after each
-abbrev pub ended : List (List ℕ) → List ℕ
-ended lines = flat_map (λ x. x ++ 10 ∷ []) lines
+abbrev pub with_line_ends : List (List ℕ) → List ℕ
+with_line_ends lines = flat_map (λ x. x ++ 10 ∷ []) lines
 
 -- The bytes are whole lines, each with its LF, and what stands after the last LF.
 pub record AreLines (bytes : List ℕ) (whole : List (List ℕ)) (last : List ℕ) : Type 0 where
-  pub is : bytes ≡ ended whole ++ last
+  pub is : bytes ≡ with_line_ends whole ++ last
   pub no_lf : AllByRecursion (Lacks 10) whole
   pub last_no_lf : Lacks 10 last
 
@@ -25,14 +25,14 @@ abbrev pub without_cr : List ℕ → List ℕ
 without_cr xs = if slice_index xs (length xs - 1) == 13 then take (length xs - 1) xs else xs
 
 -- a line of at most 4096 bytes is its text
-abbrev pub within : List ℕ → List ℕ → Line
-within raw text = if nat_le (length raw) 4096 then Some text else None
+abbrev pub is_within_limit : List ℕ → List ℕ → Line
+is_within_limit raw text = if nat_le (length raw) 4096 then Some text else None
 
 -- a line that ended in an LF; one CR before that is no part of it
 abbrev pub whole_line : List ℕ → Line
-whole_line raw = within raw (without_cr raw)
+whole_line raw = is_within_limit raw (without_cr raw)
 
 -- what stands after the last LF is a line where it isn't empty
 abbrev pub last_line : List ℕ → List Line
 last_line [] = []
-last_line (b ∷ bs) = within (b ∷ bs) (b ∷ bs) ∷ []
+last_line (b ∷ bs) = is_within_limit (b ∷ bs) (b ∷ bs) ∷ []

@@ -12,12 +12,12 @@ Word = List ℕ
 -- ---- words and numbers
 
 -- a space or a tab
-abbrev pub is_blank : ℕ → Bool
-is_blank b = b == 32 || b == 9
+abbrev pub is_blank_char : ℕ → Bool
+is_blank_char b = b == 32 || b == 9
 
 -- what blanks part, but for empty parts
 abbrev pub words : List ℕ → List Word
-words line = filter (λ w. not (length w == 0)) (slice_split is_blank line)
+words line = filter (λ w. not (length w == 0)) (slice_split is_blank_char line)
 
 -- the bytes from the first one on that fails the test
 abbrev pub past : (ℕ → Bool) → List ℕ → List ℕ
@@ -25,16 +25,16 @@ past p bytes = drop (prefix_len p bytes) bytes
 
 -- what stands behind the first word and the blanks after it
 abbrev pub after_word : List ℕ → List ℕ
-after_word line = past is_blank (past (λ b. not (is_blank b)) (past is_blank line))
+after_word line = past is_blank_char (past (λ b. not (is_blank_char b)) (past is_blank_char line))
 
 -- `0`, or 1 to 10 digits of which the first isn't `0`
-abbrev pub is_number : Word → Bool
-is_number w =
+abbrev pub is_number_word : Word → Bool
+is_number_word w =
     bytes_eq w (codes "0")
     || ((nat_le 1 (length w) && nat_le (length w) 10) && (all_ascii_digits w && not (slice_index w 0 == 48)))
 
 abbrev pub number_in : Word → Option ℕ
-number_in w = if is_number w then Some (digits_value 10 w) else None
+number_in w = if is_number_word w then Some (digits_value 10 w) else None
 
 -- ---- requests
 
@@ -65,26 +65,26 @@ among w [] = None
 among w (e ∷ es) = if bytes_eq w e.0 then Some e.1 else among w es
 
 -- lines of one word
-abbrev pub alone : List (Word × Request)
-alone =
+abbrev pub single_words : List (Word × Request)
+single_words =
     (codes "step", step 1) ∷ (codes "back", back 1) ∷ (codes "run", run)
     ∷ (codes "state", state) ∷ (codes "trace", trace) ∷ (codes "enabled", enabled)
     ∷ (codes "schedule", schedule) ∷ (codes "where", position) ∷ (codes "quit", quit) ∷ []
 
 -- a word that must be a number
-abbrev pub with_number : (ℕ → Request) → Word → Option Request
-with_number f w = option_map f (number_in w)
+abbrev pub request_with_number : (ℕ → Request) → Word → Option Request
+request_with_number f w = option_map f (number_in w)
 
 -- lines of two words, by the first one
 abbrev pub of_two : List (Word × (Word → Option Request))
 of_two =
-    (codes "step", with_number step) ∷ (codes "back", with_number back) ∷ (codes "goto", with_number goto)
-    ∷ (codes "unbreak", with_number unbreak) ∷ (codes "state", λ w. Some (state_of w)) ∷ []
+    (codes "step", request_with_number step) ∷ (codes "back", request_with_number back) ∷ (codes "goto", request_with_number goto)
+    ∷ (codes "unbreak", request_with_number unbreak) ∷ (codes "state", λ w. Some (state_of w)) ∷ []
 
 -- lines that set a breakpoint, by the second word
 abbrev pub of_break : List (Word × (Word → Option Request))
 of_break =
-    (codes "at", with_number break_at) ∷ (codes "rule", λ w. Some (break_rule w))
+    (codes "at", request_with_number break_at) ∷ (codes "rule", λ w. Some (break_rule w))
     ∷ (codes "replica", λ w. Some (break_replica w)) ∷ []
 
 -- lines of three words, by the first one
@@ -94,7 +94,7 @@ of_three =
     ∷ (codes "compare", λ w x. Some (compare w x)) ∷ []
 
 abbrev pub asked_by : List Word → Option Request
-asked_by (v ∷ []) = among v alone
+asked_by (v ∷ []) = among v single_words
 asked_by (v ∷ w ∷ []) = option_and_then (λ f. f w) (among v of_two)
 asked_by (v ∷ w ∷ x ∷ []) = option_and_then (λ f. f w x) (among v of_three)
 asked_by _ = None

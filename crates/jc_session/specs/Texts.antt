@@ -2,17 +2,17 @@
 use Rattle.std.specs.Prelude.{ℕ, ◌+◌, List, [], ◌∷◌, ◌++◌, flat_map, Option, Some, None, true, false, codes, decimal}
 use Rattle.jc_rules.specs.declared.operation.Event.{Event}
 use Rattle.jc_rules.specs.declared.refusal.Refusal.{Refusal}
-use Rattle.jc_rules.specs.Refusals.{number_of, name_of}
+use Rattle.jc_rules.specs.Refusals.{refusal_number, refusal_name}
 use Rattle.jc_printer.specs.Canon.{canon_event}
 use Rattle.jc_dump.specs.Lines.{stuck_text}
-use Rattle.jc_debug.specs.Session.{StuckEvent, Outcome, breaks, sticks, ends}
+use Rattle.jc_debug.specs.DebuggerState.{StuckEvent, RunOutcome, breaks, sticks, ends}
 use Rattle.jc_meaning.specs.declared.comparison.Comparison.{Comparison}
 use Rattle.jc_meaning.specs.declared.comparison.Comparison.TheVariants.{SameOps, DifferentOps}
 
 -- a refusal without a place
 abbrev pub refusal_line : Refusal → List ℕ
 refusal_line refusal =
-    codes "refused " ++ decimal (number_of refusal) ++ codes " " ++ name_of refusal ++ codes "\n"
+    codes "refused " ++ decimal (refusal_number refusal) ++ codes " " ++ refusal_name refusal ++ codes "\n"
 
 abbrev pub at_line : ℕ → List ℕ
 at_line n = codes "at " ++ decimal n ++ codes "\n"
@@ -32,7 +32,7 @@ went_text names n None = at_line n
 went_text names n (Some (event, why)) = at_line n ++ stuck_text names why event
 
 -- where a run came to, and why it went no further; breakpoint j + 1 stands at place j
-abbrev pub ran_text : List (List ℕ) → ℕ → Outcome → List ℕ
+abbrev pub ran_text : List (List ℕ) → ℕ → RunOutcome → List ℕ
 ran_text names n (breaks j) = at_line n ++ (codes "break " ++ decimal (j + 1) ++ codes "\n")
 ran_text names n (sticks event why) = at_line n ++ stuck_text names why event
 ran_text names n ends = at_line n ++ codes "end\n"
@@ -56,6 +56,6 @@ abbrev pub event_lines : List (List ℕ) → List Event → List ℕ
 event_lines names events = flat_map (λ event. canon_event names event ++ codes "\n") events
 
 -- a list that may be empty
-abbrev pub or_none : List ℕ → List ℕ
-or_none [] = codes "none\n"
-or_none (b ∷ bs) = b ∷ bs
+abbrev pub or_none_text : List ℕ → List ℕ
+or_none_text [] = codes "none\n"
+or_none_text (b ∷ bs) = b ∷ bs

@@ -10,8 +10,8 @@ use Rattle.jc_session.specs.Lines.{Line}
 use Rattle.jc_session.specs.Requests as Q
 use Rattle.jc_session.specs.Requests.{Request, Meaning, nothing, asks, bad}
 
-abbrev pub bytes_of : Option (Bor (List ℕ)) → Line
-bytes_of line = option_map (λ s. s.now) line
+abbrev pub line_of_bytes : Option (Bor (List ℕ)) → Line
+line_of_bytes line = option_map (λ s. s.now) line
 
 -- each byte is below 128
 abbrev pub AreAscii : List ℕ → Type 0

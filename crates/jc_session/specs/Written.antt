@@ -1,8 +1,8 @@
 -- What was written of a text, by what is told of a stream.
 use Rattle.std.specs.Prelude.{◌≡◌, ℕ, ◌+◌, ◌⊎◌, List, Option}
 use Rattle.std.specs.Io.KnownBytes.{Appends}
-use Rattle.jc_rules.specs.Told.{AppendsIfTold, AppendsFront}
-use Rattle.jc_rules.specs.declared.io.Sink.{Ghosts as SinkGhosts}
+use Rattle.jc_io.specs.Streams.{AppendsIfKnown, AppendsPrefix}
+use Rattle.jc_io.specs.declared.io.Sink.{Ghosts as SinkGhosts}
 
 -- What is told of a stream: its bytes, where they are known, which are left to be read or were written; and how many of
 -- its calls have failed.
@@ -19,11 +19,11 @@ Wrote text old new = Appends old.bytes new.bytes text × (new.failures ≡ old.f
 
 -- One write of the text failed: a prefix of it was written, and not the whole.
 abbrev pub WrotePart : List ℕ → Stream → Stream → Type 0
-WrotePart text old new = AppendsFront old.bytes new.bytes text × (new.failures ≡ old.failures + 1)
+WrotePart text old new = AppendsPrefix old.bytes new.bytes text × (new.failures ≡ old.failures + 1)
 
 -- The text was written, and the one flush behind it failed.
 abbrev pub WroteUnflushed : List ℕ → Stream → Stream → Type 0
-WroteUnflushed text old new = AppendsIfTold old.bytes new.bytes text × (new.failures ≡ old.failures + 1)
+WroteUnflushed text old new = AppendsIfKnown old.bytes new.bytes text × (new.failures ≡ old.failures + 1)
 
 -- The text was sent to a stream whose failures change nothing else.
 abbrev pub Sent : List ℕ → Stream → Stream → Type 0

@@ -2,9 +2,9 @@
 
 ghost use Rattle.std.specs.Prelude.{◌≡◌, ◌≢◌, ℕ, ◌+◌, ◌<◌, ◌≤◌, List, [], ◌∷◌, ◌++◌, length, take, drop, Option, Some, None, Ok, IfOk, OnOk, OnErr, IsTrue, ◌↔◌};
 ghost use Rattle.std.specs.Io.KnownBytes.{Consumes, IsAtEnd, prepend_known};
-ghost use Rattle.jc_rules.specs.Told.{Stays, failures_of};
+ghost use Rattle.jc_io.specs.Streams.{StaysIfKnown, failures_of};
 
-use jc_rules::io::{Failed, Source};
+use jc_io::{Failed, Source};
 use std::marker::Model;
 
 /// What was read of a source and wasn't taken yet, seen as the list of these bytes.
@@ -48,7 +48,7 @@ impl Ahead {
         requires { self.old ≡ [] }
         ensures ok { OnOk result (Consumes (S.left source.old) (S.left source.new) self.new
             × (self.new ≡ [] → IsAtEnd (S.left source.new))) }
-        ensures err { OnErr result ((self.new ≡ []) × Stays (S.left source.old) (S.left source.new)) }
+        ensures err { OnErr result ((self.new ≡ []) × StaysIfKnown (S.left source.old) (S.left source.new)) }
         ensures failures { S.failures source.new ≡ S.failures source.old + failures_of result }
     {
         self.start = 0;
@@ -78,7 +78,7 @@ impl Ahead {
             × IsAtEnd (prepend_known self.new (S.left source.new))
             × Consumes (prepend_known self.old (S.left source.old)) (prepend_known self.new (S.left source.new)) [] }
         ensures err { OnErr result
-            ((self.old ≡ []) × (self.new ≡ []) × Stays (S.left source.old) (S.left source.new)) }
+            ((self.old ≡ []) × (self.new ≡ []) × StaysIfKnown (S.left source.old) (S.left source.new)) }
         ensures failures { S.failures source.new ≡ S.failures source.old + failures_of result }
         ensures kept { self.old ≢ [] → source.new ≡ source.old }
         ensures few { OnOk result (length self.new < 4096) }

@@ -6,15 +6,15 @@ ghost use Rattle.jc_rules.specs.declared.rule.Rule.{Rule as AnyRule};
 ghost use Rattle.jc_rules.specs.declared.version.Version.{Version as AnyVersion};
 ghost use Rattle.jc_rules.specs.Refused.{Cause};
 ghost use Rattle.jc_rules.specs.RuleNames.{rule_name};
-ghost use Rattle.jc_network.specs.Makes.{stuck_for};
+ghost use Rattle.jc_network.specs.Steps.{stuck_for};
 ghost use Rattle.jc_dump.specs.Lines.{stuck_text, IsNamedStuck};
-ghost use Rattle.jc_parser.specs.Calls.{IsEventOf};
+ghost use Rattle.jc_parser.specs.Events.{IsEventOf};
 ghost use Rattle.jc_session.specs.Answers.{IsNamed, IsStrange, IsRefusalAt, Knows};
-ghost use Rattle.jc_session.specs.Gives.{AllNamed, Gives, GivesLine, HasRefusal, Spells, set_text};
+ghost use Rattle.jc_session.specs.AnswerOf.{AllNamed, GivesAnswer, GivesLine, HasRefusal, Spells, set_text};
 ghost use Rattle.jc_session.specs.Requests as Q;
 ghost use Rattle.jc_session.specs.Requests.{meaning, asks};
 ghost use Rattle.jc_session.specs.Texts.{at_line};
-ghost use Rattle.jc_session.specs.Views.{request_view, bytes_of};
+ghost use Rattle.jc_session.specs.Views.{request_view, line_of_bytes};
 
 use crate::request::{Meaning, Request, meaning_of};
 use crate::texts::{
@@ -46,7 +46,7 @@ fn stuck_at(alloc: Global, n: u64, net: &Net, stuck: &Stuck) -> Result<String, A
 
 fn step(alloc: Global, debugger: &mut Debugger, n: u64) -> Result<String, AllocError>
     requires { AllNamed debugger.old }
-    ensures { IfOk result (λ text. Gives debugger.old (Q.step n) debugger.new (string_bytes text)) }
+    ensures { IfOk result (λ text. GivesAnswer debugger.old (Q.step n) debugger.new (string_bytes text)) }
 {
     match debugger.step(n) {
         Ok(()) => at_line(alloc, debugger.position()),
@@ -63,7 +63,7 @@ fn step(alloc: Global, debugger: &mut Debugger, n: u64) -> Result<String, AllocE
 
 fn goto(alloc: Global, debugger: &mut Debugger, n: u64) -> Result<String, AllocError>
     requires { AllNamed debugger.old }
-    ensures { IfOk result (λ text. Gives debugger.old (Q.goto n) debugger.new (string_bytes text)) }
+    ensures { IfOk result (λ text. GivesAnswer debugger.old (Q.goto n) debugger.new (string_bytes text)) }
 {
     match debugger.goto(n) {
         Ok(()) => at_line(alloc, debugger.position()),
@@ -79,7 +79,7 @@ fn goto(alloc: Global, debugger: &mut Debugger, n: u64) -> Result<String, AllocE
 }
 
 fn back(alloc: Global, debugger: &mut Debugger, n: u64) -> Result<String, AllocError>
-    ensures { IfOk result (λ text. Gives debugger.old (Q.back n) debugger.new (string_bytes text)) }
+    ensures { IfOk result (λ text. GivesAnswer debugger.old (Q.back n) debugger.new (string_bytes text)) }
 {
     if debugger.back(n) {
         at_line(alloc, debugger.position())
@@ -90,7 +90,7 @@ fn back(alloc: Global, debugger: &mut Debugger, n: u64) -> Result<String, AllocE
 
 fn run(alloc: Global, debugger: &mut Debugger) -> Result<String, AllocError>
     requires { AllNamed debugger.old }
-    ensures { IfOk result (λ text. Gives debugger.old Q.run debugger.new (string_bytes text)) }
+    ensures { IfOk result (λ text. GivesAnswer debugger.old Q.run debugger.new (string_bytes text)) }
 {
     match debugger.run() {
         Ok(RunEnd::Break(k)) => {
@@ -167,7 +167,7 @@ fn resolved(alloc: Global, names: &[Text], named: &NamedEvent) -> Result<Spellin
 }
 
 fn act(alloc: Global, debugger: &mut Debugger, rest: &str) -> Result<String, AllocError>
-    ensures { IfOk result (λ text. Gives debugger.old (Q.act rest.now) debugger.new (string_bytes text)) }
+    ensures { IfOk result (λ text. GivesAnswer debugger.old (Q.act rest.now) debugger.new (string_bytes text)) }
 {
     let net = debugger.net();
     let event = match event_of(alloc, net.version(), net.names(), rest)? {
@@ -209,7 +209,7 @@ fn set_text(alloc: Global, set: Result<u16, BreakFault>) -> Result<String, Alloc
 }
 
 fn break_at(alloc: Global, debugger: &mut Debugger, n: u64) -> Result<String, AllocError>
-    ensures { IfOk result (λ text. Gives debugger.old (Q.break_at n) debugger.new (string_bytes text)) }
+    ensures { IfOk result (λ text. GivesAnswer debugger.old (Q.break_at n) debugger.new (string_bytes text)) }
 {
     set_text(alloc, debugger.break_at(n))
 }
@@ -238,7 +238,7 @@ fn rule_of(version: Version, name: &str) -> Option<Rule>
 }
 
 fn break_rule(alloc: Global, debugger: &mut Debugger, name: &str) -> Result<String, AllocError>
-    ensures { IfOk result (λ text. Gives debugger.old (Q.break_rule name.now) debugger.new (string_bytes text)) }
+    ensures { IfOk result (λ text. GivesAnswer debugger.old (Q.break_rule name.now) debugger.new (string_bytes text)) }
 {
     match rule_of(debugger.net().version(), name) {
         Some(rule) => set_text(alloc, debugger.break_rule(rule)),
@@ -247,7 +247,7 @@ fn break_rule(alloc: Global, debugger: &mut Debugger, name: &str) -> Result<Stri
 }
 
 fn break_replica(alloc: Global, debugger: &mut Debugger, name: &[u8]) -> Result<String, AllocError>
-    ensures { IfOk result (λ text. Gives debugger.old (Q.break_replica name.now) debugger.new (string_bytes text)) }
+    ensures { IfOk result (λ text. GivesAnswer debugger.old (Q.break_replica name.now) debugger.new (string_bytes text)) }
 {
     match number_of(debugger.net().names(), name) {
         Some(p) => set_text(alloc, debugger.break_replica(p)),
@@ -256,7 +256,7 @@ fn break_replica(alloc: Global, debugger: &mut Debugger, name: &[u8]) -> Result<
 }
 
 fn unbreak(alloc: Global, debugger: &mut Debugger, k: u64) -> Result<String, AllocError>
-    ensures { IfOk result (λ text. Gives debugger.old (Q.unbreak k) debugger.new (string_bytes text)) }
+    ensures { IfOk result (λ text. GivesAnswer debugger.old (Q.unbreak k) debugger.new (string_bytes text)) }
 {
     if debugger.unbreak(k) {
         cleared_line(alloc, k)
@@ -268,13 +268,13 @@ fn unbreak(alloc: Global, debugger: &mut Debugger, k: u64) -> Result<String, All
 // ---- what is shown
 
 fn state(alloc: Global, debugger: &Debugger) -> Result<String, AllocError>
-    ensures { IfOk result (λ text. Gives debugger.now Q.state debugger.now (string_bytes text)) }
+    ensures { IfOk result (λ text. GivesAnswer debugger.now Q.state debugger.now (string_bytes text)) }
 {
     dump_lines(alloc, debugger.net())
 }
 
 fn state_of(alloc: Global, debugger: &Debugger, name: &[u8]) -> Result<String, AllocError>
-    ensures { IfOk result (λ text. Gives debugger.now (Q.state_of name.now) debugger.now (string_bytes text)) }
+    ensures { IfOk result (λ text. GivesAnswer debugger.now (Q.state_of name.now) debugger.now (string_bytes text)) }
 {
     let net = debugger.net();
     let Some(p) = number_of(net.names(), name) else {
@@ -288,7 +288,7 @@ fn state_of(alloc: Global, debugger: &Debugger, name: &[u8]) -> Result<String, A
 
 fn trace(alloc: Global, debugger: &Debugger) -> Result<String, AllocError>
     requires { AllNamed debugger.now }
-    ensures { IfOk result (λ text. Gives debugger.now Q.trace debugger.now (string_bytes text)) }
+    ensures { IfOk result (λ text. GivesAnswer debugger.now Q.trace debugger.now (string_bytes text)) }
 {
     let Some(trace) = debugger.trace() else {
         return String::from_str(alloc, "start\n");
@@ -299,7 +299,7 @@ fn trace(alloc: Global, debugger: &Debugger) -> Result<String, AllocError>
 }
 
 fn enabled(alloc: Global, debugger: &Debugger) -> Result<String, AllocError>
-    ensures { IfOk result (λ text. Gives debugger.now Q.enabled debugger.now (string_bytes text)) }
+    ensures { IfOk result (λ text. GivesAnswer debugger.now Q.enabled debugger.now (string_bytes text)) }
 {
     let net = debugger.net();
     // Events have led to the network from a start, so what can be made names its replicas.
@@ -311,14 +311,14 @@ fn enabled(alloc: Global, debugger: &Debugger) -> Result<String, AllocError>
 
 fn schedule(alloc: Global, debugger: &Debugger) -> Result<String, AllocError>
     requires { AllNamed debugger.now }
-    ensures { IfOk result (λ text. Gives debugger.now Q.schedule debugger.now (string_bytes text)) }
+    ensures { IfOk result (λ text. GivesAnswer debugger.now Q.schedule debugger.now (string_bytes text)) }
 {
     let text = numbered_lines(alloc, debugger.net().names(), debugger.schedule())?;
     or_none(alloc, text)
 }
 
 fn position(alloc: Global, debugger: &Debugger) -> Result<String, AllocError>
-    ensures { IfOk result (λ text. Gives debugger.now Q.position debugger.now (string_bytes text)) }
+    ensures { IfOk result (λ text. GivesAnswer debugger.now Q.position debugger.now (string_bytes text)) }
 {
     where_line(alloc, debugger.position(), debugger.schedule().len())
 }
@@ -330,7 +330,7 @@ fn comparison(
     other: &[u8],
 ) -> Result<String, AllocError>
     ensures { IfOk result (λ text.
-        Gives debugger.now (Q.compare name.now other.now) debugger.now (string_bytes text)) }
+        GivesAnswer debugger.now (Q.compare name.now other.now) debugger.now (string_bytes text)) }
 {
     let net = debugger.net();
     let names = net.names();
@@ -356,7 +356,7 @@ fn reply(
 ) -> Result<Option<String>, AllocError>
     requires { AllNamed debugger.old }
     ensures { IfOk result (λ answer. MatchOption answer (request_view request.entry ≡ Q.quit)
-        (λ text. Gives debugger.old (request_view request.entry) debugger.new (string_bytes text))) }
+        (λ text. GivesAnswer debugger.old (request_view request.entry) debugger.new (string_bytes text))) }
 {
     match request {
         Request::Step(n) => step(alloc, debugger, n).map(Some),
@@ -386,8 +386,8 @@ pub fn answer(
     line: Option<&[u8]>,
 ) -> Result<Option<String>, AllocError>
     requires { AllNamed debugger.old }
-    ensures { IfOk result (λ answer. MatchOption answer (meaning (bytes_of line.entry) ≡ asks Q.quit)
-        (λ text. GivesLine debugger.old (bytes_of line.entry) debugger.new (string_bytes text))) }
+    ensures { IfOk result (λ answer. MatchOption answer (meaning (line_of_bytes line.entry) ≡ asks Q.quit)
+        (λ text. GivesLine debugger.old (line_of_bytes line.entry) debugger.new (string_bytes text))) }
 {
     match meaning_of(line) {
         Meaning::Nothing => Ok(Some(String::new(alloc))),

@@ -4,7 +4,7 @@
 mod ahead;
 mod answers;
 pub mod laws;
-mod line;
+mod line_buffer;
 mod lines;
 mod request;
 mod sessions;

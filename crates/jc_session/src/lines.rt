@@ -2,13 +2,13 @@
 
 ghost use Rattle.std.specs.Prelude.{◌≡◌, ◌≢◌, ℕ, ◌+◌, ◌<◌, ◌≤◌, List, [], ◌∷◌, ◌++◌, length, take, Option, Some, None, Ok, IfOk, OnOk, OnErr, IfSome, ◌⊎◌};
 ghost use Rattle.std.specs.Io.KnownBytes.{Consumes, IsAtEnd, prepend_known};
-ghost use Rattle.jc_rules.specs.Told.{failures_of};
+ghost use Rattle.jc_io.specs.Streams.{failures_of};
 ghost use Rattle.jc_session.specs.Lines.{Lacks};
-ghost use Rattle.jc_session.specs.Reads.{StopsAt};
+ghost use Rattle.jc_session.specs.LineReading.{ReadStopsAt};
 
 use crate::ahead::Ahead;
-use crate::line::Line;
-use jc_rules::io::{Failed, Source};
+use crate::line_buffer::Line;
+use jc_io::{Failed, Source};
 
 /// How many bytes all lines of a session may have.
 const MOST_BYTES: u64 = 67108864;
@@ -78,7 +78,7 @@ impl Lines {
             × ((self.old.bytes + length raw ≡ 67108864) ⊎ ((self.old.count ≡ 1000000) × (raw ≡ []))) }
         ensures err { OnErr result ((raw : List ℕ) × Lacks 10 raw × (self.new.ahead ≡ [])
             × (self.old.bytes + length raw ≤ 67108864)
-            × StopsAt (prepend_known self.old.ahead (S.left source.old)) (S.left source.new) raw) }
+            × ReadStopsAt (prepend_known self.old.ahead (S.left source.old)) (S.left source.new) raw) }
         ensures few { OnOk result (length self.new.ahead < 4096) }
         ensures failures { S.failures source.new ≡ S.failures source.old + failures_of result }
     {

@@ -4,8 +4,8 @@ ghost use Rattle.std.specs.Prelude.{◌≡◌, ◌≤◌, [], ◌∷◌, length,
 ghost use Rattle.std.specs.List.{list_all, prefix_len, position_or_len};
 ghost use Rattle.std.specs.Option.{option_and_then};
 ghost use Rattle.std.specs.Str.{all_ascii_digits};
-ghost use Rattle.jc_session.specs.Requests.{is_blank, words, past, after_word, is_number, number_in, among, alone, of_two, of_break, of_three, asked_by, meaning, meaning_of_words};
-ghost use Rattle.jc_session.specs.Views.{request_view, meaning_view, bytes_of, AreAscii};
+ghost use Rattle.jc_session.specs.Requests.{is_blank_char, words, past, after_word, is_number_word, number_in, among, single_words, of_two, of_break, of_three, asked_by, meaning, meaning_of_words};
+ghost use Rattle.jc_session.specs.Views.{request_view, meaning_view, line_of_bytes, AreAscii};
 
 /// What a line asks for. Words are a rule's or a replica's name.
 #[derive(Clone, Copy)]
@@ -41,14 +41,14 @@ pub enum Meaning<'a> {
 }
 
 fn is_blank(byte: u8) -> bool
-    ensures { result ≡ is_blank byte }
+    ensures { result ≡ is_blank_char byte }
 {
     byte == b' ' || byte == b'\t'
 }
 
 /// How many blanks a text begins with.
 fn blanks(text: &[u8]) -> usize
-    ensures { result ≡ prefix_len is_blank text.now }
+    ensures { result ≡ prefix_len is_blank_char text.now }
 {
     for (at, byte) in text.iter().enumerate() {
         if !is_blank(*byte) {
@@ -60,7 +60,7 @@ fn blanks(text: &[u8]) -> usize
 
 /// How many bytes stand before the first blank.
 fn word_len(text: &[u8]) -> usize
-    ensures { result ≡ position_or_len is_blank text.now }
+    ensures { result ≡ position_or_len is_blank_char text.now }
 {
     for (at, byte) in text.iter().enumerate() {
         if is_blank(*byte) {
@@ -72,7 +72,7 @@ fn word_len(text: &[u8]) -> usize
 
 /// The bytes from the first one on that is no blank.
 fn past_blanks(text: &[u8]) -> &[u8]
-    ensures { result.now ≡ past is_blank text.now }
+    ensures { result.now ≡ past is_blank_char text.now }
 {
     text.split_at(blanks(text)).1
 }
@@ -81,7 +81,7 @@ fn past_blanks(text: &[u8]) -> &[u8]
 fn first_word(text: &[u8]) -> Option<(&[u8], &[u8])>
     ensures parts { MatchOption result (words text.now ≡ []) (λ x.
         (words text.now ≡ x.0.now ∷ words x.1.now)
-        × (x.1.now ≡ past (λ b. not (is_blank b)) (past is_blank text.now))) }
+        × (x.1.now ≡ past (λ b. not (is_blank_char b)) (past is_blank_char text.now))) }
     ensures ascii { AreAscii text.now → IfSome result (λ x. AreAscii x.0.now × AreAscii x.1.now) }
 {
     let text = past_blanks(text);
@@ -105,7 +105,7 @@ fn all_ascii(text: &[u8]) -> bool
 
 /// Whether a word is `0`, or 1 to 10 digits of which the first isn't `0`.
 fn is_number(word: &[u8]) -> bool
-    ensures { result ≡ is_number word.now }
+    ensures { result ≡ is_number_word word.now }
 {
     word == b"0".as_slice()
         || (!word.is_empty() && word.len() <= 10 && all_digits(word) && word[0] != b'0')
@@ -135,7 +135,7 @@ fn number_in(word: &[u8]) -> Option<u64>
 
 /// What a line of one word asks for.
 fn alone(word: &[u8]) -> Option<Request<'static>>
-    ensures { option_map request_view result ≡ among word.now alone }
+    ensures { option_map request_view result ≡ among word.now single_words }
 {
     if word == b"step".as_slice() {
         return Some(Request::Step(1));
@@ -256,7 +256,7 @@ fn meaning_of_text(text: &[u8]) -> Meaning<'_>
 
 /// What a line means; `None` is a line that is too long.
 pub fn meaning_of(line: Option<&[u8]>) -> Meaning<'_>
-    ensures { meaning_view result ≡ meaning (bytes_of line.entry) }
+    ensures { meaning_view result ≡ meaning (line_of_bytes line.entry) }
 {
     let Some(text) = line else {
         return Meaning::Bad;

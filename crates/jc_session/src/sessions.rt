@@ -5,26 +5,26 @@ ghost use Rattle.jc_parser.specs.declared.fault.ScenarioFault.{ScenarioFault as 
 ghost use Rattle.jc_parser.specs.declared.fault.ScenarioFault.TheVariants as T;
 ghost use Rattle.jc_rules.specs.declared.operation.Event.{Event as AnyEvent};
 ghost use Rattle.jc_rules.specs.Refused.{Cause};
-ghost use Rattle.jc_network.specs.Makes.{stuck_for};
+ghost use Rattle.jc_network.specs.Steps.{stuck_for};
 ghost use Rattle.jc_dump.specs.Lines.{IsNamedStuck};
 ghost use Rattle.jc_dump.specs.Texts.{given_text};
-ghost use Rattle.jc_debug.specs.Session.{begun};
-ghost use Rattle.jc_debug.specs.Trail.{session_of};
+ghost use Rattle.jc_debug.specs.DebuggerState.{begun};
+ghost use Rattle.jc_debug.specs.Invariant.{session_of};
 ghost use Rattle.jc_session.specs.Answers.{origin_of, IsFaultLine};
-ghost use Rattle.jc_session.specs.Gives.{origin_in, AllNamed};
-ghost use Rattle.jc_session.specs.Kinds.{IsOfAnswer};
+ghost use Rattle.jc_session.specs.AnswerOf.{origin_in, AllNamed};
+ghost use Rattle.jc_session.specs.RequestKinds.{IsOfAnswer};
 ghost use Rattle.jc_session.specs.Requests.{meaning, asks, quit};
-ghost use Rattle.jc_session.specs.Shown.{finished, too_many, text_refused, given_stuck, Shows};
-ghost use Rattle.jc_session.specs.Views.{bytes_of};
-ghost use Rattle.jc_session.specs.Went.{OfLines, OfLinesLeft, LosesFront, GoesOn, BreaksOff, AnsweredAll, WentToRead, WentWhole, WentFront, IsPast, ShowsAll, WentRefused, WentGiven, OnScenario};
+ghost use Rattle.jc_session.specs.SessionText.{finished, too_many, text_refused, given_stuck, ShowsSession};
+ghost use Rattle.jc_session.specs.Views.{line_of_bytes};
+ghost use Rattle.jc_session.specs.Sent.{OfLines, OfLinesLeft, LosesFront, GoesOn, BreaksOff, AnsweredAll, WentToRead, WentWhole, WentFront, IsPast, ShowsAll, WentRefused, WentGiven, OnScenario};
 ghost use Rattle.jc_session.specs.Written.{sink, Wrote, Interrupted, Written};
 
 use crate::answers::{answer, fault_line};
 use crate::lines::{Lines, Next};
 use jc_debug::Debugger;
 use jc_dump::given_text;
+use jc_io::{Failed, Sink, Source, write_all};
 use jc_network::{StartFault, Stuck};
-use jc_rules::io::{Failed, Sink, Source, write_all};
 use jc_rules::{Text, Version};
 use jc_scenario::{Scenario, ScenarioFault, copy_names, read};
 use std::alloc::{AllocError, Global};
@@ -89,14 +89,14 @@ fn answer_line<K: Sink>(
     out: &mut K,
 ) -> Result<bool, SessionFault>
     requires { AllNamed debugger.old }
-    ensures goes { result ≡ Ok true → GoesOn (origin_in debugger.old) (session_of debugger.old) (bytes_of line.entry)
+    ensures goes { result ≡ Ok true → GoesOn (origin_in debugger.old) (session_of debugger.old) (line_of_bytes line.entry)
         (session_of debugger.new) (sink K.Sink out.old) (sink K.Sink out.new) }
     ensures origin { result ≡ Ok true → origin_in debugger.new ≡ origin_in debugger.old }
     ensures quits { result ≡ Ok false
-        → (meaning (bytes_of line.entry) ≡ asks quit) × (out.new ≡ out.old) }
+        → (meaning (line_of_bytes line.entry) ≡ asks quit) × (out.new ≡ out.old) }
     ensures memory { IsErrOf result SessionFault.Memory → out.new ≡ out.old }
     ensures write { IsErrOf result SessionFault.WriteFailed
-        → BreaksOff (origin_in debugger.old) (session_of debugger.old) (bytes_of line.entry)
+        → BreaksOff (origin_in debugger.old) (session_of debugger.old) (line_of_bytes line.entry)
         (sink K.Sink out.old) (sink K.Sink out.new) }
     ensures kind { IfErr result IsOfAnswer }
 {

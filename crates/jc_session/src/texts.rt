@@ -3,7 +3,7 @@
 ghost use Rattle.std.specs.Prelude.{◌≡◌, ◌++◌, ℕ, List, IfOk, OnOk, All, length, string_bytes, codes, decimal};
 ghost use Rattle.jc_printer.specs.Canon.{AreNamed, canon_event};
 ghost use Rattle.jc_dump.specs.Texts.{dumps_text};
-ghost use Rattle.jc_session.specs.Texts.{refusal_line, at_line, set_line, cleared_line, where_line, compared_line, numbered_line, numbered_lines, event_lines, or_none};
+ghost use Rattle.jc_session.specs.Texts.{refusal_line, at_line, set_line, cleared_line, where_line, compared_line, numbered_line, numbered_lines, event_lines, or_none_text};
 
 use jc_dump::dump_replica;
 use jc_meaning::Comparison;
@@ -146,7 +146,7 @@ pub fn numbered_lines(alloc: Global, names: &[Text], events: &[Event]) -> Result
 
 /// The line `none` in place of no line.
 pub fn or_none(alloc: Global, text: String) -> Result<String, AllocError>
-    ensures { IfOk result (λ shown. string_bytes shown ≡ or_none (string_bytes text)) }
+    ensures { IfOk result (λ shown. string_bytes shown ≡ or_none_text (string_bytes text)) }
 {
     if text.is_empty() {
         String::from_str(alloc, "none\n")

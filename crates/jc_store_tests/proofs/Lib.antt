@@ -1,2 +1,2 @@
-pub mod Made
-pub mod Handed
+pub mod MadeLemmas
+pub mod HandedLemmas

@@ -2,7 +2,7 @@
 use Rattle.std.specs.Prelude.{ℕ, ◌<◌}
 use Rattle.jc_rules.specs.declared.id.Id.{Id}
 use Rattle.jc_rules.specs.Context.{Context}
-use Rattle.jc_rules.specs.Shape.{IsChained}
+use Rattle.jc_rules.specs.WellFormed.{IsChained}
 use Rattle.jc_apply.specs.Fits.{IsUnlinked}
 
 -- Its lists are chained, and none links an identifier whose counter is greater.

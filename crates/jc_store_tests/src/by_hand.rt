@@ -2,7 +2,7 @@
 
 ghost use Rattle.std.specs.Prelude.{OnOk};
 ghost use Rattle.jc_rules.specs.Ids.{AreRising};
-ghost use Rattle.jc_rules.specs.Shape.{IsChained};
+ghost use Rattle.jc_rules.specs.WellFormed.{IsChained};
 ghost use Rattle.jc_tree.specs.Tree.{HasPlace};
 
 use jc_rules::{Id, Key, Tagged, Value};
@@ -25,7 +25,7 @@ pub fn make_map<S: TreeStore>(
 }
 
 /// Gives the key a register with one value.
-#[tactic(auto, using(jc_tree::proofs::Changed::still_place, jc_tree::proofs::Chained::chained_register))]
+#[tactic(auto, using(jc_tree::proofs::TreeLemmas::still_place, jc_tree::proofs::ChainedLemmas::chained_register))]
 pub fn put_true<S: TreeStore>(
     alloc: Global,
     store: &mut S,
@@ -43,7 +43,7 @@ pub fn put_true<S: TreeStore>(
 }
 
 /// Gives the key a presence set.
-#[tactic(auto, using(jc_tree::proofs::Changed::still_place, jc_tree::proofs::Chained::chained_presence))]
+#[tactic(auto, using(jc_tree::proofs::TreeLemmas::still_place, jc_tree::proofs::ChainedLemmas::chained_presence))]
 pub fn put_ids<S: TreeStore>(
     store: &mut S,
     at: &[Tagged],

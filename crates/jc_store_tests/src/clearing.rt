@@ -1,6 +1,6 @@
 //! Clearing of documents that no operations make.
 
-ghost use Rattle.jc_rules.specs.Shape.{IsChained};
+ghost use Rattle.jc_rules.specs.WellFormed.{IsChained};
 ghost use Rattle.jc_tree.specs.Tree.{HasPlace};
 
 use crate::by_hand::{make_map, put_ids, put_true};

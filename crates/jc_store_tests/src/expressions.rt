@@ -1,6 +1,6 @@
 //! Expressions in documents that were made by operations or by hand.
 
-ghost use Rattle.jc_rules.specs.Shape.{IsChained};
+ghost use Rattle.jc_rules.specs.WellFormed.{IsChained};
 ghost use Rattle.jc_store_tests.specs.Ready.{IsReady};
 
 use crate::by_hand::{make_map, put_ids, put_true};

@@ -2,7 +2,7 @@
 
 ghost use Rattle.std.specs.Prelude.{IfOk};
 ghost use Rattle.jc_rules.specs.Ids.{AreRising};
-ghost use Rattle.jc_rules.specs.Shape.{IsKeptRegister};
+ghost use Rattle.jc_rules.specs.WellFormed.{IsWellFormedRegister};
 
 use jc_rules::{Id, Key, Tagged, Text, Value};
 use std::alloc::{AllocError, Global};
@@ -180,7 +180,7 @@ pub enum Values {
 }
 
 pub fn values_of(alloc: Global, values: Values) -> Result<Vec<(Id, Value)>, AllocError>
-    ensures { IfOk result (λ pairs. IsKeptRegister pairs.items) }
+    ensures { IfOk result (λ pairs. IsWellFormedRegister pairs.items) }
 {
     match values {
         Values::Nothing => Ok(Vec::new(alloc)),

@@ -1,7 +1,7 @@
 //! A list of 60,000 elements: a walk along it is a loop.
 
 ghost use Rattle.std.specs.Prelude.{◌+◌, ◌<◌, OnOk};
-ghost use Rattle.jc_rules.specs.Shape.{IsChained};
+ghost use Rattle.jc_rules.specs.WellFormed.{IsChained};
 ghost use Rattle.jc_store_tests.specs.Ready.{IsReady};
 
 use crate::expressions::{Want, gives};

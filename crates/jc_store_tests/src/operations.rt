@@ -3,7 +3,7 @@
 ghost use Rattle.std.specs.Prelude.{◌≢◌, ◌+◌, ◌<◌, IfOk, OnOk};
 ghost use Rattle.jc_rules.specs.declared.id.Id.{Id as AnyId};
 ghost use Rattle.jc_apply.specs.Fits.{IsUnlinked};
-ghost use Rattle.jc_rules.specs.Shape.{IsChained};
+ghost use Rattle.jc_rules.specs.WellFormed.{IsChained};
 ghost use Rattle.jc_store_tests.specs.Ready.{IsReady};
 
 use crate::keys::{At, Keys, Tag, text};
@@ -95,7 +95,7 @@ fn apply<S: TreeStore>(alloc: Global, store: &mut S, op: &Op) -> Result<(), Appl
 }
 
 /// Applies the operation that comes after so many.
-#[tactic(auto, using(crate::proofs::Made::ready_on))]
+#[tactic(auto, using(crate::proofs::MadeLemmas::ready_on))]
 pub fn apply_next<S: TreeStore>(
     alloc: Global,
     store: &mut S,

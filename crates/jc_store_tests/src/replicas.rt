@@ -43,7 +43,7 @@ fn are_of(replica: u16, ops: &[Op]) -> bool
 }
 
 /// The one replica receives what the other one offers.
-#[tactic(auto, using(crate::proofs::Handed::handed))]
+#[tactic(auto, using(crate::proofs::HandedLemmas::handed))]
 fn receive(
     rt: &impl Abort,
     to: &mut Replica<PlainTree>,
@@ -56,14 +56,14 @@ fn receive(
 }
 
 /// The replica receives what it offers itself.
-#[tactic(auto, using(crate::proofs::Handed::handed))]
+#[tactic(auto, using(crate::proofs::HandedLemmas::handed))]
 fn receive_own(rt: &impl Abort, replica: &mut Replica<PlainTree>) -> Result<Trace, ReplicaFault> {
     assert!(rt; are_handed(replica.sent()));
     replica.recv_own()
 }
 
 /// The one replica takes one operation of what the other one offers.
-#[tactic(auto, using(crate::proofs::Handed::handed))]
+#[tactic(auto, using(crate::proofs::HandedLemmas::handed))]
 fn take(
     rt: &impl Abort,
     to: &mut Replica<PlainTree>,
@@ -77,7 +77,7 @@ fn take(
 }
 
 /// The replica takes one operation of what it offers itself.
-#[tactic(auto, using(crate::proofs::Handed::handed))]
+#[tactic(auto, using(crate::proofs::HandedLemmas::handed))]
 fn take_own(
     rt: &impl Abort,
     replica: &mut Replica<PlainTree>,

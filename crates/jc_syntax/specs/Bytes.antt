@@ -3,8 +3,8 @@ use Rattle.std.specs.Prelude.{ℕ, Bool, ◌||◌, ◌==◌}
 use Rattle.std.specs.Char.{is_ascii_alphabetic, is_ascii_digit}
 
 -- space, tab, CR, LF
-abbrev pub is_blank : ℕ → Bool
-is_blank b = b == 32 || (b == 9 || (b == 13 || b == 10))
+abbrev pub is_blank_byte : ℕ → Bool
+is_blank_byte b = b == 32 || (b == 9 || (b == 13 || b == 10))
 
 -- a letter or `_`
 abbrev pub is_name_start : ℕ → Bool

@@ -6,13 +6,13 @@ use Rattle.jc_syntax.specs.declared.token.TokenKind.{TokenKind}
 use Rattle.jc_syntax.specs.declared.token.TokenKind.TheVariants.{Name, Number, Str, Dot, ParenL, ParenR, BraceL, BraceR, BracketL, BracketR, Comma, Semi, Assign, Equals}
 use Rattle.jc_syntax.specs.declared.fault.LexFault.{LexFault}
 use Rattle.jc_syntax.specs.declared.fault.LexFault.TheVariants.{BadByte, BadNumber, TextTooLong}
-use Rattle.jc_syntax.specs.Bytes.{is_blank, is_name_start, is_name_byte, is_number_start, is_number_byte}
+use Rattle.jc_syntax.specs.Bytes.{is_blank_byte, is_name_start, is_name_byte, is_number_start, is_number_byte}
 use Rattle.jc_syntax.specs.Numbers.{IsNumber}
 use Rattle.jc_syntax.specs.Strings.{IsString, IsStringFault, spelled_from}
 
 -- the place after the blanks from a place on
 abbrev pub after_blanks : List ℕ → ℕ → ℕ
-after_blanks text at = at + prefix_len is_blank (drop at text)
+after_blanks text at = at + prefix_len is_blank_byte (drop at text)
 
 abbrev pub after_name : List ℕ → ℕ → ℕ
 after_name text at = at + prefix_len is_name_byte (drop at text)
@@ -23,8 +23,8 @@ after_number_run text at = at + prefix_len is_number_byte (drop at text)
 
 -- the kind of a token, by its first two bytes: 34 is `"`, 46 `.`, 40 `(`, 41 `)`, 123 `{`, 125 `}`, 91 `[`, 93 `]`, 44
 -- `,`, 59 `;`, 61 `=` and 58 `:`
-abbrev pub kind_of : ℕ → ℕ → Option TokenKind
-kind_of b next =
+abbrev pub kind_of_byte : ℕ → ℕ → Option TokenKind
+kind_of_byte b next =
     if is_name_start b then Some Name
     else (if is_number_start b then Some Number
     else (if b == 34 then Some Str
@@ -42,7 +42,7 @@ kind_of b next =
     else None)))))))))))))
 
 abbrev pub kind_at : List ℕ → ℕ → Option TokenKind
-kind_at text at = kind_of (slice_index text at) (slice_index text (at + 1))
+kind_at text at = kind_of_byte (slice_index text at) (slice_index text (at + 1))
 
 -- how long a mark is, a token that has one form
 abbrev pub mark_len : TokenKind → ℕ
@@ -50,24 +50,24 @@ mark_len Assign = 2
 mark_len kind = 1
 
 -- where a token of a kind that begins at `at` ends, and its size: its length, or that of what a string spells
-abbrev pub EndsAt : TokenKind → List ℕ → ℕ → ℕ → ℕ → Type 0
-EndsAt Name text at stop size = (stop ≡ after_name text at) × (stop ≡ at + size)
-EndsAt Number text at stop size =
+abbrev pub LexemeEndsAt : TokenKind → List ℕ → ℕ → ℕ → ℕ → Type 0
+LexemeEndsAt Name text at stop size = (stop ≡ after_name text at) × (stop ≡ at + size)
+LexemeEndsAt Number text at stop size =
     (stop ≡ after_number_run text at) × (stop ≡ at + size) × IsNumber (slice_range text at stop)
-EndsAt Str text at stop size = (content : List ℕ) × IsString text at stop content × (size ≡ length content)
-EndsAt kind text at stop size = (size ≡ mark_len kind) × (stop ≡ at + size)
+LexemeEndsAt Str text at stop size = (content : List ℕ) × IsString text at stop content × (size ≡ length content)
+LexemeEndsAt kind text at stop size = (size ≡ mark_len kind) × (stop ≡ at + size)
 
 -- how large a token may be, which no mark comes near
-abbrev pub limit_of : TokenKind → ℕ
-limit_of Name = 255
-limit_of kind = 65535
+abbrev pub token_limit : TokenKind → ℕ
+token_limit Name = 255
+token_limit kind = 65535
 
 -- a token stands in the text, no larger than it may be
 pub record IsLexeme (text : List ℕ) (t : Token) : Type 0 where
   pub size : ℕ
   pub begins : kind_at text t.start ≡ Some t.kind
-  pub ends : EndsAt t.kind text t.start t.stop size
-  pub within : size ≤ limit_of t.kind
+  pub ends : LexemeEndsAt t.kind text t.start t.stop size
+  pub within : size ≤ token_limit t.kind
 
 -- what is wrong with a token of this kind, or with a byte that begins none
 abbrev pub IsMalformed : Option TokenKind → List ℕ → ℕ → LexFault → Type 0
@@ -83,8 +83,8 @@ pub record IsTooLong (text : List ℕ) (at : ℕ) (fault : LexFault) : Type 0 wh
   pub stop : ℕ
   pub size : ℕ
   pub begins : kind_at text at ≡ Some kind
-  pub ends : EndsAt kind text at stop size
-  pub beyond : limit_of kind < size
+  pub ends : LexemeEndsAt kind text at stop size
+  pub beyond : token_limit kind < size
   pub is : fault ≡ TextTooLong at
 
 -- the fault of what stands at a place
@@ -120,9 +120,9 @@ abbrev pub IsStringToken : List ℕ → Token → Type 0
 IsStringToken text t = (t.kind ≡ Str) × IsTokenOf text t
 
 -- the bytes of a token
-abbrev pub bytes_of : List ℕ → Token → List ℕ
-bytes_of text t = slice_range text t.start t.stop
+abbrev pub token_bytes : List ℕ → Token → List ℕ
+token_bytes text t = slice_range text t.start t.stop
 
 -- what a string token spells
-unfoldable pub content_of : List ℕ → Token → List ℕ
-content_of text t = spelled_from (t.stop - t.start) text (t.start + 1)
+unfoldable pub token_content : List ℕ → Token → List ℕ
+token_content text t = spelled_from (t.stop - t.start) text (t.start + 1)

@@ -152,8 +152,8 @@ escape_of (Ok (Byte b)) = None
 escape_of (Err fault) = None
 
 -- a byte that neither ends a string nor begins an escape
-abbrev pub is_plain : ℕ → Bool
-is_plain b = not (b == 34) && not (b == 92)
+abbrev pub is_plain_byte : ℕ → Bool
+is_plain_byte b = not (b == 34) && not (b == 92)
 
 abbrev pub after_plain : List ℕ → ℕ → ℕ
-after_plain text at = at + prefix_len is_plain (drop at text)
+after_plain text at = at + prefix_len is_plain_byte (drop at text)

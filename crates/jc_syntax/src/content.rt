@@ -2,8 +2,8 @@
 
 ghost use Rattle.std.specs.Prelude.{◌≡◌, ◌≤◌, length, IfOk, IsUtf8};
 ghost use Rattle.std.specs.List.{prefix_len};
-ghost use Rattle.jc_syntax.specs.Strings.{is_plain, after_plain, IsString};
-ghost use Rattle.jc_syntax.specs.Lexemes.{IsTokenOf, IsStringToken, bytes_of, content_of};
+ghost use Rattle.jc_syntax.specs.Strings.{is_plain_byte, after_plain, IsString};
+ghost use Rattle.jc_syntax.specs.Lexemes.{IsTokenOf, IsStringToken, token_bytes, token_content};
 
 use crate::piece::escape_of;
 use crate::token::Token;
@@ -13,19 +13,19 @@ use std::alloc::{AllocError, Global};
 /// The part of a text that is a token of it.
 pub fn slice_of<'a>(text: &'a str, token: &Token) -> &'a str
     requires { IsTokenOf text.now token.now }
-    ensures { result.now ≡ bytes_of text.now token.now }
+    ensures { result.now ≡ token_bytes text.now token.now }
 {
     &text[token.start..token.stop]
 }
 
 fn is_plain(byte: u8) -> bool
-    ensures { result ≡ is_plain byte }
+    ensures { result ≡ is_plain_byte byte }
 {
     byte != b'"' && byte != b'\\'
 }
 
 fn plain_run(bytes: &[u8]) -> usize
-    ensures run { result ≡ prefix_len is_plain bytes.now }
+    ensures run { result ≡ prefix_len is_plain_byte bytes.now }
     ensures within { result ≤ length bytes.now }
 {
     bytes.iter().take_while(|b| is_plain(**b)).count()
@@ -44,7 +44,7 @@ fn skip_plain(bytes: &[u8], at: usize) -> usize
 /// What a string token of a text spells.
 pub fn string_of(alloc: Global, text: &str, token: &Token) -> Result<Text, AllocError>
     requires { IsStringToken text.now token.now }
-    ensures content { IfOk result (λ t. t ≡ content_of text.now token.now) }
+    ensures content { IfOk result (λ t. t ≡ token_content text.now token.now) }
     ensures spells { IfOk result (λ t. IsString text.now token.now.start token.now.stop t) }
     ensures utf8 { IfOk result (λ t. IsUtf8 t) }
 {

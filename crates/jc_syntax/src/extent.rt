@@ -5,7 +5,7 @@ ghost use Rattle.std.specs.List.{prefix_len};
 ghost use Rattle.jc_syntax.specs.declared.token.TokenKind.TheVariants.{Name, Number, Str};
 ghost use Rattle.jc_syntax.specs.Bytes as spec;
 ghost use Rattle.jc_syntax.specs.Strings.{IsStringFault};
-ghost use Rattle.jc_syntax.specs.Lexemes.{kind_at, limit_of, EndsAt, IsMalformed};
+ghost use Rattle.jc_syntax.specs.Lexemes.{kind_at, token_limit, LexemeEndsAt, IsMalformed};
 
 use crate::fault::LexFault;
 use crate::number::is_number;
@@ -53,7 +53,7 @@ fn number_run(bytes: &[u8]) -> usize
 
 fn name_extent(bytes: &[u8], at: usize) -> Extent
     requires { at ≤ length bytes.now }
-    ensures found { EndsAt Name bytes.now at result.stop result.size }
+    ensures found { LexemeEndsAt Name bytes.now at result.stop result.size }
     ensures inside { result.stop ≤ length bytes.now }
 {
     let size = name_run(&bytes[at..]);
@@ -65,7 +65,7 @@ fn name_extent(bytes: &[u8], at: usize) -> Extent
 
 fn number_extent(bytes: &[u8], at: usize) -> Result<Extent, LexFault>
     requires { at ≤ length bytes.now }
-    ensures found { IfOk result (λ e. EndsAt Number bytes.now at e.stop e.size) }
+    ensures found { IfOk result (λ e. LexemeEndsAt Number bytes.now at e.stop e.size) }
     ensures inside { IfOk result (λ e. e.stop ≤ length bytes.now) }
     ensures malformed { IfErr result (IsMalformed (Some Number) bytes.now at) }
 {
@@ -81,7 +81,7 @@ fn number_extent(bytes: &[u8], at: usize) -> Result<Extent, LexFault>
 fn string_extent(bytes: &[u8], quote: usize) -> Result<Extent, LexFault>
     requires inside { quote < length bytes.now }
     requires room { length bytes.now ≤ 8388608 }
-    ensures found { IfOk result (λ e. EndsAt Str bytes.now quote e.stop e.size) }
+    ensures found { IfOk result (λ e. LexemeEndsAt Str bytes.now quote e.stop e.size) }
     ensures inside { IfOk result (λ e. e.stop ≤ length bytes.now) }
     ensures malformed { IfErr result (IsStringFault bytes.now quote) }
 {
@@ -103,7 +103,7 @@ pub(crate) fn extent_of(kind: TokenKind, bytes: &[u8], at: usize) -> Result<Exte
     requires begins { kind_at bytes.now at ≡ Some kind }
     requires inside { at < length bytes.now }
     requires room { length bytes.now ≤ 8388608 }
-    ensures found { IfOk result (λ e. EndsAt kind bytes.now at e.stop e.size) }
+    ensures found { IfOk result (λ e. LexemeEndsAt kind bytes.now at e.stop e.size) }
     ensures inside { IfOk result (λ e. e.stop ≤ length bytes.now) }
     ensures malformed { IfErr result (IsMalformed (Some kind) bytes.now at) }
 {
@@ -131,7 +131,7 @@ pub(crate) fn extent_of(kind: TokenKind, bytes: &[u8], at: usize) -> Result<Exte
 
 /// How large a token of this kind may be.
 pub(crate) fn limit_of(kind: TokenKind) -> usize
-    ensures { result ≡ limit_of kind }
+    ensures { result ≡ token_limit kind }
 {
     match kind {
         TokenKind::Name => 255,

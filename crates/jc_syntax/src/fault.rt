@@ -2,7 +2,7 @@
 
 ghost use Rattle.std.specs.Prelude.{◌≡◌, Some};
 ghost use Rattle.jc_syntax.specs.declared.fault.LexFault.TheVariants.{Memory};
-ghost use Rattle.jc_syntax.specs.Faults.{number_of, place_of, refusal_of, text_of};
+ghost use Rattle.jc_syntax.specs.Faults.{lex_fault_number, lex_fault_offset, lex_refusal, lex_fault_text};
 
 use jc_rules::Refusal;
 use std::alloc::{AllocError, AllocFailed};
@@ -31,7 +31,7 @@ pub enum LexFault {
 impl LexFault {
     /// The number of the refusal, from 1 to 6; want of memory has none.
     pub fn number(&self) -> Option<u8>
-        ensures { result ≡ number_of self.now }
+        ensures { result ≡ lex_fault_number self.now }
     {
         match self {
             LexFault::BadByte { .. } => Some(1),
@@ -46,7 +46,7 @@ impl LexFault {
 
     /// Where the fault stands in the text; want of memory stands nowhere.
     pub fn place(&self) -> Option<usize>
-        ensures { result ≡ place_of self.now }
+        ensures { result ≡ lex_fault_offset self.now }
     {
         match self {
             LexFault::BadByte { place }
@@ -61,7 +61,7 @@ impl LexFault {
 
     /// The refusal that the fault is; want of memory is none.
     fn refusal(&self) -> Option<Refusal>
-        ensures { result ≡ refusal_of self.now }
+        ensures { result ≡ lex_refusal self.now }
     {
         match self {
             LexFault::BadByte { .. } => Some(Refusal::BadByte),
@@ -77,7 +77,7 @@ impl LexFault {
 
 // By hand, since no contract says what a derived one writes.
 impl fmt::Display for LexFault {
-    ghost output = { λ fault. Some (text_of fault) };
+    ghost output = { λ fault. Some (lex_fault_text fault) };
 
     fn fmt<W: fmt::Write>(&self, f: &mut fmt::Formatter<W>) -> fmt::Result {
         match (self.refusal(), self.place()) {

@@ -4,7 +4,7 @@
 ghost use Rattle.std.specs.Prelude.{◌≡◌, ◌≤◌, ◌⊎◌, List, ℕ, length, IsUtf8};
 ghost use Rattle.jc_syntax.specs.declared.fault.LexFault.{LexFault as AnyFault};
 ghost use Rattle.jc_syntax.specs.declared.token.Token.{Token as AnyToken};
-ghost use Rattle.jc_syntax.specs.Lexemes.{AreTokensOf, IsFaultOf, IsStringToken, content_of};
+ghost use Rattle.jc_syntax.specs.Lexemes.{AreTokensOf, IsFaultOf, IsStringToken, token_content};
 ghost use Rattle.jc_syntax.specs.Strings.{IsString};
 
 /// A text has at most one list of tokens.
@@ -39,5 +39,5 @@ pub fn one_string()
 pub fn legal_strings()
     ensures { (text : List ℕ) (t : AnyToken)
         → IsUtf8 text → IsStringToken text t
-        → IsUtf8 (content_of text t) × (length (content_of text t) ≤ 65535) }
+        → IsUtf8 (token_content text t) × (length (token_content text t) ≤ 65535) }
 {}

@@ -15,13 +15,13 @@ use std::alloc::Global;
 pub const MAX_TEXT: usize = 8388608;
 
 fn is_blank(byte: u8) -> bool
-    ensures { result ≡ spec.is_blank byte }
+    ensures { result ≡ spec.is_blank_byte byte }
 {
     byte == b' ' || byte == b'\t' || byte == b'\r' || byte == b'\n'
 }
 
 fn blank_run(bytes: &[u8]) -> usize
-    ensures run { result ≡ prefix_len spec.is_blank bytes.now }
+    ensures run { result ≡ prefix_len spec.is_blank_byte bytes.now }
     ensures within { result ≤ length bytes.now }
 {
     bytes.iter().take_while(|b| is_blank(**b)).count()

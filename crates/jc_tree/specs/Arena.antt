@@ -11,7 +11,7 @@ use Rattle.jc_rules.specs.Order.{id_cmp, key_cmp}
 use Rattle.jc_rules.specs.Entries.{find, put}
 use Rattle.jc_rules.specs.Ids.{with_id}
 use Rattle.jc_rules.specs.Context.{Context, context, children, Register, empty}
-use Rattle.jc_tree.specs.Tree.{or_none}
+use Rattle.jc_tree.specs.Tree.{or_no_entries}
 use Rattle.jc_tree.specs.Sorted.{AreSorted}
 use Rattle.jc_tree.specs.Undo.{removed, restored, out_of_set, restored_value, former_of_id, former_of_value}
 use Rattle.jc_tree.specs.declared.node.Change.{Change}
@@ -56,23 +56,23 @@ abbrev pub filled_all : (ℕ → Context) → List (Key × ℕ) → List (Key ×
 filled_all g [] = []
 filled_all g (e ∷ es) = (e.0, g e.1) ∷ filled_all g es
 
-abbrev pub filled : (ℕ → Context) → Flat → Context
-filled g n = context (children (filled_all g n.maps)) (children (filled_all g n.lists)) n.registers n.presences n.links
+abbrev pub with_children : (ℕ → Context) → Flat → Context
+with_children g n = context (children (filled_all g n.maps)) (children (filled_all g n.lists)) n.registers n.presences n.links
 
 -- the context of the node with a number, as deep as the first number says
 abbrev pub context_of : ℕ → List Flat → ℕ → Context
 context_of zero ns i = empty
-context_of (suc f) ns i = filled (λ j. context_of f ns j) (flat_at ns i)
+context_of (suc f) ns i = with_children (λ j. context_of f ns j) (flat_at ns i)
 
 -- the content: the context of the first node
-abbrev pub content_of : List Flat → Context
-content_of ns = context_of (length ns) ns 0
+abbrev pub content_of_arena : List Flat → Context
+content_of_arena ns = context_of (length ns) ns 0
 
 -- the number of the child under a tagged key
-abbrev pub child_of : Tagged → Flat → Option ℕ
-child_of (MapT k) n = find key_cmp k n.maps
-child_of (ListT k) n = find key_cmp k n.lists
-child_of (RegT k) n = None
+abbrev pub child_number : Tagged → Flat → Option ℕ
+child_number (MapT k) n = find key_cmp k n.maps
+child_number (ListT k) n = find key_cmp k n.lists
+child_number (RegT k) n = None
 
 -- whether the tagged key is there
 abbrev pub is_in : Tagged → Flat → Bool
@@ -87,13 +87,13 @@ go_on (Some x) f = f x
 -- the number of the node to which a path leads from a number
 abbrev pub walk : List Flat → ℕ → List Tagged → Option ℕ
 walk ns i [] = Some i
-walk ns i (t ∷ ts) = go_on (child_of t (flat_at ns i)) (λ j. walk ns j ts)
+walk ns i (t ∷ ts) = go_on (child_number t (flat_at ns i)) (λ j. walk ns j ts)
 
 -- Children have greater numbers than the node above them, each node is the child of one node under one tagged key, and
 -- children rise by key.
-pub record IsSound (ns : List Flat) : Type 0 where
-  pub inner : (i j : ℕ) (t : Tagged) → child_of t (flat_at ns i) ≡ Some j → (i < j) × (j < length ns)
-  pub once : (i u j : ℕ) (t s : Tagged) → child_of t (flat_at ns i) ≡ Some j → child_of s (flat_at ns u) ≡ Some j
+pub record IsSoundArena (ns : List Flat) : Type 0 where
+  pub inner : (i j : ℕ) (t : Tagged) → child_number t (flat_at ns i) ≡ Some j → (i < j) × (j < length ns)
+  pub once : (i u j : ℕ) (t s : Tagged) → child_number t (flat_at ns i) ≡ Some j → child_number s (flat_at ns u) ≡ Some j
       → (i ≡ u) × (t ≡ s)
   pub maps_rise : (i : ℕ) → AreSorted (flat_at ns i).maps
   pub lists_rise : (i : ℕ) → AreSorted (flat_at ns i).lists
@@ -107,10 +107,10 @@ with_presences p n = record { maps = n.maps; lists = n.lists; registers = n.regi
 abbrev pub with_links : List (Key × Next) → Flat → Flat
 with_links l n = record { maps = n.maps; lists = n.lists; registers = n.registers; presences = n.presences; links = l }
 
-abbrev pub with_number : Tagged → ℕ → Flat → Flat
-with_number (MapT k) i n = record { maps = put key_cmp k i n.maps; lists = n.lists; registers = n.registers; presences = n.presences; links = n.links }
-with_number (ListT k) i n = record { maps = n.maps; lists = put key_cmp k i n.lists; registers = n.registers; presences = n.presences; links = n.links }
-with_number (RegT k) i n = n
+abbrev pub with_child_number : Tagged → ℕ → Flat → Flat
+with_child_number (MapT k) i n = record { maps = put key_cmp k i n.maps; lists = n.lists; registers = n.registers; presences = n.presences; links = n.links }
+with_child_number (ListT k) i n = record { maps = n.maps; lists = put key_cmp k i n.lists; registers = n.registers; presences = n.presences; links = n.links }
+with_child_number (RegT k) i n = n
 
 abbrev pub without_number : Tagged → Flat → Flat
 without_number (MapT k) n = record { maps = removed key_cmp k n.maps; lists = n.lists; registers = n.registers; presences = n.presences; links = n.links }
@@ -127,10 +127,10 @@ IsInside _ = Unit {0}
 abbrev pub changed_flat : Change → Flat → Flat
 changed_flat (Child (RegT k)) n = with_registers (put key_cmp k [] n.registers) n
 changed_flat (Child t) n = n
-changed_flat (AddId k i) n = with_presences (put key_cmp k (with_id i (or_none (find key_cmp k n.presences))) n.presences) n
+changed_flat (AddId k i) n = with_presences (put key_cmp k (with_id i (or_no_entries (find key_cmp k n.presences))) n.presences) n
 changed_flat (Presence k s) n = with_presences (put key_cmp k s n.presences) n
 changed_flat (Link k x) n = with_links (put key_cmp k x n.links) n
-changed_flat (PutValue k i v) n = with_registers (put key_cmp k (put id_cmp i v (or_none (find key_cmp k n.registers))) n.registers) n
+changed_flat (PutValue k i v) n = with_registers (put key_cmp k (put id_cmp i v (or_no_entries (find key_cmp k n.registers))) n.registers) n
 changed_flat (SetRegister k v) n = with_registers (put key_cmp k v n.registers) n
 
 -- what takes it back that a node is made

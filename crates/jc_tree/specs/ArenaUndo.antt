@@ -9,11 +9,11 @@ use Rattle.jc_rules.specs.contracts.key.Tagged.{the_row as tagged_row}
 use Rattle.jc_rules.specs.Order.{key_cmp}
 use Rattle.jc_rules.specs.Entries.{IsRising, keys_of}
 use Rattle.jc_rules.specs.Context.{Context}
-use Rattle.jc_rules.specs.Shape.{IsKept}
+use Rattle.jc_rules.specs.WellFormed.{IsWellFormedContext}
 use Rattle.jc_tree.specs.Sorted.{AreSorted}
 use Rattle.jc_tree.specs.Single.{IsKept-single}
 use Rattle.jc_tree.specs.Tree.{Tree}
-use Rattle.jc_tree.specs.Arena.{Flat, flat_at, content_of, IsSound, restored_flat}
+use Rattle.jc_tree.specs.Arena.{Flat, flat_at, content_of_arena, IsSoundArena, restored_flat}
 use Rattle.jc_tree.specs.declared.node.Former.{Former}
 use Rattle.jc_tree.specs.declared.node.Former.TheVariants as F
 use Rattle.jc_tree.specs.declared.arena.Undo.{Undo}
@@ -33,32 +33,32 @@ abbrev pub restored_in : ℕ → Former → List Flat → List Flat
 restored_in i f ns = slice_set ns i (restored_flat f (flat_at ns i))
 
 -- the nodes before a change
-abbrev pub back : Undo → List Flat → List Flat
-back u ns = restored_in u.node u.former (fewer u.former ns)
+abbrev pub arena_undone_once : Undo → List Flat → List Flat
+arena_undone_once u ns = restored_in u.node u.former (fewer u.former ns)
 
 -- the nodes before all the changes that these take back, of which the last was the latest
-abbrev pub undone : List Undo → List Flat → List Flat
-undone [] ns = ns
-undone (u ∷ us) ns = back u (undone us ns)
+abbrev pub arena_undone : List Undo → List Flat → List Flat
+arena_undone [] ns = ns
+arena_undone (u ∷ us) ns = arena_undone_once u (arena_undone us ns)
 
 -- the contents before each of these changes, the oldest first
-abbrev pub contents : List Undo → List Flat → List Context
-contents [] ns = []
-contents (u ∷ us) ns = content_of (undone (u ∷ us) ns) ∷ contents us ns
+abbrev pub arena_contents : List Undo → List Flat → List Context
+arena_contents [] ns = []
+arena_contents (u ∷ us) ns = content_of_arena (arena_undone (u ∷ us) ns) ∷ arena_contents us ns
 
-abbrev pub tree_of : List Flat → List Undo → Tree
-tree_of ns us = record { now = content_of ns; earlier = contents us ns }
+abbrev pub tree_of_arena : List Flat → List Undo → Tree
+tree_of_arena ns us = record { now = content_of_arena ns; earlier = arena_contents us ns }
 
 -- nodes that are there, sound, and of a kept content
 pub record IsGood (ns : List Flat) : Type 0 where
   pub some : 0 < length ns
-  pub sound : IsSound ns
-  pub kept : IsKept (content_of ns)
+  pub sound : IsSoundArena ns
+  pub kept : IsWellFormedContext (content_of_arena ns)
 
 -- so at each earlier time
 abbrev pub AreGood : List Undo → List Flat → Type 0
 AreGood [] ns = Unit {0}
-AreGood (u ∷ us) ns = IsGood (undone (u ∷ us) ns) × AreGood us ns
+AreGood (u ∷ us) ns = IsGood (arena_undone (u ∷ us) ns) × AreGood us ns
 
 IsRising-single : (ks : List Key) → IsProp (IsRising key_cmp ks)
 IsRising-single [] = Unit-prop
@@ -69,7 +69,7 @@ AreSorted-single : {X : Type 0} (es : List (Key × X)) → IsProp (AreSorted es)
 AreSorted-single es = IsRising-single (keys_of es)
 
 -- each of these has one proof
-pub IsSound-single : (ns : List Flat) → IsProp (IsSound ns)
+pub IsSound-single : (ns : List Flat) → IsProp (IsSoundArena ns)
 IsSound-single ns = λ x y i. record {
   inner = λ a b t e. ×_prop le_prop le_prop (x.inner a b t e) (y.inner a b t e) i;
   once = λ a u b t s e f.
@@ -82,9 +82,9 @@ pub IsGood-single : (ns : List Flat) → IsProp (IsGood ns)
 IsGood-single ns = λ x y i. record {
   some = le_prop x.some y.some i;
   sound = IsSound-single ns x.sound y.sound i;
-  kept = IsKept-single (content_of ns) x.kept y.kept i;
+  kept = IsKept-single (content_of_arena ns) x.kept y.kept i;
 }
 
 pub AreGood-single : (us : List Undo) (ns : List Flat) → IsProp (AreGood us ns)
 AreGood-single [] ns = Unit-prop
-AreGood-single (u ∷ us) ns = ×_prop (IsGood-single (undone (u ∷ us) ns)) (AreGood-single us ns)
+AreGood-single (u ∷ us) ns = ×_prop (IsGood-single (arena_undone (u ∷ us) ns)) (AreGood-single us ns)

@@ -3,6 +3,6 @@ use Rattle.jc_rules.specs.Trace.{Rows, IsLonger}
 use Rattle.jc_tree.specs.Tree.{Tree, IsLater}
 
 -- Only changes have been made to the tree, and only rules added to the trace.
-pub record CanGoBack (a b : Tree) (t u : Rows) : Type 0 where
+pub record TreeCanGoBack (a b : Tree) (t u : Rows) : Type 0 where
   pub store : IsLater a b
   pub trace : IsLonger t u

@@ -6,18 +6,18 @@ use Rattle.jc_rules.specs.Context.{Context, Values, IsPrimitive, registers, cont
 use Rattle.jc_rules.specs.Order.{id_cmp, key_cmp}
 use Rattle.jc_rules.specs.Entries.{find, put}
 use Rattle.jc_rules.specs.Ids.{AreRising, with_id}
-use Rattle.jc_rules.specs.Shape.{IsKeptRegister}
-use Rattle.jc_rules.specs.Places.{with_node_at, context_at}
-use Rattle.jc_tree.specs.Tree.{or_none}
+use Rattle.jc_rules.specs.WellFormed.{IsWellFormedRegister}
+use Rattle.jc_rules.specs.ContextsAt.{with_node_at, context_at}
+use Rattle.jc_tree.specs.Tree.{or_no_entries}
 use Rattle.jc_tree.specs.declared.node.Change.{Change}
 use Rattle.jc_tree.specs.declared.node.Change.TheVariants.{Child, AddId, Presence, Link, PutValue, Register}
 
 abbrev pub changed_by : Change → Context → Context
 changed_by (Child t) c = with_content t (new_content t) c
-changed_by (AddId k i) c = with_presence k (with_id i (or_none (presence k c))) c
+changed_by (AddId k i) c = with_presence k (with_id i (or_no_entries (presence k c))) c
 changed_by (Presence k s) c = with_presence k s c
 changed_by (Link k n) c = with_next k n c
-changed_by (PutValue k i v) c = with_content (RegT k) (Values (put id_cmp i v (or_none (find key_cmp k (registers c))))) c
+changed_by (PutValue k i v) c = with_content (RegT k) (Values (put id_cmp i v (or_no_entries (find key_cmp k (registers c))))) c
 changed_by (Register k r) c = with_content (RegT k) (Values r) c
 
 -- with the context at the place changed
@@ -31,7 +31,7 @@ IsFit (AddId k i) = Unit {0}
 IsFit (Presence k s) = AreRising s
 IsFit (Link k n) = Unit {0}
 IsFit (PutValue k i v) = IsPrimitive v
-IsFit (Register k r) = IsKeptRegister r
+IsFit (Register k r) = IsWellFormedRegister r
 
 -- nothing stands yet under the tagged key of a new child
 abbrev pub IsNew : Change → Context → Type 0

@@ -7,7 +7,7 @@ use Rattle.jc_tree.specs.Tree.{has_ids, count_present}
 use Rattle.jc_tree.specs.Undo.{taken_out}
 
 -- the sets rise by key, and as many of them have an identifier
-pub record IsCounted (n : ℕ) (es : List (Key × List Id)) : Type 0 where
+pub record CountsPresences (n : ℕ) (es : List (Key × List Id)) : Type 0 where
   pub rise : AreSorted es
   pub count : n ≡ count_present es
 

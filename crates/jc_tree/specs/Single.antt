@@ -11,7 +11,7 @@ use Rattle.jc_rules.specs.Order.{id_cmp, key_cmp}
 use Rattle.jc_rules.specs.Entries.{IsRising, keys_of}
 use Rattle.jc_rules.specs.Ids.{AreRising}
 use Rattle.jc_rules.specs.Context.{Context, context, Children, no_child, child, listed, Register, IsPrimitive}
-use Rattle.jc_rules.specs.Shape.{IsKept, AreKept, IsKeptRegister}
+use Rattle.jc_rules.specs.WellFormed.{IsWellFormedContext, AreWellFormedContexts, IsWellFormedRegister}
 
 IsRising-single : {K : Type 0} (R : K → K → Ordering) (ks : List K) → IsProp (IsRising R ks)
 IsRising-single R [] = Unit-prop
@@ -27,28 +27,28 @@ IsPrimitive-single V.True = Unit-prop
 IsPrimitive-single V.False = Unit-prop
 IsPrimitive-single V.Null = Unit-prop
 
-IsKeptRegister-single : (r : Register) → IsProp (IsKeptRegister r)
+IsKeptRegister-single : (r : Register) → IsProp (IsWellFormedRegister r)
 IsKeptRegister-single r =
     ×_prop (IsRising-single id_cmp (keys_of r))
     (AllByRecursion-prop (λ e. IsPrimitive e.1) (λ e. IsPrimitive-single e.1) r)
 
 mutual
-  pub IsKept-single : (c : Context) → IsProp (IsKept c)
+  pub IsKept-single : (c : Context) → IsProp (IsWellFormedContext c)
   IsKept-single (context m l r p n) =
       let maps = IsRising-single key_cmp (keys_of (listed m)) in
       let lists = IsRising-single key_cmp (keys_of (listed l)) in
       let registers = IsRising-single key_cmp (keys_of r) in
       let presences = IsRising-single key_cmp (keys_of p) in
       let links = IsRising-single key_cmp (keys_of n) in
-      let values = AllByRecursion-prop (λ e. IsKeptRegister e.1) (λ e. IsKeptRegister-single e.1) r in
+      let values = AllByRecursion-prop (λ e. IsWellFormedRegister e.1) (λ e. IsKeptRegister-single e.1) r in
       let ids = AllByRecursion-prop (λ e. AreRising e.1) (λ e. IsRising-single id_cmp e.1) p in
       let in_maps = AreKept-single m in
       let in_lists = AreKept-single l in
       hlevel (maps, lists, registers, presences, links, values, ids, in_maps, in_lists)
 
-  AreKept-single : (cs : Children) → IsProp (AreKept cs)
+  AreKept-single : (cs : Children) → IsProp (AreWellFormedContexts cs)
   AreKept-single no_child = Unit-prop
   AreKept-single (child k c cs) = ×_prop (IsKept-single c) (AreKept-single cs)
 
-pub AreAllKept-single : (cs : List Context) → IsProp (AllByRecursion IsKept cs)
-AreAllKept-single cs = AllByRecursion-prop IsKept IsKept-single cs
+pub AreAllKept-single : (cs : List Context) → IsProp (AllByRecursion IsWellFormedContext cs)
+AreAllKept-single cs = AllByRecursion-prop IsWellFormedContext IsKept-single cs

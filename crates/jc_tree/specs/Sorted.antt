@@ -15,20 +15,20 @@ abbrev pub AreSorted : {X : Type 0} → List (Key × X) → Type 0
 AreSorted es = IsRising key_cmp (keys_of es)
 
 -- the key has the entry at i
-pub record StandsAt {K X : Type 0} (k : K) (es : List (K × X)) (i : ℕ) : Type 0 where
+pub record IsEntryAt {K X : Type 0} (k : K) (es : List (K × X)) (i : ℕ) : Type 0 where
   pub value : X
   pub entry : slice_get es i ≡ Some (k, value)
 
 -- no entry has the key: the first i have lesser ones, the others greater ones
-pub record BelongsAt {K X : Type 0} (R : K → K → Ordering) (k : K) (es : List (K × X)) (i : ℕ) : Type 0 where
+pub record EntryBelongsAt {K X : Type 0} (R : K → K → Ordering) (k : K) (es : List (K × X)) (i : ℕ) : Type 0 where
   pub within : i ≤ length es
   pub lesser : AllByRecursion (λ e. R e.0 k ≡ Less) (take i es)
   pub greater : AllByRecursion (λ e. R k e.0 ≡ Less) (drop i es)
 
 -- where the key stands, or else where it belongs
-abbrev pub IsPlace : {K X : Type 0} → (K → K → Ordering) → K → List (K × X) → Result ℕ ℕ → Type 0
-IsPlace R k es (Ok i) = StandsAt k es i
-IsPlace R k es (Err i) = BelongsAt R k es i
+abbrev pub IsEntryPlace : {K X : Type 0} → (K → K → Ordering) → K → List (K × X) → Result ℕ ℕ → Type 0
+IsEntryPlace R k es (Ok i) = IsEntryAt k es i
+IsEntryPlace R k es (Err i) = EntryBelongsAt R k es i
 
 -- the entries of each kind rise by key
 pub record IsSortedNode (maps lists : List (Key × Context)) (registers : List (Key × Register))

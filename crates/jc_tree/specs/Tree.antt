@@ -6,7 +6,7 @@ use Rattle.jc_rules.specs.declared.key.Key.{Key}
 use Rattle.jc_rules.specs.declared.key.Tagged.{Tagged}
 use Rattle.jc_rules.specs.Order.{key_cmp}
 use Rattle.jc_rules.specs.Context.{Context}
-use Rattle.jc_rules.specs.Places.{node_at, with_node_at, context_at}
+use Rattle.jc_rules.specs.ContextsAt.{node_at, with_node_at, context_at}
 use Rattle.jc_rules.specs.Table.{least}
 
 -- the content, and the contents before each change since the marks were last forgotten, the oldest first
@@ -15,8 +15,8 @@ pub record Tree : Type 0 where
   pub earlier : List Context
 
 -- the contents from the oldest to the one now
-abbrev pub history : Tree → List Context
-history t = t.earlier ++ t.now ∷ []
+abbrev pub tree_history : Tree → List Context
+tree_history t = t.earlier ++ t.now ∷ []
 
 -- the path leads to a context
 abbrev pub HasPlace : List Tagged → Tree → Type 0
@@ -27,20 +27,20 @@ abbrev pub here : List Tagged → Tree → Context
 here at t = context_at at t.now
 
 -- the identifiers of a presence set or the values of a register, none where it isn't there
-abbrev pub or_none : {X : Type 0} → Option (List X) → List X
-or_none None = []
-or_none (Some s) = s
+abbrev pub or_no_entries : {X : Type 0} → Option (List X) → List X
+or_no_entries None = []
+or_no_entries (Some s) = s
 
 -- One change: y is now the context at the place, all else in the content is as it was, and the content before it is
 -- kept.
 pub record IsChanged (at : List Tagged) (y : Context) (old new : Tree) : Type 0 where
   pub now : new.now ≡ with_node_at at y old.now
-  pub earlier : new.earlier ≡ history old
+  pub earlier : new.earlier ≡ tree_history old
 
 -- Only changes have been made: what the history was is still its beginning.
 pub record IsLater (old new : Tree) : Type 0 where
   pub added : List Context
-  pub is : history new ≡ history old ++ added
+  pub is : tree_history new ≡ tree_history old ++ added
 
 -- whether the key comes after the given one, if one is given
 abbrev pub is_after : Option Key → Key → Bool

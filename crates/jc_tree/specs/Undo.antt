@@ -11,7 +11,7 @@ use Rattle.jc_rules.specs.Order.{id_cmp, key_cmp, same_id}
 use Rattle.jc_rules.specs.Entries.{find, replaced, put}
 use Rattle.jc_rules.specs.Ids.{has_id}
 use Rattle.jc_rules.specs.Context.{Context, context, Register, children, listed, registers, presence, next}
-use Rattle.jc_rules.specs.Places.{with_node_at, context_at}
+use Rattle.jc_rules.specs.ContextsAt.{with_node_at, context_at}
 use Rattle.jc_tree.specs.declared.node.Change.{Change}
 use Rattle.jc_tree.specs.declared.node.Change.TheVariants.{Child, AddId, Presence, Link, PutValue, Register as SetRegister}
 use Rattle.jc_tree.specs.declared.node.Former.{Former}
@@ -86,11 +86,11 @@ abbrev pub restored_at : List Tagged → Former → Context → Context
 restored_at at former c = with_node_at at (restored_by former (context_at at c)) c
 
 -- the content before all the changes that these take back, of which the last was the latest
-abbrev pub undone : List Undo → Context → Context
-undone [] c = c
-undone (u ∷ us) c = restored_at u.at.items u.former (undone us c)
+abbrev pub tree_undone : List Undo → Context → Context
+tree_undone [] c = c
+tree_undone (u ∷ us) c = restored_at u.at.items u.former (tree_undone us c)
 
 -- the contents before each of these changes, the oldest first
-abbrev pub contents : List Undo → Context → List Context
-contents [] c = []
-contents (u ∷ us) c = undone (u ∷ us) c ∷ contents us c
+abbrev pub earlier_contents : List Undo → Context → List Context
+earlier_contents [] c = []
+earlier_contents (u ∷ us) c = tree_undone (u ∷ us) c ∷ earlier_contents us c

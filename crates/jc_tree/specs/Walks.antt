@@ -4,8 +4,8 @@ use Rattle.jc_rules.specs.declared.key.Key.{Key}
 use Rattle.jc_tree.specs.Tree.{is_after}
 
 -- the entries above a key, or all
-abbrev pub above : {X : Type 0} → Option Key → List (Key × X) → List (Key × X)
-above last es = filter (λ e. is_after last e.0) es
+abbrev pub keys_above : {X : Type 0} → Option Key → List (Key × X) → List (Key × X)
+keys_above last es = filter (λ e. is_after last e.0) es
 
 -- the entry of a key, if it has one
 abbrev pub entry_of : {X : Type 0} → Key → Option X → List (Key × X)

@@ -3,12 +3,12 @@
 ghost use Rattle.std.specs.Prelude.{◌≡◌, ◌≢◌, ◌<◌, ◌+◌, List, None, Some, [], ◌∷◌, ◌++◌, length, IfOk, OnOk, OnErr};
 ghost use Rattle.jc_rules.specs.declared.key.Tagged.{Tagged as AnyTagged};
 ghost use Rattle.jc_rules.specs.Context.{empty};
-ghost use Rattle.jc_rules.specs.Places.{node_at, context_at};
+ghost use Rattle.jc_rules.specs.ContextsAt.{node_at, context_at};
 ghost use Rattle.jc_tree.specs.Tree.{IsChanged};
 ghost use Rattle.jc_tree.specs.Change.{IsFit, changed_by};
-ghost use Rattle.jc_tree.specs.Arena.{IsInside, content_of, flat_at, former_of_flat, walk};
+ghost use Rattle.jc_tree.specs.Arena.{IsInside, content_of_arena, flat_at, former_of_flat, walk};
 ghost use Rattle.jc_tree.specs.Undo.{was_there};
-ghost use Rattle.jc_tree.specs.ArenaUndo.{contents, fewer, back, tree_of, IsGood, AreGood, IsGood-single, AreGood-single};
+ghost use Rattle.jc_tree.specs.ArenaUndo.{arena_contents, fewer, arena_undone_once, tree_of_arena, IsGood, AreGood, IsGood-single, AreGood-single};
 
 use crate::arena_node::{ArenaNode, NodeId, former_of_node};
 use crate::ids::Ids;
@@ -54,7 +54,7 @@ fn drop_node(nodes: &mut Vec<ArenaNode>, former: &Former)
 
 /// Makes the nodes what they were before a change. It takes no memory.
 fn take_back(nodes: &mut Vec<ArenaNode>, undo: Undo)
-    ensures { nodes.new.items ≡ back undo nodes.old.items }
+    ensures { nodes.new.items ≡ arena_undone_once undo nodes.old.items }
 {
     let Undo { node, former } = undo;
     drop_node(nodes, &former);
@@ -88,7 +88,7 @@ impl ArenaTree {
 
     /// The number of the node that the path leads to.
     fn find(&self, at: &[Tagged]) -> NodeId
-        requires { node_at at.now (content_of self.now.nodes.items) ≢ None }
+        requires { node_at at.now (content_of_arena self.now.nodes.items) ≢ None }
         ensures walk { walk self.now.nodes.items 0 at.now ≡ Some result }
         ensures within { result < length self.now.nodes.items }
     {
@@ -111,14 +111,14 @@ impl ArenaTree {
         requires inside { IsInside change }
         requires fit { IsFit change }
         ensures ok { OnOk result ((at : List AnyTagged) → walk self.old.nodes.items 0 at ≡ Some node → IsChanged at
-            (changed_by change (context_at at (content_of self.old.nodes.items)))
-            (tree_of self.old.nodes.items self.old.undos.items) (tree_of self.new.nodes.items self.new.undos.items)) }
+            (changed_by change (context_at at (content_of_arena self.old.nodes.items)))
+            (tree_of_arena self.old.nodes.items self.old.undos.items) (tree_of_arena self.new.nodes.items self.new.undos.items)) }
         ensures was { IfOk result (λ was.
             was ≡ was_there (former_of_flat change (flat_at self.old.nodes.items node))) }
         ensures numbers { OnOk result ((at : List AnyTagged) →
             walk self.new.nodes.items 0 at ≡ walk self.old.nodes.items 0 at) }
-        ensures err { OnErr result (tree_of self.new.nodes.items self.new.undos.items
-            ≡ tree_of self.old.nodes.items self.old.undos.items) }
+        ensures err { OnErr result (tree_of_arena self.new.nodes.items self.new.undos.items
+            ≡ tree_of_arena self.old.nodes.items self.old.undos.items) }
     {
         let number = node.number();
         self.undos.reserve(1)?;
@@ -130,14 +130,14 @@ impl ArenaTree {
 
     /// Makes one change at the place that makes no node. After a refusal all is as it was.
     fn change(&mut self, at: &[Tagged], change: Change) -> Result<(), AllocError>
-        requires there { node_at at.now (content_of self.old.nodes.items) ≢ None }
+        requires there { node_at at.now (content_of_arena self.old.nodes.items) ≢ None }
         requires inside { IsInside change }
         requires fit { IsFit change }
         ensures ok { OnOk result (IsChanged at.now
-            (changed_by change (context_at at.now (content_of self.old.nodes.items)))
-            (tree_of self.old.nodes.items self.old.undos.items) (tree_of self.new.nodes.items self.new.undos.items)) }
-        ensures err { OnErr result (tree_of self.new.nodes.items self.new.undos.items
-            ≡ tree_of self.old.nodes.items self.old.undos.items) }
+            (changed_by change (context_at at.now (content_of_arena self.old.nodes.items)))
+            (tree_of_arena self.old.nodes.items self.old.undos.items) (tree_of_arena self.new.nodes.items self.new.undos.items)) }
+        ensures err { OnErr result (tree_of_arena self.new.nodes.items self.new.undos.items
+            ≡ tree_of_arena self.old.nodes.items self.old.undos.items) }
     {
         let node = self.find(at);
         self.change_node(node, change)?;
@@ -148,8 +148,8 @@ impl ArenaTree {
     fn undo(&mut self)
         requires { 0 < length self.old.undos.items }
         ensures undos { length self.new.undos.items + 1 ≡ length self.old.undos.items }
-        ensures history { contents self.new.undos.items self.new.nodes.items ++ content_of self.new.nodes.items ∷ []
-            ≡ contents self.old.undos.items self.old.nodes.items }
+        ensures history { arena_contents self.new.undos.items self.new.nodes.items ++ content_of_arena self.new.nodes.items ∷ []
+            ≡ arena_contents self.old.undos.items self.old.nodes.items }
     {
         if let Some(undo) = self.undos.pop() {
             take_back(&mut self.nodes, undo);
@@ -158,7 +158,7 @@ impl ArenaTree {
 }
 
 impl TreeStore for ArenaTree {
-    ghost tree = { λ s. tree_of s.nodes.items s.undos.items };
+    ghost tree = { λ s. tree_of_arena s.nodes.items s.undos.items };
 
     ghost names = { λ s place at. walk s.nodes.items 0 at ≡ Some place.number };
 

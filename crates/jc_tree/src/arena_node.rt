@@ -5,7 +5,7 @@ ghost use Rattle.jc_rules.specs.Order.{key_cmp};
 ghost use Rattle.jc_rules.specs.Entries.{find, keys_of};
 ghost use Rattle.jc_rules.specs.Paths.{HasContext};
 ghost use Rattle.jc_tree.specs.Tree.{least_after, count_present};
-ghost use Rattle.jc_tree.specs.Arena.{blank, new_flat, child_of, is_in, with_number, IsInside, changed_flat, former_of_node, former_of_flat, restored_flat};
+ghost use Rattle.jc_tree.specs.Arena.{blank, new_flat, child_number, is_in, with_child_number, IsInside, changed_flat, former_of_node, former_of_flat, restored_flat};
 
 use crate::ids::Ids;
 use crate::lists::Pairs;
@@ -117,7 +117,7 @@ impl ArenaNode {
 
     /// The number of the child under the tagged key.
     pub fn child(&self, key: &Tagged) -> Option<NodeId>
-        ensures { result ≡ child_of key.now self.now }
+        ensures { result ≡ child_number key.now self.now }
     {
         match key {
             Tagged::MapT(key) => value_in(&self.maps, key).copied(),
@@ -182,7 +182,7 @@ impl ArenaNode {
     /// Names a child under the tagged key. After a refusal the node is as it was.
     pub fn name_child(&mut self, key: Tagged, number: NodeId) -> Result<(), AllocError>
         requires { HasContext key }
-        ensures ok { OnOk result (self.new ≡ with_number key number self.old) }
+        ensures ok { OnOk result (self.new ≡ with_child_number key number self.old) }
         ensures err { OnErr result (self.new ≡ self.old) }
     {
         match key {

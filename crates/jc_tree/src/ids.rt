@@ -4,7 +4,7 @@ ghost use Rattle.std.specs.Prelude.{◌≡◌, [], ◌∷◌, not, IfOk, OnOk, O
 ghost use Rattle.jc_rules.specs.Ids.{AreRising, has_id, with_id};
 ghost use Rattle.jc_rules.specs.Order.{key_cmp};
 ghost use Rattle.jc_rules.specs.Entries.{find, put};
-ghost use Rattle.jc_tree.specs.Tree.{or_none, has_ids, count_present};
+ghost use Rattle.jc_tree.specs.Tree.{or_no_entries, has_ids, count_present};
 ghost use Rattle.jc_tree.specs.Sorted.{AreSorted};
 ghost use Rattle.jc_tree.specs.Undo.{taken_out, out_of_set};
 
@@ -104,7 +104,7 @@ pub fn count_present(sets: &[(Key, Ids)]) -> usize
 pub fn add_to(sets: &mut Vec<(Key, Ids)>, key: Key, id: Id, alloc: Global) -> Result<(), AllocError>
     requires { AreSorted sets.old.items }
     ensures ok { OnOk result (sets.new.items
-        ≡ put key_cmp key (with_id id (or_none (find key_cmp key sets.old.items))) sets.old.items) }
+        ≡ put key_cmp key (with_id id (or_no_entries (find key_cmp key sets.old.items))) sets.old.items) }
     ensures err { OnErr result (sets.new.items ≡ sets.old.items) }
     ensures sorted { AreSorted sets.new.items }
 {

@@ -4,7 +4,7 @@ ghost use Rattle.std.specs.Prelude.{◌≡◌, ◌≢◌, ◌++◌, None, Some, 
 ghost use Rattle.jc_rules.specs.Order.{key_cmp};
 ghost use Rattle.jc_rules.specs.Entries.{find, put, keys_of};
 ghost use Rattle.jc_rules.specs.Context.{empty, empty_list, content, presence, presences, links, next as next_of, registers, keys};
-ghost use Rattle.jc_rules.specs.Places.{node_in, node_at, context_at};
+ghost use Rattle.jc_rules.specs.ContextsAt.{node_in, node_at, context_at};
 ghost use Rattle.jc_rules.specs.Table.{least};
 ghost use Rattle.jc_tree.specs.Tree.{least_after, count_present};
 ghost use Rattle.jc_tree.specs.Sorted.{AreSorted};
@@ -202,7 +202,7 @@ impl Node {
 
     /// Puts an empty map under the key, and gives what takes it back. After a refusal the context is as
     /// it was.
-    #[tactic(auto, using(crate::proofs::Nodes::map_with))]
+    #[tactic(auto, using(crate::proofs::NodeLemmas::map_with))]
     fn make_map(&mut self, key: Key, alloc: Global) -> Result<Former, AllocError>
         ensures ok { OnOk result (self.new ≡ changed_by (Change.Child (Tagged.MapT key)) self.old) }
         ensures former { IfOk result (λ former. former ≡ former_of (Change.Child (Tagged.MapT key)) self.old) }
@@ -316,7 +316,7 @@ impl Node {
     }
 
     /// Makes an entry what it was.
-    #[tactic(auto, using(crate::proofs::Nodes::map_restored, crate::proofs::Nodes::list_restored))]
+    #[tactic(auto, using(crate::proofs::NodeLemmas::map_restored, crate::proofs::NodeLemmas::list_restored))]
     fn restore(&mut self, former: Former)
         ensures { self.new ≡ restored_by former self.old }
     {

@@ -3,11 +3,11 @@
 ghost use Rattle.std.specs.Prelude.{◌≡◌, ◌≢◌, ◌<◌, ◌+◌, None, [], ◌∷◌, ◌++◌, length, OnOk, OnErr};
 ghost use Rattle.std.specs.List.{AllByRecursion};
 ghost use Rattle.jc_rules.specs.Context.{empty};
-ghost use Rattle.jc_rules.specs.Places.{node_at, context_at};
-ghost use Rattle.jc_rules.specs.Shape.{IsKept};
+ghost use Rattle.jc_rules.specs.ContextsAt.{node_at, context_at};
+ghost use Rattle.jc_rules.specs.WellFormed.{IsWellFormedContext};
 ghost use Rattle.jc_tree.specs.Tree.{Tree};
 ghost use Rattle.jc_tree.specs.Change.{IsFit, IsNew, changed_at};
-ghost use Rattle.jc_tree.specs.Undo.{contents};
+ghost use Rattle.jc_tree.specs.Undo.{earlier_contents};
 ghost use Rattle.jc_tree.specs.Single.{IsKept-single, AreAllKept-single};
 
 use crate::ids::Ids;
@@ -30,9 +30,9 @@ pub struct PlainTree {
     alloc: Global,
     root: Node,
     undos: Vec<Undo>,
-    ghost root_kept: { IsKept root } by { IsKept-single root },
-    ghost earlier_kept: { AllByRecursion IsKept
-        (contents undos.items root) } by { AreAllKept-single (contents undos.items root) },
+    ghost root_kept: { IsWellFormedContext root } by { IsKept-single root },
+    ghost earlier_kept: { AllByRecursion IsWellFormedContext
+        (earlier_contents undos.items root) } by { AreAllKept-single (earlier_contents undos.items root) },
 }
 
 impl PlainTree {
@@ -53,8 +53,8 @@ impl PlainTree {
         requires absent { IsNew change (context_at at.now self.old.root) }
         requires fit { IsFit change }
         ensures root { OnOk result (self.new.root ≡ changed_at at.now change self.old.root) }
-        ensures earlier { OnOk result (contents self.new.undos.items self.new.root
-            ≡ contents self.old.undos.items self.old.root ++ self.old.root ∷ []) }
+        ensures earlier { OnOk result (earlier_contents self.new.undos.items self.new.root
+            ≡ earlier_contents self.old.undos.items self.old.root ++ self.old.root ∷ []) }
         ensures same_root { OnErr result (self.new.root ≡ self.old.root) }
         ensures same_undos { OnErr result (self.new.undos.items ≡ self.old.undos.items) }
     {
@@ -69,8 +69,8 @@ impl PlainTree {
     fn undo(&mut self)
         requires { 0 < length self.old.undos.items }
         ensures undos { length self.new.undos.items + 1 ≡ length self.old.undos.items }
-        ensures history { contents self.new.undos.items self.new.root ++ self.new.root ∷ []
-            ≡ contents self.old.undos.items self.old.root }
+        ensures history { earlier_contents self.new.undos.items self.new.root ++ self.new.root ∷ []
+            ≡ earlier_contents self.old.undos.items self.old.root }
     {
         if let Some(Undo { at, former }) = self.undos.pop() {
             self.root.restore_at(at.as_slice(), former);
@@ -79,7 +79,7 @@ impl PlainTree {
 }
 
 impl TreeStore for PlainTree {
-    ghost tree = { λ s. record { now = s.root; earlier = contents s.undos.items s.root } };
+    ghost tree = { λ s. record { now = s.root; earlier = earlier_contents s.undos.items s.root } };
 
     ghost names = { λ s place at. Unit {0} };
 
@@ -189,7 +189,7 @@ impl TreeStore for PlainTree {
         self.add_presence(at, key, id)
     }
 
-    #[tactic(auto, using(crate::proofs::Undoing::length_contents))]
+    #[tactic(auto, using(crate::proofs::UndoLemmas::length_contents))]
     fn mark(&self) -> Mark {
         Mark {
             changes: self.undos.len(),

@@ -4,7 +4,7 @@ ghost use Rattle.std.specs.Prelude.{◌≡◌, ◌+◌, [], cond, option_copied,
 ghost use Rattle.jc_rules.specs.Order.{key_cmp};
 ghost use Rattle.jc_rules.specs.Entries.{find, put, keys_of};
 ghost use Rattle.jc_rules.specs.Ids.{with_id};
-ghost use Rattle.jc_tree.specs.Tree.{or_none, least_after, has_ids, count_present};
+ghost use Rattle.jc_tree.specs.Tree.{or_no_entries, least_after, has_ids, count_present};
 ghost use Rattle.jc_tree.specs.Undo.{restored, former_of_id, out_of_set};
 
 use crate::ids::Ids;
@@ -26,18 +26,18 @@ impl Model for Presences {
     ghost use Rattle.std.specs.Prelude.{List};
     ghost use Rattle.jc_rules.specs.declared.id.Id.{Id};
     ghost use Rattle.jc_rules.specs.declared.key.Key.{Key};
-    ghost use Rattle.jc_tree.specs.Counted.{IsCounted};
+    ghost use Rattle.jc_tree.specs.Counted.{CountsPresences};
 
     ghost Value = { List (Key × List Id) };
 
     ghost view = { λ a. a.sets.entries };
 
-    ghost invariant = { λ a. IsCounted a.present a.sets.entries };
+    ghost invariant = { λ a. CountsPresences a.present a.sets.entries };
 }
 
 /// Whether there is a set, and it has an identifier.
 fn is_inhabited(set: Option<&Ids>) -> bool
-    ensures { result ≡ has_ids (or_none (option_copied set.entry)) }
+    ensures { result ≡ has_ids (or_no_entries (option_copied set.entry)) }
 {
     match set {
         Some(ids) => !ids.is_empty(),
@@ -110,7 +110,7 @@ impl Presences {
     /// back. After a refusal all is as it was.
     pub fn add(&mut self, key: Key, id: Id, alloc: Global) -> Result<Former, AllocError>
         ensures ok { OnOk result (self.new
-            ≡ put key_cmp key (with_id id (or_none (find key_cmp key self.old))) self.old) }
+            ≡ put key_cmp key (with_id id (or_no_entries (find key_cmp key self.old))) self.old) }
         ensures former { IfOk result (λ former. former ≡ former_of_id key id (find key_cmp key self.old)) }
         ensures err { OnErr result (self.new ≡ self.old) }
     {

@@ -8,10 +8,10 @@ ghost use Rattle.jc_rules.specs.Entries.{find, put, keys_of};
 ghost use Rattle.jc_rules.specs.Ids.{AreRising, with_id};
 ghost use Rattle.jc_rules.specs.Context.{Values, IsPrimitive, content, with_content, new_content, presence, with_presence, presences, links, next as next_of, with_next, registers, keys};
 ghost use Rattle.jc_rules.specs.Paths.{HasContext};
-ghost use Rattle.jc_rules.specs.Places.{node_in};
-ghost use Rattle.jc_rules.specs.Shape.{IsKept, IsKeptRegister};
+ghost use Rattle.jc_rules.specs.ContextsAt.{node_in};
+ghost use Rattle.jc_rules.specs.WellFormed.{IsWellFormedContext, IsWellFormedRegister};
 ghost use Rattle.jc_tree.specs.declared.store.Place.{Place as AnyPlace};
-ghost use Rattle.jc_tree.specs.Tree.{Tree, history, HasPlace, here, or_none, IsChanged, least_after, count_present};
+ghost use Rattle.jc_tree.specs.Tree.{Tree, tree_history, HasPlace, here, or_no_entries, IsChanged, least_after, count_present};
 
 use jc_rules::{Id, Key, Next, Tagged, Value};
 use std::alloc::AllocError;
@@ -72,7 +72,7 @@ pub trait TreeStore {
     fn add_presence(&mut self, at: &[Tagged], key: &Key, id: Id) -> Result<bool, AllocError>
         requires { HasPlace at.now (tree self.old) }
         ensures ok { OnOk result (IsChanged at.now
-            (with_presence key.now (with_id id (or_none (presence key.now (here at.now (tree self.old)))))
+            (with_presence key.now (with_id id (or_no_entries (presence key.now (here at.now (tree self.old)))))
             (here at.now (tree self.old)))
             (tree self.old) (tree self.new)) }
         ensures was { IfOk result (λ was. was ≡ is_some (presence key.now (here at.now (tree self.old)))) }
@@ -104,7 +104,7 @@ pub trait TreeStore {
         pairs: Vec<(Id, Value)>,
     ) -> Result<(), AllocError>
         requires there { HasPlace at.now (tree self.old) }
-        requires kept { IsKeptRegister pairs.items }
+        requires kept { IsWellFormedRegister pairs.items }
         ensures ok { OnOk result (IsChanged at.now
             (with_content (RegT key.now) (Values pairs.items) (here at.now (tree self.old)))
             (tree self.old) (tree self.new)) }
@@ -123,7 +123,7 @@ pub trait TreeStore {
         requires primitive { IsPrimitive value }
         ensures ok { OnOk result (IsChanged at.now
             (with_content (RegT key.now)
-            (Values (put id_cmp id value (or_none (find key_cmp key.now (registers (here at.now (tree self.old)))))))
+            (Values (put id_cmp id value (or_no_entries (find key_cmp key.now (registers (here at.now (tree self.old)))))))
             (here at.now (tree self.old)))
             (tree self.old) (tree self.new)) }
         ensures was { IfOk result (λ was.
@@ -188,7 +188,7 @@ pub trait TreeStore {
         requires there { HasPlace at.now (tree self.old) }
         requires named { names self.old place at.now }
         ensures ok { OnOk result (IsChanged at.now
-            (with_presence key.now (with_id id (or_none (presence key.now (here at.now (tree self.old)))))
+            (with_presence key.now (with_id id (or_no_entries (presence key.now (here at.now (tree self.old)))))
             (here at.now (tree self.old)))
             (tree self.old) (tree self.new)) }
         ensures was { IfOk result (λ was. was ≡ is_some (presence key.now (here at.now (tree self.old)))) }
@@ -202,7 +202,7 @@ pub trait TreeStore {
     /// Goes back to the content at the mark.
     fn undo_to(&mut self, mark: Mark)
         requires { mark.changes ≤ length (tree self.old).earlier }
-        ensures { history (tree self.new) ≡ take (mark.changes + 1) (history (tree self.old)) };
+        ensures { tree_history (tree self.new) ≡ take (mark.changes + 1) (tree_history (tree self.old)) };
 
     /// Gives up the earlier contents, so that earlier marks count no more.
     fn forget_marks(&mut self)
@@ -210,7 +210,7 @@ pub trait TreeStore {
 
     /// At every depth the entries rise by key, presence sets and registers by identifier, and
     /// registers have primitive values.
-    ghost kept: { (s : Self) → IsKept (tree s).now };
+    ghost kept: { (s : Self) → IsWellFormedContext (tree s).now };
 }
 
 /// Whether the path leads to a context, which is what the calls of a store ask of a place.

@@ -4,7 +4,7 @@ ghost use Rattle.std.specs.Prelude.{◌≡◌, IfOk, OnOk, OnErr, option_copied}
 ghost use Rattle.jc_rules.specs.Order.{id_cmp, key_cmp};
 ghost use Rattle.jc_rules.specs.Entries.{find, put, keys_of};
 ghost use Rattle.jc_rules.specs.Ids.{with_id};
-ghost use Rattle.jc_tree.specs.Tree.{or_none, least_after, has_ids};
+ghost use Rattle.jc_tree.specs.Tree.{or_no_entries, least_after, has_ids};
 ghost use Rattle.jc_tree.specs.Counted.{is_last};
 ghost use Rattle.jc_tree.specs.Sorted.{AreSorted};
 ghost use Rattle.jc_tree.specs.Undo.{restored, restored_value, former_of_id, former_of_value, out_of_set};
@@ -81,9 +81,9 @@ pub fn add_in(
 ) -> Result<(Former, bool), AllocError>
     requires { AreSorted sets.old.entries }
     ensures ok { OnOk result (sets.new.entries
-        ≡ put key_cmp key (with_id id (or_none (find key_cmp key sets.old.entries))) sets.old.entries) }
+        ≡ put key_cmp key (with_id id (or_no_entries (find key_cmp key sets.old.entries))) sets.old.entries) }
     ensures former { IfOk result (λ added. added.0 ≡ former_of_id key id (find key_cmp key sets.old.entries)) }
-    ensures was { IfOk result (λ added. added.1 ≡ has_ids (or_none (find key_cmp key sets.old.entries))) }
+    ensures was { IfOk result (λ added. added.1 ≡ has_ids (or_no_entries (find key_cmp key sets.old.entries))) }
     ensures err { OnErr result (sets.new.entries ≡ sets.old.entries) }
     ensures sorted { AreSorted sets.new.entries }
 {
@@ -108,7 +108,7 @@ pub fn add_in(
 pub fn take_out_in(sets: &mut BTreeMap<Key, Ids>, key: &Key, id: Id) -> bool
     requires { AreSorted sets.old.entries }
     ensures ok { sets.new.entries ≡ out_of_set key.now id (find key_cmp key.now sets.old.entries) sets.old.entries }
-    ensures last { result ≡ is_last id (or_none (find key_cmp key.now sets.old.entries)) }
+    ensures last { result ≡ is_last id (or_no_entries (find key_cmp key.now sets.old.entries)) }
     ensures sorted { AreSorted sets.new.entries }
 {
     let Some(ids) = sets.get_mut(key) else {
@@ -130,7 +130,7 @@ pub fn put_value_in(
 ) -> Result<Former, AllocError>
     requires { AreSorted registers.old.entries }
     ensures ok { OnOk result (registers.new.entries
-        ≡ put key_cmp key (put id_cmp id value (or_none (find key_cmp key registers.old.entries)))
+        ≡ put key_cmp key (put id_cmp id value (or_no_entries (find key_cmp key registers.old.entries)))
         registers.old.entries) }
     ensures former { IfOk result (λ former. former ≡ former_of_value key id (find key_cmp key registers.old.entries)) }
     ensures err { OnErr result (registers.new.entries ≡ registers.old.entries) }

@@ -6,17 +6,17 @@ use Rattle.jc_rules.specs.declared.key.Key.{Key}
 use Rattle.jc_rules.specs.declared.key.Tagged.{Tagged}
 use Rattle.jc_rules.specs.Ids.{has_id}
 use Rattle.jc_rules.specs.Context.{Context, presences}
-use Rattle.jc_rules.specs.Shape.{drop}
+use Rattle.jc_rules.specs.WellFormed.{drop}
 use Rattle.jc_rules.specs.State.{State}
 use Rattle.jc_rules.specs.Syntax.{Cmd}
 use Rattle.jc_network.specs.Laws.{IsReached}
 use Rattle.jc_meaning.specs.Seen.{seen, ids_at}
-use Rattle.jc_view.specs.Visible.{Goes, is_alive, goes_by, present, marked, document, visible, view_json}
+use Rattle.jc_view.specs.Visible.{GoesThrough, is_alive, goes_by, present, marked, document, visible, view_json}
 
 -- Empty presence sets show nothing.
 abbrev pub DroppedShowTheSame : Type 0
 DroppedShowTheSame =
-    (names : List (List ℕ)) (goes : Goes) (c : Context) → document names goes (drop c) ≡ document names goes c
+    (names : List (List ℕ)) (goes : GoesThrough) (c : Context) → document names goes (drop c) ≡ document names goes c
 
 -- Replicas that have applied the same operations show the same document, in each network that events lead to.
 abbrev pub ViewsConverge : Type 0

@@ -16,11 +16,11 @@ use Rattle.jc_rules.specs.declared.value.Value.TheVariants as V
 use Rattle.jc_rules.specs.Order.{key_cmp}
 use Rattle.jc_rules.specs.Entries.{find}
 use Rattle.jc_rules.specs.Context.{Context, context, Register, content, presences}
-use Rattle.jc_rules.specs.Places.{node_in, or_empty}
+use Rattle.jc_rules.specs.ContextsAt.{node_in, or_empty}
 use Rattle.jc_tree.specs.Walks.{entry_of}
 use Rattle.jc_view.specs.declared.document.Form.{Form as AnyForm}
 use Rattle.jc_view.specs.declared.document.Form.TheVariants as F
-use Rattle.jc_view.specs.Visible.{Goes, value_json, pair_items, is_alive, present, at_key, marked, map_json, list_json, maps_in, lists_in}
+use Rattle.jc_view.specs.Visible.{GoesThrough, value_json, pair_items, is_alive, present, at_key, marked, map_json, list_json, maps_in, lists_in}
 
 -- These tokens were written, and nothing else.
 pub record Gains (old new : Written) (ts : List Token) : Type 0 where
@@ -28,18 +28,18 @@ pub record Gains (old new : Written) (ts : List Token) : Type 0 where
   pub tokens : new.tokens ≡ old.tokens ++ ts
 
 -- what stands at a key of a context at a path
-abbrev pub shown_at : List (List ℕ) → Goes → List Tagged → Context → Key → Json
-shown_at names goes at (context m l r p n) k =
+abbrev pub parts_shown_at : List (List ℕ) → GoesThrough → List Tagged → Context → Key → Json
+parts_shown_at names goes at (context m l r p n) k =
     at_key names (is_alive goes at (present p)) (maps_in names goes at m) (lists_in names goes at l) r k
 
 -- a context under a tagged key, where the path ends in that
-abbrev pub node_json : List (List ℕ) → Goes → List Tagged → Tagged → Context → Json
+abbrev pub node_json : List (List ℕ) → GoesThrough → List Tagged → Tagged → Context → Json
 node_json names goes at (ListT k) c = list_json names goes at c
 node_json names goes at (MapT k) c = map_json names goes at c
 node_json names goes at (RegT k) c = null
 
 -- whether what stands under the tagged key is shown
-abbrev pub shows_at : Goes → List Tagged → Tagged → Context → Bool
+abbrev pub shows_at : GoesThrough → List Tagged → Tagged → Context → Bool
 shows_at goes at t c = is_some (content t c) && is_alive goes at (present (presences c)) t
 
 -- the one alternative, or all
@@ -89,7 +89,7 @@ has_tag_of V.EmptyList t = is_list t
 has_tag_of v t = is_register t
 
 -- the map or the list under a tagged key of the context at a path
-abbrev pub child_json : List (List ℕ) → Goes → List Tagged → Tagged → Context → Json
+abbrev pub child_json : List (List ℕ) → GoesThrough → List Tagged → Tagged → Context → Json
 child_json names goes at t c = node_json names goes (at ++ t ∷ []) t (or_empty (node_in (content t c)))
 
 abbrev pub if_so : Bool → Json → Option Json

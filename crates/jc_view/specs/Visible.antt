@@ -17,13 +17,13 @@ use Rattle.jc_rules.specs.declared.value.Value.TheVariants as V
 use Rattle.jc_rules.specs.Order.{key_cmp}
 use Rattle.jc_rules.specs.Entries.{find}
 use Rattle.jc_rules.specs.Ids.{has_id}
-use Rattle.jc_rules.specs.Context.{Context, context, Children, no_child, child, Register, key_of}
-use Rattle.jc_rules.specs.Names.{name_at}
-use Rattle.jc_rules.specs.Shape.{is_some_id}
+use Rattle.jc_rules.specs.Context.{Context, context, Children, no_child, child, Register, key_of_tagged}
+use Rattle.jc_rules.specs.ReplicaNames.{name_at}
+use Rattle.jc_rules.specs.WellFormed.{is_some_id}
 use Rattle.jc_rules.specs.State.{State}
 use Rattle.jc_rules.specs.Table.{op_of}
 use Rattle.jc_json.specs.Json.{id_text}
-use Rattle.jc_meaning.specs.Touching.{goes_through}
+use Rattle.jc_meaning.specs.Effects.{goes_through}
 use Rattle.jc_meaning.specs.Seen.{ids_of_some}
 use Rattle.jc_meaning.specs.Meaning.{holds_of}
 
@@ -88,17 +88,17 @@ at_key names alive ms ls rs k =
 -- ---- what is alive
 
 -- whether the operation with an identifier goes through a tagged key of the context at a path, or makes it
-abbrev pub Goes : Type 0
-Goes = Id → List Tagged → Tagged → Bool
+abbrev pub GoesThrough : Type 0
+GoesThrough = Id → List Tagged → Tagged → Bool
 
-abbrev pub some_goes : Goes → List Tagged → Tagged → List Id → Bool
+abbrev pub some_goes : GoesThrough → List Tagged → Tagged → List Id → Bool
 some_goes goes at t [] = false
 some_goes goes at t (i ∷ is) = goes i at t || some_goes goes at t is
 
 -- A map or a list is alive where an operation whose identifier is in the presence set of its key goes through it, or
 -- makes it.
-abbrev pub is_alive : Goes → List Tagged → List (Key × List Id) → Tagged → Bool
-is_alive goes at p t = some_goes goes at t (ids_of_some (find key_cmp (key_of t) p))
+abbrev pub is_alive : GoesThrough → List Tagged → List (Key × List Id) → Tagged → Bool
+is_alive goes at p t = some_goes goes at t (ids_of_some (find key_cmp (key_of_tagged t) p))
 
 abbrev pub made_or : Option Op → Option Op → Option Op
 made_or None o = o
@@ -108,7 +108,7 @@ made_or (Some o) p = Some o
 abbrev pub applied_op : State → Id → Option Op
 applied_op A i = cond (has_id i A.ops) (made_or (op_of i A.queue) (op_of i A.recv)) None
 
-abbrev pub goes_by : State → Goes
+abbrev pub goes_by : State → GoesThrough
 goes_by A i at t = holds_of (λ o. goes_through o at t) (applied_op A i)
 
 -- ---- maps, lists, the document
@@ -138,31 +138,31 @@ elements_after zero k n = []
 elements_after (suc most) k n = followed (find key_cmp k n) (λ i. elements_after most (Elem i) n)
 
 -- the elements that are present, each with what stands there
-abbrev pub items_at : (Key → Json) → List (Key × List Id) → List Id → Items
-items_at show p [] = no_items
-items_at show p (i ∷ is) =
-    cond (is_some (find key_cmp (Elem i) p)) (item (show (Elem i)) (items_at show p is)) (items_at show p is)
+abbrev pub visible_items_at : (Key → Json) → List (Key × List Id) → List Id → Items
+visible_items_at show p [] = no_items
+visible_items_at show p (i ∷ is) =
+    cond (is_some (find key_cmp (Elem i) p)) (item (show (Elem i)) (visible_items_at show p is)) (visible_items_at show p is)
 
 -- the map, or the list, that a context at a path is
 abbrev mutual
-  pub map_json : List (List ℕ) → Goes → List Tagged → Context → Json
+  pub map_json : List (List ℕ) → GoesThrough → List Tagged → Context → Json
   map_json names goes at (context m l r p n) =
       object (members_at (at_key names (is_alive goes at (present p)) (maps_in names goes at m) (lists_in names goes at l) r) (present p))
 
-  pub list_json : List (List ℕ) → Goes → List Tagged → Context → Json
+  pub list_json : List (List ℕ) → GoesThrough → List Tagged → Context → Json
   list_json names goes at (context m l r p n) =
-      array (items_at (at_key names (is_alive goes at (present p)) (maps_in names goes at m) (lists_in names goes at l) r) (present p) (elements_after (length n) Head n))
+      array (visible_items_at (at_key names (is_alive goes at (present p)) (maps_in names goes at m) (lists_in names goes at l) r) (present p) (elements_after (length n) Head n))
 
-  pub maps_in : List (List ℕ) → Goes → List Tagged → Children → List (Key × Json)
+  pub maps_in : List (List ℕ) → GoesThrough → List Tagged → Children → List (Key × Json)
   maps_in names goes at no_child = []
   maps_in names goes at (child k c cs) = (k, map_json names goes (at ++ MapT k ∷ []) c) ∷ maps_in names goes at cs
 
-  pub lists_in : List (List ℕ) → Goes → List Tagged → Children → List (Key × Json)
+  pub lists_in : List (List ℕ) → GoesThrough → List Tagged → Children → List (Key × Json)
   lists_in names goes at no_child = []
   lists_in names goes at (child k c cs) = (k, list_json names goes (at ++ ListT k ∷ []) c) ∷ lists_in names goes at cs
 
 -- the document of a tree, if there is one
-abbrev pub document : List (List ℕ) → Goes → Context → Option Json
+abbrev pub document : List (List ℕ) → GoesThrough → Context → Option Json
 document names goes (context m l r p n) =
     cond (is_some (find key_cmp Doc (present p)))
     (Some (at_key names (is_alive goes [] (present p)) (maps_in names goes [] m) (lists_in names goes [] l) r Doc))

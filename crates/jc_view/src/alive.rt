@@ -3,7 +3,7 @@
 ghost use Rattle.std.specs.Prelude.{◌≡◌, option_copied};
 ghost use Rattle.jc_rules.specs.Table.{op_of};
 ghost use Rattle.jc_replica.specs.Operations.{AreInOrder};
-ghost use Rattle.jc_meaning.specs.Touching.{target, value_in, made, passed, goes_through};
+ghost use Rattle.jc_meaning.specs.Effects.{target, value_in, is_made_by, passed, goes_through};
 ghost use Rattle.jc_rules.specs.Order.{same_key};
 ghost use Rattle.jc_view.specs.Visible.{applied_op, goes_by, some_goes};
 ghost use Rattle.jc_view.specs.Parts.{has_tag_of};
@@ -60,7 +60,7 @@ fn has_tag_of(value: &Value, tagged: &Tagged) -> bool
 
 /// Whether the operation makes the tagged key, where its path ends.
 fn makes(op: &Op, tagged: &Tagged) -> bool
-    ensures { result ≡ made (value_in op.now.mutation) (target op.now) tagged.now }
+    ensures { result ≡ is_made_by (value_in op.now.mutation) (target op.now) tagged.now }
 {
     match &op.mutation {
         Mutation::Assign(value) => has_tag_of(value, tagged) && is_target(op, tagged.key()),

@@ -12,10 +12,10 @@ ghost use Rattle.jc_rules.specs.Context.{content, presences, registers, next as 
 ghost use Rattle.jc_rules.specs.Entries.{find};
 ghost use Rattle.jc_rules.specs.Order.{key_cmp};
 ghost use Rattle.jc_rules.specs.Paths.{HasContext};
-ghost use Rattle.jc_rules.specs.Shape.{IsChained};
+ghost use Rattle.jc_rules.specs.WellFormed.{IsChained};
 ghost use Rattle.jc_tree.specs.Tree.{HasPlace, here};
 ghost use Rattle.jc_view.specs.Visible.{goes_by, marked, or_no_value, parts_json, present, map_json, list_json, view_line};
-ghost use Rattle.jc_view.specs.Parts.{Gains, shown_at, child_json, shows_at, form_of, member_of, item_of, part_tokens, values_tokens, first_tokens, is_list, if_so};
+ghost use Rattle.jc_view.specs.Parts.{Gains, parts_shown_at, child_json, shows_at, form_of, member_of, item_of, part_tokens, values_tokens, first_tokens, is_list, if_so};
 
 use crate::alive::is_alive;
 use crate::values::{write_pairs, write_value};
@@ -288,7 +288,7 @@ fn write_place<S: TreeStore>(
     requires there { HasPlace at.old.items (S.tree store.now) }
     requires chained { IsChained (S.tree store.now).now }
     ensures written { OnOk result (Gains out.old out.new
-        (json_tokens (shown_at names.now (goes_by replica.now.now) at.old.items
+        (json_tokens (parts_shown_at names.now (goes_by replica.now.now) at.old.items
         (here at.old.items (S.tree store.now)) key.now))) }
     ensures place { OnOk result (at.new.items ≡ at.old.items) }
 {
@@ -332,7 +332,7 @@ fn write_member<S: TreeStore>(
     requires there { HasPlace at.old.items (S.tree store.now) }
     requires chained { IsChained (S.tree store.now).now }
     ensures written { OnOk result (Gains out.old out.new
-        (member_of (shown_at names.now (goes_by replica.now.now) at.old.items (here at.old.items (S.tree store.now))) key.now
+        (member_of (parts_shown_at names.now (goes_by replica.now.now) at.old.items (here at.old.items (S.tree store.now))) key.now
         (here at.old.items (S.tree store.now)))) }
     ensures place { OnOk result (at.new.items ≡ at.old.items) }
 {
@@ -359,7 +359,7 @@ fn write_item<S: TreeStore>(
     requires there { HasPlace at.old.items (S.tree store.now) }
     requires chained { IsChained (S.tree store.now).now }
     ensures written { OnOk result (Gains out.old out.new
-        (item_of (shown_at names.now (goes_by replica.now.now) at.old.items (here at.old.items (S.tree store.now))) key.now
+        (item_of (parts_shown_at names.now (goes_by replica.now.now) at.old.items (here at.old.items (S.tree store.now))) key.now
         (here at.old.items (S.tree store.now)))) }
     ensures place { OnOk result (at.new.items ≡ at.old.items) }
 {
@@ -432,7 +432,7 @@ fn write_document<S: TreeStore>(
     requires { IsChained (S.tree store.now).now }
     ensures { OnOk result (Gains out.old out.new
         (part_tokens (codes "doc") (is_some (find key_cmp Doc (present (presences (S.tree store.now).now))))
-        (shown_at names.now (goes_by replica.now.now) [] (S.tree store.now).now Doc))) }
+        (parts_shown_at names.now (goes_by replica.now.now) [] (S.tree store.now).now Doc))) }
 {
     let mut at = Vec::new(alloc);
     if is_present(store, at.as_slice(), &Key::Doc) {

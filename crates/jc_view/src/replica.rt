@@ -1,7 +1,7 @@
 //! The line of a network's replica.
 
 ghost use Rattle.std.specs.Prelude.{◌≡◌, ◌≤◌, ◌↔◌, Some, length, slice_get, IfOk, IsErrOf};
-ghost use Rattle.jc_rules.specs.Names.{name_at};
+ghost use Rattle.jc_rules.specs.ReplicaNames.{name_at};
 ghost use Rattle.jc_rules.specs.State.{State};
 ghost use Rattle.jc_network.specs.declared.fault.CompareFault.TheVariants as E;
 ghost use Rattle.jc_view.specs.Visible.{view_line};

@@ -4,15 +4,15 @@ use Rattle.jc_rules.specs.declared.rule.Rule.TheVariants as R
 use Rattle.jc_rules.specs.Context.{Context}
 use Rattle.jc_rules.specs.Derivation.{Operate}
 use Rattle.jc_rules.specs.Table.{moved}
-use Rattle.jc_rules.specs.Trace.{Rows, pushed, below, at_depth}
+use Rattle.jc_rules.specs.Trace.{Rows, pushed, one_deeper, at_depth}
 use Rattle.jc_tree.specs.Tree.{HasPlace, here}
-use Rattle.jc_tree.proofs.GoingBack.{then, rule_opened, rows_added, depth_changed}
+use Rattle.jc_tree.proofs.CanGoBackLemmas.{then, rule_opened, rows_added, depth_changed}
 use Rattle.jc_apply.specs.Fits.{Fits}
-use Rattle.jc_apply.specs.Leads.{Leads}
-use Rattle.jc_apply.proofs.Descending.{way, place_added, child_added, child_place, child_here, descended}
-use Rattle.jc_apply.proofs.Below.{fits_below}
-use Rattle.jc_apply.proofs.Links.{none_then, only_after}
-use Rattle.jc_apply.proofs.Rules.{only_tree}
+use Rattle.jc_apply.specs.AppliesAlong.{LeadsTo}
+use Rattle.jc_apply.proofs.DescendLemmas.{way, place_added, child_added, child_place, child_here, descended}
+use Rattle.jc_apply.proofs.FitsBelowLemmas.{fits_below}
+use Rattle.jc_apply.proofs.LinksLemmas.{none_then, only_after}
+use Rattle.jc_apply.proofs.ApplyRulesLemmas.{only_tree}
 use Rattle.jc_apply.proofs.apply.+operate.Goals as goal
 
 pub add_op-requires : goal.add_op-requires
@@ -45,18 +45,18 @@ operate-requires g t c κs h =
     let still = place_added c.index-path-depth.result c.args.op.now.id c.args.op.now.mutation c.in_ok-was.was' (take c.args.depth c.as_slice-path.result.now) (g.S.TreeStore.tree c.args.store.now) (g.S.TreeStore.tree c.add_op.new.store) place c.in_ok-was.ensures.ok in
     let entered = c.in_ok-child.ensures.ok in
     let is = child_added c.index-path-depth.result c.args.op.now.id c.args.op.now.mutation c.in_ok-was.was' (take c.args.depth c.as_slice-path.result.now) tree (g.S.TreeStore.tree c.add_op.new.store) (g.S.TreeStore.tree c.enter_below.new.store) c.open.new.self c.enter_below.new.trace place c.in_ok-was.ensures.ok entered in
-    let below : here (take (c.args.depth + 1) c.args.op.now.cursor.path) (g.S.TreeStore.tree c.enter_below.new.store) ≡ entered.below = child_here _ _ _ _ _ _ _ still fits.context w.down entered in
+    let one_deeper : here (take (c.args.depth + 1) c.args.op.now.cursor.path) (g.S.TreeStore.tree c.enter_below.new.store) ≡ entered.below = child_here _ _ _ _ _ _ _ still fits.context w.down entered in
     let named = subst (λ (p : List Tagged). g.S.TreeStore.names c.enter_below.new.store c.in_ok-child.child p) (sym w.down) c.in_ok-child.ensures.named in
     let chained = c.in_ok-child.ensures.links.chained (c.in_ok-was.ensures.links.chained c.requires.chained) in
     let fresh = c.in_ok-child.ensures.links.unlinked c.args.op.now.id (c.in_ok-was.ensures.links.unlinked c.args.op.now.id c.requires.fresh) in
-    let fit = subst (λ (x : Context). Fits x (drop (c.args.depth + 1) c.args.op.now.cursor.path) c.args.op.now.cursor.last c.args.op.now.mutation) (sym below) (fits.fits entered.below is) in
+    let fit = subst (λ (x : Context). Fits x (drop (c.args.depth + 1) c.args.op.now.cursor.path) c.args.op.now.cursor.last c.args.op.now.mutation) (sym one_deeper) (fits.fits entered.below is) in
     (omega (arith, within), (h, (omega (arith, within), (child_place _ _ _ _ _ _ _ still fits.context w.down entered, (named, (chained, (fresh, fit)))))))
 
 pub close-requires : goal.close-requires
 close-requires g t c =
     let added = c.in_ok-was.ensures.ok in
-    let told = c.in_ok-tell_added.ensures.ok c.index-path-depth.result c.args.op.now.id c.args.op.now.mutation (here (take c.args.depth c.as_slice-path.result.now) (g.S.TreeStore.tree c.args.store.now)) added.after added.added in
-    omega (arith, c.depth-above.ensures, ap (λ (r : Rows). r.depth) {x = c.open.new.self} {y = below (pushed c.args.trace.now R.Descend)} c.in_ok-open.ensures.ok, c.in_ok-child.ensures.ok.derives.depth, c.in_ok-operate.ensures.ok.derives.depth, told.depth)
+    let told = c.in_ok-trace_added.ensures.ok c.index-path-depth.result c.args.op.now.id c.args.op.now.mutation (here (take c.args.depth c.as_slice-path.result.now) (g.S.TreeStore.tree c.args.store.now)) added.after added.added in
+    omega (arith, c.depth-above.ensures, ap (λ (r : Rows). r.depth) {x = c.open.new.self} {y = one_deeper (pushed c.args.trace.now R.Descend)} c.in_ok-open.ensures.ok, c.in_ok-child.ensures.ok.derives.depth, c.in_ok-operate.ensures.ok.derives.depth, told.depth)
 
 pub returns-clause-ok : goal.returns-clause-ok
 returns-clause-ok g t c =
@@ -65,12 +65,12 @@ returns-clause-ok g t c =
     let tree = g.S.TreeStore.tree c.args.store.now in
     let place : HasPlace (take c.args.depth c.as_slice-path.result.now) tree = subst (λ (p : List Tagged). HasPlace p tree) (sym w.at) c.requires.there in
     let context = (fits_below c.index-path-depth.result (here (take c.args.depth c.args.op.now.cursor.path) (g.S.TreeStore.tree c.args.store.now)) (drop c.args.depth c.args.op.now.cursor.path) (drop (c.args.depth + 1) c.args.op.now.cursor.path) c.args.op.now.cursor.last c.args.op.now.mutation w.rest c.requires.fits).context in
-    let done = descended c.args.op.now c.index-path-depth.result _ (take (c.args.depth + 1) c.args.op.now.cursor.path) (drop c.args.depth c.args.op.now.cursor.path) (drop (c.args.depth + 1) c.args.op.now.cursor.path) _ _ _ _ _ _ _ _ _ _ _ place context w.down w.rest c.in_ok-open.ensures.ok c.in_ok-was.ensures.ok c.in_ok-child.ensures.ok c.in_ok-operate.ensures.ok c.in_ok-tell_added.ensures.ok (c.close.ensures ∙ ap (λ (n : ℕ). at_depth n c.tell_added.new.trace) c.depth-above.ensures) in
-    subst (λ (p : List Tagged). Leads (λ x. Operate x (moved c.args.op.now (drop c.args.depth c.args.op.now.cursor.path) c.args.op.now.cursor.last c.args.op.now.mutation)) p tree (g.S.TreeStore.tree c.operate.new.store) c.args.trace.now c.close.new.self) w.at done
+    let done = descended c.args.op.now c.index-path-depth.result _ (take (c.args.depth + 1) c.args.op.now.cursor.path) (drop c.args.depth c.args.op.now.cursor.path) (drop (c.args.depth + 1) c.args.op.now.cursor.path) _ _ _ _ _ _ _ _ _ _ _ place context w.down w.rest c.in_ok-open.ensures.ok c.in_ok-was.ensures.ok c.in_ok-child.ensures.ok c.in_ok-operate.ensures.ok c.in_ok-trace_added.ensures.ok (c.close.ensures ∙ ap (λ (n : ℕ). at_depth n c.trace_added.new.trace) c.depth-above.ensures) in
+    subst (λ (p : List Tagged). LeadsTo (λ x. Operate x (moved c.args.op.now (drop c.args.depth c.args.op.now.cursor.path) c.args.op.now.cursor.last c.args.op.now.mutation)) p tree (g.S.TreeStore.tree c.operate.new.store) c.args.trace.now c.close.new.self) w.at done
 
 pub returns-clause-links : goal.returns-clause-links
 returns-clause-links g t c = only_after _ _ _ _ _ (none_then _ _ _ _ c.in_ok-was.ensures.links c.in_ok-child.ensures.links) c.in_ok-operate.ensures.links
 
 pub returns-clause-kept : goal.returns-clause-kept
 returns-clause-kept g t c =
-    then _ _ _ _ _ _ (rule_opened _ _ _ _ R.Descend refl c.in_ok-open.ensures.ok) (then _ _ _ _ _ _ (only_tree _ _ _ _ c.in_ok-was.ensures.kept refl) (then _ _ _ _ _ _ c.in_ok-child.ensures.kept (then _ _ _ _ _ _ c.in_ok-operate.ensures.kept (then _ _ _ _ _ _ (rows_added _ _ _ _ refl c.in_ok-tell_added.ensures.kept) (depth_changed _ _ _ _ _ refl c.close.ensures)))))
+    then _ _ _ _ _ _ (rule_opened _ _ _ _ R.Descend refl c.in_ok-open.ensures.ok) (then _ _ _ _ _ _ (only_tree _ _ _ _ c.in_ok-was.ensures.kept refl) (then _ _ _ _ _ _ c.in_ok-child.ensures.kept (then _ _ _ _ _ _ c.in_ok-operate.ensures.kept (then _ _ _ _ _ _ (rows_added _ _ _ _ refl c.in_ok-trace_added.ensures.kept) (depth_changed _ _ _ _ _ refl c.close.ensures)))))

@@ -1,6 +1,6 @@
-use Rattle.jc_tree.proofs.History.{later_changed}
-use Rattle.jc_apply.proofs.Links.{none_presence}
-use Rattle.jc_apply.proofs.Rules.{adds, adds_none}
+use Rattle.jc_tree.proofs.HistoryLemmas.{later_changed}
+use Rattle.jc_apply.proofs.LinksLemmas.{none_presence}
+use Rattle.jc_apply.proofs.ApplyRulesLemmas.{adds, adds_none}
 use Rattle.jc_apply.proofs.apply.add_op.Goals as goal
 
 pub returns-in-Delete-clause-ok : goal.returns-in-Delete-clause-ok

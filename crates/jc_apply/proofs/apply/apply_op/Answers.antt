@@ -1,8 +1,8 @@
 use Rattle.std.proofs.Common.{refl, rules}
 use Rattle.jc_rules.specs.Derivation.{Operate, ToContext}
 use Rattle.jc_rules.specs.Derives.{Derives}
-use Rattle.jc_sets.specs.Members.{with_deps}
-use Rattle.jc_sets.proofs.Alike.{operate_stands}
+use Rattle.jc_vectors.specs.OperationIds.{with_deps}
+use Rattle.jc_vectors.proofs.LawsLemmas.{operate_stands}
 use Rattle.jc_apply.proofs.apply.apply_op.Goals as goal
 
 pub returns-then-not-fits-clause-no_answer : goal.returns-then-not-fits-clause-no_answer

@@ -1,7 +1,7 @@
 use Rattle.std.proofs.Common.{ℕ, ◌∙◌, ap}
 use Rattle.jc_rules.specs.Trace.{at_depth}
-use Rattle.jc_apply.proofs.Rules.{deleted}
-use Rattle.jc_apply.proofs.Links.{none_cleared}
+use Rattle.jc_apply.proofs.ApplyRulesLemmas.{deleted}
+use Rattle.jc_apply.proofs.LinksLemmas.{none_cleared}
 use Rattle.jc_apply.proofs.apply.delete.Goals as goal
 
 pub returns-clause-ok : goal.returns-clause-ok

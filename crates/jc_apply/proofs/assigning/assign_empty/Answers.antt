@@ -1,10 +1,10 @@
 use Rattle.std.proofs.Common.{ℕ, refl, sym, ◌∙◌, ap, arith}
 use Rattle.jc_rules.specs.declared.operation.Mutation.TheVariants.{Assign}
 use Rattle.jc_rules.specs.Trace.{Rows, at_depth}
-use Rattle.jc_tree.proofs.GoingBack.{then, rule_opened, depth_changed}
+use Rattle.jc_tree.proofs.CanGoBackLemmas.{then, rule_opened, depth_changed}
 use Rattle.jc_apply.specs.Fits.{empty_of}
-use Rattle.jc_apply.proofs.Rules.{emptied, adds_assigned, after_clear, after_lead}
-use Rattle.jc_apply.proofs.Links.{none_cleared, none_then}
+use Rattle.jc_apply.proofs.ApplyRulesLemmas.{emptied, adds_assigned, after_clear, after_lead}
+use Rattle.jc_apply.proofs.LinksLemmas.{none_cleared, none_then}
 use Rattle.jc_apply.proofs.assigning.assign_empty.Goals as goal
 
 pub add_id-requires : goal.add_id-requires

@@ -4,9 +4,9 @@ use Rattle.jc_rules.specs.declared.operation.Mutation.TheVariants.{Assign}
 use Rattle.jc_rules.specs.declared.rule.Rule.TheVariants as R
 use Rattle.jc_rules.specs.Trace.{Rows, at_depth}
 use Rattle.jc_tree.specs.Tree.{here}
-use Rattle.jc_tree.proofs.GoingBack.{nothing, then, rule_opened, rule_added, tree_changed, depth_changed}
-use Rattle.jc_apply.proofs.Rules.{assigned, adds_assigned, after_clear, after_lead}
-use Rattle.jc_apply.proofs.Links.{none_cleared, none_register, none_then}
+use Rattle.jc_tree.proofs.CanGoBackLemmas.{nothing, then, rule_opened, rule_added, tree_changed, depth_changed}
+use Rattle.jc_apply.proofs.ApplyRulesLemmas.{assigned, adds_assigned, after_clear, after_lead}
+use Rattle.jc_apply.proofs.LinksLemmas.{none_cleared, none_register, none_then}
 use Rattle.jc_apply.proofs.assigning.assign_primitive.Goals as goal
 
 pub add_id-requires : goal.add_id-requires

@@ -1,4 +1,4 @@
-use Rattle.jc_apply.proofs.Rules.{empties_map, empties_list}
+use Rattle.jc_apply.proofs.ApplyRulesLemmas.{empties_map, empties_list}
 use Rattle.jc_apply.proofs.assigning.empty_rule.Goals as goal
 
 pub returns-in-MapT : goal.returns-in-MapT

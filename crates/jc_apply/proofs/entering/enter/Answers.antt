@@ -1,10 +1,10 @@
 use Rattle.std.proofs.Common.{◌≡◌, None, sym, refl}
 use Rattle.jc_rules.specs.Context.{content}
 use Rattle.jc_tree.specs.Tree.{here}
-use Rattle.jc_tree.proofs.GoingBack.{then, rule_added, tree_changed}
-use Rattle.jc_tree.proofs.Places.{none_found}
-use Rattle.jc_apply.proofs.Rules.{entered_there, entered_new}
-use Rattle.jc_apply.proofs.Links.{links_none, none_child}
+use Rattle.jc_tree.proofs.CanGoBackLemmas.{then, rule_added, tree_changed}
+use Rattle.jc_tree.proofs.PlacesLemmas.{none_found}
+use Rattle.jc_apply.proofs.ApplyRulesLemmas.{entered_there, entered_new}
+use Rattle.jc_apply.proofs.LinksLemmas.{links_none, none_child}
 use Rattle.jc_apply.proofs.entering.enter.Goals as goal
 
 pub returns-in_ok-push-clause-ok : goal.returns-in_ok-push-clause-ok

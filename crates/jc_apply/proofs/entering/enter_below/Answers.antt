@@ -1,10 +1,10 @@
 use Rattle.std.proofs.Common.{◌≡◌, None, sym, refl, ◌∙◌}
 use Rattle.jc_rules.specs.Context.{content}
 use Rattle.jc_tree.specs.Tree.{here}
-use Rattle.jc_tree.proofs.GoingBack.{then, rule_added}
-use Rattle.jc_tree.proofs.Places.{none_found, some_content}
-use Rattle.jc_apply.proofs.Rules.{entered_there, entered_new, on_ok, tree_or_refused}
-use Rattle.jc_apply.proofs.Links.{none_child}
+use Rattle.jc_tree.proofs.CanGoBackLemmas.{then, rule_added}
+use Rattle.jc_tree.proofs.PlacesLemmas.{none_found, some_content}
+use Rattle.jc_apply.proofs.ApplyRulesLemmas.{entered_there, entered_new, on_ok, tree_or_refused}
+use Rattle.jc_apply.proofs.LinksLemmas.{none_child}
 use Rattle.jc_apply.proofs.entering.enter_below.Goals as goal
 
 pub returns-in-Some-clause-ok : goal.returns-in-Some-clause-ok

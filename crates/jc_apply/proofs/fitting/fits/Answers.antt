@@ -1,7 +1,7 @@
 use Rattle.std.proofs.Common.{◌+◌, true, take, refl, sym, ◌∙◌, ap, is_some}
 use Rattle.jc_tree.specs.declared.store.Place.{Place}
-use Rattle.jc_apply.proofs.Reaching.{key_on, walked_there, walked_new, named_there, named_none, insert_there, insert_new, other_fits}
-use Rattle.jc_apply.proofs.Unanswered.{told}
+use Rattle.jc_apply.proofs.ReachLemmas.{key_on, walked_there, walked_new, named_there, named_none, insert_there, insert_new, other_fits}
+use Rattle.jc_apply.proofs.FitsRefusedLemmas.{told}
 use Rattle.jc_apply.proofs.fitting.fits.Goals as goal
 use Rattle.jc_apply.proofs.fitting.fits.Goals.{in-Some, in_default}
 

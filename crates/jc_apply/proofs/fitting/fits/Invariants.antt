@@ -1,6 +1,6 @@
 use Rattle.std.proofs.Common.{take, is_some}
 use Rattle.std.specs.Prelude.{IfSome}
-use Rattle.jc_apply.proofs.Reaching.{Walked}
+use Rattle.jc_apply.proofs.ReachLemmas.{Walked}
 use Rattle.jc_apply.proofs.fitting.fits.Given as goal
 
 abbrev pub invariant-loop-depth : goal.invariant-loop-depth

@@ -1,10 +1,10 @@
 use Rattle.std.proofs.Common.{ℕ, refl, ◌∙◌, ap, arith}
 use Rattle.jc_rules.specs.declared.rule.Rule.TheVariants as R
 use Rattle.jc_rules.specs.Trace.{Rows, at_depth}
-use Rattle.jc_tree.proofs.Changed.{still_place}
-use Rattle.jc_tree.proofs.GoingBack.{then, nothing, rule_opened, rows_added, tree_changed, depth_changed}
-use Rattle.jc_apply.proofs.Rules.{after_lead}
-use Rattle.jc_apply.proofs.Passing.{inserted, linked_only}
+use Rattle.jc_tree.proofs.TreeLemmas.{still_place}
+use Rattle.jc_tree.proofs.CanGoBackLemmas.{then, nothing, rule_opened, rows_added, tree_changed, depth_changed}
+use Rattle.jc_apply.proofs.ApplyRulesLemmas.{after_lead}
+use Rattle.jc_apply.proofs.InsertLemmas.{inserted, linked_only}
 use Rattle.jc_apply.proofs.inserting.insert.Goals as goal
 
 pub set_next-requires : goal.set_next-requires

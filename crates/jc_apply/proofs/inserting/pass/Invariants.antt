@@ -1,8 +1,8 @@
 use Rattle.std.proofs.Common.{Some, length}
 use Rattle.jc_rules.specs.Context.{links}
 use Rattle.jc_tree.specs.Tree.{here}
-use Rattle.jc_clear.proofs.Lists.{steps}
-use Rattle.jc_apply.proofs.Passing.{Passing}
+use Rattle.jc_clear.proofs.ClearListLemmas.{steps}
+use Rattle.jc_apply.proofs.InsertLemmas.{Passing}
 use Rattle.jc_apply.proofs.inserting.pass.Given as goal
 
 abbrev pub invariant-loop-id : goal.invariant-loop-id

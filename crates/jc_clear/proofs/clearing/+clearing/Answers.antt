@@ -7,12 +7,12 @@ use Rattle.jc_rules.specs.Context.{keys}
 use Rattle.jc_rules.specs.Table.{after}
 use Rattle.jc_rules.specs.Trace.{Rows, at_depth}
 use Rattle.jc_tree.specs.Tree.{here, least_after}
-use Rattle.jc_clear.proofs.Bare.{below-list}
-use Rattle.jc_tree.proofs.GoingBack.{nothing, then, rule_opened, rule_added, rows_added, tree_changed, depth_changed}
-use Rattle.jc_clear.proofs.Lists.{first_along, after_along, along_finds, along_on, last_along}
-use Rattle.jc_clear.proofs.Maps.{first_through, after_through, through_on, last_through}
-use Rattle.jc_tree.proofs.Places.{none_found}
-use Rattle.jc_clear.proofs.Rules.{after_call, clear_none, clear_elem, rises_left, clear_any, down_map, down_list, map_cleared, list_cleared}
+use Rattle.jc_clear.proofs.BareLemmas.{below-list}
+use Rattle.jc_tree.proofs.CanGoBackLemmas.{nothing, then, rule_opened, rule_added, rows_added, tree_changed, depth_changed}
+use Rattle.jc_clear.proofs.ClearListLemmas.{first_along, after_along, along_finds, along_on, last_along}
+use Rattle.jc_clear.proofs.ClearMapLemmas.{first_through, after_through, through_on, last_through}
+use Rattle.jc_tree.proofs.PlacesLemmas.{none_found}
+use Rattle.jc_clear.proofs.ClearRulesLemmas.{after_call, clear_none, clear_elem, rises_left, clear_any, down_map, down_list, map_cleared, list_cleared}
 use Rattle.jc_clear.proofs.clearing.+clearing.Goals.{list_in-in-Tail, list_in-in-Elem}
 use Rattle.jc_clear.proofs.clearing.+clearing.Goals as goal
 

@@ -2,9 +2,9 @@ use Rattle.std.proofs.Common.{◌≡◌, ◌+◌, ◌*◌, length}
 use Rattle.jc_rules.specs.Context.{links}
 use Rattle.jc_tree.specs.Tree.{here}
 use Rattle.jc_tree.specs.Nested.{nested}
-use Rattle.jc_tree.specs.CanGoBack.{CanGoBack}
-use Rattle.jc_clear.proofs.Lists.{Along, steps}
-use Rattle.jc_clear.proofs.Maps.{Through, left_after}
+use Rattle.jc_tree.specs.CanGoBack.{TreeCanGoBack}
+use Rattle.jc_clear.proofs.ClearListLemmas.{Along, steps}
+use Rattle.jc_clear.proofs.ClearMapLemmas.{Through, left_after}
 use Rattle.jc_clear.proofs.clearing.+clearing.Given as goal
 
 abbrev pub decreases-elem_in : goal.decreases-elem_in
@@ -29,7 +29,7 @@ abbrev pub invariant-map_in-loop-key : goal.invariant-map_in-loop-key
 invariant-map_in-loop-key g l = record {
   through : Through l.deps l.initial.at.items (g.S.TreeStore.tree l.initial.store) l.initial.trace (g.S.TreeStore.tree l.store) l.last l.ids.items l.trace;
   path : l.at.items ≡ l.initial.at.items;
-  kept : CanGoBack (g.S.TreeStore.tree l.initial.store) (g.S.TreeStore.tree l.store) l.initial.trace l.trace;
+  kept : TreeCanGoBack (g.S.TreeStore.tree l.initial.store) (g.S.TreeStore.tree l.store) l.initial.trace l.trace;
 }
 
 abbrev pub decreases-map_in-loop-key : goal.decreases-map_in-loop-key
@@ -39,7 +39,7 @@ abbrev pub invariant-list_in-loop-place : goal.invariant-list_in-loop-place
 invariant-list_in-loop-place g l = record {
   along : Along l.deps l.initial.at.items (g.S.TreeStore.tree l.initial.store) l.initial.trace (g.S.TreeStore.tree l.store) l.place l.ids.items l.trace;
   path : l.at.items ≡ l.initial.at.items;
-  kept : CanGoBack (g.S.TreeStore.tree l.initial.store) (g.S.TreeStore.tree l.store) l.initial.trace l.trace;
+  kept : TreeCanGoBack (g.S.TreeStore.tree l.initial.store) (g.S.TreeStore.tree l.store) l.initial.trace l.trace;
 }
 
 abbrev pub decreases-list_in-loop-place : goal.decreases-list_in-loop-place

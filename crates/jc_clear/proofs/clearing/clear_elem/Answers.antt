@@ -1,12 +1,12 @@
 use Rattle.std.proofs.Common.{List, subst}
 use Rattle.jc_rules.specs.declared.key.Tagged.{Tagged}
 use Rattle.jc_rules.specs.Derivation.{ClearElem}
-use Rattle.jc_sets.proofs.Alike.{clear_elem_stands}
+use Rattle.jc_vectors.proofs.LawsLemmas.{clear_elem_stands}
 use Rattle.jc_tree.specs.Tree.{HasPlace}
-use Rattle.jc_tree.proofs.GoingBack.{gone_back}
+use Rattle.jc_tree.proofs.CanGoBackLemmas.{gone_back}
 use Rattle.jc_clear.specs.Clears.{Clears}
-use Rattle.jc_clear.proofs.Places.{chained_here, still_chained}
-use Rattle.jc_clear.proofs.Standing.{cleared_for}
+use Rattle.jc_clear.proofs.ClearsBelowLemmas.{chained_here, still_chained}
+use Rattle.jc_clear.proofs.ClearRepresentsLemmas.{cleared_for}
 use Rattle.jc_clear.proofs.clearing.clear_elem.Goals as goal
 
 pub elem_in-requires-clause-chained : goal.elem_in-requires-clause-chained

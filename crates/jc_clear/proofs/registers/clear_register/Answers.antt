@@ -2,11 +2,11 @@ use Rattle.std.proofs.Common.{◌∙◌, ap, sym, refl}
 use Rattle.jc_rules.specs.declared.rule.Rule.TheVariants as R
 use Rattle.jc_rules.specs.Entries.{keys_of}
 use Rattle.jc_rules.specs.Context.{Register}
-use Rattle.jc_rules.specs.Shape.{IsKeptRegister}
-use Rattle.jc_tree.proofs.GoingBack.{then, rule_added, tree_changed}
-use Rattle.jc_tree.proofs.Pairs.{register_left}
-use Rattle.jc_tree.proofs.Keeping.{register_kept}
-use Rattle.jc_clear.proofs.Rules.{no_register, clear_values}
+use Rattle.jc_rules.specs.WellFormed.{IsWellFormedRegister}
+use Rattle.jc_tree.proofs.CanGoBackLemmas.{then, rule_added, tree_changed}
+use Rattle.jc_tree.proofs.RegistersLemmas.{register_left}
+use Rattle.jc_tree.proofs.WellFormedLemmas.{register_kept}
+use Rattle.jc_clear.proofs.ClearRulesLemmas.{no_register, clear_values}
 use Rattle.jc_clear.proofs.registers.clear_register.Goals as goal
 
 pub set_register-requires-clause-kept : goal.set_register-requires-clause-kept
@@ -19,7 +19,7 @@ returns-in_ok-push-in-None-clause-ok g c =
 
 pub returns-in_ok-set_register-in-Some-clause-ok : goal.returns-in_ok-set_register-in-Some-clause-ok
 returns-in_ok-set_register-in-Some-clause-ok g c =
-    let left : IsKeptRegister c.in_ok-left-in-Some.left.items = register_left c.args.deps.now c.in-Some.pairs.now _ (register_kept c.args.at.now c.args.key.now c.in-Some.pairs.now _ (g.S.TreeStore.tree c.args.store.now).now (g.met.S.TreeStore.kept c.args.store.now) c.requires (sym c.in-Some.ensures) refl) c.in_ok-left-in-Some.ensures in
+    let left : IsWellFormedRegister c.in_ok-left-in-Some.left.items = register_left c.args.deps.now c.in-Some.pairs.now _ (register_kept c.args.at.now c.args.key.now c.in-Some.pairs.now _ (g.S.TreeStore.tree c.args.store.now).now (g.met.S.TreeStore.kept c.args.store.now) c.requires (sym c.in-Some.ensures) refl) c.in_ok-left-in-Some.ensures in
     clear_values _ _ _ c.in-Some.pairs.now c.in_ok-left-in-Some.left.items _ _ _ _ _ (sym c.in-Some.ensures) c.in_ok-left-in-Some.ensures left c.in_ok-push-in-Some.ensures.ok c.in_ok-set_register-in-Some.ensures.ok (c.in_ok-ids-in-Some.ensures ∙ ap (λ (r : Register). keys_of r) c.as_slice.ensures.value)
 
 pub returns-in_ok-set_register-in-Some-clause-kept : goal.returns-in_ok-set_register-in-Some-clause-kept

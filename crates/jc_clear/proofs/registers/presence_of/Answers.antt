@@ -1,6 +1,6 @@
 use Rattle.std.proofs.Common.{rules, ◌≡◌, sym}
-use Rattle.jc_tree.proofs.Keeping.{presence_rises}
-use Rattle.jc_clear.proofs.Rules.{presence_there, presence_absent}
+use Rattle.jc_tree.proofs.WellFormedLemmas.{presence_rises}
+use Rattle.jc_clear.proofs.ClearRulesLemmas.{presence_there, presence_absent}
 use Rattle.jc_clear.proofs.registers.presence_of.Goals as goal
 
 pub returns-in_ok-push-in-Some-clause-ok : goal.returns-in_ok-push-in-Some-clause-ok

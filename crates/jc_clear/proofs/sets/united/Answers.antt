@@ -2,8 +2,8 @@ use Rattle.std.proofs.Common.{rules, ◌<◌, ◌∙◌, List, sym, ap, length, 
 use Rattle.std.proofs.lemmas.List.{take_more}
 use Rattle.jc_rules.specs.declared.id.Id.{Id}
 use Rattle.jc_rules.specs.Ids.{union, with_id}
-use Rattle.jc_rules.proofs.Ids.{union-nothing}
-use Rattle.jc_clear.proofs.Union.{union-last}
+use Rattle.jc_rules.proofs.IdsLemmas.{union-nothing}
+use Rattle.jc_clear.proofs.UnionLemmas.{union-last}
 use Rattle.jc_clear.proofs.sets.united.Goals as goal
 
 pub loop-id-init : goal.loop-id-init

@@ -4,8 +4,8 @@ use Rattle.jc_syntax.specs.Trees.{expr_of}
 use Rattle.jc_cursor.specs.declared.bound.Bound.{Bound}
 use Rattle.jc_cursor.specs.Bounds.{bound_of, vars_of}
 use Rattle.jc_cursor.specs.Evaluates.{Evaluates}
-use Rattle.jc_cursor.proofs.Expressions.{doc_evaluated, ends_with, first_refused, no_cursor, not_cursor, after_refused, selected}
-use Rattle.jc_cursor.proofs.Selections.{handed_up}
+use Rattle.jc_cursor.proofs.EvaluatesLemmas.{doc_evaluated, ends_with, first_refused, no_cursor, not_cursor, after_refused, selected}
+use Rattle.jc_cursor.proofs.SelectLemmas.{handed_up}
 use Rattle.jc_cursor.proofs.evaluating.+evaluate.Goals as goal
 
 pub returns-in_ok-push-in-Doc-clause-ok : goal.returns-in_ok-push-in-Doc-clause-ok

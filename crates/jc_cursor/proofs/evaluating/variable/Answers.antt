@@ -1,4 +1,4 @@
-use Rattle.jc_cursor.proofs.Expressions.{var_evaluated, var_unbound}
+use Rattle.jc_cursor.proofs.EvaluatesLemmas.{var_evaluated, var_unbound}
 use Rattle.jc_cursor.proofs.evaluating.variable.Goals as goal
 
 pub returns-in_default-clause-refused : goal.returns-in_default-clause-refused

@@ -1,4 +1,4 @@
-use Rattle.jc_cursor.proofs.Selections.{index_down, index_on_way, index_at_end, handed_up, given_on, given_on_ok}
+use Rattle.jc_cursor.proofs.SelectLemmas.{index_down, index_on_way, index_at_end, handed_up, given_on, given_on_ok}
 use Rattle.jc_cursor.proofs.select.element_below.Goals as goal
 
 pub returns-in_err-go_down-clause-refused : goal.returns-in_err-go_down-clause-refused

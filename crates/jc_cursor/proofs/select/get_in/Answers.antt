@@ -1,5 +1,5 @@
 use Rattle.std.proofs.Common.{refl}
-use Rattle.jc_cursor.proofs.Selections.{got, head_get, deep_get, handed_up}
+use Rattle.jc_cursor.proofs.SelectLemmas.{got, head_get, deep_get, handed_up}
 use Rattle.jc_cursor.proofs.select.get_in.Goals as goal
 
 pub returns-in_err-last-clause-refused : goal.returns-in_err-last-clause-refused

@@ -2,7 +2,7 @@ use Rattle.std.proofs.Common.{◌∙◌, List, sym, ap}
 use Rattle.jc_rules.specs.declared.key.Tagged.{Tagged}
 use Rattle.jc_rules.specs.State.{ACursor}
 use Rattle.jc_rules.specs.Table.{cursor}
-use Rattle.jc_cursor.proofs.Selections.{deep_index, indexed, index_refused, handed_up}
+use Rattle.jc_cursor.proofs.SelectLemmas.{deep_index, indexed, index_refused, handed_up}
 use Rattle.jc_cursor.proofs.select.index_in.Goals as goal
 
 pub returns-in_err-path-clause-refused : goal.returns-in_err-path-clause-refused

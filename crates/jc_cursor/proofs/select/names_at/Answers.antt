@@ -1,7 +1,7 @@
 use Rattle.std.proofs.Common.{option_copied, sym, ◌∙◌}
 use Rattle.jc_rules.specs.Context.{presences}
 use Rattle.jc_tree.specs.Tree.{here}
-use Rattle.jc_cursor.proofs.Naming.{IsNext, next_is, rise_at, named_begins, named_on, named_ends, fewer}
+use Rattle.jc_cursor.proofs.MapNamesLemmas.{IsNext, next_is, rise_at, named_begins, named_on, named_ends, fewer}
 use Rattle.jc_cursor.proofs.select.names_at.Goals as goal
 
 pub loop-key-init : goal.loop-key-init

@@ -1,8 +1,8 @@
 use Rattle.std.proofs.Common.{rules, ◌≡◌, ◌++◌, ◌∷◌, []}
 use Rattle.jc_rules.specs.declared.key.Tagged.TheVariants.{MapT}
 use Rattle.jc_tree.specs.Tree.{here}
-use Rattle.jc_cursor.proofs.Down.{MapBelow, map_below, no_map_below}
-use Rattle.jc_cursor.proofs.Selections.{keys_down, keys_on_way, keys_no_map, handed_up}
+use Rattle.jc_cursor.proofs.WayDownLemmas.{MapBelow, map_below, no_map_below}
+use Rattle.jc_cursor.proofs.SelectLemmas.{keys_down, keys_on_way, keys_no_map, handed_up}
 use Rattle.jc_cursor.proofs.select.names_below.Goals as goal
 
 pub returns-in_err-go_down-clause-refused : goal.returns-in_err-go_down-clause-refused

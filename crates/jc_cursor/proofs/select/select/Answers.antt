@@ -3,7 +3,7 @@ use Rattle.jc_rules.specs.State.{Names, Pairs}
 use Rattle.jc_rules.specs.Syntax.{Expr}
 use Rattle.jc_syntax.specs.Trees.{expr_of}
 use Rattle.jc_cursor.specs.Evaluates.{Selects, RefusedAfter}
-use Rattle.jc_cursor.proofs.Selections.{keyed, keys_refused, valued, values_refused, handed_up}
+use Rattle.jc_cursor.proofs.SelectLemmas.{keyed, keys_refused, valued, values_refused, handed_up}
 use Rattle.jc_cursor.proofs.select.select.Goals as goal
 
 pub returns-in_err-names_below-in-Keys-clause-refused : goal.returns-in_err-names_below-in-Keys-clause-refused

@@ -2,7 +2,7 @@ use Rattle.std.proofs.Common.{◌≡◌, Some, None, ap, sym}
 use Rattle.jc_rules.specs.declared.key.Tagged.TheVariants.{RegT}
 use Rattle.jc_rules.specs.Context.{content, Values, values_of}
 use Rattle.jc_tree.specs.Tree.{here}
-use Rattle.jc_cursor.proofs.Selections.{values_down, values_on_way, values_no_register, handed_up}
+use Rattle.jc_cursor.proofs.SelectLemmas.{values_down, values_on_way, values_no_register, handed_up}
 use Rattle.jc_cursor.proofs.select.values_below.Goals as goal
 
 pub returns-in_err-go_down-clause-refused : goal.returns-in_err-go_down-clause-refused

@@ -1,7 +1,7 @@
 use Rattle.std.proofs.Common.{refl}
 use Rattle.jc_tree.specs.Tree.{here}
-use Rattle.jc_apply.proofs.Passing.{list_here}
-use Rattle.jc_cursor.proofs.Elements.{along_begins, nearer, along_counted, along_passed, along_past_end, along_ends}
+use Rattle.jc_apply.proofs.InsertLemmas.{list_here}
+use Rattle.jc_cursor.proofs.ElementsLemmas.{along_begins, nearer, along_counted, along_passed, along_past_end, along_ends}
 use Rattle.jc_cursor.proofs.walk.element_at.Goals as goal
 
 pub loop-left-init : goal.loop-left-init

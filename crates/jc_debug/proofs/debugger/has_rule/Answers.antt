@@ -2,7 +2,7 @@ use Rattle.std.proofs.Common.{rules, ◌≡◌, ℕ, Some, slice_get, get_or, re
 use Rattle.std.proofs.lemmas.Option.{slice_get-get_or}
 use Rattle.jc_rules.specs.declared.rule.Rule.{Rule}
 use Rattle.jc_rules.specs.declared.rule.Rule.TheVariants as V
-use Rattle.jc_debug.proofs.Naming.{no_such, has_none}
+use Rattle.jc_debug.proofs.BreaksLemmas.{no_such, has_none}
 use Rattle.jc_debug.proofs.debugger.has_rule.Goals as goal
 
 pub returns-then-eq : goal.returns-then-eq

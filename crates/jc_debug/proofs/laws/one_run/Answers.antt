@@ -1,4 +1,4 @@
-use Rattle.jc_debug.proofs.Unique as unique
+use Rattle.jc_debug.proofs.LawsLemmas as unique
 use Rattle.jc_debug.proofs.laws.one_run.Goals as goal
 
 pub returns : goal.returns

@@ -1,4 +1,4 @@
-use Rattle.jc_debug.proofs.Unique.{one_cause, none_makes}
+use Rattle.jc_debug.proofs.LawsLemmas.{one_cause, none_makes}
 use Rattle.jc_debug.proofs.laws.one_stuck_event.Goals as goal
 
 pub returns : goal.returns

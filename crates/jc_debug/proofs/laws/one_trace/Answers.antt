@@ -1,4 +1,4 @@
-use Rattle.jc_debug.proofs.Naming.{one_makes}
+use Rattle.jc_debug.proofs.BreaksLemmas.{one_makes}
 use Rattle.jc_debug.proofs.laws.one_trace.Goals as goal
 
 pub returns : goal.returns

@@ -6,8 +6,8 @@ use Rattle.serde_json.specs.Sent.{IsTextOf}
 use Rattle.serde_json.proofs.FreeTexts.{text_of_value}
 use Rattle.jc_json.specs.Json.{object_of}
 use Rattle.jc_dump.specs.DumpParts.{shown_members}
-use Rattle.jc_dump.proofs.DumpFloats.{shown_float}
-use Rattle.jc_dump.proofs.DumpShown.{line_is}
+use Rattle.jc_dump.proofs.DumpFloatsLemmas.{shown_float}
+use Rattle.jc_dump.proofs.DumpPartsLemmas.{line_is}
 use Rattle.jc_dump.proofs.dump.dump_line_of.Goals as goal
 
 pub returns : goal.returns

@@ -1,7 +1,7 @@
 use Rattle.std.proofs.Common.{◌≡◌, string_bytes, ◌∙◌}
 use Rattle.std.proofs.lemmas.Result.{IfOk-weaker}
 use Rattle.jc_printer.specs.Canon.{canon_event}
-use Rattle.jc_dump.proofs.StuckLines.{line_without}
+use Rattle.jc_dump.proofs.LinesLemmas.{line_without}
 use Rattle.jc_dump.proofs.lines.named_stuck_text.Goals as goal
 
 pub returns : goal.returns

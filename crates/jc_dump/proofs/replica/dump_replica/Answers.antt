@@ -1,7 +1,7 @@
 use Rattle.std.proofs.Common.{ap, ◌∙◌}
-use Rattle.jc_rules.specs.Names.{name_at}
+use Rattle.jc_rules.specs.ReplicaNames.{name_at}
 use Rattle.jc_dump.specs.Dump.{dump_line}
-use Rattle.jc_dump.proofs.Replicas.{of_replica}
+use Rattle.jc_dump.proofs.DumpReplicaLemmas.{of_replica}
 use Rattle.jc_dump.proofs.replica.dump_replica.Goals as goal
 
 pub returns-clause-dump : goal.returns-clause-dump

@@ -1,7 +1,7 @@
 use Rattle.std.proofs.Common.{refl, ap, ◌∙◌}
 use Rattle.std.proofs.lemmas.Result.{IfOk-weaker}
 use Rattle.jc_dump.specs.Dump.{dump_line}
-use Rattle.jc_dump.proofs.Replicas.{parts_kept}
+use Rattle.jc_dump.proofs.DumpReplicaLemmas.{parts_kept}
 use Rattle.jc_dump.proofs.replica.line_of.Goals as goal
 
 pub returns : goal.returns

@@ -5,8 +5,8 @@ use Rattle.jc_cursor.specs.declared.bound.Bound.{Bound}
 use Rattle.jc_cursor.specs.Bounds.{bound_of, var_of, vars_of}
 use Rattle.jc_json.specs.Json.{put_all}
 use Rattle.jc_json.specs.Parts.{shown_as}
-use Rattle.jc_json.proofs.Lists.{put_all-append}
-use Rattle.jc_json.proofs.Sending.{shown-insert}
+use Rattle.jc_json.proofs.PartsListsLemmas.{put_all-append}
+use Rattle.jc_json.proofs.PartsSendLemmas.{shown-insert}
 use Rattle.jc_dump.specs.Dump.{var_member, bound_data}
 use Rattle.jc_dump.specs.DumpParts.{bound_shown}
 use Rattle.jc_dump.proofs.vars.by_name.Goals as goal

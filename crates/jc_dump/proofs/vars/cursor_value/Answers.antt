@@ -2,7 +2,7 @@ use Rattle.std.proofs.Common.{rules, ◌≡◌, arith}
 use Rattle.serde_json.specs.Data.{string}
 use Rattle.serde_json.specs.View.{view}
 use Rattle.jc_json.specs.Json.{tagged_text}
-use Rattle.jc_dump.proofs.DumpLists.{texts_more}
+use Rattle.jc_dump.proofs.DumpListsLemmas.{texts_more}
 use Rattle.jc_dump.proofs.vars.cursor_value.Goals as goal
 
 pub loop-key-preserved : goal.loop-key-preserved

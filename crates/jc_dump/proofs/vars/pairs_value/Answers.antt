@@ -1,7 +1,7 @@
 use Rattle.std.proofs.Common.{rules, ◌≡◌, arith}
 use Rattle.serde_json.specs.View.{view}
 use Rattle.jc_dump.specs.Dump.{pair_data}
-use Rattle.jc_dump.proofs.DumpLists.{data_more}
+use Rattle.jc_dump.proofs.DumpListsLemmas.{data_more}
 use Rattle.jc_dump.proofs.vars.pairs_value.Goals as goal
 
 pub loop-id-preserved : goal.loop-id-preserved

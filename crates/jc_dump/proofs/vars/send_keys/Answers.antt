@@ -3,7 +3,7 @@ use Rattle.std.proofs.lemmas.Result.{on_ok_weaker}
 use Rattle.serde.specs.Event.{Logs, seq_begins, text}
 use Rattle.serde_json.specs.Data.{string}
 use Rattle.serde_json.specs.View.{items_of}
-use Rattle.jc_json.proofs.Sending.{items_len-map, next_item, items_end}
+use Rattle.jc_json.proofs.PartsSendLemmas.{items_len-map, next_item, items_end}
 use Rattle.jc_dump.proofs.vars.send_keys.Goals as goal
 
 pub loop-key-preserved : goal.loop-key-preserved

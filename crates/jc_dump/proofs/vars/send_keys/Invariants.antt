@@ -1,7 +1,7 @@
 use Rattle.std.proofs.Common.{map}
 use Rattle.serde_json.specs.Data.{string}
 use Rattle.serde_json.specs.View.{items_of}
-use Rattle.jc_json.proofs.Sending.{ItemsFrom}
+use Rattle.jc_json.proofs.PartsSendLemmas.{ItemsFrom}
 use Rattle.jc_dump.proofs.vars.send_keys.Given as goal
 
 abbrev pub invariant-loop-key : goal.invariant-loop-key

@@ -7,7 +7,7 @@ use Rattle.serde_json.specs.Events.{SendsValue, SendsMembers}
 use Rattle.jc_cursor.specs.Bounds.{vars_of}
 use Rattle.jc_json.specs.Json.{put_all}
 use Rattle.jc_json.specs.Parts.{shown_as}
-use Rattle.jc_json.proofs.Sending.{shown-len, next_entry, entries_end}
+use Rattle.jc_json.proofs.PartsSendLemmas.{shown-len, next_entry, entries_end}
 use Rattle.jc_dump.specs.Dump.{var_member}
 use Rattle.jc_dump.specs.DumpParts.{bound_shown}
 use Rattle.jc_dump.proofs.vars.send_vars.Goals as goal

@@ -1,5 +1,5 @@
 use Rattle.jc_dump.specs.DumpParts.{bound_shown}
-use Rattle.jc_json.proofs.Sending.{EntriesFrom}
+use Rattle.jc_json.proofs.PartsSendLemmas.{EntriesFrom}
 use Rattle.jc_dump.proofs.vars.send_vars.Given as goal
 
 abbrev pub invariant-loop-name : goal.invariant-loop-name

@@ -6,7 +6,7 @@ use Rattle.serde_json.specs.Data.{string}
 use Rattle.serde_json.specs.View.{items_of}
 use Rattle.jc_rules.specs.declared.id.Id.{Id}
 use Rattle.jc_json.specs.Json.{id_text}
-use Rattle.jc_json.proofs.Sending.{items_len-map, next_item, items_end}
+use Rattle.jc_json.proofs.PartsSendLemmas.{items_len-map, next_item, items_end}
 use Rattle.jc_json.proofs.send.send_ids.Goals as goal
 
 pub loop-id-preserved : goal.loop-id-preserved

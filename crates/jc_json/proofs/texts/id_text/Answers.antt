@@ -1,6 +1,6 @@
 use Rattle.std.proofs.Common.{◌≡◌, List, ℕ, ◌++◌, codes, decimal, string_bytes, append_assoc, ap, sym, ◌∙◌}
 use Rattle.std.proofs.lemmas.Result.{IfOk-weaker}
-use Rattle.jc_rules.specs.Names.{name_at}
+use Rattle.jc_rules.specs.ReplicaNames.{name_at}
 use Rattle.jc_json.proofs.texts.id_text.Goals as goal
 
 pieces : (s a b c d : List ℕ) → s ≡ a ++ (b ++ c) → c ≡ d → s ≡ a ++ b ++ d

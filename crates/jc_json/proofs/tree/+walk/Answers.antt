@@ -5,13 +5,13 @@ use Rattle.serde.specs.declared.name.Case.TheVariants.{AsIs}
 use Rattle.serde_json.specs.Events.{SendsValue, SendsMembers}
 use Rattle.jc_rules.specs.declared.key.Tagged.{Tagged}
 use Rattle.jc_rules.specs.Context.{content}
-use Rattle.jc_rules.specs.Places.{or_empty}
+use Rattle.jc_rules.specs.ContextsAt.{or_empty}
 use Rattle.jc_tree.specs.Tree.{here}
 use Rattle.jc_tree.specs.Nested.{nested}
 use Rattle.jc_json.specs.Json.{context_data}
 use Rattle.jc_json.specs.Parts.{tag_of, part_data, shown_as, HasPartsOf, ArePartsOf}
-use Rattle.jc_json.proofs.Places.{HasChild, has_child}
-use Rattle.jc_json.proofs.Sending.{shown-len, next_entry, entries_end}
+use Rattle.jc_json.proofs.PartsPlacesLemmas.{HasChild, has_child}
+use Rattle.jc_json.proofs.PartsSendLemmas.{shown-len, next_entry, entries_end}
 use Rattle.jc_json.proofs.tree.+walk.Goals as goal
 
 pub send_part-send_tree-requires : goal.send_part-send_tree-requires

@@ -2,7 +2,7 @@ use Rattle.std.proofs.Common.{◌≡◌, ◌+◌, ◌*◌}
 use Rattle.jc_tree.specs.Tree.{here}
 use Rattle.jc_tree.specs.Nested.{nested}
 use Rattle.jc_json.specs.Parts.{part_data, HasPartsOf}
-use Rattle.jc_json.proofs.Sending.{EntriesFrom}
+use Rattle.jc_json.proofs.PartsSendLemmas.{EntriesFrom}
 use Rattle.jc_json.proofs.tree.+walk.Given as goal
 
 abbrev pub decreases-send_part : goal.decreases-send_part

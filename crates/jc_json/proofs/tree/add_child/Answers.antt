@@ -3,7 +3,7 @@ use Rattle.jc_rules.specs.Context.{content}
 use Rattle.jc_tree.specs.Tree.{here}
 use Rattle.jc_json.specs.Json.{tagged_text}
 use Rattle.jc_json.specs.Parts.{tag_of}
-use Rattle.jc_json.proofs.Lists.{adds_child, adds_no_child}
+use Rattle.jc_json.proofs.PartsListsLemmas.{adds_child, adds_no_child}
 use Rattle.jc_json.proofs.tree.add_child.Goals as goal
 use Rattle.jc_json.proofs.tree.add_child.Goals.{then-has+in_ok-name+in_ok-insert, else-has}
 

@@ -3,12 +3,12 @@ use Rattle.std.specs.List.{AllByRecursion}
 use Rattle.std.specs.declared.cmp.Ordering.TheVariants.{Greater}
 use Rattle.jc_rules.specs.Order.{key_cmp}
 use Rattle.jc_rules.specs.Context.{keys, listed}
-use Rattle.jc_rules.specs.Shape.{IsKept}
+use Rattle.jc_rules.specs.WellFormed.{IsWellFormedContext}
 use Rattle.jc_tree.specs.Tree.{here, is_after}
-use Rattle.jc_json.specs.Parts.{tag_of, children_in, child_member, Adds}
-use Rattle.jc_json.proofs.Lists.{adding_begins, adding_goes_on, adding_ends, child_members_are}
-use Rattle.jc_tree.proofs.KeyWalk.{IsNext, next_is, none_is}
-use Rattle.jc_json.proofs.Places.{kept_at, children_rise, of_children}
+use Rattle.jc_json.specs.Parts.{tag_of, children_in, child_member, AddsMembers}
+use Rattle.jc_json.proofs.PartsListsLemmas.{adding_begins, adding_goes_on, adding_ends, child_members_are}
+use Rattle.jc_tree.proofs.WalksLemmas.{IsNext, next_is, none_is}
+use Rattle.jc_json.proofs.PartsPlacesLemmas.{kept_at, children_rise, of_children}
 use Rattle.jc_json.proofs.tree.add_children.Goals as goal
 
 pub loop-key-init : goal.loop-key-init
@@ -32,7 +32,7 @@ loop-key-preserved g c =
     let last = option_copied c.loop-key.last in
     let n : IsNext last (keys d) key = next_is last (keys d) key (sym c.in-Some.ensures) in
     let below = of_children (λ j. is_after last j ≡ true → key_cmp key j ≢ Greater) b d n.below in
-    let kept : IsKept d = kept_at c.args.at.now t.now c.requires (g.met.S.TreeStore.kept c.args.store.now) in
+    let kept : IsWellFormedContext d = kept_at c.args.at.now t.now c.requires (g.met.S.TreeStore.kept c.args.store.now) in
     adding_goes_on names d (child_member names (tag_of b)) (listed (children_in b d)) last key c.args.parts.now.entries c.loop-key.parts.entries _ n.after below (children_rise b d kept) c.in_ok-add_child.ensures c.loop-key.invariant
 
 pub returns : goal.returns
@@ -42,5 +42,5 @@ returns g c =
     let b = c.args.branch in
     let last = option_copied c.loop-key.last in
     let all : AllByRecursion (λ j. is_after last j ≡ false) (keys d) = none_is last (keys d) (sym c.in_default.ensures) in
-    subst (λ ms. Adds names d ms c.args.parts.now.entries c.loop-key.parts.entries) (sym (child_members_are names (tag_of b) (children_in b d)))
+    subst (λ ms. AddsMembers names d ms c.args.parts.now.entries c.loop-key.parts.entries) (sym (child_members_are names (tag_of b) (children_in b d)))
     (adding_ends names d (child_member names (tag_of b)) (listed (children_in b d)) last _ _ (of_children (λ j. is_after last j ≡ false) b d all) c.loop-key.invariant)

@@ -2,7 +2,7 @@ use Rattle.std.proofs.Common.{length, filter, option_copied}
 use Rattle.jc_rules.specs.Context.{listed, keys}
 use Rattle.jc_tree.specs.Tree.{here, is_after}
 use Rattle.jc_json.specs.Parts.{tag_of, children_in, child_member}
-use Rattle.jc_json.proofs.Lists.{IsAdding}
+use Rattle.jc_json.proofs.PartsListsLemmas.{IsAdding}
 use Rattle.jc_json.proofs.tree.add_children.Given as goal
 
 abbrev pub invariant-loop-key : goal.invariant-loop-key

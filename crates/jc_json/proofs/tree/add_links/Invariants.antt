@@ -3,7 +3,7 @@ use Rattle.jc_rules.specs.Context.{links}
 use Rattle.jc_rules.specs.Entries.{keys_of}
 use Rattle.jc_tree.specs.Tree.{here, is_after}
 use Rattle.jc_json.specs.Json.{next_member}
-use Rattle.jc_json.proofs.Lists.{IsAdding}
+use Rattle.jc_json.proofs.PartsListsLemmas.{IsAdding}
 use Rattle.jc_json.proofs.tree.add_links.Given as goal
 
 abbrev pub invariant-loop-key : goal.invariant-loop-key

@@ -3,13 +3,13 @@ use Rattle.std.specs.List.{AllByRecursion}
 use Rattle.jc_rules.specs.Order.{key_cmp}
 use Rattle.jc_rules.specs.Entries.{keys_of, find}
 use Rattle.jc_rules.specs.Context.{presences}
-use Rattle.jc_rules.specs.Shape.{IsKept}
+use Rattle.jc_rules.specs.WellFormed.{IsWellFormedContext}
 use Rattle.jc_tree.specs.Tree.{here, is_after}
 use Rattle.jc_json.specs.Json.{presence_member, entry_text}
 use Rattle.jc_json.specs.declared.tree.Part.TheVariants as P
-use Rattle.jc_json.proofs.Lists.{adding_begins, adding_goes_on, adding_ends, adds_one, adds_none}
-use Rattle.jc_tree.proofs.KeyWalk.{IsNext, next_is, none_is}
-use Rattle.jc_json.proofs.Places.{kept_at, presences_rise}
+use Rattle.jc_json.proofs.PartsListsLemmas.{adding_begins, adding_goes_on, adding_ends, adds_one, adds_none}
+use Rattle.jc_tree.proofs.WalksLemmas.{IsNext, next_is, none_is}
+use Rattle.jc_json.proofs.PartsPlacesLemmas.{kept_at, presences_rise}
 use Rattle.jc_json.proofs.tree.add_presences.Goals as goal
 use Rattle.jc_json.proofs.tree.add_presences.Goals.{in-Some-presence+in_ok-name+in_ok-insert, in_default-presence}
 
@@ -32,7 +32,7 @@ loop-key-preserved g c =
     let names = c.args.names.now in
     let last = option_copied c.loop-key.last in
     let n : IsNext last (keys_of (presences d)) key = next_is last (keys_of (presences d)) key (sym c.in-Some.ensures) in
-    let kept : IsKept d = kept_at c.args.at.now t.now c.requires (g.met.S.TreeStore.kept c.args.store.now) in
+    let kept : IsWellFormedContext d = kept_at c.args.at.now t.now c.requires (g.met.S.TreeStore.kept c.args.store.now) in
     let old = c.loop-key.parts.entries in
     let new = c.match-presence.parts.entries in
     let found = find key_cmp key (presences d) in

@@ -3,7 +3,7 @@ use Rattle.jc_rules.specs.Context.{presences}
 use Rattle.jc_rules.specs.Entries.{keys_of}
 use Rattle.jc_tree.specs.Tree.{here, is_after}
 use Rattle.jc_json.specs.Json.{presence_member}
-use Rattle.jc_json.proofs.Lists.{IsAdding}
+use Rattle.jc_json.proofs.PartsListsLemmas.{IsAdding}
 use Rattle.jc_json.proofs.tree.add_presences.Given as goal
 
 abbrev pub invariant-loop-key : goal.invariant-loop-key

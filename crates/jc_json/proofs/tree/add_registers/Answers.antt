@@ -4,13 +4,13 @@ use Rattle.std.specs.declared.cmp.Ordering.TheVariants.{Greater}
 use Rattle.jc_rules.specs.Order.{key_cmp}
 use Rattle.jc_rules.specs.Entries.{keys_of, find}
 use Rattle.jc_rules.specs.Context.{registers, keys}
-use Rattle.jc_rules.specs.Shape.{IsKept}
+use Rattle.jc_rules.specs.WellFormed.{IsWellFormedContext}
 use Rattle.jc_tree.specs.Tree.{here, is_after}
 use Rattle.jc_json.specs.Json.{register_member, entry_text}
 use Rattle.jc_json.specs.declared.tree.Part.TheVariants as P
-use Rattle.jc_json.proofs.Lists.{adding_begins, adding_goes_on, adding_ends, adds_one, adds_none}
-use Rattle.jc_tree.proofs.KeyWalk.{IsNext, next_is, none_is}
-use Rattle.jc_json.proofs.Places.{kept_at, registers_rise, of_registers}
+use Rattle.jc_json.proofs.PartsListsLemmas.{adding_begins, adding_goes_on, adding_ends, adds_one, adds_none}
+use Rattle.jc_tree.proofs.WalksLemmas.{IsNext, next_is, none_is}
+use Rattle.jc_json.proofs.PartsPlacesLemmas.{kept_at, registers_rise, of_registers}
 use Rattle.jc_json.proofs.tree.add_registers.Goals as goal
 use Rattle.jc_json.proofs.tree.add_registers.Goals.{in-Some-register+in_ok-name+in_ok-insert, in_default-register}
 
@@ -34,7 +34,7 @@ loop-key-preserved g c =
     let last = option_copied c.loop-key.last in
     let n : IsNext last (keys d) key = next_is last (keys d) key (sym c.in-Some.ensures) in
     let below : AllByRecursion (λ j. is_after last j ≡ true → key_cmp key j ≢ Greater) (keys_of (registers d)) = of_registers (λ j. is_after last j ≡ true → key_cmp key j ≢ Greater) d n.below in
-    let kept : IsKept d = kept_at c.args.at.now t.now c.requires (g.met.S.TreeStore.kept c.args.store.now) in
+    let kept : IsWellFormedContext d = kept_at c.args.at.now t.now c.requires (g.met.S.TreeStore.kept c.args.store.now) in
     let old = c.loop-key.parts.entries in
     let new = c.match-register.parts.entries in
     let found = find key_cmp key (registers d) in

@@ -1,5 +1,5 @@
 use Rattle.jc_tree.specs.Tree.{here}
-use Rattle.jc_json.proofs.Lists.{parts_are}
+use Rattle.jc_json.proofs.PartsListsLemmas.{parts_are}
 use Rattle.jc_json.proofs.tree.parts_at.Goals as goal
 
 pub returns : goal.returns

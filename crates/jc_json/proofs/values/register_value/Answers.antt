@@ -2,7 +2,7 @@ use Rattle.std.proofs.Common.{rules, ◌≡◌, arith, ap, sym, ◌∙◌}
 use Rattle.serde_json.specs.Data.{no_members, put}
 use Rattle.serde_json.specs.View.{view, members_view}
 use Rattle.jc_json.specs.Json.{value_member, value_data, id_text}
-use Rattle.jc_json.proofs.Lists.{put_all_more}
+use Rattle.jc_json.proofs.PartsListsLemmas.{put_all_more}
 use Rattle.jc_json.proofs.values.register_value.Goals as goal
 
 pub loop-id-preserved : goal.loop-id-preserved

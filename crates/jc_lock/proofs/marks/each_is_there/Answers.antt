@@ -2,7 +2,7 @@ use Rattle.std.proofs.Common.{rules, arith, ◌≡◌, ◌<◌, ◌++◌, ◌∷
 use Rattle.std.proofs.lemmas.Bool.{false≢true}
 use Rattle.jc_lock.specs.Numbers.{EachOnce}
 use Rattle.jc_lock.specs.Shows.{pass_number}
-use Rattle.jc_lock.proofs.Marking.{Marked, Marked-more, not_each, each_from_marks, marks_from_each, none_missing, take_all_numbers, take_numbers, numbers_from}
+use Rattle.jc_lock.proofs.MarksLemmas.{Marked, Marked-more, not_each, each_from_marks, marks_from_each, none_missing, take_all_numbers, take_numbers, numbers_from}
 use Rattle.jc_lock.proofs.marks.each_is_there.Goals as goal
 use Rattle.jc_lock.proofs.marks.each_is_there.Goals.{then-number-marks-via-then-number-marks, then-number-marks-via-else-number-marks+then-marks-number}
 

@@ -1,7 +1,7 @@
 use Rattle.std.proofs.Common.{ap}
-use Rattle.jc_meaning.specs.Touching.{value_in}
-use Rattle.jc_meaning.proofs.Told.{on_ok}
-use Rattle.jc_meaning.proofs.Ways.{puts_brings, deletes_brings}
+use Rattle.jc_meaning.specs.Effects.{value_in}
+use Rattle.jc_meaning.proofs.EffectsTestsLemmas.{on_ok}
+use Rattle.jc_meaning.proofs.GrowthPathLemmas.{puts_brings, deletes_brings}
 use Rattle.jc_meaning.proofs.building.add.Goals as goal
 
 pub returns-in-Assign : goal.returns-in-Assign

@@ -1,5 +1,5 @@
 use Rattle.std.proofs.Common.{◌≡◌, ◌<◌, length, arith, take}
-use Rattle.jc_meaning.proofs.Ways.{grown_place, still_place, contexts_taken, enter_on, end_place}
+use Rattle.jc_meaning.proofs.GrowthPathLemmas.{grown_place, still_place, contexts_taken, enter_on, end_place}
 use Rattle.jc_meaning.proofs.building.enter.Goals as goal
 
 pub make-requires : goal.make-requires

@@ -1,5 +1,5 @@
 use Rattle.std.proofs.Common.{◌&&◌, take}
-use Rattle.jc_meaning.specs.Built.{Grows, no_value, tag_on, key_on, stays}
+use Rattle.jc_meaning.specs.Growth.{Grows, no_value, tag_on, key_on, stays}
 use Rattle.jc_meaning.proofs.building.enter.Given as goal
 
 abbrev pub invariant-loop-depth : goal.invariant-loop-depth

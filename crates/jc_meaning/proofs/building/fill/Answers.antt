@@ -1,5 +1,5 @@
 use Rattle.std.proofs.Common.{arith}
-use Rattle.jc_meaning.proofs.Brought.{next_brought}
+use Rattle.jc_meaning.proofs.GrowthAllLemmas.{next_brought}
 use Rattle.jc_meaning.proofs.building.fill.Goals as goal
 
 pub loop-op-preserved : goal.loop-op-preserved

@@ -1,8 +1,8 @@
 use Rattle.std.proofs.Common.{not, ◌&&◌, cond, None, take}
 use Rattle.jc_rules.specs.Table.{op_of}
-use Rattle.jc_meaning.specs.Touching.{touches}
+use Rattle.jc_meaning.specs.Effects.{touches}
 use Rattle.jc_meaning.specs.Meaning.{goes, holds_of, is_cleared, written_of}
-use Rattle.jc_meaning.specs.Built.{Grows, is_gone}
+use Rattle.jc_meaning.specs.Growth.{Grows, is_gone}
 use Rattle.jc_meaning.proofs.building.fill.Given as goal
 
 abbrev pub invariant-loop-op : goal.invariant-loop-op

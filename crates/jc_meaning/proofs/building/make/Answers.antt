@@ -1,7 +1,7 @@
 use Rattle.std.proofs.Common.{sym}
-use Rattle.jc_rules.proofs.Places.{there}
-use Rattle.jc_tree.proofs.Places.{none_found}
-use Rattle.jc_meaning.proofs.Writes.{there_grows, make_grows}
+use Rattle.jc_rules.proofs.ContextsAtLemmas.{there}
+use Rattle.jc_tree.proofs.PlacesLemmas.{none_found}
+use Rattle.jc_meaning.proofs.GrowthWriteLemmas.{there_grows, make_grows}
 use Rattle.jc_meaning.proofs.building.make.Goals as goal
 
 pub returns-then-has : goal.returns-then-has

@@ -1,7 +1,7 @@
 use Rattle.std.proofs.Common.{not, ◌&&◌, sym, ◌∙◌, ap}
-use Rattle.jc_rules.proofs.Places.{there}
+use Rattle.jc_rules.proofs.ContextsAtLemmas.{there}
 use Rattle.jc_meaning.specs.Meaning.{is_cleared}
-use Rattle.jc_meaning.proofs.Touched.{withheld, touched_there}
+use Rattle.jc_meaning.proofs.EffectsPresenceLemmas.{withheld, touched_there}
 use Rattle.jc_meaning.proofs.building.touch.Goals as goal
 
 pub returns-then-is_delete : goal.returns-then-is_delete

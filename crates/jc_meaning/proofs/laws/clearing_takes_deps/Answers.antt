@@ -1,4 +1,4 @@
-use Rattle.jc_meaning.proofs.Closed.{clearing_takes}
+use Rattle.jc_meaning.proofs.RootedSetsLemmas.{clearing_takes}
 use Rattle.jc_meaning.proofs.laws.clearing_takes_deps.Goals as goal
 
 pub returns : goal.returns

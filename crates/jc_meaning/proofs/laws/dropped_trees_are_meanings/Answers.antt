@@ -1,4 +1,4 @@
-use Rattle.jc_meaning.proofs.Runs.{dropped_is_meaning}
+use Rattle.jc_meaning.proofs.RunsLemmas.{dropped_is_meaning}
 use Rattle.jc_meaning.proofs.laws.dropped_trees_are_meanings.Goals as goal
 
 pub returns : goal.returns

@@ -1,5 +1,5 @@
-use Rattle.jc_meaning.proofs.Closed.{closed_good}
-use Rattle.jc_meaning.proofs.Meant.{is_tidy}
+use Rattle.jc_meaning.proofs.RootedSetsLemmas.{closed_good}
+use Rattle.jc_meaning.proofs.MeaningStepLemmas.{is_tidy}
 use Rattle.jc_meaning.proofs.laws.meanings_are_tidy.Goals as goal
 
 pub returns : goal.returns

@@ -1,4 +1,4 @@
-use Rattle.jc_meaning.proofs.Replicas.{meaning_is_tree}
+use Rattle.jc_meaning.proofs.ReplicasLemmas.{meaning_is_tree}
 use Rattle.jc_meaning.proofs.laws.meanings_are_trees.Goals as goal
 
 pub returns : goal.returns

@@ -1,5 +1,5 @@
-use Rattle.jc_meaning.proofs.Closed.{next_new}
-use Rattle.jc_meaning.proofs.Meant.{means_with}
+use Rattle.jc_meaning.proofs.RootedSetsLemmas.{next_new}
+use Rattle.jc_meaning.proofs.MeaningStepLemmas.{means_with}
 use Rattle.jc_meaning.proofs.laws.one_more_means.Goals as goal
 
 pub returns : goal.returns

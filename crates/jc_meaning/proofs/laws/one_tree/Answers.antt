@@ -1,4 +1,4 @@
-use Rattle.jc_meaning.proofs.Alike.{one_tree}
+use Rattle.jc_meaning.proofs.ComparedLemmas.{one_tree}
 use Rattle.jc_meaning.proofs.laws.one_tree.Goals as goal
 
 pub returns : goal.returns

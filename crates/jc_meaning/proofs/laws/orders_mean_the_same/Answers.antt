@@ -1,4 +1,4 @@
-use Rattle.jc_meaning.proofs.Same.{same_lists, means_same}
+use Rattle.jc_meaning.proofs.MeaningOfSetLemmas.{same_lists, means_same}
 use Rattle.jc_meaning.proofs.laws.orders_mean_the_same.Goals as goal
 
 pub returns : goal.returns

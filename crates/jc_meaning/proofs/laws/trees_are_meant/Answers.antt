@@ -1,4 +1,4 @@
-use Rattle.jc_meaning.proofs.Runs.{trees_meant}
+use Rattle.jc_meaning.proofs.RunsLemmas.{trees_meant}
 use Rattle.jc_meaning.proofs.laws.trees_are_meant.Goals as goal
 
 pub returns : goal.returns

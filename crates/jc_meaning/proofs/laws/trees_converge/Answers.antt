@@ -1,4 +1,4 @@
-use Rattle.jc_meaning.proofs.Runs.{trees_converge}
+use Rattle.jc_meaning.proofs.RunsLemmas.{trees_converge}
 use Rattle.jc_meaning.proofs.laws.trees_converge.Goals as goal
 
 pub returns : goal.returns

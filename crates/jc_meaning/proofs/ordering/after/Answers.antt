@@ -1,6 +1,6 @@
 use Rattle.std.proofs.Common.{◌≡◌, ◌<◌, length, arith, sym, ◌∙◌, ap}
 use Rattle.jc_rules.specs.Ids.{has_id}
-use Rattle.jc_meaning.proofs.Named.{all_named, one_named, not_named}
+use Rattle.jc_meaning.proofs.InsertsAfterLemmas.{all_named, one_named, not_named}
 use Rattle.jc_meaning.proofs.ordering.after.Goals as goal
 use Rattle.jc_meaning.proofs.ordering.after.Goals.{then-names+in_ok-insert_id, else-names}
 

@@ -1,8 +1,8 @@
 use Rattle.std.proofs.Common.{◌<◌, length, arith, refl}
 use Rattle.jc_rules.specs.declared.id.Id.{Id}
-use Rattle.jc_rules.proofs.Places.{there}
-use Rattle.jc_tree.proofs.Places.{then_place}
-use Rattle.jc_meaning.proofs.Ended.{links_start, link_on, last_on}
+use Rattle.jc_rules.proofs.ContextsAtLemmas.{there}
+use Rattle.jc_tree.proofs.PlacesLemmas.{then_place}
+use Rattle.jc_meaning.proofs.ChainEndsLemmas.{links_start, link_on, last_on}
 use Rattle.jc_meaning.proofs.ordering.link.Goals as goal
 
 pub loop-id-init : goal.loop-id-init

@@ -1,5 +1,5 @@
 use Rattle.std.proofs.Common.{◌<◌, length, arith, sym}
-use Rattle.jc_meaning.proofs.Brought.{op_place, same_then, list_linked, none_linked, list_is_new}
+use Rattle.jc_meaning.proofs.GrowthAllLemmas.{op_place, same_then, list_linked, none_linked, list_is_new}
 use Rattle.jc_meaning.proofs.ordering.link_all.Goals as goal
 use Rattle.jc_meaning.proofs.ordering.link_all.Goals.{then-is_insert+in_ok-link_list, else-is_insert}
 

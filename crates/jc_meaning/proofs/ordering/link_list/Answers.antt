@@ -2,9 +2,9 @@ use Rattle.std.proofs.Common.{rules, ◌≡◌, Some}
 use Rattle.jc_rules.specs.declared.key.Key.TheVariants.{Head}
 use Rattle.jc_rules.specs.declared.key.Next.TheVariants.{Tail}
 use Rattle.jc_rules.specs.Context.{next}
-use Rattle.jc_rules.proofs.Places.{there}
+use Rattle.jc_rules.proofs.ContextsAtLemmas.{there}
 use Rattle.jc_tree.specs.Tree.{here}
-use Rattle.jc_meaning.proofs.Ended.{not_new, newly_linked, slice_differs}
+use Rattle.jc_meaning.proofs.ChainEndsLemmas.{not_new, newly_linked, slice_differs}
 use Rattle.jc_meaning.proofs.ordering.link_list.Goals as goal
 
 pub returns-then-ne : goal.returns-then-ne

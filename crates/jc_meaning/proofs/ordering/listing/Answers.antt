@@ -1,7 +1,7 @@
 use Rattle.std.proofs.Common.{rules, ◌≡◌, [], length}
 use Rattle.jc_meaning.specs.Forest.{preorder}
-use Rattle.jc_meaning.proofs.Foresting.{forest_of}
-use Rattle.jc_meaning.proofs.Listed.{walk_starts, walk_ends, walk_falls, walk_next, walk_smaller}
+use Rattle.jc_meaning.proofs.ForestOfOpsLemmas.{forest_of}
+use Rattle.jc_meaning.proofs.ListingLemmas.{walk_starts, walk_ends, walk_falls, walk_next, walk_smaller}
 use Rattle.jc_meaning.proofs.ordering.listing.Goals as goal
 
 pub loop-id-init : goal.loop-id-init

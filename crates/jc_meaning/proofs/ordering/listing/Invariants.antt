@@ -1,7 +1,7 @@
 use Rattle.std.proofs.Common.{◌-◌, length}
 use Rattle.jc_meaning.specs.Forest.{preorder}
-use Rattle.jc_meaning.proofs.Foresting.{forest_of}
-use Rattle.jc_meaning.proofs.Listed.{IsWalk}
+use Rattle.jc_meaning.proofs.ForestOfOpsLemmas.{forest_of}
+use Rattle.jc_meaning.proofs.ListingLemmas.{IsWalk}
 use Rattle.jc_meaning.proofs.ordering.listing.Given as goal
 
 abbrev pub invariant-loop-id : goal.invariant-loop-id

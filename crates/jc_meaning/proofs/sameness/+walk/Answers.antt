@@ -3,12 +3,12 @@ use Rattle.std.proofs.lemmas.Result.{IfOk-weaker}
 use Rattle.jc_rules.specs.declared.key.Key.{Key}
 use Rattle.jc_rules.specs.declared.key.Tagged.{Tagged}
 use Rattle.jc_rules.specs.Context.{content, keys}
-use Rattle.jc_rules.specs.Shape.{IsKept}
+use Rattle.jc_rules.specs.WellFormed.{IsWellFormedContext}
 use Rattle.jc_tree.specs.Tree.{here, least_after}
 use Rattle.jc_tree.specs.Nested.{nested}
-use Rattle.jc_tree.proofs.KeyWalk.{IsNext, next_is}
+use Rattle.jc_tree.proofs.WalksLemmas.{IsNext, next_is}
 use Rattle.jc_meaning.specs.Compared.{SameTree, IsSameKey, ArePresencesSame, AreLinksSame}
-use Rattle.jc_meaning.proofs.Comparing.{StandsBelow, stands_below, same_below, below_same, kept_here, next_same, both_go_on, both_end, together, presences_same, keys_same}
+use Rattle.jc_meaning.proofs.ComparedContextsLemmas.{StandsBelow, stands_below, same_below, below_same, kept_here, next_same, both_go_on, both_end, together, presences_same, keys_same}
 use Rattle.jc_meaning.proofs.sameness.+walk.Goals as goal
 
 none_copied : (o : Option (Bor Key)) → is_some o ≡ false → option_copied o ≡ None
@@ -112,8 +112,8 @@ same_place-returns-then-not-same_presences-clause-same g t c =
     let left = g.S.TreeStore.tree c.args.left.now in
     let right = g.T.TreeStore.tree c.args.right.now in
     let at = c.args.at.now.items in
-    let kl : IsKept (here at left) = kept_here at left c.requires.left (g.met.S.TreeStore.kept c.args.left.now) in
-    let kr : IsKept (here at right) = kept_here at right c.requires.right (g.met.T.TreeStore.kept c.args.right.now) in
+    let kl : IsWellFormedContext (here at left) = kept_here at left c.requires.left (g.met.S.TreeStore.kept c.args.left.now) in
+    let kr : IsWellFormedContext (here at right) = kept_here at right c.requires.right (g.met.T.TreeStore.kept c.args.right.now) in
     let e = c.as_slice-2.ensures.value in (
       λ s. cc,
       λ same. sym c.if-not-same_presences.true
@@ -125,8 +125,8 @@ same_place-returns-clause-same g t c =
     let left = g.S.TreeStore.tree c.args.left.now in
     let right = g.T.TreeStore.tree c.args.right.now in
     let at = c.args.at.now.items in
-    let kl : IsKept (here at left) = kept_here at left c.requires.left (g.met.S.TreeStore.kept c.args.left.now) in
-    let kr : IsKept (here at right) = kept_here at right c.requires.right (g.met.T.TreeStore.kept c.args.right.now) in
+    let kl : IsWellFormedContext (here at left) = kept_here at left c.requires.left (g.met.S.TreeStore.kept c.args.left.now) in
+    let kr : IsWellFormedContext (here at right) = kept_here at right c.requires.right (g.met.T.TreeStore.kept c.args.right.now) in
     let links : AreLinksSame (here at left) (here at right) = subst (λ (s : List Tagged). AreLinksSame (here s left) (here s right)) c.as_slice.ensures.value (c.same_links.ensures.0 c.if-not-same_links.false) in
     let ids : ArePresencesSame (here at left) (here at right) = subst (λ (s : List Tagged). ArePresencesSame (here s left) (here s right)) c.as_slice-2.ensures.value (c.same_presences.ensures.0 c.if-not-same_presences.false) in
     IfOk-weaker c.same_keys.result (λ same. IsTrue same ↔ ((k : Key) → IsSameKey (here at left) (here at right) k)) (λ same. IsTrue same ↔ SameTree (here at left) (here at right))

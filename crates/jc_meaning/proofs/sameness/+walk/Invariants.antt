@@ -2,7 +2,7 @@ use Rattle.std.proofs.Common.{◌≡◌, ◌+◌, ◌*◌, length, filter, optio
 use Rattle.jc_rules.specs.Context.{keys}
 use Rattle.jc_tree.specs.Tree.{here, is_after}
 use Rattle.jc_tree.specs.Nested.{nested}
-use Rattle.jc_meaning.proofs.Comparing.{PassedBoth}
+use Rattle.jc_meaning.proofs.ComparedContextsLemmas.{PassedBoth}
 use Rattle.jc_meaning.proofs.sameness.+walk.Given as goal
 
 abbrev pub decreases-same_child : goal.decreases-same_child

@@ -2,9 +2,9 @@ use Rattle.std.proofs.Common.{rules, ◌≡◌, option_copied, refl, sym, ◌∙
 use Rattle.jc_rules.specs.Entries.{keys_of}
 use Rattle.jc_rules.specs.Context.{links, next}
 use Rattle.jc_tree.specs.Tree.{here}
-use Rattle.jc_tree.proofs.KeyWalk.{IsNext, next_is}
+use Rattle.jc_tree.proofs.WalksLemmas.{IsNext, next_is}
 use Rattle.jc_meaning.specs.Compared.{HasLink}
-use Rattle.jc_meaning.proofs.Comparing.{goes_on, ends, no_link, links_apart}
+use Rattle.jc_meaning.proofs.ComparedContextsLemmas.{goes_on, ends, no_link, links_apart}
 use Rattle.jc_meaning.proofs.sameness.has_links.Goals as goal
 
 pub loop-key-smaller : goal.loop-key-smaller

@@ -2,7 +2,7 @@ use Rattle.std.proofs.Common.{sym}
 use Rattle.jc_rules.specs.declared.key.Key.{Key}
 use Rattle.jc_tree.specs.Tree.{here}
 use Rattle.jc_meaning.specs.Compared.{HasPresence}
-use Rattle.jc_meaning.proofs.Comparing.{presences_both}
+use Rattle.jc_meaning.proofs.ComparedContextsLemmas.{presences_both}
 use Rattle.jc_meaning.proofs.sameness.same_presences.Goals as goal
 
 pub returns-then-has_presences : goal.returns-then-has_presences

@@ -1,5 +1,5 @@
 use Rattle.std.proofs.Common.{rules, ◌≡◌}
-use Rattle.jc_meaning.proofs.Told.{above_apart, above_on}
+use Rattle.jc_meaning.proofs.EffectsTestsLemmas.{above_apart, above_on}
 use Rattle.jc_meaning.proofs.touching.+is_above.Goals as goal
 
 pub returns-then-ne : goal.returns-then-ne

@@ -1,6 +1,6 @@
 use Rattle.std.proofs.Common.{◌≡◌, ◌&&◌, drop}
 use Rattle.jc_rules.specs.Ids.{has_id}
-use Rattle.jc_meaning.specs.Touching.{overwrites}
+use Rattle.jc_meaning.specs.Effects.{overwrites}
 use Rattle.jc_meaning.specs.Meaning.{some_op}
 use Rattle.jc_meaning.proofs.touching.is_overwritten.Given as goal
 

@@ -1,6 +1,6 @@
 use Rattle.std.proofs.Common.{rules}
 use Rattle.std.proofs.lemmas.Slice.Eq.{slice_eq-Decides}
-use Rattle.jc_meaning.proofs.Told.{path_told}
+use Rattle.jc_meaning.proofs.EffectsTestsLemmas.{path_told}
 use Rattle.jc_meaning.proofs.touching.is_path.Goals as goal
 
 pub returns : goal.returns

@@ -1,5 +1,5 @@
 use Rattle.std.proofs.Common.{sym}
-use Rattle.jc_meaning.proofs.Named.{twice_there, distinct_on}
+use Rattle.jc_meaning.proofs.InsertsAfterLemmas.{twice_there, distinct_on}
 use Rattle.jc_meaning.proofs.tree.have_distinct_ids.Goals as goal
 
 pub returns-then-has_op : goal.returns-then-has_op

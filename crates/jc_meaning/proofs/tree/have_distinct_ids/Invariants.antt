@@ -1,5 +1,5 @@
 use Rattle.std.proofs.Common.{◌↔◌, length}
-use Rattle.jc_rules.specs.Shape.{AreDistinct}
+use Rattle.jc_rules.specs.WellFormed.{AreDistinct}
 use Rattle.jc_replica.specs.Operations.{identifiers}
 use Rattle.jc_meaning.proofs.tree.have_distinct_ids.Given as goal
 

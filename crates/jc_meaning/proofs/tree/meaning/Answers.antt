@@ -1,9 +1,9 @@
 use Rattle.std.proofs.Common.{sym, ap, subst}
 use Rattle.jc_tree.specs.Tree.{Tree}
 use Rattle.jc_meaning.specs.Meaning.{IsMeaning}
-use Rattle.jc_meaning.proofs.Brought.{tags_made, new_links, meant}
-use Rattle.jc_meaning.proofs.Kept.{meant_kept}
-use Rattle.jc_meaning.proofs.Replicas.{meaning_is_tree}
+use Rattle.jc_meaning.proofs.GrowthAllLemmas.{tags_made, new_links, meant}
+use Rattle.jc_meaning.proofs.StoredMeaningLemmas.{meant_kept}
+use Rattle.jc_meaning.proofs.ReplicasLemmas.{meaning_is_tree}
 use Rattle.jc_meaning.proofs.tree.meaning.Goals as goal
 
 pub link_all-requires-clause-made : goal.link_all-requires-clause-made

@@ -1,4 +1,4 @@
-use Rattle.jc_rules.specs.Shape.{IsChained}
+use Rattle.jc_rules.specs.WellFormed.{IsChained}
 use Rattle.jc_memory_tests.proofs.stores.refused_clearing.Given as goal
 
 abbrev pub invariant-loop-n : goal.invariant-loop-n

@@ -3,7 +3,7 @@ use Rattle.jc_rules.specs.declared.id.Id.{Id}
 use Rattle.jc_rules.specs.declared.operation.Op.{Op}
 use Rattle.jc_rules.specs.Ids.{has_id}
 use Rattle.jc_rules.specs.Table.{both}
-use Rattle.jc_network.proofs.Applying.{found_on}
+use Rattle.jc_network.proofs.AppliedLemmas.{found_on}
 use Rattle.jc_network.proofs.applied.applied_of.Goals as goal
 
 pub loop-op-preserved : goal.loop-op-preserved

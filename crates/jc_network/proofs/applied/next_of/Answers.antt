@@ -1,5 +1,5 @@
 use Rattle.std.proofs.Common.{sym}
-use Rattle.jc_network.proofs.Applying.{next_less, next_equal, next_greater, next_rest}
+use Rattle.jc_network.proofs.AppliedLemmas.{next_less, next_equal, next_greater, next_rest}
 use Rattle.jc_network.proofs.applied.next_of.Goals as goal
 
 pub returns-in-Less-clause-next : goal.returns-in-Less-clause-next

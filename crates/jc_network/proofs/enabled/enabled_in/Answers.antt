@@ -1,5 +1,5 @@
-use Rattle.jc_network.specs.Course.{kept_of, of_version}
-use Rattle.jc_network.proofs.EnablingSeen.{told_none, told_more}
+use Rattle.jc_network.specs.NetworkHistory.{kept_of, of_version}
+use Rattle.jc_network.proofs.EnabledRefinesLemmas.{told_none, told_more}
 use Rattle.jc_network.proofs.enabled.enabled_in.Goals as goal
 
 pub loop-replica-init : goal.loop-replica-init

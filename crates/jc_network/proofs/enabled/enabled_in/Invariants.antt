@@ -1,5 +1,5 @@
-use Rattle.jc_network.specs.Course.{kept_of, of_version}
-use Rattle.jc_network.proofs.EnablingSeen.{HaveTold}
+use Rattle.jc_network.specs.NetworkHistory.{kept_of, of_version}
+use Rattle.jc_network.proofs.EnabledRefinesLemmas.{HaveTold}
 use Rattle.jc_network.proofs.enabled.enabled_in.Given as goal
 
 abbrev pub invariant-loop-replica : goal.invariant-loop-replica

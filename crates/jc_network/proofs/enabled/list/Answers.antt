@@ -1,5 +1,5 @@
 use Rattle.std.proofs.Common.{◌≡◌, true, false, refl, sym, ◌∙◌}
-use Rattle.jc_network.proofs.EnablingSeen.{lists_one}
+use Rattle.jc_network.proofs.EnabledRefinesLemmas.{lists_one}
 use Rattle.jc_network.proofs.enabled.list.Goals as goal
 
 pub returns-in_ok-push : goal.returns-in_ok-push

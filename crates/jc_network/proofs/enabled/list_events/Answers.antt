@@ -1,8 +1,8 @@
 use Rattle.std.proofs.Common.{length, sym}
 use Rattle.std.proofs.lemmas.List.{length-map}
-use Rattle.jc_replica.specs.Past.{Past}
-use Rattle.jc_network.specs.Course.{kept_of, of_version}
-use Rattle.jc_network.proofs.EnablingSeen.{lists_events}
+use Rattle.jc_replica.specs.ReplicaHistory.{Past}
+use Rattle.jc_network.specs.NetworkHistory.{kept_of, of_version}
+use Rattle.jc_network.proofs.EnabledRefinesLemmas.{lists_events}
 use Rattle.jc_network.proofs.enabled.list_events.Goals as goal
 
 pub returns : goal.returns

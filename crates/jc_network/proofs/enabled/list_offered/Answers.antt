@@ -1,5 +1,5 @@
 use Rattle.std.proofs.Common.{refl}
-use Rattle.jc_network.proofs.EnablingSeen.{lists_none, lists_taking}
+use Rattle.jc_network.proofs.EnabledRefinesLemmas.{lists_none, lists_taking}
 use Rattle.jc_network.proofs.enabled.list_offered.Goals as goal
 
 pub loop-op-init : goal.loop-op-init

@@ -1,5 +1,5 @@
 use Rattle.std.proofs.Common.{refl}
-use Rattle.jc_network.proofs.EnablingSeen.{lists_none, lists_receiving}
+use Rattle.jc_network.proofs.EnabledRefinesLemmas.{lists_none, lists_receiving}
 use Rattle.jc_network.proofs.enabled.list_receivings.Goals as goal
 
 pub loop-sender-init : goal.loop-sender-init

@@ -1,10 +1,10 @@
 use Rattle.std.proofs.Common.{◌≡◌, ◌+◌, List, take, refl, sym, ap, subst, arith}
 use Rattle.std.proofs.lemmas.List.{take_all}
 use Rattle.jc_rules.specs.declared.version.Version.{Version}
-use Rattle.jc_replica.specs.Past.{Past}
-use Rattle.jc_network.specs.Course.{kept_of}
+use Rattle.jc_replica.specs.ReplicaHistory.{Past}
+use Rattle.jc_network.specs.NetworkHistory.{kept_of}
 use Rattle.jc_network.specs.Enabled.{takings, takings_of, takings_from, Lists}
-use Rattle.jc_network.proofs.EnablingSeen.{lists_none, lists_takings}
+use Rattle.jc_network.proofs.EnabledRefinesLemmas.{lists_none, lists_takings}
 use Rattle.jc_network.proofs.enabled.list_takings.Goals as goal
 
 pub returns-in-One : goal.returns-in-One

@@ -1,5 +1,5 @@
 use Rattle.std.proofs.Common.{◌≡◌, take}
-use Rattle.jc_network.specs.Course.{kept_of}
+use Rattle.jc_network.specs.NetworkHistory.{kept_of}
 use Rattle.jc_network.specs.Enabled.{takings_from, Lists}
 use Rattle.jc_network.proofs.enabled.list_takings.Given as goal
 

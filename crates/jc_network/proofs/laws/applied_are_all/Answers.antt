@@ -1,6 +1,6 @@
-use Rattle.jc_network.proofs.Starting.{start_well, after_well, at_member}
-use Rattle.jc_network.proofs.Applying.{applied_is, applied_has, applied_order}
-use Rattle.jc_network.proofs.EnablingOrder.{ordered}
+use Rattle.jc_network.proofs.RunInvariantStartLemmas.{start_well, after_well, at_member}
+use Rattle.jc_network.proofs.AppliedLemmas.{applied_is, applied_has, applied_order}
+use Rattle.jc_network.proofs.EnabledOrderLemmas.{ordered}
 use Rattle.jc_network.specs.Laws.{starts}
 use Rattle.jc_network.proofs.laws.applied_are_all.Goals as goal
 

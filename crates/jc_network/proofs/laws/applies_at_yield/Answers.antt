@@ -1,6 +1,6 @@
-use Rattle.jc_network.proofs.Starting.{start_well, after_well}
-use Rattle.jc_network.proofs.Chaining.{are_chained}
-use Rattle.jc_network.proofs.Progress.{applies}
+use Rattle.jc_network.proofs.RunInvariantStartLemmas.{start_well, after_well}
+use Rattle.jc_network.proofs.ChainedLemmas.{are_chained}
+use Rattle.jc_network.proofs.ProgressLemmas.{applies}
 use Rattle.jc_network.specs.Laws.{starts}
 use Rattle.jc_network.proofs.laws.applies_at_yield.Goals as goal
 

@@ -1,4 +1,4 @@
-use Rattle.jc_network.proofs.Counting.{run_counted}
+use Rattle.jc_network.proofs.CountersLemmas.{run_counted}
 use Rattle.jc_network.proofs.laws.counters_are_run.Goals as goal
 
 pub returns : goal.returns

@@ -1,8 +1,8 @@
-use Rattle.jc_network.proofs.Starting.{start_well, after_well}
-use Rattle.jc_network.proofs.Chaining.{are_chained}
-use Rattle.jc_network.proofs.Deciding.{step_decided}
-use Rattle.jc_network.proofs.Enabling.{decided_in, enabled_are_once, enabled_is_step}
-use Rattle.jc_network.proofs.EnablingOrder.{ordered}
+use Rattle.jc_network.proofs.RunInvariantStartLemmas.{start_well, after_well}
+use Rattle.jc_network.proofs.ChainedLemmas.{are_chained}
+use Rattle.jc_network.proofs.EventsDecideLemmas.{step_decided}
+use Rattle.jc_network.proofs.EnabledLemmas.{decided_in, enabled_are_once, enabled_is_step}
+use Rattle.jc_network.proofs.EnabledOrderLemmas.{ordered}
 use Rattle.jc_network.specs.Laws.{starts}
 use Rattle.jc_network.proofs.laws.enabled_have_steps.Goals as goal
 

@@ -1,5 +1,5 @@
-use Rattle.jc_network.proofs.Starting.{start_well, after_well}
-use Rattle.jc_network.proofs.Seeing.{is_stuck}
+use Rattle.jc_network.proofs.RunInvariantStartLemmas.{start_well, after_well}
+use Rattle.jc_network.proofs.RefinesLemmas.{is_stuck}
 use Rattle.jc_network.specs.Laws.{starts}
 use Rattle.jc_network.proofs.laws.event_is_stuck.Goals as goal
 

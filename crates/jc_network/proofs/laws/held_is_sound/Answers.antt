@@ -1,4 +1,4 @@
-use Rattle.jc_network.proofs.Starting.{start_well, after_well, sound, rooted, are_applied}
+use Rattle.jc_network.proofs.RunInvariantStartLemmas.{start_well, after_well, sound, rooted, are_applied}
 use Rattle.jc_network.specs.Laws.{starts}
 use Rattle.jc_network.proofs.laws.held_is_sound.Goals as goal
 

@@ -1,4 +1,4 @@
-use Rattle.jc_network.proofs.Leading.{led_or_stuck}
+use Rattle.jc_network.proofs.GivenLemmas.{led_or_stuck}
 use Rattle.jc_network.proofs.laws.led_or_stuck.Goals as goal
 
 pub returns : goal.returns

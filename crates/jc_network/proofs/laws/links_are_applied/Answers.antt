@@ -1,5 +1,5 @@
-use Rattle.jc_network.proofs.Starting.{start_well, after_well, at_member}
-use Rattle.jc_network.proofs.Chaining.{unapplied_unlinked, are_chained}
+use Rattle.jc_network.proofs.RunInvariantStartLemmas.{start_well, after_well, at_member}
+use Rattle.jc_network.proofs.ChainedLemmas.{unapplied_unlinked, are_chained}
 use Rattle.jc_network.specs.Laws.{starts}
 use Rattle.jc_network.proofs.laws.links_are_applied.Goals as goal
 

@@ -1,5 +1,5 @@
-use Rattle.jc_network.proofs.Starting.{start_well, after_well}
-use Rattle.jc_network.proofs.Fitting.{never_stuck}
+use Rattle.jc_network.proofs.RunInvariantStartLemmas.{start_well, after_well}
+use Rattle.jc_network.proofs.FitsLemmas.{never_stuck}
 use Rattle.jc_network.specs.Laws.{starts}
 use Rattle.jc_network.proofs.laws.never_stuck_at_yield.Goals as goal
 

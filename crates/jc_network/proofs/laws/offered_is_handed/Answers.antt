@@ -1,4 +1,4 @@
-use Rattle.jc_network.proofs.Handing.{offered_handed}
+use Rattle.jc_network.proofs.OfferedLemmas.{offered_handed}
 use Rattle.jc_network.proofs.laws.offered_is_handed.Goals as goal
 
 pub returns : goal.returns

@@ -1,4 +1,4 @@
-use Rattle.jc_network.proofs.Starting.{start_well, after_well}
+use Rattle.jc_network.proofs.RunInvariantStartLemmas.{start_well, after_well}
 use Rattle.jc_network.specs.Laws.{starts}
 use Rattle.jc_network.proofs.laws.offered_is_own.Goals as goal
 

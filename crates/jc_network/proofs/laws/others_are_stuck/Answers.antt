@@ -1,4 +1,4 @@
-use Rattle.jc_network.proofs.Enabling.{others_are_stuck}
+use Rattle.jc_network.proofs.EnabledLemmas.{others_are_stuck}
 use Rattle.jc_network.proofs.laws.others_are_stuck.Goals as goal
 
 pub returns : goal.returns

@@ -1,4 +1,4 @@
-use Rattle.jc_network.proofs.Seeing.{start_seen}
+use Rattle.jc_network.proofs.RefinesLemmas.{start_seen}
 use Rattle.jc_network.proofs.laws.start_is_seen.Goals as goal
 
 pub returns : goal.returns

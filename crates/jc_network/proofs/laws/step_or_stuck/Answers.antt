@@ -1,7 +1,7 @@
-use Rattle.jc_rules.proofs.Refusing.{stuck_has_none}
-use Rattle.jc_network.proofs.Starting.{start_well, after_well}
-use Rattle.jc_network.proofs.Chaining.{are_chained}
-use Rattle.jc_network.proofs.Deciding.{step_decided}
+use Rattle.jc_rules.proofs.RefusedLemmas.{stuck_has_none}
+use Rattle.jc_network.proofs.RunInvariantStartLemmas.{start_well, after_well}
+use Rattle.jc_network.proofs.ChainedLemmas.{are_chained}
+use Rattle.jc_network.proofs.EventsDecideLemmas.{step_decided}
 use Rattle.jc_network.specs.Laws.{starts}
 use Rattle.jc_network.proofs.laws.step_or_stuck.Goals as goal
 

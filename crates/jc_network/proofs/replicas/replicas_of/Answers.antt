@@ -4,7 +4,7 @@ use Rattle.std.proofs.lemmas.Option.{slice_get-map, slice_get-get_or}
 use Rattle.jc_rules.specs.State.{start}
 use Rattle.jc_syntax.specs.Trees.{cmd_of}
 use Rattle.jc_scenario.specs.Views.{scripts_view}
-use Rattle.jc_network.proofs.Beginning.{all_at, next_replica}
+use Rattle.jc_network.proofs.StartLemmas.{all_at, next_replica}
 use Rattle.jc_network.proofs.replicas.replicas_of.Goals as goal
 
 pub new-requires-in-loop-script-clause-short : goal.new-requires-in-loop-script-clause-short

@@ -1,5 +1,5 @@
 use Rattle.std.proofs.Common.{refl, rules}
-use Rattle.jc_network.proofs.Acting.{act_refused, missing_stops, version_stops}
+use Rattle.jc_network.proofs.StepsLemmas.{act_refused, missing_stops, version_stops}
 use Rattle.jc_network.proofs.stepping.make.Goals as goal
 
 pub returns-then-not-are_there : goal.returns-then-not-are_there

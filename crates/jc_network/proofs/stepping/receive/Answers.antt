@@ -1,9 +1,9 @@
 use Rattle.std.proofs.Common.{◌≡◌, ◌<◌, ◌+◌, Some, length, ◌++◌, slice_get, slice_set, slice_index_or, refl, sym, ◌∙◌, ap, subst, arith}
-use Rattle.jc_replica.specs.Answers.{Answers}
+use Rattle.jc_replica.specs.Answers.{AnswersEvent}
 use Rattle.jc_replica.specs.Operations.{AreHanded, AreOfOne}
-use Rattle.jc_network.specs.Makes.{reading}
-use Rattle.jc_network.proofs.Acting.{received}
-use Rattle.jc_network.proofs.Halves.{index_get, get_front, get_back, set_front, set_back}
+use Rattle.jc_network.specs.Steps.{receiving_event}
+use Rattle.jc_network.proofs.StepsLemmas.{received}
+use Rattle.jc_network.proofs.HalvesLemmas.{index_get, get_front, get_back, set_front, set_back}
 use Rattle.jc_network.proofs.stepping.receive.Goals as goal
 
 -- ---- from itself
@@ -17,7 +17,7 @@ returns-then-to-from c =
     let same : c.args.p ≡ c.args.q = sym is ∙ (c.if-to-from.true ∙ c.from-from.ensures) in
     let sender : slice_get xs c.args.q ≡ Some a = subst (λ n. slice_get xs n ≡ Some a) same there in
     let number : a.number ≡ c.args.p = c.requires.numbered c.args.p a there in
-    let answers = subst (λ n. Answers (reading n c.args.id a.number) a.now.send a c.read_own.new.replica c.read_own.result) (number ∙ same) c.read_own.ensures in
+    let answers = subst (λ n. AnswersEvent (receiving_event n c.args.id a.number) a.now.send a c.read_own.new.replica c.read_own.result) (number ∙ same) c.read_own.ensures in
     received xs _ c.args.p c.args.q c.args.id a c.read_own.new.replica a a.now.send c.read_own.result there sender refl (ap (λ n. slice_set xs n c.read_own.new.replica) is) number answers
 
 -- ---- from a later one

@@ -1,4 +1,4 @@
-use Rattle.jc_parser.proofs.LanguageLoops.{refused_index}
+use Rattle.jc_parser.proofs.ExpressionLoopsLemmas.{refused_index}
 use Rattle.jc_parser.proofs.cursor.index_of.Goals as goal
 
 pub returns-in-Err : goal.returns-in-Err

@@ -1,9 +1,9 @@
 use Rattle.std.proofs.Common.{List, subst}
 use Rattle.jc_syntax.specs.declared.token.Token.{Token}
 use Rattle.jc_parser.specs.Symbols.{lexemes}
-use Rattle.jc_parser.specs.Calls.{IsAhead}
-use Rattle.jc_parser.proofs.CallWhole.{at_front}
-use Rattle.jc_parser.proofs.Fronts.{rest_of}
+use Rattle.jc_parser.specs.Events.{IsAhead}
+use Rattle.jc_parser.proofs.EventsLemmas.{at_front}
+use Rattle.jc_parser.proofs.PrefixLemmas.{rest_of}
 use Rattle.jc_parser.proofs.events.event_at.Goals as goal
 
 pub returns-in-Ok-clause-tree : goal.returns-in-Ok-clause-tree

@@ -1,9 +1,9 @@
 use Rattle.std.proofs.Common.{length, sym, subst}
 use Rattle.std.proofs.lemmas.Result.{err_from_is_err_and}
 use Rattle.jc_parser.specs.Symbols.{lexemes}
-use Rattle.jc_parser.specs.Reading.{Reading}
-use Rattle.jc_parser.specs.Calls.{IsAhead, HasNoEvent}
-use Rattle.jc_parser.proofs.CallWhole.{ahead_ok, ahead_err, ahead_kind}
+use Rattle.jc_parser.specs.ReaderState.{Reading}
+use Rattle.jc_parser.specs.Events.{IsAhead, HasNoEvent}
+use Rattle.jc_parser.proofs.EventsLemmas.{ahead_ok, ahead_err, ahead_kind}
 use Rattle.jc_parser.proofs.events.event_before.Goals as goal
 
 pub returns-in_err-event-clause-fault : goal.returns-in_err-event-clause-fault

@@ -1,6 +1,6 @@
 use Rattle.std.proofs.Common.{sym, subst, ◌∙◌}
-use Rattle.jc_parser.specs.Calls.{IsEventFault}
-use Rattle.jc_parser.proofs.SentenceClauses.{memory_is}
+use Rattle.jc_parser.specs.Events.{IsEventFault}
+use Rattle.jc_parser.proofs.SentenceClausesLemmas.{memory_is}
 use Rattle.jc_parser.proofs.events.parse_event.Goals as goal
 
 pub returns-in-Err-clause-fault : goal.returns-in-Err-clause-fault

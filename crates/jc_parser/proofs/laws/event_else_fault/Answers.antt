@@ -1,4 +1,4 @@
-use Rattle.jc_parser.proofs.Deciding.{event_else_fault}
+use Rattle.jc_parser.proofs.FaultsDecideLemmas.{event_else_fault}
 use Rattle.jc_parser.proofs.laws.event_else_fault.Goals as goal
 
 pub returns : goal.returns

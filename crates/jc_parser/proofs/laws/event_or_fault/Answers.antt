@@ -1,4 +1,4 @@
-use Rattle.jc_parser.proofs.CallLaws.{event_or_fault_of_text}
+use Rattle.jc_parser.proofs.EventLawsLemmas.{event_or_fault_of_text}
 use Rattle.jc_parser.proofs.laws.event_or_fault.Goals as goal
 
 pub returns : goal.returns

@@ -1,10 +1,10 @@
-use Rattle.jc_parser.specs.Language.{IsSpelled, IsWellFormed}
-use Rattle.jc_parser.specs.LanguageParts.{expression_at}
-use Rattle.jc_parser.specs.LanguageFaults.{IsExpressionExcess}
-use Rattle.jc_parser.proofs.LanguageLimits.{has_limits}
-use Rattle.jc_parser.proofs.LanguageWhole.{reads_spelled}
-use Rattle.jc_parser.proofs.SentenceLaws.{no_fault_of_text}
+use Rattle.jc_parser.specs.Expressions.{IsExpressionText, IsWellFormedExpression}
+use Rattle.jc_parser.specs.ExpressionReader.{expression_at}
+use Rattle.jc_parser.specs.ExpressionFaults.{IsExpressionExcess}
+use Rattle.jc_parser.proofs.ExpressionLimitsLemmas.{has_limits}
+use Rattle.jc_parser.proofs.ExpressionsLemmas.{reads_spelled}
+use Rattle.jc_parser.proofs.SentenceLawsLemmas.{no_fault_of_text}
 use Rattle.jc_parser.proofs.laws.expression_or_fault.Goals as goal
 
 pub returns : goal.returns
-returns c = no_fault_of_text IsSpelled IsWellFormed IsExpressionExcess expression_at reads_spelled has_limits c.one_list_of_tokens.ensures c.tokens_or_fault.ensures
+returns c = no_fault_of_text IsExpressionText IsWellFormedExpression IsExpressionExcess expression_at reads_spelled has_limits c.one_list_of_tokens.ensures c.tokens_or_fault.ensures

@@ -1,4 +1,4 @@
-use Rattle.jc_parser.proofs.Deciding.{tree_else_fault}
+use Rattle.jc_parser.proofs.FaultsDecideLemmas.{tree_else_fault}
 use Rattle.jc_parser.proofs.laws.named_tree_else_fault.Goals as goal
 
 pub returns : goal.returns

@@ -1,4 +1,4 @@
-use Rattle.jc_parser.proofs.TreeLaws.{tree_or_fault}
+use Rattle.jc_parser.proofs.ScenarioLawsLemmas.{tree_or_fault}
 use Rattle.jc_parser.proofs.laws.named_tree_or_fault.Goals as goal
 
 pub returns : goal.returns

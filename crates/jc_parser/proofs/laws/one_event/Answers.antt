@@ -1,4 +1,4 @@
-use Rattle.jc_parser.proofs.CallLaws.{one_event_of_text}
+use Rattle.jc_parser.proofs.EventLawsLemmas.{one_event_of_text}
 use Rattle.jc_parser.proofs.laws.one_event.Goals as goal
 
 pub returns : goal.returns

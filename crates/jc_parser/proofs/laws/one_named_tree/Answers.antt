@@ -1,4 +1,4 @@
-use Rattle.jc_parser.proofs.TreeLaws.{one_named}
+use Rattle.jc_parser.proofs.ScenarioLawsLemmas.{one_named}
 use Rattle.jc_parser.proofs.laws.one_named_tree.Goals as goal
 
 pub returns : goal.returns

@@ -1,8 +1,8 @@
 use Rattle.jc_parser.specs.Scripts.{IsScriptSpelled, IsScriptWellFormed, IsScriptExcess}
-use Rattle.jc_parser.specs.ScriptParts.{script_at}
-use Rattle.jc_parser.proofs.ScriptSpelled.{reads_spelled}
-use Rattle.jc_parser.proofs.ScriptWhole.{reads_script}
-use Rattle.jc_parser.proofs.Deciding.{sentence_else_fault}
+use Rattle.jc_parser.specs.ScriptReader.{script_at}
+use Rattle.jc_parser.proofs.ScriptsReadLemmas.{reads_spelled}
+use Rattle.jc_parser.proofs.ScriptsLemmas.{reads_script}
+use Rattle.jc_parser.proofs.FaultsDecideLemmas.{sentence_else_fault}
 use Rattle.jc_parser.proofs.laws.script_else_fault.Goals as goal
 
 pub returns : goal.returns

@@ -1,8 +1,8 @@
 use Rattle.jc_parser.specs.Scripts.{IsScriptSpelled, IsScriptWellFormed, IsScriptExcess}
-use Rattle.jc_parser.specs.ScriptParts.{script_at}
-use Rattle.jc_parser.proofs.ScriptLimits.{has_limits}
-use Rattle.jc_parser.proofs.ScriptSpelled.{reads_spelled}
-use Rattle.jc_parser.proofs.SentenceLaws.{no_fault_of_text}
+use Rattle.jc_parser.specs.ScriptReader.{script_at}
+use Rattle.jc_parser.proofs.ScriptLimitsLemmas.{has_limits}
+use Rattle.jc_parser.proofs.ScriptsReadLemmas.{reads_spelled}
+use Rattle.jc_parser.proofs.SentenceLawsLemmas.{no_fault_of_text}
 use Rattle.jc_parser.proofs.laws.script_or_fault.Goals as goal
 
 pub returns : goal.returns

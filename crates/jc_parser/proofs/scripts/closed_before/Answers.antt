@@ -3,9 +3,9 @@ use Rattle.std.proofs.lemmas.Result.{err_from_is_err_and}
 use Rattle.jc_rules.specs.Syntax.{Cmd}
 use Rattle.jc_syntax.specs.Trees.{cmd_of}
 use Rattle.jc_parser.specs.Symbols.{lexemes}
-use Rattle.jc_parser.specs.Reading.{Reading}
+use Rattle.jc_parser.specs.ReaderState.{Reading}
 use Rattle.jc_parser.specs.ClosedScripts.{IsClosedAhead, HasNoScript}
-use Rattle.jc_parser.proofs.ClosedScripts.{ahead_ok, ahead_err, ahead_kind, fewer_tokens}
+use Rattle.jc_parser.proofs.ClosedScriptsLemmas.{ahead_ok, ahead_err, ahead_kind, fewer_tokens}
 use Rattle.jc_parser.proofs.scripts.closed_before.Goals as goal
 
 pub returns-in_err-script-clause-fault : goal.returns-in_err-script-clause-fault

@@ -1,5 +1,5 @@
 use Rattle.std.proofs.Common.{rules}
-use Rattle.jc_parser.specs.ScriptParts.{finish_at, deletion_at}
+use Rattle.jc_parser.specs.ScriptReader.{finish_at, deletion_at}
 use Rattle.jc_parser.proofs.scripts.finish.Goals as goal
 
 pub returns : goal.returns

@@ -1,6 +1,6 @@
 use Rattle.std.proofs.Common.{sym, subst, ◌∙◌}
 use Rattle.jc_parser.specs.Scripts.{IsScriptFault}
-use Rattle.jc_parser.proofs.SentenceClauses.{memory_is}
+use Rattle.jc_parser.proofs.SentenceClausesLemmas.{memory_is}
 use Rattle.jc_parser.proofs.scripts.parse_script.Goals as goal
 
 pub returns-in-Err-clause-fault : goal.returns-in-Err-clause-fault

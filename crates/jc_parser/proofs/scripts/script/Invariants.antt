@@ -1,7 +1,7 @@
 use Rattle.std.proofs.Common.{◌≡◌, map}
 use Rattle.jc_syntax.specs.Trees.{cmd_of}
-use Rattle.jc_parser.specs.ScriptParts.{commands_at}
-use Rattle.jc_parser.proofs.Loops.{with_front}
+use Rattle.jc_parser.specs.ScriptReader.{commands_at}
+use Rattle.jc_parser.proofs.LoopsLemmas.{with_front}
 use Rattle.jc_parser.proofs.scripts.script.Given as goal
 
 -- the commands so far, and those to come

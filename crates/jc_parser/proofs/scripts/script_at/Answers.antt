@@ -4,8 +4,8 @@ use Rattle.jc_syntax.specs.Trees.{cmd_of}
 use Rattle.jc_syntax.specs.declared.token.Token.{Token}
 use Rattle.jc_parser.specs.Symbols.{lexemes}
 use Rattle.jc_parser.specs.ClosedScripts.{IsClosedAhead}
-use Rattle.jc_parser.proofs.ClosedScripts.{at_front}
-use Rattle.jc_parser.proofs.Fronts.{rest_of}
+use Rattle.jc_parser.proofs.ClosedScriptsLemmas.{at_front}
+use Rattle.jc_parser.proofs.PrefixLemmas.{rest_of}
 use Rattle.jc_parser.proofs.scripts.script_at.Goals as goal
 
 pub returns-in-Ok-clause-tree : goal.returns-in-Ok-clause-tree

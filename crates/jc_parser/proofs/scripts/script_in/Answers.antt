@@ -1,7 +1,7 @@
 use Rattle.std.proofs.Common.{inl, refl, ap}
 use Rattle.std.proofs.lemmas.Result.{err_from_is_err_and}
 use Rattle.jc_parser.specs.Faults.{from_lexer}
-use Rattle.jc_parser.proofs.SentenceClauses.{lexical_is}
+use Rattle.jc_parser.proofs.SentenceClausesLemmas.{lexical_is}
 use Rattle.jc_parser.proofs.scripts.script_in.Goals as goal
 
 pub returns-in_err-tokens-clause-fault : goal.returns-in_err-tokens-clause-fault

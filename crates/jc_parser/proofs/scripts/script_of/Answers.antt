@@ -1,18 +1,18 @@
 use Rattle.std.proofs.Common.{map, subst}
 use Rattle.jc_syntax.specs.Trees.{cmd_of}
-use Rattle.jc_parser.specs.Reading.{Reading, reading, Gives}
-use Rattle.jc_parser.specs.ScriptParts.{only_script_at}
-use Rattle.jc_parser.proofs.ScriptWhole.{spelled_so, within_so, refused_so, kind_so}
+use Rattle.jc_parser.specs.ReaderState.{Reading, reading_of, MapsResult}
+use Rattle.jc_parser.specs.ScriptReader.{only_script_at}
+use Rattle.jc_parser.proofs.ScriptsLemmas.{spelled_so, within_so, refused_so, kind_so}
 use Rattle.jc_parser.proofs.scripts.script_of.Goals as goal
 
 pub returns-clause-spelled : goal.returns-clause-spelled
-returns-clause-spelled c = spelled_so (λ s. map cmd_of s.items) c.only_script.result (reading c.args.text.now c.args.tokens.now) (subst (λ (r : Reading). Gives (λ s. map cmd_of s.items) c.only_script.result (only_script_at r)) c.new-cursor.ensures c.only_script.ensures)
+returns-clause-spelled c = spelled_so (λ s. map cmd_of s.items) c.only_script.result (reading_of c.args.text.now c.args.tokens.now) (subst (λ (r : Reading). MapsResult (λ s. map cmd_of s.items) c.only_script.result (only_script_at r)) c.new-cursor.ensures c.only_script.ensures)
 
 pub returns-clause-within : goal.returns-clause-within
-returns-clause-within c = within_so (λ s. map cmd_of s.items) c.only_script.result (reading c.args.text.now c.args.tokens.now) (subst (λ (r : Reading). Gives (λ s. map cmd_of s.items) c.only_script.result (only_script_at r)) c.new-cursor.ensures c.only_script.ensures)
+returns-clause-within c = within_so (λ s. map cmd_of s.items) c.only_script.result (reading_of c.args.text.now c.args.tokens.now) (subst (λ (r : Reading). MapsResult (λ s. map cmd_of s.items) c.only_script.result (only_script_at r)) c.new-cursor.ensures c.only_script.ensures)
 
 pub returns-clause-fault : goal.returns-clause-fault
-returns-clause-fault c = refused_so (λ s. map cmd_of s.items) c.only_script.result (reading c.args.text.now c.args.tokens.now) (subst (λ (r : Reading). Gives (λ s. map cmd_of s.items) c.only_script.result (only_script_at r)) c.new-cursor.ensures c.only_script.ensures)
+returns-clause-fault c = refused_so (λ s. map cmd_of s.items) c.only_script.result (reading_of c.args.text.now c.args.tokens.now) (subst (λ (r : Reading). MapsResult (λ s. map cmd_of s.items) c.only_script.result (only_script_at r)) c.new-cursor.ensures c.only_script.ensures)
 
 pub returns-clause-kind : goal.returns-clause-kind
-returns-clause-kind c = kind_so (λ s. map cmd_of s.items) c.only_script.result (reading c.args.text.now c.args.tokens.now) (subst (λ (r : Reading). Gives (λ s. map cmd_of s.items) c.only_script.result (only_script_at r)) c.new-cursor.ensures c.only_script.ensures)
+returns-clause-kind c = kind_so (λ s. map cmd_of s.items) c.only_script.result (reading_of c.args.text.now c.args.tokens.now) (subst (λ (r : Reading). MapsResult (λ s. map cmd_of s.items) c.only_script.result (only_script_at r)) c.new-cursor.ensures c.only_script.ensures)

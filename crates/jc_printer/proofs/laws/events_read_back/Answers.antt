@@ -1,7 +1,7 @@
 use Rattle.jc_printer.specs.Canon.{canon_event}
 use Rattle.jc_parser.specs.Symbols.{lexemes}
-use Rattle.jc_printer.proofs.Events.{event_printed, named_event}
-use Rattle.jc_printer.proofs.Printed.{printed_text}
+use Rattle.jc_printer.proofs.CanonEventsLemmas.{event_printed, named_event}
+use Rattle.jc_printer.proofs.PrintedSymbolsLemmas.{printed_text}
 use Rattle.jc_printer.proofs.laws.events_read_back.Goals as goal
 
 pub returns : goal.returns

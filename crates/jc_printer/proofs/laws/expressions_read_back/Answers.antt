@@ -1,7 +1,7 @@
 use Rattle.std.proofs.Common.{[], refl}
 use Rattle.jc_printer.specs.Canon.{canon_expr}
-use Rattle.jc_printer.proofs.Printed.{printed_text}
-use Rattle.jc_printer.proofs.Trees.{alone, expression_printed}
+use Rattle.jc_printer.proofs.PrintedSymbolsLemmas.{printed_text}
+use Rattle.jc_printer.proofs.CanonTreesLemmas.{alone, expression_printed}
 use Rattle.jc_printer.proofs.laws.expressions_read_back.Goals as goal
 
 pub returns : goal.returns

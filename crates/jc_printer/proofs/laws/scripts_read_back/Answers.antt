@@ -1,6 +1,6 @@
 use Rattle.jc_printer.specs.Canon.{canon_script}
-use Rattle.jc_printer.proofs.Printed.{printed_text}
-use Rattle.jc_printer.proofs.Trees.{script_printed}
+use Rattle.jc_printer.proofs.PrintedSymbolsLemmas.{printed_text}
+use Rattle.jc_printer.proofs.CanonTreesLemmas.{script_printed}
 use Rattle.jc_printer.proofs.laws.scripts_read_back.Goals as goal
 
 pub returns : goal.returns

@@ -1,4 +1,4 @@
-use Rattle.jc_printer.proofs.Pushed.{four_pushed, where_pushed}
+use Rattle.jc_printer.proofs.PushedTextsLemmas.{four_pushed, where_pushed}
 use Rattle.jc_printer.proofs.print.+push_expr.Goals as goal
 
 -- the expression, and the selector of its key

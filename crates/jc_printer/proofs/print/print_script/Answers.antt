@@ -1,6 +1,6 @@
 use Rattle.jc_syntax.specs.Trees.{cmd_of}
 use Rattle.jc_printer.specs.Canon.{canon_cmd}
-use Rattle.jc_printer.proofs.Pushed.{item_pushed}
+use Rattle.jc_printer.proofs.PushedTextsLemmas.{item_pushed}
 use Rattle.jc_printer.proofs.print.print_script.Goals as goal
 
 -- one command more is written, behind its semicolon and blank

@@ -1,6 +1,6 @@
 use Rattle.std.proofs.Common.{string_bytes, ◌++◌}
 use Rattle.jc_printer.specs.Canon.{escape}
-use Rattle.jc_printer.proofs.Escapes.{first_ascii, first_special, last_run, one_run}
+use Rattle.jc_printer.proofs.EscapesLemmas.{first_ascii, first_special, last_run, one_run}
 use Rattle.jc_printer.proofs.quote.push_content.Goals as goal
 
 pub split_first-requires : goal.split_first-requires

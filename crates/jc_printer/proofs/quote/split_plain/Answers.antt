@@ -1,4 +1,4 @@
-use Rattle.jc_printer.proofs.Escapes.{run_boundary}
+use Rattle.jc_printer.proofs.EscapesLemmas.{run_boundary}
 use Rattle.jc_printer.proofs.quote.split_plain.Goals as goal
 
 pub split_at-requires : goal.split_at-requires

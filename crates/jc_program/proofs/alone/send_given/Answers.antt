@@ -1,7 +1,7 @@
 use Rattle.std.proofs.Common.{◌∙◌}
 use Rattle.jc_scenario.specs.Views.{scenario_view}
-use Rattle.jc_program.specs.Ran.{IsGivenShown}
-use Rattle.jc_program.proofs.GivenStuck.{given_named, given_shown}
+use Rattle.jc_program.specs.ViewText.{IsGivenShown}
+use Rattle.jc_program.proofs.GivenStuckLemmas.{given_named, given_shown}
 use Rattle.jc_program.proofs.alone.send_given.Goals as goal
 
 pub given_text-requires : goal.given_text-requires

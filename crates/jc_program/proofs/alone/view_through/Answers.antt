@@ -4,12 +4,12 @@ use Rattle.jc_session.specs.Written.{sink, Written}
 use Rattle.jc_view.specs.Visible.{views_text}
 use Rattle.jc_network.specs.declared.fault.StartFault.{StartFault}
 use Rattle.jc_network.specs.declared.net.Net.{Net}
-use Rattle.jc_words.specs.declared.order.View.TheVariants.{Document}
-use Rattle.jc_program.specs.Ran.{Shows}
-use Rattle.jc_program.proofs.Reading.{handed, if_ok}
-use Rattle.jc_program.proofs.Begun.{unstarted, events_stand}
-use Rattle.jc_program.proofs.Ending.{replicas_stand, all_stand}
-use Rattle.jc_program.proofs.Viewed.{ended, stopped, no_part, viewing, telling}
+use Rattle.jc_cli.specs.declared.order.View.TheVariants.{Document}
+use Rattle.jc_program.specs.ViewText.{Shows}
+use Rattle.jc_program.proofs.ReadsScenarioLemmas.{handed, if_ok}
+use Rattle.jc_program.proofs.ViewOutputLemmas.{unstarted, events_stand}
+use Rattle.jc_program.proofs.ViewTextLemmas.{replicas_stand, all_stand}
+use Rattle.jc_program.proofs.ViewsLemmas.{ended, stopped, no_part, viewing, telling}
 use Rattle.jc_program.proofs.alone.view_through.Goals as goal
 
 abbrev failed : StartFault → Result Net StartFault

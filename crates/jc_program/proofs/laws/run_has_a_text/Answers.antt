@@ -1,4 +1,4 @@
-use Rattle.jc_program.proofs.SomeRun.{run_has_a_text}
+use Rattle.jc_program.proofs.SomeRunLemmas.{run_has_a_text}
 use Rattle.jc_program.proofs.laws.run_has_a_text.Goals as goal
 
 pub returns : goal.returns

@@ -2,7 +2,7 @@ use Rattle.std.proofs.Common.{◌∙◌, ℕ, List, ap, sym, subst, string_bytes
 use Rattle.jc_scenario.specs.Views.{scenario_view}
 use Rattle.jc_runner.specs.declared.worker.End.{End}
 use Rattle.jc_program.specs.Ends.{AreTellable, AreEndLines, outcome_of}
-use Rattle.jc_program.proofs.Tellable.{of_report}
+use Rattle.jc_program.proofs.EndsLemmas.{of_report}
 use Rattle.jc_program.proofs.recording.told.Goals as goal
 
 pub end_lines-requires : goal.end_lines-requires

@@ -1,6 +1,6 @@
 use Rattle.std.proofs.Common.{◌<◌, length, ◌∙◌, ap, arith}
 use Rattle.jc_session.specs.Written.{sink}
-use Rattle.jc_program.proofs.Viewing.{views_go_on, views_begun}
+use Rattle.jc_program.proofs.DocumentsLemmas.{views_go_on, views_begun}
 use Rattle.jc_program.proofs.run.send_views.Goals as goal
 
 pub returns-in_default-clause-memory : goal.returns-in_default-clause-memory

@@ -5,8 +5,8 @@ use Rattle.std.proofs.lemmas.List.{map-id}
 use Rattle.jc_rules.specs.declared.operation.Op.{Op}
 use Rattle.jc_rules.specs.Table.{both, with_op}
 use Rattle.jc_replica.specs.Operations.{AreInOrder}
-use Rattle.jc_replica.specs.Received.{IsPlace}
-use Rattle.jc_replica.proofs.Unions.{turn, belongs, belongs_there, both-in_order, both-last}
+use Rattle.jc_replica.specs.Received.{IsOpPlace}
+use Rattle.jc_replica.proofs.ReceivedUnionLemmas.{turn, belongs, belongs_there, both-in_order, both-last}
 use Rattle.jc_replica.proofs.received.bring_in.Goals as goal
 
 in_order : (c : goal.After-place_of-arg-1) → AreInOrder c.as_slice.result.now
@@ -23,11 +23,11 @@ unwrap_err-place-requires c =
     let so_far = YieldsList-so_far all c.loop-op.yielded c.loop-op.op-iterator c.loop-op.yielded_by in
     let t = turn c.args.ops.now.items c.args.fresh.items c.loop-op.yielded c.in-Some.op c.requires.rises c.requires.new so_far at in
     let now : c.as_slice.result.now ≡ both c.args.ops.now.items c.loop-op.yielded = c.as_slice.ensures.value ∙ c.loop-op.invariant.united in
-    belongs c.in-Some.op.id (both c.args.ops.now.items c.loop-op.yielded) c.place_of.result t.absent (subst (λ (os : List Op). IsPlace c.in-Some.op.id os c.place_of.result) now c.place_of.ensures)
+    belongs c.in-Some.op.id (both c.args.ops.now.items c.loop-op.yielded) c.place_of.result t.absent (subst (λ (os : List Op). IsOpPlace c.in-Some.op.id os c.place_of.result) now c.place_of.ensures)
 
 pub insert-requires : goal.insert-requires
 insert-requires c =
-    let p = belongs_there c.in-Some.op.id c.loop-op.ops.items c.place_of.result c.unwrap_err-place.result (subst (λ (os : List Op). IsPlace c.in-Some.op.id os c.place_of.result) c.as_slice.ensures.value c.place_of.ensures) c.unwrap_err-place.ensures in
+    let p = belongs_there c.in-Some.op.id c.loop-op.ops.items c.place_of.result c.unwrap_err-place.result (subst (λ (os : List Op). IsOpPlace c.in-Some.op.id os c.place_of.result) c.as_slice.ensures.value c.place_of.ensures) c.unwrap_err-place.ensures in
     omega (arith, p.within, c.loop-op.ops.ok.0)
 
 pub unwrap-requires : goal.unwrap-requires
@@ -45,7 +45,7 @@ loop-op-preserved c =
     let at = YieldsList-turn all c.loop-op.yielded c.loop-op.op-iterator c.loop-op.yielded_by c.next.result c.next.new.self c.in-Some.op c.in-Some.is c.next.ensures.steps in
     let so_far = YieldsList-so_far all c.loop-op.yielded c.loop-op.op-iterator c.loop-op.yielded_by in
     let t = turn c.args.ops.now.items c.args.fresh.items c.loop-op.yielded c.in-Some.op c.requires.rises c.requires.new so_far at in
-    let p = belongs_there c.in-Some.op.id c.loop-op.ops.items c.place_of.result c.unwrap_err-place.result (subst (λ (os : List Op). IsPlace c.in-Some.op.id os c.place_of.result) c.as_slice.ensures.value c.place_of.ensures) c.unwrap_err-place.ensures in
+    let p = belongs_there c.in-Some.op.id c.loop-op.ops.items c.place_of.result c.unwrap_err-place.result (subst (λ (os : List Op). IsOpPlace c.in-Some.op.id os c.place_of.result) c.as_slice.ensures.value c.place_of.ensures) c.unwrap_err-place.ensures in
     let came : c.insert.new.self.items ≡ _ = rw c.unwrap.ensures at c.insert.ensures.items in
     record {
       united = came ∙ sym (p.place c.in-Some.op refl) ∙ ap (with_op c.in-Some.op) c.loop-op.invariant.united ∙ sym (both-last c.args.ops.now.items c.loop-op.yielded c.in-Some.op t.later);

@@ -1,5 +1,5 @@
 use Rattle.std.proofs.Common.{sym}
-use Rattle.jc_replica.proofs.Unions.{standing}
+use Rattle.jc_replica.proofs.ReceivedUnionLemmas.{standing}
 use Rattle.jc_replica.proofs.received.find.Goals as goal
 
 pub returns-in-Ok : goal.returns-in-Ok

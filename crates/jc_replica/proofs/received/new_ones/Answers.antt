@@ -1,6 +1,6 @@
 use Rattle.std.proofs.Common.{◌≡◌, true, false, sym, ◌∙◌, append-nil}
 use Rattle.jc_replica.specs.Received.{is_new}
-use Rattle.jc_replica.proofs.Unions.{place_tells, filtered_more}
+use Rattle.jc_replica.proofs.ReceivedUnionLemmas.{place_tells, filtered_more}
 use Rattle.jc_replica.proofs.received.new_ones.Goals as goal
 use Rattle.jc_replica.proofs.received.new_ones.Goals.{then-is_err+in_ok-copy+in_ok-push, else-is_err}
 

@@ -1,6 +1,6 @@
 use Rattle.std.proofs.Common.{rules}
 use Rattle.std.proofs.lemmas.Fn.{always_returns_same}
-use Rattle.jc_replica.proofs.Unions.{searched}
+use Rattle.jc_replica.proofs.ReceivedUnionLemmas.{searched}
 use Rattle.jc_replica.proofs.received.place_of.Goals as goal
 
 pub returns : goal.returns

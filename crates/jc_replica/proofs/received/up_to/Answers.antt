@@ -1,6 +1,6 @@
 use Rattle.std.proofs.Common.{leb, rules, tests}
 use Rattle.std.proofs.lemmas.Fn.{always_returns_same}
-use Rattle.jc_replica.proofs.Unions.{partitioned, front_low}
+use Rattle.jc_replica.proofs.ReceivedUnionLemmas.{partitioned, front_low}
 use Rattle.jc_replica.proofs.received.up_to.Goals as goal
 
 pub returns-clause-low : goal.returns-clause-low

@@ -1,8 +1,8 @@
 use Rattle.std.proofs.Common.{Some, ◌≡◌, sym, ◌∙◌, subst}
 use Rattle.jc_rules.specs.declared.operation.Op.{Op}
 use Rattle.jc_rules.specs.Table.{op_of}
-use Rattle.jc_rules.proofs.Rising.{all_at}
-use Rattle.jc_replica.proofs.Whole.{whole_more}
+use Rattle.jc_rules.proofs.RisingLemmas.{all_at}
+use Rattle.jc_replica.proofs.ReceivedLemmas.{whole_more}
 use Rattle.jc_replica.proofs.received.whole_to.Goals as goal
 
 pub loop-op-preserved : goal.loop-op-preserved

@@ -2,9 +2,9 @@ use Rattle.std.proofs.Common.{rules, ◌≡◌, ◌≤◌, ◌<◌, List, ℕ, l
 use Rattle.std.specs.Vec.{vec_len}
 use Rattle.jc_cursor.specs.declared.bound.Bound.{Bound}
 use Rattle.jc_cursor.specs.Bounds.{vars_of}
-use Rattle.jc_replica.specs.Binds.{first_from}
-use Rattle.jc_replica.proofs.Naming.{bound_at, bound_new, place_within, same_text}
-use Rattle.jc_replica.proofs.Scripts.{read_twice}
+use Rattle.jc_replica.specs.Variables.{first_from}
+use Rattle.jc_replica.proofs.VariableNamesLemmas.{bound_at, bound_new, place_within, same_text}
+use Rattle.jc_replica.proofs.ScriptLemmas.{read_twice}
 use Rattle.jc_replica.proofs.vars.bind_var.Goals.{else-place-len-via-then-place-len+else-eq, else-place-len-via-else-place-len}
 use Rattle.jc_replica.proofs.vars.bind_var.Goals as goal
 

@@ -1,6 +1,6 @@
 use Rattle.std.proofs.Common.{length, drop, ◌≡◌, ◌≤◌, ◌+◌, ◌-◌}
 use Rattle.jc_cursor.specs.Bounds.{vars_of}
-use Rattle.jc_replica.specs.Binds.{first_from}
+use Rattle.jc_replica.specs.Variables.{first_from}
 use Rattle.jc_replica.proofs.vars.place_of.Given as goal
 
 abbrev pub invariant-loop-place : goal.invariant-loop-place

@@ -2,7 +2,7 @@ use Rattle.std.proofs.Common.{rules, ◌≡◌, remove, get_or, ap, sym, ◌∙�
 use Rattle.std.specs.Option.{option_map}
 use Rattle.jc_cursor.specs.Bounds.{bound_of, vars_of}
 use Rattle.jc_replica.specs.Undo.{unbound}
-use Rattle.jc_replica.proofs.Naming.{set_unbound, removed_unbound}
+use Rattle.jc_replica.proofs.VariableNamesLemmas.{set_unbound, removed_unbound}
 use Rattle.jc_replica.proofs.vars.unbind_var.Goals as goal
 
 pub returns-in-Some : goal.returns-in-Some

@@ -1,6 +1,6 @@
 use Rattle.std.proofs.Common.{sym}
 use Rattle.jc_rules.specs.declared.id.Id.{Id}
-use Rattle.jc_rules.proofs.OneEach.{is_place, no_place, greatest_at, none_left}
+use Rattle.jc_rules.proofs.VersionVectorsLemmas.{is_place, no_place, greatest_at, none_left}
 use Rattle.jc_rules.proofs.id_set.counter_of.Goals as goal
 
 pub returns-in-Some : goal.returns-in-Some

@@ -1,6 +1,6 @@
 use Rattle.std.proofs.Common.{◌≡◌, ◌∙◌, sym, is_ok, true, ap}
 use Rattle.jc_rules.specs.Ids.{AreRising, has_id, with_id}
-use Rattle.jc_rules.proofs.Ids.{with-rises, with-present, searched, searched_place}
+use Rattle.jc_rules.proofs.IdsLemmas.{with-rises, with-present, searched, searched_place}
 use Rattle.jc_rules.proofs.id_set.insert_id.Goals as goal
 
 -- the identifier came to its place

@@ -1,4 +1,4 @@
-use Rattle.jc_rules.proofs.Order.{ids_total, exact_ids, names_total, exact_names, keys_total, exact_keys}
+use Rattle.jc_rules.proofs.OrderLemmas.{ids_total, exact_ids, names_total, exact_names, keys_total, exact_keys}
 use Rattle.jc_rules.proofs.laws.exact_orders.Goals as goal
 
 pub returns : goal.returns

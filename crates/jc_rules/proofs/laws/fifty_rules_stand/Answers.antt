@@ -1,4 +1,4 @@
-use Rattle.jc_rules.proofs.Fifty.{fifty_stand}
+use Rattle.jc_rules.proofs.FiftyRulesLemmas.{fifty_stand}
 use Rattle.jc_rules.proofs.laws.fifty_rules_stand.Goals as goal
 
 pub returns : goal.returns

@@ -1,4 +1,4 @@
-use Rattle.jc_rules.proofs.Listed.{names_differ}
+use Rattle.jc_rules.proofs.RefusalsLemmas.{names_differ}
 use Rattle.jc_rules.proofs.laws.names_differ.Goals as goal
 
 pub returns : goal.returns

@@ -1,4 +1,4 @@
-use Rattle.jc_rules.proofs.Network.{one_after}
+use Rattle.jc_rules.proofs.StepLemmas.{one_after}
 use Rattle.jc_rules.proofs.laws.one_after.Goals as goal
 
 pub returns : goal.returns

@@ -1,4 +1,4 @@
-use Rattle.jc_rules.proofs.Versions.{one_after_in}
+use Rattle.jc_rules.proofs.VersionLemmas.{one_after_in}
 use Rattle.jc_rules.proofs.laws.one_after_in.Goals as goal
 
 pub returns : goal.returns

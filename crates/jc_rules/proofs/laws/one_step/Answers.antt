@@ -1,4 +1,4 @@
-use Rattle.jc_rules.proofs.Network.{one_step}
+use Rattle.jc_rules.proofs.StepLemmas.{one_step}
 use Rattle.jc_rules.proofs.laws.one_step.Goals as goal
 
 pub returns : goal.returns

@@ -1,4 +1,4 @@
-use Rattle.jc_rules.proofs.Refusing.{one_stuck}
+use Rattle.jc_rules.proofs.RefusedLemmas.{one_stuck}
 use Rattle.jc_rules.proofs.laws.one_stuck.Goals as goal
 
 pub returns : goal.returns

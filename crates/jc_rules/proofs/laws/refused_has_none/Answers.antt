@@ -1,4 +1,4 @@
-use Rattle.jc_rules.proofs.Refusing.{refused_has_none}
+use Rattle.jc_rules.proofs.RefusedLemmas.{refused_has_none}
 use Rattle.jc_rules.proofs.laws.refused_has_none.Goals as goal
 
 pub returns : goal.returns

@@ -1,4 +1,4 @@
-use Rattle.jc_rules.proofs.Ids.{has_id-with, has_id-union, has_id-without, with-rises, union-rises, without-rises, same_members}
+use Rattle.jc_rules.proofs.IdsLemmas.{has_id-with, has_id-union, has_id-without, with-rises, union-rises, without-rises, same_members}
 use Rattle.jc_rules.proofs.laws.sets.Goals as goal
 
 pub returns : goal.returns

@@ -1,4 +1,4 @@
-use Rattle.jc_rules.proofs.Versions.{stuck_in_has_none}
+use Rattle.jc_rules.proofs.VersionLemmas.{stuck_in_has_none}
 use Rattle.jc_rules.proofs.laws.stuck_in_has_none.Goals as goal
 
 pub returns : goal.returns

@@ -1,4 +1,4 @@
-use Rattle.jc_runner.proofs.Choices.{choice_is}
+use Rattle.jc_runner.proofs.ChosenLemmas.{choice_is}
 use Rattle.jc_runner.proofs.laws.choices_are_own.Goals as goal
 
 pub returns : goal.returns

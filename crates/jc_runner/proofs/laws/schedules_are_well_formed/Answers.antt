@@ -1,4 +1,4 @@
-use Rattle.jc_runner.proofs.Schedules.{well_formed_with}
+use Rattle.jc_runner.proofs.LegalLemmas.{well_formed_with}
 use Rattle.jc_runner.proofs.laws.schedules_are_well_formed.Goals as goal
 
 pub returns : goal.returns

@@ -8,14 +8,14 @@ use Rattle.std.proofs.lemmas.List.Elements.{All-get_or}
 use Rattle.std.proofs.lemmas.List.FromFn.{get_or-range_with_len, length-range_with_len}
 use Rattle.jc_rules.specs.Step.{replica_of}
 use Rattle.jc_lock.specs.Shows.{pass_number, pass_seen, pass_mine}
-use Rattle.jc_lock.proofs.Closing.{each_of}
-use Rattle.jc_lock.proofs.Numbering.{each_once_in_order}
+use Rattle.jc_lock.proofs.GatheredLemmas.{each_of}
+use Rattle.jc_lock.proofs.NumbersLemmas.{each_once_in_order}
 use Rattle.jc_scenario.specs.Views.{scenario_view}
 use Rattle.jc_runner.specs.declared.worker.Worked.{Worked}
 use Rattle.jc_runner.specs.Benches.{IsPassAt, IsNewAt, bench_start, bench_passes}
 use Rattle.jc_runner.specs.Legal.{own_events}
-use Rattle.jc_runner.specs.Worked.{HaveWorked}
-use Rattle.jc_runner.proofs.Reporting.{numbered, reported, all_mapped, mapped_all, map_twice}
+use Rattle.jc_runner.specs.WorkerResult.{HaveWorked}
+use Rattle.jc_runner.proofs.ReportsLemmas.{numbered, reported, all_mapped, mapped_all, map_twice}
 use Rattle.jc_runner.proofs.run.run_threads.Goals as goal
 
 pub run_on-requires-after_bounds : goal.run_on-requires-after_bounds

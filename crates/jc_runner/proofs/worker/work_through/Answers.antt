@@ -2,18 +2,18 @@ use Rattle.std.proofs.Common.{arith, ◌≡◌, ◌<◌, ◌+◌, ◌∷◌, [],
 use Rattle.jc_lock.specs.Shows.{pass_number, pass_left, pass_origin, pass_seen, pass_mine, turn_value, turn_mine, turn_left}
 use Rattle.jc_scenario.specs.Views.{scenario_view}
 use Rattle.jc_runner.specs.Benches.{bench_start}
-use Rattle.jc_runner.specs.Phases.{last_of, phase_after}
+use Rattle.jc_runner.specs.Phases.{last_event_of, phase_after}
 use Rattle.jc_runner.specs.Chosen.{choice}
 use Rattle.jc_runner.specs.Legal.{IsLegal, own_events, AllChosen}
 use Rattle.jc_runner.specs.Asked.{Asks, questions_of}
-use Rattle.jc_runner.specs.Answers.{IsAnswered, seen_after}
+use Rattle.jc_runner.specs.Answers.{IsStepAnswered, seen_after}
 use Rattle.jc_runner.specs.declared.worker.Worked.{Worked}
 use Rattle.jc_runner.specs.declared.worker.End.TheVariants as N
-use Rattle.jc_runner.specs.Worked.{IsWorked}
-use Rattle.jc_runner.proofs.Histories.{chosen_none, chosen_more}
-use Rattle.jc_runner.proofs.Choices.{choice_is}
-use Rattle.jc_runner.proofs.Working.{same_start, in_hand, still_chosen, chosen_now, is_next, is_finished, goes_on, ends_by, ended}
-use Rattle.jc_runner.proofs.Asking.{asks_none, asks_next}
+use Rattle.jc_runner.specs.WorkerResult.{IsWorkerResult}
+use Rattle.jc_runner.proofs.LegalGrowsLemmas.{chosen_none, chosen_more}
+use Rattle.jc_runner.proofs.ChosenLemmas.{choice_is}
+use Rattle.jc_runner.proofs.WorkerResultLemmas.{same_start, in_hand, still_chosen, chosen_now, is_next, is_finished, goes_on, ends_by, ended}
+use Rattle.jc_runner.proofs.AskedLemmas.{asks_none, asks_next}
 use Rattle.jc_runner.proofs.worker.work_through.Goals as goal
 
 pub loop-init : goal.loop-init
@@ -46,7 +46,7 @@ returns-in-None-choose-clause-worked g c =
     let give = c.give.ensures in
     let low : p < length s.scripts = subst (λ k. k < length s.scripts) (sym c.number-p.ensures) c.requires.there in
     let worked : Worked = record { pass = c.give.result; made = c.loop.made; end = N.Finished } in
-    subst (λ k. IsWorked c.args.bench.now k (pass_left c.args.pass) worked) c.number-p.ensures
+    subst (λ k. IsWorkerResult c.args.bench.now k (pass_left c.args.pass) worked) c.number-p.ensures
     (ended c.args.bench.now p (pass_left c.args.pass) worked history (pass_mine c.loop.pass) give.lock (give.number.0 ∙ (ok.number.0 ∙ inv.number)) (give.origin ∙ (ok.origin.0 ∙ inv.origin)) give.own give.seen owned inv.made all
     (is_finished s p history network c.loop.phase legal low (sym c.choose.ensures ∙ c.in-None-choose.is), omega (arith, ok.number.1, inv.takes, inv.made)))
 
@@ -84,7 +84,7 @@ loop-preserved g c =
       own = ap (own_events (pass_seen new)) (sym number) ∙ m.own;
       made = omega (arith, ap length mine, length-append (pass_mine c.loop.pass) (e ∷ []), inv.made);
       takes = omega (arith, m.left, ok.number.1, inv.takes);
-      phase = is_next p (pass_mine c.loop.pass) network c.loop.phase next e is ∙ ap (λ l. phase_after (last_of l)) (sym mine);
+      phase = is_next p (pass_mine c.loop.pass) network c.loop.phase next e is ∙ ap (λ l. phase_after (last_event_of l)) (sym mine);
       chosen = subst (AllChosen s p) (sym made.0) (chosen_more s p history e all (chosen_now s p history (pass_mine c.loop.pass) network c.loop.phase next e legal owned inv.phase is));
       asked = asks_next p c.loop.made _ _ _ inv.asked c.before-in-loop.ensures;
     }
@@ -109,11 +109,11 @@ returns-in-Some-end_of-clause-worked g c =
     let a = c.make-back.result.1 in
     let number : pass_number new ≡ p = m.number.0 ∙ (ok.number.0 ∙ inv.number) in
     let limit = pass_left c.args.pass in
-    let answered = subst (λ t. IsAnswered t e (pass_seen new) (turn_mine c.in-Ok.turn) (pass_mine new) (turn_left c.in-Ok.turn + 1) (pass_left new) a) same m.answer in
+    let answered = subst (λ t. IsStepAnswered t e (pass_seen new) (turn_mine c.in-Ok.turn) (pass_mine new) (turn_left c.in-Ok.turn + 1) (pass_left new) a) same m.answer in
     let worked : Worked = record { pass = new; made = c.loop.made; end = c.in-Some-end_of.end } in
     let by =
     ends_by s p limit history (pass_mine c.loop.pass) network c.loop.phase next e legal owned inv.phase is (omega (arith, ok.number.1, inv.takes, inv.made)) (pass_seen new) (turn_mine c.in-Ok.turn) (pass_mine new) (turn_left c.in-Ok.turn + 1) (pass_left new) a c.in-Some-end_of.end (sym c.end_of.ensures ∙ c.in-Some-end_of.is) m.waited answered (m.list ∙ ap (λ h. seen_after h e a) ok.list.0) in
-    subst (λ k. IsWorked c.args.bench.now k limit worked) c.number-p.ensures
+    subst (λ k. IsWorkerResult c.args.bench.now k limit worked) c.number-p.ensures
     (ended c.args.bench.now p limit worked history (pass_mine c.loop.pass) m.lock number (m.number.1 ∙ (ok.origin.0 ∙ inv.origin)) m.own by.0 owned inv.made all by.1)
 
 pub returns-in-Err-clause-asked : goal.returns-in-Err-clause-asked

@@ -1,4 +1,4 @@
-use Rattle.jc_scenario.proofs.Exactly.{one_fault}
+use Rattle.jc_scenario.proofs.LawsLemmas.{one_fault}
 use Rattle.jc_scenario.proofs.laws.one_fault.Goals as goal
 
 pub returns : goal.returns

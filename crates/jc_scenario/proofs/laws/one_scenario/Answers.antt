@@ -1,4 +1,4 @@
-use Rattle.jc_scenario.proofs.Exactly.{one_scenario}
+use Rattle.jc_scenario.proofs.LawsLemmas.{one_scenario}
 use Rattle.jc_scenario.proofs.laws.one_scenario.Goals as goal
 
 pub returns : goal.returns

@@ -1,4 +1,4 @@
-use Rattle.jc_scenario.proofs.Deciding.{scenario_else_fault}
+use Rattle.jc_scenario.proofs.FaultsDecideLemmas.{scenario_else_fault}
 use Rattle.jc_scenario.proofs.laws.scenario_else_fault.Goals as goal
 
 pub returns : goal.returns

@@ -1,4 +1,4 @@
-use Rattle.jc_scenario.proofs.Exactly.{scenario_or_fault}
+use Rattle.jc_scenario.proofs.LawsLemmas.{scenario_or_fault}
 use Rattle.jc_scenario.proofs.laws.scenario_or_fault.Goals as goal
 
 pub returns : goal.returns

@@ -1,4 +1,4 @@
-use Rattle.jc_scenario.proofs.Exactly.{well_formed_scenarios}
+use Rattle.jc_scenario.proofs.LawsLemmas.{well_formed_scenarios}
 use Rattle.jc_scenario.proofs.laws.scenarios_are_well_formed.Goals as goal
 
 pub returns : goal.returns

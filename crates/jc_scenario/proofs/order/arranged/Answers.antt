@@ -4,10 +4,10 @@ use Rattle.std.proofs.lemmas.List.Sorted.{IsPermutation-push_more}
 use Rattle.std.proofs.lemmas.Iterator.Adapters.{YieldsList-from_vec}
 use Rattle.std.proofs.lemmas.Iterator.Consumers.{YieldsList-so_far, YieldsList-turn}
 use Rattle.jc_syntax.specs.Trees.{cmd_of}
-use Rattle.jc_parser.specs.TreeViews.{part_view}
-use Rattle.jc_scenario.specs.Scenarios.{parts_of}
+use Rattle.jc_parser.specs.ScenarioViews.{part_view}
+use Rattle.jc_scenario.specs.WellFormed.{parts_of}
 use Rattle.jc_scenario.specs.Views.{scripts_view}
-use Rattle.jc_scenario.proofs.Apart.{later_new}
+use Rattle.jc_scenario.proofs.NamesDifferLemmas.{later_new}
 use Rattle.jc_scenario.proofs.order.arranged.Goals as goal
 
 pub loop-replica-preserved : goal.loop-replica-preserved

@@ -2,8 +2,8 @@ use Rattle.std.proofs.Common.{◌≡◌, map, length}
 use Rattle.std.specs.List.Sorted.{IsPermutation}
 use Rattle.jc_rules.specs.Entries.{IsRising}
 use Rattle.jc_rules.specs.Order.{name_cmp}
-use Rattle.jc_parser.specs.TreeViews.{part_view}
-use Rattle.jc_scenario.specs.Scenarios.{parts_of}
+use Rattle.jc_parser.specs.ScenarioViews.{part_view}
+use Rattle.jc_scenario.specs.WellFormed.{parts_of}
 use Rattle.jc_scenario.specs.Views.{scripts_view}
 use Rattle.jc_scenario.proofs.order.arranged.Given as goal
 

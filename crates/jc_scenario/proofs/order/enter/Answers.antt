@@ -3,7 +3,7 @@ use Rattle.std.proofs.lemmas.List.{length-map}
 use Rattle.jc_rules.specs.Entries.{IsRising}
 use Rattle.jc_rules.specs.Order.{name_cmp}
 use Rattle.jc_syntax.specs.Trees.{cmd_of}
-use Rattle.jc_scenario.proofs.Inserting.{found_there, inserted-rises, parts-entered}
+use Rattle.jc_scenario.proofs.ArrangeLemmas.{found_there, inserted-rises, parts-entered}
 use Rattle.jc_scenario.proofs.order.enter.Goals as goal
 
 -- no replica has the name yet

@@ -1,7 +1,7 @@
 use Rattle.std.proofs.Common.{string_bytes}
 use Rattle.std.specs.Prelude.{codes}
 use Rattle.jc_scenario.specs.Canon.{canon_events}
-use Rattle.jc_scenario.proofs.Written.{three}
+use Rattle.jc_scenario.proofs.CanonReplicasLemmas.{three}
 use Rattle.jc_scenario.proofs.printing.push_block.Goals as goal
 
 pub returns : goal.returns

@@ -3,8 +3,8 @@ use Rattle.std.proofs.lemmas.List.{length_push}
 use Rattle.std.proofs.lemmas.Slice.Zip.{zip_turn}
 use Rattle.jc_syntax.specs.Trees.{cmd_of}
 use Rattle.jc_scenario.specs.Canon.{canon_part}
-use Rattle.jc_scenario.proofs.Inserting.{part}
-use Rattle.jc_scenario.proofs.Written.{written}
+use Rattle.jc_scenario.proofs.ArrangeLemmas.{part}
+use Rattle.jc_scenario.proofs.CanonReplicasLemmas.{written}
 use Rattle.jc_scenario.proofs.printing.push_parts.Goals as goal
 
 pub loop-name-preserved : goal.loop-name-preserved

@@ -1,6 +1,6 @@
 use Rattle.std.proofs.Common.{◌≡◌, ◌++◌, length, take, string_bytes}
 use Rattle.std.specs.Prelude.{flat_map}
-use Rattle.jc_scenario.specs.Scenarios.{parts_of}
+use Rattle.jc_scenario.specs.WellFormed.{parts_of}
 use Rattle.jc_scenario.specs.Canon.{canon_part}
 use Rattle.jc_scenario.specs.Views.{scripts_view}
 use Rattle.jc_scenario.proofs.printing.push_parts.Given as goal

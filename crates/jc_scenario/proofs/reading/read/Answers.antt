@@ -1,8 +1,8 @@
 use Rattle.std.proofs.Common.{rules}
 use Rattle.std.specs.Str.{IsUtf8}
 use Rattle.std.proofs.lemmas.Result.{IfOk-weaker}
-use Rattle.jc_parser.specs.Reading.{reading}
-use Rattle.jc_scenario.specs.Scenarios.{AreScenario, IsWellFormed}
+use Rattle.jc_parser.specs.ReaderState.{reading_of}
+use Rattle.jc_scenario.specs.WellFormed.{AreScenario, IsWellFormedScenario}
 use Rattle.jc_scenario.specs.Views.{scenario_view}
 use Rattle.jc_scenario.proofs.reading.read.Goals as goal
 
@@ -11,7 +11,7 @@ returns-clause-well_formed c =
     let valid : IsUtf8 c.in-Ok.text.now = search rules in
     let law = c.scenarios_are_well_formed.ensures in
     let scenario = rw c.deref.ensures.value at c.scenario.ensures.scenario in
-    IfOk-weaker c.scenario.result (λ s. AreScenario (reading c.in-Ok.text.now c.in_ok-tokens.tokens.items) (scenario_view s)) (λ s. IsWellFormed (scenario_view s))
+    IfOk-weaker c.scenario.result (λ s. AreScenario (reading_of c.in-Ok.text.now c.in_ok-tokens.tokens.items) (scenario_view s)) (λ s. IsWellFormedScenario (scenario_view s))
     (λ s a. law c.in-Ok.text.now (scenario_view s) (record { valid = valid; tokens = c.in_ok-tokens.tokens.items; lexed = c.in_ok-tokens.ensures.tokens; scenario = a }))
     scenario
 

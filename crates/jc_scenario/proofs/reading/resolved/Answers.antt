@@ -1,6 +1,6 @@
 use Rattle.std.proofs.Common.{refl}
 use Rattle.std.proofs.lemmas.Result.{err_from_is_err_and}
-use Rattle.jc_scenario.proofs.Strangers.{one_more, first_stranger}
+use Rattle.jc_scenario.proofs.UnknownNamesLemmas.{one_more, first_stranger}
 use Rattle.jc_scenario.proofs.reading.resolved.Goals as goal
 
 pub returns-in_err-resolve-clause-fault : goal.returns-in_err-resolve-clause-fault

@@ -1,8 +1,8 @@
 use Rattle.std.proofs.Common.{length, ap, subst, arith, string_bytes}
 use Rattle.std.proofs.lemmas.Result.{IfOk-weaker}
 use Rattle.jc_session.specs.declared.answers.Spelling.{Spelling}
-use Rattle.jc_session.specs.Gives.{Spells}
-use Rattle.jc_session.proofs.Replying.{acted_named, act_full, act_not_full, act_stuck_here, reply_act, reply_act_stuck, reply_misspelled, spelled_in}
+use Rattle.jc_session.specs.AnswerOf.{Spells}
+use Rattle.jc_session.proofs.AnswerOfLemmas.{acted_named, act_full, act_not_full, act_stuck_here, reply_act, reply_act_stuck, reply_misspelled, spelled_in}
 use Rattle.jc_session.proofs.answers.act.Goals as goal
 
 pub event_of-requires : goal.event_of-requires

@@ -1,6 +1,6 @@
 use Rattle.std.proofs.Common.{length, refl, string_bytes}
 use Rattle.std.proofs.lemmas.Result.{IfOk-weaker}
-use Rattle.jc_session.proofs.Replying.{went_back, back_past, reply_back}
+use Rattle.jc_session.proofs.AnswerOfLemmas.{went_back, back_past, reply_back}
 use Rattle.jc_session.proofs.answers.back.Goals as goal
 
 pub returns-then-back : goal.returns-then-back

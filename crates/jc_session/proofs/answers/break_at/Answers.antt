@@ -1,6 +1,6 @@
 use Rattle.std.proofs.Common.{string_bytes}
 use Rattle.std.proofs.lemmas.Result.{IfOk-weaker}
-use Rattle.jc_session.proofs.Replying.{reply_break_at}
+use Rattle.jc_session.proofs.AnswerOfLemmas.{reply_break_at}
 use Rattle.jc_session.proofs.answers.break_at.Goals as goal
 
 pub returns : goal.returns

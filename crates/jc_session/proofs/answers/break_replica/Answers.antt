@@ -1,6 +1,6 @@
 use Rattle.std.proofs.Common.{length, ap, arith, string_bytes}
 use Rattle.std.proofs.lemmas.Result.{IfOk-weaker}
-use Rattle.jc_session.proofs.Replying.{named_in, strange_in, reply_break_replica, reply_no_replica}
+use Rattle.jc_session.proofs.AnswerOfLemmas.{named_in, strange_in, reply_break_replica, reply_no_replica}
 use Rattle.jc_session.proofs.answers.break_replica.Goals as goal
 
 pub number_of-requires : goal.number_of-requires

@@ -1,6 +1,6 @@
 use Rattle.std.proofs.Common.{string_bytes}
 use Rattle.std.proofs.lemmas.Result.{IfOk-weaker}
-use Rattle.jc_session.proofs.Replying.{known_here, unknown_here, reply_break_rule, reply_no_rule}
+use Rattle.jc_session.proofs.AnswerOfLemmas.{known_here, unknown_here, reply_break_rule, reply_no_rule}
 use Rattle.jc_session.proofs.answers.break_rule.Goals as goal
 
 pub returns-in-Some : goal.returns-in-Some

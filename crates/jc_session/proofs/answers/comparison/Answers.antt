@@ -1,6 +1,6 @@
 use Rattle.std.proofs.Common.{length, ap, arith, inl, inr, string_bytes}
 use Rattle.std.proofs.lemmas.Result.{IfOk-weaker}
-use Rattle.jc_session.proofs.Replying.{strange_in, reply_no_compare, reply_compare}
+use Rattle.jc_session.proofs.AnswerOfLemmas.{strange_in, reply_no_compare, reply_compare}
 use Rattle.jc_session.proofs.answers.comparison.Goals as goal
 
 pub number_of-requires : goal.number_of-requires

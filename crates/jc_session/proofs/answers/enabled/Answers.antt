@@ -4,8 +4,8 @@ use Rattle.std.specs.List.{All}
 use Rattle.jc_rules.specs.declared.operation.Event.{Event}
 use Rattle.jc_printer.specs.Canon.{AreNamed}
 use Rattle.jc_session.specs.Texts.{event_lines}
-use Rattle.jc_session.proofs.Naming.{enabled_named}
-use Rattle.jc_session.proofs.Replying.{reply_enabled}
+use Rattle.jc_session.proofs.EventNamesLemmas.{enabled_named}
+use Rattle.jc_session.proofs.AnswerOfLemmas.{reply_enabled}
 use Rattle.jc_session.proofs.answers.enabled.Goals as goal
 
 pub event_lines-requires : goal.event_lines-requires

@@ -1,7 +1,7 @@
 use Rattle.std.proofs.Common.{string_bytes}
 use Rattle.std.proofs.lemmas.Result.{IfOk-weaker}
 use Rattle.jc_parser.specs.Faults.{from_sentence}
-use Rattle.jc_session.proofs.Spelling.{some_refusal, misspelled}
+use Rattle.jc_session.proofs.FaultLinesLemmas.{some_refusal, misspelled}
 use Rattle.jc_session.proofs.answers.event_of.Goals as goal
 
 pub returns-in-Ok : goal.returns-in-Ok

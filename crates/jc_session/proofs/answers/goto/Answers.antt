@@ -1,7 +1,7 @@
 use Rattle.std.proofs.Common.{string_bytes}
 use Rattle.std.proofs.lemmas.Result.{IfOk-weaker}
 use Rattle.jc_debug.specs.declared.fault.GotoFault.TheVariants as GF
-use Rattle.jc_session.proofs.Replying.{ok_not_past, halted_named, reply_goto, goto_past, goto_halted, goto_stuck}
+use Rattle.jc_session.proofs.AnswerOfLemmas.{ok_not_past, halted_named, reply_goto, goto_past, goto_halted, goto_stuck}
 use Rattle.jc_session.proofs.answers.goto.Goals as goal
 
 pub returns-in-Ok : goal.returns-in-Ok

@@ -1,6 +1,6 @@
 use Rattle.std.proofs.Common.{length, ap, string_bytes}
 use Rattle.std.proofs.lemmas.Result.{IfOk-weaker}
-use Rattle.jc_session.proofs.Replying.{reply_position}
+use Rattle.jc_session.proofs.AnswerOfLemmas.{reply_position}
 use Rattle.jc_session.proofs.answers.position.Goals as goal
 
 pub returns : goal.returns

@@ -2,7 +2,7 @@ use Rattle.std.proofs.Common.{◌++◌, refl, ap, ◌∙◌, string_bytes}
 use Rattle.std.proofs.lemmas.Result.{IfOk-weaker}
 use Rattle.jc_debug.specs.declared.fault.RunEnd.TheVariants as E
 use Rattle.jc_session.specs.Texts.{at_line}
-use Rattle.jc_session.proofs.Replying.{not_at_end, ran_named, reply_run, run_is, run_past}
+use Rattle.jc_session.proofs.AnswerOfLemmas.{not_at_end, ran_named, reply_run, run_is, run_past}
 use Rattle.jc_session.proofs.answers.run.Goals as goal
 
 pub stuck_at-requires : goal.stuck_at-requires

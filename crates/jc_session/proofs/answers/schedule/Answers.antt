@@ -3,8 +3,8 @@ use Rattle.std.proofs.lemmas.Result.{IfOk-weaker}
 use Rattle.std.specs.List.{All}
 use Rattle.jc_rules.specs.declared.operation.Event.{Event}
 use Rattle.jc_printer.specs.Canon.{AreNamed}
-use Rattle.jc_network.specs.Course.{Course}
-use Rattle.jc_session.proofs.Replying.{reply_schedule}
+use Rattle.jc_network.specs.NetworkHistory.{Course}
+use Rattle.jc_session.proofs.AnswerOfLemmas.{reply_schedule}
 use Rattle.jc_session.proofs.answers.schedule.Goals as goal
 
 pub numbered_lines-requires : goal.numbered_lines-requires

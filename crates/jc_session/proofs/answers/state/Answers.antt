@@ -1,6 +1,6 @@
 use Rattle.std.proofs.Common.{string_bytes}
 use Rattle.std.proofs.lemmas.Result.{IfOk-weaker}
-use Rattle.jc_session.proofs.Replying.{reply_state}
+use Rattle.jc_session.proofs.AnswerOfLemmas.{reply_state}
 use Rattle.jc_session.proofs.answers.state.Goals as goal
 
 pub returns : goal.returns

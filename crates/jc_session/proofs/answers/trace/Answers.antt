@@ -1,7 +1,7 @@
 use Rattle.std.proofs.Common.{◌-◌, get_or, refl, string_bytes}
 use Rattle.std.proofs.lemmas.Result.{IfOk-weaker}
 use Rattle.jc_rules.specs.declared.operation.Event.TheVariants.{Exec}
-use Rattle.jc_session.proofs.Replying.{event_at, reply_start, reply_trace, trace_named}
+use Rattle.jc_session.proofs.AnswerOfLemmas.{event_at, reply_start, reply_trace, trace_named}
 use Rattle.jc_session.proofs.answers.trace.Goals as goal
 
 pub returns-in_default : goal.returns-in_default

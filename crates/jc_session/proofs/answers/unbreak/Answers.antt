@@ -1,6 +1,6 @@
 use Rattle.std.proofs.Common.{refl, string_bytes}
 use Rattle.std.proofs.lemmas.Result.{IfOk-weaker}
-use Rattle.jc_session.proofs.Replying.{reply_unbreak, reply_no_break}
+use Rattle.jc_session.proofs.AnswerOfLemmas.{reply_unbreak, reply_no_break}
 use Rattle.jc_session.proofs.answers.unbreak.Goals as goal
 
 pub returns-then-unbreak : goal.returns-then-unbreak

@@ -1,4 +1,4 @@
-use Rattle.jc_session.proofs.OneText as text
+use Rattle.jc_session.proofs.LawsLemmas as text
 use Rattle.jc_session.proofs.laws.one_session.Goals as goal
 
 pub returns : goal.returns

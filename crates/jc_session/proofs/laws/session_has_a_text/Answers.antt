@@ -1,4 +1,4 @@
-use Rattle.jc_session.proofs.SomeText as text
+use Rattle.jc_session.proofs.SomeTextLemmas as text
 use Rattle.jc_session.proofs.laws.session_has_a_text.Goals as goal
 
 pub returns : goal.returns

@@ -1,4 +1,4 @@
-use Rattle.jc_session.proofs.Words.{ascii_utf8}
+use Rattle.jc_session.proofs.RequestsLemmas.{ascii_utf8}
 use Rattle.jc_session.proofs.request.ascii_text.Goals as goal
 
 pub unreachable-requires : goal.unreachable-requires

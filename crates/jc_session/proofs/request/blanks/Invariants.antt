@@ -1,7 +1,7 @@
 use Rattle.std.proofs.Common.{◌≡◌, ℕ, ◌<◌, get_or, true}
-use Rattle.jc_session.specs.Requests.{is_blank}
+use Rattle.jc_session.specs.Requests.{is_blank_char}
 use Rattle.jc_session.proofs.request.blanks.Given as goal
 
 -- all bytes before are blanks
 abbrev pub invariant-loop-at : goal.invariant-loop-at
-invariant-loop-at l = (k : ℕ) → k < l.at → is_blank (get_or l.text k 0) ≡ true
+invariant-loop-at l = (k : ℕ) → k < l.at → is_blank_char (get_or l.text k 0) ≡ true

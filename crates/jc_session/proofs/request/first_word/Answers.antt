@@ -1,8 +1,8 @@
 use Rattle.std.proofs.Common.{◌≤◌, ℕ, length, subst, sym}
 use Rattle.std.proofs.lemmas.List.Sums.{prefix_len-le-length}
 use Rattle.std.proofs.Common.{not}
-use Rattle.jc_session.specs.Requests.{is_blank}
-use Rattle.jc_session.proofs.Words.{none_left, some_left_of, no_words, word_parts, word_ascii}
+use Rattle.jc_session.specs.Requests.{is_blank_char}
+use Rattle.jc_session.proofs.RequestsLemmas.{none_left, some_left_of, no_words, word_parts, word_ascii}
 use Rattle.jc_session.proofs.request.first_word.Goals as goal
 
 pub returns-then-is_empty-clause-parts : goal.returns-then-is_empty-clause-parts
@@ -11,7 +11,7 @@ returns-then-is_empty-clause-parts c =
 
 pub split_at-requires : goal.split_at-requires
 split_at-requires c =
-    subst (λ (n : ℕ). n ≤ length c.past_blanks-text.result.now) (sym c.word_len.ensures) (prefix_len-le-length (λ b. not (is_blank b)) c.past_blanks-text.result.now)
+    subst (λ (n : ℕ). n ≤ length c.past_blanks-text.result.now) (sym c.word_len.ensures) (prefix_len-le-length (λ b. not (is_blank_char b)) c.past_blanks-text.result.now)
 
 pub returns-clause-parts : goal.returns-clause-parts
 returns-clause-parts c =

@@ -2,10 +2,10 @@ use Rattle.std.proofs.Common.{rules, ◌≡◌, true, List, ℕ, Some, ap, subst
 use Rattle.std.specs.Str.{all_ascii_digits}
 use Rattle.std.specs.Str.Parse.{digits_value, ParsesUnsigned}
 use Rattle.std.proofs.lemmas.Str.Parse.{IsNumeralModel, numerals_by_value, tells_all_ascii_digits, digits_value_short, parse_gives}
-use Rattle.jc_session.specs.Requests.{is_number}
+use Rattle.jc_session.specs.Requests.{is_number_word}
 use Rattle.jc_session.specs.Requests.{number_in as number_of}
 use Rattle.std.specs.Result.{result_ok}
-use Rattle.jc_session.proofs.Words.{number_parts, digits_ascii}
+use Rattle.jc_session.proofs.RequestsLemmas.{number_parts, digits_ascii}
 use Rattle.jc_session.proofs.request.number_in.Goals as goal
 
 own : IsNumeralModel (λ ds. all_ascii_digits ds ≡ true) (digits_value 10)
@@ -13,13 +13,13 @@ own = numerals_by_value (λ ds. all_ascii_digits ds ≡ true) tells_all_ascii_di
 
 pub ascii_text-requires : goal.ascii_text-requires
 ascii_text-requires c =
-    let is : is_number c.args.word.now ≡ true = search rules in
+    let is : is_number_word c.args.word.now ≡ true = search rules in
     digits_ascii c.args.word.now (number_parts c.args.word.now is).digits
 
 pub returns-then-is_number : goal.returns-then-is_number
 returns-then-is_number c =
     let w = c.args.word.now in
-    let is : is_number w ≡ true = search rules in
+    let is : is_number_word w ≡ true = search rules in
     let parts = number_parts w is in
     let some = parts.some in
     let few = digits_value_short own w 10 parts.digits parts.few in
@@ -27,5 +27,5 @@ returns-then-is_number c =
     let ok = parse_gives own 64 w c.parse.result read parts.digits some (omega (arith, few)) in
     c.ok.ensures.value ∙ ap result_ok ok ∙ numeral w is
   where
-    numeral : (w : List ℕ) → is_number w ≡ true → Some (digits_value 10 w) ≡ number_of w
+    numeral : (w : List ℕ) → is_number_word w ≡ true → Some (digits_value 10 w) ≡ number_of w
     numeral w e = rw e refl

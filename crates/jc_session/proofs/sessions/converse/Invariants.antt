@@ -2,9 +2,9 @@ use Rattle.std.proofs.Common.{◌≡◌, ◌-◌, ◌≤◌, length}
 use Rattle.std.specs.Io.KnownBytes.{prepend_known}
 use Rattle.std.specs.List.{All}
 use Rattle.jc_printer.specs.Canon.{AreNamed}
-use Rattle.jc_debug.specs.Trail.{session_of}
-use Rattle.jc_session.specs.Gives.{origin_in}
-use Rattle.jc_session.specs.SoFar.{SoFar}
+use Rattle.jc_debug.specs.Invariant.{session_of}
+use Rattle.jc_session.specs.AnswerOf.{origin_in}
+use Rattle.jc_session.specs.Progress.{SoFar}
 use Rattle.jc_session.specs.Written.{sink}
 use Rattle.jc_session.proofs.sessions.converse.Given as goal
 

@@ -1,4 +1,4 @@
-use Rattle.jc_session.proofs.Spelling.{some_refusal}
+use Rattle.jc_session.proofs.FaultLinesLemmas.{some_refusal}
 use Rattle.jc_session.proofs.sessions.refuse.Goals as goal
 
 pub fault_line-requires : goal.fault_line-requires

@@ -1,15 +1,15 @@
 use Rattle.std.proofs.Common.{◌≡◌, Err, inl, inr, ap, refl, ◌∙◌}
 use Rattle.jc_scenario.specs.Views.{scenario_view}
-use Rattle.jc_debug.specs.Session.{Session}
-use Rattle.jc_debug.specs.Trail.{session_of}
+use Rattle.jc_debug.specs.DebuggerState.{Session}
+use Rattle.jc_debug.specs.Invariant.{session_of}
 use Rattle.jc_session.specs.Answers.{Origin}
-use Rattle.jc_session.specs.Shown.{finished, too_many}
+use Rattle.jc_session.specs.SessionText.{finished, too_many}
 use Rattle.jc_session.specs.declared.sessions.SessionEnd.TheVariants.{Finished}
 use Rattle.jc_session.specs.declared.sessions.SessionFault.TheVariants.{ReadFailed}
-use Rattle.jc_session.specs.Went.{OfLinesLeft, LosesFront, WentToRead, WentWhole, WentFront}
+use Rattle.jc_session.specs.Sent.{OfLinesLeft, LosesFront, WentToRead, WentWhole, WentFront}
 use Rattle.jc_session.specs.Written.{sink}
-use Rattle.jc_session.proofs.Begun.{text_refused_shown, refused_front, given_named, given_shown, given_front, given_written, given_failed, handed, failed_handed, on_scenario, shown_by, shown_past, none_lost, left_after_ok, left_after_err}
-use Rattle.jc_session.proofs.Talking.{passed_on, none_failed}
+use Rattle.jc_session.proofs.SentLemmas.{text_refused_shown, refused_front, given_named, given_shown, given_front, given_written, given_failed, handed, failed_handed, on_scenario, shown_by, shown_past, none_lost, left_after_ok, left_after_err}
+use Rattle.jc_session.proofs.SessionTextLemmas.{passed_on, none_failed}
 use Rattle.jc_session.proofs.sessions.session.Goals as goal
 
 pub returns-in-Ok-refuse-clause-text_refused : goal.returns-in-Ok-refuse-clause-text_refused

@@ -1,5 +1,5 @@
 use Rattle.std.proofs.Common.{◌++◌, ◌<◌, length, ap, sym, ◌∙◌, arith}
-use Rattle.jc_session.proofs.Listing.{dumps_more}
+use Rattle.jc_session.proofs.TextsListLemmas.{dumps_more}
 use Rattle.jc_session.proofs.texts.dump_lines.Goals as goal
 
 pub loop-p-preserved : goal.loop-p-preserved

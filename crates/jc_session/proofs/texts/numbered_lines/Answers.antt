@@ -1,7 +1,7 @@
 use Rattle.std.proofs.Common.{◌++◌, ◌+◌, ◌<◌, length, get_or, ap, sym, ◌∙◌, arith}
 use Rattle.jc_rules.specs.declared.operation.Event.TheVariants.{Exec}
 use Rattle.jc_session.specs.Texts.{numbered_line}
-use Rattle.jc_session.proofs.Listing.{numbered_more}
+use Rattle.jc_session.proofs.TextsListLemmas.{numbered_more}
 use Rattle.jc_session.proofs.texts.numbered_lines.Goals as goal
 
 pub loop-i-preserved : goal.loop-i-preserved

@@ -1,7 +1,7 @@
 use Rattle.std.proofs.Common.{◌≢◌, [], None}
 use Rattle.jc_rules.specs.Context.{Context}
-use Rattle.jc_rules.specs.Places.{node_at}
-use Rattle.jc_tree.proofs.Chained.{chained_child}
+use Rattle.jc_rules.specs.ContextsAt.{node_at}
+use Rattle.jc_tree.proofs.ChainedLemmas.{chained_child}
 use Rattle.jc_store_tests.proofs.by_hand.make_map.Goals as goal
 
 at_top : (c : Context) → node_at [] c ≢ None

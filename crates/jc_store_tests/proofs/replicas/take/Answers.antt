@@ -1,5 +1,5 @@
 use Rattle.std.proofs.Common.{rules}
-use Rattle.jc_store_tests.proofs.Handed.{of_one}
+use Rattle.jc_store_tests.proofs.HandedLemmas.{of_one}
 use Rattle.jc_store_tests.proofs.replicas.take.Goals as goal
 
 pub recv_one-requires-clause-own : goal.recv_one-requires-clause-own

@@ -1,5 +1,5 @@
 use Rattle.std.proofs.Common.{rules, arith}
-use Rattle.jc_syntax.proofs.Bounds.{starts_first, stop_boundary}
+use Rattle.jc_syntax.proofs.TokenBoundsLemmas.{starts_first, stop_boundary}
 use Rattle.jc_syntax.proofs.content.slice_of.Goals as goal
 
 pub range-requires-clause-start_le_end : goal.range-requires-clause-start_le_end

@@ -1,23 +1,23 @@
 use Rattle.std.proofs.Common.{◌-◌, string_bytes, ◌∙◌, arith}
 use Rattle.std.proofs.lemmas.Str.{IsUtf8-string_bytes}
-use Rattle.jc_syntax.specs.Lexemes.{content_of}
-use Rattle.jc_syntax.proofs.Contents.{token_is_string}
-use Rattle.jc_syntax.proofs.Decoding.{left_at_first, left_before, run_boundary, step_to_end, step_to_escape}
+use Rattle.jc_syntax.specs.Lexemes.{token_content}
+use Rattle.jc_syntax.proofs.StringsContentLemmas.{token_is_string}
+use Rattle.jc_syntax.proofs.StringsDecodeLemmas.{left_at_first, left_before, run_boundary, step_to_end, step_to_escape}
 use Rattle.jc_syntax.proofs.content.string_of.Goals as goal
 
 pub runs-init : goal.runs-init
 runs-init c = rw c.new-content.ensures.bytes (left_at_first c.args.text.now c.args.token.now c.utf8.text c.requires)
 
 pub range-requires-clause-end_boundary : goal.range-requires-clause-end_boundary
-range-requires-clause-end_boundary c = run_boundary c.args.text.now c.as_bytes-bytes.result.now (c.args.token.now.stop - 1) c.runs.at c.skip_plain-end.result (string_bytes c.runs.content) (content_of c.args.text.now c.args.token.now) c.as_bytes-bytes.ensures.value c.skip_plain-end.ensures.place c.runs.invariant
+range-requires-clause-end_boundary c = run_boundary c.args.text.now c.as_bytes-bytes.result.now (c.args.token.now.stop - 1) c.runs.at c.skip_plain-end.result (string_bytes c.runs.content) (token_content c.args.text.now c.args.token.now) c.as_bytes-bytes.ensures.value c.skip_plain-end.ensures.place c.runs.invariant
 
 pub returns-in_default-clause-content : goal.returns-in_default-clause-content
 returns-in_default-clause-content c =
-    c.new.ensures ∙ step_to_end c.args.text.now c.as_bytes-bytes.result.now c.range.result.now (c.args.token.now.stop - 1) c.runs.at c.skip_plain-end.result (string_bytes c.runs.content) (string_bytes c.push_str.new.self) (content_of c.args.text.now c.args.token.now) c.as_bytes-bytes.ensures.value c.skip_plain-end.ensures.place c.range.ensures.value c.in_ok-push_str.ensures.bytes c.runs.invariant c.in_default.ensures.value
+    c.new.ensures ∙ step_to_end c.args.text.now c.as_bytes-bytes.result.now c.range.result.now (c.args.token.now.stop - 1) c.runs.at c.skip_plain-end.result (string_bytes c.runs.content) (string_bytes c.push_str.new.self) (token_content c.args.text.now c.args.token.now) c.as_bytes-bytes.ensures.value c.skip_plain-end.ensures.place c.range.ensures.value c.in_ok-push_str.ensures.bytes c.runs.invariant c.in_default.ensures.value
 
 pub returns-in_default-clause-spells : goal.returns-in_default-clause-spells
 returns-in_default-clause-spells c =
-    let all = step_to_end c.args.text.now c.as_bytes-bytes.result.now c.range.result.now (c.args.token.now.stop - 1) c.runs.at c.skip_plain-end.result (string_bytes c.runs.content) (string_bytes c.push_str.new.self) (content_of c.args.text.now c.args.token.now) c.as_bytes-bytes.ensures.value c.skip_plain-end.ensures.place c.range.ensures.value c.in_ok-push_str.ensures.bytes c.runs.invariant c.in_default.ensures.value in
+    let all = step_to_end c.args.text.now c.as_bytes-bytes.result.now c.range.result.now (c.args.token.now.stop - 1) c.runs.at c.skip_plain-end.result (string_bytes c.runs.content) (string_bytes c.push_str.new.self) (token_content c.args.text.now c.args.token.now) c.as_bytes-bytes.ensures.value c.skip_plain-end.ensures.place c.range.ensures.value c.in_ok-push_str.ensures.bytes c.runs.invariant c.in_default.ensures.value in
     rw (c.new.ensures, all) (token_is_string c.args.text.now c.args.token.now c.requires.0 c.requires.1.1)
 
 pub returns-in_default-clause-utf8 : goal.returns-in_default-clause-utf8
@@ -25,9 +25,9 @@ returns-in_default-clause-utf8 c = rw c.new.ensures (IsUtf8-string_bytes c.push_
 
 pub runs-preserved : goal.runs-preserved
 runs-preserved c =
-    step_to_escape c.args.text.now c.as_bytes-bytes.result.now c.range.result.now (c.args.token.now.stop - 1) c.runs.at c.skip_plain-end.result c.in-Some.len c.in-Some.character (string_bytes c.runs.content) (string_bytes c.push_str.new.self) (string_bytes c.push.new.self) (content_of c.args.text.now c.args.token.now) c.utf8.text c.as_bytes-bytes.ensures.value c.skip_plain-end.ensures.place c.range.ensures.value c.in_ok-push_str.ensures.bytes c.runs.invariant c.in-Some.ensures.value c.in_ok-push.ensures.bytes
+    step_to_escape c.args.text.now c.as_bytes-bytes.result.now c.range.result.now (c.args.token.now.stop - 1) c.runs.at c.skip_plain-end.result c.in-Some.len c.in-Some.character (string_bytes c.runs.content) (string_bytes c.push_str.new.self) (string_bytes c.push.new.self) (token_content c.args.text.now c.args.token.now) c.utf8.text c.as_bytes-bytes.ensures.value c.skip_plain-end.ensures.place c.range.ensures.value c.in_ok-push_str.ensures.bytes c.runs.invariant c.in-Some.ensures.value c.in_ok-push.ensures.bytes
 
 pub runs-smaller : goal.runs-smaller
 runs-smaller c =
-    let left = left_before c.args.text.now (c.args.token.now.stop - 1) c.runs.at (string_bytes c.runs.content) (content_of c.args.text.now c.args.token.now) c.runs.invariant in
+    let left = left_before c.args.text.now (c.args.token.now.stop - 1) c.runs.at (string_bytes c.runs.content) (token_content c.args.text.now c.args.token.now) c.runs.invariant in
     omega (arith, left, c.runs.invariant.inside, c.skip_plain-end.ensures.from, c.in-Some.ensures.len.0)

@@ -1,6 +1,6 @@
 use Rattle.std.proofs.Common.{◌≡◌, ◌+◌, ◌++◌, ◌∷◌, [], inr, length, length-append, refl, sym, ap, ◌∙◌, arith}
 use Rattle.jc_syntax.specs.Strings.{piece_bytes, spelled}
-use Rattle.jc_syntax.proofs.Pieces.{pieces_more, spelled_more}
+use Rattle.jc_syntax.proofs.StringsPiecesLemmas.{pieces_more, spelled_more}
 use Rattle.jc_syntax.proofs.extent.string_extent.Goals as goal
 
 -- the piece is the next one

@@ -1,4 +1,4 @@
-use Rattle.jc_syntax.proofs.Tokens as tokens
+use Rattle.jc_syntax.proofs.LexemesLemmas as tokens
 use Rattle.jc_syntax.proofs.laws.one_list_of_tokens.Goals as goal
 
 pub returns : goal.returns

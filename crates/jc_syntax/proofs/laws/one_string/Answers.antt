@@ -1,4 +1,4 @@
-use Rattle.jc_syntax.proofs.Pieces as pieces
+use Rattle.jc_syntax.proofs.StringsPiecesLemmas as pieces
 use Rattle.jc_syntax.proofs.laws.one_string.Goals as goal
 
 pub returns : goal.returns

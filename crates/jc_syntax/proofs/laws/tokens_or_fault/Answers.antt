@@ -1,4 +1,4 @@
-use Rattle.jc_syntax.proofs.Tokens as tokens
+use Rattle.jc_syntax.proofs.LexemesLemmas as tokens
 use Rattle.jc_syntax.proofs.laws.tokens_or_fault.Goals as goal
 
 pub returns : goal.returns

@@ -1,6 +1,6 @@
 use Rattle.std.proofs.Common.{◌<◌, ◌≤◌, inl, length, refl, arith}
 use Rattle.jc_syntax.specs.Lexemes.{AreTokensOf}
-use Rattle.jc_syntax.proofs.Tokens.{tokens_more, lexeme_later, each_token}
+use Rattle.jc_syntax.proofs.LexemesLemmas.{tokens_more, lexeme_later, each_token}
 use Rattle.jc_syntax.proofs.lexer.lex.Goals as goal
 
 -- the token is the next lexeme

@@ -1,4 +1,4 @@
-use Rattle.jc_syntax.proofs.Reading.{tells_some, tells_none}
+use Rattle.jc_syntax.proofs.NumberReadingLemmas.{tells_some, tells_none}
 use Rattle.jc_syntax.proofs.number.is_number.Goals as goal
 
 pub returns-in-Some : goal.returns-in-Some

@@ -1,5 +1,5 @@
 use Rattle.std.proofs.Common.{◌∙◌, refl}
-use Rattle.jc_tree.proofs.ArenaMaking.{popped}
+use Rattle.jc_tree.proofs.ArenaCallsLemmas.{popped}
 use Rattle.jc_tree.proofs.arena.drop_node.Goals as goal
 
 pub returns-in-Map : goal.returns-in-Map

@@ -1,7 +1,7 @@
 use Rattle.std.proofs.Common.{◌≡◌, ◌∙◌, sym, rules, option_copied, option_map, slice_get, add-one}
 use Rattle.jc_rules.specs.Entries.{keys_of}
 use Rattle.jc_tree.specs.Tree.{least_after}
-use Rattle.jc_tree.proofs.Search.{lent_key, least-none, least-stands, least-belongs}
+use Rattle.jc_tree.proofs.SortedLemmas.{lent_key, least-none, least-stands, least-belongs}
 use Rattle.jc_tree.proofs.entries.key_above.Goals as goal
 use Rattle.jc_tree.proofs.entries.key_above.Goals.{in-None, in-Some+in-Ok, in-Some+in-Err}
 

@@ -2,8 +2,8 @@ use Rattle.std.proofs.Common.{rules, subst}
 use Rattle.std.proofs.lemmas.Fn.{always_returns_same}
 use Rattle.std.specs.List.Sorted.{IsBinarySearchResult}
 use Rattle.jc_rules.specs.contracts.key.KeyOrd.TheImpl.{cmp-value}
-use Rattle.jc_rules.proofs.Order.{same_cmp, keys_total, exact_keys}
-use Rattle.jc_tree.proofs.Search.{searched}
+use Rattle.jc_rules.proofs.OrderLemmas.{same_cmp, keys_total, exact_keys}
+use Rattle.jc_tree.proofs.SortedLemmas.{searched}
 use Rattle.jc_tree.proofs.entries.place_of.Goals as goal
 
 pub returns : goal.returns

@@ -1,7 +1,7 @@
 use Rattle.std.proofs.Common.{Some, sym, ap, ◌∙◌}
-use Rattle.jc_rules.proofs.Order.{keys_total, exact_keys}
-use Rattle.jc_rules.proofs.Entries.{rising-put}
-use Rattle.jc_tree.proofs.Search.{find-standing, find-absent, put-standing, put-absent}
+use Rattle.jc_rules.proofs.OrderLemmas.{keys_total, exact_keys}
+use Rattle.jc_rules.proofs.EntriesLemmas.{rising-put}
+use Rattle.jc_tree.proofs.SortedLemmas.{find-standing, find-absent, put-standing, put-absent}
 use Rattle.jc_tree.proofs.entries.put_value.Goals as goal
 
 pub returns-in-Ok-clause-ok : goal.returns-in-Ok-clause-ok

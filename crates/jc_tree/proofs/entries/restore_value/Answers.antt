@@ -1,9 +1,9 @@
 use Rattle.std.proofs.Common.{◌<◌, length, sym, subst, ◌∙◌}
 use Rattle.jc_rules.specs.Order.{key_cmp}
-use Rattle.jc_rules.proofs.Order.{keys_total, exact_keys}
-use Rattle.jc_rules.proofs.Entries.{rising-put}
+use Rattle.jc_rules.proofs.OrderLemmas.{keys_total, exact_keys}
+use Rattle.jc_rules.proofs.EntriesLemmas.{rising-put}
 use Rattle.jc_tree.specs.Sorted.{AreSorted}
-use Rattle.jc_tree.proofs.Search.{standing_within, put-standing, replaced-standing, removed-standing, restored-absent, sorted_left}
+use Rattle.jc_tree.proofs.SortedLemmas.{standing_within, put-standing, replaced-standing, removed-standing, restored-absent, sorted_left}
 use Rattle.jc_tree.proofs.entries.restore_value.Goals as goal
 
 pub returns-in_default-clause-ok : goal.returns-in_default-clause-ok

@@ -1,6 +1,6 @@
 use Rattle.std.proofs.Common.{sym}
-use Rattle.jc_rules.proofs.Order.{keys_total, exact_keys}
-use Rattle.jc_tree.proofs.Search.{find-standing, find-absent}
+use Rattle.jc_rules.proofs.OrderLemmas.{keys_total, exact_keys}
+use Rattle.jc_tree.proofs.SortedLemmas.{find-standing, find-absent}
 use Rattle.jc_tree.proofs.entries.value_of.Goals as goal
 
 pub returns-in-Ok : goal.returns-in-Ok

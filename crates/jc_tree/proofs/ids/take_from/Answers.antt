@@ -1,10 +1,10 @@
 use Rattle.std.proofs.Common.{◌≡◌, Some, sym, ap, subst}
 use Rattle.jc_rules.specs.Order.{key_cmp}
 use Rattle.jc_rules.specs.Entries.{find}
-use Rattle.jc_rules.proofs.Order.{keys_total, exact_keys}
-use Rattle.jc_rules.proofs.Entries.{rising-put}
+use Rattle.jc_rules.proofs.OrderLemmas.{keys_total, exact_keys}
+use Rattle.jc_rules.proofs.EntriesLemmas.{rising-put}
 use Rattle.jc_tree.specs.Sorted.{AreSorted}
-use Rattle.jc_tree.proofs.Search.{find-standing, find-absent, put-standing}
+use Rattle.jc_tree.proofs.SortedLemmas.{find-standing, find-absent, put-standing}
 use Rattle.jc_tree.specs.Undo.{taken_out, out_of_set}
 use Rattle.jc_tree.proofs.ids.take_from.Goals as goal
 

@@ -2,15 +2,15 @@ use Rattle.std.proofs.Common.{◌≡◌, ◌∷◌, Some, length, slice_set, sym
 use Rattle.jc_rules.specs.declared.key.Tagged.TheVariants.{MapT, ListT}
 use Rattle.jc_rules.specs.Order.{key_cmp}
 use Rattle.jc_rules.specs.Entries.{find}
-use Rattle.jc_rules.proofs.Order.{keys_total, exact_keys}
-use Rattle.jc_rules.proofs.Entries.{rising-put}
-use Rattle.jc_rules.specs.Places.{context_at}
+use Rattle.jc_rules.proofs.OrderLemmas.{keys_total, exact_keys}
+use Rattle.jc_rules.proofs.EntriesLemmas.{rising-put}
+use Rattle.jc_rules.specs.ContextsAt.{context_at}
 use Rattle.jc_tree.specs.Sorted.{AreSorted}
 use Rattle.jc_tree.specs.Change.{changed_by, changed_at}
 use Rattle.jc_tree.specs.Undo.{former_of}
 use Rattle.std.proofs.lemmas.Result.{IfOk-weaker}
-use Rattle.jc_tree.proofs.Nodes.{map_child, list_child, map_changed, list_changed, map_below, list_below, none_there, if_some, child_changed, on_ok}
-use Rattle.jc_tree.proofs.Search.{find-standing, find-absent, put-standing}
+use Rattle.jc_tree.proofs.NodeLemmas.{map_child, list_child, map_changed, list_changed, map_below, list_below, none_there, if_some, child_changed, on_ok}
+use Rattle.jc_tree.proofs.SortedLemmas.{find-standing, find-absent, put-standing}
 use Rattle.jc_tree.proofs.node.+changing.Goals as goal
 
 pub Node::change_at-change_in-requires : goal.Node::change_at-change_in-requires

@@ -2,12 +2,12 @@ use Rattle.std.proofs.Common.{◌≡◌, ◌∷◌, Some, slice_set, sym, ◌∙
 use Rattle.jc_rules.specs.declared.key.Tagged.TheVariants.{MapT, ListT}
 use Rattle.jc_rules.specs.Order.{key_cmp}
 use Rattle.jc_rules.specs.Entries.{find}
-use Rattle.jc_rules.proofs.Order.{keys_total, exact_keys}
-use Rattle.jc_rules.proofs.Entries.{rising-put}
+use Rattle.jc_rules.proofs.OrderLemmas.{keys_total, exact_keys}
+use Rattle.jc_rules.proofs.EntriesLemmas.{rising-put}
 use Rattle.jc_tree.specs.Sorted.{AreSorted}
 use Rattle.jc_tree.specs.Undo.{restored_by, restored_at}
-use Rattle.jc_tree.proofs.Nodes.{map_changed, list_changed, child_changed, none_some}
-use Rattle.jc_tree.proofs.Search.{find-standing, find-absent, put-standing}
+use Rattle.jc_tree.proofs.NodeLemmas.{map_changed, list_changed, child_changed, none_some}
+use Rattle.jc_tree.proofs.SortedLemmas.{find-standing, find-absent, put-standing}
 use Rattle.jc_tree.proofs.node.+restoring.Goals as goal
 
 pub Node::restore_at-returns-in-MapT : goal.Node::restore_at-returns-in-MapT

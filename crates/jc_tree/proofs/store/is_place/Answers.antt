@@ -1,5 +1,5 @@
 use Rattle.std.proofs.Common.{◌<◌, length, arith}
-use Rattle.jc_tree.proofs.Ways.{no_way_register, no_way_absent, way_on}
+use Rattle.jc_tree.proofs.PathLemmas.{no_way_register, no_way_absent, way_on}
 use Rattle.jc_tree.proofs.store.is_place.Goals as goal
 
 pub returns-in-RegT : goal.returns-in-RegT

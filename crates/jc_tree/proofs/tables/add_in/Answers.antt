@@ -4,13 +4,13 @@ use Rattle.jc_rules.specs.declared.key.Key.{Key}
 use Rattle.jc_rules.specs.Order.{key_cmp}
 use Rattle.jc_rules.specs.Entries.{find, put}
 use Rattle.jc_rules.specs.Ids.{with_id}
-use Rattle.jc_rules.proofs.Order.{keys_total, exact_keys}
-use Rattle.jc_rules.proofs.Entries.{put-same}
-use Rattle.jc_tree.specs.Tree.{or_none, has_ids}
+use Rattle.jc_rules.proofs.OrderLemmas.{keys_total, exact_keys}
+use Rattle.jc_rules.proofs.EntriesLemmas.{put-same}
+use Rattle.jc_tree.specs.Tree.{or_no_entries, has_ids}
 use Rattle.jc_tree.specs.Undo.{former_of_id}
 use Rattle.jc_tree.specs.declared.node.Former.TheVariants as F
-use Rattle.jc_tree.proofs.Balanced.{lookup_is, write_put, as_err}
-use Rattle.jc_tree.proofs.Counting.{some_left}
+use Rattle.jc_tree.proofs.SortedMapLemmas.{lookup_is, write_put, as_err}
+use Rattle.jc_tree.proofs.CountedLemmas.{some_left}
 use Rattle.jc_tree.proofs.tables.add_in.Goals as goal
 use Rattle.jc_tree.proofs.tables.add_in.Goals.{then-had+in-Name-1, then-had+in-Doc-1, else-had}
 
@@ -24,7 +24,7 @@ pub returns-in-Some-clause-ok : goal.returns-in-Some-clause-ok
 returns-in-Some-clause-ok c =
     let es = c.args.sets.now.entries in
     let found : find key_cmp c.args.key es ≡ Some c.in-Some.ids.now = sym (c.in-Some.ensures.value ∙ lookup_is c.args.key es) in
-    (c.get_mut.follows.holds c.insert.new.self).0 ∙ write_put c.args.key c.insert.new.self c.in-Some.ids.now es found ∙ ap (λ v. put key_cmp c.args.key v es) (c.in_ok-insert.ensures.ok ∙ ap (λ o. with_id c.args.id (or_none o)) (sym found))
+    (c.get_mut.follows.holds c.insert.new.self).0 ∙ write_put c.args.key c.insert.new.self c.in-Some.ids.now es found ∙ ap (λ v. put key_cmp c.args.key v es) (c.in_ok-insert.ensures.ok ∙ ap (λ o. with_id c.args.id (or_no_entries o)) (sym found))
 
 pub returns-in-Some-clause-former : goal.returns-in-Some-clause-former
 returns-in-Some-clause-former c =
@@ -41,7 +41,7 @@ pub returns-clause-ok : goal.returns-clause-ok
 returns-clause-ok c =
     let es = c.args.sets.now.entries in
     let absent : find key_cmp c.args.key es ≡ None = sym (c.in_default.ensures.value ∙ lookup_is c.args.key es) in
-    let ids : c.in_ok-single.field-0 ≡ with_id c.args.id (or_none (find key_cmp c.args.key es)) = c.in_ok-single.ensures ∙ ap (λ o. with_id c.args.id (or_none o)) (sym absent) in
+    let ids : c.in_ok-single.field-0 ≡ with_id c.args.id (or_no_entries (find key_cmp c.args.key es)) = c.in_ok-single.ensures ∙ ap (λ o. with_id c.args.id (or_no_entries o)) (sym absent) in
     c.in_ok-put_in.ensures.ok ∙ (λ j. put key_cmp c.args.key (ids j) (c.get_mut.follows.holds-at-none j).entries)
 
 pub returns-clause-former : goal.returns-clause-former
@@ -52,9 +52,9 @@ returns-clause-former c =
 pub returns-in-Some-clause-was : goal.returns-in-Some-clause-was
 returns-in-Some-clause-was c =
     let found : find key_cmp c.args.key c.args.sets.now.entries ≡ Some c.in-Some.ids.now = sym (c.in-Some.ensures.value ∙ lookup_is c.args.key c.args.sets.now.entries) in
-    some_left (c.is_empty-was.ensures ∙ ap (λ o. not (has_ids (or_none o))) (sym found))
+    some_left (c.is_empty-was.ensures ∙ ap (λ o. not (has_ids (or_no_entries o))) (sym found))
 
 pub returns-clause-was : goal.returns-clause-was
 returns-clause-was c =
     let absent : find key_cmp c.args.key c.args.sets.now.entries ≡ None = sym (c.in_default.ensures.value ∙ lookup_is c.args.key c.args.sets.now.entries) in
-    ap (λ o. has_ids (or_none o)) (sym absent)
+    ap (λ o. has_ids (or_no_entries o)) (sym absent)

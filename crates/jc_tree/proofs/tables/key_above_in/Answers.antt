@@ -1,7 +1,7 @@
 use Rattle.std.proofs.Common.{option_copied, sym, ◌∙◌, ap}
 use Rattle.jc_rules.specs.Entries.{keys_of}
 use Rattle.jc_tree.specs.Tree.{least_after}
-use Rattle.jc_tree.proofs.Balanced.{first_some, above_some, above_none}
+use Rattle.jc_tree.proofs.SortedMapLemmas.{first_some, above_some, above_none}
 use Rattle.jc_tree.proofs.tables.key_above_in.Goals as goal
 
 pub returns-in_default : goal.returns-in_default

@@ -1,5 +1,5 @@
 use Rattle.std.proofs.Common.{◌∙◌}
-use Rattle.jc_tree.proofs.Balanced.{lookup_is, insert_is, sorted_is}
+use Rattle.jc_tree.proofs.SortedMapLemmas.{lookup_is, insert_is, sorted_is}
 use Rattle.jc_tree.proofs.tables.put_in.Goals as goal
 
 pub returns-clause-ok : goal.returns-clause-ok

@@ -4,12 +4,12 @@ use Rattle.jc_rules.specs.declared.value.Value.{Value}
 use Rattle.jc_rules.specs.Order.{id_cmp, key_cmp}
 use Rattle.jc_rules.specs.Entries.{find, put}
 use Rattle.jc_rules.specs.Context.{Register}
-use Rattle.jc_rules.proofs.Order.{keys_total, exact_keys}
-use Rattle.jc_rules.proofs.Entries.{put-same}
-use Rattle.jc_tree.specs.Tree.{or_none}
+use Rattle.jc_rules.proofs.OrderLemmas.{keys_total, exact_keys}
+use Rattle.jc_rules.proofs.EntriesLemmas.{put-same}
+use Rattle.jc_tree.specs.Tree.{or_no_entries}
 use Rattle.jc_tree.specs.Undo.{former_of_value}
 use Rattle.jc_tree.specs.declared.node.Former.TheVariants as F
-use Rattle.jc_tree.proofs.Balanced.{lookup_is, write_put, as_err}
+use Rattle.jc_tree.proofs.SortedMapLemmas.{lookup_is, write_put, as_err}
 use Rattle.jc_tree.proofs.tables.put_value_in.Goals as goal
 
 pub returns-in_err-former-clause-err : goal.returns-in_err-former-clause-err
@@ -22,7 +22,7 @@ pub returns-in-Some-clause-ok : goal.returns-in-Some-clause-ok
 returns-in-Some-clause-ok c =
     let es = c.args.registers.now.entries in
     let found : find key_cmp c.args.key es ≡ Some c.in-Some.pairs.now = sym (c.in-Some.ensures.value ∙ lookup_is c.args.key es) in
-    (c.get_mut.follows.holds c.put.new.self).0 ∙ write_put c.args.key c.put.new.self c.in-Some.pairs.now es found ∙ ap (λ (r : Register). put key_cmp c.args.key r es) (c.in_ok-former.ensures.ok ∙ ap (λ (o : Option Register). put id_cmp c.args.id c.args.value (or_none o)) (sym found))
+    (c.get_mut.follows.holds c.put.new.self).0 ∙ write_put c.args.key c.put.new.self c.in-Some.pairs.now es found ∙ ap (λ (r : Register). put key_cmp c.args.key r es) (c.in_ok-former.ensures.ok ∙ ap (λ (o : Option Register). put id_cmp c.args.id c.args.value (or_no_entries o)) (sym found))
 
 pub returns-in-Some-clause-former : goal.returns-in-Some-clause-former
 returns-in-Some-clause-former c =
@@ -34,7 +34,7 @@ pub returns-clause-ok : goal.returns-clause-ok
 returns-clause-ok c =
     let es = c.args.registers.now.entries in
     let absent : find key_cmp c.args.key es ≡ None = sym (c.in_default.ensures.value ∙ lookup_is c.args.key es) in
-    let new : c.in_ok-single.field-0 ≡ put id_cmp c.args.id c.args.value (or_none (find key_cmp c.args.key es)) = c.in_ok-single.ensures ∙ ap (λ (o : Option Register). put id_cmp c.args.id c.args.value (or_none o)) (sym absent) in
+    let new : c.in_ok-single.field-0 ≡ put id_cmp c.args.id c.args.value (or_no_entries (find key_cmp c.args.key es)) = c.in_ok-single.ensures ∙ ap (λ (o : Option Register). put id_cmp c.args.id c.args.value (or_no_entries o)) (sym absent) in
     c.in_ok-put_in.ensures.ok ∙ (λ j. put key_cmp c.args.key (new j) (c.get_mut.follows.holds-at-none j).entries)
 
 pub returns-clause-former : goal.returns-clause-former

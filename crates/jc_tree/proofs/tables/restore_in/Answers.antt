@@ -1,7 +1,7 @@
 use Rattle.std.proofs.Common.{◌≡◌, Some, None, sym, ◌∙◌, ap}
 use Rattle.jc_rules.specs.Order.{key_cmp}
 use Rattle.jc_rules.specs.Entries.{find}
-use Rattle.jc_tree.proofs.Balanced.{lookup_is, write_is, remove_is, replaced_absent, sorted_is}
+use Rattle.jc_tree.proofs.SortedMapLemmas.{lookup_is, write_is, remove_is, replaced_absent, sorted_is}
 use Rattle.jc_tree.proofs.tables.restore_in.Goals as goal
 
 pub returns-in_default-clause-ok : goal.returns-in_default-clause-ok

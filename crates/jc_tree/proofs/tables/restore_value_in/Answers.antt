@@ -3,7 +3,7 @@ use Rattle.jc_rules.specs.Order.{key_cmp}
 use Rattle.jc_rules.specs.Entries.{find, put}
 use Rattle.jc_rules.specs.Context.{Register}
 use Rattle.jc_tree.specs.Undo.{restored_value}
-use Rattle.jc_tree.proofs.Balanced.{lookup_is, write_put}
+use Rattle.jc_tree.proofs.SortedMapLemmas.{lookup_is, write_put}
 use Rattle.jc_tree.proofs.tables.restore_value_in.Goals as goal
 
 pub returns-in-Some-clause-ok : goal.returns-in-Some-clause-ok

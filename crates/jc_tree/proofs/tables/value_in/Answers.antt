@@ -1,5 +1,5 @@
 use Rattle.std.proofs.Common.{◌∙◌}
-use Rattle.jc_tree.proofs.Balanced.{lookup_is}
+use Rattle.jc_tree.proofs.SortedMapLemmas.{lookup_is}
 use Rattle.jc_tree.proofs.tables.value_in.Goals as goal
 
 pub returns : goal.returns

@@ -1,6 +1,6 @@
 use Rattle.std.proofs.Common.{rules, ◌≡◌}
-use Rattle.jc_meaning.specs.Touching.{target, value_in}
-use Rattle.jc_view.proofs.Passing.{tag_told, passed_last, passed_apart, passed_on}
+use Rattle.jc_meaning.specs.Effects.{target, value_in}
+use Rattle.jc_view.proofs.PathTestsLemmas.{tag_told, passed_last, passed_apart, passed_on}
 use Rattle.jc_view.proofs.alive.+passes.Goals as goal
 
 pub returns-then-ne : goal.returns-then-ne

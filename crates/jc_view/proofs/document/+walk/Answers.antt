@@ -16,21 +16,21 @@ use Rattle.jc_rules.specs.declared.key.Tagged.TheVariants.{MapT, ListT}
 use Rattle.jc_rules.specs.Order.{key_cmp}
 use Rattle.jc_rules.specs.Entries.{keys_of, find}
 use Rattle.jc_rules.specs.Context.{content, presences, links, registers, next, Register}
-use Rattle.jc_rules.specs.Shape.{IsKept}
+use Rattle.jc_rules.specs.WellFormed.{IsWellFormedContext}
 use Rattle.jc_tree.specs.Tree.{here, is_after, least_after}
 use Rattle.jc_tree.specs.Nested.{nested}
-use Rattle.jc_tree.proofs.KeyWalk.{IsNext, next_is, none_is}
-use Rattle.jc_apply.proofs.Passing.{list_here}
-use Rattle.jc_cursor.proofs.Elements.{nearer}
-use Rattle.jc_json.proofs.Places.{kept_at, presences_rise}
-use Rattle.jc_meaning.proofs.Comparing.{StandsBelow, stands_below}
+use Rattle.jc_tree.proofs.WalksLemmas.{IsNext, next_is, none_is}
+use Rattle.jc_apply.proofs.InsertLemmas.{list_here}
+use Rattle.jc_cursor.proofs.ElementsLemmas.{nearer}
+use Rattle.jc_json.proofs.PartsPlacesLemmas.{kept_at, presences_rise}
+use Rattle.jc_meaning.proofs.ComparedContextsLemmas.{StandsBelow, stands_below}
 use Rattle.jc_view.specs.declared.document.Form.TheVariants as F
 use Rattle.jc_view.specs.Visible.{goes_by, or_no_value, present, marked, map_json, list_json, parts_json}
-use Rattle.jc_view.specs.Parts.{Gains, shown_at, child_json, member_of, item_of, members_front, shows_at, form_of, first_tokens, part_tokens, values_tokens, if_so}
-use Rattle.jc_view.proofs.Writing.{Wrote, gains_nothing, gains_one, gains_then, wrote_more, wrote_end, gains_between}
-use Rattle.jc_view.proofs.Elements.{along_begins, along_on, along_ends}
-use Rattle.jc_view.proofs.Members.{map_begins, rest_is, map_ends, member_by, every_is, value_place, map_place, list_place, every_place, map_is, list_is, list_child, map_child}
-use Rattle.jc_view.proofs.Present.{place_is}
+use Rattle.jc_view.specs.Parts.{Gains, parts_shown_at, child_json, member_of, item_of, members_front, shows_at, form_of, first_tokens, part_tokens, values_tokens, if_so}
+use Rattle.jc_view.proofs.TokensLemmas.{Wrote, gains_nothing, gains_one, gains_then, wrote_more, wrote_end, gains_between}
+use Rattle.jc_view.proofs.ElementsLemmas.{along_begins, along_on, along_ends}
+use Rattle.jc_view.proofs.MembersLemmas.{map_begins, rest_is, map_ends, member_by, every_is, value_place, map_place, list_place, every_place, map_is, list_is, list_child, map_child}
+use Rattle.jc_view.proofs.PresentLemmas.{place_is}
 use Rattle.jc_view.proofs.document.+walk.Goals as goal
 use Rattle.jc_view.proofs.document.+walk.Goals.{write_child-then-list+in_ok-write_list, write_child-else-list+in_ok-write_map}
 
@@ -109,7 +109,7 @@ write_every-returns-clause-written g t c =
 pub write_list-loop-id-init : goal.write_list-loop-id-init
 write_list-loop-id-init g t c =
     let d = here c.args.at.now.items (g.S.TreeStore.tree c.args.store.now) in
-    (refl, along_begins (shown_at c.args.names.now (goes_by c.args.replica.now.now) c.args.at.now.items d) d _ _ refl)
+    (refl, along_begins (parts_shown_at c.args.names.now (goes_by c.args.replica.now.now) c.args.at.now.items d) d _ _ refl)
 
 pub write_list-loop-id-smaller : goal.write_list-loop-id-smaller
 write_list-loop-id-smaller g t c =
@@ -128,11 +128,11 @@ write_list-loop-id-preserved g t c =
     let d = here at tree in
     let k = c.loop-id.key in
     let id = c.in-Some.id in
-    let show = shown_at c.args.names.now (goes_by c.args.replica.now.now) at d in
+    let show = parts_shown_at c.args.names.now (goes_by c.args.replica.now.now) at d in
     let e = c.as_slice.ensures.value ∙ c.loop-id.invariant.0 in
     let n : next k d ≡ Some (To id) = subst (λ (s : List Tagged). next k (here s tree) ≡ Some (To id)) e (c.element_after.ensures.some id c.in-Some.is) in
     let gains : Gains c.loop-id.out c.write_item.new.out (item_of show (K.Elem id) d) =
-    subst (λ (s : List Tagged). Gains c.loop-id.out c.write_item.new.out (item_of (shown_at c.args.names.now (goes_by c.args.replica.now.now) s (here s tree)) (K.Elem id) (here s tree))) c.loop-id.invariant.0 c.in_ok-write_item.ensures.written in (
+    subst (λ (s : List Tagged). Gains c.loop-id.out c.write_item.new.out (item_of (parts_shown_at c.args.names.now (goes_by c.args.replica.now.now) s (here s tree)) (K.Elem id) (here s tree))) c.loop-id.invariant.0 c.in_ok-write_item.ensures.written in (
       c.in_ok-write_item.ensures.place ∙ c.loop-id.invariant.0,
       along_on show d k (K.Elem id) id _ _ _ (λ f. list_here at k (To id) tree c.requires.there f c.requires.chained) n refl gains c.loop-id.invariant.1,
     )
@@ -148,7 +148,7 @@ write_list-returns-clause-written g t c =
     let e = c.as_slice.ensures.value ∙ c.loop-id.invariant.0 in
     let none : (i : Id) → next k d ≢ Some (To i) = subst (λ (s : List Tagged). (i : Id) → next k (here s tree) ≢ Some (To i)) e (c.element_after.ensures.none c.in_default.is) in
     let begun : Gains c.args.out.now c.begin_array.new.self (T.begin_array ∷ []) = search rules in
-    let written = wrote_end _ _ _ (along_ends (shown_at names goes at d) d k _ _ none c.loop-id.invariant.1) in
+    let written = wrote_end _ _ _ (along_ends (parts_shown_at names goes at d) d k _ _ none c.loop-id.invariant.1) in
     on_ok_weaker c.end_array.result
     (λ o. gains_between c.args.out.now c.begin_array.new.self c.loop-id.out c.end_array.new.self T.begin_array T.end_array _ _ (list_is names goes at d) begun written (record { before = c.end_array.ensures.room.0; tokens = o }))
     c.end_array.ensures.ok
@@ -156,7 +156,7 @@ write_list-returns-clause-written g t c =
 pub write_map-loop-key-init : goal.write_map-loop-key-init
 write_map-loop-key-init g t c =
     let d = here c.args.at.now.items (g.S.TreeStore.tree c.args.store.now) in
-    (refl, map_begins (shown_at c.args.names.now (goes_by c.args.replica.now.now) c.args.at.now.items d) d _)
+    (refl, map_begins (parts_shown_at c.args.names.now (goes_by c.args.replica.now.now) c.args.at.now.items d) d _)
 
 pub write_map-loop-key-smaller : goal.write_map-loop-key-smaller
 write_map-loop-key-smaller g t c =
@@ -179,11 +179,11 @@ write_map-loop-key-preserved g t c =
     let key = c.in-Some.key.now in
     let e = c.as_slice.ensures.value ∙ c.loop-key.invariant.0 in
     let n : IsNext last (keys_of (presences d)) key = next_is last (keys_of (presences d)) key (sym (c.in-Some.ensures ∙ ap (λ (s : List Tagged). least_after last (keys_of (presences (here s tree)))) e)) in
-    let kept : IsKept d = kept_at at tree.now c.requires.there (g.met.S.TreeStore.kept c.args.store.now) in
-    let gains : Gains c.loop-key.out c.write_member.new.out (member_of (shown_at names goes at d) key d) =
-    subst (λ (s : List Tagged). Gains c.loop-key.out c.write_member.new.out (member_of (shown_at names goes s (here s tree)) key (here s tree))) c.loop-key.invariant.0 c.in_ok-write_member.ensures.written in (
+    let kept : IsWellFormedContext d = kept_at at tree.now c.requires.there (g.met.S.TreeStore.kept c.args.store.now) in
+    let gains : Gains c.loop-key.out c.write_member.new.out (member_of (parts_shown_at names goes at d) key d) =
+    subst (λ (s : List Tagged). Gains c.loop-key.out c.write_member.new.out (member_of (parts_shown_at names goes s (here s tree)) key (here s tree))) c.loop-key.invariant.0 c.in_ok-write_member.ensures.written in (
       c.in_ok-write_member.ensures.place ∙ c.loop-key.invariant.0,
-      wrote_more _ _ _ _ _ _ _ (rest_is (shown_at names goes at d) d last key n.after n.below (presences_rise d kept)) gains c.loop-key.invariant.1,
+      wrote_more _ _ _ _ _ _ _ (rest_is (parts_shown_at names goes at d) d last key n.after n.below (presences_rise d kept)) gains c.loop-key.invariant.1,
     )
 
 pub write_map-returns-clause-written : goal.write_map-returns-clause-written
@@ -198,7 +198,7 @@ write_map-returns-clause-written g t c =
     let all : AllByRecursion (λ j. is_after last j ≡ false) (keys_of (presences d)) =
     none_is last (keys_of (presences d)) (sym (c.in_default.ensures ∙ ap (λ (s : List Tagged). least_after last (keys_of (presences (here s tree)))) e)) in
     let begun : Gains c.args.out.now c.begin_object.new.self (T.begin_object ∷ []) = search rules in
-    let written = wrote_end _ _ _ (map_ends (shown_at names goes at d) d last _ _ all c.loop-key.invariant.1) in
+    let written = wrote_end _ _ _ (map_ends (parts_shown_at names goes at d) d last _ _ all c.loop-key.invariant.1) in
     on_ok_weaker c.end_object.result
     (λ o. gains_between c.args.out.now c.begin_object.new.self c.loop-key.out c.end_object.new.self T.begin_object T.end_object _ _ (map_is names goes at d) begun written (record { before = c.end_object.ensures.room.0; tokens = o }))
     c.end_object.ensures.ok
@@ -208,9 +208,9 @@ write_member-returns-in_ok-write_place-clause-written g t c =
     let tree = g.S.TreeStore.tree c.args.store.now in
     let at = c.args.at.now.items in
     let d = here at tree in
-    let show = shown_at c.args.names.now (goes_by c.args.replica.now.now) at d in
+    let show = parts_shown_at c.args.names.now (goes_by c.args.replica.now.now) at d in
     let s : List ℕ = c.in-Name.name in
-    let kept : IsKept d = kept_at at tree.now c.requires.there (g.met.S.TreeStore.kept c.args.store.now) in
+    let kept : IsWellFormedContext d = kept_at at tree.now c.requires.there (g.met.S.TreeStore.kept c.args.store.now) in
     let is : c.args.key.now ≡ K.Name s = search rules in
     let there : true ≡ is_some (find key_cmp (K.Name s) (present (presences d))) = search rules in
     let named : Gains c.args.out.now c.write_name.new.out (T.key (marked s) ∷ []) = search rules in
@@ -224,9 +224,9 @@ write_member-returns-else-is_present-clause-written g t c =
     let tree = g.S.TreeStore.tree c.args.store.now in
     let at = c.args.at.now.items in
     let d = here at tree in
-    let show = shown_at c.args.names.now (goes_by c.args.replica.now.now) at d in
+    let show = parts_shown_at c.args.names.now (goes_by c.args.replica.now.now) at d in
     let s : List ℕ = c.in-Name.name in
-    let kept : IsKept d = kept_at at tree.now c.requires.there (g.met.S.TreeStore.kept c.args.store.now) in
+    let kept : IsWellFormedContext d = kept_at at tree.now c.requires.there (g.met.S.TreeStore.kept c.args.store.now) in
     let is : c.args.key.now ≡ K.Name s = search rules in
     let there : false ≡ is_some (find key_cmp (K.Name s) (present (presences d))) = search rules in
     subst (λ (k : Key). Gains c.args.out.now c.args.out.now (member_of show k d)) (sym is)
@@ -251,7 +251,7 @@ write_place-returns-in-Value-clause-written g t c =
     ∙ ap (λ b. form_of c.values_at-values.result.now b (shows_at goes at (ListT k) d)) (sym is_map)
     ∙ ap (λ b. form_of c.values_at-values.result.now c.in_ok-map.map b) (sym is_list)
     ∙ sym c.choose_form.ensures ∙ c.in-Value.is in
-    let shown : json_tokens (shown_at names goes at d k) ≡ first_tokens r =
+    let shown : json_tokens (parts_shown_at names goes at d k) ≡ first_tokens r =
     ap json_tokens (place_is names goes at k d) ∙ value_place names r (shows_at goes at (MapT k) d) (shows_at goes at (ListT k) d) m l form in
     on_ok_weaker c.write_first.result
     (λ w. subst (Gains c.args.out.now c.write_first.new.out) (sym shown) (subst (λ (v : Register). Gains c.args.out.now c.write_first.new.out (first_tokens v)) values w))
@@ -276,7 +276,7 @@ write_place-returns-in_ok-copy-in-Map-clause-written g t c =
     ∙ ap (λ b. form_of c.values_at-values.result.now b (shows_at goes at (ListT k) d)) (sym is_map)
     ∙ ap (λ b. form_of c.values_at-values.result.now c.in_ok-map.map b) (sym is_list)
     ∙ sym c.choose_form.ensures ∙ c.in-Map.is in
-    let shown : json_tokens (shown_at names goes at d k) ≡ json_tokens m =
+    let shown : json_tokens (parts_shown_at names goes at d k) ≡ json_tokens m =
     ap json_tokens (place_is names goes at k d) ∙ map_place names r (shows_at goes at (MapT k) d) (shows_at goes at (ListT k) d) m l form in
     let tagged : c.in_ok-copy-in-Map.field-0 ≡ k = c.in_ok-copy-in-Map.ensures in
     on_ok_weaker c.write_child.result
@@ -304,7 +304,7 @@ write_place-returns-in_ok-copy-in-List-clause-written g t c =
     ∙ ap (λ b. form_of c.values_at-values.result.now b (shows_at goes at (ListT k) d)) (sym is_map)
     ∙ ap (λ b. form_of c.values_at-values.result.now c.in_ok-map.map b) (sym is_list)
     ∙ sym c.choose_form.ensures ∙ c.in-List.is in
-    let shown : json_tokens (shown_at names goes at d k) ≡ json_tokens l =
+    let shown : json_tokens (parts_shown_at names goes at d k) ≡ json_tokens l =
     ap json_tokens (place_is names goes at k d) ∙ list_place names r (shows_at goes at (MapT k) d) (shows_at goes at (ListT k) d) m l form in
     let tagged : c.in_ok-copy-in-List.field-0 ≡ k = c.in_ok-copy-in-List.ensures in
     on_ok_weaker c.write_child-in-List.result
@@ -332,7 +332,7 @@ write_place-returns-in-Every-clause-written g t c =
     ∙ ap (λ b. form_of c.values_at-values.result.now b (shows_at goes at (ListT k) d)) (sym is_map)
     ∙ ap (λ b. form_of c.values_at-values.result.now c.in_ok-map.map b) (sym is_list)
     ∙ sym c.choose_form.ensures ∙ c.in-Every.is in
-    let shown : json_tokens (shown_at names goes at d k) ≡ json_tokens (object (member (codes "!conflict") (parts_json names r (if_so (shows_at goes at (MapT k) d) m) (if_so (shows_at goes at (ListT k) d) l)) no_members)) =
+    let shown : json_tokens (parts_shown_at names goes at d k) ≡ json_tokens (object (member (codes "!conflict") (parts_json names r (if_so (shows_at goes at (MapT k) d) m) (if_so (shows_at goes at (ListT k) d) l)) no_members)) =
     ap json_tokens (place_is names goes at k d) ∙ every_place names r (shows_at goes at (MapT k) d) (shows_at goes at (ListT k) d) m l form in
     let tokens_at : Bool → Bool → List Token = λ x y. json_tokens (object (member (codes "!conflict") (parts_json names r (if_so x m) (if_so y l)) no_members)) in
     on_ok_weaker c.write_every.result

@@ -5,12 +5,12 @@ use Rattle.jc_rules.specs.Context.{presences, links}
 use Rattle.jc_rules.specs.Entries.{keys_of}
 use Rattle.jc_tree.specs.Tree.{here, is_after}
 use Rattle.jc_tree.specs.Nested.{nested}
-use Rattle.jc_tree.specs.Walks.{above}
-use Rattle.jc_clear.proofs.Lists.{steps}
+use Rattle.jc_tree.specs.Walks.{keys_above}
+use Rattle.jc_clear.proofs.ClearListLemmas.{steps}
 use Rattle.jc_view.specs.Visible.{goes_by, present}
-use Rattle.jc_view.specs.Parts.{shown_at, members_front, items_front}
-use Rattle.jc_view.proofs.Writing.{Wrote}
-use Rattle.jc_view.proofs.Elements.{Along}
+use Rattle.jc_view.specs.Parts.{parts_shown_at, members_front, items_front}
+use Rattle.jc_view.proofs.TokensLemmas.{Wrote}
+use Rattle.jc_view.proofs.ElementsLemmas.{Along}
 use Rattle.jc_view.proofs.document.+walk.Given as goal
 
 abbrev pub decreases-write_child : goal.decreases-write_child
@@ -42,8 +42,8 @@ abbrev pub invariant-write_map-loop-key : goal.invariant-write_map-loop-key
 invariant-write_map-loop-key g l =
     let c = here l.initial.at.items (g.S.TreeStore.tree l.store) in
     (l.at.items ≡ l.initial.at.items)
-    × Wrote l.initial.out l.out (members_front (shown_at l.names (goes_by l.replica.now) l.initial.at.items c) (present (above (option_copied l.last) (presences c))))
-    (members_front (shown_at l.names (goes_by l.replica.now) l.initial.at.items c) (present (presences c)))
+    × Wrote l.initial.out l.out (members_front (parts_shown_at l.names (goes_by l.replica.now) l.initial.at.items c) (present (keys_above (option_copied l.last) (presences c))))
+    (members_front (parts_shown_at l.names (goes_by l.replica.now) l.initial.at.items c) (present (presences c)))
 
 abbrev pub decreases-write_map-loop-key : goal.decreases-write_map-loop-key
 decreases-write_map-loop-key g l = length (filter (λ k. is_after (option_copied l.last) k) (keys_of (presences (here l.initial.at.items (g.S.TreeStore.tree l.store)))))
@@ -52,7 +52,7 @@ decreases-write_map-loop-key g l = length (filter (λ k. is_after (option_copied
 abbrev pub invariant-write_list-loop-id : goal.invariant-write_list-loop-id
 invariant-write_list-loop-id g l =
     let c = here l.initial.at.items (g.S.TreeStore.tree l.store) in
-    (l.at.items ≡ l.initial.at.items) × Along (shown_at l.names (goes_by l.replica.now) l.initial.at.items c) c l.key l.initial.out l.out
+    (l.at.items ≡ l.initial.at.items) × Along (parts_shown_at l.names (goes_by l.replica.now) l.initial.at.items c) c l.key l.initial.out l.out
 
 abbrev pub decreases-write_list-loop-id : goal.decreases-write_list-loop-id
 decreases-write_list-loop-id g l =

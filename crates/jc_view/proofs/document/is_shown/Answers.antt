@@ -1,10 +1,10 @@
 use Rattle.std.proofs.Common.{rules, ◌≡◌, ◌&&◌, true, false, is_some, refl, sym, ◌∙◌, ap, Some, None}
 use Rattle.jc_rules.specs.Context.{content, presences}
-use Rattle.jc_rules.specs.Shape.{IsKept}
+use Rattle.jc_rules.specs.WellFormed.{IsWellFormedContext}
 use Rattle.jc_tree.specs.Tree.{here}
-use Rattle.jc_json.proofs.Places.{kept_at, presences_rise}
+use Rattle.jc_json.proofs.PartsPlacesLemmas.{kept_at, presences_rise}
 use Rattle.jc_view.specs.Visible.{goes_by, is_alive, present}
-use Rattle.jc_view.proofs.Present.{alive_by}
+use Rattle.jc_view.proofs.PresentLemmas.{alive_by}
 use Rattle.jc_view.proofs.document.is_shown.Goals as goal
 
 pub returns-in-Some : goal.returns-in-Some
@@ -14,7 +14,7 @@ returns-in-Some g c =
     let d = here at t in
     let tagged = c.args.tagged.now in
     let goes = goes_by c.args.replica.now.now in
-    let kept : IsKept d = kept_at at t.now c.requires (g.met.S.TreeStore.kept c.args.store.now) in
+    let kept : IsWellFormedContext d = kept_at at t.now c.requires (g.met.S.TreeStore.kept c.args.store.now) in
     let there : is_some (content tagged d) ≡ true = search rules in
     let alive = alive_by goes at tagged (presences d) (Some c.in-Some.ids.now) (presences_rise d kept) (search rules) in
     c.is_alive.ensures ∙ alive ∙ ap (λ b. b && is_alive goes at (present (presences d)) tagged) (sym there)
@@ -26,7 +26,7 @@ returns-in-None g c =
     let d = here at t in
     let tagged = c.args.tagged.now in
     let goes = goes_by c.args.replica.now.now in
-    let kept : IsKept d = kept_at at t.now c.requires (g.met.S.TreeStore.kept c.args.store.now) in
+    let kept : IsWellFormedContext d = kept_at at t.now c.requires (g.met.S.TreeStore.kept c.args.store.now) in
     let there : is_some (content tagged d) ≡ true = search rules in
     let alive = alive_by goes at tagged (presences d) None (presences_rise d kept) (search rules) in
     alive ∙ ap (λ b. b && is_alive goes at (present (presences d)) tagged) (sym there)

@@ -6,11 +6,11 @@ use Rattle.jc_rules.specs.declared.key.Key.TheVariants as K
 use Rattle.jc_rules.specs.Order.{key_cmp}
 use Rattle.jc_rules.specs.Entries.{find}
 use Rattle.jc_rules.specs.Context.{Context, presences}
-use Rattle.jc_rules.specs.Shape.{IsChained}
+use Rattle.jc_rules.specs.WellFormed.{IsChained}
 use Rattle.jc_view.specs.Visible.{goes_by, present, view_json, view_line}
-use Rattle.jc_view.specs.Parts.{Gains, shown_at, part_tokens}
-use Rattle.jc_view.proofs.Writing.{gains_one, gains_then}
-use Rattle.jc_view.proofs.Members.{view_is, printed}
+use Rattle.jc_view.specs.Parts.{Gains, parts_shown_at, part_tokens}
+use Rattle.jc_view.proofs.TokensLemmas.{gains_one, gains_then}
+use Rattle.jc_view.proofs.MembersLemmas.{view_is, printed}
 use Rattle.jc_view.proofs.document.view_line.Goals as goal
 
 pub write_document-requires : goal.write_document-requires
@@ -25,8 +25,8 @@ returns g c =
     let name = c.args.name.now in
     let a = c.new-out.result in
     let g1 : Gains a c.begin_object.new.self (T.begin_object ∷ []) = gains_one _ _ _ _ _ c.in_ok-begin_object.was c.begin_object.ensures in
-    let g2 : Gains c.begin_object.new.self c.write_document.new.out (part_tokens (codes "doc") (is_some (find key_cmp K.Doc (present (presences d)))) (shown_at names goes [] d K.Doc)) =
-    subst (λ (x : Context). Gains c.begin_object.new.self c.write_document.new.out (part_tokens (codes "doc") (is_some (find key_cmp K.Doc (present (presences x)))) (shown_at names goes [] x K.Doc))) c.tree.ensures c.in_ok-write_document.ensures in
+    let g2 : Gains c.begin_object.new.self c.write_document.new.out (part_tokens (codes "doc") (is_some (find key_cmp K.Doc (present (presences d)))) (parts_shown_at names goes [] d K.Doc)) =
+    subst (λ (x : Context). Gains c.begin_object.new.self c.write_document.new.out (part_tokens (codes "doc") (is_some (find key_cmp K.Doc (present (presences x)))) (parts_shown_at names goes [] x K.Doc))) c.tree.ensures c.in_ok-write_document.ensures in
     let g3 : Gains c.write_document.new.out c.key.new.self (T.key (codes "name") ∷ []) = gains_one _ _ _ _ _ c.in_ok-key.was c.key.ensures in
     let g4 : Gains c.key.new.self c.string.new.self (T.string name ∷ []) = gains_one _ _ _ _ _ c.in_ok-string.was c.string.ensures in
     let g5 : Gains c.string.new.self c.end_object.new.self (T.end_object ∷ []) = gains_one _ _ _ _ _ c.in_ok-end_object.was c.end_object.ensures in

@@ -1,4 +1,4 @@
-use Rattle.jc_view.proofs.Dropped.{document_dropped}
+use Rattle.jc_view.proofs.DroppedLemmas.{document_dropped}
 use Rattle.jc_view.proofs.laws.dropped_show_the_same.Goals as goal
 
 pub returns : goal.returns

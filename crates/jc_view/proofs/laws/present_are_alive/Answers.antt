@@ -1,4 +1,4 @@
-use Rattle.jc_view.proofs.Shown.{present_alive}
+use Rattle.jc_view.proofs.AliveLemmas.{present_alive}
 use Rattle.jc_view.proofs.laws.present_are_alive.Goals as goal
 
 pub returns : goal.returns

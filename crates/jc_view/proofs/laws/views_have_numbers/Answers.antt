@@ -1,4 +1,4 @@
-use Rattle.jc_view.proofs.Numbers.{view_numbers}
+use Rattle.jc_view.proofs.NumbersLemmas.{view_numbers}
 use Rattle.jc_view.proofs.laws.views_have_numbers.Goals as goal
 
 pub returns : goal.returns

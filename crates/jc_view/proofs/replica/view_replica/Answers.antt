@@ -1,6 +1,6 @@
 use Rattle.std.proofs.Common.{refl}
-use Rattle.jc_rules.specs.Names.{name_at}
-use Rattle.jc_view.proofs.Replicas.{chained_of, same_view, line_is}
+use Rattle.jc_rules.specs.ReplicaNames.{name_at}
+use Rattle.jc_view.proofs.ReplicaViewsLemmas.{chained_of, same_view, line_is}
 use Rattle.jc_view.proofs.replica.view_replica.Goals as goal
 
 pub view_line-requires : goal.view_line-requires

@@ -1,8 +1,8 @@
 use Rattle.std.proofs.Common.{rules, ◌≡◌, ◌<◌, ◌++◌, [], ◌∷◌, length, take, Err, refl, ap, ◌∙◌, subst, arith}
 use Rattle.jc_debug.specs.Moves.{IsActed, IsStuckHere}
-use Rattle.jc_debug.specs.Trail.{Seen}
-use Rattle.jc_debug.proofs.Acting.{acted_trail, is_acted, stuck_here}
-use Rattle.jc_debug.proofs.Trails.{seen}
+use Rattle.jc_debug.specs.Invariant.{Seen}
+use Rattle.jc_debug.proofs.ActLemmas.{acted_trail, is_acted, stuck_here}
+use Rattle.jc_debug.proofs.InvariantLemmas.{seen}
 use Rattle.jc_debug.proofs.debugger.Debugger.act.Goals as goal
 
 pub returns-in-Err-Stuck-clause-stuck : goal.returns-in-Err-Stuck-clause-stuck

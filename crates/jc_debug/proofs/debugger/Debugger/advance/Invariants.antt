@@ -1,5 +1,5 @@
 use Rattle.std.proofs.Common.{◌+◌, length}
-use Rattle.jc_debug.specs.Trail.{IsMoved}
+use Rattle.jc_debug.specs.Invariant.{IsMoved}
 use Rattle.jc_debug.proofs.debugger.Debugger.advance.Given as goal
 
 abbrev pub invariant-loop-made : goal.invariant-loop-made

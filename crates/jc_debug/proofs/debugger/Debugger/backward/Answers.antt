@@ -1,6 +1,6 @@
 use Rattle.std.proofs.Common.{rules, ◌<◌, ◌-◌, length, vec_len, refl, sym, subst, arith}
-use Rattle.jc_debug.specs.Trail.{Seen, IsMoved}
-use Rattle.jc_debug.proofs.Trails.{seen, trail_back, moved_back, undone, popped}
+use Rattle.jc_debug.specs.Invariant.{Seen, IsMoved}
+use Rattle.jc_debug.proofs.InvariantLemmas.{seen, trail_back, moved_back, undone, popped}
 use Rattle.jc_debug.proofs.debugger.Debugger.backward.Goals as goal
 
 pub invariant_of-self : goal.invariant_of-self

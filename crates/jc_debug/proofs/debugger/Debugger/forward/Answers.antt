@@ -1,9 +1,9 @@
 use Rattle.std.proofs.Common.{rules, ◌≡◌, ◌+◌, ◌<◌, ◌++◌, [], ◌∷◌, length, Err, refl, ap, sym, subst}
 use Rattle.jc_debug.specs.declared.fault.Halt.TheVariants as H
 use Rattle.jc_debug.specs.Moves.{IsNextHalted}
-use Rattle.jc_debug.specs.Trail.{Seen, IsMoved}
-use Rattle.jc_debug.proofs.Halting.{told_here}
-use Rattle.jc_debug.proofs.Trails.{seen, trail_on, moved_on, next_event}
+use Rattle.jc_debug.specs.Invariant.{Seen, IsMoved}
+use Rattle.jc_debug.proofs.HaltLemmas.{told_here}
+use Rattle.jc_debug.proofs.InvariantLemmas.{seen, trail_on, moved_on, next_event}
 use Rattle.jc_debug.proofs.debugger.Debugger.forward.Goals as goal
 
 pub returns-in-Err-Stuck-clause-err : goal.returns-in-Err-Stuck-clause-err

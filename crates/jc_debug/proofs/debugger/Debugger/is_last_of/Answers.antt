@@ -1,7 +1,7 @@
 use Rattle.std.proofs.Common.{rules, ◌≡◌, ◌-◌, length, slice_get, Some, refl, ap, sym, ◌∙◌, arith}
 use Rattle.std.proofs.lemmas.Option.{slice_get_read}
-use Rattle.jc_debug.specs.Trail.{Seen}
-use Rattle.jc_debug.proofs.Naming.{last_of}
+use Rattle.jc_debug.specs.Invariant.{Seen}
+use Rattle.jc_debug.proofs.BreaksLemmas.{last_of}
 use Rattle.jc_debug.proofs.debugger.Debugger.is_last_of.Goals as goal
 
 pub returns : goal.returns

@@ -1,7 +1,7 @@
 use Rattle.std.proofs.Common.{length, Some, ap, ◌∙◌, arith, below_more}
-use Rattle.jc_debug.specs.Session.{NamesAt}
-use Rattle.jc_debug.specs.Trail.{start_of, session_of}
-use Rattle.jc_debug.proofs.Naming.{no_at_none, no_at_other, none_named}
+use Rattle.jc_debug.specs.DebuggerState.{NamesAt}
+use Rattle.jc_debug.specs.Invariant.{start_of, session_of}
+use Rattle.jc_debug.proofs.BreaksLemmas.{no_at_none, no_at_other, none_named}
 use Rattle.jc_debug.proofs.debugger.Debugger.named.Goals as goal
 use Rattle.jc_debug.proofs.debugger.Debugger.named.Goals.{in-Some+else-names, in_default}
 

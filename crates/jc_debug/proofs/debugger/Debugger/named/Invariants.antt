@@ -1,6 +1,6 @@
 use Rattle.std.proofs.Common.{ℕ, ◌<◌, length}
-use Rattle.jc_debug.specs.Session.{NamesAt}
-use Rattle.jc_debug.specs.Trail.{start_of, session_of}
+use Rattle.jc_debug.specs.DebuggerState.{NamesAt}
+use Rattle.jc_debug.specs.Invariant.{start_of, session_of}
 use Rattle.jc_debug.proofs.debugger.Debugger.named.Given as goal
 
 abbrev pub invariant-loop-j : goal.invariant-loop-j

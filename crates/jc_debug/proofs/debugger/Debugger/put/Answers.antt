@@ -1,5 +1,5 @@
-use Rattle.jc_debug.proofs.Naming.{placed_trail}
-use Rattle.jc_debug.proofs.Trails.{seen}
+use Rattle.jc_debug.proofs.BreaksLemmas.{placed_trail}
+use Rattle.jc_debug.proofs.InvariantLemmas.{seen}
 use Rattle.jc_debug.proofs.debugger.Debugger.put.Goals as goal
 
 pub invariant_of-self : goal.invariant_of-self

@@ -1,8 +1,8 @@
 use Rattle.std.proofs.Common.{rules, subst}
 use Rattle.jc_debug.specs.declared.fault.Halt.{Halt}
 use Rattle.jc_debug.specs.Moves.{IsNextHalted}
-use Rattle.jc_debug.proofs.Running.{quiet_more, ran_stuck, ran_short, ran_break, ran_end}
-use Rattle.jc_debug.proofs.Trails.{moved_more}
+use Rattle.jc_debug.proofs.RunLemmas.{quiet_more, ran_stuck, ran_short, ran_break, ran_end}
+use Rattle.jc_debug.proofs.InvariantLemmas.{moved_more}
 use Rattle.jc_debug.proofs.debugger.Debugger.run.Goals as goal
 
 pub returns-in-Err-Stuck-clause-ok : goal.returns-in-Err-Stuck-clause-ok

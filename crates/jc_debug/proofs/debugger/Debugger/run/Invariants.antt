@@ -1,6 +1,6 @@
 use Rattle.std.proofs.Common.{◌+◌}
-use Rattle.jc_debug.specs.Trail.{IsOnTrail, IsMoved}
-use Rattle.jc_debug.proofs.Running.{Quiet}
+use Rattle.jc_debug.specs.Invariant.{IsOnTrail, IsMoved}
+use Rattle.jc_debug.proofs.RunLemmas.{Quiet}
 use Rattle.jc_debug.proofs.debugger.Debugger.run.Given as goal
 
 abbrev pub invariant-loop-position : goal.invariant-loop-position

@@ -2,8 +2,8 @@ use Rattle.std.proofs.Common.{◌≡◌, ◌-◌, List, length, slice_get, IfSom
 use Rattle.std.specs.Option.{option_copied}
 use Rattle.jc_rules.specs.Trace.{Rows}
 use Rattle.jc_debug.specs.Moves.{IsTraceOf}
-use Rattle.jc_debug.specs.Trail.{Seen}
-use Rattle.jc_debug.proofs.Trails.{seen, last_trace}
+use Rattle.jc_debug.specs.Invariant.{Seen}
+use Rattle.jc_debug.proofs.InvariantLemmas.{seen, last_trace}
 use Rattle.jc_debug.proofs.debugger.Debugger.trace.Goals as goal
 
 pub returns-clause-trace : goal.returns-clause-trace

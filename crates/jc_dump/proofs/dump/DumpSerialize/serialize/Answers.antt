@@ -4,7 +4,7 @@ use Rattle.serde.specs.Event.{Sends, Then, field_key}
 use Rattle.serde.specs.declared.name.Case.TheVariants.{AsIs}
 use Rattle.serde_json.specs.Events.{SendsValue}
 use Rattle.jc_json.specs.Json.{context_data}
-use Rattle.jc_dump.proofs.DumpShown.{shown_sent}
+use Rattle.jc_dump.proofs.DumpPartsLemmas.{shown_sent}
 use Rattle.jc_dump.proofs.dump.DumpSerialize.serialize.Goals as goal
 
 pub returns : goal.returns

@@ -3,7 +3,7 @@ use Rattle.std.proofs.lemmas.Bool.{false≢true}
 use Rattle.jc_lock.specs.Knowledge.{AllTrueOf}
 use Rattle.jc_lock.specs.Gathered.{KnowsAll}
 use Rattle.jc_lock.specs.Shows.{lock_passes, pass_number}
-use Rattle.jc_lock.proofs.Closing.{knows_all, some_pass, all_seen, all_mine, each_of}
+use Rattle.jc_lock.proofs.GatheredLemmas.{knows_all, some_pass, all_seen, all_mine, each_of}
 use Rattle.jc_lock.proofs.lock.HistoryLock.close.Goals as goal
 
 pub returns-then-not-complete-clause-when : goal.returns-then-not-complete-clause-when

@@ -1,5 +1,5 @@
 use Rattle.std.proofs.Common.{rules, arith, ◌≡◌, ◌≤◌}
-use Rattle.jc_lock.proofs.Dealing.{deal_keeps}
+use Rattle.jc_lock.proofs.DealLemmas.{deal_keeps}
 use Rattle.jc_lock.proofs.lock.HistoryLock.deal.Goals as goal
 
 pub split_seat-seat-requires : goal.split_seat-seat-requires

@@ -3,7 +3,7 @@ use Rattle.std.specs.Prelude.{All}
 use Rattle.std.proofs.lemmas.List.Elements.{All-push}
 use Rattle.jc_lock.specs.Steps.{rest_of_deal}
 use Rattle.jc_lock.specs.Shows.{pass_number, IsNewPass}
-use Rattle.jc_lock.proofs.Dealing.{dealt_enough, dealt_head, dealt_next, numbers_dealt}
+use Rattle.jc_lock.proofs.DealLemmas.{dealt_enough, dealt_head, dealt_next, numbers_dealt}
 use Rattle.jc_lock.proofs.lock.HistoryLock.deal_all.Goals as goal
 
 pub deal-pass-requires-clause-table : goal.deal-pass-requires-clause-table

@@ -1,5 +1,5 @@
 use Rattle.std.proofs.Common.{rules}
-use Rattle.jc_lock.proofs.Keeping.{draw_keeps, single}
+use Rattle.jc_lock.proofs.StepsLemmas.{draw_keeps, single}
 use Rattle.jc_lock.proofs.lock.HistoryLock.draw.Goals as goal
 
 pub fetch_add-requires : goal.fetch_add-requires

@@ -2,7 +2,7 @@ use Rattle.std.proofs.Common.{rules, ◌≡◌, ◌++◌, ◌∷◌, [], subst, 
 use Rattle.std.specs.Prelude.{All}
 use Rattle.jc_lock.specs.Gathered.{known_of}
 use Rattle.jc_lock.specs.Shows.{IsPassOf}
-use Rattle.jc_lock.proofs.Closing.{gather_keeps, none_of_length, some_append, some_known, all_but_last, known_of-push}
+use Rattle.jc_lock.proofs.GatheredLemmas.{gather_keeps, none_of_length, some_append, some_known, all_but_last, known_of-push}
 use Rattle.jc_lock.proofs.lock.HistoryLock.gather.Goals as goal
 
 pub loop-pass-init : goal.loop-pass-init

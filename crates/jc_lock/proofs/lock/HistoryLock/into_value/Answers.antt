@@ -3,7 +3,7 @@ use Rattle.std.specs.Prelude.{All}
 use mathlib.Core.Option.{some-injective}
 use Rattle.jc_lock.specs.Knowledge.{AllTrueOf}
 use Rattle.jc_lock.specs.Shows.{lock_passes}
-use Rattle.jc_lock.proofs.Closing.{close_gives, same_some, some_not_none}
+use Rattle.jc_lock.proofs.GatheredLemmas.{close_gives, same_some, some_not_none}
 use Rattle.jc_lock.proofs.lock.HistoryLock.into_value.Goals as goal
 
 pub unreachable-requires : goal.unreachable-requires

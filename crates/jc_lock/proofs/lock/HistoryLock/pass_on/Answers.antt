@@ -1,5 +1,5 @@
 use Rattle.std.proofs.Common.{rules}
-use Rattle.jc_lock.proofs.Keeping.{pass_on_keeps, turn_of}
+use Rattle.jc_lock.proofs.StepsLemmas.{pass_on_keeps, turn_of}
 use Rattle.jc_lock.proofs.lock.HistoryLock.pass_on.Goals as goal
 
 pub fetch_add-requires : goal.fetch_add-requires

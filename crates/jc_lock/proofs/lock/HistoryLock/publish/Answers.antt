@@ -1,6 +1,6 @@
 use Rattle.std.proofs.Common.{rules, ap, ◌∙◌, ◌++◌, ◌∷◌, []}
 use Rattle.jc_lock.specs.Knowledge.{seen_in, number_in}
-use Rattle.jc_lock.proofs.Keeping.{publish_keeps, single, turn_of}
+use Rattle.jc_lock.proofs.StepsLemmas.{publish_keeps, single, turn_of}
 use Rattle.jc_lock.proofs.lock.HistoryLock.publish.Goals as goal
 
 pub fetch_add-requires : goal.fetch_add-requires

@@ -1,5 +1,5 @@
 use Rattle.std.proofs.Common.{rules}
-use Rattle.jc_lock.proofs.Keeping.{read_keeps, single}
+use Rattle.jc_lock.proofs.StepsLemmas.{read_keeps, single}
 use Rattle.jc_lock.proofs.lock.HistoryLock.read.Goals as goal
 
 pub load-requires : goal.load-requires

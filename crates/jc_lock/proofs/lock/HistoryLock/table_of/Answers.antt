@@ -2,7 +2,7 @@ use Rattle.std.proofs.Common.{rules, ◌≡◌, ap, sym, subst, Some, [], ◌∷
 use Rattle.atomic_table.specs.Table.{opening}
 use Rattle.jc_lock.specs.Rules.{IsKept}
 use Rattle.jc_lock.specs.Steps.{first_dealer}
-use Rattle.jc_lock.proofs.Dealing.{open_keeps}
+use Rattle.jc_lock.proofs.DealLemmas.{open_keeps}
 use Rattle.jc_lock.proofs.lock.HistoryLock.table_of.Goals as goal
 
 pub new-requires : goal.new-requires

@@ -1,5 +1,5 @@
 use Rattle.std.proofs.Common.{rules, ap, ◌∙◌, length}
-use Rattle.jc_lock.proofs.Keeping.{look_keeps, single}
+use Rattle.jc_lock.proofs.StepsLemmas.{look_keeps, single}
 use Rattle.jc_lock.proofs.lock.HistoryLock.wait_turn.Goals as goal
 
 pub load-due-requires : goal.load-due-requires

@@ -1,7 +1,7 @@
 use Rattle.std.proofs.Common.{sym}
 use Rattle.std.proofs.lemmas.Bool.{false≢true}
-use Rattle.jc_lock.proofs.Closing.{each_of}
-use Rattle.jc_lock.proofs.Numbering.{each_once_in_order}
+use Rattle.jc_lock.proofs.GatheredLemmas.{each_of}
+use Rattle.jc_lock.proofs.NumbersLemmas.{each_once_in_order}
 use Rattle.jc_lock_tests.proofs.tests.counter.opened_and_closed.Goals as goal
 
 pub unreachable-requires : goal.unreachable-requires

@@ -2,7 +2,7 @@ use Rattle.std.proofs.Common.{arith, ◌≡◌, ℕ, List, ◌++◌, ◌∷◌, 
 use Rattle.std.specs.Prelude.{All}
 use Rattle.std.proofs.lemmas.List.{length-map}
 use Rattle.jc_lock.specs.Shows.{pass_number, IsNewPass}
-use Rattle.jc_lock.proofs.Closing.{all_but_last}
+use Rattle.jc_lock.proofs.GatheredLemmas.{all_but_last}
 use Rattle.jc_lock_tests.proofs.tests.diary.open_for_two.Goals as goal
 
 module _ {X : Type 0} where

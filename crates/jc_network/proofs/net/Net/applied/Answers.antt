@@ -1,8 +1,8 @@
 use Rattle.std.proofs.Common.{◌≡◌, Some, length, reverse, slice_get, subst}
 use Rattle.std.specs.Slice.{IsItemAt}
 use Rattle.jc_network.specs.Applied.{IsApplied}
-use Rattle.jc_network.specs.Course.{Course}
-use Rattle.jc_network.proofs.Going.{applies, some_lent}
+use Rattle.jc_network.specs.NetworkHistory.{Course}
+use Rattle.jc_network.proofs.InvariantLemmas.{applies, some_lent}
 use Rattle.jc_network.proofs.net.Net.applied.Goals as goal
 
 pub returns-in_ok-applied_of-in-Some-clause-applied : goal.returns-in_ok-applied_of-in-Some-clause-applied

@@ -1,9 +1,9 @@
 use Rattle.std.proofs.Common.{◌≡◌, Some, length, refl, reverse, slice_get, subst, sym}
 use Rattle.std.specs.Slice.{IsItemAt}
 use Rattle.jc_network.specs.Applied.{applied_ops, AreAppliedIds}
-use Rattle.jc_network.specs.Course.{Course}
-use Rattle.jc_network.proofs.AppliedIds.{are_applied_ids}
-use Rattle.jc_network.proofs.Going.{applies, now_reached, some_lent}
+use Rattle.jc_network.specs.NetworkHistory.{Course}
+use Rattle.jc_network.proofs.AppliedIdsLemmas.{are_applied_ids}
+use Rattle.jc_network.proofs.InvariantLemmas.{applies, now_reached, some_lent}
 use Rattle.jc_network.proofs.net.Net.applied_ids.Goals as goal
 
 pub returns-in_ok-applied_ids_of-in-Some-clause-applied : goal.returns-in_ok-applied_ids_of-in-Some-clause-applied

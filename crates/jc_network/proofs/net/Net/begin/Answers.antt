@@ -1,6 +1,6 @@
 use Rattle.std.proofs.Common.{ℕ, List, length, reverse, sym, subst}
-use Rattle.jc_network.specs.Run.{IsKeptNet}
-use Rattle.jc_network.proofs.Givens.{begun}
+use Rattle.jc_network.specs.Invariant.{IsKeptNet}
+use Rattle.jc_network.proofs.GivenHistoryLemmas.{begun}
 use Rattle.jc_network.proofs.net.Net.begin.Goals as goal
 
 pub invariant_of-self : goal.invariant_of-self

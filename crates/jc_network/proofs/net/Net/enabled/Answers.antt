@@ -1,9 +1,9 @@
 use Rattle.std.proofs.Common.{length, reverse, ap, subst, arith}
 use Rattle.std.proofs.lemmas.Result.{IfOk-weaker}
-use Rattle.jc_network.specs.Course.{Course, network_of}
-use Rattle.jc_network.specs.Enabled.{AreEnabled, AreTold, candidates}
-use Rattle.jc_network.proofs.EnablingSeen.{enabled_stands}
-use Rattle.jc_network.proofs.Going.{few_names, now_in_run, now_reached}
+use Rattle.jc_network.specs.NetworkHistory.{Course, network_of}
+use Rattle.jc_network.specs.Enabled.{AreEnabled, AreEnabledAsKnown, candidates}
+use Rattle.jc_network.proofs.EnabledRefinesLemmas.{enabled_stands}
+use Rattle.jc_network.proofs.InvariantLemmas.{few_names, now_in_run, now_reached}
 use Rattle.jc_network.proofs.net.Net.enabled.Goals as goal
 
 pub enabled_in-requires-clause-few : goal.enabled_in-requires-clause-few
@@ -20,5 +20,5 @@ returns c =
     let run = now_in_run c.self.inside.version (length c.self.inside.names.items) (reverse c.self.inside.whose.items) items c.self.invariant in
     IfOk-weaker c.enabled_in.result _ _ (λ events told.
     subst (λ (v : Course). AreEnabled v.network (candidates v.network) events.items) c.self.view_is
-    (enabled_stands c.self.invariant.scripts c.self.inside.version (network_of items) (now_reached c.self.inside.version (length c.self.inside.names.items) (reverse c.self.inside.whose.items) items c.self.invariant) run.set items run.seen events.items (subst (λ ps. AreTold c.self.inside.version ps events.items) c.deref.ensures.value told)))
+    (enabled_stands c.self.invariant.scripts c.self.inside.version (network_of items) (now_reached c.self.inside.version (length c.self.inside.names.items) (reverse c.self.inside.whose.items) items c.self.invariant) run.set items run.seen events.items (subst (λ ps. AreEnabledAsKnown c.self.inside.version ps events.items) c.deref.ensures.value told)))
     c.enabled_in.ensures

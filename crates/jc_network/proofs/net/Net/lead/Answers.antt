@@ -1,6 +1,6 @@
 use Rattle.std.proofs.Common.{◌+◌, refl, sym, ◌∙◌, ap, Err, arith}
 use Rattle.jc_network.specs.declared.fault.StepFault.TheVariants as E
-use Rattle.jc_network.proofs.Givens.{led_none, led_more, led_short, led_all, lead_fails}
+use Rattle.jc_network.proofs.GivenHistoryLemmas.{led_none, led_more, led_short, led_all, lead_fails}
 use Rattle.jc_network.proofs.net.Net.lead.Goals as goal
 
 pub loop-event-init : goal.loop-event-init

@@ -1,5 +1,5 @@
 use Rattle.std.proofs.Common.{◌≡◌}
-use Rattle.jc_network.proofs.Givens.{HaveLed}
+use Rattle.jc_network.proofs.GivenHistoryLemmas.{HaveLed}
 use Rattle.jc_network.proofs.net.Net.lead.Given as goal
 
 abbrev pub invariant-loop-event : goal.invariant-loop-event

@@ -1,6 +1,6 @@
 use Rattle.std.proofs.Common.{◌≤◌, length, reverse, subst}
-use Rattle.jc_network.specs.Course.{Course}
-use Rattle.jc_network.proofs.Going.{few_names}
+use Rattle.jc_network.specs.NetworkHistory.{Course}
+use Rattle.jc_network.proofs.InvariantLemmas.{few_names}
 use Rattle.jc_network.proofs.net.Net.names.Goals as goal
 
 pub returns-clause-few : goal.returns-clause-few

@@ -1,8 +1,8 @@
 use Rattle.std.proofs.Common.{◌≡◌, Some, length, reverse, slice_get, subst}
 use Rattle.std.specs.Slice.{IsItemAt}
-use Rattle.jc_network.specs.Course.{Course}
-use Rattle.jc_network.specs.Makes.{HasReplica}
-use Rattle.jc_network.proofs.Going.{has_replica, if_lent}
+use Rattle.jc_network.specs.NetworkHistory.{Course}
+use Rattle.jc_network.specs.Steps.{HasReplica}
+use Rattle.jc_network.proofs.InvariantLemmas.{has_replica, if_lent}
 use Rattle.jc_network.proofs.net.Net.replica.Goals as goal
 
 pub returns-clause-some : goal.returns-clause-some

@@ -3,12 +3,12 @@ use Rattle.jc_rules.specs.declared.operation.Event.{Event}
 use Rattle.jc_rules.specs.Step.{Network, AfterIn}
 use Rattle.jc_scenario.specs.Views.{scenario_view, scripts_view}
 use Rattle.jc_network.specs.declared.fault.StartFault.TheVariants as S
-use Rattle.jc_network.specs.Course.{Course, network_of, of_version}
+use Rattle.jc_network.specs.NetworkHistory.{Course, network_of, of_version}
 use Rattle.jc_network.specs.Given.{IsStarted, IsGivenFault}
-use Rattle.jc_network.specs.Run.{IsKeptNet}
+use Rattle.jc_network.specs.Invariant.{IsKeptNet}
 use Rattle.jc_network.specs.Start.{pasts_from}
-use Rattle.jc_network.proofs.Acting.{at_err}
-use Rattle.jc_network.proofs.Beginning.{starts_in_run, real_start, short_scripts}
+use Rattle.jc_network.proofs.StepsLemmas.{at_err}
+use Rattle.jc_network.proofs.StartLemmas.{starts_in_run, real_start, short_scripts}
 use Rattle.jc_network.proofs.net.Net.start.Goals as goal
 
 pub invariant_of-net : goal.invariant_of-net

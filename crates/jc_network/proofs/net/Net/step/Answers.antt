@@ -1,10 +1,10 @@
 use Rattle.std.proofs.Common.{◌≡◌, ◌≤◌, [], ◌∷◌, ◌++◌, length, reverse, take, drop, Some, Ok, Err, refl, sym, ◌∙◌, ap, subst, slice_get, arith}
 use Rattle.jc_rules.specs.Step.{replica_of}
 use Rattle.jc_network.specs.declared.fault.StepFault.TheVariants as E
-use Rattle.jc_network.specs.Course.{Course, course_of, StepsTo}
-use Rattle.jc_network.specs.Makes.{Makes, IsStuckFor}
-use Rattle.jc_network.proofs.Acting.{never_full, told_stuck, at_err}
-use Rattle.jc_network.proofs.Going.{stepped_whole, all_hand, all_own, now_in_run, as_many}
+use Rattle.jc_network.specs.NetworkHistory.{Course, course_of, StepsTo}
+use Rattle.jc_network.specs.Steps.{MakesStep, IsStuckFor}
+use Rattle.jc_network.proofs.StepsLemmas.{never_full, told_stuck, at_err}
+use Rattle.jc_network.proofs.InvariantLemmas.{stepped_whole, all_hand, all_own, now_in_run, as_many}
 use Rattle.jc_network.proofs.net.Net.step.Goals as goal
 
 -- ---- the number of steps
@@ -52,7 +52,7 @@ pub returns-in_err-trace-clause-stuck : goal.returns-in_err-trace-clause-stuck
 returns-in_err-trace-clause-stuck c = λ s e.
     let items = c.self.inside.replicas.items in
     let run = now_in_run c.self.inside.version (length c.self.inside.names.items) (reverse c.self.inside.whose.items) items c.self.invariant in
-    let m = subst (λ ps. Makes c.self.inside.version c.args.event.now ps c.make.new.replicas (Err c.in_err-trace.field-0.0)) c.as_mut_slice.ensures.value c.in_err-trace.ensures in
+    let m = subst (λ ps. MakesStep c.self.inside.version c.args.event.now ps c.make.new.replicas (Err c.in_err-trace.field-0.0)) c.as_mut_slice.ensures.value c.in_err-trace.ensures in
     let q = at_err _ c.from_residual.result (E.Stuck s) c.from_residual.ensures.1 e in
     let is : c.in_err-trace.field-0.0 ≡ E.Stuck s = cc in
     subst (λ (v : Course). IsStuckFor v.network c.args.event.now s) c.self.view_is (told_stuck c.self.inside.version c.self.invariant.scripts c.self.invariant.first c.args.event.now items c.make.new.replicas c.in_err-trace.field-0.0 s run m is)
@@ -60,14 +60,14 @@ returns-in_err-trace-clause-stuck c = λ s e.
 pub invariant_of-self-2 : goal.invariant_of-self-2
 invariant_of-self-2 c =
     let items = c.self.inside.replicas.items in
-    let made = subst (λ ps. Makes c.self.inside.version c.args.event.now ps c.make.new.replicas (Ok c.in_ok-trace.trace)) c.as_mut_slice.ensures.value c.in_ok-trace.ensures in
+    let made = subst (λ ps. MakesStep c.self.inside.version c.args.event.now ps c.make.new.replicas (Ok c.in_ok-trace.trace)) c.as_mut_slice.ensures.value c.in_ok-trace.ensures in
     let more : c.push.new.self.items ≡ c.self.inside.whose.items ++ replica_of c.args.event.now ∷ [] = rw (c.push.ensures.items, c.unwrap.ensures, c.reserve.ensures.items, c.replica.ensures) refl in
     (stepped_whole c.self.inside.version c.self.inside.names.items items c.make.new.replicas c.self.inside.replicas.len c.self.inside.whose.items c.push.new.self.items c.args.event.now c.in_ok-trace.trace made.0 (sym c.as_mut_slice.ensures.len ∙ ap length c.as_mut_slice.ensures.value) more c.self.invariant made.1).kept
 
 pub returns-clause-made : goal.returns-clause-made
 returns-clause-made c =
     let items = c.self.inside.replicas.items in
-    let made = subst (λ ps. Makes c.self.inside.version c.args.event.now ps c.make.new.replicas (Ok c.in_ok-trace.trace)) c.as_mut_slice.ensures.value c.in_ok-trace.ensures in
+    let made = subst (λ ps. MakesStep c.self.inside.version c.args.event.now ps c.make.new.replicas (Ok c.in_ok-trace.trace)) c.as_mut_slice.ensures.value c.in_ok-trace.ensures in
     let more : c.push.new.self.items ≡ c.self.inside.whose.items ++ replica_of c.args.event.now ∷ [] = rw (c.push.ensures.items, c.unwrap.ensures, c.reserve.ensures.items, c.replica.ensures) refl in
     let s = stepped_whole c.self.inside.version c.self.inside.names.items items c.make.new.replicas c.self.inside.replicas.len c.self.inside.whose.items c.push.new.self.items c.args.event.now c.in_ok-trace.trace made.0 (sym c.as_mut_slice.ensures.len ∙ ap length c.as_mut_slice.ensures.value) more c.self.invariant made.1 in
     subst (λ (v : Course). StepsTo v c.args.event.now (course_of c.self.inside.version c.self.inside.names.items (reverse c.push.new.self.items) (take c.self.inside.replicas.len (c.make.new.replicas ++ drop (length c.make.new.replicas) items))) c.in_ok-trace.trace) c.self.view_is s.steps

@@ -1,7 +1,7 @@
 use Rattle.std.proofs.Common.{length, reverse, ap, subst, arith}
-use Rattle.jc_network.specs.Course.{Course}
-use Rattle.jc_network.specs.Run.{IsFromStart, HasBegun}
-use Rattle.jc_network.proofs.Going.{as_many, now_reached, has_begun}
+use Rattle.jc_network.specs.NetworkHistory.{Course}
+use Rattle.jc_network.specs.Invariant.{IsFromStart, HasBegun}
+use Rattle.jc_network.proofs.InvariantLemmas.{as_many, now_reached, has_begun}
 use Rattle.jc_network.proofs.net.Net.steps.Goals as goal
 
 pub returns-clause-steps : goal.returns-clause-steps

@@ -1,7 +1,7 @@
 use Rattle.std.proofs.Common.{◌≡◌, ◌<◌, [], ◌∷◌, ◌++◌, length, reverse, map, option_to_list, slice_get, slice_set, Some, sym, ◌∙◌, ap, subst, arith}
-use Rattle.jc_network.specs.Course.{Course, network_of, earlier_of, of_version}
-use Rattle.jc_network.proofs.Going.{can_index, goes_back, undone_by, versions_before}
-use Rattle.jc_network.proofs.Halves.{index_get}
+use Rattle.jc_network.specs.NetworkHistory.{Course, network_of, earlier_of, of_version}
+use Rattle.jc_network.proofs.InvariantLemmas.{can_index, goes_back, undone_by, versions_before}
+use Rattle.jc_network.proofs.HalvesLemmas.{index_get}
 use Rattle.jc_network.proofs.net.Net.undo.Goals as goal
 
 pub index_mut-requires : goal.index_mut-requires

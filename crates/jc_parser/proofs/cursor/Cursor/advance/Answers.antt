@@ -1,6 +1,6 @@
 use Rattle.std.proofs.lemmas.List.Elements.{All-drop, All-take}
 use Rattle.jc_syntax.specs.Lexemes.{IsTokenOf}
-use Rattle.jc_parser.proofs.FirstTokens.{skipped}
+use Rattle.jc_parser.proofs.FirstTokensLemmas.{skipped}
 use Rattle.jc_parser.proofs.cursor.Cursor.advance.Goals as goal
 
 pub invariant_of-self : goal.invariant_of-self

@@ -2,15 +2,15 @@ use Rattle.std.proofs.Common.{◌≡◌, ℕ, ◌≤◌, List, [], ◌∷◌, le
 use Rattle.jc_syntax.specs.declared.token.Token.{Token}
 use Rattle.jc_syntax.specs.declared.token.TokenKind.{TokenKind}
 use Rattle.jc_syntax.specs.declared.token.TokenKind.TheVariants.{Name}
-use Rattle.jc_syntax.specs.Lexemes.{bytes_of, content_of}
+use Rattle.jc_syntax.specs.Lexemes.{token_bytes, token_content}
 use Rattle.jc_parser.specs.Symbols.{lexemes}
-use Rattle.jc_parser.specs.Reading.{begins_with, has_kind, same_kind, begins, Reading}
-use Rattle.jc_parser.proofs.SymbolTests.{kind_again}
+use Rattle.jc_parser.specs.ReaderState.{begins_with, has_kind, same_kind, begins, Reading}
+use Rattle.jc_parser.proofs.SymbolTestsLemmas.{kind_again}
 use Rattle.jc_parser.proofs.cursor.Cursor.begins.Goals as goal
 
 first_kind : (text : List ℕ) (ts : List Token) (k : TokenKind) (d : Token) → 1 ≤ length ts → begins_with (has_kind k) (lexemes text ts) ≡ same_kind (slice_index_or ts 0 d).kind k
 first_kind text [] k d le = absurd (omega arith)
-first_kind text (t ∷ ts) k d le = ap (λ (own : TokenKind). same_kind own k) (kind_again t.kind (bytes_of text t) (content_of text t))
+first_kind text (t ∷ ts) k d le = ap (λ (own : TokenKind). same_kind own k) (kind_again t.kind (token_bytes text t) (token_content text t))
 
 pub returns-in-len1-up : goal.returns-in-len1-up
 returns-in-len1-up c =

@@ -1,6 +1,6 @@
 use Rattle.std.proofs.Common.{sym, ◌∙◌}
-use Rattle.jc_parser.specs.ScriptParts.{is_misused}
-use Rattle.jc_parser.proofs.FirstTokens.{no_misused}
+use Rattle.jc_parser.specs.ScriptReader.{is_misused}
+use Rattle.jc_parser.proofs.FirstTokensLemmas.{no_misused}
 use Rattle.jc_parser.proofs.cursor.Cursor.begins_misused.Goals as goal
 
 pub returns-then-not-begins : goal.returns-then-not-begins

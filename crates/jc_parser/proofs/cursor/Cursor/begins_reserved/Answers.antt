@@ -1,6 +1,6 @@
 use Rattle.std.proofs.Common.{sym, ◌∙◌}
-use Rattle.jc_parser.specs.Reading.{reserved}
-use Rattle.jc_parser.proofs.FirstTokens.{no_reserved}
+use Rattle.jc_parser.specs.ReaderState.{reserved}
+use Rattle.jc_parser.proofs.FirstTokensLemmas.{no_reserved}
 use Rattle.jc_parser.proofs.cursor.Cursor.begins_reserved.Goals as goal
 
 pub returns-then-not-begins : goal.returns-then-not-begins

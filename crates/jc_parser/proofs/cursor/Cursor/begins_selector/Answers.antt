@@ -1,6 +1,6 @@
 use Rattle.std.proofs.Common.{sym, ◌∙◌}
-use Rattle.jc_parser.specs.Language.{is_selector}
-use Rattle.jc_parser.proofs.FirstTokens.{no_selector}
+use Rattle.jc_parser.specs.Expressions.{is_selector}
+use Rattle.jc_parser.proofs.FirstTokensLemmas.{no_selector}
 use Rattle.jc_parser.proofs.cursor.Cursor.begins_selector.Goals as goal
 
 pub returns-then-not-begins : goal.returns-then-not-begins

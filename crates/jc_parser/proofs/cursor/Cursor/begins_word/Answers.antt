@@ -1,6 +1,6 @@
 use Rattle.std.proofs.Common.{sym, ◌∙◌}
-use Rattle.jc_parser.specs.Reading.{is_word}
-use Rattle.jc_parser.proofs.FirstTokens.{no_word}
+use Rattle.jc_parser.specs.ReaderState.{is_word}
+use Rattle.jc_parser.proofs.FirstTokensLemmas.{no_word}
 use Rattle.jc_parser.proofs.cursor.Cursor.begins_word.Goals as goal
 
 pub returns-then-not-begins : goal.returns-then-not-begins

@@ -1,6 +1,6 @@
 use Rattle.std.proofs.Common.{Err, sym, ap, ◌∙◌}
-use Rattle.jc_parser.specs.Reading.{has_kind}
-use Rattle.jc_parser.proofs.FirstTokens.{not_skipped}
+use Rattle.jc_parser.specs.ReaderState.{has_kind}
+use Rattle.jc_parser.proofs.FirstTokensLemmas.{not_skipped}
 use Rattle.jc_parser.proofs.cursor.Cursor.mark.Goals as goal
 
 pub returns-then-not-begins : goal.returns-then-not-begins

@@ -1,7 +1,7 @@
 use Rattle.std.proofs.Common.{arith}
-use Rattle.jc_parser.specs.Reading.{has_kind}
+use Rattle.jc_parser.specs.ReaderState.{has_kind}
 use Rattle.jc_syntax.specs.declared.token.TokenKind.TheVariants.{Name, Number}
-use Rattle.jc_parser.proofs.FirstTokens.{word_spelled, number_spelled, nothing_begins}
+use Rattle.jc_parser.proofs.FirstTokensLemmas.{word_spelled, number_spelled, nothing_begins}
 use Rattle.jc_parser.proofs.cursor.Cursor.spelling.Goals as goal
 
 pub slice_of-requires : goal.slice_of-requires

@@ -1,7 +1,7 @@
 use Rattle.std.proofs.Common.{Err, sym, ap, ◌∙◌, arith}
 use Rattle.jc_syntax.specs.declared.token.TokenKind.TheVariants.{Str}
-use Rattle.jc_parser.specs.Reading.{has_kind}
-use Rattle.jc_parser.proofs.FirstTokens.{first_is_string, string_taken, no_value}
+use Rattle.jc_parser.specs.ReaderState.{has_kind}
+use Rattle.jc_parser.proofs.FirstTokensLemmas.{first_is_string, string_taken, no_value}
 use Rattle.jc_parser.proofs.cursor.Cursor.string.Goals as goal
 
 pub returns-then-not-begins : goal.returns-then-not-begins

@@ -1,4 +1,4 @@
-use Rattle.jc_replica.proofs.Whole.{none_whole}
+use Rattle.jc_replica.proofs.ReceivedLemmas.{none_whole}
 use Rattle.jc_replica.proofs.received.Received.new.Goals as goal
 
 pub invariant_of-result : goal.invariant_of-result

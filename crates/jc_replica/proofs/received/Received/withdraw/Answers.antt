@@ -1,7 +1,7 @@
 use Rattle.std.proofs.Common.{◌≡◌, ◌∷◌, ◌++◌, [], List, length, length-append, sym, ap, ◌∙◌, arith}
 use Rattle.jc_rules.specs.declared.id.Id.{Id}
 use Rattle.jc_replica.specs.Undo.{without_ops}
-use Rattle.jc_replica.proofs.Whole.{without-last, without_nothing}
+use Rattle.jc_replica.proofs.ReceivedLemmas.{without-last, without_nothing}
 use Rattle.jc_replica.proofs.received.Received.withdraw.Goals as goal
 
 pub loop-last-preserved : goal.loop-last-preserved

@@ -4,10 +4,10 @@ use Rattle.jc_rules.specs.Context.{Context}
 use Rattle.jc_rules.specs.Derivation.{Operate}
 use Rattle.jc_rules.specs.Refused.{because, Refused}
 use Rattle.jc_apply.specs.Fits.{EachOp}
-use Rattle.jc_replica.specs.Past.{Past}
-use Rattle.jc_replica.proofs.Cans.{can_take_where}
-use Rattle.jc_replica.proofs.Events.{ready_now}
-use Rattle.jc_replica.proofs.Opening.{IsFree}
+use Rattle.jc_replica.specs.ReplicaHistory.{Past}
+use Rattle.jc_replica.proofs.CanLemmas.{can_take_where}
+use Rattle.jc_replica.proofs.AnswersLemmas.{ready_now}
+use Rattle.jc_replica.proofs.PassesLemmas.{IsFree}
 use Rattle.jc_replica.proofs.replica.Replica.applies.Goals as goal
 
 pub returns-clause-ok : goal.returns-clause-ok

@@ -3,9 +3,9 @@ use Rattle.jc_rules.specs.Trace.{at_depth}
 use Rattle.jc_cursor.specs.Bounds.{bound_of, vars_of}
 use Rattle.jc_replica.specs.declared.record.Change.TheVariants as C
 use Rattle.jc_replica.specs.declared.record.Record.{Record}
-use Rattle.jc_replica.specs.Makes.{Binds}
-use Rattle.jc_replica.specs.Past.{Past}
-use Rattle.jc_replica.proofs.Bound.{bound_kept_replica, bound_occurs}
+use Rattle.jc_replica.specs.NextCommand.{Binds}
+use Rattle.jc_replica.specs.ReplicaHistory.{Past}
+use Rattle.jc_replica.proofs.VariablesLemmas.{bound_kept_replica, bound_occurs}
 use Rattle.jc_replica.proofs.replica.Replica.bind.Goals as goal
 
 pub invariant_of-self-2 : goal.invariant_of-self-2

@@ -3,11 +3,11 @@ use Rattle.std.proofs.lemmas.List.{length-map}
 use Rattle.jc_rules.specs.Refused.{no_command, at_yield}
 use Rattle.jc_rules.specs.Syntax.{Yield}
 use Rattle.jc_syntax.specs.Trees.{cmd_of}
-use Rattle.jc_replica.specs.Makes.{IsLet}
-use Rattle.jc_replica.specs.Past.{Past}
-use Rattle.jc_replica.proofs.Making.{binds_next, makes_next}
-use Rattle.jc_replica.proofs.Scripts.{next_is, none_left}
-use Rattle.jc_replica.proofs.Seeing.{left_seen}
+use Rattle.jc_replica.specs.NextCommand.{IsLet}
+use Rattle.jc_replica.specs.ReplicaHistory.{Past}
+use Rattle.jc_replica.proofs.NextCommandSeenLemmas.{binds_next, makes_next}
+use Rattle.jc_replica.proofs.ScriptLemmas.{next_is, none_left}
+use Rattle.jc_replica.proofs.RefinesLemmas.{left_seen}
 use Rattle.jc_replica.proofs.replica.Replica.binds_next.Goals as goal
 
 pub returns-then-self-len-clause-err : goal.returns-then-self-len-clause-err

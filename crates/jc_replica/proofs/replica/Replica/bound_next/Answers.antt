@@ -3,13 +3,13 @@ use Rattle.jc_rules.specs.declared.operation.Event.TheVariants as E
 use Rattle.jc_rules.specs.Syntax.{LetIn}
 use Rattle.jc_syntax.specs.Trees.{cmd_of, expr_of}
 use Rattle.jc_cursor.specs.Bounds.{vars_of}
-use Rattle.jc_cursor.specs.Evaluates.{IsRefused, cause_of}
-use Rattle.jc_replica.specs.Past.{Past}
-use Rattle.jc_replica.proofs.Binding.{only_let, same_let, binds, refused_let}
-use Rattle.jc_replica.proofs.Events.{ready_now}
-use Rattle.jc_replica.proofs.Making.{evaluated_in, refused_in}
-use Rattle.jc_replica.proofs.Refusing.{handed_up}
-use Rattle.jc_replica.proofs.Scripts.{is_next}
+use Rattle.jc_cursor.specs.Evaluates.{IsEvalRefused, eval_cause_of}
+use Rattle.jc_replica.specs.ReplicaHistory.{Past}
+use Rattle.jc_replica.proofs.VariablesSeenLemmas.{only_let, same_let, binds, refused_let}
+use Rattle.jc_replica.proofs.AnswersLemmas.{ready_now}
+use Rattle.jc_replica.proofs.NextCommandSeenLemmas.{evaluated_in, refused_in}
+use Rattle.jc_replica.proofs.RefusedLemmas.{handed_up}
+use Rattle.jc_replica.proofs.ScriptLemmas.{is_next}
 use Rattle.jc_replica.proofs.replica.Replica.bound_next.Goals as goal
 
 pub unreachable-requires : goal.unreachable-requires
@@ -31,7 +31,7 @@ returns-in_err-bound-clause-err g c =
     let all : c.as_slice.result.now ≡ i.vars.items = search rules in
     let vars = ap (λ vs. vars_of vs) all ∙ ap (λ (p : Past). p.now.vars) c.self.view_is in
     let tree = ap (λ (p : Past). p.now.tree) c.self.view_is in
-    handed_up (E.Exec c.args.self.now.number) [] c.args.self.now c.from_residual-in_err-bound.result (cause_of c.in_err-bound.field-0.0) (λ why. IsRefused (g.S.TreeStore.tree i.store).now (vars_of c.as_slice.result.now) (expr_of c.in-Let.expr) why) c.from_residual-in_err-bound.ensures.1
+    handed_up (E.Exec c.args.self.now.number) [] c.args.self.now c.from_residual-in_err-bound.result (eval_cause_of c.in_err-bound.field-0.0) (λ why. IsEvalRefused (g.S.TreeStore.tree i.store).now (vars_of c.as_slice.result.now) (expr_of c.in-Let.expr) why) c.from_residual-in_err-bound.ensures.1
     (λ why r. λ set os A stands of. refused_let set c.args.self.now.number A c.args.self.now.now stands os c.requires why (refused_in tree vars same.1 r))
     c.in_err-bound.ensures.refused
 

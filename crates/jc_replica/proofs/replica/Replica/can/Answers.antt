@@ -1,4 +1,4 @@
-use Rattle.jc_replica.proofs.Cans.{cannot_occur}
+use Rattle.jc_replica.proofs.CanLemmas.{cannot_occur}
 use Rattle.jc_replica.proofs.replica.Replica.can.Goals as goal
 
 pub returns-in-Err : goal.returns-in-Err

@@ -7,12 +7,12 @@ use Rattle.jc_syntax.specs.Trees.{cmd_of}
 use Rattle.jc_cursor.specs.Bounds.{vars_of}
 use Rattle.jc_replica.specs.declared.record.Record.{Record}
 use Rattle.jc_replica.specs.declared.record.Change.TheVariants as C
-use Rattle.jc_replica.specs.Undo.{Held, held}
-use Rattle.jc_replica.specs.Past.{Past, no_rows}
-use Rattle.jc_replica.proofs.Scripts.{one_more_fits}
-use Rattle.jc_replica.proofs.Steps.{stepped, no_later}
-use Rattle.jc_replica.proofs.Seeing.{left_seen, acted_seen}
-use Rattle.jc_replica.proofs.Events.{ready_now, done_ready, ends, ended_back, occurs}
+use Rattle.jc_replica.specs.Undo.{Held, held_of}
+use Rattle.jc_replica.specs.ReplicaHistory.{Past, no_rows}
+use Rattle.jc_replica.proofs.ScriptLemmas.{one_more_fits}
+use Rattle.jc_replica.proofs.UndoStepsLemmas.{stepped, no_later}
+use Rattle.jc_replica.proofs.RefinesLemmas.{left_seen, acted_seen}
+use Rattle.jc_replica.proofs.AnswersLemmas.{ready_now, done_ready, ends, ended_back, occurs}
 use Rattle.jc_replica.proofs.replica.Replica.done.Goals as goal
 
 pub invariant_of-self-2 : goal.invariant_of-self-2
@@ -20,8 +20,8 @@ invariant_of-self-2 g c =
     let i = c.self.inside in
     let script = map cmd_of i.script.items in
     let t = g.S.TreeStore.tree i.store in
-    let h : Held = held i.done i.acted (vars_of i.vars.items) i.ops i.queue.items i.sent i.recv in
-    let h2 : Held = held (i.done + 1) false (vars_of i.vars.items) i.ops i.queue.items i.sent i.recv in
+    let h : Held = held_of i.done i.acted (vars_of i.vars.items) i.ops i.queue.items i.sent i.recv in
+    let h2 : Held = held_of (i.done + 1) false (vars_of i.vars.items) i.ops i.queue.items i.sent i.recv in
     let r : Record = record { mark = c.mark.result; change = C.Ended } in
     let left = ap (λ (p : Past). p.now.left) c.self.view_is ∙ c.in_ok-at_yield.ensures.ok.1 in
     let acted : h.acted ≡ true = search rules in
@@ -33,8 +33,8 @@ returns g c =
     let i = c.self.inside in
     let script = map cmd_of i.script.items in
     let t = g.S.TreeStore.tree i.store in
-    let h : Held = held i.done i.acted (vars_of i.vars.items) i.ops i.queue.items i.sent i.recv in
-    let h2 : Held = held (i.done + 1) false (vars_of i.vars.items) i.ops i.queue.items i.sent i.recv in
+    let h : Held = held_of i.done i.acted (vars_of i.vars.items) i.ops i.queue.items i.sent i.recv in
+    let h2 : Held = held_of (i.done + 1) false (vars_of i.vars.items) i.ops i.queue.items i.sent i.recv in
     let r : Record = record { mark = c.mark.result; change = C.Ended } in
     let left = ap (λ (p : Past). p.now.left) c.self.view_is ∙ c.in_ok-at_yield.ensures.ok.1 in
     let acted : h.acted ≡ true = search rules in

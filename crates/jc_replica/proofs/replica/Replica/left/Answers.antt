@@ -1,7 +1,7 @@
 use Rattle.std.proofs.Common.{rules, ◌≡◌, ◌-◌, length, take, drop, map, ap, ◌∙◌}
 use Rattle.jc_syntax.specs.Trees.{cmd_of}
-use Rattle.jc_replica.specs.Past.{Past}
-use Rattle.jc_replica.proofs.Scripts.{left_of}
+use Rattle.jc_replica.specs.ReplicaHistory.{Past}
+use Rattle.jc_replica.proofs.ScriptLemmas.{left_of}
 use Rattle.jc_replica.proofs.replica.Replica.left.Goals as goal
 
 pub returns : goal.returns

@@ -3,13 +3,13 @@ use Rattle.jc_rules.specs.declared.operation.Event.TheVariants as E
 use Rattle.jc_rules.specs.Ids.{greatest}
 use Rattle.jc_syntax.specs.Trees.{expr_of}
 use Rattle.jc_cursor.specs.Bounds.{vars_of, bound_of}
-use Rattle.jc_cursor.specs.Evaluates.{Evaluates, IsRefused, cause_of}
-use Rattle.jc_replica.specs.Makes.{IsMaking, rule_by, expr_by, mutation_by}
-use Rattle.jc_replica.specs.Past.{Past}
-use Rattle.jc_replica.proofs.Events.{ready_now}
-use Rattle.jc_replica.proofs.Making.{refused_first, refused_bound, evaluated_in, refused_in, no_cursor, makes}
-use Rattle.jc_replica.proofs.Refusing.{handed_up}
-use Rattle.jc_replica.proofs.Scripts.{is_next}
+use Rattle.jc_cursor.specs.Evaluates.{Evaluates, IsEvalRefused, eval_cause_of}
+use Rattle.jc_replica.specs.NextCommand.{IsMaking, rule_by, expr_by, mutation_by}
+use Rattle.jc_replica.specs.ReplicaHistory.{Past}
+use Rattle.jc_replica.proofs.AnswersLemmas.{ready_now}
+use Rattle.jc_replica.proofs.NextCommandSeenLemmas.{refused_first, refused_bound, evaluated_in, refused_in, no_cursor, makes}
+use Rattle.jc_replica.proofs.RefusedLemmas.{handed_up}
+use Rattle.jc_replica.proofs.ScriptLemmas.{is_next}
 use Rattle.jc_replica.proofs.replica.Replica.make_op.Goals as goal
 
 pub place_of-requires : goal.place_of-requires
@@ -31,7 +31,7 @@ returns-in_err-bound-clause-err g c =
     let vars = ap (λ vs. vars_of vs) all ∙ ap (λ (p : Past). p.now.vars) c.self.view_is in
     let tree = ap (λ (p : Past). p.now.tree) c.self.view_is in
     let expr = c.place_of.ensures ∙ ap expr_by next in
-    handed_up (E.Exec c.args.self.now.number) [] c.args.self.now c.from_residual-in_err-bound.result (cause_of c.in_err-bound.field-0.0) (λ why. IsRefused (g.S.TreeStore.tree i.store).now (vars_of c.as_slice.result.now) (expr_of c.place_of.result.now) why) c.from_residual-in_err-bound.ensures.1
+    handed_up (E.Exec c.args.self.now.number) [] c.args.self.now c.from_residual-in_err-bound.result (eval_cause_of c.in_err-bound.field-0.0) (λ why. IsEvalRefused (g.S.TreeStore.tree i.store).now (vars_of c.as_slice.result.now) (expr_of c.place_of.result.now) why) c.from_residual-in_err-bound.ensures.1
     (λ why r. λ set os A stands of. refused_first set c.args.self.now.number A c.args.self.now.now stands c.requires.command c.requires.rest c.requires.next c.requires.makes os why (refused_in tree vars expr r))
     c.in_err-bound.ensures.refused
 

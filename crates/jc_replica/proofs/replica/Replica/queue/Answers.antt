@@ -1,7 +1,7 @@
 use Rattle.std.proofs.Common.{sym, ◌∙◌, ap, subst}
 use Rattle.jc_replica.specs.Operations.{AreInOrder}
-use Rattle.jc_replica.specs.Past.{Past}
-use Rattle.jc_replica.proofs.Events.{ready_now}
+use Rattle.jc_replica.specs.ReplicaHistory.{Past}
+use Rattle.jc_replica.proofs.AnswersLemmas.{ready_now}
 use Rattle.jc_replica.proofs.replica.Replica.queue.Goals as goal
 
 pub returns-clause-queue : goal.returns-clause-queue

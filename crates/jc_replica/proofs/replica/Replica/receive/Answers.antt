@@ -4,12 +4,12 @@ use Rattle.jc_cursor.specs.Bounds.{vars_of}
 use Rattle.jc_replica.specs.declared.record.Record.{Record}
 use Rattle.jc_replica.specs.declared.record.Change.TheVariants as C
 use Rattle.jc_replica.specs.Operations.{AreInOrder, AreHanded}
-use Rattle.jc_replica.specs.Past.{Past}
+use Rattle.jc_replica.specs.ReplicaHistory.{Past}
 use Rattle.jc_replica.specs.Received.{IsUnited}
-use Rattle.jc_replica.specs.Undo.{Held, held, back}
-use Rattle.jc_replica.proofs.Events.{ready_now}
-use Rattle.jc_replica.proofs.Sending.{front_in_order}
-use Rattle.jc_replica.proofs.Receiving.{offered_now, offered_order, received_held, received_step, has_received}
+use Rattle.jc_replica.specs.Undo.{Held, held_of, undone_once}
+use Rattle.jc_replica.proofs.AnswersLemmas.{ready_now}
+use Rattle.jc_replica.proofs.SendLemmas.{front_in_order}
+use Rattle.jc_replica.proofs.ReceiveLemmas.{offered_now, offered_order, received_held, received_step, has_received}
 use Rattle.jc_replica.proofs.replica.Replica.receive.Goals as goal
 
 pub unite-requires : goal.unite-requires
@@ -24,28 +24,28 @@ pub invariant_of-self-2 : goal.invariant_of-self-2
 invariant_of-self-2 g c =
     let i = c.self.inside in
     let t = g.S.TreeStore.tree i.store in
-    let h : Held = held i.done i.acted (vars_of i.vars.items) i.ops i.queue.items i.sent i.recv in
+    let h : Held = held_of i.done i.acted (vars_of i.vars.items) i.ops i.queue.items i.sent i.recv in
     let r : Record = record { mark = c.mark-mark.result; change = C.Received c.in_ok-came.came i.acted } in
     let one : c.push-2.new.self.items ≡ i.steps.items ++ r ∷ [] = search rules in
     let all : c.deref.result.now ≡ i.queue.items = search rules in
     let off : take i.sent c.deref.result.now ≡ c.args.self.now.now.send = ap (take i.sent) all ∙ ap (λ (p : Past). p.now.send) c.self.view_is in
     let read : c.unwrap_or-ops.result.now ≡ unwrap_or (option_copied c.args.offered) c.args.self.now.now.send = ap (λ (b : Bor (List Op)). b.now) c.unwrap_or-ops.ensures ∙ offered_now c.args.offered _ ∙ ap (unwrap_or (option_copied c.args.offered)) off in
     let done = c.in_ok-came.ensures in
-    let back_is : back r.change (received_held h c.unite.new.self) ≡ h = ap (λ (x : List Op). held h.done h.acted h.vars h.ops h.queue h.sent x) done.back in
+    let back_is : undone_once r.change (received_held h c.unite.new.self) ≡ h = ap (λ (x : List Op). held_of h.done h.acted h.vars h.ops h.queue h.sent x) done.back in
     (received_step c.self.invariant c.unite.new.self c.push-2.new.self.items r one c.mark-mark.ensures back_is tt done.order (done.handed (ready_now c.self.invariant).handed (subst AreHanded (sym read) c.requires.handed))).kept
 
 pub returns-clause-received : goal.returns-clause-received
 returns-clause-received g c =
     let i = c.self.inside in
     let t = g.S.TreeStore.tree i.store in
-    let h : Held = held i.done i.acted (vars_of i.vars.items) i.ops i.queue.items i.sent i.recv in
+    let h : Held = held_of i.done i.acted (vars_of i.vars.items) i.ops i.queue.items i.sent i.recv in
     let r : Record = record { mark = c.mark-mark.result; change = C.Received c.in_ok-came.came i.acted } in
     let one : c.push-2.new.self.items ≡ i.steps.items ++ r ∷ [] = search rules in
     let all : c.deref.result.now ≡ i.queue.items = search rules in
     let off : take i.sent c.deref.result.now ≡ c.args.self.now.now.send = ap (take i.sent) all ∙ ap (λ (p : Past). p.now.send) c.self.view_is in
     let read : c.unwrap_or-ops.result.now ≡ unwrap_or (option_copied c.args.offered) c.args.self.now.now.send = ap (λ (b : Bor (List Op)). b.now) c.unwrap_or-ops.ensures ∙ offered_now c.args.offered _ ∙ ap (unwrap_or (option_copied c.args.offered)) off in
     let done = c.in_ok-came.ensures in
-    let back_is : back r.change (received_held h c.unite.new.self) ≡ h = ap (λ (x : List Op). held h.done h.acted h.vars h.ops h.queue h.sent x) done.back in
+    let back_is : undone_once r.change (received_held h c.unite.new.self) ≡ h = ap (λ (x : List Op). held_of h.done h.acted h.vars h.ops h.queue h.sent x) done.back in
     let s = received_step c.self.invariant c.unite.new.self c.push-2.new.self.items r one c.mark-mark.ensures back_is tt done.order (done.handed (ready_now c.self.invariant).handed (subst AreHanded (sym read) c.requires.handed)) in
     let united : IsUnited h.recv (unwrap_or (option_copied c.args.offered) c.args.self.now.now.send) c.unite.new.self = subst (λ (xs : List Op). IsUnited h.recv xs c.unite.new.self) read done.ok in
     has_received i.number _ c.self.view_is _ c.unite.new.self c.push-2.new.self.items united s

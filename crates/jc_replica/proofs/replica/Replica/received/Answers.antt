@@ -1,5 +1,5 @@
 use Rattle.std.proofs.Common.{◌∙◌, ap}
-use Rattle.jc_replica.specs.Past.{Past}
+use Rattle.jc_replica.specs.ReplicaHistory.{Past}
 use Rattle.jc_replica.proofs.replica.Replica.received.Goals as goal
 
 pub returns-clause-received : goal.returns-clause-received

@@ -1,4 +1,4 @@
-use Rattle.jc_replica.proofs.Receiving.{receives}
+use Rattle.jc_replica.proofs.ReceiveLemmas.{receives}
 use Rattle.jc_replica.proofs.replica.Replica.recv.Goals as goal
 
 pub returns : goal.returns

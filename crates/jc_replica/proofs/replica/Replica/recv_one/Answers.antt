@@ -2,7 +2,7 @@ use Rattle.std.proofs.Common.{◌∷◌, [], List, refl, sym, subst}
 use Rattle.jc_rules.specs.declared.operation.Op.{Op}
 use Rattle.jc_replica.specs.Operations.{AreHanded}
 use Rattle.jc_replica.specs.Received.{HasReceived}
-use Rattle.jc_replica.proofs.Receiving.{takes, one_handed, refused_take}
+use Rattle.jc_replica.proofs.ReceiveLemmas.{takes, one_handed, refused_take}
 use Rattle.jc_replica.proofs.replica.Replica.recv_one.Goals as goal
 
 pub receive-requires-clause-handed : goal.receive-requires-clause-handed

@@ -3,7 +3,7 @@ use Rattle.jc_rules.specs.declared.operation.Op.{Op}
 use Rattle.jc_rules.specs.Table.{op_of}
 use Rattle.jc_replica.specs.Operations.{AreHanded}
 use Rattle.jc_replica.specs.Received.{HasReceived}
-use Rattle.jc_replica.proofs.Receiving.{takes, one_handed, refused_take}
+use Rattle.jc_replica.proofs.ReceiveLemmas.{takes, one_handed, refused_take}
 use Rattle.jc_replica.proofs.replica.Replica.recv_one_own.Goals as goal
 
 pub receive-requires-clause-handed : goal.receive-requires-clause-handed

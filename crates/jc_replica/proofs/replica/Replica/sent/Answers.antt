@@ -1,7 +1,7 @@
 use Rattle.std.proofs.Common.{rules, ◌≡◌, sym, subst, take}
 use Rattle.jc_replica.specs.Operations.{AreInOrder}
-use Rattle.jc_replica.proofs.Events.{ready_now}
-use Rattle.jc_replica.proofs.Sending.{front_in_order}
+use Rattle.jc_replica.proofs.AnswersLemmas.{ready_now}
+use Rattle.jc_replica.proofs.SendLemmas.{front_in_order}
 use Rattle.jc_replica.proofs.replica.Replica.sent.Goals as goal
 
 pub returns-clause-order : goal.returns-clause-order

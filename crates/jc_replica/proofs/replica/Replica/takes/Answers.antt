@@ -2,8 +2,8 @@ use Rattle.std.proofs.Common.{◌≡◌, true, false, sym, ap, ◌∙◌, option
 use Rattle.jc_rules.specs.Table.{op_of}
 use Rattle.jc_rules.specs.Ids.{has_id, AreIn}
 use Rattle.jc_rules.specs.declared.id.Id.{Id}
-use Rattle.jc_replica.specs.Past.{Past}
-use Rattle.jc_replica.proofs.Taking.{refused_absent, refused_applied, refused_missing, none_found}
+use Rattle.jc_replica.specs.ReplicaHistory.{Past}
+use Rattle.jc_replica.proofs.MayApplyLemmas.{refused_absent, refused_applied, refused_missing, none_found}
 use Rattle.jc_replica.proofs.replica.Replica.takes.Goals as goal
 
 refuted : {b : Bool} → b ≡ true → b ≡ false → ⊥

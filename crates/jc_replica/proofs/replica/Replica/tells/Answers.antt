@@ -1,8 +1,8 @@
 use Rattle.std.proofs.Common.{ap, sym, subst}
 use Rattle.jc_rules.specs.declared.operation.Event.{Event}
 use Rattle.jc_replica.specs.Can.{CanOccur}
-use Rattle.jc_replica.specs.Past.{Past}
-use Rattle.jc_replica.proofs.Cans.{can_end_where, can_read, is_reading}
+use Rattle.jc_replica.specs.ReplicaHistory.{Past}
+use Rattle.jc_replica.proofs.CanLemmas.{can_end_where, can_read, is_reading}
 use Rattle.jc_replica.proofs.replica.Replica.tells.Goals as goal
 
 pub returns-in_ok-at_yield-in-Done-clause-ok : goal.returns-in_ok-at_yield-in-Done-clause-ok

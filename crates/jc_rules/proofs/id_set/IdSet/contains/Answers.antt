@@ -1,9 +1,9 @@
 use Rattle.std.proofs.Common.{List, ℕ, ◌∙◌, ap, leb, le-ltb}
 use Rattle.jc_rules.specs.declared.id.Id.{Id}
 use Rattle.jc_rules.specs.Ids.{has_id}
-use Rattle.jc_rules.specs.Filled.{greatest_of}
-use Rattle.jc_rules.proofs.Counters.{below_found, none_found}
-use Rattle.jc_rules.proofs.Stands.{contains_stands}
+use Rattle.jc_rules.specs.VersionVectors.{greatest_of}
+use Rattle.jc_rules.proofs.IdSetLemmas.{below_found, none_found}
+use Rattle.jc_rules.proofs.RepresentationLemmas.{contains_stands}
 use Rattle.jc_rules.proofs.id_set.IdSet.contains.Goals as goal
 
 pub returns-then-id-gt0-clause-exact : goal.returns-then-id-gt0-clause-exact

@@ -1,8 +1,8 @@
 use Rattle.std.proofs.Common.{List, sym, ◌∙◌, ap}
 use Rattle.jc_rules.specs.declared.id.Id.{Id}
 use Rattle.jc_rules.specs.Ids.{greatest}
-use Rattle.jc_rules.proofs.Counters.{greatest_all, greatest-filled}
-use Rattle.jc_rules.proofs.Stands.{greatest_stands}
+use Rattle.jc_rules.proofs.IdSetLemmas.{greatest_all, greatest-filled}
+use Rattle.jc_rules.proofs.RepresentationLemmas.{greatest_stands}
 use Rattle.jc_rules.proofs.id_set.IdSet.greatest.Goals as goal
 
 pub returns-clause-exact : goal.returns-clause-exact

@@ -1,8 +1,8 @@
 use Rattle.std.proofs.Common.{List, sym, ◌∙◌, ap}
 use Rattle.jc_rules.specs.declared.id.Id.{Id}
-use Rattle.jc_rules.specs.Filled.{greatest_of}
-use Rattle.jc_rules.proofs.Filled.{greatest_of-filled}
-use Rattle.jc_rules.proofs.Stands.{greatest_of_stands}
+use Rattle.jc_rules.specs.VersionVectors.{greatest_of}
+use Rattle.jc_rules.proofs.CoveredLemmas.{greatest_of-filled}
+use Rattle.jc_rules.proofs.RepresentationLemmas.{greatest_of_stands}
 use Rattle.jc_rules.proofs.id_set.IdSet.greatest_of.Goals as goal
 
 pub returns-clause-exact : goal.returns-clause-exact

@@ -1,9 +1,9 @@
 use Rattle.std.proofs.Common.{◌≡◌, List, ◌∙◌, ap, leb, subst}
 use Rattle.std.specs.List.{list_all}
 use Rattle.jc_rules.specs.declared.id.Id.{Id}
-use Rattle.jc_rules.specs.Filled.{greatest_of}
-use Rattle.jc_rules.proofs.Counters.{tested_sets}
-use Rattle.jc_rules.proofs.Stands.{subset_stands}
+use Rattle.jc_rules.specs.VersionVectors.{greatest_of}
+use Rattle.jc_rules.proofs.IdSetLemmas.{tested_sets}
+use Rattle.jc_rules.proofs.RepresentationLemmas.{subset_stands}
 use Rattle.jc_rules.proofs.id_set.IdSet.is_subset.Goals as goal
 
 pub returns-clause-exact : goal.returns-clause-exact

@@ -2,7 +2,7 @@ use Rattle.std.proofs.Common.{◌≡◌, get_or, refl, sym, ◌∙◌, ap, arith
 use Rattle.jc_rules.specs.declared.rule.Rule.TheVariants as R
 use Rattle.jc_rules.specs.declared.rule.TheConstants.{RULES}
 use Rattle.jc_rules.specs.RuleNames.{rule_name}
-use Rattle.jc_rules.proofs.Listed.{rule_at, rule_within, rule_place}
+use Rattle.jc_rules.proofs.RefusalsLemmas.{rule_at, rule_within, rule_place}
 use Rattle.jc_rules.proofs.rule.Rule.of_name.Goals as goal
 use Rattle.std.specs.Str.{bytes_eq}
 use Rattle.std.proofs.lemmas.Slice.Eq.{bytes_eq-Decides}

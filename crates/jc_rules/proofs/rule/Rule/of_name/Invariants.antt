@@ -1,7 +1,7 @@
 use Rattle.std.proofs.Common.{◌≡◌, ◌≢◌, ℕ, ◌<◌}
 use Rattle.jc_rules.specs.declared.rule.Rule.{Rule}
 use Rattle.jc_rules.specs.RuleNames.{rule_name}
-use Rattle.jc_rules.proofs.Listed.{rule_place}
+use Rattle.jc_rules.proofs.RefusalsLemmas.{rule_place}
 use Rattle.jc_rules.proofs.rule.Rule.of_name.Given as goal
 
 -- none of those before the index

@@ -1,6 +1,6 @@
 use Rattle.std.proofs.Common.{rules, subst}
 use Rattle.jc_lock.specs.Shows.{turn_value}
-use Rattle.jc_network.specs.Makes.{IsStuckFor}
+use Rattle.jc_network.specs.Steps.{IsStuckFor}
 use Rattle.jc_runner.specs.Recording.{Recording}
 use Rattle.jc_runner.proofs.bench.Bench.make.Goals as goal
 

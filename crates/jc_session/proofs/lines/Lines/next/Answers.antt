@@ -1,6 +1,6 @@
 use Rattle.std.proofs.Common.{[], ◌∷◌, Ok, inl, inr, refl, ap, arith}
 use Rattle.std.proofs.KnownBytes.{Consumes-trans}
-use Rattle.jc_session.proofs.Readings.{reads_more, some_read, none_after, stops_err, to_lf, to_end}
+use Rattle.jc_session.proofs.LineReadingLemmas.{reads_more, some_read, none_after, stops_err, to_lf, to_end}
 use Rattle.jc_session.proofs.lines.Lines.next.Goals as goal
 
 pub returns-in_err-byte-clause-err : goal.returns-in_err-byte-clause-err

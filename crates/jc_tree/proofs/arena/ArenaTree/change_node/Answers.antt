@@ -1,13 +1,13 @@
 use Rattle.std.proofs.Common.{◌≡◌, ◌∷◌, ◌++◌, [], ◌∙◌, ap}
-use Rattle.jc_rules.specs.Places.{context_at}
+use Rattle.jc_rules.specs.ContextsAt.{context_at}
 use Rattle.jc_tree.specs.Change.{changed_by}
-use Rattle.jc_tree.specs.Arena.{content_of, flat_at, former_of_flat}
+use Rattle.jc_tree.specs.Arena.{content_of_arena, flat_at, former_of_flat}
 use Rattle.jc_tree.specs.declared.arena.Undo.{Undo}
-use Rattle.jc_tree.proofs.ArenaChanges.{Changes, with_change, inside_changes}
-use Rattle.jc_tree.proofs.ArenaHistory.{good_pushed, changed_tree}
-use Rattle.jc_tree.proofs.ArenaMaking.{nodes_changed, former_there, pushed_ok}
-use Rattle.jc_tree.proofs.Lasting.{numbers_stay}
-use Rattle.jc_tree.proofs.Undoing.{pushed}
+use Rattle.jc_tree.proofs.ArenaChangesLemmas.{Changes, with_change, inside_changes}
+use Rattle.jc_tree.proofs.ArenaHistoryLemmas.{good_pushed, changed_tree}
+use Rattle.jc_tree.proofs.ArenaCallsLemmas.{nodes_changed, former_there, pushed_ok}
+use Rattle.jc_tree.proofs.ArenaPlacesLemmas.{numbers_stay}
+use Rattle.jc_tree.proofs.UndoLemmas.{pushed}
 use Rattle.jc_tree.proofs.arena.ArenaTree.change_node.Goals as goal
 
 pub invariant_of-self-2 : goal.invariant_of-self-2
@@ -34,7 +34,7 @@ returns-clause-ok c at path =
     let former : c.in_ok-former.former ≡ former_of_flat c.args.change (flat_at ns i) = former_there ns i c.args.change c.index_mut.result.now _ (rw c.number-number.ensures at c.index_mut.ensures.value) c.requires.within c.in_ok-former.ensures.former in
     let change = inside_changes ns at i c.args.change self.good path c.requires.within c.requires.inside c.requires.fit in
     let undo : Undo = record { node = i; former = c.in_ok-former.former } in
-    let here : Changes ns (with_change c.args.change i ns) at (changed_by c.args.change (context_at at (content_of ns))) i c.in_ok-former.former = rw former change in
+    let here : Changes ns (with_change c.args.change i ns) at (changed_by c.args.change (context_at at (content_of_arena ns))) i c.in_ok-former.former = rw former change in
     let all : c.push.new.self.items ≡ self.undos.items ++ undo ∷ [] = pushed_ok c.push.result _ c.reserve.new.self.items c.push.new.self.items undo c.unwrap.ensures c.push.ensures.items ∙ ap (λ us. us ++ undo ∷ []) c.in_ok-reserve.ensures.items in
     rw (c.number-number.ensures, made) (changed_tree ns (with_change c.args.change i ns) self.undos.items c.push.new.self.items undo at _ here all)
 

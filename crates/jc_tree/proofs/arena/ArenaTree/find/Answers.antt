@@ -1,5 +1,5 @@
 use Rattle.std.proofs.Common.{refl, sym, ◌∙◌}
-use Rattle.jc_tree.proofs.ArenaSteps.{walk_step, no_place_there, child_within}
+use Rattle.jc_tree.proofs.ArenaStepsLemmas.{walk_step, no_place_there, child_within}
 use Rattle.jc_tree.proofs.arena.ArenaTree.find.Goals as goal
 
 pub loop-key-init : goal.loop-key-init

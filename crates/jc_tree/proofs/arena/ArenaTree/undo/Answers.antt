@@ -1,7 +1,7 @@
 use Rattle.std.proofs.Common.{◌∷◌, ◌++◌, [], sym, ap, subst, ◌∙◌}
-use Rattle.jc_tree.specs.Arena.{content_of}
-use Rattle.jc_tree.specs.ArenaUndo.{AreGood, contents}
-use Rattle.jc_tree.proofs.ArenaHistory.{contents_latest, good_latest}
+use Rattle.jc_tree.specs.Arena.{content_of_arena}
+use Rattle.jc_tree.specs.ArenaUndo.{AreGood, arena_contents}
+use Rattle.jc_tree.proofs.ArenaHistoryLemmas.{contents_latest, good_latest}
 use Rattle.jc_tree.proofs.arena.ArenaTree.undo.Goals as goal
 
 pub invariant_of-self : goal.invariant_of-self
@@ -16,4 +16,4 @@ invariant_of-self c =
 pub returns-in-Some-clause-history : goal.returns-in-Some-clause-history
 returns-in-Some-clause-history c =
     let old = c.args.self.now in
-    ap (λ l. contents c.pop.new.self.items l ++ content_of l ∷ []) c.take_back.ensures ∙ sym (contents_latest c.pop.new.self.items c.in-Some.undo old.nodes.items) ∙ ap (λ us. contents us old.nodes.items) (sym c.in-Some.ensures.items)
+    ap (λ l. arena_contents c.pop.new.self.items l ++ content_of_arena l ∷ []) c.take_back.ensures ∙ sym (contents_latest c.pop.new.self.items c.in-Some.undo old.nodes.items) ∙ ap (λ us. arena_contents us old.nodes.items) (sym c.in-Some.ensures.items)

@@ -3,9 +3,9 @@ use Rattle.jc_rules.specs.Order.{key_cmp}
 use Rattle.jc_rules.specs.Entries.{find}
 use Rattle.jc_rules.specs.Context.{presence}
 use Rattle.jc_tree.specs.Arena.{Flat, flat_at}
-use Rattle.jc_tree.proofs.ArenaSteps.{read_at, id_there}
-use Rattle.jc_tree.proofs.Nodes.{if_ok}
-use Rattle.jc_tree.proofs.Lasting.{place_inside}
+use Rattle.jc_tree.proofs.ArenaStepsLemmas.{read_at, id_there}
+use Rattle.jc_tree.proofs.NodeLemmas.{if_ok}
+use Rattle.jc_tree.proofs.ArenaPlacesLemmas.{place_inside}
 use Rattle.jc_tree.proofs.arena.ArenaTreeTreeStore.add_presence_at.Goals as goal
 
 pub returns-clause-was : goal.returns-clause-was

@@ -1,5 +1,5 @@
 use Rattle.std.proofs.Common.{Some, is_some, sym, ◌∙◌, ap}
-use Rattle.jc_tree.proofs.Lasting.{place_inside, below_some, below_named}
+use Rattle.jc_tree.proofs.ArenaPlacesLemmas.{place_inside, below_some, below_named}
 use Rattle.jc_tree.proofs.arena.ArenaTreeTreeStore.below.Goals as goal
 
 pub node-requires : goal.node-requires

@@ -2,7 +2,7 @@ use Rattle.std.proofs.Common.{refl}
 use Rattle.jc_rules.specs.Context.{presences}
 use Rattle.jc_tree.specs.Arena.{Flat}
 use Rattle.jc_tree.specs.Tree.{count_present}
-use Rattle.jc_tree.proofs.ArenaSteps.{read_at}
+use Rattle.jc_tree.proofs.ArenaStepsLemmas.{read_at}
 use Rattle.jc_tree.proofs.arena.ArenaTreeTreeStore.count_present.Goals as goal
 
 pub returns : goal.returns

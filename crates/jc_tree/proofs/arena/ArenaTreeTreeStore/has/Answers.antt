@@ -1,9 +1,9 @@
 use Rattle.std.proofs.Common.{is_some}
 use Rattle.jc_rules.specs.Context.{content}
 use Rattle.jc_tree.specs.Arena.{is_in}
-use Rattle.jc_tree.proofs.Numbers.{content_is}
+use Rattle.jc_tree.proofs.ArenaNumbersLemmas.{content_is}
 use Rattle.jc_tree.specs.Arena.{Flat}
-use Rattle.jc_tree.proofs.ArenaSteps.{read_at}
+use Rattle.jc_tree.proofs.ArenaStepsLemmas.{read_at}
 use Rattle.jc_tree.proofs.arena.ArenaTreeTreeStore.has.Goals as goal
 
 pub returns : goal.returns

@@ -1,15 +1,15 @@
 use Rattle.std.proofs.Common.{◌≡◌, ℕ, ◌∷◌, ◌++◌, [], sym, ◌∙◌, ap, subst, Some}
 use Rattle.jc_rules.specs.Context.{with_content, new_content}
-use Rattle.jc_rules.specs.Places.{context_at}
-use Rattle.jc_tree.specs.Arena.{content_of}
+use Rattle.jc_rules.specs.ContextsAt.{context_at}
+use Rattle.jc_tree.specs.Arena.{content_of_arena}
 use Rattle.jc_tree.specs.ArenaUndo.{IsGood, AreGood}
 use Rattle.jc_tree.specs.declared.arena.Undo.{Undo}
-use Rattle.jc_tree.proofs.ArenaChanges.{Changes, child_changes}
-use Rattle.jc_tree.proofs.ArenaSteps.{content_absent}
-use Rattle.jc_tree.proofs.Lasting.{place_inside, child_at}
-use Rattle.jc_tree.proofs.ArenaHistory.{good_pushed, changed_tree}
-use Rattle.jc_tree.proofs.Undoing.{pushed}
-use Rattle.jc_tree.proofs.ArenaMaking.{nodes_made, nodes_left, pushed_ok}
+use Rattle.jc_tree.proofs.ArenaChangesLemmas.{Changes, child_changes}
+use Rattle.jc_tree.proofs.ArenaStepsLemmas.{content_absent}
+use Rattle.jc_tree.proofs.ArenaPlacesLemmas.{place_inside, child_at}
+use Rattle.jc_tree.proofs.ArenaHistoryLemmas.{good_pushed, changed_tree}
+use Rattle.jc_tree.proofs.UndoLemmas.{pushed}
+use Rattle.jc_tree.proofs.ArenaCallsLemmas.{nodes_made, nodes_left, pushed_ok}
 use Rattle.jc_tree.proofs.arena.ArenaTreeTreeStore.make_below.Goals as goal
 
 pub index_mut-requires : goal.index_mut-requires
@@ -35,7 +35,7 @@ invariant_of-self-2 c =
     let key = c.args.key.now in
     let made = nodes_made ns c.reserve-2.new.self.items c.push.new.self.items c.args.place.number c.new.result key c.in_ok-copy.copy c.index_mut.result.now c.name_child.new.self c.in_ok-child.child c.in_ok-reserve-2.ensures.items c.index_mut.ensures.value within c.in_ok-copy.ensures (c.new.ensures ∙ c.len-number.ensures ∙ self.nodes.ok.0) c.in_ok-name_child.ensures.ok c.in_ok-child.ensures (pushed_ok c.push.result _ _ c.push.new.self.items _ c.unwrap.ensures c.push.ensures.items) in
     let absent = content_absent ns c.args.at.now c.args.place.number key self.good c.requires.named within c.requires.context c.requires.absent in
-    let change : Changes ns c.push.new.self.items c.args.at.now (with_content key (new_content key) (context_at c.args.at.now (content_of ns))) c.args.place.number c.former_of_node-former.result = rw (made, c.former_of_node-former.ensures, c.in_ok-name.ensures) (child_changes ns c.args.at.now c.args.place.number key self.good c.requires.named within c.requires.context absent) in
+    let change : Changes ns c.push.new.self.items c.args.at.now (with_content key (new_content key) (context_at c.args.at.now (content_of_arena ns))) c.args.place.number c.former_of_node-former.result = rw (made, c.former_of_node-former.ensures, c.in_ok-name.ensures) (child_changes ns c.args.at.now c.args.place.number key self.good c.requires.named within c.requires.context absent) in
     let undo : ℕ → Undo = λ i. record { node = i; former = c.former_of_node-former.result } in
     let all : c.push-2.new.self.items ≡ self.undos.items ++ undo c.args.place.number ∷ [] = c.push-2.ensures.items ∙ pushed c.push-2.result c.reserve.new.self.items (undo c.new-node.result) _ _ c.push-2.ensures.full c.in_ok-reserve.ensures.ok ∙ ap (λ us. us ++ undo c.new-node.result ∷ []) c.in_ok-reserve.ensures.items ∙ ap (λ i. self.undos.items ++ undo i ∷ []) c.new-node.ensures in
     record {
@@ -52,7 +52,7 @@ returns-clause-ok c =
     let made = nodes_made ns c.reserve-2.new.self.items c.push.new.self.items c.args.place.number c.new.result key c.in_ok-copy.copy c.index_mut.result.now c.name_child.new.self c.in_ok-child.child c.in_ok-reserve-2.ensures.items c.index_mut.ensures.value within c.in_ok-copy.ensures (c.new.ensures ∙ c.len-number.ensures ∙ self.nodes.ok.0) c.in_ok-name_child.ensures.ok c.in_ok-child.ensures (pushed_ok c.push.result _ _ c.push.new.self.items _ c.unwrap.ensures c.push.ensures.items) in
     let absent = content_absent ns c.args.at.now c.args.place.number key self.good c.requires.named within c.requires.context c.requires.absent in
     let undo : ℕ → Undo = λ i. record { node = i; former = c.former_of_node-former.result } in
-    let change : Changes ns c.push.new.self.items c.args.at.now (with_content key (new_content key) (context_at c.args.at.now (content_of ns))) c.args.place.number c.former_of_node-former.result = rw (made, c.former_of_node-former.ensures, c.in_ok-name.ensures) (child_changes ns c.args.at.now c.args.place.number key self.good c.requires.named within c.requires.context absent) in
+    let change : Changes ns c.push.new.self.items c.args.at.now (with_content key (new_content key) (context_at c.args.at.now (content_of_arena ns))) c.args.place.number c.former_of_node-former.result = rw (made, c.former_of_node-former.ensures, c.in_ok-name.ensures) (child_changes ns c.args.at.now c.args.place.number key self.good c.requires.named within c.requires.context absent) in
     let all : c.push-2.new.self.items ≡ self.undos.items ++ undo c.args.place.number ∷ [] = pushed_ok c.push-2.result _ c.reserve.new.self.items c.push-2.new.self.items (undo c.new-node.result) c.unwrap-2.ensures c.push-2.ensures.items ∙ ap (λ us. us ++ undo c.new-node.result ∷ []) c.in_ok-reserve.ensures.items ∙ ap (λ i. self.undos.items ++ undo i ∷ []) c.new-node.ensures in
     changed_tree ns c.push.new.self.items self.undos.items c.push-2.new.self.items (undo c.args.place.number) c.args.at.now _ change all
 

@@ -1,4 +1,4 @@
-use Rattle.jc_tree.proofs.ArenaSteps.{context_key}
+use Rattle.jc_tree.proofs.ArenaStepsLemmas.{context_key}
 use Rattle.jc_tree.proofs.arena.ArenaTreeTreeStore.make_child.Goals as goal
 
 pub change-requires : goal.change-requires

@@ -1,5 +1,5 @@
 use Rattle.std.proofs.Common.{sym, ◌∙◌}
-use Rattle.jc_tree.proofs.ArenaHistory.{length_contents}
+use Rattle.jc_tree.proofs.ArenaHistoryLemmas.{length_contents}
 use Rattle.jc_tree.proofs.arena.ArenaTreeTreeStore.mark.Goals as goal
 
 pub returns : goal.returns

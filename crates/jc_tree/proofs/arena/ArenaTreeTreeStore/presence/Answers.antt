@@ -3,7 +3,7 @@ use Rattle.jc_rules.specs.Order.{key_cmp}
 use Rattle.jc_rules.specs.Entries.{find}
 use Rattle.jc_rules.specs.Context.{presence}
 use Rattle.jc_tree.specs.Arena.{Flat}
-use Rattle.jc_tree.proofs.ArenaSteps.{read_at}
+use Rattle.jc_tree.proofs.ArenaStepsLemmas.{read_at}
 use Rattle.jc_tree.proofs.arena.ArenaTreeTreeStore.presence.Goals as goal
 
 pub returns : goal.returns

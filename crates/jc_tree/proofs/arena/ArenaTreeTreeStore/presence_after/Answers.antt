@@ -3,7 +3,7 @@ use Rattle.jc_rules.specs.Entries.{keys_of}
 use Rattle.jc_rules.specs.Context.{presences}
 use Rattle.jc_tree.specs.Tree.{least_after}
 use Rattle.jc_tree.specs.Arena.{Flat}
-use Rattle.jc_tree.proofs.ArenaSteps.{read_at}
+use Rattle.jc_tree.proofs.ArenaStepsLemmas.{read_at}
 use Rattle.jc_tree.proofs.arena.ArenaTreeTreeStore.presence_after.Goals as goal
 
 pub returns : goal.returns

@@ -3,8 +3,8 @@ use Rattle.jc_rules.specs.Order.{key_cmp}
 use Rattle.jc_rules.specs.Entries.{find}
 use Rattle.jc_rules.specs.Context.{registers}
 use Rattle.jc_tree.specs.Arena.{Flat, flat_at}
-use Rattle.jc_tree.proofs.ArenaSteps.{read_at, value_there}
-use Rattle.jc_tree.proofs.Nodes.{if_ok}
+use Rattle.jc_tree.proofs.ArenaStepsLemmas.{read_at, value_there}
+use Rattle.jc_tree.proofs.NodeLemmas.{if_ok}
 use Rattle.jc_tree.proofs.arena.ArenaTreeTreeStore.put_value.Goals as goal
 
 pub returns-clause-was : goal.returns-clause-was

@@ -1,7 +1,7 @@
 use Rattle.std.proofs.Common.{◌≤◌, ◌++◌, ◌∷◌, [], length, take, sym, ap, arith, ◌∙◌}
-use Rattle.jc_tree.specs.Arena.{content_of}
-use Rattle.jc_tree.specs.ArenaUndo.{contents}
-use Rattle.jc_tree.proofs.ArenaHistory.{length_contents, once_shorter, whole}
+use Rattle.jc_tree.specs.Arena.{content_of_arena}
+use Rattle.jc_tree.specs.ArenaUndo.{arena_contents}
+use Rattle.jc_tree.proofs.ArenaHistoryLemmas.{length_contents, once_shorter, whole}
 use Rattle.jc_tree.proofs.arena.ArenaTreeTreeStore.undo_to.Goals as goal
 
 pub loop-mark-init : goal.loop-mark-init
@@ -13,6 +13,6 @@ pub loop-mark-preserved : goal.loop-mark-preserved
 loop-mark-preserved c =
     let old = c.args.self.now in
     let before = c.loop-mark.self in
-    let all = contents old.undos.items old.nodes.items ++ content_of old.nodes.items ∷ [] in
+    let all = arena_contents old.undos.items old.nodes.items ++ content_of_arena old.nodes.items ∷ [] in
     let bound : c.args.mark.changes ≤ length c.undo.new.self.undos.items = omega (arith, c.undo.ensures.undos, c.loop-mark-test.true, c.len.ensures) in
     (bound, c.undo.ensures.history ∙ once_shorter before.undos.items before.nodes.items all c.loop-mark.invariant.1 ∙ ap (λ k. take k all) (sym c.undo.ensures.undos))

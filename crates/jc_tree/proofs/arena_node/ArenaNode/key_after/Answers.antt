@@ -1,5 +1,5 @@
 use Rattle.std.proofs.Common.{◌∙◌, sym, option_copied}
-use Rattle.jc_tree.proofs.ArenaSteps.{least_by_kind}
+use Rattle.jc_tree.proofs.ArenaStepsLemmas.{least_by_kind}
 use Rattle.jc_tree.proofs.arena_node.ArenaNode.key_after.Goals as goal
 
 pub returns : goal.returns

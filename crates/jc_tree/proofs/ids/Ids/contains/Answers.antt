@@ -1,6 +1,6 @@
 use Rattle.std.proofs.Common.{◌∙◌, refl}
 use Rattle.jc_rules.specs.Ids.{AreRising}
-use Rattle.jc_rules.proofs.Ids.{searched}
+use Rattle.jc_rules.proofs.IdsLemmas.{searched}
 use Rattle.jc_tree.proofs.ids.Ids.contains.Goals as goal
 
 -- the search answers whether the identifier is there

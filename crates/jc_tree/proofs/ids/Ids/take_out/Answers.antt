@@ -1,9 +1,9 @@
 use Rattle.std.proofs.Common.{◌≡◌, ◌∙◌, sym, is_ok, false, ap, get_or}
 use Rattle.jc_rules.specs.Ids.{AreRising, has_id}
-use Rattle.jc_rules.proofs.Order.{exact_ids}
-use Rattle.jc_rules.proofs.Ids.{searched}
+use Rattle.jc_rules.proofs.OrderLemmas.{exact_ids}
+use Rattle.jc_rules.proofs.IdsLemmas.{searched}
 use Rattle.jc_tree.specs.Undo.{taken_out}
-use Rattle.jc_tree.proofs.Taking.{taken-rises, taken-absent, taken-at}
+use Rattle.jc_tree.proofs.PresencesLemmas.{taken-rises, taken-absent, taken-at}
 use Rattle.jc_tree.proofs.ids.Ids.take_out.Goals as goal
 
 pub invariant_of-self : goal.invariant_of-self

@@ -2,7 +2,7 @@ use Rattle.std.proofs.Common.{ap, ◌∙◌}
 use Rattle.jc_rules.specs.Order.{key_cmp}
 use Rattle.jc_rules.specs.Entries.{find}
 use Rattle.jc_rules.specs.Context.{content}
-use Rattle.jc_tree.proofs.Nodes.{lent_child, map_content, list_content}
+use Rattle.jc_tree.proofs.NodeLemmas.{lent_child, map_content, list_content}
 use Rattle.jc_tree.proofs.node.Node.child.Goals as goal
 
 pub returns-in-MapT : goal.returns-in-MapT

@@ -1,5 +1,5 @@
 use Rattle.std.proofs.Common.{◌∙◌, refl}
-use Rattle.jc_tree.proofs.Nodes.{key_after}
+use Rattle.jc_tree.proofs.NodeLemmas.{key_after}
 use Rattle.jc_tree.proofs.node.Node.key_after.Goals as goal
 
 pub returns : goal.returns

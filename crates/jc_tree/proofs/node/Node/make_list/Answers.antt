@@ -1,4 +1,4 @@
-use Rattle.jc_tree.proofs.Nodes.{new_list}
+use Rattle.jc_tree.proofs.NodeLemmas.{new_list}
 use Rattle.jc_tree.proofs.node.Node.make_list.Goals as goal
 
 pub returns-clause-ok : goal.returns-clause-ok

@@ -1,5 +1,5 @@
 use Rattle.std.proofs.Common.{◌≡◌, drop}
-use Rattle.jc_rules.specs.Places.{node_at}
+use Rattle.jc_rules.specs.ContextsAt.{node_at}
 use Rattle.jc_tree.proofs.node.Node.node_at.Given as goal
 
 abbrev pub invariant-loop-key : goal.invariant-loop-key

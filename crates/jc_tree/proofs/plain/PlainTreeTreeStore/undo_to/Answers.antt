@@ -1,6 +1,6 @@
 use Rattle.std.proofs.Common.{◌≤◌, ◌++◌, ◌∷◌, [], length, take, sym, ap, arith, ◌∙◌}
-use Rattle.jc_tree.specs.Undo.{contents}
-use Rattle.jc_tree.proofs.Undoing.{length_contents, once_shorter, whole}
+use Rattle.jc_tree.specs.Undo.{earlier_contents}
+use Rattle.jc_tree.proofs.UndoLemmas.{length_contents, once_shorter, whole}
 use Rattle.jc_tree.proofs.plain.PlainTreeTreeStore.undo_to.Goals as goal
 
 pub loop-mark-init : goal.loop-mark-init
@@ -12,6 +12,6 @@ pub loop-mark-preserved : goal.loop-mark-preserved
 loop-mark-preserved c =
     let old = c.args.self.now in
     let before = c.loop-mark.self in
-    let all = contents old.undos.items old.root ++ old.root ∷ [] in
+    let all = earlier_contents old.undos.items old.root ++ old.root ∷ [] in
     let bound : c.args.mark.changes ≤ length c.undo.new.self.undos.items = omega (arith, c.undo.ensures.undos, c.loop-mark-test.true, c.len.ensures) in
     (bound, c.undo.ensures.history ∙ once_shorter before.undos.items before.root all c.loop-mark.invariant.1 ∙ ap (λ k. take k all) (sym c.undo.ensures.undos))

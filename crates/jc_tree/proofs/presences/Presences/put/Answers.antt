@@ -1,5 +1,5 @@
 use Rattle.std.proofs.Common.{◌∙◌}
-use Rattle.jc_tree.proofs.Counting.{counted_put}
+use Rattle.jc_tree.proofs.CountedLemmas.{counted_put}
 use Rattle.jc_tree.proofs.presences.Presences.put.Goals as goal
 
 pub recounted-self-inside-requires : goal.recounted-self-inside-requires

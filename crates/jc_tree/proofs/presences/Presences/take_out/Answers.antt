@@ -1,4 +1,4 @@
-use Rattle.jc_tree.proofs.Counting.{counted_out}
+use Rattle.jc_tree.proofs.CountedLemmas.{counted_out}
 use Rattle.jc_tree.proofs.presences.Presences.take_out.Goals as goal
 
 pub recounted-self-inside-requires : goal.recounted-self-inside-requires

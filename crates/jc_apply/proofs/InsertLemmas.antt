@@ -1,0 +1,152 @@
+-- Going past the elements whose identifiers are greater, and linking a new one.
+use Rattle.std.proofs.Common.{◌≡◌, ◌≢◌, ◌<◌, ◌≤◌, List, [], ◌∷◌, length, Option, Some, None, refl, ◌∙◌, ap, subst, arith}
+use Rattle.std.specs.declared.cmp.Ordering.{Ordering}
+use Rattle.std.specs.declared.cmp.Ordering.TheVariants.{Less, Equal, Greater}
+use Rattle.jc_rules.specs.declared.id.Id.{Id}
+use Rattle.jc_rules.specs.declared.key.Key.{Key}
+use Rattle.jc_rules.specs.declared.key.Key.TheVariants.{Elem}
+use Rattle.jc_rules.specs.declared.key.Next.{Next}
+use Rattle.jc_rules.specs.declared.key.Next.TheVariants.{Tail, Elem as To}
+use Rattle.jc_rules.specs.declared.key.Tagged.{Tagged}
+use Rattle.jc_rules.specs.declared.key.Tagged.TheVariants.{MapT, ListT, RegT}
+use Rattle.jc_rules.specs.declared.operation.Mutation.TheVariants.{Assign, Insert}
+use Rattle.jc_rules.specs.declared.operation.Op.{Op}
+use Rattle.jc_rules.specs.declared.rule.Rule.TheVariants as R
+use Rattle.jc_rules.specs.declared.value.Value.{Value}
+use Rattle.jc_rules.specs.Order.{id_cmp}
+use Rattle.jc_rules.specs.Entries.{find}
+use Rattle.jc_rules.specs.Order.{key_cmp}
+use Rattle.jc_rules.specs.Context.{Context, context, Content, Node, Values, Register, registers, values_of, content, links, next, with_next}
+use Rattle.jc_rules.specs.ContextsAt.{node_at, with_node_at}
+use Rattle.jc_rules.specs.Derivation.{Operate, ToContext}
+use Rattle.jc_rules.specs.Derives.{Derives}
+use Rattle.jc_rules.specs.WellFormed.{IsChained, IsChainedList}
+use Rattle.jc_rules.specs.Trace.{Rows, IsLonger, pushed, one_deeper, at_depth}
+use Rattle.jc_rules.specs.Table.{moved, IsBefore}
+use Rattle.jc_rules.proofs.OrderLemmas.{exact_ids}
+use Rattle.jc_rules.proofs.ContextsAtLemmas.{there}
+use Rattle.jc_rules.proofs.DerivesLemmas.{one_premise, same_rows, longer_still}
+use Rattle.jc_tree.specs.Tree.{Tree, HasPlace, here, IsChanged}
+use Rattle.jc_tree.proofs.ChainedLemmas.{chained_linked}
+use Rattle.jc_clear.proofs.BareLemmas.{map_below, list_below, below-chained, below-list}
+use Rattle.jc_clear.proofs.ClearListLemmas.{Leads as LeadsOn, leads_from, leads_next, leads_on, steps}
+use Rattle.jc_tree.proofs.PlacesLemmas.{then_here, then_place, then_now}
+use Rattle.jc_apply.specs.Fits.{IsUnlinked}
+use Rattle.jc_apply.specs.AppliesAlong.{LeadsTo, LinksNone, LinksOnly, Passes}
+use Rattle.jc_apply.proofs.UnlinkedLemmas.{unlinked_here, unlinked_now, unlinked-linked, no_next}
+
+no_node : {A : Type 0} (x : Option Register) (d : Context) → values_of x ≡ Some (Node d) → A
+no_node None d h = cc
+no_node (Some v) d h = cc
+
+-- what the loop keeps: its place is on the chain, and what is derived there is derived for the operation
+pub record Passing (o : Op) (c : Context) (k : Key) (n : Next) (t u : Rows) : Type 0 where
+  pub follows : next k c ≡ Some n
+  pub chain : LeadsOn c (Some k)
+  pub deeper : t.depth ≤ u.depth
+  pub longer : IsLonger t u
+  pub rest : (d : Context) (v : Rows) → Derives (Operate c (moved o [] k o.mutation)) (ToContext d) u v → Derives (Operate c (moved o [] o.cursor.last o.mutation)) (ToContext d) t (at_depth t.depth v)
+
+pub no_links : (k : Key) (n : Next) (c : Context) → IsChained c → next k c ≡ Some n → ⊥
+no_links k n (context m l r p ns) h e = let f : None ≡ Some n = rw h.0 at e in cc
+
+-- a place where a key is linked is a list
+list_node : (ks : List Tagged) (k : Key) (n : Next) (c d : Context) → node_at ks c ≡ Some d → next k d ≡ Some n → (IsChained c → IsChainedList d) × (IsChainedList c → IsChainedList d)
+list_node [] k n c d e f =
+    let same : c ≡ d = cc in
+    (λ h. absurd (no_links k n d (subst IsChained same h) f), λ h. subst IsChainedList same h)
+list_node (t ∷ ts) k n c d e f = go t (content t c) refl (λ x g. list_node ts k n x d g f) e
+  where
+    go : (j : Tagged) (o : Option Content) → content j c ≡ o → ((x : Context) → node_at ts x ≡ Some d → (IsChained x → IsChainedList d) × (IsChainedList x → IsChainedList d)) → node_at (j ∷ ts) c ≡ Some d → (IsChained c → IsChainedList d) × (IsChainedList c → IsChainedList d)
+    go j None p ih g = let no : None ≡ Some d = rw p at g in cc
+    go j (Some (Values r)) p ih g = let no : None ≡ Some d = rw p at g in cc
+    go (MapT i) (Some (Node x)) p ih g =
+        let one_deeper = ih x (rw p at g) in
+        (λ h. one_deeper.0 (map_below i c x p (below-chained c h)), λ h. one_deeper.0 (map_below i c x p (below-list c h)))
+    go (ListT i) (Some (Node x)) p ih g =
+        let one_deeper = ih x (rw p at g) in
+        (λ h. one_deeper.1 (list_below i c x p (below-chained c h)), λ h. one_deeper.1 (list_below i c x p (below-list c h)))
+    go (RegT i) (Some (Node x)) p ih g = no_node (find key_cmp i (registers c)) x p
+
+pub list_here : (at : List Tagged) (k : Key) (n : Next) (a : Tree) → HasPlace at a → next k (here at a) ≡ Some n → IsChained a.now → IsChainedList (here at a)
+list_here at k n a p e h = (list_node at k n a.now (here at a) (there at a.now p) e).0 h
+
+pub first_pass : (o : Op) (c : Context) (k : Key) (n : Next) (t : Rows) → IsChainedList c → k ≡ o.cursor.last → next k c ≡ Some n → Passing o c k n t t
+first_pass o c k n t h e f =
+    record {
+      follows = f;
+      chain = leads_from c k n h f;
+      deeper = omega arith;
+      longer = same_rows t;
+      rest = λ d v x.
+          let y = subst (λ (j : Key). Derives (Operate c (moved o [] j o.mutation)) (ToContext d) t v) e x in
+          record { derivation = y.derivation; holds = y.holds; concludes = y.concludes; rows = y.rows; depth = refl };
+    }
+
+-- the element that follows is linked
+pub passes_on : (o : Op) (c : Context) (k : Key) (n : Next) (i : Id) (t u : Rows) → Passing o c k n t u → n ≡ To i → next (Elem i) c ≢ None
+passes_on o c k n i t u w ne =
+    leads_next c (Elem i) (leads_on c k (To i) w.chain (w.follows ∙ ap (λ (y : Next). Some y) ne)).0
+
+-- one element further
+pub next_pass : (o : Op) (v : Value) (c : Context) (k j : Key) (n x : Next) (i : Id) (t u p : Rows) → o.mutation ≡ Insert v → Passing o c k n t u → n ≡ To i → id_cmp o.id i ≡ Less → j ≡ Elem i → next j c ≡ Some x → p ≡ one_deeper (pushed u R.Insert2) → Passing o c j x t p × (steps (Some j) (length (links c)) c < steps (Some k) (length (links c)) c)
+next_pass o v c k j n x i t u p is w ne less je f pe =
+    let goes : next k c ≡ Some (To i) = w.follows ∙ ap (λ (y : Next). Some y) ne in
+    let on = leads_on c k (To i) w.chain goes in
+    rw (je, pe) (
+      record {
+        follows = rw je at f;
+        chain = on.0;
+        deeper = omega (arith, w.deeper);
+        longer = longer_still t u (one_deeper (pushed u R.Insert2)) w.longer (record { added = (R.Insert2, u.depth) ∷ []; is = refl });
+        rest = λ d z y. w.rest d (at_depth u.depth z) (one_premise R.Insert2 _ _ _ _ u z y (v, i, d, refl, is, goes, less, refl, refl));
+      },
+      on.1,
+    )
+
+-- the place of a key that is linked is before what isn't
+is_before : (c : Context) (k : Key) (n : Next) (i : Id) → LeadsOn c (Some k) → next k c ≡ Some n → next (Elem i) c ≡ None → ((j : Id) → n ≡ To j → id_cmp i j ≢ Less) → IsBefore n i
+is_before c k Tail i w e f g = tt
+is_before c k (To j) i w e f g = go (id_cmp i j) refl
+  where
+    go : (o : Ordering) → id_cmp i j ≡ o → id_cmp i j ≡ Greater
+    go Less p = absurd (g j refl p)
+    go Equal p =
+        let s : i ≡ j = exact_ids i j p in
+        absurd (leads_next c (Elem j) (leads_on c k (To j) w e).0 (rw s at f))
+    go Greater p = p
+
+pub last_pass : (o : Op) (c : Context) (k : Key) (n : Next) (t u : Rows) → Passing o c k n t u → next (Elem o.id) c ≡ None → ((j : Id) → n ≡ To j → id_cmp o.id j ≢ Less) → Passes o c k n t u
+last_pass o c k n t u w f g =
+    record { follows = w.follows; before = is_before c k n o.id w.chain w.follows f g; deeper = w.deeper; rest = w.rest }
+
+-- the links of two changes at one place
+both_links : (at : List Tagged) (k j : Key) (i : Id) (n x : Next) (a b d : Tree) → HasPlace at a → IsChanged at (with_next k n (here at a)) a b → IsChanged at (with_next j x (here at b)) b d → d.now ≡ with_node_at at (with_next j x (with_next k n (here at a))) a.now
+both_links at k j i n x a b d h y z =
+    let hb : here at b ≡ with_next k n (here at a) = then_here at _ a b h y.now in
+    then_now at _ _ a b d y.now (z.now ∙ rw hb refl)
+
+pub inserted : (at : List Tagged) (o : Op) (v : Value) (k j : Key) (n : Next) (a b d e : Tree) (t u p w z : Rows) → HasPlace at a → o.mutation ≡ Insert v → Passes o (here at a) k n t u → p ≡ one_deeper (pushed u R.Insert1) → j ≡ Elem o.id → LeadsTo (λ c. Operate c (moved o [] j (Assign v))) at a b p w → IsChanged at (with_next k (To o.id) (here at b)) b d → IsChanged at (with_next (Elem o.id) n (here at d)) d e → z ≡ at_depth t.depth w → LeadsTo (λ c. Operate c (moved o [] o.cursor.last o.mutation)) at a e t z
+inserted at o v k j n a b d e t u p w z h is pass pe je x1 y1 y2 ze =
+    let x = subst (λ (q : Key). LeadsTo (λ c. Operate c (moved o [] q (Assign v))) at a b p w) je x1 in
+    let hb : here at b ≡ x.after = then_here at _ a b h x.now in
+    let pb : HasPlace at b = then_place at _ a b h x.now in
+    let dx = subst (λ (q : Rows). Derives (Operate (here at a) (moved o [] (Elem o.id) (Assign v))) (ToContext x.after) q w) pe x.derives in
+    let last = with_next (Elem o.id) n (with_next k (To o.id) x.after) in
+    rw ze (record {
+      after = last;
+      derives = pass.rest last (at_depth u.depth w) (one_premise R.Insert1 _ _ _ _ u w dx (v, n, x.after, refl, is, pass.follows, pass.before, refl, refl));
+      now = then_now at _ _ a b e x.now (both_links at k (Elem o.id) o.id (To o.id) n b d e pb y1 y2 ∙ rw hb refl);
+    })
+
+-- the new element alone got linked
+pub linked_only : (at : List Tagged) (i : Id) (k : Key) (n : Next) (a b d e : Tree) → HasPlace at a → HasPlace at b → IsChained a.now → IsUnlinked i a.now → next k (here at a) ≡ Some n → LinksNone at a b → IsChanged at (with_next k (To i) (here at b)) b d → IsChanged at (with_next (Elem i) n (here at d)) d e → LinksOnly i a e
+linked_only at i k n a b d e pa pb h fresh follows none y z =
+    let after : next k (here at b) ≡ Some n = ap (find key_cmp k) none.same ∙ follows in
+    let absent : next (Elem i) (here at b) ≡ None = no_next i (here at b) (unlinked_here i at b pb (none.unlinked i fresh)) in
+    record {
+      chained = chained_linked at k i n b d e pb after absent y z (none.chained h);
+      unlinked = λ j ne g.
+          let before : IsUnlinked j b.now = none.unlinked j g in
+          unlinked_now j at _ b e (both_links at k (Elem i) i (To i) n b d e pb y z) (unlinked-linked i j k n (here at b) ne after (unlinked_here j at b pb before)) before;
+    }

@@ -1,0 +1,112 @@
+-- Clearing the keys of a map, the least first.
+use Rattle.std.proofs.Common.{◌≡◌, ◌≢◌, ℕ, ◌<◌, List, [], ◌∷◌, length, filter, Option, Some, None, Bool, true, false, not, refl, sym, ◌∙◌, ap, subst}
+use Rattle.std.specs.List.{AllByRecursion}
+use Rattle.std.specs.declared.cmp.Ordering.{Ordering}
+use Rattle.std.specs.declared.cmp.Ordering.TheVariants.{Less, Equal, Greater}
+use Rattle.jc_rules.specs.declared.id.Id.{Id}
+use Rattle.jc_rules.specs.declared.key.Key.{Key}
+use Rattle.jc_rules.specs.declared.key.Tagged.{Tagged}
+use Rattle.jc_rules.specs.declared.rule.Rule.TheVariants as R
+use Rattle.jc_rules.specs.Order.{key_cmp}
+use Rattle.jc_rules.specs.Ids.{union}
+use Rattle.jc_rules.specs.Table.{is_done, least, least_left}
+use Rattle.jc_rules.specs.Context.{Context, keys}
+use Rattle.jc_rules.specs.Derivation.{ClearElem, ClearMap}
+use Rattle.jc_rules.specs.Trace.{Rows, pushed, one_deeper, at_depth}
+use Rattle.jc_tree.specs.Tree.{Tree, HasPlace, here, is_after, least_after}
+use Rattle.jc_tree.proofs.WalksLemmas.{IsNext, next_is, after_over}
+use Rattle.jc_clear.specs.Clears.{Clears}
+use Rattle.jc_clear.proofs.BareLemmas.{keys-same}
+use Rattle.jc_clear.proofs.ClearRulesLemmas.{After}
+use Rattle.jc_clear.proofs.ClearsLemmas.{Turn, first_turn, next_turn, last_turn, after_turns}
+
+filter-same : (p q : Key → Bool) (ks : List Key) → AllByRecursion (λ k. p k ≡ q k) ks → filter p ks ≡ filter q ks
+filter-same p q [] h = refl
+filter-same p q (k ∷ ks) h = rw (h.0, filter-same p q ks h.1) refl
+
+-- how many keys are left after one
+abbrev pub left_after : Option Key → Context → ℕ
+left_after last c = length (filter (λ k. is_after last k) (keys c))
+
+one_less : (last : Option Key) (c : Context) (k : Key) → least_after last (keys c) ≡ Some k → left_after (Some k) c < left_after last c
+one_less last c k e =
+    let n : IsNext last (keys c) k = next_is last (keys c) k e in
+    n.fewer
+
+-- what is done are the keys up to one
+abbrev AreDone : Option Key → List Key → List Key → Type 0
+AreDone last done ks = AllByRecursion (λ k. is_done done k ≡ not (is_after last k)) ks
+
+none_done : (ks : List Key) → AreDone None [] ks
+none_done [] = tt
+none_done (k ∷ ks) = (refl, none_done ks)
+
+done_one : (last : Option Key) (done : List Key) (j k : Key) → is_after last j ≡ true → is_done done k ≡ not (is_after last k) → (is_after last k ≡ true → key_cmp j k ≢ Greater) → is_done (j ∷ done) k ≡ not (is_after (Some j) k)
+done_one last done j k a d h = go (key_cmp j k) refl (is_after last k) refl
+  where
+    go : (o : Ordering) → key_cmp j k ≡ o → (b : Bool) → is_after last k ≡ b → is_done (j ∷ done) k ≡ not (is_after (Some j) k)
+    go Equal e b f = rw e refl
+    go Less e true f = rw e (d ∙ ap not f)
+    go Less e false f = let g : false ≡ true = sym f ∙ after_over last j k a e in cc
+    go Greater e true f = absurd (h f e)
+    go Greater e false f = rw e (d ∙ ap not f)
+
+done_all : (last : Option Key) (done : List Key) (j : Key) (ks : List Key) → is_after last j ≡ true → AreDone last done ks → AllByRecursion (λ k. is_after last k ≡ true → key_cmp j k ≢ Greater) ks → AreDone (Some j) (j ∷ done) ks
+done_all last done j [] a d h = tt
+done_all last done j (k ∷ ks) a d h = (done_one last done j k a d.0 h.0, done_all last done j ks a d.1 h.1)
+
+done_next : (last : Option Key) (done : List Key) (c : Context) (k : Key) → AreDone last done (keys c) → least_after last (keys c) ≡ Some k → AreDone (Some k) (k ∷ done) (keys c)
+done_next last done c k d e =
+    let n : IsNext last (keys c) k = next_is last (keys c) k e in
+    done_all last done k (keys c) n.after d n.below
+
+not_not : (a b : Bool) → a ≡ not b → not a ≡ b
+not_not a true e = rw e refl
+not_not a false e = rw e refl
+
+all_not : (last : Option Key) (done : List Key) (ks : List Key) → AreDone last done ks → AllByRecursion (λ k. not (is_done done k) ≡ is_after last k) ks
+all_not last done [] h = tt
+all_not last done (k ∷ ks) h = (not_not _ _ h.0, all_not last done ks h.1)
+
+left-after : (last : Option Key) (done : List Key) (c : Context) → AreDone last done (keys c) → least_left done c ≡ least_after last (keys c)
+left-after last done c h = ap least (filter-same (λ k. not (is_done done k)) (λ k. is_after last k) (keys c) (all_not last done (keys c) h))
+
+-- what the loop over a map's keys keeps
+pub record Through (deps : List Id) (at : List Tagged) (a : Tree) (t : Rows) (b : Tree) (last : Option Key) (ids : List Id) (u : Rows) : Type 0 where
+  pub done : List Key
+  pub are_done : AreDone last done (keys (here at a))
+  pub turn : Turn (λ c. ClearMap c deps []) (λ c. ClearMap c deps done) at a t b ids u
+
+pub first_through : (deps : List Id) (at : List Tagged) (a : Tree) (t : Rows) (last : Option Key) (ids : List Id) → HasPlace at a → last ≡ None → ids ≡ [] → Through deps at a t a last ids t
+first_through deps at a t last ids p e i = rw e (record { done = []; are_done = none_done (keys (here at a)); turn = first_turn _ at a t ids p i })
+
+pub after_through : (deps : List Id) (at p : List Tagged) (a : Tree) (t : Rows) (b : Tree) (last : Option Key) (ids : List Id) (u : Rows) → HasPlace at a → p ≡ at → Through deps at a t b last ids u → After at p a b
+after_through deps at p a t b last ids u h e w = after_turns _ _ at p a t b ids u h e w.turn
+
+keys_were : (deps : List Id) (at p : List Tagged) (a : Tree) (t : Rows) (b : Tree) (last : Option Key) (ids : List Id) (u : Rows) → HasPlace at a → p ≡ at → Through deps at a t b last ids u → keys (here p b) ≡ keys (here at a)
+keys_were deps at p a t b last ids u h e w = keys-same (here p b) (here at a) (after_through deps at p a t b last ids u h e w).same
+
+left_now : (deps : List Id) (at p : List Tagged) (a : Tree) (t : Rows) (b : Tree) (last : Option Key) (ids : List Id) (u : Rows) (w : Through deps at a t b last ids u) → HasPlace at a → p ≡ at → least_left w.done (here at b) ≡ least_after last (keys (here p b))
+left_now deps at p a t b last ids u w h e =
+    let same : keys (here at b) ≡ keys (here at a) = keys_were deps at at a t b last ids u h refl w in
+    let also : keys (here p b) ≡ keys (here at a) = keys_were deps at p a t b last ids u h e w in
+    left-after last w.done (here at b) (rw same w.are_done) ∙ ap (least_after last) (same ∙ sym also)
+
+-- one key further
+pub through_on : (deps : List Id) (at p q : List Tagged) (a : Tree) (t : Rows) (b d : Tree) (last last2 : Option Key) (k : Key) (ids more all : List Id) (u o v : Rows) → HasPlace at a → p ≡ at → q ≡ at → Through deps at a t b last ids u → least_after last (keys (here p b)) ≡ Some k → Clears (λ c. ClearElem c deps k) q b d more o v → o ≡ one_deeper (pushed u R.ClearMap2) → all ≡ union ids more → last2 ≡ Some k → Through deps at a t d last2 all v × (left_after last2 (here at a) < left_after last (here at a))
+through_on deps at p q a t b d last last2 k ids more all u o v h pe qe w n z oe i g =
+    let was : least_after last (keys (here at a)) ≡ Some k = ap (least_after last) (sym (keys_were deps at p a t b last ids u h pe w)) ∙ n in
+    let now : least_left w.done (here at b) ≡ Some k = left_now deps at p a t b last ids u w h pe ∙ n in
+    let elem = subst (λ (y : List Tagged). Clears (λ c. ClearElem c deps k) y b d more o v) qe z in
+    rw g (
+      record {
+        done = k ∷ w.done;
+        are_done = done_next last w.done (here at a) k w.are_done was;
+        turn = next_turn _ (λ c. ClearMap c deps w.done) (λ c. ClearMap c deps (k ∷ w.done)) R.ClearMap2 at a t b d deps k ids more all u o v h w.turn elem oe i (λ c1 c2 s. (k, c1, more, c2, s, now, refl, refl));
+      },
+      one_less last (here at a) k was,
+    )
+
+pub last_through : (deps : List Id) (at p : List Tagged) (a : Tree) (t : Rows) (b : Tree) (last : Option Key) (ids : List Id) (u v : Rows) → HasPlace at a → p ≡ at → Through deps at a t b last ids u → least_after last (keys (here p b)) ≡ None → v ≡ at_depth t.depth (pushed u R.ClearMap3) → Clears (λ c. ClearMap c deps []) at a b ids t v
+last_through deps at p a t b last ids u v h pe w n e =
+    last_turn _ (λ c. ClearMap c deps w.done) R.ClearMap3 at a t b ids u v h w.turn e (left_now deps at p a t b last ids u w h pe ∙ n, refl, refl)

@@ -1,0 +1,167 @@
+-- The rules of clearing at one place.
+use Rattle.std.proofs.Common.{◌≡◌, suc, ◌≤◌, List, [], ◌∷◌, ◌++◌, Option, Some, None, is_some, true, refl, sym, ◌∙◌, ap, subst}
+use Rattle.jc_rules.specs.declared.id.Id.{Id}
+use Rattle.jc_rules.specs.declared.key.Key.{Key}
+use Rattle.jc_rules.specs.declared.key.Key.TheVariants.{Head}
+use Rattle.jc_rules.specs.declared.key.Tagged.{Tagged}
+use Rattle.jc_rules.specs.declared.key.Tagged.TheVariants.{MapT, ListT, RegT}
+use Rattle.jc_rules.specs.declared.rule.Rule.{Rule}
+use Rattle.jc_rules.specs.declared.rule.Rule.TheVariants as R
+use Rattle.jc_rules.specs.Order.{key_cmp}
+use Rattle.jc_rules.specs.Entries.{find, keys_of}
+use Rattle.jc_rules.specs.Ids.{AreRising, union, without}
+use Rattle.jc_rules.specs.Context.{Context, Node, Values, Register, registers, maps, lists, node_of, values_of, content, with_content, presence, with_presence}
+use Rattle.jc_rules.specs.ContextsAt.{node_at, with_node_at}
+use Rattle.jc_rules.specs.WellFormed.{IsWellFormedRegister, IsChainedList}
+use Rattle.jc_rules.specs.Derivation.{Question, gives, Clear, ClearAny, ClearElem, ClearMap, ClearList, Presence, ToIds, Cleared}
+use Rattle.jc_rules.specs.Derives.{Derives}
+use Rattle.jc_rules.specs.Trace.{Rows, pushed, one_deeper, at_depth}
+use Rattle.jc_rules.specs.Table.{Follows, kept}
+use Rattle.jc_rules.proofs.IdsLemmas.{union-rises, without-rises}
+use Rattle.jc_rules.proofs.ContextsAtLemmas.{there, with_node-same, node-below, with_node-below}
+use Rattle.jc_rules.proofs.DerivesLemmas.{by_axiom, one_premise, two_premises, three_premises}
+use Rattle.jc_tree.specs.Nested.{nested}
+use Rattle.jc_tree.specs.Tree.{Tree, HasPlace, here, IsChanged}
+use Rattle.jc_clear.specs.Bare.{bare, AreChainedBelow}
+use Rattle.jc_clear.specs.Clears.{Clears}
+use Rattle.jc_clear.proofs.BareLemmas.{bare-presence, bare-register, bare-with, map_below, list_below, below-chained, nested_below, below-same, nested-same}
+use Rattle.jc_tree.proofs.PlacesLemmas.{then_here, then_place, then_now, some_place}
+
+pub presence_there : (c : Context) (k : Key) (s ids : List Id) (t u : Rows) → presence k c ≡ Some s → ids ≡ s → u ≡ pushed t R.Presence1 → Derives (Presence c k) (ToIds ids) t u
+presence_there c k s ids t u h i e = rw (i, e) (by_axiom R.Presence1 _ _ t (s, h, refl, refl))
+
+pub presence_absent : (c : Context) (k : Key) (ids : List Id) (t u : Rows) → presence k c ≡ None → ids ≡ [] → u ≡ pushed t R.Presence2 → Derives (Presence c k) (ToIds ids) t u
+presence_absent c k ids t u h i e = rw (i, e) (by_axiom R.Presence2 _ _ t (h, refl, refl))
+
+pub clear_none : (at : List Tagged) (deps : List Id) (k : Tagged) (a b : Tree) (ids : List Id) (t u : Rows) → HasPlace at a → content k (here at a) ≡ None → u ≡ pushed t R.ClearNone → b ≡ a → ids ≡ [] → Clears (λ c. Clear c deps k) at a b ids t u
+clear_none at deps k a b ids t u p h e s i =
+    rw (e, s, i) (record {
+      after = here at a;
+      derives = by_axiom R.ClearNone _ _ t (h, refl, refl);
+      now = sym (with_node-same at (here at a) a.now (there at a.now p));
+      same = refl;
+      rises = tt;
+    })
+
+pub no_register : (at : List Tagged) (deps : List Id) (k : Key) (a b : Tree) (ids : List Id) (t u : Rows) → HasPlace at a → find key_cmp k (registers (here at a)) ≡ None → u ≡ pushed t R.ClearNone → b ≡ a → ids ≡ [] → Clears (λ c. Clear c deps (RegT k)) at a b ids t u
+no_register at deps k a b ids t u p h e s i = clear_none at deps (RegT k) a b ids t u p (ap values_of h) e s i
+
+pub clear_values : (at : List Tagged) (deps : List Id) (k : Key) (r left : Register) (a b : Tree) (ids : List Id) (t u : Rows) → find key_cmp k (registers (here at a)) ≡ Some r → left ≡ kept deps r → IsWellFormedRegister left → u ≡ pushed t R.ClearReg → IsChanged at (with_content (RegT k) (Values left) (here at a)) a b → ids ≡ keys_of left → Clears (λ c. Clear c deps (RegT k)) at a b ids t u
+clear_values at deps k r left a b ids t u h w rising e s i =
+    rw (e, i) (record {
+      after = with_content (RegT k) (Values left) (here at a);
+      derives = by_axiom R.ClearReg _ _ t (r, ap values_of h, refl, rw w refl);
+      now = s.now;
+      same = bare-register k left r (here at a) h;
+      rises = rising.0;
+    })
+
+pub clear_elem : (at p q : List Tagged) (deps : List Id) (k : Key) (a b d : Tree) (s1 s2 s3 s4 : List Id) (t o u v w : Rows) → HasPlace at a → o ≡ one_deeper (pushed t R.ClearElem) → Clears (λ c. ClearAny c deps k) at a b s1 o u → p ≡ at → Derives (Presence (here p b) k) (ToIds s2) u v → s3 ≡ without (union s1 s2) deps → q ≡ at → s4 ≡ s3 → IsChanged q (with_presence k s4 (here q b)) b d → w ≡ at_depth t.depth v → Clears (λ c. ClearElem c deps k) at a d s3 t w
+clear_elem at p q deps k a b d s1 s2 s3 s4 t o u v w h f any pe pres is qe se put e =
+    let y = any.after in
+    let hb : here at b ≡ y = then_here at y a b h any.now in
+    let first = subst (λ (r : Rows). Derives (ClearAny (here at a) deps k) (Cleared y s1) r u) f any.derives in
+    let pres2 = subst (λ (r : List Tagged). Derives (Presence (here r b) k) (ToIds s2) u v) pe pres in
+    let second = subst (λ (x : Context). Derives (Presence x k) (ToIds s2) u v) hb pres2 in
+    let put2 = subst (λ (r : List Tagged). IsChanged r (with_presence k s4 (here r b)) b d) qe put in
+    rw (e, is) (record {
+      after = with_presence k (without (union s1 s2) deps) y;
+      derives = two_premises R.ClearElem _ _ _ _ _ _ t u v first second (y, s1, s2, refl, refl);
+      now = then_now at y _ a b d any.now (put2.now ∙ rw (hb, se, is) refl);
+      same = bare-presence k _ y ∙ any.same;
+      rises = without-rises (union s1 s2) deps (union-rises s1 s2);
+    })
+
+pub rises_left : (deps s1 s2 s all ids : List Id) → all ≡ union s1 s → s2 ≡ all → ids ≡ without s2 deps → AreRising ids
+rises_left deps s1 s2 s all ids e f g = rw (g, f, e) (without-rises (union s1 s) deps (union-rises s1 s))
+
+pub clear_any : (at p q : List Tagged) (deps : List Id) (k : Key) (a b d e : Tree) (s1 s2 s3 s : List Id) (t o t1 t2 t3 u : Rows) → HasPlace at a → o ≡ one_deeper (pushed t R.ClearAny) → Clears (λ c. Clear c deps (MapT k)) at a b s1 o t1 → p ≡ at → Clears (λ c. Clear c deps (ListT k)) p b d s2 t1 t2 → q ≡ at → Clears (λ c. Clear c deps (RegT k)) q d e s3 t2 t3 → s ≡ union s1 (union s2 s3) → u ≡ at_depth t.depth t3 → Clears (λ c. ClearAny c deps k) at a e s t u
+clear_any at p q deps k a b d e s1 s2 s3 s t o t1 t2 t3 u h oe x pe y1 qe z1 is f =
+    let y = subst (λ (r : List Tagged). Clears (λ c. Clear c deps (ListT k)) r b d s2 t1 t2) pe y1 in
+    let z = subst (λ (r : List Tagged). Clears (λ c. Clear c deps (RegT k)) r d e s3 t2 t3) qe z1 in
+    let hb : here at b ≡ x.after = then_here at _ a b h x.now in
+    let pb : HasPlace at b = then_place at _ a b h x.now in
+    let hd : here at d ≡ y.after = then_here at _ b d pb y.now in
+    let dx = subst (λ (r : Rows). Derives (Clear (here at a) deps (MapT k)) (Cleared x.after s1) r t1) oe x.derives in
+    let dy = subst (λ (c : Context). Derives (Clear c deps (ListT k)) (Cleared y.after s2) t1 t2) hb y.derives in
+    let dz = subst (λ (c : Context). Derives (Clear c deps (RegT k)) (Cleared z.after s3) t2 t3) hd z.derives in
+    rw (f, is) (record {
+      after = z.after;
+      derives = three_premises R.ClearAny _ _ _ _ _ _ _ _ t t1 t2 t3 dx dy dz (x.after, s1, y.after, s2, z.after, s3, refl, refl);
+      now = then_now at _ _ a d e (then_now at _ _ a b d x.now y.now) z.now;
+      same = z.same ∙ ap bare hd ∙ y.same ∙ ap bare hb ∙ x.same;
+      rises = union-rises s1 (union s2 s3);
+    })
+
+found_node : (x : Option Context) → is_some (node_of x) ≡ true → (d : Context) × (node_of x ≡ Some (Node d))
+found_node None h = cc
+found_node (Some d) h = (d, refl)
+
+-- the place one key further down
+down_node : (at : List Tagged) (k : Tagged) (d : Context) (a : Tree) → HasPlace at a → content k (here at a) ≡ Some (Node d) → node_at (at ++ k ∷ []) a.now ≡ Some d
+down_node at k d a p h = node-below at k (here at a) d a.now (there at a.now p) h
+
+down_here : (at : List Tagged) (k : Tagged) (d : Context) (a : Tree) → HasPlace at a → content k (here at a) ≡ Some (Node d) → here (at ++ k ∷ []) a ≡ d
+down_here at k d a p h = rw (down_node at k d a p h) refl
+
+-- what a call one key further down may ask for
+pub record Down (P : Context → Type 0) (at p : List Tagged) (a : Tree) : Type 0 where
+  pub there : HasPlace p a
+  pub chained : P (here p a)
+  pub smaller : suc (nested (here p a)) ≤ nested (here at a)
+
+down : (P : Context → Type 0) (at p : List Tagged) (k : Tagged) (d : Context) (a : Tree) → HasPlace at a → p ≡ at ++ k ∷ [] → content k (here at a) ≡ Some (Node d) → P d → Down P at p a
+down P at p k d a h e q c =
+    let i : here (at ++ k ∷ []) a ≡ d = down_here at k d a h q in
+    subst (λ (r : List Tagged). Down P at r a) (sym e) (record { there = some_place (at ++ k ∷ []) a.now d (down_node at k d a h q); chained = rw i c; smaller = rw i (nested_below k (here at a) d q) })
+
+pub down_map : (at p : List Tagged) (k : Key) (a : Tree) → HasPlace at a → p ≡ at ++ MapT k ∷ [] → is_some (content (MapT k) (here at a)) ≡ true → AreChainedBelow (here at a) → Down AreChainedBelow at p a
+down_map at p k a h e q c =
+    let d = found_node (find key_cmp k (maps (here at a))) q in
+    down AreChainedBelow at p (MapT k) d.0 a h e d.1 (below-chained d.0 (map_below k (here at a) d.0 d.1 c))
+
+pub down_list : (at p : List Tagged) (k : Key) (a : Tree) → HasPlace at a → p ≡ at ++ ListT k ∷ [] → is_some (content (ListT k) (here at a)) ≡ true → AreChainedBelow (here at a) → Down IsChainedList at p a
+down_list at p k a h e q c =
+    let d = found_node (find key_cmp k (lists (here at a))) q in
+    down IsChainedList at p (ListT k) d.0 a h e d.1 (list_below k (here at a) d.0 d.1 c)
+
+-- what is under a key was cleared
+cleared_below : (at p : List Tagged) (deps : List Id) (k : Tagged) (d : Context) (rule : Rule) (q : Context → Question) (a b : Tree) (s : List Id) (t o u v : Rows) → HasPlace at a → content k (here at a) ≡ Some (Node d) → p ≡ at ++ k ∷ [] → o ≡ one_deeper (pushed t rule) → Clears q p a b s o u → v ≡ at_depth t.depth u → ((e : Context) → Follows rule (Clear (here at a) deps k) (Cleared (with_content k (Node e) (here at a)) s) (gives (q d) (Cleared e s) ∷ [])) → Clears (λ c. Clear c deps k) at a b s t v
+cleared_below at p deps k d rule q a b s t o u v h f pe oe x ve follows =
+    let x2 = subst (λ (y : List Tagged). Clears q y a b s o u) pe x in
+    let i : here (at ++ k ∷ []) a ≡ d = down_here at k d a h f in
+    let inner = subst (λ (c : Context). Derives (q c) (Cleared x2.after s) o u) i x2.derives in
+    let inner2 = subst (λ (y : Rows). Derives (q d) (Cleared x2.after s) y u) oe inner in
+    rw ve (record {
+      after = with_content k (Node x2.after) (here at a);
+      derives = one_premise rule (Clear (here at a) deps k) (Cleared (with_content k (Node x2.after) (here at a)) s) _ _ t u inner2 (follows x2.after);
+      now = x2.now ∙ with_node-below at k (here at a) d x2.after a.now (there at a.now h) f;
+      same = bare-with k (here at a) d x2.after f (x2.same ∙ ap bare i);
+      rises = x2.rises;
+    })
+
+pub map_cleared : (at p : List Tagged) (deps : List Id) (k : Key) (a b : Tree) (s : List Id) (t o u v : Rows) → HasPlace at a → is_some (content (MapT k) (here at a)) ≡ true → p ≡ at ++ MapT k ∷ [] → o ≡ one_deeper (pushed t R.ClearMap1) → Clears (λ c. ClearMap c deps []) p a b s o u → v ≡ at_depth t.depth u → Clears (λ c. Clear c deps (MapT k)) at a b s t v
+map_cleared at p deps k a b s t o u v h q pe oe x ve =
+    let d = found_node (find key_cmp k (maps (here at a))) q in
+    cleared_below at p deps (MapT k) d.0 R.ClearMap1 (λ c. ClearMap c deps []) a b s t o u v h d.1 pe oe x ve (λ e. (d.0, e, s, d.1, refl, refl))
+
+pub list_cleared : (at p : List Tagged) (deps : List Id) (k : Key) (a b : Tree) (s : List Id) (t o u v : Rows) → HasPlace at a → is_some (content (ListT k) (here at a)) ≡ true → p ≡ at ++ ListT k ∷ [] → o ≡ one_deeper (pushed t R.ClearList1) → Clears (λ c. ClearList c deps (Some Head)) p a b s o u → v ≡ at_depth t.depth u → Clears (λ c. Clear c deps (ListT k)) at a b s t v
+list_cleared at p deps k a b s t o u v h q pe oe x ve =
+    let d = found_node (find key_cmp k (lists (here at a))) q in
+    cleared_below at p deps (ListT k) d.0 R.ClearList1 (λ c. ClearList c deps (Some Head)) a b s t o u v h d.1 pe oe x ve (λ e. (d.0, e, s, d.1, refl, refl))
+
+-- after a call at a place
+pub record After (at p : List Tagged) (a b : Tree) : Type 0 where
+  pub there : HasPlace p b
+  pub below : AreChainedBelow (here at a) → AreChainedBelow (here p b)
+  pub nested : nested (here p b) ≡ nested (here at a)
+  pub same : bare (here p b) ≡ bare (here at a)
+
+pub after_change : (at p : List Tagged) (y : Context) (a b : Tree) → HasPlace at a → p ≡ at → b.now ≡ with_node_at at y a.now → bare y ≡ bare (here at a) → After at p a b
+after_change at p y a b h e f s =
+    let i : here at b ≡ y = then_here at y a b h f in
+    let same : bare (here at b) ≡ bare (here at a) = ap bare i ∙ s in
+    subst (λ (r : List Tagged). After at r a b) (sym e) (record { there = then_place at y a b h f; below = below-same (here at a) (here at b) (sym same); nested = nested-same (here at b) (here at a) same; same = same })
+
+pub after_call : (q : Context → Question) (at p : List Tagged) (a b : Tree) (ids : List Id) (t u : Rows) → HasPlace at a → p ≡ at → Clears q at a b ids t u → After at p a b
+after_call q at p a b ids t u h e x = after_change at p x.after a b h e x.now x.same

@@ -1,0 +1,7 @@
+pub mod ProgramCommandsLemmas
+mod LimitsLemmas
+mod LiteralsLemmas
+mod HelpLemmas
+mod ArgumentsLemmas
+mod FaultlessLemmas
+mod LawsLemmas

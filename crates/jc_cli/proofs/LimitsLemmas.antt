@@ -1,0 +1,82 @@
+-- The limits of texts and of orders, by clap's test of a value.
+use Rattle.std.proofs.Common.{◌≡◌, ◌≤◌, ◌<◌, ◌^◌, ℕ, List, Bool, true, false, if◌then◌else◌, Option, Some, None, option_map, codes, refl, sym, ap, subst, arith}
+use Rattle.std.proofs.lemmas.Option.{cond_some, option_and_then_some, same_Some}
+use Rattle.std.specs.Option.{option_and_then}
+use Rattle.std.specs.Str.{bytes_eq}
+use Rattle.std.specs.Str.Parse.{IsNumeral, digits_value, without_leading_plus}
+use Rattle.clap.specs.Values.{IsUnsignedIn}
+use Rattle.clap.specs.ValueTests.{is_unsigned_in}
+use Rattle.clap.proofs.ValueTestLemmas.{accepts-Accepts, Accepts-accepts}
+use Rattle.clap.specs.Words.{Row, Text, first_of}
+use Rattle.clap.specs.declared.builder.value_parser.ValueParser.TheVariants.{Unsigned}
+use Rattle.jc_cli.specs.Arguments.{is_traced, limit_in, limit_given, order_in, task_in, with_file, documents, HasLimitInRange}
+use Rattle.jc_cli.specs.declared.order.Order.{Order}
+use Rattle.jc_cli.specs.declared.order.Task.{Task}
+use Rattle.jc_cli.specs.declared.order.Task.TheVariants.{Show, Debug, Threads}
+use Rattle.jc_cli.specs.declared.order.View.TheVariants.{Check, Print, Run}
+
+-- ---- the limit of a text
+
+-- a number from 0 to 100,000
+pub within : (text : Text) (n : ℕ) → IsNumeral 10 (without_leading_plus text) × (digits_value 10 (without_leading_plus text) < 2 ^ 64) → n ≡ digits_value 10 (without_leading_plus text) → n ≤ 100000 → limit_in text ≡ Some n
+within text n read is most =
+    let accepted : is_unsigned_in 0 100000 text ≡ true = Accepts-accepts false (Unsigned 0 100000) text (read.0, read.1, omega arith, rw (← is) most) in
+    rw accepted (ap Some (sym is))
+
+-- any other text
+pub outside : (text : Text) → (IsUnsignedIn 0 100000 text → ⊥) → limit_in text ≡ None
+outside text beyond = by_test (is_unsigned_in 0 100000 text) refl where
+  by_test : (t : Bool) → is_unsigned_in 0 100000 text ≡ t → limit_in text ≡ None
+  by_test true e = absurd (beyond (accepts-Accepts false (Unsigned 0 100000) text e))
+  by_test false e = rw e refl
+
+-- ---- the limit of an order
+
+text_in_range : (text : Text) (n : ℕ) → limit_in text ≡ Some n → n ≤ 100000
+text_in_range text n is =
+    let parts = cond_some (is_unsigned_in 0 100000 text) _ n is in
+    rw (← parts.1) (accepts-Accepts false (Unsigned 0 100000) text parts.0).3
+
+record IsInRange (o : Option Task) : Type 0 where
+  in_range : (task : Task) → o ≡ Some task → HasLimitInRange task
+
+none : IsInRange None
+none = record { in_range = λ task e. cc }
+
+one : (task : Task) → HasLimitInRange task → IsInRange (Some task)
+one task h = record { in_range = λ other e. subst HasLimitInRange (same_Some task other e) h }
+
+by_test : {a b : Option Task} (t : Bool) → IsInRange a → IsInRange b → IsInRange (if t then a else b)
+by_test true p q = p
+by_test false p q = q
+
+of_limit : (o : Option ℕ) → ((n : ℕ) → o ≡ Some n → n ≤ 100000) → IsInRange (option_map Threads o)
+of_limit None p = none
+of_limit (Some n) p = one (Threads n) (p n refl)
+
+of_rows : (rows : List Row) → IsInRange (option_map Threads (limit_given rows))
+of_rows rows =
+    of_limit (limit_given rows) (λ n e. option_and_then_some limit_in (first_of (codes "limit") rows) n e (λ text _ is. text_in_range text n is))
+
+of_documents : (o : Option ℕ) → IsInRange (option_map documents o)
+of_documents None = none
+of_documents (Some n) = one (documents n) tt
+
+of_task : (name : Text) (rows : List Row) → IsInRange (task_in name rows)
+of_task name rows =
+    by_test (bytes_eq name (codes "check")) (one (Show Check) tt)
+    (by_test (bytes_eq name (codes "print")) (one (Show Print) tt)
+    (by_test (bytes_eq name (codes "run")) (one (Show (Run (is_traced rows))) tt)
+    (by_test (bytes_eq name (codes "view")) (of_documents (limit_given rows))
+    (by_test (bytes_eq name (codes "debug")) (one Debug tt)
+    (by_test (bytes_eq name (codes "threads")) (of_rows rows) none)))))
+
+of_file : (t : Option Task) (file : Option Text) (o : Order) → IsInRange t → with_file t file ≡ Some o → HasLimitInRange o.task
+of_file (Some task) (Some file) o p e =
+    subst (λ (x : Order). HasLimitInRange x.task) (same_Some _ o e) (p.in_range task refl)
+of_file (Some task) None o p e = cc
+of_file None file o p e = cc
+
+pub order_in_range : (s : Option (Text × List Row)) (o : Order) → option_and_then order_in s ≡ Some o → HasLimitInRange o.task
+order_in_range None o e = cc
+order_in_range (Some s) o e = of_file (task_in s.0 s.1) (first_of (codes "file") s.1) o (of_task s.0 s.1) e

@@ -1,0 +1,133 @@
+//! The definition of the command line. A command is a function here, and a line of `program`.
+
+ghost use Rattle.std.specs.Prelude.{◌≡◌, IfOk, false};
+ghost use Rattle.clap.specs.Words.{app_of, rule_of, new_app, with_rule};
+ghost use Rattle.jc_cli.specs.Program.{IsLocal, file_rule, plain_app, run_app, view_app, threads_app, program};
+
+use crate::help::{ABOUT, CHECK, DEBUG, PRINT, PROGRAM, RUN, THREADS, USAGE, VERSION, VIEW};
+use clap::builder::ValueParser;
+use clap::{Arg, ArgAction, Command};
+use std::alloc::{AllocError, Global};
+
+/// The file with the scenario.
+fn file<'a>(alloc: Global) -> Arg<'a>
+    ensures rule { rule_of result ≡ file_rule }
+    ensures local { result.global ≡ false }
+{
+    Arg::new(alloc, "file")
+        .value_name("FILE")
+        .help("The file with the scenario; - is standard input")
+        .required(true)
+}
+
+/// A command with nothing but its file.
+fn plain<'a>(
+    alloc: Global,
+    name: &'a str,
+    about: &'a str,
+    example: &'a str,
+) -> Result<Command<'a>, AllocError>
+    ensures shape { IfOk result (λ c. app_of c ≡ plain_app name.entry.now) }
+    ensures local { IfOk result IsLocal }
+{
+    Command::new(alloc, name)
+        .about(about)
+        .after_help(example)
+        .arg(file(alloc))
+}
+
+fn run<'a>(alloc: Global) -> Result<Command<'a>, AllocError>
+    ensures shape { IfOk result (λ c. app_of c ≡ run_app) }
+    ensures local { IfOk result IsLocal }
+{
+    let trace = Arg::new(alloc, "trace")
+        .long("trace")
+        .help("Print the rules that each event used, before the states (this may be long)")
+        .action(ArgAction::SetTrue);
+    Command::new(alloc, "run")
+        .about("Execute the schedule, and print the state of each replica")
+        .after_help(RUN)
+        .arg(trace)?
+        .arg(file(alloc))
+}
+
+fn view<'a>(alloc: Global) -> Result<Command<'a>, AllocError>
+    ensures shape { IfOk result (λ c. app_of c ≡ view_app) }
+    ensures local { IfOk result IsLocal }
+{
+    let limit = Arg::new(alloc, "limit")
+        .long("at")
+        .value_name("N")
+        .help("Execute the first N events of the schedule only, from 0 to 100000")
+        .value_parser(ValueParser::unsigned(0, 100_000))
+        .default_value("100000");
+    Command::new(alloc, "view")
+        .about(
+            "Execute the schedule, and print the document of each replica as an application sees it",
+        )
+        .after_help(VIEW)
+        .arg(limit)?
+        .arg(file(alloc))
+}
+
+fn threads<'a>(alloc: Global) -> Result<Command<'a>, AllocError>
+    ensures shape { IfOk result (λ c. app_of c ≡ threads_app) }
+    ensures local { IfOk result IsLocal }
+{
+    let limit = Arg::new(alloc, "limit")
+        .long("limit")
+        .value_name("N")
+        .help("Let each replica execute N events at most, from 0 to 100000")
+        .value_parser(ValueParser::unsigned(0, 100_000))
+        .default_value("10000");
+    Command::new(alloc, "threads")
+        .about(
+            "Run each replica in a thread of its own, and print the scenario with the schedule that they made",
+        )
+        .after_help(THREADS)
+        .arg(limit)?
+        .arg(file(alloc))
+}
+
+/// The whole command line, but for the program's name. Each command is made right before it is added,
+/// so that there is one to drop where memory is wanting.
+pub(crate) fn definition<'a>(alloc: Global) -> Result<Command<'a>, AllocError>
+    ensures { IfOk result (λ c. app_of c ≡ program) }
+{
+    let top = Command::new(alloc, "jsoncrdt")
+        .bin_name("jsoncrdt")?
+        .about(ABOUT)
+        .override_usage(USAGE)
+        .version(VERSION)
+        .after_help(PROGRAM)
+        .no_binary_name(true)
+        .disable_help_subcommand(true)
+        .subcommand_required(true);
+    let check = plain(
+        alloc,
+        "check",
+        "Tell whether a text is a scenario, and how many replicas, commands and events it has",
+        CHECK,
+    )?;
+    let top = top.subcommand(check)?;
+    let print = plain(
+        alloc,
+        "print",
+        "Print the scenario in its canonical text",
+        PRINT,
+    )?;
+    let top = top.subcommand(print)?;
+    let run = run(alloc)?;
+    let top = top.subcommand(run)?;
+    let view = view(alloc)?;
+    let top = top.subcommand(view)?;
+    let debug = plain(
+        alloc,
+        "debug",
+        "Debugger: step through the schedule, forwards and backwards, by lines of standard input",
+        DEBUG,
+    )?;
+    let top = top.subcommand(debug)?;
+    let threads = threads(alloc)?;
+    top.subcommand(threads)
+}

@@ -1,0 +1,183 @@
+//! What words are taken for.
+
+ghost use Rattle.std.specs.Prelude.{◌≡◌, ◌≢◌, [], ◌∷◌, IfOk, IfErr, IsErr, Some, codes, map, string_bytes, option_map};
+ghost use Rattle.std.specs.Option.{option_and_then};
+ghost use Rattle.std.specs.Str.{bytes_eq};
+ghost use Rattle.clap.specs.Words.{FailsBy, fault_of, first_of, found_of, rows_of, subcommand_of, subcommand_rows_of};
+ghost use Rattle.jc_cli.specs.Program.{program};
+ghost use Rattle.jc_cli.specs.declared.fault.WordsFault.TheVariants.{Memory as NoMemory};
+ghost use Rattle.jc_cli.specs.Arguments.{is_traced, limit_in, limit_given, task_in, order_in, asked_of, with_help_meant, words_order, AsksHelp, HasLimitInRange, HasText, IsFaultless, IsWordsFault};
+
+use crate::definition::definition;
+use crate::fault::{WordsFault, fault_by};
+use crate::laws::faultless_words_are_orders;
+use crate::order::{Order, Task, View};
+use clap::{ArgMatches, Error};
+use jc_rules::Text;
+use std::alloc::{AllocError, Global};
+
+/// A text of its own with the same bytes.
+fn copied(alloc: Global, text: &str) -> Result<Text, AllocError>
+    ensures { IfOk result (λ copy. copy ≡ text.now) }
+{
+    Ok(Text::new(String::from_str(alloc, text)?))
+}
+
+/// The words themselves.
+fn said_by<'a>(alloc: Global, words: &'a [String]) -> Result<Vec<&'a str>, AllocError>
+    ensures { IfOk result (λ said. map (λ s. s.now) said.items ≡ map string_bytes words.now) }
+{
+    let mut said = Vec::new(alloc);
+    for word in words {
+        said.push(word.as_str())?;
+    }
+    Ok(said)
+}
+
+/// The words for which `help` stands in front of these.
+fn asked_by<'a>(alloc: Global, rest: &'a [String]) -> Result<Vec<&'a str>, AllocError>
+    ensures { IfOk result (λ said. map (λ s. s.now) said.items ≡ asked_of (map string_bytes rest.now)) }
+{
+    let mut asked = Vec::new(alloc);
+    match rest {
+        [] => {}
+        [topic, ..] => {
+            if topic.as_str() != "help" {
+                asked.push(topic.as_str())?;
+            }
+        }
+    }
+    asked.push("--help")?;
+    Ok(asked)
+}
+
+/// The words as they are parsed.
+#[tactic(auto, unfolding(crate::specs::Arguments::with_help_meant))]
+fn meant_by<'a>(alloc: Global, words: &'a [String]) -> Result<Vec<&'a str>, AllocError>
+    ensures { IfOk result (λ said. map (λ s. s.now) said.items ≡ with_help_meant (map string_bytes words.now)) }
+{
+    match words {
+        [] => said_by(alloc, words),
+        [first, rest @ ..] => {
+            if first.as_str() == "help" {
+                asked_by(alloc, rest)
+            } else {
+                said_by(alloc, words)
+            }
+        }
+    }
+}
+
+/// What the words match of the command line.
+fn matches_of<'a>(alloc: Global, words: &'a [&'a str]) -> Result<ArgMatches<'a>, Error>
+    ensures ok { IfOk result (λ m.
+        subcommand_rows_of m ≡ subcommand_of program (map (λ s. s.now) words.entry.now)) }
+    ensures kinds { FailsBy (fault_of program (map (λ s. s.now) words.entry.now)) result }
+{
+    definition(alloc)?.try_get_matches_from(words)
+}
+
+/// Whether the rules of each event are asked for.
+fn has_trace(matches: &ArgMatches<'_>) -> bool
+    ensures { result ≡ is_traced (rows_of (found_of matches.now)) }
+{
+    match matches.get_str("trace") {
+        Some(text) => text == "true",
+        None => false,
+    }
+}
+
+/// The number of a text that is one from 0 to 100,000.
+fn limit_in(text: &str) -> Option<u64>
+    ensures { result ≡ limit_in text.now }
+{
+    match text.parse::<u64>() {
+        Ok(limit) if limit <= 100_000 => Some(limit),
+        _ => None,
+    }
+}
+
+/// How many events are made at most, in all or by each replica.
+fn limit_of(matches: &ArgMatches<'_>) -> Option<u64>
+    ensures { result ≡ limit_given (rows_of (found_of matches.now)) }
+{
+    match matches.get_str("limit") {
+        Some(text) => limit_in(text),
+        None => None,
+    }
+}
+
+/// The task of a command with these matches.
+fn task_of(name: &str, matches: &ArgMatches<'_>) -> Option<Task>
+    ensures { result ≡ task_in name.now (rows_of (found_of matches.now)) }
+{
+    match name {
+        "check" => Some(Task::Show(View::Check)),
+        "print" => Some(Task::Show(View::Print)),
+        "run" => Some(Task::Show(View::Run {
+            trace: has_trace(matches),
+        })),
+        "view" => match limit_of(matches) {
+            Some(events) => Some(Task::Show(View::Document { events })),
+            None => None,
+        },
+        "debug" => Some(Task::Debug),
+        "threads" => match limit_of(matches) {
+            Some(limit) => Some(Task::Threads { limit }),
+            None => None,
+        },
+        _ => None,
+    }
+}
+
+/// The order of matches.
+fn order_matched(alloc: Global, matches: &ArgMatches<'_>) -> Result<Option<Order>, AllocError>
+    ensures { IfOk result (λ order. order ≡ option_and_then order_in (subcommand_rows_of matches.now)) }
+{
+    let Some((name, inner)) = matches.subcommand() else {
+        return Ok(None);
+    };
+    let Some(task) = task_of(name, inner) else {
+        return Ok(None);
+    };
+    let Some(file) = inner.get_str("file") else {
+        return Ok(None);
+    };
+    let file = copied(alloc, file)?;
+    Ok(Some(Order { task, file }))
+}
+
+/// What the words after the program's name are taken for; no words are `run --trace -`.
+///
+/// Refusals: `Help` where they ask for help or for the version, `Usage` where they are no command line,
+/// and `Memory` where there was no memory.
+pub fn order_of(alloc: Global, words: &[String]) -> Result<Order, WordsFault>
+    // What is answered is what they are taken for.
+    ensures ok { IfOk result (λ order. words_order (map string_bytes words.now) ≡ Some order) }
+    // What is refused is no order; it is help where that is asked for, and else a fault.
+    ensures err { IfErr result (IsWordsFault (map string_bytes words.now)) }
+    // Words without a fault are refused for want of memory alone.
+    ensures taken { IsFaultless (map string_bytes words.now) → IfErr result (λ fault. fault ≡ NoMemory) }
+    ensures help { AsksHelp (map string_bytes words.now) → IsErr result }
+    ensures text { IfErr result HasText }
+    // A limit is from 0 to 100,000.
+    ensures limit { IfOk result (λ order. HasLimitInRange order.task) }
+{
+    if words.is_empty() {
+        let file = copied(alloc, "-")?;
+        return Ok(Order {
+            task: Task::Show(View::Run { trace: true }),
+            file,
+        });
+    }
+    let said = meant_by(alloc, words)?;
+    let matches = match matches_of(alloc, &said) {
+        Ok(matches) => matches,
+        Err(error) => return Err(fault_by(alloc, &error)),
+    };
+    faultless_words_are_orders();
+    match order_matched(alloc, &matches)? {
+        Some(order) => Ok(order),
+        None => unreachable!(),
+    }
+}

@@ -1,0 +1,74 @@
+-- Along a list to an element by number.
+use Rattle.std.proofs.Common.{◌≡◌, ◌≢◌, ℕ, suc, ◌-◌, ◌<◌, ◌≤◌, [], length, Some, refl, sym, subst, arith}
+use Rattle.jc_rules.specs.declared.id.Id.{Id}
+use Rattle.jc_rules.specs.declared.key.Key.{Key}
+use Rattle.jc_rules.specs.declared.key.Key.TheVariants.{Head, Elem}
+use Rattle.jc_rules.specs.declared.key.Next.TheVariants.{Elem as To}
+use Rattle.jc_rules.specs.declared.refusal.Refusal.TheVariants as F
+use Rattle.jc_rules.specs.declared.rule.Rule.TheVariants as R
+use Rattle.jc_rules.specs.Context.{Context, links, next, presence}
+use Rattle.jc_rules.specs.Derivation.{SelectIndex, ToCursor}
+use Rattle.jc_rules.specs.Derives.{Derives}
+use Rattle.jc_rules.specs.Refused.{Cause, because, Refused, past_end, in_counted, in_passed}
+use Rattle.jc_rules.specs.WellFormed.{IsChainedList}
+use Rattle.jc_rules.specs.Table.{cursor, IsEmptyIds}
+use Rattle.jc_rules.specs.Trace.{Rows, pushed, one_deeper, at_depth}
+use Rattle.jc_rules.proofs.DerivesLemmas.{by_axiom, one_premise}
+use Rattle.jc_clear.proofs.ClearListLemmas.{leads_from, leads_on, steps}
+use Rattle.jc_cursor.specs.WayDown.{IsGrown}
+use Rattle.jc_cursor.proofs.TraceGrowsLemmas.{not_grown, grown_below}
+
+-- What the loop along a list keeps, with so many present elements left to pass: what is derived or refused from its key is so from the head.
+pub record Along (c : Context) (i : ℕ) (k : Key) (m : ℕ) (t u : Rows) : Type 0 where
+  pub leads : (j : Key) (v : Rows) → Derives (SelectIndex c (cursor [] k) m) (ToCursor (cursor [] j)) u v → Derives (SelectIndex c (cursor [] Head) i) (ToCursor (cursor [] j)) t (at_depth t.depth v)
+  pub refuses : (why : Cause) → Refused (SelectIndex c (cursor [] k) m) why → Refused (SelectIndex c (cursor [] Head) i) why
+  pub grown : IsGrown t u
+
+pub along_begins : (c : Context) (i : ℕ) (k : Key) (m : ℕ) (t : Rows) → k ≡ Head → m ≡ i → Along c i k m t t
+along_begins c i k m t ke me = rw (ke, me) (record {
+  leads = λ j v x. record { derivation = x.derivation; holds = x.holds; concludes = x.concludes; rows = x.rows; depth = refl };
+  refuses = λ why x. x;
+  grown = not_grown t;
+})
+
+-- the key that follows is nearer to the end
+pub nearer : (c : Context) (k j : Key) (i : Id) → (next k c ≡ Some (To i) → IsChainedList c) → next k c ≡ Some (To i) → j ≡ Elem i → steps (Some j) (length (links c)) c < steps (Some k) (length (links c)) c
+nearer c k j i h e je = rw je ((leads_on c k (To i) (leads_from c k (To i) (h e) e) e).1)
+
+a_suc : (m : ℕ) → 0 < m → m ≡ suc (m - 1)
+a_suc m h = omega (arith, h)
+
+-- past an element that is present
+pub along_counted : (c : Context) (i : ℕ) (k j : Key) (m n : ℕ) (d : Id) (t u v : Rows) → 0 < m → n ≡ m - 1 → next k c ≡ Some (To d) → j ≡ Elem d → (IsEmptyIds (presence j c) → ⊥) → v ≡ one_deeper (pushed u R.Idx3) → Along c i k m t u → Along c i j n t v
+along_counted c i k j m n d t u v h ne e je p ve w =
+    let q : IsEmptyIds (presence (Elem d) c) → ⊥ = subst (λ (y : Key). IsEmptyIds (presence y c) → ⊥) je p in
+    let w2 : Along c i k (suc (m - 1)) t u = subst (λ (y : ℕ). Along c i k y t u) (a_suc m h) w in
+    rw (je, ne, ve) (record {
+      leads = λ y z x. w2.leads y (at_depth u.depth z) (one_premise R.Idx3 (SelectIndex c (cursor [] k) (suc (m - 1))) _ _ _ u z x (d, cursor [] y, refl, e, q, refl, refl));
+      refuses = λ why x. w2.refuses why (in_counted refl e q x);
+      grown = grown_below t u (one_deeper (pushed u R.Idx3)) R.Idx3 w.grown refl;
+    })
+
+-- past one that is not
+pub along_passed : (c : Context) (i : ℕ) (k j : Key) (m : ℕ) (d : Id) (t u v : Rows) → 0 < m → next k c ≡ Some (To d) → j ≡ Elem d → IsEmptyIds (presence j c) → v ≡ one_deeper (pushed u R.Idx4) → Along c i k m t u → Along c i j m t v
+along_passed c i k j m d t u v h e je p ve w =
+    let q : IsEmptyIds (presence (Elem d) c) = subst (λ (y : Key). IsEmptyIds (presence y c)) je p in
+    let w2 : Along c i k (suc (m - 1)) t u = subst (λ (y : ℕ). Along c i k y t u) (a_suc m h) w in
+    let on : Along c i (Elem d) (suc (m - 1)) t (one_deeper (pushed u R.Idx4)) = record {
+      leads = λ y z x. w2.leads y (at_depth u.depth z) (one_premise R.Idx4 (SelectIndex c (cursor [] k) (suc (m - 1))) _ _ _ u z x (d, cursor [] y, refl, e, q, refl, refl));
+      refuses = λ why x. w2.refuses why (in_passed refl e q x);
+      grown = grown_below t u (one_deeper (pushed u R.Idx4)) R.Idx4 w.grown refl;
+    } in
+    rw (je, ve) (subst (λ (y : ℕ). Along c i (Elem d) y t (one_deeper (pushed u R.Idx4))) (sym (a_suc m h)) on)
+
+-- where the list ends
+pub along_past_end : (c : Context) (i : ℕ) (k : Key) (m : ℕ) (t u : Rows) → 0 < m → ((d : Id) → next k c ≢ Some (To d)) → Along c i k m t u → Refused (SelectIndex c (cursor [] Head) i) (because F.PastEnd)
+along_past_end c i k m t u h e w =
+    w.refuses (because F.PastEnd) (subst (λ (y : ℕ). Refused (SelectIndex c (cursor [] k) y) (because F.PastEnd)) (sym (a_suc m h)) (past_end refl e))
+
+-- at the element
+pub along_ends : (c : Context) (i : ℕ) (k : Key) (m : ℕ) (t u v : Rows) → m ≤ 0 → Along c i k m t u → v ≡ pushed u R.Idx5 → Derives (SelectIndex c (cursor [] Head) i) (ToCursor (cursor [] k)) t (at_depth t.depth v)
+along_ends c i k m t u v h a ve =
+    let none : m ≡ 0 = omega (arith, h) in
+    let a2 : Along c i k 0 t u = subst (λ (y : ℕ). Along c i k y t u) none a in
+    rw ve (a2.leads k (pushed u R.Idx5) (by_axiom R.Idx5 (SelectIndex c (cursor [] k) 0) (ToCursor (cursor [] k)) u (refl, refl, refl)))

@@ -1,0 +1,103 @@
+-- Which breakpoints name a position.
+use Rattle.std.proofs.Common.{◌≡◌, ◌↔◌, ℕ, ◌+◌, ◌<◌, ◌≤◌, List, length, take, slice_get, slice_set, nat_eq, Option, Some, None, Bool, true, false, IsTrue, ap, sym, subst, ◌∙◌, arith, rules}
+use Rattle.std.proofs.lemmas.Option.{slice_get_within, same_Some}
+use Rattle.jc_rules.specs.declared.operation.Event.{Event}
+use Rattle.jc_rules.specs.declared.rule.Rule.{Rule}
+use Rattle.jc_rules.specs.Step.{Network, StepIn, replica_of}
+use Rattle.jc_rules.specs.Trace.{Rows}
+use Rattle.jc_rules.proofs.VersionLemmas.{one_step_in, one_after_in}
+use Rattle.jc_debug.specs.declared.breaks.Break.{Break}
+use Rattle.jc_debug.specs.declared.breaks.Break.TheVariants as Kind
+use Rattle.jc_debug.specs.Moves.{IsTraceOf}
+use Rattle.jc_debug.specs.DebuggerState.{Session, MakesEvent, Names, NamesAt, IsFree, HasRule}
+use Rattle.jc_debug.specs.Invariant.{Seen, IsOnTrail, start_of, session_of, placed_in}
+
+-- ---- rules of a trace
+
+-- an event has one trace at a position
+pub one_makes : (S : Network) (es : List Event) (n : ℕ) (e f : Event) (rows more : List (Rule × ℕ)) → MakesEvent S es n e rows → MakesEvent S es n f more → (e ≡ f) × (rows ≡ more)
+one_makes S es n e f rows more a b =
+    let before : a.before ≡ b.before = one_after_in S (take n es) a.before b.before a.is_at.after b.is_at.after in
+    let event : e ≡ f = same_Some e f (sym a.is ∙ b.is) in
+    let step = subst (λ (x : Event). StepIn b.before x a.after rows) event (subst (λ (N : Network). StepIn N e a.after rows) before a.step) in
+    (event, (one_step_in b.before f a.after b.after rows more step b.step).1)
+
+-- a breakpoint for a rule names the position exactly where the trace of the event that led to it has the rule
+pub rule_named : (d : Seen) (t : Rows) (rule : Rule) → IsTraceOf d t → HasRule t.rows rule ↔ Names (start_of d) d.schedule (Kind.Rule rule) (length d.traces)
+rule_named d t rule is = (
+  λ h. (is.before, is.event, t.rows, is.position, is.makes, h),
+  λ x. let p = is.position in
+      let q = x.3 in
+      let same : x.0 ≡ is.before = omega (arith, p, q) in
+      let makes = subst (λ (k : ℕ). MakesEvent (start_of d) d.schedule k x.1 x.2) same x.4 in
+      subst (λ (r : List (Rule × ℕ)). HasRule r rule) (one_makes (start_of d) d.schedule is.before x.1 is.event x.2 t.rows makes is.makes).1 x.5,
+)
+
+pub no_rule_at_start : (d : Seen) (rule : Rule) → length d.traces ≡ 0 → Names (start_of d) d.schedule (Kind.Rule rule) (length d.traces) → ⊥
+no_rule_at_start d rule z x = let q = x.3 in absurd (omega (arith, q, z))
+
+-- the rows before a place don't have the rule
+pub no_such : (rows : List (Rule × ℕ)) (k : ℕ) (row : Rule × ℕ) (rule : Rule) → slice_get rows k ≡ Some row → (row.0 ≡ rule → ⊥) → (depth : ℕ) → slice_get rows k ≡ Some (rule, depth) → ⊥
+no_such rows k row rule at other depth e = other (ap (λ (r : Rule × ℕ). r.0) (same_Some row (rule, depth) (sym at ∙ e)))
+
+pub has_none : (rows : List (Rule × ℕ)) (rule : Rule) (m : ℕ) → length rows ≤ m → ((k depth : ℕ) → k < m → slice_get rows k ≡ Some (rule, depth) → ⊥) → HasRule rows rule → ⊥
+has_none rows rule m le none (k, depth, e) = none k depth (let w = slice_get_within rows k (rule, depth) e in omega (arith, w, le)) e
+
+-- ---- the replica of an event
+
+pub last_of : (es : List Event) (m n : ℕ) (event : Event) (q p : ℕ) → n ≡ m + 1 → slice_get es m ≡ Some event → q ≡ replica_of event
+    → IsTrue (nat_eq q p) ↔ ((x : ℕ) × (f : Event) × (n ≡ x + 1) × (slice_get es x ≡ Some f) × (replica_of f ≡ p))
+last_of es m n event q p e at is = (
+  λ y. let h : q ≡ p = search rules in (m, event, e, at, sym is ∙ h),
+  λ x. let k : x.0 ≡ m = let t = x.2 in omega (arith, t, e) in
+      let f : x.1 ≡ event = same_Some x.1 event (sym x.3 ∙ (ap (slice_get es) k ∙ at)) in
+      let h : q ≡ p = is ∙ (ap replica_of (sym f) ∙ x.4) in
+      search rules,
+)
+
+-- ---- any breakpoint
+
+pub as_break : (S : Network) (es : List Event) (n : ℕ) (b c : Break) (t : Bool) → b ≡ c → (IsTrue t ↔ Names S es c n) → (IsTrue t ↔ Names S es b n)
+as_break S es n b c t e h = subst (λ (x : Break). IsTrue t ↔ Names S es x n) (sym e) h
+
+pub both_ways : {P Q T : Type 0} → (P ↔ Q) → (Q ↔ T) → (P ↔ T)
+both_ways a b = (λ p. b.0 (a.0 p), λ t. a.1 (b.1 t))
+
+pub no_at_none : (S : Network) (A : Session) (n j : ℕ) → slice_get A.breaks j ≡ Some None → NamesAt S A n j → ⊥
+no_at_none S A n j e (b, at, names) = cc
+
+not_true : (t : Bool) → t ≡ false → IsTrue t → ⊥
+not_true true e y = cc
+not_true false e y = cc
+
+pub no_at_other : (S : Network) (A : Session) (n j : ℕ) (b : Break) (t : Bool) → slice_get A.breaks j ≡ Some (Some b) → (IsTrue t ↔ Names S A.schedule b n) → t ≡ false → NamesAt S A n j → ⊥
+no_at_other S A n j b t e h f (c, at, names) =
+    let same : c ≡ b = same_Some c b (same_Some (Some c) (Some b) (sym at ∙ e)) in
+    not_true t f (h.1 (subst (λ (x : Break). Names S A.schedule x n) same names))
+
+pub none_named : (d : Seen) → IsOnTrail d → (m : ℕ) → 256 ≤ m → ((i : ℕ) → i < m → NamesAt (start_of d) (session_of d) (length d.traces) i → ⊥) → IsFree (start_of d) (session_of d) (length d.traces)
+none_named d h m le none j (b, at, names) = none j (let w : j < length d.breaks = slice_get_within d.breaks j (Some b) at in let p = h.places in omega (arith, w, p, le)) (b, at, names)
+
+-- ---- places
+
+pub placed_trail : (d : Seen) (j : ℕ) (b : Option Break) → IsOnTrail d → IsOnTrail (placed_in d j b)
+placed_trail d j b h = record {
+  count = h.count;
+  within = h.within;
+  short = h.short;
+  places = set_length d.breaks j b ∙ h.places;
+  follows = λ k lt. let f = h.follows k lt in record {
+    before = f.before;
+    after = f.after;
+    event = f.event;
+    rows = f.rows;
+    is_before = f.is_before;
+    is_after = f.is_after;
+    is_event = f.is_event;
+    is_trace = f.is_trace;
+    step = f.step;
+  };
+}
+  where
+    set_length : {X : Type 0} (xs : List X) (j : ℕ) (x : X) → length (slice_set xs j x) ≡ length xs
+    set_length xs j x = search rules

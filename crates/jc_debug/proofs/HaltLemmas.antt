@@ -1,0 +1,54 @@
+-- Moves forward that end before an event which isn't made.
+use Rattle.std.proofs.Common.{◌≡◌, ℕ, ◌<◌, ◌≤◌, length, slice_get, Some, sym, subst}
+use Rattle.jc_rules.specs.declared.operation.Event.{Event}
+use Rattle.jc_network.specs.declared.fault.Stuck.{Stuck}
+use Rattle.jc_network.specs.Steps.{IsStuckFor}
+use Rattle.jc_debug.specs.declared.fault.GotoFault.{GotoFault}
+use Rattle.jc_debug.specs.declared.fault.GotoFault.TheVariants as G
+use Rattle.jc_debug.specs.declared.fault.Halt.{Halt}
+use Rattle.jc_debug.specs.declared.fault.Halt.TheVariants as H
+use Rattle.jc_debug.specs.declared.fault.StepFault.{StepFault}
+use Rattle.jc_debug.specs.declared.fault.StepFault.TheVariants as S
+use Rattle.jc_debug.specs.Moves.{IsToldAt, MoveStopsAt, IsNextHalted, IsHalted, IsStepFault, IsGotoFault, step_fault, goto_fault}
+use Rattle.jc_debug.specs.Invariant.{Seen, IsOnTrail, IsMoved, start_of}
+use Rattle.jc_debug.proofs.InvariantLemmas.{is_at, carried}
+
+-- the event at the position is stuck in the network
+pub told_here : (d : Seen) → IsOnTrail d → (event : Event) → slice_get d.schedule (length d.traces) ≡ Some event → (s : Stuck) → IsStuckFor d.net.network event s → IsNextHalted d (H.Stuck s)
+told_here d h event is s k = record {
+  why = k.why;
+  event = event;
+  is = k.is;
+  stuck = record { before = d.net.network; is_at = is_at d h; is = is; stuck = k.stuck };
+}
+
+stops_at : (old now new : Seen) (n to : ℕ) → IsMoved old now n → length old.traces ≤ n → n < to → new ≡ now → MoveStopsAt old new to n
+stops_at old now new n to m le lt e = record { forward = le; short = lt; moved = subst (λ (v : Seen). IsMoved old v n) (sym e) m }
+
+pub told_old : (old now : Seen) (n : ℕ) (s : Stuck) → IsMoved old now n → IsNextHalted now (H.Stuck s) → IsToldAt (start_of old) old.schedule n s
+told_old old now n s m told = carried (λ S es bs k. IsToldAt S es k s) old now n m told
+
+pub no_memory : (old now new : Seen) (n to : ℕ) → IsMoved old now n → length old.traces ≤ n → n < to → new ≡ now → IsHalted old new to H.Memory
+no_memory old now new n to m le lt e = (n, stops_at old now new n to m le lt e)
+
+pub halted : (old now new : Seen) (n to : ℕ) (halt : Halt) → IsMoved old now n → length old.traces ≤ n → n < to → IsNextHalted now halt → new ≡ now → IsHalted old new to halt
+halted old now new n to H.Memory m le lt told e = no_memory old now new n to m le lt e
+halted old now new n to (H.Stuck s) m le lt told e = (n, stops_at old now new n to m le lt e, told_old old now n s m told)
+
+-- ---- as the calls answer it
+
+pub step_halted : (old new : Seen) (to : ℕ) (halt : Halt) (fault : StepFault) → fault ≡ step_fault halt → IsHalted old new to halt → IsStepFault old new to fault
+step_halted old new to (H.Stuck s) fault e h = subst (λ (f : StepFault). IsStepFault old new to f) (sym e) h
+step_halted old new to H.Memory fault e h = subst (λ (f : StepFault). IsStepFault old new to f) (sym e) h
+
+pub never_at_end : (halt : Halt) → step_fault halt ≡ S.AtEnd → ⊥
+never_at_end (H.Stuck s) e = cc
+never_at_end H.Memory e = cc
+
+pub goto_halted : (old new : Seen) (to : ℕ) (halt : Halt) (fault : GotoFault) → fault ≡ goto_fault halt → IsHalted old new to halt → IsGotoFault old new to fault
+goto_halted old new to (H.Stuck s) fault e h = subst (λ (f : GotoFault). IsGotoFault old new to f) (sym e) h
+goto_halted old new to H.Memory fault e h = subst (λ (f : GotoFault). IsGotoFault old new to f) (sym e) h
+
+pub never_past : (halt : Halt) → goto_fault halt ≡ G.PastSchedule → ⊥
+never_past (H.Stuck s) e = cc
+never_past H.Memory e = cc

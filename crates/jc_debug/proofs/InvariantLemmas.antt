@@ -1,0 +1,224 @@
+-- Networks that follow from one another, one event on and one back.
+use Rattle.std.proofs.Common.{◌≡◌, ℕ, zero, suc, ◌+◌, ◌-◌, ◌<◌, ◌≤◌, List, [], ◌∷◌, ◌++◌, length, take, slice_get, unwrap_or, option_to_list, Option, Some, None, Bool, true, false, IsTrue, IsFalse, IsSome, IfSome, get_or, refl, ap, sym, subst, ◌∙◌, arith, length-append, below_more}
+use Rattle.std.proofs.lemmas.Option.{slice_get_within, slice_get_read, same_Some}
+use Rattle.std.specs.Borrow.{Bor}
+use Rattle.std.specs.Option.{option_copied}
+use Rattle.jc_rules.specs.declared.operation.Event.{Event}
+use Rattle.jc_rules.specs.declared.rule.Rule.{Rule}
+use Rattle.jc_rules.specs.Step.{Network, StepIn, AfterIn}
+use Rattle.jc_rules.specs.Trace.{Rows}
+use Rattle.jc_network.specs.NetworkHistory.{Course, StepsTo}
+use Rattle.jc_network.proofs.HalvesLemmas.{get_front, get_back}
+use Rattle.jc_debug.specs.declared.breaks.Break.{Break}
+use Rattle.jc_debug.specs.Moves.{IsTraceOf}
+use Rattle.jc_debug.specs.DebuggerState.{IsNetworkAt}
+use Rattle.jc_debug.specs.Invariant.{Seen, networks_of, no_network, start_of, FollowsTrail, IsOnTrail, IsMoved}
+
+abbrev pub seen : Course → List Event → List Rows → List (Option Break) → Seen
+seen net schedule traces breaks = record { net = net; schedule = schedule; traces = traces; breaks = breaks }
+
+-- ---- elements by number
+
+pub get_last : {X : Type 0} (xs : List X) (x : X) → slice_get (xs ++ x ∷ []) (length xs) ≡ Some x
+get_last xs x = get_back xs (x ∷ []) x refl
+
+get_within : {X : Type 0} (xs ys : List X) (i : ℕ) (x : X) → i < length xs → slice_get (xs ++ ys) i ≡ Some x → slice_get xs i ≡ Some x
+get_within [] ys i x h e = absurd (omega arith)
+get_within (y ∷ xs) ys zero x h e = e
+get_within (y ∷ xs) ys (suc i) x h e = get_within xs ys i x (omega arith) e
+
+first_stays : {X : Type 0} (xs ys : List X) (x : X) → slice_get ((xs ++ x ∷ []) ++ ys) 0 ≡ slice_get (xs ++ x ∷ []) 0
+first_stays [] ys x = refl
+first_stays (y ∷ xs) ys x = refl
+
+take_get : {X : Type 0} (xs : List X) (k : ℕ) (x : X) → slice_get xs k ≡ Some x → take (suc k) xs ≡ take k xs ++ x ∷ []
+take_get [] k x e = absurd cc
+take_get (y ∷ xs) zero x e = let h : y ≡ x = cc in ap (λ z. z ∷ []) h
+take_get (y ∷ xs) (suc k) x e = ap (λ l. y ∷ l) (take_get xs k x e)
+
+-- ---- one event on
+
+follows_on : (d e : Seen) (k : ℕ) → FollowsTrail d k → (ns : List Network) → networks_of e.net ≡ networks_of d.net ++ ns → e.schedule ≡ d.schedule → (ts : List Rows) → e.traces ≡ d.traces ++ ts → FollowsTrail e k
+follows_on d e k f ns n s ts t = record {
+  before = f.before;
+  after = f.after;
+  event = f.event;
+  rows = f.rows;
+  is_before = ap (λ l. slice_get l k) n ∙ get_front (networks_of d.net) ns k f.before f.is_before;
+  is_after = ap (λ l. slice_get l (k + 1)) n ∙ get_front (networks_of d.net) ns (k + 1) f.after f.is_after;
+  is_event = ap (λ l. slice_get l k) s ∙ f.is_event;
+  is_trace = ap (λ l. slice_get l k) t ∙ get_front d.traces ts k f.rows f.is_trace;
+  step = f.step;
+}
+
+-- the event at the position was made
+pub trail_on : (d e : Seen) (t : Rows) (event : Event) → IsOnTrail d → slice_get d.schedule (length d.traces) ≡ Some event → StepsTo d.net event e.net t → e.schedule ≡ d.schedule → e.traces ≡ d.traces ++ t ∷ [] → e.breaks ≡ d.breaks → IsOnTrail e
+trail_on d e t event h i s sc tr br =
+    let grown : length e.traces ≡ length d.traces + 1 = ap length tr ∙ length-append d.traces (t ∷ []) in
+    let networks : length e.net.earlier ≡ length d.net.earlier + 1 = ap length s.earlier ∙ length-append d.net.earlier (d.net.network ∷ []) in
+    let c = h.count in
+    let w : length d.traces < length d.schedule = slice_get_within d.schedule (length d.traces) event i in
+    let size : length e.schedule ≡ length d.schedule = ap length sc in
+    let all : networks_of e.net ≡ networks_of d.net ++ e.net.network ∷ [] = ap (λ l. l ++ e.net.network ∷ []) s.earlier in
+    let last : FollowsTrail e (length d.traces) = record {
+      before = d.net.network;
+      after = e.net.network;
+      event = event;
+      rows = t;
+      is_before = ap (λ l. slice_get l (length d.traces)) all ∙ get_front (networks_of d.net) (e.net.network ∷ []) (length d.traces) d.net.network (ap (slice_get (networks_of d.net)) (sym c) ∙ get_last d.net.earlier d.net.network);
+      is_after = ap (slice_get (networks_of e.net)) (omega (arith, networks, c)) ∙ get_last e.net.earlier e.net.network;
+      is_event = ap (λ l. slice_get l (length d.traces)) sc ∙ i;
+      is_trace = ap (λ l. slice_get l (length d.traces)) tr ∙ get_last d.traces t;
+      step = s.step;
+    } in
+    let short = h.short in
+    record {
+      count = omega (arith, networks, grown, c);
+      within = omega (arith, grown, w, size);
+      short = omega (arith, size, short);
+      places = ap length br ∙ h.places;
+      follows = subst (λ (m : ℕ). (k : ℕ) → k < m → FollowsTrail e k) (sym grown)
+          (below_more (λ k. FollowsTrail e k) (length d.traces) (λ k lt. follows_on d e k (h.follows k lt) (e.net.network ∷ []) all sc (t ∷ []) tr) last);
+    }
+
+-- the first network stays
+pub start_on : (d e : Seen) → e.net.earlier ≡ networks_of d.net → start_of e ≡ start_of d
+start_on d e n = ap (λ l. unwrap_or (slice_get (l ++ e.net.network ∷ []) 0) no_network) n ∙ ap (λ o. unwrap_or o no_network) (first_stays d.net.earlier (e.net.network ∷ []) d.net.network)
+
+pub moved_on : (d e : Seen) (t : Rows) (event : Event) → StepsTo d.net event e.net t → e.schedule ≡ d.schedule → e.traces ≡ d.traces ++ t ∷ [] → e.breaks ≡ d.breaks → IsMoved d e (length d.traces + 1)
+moved_on d e t event s sc tr br = record {
+  names = s.names;
+  start = start_on d e s.earlier;
+  schedule = sc;
+  breaks = br;
+  position = ap length tr ∙ length-append d.traces (t ∷ []);
+}
+
+-- ---- one event back
+
+follows_back : (d e : Seen) (k : ℕ) → FollowsTrail d k → (ns : List Network) → networks_of d.net ≡ networks_of e.net ++ ns → e.schedule ≡ d.schedule → (ts : List Rows) → d.traces ≡ e.traces ++ ts → k + 1 < length (networks_of e.net) → k < length e.traces → FollowsTrail e k
+follows_back d e k f ns n s ts t in_networks in_traces = record {
+  before = f.before;
+  after = f.after;
+  event = f.event;
+  rows = f.rows;
+  is_before = get_within (networks_of e.net) ns k f.before (omega arith) (ap (λ l. slice_get l k) (sym n) ∙ f.is_before);
+  is_after = get_within (networks_of e.net) ns (k + 1) f.after in_networks (ap (λ l. slice_get l (k + 1)) (sym n) ∙ f.is_after);
+  is_event = ap (λ l. slice_get l k) s ∙ f.is_event;
+  is_trace = get_within e.traces ts k f.rows in_traces (ap (λ l. slice_get l k) (sym t) ∙ f.is_trace);
+  step = f.step;
+}
+
+-- the last event was taken back
+pub trail_back : (d e : Seen) (t : Rows) → IsOnTrail d → d.net.earlier ≡ networks_of e.net → e.schedule ≡ d.schedule → d.traces ≡ e.traces ++ t ∷ [] → e.breaks ≡ d.breaks → IsOnTrail e
+trail_back d e t h n sc tr br =
+    let grown : length d.traces ≡ length e.traces + 1 = ap length tr ∙ length-append e.traces (t ∷ []) in
+    let networks : length d.net.earlier ≡ length e.net.earlier + 1 = ap length n ∙ length-append e.net.earlier (e.net.network ∷ []) in
+    let whole : length (networks_of e.net) ≡ length e.net.earlier + 1 = length-append e.net.earlier (e.net.network ∷ []) in
+    let all : networks_of d.net ≡ networks_of e.net ++ d.net.network ∷ [] = ap (λ l. l ++ d.net.network ∷ []) n in
+    let c = h.count in
+    let w = h.within in
+    let short = h.short in
+    let size : length e.schedule ≡ length d.schedule = ap length sc in
+    record {
+      count = omega (arith, networks, grown, c);
+      within = omega (arith, grown, w, size);
+      short = omega (arith, size, short);
+      places = ap length br ∙ h.places;
+      follows = λ k lt. follows_back d e k (h.follows k (omega (arith, lt, grown))) (d.net.network ∷ []) all sc (t ∷ []) tr (omega (arith, whole, networks, grown, c, lt)) lt;
+    }
+
+pub moved_back : (d e : Seen) (t : Rows) → d.net.earlier ≡ networks_of e.net → e.net.names ≡ d.net.names → e.schedule ≡ d.schedule → d.traces ≡ e.traces ++ t ∷ [] → e.breaks ≡ d.breaks → IsMoved d e (length d.traces - 1)
+moved_back d e t n ns sc tr br =
+    let size : length d.traces ≡ length e.traces + 1 = ap length tr ∙ length-append e.traces (t ∷ []) in
+    record { names = ns; start = sym (start_on e d n); schedule = sc; breaks = br; position = omega (arith, size) }
+
+-- what the network says of a step that it took back, where there was one
+pub undone : (b : Bool) (old new : Course) → (IsTrue b → old.earlier ≡ networks_of new) → (IsFalse b → (new ≡ old) × (old.earlier ≡ [])) → 0 < length old.earlier → old.earlier ≡ networks_of new
+undone true old new t f some = t refl
+undone false old new t f some = let none : length old.earlier ≡ 0 = ap length (f refl).1 in absurd (omega (arith, none, some))
+
+pub popped : (o : Option Rows) (ts new : List Rows) → ts ≡ new ++ option_to_list o → IsSome o → (t : Rows) × (ts ≡ new ++ t ∷ [])
+popped None ts new e h = absurd cc
+popped (Some t) ts new e h = (t, e)
+
+-- ---- moves one after the other
+
+pub moved_none : (d : Seen) → IsMoved d d (length d.traces)
+moved_none d = record { names = refl; start = refl; schedule = refl; breaks = refl; position = refl }
+
+pub moved_both : (d e f : Seen) (n m k : ℕ) → IsMoved d e n → IsMoved e f m → m ≡ k → IsMoved d f k
+moved_both d e f n m k a b h = record {
+  names = b.names ∙ a.names;
+  start = b.start ∙ a.start;
+  schedule = b.schedule ∙ a.schedule;
+  breaks = b.breaks ∙ a.breaks;
+  position = b.position ∙ h;
+}
+
+pub moved_more : (old now new : Seen) (i : ℕ) → IsMoved old now i → IsMoved now new (length now.traces + 1) → IsMoved old new (i + 1)
+moved_more old now new i a b = let p = a.position in moved_both old now new i (length now.traces + 1) (i + 1) a b (omega (arith, p))
+
+-- what holds at a new position, said of the old debugger's start, schedule and breakpoints
+pub carried : (P : Network → List Event → List (Option Break) → ℕ → Type 0) (old now : Seen) (n : ℕ) → IsMoved old now n → P (start_of now) now.schedule now.breaks (length now.traces) → P (start_of old) old.schedule old.breaks n
+carried P old now n m h =
+    subst (λ (S : Network). P S old.schedule old.breaks n) m.start
+    (subst (λ (es : List Event). P (start_of now) es old.breaks n) m.schedule
+    (subst (λ (bs : List (Option Break)). P (start_of now) now.schedule bs n) m.breaks
+    (subst (λ (k : ℕ). P (start_of now) now.schedule now.breaks k) m.position h)))
+
+-- ---- where the schedule leads
+
+after_more : (S : Network) (es : List Event) (M : Network) (e : Event) (N : Network) (rows : List (Rule × ℕ)) → AfterIn S es M → StepIn M e N rows → AfterIn S (es ++ e ∷ []) N
+after_more S [] M e N rows h s = (N, rows, subst (λ (X : Network). StepIn X e N rows) (sym h) s, refl)
+after_more S (x ∷ es) M e N rows h s = (h.0, h.1, h.2, after_more h.0 es M e N rows h.3 s)
+
+-- the network at each position is the one that the schedule leads to
+pub after_first : (d : Seen) → IsOnTrail d → (k : ℕ) → k ≤ length d.traces → (N : Network) → slice_get (networks_of d.net) k ≡ Some N → AfterIn (start_of d) (take k d.schedule) N
+after_first d h zero le N e = ap (λ o. unwrap_or o no_network) e
+after_first d h (suc k) le N e =
+    let f = h.follows k (omega arith) in
+    let next : slice_get (networks_of d.net) (k + 1) ≡ Some N = ap (slice_get (networks_of d.net)) (omega arith) ∙ e in
+    let same : f.after ≡ N = same_Some f.after N (sym f.is_after ∙ next) in
+    let before = after_first d h k (omega arith) f.before f.is_before in
+    subst (λ (es : List Event). AfterIn (start_of d) es N) (sym (take_get d.schedule k f.event f.is_event))
+    (after_more (start_of d) (take k d.schedule) f.before f.event N f.rows.rows before (subst (λ (X : Network). StepIn f.before f.event X f.rows.rows) same f.step))
+
+pub is_at : (d : Seen) → IsOnTrail d → IsNetworkAt (start_of d) d.schedule (length d.traces) d.net.network
+is_at d h = record {
+  within = h.within;
+  after = after_first d h (length d.traces) (omega arith) d.net.network (ap (slice_get (networks_of d.net)) (sym h.count) ∙ get_last d.net.earlier d.net.network);
+}
+
+pub at_old : (old now : Seen) (n : ℕ) → IsMoved old now n → IsOnTrail now → IsNetworkAt (start_of old) old.schedule n now.net.network
+at_old old now n m h = carried (λ S es bs k. IsNetworkAt S es k now.net.network) old now n m (is_at now h)
+
+-- the trace of the last event
+pub trace_of : (d : Seen) → IsOnTrail d → (n : ℕ) (t : Rows) → length d.traces ≡ n + 1 → slice_get d.traces n ≡ Some t → IsTraceOf d t
+trace_of d h n t e at =
+    let f = h.follows n (omega (arith, e)) in
+    let same : f.rows ≡ t = same_Some f.rows t (sym f.is_trace ∙ at) in
+    let w = h.within in
+    record {
+      before = n;
+      event = f.event;
+      position = e;
+      makes = record {
+        before = f.before;
+        after = f.after;
+        is_at = record { within = omega (arith, e, w); after = after_first d h n (omega (arith, e)) f.before f.is_before };
+        is = f.is_event;
+        step = subst (λ (r : Rows). StepIn f.before f.event f.after r.rows) same f.step;
+      };
+    }
+
+pub last_trace : (d : Seen) → IsOnTrail d → (r : Option (Bor Rows)) → option_copied r ≡ slice_get d.traces (length d.traces - 1) → IfSome r (λ t. IsTraceOf d t.now)
+last_trace d h None e = tt
+last_trace d h (Some t) e =
+    let at : slice_get d.traces (length d.traces - 1) ≡ Some t.now = sym e in
+    let some = slice_get_within d.traces (length d.traces - 1) t.now at in
+    trace_of d h (length d.traces - 1) t.now (omega (arith, some)) at
+
+-- the event at the position, as it is read
+pub next_event : (d : Seen) (i : ℕ) (event : Event) → i ≡ length d.traces → length d.traces < length d.schedule → event ≡ get_or d.schedule i event → slice_get d.schedule (length d.traces) ≡ Some event
+next_event d i event here more e = ap (slice_get d.schedule) (sym here) ∙ slice_get_read d.schedule (length d.schedule) i event refl (omega (arith, here, more)) e

@@ -1,0 +1,63 @@
+-- What a debugger is seen as, and that its networks follow from one another.
+use Rattle.std.specs.Prelude.{◌≡◌, ℕ, ◌+◌, ◌<◌, ◌≤◌, List, [], ◌∷◌, ◌++◌, length, slice_get, slice_set, unwrap_or, Option, Some}
+use Rattle.jc_rules.specs.declared.operation.Event.{Event}
+use Rattle.jc_rules.specs.declared.version.Version.TheVariants.{One}
+use Rattle.jc_rules.specs.Step.{Network, StepIn}
+use Rattle.jc_rules.specs.Trace.{Rows}
+use Rattle.jc_network.specs.NetworkHistory.{Course}
+use Rattle.jc_debug.specs.declared.breaks.Break.{Break}
+use Rattle.jc_debug.specs.DebuggerState.{Session}
+
+-- the network with those before it, the schedule, the traces of the events up to the position, the breakpoints
+pub record Seen : Type 0 where
+  pub net : Course
+  pub schedule : List Event
+  pub traces : List Rows
+  pub breaks : List (Option Break)
+
+-- the networks at each position, the first one's first
+abbrev pub networks_of : Course → List Network
+networks_of c = c.earlier ++ c.network ∷ []
+
+-- a network without replicas
+abbrev pub no_network : Network
+no_network = record { version = One; states = [] }
+
+-- the network at position 0
+abbrev pub start_of : Seen → Network
+start_of d = unwrap_or (slice_get (networks_of d.net) 0) no_network
+
+abbrev pub session_of : Seen → Session
+session_of d = record { schedule = d.schedule; position = length d.traces; breaks = d.breaks }
+
+-- with this breakpoint, or none, at place j
+abbrev pub placed_in : Seen → ℕ → Option Break → Seen
+placed_in d j b = record d { breaks = slice_set d.breaks j b }
+
+-- the event after the first k leads from the network at position k to the one at the next, by its trace
+pub record FollowsTrail (d : Seen) (k : ℕ) : Type 0 where
+  pub before : Network
+  pub after : Network
+  pub event : Event
+  pub rows : Rows
+  pub is_before : slice_get (networks_of d.net) k ≡ Some before
+  pub is_after : slice_get (networks_of d.net) (k + 1) ≡ Some after
+  pub is_event : slice_get d.schedule k ≡ Some event
+  pub is_trace : slice_get d.traces k ≡ Some rows
+  pub step : StepIn before event after rows.rows
+
+-- There are a network and a trace for each event up to the position, and each network follows from the one before.
+pub record IsOnTrail (d : Seen) : Type 0 where
+  pub count : length d.net.earlier ≡ length d.traces
+  pub within : length d.traces ≤ length d.schedule
+  pub short : length d.schedule ≤ 100000
+  pub places : length d.breaks ≡ 256
+  pub follows : (k : ℕ) → k < length d.traces → FollowsTrail d k
+
+-- The position is n, and all else is as it was: names, start, schedule and breakpoints.
+pub record IsMoved (old new : Seen) (n : ℕ) : Type 0 where
+  pub names : new.net.names ≡ old.net.names
+  pub start : start_of new ≡ start_of old
+  pub schedule : new.schedule ≡ old.schedule
+  pub breaks : new.breaks ≡ old.breaks
+  pub position : length new.traces ≡ n

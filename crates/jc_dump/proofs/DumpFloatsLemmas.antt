@@ -1,0 +1,35 @@
+-- No dump has a float.
+use Rattle.std.proofs.Common.{◌≡◌, ℕ, List, [], ◌∷◌, ◌++◌, map, codes, false, refl}
+use Rattle.serde_json.specs.Data.{Data}
+use Rattle.serde_json.specs.Written.{has_float}
+use Rattle.jc_rules.specs.declared.id.Id.{Id}
+use Rattle.jc_rules.specs.declared.value.Value.{Value}
+use Rattle.jc_rules.specs.Context.{Context}
+use Rattle.jc_rules.specs.State.{Bound, ACursor, Names, Pairs}
+use Rattle.jc_json.specs.Json.{key_text, tagged_text, object_of, texts_data}
+use Rattle.jc_json.proofs.JsonFloatsLemmas.{object_float, all-map, texts_float, ids_float, value_float, context_float}
+use Rattle.jc_cursor.specs.Bounds.{vars_of}
+use Rattle.jc_dump.specs.declared.dump.Shown.{Shown}
+use Rattle.jc_dump.specs.Dump.{cursor_data, pairs_data, bound_data, var_member, vars_data}
+use Rattle.jc_dump.specs.DumpParts.{shown_members}
+
+pairs_float : (names : List (List ℕ)) (pairs : List (Id × Value)) → has_float (pairs_data names pairs) ≡ false
+pairs_float names [] = refl
+pairs_float names (e ∷ es) = rw (value_float e.1) (pairs_float names es)
+
+one_float : (k : List ℕ) (d : Data) → has_float d ≡ false → has_float (object_of ((k, d) ∷ [])) ≡ false
+one_float k d h = object_float ((k, d) ∷ []) (h, tt)
+
+bound_float : (names : List (List ℕ)) (b : Bound) → has_float (bound_data names b) ≡ false
+bound_float names (ACursor c) = one_float (codes "cursor") (cursor_data names c) (texts_float (map (λ t. tagged_text names t) c.path ++ key_text names c.last ∷ []))
+bound_float names (Names keys) = one_float (codes "keys") (texts_data keys) (texts_float keys)
+bound_float names (Pairs pairs) = one_float (codes "values") (pairs_data names pairs) (pairs_float names pairs)
+
+vars_float : (names : List (List ℕ)) (vars : List (List ℕ × Bound)) → has_float (vars_data names vars) ≡ false
+vars_float names vars = object_float (map (var_member names) vars) (all-map (var_member names) (λ e. bound_float names e.1) vars)
+
+pub shown_float : (names : List (List ℕ)) (shown : Shown) (tree : Context) → has_float (object_of (shown_members names shown tree)) ≡ false
+unfolding shown_members
+shown_float names shown tree =
+    object_float (shown_members names shown tree)
+    (refl, (refl, (refl, (ids_float names shown.ops.now, (ids_float names shown.queue.now, (ids_float names shown.recv.now, (ids_float names shown.send.now, (context_float names tree, (vars_float names (vars_of shown.vars.now), tt)))))))))

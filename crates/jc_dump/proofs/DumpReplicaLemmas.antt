@@ -1,0 +1,41 @@
+-- What is shown of the state that a replica keeps.
+use Rattle.std.proofs.Common.{◌≡◌, ℕ, List, Some, slice_get, map, length, sym, ◌∙◌, ap}
+use Rattle.std.proofs.lemmas.List.{length-map}
+use Rattle.std.proofs.lemmas.Option.{same_Some}
+use Rattle.jc_rules.specs.declared.id.Id.{Id}
+use Rattle.jc_rules.specs.declared.operation.Op.{Op}
+use Rattle.jc_rules.specs.Context.{Context}
+use Rattle.jc_rules.specs.State.{State}
+use Rattle.jc_vectors.specs.StoredStates.{stored_state}
+use Rattle.jc_syntax.specs.declared.tree.Cmd.{Cmd}
+use Rattle.jc_syntax.specs.Trees.{cmd_of}
+use Rattle.jc_cursor.specs.Bounds.{vars_of}
+use Rattle.jc_replica.specs.ReplicaHistory.{Past}
+use Rattle.jc_network.proofs.AppliedIdsLemmas.{kept_ids}
+use Rattle.jc_network.specs.Steps.{HasReplica}
+use Rattle.jc_dump.specs.declared.dump.Shown.{Shown}
+use Rattle.jc_dump.specs.Dump.{ids_of_dumped}
+use Rattle.jc_dump.specs.DumpParts.{HasParts}
+
+-- the parts of the state K that is kept for A are shown
+pub parts_kept : (A K : State) (shown : Shown) (tree : Context) (left : List Cmd) (ops : List Id) (queue recv send : List Op) → K ≡ stored_state A
+    → shown.acted ≡ K.acted → shown.left ≡ length left → map cmd_of left ≡ K.left
+    → shown.ops.now ≡ ops → ops ≡ A.ops
+    → shown.queue.now ≡ ids_of_dumped queue → queue ≡ K.queue
+    → shown.recv.now ≡ ids_of_dumped recv → recv ≡ K.recv
+    → shown.send.now ≡ ids_of_dumped send → send ≡ K.send
+    → tree ≡ K.tree → vars_of shown.vars.now ≡ K.vars → HasParts A shown tree
+parts_kept A K shown tree left ops queue recv send k acted n l o o2 q q2 r r2 s s2 t v = record {
+  acted = sym (acted ∙ ap (λ (S : State). S.acted) k);
+  left = sym (n ∙ (sym (length-map left cmd_of) ∙ ap length (l ∙ ap (λ (S : State). S.left) k)));
+  ops = sym (o ∙ o2);
+  queue = sym (q ∙ ap ids_of_dumped (q2 ∙ ap (λ (S : State). S.queue) k) ∙ kept_ids A.queue);
+  recv = sym (r ∙ ap ids_of_dumped (r2 ∙ ap (λ (S : State). S.recv) k) ∙ kept_ids A.recv);
+  send = sym (s ∙ ap ids_of_dumped (s2 ∙ ap (λ (S : State). S.send) k) ∙ kept_ids A.send);
+  tree_is = sym (t ∙ ap (λ (S : State). S.tree) k);
+  vars = sym (v ∙ ap (λ (S : State). S.vars) k);
+}
+
+-- what a network keeps of its replica
+pub of_replica : (network : List State) (p : ℕ) (past : Past) (A : State) → HasReplica network p past → slice_get network p ≡ Some A → past.now ≡ stored_state A
+of_replica network p past A has there = has.kept ∙ ap stored_state (same_Some has.at A (sym has.there ∙ there))

@@ -1,0 +1,56 @@
+-- The lines of stuck events, from the number, the key and the event that are told.
+use Rattle.std.proofs.Common.{◌≡◌, ℕ, List, [], ◌++◌, Some, None, codes, decimal, append-nil, append_assoc, refl, sym, ◌∙◌, ap}
+use Rattle.jc_rules.specs.declared.key.Tagged.{Tagged}
+use Rattle.jc_rules.specs.declared.operation.Event.{Event}
+use Rattle.jc_rules.specs.declared.refusal.Refusal.{Refusal}
+use Rattle.jc_rules.specs.Refusals.{refusal_number, refusal_name}
+use Rattle.jc_rules.specs.Refused.{Cause, because, no_node, refusal_of}
+use Rattle.jc_rules.proofs.RefusalsLemmas.{numbers_differ}
+use Rattle.jc_printer.specs.Canon.{canon_event}
+use Rattle.jc_network.specs.declared.fault.Stuck.{Stuck}
+use Rattle.jc_network.specs.Steps.{stuck_for, key_of_event}
+use Rattle.jc_json.specs.Json.{tagged_text}
+use Rattle.jc_dump.specs.Lines.{absent_text, stuck_text}
+
+absent_none : (names : List (List ℕ)) (why : Cause) → key_of_event why ≡ None → absent_text names why ≡ []
+absent_none names (because r) e = refl
+absent_none names (no_node k) e = cc
+
+absent_some : (names : List (List ℕ)) (why : Cause) (k : Tagged) → key_of_event why ≡ Some k → absent_text names why ≡ tagged_text names k ++ codes " "
+absent_some names (because r) k e = cc
+absent_some names (no_node j) k e = let same : j ≡ k = cc in ap (λ t. tagged_text names t ++ codes " ") same
+
+-- the words before the key
+abbrev front : ℕ → List ℕ → List ℕ
+front number cause = codes "stuck " ++ decimal number ++ codes " " ++ cause ++ codes " "
+
+told : (r : Refusal) (n : ℕ) (why : Cause) → refusal_number r ≡ n → n ≡ refusal_number (refusal_of why) → r ≡ refusal_of why
+told r n why e f = numbers_differ r (refusal_of why) (e ∙ f)
+
+module _ (names : List (List ℕ)) (s : Stuck) (why : Cause) (event : Event) (is : s ≡ stuck_for why event) (r : Refusal) (e : refusal_number r ≡ s.number) where
+  refusal_is : r ≡ refusal_of why
+  refusal_is = told r s.number why e (ap (λ (x : Stuck). x.number) is)
+
+  event_is : canon_event names s.event ≡ canon_event names event
+  event_is = ap (λ (x : Stuck). canon_event names x.event) is
+
+  -- without a key
+  pub line_without : (n : ℕ) (cause text shown : List ℕ) → s.key ≡ None → n ≡ refusal_number r → cause ≡ refusal_name r → text ≡ canon_event names s.event → shown ≡ codes "stuck " ++ decimal n ++ codes " " ++ cause ++ codes " " ++ text ++ codes "\n" → shown ≡ stuck_text names why event
+  line_without n cause text shown none num name t line =
+      line
+      ∙ ap (λ m. front m cause ++ text ++ codes "\n") (num ∙ ap refusal_number refusal_is)
+      ∙ ap (λ c. front (refusal_number (refusal_of why)) c ++ text ++ codes "\n") (name ∙ ap refusal_name refusal_is)
+      ∙ ap (λ t. front (refusal_number (refusal_of why)) (refusal_name (refusal_of why)) ++ t ++ codes "\n") (t ∙ event_is)
+      ∙ ap (λ f. f ++ canon_event names event ++ codes "\n") (sym (append-nil (front (refusal_number (refusal_of why)) (refusal_name (refusal_of why)))))
+      ∙ ap (λ k. front (refusal_number (refusal_of why)) (refusal_name (refusal_of why)) ++ k ++ canon_event names event ++ codes "\n") (sym (absent_none names why (sym (ap (λ (x : Stuck). x.key) is) ∙ none)))
+
+  -- with one
+  pub line_with : (n : ℕ) (k : Tagged) (cause key text shown : List ℕ) → s.key ≡ Some k → n ≡ refusal_number r → cause ≡ refusal_name r → key ≡ tagged_text names k → text ≡ canon_event names s.event → shown ≡ codes "stuck " ++ decimal n ++ codes " " ++ cause ++ codes " " ++ key ++ codes " " ++ text ++ codes "\n" → shown ≡ stuck_text names why event
+  line_with n k cause key text shown some num name kt t line =
+      line
+      ∙ ap (λ m. front m cause ++ key ++ codes " " ++ text ++ codes "\n") (num ∙ ap refusal_number refusal_is)
+      ∙ ap (λ c. front (refusal_number (refusal_of why)) c ++ key ++ codes " " ++ text ++ codes "\n") (name ∙ ap refusal_name refusal_is)
+      ∙ ap (λ t. front (refusal_number (refusal_of why)) (refusal_name (refusal_of why)) ++ key ++ codes " " ++ t ++ codes "\n") (t ∙ event_is)
+      ∙ ap (λ x. front (refusal_number (refusal_of why)) (refusal_name (refusal_of why)) ++ x ++ codes " " ++ canon_event names event ++ codes "\n") kt
+      ∙ ap (λ x. x ++ canon_event names event ++ codes "\n") (append_assoc (front (refusal_number (refusal_of why)) (refusal_name (refusal_of why))) (tagged_text names k) (codes " "))
+      ∙ ap (λ x. front (refusal_number (refusal_of why)) (refusal_name (refusal_of why)) ++ x ++ canon_event names event ++ codes "\n") (sym (absent_some names why k (sym (ap (λ (x : Stuck). x.key) is) ∙ some)))

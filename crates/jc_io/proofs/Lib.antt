@@ -1,0 +1,2 @@
+pub mod StreamsReadLemmas
+pub mod StreamsWriteLemmas

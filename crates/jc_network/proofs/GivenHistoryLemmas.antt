@@ -1,0 +1,113 @@
+-- Given events lead from one network to another, and aren't passed on the way back.
+use Rattle.std.proofs.Common.{◌≡◌, ℕ, ◌+◌, ◌<◌, ◌≤◌, Result, Err, List, [], ◌∷◌, ◌++◌, length, take, get_or, refl, sym, ◌∙◌, ap, subst, arith}
+use Rattle.std.proofs.lemmas.List.{take_more, take_all, length-map}
+use Rattle.std.proofs.lemmas.Option.{slice_get-get_or}
+use Rattle.jc_rules.specs.declared.operation.Event.{Event}
+use Rattle.jc_rules.specs.declared.version.Version.{Version}
+use Rattle.jc_rules.specs.State.{start}
+use Rattle.jc_rules.specs.Step.{Network, AfterIn}
+use Rattle.jc_rules.specs.Trace.{Rows}
+use Rattle.jc_rules.proofs.VersionLemmas.{after_states}
+use Rattle.jc_replica.specs.ReplicaHistory.{Past}
+use Rattle.jc_scenario.specs.WellFormed.{Scenario}
+use Rattle.jc_network.specs.declared.fault.StartFault.{StartFault}
+use Rattle.jc_network.specs.declared.fault.StartFault.TheVariants as S
+use Rattle.jc_network.specs.declared.fault.StepFault.{StepFault}
+use Rattle.jc_network.specs.declared.fault.StepFault.TheVariants as E
+use Rattle.jc_network.specs.declared.fault.Stuck.{Stuck}
+use Rattle.jc_network.specs.NetworkHistory.{Course, StepsTo, network_of, of_version}
+use Rattle.jc_network.specs.Given.{before_given, IsStart, IsGivenFault}
+use Rattle.jc_network.specs.Laws.{starts, IsReached}
+use Rattle.jc_network.specs.Steps.{IsStuckFor}
+use Rattle.jc_network.specs.Invariant.{IsKeptNet}
+use Rattle.jc_network.proofs.AfterLemmas.{after_more, after_end, after_count}
+use Rattle.jc_network.proofs.InvariantLemmas.{now_in_run, length_end}
+
+-- ---- the start of a scenario
+
+-- it is reached from its scripts
+pub start_reached : (s : Scenario) (network : Network) → IsStart s network → IsReached s.scripts network.states
+start_reached s network h = (s.given, after_states (before_given s) s.given network h)
+
+-- with a replica for each script
+pub start_each : (s : Scenario) (network : Network) → IsStart s network → length network.states ≡ length s.scripts
+start_each s network h =
+    after_count (starts s.scripts) s.given network.states (after_states (before_given s) s.given network h) ∙ length-map s.scripts start
+
+-- ---- one given event after another
+
+-- The first i of the given events have led from the one to the other, which has counted them.
+pub record HaveLed (first now : Course) (given : List Event) (i : ℕ) : Type 0 where
+  pub after : AfterIn first.network (take i given) now.network
+  pub counted : length now.earlier ≡ i
+  pub names : now.names ≡ first.names
+
+pub led_none : (first : Course) (given : List Event) → first.earlier ≡ [] → HaveLed first first given 0
+led_none first given e = record { after = refl; counted = ap length e; names = refl }
+
+pub led_more : (first old new : Course) (given : List Event) (i : ℕ) (d : Event) (rows : Rows) → i < length given → HaveLed first old given i → StepsTo old (get_or given i d) new rows → HaveLed first new given (i + 1)
+led_more first old new given i d rows l h s =
+    let event = get_or given i d in
+    let front : take (i + 1) given ≡ take i given ++ event ∷ [] = take_more given i d l in
+    let more : length new.earlier ≡ length old.earlier + 1 = ap length s.earlier ∙ length_end old.earlier old.network in
+    let c = h.counted in
+    record {
+      after = subst (λ (es : List Event). AfterIn first.network es new.network) (sym front) (after_end first.network (take i given) old.network new.network event rows.rows h.after s.step);
+      counted = omega (arith, more, c);
+      names = s.names ∙ h.names;
+    }
+
+-- so many steps don't fill it
+pub led_short : (first now : Course) (given : List Event) (i : ℕ) → i < length given → length given ≤ 100000 → HaveLed first now given i → 100000 ≤ length now.earlier → ⊥
+led_short first now given i l m h f = let c = h.counted in absurd (omega (arith, l, m, c, f))
+
+pub led_all : (first now : Course) (given : List Event) (i : ℕ) → length given ≡ i → HaveLed first now given i → AfterIn first.network given now.network
+led_all first now given i n h = subst (λ (es : List Event). AfterIn first.network es now.network) (take_all i given (omega (arith, n))) h.after
+
+led_stuck : (first now : Course) (given : List Event) (i : ℕ) (d : Event) (at : ℕ) (s : Stuck) → i < length given → HaveLed first now given i → at ≡ i + 1 → IsStuckFor now.network (get_or given i d) s → IsGivenFault first.network given at s
+led_stuck first now given i d at s l h n stuck = record {
+  event = get_or given i d;
+  why = stuck.why;
+  is = stuck.is;
+  stuck = record {
+    before = i;
+    network = now.network;
+    at_is = n;
+    led = h.after;
+    is = slice_get-get_or given i d l;
+    stuck = stuck.stuck;
+  };
+}
+
+-- what is told of the first that is stuck
+pub lead_fails : {X : Type 0} (first now : Course) (given : List Event) (i n : ℕ) (d : Event) (r : Result X StepFault) (t : Stuck) → i < length given → n ≡ i → HaveLed first now given i → ((s : Stuck) → r ≡ Err (E.Stuck s) → IsStuckFor now.network (get_or given i d) s) → r ≡ Err (E.Stuck t) → (at : ℕ) (s : Stuck) → ◌≡◌ {A = Result (Unit {0}) StartFault} (Err (S.Given (n + 1) t)) (Err (S.Given at s)) → IsGivenFault first.network given at s
+lead_fails first now given i n d r t l c h told is at s e =
+    let place : n + 1 ≡ at = cc in
+    let same : t ≡ s = cc in
+    let number : at ≡ i + 1 = sym place ∙ ap (λ (k : ℕ). k + 1) c in
+    led_stuck first now given i d at s l h number (subst (IsStuckFor now.network (get_or given i d)) same (told t is))
+
+-- a network whose steps so far aren't counted is kept all the same
+pub begun : (version : Version) (count : ℕ) (whose : List ℕ) (ps : List Past) → IsKeptNet version count whose ps → IsKeptNet version count [] ps
+begun version count whose ps h =
+    let run = now_in_run version count whose ps h in
+    let now = of_version version (network_of ps) in
+    record {
+      each = h.each;
+      numbered = h.numbered;
+      backed = tt;
+      scripts = h.scripts;
+      first = network_of ps;
+      runs = (
+        record {
+          short = run.short;
+          given = run.given ++ run.events;
+          before = after_more (of_version version (starts h.scripts)) run.given (of_version version h.first) run.events now run.before run.led;
+          events = [];
+          led = refl;
+          set = run.set;
+          seen = run.seen;
+        },
+        refl,
+      );
+    }

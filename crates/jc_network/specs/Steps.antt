@@ -1,0 +1,125 @@
+-- What a network's call answers that makes an event.
+use Rattle.std.specs.Prelude.{◌≡◌, ◌≤◌, ◌<◌, ◌⊎◌, ℕ, List, [], Option, Some, None, Result, Ok, Err, length, slice_get, slice_set}
+use Rattle.jc_rules.specs.declared.key.Tagged.{Tagged}
+use Rattle.jc_rules.specs.declared.operation.Event.{Event}
+use Rattle.jc_rules.specs.declared.operation.Event.TheVariants as V
+use Rattle.jc_rules.specs.declared.operation.Op.{Op}
+use Rattle.jc_rules.specs.declared.id.Id.{Id}
+use Rattle.jc_rules.specs.declared.refusal.Refusal.TheVariants.{NoSuchReplica, WrongVersion}
+use Rattle.jc_rules.specs.declared.version.Version.{Version}
+use Rattle.jc_rules.specs.Refusals.{refusal_number}
+use Rattle.jc_rules.specs.Refused.{Cause, because, no_node, refusal_of, IsStuckIn}
+use Rattle.jc_rules.specs.State.{State}
+use Rattle.jc_rules.specs.Step.{replica_of, read_by, Network}
+use Rattle.jc_rules.specs.Version.{Allows}
+use Rattle.jc_rules.specs.Trace.{Rows}
+use Rattle.jc_vectors.specs.StoredStates.{stored_state}
+use Rattle.jc_replica.specs.declared.fault.ReplicaFault.{ReplicaFault}
+use Rattle.jc_replica.specs.Answers.{AnswersEvent, RefusedFor}
+use Rattle.jc_replica.specs.Operations.{AreHanded, AreOfOne}
+use Rattle.jc_replica.specs.ReplicaHistory.{Past}
+use Rattle.jc_network.specs.declared.fault.StepFault.{StepFault}
+use Rattle.jc_network.specs.declared.fault.StepFault.TheVariants as E
+use Rattle.jc_network.specs.declared.fault.Stuck.{Stuck}
+use Rattle.jc_network.specs.NetworkHistory.{kept_of}
+use Rattle.jc_network.specs.Refines.{IsAsked}
+
+-- ---- stuck events
+
+abbrev pub key_of_event : Cause → Option Tagged
+key_of_event (because refusal) = None
+key_of_event (no_node k) = Some k
+
+-- the number, the key and the event
+abbrev pub stuck_for : Cause → Event → Stuck
+stuck_for why event = record { number = refusal_number (refusal_of why); key = key_of_event why; event = event }
+
+-- The event is stuck in the network, for this cause.
+pub record IsStuckFor (network : Network) (event : Event) (s : Stuck) : Type 0 where
+  pub why : Cause
+  pub stuck : IsStuckIn network event why
+  pub is : s ≡ stuck_for why event
+
+-- for the cause, or for want of memory
+abbrev pub fault_for : Option Cause → Event → StepFault
+fault_for (Some why) event = E.Stuck (stuck_for why event)
+fault_for None event = E.Memory
+
+-- ---- a replica of the network
+
+-- what replica p keeps, and the state for which that stands
+pub record HasReplica (network : List State) (p : ℕ) (past : Past) : Type 0 where
+  pub at : State
+  pub there : slice_get network p ≡ Some at
+  pub number : past.number ≡ p
+  pub kept : past.now ≡ stored_state at
+
+-- ---- one call
+
+-- what a replica offers
+abbrev pub sent_by : Option Past → List Op
+sent_by None = []
+sent_by (Some past) = past.now.send
+
+-- what replicas offer may be handed on
+abbrev pub AllHand : List Past → Type 0
+AllHand ps = (q : ℕ) (past : Past) → slice_get ps q ≡ Some past → AreHanded past.now.send
+
+-- what each offers is one replica's own
+abbrev pub AllOwn : List Past → Type 0
+AllOwn ps = (q : ℕ) (past : Past) → slice_get ps q ≡ Some past → AreOfOne past.now.send
+
+-- Replica p answered the event, and no other replica changed.
+pub record Moves (p : ℕ) (event : Event) (read : List Op) (old new : List Past) (result : Result Rows ReplicaFault) : Type 0 where
+  pub before : Past
+  pub after : Past
+  pub there : slice_get old p ≡ Some before
+  pub now : new ≡ slice_set old p after
+  pub answers : AnswersEvent event read before after result
+
+-- the event's replica answered it
+pub record ActsReplica (event : Event) (old new : List Past) (result : Result Rows ReplicaFault) : Type 0 where
+  pub read : List Op
+  pub reads : read_by event (kept_of old) ≡ Some read
+  pub moves : Moves (replica_of event) event read old new result
+
+-- the event in which replica p receives from q: all that it offers, or the operation with the identifier
+abbrev pub receiving_event : ℕ → Option Id → ℕ → Event
+receiving_event q None p = V.Recv p q
+receiving_event q (Some i) p = V.Take p q i
+
+-- the replica from which the event receives
+abbrev pub sender_of : Event → Option ℕ
+sender_of (V.Recv p q) = Some q
+sender_of (V.Take p q i) = Some q
+sender_of event = None
+
+-- the replicas that the event names are there
+abbrev pub HasReplicas : Event → List Past → Type 0
+HasReplicas event ps =
+    (replica_of event < length ps) × ((q : ℕ) → sender_of event ≡ Some q → q < length ps)
+
+-- one of them isn't
+abbrev pub IsMissing : Event → List Past → Type 0
+IsMissing event ps =
+    (length ps ≤ replica_of event) ⊎ ((q : ℕ) × (sender_of event ≡ Some q) × (length ps ≤ q))
+
+-- the event's replica refuses it
+pub record IsRefusedBy (event : Event) (ps : List Past) (why : Cause) : Type 0 where
+  pub read : List Op
+  pub past : Past
+  pub asked : IsAsked (kept_of ps) event read past
+  pub refuses : RefusedFor event read past why
+
+-- The event isn't made by a network of the version, for this cause.
+pub data Stops (version : Version) (event : Event) (ps : List Past) : Cause → Type 0 where
+  stops_missing : IsMissing event ps → Stops version event ps (because NoSuchReplica)
+  stops_version : HasReplicas event ps → (Allows event version → ⊥) → Stops version event ps (because WrongVersion)
+  stops_refused : {why : Cause} → Allows event version → IsRefusedBy event ps why → Stops version event ps why
+
+abbrev pub MakesStep : Version → Event → List Past → List Past → Result Rows StepFault → Type 0
+MakesStep version event old new (Ok rows) = Allows event version × ActsReplica event old new (Ok rows)
+MakesStep version event old new (Err (E.Stuck s)) =
+    (new ≡ old) × (why : Cause) × (s ≡ stuck_for why event) × Stops version event old why
+MakesStep version event old new (Err E.Memory) = new ≡ old
+MakesStep version event old new (Err E.Full) = ⊥

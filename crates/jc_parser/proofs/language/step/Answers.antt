@@ -1,7 +1,0 @@
-use Rattle.std.proofs.Common.{rules}
-use Rattle.jc_parser.specs.LanguageParts.{step_at}
-use Rattle.jc_parser.proofs.language.step.Goals as goal
-
-pub returns-then-begins_word-3 : goal.returns-then-begins_word-3
-unfolding step_at
-returns-then-begins_word-3 c = search rules

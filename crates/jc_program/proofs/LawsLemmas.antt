@@ -1,0 +1,128 @@
+-- A run is a function of its bytes.
+use Rattle.std.proofs.Common.{◌≡◌, ℕ, inl, inr, List, [], ◌∷◌, ◌++◌, take, Bool, false, Option, Some, None, Result, Ok, Err, refl, sym, ◌∙◌, ap, subst}
+use Rattle.std.proofs.lemmas.Option.{same_Some}
+use Rattle.jc_rules.specs.declared.operation.Event.{Event}
+use Rattle.jc_rules.specs.Refused.{IsStuckIn}
+use Rattle.jc_rules.specs.Refusals.{refusal_number as refusal_number}
+use Rattle.jc_rules.specs.Step.{Network, StepIn}
+use Rattle.jc_rules.specs.Laws.{OneStepIn, StuckInHasNone, OneStuckIn, NumbersDiffer}
+use Rattle.jc_parser.specs.declared.fault.ScenarioFault.{ScenarioFault}
+use Rattle.jc_scenario.specs.Laws.{OneScenario, ScenarioOrFault, OneFault}
+use Rattle.jc_scenario.specs.WellFormed.{Scenario}
+use Rattle.jc_network.specs.Given.{before_given, IsStart, OneStart, OneGivenStuck, LedOrStuck}
+use Rattle.jc_dump.specs.Texts.{refused_text, given_text}
+use Rattle.jc_dump.specs.Texts.{dumps_text}
+use Rattle.jc_view.specs.Visible.{views_text}
+use Rattle.jc_program.specs.Runs.{Made, GoesBy, EndsAt, Stuck, Plays, events_of, events_text, stuck_line, status_of}
+use Rattle.jc_cli.specs.declared.order.View.{View}
+use Rattle.jc_cli.specs.declared.order.View.TheVariants.{Check, Print, Run, Document}
+use Rattle.jc_program.specs.ViewText.{ReadsAs, RanThrough, ViewedThrough, IsGivenShown, Shows, IsRefused, RanOn}
+
+first_same : {X : Type 0} (x y : X) (xs ys : List X) → x ∷ xs ≡ y ∷ ys → x ≡ y
+first_same x y xs ys e = cc
+
+rest_same : {X : Type 0} (x y : X) (xs ys : List X) → x ∷ xs ≡ y ∷ ys → xs ≡ ys
+rest_same x y xs ys e = cc
+
+module _ (one_step : OneStepIn) (stuck_has_none : StuckInHasNone) (one_stuck : OneStuckIn) where
+  -- no event is made where the next is stuck or none is left
+  no_more : (es : List Event) (network : Network) (m : Made) (made : List Made) (stuck other_stuck : Option Stuck) (last : Network) → EndsAt es [] network stuck → GoesBy network (m ∷ made) last → EndsAt es (m ∷ made) last other_stuck → ⊥
+  no_more es network m made None None last a goes b = let e : [] ≡ events_of (m ∷ made) = sym a ∙ b in cc
+  no_more es network m made None (Some (event, why)) last a goes b = let e : [] ≡ m.0 ∷ (events_of made ++ event ∷ b.0) = sym a ∙ b.1 in cc
+  no_more es network m made (Some (event, why)) None last a goes b =
+      let same : event ≡ m.0 = first_same event m.0 a.0 (events_of made) (sym a.1 ∙ b) in
+      stuck_has_none network goes.0 m.0 why m.1 (subst (λ (x : Event). IsStuckIn network x why) same a.2) goes.1
+  no_more es network m made (Some (event, why)) (Some (next, other_why)) last a goes b =
+      let same : event ≡ m.0 = first_same event m.0 a.0 (events_of made ++ next ∷ b.0) (sym a.1 ∙ b.1) in
+      stuck_has_none network goes.0 m.0 why m.1 (subst (λ (x : Event). IsStuckIn network x why) same a.2) goes.1
+
+  -- where nothing was made, the same is stuck
+  same_end : (es : List Event) (network : Network) (stuck other : Option Stuck) → EndsAt es [] network stuck → EndsAt es [] network other → stuck ≡ other
+  same_end es network None None a b = refl
+  same_end es network None (Some (event, why)) a b = let e : [] ≡ event ∷ b.0 = sym a ∙ b.1 in cc
+  same_end es network (Some (event, why)) None a b = let e : [] ≡ event ∷ a.0 = sym b ∙ a.1 in cc
+  same_end es network (Some (event, why)) (Some (next, other)) a b =
+      let same : event ≡ next = first_same event next a.0 b.0 (sym a.1 ∙ b.1) in
+      let cause : why ≡ other = one_stuck network next why other (subst (λ (x : Event). IsStuckIn network x why) same a.2) b.2 in
+      rw (same, cause) refl
+
+  -- the events of a run are made in order
+  head_made : (es : List Event) (m : Made) (made : List Made) (last : Network) (stuck : Option Stuck) → EndsAt es (m ∷ made) last stuck → (rest : List Event) × (es ≡ m.0 ∷ rest) × EndsAt rest made last stuck
+  head_made es m made last None a = (events_of made, a, refl)
+  head_made es m made last (Some (event, why)) a = (events_of made ++ event ∷ a.0, a.1, (a.0, refl, a.2))
+
+  -- from one network a schedule is played in one way
+  pub same_play : (es : List Event) (network last other : Network) (made others : List Made) (stuck other_stuck : Option Stuck) → GoesBy network made last → EndsAt es made last stuck → GoesBy network others other → EndsAt es others other other_stuck → (made ≡ others) × (last ≡ other) × (stuck ≡ other_stuck)
+  same_play es network last other [] [] stuck other_stuck goes a goes' b =
+      (refl, goes ∙ sym goes', same_end es network stuck other_stuck (subst (λ (n : Network). EndsAt es [] n stuck) goes a) (subst (λ (n : Network). EndsAt es [] n other_stuck) goes' b))
+  same_play es network last other [] (m ∷ others) stuck other_stuck goes a goes' b =
+      absurd (no_more es network m others stuck other_stuck other (subst (λ (n : Network). EndsAt es [] n stuck) goes a) goes' b)
+  same_play es network last other (m ∷ made) [] stuck other_stuck goes a goes' b =
+      absurd (no_more es network m made other_stuck stuck last (subst (λ (n : Network). EndsAt es [] n other_stuck) goes' b) goes a)
+  same_play es network last other (m ∷ made) (k ∷ others) stuck other_stuck goes a goes' b =
+      let x = head_made es m made last stuck a in
+      let y = head_made es k others other other_stuck b in
+      let event : m.0 ≡ k.0 = first_same m.0 k.0 x.0 y.0 (sym x.1 ∙ y.1) in
+      let rest : x.0 ≡ y.0 = rest_same m.0 k.0 x.0 y.0 (sym x.1 ∙ y.1) in
+      let step = subst (λ (e : Event). StepIn network e goes.0 m.1) event goes.1 in
+      let same = one_step network k.0 goes.0 goes'.0 m.1 k.1 step goes'.1 in
+      let more = same_play y.0 goes'.0 last other made others stuck other_stuck (subst (λ (n : Network). GoesBy n made last) same.0 goes.2) (subst (λ (r : List Event). EndsAt r made last stuck) rest x.2) goes'.2 y.2 in
+      let first : m ≡ k = (λ i. (event i, same.1 i)) in
+      ((λ i. first i ∷ more.0 i), more.1, more.2)
+
+  module _ (one_start : OneStart) (one_given_stuck : OneGivenStuck) (led_or_stuck : LedOrStuck) where
+    -- a scenario has a start, or a given event is stuck, and not both
+    no_start : (s : Scenario) (start : Network) (out : List ℕ) (status : ℕ) → IsStart s start → IsGivenShown s out status → ⊥
+    no_start s start out status led a = (led_or_stuck s.scripts (before_given s) s.given ([], refl)).1 start a.at a.event a.why led a.stuck
+
+    same_given : (s : Scenario) (shown other : List ℕ) (status other_status : ℕ) → IsGivenShown s shown status → IsGivenShown s other other_status → (shown ≡ other) × (status ≡ other_status)
+    same_given s shown other status other_status a b =
+        let same = one_given_stuck (before_given s) s.given a.at b.at a.event b.event a.why b.why a.stuck b.stuck in
+        (a.written ∙ ((λ i. given_text s.names (same.0 i) (same.2 i) (same.1 i)) ∙ sym b.written), a.ends ∙ sym b.ends)
+
+    same_through : (trace : Bool) (s : Scenario) (shown other : List ℕ) (status other_status : ℕ) → RanThrough trace s shown status → RanThrough trace s other other_status → (shown ≡ other) × (status ≡ other_status)
+    same_through trace s shown other status other_status a b =
+        let q = b.plays in
+        let p = subst (λ (n : Network). Plays trace s.names n s.schedule a.last a.stuck a.blocks) (one_start s a.start b.start a.is_start b.is_start) a.plays in
+        let same = same_play s.schedule b.start a.last b.last p.made q.made a.stuck b.stuck p.goes p.ends q.goes q.ends in
+        let blocks : a.blocks ≡ b.blocks = p.shown ∙ (ap (λ made. events_text trace s.names 1 made) same.0 ∙ sym q.shown) in (
+          a.written ∙ ((λ i. blocks i ++ dumps_text s.names (same.1 i).states ++ stuck_line s.names (same.2 i)) ∙ sym b.written),
+          a.ends ∙ (ap status_of same.2 ∙ sym b.ends),
+        )
+
+    same_viewed : (n : ℕ) (s : Scenario) (shown other : List ℕ) (status other_status : ℕ) → ViewedThrough n s shown status → ViewedThrough n s other other_status → (shown ≡ other) × (status ≡ other_status)
+    same_viewed n s shown other status other_status a b =
+        let q = b.plays in
+        let p = subst (λ (m : Network). Plays false s.names m (take n s.schedule) a.last a.stuck []) (one_start s a.start b.start a.is_start b.is_start) a.plays in
+        let same = same_play (take n s.schedule) b.start a.last b.last p.made q.made a.stuck b.stuck p.goes p.ends q.goes q.ends in (
+          a.written ∙ ((λ i. views_text s.names (same.1 i).states ++ stuck_line s.names (same.2 i)) ∙ sym b.written),
+          a.ends ∙ (ap status_of same.2 ∙ sym b.ends),
+        )
+
+    module _ (one_scenario : OneScenario) (scenario_or_fault : ScenarioOrFault) (one_fault : OneFault) (numbers_differ : NumbersDiffer) where
+      same_refused : (fault : ScenarioFault) (shown other : List ℕ) (status other_status : ℕ) → IsRefused fault shown status → IsRefused fault other other_status → (shown ≡ other) × (status ≡ other_status)
+      same_refused fault shown other status other_status a b =
+          let number = same_Some (refusal_number a.refusal) (refusal_number b.refusal) (sym a.number ∙ b.number) in
+          let refusal = numbers_differ a.refusal b.refusal number in
+          let place = same_Some a.place b.place (sym a.stands ∙ b.stands) in
+          (a.written ∙ ((λ i. refused_text (refusal i) (place i)) ∙ sym b.written), a.ends ∙ sym b.ends)
+
+      same_shown : (view : View) (s : Scenario) (shown other : List ℕ) (status other_status : ℕ) → Shows view s shown status → Shows view s other other_status → (shown ≡ other) × (status ≡ other_status)
+      same_shown Check s shown other status other_status a b = (a.0 ∙ sym b.0, a.1 ∙ sym b.1)
+      same_shown Print s shown other status other_status a b = (a.0 ∙ sym b.0, a.1 ∙ sym b.1)
+      same_shown (Run trace) s shown other status other_status (inl a) (inl b) = same_through trace s shown other status other_status a b
+      same_shown (Run trace) s shown other status other_status (inl a) (inr b) = absurd (no_start s a.start other other_status a.is_start b)
+      same_shown (Run trace) s shown other status other_status (inr a) (inl b) = absurd (no_start s b.start shown status b.is_start a)
+      same_shown (Run trace) s shown other status other_status (inr a) (inr b) = same_given s shown other status other_status a b
+      same_shown (Document n) s shown other status other_status (inl a) (inl b) = same_viewed n s shown other status other_status a b
+      same_shown (Document n) s shown other status other_status (inl a) (inr b) = absurd (no_start s a.start other other_status a.is_start b)
+      same_shown (Document n) s shown other status other_status (inr a) (inl b) = absurd (no_start s b.start shown status b.is_start a)
+      same_shown (Document n) s shown other status other_status (inr a) (inr b) = same_given s shown other status other_status a b
+
+      pub one_run : (view : View) (bytes shown other : List ℕ) (status other_status : ℕ) (read other_read : Result Scenario ScenarioFault) → ReadsAs bytes read → ReadsAs bytes other_read → RanOn view read shown status → RanOn view other_read other other_status → (shown ≡ other) × (status ≡ other_status)
+      one_run view bytes shown other status other_status (Ok s) (Ok t) r q a b =
+          same_shown view t shown other status other_status (subst (λ (x : Scenario). Shows view x shown status) (one_scenario bytes s t r q) a) b
+      one_run view bytes shown other status other_status (Ok s) (Err fault) r q a b = absurd (scenario_or_fault bytes s fault r q)
+      one_run view bytes shown other status other_status (Err fault) (Ok t) r q a b = absurd (scenario_or_fault bytes t fault q r)
+      one_run view bytes shown other status other_status (Err fault) (Err other_fault) r q a b =
+          same_refused other_fault shown other status other_status (subst (λ (f : ScenarioFault). IsRefused f shown status) (one_fault bytes fault other_fault r q) a) b

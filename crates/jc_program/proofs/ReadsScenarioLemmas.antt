@@ -1,0 +1,79 @@
+-- What a scenario's text tells of its scenario.
+use Rattle.std.proofs.Common.{◌≡◌, ◌≢◌, ℕ, ◌<◌, ◌≤◌, inl, inr, List, length, take, Some, None, Result, Ok, Err, IfOk, IfErr, IsErrAnd, IsErrOf, ap, sym, ◌∙◌, subst, arith}
+use Rattle.std.proofs.lemmas.Grind.{common_steps}
+use Rattle.std.proofs.lemmas.Option.{same_Some}
+use Rattle.jc_rules.specs.declared.refusal.Refusal.{Refusal}
+use Rattle.jc_rules.specs.declared.refusal.Refusal.TheVariants as F
+use Rattle.jc_rules.specs.Refusals.{refusal_number as refusal_number}
+use Rattle.jc_parser.specs.declared.fault.ScenarioFault.{ScenarioFault}
+use Rattle.jc_parser.specs.declared.fault.ScenarioFault.TheVariants as S
+use Rattle.jc_parser.specs.Faults.{fault_number}
+use Rattle.jc_scenario.specs.WellFormed.{Scenario}
+use Rattle.jc_cli.specs.declared.order.View.{View}
+use Rattle.jc_program.specs.ViewText.{ReadsAs, Ran}
+
+-- each fault that has a number has that of a refusal
+pub is_refusal : (fault : ScenarioFault) (n : ℕ) → fault_number fault ≡ Some n → ((r : Refusal) → refusal_number r ≢ n) → ⊥
+is_refusal (S.BadByte place) n e h = h F.BadByte (same_Some 1 n e)
+is_refusal (S.OpenString place) n e h = h F.OpenString (same_Some 2 n e)
+is_refusal (S.BadEscape place) n e h = h F.BadEscape (same_Some 3 n e)
+is_refusal (S.LoneSurrogate place) n e h = h F.LoneSurrogate (same_Some 4 n e)
+is_refusal (S.BadNumber place) n e h = h F.BadNumber (same_Some 5 n e)
+is_refusal (S.TextTooLong place) n e h = h F.TextTooLong (same_Some 6 n e)
+is_refusal (S.Unexpected place) n e h = h F.Unexpected (same_Some 7 n e)
+is_refusal (S.EndOfText place) n e h = h F.EndOfText (same_Some 8 n e)
+is_refusal (S.IndexTooLarge place) n e h = h F.IndexTooLarge (same_Some 9 n e)
+is_refusal (S.ReservedName place) n e h = h F.ReservedName (same_Some 10 n e)
+is_refusal (S.TooManyCommands place) n e h = h F.TooManyCommands (same_Some 11 n e)
+is_refusal (S.TooLongExpression place) n e h = h F.TooLongExpression (same_Some 12 n e)
+is_refusal (S.NotUtf8 place) n e h = h F.NotUtf8 (same_Some 13 n e)
+is_refusal (S.NoHeader place) n e h = h F.NoHeader (same_Some 14 n e)
+is_refusal (S.SameName place) n e h = h F.SameName (same_Some 15 n e)
+is_refusal (S.NoReplica place) n e h = h F.NoReplica (same_Some 16 n e)
+is_refusal (S.TooManyReplicas place) n e h = h F.TooManyReplicas (same_Some 17 n e)
+is_refusal (S.UnknownReplica place) n e h = h F.UnknownReplica (same_Some 18 n e)
+is_refusal (S.TooManyEvents place) n e h = h F.TooManyEvents (same_Some 19 n e)
+is_refusal S.Memory n e h = cc
+
+-- want of memory has no number
+pub has_number : (fault : ScenarioFault) (n : ℕ) → fault_number fault ≡ Some n → fault ≢ S.Memory
+has_number fault n e same = let none : None ≡ Some n = sym (ap fault_number same) ∙ e in cc
+
+short_front : (n : ℕ) (b v : List ℕ) → v ≡ take n b → length v < n → v ≡ b
+short_front n b v e h = grind (arith, common_steps)
+
+front_shorter : (n : ℕ) (b v : List ℕ) → v ≡ take n b → length v ≤ length b
+front_shorter n b v e = grind (arith, common_steps)
+
+-- what is read up to one byte over the limit reads as the whole
+pub reads_whole : (n : ℕ) (b v : List ℕ) (r : Result Scenario ScenarioFault) → n ≡ 8388609 → v ≡ take n b → ReadsAs v r → ReadsAs b r
+reads_whole n b v (Ok s) is e h =
+    let limit = h.lexed.0 in
+    let short : length v < n = omega arith in
+    subst (λ (x : List ℕ). ReadsAs x (Ok s)) (short_front n b v e short) h
+reads_whole n b v (Err fault) is e (inl h) =
+    let over = h.0 in
+    let least : length v ≤ length b = front_shorter n b v e in
+    inl (omega arith, h.1)
+reads_whole n b v (Err fault) is e (inr h) =
+    let limit = h.0 in
+    let short : length v < n = omega arith in
+    subst (λ (x : List ℕ). ReadsAs x (Err fault)) (short_front n b v e short) (inr h)
+
+-- a run on what was read is a run on the whole
+pub ran_whole : (view : View) (n : ℕ) (b v out : List ℕ) (status : ℕ) → n ≡ 8388609 → v ≡ take n b → Ran view v out status → Ran view b out status
+ran_whole view n b v out status is e h = (h.0, reads_whole n b v h.0 is e h.1, h.2)
+
+-- more is known of an answer
+pub if_ok : {T E : Type 0} {P Q : T → Type 0} (r : Result T E) → ((v : T) → P v → Q v) → IfOk r P → IfOk r Q
+if_ok (Ok v) f h = f v h
+if_ok (Err e) f h = h
+
+pub if_err : {T E : Type 0} {P Q : E → Type 0} (r : Result T E) → ((e : E) → P e → Q e) → IfErr r P → IfErr r Q
+if_err (Ok v) f h = h
+if_err (Err e) f h = f e h
+
+-- a fault that is handed up
+pub handed : {T U E : Type 0} (f x : E) (r : Result T E) → IsErrAnd r (λ e. e ≡ f) → IsErrOf r x → IsErrOf {T = U} (Err f) x
+handed f x (Ok v) h k = absurd h
+handed f x (Err e) h k = let same : e ≡ x = cc in ap Err (sym h ∙ same)

@@ -1,0 +1,126 @@
+-- What was written before a fault.
+use Rattle.std.proofs.Common.{◌≡◌, ◌≢◌, ◌⊎◌, ℕ, ◌+◌, ◌<◌, ◌≤◌, inl, inr, List, [], ◌∷◌, ◌++◌, length, take, drop, get_or, Bool, Option, Some, None, Result, Ok, Err, IfOk, OnErr, vec_len, refl, ap, sym, ◌∙◌, subst, append_assoc, arith}
+use Rattle.std.proofs.lemmas.List.{take-append-drop}
+use Rattle.std.specs.Io.KnownBytes.{Consumes}
+use Rattle.std.specs.declared.alloc.Global.{Global}
+use Rattle.std.specs.declared.vec.Vec.{Vec}
+use Rattle.jc_io.specs.declared.io.ReadFault.{ReadFault}
+use Rattle.jc_rules.specs.declared.operation.Event.{Event}
+use Rattle.jc_rules.specs.State.{State}
+use Rattle.jc_rules.specs.Step.{Network}
+use Rattle.jc_io.specs.Streams.{ConsumesUpTo, IsPrefixUpTo}
+use Rattle.jc_parser.specs.declared.fault.ScenarioFault.{ScenarioFault}
+use Rattle.jc_parser.specs.declared.fault.ScenarioFault.TheVariants.{Memory as NoMemoryRead}
+use Rattle.jc_scenario.specs.WellFormed.{Scenario}
+use Rattle.jc_network.specs.NetworkHistory.{Course}
+use Rattle.jc_network.specs.Given.{IsStart, IsStarted}
+use Rattle.jc_session.specs.Written.{Stream, Wrote, WrotePart, Written, WrittenInPart}
+use Rattle.jc_session.proofs.WrittenLemmas.{wrote_none, part_after}
+use Rattle.jc_cli.specs.declared.order.View.{View}
+use Rattle.jc_program.specs.declared.fault.WorkFault.{WorkFault}
+use Rattle.jc_program.specs.declared.fault.WorkFault.TheVariants.{Read, Write, TooManyLines, NoThread, Memory}
+use Rattle.jc_program.specs.Runs.{Made, GoesBy, events_of, events_text}
+use Rattle.jc_program.specs.ViewText.{ReadsAs, Ran}
+use Rattle.jc_program.specs.ViewOutput.{IsNext, Begins, IsDueAt, IsDue, Unfinished, blocks, IsUnfinished, HasRun, StopsView, IsStoppedView}
+use Rattle.jc_program.proofs.PlayResultLemmas.{goes_on, events_of-append, split_here, shown_more}
+use Rattle.jc_program.proofs.ReadsScenarioLemmas.{reads_whole, ran_whole, has_number}
+
+-- the events that were made
+pub made_begins : (trace : Bool) (names : List (List ℕ)) (first now : Network) (es : List Event) (i : ℕ) (made : List Made) → GoesBy first made now → take i es ≡ events_of made → Begins trace names first es (events_text trace names 1 made)
+made_begins trace names first now es i made goes taken =
+    record { made = made; more = drop i es; last = now; goes = goes; events = sym (take-append-drop i es) ∙ ap (λ l. l ++ drop i es) taken; shown = refl }
+
+-- those before a want of memory
+pub made_stand : (trace : Bool) (names : List (List ℕ)) (first now : Network) (es : List Event) (i : ℕ) (made : List Made) (a b c : Stream) → GoesBy first made now → take i es ≡ events_of made → Wrote (events_text trace names 1 made) a b → c ≡ b → Written (Begins trace names first es) a c
+made_stand trace names first now es i made a b c goes taken wrote same =
+    (events_text trace names 1 made, made_begins trace names first now es i made goes taken, subst (λ (s : Stream). Wrote (events_text trace names 1 made) a s) (sym same) wrote)
+
+-- those before a failure, and the next one, whose block was begun
+pub next_begun : (trace : Bool) (names : List (List ℕ)) (first now : Network) (es : List Event) (i n : ℕ) (made : List Made) (a b c : Stream) (d : Event)
+    → GoesBy first made now → take i es ≡ events_of made → i < length es → n ≡ length made + 1
+    → Wrote (events_text trace names 1 made) a b → WrittenInPart (IsNext trace names now (get_or es i d) n) b c → WrittenInPart (Begins trace names first es) a c
+next_begun trace names first now es i n made a b c d goes taken inside count wrote (text, (rows, new, step, is), part) =
+    let e : Event = get_or es i d in
+    let m : Made = (e, rows) in (
+      events_text trace names 1 (made ++ m ∷ []),
+      record {
+        made = made ++ m ∷ [];
+        more = drop (i + 1) es;
+        last = new;
+        goes = goes_on first made now e rows new goes step;
+        events = split_here es i made d inside taken ∙ (sym (append_assoc (events_of made) (e ∷ []) (drop (i + 1) es)) ∙ ap (λ l. l ++ drop (i + 1) es) (sym (events_of-append made m)));
+        shown = refl;
+      },
+      subst (λ l. WrotePart l a c) (ap (λ l. events_text trace names 1 made ++ l) is ∙ sym (shown_more trace names made e rows n count)) (part_after a b c (events_text trace names 1 made) text wrote part),
+    )
+
+-- the events that a network began at the start are those of its scenario
+pub begins_from : (trace : Bool) (s : Scenario) (first : Course) (schedule wanted : List Event) (text : List ℕ) → first.names ≡ s.names → schedule ≡ wanted → Begins trace first.names first.network schedule text → Begins trace s.names first.network wanted text
+begins_from trace s first schedule wanted text names events h =
+    subst (λ (ns : List (List ℕ)). Begins trace ns first.network wanted text) names (subst (λ (es : List Event). Begins trace first.names first.network es text) events h)
+
+-- whole texts of what is played from the start, and not all; or nothing
+abbrev pub Unended : Bool → Scenario → List Event → (List State → List ℕ) → List ℕ → Type 0
+Unended trace s wanted lines text = (text ≡ []) ⊎ ((start : Network) × IsStart s start × Unfinished trace s.names start wanted lines text)
+
+module _ (trace : Bool) (s : Scenario) (wanted : List Event) (lines : List State → List ℕ) where
+  -- without memory up to the start
+  pub unstarted : (a b : Stream) → b ≡ a → Written (Unended trace s wanted lines) a b
+  unstarted a b same = ([], inl refl, wrote_none a b same)
+
+  -- and while events are made
+  pub events_stand : (first : Course) (schedule : List Event) (a b : Stream) → IsStarted s first → schedule ≡ wanted → Written (Begins trace first.names first.network schedule) a b → Written (Unended trace s wanted lines) a b
+  events_stand first schedule a b from same h =
+      (h.0, inr (first.network, from.start, blocks (begins_from trace s first schedule wanted h.0 from.names same h.1)), h.2)
+
+-- ---- views of bytes
+
+-- what is due at a fault is due on the bytes that have it
+pub due_at : (view : View) (bytes : List ℕ) (fault : ScenarioFault) (text : List ℕ) → (fault ≢ NoMemoryRead → ReadsAs bytes (Err fault)) → IsDueAt fault text → IsDue view bytes text
+due_at view bytes fault text known h = (Err fault, known (has_number fault _ h.1.number), h)
+
+-- what was begun of the front that was read was begun of the whole
+due_whole : (view : View) (n : ℕ) (b v text : List ℕ) → n ≡ 8388609 → v ≡ take n b → IsDue view v text → IsDue view b text
+due_whole view n b v text is e h = (h.0, reads_whole n b v h.0 is e h.1, h.2)
+
+unfinished_whole : (view : View) (n : ℕ) (b v text : List ℕ) → n ≡ 8388609 → v ≡ take n b → IsUnfinished view v text → IsUnfinished view b text
+unfinished_whole view n b v text is e (inl none) = inl none
+unfinished_whole view n b v text is e (inr h) = inr (h.0, reads_whole n b v (Ok h.0) is e h.1, h.2)
+
+stops_whole : (view : View) (fault : WorkFault) (n : ℕ) (b v : List ℕ) (old new : Stream) → n ≡ 8388609 → v ≡ take n b → StopsView view v fault old new → StopsView view b fault old new
+stops_whole view Read n b v old new is e h = h
+stops_whole view Write n b v old new is e h = (h.0, due_whole view n b v h.0 is e h.1, h.2)
+stops_whole view TooManyLines n b v old new is e h = absurd h
+stops_whole view NoThread n b v old new is e h = absurd h
+stops_whole view Memory n b v old new is e h = (h.0, unfinished_whole view n b v h.0 is e h.1, h.2)
+
+-- the bytes that a source had left, as far as they are told, and a run on them
+pub run_on_front : (view : View) (n : ℕ) (left : Option (List ℕ)) (v : List ℕ) (status : ℕ) (old new : Stream) → n ≡ 8388609 → IsPrefixUpTo n left v → Written (λ text. Ran view v text status) old new → HasRun view left old new status
+run_on_front view n None v status old new is front h = (v, tt, h)
+run_on_front view n (Some bytes) v status old new is front h = (bytes, refl, (h.0, ran_whole view n bytes v h.0 status is front h.1, h.2))
+
+pub stopped_on_front : (view : View) (fault : WorkFault) (n : ℕ) (left : Option (List ℕ)) (v : List ℕ) (old new : Stream) → n ≡ 8388609 → IsPrefixUpTo n left v → StopsView view v fault old new → IsStoppedView view fault left old new
+stopped_on_front view fault n None v old new is front h = (v, tt, h)
+stopped_on_front view fault n (Some bytes) v old new is front h = (bytes, refl, stops_whole view fault n bytes v old new is front h)
+
+-- where nothing was read, nothing was written
+pub unread : (view : View) (left : Option (List ℕ)) (old new : Stream) → new ≡ old → IsStoppedView view Read left old new
+unread view None old new same = ([], tt, same)
+unread view (Some bytes) old new same = (bytes, refl, same)
+
+pub nothing_shown : (view : View) (left : Option (List ℕ)) (old new : Stream) → new ≡ old → IsStoppedView view Memory left old new
+nothing_shown view None old new same = ([], tt, ([], inl refl, wrote_none old new same))
+nothing_shown view (Some bytes) old new same = (bytes, refl, ([], inl refl, wrote_none old new same))
+
+-- ---- what was read
+
+-- what was read was lost, and no more
+pub loses_read : (most : ℕ) (a b : Option (List ℕ)) (bs : List ℕ) → Consumes a b bs → length bs ≤ most → ConsumesUpTo most a b
+loses_read most None b bs h l = (bs, l, tt)
+loses_read most (Some xs) None bs h l = absurd h
+loses_read most (Some xs) (Some ys) bs h l = (bs, l, h)
+
+-- what was read was lost, however the reading ended
+pub loses_however : (most : ℕ) (a b : Option (List ℕ)) (r : Result (Vec ℕ Global) ReadFault) → IfOk r (λ v. Consumes a b v.items) → IfOk r (λ v. vec_len v ≤ most) → OnErr r (ConsumesUpTo most a b) → ConsumesUpTo most a b
+loses_however most a b (Ok v) c l h = loses_read most a b v.items c (omega (arith, l, v.ok.0))
+loses_however most a b (Err e) c l h = h

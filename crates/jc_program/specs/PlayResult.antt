@@ -1,0 +1,35 @@
+-- What playing a schedule answers.
+use Rattle.std.specs.Prelude.{◌≡◌, ℕ, List, Bool, Option, Some, None, length}
+use Rattle.jc_rules.specs.declared.operation.Event.{Event}
+use Rattle.jc_rules.specs.Trace.{Rows}
+use Rattle.jc_printer.specs.Canon.{AreNamed}
+use Rattle.jc_network.specs.declared.fault.Stuck.{Stuck as StuckEvent}
+use Rattle.jc_network.specs.NetworkHistory.{Course, StepsTo}
+use Rattle.jc_network.specs.Steps.{IsStuckFor, stuck_for}
+use Rattle.jc_session.specs.Written.{Stream, Wrote}
+use Rattle.jc_program.specs.Texts.{event_text}
+use Rattle.jc_program.specs.Runs.{Stuck, Plays}
+
+-- The event was made, and what is shown of it was written; or it is stuck, and all is as it was.
+abbrev pub PlaysNext
+    : Bool → Course → Course → ℕ → Event → Stream → Stream → Option StuckEvent → Type 0
+PlaysNext trace old new n event a b None =
+    (rows : Rows) × StepsTo old event new rows × Wrote (event_text trace old.names n event rows.rows) a b
+PlaysNext trace old new n event a b (Some s) = IsStuckFor old.network event s × (new ≡ old) × (b ≡ a)
+
+-- the stuck event, its cause, and that its replicas have names
+abbrev pub Tells : List (List ℕ) → Option StuckEvent → Option Stuck → Type 0
+Tells names None None = Unit {0}
+Tells names (Some s) (Some (event, why)) = (s ≡ stuck_for why event) × AreNamed event (length names)
+Tells names _ _ = ⊥
+
+-- The schedule was played to its end or its first stuck event, and what is shown of its events was written.
+pub record PlaysAll
+    (trace : Bool) (old new : Course) (schedule : List Event)
+    (a b : Stream) (answer : Option StuckEvent) : Type 0 where
+  pub stuck : Option Stuck
+  pub text : List ℕ
+  pub plays : Plays trace old.names old.network schedule new.network stuck text
+  pub tells : Tells old.names answer stuck
+  pub names : new.names ≡ old.names
+  pub written : Wrote text a b

@@ -1,0 +1,140 @@
+-- What a view writes, whole or up to a fault.
+use Rattle.std.specs.Prelude.{◌≡◌, ℕ, ◌<◌, ◌⊎◌, List, [], ◌++◌, length, Bool, false, take, Option, Some, Result, Ok, Err, IfSome, codes, if◌then◌else◌}
+use Rattle.std.specs.Str.{bytes_eq}
+use Rattle.jc_rules.specs.declared.operation.Event.{Event}
+use Rattle.jc_rules.specs.declared.rule.Rule.{Rule}
+use Rattle.jc_rules.specs.State.{State}
+use Rattle.jc_rules.specs.Step.{Network, StepIn}
+use Rattle.jc_parser.specs.declared.fault.ScenarioFault.{ScenarioFault}
+use Rattle.jc_scenario.specs.WellFormed.{Scenario, IsScenario}
+use Rattle.jc_dump.specs.Texts.{dumps_text}
+use Rattle.jc_view.specs.Visible.{views_text}
+use Rattle.jc_session.specs.Written.{Stream, Written, WrittenInPart}
+use Rattle.jc_program.specs.declared.fault.WorkFault.{WorkFault}
+use Rattle.jc_program.specs.declared.fault.WorkFault.TheVariants.{Read, Write, TooManyLines, NoThread, Memory}
+use Rattle.jc_program.specs.Texts.{event_text}
+use Rattle.jc_program.specs.Runs.{Made, Stuck, GoesBy, Plays, events_of, events_text}
+use Rattle.jc_network.specs.Given.{IsStart}
+use Rattle.jc_cli.specs.declared.order.View.{View}
+use Rattle.jc_cli.specs.declared.order.View.TheVariants.{Check, Print, Run, Document}
+use Rattle.jc_program.specs.ViewText.{ReadsAs, Shows, IsRefused, Ran}
+
+-- ---- what is due
+
+-- what is shown of the next event, whose number is n
+abbrev pub IsNext : Bool → List (List ℕ) → Network → Event → ℕ → List ℕ → Type 0
+IsNext trace names network event n text =
+    (rows : List (Rule × ℕ)) × (new : Network)
+    × StepIn network event new rows × (text ≡ event_text trace names n event rows)
+
+-- The first events of a schedule lead from a network to another, and what is shown of them is the text.
+pub record Begins
+    (trace : Bool) (names : List (List ℕ)) (network : Network) (schedule : List Event) (text : List ℕ)
+    : Type 0 where
+  pub made : List Made
+  pub more : List Event
+  pub last : Network
+  pub goes : GoesBy network made last
+  pub events : schedule ≡ events_of made ++ more
+  pub shown : text ≡ events_text trace names 1 made
+
+-- what a run of a scenario shows, whole or as far as its first events
+abbrev pub IsRunDue : Bool → Scenario → List ℕ → Type 0
+IsRunDue trace s text =
+    ((start : Network) × IsStart s start × Begins trace s.names start s.schedule text)
+    ⊎ ((status : ℕ) × Shows (Run trace) s text status)
+
+-- what the documents after the first events show
+abbrev pub IsViewDue : ℕ → Scenario → List ℕ → Type 0
+IsViewDue events s text = (status : ℕ) × Shows (Document events) s text status
+
+-- what a view shows of a scenario; of a run it may be what its first events show
+abbrev pub IsDueOf : View → Scenario → List ℕ → Type 0
+IsDueOf Check s text = (status : ℕ) × Shows Check s text status
+IsDueOf Print s text = (status : ℕ) × Shows Print s text status
+IsDueOf (Run trace) s text = IsRunDue trace s text
+IsDueOf (Document events) s text = IsViewDue events s text
+
+-- the line of a fault
+abbrev pub IsDueAt : ScenarioFault → List ℕ → Type 0
+IsDueAt fault text = (status : ℕ) × IsRefused fault text status
+
+abbrev pub IsDueOn : View → Result Scenario ScenarioFault → List ℕ → Type 0
+IsDueOn view (Ok s) text = IsDueOf view s text
+IsDueOn view (Err fault) text = IsDueAt fault text
+
+-- what a view of these bytes shows; of a run it may be what its first events show
+abbrev pub IsDue : View → List ℕ → List ℕ → Type 0
+IsDue view bytes text = (read : Result Scenario ScenarioFault) × ReadsAs bytes read × IsDueOn view read text
+
+-- ---- what stands between two texts
+
+-- Whole texts of a schedule that is played, and not the last one: the blocks of its first events; or those of all that
+-- are made, and the lines of some first replicas; or those of all replicas, but not the line of the stuck event.
+pub data Unfinished
+    (trace : Bool) (names : List (List ℕ)) (network : Network) (schedule : List Event)
+    (lines : List State → List ℕ)
+    : List ℕ → Type 0 where
+  blocks : {text : List ℕ}
+      → Begins trace names network schedule text
+      → Unfinished trace names network schedule lines text
+  first_lines : {text : List ℕ} (last : Network) (stuck : Option Stuck) (n : ℕ)
+      → Plays trace names network schedule last stuck text
+      → n < length last.states
+      → Unfinished trace names network schedule lines (text ++ lines (take n last.states))
+  all_lines : {text : List ℕ} (last : Network) (stuck : Stuck)
+      → Plays trace names network schedule last (Some stuck) text
+      → Unfinished trace names network schedule lines (text ++ lines last.states)
+
+-- nothing, where there was no memory up to the start
+abbrev pub IsRunUnfinished : Bool → Scenario → List ℕ → Type 0
+IsRunUnfinished trace s text =
+    (text ≡ [])
+    ⊎ ((start : Network) × IsStart s start × Unfinished trace s.names start s.schedule (dumps_text s.names) text)
+
+abbrev pub IsViewUnfinished : ℕ → Scenario → List ℕ → Type 0
+IsViewUnfinished events s text =
+    (text ≡ [])
+    ⊎ ((start : Network) × IsStart s start
+    × Unfinished false s.names start (take events s.schedule) (views_text s.names) text)
+
+-- whole texts of what a view shows of a scenario, and not all
+abbrev pub IsUnfinishedOf : View → Scenario → List ℕ → Type 0
+IsUnfinishedOf Check s text = text ≡ []
+IsUnfinishedOf Print s text = text ≡ []
+IsUnfinishedOf (Run trace) s text = IsRunUnfinished trace s text
+IsUnfinishedOf (Document events) s text = IsViewUnfinished events s text
+
+-- Whole texts of what a view of these bytes shows, and not all; or nothing, where the bytes weren't read or have a
+-- fault.
+abbrev pub IsUnfinished : View → List ℕ → List ℕ → Type 0
+IsUnfinished view bytes text =
+    (text ≡ []) ⊎ ((s : Scenario) × IsScenario bytes s × IsUnfinishedOf view s text)
+
+-- ---- what a view leaves
+
+-- these are the bytes, where they are told
+abbrev pub AreTold : Option (List ℕ) → List ℕ → Type 0
+AreTold told bytes = IfSome told (λ all. bytes ≡ all)
+
+-- A view of the bytes that are told, to its end: its text was written, and it ends with this status.
+abbrev pub HasRun : View → Option (List ℕ) → Stream → Stream → ℕ → Type 0
+HasRun view told old new status =
+    (bytes : List ℕ) × AreTold told bytes × Written (λ text. Ran view bytes text status) old new
+
+-- A fault stopped a view of these bytes. Where they weren't read nothing was written; after a failed write a prefix of
+-- what it shows, and not the whole; without memory whole texts of it. No other fault stops a view.
+abbrev pub StopsView : View → List ℕ → WorkFault → Stream → Stream → Type 0
+StopsView view bytes Read old new = new ≡ old
+StopsView view bytes Write old new = WrittenInPart (IsDue view bytes) old new
+StopsView view bytes TooManyLines old new = ⊥
+StopsView view bytes NoThread old new = ⊥
+StopsView view bytes Memory old new = Written (IsUnfinished view bytes) old new
+
+-- A fault stopped a view of the bytes that are told.
+abbrev pub IsStoppedView : View → WorkFault → Option (List ℕ) → Stream → Stream → Type 0
+IsStoppedView view fault told old new = (bytes : List ℕ) × AreTold told bytes × StopsView view bytes fault old new
+
+-- What is told of the file that an order names: of standard input at `-`, and of the file of this name else.
+abbrev pub told_by : Option (List ℕ) → (List ℕ → Option (List ℕ)) → List ℕ → Option (List ℕ)
+told_by input files name = if bytes_eq name (codes "-") then input else files name

@@ -1,0 +1,43 @@
+-- The last step taken back.
+use Rattle.std.proofs.Common.{◌≡◌, ℕ, ◌+◌, ◌-◌, ◌<◌, List, [], ◌∷◌, ◌++◌, length, take, ap, subst, arith, length-take-le}
+use Rattle.std.proofs.lemmas.List.{length-map}
+use Rattle.jc_rules.specs.Syntax.{Cmd}
+use Rattle.jc_tree.specs.Tree.{Tree, tree_history}
+use Rattle.jc_cursor.specs.declared.bound.Bound.{Bound as BoundInMemory}
+use Rattle.jc_cursor.specs.Bounds.{bound_of, vars_of}
+use Rattle.jc_replica.specs.declared.record.Change.{Change}
+use Rattle.jc_replica.specs.declared.record.Change.TheVariants as C
+use Rattle.jc_replica.specs.declared.record.Record.{Record}
+use Rattle.jc_replica.specs.Invariant.{CanBack, IsInBounds, IsKeptReplica}
+use Rattle.jc_replica.specs.Undo.{Held, undone_once, states}
+use Rattle.jc_replica.proofs.UndoStepsLemmas.{Unstepped, unstepped, can_back}
+
+-- what can be taken back leaves the bounds
+back_in_bounds : (script : List Cmd) (c : Change) (h : Held) → IsInBounds script h → CanBack c h → IsInBounds script (undone_once c h)
+back_in_bounds script (C.Bound place before) h b can = record { done = omega (arith, b.done); sent = b.sent }
+back_in_bounds script (C.Made i before) h b can =
+    record {
+      done = omega (arith, b.done);
+      sent = omega (arith, can.1, length-take-le (length h.queue - 1) h.queue (omega arith));
+    }
+back_in_bounds script (C.Sent sent acted) h b can = record { done = b.done; sent = can }
+back_in_bounds script (C.Received came acted) h b can = record { done = b.done; sent = b.sent }
+back_in_bounds script (C.Applied i before acted) h b can = record { done = b.done; sent = b.sent }
+back_in_bounds script C.Ended h b can = record { done = omega (arith, b.done); sent = b.sent }
+
+pub unstep : {script : List Cmd} {t : Tree} {ss : List Record} {h : Held} → IsKeptReplica script t ss h → (u : Tree) (rs : List Record) (r : Record) (h0 : Held) → ss ≡ rs ++ r ∷ [] → tree_history u ≡ take (r.mark.changes + 1) (tree_history t) → undone_once r.change h ≡ h0 → Unstepped script t u rs ss h h0
+unstep {script} {t} {ss} {h} k u rs r h0 se ue be =
+    unstepped k u rs r h0 se ue be (subst (IsInBounds script) be (back_in_bounds script r.change h k.bounds (can_back k rs r se)))
+
+-- what is asked of the last step, as it is
+pub can_back_as : {script : List Cmd} {t : Tree} {ss : List Record} {h : Held} → IsKeptReplica script t ss h → (rs : List Record) (r : Record) → ss ≡ rs ++ r ∷ [] → (c : Change) → r.change ≡ c → CanBack c h
+can_back_as {script} {t} {ss} {h} k rs r se c ce = subst (λ (x : Change). CanBack x h) ce (can_back k rs r se)
+
+pub in_memory : (vs : List (List ℕ × BoundInMemory)) (n : ℕ) → n < length (vars_of vs) → n < length vs
+in_memory vs n l =
+    let size : length (vars_of vs) ≡ length vs = length-map vs (λ (v : List ℕ × BoundInMemory). (v.0, bound_of v.1)) in
+    omega (arith, l, size)
+
+-- without a step
+pub no_earlier : (script : List Cmd) (t : Tree) (ss : List Record) (h : Held) → ss ≡ [] → states script (tree_history t) ss h ≡ []
+no_earlier script t ss h e = ap (λ (rs : List Record). states script (tree_history t) rs h) e

@@ -1,0 +1,14 @@
+use Rattle.std.specs.Prelude.{refl}
+use Rattle.std.proofs.Common.{arith}
+use Rattle.jc_rules.proofs.ExamplesLemmas.{worked, exec, doc, idx1, idx2, idx5, make_insert, make_op, apply_local, descend, child_get, insert1, further_id, assign_new}
+use Rattle.jc_rules.proofs.examples.insert_at_head.Goals as goal
+
+pub returns : goal.returns
+returns c =
+    worked
+    (exec refl (λ e. cc)
+    (make_insert (idx1 doc (omega arith) (idx2 refl refl (idx5 refl) refl)) (make_op (apply_local
+    (descend refl (child_get refl)
+    (insert1 refl refl refl tt (assign_new refl refl tt refl refl refl))
+    (further_id (λ e. cc) refl))))))
+    refl refl

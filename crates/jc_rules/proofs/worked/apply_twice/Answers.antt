@@ -1,7 +1,0 @@
-use Rattle.std.specs.Prelude.{refl}
-use Rattle.jc_rules.specs.Worked.Registers.{assign_one}
-use Rattle.jc_rules.specs.Refused.{already_applied}
-use Rattle.jc_rules.proofs.worked.apply_twice.Goals as goal
-
-pub returns : goal.returns
-returns c = already_applied {o = assign_one} refl refl refl

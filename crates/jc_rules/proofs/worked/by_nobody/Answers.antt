@@ -1,6 +1,0 @@
-use Rattle.std.specs.Prelude.{refl}
-use Rattle.jc_rules.specs.Refused.{no_replica}
-use Rattle.jc_rules.proofs.worked.by_nobody.Goals as goal
-
-pub returns : goal.returns
-returns c = no_replica refl

@@ -1,6 +1,0 @@
-use Rattle.std.specs.Prelude.{refl}
-use Rattle.jc_rules.specs.Refused.{not_acted}
-use Rattle.jc_rules.proofs.worked.done_too_early.Goals as goal
-
-pub returns : goal.returns
-returns c = not_acted refl refl

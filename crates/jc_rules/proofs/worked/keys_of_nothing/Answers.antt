@@ -1,7 +1,0 @@
-use Rattle.std.specs.Prelude.{refl}
-use Rattle.jc_rules.specs.Refused.{in_command, in_first, in_keys, no_map}
-use Rattle.jc_rules.proofs.Shown.{answered, doc}
-use Rattle.jc_rules.proofs.worked.keys_of_nothing.Goals as goal
-
-pub returns : goal.returns
-returns c = in_command refl (λ e. cc) (in_first refl (in_keys (answered (doc {n = 0})) (no_map refl refl)))

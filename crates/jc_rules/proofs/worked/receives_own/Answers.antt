@@ -1,7 +1,0 @@
-use Rattle.std.specs.Prelude.{refl}
-use Rattle.jc_rules.proofs.Shown.{stepped, recv}
-use Rattle.jc_rules.proofs.worked.receives_own.Goals as goal
-
-pub returns : goal.returns
-returns c =
-    stepped refl refl (recv refl) refl refl

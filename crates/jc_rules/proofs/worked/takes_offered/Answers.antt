@@ -1,9 +1,0 @@
-use Rattle.std.specs.Prelude.{refl}
-use Rattle.jc_rules.proofs.Shown.{worked, take_one}
-use Rattle.jc_rules.proofs.worked.takes_offered.Goals as goal
-
-pub returns : goal.returns
-returns c =
-    worked
-    (take_one refl refl)
-    refl refl

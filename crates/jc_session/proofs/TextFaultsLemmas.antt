@@ -1,0 +1,206 @@
+-- No text has want of memory for its fault, so the fault of each has a number, a place and a line.
+use Rattle.std.proofs.Common.{◌≡◌, ◌≢◌, ℕ, ◌+◌, List, [], ◌∷◌, length, Bool, true, false, ◌==◌, nat_lt, if◌then◌else◌, Option, Some, None, Result, Ok, Err, ◌⊎◌, inl, inr, refl, sym, subst, ◌∙◌}
+use Rattle.std.specs.Prelude.{slice_index}
+use Rattle.std.specs.Str.Lossy.{utf8_valid_len}
+use Rattle.jc_rules.specs.declared.refusal.Refusal.{Refusal}
+use Rattle.jc_rules.specs.declared.refusal.Refusal.TheVariants as F
+use Rattle.jc_rules.specs.Refusals.{refusal_number as refusal_number}
+use Rattle.jc_rules.specs.declared.version.Version.{Version}
+use Rattle.jc_rules.specs.declared.version.Version.TheVariants.{One, Two}
+use Rattle.jc_syntax.specs.declared.fault.LexFault.{LexFault}
+use Rattle.jc_syntax.specs.declared.fault.LexFault.TheVariants as L
+use Rattle.jc_syntax.specs.declared.token.TokenKind.{TokenKind}
+use Rattle.jc_syntax.specs.declared.token.TokenKind.TheVariants.{Number, Str}
+use Rattle.jc_syntax.specs.Strings.{escape_at, piece_at, pair_at, unit_at, short_or_unit, unit_escape, short_escape, is_high, is_low, StopsString}
+use Rattle.jc_syntax.specs.Lexemes.{kind_at, IsMalformed, IsLexFault, IsFaultOf}
+use Rattle.jc_parser.specs.declared.fault.ScenarioFault.{ScenarioFault}
+use Rattle.jc_parser.specs.declared.fault.ScenarioFault.TheVariants as S
+use Rattle.jc_parser.specs.Events.{IsCallExcess, IsEventFault}
+use Rattle.jc_parser.specs.Faults.{fault_number, fault_offset, from_lexer}
+use Rattle.jc_parser.specs.ExpressionFaults.{IsExpressionExcess}
+use Rattle.jc_parser.specs.ReaderState.{Reading, reading_of, stuck_at}
+use Rattle.jc_parser.specs.Scripts.{IsNextExcess, IsScriptExcess}
+use Rattle.jc_parser.specs.Symbols.{Symbol, Lexeme, symbols}
+use Rattle.jc_parser.specs.Scenarios.{Part, given_head, schedule_head}
+use Rattle.jc_parser.specs.ScenarioFaults.{misfit_fault, IsNameFault, IsEventExcess, IsBlockExcess, IsGivenExcess, IsScheduleExcess, IsExcess, IsTreeFault}
+use Rattle.jc_dump.specs.Texts.{refused_text}
+use Rattle.jc_scenario.specs.Faults.{IsFault}
+use Rattle.jc_session.specs.Answers.{IsFaultLine}
+
+-- ---- lines
+
+abbrev pub HasLine : ScenarioFault → Type 0
+HasLine fault = (text : List ℕ) × IsFaultLine fault text
+
+line_of : (fault : ScenarioFault) (refusal : Refusal) (place : ℕ) → fault_number fault ≡ Some (refusal_number refusal) → fault_offset fault ≡ Some place → HasLine fault
+line_of fault refusal place number stands = (refused_text refusal place, record { refusal = refusal; place = place; is_number = number; is_place = stands; written = refl })
+
+-- each fault but want of memory has a line
+pub fault_line : (fault : ScenarioFault) → fault ≢ S.Memory → HasLine fault
+fault_line (S.BadByte place) h = line_of (S.BadByte place) F.BadByte place refl refl
+fault_line (S.OpenString place) h = line_of (S.OpenString place) F.OpenString place refl refl
+fault_line (S.BadEscape place) h = line_of (S.BadEscape place) F.BadEscape place refl refl
+fault_line (S.LoneSurrogate place) h = line_of (S.LoneSurrogate place) F.LoneSurrogate place refl refl
+fault_line (S.BadNumber place) h = line_of (S.BadNumber place) F.BadNumber place refl refl
+fault_line (S.TextTooLong place) h = line_of (S.TextTooLong place) F.TextTooLong place refl refl
+fault_line (S.Unexpected place) h = line_of (S.Unexpected place) F.Unexpected place refl refl
+fault_line (S.EndOfText place) h = line_of (S.EndOfText place) F.EndOfText place refl refl
+fault_line (S.IndexTooLarge place) h = line_of (S.IndexTooLarge place) F.IndexTooLarge place refl refl
+fault_line (S.ReservedName place) h = line_of (S.ReservedName place) F.ReservedName place refl refl
+fault_line (S.TooManyCommands place) h = line_of (S.TooManyCommands place) F.TooManyCommands place refl refl
+fault_line (S.TooLongExpression place) h = line_of (S.TooLongExpression place) F.TooLongExpression place refl refl
+fault_line (S.NotUtf8 place) h = line_of (S.NotUtf8 place) F.NotUtf8 place refl refl
+fault_line (S.NoHeader place) h = line_of (S.NoHeader place) F.NoHeader place refl refl
+fault_line (S.SameName place) h = line_of (S.SameName place) F.SameName place refl refl
+fault_line (S.NoReplica place) h = line_of (S.NoReplica place) F.NoReplica place refl refl
+fault_line (S.TooManyReplicas place) h = line_of (S.TooManyReplicas place) F.TooManyReplicas place refl refl
+fault_line (S.UnknownReplica place) h = line_of (S.UnknownReplica place) F.UnknownReplica place refl refl
+fault_line (S.TooManyEvents place) h = line_of (S.TooManyEvents place) F.TooManyEvents place refl refl
+fault_line S.Memory h = absurd (h refl)
+
+-- ---- tokens
+
+-- what isn't read has a fault that isn't want of memory
+abbrev IsTold : {X : Type 0} → Result X LexFault → Type 0
+IsTold (Ok x) = Unit {0}
+IsTold (Err fault) = fault ≢ L.Memory
+
+either_told : {X : Type 0} (b : Bool) (x y : Result X LexFault) → IsTold x → IsTold y → IsTold (if b then x else y)
+either_told true x y a b = a
+either_told false x y a b = b
+
+bad_byte : (place : ℕ) → L.BadByte place ≢ L.Memory
+bad_byte place e = cc
+
+bad_escape : (place : ℕ) → L.BadEscape place ≢ L.Memory
+bad_escape place e = cc
+
+lone_surrogate : (place : ℕ) → L.LoneSurrogate place ≢ L.Memory
+lone_surrogate place e = cc
+
+pair_told : (at high : ℕ) (low : Option ℕ) → IsTold (pair_at at high low)
+pair_told at high None = lone_surrogate at
+pair_told at high (Some low) = either_told (is_low low) _ _ tt (lone_surrogate at)
+
+unit_told : (text : List ℕ) (at : ℕ) (unit : Option ℕ) → IsTold (unit_at text at unit)
+unit_told text at None = bad_escape at
+unit_told text at (Some unit) = either_told (is_high unit) _ _ (pair_told at unit (unit_escape text (at + 6))) (either_told (is_low unit) _ _ (lone_surrogate at) tt)
+
+short_told : (text : List ℕ) (at : ℕ) (short : Option ℕ) → IsTold (short_or_unit text at short)
+short_told text at (Some character) = tt
+short_told text at None = unit_told text at (unit_escape text at)
+
+escape_told : (text : List ℕ) (at : ℕ) → IsTold (escape_at text at)
+unfolding escape_at
+escape_told text at = short_told text at (short_escape (slice_index text (at + 1)))
+
+piece_told : (text : List ℕ) (at : ℕ) → IsTold (piece_at text at)
+unfolding piece_at
+piece_told text at = either_told (nat_lt (slice_index text at) 32) _ _ (bad_byte at) (either_told (slice_index text at == 92) _ _ (escape_told text at) tt)
+
+string_told : (text : List ℕ) (quote at : ℕ) (fault : LexFault) → StopsString text quote at fault → fault ≢ L.Memory
+string_told text quote at fault (inl (within, unquoted, is)) = subst IsTold is (piece_told text at)
+string_told text quote at fault (inr (past, is)) = λ e. (let no : L.OpenString quote ≡ L.Memory = sym is ∙ e in cc)
+
+malformed_told : (kind : Option TokenKind) (text : List ℕ) (at : ℕ) (fault : LexFault) → IsMalformed kind text at fault → fault ≢ L.Memory
+malformed_told None text at fault is = λ e. (let no : L.BadByte at ≡ L.Memory = sym is ∙ e in cc)
+malformed_told (Some Number) text at fault (other, is) = λ e. (let no : L.BadNumber at ≡ L.Memory = sym is ∙ e in cc)
+malformed_told (Some Str) text at fault is = string_told text at is.place fault is.stops
+malformed_told (Some kind) text at fault is = absurd is
+
+token_told : (text : List ℕ) (at : ℕ) (fault : LexFault) → IsLexFault text at fault → fault ≢ L.Memory
+token_told text at fault (inl is) = malformed_told (kind_at text at) text at fault is
+token_told text at fault (inr long) = λ e. (let no : L.TextTooLong at ≡ L.Memory = sym long.is ∙ e in cc)
+
+lexical_told : (text : List ℕ) (fault : LexFault) → IsFaultOf text fault → fault ≢ L.Memory
+lexical_told text fault (inl (long, is)) = λ e. (let no : L.TextTooLong 8388608 ≡ L.Memory = sym is ∙ e in cc)
+lexical_told text fault (inr (short, tokens, place, are, within, is)) = token_told text place fault is
+
+from_lexer_told : (fault : LexFault) → fault ≢ L.Memory → from_lexer fault ≢ S.Memory
+from_lexer_told (L.BadByte place) h e = cc
+from_lexer_told (L.OpenString place) h e = cc
+from_lexer_told (L.BadEscape place) h e = cc
+from_lexer_told (L.LoneSurrogate place) h e = cc
+from_lexer_told (L.BadNumber place) h e = cc
+from_lexer_told (L.TextTooLong place) h e = cc
+from_lexer_told L.Memory h e = h refl
+
+lexed_told : (text : List ℕ) (lexical : LexFault) (fault : ScenarioFault) → IsFaultOf text lexical → fault ≡ from_lexer lexical → fault ≢ S.Memory
+lexed_told text lexical fault is same e = from_lexer_told lexical (lexical_told text lexical is) (sym same ∙ e)
+
+-- ---- sentences
+
+stuck_told : (stop : ℕ) (after : List Lexeme) → stuck_at stop after ≢ S.Memory
+stuck_told stop [] e = cc
+stuck_told stop (x ∷ xs) e = cc
+
+call_told : (version : Version) (fault : ScenarioFault) (xs : List Symbol) (after : List Lexeme) → IsCallExcess version fault xs after → fault ≢ S.Memory
+call_told version fault xs after h e = subst (λ (f : ScenarioFault). IsCallExcess version f xs after) e h
+
+expression_told : (fault : ScenarioFault) (xs : List Symbol) (after : List Lexeme) → IsExpressionExcess fault xs after → fault ≢ S.Memory
+expression_told fault xs after h e = subst (λ (f : ScenarioFault). IsExpressionExcess f xs after) e h
+
+next_told : (fault : ScenarioFault) (xs : List Symbol) (after : List Lexeme) → IsNextExcess fault xs after → fault ≢ S.Memory
+next_told fault xs after h e = subst (λ (f : ScenarioFault). IsNextExcess f xs after) e h
+
+script_told : (fault : ScenarioFault) (xs : List Symbol) (after : List Lexeme) → IsScriptExcess fault xs after → fault ≢ S.Memory
+script_told fault xs after (inl h) = next_told fault xs after h
+script_told fault xs after (inr (inl h)) = expression_told fault h.expression after h.excess
+script_told fault xs after (inr (inr h)) = expression_told fault (h.first ∷ h.expression) after h.excess
+
+-- the fault of a text that is no event
+pub event_told : (version : Version) (text : List ℕ) (fault : ScenarioFault) → IsEventFault version text fault → fault ≢ S.Memory
+event_told version text fault (inl (lexical, is, same)) = lexed_told text lexical fault is same
+event_told version text fault (inr (tokens, are, stopped)) =
+    elim stopped.stops [
+      | inl out ↦ λ e. stuck_told (length text) stopped.after (sym out.is ∙ e)
+      | inr excess ↦ call_told version fault (symbols stopped.before) stopped.after excess
+    ]
+
+-- ---- scenarios
+
+misfit_told : (xs : List Symbol) (stop : ℕ) (after : List Lexeme) → misfit_fault xs stop after ≢ S.Memory
+misfit_told [] stop after e = cc
+misfit_told (a ∷ []) stop after e = cc
+misfit_told (a ∷ b ∷ []) stop after e = cc
+misfit_told (a ∷ b ∷ c ∷ xs) stop after e = stuck_told stop after e
+
+name_told : (parts : List Part) (name : List ℕ) (place : ℕ) (fault : ScenarioFault) → IsNameFault parts name place fault → fault ≢ S.Memory
+name_told parts name place fault (inl (reserved, is)) = λ e. (let no : S.ReservedName place ≡ S.Memory = sym is ∙ e in cc)
+name_told parts name place fault (inr (free, inl (same, is))) = λ e. (let no : S.SameName place ≡ S.Memory = sym is ∙ e in cc)
+name_told parts name place fault (inr (free, inr (new, full, is))) = λ e. (let no : S.TooManyReplicas place ≡ S.Memory = sym is ∙ e in cc)
+
+one_event_told : (version : Version) (n : ℕ) (fault : ScenarioFault) (xs : List Symbol) (after : List Lexeme) → IsEventExcess version n fault xs after → fault ≢ S.Memory
+one_event_told version n fault xs after (inl h) = λ e. (let no : S.TooManyEvents h.2.place ≡ S.Memory = sym h.7 ∙ e in cc)
+one_event_told version n fault xs after (inr (few, h)) = call_told version fault xs after h
+
+block_told : (head : List Symbol) (version : Version) (fault : ScenarioFault) (xs : List Symbol) (after : List Lexeme) → IsBlockExcess head version fault xs after → fault ≢ S.Memory
+block_told head version fault xs after h = one_event_told version (length h.calls) fault h.event after h.excess
+
+given_told : (version : Version) (fault : ScenarioFault) (xs : List Symbol) (after : List Lexeme) → IsGivenExcess version fault xs after → fault ≢ S.Memory
+given_told One fault xs after h = absurd h
+given_told Two fault xs after h = block_told given_head Two fault xs after h
+
+events_told : (version : Version) (fault : ScenarioFault) (xs : List Symbol) (after : List Lexeme) → IsGivenExcess version fault xs after ⊎ IsScheduleExcess version fault xs after → fault ≢ S.Memory
+events_told version fault xs after (inl h) = given_told version fault xs after h
+events_told version fault xs after (inr h) = block_told schedule_head version fault h.schedule after h.excess
+
+excess_told : (fault : ScenarioFault) (xs : List Symbol) (after : List Lexeme) → IsExcess fault xs after → fault ≢ S.Memory
+excess_told fault xs after (inl (next, rest, is, h)) = name_told h.parts h.name next.place fault h.which
+excess_told fault xs after (inr (inl h)) = script_told fault h.script after h.excess
+excess_told fault xs after (inr (inr h)) = events_told h.version fault h.blocks after h.excess
+
+tree_told : (r : Reading) (fault : ScenarioFault) → IsTreeFault r fault → fault ≢ S.Memory
+tree_told r fault h =
+    elim h.stops [
+      | inl out ↦ λ e. misfit_told (symbols h.before) r.stop h.after (sym out.is ∙ e)
+      | inr excess ↦ excess_told fault (symbols h.before) h.after excess
+    ]
+
+-- the fault of bytes that are no scenario
+pub fault_told : (bytes : List ℕ) (fault : ScenarioFault) → IsFault bytes fault → fault ≢ S.Memory
+fault_told bytes fault (inl (long, is)) = λ e. (let no : S.TextTooLong 8388608 ≡ S.Memory = sym is ∙ e in cc)
+fault_told bytes fault (inr (short, inl (other, is))) = λ e. (let no : S.NotUtf8 (utf8_valid_len bytes) ≡ S.Memory = sym is ∙ e in cc)
+fault_told bytes fault (inr (short, inr (valid, inl (lexical, is, same)))) = lexed_told bytes lexical fault is same
+fault_told bytes fault (inr (short, inr (valid, inr (tokens, are, inl h)))) = tree_told (reading_of bytes tokens) fault h
+fault_told bytes fault (inr (short, inr (valid, inr (tokens, are, inr h)))) = λ e. (let no : S.UnknownReplica h.place ≡ S.Memory = sym h.is ∙ e in cc)

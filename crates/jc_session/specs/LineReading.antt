@@ -1,0 +1,19 @@
+-- What is read of a source, line by line.
+use Rattle.std.specs.Prelude.{◌≡◌, ℕ, ◌+◌, ◌≤◌, List, ◌++◌, length, take, Bool, nat_lt, Option, IfSome}
+use Rattle.std.specs.Io.KnownBytes.{Consumes}
+use Rattle.jc_session.specs.Lines.{Lacks}
+
+-- of the bytes that were told, `read` were given, and the others are left where that is told
+abbrev pub ReadStopsAt : Option (List ℕ) → Option (List ℕ) → List ℕ → Type 0
+ReadStopsAt old new read = IfSome old (λ xs. (rest : List ℕ) × (xs ≡ read ++ rest) × IfSome new (λ ys. ys ≡ rest))
+
+-- A line of which `raw` was read: what was left at its start and is left now, what is kept of it and whether there is
+-- some, and the number of bytes before it and so far.
+pub record LineRead (old now : Option (List ℕ)) (kept : List ℕ) (some : Bool) (bytes_before bytes : ℕ) : Type 0 where
+  pub raw : List ℕ
+  pub no_lf : Lacks 10 raw
+  pub gone : Consumes old now raw
+  pub kept_is : kept ≡ take 4097 raw
+  pub some_is : some ≡ nat_lt 0 (length raw)
+  pub bytes_are : bytes ≡ bytes_before + length raw
+  pub within : bytes ≤ 67108864

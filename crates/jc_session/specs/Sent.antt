@@ -1,0 +1,146 @@
+-- What went out of a session.
+use Rattle.std.specs.Prelude.{◌≡◌, ◌⊎◌, ℕ, ◌≤◌, ◌<◌, List, [], ◌∷◌, ◌++◌, length, map, Option, Some, None, IfSome}
+use Rattle.std.specs.List.{AllByRecursion}
+use Rattle.std.specs.Io.KnownBytes.{Consumes}
+use Rattle.jc_rules.specs.declared.operation.Event.{Event}
+use Rattle.jc_rules.specs.Refused.{Cause}
+use Rattle.jc_rules.specs.Step.{Network}
+use Rattle.jc_parser.specs.declared.fault.ScenarioFault.{ScenarioFault}
+use Rattle.jc_scenario.specs.WellFormed.{Scenario, IsScenario}
+use Rattle.jc_scenario.specs.Faults.{IsFault}
+use Rattle.jc_network.specs.Given.{before_given, IsStart, IsGivenStuck}
+use Rattle.jc_dump.specs.Texts.{given_text}
+use Rattle.jc_debug.specs.DebuggerState.{Session, begun}
+use Rattle.jc_session.specs.Lines.{Line, Lacks, with_line_ends, whole_line, last_line}
+use Rattle.jc_session.specs.Answers.{Origin, origin_of, IsFaultLine, LineAnswer}
+use Rattle.jc_session.specs.SessionText.{AnswersLines, Talks, End, ShowsSession}
+use Rattle.jc_session.specs.Written.{Stream, Wrote, Interrupted, Written}
+
+-- the answer of a line was written, and the session goes on
+abbrev pub GoesOn : Origin → Session → Line → Session → Stream → Stream → Type 0
+GoesOn O A line B old new = Written (λ text. LineAnswer O A line B text) old new
+
+-- the answer of a line was interrupted
+abbrev pub BreaksOff : Origin → Session → Line → Stream → Stream → Type 0
+BreaksOff O A line old new = (B : Session) × (text : List ℕ) × LineAnswer O A line B text × Interrupted text old new
+
+-- of the bytes that were left a front is gone
+abbrev pub LosesFront : Option (List ℕ) → Option (List ℕ) → Type 0
+LosesFront old new = (bs : List ℕ) × Consumes old new bs
+
+-- all lines were answered
+abbrev pub AnsweredAll : Origin → Session → List ℕ → End → Stream → Stream → Type 0
+AnsweredAll O A bytes end old new = Written (λ text. Talks O A bytes text end) old new
+
+-- The first whole lines of the bytes, within the limits, and their answers.
+pub record Answered (O : Origin) (A : Session) (bytes : List ℕ) (whole : List (List ℕ)) (rest : List ℕ) (B : Session)
+    (text : List ℕ) : Type 0 where
+  pub is : bytes ≡ with_line_ends whole ++ rest
+  pub no_lf : AllByRecursion (Lacks 10) whole
+  pub count : length whole ≤ 1000000
+  pub size : length (with_line_ends whole) ≤ 67108864
+  pub answers : AnswersLines O A (map whole_line whole) B text
+
+-- Exactly the answers of all lines whose LF was read went out: of the bytes some were read, and the others are left.
+pub record WentToRead (O : Origin) (A : Session) (bytes : List ℕ) (left : Option (List ℕ)) (old new : Stream)
+    : Type 0 where
+  pub whole : List (List ℕ)
+  pub part : List ℕ
+  pub rest : List ℕ
+  pub last : Session
+  pub text : List ℕ
+  pub part_no_lf : Lacks 10 part
+  pub answered : Answered O A bytes whole (part ++ rest) last text
+  pub is_left : IfSome left (λ ys. ys ≡ rest)
+  pub went : Wrote text old new
+
+-- The line that comes next was read, and less than 4,096 bytes behind it; the others are left.
+pub data IsNextSent : List ℕ → Line → Option (List ℕ) → Type 0 where
+  ends_in_lf : {rest : List ℕ} {left : Option (List ℕ)} (raw ahead : List ℕ)
+      → Lacks 10 raw
+      → length ahead < 4096
+      → Consumes (Some rest) left (raw ++ 10 ∷ ahead)
+      → IsNextSent rest (whole_line raw) left
+  ends_at_end : {rest : List ℕ} {line : Line} {left : Option (List ℕ)}
+      → Lacks 10 rest
+      → last_line rest ≡ line ∷ []
+      → Consumes (Some rest) left rest
+      → IsNextSent rest line left
+
+-- The answers of some first lines went out, whole, and the next line was read.
+pub record WentWhole (O : Origin) (A : Session) (bytes : List ℕ) (left : Option (List ℕ)) (old new : Stream)
+    : Type 0 where
+  pub whole : List (List ℕ)
+  pub rest : List ℕ
+  pub last : Session
+  pub text : List ℕ
+  pub answered : Answered O A bytes whole rest last text
+  pub line : Line
+  pub next : IsNextSent rest line left
+  pub went : Wrote text old new
+
+-- The answers of some first lines went out, whole, and the next line's was interrupted.
+pub record WentFront (O : Origin) (A : Session) (bytes : List ℕ) (left : Option (List ℕ)) (old new : Stream)
+    : Type 0 where
+  pub whole : List (List ℕ)
+  pub rest : List ℕ
+  pub last : Session
+  pub text : List ℕ
+  pub answered : Answered O A bytes whole rest last text
+  pub line : Line
+  pub next : IsNextSent rest line left
+  pub between : Stream
+  pub went : Wrote text old between
+  pub breaks_off : BreaksOff O last line between new
+
+-- Of the bytes a first one past the limits was read, which are 67,108,864 bytes and 1,000,000 lines, and less than 4,096
+-- bytes behind it; the others are left.
+pub record IsPast (bytes : List ℕ) (left : Option (List ℕ)) : Type 0 where
+  pub whole : List (List ℕ)
+  pub part : List ℕ
+  pub byte : ℕ
+  pub ahead : List ℕ
+  pub no_lf : AllByRecursion (Lacks 10) whole
+  pub part_no_lf : Lacks 10 part
+  pub at_limit : (length (with_line_ends whole ++ part) ≡ 67108864) ⊎ ((length whole ≡ 1000000) × (part ≡ []))
+  pub few : length ahead < 4096
+  pub gone : Consumes (Some bytes) left ((with_line_ends whole ++ part) ++ byte ∷ ahead)
+
+-- ---- lines that may not be told
+
+-- It is said of the lines that are told, and else of some, as at a terminal.
+abbrev pub OfLines : Option (List ℕ) → (List ℕ → Type 0) → Type 0
+OfLines None Says = (l : List ℕ) × Says l
+OfLines (Some l) Says = Says l
+
+-- It is said of the lines that are told and of what is left of them, and else of some and of what is left of these.
+abbrev pub OfLinesLeft : Option (List ℕ) → Option (List ℕ) → (List ℕ → Option (List ℕ) → Type 0) → Type 0
+OfLinesLeft None left Says = (l : List ℕ) × (rest : List ℕ) × Says l (Some rest)
+OfLinesLeft (Some l) left Says = Says l left
+
+-- ---- whole sessions
+
+-- The text of a session was written, which ends so.
+abbrev pub ShowsAll : List ℕ → List ℕ → End → Stream → Stream → Type 0
+ShowsAll b l end old new = Written (λ text. ShowsSession b l text end) old new
+
+-- The scenario is refused, and the line for that was interrupted.
+abbrev pub WentRefused : List ℕ → Stream → Stream → Type 0
+WentRefused b old new =
+    (fault : ScenarioFault) × (text : List ℕ) × IsFault b fault × IsFaultLine fault text × Interrupted text old new
+
+-- A given event of the scenario is stuck, and the lines for that were interrupted.
+abbrev pub WentGiven : List ℕ → Stream → Stream → Type 0
+WentGiven b old new =
+    (s : Scenario) × (at : ℕ) × (event : Event) × (why : Cause)
+    × IsScenario b s
+    × IsGivenStuck (before_given s) s.given at event why
+    × Interrupted (given_text s.names at why event) old new
+
+-- what is said of a session on the scenario that the bytes are, from its start
+abbrev pub OnScenario : List ℕ → (Origin → Session → Type 0) → Type 0
+OnScenario b Says =
+    (s : Scenario) × (start : Network)
+    × IsScenario b s
+    × IsStart s start
+    × Says (origin_of s start) (begun s.schedule)

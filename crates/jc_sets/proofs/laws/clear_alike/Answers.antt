@@ -1,5 +1,0 @@
-use Rattle.jc_sets.proofs.Alike.{clear_alike}
-use Rattle.jc_sets.proofs.laws.clear_alike.Goals as goal
-
-pub returns : goal.returns
-returns c = clear_alike

@@ -1,5 +1,0 @@
-use Rattle.jc_sets.proofs.Shrinking.{new_is_unknown}
-use Rattle.jc_sets.proofs.state_laws.new_is_unknown.Goals as goal
-
-pub returns : goal.returns
-returns c = new_is_unknown

@@ -1,5 +1,0 @@
-use Rattle.jc_sets.proofs.Own.{own_are_applied}
-use Rattle.jc_sets.proofs.state_laws.own_are_applied.Goals as goal
-
-pub returns : goal.returns
-returns c = own_are_applied

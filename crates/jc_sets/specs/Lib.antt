@@ -1,5 +1,0 @@
-pub mod Knows
-pub mod Members
-pub mod States
-pub mod Laws
-pub mod StateLaws

@@ -1,0 +1,50 @@
+-- What the history of a tree tells.
+use Rattle.std.proofs.Common.{◌≡◌, ◌≤◌, ◌+◌, suc, List, [], ◌∷◌, ◌++◌, length, take, refl, sym, ◌∙◌, ap, arith, append_assoc, append-nil, length-append, add-one}
+use Rattle.jc_rules.specs.declared.key.Tagged.{Tagged}
+use Rattle.jc_rules.specs.Context.{Context}
+use Rattle.jc_tree.specs.Tree.{Tree, tree_history, IsChanged, IsLater}
+use Rattle.jc_tree.specs.Laws.{UndoLaw}
+
+pub still : (a : Tree) → IsLater a a
+still a = record { added = []; is = sym (append-nil (tree_history a)) }
+
+pub later_still : (a b c : Tree) → IsLater a b → IsLater b c → IsLater a c
+later_still a b c h k = record { added = h.added ++ k.added; is = rw (k.is, h.is) (append_assoc (tree_history a) h.added k.added) }
+
+pub later_changed : (at : List Tagged) (y : Context) (a b : Tree) → IsChanged at y a b → IsLater a b
+later_changed at y a b h = record { added = b.now ∷ []; is = rw h.earlier refl }
+
+take_front : {A : Type 0} (xs : List A) (x : A) (es : List A) → take (suc (length xs)) ((xs ++ x ∷ []) ++ es) ≡ xs ++ x ∷ []
+take_front [] x es = refl
+take_front (y ∷ ys) x es = ap (λ r. y ∷ r) (take_front ys x es)
+
+same_ends : {A : Type 0} (xs ys : List A) (x y : A) → xs ++ x ∷ [] ≡ ys ++ y ∷ [] → (xs ≡ ys) × (x ≡ y)
+same_ends [] [] x y e = (refl, cc)
+same_ends [] (b ∷ []) x y e = cc
+same_ends [] (b ∷ c ∷ ys) x y e = cc
+same_ends (a ∷ []) [] x y e = cc
+same_ends (a ∷ c ∷ xs) [] x y e = cc
+same_ends (a ∷ xs) (b ∷ ys) x y e =
+    let tails : xs ++ x ∷ [] ≡ ys ++ y ∷ [] = cc in
+    let heads : a ≡ b = cc in
+    let rest = same_ends xs ys x y tails in
+    (rw (heads, rest.0) refl, rest.1)
+
+-- going back to a mark gives the tree at the mark
+pub undone : (a b c : Tree) → IsLater a b → tree_history c ≡ take (length a.earlier + 1) (tree_history b) → c ≡ a
+undone a b c h e =
+    let back : tree_history c ≡ tree_history a = e ∙ rw (add-one, h.is) (take_front a.earlier a.now h.added) in
+    let ends = same_ends c.earlier a.earlier c.now a.now back in
+    λ i. record { now = ends.1 i; earlier = ends.0 i }
+
+pub mark_counts : (a b : Tree) → IsLater a b → length a.earlier ≤ length b.earlier
+mark_counts a b h =
+    omega (arith, length-append b.earlier (b.now ∷ []), length-append a.earlier (a.now ∷ []), length-append (tree_history a) h.added, ap length h.is)
+
+pub undo_law : UndoLaw
+undo_law = record {
+  same = still;
+  later = later_still;
+  changed = later_changed;
+  undone = λ a b h. record { counts = mark_counts a b h; undone = λ c e. undone a b c h e };
+}

@@ -1,0 +1,59 @@
+-- The way down a path, key by key.
+use Rattle.std.proofs.Common.{◌≡◌, ◌≢◌, ℕ, ◌+◌, ◌<◌, List, [], ◌∷◌, ◌++◌, length, take, drop, get_or, Option, Some, None, is_some, true, false, refl, subst}
+use Rattle.std.proofs.Math.ListN.{take-append-drop}
+use Rattle.std.proofs.lemmas.List.{take_more}
+use Rattle.jc_rules.specs.declared.key.Key.{Key}
+use Rattle.jc_rules.specs.declared.key.Tagged.{Tagged}
+use Rattle.jc_rules.specs.declared.key.Tagged.TheVariants.{MapT, ListT, RegT}
+use Rattle.jc_rules.specs.Order.{key_cmp}
+use Rattle.jc_rules.specs.Entries.{find}
+use Rattle.jc_rules.specs.Context.{Context, Content, Node, Values, Register, node_of, values_of, content, maps, lists, registers}
+use Rattle.jc_rules.specs.ContextsAt.{at_node, node_in, node_at, context_at}
+use Rattle.jc_rules.proofs.ContextsAtLemmas.{there}
+use Rattle.jc_tree.proofs.TreeLemmas.{node-further}
+
+-- one key further down
+further : (at : List Tagged) (i : ℕ) (t : Tagged) (c : Context) → i < length at → t ≡ get_or at i t → node_at (take i at) c ≢ None → node_at (take (i + 1) at) c ≡ node_in (content t (context_at (take i at) c))
+further at i t c h e p = rw (take_more at i t h, ← e) (node-further (take i at) t (context_at (take i at) c) c (there (take i at) c p))
+
+-- where the first keys lead nowhere, the whole path leads nowhere
+nowhere : (ks js : List Tagged) (c : Context) → node_at ks c ≡ None → node_at (ks ++ js) c ≡ None
+nowhere [] js c e = let no : ⊥ = cc in absurd no
+nowhere (k ∷ ks) js c e = go (content k c) (λ d. nowhere ks js d) e
+  where
+    go : (o : Option Content) → ((d : Context) → node_at ks d ≡ None → node_at (ks ++ js) d ≡ None) → at_node o (λ d. node_at ks d) None ≡ None → at_node o (λ d. node_at (ks ++ js) d) None ≡ None
+    go None ih f = refl
+    go (Some (Values r)) ih f = refl
+    go (Some (Node d)) ih f = ih d f
+
+no_way : (at : List Tagged) (i : ℕ) (t : Tagged) (c : Context) → i < length at → t ≡ get_or at i t → node_at (take i at) c ≢ None → node_in (content t (context_at (take i at) c)) ≡ None → node_at at c ≡ None
+no_way at i t c h e p none =
+    subst (λ (ks : List Tagged). node_at ks c ≡ None) (take-append-drop (i + 1) at) (nowhere (take (i + 1) at) (drop (i + 1) at) c (rw (further at i t c h e p) none))
+
+module _ (at : List Tagged) (i : ℕ) (t : Tagged) (c : Context) (h : i < length at) (e : t ≡ get_or at i t) (p : node_at (take i at) c ≢ None) where
+  -- no context stands under a register's key
+  pub no_way_register : (k : Key) → t ≡ RegT k → node_at at c ≡ None
+  no_way_register k s = no_way at i t c h e p (rw s (go (find key_cmp k (registers (context_at (take i at) c)))))
+    where
+      go : (o : Option Register) → node_in (values_of o) ≡ None
+      go None = refl
+      go (Some r) = refl
+
+  pub no_way_absent : false ≡ is_some (content t (context_at (take i at) c)) → node_at at c ≡ None
+  no_way_absent f = no_way at i t c h e p (go (content t (context_at (take i at) c)) f)
+    where
+      go : (o : Option Content) → false ≡ is_some o → node_in o ≡ None
+      go None f = refl
+      go (Some x) f = let no : ⊥ = cc in absurd no
+
+  pub way_on : ((k : Key) → t ≡ RegT k → ⊥) → true ≡ is_some (content t (context_at (take i at) c)) → node_at (take (i + 1) at) c ≢ None
+  way_on n f = rw (further at i t c h e p) (go t n f)
+    where
+      some : (o : Option Context) → true ≡ is_some (node_of o) → node_in (node_of o) ≢ None
+      some None f g = let no : ⊥ = cc in no
+      some (Some d) f g = let no : ⊥ = cc in no
+
+      go : (t : Tagged) → ((k : Key) → t ≡ RegT k → ⊥) → true ≡ is_some (content t (context_at (take i at) c)) → node_in (content t (context_at (take i at) c)) ≢ None
+      go (MapT k) n f = some (find key_cmp k (maps (context_at (take i at) c))) f
+      go (ListT k) n f = some (find key_cmp k (lists (context_at (take i at) c))) f
+      go (RegT k) n f = absurd (n k refl)

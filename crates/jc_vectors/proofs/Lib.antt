@@ -1,0 +1,11 @@
+pub mod KnownIdsLemmas
+pub mod OperationIdsLemmas
+pub mod SwappedDepsLemmas
+pub mod LawsLemmas
+pub mod StoredStatesLemmas
+pub mod ApplyStandsLemmas
+pub mod UnionStandsLemmas
+pub mod MakeStandsLemmas
+pub mod StateShrinksLemmas
+pub mod OwnAreAppliedLemmas
+pub mod KnownIdsAtLemmas

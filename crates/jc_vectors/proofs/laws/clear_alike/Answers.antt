@@ -1,0 +1,5 @@
+use Rattle.jc_vectors.proofs.LawsLemmas.{clear_alike}
+use Rattle.jc_vectors.proofs.laws.clear_alike.Goals as goal
+
+pub returns : goal.returns
+returns c = clear_alike

@@ -1,0 +1,210 @@
+-- Along the members of a map.
+use Rattle.std.proofs.Common.{◌≡◌, ◌≢◌, ℕ, List, [], ◌∷◌, ◌++◌, Bool, true, false, cond, Option, Some, None, is_some, filter, length, append_assoc, refl, sym, ◌∙◌, ap, subst, codes}
+use Rattle.std.specs.List.{AllByRecursion}
+use Rattle.json.specs.Json.{Json, Members, no_members, member, object}
+use Rattle.json.specs.Print.{print}
+use Rattle.json.specs.Token.{Token}
+use Rattle.json.specs.Token as T
+use Rattle.json.specs.Tree.{json_tokens, members_tokens}
+use Rattle.json.specs.Written.{Written}
+use Rattle.std.specs.declared.cmp.Ordering.TheVariants.{Greater}
+use Rattle.jc_rules.specs.declared.id.Id.{Id}
+use Rattle.jc_rules.specs.declared.key.Key.{Key}
+use Rattle.jc_rules.specs.declared.key.Key.TheVariants as K
+use Rattle.jc_rules.specs.Order.{key_cmp}
+use Rattle.jc_rules.specs.Entries.{IsRising, keys_of, find}
+use Rattle.jc_rules.specs.declared.key.Tagged.{Tagged}
+use Rattle.jc_rules.specs.declared.key.Tagged.TheVariants.{MapT, ListT, RegT}
+use Rattle.jc_rules.specs.Paths.{HasContext}
+use Rattle.jc_rules.specs.ContextsAt.{node_in, or_empty}
+use Rattle.jc_rules.specs.Context.{Context, context, presences, links, content, Register}
+use Rattle.jc_rules.specs.WellFormed.{is_some_id}
+use Rattle.jc_tree.specs.Tree.{is_after}
+use Rattle.jc_tree.specs.Walks.{keys_above, entry_of}
+use Rattle.jc_tree.proofs.WalksLemmas.{above-none, none_above, step}
+use Rattle.jc_view.specs.declared.document.Form.{Form as AnyForm}
+use Rattle.jc_view.specs.declared.document.Form.TheVariants as F
+use Rattle.jc_view.specs.Visible.{GoesThrough, present, marked, members_at, elements_after, with_part, with_values, parts_json, one_of, map_json, list_json, document, line_json}
+use Rattle.jc_view.specs.Parts.{Gains, parts_shown_at, child_json, is_list, form_of, members_front, member_of, items_front, part_tokens, values_tokens, first_tokens, if_so}
+use Rattle.jc_view.proofs.PresentLemmas.{present_by}
+use Rattle.jc_view.proofs.ElementsLemmas.{items_tokens_are}
+use Rattle.jc_view.proofs.TokensLemmas.{Wrote, wrote_begins, wrote_more}
+
+pub members_tokens_are : (show : Key → Json) (p : List (Key × List Id)) → members_tokens (members_at show p) ≡ members_front show p ++ T.end_object ∷ []
+members_tokens_are show [] = refl
+members_tokens_are show ((K.Name s, ids) ∷ p) =
+    ap (λ x. T.key (marked s) ∷ x) (ap (λ x. json_tokens (show (K.Name s)) ++ x) (members_tokens_are show p) ∙ sym (append_assoc (json_tokens (show (K.Name s))) (members_front show p) (T.end_object ∷ [])))
+members_tokens_are show ((K.Doc, ids) ∷ p) = members_tokens_are show p
+members_tokens_are show ((K.Head, ids) ∷ p) = members_tokens_are show p
+members_tokens_are show ((K.Elem i, ids) ∷ p) = members_tokens_are show p
+
+pub front-append : (show : Key → Json) (p q : List (Key × List Id)) → members_front show (p ++ q) ≡ members_front show p ++ members_front show q
+front-append show [] q = refl
+front-append show ((K.Name s, ids) ∷ p) q =
+    ap (λ x. T.key (marked s) ∷ x) (ap (λ x. json_tokens (show (K.Name s)) ++ x) (front-append show p q) ∙ sym (append_assoc (json_tokens (show (K.Name s))) (members_front show p) (members_front show q)))
+front-append show ((K.Doc, ids) ∷ p) q = front-append show p q
+front-append show ((K.Head, ids) ∷ p) q = front-append show p q
+front-append show ((K.Elem i, ids) ∷ p) q = front-append show p q
+
+present-append : (p q : List (Key × List Id)) → present (p ++ q) ≡ present p ++ present q
+present-append [] q = refl
+present-append ((k, []) ∷ p) q = present-append p q
+present-append ((k, i ∷ is) ∷ p) q = ap (λ r. (k, i ∷ is) ∷ r) (present-append p q)
+
+pub rest_is : (show : Key → Json) (c : Context) (last : Option Key) (k : Key) → is_after last k ≡ true → AllByRecursion (λ j. is_after last j ≡ true → key_cmp k j ≢ Greater) (keys_of (presences c)) → IsRising key_cmp (keys_of (presences c))
+    → members_front show (present (keys_above last (presences c))) ≡ member_of show k c ++ members_front show (present (keys_above (Some k) (presences c)))
+rest_is show c last k a h r =
+    ap (λ p. members_front show (present p)) (step last k (presences c) a h r)
+    ∙ ap (members_front show) (present-append (entry_of k (find key_cmp k (presences c))) (keys_above (Some k) (presences c)))
+    ∙ front-append show (present (entry_of k (find key_cmp k (presences c)))) (present (keys_above (Some k) (presences c)))
+
+pub map_begins : (show : Key → Json) (c : Context) (a : Written) → Wrote a a (members_front show (present (keys_above None (presences c)))) (members_front show (present (presences c)))
+map_begins show c a =
+    subst (λ (p : List (Key × List Id)). Wrote a a (members_front show (present p)) (members_front show (present (presences c)))) (sym (above-none (presences c))) (wrote_begins a _)
+
+pub map_ends : (show : Key → Json) (c : Context) (last : Option Key) (a b : Written) → AllByRecursion (λ j. is_after last j ≡ false) (keys_of (presences c)) → Wrote a b (members_front show (present (keys_above last (presences c)))) (members_front show (present (presences c)))
+    → Wrote a b [] (members_front show (present (presences c)))
+map_ends show c last a b h w =
+    subst (λ (p : List (Key × List Id)). Wrote a b (members_front show (present p)) (members_front show (present (presences c)))) (none_above last (presences c) h) w
+
+nil_after : (ts : List Token) → ts ++ [] ≡ ts
+nil_after [] = refl
+nil_after (t ∷ ts) = ap (λ r. t ∷ r) (nil_after ts)
+
+-- a member, if its key is a name that is present
+pub member_by : (show : Key → Json) (s : List ℕ) (c : Context) (b : Bool) → b ≡ is_some (find key_cmp (K.Name s) (present (presences c))) → IsRising key_cmp (keys_of (presences c))
+    → member_of show (K.Name s) c ≡ cond b (T.key (marked s) ∷ json_tokens (show (K.Name s))) []
+member_by show s c b e h = go (find key_cmp (K.Name s) (presences c)) refl
+  where
+    go : (o : Option (List Id)) → find key_cmp (K.Name s) (presences c) ≡ o → members_front show (present (entry_of (K.Name s) (find key_cmp (K.Name s) (presences c)))) ≡ cond b (T.key (marked s) ∷ json_tokens (show (K.Name s))) []
+    go None f = let n : b ≡ false = e ∙ present_by (K.Name s) (presences c) None h (sym f) in rw (f, n) refl
+    go (Some []) f = let n : b ≡ false = e ∙ present_by (K.Name s) (presences c) (Some []) h (sym f) in rw (f, n) refl
+    go (Some (i ∷ is)) f =
+        let n : b ≡ true = e ∙ present_by (K.Name s) (presences c) (Some (i ∷ is)) h (sym f) in
+        rw (f, n) (ap (λ x. T.key (marked s) ∷ x) (nil_after (json_tokens (show (K.Name s)))))
+
+pub no_member : (show : Key → Json) (k : Key) (c : Context) → ((s : List ℕ) → k ≢ K.Name s) → member_of show k c ≡ []
+no_member show k c h = go k h (find key_cmp k (presences c))
+  where
+    go : (j : Key) → ((s : List ℕ) → j ≢ K.Name s) → (o : Option (List Id)) → members_front show (present (entry_of j o)) ≡ []
+    go j g None = refl
+    go j g (Some []) = refl
+    go K.Doc g (Some (i ∷ is)) = refl
+    go K.Head g (Some (i ∷ is)) = refl
+    go (K.Name s) g (Some (i ∷ is)) = absurd (g s refl)
+    go (K.Elem d) g (Some (i ∷ is)) = refl
+
+-- ---- one place
+
+part_front : (k : List ℕ) (b : Bool) (j : Json) (ms : Members) → members_tokens (with_part k (if_so b j) ms) ≡ part_tokens k b j ++ members_tokens ms
+part_front k true j ms = refl
+part_front k false j ms = refl
+
+values_front : (names : List (List ℕ)) (r : Register) → members_tokens (with_values names r) ≡ values_tokens names r ++ T.end_object ∷ []
+values_front names [] = refl
+values_front names (e ∷ r) = refl
+
+-- the tokens of all that stands at a key, from the name on
+pub every_is : (names : List (List ℕ)) (r : Register) (map list : Bool) (m l : Json)
+    → json_tokens (object (member (codes "!conflict") (parts_json names r (if_so map m) (if_so list l)) no_members))
+    ≡ (T.begin_object ∷ []) ++ (T.key (codes "!conflict") ∷ []) ++ (T.begin_object ∷ []) ++ part_tokens (codes "list") list l ++ part_tokens (codes "map") map m ++ values_tokens names r ++ (T.end_object ∷ []) ++ (T.end_object ∷ [])
+every_is names r map list m l =
+    let p1 = part_tokens (codes "list") list l in
+    let p2 = part_tokens (codes "map") map m in
+    let v = values_tokens names r in
+    let parts : members_tokens (with_part (codes "list") (if_so list l) (with_part (codes "map") (if_so map m) (with_values names r))) ≡ p1 ++ p2 ++ v ++ (T.end_object ∷ []) =
+    part_front (codes "list") list l _
+    ∙ ap (λ x. p1 ++ x) (part_front (codes "map") map m _ ∙ ap (λ x. p2 ++ x) (values_front names r))
+    ∙ sym (append_assoc p1 p2 (v ++ (T.end_object ∷ [])))
+    ∙ sym (append_assoc (p1 ++ p2) v (T.end_object ∷ [])) in
+    ap (λ x. T.begin_object ∷ T.key (codes "!conflict") ∷ T.begin_object ∷ (x ++ T.end_object ∷ [])) parts
+
+pub value_place : (names : List (List ℕ)) (r : Register) (map list : Bool) (m l : Json) → form_of r map list ≡ F.Value → json_tokens (one_of names r (if_so map m) (if_so list l)) ≡ first_tokens r
+value_place names (e ∷ []) false false m l h = refl
+value_place names (e ∷ []) true false m l h = cc
+value_place names (e ∷ []) false true m l h = cc
+value_place names (e ∷ []) true true m l h = cc
+value_place names [] false false m l h = cc
+value_place names [] true false m l h = cc
+value_place names [] false true m l h = cc
+value_place names [] true true m l h = cc
+value_place names (e ∷ d ∷ r) map list m l h = cc
+
+pub map_place : (names : List (List ℕ)) (r : Register) (map list : Bool) (m l : Json) → form_of r map list ≡ F.Map → json_tokens (one_of names r (if_so map m) (if_so list l)) ≡ json_tokens m
+map_place names [] true false m l h = refl
+map_place names [] false false m l h = cc
+map_place names [] false true m l h = cc
+map_place names [] true true m l h = cc
+map_place names (e ∷ []) false false m l h = cc
+map_place names (e ∷ []) true false m l h = cc
+map_place names (e ∷ []) false true m l h = cc
+map_place names (e ∷ []) true true m l h = cc
+map_place names (e ∷ d ∷ r) map list m l h = cc
+
+pub list_place : (names : List (List ℕ)) (r : Register) (map list : Bool) (m l : Json) → form_of r map list ≡ F.List → json_tokens (one_of names r (if_so map m) (if_so list l)) ≡ json_tokens l
+list_place names [] false true m l h = refl
+list_place names [] false false m l h = cc
+list_place names [] true false m l h = cc
+list_place names [] true true m l h = cc
+list_place names (e ∷ []) false false m l h = cc
+list_place names (e ∷ []) true false m l h = cc
+list_place names (e ∷ []) false true m l h = cc
+list_place names (e ∷ []) true true m l h = cc
+list_place names (e ∷ d ∷ r) map list m l h = cc
+
+pub every_place : (names : List (List ℕ)) (r : Register) (map list : Bool) (m l : Json) → form_of r map list ≡ F.Every
+    → json_tokens (one_of names r (if_so map m) (if_so list l)) ≡ json_tokens (object (member (codes "!conflict") (parts_json names r (if_so map m) (if_so list l)) no_members))
+every_place names [] true true m l h = refl
+every_place names [] false false m l h = refl
+every_place names [] true false m l h = cc
+every_place names [] false true m l h = cc
+every_place names (e ∷ []) false false m l h = cc
+every_place names (e ∷ []) true false m l h = refl
+every_place names (e ∷ []) false true m l h = refl
+every_place names (e ∷ []) true true m l h = refl
+every_place names (e ∷ d ∷ r) false false m l h = refl
+every_place names (e ∷ d ∷ r) true false m l h = refl
+every_place names (e ∷ d ∷ r) false true m l h = refl
+every_place names (e ∷ d ∷ r) true true m l h = refl
+
+-- ---- whole maps and lists
+
+module _ (names : List (List ℕ)) (goes : GoesThrough) (at : List Tagged) where
+  pub map_is : (c : Context) → json_tokens (map_json names goes at c) ≡ (T.begin_object ∷ []) ++ members_front (parts_shown_at names goes at c) (present (presences c)) ++ (T.end_object ∷ [])
+  map_is (context m l r p n) = ap (λ x. T.begin_object ∷ x) (members_tokens_are (parts_shown_at names goes at (context m l r p n)) (present p))
+
+  pub list_is : (c : Context) → json_tokens (list_json names goes at c)
+      ≡ (T.begin_array ∷ []) ++ items_front (parts_shown_at names goes at c) (present (presences c)) (elements_after (length (links c)) K.Head (links c)) ++ (T.end_array ∷ [])
+  list_is (context m l r p n) = ap (λ x. T.begin_array ∷ x) (items_tokens_are (parts_shown_at names goes at (context m l r p n)) (present p) (elements_after (length n) K.Head n))
+
+  pub list_child : (t : Tagged) (c d : Context) → is_list t ≡ true → node_in (content t c) ≡ Some d → list_json names goes (at ++ t ∷ []) d ≡ child_json names goes at t c
+  list_child (ListT k) c d h e = sym (ap (λ o. list_json names goes (at ++ ListT k ∷ []) (or_empty o)) e)
+  list_child (MapT k) c d h e = cc
+  list_child (RegT k) c d h e = cc
+
+  pub map_child : (t : Tagged) (c d : Context) → HasContext t → is_list t ≡ false → node_in (content t c) ≡ Some d → map_json names goes (at ++ t ∷ []) d ≡ child_json names goes at t c
+  map_child (MapT k) c d x h e = sym (ap (λ o. map_json names goes (at ++ MapT k ∷ []) (or_empty o)) e)
+  map_child (ListT k) c d x h e = cc
+  map_child (RegT k) c d x h e = absurd x
+
+-- ---- the line
+
+document_is : (names : List (List ℕ)) (goes : GoesThrough) (c : Context) → document names goes c ≡ if_so (is_some (find key_cmp K.Doc (present (presences c)))) (parts_shown_at names goes [] c K.Doc)
+document_is names goes (context m l r p n) = refl
+
+pub view_is : (names : List (List ℕ)) (name : List ℕ) (goes : GoesThrough) (c : Context) → json_tokens (line_json name (document names goes c))
+    ≡ (T.begin_object ∷ []) ++ part_tokens (codes "doc") (is_some (find key_cmp K.Doc (present (presences c)))) (parts_shown_at names goes [] c K.Doc) ++ (T.key (codes "name") ∷ []) ++ (T.string name ∷ []) ++ (T.end_object ∷ [])
+view_is names name goes c =
+    let b = is_some (find key_cmp K.Doc (present (presences c))) in
+    let j = parts_shown_at names goes [] c K.Doc in
+    let p = part_tokens (codes "doc") b j in
+    ap (λ o. json_tokens (line_json name o)) (document_is names goes c)
+    ∙ ap (λ x. T.begin_object ∷ x) (part_front (codes "doc") b j (member (codes "name") (Rattle.json.specs.Json.string name) no_members)
+    ∙ sym (append_assoc p (T.key (codes "name") ∷ []) (T.string name ∷ T.end_object ∷ []))
+    ∙ sym (append_assoc (p ++ (T.key (codes "name") ∷ [])) (T.string name ∷ []) (T.end_object ∷ [])))
+
+pub printed : (a b : Written) (ts : List Token) (items : List ℕ) → a.before ≡ [] → a.tokens ≡ [] → Gains a b ts → items ≡ b.before ++ print b.tokens → items ≡ print ts
+printed a b ts items e f g h =
+    let before : b.before ≡ [] = g.before ∙ e in
+    let tokens : b.tokens ≡ ts = g.tokens ∙ ap (λ x. x ++ ts) f in
+    h ∙ ap (λ x. x ++ print b.tokens) before ∙ ap print tokens

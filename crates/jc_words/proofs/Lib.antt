@@ -1,7 +1,0 @@
-pub mod Commands
-mod Limits
-mod Literals
-mod Helping
-mod Readable
-mod Faultless
-mod Ordered
