@@ -56,9 +56,7 @@ pub(crate) fn named_stuck_text(
         → string_bytes text ≡ stuck_text names.now why event) }
 {
     let event = print_event(alloc, names, &stuck.event)?;
-    let Some(refusal) = Refusal::of_number(stuck.number) else {
-        unreachable!();
-    };
+    let refusal = stuck.refusal;
     match &stuck.key {
         Some(key) => {
             let key = tagged_text(alloc, names, key)?;

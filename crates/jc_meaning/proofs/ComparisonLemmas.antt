@@ -11,7 +11,6 @@ use Rattle.jc_rules.specs.WellFormed.{drop}
 use Rattle.jc_rules.specs.Representation.{IsCausallyClosed, Represents}
 use Rattle.jc_rules.specs.State.{State}
 use Rattle.jc_rules.specs.Table.{op_of}
-use Rattle.jc_rules.proofs.CoveredLemmas.{both_ways}
 use Rattle.jc_rules.proofs.IdsLemmas.{same_members}
 use Rattle.jc_replica.specs.ReplicaHistory.{Past}
 use Rattle.jc_network.specs.Laws.{starts, ops_held}
@@ -24,6 +23,7 @@ use Rattle.jc_meaning.specs.declared.comparison.Comparison.TheVariants.{SameOps}
 use Rattle.jc_meaning.specs.Comparison.{IsComparison}
 use Rattle.jc_meaning.proofs.RunsLemmas.{trees_converge}
 use Rattle.jc_network.proofs.MembersLemmas.{first_in, later_in}
+use Rattle.jc_rules.proofs.BoolLemmas.{same_tests}
 
 pub held_has : (N : List State) (p : ℕ) (A : State) (o : Op) → IsReplicaAt N p A → Contains A.queue o ⊎ Contains A.recv o → Contains (ops_held N) o
 held_has [] p A o e k = cc
@@ -52,7 +52,7 @@ module _ (N : List State) (w : IsWell N) where
   stands_held p A there = record { sound = sound N w; closed = closed_held p A there; is = refl }
 
   pub same_applied : (p q : ℕ) (A B : State) → IsReplicaAt N p A → IsReplicaAt N q B → AreIn A.ops B.ops → AreIn B.ops A.ops → A.ops ≡ B.ops
-  same_applied p q A B one other f g = same_members A.ops B.ops (w.sets.rising p A one) (w.sets.rising q B other) (λ i. both_ways (has_id i A.ops) (has_id i B.ops) (f i) (g i))
+  same_applied p q A B one other f g = same_members A.ops B.ops (w.sets.rising p A one) (w.sets.rising q B other) (λ i. same_tests (has_id i A.ops) (has_id i B.ops) (f i) (g i))
 
 in_list : (M : List State) (k : ℕ) (A : State) → slice_get M k ≡ Some A → Contains M A
 in_list [] k A e = cc

@@ -6,11 +6,11 @@ use Rattle.jc_rules.specs.declared.key.Key.TheVariants as K
 use Rattle.jc_rules.specs.declared.key.Next.{Next}
 use Rattle.jc_rules.specs.declared.key.Next.TheVariants.{Tail, Elem as To}
 use Rattle.jc_rules.specs.Order.{id_cmp, same_key}
-use Rattle.jc_rules.proofs.CoveredLemmas.{right_in}
 use Rattle.jc_meaning.specs.Forest.{is_less, follow}
 use Rattle.jc_meaning.proofs.OrdersLemmas.{keys_eq, keys_self}
 use Rattle.jc_meaning.proofs.ChainLemmas.{skip, after, key_in, after_here}
 use Rattle.jc_meaning.proofs.BooleansLemmas.{no_first, no_second}
+use Rattle.jc_rules.proofs.BoolLemmas.{or_right}
 
 abbrev pub Distinct : Key → List Id → Type 0
 Distinct j [] = Unit {0}
@@ -27,7 +27,7 @@ followed_in j (n ∷ ns) r m e = by_cases (same_key j r) (λ h. followed_in (K.E
   where
     by_cases : (b : Bool) → (follow (K.Elem n) ns r ≡ Some (To m) → key_in (K.Elem m) ns ≡ true) → cond b (Some (To n)) (follow (K.Elem n) ns r) ≡ Some (To m) → (same_key (K.Elem n) (K.Elem m) || key_in (K.Elem m) ns) ≡ true
     by_cases true k h = let same : n ≡ m = cc in rw (same, keys_self (K.Elem m)) refl
-    by_cases false k h = right_in (same_key (K.Elem n) (K.Elem m)) (key_in (K.Elem m) ns) (k h)
+    by_cases false k h = or_right (same_key (K.Elem n) (K.Elem m)) (key_in (K.Elem m) ns) (k h)
 
 -- INSERT2: to go on from what follows r, where that is greater
 pub walked : (r : Key) (o m : Id) (j : Key) (ns : List Id) → Distinct j ns → follow j ns r ≡ Some (To m) → is_less (id_cmp o m) ≡ true → after r o j ns ≡ after (K.Elem m) o j ns

@@ -8,13 +8,13 @@ use Rattle.jc_rules.specs.Ids.{has_id}
 use Rattle.jc_rules.specs.Context.{Context}
 use Rattle.jc_rules.specs.Table.{op_of}
 use Rattle.std.proofs.lemmas.Option.{same_Some}
-use Rattle.jc_rules.proofs.CoveredLemmas.{both_ways}
 use Rattle.jc_network.proofs.MembersLemmas.{op_in}
 use Rattle.jc_meaning.specs.Effects.{list_at, touches, clears, overwrites, goes_through}
 use Rattle.jc_meaning.specs.Seen.{seen}
 use Rattle.jc_meaning.specs.Meaning.{some_op, holds_of, is_cleared, written_of, names, hangs_at, LinksOf, Means}
 use Rattle.jc_meaning.proofs.NextOperationLemmas.{some_in, in_some}
 use Rattle.jc_meaning.proofs.LinkEffectsLemmas.{hangs_same}
+use Rattle.jc_rules.proofs.BoolLemmas.{same_tests}
 
 -- they have the same operations, by identifier and by what holds of some
 pub record SameOps (O N : List Op) : Type 0 where
@@ -66,7 +66,7 @@ module _ (In : Op → Type 0) (one_each : (o e : Op) → In o → In e → o.id 
       let found = same_found O N a b e in
       record {
         found = found;
-        some = λ f. both_ways (some_op f O) (some_op f N) (some_also O N a b found f) (some_also N O b a (λ i. sym (found i)) f);
+        some = λ f. same_tests (some_op f O) (some_op f N) (some_also O N a b found f) (some_also N O b a (λ i. sym (found i)) f);
       }
 
 -- lists of the same operations, each with an identifier of its own
@@ -81,4 +81,4 @@ same_lists O N f g h = same_ops (λ o. Contains O o) one_each O N (record { all 
     there L M m more i (Some o) e t = let x = op_in i L o e in subst (λ j. is_some (op_of j M) ≡ true) x.1 (ap is_some (m o (more o x.0)))
 
     ids : (i : Id) → is_some (op_of i O) ≡ is_some (op_of i N)
-    ids i = both_ways (is_some (op_of i O)) (is_some (op_of i N)) (there O N g (λ o. (h o).0) i (op_of i O) refl) (there N O f (λ o. (h o).1) i (op_of i N) refl)
+    ids i = same_tests (is_some (op_of i O)) (is_some (op_of i N)) (there O N g (λ o. (h o).0) i (op_of i O) refl) (there N O f (λ o. (h o).1) i (op_of i N) refl)

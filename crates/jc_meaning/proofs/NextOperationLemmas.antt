@@ -14,13 +14,14 @@ use Rattle.jc_rules.specs.Context.{key_of_tagged}
 use Rattle.jc_rules.specs.ContextsAt.{IsAtOrAbove}
 use Rattle.jc_rules.specs.Sound.{IsInsert}
 use Rattle.jc_rules.specs.Table.{op_of}
-use Rattle.jc_rules.proofs.CoveredLemmas.{left_in, right_in}
+use Rattle.jc_rules.proofs.CoveredLemmas.{left_in}
 use Rattle.jc_network.proofs.MembersLemmas.{none_in, first_in, later_in, in_cons, op_in}
 use Rattle.jc_meaning.specs.Effects.{same_tagged, same_path, is_at_or_above, is_list_tag, list_at, is_insert}
 use Rattle.jc_meaning.specs.Meaning.{some_op, holds_of, names, hangs_at}
 use Rattle.jc_meaning.proofs.BooleansLemmas.{first_true, second_true, both_true}
 use Rattle.jc_meaning.proofs.OrdersLemmas.{keys_eq, keys_self}
 use Rattle.jc_meaning.proofs.TagsLemmas.{tags_eq}
+use Rattle.jc_rules.proofs.BoolLemmas.{or_right}
 
 -- ---- members
 
@@ -46,7 +47,7 @@ in_some f (q ∷ qs) p k h = go (in_cons p q qs k) (λ m. in_some f qs p m h)
   where
     go : (q ≡ p) ⊎ Contains qs p → (Contains qs p → some_op f qs ≡ true) → (f q || some_op f qs) ≡ true
     go (inl e) g = left_in (f q) (some_op f qs) (ap f e ∙ h)
-    go (inr m) g = right_in (f q) (some_op f qs) (g m)
+    go (inr m) g = or_right (f q) (some_op f qs) (g m)
 
 -- ---- paths
 

@@ -15,7 +15,6 @@ use Rattle.jc_rules.specs.Order.{same_key}
 use Rattle.jc_rules.specs.Context.{Context, next, key_of_tagged}
 use Rattle.jc_rules.specs.WellFormed.{LeadsThrough, elements, chain_of}
 use Rattle.jc_rules.specs.Table.{is_done, op_of}
-use Rattle.jc_rules.proofs.CoveredLemmas.{right_in}
 use Rattle.jc_network.proofs.MembersLemmas.{op_in}
 use Rattle.jc_meaning.specs.Effects.{same_tagged, same_path, is_at_or_above, list_at, target_of, target, is_delete, is_insert, touches, value_in, is_made_by, passed, goes_through}
 use Rattle.jc_meaning.specs.Seen.{seen, has_tag}
@@ -32,6 +31,7 @@ use Rattle.jc_meaning.proofs.NextOperationLemmas.{some_in, inserted_at, inserted
 use Rattle.jc_meaning.proofs.MeaningForcesLemmas.{value_present}
 use Rattle.jc_meaning.proofs.MeaningStepButLinksLemmas.{MeansAt}
 use Rattle.jc_meaning.proofs.InsertWalkLemmas.{Distinct}
+use Rattle.jc_rules.proofs.BoolLemmas.{or_right}
 
 -- ---- places above places
 
@@ -119,7 +119,7 @@ leads_from c j (n ∷ ns) d h = (first, leads_from c (K.Elem n) ns d.1 rest)
         cc
 
     rest : (k : Key) → (same_key (K.Elem n) k || key_in k ns) ≡ true → next k c ≡ follow (K.Elem n) ns k
-    rest k e = h k (right_in (same_key j k) (key_in k (n ∷ ns)) e) ∙ ap (λ b. cond b (Some (To n)) (follow (K.Elem n) ns k)) (not_so (same_key j k) (apart k e))
+    rest k e = h k (or_right (same_key j k) (key_in k (n ∷ ns)) e) ∙ ap (λ b. cond b (Some (To n)) (follow (K.Elem n) ns k)) (not_so (same_key j k) (apart k e))
 
 pub leads_through : (c : Context) (ns : List Id) → Distinct K.Head ns → ((k : Key) → next k c ≡ follow K.Head ns k) → LeadsThrough c K.Head ns
 leads_through c ns d h = leads_from c K.Head ns d (λ k e. h k)

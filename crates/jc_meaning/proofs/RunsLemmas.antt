@@ -17,7 +17,6 @@ use Rattle.jc_rules.specs.State.{State}
 use Rattle.jc_rules.specs.Step.{After, replica_of}
 use Rattle.jc_rules.specs.Syntax.{Cmd}
 use Rattle.jc_rules.specs.Table.{op_of}
-use Rattle.jc_rules.proofs.CoveredLemmas.{both_ways}
 use Rattle.jc_rules.proofs.IdsLemmas.{has_id-with}
 use Rattle.jc_network.specs.Applied.{applied_ops}
 use Rattle.jc_network.specs.Laws.{starts, IsReached}
@@ -36,6 +35,7 @@ use Rattle.jc_meaning.proofs.MeaningStepLemmas.{means_with, nothing_means}
 use Rattle.jc_meaning.proofs.ComparedLemmas.{one_tree}
 use Rattle.jc_meaning.proofs.WellFormedLemmas.{operated_kept}
 use Rattle.jc_meaning.proofs.MeaningOfSetLemmas.{SameOps, same_ops, means_same}
+use Rattle.jc_rules.proofs.BoolLemmas.{same_tests}
 
 -- a list of the operations that a replica has applied, of which the tree is the meaning
 record Built (In : Op → Type 0) (A : State) : Type 0 where
@@ -229,7 +229,7 @@ module _ (N : List State) (w : IsWell N) (p : ℕ) (A : State) (there : IsReplic
       go (inr m) = w.sets.received p A o there m
 
   applied_ids : (i : Id) → is_some (op_of i (applied_ops A)) ≡ has_id i A.ops
-  applied_ids i = both_ways (is_some (op_of i (applied_ops A))) (has_id i A.ops) (known (op_of i (applied_ops A)) refl) there_too
+  applied_ids i = same_tests (is_some (op_of i (applied_ops A))) (has_id i A.ops) (known (op_of i (applied_ops A)) refl) there_too
     where
       known : (x : Option Op) → op_of i (applied_ops A) ≡ x → is_some x ≡ true → has_id i A.ops ≡ true
       known None f g = cc

@@ -8,7 +8,6 @@ use Rattle.jc_rules.specs.Ids.{AreRising, has_id}
 use Rattle.jc_rules.specs.Sound.{IsSound}
 use Rattle.jc_rules.specs.State.{State}
 use Rattle.jc_rules.specs.Table.{op_of}
-use Rattle.jc_rules.proofs.CoveredLemmas.{both_ways}
 use Rattle.jc_rules.proofs.IdsLemmas.{with-rises, same_members}
 use Rattle.jc_vectors.specs.OperationIds.{ids_of_ops, ids_within}
 use Rattle.jc_vectors.specs.StoredStates.{stored_op, RepresentsState, AreOf}
@@ -19,6 +18,7 @@ use Rattle.jc_network.specs.Abstract.{queues, real_op, real_state, real}
 use Rattle.jc_network.specs.Refines.{AreSeen}
 use Rattle.jc_network.proofs.MembersLemmas.{none_in, first_in, later_in, in_cons, op_in, still_with_id, now_with_id}
 use Rattle.jc_network.proofs.RefinesLemmas.{all_in}
+use Rattle.jc_rules.proofs.BoolLemmas.{same_tests}
 
 -- ---- two lists, place by place
 
@@ -141,7 +141,7 @@ module _ (set : List Op) (network kept : List State) (seen : AreSeen set network
 
   -- the set has the identifiers of all queues
   pub same_ids : ids_of_ops set ≡ ids_of_ops (queues kept)
-  same_ids = same_members (ids_of_ops set) (ids_of_ops (queues kept)) (ids_rise set) (ids_rise (queues kept)) (λ i. both_ways (has_id i (ids_of_ops set)) (has_id i (ids_of_ops (queues kept))) (down i) (up i))
+  same_ids = same_members (ids_of_ops set) (ids_of_ops (queues kept)) (ids_rise set) (ids_rise (queues kept)) (λ i. same_tests (has_id i (ids_of_ops set)) (has_id i (ids_of_ops (queues kept))) (down i) (up i))
     where
       down : (i : Id) → has_id i (ids_of_ops set) ≡ true → has_id i (ids_of_ops (queues kept)) ≡ true
       down i h =

@@ -7,7 +7,6 @@ use Rattle.jc_rules.specs.Ids.{has_id}
 use Rattle.jc_rules.specs.Order.{same_id}
 use Rattle.jc_rules.specs.State.{State}
 use Rattle.jc_rules.specs.Syntax.{Cmd as AnyCmd}
-use Rattle.jc_rules.proofs.CoveredLemmas.{both_ways}
 use Rattle.jc_rules.proofs.IdsLemmas.{same_id-self, same_id-true, same_members}
 use Rattle.jc_vectors.specs.StoredStates.{stored_op}
 use Rattle.jc_replica.specs.Operations.{identifiers}
@@ -19,6 +18,7 @@ use Rattle.jc_network.proofs.StepsLemmas.{well}
 use Rattle.jc_network.proofs.AppliedLemmas.{applied_is, applied_has, applied_order}
 use Rattle.jc_network.proofs.EnabledOrderLemmas.{ordered}
 use Rattle.jc_network.proofs.MembersLemmas.{none_in, first_in, later_in, in_cons}
+use Rattle.jc_rules.proofs.BoolLemmas.{same_tests}
 
 or_right : (a b : Bool) → b ≡ true → a || b ≡ true
 or_right true b e = refl
@@ -54,7 +54,7 @@ module _ (scripts : List (List AnyCmd)) (network : List State) (reached : IsReac
   pub applied_ids : identifiers (applied_ops A) ≡ A.ops
   applied_ids =
       same_members (identifiers (applied_ops A)) A.ops (applied_order network run p A there (ordered scripts network reached p A there)) (run.sets.rising p A there)
-      (λ i. both_ways (has_id i (identifiers (applied_ops A))) (has_id i A.ops) (applied_down i) (applied_up i))
+      (λ i. same_tests (has_id i (identifiers (applied_ops A))) (has_id i A.ops) (applied_down i) (applied_up i))
 
 -- operations keep their identifiers
 pub kept_ids : (os : List Op) → identifiers (map stored_op os) ≡ identifiers os

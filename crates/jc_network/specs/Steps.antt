@@ -30,9 +30,14 @@ abbrev pub key_of_event : Cause → Option Tagged
 key_of_event (because refusal) = None
 key_of_event (no_node k) = Some k
 
--- the number, the key and the event
+-- the number and its refusal, the key and the event
 abbrev pub stuck_for : Cause → Event → Stuck
-stuck_for why event = record { number = refusal_number (refusal_of why); key = key_of_event why; event = event }
+stuck_for why event = record {
+  number = refusal_number (refusal_of why);
+  refusal = refusal_of why;
+  key = key_of_event why;
+  event = event;
+}
 
 -- The event is stuck in the network, for this cause.
 pub record IsStuckFor (network : Network) (event : Event) (s : Stuck) : Type 0 where

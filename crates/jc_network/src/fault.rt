@@ -2,13 +2,15 @@
 
 ghost use Rattle.std.specs.Prelude.{◌≡◌, IfOk};
 
-use jc_rules::{Event, Tagged};
+use jc_rules::{Event, Refusal, Tagged};
 use std::alloc::AllocError;
 
-/// Why an event can't be made: the number of the first condition that fails, for 25 the tagged key, and the event.
+/// Why an event can't be made: the refusal of the first condition that fails, with its number, for 25 the tagged key,
+/// and the event.
 #[derive(Drop)]
 pub struct Stuck {
     pub number: u8,
+    pub refusal: Refusal,
     pub key: Option<Tagged>,
     pub event: Event,
 }
@@ -30,6 +32,7 @@ impl Stuck {
     {
         Ok(Stuck {
             number: self.number,
+            refusal: self.refusal,
             key: copy_key(&self.key)?,
             event: self.event,
         })

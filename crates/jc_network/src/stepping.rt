@@ -19,6 +19,7 @@ fn missing(event: Event) -> Stuck
 {
     Stuck {
         number: Refusal::NoSuchReplica.number(),
+        refusal: Refusal::NoSuchReplica,
         key: None,
         event,
     }
@@ -30,6 +31,7 @@ fn wrong_version(event: Event) -> Stuck
 {
     Stuck {
         number: Refusal::WrongVersion.number(),
+        refusal: Refusal::WrongVersion,
         key: None,
         event,
     }
@@ -84,7 +86,12 @@ fn step_fault(fault: ReplicaFault, event: Event) -> StepFault
         ReplicaFault::Memory => return StepFault::Memory,
     };
     let number = refusal.number();
-    StepFault::Stuck(Stuck { number, key, event })
+    StepFault::Stuck(Stuck {
+        number,
+        refusal,
+        key,
+        event,
+    })
 }
 
 /// Has the event's replica make the event, where its replicas are there and the version has such events. After a refusal

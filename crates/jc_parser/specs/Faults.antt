@@ -1,36 +1,15 @@
--- The number and the place of a fault, and what it is shown as.
-use Rattle.std.specs.Prelude.{◌≡◌, ℕ, Option, Some, None, List}
+-- Faults of scenarios and sentences: the refusal, its number, the offset, and what is shown of them.
+use Rattle.std.specs.Prelude.{◌≡◌, ℕ, Option, Some, None, List, option_map}
 use Rattle.jc_rules.specs.declared.refusal.Refusal.{Refusal}
 use Rattle.jc_rules.specs.declared.refusal.Refusal.TheVariants as refusals
-use Rattle.jc_syntax.specs.Faults.{lex_fault_line}
+use Rattle.jc_rules.specs.Refusals.{refusal_number}
+use Rattle.jc_syntax.specs.Faults.{refusal_text}
 use Rattle.jc_syntax.specs.declared.fault.LexFault.{LexFault}
 use Rattle.jc_syntax.specs.declared.fault.LexFault.TheVariants as lexical
 use Rattle.jc_parser.specs.declared.parse_fault.ParseFault.{ParseFault}
 use Rattle.jc_parser.specs.declared.parse_fault.ParseFault.TheVariants as sentence
 use Rattle.jc_parser.specs.declared.fault.ScenarioFault.{ScenarioFault}
 use Rattle.jc_parser.specs.declared.fault.ScenarioFault.TheVariants.{BadByte, OpenString, BadEscape, LoneSurrogate, BadNumber, TextTooLong, Unexpected, EndOfText, IndexTooLarge, ReservedName, TooManyCommands, TooLongExpression, NotUtf8, NoHeader, SameName, NoReplica, TooManyReplicas, UnknownReplica, TooManyEvents, Memory}
-
-abbrev pub fault_number : ScenarioFault → Option ℕ
-fault_number (BadByte place) = Some 1
-fault_number (OpenString place) = Some 2
-fault_number (BadEscape place) = Some 3
-fault_number (LoneSurrogate place) = Some 4
-fault_number (BadNumber place) = Some 5
-fault_number (TextTooLong place) = Some 6
-fault_number (Unexpected place) = Some 7
-fault_number (EndOfText place) = Some 8
-fault_number (IndexTooLarge place) = Some 9
-fault_number (ReservedName place) = Some 10
-fault_number (TooManyCommands place) = Some 11
-fault_number (TooLongExpression place) = Some 12
-fault_number (NotUtf8 place) = Some 13
-fault_number (NoHeader place) = Some 14
-fault_number (SameName place) = Some 15
-fault_number (NoReplica place) = Some 16
-fault_number (TooManyReplicas place) = Some 17
-fault_number (UnknownReplica place) = Some 18
-fault_number (TooManyEvents place) = Some 19
-fault_number Memory = None
 
 abbrev pub fault_offset : ScenarioFault → Option ℕ
 fault_offset (BadByte place) = Some place
@@ -54,30 +33,33 @@ fault_offset (UnknownReplica place) = Some place
 fault_offset (TooManyEvents place) = Some place
 fault_offset Memory = None
 
-abbrev pub parse_refusal : ScenarioFault → Option Refusal
-parse_refusal (BadByte place) = Some refusals.BadByte
-parse_refusal (OpenString place) = Some refusals.OpenString
-parse_refusal (BadEscape place) = Some refusals.BadEscape
-parse_refusal (LoneSurrogate place) = Some refusals.LoneSurrogate
-parse_refusal (BadNumber place) = Some refusals.BadNumber
-parse_refusal (TextTooLong place) = Some refusals.TextTooLong
-parse_refusal (Unexpected place) = Some refusals.Unexpected
-parse_refusal (EndOfText place) = Some refusals.EndOfText
-parse_refusal (IndexTooLarge place) = Some refusals.IndexTooLarge
-parse_refusal (ReservedName place) = Some refusals.ReservedName
-parse_refusal (TooManyCommands place) = Some refusals.TooManyCommands
-parse_refusal (TooLongExpression place) = Some refusals.TooLongExpression
-parse_refusal (NotUtf8 place) = Some refusals.NotUtf8
-parse_refusal (NoHeader place) = Some refusals.NoHeader
-parse_refusal (SameName place) = Some refusals.SameName
-parse_refusal (NoReplica place) = Some refusals.NoReplica
-parse_refusal (TooManyReplicas place) = Some refusals.TooManyReplicas
-parse_refusal (UnknownReplica place) = Some refusals.UnknownReplica
-parse_refusal (TooManyEvents place) = Some refusals.TooManyEvents
-parse_refusal Memory = None
+abbrev pub fault_refusal : ScenarioFault → Option Refusal
+fault_refusal (BadByte place) = Some refusals.BadByte
+fault_refusal (OpenString place) = Some refusals.OpenString
+fault_refusal (BadEscape place) = Some refusals.BadEscape
+fault_refusal (LoneSurrogate place) = Some refusals.LoneSurrogate
+fault_refusal (BadNumber place) = Some refusals.BadNumber
+fault_refusal (TextTooLong place) = Some refusals.TextTooLong
+fault_refusal (Unexpected place) = Some refusals.Unexpected
+fault_refusal (EndOfText place) = Some refusals.EndOfText
+fault_refusal (IndexTooLarge place) = Some refusals.IndexTooLarge
+fault_refusal (ReservedName place) = Some refusals.ReservedName
+fault_refusal (TooManyCommands place) = Some refusals.TooManyCommands
+fault_refusal (TooLongExpression place) = Some refusals.TooLongExpression
+fault_refusal (NotUtf8 place) = Some refusals.NotUtf8
+fault_refusal (NoHeader place) = Some refusals.NoHeader
+fault_refusal (SameName place) = Some refusals.SameName
+fault_refusal (NoReplica place) = Some refusals.NoReplica
+fault_refusal (TooManyReplicas place) = Some refusals.TooManyReplicas
+fault_refusal (UnknownReplica place) = Some refusals.UnknownReplica
+fault_refusal (TooManyEvents place) = Some refusals.TooManyEvents
+fault_refusal Memory = None
 
-abbrev pub parse_fault_text : ScenarioFault → List ℕ
-parse_fault_text fault = lex_fault_line (parse_refusal fault) (fault_offset fault)
+abbrev pub fault_number : ScenarioFault → Option ℕ
+fault_number fault = option_map refusal_number (fault_refusal fault)
+
+abbrev pub fault_text : ScenarioFault → List ℕ
+fault_text fault = refusal_text (fault_refusal fault) (fault_offset fault)
 
 -- a lexical fault of a scenario's text
 abbrev pub from_lexer : LexFault → ScenarioFault

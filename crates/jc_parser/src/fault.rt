@@ -2,7 +2,7 @@
 
 ghost use Rattle.std.specs.Prelude.{◌≡◌, Some};
 ghost use Rattle.jc_parser.specs.declared.fault.ScenarioFault.TheVariants.{Memory};
-ghost use Rattle.jc_parser.specs.Faults.{fault_number, fault_offset, parse_refusal, parse_fault_text, from_lexer};
+ghost use Rattle.jc_parser.specs.Faults.{fault_number, fault_offset, fault_refusal, fault_text, from_lexer};
 
 use jc_rules::Refusal;
 use jc_syntax::LexFault;
@@ -56,35 +56,7 @@ pub enum ScenarioFault {
 }
 
 impl ScenarioFault {
-    /// The number of the refusal, from 1 to 19; want of memory has none.
-    pub fn number(&self) -> Option<u8>
-        ensures { result ≡ fault_number self.now }
-    {
-        match self {
-            ScenarioFault::BadByte { .. } => Some(1),
-            ScenarioFault::OpenString { .. } => Some(2),
-            ScenarioFault::BadEscape { .. } => Some(3),
-            ScenarioFault::LoneSurrogate { .. } => Some(4),
-            ScenarioFault::BadNumber { .. } => Some(5),
-            ScenarioFault::TextTooLong { .. } => Some(6),
-            ScenarioFault::Unexpected { .. } => Some(7),
-            ScenarioFault::EndOfText { .. } => Some(8),
-            ScenarioFault::IndexTooLarge { .. } => Some(9),
-            ScenarioFault::ReservedName { .. } => Some(10),
-            ScenarioFault::TooManyCommands { .. } => Some(11),
-            ScenarioFault::TooLongExpression { .. } => Some(12),
-            ScenarioFault::NotUtf8 { .. } => Some(13),
-            ScenarioFault::NoHeader { .. } => Some(14),
-            ScenarioFault::SameName { .. } => Some(15),
-            ScenarioFault::NoReplica { .. } => Some(16),
-            ScenarioFault::TooManyReplicas { .. } => Some(17),
-            ScenarioFault::UnknownReplica { .. } => Some(18),
-            ScenarioFault::TooManyEvents { .. } => Some(19),
-            ScenarioFault::Memory => None,
-        }
-    }
-
-    /// Where the fault stands in the text; want of memory stands nowhere.
+    /// The fault's offset in the text; want of memory has none.
     pub fn place(&self) -> Option<usize>
         ensures { result ≡ fault_offset self.now }
     {
@@ -112,9 +84,9 @@ impl ScenarioFault {
         }
     }
 
-    /// The refusal that the fault is; want of memory is none.
-    fn refusal(&self) -> Option<Refusal>
-        ensures { result ≡ parse_refusal self.now }
+    /// The refusal; want of memory is none.
+    pub fn refusal(&self) -> Option<Refusal>
+        ensures { result ≡ fault_refusal self.now }
     {
         match self {
             ScenarioFault::BadByte { .. } => Some(Refusal::BadByte),
@@ -139,11 +111,21 @@ impl ScenarioFault {
             ScenarioFault::Memory => None,
         }
     }
+
+    /// The number of the refusal, from 1 to 19; want of memory has none.
+    pub fn number(&self) -> Option<u8>
+        ensures { result ≡ fault_number self.now }
+    {
+        match self.refusal() {
+            Some(refusal) => Some(refusal.number()),
+            None => None,
+        }
+    }
 }
 
 // By hand, since no contract says what a derived one writes.
 impl fmt::Display for ScenarioFault {
-    ghost output = { λ fault. Some (parse_fault_text fault) };
+    ghost output = { λ fault. Some (fault_text fault) };
 
     fn fmt<W: fmt::Write>(&self, f: &mut fmt::Formatter<W>) -> fmt::Result {
         match (self.refusal(), self.place()) {
@@ -158,7 +140,7 @@ impl fmt::Display for ScenarioFault {
 
 // As it is shown: a derived match of every variant is dear to prove.
 impl fmt::Debug for ScenarioFault {
-    ghost debug_output = { λ fault. Some (parse_fault_text fault) };
+    ghost debug_output = { λ fault. Some (fault_text fault) };
 
     fn fmt<W: fmt::Write>(&self, f: &mut fmt::Formatter<W>) -> fmt::Result {
         fmt::Display::fmt(self, f)

@@ -1,9 +1,10 @@
 //! Why a text is no sentence of the language.
 
 ghost use Rattle.std.specs.Prelude.{◌≡◌, Some};
-ghost use Rattle.jc_parser.specs.Faults.{fault_number, fault_offset, parse_fault_text, from_sentence, IsOfSentence};
+ghost use Rattle.jc_parser.specs.Faults.{fault_refusal, fault_number, fault_offset, fault_text, from_sentence, IsOfSentence};
 
 use crate::fault::ScenarioFault;
+use jc_rules::Refusal;
 use std::fmt;
 use thiserror::Error;
 
@@ -60,6 +61,13 @@ impl ParseFault {
         }
     }
 
+    /// The refusal; want of memory is none.
+    pub fn refusal(&self) -> Option<Refusal>
+        ensures { result ≡ fault_refusal (from_sentence self.now) }
+    {
+        self.of_scenario().refusal()
+    }
+
     /// The number of the refusal, from 1 to 12; want of memory has none.
     pub fn number(&self) -> Option<u8>
         ensures { result ≡ fault_number (from_sentence self.now) }
@@ -67,7 +75,7 @@ impl ParseFault {
         self.of_scenario().number()
     }
 
-    /// Where the fault stands in the text; want of memory stands nowhere.
+    /// The fault's offset in the text; want of memory has none.
     pub fn place(&self) -> Option<usize>
         ensures { result ≡ fault_offset (from_sentence self.now) }
     {
@@ -76,7 +84,7 @@ impl ParseFault {
 }
 
 impl fmt::Display for ParseFault {
-    ghost output = { λ fault. Some (parse_fault_text (from_sentence fault)) };
+    ghost output = { λ fault. Some (fault_text (from_sentence fault)) };
 
     fn fmt<W: fmt::Write>(&self, f: &mut fmt::Formatter<W>) -> fmt::Result {
         fmt::Display::fmt(&self.of_scenario(), f)
@@ -85,7 +93,7 @@ impl fmt::Display for ParseFault {
 
 // As it is shown: a derived match of every variant is dear to prove.
 impl fmt::Debug for ParseFault {
-    ghost debug_output = { λ fault. Some (parse_fault_text (from_sentence fault)) };
+    ghost debug_output = { λ fault. Some (fault_text (from_sentence fault)) };
 
     fn fmt<W: fmt::Write>(&self, f: &mut fmt::Formatter<W>) -> fmt::Result {
         fmt::Display::fmt(self, f)

@@ -6,7 +6,7 @@ use Rattle.jc_rules.specs.declared.operation.Event.{Event}
 use Rattle.jc_rules.specs.Refused.{Cause}
 use Rattle.jc_rules.specs.Step.{Network}
 use Rattle.jc_parser.specs.declared.fault.ScenarioFault.{ScenarioFault}
-use Rattle.jc_parser.specs.Faults.{fault_number, fault_offset}
+use Rattle.jc_parser.specs.Faults.{fault_refusal, fault_offset}
 use Rattle.jc_scenario.specs.WellFormed.{Scenario, IsScenario}
 use Rattle.jc_scenario.specs.Faults.{IsFault}
 use Rattle.jc_scenario.specs.Canon.{canon}
@@ -60,7 +60,7 @@ pub record IsGivenShown (s : Scenario) (out : List ℕ) (status : ℕ) : Type 0 
 pub record IsRefused (fault : ScenarioFault) (out : List ℕ) (status : ℕ) : Type 0 where
   pub refusal : Refusal
   pub place : ℕ
-  pub number : fault_number fault ≡ Some (refusal_number refusal)
+  pub is : fault_refusal fault ≡ Some refusal
   pub stands : fault_offset fault ≡ Some place
   pub written : out ≡ refused_text refusal place
   pub ends : status ≡ 1

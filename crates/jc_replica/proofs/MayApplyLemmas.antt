@@ -19,7 +19,7 @@ use Rattle.jc_rules.specs.State.{State}
 use Rattle.jc_rules.specs.Syntax.{Cmd, Yield}
 use Rattle.jc_rules.specs.Table.{op_of}
 use Rattle.jc_rules.specs.Trace.{Rows, at_depth}
-use Rattle.jc_rules.proofs.CoveredLemmas.{filled_in, right_in}
+use Rattle.jc_rules.proofs.CoveredLemmas.{filled_in}
 use Rattle.jc_rules.proofs.IdsLemmas.{has_id-with}
 use Rattle.jc_rules.proofs.RepresentationLemmas.{looked_up, counters_tell, subset_both}
 use Rattle.jc_rules.proofs.DerivesLemmas.{one_premise}
@@ -47,6 +47,7 @@ use Rattle.jc_replica.proofs.AnswersLemmas.{Leading, ready_now}
 use Rattle.jc_replica.proofs.UndoStepsLemmas.{Stepped, stepped}
 use Rattle.jc_replica.proofs.RefinesLemmas.{left_seen}
 use Rattle.jc_replica.proofs.ReceivedLemmas.{found_in}
+use Rattle.jc_rules.proofs.BoolLemmas.{or_right}
 
 -- what isn't among the kept operations isn't among those that they stand for
 pub kept_absent : (i : Id) (os : List Op) → op_of i (map stored_op os) ≡ None → op_of i os ≡ None
@@ -112,7 +113,7 @@ module _ (set : List Op) (p : ℕ) (A K : State) (stands : RepresentsState set A
 
   -- the event, from the derivation of the kept operation
   own_taken : (i : Id) (t : Context) → HasOwn set p A → HasOwn set p (after_taking i t A)
-  own_taken i t all e there own = has_id-with e.id i A.ops ∙ right_in (same_id e.id i) (has_id e.id A.ops) (all e there own)
+  own_taken i t all e there own = has_id-with e.id i A.ops ∙ or_right (same_id e.id i) (has_id e.id A.ops) (all e there own)
 
   pub leads_taken : (i : Id) (k : Op) (tree : Context) (os : List Op) (u v : Rows) → TakesOp K i k → u ≡ opened no_rows R.ApplyRemote → Derives (Operate K.tree k) (ToContext tree) u v → LeadsReplica set (E.Apply p i) p os A (after_taking_stored i tree K) (at_depth 0 v)
   leads_taken i k tree os u v t ue d =

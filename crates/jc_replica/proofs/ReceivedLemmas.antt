@@ -14,7 +14,7 @@ use Rattle.jc_rules.specs.Ids.{AreRising, has_id, union}
 use Rattle.jc_rules.specs.Sound.{IsSound}
 use Rattle.jc_rules.specs.Table.{op_of, both}
 use Rattle.jc_rules.proofs.IdsLemmas.{same_id-true, same_id-self, equal_itself, same_members}
-use Rattle.jc_rules.proofs.CoveredLemmas.{not_true, right_in, both_ways, same_parts, member_below, reached, in_filled, filled_in, filled-rises, same_filled, greatest_least, greatest_of-filled, greatest_here, greatest_there}
+use Rattle.jc_rules.proofs.CoveredLemmas.{same_parts, member_below, reached, in_filled, filled_in, filled-rises, same_filled, greatest_least, greatest_of-filled, greatest_here, greatest_there}
 use Rattle.jc_rules.proofs.WithdrawLemmas.{in_filter, filter_in, filter-rises}
 use Rattle.jc_rules.proofs.RepresentationLemmas.{looked_up, counts}
 use Rattle.jc_vectors.specs.StoredStates.{stored_op}
@@ -22,6 +22,7 @@ use Rattle.jc_replica.specs.Operations.{identifiers, AreInOrder, AreOwn}
 use Rattle.jc_replica.specs.Received.{IsOpAt, IsOpPlace, AreKeptOf, AreAmong, IsContiguousTo, none, more, IsKeptList, is_new}
 use Rattle.jc_replica.specs.Undo.{without_ops}
 use Rattle.jc_replica.proofs.ReceivedUnionLemmas.{taken_out, filter-in_order, filter_all, drop-in_order, all_filter, all_drop, found_all, there_found, found_both, both-there, both-append, both-new, both-in_order, there_both}
+use Rattle.jc_rules.proofs.BoolLemmas.{no_truth, or_right, same_tests}
 
 pub found_in : (P : Op → Type 0) (i : Id) (os : List Op) (o : Op) → AllByRecursion P os → op_of i os ≡ Some o → P o
 found_in P i [] o a e = absurd (let f : ⊥ = cc in f)
@@ -81,7 +82,7 @@ found_without i j (p ∷ os) o d e = go (same_id j p.id) refl (same_id p.id i) r
     go true f true g ih =
         let same : j ≡ p.id = same_id-true j p.id f in
         let no : true ≡ false = sym g ∙ sym (ap (λ (k : Id). same_id k i) same) ∙ d in
-        not_true (sym no)
+        no_truth (sym no)
     go true f false g ih = let two : Some p ≡ Some o = rw f at e in rw (g, f) two
     go false f true g ih = rw g (ih (rw f at e))
     go false f false g ih = rw (g, f) (ih (rw f at e))
@@ -205,7 +206,7 @@ module _ (p n : ℕ) (s : List Id) (e : s ≡ covered s) where
   lowered_filled =
       same_members (truncated p n s) (covered (truncated p n s))
       (filter-rises (λ i. not (eqb i.replica p) || leb i.counter n) s (subst (λ (x : List Id). AreRising x) (sym e) (filled-rises s))) (filled-rises (truncated p n s))
-      (λ k. both_ways (has_id k (truncated p n s)) (has_id k (covered (truncated p n s))) (lowered_down k) (lowered_up k))
+      (λ k. same_tests (has_id k (truncated p n s)) (has_id k (covered (truncated p n s))) (lowered_down k) (lowered_up k))
 
   -- of another replica it is as it was
   lowered_other : (r : ℕ) → eqb r p ≡ false → greatest_of r (truncated p n s) ≡ greatest_of r s
@@ -242,7 +243,7 @@ module _ (p n : ℕ) (s : List Id) (e : s ≡ covered s) where
           let top : Id = record { counter = n; replica = p } in
           let there : has_id (record { counter = n; replica = p }) s ≡ true = subst (λ (x : List Id). has_id (record { counter = n; replica = p }) x ≡ true) (sym e) (filled_in (record { counter = n; replica = p }) s (omega arith) l) in
           let at : leb n n ≡ true = le-leb n n (omega arith) in
-          let passes : not (eqb p p) || leb n n ≡ true = right_in (not (eqb p p)) (leb n n) at in
+          let passes : not (eqb p p) || leb n n ≡ true = or_right (not (eqb p p)) (leb n n) at in
           member_below (record { counter = n; replica = p }) (truncated p n s) (filter_in (λ i. not (eqb i.replica p) || leb i.counter n) (record { counter = n; replica = p }) s there passes)
 
   -- So nothing is missing.
@@ -265,7 +266,7 @@ not_same i j f = go (same_id i j) refl
     go false e = e
 
 apart_other : (q m : ℕ) (i : Id) → eqb q i.replica ≡ false → same_id (record { counter = m; replica = q }) i ≡ false
-apart_other q m i d = not_same (record { counter = m; replica = q }) i (λ e. not_true (sym d ∙ eq-eqb q i.replica (ap (λ (j : Id). j.replica) e)))
+apart_other q m i d = not_same (record { counter = m; replica = q }) i (λ e. no_truth (sym d ∙ eq-eqb q i.replica (ap (λ (j : Id). j.replica) e)))
 
 apart_less : (q m : ℕ) (i : Id) → m < i.counter → same_id (record { counter = m; replica = q }) i ≡ false
 apart_less q m i l = not_same (record { counter = m; replica = q }) i (λ e. let c : m ≡ i.counter = ap (λ (j : Id). j.counter) e in omega arith)
@@ -336,7 +337,7 @@ without_absent i (o ∷ os) h = go (same_id i o.id) refl (same_id o.id i) refl (
   where
     go : (b : Bool) → same_id i o.id ≡ b → (d : Bool) → same_id o.id i ≡ d → (op_of i os ≡ None → without_ops (i ∷ []) os ≡ os) → without_ops (i ∷ []) (o ∷ os) ≡ o ∷ os
     go true e d f ih = let no : Some o ≡ None = rw e at h in cc
-    go false e true f ih = let same : o.id ≡ i = same_id-true o.id i f in not_true (sym e ∙ ap (λ (j : Id). same_id i j) same ∙ same_id-self i)
+    go false e true f ih = let same : o.id ≡ i = same_id-true o.id i f in no_truth (sym e ∙ ap (λ (j : Id). same_id i j) same ∙ same_id-self i)
     go false e false f ih = rw f (ap (λ (x : List Op). o ∷ x) (ih (rw e at h)))
 
 absent_below : (i : Id) (os : List Op) → AllByRecursion (λ j. id_cmp i j ≡ Less) (identifiers os) → op_of i os ≡ None

@@ -19,10 +19,11 @@ use Rattle.jc_rules.specs.Table.{op_of, with_op, both}
 use Rattle.jc_rules.proofs.OrderLemmas.{ids_total, exact_ids}
 use Rattle.jc_rules.proofs.RisingLemmas as rising
 use Rattle.jc_rules.proofs.IdsLemmas.{has_id-with, with-rises, same_id-true, same_id-self}
-use Rattle.jc_rules.proofs.CoveredLemmas.{left_in, right_in}
+use Rattle.jc_rules.proofs.CoveredLemmas.{left_in}
 use Rattle.jc_replica.specs.Operations.{identifiers, AreInOrder}
 use Rattle.jc_replica.specs.Received.{is_new, IsOpAt, OpBelongsAt, IsOpPlace}
 use Rattle.jc_replica.specs.Undo.{without_ops}
+use Rattle.jc_rules.proofs.BoolLemmas.{or_right}
 
 -- the identifiers of a list with one more
 pub identifiers-with : (p : Op) (os : List Op) → identifiers (with_op p os) ≡ with_id p.id (identifiers os)
@@ -43,7 +44,7 @@ both-in_order os (p ∷ ps) h = with-in_order p (both os ps) (both-in_order os p
 
 -- what is there, stays
 pub there_with : (i : Id) (p : Op) (os : List Op) → has_id i (identifiers os) ≡ true → has_id i (identifiers (with_op p os)) ≡ true
-there_with i p os h = ap (has_id i) (identifiers-with p os) ∙ has_id-with i p.id (identifiers os) ∙ right_in (same_id i p.id) (has_id i (identifiers os)) h
+there_with i p os h = ap (has_id i) (identifiers-with p os) ∙ has_id-with i p.id (identifiers os) ∙ or_right (same_id i p.id) (has_id i (identifiers os)) h
 
 pub there_both : (i : Id) (os ps : List Op) → has_id i (identifiers os) ≡ true → has_id i (identifiers (both os ps)) ≡ true
 there_both i os [] h = h
@@ -369,7 +370,7 @@ without-none ids (o ∷ os) a = rw (a.0) (ap (λ (x : List Op). o ∷ x) (withou
 
 among_more : (i : Id) (ids : List Id) (ps : List Op) → AllByRecursion (λ p. has_id p.id ids ≡ true) ps → AllByRecursion (λ p. has_id p.id (i ∷ ids) ≡ true) ps
 among_more i ids [] a = tt
-among_more i ids (p ∷ ps) a = (right_in (same_id p.id i) (has_id p.id ids) a.0, among_more i ids ps a.1)
+among_more i ids (p ∷ ps) a = (or_right (same_id p.id i) (has_id p.id ids) a.0, among_more i ids ps a.1)
 
 their_own : (ps : List Op) → AllByRecursion (λ p. has_id p.id (identifiers ps) ≡ true) ps
 their_own [] = tt

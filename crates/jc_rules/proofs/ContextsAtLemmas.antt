@@ -9,6 +9,7 @@ use Rattle.jc_rules.specs.Context.{Context, context, Children, children, no_chil
 use Rattle.jc_rules.specs.ContextsAt.{node_at, with_node_at, context_at, or_empty}
 use Rattle.jc_rules.proofs.OrderLemmas.{keys_total, exact_keys}
 use Rattle.jc_rules.proofs.EntriesLemmas.{found-put, put-put, put-same}
+use Rattle.jc_rules.proofs.ContextLemmas.{no_node, none_some}
 
 pub listed_children : (es : List (Key × Context)) → listed (children es) ≡ es
 listed_children [] = refl
@@ -22,15 +23,11 @@ pub node_found : (x : Option Context) (d : Context) → node_of x ≡ Some (Node
 node_found None d h = cc
 node_found (Some c) d h = cc
 
-no_register : {A : Type 0} (x : Option Register) (d : Context) → values_of x ≡ Some (Node d) → A
-no_register None d h = cc
-no_register (Some v) d h = cc
-
 -- what was put under a tagged key of a node
 pub content-with : (k : Tagged) (d e c : Context) → content k c ≡ Some (Node d) → content k (with_content k (Node e) c) ≡ Some (Node e)
 content-with (MapT k) d e (context m l r p n) h = rw (listed_children, found-put keys_total exact_keys) refl
 content-with (ListT k) d e (context m l r p n) h = rw (listed_children, found-put keys_total exact_keys) refl
-content-with (RegT k) d e (context m l r p n) h = no_register (find key_cmp k r) d h
+content-with (RegT k) d e (context m l r p n) h = no_node (find key_cmp k r) d h
 
 -- of two nodes that are put under a tagged key, the later
 pub with-with : (k : Tagged) (d e c : Context) → with_content k (Node d) (with_content k (Node e) c) ≡ with_content k (Node d) c
@@ -43,9 +40,6 @@ pub with-same : (k : Tagged) (d c : Context) → content k c ≡ Some (Node d) �
 with-same (MapT k) d (context m l r p n) h = rw (put-same keys_total exact_keys k d (listed m) (node_found _ d h), children_listed) refl
 with-same (ListT k) d (context m l r p n) h = rw (put-same keys_total exact_keys k d (listed l) (node_found _ d h), children_listed) refl
 with-same (RegT k) d (context m l r p n) h = refl
-
-none_some : {A : Type 0} {x : Context} → None ≡ Some x → A
-none_some e = absurd (let f : ⊥ = cc in f)
 
 -- the context that was put there
 pub node-with : (ks : List Tagged) (x y c : Context) → node_at ks c ≡ Some x → node_at ks (with_node_at ks y c) ≡ Some y

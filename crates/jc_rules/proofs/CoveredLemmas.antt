@@ -5,34 +5,19 @@ use Rattle.jc_rules.specs.Order.{same_id}
 use Rattle.jc_rules.specs.Ids.{AreRising, has_id, with_id, union, AreIn}
 use Rattle.jc_rules.proofs.IdsLemmas.{same_id-self, same_id-true, has_id-with, has_id-union, union-rises, same_members}
 use Rattle.jc_rules.specs.VersionVectors.{ids_up_to, covered, greatest_of}
-
-pub not_true : {A : Type 0} → false ≡ true → A
-not_true e = absurd (let f : ⊥ = cc in f)
-
-pub in_either : (a b : Bool) → a || b ≡ true → (a ≡ true) ⊎ (b ≡ true)
-in_either true b h = inl refl
-in_either false b h = inr h
+use Rattle.jc_rules.proofs.BoolLemmas.{no_truth, or_cases, or_right, same_tests}
 
 pub left_in : (a b : Bool) → a ≡ true → a || b ≡ true
 left_in true b h = refl
-left_in false b h = not_true h
-
-pub right_in : (a b : Bool) → b ≡ true → a || b ≡ true
-right_in true b h = refl
-right_in false b h = h
-
-pub both_ways : (a b : Bool) → (a ≡ true → b ≡ true) → (b ≡ true → a ≡ true) → a ≡ b
-both_ways true b h g = sym (h refl)
-both_ways false true h g = g refl
-both_ways false false h g = refl
+left_in false b h = no_truth h
 
 pub same_parts : (i j : Id) → i.counter ≡ j.counter → i.replica ≡ j.replica → i ≡ j
 same_parts i j c r = λ n. record { counter = c n; replica = r n }
 
 -- what was counted
 pub in_counted : (k : Id) (p n : ℕ) → has_id k (ids_up_to p n) ≡ true → (k.replica ≡ p) × (1 ≤ k.counter) × (k.counter ≤ n)
-in_counted k p zero h = not_true h
-in_counted k p (suc n) h = go (in_either (same_id k i) (has_id k (ids_up_to p n)) (sym (has_id-with k i (ids_up_to p n)) ∙ h)) (in_counted k p n)
+in_counted k p zero h = no_truth h
+in_counted k p (suc n) h = go (or_cases (same_id k i) (has_id k (ids_up_to p n)) (sym (has_id-with k i (ids_up_to p n)) ∙ h)) (in_counted k p n)
   where
     i : Id
     i = record { counter = suc n; replica = p }
@@ -50,7 +35,7 @@ counted_in k p zero r l m = absurd (omega arith)
 counted_in k p (suc n) r l m = has_id-with k (record { counter = suc n; replica = p }) (ids_up_to p n) ∙ go (leb k.counter n) refl (counted_in k p n r l)
   where
     go : (b : Bool) → leb k.counter n ≡ b → (k.counter ≤ n → has_id k (ids_up_to p n) ≡ true) → same_id k (record { counter = suc n; replica = p }) || has_id k (ids_up_to p n) ≡ true
-    go true e ih = right_in (same_id k (record { counter = suc n; replica = p })) (has_id k (ids_up_to p n)) (ih (leb-true k.counter n e))
+    go true e ih = or_right (same_id k (record { counter = suc n; replica = p })) (has_id k (ids_up_to p n)) (ih (leb-true k.counter n e))
     go false e ih =
         let above : n < k.counter = leb-false k.counter n e in
         let s : k ≡ record { counter = suc n; replica = p } = same_parts k (record { counter = suc n; replica = p }) (omega arith) r in
@@ -71,8 +56,8 @@ greatest_tail i is p = go (eqb i.replica p) refl
     go false e = let g = greatest_there i is p e in omega arith
 
 pub member_below : (k : Id) (s : List Id) → has_id k s ≡ true → k.counter ≤ greatest_of k.replica s
-member_below k [] h = not_true h
-member_below k (i ∷ s) h = go (in_either (same_id k i) (has_id k s) h) (member_below k s)
+member_below k [] h = no_truth h
+member_below k (i ∷ s) h = go (or_cases (same_id k i) (has_id k s) h) (member_below k s)
   where
     go : (same_id k i ≡ true) ⊎ (has_id k s ≡ true) → (has_id k s ≡ true → k.counter ≤ greatest_of k.replica s) → k.counter ≤ greatest_of k.replica (i ∷ s)
     go (inl e) ih =
@@ -87,7 +72,7 @@ reached p [] h = absurd (omega arith)
 reached p (i ∷ s) h = go (eqb i.replica p) refl (reached p s)
   where
     at : (n : ℕ) → n ≡ greatest_of p s → 1 ≤ n → (1 ≤ greatest_of p s → has_id (record { counter = greatest_of p s; replica = p }) s ≡ true) → has_id (record { counter = n; replica = p }) (i ∷ s) ≡ true
-    at n e l ih = subst (λ (m : ℕ). has_id (record { counter = m; replica = p }) (i ∷ s) ≡ true) (sym e) (right_in (same_id (record { counter = greatest_of p s; replica = p }) i) (has_id (record { counter = greatest_of p s; replica = p }) s) (ih (omega arith)))
+    at n e l ih = subst (λ (m : ℕ). has_id (record { counter = m; replica = p }) (i ∷ s) ≡ true) (sym e) (or_right (same_id (record { counter = greatest_of p s; replica = p }) i) (has_id (record { counter = greatest_of p s; replica = p }) s) (ih (omega arith)))
 
     go : (b : Bool) → eqb i.replica p ≡ b → (1 ≤ greatest_of p s → has_id (record { counter = greatest_of p s; replica = p }) s ≡ true) → has_id (record { counter = greatest_of p (i ∷ s); replica = p }) (i ∷ s) ≡ true
     go false e ih = let g = greatest_there i s p e in at (greatest_of p (i ∷ s)) g h ih
@@ -109,8 +94,8 @@ reached p (i ∷ s) h = go (eqb i.replica p) refl (reached p s)
 
 -- what is at or below the given identifiers
 pub in_filled : (k : Id) (s : List Id) → has_id k (covered s) ≡ true → (1 ≤ k.counter) × (k.counter ≤ greatest_of k.replica s)
-in_filled k [] h = not_true h
-in_filled k (i ∷ s) h = go (in_either (has_id k (ids_up_to i.replica i.counter)) (has_id k (covered s)) (sym (has_id-union k (ids_up_to i.replica i.counter) (covered s)) ∙ h)) (in_filled k s)
+in_filled k [] h = no_truth h
+in_filled k (i ∷ s) h = go (or_cases (has_id k (ids_up_to i.replica i.counter)) (has_id k (covered s)) (sym (has_id-union k (ids_up_to i.replica i.counter) (covered s)) ∙ h)) (in_filled k s)
   where
     go : (has_id k (ids_up_to i.replica i.counter) ≡ true) ⊎ (has_id k (covered s) ≡ true) → (has_id k (covered s) ≡ true → (1 ≤ k.counter) × (k.counter ≤ greatest_of k.replica s)) → (1 ≤ k.counter) × (k.counter ≤ greatest_of k.replica (i ∷ s))
     go (inl e) ih =
@@ -128,7 +113,7 @@ filled_in k (i ∷ s) l m = has_id-union k (ids_up_to i.replica i.counter) (cove
     go : (b : Bool) → eqb i.replica k.replica ≡ b → (k.counter ≤ greatest_of k.replica s → has_id k (covered s) ≡ true) → has_id k (ids_up_to i.replica i.counter) || has_id k (covered s) ≡ true
     go false e ih =
         let g = greatest_there i s k.replica e in
-        right_in (has_id k (ids_up_to i.replica i.counter)) (has_id k (covered s)) (ih (omega arith))
+        or_right (has_id k (ids_up_to i.replica i.counter)) (has_id k (covered s)) (ih (omega arith))
     go true e ih = pick (leb k.counter i.counter) refl
       where
         r : i.replica ≡ k.replica
@@ -139,7 +124,7 @@ filled_in k (i ∷ s) l m = has_id-union k (ids_up_to i.replica i.counter) (cove
         pick false f =
             let n = leb-false k.counter i.counter f in
             let g = greatest_here i s k.replica r in
-            right_in (has_id k (ids_up_to i.replica i.counter)) (has_id k (covered s)) (ih (omega arith))
+            or_right (has_id k (ids_up_to i.replica i.counter)) (has_id k (covered s)) (ih (omega arith))
 
 pub filled-rises : (s : List Id) → AreRising (covered s)
 filled-rises [] = tt
@@ -147,7 +132,7 @@ filled-rises (i ∷ s) = union-rises (ids_up_to i.replica i.counter) (covered s)
 
 -- two such sets with the same greatest counters are one
 pub same_filled : (s t : List Id) → ((p : ℕ) → greatest_of p s ≡ greatest_of p t) → covered s ≡ covered t
-same_filled s t e = same_members (covered s) (covered t) (filled-rises s) (filled-rises t) (λ k. both_ways (has_id k (covered s)) (has_id k (covered t)) (over s t e k) (over t s (λ p. sym (e p)) k))
+same_filled s t e = same_members (covered s) (covered t) (filled-rises s) (filled-rises t) (λ k. same_tests (has_id k (covered s)) (has_id k (covered t)) (over s t e k) (over t s (λ p. sym (e p)) k))
   where
     over : (a b : List Id) → ((p : ℕ) → greatest_of p a ≡ greatest_of p b) → (k : Id) → has_id k (covered a) ≡ true → has_id k (covered b) ≡ true
     over a b f k h =

@@ -7,15 +7,16 @@ use Rattle.jc_rules.specs.Order.{same_id}
 use Rattle.jc_rules.specs.Ids.{has_id, union, greatest, AreIn}
 use Rattle.jc_rules.proofs.IdsLemmas.{same_id-self, same_id-true}
 use Rattle.jc_rules.specs.VersionVectors.{covered, ids_up_to, greatest_of, IsVersionVector}
-use Rattle.jc_rules.proofs.CoveredLemmas.{not_true, both_ways, left_in, right_in, same_filled, in_filled, filled_in, filled_subset, reached, member_below, greatest_here, greatest_there}
+use Rattle.jc_rules.proofs.CoveredLemmas.{left_in, same_filled, in_filled, filled_in, filled_subset, reached, member_below, greatest_here, greatest_there}
 use Rattle.jc_rules.proofs.VersionVectorsLemmas.{IsPlace, greatest_at}
+use Rattle.jc_rules.proofs.BoolLemmas.{no_truth, or_right, same_tests}
 
 -- membership
 pub below_found : (i : Id) (s : List Id) → 0 < i.counter → leb i.counter (greatest_of i.replica s) ≡ has_id i (covered s)
-below_found i s l = both_ways (leb i.counter (greatest_of i.replica s)) (has_id i (covered s)) (λ e. filled_in i s (omega arith) (leb-true i.counter (greatest_of i.replica s) e)) (λ e. le-leb i.counter (greatest_of i.replica s) (in_filled i s e).1)
+below_found i s l = same_tests (leb i.counter (greatest_of i.replica s)) (has_id i (covered s)) (λ e. filled_in i s (omega arith) (leb-true i.counter (greatest_of i.replica s) e)) (λ e. le-leb i.counter (greatest_of i.replica s) (in_filled i s e).1)
 
 pub none_found : (i : Id) (s : List Id) → i.counter ≤ 0 → false ≡ has_id i (covered s)
-none_found i s l = both_ways false (has_id i (covered s)) not_true (λ f. let t = (in_filled i s f).0 in absurd (omega arith))
+none_found i s l = same_tests false (has_id i (covered s)) no_truth (λ f. let t = (in_filled i s f).0 in absurd (omega arith))
 
 -- greatest counters with one more in front
 front : (q : ℕ) (i : Id) (s t : List Id) → greatest_of q s ≡ greatest_of q t → greatest_of q (i ∷ s) ≡ greatest_of q (i ∷ t)
@@ -77,7 +78,7 @@ each_below [] t h p = omega arith
 each_below (i ∷ s) t h p = go (leb i.counter (greatest_of i.replica t)) refl (λ g. each_below s t g p)
   where
     go : (b : Bool) → leb i.counter (greatest_of i.replica t) ≡ b → (list_all (λ i. leb i.counter (greatest_of i.replica t)) s ≡ true → greatest_of p s ≤ greatest_of p t) → greatest_of p (i ∷ s) ≤ greatest_of p t
-    go false e ih = not_true (rw e at h)
+    go false e ih = no_truth (rw e at h)
     go true e ih =
         let rest : greatest_of p s ≤ greatest_of p t = ih (rw e at h) in
         pick (eqb i.replica p) refl rest
@@ -95,7 +96,7 @@ all_below : (s t u : List Id) → ((i : Id) → has_id i s ≡ true → has_id i
 all_below [] t u h g = refl
 all_below (i ∷ s) t u h g =
     let first : leb i.counter (greatest_of i.replica t) ≡ true = le-leb i.counter (greatest_of i.replica t) (g i (h i (left_in (same_id i i) (has_id i s) (same_id-self i)))) in
-    rw first (all_below s t u (λ j e. h j (right_in (same_id j i) (has_id j s) e)) g)
+    rw first (all_below s t u (λ j e. h j (or_right (same_id j i) (has_id j s) e)) g)
 
 pub tested : (s t : List Id) → (list_all (λ i. leb i.counter (greatest_of i.replica t)) s ≡ true) ↔ AreIn (covered s) (covered t)
 tested s t = (λ h. filled_subset s t (each_below s t h), up)
@@ -114,7 +115,7 @@ tested_sets s t v w b ev ew e =
 
 -- the greatest of all counters
 pub member_greatest : (k : Id) (s : List Id) → has_id k s ≡ true → k.counter ≤ greatest s
-member_greatest k [] h = not_true h
+member_greatest k [] h = no_truth h
 member_greatest k (i ∷ s) h = go (same_id k i) refl (member_greatest k s)
   where
     go : (b : Bool) → same_id k i ≡ b → (has_id k s ≡ true → k.counter ≤ greatest s) → k.counter ≤ greatest (i ∷ s)
@@ -125,7 +126,7 @@ greatest_bound : (n : ℕ) (s : List Id) → ((k : Id) → has_id k s ≡ true �
 greatest_bound n [] h = omega arith
 greatest_bound n (i ∷ s) h =
     let first = h i (left_in (same_id i i) (has_id i s) (same_id-self i)) in
-    let rest = greatest_bound n s (λ k e. h k (right_in (same_id k i) (has_id k s) e)) in
+    let rest = greatest_bound n s (λ k e. h k (or_right (same_id k i) (has_id k s) e)) in
     omega arith
 
 greatest_of_below : (p : ℕ) (s : List Id) → greatest_of p s ≤ greatest s

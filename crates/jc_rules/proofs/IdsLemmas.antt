@@ -10,6 +10,7 @@ use Rattle.jc_rules.specs.Order.{id_cmp, same_id}
 use Rattle.jc_rules.specs.Ids.{AreRising, has_id, with_id, added, union, without}
 use Rattle.jc_rules.proofs.OrderLemmas.{ids_total, exact_ids}
 use Rattle.jc_rules.proofs.RisingLemmas as rising
+use Rattle.jc_rules.proofs.BoolLemmas.{no_truth, or_swap}
 
 pub equal_itself : (i : Id) → id_cmp i i ≡ Equal
 equal_itself i = tied_itself ids_total i
@@ -34,11 +35,6 @@ greater_less = rising.greater_less ids_total
 or_same : (a b : Bool) → a || b ≡ a || (a || b)
 or_same true b = refl
 or_same false b = refl
-
-or_swap : (a b c : Bool) → a || (b || c) ≡ b || (a || c)
-or_swap true true c = refl
-or_swap true false c = refl
-or_swap false b c = refl
 
 -- what is in a set with one more
 pub has_id-with : (k i : Id) (s : List Id) → has_id k (with_id i s) ≡ same_id k i || has_id k s
@@ -76,10 +72,6 @@ and_or false b c = refl
 and_false : (a : Bool) → a && false ≡ false
 and_false true = refl
 and_false false = refl
-
-and_true : (a : Bool) → a && true ≡ a
-and_true true = refl
-and_true false = refl
 
 -- what is in the first and not in the second
 pub has_id-without : (k : Id) (is deps : List Id) → has_id k (without is deps) ≡ has_id k is && not (has_id k deps)
@@ -159,9 +151,6 @@ union-nothing s h = added-nothing s h
 pub nothing-union : (s : List Id) → AreRising s → union [] s ≡ s
 nothing-union s h = added-nothing s h
 
-not_true : {A : Type 0} → false ≡ true → A
-not_true e = absurd (let f : ⊥ = cc in f)
-
 same_head : (i j : Id) (is js : List Id) → AreRising (i ∷ is) → AreRising (j ∷ js) → ((k : Id) → has_id k (i ∷ is) ≡ has_id k (j ∷ js)) → i ≡ j
 same_head i j is js h g e = go (id_cmp i j) refl
   where
@@ -170,12 +159,12 @@ same_head i j is js h g e = go (id_cmp i j) refl
     go Less p =
         let l : has_id i (j ∷ js) ≡ false = below_none i (j ∷ js) (p, all_later i j js p g.0) in
         let r : has_id i (i ∷ is) ≡ true = rw (same_id-self i) refl in
-        not_true (sym l ∙ sym (e i) ∙ r)
+        no_truth (sym l ∙ sym (e i) ∙ r)
     go Greater p =
         let q : id_cmp j i ≡ Less = greater_less i j p in
         let l : has_id j (i ∷ is) ≡ false = below_none j (i ∷ is) (q, all_later j i is q h.0) in
         let r : has_id j (j ∷ js) ≡ true = rw (same_id-self j) refl in
-        not_true (sym l ∙ e j ∙ r)
+        no_truth (sym l ∙ e j ∙ r)
 
 same_tail : (i : Id) (is js : List Id) → AreRising (i ∷ is) → AreRising (i ∷ js) → ((k : Id) → has_id k (i ∷ is) ≡ has_id k (i ∷ js)) → (k : Id) → has_id k is ≡ has_id k js
 same_tail i is js h g e k = go (same_id k i) refl
@@ -187,8 +176,8 @@ same_tail i is js h g e k = go (same_id k i) refl
 -- two rising lists of the same identifiers are one
 pub same_members : (is js : List Id) → AreRising is → AreRising js → ((k : Id) → has_id k is ≡ has_id k js) → is ≡ js
 same_members [] [] h g e = refl
-same_members [] (j ∷ js) h g e = not_true (e j ∙ rw (same_id-self j) refl)
-same_members (i ∷ is) [] h g e = not_true (sym (e i) ∙ rw (same_id-self i) refl)
+same_members [] (j ∷ js) h g e = no_truth (e j ∙ rw (same_id-self j) refl)
+same_members (i ∷ is) [] h g e = no_truth (sym (e i) ∙ rw (same_id-self i) refl)
 same_members (i ∷ is) (j ∷ js) h g e =
     let s : i ≡ j = same_head i j is js h g e in
     let rest : is ≡ js = same_members is js h.1 g.1 (same_tail i is js h (rw (← s) at g) (rw (← s) at e)) in

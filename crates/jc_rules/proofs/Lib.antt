@@ -1,3 +1,5 @@
+pub mod BoolLemmas
+pub mod ContextLemmas
 pub mod OrderLemmas
 pub mod RisingLemmas
 pub mod EntriesLemmas

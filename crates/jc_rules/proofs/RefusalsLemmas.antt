@@ -9,7 +9,6 @@ use Rattle.jc_rules.specs.declared.rule.Rule.TheVariants as R
 use Rattle.jc_rules.specs.declared.refusal.Refusal.{Refusal}
 use Rattle.jc_rules.specs.declared.refusal.Refusal.TheVariants as F
 use Rattle.jc_rules.specs.declared.rule.TheConstants.{RULES}
-use Rattle.jc_rules.specs.declared.refusal.TheConstants.{REFUSALS}
 
 abbrev pub rule_place : Rule → ℕ
 rule_place R.Exec = 0
@@ -116,120 +115,6 @@ rule_at R.ClearMap3 d = refl
 rule_at R.ClearList1 d = refl
 rule_at R.ClearList2 d = refl
 rule_at R.ClearList3 d = refl
-
-abbrev pub refusal_place : Refusal → ℕ
-refusal_place F.BadByte = 0
-refusal_place F.OpenString = 1
-refusal_place F.BadEscape = 2
-refusal_place F.LoneSurrogate = 3
-refusal_place F.BadNumber = 4
-refusal_place F.TextTooLong = 5
-refusal_place F.Unexpected = 6
-refusal_place F.EndOfText = 7
-refusal_place F.IndexTooLarge = 8
-refusal_place F.ReservedName = 9
-refusal_place F.TooManyCommands = 10
-refusal_place F.TooLongExpression = 11
-refusal_place F.NotUtf8 = 12
-refusal_place F.NoHeader = 13
-refusal_place F.SameName = 14
-refusal_place F.NoReplica = 15
-refusal_place F.TooManyReplicas = 16
-refusal_place F.UnknownReplica = 17
-refusal_place F.TooManyEvents = 18
-refusal_place F.NotInList = 19
-refusal_place F.UnboundVariable = 20
-refusal_place F.GetOnHead = 21
-refusal_place F.NotACursor = 22
-refusal_place F.NoSuchNode = 23
-refusal_place F.PastEnd = 24
-refusal_place F.NoMap = 25
-refusal_place F.NoRegister = 26
-refusal_place F.TooDeep = 27
-refusal_place F.NoCommand = 28
-refusal_place F.AtYield = 29
-refusal_place F.NotAtYield = 30
-refusal_place F.NotActed = 31
-refusal_place F.NotReceived = 32
-refusal_place F.AlreadyApplied = 33
-refusal_place F.DepsMissing = 34
-refusal_place F.NoSuchReplica = 35
-refusal_place F.Full = 36
-refusal_place F.WrongVersion = 37
-refusal_place F.NoPasses = 38
-refusal_place F.TooManyTakes = 39
-refusal_place F.Spent = 40
-refusal_place F.MissingPass = 41
-refusal_place F.GivenStuck = 42
-refusal_place F.GateCount = 43
-refusal_place F.LimitTooLarge = 44
-refusal_place F.NoThread = 45
-refusal_place F.AtStart = 46
-refusal_place F.AtEnd = 47
-refusal_place F.PastSchedule = 48
-refusal_place F.NoSuchBreak = 49
-refusal_place F.TooManyBreaks = 50
-refusal_place F.ReadFailed = 51
-refusal_place F.WriteFailed = 52
-refusal_place F.TooManyLines = 53
-refusal_place F.BadLine = 54
-
-pub refusal_at : (r d : Refusal) → get_or REFUSALS (refusal_place r) d ≡ r
-refusal_at F.BadByte d = refl
-refusal_at F.OpenString d = refl
-refusal_at F.BadEscape d = refl
-refusal_at F.LoneSurrogate d = refl
-refusal_at F.BadNumber d = refl
-refusal_at F.TextTooLong d = refl
-refusal_at F.Unexpected d = refl
-refusal_at F.EndOfText d = refl
-refusal_at F.IndexTooLarge d = refl
-refusal_at F.ReservedName d = refl
-refusal_at F.TooManyCommands d = refl
-refusal_at F.TooLongExpression d = refl
-refusal_at F.NotUtf8 d = refl
-refusal_at F.NoHeader d = refl
-refusal_at F.SameName d = refl
-refusal_at F.NoReplica d = refl
-refusal_at F.TooManyReplicas d = refl
-refusal_at F.UnknownReplica d = refl
-refusal_at F.TooManyEvents d = refl
-refusal_at F.NotInList d = refl
-refusal_at F.UnboundVariable d = refl
-refusal_at F.GetOnHead d = refl
-refusal_at F.NotACursor d = refl
-refusal_at F.NoSuchNode d = refl
-refusal_at F.PastEnd d = refl
-refusal_at F.NoMap d = refl
-refusal_at F.NoRegister d = refl
-refusal_at F.TooDeep d = refl
-refusal_at F.NoCommand d = refl
-refusal_at F.AtYield d = refl
-refusal_at F.NotAtYield d = refl
-refusal_at F.NotActed d = refl
-refusal_at F.NotReceived d = refl
-refusal_at F.AlreadyApplied d = refl
-refusal_at F.DepsMissing d = refl
-refusal_at F.NoSuchReplica d = refl
-refusal_at F.Full d = refl
-refusal_at F.WrongVersion d = refl
-refusal_at F.NoPasses d = refl
-refusal_at F.TooManyTakes d = refl
-refusal_at F.Spent d = refl
-refusal_at F.MissingPass d = refl
-refusal_at F.GivenStuck d = refl
-refusal_at F.GateCount d = refl
-refusal_at F.LimitTooLarge d = refl
-refusal_at F.NoThread d = refl
-refusal_at F.AtStart d = refl
-refusal_at F.AtEnd d = refl
-refusal_at F.PastSchedule d = refl
-refusal_at F.NoSuchBreak d = refl
-refusal_at F.TooManyBreaks d = refl
-refusal_at F.ReadFailed d = refl
-refusal_at F.WriteFailed d = refl
-refusal_at F.TooManyLines d = refl
-refusal_at F.BadLine d = refl
 
 pub rule_within : (r : Rule) → rule_place r < 51
 rule_within R.Exec = omega arith
@@ -403,7 +288,11 @@ named_back R.ClearList1 = refl
 named_back R.ClearList2 = refl
 named_back R.ClearList3 = refl
 
-numbered_back : (r : Refusal) → refusal_numbered (refusal_number r) REFUSALS ≡ Some r
+-- each refusal once
+abbrev refusals : List Refusal
+refusals = F.BadByte ∷ F.OpenString ∷ F.BadEscape ∷ F.LoneSurrogate ∷ F.BadNumber ∷ F.TextTooLong ∷ F.Unexpected ∷ F.EndOfText ∷ F.IndexTooLarge ∷ F.ReservedName ∷ F.TooManyCommands ∷ F.TooLongExpression ∷ F.NotUtf8 ∷ F.NoHeader ∷ F.SameName ∷ F.NoReplica ∷ F.TooManyReplicas ∷ F.UnknownReplica ∷ F.TooManyEvents ∷ F.NotInList ∷ F.UnboundVariable ∷ F.GetOnHead ∷ F.NotACursor ∷ F.NoSuchNode ∷ F.PastEnd ∷ F.NoMap ∷ F.NoRegister ∷ F.TooDeep ∷ F.NoCommand ∷ F.AtYield ∷ F.NotAtYield ∷ F.NotActed ∷ F.NotReceived ∷ F.AlreadyApplied ∷ F.DepsMissing ∷ F.NoSuchReplica ∷ F.Full ∷ F.WrongVersion ∷ F.NoPasses ∷ F.TooManyTakes ∷ F.Spent ∷ F.MissingPass ∷ F.GivenStuck ∷ F.GateCount ∷ F.LimitTooLarge ∷ F.NoThread ∷ F.AtStart ∷ F.AtEnd ∷ F.PastSchedule ∷ F.NoSuchBreak ∷ F.TooManyBreaks ∷ F.ReadFailed ∷ F.WriteFailed ∷ F.TooManyLines ∷ F.BadLine ∷ []
+
+numbered_back : (r : Refusal) → refusal_numbered (refusal_number r) refusals ≡ Some r
 numbered_back F.BadByte = refl
 numbered_back F.OpenString = refl
 numbered_back F.BadEscape = refl
@@ -464,4 +353,4 @@ pub names_differ : (r s : Rule) → rule_name r ≡ rule_name s → r ≡ s
 names_differ r s e = same_Some r s (sym (named_back r) ∙ (ap (λ n. rule_named n RULES) e ∙ named_back s))
 
 pub numbers_differ : (r s : Refusal) → refusal_number r ≡ refusal_number s → r ≡ s
-numbers_differ r s e = same_Some r s (sym (numbered_back r) ∙ (ap (λ n. refusal_numbered n REFUSALS) e ∙ numbered_back s))
+numbers_differ r s e = same_Some r s (sym (numbered_back r) ∙ (ap (λ n. refusal_numbered n refusals) e ∙ numbered_back s))

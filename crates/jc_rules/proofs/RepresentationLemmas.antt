@@ -11,7 +11,8 @@ use Rattle.jc_rules.proofs.IdsLemmas.{same_id-true, has_id-with, with-rises}
 use Rattle.jc_rules.specs.VersionVectors.{ids_up_to, covered, greatest_of}
 use Rattle.jc_rules.specs.Representation.{IsCausallyClosed, Represents}
 use Rattle.jc_rules.proofs.IdSetLemmas.{greatest-filled}
-use Rattle.jc_rules.proofs.CoveredLemmas.{in_either, right_in, both_ways, same_parts, in_filled, filled_in, reached, member_below, filled-with, filled_subset, greatest_least, greatest_of-filled}
+use Rattle.jc_rules.proofs.CoveredLemmas.{same_parts, in_filled, filled_in, reached, member_below, filled-with, filled_subset, greatest_least, greatest_of-filled}
+use Rattle.jc_rules.proofs.BoolLemmas.{or_cases, or_right, same_tests}
 
 -- the operation that was looked up
 pub looked_up : (i : Id) (set : List Op) (o : Op) → op_of i set ≡ Some o → (o.id ≡ i) × Contains set o
@@ -61,7 +62,7 @@ earlier set s sound closed i j o h there r l = go (leb j.counter i.counter) refl
 
 -- greatest counters tell what is in a causally closed set
 pub counters_tell : (set : List Op) (s : List Id) → IsSound set → IsCausallyClosed set s → (i : Id) (o : Op) → op_of i set ≡ Some o → has_id i (covered s) ≡ has_id i s
-counters_tell set s sound closed i o h = both_ways (has_id i (covered s)) (has_id i s) down up
+counters_tell set s sound closed i o h = same_tests (has_id i (covered s)) (has_id i s) down up
   where
     down : has_id i (covered s) ≡ true → has_id i s ≡ true
     down e =
@@ -77,8 +78,8 @@ counters_tell set s sound closed i o h = both_ways (has_id i (covered s)) (has_i
 pub closed_with : (set : List Op) (s : List Id) (i : Id) (o : Op) → IsCausallyClosed set s → op_of i set ≡ Some o → AreIn o.deps s → IsCausallyClosed set (with_id i s)
 closed_with set s i o closed h deps = record {
   rises = with-rises i s closed.rises;
-  known = λ j e. known j (in_either (same_id j i) (has_id j s) (sym (has_id-with j i s) ∙ e));
-  closed = λ j p e g. inside j p g (in_either (same_id j i) (has_id j s) (sym (has_id-with j i s) ∙ e));
+  known = λ j e. known j (or_cases (same_id j i) (has_id j s) (sym (has_id-with j i s) ∙ e));
+  closed = λ j p e g. inside j p g (or_cases (same_id j i) (has_id j s) (sym (has_id-with j i s) ∙ e));
 }
   where
     known : (j : Id) → (same_id j i ≡ true) ⊎ (has_id j s ≡ true) → (p : Op) × (op_of j set ≡ Some p)
@@ -86,7 +87,7 @@ closed_with set s i o closed h deps = record {
     known j (inr e) = closed.known j e
 
     wider : (k : Id) → has_id k s ≡ true → has_id k (with_id i s) ≡ true
-    wider k e = has_id-with k i s ∙ right_in (same_id k i) (has_id k s) e
+    wider k e = has_id-with k i s ∙ or_right (same_id k i) (has_id k s) e
 
     inside : (j : Id) (p : Op) → op_of j set ≡ Some p → (same_id j i ≡ true) ⊎ (has_id j s ≡ true) → AreIn p.deps (with_id i s)
     inside j p g (inl e) k d =

@@ -7,7 +7,8 @@ use Rattle.std.proofs.lemmas.Grind.{common_steps}
 use Rattle.std.proofs.lemmas.List.Quantifiers.{position-Some}
 use Rattle.jc_rules.specs.declared.id.Id.{Id}
 use Rattle.jc_rules.specs.VersionVectors.{greatest_of, IsVersionVector}
-use Rattle.jc_rules.proofs.CoveredLemmas.{not_true, greatest_here, greatest_there}
+use Rattle.jc_rules.proofs.CoveredLemmas.{greatest_here, greatest_there}
+use Rattle.jc_rules.proofs.BoolLemmas.{no_truth}
 
 -- none is the replica's
 abbrev pub NoneOf : ℕ → List Id → Type 0
@@ -18,7 +19,7 @@ other_way m n h = go (eqb n m) refl
   where
     go : (b : Bool) → eqb n m ≡ b → eqb n m ≡ false
     go false e = e
-    go true e = not_true (sym h ∙ eq-eqb m n (sym (eqb-true n m e)))
+    go true e = no_truth (sym h ∙ eq-eqb m n (sym (eqb-true n m e)))
 
 pub none_left : (p : ℕ) (s : List Id) → NoneOf p s → greatest_of p s ≡ 0
 none_left p [] h = refl

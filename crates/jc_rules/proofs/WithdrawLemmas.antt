@@ -9,8 +9,9 @@ use Rattle.jc_rules.specs.Ids.{AreRising, has_id, with_id, union, without}
 use Rattle.jc_rules.proofs.IdsLemmas.{same_id-true, has_id-without, same_members}
 use Rattle.jc_rules.specs.VersionVectors.{covered, ids_up_to, greatest_of, truncated, IsVersionVector}
 use Rattle.jc_rules.specs.Representation.{IsCausallyClosed, Represents}
-use Rattle.jc_rules.proofs.CoveredLemmas.{not_true, both_ways, in_filled, filled_in, filled-rises, filled-with, greatest_here, greatest_there, greatest_least, greatest_of-with, member_below}
+use Rattle.jc_rules.proofs.CoveredLemmas.{in_filled, filled_in, filled-rises, filled-with, greatest_here, greatest_there, greatest_least, greatest_of-with, member_below}
 use Rattle.jc_rules.proofs.VersionVectorsLemmas.{IsPlace, NoneOf, none_left, apart, other_way}
+use Rattle.jc_rules.proofs.BoolLemmas.{no_truth, same_tests}
 
 module _ (f : Id → Bool) where
   below_filter : (i : Id) (s : List Id) → AllByRecursion (λ k. id_cmp i k ≡ Less) s → AllByRecursion (λ k. id_cmp i k ≡ Less) (filter f s)
@@ -30,7 +31,7 @@ module _ (f : Id → Bool) where
       go false p ih = rw p ih
 
   pub in_filter : (k : Id) (s : List Id) → has_id k (filter f s) ≡ true → (has_id k s ≡ true) × (f k ≡ true)
-  in_filter k [] h = not_true h
+  in_filter k [] h = no_truth h
   in_filter k (i ∷ s) h = go (f i) refl (same_id k i) refl (in_filter k s) h
     where
       go : (b : Bool) → f i ≡ b → (c : Bool) → same_id k i ≡ c → (has_id k (filter f s) ≡ true → (has_id k s ≡ true) × (f k ≡ true)) → has_id k (filter f (i ∷ s)) ≡ true → (has_id k (i ∷ s) ≡ true) × (f k ≡ true)
@@ -40,18 +41,18 @@ module _ (f : Id → Bool) where
       go false p false q ih g = let r : has_id k (filter f s) ≡ true = rw p at g in let t = ih r in (rw q t.0, t.1)
 
   pub filter_in : (k : Id) (s : List Id) → has_id k s ≡ true → f k ≡ true → has_id k (filter f s) ≡ true
-  filter_in k [] h e = not_true h
+  filter_in k [] h e = no_truth h
   filter_in k (i ∷ s) h e = go (f i) refl (same_id k i) refl (λ g. filter_in k s g e)
     where
       go : (b : Bool) → f i ≡ b → (c : Bool) → same_id k i ≡ c → (has_id k s ≡ true → has_id k (filter f s) ≡ true) → has_id k (filter f (i ∷ s)) ≡ true
       go true p true q ih = rw (p, q) refl
       go true p false q ih = let r : has_id k s ≡ true = rw q at h in rw (p, q) (ih r)
-      go false p true q ih = let s : k ≡ i = same_id-true k i q in not_true (sym p ∙ sym (ap f s) ∙ e)
+      go false p true q ih = let s : k ≡ i = same_id-true k i q in no_truth (sym p ∙ sym (ap f s) ∙ e)
       go false p false q ih = let r : has_id k s ≡ true = rw q at h in rw p (ih r)
 
 -- with one replica's greatest counter lowered
 pub filled-lowered : (p n : ℕ) (s t : List Id) → n ≤ greatest_of p s → greatest_of p t ≡ n → ((q : ℕ) → eqb q p ≡ false → greatest_of q t ≡ greatest_of q s) → covered t ≡ truncated p n (covered s)
-filled-lowered p n s t l here there = same_members (covered t) (truncated p n (covered s)) (filled-rises t) (filter-rises test (covered s) (filled-rises s)) (λ k. both_ways (has_id k (covered t)) (has_id k (truncated p n (covered s))) (down k) (up k))
+filled-lowered p n s t l here there = same_members (covered t) (truncated p n (covered s)) (filled-rises t) (filter-rises test (covered s) (filled-rises s)) (λ k. same_tests (has_id k (covered t)) (has_id k (truncated p n (covered s))) (down k) (up k))
   where
     test : Id → Bool
     test = λ i. not (eqb i.replica p) || leb i.counter n
@@ -142,7 +143,7 @@ stands-withdrawn set s v new i before h g l e closed last = record {
       where
         first : (a b : Bool) → a && b ≡ true → a ≡ true
         first true b h = refl
-        first false b h = not_true h
+        first false b h = no_truth h
 
     bound : before ≤ greatest_of i.replica s
     bound = let a = less i.replica in omega (arith, last)
@@ -157,7 +158,7 @@ stands-withdrawn set s v new i before h g l e closed last = record {
             go false p = rw (x, p) refl
             go true p =
                 let same : k ≡ i = same_id-true k i p in
-                not_true (sym f ∙ eq-eqb q i.replica (sym r ∙ ap (λ (j : Id). j.replica) same))
+                no_truth (sym f ∙ eq-eqb q i.replica (sym r ∙ ap (λ (j : Id). j.replica) same))
 
         more : greatest_of q s ≤ greatest_of q (without s (i ∷ []))
         more = greatest_least q (greatest_of q (without s (i ∷ []))) s (λ k x r. subst (λ (y : ℕ). k.counter ≤ greatest_of y (without s (i ∷ []))) r (member_below k (without s (i ∷ [])) (stays k x r)))

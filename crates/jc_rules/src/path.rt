@@ -1,6 +1,7 @@
 //! Paths of tagged keys.
 
 ghost use Rattle.std.specs.Prelude.{◌≡◌, ◌<◌, [], ◌∷◌, ◌++◌, length, IfOk, OnOk, OnErr};
+ghost use Rattle.jc_rules.specs.declared.limits.TheConstants.{MAX_PATH};
 ghost use Rattle.jc_rules.specs.Paths.{HasContext, IsPath};
 
 use crate::key::Tagged;
@@ -9,7 +10,7 @@ use std::alloc::{AllocError, Global};
 use std::marker::Model;
 
 /// The tagged keys that lead from the document down to a context: keys of maps and lists, at most
-/// 512. Short paths take no memory.
+/// `MAX_PATH`. Short paths take no memory.
 #[derive(Drop)]
 pub struct Path {
     keys: SmallVec<Tagged, 8>,
@@ -40,7 +41,7 @@ impl Path {
     /// Goes one key further down, into a map or a list. After a refusal the path is as it was.
     pub fn push(&mut self, key: Tagged) -> Result<(), AllocError>
         requires context { HasContext key }
-        requires room { length self.old < 512 }
+        requires room { length self.old < MAX_PATH }
         ensures ok { OnOk result (self.new ≡ self.old ++ key ∷ []) }
         ensures err { OnErr result (self.new ≡ self.old) }
     {

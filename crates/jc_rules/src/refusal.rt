@@ -1,7 +1,6 @@
 //! The refusals: their numbers and names.
 
-ghost use Rattle.std.specs.Prelude.{◌≡◌, ◌≢◌, IfSome, IfNone, Some};
-ghost use Rattle.jc_rules.specs.declared.refusal.Refusal.{Refusal as AnyRefusal};
+ghost use Rattle.std.specs.Prelude.{◌≡◌, Some};
 ghost use Rattle.jc_rules.specs.Refusals.{refusal_number, refusal_name};
 
 use std::fmt;
@@ -65,65 +64,6 @@ pub enum Refusal {
     TooManyLines,
     BadLine,
 }
-
-/// Every refusal, by number.
-const REFUSALS: [Refusal; 55] = [
-    Refusal::BadByte,
-    Refusal::OpenString,
-    Refusal::BadEscape,
-    Refusal::LoneSurrogate,
-    Refusal::BadNumber,
-    Refusal::TextTooLong,
-    Refusal::Unexpected,
-    Refusal::EndOfText,
-    Refusal::IndexTooLarge,
-    Refusal::ReservedName,
-    Refusal::TooManyCommands,
-    Refusal::TooLongExpression,
-    Refusal::NotUtf8,
-    Refusal::NoHeader,
-    Refusal::SameName,
-    Refusal::NoReplica,
-    Refusal::TooManyReplicas,
-    Refusal::UnknownReplica,
-    Refusal::TooManyEvents,
-    Refusal::NotInList,
-    Refusal::UnboundVariable,
-    Refusal::GetOnHead,
-    Refusal::NotACursor,
-    Refusal::NoSuchNode,
-    Refusal::PastEnd,
-    Refusal::NoMap,
-    Refusal::NoRegister,
-    Refusal::TooDeep,
-    Refusal::NoCommand,
-    Refusal::AtYield,
-    Refusal::NotAtYield,
-    Refusal::NotActed,
-    Refusal::NotReceived,
-    Refusal::AlreadyApplied,
-    Refusal::DepsMissing,
-    Refusal::NoSuchReplica,
-    Refusal::Full,
-    Refusal::WrongVersion,
-    Refusal::NoPasses,
-    Refusal::TooManyTakes,
-    Refusal::Spent,
-    Refusal::MissingPass,
-    Refusal::GivenStuck,
-    Refusal::GateCount,
-    Refusal::LimitTooLarge,
-    Refusal::NoThread,
-    Refusal::AtStart,
-    Refusal::AtEnd,
-    Refusal::PastSchedule,
-    Refusal::NoSuchBreak,
-    Refusal::TooManyBreaks,
-    Refusal::ReadFailed,
-    Refusal::WriteFailed,
-    Refusal::TooManyLines,
-    Refusal::BadLine,
-];
 
 impl Refusal {
     /// The refusal's number.
@@ -250,19 +190,6 @@ impl Refusal {
             Refusal::TooManyLines => "TooManyLines",
             Refusal::BadLine => "BadLine",
         }
-    }
-
-    /// The refusal with the number, if there is one.
-    pub fn of_number(number: u8) -> Option<Refusal>
-        ensures numbered { IfSome result (λ refusal. refusal_number refusal ≡ number) }
-        ensures unknown { IfNone result ((refusal : AnyRefusal) → refusal_number refusal ≢ number) }
-    {
-        for refusal in REFUSALS {
-            if refusal.number() == number {
-                return Some(refusal);
-            }
-        }
-        None
     }
 }
 

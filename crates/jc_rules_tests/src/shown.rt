@@ -13,19 +13,6 @@ const RULES: &[(&str, Option<Rule>)] = &[
     ("", None),
 ];
 
-/// Numbers of refusals; the others stand for none.
-const REFUSALS: &[(u8, Option<Refusal>)] = &[
-    (36, Some(Refusal::DepsMissing)),
-    (58, Some(Refusal::BadLine)),
-    (0, None),
-    (21, None),
-    (39, Some(Refusal::WrongVersion)),
-    (44, Some(Refusal::GivenStuck)),
-    (48, None),
-    (49, None),
-    (59, None),
-];
-
 #[test]
 fn names_and_numbers(rt: HostRuntime) {
     is_text(&rt, Rule::MakeAssign.name(), "MAKE-ASSIGN");
@@ -34,9 +21,9 @@ fn names_and_numbers(rt: HostRuntime) {
     }
     holds(&rt, "NoHeader", Refusal::NoHeader.number() == 14);
     is_text(&rt, Refusal::NoSuchNode.name(), "NoSuchNode");
-    for (number, want) in REFUSALS {
-        assert!(rt; Refusal::of_number(*number) == *want, "{number}");
-    }
+    holds(&rt, "WrongVersion", Refusal::WrongVersion.number() == 39);
+    holds(&rt, "GivenStuck", Refusal::GivenStuck.number() == 44);
+    holds(&rt, "BadLine", Refusal::BadLine.number() == 58);
 }
 
 fn shows(rt: &impl Abort, trace: &Trace, rows: &[(Rule, u64)], depth: u64) {

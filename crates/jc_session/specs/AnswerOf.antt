@@ -34,10 +34,6 @@ pub record GivesLine (old : Seen) (line : Line) (new : Seen) (text : List ℕ) :
 
 -- ---- parts of answers
 
--- some refusal has the number
-abbrev pub HasRefusal : ℕ → Type 0
-HasRefusal n = (refusal : Refusal) × (refusal_number refusal ≡ n)
-
 -- what the rest of an `act` line spells
 abbrev pub Spells : Version → List (List ℕ) → List ℕ → Spelling → Type 0
 Spells version names rest (S.Event event) = IsEventText version names rest event

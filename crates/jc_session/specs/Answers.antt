@@ -8,14 +8,13 @@ use Rattle.jc_rules.specs.declared.rule.Rule.TheVariants as R
 use Rattle.jc_rules.specs.declared.version.Version.{Version}
 use Rattle.jc_rules.specs.declared.version.Version.TheVariants.{One, Two}
 use Rattle.jc_rules.specs.RuleNames.{rule_name}
-use Rattle.jc_rules.specs.Refusals.{refusal_number}
 use Rattle.jc_rules.specs.Refused.{Cause, IsStuckIn}
 use Rattle.jc_rules.specs.WellFormed.{drop}
 use Rattle.jc_rules.specs.State.{State}
 use Rattle.jc_rules.specs.Step.{Network, StepIn}
 use Rattle.jc_syntax.specs.declared.tree.NamedEvent.{NamedEvent}
 use Rattle.jc_parser.specs.declared.fault.ScenarioFault.{ScenarioFault}
-use Rattle.jc_parser.specs.Faults.{fault_number as fault_number, fault_offset}
+use Rattle.jc_parser.specs.Faults.{fault_refusal, fault_offset}
 use Rattle.jc_parser.specs.Events.{IsEventOf, IsEventFault}
 use Rattle.jc_scenario.specs.Resolved.{IsResolved, names_in_event, IsFirstStranger}
 use Rattle.jc_scenario.specs.WellFormed.{Scenario}
@@ -55,16 +54,16 @@ Knows R.RecvOne Two = Unit {0}
 Knows rule version = Unit {0}
 
 -- The line of a refusal that has a place.
-pub record IsRefusalAt (number at : Option ℕ) (text : List ℕ) : Type 0 where
+pub record IsRefusalAt (which : Option Refusal) (at : Option ℕ) (text : List ℕ) : Type 0 where
   pub refusal : Refusal
   pub place : ℕ
-  pub is_number : number ≡ Some (refusal_number refusal)
+  pub is_refusal : which ≡ Some refusal
   pub is_place : at ≡ Some place
   pub written : text ≡ refused_text refusal place
 
 -- the line of a text's fault
 abbrev pub IsFaultLine : ScenarioFault → List ℕ → Type 0
-IsFaultLine fault text = IsRefusalAt (fault_number fault) (fault_offset fault) text
+IsFaultLine fault text = IsRefusalAt (fault_refusal fault) (fault_offset fault) text
 
 -- ---- parts of answers
 

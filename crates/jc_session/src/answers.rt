@@ -113,20 +113,16 @@ enum Spelling {
     Refused(String),
 }
 
-/// The line of a fault of a text. Want of memory has no number and no line.
+/// The line of a fault of a text. Want of memory is no refusal and has no line.
 pub fn fault_line(
     alloc: Global,
-    number: Option<u8>,
+    refusal: Option<Refusal>,
     place: Option<usize>,
 ) -> Result<String, AllocError>
-    requires { IfSome number HasRefusal }
-    ensures { IfOk result (λ text. IsRefusalAt number place (string_bytes text)) }
+    ensures { IfOk result (λ text. IsRefusalAt refusal place (string_bytes text)) }
 {
-    let (Some(number), Some(place)) = (number, place) else {
+    let (Some(refusal), Some(place)) = (refusal, place) else {
         return Err(AllocError);
-    };
-    let Some(refusal) = Refusal::of_number(number) else {
-        unreachable!()
     };
     refused_text(alloc, refusal, place)
 }

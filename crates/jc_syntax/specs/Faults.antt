@@ -1,19 +1,10 @@
--- The number and the place of a lexical fault, and what it is shown as.
-use Rattle.std.specs.Prelude.{ℕ, Option, Some, None, List, ◌++◌, codes, decimal}
+-- Faults of a text's tokens: the refusal, its number, the offset, and what is shown of them.
+use Rattle.std.specs.Prelude.{ℕ, Option, Some, None, List, ◌++◌, codes, decimal, option_map}
 use Rattle.jc_rules.specs.declared.refusal.Refusal.{Refusal}
 use Rattle.jc_rules.specs.declared.refusal.Refusal.TheVariants as refusals
-use Rattle.jc_rules.specs.Refusals.{refusal_name}
+use Rattle.jc_rules.specs.Refusals.{refusal_name, refusal_number}
 use Rattle.jc_syntax.specs.declared.fault.LexFault.{LexFault}
 use Rattle.jc_syntax.specs.declared.fault.LexFault.TheVariants.{BadByte, OpenString, BadEscape, LoneSurrogate, BadNumber, TextTooLong, Memory}
-
-abbrev pub lex_fault_number : LexFault → Option ℕ
-lex_fault_number (BadByte place) = Some 1
-lex_fault_number (OpenString place) = Some 2
-lex_fault_number (BadEscape place) = Some 3
-lex_fault_number (LoneSurrogate place) = Some 4
-lex_fault_number (BadNumber place) = Some 5
-lex_fault_number (TextTooLong place) = Some 6
-lex_fault_number Memory = None
 
 abbrev pub lex_fault_offset : LexFault → Option ℕ
 lex_fault_offset (BadByte place) = Some place
@@ -33,11 +24,14 @@ lex_refusal (BadNumber place) = Some refusals.BadNumber
 lex_refusal (TextTooLong place) = Some refusals.TextTooLong
 lex_refusal Memory = None
 
+abbrev pub lex_fault_number : LexFault → Option ℕ
+lex_fault_number fault = option_map refusal_number (lex_refusal fault)
+
 -- a refusal at a place, as it is shown; what is no refusal is want of memory
-abbrev pub lex_fault_line : Option Refusal → Option ℕ → List ℕ
-lex_fault_line (Some refusal) (Some place) = refusal_name refusal ++ codes " at " ++ decimal place
-lex_fault_line (Some refusal) None = codes "no memory"
-lex_fault_line None place = codes "no memory"
+abbrev pub refusal_text : Option Refusal → Option ℕ → List ℕ
+refusal_text (Some refusal) (Some place) = refusal_name refusal ++ codes " at " ++ decimal place
+refusal_text (Some refusal) None = codes "no memory"
+refusal_text None place = codes "no memory"
 
 abbrev pub lex_fault_text : LexFault → List ℕ
-lex_fault_text fault = lex_fault_line (lex_refusal fault) (lex_fault_offset fault)
+lex_fault_text fault = refusal_text (lex_refusal fault) (lex_fault_offset fault)

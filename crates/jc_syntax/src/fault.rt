@@ -29,22 +29,7 @@ pub enum LexFault {
 }
 
 impl LexFault {
-    /// The number of the refusal, from 1 to 6; want of memory has none.
-    pub fn number(&self) -> Option<u8>
-        ensures { result ≡ lex_fault_number self.now }
-    {
-        match self {
-            LexFault::BadByte { .. } => Some(1),
-            LexFault::OpenString { .. } => Some(2),
-            LexFault::BadEscape { .. } => Some(3),
-            LexFault::LoneSurrogate { .. } => Some(4),
-            LexFault::BadNumber { .. } => Some(5),
-            LexFault::TextTooLong { .. } => Some(6),
-            LexFault::Memory => None,
-        }
-    }
-
-    /// Where the fault stands in the text; want of memory stands nowhere.
+    /// The fault's offset in the text; want of memory has none.
     pub fn place(&self) -> Option<usize>
         ensures { result ≡ lex_fault_offset self.now }
     {
@@ -59,8 +44,8 @@ impl LexFault {
         }
     }
 
-    /// The refusal that the fault is; want of memory is none.
-    fn refusal(&self) -> Option<Refusal>
+    /// The refusal; want of memory is none.
+    pub fn refusal(&self) -> Option<Refusal>
         ensures { result ≡ lex_refusal self.now }
     {
         match self {
@@ -71,6 +56,16 @@ impl LexFault {
             LexFault::BadNumber { .. } => Some(Refusal::BadNumber),
             LexFault::TextTooLong { .. } => Some(Refusal::TextTooLong),
             LexFault::Memory => None,
+        }
+    }
+
+    /// The number of the refusal, from 1 to 6; want of memory has none.
+    pub fn number(&self) -> Option<u8>
+        ensures { result ≡ lex_fault_number self.now }
+    {
+        match self.refusal() {
+            Some(refusal) => Some(refusal.number()),
+            None => None,
         }
     }
 }

@@ -11,16 +11,17 @@ use Rattle.jc_rules.specs.Representation.{IsCausallyClosed, Represents}
 use Rattle.jc_vectors.specs.OperationIds.{ids_of_ops, ids_within}
 use Rattle.jc_vectors.specs.KnownIds.{Agree}
 use Rattle.jc_rules.specs.Sound.{IsSound}
-use Rattle.jc_rules.proofs.CoveredLemmas.{not_true, left_in, right_in, both_ways, in_filled, filled_in, same_filled, greatest_of-filled}
+use Rattle.jc_rules.proofs.CoveredLemmas.{left_in, in_filled, filled_in, same_filled, greatest_of-filled}
 use Rattle.jc_rules.proofs.WithdrawLemmas.{in_filter, filter_in, filter-rises}
 use Rattle.jc_rules.proofs.RepresentationLemmas.{contains_stands, counts}
 use Rattle.jc_rules.proofs.RepresentationLemmas as standing
 use Rattle.jc_rules.proofs.WithdrawLemmas.{lowered-inserted}
 use Rattle.jc_vectors.specs.Laws.{CountersTell, WithinIs, InsertedWithdrawn}
+use Rattle.jc_rules.proofs.BoolLemmas.{no_truth, or_right, same_tests}
 
 -- an identifier of the set is that of one of its operations
 pub of_operation : (i : Id) (set : List Op) → has_id i (ids_of_ops set) ≡ true → (o : Op) × (op_of i set ≡ Some o)
-of_operation i [] h = not_true h
+of_operation i [] h = no_truth h
 of_operation i (e ∷ set) h = go (same_id i e.id) refl (of_operation i set)
   where
     further : ((o : Op) × (op_of i set ≡ Some o)) → same_id i e.id ≡ false → (o : Op) × (op_of i (e ∷ set) ≡ Some o)
@@ -39,7 +40,7 @@ operation_of i (e ∷ set) o h = has_id-with i e.id (ids_of_ops set) ∙ go (sam
   where
     go : (b : Bool) → same_id i e.id ≡ b → (op_of i set ≡ Some o → has_id i (ids_of_ops set) ≡ true) → same_id i e.id || has_id i (ids_of_ops set) ≡ true
     go true p ih = left_in (same_id i e.id) (has_id i (ids_of_ops set)) p
-    go false p ih = right_in (same_id i e.id) (has_id i (ids_of_ops set)) (ih (rw p at h))
+    go false p ih = or_right (same_id i e.id) (has_id i (ids_of_ops set)) (ih (rw p at h))
 
 -- what is stood for and the greatest counters agree on identifiers of the set
 pub stands_agree : (set : List Op) (s v : List Id) → Represents set s v → Agree (ids_of_ops set) v s
@@ -47,7 +48,7 @@ stands_agree set s v h i e = let t = of_operation i set e in contains_stands set
 
 -- greatest counters stand for one set
 pub one_set : (set : List Op) (s t : List Id) → IsSound set → IsCausallyClosed set s → IsCausallyClosed set t → covered s ≡ covered t → s ≡ t
-one_set set s t sound a b e = same_members s t a.rises b.rises (λ k. both_ways (has_id k s) (has_id k t) (over s t a b e k) (over t s b a (sym e) k))
+one_set set s t sound a b e = same_members s t a.rises b.rises (λ k. same_tests (has_id k s) (has_id k t) (over s t a b e k) (over t s b a (sym e) k))
   where
     over : (x y : List Id) → IsCausallyClosed set x → IsCausallyClosed set y → covered x ≡ covered y → (k : Id) → has_id k x ≡ true → has_id k y ≡ true
     over x y c d f k h =
@@ -61,7 +62,7 @@ ids-rise [] = tt
 ids-rise (o ∷ set) = with-rises o.id (ids_of_ops set) (ids-rise set)
 
 pub within_is : WithinIs
-within_is set s sound closed = same_members (ids_within set (covered s)) s (filter-rises test (ids_of_ops set) (ids-rise set)) closed.rises (λ k. both_ways (has_id k (ids_within set (covered s))) (has_id k s) (down k) (up k))
+within_is set s sound closed = same_members (ids_within set (covered s)) s (filter-rises test (ids_of_ops set) (ids-rise set)) closed.rises (λ k. same_tests (has_id k (ids_within set (covered s))) (has_id k s) (down k) (up k))
   where
     test : Id → Bool
     test = λ i. has_id i (covered s)

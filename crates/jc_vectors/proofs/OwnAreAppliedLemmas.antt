@@ -15,10 +15,10 @@ use Rattle.jc_rules.specs.State.{State}
 use Rattle.jc_rules.specs.Syntax.{LetIn, SetTo, InsertAfter, DeleteAt}
 use Rattle.jc_rules.specs.Table.{Follows, Holds, AllHold}
 use Rattle.jc_rules.specs.Trace.{Rows}
-use Rattle.jc_rules.proofs.CoveredLemmas.{right_in}
 use Rattle.jc_rules.proofs.IdsLemmas.{has_id-with}
 use Rattle.jc_vectors.specs.StateLaws.{OwnAreApplied}
 use Rattle.jc_vectors.specs.StoredStates.{HasOwn}
+use Rattle.jc_rules.proofs.BoolLemmas.{or_right}
 
 -- where a state leads to a state, the identifiers applied are applied there too
 abbrev Grows : Judgement → Type 0
@@ -33,7 +33,7 @@ AllGrow [] = Unit {0}
 AllGrow (j ∷ js) = Grows j × AllGrow js
 
 with_more_in : (i : Id) (s : List Id) → AreIn s (with_id i s)
-with_more_in i s k h = has_id-with k i s ∙ right_in (same_id k i) (has_id k s) h
+with_more_in i s k h = has_id-with k i s ∙ or_right (same_id k i) (has_id k s) h
 
 step : (r : Rule) (q : Question) (a : Answer) (ps : List Judgement) → Follows r q a ps → AllGrow ps → Grows (gives q a)
 step r (Evaluate A e) a ps h g = tt

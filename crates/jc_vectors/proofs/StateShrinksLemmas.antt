@@ -9,7 +9,6 @@ use Rattle.jc_rules.specs.Order.{same_id}
 use Rattle.jc_rules.specs.Sound.{IsSound, IsDependency}
 use Rattle.jc_rules.specs.Representation.{IsCausallyClosed}
 use Rattle.jc_rules.specs.Table.{op_of}
-use Rattle.jc_rules.proofs.CoveredLemmas.{not_true}
 use Rattle.jc_rules.proofs.IdsLemmas.{same_id-self, same_id-true, has_id-with}
 use Rattle.jc_vectors.specs.KnownIds.{EachId, KnowsOnly}
 use Rattle.jc_vectors.specs.OperationIds.{ids_of_ops}
@@ -18,6 +17,7 @@ use Rattle.jc_vectors.specs.StoredStates.{AreOf, IsUnknown}
 use Rattle.jc_vectors.proofs.ApplyStandsLemmas.{of_set}
 use Rattle.jc_vectors.proofs.OperationIdsLemmas.{of_operation}
 use Rattle.jc_vectors.proofs.StoredStatesLemmas.{each_both}
+use Rattle.jc_rules.proofs.BoolLemmas.{no_truth}
 
 no_some : {A : Type 0} (o : Op) → None ≡ Some o → A
 no_some o e = absurd (let f : ⊥ = cc in f)
@@ -55,7 +55,7 @@ other i j s h n = go (same_id j i) refl
   where
     go : (b : Bool) → same_id j i ≡ b → same_id j i ≡ false
     go false p = p
-    go true p = not_true (sym n ∙ sym (ap (λ (k : Id). has_id k s) (same_id-true j i p)) ∙ h)
+    go true p = no_truth (sym n ∙ sym (ap (λ (k : Id). has_id k s) (same_id-true j i p)) ∙ h)
 
 sound_less : (set : List Op) (o : Op) → IsSound (o ∷ set) → op_of o.id set ≡ None → ((e : Op) → Contains set e → has_id o.id e.deps ≡ false) → IsSound set
 sound_less set o sound fresh last = record {
@@ -89,7 +89,7 @@ of_less set o (e ∷ os) h n = go (same_id o.id e.id) refl (of_less set o os h.1
         turned false q = q
         turned true q =
             let same : e.id ≡ o.id = same_id-true e.id o.id q in
-            not_true (sym p ∙ ap (λ (i : Id). same_id o.id i) same ∙ same_id-self o.id)
+            no_truth (sym p ∙ ap (λ (i : Id). same_id o.id i) same ∙ same_id-self o.id)
 
 known_less : (set : List Op) (o : Op) (c : Context) → KnowsOnly (ids_of_ops (o ∷ set)) c → EachId (λ j. same_id j o.id ≡ false) c → KnowsOnly (ids_of_ops set) c
 known_less set o c h g = each_both (λ i. has_id i (ids_of_ops (o ∷ set)) ≡ true) (λ i. same_id i o.id ≡ false) (λ i. has_id i (ids_of_ops set) ≡ true) (λ i e n. go i n (sym (has_id-with i o.id (ids_of_ops set)) ∙ e)) c h g

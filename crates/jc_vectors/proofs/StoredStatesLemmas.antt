@@ -13,10 +13,10 @@ use Rattle.jc_rules.proofs.IdsLemmas.{same_id-true, has_id-with}
 use Rattle.jc_rules.specs.Representation.{IsCausallyClosed}
 use Rattle.jc_vectors.specs.OperationIds.{ids_of_ops}
 use Rattle.jc_vectors.specs.KnownIds.{EachId, EachIdIn, KnowsOnly}
-use Rattle.jc_rules.proofs.CoveredLemmas.{right_in}
 use Rattle.jc_vectors.specs.StoredStates.{stored_op, stored_state, AreOf}
 use Rattle.jc_vectors.specs.StateLaws.{OneState, StateStays}
 use Rattle.jc_vectors.proofs.OperationIdsLemmas.{one_set}
+use Rattle.jc_rules.proofs.BoolLemmas.{or_right}
 
 -- a set of operations that grew
 pub found_more : (set : List Op) (o : Op) (i : Id) (e : Op) → op_of o.id set ≡ None → op_of i set ≡ Some e → op_of i (o ∷ set) ≡ Some e
@@ -76,7 +76,7 @@ module _ (P : Id → Type 0) (Q : Id → Type 0) (R : Id → Type 0) (both : (i 
 pub known_more : (set : List Op) (o : Op) (c : Context) → KnowsOnly (ids_of_ops set) c → KnowsOnly (ids_of_ops (o ∷ set)) c
 known_more set o c h =
     let known = λ (i : Id). has_id i (ids_of_ops set) ≡ true in
-    each_both known known (λ i. has_id i (ids_of_ops (o ∷ set)) ≡ true) (λ i e f. has_id-with i o.id (ids_of_ops set) ∙ right_in (same_id i o.id) (has_id i (ids_of_ops set)) e) c h h
+    each_both known known (λ i. has_id i (ids_of_ops (o ∷ set)) ≡ true) (λ i e f. has_id-with i o.id (ids_of_ops set) ∙ or_right (same_id i o.id) (has_id i (ids_of_ops set)) e) c h h
 
 pub state_stays : StateStays
 state_stays set o A kept h fresh sound = record {
