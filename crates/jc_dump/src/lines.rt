@@ -9,7 +9,7 @@ ghost use Rattle.jc_dump.specs.Lines.{trace_text, stuck_text, IsNamedStuck};
 use jc_json::tagged_text;
 use jc_network::{Net, Stuck};
 use jc_printer::print_event;
-use jc_rules::{Refusal, Text, Trace};
+use jc_rules::{Text, Trace};
 use std::alloc::{AllocError, Global};
 use std::fmt::Write;
 

@@ -1,7 +1,6 @@
 -- The text and the status of a view of a scenario's bytes.
 use Rattle.std.specs.Prelude.{◌≡◌, ◌⊎◌, ℕ, List, [], ◌++◌, Bool, false, take, Option, Some, Result, Ok, Err}
 use Rattle.jc_rules.specs.declared.refusal.Refusal.{Refusal}
-use Rattle.jc_rules.specs.Refusals.{refusal_number as refusal_number}
 use Rattle.jc_rules.specs.declared.operation.Event.{Event}
 use Rattle.jc_rules.specs.Refused.{Cause}
 use Rattle.jc_rules.specs.Step.{Network}

@@ -1,9 +1,7 @@
 -- What the answer of a request says of a debugger.
 use Rattle.std.specs.Prelude.{◌≡◌, List, ℕ, length, All, Result, Ok, Err, string_bytes}
-use Rattle.jc_rules.specs.declared.refusal.Refusal.{Refusal}
 use Rattle.jc_rules.specs.declared.refusal.Refusal.TheVariants as F
 use Rattle.jc_rules.specs.declared.version.Version.{Version}
-use Rattle.jc_rules.specs.Refusals.{refusal_number}
 use Rattle.jc_printer.specs.Canon.{AreNamed}
 use Rattle.jc_debug.specs.declared.breaks.BreakFault.{BreakFault}
 use Rattle.jc_debug.specs.Invariant.{Seen, start_of, session_of}

@@ -10,7 +10,7 @@ ghost use Rattle.jc_network.specs.Steps.{stuck_for};
 ghost use Rattle.jc_dump.specs.Lines.{stuck_text, IsNamedStuck};
 ghost use Rattle.jc_parser.specs.Events.{IsEventOf};
 ghost use Rattle.jc_session.specs.Answers.{IsNamed, IsStrange, IsRefusalAt, Knows};
-ghost use Rattle.jc_session.specs.AnswerOf.{AllNamed, GivesAnswer, GivesLine, HasRefusal, Spells, set_text};
+ghost use Rattle.jc_session.specs.AnswerOf.{AllNamed, GivesAnswer, GivesLine, Spells, set_text};
 ghost use Rattle.jc_session.specs.Requests as Q;
 ghost use Rattle.jc_session.specs.Requests.{meaning, asks};
 ghost use Rattle.jc_session.specs.Texts.{at_line};
@@ -139,7 +139,7 @@ fn event_of(
     match parse_event(alloc, version, rest) {
         Ok(named) => resolved(alloc, names, &named),
         Err(fault) => {
-            let line = fault_line(alloc, fault.number(), fault.place())?;
+            let line = fault_line(alloc, fault.refusal(), fault.place())?;
             Ok(Spelling::Refused(line))
         }
     }

@@ -174,7 +174,7 @@ fn refuse<K: Sink>(alloc: Global, fault: &ScenarioFault, out: &mut K) -> Result<
         × Interrupted text (sink K.Sink out.old) (sink K.Sink out.new) }
     ensures kind { IfErr result IsOfAnswer }
 {
-    let line = fault_line(alloc, fault.number(), fault.place())?;
+    let line = fault_line(alloc, fault.refusal(), fault.place())?;
     send(out, line.as_str())
 }
 
