@@ -26,7 +26,8 @@ use Rattle.jc_apply.specs.Fits.{content_or_new, child_context, InChild}
 use Rattle.jc_rules.specs.ContextsAt.{node_in}
 use Rattle.jc_rules.specs.Paths.{HasContext}
 use Rattle.jc_network.proofs.InductionLemmas.{All, by_rules}
-use Rattle.jc_network.proofs.LinksEverywhereLemmas.{OfNew, at_root, in_child, with_child, with_values, with_ids, with_links, all_follow, in_entered, child-put, links-content, reach_child, reach_below, next_set, reach_next, links-ids, reach_ids, reach_values}
+use Rattle.jc_network.proofs.LinksEverywhereLemmas.{OfNew, at_root, in_child, with_child, with_values, with_ids, with_links, all_follow, in_entered, child-put, links-content, reach_child, reach_below, reach_next, links-ids, reach_ids, reach_values}
+use Rattle.jc_tree.proofs.LinkedLemmas.{next_set}
 
 -- No link was changed: what holds of all links still does, what was reached still is, and the root's links are the same. New maps and lists may have been made.
 pub record KeepsLinks (c d : Context) : Type 1 where

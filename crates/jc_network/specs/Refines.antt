@@ -3,6 +3,7 @@ use Rattle.std.specs.Prelude.{◌≡◌, ◌≤◌, ℕ, List, [], Some, Contain
 use Rattle.std.specs.List.{AllByRecursion}
 use Rattle.jc_rules.specs.declared.operation.Event.{Event}
 use Rattle.jc_rules.specs.declared.operation.Op.{Op}
+use Rattle.jc_rules.specs.declared.limits.TheConstants.{MAX_COMMANDS, MAX_REPLICAS}
 use Rattle.jc_rules.specs.Refused.{Cause, IsStuck}
 use Rattle.jc_rules.specs.State.{State}
 use Rattle.jc_rules.specs.Step.{Step, replica_of, read_by}
@@ -72,8 +73,8 @@ EventIsStuck =
 
 -- at most 64 scripts, none with more than 65,536 commands
 pub record AreShort (scripts : List (List Cmd)) : Type 0 where
-  pub many : length scripts ≤ 64
-  pub each : AllByRecursion (λ s. length s ≤ 65536) scripts
+  pub many : length scripts ≤ MAX_REPLICAS
+  pub each : AllByRecursion (λ s. length s ≤ MAX_COMMANDS) scripts
 
 -- Where scripts are short, what is offered has counters that a replica may be handed.
 abbrev pub OfferedIsHanded : Type 0

@@ -1,6 +1,7 @@
 //! Networks.
 
 ghost use Rattle.std.specs.Prelude.{◌≡◌, ◌≤◌, ◌++◌, ◌∷◌, ◌↔◌, [], length, slice_get, ℕ, IfOk, IfSome, OnOk, OnErr, IsErrOf, IsTrue, IsFalse, IfNone};
+ghost use Rattle.jc_rules.specs.declared.limits.TheConstants.{MAX_EVENTS, MAX_REPLICAS};
 ghost use Rattle.jc_scenario.specs.WellFormed.{IsWellFormedScenario};
 ghost use Rattle.jc_scenario.specs.Views.{scenario_view};
 ghost use Rattle.jc_network.specs.declared.fault.CompareFault.TheVariants as C;
@@ -21,6 +22,7 @@ use crate::fault::{CompareFault, StartFault, StepFault};
 use crate::replicas::replicas_of;
 use crate::stepping::make;
 use jc_replica::Replica;
+use jc_rules::limits::MAX_EVENTS;
 use jc_rules::{Event, Id, Op, Text, Trace, Version};
 use jc_scenario::{Scenario, copy_names};
 use jc_tree::ArenaTree;
@@ -82,7 +84,7 @@ impl Net {
     pub fn names(&self) -> &[Text]
         ensures names { result.now ≡ self.now.names }
         ensures each { length self.now.network.states ≡ length self.now.names }
-        ensures few { length self.now.names ≤ 64 }
+        ensures few { length self.now.names ≤ MAX_REPLICAS }
     {
         self.names.as_slice()
     }
@@ -152,11 +154,11 @@ impl Net {
     pub fn step(&mut self, event: &Event) -> Result<Trace, StepFault>
         ensures made { IfOk result (λ trace. StepsTo self.old event.now self.new trace) }
         ensures stuck { (s : AnyStuck) → IsErrOf result (E.Stuck s) → IsStuckFor self.old.network event.now s }
-        ensures full { IsErrOf result E.Full ↔ 100000 ≤ length self.old.earlier }
+        ensures full { IsErrOf result E.Full ↔ MAX_EVENTS ≤ length self.old.earlier }
         ensures kept { OnErr result (self.new ≡ self.old) }
     {
         let steps = self.whose.len();
-        if steps >= 100_000 {
+        if steps >= MAX_EVENTS {
             return Err(StepFault::Full);
         }
         if self.whose.reserve(1).is_err() {
@@ -183,7 +185,7 @@ impl Net {
     /// Makes the given events. Where not all are made, it isn't told how the network stands then.
     fn lead(&mut self, given: &[Event]) -> Result<(), StartFault>
         requires new { self.old.earlier ≡ [] }
-        requires short { length given.now ≤ 100000 }
+        requires short { length given.now ≤ MAX_EVENTS }
         ensures led { OnOk result (AfterIn self.old.network given.now self.new.network) }
         ensures names { OnOk result (self.new.names ≡ self.old.names) }
         ensures stuck { (at : ℕ) (s : AnyStuck) → IsErrOf result (S.Given at s)

@@ -1,4 +1,4 @@
--- Applying a received operation, from what is held before to what is held after.
+-- Lemmas about MayApply: a received operation is applied, from what is held before to what is held after.
 use Rattle.std.proofs.Common.{◌≡◌, ◌≢◌, ℕ, ◌<◌, ◌≤◌, List, [], ◌∷◌, ◌++◌, length, map, Option, Some, None, IfSome, Bool, true, false, ◌↔◌, ◌⊎◌, inl, inr, Bor, option_copied, refl, sym, ◌∙◌, ap, subst, arith}
 use Rattle.std.proofs.lemmas.Bool.{cases_lt}
 use Rattle.std.specs.List.{AllByRecursion}

@@ -1,4 +1,4 @@
--- What passes all conditions of its rules isn't refused.
+-- Lemmas about the refusals of the rules: a question that passes all conditions isn't refused. CanLemmas cites them.
 use Rattle.std.proofs.Common.{◌≡◌, ◌≢◌, ℕ, List, [], ◌∷◌, Option, Some, None, Bool, true, false, sym, ◌∙◌, ap, subst}
 use Rattle.jc_rules.specs.declared.operation.Cursor.{Cursor}
 use Rattle.jc_rules.specs.declared.operation.Event.{Event}

@@ -1,4 +1,4 @@
--- Receiving operations, from what is held before to what is held after.
+-- Lemmas about Received: operations are received, from what is held before to what is held after.
 use Rattle.std.proofs.Common.{◌≡◌, ℕ, List, [], ◌∷◌, ◌++◌, length, map, Option, Some, None, IfSome, unwrap_or, option_copied, Bor, true, refl, sym, ◌∙◌, ap, subst}
 use Rattle.jc_rules.specs.declared.id.Id.{Id}
 use Rattle.jc_rules.specs.declared.operation.Event.TheVariants as E
@@ -27,9 +27,10 @@ use Rattle.jc_replica.specs.Refines.{IsRead, LeadsReplica}
 use Rattle.jc_replica.specs.Undo.{Held, held_of, undone_once, past_of}
 use Rattle.jc_replica.proofs.AnswersLemmas.{ready_now}
 use Rattle.jc_replica.proofs.RefinesLemmas.{left_seen}
-use Rattle.jc_replica.proofs.UndoStepsLemmas.{Stepped, stepped, no_later}
+use Rattle.jc_replica.proofs.UndoStepsLemmas.{Stepped, stepped}
 use Rattle.jc_replica.proofs.MayApplyLemmas.{kept_absent}
 use Rattle.jc_replica.proofs.ReceivedLemmas.{found_in}
+use Rattle.jc_tree.proofs.HistoryLemmas.{still}
 
 -- operations of the set, as they are kept
 kept_of : (set os : List Op) → AreOf set os → AreKeptOf set (map stored_op os)
@@ -129,7 +130,7 @@ has_received {script} {t} {rs} {h} number p v read new ss united s =
 pub received_step : {script : List Cmd} {t : Tree} {rs : List Record} {h : Held} → IsKeptReplica script t rs h → (new : List Op) (ss : List Record) (r : Record) → ss ≡ rs ++ r ∷ [] → r.mark.changes ≡ length t.earlier → undone_once r.change (received_held h new) ≡ h → CanBack r.change (received_held h new) → AreInOrder new → AreHanded new → Stepped script t t rs ss h (received_held h new)
 received_step {script} {t} {rs} {h} kept new ss r se me be cb order handed =
     let a = ready_now kept in
-    stepped kept t ss r (received_held h new) (no_later t) se me be cb
+    stepped kept t ss r (received_held h new) (still t) se me be cb
     (record {
       chained = a.chained;
       linked = a.linked;

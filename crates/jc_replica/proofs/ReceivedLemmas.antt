@@ -1,4 +1,4 @@
--- How far nothing of a sender's operations is missing.
+-- Lemmas about Received: up to which counter a sender's operations are complete.
 use Rattle.std.proofs.Common.{◌≡◌, ℕ, zero, suc, ◌-◌, length-drop, ◌≤◌, ◌<◌, List, [], ◌∷◌, ◌++◌, length, take, drop, remove, slice_get, filter, Some, None, Result, Ok, Err, Bool, true, false, not, ◌||◌, eqb, leb, eqb-true, eq-eqb, leb-true, le-leb, max, ◌⊎◌, inl, inr, refl, sym, ◌∙◌, ap, subst, arith}
 use Rattle.std.proofs.Math.Nat.{eq-or-lt_of_le}
 use Rattle.std.proofs.lemmas.Bool.{cases_lt}

@@ -1,4 +1,4 @@
--- Lists of operations: one more, and two united.
+-- Lemmas about Received: lists of operations with one more, and the union of two.
 use Rattle.std.proofs.Common.{◌≡◌, ℕ, zero, suc, ◌+◌, ◌≤◌, ◌<◌, List, [], ◌∷◌, ◌++◌, length, get_or, take, drop, leb, leb-true, le-leb, insert, filter, cond, map, Some, None, Bool, true, false, not, Result, Ok, Err, IsErr, refl, sym, ◌∙◌, ap, subst, arith}
 use Rattle.std.specs.List.{AllByRecursion, AllWithin}
 use Rattle.std.specs.Result.{is_err}

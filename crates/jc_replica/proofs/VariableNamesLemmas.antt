@@ -1,4 +1,4 @@
--- Variables that are bound, and taken back.
+-- Lemmas about Variables: a variable is bound, and the binding is taken back.
 use Rattle.std.proofs.Common.{◌≡◌, ℕ, zero, suc, ◌≤◌, ◌<◌, List, [], ◌∷◌, length, get_or, slice_get, slice_set, insert, remove, Some, None, Bool, true, false, nat_eq, eq-eqb, refl, sym, ◌∙◌, ap, subst, arith}
 use Rattle.std.specs.Cmp.Lexicographic.{pointwise}
 use Rattle.std.specs.declared.cmp.Ordering.{Ordering}
