@@ -1,4 +1,4 @@
--- Kept states stand for the network that is computed from them.
+-- Lemmas about Abstract: stored states represent the network that is computed from them.
 use Rattle.std.proofs.Common.{◌≡◌, ℕ, zero, suc, List, [], ◌∷◌, Some, true, Contains, ◌⊎◌, inl, inr, map, length, slice_get, refl, sym, ◌∙◌, ap, subst, arith}
 use Rattle.std.proofs.lemmas.List.Elements.{Contains-append_left, Contains-append_right, Contains-append_cases}
 use Rattle.std.proofs.lemmas.Option.{same_Some}

@@ -1,4 +1,4 @@
--- The sets of a network after a step.
+-- Lemmas about RunInvariant: the sets of a network after a step.
 use Rattle.std.proofs.Common.{◌≡◌, ◌≢◌, ℕ, ◌+◌, ◌≤◌, ◌<◌, List, Some, true, Contains, ◌⊎◌, inl, inr, slice_get, slice_set, sym, ◌∙◌, ap, subst, arith}
 use Rattle.std.proofs.lemmas.Option.{same_Some}
 use Rattle.jc_rules.specs.declared.id.Id.{Id}

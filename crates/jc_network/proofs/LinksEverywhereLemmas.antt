@@ -1,4 +1,4 @@
--- What holds of the links everywhere in a tree, when a part of the tree changes.
+-- Lemmas about LinksEverywhere: a property of all links of a tree, when a part of the tree changes.
 use Rattle.std.proofs.Common.{◌≡◌, ◌≢◌, List, [], ◌∷◌, ◌++◌, Option, Some, None, Bool, true, false, cond, ◌⊎◌, inl, inr, refl, sym, ◌∙◌, ap, subst}
 use Rattle.std.specs.List.{AllByRecursion}
 use Rattle.std.specs.Ordering.{eq_by_cmp}

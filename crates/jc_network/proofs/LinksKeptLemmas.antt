@@ -1,4 +1,4 @@
--- What clearing and operations do to the links of a tree.
+-- Lemmas about LinksEverywhere: what clearing and operations do to the links of a tree.
 use Rattle.std.proofs.Common.{◌≡◌, List, [], ◌∷◌, Option, Some, None, refl, sym, ◌∙◌, ap, subst}
 use Rattle.jc_rules.specs.declared.id.Id.{Id}
 use Rattle.jc_rules.specs.declared.key.Key.{Key}

@@ -1,4 +1,4 @@
--- Counters of what is offered.
+-- Lemmas about RunInvariant: the counters of what is offered.
 use Rattle.std.proofs.Common.{ℕ, ◌+◌, ◌*◌, ◌≤◌, List, [], ◌∷◌, Contains, map, length, sym, ap, subst, arith}
 use Rattle.std.specs.List.{AllByRecursion}
 use Rattle.jc_rules.specs.declared.operation.Op.{Op}

@@ -1,4 +1,4 @@
--- An operation that fits has an answer, and so an applicable operation can be applied.
+-- Lemmas about progress: an operation that fits has an answer, and one that is due can be applied.
 use Rattle.std.proofs.Common.{◌≡◌, ◌≢◌, ℕ, List, [], ◌∷◌, Option, Some, None, true, false, ◌⊎◌, inl, inr, refl, sym, ◌∙◌, ap, subst, arith}
 use Rattle.std.specs.List.{AllByRecursion}
 use Rattle.std.specs.declared.cmp.Ordering.{Ordering}

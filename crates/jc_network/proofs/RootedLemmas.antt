@@ -1,4 +1,4 @@
--- What is known of cursors and trees, when more is made and more is applied, and when an operation is.
+-- Lemmas about Rooted: cursors and trees stay right while more operations are made and applied.
 use Rattle.std.proofs.Common.{◌≡◌, ◌≢◌, ℕ, List, [], ◌∷◌, ◌++◌, Option, Some, None, Bool, true, false, cond, refl, sym, ◌∙◌, ap, subst}
 use Rattle.std.specs.List.{AllByRecursion}
 use Rattle.std.specs.Ordering.{eq_by_cmp}

@@ -1,4 +1,4 @@
-//! Networks of replicas: their steps, the way back, and what holds in every run.
+//! A network: all replicas of a scenario, their steps, the way back, and laws of every run. Runs and debuggers hold one.
 #![tactic(auto)]
 
 mod applied;

@@ -1,4 +1,4 @@
-//! The replicas of a scenario.
+//! The replicas of a network at the start of its scenario.
 
 ghost use Rattle.std.specs.Prelude.{◌≡◌, ◌≤◌, ◌+◌, length, IfOk};
 ghost use Rattle.std.specs.List.{AllByRecursion};
