@@ -126,7 +126,7 @@ from_push N p (B ∷ states) A q e =
     ap (λ (l : List Event). applyings_of N p B.recv ++ l) (from_push N (suc p) states A q (omega (arith, e)))
     ∙ sym (append_assoc (applyings_of N p B.recv) (events_from N (suc p) states) (applyings_of N q A.recv))
 
--- what the first replicas told
+-- the events that the first replicas list
 abbrev pub HaveTold : List Past → Network → ℕ → List Event → Type 0
 HaveTold pasts N i listed = AreChosen (TellsEnabled pasts true) (TellsEnabled pasts false) (events_from N 0 (kept_of (take i pasts))) listed
 

@@ -244,7 +244,7 @@ all_own version count is ps h q past e =
     let x = run.seen.each q past.now (kept_there ps q past e) in
     subst AreOfOne (sym (ap (λ (S : State). S.send) x.seen.stands.is)) (of_one q x.at.send (λ o c. ((well h.scripts (network_of ps) (now_reached version count is ps h)).sets.sent q x.at o x.there c).0))
 
--- what a replica keeps stands for its state
+-- a replica's stored state represents its state
 pub has_replica : (version : Version) (count : ℕ) (is : List ℕ) (ps : List Past) → IsKeptNet version count is ps → (p : ℕ) (past : Past) → slice_get ps p ≡ Some past → HasReplica (network_of ps) p past
 has_replica version count is ps h p past e =
     let run = now_in_run version count is ps h in

@@ -245,7 +245,7 @@ add_case R.AddId1 c t i m a js (s, e, p, q) hs = subst (AfterAdd c) (sym q) (kee
 add_case R.AddId2 c t i m a js (e, p, q) hs = subst (AfterAdd c) (sym q) (keeps_same c)
 add_case _ c t i m a js h hs = absurd h
 
--- an operation with its path and its mutation told
+-- an operation of this path and this mutation
 told : (o : Op) (path : List Tagged) (m : Mutation) (c d : Context) → o.cursor.path ≡ path → o.mutation ≡ m → Operates o.id path o.cursor.last m c d → Operates o.id o.cursor.path o.cursor.last o.mutation c d
 told o path m c d e f g = subst (λ p. Operates o.id p o.cursor.last o.mutation c d) (sym e) (subst (λ n. Operates o.id path o.cursor.last n c d) (sym f) g)
 

@@ -91,8 +91,8 @@ IsOfOther F.NotAtYield = Unit {0}
 IsOfOther F.NotReceived = Unit {0}
 IsOfOther _ = ⊥
 
--- An event that isn't a candidate is stuck: a replica is missing, or the version has no such event, or the operation wasn't
--- offered or received or no yield comes next.
+-- An event that isn't a candidate is stuck: a replica is missing, or the version has no such event, or the operation
+-- wasn't offered or received, or no yield comes next.
 abbrev pub OthersAreStuck : Type 0
 OthersAreStuck =
     (network : Network) (event : Event)
@@ -135,4 +135,5 @@ pub record TellsEnabled (pasts : List Past) (can : Bool) (event : Event) : Type 
 -- Of the candidates just those are listed that their replicas can make.
 abbrev pub AreEnabledAsKnown : Version → List Past → List Event → Type 0
 AreEnabledAsKnown version pasts listed =
-    AreChosen (TellsEnabled pasts true) (TellsEnabled pasts false) (candidates (of_version version (kept_of pasts))) listed
+    AreChosen (TellsEnabled pasts true) (TellsEnabled pasts false)
+        (candidates (of_version version (kept_of pasts))) listed

@@ -75,7 +75,8 @@ abbrev pub AllOwn : List Past → Type 0
 AllOwn ps = (q : ℕ) (past : Past) → slice_get ps q ≡ Some past → AreOfOne past.now.send
 
 -- Replica p made the event or refused it, and no other replica changed.
-pub record Moves (p : ℕ) (event : Event) (read : List Op) (old new : List Past) (result : Result Rows ReplicaFault) : Type 0 where
+pub record Moves
+    (p : ℕ) (event : Event) (read : List Op) (old new : List Past) (result : Result Rows ReplicaFault) : Type 0 where
   pub before : Past
   pub after : Past
   pub there : slice_get old p ≡ Some before

@@ -1,4 +1,4 @@
-//! A network: all replicas of a scenario, their steps, the way back, and laws of every run. Runs and debuggers hold one.
+//! A network: all replicas of a scenario, their steps and their way back, and laws of every run.
 #![tactic(auto)]
 
 mod applied;

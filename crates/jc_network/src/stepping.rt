@@ -145,7 +145,8 @@ fn read_from(
     requires order { AreInOrder offered.now }
     requires handed { AreHanded offered.now }
     requires own { AreOfOne offered.now }
-    ensures { (q : ℕ) → AnswersEvent (receiving_event q id replica.old.number) offered.now replica.old replica.new result }
+    ensures { (q : ℕ) → AnswersEvent (receiving_event q id replica.old.number) offered.now
+        replica.old replica.new result }
 {
     match id {
         None => replica.recv(offered),

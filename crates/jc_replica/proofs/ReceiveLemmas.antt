@@ -37,7 +37,7 @@ kept_of : (set os : List Op) → AreOf set os → AreKeptOf set (map stored_op o
 kept_of set [] h = tt
 kept_of set (o ∷ os) h = ((o, h.0, refl), kept_of set os h.1)
 
--- what is kept with what was received stands for what received it
+-- the stored state with what was received represents the state that received it
 received_stands : (set : List Op) (A K : State) → RepresentsState set A K → (os read new : List Op) → IsRead set os read → IsUnited K.recv read new → RepresentsState set (record A { acted = true; recv = both A.recv os }) (record K { acted = true; recv = new })
 received_stands set A K stands os read new of united =
     let B : State = record A { acted = true; recv = both A.recv os } in
@@ -62,7 +62,7 @@ leads_received set p q A K stands os read new rest rows of l united re =
       fresh = tt;
     }
 
--- of what is offered one operation is received, in each sound set the one that it stands for
+-- of what is offered one operation is received, in each sound set the one that it represents
 found_one : (set os read : List Op) (i : Id) (k : Op) → IsRead set os read → op_of i read ≡ Some k → (o : Op) × (op_of i os ≡ Some o) × IsRead set (o ∷ []) (k ∷ [])
 found_one set os read i k of found =
     let x = kept_found i os k (ap (op_of i) (sym of.is) ∙ found) in

@@ -136,7 +136,7 @@ united set q last n os ps order sound kept of own low whole =
 pub none_whole : IsKeptList [] []
 none_whole = record { order = tt; filled = refl; missing = λ q. none }
 
--- greatest counters
+-- version vectors
 
 filled_again : (s : List Id) → covered (covered s) ≡ covered s
 filled_again s = same_filled (covered s) s (λ p. greatest_of-filled p s)

@@ -234,7 +234,7 @@ pub both-last : (os ps : List Op) (p : Op) → AllByRecursion (λ q. id_cmp q.id
 both-last os [] p h = refl
 both-last os (q ∷ ps) p h = ap (with_op q) (both-last os ps p h.1) ∙ with-swap p q (both os ps) h.0
 
--- where it isn't there, it isn't when only others came in
+-- where it isn't in the list, it isn't in the list with others
 pub absent_both : (i : Id) (os ps : List Op) → has_id i (identifiers os) ≡ false → AllByRecursion (λ q. same_id i q.id ≡ false) ps → has_id i (identifiers (both os ps)) ≡ false
 absent_both i os [] e h = e
 absent_both i os (q ∷ ps) e h =
@@ -337,7 +337,7 @@ filter-in_order f (o ∷ os) h = go (f o) refl (filter-in_order f os h.1)
     go true e ih = rw e (less_filter o.id f os h.0, ih)
     go false e ih = rw e ih
 
--- new operations in order are found once they came in
+-- new operations in order are found once they are inserted
 pub found_all : (os ps : List Op) → AreInOrder os → AreInOrder ps → AllByRecursion (λ p. is_new os p ≡ true) ps → AllByRecursion (λ p. op_of p.id (both os ps) ≡ Some p) ps
 found_all os [] h g n = tt
 found_all os (p ∷ ps) h g n =
@@ -348,7 +348,7 @@ found_all os (p ∷ ps) h g n =
     others [] a = tt
     others (q ∷ qs) a = (found_with q.id p (both os ps) q (both-in_order os ps h) a.0, others qs a.1)
 
--- taking out again what came in
+-- what was inserted is removed
 
 without-with : (ids : List Id) (p : Op) (os : List Op) → has_id p.id ids ≡ true → without_ops ids (with_op p os) ≡ without_ops ids os
 without-with ids p [] h = rw h refl

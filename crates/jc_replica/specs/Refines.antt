@@ -41,7 +41,8 @@ queued (Some o) queue = with_op o queue
 
 -- The event leads from A to a state that the new stored state represents, in the set with what was made. If all of p's
 -- own operations in the set were applied, they still are, with what was made.
-pub record LeadsReplica (set : List Op) (event : Event) (p : ℕ) (os : List Op) (A kept : State) (rows : Rows) : Type 0 where
+pub record LeadsReplica
+    (set : List Op) (event : Event) (p : ℕ) (os : List Op) (A kept : State) (rows : Rows) : Type 0 where
   pub now : State
   pub made : Option Op
   pub derives : Derives (Occur A event os) (ToState now) no_rows rows
