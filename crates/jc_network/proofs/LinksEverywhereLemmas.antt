@@ -24,7 +24,7 @@ use Rattle.jc_rules.specs.ContextsAt.{node_in}
 use Rattle.jc_rules.specs.Paths.{HasContext}
 use Rattle.jc_rules.proofs.ContextLemmas.{no_node}
 use Rattle.jc_rules.proofs.BoolLemmas.{not_none}
-use Rattle.jc_tree.proofs.LinkedLemmas.{next_set}
+use Rattle.jc_tree.proofs.LinkedLemmas.{next_set, next-with}
 
 -- ---- entries by key
 
@@ -208,9 +208,6 @@ pub child-next : (u : Tagged) (j : Key) (x : Next) (c : Context) → child_conte
 child-next (MapT k) j x (context m l r p n) = refl
 child-next (ListT k) j x (context m l r p n) = refl
 child-next (RegT k) j x (context m l r p n) = refl
-
-pub next-with : (k j : Key) (x : Next) (c : Context) → next k (with_next j x c) ≡ cond (eq_by_cmp key_cmp k j) (Some x) (next k c)
-next-with k j x (context m l r p n) = find-put keys_total exact_keys k j x n
 
 -- what has a link keeps one
 next_stays : (k j : Key) (x : Next) (c : Context) → next k c ≢ None → next k (with_next j x c) ≢ None
