@@ -20,7 +20,8 @@ use Rattle.jc_parser.specs.ReservedWords.{IsListText}
 use Rattle.jc_parser.specs.Scenarios.{Part, ScenarioTree, tree_of_named, block_head, ArePartsSpelled, IsBlockSpelled, IsGivenSpelled, IsTreeSpelled}
 use Rattle.jc_parser.specs.LegalSymbols.{IsLegalExpr, IsLegalValue, IsLegalCmd, IsLegalCall, IsLegalPart, IsLegalTree}
 use Rattle.jc_parser.specs.LegalSymbolLaws.{LegalExpressions, LegalScripts, LegalEvents, LegalScriptsAt, LegalEventsAt, LegalScenarios}
-use Rattle.jc_parser.proofs.LegalTokensLemmas.{LegalStrings, IsLegalSymbol, symbols_legal, each_token}
+use Rattle.jc_parser.proofs.LegalTokensLemmas.{LegalStrings, IsLegalSymbol, symbols_legal}
+use Rattle.jc_syntax.proofs.LexemesLemmas.{each_token}
 
 abbrev AreLegal : List Symbol → Type 0
 AreLegal w = AllByRecursion IsLegalSymbol w

@@ -2,6 +2,7 @@
 use Rattle.std.specs.Prelude.{ℕ, zero, suc, List, Bool, true, false, ◌&&◌, not, nat_lt, if◌then◌else◌, codes, Result, Ok, Err}
 use Rattle.jc_syntax.specs.declared.token.TokenKind.TheVariants.{Dot, ParenL, ParenR}
 use Rattle.jc_rules.specs.Syntax.{Expr, TheDoc, Variable}
+use Rattle.jc_rules.specs.declared.limits.TheConstants.{MAX_SELECTORS}
 use Rattle.jc_parser.specs.declared.fault.ScenarioFault.{ScenarioFault}
 use Rattle.jc_parser.specs.declared.fault.ScenarioFault.TheVariants.{TooLongExpression, IndexTooLarge}
 use Rattle.jc_parser.specs.Symbols.{Symbol, number}
@@ -98,7 +99,7 @@ root_at r = if begins (is_word (codes "doc")) r then doc_at r else variable_at r
 unfoldable pub expression_at : Reading → ReadOutcome Expr
 expression_at r = do
   e ← root_at r
-  c ← chain_at 256 e.0 e.1
+  c ← chain_at MAX_SELECTORS e.0 e.1
   undotted c
 
 -- an expression and nothing more

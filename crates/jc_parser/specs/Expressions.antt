@@ -3,6 +3,7 @@ use Rattle.std.specs.Prelude.{◌≡◌, ℕ, ◌≤◌, ◌<◌, List, [], ◌�
 use Rattle.std.specs.Str.{bytes_eq, all_ascii_digits}
 use Rattle.std.specs.Str.Parse.{digits_value}
 use Rattle.jc_rules.specs.Syntax.{Expr, TheDoc, Variable, GetKey, Index, KeysOf, ValuesOf}
+use Rattle.jc_rules.specs.declared.limits.TheConstants.{MAX_SELECTORS}
 use Rattle.jc_parser.specs.Symbols.{Symbol, word, number, dot, open_paren, close_paren}
 use Rattle.jc_parser.specs.ReaderState.{is_word}
 use Rattle.jc_parser.specs.ReservedWords.{is_reserved, get_text, selector_count}
@@ -74,4 +75,4 @@ HasLegalParts (ValuesOf e) = HasLegalParts e
 
 pub record IsWellFormedExpression (e : Expr) : Type 0 where
   pub parts : HasLegalParts e
-  pub selectors : selector_count e ≤ 256
+  pub selectors : selector_count e ≤ MAX_SELECTORS

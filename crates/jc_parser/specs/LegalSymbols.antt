@@ -12,18 +12,19 @@ use Rattle.jc_syntax.specs.Numbers.{IsNumber}
 use Rattle.jc_parser.specs.Events.{Call, executes, sends, receives, takes, applies, ends}
 use Rattle.jc_parser.specs.Scenarios.{Part, ScenarioTree}
 use Rattle.jc_rules.specs.ReplicaNames.{name_at}
+use Rattle.jc_rules.specs.declared.limits.TheConstants.{MAX_NAME, MAX_STRING}
 
 -- a letter or `_`, then letters, digits and `_`, at most 255 bytes in all
 abbrev pub IsName : List ℕ → Type 0
-IsName name = (is_name_start (slice_index name 0) ≡ true) × AllPass is_name_byte name × (length name ≤ 255)
+IsName name = (is_name_start (slice_index name 0) ≡ true) × AllPass is_name_byte name × (length name ≤ MAX_NAME)
 
 -- a JSON number of at most 65,535 bytes
 abbrev pub IsNumeric : List ℕ → Type 0
-IsNumeric text = IsNumber text × (length text ≤ 65535)
+IsNumeric text = IsNumber text × (length text ≤ MAX_STRING)
 
 -- what a string may spell: UTF-8 of at most 65,535 bytes
 abbrev pub IsContent : List ℕ → Type 0
-IsContent content = IsUtf8 content × (length content ≤ 65535)
+IsContent content = IsUtf8 content × (length content ≤ MAX_STRING)
 
 abbrev pub IsLegalExpr : Expr → Type 0
 IsLegalExpr TheDoc = Unit {0}

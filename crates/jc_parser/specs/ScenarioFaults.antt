@@ -4,6 +4,7 @@ use Rattle.std.specs.Prelude.{◌≡◌, ◌≢◌, ℕ, ◌≤◌, ◌<◌, ◌
 use Rattle.std.specs.List.{Contains}
 use Rattle.jc_rules.specs.declared.version.Version.{Version}
 use Rattle.jc_rules.specs.declared.version.Version.TheVariants.{One, Two}
+use Rattle.jc_rules.specs.declared.limits.TheConstants.{MAX_EVENTS, MAX_REPLICAS}
 use Rattle.jc_parser.specs.declared.fault.ScenarioFault.{ScenarioFault}
 use Rattle.jc_parser.specs.declared.fault.ScenarioFault.TheVariants.{ReservedName, NoHeader, SameName, NoReplica, TooManyReplicas, TooManyEvents}
 use Rattle.jc_parser.specs.Symbols.{Symbol, word, dot, Lexeme, symbols}
@@ -55,7 +56,7 @@ IsNameFault ps name place fault =
     ((is_reserved name ≡ true) × (fault ≡ ReservedName place))
     ⊎ ((is_reserved name ≡ false)
     × ((Contains (map name_of_part ps) name × (fault ≡ SameName place))
-    ⊎ ((Contains (map name_of_part ps) name → ⊥) × (length ps ≡ 64) × (fault ≡ TooManyReplicas place))))
+    ⊎ ((Contains (map name_of_part ps) name → ⊥) × (length ps ≡ MAX_REPLICAS) × (fault ≡ TooManyReplicas place))))
 
 -- the name of one replica more comes next
 pub record IsNameExcess (fault : ScenarioFault) (xs : List Symbol) (next : Lexeme) : Type 0 where
@@ -74,7 +75,7 @@ pub record IsPartExcess (fault : ScenarioFault) (xs : List Symbol) (after : List
   pub parts : List Part
   pub before : List Symbol
   pub done : ReplicasAreDone version parts before
-  pub room : length parts < 64
+  pub room : length parts < MAX_REPLICAS
   pub name : List ℕ
   pub free : is_reserved name ≡ false
   pub new : Contains (map name_of_part parts) name → ⊥
@@ -85,7 +86,7 @@ pub record IsPartExcess (fault : ScenarioFault) (xs : List Symbol) (after : List
 -- after so many events of a block, one too many begins, or the counter of an event is too large
 abbrev pub IsEventExcess : Version → ℕ → ScenarioFault → List Symbol → List Lexeme → Type 0
 IsEventExcess v n fault xs after =
-    ((n ≡ 100000)
+    ((n ≡ MAX_EVENTS)
     × (xs ≡ [])
     × (next : Lexeme)
     × (rest : List Lexeme)
@@ -93,7 +94,7 @@ IsEventExcess v n fault xs after =
     × (name : List ℕ)
     × (next.symbol ≡ word name)
     × (fault ≡ TooManyEvents next.place))
-    ⊎ ((n < 100000) × IsCallExcess v fault xs after)
+    ⊎ ((n < MAX_EVENTS) × IsCallExcess v fault xs after)
 
 -- too much in a block with this head
 pub record IsBlockExcess (head : List Symbol) (v : Version) (fault : ScenarioFault) (xs : List Symbol) (after : List Lexeme) : Type 0 where
@@ -114,7 +115,7 @@ pub record IsScheduleExcess (v : Version) (fault : ScenarioFault) (xs : List Sym
   pub given : List Call
   pub before : List Symbol
   pub spelled : IsGivenSpelled v given before
-  pub few : length given ≤ 100000
+  pub few : length given ≤ MAX_EVENTS
   pub small : All IsCallWellFormed given
   pub schedule : List Symbol
   pub is : xs ≡ before ++ schedule

@@ -5,6 +5,7 @@ use Rattle.std.specs.List.{AllPairs}
 use Rattle.jc_rules.specs.declared.version.Version.{Version}
 use Rattle.jc_rules.specs.declared.version.Version.TheVariants.{One, Two}
 use Rattle.jc_rules.specs.Syntax.{Cmd}
+use Rattle.jc_rules.specs.declared.limits.TheConstants.{MAX_EVENTS, MAX_REPLICAS}
 use Rattle.jc_syntax.specs.declared.tree.NamedEvent.{NamedEvent}
 use Rattle.jc_parser.specs.Symbols.{Symbol, word, number, open_brace, close_brace, semicolon, Lexeme, symbols}
 use Rattle.jc_parser.specs.ReaderState.{Reading}
@@ -101,15 +102,15 @@ IsTreeSpelled t w =
 pub record ArePartsWithin (ps : List Part) : Type 0 where
   pub free : All (λ p. is_reserved p.name ≡ false) ps
   pub apart : AllPairs (λ a b. a ≢ b) (map name_of_part ps)
-  pub few : length ps ≤ 64
+  pub few : length ps ≤ MAX_REPLICAS
   pub scripts : All (λ p. IsScriptWellFormed p.script) ps
 
 -- the given events and the schedule are counted apart
 pub record IsTreeWithin (t : ScenarioTree) : Type 0 where
   pub parts : ArePartsWithin t.parts
-  pub few_given : length t.given ≤ 100000
+  pub few_given : length t.given ≤ MAX_EVENTS
   pub given : All IsCallWellFormed t.given
-  pub few : length t.calls ≤ 100000
+  pub few : length t.calls ≤ MAX_EVENTS
   pub calls : All IsCallWellFormed t.calls
 
 -- ---- the places of names in events

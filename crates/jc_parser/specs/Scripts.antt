@@ -4,6 +4,7 @@ use Rattle.std.specs.Str.{bytes_eq}
 use Rattle.jc_rules.specs.declared.value.Value.{Value}
 use Rattle.jc_rules.specs.declared.value.Value.TheVariants as values
 use Rattle.jc_rules.specs.Syntax.{Expr, TheDoc, Variable, GetKey, Index, KeysOf, ValuesOf, Cmd, LetIn, SetTo, InsertAfter, DeleteAt, Yield}
+use Rattle.jc_rules.specs.declared.limits.TheConstants.{MAX_COMMANDS}
 use Rattle.jc_parser.specs.declared.fault.ScenarioFault.{ScenarioFault}
 use Rattle.jc_parser.specs.declared.fault.ScenarioFault.TheVariants.{ReservedName, TooManyCommands}
 use Rattle.jc_parser.specs.Symbols.{Symbol, word, dot, open_paren, close_paren, open_brace, close_brace, open_bracket, close_bracket, assign, equals, Lexeme}
@@ -56,7 +57,7 @@ abbrev pub IsScriptSpelled : List Cmd → List Symbol → Type 0
 IsScriptSpelled script w = IsListText IsCommandSpelled script w
 
 pub record IsScriptWellFormed (script : List Cmd) : Type 0 where
-  pub commands : length script ≤ 65536
+  pub commands : length script ≤ MAX_COMMANDS
   pub each : All IsCommandWellFormed script
 
 -- ---- what is too much
@@ -75,7 +76,7 @@ BeginsCommand name =
 pub record IsCommandPast (xs : List Symbol) (next : Symbol) : Type 0 where
   pub script : List Cmd
   pub done : CommandsAreDone script xs
-  pub full : length script ≡ 65536
+  pub full : length script ≡ MAX_COMMANDS
   pub name : List ℕ
   pub is : next ≡ word name
   pub begins : BeginsCommand name
@@ -85,7 +86,7 @@ pub record IsReservedBinding (xs : List Symbol) (next : Symbol) : Type 0 where
   pub script : List Cmd
   pub before : List Symbol
   pub done : CommandsAreDone script before
-  pub room : length script < 65536
+  pub room : length script < MAX_COMMANDS
   pub is : xs ≡ before ++ word (codes "let") ∷ []
   pub name : List ℕ
   pub next_is : next ≡ word name
@@ -95,7 +96,7 @@ pub record IsReservedBinding (xs : List Symbol) (next : Symbol) : Type 0 where
 pub record IsReservedLead (xs : List Symbol) (next : Symbol) : Type 0 where
   pub script : List Cmd
   pub done : CommandsAreDone script xs
-  pub room : length script ≤ 65536
+  pub room : length script ≤ MAX_COMMANDS
   pub name : List ℕ
   pub is : next ≡ word name
   pub reserved : is_reserved name ≡ true
@@ -108,7 +109,7 @@ pub record IsBindingExcess (fault : ScenarioFault) (xs : List Symbol) (after : L
   pub script : List Cmd
   pub before : List Symbol
   pub done : CommandsAreDone script before
-  pub room : length script < 65536
+  pub room : length script < MAX_COMMANDS
   pub name : List ℕ
   pub free : is_reserved name ≡ false
   pub expression : List Symbol
@@ -120,7 +121,7 @@ pub record IsLeadExcess (fault : ScenarioFault) (xs : List Symbol) (after : List
   pub script : List Cmd
   pub before : List Symbol
   pub done : CommandsAreDone script before
-  pub room : length script < 65536
+  pub room : length script < MAX_COMMANDS
   pub first : Symbol
   pub no_let : first ≡ word (codes "let") → ⊥
   pub no_yield : first ≡ word (codes "yield") → ⊥

@@ -1,6 +1,7 @@
 //! Expressions of the whole language.
 
 ghost use Rattle.std.specs.Prelude.{◌≡◌, ◌≢◌, IfOk, IfErr, All, true, false};
+ghost use Rattle.jc_rules.specs.declared.limits.TheConstants.{MAX_SELECTORS};
 ghost use Rattle.jc_syntax.specs.Trees.{expr_of};
 ghost use Rattle.jc_syntax.specs.Lexemes.{IsTokenOf};
 ghost use Rattle.jc_parser.specs.ReaderState.{MapsResult, reading_of};
@@ -15,7 +16,8 @@ ghost use Rattle.jc_parser.specs.Views.{selector_view, chain_view};
 use crate::cursor::Cursor;
 use crate::fault::ScenarioFault;
 use crate::parse_fault::{ParseFault, of_sentence};
-use crate::parts::{MAX_SELECTORS, get, name};
+use crate::parts::{get, name};
+use jc_rules::limits::MAX_SELECTORS;
 use jc_rules::Text;
 use jc_syntax::{Expr, Token, TokenKind, lex};
 use std::alloc::{AllocError, Global};
@@ -92,7 +94,7 @@ fn extend(alloc: Global, from: Expr, selector: Selector) -> Result<Expr, AllocEr
 /// The expression by as many selectors as follow.
 // A call drops the expression: `?` would do so variant by variant, and is dear to prove.
 pub(crate) fn follow(alloc: Global, cursor: &mut Cursor, root: Expr) -> Result<Chain, ScenarioFault>
-    ensures { MapsResult (λ c. (chain_view c, cursor.new)) result (chain_at 256 (expr_of root) cursor.old) }
+    ensures { MapsResult (λ c. (chain_view c, cursor.new)) result (chain_at MAX_SELECTORS (expr_of root) cursor.old) }
 {
     let mut expression = root;
     let mut left = MAX_SELECTORS;

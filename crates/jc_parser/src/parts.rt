@@ -9,13 +9,6 @@ use jc_rules::{Text, Value, Version};
 use jc_syntax::TokenKind;
 use std::alloc::Global;
 
-/// How many commands a script may have.
-pub(crate) const MAX_COMMANDS: usize = 65536;
-/// How many selectors an expression may have.
-pub(crate) const MAX_SELECTORS: usize = 256;
-/// How many events a block may have.
-pub(crate) const MAX_EVENTS: usize = 100000;
-
 /// The key of a selector `get`, from its word on.
 #[tactic(auto, unfolding(crate::specs::PartReaders::get_at))]
 pub(crate) fn get(alloc: Global, cursor: &mut Cursor) -> Result<Text, ScenarioFault>

@@ -2,6 +2,7 @@
 
 ghost use Rattle.std.specs.Prelude.{◌≡◌, ◌≢◌, ◌≤◌, ◌<◌, IfOk, IfErr, All, map, length};
 ghost use Rattle.jc_rules.specs.Syntax.{Expr, SetTo, InsertAfter};
+ghost use Rattle.jc_rules.specs.declared.limits.TheConstants.{MAX_COMMANDS};
 ghost use Rattle.jc_syntax.specs.Trees.{cmd_of, expr_of};
 ghost use Rattle.jc_syntax.specs.Lexemes.{IsTokenOf};
 ghost use Rattle.jc_parser.specs.ReaderState.{MapsResult, reading_of};
@@ -16,7 +17,8 @@ use crate::cursor::Cursor;
 use crate::expressions::{Chain, expression, follow, root};
 use crate::fault::ScenarioFault;
 use crate::parse_fault::{ParseFault, of_sentence};
-use crate::parts::{MAX_COMMANDS, name, value as plain_value};
+use crate::parts::{name, value as plain_value};
+use jc_rules::limits::MAX_COMMANDS;
 use jc_rules::Value;
 use jc_syntax::{Cmd, Token, TokenKind, lex};
 use std::alloc::Global;
@@ -141,7 +143,7 @@ fn crowd(cursor: &Cursor) -> ScenarioFault
 
 /// The commands of a script, up to what begins none.
 pub(crate) fn script(alloc: Global, cursor: &mut Cursor) -> Result<Vec<Cmd>, ScenarioFault>
-    ensures { MapsResult (λ s. (map cmd_of s.items, cursor.new)) result (commands_at 65536 cursor.old) }
+    ensures { MapsResult (λ s. (map cmd_of s.items, cursor.new)) result (commands_at MAX_COMMANDS cursor.old) }
 {
     let mut script = Vec::new(alloc);
     let mut left = MAX_COMMANDS;

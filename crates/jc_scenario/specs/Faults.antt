@@ -2,6 +2,7 @@
 use Rattle.std.specs.Prelude.{◌≡◌, ℕ, ◌≤◌, ◌<◌, ◌⊎◌, List, ◌++◌, length, map}
 use Rattle.std.specs.Str.{IsUtf8}
 use Rattle.std.specs.Str.Lossy.{utf8_valid_len}
+use Rattle.jc_rules.specs.declared.limits.TheConstants.{MAX_TEXT}
 use Rattle.jc_syntax.specs.declared.token.Token.{Token}
 use Rattle.jc_syntax.specs.declared.fault.LexFault.{LexFault}
 use Rattle.jc_syntax.specs.Lexemes.{AreTokensOf, IsFaultOf}
@@ -37,5 +38,5 @@ IsFaultWithin bytes fault =
 -- the fault of bytes
 abbrev pub IsFault : List ℕ → ScenarioFault → Type 0
 IsFault bytes fault =
-    ((8388608 < length bytes) × (fault ≡ TextTooLong 8388608))
-    ⊎ ((length bytes ≤ 8388608) × IsFaultWithin bytes fault)
+    ((MAX_TEXT < length bytes) × (fault ≡ TextTooLong MAX_TEXT))
+    ⊎ ((length bytes ≤ MAX_TEXT) × IsFaultWithin bytes fault)

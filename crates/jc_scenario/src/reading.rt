@@ -13,8 +13,9 @@ use crate::names::resolve;
 use crate::order::arranged;
 use crate::scenario::Scenario;
 use jc_parser::{NamedScenario, ScenarioFault, scenario_of};
+use jc_rules::limits::MAX_TEXT;
 use jc_rules::{Event, Text};
-use jc_syntax::{MAX_TEXT, NamedEvent, Token, lex};
+use jc_syntax::{NamedEvent, Token, lex};
 use std::alloc::Global;
 
 /// The events of a list by the numbers of their replicas, if each name is a replica's.

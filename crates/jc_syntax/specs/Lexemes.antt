@@ -1,6 +1,7 @@
 -- What the tokens of a text are.
 use Rattle.std.specs.Prelude.{◌≡◌, ℕ, ◌+◌, ◌-◌, ◌<◌, ◌≤◌, ◌⊎◌, List, [], ◌∷◌, ◌&&◌, ◌==◌, if◌then◌else◌, length, drop, slice_index, slice_range, Option, Some, None}
 use Rattle.std.specs.List.{prefix_len}
+use Rattle.jc_rules.specs.declared.limits.TheConstants.{MAX_NAME, MAX_STRING, MAX_TEXT}
 use Rattle.jc_syntax.specs.declared.token.Token.{Token}
 use Rattle.jc_syntax.specs.declared.token.TokenKind.{TokenKind}
 use Rattle.jc_syntax.specs.declared.token.TokenKind.TheVariants.{Name, Number, Str, Dot, ParenL, ParenR, BraceL, BraceR, BracketL, BracketR, Comma, Semi, Assign, Equals}
@@ -59,8 +60,8 @@ LexemeEndsAt kind text at stop size = (size ≡ mark_len kind) × (stop ≡ at +
 
 -- how large a token may be, which no mark comes near
 abbrev pub token_limit : TokenKind → ℕ
-token_limit Name = 255
-token_limit kind = 65535
+token_limit Name = MAX_NAME
+token_limit kind = MAX_STRING
 
 -- a token stands in the text, no larger than it may be
 pub record IsLexeme (text : List ℕ) (t : Token) : Type 0 where
@@ -100,13 +101,13 @@ AreTokens text at (t ∷ ts) place =
 
 -- the tokens of a text
 abbrev pub AreTokensOf : List ℕ → List Token → Type 0
-AreTokensOf text ts = (length text ≤ 8388608) × (place : ℕ) × AreTokens text 0 ts place × (length text ≤ place)
+AreTokensOf text ts = (length text ≤ MAX_TEXT) × (place : ℕ) × AreTokens text 0 ts place × (length text ≤ place)
 
 -- the fault of a text: that it is too long, else that of what stands after some of its tokens
 abbrev pub IsFaultOf : List ℕ → LexFault → Type 0
 IsFaultOf text fault =
-    ((8388608 < length text) × (fault ≡ TextTooLong 8388608))
-    ⊎ ((length text ≤ 8388608)
+    ((MAX_TEXT < length text) × (fault ≡ TextTooLong MAX_TEXT))
+    ⊎ ((length text ≤ MAX_TEXT)
     × (ts : List Token) × (place : ℕ)
     × AreTokens text 0 ts place
     × (place < length text)
@@ -114,7 +115,7 @@ IsFaultOf text fault =
 
 -- a token that stands in a text, which is no longer than it may be
 abbrev pub IsTokenOf : List ℕ → Token → Type 0
-IsTokenOf text t = (length text ≤ 8388608) × IsLexeme text t
+IsTokenOf text t = (length text ≤ MAX_TEXT) × IsLexeme text t
 
 abbrev pub IsStringToken : List ℕ → Token → Type 0
 IsStringToken text t = (t.kind ≡ Str) × IsTokenOf text t

@@ -2,6 +2,7 @@
 //! A string spells one content, which is UTF-8 where the text is.
 
 ghost use Rattle.std.specs.Prelude.{◌≡◌, ◌≤◌, ◌⊎◌, List, ℕ, length, IsUtf8};
+ghost use Rattle.jc_rules.specs.declared.limits.TheConstants.{MAX_STRING};
 ghost use Rattle.jc_syntax.specs.declared.fault.LexFault.{LexFault as AnyFault};
 ghost use Rattle.jc_syntax.specs.declared.token.Token.{Token as AnyToken};
 ghost use Rattle.jc_syntax.specs.Lexemes.{AreTokensOf, IsFaultOf, IsStringToken, token_content};
@@ -39,5 +40,5 @@ pub fn one_string()
 pub fn legal_strings()
     ensures { (text : List ℕ) (t : AnyToken)
         → IsUtf8 text → IsStringToken text t
-        → IsUtf8 (token_content text t) × (length (token_content text t) ≤ 65535) }
+        → IsUtf8 (token_content text t) × (length (token_content text t) ≤ MAX_STRING) }
 {}

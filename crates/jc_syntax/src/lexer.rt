@@ -2,6 +2,7 @@
 
 ghost use Rattle.std.specs.Prelude.{◌≡◌, ◌≢◌, ◌+◌, ◌<◌, ◌≤◌, length, All, IfOk, IfErr};
 ghost use Rattle.std.specs.List.{prefix_len};
+ghost use Rattle.jc_rules.specs.declared.limits.TheConstants.{MAX_TEXT};
 ghost use Rattle.jc_syntax.specs.Bytes as spec;
 ghost use Rattle.jc_syntax.specs.Lexemes.{after_blanks, kind_at, IsLexeme, IsTokenOf, IsLexFault, AreTokensOf, IsFaultOf};
 
@@ -9,10 +10,8 @@ use crate::extent::{extent_of, is_name_start, limit_of};
 use crate::fault::LexFault;
 use crate::piece::byte_at;
 use crate::token::{Token, TokenKind};
+use jc_rules::limits::MAX_TEXT;
 use std::alloc::Global;
-
-/// How many bytes a text may have.
-pub const MAX_TEXT: usize = 8388608;
 
 fn is_blank(byte: u8) -> bool
     ensures { result ≡ spec.is_blank_byte byte }
@@ -64,7 +63,7 @@ fn kind_at(bytes: &[u8], at: usize) -> Option<TokenKind>
 /// The token that begins at `at`.
 fn token_at(bytes: &[u8], at: usize) -> Result<Token, LexFault>
     requires inside { at < length bytes.now }
-    requires room { length bytes.now ≤ 8388608 }
+    requires room { length bytes.now ≤ MAX_TEXT }
     ensures token { IfOk result (λ t. (t.start ≡ at) × IsLexeme bytes.now t) }
     ensures inside { IfOk result (λ t. t.stop ≤ length bytes.now) }
     ensures fault { IfErr result (IsLexFault bytes.now at) }

@@ -13,6 +13,6 @@ mod tree;
 
 pub use content::{slice_of, string_of};
 pub use fault::LexFault;
-pub use lexer::{MAX_TEXT, lex};
+pub use lexer::lex;
 pub use token::{Token, TokenKind};
 pub use tree::{Cmd, Expr, Named, NamedEvent, copy_script};
