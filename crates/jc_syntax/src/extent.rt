@@ -1,4 +1,4 @@
-//! How far a token goes, by its kind.
+//! Where a token of a known kind ends, and its size. The lexer checks the size against the limit of the kind.
 
 ghost use Rattle.std.specs.Prelude.{◌≡◌, ◌+◌, ◌<◌, ◌≤◌, length, IfOk, IfErr, Some};
 ghost use Rattle.std.specs.List.{prefix_len};
@@ -14,7 +14,7 @@ use crate::piece::piece_at;
 use crate::token::TokenKind;
 use jc_rules::limits::{MAX_NAME, MAX_STRING};
 
-/// Where a token ends, and its size: its length, or that of what a string spells.
+/// The offset of a token's end, and its size: its length, or for a string that of what it spells.
 #[derive(Clone, Copy)]
 pub(crate) struct Extent {
     pub(crate) stop: usize,
@@ -100,7 +100,7 @@ fn string_extent(bytes: &[u8], quote: usize) -> Result<Extent, LexFault>
     Err(LexFault::OpenString { place: quote })
 }
 
-/// How far the token of this kind at `at` goes.
+/// The extent of the token of this kind that begins at `at`, or its fault.
 pub(crate) fn extent_of(kind: TokenKind, bytes: &[u8], at: usize) -> Result<Extent, LexFault>
     requires begins { kind_at bytes.now at ≡ Some kind }
     requires inside { at < length bytes.now }
@@ -131,7 +131,7 @@ pub(crate) fn extent_of(kind: TokenKind, bytes: &[u8], at: usize) -> Result<Exte
     })
 }
 
-/// How large a token of this kind may be.
+/// The greatest size of a token of this kind.
 pub(crate) fn limit_of(kind: TokenKind) -> usize
     ensures { result ≡ token_limit kind }
 {

@@ -1,4 +1,4 @@
-//! Laws of the definitions of tokens and faults: a text has one list of tokens or one fault, and not both.
+//! Laws of tokens and lexical faults, for the layers above: a text has one list of tokens or one fault, not both.
 //! A string spells one content, which is UTF-8 where the text is.
 
 ghost use Rattle.std.specs.Prelude.{◌≡◌, ◌≤◌, ◌⊎◌, List, ℕ, length, IsUtf8};
@@ -29,7 +29,7 @@ pub fn tokens_else_fault()
         → ((ts : List AnyToken) × AreTokensOf text ts) ⊎ ((e : AnyFault) × IsFaultOf text e) }
 {}
 
-/// The string that begins at a place ends at one place, and spells one content.
+/// The string that begins at an offset ends at one offset, and spells one content.
 pub fn one_string()
     ensures { (text : List ℕ) (quote p q : ℕ) (c d : List ℕ)
         → IsString text quote p c → IsString text quote q d

@@ -1,4 +1,4 @@
-//! Tokens of a text, exactly, and the trees of the language.
+//! Tokens and lexical faults of texts, and the trees of the language, which the parser and the printer share.
 #![tactic(auto)]
 
 mod content;
