@@ -1,4 +1,4 @@
--- The loop over selectors of the whole language, and indices.
+-- For `expressions`: the loop over selectors, and indices.
 use Rattle.std.proofs.Common.{◌≡◌, ◌≢◌, ℕ, zero, suc, ◌-◌, ◌<◌, true, false, not, ◌==◌, inl, inr, List, [], ◌∷◌, length, Ok, Err, Option, Some, None, refl, sub-one, arith}
 use Rattle.std.specs.Prelude.{nat_lt, if◌then◌else◌}
 use Rattle.std.specs.Str.{all_ascii_digits}

@@ -1,4 +1,4 @@
--- What the readers of expressions of the whole language take, and where they stop.
+-- About `ExpressionReader`: what the readers of selectors and chains take, and where they stop.
 use Rattle.std.proofs.Common.{◌≡◌, ℕ, zero, suc, ◌≤◌, ◌<◌, ◌⊎◌, inl, inr, Bool, true, false, cond, List, [], ◌∷◌, ◌++◌, length, Ok, Err, refl, sym, ap, subst, ◌∙◌, append_assoc, le_refl, arith}
 use Rattle.std.specs.Prelude.{codes, nat_lt}
 use Rattle.std.proofs.lemmas.Bool.{cases_Bool, ltb-true}

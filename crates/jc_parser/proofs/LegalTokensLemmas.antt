@@ -1,4 +1,4 @@
--- The symbols of a UTF-8 text's tokens are legal.
+-- About `LegalSymbols`: the symbols of a UTF-8 text's tokens are legal.
 use Rattle.std.proofs.Common.{◌≡◌, ℕ, ◌+◌, ◌-◌, ◌<◌, ◌≤◌, List, [], ◌∷◌, length, slice_index, get_or, take, drop, true, Some, inl, inr, refl, ap, ◌∙◌, arith, get_or-drop}
 use Rattle.std.specs.List.{All, AllByRecursion, AllPass, prefix_len, slice_range}
 use Rattle.std.specs.Str.{IsUtf8}

@@ -1,4 +1,4 @@
--- What is written with legal symbols is legal.
+-- About `LegalSymbolLaws`: what is written with legal symbols is legal.
 use Rattle.std.proofs.Common.{◌≡◌, ℕ, ◌+◌, List, [], ◌∷◌, ◌++◌, inl, inr, sym, subst}
 use Rattle.std.specs.Prelude.{codes}
 use Rattle.std.specs.List.{All, AllByRecursion, slice_range}

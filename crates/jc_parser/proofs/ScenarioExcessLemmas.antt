@@ -1,4 +1,4 @@
--- What stops the reader of a scenario at a limit is the fault of the definition.
+-- About `ScenarioFaults`: where the reader of a scenario stops at a limit, the definition has that fault.
 use Rattle.std.proofs.Common.{◌≡◌, ◌≢◌, ℕ, zero, suc, ◌+◌, ◌≤◌, inl, inr, Bool, true, false, not, List, [], ◌∷◌, ◌++◌, map, length, refl, sym, ap, subst, ◌∙◌, append_assoc, arith}
 use Rattle.std.proofs.lemmas.List.{append-nil, length-append, length-map, map-append}
 use Rattle.std.specs.Prelude.{All, codes}

@@ -1,4 +1,4 @@
--- What passes a limit of a scenario: a scenario begins so, and whatever follows is refused with that limit's fault.
+-- About `ScenarioFaults`: what passes a limit of a scenario is refused with that limit's fault.
 use Rattle.std.proofs.Common.{◌≡◌, ◌≢◌, ℕ, zero, suc, ◌+◌, ◌-◌, ◌≤◌, ◌<◌, ◌⊎◌, inl, inr, Bool, true, false, List, [], ◌∷◌, ◌++◌, map, length, Ok, Err, refl, sym, ap, subst, ◌∙◌, append_assoc, arith}
 use Rattle.std.specs.Prelude.{codes, All}
 use Rattle.std.specs.List.{Contains}

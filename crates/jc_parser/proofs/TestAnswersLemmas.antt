@@ -1,4 +1,4 @@
--- Answers of tests.
+-- Booleans that `&&` and `||` make, for the tests on symbols.
 use Rattle.std.proofs.Common.{◌≡◌, ◌⊎◌, inl, inr, Bool, true, false, ◌&&◌, ◌||◌, refl}
 
 pub both_true : (a b : Bool) → (a && b) ≡ true → (a ≡ true) × (b ≡ true)

@@ -1,4 +1,4 @@
--- What is too much in an expression: a reserved word, a selector, an index.
+-- The faults of expressions at a reserved word, a selector or an index, and the expression that a text is.
 use Rattle.std.specs.Prelude.{◌≡◌, ℕ, ◌≤◌, ◌<◌, List, [], ◌∷◌, ◌++◌, codes, true, false}
 use Rattle.std.specs.Str.{bytes_eq}
 use Rattle.jc_rules.specs.Syntax.{Expr}

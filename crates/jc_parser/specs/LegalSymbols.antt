@@ -1,4 +1,4 @@
--- Trees that a text can be written of: their names, numbers and strings are such as tokens have.
+-- Legal trees: their names, numbers and strings are such as tokens have. The printer's laws are about these.
 use Rattle.std.specs.Prelude.{◌≡◌, ℕ, ◌<◌, ◌≤◌, List, length, slice_index, true, All}
 use Rattle.std.specs.List.{AllPass}
 use Rattle.std.specs.Str.{IsUtf8}
@@ -57,7 +57,7 @@ IsLegalCall (takes p q counter r) = IsName p × IsName q × IsName r
 IsLegalCall (applies p counter q) = IsName p × IsName q
 IsLegalCall (ends p) = IsName p
 
--- what an event is called, by its replicas' names
+-- an event by the names of its replicas
 abbrev pub call_by : List (List ℕ) → Event → Call
 call_by names (Exec p) = executes (name_at names p)
 call_by names (Send p) = sends (name_at names p)
@@ -66,7 +66,7 @@ call_by names (Take p q i) = takes (name_at names p) (name_at names q) i.counter
 call_by names (Apply p i) = applies (name_at names p) i.counter (name_at names i.replica)
 call_by names (Done p) = ends (name_at names p)
 
--- a counter that a text may have
+-- a counter within the limit of a text
 abbrev pub IsCounterBelow : Event → Type 0
 IsCounterBelow (Apply p i) = i.counter < 4294967296
 IsCounterBelow (Take p q i) = i.counter < 4294967296

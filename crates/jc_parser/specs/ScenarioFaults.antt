@@ -1,5 +1,4 @@
--- The fault of a text whose tokens are no scenario, and its place. Whether the names in events are replicas' is
--- another question: here they are names.
+-- The fault of tokens that are no scenario. Whether the names in events are replicas' is not asked here.
 use Rattle.std.specs.Prelude.{◌≡◌, ◌≢◌, ℕ, ◌≤◌, ◌<◌, ◌⊎◌, List, [], ◌∷◌, ◌++◌, length, map, codes, true, false, All}
 use Rattle.std.specs.List.{Contains}
 use Rattle.jc_rules.specs.declared.version.Version.{Version}
@@ -17,7 +16,7 @@ use Rattle.jc_parser.specs.Scenarios.{Part, name_of_part, header, part_head, giv
 
 -- ---- what fits nothing
 
--- in the place of the header's two symbols, in that of the first word `replica`, or later
+-- where the header's two symbols must be, where the first word `replica` must be, or later
 abbrev pub misfit_fault : List Symbol → ℕ → List Lexeme → ScenarioFault
 misfit_fault [] stop after = NoHeader (place_at stop after)
 misfit_fault (a ∷ []) stop after = NoHeader (place_at stop after)
@@ -31,8 +30,8 @@ pub record ReplicasAreDone (v : Version) (ps : List Part) (w : List Symbol) : Ty
   pub within : ArePartsWithin ps
   pub is : w ≡ header v ++ parts
 
--- A scenario begins so, and no limit is passed, but perhaps by the last symbol: whether a dot is one too many, or the
--- word before a replica, only what follows it says.
+-- A scenario begins so, and no limit is passed but perhaps by the last symbol. Whether a dot, or the word before a
+-- replica, is one too many depends on what follows it.
 pub record ScenarioIsBegun (xs : List Symbol) : Type 0 where
   pub begins : Begins IsTreeSpelled xs
   pub kept : List Symbol
@@ -50,7 +49,7 @@ pub record ScenarioIsOutOfPlace (fault : ScenarioFault) (stop : ℕ) (before aft
 
 -- ---- what fits, and is too much
 
--- the fault of a replica's name after these replicas, the smaller number first
+-- the fault of a replica's name after these replicas; at one offset the smaller number comes first
 abbrev pub IsNameFault : List Part → List ℕ → ℕ → ScenarioFault → Type 0
 IsNameFault ps name place fault =
     ((is_reserved name ≡ true) × (fault ≡ ReservedName place))

@@ -1,4 +1,4 @@
--- The parts of a scenario of any number of replicas, read from left to right.
+-- How a scenario is read from left to right. The code follows these readers; a reader believes `Scenarios`.
 use Rattle.std.specs.Prelude.{ℕ, zero, suc, ◌-◌, List, [], ◌∷◌, ◌++◌, Bool, false, if◌then◌else◌, codes, Result, Ok, Err}
 use Rattle.std.specs.Str.{bytes_eq}
 use Rattle.std.specs.List.{list_any}
@@ -52,7 +52,7 @@ part_at names r = do
 
 -- ---- blocks of events
 
--- at most n events, with the places of their names
+-- at most n events, with the offsets of their names
 abbrev pub events_at : Version → ℕ → Reading → ReadOutcome (List NamedEvent)
 events_at v n r = items_at (has_kind Name) (any_event_at v) (λ s. TooManyEvents (place s)) n r
 

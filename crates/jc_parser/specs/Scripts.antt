@@ -1,4 +1,4 @@
--- What scripts of the whole language are written with, and what is too much in them.
+-- The grammar of scripts, their limits and their faults. `parse_script` and scenarios are about these.
 use Rattle.std.specs.Prelude.{◌≡◌, ℕ, ◌≤◌, ◌<◌, ◌⊎◌, List, [], ◌∷◌, ◌++◌, length, codes, true, false, All}
 use Rattle.std.specs.Str.{bytes_eq}
 use Rattle.jc_rules.specs.declared.value.Value.{Value}
@@ -34,7 +34,8 @@ IsCommandSpelled Yield w = w ≡ word (codes "yield") ∷ []
 IsCommandSpelled (LetIn name e) w =
     (u : List Symbol) × IsExpressionText e u × (w ≡ word (codes "let") ∷ word name ∷ equals ∷ u)
 IsCommandSpelled (SetTo e v) w =
-    (x : List Symbol) × (y : List Symbol) × LeadsToPlace e × IsExpressionText e x × IsValueSpelled v y × (w ≡ x ++ assign ∷ y)
+    (x : List Symbol) × (y : List Symbol) × LeadsToPlace e × IsExpressionText e x × IsValueSpelled v y
+    × (w ≡ x ++ assign ∷ y)
 IsCommandSpelled (InsertAfter e v) w =
     (x : List Symbol) × (y : List Symbol)
     × LeadsToPlace e

@@ -1,4 +1,4 @@
-//! Expressions of the whole language.
+//! Readers of expressions, which scripts and lone expressions are read with.
 
 ghost use Rattle.std.specs.Prelude.{◌≡◌, ◌≢◌, IfOk, IfErr, All, true, false};
 ghost use Rattle.jc_rules.specs.declared.limits.TheConstants.{MAX_SELECTORS};
@@ -22,7 +22,7 @@ use jc_rules::Text;
 use jc_syntax::{Expr, Token, TokenKind, lex};
 use std::alloc::{AllocError, Global};
 
-/// What leads on from an expression.
+/// A selector.
 #[derive(Drop)]
 enum Selector {
     Get(Text),
@@ -31,7 +31,7 @@ enum Selector {
     Values,
 }
 
-/// An expression, and whether a dot was taken after it.
+/// An expression, and whether the dot after it was taken.
 #[derive(Drop)]
 pub(crate) struct Chain {
     pub(crate) expression: Expr,
@@ -78,7 +78,7 @@ fn step(alloc: Global, cursor: &mut Cursor) -> Result<Selector, ScenarioFault>
     Ok(Selector::Values)
 }
 
-/// The expression, and one selector more.
+/// The expression, extended by one selector.
 fn extend(alloc: Global, from: Expr, selector: Selector) -> Result<Expr, AllocError>
     ensures { IfOk result (λ e. expr_of e ≡ extended (expr_of from) (selector_view selector)) }
 {
@@ -91,8 +91,8 @@ fn extend(alloc: Global, from: Expr, selector: Selector) -> Result<Expr, AllocEr
     })
 }
 
-/// The expression by as many selectors as follow.
-// A call drops the expression: `?` would do so variant by variant, and is dear to prove.
+/// The root, extended by the selectors that follow.
+// `drop` is a call: `?` would drop the expression variant by variant, which is dear to prove.
 pub(crate) fn follow(alloc: Global, cursor: &mut Cursor, root: Expr) -> Result<Chain, ScenarioFault>
     ensures { MapsResult (λ c. (chain_view c, cursor.new)) result (chain_at MAX_SELECTORS (expr_of root) cursor.old) }
 {

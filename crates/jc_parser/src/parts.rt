@@ -1,4 +1,4 @@
-//! The parts of a scenario that several sentences have, read from left to right.
+//! Readers of what expressions, scripts and scenarios share: keys, values, names and the header.
 
 ghost use Rattle.jc_parser.specs.ReaderState.{MapsResult};
 ghost use Rattle.jc_parser.specs.PartReaders.{get_at, read_value_at, read_name_at, version_at, front_at};

@@ -1,4 +1,4 @@
--- The canonical text of an event is written with symbols of the event.
+-- About `Canon`: the canonical text of an event is written with symbols of the event.
 use Rattle.std.proofs.Common.{◌≡◌, ℕ, ◌<◌, ◌^◌, zero, suc, List, [], ◌∷◌, ◌++◌, length, refl, sym, ap, subst, arith, append_assoc, decimal}
 use Rattle.std.specs.Prelude.{codes}
 use Rattle.std.specs.List.{All}

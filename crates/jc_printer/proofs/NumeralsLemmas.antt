@@ -1,4 +1,4 @@
--- The text of a number is a numeral, and writes that number.
+-- About `Canon`: the decimal text of a number is a numeral, and its value is that number.
 use Rattle.std.proofs.Common.{◌≡◌, ◌≢◌, ℕ, ◌+◌, ◌<◌, ◌^◌, List, [], ◌∷◌, ◌++◌, length, slice_index, get_or, map, true, false, ◌==◌, inl, inr, refl, sym, ap, ◌∙◌, arith, append-nil, decimal}
 use Rattle.std.specs.Char.{is_ascii_digit}
 use Rattle.std.specs.List.{list_all}

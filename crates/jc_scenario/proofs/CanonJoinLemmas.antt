@@ -1,4 +1,4 @@
--- What is printed before other symbols, and that what is printed is UTF-8.
+-- About `Canon`: symbols printed before other symbols.
 use Rattle.std.proofs.Common.{◌≡◌, ℕ, List, [], ◌∷◌, ◌++◌, Bool, true, ap, ◌∙◌, append_assoc}
 use Rattle.std.specs.List.{list_all}
 use Rattle.std.proofs.lemmas.Bool.{and_parts}

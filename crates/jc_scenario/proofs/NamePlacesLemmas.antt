@@ -1,4 +1,4 @@
--- Lexemes that a scenario is written with give each name in its events its place.
+-- About `WellFormed`: lexemes that a scenario is written with give each name in its events its offset.
 use Rattle.std.proofs.Common.{◌≡◌, ℕ, List, [], ◌∷◌, ◌++◌, map, inl, inr, refl, sym, ap, subst, ◌∙◌}
 use Rattle.std.specs.Prelude.{All}
 use Rattle.std.proofs.lemmas.List.Elements.{All-head, All-tail}

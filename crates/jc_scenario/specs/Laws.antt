@@ -1,4 +1,4 @@
--- What the definitions promise by themselves.
+-- The statements of `laws`, which follow from the definitions alone.
 use Rattle.std.specs.Prelude.{◌≡◌, ◌⊎◌, ℕ, ◌≤◌, List, length}
 use Rattle.jc_rules.specs.declared.version.Version.TheVariants.{One}
 use Rattle.jc_rules.specs.declared.limits.TheConstants.{MAX_TEXT}

@@ -1,4 +1,4 @@
--- Scenarios, and the bytes that are one.
+-- Scenarios as plain lists, which of them are well formed, and the bytes that are one. `read` returns these.
 use Rattle.std.specs.Prelude.{◌≡◌, ◌≢◌, ℕ, ◌≤◌, List, [], ◌∷◌, length, map, false, All, IsPermutation}
 use Rattle.std.specs.Str.{IsUtf8}
 use Rattle.jc_rules.specs.declared.operation.Event.{Event}
@@ -18,8 +18,8 @@ use Rattle.jc_parser.specs.LegalSymbols.{IsName, IsLegalCmd, call_by, IsCounterB
 use Rattle.jc_parser.specs.Scenarios.{Part, ScenarioTree, NamedTree, tree_of_named, IsNamedTree}
 use Rattle.jc_printer.specs.Canon.{AreNamed}
 
--- The version of its text, the replicas' names, their scripts, and events by the numbers of the replicas: those that are
--- given, which run before the schedule's first, and the schedule.
+-- The version of its text, the replicas' names, their scripts, and events by the numbers of the replicas: the given
+-- events, which run before the schedule, and the schedule.
 pub record Scenario : Type 0 where
   pub version : Version
   pub names : List (List ℕ)

@@ -100,7 +100,8 @@ AreTokens text at (t ∷ ts) place =
 
 -- the tokens of a text
 abbrev pub AreTokensOf : List ℕ → List Token → Type 0
-AreTokensOf text ts = (length text ≤ MAX_TEXT) × (place : ℕ) × AreTokens text 0 ts place × (length text ≤ place)
+AreTokensOf text ts =
+    (length text ≤ MAX_TEXT) × (place : ℕ) × AreTokens text 0 ts place × (length text ≤ place)
 
 -- the fault of a text: that it is too long, else the fault after some of its tokens
 abbrev pub IsFaultOf : List ℕ → LexFault → Type 0
