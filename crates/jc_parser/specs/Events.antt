@@ -38,7 +38,7 @@ IsTakeSpelled Two p q counter r w =
     × (is_numeral digits ≡ true)
     × (counter ≡ numeral_value digits)
     × (w ≡ word p ∷ dot ∷ word (codes "take") ∷ open_paren ∷ word q ∷ comma ∷ number digits ∷ comma ∷ word r
-        ∷ close_paren ∷ [])
+    ∷ close_paren ∷ [])
 
 abbrev pub IsCallSpelled : Version → Call → List Symbol → Type 0
 IsCallSpelled v (executes p) w = w ≡ word p ∷ dot ∷ word (codes "exec") ∷ []

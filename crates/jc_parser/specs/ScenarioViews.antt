@@ -11,7 +11,11 @@ part_view p = record { name = p.name; script = map cmd_of p.script.items }
 abbrev pub tree_view : scenarios.NamedScenario → NamedTree
 tree_view t =
     record {
-      version = t.version; parts = map part_view t.replicas.items; given = t.given.items; events = t.events.items }
+      version = t.version;
+      parts = map part_view t.replicas.items;
+      given = t.given.items;
+      events = t.events.items;
+    }
 
 -- the names of these replicas
 abbrev pub names_of : List replicas.NamedReplica → List (List ℕ)

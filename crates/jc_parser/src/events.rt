@@ -171,7 +171,7 @@ fn event_of(
     ensures tree { IfOk result (λ e. IsEvent version e (lexemes text.now tokens.now)) }
     ensures fault { IfErr result (λ e. e ≢ ScenarioFault.Memory
         → IsStopped (IsCallSpelled version) IsCallWellFormed (IsCallExcess version)
-            (reading_of text.now tokens.now) e) }
+        (reading_of text.now tokens.now) e) }
     ensures kind { IfErr result IsOfSentence }
 {
     let mut cursor = Cursor::new(text, tokens);

@@ -17,8 +17,8 @@ use crate::cursor::Cursor;
 use crate::fault::ScenarioFault;
 use crate::parse_fault::{ParseFault, of_sentence};
 use crate::parts::{get, name};
-use jc_rules::limits::MAX_SELECTORS;
 use jc_rules::Text;
+use jc_rules::limits::MAX_SELECTORS;
 use jc_syntax::{Expr, Token, TokenKind, lex};
 use std::alloc::{AllocError, Global};
 

@@ -18,8 +18,8 @@ use crate::expressions::{Chain, expression, follow, root};
 use crate::fault::ScenarioFault;
 use crate::parse_fault::{ParseFault, of_sentence};
 use crate::parts::{name, value as plain_value};
-use jc_rules::limits::MAX_COMMANDS;
 use jc_rules::Value;
+use jc_rules::limits::MAX_COMMANDS;
 use jc_syntax::{Cmd, Token, TokenKind, lex};
 use std::alloc::Global;
 
