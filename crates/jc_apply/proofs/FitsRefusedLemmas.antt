@@ -22,8 +22,8 @@ use Rattle.jc_rules.specs.Refused.{Cause, because, IsAnswered, Refused, operate_
 use Rattle.jc_rules.specs.WellFormed.{IsChained}
 use Rattle.jc_rules.specs.Paths.{HasContext, IsPath}
 use Rattle.jc_apply.specs.Fits.{Fits, FitsHere, InChild, EachOp, content_or_new, child_context}
-use Rattle.jc_apply.proofs.ReachLemmas.{differ}
 use Rattle.jc_apply.proofs.FitsLemmas.{unrefused}
+use Rattle.jc_rules.proofs.BoolLemmas.{no_truth}
 
 -- the same cursor and mutation ask for the same
 fits_alike : (c : Context) (cursor : Cursor) (m : Mutation) (o : Op) → o.cursor ≡ cursor → o.mutation ≡ m → Fits c o.cursor.path o.cursor.last o.mutation → Fits c cursor.path cursor.last m
@@ -97,6 +97,6 @@ pub record Told (c : Context) (cursor : Cursor) (m : Mutation) (r : Bool) : Type
 pub told : (c : Context) (cursor : Cursor) (m : Mutation) (r : Bool) → IsPath cursor.path → IsTrue r ↔ Fits c cursor.path cursor.last m → Told c cursor m r
 told c cursor m r p h = record {
   fits = h;
-  refused = λ e. refused c cursor m (λ f. differ (sym e ∙ h.1 f)) p.contexts;
+  refused = λ e. refused c cursor m (λ f. no_truth (sym e ∙ h.1 f)) p.contexts;
   not_refused = λ e chained o at is why x. unrefused x (inl chained, alike_fits c cursor m o at is (h.0 e));
 }

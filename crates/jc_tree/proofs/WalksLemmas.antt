@@ -25,7 +25,7 @@ record IsLeast (k : Key) (ks : List Key) : Type 0 where
   among : IsAmong k ks
   below : AllByRecursion (λ j. key_cmp k j ≢ Greater) ks
 
-none_found : (k : Key) (o : Option Key) → lesser k o ≢ None
+pub none_found : (k : Key) (o : Option Key) → lesser k o ≢ None
 none_found k None e = cc
 none_found k (Some j) e = go (key_cmp k j) refl
   where
