@@ -1,4 +1,4 @@
--- Changes other than of links leave lists chained, and so does a fresh element linked behind a place.
+-- About Laws: changes other than of links leave lists chained, and so does a fresh element linked behind a place.
 use Rattle.std.proofs.Common.{◌≡◌, ◌≢◌, List, [], ◌∷◌, Option, Some, None, refl, ◌∙◌, ap, arith}
 use Rattle.std.specs.List.{AllByRecursion}
 use Rattle.jc_rules.specs.declared.id.Id.{Id}

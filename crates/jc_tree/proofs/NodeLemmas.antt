@@ -1,4 +1,4 @@
--- What the lists of a node say of the context that it is.
+-- About Nested: the lists of a plain store's node, and the context that it is.
 use Rattle.std.proofs.Common.{◌≡◌, ◌≢◌, List, ◌∷◌, ◌++◌, Bool, Option, Some, None, Bor, Result, Ok, Err, is_err, true, false, is_some, option_copied, IfSome, IsSomeAnd, OnOk, IfOk, refl, sym, ◌∙◌, ap}
 use Rattle.jc_rules.specs.declared.id.Id.{Id}
 use Rattle.jc_rules.specs.declared.key.Key.{Key}

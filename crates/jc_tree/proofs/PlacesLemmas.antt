@@ -1,4 +1,4 @@
--- What stands at a place once something was put there.
+-- About Tree: what is at a place after something was put there.
 use Rattle.std.proofs.Common.{◌≡◌, ◌≢◌, List, Option, Some, None, is_some, refl, sym, ◌∙◌}
 use Rattle.jc_rules.specs.declared.key.Key.{Key}
 use Rattle.jc_rules.specs.declared.key.Tagged.{Tagged}

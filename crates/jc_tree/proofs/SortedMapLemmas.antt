@@ -1,4 +1,4 @@
--- What the calls of a balanced tree say in the words of entries by key.
+-- About Sorted: the calls of std's B-tree in the words of entries by key.
 use Rattle.std.proofs.Common.{◌≡◌, ◌<◌, List, [], ◌∷◌, length, Bool, true, false, cond, filter, Option, Some, None, Result, Ok, Err, OnErr, option_map, slice_get, refl, sym, ◌∙◌, ap, subst, arith}
 use Rattle.std.specs.List.{AllByRecursion}
 use Rattle.std.specs.List.Sorted.{IsStrictlySortedBy}

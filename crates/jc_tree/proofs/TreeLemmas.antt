@@ -1,4 +1,4 @@
--- What a change leaves at its place, and one key further down.
+-- About Tree: what a change leaves at its place, and one key further down.
 use Rattle.std.proofs.Common.{◌≡◌, List, [], ◌∷◌, ◌++◌, Option, Some, None, refl}
 use Rattle.jc_rules.specs.declared.key.Tagged.{Tagged}
 use Rattle.jc_rules.specs.Context.{Context, Content, Node, Values, content}

@@ -1,4 +1,4 @@
--- A walk over keys, from each to the least above it, and over entries that rise by key.
+-- About Walks: a walk over keys, from each to the least above it, and over entries that rise by key.
 use Rattle.std.proofs.Common.{◌≡◌, ◌≢◌, ◌<◌, ◌≤◌, ◌⊎◌, List, [], ◌∷◌, ◌++◌, length, filter, Bool, true, false, Option, Some, None, refl, sym, ◌∙◌, ap, subst, arith, inl, inr}
 use Rattle.std.specs.List.{AllByRecursion}
 use Rattle.std.specs.Ordering.{is_lt}
