@@ -1,4 +1,4 @@
--- The rules at one context.
+-- About AppliesAlong: the rules at one context.
 use Rattle.std.proofs.Common.{◌≡◌, ◌≢◌, List, [], Option, Some, None, Result, Ok, Err, OnOk, OnErr, Bool, is_some, true, false, refl, sym, ◌∙◌, ap, subst}
 use Rattle.jc_rules.specs.declared.id.Id.{Id}
 use Rattle.jc_rules.specs.declared.key.Key.{Key}

@@ -1,4 +1,4 @@
--- What fits is refused for nothing.
+-- About Fits: what fits is refused for nothing.
 use Rattle.std.proofs.Common.{◌≡◌, ◌≢◌, List, [], ◌∷◌, Option, Some, None, refl, sym, ◌∙◌, ap, subst, arith, inl, inr}
 use Rattle.std.specs.Prelude.{◌⊎◌}
 use Rattle.jc_rules.specs.declared.id.Id.{Id}

@@ -1,4 +1,4 @@
--- What the table answers fits, and what doesn't fit is refused.
+-- About Fits: what doesn't fit is refused.
 use Rattle.std.proofs.Common.{◌≡◌, ◌≢◌, ◌↔◌, IsTrue, IsFalse, List, [], ◌∷◌, Option, Some, None, Bool, refl, sym, ◌∙◌, ap, subst, inl}
 use Rattle.std.specs.List.{AllByRecursion}
 use Rattle.jc_rules.specs.declared.key.Next.{Next}

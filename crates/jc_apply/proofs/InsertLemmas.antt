@@ -1,4 +1,4 @@
--- Going past the elements whose identifiers are greater, and linking a new one.
+-- About AppliesAlong: going past elements with greater identifiers, and linking a new one.
 use Rattle.std.proofs.Common.{◌≡◌, ◌≢◌, ◌<◌, ◌≤◌, List, [], ◌∷◌, length, Option, Some, None, refl, ◌∙◌, ap, subst, arith}
 use Rattle.std.specs.declared.cmp.Ordering.{Ordering}
 use Rattle.std.specs.declared.cmp.Ordering.TheVariants.{Less, Equal, Greater}

@@ -1,4 +1,4 @@
--- The context that a path leads to, some of those on the way new, and that an operation fits where it fits there.
+-- About Fits: the context that a path leads to, some on the way new; an operation fits where it fits there.
 use Rattle.std.proofs.Common.{◌≡◌, ◌≢◌, ◌↔◌, ℕ, ◌+◌, ◌-◌, ◌<◌, ◌≤◌, IsTrue, get_or, add-one, List, [], ◌∷◌, ◌++◌, length, take, slice_get, Option, Some, None, is_some, Bool, true, false, refl, sym, ◌∙◌, ap, subst, arith}
 use Rattle.std.proofs.Math.Seq.{take-suc}
 use Rattle.std.proofs.lemmas.List.{take_all}

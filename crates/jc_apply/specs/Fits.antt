@@ -1,4 +1,4 @@
--- Where an operation can be applied.
+-- Where an operation can be applied, and which identifiers are linked: the words of `fits` and `apply_op`.
 use Rattle.std.specs.Prelude.{◌≡◌, ◌≢◌, List, [], ◌∷◌, Option, Some, None}
 use Rattle.std.specs.Option.{option_map}
 use Rattle.std.specs.List.{AllByRecursion}

@@ -1,4 +1,4 @@
--- What clearing leaves as it is decides chains, keys and depths.
+-- About Bare: what clearing leaves as it is decides chains, keys and depths.
 use Rattle.std.proofs.Common.{◌≡◌, ◌≢◌, suc, ◌+◌, ◌≤◌, List, [], ◌∷◌, Option, Some, None, Bool, true, false, cond, option_map, refl, sym, ◌∙◌, ap, arith}
 use Rattle.std.specs.Ordering.{eq_by_cmp}
 use Rattle.jc_rules.specs.declared.id.Id.{Id}

@@ -1,4 +1,4 @@
--- Identifiers added to a rising list one by one.
+-- Unions of rising lists of identifiers, added one by one, for `united`.
 use Rattle.std.proofs.Common.{◌≡◌, List, [], ◌∷◌, ◌++◌, Bool, true, false, ◌||◌, refl, ◌∙◌}
 use Rattle.jc_rules.specs.declared.id.Id.{Id}
 use Rattle.jc_rules.specs.Order.{same_id}

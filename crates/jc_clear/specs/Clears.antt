@@ -1,4 +1,4 @@
--- What a call says that clears.
+-- That a call clears by the table: the contracts of `clear`, `clear_elem` and their steps.
 use Rattle.std.specs.Prelude.{◌≡◌, List}
 use Rattle.jc_rules.specs.declared.id.Id.{Id}
 use Rattle.jc_rules.specs.declared.key.Tagged.{Tagged}

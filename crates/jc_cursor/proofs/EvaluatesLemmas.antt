@@ -1,4 +1,4 @@
--- Evaluating an expression, rule by rule.
+-- About Evaluates: evaluating an expression, rule by rule.
 use Rattle.std.proofs.Common.{◌≡◌, ℕ, List, [], Some, None, ◌⊎◌, inl, inr, refl, sym, ◌∙◌, ap, subst}
 use Rattle.jc_rules.specs.declared.key.Key.TheVariants as K
 use Rattle.jc_rules.specs.declared.key.Tagged.{Tagged}

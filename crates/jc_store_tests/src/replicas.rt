@@ -8,6 +8,7 @@ use crate::keys::Keys;
 use crate::texts::is_shown;
 use jc_parser::parse_script;
 use jc_replica::{Replica, ReplicaFault};
+use jc_rules::limits::{MAX_COMMANDS, MAX_PATH};
 use jc_rules::{Event, Id, Op, Rule, Trace};
 use jc_tree::PlainTree;
 use std::alloc::{AllocError, Global};
@@ -23,7 +24,7 @@ fn replica(
     let Ok(script) = parse_script(alloc, script) else {
         return Err(AllocError);
     };
-    assert!(rt; script.len() <= 65_536);
+    assert!(rt; script.len() <= MAX_COMMANDS);
     Ok(Replica::new(alloc, number, script, PlainTree::new(alloc)))
 }
 
@@ -498,7 +499,7 @@ pub fn takings(rt: &impl Abort, keys: &Keys) -> Result<(), AllocError> {
 /// A script whose 515th command leads to the deepest cursor; the one after it would lead deeper.
 fn deepest_script(alloc: Global) -> Result<String, AllocError> {
     let mut script = String::from_str(alloc, "let x = doc")?;
-    for _ in 0..512 {
+    for _ in 0..MAX_PATH {
         script.push_str("; let x = x.get(\"a\")")?;
     }
     script.push_str("; x := 1; doc := {}; let x = x.get(\"a\")")?;
