@@ -32,7 +32,7 @@ fits_alike c cursor m o at is = subst (λ (x : Cursor × Mutation). Fits c x.0.p
 alike_fits : (c : Context) (cursor : Cursor) (m : Mutation) (o : Op) → o.cursor ≡ cursor → o.mutation ≡ m → Fits c cursor.path cursor.last m → Fits c o.cursor.path o.cursor.last o.mutation
 alike_fits c cursor m o at is = subst (λ (x : Cursor × Mutation). Fits c x.0.path x.0.last x.1) (λ i. (sym at i, sym is i))
 
--- what stands under a tagged key, or is new there, is answered for it
+-- what is under a tagged key, or is new there, is answered for it
 abbrev new_rule : Tagged → Rule
 new_rule (MapT k) = R.ChildMap
 new_rule (ListT k) = R.ChildList
@@ -88,7 +88,7 @@ refused : (c : Context) (cursor : Cursor) (m : Mutation) → (Fits c cursor.path
 refused c cursor m unfit all o at is =
     not_fitting o.cursor.path c o refl (subst (λ (x : Cursor). AllByRecursion HasContext x.path) (sym at) all) (λ f. unfit (fits_alike c cursor m o at is f))
 
--- What a call says that tells whether an operation fits.
+-- That a call returns whether an operation fits.
 pub record Told (c : Context) (cursor : Cursor) (m : Mutation) (r : Bool) : Type 0 where
   pub fits : IsTrue r ↔ Fits c cursor.path cursor.last m
   pub refused : IsFalse r → EachOp cursor m (λ o. Refused (Operate c o) (because F.NotInList))

@@ -45,7 +45,7 @@ values_descends k vs = record { follows = λ k1 rest c d e. (k1, rest, d, vs, re
 values_refuses : (k : Key) → Refuses (λ path c. SelectValues c (cursor path k))
 values_refuses k = record { missing = λ k1 rest c e. refused.values_no_node refl e; below = λ k1 rest c d why e x. refused.values_below refl e x }
 
--- ---- what a selection gives of a path
+-- ---- what a selection selects from a path
 
 pub index_down : (c : Context) (path : List Tagged) (i : ℕ) (k : Key) (t u v : Rows) → LeadsDown R.Idx2 path c t u → Derives (SelectIndex (context_at path c) (cursor [] K.Head) i) (ToCursor (cursor [] k)) u (at_depth u.depth v) → Derives (SelectIndex c (cursor path K.Head) i) (ToCursor (cursor path k)) t (at_depth t.depth v)
 index_down c path i k t u v leads x = leads (λ p y. SelectIndex y (cursor p K.Head) i) (λ p. ToCursor (cursor p k)) (at_depth u.depth v) (index_descends K.Head k i) x
@@ -89,7 +89,7 @@ module _ (c : Context) (cur : Cursor) (path : List Tagged) (pe : path ≡ cur.pa
       let x : Refused (SelectValues c (cursor path cur.last)) (because F.NoRegister) = r (λ p y. SelectValues y (cursor p cur.last)) (because F.NoRegister) (values_refuses cur.last) (refused.no_register refl n) in
       rw pe at x
 
--- ---- what a selector gives of a cursor
+-- ---- what a selector selects from a cursor
 
 module _ (cur : Cursor) where
   pub got : (b : Bound) (name : List ℕ) (key : Key) (path : List Tagged) → cur.last ≢ K.Head → length cur.path < MAX_PATH → path ≡ cur.path ++ MapT cur.last ∷ [] → key ≡ K.Name name → b ≡ ACursor (cursor path key) → (from : Expr) (c : Context) (u : Rows) → Selects (GetKey from name) c cur b u u
@@ -130,7 +130,7 @@ module _ (cur : Cursor) where
     pub values_refused : (why : Cause) → Refused (SelectValues c cur) why → (from : Expr) → RefusedAfter (ValuesOf from) c cur why
     values_refused why r from = λ A h x. refused.in_values x (rw h r)
 
--- ---- a cause that is handed up
+-- ---- a cause that is passed up
 
 map_some : (P Q : Cause → Type 0) (o : Option Cause) → ((why : Cause) → P why → Q why) → IfSome o P → IfSome o Q
 map_some P Q None h x = tt

@@ -64,7 +64,7 @@ module _ (path : List Tagged) (n : ℕ) (k : Tagged) (within : n < length path) 
         grown = grown_below t u (one_deeper (pushed u r)) r w.grown refl;
       })
 
-  -- a key under which nothing stands
+  -- a key under which nothing is
   pub down_missing : (r : Rule) (b : Bool) (c : Context) (t u : Rows) → Down r path n c t u → b ≡ is_some (content k (context_at (take n path) c)) → b ≡ false → RefusedOnWay path c (no_node k)
   down_missing r b c t u w e be = λ Q R.
       let here = context_at (take n path) c in
@@ -90,7 +90,7 @@ module _ (r : Rule) (path : List Tagged) (n : ℕ) (c : Context) (t u : Rows) (a
   down_refuses = λ Q why R x.
       w.refuses Q why R (subst (λ (p : List Tagged). Refused (Q p (context_at (take n path) c)) why) (sym no_rest) (subst (λ (p : List Tagged). Refused (Q [] (context_at p c)) why) (sym at_end) x))
 
--- a map that stands below a path
+-- a map below a path
 pub record MapBelow (path down : List Tagged) (k : Key) (c : Context) : Type 0 where
   pub place : node_at down c ≢ None
   pub is : content (MapT k) (context_at path c) ≡ Some (Node (context_at down c))

@@ -28,7 +28,7 @@ fn replica(
     Ok(Replica::new(alloc, number, script, PlainTree::new(alloc)))
 }
 
-/// Whether each counter is one that a replica may be handed.
+/// Whether each counter is one that a replica may be passed.
 fn are_handed(ops: &[Op]) -> bool
     ensures { result ≡ list_all (λ (o : AnyOp). leb 1 o.id.counter && leb o.id.counter 4194304) ops.now }
 {
@@ -107,8 +107,8 @@ fn make(
     }
 }
 
-/// What is seen of a replica: its commands left, whether it acted, its variables, the greatest counters applied of both
-/// replicas, and its operations made, offered and received.
+/// What is seen of a replica: its commands left, whether it acted, its variables, the greatest counters
+/// that it applied of both replicas, and its operations made, offered and received.
 #[derive(Clone, Copy, PartialEq, Eq)]
 struct Seen {
     left: usize,

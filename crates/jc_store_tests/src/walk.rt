@@ -98,7 +98,7 @@ impl Twins {
         }
     }
 
-    /// Whether the same stands at the place and so many levels below it.
+    /// Whether the same is at the place and so many levels below it.
     fn is_same_below(&mut self, keys: &Keys, levels: usize) -> Result<bool, AllocError> {
         if !self.is_same(keys) {
             return Ok(false);
