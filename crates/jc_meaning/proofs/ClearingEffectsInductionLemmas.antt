@@ -34,7 +34,7 @@ use Rattle.jc_meaning.proofs.InductionLemmas.{All}
 use Rattle.jc_meaning.proofs.OperationActsLemmas.{OfOperate, OfChild, OfAdd}
 use Rattle.jc_meaning.specs.ClearingEffects.{is_tagged, Tidy, TakesAway, in_key}
 use Rattle.jc_meaning.proofs.OrdersLemmas.{keys_eq, keys_back}
-use Rattle.jc_meaning.proofs.BooleansLemmas.{first_true}
+use Rattle.jc_rules.proofs.BoolLemmas.{first_true}
 
 abbrev pub below_key : Key → List Tagged → Key → Bool
 below_key k [] l = false

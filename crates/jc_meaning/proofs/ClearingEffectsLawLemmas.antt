@@ -24,6 +24,7 @@ use Rattle.jc_meaning.proofs.ClearingEffectsInductionLemmas.{below_key, in_tag, 
 use Rattle.jc_meaning.specs.Effects.{is_list_tag, list_at}
 use Rattle.jc_meaning.specs.ClearingEffects.{TidyAt, Tidy, TakesAway, in_key}
 use Rattle.jc_meaning.proofs.OrdersLemmas.{keys_eq, keys_back}
+use Rattle.jc_rules.proofs.BoolLemmas.{or_false}
 
 tidy_child : (b : Bool) (c d : Context) (t : Tagged) → Tidy b c → content t c ≡ Some (Node d) → Tidy (is_list_tag t) d
 tidy_child b c d t h e P = subst (λ o. TidyAt (list_at (is_list_tag t) P) (seen P (context_or_new o t))) e (h (t ∷ P))
@@ -79,10 +80,6 @@ clear_case _ c deps t a js h hs = absurd h
 
 abbrev pub or_in : (p q : List Tagged → Key → Bool) → List Tagged → Key → Bool
 or_in p q P l = p P l || q P l
-
-or_false : (x : Bool) → (x || false) ≡ x
-or_false true = refl
-or_false false = refl
 
 three_tags : (k : Key) (P : List Tagged) (l : Key) → (or_in (in_tag (MapT k)) (in_tag (ListT k)) P l || in_tag (RegT k) P l) ≡ below_key k P l
 three_tags k [] l = refl

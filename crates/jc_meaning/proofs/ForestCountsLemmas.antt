@@ -5,10 +5,7 @@ use Rattle.jc_rules.specs.declared.key.Key.{Key}
 use Rattle.jc_rules.specs.declared.key.Key.TheVariants as K
 use Rattle.jc_rules.specs.Order.{id_cmp, same_id, same_key}
 use Rattle.jc_meaning.specs.Forest.{Forest, bare, tree, preorder, is_less, is_under, Hangs}
-
-abbrev pub one_if : Bool → ℕ
-one_if true = 1
-one_if false = 0
+use Rattle.jc_tree.proofs.CountedLemmas.{one_if}
 
 abbrev pub count : Id → List Id → ℕ
 count i [] = 0

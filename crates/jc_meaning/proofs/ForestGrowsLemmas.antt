@@ -11,7 +11,6 @@ use Rattle.jc_rules.proofs.IdsLemmas.{same_id-true}
 use Rattle.jc_meaning.specs.Effects.{same_path, list_at, is_insert}
 use Rattle.jc_meaning.specs.Forest.{Forest, preorder, is_less, Hangs}
 use Rattle.jc_meaning.specs.Meaning.{holds_of, names, hangs_at}
-use Rattle.jc_meaning.proofs.BooleansLemmas.{not_so}
 use Rattle.jc_meaning.proofs.OrdersLemmas.{keys_back, keys_self, less_counter}
 use Rattle.jc_meaning.proofs.ChainLemmas.{add, graft, add_preorder, graft_preorder, after, after_here, after_later}
 use Rattle.jc_meaning.proofs.NextOperationLemmas.{paths_self, inserted_at, Inserted, the_insert, hung_inserted, hangs_is, IsRoot, IsGood, NewFor, not_in_deps_of, not_its_own}
@@ -20,6 +19,7 @@ use Rattle.jc_meaning.proofs.ForestInsertLemmas.{with_at, add_hangs, graft_hangs
 use Rattle.jc_meaning.proofs.LinkEffectsLemmas.{hangs_same, hangs_with}
 use Rattle.jc_meaning.proofs.ForestRisesLemmas.{rises, fits}
 use Rattle.jc_meaning.proofs.ForestOnceLemmas.{IsWhole, whole, once_from, head_out}
+use Rattle.jc_rules.proofs.BoolLemmas.{not_so}
 
 -- what hangs at a key of a good set is rooted there
 pub hung_root : (S : List Op) → IsGood S → (P : List Tagged) → list_at false P ≡ true → (k : Key) (i : Id) → hangs_at S P k i ≡ true → (x : Inserted S P i) × IsRoot S x.op P k

@@ -10,14 +10,15 @@ use Rattle.jc_rules.proofs.IdsLemmas.{same_id-self, same_id-true}
 use Rattle.jc_meaning.specs.Effects.{list_at}
 use Rattle.jc_meaning.specs.Forest.{Forest, bare, tree, preorder, is_less, is_under, Hangs}
 use Rattle.jc_meaning.specs.Meaning.{hangs_at}
-use Rattle.jc_meaning.proofs.BooleansLemmas.{no_either, not_so}
 use Rattle.jc_meaning.proofs.OrdersLemmas.{keys_self, ids_back, less_self, less_total, under_less}
 use Rattle.jc_meaning.proofs.NextOperationLemmas.{inserted_at, Inserted, the_insert, hangs_is, not_hung, IsRoot, IsGood}
-use Rattle.jc_meaning.proofs.ForestCountsLemmas.{one_if, count, count_append, count_key, counted}
+use Rattle.jc_meaning.proofs.ForestCountsLemmas.{count, count_append, count_key, counted}
 use Rattle.jc_meaning.proofs.ChainLemmas.{key_in}
 use Rattle.jc_meaning.proofs.MeaningForcesLemmas.{path_above}
 use Rattle.jc_meaning.proofs.ForestInsertLemmas.{key_in_append, Once}
 use Rattle.jc_meaning.proofs.InsertWalkLemmas.{Distinct}
+use Rattle.jc_rules.proofs.BoolLemmas.{no_either, not_so}
+use Rattle.jc_tree.proofs.CountedLemmas.{one_if}
 
 -- ---- counts and membership
 

@@ -24,7 +24,7 @@ use Rattle.jc_meaning.proofs.MeaningLemmas.{above_lower}
 use Rattle.jc_meaning.proofs.MeaningStepButLinksLemmas.{MeansAt}
 use Rattle.jc_meaning.specs.ClearingEffects.{is_tagged, Tidy}
 use Rattle.jc_meaning.proofs.OrdersLemmas.{keys_back, keys_self}
-use Rattle.jc_meaning.proofs.BooleansLemmas.{first_true}
+use Rattle.jc_rules.proofs.BoolLemmas.{first_true}
 
 -- who touches a lower node touches the upper one
 lower_above : (P : List Tagged) (u : Tagged) (l : Key) (Q : List Tagged) (q : Key) → is_at_or_above (P ++ u ∷ []) l Q q ≡ true → is_at_or_above P (key_of_tagged u) Q q ≡ true

@@ -23,7 +23,6 @@ use Rattle.jc_meaning.specs.Forest.{bare, preorder}
 use Rattle.jc_meaning.specs.Meaning.{LinksOf, Means}
 use Rattle.jc_meaning.specs.ClearingEffects.{is_tagged, Tidy}
 use Rattle.jc_meaning.proofs.OperationActsLemmas.{Fresh}
-use Rattle.jc_meaning.proofs.BooleansLemmas.{first_true, second_true}
 use Rattle.jc_meaning.proofs.OrdersLemmas.{keys_back}
 use Rattle.jc_meaning.proofs.NextOperationLemmas.{paths_eq, is_insert-is, IsGood, NewFor, not_inserted}
 use Rattle.jc_meaning.proofs.MeaningForcesLemmas.{tidy_means}
@@ -32,6 +31,7 @@ use Rattle.jc_meaning.proofs.LinkEffectsLemmas.{step_links, step_linked, start_m
 use Rattle.jc_meaning.proofs.RootsLemmas.{leads_through, tagged_linked, is_fresh}
 use Rattle.jc_meaning.proofs.ForestOnceLemmas.{IsWhole, whole, distinct_from, head_out}
 use Rattle.jc_meaning.proofs.MeaningStepButLinksLemmas.{MeansAt, step_new}
+use Rattle.jc_rules.proofs.BoolLemmas.{first_true, second_true}
 
 -- what is reached has a link
 pub reached : (P : List Tagged) (c : Context) (k : Key) → Reach c P k → next k (seen P c) ≡ None → ⊥

@@ -34,7 +34,7 @@ kept_all (e ∷ es) h = (h.0, kept_all es h.1)
 kept-child : (k : Key) (d : Context) (cs : Children) → AreWellFormedContexts cs → find key_cmp k (listed cs) ≡ Some d → IsWellFormedContext d
 kept-child k d cs h f = value-found keys_total exact_keys IsWellFormedContext k d (listed cs) (all_kept cs h) f
 
-kept-put : (k : Key) (d : Context) (cs : Children) → AreWellFormedContexts cs → IsWellFormedContext d → AreWellFormedContexts (children (put key_cmp k d (listed cs)))
+pub kept-put : (k : Key) (d : Context) (cs : Children) → AreWellFormedContexts cs → IsWellFormedContext d → AreWellFormedContexts (children (put key_cmp k d (listed cs)))
 kept-put k d cs h g = kept_all (put key_cmp k d (listed cs)) (values-put keys_total exact_keys IsWellFormedContext k d (listed cs) g (all_kept cs h))
 
 no_node : {A : Type 0} (x : Option Register) (d : Context) → values_of x ≡ Some (Node d) → A
@@ -56,11 +56,11 @@ kept-with (RegT k) (context m l r p n) d h g = h
 kept-register : (k : Key) (v : Register) (c : Context) → IsWellFormedContext c → IsWellFormedRegister v → IsWellFormedContext (with_content (RegT k) (Values v) c)
 kept-register k v (context m l r p n) h g = (h.0, h.1, rising-put keys_total exact_keys k v r h.2, h.3, h.4, values-put keys_total exact_keys IsWellFormedRegister k v r g h.5, h.6, h.7, h.8)
 
-kept-presence : (k : Key) (s : List Id) (c : Context) → AreRising s → IsWellFormedContext c → IsWellFormedContext (with_presence k s c)
+pub kept-presence : (k : Key) (s : List Id) (c : Context) → AreRising s → IsWellFormedContext c → IsWellFormedContext (with_presence k s c)
 kept-presence k s (context m l r p n) f h = (h.0, h.1, h.2, rising-put keys_total exact_keys k s p h.3, h.4, h.5, values-put keys_total exact_keys AreRising k s p f h.6, h.7, h.8)
 
 -- a set of a kept context rises
-rising : (k : Key) (s : List Id) (c : Context) → IsWellFormedContext c → presence k c ≡ Some s → AreRising s
+pub rising : (k : Key) (s : List Id) (c : Context) → IsWellFormedContext c → presence k c ≡ Some s → AreRising s
 rising k s (context m l r p n) h e = value-found keys_total exact_keys AreRising k s p h.6 e
 
 -- so does a register, with primitive values
