@@ -1,4 +1,4 @@
--- What clearing needs of a context, and what it takes away.
+-- About specs/ClearingEffects: what clearing needs of a context (`Tidy`), and what it takes away (`TakesAway`).
 use Rattle.std.proofs.Common.{◌≡◌, List, [], ◌∷◌, ◌++◌, Bool, true, false, not, ◌||◌, ◌&&◌, cond, Option, Some, None, is_some, refl, sym, ◌∙◌, ap, subst}
 use Rattle.jc_rules.specs.declared.id.Id.{Id}
 use Rattle.jc_rules.specs.declared.key.Key.{Key}

@@ -1,5 +1,5 @@
--- Each list has a forest of inserts, whatever the operations: what isn't reached from the head is left out. In it none
--- stands twice.
+-- About specs/Forest and Meaning: each list has a forest of inserts, whatever the operations. What isn't reached from
+-- the head is left out, and no identifier occurs twice.
 use Rattle.std.proofs.Common.{◌≡◌, ℕ, zero, suc, ◌+◌, ◌≤◌, ◌<◌, List, [], ◌∷◌, length, Bool, true, false, not, ◌||◌, ◌&&◌, cond, Option, Some, None, is_some, refl, sym, ◌∙◌, ap, subst, arith}
 use Rattle.std.specs.List.{AllByRecursion}
 use Rattle.std.specs.Ordering.{match_ordering}

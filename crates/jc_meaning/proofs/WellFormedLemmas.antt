@@ -1,4 +1,4 @@
--- Derivations leave trees kept: entries in order, registers primitive.
+-- Derivations leave trees well-formed: entries are sorted, and registers hold primitive values. `RunsLemmas` uses it.
 use Rattle.std.proofs.Common.{◌≡◌, List, [], ◌∷◌, Option, Some, None, not, sym, ap, subst}
 use Rattle.std.proofs.lemmas.Option.{same_Some}
 use Rattle.jc_rules.specs.declared.id.Id.{Id}
