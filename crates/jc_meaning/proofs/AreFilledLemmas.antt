@@ -18,8 +18,8 @@ use Rattle.jc_rules.specs.ContextsAt.{node_at, with_node_at}
 use Rattle.jc_rules.proofs.OrderLemmas.{keys_total, exact_keys}
 use Rattle.jc_rules.proofs.EntriesLemmas.{value-found, values-put}
 use Rattle.jc_rules.proofs.ContextsAtLemmas.{node_found}
-use Rattle.jc_meaning.specs.Meaning.{AreFilled, AreAllFilled}
 use Rattle.jc_rules.proofs.ContextLemmas.{none_some}
+use Rattle.jc_meaning.specs.Meaning.{AreFilled, AreAllFilled}
 
 each_filled : (cs : Children) → AreAllFilled cs → AllByRecursion (λ e. AreFilled e.1) (listed cs)
 each_filled no_child h = tt

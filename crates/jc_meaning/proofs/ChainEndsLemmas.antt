@@ -17,6 +17,8 @@ use Rattle.jc_rules.specs.declared.key.Tagged.TheVariants.{MapT, ListT, RegT}
 use Rattle.jc_rules.specs.Context.{Context, context, next, with_next}
 use Rattle.jc_rules.specs.ContextsAt.{with_node_at, node_at}
 use Rattle.jc_rules.specs.WellFormed.{AreDistinct, chain_of, elements}
+use Rattle.jc_rules.proofs.BoolLemmas.{neither, or_false}
+use Rattle.jc_tree.proofs.LinkedLemmas.{last_of}
 use Rattle.jc_meaning.specs.Effects.{same_path, list_at, is_insert}
 use Rattle.jc_meaning.specs.Seen.{seen, ids_at, value_seen_at, has_tag}
 use Rattle.jc_meaning.specs.Forest.{preorder, follow}
@@ -32,9 +34,7 @@ use Rattle.jc_meaning.proofs.OrdersLemmas.{keys_eq, keys_back, keys_self}
 use Rattle.jc_meaning.proofs.ForestOnceLemmas.{distinct_from, head_out}
 use Rattle.jc_meaning.proofs.InsertWalkLemmas.{Distinct}
 use Rattle.jc_meaning.proofs.GrowthWriteLemmas.{tag_still, id_still, value_still, next_still, same_seen, write_seen}
-use Rattle.jc_rules.proofs.BoolLemmas.{neither, or_false}
 use Rattle.jc_meaning.proofs.SeenLemmas.{node_seen}
-use Rattle.jc_tree.proofs.LinkedLemmas.{last_of}
 
 -- ---- the end of a chain
 

@@ -16,6 +16,7 @@ use Rattle.jc_rules.specs.declared.rule.Rule.TheVariants as R
 use Rattle.jc_rules.specs.Derivation.{Presence, Clear, ClearAny, ClearElem, ClearMap, ClearList, Answer, ToIds, Cleared, Judgement, gives}
 use Rattle.jc_rules.specs.Table.{Follows, kept}
 use Rattle.jc_rules.proofs.IdsLemmas.{has_id-union, has_id-without}
+use Rattle.jc_rules.proofs.BoolLemmas.{or_false}
 use Rattle.jc_meaning.specs.Seen.{context_or_new, seen, ids_of_some, ids_at, reg_at, value_seen_at, has_tag}
 use Rattle.jc_meaning.proofs.ClearingEffectsLemmas.{and_true, takes_both, tidy_after, widen}
 use Rattle.jc_meaning.proofs.TagsLemmas.{presence_seen, presence_tag, presence_value, presence_next, presence_ids, has_found, find_kept}
@@ -24,7 +25,6 @@ use Rattle.jc_meaning.proofs.ClearingEffectsInductionLemmas.{below_key, in_tag, 
 use Rattle.jc_meaning.specs.Effects.{is_list_tag, list_at}
 use Rattle.jc_meaning.specs.ClearingEffects.{TidyAt, Tidy, TakesAway, in_key}
 use Rattle.jc_meaning.proofs.OrdersLemmas.{keys_eq, keys_back}
-use Rattle.jc_rules.proofs.BoolLemmas.{or_false}
 
 tidy_child : (b : Bool) (c d : Context) (t : Tagged) → Tidy b c → content t c ≡ Some (Node d) → Tidy (is_list_tag t) d
 tidy_child b c d t h e P = subst (λ o. TidyAt (list_at (is_list_tag t) P) (seen P (context_or_new o t))) e (h (t ∷ P))

@@ -24,6 +24,7 @@ use Rattle.jc_rules.proofs.RisingLemmas as rising
 use Rattle.jc_meaning.proofs.ClearingEffectsLemmas.{tag_of_key}
 use Rattle.jc_rules.proofs.OrderLemmas.{keys_total, exact_keys}
 use Rattle.jc_rules.proofs.ContextsAtLemmas.{there, node-below}
+use Rattle.jc_rules.proofs.BoolLemmas.{none_of}
 use Rattle.jc_tree.specs.Tree.{Tree, HasPlace, here, is_after, least_after}
 use Rattle.jc_tree.specs.Nested.{nested}
 use Rattle.jc_tree.proofs.PlacesLemmas.{some_place}
@@ -38,7 +39,6 @@ use Rattle.jc_meaning.proofs.ClearingEffectsInductionLemmas.{tagged_done, done_f
 use Rattle.jc_meaning.proofs.DroppedLemmas.{dropped_child, found_child, ids_dropped}
 use Rattle.jc_meaning.proofs.OrdersLemmas.{keys_eq, keys_self}
 use Rattle.jc_meaning.proofs.SameKeysLemmas.{Zipped, zipped, same_entries}
-use Rattle.jc_rules.proofs.BoolLemmas.{none_of}
 
 -- ---- the walk over the keys of a context
 

@@ -2,10 +2,10 @@
 use Rattle.std.proofs.Common.{◌≡◌, List, ◌∷◌, Bool, true, false, ◌&&◌, IsTrue, ◌↔◌, Result, Ok, Err, OnOk, refl, sym, ◌∙◌, ap, subst}
 use Rattle.jc_rules.specs.declared.key.Tagged.{Tagged}
 use Rattle.jc_rules.specs.declared.key.Key.{Key}
+use Rattle.jc_rules.proofs.BoolLemmas.{not_so}
 use Rattle.jc_meaning.specs.Effects.{same_tagged, same_path, is_at_or_above}
 use Rattle.jc_meaning.proofs.NextOperationLemmas.{paths_self, paths_eq}
 use Rattle.jc_meaning.proofs.TagsLemmas.{tags_eq, tags_self}
-use Rattle.jc_rules.proofs.BoolLemmas.{not_so}
 
 pub path_told : (b : Bool) (P Q : List Tagged) → (IsTrue b ↔ (P ≡ Q)) → b ≡ same_path P Q
 path_told true P Q h = sym (subst (λ R. same_path P R ≡ true) (h.0 refl) (paths_self P))

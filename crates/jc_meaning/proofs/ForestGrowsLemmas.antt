@@ -8,6 +8,7 @@ use Rattle.jc_rules.specs.declared.operation.Op.{Op}
 use Rattle.jc_rules.specs.Order.{id_cmp, same_id, same_key}
 use Rattle.jc_rules.specs.Ids.{has_id}
 use Rattle.jc_rules.proofs.IdsLemmas.{same_id-true}
+use Rattle.jc_rules.proofs.BoolLemmas.{not_so}
 use Rattle.jc_meaning.specs.Effects.{same_path, list_at, is_insert}
 use Rattle.jc_meaning.specs.Forest.{Forest, preorder, is_less, Hangs}
 use Rattle.jc_meaning.specs.Meaning.{holds_of, names, hangs_at}
@@ -19,7 +20,6 @@ use Rattle.jc_meaning.proofs.ForestInsertLemmas.{with_at, add_hangs, graft_hangs
 use Rattle.jc_meaning.proofs.LinkEffectsLemmas.{hangs_same, hangs_with}
 use Rattle.jc_meaning.proofs.ForestRisesLemmas.{rises, fits}
 use Rattle.jc_meaning.proofs.ForestOnceLemmas.{IsWhole, whole, once_from, head_out}
-use Rattle.jc_rules.proofs.BoolLemmas.{not_so}
 
 -- what hangs at a key of a good set is rooted there
 pub hung_root : (S : List Op) → IsGood S → (P : List Tagged) → list_at false P ≡ true → (k : Key) (i : Id) → hangs_at S P k i ≡ true → (x : Inserted S P i) × IsRoot S x.op P k

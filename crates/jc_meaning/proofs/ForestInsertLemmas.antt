@@ -7,9 +7,9 @@ use Rattle.jc_rules.specs.Order.{id_cmp, same_id, same_key}
 use Rattle.jc_meaning.specs.Forest.{Forest, bare, tree, preorder, is_less, is_under, Hangs}
 use Rattle.jc_rules.proofs.CoveredLemmas.{left_in}
 use Rattle.jc_rules.proofs.IdsLemmas.{same_id-self, same_id-true}
+use Rattle.jc_rules.proofs.BoolLemmas.{neither}
 use Rattle.jc_meaning.proofs.OrdersLemmas.{keys_eq, keys_self, less_trans, less_self, less_total, under_less}
 use Rattle.jc_meaning.proofs.ChainLemmas.{add, key_in, graft}
-use Rattle.jc_rules.proofs.BoolLemmas.{neither}
 
 pub key_in_append : (r : Key) (xs ys : List Id) → key_in r (xs ++ ys) ≡ (key_in r xs || key_in r ys)
 key_in_append r [] ys = refl

@@ -16,6 +16,8 @@ use Rattle.jc_rules.specs.Table.{op_of}
 use Rattle.jc_rules.proofs.OrderLemmas.{ids_total, exact_ids}
 use Rattle.jc_rules.proofs.IdsLemmas.{same_id-self, same_id-true}
 use Rattle.jc_rules.proofs.RisingLemmas as rising
+use Rattle.jc_rules.proofs.BoolLemmas.{first_true, second_true, both_true, not_so}
+use Rattle.jc_tree.proofs.CountedLemmas.{one_if}
 use Rattle.jc_meaning.specs.Effects.{same_path, is_insert}
 use Rattle.jc_meaning.specs.Forest.{Forest, bare, tree, preorder, is_less, is_under, Hangs}
 use Rattle.jc_meaning.specs.Meaning.{holds_of, names, hangs_at}
@@ -24,8 +26,6 @@ use Rattle.jc_meaning.proofs.ForestCountsLemmas.{count, count_key}
 use Rattle.jc_meaning.proofs.ForestInsertLemmas.{key_in_append}
 use Rattle.jc_meaning.proofs.OrdersLemmas.{keys_eq, ids_back, less_trans, less_self, under_less}
 use Rattle.jc_meaning.proofs.ForestOnceLemmas.{counted_at, out_counted}
-use Rattle.jc_rules.proofs.BoolLemmas.{first_true, second_true, both_true, not_so}
-use Rattle.jc_tree.proofs.CountedLemmas.{one_if}
 
 -- ---- falling lists of identifiers
 

@@ -7,6 +7,8 @@ use Rattle.jc_rules.specs.declared.key.Tagged.{Tagged}
 use Rattle.jc_rules.specs.declared.operation.Op.{Op}
 use Rattle.jc_rules.specs.Order.{id_cmp, same_id, same_key}
 use Rattle.jc_rules.proofs.IdsLemmas.{same_id-self, same_id-true}
+use Rattle.jc_rules.proofs.BoolLemmas.{no_either, not_so}
+use Rattle.jc_tree.proofs.CountedLemmas.{one_if}
 use Rattle.jc_meaning.specs.Effects.{list_at}
 use Rattle.jc_meaning.specs.Forest.{Forest, bare, tree, preorder, is_less, is_under, Hangs}
 use Rattle.jc_meaning.specs.Meaning.{hangs_at}
@@ -17,8 +19,6 @@ use Rattle.jc_meaning.proofs.ChainLemmas.{key_in}
 use Rattle.jc_meaning.proofs.MeaningForcesLemmas.{path_above}
 use Rattle.jc_meaning.proofs.ForestInsertLemmas.{key_in_append, Once}
 use Rattle.jc_meaning.proofs.InsertWalkLemmas.{Distinct}
-use Rattle.jc_rules.proofs.BoolLemmas.{no_either, not_so}
-use Rattle.jc_tree.proofs.CountedLemmas.{one_if}
 
 -- ---- counts and membership
 

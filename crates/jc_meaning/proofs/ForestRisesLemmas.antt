@@ -5,10 +5,10 @@ use Rattle.jc_rules.specs.declared.key.Key.{Key}
 use Rattle.jc_rules.specs.declared.key.Key.TheVariants as K
 use Rattle.jc_rules.specs.Order.{id_cmp, same_id}
 use Rattle.jc_rules.proofs.IdsLemmas.{same_id-true}
+use Rattle.jc_rules.proofs.BoolLemmas.{not_so}
 use Rattle.jc_meaning.specs.Forest.{Forest, bare, tree, preorder, is_less, Hangs}
 use Rattle.jc_meaning.proofs.OrdersLemmas.{less_trans, less_self}
 use Rattle.jc_meaning.proofs.ChainLemmas.{AllOver, Rises, Stops, key_in, Fits}
-use Rattle.jc_rules.proofs.BoolLemmas.{not_so}
 
 all_over_append : (o : Id) (xs ys : List Id) → AllOver o xs → AllOver o ys → AllOver o (xs ++ ys)
 all_over_append o [] ys h g = g

@@ -28,13 +28,13 @@ use Rattle.std.proofs.lemmas.List.Elements.{Contains-get_or}
 use Rattle.jc_rules.specs.Paths.{HasContext, IsPath}
 use Rattle.jc_rules.specs.ContextsAt.{node_at, context_at}
 use Rattle.jc_rules.proofs.ContextsAtLemmas.{there}
+use Rattle.jc_rules.proofs.BoolLemmas.{or_false, or_right}
 use Rattle.jc_meaning.proofs.NextOperationLemmas.{in_some}
 use Rattle.jc_meaning.proofs.GrowthPathLemmas.{place_there, passed_is}
 use Rattle.jc_meaning.proofs.ChainEndsLemmas.{some_more, new_list, linked_more, linked_still}
 use Rattle.jc_meaning.proofs.LinkEffectsLemmas.{start_means}
 use Rattle.jc_meaning.proofs.OrdersLemmas.{keys_back}
 use Rattle.jc_meaning.proofs.GrowthWriteLemmas.{both_grow, grows_as}
-use Rattle.jc_rules.proofs.BoolLemmas.{or_false, or_right}
 use Rattle.jc_meaning.proofs.SeenLemmas.{node_seen}
 
 op_of_more : (i : Id) (os : List Op) (o : Op) → op_of o.id os ≡ None → op_of i (os ++ o ∷ []) ≡ cond (same_id i o.id) (Some o) (op_of i os)

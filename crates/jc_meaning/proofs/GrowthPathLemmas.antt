@@ -18,6 +18,7 @@ use Rattle.std.proofs.Math.Seq.{take-length}
 use Rattle.jc_rules.specs.ContextsAt.{at_node, node_at, context_at}
 use Rattle.jc_rules.proofs.ContextsAtLemmas.{there}
 use Rattle.jc_rules.proofs.IdsLemmas.{same_id-true}
+use Rattle.jc_rules.proofs.BoolLemmas.{first_true, second_true, or_false, or_right}
 use Rattle.jc_meaning.specs.Effects.{same_tagged, same_path, is_at_or_above, target, is_delete, value_in, primitive, primitive_in, is_made_by, passed, goes_through}
 use Rattle.jc_meaning.specs.Seen.{context_or_new, seen, has_tag}
 use Rattle.jc_meaning.specs.Meaning.{is_cleared}
@@ -26,7 +27,6 @@ use Rattle.jc_meaning.proofs.OrdersLemmas.{keys_back, keys_self, keys_eq}
 use Rattle.jc_meaning.proofs.NextOperationLemmas.{paths_eq, paths_self}
 use Rattle.jc_meaning.proofs.TagsLemmas.{tags_eq, tags_back, tags_self}
 use Rattle.jc_meaning.proofs.GrowthWriteLemmas.{both_grow, grows_as, nothing_grows}
-use Rattle.jc_rules.proofs.BoolLemmas.{first_true, second_true, or_false, or_right}
 use Rattle.jc_meaning.proofs.SeenLemmas.{node_seen}
 
 -- one key further

@@ -12,10 +12,10 @@ use Rattle.jc_rules.specs.Ids.{has_id, with_id}
 use Rattle.jc_rules.specs.WellFormed.{AreDistinct}
 use Rattle.jc_rules.specs.Table.{op_of}
 use Rattle.jc_rules.proofs.IdsLemmas.{has_id-with, same_id-true, same_id-self}
+use Rattle.jc_rules.proofs.BoolLemmas.{none_of as none_is, and_true, or_false}
 use Rattle.jc_replica.specs.Operations.{identifiers}
 use Rattle.jc_meaning.specs.Meaning.{some_op, holds_of, names, hangs_at}
 use Rattle.jc_meaning.proofs.ChainEndsLemmas.{some_more}
-use Rattle.jc_rules.proofs.BoolLemmas.{none_of as none_is, and_true, or_false}
 
 -- the insert with the identifier, among those after the key
 abbrev pub is_named : List Tagged → Key → Id → Op → Bool

@@ -17,6 +17,7 @@ use Rattle.jc_apply.specs.Fits.{child_context, InChild}
 use Rattle.jc_network.specs.LinksEverywhere.{Reach}
 use Rattle.jc_network.proofs.LinksKeptLemmas.{operates}
 use Rattle.jc_rules.specs.declared.key.Next.TheVariants.{Tail}
+use Rattle.jc_rules.proofs.BoolLemmas.{first_true, second_true}
 use Rattle.jc_meaning.specs.Effects.{same_path, list_at, is_insert}
 use Rattle.jc_meaning.specs.Seen.{context_or_new, seen}
 use Rattle.jc_meaning.specs.Forest.{bare, preorder}
@@ -31,7 +32,6 @@ use Rattle.jc_meaning.proofs.LinkEffectsLemmas.{step_links, step_linked, start_m
 use Rattle.jc_meaning.proofs.RootsLemmas.{leads_through, tagged_linked, is_fresh}
 use Rattle.jc_meaning.proofs.ForestOnceLemmas.{IsWhole, whole, distinct_from, head_out}
 use Rattle.jc_meaning.proofs.MeaningStepButLinksLemmas.{MeansAt, step_new}
-use Rattle.jc_rules.proofs.BoolLemmas.{first_true, second_true}
 
 -- what is reached has a link
 pub reached : (P : List Tagged) (c : Context) (k : Key) → Reach c P k → next k (seen P c) ≡ None → ⊥

@@ -13,6 +13,7 @@ use Rattle.jc_rules.specs.Ids.{has_id, with_id}
 use Rattle.jc_rules.specs.Context.{Context, registers, Register, Node, values_of, content, with_content, new_content, with_presence, next, key_of_tagged}
 use Rattle.jc_rules.specs.Derivation.{ToContext, ToContent}
 use Rattle.jc_rules.proofs.IdsLemmas.{has_id-with}
+use Rattle.jc_rules.proofs.BoolLemmas.{or_false}
 use Rattle.jc_meaning.specs.Effects.{same_tagged, same_path, is_at_or_above, target_of, is_delete, is_insert, is_clearing, value_in, primitive_in, passed}
 use Rattle.jc_meaning.specs.Seen.{context_or_new, seen, ids_at, value_seen_at, has_tag}
 use Rattle.jc_meaning.specs.Forest.{follow}
@@ -24,7 +25,6 @@ use Rattle.jc_meaning.proofs.SeenLemmas.{is_node_tag, content_with_node, seen_wi
 use Rattle.jc_meaning.proofs.OperationActsLemmas.{touched, cleared, written, overwritten, or_else, Changes, node_content, OfChild, OfAdd}
 use Rattle.jc_meaning.proofs.OrdersLemmas.{keys_eq}
 use Rattle.jc_meaning.specs.ClearingEffects.{in_key}
-use Rattle.jc_rules.proofs.BoolLemmas.{or_false}
 
 -- ---- below the root
 

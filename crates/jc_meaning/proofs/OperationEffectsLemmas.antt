@@ -14,6 +14,7 @@ use Rattle.std.proofs.lemmas.Option.{same_Some}
 use Rattle.jc_rules.specs.Derivation.{ToContext, ToContent}
 use Rattle.jc_rules.proofs.OrderLemmas.{ids_total, exact_ids}
 use Rattle.jc_rules.proofs.EntriesLemmas.{find-put}
+use Rattle.jc_rules.proofs.BoolLemmas.{or_false}
 use Rattle.jc_meaning.specs.Effects.{same_tagged, same_path, is_at_or_above, is_clearing, primitive, is_made_by, passed}
 use Rattle.jc_meaning.specs.Seen.{context_or_new, seen, ids_at, reg_at, value_in_some, value_seen_at, has_tag}
 use Rattle.jc_meaning.proofs.ClearingEffectsLemmas.{and_true}
@@ -24,7 +25,6 @@ use Rattle.jc_meaning.proofs.ClearingEffectsInductionLemmas.{in_tag, reg_tag, sa
 use Rattle.jc_meaning.proofs.OperationEffectsInductionLemmas.{at_root_key, or_true, added_ids, added_else}
 use Rattle.jc_meaning.specs.ClearingEffects.{TakesAway, in_key}
 use Rattle.jc_meaning.proofs.OrdersLemmas.{keys_eq, keys_back, keys_self}
-use Rattle.jc_rules.proofs.BoolLemmas.{or_false}
 
 seen_none : (x s n : Bool) → x ≡ ((s && (n && false)) || x)
 seen_none x true true = refl

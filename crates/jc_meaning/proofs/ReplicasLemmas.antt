@@ -18,6 +18,7 @@ use Rattle.jc_network.specs.RunInvariant.{IsWell}
 use Rattle.jc_network.proofs.AppliedLemmas.{applied_is}
 use Rattle.jc_network.proofs.MembersLemmas.{none_in, first_in, later_in, in_cons, of_id}
 use Rattle.jc_network.proofs.RunInvariantStartLemmas.{sound, at_member}
+use Rattle.jc_network.proofs.AbstractLemmas.{mapped_in, in_mapped}
 use Rattle.jc_meaning.specs.Meaning.{Means, IsMeaning, AreFilled, AreAllFilled}
 use Rattle.jc_meaning.specs.Replicas.{HasApplied, IsTreeOfReplicas}
 use Rattle.jc_meaning.proofs.ComparedLemmas.{one_tree}
@@ -25,7 +26,6 @@ use Rattle.jc_meaning.proofs.ComparisonLemmas.{held_has, run_well}
 use Rattle.jc_meaning.proofs.StoredMeaningLemmas.{meant_kept}
 use Rattle.jc_meaning.proofs.RunsLemmas.{trees_meant, kept_tree}
 use Rattle.jc_meaning.proofs.MeaningOfSetLemmas.{same_lists, means_same}
-use Rattle.jc_network.proofs.AbstractLemmas.{mapped_in, in_mapped}
 
 -- ---- a tree without empty presence sets
 

@@ -28,9 +28,9 @@ use Rattle.jc_rules.proofs.EntriesLemmas.{rising-put, values-put, value-found}
 use Rattle.jc_rules.proofs.IdsLemmas.{with-rises, union-rises, without-rises}
 use Rattle.jc_rules.proofs.ContextsAtLemmas.{listed_children}
 use Rattle.jc_tree.proofs.WellFormedLemmas.{kept-content, kept-put, kept-presence, rising}
+use Rattle.jc_tree.proofs.RegistersLemmas.{primitive_kept}
 use Rattle.jc_meaning.proofs.InductionLemmas.{All, by_rules}
 use Rattle.jc_meaning.proofs.SameKeysLemmas.{filter_rises}
-use Rattle.jc_tree.proofs.RegistersLemmas.{primitive_kept}
 
 -- ---- writes
 

@@ -15,6 +15,7 @@ use Rattle.jc_rules.specs.State.{State}
 use Rattle.jc_rules.specs.Syntax.{Cmd}
 use Rattle.jc_rules.specs.Table.{op_of}
 use Rattle.jc_rules.proofs.IdsLemmas.{same_id-true}
+use Rattle.jc_rules.proofs.BoolLemmas.{first_true, second_true, both_true}
 use Rattle.jc_json.proofs.PartsPlacesLemmas.{presences_rise}
 use Rattle.jc_network.specs.Applied.{applied_ops}
 use Rattle.jc_network.specs.Laws.{IsReached}
@@ -33,7 +34,6 @@ use Rattle.jc_meaning.proofs.TagsLemmas.{tags_eq, tags_self}
 use Rattle.jc_view.specs.Visible.{GoesThrough, some_goes, is_alive, applied_op, goes_by, present}
 use Rattle.jc_view.proofs.AppliedPathsLemmas.{applied_found}
 use Rattle.jc_view.proofs.PresentLemmas.{alive_by}
-use Rattle.jc_rules.proofs.BoolLemmas.{first_true, second_true, both_true}
 
 -- who touches something below a tagged key goes through it
 goes_below : (at : List Tagged) (t : Tagged) (k : Key) (path : List Tagged) (q : Key) (v : Value) → is_at_or_above (at ++ t ∷ []) k path q ≡ true → passed path q (Some v) at t ≡ true

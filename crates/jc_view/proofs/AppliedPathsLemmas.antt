@@ -19,8 +19,8 @@ use Rattle.jc_network.proofs.RunInvariantStartLemmas.{held_made, sound, at_membe
 use Rattle.jc_meaning.specs.Effects.{goes_through}
 use Rattle.jc_meaning.specs.Meaning.{holds_of}
 use Rattle.jc_meaning.proofs.ComparisonLemmas.{held_has, run_well, stands_held}
-use Rattle.jc_view.specs.Visible.{made_or, applied_op, goes_by}
 use Rattle.jc_meaning.proofs.StoredMeaningLemmas.{kept_of, found_kept}
+use Rattle.jc_view.specs.Visible.{made_or, applied_op, goes_by}
 
 module _ (N : List State) (w : IsWell N) (p : ℕ) (A : State) (there : IsReplicaAt N p A) where
   -- of what the replica made or received one operation has the identifier

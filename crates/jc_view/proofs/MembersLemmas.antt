@@ -8,6 +8,7 @@ use Rattle.json.specs.Token as T
 use Rattle.json.specs.Tree.{json_tokens, members_tokens}
 use Rattle.json.specs.Written.{Written}
 use Rattle.std.specs.declared.cmp.Ordering.TheVariants.{Greater}
+use Rattle.std.proofs.lemmas.List.{append-nil}
 use Rattle.jc_rules.specs.declared.id.Id.{Id}
 use Rattle.jc_rules.specs.declared.key.Key.{Key}
 use Rattle.jc_rules.specs.declared.key.Key.TheVariants as K
@@ -29,7 +30,6 @@ use Rattle.jc_view.specs.Parts.{Gains, parts_shown_at, child_json, is_list, form
 use Rattle.jc_view.proofs.PresentLemmas.{present_by}
 use Rattle.jc_view.proofs.ElementsLemmas.{items_tokens_are}
 use Rattle.jc_view.proofs.TokensLemmas.{Wrote, wrote_begins, wrote_more}
-use Rattle.std.proofs.lemmas.List.{append-nil}
 
 pub members_tokens_are : (show : Key → Json) (p : List (Key × List Id)) → members_tokens (members_at show p) ≡ members_front show p ++ T.end_object ∷ []
 members_tokens_are show [] = refl

@@ -7,10 +7,10 @@ use Rattle.jc_rules.specs.declared.value.Value.{Value}
 use Rattle.jc_rules.specs.declared.value.Value.TheVariants as V
 use Rattle.jc_rules.specs.Context.{key_of_tagged}
 use Rattle.jc_rules.specs.Order.{same_key}
+use Rattle.jc_rules.proofs.BoolLemmas.{not_so}
 use Rattle.jc_meaning.specs.Effects.{same_tagged, is_made_by, passed}
 use Rattle.jc_meaning.proofs.TagsLemmas.{tags_eq, tags_self}
 use Rattle.jc_view.specs.Parts.{has_tag_of}
-use Rattle.jc_rules.proofs.BoolLemmas.{not_so}
 
 pub tag_told : (b : Bool) (t u : Tagged) → (IsTrue b ↔ (t ≡ u)) → b ≡ same_tagged t u
 tag_told true t u h = sym (subst (λ v. same_tagged t v ≡ true) (h.0 refl) (tags_self t))

@@ -1,9 +1,9 @@
 use Rattle.std.proofs.Common.{◌≡◌, take}
 use Rattle.jc_rules.specs.declared.key.Key.TheVariants.{Head}
 use Rattle.jc_tree.specs.Tree.{HasPlace}
+use Rattle.jc_tree.proofs.LinkedLemmas.{last_of}
 use Rattle.jc_meaning.specs.Growth.{LinksIds}
 use Rattle.jc_meaning.proofs.ordering.link.Given as goal
-use Rattle.jc_tree.proofs.LinkedLemmas.{last_of}
 
 abbrev pub invariant-loop-id : goal.invariant-loop-id
 invariant-loop-id g l = record {
