@@ -20,7 +20,7 @@ use Rattle.jc_network.specs.Given.{before_given, IsStart, IsGivenFault}
 use Rattle.jc_network.specs.Laws.{starts, IsReached}
 use Rattle.jc_network.specs.Steps.{IsStuckFor}
 use Rattle.jc_network.specs.Invariant.{IsKeptNet}
-use Rattle.jc_network.proofs.AfterLemmas.{after_more, after_end, after_count}
+use Rattle.jc_network.proofs.AfterLemmas.{after_more, after_one_more, after_count}
 use Rattle.jc_network.proofs.InvariantLemmas.{now_in_run, length_end}
 
 -- ---- the start of a scenario
@@ -52,7 +52,7 @@ led_more first old new given i d rows l h s =
     let more : length new.earlier ≡ length old.earlier + 1 = ap length s.earlier ∙ length_end old.earlier old.network in
     let c = h.counted in
     record {
-      after = subst (λ (es : List Event). AfterIn first.network es new.network) (sym front) (after_end first.network (take i given) old.network new.network event rows.rows h.after s.step);
+      after = subst (λ (es : List Event). AfterIn first.network es new.network) (sym front) (after_one_more first.network (take i given) old.network event new.network rows.rows h.after s.step);
       counted = omega (arith, more, c);
       names = s.names ∙ h.names;
     }

@@ -21,7 +21,7 @@ use Rattle.jc_network.specs.Invariant.{HasBegun, IsInRun, AreInRun, NetCanGoBack
 use Rattle.jc_network.specs.Refines.{AreSeen, IsAsked}
 use Rattle.jc_network.proofs.StepsLemmas.{well, reached, as_many_states, kept_there}
 use Rattle.jc_network.proofs.AppliedLemmas.{applied_stands}
-use Rattle.jc_network.proofs.AfterLemmas.{after_count, after_end}
+use Rattle.jc_network.proofs.AfterLemmas.{after_count, after_one_more}
 use Rattle.jc_network.proofs.OfferedLemmas.{offered_handed}
 use Rattle.jc_network.proofs.MembersLemmas.{set_there, set_other}
 use Rattle.jc_network.proofs.AbstractLemmas.{seen_is_real}
@@ -182,7 +182,7 @@ step_of version scripts first old new event rows allowed run numbered acts =
         given = run.given;
         before = run.before;
         events = run.events ++ event ∷ [];
-        led = after_end (of_version version first) run.events (of_version version N) (of_version version (network_of new)) event rows.rows run.led step;
+        led = after_one_more (of_version version first) run.events (of_version version N) event (of_version version (network_of new)) rows.rows run.led step;
         set = s.set;
         seen = subst (λ M. AreSeen s.set M (kept_of new)) is seen;
       };

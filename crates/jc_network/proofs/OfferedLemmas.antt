@@ -17,7 +17,8 @@ handed_kept : (os : List Op) → ((o : Op) → Contains os o → IsHanded o) →
 handed_kept [] f = tt
 handed_kept (o ∷ os) f = (f o (first_in o os), handed_kept os (λ x c. f x (later_in x o os c)))
 
-left_bound : (scripts : List (List Cmd)) → AllByRecursion (λ s. length s ≤ 65536) scripts → commands_left (starts scripts) ≤ length scripts * 65536
+-- the commands of all scripts
+pub left_bound : (scripts : List (List Cmd)) → AllByRecursion (λ s. length s ≤ 65536) scripts → commands_left (starts scripts) ≤ length scripts * 65536
 left_bound [] h = omega arith
 left_bound (s ∷ scripts) h =
     let first : length s ≤ 65536 = h.0 in
