@@ -14,6 +14,7 @@ use Rattle.jc_rules.specs.Representation.{IsCausallyClosed}
 use Rattle.jc_rules.specs.State.{State}
 use Rattle.jc_rules.specs.Syntax.{Cmd}
 use Rattle.jc_rules.specs.Table.{op_of}
+use Rattle.jc_rules.proofs.BoolLemmas.{or_right, same_tests}
 use Rattle.jc_rules.proofs.IdsLemmas.{same_id-self, same_id-true}
 use Rattle.jc_rules.proofs.RepresentationLemmas.{looked_up, counters_tell, subset_both}
 use Rattle.jc_vectors.specs.StoredStates.{stored_op, stored_state, AreOf}
@@ -28,13 +29,8 @@ use Rattle.jc_network.proofs.RunInvariantStartLemmas.{start_well, after_well, he
 use Rattle.jc_runner.specs.declared.phase.Phase.{Phase}
 use Rattle.jc_runner.specs.declared.phase.Phase.TheVariants as P
 use Rattle.jc_runner.specs.Chosen.{is_ready, first_ready, apply_or_end, past_own, at_yield, is_yield, chosen_by, chosen_in, choice}
-use Rattle.jc_runner.proofs.ChosenLemmas.{same_tests}
 
 -- ---- sets in sets
-
-or_right : (a b : Bool) → b ≡ true → a || b ≡ true
-or_right true b h = refl
-or_right false b h = h
 
 pub all_in : (s is : List Id) → AreIn is s → list_all (λ i. has_id i s) is ≡ true
 all_in s [] f = refl

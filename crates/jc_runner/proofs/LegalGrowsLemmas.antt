@@ -1,9 +1,7 @@
 -- Histories that grow.
-use Rattle.std.proofs.Common.{rules, ◌≡◌, ◌⊎◌, ℕ, List, [], ◌∷◌, ◌++◌, refl, sym, ◌∙◌, ap, subst, true, false, Bool, nat_eq, length, inl, inr, Some}
+use Rattle.std.proofs.Common.{rules, ◌≡◌, ◌⊎◌, ℕ, List, [], ◌∷◌, ◌++◌, refl, sym, ◌∙◌, ap, subst, true, false, Bool, nat_eq, inl, inr, Some}
 use Rattle.jc_rules.specs.declared.operation.Event.{Event}
-use Rattle.jc_rules.specs.declared.rule.Rule.{Rule}
-use Rattle.jc_rules.specs.State.{State}
-use Rattle.jc_rules.specs.Step.{After, Network, StepIn, AfterIn, replica_of}
+use Rattle.jc_rules.specs.Step.{After, Network, AfterIn, replica_of}
 use Rattle.jc_rules.proofs.VersionLemmas.{after_states, one_after_in}
 use Rattle.jc_network.specs.Given.{before_given}
 use Rattle.jc_network.specs.Laws.{starts}
@@ -11,11 +9,6 @@ use Rattle.jc_network.proofs.AfterLemmas.{after_more}
 use Rattle.jc_scenario.specs.WellFormed.{Scenario}
 use Rattle.jc_runner.specs.Phases.{last_event_of}
 use Rattle.jc_runner.specs.Legal.{IsLegal, own_events, IsChosenAfter, AllChosen}
-
--- one event more
-pub after_one_more : (N : Network) (es : List Event) (M : Network) (e : Event) (M2 : Network) (rows : List (Rule × ℕ)) → AfterIn N es M → StepIn M e M2 rows → AfterIn N (es ++ e ∷ []) M2
-after_one_more N [] M e M2 rows after step = (M2, rows, subst (λ (K : Network). StepIn K e M2 rows) (sym after) step, refl)
-after_one_more N (f ∷ es) M e M2 rows after step = (after.0, after.1, after.2, after_one_more after.0 es M e M2 rows after.3 step)
 
 -- the states of a network to which a history leads: the given events come before it
 pub legal_states : (s : Scenario) (history : List Event) (N : Network) → IsLegal history s N → After (starts s.scripts) (s.given ++ history) N.states
@@ -36,11 +29,6 @@ pub legal_both : (s : Scenario) (xs ys : List Event) (M : Network) → IsLegal (
 legal_both s xs ys M legal =
     let split = after_both legal.start xs ys M legal.after in
     (split.0, record { start = legal.start; is_start = legal.is_start; after = split.1 }, split.2)
-
--- no replica comes or goes
-pub same_number : (N : List State) (es : List Event) (M : List State) → After N es M → length M ≡ length N
-same_number N [] M after = ap length (sym after)
-same_number N (e ∷ es) M after = same_number after.0 es M after.3 ∙ (ap length after.2.is_new ∙ search rules)
 
 pub last_more : (es : List Event) (e : Event) → last_event_of (es ++ e ∷ []) ≡ Some e
 last_more [] e = refl

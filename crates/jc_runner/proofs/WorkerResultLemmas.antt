@@ -14,6 +14,7 @@ use Rattle.std.proofs.lemmas.Option.{same_Some}
 use Rattle.jc_runner.specs.Recording.{Recording, recording, IsRecorded}
 use Rattle.jc_network.specs.Laws.{starts}
 use Rattle.jc_network.specs.Steps.{IsStuckFor}
+use Rattle.jc_network.proofs.AfterLemmas.{after_count}
 use Rattle.jc_runner.specs.Phases.{last_event_of, phase_after}
 use Rattle.jc_runner.specs.Chosen.{choice, event_in}
 use Rattle.jc_runner.specs.Legal.{IsLegal, own_events, IsChosenAfter, AllChosen}
@@ -27,12 +28,12 @@ use Rattle.jc_runner.specs.declared.worker.End.TheVariants as Ends
 use Rattle.jc_runner.specs.declared.worker.Worked.{Worked}
 use Rattle.jc_runner.specs.Answers.{IsStepAnswered, IsSpent, seen_after}
 use Rattle.jc_runner.specs.WorkerResult.{IsFinishedAfter, IsStuckAfter, ChoosesAfter, EndsWith, IsWorkerResult, end_of}
-use Rattle.jc_runner.proofs.LegalGrowsLemmas.{legal_states, one_legal, chosen_longer, same_number, last_more}
+use Rattle.jc_runner.proofs.LegalGrowsLemmas.{legal_states, one_legal, chosen_longer, last_more}
 use Rattle.jc_runner.proofs.ChosenLemmas.{choice_is, none_chosen}
 
 -- the network in hand has the scenario's replicas
 pub as_many : (s : Scenario) (history : List Event) (N : Network) → IsLegal history s N → length N.states ≡ length s.scripts
-as_many s history N legal = same_number (starts s.scripts) (s.given ++ history) N.states (legal_states s history N legal) ∙ length-map s.scripts start
+as_many s history N legal = after_count (starts s.scripts) (s.given ++ history) N.states (legal_states s history N legal) ∙ length-map s.scripts start
 
 -- what is known of the own events stands in the longer history too
 pub still_chosen : (s : Scenario) (p : ℕ) (seen longer mine : List Event) → IsPrefix seen longer → own_events seen p ≡ mine → own_events longer p ≡ mine → AllChosen s p seen → AllChosen s p longer
