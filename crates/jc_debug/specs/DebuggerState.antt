@@ -1,8 +1,8 @@
 -- The state of a debugger, apart from code: where its schedule leads, what its breakpoints name, and how its runs end.
 -- The contracts of `Debugger` cite it through specs/Moves; jc_session's definitions cite it directly.
 use Rattle.std.specs.Prelude.{◌≡◌, ℕ, ◌+◌, ◌≤◌, ◌<◌, List, [], ◌∷◌, ◌++◌, length, take, replicate, slice_get, slice_set, Option, Some, None}
-use Rattle.jc_rules.specs.declared.operation.Event.{Event}
 use Rattle.jc_rules.specs.declared.limits.TheConstants.{MAX_BREAKS}
+use Rattle.jc_rules.specs.declared.operation.Event.{Event}
 use Rattle.jc_rules.specs.declared.rule.Rule.{Rule}
 use Rattle.jc_rules.specs.Step.{Network, StepIn, AfterIn, replica_of}
 use Rattle.jc_rules.specs.Refused.{Cause, IsStuckIn}

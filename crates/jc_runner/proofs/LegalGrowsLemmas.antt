@@ -1,4 +1,4 @@
--- Histories that grow.
+-- About specs/Legal: histories that grow, and their parts.
 use Rattle.std.proofs.Common.{rules, ◌≡◌, ◌⊎◌, ℕ, List, [], ◌∷◌, ◌++◌, refl, sym, ◌∙◌, ap, subst, true, false, Bool, nat_eq, inl, inr, Some}
 use Rattle.jc_rules.specs.declared.operation.Event.{Event}
 use Rattle.jc_rules.specs.Step.{After, Network, AfterIn, replica_of}
@@ -14,7 +14,7 @@ use Rattle.jc_runner.specs.Legal.{IsLegal, own_events, IsChosenAfter, AllChosen}
 pub legal_states : (s : Scenario) (history : List Event) (N : Network) → IsLegal history s N → After (starts s.scripts) (s.given ++ history) N.states
 legal_states s history N legal = after_states (before_given s) (s.given ++ history) N (after_more (before_given s) s.given legal.start history N legal.is_start legal.after)
 
--- it leads to one network
+-- a history leads to one network
 pub one_legal : (s : Scenario) (history : List Event) (N M : Network) → IsLegal history s N → IsLegal history s M → N ≡ M
 one_legal s history N M legal other =
     let same : other.start ≡ legal.start = one_after_in (before_given s) s.given other.start legal.start other.is_start legal.is_start in
@@ -24,7 +24,7 @@ after_both : (N : Network) (xs ys : List Event) (M : Network) → AfterIn N (xs 
 after_both N [] ys M after = (N, refl, after)
 after_both N (x ∷ xs) ys M after = let more = after_both after.0 xs ys M after.3 in (more.0, (after.0, after.1, after.2, more.1), more.2)
 
--- so does its beginning, and the rest leads on from there
+-- a prefix leads to a network, and the rest leads on from there
 pub legal_both : (s : Scenario) (xs ys : List Event) (M : Network) → IsLegal (xs ++ ys) s M → (K : Network) × IsLegal xs s K × AfterIn K ys M
 legal_both s xs ys M legal =
     let split = after_both legal.start xs ys M legal.after in
@@ -67,7 +67,7 @@ nothing_more (x ∷ xs) ys e = nothing_more xs ys (ap tail_of e)
 same_cons : (x y : Event) (xs ys : List Event) → x ≡ y → xs ≡ ys → x ∷ xs ≡ y ∷ ys
 same_cons x y xs ys e f i = e i ∷ f i
 
--- where the rest has no event of the replica, each of its events stands in the beginning
+-- where the rest has no event of the replica, each of its events is in the prefix
 in_beginning : (p : ℕ) (before : List Event) (e : Event) (later seen rest : List Event) → seen ++ rest ≡ before ++ e ∷ later → replica_of e ≡ p → own_events rest p ≡ [] → (mid : List Event) × (seen ≡ before ++ e ∷ mid)
 in_beginning p before e later [] rest is of none = absurd (own_has p before e later of (rw (sym is) none))
 in_beginning p [] e later (x ∷ xs) rest is of none = (xs, ap (λ y. y ∷ xs) (ap (head_or e) is))

@@ -1,4 +1,4 @@
--- A schedule that leads from a scenario's start is one that a scenario may have.
+-- About specs/Laws: a scenario may have each schedule that leads from its start.
 use Rattle.std.proofs.Common.{arith, ◌≡◌, ℕ, ◌≤◌, ◌<◌, List, [], ◌∷◌, ◌++◌, Option, Some, None, Contains, refl, sym, ◌∙◌, ap, subst, length, slice_get}
 use Rattle.std.specs.Prelude.{All}
 use Rattle.std.proofs.lemmas.List.{length-map}
