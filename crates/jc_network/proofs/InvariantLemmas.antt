@@ -1,4 +1,4 @@
--- A step of a network, and the way back.
+-- Lemmas about Invariant: a step of a network keeps it, and so does the way back.
 use Rattle.std.proofs.Common.{◌≡◌, ◌≢◌, ℕ, zero, suc, ◌+◌, ◌-◌, ◌<◌, ◌≤◌, ◌⊎◌, inl, inr, List, [], ◌∷◌, ◌++◌, Option, Some, None, IfSome, Bor, Ok, Bool, true, false, IsTrue, IsFalse, reverse, map, length, take, drop, unwrap_or, slice_get, slice_set, refl, sym, ◌∙◌, ap, subst, arith}
 use Rattle.std.proofs.lemmas.Option.{same_Some, slice_get-map, slice_get_read, slice_get_within}
 use Rattle.std.specs.Slice.{IsItemAt}
@@ -244,7 +244,7 @@ all_own version count is ps h q past e =
     let x = run.seen.each q past.now (kept_there ps q past e) in
     subst AreOfOne (sym (ap (λ (S : State). S.send) x.seen.stands.is)) (of_one q x.at.send (λ o c. ((well h.scripts (network_of ps) (now_reached version count is ps h)).sets.sent q x.at o x.there c).0))
 
--- what a replica keeps stands for its state
+-- a replica's stored state represents its state
 pub has_replica : (version : Version) (count : ℕ) (is : List ℕ) (ps : List Past) → IsKeptNet version count is ps → (p : ℕ) (past : Past) → slice_get ps p ≡ Some past → HasReplica (network_of ps) p past
 has_replica version count is ps h p past e =
     let run = now_in_run version count is ps h in
