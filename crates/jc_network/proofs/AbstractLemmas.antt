@@ -4,11 +4,11 @@ use Rattle.std.proofs.lemmas.List.Elements.{Contains-append_left, Contains-appen
 use Rattle.std.proofs.lemmas.Option.{same_Some}
 use Rattle.jc_rules.specs.declared.id.Id.{Id}
 use Rattle.jc_rules.specs.declared.operation.Op.{Op}
-use Rattle.jc_rules.specs.Ids.{AreRising, has_id}
+use Rattle.jc_rules.specs.Ids.{has_id}
 use Rattle.jc_rules.specs.Sound.{IsSound}
 use Rattle.jc_rules.specs.State.{State}
 use Rattle.jc_rules.specs.Table.{op_of}
-use Rattle.jc_rules.proofs.IdsLemmas.{with-rises, same_members}
+use Rattle.jc_rules.proofs.IdsLemmas.{same_members}
 use Rattle.jc_vectors.specs.OperationIds.{ids_of_ops, ids_within}
 use Rattle.jc_vectors.specs.StoredStates.{stored_op, RepresentsState, AreOf}
 use Rattle.jc_vectors.proofs.ApplyStandsLemmas.{deps_closed}

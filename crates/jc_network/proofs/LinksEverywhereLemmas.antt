@@ -1,5 +1,5 @@
 -- Lemmas about LinksEverywhere: a property of all links of a tree, when a part of the tree changes.
-use Rattle.std.proofs.Common.{◌≡◌, ◌≢◌, List, [], ◌∷◌, ◌++◌, Option, Some, None, Bool, true, false, cond, ◌⊎◌, inl, inr, refl, sym, ◌∙◌, ap, subst}
+use Rattle.std.proofs.Common.{◌≡◌, ◌≢◌, List, [], ◌∷◌, ◌++◌, Option, Some, None, Bool, true, false, ◌⊎◌, inl, inr, refl, sym, ◌∙◌, ap, subst}
 use Rattle.std.specs.List.{AllByRecursion}
 use Rattle.std.specs.Ordering.{eq_by_cmp}
 use Rattle.std.specs.declared.cmp.Ordering.{Ordering}
@@ -24,7 +24,7 @@ use Rattle.jc_rules.specs.ContextsAt.{node_in}
 use Rattle.jc_rules.specs.Paths.{HasContext}
 use Rattle.jc_rules.proofs.ContextLemmas.{no_node}
 use Rattle.jc_rules.proofs.BoolLemmas.{not_none}
-use Rattle.jc_tree.proofs.LinkedLemmas.{next_set, next-with}
+use Rattle.jc_tree.proofs.LinkedLemmas.{next-with}
 
 -- ---- entries by key
 

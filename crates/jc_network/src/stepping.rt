@@ -66,28 +66,15 @@ fn are_there(event: &Event, replicas: &[Replica<ArenaTree>]) -> bool
 fn step_fault(fault: ReplicaFault, event: Event) -> StepFault
     ensures { result ≡ fault_for (fault_cause_of fault) event }
 {
-    let (refusal, key) = match fault {
-        ReplicaFault::NotInList => (Refusal::NotInList, None),
-        ReplicaFault::UnboundVariable => (Refusal::UnboundVariable, None),
-        ReplicaFault::GetOnHead => (Refusal::GetOnHead, None),
-        ReplicaFault::NotACursor => (Refusal::NotACursor, None),
-        ReplicaFault::NoSuchNode(key) => (Refusal::NoSuchNode, Some(key)),
-        ReplicaFault::PastEnd => (Refusal::PastEnd, None),
-        ReplicaFault::NoMap => (Refusal::NoMap, None),
-        ReplicaFault::NoRegister => (Refusal::NoRegister, None),
-        ReplicaFault::TooDeep => (Refusal::TooDeep, None),
-        ReplicaFault::NoCommand => (Refusal::NoCommand, None),
-        ReplicaFault::AtYield => (Refusal::AtYield, None),
-        ReplicaFault::NotAtYield => (Refusal::NotAtYield, None),
-        ReplicaFault::NotActed => (Refusal::NotActed, None),
-        ReplicaFault::NotReceived => (Refusal::NotReceived, None),
-        ReplicaFault::AlreadyApplied => (Refusal::AlreadyApplied, None),
-        ReplicaFault::DepsMissing => (Refusal::DepsMissing, None),
-        ReplicaFault::Memory => return StepFault::Memory,
+    let Some(refusal) = fault.refusal() else {
+        return StepFault::Memory;
     };
-    let number = refusal.number();
+    let key = match fault {
+        ReplicaFault::NoSuchNode(key) => Some(key),
+        _ => None,
+    };
     StepFault::Stuck(Stuck {
-        number,
+        number: refusal.number(),
         refusal,
         key,
         event,

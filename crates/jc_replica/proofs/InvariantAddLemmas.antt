@@ -1,5 +1,5 @@
 -- Lemmas about Invariant, where an identifier is added to those applied.
-use Rattle.std.proofs.Common.{◌≡◌, ◌≢◌, ℕ, zero, suc, ◌<◌, ◌≤◌, max, List, [], ◌∷◌, Bool, true, false, ◌||◌, refl, sym, ◌∙◌, ap, arith}
+use Rattle.std.proofs.Common.{◌≡◌, ◌≢◌, ◌<◌, ◌≤◌, max, List, [], ◌∷◌, Bool, true, false, ◌||◌, refl, sym, ◌∙◌, ap, arith}
 use Rattle.std.specs.declared.cmp.Ordering.{Ordering}
 use Rattle.std.specs.declared.cmp.Ordering.TheVariants.{Less, Equal, Greater}
 use Rattle.jc_rules.specs.declared.id.Id.{Id}
@@ -8,7 +8,7 @@ use Rattle.jc_rules.specs.VersionVectors.{covered, ids_up_to, greatest_of}
 use Rattle.jc_rules.specs.Ids.{has_id, with_id, union, greatest}
 use Rattle.jc_rules.specs.Order.{id_cmp}
 use Rattle.jc_rules.proofs.IdSetLemmas.{member_greatest, greatest-filled}
-use Rattle.jc_rules.proofs.CoveredLemmas.{counted_in, filled-with, greatest_here, greatest_of-filled, greatest_of-with, reached, same_filled}
+use Rattle.jc_rules.proofs.CoveredLemmas.{counted_in, filled-with, greatest_here, greatest_of-filled, greatest_of-with, same_filled}
 use Rattle.jc_rules.proofs.IdsLemmas.{has_id-union}
 use Rattle.jc_rules.proofs.OrderLemmas.{exact_ids}
 use Rattle.jc_apply.specs.Fits.{IsUnlinked}
