@@ -2,6 +2,7 @@
 use Rattle.std.specs.Prelude.{◌≡◌, ◌⊎◌, ℕ, ◌≤◌, ◌<◌, List, [], ◌∷◌, ◌++◌, length, map, Option, Some, None, IfSome}
 use Rattle.std.specs.List.{AllByRecursion}
 use Rattle.std.specs.Io.KnownBytes.{Consumes}
+use Rattle.jc_rules.specs.declared.limits.TheConstants.{MAX_LINE, MAX_LINES, MAX_SESSION}
 use Rattle.jc_rules.specs.declared.operation.Event.{Event}
 use Rattle.jc_rules.specs.Refused.{Cause}
 use Rattle.jc_rules.specs.Step.{Network}
@@ -37,8 +38,8 @@ pub record Answered (O : Origin) (A : Session) (bytes : List ℕ) (whole : List 
     (text : List ℕ) : Type 0 where
   pub is : bytes ≡ with_line_ends whole ++ rest
   pub no_lf : AllByRecursion (Lacks 10) whole
-  pub count : length whole ≤ 1000000
-  pub size : length (with_line_ends whole) ≤ 67108864
+  pub count : length whole ≤ MAX_LINES
+  pub size : length (with_line_ends whole) ≤ MAX_SESSION
   pub answers : AnswersLines O A (map whole_line whole) B text
 
 -- Exactly the answers of all lines whose LF was read went out: of the bytes some were read, and the others are left.
@@ -58,7 +59,7 @@ pub record WentToRead (O : Origin) (A : Session) (bytes : List ℕ) (left : Opti
 pub data IsNextSent : List ℕ → Line → Option (List ℕ) → Type 0 where
   ends_in_lf : {rest : List ℕ} {left : Option (List ℕ)} (raw ahead : List ℕ)
       → Lacks 10 raw
-      → length ahead < 4096
+      → length ahead < MAX_LINE
       → Consumes (Some rest) left (raw ++ 10 ∷ ahead)
       → IsNextSent rest (whole_line raw) left
   ends_at_end : {rest : List ℕ} {line : Line} {left : Option (List ℕ)}
@@ -102,8 +103,8 @@ pub record IsPast (bytes : List ℕ) (left : Option (List ℕ)) : Type 0 where
   pub ahead : List ℕ
   pub no_lf : AllByRecursion (Lacks 10) whole
   pub part_no_lf : Lacks 10 part
-  pub at_limit : (length (with_line_ends whole ++ part) ≡ 67108864) ⊎ ((length whole ≡ 1000000) × (part ≡ []))
-  pub few : length ahead < 4096
+  pub at_limit : (length (with_line_ends whole ++ part) ≡ MAX_SESSION) ⊎ ((length whole ≡ MAX_LINES) × (part ≡ []))
+  pub few : length ahead < MAX_LINE
   pub gone : Consumes (Some bytes) left ((with_line_ends whole ++ part) ++ byte ∷ ahead)
 
 -- ---- lines that may not be told

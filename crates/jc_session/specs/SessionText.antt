@@ -1,5 +1,6 @@
 -- The text of a session.
 use Rattle.std.specs.Prelude.{◌≡◌, ℕ, nat_le, ◌&&◌, List, [], ◌∷◌, ◌++◌, length, take, map, if◌then◌else◌}
+use Rattle.jc_rules.specs.declared.limits.TheConstants.{MAX_LINES, MAX_SESSION}
 use Rattle.jc_rules.specs.declared.operation.Event.{Event}
 use Rattle.jc_rules.specs.Refused.{Cause}
 use Rattle.jc_rules.specs.Step.{Network}
@@ -53,7 +54,7 @@ pub record AreWithin (most_bytes most_lines : ℕ) (bytes : List ℕ) (lines : L
 
 -- The limits are 67,108,864 bytes and 1,000,000 lines.
 abbrev pub AreDue : List ℕ → List Line → End → Type 0
-AreDue = AreWithin 67108864 1000000
+AreDue = AreWithin MAX_SESSION MAX_LINES
 
 -- From the state the bytes are answered by the text, and the session ends so.
 pub record Talks (O : Origin) (A : Session) (bytes text : List ℕ) (end : End) : Type 0 where

@@ -1,6 +1,7 @@
 //! The answers of lines.
 
 ghost use Rattle.std.specs.Prelude.{◌≡◌, ◌≢◌, ◌↔◌, ◌++◌, ◌≤◌, ◌<◌, ℕ, List, Option, IfOk, IfSome, IfNone, IsTrue, MatchOption, length, string_bytes};
+ghost use Rattle.jc_rules.specs.declared.limits.TheConstants.{MAX_REPLICAS};
 ghost use Rattle.jc_rules.specs.declared.operation.Event.{Event as AnyEvent};
 ghost use Rattle.jc_rules.specs.declared.rule.Rule.{Rule as AnyRule};
 ghost use Rattle.jc_rules.specs.declared.version.Version.{Version as AnyVersion};
@@ -133,7 +134,7 @@ fn event_of(
     names: &[Text],
     rest: &str,
 ) -> Result<Spelling, AllocError>
-    requires { length names.now ≤ 64 }
+    requires { length names.now ≤ MAX_REPLICAS }
     ensures { IfOk result (λ spelling. Spells version names.now rest.now spelling) }
 {
     match parse_event(alloc, version, rest) {
@@ -147,7 +148,7 @@ fn event_of(
 
 /// What a text spells of which this event was read.
 fn resolved(alloc: Global, names: &[Text], named: &NamedEvent) -> Result<Spelling, AllocError>
-    requires { length names.now ≤ 64 }
+    requires { length names.now ≤ MAX_REPLICAS }
     ensures { IfOk result (λ spelling.
         (version : AnyVersion) (text : List ℕ)
         → IsEventOf version text named.now
@@ -182,7 +183,7 @@ fn act(alloc: Global, debugger: &mut Debugger, rest: &str) -> Result<String, All
 
 /// The number of the replica that has the name.
 fn number_of(names: &[Text], name: &[u8]) -> Option<u16>
-    requires { length names.now ≤ 64 }
+    requires { length names.now ≤ MAX_REPLICAS }
     ensures some { IfSome result (λ p. IsNamed names.now name.now p) }
     ensures none { IfNone result (IsStrange names.now name.now) }
 {
