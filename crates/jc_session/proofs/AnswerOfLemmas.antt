@@ -17,9 +17,10 @@ use Rattle.jc_network.specs.declared.fault.Stuck.{Stuck}
 use Rattle.jc_network.specs.NetworkHistory.{Course}
 use Rattle.jc_network.specs.Enabled.{AreEnabled, candidates}
 use Rattle.jc_network.specs.Steps.{stuck_for}
-use Rattle.jc_dump.specs.Dump.{dump_line}
-use Rattle.jc_dump.specs.Lines.{stuck_text, IsNamedStuck}
-use Rattle.jc_dump.specs.Texts.{block_text, dumps_text}
+use Rattle.jc_network.proofs.AfterLemmas.{after_version}
+use Rattle.jc_meaning.specs.declared.comparison.Comparison.{Comparison}
+use Rattle.jc_meaning.specs.declared.comparison.Comparison.TheVariants.{SameOps, DifferentOps}
+use Rattle.jc_meaning.specs.Comparison.{IsFound, IsComparison}
 use Rattle.jc_debug.specs.declared.breaks.Break.{Break}
 use Rattle.jc_debug.specs.declared.breaks.Break.TheVariants as Kind
 use Rattle.jc_debug.specs.declared.breaks.BreakFault.{BreakFault}
@@ -38,16 +39,15 @@ use Rattle.jc_debug.specs.Moves.{MoveStopsAt, IsToldAt, IsStepFault, IsGotoFault
 use Rattle.jc_debug.specs.DebuggerState.{Session, IsNetworkAt, RunEndsAt, RunOutcome, sticks, moved_to, acted}
 use Rattle.jc_debug.specs.Invariant.{Seen, start_of, session_of, IsOnTrail, IsMoved}
 use Rattle.jc_debug.proofs.RepliesLemmas.{moved_session, arrived, stopped}
+use Rattle.jc_dump.specs.Dump.{dump_line}
+use Rattle.jc_dump.specs.Lines.{stuck_text, IsNamedStuck}
+use Rattle.jc_dump.specs.Texts.{block_text, dumps_text}
 use Rattle.jc_session.specs.Answers as A
 use Rattle.jc_session.specs.Lines.{Line}
-use Rattle.jc_session.specs.Answers.{Origin, Replies, Sets, ActsOn, IsNamed, IsEventText, Knows, LineAnswer}
+use Rattle.jc_session.specs.Answers.{Origin, Replies, Sets, IsNamed, IsEventText, Knows, LineAnswer}
 use Rattle.jc_session.specs.AnswerOf.{origin_in, AllNamed, GivesAnswer, GivesLine, set_text}
 use Rattle.jc_session.specs.Requests as Q
 use Rattle.jc_session.specs.Requests.{Request, nothing, asks, bad, meaning}
-use Rattle.jc_session.proofs.MovesDecidedLemmas.{after_version}
-use Rattle.jc_meaning.specs.declared.comparison.Comparison.{Comparison}
-use Rattle.jc_meaning.specs.declared.comparison.Comparison.TheVariants.{SameOps, DifferentOps}
-use Rattle.jc_meaning.specs.Comparison.{IsFound, IsComparison}
 use Rattle.jc_session.specs.Texts.{at_line, refusal_line, set_line, cleared_line, where_line, compared_line, ran_text, event_lines, numbered_lines, or_none_text}
 
 -- ---- ends of calls

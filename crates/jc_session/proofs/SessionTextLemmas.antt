@@ -4,11 +4,13 @@ use Rattle.std.proofs.lemmas.Bool.Decides.{nat_tests}
 use Rattle.std.proofs.lemmas.List.{map-append, length-map, length-take-le}
 use Rattle.std.specs.Io.KnownBytes.{Consumes, IsAtEnd, prepend_known}
 use Rattle.std.proofs.KnownBytes.{Consumes-trans}
-use Rattle.jc_session.specs.Lines.{Line, Lacks, with_line_ends, is_within_limit, without_cr, whole_line, last_line}
 use Rattle.std.specs.List.{All}
+use Rattle.core.proofs.slice.Lists.{all_by_recursion_push}
+use Rattle.jc_io.specs.declared.io.Sink.{Ghosts as SinkGhosts}
 use Rattle.jc_rules.specs.declared.operation.Event.{Event}
 use Rattle.jc_printer.specs.Canon.{AreNamed}
 use Rattle.jc_debug.specs.DebuggerState.{Session}
+use Rattle.jc_session.specs.Lines.{Line, Lacks, with_line_ends, is_within_limit, without_cr, whole_line, last_line}
 use Rattle.jc_session.specs.Requests.{meaning, asks, quit}
 use Rattle.jc_session.specs.Views.{line_of_bytes}
 use Rattle.jc_session.specs.Answers.{Origin, LineAnswer}
@@ -17,12 +19,10 @@ use Rattle.jc_session.specs.LineReading.{ReadStopsAt}
 use Rattle.jc_session.specs.Sent.{OfLines, OfLinesLeft, LosesFront, GoesOn, BreaksOff, AnsweredAll, Answered, WentToRead, WentWhole, WentFront, IsNextSent, ends_in_lf, ends_at_end, IsPast}
 use Rattle.jc_session.specs.Progress.{SoFar}
 use Rattle.jc_session.specs.Written.{Stream, sink, Wrote}
-use Rattle.jc_io.specs.declared.io.Sink.{Ghosts as SinkGhosts}
 use Rattle.jc_session.specs.RequestKinds.{IsOfAnswer}
 use Rattle.jc_session.specs.declared.sessions.SessionFault.{SessionFault}
 use Rattle.jc_session.specs.declared.sessions.SessionFault.TheVariants.{ReadFailed, WriteFailed, TooManyLines, Memory}
 use Rattle.jc_session.proofs.EventNamesLemmas.{answer_named}
-use Rattle.jc_session.proofs.LineReadingLemmas.{all_more}
 use Rattle.jc_session.proofs.WrittenLemmas.{wrote_both}
 use Rattle.jc_session.proofs.LinesDueLemmas.{take_whole, ended_append, due_all, due_front, due_bytes, due_lines}
 
@@ -93,7 +93,7 @@ so_far_more O A B C first now next o p q n m i j raw line ei ej s l h e g =
     record {
       whole = s.whole ++ raw ∷ [];
       text = s.text ++ g.0;
-      no_lf = all_more (Lacks 10) s.whole raw s.no_lf l;
+      no_lf = all_by_recursion_push (Lacks 10) s.whole raw s.no_lf l;
       gone = subst (λ (x : List ℕ). Consumes first next x) (sym grown) (Consumes-trans first now next (with_line_ends s.whole) (raw ++ 10 ∷ []) s.gone h);
       bytes_are = omega (arith, b, size, ei);
       count_is = omega (arith, c, more, ej);
@@ -191,7 +191,7 @@ told_quit O A B (Some bytes) (Some rest) (Some more) o p q n m raw line le few s
     let b = s.bytes_are in
     let c = s.count_is in
     let count = length-append s.whole (raw ∷ []) in
-    let due = due_front 67108864 1000000 bytes more (s.whole ++ raw ∷ []) whole (all_more (Lacks 10) s.whole raw s.no_lf l) (omega (arith, size, b)) (omega (arith, count, c)) in
+    let due = due_front 67108864 1000000 bytes more (s.whole ++ raw ∷ []) whole (all_by_recursion_push (Lacks 10) s.whole raw s.no_lf l) (omega (arith, size, b)) (omega (arith, count, c)) in
     let parts : map whole_line (s.whole ++ raw ∷ []) ++ due.0 ≡ map whole_line s.whole ++ line ∷ due.0 =
     ap (λ x. x ++ due.0) (map-append whole_line s.whole (raw ∷ [])) ∙ append_assoc (map whole_line s.whole) (whole_line raw ∷ []) due.0 ∙ ap (λ x. map whole_line s.whole ++ x ∷ due.0) (sym e) in (
       s.text,
