@@ -1,4 +1,4 @@
--- What the contracts of a debugger's calls say is what the answers of requests say.
+-- Of `AnswerOf`: the contracts of a debugger's calls give the answers of requests.
 use Rattle.std.proofs.Common.{◌≡◌, ◌≢◌, ◌↔◌, ℕ, ◌+◌, ◌-◌, ◌<◌, ◌≤◌, List, [], ◌++◌, length, take, slice_get, get_or, unwrap_or, Option, None, Some, Result, Ok, Err, Contains, MatchOption, IsFalse, true, false, codes, decimal, inl, inr, ◌⊎◌, refl, ap, sym, subst, ◌∙◌, arith}
 use Rattle.std.specs.List.{All}
 use Rattle.std.proofs.lemmas.Bool.{cases_lt}
@@ -91,7 +91,7 @@ same_text O S T q due text e r = subst (λ (t : List ℕ). Replies O S q T t) (s
 at_end_of : (d e : Seen) (n m : ℕ) (text : List ℕ) → IsMoved d e n → m ≡ length e.traces → text ≡ at_line m → text ≡ at_line n
 at_end_of d e n m text moves is h = h ∙ ap at_line (is ∙ moves.position)
 
--- what is told of the event that stopped a move
+-- what is known of the event that stopped a move
 abbrev pub TellsStuck : ℕ → Course → Stuck → List ℕ → Type 0
 TellsStuck m net s text = (why : Cause) (event : Event) → s ≡ stuck_for why event → text ≡ at_line m ++ stuck_text net.names why event
 
@@ -101,7 +101,7 @@ stuck_at d e n m net s why event text moves at same is told =
     let names : net.names ≡ d.net.names = ap (λ (c : Course). c.names) same ∙ moves.names in
     told why event is ∙ (λ i. at_line (number i) ++ stuck_text (names i) why event)
 
--- a move that stopped before a stuck event, as is told
+-- a move that stopped before a stuck event
 abbrev pub Halted : Seen → Seen → ℕ → Stuck → Type 0
 Halted d e to s = (n : ℕ) × MoveStopsAt d e to n × IsToldAt (start_of d) d.schedule n s
 

@@ -1,4 +1,4 @@
--- What a name, the rest of an `act` line, a fault and bytes are taken for is one thing.
+-- Of `Answers` and `Lines`: a name, the rest of an `act` line, a fault and bytes are read in one way, for `LawsLemmas`.
 use Rattle.std.proofs.Common.{◌≡◌, ℕ, ◌<◌, nat_le, ◌&&◌, List, [], ◌∷◌, ◌++◌, length, map, take, if◌then◌else◌, inl, inr, refl, ap, sym, subst, ◌∙◌, arith, append_assoc, append-nil}
 use Rattle.std.specs.List.{AllByRecursion}
 use Rattle.std.proofs.lemmas.Bool.{cases_lt}
@@ -144,7 +144,7 @@ first_line (c ∷ x) (d ∷ y) r s a b e =
     let rest = first_line x y r s a.1 b.1 more in
     ((λ i. one i ∷ rest.0 i), rest.1)
 
--- a whole line, and what stands behind it
+-- a whole line, and what follows it
 behind : (x rest last : List ℕ) → ((x ++ 10 ∷ []) ++ rest) ++ last ≡ x ++ 10 ∷ (rest ++ last)
 behind x rest last = append_assoc (x ++ 10 ∷ []) rest last ∙ append_assoc x (10 ∷ []) (rest ++ last)
 

@@ -1,4 +1,4 @@
--- Lines of faults, and what the rest of an `act` line spells.
+-- Of `Answers`: the line of a fault, and what the rest of an `act` line spells.
 use Rattle.std.proofs.Common.{◌≡◌, ◌≢◌, ℕ, List, Option, None, Some, ap, sym, ◌∙◌}
 use Rattle.jc_rules.specs.declared.refusal.Refusal.{Refusal}
 use Rattle.jc_rules.specs.declared.version.Version.{Version}

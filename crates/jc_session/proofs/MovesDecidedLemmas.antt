@@ -1,5 +1,4 @@
--- Where each network that a schedule leads to has a step of the next event, or that event is stuck, there is a move to
--- each later position, and a run.
+-- Of `Answers`: a move to each later position, and a run, where each event is made or stuck, for `SomeReplyLemmas`.
 use Rattle.std.proofs.Common.{◌≡◌, ◌⊎◌, inl, inr, ℕ, zero, suc, ◌+◌, ◌-◌, ◌<◌, ◌≤◌, List, [], ◌∷◌, ◌++◌, length, take, slice_get, Option, Some, None, refl, ap, sym, subst, ◌∙◌, arith, length-append, length-take-le}
 use Rattle.std.proofs.lemmas.Bool.{cases_lt, cases_eq}
 use Rattle.std.proofs.lemmas.Option.{same_Some, slice_get_within}
@@ -42,7 +41,7 @@ at_earlier S es m n N le a =
 pub made_before : (S : Network) (es : List Event) (n to : ℕ) (N : Network) → n < to → IsNetworkAt S es to N → (event : Event) × (rows : List (Rule × ℕ)) × MakesEvent S es n event rows
 made_before S es n to N lt a = cut S es n to N lt a.within a.after
 
--- one event is made at a position in place of what comes behind it
+-- one event is made at a position in place of those after it
 pub acted_at : (S : Network) (es : List Event) (n : ℕ) (N : Network) (e : Event) (M : Network) (rows : List (Rule × ℕ)) → IsNetworkAt S es n N → StepIn N e M rows → IsNetworkAt S (take n es ++ e ∷ []) (n + 1) M
 acted_at S es n N e M rows a step =
     let size : length (take n es ++ e ∷ []) ≡ n + 1 = length-append (take n es) (e ∷ []) ∙ ap (λ (k : ℕ). k + 1) (length-take-le n es a.within) in
@@ -58,7 +57,7 @@ abbrev pub Decides : Network → Type 0
 Decides S = (es : List Event) (N : Network) → AfterIn S es N → (event : Event) → HasStep N event ⊎ IsAnyStuck N event
 
 module _ (S : Network) (decides : Decides S) where
-  -- the event at a position that was come to is made or stuck
+  -- the event at a position that was reached is made or stuck
   next : (es : List Event) (n : ℕ) (N : Network) → n < length es → IsNetworkAt S es n N → ((M : Network) × IsNetworkAt S es (suc n) M) ⊎ ((event : Event) × (why : Cause) × IsStuckAt S es n event why)
   next es n N lt a =
       let (event, is) = some_at es n lt in
@@ -78,7 +77,7 @@ module _ (S : Network) (decides : Decides S) where
         | inr (event, why, stuck) ↦ (m, Some (event, why), stops le (omega (arith, e)) stuck)
       ]
 
--- where a move came to
+-- the position that a move reached
 pub come_to : (S : Network) (es : List Event) (from to p : ℕ) (end : Option StuckEvent) → GoesTo S es from to p end → (N : Network) × IsNetworkAt S es p N
 come_to S es from to p end (arrives {network} a) = (network, a)
 come_to S es from to p end (stops le lt stuck) = (stuck.before, stuck.is_at)

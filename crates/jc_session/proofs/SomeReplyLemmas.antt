@@ -1,4 +1,4 @@
--- Each request but `quit` has an answer, in each state of a session that its scenario leads to.
+-- Of `Answers`: each request but `quit` has an answer, in each state that a session on a scenario reaches.
 use Rattle.std.proofs.Common.{◌≡◌, ◌⊎◌, inl, inr, ℕ, zero, suc, ◌+◌, ◌-◌, ◌<◌, ◌≤◌, List, [], ◌∷◌, ◌++◌, length, take, slice_get, Option, None, Some, Contains, codes, refl, ap, sym, subst, ◌∙◌, arith, length-append, length-take-le}
 use Rattle.std.proofs.lemmas.Bool.{cases_lt}
 use Rattle.std.proofs.lemmas.Option.{slice_get_within}

@@ -1,4 +1,4 @@
--- No text has want of memory for its fault, so the fault of each has a number, a place and a line.
+-- Of `Answers`: the fault of a text is never want of memory, so it has a line.
 use Rattle.std.proofs.Common.{◌≡◌, ◌≢◌, ℕ, ◌+◌, List, [], ◌∷◌, length, Bool, true, false, ◌==◌, nat_lt, if◌then◌else◌, Option, Some, None, Result, Ok, Err, ◌⊎◌, inl, inr, refl, sym, subst, ◌∙◌}
 use Rattle.std.specs.Prelude.{slice_index}
 use Rattle.std.specs.Str.Lossy.{utf8_valid_len}

@@ -1,4 +1,4 @@
--- The lines of what a session is given.
+-- The lines of bytes, each as its text or as too long: a session answers these.
 use Rattle.std.specs.Prelude.{◌≡◌, ◌≢◌, ℕ, ◌-◌, nat_le, ◌==◌, List, [], ◌∷◌, ◌++◌, length, take, flat_map, slice_index, Option, Some, None, if◌then◌else◌}
 use Rattle.std.specs.List.{AllByRecursion}
 use Rattle.jc_rules.specs.declared.limits.TheConstants.{MAX_LINE}
@@ -15,7 +15,7 @@ Lacks b bytes = AllByRecursion (λ x. x ≢ b) bytes
 abbrev pub with_line_ends : List (List ℕ) → List ℕ
 with_line_ends lines = flat_map (λ x. x ++ 10 ∷ []) lines
 
--- The bytes are whole lines, each with its LF, and what stands after the last LF.
+-- The bytes are whole lines, each with its LF, and the bytes after the last LF.
 pub record AreLines (bytes : List ℕ) (whole : List (List ℕ)) (last : List ℕ) : Type 0 where
   pub is : bytes ≡ with_line_ends whole ++ last
   pub no_lf : AllByRecursion (Lacks 10) whole
@@ -33,7 +33,7 @@ is_within_limit raw text = if nat_le (length raw) MAX_LINE then Some text else N
 abbrev pub whole_line : List ℕ → Line
 whole_line raw = is_within_limit raw (without_cr raw)
 
--- what stands after the last LF is a line where it isn't empty
+-- the bytes after the last LF are a line where there are any
 abbrev pub last_line : List ℕ → List Line
 last_line [] = []
 last_line (b ∷ bs) = is_within_limit (b ∷ bs) (b ∷ bs) ∷ []

@@ -1,4 +1,4 @@
-//! Bytes that were read ahead.
+//! Bytes that were read ahead of the current line. `Lines` takes each byte of a source from here.
 
 ghost use Rattle.std.specs.Prelude.{◌≡◌, ◌≢◌, ℕ, ◌+◌, ◌<◌, ◌≤◌, List, [], ◌∷◌, ◌++◌, length, take, drop, Option, Some, None, Ok, IfOk, OnOk, OnErr, IsTrue, ◌↔◌};
 ghost use Rattle.std.specs.Io.KnownBytes.{Consumes, IsAtEnd, prepend_known};
@@ -9,7 +9,7 @@ use jc_io::{Failed, Source};
 use jc_rules::limits::MAX_LINE;
 use std::marker::Model;
 
-/// What was read of a source and wasn't taken yet, seen as the list of these bytes.
+/// The bytes that were read from a source and not yet taken. A read takes at most as many as a line may have.
 #[derive(Drop)]
 pub struct Ahead {
     buf: [u8; MAX_LINE],
@@ -71,7 +71,7 @@ impl Ahead {
         byte
     }
 
-    /// The next byte, and `None` at the end. The source is asked only where nothing is left of what was read before.
+    /// The next byte, and `None` at the end. The source is read only where no byte is left of the last read.
     pub fn next<S: Source>(&mut self, source: &mut S) -> Result<Option<u8>, Failed>
         ensures some { (b : ℕ) → result ≡ Ok (Some b)
             → Consumes (prepend_known self.old (S.left source.old)) (prepend_known self.new (S.left source.new))

@@ -1,4 +1,4 @@
-//! The line that is being read.
+//! The bytes of the line that is being read. `Lines` pushes them, and sessions answer the content.
 
 ghost use Rattle.std.specs.Prelude.{◌≡◌, ◌+◌, ◌<◌, ◌≤◌, [], ◌∷◌, ◌++◌, length, take, MatchOption, if◌then◌else◌};
 ghost use Rattle.jc_rules.specs.declared.limits.TheConstants.{MAX_LINE};
@@ -10,8 +10,8 @@ use std::marker::Model;
 /// Bytes of a line that are kept: one more than it may have.
 const KEPT: usize = MAX_LINE + 1;
 
-/// The bytes of a line so far, seen as the list of them. One byte more than a line may have is kept, which tells
-/// that the line is too long; those behind it are dropped.
+/// The bytes of a line so far. One byte more than a line may have is kept, by which a line is known to be too long;
+/// the bytes after it are dropped.
 #[derive(Drop)]
 pub struct Line {
     bytes: [u8; KEPT],

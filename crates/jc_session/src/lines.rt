@@ -1,4 +1,4 @@
-//! The lines of a source.
+//! The lines of a source, read one by one up to the limits of a session. Sessions answer them.
 
 ghost use Rattle.std.specs.Prelude.{◌≡◌, ◌≢◌, ℕ, ◌+◌, ◌<◌, ◌≤◌, List, [], ◌∷◌, ◌++◌, length, take, Option, Some, None, Ok, IfOk, OnOk, OnErr, IfSome, ◌⊎◌};
 ghost use Rattle.std.specs.Io.KnownBytes.{Consumes, IsAtEnd, prepend_known};
@@ -19,13 +19,13 @@ pub enum Next {
     Whole,
     /// The end of the input ended it.
     Last,
-    /// There was no line any more.
+    /// No line was left.
     End,
     /// A byte past one of the limits was read.
     TooMany,
 }
 
-/// The reading of lines: what was read ahead, the line, and how many bytes and lines there were so far.
+/// The reading of lines: the bytes read ahead, the line, and how many bytes and lines were read so far.
 #[derive(Drop)]
 pub struct Lines {
     pub ahead: Ahead,
@@ -47,7 +47,8 @@ impl Lines {
         }
     }
 
-    /// Reads the next line. Nothing is asked for past its LF, and no more than the limits allow and one byte is taken.
+    /// Reads the next line. The source isn't read again once an LF is found, and at most one byte past the limits is
+    /// taken.
     pub fn next<S: Source>(&mut self, source: &mut S) -> Result<Next, Failed>
         requires bytes { self.old.bytes ≤ MAX_SESSION }
         requires count { self.old.count ≤ MAX_LINES }
