@@ -1,43 +1,17 @@
 -- What a scenario's text tells of its scenario.
 use Rattle.std.proofs.Common.{◌≡◌, ◌≢◌, ℕ, ◌<◌, ◌≤◌, inl, inr, List, length, take, Some, None, Result, Ok, Err, IfOk, IfErr, IsErrAnd, IsErrOf, ap, sym, ◌∙◌, subst, arith}
 use Rattle.std.proofs.lemmas.Grind.{common_steps}
-use Rattle.std.proofs.lemmas.Option.{same_Some}
 use Rattle.jc_rules.specs.declared.refusal.Refusal.{Refusal}
-use Rattle.jc_rules.specs.declared.refusal.Refusal.TheVariants as F
-use Rattle.jc_rules.specs.Refusals.{refusal_number as refusal_number}
 use Rattle.jc_parser.specs.declared.fault.ScenarioFault.{ScenarioFault}
 use Rattle.jc_parser.specs.declared.fault.ScenarioFault.TheVariants as S
-use Rattle.jc_parser.specs.Faults.{fault_number}
+use Rattle.jc_parser.specs.Faults.{fault_refusal}
 use Rattle.jc_scenario.specs.WellFormed.{Scenario}
 use Rattle.jc_cli.specs.declared.order.View.{View}
 use Rattle.jc_program.specs.ViewText.{ReadsAs, Ran}
 
--- each fault that has a number has that of a refusal
-pub is_refusal : (fault : ScenarioFault) (n : ℕ) → fault_number fault ≡ Some n → ((r : Refusal) → refusal_number r ≢ n) → ⊥
-is_refusal (S.BadByte place) n e h = h F.BadByte (same_Some 1 n e)
-is_refusal (S.OpenString place) n e h = h F.OpenString (same_Some 2 n e)
-is_refusal (S.BadEscape place) n e h = h F.BadEscape (same_Some 3 n e)
-is_refusal (S.LoneSurrogate place) n e h = h F.LoneSurrogate (same_Some 4 n e)
-is_refusal (S.BadNumber place) n e h = h F.BadNumber (same_Some 5 n e)
-is_refusal (S.TextTooLong place) n e h = h F.TextTooLong (same_Some 6 n e)
-is_refusal (S.Unexpected place) n e h = h F.Unexpected (same_Some 7 n e)
-is_refusal (S.EndOfText place) n e h = h F.EndOfText (same_Some 8 n e)
-is_refusal (S.IndexTooLarge place) n e h = h F.IndexTooLarge (same_Some 9 n e)
-is_refusal (S.ReservedName place) n e h = h F.ReservedName (same_Some 10 n e)
-is_refusal (S.TooManyCommands place) n e h = h F.TooManyCommands (same_Some 11 n e)
-is_refusal (S.TooLongExpression place) n e h = h F.TooLongExpression (same_Some 12 n e)
-is_refusal (S.NotUtf8 place) n e h = h F.NotUtf8 (same_Some 13 n e)
-is_refusal (S.NoHeader place) n e h = h F.NoHeader (same_Some 14 n e)
-is_refusal (S.SameName place) n e h = h F.SameName (same_Some 15 n e)
-is_refusal (S.NoReplica place) n e h = h F.NoReplica (same_Some 16 n e)
-is_refusal (S.TooManyReplicas place) n e h = h F.TooManyReplicas (same_Some 17 n e)
-is_refusal (S.UnknownReplica place) n e h = h F.UnknownReplica (same_Some 18 n e)
-is_refusal (S.TooManyEvents place) n e h = h F.TooManyEvents (same_Some 19 n e)
-is_refusal S.Memory n e h = cc
-
--- want of memory has no number
-pub has_number : (fault : ScenarioFault) (n : ℕ) → fault_number fault ≡ Some n → fault ≢ S.Memory
-has_number fault n e same = let none : None ≡ Some n = sym (ap fault_number same) ∙ e in cc
+-- want of memory is no refusal
+pub has_refusal : (fault : ScenarioFault) (refusal : Refusal) → fault_refusal fault ≡ Some refusal → fault ≢ S.Memory
+has_refusal fault refusal is same = let none : None ≡ Some refusal = sym (ap fault_refusal same) ∙ is in cc
 
 short_front : (n : ℕ) (b v : List ℕ) → v ≡ take n b → length v < n → v ≡ b
 short_front n b v e h = grind (arith, common_steps)
