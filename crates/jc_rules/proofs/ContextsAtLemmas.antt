@@ -1,4 +1,4 @@
--- The context at a place and the whole with another one there: a lens.
+-- About specs/ContextsAt: the context at a path and the document with another one there are a lens.
 use Rattle.std.proofs.Common.{◌≡◌, ◌≢◌, List, [], ◌∷◌, ◌++◌, Option, Some, None, refl, sym, ap}
 use Rattle.jc_rules.specs.declared.key.Key.{Key}
 use Rattle.jc_rules.specs.declared.key.Tagged.{Tagged}

@@ -1,4 +1,4 @@
--- What is in a set that is told by greatest counters.
+-- About `covered` of specs/VersionVectors: which identifiers a version vector covers.
 use Rattle.std.proofs.Common.{◌≡◌, ℕ, zero, suc, ◌<◌, ◌≤◌, List, [], ◌∷◌, Bool, true, false, ◌||◌, ◌⊎◌, inl, inr, max, eqb, leb, eqb-true, eq-eqb, leb-true, leb-false, refl, sym, ◌∙◌, ap, subst, arith}
 use Rattle.jc_rules.specs.declared.id.Id.{Id}
 use Rattle.jc_rules.specs.Order.{same_id}

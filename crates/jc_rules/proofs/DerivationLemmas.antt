@@ -1,4 +1,4 @@
--- A question has one derivation.
+-- About specs/Derivation and Table: a question has one derivation at most.
 use Rattle.std.proofs.Common.{◌≡◌, ◌≢◌, ℕ, zero, suc, List, [], ◌∷◌, Option, Some, None, refl, sym, ◌∙◌, ap, subst}
 use Rattle.jc_rules.specs.declared.key.Tagged.TheVariants.{MapT, ListT, RegT}
 use Rattle.std.specs.Ordering.{match_ordering}

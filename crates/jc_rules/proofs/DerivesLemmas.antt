@@ -1,4 +1,4 @@
--- A rule on top of the derivations of its premises, and what the trace gets.
+-- About specs/Derives: a rule above the derivations of its premises, and the rows that the trace gets.
 use Rattle.std.proofs.Common.{◌≡◌, List, [], ◌∷◌, ◌++◌, refl, sym, ◌∙◌, subst, append_assoc, append-nil}
 use Rattle.jc_rules.specs.declared.rule.Rule.{Rule}
 use Rattle.jc_rules.specs.Derivation.{Question, Answer, Judgement, gives, derive, Premises, none, premise, conclusions, traces}

@@ -1,4 +1,4 @@
--- Laws of entries by key, in an order R that is total and tells different keys apart.
+-- About specs/Entries: entries by key, in an order that is total and tells different keys apart.
 use Rattle.std.proofs.Common.{◌≡◌, List, [], ◌∷◌, Option, Some, None, Bool, true, false, cond, refl, ap, ◌∙◌}
 use Rattle.std.specs.List.{AllByRecursion}
 use Rattle.std.specs.Ordering.{eq_by_cmp, is_eq}

@@ -1,4 +1,4 @@
--- Derivations put together from their parts: one lemma for each rule of the table, by which a derivation's answer and rows are found from those of its premises.
+-- About specs/Examples: derivations put together from their parts, by one lemma for each rule of the table.
 use Rattle.std.specs.Prelude.{◌≡◌, ◌≢◌, ℕ, suc, ◌+◌, ◌≤◌, List, [], ◌∷◌, ◌++◌, Bool, true, false, ◌||◌, Some, None, refl, length, slice_get, slice_set}
 use Rattle.std.specs.declared.cmp.Ordering.TheVariants.{Less}
 use Rattle.std.proofs.Math.Path.{subst, sym}

@@ -1,4 +1,4 @@
--- The table is that of the fifty rules but for RECV-ONE.
+-- About specs/Table: it is the table of the fifty rules of version 1, with RECV-ONE.
 use Rattle.std.proofs.Common.{◌≡◌, ◌≢◌, List, refl}
 use Rattle.std.specs.Prelude.{◌↔◌}
 use Rattle.jc_rules.specs.declared.rule.Rule.{Rule}

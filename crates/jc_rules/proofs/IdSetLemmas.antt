@@ -1,4 +1,4 @@
--- What the calls do to a list with one identifier of each replica, as they are seen: on all that is at or below it.
+-- About src/id_set: what its calls do to a version vector, by what this covers.
 use Rattle.std.proofs.Common.{◌≡◌, ℕ, zero, suc, ◌<◌, ◌≤◌, List, [], ◌∷◌, ◌++◌, Bool, true, false, max, eqb, leb, length, get_or, set, fold, eqb-true, leb-true, leb-false, le-leb, refl, sym, ◌∙◌, ap, subst, arith}
 use Rattle.std.specs.Prelude.{◌↔◌}
 use Rattle.std.specs.List.{list_all}

@@ -1,4 +1,4 @@
--- What goes for the keys of entries.
+-- About specs/Entries: lemmas at the order of keys.
 use Rattle.std.proofs.Common.{◌≡◌, ◌≢◌, List, [], ◌∷◌, Option, Some, None, Bool, true, false, refl, sym}
 use Rattle.std.specs.List.{AllByRecursion}
 use Rattle.std.specs.Ordering.{eq_by_cmp}

@@ -1,4 +1,4 @@
--- The orders of identifiers, names and keys are total, and tell different ones apart.
+-- About specs/Order: the orders of identifiers, names and keys are total and tell different ones apart.
 use Rattle.std.proofs.Common.{◌≡◌, ℕ, refl, ap, subst}
 use Rattle.std.specs.Cmp.{IsTotalOrder}
 use Rattle.std.specs.FinMap.{slice_cmp-IsAntisymmetric, nat_cmp-IsAntisymmetric}

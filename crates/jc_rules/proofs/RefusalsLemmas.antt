@@ -1,4 +1,4 @@
--- Where each rule and each refusal stands in the list of all, and what its name or number gives back.
+-- About specs/RuleNames and Refusals: different rules have different names, and different refusals different numbers.
 use Rattle.std.proofs.Common.{◌≡◌, ℕ, ◌<◌, List, [], ◌∷◌, get_or, refl, sym, ◌∙◌, ap, Option, Some, None, arith, ◌==◌, if◌then◌else◌}
 use Rattle.std.specs.Str.{bytes_eq}
 use Rattle.std.proofs.lemmas.Option.{same_Some}
@@ -168,63 +168,6 @@ rule_within R.ClearMap3 = omega arith
 rule_within R.ClearList1 = omega arith
 rule_within R.ClearList2 = omega arith
 rule_within R.ClearList3 = omega arith
-
-pub refusal_within : (r : Refusal) → refusal_place r < 55
-refusal_within F.BadByte = omega arith
-refusal_within F.OpenString = omega arith
-refusal_within F.BadEscape = omega arith
-refusal_within F.LoneSurrogate = omega arith
-refusal_within F.BadNumber = omega arith
-refusal_within F.TextTooLong = omega arith
-refusal_within F.Unexpected = omega arith
-refusal_within F.EndOfText = omega arith
-refusal_within F.IndexTooLarge = omega arith
-refusal_within F.ReservedName = omega arith
-refusal_within F.TooManyCommands = omega arith
-refusal_within F.TooLongExpression = omega arith
-refusal_within F.NotUtf8 = omega arith
-refusal_within F.NoHeader = omega arith
-refusal_within F.SameName = omega arith
-refusal_within F.NoReplica = omega arith
-refusal_within F.TooManyReplicas = omega arith
-refusal_within F.UnknownReplica = omega arith
-refusal_within F.TooManyEvents = omega arith
-refusal_within F.NotInList = omega arith
-refusal_within F.UnboundVariable = omega arith
-refusal_within F.GetOnHead = omega arith
-refusal_within F.NotACursor = omega arith
-refusal_within F.NoSuchNode = omega arith
-refusal_within F.PastEnd = omega arith
-refusal_within F.NoMap = omega arith
-refusal_within F.NoRegister = omega arith
-refusal_within F.TooDeep = omega arith
-refusal_within F.NoCommand = omega arith
-refusal_within F.AtYield = omega arith
-refusal_within F.NotAtYield = omega arith
-refusal_within F.NotActed = omega arith
-refusal_within F.NotReceived = omega arith
-refusal_within F.AlreadyApplied = omega arith
-refusal_within F.DepsMissing = omega arith
-refusal_within F.NoSuchReplica = omega arith
-refusal_within F.Full = omega arith
-refusal_within F.WrongVersion = omega arith
-refusal_within F.NoPasses = omega arith
-refusal_within F.TooManyTakes = omega arith
-refusal_within F.Spent = omega arith
-refusal_within F.MissingPass = omega arith
-refusal_within F.GivenStuck = omega arith
-refusal_within F.GateCount = omega arith
-refusal_within F.LimitTooLarge = omega arith
-refusal_within F.NoThread = omega arith
-refusal_within F.AtStart = omega arith
-refusal_within F.AtEnd = omega arith
-refusal_within F.PastSchedule = omega arith
-refusal_within F.NoSuchBreak = omega arith
-refusal_within F.TooManyBreaks = omega arith
-refusal_within F.ReadFailed = omega arith
-refusal_within F.WriteFailed = omega arith
-refusal_within F.TooManyLines = omega arith
-refusal_within F.BadLine = omega arith
 
 -- the rule with the name, and the refusal with the number
 abbrev rule_named : List ℕ → List Rule → Option Rule

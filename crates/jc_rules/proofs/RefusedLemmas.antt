@@ -1,4 +1,4 @@
--- A refused question has no derivation, and is refused in one way only.
+-- About specs/Refused: a refused question has no derivation, and one cause.
 -- Both follow from the list of what is tried for a question: each rule passes all of it, and each refusal stops at one place of it.
 use Rattle.std.specs.Prelude.{◌≡◌, ◌≢◌, ℕ, zero, suc, ◌+◌, ◌≤◌, List, [], ◌∷◌, ◌++◌, length, true, false, Option, Some, None, refl, ◌⊎◌}
 use Rattle.std.proofs.Common.{sym, ◌∙◌, ap, subst, arith, inl, inr}

@@ -1,4 +1,4 @@
--- Greatest counters of causally closed sets of a sound set of operations.
+-- About specs/Representation: version vectors of causally closed sets.
 use Rattle.std.proofs.Common.{◌≡◌, ℕ, suc, ◌<◌, ◌≤◌, List, [], ◌∷◌, Bool, true, false, ◌⊎◌, inl, inr, leb, leb-true, leb-false, Some, refl, sym, ◌∙◌, ap, arith}
 use Rattle.std.specs.Prelude.{Contains, ◌↔◌}
 use Rattle.jc_rules.specs.declared.id.Id.{Id}

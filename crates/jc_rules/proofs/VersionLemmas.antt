@@ -1,4 +1,4 @@
--- In a network of some version an event has one step at most, and one that is stuck has none.
+-- About specs/Step and Version: in a network of a version an event has one step at most, and one that is stuck has none.
 use Rattle.std.proofs.Common.{◌≡◌, ℕ, List, [], ◌∷◌, Option, Some, None, refl, sym, ◌∙◌, ap, subst}
 use Rattle.std.proofs.lemmas.Option.{same_Some}
 use Rattle.jc_rules.specs.declared.operation.Event.{Event}

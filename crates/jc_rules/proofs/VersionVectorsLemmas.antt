@@ -1,4 +1,4 @@
--- Lists that have one identifier of each replica at most: the greatest counters that they tell.
+-- About specs/VersionVectors: the greatest counter that a version vector has of each replica.
 use Rattle.std.proofs.Common.{◌≡◌, ℕ, zero, suc, ◌+◌, ◌<◌, ◌≤◌, List, [], ◌∷◌, ◌++◌, Bool, true, false, eqb, length, get_or, set, remove, eqb-true, eq-eqb, Option, Some, None, refl, sym, ◌∙◌, ap, subst, arith}
 use Rattle.std.specs.Prelude.{position, find}
 use Rattle.std.specs.Option.{option_map_or}

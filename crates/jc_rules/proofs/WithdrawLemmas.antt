@@ -1,4 +1,4 @@
--- A set without the greatest of a replica.
+-- About `IdSet::withdraw`: a version vector without a replica's greatest identifier.
 use Rattle.std.proofs.Common.{◌≡◌, ℕ, zero, suc, ◌<◌, ◌≤◌, List, [], ◌∷◌, Bool, true, false, not, ◌||◌, ◌&&◌, max, eqb, leb, length, get_or, set, remove, filter, eqb-true, eq-eqb, leb-true, le-leb, refl, sym, ◌∙◌, ap, subst, arith}
 use Rattle.std.specs.List.{AllByRecursion}
 use Rattle.std.specs.declared.cmp.Ordering.TheVariants.{Less}

@@ -1,4 +1,4 @@
--- Contexts: what a node of a document contains.
+-- Contexts: what a node of a document contains. The table reads and changes them.
 use Rattle.std.specs.Prelude.{List, [], ◌∷◌, ◌++◌, Option, Some, None}
 use Rattle.jc_rules.specs.declared.id.Id.{Id}
 use Rattle.jc_rules.specs.declared.key.Key.{Key}
@@ -64,7 +64,7 @@ empty = context no_child no_child [] [] []
 abbrev pub empty_list : Context
 empty_list = context no_child no_child [] [] ((Head, Tail) ∷ [])
 
--- what stands under a tagged key
+-- what is under a tagged key
 pub data Content : Type 0 where
   Node : Context → Content
   Values : Register → Content

@@ -1,4 +1,4 @@
--- Places in nested contexts: the context below a path of tagged keys, and the whole with another one there.
+-- The context at a path of tagged keys, and the document with another one there.
 use Rattle.std.specs.Prelude.{◌≡◌, List, [], ◌∷◌, ◌++◌, Option, Some, None}
 use Rattle.jc_rules.specs.declared.key.Key.{Key}
 use Rattle.jc_rules.specs.declared.key.Tagged.{Tagged}
@@ -27,7 +27,7 @@ abbrev pub or_empty : Option Context → Context
 or_empty None = empty
 or_empty (Some c) = c
 
--- the context at a place that is there
+-- the context at a path that leads to one
 abbrev pub context_at : List Tagged → Context → Context
 context_at ks c = or_empty (node_at ks c)
 

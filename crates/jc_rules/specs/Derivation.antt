@@ -1,4 +1,4 @@
--- Judgements and trees of them.
+-- Questions, answers, judgements and derivations: what the rules of the table are about.
 use Rattle.std.specs.Prelude.{ℕ, ◌+◌, List, [], ◌∷◌, ◌++◌, Option}
 use Rattle.jc_rules.specs.declared.id.Id.{Id}
 use Rattle.jc_rules.specs.declared.key.Key.{Key}

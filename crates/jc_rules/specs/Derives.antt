@@ -1,4 +1,4 @@
--- What a call that follows the table says.
+-- What a call that follows the table promises: a derivation of its answer, whose rows the trace gets.
 use Rattle.std.specs.Prelude.{◌≡◌, ◌++◌}
 use Rattle.jc_rules.specs.Derivation.{Question, Answer, gives, Derivation, conclusion, trace}
 use Rattle.jc_rules.specs.Table.{Holds}

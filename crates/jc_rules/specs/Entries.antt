@@ -1,4 +1,4 @@
--- Lists of entries by key, in the order R of the keys. An entry is put where its key stands, or else into its place, so
+-- Lists of entries by key, in the order R of the keys. An entry replaces that of its key, or else comes into its place, so
 -- that what is put can be found whatever the list.
 use Rattle.std.specs.Prelude.{◌≡◌, List, [], ◌∷◌, Option, Some, None, cond, map}
 use Rattle.std.specs.List.{AllByRecursion}
@@ -18,12 +18,12 @@ abbrev pub if_found : {X Y : Type 0} → Option X → Y → Y → Y
 if_found (Some x) y z = y
 if_found None y z = z
 
--- what stands under the key
+-- what is under the key
 abbrev pub find : {K X : Type 0} → (K → K → Ordering) → K → List (K × X) → Option X
 find R k [] = None
 find R k (e ∷ es) = cond (eq_by_cmp R k e.0) (Some e.1) (find R k es)
 
--- with another value where the key stands
+-- with another value under the key, if it is there
 abbrev pub replaced : {K X : Type 0} → (K → K → Ordering) → K → X → List (K × X) → List (K × X)
 replaced R k v [] = []
 replaced R k v (e ∷ es) = cond (eq_by_cmp R k e.0) ((k, v) ∷ es) (e ∷ replaced R k v es)

@@ -1,4 +1,4 @@
--- Sets of identifiers, as rising lists.
+-- Sets of identifiers as ascending lists: presence sets, and what version vectors cover.
 use Rattle.std.specs.Prelude.{◌≡◌, ℕ, List, [], ◌∷◌, Bool, true, false, not, ◌||◌, filter, max}
 use Rattle.std.specs.Ordering.{match_ordering}
 use Rattle.jc_rules.specs.declared.id.Id.{Id}

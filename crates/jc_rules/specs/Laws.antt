@@ -1,4 +1,4 @@
--- What the definitions promise by themselves.
+-- The statements of this crate's laws.
 use Rattle.std.specs.Prelude.{◌≡◌, ◌≢◌, ◌↔◌, ℕ, List, not, ◌||◌, ◌&&◌}
 use Rattle.std.specs.Cmp.{IsTotalOrder}
 use Rattle.std.specs.declared.cmp.Ordering.{Ordering}
@@ -45,7 +45,7 @@ OneAfterIn =
     (network : Network) (events : List Event) (last other : Network)
     → AfterIn network events last → AfterIn network events other → last ≡ other
 
--- the rule stands nowhere in the derivation
+-- the rule occurs nowhere in the derivation
 abbrev mutual
   pub Lacks : Rule → Derivation → Type 0
   Lacks rule (derive r j ps) = (r ≢ rule) × AllLack rule ps
@@ -99,7 +99,7 @@ pub record AreExactOrders : Type 0 where
   pub names : IsExactOrder name_cmp
   pub keys : IsExactOrder key_cmp
 
--- The rising lists that sets of identifiers are kept as: what is in them, that they rise, and that equal members make
+-- The ascending lists that sets of identifiers are: what is in them, that they ascend, and that equal members make
 -- equal lists.
 pub record AreSets : Type 0 where
   pub with_one : (k i : Id) (s : List Id) → has_id k (with_id i s) ≡ same_id k i || has_id k s

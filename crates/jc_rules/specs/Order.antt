@@ -1,4 +1,4 @@
--- The orders of identifiers and keys, and the one equality test of each.
+-- The orders of identifiers and keys, and the equality test of each.
 use Rattle.std.specs.Prelude.{ℕ, List, Bool}
 use Rattle.std.specs.Ordering.{nat_cmp, ordering_then, eq_by_cmp}
 use Rattle.std.specs.declared.cmp.Ordering.{Ordering}

@@ -78,7 +78,7 @@ made_by (DeleteAt e) = Some (e, M.Delete)
 made_by _ = None
 
 -- One constructor for each numbered condition, and one for each premise that hands up a refusal, each with all that
--- stands before it in its rule. The premises that aren't named here are never refused: children, presence sets,
+-- comes before it in its rule. The premises that aren't named here are never refused: children, presence sets,
 -- clearing, and the assignment under INSERT1.
 pub data Refused : Question → Cause → Type 0 where
   -- commands (EXEC)

@@ -1,4 +1,4 @@
--- The names of the rules.
+-- The name of each rule, as traces and breakpoints have it.
 use Rattle.std.specs.Prelude.{ℕ, List, codes}
 use Rattle.jc_rules.specs.declared.rule.Rule.{Rule}
 use Rattle.jc_rules.specs.declared.rule.Rule.TheVariants as R

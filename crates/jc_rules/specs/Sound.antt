@@ -1,4 +1,4 @@
--- Sets of operations, as lists of them, that belong together.
+-- Sound sets of operations: lists of operations that belong together.
 use Rattle.std.specs.Prelude.{◌≡◌, ◌≤◌, ◌<◌, List, [], ◌∷◌, ◌++◌, true, Some, Contains, ◌⊎◌}
 use Rattle.jc_rules.specs.declared.id.Id.{Id}
 use Rattle.jc_rules.specs.declared.key.Key.{Key}

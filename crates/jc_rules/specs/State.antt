@@ -1,4 +1,4 @@
--- States of a replica.
+-- States of a replica: what the rules of commands and events read and change.
 use Rattle.std.specs.Prelude.{ℕ, List, [], Bool, false}
 use Rattle.jc_rules.specs.declared.id.Id.{Id}
 use Rattle.jc_rules.specs.declared.value.Value.{Value}

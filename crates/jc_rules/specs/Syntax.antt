@@ -1,4 +1,4 @@
--- Expressions and commands.
+-- Expressions and commands, as the table has them.
 use Rattle.std.specs.Prelude.{ℕ, List}
 use Rattle.jc_rules.specs.declared.value.Value.{Value}
 

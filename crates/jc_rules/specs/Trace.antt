@@ -1,4 +1,4 @@
--- What a trace is seen as.
+-- What contracts see of a trace: its rows, and the depth at which it is.
 use Rattle.std.specs.Prelude.{◌≡◌, ℕ, ◌+◌, ◌-◌, List, [], ◌∷◌, ◌++◌, refl}
 use Rattle.std.specs.Coded.{Coded, code_by, coded×, coded_ℕ, coded_list}
 use Rattle.jc_rules.specs.declared.rule.Rule.{Rule}

@@ -1,4 +1,4 @@
--- Which events a version has.
+-- Which events a version has: the definition behind `Version::allows`.
 use Rattle.jc_rules.specs.declared.version.Version.{Version}
 use Rattle.jc_rules.specs.declared.version.Version.TheVariants.{One, Two}
 use Rattle.jc_rules.specs.declared.operation.Event.{Event}

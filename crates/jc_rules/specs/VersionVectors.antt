@@ -1,4 +1,4 @@
--- Sets of identifiers that are told by the greatest counter of each replica.
+-- Version vectors: per replica the greatest counter of its operations, and which identifiers they cover.
 use Rattle.std.specs.Prelude.{◌≡◌, ℕ, zero, suc, List, [], ◌∷◌, false, not, ◌||◌, cond, filter, max, eqb, leb}
 use Rattle.std.specs.List.{AllByRecursion}
 use Rattle.jc_rules.specs.declared.id.Id.{Id}
@@ -9,7 +9,7 @@ abbrev pub ids_up_to : ℕ → ℕ → List Id
 ids_up_to p zero = []
 ids_up_to p (suc last) = with_id (record { counter = suc last; replica = p }) (ids_up_to p last)
 
--- all that is at or below the given identifiers: of each replica what is counted from 1 to its greatest one
+-- what a version vector covers: of each replica the identifiers from counter 1 to its greatest one
 abbrev pub covered : List Id → List Id
 covered [] = []
 covered (i ∷ is) = union (ids_up_to i.replica i.counter) (covered is)
@@ -23,7 +23,7 @@ greatest_of p (i ∷ is) = cond (eqb i.replica p) (max i.counter (greatest_of p 
 abbrev pub truncated : ℕ → ℕ → List Id → List Id
 truncated p last s = filter (λ i. not (eqb i.replica p) || leb i.counter last) s
 
--- one of each replica at most
+-- one identifier of each replica at most
 abbrev pub IsVersionVector : List Id → Type 0
 IsVersionVector [] = Unit {0}
 IsVersionVector (i ∷ is) = AllByRecursion (λ j. eqb j.replica i.replica ≡ false) is × IsVersionVector is

@@ -1,4 +1,4 @@
--- The shape of a document: entries in order, lists chained, empty presence sets dropped.
+-- Well-formed documents: entries in order, lists chained; and a document without its empty presence sets.
 use Rattle.std.specs.Prelude.{◌≡◌, ◌≢◌, List, [], ◌∷◌, Some, Contains, filter, Bool, true, false}
 use Rattle.std.specs.List.{AllByRecursion}
 use Rattle.jc_rules.specs.declared.id.Id.{Id}

@@ -1,4 +1,4 @@
-//! Lamport identifiers.
+//! Lamport identifiers, which every operation has, and their order.
 
 /// The Lamport identifier of an operation. Identifiers are ordered by counter, then by replica.
 #[derive(Clone, Copy, Debug, PartialEq, Eq, PartialOrd, Ord)]

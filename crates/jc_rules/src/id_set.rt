@@ -1,4 +1,5 @@
-//! Sets of identifiers, kept as the greatest counter of each replica.
+//! Version vectors: sets of identifiers, stored as the greatest counter of each replica. Dependencies and applied
+//! operations are such sets.
 
 ghost use Rattle.std.specs.Prelude.{◌≡◌, ◌<◌, ◌↔◌, [], ◌∷◌, Some, List, IfOk, OnOk, OnErr, IsTrue, eqb, leb, max, fold, position};
 ghost use Rattle.std.specs.List.{list_all};
@@ -13,11 +14,11 @@ use crate::id::Id;
 use std::alloc::{AllocError, Global};
 use std::marker::Model;
 
-/// A set of identifiers, kept as the greatest counter of each replica that has one. It is seen as the rising list of
-/// all identifiers at or below these, gaps included.
+/// A version vector: the greatest counter of each replica that has one. Contracts see the ascending list of all
+/// identifiers that it covers, which are those at or below these counters, gaps included.
 ///
-/// In a sound set of operations it stands for one set that is closed under dependencies, and each call answers and
-/// changes as on that set (the clauses `stands`).
+/// In a sound set of operations it represents one causally closed set. Each call returns what it would return on that
+/// set, and changes it so (the clauses `stands`).
 #[derive(Drop)]
 pub struct IdSet {
     /// One identifier of each replica that has one.
@@ -133,7 +134,7 @@ impl IdSet {
     }
 }
 
-/// The place of the replica's identifier, if it has one.
+/// The index of the replica's identifier, if it has one.
 fn place_of(last: &[Id], replica: u16) -> Option<usize>
     ensures { result ≡ position (λ id. eqb id.replica replica) last.now }
 {

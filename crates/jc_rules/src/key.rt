@@ -1,4 +1,4 @@
-//! Keys, tagged keys and links of lists.
+//! Keys, tagged keys and links of lists: what paths and contexts are made of.
 
 ghost use Rattle.std.specs.Prelude.{◌≡◌, IfOk};
 ghost use Rattle.jc_rules.specs.Order.{id_cmp, key_cmp};
@@ -33,7 +33,7 @@ impl Key {
     }
 }
 
-/// A key with the kind of what stands under it: a map, a list or a register.
+/// A key with the kind of what is under it: a map, a list or a register.
 #[derive(Debug, PartialEq, Eq, Drop)]
 pub enum Tagged {
     MapT(Key),
@@ -65,7 +65,7 @@ impl Tagged {
     }
 }
 
-// A small vector of tagged keys fills its free places with this one.
+// A small vector of tagged keys fills its free room with this one.
 impl Default for Tagged {
     fn default() -> Self {
         Tagged::MapT(Key::Doc)

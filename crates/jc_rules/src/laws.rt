@@ -1,4 +1,4 @@
-//! Laws of the definitions alone. Each function does nothing: its contract is the law.
+//! Laws of the definitions of this crate. Each function does nothing: its contract is the law, and proofs above cite it.
 
 ghost use Rattle.jc_rules.specs.Laws.{OneDerivation, FiftyRulesStand, OneStep, OneAfter, OneStepIn, OneAfterIn, RefusedHasNone, OneCause, StuckHasNone, OneStuck, StuckInHasNone, OneStuckIn, AreExactOrders, AreSets, NamesDiffer, NumbersDiffer};
 

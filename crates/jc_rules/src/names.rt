@@ -1,4 +1,4 @@
-//! Names of keys that contracts see as the list of them.
+//! A list of names of keys, as a variable may hold it. Contracts see the list.
 
 ghost use Rattle.std.specs.Prelude.{◌≡◌, IfOk};
 

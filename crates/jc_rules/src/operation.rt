@@ -1,4 +1,4 @@
-//! Cursors, operations and events.
+//! Cursors, mutations, operations and events, as every layer above passes them.
 
 ghost use Rattle.std.specs.Prelude.{◌≡◌, IfOk};
 ghost use Rattle.jc_rules.specs.Step.{replica_of};
@@ -10,7 +10,7 @@ use crate::path::Path;
 use crate::value::Value;
 use std::alloc::AllocError;
 
-/// A place in a document: the path of a context, and a key in it.
+/// A cursor: the path of a context, and a key in it.
 #[derive(Drop)]
 pub struct Cursor {
     pub path: Path,

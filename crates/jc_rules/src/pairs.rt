@@ -1,4 +1,4 @@
-//! Values of registers that contracts see as the list of them.
+//! The values of a register with their identifiers, as a variable may hold them. Contracts see the list.
 
 ghost use Rattle.std.specs.Prelude.{◌≡◌, IfOk};
 

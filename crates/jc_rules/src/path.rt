@@ -1,4 +1,4 @@
-//! Paths of tagged keys.
+//! Paths of tagged keys: where a context is in a document.
 
 ghost use Rattle.std.specs.Prelude.{◌≡◌, ◌<◌, [], ◌∷◌, ◌++◌, length, IfOk, OnOk, OnErr};
 ghost use Rattle.jc_rules.specs.declared.limits.TheConstants.{MAX_PATH};

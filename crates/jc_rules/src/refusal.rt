@@ -1,4 +1,4 @@
-//! The refusals: their numbers and names.
+//! Every refusal of the program, with its number and its name.
 
 ghost use Rattle.std.specs.Prelude.{◌≡◌, Some};
 ghost use Rattle.jc_rules.specs.Refusals.{refusal_number, refusal_name};

@@ -1,4 +1,4 @@
-//! The rules of the table and their names.
+//! The rules of the table, with their names.
 
 ghost use Rattle.std.specs.Prelude.{◌≡◌, ◌≢◌, IfSome, IfNone, Some};
 ghost use Rattle.jc_rules.specs.declared.rule.Rule.{Rule as AnyRule};

@@ -1,4 +1,4 @@
-//! Texts that contracts see as their bytes.
+//! Texts and names of replicas. Contracts see their bytes.
 
 ghost use Rattle.std.specs.Prelude.{◌≡◌, string_bytes, nat_eq, IfOk};
 ghost use Rattle.std.proofs.Common.{rules};

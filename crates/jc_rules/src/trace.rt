@@ -1,4 +1,4 @@
-//! Traces of derivations.
+//! Traces: the rules of a derivation with their depths, as steps write them.
 
 ghost use Rattle.std.specs.Prelude.{◌≡◌, ◌<◌, ◌≤◌, [], length, take, IfOk, OnOk, OnErr};
 ghost use Rattle.jc_rules.specs.Trace.{pushed, one_deeper, one_higher, at_depth};

@@ -1,11 +1,11 @@
-//! Values that commands assign and insert.
+//! The values that commands assign and insert.
 
 ghost use Rattle.std.specs.Prelude.{◌≡◌, IfOk};
 
 use crate::text::Text;
 use std::alloc::AllocError;
 
-/// A value. Numbers are kept as the text of their literal; a string is decoded.
+/// A value. A number is the text of its literal; a string is decoded.
 #[derive(Debug, PartialEq, Eq, Drop)]
 pub enum Value {
     Number(Text),

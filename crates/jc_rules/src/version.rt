@@ -1,4 +1,4 @@
-//! Versions of scenarios.
+//! Versions of scenarios, and which events each has.
 
 ghost use Rattle.std.specs.Prelude.{◌↔◌, IsTrue};
 ghost use Rattle.jc_rules.specs.Version.{Allows};
@@ -9,12 +9,12 @@ use crate::operation::Event;
 #[derive(Clone, Copy, PartialEq, Eq)]
 pub enum Version {
     One,
-    /// The events that take one operation are of this version alone.
+    /// It alone has events that take one operation.
     Two,
 }
 
 impl Version {
-    /// Whether scenarios of the version have such events.
+    /// Whether the version has this event.
     pub fn allows(self, event: &Event) -> bool
         ensures { IsTrue result ↔ Allows event.now self }
     {

@@ -1,4 +1,4 @@
--- Applying a received operation, as it is kept and as what it stands for.
+-- About ApplyStands of specs/StateLaws: applying a stored operation, and the one that it represents.
 use Rattle.std.proofs.Common.{◌≡◌, List, [], ◌∷◌, Bool, true, false, map, Some, refl, sym, ◌∙◌, ap, subst}
 use Rattle.std.specs.Prelude.{Contains}
 use Rattle.jc_rules.specs.declared.id.Id.{Id}

@@ -1,4 +1,4 @@
--- Identifiers known in a document and in the context at one of its places.
+-- About specs/KnownIds: identifiers known in a document and in the context at a path.
 use Rattle.std.proofs.Common.{◌≡◌, List, [], ◌∷◌, Option, Some, None, refl}
 use Rattle.jc_rules.specs.declared.id.Id.{Id}
 use Rattle.jc_rules.specs.declared.key.Tagged.{Tagged}

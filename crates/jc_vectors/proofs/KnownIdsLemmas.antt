@@ -1,4 +1,4 @@
--- Identifiers of a document: what rules read has only known ones, and what they write too.
+-- About specs/KnownIds: what rules read of a document has known identifiers alone, and what they write too.
 use Rattle.std.proofs.Common.{◌≡◌, List, [], ◌∷◌, Option, Some, None, Bool, true, false, refl, ◌∙◌, ap}
 use Rattle.std.specs.List.{AllByRecursion}
 use Rattle.std.specs.Ordering.{eq_by_cmp}

@@ -1,4 +1,4 @@
--- What dependencies that stand for others give, and those that agree with others.
+-- About specs/Laws: dependencies that represent others, and those that agree with others.
 use Rattle.std.proofs.Common.{◌≡◌, true}
 use Rattle.jc_rules.specs.Derivation.{Operate, Clear, ClearElem, ToContext, Cleared}
 use Rattle.jc_rules.specs.Ids.{has_id}

@@ -1,4 +1,4 @@
--- Making an operation, as it is kept and as what it stands for.
+-- About MakeStands of specs/StateLaws: making a stored operation, and the one that it represents.
 use Rattle.std.proofs.Common.{◌≡◌, ℕ, zero, suc, ◌+◌, ◌<◌, ◌≤◌, List, ◌∷◌, true, ◌⊎◌, inl, inr, Option, Some, None, refl, sym, ◌∙◌, ap, subst, arith}
 use Rattle.std.specs.Prelude.{Contains}
 use Rattle.jc_rules.specs.declared.id.Id.{Id}

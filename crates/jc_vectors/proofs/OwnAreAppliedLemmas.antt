@@ -1,4 +1,4 @@
--- What a replica has applied stays applied, so that its own operations of a set do.
+-- About OwnAreApplied of specs/StateLaws: what a replica has applied stays applied.
 use Rattle.std.proofs.Common.{◌≡◌, ℕ, zero, suc, List, [], ◌∷◌, true, ◌∙◌, ap, subst, arith}
 use Rattle.std.specs.Prelude.{Contains}
 use Rattle.jc_rules.specs.declared.id.Id.{Id}

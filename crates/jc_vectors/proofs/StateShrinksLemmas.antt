@@ -1,4 +1,4 @@
--- A set of operations without the operation that came last.
+-- About StateShrinks of specs/StateLaws: a set of operations without the last one.
 use Rattle.std.proofs.Common.{◌≡◌, zero, suc, List, [], ◌∷◌, Bool, true, false, ◌||◌, Option, Some, None, refl, sym, ◌∙◌, ap, subst, arith}
 use Rattle.std.specs.Prelude.{Contains}
 use Rattle.jc_rules.specs.declared.id.Id.{Id}

@@ -1,4 +1,4 @@
--- Two sets of dependencies that agree on all known identifiers give the same derivation.
+-- About Agree of specs/KnownIds: dependencies that agree on all known identifiers give the same derivation.
 use Rattle.std.proofs.Common.{◌≡◌, ℕ, zero, suc, ◌+◌, List, [], ◌∷◌, ◌++◌, Some, None, refl, sym, ◌∙◌, ap}
 use Rattle.jc_rules.specs.declared.id.Id.{Id}
 use Rattle.jc_rules.specs.declared.key.Key.TheVariants as K

@@ -1,4 +1,4 @@
--- Lists of operations as they are kept: one more, and two united.
+-- About UnionStands of specs/StateLaws: stored lists of operations with one more, and two united.
 use Rattle.std.proofs.Common.{◌≡◌, List, [], ◌∷◌, map, Some, refl, sym, ◌∙◌, ap}
 use Rattle.std.specs.declared.cmp.Ordering.{Ordering}
 use Rattle.std.specs.declared.cmp.Ordering.TheVariants.{Less, Equal, Greater}

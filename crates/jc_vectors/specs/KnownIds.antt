@@ -1,4 +1,4 @@
--- Which identifiers a document has, and where two sets agree.
+-- Which identifiers a document has, and where two sets of identifiers agree on them.
 use Rattle.std.specs.Prelude.{◌≡◌, List, true}
 use Rattle.std.specs.List.{AllByRecursion}
 use Rattle.jc_rules.specs.declared.id.Id.{Id}

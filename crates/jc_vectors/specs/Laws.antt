@@ -1,4 +1,4 @@
--- What greatest counters promise by the definitions alone, of sets and of derivations.
+-- The statements of the laws of version vectors in sets of operations and in derivations.
 use Rattle.std.specs.Prelude.{◌≡◌, ◌≤◌, ◌↔◌, List, true, Some}
 use Rattle.jc_rules.specs.declared.id.Id.{Id}
 use Rattle.jc_rules.specs.declared.key.Key.{Key}
@@ -16,15 +16,15 @@ use Rattle.jc_rules.specs.Trace.{Rows}
 use Rattle.jc_vectors.specs.KnownIds.{Agree, KnowsOnly}
 use Rattle.jc_vectors.specs.OperationIds.{ids_of_ops, ids_within, with_deps}
 
--- In a causally closed set of a sound set of operations, an identifier of an operation is there exactly where it is at or
--- below the greatest counter of its replica.
+-- In a sound set of operations, a causally closed set has an operation's identifier exactly where the version vector
+-- covers it.
 abbrev pub CountersTell : Type 0
 CountersTell =
     (set : List Op) (s : List Id) → IsSound set → IsCausallyClosed set s
     → (i : Id) (o : Op) → op_of i set ≡ Some o
     → (has_id i s ≡ true) ↔ (i.counter ≤ greatest_of i.replica s)
 
--- What a causally closed set's greatest counters stand for can be computed: the identifiers of the set of operations at or
+-- What a causally closed set's version vector represents can be computed: the identifiers of the set of operations at or
 -- below them.
 abbrev pub WithinIs : Type 0
 WithinIs = (set : List Op) (s : List Id) → IsSound set → IsCausallyClosed set s → ids_within set (covered s) ≡ s
@@ -58,8 +58,8 @@ ClearElemAlike =
     → Derives (ClearElem c deps k) (Cleared d s) t u
     → Derives (ClearElem c others k) (Cleared d s) t u × KnowsOnly ids d
 
--- A document that knows only operations of the sound set: what is derived for the operation as it is kept is
--- derived, by the same rules, for the one with the dependencies that it stands for.
+-- In a document that knows only operations of the sound set: what is derived for a stored operation is derived, by the
+-- same rules, for the operation that it represents.
 abbrev pub OperateStands : Type 0
 OperateStands =
     (set : List Op) (deps : List Id) (c d : Context) (o e : Op) (t u : Rows)

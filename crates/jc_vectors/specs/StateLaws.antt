@@ -1,4 +1,4 @@
--- What stored states promise by the definitions alone.
+-- The statements of the laws of stored states.
 use Rattle.std.specs.Prelude.{◌≡◌, ℕ, List, ◌∷◌, true, false, Some, None, Contains, map}
 use Rattle.jc_rules.specs.declared.id.Id.{Id}
 use Rattle.jc_rules.specs.declared.operation.Cursor.{Cursor}
@@ -15,18 +15,19 @@ use Rattle.jc_rules.specs.Table.{op_of, both}
 use Rattle.jc_rules.specs.Trace.{Rows}
 use Rattle.jc_vectors.specs.StoredStates.{stored_op, AreOf, RepresentsState, HasOwn, IsUnknown, new_op, after_making, after_taking, after_making_stored, after_taking_stored}
 
--- A stored state stands for one state at most.
+-- A stored state represents one state at most.
 abbrev pub OneState : Type 0
 OneState = (set : List Op) (A B kept : State) → RepresentsState set A kept → RepresentsState set B kept → A ≡ B
 
--- It stands for the same state where a new operation makes the set larger.
+-- A stored state represents the same state where a new operation makes the set larger.
 abbrev pub StateStays : Type 0
 StateStays =
     (set : List Op) (o : Op) (A kept : State)
     → RepresentsState set A kept → op_of o.id set ≡ None → IsSound (o ∷ set)
     → RepresentsState (o ∷ set) A kept
 
--- It stands for the same state where an operation that it doesn't know, and on which none depends, leaves the set.
+-- A stored state represents the same state where an operation leaves the set that it doesn't know and on which none
+-- depends.
 abbrev pub StateShrinks : Type 0
 StateShrinks =
     (set : List Op) (o : Op) (A kept : State)
@@ -41,7 +42,7 @@ NewIsUnknown =
     → RepresentsState set A kept → op_of i set ≡ None
     → IsUnknown i A × ((e : Op) → Contains set e → has_id i e.deps ≡ false)
 
--- What applying a received operation asks of a stored state and does to it, the rule asks of what it stands for and
+-- What applying a received operation asks of a stored state and does to it, the rule asks of what it represents and
 -- does to that.
 abbrev pub ApplyStands : Type 0
 ApplyStands =
@@ -71,7 +72,7 @@ MakeStands =
     (after_making_stored (new_op p kept.ops cur m) t kept)
     × HasOwn (new_op p A.ops cur m ∷ set) p (after_making (new_op p A.ops cur m) t A)
 
--- Uniting operations as they are kept is uniting what they stand for: sending and receiving.
+-- Uniting stored operations is uniting what they represent: sending and receiving.
 abbrev pub UnionStands : Type 0
 UnionStands =
     (set os ps : List Op) → AreOf set os → AreOf set ps

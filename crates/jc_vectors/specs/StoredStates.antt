@@ -1,4 +1,4 @@
--- Operations and states as they are kept, with greatest counters, and what they stand for.
+-- Stored operations and states, which have version vectors, and what they represent.
 use Rattle.std.specs.Prelude.{◌≡◌, ◌+◌, ℕ, List, Some, None, Contains, map, true, false}
 use Rattle.std.specs.List.{AllByRecursion}
 use Rattle.jc_rules.specs.declared.id.Id.{Id}
@@ -16,11 +16,11 @@ use Rattle.jc_rules.specs.Table.{op_of, with_op}
 use Rattle.jc_vectors.specs.KnownIds.{EachId, KnowsOnly}
 use Rattle.jc_vectors.specs.OperationIds.{ids_of_ops, with_deps}
 
--- the operation as it is kept
+-- the stored operation: with a version vector for its dependencies
 abbrev pub stored_op : Op → Op
 stored_op o = with_deps (covered o.deps) o
 
--- the state as it is kept
+-- the stored state: with version vectors for its sets
 abbrev pub stored_state : State → State
 stored_state A = record A {
   ops = covered A.ops;
@@ -33,7 +33,7 @@ stored_state A = record A {
 abbrev pub AreOf : List Op → List Op → Type 0
 AreOf set os = AllByRecursion (λ o. op_of o.id set ≡ Some o) os
 
--- In the sound set of operations the state that a replica keeps stands for the state A.
+-- In the sound set of operations the stored state represents the state A.
 pub record RepresentsState (set : List Op) (A kept : State) : Type 0 where
   pub sound : IsSound set
   pub is : kept ≡ stored_state A
@@ -68,7 +68,7 @@ after_making o t A = record A { tree = t; ops = with_id o.id A.ops; queue = with
 abbrev pub after_taking : Id → Context → State → State
 after_taking i t A = record A { acted = true; tree = t; ops = with_id i A.ops }
 
--- both as they are kept
+-- both as they are stored
 abbrev pub after_making_stored : Op → Context → State → State
 after_making_stored o t K =
     record K { tree = t; ops = union (ids_up_to o.id.replica o.id.counter) K.ops; queue = with_op o K.queue }

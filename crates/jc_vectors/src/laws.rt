@@ -1,14 +1,15 @@
-//! Laws of sets and of derivations. Each function does nothing: its contract is the law.
+//! Laws of version vectors in sets of operations and in derivations. Each function does nothing: its contract is the
+//! law. jc_clear and jc_apply cite them.
 
 ghost use Rattle.jc_vectors.specs.Laws.{CountersTell, WithinIs, InsertedWithdrawn, OperateAlike, ClearAlike, ClearElemAlike, OperateStands, ClearStands, ClearElemStands};
 
-/// In a set of identifiers of a sound set of operations that is closed under dependencies, an operation's identifier is
-/// there exactly where it is at or below the greatest counter of its replica.
+/// In a sound set of operations, a causally closed set has an operation's identifier exactly where the version vector
+/// covers it.
 pub fn counters_tell()
     ensures { CountersTell }
 {}
 
-/// What greatest counters of a causally closed set stand for can be computed from the identifiers of the operations.
+/// The causally closed set that a version vector represents can be computed from the operations' identifiers.
 pub fn within_is()
     ensures { WithinIs }
 {}
@@ -24,27 +25,27 @@ pub fn operate_alike()
     ensures { OperateAlike }
 {}
 
-/// They clear what is under a tagged key alike.
+/// Such dependencies clear what is under a tagged key alike.
 pub fn clear_alike()
     ensures { ClearAlike }
 {}
 
-/// And a key under each tag.
+/// Such dependencies clear a key under each tag alike.
 pub fn clear_elem_alike()
     ensures { ClearElemAlike }
 {}
 
-/// What is derived for an operation as it is kept is derived for what it stands for, by the same rules.
+/// What is derived for a stored operation is derived, by the same rules, for the operation that it represents.
 pub fn operate_stands()
     ensures { OperateStands }
 {}
 
-/// The same of clearing what is under a tagged key.
+/// Clearing what is under a tagged key gives the same by a version vector and by the set that it represents.
 pub fn clear_stands()
     ensures { ClearStands }
 {}
 
-/// The same of clearing a key under each tag.
+/// Clearing a key under each tag gives the same by a version vector and by the set that it represents.
 pub fn clear_elem_stands()
     ensures { ClearElemStands }
 {}

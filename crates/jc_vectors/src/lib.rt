@@ -1,4 +1,4 @@
-//! What sets of greatest counters stand for: in clearing, in operations, and in the states that replicas keep.
+//! Laws of version vectors: clearing, operations and states may use them in place of the sets that they represent.
 #![tactic(auto)]
 
 pub mod laws;

@@ -1,19 +1,20 @@
-//! Laws of the states that replicas keep. Each function does nothing: its contract is the law.
+//! Laws of stored states, which have version vectors. Each function does nothing: its contract is the law. jc_replica
+//! and jc_network cite them.
 
 ghost use Rattle.jc_vectors.specs.StateLaws.{OneState, StateStays, StateShrinks, NewIsUnknown, ApplyStands, MakeStands, UnionStands, OwnAreApplied};
 
-/// A stored state stands for one state at most.
+/// A stored state represents one state at most.
 pub fn one_state()
     ensures { OneState }
 {}
 
-/// It stands for the same state where the set of operations grows by a new one.
+/// A stored state represents the same state where the set of operations grows by a new one.
 pub fn state_stays()
     ensures { StateStays }
 {}
 
-/// It stands for the same state where the set shrinks again by an operation on which none depends and which the state
-/// doesn't know: where the operation that was made last is undone.
+/// A stored state represents the same state where an operation leaves the set on which none depends and which the state
+/// doesn't know. This is so where the operation that was made last is undone.
 pub fn state_shrinks()
     ensures { StateShrinks }
 {}
@@ -23,24 +24,25 @@ pub fn new_is_unknown()
     ensures { NewIsUnknown }
 {}
 
-/// What applying a received operation asks of a stored state and does to it, it asks of what the state stands for and
-/// does to that.
+/// Applying a received operation asks the same of a stored state and of the state that it represents, and does the same
+/// to both.
 pub fn apply_stands()
     ensures { ApplyStands }
 {}
 
-/// The same of an operation that a replica makes; the set of operations stays sound with it.
+/// Making an operation does the same to a stored state and to the state that it represents; the set of operations stays
+/// sound with it.
 pub fn make_stands()
     ensures { MakeStands }
 {}
 
-/// Uniting operations as they are kept is uniting what they stand for.
+/// Uniting stored operations is uniting the operations that they represent.
 pub fn union_stands()
     ensures { UnionStands }
 {}
 
-/// That a replica has applied all of the set that is its own is left so by each of its events, by a set that grows by
-/// what it applied or by what another one made, and by a set that shrinks.
+/// A replica has applied all of its own operations of the set. This stays so by each of its events, where the set grows
+/// by what it applied or by what another one made, and where the set shrinks.
 pub fn own_are_applied()
     ensures { OwnAreApplied }
 {}
