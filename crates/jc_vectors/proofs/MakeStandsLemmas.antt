@@ -25,7 +25,8 @@ use Rattle.jc_vectors.specs.StoredStates.{stored_op, stored_state, RepresentsSta
 use Rattle.jc_vectors.specs.StateLaws.{MakeStands}
 use Rattle.jc_vectors.proofs.LawsLemmas.{operate_stands}
 use Rattle.jc_vectors.proofs.StoredStatesLemmas.{found_more, closed_more, of_more, known_more}
-use Rattle.jc_rules.proofs.CoveredLemmas.{left_in, right_in}
+use Rattle.jc_rules.proofs.BoolLemmas.{or_right}
+use Rattle.jc_rules.proofs.CoveredLemmas.{left_in}
 use Rattle.jc_vectors.proofs.UnionStandsLemmas.{map-with, of-with}
 
 -- an operation that a replica makes next
@@ -104,7 +105,7 @@ module _ (set : List Op) (A : State) (p : ℕ) (cur : Cursor) (m : Mutation) (so
 
   own_all : (t : Context) → (e : Op) → (new ≡ e) ⊎ Contains set e → e.id.replica ≡ p → has_id e.id (with_id new.id A.ops) ≡ true
   own_all t e (inl f) r = subst (λ (x : Op). has_id x.id (with_id new.id A.ops) ≡ true) f (has_id-with new.id new.id A.ops ∙ left_in (same_id new.id new.id) (has_id new.id A.ops) (same_id-self new.id))
-  own_all t e (inr c) r = has_id-with e.id new.id A.ops ∙ right_in (same_id e.id new.id) (has_id e.id A.ops) (all e c r)
+  own_all t e (inr c) r = has_id-with e.id new.id A.ops ∙ or_right (same_id e.id new.id) (has_id e.id A.ops) (all e c r)
 
   pub still_own : (t : Context) → HasOwn (new ∷ set) p (after_making new t A)
   still_own t e c r = own_all t e (split e c) r
