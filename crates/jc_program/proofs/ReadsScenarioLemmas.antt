@@ -1,5 +1,5 @@
 -- What a scenario's text tells of its scenario.
-use Rattle.std.proofs.Common.{◌≡◌, ◌≢◌, ℕ, ◌<◌, ◌≤◌, inl, inr, List, length, take, Some, None, Result, Ok, Err, IfOk, IfErr, IsErrAnd, IsErrOf, ap, sym, ◌∙◌, subst, arith}
+use Rattle.std.proofs.Common.{◌≡◌, ◌≢◌, ℕ, ◌<◌, ◌≤◌, inl, inr, List, length, take, Some, None, Result, Ok, Err, ap, sym, ◌∙◌, subst, arith}
 use Rattle.std.proofs.lemmas.Grind.{common_steps}
 use Rattle.jc_rules.specs.declared.refusal.Refusal.{Refusal}
 use Rattle.jc_parser.specs.declared.fault.ScenarioFault.{ScenarioFault}
@@ -37,17 +37,3 @@ reads_whole n b v (Err fault) is e (inr h) =
 -- a run on what was read is a run on the whole
 pub ran_whole : (view : View) (n : ℕ) (b v out : List ℕ) (status : ℕ) → n ≡ 8388609 → v ≡ take n b → Ran view v out status → Ran view b out status
 ran_whole view n b v out status is e h = (h.0, reads_whole n b v h.0 is e h.1, h.2)
-
--- more is known of an answer
-pub if_ok : {T E : Type 0} {P Q : T → Type 0} (r : Result T E) → ((v : T) → P v → Q v) → IfOk r P → IfOk r Q
-if_ok (Ok v) f h = f v h
-if_ok (Err e) f h = h
-
-pub if_err : {T E : Type 0} {P Q : E → Type 0} (r : Result T E) → ((e : E) → P e → Q e) → IfErr r P → IfErr r Q
-if_err (Ok v) f h = h
-if_err (Err e) f h = f e h
-
--- a fault that is handed up
-pub handed : {T U E : Type 0} (f x : E) (r : Result T E) → IsErrAnd r (λ e. e ≡ f) → IsErrOf r x → IsErrOf {T = U} (Err f) x
-handed f x (Ok v) h k = absurd h
-handed f x (Err e) h k = let same : e ≡ x = cc in ap Err (sym h ∙ same)

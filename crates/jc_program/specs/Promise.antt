@@ -10,6 +10,7 @@ use Rattle.jc_rules.specs.Step.{Network}
 use Rattle.jc_io.specs.Streams.{ConsumesUpTo}
 use Rattle.jc_io.specs.declared.io.Source.{Ghosts as SourceGhosts}
 use Rattle.jc_io.specs.declared.io.Sink.{Ghosts as SinkGhosts}
+use Rattle.jc_rules.specs.declared.limits.TheConstants.{MAX_TEXT}
 use Rattle.jc_scenario.specs.WellFormed.{Scenario, IsScenario}
 use Rattle.jc_network.specs.Given.{before_given, IsStart, IsGivenStuck}
 use Rattle.jc_session.specs.Written.{Stream, sink, Wrote, WrotePart, Sent, Written}
@@ -60,7 +61,7 @@ pub record NoneFailed (old new : World) : Type 0 where
 -- Standard input is read for the text of the file `-` alone, and at most 8,388,609 bytes of it.
 pub record ReadsText (file : List ℕ) (old new : World) : Type 0 where
   pub other_file : file ≢ codes "-" → new.input ≡ old.input
-  pub most : ConsumesUpTo 8388609 old.input.bytes new.input.bytes
+  pub most : ConsumesUpTo (MAX_TEXT + 1) old.input.bytes new.input.bytes
 
 -- What an order that ends so reads of standard input. A session reads its lines there, unless they are none, because the
 -- input has the scenario, or because the scenario was refused or a given event of it is stuck.

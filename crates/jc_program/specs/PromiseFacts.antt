@@ -1,7 +1,8 @@
 -- What follows from the promise, fact by fact.
-use Rattle.std.specs.Prelude.{◌≡◌, ◌≢◌, ◌⊎◌, ℕ, List, [], Option, Some, None, codes}
+use Rattle.std.specs.Prelude.{◌≡◌, ◌≢◌, ◌⊎◌, ◌+◌, ℕ, List, [], Option, Some, None, codes}
 use Rattle.jc_session.specs.Written.{Wrote, WrotePart}
 use Rattle.jc_io.specs.Streams.{ConsumesUpTo}
+use Rattle.jc_rules.specs.declared.limits.TheConstants.{MAX_TEXT}
 use Rattle.jc_cli.specs.Arguments.{words_order, AsksHelp, IsFaultless}
 use Rattle.jc_cli.specs.declared.order.Order.{Order}
 use Rattle.jc_cli.specs.declared.order.Task.TheVariants.{Debug, Threads}
@@ -87,7 +88,7 @@ module _ (files : Files) (words : List (List ℕ)) (old new : World) (result : �
   -- of a text at most so many bytes are read
   abbrev pub MostFact : Type 0
   MostFact = (order : Order) → words_order words ≡ Some order → (order.task ≢ Debug) ⊎ (order.file ≡ codes "-")
-      → ConsumesUpTo 8388609 old.input.bytes new.input.bytes
+      → ConsumesUpTo (MAX_TEXT + 1) old.input.bytes new.input.bytes
 
   -- failures come with the status 4 alone
   abbrev pub FailedFact : Type 0

@@ -6,7 +6,7 @@ ghost use Rattle.jc_program.specs.Commands.{IsThreadsOrder};
 ghost use Rattle.jc_program.specs.Promise.{Promise, All, ProcessPromise, files_of, world};
 
 use crate::alone::work_alone;
-use crate::fault::{WorkFault, end};
+use crate::fault::end;
 use crate::files::Files;
 use crate::threads::threads;
 use crate::words::{explain, refuse_words};

@@ -2,6 +2,7 @@
 
 ghost use Rattle.std.specs.Prelude.{◌≡◌, ◌≤◌, ℕ, IfOk, IfErr, string_bytes, vec_len};
 ghost use Rattle.std.specs.List.{list_any};
+ghost use Rattle.jc_rules.specs.declared.limits.TheConstants.{MAX_THREAD_EVENTS};
 ghost use Rattle.jc_rules.specs.declared.operation.Event.{Event as AnyEvent};
 ghost use Rattle.jc_rules.specs.Refused.{Cause};
 ghost use Rattle.jc_network.specs.Steps.{stuck_for};
@@ -205,7 +206,7 @@ pub fn record<R: Threads + Wait + Sync>(
     limit: u64,
 ) -> Result<Recording, RecordFault>
     requires scenario { IsWellFormedScenario (scenario_view scenario) }
-    requires limit { limit ≤ 100000 }
+    requires limit { limit ≤ MAX_THREAD_EVENTS }
     ensures recorded { IfOk result (IsRecording (scenario_view scenario) limit) }
     ensures fault { IfErr result (IsRecordFault (scenario_view scenario)) }
 {

@@ -1,8 +1,9 @@
 //! Sessions: lines are answered on a scenario's text.
 
-ghost use Rattle.std.specs.Prelude.{◌≡◌, ◌≢◌, ◌<◌, ◌⊎◌, [], Some, Ok, codes, IfOk, IfErr, OnOk};
+ghost use Rattle.std.specs.Prelude.{◌≡◌, ◌≢◌, ◌+◌, ◌<◌, ◌⊎◌, [], Some, Ok, codes, IfOk, IfErr, OnOk};
 ghost use Rattle.std.specs.Io.{ReadsAtMost};
 ghost use Rattle.jc_io.specs.Streams.{ConsumesUpTo, ReadsBytes};
+ghost use Rattle.jc_rules.specs.declared.limits.TheConstants.{MAX_TEXT};
 ghost use Rattle.jc_session.specs.Written.{sink};
 ghost use Rattle.jc_program.specs.ViewOutput.{told_by};
 ghost use Rattle.jc_program.specs.Faults.{IsCause, IsUnread};
@@ -70,7 +71,7 @@ pub fn debug<R: AllocGlobal + Files, I: Source, K: Sink>(
     ensures stopped { IfErr result (λ fault. HasStopped fault
         (told_by (I.left input.old) (R.texts rt.now) file.now) (lines_by (I.left input.old) file.now)
         (lines_by (I.left input.new) file.now) (sink K.Sink out.old) (sink K.Sink out.new)) }
-    ensures most { file.now ≡ codes "-" → ConsumesUpTo 8388609 (I.left input.old) (I.left input.new) }
+    ensures most { file.now ≡ codes "-" → ConsumesUpTo (MAX_TEXT + 1) (I.left input.old) (I.left input.new) }
     ensures untouched { (result ≡ Ok 1) ⊎ (result ≡ Ok 3) → file.now ≢ codes "-" → input.new ≡ input.old }
     ensures same { OnOk result
         ((I.failures input.new ≡ I.failures input.old) × (K.failures out.new ≡ K.failures out.old)) }

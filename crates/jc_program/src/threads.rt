@@ -1,7 +1,8 @@
 //! The command `threads`: what a scenario's replicas make in threads of their own.
 
-ghost use Rattle.std.specs.Prelude.{◌≡◌, ◌≢◌, ◌≤◌, ℕ, ⊤, codes, string_bytes, IfOk, IfErr, OnOk, OnErr};
+ghost use Rattle.std.specs.Prelude.{◌≡◌, ◌≢◌, ◌+◌, ◌≤◌, ℕ, ⊤, codes, string_bytes, IfOk, IfErr, OnOk, OnErr};
 ghost use Rattle.jc_io.specs.Streams.{ConsumesUpTo};
+ghost use Rattle.jc_rules.specs.declared.limits.TheConstants.{MAX_TEXT, MAX_THREAD_EVENTS};
 ghost use Rattle.jc_scenario.specs.WellFormed.{IsWellFormedScenario};
 ghost use Rattle.jc_scenario.specs.Views.{scenario_view};
 ghost use Rattle.jc_session.specs.Written.{sink, Wrote, WrotePart, Sent};
@@ -69,7 +70,7 @@ fn run_all<R: Threads + Wait + Sync + AllocGlobal, K: Sink, E: Sink>(
     err: &mut E,
 ) -> Result<u8, WorkFault>
     requires formed { IsWellFormedScenario (scenario_view scenario) }
-    requires limit { limit ≤ 100000 }
+    requires limit { limit ≤ MAX_THREAD_EVENTS }
     ensures ok { IfOk result (AreTextsOf (ShowsThreads limit (scenario_view scenario))
         (sink K.Sink out.old) (sink K.Sink out.new) (λ lines. Sent lines (sink E.Sink err.old) (sink E.Sink err.new))) }
     ensures stopped { IfErr result (λ fault. StopsThreads ⊤ (ShowsThreads limit (scenario_view scenario)) fault
@@ -95,7 +96,7 @@ fn run_text<R: Threads + Wait + Sync + AllocGlobal, K: Sink, E: Sink>(
     out: &mut K,
     err: &mut E,
 ) -> Result<u8, WorkFault>
-    requires { limit ≤ 100000 }
+    requires { limit ≤ MAX_THREAD_EVENTS }
     ensures ok { IfOk result (AreTextsOf (ThreadsRan limit text.now) (sink K.Sink out.old) (sink K.Sink out.new)
         (λ lines. Sent lines (sink E.Sink err.old) (sink E.Sink err.new))) }
     ensures stopped { IfErr result (λ fault. StopsThreads (AreThreadScenario text.now) (ThreadsRan limit text.now) fault
@@ -127,13 +128,13 @@ pub fn threads<R: Threads + Wait + Sync + AllocGlobal + Files, I: Source, K: Sin
     out: &mut K,
     err: &mut E,
 ) -> Result<u8, WorkFault>
-    requires { limit ≤ 100000 }
+    requires { limit ≤ MAX_THREAD_EVENTS }
     ensures ok { IfOk result (HaveThreaded limit (told_by (I.left input.old) (R.texts rt.now) file.now)
         (sink K.Sink out.old) (sink K.Sink out.new) (λ lines. Sent lines (sink E.Sink err.old) (sink E.Sink err.new))) }
     ensures stopped { IfErr result (λ fault. HaveStopped limit fault
         (told_by (I.left input.old) (R.texts rt.now) file.now) (sink K.Sink out.old) (sink K.Sink out.new)) }
     ensures quiet { OnErr result (err.new ≡ err.old) }
-    ensures most { ConsumesUpTo 8388609 (I.left input.old) (I.left input.new) }
+    ensures most { ConsumesUpTo (MAX_TEXT + 1) (I.left input.old) (I.left input.new) }
     ensures untouched { file.now ≢ codes "-" → input.new ≡ input.old }
     ensures same { OnOk result
         ((I.failures input.new ≡ I.failures input.old) × (K.failures out.new ≡ K.failures out.old)) }
