@@ -21,7 +21,8 @@ is_traced rows = bytes_eq (unwrap_or (first_of (codes "trace") rows) []) (codes 
 
 -- the number of a text that is one from 0 to 100,000; `view` and `threads` have the same greatest limit
 abbrev pub limit_in : Text → Option ℕ
-limit_in text = if is_unsigned_in 0 MAX_THREAD_EVENTS text then Some (digits_value 10 (without_leading_plus text)) else None
+limit_in text =
+    if is_unsigned_in 0 MAX_THREAD_EVENTS text then Some (digits_value 10 (without_leading_plus text)) else None
 
 abbrev pub limit_given : List Row → Option ℕ
 limit_given rows = option_and_then limit_in (first_of (codes "limit") rows)

@@ -51,7 +51,12 @@ threads_app = with_rule (with_rule (new_app (codes "threads")) limit_rule) file_
 -- The program without its commands: one of them is required. It has a version. A flag alone asks for help, so that each
 -- fault of the arguments has one kind; `with_help_meant` of Arguments says what the argument `help` means.
 abbrev pub bare_shape : Shape → Shape
-bare_shape s = record s { no_binary_name = true; disable_help_subcommand = true; subcommand_required = true; has_version = true }
+bare_shape s = record s {
+  no_binary_name = true;
+  disable_help_subcommand = true;
+  subcommand_required = true;
+  has_version = true;
+}
 
 abbrev pub bare : App
 bare = record { top = bare_shape (new_app (codes "jsoncrdt")).top; subs = [] }

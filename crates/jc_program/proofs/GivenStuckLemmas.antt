@@ -1,4 +1,4 @@
--- Given events that are stuck.
+-- About ViewText (IsGivenShown): the lines of a stuck given event.
 use Rattle.std.proofs.Common.{ℕ, List, length, refl}
 use Rattle.jc_printer.specs.Canon.{AreNamed}
 use Rattle.jc_scenario.specs.WellFormed.{Scenario, IsWellFormedScenario}

@@ -1,4 +1,4 @@
--- A run that goes on by one event.
+-- About PlayResult: a run that goes on by one event, and its end. `play` uses it.
 use Rattle.std.proofs.Common.{◌≡◌, ℕ, suc, ◌+◌, ◌<◌, ◌≤◌, List, [], ◌∷◌, ◌++◌, length, take, drop, get_or, slice_get, is_some, Bool, Option, Some, None, true, false, refl, ap, sym, ◌∙◌, subst, append_assoc, append-nil, add-zero, arith}
 use Rattle.std.proofs.lemmas.Grind.{common_steps}
 use Rattle.std.proofs.lemmas.List.{take_more, length-append}

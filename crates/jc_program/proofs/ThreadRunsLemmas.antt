@@ -1,4 +1,4 @@
--- Runs by threads, whole or up to a fault.
+-- About ThreadRuns: recordings, and runs on the bytes that were read. The functions of `threads` use it.
 use Rattle.std.proofs.Common.{◌≡◌, ◌≢◌, ◌⊎◌, ℕ, ◌<◌, arith, inl, inr, List, [], take, Option, Some, None, Result, Ok, Err, IfOk, IfErr, string_bytes, refl, ap, sym, subst}
 use Rattle.std.specs.Bool.{⊤}
 use Rattle.jc_io.specs.Streams.{IsPrefixUpTo}

@@ -1,4 +1,4 @@
-//! Sessions: lines are answered on a scenario's text.
+//! The command `debug`: a session on a scenario's text. `work_alone` calls it.
 
 ghost use Rattle.std.specs.Prelude.{◌≡◌, ◌≢◌, ◌+◌, ◌<◌, ◌⊎◌, [], Some, Ok, codes, IfOk, IfErr, OnOk};
 ghost use Rattle.std.specs.Io.{ReadsAtMost};
@@ -30,8 +30,7 @@ impl Source for NoBytes {
     }
 }
 
-/// Answers the lines of a source on a scenario's text, each before the next is read, and answers
-/// the status.
+/// Answers the lines of a source on a scenario's text, each before it reads the next, and returns the status.
 fn converse<S: Source, K: Sink>(
     alloc: Global,
     text: &[u8],
@@ -58,8 +57,8 @@ fn converse<S: Source, K: Sink>(
     }
 }
 
-/// Answers the lines of the input on the scenario in a file, and answers the status. Where the file
-/// is `-` the input has the scenario, and there is no line.
+/// Answers the lines of the input on the scenario in a file, and returns the status. Where the file is `-`, the input
+/// has the scenario, and there is no line.
 pub fn debug<R: AllocGlobal + Files, I: Source, K: Sink>(
     rt: &R,
     file: &str,
