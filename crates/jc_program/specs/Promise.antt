@@ -83,9 +83,10 @@ Completes (Threads limit) bytes lines old new status =
     AreTextsOf (ThreadsRan limit bytes) old.out new.out (Says old new) status
 
 -- A fault stopped a task on these bytes, and these lines, of which those are left. After a failed write a prefix of the
--- task's text was written, which isn't the whole unless the flush of an answer failed. After any other fault whole texts
--- up to the missing one were written. Nothing was written where the text of a view or for threads wasn't read, nor for
--- threads unless a write failed. Threads alone end for want of a thread, and only where the bytes are a scenario.
+-- task's text was written, which isn't the whole unless the flush of an answer failed. After any other fault whole
+-- texts up to the missing one were written. Nothing was written where the text of a view or for threads wasn't read,
+-- nor for threads unless a write failed. Threads alone end for want of a thread, and only where the bytes are a
+-- scenario.
 abbrev pub Breaks : Task → WorkFault → List ℕ → Option (List ℕ) → Option (List ℕ) → Stream → Stream → Type 0
 Breaks (Show view) fault bytes lines left old new = StopsView view bytes fault old new
 Breaks Debug fault bytes lines left old new = StopsOn fault bytes lines left old new
