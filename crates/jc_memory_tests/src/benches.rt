@@ -8,7 +8,8 @@ use crate::attempts::{MOST, Outcome, done_if, holds};
 use crate::memory::{UNIT, fill, leave};
 use crate::rows::{DELETION, scene};
 use jc_rules::Event;
-use jc_runner::{Bench, MOST_LIMIT, Pass, StepAnswer};
+use jc_rules::limits::MAX_THREAD_EVENTS;
+use jc_runner::{Bench, Pass, StepAnswer};
 use std::alloc::Global;
 use std::process::Abort;
 use std::sync::Wait;
@@ -27,7 +28,7 @@ fn opened(rt: &impl Abort, alloc: Global) -> (Bench, Pass, Pass)
     ensures { IsPassFor result.0 0 result.1 × IsPassFor result.0 1 result.2 }
 {
     let scenario = scene(rt, alloc, DELETION);
-    let (bench, mut passes) = match Bench::open(alloc, scenario, MOST_LIMIT) {
+    let (bench, mut passes) = match Bench::open(alloc, scenario, MAX_THREAD_EVENTS) {
         Ok(opened) => opened,
         Err(_) => panic!(rt; "no bench"),
     };

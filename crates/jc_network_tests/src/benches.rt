@@ -9,7 +9,8 @@ ghost use Rattle.jc_runner.specs.Benches.{IsPassAt, IsPassFor, IsNewAt};
 
 use crate::nets::{DELETION, STUCK_GIVEN, holds, scene};
 use jc_rules::Event;
-use jc_runner::{Bench, BenchFault, CloseRefused, MOST_LIMIT, Pass, Recorded, StepAnswer};
+use jc_rules::limits::MAX_THREAD_EVENTS;
+use jc_runner::{Bench, BenchFault, CloseRefused, Pass, Recorded, StepAnswer};
 use jc_scenario::Scenario;
 use std::alloc::Global;
 use std::process::Abort;
@@ -109,7 +110,7 @@ fn fills<R: Wait + Abort>(rt: &R, bench: &Bench, mut pass: Pass) -> Pass
     requires { IsPassFor bench.now 1 pass }
     ensures { IsPassFor bench.now 1 result }
 {
-    for number in 1..=MOST_LIMIT {
+    for number in 1..=MAX_THREAD_EVENTS {
         pass = makes(rt, bench, pass, Event::Send(1), number);
     }
     pass
@@ -170,7 +171,7 @@ fn steps_are_recorded(rt: HostRuntime) -> Result<(), Fail> {
 #[test]
 fn a_bench_is_filled(rt: HostRuntime) -> Result<(), Fail> {
     let alloc = rt.alloc();
-    let (bench, a, b) = opened(&rt, alloc, MOST_LIMIT)?;
+    let (bench, a, b) = opened(&rt, alloc, MAX_THREAD_EVENTS)?;
     let b = fills(&rt, &bench, b);
     let b = is_spent(&rt, &bench, b, Event::Send(1));
     let a = is_full(&rt, &bench, a, Event::Exec(0));
@@ -194,14 +195,14 @@ fn refusal(alloc: Global, scenario: Scenario, limit: u64) -> (u8, u64)
 #[test]
 fn limits_are_refused(rt: HostRuntime) -> Result<(), Fail> {
     for (text, limit, want) in [
-        (DELETION, MOST_LIMIT + 1, (46, 0)),
-        (STUCK_GIVEN, MOST_LIMIT + 1, (46, 0)),
-        (STUCK_GIVEN, MOST_LIMIT, (44, 2)),
+        (DELETION, MAX_THREAD_EVENTS + 1, (46, 0)),
+        (STUCK_GIVEN, MAX_THREAD_EVENTS + 1, (46, 0)),
+        (STUCK_GIVEN, MAX_THREAD_EVENTS, (44, 2)),
     ] {
         let scenario = scene(rt.alloc(), text)?;
         holds(&rt, refusal(rt.alloc(), scenario, limit) == want);
     }
-    let (bench, _a, mut b) = opened(&rt, rt.alloc(), MOST_LIMIT)?;
+    let (bench, _a, mut b) = opened(&rt, rt.alloc(), MAX_THREAD_EVENTS)?;
     holds(&rt, bench.count(&mut b) == 0);
     Ok(())
 }
