@@ -54,7 +54,7 @@ module _ (N : List State) (w : IsWell N) where
   pub same_applied : (p q : ℕ) (A B : State) → IsReplicaAt N p A → IsReplicaAt N q B → AreIn A.ops B.ops → AreIn B.ops A.ops → A.ops ≡ B.ops
   same_applied p q A B one other f g = same_members A.ops B.ops (w.sets.rising p A one) (w.sets.rising q B other) (λ i. same_tests (has_id i A.ops) (has_id i B.ops) (f i) (g i))
 
-in_list : (M : List State) (k : ℕ) (A : State) → slice_get M k ≡ Some A → Contains M A
+pub in_list : (M : List State) (k : ℕ) (A : State) → slice_get M k ≡ Some A → Contains M A
 in_list [] k A e = cc
 in_list (B ∷ M) zero A e = subst (λ (S : State). Contains (B ∷ M) S) (same_Some B A e) (first_in B M)
 in_list (B ∷ M) (suc k) A e = later_in A B M (in_list M k A e)

@@ -1,4 +1,4 @@
-//! Steps at a bench, from one thread.
+//! Tests of a bench: steps that are recorded, a bench that is full, and limits that are refused, from one thread.
 
 ghost use Rattle.std.specs.Prelude.{◌≡◌, All, IfOk};
 ghost use Rattle.jc_rules.specs.Step.{replica_of};
@@ -17,7 +17,7 @@ use std::process::Abort;
 use std::sync::Wait;
 use std::test::Fail;
 
-// Takes the last pass out of the list.
+// Takes the last pass out of the list. The bench and the limit are for the clauses alone.
 fn last_pass(rt: &impl Abort, bench: &Bench, limit: u64, passes: &mut Vec<Pass>) -> Pass
     requires { All (IsNewAt bench.now limit) passes.old.items }
     ensures { IsNewAt bench.now limit result × All (IsNewAt bench.now limit) passes.new.items }
@@ -42,7 +42,7 @@ fn opened(rt: &impl Abort, alloc: Global, limit: u64) -> Result<(Bench, Pass, Pa
     Ok((bench, a, b))
 }
 
-// The answer to the event. Where memory was wanting nothing was counted, and the event is asked for once more.
+// The answer to the event. After want of memory nothing was counted, and the event is tried again.
 fn stepped<R: Wait + Abort>(rt: &R, bench: &Bench, pass: Pass, event: Event) -> (Pass, StepAnswer)
     requires { IsPassFor bench.now (replica_of event) pass }
     ensures { IsPassFor bench.now (replica_of event) result.0 }
@@ -116,7 +116,7 @@ fn fills<R: Wait + Abort>(rt: &R, bench: &Bench, mut pass: Pass) -> Pass
     pass
 }
 
-// No event more can be made.
+// No further event can be made.
 fn is_full<R: Wait + Abort>(rt: &R, bench: &Bench, pass: Pass, event: Event) -> Pass
     requires { IsPassFor bench.now (replica_of event) pass }
     ensures { IsPassFor bench.now (replica_of event) result }
