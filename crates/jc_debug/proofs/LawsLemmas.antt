@@ -11,7 +11,7 @@ use Rattle.jc_debug.specs.DebuggerState.{Session, IsNetworkAt, MakesEvent, IsStu
 pub one_network : (S : Network) (es : List Event) (n : ℕ) (N M : Network) → IsNetworkAt S es n N → IsNetworkAt S es n M → N ≡ M
 one_network S es n N M a b = one_after_in S (take n es) N M a.after b.after
 
--- an event before a position that the schedule leads to leads on
+-- an event before a position that was come to leads on
 pub cut : (S : Network) (es : List Event) (n to : ℕ) (N : Network) → n < to → to ≤ length es → AfterIn S (take to es) N → (event : Event) × (rows : List (Rule × ℕ)) × MakesEvent S es n event rows
 cut S [] n to N lt le h = absurd (omega (arith, lt, le))
 cut S (e ∷ es) n zero N lt le h = absurd (omega (arith, lt))
