@@ -19,7 +19,7 @@ use Rattle.jc_session.specs.Written.{Stream}
 use Rattle.jc_program.proofs.ViewOutputLemmas.{nothing_shown}
 use Rattle.jc_program.proofs.SessionRunsLemmas.{without_memory}
 
--- there was no memory for the words
+-- there was no memory for the arguments
 pub nothing_done : (task : Task) (told lines : Option (List ℕ)) (old new : Stream) → new ≡ old → IsStoppedCommand task Memory told lines lines old new
 nothing_done (Show view) told lines old new same = nothing_shown view told old new same
 nothing_done Debug told lines old new same = without_memory told lines lines old new refl same

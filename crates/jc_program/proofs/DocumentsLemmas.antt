@@ -26,7 +26,7 @@ views_more names p network A e =
     let zero_more : 0 + p ≡ p = omega arith in
     ap (λ m. views_text names (take m network)) one ∙ (next_views names 0 p network A e ∙ ap (λ k. views_text names (take p network) ++ view_line names (name_at names k) A) zero_more)
 
--- what comes behind the first lines
+-- what follows the first lines
 views_split : (n k : ℕ) (names : List (List ℕ)) (network : List State) → (rest : List ℕ) × (views_from n names network ≡ views_from n names (take k network) ++ rest)
 views_split n zero names network = (views_from n names network, refl)
 views_split n (suc k) names [] = ([], refl)

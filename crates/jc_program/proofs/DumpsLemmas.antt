@@ -9,7 +9,7 @@ use Rattle.jc_session.proofs.WrittenLemmas.{wrote_both, part_after, part_of_long
 use Rattle.jc_dump.specs.Texts.{dumps_from, dumps_text}
 use Rattle.jc_program.proofs.PlayResultLemmas.{dumps_more}
 
--- what comes behind the first dumps
+-- what follows the first dumps
 dumps_split : (n k : ℕ) (names : List (List ℕ)) (network : List State) → (rest : List ℕ) × (dumps_from n names network ≡ dumps_from n names (take k network) ++ rest)
 dumps_split n zero names network = (dumps_from n names network, refl)
 dumps_split n (suc k) names [] = ([], refl)

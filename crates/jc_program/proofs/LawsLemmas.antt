@@ -45,7 +45,7 @@ module _ (one_step : OneStepIn) (stuck_has_none : StuckInHasNone) (one_stuck : O
       let cause : why ≡ other = one_stuck network next why other (subst (λ (x : Event). IsStuckIn network x why) same a.2) b.2 in
       rw (same, cause) refl
 
-  -- the events of a run are made in order
+  -- the events of a run are executed in order
   head_made : (es : List Event) (m : Made) (made : List Made) (last : Network) (stuck : Option Stuck) → EndsAt es (m ∷ made) last stuck → (rest : List Event) × (es ≡ m.0 ∷ rest) × EndsAt rest made last stuck
   head_made es m made last None a = (events_of made, a, refl)
   head_made es m made last (Some (event, why)) a = (events_of made ++ event ∷ a.0, a.1, (a.0, refl, a.2))

@@ -35,7 +35,7 @@ five_is_no_end bytes e = at 5 e refl
     at n (E.event_stuck start) e = cc
     at n (E.given_stuck given) e = cc
 
--- a task that waits for nobody and is done hasn't the status 5
+-- a task without threads that came to its end hasn't the status 5
 pub not_starved : (task : Task) (bytes : List ℕ) (lines : Option (List ℕ)) (old new : World) → IsAlone task → Completes task bytes lines old new 5 → ⊥
 not_starved (Show view) bytes lines old new alone h = five_is_no_end bytes (E.of_view view bytes h.0.0 5 h.0.1)
 not_starved Debug bytes lines old new alone h = five_is_no_end bytes (E.of_session bytes lines h.0.0 old.out new.out 5 h.0.1 h.0.2)
@@ -60,9 +60,9 @@ not_2 : (◌≡◌ {A = ℕ} 2 4) ⊎ (◌≡◌ {A = ℕ} 2 5) → ⊥
 not_2 (inl e) = cc
 not_2 (inr e) = cc
 
--- ---- words
+-- ---- arguments
 
--- words without a fault are an order
+-- arguments without a fault are a command
 pub faultless_some : FaultlessAreOrders → (words : List (List ℕ)) → IsFaultless words → words_order words ≡ None → ⊥
 unfolding words_order
 faultless_some law [] free none = cc
@@ -130,7 +130,7 @@ no_lines (inr (inl b)) = inr (inl b)
 no_lines (inr (inr c)) = inr (inr (inl c))
 
 module _ (Does : Task → Type 0) (files : Files) (words : List (List ℕ)) (old new : World) where
-  -- an order of which nothing was read or done
+  -- a command for which nothing was read or done
   unstarted : (order : Order) → new.input ≡ old.input → new.out ≡ old.out → IsStoppedCommand order.task Memory (told_by old.input.bytes files.texts order.file) (lines_by old.input.bytes order.file) (lines_by new.input.bytes order.file) old.out new.out
   unstarted order input out =
       let told = told_by old.input.bytes files.texts order.file in
@@ -157,7 +157,7 @@ module _ (Does : Task → Type 0) (files : Files) (words : List (List ℕ)) (old
   stopped_of (no_memory s same) order some alone ends = of_stop files words old new 5 Memory refl s (same.input, same.out) order some alone ends
   stopped_of (no_memory_for_words input out says) order some alone ends = (Memory, refl, says, (ap (λ (s : Stream). s.failures) input, ap (λ (s : Stream). s.failures) out), unstarted order input out)
 
-  -- ---- the words' status
+  -- ---- the status of the arguments
 
   ordered_help : {n : ℕ} → AsksHelp words → (c : Carried Does files words old new n) → ⊥
   ordered_help asks c = none_some (asks_none words asks) c.is_order
@@ -178,7 +178,7 @@ module _ (Does : Task → Type 0) (files : Files) (words : List (List ℕ)) (old
   help_of (no_memory s same) asks = inr (inr refl)
   help_of (no_memory_for_words input out says) asks = inr (inr refl)
 
-  -- a status that is 2 is that of the words
+  -- the status 2 is that of wrong arguments
   usage_at : {n : ℕ} → Promise Does files words old new n → n ≡ 2 → (words_order words ≡ None) × ((text : List ℕ) × (text ≢ []) × Says old new text) × (new.out ≡ old.out)
   usage_at (done c) e = cc
   usage_at (text_refused c) e = cc
@@ -204,7 +204,7 @@ module _ (Does : Task → Type 0) (files : Files) (words : List (List ℕ)) (old
   pub usage_of : {n : ℕ} → Promise Does files words old new n → UsageFact files words old new n
   usage_of p two = (usage_at p two).1
 
-  -- ---- words that are no order
+  -- ---- arguments that are no command
 
   no_carried : {n : ℕ} → words_order words ≡ None → Carried Does files words old new n → ⊥
   no_carried none c = none_some none c.is_order
@@ -310,13 +310,13 @@ module _ (Does : Task → Type 0) (files : Files) (words : List (List ℕ)) (old
   failed_of (no_memory s same) e = (same.input, same.out)
   failed_of (no_memory_for_words input out says) e = (ap (λ (s : Stream). s.failures) input, ap (λ (s : Stream). s.failures) out)
 
-  -- ---- orders
+  -- ---- commands
 
-  -- a fault of an order
+  -- a fault of a command
   abbrev Faulted : ℕ → Type 0
   Faulted n = (fault : WorkFault) × (n ≡ fault_status fault) × ((s : Stopped Does files words old new fault) × IsCause fault (IsUnread files.may_fail s.order.file) old.input.failures new.input.failures old.out.failures new.out.failures)
 
-  -- there was no memory for the words
+  -- there was no memory for the arguments
   abbrev Unstarted : ℕ → Type 0
   Unstarted n = (n ≡ 5) × (new.input ≡ old.input) × (new.out ≡ old.out) × Says old new (fault_line Memory)
 
@@ -482,7 +482,7 @@ module _ (files : Files) (words : List (List ℕ)) (old new : World) where
         let same : o ≡ order = same_Some o order (sym other ∙ some) in
         subst IsAlone (ap (λ (o : Order). o.task) same ∙ is) alone
 
-    -- for threads there was no memory for the words
+    -- for threads there was no memory for the arguments
     starving : {n : ℕ} → Promise IsAlone files words old new n → (n ≡ 5) × (new.out ≡ old.out)
     starving (done c) = absurd (waits c.order c.is_order c.does)
     starving (text_refused c) = absurd (waits c.order c.is_order c.does)

@@ -25,7 +25,7 @@ use Rattle.jc_program.proofs.CommandsLemmas as E
 
 -- ---- tasks
 
--- a task that waits for nobody was done
+-- a task without threads came to its end
 completed : (task : Task) (told lines : Option (List ℕ)) (old new : World) (n : ℕ) → IsDone task told lines old.out new.out n → new.err ≡ old.err → (bytes : List ℕ) × AreTold told bytes × Completes task bytes lines old new n
 completed (Show view) told lines old new n h quiet = (h.0, h.1, (h.2, quiet))
 completed Debug told lines old new n h quiet = (h.0, h.1, (h.2, quiet))
@@ -37,7 +37,7 @@ broken (Show view) fault told lines left old new alone h = h
 broken Debug fault told lines left old new alone h = h
 broken (Threads limit) fault told lines left old new alone h = absurd alone
 
--- a task that isn't for threads waits for nobody
+-- a task that isn't `Threads` is without threads
 pub alone_at : (task : Task) → ((limit : ℕ) → task ≡ Threads limit → ⊥) → IsAlone task
 alone_at (Show view) none = tt
 alone_at Debug none = tt
@@ -45,7 +45,7 @@ alone_at (Threads limit) none = absurd (none limit refl)
 
 -- ---- statuses
 
--- a status of an order on these bytes that was carried out
+-- a status of a command on these bytes that came to its end
 data IsStatus (bytes : List ℕ) : ℕ → Type 0 where
   at_end : {n : ℕ} → E.IsEnd bytes n → IsStatus bytes n
   at_5 : IsStatus bytes 5
@@ -110,7 +110,7 @@ module _ (order : Order) (n : ℕ) (old new : World)
 -- ---- the promise
 
 module _ (Does : Task → Type 0) (files : Files) (words : List (List ℕ)) (old new : World) where
-  -- words that are no order were answered, and nothing was read
+  -- for arguments that are no command nothing was read
   pub explained : (fault : WordsFault) (n : ℕ) → IsWordsFault words fault → HasText fault → Explains fault old.out new.out old.err new.err n → new.input ≡ old.input → Promise Does files words old new n
   explained (W.Help text) n why some (inl (e, wrote, quiet)) input = subst (Promise Does files words old new) (sym e) (help (string_bytes text) why.0 why.1 some wrote input quiet)
   explained (W.Help text) n why some (inr (e, part, says)) input = subst (Promise Does files words old new) (sym e) (help_write_failed (string_bytes text) why.0 why.1 part input says)
@@ -135,7 +135,7 @@ module _ (Does : Task → Type 0) (files : Files) (words : List (List ℕ)) (old
   halted Memory n e s c = subst (Promise Does files words old new) (sym e) (no_memory s (record { input = c.0; out = c.1 }))
 
   module _ (order : Order) (is_order : words_order words ≡ Some order) (does : Does order.task) where
-    -- a task that waits for nobody was done
+    -- a task without threads came to its end
     pub carried : (n : ℕ) → IsDone order.task (told_by old.input.bytes files.texts order.file) (lines_by old.input.bytes order.file) old.out new.out n → new.err ≡ old.err → ReadsFor order n old new → NoneFailed old new → Promise Does files words old new n
     carried n h quiet reads free =
         let told = told_by old.input.bytes files.texts order.file in

@@ -17,7 +17,7 @@ tellable (R.Given at stuck) s gates limit formed same small is = given_named s a
 tellable R.Memory s gates limit formed same small is = tt
 tellable R.NoThread s gates limit formed same small is = tt
 
--- what is told of it says what is so of the scenario
+-- the fault of the recording holds of the scenario
 pub told_fault : (fault : RunFault) (told : RecordFault) (s : Scenario) (gates limit : ℕ) → IsReportedFault fault s gates limit → IsToldAs s.names fault told → IsRecordFault s told
 told_fault fault F.Memory s gates limit is h = tt
 told_fault fault F.NoThread s gates limit is h = tt

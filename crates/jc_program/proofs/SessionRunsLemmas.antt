@@ -14,7 +14,7 @@ use Rattle.jc_program.specs.declared.fault.WorkFault.{WorkFault}
 use Rattle.jc_program.specs.declared.fault.WorkFault.TheVariants.{Read, Write, TooManyLines, NoThread, Memory}
 use Rattle.jc_program.proofs.ReadsScenarioLemmas.{reads_whole}
 
--- ---- what is told of the lines
+-- ---- the lines, where they are known
 
 pub none_at_input : (input : Option (List ℕ)) (name : List ℕ) → bytes_eq name (codes "-") ≡ true → lines_by input name ≡ Some []
 none_at_input input name e = ap (λ (b : Bool). if b then Some [] else input) e
@@ -33,7 +33,7 @@ lines_stay_by false new old name e h = of_the_input new name e ∙ (h (no_dash n
 pub lines_stay : (new old : Option (List ℕ)) (name : List ℕ) → (name ≢ codes "-" → new ≡ old) → lines_by new name ≡ lines_by old name
 lines_stay new old name h = lines_stay_by (bytes_eq name (codes "-")) new old name refl h
 
--- ---- a front of the scenario's bytes, one byte longer than the longest scenario
+-- ---- a prefix of the scenario's bytes, one byte longer than the longest scenario
 
 shows_whole : {text : List ℕ} {end : End} (n : ℕ) (b v l : List ℕ) → n ≡ 8388609 → v ≡ take n b → ShowsSession v l text end → ShowsSession b l text end
 shows_whole n b v l is e (refused fault f line) = refused fault (reads_whole n b v (Err fault) is e f) line
@@ -87,7 +87,7 @@ pub at_memory : {S K : Type 0} (left : S → Option (List ℕ)) (g : SinkGhosts 
 at_memory left g bytes a b old new (inl h) = inl (ap left h.0, ap (sink g) h.1)
 at_memory left g bytes a b old new (inr h) = inr h
 
--- ---- the bytes of the scenario, as far as they are told
+-- ---- the bytes of the scenario, where they are known
 
 pub talked_on_front : (n : ℕ) (told lines : Option (List ℕ)) (old new : Stream) (v : List ℕ) (status : ℕ) → n ≡ 8388609 → IsPrefixUpTo n told v → TalksOn v lines old new status → HasTalked told lines old new status
 talked_on_front n None lines old new v status is front h = (v, tt, h)
@@ -97,7 +97,7 @@ pub stopped_on_front : (fault : WorkFault) (n : ℕ) (told lines left : Option (
 stopped_on_front fault n None lines left old new v is front h = (v, tt, h)
 stopped_on_front fault n (Some bytes) lines left old new v is front h = (bytes, refl, stops_whole fault n bytes v lines left old new is front h)
 
--- the same where the text and what is told of the lines are known otherwise
+-- the same where the text and the lines are known otherwise
 pub talked_by : (n : ℕ) (told lines own : Option (List ℕ)) (old new : Stream) (v w : List ℕ) (status : ℕ) → n ≡ 8388609 → IsPrefixUpTo n told v → w ≡ v → lines ≡ own → TalksOn w own old new status → HasTalked told lines old new status
 talked_by n told lines own old new v w status is front same kept h =
     talked_on_front n told lines old new v status is front (subst (λ (x : List ℕ). TalksOn x lines old new status) same (subst (λ (l : Option (List ℕ)). TalksOn w l old new status) (sym kept) h))

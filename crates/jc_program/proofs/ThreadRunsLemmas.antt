@@ -25,7 +25,7 @@ module _ (s : Scenario) (limit : ℕ) (r : Recording) (is : IsRecording s limit 
   ran : RanThreads limit s (string_bytes r.text) (string_bytes r.lines) (outcome_status r.outcome)
   ran = record { recording = r; is_recording = is; shown = refl; told = refl; ends = refl }
 
-  -- a recording that was told
+  -- a recording that was written
   pub recorded : (old new : Stream) (WereSent : List ℕ → Type 0) (status : ℕ) → (status ≡ outcome_status r.outcome) × Wrote (string_bytes r.text) old new × WereSent (string_bytes r.lines) → AreTextsOf (ShowsThreads limit s) old new WereSent status
   recorded old new WereSent status h =
       (string_bytes r.lines, (string_bytes r.text, inl (subst (RanThreads limit s (string_bytes r.text) (string_bytes r.lines)) (sym h.0) ran), h.1), h.2)
@@ -92,7 +92,7 @@ module _ (limit : ℕ) (bytes : List ℕ) (fault : ScenarioFault) (known : fault
   pub refusing : (old new : Stream) → WrittenInPart (IsDueAt fault) old new → WrittenInPart (IsTextOf (ThreadsRan limit bytes)) old new
   refusing old new (out, (status, is), part) = (out, ([], status, of_refusal out status is), part)
 
--- ---- the bytes of the scenario, as far as they are told
+-- ---- the bytes of the scenario, where they are known
 
 of_front : (limit n : ℕ) (b v : List ℕ) → n ≡ 8388609 → v ≡ take n b → (out lines : List ℕ) (status : ℕ) → ThreadsRan limit v out lines status → ThreadsRan limit b out lines status
 of_front limit n b v is e out lines status h = (h.0, reads_whole n b v h.0 is e h.1, h.2)
@@ -121,7 +121,7 @@ lacking limit (Some bytes) old new same = (bytes, refl, same)
 
 -- ---- causes
 
--- what is so of a fault wherever the input stands is so where it stayed
+-- what holds of a fault for each number of failures of the input holds for this one
 pub cause_of : (fault : WorkFault) (unread : Type 0) (input_old input_new out_old out_new : ℕ) → input_new ≡ input_old → ((n : ℕ) → IsCause fault ⊥ n n out_old out_new) → IsCause fault unread input_old input_new out_old out_new
 cause_of Read unread input_old input_new out_old out_new same h = absurd (none (h 0).0) where
   none : (0 < 0) ⊎ ⊥ → ⊥

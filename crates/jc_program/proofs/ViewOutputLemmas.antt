@@ -79,7 +79,7 @@ module _ (trace : Bool) (s : Scenario) (wanted : List Event) (lines : List State
 pub due_at : (view : View) (bytes : List ℕ) (fault : ScenarioFault) (text : List ℕ) → (fault ≢ NoMemoryRead → ReadsAs bytes (Err fault)) → IsDueAt fault text → IsDue view bytes text
 due_at view bytes fault text known h = (Err fault, known (has_refusal fault _ h.1.is), h)
 
--- what was begun of the front that was read was begun of the whole
+-- what was begun of the prefix that was read was begun of the whole
 due_whole : (view : View) (n : ℕ) (b v text : List ℕ) → n ≡ 8388609 → v ≡ take n b → IsDue view v text → IsDue view b text
 due_whole view n b v text is e h = (h.0, reads_whole n b v h.0 is e h.1, h.2)
 
@@ -94,7 +94,7 @@ stops_whole view TooManyLines n b v old new is e h = absurd h
 stops_whole view NoThread n b v old new is e h = absurd h
 stops_whole view Memory n b v old new is e h = (h.0, unfinished_whole view n b v h.0 is e h.1, h.2)
 
--- the bytes that a source had left, as far as they are told, and a run on them
+-- the bytes that a source had left, where they are known, and a run on them
 pub run_on_front : (view : View) (n : ℕ) (left : Option (List ℕ)) (v : List ℕ) (status : ℕ) (old new : Stream) → n ≡ 8388609 → IsPrefixUpTo n left v → Written (λ text. Ran view v text status) old new → HasRun view left old new status
 run_on_front view n None v status old new is front h = (v, tt, h)
 run_on_front view n (Some bytes) v status old new is front h = (bytes, refl, (h.0, ran_whole view n bytes v h.0 status is front h.1, h.2))

@@ -25,7 +25,7 @@ tells_none names None None e t = refl
 tells_none names None (Some x) e t = absurd t
 tells_none names (Some s) stuck e t = cc
 
--- the line that is told of a stuck event is its line
+-- the line that is written for a stuck event is its line
 pub tells_line : (names : List (List ℕ)) (answer : Option StuckEvent) (stuck : Option Stuck) (s : StuckEvent) (line : List ℕ) → answer ≡ Some s → Tells names answer stuck → ((why : Cause) (event : Event) → s ≡ stuck_for why event → line ≡ stuck_text names why event) → (line ≡ stuck_line names stuck) × (status_of stuck ≡ 3)
 tells_line names None stuck s line e t f = cc
 tells_line names (Some r) None s line e t f = absurd t
@@ -38,7 +38,7 @@ tells_some names None stuck s e t = cc
 tells_some names (Some r) None s e t = absurd t
 tells_some names (Some r) (Some x) s e t = (x, refl)
 
--- What was played of a schedule, and the lines of the replicas behind it, where one text is missing.
+-- What was executed of a schedule, and the lines of the replicas after it, where one text is missing.
 module _ (trace : Bool) (s : Scenario) (wanted : List Event) (lines_text : List (List ℕ) → List State → List ℕ) (first last : Course) (schedule : List Event) (a b : Stream) (answer : Option StuckEvent) (from : IsStarted s first) (events : schedule ≡ wanted) (h : PlaysAll trace first last schedule a b answer) where
   abbrev lines : List State → List ℕ
   lines = lines_text s.names
