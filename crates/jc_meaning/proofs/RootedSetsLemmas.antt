@@ -1,4 +1,4 @@
--- About specs/Laws: what the laws need of sound, rooted and closed sets.
+-- About Laws: what the laws need of sound, rooted and closed sets.
 use Rattle.std.proofs.Common.{◌≡◌, ◌<◌, List, [], ◌∷◌, ◌++◌, Option, Some, None, is_some, Bool, true, false, ◌&&◌, not, cond, Contains, ◌⊎◌, inl, inr, refl, sym, ◌∙◌, ap, subst}
 use Rattle.jc_rules.specs.declared.id.Id.{Id}
 use Rattle.jc_rules.specs.declared.key.Key.{Key}

@@ -1,4 +1,4 @@
--- A fresh element that is linked behind a place of a list keeps the list chained.
+-- About Laws: a fresh element that is linked behind a place of a list keeps the list chained.
 use Rattle.std.proofs.Common.{◌≡◌, ◌≢◌, zero, suc, List, [], ◌∷◌, ◌++◌, Option, Some, None, Bool, true, false, cond, Contains, refl, sym, ◌∙◌, ap, subst, arith}
 use Rattle.std.specs.List.{AllByRecursion}
 use Rattle.std.specs.Ordering.{eq_by_cmp}

@@ -1,4 +1,4 @@
--- What is kept of a register when it is cleared.
+-- What clearing keeps of a register is well formed; jc_clear uses it.
 use Rattle.std.proofs.Common.{◌≡◌, [], ◌∷◌, List, Bool, true, false, refl}
 use Rattle.std.specs.List.{AllByRecursion}
 use Rattle.std.specs.declared.cmp.Ordering.TheVariants.{Less}

@@ -1,4 +1,4 @@
--- About specs/Laws: a map or a list in which something is present is alive.
+-- About Laws: a map or a list in which something is present is alive.
 use Rattle.std.proofs.Common.{◌≡◌, List, [], ◌∷◌, ◌++◌, Bool, true, false, not, cond, ◌||◌, ◌&&◌, Option, Some, None, Contains, ◌⊎◌, refl, sym, ◌∙◌, ap, subst}
 use Rattle.jc_rules.specs.declared.id.Id.{Id}
 use Rattle.jc_rules.specs.declared.key.Key.{Key}
@@ -16,7 +16,7 @@ use Rattle.jc_rules.specs.Syntax.{Cmd}
 use Rattle.jc_rules.specs.Table.{op_of}
 use Rattle.jc_rules.proofs.IdsLemmas.{same_id-true}
 use Rattle.jc_rules.proofs.BoolLemmas.{first_true, second_true, both_true}
-use Rattle.jc_json.proofs.PartsPlacesLemmas.{presences_rise}
+use Rattle.jc_tree.proofs.WellFormedLemmas.{presences_rise}
 use Rattle.jc_network.specs.Applied.{applied_ops}
 use Rattle.jc_network.specs.Laws.{IsReached}
 use Rattle.jc_network.specs.RunInvariant.{IsReplicaAt, IsWell}
