@@ -25,6 +25,7 @@ use Rattle.jc_meaning.proofs.NextOperationLemmas.{at_list, paths_self, insert_is
 use Rattle.jc_meaning.proofs.InsertEffectsLemmas.{clears_elem}
 use Rattle.jc_meaning.proofs.MeaningStepLemmas.{is_tidy}
 use Rattle.jc_meaning.proofs.SeenLemmas.{node_seen}
+use Rattle.jc_vectors.proofs.StateShrinksLemmas.{some_of}
 
 -- All is a sound and rooted set, S has the operation of each identifier of its own that All has.
 module _ (All S : List Op) (sound : IsSound All) (rooted : IsRooted All) (same : (i : Id) → is_some (op_of i S) ≡ true → op_of i All ≡ op_of i S) (p : Op) (k : Contains All p) (deps : DepsIn S p) where
@@ -53,16 +54,6 @@ closed_good set h =
       older = λ p k. older_of set set h.sound h.rooted (λ i e. refl) p k (h.closed p k);
       rooted = λ p k. rooted_of set set h.sound h.rooted (λ i e. refl) p k (h.closed p k);
     }
-
--- an operation of the list has an identifier of it
-has_op : (S : List Op) (p : Op) → Contains S p → op_of p.id S ≡ None → ⊥
-has_op [] p k e = none_in p k
-has_op (q ∷ qs) p k e = go (same_id p.id q.id) refl (in_cons p q qs k) (λ m f. has_op qs p m f) e
-  where
-    go : (b : Bool) → same_id p.id q.id ≡ b → (q ≡ p) ⊎ Contains qs p → (Contains qs p → op_of p.id qs ≡ None → ⊥) → cond b (Some q) (op_of p.id qs) ≡ None → ⊥
-    go true x y f z = cc
-    go false x (inl s) f z = let t : same_id p.id q.id ≡ true = subst (λ (r : Op). same_id p.id r.id ≡ true) (sym s) (same_id-self p.id) in cc
-    go false x (inr m) f z = f m z
 
 pub next_new : (set : List Op) (o : Op) → ComesNext set o → NewFor set o
 next_new set o h =
@@ -94,7 +85,7 @@ next_new set o h =
     there p k = go (op_of p.id set) refl
       where
         go : (x : Option Op) → op_of p.id set ≡ x → is_some x ≡ true
-        go None e = absurd (has_op set p k e)
+        go None e = absurd (some_of set p k e)
         go (Some q) e = refl
 
     one : (p : Op) → Contains set p → op_of p.id set ≡ Some p

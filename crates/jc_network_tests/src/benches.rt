@@ -1,4 +1,4 @@
-//! Steps at a bench, from one thread.
+//! Tests of a bench: steps that are recorded, a bench that is full, and limits that are refused, from one thread.
 
 ghost use Rattle.std.specs.Prelude.{◌≡◌, All, IfOk};
 ghost use Rattle.jc_rules.specs.Step.{replica_of};
@@ -9,14 +9,15 @@ ghost use Rattle.jc_runner.specs.Benches.{IsPassAt, IsPassFor, IsNewAt};
 
 use crate::nets::{DELETION, STUCK_GIVEN, holds, scene};
 use jc_rules::Event;
-use jc_runner::{Bench, BenchFault, CloseRefused, MOST_LIMIT, Pass, Recorded, StepAnswer};
+use jc_rules::limits::MAX_THREAD_EVENTS;
+use jc_runner::{Bench, BenchFault, CloseRefused, Pass, Recorded, StepAnswer};
 use jc_scenario::Scenario;
 use std::alloc::Global;
 use std::process::Abort;
 use std::sync::Wait;
 use std::test::Fail;
 
-// Takes the last pass out of the list.
+// Takes the last pass out of the list. The bench and the limit are for the clauses alone.
 fn last_pass(rt: &impl Abort, bench: &Bench, limit: u64, passes: &mut Vec<Pass>) -> Pass
     requires { All (IsNewAt bench.now limit) passes.old.items }
     ensures { IsNewAt bench.now limit result × All (IsNewAt bench.now limit) passes.new.items }
@@ -41,7 +42,7 @@ fn opened(rt: &impl Abort, alloc: Global, limit: u64) -> Result<(Bench, Pass, Pa
     Ok((bench, a, b))
 }
 
-// The answer to the event. Where memory was wanting nothing was counted, and the event is asked for once more.
+// The answer to the event. After want of memory nothing was counted, and the event is tried again.
 fn stepped<R: Wait + Abort>(rt: &R, bench: &Bench, pass: Pass, event: Event) -> (Pass, StepAnswer)
     requires { IsPassFor bench.now (replica_of event) pass }
     ensures { IsPassFor bench.now (replica_of event) result.0 }
@@ -109,13 +110,13 @@ fn fills<R: Wait + Abort>(rt: &R, bench: &Bench, mut pass: Pass) -> Pass
     requires { IsPassFor bench.now 1 pass }
     ensures { IsPassFor bench.now 1 result }
 {
-    for number in 1..=MOST_LIMIT {
+    for number in 1..=MAX_THREAD_EVENTS {
         pass = makes(rt, bench, pass, Event::Send(1), number);
     }
     pass
 }
 
-// No event more can be made.
+// No further event can be made.
 fn is_full<R: Wait + Abort>(rt: &R, bench: &Bench, pass: Pass, event: Event) -> Pass
     requires { IsPassFor bench.now (replica_of event) pass }
     ensures { IsPassFor bench.now (replica_of event) result }
@@ -170,7 +171,7 @@ fn steps_are_recorded(rt: HostRuntime) -> Result<(), Fail> {
 #[test]
 fn a_bench_is_filled(rt: HostRuntime) -> Result<(), Fail> {
     let alloc = rt.alloc();
-    let (bench, a, b) = opened(&rt, alloc, MOST_LIMIT)?;
+    let (bench, a, b) = opened(&rt, alloc, MAX_THREAD_EVENTS)?;
     let b = fills(&rt, &bench, b);
     let b = is_spent(&rt, &bench, b, Event::Send(1));
     let a = is_full(&rt, &bench, a, Event::Exec(0));
@@ -194,14 +195,14 @@ fn refusal(alloc: Global, scenario: Scenario, limit: u64) -> (u8, u64)
 #[test]
 fn limits_are_refused(rt: HostRuntime) -> Result<(), Fail> {
     for (text, limit, want) in [
-        (DELETION, MOST_LIMIT + 1, (46, 0)),
-        (STUCK_GIVEN, MOST_LIMIT + 1, (46, 0)),
-        (STUCK_GIVEN, MOST_LIMIT, (44, 2)),
+        (DELETION, MAX_THREAD_EVENTS + 1, (46, 0)),
+        (STUCK_GIVEN, MAX_THREAD_EVENTS + 1, (46, 0)),
+        (STUCK_GIVEN, MAX_THREAD_EVENTS, (44, 2)),
     ] {
         let scenario = scene(rt.alloc(), text)?;
         holds(&rt, refusal(rt.alloc(), scenario, limit) == want);
     }
-    let (bench, _a, mut b) = opened(&rt, rt.alloc(), MOST_LIMIT)?;
+    let (bench, _a, mut b) = opened(&rt, rt.alloc(), MAX_THREAD_EVENTS)?;
     holds(&rt, bench.count(&mut b) == 0);
     Ok(())
 }

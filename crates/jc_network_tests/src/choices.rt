@@ -1,4 +1,4 @@
-//! What a replica chooses, worked by hand.
+//! Tests of the event that a replica chooses, worked by hand.
 
 use crate::nets::{DELETION, FIRST, holds};
 use crate::turns::{Turn, in_network};
@@ -8,7 +8,7 @@ use jc_runner::{Phase, choose};
 use std::process::Abort;
 use std::test::Fail;
 
-/// The first events of the two replicas: the first one assigns the map and hands it on.
+/// The first events of the two replicas: the first one assigns the map and sends it.
 const MEETING: &[Event] = &[
     Event::Exec(0),
     Event::Send(0),
@@ -84,7 +84,7 @@ const ROWS: &[Row] = &[
         Some((Event::Apply(1, FIRST), Phase::Applying)),
     ),
     (4, 1, Phase::Applying, Some((Event::Done(1), Phase::Start))),
-    // its second command, and then no command is left
+    // its second command, and then none is left
     (5, 1, Phase::Start, Some((Event::Exec(1), Phase::Start))),
     (8, 1, Phase::Start, None),
     // no such replica

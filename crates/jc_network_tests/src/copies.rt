@@ -1,4 +1,4 @@
-//! Copies of what refused or stuck events give.
+//! Tests of the copies of faults: those of networks and of debuggers.
 
 use crate::nets::{after, holds, scene};
 use jc_debug::{ActFault, Debugger, GotoFault, RunEnd, StepFault};

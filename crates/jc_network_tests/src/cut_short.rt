@@ -1,4 +1,4 @@
-//! Sessions that are cut short, by a reader, a writer or a limit.
+//! Tests of sessions that are cut short, by a source, a sink or a limit.
 
 use crate::nets::holds;
 use crate::sessions::{EMPTY, RECEIVED, ends};
@@ -9,7 +9,7 @@ use std::test::Fail;
 
 const LINES: &str = "goto 4\nact b.apply(2, a)\nact b.apply(1, a)\nwhere\n";
 
-/// Expects a session of these lines to end so, after it wrote this.
+/// Expects a session on these lines to end so, after it wrote this.
 fn writes<R: AllocGlobal + Abort, S: Source>(rt: &R, lines: &mut S, end: u8, want: &str) {
     let mut out = Taken::new(rt.alloc());
     ends(rt, RECEIVED, lines, &mut out, end);
@@ -23,8 +23,8 @@ fn one_byte_a_call(rt: HostRuntime) {
     writes(&rt, &mut lines, 0, all);
 }
 
-/// By single bytes, a read that fails comes after the answers of all lines whose LF was read: the lines have 7, 18,
-/// 18 and 6 bytes, and a read more finds the end.
+/// Where each read gives one byte, a failed read comes after the answers of all lines whose LF was read: the lines have
+/// 7, 18, 18 and 6 bytes, and one more read finds the end.
 #[test]
 fn a_read_that_fails(rt: HostRuntime) {
     let first = "at 4\n";
@@ -44,7 +44,7 @@ fn a_read_that_fails(rt: HostRuntime) {
     }
 }
 
-/// Expects a writer with room for so many bytes to have got these, and the session to end with a failed write.
+/// Expects a sink with room for so many bytes to have these at the end, and the session to end with a failed write.
 fn fills<R: AllocGlobal + Abort>(rt: &R, room: usize, then: Then, want: &str) {
     let mut out = TakesUpTo::new(Taken::new(rt.alloc()), room, then);
     ends(
@@ -65,7 +65,7 @@ fn a_writer_that_is_full(rt: HostRuntime) {
     fills(&rt, 4, Then::TakesNone, "at 0");
 }
 
-/// So many of one byte, and these behind them.
+/// So many times one byte, and these bytes after them.
 fn filled<R: AllocGlobal>(rt: &R, byte: u8, n: usize, last: &[u8]) -> Result<Vec<u8>, Fail> {
     let mut bytes = Vec::new(rt.alloc());
     for _ in 0..n {

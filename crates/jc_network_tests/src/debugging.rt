@@ -1,4 +1,4 @@
-//! Calls of the debugger that no session shows: by numbers, and at its limits.
+//! Tests of calls of the debugger that no session shows: replicas by their numbers, and a debugger at its limits.
 
 use crate::nets::{STUCK_GIVEN, YIELD, holds, scene};
 use jc_debug::{ActFault, BreakFault, Debugger, GotoFault};

@@ -1,4 +1,4 @@
-//! The documents of replicas, by calls with ample memory.
+//! Tests of the document lines of replicas, with enough memory.
 
 use crate::nets::{DELETION, MEETING, holds};
 use crate::turns::{Turn, in_network};

@@ -1,4 +1,4 @@
-//! Gates, and flags by which they meet.
+//! Gates for the tests of threads, and the flags by which they meet.
 
 ghost use Rattle.std.specs.Prelude.{None, Some, if◌then◌else◌};
 ghost use Rattle.jc_runner.specs.Asked.{questions_of};
@@ -8,7 +8,7 @@ use std::alloc::{AllocError, Global};
 use std::sync::Wait;
 use std::sync::atomic::{AtomicBool, AtomicU64, Ordering};
 
-/// How often a flag is looked at.
+/// How many times a flag is looked at.
 const LOOKS: u64 = 1_000_000_000;
 
 /// Whether the flag is seen raised.
@@ -39,8 +39,8 @@ pub fn open_gates(alloc: Global, count: usize) -> Result<Vec<Open>, AllocError> 
     Ok(gates)
 }
 
-/// At one step of its replica it raises its flag, and at another one it looks for the other flag, and raises the last
-/// one where it saw that.
+/// At one step of its replica it raises its flag. At another one it looks for the other flag, and raises the last flag
+/// where it saw that.
 #[derive(Drop)]
 pub struct Signal<'a> {
     pub raises: Option<(u64, &'a AtomicBool)>,
@@ -64,8 +64,8 @@ impl<'a> Gate for Signal<'a> {
     }
 }
 
-/// The gate of one replica. It counts its questions, puts the count down, and raises a flag where one has another number
-/// than its replica's, or another number of events than it was asked before. It tells its questions as long as none has.
+/// The gate of one replica. It counts its calls and stores the count. It raises a flag where a call has another
+/// replica's number, or another number of events than calls before. Its ghost lists the calls as long as none has.
 #[derive(Drop)]
 pub struct Own<'a> {
     pub replica: u16,

@@ -1,5 +1,5 @@
-//! More than a hundred operations on one list by four replicas, which apply them in different orders: what they mean. What
-//! order the list has, and that all have the same tree, is in the rows of `jc_rows`, which have the same scenarios.
+//! Tests of what more than a hundred operations mean, on one list by four replicas that apply them in different orders.
+//! The rows of `jc_rows` on the same scenarios have the order of the list, and that all trees are the same.
 
 use crate::meanings::is_meant;
 use crate::nets::holds;

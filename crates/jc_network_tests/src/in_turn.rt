@@ -1,4 +1,4 @@
-//! Each answer is written and flushed before the source is asked for the next line.
+//! Tests that each answer is written and flushed before the next line is read.
 
 use crate::nets::holds;
 use crate::sessions::{RECEIVED, ends};
@@ -10,7 +10,7 @@ const LINES: &str = "goto 4\nact b.apply(2, a)\nact b.apply(1, a)\nact b.apply(2
 
 const ANSWERS: &str = "at 4\nat 4\nstuck 36 DepsMissing b.apply(2, a)\nat 5\nat 6\nat 6 of 6\n";
 
-/// How many bytes the answers to the first lines have: to none of them, to one, and so on.
+/// How many bytes the answers of the first lines have: of none, of one, and so on.
 const DUE: [u64; 6] = [0, 5, 45, 50, 55, 65];
 
 /// What the sink has seen, for the source to look at.
@@ -22,8 +22,8 @@ struct Seen {
     flushed: Cell<u64>,
 }
 
-/// A source that gives no byte behind a line's end in one call. It finds out whether it was ever asked for a line
-/// before as many flushes were counted as it has given lines, or before the answers to these lines were flushed.
+/// A source whose reads stop at the end of a line. It records whether it was ever read before there were as many
+/// flushes as it has given lines, or before the answers of these lines were flushed.
 #[derive(Drop)]
 struct LineByLine<'a> {
     left: &'a [u8],

@@ -1,4 +1,4 @@
-//! Tests of networks and of what stands on them: calls that no session of the debugger shows, sessions that are cut
+//! Tests of networks and of the crates above them: calls that no session of the debugger shows, sessions that are cut
 //! short, and threads. What sessions show is in the rows of `jc_rows`.
 #![tactic(auto)]
 

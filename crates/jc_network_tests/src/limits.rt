@@ -1,4 +1,4 @@
-//! Sessions at their limits: the most bytes of lines, and the most events.
+//! Tests of sessions at their limits: the most bytes of lines, and the most events.
 
 use crate::nets::holds;
 use crate::sessions::{EMPTY, ends};
@@ -53,8 +53,8 @@ fn filled(alloc: Global, first: &str, count: usize, last: &str) -> Result<Vec<u8
     Ok(bytes)
 }
 
-/// 16,384 lines of 4,096 bytes are as many as there may be, 67,108,864. Expects how a session ends, and its answers,
-/// where the last line ends so, without an LF, and has so many bytes.
+/// Expects the end and the answers of a session on 16,384 lines of 4,096 bytes, which are 67,108,864 bytes, the most
+/// that there may be. The last line ends so, without an LF, and has so many bytes.
 fn expect<R: AllocGlobal + Abort>(
     rt: &R,
     last: (&str, usize),
@@ -82,7 +82,7 @@ fn most_bytes(rt: HostRuntime) -> Result<(), Fail> {
     expect(&rt, ("step ", 4_097), 57, "at 0 of 0\n")
 }
 
-/// Where the position is the last that there may be, each event is refused; what is none is refused before.
+/// At the last position that there may be, each event is refused; a text that is no event is refused as that.
 const LINES: &str =
     "goto 100000\nact a.send\nact a.exec\nact b.send\nact a.jump\nback\nact a.send\nwhere\n";
 

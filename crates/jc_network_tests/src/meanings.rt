@@ -1,4 +1,4 @@
-//! What the operations mean of runs that were worked by hand, and of the replicas of random networks.
+//! Tests of what operations mean, in runs that were worked by hand and in random networks.
 
 ghost use Rattle.std.specs.Prelude.{◌<◌};
 

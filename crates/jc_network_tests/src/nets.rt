@@ -1,4 +1,4 @@
-//! Scenarios, the networks to which their events lead, and what is expected of them.
+//! Scenarios, the networks to which their events lead, and what the tests expect of them.
 
 ghost use Rattle.std.specs.Prelude.{IfOk};
 ghost use Rattle.jc_scenario.specs.WellFormed.{IsWellFormedScenario};
@@ -58,7 +58,7 @@ pub const SECOND_OF_B: Id = Id {
     replica: 1,
 };
 
-/// The two replicas know the first operation, run a command each, and hand these to each other. One is done then.
+/// The two replicas know the first operation, run a command each, and send these to each other. One is done then.
 pub const MEETING: &[Event] = &[
     Event::Exec(0),
     Event::Send(0),
@@ -87,7 +87,7 @@ pub fn scene(alloc: Global, text: &str) -> Result<Scenario, ScenarioFault>
     read(alloc, text.as_bytes())
 }
 
-/// A path as long as a path may be, an assignment there, and one above, which takes it back.
+/// A path as long as a path may be, an assignment there, and one above, which clears it.
 pub fn deep(alloc: Global) -> Result<String, AllocError> {
     let mut text = String::from_str(alloc, "jsoncrdt 1 replica a { let x = doc; ")?;
     for _ in 0..512 {
@@ -97,7 +97,7 @@ pub fn deep(alloc: Global) -> Result<String, AllocError> {
     Ok(text)
 }
 
-/// The number of the event's refusal: 0 where it is made, and 255 where it is told of another event or memory is wanting.
+/// The number of the event's refusal: 0 where it is made, and 255 where another event is refused or memory is wanting.
 pub fn number_of(net: &mut Net, event: &Event) -> u8 {
     match net.step(event) {
         Ok(_) => 0,

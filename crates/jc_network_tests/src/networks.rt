@@ -1,4 +1,4 @@
-//! Calls of networks: replicas that aren't there, networks that are full, what was applied, and what can be made.
+//! Tests of calls of networks: replicas that aren't there, networks that are full, and the events that can be made.
 
 use crate::nets::{
     DELETION, DELETION_IN_TWO, FIRST, INSERTS, MEETING, SECOND_OF_A, SECOND_OF_B, STUCK_GIVEN,
@@ -109,7 +109,7 @@ fn given_events_are_not_counted(rt: HostRuntime) -> Result<(), Fail> {
     )
 }
 
-/// The first given event that is stuck is told by its number from 1.
+/// The first given event that is stuck has its number from 1.
 #[test]
 fn a_given_event_is_stuck(rt: HostRuntime) -> Result<(), Fail> {
     let scenario = scene(rt.alloc(), STUCK_GIVEN)?;
@@ -117,8 +117,8 @@ fn a_given_event_is_stuck(rt: HostRuntime) -> Result<(), Fail> {
     Ok(())
 }
 
-/// In a network of version 1 each take of replicas that are there is refused for the version, whether a yield comes next
-/// or a command, whether the operation is offered or not; and nothing changes.
+/// In a network of version 1 each take of replicas that are there is refused for the version, whether a yield is next
+/// or a command, and whether the operation is offered or not. Nothing changes.
 pub fn takes_are_refused(rt: &impl Abort, net: &mut Net) {
     let steps = net.steps();
     for event in [
@@ -146,7 +146,7 @@ const SECOND: Id = Id {
     replica: 1,
 };
 
-/// The events of both replicas with each other and with some identifiers, in the order in which they are told.
+/// The events of both replicas with each other and with some identifiers, in the order of `enabled`.
 const EVENTS: [Event; 24] = [
     Event::Exec(0),
     Event::Send(0),
@@ -174,7 +174,7 @@ const EVENTS: [Event; 24] = [
     Event::Done(1),
 ];
 
-/// Whether just those of the events are told that can be made: each is made and taken back.
+/// Whether `enabled` has just those of the events that can be made: each is made and taken back.
 fn tells_what_is_made(net: &mut Net) -> Result<bool, AllocError> {
     let told = net.enabled()?;
     let mut left = told.iter();
@@ -186,7 +186,7 @@ fn tells_what_is_made(net: &mut Net) -> Result<bool, AllocError> {
     Ok(left.next().is_none())
 }
 
-/// Whether the operations that replica p has applied have the identifiers that are told of them.
+/// Whether the operations that replica p has applied have the identifiers of `applied_ids`.
 fn are_told_alike(net: &Net, p: u16) -> Result<bool, CompareFault> {
     let (ops, ids) = (net.applied(p)?, net.applied_ids(p)?);
     let mut alike = ops.len() == ids.len();
@@ -196,7 +196,7 @@ fn are_told_alike(net: &Net, p: u16) -> Result<bool, CompareFault> {
     Ok(alike)
 }
 
-/// What is told of the network is so in each from which events lead to it.
+/// What the calls return of the network is right in it and in each from which events lead to it.
 pub fn all_is_told(rt: &impl Abort, net: &mut Net) {
     for steps in (0..=MEETING.len() as u64).rev() {
         holds(rt, tells_what_is_made(net) == Ok(true));

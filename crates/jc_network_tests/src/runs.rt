@@ -1,4 +1,4 @@
-//! Threads that really run.
+//! Tests of threads that really run.
 
 ghost use Rattle.std.specs.Prelude.{IfOk};
 ghost use Rattle.jc_scenario.specs.WellFormed.{IsWellFormedScenario};
@@ -68,7 +68,7 @@ fn made_and_ended(rt: &impl Abort, report: &Report, want: &[(Option<u64>, Ends)]
     holds(rt, all == report.schedule.len() as u64);
 }
 
-/// The text of a scenario with the replicas of one and another schedule.
+/// The text of the scenario with another schedule.
 fn text_of(alloc: Global, start: Scenario, schedule: Vec<Event>) -> Result<String, AllocError>
     requires { IsWellFormedScenario (with_schedule (scenario_view start) schedule.items) }
 {
@@ -218,7 +218,7 @@ fn b_late(rt: HostRuntime) -> Result<(), Fail> {
     Ok(())
 }
 
-/// A gate for each of two replicas, which expects its own number.
+/// A gate for each of two replicas, which expects calls with its own number.
 fn own_gates<'a>(
     alloc: Global,
     counts: [&'a AtomicU64; 2],
@@ -237,7 +237,7 @@ fn own_gates<'a>(
     Ok(gates)
 }
 
-/// Each gate was asked once more than its replica made events.
+/// Each gate was called once more than its replica made events.
 fn are_asked(rt: &impl Abort, report: &Report, asked: &[u64]) {
     made_and_ended(rt, report, &[ANY, ANY]);
     for (made, asked) in report.made.iter().zip(asked) {
@@ -245,7 +245,7 @@ fn are_asked(rt: &impl Abort, report: &Report, asked: &[u64]) {
     }
 }
 
-/// Each gate is asked for its own replica, once before each take.
+/// Each gate is called for its own replica, once before each event and once at the end.
 #[test]
 fn gates_are_asked_for_their_replicas(rt: HostRuntime) -> Result<(), Fail> {
     let alloc = rt.alloc();
@@ -385,7 +385,7 @@ fn each_of_many_runs(rt: HostRuntime) -> Result<(), Fail> {
     run_many(&rt, rt.alloc(), text.as_str())
 }
 
-/// Adds the script of a replica that only yields, so often.
+/// Appends the script of a replica that only yields, so many times.
 fn add_yields(text: &mut String, name: &str, times: u32) -> Result<(), AllocError> {
     text.push_str(" replica ")?;
     text.push_str(name)?;

@@ -1,4 +1,4 @@
-//! What sessions are made of, and how they end.
+//! The scenarios of sessions, and the ends that the tests expect of sessions.
 
 use crate::nets::holds;
 use jc_io::{Sink, Source};
@@ -14,7 +14,7 @@ pub const RECEIVED: &str = "jsoncrdt 1
     replica b { yield }
     schedule { a.exec; a.exec; a.send; b.recv(a) }";
 
-/// Expects a session to end so: 0 is finished, a fault of a text its number, and a fault of a session its number.
+/// Expects a session to end so: 0 where it is finished, else the number of the refusal, and 255 for want of memory.
 pub fn ends<R: AllocGlobal + Abort, S: Source, K: Sink>(
     rt: &R,
     scenario: &str,

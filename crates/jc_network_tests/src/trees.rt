@@ -1,4 +1,4 @@
-//! Trees that differ in one entry, or in none but empty presence sets.
+//! Tests of the comparison of trees that differ in one entry, or in none but empty presence sets.
 
 ghost use Rattle.std.specs.Prelude.{IfOk};
 ghost use Rattle.jc_rules.specs.WellFormed.{IsWellFormedRegister};
@@ -20,7 +20,7 @@ const SECOND: Id = Id {
     replica: 1,
 };
 
-/// What is put under the key `doc` of a context.
+/// An entry that is put under the key `doc` of a context.
 #[derive(Clone, Copy)]
 enum Entry {
     Map,

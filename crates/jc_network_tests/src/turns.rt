@@ -1,4 +1,4 @@
-//! What is done with networks. A network has one owner here, since an owner of much is dear to prove.
+//! The calls that tests make on a network. A network is owned here alone, since each owner of one costs much to prove.
 
 use crate::choices::chooses;
 use crate::documents::documents_are_shown;
@@ -17,7 +17,7 @@ use std::cell::Cell;
 use std::process::Abort;
 use std::test::Fail;
 
-/// What is done with a network.
+/// What a test does with a network.
 #[derive(Clone, Copy)]
 pub enum Turn<'a> {
     MissingReplicas,
@@ -32,7 +32,7 @@ pub enum Turn<'a> {
     ThereAndBack(&'a [Event]),
     /// The tree that the operations of a replica mean.
     Meaning(u16, &'a str),
-    /// Events at random, by a number that each of them changes.
+    /// Events at random, by a seed that each of them changes.
     Random(&'a Cell<u64>),
     HasAll,
     /// The dump lines of all replicas.

@@ -1,4 +1,4 @@
-//! Networks back to their start.
+//! Tests of networks whose events are all taken back.
 
 use crate::nets::{
     DELETION, EXECS, INSERTS, MEETING, PAST_THE_END, deep, dumps, has_dumps, holds, make,
@@ -12,7 +12,7 @@ use std::test::Fail;
 
 const FIVE: &[Event] = &[Event::Exec(0); 5];
 
-/// Makes the events, and gives the dump lines before each of them.
+/// Makes the events, and returns the dump lines before each of them.
 fn run_seen(
     rt: &impl Abort,
     alloc: Global,
@@ -27,7 +27,7 @@ fn run_seen(
     Ok(before)
 }
 
-/// Each step that is taken back leaves what was there before it.
+/// Each step that is taken back leaves the dump lines from before it.
 fn expect_before(
     rt: &impl Abort,
     alloc: Global,
@@ -42,7 +42,7 @@ fn expect_before(
     Ok(())
 }
 
-/// The way back, and there once more.
+/// The events are taken back and made again.
 fn back_and_there(
     rt: &impl Abort,
     alloc: Global,
@@ -56,7 +56,7 @@ fn back_and_there(
     has_dumps(rt, alloc, net, last)
 }
 
-/// The events lead there and back, and there once more.
+/// The events are made, taken back, and made again.
 pub fn there_and_back(
     rt: &impl Abort,
     alloc: Global,

@@ -1,4 +1,4 @@
--- Each view of bytes has a text and a status.
+-- About Laws (RunHasAText): each view of bytes has a text and a status.
 use Rattle.std.proofs.Common.{◌≡◌, inl, inr, ℕ, ◌+◌, List, [], ◌∷◌, ◌++◌, take, Bool, false, Option, Some, None, Ok, Err, refl}
 use Rattle.jc_rules.specs.declared.operation.Event.{Event}
 use Rattle.jc_rules.specs.Refused.{Cause}
@@ -15,7 +15,7 @@ use Rattle.jc_network.proofs.EnabledLemmas.{decided_in}
 use Rattle.jc_dump.specs.Texts.{dumps_text, given_text}
 use Rattle.jc_view.specs.Visible.{views_text}
 use Rattle.jc_session.proofs.TextFaultsLemmas.{fault_line, fault_told}
-use Rattle.jc_session.proofs.MovesDecidedLemmas.{after_more}
+use Rattle.jc_network.proofs.AfterLemmas.{after_one_more}
 use Rattle.jc_cli.specs.declared.order.View.{View}
 use Rattle.jc_cli.specs.declared.order.View.TheVariants.{Check, Print, Run, Document}
 use Rattle.jc_program.specs.Laws.{RunHasAText}
@@ -46,7 +46,7 @@ module _ (step_or_stuck : StepOrStuck) (led_or_stuck : LedOrStuck) where
   played s before network led (e ∷ es) =
       elim (decided_in network (λ x. (step_or_stuck s.scripts network.states (before, after_states (before_given s) before network led) x).0) e) [
         | inl (new, rows, step) ↦
-            let rest = played s (before ++ e ∷ []) new (after_more (before_given s) before network e new rows led step) es in
+            let rest = played s (before ++ e ∷ []) new (after_one_more (before_given s) before network e new rows led step) es in
             record {
               last = rest.last;
               made = (e, rows) ∷ rest.made;
@@ -116,7 +116,7 @@ module _ (step_or_stuck : StepOrStuck) (led_or_stuck : LedOrStuck) where
 refused_of : (bytes : List ℕ) (fault : ScenarioFault) → IsFault bytes fault → (out : List ℕ) × (status : ℕ) × IsRefused fault out status
 refused_of bytes fault is =
     let (text, line) = fault_line fault (fault_told bytes fault is) in
-    (text, 1, record { refusal = line.refusal; place = line.place; number = line.is_number; stands = line.is_place; written = line.written; ends = refl })
+    (text, 1, record { refusal = line.refusal; place = line.place; is = line.is_refusal; stands = line.is_place; written = line.written; ends = refl })
 
 pub run_has_a_text : ScenarioElseFault → StepOrStuck → LedOrStuck → RunHasAText
 run_has_a_text either step_or_stuck led_or_stuck view bytes =

@@ -1,4 +1,4 @@
--- What the contracts of a debugger's calls say is what the answers of requests say.
+-- Of `AnswerOf`: the contracts of a debugger's calls give the answers of requests.
 use Rattle.std.proofs.Common.{◌≡◌, ◌≢◌, ◌↔◌, ℕ, ◌+◌, ◌-◌, ◌<◌, ◌≤◌, List, [], ◌++◌, length, take, slice_get, get_or, unwrap_or, Option, None, Some, Result, Ok, Err, Contains, MatchOption, IsFalse, true, false, codes, decimal, inl, inr, ◌⊎◌, refl, ap, sym, subst, ◌∙◌, arith}
 use Rattle.std.specs.List.{All}
 use Rattle.std.proofs.lemmas.Bool.{cases_lt}
@@ -17,9 +17,10 @@ use Rattle.jc_network.specs.declared.fault.Stuck.{Stuck}
 use Rattle.jc_network.specs.NetworkHistory.{Course}
 use Rattle.jc_network.specs.Enabled.{AreEnabled, candidates}
 use Rattle.jc_network.specs.Steps.{stuck_for}
-use Rattle.jc_dump.specs.Dump.{dump_line}
-use Rattle.jc_dump.specs.Lines.{stuck_text, IsNamedStuck}
-use Rattle.jc_dump.specs.Texts.{block_text, dumps_text}
+use Rattle.jc_network.proofs.AfterLemmas.{after_version}
+use Rattle.jc_meaning.specs.declared.comparison.Comparison.{Comparison}
+use Rattle.jc_meaning.specs.declared.comparison.Comparison.TheVariants.{SameOps, DifferentOps}
+use Rattle.jc_meaning.specs.Comparison.{IsFound, IsComparison}
 use Rattle.jc_debug.specs.declared.breaks.Break.{Break}
 use Rattle.jc_debug.specs.declared.breaks.Break.TheVariants as Kind
 use Rattle.jc_debug.specs.declared.breaks.BreakFault.{BreakFault}
@@ -38,16 +39,15 @@ use Rattle.jc_debug.specs.Moves.{MoveStopsAt, IsToldAt, IsStepFault, IsGotoFault
 use Rattle.jc_debug.specs.DebuggerState.{Session, IsNetworkAt, RunEndsAt, RunOutcome, sticks, moved_to, acted}
 use Rattle.jc_debug.specs.Invariant.{Seen, start_of, session_of, IsOnTrail, IsMoved}
 use Rattle.jc_debug.proofs.RepliesLemmas.{moved_session, arrived, stopped}
+use Rattle.jc_dump.specs.Dump.{dump_line}
+use Rattle.jc_dump.specs.Lines.{stuck_text, IsNamedStuck}
+use Rattle.jc_dump.specs.Texts.{block_text, dumps_text}
 use Rattle.jc_session.specs.Answers as A
 use Rattle.jc_session.specs.Lines.{Line}
-use Rattle.jc_session.specs.Answers.{Origin, Replies, Sets, ActsOn, IsNamed, IsEventText, Knows, LineAnswer}
+use Rattle.jc_session.specs.Answers.{Origin, Replies, Sets, IsNamed, IsEventText, Knows, LineAnswer}
 use Rattle.jc_session.specs.AnswerOf.{origin_in, AllNamed, GivesAnswer, GivesLine, set_text}
 use Rattle.jc_session.specs.Requests as Q
 use Rattle.jc_session.specs.Requests.{Request, nothing, asks, bad, meaning}
-use Rattle.jc_session.proofs.MovesDecidedLemmas.{after_version}
-use Rattle.jc_meaning.specs.declared.comparison.Comparison.{Comparison}
-use Rattle.jc_meaning.specs.declared.comparison.Comparison.TheVariants.{SameOps, DifferentOps}
-use Rattle.jc_meaning.specs.Comparison.{IsFound, IsComparison}
 use Rattle.jc_session.specs.Texts.{at_line, refusal_line, set_line, cleared_line, where_line, compared_line, ran_text, event_lines, numbered_lines, or_none_text}
 
 -- ---- ends of calls
@@ -91,7 +91,7 @@ same_text O S T q due text e r = subst (λ (t : List ℕ). Replies O S q T t) (s
 at_end_of : (d e : Seen) (n m : ℕ) (text : List ℕ) → IsMoved d e n → m ≡ length e.traces → text ≡ at_line m → text ≡ at_line n
 at_end_of d e n m text moves is h = h ∙ ap at_line (is ∙ moves.position)
 
--- what is told of the event that stopped a move
+-- what is known of the event that stopped a move
 abbrev pub TellsStuck : ℕ → Course → Stuck → List ℕ → Type 0
 TellsStuck m net s text = (why : Cause) (event : Event) → s ≡ stuck_for why event → text ≡ at_line m ++ stuck_text net.names why event
 
@@ -101,7 +101,7 @@ stuck_at d e n m net s why event text moves at same is told =
     let names : net.names ≡ d.net.names = ap (λ (c : Course). c.names) same ∙ moves.names in
     told why event is ∙ (λ i. at_line (number i) ++ stuck_text (names i) why event)
 
--- a move that stopped before a stuck event, as is told
+-- a move that stopped before a stuck event
 abbrev pub Halted : Seen → Seen → ℕ → Stuck → Type 0
 Halted d e to s = (n : ℕ) × MoveStopsAt d e to n × IsToldAt (start_of d) d.schedule n s
 

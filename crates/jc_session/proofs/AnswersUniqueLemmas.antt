@@ -1,4 +1,4 @@
--- What a name, the rest of an `act` line, a fault and bytes are taken for is one thing.
+-- Of `Answers` and `Lines`: a name, the rest of an `act` line, a fault and bytes are read in one way, for `LawsLemmas`.
 use Rattle.std.proofs.Common.{◌≡◌, ℕ, ◌<◌, nat_le, ◌&&◌, List, [], ◌∷◌, ◌++◌, length, map, take, if◌then◌else◌, inl, inr, refl, ap, sym, subst, ◌∙◌, arith, append_assoc, append-nil}
 use Rattle.std.specs.List.{AllByRecursion}
 use Rattle.std.proofs.lemmas.Bool.{cases_lt}
@@ -12,9 +12,7 @@ use Rattle.jc_rules.specs.declared.version.Version.{Version}
 use Rattle.jc_rules.specs.declared.version.Version.TheVariants.{One}
 use Rattle.jc_rules.specs.Entries.{IsRising}
 use Rattle.jc_rules.specs.Order.{name_cmp}
-use Rattle.jc_rules.specs.Refusals.{refusal_number}
 use Rattle.jc_rules.specs.Syntax.{Cmd}
-use Rattle.jc_rules.proofs.RefusalsLemmas.{numbers_differ}
 use Rattle.jc_syntax.specs.declared.tree.Named.{Named}
 use Rattle.jc_syntax.specs.declared.tree.NamedEvent.{NamedEvent}
 use Rattle.jc_parser.specs.declared.fault.ScenarioFault.{ScenarioFault}
@@ -96,8 +94,7 @@ none_strange names named event place rising r h =
 pub one_fault_line : (fault other : ScenarioFault) (text more : List ℕ) → fault ≡ other → IsFaultLine fault text → IsFaultLine other more → text ≡ more
 one_fault_line fault other text more same a b =
     let k = subst (λ (f : ScenarioFault). IsFaultLine f text) same a in
-    let number : refusal_number k.refusal ≡ refusal_number b.refusal = same_Some (refusal_number k.refusal) (refusal_number b.refusal) (sym k.is_number ∙ b.is_number) in
-    let refusal : k.refusal ≡ b.refusal = numbers_differ k.refusal b.refusal number in
+    let refusal : k.refusal ≡ b.refusal = same_Some k.refusal b.refusal (sym k.is_refusal ∙ b.is_refusal) in
     let place : k.place ≡ b.place = same_Some k.place b.place (sym k.is_place ∙ b.is_place) in
     k.written ∙ (λ i. refused_text (refusal i) (place i)) ∙ sym b.written
 
@@ -147,7 +144,7 @@ first_line (c ∷ x) (d ∷ y) r s a b e =
     let rest = first_line x y r s a.1 b.1 more in
     ((λ i. one i ∷ rest.0 i), rest.1)
 
--- a whole line, and what stands behind it
+-- a whole line, and what follows it
 behind : (x rest last : List ℕ) → ((x ++ 10 ∷ []) ++ rest) ++ last ≡ x ++ 10 ∷ (rest ++ last)
 behind x rest last = append_assoc (x ++ 10 ∷ []) rest last ∙ append_assoc x (10 ∷ []) (rest ++ last)
 

@@ -1,4 +1,4 @@
--- Questions that have one of two answers: names, rules, and the least number of which something holds.
+-- Of `Answers`: decisions about names, rules and operations, and the least number of a kind, for `SomeReplyLemmas`.
 use Rattle.std.proofs.Common.{◌≡◌, ◌≢◌, ◌⊎◌, inl, inr, ℕ, zero, suc, ◌<◌, List, [], ◌∷◌, length, get_or, unwrap_or, slice_get, Option, Some, None, Bool, true, false, Contains, refl, ap, sym, subst, ◌∙◌, arith}
 use Rattle.std.specs.Str.{bytes_eq}
 use Rattle.std.proofs.lemmas.Bool.{cases_Bool, cases_lt}
@@ -50,7 +50,7 @@ least P decided (suc n) =
           ]
     ]
 
--- an element of a list stands there, or not
+-- a list has the element at this place, or not
 pub stands : {X : Type 0} (same : (x y : X) → Decided (x ≡ y)) (xs : List X) (y : X) (j : ℕ) → Decided (slice_get xs j ≡ Some y)
 stands {X} same xs y j = by_place (slice_get xs j) refl
   where
@@ -88,7 +88,7 @@ same_rule r s =
       | inr other ↦ inr (λ same. other (ap rule_name same))
     ]
 
--- a list in which each rule stands at its place
+-- a list that has each rule at its place
 every_rule : (rules : List Rule) × ((r d : Rule) → get_or rules (rule_place r) d ≡ r)
 every_rule = (
   R.Exec ∷ R.Let ∷ R.Var ∷ R.Doc ∷ R.Get ∷ R.Idx1 ∷ R.Idx2 ∷ R.Idx3 ∷ R.Idx4 ∷ R.Idx5
@@ -215,7 +215,7 @@ by_three names x q s t are known =
           ]
     ]
 
--- an event by names is one by numbers, or the first name that no replica has stands somewhere
+-- an event by names is one by numbers, or it has a first name that no replica has
 pub resolved_or_strange : (names : List (List ℕ)) (x : NamedEvent) → Resolved names x
 resolved_or_strange names (N.Exec q) = by_one names (N.Exec q) q refl (λ (p, inside, is). (E.Exec p, record { known = inside; called = ap executes is }))
 resolved_or_strange names (N.Send q) = by_one names (N.Send q) q refl (λ (p, inside, is). (E.Send p, record { known = inside; called = ap sends is }))

@@ -1,4 +1,4 @@
--- Events whose replicas have names.
+-- Of `AnswerOf`: the events of a debugger's schedule name its replicas.
 use Rattle.std.proofs.Common.{◌≡◌, ℕ, ◌<◌, List, [], ◌∷◌, length, take, Some, Contains, slice_get, sym, subst, arith}
 use Rattle.std.specs.List.{All}
 use Rattle.std.proofs.lemmas.Option.{slice_get_within}

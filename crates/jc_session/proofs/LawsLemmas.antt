@@ -1,4 +1,4 @@
--- A session has one text.
+-- Of `Laws`: a session has one text at most, and one end.
 use Rattle.std.proofs.Common.{◌≡◌, ◌≢◌, ℕ, ◌+◌, List, [], ◌∷◌, ◌++◌, slice_get, Option, None, Some, ◌⊎◌, inl, inr, refl, ap, sym, subst, ◌∙◌, arith, append-nil}
 use Rattle.std.proofs.lemmas.Option.{same_Some, slice_get_within, get_or_from_slice_get}
 use Rattle.jc_rules.specs.declared.operation.Event.{Event}
@@ -280,7 +280,7 @@ one_ending laws O A bytes t u end other rising a b =
     let s = rest_of b.lines b.due other b.due_end b.ends in
     one_talk laws O A a.last b.last a.lines b.lines r.0 s.0 b.due_end end other t u rising (sym r.1 ∙ due.0 ∙ s.1) (subst (λ (x : End). Rest x r.0 end) due.1 r.2) s.2 a.answers b.answers
 
--- what is said of the start of a scenario
+-- what holds from the start of a scenario
 pub record StartLaws : Type 0 where
   pub one_start : OneStart
   pub one_given_stuck : OneGivenStuck

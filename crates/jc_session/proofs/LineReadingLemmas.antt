@@ -1,17 +1,13 @@
--- A line that is being read.
+-- Of `LineReading`: a line that is being read, byte by byte.
 use Rattle.std.proofs.Common.{◌≡◌, ◌≢◌, ℕ, ◌+◌, ◌<◌, ◌≤◌, List, [], ◌∷◌, ◌++◌, length, take, Option, None, Some, Bool, true, false, nat_lt, refl, ap, sym, subst, ◌∙◌, arith, length-append, append-nil, Result, Ok, Err, OnErr}
-use Rattle.std.specs.List.{AllByRecursion}
 use Rattle.std.proofs.lemmas.Bool.Decides.{nat_tests}
 use Rattle.std.specs.Io.KnownBytes.{Consumes, IsAtEnd, prepend_known}
 use Rattle.std.proofs.KnownBytes.{Consumes-nil, Consumes-trans}
+use Rattle.core.proofs.slice.Lists.{all_by_recursion_push}
 use Rattle.jc_io.specs.Streams.{StaysIfKnown}
 use Rattle.jc_session.specs.Lines.{Lacks}
 use Rattle.jc_session.specs.LineReading.{ReadStopsAt, LineRead}
 use Rattle.jc_session.proofs.AheadLemmas.{kept_more}
-
-pub all_more : {X : Type 0} (P : X → Type 0) (xs : List X) (x : X) → AllByRecursion P xs → P x → AllByRecursion P (xs ++ x ∷ [])
-all_more P [] x h p = (p, tt)
-all_more P (y ∷ ys) x h p = (h.0, all_more P ys x h.1 p)
 
 pub reads_none : (old : Option (List ℕ)) (bytes : ℕ) → bytes ≤ 67108864 → LineRead old old [] false bytes bytes
 reads_none old bytes h = record { raw = []; no_lf = tt; gone = Consumes-nil old; kept_is = refl; some_is = refl; bytes_are = omega arith; within = h }
@@ -23,7 +19,7 @@ pub reads_more : (old now next : Option (List ℕ)) (kept new : List ℕ) (some 
     → LineRead old next new true before (bytes + 1)
 reads_more old now next kept new some before bytes b r h ne e lt = record {
   raw = r.raw ++ b ∷ [];
-  no_lf = all_more (λ x. x ≢ 10) r.raw b r.no_lf ne;
+  no_lf = all_by_recursion_push (λ x. x ≢ 10) r.raw b r.no_lf ne;
   gone = Consumes-trans old now next r.raw (b ∷ []) r.gone h;
   kept_is = kept_more 4097 r.raw b kept new r.kept_is e;
   some_is = longer r.raw b;

@@ -1,4 +1,4 @@
--- The lines of bytes.
+-- Of `Lines` and `SessionText`: each list of bytes is lines, and the lines up to the limits.
 use Rattle.std.proofs.Common.{◌≡◌, ◌≢◌, ℕ, ◌+◌, ◌-◌, ◌<◌, ◌≤◌, nat_le, nat_eq, List, [], ◌∷◌, ◌++◌, length, take, map, Bool, true, false, refl, ap, sym, subst, ◌∙◌, arith, length-append, append_assoc}
 use Rattle.std.specs.List.{AllByRecursion}
 use Rattle.std.proofs.lemmas.Bool.Decides.{nat_tests}
@@ -36,7 +36,7 @@ pub lines_of : (bytes : List ℕ) → (whole : List (List ℕ)) × (last : List 
 lines_of [] = ([], [], record { is = refl; no_lf = tt; last_no_lf = tt })
 lines_of (b ∷ bs) = let s = lines_of bs in onward b bs (nat_eq b 10) refl s.0 s.1 s.2
 
--- whole lines stand before
+-- whole lines come before
 pub lines_before : (xs : List (List ℕ)) (bytes : List ℕ) (whole : List (List ℕ)) (last : List ℕ) → AllByRecursion (Lacks 10) xs → AreLines bytes whole last → AreLines (with_line_ends xs ++ bytes) (xs ++ whole) last
 lines_before xs bytes whole last n h = record {
   is = ap (λ l. with_line_ends xs ++ l) h.is ∙ sym (append_assoc (with_line_ends xs) (with_line_ends whole) last) ∙ ap (λ l. l ++ last) (sym (ended_append xs whole));
@@ -63,7 +63,7 @@ due_all m k bytes whole last h short few =
       end_is = rw (t, u) refl;
     }
 
--- what was read of them is their front
+-- what was read of them is a prefix
 pub due_front : (m k : ℕ) (bytes rest : List ℕ) (whole : List (List ℕ)) → bytes ≡ with_line_ends whole ++ rest → AllByRecursion (Lacks 10) whole → length (with_line_ends whole) ≤ m → length whole ≤ k
     → (tail : List Line) × (end : End) × AreWithin m k bytes (map whole_line whole ++ tail) end
 due_front m k bytes rest whole e n short few =

@@ -1,6 +1,5 @@
--- Where each network that a schedule leads to has a step of the next event, or that event is stuck, there is a move to
--- each later position, and a run.
-use Rattle.std.proofs.Common.{◌≡◌, ◌⊎◌, inl, inr, ℕ, zero, suc, ◌+◌, ◌-◌, ◌<◌, ◌≤◌, List, [], ◌∷◌, ◌++◌, length, take, slice_get, slice_set, Option, Some, None, refl, ap, sym, subst, ◌∙◌, arith, rules, length-append, length-take-le}
+-- Of `Answers`: a move to each later position, and a run, where each event is made or stuck, for `SomeReplyLemmas`.
+use Rattle.std.proofs.Common.{◌≡◌, ◌⊎◌, inl, inr, ℕ, zero, suc, ◌+◌, ◌-◌, ◌<◌, ◌≤◌, List, [], ◌∷◌, ◌++◌, length, take, slice_get, Option, Some, None, refl, ap, sym, subst, ◌∙◌, arith, length-append, length-take-le}
 use Rattle.std.proofs.lemmas.Bool.{cases_lt, cases_eq}
 use Rattle.std.proofs.lemmas.Option.{same_Some, slice_get_within}
 use Rattle.jc_rules.specs.declared.operation.Event.{Event}
@@ -8,45 +7,24 @@ use Rattle.jc_rules.specs.declared.rule.Rule.{Rule}
 use Rattle.jc_rules.specs.Refused.{Cause}
 use Rattle.jc_rules.specs.Step.{Network, StepIn, AfterIn, replica_of}
 use Rattle.jc_network.specs.Enabled.{HasStep, IsAnyStuck}
+use Rattle.jc_network.proofs.AfterLemmas.{after_one_more, states_set, take_more}
+use Rattle.jc_network.proofs.MembersLemmas.{some_at}
 use Rattle.jc_debug.specs.declared.breaks.Break.{Break}
 use Rattle.jc_debug.specs.declared.breaks.Break.TheVariants as Kind
 use Rattle.jc_debug.specs.DebuggerState.{Session, IsNetworkAt, MakesEvent, IsStuckAt, StuckEvent, GoesTo, arrives, stops, HasRule, Names, NamesAt, IsFree, IsLeast, RunOutcome, breaks, sticks, ends, Runs}
 use Rattle.jc_debug.proofs.BreaksLemmas.{one_makes, no_at_none}
+use Rattle.jc_debug.proofs.LawsLemmas.{cut}
 use Rattle.jc_session.proofs.DecisionsLemmas.{Decided, least, has_rule}
 use Rattle.jc_session.proofs.LinesDueLemmas.{take_whole}
 
--- ---- elements by number
-
-pub element : {X : Type 0} (xs : List X) (k : ℕ) → k < length xs → (x : X) × (slice_get xs k ≡ Some x)
-element [] k lt = absurd (omega (arith, lt))
-element (x ∷ xs) zero lt = (x, refl)
-element (x ∷ xs) (suc k) lt = element xs k (omega (arith, lt))
-
-take_more : {X : Type 0} (xs : List X) (k : ℕ) (x : X) → slice_get xs k ≡ Some x → take (suc k) xs ≡ take k xs ++ x ∷ []
-take_more [] k x e = absurd cc
-take_more (y ∷ xs) zero x e = let h : y ≡ x = cc in ap (λ z. z ∷ []) h
-take_more (y ∷ xs) (suc k) x e = ap (λ l. y ∷ l) (take_more xs k x e)
-
-set_length : {X : Type 0} (xs : List X) (j : ℕ) (x : X) → length (slice_set xs j x) ≡ length xs
-set_length xs j x = search rules
-
 -- ---- networks
-
-pub after_more : (S : Network) (es : List Event) (M : Network) (e : Event) (N : Network) (rows : List (Rule × ℕ)) → AfterIn S es M → StepIn M e N rows → AfterIn S (es ++ e ∷ []) N
-after_more S [] M e N rows h s = (N, rows, subst (λ (X : Network). StepIn X e N rows) (sym h) s, refl)
-after_more S (x ∷ es) M e N rows h s = (h.0, h.1, h.2, after_more h.0 es M e N rows h.3 s)
 
 -- events leave as many replicas as there were
 pub same_count : (S : Network) (es : List Event) (N : Network) → AfterIn S es N → length N.states ≡ length S.states
 same_count S [] N h = ap (λ (M : Network). length M.states) (sym h)
 same_count S (e ∷ es) N h =
     let step = h.2.step in
-    same_count h.0 es N h.3 ∙ (ap length step.is_new ∙ set_length S.states (replica_of e) step.after)
-
--- and its version as it was
-pub after_version : (S : Network) (es : List Event) (N : Network) → AfterIn S es N → N.version ≡ S.version
-after_version S [] N h = ap (λ (M : Network). M.version) (sym h)
-after_version S (e ∷ es) N h = after_version h.0 es N h.3 ∙ h.2.version
+    same_count h.0 es N h.3 ∙ (ap length step.is_new ∙ states_set S.states (replica_of e) step.after)
 
 -- the network at an earlier position
 before : (S : Network) (es : List Event) (m n : ℕ) (N : Network) → m ≤ n → AfterIn S (take n es) N → (M : Network) × AfterIn S (take m es) M
@@ -60,27 +38,16 @@ at_earlier S es m n N le a =
     let (M, after) = before S es m n N le a.after in
     (M, record { within = (let w = a.within in omega (arith, le, w)); after = after })
 
--- an event before a position that was come to was made
-made : (S : Network) (es : List Event) (n to : ℕ) (N : Network) → n < to → to ≤ length es → AfterIn S (take to es) N → (event : Event) × (rows : List (Rule × ℕ)) × MakesEvent S es n event rows
-made S [] n to N lt le h = absurd (omega (arith, lt, le))
-made S (e ∷ es) n zero N lt le h = absurd (omega (arith, lt))
-made S (e ∷ es) zero (suc to) N lt le h =
-    (e, h.1, record { before = S; after = h.0; is_at = record { within = omega arith; after = refl }; is = refl; step = h.2 })
-made S (e ∷ es) (suc n) (suc to) N lt le h =
-    let (event, rows, m) = made h.0 es n to N (omega (arith, lt)) (omega (arith, le)) h.3 in
-    let w = m.is_at.within in
-    (event, rows, record { before = m.before; after = m.after; is_at = record { within = omega (arith, w); after = (h.0, h.1, h.2, m.is_at.after) }; is = m.is; step = m.step })
-
 pub made_before : (S : Network) (es : List Event) (n to : ℕ) (N : Network) → n < to → IsNetworkAt S es to N → (event : Event) × (rows : List (Rule × ℕ)) × MakesEvent S es n event rows
-made_before S es n to N lt a = made S es n to N lt a.within a.after
+made_before S es n to N lt a = cut S es n to N lt a.within a.after
 
--- one event is made at a position in place of what comes behind it
+-- one event is made at a position in place of those after it
 pub acted_at : (S : Network) (es : List Event) (n : ℕ) (N : Network) (e : Event) (M : Network) (rows : List (Rule × ℕ)) → IsNetworkAt S es n N → StepIn N e M rows → IsNetworkAt S (take n es ++ e ∷ []) (n + 1) M
 acted_at S es n N e M rows a step =
     let size : length (take n es ++ e ∷ []) ≡ n + 1 = length-append (take n es) (e ∷ []) ∙ ap (λ (k : ℕ). k + 1) (length-take-le n es a.within) in
     record {
       within = omega (arith, size);
-      after = subst (λ (l : List Event). AfterIn S l M) (sym (take_whole (n + 1) (take n es ++ e ∷ []) (omega (arith, size)))) (after_more S (take n es) N e M rows a.after step);
+      after = subst (λ (l : List Event). AfterIn S l M) (sym (take_whole (n + 1) (take n es ++ e ∷ []) (omega (arith, size)))) (after_one_more S (take n es) N e M rows a.after step);
     }
 
 -- ---- moves
@@ -90,12 +57,12 @@ abbrev pub Decides : Network → Type 0
 Decides S = (es : List Event) (N : Network) → AfterIn S es N → (event : Event) → HasStep N event ⊎ IsAnyStuck N event
 
 module _ (S : Network) (decides : Decides S) where
-  -- the event at a position that was come to is made or stuck
+  -- the event at a position that was reached is made or stuck
   next : (es : List Event) (n : ℕ) (N : Network) → n < length es → IsNetworkAt S es n N → ((M : Network) × IsNetworkAt S es (suc n) M) ⊎ ((event : Event) × (why : Cause) × IsStuckAt S es n event why)
   next es n N lt a =
-      let (event, is) = element es n lt in
+      let (event, is) = some_at es n lt in
       elim (decides (take n es) N a.after event) [
-        | inl (M, rows, step) ↦ inl (M, record { within = omega (arith, lt); after = subst (λ (l : List Event). AfterIn S l M) (sym (take_more es n event is)) (after_more S (take n es) N event M rows a.after step) })
+        | inl (M, rows, step) ↦ inl (M, record { within = omega (arith, lt); after = subst (λ (l : List Event). AfterIn S l M) (sym (take_more es n event is)) (after_one_more S (take n es) N event M rows a.after step) })
         | inr (why, stuck) ↦ inr (event, why, record { before = N; is_at = a; is = is; stuck = stuck })
       ]
 
@@ -110,7 +77,7 @@ module _ (S : Network) (decides : Decides S) where
         | inr (event, why, stuck) ↦ (m, Some (event, why), stops le (omega (arith, e)) stuck)
       ]
 
--- where a move came to
+-- the position that a move reached
 pub come_to : (S : Network) (es : List Event) (from to p : ℕ) (end : Option StuckEvent) → GoesTo S es from to p end → (N : Network) × IsNetworkAt S es p N
 come_to S es from to p end (arrives {network} a) = (network, a)
 come_to S es from to p end (stops le lt stuck) = (stuck.before, stuck.is_at)
@@ -142,7 +109,7 @@ named S es m N a (Kind.Rule rule) =
     ]
 named S es m N a (Kind.Replica p) =
     let w = a.within in
-    let (event, is) = element es m (omega (arith, w)) in
+    let (event, is) = some_at es m (omega (arith, w)) in
     elim (cases_eq (replica_of event) p) [
       | inl same ↦ inl (m, event, omega arith, is, same)
       | inr other ↦ inr (no_other_replica S es m event p is other)

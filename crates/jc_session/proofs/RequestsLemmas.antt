@@ -1,4 +1,4 @@
--- The words of a line, from the first one on.
+-- Of `Requests`: the words of a line, from the first one on, and what the line means.
 use Rattle.std.proofs.Common.{◌≡◌, ◌≢◌, ℕ, zero, suc, ◌+◌, ◌<◌, ◌≤◌, nat_le, nat_lt, ◌==◌, List, [], ◌∷◌, length, take, drop, filter, get_or, Bool, true, false, not, ◌&&◌, codes, None, Some, refl, ap, sym, subst, ◌∙◌, arith}
 use Rattle.std.specs.List.{slice_split, prefix_len, position_or_len, list_all, onto_first}
 use Rattle.std.specs.Str.{IsUtf8, IsAscii, bytes_eq, all_ascii_digits}
@@ -20,7 +20,7 @@ is_some w = not (length w == 0)
 one_more : (n : ℕ) → 1 + n ≡ suc n
 one_more n = omega arith
 
--- The first part stands before the first blank, and the others have the words behind it.
+-- The first part is before the first blank, and the others have the words after it.
 record Parted (xs : List ℕ) : Type 0 where
   more : List (List ℕ)
   is : slice_split is_blank_char xs ≡ take (position_or_len is_blank_char xs) xs ∷ more
@@ -49,7 +49,7 @@ parted (b ∷ bs) = by_test (is_blank_char b) refl (parted bs)
           words_are = p.words_are ∙ sym (ap (λ m. words (drop m (b ∷ bs))) next);
         }
 
--- blanks at the front change nothing
+-- blanks before the text change nothing
 pub words_past : (xs : List ℕ) → words (past is_blank_char xs) ≡ words xs
 words_past [] = refl
 words_past (b ∷ bs) = by_test (is_blank_char b) refl (words_past bs)
@@ -60,7 +60,7 @@ words_past (b ∷ bs) = by_test (is_blank_char b) refl (words_past bs)
         ap (λ n. words (drop n (b ∷ bs))) next ∙ h ∙ sym (ap (filter is_some) (slice_split-cons_yes is_blank_char b bs e))
     by_test false e h = let none : prefix_len is_blank_char (b ∷ bs) ≡ 0 = rw e refl in ap (λ n. words (drop n (b ∷ bs))) none
 
--- behind them is nothing, or a byte that is no blank
+-- after them is nothing, or a byte that is no blank
 pub data IsPast (ys : List ℕ) : Type 0 where
   nothing_left : ys ≡ [] → IsPast ys
   some_left : (b : ℕ) (bs : List ℕ) → ys ≡ b ∷ bs → is_blank_char b ≡ false → IsPast ys

@@ -1,4 +1,4 @@
--- Sessions on the scenario that bytes are, from its start.
+-- Of `Sent`: sessions on the scenario that bytes are, from its start.
 use Rattle.std.proofs.Common.{◌≡◌, ◌≢◌, ℕ, ◌+◌, List, [], length, Option, None, Some, Result, Ok, Err, IsErrOf, IsErrAnd, ◌⊎◌, inl, inr, refl, ap, sym, subst, ◌∙◌}
 use Rattle.std.proofs.KnownBytes.{Consumes-nil}
 use Rattle.jc_rules.specs.declared.operation.Event.{Event}
@@ -49,7 +49,7 @@ given_named s names at t formed same g = record {
   named = subst (λ (ns : List (List ℕ)). AreNamed g.event (length ns)) (sym same) (of_all (λ e. AreNamed e (length s.names)) s.given g.stuck.before g.event formed.given_known g.stuck.is);
 }
 
--- what is said of its lines, for each event and cause that are told so
+-- what holds of its lines, for the event and the cause that the fault has
 abbrev pub OfGiven : List (List ℕ) → ℕ → Stuck → (List ℕ → Type 0) → Type 0
 OfGiven names at t Says = (why : Cause) (event : Event) → t ≡ stuck_for why event → Says (given_text names at why event)
 
@@ -71,7 +71,7 @@ given_written s names at t o p g h = (h g.why g.event g.is).1
 pub given_failed : (s : Scenario) (names : List (List ℕ)) (at : ℕ) (t : Stuck) (o p : Stream) → IsGivenFault (before_given s) s.given at t → OfGiven names at t (λ text. Interrupted text o p) → p.failures ≡ o.failures + 1
 given_failed s names at t o p g h = one_failure o p (given_text names at g.why g.event) (h g.why g.event g.is)
 
--- ---- a fault that is handed up
+-- ---- a fault that is passed on
 
 pub handed : {T U E : Type 0} (f x : E) (r : Result T E) → IsErrAnd r (λ e. e ≡ f) → IsErrOf r x → IsErrOf {T = U} (Err f) x
 handed f x (Ok v) h k = absurd h

@@ -1,14 +1,16 @@
--- What went out so far, and at each end of a session.
+-- Of `Progress`, `SessionText` and `Sent`: what was sent so far, and at each end of a session.
 use Rattle.std.proofs.Common.{◌≡◌, ◌≢◌, ℕ, ◌+◌, ◌<◌, ◌≤◌, nat_le, List, [], ◌∷◌, ◌++◌, length, take, map, Bool, true, false, Option, None, Some, IfSome, MatchOption, IsErrOf, Ok, Err, inl, inr, ◌⊎◌, refl, ap, sym, subst, ◌∙◌, arith, length-append, append_assoc, append-nil, Bor}
 use Rattle.std.proofs.lemmas.Bool.Decides.{nat_tests}
 use Rattle.std.proofs.lemmas.List.{map-append, length-map, length-take-le}
 use Rattle.std.specs.Io.KnownBytes.{Consumes, IsAtEnd, prepend_known}
 use Rattle.std.proofs.KnownBytes.{Consumes-trans}
-use Rattle.jc_session.specs.Lines.{Line, Lacks, with_line_ends, is_within_limit, without_cr, whole_line, last_line}
 use Rattle.std.specs.List.{All}
+use Rattle.core.proofs.slice.Lists.{all_by_recursion_push}
+use Rattle.jc_io.specs.declared.io.Sink.{Ghosts as SinkGhosts}
 use Rattle.jc_rules.specs.declared.operation.Event.{Event}
 use Rattle.jc_printer.specs.Canon.{AreNamed}
 use Rattle.jc_debug.specs.DebuggerState.{Session}
+use Rattle.jc_session.specs.Lines.{Line, Lacks, with_line_ends, is_within_limit, without_cr, whole_line, last_line}
 use Rattle.jc_session.specs.Requests.{meaning, asks, quit}
 use Rattle.jc_session.specs.Views.{line_of_bytes}
 use Rattle.jc_session.specs.Answers.{Origin, LineAnswer}
@@ -17,12 +19,10 @@ use Rattle.jc_session.specs.LineReading.{ReadStopsAt}
 use Rattle.jc_session.specs.Sent.{OfLines, OfLinesLeft, LosesFront, GoesOn, BreaksOff, AnsweredAll, Answered, WentToRead, WentWhole, WentFront, IsNextSent, ends_in_lf, ends_at_end, IsPast}
 use Rattle.jc_session.specs.Progress.{SoFar}
 use Rattle.jc_session.specs.Written.{Stream, sink, Wrote}
-use Rattle.jc_io.specs.declared.io.Sink.{Ghosts as SinkGhosts}
 use Rattle.jc_session.specs.RequestKinds.{IsOfAnswer}
 use Rattle.jc_session.specs.declared.sessions.SessionFault.{SessionFault}
 use Rattle.jc_session.specs.declared.sessions.SessionFault.TheVariants.{ReadFailed, WriteFailed, TooManyLines, Memory}
 use Rattle.jc_session.proofs.EventNamesLemmas.{answer_named}
-use Rattle.jc_session.proofs.LineReadingLemmas.{all_more}
 use Rattle.jc_session.proofs.WrittenLemmas.{wrote_both}
 use Rattle.jc_session.proofs.LinesDueLemmas.{take_whole, ended_append, due_all, due_front, due_bytes, due_lines}
 
@@ -33,7 +33,7 @@ answers_more O A B C [] x t u h k = (C, u, [], subst (λ (n : Session). LineAnsw
 answers_more O A B C (y ∷ xs) x t u h k =
     (h.0, h.1, h.2 ++ u, h.3, answers_more O h.0 B C xs x h.2 u h.4 k, ap (λ l. l ++ u) h.5 ∙ append_assoc h.1 h.2 u)
 
--- what is said of an answer from the same origin
+-- what holds of an answer from the same origin
 pub goes_on : (O P : Origin) (A B : Session) (line : Line) (o p : Stream) → P ≡ O → GoesOn P A line B o p → GoesOn O A line B o p
 goes_on O P A B line o p e h = subst (λ (X : Origin). GoesOn X A line B o p) e h
 
@@ -93,7 +93,7 @@ so_far_more O A B C first now next o p q n m i j raw line ei ej s l h e g =
     record {
       whole = s.whole ++ raw ∷ [];
       text = s.text ++ g.0;
-      no_lf = all_more (Lacks 10) s.whole raw s.no_lf l;
+      no_lf = all_by_recursion_push (Lacks 10) s.whole raw s.no_lf l;
       gone = subst (λ (x : List ℕ). Consumes first next x) (sym grown) (Consumes-trans first now next (with_line_ends s.whole) (raw ++ 10 ∷ []) s.gone h);
       bytes_are = omega (arith, b, size, ei);
       count_is = omega (arith, c, more, ej);
@@ -101,7 +101,7 @@ so_far_more O A B C first now next o p q n m i j raw line ei ej s l h e g =
       went = wrote_both o p q s.text g.0 s.went g.2;
     }
 
--- what was answered, of the bytes that were told
+-- what was answered, where the bytes are known
 pub answered : (O : Origin) (A B : Session) (bytes rest : List ℕ) (o p : Stream) (n m : ℕ) → n ≤ 67108864 → m ≤ 1000000 → (s : SoFar O A B (Some bytes) (Some rest) o p n m) → Answered O A bytes s.whole rest B s.text
 answered O A B bytes rest o p n m le few s =
     let b = s.bytes_are in
@@ -191,7 +191,7 @@ told_quit O A B (Some bytes) (Some rest) (Some more) o p q n m raw line le few s
     let b = s.bytes_are in
     let c = s.count_is in
     let count = length-append s.whole (raw ∷ []) in
-    let due = due_front 67108864 1000000 bytes more (s.whole ++ raw ∷ []) whole (all_more (Lacks 10) s.whole raw s.no_lf l) (omega (arith, size, b)) (omega (arith, count, c)) in
+    let due = due_front 67108864 1000000 bytes more (s.whole ++ raw ∷ []) whole (all_by_recursion_push (Lacks 10) s.whole raw s.no_lf l) (omega (arith, size, b)) (omega (arith, count, c)) in
     let parts : map whole_line (s.whole ++ raw ∷ []) ++ due.0 ≡ map whole_line s.whole ++ line ∷ due.0 =
     ap (λ x. x ++ due.0) (map-append whole_line s.whole (raw ∷ [])) ∙ append_assoc (map whole_line s.whole) (whole_line raw ∷ []) due.0 ∙ ap (λ x. map whole_line s.whole ++ x ∷ due.0) (sym e) in (
       s.text,
@@ -207,7 +207,7 @@ told_quit O A B (Some bytes) (Some rest) (Some more) o p q n m raw line le few s
       subst (λ (x : Stream). Wrote s.text o x) (sym k.1) s.went,
     )
 
--- ---- the line that comes next
+-- ---- the next line
 
 -- what was read up to a byte, and then what was read ahead
 next_byte : (b : ℕ) (rest raw ahead : List ℕ) (left : Option (List ℕ)) → Consumes (Some rest) (prepend_known ahead left) (raw ++ b ∷ []) → Consumes (Some rest) left (raw ++ b ∷ ahead)
@@ -358,7 +358,7 @@ told_limit O A B (Some bytes) (Some rest) (Some more) o p n m raw b le few s l h
     some : (xs rest : List ℕ) → rest ≡ xs ++ b ∷ more → rest ≢ []
     some xs rest f n = let size = length-append xs (b ∷ more) in let same : length rest ≡ length (xs ++ b ∷ more) = ap length f in let none : length rest ≡ 0 = ap length n in omega (arith, size, same, none)
 
--- ---- lines that aren't told
+-- ---- lines whose bytes aren't known
 
 -- Lines that were answered are so many, and what follows them may be anything.
 told : (O : Origin) (A B : Session) (first now : Option (List ℕ)) (o p : Stream) (n m : ℕ) (rest : List ℕ) (s : SoFar O A B first now o p n m) → SoFar O A B (Some (with_line_ends s.whole ++ rest)) (Some rest) o p n m
@@ -381,7 +381,7 @@ next_left : (rest : List ℕ) (line : Line) (left : Option (List ℕ)) → IsNex
 next_left rest line left (ends_in_lf raw ahead l few h) e = is_left rest (raw ++ 10 ∷ ahead) left h e
 next_left rest line left (ends_at_end l f h) e = is_left rest rest left h e
 
--- a line that comes next, of some bytes
+-- the next line, of some bytes
 some_next : (now left : Option (List ℕ)) (line : Line) → OfLinesLeft now left (λ rest now_left. IsNextSent rest line now_left) → (rest : List ℕ) × (r : List ℕ) × IsNextSent rest line (Some r)
 some_next None left line h = h
 some_next (Some rest) None line h = absurd (next_left rest line None h refl)
@@ -431,7 +431,7 @@ which : (n m : ℕ) (raw : List ℕ) → (n + length raw ≡ 67108864) ⊎ ((m �
 which n m raw (inl bytes) = inl bytes
 which n m raw (inr lines) = inr lines.0
 
--- a byte past a limit was read, and less than 4,096 bytes behind it
+-- a byte past a limit was read, and less than 4,096 bytes after it
 pub at_limit : (O : Origin) (A B : Session) (first now left : Option (List ℕ)) (o p : Stream) (n m : ℕ) (raw ahead : List ℕ) (b : ℕ) → n ≤ 67108864 → m ≤ 1000000 → SoFar O A B first now o p n m → Lacks 10 raw → length ahead < 4096 → Consumes now (prepend_known ahead left) (raw ++ b ∷ []) → (n + length raw ≡ 67108864) ⊎ ((m ≡ 1000000) × (raw ≡ []))
     → OfLinesLeft first left (λ l now_left. AnsweredAll O A l too_many o p × IsPast l now_left)
 at_limit O A B (Some bytes) now left o p n m raw ahead b le few s l some h e =

@@ -1,7 +1,7 @@
--- Each request but `quit` has an answer, in each state of a session that its scenario leads to.
+-- Of `Answers`: each request but `quit` has an answer, in each state that a session on a scenario reaches.
 use Rattle.std.proofs.Common.{◌≡◌, ◌⊎◌, inl, inr, ℕ, zero, suc, ◌+◌, ◌-◌, ◌<◌, ◌≤◌, List, [], ◌∷◌, ◌++◌, length, take, slice_get, Option, None, Some, Contains, codes, refl, ap, sym, subst, ◌∙◌, arith, length-append, length-take-le}
 use Rattle.std.proofs.lemmas.Bool.{cases_lt}
-use Rattle.std.proofs.lemmas.Option.{slice_get_within, get_or_from_slice_get}
+use Rattle.std.proofs.lemmas.Option.{slice_get_within}
 use Rattle.jc_rules.specs.declared.operation.Event.{Event}
 use Rattle.jc_rules.specs.declared.refusal.Refusal.TheVariants as F
 use Rattle.jc_rules.specs.State.{State}
@@ -15,13 +15,15 @@ use Rattle.jc_network.specs.Laws.{IsReached, StepOrStuck}
 use Rattle.jc_network.proofs.EnabledLemmas.{decided_in}
 use Rattle.jc_network.proofs.AfterLemmas.{after_more}
 use Rattle.jc_network.proofs.GivenHistoryLemmas.{start_each}
+use Rattle.jc_network.proofs.MembersLemmas.{some_at}
 use Rattle.jc_meaning.specs.Laws.{TreesConverge}
-use Rattle.jc_dump.specs.Dump.{dump_line}
-use Rattle.jc_dump.specs.Lines.{stuck_text}
-use Rattle.jc_dump.specs.Texts.{block_text, dumps_text, refused_text}
+use Rattle.jc_meaning.proofs.ComparisonLemmas.{in_list}
 use Rattle.jc_debug.specs.declared.breaks.Break.{Break}
 use Rattle.jc_debug.specs.declared.breaks.Break.TheVariants as Kind
 use Rattle.jc_debug.specs.DebuggerState.{Session, IsNetworkAt, GoesTo, arrives, StuckEvent, moved_to, acted, with_break}
+use Rattle.jc_dump.specs.Dump.{dump_line}
+use Rattle.jc_dump.specs.Lines.{stuck_text}
+use Rattle.jc_dump.specs.Texts.{block_text, dumps_text, refused_text}
 use Rattle.jc_session.specs.Answers as N
 use Rattle.jc_session.specs.Answers.{origin_of, IsNamed, IsMisspelled, IsEventText, Sets, Compares, Replies}
 use Rattle.jc_session.specs.Requests as Q
@@ -29,7 +31,7 @@ use Rattle.jc_session.specs.Requests.{Request, Word}
 use Rattle.jc_session.specs.Texts.{refusal_line, at_line, set_line, cleared_line, where_line, went_text, ran_text, numbered_lines, event_lines, or_none_text}
 use Rattle.jc_session.proofs.DecisionsLemmas.{Decided, least, same_ops, named_or_strange, known_or_none, resolved_or_strange}
 use Rattle.jc_session.proofs.TextFaultsLemmas.{fault_line, event_told}
-use Rattle.jc_session.proofs.MovesDecidedLemmas.{element, Decides, same_count, at_earlier, made_before, acted_at, move, come_to, run}
+use Rattle.jc_session.proofs.MovesDecidedLemmas.{Decides, same_count, at_earlier, made_before, acted_at, move, come_to, run}
 
 -- what the laws of other crates say of networks and of events' texts
 pub record ReplyLaws : Type 0 where
@@ -85,9 +87,6 @@ good_set : (start : Network) (A : Session) (b : Break) (B : Session) (text : Lis
 good_set start A b B text good (N.set {j} first) = record { short = good.short; network = good.network; is_at = good.is_at }
 good_set start A b B text good (N.none_free none) = good
 
-in_list : (N : List State) (p : ℕ) (C : State) → slice_get N p ≡ Some C → Contains N C
-in_list N p C is = (p, slice_get_within N p C is, get_or_from_slice_get N p C C is)
-
 -- an event at the position leaves the schedule within the limit
 acted_short : (A : Session) (event : Event) → A.position ≤ length A.schedule → A.position < 100000 → length (acted A event).schedule ≤ 100000
 acted_short A event within room =
@@ -113,7 +112,7 @@ module _ (laws : ReplyLaws) (s : Scenario) (start : Network) (begins : IsStart s
       let each = formed.each in
       let count : length good.network.states ≡ length start.states = same_count start (take A.position A.schedule) good.network good.is_at.after in
       let scripts : length start.states ≡ length s.scripts = start_each s start begins in
-      element good.network.states p (omega (arith, within, each, count, scripts))
+      some_at good.network.states p (omega (arith, within, each, count, scripts))
 
   -- ---- moves
 

@@ -1,4 +1,4 @@
--- Each scenario's bytes and each bytes of lines have a text.
+-- Of `Laws`: the bytes of a scenario and of lines have a text, whatever they are.
 use Rattle.std.proofs.Common.{◌≡◌, ◌⊎◌, inl, inr, ℕ, List, [], ◌∷◌, ◌++◌, length, take, map, nat_le, ◌&&◌, if◌then◌else◌, refl, ap, ◌∙◌, arith}
 use Rattle.jc_rules.specs.declared.refusal.Refusal.TheVariants as F
 use Rattle.jc_rules.specs.Step.{Network}

@@ -1,10 +1,9 @@
--- No text has want of memory for its fault, so the fault of each has a number, a place and a line.
+-- Of `Answers`: the fault of a text is never want of memory, so it has a line.
 use Rattle.std.proofs.Common.{◌≡◌, ◌≢◌, ℕ, ◌+◌, List, [], ◌∷◌, length, Bool, true, false, ◌==◌, nat_lt, if◌then◌else◌, Option, Some, None, Result, Ok, Err, ◌⊎◌, inl, inr, refl, sym, subst, ◌∙◌}
 use Rattle.std.specs.Prelude.{slice_index}
 use Rattle.std.specs.Str.Lossy.{utf8_valid_len}
 use Rattle.jc_rules.specs.declared.refusal.Refusal.{Refusal}
 use Rattle.jc_rules.specs.declared.refusal.Refusal.TheVariants as F
-use Rattle.jc_rules.specs.Refusals.{refusal_number as refusal_number}
 use Rattle.jc_rules.specs.declared.version.Version.{Version}
 use Rattle.jc_rules.specs.declared.version.Version.TheVariants.{One, Two}
 use Rattle.jc_syntax.specs.declared.fault.LexFault.{LexFault}
@@ -16,7 +15,7 @@ use Rattle.jc_syntax.specs.Lexemes.{kind_at, IsMalformed, IsLexFault, IsFaultOf}
 use Rattle.jc_parser.specs.declared.fault.ScenarioFault.{ScenarioFault}
 use Rattle.jc_parser.specs.declared.fault.ScenarioFault.TheVariants as S
 use Rattle.jc_parser.specs.Events.{IsCallExcess, IsEventFault}
-use Rattle.jc_parser.specs.Faults.{fault_number, fault_offset, from_lexer}
+use Rattle.jc_parser.specs.Faults.{fault_refusal, fault_offset, from_lexer}
 use Rattle.jc_parser.specs.ExpressionFaults.{IsExpressionExcess}
 use Rattle.jc_parser.specs.ReaderState.{Reading, reading_of, stuck_at}
 use Rattle.jc_parser.specs.Scripts.{IsNextExcess, IsScriptExcess}
@@ -32,8 +31,8 @@ use Rattle.jc_session.specs.Answers.{IsFaultLine}
 abbrev pub HasLine : ScenarioFault → Type 0
 HasLine fault = (text : List ℕ) × IsFaultLine fault text
 
-line_of : (fault : ScenarioFault) (refusal : Refusal) (place : ℕ) → fault_number fault ≡ Some (refusal_number refusal) → fault_offset fault ≡ Some place → HasLine fault
-line_of fault refusal place number stands = (refused_text refusal place, record { refusal = refusal; place = place; is_number = number; is_place = stands; written = refl })
+line_of : (fault : ScenarioFault) (refusal : Refusal) (place : ℕ) → fault_refusal fault ≡ Some refusal → fault_offset fault ≡ Some place → HasLine fault
+line_of fault refusal place is stands = (refused_text refusal place, record { refusal = refusal; place = place; is_refusal = is; is_place = stands; written = refl })
 
 -- each fault but want of memory has a line
 pub fault_line : (fault : ScenarioFault) → fault ≢ S.Memory → HasLine fault

@@ -1,4 +1,4 @@
--- Lines that are written one after another.
+-- Of `Texts`: lines that are written one after another, of events and of replicas.
 use Rattle.std.proofs.Common.{◌≡◌, ℕ, zero, suc, ◌+◌, ◌<◌, List, [], ◌∷◌, ◌++◌, length, take, get_or, slice_get, Some, sym, ap, ◌∙◌, arith, append_assoc, append-nil}
 use Rattle.std.proofs.lemmas.List.{take_more, length-take-le}
 use Rattle.std.proofs.lemmas.Option.{slice_get-get_or}
@@ -26,7 +26,7 @@ numbered_more names es i d lt =
 
 -- ---- dumps
 
-next_dumps : (names : List (List ℕ)) (n p : ℕ) (network : List State) (A : State) → slice_get network p ≡ Some A → dumps_from n names (take (suc p) network) ≡ dumps_from n names (take p network) ++ dump_line names (name_at names (n + p)) A
+pub next_dumps : (names : List (List ℕ)) (n p : ℕ) (network : List State) (A : State) → slice_get network p ≡ Some A → dumps_from n names (take (suc p) network) ≡ dumps_from n names (take p network) ++ dump_line names (name_at names (n + p)) A
 next_dumps names n p [] A e = let no : slice_get {X = State} [] p ≡ Some A = e in cc
 next_dumps names n zero (B ∷ network) A e =
     let same : B ≡ A = cc in

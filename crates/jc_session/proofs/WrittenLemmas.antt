@@ -1,4 +1,4 @@
--- Texts that are written one after another.
+-- Of `Written`: texts that are written one after another, and up to a failure.
 use Rattle.std.proofs.Common.{◌≡◌, ℕ, ◌+◌, ◌≤◌, List, [], ◌++◌, length, take, Option, Some, None, inl, inr, ap, sym, subst, ◌∙◌, refl, arith, length-append, append_assoc, append-nil}
 use Rattle.std.proofs.lemmas.List.{take-append-le}
 use Rattle.std.proofs.Math.Seq.{take-append-add}

@@ -1,4 +1,4 @@
--- What the answer of a request says of a debugger.
+-- What a request and its answer mean for a debugger in memory: the clauses of the answers cite it.
 use Rattle.std.specs.Prelude.{◌≡◌, List, ℕ, length, All, Result, Ok, Err, string_bytes}
 use Rattle.jc_rules.specs.declared.refusal.Refusal.TheVariants as F
 use Rattle.jc_rules.specs.declared.version.Version.{Version}
@@ -25,7 +25,7 @@ pub record GivesAnswer (old : Seen) (request : Request) (new : Seen) (text : Lis
   pub replies : Replies (origin_in old) (session_of old) request (session_of new) text
   pub origin : origin_in new ≡ origin_in old
 
--- The line does.
+-- The line leads from the one to the other, and is answered by the text.
 pub record GivesLine (old : Seen) (line : Line) (new : Seen) (text : List ℕ) : Type 0 where
   pub answer : LineAnswer (origin_in old) (session_of old) line (session_of new) text
   pub origin : origin_in new ≡ origin_in old

@@ -1,5 +1,6 @@
--- The answer of a line.
+-- What each request leads to, and the answers of lines: the text of a session is made of these.
 use Rattle.std.specs.Prelude.{◌≡◌, ◌≢◌, ℕ, ◌+◌, ◌-◌, ◌≤◌, ◌<◌, List, [], ◌++◌, length, slice_get, Option, Some, None, Contains, ◌⊎◌, codes}
+use Rattle.jc_rules.specs.declared.limits.TheConstants.{MAX_EVENTS}
 use Rattle.jc_rules.specs.declared.operation.Event.{Event}
 use Rattle.jc_rules.specs.declared.refusal.Refusal.{Refusal}
 use Rattle.jc_rules.specs.declared.refusal.Refusal.TheVariants as F
@@ -35,7 +36,7 @@ pub record Origin : Type 0 where
   pub names : List (List ℕ)
   pub start : Network
 
--- of the scenario, from the network at its start
+-- that of a scenario and of the network at its start
 abbrev pub origin_of : Scenario → Network → Origin
 origin_of s start = record { names = s.names; start = start }
 
@@ -85,16 +86,16 @@ pub record IsEventText (version : Version) (names : List (List ℕ)) (rest : Lis
   pub is : IsEventOf version rest named
   pub resolved : IsResolved names named event
 
--- An event is made at the position, if it is not the last one that there may be and the event is not stuck.
+-- An event is made at the position, where a schedule may be longer than that and the event isn't stuck.
 pub data ActsOn (O : Origin) (A : Session) (event : Event) : Session → List ℕ → Type 0 where
-  full : A.position ≡ 100000 → ActsOn O A event A (refusal_line F.TooManyEvents)
+  full : A.position ≡ MAX_EVENTS → ActsOn O A event A (refusal_line F.TooManyEvents)
   stuck : (why : Cause) (network : Network)
-      → A.position < 100000
+      → A.position < MAX_EVENTS
       → IsNetworkAt O.start A.schedule A.position network
       → IsStuckIn network event why
       → ActsOn O A event A (at_line A.position ++ stuck_text O.names why event)
   made : (network new : Network) (rows : List (Rule × ℕ))
-      → A.position < 100000
+      → A.position < MAX_EVENTS
       → IsNetworkAt O.start A.schedule A.position network
       → StepIn network event new rows
       → ActsOn O A event (acted A event) (at_line (A.position + 1))

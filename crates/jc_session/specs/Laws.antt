@@ -1,4 +1,4 @@
--- What a session shows is determined.
+-- The laws of a session's text, which `laws` proves: there is one, and one at most.
 use Rattle.std.specs.Prelude.{◌≡◌, ℕ, List}
 use Rattle.jc_session.specs.SessionText.{End, ShowsSession}
 

@@ -1,9 +1,10 @@
--- What is read of a source, line by line.
+-- A line that is being read from a source: the loop of `Lines::next` keeps this.
 use Rattle.std.specs.Prelude.{◌≡◌, ℕ, ◌+◌, ◌≤◌, List, ◌++◌, length, take, Bool, nat_lt, Option, IfSome}
 use Rattle.std.specs.Io.KnownBytes.{Consumes}
+use Rattle.jc_rules.specs.declared.limits.TheConstants.{MAX_LINE, MAX_SESSION}
 use Rattle.jc_session.specs.Lines.{Lacks}
 
--- of the bytes that were told, `read` were given, and the others are left where that is told
+-- of the bytes that are known, `read` were read, and the others are left where that is known
 abbrev pub ReadStopsAt : Option (List ℕ) → Option (List ℕ) → List ℕ → Type 0
 ReadStopsAt old new read = IfSome old (λ xs. (rest : List ℕ) × (xs ≡ read ++ rest) × IfSome new (λ ys. ys ≡ rest))
 
@@ -13,7 +14,7 @@ pub record LineRead (old now : Option (List ℕ)) (kept : List ℕ) (some : Bool
   pub raw : List ℕ
   pub no_lf : Lacks 10 raw
   pub gone : Consumes old now raw
-  pub kept_is : kept ≡ take 4097 raw
+  pub kept_is : kept ≡ take (MAX_LINE + 1) raw
   pub some_is : some ≡ nat_lt 0 (length raw)
   pub bytes_are : bytes ≡ bytes_before + length raw
-  pub within : bytes ≤ 67108864
+  pub within : bytes ≤ MAX_SESSION

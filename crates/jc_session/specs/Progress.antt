@@ -1,4 +1,4 @@
--- What the answering of lines has come to.
+-- The lines that were read and answered so far: the loop of `converse` keeps this.
 use Rattle.std.specs.Prelude.{◌≡◌, ℕ, List, length, map, Option}
 use Rattle.std.specs.List.{AllByRecursion}
 use Rattle.std.specs.Io.KnownBytes.{Consumes}
@@ -8,8 +8,8 @@ use Rattle.jc_session.specs.Answers.{Origin}
 use Rattle.jc_session.specs.SessionText.{AnswersLines}
 use Rattle.jc_session.specs.Written.{Stream, Wrote}
 
--- Whole lines that were read and answered: from the state A to B, what was told at first and is left now, what was
--- written at first and by now.
+-- Whole lines were read and answered, which led from the state A to B: what of the source was left at first and is left
+-- now, the sink at first and now, and how many bytes and lines these were.
 pub record SoFar
     (O : Origin) (A B : Session) (first now : Option (List ℕ)) (out_first out_now : Stream) (bytes count : ℕ)
     : Type 0 where

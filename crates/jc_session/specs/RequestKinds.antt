@@ -1,4 +1,4 @@
--- What the answer of a line can be refused with.
+-- What the answer of a line can be refused with, for the clauses of sessions.
 use Rattle.jc_session.specs.declared.sessions.SessionFault.{SessionFault}
 use Rattle.jc_session.specs.declared.sessions.SessionFault.TheVariants.{WriteFailed, Memory}
 

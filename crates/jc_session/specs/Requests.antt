@@ -1,4 +1,4 @@
--- What a line of a session asks for.
+-- What a line of a session asks for, by its words: the answers of lines are defined by it.
 use Rattle.std.specs.Prelude.{ℕ, ◌==◌, nat_le, nat_lt, Bool, not, ◌&&◌, ◌||◌, if◌then◌else◌, List, [], ◌∷◌, length, drop, filter, slice_index, Option, Some, None, option_map, codes}
 use Rattle.std.specs.Option.{option_and_then}
 use Rattle.std.specs.List.{slice_split, prefix_len, list_all}
@@ -15,7 +15,7 @@ Word = List ℕ
 abbrev pub is_blank_char : ℕ → Bool
 is_blank_char b = b == 32 || b == 9
 
--- what blanks part, but for empty parts
+-- the parts between blanks that aren't empty
 abbrev pub words : List ℕ → List Word
 words line = filter (λ w. not (length w == 0)) (slice_split is_blank_char line)
 
@@ -23,7 +23,7 @@ words line = filter (λ w. not (length w == 0)) (slice_split is_blank_char line)
 abbrev pub past : (ℕ → Bool) → List ℕ → List ℕ
 past p bytes = drop (prefix_len p bytes) bytes
 
--- what stands behind the first word and the blanks after it
+-- what follows the first word and the blanks after it
 abbrev pub after_word : List ℕ → List ℕ
 after_word line = past is_blank_char (past (λ b. not (is_blank_char b)) (past is_blank_char line))
 
@@ -59,7 +59,7 @@ pub data Request : Type 0 where
   compare : Word → Word → Request
   quit : Request
 
--- what stands beside the word
+-- the entry of the word
 abbrev pub among : {X : Type 0} → Word → List (Word × X) → Option X
 among w [] = None
 among w (e ∷ es) = if bytes_eq w e.0 then Some e.1 else among w es
@@ -78,7 +78,8 @@ request_with_number f w = option_map f (number_in w)
 -- lines of two words, by the first one
 abbrev pub of_two : List (Word × (Word → Option Request))
 of_two =
-    (codes "step", request_with_number step) ∷ (codes "back", request_with_number back) ∷ (codes "goto", request_with_number goto)
+    (codes "step", request_with_number step) ∷ (codes "back", request_with_number back)
+    ∷ (codes "goto", request_with_number goto)
     ∷ (codes "unbreak", request_with_number unbreak) ∷ (codes "state", λ w. Some (state_of w)) ∷ []
 
 -- lines that set a breakpoint, by the second word

@@ -1,7 +1,8 @@
--- What went out of a session.
+-- What was sent and read in a session, whole or up to a failure: the clauses of `session` cite it.
 use Rattle.std.specs.Prelude.{◌≡◌, ◌⊎◌, ℕ, ◌≤◌, ◌<◌, List, [], ◌∷◌, ◌++◌, length, map, Option, Some, None, IfSome}
 use Rattle.std.specs.List.{AllByRecursion}
 use Rattle.std.specs.Io.KnownBytes.{Consumes}
+use Rattle.jc_rules.specs.declared.limits.TheConstants.{MAX_LINE, MAX_LINES, MAX_SESSION}
 use Rattle.jc_rules.specs.declared.operation.Event.{Event}
 use Rattle.jc_rules.specs.Refused.{Cause}
 use Rattle.jc_rules.specs.Step.{Network}
@@ -24,7 +25,7 @@ GoesOn O A line B old new = Written (λ text. LineAnswer O A line B text) old ne
 abbrev pub BreaksOff : Origin → Session → Line → Stream → Stream → Type 0
 BreaksOff O A line old new = (B : Session) × (text : List ℕ) × LineAnswer O A line B text × Interrupted text old new
 
--- of the bytes that were left a front is gone
+-- a prefix of the bytes that were left was read
 abbrev pub LosesFront : Option (List ℕ) → Option (List ℕ) → Type 0
 LosesFront old new = (bs : List ℕ) × Consumes old new bs
 
@@ -37,11 +38,12 @@ pub record Answered (O : Origin) (A : Session) (bytes : List ℕ) (whole : List 
     (text : List ℕ) : Type 0 where
   pub is : bytes ≡ with_line_ends whole ++ rest
   pub no_lf : AllByRecursion (Lacks 10) whole
-  pub count : length whole ≤ 1000000
-  pub size : length (with_line_ends whole) ≤ 67108864
+  pub count : length whole ≤ MAX_LINES
+  pub size : length (with_line_ends whole) ≤ MAX_SESSION
   pub answers : AnswersLines O A (map whole_line whole) B text
 
--- Exactly the answers of all lines whose LF was read went out: of the bytes some were read, and the others are left.
+-- The answers of all lines whose LF was read were sent, and no more. Of the next line `part` was read, and `rest` is
+-- left.
 pub record WentToRead (O : Origin) (A : Session) (bytes : List ℕ) (left : Option (List ℕ)) (old new : Stream)
     : Type 0 where
   pub whole : List (List ℕ)
@@ -54,11 +56,11 @@ pub record WentToRead (O : Origin) (A : Session) (bytes : List ℕ) (left : Opti
   pub is_left : IfSome left (λ ys. ys ≡ rest)
   pub went : Wrote text old new
 
--- The line that comes next was read, and less than 4,096 bytes behind it; the others are left.
+-- The next line was read, and less than MAX_LINE bytes after it; the others are left.
 pub data IsNextSent : List ℕ → Line → Option (List ℕ) → Type 0 where
   ends_in_lf : {rest : List ℕ} {left : Option (List ℕ)} (raw ahead : List ℕ)
       → Lacks 10 raw
-      → length ahead < 4096
+      → length ahead < MAX_LINE
       → Consumes (Some rest) left (raw ++ 10 ∷ ahead)
       → IsNextSent rest (whole_line raw) left
   ends_at_end : {rest : List ℕ} {line : Line} {left : Option (List ℕ)}
@@ -67,7 +69,7 @@ pub data IsNextSent : List ℕ → Line → Option (List ℕ) → Type 0 where
       → Consumes (Some rest) left rest
       → IsNextSent rest line left
 
--- The answers of some first lines went out, whole, and the next line was read.
+-- The answers of some first lines were sent, whole, and the next line was read.
 pub record WentWhole (O : Origin) (A : Session) (bytes : List ℕ) (left : Option (List ℕ)) (old new : Stream)
     : Type 0 where
   pub whole : List (List ℕ)
@@ -79,7 +81,7 @@ pub record WentWhole (O : Origin) (A : Session) (bytes : List ℕ) (left : Optio
   pub next : IsNextSent rest line left
   pub went : Wrote text old new
 
--- The answers of some first lines went out, whole, and the next line's was interrupted.
+-- The answers of some first lines were sent, whole. The next line was read, and its answer was interrupted.
 pub record WentFront (O : Origin) (A : Session) (bytes : List ℕ) (left : Option (List ℕ)) (old new : Stream)
     : Type 0 where
   pub whole : List (List ℕ)
@@ -93,8 +95,8 @@ pub record WentFront (O : Origin) (A : Session) (bytes : List ℕ) (left : Optio
   pub went : Wrote text old between
   pub breaks_off : BreaksOff O last line between new
 
--- Of the bytes a first one past the limits was read, which are 67,108,864 bytes and 1,000,000 lines, and less than 4,096
--- bytes behind it; the others are left.
+-- The first byte past the limits of MAX_SESSION bytes and MAX_LINES lines was read, and less than MAX_LINE bytes after
+-- it; the others are left.
 pub record IsPast (bytes : List ℕ) (left : Option (List ℕ)) : Type 0 where
   pub whole : List (List ℕ)
   pub part : List ℕ
@@ -102,25 +104,26 @@ pub record IsPast (bytes : List ℕ) (left : Option (List ℕ)) : Type 0 where
   pub ahead : List ℕ
   pub no_lf : AllByRecursion (Lacks 10) whole
   pub part_no_lf : Lacks 10 part
-  pub at_limit : (length (with_line_ends whole ++ part) ≡ 67108864) ⊎ ((length whole ≡ 1000000) × (part ≡ []))
-  pub few : length ahead < 4096
+  pub at_limit : (length (with_line_ends whole ++ part) ≡ MAX_SESSION) ⊎ ((length whole ≡ MAX_LINES) × (part ≡ []))
+  pub few : length ahead < MAX_LINE
   pub gone : Consumes (Some bytes) left ((with_line_ends whole ++ part) ++ byte ∷ ahead)
 
--- ---- lines that may not be told
+-- ---- lines whose bytes may not be known
 
--- It is said of the lines that are told, and else of some, as at a terminal.
+-- It holds of the lines where their bytes are known, and else of some lines, as at a terminal.
 abbrev pub OfLines : Option (List ℕ) → (List ℕ → Type 0) → Type 0
 OfLines None Says = (l : List ℕ) × Says l
 OfLines (Some l) Says = Says l
 
--- It is said of the lines that are told and of what is left of them, and else of some and of what is left of these.
+-- It holds of the lines and of what is left of them where these are known, and else of some lines and of what is left
+-- of those.
 abbrev pub OfLinesLeft : Option (List ℕ) → Option (List ℕ) → (List ℕ → Option (List ℕ) → Type 0) → Type 0
 OfLinesLeft None left Says = (l : List ℕ) × (rest : List ℕ) × Says l (Some rest)
 OfLinesLeft (Some l) left Says = Says l left
 
 -- ---- whole sessions
 
--- The text of a session was written, which ends so.
+-- The text of a session that ends so was written.
 abbrev pub ShowsAll : List ℕ → List ℕ → End → Stream → Stream → Type 0
 ShowsAll b l end old new = Written (λ text. ShowsSession b l text end) old new
 
@@ -137,7 +140,7 @@ WentGiven b old new =
     × IsGivenStuck (before_given s) s.given at event why
     × Interrupted (given_text s.names at why event) old new
 
--- what is said of a session on the scenario that the bytes are, from its start
+-- it holds of a session on the scenario that the bytes are, from its start
 abbrev pub OnScenario : List ℕ → (Origin → Session → Type 0) → Type 0
 OnScenario b Says =
     (s : Scenario) × (start : Network)

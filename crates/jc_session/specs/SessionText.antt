@@ -1,5 +1,6 @@
--- The text of a session.
+-- The text of a session on the bytes of a scenario and of lines: what `session` writes where nothing fails.
 use Rattle.std.specs.Prelude.{◌≡◌, ℕ, nat_le, ◌&&◌, List, [], ◌∷◌, ◌++◌, length, take, map, if◌then◌else◌}
+use Rattle.jc_rules.specs.declared.limits.TheConstants.{MAX_LINES, MAX_SESSION}
 use Rattle.jc_rules.specs.declared.operation.Event.{Event}
 use Rattle.jc_rules.specs.Refused.{Cause}
 use Rattle.jc_rules.specs.Step.{Network}
@@ -22,8 +23,8 @@ AnswersLines O A (x ∷ xs) B text =
     × AnswersLines O M xs B u
     × (text ≡ t ++ u)
 
--- How a session ends: at `quit` or where the lines end; past a limit; with a refused scenario; with a given event that is
--- stuck.
+-- How a session ends: at `quit` or at the end of the lines; past a limit; with a refused scenario; with a given event
+-- that is stuck.
 pub data End : Type 0 where
   finished : End
   too_many : End
@@ -38,7 +39,7 @@ pub data Ends : List Line → End → List Line → End → Type 0 where
       → meaning x ≡ asks quit
       → Ends lines finished due end
 
--- The lines of the bytes up to the limits, and how a session ends after them: past a limit where there is a byte or a
+-- The lines of the bytes up to these limits, and how a session ends after them: past a limit where there is a byte or a
 -- line more.
 pub record AreWithin (most_bytes most_lines : ℕ) (bytes : List ℕ) (lines : List Line) (end : End) : Type 0 where
   pub whole : List (List ℕ)
@@ -51,11 +52,11 @@ pub record AreWithin (most_bytes most_lines : ℕ) (bytes : List ℕ) (lines : L
   pub end_is : end
       ≡ (if nat_le (length bytes) most_bytes && nat_le (length all) most_lines then finished else too_many)
 
--- The limits are 67,108,864 bytes and 1,000,000 lines.
+-- the same for the limits of a session
 abbrev pub AreDue : List ℕ → List Line → End → Type 0
-AreDue = AreWithin 67108864 1000000
+AreDue = AreWithin MAX_SESSION MAX_LINES
 
--- From the state the bytes are answered by the text, and the session ends so.
+-- From the state, the lines of the bytes are answered by the text, and the session ends so.
 pub record Talks (O : Origin) (A : Session) (bytes text : List ℕ) (end : End) : Type 0 where
   pub due : List Line
   pub due_end : End

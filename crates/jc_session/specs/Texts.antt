@@ -1,4 +1,4 @@
--- The lines of answers that no other text has.
+-- The texts of answers that no other crate has: the answers of lines are made of them.
 use Rattle.std.specs.Prelude.{ℕ, ◌+◌, List, [], ◌∷◌, ◌++◌, flat_map, Option, Some, None, true, false, codes, decimal}
 use Rattle.jc_rules.specs.declared.operation.Event.{Event}
 use Rattle.jc_rules.specs.declared.refusal.Refusal.{Refusal}
@@ -26,18 +26,18 @@ cleared_line k = codes "cleared " ++ decimal k ++ codes "\n"
 abbrev pub where_line : ℕ → ℕ → List ℕ
 where_line n length = codes "at " ++ decimal n ++ codes " of " ++ decimal length ++ codes "\n"
 
--- where a move came to, and the event that stopped it, if one did
+-- the position that a move reached, and the event that is stuck there, if one is
 abbrev pub went_text : List (List ℕ) → ℕ → Option StuckEvent → List ℕ
 went_text names n None = at_line n
 went_text names n (Some (event, why)) = at_line n ++ stuck_text names why event
 
--- where a run came to, and why it went no further; breakpoint j + 1 stands at place j
+-- the position that a run reached, and why it went no further; the breakpoint at place j has the number j + 1
 abbrev pub ran_text : List (List ℕ) → ℕ → RunOutcome → List ℕ
 ran_text names n (breaks j) = at_line n ++ (codes "break " ++ decimal (j + 1) ++ codes "\n")
 ran_text names n (sticks event why) = at_line n ++ stuck_text names why event
 ran_text names n ends = at_line n ++ codes "end\n"
 
--- what was found of two replicas
+-- how two replicas compare
 abbrev pub compared_line : Comparison → List ℕ
 compared_line (SameOps true) = codes "same operations same tree\n"
 compared_line (SameOps false) = codes "same operations different tree\n"

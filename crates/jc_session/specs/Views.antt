@@ -1,4 +1,4 @@
--- What lines and requests in memory stand for.
+-- The lines and requests that values in memory represent, for the clauses of requests and answers.
 use Rattle.std.specs.Prelude.{◌≡◌, ℕ, nat_lt, true, List, Option, option_map}
 use Rattle.std.specs.Borrow.{Bor}
 use Rattle.std.specs.List.{list_all}

@@ -1,11 +1,11 @@
--- What was written of a text, by what is told of a stream.
+-- What was written of a text, by what is known of a stream: the clauses of sessions and of the program cite it.
 use Rattle.std.specs.Prelude.{◌≡◌, ℕ, ◌+◌, ◌⊎◌, List, Option}
 use Rattle.std.specs.Io.KnownBytes.{Appends}
 use Rattle.jc_io.specs.Streams.{AppendsIfKnown, AppendsPrefix}
 use Rattle.jc_io.specs.declared.io.Sink.{Ghosts as SinkGhosts}
 
--- What is told of a stream: its bytes, where they are known, which are left to be read or were written; and how many of
--- its calls have failed.
+-- What is known of a stream: the bytes that are left to be read, or that were written, where these are known; and how
+-- many of its calls have failed.
 pub record Stream : Type 0 where
   pub bytes : Option (List ℕ)
   pub failures : ℕ
@@ -21,11 +21,11 @@ Wrote text old new = Appends old.bytes new.bytes text × (new.failures ≡ old.f
 abbrev pub WrotePart : List ℕ → Stream → Stream → Type 0
 WrotePart text old new = AppendsPrefix old.bytes new.bytes text × (new.failures ≡ old.failures + 1)
 
--- The text was written, and the one flush behind it failed.
+-- The text was written, and the one flush after it failed.
 abbrev pub WroteUnflushed : List ℕ → Stream → Stream → Type 0
 WroteUnflushed text old new = AppendsIfKnown old.bytes new.bytes text × (new.failures ≡ old.failures + 1)
 
--- The text was sent to a stream whose failures change nothing else.
+-- The text was written, whole or up to the one write that failed.
 abbrev pub Sent : List ℕ → Stream → Stream → Type 0
 Sent text old new = Wrote text old new ⊎ WrotePart text old new
 

@@ -1,28 +1,31 @@
-//! Bytes that were read ahead.
+//! Bytes that were read ahead of the current line. `Lines` takes each byte of a source from here.
 
 ghost use Rattle.std.specs.Prelude.{◌≡◌, ◌≢◌, ℕ, ◌+◌, ◌<◌, ◌≤◌, List, [], ◌∷◌, ◌++◌, length, take, drop, Option, Some, None, Ok, IfOk, OnOk, OnErr, IsTrue, ◌↔◌};
 ghost use Rattle.std.specs.Io.KnownBytes.{Consumes, IsAtEnd, prepend_known};
 ghost use Rattle.jc_io.specs.Streams.{StaysIfKnown, failures_of};
+ghost use Rattle.jc_rules.specs.declared.limits.TheConstants.{MAX_LINE};
 
 use jc_io::{Failed, Source};
+use jc_rules::limits::MAX_LINE;
 use std::marker::Model;
 
-/// What was read of a source and wasn't taken yet, seen as the list of these bytes.
+/// The bytes that were read from a source and not yet taken. A read takes at most as many as a line may have.
 #[derive(Drop)]
 pub struct Ahead {
-    buf: [u8; 4096],
+    buf: [u8; MAX_LINE],
     start: usize,
     stop: usize,
 }
 
 impl Model for Ahead {
     ghost use Rattle.std.specs.Prelude.{List, ℕ, ◌≤◌, slice_range};
+    ghost use Rattle.jc_rules.specs.declared.limits.TheConstants.{MAX_LINE};
 
     ghost Value = { List ℕ };
 
     ghost view = { λ a. slice_range a.buf a.start a.stop };
 
-    ghost invariant = { λ a. (a.start ≤ a.stop) × (a.stop ≤ 4096) };
+    ghost invariant = { λ a. (a.start ≤ a.stop) × (a.stop ≤ MAX_LINE) };
 }
 
 impl Ahead {
@@ -30,7 +33,7 @@ impl Ahead {
         ensures { result ≡ [] }
     {
         Ahead {
-            buf: [0; 4096],
+            buf: [0; MAX_LINE],
             start: 0,
             stop: 0,
         }
@@ -38,7 +41,7 @@ impl Ahead {
 
     fn is_empty(&self) -> bool
         ensures is { IsTrue result ↔ (self.now ≡ []) }
-        ensures few { length self.now ≤ 4096 }
+        ensures few { length self.now ≤ MAX_LINE }
     {
         self.start == self.stop
     }
@@ -68,7 +71,7 @@ impl Ahead {
         byte
     }
 
-    /// The next byte, and `None` at the end. The source is asked only where nothing is left of what was read before.
+    /// The next byte, and `None` at the end. The source is read only where no byte is left of the last read.
     pub fn next<S: Source>(&mut self, source: &mut S) -> Result<Option<u8>, Failed>
         ensures some { (b : ℕ) → result ≡ Ok (Some b)
             → Consumes (prepend_known self.old (S.left source.old)) (prepend_known self.new (S.left source.new))
@@ -81,7 +84,7 @@ impl Ahead {
             ((self.old ≡ []) × (self.new ≡ []) × StaysIfKnown (S.left source.old) (S.left source.new)) }
         ensures failures { S.failures source.new ≡ S.failures source.old + failures_of result }
         ensures kept { self.old ≢ [] → source.new ≡ source.old }
-        ensures few { OnOk result (length self.new < 4096) }
+        ensures few { OnOk result (length self.new < MAX_LINE) }
     {
         if self.is_empty() {
             self.fill(source)?;

@@ -1,6 +1,7 @@
-//! The answers of lines.
+//! The answers of lines: what each request does to the debugger, and its text. Sessions call `answer`.
 
 ghost use Rattle.std.specs.Prelude.{◌≡◌, ◌≢◌, ◌↔◌, ◌++◌, ◌≤◌, ◌<◌, ℕ, List, Option, IfOk, IfSome, IfNone, IsTrue, MatchOption, length, string_bytes};
+ghost use Rattle.jc_rules.specs.declared.limits.TheConstants.{MAX_REPLICAS};
 ghost use Rattle.jc_rules.specs.declared.operation.Event.{Event as AnyEvent};
 ghost use Rattle.jc_rules.specs.declared.rule.Rule.{Rule as AnyRule};
 ghost use Rattle.jc_rules.specs.declared.version.Version.{Version as AnyVersion};
@@ -33,7 +34,7 @@ use std::alloc::{AllocError, Global};
 
 // ---- moves
 
-/// The position that a move came to, and the line of the event that stopped it there.
+/// The position that a move reached, and the line of the event that is stuck there.
 fn stuck_at(alloc: Global, n: u64, net: &Net, stuck: &Stuck) -> Result<String, AllocError>
     requires { IsNamedStuck net.now.names stuck.now }
     ensures { IfOk result (λ text.
@@ -106,7 +107,7 @@ fn run(alloc: Global, debugger: &mut Debugger) -> Result<String, AllocError>
 
 // ---- events of a line
 
-/// What the rest of an `act` line spells: an event, or nothing, with the line that says why.
+/// What the rest of an `act` line spells: an event, or none, with the line of the refusal.
 #[derive(Drop)]
 enum Spelling {
     Event(Event),
@@ -133,7 +134,7 @@ fn event_of(
     names: &[Text],
     rest: &str,
 ) -> Result<Spelling, AllocError>
-    requires { length names.now ≤ 64 }
+    requires { length names.now ≤ MAX_REPLICAS }
     ensures { IfOk result (λ spelling. Spells version names.now rest.now spelling) }
 {
     match parse_event(alloc, version, rest) {
@@ -145,9 +146,9 @@ fn event_of(
     }
 }
 
-/// What a text spells of which this event was read.
+/// The named event by the numbers of its replicas, or the refusal of a name that no replica has.
 fn resolved(alloc: Global, names: &[Text], named: &NamedEvent) -> Result<Spelling, AllocError>
-    requires { length names.now ≤ 64 }
+    requires { length names.now ≤ MAX_REPLICAS }
     ensures { IfOk result (λ spelling.
         (version : AnyVersion) (text : List ℕ)
         → IsEventOf version text named.now
@@ -182,7 +183,7 @@ fn act(alloc: Global, debugger: &mut Debugger, rest: &str) -> Result<String, All
 
 /// The number of the replica that has the name.
 fn number_of(names: &[Text], name: &[u8]) -> Option<u16>
-    requires { length names.now ≤ 64 }
+    requires { length names.now ≤ MAX_REPLICAS }
     ensures some { IfSome result (λ p. IsNamed names.now name.now p) }
     ensures none { IfNone result (IsStrange names.now name.now) }
 {
@@ -243,7 +244,8 @@ fn break_rule(alloc: Global, debugger: &mut Debugger, name: &str) -> Result<Stri
 }
 
 fn break_replica(alloc: Global, debugger: &mut Debugger, name: &[u8]) -> Result<String, AllocError>
-    ensures { IfOk result (λ text. GivesAnswer debugger.old (Q.break_replica name.now) debugger.new (string_bytes text)) }
+    ensures { IfOk result (λ text.
+        GivesAnswer debugger.old (Q.break_replica name.now) debugger.new (string_bytes text)) }
 {
     match number_of(debugger.net().names(), name) {
         Some(p) => set_text(alloc, debugger.break_replica(p)),
@@ -298,7 +300,8 @@ fn enabled(alloc: Global, debugger: &Debugger) -> Result<String, AllocError>
     ensures { IfOk result (λ text. GivesAnswer debugger.now Q.enabled debugger.now (string_bytes text)) }
 {
     let net = debugger.net();
-    // Events have led to the network from a start, so what can be made names its replicas.
+    // Called for its contract: events lead to the network from a start, so each event that can be made names replicas
+    // of the network.
     net.steps();
     let events = net.enabled()?;
     let text = event_lines(alloc, net.names(), &events)?;
@@ -344,7 +347,7 @@ fn comparison(
 
 // ---- lines
 
-/// Does what is asked for, and gives its answer; `quit` has none.
+/// Does what is asked for and returns the answer; `quit` has none.
 fn reply(
     alloc: Global,
     debugger: &mut Debugger,
@@ -375,7 +378,7 @@ fn reply(
     }
 }
 
-/// Does what the line asks for, and gives its answer, which is empty for a line of no word; `quit` has none.
+/// Does what the line asks for and returns the answer. A line without a word has an empty one, `quit` has none.
 pub fn answer(
     alloc: Global,
     debugger: &mut Debugger,

@@ -1,4 +1,4 @@
-//! Laws of the definitions alone: each contract is the law.
+//! The laws of a session's text: each contract is the law, and its body calls the laws of the crates below.
 
 ghost use Rattle.jc_session.specs.Laws.{OneSession, SessionHasAText};
 
@@ -11,6 +11,7 @@ use jc_scenario::laws as scenarios;
 pub fn one_session()
     ensures { OneSession }
 {
+    // The laws of the crates below, each called for its contract.
     scenarios::one_scenario();
     scenarios::one_fault();
     scenarios::scenario_or_fault();
@@ -27,6 +28,7 @@ pub fn one_session()
 pub fn session_has_a_text()
     ensures { SessionHasAText }
 {
+    // The laws of the crates below, each called for its contract.
     scenarios::scenario_else_fault();
     scenarios::scenarios_are_well_formed();
     sentences::event_else_fault();

@@ -1,4 +1,4 @@
-//! Sessions of the debugger: lines are read and answered one by one.
+//! Sessions of the debugger, for the program: lines are read and answered one by one.
 #![tactic(auto)]
 
 mod ahead;

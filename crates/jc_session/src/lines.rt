@@ -1,20 +1,16 @@
-//! The lines of a source.
+//! The lines of a source, read one by one up to the limits of a session. Sessions answer them.
 
 ghost use Rattle.std.specs.Prelude.{◌≡◌, ◌≢◌, ℕ, ◌+◌, ◌<◌, ◌≤◌, List, [], ◌∷◌, ◌++◌, length, take, Option, Some, None, Ok, IfOk, OnOk, OnErr, IfSome, ◌⊎◌};
 ghost use Rattle.std.specs.Io.KnownBytes.{Consumes, IsAtEnd, prepend_known};
 ghost use Rattle.jc_io.specs.Streams.{failures_of};
+ghost use Rattle.jc_rules.specs.declared.limits.TheConstants.{MAX_LINE, MAX_LINES, MAX_SESSION};
 ghost use Rattle.jc_session.specs.Lines.{Lacks};
 ghost use Rattle.jc_session.specs.LineReading.{ReadStopsAt};
 
 use crate::ahead::Ahead;
 use crate::line_buffer::Line;
 use jc_io::{Failed, Source};
-
-/// How many bytes all lines of a session may have.
-const MOST_BYTES: u64 = 67108864;
-
-/// How many lines there may be.
-const MOST_LINES: u64 = 1000000;
+use jc_rules::limits::{MAX_LINES, MAX_SESSION};
 
 /// How the reading of a line ended.
 #[derive(Clone, Copy)]
@@ -23,13 +19,13 @@ pub enum Next {
     Whole,
     /// The end of the input ended it.
     Last,
-    /// There was no line any more.
+    /// No line was left.
     End,
     /// A byte past one of the limits was read.
     TooMany,
 }
 
-/// The reading of lines: what was read ahead, the line, and how many bytes and lines there were so far.
+/// The reading of lines: the bytes read ahead, the line, and how many bytes and lines were read so far.
 #[derive(Drop)]
 pub struct Lines {
     pub ahead: Ahead,
@@ -51,22 +47,23 @@ impl Lines {
         }
     }
 
-    /// Reads the next line. Nothing is asked for past its LF, and no more than the limits allow and one byte is taken.
+    /// Reads the next line. The source isn't read again once an LF is found, and at most one byte past the limits is
+    /// taken.
     pub fn next<S: Source>(&mut self, source: &mut S) -> Result<Next, Failed>
-        requires bytes { self.old.bytes ≤ 67108864 }
-        requires count { self.old.count ≤ 1000000 }
+        requires bytes { self.old.bytes ≤ MAX_SESSION }
+        requires count { self.old.count ≤ MAX_LINES }
         ensures whole { result ≡ Ok Next.Whole → (raw : List ℕ) × Lacks 10 raw
             × Consumes (prepend_known self.old.ahead (S.left source.old))
             (prepend_known self.new.ahead (S.left source.new)) (raw ++ 10 ∷ [])
-            × (self.new.line ≡ take 4097 raw)
-            × (self.new.bytes ≡ self.old.bytes + length raw + 1) × (self.new.bytes ≤ 67108864)
-            × (self.new.count ≡ self.old.count + 1) × (self.new.count ≤ 1000000) }
+            × (self.new.line ≡ take (MAX_LINE + 1) raw)
+            × (self.new.bytes ≡ self.old.bytes + length raw + 1) × (self.new.bytes ≤ MAX_SESSION)
+            × (self.new.count ≡ self.old.count + 1) × (self.new.count ≤ MAX_LINES) }
         ensures last { result ≡ Ok Next.Last → (raw : List ℕ) × Lacks 10 raw × (raw ≢ [])
             × Consumes (prepend_known self.old.ahead (S.left source.old))
             (prepend_known self.new.ahead (S.left source.new)) raw
             × IsAtEnd (prepend_known self.new.ahead (S.left source.new))
-            × (self.new.line ≡ take 4097 raw)
-            × (self.old.bytes + length raw ≤ 67108864) × (self.old.count < 1000000) }
+            × (self.new.line ≡ take (MAX_LINE + 1) raw)
+            × (self.old.bytes + length raw ≤ MAX_SESSION) × (self.old.count < MAX_LINES) }
         ensures end { result ≡ Ok Next.End
             → IsAtEnd (prepend_known self.old.ahead (S.left source.old))
             × Consumes (prepend_known self.old.ahead (S.left source.old))
@@ -74,16 +71,16 @@ impl Lines {
         ensures too_many { result ≡ Ok Next.TooMany → (raw : List ℕ) × (b : ℕ) × Lacks 10 raw
             × Consumes (prepend_known self.old.ahead (S.left source.old))
             (prepend_known self.new.ahead (S.left source.new)) (raw ++ b ∷ [])
-            × (self.old.bytes + length raw ≤ 67108864)
-            × ((self.old.bytes + length raw ≡ 67108864) ⊎ ((self.old.count ≡ 1000000) × (raw ≡ []))) }
+            × (self.old.bytes + length raw ≤ MAX_SESSION)
+            × ((self.old.bytes + length raw ≡ MAX_SESSION) ⊎ ((self.old.count ≡ MAX_LINES) × (raw ≡ []))) }
         ensures err { OnErr result ((raw : List ℕ) × Lacks 10 raw × (self.new.ahead ≡ [])
-            × (self.old.bytes + length raw ≤ 67108864)
+            × (self.old.bytes + length raw ≤ MAX_SESSION)
             × ReadStopsAt (prepend_known self.old.ahead (S.left source.old)) (S.left source.new) raw) }
-        ensures few { OnOk result (length self.new.ahead < 4096) }
+        ensures few { OnOk result (length self.new.ahead < MAX_LINE) }
         ensures failures { S.failures source.new ≡ S.failures source.old + failures_of result }
     {
         self.line.clear();
-        if self.count == MOST_LINES {
+        if self.count == MAX_LINES {
             return Ok(match self.ahead.next(source)? {
                 Some(_) => Next::TooMany,
                 None => Next::End,
@@ -94,7 +91,7 @@ impl Lines {
             let Some(byte) = self.ahead.next(source)? else {
                 return Ok(if some { Next::Last } else { Next::End });
             };
-            if self.bytes == MOST_BYTES {
+            if self.bytes == MAX_SESSION {
                 return Ok(Next::TooMany);
             }
             self.bytes += 1;

@@ -1,4 +1,4 @@
-//! What the lines of a session ask for.
+//! What a line of a session asks for, by its words. Answers begin with `meaning_of`.
 
 ghost use Rattle.std.specs.Prelude.{◌≡◌, ◌≤◌, [], ◌∷◌, length, drop, not, nat_lt, IfSome, MatchOption, option_map, true};
 ghost use Rattle.std.specs.List.{list_all, prefix_len, position_or_len};
@@ -36,7 +36,7 @@ pub enum Meaning<'a> {
     /// It has no word.
     Nothing,
     Asks(Request<'a>),
-    /// It is none of the lines that there are.
+    /// It asks for nothing that a session can do.
     Bad,
 }
 
@@ -58,7 +58,7 @@ fn blanks(text: &[u8]) -> usize
     text.len()
 }
 
-/// How many bytes stand before the first blank.
+/// How many bytes are before the first blank.
 fn word_len(text: &[u8]) -> usize
     ensures { result ≡ position_or_len is_blank_char text.now }
 {
@@ -77,7 +77,7 @@ fn past_blanks(text: &[u8]) -> &[u8]
     text.split_at(blanks(text)).1
 }
 
-/// The first word of a text, and what stands behind it.
+/// The first word of a text, and what follows it.
 fn first_word(text: &[u8]) -> Option<(&[u8], &[u8])>
     ensures parts { MatchOption result (words text.now ≡ []) (λ x.
         (words text.now ≡ x.0.now ∷ words x.1.now)
@@ -221,7 +221,7 @@ fn of_three<'a>(verb: &[u8], second: &'a [u8], third: &'a [u8]) -> Option<Reques
     None
 }
 
-/// What a line asks for, by its first word and what stands behind it.
+/// What a line asks for, by its first word and what follows it.
 fn asked_by<'a>(verb: &[u8], rest: &'a [u8]) -> Option<Request<'a>>
     requires { AreAscii rest.now }
     ensures { option_map request_view result ≡ asked_by (verb.now ∷ words rest.now) }
@@ -254,7 +254,7 @@ fn meaning_of_text(text: &[u8]) -> Meaning<'_>
     }
 }
 
-/// What a line means; `None` is a line that is too long.
+/// What a line means. `None` is a line that is too long.
 pub fn meaning_of(line: Option<&[u8]>) -> Meaning<'_>
     ensures { meaning_view result ≡ meaning (line_of_bytes line.entry) }
 {

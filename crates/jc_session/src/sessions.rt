@@ -1,4 +1,4 @@
-//! Sessions: a scenario is read, and lines are answered one by one.
+//! Sessions: a scenario is read, and lines are answered one by one. The program calls `session`.
 
 ghost use Rattle.std.specs.Prelude.{◌≡◌, ◌≢◌, ℕ, ◌+◌, ◌<◌, ◌⊎◌, List, Ok, true, false, IfErr, OnOk, OnErr, IsErrOf, IfOk};
 ghost use Rattle.jc_parser.specs.declared.fault.ScenarioFault.{ScenarioFault as TextFault};
@@ -32,7 +32,7 @@ use std::alloc::{AllocError, Global};
 /// How a session ended.
 #[derive(Clone, Copy)]
 pub enum SessionEnd {
-    /// At `quit`, or where the lines ended.
+    /// At `quit`, or at the end of the lines.
     Finished,
     /// The scenario was refused, for this fault, and no line was read.
     TextRefused(ScenarioFault),
@@ -47,7 +47,7 @@ pub enum SessionFault {
     ReadFailed,
     /// A write or a flush failed.
     WriteFailed,
-    /// A byte past the limits of 1,000,000 lines and 67,108,864 bytes was read.
+    /// A byte past the limits of `MAX_LINES` lines and `MAX_SESSION` bytes was read.
     TooManyLines,
     /// There was no memory.
     Memory,
@@ -81,7 +81,7 @@ fn send<K: Sink>(out: &mut K, text: &str) -> Result<(), SessionFault>
     }
 }
 
-/// Answers a line. Says whether the session goes on.
+/// Answers a line. Returns whether the session goes on.
 fn answer_line<K: Sink>(
     alloc: Global,
     debugger: &mut Debugger,
@@ -89,8 +89,8 @@ fn answer_line<K: Sink>(
     out: &mut K,
 ) -> Result<bool, SessionFault>
     requires { AllNamed debugger.old }
-    ensures goes { result ≡ Ok true → GoesOn (origin_in debugger.old) (session_of debugger.old) (line_of_bytes line.entry)
-        (session_of debugger.new) (sink K.Sink out.old) (sink K.Sink out.new) }
+    ensures goes { result ≡ Ok true → GoesOn (origin_in debugger.old) (session_of debugger.old)
+        (line_of_bytes line.entry) (session_of debugger.new) (sink K.Sink out.old) (sink K.Sink out.new) }
     ensures origin { result ≡ Ok true → origin_in debugger.new ≡ origin_in debugger.old }
     ensures quits { result ≡ Ok false
         → (meaning (line_of_bytes line.entry) ≡ asks quit) × (out.new ≡ out.old) }
@@ -115,7 +115,7 @@ fn converse<S: Source, K: Sink>(
     out: &mut K,
 ) -> Result<(), SessionFault>
     requires { AllNamed debugger.old }
-    // Where nothing failed, exactly the answers of the lines went out.
+    // Where nothing failed, the answers of the lines were sent, and no more.
     ensures finished { OnOk result (OfLines (S.left source.old) (λ l.
         AnsweredAll (origin_in debugger.old) (session_of debugger.old) l finished (sink K.Sink out.old)
         (sink K.Sink out.new))) }
@@ -123,22 +123,22 @@ fn converse<S: Source, K: Sink>(
         → OfLinesLeft (S.left source.old) (S.left source.new) (λ l left.
         AnsweredAll (origin_in debugger.old) (session_of debugger.old) l too_many (sink K.Sink out.old)
         (sink K.Sink out.new) × IsPast l left) }
-    // After a failed read, those of all lines whose LF was read.
+    // After a failed read: the answers of all lines whose LF was read.
     ensures read { IsErrOf result SessionFault.ReadFailed
         → OfLinesLeft (S.left source.old) (S.left source.new) (λ l left.
         WentToRead (origin_in debugger.old) (session_of debugger.old) l left
         (sink K.Sink out.old) (sink K.Sink out.new)) }
-    // Without memory, those of the lines before, whole.
+    // Without memory: those of the lines before, whole.
     ensures memory { IsErrOf result SessionFault.Memory
         → OfLinesLeft (S.left source.old) (S.left source.new) (λ l left.
         WentWhole (origin_in debugger.old) (session_of debugger.old) l left
         (sink K.Sink out.old) (sink K.Sink out.new)) }
-    // After a failed write, those of the lines before, whole, and the next one up to the failure.
+    // After a failed write: those of the lines before, whole, and the next one up to the failure.
     ensures write { IsErrOf result SessionFault.WriteFailed
         → OfLinesLeft (S.left source.old) (S.left source.new) (λ l left.
         WentFront (origin_in debugger.old) (session_of debugger.old) l left
         (sink K.Sink out.old) (sink K.Sink out.new)) }
-    // Where no read failed, what was read is a front of what was left.
+    // Where no read failed, what was read is a prefix of what was left.
     ensures left { IsErrOf result SessionFault.ReadFailed ⊎ LosesFront (S.left source.old) (S.left source.new) }
     // Failures come with these answers alone.
     ensures reads { (IsErrOf result SessionFault.ReadFailed → S.failures source.old < S.failures source.new)
@@ -196,7 +196,7 @@ fn show_stuck<K: Sink>(
         → Interrupted (given_text names.items at why event) (sink K.Sink out.old) (sink K.Sink out.new) }
     ensures kind { IfErr result IsOfAnswer }
 {
-    // The lines take nothing but the names of a scenario.
+    // The lines need no part of a scenario but its names.
     let named = Scenario {
         version: Version::One,
         names,
@@ -210,21 +210,20 @@ fn show_stuck<K: Sink>(
 
 /// A session: reads the scenario, and answers the lines one by one, each before the next is read.
 ///
-/// It ends at `quit` or where the lines end. A scenario that is refused is shown so, and so is one with a given event that
-/// is stuck; then no line is read.
+/// It ends at `quit` or at the end of the lines. For a refused scenario its line is written, and for one with a given
+/// event that is stuck the lines of that event; then no line is read.
 ///
-/// Refusals: `ReadFailed` after the answers of all lines whose LF was read; `TooManyLines` and `Memory` after those of
-/// the lines before, whole; `WriteFailed` after those and a prefix of the answer that was due, which is the whole only
-/// where its flush failed. Nothing is written after a failure. After `Memory` and `WriteFailed` the line whose answer
-/// is missing was read, and less than 4,096 bytes behind it; after `TooManyLines` a byte past the limits, and less than
-/// 4,096 behind it. What was read is lost.
+/// Refusals: `Memory` and `WriteFailed` before a line is read or for its answer, `ReadFailed` and `TooManyLines` while
+/// a line is read. The answers of the lines before were written, whole, and nothing is written after a failure. What
+/// was written and read then, byte by byte, is in `specs/Sent.antt`; the bytes that were read are lost.
 pub fn session<S: Source, K: Sink>(
     alloc: Global,
     scenario: &[u8],
     lines: &mut S,
     out: &mut K,
 ) -> Result<SessionEnd, SessionFault>
-    // Where nothing failed, exactly the text of the session went out: on the lines that are told, and else on some.
+    // Where nothing failed, the text of the session was sent, and no more: on the lines where their bytes are known,
+    // and else on some lines.
     ensures finished { result ≡ Ok SessionEnd.Finished → OfLines (S.left lines.old) (λ l.
         ShowsAll scenario.now l finished (sink K.Sink out.old) (sink K.Sink out.new)) }
     ensures text_refused { (fault : TextFault) → result ≡ Ok (SessionEnd.TextRefused fault)
@@ -236,25 +235,25 @@ pub fn session<S: Source, K: Sink>(
     ensures too_many { IsErrOf result SessionFault.TooManyLines
         → OfLinesLeft (S.left lines.old) (S.left lines.new) (λ l left.
         ShowsAll scenario.now l too_many (sink K.Sink out.old) (sink K.Sink out.new) × IsPast l left) }
-    // After a failed read, the answers of all lines whose LF was read.
+    // After a failed read: the answers of all lines whose LF was read.
     ensures read { IsErrOf result SessionFault.ReadFailed → OnScenario scenario.now (λ O A.
         OfLinesLeft (S.left lines.old) (S.left lines.new) (λ l left.
         WentToRead O A l left (sink K.Sink out.old) (sink K.Sink out.new))) }
-    // Without memory, those of the lines before, whole; or nothing, where there was none before the first line.
+    // Without memory: those of the lines before, whole; or nothing, where memory was refused before the first line.
     ensures memory { IsErrOf result SessionFault.Memory
         → ((lines.new ≡ lines.old) × (out.new ≡ out.old))
         ⊎ OnScenario scenario.now (λ O A.
         OfLinesLeft (S.left lines.old) (S.left lines.new) (λ l left.
         WentWhole O A l left (sink K.Sink out.old) (sink K.Sink out.new))) }
-    // After a failed write, those of the lines before, whole, and the next one up to the failure; or up to it the
-    // scenario's refusal, or the lines of a given event that is stuck.
+    // After a failed write: those of the lines before, whole, and the next one up to the failure; or, up to the
+    // failure, the line of a refused scenario or the lines of a given event that is stuck.
     ensures write { IsErrOf result SessionFault.WriteFailed
         → ((lines.new ≡ lines.old) × WentRefused scenario.now (sink K.Sink out.old) (sink K.Sink out.new))
         ⊎ ((lines.new ≡ lines.old) × WentGiven scenario.now (sink K.Sink out.old) (sink K.Sink out.new))
         ⊎ OnScenario scenario.now (λ O A.
         OfLinesLeft (S.left lines.old) (S.left lines.new) (λ l left.
         WentFront O A l left (sink K.Sink out.old) (sink K.Sink out.new))) }
-    // Where no read failed, what was read is a front of the lines.
+    // Where no read failed, what was read is a prefix of the lines.
     ensures left { IsErrOf result SessionFault.ReadFailed ⊎ LosesFront (S.left lines.old) (S.left lines.new) }
     // Failures come with these answers alone.
     ensures reads { (IsErrOf result SessionFault.ReadFailed → S.failures lines.old < S.failures lines.new)
@@ -271,7 +270,7 @@ pub fn session<S: Source, K: Sink>(
             };
         }
     };
-    // The debugger takes the scenario; where a given event is stuck, its line needs the names.
+    // The debugger takes the scenario; where a given event is stuck, its lines need the names.
     let names = copy_names(alloc, &scenario.names)?;
     let mut debugger = match Debugger::new(alloc, scenario) {
         Ok(debugger) => debugger,

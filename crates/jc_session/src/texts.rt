@@ -1,4 +1,4 @@
-//! The lines of answers.
+//! The texts of answers that no other crate has. The answers are made of them.
 
 ghost use Rattle.std.specs.Prelude.{◌≡◌, ◌++◌, ℕ, List, IfOk, OnOk, All, length, string_bytes, codes, decimal};
 ghost use Rattle.jc_printer.specs.Canon.{AreNamed, canon_event};
@@ -33,14 +33,14 @@ pub fn at_line(alloc: Global, n: u64) -> Result<String, AllocError>
     format!(in alloc; "at {n}\n")
 }
 
-/// The line of a position, and another behind it.
+/// The line of a position, and another line after it.
 pub fn at_and(alloc: Global, n: u64, line: &str) -> Result<String, AllocError>
     ensures { IfOk result (λ text. string_bytes text ≡ at_line n ++ line.now) }
 {
     format!(in alloc; "at {n}\n{line}")
 }
 
-/// The line of the breakpoint that a run came to.
+/// The line of the breakpoint that a run reached.
 pub fn break_line(alloc: Global, k: u16) -> Result<String, AllocError>
     ensures { IfOk result (λ text. string_bytes text ≡ codes "break " ++ decimal k ++ codes "\n") }
 {
@@ -68,7 +68,7 @@ pub fn where_line(alloc: Global, n: u64, events: usize) -> Result<String, AllocE
     format!(in alloc; "at {n} of {events}\n")
 }
 
-/// The line of what was found of two replicas.
+/// The line of how two replicas compare.
 pub fn compared_line(alloc: Global, found: Comparison) -> Result<String, AllocError>
     ensures { IfOk result (λ text. string_bytes text ≡ compared_line found) }
 {
@@ -83,7 +83,7 @@ pub fn compared_line(alloc: Global, found: Comparison) -> Result<String, AllocEr
     }
 }
 
-/// An event's text as a line of its own.
+/// Appends an event's text as a line of its own.
 fn push_event(
     text: &mut String,
     alloc: Global,
@@ -116,7 +116,7 @@ fn numbered(alloc: Global, n: usize, event: &str) -> Result<String, AllocError>
     format!(in alloc; "{n} {event}\n")
 }
 
-/// The line of an event that has this number.
+/// Appends the line of an event with this number.
 fn push_numbered(
     text: &mut String,
     alloc: Global,
@@ -144,7 +144,7 @@ pub fn numbered_lines(alloc: Global, names: &[Text], events: &[Event]) -> Result
     Ok(text)
 }
 
-/// The line `none` in place of no line.
+/// The lines, or the line `none` where there are none.
 pub fn or_none(alloc: Global, text: String) -> Result<String, AllocError>
     ensures { IfOk result (λ shown. string_bytes shown ≡ or_none_text (string_bytes text)) }
 {

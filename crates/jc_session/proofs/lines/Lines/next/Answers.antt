@@ -10,7 +10,7 @@ returns-in_err-byte-clause-err g c =
 
 pub returns-in-Some-clause-too_many : goal.returns-in-Some-clause-too_many
 returns-in-Some-clause-too_many g c =
-    λ _. ([], c.in-Some.field-0, tt, c.in_ok-next.ensures.some c.in-Some.field-0 (ap Ok c.in-Some.is), omega (arith, c.requires.bytes), inr (c.if-self-eq-MOST_LINES.true, refl))
+    λ _. ([], c.in-Some.field-0, tt, c.in_ok-next.ensures.some c.in-Some.field-0 (ap Ok c.in-Some.is), omega (arith, c.requires.bytes), inr (c.if-self-eq-MAX_LINES.true, refl))
 
 pub returns-then-some-clause-last : goal.returns-then-some-clause-last
 returns-then-some-clause-last g c =
@@ -25,8 +25,8 @@ returns-else-some-clause-end g c =
     let none = c.in_ok-byte.ensures.none (ap Ok c.in_default.is) in
     λ _. none_after _ _ _ c.bytes.self.line c.bytes.some c.args.self.now.bytes c.bytes.self.bytes c.bytes.invariant.reading c.if-some.false none.0 none.2
 
-pub returns-then-self-eq-MOST_BYTES-clause-too_many : goal.returns-then-self-eq-MOST_BYTES-clause-too_many
-returns-then-self-eq-MOST_BYTES-clause-too_many g c =
+pub returns-then-self-eq-MAX_SESSION-clause-too_many : goal.returns-then-self-eq-MAX_SESSION-clause-too_many
+returns-then-self-eq-MAX_SESSION-clause-too_many g c =
     let r = c.bytes.invariant.reading in
     let b = r.bytes_are in
     let w = r.within in
