@@ -19,10 +19,11 @@ pub after_version : (N : Network) (es : List Event) (M : Network) → AfterIn N 
 after_version N [] M a = ap (λ (K : Network). K.version) (sym a)
 after_version N (e ∷ es) M a = after_version a.0 es M a.3 ∙ a.2.version
 
-pub states_set : (N : List State) (p : ℕ) (B : State) → length (slice_set N p B) ≡ length N
-states_set [] p B = refl
-states_set (A ∷ N) zero B = refl
-states_set (A ∷ N) (suc p) B = ap suc (states_set N p B)
+-- a list with one element set has its length, the states of a network among them
+pub states_set : {X : Type 0} (xs : List X) (p : ℕ) (x : X) → length (slice_set xs p x) ≡ length xs
+states_set [] p x = refl
+states_set (y ∷ xs) zero x = refl
+states_set (y ∷ xs) (suc p) x = ap suc (states_set xs p x)
 
 -- events add no replica
 pub after_count : (N : List State) (es : List Event) (M : List State) → After N es M → length M ≡ length N

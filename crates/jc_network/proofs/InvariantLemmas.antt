@@ -21,7 +21,7 @@ use Rattle.jc_network.specs.Invariant.{HasBegun, IsInRun, AreInRun, NetCanGoBack
 use Rattle.jc_network.specs.Refines.{AreSeen, IsAsked}
 use Rattle.jc_network.proofs.StepsLemmas.{well, reached, as_many_states, kept_there}
 use Rattle.jc_network.proofs.AppliedLemmas.{applied_stands}
-use Rattle.jc_network.proofs.AfterLemmas.{after_count, after_one_more}
+use Rattle.jc_network.proofs.AfterLemmas.{after_count, after_one_more, states_set}
 use Rattle.jc_network.proofs.OfferedLemmas.{offered_handed}
 use Rattle.jc_network.proofs.MembersLemmas.{set_there, set_other}
 use Rattle.jc_network.proofs.AbstractLemmas.{seen_is_real}
@@ -94,11 +94,6 @@ now_in_run version count is ps h = run_now version h.scripts h.first is ps h.run
 -- and reached
 pub now_reached : (version : Version) (count : ℕ) (is : List ℕ) (ps : List Past) → (h : IsKeptNet version count is ps) → IsReached h.scripts (network_of ps)
 now_reached version count is ps h = reached version h.scripts h.first (network_of ps) (kept_of ps) (now_in_run version count is ps h)
-
-length_set : (ps : List Past) (p : ℕ) (B : Past) → length (slice_set ps p B) ≡ length ps
-length_set [] p B = refl
-length_set (q ∷ ps) zero B = refl
-length_set (q ∷ ps) (suc p) B = ap suc (length_set ps p B)
 
 -- a network has a replica for each name, and at most 64
 pub few_names : (version : Version) (count : ℕ) (is : List ℕ) (ps : List Past) → IsKeptNet version count is ps → (length (network_of ps) ≡ count) × (count ≤ 64)
@@ -204,7 +199,7 @@ stepped version names old new whose more event rows allowed is inv acts =
     let there : slice_get new p ≡ Some m.after = subst (λ (ps : List Past). slice_get ps p ≡ Some m.after) (sym m.now) (set_there old p m.before m.after m.there) in
     let can : NetCanGoBack p new = record { past = m.after; there = there; some = λ e. not_empty m.before.now m.before.earlier (sym m.answers.earlier ∙ e) } in
     let kept : IsKeptNet version (length names) (p ∷ reverse whose) new = record {
-      each = ap length m.now ∙ (length_set old p m.after ∙ inv.each);
+      each = ap length m.now ∙ (states_set old p m.after ∙ inv.each);
       numbered = subst AreNumbered (sym m.now) (numbered_set old p m.before m.after m.there m.answers.number inv.numbered);
       backed = (can, subst (AreBacked (reverse whose)) (sym before) inv.backed);
       scripts = inv.scripts;
@@ -227,7 +222,7 @@ stepped version names old new whose more event rows allowed is inv acts =
 pub stepped_whole : (version : Version) (names : List (List ℕ)) (old new : List Past) (n : ℕ) (whose more : List ℕ) (event : Event) (rows : Rows) → Allows event version → n ≡ length old → more ≡ whose ++ replica_of event ∷ [] → IsKeptNet version (length names) (reverse whose) old → ActsReplica event old new (Ok rows) → IsAfter version names old (take n (new ++ drop (length new) old)) whose more event rows
 stepped_whole version names old new n whose more event rows allowed len is inv acts =
     let m = acts.moves in
-    let count : length new ≡ length old = ap length m.now ∙ length_set old (replica_of event) m.after in
+    let count : length new ≡ length old = ap length m.now ∙ states_set old (replica_of event) m.after in
     let whole : take n (new ++ drop (length new) old) ≡ new = subst (λ k. take k (new ++ drop (length new) old) ≡ new) (count ∙ sym len) (take-append_seam new (drop (length new) old)) in
     subst (λ ps. IsAfter version names old ps whose more event rows) (sym whole) (stepped version names old new whose more event rows allowed is inv acts)
 
@@ -297,7 +292,7 @@ undone version count ps p a b whose fewer is inv there number was =
     let new : slice_set ps p b ≡ back_at p ps = ap (slice_set ps p) (sym (back_is b a number (sym was))) ∙ sym (back_at-is p ps a there) in
     record {
       kept = record {
-        each = length_set ps p b ∙ h.each;
+        each = states_set ps p b ∙ h.each;
         numbered = numbered_set ps p a b there number h.numbered;
         backed = subst (AreBacked (reverse fewer)) (sym new) h.backed.1;
         scripts = h.scripts;
