@@ -1,4 +1,4 @@
--- The rules at one context.
+-- About AppliesAlong: the rules at one context.
 use Rattle.std.proofs.Common.{◌≡◌, ◌≢◌, List, [], Option, Some, None, Result, Ok, Err, OnOk, OnErr, Bool, is_some, true, false, refl, sym, ◌∙◌, ap, subst}
 use Rattle.jc_rules.specs.declared.id.Id.{Id}
 use Rattle.jc_rules.specs.declared.key.Key.{Key}
@@ -13,7 +13,7 @@ use Rattle.jc_rules.specs.declared.value.Value.{Value}
 use Rattle.jc_rules.specs.Order.{key_cmp, id_cmp}
 use Rattle.jc_rules.specs.Entries.{find, put}
 use Rattle.jc_rules.specs.Ids.{with_id}
-use Rattle.jc_rules.specs.Context.{Context, Content, Node, Values, Register, IsPrimitive, registers, maps, lists, node_of, values_of, content, with_content, new_content, presence, with_presence, key_of_tagged, empty, empty_list}
+use Rattle.jc_rules.specs.Context.{Context, Content, Node, Values, Register, IsPrimitive, registers, maps, lists, values_of, content, with_content, new_content, presence, with_presence, key_of_tagged, empty, empty_list}
 use Rattle.jc_rules.specs.ContextsAt.{with_node_at, node_in}
 use Rattle.jc_rules.specs.Derivation.{Question, Presence, AddId, Child, Clear, ClearElem, Operate, ToIds, ToContent, ToContext, Cleared}
 use Rattle.jc_rules.specs.Derives.{Derives}
@@ -29,6 +29,7 @@ use Rattle.jc_clear.specs.Clears.{Clears}
 use Rattle.jc_tree.proofs.PlacesLemmas.{then_here, then_place, then_now}
 use Rattle.jc_apply.specs.Fits.{content_or_new, empty_of}
 use Rattle.jc_apply.specs.AppliesAlong.{AddsId, IsAdded, TellsAdded, LeadsTo, Enters, AssignsEmpty}
+use Rattle.jc_clear.proofs.ClearRulesLemmas.{found_node}
 
 -- a register that is there or not, by the rule that says so
 pub register_there : (c : Context) (k : Key) → true ≡ is_some (find key_cmp k (registers c)) → Follows R.ChildGet (Child c (RegT k)) (ToContent (Values (or_no_entries (find key_cmp k (registers c))))) []
@@ -138,11 +139,7 @@ deleted at o a b ids t p u w is pe x we =
       now = x.now;
     })
 
-found_node : (x : Option Context) → is_some (node_of x) ≡ true → (d : Context) × (node_of x ≡ Some (Node d))
-found_node None h = cc
-found_node (Some d) h = (d, refl)
-
-found_context : (k : Tagged) (c : Context) → HasContext k → is_some (content k c) ≡ true → (d : Context) × (content k c ≡ Some (Node d))
+pub found_context : (k : Tagged) (c : Context) → HasContext k → is_some (content k c) ≡ true → (d : Context) × (content k c ≡ Some (Node d))
 found_context (MapT k) c h s = found_node (find key_cmp k (maps c)) s
 found_context (ListT k) c h s = found_node (find key_cmp k (lists c)) s
 found_context (RegT k) c h s = absurd h

@@ -1,4 +1,4 @@
--- The rule of a path's first key: its identifier is added, and what is below it is changed.
+-- About AppliesAlong: the rule of a path's first key adds the identifier and changes what is below.
 use Rattle.std.proofs.Common.{◌≡◌, ℕ, suc, ◌+◌, ◌<◌, List, [], ◌∷◌, ◌++◌, length, take, drop, get_or, Option, Some, None, Bool, refl, sym, ◌∙◌, ap, subst, add-one, drop-cons}
 use Rattle.std.proofs.Math.Seq.{take-suc}
 use Rattle.jc_rules.specs.declared.id.Id.{Id}

@@ -1,4 +1,4 @@
--- What an answer was derived by, and the contexts that are answered for children.
+-- About Fits: the last rule of an answer, and the contexts that are answered for children.
 use Rattle.std.proofs.Common.{◌≡◌, Some, sym, ◌∙◌, ap, subst}
 use Rattle.jc_rules.specs.declared.key.Tagged.{Tagged}
 use Rattle.jc_rules.specs.declared.key.Tagged.TheVariants.{MapT, ListT, RegT}

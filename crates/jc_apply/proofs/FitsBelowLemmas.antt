@@ -1,4 +1,4 @@
--- What fits a context fits the child that its path leads to.
+-- About Fits: what fits a context fits the child that its path leads to.
 use Rattle.std.proofs.Common.{◌≡◌, ◌≢◌, List, [], ◌∷◌, Option, Some, None, subst}
 use Rattle.jc_rules.specs.declared.key.Key.{Key}
 use Rattle.jc_rules.specs.declared.key.Tagged.{Tagged}

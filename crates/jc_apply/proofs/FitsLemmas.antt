@@ -1,4 +1,4 @@
--- What fits is refused for nothing.
+-- About Fits: what fits is refused for nothing.
 use Rattle.std.proofs.Common.{◌≡◌, ◌≢◌, List, [], ◌∷◌, Option, Some, None, refl, sym, ◌∙◌, ap, subst, arith, inl, inr}
 use Rattle.std.specs.Prelude.{◌⊎◌}
 use Rattle.jc_rules.specs.declared.id.Id.{Id}
@@ -10,7 +10,7 @@ use Rattle.jc_rules.specs.declared.key.Tagged.TheVariants.{MapT, ListT, RegT}
 use Rattle.jc_rules.specs.declared.operation.Mutation.TheVariants.{Insert}
 use Rattle.jc_rules.specs.Order.{key_cmp}
 use Rattle.jc_rules.specs.Entries.{find}
-use Rattle.jc_rules.specs.Context.{Context, empty, empty_list, Content, Node, Values, Register, values_of, content, next, registers}
+use Rattle.jc_rules.specs.Context.{Context, empty, empty_list, Content, Node, Values, content, next, registers}
 use Rattle.jc_rules.specs.ContextsAt.{node_in}
 use Rattle.jc_rules.specs.WellFormed.{IsChained, IsChainedList}
 use Rattle.jc_rules.specs.State.{State}
@@ -23,6 +23,7 @@ use Rattle.jc_clear.proofs.ClearListLemmas.{leads_from, leads_on, leads_next}
 use Rattle.jc_apply.specs.Fits.{Fits, FitsHere, InChild, content_or_new, child_context}
 use Rattle.jc_apply.proofs.InsertLemmas.{no_links}
 use Rattle.jc_apply.proofs.FitsAnsweredLemmas.{child_is}
+use Rattle.jc_rules.proofs.ContextLemmas.{no_node}
 
 -- a context on the way down a chained document: a list, or none
 abbrev pub IsShaped : Context → Type 0
@@ -31,10 +32,6 @@ IsShaped c = IsChained c ⊎ IsChainedList c
 shaped_below : (c : Context) → IsShaped c → AreChainedBelow c
 shaped_below c (inl h) = below-chained c h
 shaped_below c (inr h) = below-list c h
-
-no_node : {A : Type 0} (x : Option Register) (d : Context) → values_of x ≡ Some (Node d) → A
-no_node None d h = cc
-no_node (Some v) d h = cc
 
 empty_chained : IsChained empty
 empty_chained = (refl, tt, tt)

@@ -1,7 +1,6 @@
--- What the table answers fits, and what doesn't fit is refused.
+-- About Fits: what doesn't fit is refused.
 use Rattle.std.proofs.Common.{◌≡◌, ◌≢◌, ◌↔◌, IsTrue, IsFalse, List, [], ◌∷◌, Option, Some, None, Bool, refl, sym, ◌∙◌, ap, subst, inl}
 use Rattle.std.specs.List.{AllByRecursion}
-use Rattle.jc_rules.specs.declared.key.Key.{Key}
 use Rattle.jc_rules.specs.declared.key.Next.{Next}
 use Rattle.jc_rules.specs.declared.key.Tagged.{Tagged}
 use Rattle.jc_rules.specs.declared.key.Tagged.TheVariants.{MapT, ListT, RegT}
@@ -17,64 +16,14 @@ use Rattle.jc_rules.specs.Order.{key_cmp}
 use Rattle.jc_rules.specs.Entries.{find}
 use Rattle.jc_rules.specs.Context.{Context, Content, Node, node_of, content, new_content, next, maps, lists}
 use Rattle.jc_rules.specs.ContextsAt.{node_in}
-use Rattle.jc_rules.specs.Derivation.{Child, Operate, Answer, ToContent, ToContext, Judgement, gives, derive, Premises, none, conclusions}
-use Rattle.jc_rules.specs.Table.{Follows, AllHold, moved}
+use Rattle.jc_rules.specs.Derivation.{Child, Operate, ToContent, gives, derive, none}
+use Rattle.jc_rules.specs.Table.{Follows, moved}
 use Rattle.jc_rules.specs.Refused.{Cause, because, IsAnswered, Refused, operate_below, not_in_list}
 use Rattle.jc_rules.specs.WellFormed.{IsChained}
 use Rattle.jc_rules.specs.Paths.{HasContext, IsPath}
-use Rattle.jc_rules.proofs.RefusedLemmas.{first_is, second_is}
-use Rattle.jc_apply.specs.Fits.{Fits, FitsHere, InChild, HasNoAnswer, EachOp, content_or_new, child_context}
-use Rattle.jc_apply.proofs.ReachLemmas.{fits_all, differ}
-use Rattle.jc_apply.proofs.FitsAnsweredLemmas.{last_rule, child_is}
+use Rattle.jc_apply.specs.Fits.{Fits, FitsHere, InChild, EachOp, content_or_new, child_context}
 use Rattle.jc_apply.proofs.FitsLemmas.{unrefused}
-
--- the context below a path's first key, where the operation is answered with the rest of its path
-record Below (c : Context) (o : Op) (t : Tagged) (ts : List Tagged) : Type 0 where
-  pub below : Context
-  pub child : child_context t c ≡ Some below
-  pub after : Context
-  pub answered : IsAnswered (Operate below (moved o ts o.cursor.last o.mutation)) (ToContext after)
-
-linked : (m : Mutation) (c : Context) (k : Key) (n : Next) → next k c ≡ Some n → FitsHere c k m
-linked (Assign v) c k n e = tt
-linked (Insert v) c k n e = λ h. cc
-linked Delete c k n e = tt
-
--- the rule at the path's end, and on the way
-ended : (r : Rule) (c : Context) (o : Op) (a : Answer) (js : List Judgement) → o.cursor.path ≡ [] → Follows r (Operate c o) a js → FitsHere c o.cursor.last o.mutation
-ended R.Descend c o a js e (k, rest, d, x, y, path, is, after) = cc
-ended R.Assign c o a js e (v, c1, s, c2, r, path, is, _, _, _) = fits_all o.mutation c o.cursor.last (λ w h. cc)
-ended R.EmptyMap c o a js e (c1, s, c2, x, path, is, _, _) = fits_all o.mutation c o.cursor.last (λ w h. cc)
-ended R.EmptyList c o a js e (c1, s, c2, x, path, is, _, _) = fits_all o.mutation c o.cursor.last (λ w h. cc)
-ended R.Insert1 c o a js e (v, n, d, path, is, follows, _, _, _) = linked o.mutation c o.cursor.last n follows
-ended R.Insert2 c o a js e (v, n, d, path, is, follows, _, _, _) = linked o.mutation c o.cursor.last _ follows
-ended R.Delete c o a js e (d, s, path, is, _, _) = fits_all o.mutation c o.cursor.last (λ w h. cc)
-ended _ c o a js e h = absurd h
-
-below_is : (r : Rule) (c : Context) (o : Op) (a : Answer) (t : Tagged) (ts : List Tagged) (ps : Premises) → o.cursor.path ≡ t ∷ ts → Follows r (Operate c o) a (conclusions ps) → AllHold ps → Below c o t ts
-below_is R.Descend c o a t ts ps e (k, rest, d, x, y, path, is, after) h =
-    let key : k ≡ t = cc in
-    let keys : rest ≡ ts = cc in
-    record {
-      below = d;
-      child = subst (λ (s : Tagged). child_context s c ≡ Some d) key (child_is k c d (first_is _ _ _ ps h is));
-      after = x;
-      answered = subst (λ (s : List Tagged). IsAnswered (Operate d (moved o s o.cursor.last o.mutation)) (ToContext x)) keys (second_is _ _ _ _ ps h is);
-    }
-below_is R.Assign c o a t ts ps e (v, c1, s, c2, r, path, _, _, _, _) h = cc
-below_is R.EmptyMap c o a t ts ps e (c1, s, c2, x, path, _, _, _) h = cc
-below_is R.EmptyList c o a t ts ps e (c1, s, c2, x, path, _, _, _) h = cc
-below_is R.Insert1 c o a t ts ps e (v, n, d, path, _, _, _, _, _) h = cc
-below_is R.Insert2 c o a t ts ps e (v, n, d, path, _, _, _, _, _) h = cc
-below_is R.Delete c o a t ts ps e (d, s, path, _, _, _) h = cc
-below_is _ c o a t ts ps e f h = absurd f
-
--- what is answered fits
-answered_fits : (ts : List Tagged) (c : Context) (o : Op) (a : Answer) → o.cursor.path ≡ ts → IsAnswered (Operate c o) a → Fits c ts o.cursor.last o.mutation
-answered_fits [] c o a e s = last_rule (Operate c o) a _ s (λ r ps f h. ended r c o a (conclusions ps) e f)
-answered_fits (t ∷ ts) c o a e s =
-    let b = last_rule (Operate c o) a (Below c o t ts) s (λ r ps f h. below_is r c o a t ts ps e f h) in
-    subst (λ (x : Option Context). InChild x (λ d. Fits d ts o.cursor.last o.mutation)) (sym b.child) (answered_fits ts b.below (moved o ts o.cursor.last o.mutation) (ToContext b.after) refl b.answered)
+use Rattle.jc_rules.proofs.BoolLemmas.{no_truth}
 
 -- the same cursor and mutation ask for the same
 fits_alike : (c : Context) (cursor : Cursor) (m : Mutation) (o : Op) → o.cursor ≡ cursor → o.mutation ≡ m → Fits c o.cursor.path o.cursor.last o.mutation → Fits c cursor.path cursor.last m
@@ -83,10 +32,7 @@ fits_alike c cursor m o at is = subst (λ (x : Cursor × Mutation). Fits c x.0.p
 alike_fits : (c : Context) (cursor : Cursor) (m : Mutation) (o : Op) → o.cursor ≡ cursor → o.mutation ≡ m → Fits c cursor.path cursor.last m → Fits c o.cursor.path o.cursor.last o.mutation
 alike_fits c cursor m o at is = subst (λ (x : Cursor × Mutation). Fits c x.0.path x.0.last x.1) (λ i. (sym at i, sym is i))
 
-unanswered : (c : Context) (cursor : Cursor) (m : Mutation) → (Fits c cursor.path cursor.last m → ⊥) → EachOp cursor m (λ o. HasNoAnswer (Operate c o))
-unanswered c cursor m unfit o at is a s = unfit (fits_alike c cursor m o at is (answered_fits o.cursor.path c o a refl s))
-
--- what stands under a tagged key, or is new there, is answered for it
+-- what is under a tagged key, or is new there, is answered for it
 abbrev new_rule : Tagged → Rule
 new_rule (MapT k) = R.ChildMap
 new_rule (ListT k) = R.ChildList
@@ -142,17 +88,15 @@ refused : (c : Context) (cursor : Cursor) (m : Mutation) → (Fits c cursor.path
 refused c cursor m unfit all o at is =
     not_fitting o.cursor.path c o refl (subst (λ (x : Cursor). AllByRecursion HasContext x.path) (sym at) all) (λ f. unfit (fits_alike c cursor m o at is f))
 
--- What a call says that tells whether an operation fits.
+-- That a call returns whether an operation fits.
 pub record Told (c : Context) (cursor : Cursor) (m : Mutation) (r : Bool) : Type 0 where
   pub fits : IsTrue r ↔ Fits c cursor.path cursor.last m
-  pub no_answer : IsFalse r → EachOp cursor m (λ o. HasNoAnswer (Operate c o))
   pub refused : IsFalse r → EachOp cursor m (λ o. Refused (Operate c o) (because F.NotInList))
   pub not_refused : IsTrue r → IsChained c → EachOp cursor m (λ o. (why : Cause) → Refused (Operate c o) why → ⊥)
 
 pub told : (c : Context) (cursor : Cursor) (m : Mutation) (r : Bool) → IsPath cursor.path → IsTrue r ↔ Fits c cursor.path cursor.last m → Told c cursor m r
 told c cursor m r p h = record {
   fits = h;
-  no_answer = λ e. unanswered c cursor m (λ f. differ (sym e ∙ h.1 f));
-  refused = λ e. refused c cursor m (λ f. differ (sym e ∙ h.1 f)) p.contexts;
+  refused = λ e. refused c cursor m (λ f. no_truth (sym e ∙ h.1 f)) p.contexts;
   not_refused = λ e chained o at is why x. unrefused x (inl chained, alike_fits c cursor m o at is (h.0 e));
 }

@@ -1,4 +1,4 @@
--- Going past the elements whose identifiers are greater, and linking a new one.
+-- About AppliesAlong: going past elements with greater identifiers, and linking a new one.
 use Rattle.std.proofs.Common.{◌≡◌, ◌≢◌, ◌<◌, ◌≤◌, List, [], ◌∷◌, length, Option, Some, None, refl, ◌∙◌, ap, subst, arith}
 use Rattle.std.specs.declared.cmp.Ordering.{Ordering}
 use Rattle.std.specs.declared.cmp.Ordering.TheVariants.{Less, Equal, Greater}
@@ -16,7 +16,7 @@ use Rattle.jc_rules.specs.declared.value.Value.{Value}
 use Rattle.jc_rules.specs.Order.{id_cmp}
 use Rattle.jc_rules.specs.Entries.{find}
 use Rattle.jc_rules.specs.Order.{key_cmp}
-use Rattle.jc_rules.specs.Context.{Context, context, Content, Node, Values, Register, registers, values_of, content, links, next, with_next}
+use Rattle.jc_rules.specs.Context.{Context, context, Content, Node, Values, registers, content, links, next, with_next}
 use Rattle.jc_rules.specs.ContextsAt.{node_at, with_node_at}
 use Rattle.jc_rules.specs.Derivation.{Operate, ToContext}
 use Rattle.jc_rules.specs.Derives.{Derives}
@@ -34,10 +34,7 @@ use Rattle.jc_tree.proofs.PlacesLemmas.{then_here, then_place, then_now}
 use Rattle.jc_apply.specs.Fits.{IsUnlinked}
 use Rattle.jc_apply.specs.AppliesAlong.{LeadsTo, LinksNone, LinksOnly, Passes}
 use Rattle.jc_apply.proofs.UnlinkedLemmas.{unlinked_here, unlinked_now, unlinked-linked, no_next}
-
-no_node : {A : Type 0} (x : Option Register) (d : Context) → values_of x ≡ Some (Node d) → A
-no_node None d h = cc
-no_node (Some v) d h = cc
+use Rattle.jc_rules.proofs.ContextLemmas.{no_node}
 
 -- what the loop keeps: its place is on the chain, and what is derived there is derived for the operation
 pub record Passing (o : Op) (c : Context) (k : Key) (n : Next) (t u : Rows) : Type 0 where

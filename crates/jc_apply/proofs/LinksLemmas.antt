@@ -1,4 +1,4 @@
--- What calls leave of links.
+-- About AppliesAlong: what the steps of an operation leave of links.
 use Rattle.std.proofs.Common.{◌≡◌, List, refl, ◌∙◌, ap}
 use Rattle.jc_rules.specs.declared.id.Id.{Id}
 use Rattle.jc_rules.specs.declared.key.Key.{Key}

@@ -1,4 +1,4 @@
--- The context that a path leads to, some of those on the way new, and that an operation fits where it fits there.
+-- About Fits: the context that a path leads to, some on the way new; an operation fits where it fits there.
 use Rattle.std.proofs.Common.{◌≡◌, ◌≢◌, ◌↔◌, ℕ, ◌+◌, ◌-◌, ◌<◌, ◌≤◌, IsTrue, get_or, add-one, List, [], ◌∷◌, ◌++◌, length, take, slice_get, Option, Some, None, is_some, Bool, true, false, refl, sym, ◌∙◌, ap, subst, arith}
 use Rattle.std.proofs.Math.Seq.{take-suc}
 use Rattle.std.proofs.lemmas.List.{take_all}
@@ -21,6 +21,7 @@ use Rattle.jc_rules.proofs.ContextsAtLemmas.{there}
 use Rattle.jc_rules.proofs.RisingLemmas.{all_at}
 use Rattle.jc_tree.proofs.PlacesLemmas.{some_content}
 use Rattle.jc_apply.specs.Fits.{Fits, FitsHere, InChild, content_or_new, child_context, made_under}
+use Rattle.jc_rules.proofs.BoolLemmas.{none_of, no_truth}
 
 -- the context at the path's end, where those that aren't there are new
 abbrev pub reached : List Tagged → Context → Option Context
@@ -110,15 +111,8 @@ pub record Walked (c : Context) (path : List Tagged) (n : ℕ) (there : Bool) : 
   pub place : there ≡ is_some (node_at (take n path) c)
   pub made : there ≡ false → reached (take n path) c ≡ Some (made_under (slice_get path (n - 1)))
 
-pub differ : {A : Type 0} → false ≡ true → A
-differ e = cc
-
-none_there : {X : Type 0} (o : Option X) → is_some o ≡ false → o ≡ None
-none_there None e = refl
-none_there (Some x) e = differ (sym e)
-
 some_there : {X : Type 0} (o : Option X) → is_some o ≡ true → o ≢ None
-some_there None e f = differ e
+some_there None e f = no_truth e
 some_there (Some x) e f = cc
 
 made_child : (t : Tagged) → HasContext t → node_in (Some (new_content t)) ≡ Some (made_under (Some t))
@@ -137,12 +131,12 @@ module _ (c : Context) (ps : List Tagged) (t : Tagged) (h : HasContext t) where
   made_in_place e f =
       let parent = there ps c (some_there (node_at ps c) (sym e)) in
       reached-below ps t c (context_at ps c) (reached-there ps c (context_at ps c) parent)
-      ∙ ap (λ (o : Option Content). node_in (Some (content_or_new t o))) (none_there (content t (context_at ps c)) (sym (some_content t (context_at ps c) h) ∙ f))
+      ∙ ap (λ (o : Option Content). node_in (Some (content_or_new t o))) (none_of (content t (context_at ps c)) (sym (some_content t (context_at ps c) h) ∙ f))
       ∙ made_child t h
 
   -- and where its parent is new
   no_place_below : false ≡ is_some (node_at ps c) → false ≡ is_some (node_at (ps ++ t ∷ []) c)
-  no_place_below e = sym (ap is_some (node-below ps t c ∙ ap (λ (o : Option Context). option_and_then (λ d. node_in (content t d)) o) (none_there (node_at ps c) (sym e))))
+  no_place_below e = sym (ap is_some (node-below ps t c ∙ ap (λ (o : Option Context). option_and_then (λ d. node_in (content t d)) o) (none_of (node_at ps c) (sym e))))
 
   made_in_new : (o : Option Tagged) → reached ps c ≡ Some (made_under o) → reached (ps ++ t ∷ []) c ≡ Some (made_under (Some t))
   made_in_new o e = reached-below ps t c (made_under o) e ∙ made_below o t h

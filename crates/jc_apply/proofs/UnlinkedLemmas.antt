@@ -1,4 +1,4 @@
--- Which identifiers are linked, at every depth.
+-- About Fits: which identifiers are linked, at every depth.
 use Rattle.std.proofs.Common.{◌≡◌, ◌≢◌, List, [], ◌∷◌, Option, Some, None, Bool, true, false, refl, sym, ◌∙◌}
 use Rattle.std.specs.List.{AllByRecursion}
 use Rattle.std.specs.Ordering.{eq_by_cmp}

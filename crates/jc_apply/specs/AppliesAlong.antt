@@ -1,4 +1,4 @@
--- What a call says that changes the context at a place by the table.
+-- That a call changes the context at a place by the table: the contracts of `apply_op`'s steps.
 use Rattle.std.specs.Prelude.{◌≡◌, ◌≢◌, ◌≤◌, List, [], ◌∷◌, Option, Some, None, Bool, is_some}
 use Rattle.jc_rules.specs.declared.id.Id.{Id}
 use Rattle.jc_rules.specs.declared.key.Key.{Key}

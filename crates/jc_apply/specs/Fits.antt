@@ -1,4 +1,4 @@
--- Where an operation can be applied.
+-- Where an operation can be applied, and which identifiers are linked: the words of `fits` and `apply_op`.
 use Rattle.std.specs.Prelude.{◌≡◌, ◌≢◌, List, [], ◌∷◌, Option, Some, None}
 use Rattle.std.specs.Option.{option_map}
 use Rattle.std.specs.List.{AllByRecursion}
@@ -15,12 +15,6 @@ use Rattle.jc_rules.specs.declared.value.Value.{Value}
 use Rattle.jc_rules.specs.declared.value.Value.TheVariants.{EmptyMap, EmptyList, Null}
 use Rattle.jc_rules.specs.Context.{Context, context, Children, no_child, child, Content, content, new_content, next}
 use Rattle.jc_rules.specs.ContextsAt.{node_in, or_empty}
-use Rattle.jc_rules.specs.Derivation.{Question, Answer}
-use Rattle.jc_rules.specs.Refused.{IsAnswered}
-
--- no derivation gives the question an answer
-abbrev pub HasNoAnswer : Question → Type 0
-HasNoAnswer q = (a : Answer) → IsAnswered q a → ⊥
 
 -- what holds of each operation with this cursor and this mutation, whoever made it
 abbrev pub EachOp : Cursor → Mutation → (Op → Type 0) → Type 0

@@ -1,6 +1,6 @@
-//! Applying an operation to a document.
+//! Applying an operation to a document: replicas do it with operations that they make or receive.
 
-ghost use Rattle.std.specs.Prelude.{◌≡◌, ◌≢◌, ◌≤◌, [], List, IsErrOf, IfOk, OnOk, OnErr, length, take, drop};
+ghost use Rattle.std.specs.Prelude.{◌≡◌, ◌≢◌, ◌≤◌, ◌↔◌, [], List, IsErrOf, IfOk, OnOk, OnErr, length, take, drop};
 ghost use Rattle.jc_rules.specs.declared.id.Id.{Id as AnyId};
 ghost use Rattle.jc_rules.specs.declared.refusal.Refusal.TheVariants.{NotInList as PlaceNotInList};
 ghost use Rattle.jc_rules.specs.Derivation.{Operate, ToContext};
@@ -11,8 +11,7 @@ ghost use Rattle.jc_rules.specs.Table.{moved};
 ghost use Rattle.jc_tree.specs.Tree.{HasPlace, IsLater, here};
 ghost use Rattle.jc_tree.specs.CanGoBack.{TreeCanGoBack};
 ghost use Rattle.jc_vectors.specs.OperationIds.{with_deps};
-ghost use Rattle.jc_apply.specs.Applies.{AppliesFor};
-ghost use Rattle.jc_apply.specs.Fits.{Fits, HasNoAnswer, IsUnlinked};
+ghost use Rattle.jc_apply.specs.Fits.{Fits, IsUnlinked};
 ghost use Rattle.jc_apply.specs.AppliesAlong.{AddsId, LeadsTo, LinksNone, LinksOnly};
 
 use crate::assigning::{assign, trace_added};
@@ -33,7 +32,7 @@ pub enum ApplyFault {
     Memory,
 }
 
-/// Deletes what stands under the operation's last key.
+/// Deletes what is under the operation's last key.
 fn delete<S: TreeStore>(
     alloc: Global,
     store: &mut S,
@@ -81,7 +80,7 @@ fn operate_here<S: TreeStore>(
 }
 
 /// Adds the operation's identifier to the presence set of a key on its path, at the place with the
-/// given name, unless the operation deletes. Says whether there was a set, and nothing for a deletion.
+/// given name, unless the operation deletes. Returns whether there was a set; `None` for a deletion.
 fn add_op<S: TreeStore>(
     store: &mut S,
     place: Place,
@@ -106,8 +105,8 @@ fn add_op<S: TreeStore>(
     }
 }
 
-/// Applies the operation to the context that the first keys of its path lead to, as many as
-/// `depth` says. The place has the given name.
+/// Applies the operation to the context that the first `depth` keys of its path lead to. `place` is
+/// the store's name for that context.
 fn operate<S: TreeStore>(
     alloc: Global,
     store: &mut S,
@@ -149,8 +148,11 @@ fn operate<S: TreeStore>(
 /// Applies the operation to the document, and adds its rules to the trace at its depth. No
 /// identifier but the operation's own gets linked in a list.
 ///
-/// Each operation that doesn't fit is refused with `NotInList`, and no other: no derivation applies
-/// it. All else that is refused is memory. After a refusal store and trace are as they were before.
+/// An operation is refused with `NotInList` exactly where it doesn't fit; all else that is refused is
+/// memory. After a refusal store and trace are as they were. That no derivation applies an operation
+/// that is refused so is the law `refused_has_none` of jc_rules. That the same rules apply the
+/// operation with the dependencies that its counters represent is the law `operate_stands` of
+/// jc_vectors.
 pub fn apply_op<S: TreeStore>(
     alloc: Global,
     store: &mut S,
@@ -161,17 +163,10 @@ pub fn apply_op<S: TreeStore>(
     requires fresh { IsUnlinked op.now.id (S.tree store.old).now }
     ensures ok { OnOk result (Derives (Operate (S.tree store.old).now op.now)
         (ToContext (S.tree store.new).now) trace.old trace.new) }
-    ensures stands { OnOk result (AppliesFor op.now (S.tree store.old).now (S.tree store.new).now trace.old trace.new) }
-    ensures fits { OnOk result (Fits (S.tree store.old).now op.now.cursor.path op.now.cursor.last op.now.mutation) }
-    ensures memory { IsErrOf result ApplyFault.Memory
-        → Fits (S.tree store.old).now op.now.cursor.path op.now.cursor.last op.now.mutation }
-    ensures unfit { IsErrOf result ApplyFault.NotInList
-        → Fits (S.tree store.old).now op.now.cursor.path op.now.cursor.last op.now.mutation → ⊥ }
-    ensures no_answer { IsErrOf result ApplyFault.NotInList → HasNoAnswer (Operate (S.tree store.old).now op.now) }
+    ensures fits { Fits (S.tree store.old).now op.now.cursor.path op.now.cursor.last op.now.mutation
+        ↔ (IsErrOf result ApplyFault.NotInList → ⊥) }
     ensures refused { IsErrOf result ApplyFault.NotInList
         → Refused (Operate (S.tree store.old).now op.now) (because PlaceNotInList) }
-    ensures stands_no_answer { IsErrOf result ApplyFault.NotInList → (deps : List AnyId)
-        → HasNoAnswer (Operate (S.tree store.old).now (with_deps deps op.now)) }
     ensures stands_refused { IsErrOf result ApplyFault.NotInList → (deps : List AnyId)
         → Refused (Operate (S.tree store.old).now (with_deps deps op.now)) (because PlaceNotInList) }
     ensures err_store { OnErr result (S.tree store.new ≡ S.tree store.old) }

@@ -1,4 +1,4 @@
-//! Assigning a value to a key, and adding identifiers to presence sets.
+//! Assigning a value to a key, and adding identifiers to presence sets: steps of `apply_op`.
 
 ghost use Rattle.std.specs.Prelude.{◌≡◌, ◌≢◌, [], OnOk, is_some};
 ghost use Rattle.jc_rules.specs.declared.key.Key.{Key as AnyKey};
@@ -45,8 +45,8 @@ fn register_rule(was: bool) -> Rule
     if was { Rule::ChildGet } else { Rule::ChildReg }
 }
 
-/// Adds the rules to the trace by which an operation's identifier was added to a presence set, which
-/// was there or not, or by which it wasn't added for a deletion.
+/// Adds the rules to the trace by which an operation's identifier was added to a presence set. `was` is
+/// whether the set was there, and `None` for a deletion, which adds no identifier.
 pub fn trace_added(was: Option<bool>, trace: &mut Trace) -> Result<(), AllocError>
     ensures ok { OnOk result (TellsAdded was trace.old trace.new) }
     ensures kept { IsLonger trace.old trace.new }
@@ -128,7 +128,7 @@ fn empty_rule(key: &Tagged) -> Rule
 }
 
 /// Assigns an empty map or an empty list to a key: what is under it is cleared, and the map or the
-/// list made where there is none.
+/// list is made where there is none.
 fn assign_empty<S: TreeStore>(
     alloc: Global,
     store: &mut S,

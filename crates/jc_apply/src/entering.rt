@@ -1,4 +1,4 @@
-//! Entering the child under a tagged key.
+//! Entering the child under a tagged key, on the way down an operation's path.
 
 ghost use Rattle.std.specs.Prelude.{◌≡◌, [], ◌∷◌, ◌++◌, None, IfOk, OnOk};
 ghost use Rattle.jc_rules.specs.Context.{Context, content, new_content};
@@ -13,7 +13,7 @@ use jc_rules::{Rule, Tagged, Trace};
 use jc_tree::{Place, TreeStore};
 use std::alloc::AllocError;
 
-/// The rule that makes what stands under a tagged key.
+/// The rule that makes what is under a tagged key.
 fn child_rule(key: &Tagged) -> Rule
     ensures { (c : Context) → content key.now c ≡ None
         → Follows result (Child c key.now) (ToContent (new_content key.now)) [] }
@@ -47,8 +47,8 @@ pub fn enter<S: TreeStore>(
     Ok(())
 }
 
-/// Makes the context under the tagged key of the place, which has the given name, if it isn't there
-/// already. Gives its name.
+/// Makes the context under the tagged key in the context at the place, whose name is `place`, if it
+/// isn't there already. Returns its name.
 pub fn enter_below<S: TreeStore>(
     store: &mut S,
     place: Place,

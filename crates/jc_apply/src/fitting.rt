@@ -1,4 +1,4 @@
-//! Whether an operation can be applied.
+//! Whether an operation can be applied, found before it is: `apply_op` and the replica's checks use it.
 
 ghost use Rattle.std.specs.Prelude.{◌≢◌, ◌↔◌, IsTrue, IsFalse, None, option_copied};
 ghost use Rattle.jc_rules.specs.declared.refusal.Refusal.TheVariants.{NotInList};
@@ -6,13 +6,13 @@ ghost use Rattle.jc_rules.specs.Context.{next as next_of};
 ghost use Rattle.jc_rules.specs.Derivation.{Operate};
 ghost use Rattle.jc_rules.specs.Refused.{Cause, Refused, because};
 ghost use Rattle.jc_rules.specs.WellFormed.{IsChained};
-ghost use Rattle.jc_apply.specs.Fits.{Fits, HasNoAnswer, EachOp, made_under};
+ghost use Rattle.jc_apply.specs.Fits.{Fits, EachOp, made_under};
 
 use jc_rules::{Cursor, Key, Mutation, Tagged};
 use jc_tree::TreeStore;
 
-/// Whether something follows the key in the context that was just made under a tagged key: only
-/// the head of a new list is linked.
+/// Whether something follows the key in a new context under the tagged key: only the head of a new
+/// list is linked.
 fn is_new_head(parent: Option<&Tagged>, key: &Key) -> bool
     ensures { IsTrue result ↔ (next_of key.now (made_under (option_copied parent.entry)) ≢ None) }
 {
@@ -21,12 +21,13 @@ fn is_new_head(parent: Option<&Tagged>, key: &Key) -> bool
 
 /// Whether an operation with this cursor and this mutation can be applied: maps and lists on its
 /// path that aren't there yet would be made, and an insert's key has to be linked at the path's
-/// end. What doesn't fit is refused with `NotInList`; what fits is refused for nothing, where the
-/// document's lists are chained. It takes no memory.
+/// end.
+///
+/// An operation that doesn't fit is refused with `NotInList`, so no derivation applies it (the law
+/// `refused_has_none` of jc_rules). One that fits is refused for nothing, where the document's
+/// lists are chained. It takes no memory.
 pub fn fits<S: TreeStore>(store: &S, cursor: &Cursor, mutation: &Mutation) -> bool
     ensures fits { IsTrue result ↔ Fits (S.tree store.now).now cursor.now.path cursor.now.last mutation.now }
-    ensures no_answer { IsFalse result
-        → EachOp cursor.now mutation.now (λ o. HasNoAnswer (Operate (S.tree store.now).now o)) }
     ensures refused { IsFalse result
         → EachOp cursor.now mutation.now (λ o. Refused (Operate (S.tree store.now).now o) (because NotInList)) }
     ensures not_refused { IsTrue result → IsChained (S.tree store.now).now

@@ -1,4 +1,4 @@
-//! Inserting an element into a list.
+//! Inserting an element into a list: a step of `apply_op`.
 
 ghost use Rattle.std.specs.Prelude.{◌≡◌, ◌≢◌, [], None, Some, IfOk, OnOk};
 ghost use Rattle.std.specs.declared.cmp.Ordering.TheVariants.{Less};
@@ -34,7 +34,7 @@ fn next_in<S: TreeStore>(store: &S, at: &[Tagged], key: &Key) -> Next
     next
 }
 
-/// The element that follows, if its identifier is greater than the given one.
+/// The element that `next` leads to, if its identifier is greater than the given one.
 fn greater_element(next: Next, id: Id) -> Option<Id>
     ensures some { (n : AnyId) → result ≡ Some n → (next ≡ To n) × (id_cmp id n ≡ Less) }
     ensures none { result ≡ None → (n : AnyId) → next ≡ To n → id_cmp id n ≢ Less }
@@ -46,7 +46,7 @@ fn greater_element(next: Next, id: Id) -> Option<Id>
 }
 
 /// Goes from the operation's last key past the elements there whose identifier is greater than the
-/// operation's. Gives the key behind which the new element belongs, and what follows that key.
+/// operation's. Returns the key behind which the new element belongs, and what follows that key.
 fn pass<S: TreeStore>(
     store: &S,
     at: &[Tagged],

@@ -1,4 +1,4 @@
-//! The rules of operations, over any store of a document's tree.
+//! The rules of operations, over any store of a document's tree: replicas apply operations by them.
 #![tactic(auto)]
 
 mod apply;

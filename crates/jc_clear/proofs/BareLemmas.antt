@@ -1,4 +1,4 @@
--- What clearing leaves as it is decides chains, keys and depths.
+-- About Bare: what clearing leaves as it is decides chains, keys and depths.
 use Rattle.std.proofs.Common.{◌≡◌, ◌≢◌, suc, ◌+◌, ◌≤◌, List, [], ◌∷◌, Option, Some, None, Bool, true, false, cond, option_map, refl, sym, ◌∙◌, ap, arith}
 use Rattle.std.specs.Ordering.{eq_by_cmp}
 use Rattle.jc_rules.specs.declared.id.Id.{Id}
@@ -16,6 +16,7 @@ use Rattle.jc_rules.proofs.ContextsAtLemmas.{node_found, children_listed}
 use Rattle.jc_tree.specs.Nested.{nested, nested_in}
 use Rattle.jc_tree.proofs.ChainedLemmas.{each_chained, each_list, chain-same}
 use Rattle.jc_clear.specs.Bare.{bare, bare_in, emptied, AreChainedBelow}
+use Rattle.jc_rules.proofs.ContextLemmas.{no_node}
 
 links_bare : (c : Context) → links (bare c) ≡ links c
 links_bare (context m l r p n) = refl
@@ -107,14 +108,10 @@ map_below k (context m l r p n) d e h = value-found keys_total exact_keys IsChai
 pub list_below : (k : Key) (c d : Context) → content (ListT k) c ≡ Some (Node d) → AreChainedBelow c → IsChainedList d
 list_below k (context m l r p n) d e h = value-found keys_total exact_keys IsChainedList k d (listed l) (each_list l h.1) (node_found _ d e)
 
-no_values : {A : Type 0} (x : Option Register) (d : Context) → values_of x ≡ Some (Node d) → A
-no_values None d h = cc
-no_values (Some v) d h = cc
-
 pub child_below : (t : Tagged) (c d : Context) → content t c ≡ Some (Node d) → AreChainedBelow c → AreChainedBelow d
 child_below (MapT k) c d e h = below-chained d (map_below k c d e h)
 child_below (ListT k) c d e h = below-list d (list_below k c d e h)
-child_below (RegT k) c d e h = no_values (find key_cmp k (registers c)) d e
+child_below (RegT k) c d e h = no_node (find key_cmp k (registers c)) d e
 
 nested_found : (k : Key) (cs : Children) (d : Context) → find key_cmp k (listed cs) ≡ Some d → suc (nested d) ≤ nested_in cs
 nested_found k no_child d h = cc
@@ -127,7 +124,7 @@ nested_found k (child j c cs) d h = go (eq_by_cmp key_cmp k j) refl (nested_foun
 pub nested_below : (t : Tagged) (c d : Context) → content t c ≡ Some (Node d) → suc (nested d) ≤ nested c
 nested_below (MapT k) (context m l r p n) d e = omega (arith, nested_found k m d (node_found _ d e))
 nested_below (ListT k) (context m l r p n) d e = omega (arith, nested_found k l d (node_found _ d e))
-nested_below (RegT k) c d e = no_values (find key_cmp k (registers c)) d e
+nested_below (RegT k) c d e = no_node (find key_cmp k (registers c)) d e
 
 bare-listed : (cs : Children) → bare_in (children (listed cs)) ≡ bare_in cs
 bare-listed cs = ap bare_in (children_listed cs)
@@ -152,7 +149,7 @@ bare-with (MapT k) (context m l r p n) d e h s =
 bare-with (ListT k) (context m l r p n) d e h s =
     let f : find key_cmp k (listed l) ≡ Some d = node_found _ d h in
     rw (f, bare-replaced k d e l f s) refl
-bare-with (RegT k) c d e h s = no_values (find key_cmp k (registers c)) d h
+bare-with (RegT k) c d e h s = no_node (find key_cmp k (registers c)) d h
 
 emptied-replaced : (k : Key) (v : Register) (es : List (Key × Register)) → emptied (replaced key_cmp k v es) ≡ emptied es
 emptied-replaced k v [] = refl

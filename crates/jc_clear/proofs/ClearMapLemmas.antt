@@ -1,4 +1,4 @@
--- Clearing the keys of a map, the least first.
+-- About Clears: clearing the keys of a map, the least first.
 use Rattle.std.proofs.Common.{◌≡◌, ◌≢◌, ℕ, ◌<◌, List, [], ◌∷◌, length, filter, Option, Some, None, Bool, true, false, not, refl, sym, ◌∙◌, ap, subst}
 use Rattle.std.specs.List.{AllByRecursion}
 use Rattle.std.specs.declared.cmp.Ordering.{Ordering}

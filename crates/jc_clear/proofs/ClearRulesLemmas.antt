@@ -1,4 +1,4 @@
--- The rules of clearing at one place.
+-- About Clears: the rules of clearing at one place.
 use Rattle.std.proofs.Common.{◌≡◌, suc, ◌≤◌, List, [], ◌∷◌, ◌++◌, Option, Some, None, is_some, true, refl, sym, ◌∙◌, ap, subst}
 use Rattle.jc_rules.specs.declared.id.Id.{Id}
 use Rattle.jc_rules.specs.declared.key.Key.{Key}
@@ -93,7 +93,7 @@ clear_any at p q deps k a b d e s1 s2 s3 s t o t1 t2 t3 u h oe x pe y1 qe z1 is 
       rises = union-rises s1 (union s2 s3);
     })
 
-found_node : (x : Option Context) → is_some (node_of x) ≡ true → (d : Context) × (node_of x ≡ Some (Node d))
+pub found_node : (x : Option Context) → is_some (node_of x) ≡ true → (d : Context) × (node_of x ≡ Some (Node d))
 found_node None h = cc
 found_node (Some d) h = (d, refl)
 

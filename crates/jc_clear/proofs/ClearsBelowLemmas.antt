@@ -1,4 +1,4 @@
--- What a place has below a chained content, and what a chained content keeps of it.
+-- About Bare: below a place of a chained content lists are chained, and the content stays chained.
 use Rattle.std.proofs.Common.{◌≡◌, List, [], ◌∷◌, Option, Some, None, refl, sym, ◌∙◌, ap}
 use Rattle.jc_rules.specs.declared.id.Id.{Id}
 use Rattle.jc_rules.specs.declared.key.Tagged.{Tagged}

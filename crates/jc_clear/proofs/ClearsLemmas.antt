@@ -1,4 +1,4 @@
--- Clearing one key after another: what is left, once it is answered, is an answer for the whole.
+-- About Clears: clearing one key after another; an answer for the rest is one for the whole.
 use Rattle.std.proofs.Common.{◌≡◌, ◌≤◌, List, [], ◌∷◌, refl, sym, ◌∙◌, ap, subst, arith}
 use Rattle.jc_rules.specs.declared.id.Id.{Id}
 use Rattle.jc_rules.specs.declared.key.Key.{Key}

@@ -5,4 +5,3 @@ pub mod ClearRulesLemmas
 pub mod ClearsLemmas
 pub mod ClearListLemmas
 pub mod ClearMapLemmas
-pub mod ClearRepresentsLemmas

@@ -1,14 +1,10 @@
--- Identifiers added to a rising list one by one.
+-- Unions of rising lists of identifiers, added one by one, for `united`.
 use Rattle.std.proofs.Common.{◌≡◌, List, [], ◌∷◌, ◌++◌, Bool, true, false, ◌||◌, refl, ◌∙◌}
 use Rattle.jc_rules.specs.declared.id.Id.{Id}
 use Rattle.jc_rules.specs.Order.{same_id}
 use Rattle.jc_rules.specs.Ids.{has_id, with_id, union}
 use Rattle.jc_rules.proofs.IdsLemmas.{has_id-with, has_id-union, with-rises, union-rises, same_members}
-
-or_swap : (a b c : Bool) → a || (b || c) ≡ b || (a || c)
-or_swap true true c = refl
-or_swap true false c = refl
-or_swap false b c = refl
+use Rattle.jc_rules.proofs.BoolLemmas.{or_swap}
 
 has_id-last : (k i : Id) (js : List Id) → has_id k (js ++ i ∷ []) ≡ same_id k i || has_id k js
 has_id-last k i [] = refl

@@ -1,5 +1,5 @@
-//! Clearing what stands under a key, at every depth. Recursion follows paths; keys of maps and
-//! elements of lists are walked by loops.
+//! Clearing what is under a key, at every depth: assignments and deletions of jc_apply begin with it.
+//! Recursion follows paths; keys of maps and elements of lists are walked by loops.
 
 ghost use Rattle.std.specs.Prelude.{◌≡◌, [], Some, IfOk, OnOk, OnErr};
 ghost use Rattle.jc_rules.specs.declared.key.Key.TheVariants.{Head};
@@ -9,7 +9,7 @@ ghost use Rattle.jc_rules.specs.WellFormed.{IsChained, IsChainedList};
 ghost use Rattle.jc_tree.specs.CanGoBack.{TreeCanGoBack};
 ghost use Rattle.jc_tree.specs.Tree.{HasPlace, here};
 ghost use Rattle.jc_clear.specs.Bare.{AreChainedBelow};
-ghost use Rattle.jc_clear.specs.Clears.{Clears, ClearsFor};
+ghost use Rattle.jc_clear.specs.Clears.{Clears};
 
 use crate::registers::{clear_register, presence_of};
 use crate::sets::{left_out, united};
@@ -204,7 +204,7 @@ fn list_in<S: TreeStore>(
     Ok(ids)
 }
 
-/// Clears what stands under a tagged key.
+/// Clears what is under a tagged key.
 fn tagged_in<S: TreeStore>(
     alloc: Global,
     store: &mut S,
@@ -226,7 +226,7 @@ fn tagged_in<S: TreeStore>(
     }
 }
 
-/// The same path once more.
+/// A copy of the path.
 fn copied(alloc: Global, path: &[Tagged]) -> Result<Vec<Tagged>, AllocError>
     ensures { IfOk result (λ v. v.items ≡ path.now) }
 {
@@ -237,12 +237,13 @@ fn copied(alloc: Global, path: &[Tagged]) -> Result<Vec<Tagged>, AllocError>
     Ok(keys)
 }
 
-/// Clears what stands under the tagged key in the context at the place: in registers the values go
+/// Clears what is under the tagged key in the context at the place: in registers the values go
 /// whose operation is in `deps`, and in the presence sets at or below it the identifiers that are.
-/// Gives the identifiers that are left in what was cleared, rising.
+/// Returns the identifiers that are left in what was cleared, rising.
 ///
-/// The rules are added to the trace at its depth. Tagged keys and links stay as they are. Only
-/// memory can be refused; store and trace are then as they were before.
+/// The rules are added to the trace at its depth. Tagged keys and links stay as they are. That the
+/// same rules clear alike by the causally closed set that `deps` represents is the law
+/// `clear_stands` of jc_vectors. Only memory can be refused; store and trace are then as they were.
 pub fn clear<S: TreeStore>(
     alloc: Global,
     store: &mut S,
@@ -255,8 +256,6 @@ pub fn clear<S: TreeStore>(
     requires chained { IsChained (S.tree store.old).now }
     ensures ok { IfOk result (λ ids. Clears (λ c. Clear c deps.now key.now)
         at.now (S.tree store.old) (S.tree store.new) ids.items trace.old trace.new) }
-    ensures stands { IfOk result (λ ids. ClearsFor (λ deps c. Clear c deps key.now)
-        deps.now at.now (S.tree store.old) (S.tree store.new) ids.items trace.old trace.new) }
     ensures err_store { OnErr result (S.tree store.new ≡ S.tree store.old) }
     ensures err_trace { OnErr result (trace.new ≡ trace.old) }
     ensures kept { TreeCanGoBack (S.tree store.old) (S.tree store.new) trace.old trace.new }
@@ -275,12 +274,14 @@ pub fn clear<S: TreeStore>(
     }
 }
 
-/// Clears the key under each tag as [`clear`] does, and takes `deps` out of its presence set, which
-/// is then united with the identifiers that are left below; it is set even where it is empty.
-/// Gives that set, rising.
+/// Clears the key under each tag as [`clear`] does. Its presence set becomes the union of that set
+/// and the identifiers that are left below, without those in `deps`; it is set even where it is
+/// empty. Returns that set, rising.
 ///
-/// The rules are added to the trace at its depth. Tagged keys and links stay as they are. Only
-/// memory can be refused; store and trace are then as they were before.
+/// The rules are added to the trace at its depth. Tagged keys and links stay as they are. That the
+/// same rules clear alike by the causally closed set that `deps` represents is the law
+/// `clear_elem_stands` of jc_vectors. Only memory can be refused; store and trace are then as they
+/// were.
 pub fn clear_elem<S: TreeStore>(
     alloc: Global,
     store: &mut S,
@@ -293,8 +294,6 @@ pub fn clear_elem<S: TreeStore>(
     requires chained { IsChained (S.tree store.old).now }
     ensures ok { IfOk result (λ ids. Clears (λ c. ClearElem c deps.now key.now)
         at.now (S.tree store.old) (S.tree store.new) ids.items trace.old trace.new) }
-    ensures stands { IfOk result (λ ids. ClearsFor (λ deps c. ClearElem c deps key.now)
-        deps.now at.now (S.tree store.old) (S.tree store.new) ids.items trace.old trace.new) }
     ensures err_store { OnErr result (S.tree store.new ≡ S.tree store.old) }
     ensures err_trace { OnErr result (trace.new ≡ trace.old) }
     ensures kept { TreeCanGoBack (S.tree store.old) (S.tree store.new) trace.old trace.new }

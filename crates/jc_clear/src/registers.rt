@@ -1,4 +1,4 @@
-//! Clearing a register, and reading a presence set.
+//! Clearing a register, and reading a presence set: steps of clearing.
 
 ghost use Rattle.std.specs.Prelude.{◌≡◌, IfOk, OnErr};
 ghost use Rattle.jc_rules.specs.declared.key.Tagged.TheVariants.{RegT};
@@ -16,11 +16,11 @@ use jc_rules::{Id, IdSet, Key, Rule, Tagged, Trace, Value};
 use jc_tree::TreeStore;
 use std::alloc::{AllocError, Global};
 
-/// Gives the presence set of the key in the context at the place, rising; the empty set where there
+/// Returns the presence set of the key in the context at the place, rising; the empty set where there
 /// is none.
 ///
 /// The rule is added to the trace at its depth. Only memory can be refused; the trace is then as it
-/// was before.
+/// was.
 pub(crate) fn presence_of<S: TreeStore>(
     alloc: Global,
     store: &S,

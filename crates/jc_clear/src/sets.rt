@@ -1,4 +1,4 @@
-//! Rising lists of identifiers.
+//! Rising lists of identifiers, united and lessened: clearing collects in them what is left.
 
 ghost use Rattle.std.specs.Prelude.{◌≡◌, IfOk};
 ghost use Rattle.jc_rules.specs.Entries.{keys_of};

@@ -1,4 +1,4 @@
--- Along a list to an element by number.
+-- About WayDown and Evaluates: along a list to an element by its index.
 use Rattle.std.proofs.Common.{◌≡◌, ◌≢◌, ℕ, suc, ◌-◌, ◌<◌, ◌≤◌, [], length, Some, refl, sym, subst, arith}
 use Rattle.jc_rules.specs.declared.id.Id.{Id}
 use Rattle.jc_rules.specs.declared.key.Key.{Key}

@@ -1,4 +1,4 @@
--- Evaluating an expression, rule by rule.
+-- About Evaluates: evaluating an expression, rule by rule.
 use Rattle.std.proofs.Common.{◌≡◌, ℕ, List, [], Some, None, ◌⊎◌, inl, inr, refl, sym, ◌∙◌, ap, subst}
 use Rattle.jc_rules.specs.declared.key.Key.TheVariants as K
 use Rattle.jc_rules.specs.declared.key.Tagged.{Tagged}
@@ -68,7 +68,7 @@ module _ (c : Context) where
     pub after_refused : (cur : Cursor) (o u : Rows) (why : Cause) → Evaluates c vs y (ACursor cur) o u → RefusedAfter x c cur why → IsEvalRefused c vs x why
     after_refused cur o u why d r = λ A h. r A h.tree (answered A (ACursor cur) o u h d)
 
--- an expression in memory that ends with a selector, and what stands before it
+-- an expression in memory that ends with a selector, and what is before it
 pub ends_with : (e : ExprInMemory) (from : _) → ((name : List ℕ) × (e ≡ Get from name)) ⊎ (((i : ℕ) × (e ≡ Idx from i)) ⊎ ((e ≡ Keys from) ⊎ (e ≡ Values from))) → IsSelection (expr_of e) × (from_of (expr_of e) ≡ expr_of from.value)
 ends_with e from (inl h) = rw h.1 (tt, refl)
 ends_with e from (inr (inl h)) = rw h.1 (tt, refl)

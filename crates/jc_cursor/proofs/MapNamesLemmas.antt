@@ -1,4 +1,4 @@
--- The names of a map, key by key.
+-- About Evaluates: the names of a map, key by key.
 use Rattle.std.proofs.Common.{◌≡◌, ◌≢◌, ℕ, ◌<◌, List, [], ◌∷◌, ◌++◌, length, filter, filter_map, Option, Some, None, Bool, true, false, IfSome, refl, sym, ◌∙◌, ap, subst, arith, append-nil, append_assoc}
 use Rattle.std.proofs.lemmas.List.Elements.{filter_map-append}
 use Rattle.std.specs.List.{AllByRecursion}
@@ -11,7 +11,7 @@ use Rattle.jc_rules.specs.declared.key.Key.TheVariants as K
 use Rattle.jc_rules.specs.declared.key.Tagged.{Tagged}
 use Rattle.jc_rules.specs.Order.{key_cmp}
 use Rattle.jc_rules.specs.Entries.{IsRising, keys_of, find}
-use Rattle.jc_rules.specs.Context.{Context, context, presences}
+use Rattle.jc_rules.specs.Context.{Context, presences}
 use Rattle.jc_rules.specs.ContextsAt.{node_at, context_at}
 use Rattle.jc_rules.specs.WellFormed.{IsWellFormedContext}
 use Rattle.jc_rules.specs.Table.{IsEmptyIds, lesser, least, name_in_presence, names_in}
@@ -21,8 +21,8 @@ use Rattle.jc_rules.proofs.ContextsAtLemmas.{there}
 use Rattle.jc_rules.proofs.RisingLemmas.{less_greater}
 use Rattle.jc_tree.specs.Tree.{is_after, least_after}
 use Rattle.jc_tree.specs.Walks.{keys_above}
-use Rattle.jc_tree.proofs.WellFormedLemmas.{kept-node}
-use Rattle.jc_tree.proofs.WalksLemmas.{above-none, all_above}
+use Rattle.jc_tree.proofs.WellFormedLemmas.{kept-node, presences_rise}
+use Rattle.jc_tree.proofs.WalksLemmas.{above-none, all_above, none_found}
 
 -- ---- the least key
 
@@ -48,15 +48,6 @@ lesser-first : (k : Key) (o : Option Key) → IfSome o (λ j. key_cmp k j ≡ Le
 lesser-first k None h = refl
 lesser-first k (Some j) h = rw h refl
 
-lesser_some : (k : Key) (o : Option Key) → lesser k o ≢ None
-lesser_some k None e = cc
-lesser_some k (Some j) e = go (key_cmp k j) refl
-  where
-    go : (o : Ordering) → key_cmp k j ≡ o → ⊥
-    go Less f = let h : Some k ≡ None = rw f at e in cc
-    go Equal f = let h : Some k ≡ None = rw f at e in cc
-    go Greater f = let h : Some j ≡ None = rw f at e in cc
-
 -- ---- entries above a key
 
 module _ {X : Type 0} where
@@ -70,7 +61,7 @@ module _ {X : Type 0} where
   none_above last (d ∷ es) e = go (is_after last d.0) refl (none_above last es) e
     where
       go : (b : Bool) → is_after last d.0 ≡ b → (least_after last (keys_of es) ≡ None → keys_above last es ≡ []) → least_after last (keys_of (d ∷ es)) ≡ None → keys_above last (d ∷ es) ≡ []
-      go true f ih g = absurd (lesser_some d.0 (least_after last (keys_of es)) (rw f at g))
+      go true f ih g = absurd (none_found d.0 (least_after last (keys_of es)) (rw f at g))
       go false f ih g = rw f (ih (rw f at g))
 
   -- The next key's entry comes first of those above the last key, and the others are above the next.
@@ -108,9 +99,6 @@ module _ {X : Type 0} where
           later_next last d es k f (subst (λ (o : Option Key). IfSome o (λ j. key_cmp d.0 j ≡ Less)) least above_first) (ih least)
 
 -- ---- names
-
-presences_rise : (c : Context) → IsWellFormedContext c → IsRising key_cmp (keys_of (presences c))
-presences_rise (context m l r p n) h = h.3
 
 pub rise_at : (at : List Tagged) (c : Context) → node_at at c ≢ None → IsWellFormedContext c → IsRising key_cmp (keys_of (presences (context_at at c)))
 rise_at at c h k = presences_rise (context_at at c) (kept-node at c (context_at at c) k (there at c h))

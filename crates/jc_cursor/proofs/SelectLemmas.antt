@@ -1,11 +1,12 @@
--- Selectors: what each gives of a cursor, and why it is refused.
-use Rattle.std.proofs.Common.{◌≡◌, ◌≢◌, ℕ, ◌<◌, ◌≤◌, List, [], ◌∷◌, ◌++◌, length, Option, Some, None, Result, Ok, Err, IfOk, IfErr, refl, ap}
+-- About Evaluates: what each selector selects from a cursor, and why it is refused.
+use Rattle.std.proofs.Common.{◌≡◌, ◌≢◌, ℕ, ◌<◌, ◌≤◌, List, [], ◌∷◌, ◌++◌, length, Option, Some, None, Result, Ok, Err, IfOk, IfErr, refl, ap, arith}
 use Rattle.std.specs.Prelude.{IfSome, IsErrAnd}
 use Rattle.jc_rules.specs.declared.id.Id.{Id}
 use Rattle.jc_rules.specs.declared.key.Key.{Key}
 use Rattle.jc_rules.specs.declared.key.Key.TheVariants as K
 use Rattle.jc_rules.specs.declared.key.Tagged.{Tagged}
 use Rattle.jc_rules.specs.declared.key.Tagged.TheVariants.{MapT, ListT, RegT}
+use Rattle.jc_rules.specs.declared.limits.TheConstants.{MAX_PATH}
 use Rattle.jc_rules.specs.declared.operation.Cursor.{Cursor}
 use Rattle.jc_rules.specs.declared.refusal.Refusal.TheVariants as F
 use Rattle.jc_rules.specs.declared.rule.Rule.TheVariants as R
@@ -44,7 +45,7 @@ values_descends k vs = record { follows = λ k1 rest c d e. (k1, rest, d, vs, re
 values_refuses : (k : Key) → Refuses (λ path c. SelectValues c (cursor path k))
 values_refuses k = record { missing = λ k1 rest c e. refused.values_no_node refl e; below = λ k1 rest c d why e x. refused.values_below refl e x }
 
--- ---- what a selection gives of a path
+-- ---- what a selection selects from a path
 
 pub index_down : (c : Context) (path : List Tagged) (i : ℕ) (k : Key) (t u v : Rows) → LeadsDown R.Idx2 path c t u → Derives (SelectIndex (context_at path c) (cursor [] K.Head) i) (ToCursor (cursor [] k)) u (at_depth u.depth v) → Derives (SelectIndex c (cursor path K.Head) i) (ToCursor (cursor path k)) t (at_depth t.depth v)
 index_down c path i k t u v leads x = leads (λ p y. SelectIndex y (cursor p K.Head) i) (λ p. ToCursor (cursor p k)) (at_depth u.depth v) (index_descends K.Head k i) x
@@ -88,31 +89,31 @@ module _ (c : Context) (cur : Cursor) (path : List Tagged) (pe : path ≡ cur.pa
       let x : Refused (SelectValues c (cursor path cur.last)) (because F.NoRegister) = r (λ p y. SelectValues y (cursor p cur.last)) (because F.NoRegister) (values_refuses cur.last) (refused.no_register refl n) in
       rw pe at x
 
--- ---- what a selector gives of a cursor
+-- ---- what a selector selects from a cursor
 
 module _ (cur : Cursor) where
-  pub got : (b : Bound) (name : List ℕ) (key : Key) (path : List Tagged) → cur.last ≢ K.Head → length cur.path ≤ 511 → path ≡ cur.path ++ MapT cur.last ∷ [] → key ≡ K.Name name → b ≡ ACursor (cursor path key) → (from : Expr) (c : Context) (u : Rows) → Selects (GetKey from name) c cur b u u
+  pub got : (b : Bound) (name : List ℕ) (key : Key) (path : List Tagged) → cur.last ≢ K.Head → length cur.path < MAX_PATH → path ≡ cur.path ++ MapT cur.last ∷ [] → key ≡ K.Name name → b ≡ ACursor (cursor path key) → (from : Expr) (c : Context) (u : Rows) → Selects (GetKey from name) c cur b u u
   got b name key path last short pe ke be from c u = λ A t h d.
-      rw (be, pe, ke) (one_premise R.Get (Evaluate A (GetKey from name)) (ToBound (ACursor (cursor (cur.path ++ MapT cur.last ∷ []) (K.Name name)))) (Evaluate A from) (ToBound (ACursor cur)) t u d (cur, refl, last, short, refl))
+      rw (be, pe, ke) (one_premise R.Get (Evaluate A (GetKey from name)) (ToBound (ACursor (cursor (cur.path ++ MapT cur.last ∷ []) (K.Name name)))) (Evaluate A from) (ToBound (ACursor cur)) t u d (cur, refl, last, omega (arith, short), refl))
 
   pub head_get : (name : List ℕ) (why : Cause) → (why ≡ because F.GetOnHead) × (cur.last ≡ K.Head) → (from : Expr) (c : Context) → RefusedAfter (GetKey from name) c cur why
   head_get name why e from c = λ A h x. rw e.0 (refused.get_on_head x e.1)
 
-  pub deep_get : (name : List ℕ) (why : Cause) → cur.last ≢ K.Head → (why ≡ because F.TooDeep) × (511 < length cur.path) → (from : Expr) (c : Context) → RefusedAfter (GetKey from name) c cur why
-  deep_get name why n e from c = λ A h x. rw e.0 (refused.get_too_deep x n e.1)
+  pub deep_get : (name : List ℕ) (why : Cause) → cur.last ≢ K.Head → (why ≡ because F.TooDeep) × (MAX_PATH ≤ length cur.path) → (from : Expr) (c : Context) → RefusedAfter (GetKey from name) c cur why
+  deep_get name why n e from c = λ A h x. rw e.0 (refused.get_too_deep x n (omega (arith, e.1)))
 
-  pub deep_index : (i : ℕ) (c : Context) (why : Cause) → (why ≡ because F.TooDeep) × (511 < length cur.path) → (from : Expr) → RefusedAfter (Index from i) c cur why
-  deep_index i c why e from = λ A h x. rw e.0 (refused.index_too_deep x e.1)
+  pub deep_index : (i : ℕ) (c : Context) (why : Cause) → (why ≡ because F.TooDeep) × (MAX_PATH ≤ length cur.path) → (from : Expr) → RefusedAfter (Index from i) c cur why
+  deep_index i c why e from = λ A h x. rw e.0 (refused.index_too_deep x (omega (arith, e.1)))
 
-  module _ (i : ℕ) (c : Context) (path : List Tagged) (pe : path ≡ cur.path ++ ListT cur.last ∷ []) (short : length cur.path ≤ 511) where
+  module _ (i : ℕ) (c : Context) (path : List Tagged) (pe : path ≡ cur.path ++ ListT cur.last ∷ []) (short : length cur.path < MAX_PATH) where
     pub indexed : (b : Bound) (k : Key) (u v : Rows) → Derives (SelectIndex c (cursor path K.Head) i) (ToCursor (cursor path k)) u (at_depth u.depth v) → b ≡ ACursor (cursor path k) → (from : Expr) → Selects (Index from i) c cur b u v
     indexed b k u v x be from = λ A t h d.
-        rw be (two_premises R.Idx1 (Evaluate A (Index from i)) (ToBound (ACursor (cursor path k))) (Evaluate A from) (ToBound (ACursor cur)) (SelectIndex c (cursor path K.Head) i) (ToCursor (cursor path k)) t u (at_depth u.depth v) d x (cur, cursor path k, short, rw (h, pe) refl, refl))
+        rw be (two_premises R.Idx1 (Evaluate A (Index from i)) (ToBound (ACursor (cursor path k))) (Evaluate A from) (ToBound (ACursor cur)) (SelectIndex c (cursor path K.Head) i) (ToCursor (cursor path k)) t u (at_depth u.depth v) d x (cur, cursor path k, omega (arith, short), rw (h, pe) refl, refl))
 
     pub index_refused : (why : Cause) → Refused (SelectIndex c (cursor path K.Head) i) why → (from : Expr) → RefusedAfter (Index from i) c cur why
     index_refused why r from = λ A h x.
         let r2 : Refused (SelectIndex A.tree (cursor path K.Head) i) why = rw h r in
-        refused.in_index x short (rw pe at r2)
+        refused.in_index x (omega (arith, short)) (rw pe at r2)
 
   module _ (c : Context) where
     pub keyed : (b : Bound) (ks : List (List ℕ)) (u v : Rows) → Derives (SelectKeys c cur) (ToNames ks) u (at_depth u.depth v) → b ≡ Names ks → (from : Expr) → Selects (KeysOf from) c cur b u v
@@ -129,7 +130,7 @@ module _ (cur : Cursor) where
     pub values_refused : (why : Cause) → Refused (SelectValues c cur) why → (from : Expr) → RefusedAfter (ValuesOf from) c cur why
     values_refused why r from = λ A h x. refused.in_values x (rw h r)
 
--- ---- a cause that is handed up
+-- ---- a cause that is passed up
 
 map_some : (P Q : Cause → Type 0) (o : Option Cause) → ((why : Cause) → P why → Q why) → IfSome o P → IfSome o Q
 map_some P Q None h x = tt

@@ -1,4 +1,4 @@
--- Traces that only grow.
+-- About WayDown: traces that only grow.
 use Rattle.std.proofs.Common.{◌≡◌, [], ◌∷◌, refl, arith}
 use Rattle.jc_rules.specs.declared.rule.Rule.{Rule}
 use Rattle.jc_rules.specs.Trace.{Rows, pushed, one_deeper, at_depth}

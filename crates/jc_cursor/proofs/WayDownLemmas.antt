@@ -1,15 +1,13 @@
--- The way down a path, key by key.
-use Rattle.std.proofs.Common.{◌≡◌, ◌≢◌, ℕ, suc, ◌+◌, ◌<◌, ◌≤◌, List, [], ◌∷◌, ◌++◌, length, take, drop, get_or, Option, Some, None, is_some, Bool, true, false, refl, sym, ◌∙◌, ap, subst, add-one, drop-cons}
+-- About WayDown: the way down a path, key by key.
+use Rattle.std.proofs.Common.{◌≡◌, ◌≢◌, ℕ, suc, ◌+◌, ◌<◌, ◌≤◌, List, [], ◌∷◌, ◌++◌, length, take, drop, get_or, Some, None, is_some, Bool, true, false, refl, sym, ◌∙◌, ap, subst, add-one, drop-cons}
 use Rattle.std.proofs.Math.Seq.{take-suc}
 use Rattle.std.proofs.lemmas.List.{take_all, drop_all}
 use Rattle.std.specs.List.{AllByRecursion}
 use Rattle.jc_rules.specs.declared.key.Key.{Key}
 use Rattle.jc_rules.specs.declared.key.Tagged.{Tagged}
-use Rattle.jc_rules.specs.declared.key.Tagged.TheVariants.{MapT, ListT, RegT}
+use Rattle.jc_rules.specs.declared.key.Tagged.TheVariants.{MapT}
 use Rattle.jc_rules.specs.declared.rule.Rule.{Rule}
-use Rattle.jc_rules.specs.Order.{key_cmp}
-use Rattle.jc_rules.specs.Entries.{find}
-use Rattle.jc_rules.specs.Context.{Context, Node, node_of, content, maps, lists}
+use Rattle.jc_rules.specs.Context.{Context, Node, content}
 use Rattle.jc_rules.specs.ContextsAt.{node_at, context_at, or_empty}
 use Rattle.jc_rules.specs.Derivation.{Question, Answer}
 use Rattle.jc_rules.specs.Derives.{Derives}
@@ -21,6 +19,8 @@ use Rattle.jc_rules.proofs.DerivesLemmas.{one_premise}
 use Rattle.jc_rules.specs.Paths.{HasContext}
 use Rattle.jc_cursor.specs.WayDown.{IsGrown, Descends, Refuses, LeadsDown, RefusesDown, RefusedOnWay}
 use Rattle.jc_cursor.proofs.TraceGrowsLemmas.{not_grown, grown_below}
+use Rattle.jc_rules.proofs.BoolLemmas.{none_of}
+use Rattle.jc_apply.proofs.ApplyRulesLemmas.{found_context}
 
 -- what the loop down a path keeps: what is derived or refused where it has come is so for the whole
 pub record Down (r : Rule) (path : List Tagged) (n : ℕ) (c : Context) (t u : Rows) : Type 0 where
@@ -37,24 +37,6 @@ down_begins r path c t = record {
   grown = not_grown t;
 }
 
--- the context under a tagged key, if there is one
-pub some_node : (k : Tagged) (c : Context) → HasContext k → is_some (content k c) ≡ true → (d : Context) × (content k c ≡ Some (Node d))
-some_node (MapT k) c h e = go (find key_cmp k (maps c)) refl e
-  where
-    go : (o : Option Context) → find key_cmp k (maps c) ≡ o → is_some (node_of (find key_cmp k (maps c))) ≡ true → (d : Context) × (content (MapT k) c ≡ Some (Node d))
-    go None p f = let g : false ≡ true = rw p at f in cc
-    go (Some d) p f = (d, rw p refl)
-some_node (ListT k) c h e = go (find key_cmp k (lists c)) refl e
-  where
-    go : (o : Option Context) → find key_cmp k (lists c) ≡ o → is_some (node_of (find key_cmp k (lists c))) ≡ true → (d : Context) × (content (ListT k) c ≡ Some (Node d))
-    go None p f = let g : false ≡ true = rw p at f in cc
-    go (Some d) p f = (d, rw p refl)
-some_node (RegT k) c h e = absurd h
-
-none_there : {X : Type 0} (o : Option X) → is_some o ≡ false → o ≡ None
-none_there None e = refl
-none_there (Some x) e = cc
-
 module _ (path : List Tagged) (n : ℕ) (k : Tagged) (within : n < length path) (is : k ≡ get_or path n k) where
   front : take (n + 1) path ≡ take n path ++ k ∷ []
   front = ap (λ (i : ℕ). take i path) (add-one n) ∙ take-suc path n k within ∙ ap (λ (x : Tagged). take n path ++ x ∷ []) (sym is)
@@ -67,7 +49,7 @@ module _ (path : List Tagged) (n : ℕ) (k : Tagged) (within : n < length path) 
   down_on r b c t u v h w e be ve =
       let here = context_at (take n path) c in
       let parent : node_at (take n path) c ≡ Some here = there (take n path) c w.place in
-      let found = some_node k here (subst HasContext (sym is) (all_at HasContext path h n k within)) (sym e ∙ be) in
+      let found = found_context k here (subst HasContext (sym is) (all_at HasContext path h n k within)) (sym e ∙ be) in
       let node : node_at (take (n + 1) path) c ≡ Some found.0 = ap (λ (p : List Tagged). node_at p c) front ∙ node-below (take n path) k here found.0 c parent found.1 in
       let same : context_at (take (n + 1) path) c ≡ found.0 = ap or_empty node in
       rw ve (record {
@@ -82,11 +64,11 @@ module _ (path : List Tagged) (n : ℕ) (k : Tagged) (within : n < length path) 
         grown = grown_below t u (one_deeper (pushed u r)) r w.grown refl;
       })
 
-  -- a key under which nothing stands
+  -- a key under which nothing is
   pub down_missing : (r : Rule) (b : Bool) (c : Context) (t u : Rows) → Down r path n c t u → b ≡ is_some (content k (context_at (take n path) c)) → b ≡ false → RefusedOnWay path c (no_node k)
   down_missing r b c t u w e be = λ Q R.
       let here = context_at (take n path) c in
-      let none : content k here ≡ None = none_there (content k here) (sym e ∙ be) in
+      let none : content k here ≡ None = none_of (content k here) (sym e ∙ be) in
       w.refuses Q (no_node k) R (subst (λ (p : List Tagged). Refused (Q p here) (no_node k)) (sym rest) (R.missing k (drop (n + 1) path) here none))
 
 -- at the end of the path
@@ -108,14 +90,14 @@ module _ (r : Rule) (path : List Tagged) (n : ℕ) (c : Context) (t u : Rows) (a
   down_refuses = λ Q why R x.
       w.refuses Q why R (subst (λ (p : List Tagged). Refused (Q p (context_at (take n path) c)) why) (sym no_rest) (subst (λ (p : List Tagged). Refused (Q [] (context_at p c)) why) (sym at_end) x))
 
--- a map that stands below a path
+-- a map below a path
 pub record MapBelow (path down : List Tagged) (k : Key) (c : Context) : Type 0 where
   pub place : node_at down c ≢ None
   pub is : content (MapT k) (context_at path c) ≡ Some (Node (context_at down c))
 
 pub map_below : (path place : List Tagged) (k : Key) (b : Bool) (c : Context) → node_at path c ≢ None → b ≡ is_some (content (MapT k) (context_at path c)) → b ≡ true → place ≡ path ++ MapT k ∷ [] → MapBelow path place k c
 map_below path place k b c p e be pe =
-    let found = some_node (MapT k) (context_at path c) tt (sym e ∙ be) in
+    let found = found_context (MapT k) (context_at path c) tt (sym e ∙ be) in
     let node : node_at place c ≡ Some found.0 = ap (λ (q : List Tagged). node_at q c) pe ∙ node-below path (MapT k) (context_at path c) found.0 c (there path c p) found.1 in
     record {
       place = λ f. let g : Some found.0 ≡ None = sym node ∙ f in cc;
@@ -123,4 +105,4 @@ map_below path place k b c p e be pe =
     }
 
 pub no_map_below : (path : List Tagged) (k : Key) (b : Bool) (c : Context) → b ≡ is_some (content (MapT k) (context_at path c)) → b ≡ false → content (MapT k) (context_at path c) ≡ None
-no_map_below path k b c e be = none_there (content (MapT k) (context_at path c)) (sym e ∙ be)
+no_map_below path k b c e be = none_of (content (MapT k) (context_at path c)) (sym e ∙ be)

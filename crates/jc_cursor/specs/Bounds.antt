@@ -1,4 +1,4 @@
--- What variables are bound to, as the rules see it.
+-- What variables in memory are bound to, in the words of the rules: the contract of `eval` is in them.
 use Rattle.std.specs.Prelude.{◌≡◌, ℕ, List, map, Option}
 use Rattle.std.specs.Option.{option_map}
 use Rattle.jc_rules.specs.Order.{name_cmp}

@@ -1,4 +1,4 @@
--- What evaluating an expression says.
+-- That an expression is evaluated or refused in each state with a document and variables: the contract of `eval`.
 use Rattle.std.specs.Prelude.{◌≡◌, ℕ, List, Option, Some, None}
 use Rattle.jc_rules.specs.declared.operation.Cursor.{Cursor}
 use Rattle.jc_rules.specs.declared.refusal.Refusal.TheVariants as F
@@ -64,15 +64,15 @@ from_of (Index e i) = e
 from_of (KeysOf e) = e
 from_of (ValuesOf e) = e
 
--- Where a derivation gives the cursor before the last selector, and the trace has come to u by it, the selector gives
--- b: a derivation of the whole has the rules up to v.
+-- A derivation gives the cursor before the last selector, and its rules lead the trace to u. Then the selector gives b:
+-- a derivation of the whole has the rules up to v.
 abbrev pub Selects : Expr → Context → Cursor → Bound → Rows → Rows → Type 0
 Selects e c cur b u v =
     (A : State) (t : Rows) → A.tree ≡ c
     → Derives (Evaluate A (from_of e)) (ToBound (ACursor cur)) (one_deeper (pushed t (rule_of e))) u
     → Derives (Evaluate A e) (ToBound b) t (at_depth t.depth v)
 
--- Where the cursor is what stands before the last selector, the whole is refused for this cause.
+-- Where the cursor is what is before the last selector, the whole is refused for this cause.
 abbrev pub RefusedAfter : Expr → Context → Cursor → Cause → Type 0
 RefusedAfter e c cur why =
     (A : State) → A.tree ≡ c → IsAnswered (Evaluate A (from_of e)) (ToBound (ACursor cur)) → Refused (Evaluate A e) why

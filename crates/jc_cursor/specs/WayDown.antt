@@ -1,4 +1,4 @@
--- Ways down a path, by one rule for each key.
+-- Ways down a path, by one rule for each key: the selectors of `jc_cursor` go by them.
 use Rattle.std.specs.Prelude.{◌≡◌, ◌≤◌, List, [], ◌∷◌, Some, None}
 use Rattle.jc_rules.specs.declared.key.Tagged.{Tagged}
 use Rattle.jc_rules.specs.declared.rule.Rule.{Rule}

@@ -1,4 +1,4 @@
-//! What variables are bound to.
+//! What variables are bound to, and what expressions evaluate to; replicas keep their variables so.
 
 ghost use Rattle.std.specs.Prelude.{◌≡◌, ◌↔◌, IsTrue, IfOk, IfErr, option_copied};
 ghost use Rattle.jc_rules.specs.State.{ACursor};
@@ -8,7 +8,7 @@ ghost use Rattle.jc_cursor.specs.Bounds.{bound_of, FoundAs};
 use jc_rules::{Cursor, Names, Pairs, Text};
 use std::alloc::AllocError;
 
-/// What an expression gives, and what a variable is bound to.
+/// What an expression evaluates to, and what a variable is bound to.
 #[derive(Drop)]
 pub enum Bound {
     /// A place in the document.
@@ -20,7 +20,7 @@ pub enum Bound {
 }
 
 impl Bound {
-    /// The same once more.
+    /// An equal value.
     pub fn copy(&self) -> Result<Self, AllocError>
         ensures { IfOk result (λ bound. bound_of bound ≡ bound_of self.now) }
     {

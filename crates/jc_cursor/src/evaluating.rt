@@ -1,4 +1,4 @@
-//! Evaluating expressions.
+//! Evaluating expressions, and why one is refused: replicas do it for the commands of scripts.
 
 ghost use Rattle.std.specs.Prelude.{◌≡◌, IfOk, IfErr, IfSome, OnErr};
 ghost use Rattle.jc_rules.specs.Context.{Context as AnyContext};
@@ -24,24 +24,24 @@ pub enum EvalFault {
     UnboundVariable,
     /// `get` on the head of a list.
     GetOnHead,
-    /// What stands before a selector is no cursor.
+    /// What is before a selector is no cursor.
     NotACursor,
-    /// Nothing stands under this tagged key of the cursor's path.
+    /// Nothing is under this tagged key of the cursor's path.
     NoSuchNode(Tagged),
     /// The list has no such element.
     PastEnd,
-    /// No map stands at the cursor.
+    /// No map is at the cursor.
     NoMap,
-    /// No register stands at the cursor.
+    /// No register is at the cursor.
     NoRegister,
-    /// The cursor's path would be longer than 512 keys.
+    /// The cursor's path would be longer than `MAX_PATH` keys.
     TooDeep,
     /// There was no memory.
     Memory,
 }
 
 impl EvalFault {
-    /// The same fault once more.
+    /// An equal fault.
     pub fn copy(&self) -> Result<EvalFault, AllocError>
         ensures { IfOk result (λ fault. fault ≡ self.now) }
     {
@@ -133,11 +133,11 @@ fn evaluate<S: TreeStore>(
     }
 }
 
-/// What the expression gives in the document, where the variables are bound as `vars` says.
+/// What the expression evaluates to in the document, where the variables are bound as in `vars`.
 ///
 /// The rules are added to the trace at its depth. A refusal with a number is that of the first
 /// condition that fails, and then no derivation evaluates the expression; all else that is refused
-/// is memory. After a refusal the trace is as it was before.
+/// is memory. After a refusal the trace is as it was.
 pub fn eval<S: TreeStore>(
     alloc: Global,
     store: &S,

@@ -1,4 +1,4 @@
-//! The rules of expressions, over any store of a document's tree.
+//! The rules of expressions, over any store of a document's tree: replicas evaluate the commands of scripts by them.
 #![tactic(auto)]
 
 mod bound;

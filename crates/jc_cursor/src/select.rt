@@ -1,11 +1,12 @@
-//! What each selector gives of the cursor before it. The trace is left at the depth of the last
-//! rule's premises.
+//! The selectors of expressions: what each selects from the cursor before it. The trace is left at the
+//! depth of the last rule's premises.
 
 ghost use Rattle.std.specs.Prelude.{◌≡◌, ◌≢◌, ◌↔◌, ◌<◌, ◌≤◌, [], ◌∷◌, ◌++◌, List, Some, IsTrue, IfOk, IfErr, IfSome, OnOk, length, filter_map, is_some};
 ghost use Rattle.std.specs.List.{AllByRecursion};
 ghost use Rattle.jc_rules.specs.declared.id.Id.{Id as AnyId};
 ghost use Rattle.jc_rules.specs.declared.key.Key.TheVariants.{Head, Name as ToName};
 ghost use Rattle.jc_rules.specs.declared.key.Tagged.TheVariants.{MapT};
+ghost use Rattle.jc_rules.specs.declared.limits.TheConstants.{MAX_PATH};
 ghost use Rattle.jc_rules.specs.declared.refusal.Refusal.TheVariants as F;
 ghost use Rattle.jc_rules.specs.Context.{Context as AnyContext, content, presence as presence_set};
 ghost use Rattle.jc_rules.specs.Derivation.{SelectIndex, SelectKeys, SelectValues, ToCursor, ToNames, ToPairs};
@@ -25,23 +26,21 @@ ghost use Rattle.jc_cursor.specs.WayDown.{IsGrown};
 use crate::bound::Bound;
 use crate::evaluating::EvalFault;
 use crate::walk::{element_at, go_down, is_present};
+use jc_rules::limits::MAX_PATH;
 use jc_rules::{Cursor, Key, Names, Pairs, Path, Rule, Tagged, Text, Trace};
 use jc_syntax::Expr;
 use jc_tree::TreeStore;
 use std::alloc::{AllocError, Global};
 
-/// The longest path to which a key can be added.
-const LONGEST: usize = 511;
-
 /// The path with one key more.
 fn path_below(path: Path, key: Tagged) -> Result<Path, EvalFault>
     requires { HasContext key }
     ensures ok { IfOk result (λ longer. longer ≡ path ++ key ∷ []) }
-    ensures short { OnOk result (length path ≤ 511) }
-    ensures refused { IfErr result (λ f. IfSome (eval_cause_of f) (λ why. (why ≡ because F.TooDeep) × (511 < length path))) }
+    ensures short { OnOk result (length path < MAX_PATH) }
+    ensures refused { IfErr result (λ f. IfSome (eval_cause_of f) (λ why. (why ≡ because F.TooDeep) × (MAX_PATH ≤ length path))) }
 {
     let mut longer = path;
-    if longer.as_slice().len() > LONGEST {
+    if longer.as_slice().len() >= MAX_PATH {
         return Err(EvalFault::TooDeep);
     }
     longer.push(key)?;
@@ -66,7 +65,7 @@ fn name_below(last: &Key, name: &Text) -> Result<Key, EvalFault>
     Ok(Key::Name(name.copy()?))
 }
 
-/// The cursor of a name in the map that stands at the cursor.
+/// The cursor of a name in the map at the cursor.
 fn get_in(cursor: Cursor, name: &Text) -> Result<Bound, EvalFault>
     ensures ok { IfOk result (λ b.
         (from : AnyExpr) (c : AnyContext) (u : Rows) → Selects (GetKey from name.now) c cursor (bound_of b) u u) }
@@ -79,7 +78,7 @@ fn get_in(cursor: Cursor, name: &Text) -> Result<Bound, EvalFault>
     Ok(Bound::Cursor(Cursor { path, last }))
 }
 
-/// The key of an element in the list that stands below the path.
+/// The key of an element in the list below the path.
 fn element_below<S: TreeStore>(
     store: &S,
     path: &[Tagged],
@@ -100,7 +99,7 @@ fn element_below<S: TreeStore>(
     element_at(store, path, index, trace)
 }
 
-/// The cursor of an element in the list that stands at the cursor.
+/// The cursor of an element in the list at the cursor.
 fn index_in<S: TreeStore>(
     store: &S,
     cursor: Cursor,
@@ -168,7 +167,7 @@ fn names_at<S: TreeStore>(alloc: Global, store: &S, at: &[Tagged]) -> Result<Nam
     Ok(Names::new(names))
 }
 
-/// Whether a map stands under the key.
+/// Whether a map is under the key.
 fn has_map<S: TreeStore>(store: &S, at: &[Tagged], key: &Key) -> Result<bool, AllocError>
     requires { HasPlace at.now (S.tree store.now) }
     ensures { IfOk result (λ b. b ≡ is_some (content (MapT key.now) (here at.now (S.tree store.now)))) }
@@ -177,7 +176,7 @@ fn has_map<S: TreeStore>(store: &S, at: &[Tagged], key: &Key) -> Result<bool, Al
     Ok(store.has(at, &map))
 }
 
-/// The names in the map that stands at the cursor.
+/// The names in the map at the cursor.
 fn names_below<S: TreeStore>(
     alloc: Global,
     store: &S,
@@ -201,7 +200,7 @@ fn names_below<S: TreeStore>(
     Ok(names_at(alloc, store, place.as_slice())?)
 }
 
-/// The values of the register that stands at the cursor.
+/// The values of the register at the cursor.
 fn values_below<S: TreeStore>(
     alloc: Global,
     store: &S,
@@ -224,7 +223,7 @@ fn values_below<S: TreeStore>(
     Ok(Pairs::from_slice(alloc, pairs)?)
 }
 
-/// What the expression's last selector gives of the cursor before it.
+/// What the expression's last selector selects from the cursor before it.
 pub fn select<S: TreeStore>(
     alloc: Global,
     store: &S,

@@ -1,5 +1,5 @@
-//! Walks in a document: down a path, and along a list. The trace is left at the depth of the last
-//! rule's premises.
+//! Walks in a document for the selectors: down a path, and along a list. The trace is left at the depth
+//! of the last rule's premises.
 
 ghost use Rattle.std.specs.Prelude.{◌≡◌, ◌≢◌, None, Some, [], IsTrue, IsFalse, IfOk, IfErr, IfSome, OnOk};
 ghost use Rattle.std.specs.List.{AllByRecursion};
@@ -70,7 +70,7 @@ fn element_after<S: TreeStore>(store: &S, at: &[Tagged], key: &Key) -> Option<Id
     }
 }
 
-/// The key of the list at the place that stands as many present elements behind its head.
+/// The key of the list at the place that is `index` present elements behind its head.
 pub fn element_at<S: TreeStore>(
     store: &S,
     at: &[Tagged],

@@ -1,6 +1,5 @@
--- No tree of a document has a float.
-use Rattle.std.proofs.Common.{◌≡◌, ℕ, List, [], ◌∷◌, ◌++◌, map, Bool, true, false, refl}
-use Rattle.std.specs.Prelude.{◌||◌}
+-- About Json: no tree of a document has a float.
+use Rattle.std.proofs.Common.{◌≡◌, ℕ, List, [], ◌∷◌, ◌++◌, map, false, refl}
 use Rattle.std.specs.List.{AllByRecursion}
 use Rattle.std.specs.Ordering.{match_ordering, nat_cmp}
 use Rattle.std.specs.Cmp.Lexicographic.{slice_cmp}
@@ -16,10 +15,7 @@ use Rattle.jc_rules.specs.declared.value.Value.{Value}
 use Rattle.jc_rules.specs.declared.value.Value.TheVariants as V
 use Rattle.jc_rules.specs.Context.{Context, context, Children, no_child, child, Register}
 use Rattle.jc_json.specs.Json.{id_text, put_all, object_of, texts_data, ids_data, value_data, value_member, register_data, register_member, presence_member, next_member, context_data, child_members}
-
-neither : (x y : Bool) → (x || y) ≡ false → (x ≡ false) × (y ≡ false)
-neither true y h = cc
-neither false y h = (refl, h)
+use Rattle.jc_rules.proofs.BoolLemmas.{neither}
 
 put_at : (o : Ordering) (k l : List ℕ) (d e : Data) (ms new : Members) → has_float d ≡ false → has_float e ≡ false → members_have_float ms ≡ false → members_have_float new ≡ false
     → members_have_float (match_ordering o (member k d (member l e ms)) (member l d ms) (member l e new)) ≡ false

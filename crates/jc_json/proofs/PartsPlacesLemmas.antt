@@ -1,11 +1,11 @@
--- The contexts below a place: they are there, they are kept, and they are smaller.
+-- About Parts: the contexts below a place are there, well formed and smaller.
 use Rattle.std.proofs.Common.{◌≡◌, ◌≢◌, ◌<◌, ◌≤◌, List, [], ◌∷◌, ◌++◌, Bool, true, false, Option, Some, None, is_some, refl, sym, ◌∙◌, ap, arith}
 use Rattle.std.specs.List.{AllByRecursion}
 use Rattle.jc_rules.specs.declared.key.Key.{Key}
 use Rattle.jc_rules.specs.declared.key.Tagged.{Tagged}
 use Rattle.jc_rules.specs.Order.{key_cmp, same_key}
 use Rattle.jc_rules.specs.Entries.{find, keys_of, IsRising}
-use Rattle.jc_rules.specs.Context.{Context, context, Children, no_child, child, Node, content, node_of, listed, maps, lists, registers, presences, links, keys}
+use Rattle.jc_rules.specs.Context.{Context, context, Children, no_child, child, Node, content, node_of, listed, maps, lists, registers, links, keys}
 use Rattle.jc_rules.specs.ContextsAt.{node_at, context_at, or_empty}
 use Rattle.jc_rules.specs.WellFormed.{IsWellFormedContext}
 use Rattle.jc_rules.proofs.ContextsAtLemmas.{there, node-below}
@@ -51,9 +51,6 @@ child_below ks t d c h e =
 
 pub registers_rise : (c : Context) → IsWellFormedContext c → IsRising key_cmp (keys_of (registers c))
 registers_rise (context m l r p n) h = h.2
-
-pub presences_rise : (c : Context) → IsWellFormedContext c → IsRising key_cmp (keys_of (presences c))
-presences_rise (context m l r p n) h = h.3
 
 pub links_rise : (c : Context) → IsWellFormedContext c → IsRising key_cmp (keys_of (links c))
 links_rise (context m l r p n) h = h.4

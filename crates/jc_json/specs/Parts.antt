@@ -1,4 +1,4 @@
--- The parts of a context that the code sends it by.
+-- The parts of a context, by which the code sends it, and their order; jc_dump cites them.
 use Rattle.std.specs.Prelude.{◌≡◌, ⊤, ℕ, List, map, true, is_some, String}
 use Rattle.std.specs.List.{AllByRecursion}
 use Rattle.std.specs.declared.alloc.Global.{Global}

@@ -1,4 +1,4 @@
-//! Identifiers, keys, values and trees of documents as JSON.
+//! Identifiers, keys, values and trees of documents as JSON: dumps and views are made of them.
 #![tactic(auto)]
 
 mod send;

@@ -1,4 +1,4 @@
-//! What is sent to a serializer part after part, so that no value of the whole is made.
+//! Sending to a serializer part after part, so that no value of the whole is made: for trees here and dumps.
 
 ghost use Rattle.std.specs.Prelude.{◌≡◌, Ok, IfOk, OnOk, IsErr, MatchResult};
 ghost use Rattle.serde_json.specs.Data.{Data};
@@ -12,7 +12,7 @@ use serde::{Serialize, Serializer};
 use serde_json::Value as Json;
 use std::alloc::{AllocError, Global};
 
-/// What was made, or the serializer's own error where memory ran out, and only there.
+/// Returns what was made, or the serializer's own error exactly where memory ran out.
 pub fn granted<T, W: Serializer>(made: Result<T, AllocError>, out: &W) -> Result<T, W::Error>
     ensures { MatchResult result (λ value. made ≡ Ok value) (λ _. IsErr made) }
 {

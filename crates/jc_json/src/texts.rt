@@ -1,4 +1,4 @@
-//! The texts of identifiers and keys.
+//! The texts of identifiers and keys, for JSON, dumps and views.
 
 ghost use Rattle.std.specs.Prelude.{◌≡◌, IfOk, string_bytes};
 ghost use Rattle.jc_json.specs.Json.{id_text, key_text, entry_text, tagged_text, next_text};

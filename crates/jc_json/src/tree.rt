@@ -1,4 +1,4 @@
-//! The tree of a document.
+//! The tree of a document as JSON: a store is sent as it is walked.
 
 ghost use Rattle.std.specs.Prelude.{◌≡◌, [], ◌∷◌, ◌++◌, map, IfOk, OnOk};
 ghost use Rattle.serde_json.specs.Events.{SendsValue};
@@ -187,7 +187,7 @@ fn step_down(at: &mut Vec<Tagged>, branch: Branch, key: &Key) -> Result<(), Allo
     Ok(())
 }
 
-/// Sends the context at a place of a store. The place is given back as it was, unless memory ran out.
+/// Sends the context at a place of a store. Afterwards the place is as it was, unless memory ran out.
 #[cycle(walk)]
 fn send_tree<S: TreeStore, W: Serializer>(
     alloc: Global,

@@ -1,4 +1,4 @@
-//! Values and registers as JSON values.
+//! Values and registers as JSON values, for trees and dumps.
 
 ghost use Rattle.std.specs.Prelude.{◌≡◌, IfOk};
 ghost use Rattle.serde_json.specs.View.{view};

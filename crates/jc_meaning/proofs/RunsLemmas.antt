@@ -24,7 +24,7 @@ use Rattle.jc_network.specs.RunInvariant.{IsReplicaAt, IsMadeOp, IsWell}
 use Rattle.jc_network.specs.Rooted.{IsRootKey, head, element}
 use Rattle.jc_network.proofs.AppliedLemmas.{applied_is, applied_has}
 use Rattle.jc_network.proofs.EventDidLemmas.{new_op, Did, bound, made, sent, received, took, applied, done, did}
-use Rattle.jc_network.proofs.MembersLemmas.{none_in, in_cons, op_in, of_id, below_greatest, set_there, set_other, still_with, now_with}
+use Rattle.jc_network.proofs.MembersLemmas.{none_in, in_cons, op_in, of_id, set_there, set_other, still_with, now_with}
 use Rattle.jc_network.proofs.RunInvariantStartLemmas.{start_well, started, at_member}
 use Rattle.jc_network.proofs.RunInvariantLemmas.{step_well}
 use Rattle.jc_meaning.specs.Effects.{same_path}
@@ -36,6 +36,7 @@ use Rattle.jc_meaning.proofs.ComparedLemmas.{one_tree}
 use Rattle.jc_meaning.proofs.WellFormedLemmas.{operated_kept}
 use Rattle.jc_meaning.proofs.MeaningOfSetLemmas.{SameOps, same_ops, means_same}
 use Rattle.jc_rules.proofs.BoolLemmas.{same_tests}
+use Rattle.jc_rules.proofs.IdSetLemmas.{member_greatest}
 
 -- a list of the operations that a replica has applied, of which the tree is the meaning
 record Built (In : Op → Type 0) (A : State) : Type 0 where
@@ -133,7 +134,7 @@ new_unapplied : (p : ℕ) (A : State) → has_id (record { counter = greatest A.
 new_unapplied p A = go (has_id (record { counter = greatest A.ops + 1; replica = p }) A.ops) refl
   where
     go : (b : Bool) → has_id (record { counter = greatest A.ops + 1; replica = p }) A.ops ≡ b → b ≡ false
-    go true e = let l : greatest A.ops + 1 ≤ greatest A.ops = below_greatest (record { counter = greatest A.ops + 1; replica = p }) A.ops e in absurd (omega (arith, l))
+    go true e = let l : greatest A.ops + 1 ≤ greatest A.ops = member_greatest (record { counter = greatest A.ops + 1; replica = p }) A.ops e in absurd (omega (arith, l))
     go false e = refl
 
 treed : (A : State) (event : Event) (read : List Op) (B : State) → ((x : Op) → Contains A.queue x → has_id x.id A.ops ≡ true) → Did A event read B → Treed A B

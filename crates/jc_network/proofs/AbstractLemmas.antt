@@ -1,18 +1,18 @@
--- Kept states stand for the network that is computed from them.
+-- Lemmas about Abstract: stored states represent the network that is computed from them.
 use Rattle.std.proofs.Common.{◌≡◌, ℕ, zero, suc, List, [], ◌∷◌, Some, true, Contains, ◌⊎◌, inl, inr, map, length, slice_get, refl, sym, ◌∙◌, ap, subst, arith}
 use Rattle.std.proofs.lemmas.List.Elements.{Contains-append_left, Contains-append_right, Contains-append_cases}
 use Rattle.std.proofs.lemmas.Option.{same_Some}
 use Rattle.jc_rules.specs.declared.id.Id.{Id}
 use Rattle.jc_rules.specs.declared.operation.Op.{Op}
-use Rattle.jc_rules.specs.Ids.{AreRising, has_id}
+use Rattle.jc_rules.specs.Ids.{has_id}
 use Rattle.jc_rules.specs.Sound.{IsSound}
 use Rattle.jc_rules.specs.State.{State}
 use Rattle.jc_rules.specs.Table.{op_of}
-use Rattle.jc_rules.proofs.IdsLemmas.{with-rises, same_members}
+use Rattle.jc_rules.proofs.IdsLemmas.{same_members}
 use Rattle.jc_vectors.specs.OperationIds.{ids_of_ops, ids_within}
 use Rattle.jc_vectors.specs.StoredStates.{stored_op, RepresentsState, AreOf}
 use Rattle.jc_vectors.proofs.ApplyStandsLemmas.{deps_closed}
-use Rattle.jc_vectors.proofs.OperationIdsLemmas.{of_operation, operation_of, within_is}
+use Rattle.jc_vectors.proofs.OperationIdsLemmas.{of_operation, operation_of, within_is, ids-rise}
 use Rattle.jc_network.specs.RunInvariant.{IsReplicaAt, IsMadeOp}
 use Rattle.jc_network.specs.Abstract.{queues, real_op, real_state, real}
 use Rattle.jc_network.specs.Refines.{AreSeen}
@@ -60,10 +60,6 @@ queued_by (K ∷ kept) o c = go (Contains-append_cases K.queue (queues kept) o c
     go : Contains K.queue o ⊎ Contains (queues kept) o → (Contains (queues kept) o → IsQueued kept o) → IsQueued (K ∷ kept) o
     go (inl m) f = record { place = 0; at = K; there = refl; queued = m }
     go (inr m) f = let x = f m in record { place = suc x.place; at = x.at; there = x.there; queued = x.queued }
-
-ids_rise : (os : List Op) → AreRising (ids_of_ops os)
-ids_rise [] = tt
-ids_rise (o ∷ os) = with-rises o.id (ids_of_ops os) (ids_rise os)
 
 id_in : (os : List Op) (o : Op) → Contains os o → has_id o.id (ids_of_ops os) ≡ true
 id_in [] o c = none_in o c
@@ -141,7 +137,7 @@ module _ (set : List Op) (network kept : List State) (seen : AreSeen set network
 
   -- the set has the identifiers of all queues
   pub same_ids : ids_of_ops set ≡ ids_of_ops (queues kept)
-  same_ids = same_members (ids_of_ops set) (ids_of_ops (queues kept)) (ids_rise set) (ids_rise (queues kept)) (λ i. same_tests (has_id i (ids_of_ops set)) (has_id i (ids_of_ops (queues kept))) (down i) (up i))
+  same_ids = same_members (ids_of_ops set) (ids_of_ops (queues kept)) (ids-rise set) (ids-rise (queues kept)) (λ i. same_tests (has_id i (ids_of_ops set)) (has_id i (ids_of_ops (queues kept))) (down i) (up i))
     where
       down : (i : Id) → has_id i (ids_of_ops set) ≡ true → has_id i (ids_of_ops (queues kept)) ≡ true
       down i h =

@@ -1,5 +1,5 @@
--- In a run the identifiers of what a replica has applied are those that the rules say.
-use Rattle.std.proofs.Common.{◌≡◌, ℕ, List, [], ◌∷◌, ◌||◌, Bool, true, false, Contains, ◌⊎◌, inl, inr, Some, slice_get, map, refl, sym, ◌∙◌, ap, subst}
+-- Lemmas about Applied: in a run the identifiers of what a replica has applied are those of the rules.
+use Rattle.std.proofs.Common.{◌≡◌, ℕ, List, [], ◌∷◌, Bool, true, false, Contains, ◌⊎◌, inl, inr, Some, slice_get, map, refl, sym, ◌∙◌, ap, subst}
 use Rattle.std.proofs.lemmas.Option.{same_Some}
 use Rattle.jc_rules.specs.declared.id.Id.{Id}
 use Rattle.jc_rules.specs.declared.operation.Op.{Op}
@@ -18,11 +18,7 @@ use Rattle.jc_network.proofs.StepsLemmas.{well}
 use Rattle.jc_network.proofs.AppliedLemmas.{applied_is, applied_has, applied_order}
 use Rattle.jc_network.proofs.EnabledOrderLemmas.{ordered}
 use Rattle.jc_network.proofs.MembersLemmas.{none_in, first_in, later_in, in_cons}
-use Rattle.jc_rules.proofs.BoolLemmas.{same_tests}
-
-or_right : (a b : Bool) → b ≡ true → a || b ≡ true
-or_right true b e = refl
-or_right false b e = e
+use Rattle.jc_rules.proofs.BoolLemmas.{same_tests, or_right}
 
 id_in : (os : List Op) (o : Op) → Contains os o → has_id o.id (identifiers os) ≡ true
 id_in [] o k = none_in o k

@@ -1,4 +1,4 @@
--- What a replica has applied, of the lists of operations that it keeps and of those for which these stand.
+-- Lemmas about Applied: what a replica has applied, in stored states and in the states that they represent.
 use Rattle.std.proofs.Common.{◌≡◌, ℕ, List, [], ◌∷◌, ◌++◌, append_assoc, length, map, filter, Some, Bool, true, false, Contains, ◌⊎◌, inl, inr, slice_get, refl, sym, ◌∙◌, ap, subst, arith}
 use Rattle.std.specs.List.{AllByRecursion}
 use Rattle.std.specs.declared.cmp.Ordering.{Ordering}

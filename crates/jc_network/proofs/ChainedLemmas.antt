@@ -1,4 +1,4 @@
--- Lists stay chained, and only what is applied is linked.
+-- Lemmas about RunInvariant: lists stay chained, and only what is applied is linked.
 use Rattle.std.proofs.Common.{◌≡◌, ◌≢◌, ℕ, ◌+◌, ◌≤◌, List, [], ◌∷◌, Some, None, Bool, true, false, ◌⊎◌, inl, inr, slice_get, slice_set, refl, sym, ◌∙◌, ap, subst, arith}
 use Rattle.std.specs.List.{AllByRecursion}
 use Rattle.std.proofs.lemmas.Option.{same_Some}
@@ -31,10 +31,11 @@ use Rattle.jc_network.specs.RunInvariant.{IsReplicaAt, IsMadeOp, IsWell}
 use Rattle.jc_network.specs.Laws.{starts}
 use Rattle.jc_network.proofs.LinksEverywhereLemmas.{OfNew, all_follow}
 use Rattle.jc_network.proofs.LinksKeptLemmas.{operates}
-use Rattle.jc_network.proofs.MembersLemmas.{op_in, set_other, set_there, below_greatest}
+use Rattle.jc_network.proofs.MembersLemmas.{op_in, set_other, set_there}
 use Rattle.jc_network.proofs.EventDidLemmas.{new_op, Did, bound, made, sent, received, took, applied, done, did}
 use Rattle.jc_network.proofs.RunInvariantLemmas.{step_well}
 use Rattle.jc_network.proofs.RunInvariantStartLemmas.{started}
+use Rattle.jc_rules.proofs.IdSetLemmas.{member_greatest}
 
 -- ---- what isn't applied isn't linked
 
@@ -162,7 +163,7 @@ new_unapplied : (p : ℕ) (A : State) → has_id (record { counter = greatest A.
 new_unapplied p A = go (has_id (record { counter = greatest A.ops + 1; replica = p }) A.ops) refl
   where
     go : (b : Bool) → has_id (record { counter = greatest A.ops + 1; replica = p }) A.ops ≡ b → b ≡ false
-    go true e = let l : greatest A.ops + 1 ≤ greatest A.ops = below_greatest (record { counter = greatest A.ops + 1; replica = p }) A.ops e in absurd (omega (arith, l))
+    go true e = let l : greatest A.ops + 1 ≤ greatest A.ops = member_greatest (record { counter = greatest A.ops + 1; replica = p }) A.ops e in absurd (omega (arith, l))
     go false e = refl
 
 treed : (A : State) (event : Event) (read : List Op) (B : State) → Did A event read B → Treed A B

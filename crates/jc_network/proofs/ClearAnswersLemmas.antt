@@ -1,4 +1,4 @@
--- Clearing always has an answer.
+-- Lemmas about clearing by the rules: it always has an answer. ProgressLemmas cites them.
 use Rattle.std.proofs.Common.{◌≡◌, ℕ, zero, suc, ◌≤◌, ◌<◌, List, [], ◌∷◌, length, filter, not, ◌||◌, Option, Some, None, Bool, true, false, refl, sym, ◌∙◌, ap, subst, arith}
 use Rattle.std.specs.declared.cmp.Ordering.{Ordering}
 use Rattle.std.specs.declared.cmp.Ordering.TheVariants.{Less, Equal, Greater}
@@ -23,6 +23,8 @@ use Rattle.jc_tree.specs.Nested.{nested}
 use Rattle.jc_clear.specs.Bare.{bare, AreChainedBelow}
 use Rattle.jc_clear.proofs.BareLemmas.{links-same, keys-same, nested-same, below-same, list_below, child_below, nested_below, bare-with, bare-register, bare-presence}
 use Rattle.jc_clear.proofs.ClearListLemmas.{leads_head}
+use Rattle.jc_rules.proofs.ContextLemmas.{no_node}
+use Rattle.jc_rules.proofs.BoolLemmas.{or_right}
 
 -- premises with their answers
 abbrev pub AllAnswered : List Judgement → Type 0
@@ -96,10 +98,6 @@ module _ (n : ℕ) (all : ClearsAll n) where
 abbrev has_key : Key → List Key → Bool
 has_key k [] = false
 has_key k (j ∷ js) = same_key k j || has_key k js
-
-or_right : (a b : Bool) → b ≡ true → a || b ≡ true
-or_right true b h = refl
-or_right false b h = h
 
 least_has : (ks : List Key) (k : Key) → least ks ≡ Some k → has_key k ks ≡ true
 least_has [] k e = cc
@@ -200,10 +198,6 @@ cleared_none c deps t e = record { now = c; ids = []; answered = by_rule R.Clear
 found_register : (o : Option Register) (r : Register) → values_of o ≡ Some (Values r) → o ≡ Some r
 found_register None r e = cc
 found_register (Some v) r e = cc
-
-no_node : {A : Type 0} (o : Option Register) (d : Context) → values_of o ≡ Some (Node d) → A
-no_node None d e = cc
-no_node (Some v) d e = cc
 
 no_values : {A : Type 0} (o : Option Context) (r : Register) → node_of o ≡ Some (Values r) → A
 no_values None r e = cc

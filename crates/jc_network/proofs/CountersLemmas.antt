@@ -1,4 +1,4 @@
--- Counters and commands.
+-- Lemmas about RunInvariant: counters and the number of commands that were run.
 use Rattle.std.proofs.Common.{◌≡◌, ℕ, zero, suc, ◌+◌, ◌≤◌, List, [], ◌∷◌, Some, Bool, true, false, ◌||◌, Contains, ◌⊎◌, inl, inr, slice_get, slice_set, length, refl, sym, ◌∙◌, ap, subst, arith}
 use Rattle.std.proofs.lemmas.Option.{same_Some}
 use Rattle.jc_rules.specs.declared.id.Id.{Id}

@@ -1,4 +1,4 @@
--- In every run queues and received operations stand by identifier.
+-- Lemmas about Enabled: in every run queues and received operations are sorted by identifier.
 use Rattle.std.proofs.Common.{◌≡◌, ℕ, List, [], ◌∷◌, Some, ◌⊎◌, inl, inr, slice_get, slice_set, sym, ◌∙◌, ap, subst}
 use Rattle.std.proofs.lemmas.Option.{same_Some}
 use Rattle.jc_rules.specs.declared.operation.Op.{Op}

@@ -1,5 +1,5 @@
--- What replicas tell of the states that they keep, of the network for which these stand.
-use Rattle.std.proofs.Common.{◌≡◌, ℕ, zero, suc, ◌+◌, ◌<◌, List, [], ◌∷◌, ◌++◌, length, take, map, get_or, Some, Bool, true, false, Result, Ok, Err, OnOk, add-one, Contains, IsSome, ◌⊎◌, inl, inr, slice_get, refl, sym, ◌∙◌, ap, subst, arith, append-nil, append_assoc}
+-- Lemmas about Enabled: what replicas list by their stored states holds of the network that these represent.
+use Rattle.std.proofs.Common.{◌≡◌, ℕ, suc, ◌+◌, ◌<◌, List, [], ◌∷◌, ◌++◌, length, take, map, get_or, Some, Bool, true, false, Result, Ok, Err, OnOk, add-one, Contains, IsSome, ◌⊎◌, inl, inr, slice_get, refl, sym, ◌∙◌, ap, subst, arith, append-nil, append_assoc}
 use Rattle.std.proofs.lemmas.List.{take_more, take_all, length-map, length-take-le}
 use Rattle.std.proofs.lemmas.Option.{same_Some, slice_get-get_or}
 use Rattle.jc_rules.specs.declared.operation.Event.{Event}
@@ -29,6 +29,7 @@ use Rattle.jc_network.proofs.EnabledLemmas.{chosen_append, chosen_as, event_of, 
 use Rattle.jc_network.proofs.MembersLemmas.{none_in, in_cons, some_at}
 use Rattle.jc_network.proofs.RefinesLemmas.{reads_stand}
 use Rattle.jc_network.proofs.RunInvariantStartLemmas.{start_well, after_well}
+use Rattle.jc_network.proofs.StepsLemmas.{kept_there}
 
 -- ---- listing
 
@@ -125,7 +126,7 @@ from_push N p (B ∷ states) A q e =
     ap (λ (l : List Event). applyings_of N p B.recv ++ l) (from_push N (suc p) states A q (omega (arith, e)))
     ∙ sym (append_assoc (applyings_of N p B.recv) (events_from N (suc p) states) (applyings_of N q A.recv))
 
--- what the first replicas told
+-- the events that the first replicas list
 abbrev pub HaveTold : List Past → Network → ℕ → List Event → Type 0
 HaveTold pasts N i listed = AreChosen (TellsEnabled pasts true) (TellsEnabled pasts false) (events_from N 0 (kept_of (take i pasts))) listed
 
@@ -225,11 +226,6 @@ stuck_refused N e why (question_refused {A = B} {read = other} h k b x) A read t
     let same : other ≡ read = same_Some other read (sym k ∙ r) in
     subst (λ (os : List Op). Refused (Occur A e os) why) same (subst (λ (S : State). Refused (Occur S e other) why) state x)
 
-state_at : (pasts : List Past) (p : ℕ) (past : Past) → slice_get pasts p ≡ Some past → slice_get (kept_of pasts) p ≡ Some past.now
-state_at [] p past e = cc
-state_at (q ∷ pasts) zero past e = ap (λ (x : Past). Some x.now) (same_Some q past e)
-state_at (q ∷ pasts) (suc p) past e = state_at pasts p past e
-
 -- what an event reads that is asked for
 record IsReading (N : Network) (e : Event) : Type 0 where
   read : List Op
@@ -270,7 +266,7 @@ module _ (set : List Op) (version : Version) (states : List State) (pasts : List
   asks e k = let x = in_from kept 0 kept.states e k in reading kept x.1.number x.1.at.recv e x.1.event
 
   seen_past : (p : ℕ) (past : Past) → slice_get pasts p ≡ Some past → HasSeen set p states past.now
-  seen_past p past t = seen.each p past.now (state_at pasts p past t)
+  seen_past p past t = seen.each p past.now (kept_there pasts p past t)
 
   not_stuck : (e : Event) → Contains (candidates kept) e → TellsEnabled pasts true e → IsNotStuck network e
   not_stuck e k t why s =

@@ -1,4 +1,4 @@
--- What an event has done, read from its derivation.
+-- Lemmas about one event: what it has done to its replica, read from its derivation.
 use Rattle.std.proofs.Common.{◌≡◌, ℕ, ◌+◌, List, [], ◌∷◌, Some, true, false, refl, sym, ◌∙◌, ap, subst}
 use Rattle.jc_rules.specs.declared.id.Id.{Id}
 use Rattle.jc_rules.specs.declared.operation.Op.{Op}

@@ -1,4 +1,4 @@
--- Each question of expressions, commands and events has an answer or is refused.
+-- Lemmas about progress: each question of expressions, commands and events has an answer or is refused.
 use Rattle.std.proofs.Common.{◌≡◌, ◌≢◌, ℕ, zero, suc, ◌+◌, ◌≤◌, ◌<◌, List, [], ◌∷◌, ◌++◌, length, Option, Some, None, Bool, true, false, ◌||◌, ◌⊎◌, inl, inr, slice_get, refl, sym, ◌∙◌, ap, subst, arith}
 use Rattle.std.specs.List.{AllByRecursion}
 use Rattle.std.proofs.lemmas.Bool.{cases_lt}
@@ -42,8 +42,10 @@ use Rattle.jc_network.proofs.ClearAnswersLemmas.{by_rule}
 use Rattle.jc_network.proofs.CursorsLemmas.{evaluated}
 use Rattle.jc_network.proofs.EventDidLemmas.{new_op}
 use Rattle.jc_network.proofs.FitsLemmas.{wanted}
-use Rattle.jc_network.proofs.MembersLemmas.{op_in, below_greatest}
-use Rattle.jc_network.proofs.ProgressLemmas.{IsGood, good_map, good_list, Entered, enters, child_answered, add_answered, assign_answered, delete_answered, here_answered, child_there, operation_answered, unreached}
+use Rattle.jc_network.proofs.MembersLemmas.{op_in}
+use Rattle.jc_network.proofs.ProgressLemmas.{IsGood, good_map, good_list, Entered, enters, child_answered, add_answered, assign_answered, delete_answered, here_answered, operation_answered, unreached}
+use Rattle.jc_rules.proofs.IdSetLemmas.{member_greatest}
+use Rattle.jc_network.proofs.RootedLemmas.{child_there}
 
 -- the question has an answer of this kind, or is refused
 abbrev pub Decided : {X : Type 0} → (X → Answer) → Question → Type 0
@@ -299,7 +301,7 @@ module _ (N : List State) (w : IsWell N) (p : ℕ) (A : State) (there : IsReplic
     where
       go : (b : Bool) → has_id next_id A.ops ≡ b → has_id next_id A.ops ≡ false
       go false e = e
-      go true e = let l : greatest A.ops + 1 ≤ greatest A.ops = below_greatest next_id A.ops e in absurd (omega (arith, l))
+      go true e = let l : greatest A.ops + 1 ≤ greatest A.ops = member_greatest next_id A.ops e in absurd (omega (arith, l))
 
   made : (cur : Cursor) (m : Mutation) → AllByRecursion HasContext cur.path → Decided ToState (Make p A cur m)
   made cur m h = go (operation_decided cur.path A.tree (new_op p A cur m) refl good h (λ is r. unreached N w p A there next_id next_unapplied cur.path r))

@@ -1,4 +1,4 @@
--- An operation whose dependencies are applied is never refused.
+-- Lemmas about progress: an operation whose dependencies are applied is never refused.
 use Rattle.std.proofs.Common.{◌≡◌, ◌≢◌, ℕ, List, [], ◌∷◌, ◌++◌, Some, None, true, false, refl, sym, ◌∙◌, ap, subst, append-nil}
 use Rattle.std.specs.List.{AllByRecursion}
 use Rattle.std.proofs.lemmas.Option.{same_Some}

@@ -1,4 +1,4 @@
--- Given events lead from one network to another, and aren't passed on the way back.
+-- Lemmas about Given: given events lead from one network to another, and aren't passed on the way back.
 use Rattle.std.proofs.Common.{◌≡◌, ℕ, ◌+◌, ◌<◌, ◌≤◌, Result, Err, List, [], ◌∷◌, ◌++◌, length, take, get_or, refl, sym, ◌∙◌, ap, subst, arith}
 use Rattle.std.proofs.lemmas.List.{take_more, take_all, length-map}
 use Rattle.std.proofs.lemmas.Option.{slice_get-get_or}
@@ -20,7 +20,7 @@ use Rattle.jc_network.specs.Given.{before_given, IsStart, IsGivenFault}
 use Rattle.jc_network.specs.Laws.{starts, IsReached}
 use Rattle.jc_network.specs.Steps.{IsStuckFor}
 use Rattle.jc_network.specs.Invariant.{IsKeptNet}
-use Rattle.jc_network.proofs.AfterLemmas.{after_more, after_end, after_count}
+use Rattle.jc_network.proofs.AfterLemmas.{after_more, after_one_more, after_count}
 use Rattle.jc_network.proofs.InvariantLemmas.{now_in_run, length_end}
 
 -- ---- the start of a scenario
@@ -52,7 +52,7 @@ led_more first old new given i d rows l h s =
     let more : length new.earlier ≡ length old.earlier + 1 = ap length s.earlier ∙ length_end old.earlier old.network in
     let c = h.counted in
     record {
-      after = subst (λ (es : List Event). AfterIn first.network es new.network) (sym front) (after_end first.network (take i given) old.network new.network event rows.rows h.after s.step);
+      after = subst (λ (es : List Event). AfterIn first.network es new.network) (sym front) (after_one_more first.network (take i given) old.network event new.network rows.rows h.after s.step);
       counted = omega (arith, more, c);
       names = s.names ∙ h.names;
     }
@@ -79,7 +79,7 @@ led_stuck first now given i d at s l h n stuck = record {
   };
 }
 
--- what is told of the first that is stuck
+-- the fault of the first given event that is stuck
 pub lead_fails : {X : Type 0} (first now : Course) (given : List Event) (i n : ℕ) (d : Event) (r : Result X StepFault) (t : Stuck) → i < length given → n ≡ i → HaveLed first now given i → ((s : Stuck) → r ≡ Err (E.Stuck s) → IsStuckFor now.network (get_or given i d) s) → r ≡ Err (E.Stuck t) → (at : ℕ) (s : Stuck) → ◌≡◌ {A = Result (Unit {0}) StartFault} (Err (S.Given (n + 1) t)) (Err (S.Given at s)) → IsGivenFault first.network given at s
 lead_fails first now given i n d r t l c h told is at s e =
     let place : n + 1 ≡ at = cc in

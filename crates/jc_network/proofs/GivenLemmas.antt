@@ -1,4 +1,4 @@
--- Given events lead to a network, or one of them is the first that is stuck.
+-- Lemmas about Given: given events lead to a network, or one of them is the first that is stuck.
 use Rattle.std.proofs.Common.{◌≡◌, ◌⊎◌, inl, inr, ℕ, zero, suc, ◌+◌, List, [], ◌∷◌, ◌++◌, Some, take, slice_get, refl, sym, ◌∙◌, ap, subst, arith}
 use Rattle.jc_rules.specs.declared.operation.Event.{Event}
 use Rattle.jc_rules.specs.declared.rule.Rule.{Rule}

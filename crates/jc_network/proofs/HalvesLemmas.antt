@@ -1,4 +1,4 @@
--- A list in two parts, one element of which is changed.
+-- Lemmas about lists in two parts, one element of which is changed. They serve the event that receives.
 use Rattle.std.proofs.Common.{◌≡◌, ℕ, zero, suc, ◌<◌, List, [], ◌∷◌, ◌++◌, Some, length, slice_get, slice_set, slice_index_or, refl, ap}
 use Rattle.std.proofs.lemmas.Option.{slice_get_read}
 

@@ -1,4 +1,4 @@
--- The sets of a network after a step.
+-- Lemmas about RunInvariant: the sets of a network after a step.
 use Rattle.std.proofs.Common.{◌≡◌, ◌≢◌, ℕ, ◌+◌, ◌≤◌, ◌<◌, List, Some, true, Contains, ◌⊎◌, inl, inr, slice_get, slice_set, sym, ◌∙◌, ap, subst, arith}
 use Rattle.std.proofs.lemmas.Option.{same_Some}
 use Rattle.jc_rules.specs.declared.id.Id.{Id}
@@ -7,7 +7,8 @@ use Rattle.jc_rules.specs.Ids.{AreRising, has_id, greatest, AreIn}
 use Rattle.jc_rules.specs.Sound.{IsDependency}
 use Rattle.jc_rules.specs.State.{State}
 use Rattle.jc_network.specs.RunInvariant.{IsReplicaAt, IsMadeOp, HasSoundOps}
-use Rattle.jc_network.proofs.MembersLemmas.{set_there, set_other, below_greatest}
+use Rattle.jc_network.proofs.MembersLemmas.{set_there, set_other}
+use Rattle.jc_rules.proofs.IdSetLemmas.{member_greatest}
 
 -- the next operation of replica p
 pub record IsNew (p : ℕ) (A B : State) (x : Op) : Type 0 where
@@ -73,7 +74,7 @@ module _ (N : List State) (p : ℕ) (A B : State) (New : Op → Type 0) (there :
   new_apart x o n m e =
       let i = g.new x n in
       let r : o.id.replica ≡ p = ap (λ (j : Id). j.replica) e ∙ i.replica in
-      let b : o.id.counter ≤ greatest A.ops = below_greatest o.id A.ops ((h.own p A o there (own_made o m r)).1) in
+      let b : o.id.counter ≤ greatest A.ops = member_greatest o.id A.ops ((h.own p A o there (own_made o m r)).1) in
       let c : o.id.counter ≡ x.id.counter = ap (λ (j : Id). j.counter) e in
       let d : x.id.counter ≡ greatest A.ops + 1 = i.counter in
       omega (arith, b, c, d)
@@ -219,7 +220,7 @@ module _ (N : List State) (p : ℕ) (A B : State) (New : Op → Type 0) (there :
       new n x f =
           let w : IsMadeOp N x.0 = held_made p A x.0 there x.1 in
           let c : o.id.counter ≡ greatest A.ops + 1 = (g.new o n).counter in
-          let b : i.counter ≤ greatest A.ops = below_greatest i A.ops f in
+          let b : i.counter ≤ greatest A.ops = member_greatest i A.ops f in
           let s : x.0.id.counter ≡ i.counter = ap (λ (j : Id). j.counter) x.2 in
           let there_ : has_id x.0.id A.ops ≡ true = subst (λ j. has_id j A.ops ≡ true) (sym x.2) f in
           let is : o.deps ≡ A.ops = (g.new o n).deps in
@@ -240,7 +241,7 @@ module _ (N : List State) (p : ℕ) (A B : State) (New : Op → Type 0) (there :
       go (inl n) (inr w) =
           let c : e.id.counter ≡ greatest A.ops + 1 = (g.new e n).counter in
           let r : o.id.replica ≡ p = sym s ∙ (g.new e n).replica in
-          let b : o.id.counter ≤ greatest A.ops = below_greatest o.id A.ops ((h.own p A o there (own_made o w r)).1) in
+          let b : o.id.counter ≤ greatest A.ops = member_greatest o.id A.ops ((h.own p A o there (own_made o w r)).1) in
           absurd (omega (arith, c, b, l))
       go (inr w) (inl j) =
           let r : e.id.replica ≡ p = s ∙ (g.new o j).replica in

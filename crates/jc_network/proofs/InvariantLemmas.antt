@@ -1,4 +1,4 @@
--- A step of a network, and the way back.
+-- Lemmas about Invariant: a step of a network keeps it, and so does the way back.
 use Rattle.std.proofs.Common.{◌≡◌, ◌≢◌, ℕ, zero, suc, ◌+◌, ◌-◌, ◌<◌, ◌≤◌, ◌⊎◌, inl, inr, List, [], ◌∷◌, ◌++◌, Option, Some, None, IfSome, Bor, Ok, Bool, true, false, IsTrue, IsFalse, reverse, map, length, take, drop, unwrap_or, slice_get, slice_set, refl, sym, ◌∙◌, ap, subst, arith}
 use Rattle.std.proofs.lemmas.Option.{same_Some, slice_get-map, slice_get_read, slice_get_within}
 use Rattle.std.specs.Slice.{IsItemAt}
@@ -21,7 +21,7 @@ use Rattle.jc_network.specs.Invariant.{HasBegun, IsInRun, AreInRun, NetCanGoBack
 use Rattle.jc_network.specs.Refines.{AreSeen, IsAsked}
 use Rattle.jc_network.proofs.StepsLemmas.{well, reached, as_many_states, kept_there}
 use Rattle.jc_network.proofs.AppliedLemmas.{applied_stands}
-use Rattle.jc_network.proofs.AfterLemmas.{after_count, after_end}
+use Rattle.jc_network.proofs.AfterLemmas.{after_count, after_one_more, states_set}
 use Rattle.jc_network.proofs.OfferedLemmas.{offered_handed}
 use Rattle.jc_network.proofs.MembersLemmas.{set_there, set_other}
 use Rattle.jc_network.proofs.AbstractLemmas.{seen_is_real}
@@ -94,11 +94,6 @@ now_in_run version count is ps h = run_now version h.scripts h.first is ps h.run
 -- and reached
 pub now_reached : (version : Version) (count : ℕ) (is : List ℕ) (ps : List Past) → (h : IsKeptNet version count is ps) → IsReached h.scripts (network_of ps)
 now_reached version count is ps h = reached version h.scripts h.first (network_of ps) (kept_of ps) (now_in_run version count is ps h)
-
-length_set : (ps : List Past) (p : ℕ) (B : Past) → length (slice_set ps p B) ≡ length ps
-length_set [] p B = refl
-length_set (q ∷ ps) zero B = refl
-length_set (q ∷ ps) (suc p) B = ap suc (length_set ps p B)
 
 -- a network has a replica for each name, and at most 64
 pub few_names : (version : Version) (count : ℕ) (is : List ℕ) (ps : List Past) → IsKeptNet version count is ps → (length (network_of ps) ≡ count) × (count ≤ 64)
@@ -182,7 +177,7 @@ step_of version scripts first old new event rows allowed run numbered acts =
         given = run.given;
         before = run.before;
         events = run.events ++ event ∷ [];
-        led = after_end (of_version version first) run.events (of_version version N) (of_version version (network_of new)) event rows.rows run.led step;
+        led = after_one_more (of_version version first) run.events (of_version version N) event (of_version version (network_of new)) rows.rows run.led step;
         set = s.set;
         seen = subst (λ M. AreSeen s.set M (kept_of new)) is seen;
       };
@@ -204,7 +199,7 @@ stepped version names old new whose more event rows allowed is inv acts =
     let there : slice_get new p ≡ Some m.after = subst (λ (ps : List Past). slice_get ps p ≡ Some m.after) (sym m.now) (set_there old p m.before m.after m.there) in
     let can : NetCanGoBack p new = record { past = m.after; there = there; some = λ e. not_empty m.before.now m.before.earlier (sym m.answers.earlier ∙ e) } in
     let kept : IsKeptNet version (length names) (p ∷ reverse whose) new = record {
-      each = ap length m.now ∙ (length_set old p m.after ∙ inv.each);
+      each = ap length m.now ∙ (states_set old p m.after ∙ inv.each);
       numbered = subst AreNumbered (sym m.now) (numbered_set old p m.before m.after m.there m.answers.number inv.numbered);
       backed = (can, subst (AreBacked (reverse whose)) (sym before) inv.backed);
       scripts = inv.scripts;
@@ -227,7 +222,7 @@ stepped version names old new whose more event rows allowed is inv acts =
 pub stepped_whole : (version : Version) (names : List (List ℕ)) (old new : List Past) (n : ℕ) (whose more : List ℕ) (event : Event) (rows : Rows) → Allows event version → n ≡ length old → more ≡ whose ++ replica_of event ∷ [] → IsKeptNet version (length names) (reverse whose) old → ActsReplica event old new (Ok rows) → IsAfter version names old (take n (new ++ drop (length new) old)) whose more event rows
 stepped_whole version names old new n whose more event rows allowed len is inv acts =
     let m = acts.moves in
-    let count : length new ≡ length old = ap length m.now ∙ length_set old (replica_of event) m.after in
+    let count : length new ≡ length old = ap length m.now ∙ states_set old (replica_of event) m.after in
     let whole : take n (new ++ drop (length new) old) ≡ new = subst (λ k. take k (new ++ drop (length new) old) ≡ new) (count ∙ sym len) (take-append_seam new (drop (length new) old)) in
     subst (λ ps. IsAfter version names old ps whose more event rows) (sym whole) (stepped version names old new whose more event rows allowed is inv acts)
 
@@ -244,7 +239,7 @@ all_own version count is ps h q past e =
     let x = run.seen.each q past.now (kept_there ps q past e) in
     subst AreOfOne (sym (ap (λ (S : State). S.send) x.seen.stands.is)) (of_one q x.at.send (λ o c. ((well h.scripts (network_of ps) (now_reached version count is ps h)).sets.sent q x.at o x.there c).0))
 
--- what a replica keeps stands for its state
+-- a replica's stored state represents its state
 pub has_replica : (version : Version) (count : ℕ) (is : List ℕ) (ps : List Past) → IsKeptNet version count is ps → (p : ℕ) (past : Past) → slice_get ps p ≡ Some past → HasReplica (network_of ps) p past
 has_replica version count is ps h p past e =
     let run = now_in_run version count is ps h in
@@ -297,7 +292,7 @@ undone version count ps p a b whose fewer is inv there number was =
     let new : slice_set ps p b ≡ back_at p ps = ap (slice_set ps p) (sym (back_is b a number (sym was))) ∙ sym (back_at-is p ps a there) in
     record {
       kept = record {
-        each = length_set ps p b ∙ h.each;
+        each = states_set ps p b ∙ h.each;
         numbered = numbered_set ps p a b there number h.numbered;
         backed = subst (AreBacked (reverse fewer)) (sym new) h.backed.1;
         scripts = h.scripts;

@@ -1,5 +1,5 @@
--- What holds of the links everywhere in a tree, when a part of the tree changes.
-use Rattle.std.proofs.Common.{◌≡◌, ◌≢◌, List, [], ◌∷◌, ◌++◌, Option, Some, None, Bool, true, false, cond, ◌⊎◌, inl, inr, refl, sym, ◌∙◌, ap, subst}
+-- Lemmas about LinksEverywhere: a property of all links of a tree, when a part of the tree changes.
+use Rattle.std.proofs.Common.{◌≡◌, ◌≢◌, List, [], ◌∷◌, ◌++◌, Option, Some, None, Bool, true, false, ◌⊎◌, inl, inr, refl, sym, ◌∙◌, ap, subst}
 use Rattle.std.specs.List.{AllByRecursion}
 use Rattle.std.specs.Ordering.{eq_by_cmp}
 use Rattle.std.specs.declared.cmp.Ordering.{Ordering}
@@ -22,6 +22,9 @@ use Rattle.jc_network.specs.LinksEverywhere.{LinksHold, LinksAt, links_below, Ev
 use Rattle.jc_apply.specs.Fits.{content_or_new, child_context, InChild}
 use Rattle.jc_rules.specs.ContextsAt.{node_in}
 use Rattle.jc_rules.specs.Paths.{HasContext}
+use Rattle.jc_rules.proofs.ContextLemmas.{no_node}
+use Rattle.jc_rules.proofs.BoolLemmas.{not_none}
+use Rattle.jc_tree.proofs.LinkedLemmas.{next-with}
 
 -- ---- entries by key
 
@@ -80,10 +83,6 @@ each_list Q (child k c cs) h = (h.0, each_list Q cs h.1)
 pub list_each : (Q : LinksAt) (es : List (Key × Context)) → AllByRecursion (λ (e : Key × Context). Everywhere (links_below (ListT e.0) Q) e.1) es → InLists Q (children es)
 list_each Q [] h = tt
 list_each Q (e ∷ es) h = (h.0, list_each Q es h.1)
-
-no_node : {A : Type 0} (x : Option Register) (d : Context) → values_of x ≡ Some (Node d) → A
-no_node None d h = cc
-no_node (Some v) d h = cc
 
 -- at the root
 pub at_root : (Q : LinksAt) (c : Context) → Everywhere Q c → Q [] (links c)
@@ -210,22 +209,13 @@ child-next (MapT k) j x (context m l r p n) = refl
 child-next (ListT k) j x (context m l r p n) = refl
 child-next (RegT k) j x (context m l r p n) = refl
 
-pub next-with : (k j : Key) (x : Next) (c : Context) → next k (with_next j x c) ≡ cond (eq_by_cmp key_cmp k j) (Some x) (next k c)
-next-with k j x (context m l r p n) = find-put keys_total exact_keys k j x n
-
-some_none : {X : Type 0} (x : X) (o : Option X) → o ≡ Some x → o ≢ None
-some_none x o e f = let g : Some x ≡ None = sym e ∙ f in cc
-
 -- what has a link keeps one
 next_stays : (k j : Key) (x : Next) (c : Context) → next k c ≢ None → next k (with_next j x c) ≢ None
 next_stays k j x c h = go (eq_by_cmp key_cmp k j) refl
   where
     go : (b : Bool) → eq_by_cmp key_cmp k j ≡ b → next k (with_next j x c) ≢ None
-    go true b = some_none x _ (next-with k j x c ∙ rw b refl)
+    go true b = not_none x _ (next-with k j x c ∙ rw b refl)
     go false b = λ g. h (sym (next-with k j x c ∙ rw b refl) ∙ g)
-
-pub next_set : (j : Key) (x : Next) (c : Context) → next j (with_next j x c) ≡ Some x
-next_set j x c = next-with j j x c ∙ rw (same-self keys_total exact_keys j) refl
 
 pub reach_next : (j : Key) (x : Next) (c : Context) (P : List Tagged) (k : Key) → Reach c P k → Reach (with_next j x c) P k
 reach_next j x c [] k h = next_stays k j x c h

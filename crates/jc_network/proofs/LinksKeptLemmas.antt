@@ -1,4 +1,4 @@
--- What clearing and operations do to the links of a tree.
+-- Lemmas about LinksEverywhere: what clearing and operations do to the links of a tree.
 use Rattle.std.proofs.Common.{◌≡◌, List, [], ◌∷◌, Option, Some, None, refl, sym, ◌∙◌, ap, subst}
 use Rattle.jc_rules.specs.declared.id.Id.{Id}
 use Rattle.jc_rules.specs.declared.key.Key.{Key}
@@ -26,7 +26,8 @@ use Rattle.jc_apply.specs.Fits.{content_or_new, child_context, InChild}
 use Rattle.jc_rules.specs.ContextsAt.{node_in}
 use Rattle.jc_rules.specs.Paths.{HasContext}
 use Rattle.jc_network.proofs.InductionLemmas.{All, by_rules}
-use Rattle.jc_network.proofs.LinksEverywhereLemmas.{OfNew, at_root, in_child, with_child, with_values, with_ids, with_links, all_follow, in_entered, child-put, links-content, reach_child, reach_below, next_set, reach_next, links-ids, reach_ids, reach_values}
+use Rattle.jc_network.proofs.LinksEverywhereLemmas.{OfNew, at_root, in_child, with_child, with_values, with_ids, with_links, all_follow, in_entered, child-put, links-content, reach_child, reach_below, reach_next, links-ids, reach_ids, reach_values}
+use Rattle.jc_tree.proofs.LinkedLemmas.{next_set}
 
 -- No link was changed: what holds of all links still does, what was reached still is, and the root's links are the same. New maps and lists may have been made.
 pub record KeepsLinks (c d : Context) : Type 1 where
@@ -244,7 +245,7 @@ add_case R.AddId1 c t i m a js (s, e, p, q) hs = subst (AfterAdd c) (sym q) (kee
 add_case R.AddId2 c t i m a js (e, p, q) hs = subst (AfterAdd c) (sym q) (keeps_same c)
 add_case _ c t i m a js h hs = absurd h
 
--- an operation with its path and its mutation told
+-- an operation of this path and this mutation
 told : (o : Op) (path : List Tagged) (m : Mutation) (c d : Context) → o.cursor.path ≡ path → o.mutation ≡ m → Operates o.id path o.cursor.last m c d → Operates o.id o.cursor.path o.cursor.last o.mutation c d
 told o path m c d e f g = subst (λ p. Operates o.id p o.cursor.last o.mutation c d) (sym e) (subst (λ n. Operates o.id path o.cursor.last n c d) (sym f) g)
 

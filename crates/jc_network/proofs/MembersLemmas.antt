@@ -1,15 +1,16 @@
--- Members of lists of operations, and the states of a network.
-use Rattle.std.proofs.Common.{◌≡◌, ◌≢◌, ℕ, zero, suc, ◌<◌, ◌≤◌, List, [], ◌∷◌, length, Some, Bool, true, false, ◌||◌, Contains, ◌⊎◌, inl, inr, slice_get, slice_set, refl, sym, ◌∙◌, ap, subst, arith}
+-- Lemmas about members of lists of operations and of networks, for the other proofs and the crates above.
+use Rattle.std.proofs.Common.{◌≡◌, ◌≢◌, ℕ, zero, suc, ◌<◌, List, [], ◌∷◌, length, Some, Bool, true, false, Contains, ◌⊎◌, inl, inr, slice_get, slice_set, refl, sym, ◌∙◌, ap, subst, arith}
 use Rattle.std.specs.declared.cmp.Ordering.{Ordering}
 use Rattle.std.specs.declared.cmp.Ordering.TheVariants.{Less, Equal, Greater}
 use Rattle.std.proofs.lemmas.Option.{same_Some}
 use Rattle.jc_rules.specs.declared.id.Id.{Id}
 use Rattle.jc_rules.specs.declared.operation.Op.{Op}
 use Rattle.jc_rules.specs.Order.{id_cmp, same_id}
-use Rattle.jc_rules.specs.Ids.{has_id, with_id, greatest}
+use Rattle.jc_rules.specs.Ids.{has_id, with_id}
 use Rattle.jc_rules.specs.Table.{op_of, with_op, both}
 use Rattle.jc_rules.proofs.OrderLemmas.{exact_ids}
 use Rattle.jc_rules.proofs.IdsLemmas.{same_id-self, same_id-true, has_id-with}
+use Rattle.jc_rules.proofs.BoolLemmas.{or_right, or_cases}
 
 pub none_in : {X A : Type 0} (x : X) → Contains [] x → A
 none_in x (k, lt, e) = absurd (omega (arith, lt))
@@ -104,29 +105,12 @@ of_id (p ∷ ps) o f h = go (same_id o.id p.id) refl (of_id ps o (λ x g. f x (l
     go false e ih (inl g) = let t : same_id o.id p.id ≡ true = subst (λ (y : Op). same_id o.id y.id ≡ true) (sym g) (same_id-self o.id) in cc
     go false e ih (inr g) = rw e (ih g)
 
--- no counter in a set is above the greatest
-pub below_greatest : (i : Id) (s : List Id) → has_id i s ≡ true → i.counter ≤ greatest s
-below_greatest i [] h = cc
-below_greatest i (j ∷ s) h = go (same_id i j) refl (below_greatest i s)
-  where
-    go : (b : Bool) → same_id i j ≡ b → (has_id i s ≡ true → i.counter ≤ greatest s) → i.counter ≤ greatest (j ∷ s)
-    go true e ih = let q : i.counter ≡ j.counter = ap (λ (k : Id). k.counter) (same_id-true i j e) in omega arith
-    go false e ih = let r : i.counter ≤ greatest s = ih (rw e at h) in omega arith
-
-or_cases : (a b : Bool) → a || b ≡ true → (a ≡ true) ⊎ (b ≡ true)
-or_cases true b h = inl refl
-or_cases false b h = inr h
-
 pub in_with_id : (k i : Id) (s : List Id) → has_id k (with_id i s) ≡ true → (k ≡ i) ⊎ (has_id k s ≡ true)
 in_with_id k i s h = go (or_cases (same_id k i) (has_id k s) (sym (has_id-with k i s) ∙ h))
   where
     go : (same_id k i ≡ true) ⊎ (has_id k s ≡ true) → (k ≡ i) ⊎ (has_id k s ≡ true)
     go (inl e) = inl (same_id-true k i e)
     go (inr e) = inr e
-
-or_right : (a b : Bool) → b ≡ true → a || b ≡ true
-or_right true b h = refl
-or_right false b h = h
 
 pub still_with_id : (k i : Id) (s : List Id) → has_id k s ≡ true → has_id k (with_id i s) ≡ true
 still_with_id k i s h = has_id-with k i s ∙ or_right (same_id k i) (has_id k s) h

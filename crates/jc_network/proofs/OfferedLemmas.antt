@@ -1,7 +1,8 @@
--- Counters of what is offered.
+-- Lemmas about RunInvariant: the counters of what is offered.
 use Rattle.std.proofs.Common.{ℕ, ◌+◌, ◌*◌, ◌≤◌, List, [], ◌∷◌, Contains, map, length, sym, ap, subst, arith}
 use Rattle.std.specs.List.{AllByRecursion}
 use Rattle.jc_rules.specs.declared.operation.Op.{Op}
+use Rattle.jc_rules.specs.declared.limits.TheConstants.{MAX_COMMANDS}
 use Rattle.jc_rules.specs.State.{State}
 use Rattle.jc_rules.specs.Syntax.{Cmd}
 use Rattle.jc_vectors.specs.StoredStates.{stored_op}
@@ -17,7 +18,8 @@ handed_kept : (os : List Op) → ((o : Op) → Contains os o → IsHanded o) →
 handed_kept [] f = tt
 handed_kept (o ∷ os) f = (f o (first_in o os), handed_kept os (λ x c. f x (later_in x o os c)))
 
-left_bound : (scripts : List (List Cmd)) → AllByRecursion (λ s. length s ≤ 65536) scripts → commands_left (starts scripts) ≤ length scripts * 65536
+-- the commands of all scripts
+pub left_bound : (scripts : List (List Cmd)) → AllByRecursion (λ s. length s ≤ MAX_COMMANDS) scripts → commands_left (starts scripts) ≤ length scripts * MAX_COMMANDS
 left_bound [] h = omega arith
 left_bound (s ∷ scripts) h =
     let first : length s ≤ 65536 = h.0 in

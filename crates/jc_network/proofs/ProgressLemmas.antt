@@ -1,4 +1,4 @@
--- An operation that fits has an answer, and so an applicable operation can be applied.
+-- Lemmas about progress: an operation that fits has an answer, and one that is due can be applied.
 use Rattle.std.proofs.Common.{◌≡◌, ◌≢◌, ℕ, List, [], ◌∷◌, Option, Some, None, true, false, ◌⊎◌, inl, inr, refl, sym, ◌∙◌, ap, subst, arith}
 use Rattle.std.specs.List.{AllByRecursion}
 use Rattle.std.specs.declared.cmp.Ordering.{Ordering}
@@ -21,7 +21,7 @@ use Rattle.jc_rules.specs.declared.value.Value.TheVariants as V
 use Rattle.jc_rules.specs.Order.{key_cmp, id_cmp}
 use Rattle.jc_rules.specs.Entries.{find}
 use Rattle.jc_rules.specs.Ids.{has_id, AreIn}
-use Rattle.jc_rules.specs.Context.{Context, context, Content, Node, Values, Register, IsPrimitive, values_of, node_of, maps, lists, content, new_content, next, registers, empty, empty_list, key_of_tagged}
+use Rattle.jc_rules.specs.Context.{Context, context, Content, Node, Values, Register, IsPrimitive, values_of, lists, content, new_content, next, registers, empty, empty_list, key_of_tagged}
 use Rattle.jc_rules.specs.WellFormed.{LeadsThrough, IsChained, IsChainedList}
 use Rattle.jc_rules.specs.Sound.{IsInsert}
 use Rattle.jc_rules.specs.State.{State}
@@ -42,7 +42,7 @@ use Rattle.jc_network.specs.Rooted.{IsListPath, IsRootKey, head, element, AreRig
 use Rattle.jc_network.specs.RunInvariant.{IsReplicaAt, IsMadeOp, IsWell}
 use Rattle.jc_network.proofs.LinksEverywhereLemmas.{entry-found, all_follow}
 use Rattle.jc_network.proofs.MembersLemmas.{op_in}
-use Rattle.jc_network.proofs.RootedLemmas.{of_new, reached_in}
+use Rattle.jc_network.proofs.RootedLemmas.{of_new, reached_in, child_there}
 use Rattle.jc_network.proofs.FitsLemmas.{wanted}
 use Rattle.jc_network.proofs.ClearAnswersLemmas.{by_rule, presence_answered, cleared, cleared_elem}
 
@@ -182,19 +182,6 @@ here_answered c o (M.Insert v) h path m wants fresh =
     none_there None e = e
     none_there (Some y) e = absurd (fresh tt (λ f. let g : Some y ≡ None = sym e ∙ f in cc))
 here_answered c o M.Delete h path m wants fresh = delete_answered c o h.below path m
-
-pub child_there : (t : Tagged) (c : Context) → HasContext t → (d : Context) × (child_context t c ≡ Some d)
-child_there (MapT k) c h = go (find key_cmp k (maps c))
-  where
-    go : (o : Option Context) → (d : Context) × (node_in (Some (content_or_new (MapT k) (node_of o))) ≡ Some d)
-    go None = (empty, refl)
-    go (Some d) = (d, refl)
-child_there (ListT k) c h = go (find key_cmp k (lists c))
-  where
-    go : (o : Option Context) → (d : Context) × (node_in (Some (content_or_new (ListT k) (node_of o))) ≡ Some d)
-    go None = (empty_list, refl)
-    go (Some d) = (d, refl)
-child_there (RegT k) c h = absurd h
 
 -- an operation whose place is reached, and whose identifier isn't
 pub operation_answered : (path : List Tagged) (c : Context) (o : Op) → o.cursor.path ≡ path → IsGood c → AllByRecursion HasContext path → (IsInsert o.mutation → Reach c path o.cursor.last) → (IsInsert o.mutation → Reach c path (K.Elem o.id) → ⊥) → Answered c o

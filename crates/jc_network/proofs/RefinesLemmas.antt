@@ -1,5 +1,5 @@
--- What an event makes of stored states, it makes of those that they stand for.
-use Rattle.std.proofs.Common.{◌≡◌, ◌≢◌, ℕ, zero, suc, List, [], ◌∷◌, Option, Some, None, IfSome, Contains, ◌⊎◌, inl, inr, map, length, slice_get, slice_set, refl, sym, ◌∙◌, ap, subst, arith}
+-- Lemmas about Refines: what an event makes of stored states, it makes of those that they represent.
+use Rattle.std.proofs.Common.{◌≡◌, ◌≢◌, ℕ, zero, suc, List, [], ◌∷◌, Option, Some, None, IfSome, Contains, ◌⊎◌, inl, inr, map, slice_get, slice_set, refl, sym, ◌∙◌, ap, subst, arith}
 use Rattle.std.specs.List.{AllByRecursion}
 use Rattle.std.proofs.lemmas.Option.{same_Some}
 use Rattle.jc_rules.specs.declared.id.Id.{Id}
@@ -24,6 +24,7 @@ use Rattle.jc_network.specs.RunInvariant.{IsReplicaAt, IsMadeOp, HasSoundOps}
 use Rattle.jc_network.specs.Refines.{HasSeen, AreSeen, IsAsked, StepsOn}
 use Rattle.jc_network.proofs.MembersLemmas.{none_in, first_in, later_in, in_cons, still_with, now_with, set_there}
 use Rattle.jc_network.proofs.RunInvariantStartLemmas.{started}
+use Rattle.jc_network.proofs.AfterLemmas.{states_set}
 
 pub all_in : {X : Type 0} (P : X → Type 0) (xs : List X) → AllByRecursion P xs → (x : X) → Contains xs x → P x
 all_in P [] h x c = none_in x c
@@ -49,11 +50,6 @@ set_else (x ∷ xs) zero zero b f = absurd (f refl)
 set_else (x ∷ xs) zero (suc q) b f = refl
 set_else (x ∷ xs) (suc p) zero b f = refl
 set_else (x ∷ xs) (suc p) (suc q) b f = set_else xs p q b (λ e. f (ap suc e))
-
-length_set : (xs : List State) (p : ℕ) (b : State) → length (slice_set xs p b) ≡ length xs
-length_set [] p b = refl
-length_set (x ∷ xs) zero b = refl
-length_set (x ∷ xs) (suc p) b = ap suc (length_set xs p b)
 
 -- what an event's promise asks, where all own operations are applied
 own_for : (event : Event) (set : List Op) (p : ℕ) (A : State) → HasOwn set p A → HasOwnFor event set p A
@@ -214,7 +210,7 @@ module _ (set : List Op) (network kept : List State) (sound : HasSoundOps networ
     seen_after m is e f =
         record {
           all = all_made m e f;
-          as_many = length_set network p now ∙ (seen.as_many ∙ sym (length_set kept p new));
+          as_many = states_set network p now ∙ (seen.as_many ∙ sym (states_set kept p new));
           each = each_after m is f;
         }
 

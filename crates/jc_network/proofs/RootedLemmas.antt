@@ -1,4 +1,4 @@
--- What is known of cursors and trees, when more is made and more is applied, and when an operation is.
+-- Lemmas about Rooted: cursors and trees stay right while more operations are made and applied.
 use Rattle.std.proofs.Common.{◌≡◌, ◌≢◌, ℕ, List, [], ◌∷◌, ◌++◌, Option, Some, None, Bool, true, false, cond, refl, sym, ◌∙◌, ap, subst}
 use Rattle.std.specs.List.{AllByRecursion}
 use Rattle.std.specs.Ordering.{eq_by_cmp}
@@ -30,6 +30,7 @@ use Rattle.jc_network.proofs.LinksEverywhereLemmas.{OfNew, entry-found, entries-
 use Rattle.jc_network.proofs.LinksKeptLemmas.{operates}
 use Rattle.jc_network.proofs.CursorsLemmas.{same_end}
 use Rattle.jc_network.proofs.MembersLemmas.{still_with_id, now_with_id}
+use Rattle.jc_rules.proofs.BoolLemmas.{not_none}
 
 -- ---- more is made, and more is applied
 
@@ -81,18 +82,15 @@ of_new In ops P k = (
   record { keys = ((((P, k, refl), head refl)), tt); closed = new_closed; headed = λ l e. cc },
 )
 
-some_none : {X : Type 0} (x : X) (o : Option X) → o ≡ Some x → o ≢ None
-some_none x o e f = let g : Some x ≡ None = sym e ∙ f in cc
-
 stays : (k j : Key) (x : Next) (n : LinksHold) → find key_cmp k n ≢ None → find key_cmp k (put key_cmp j x n) ≢ None
 stays k j x n h = go (eq_by_cmp key_cmp k j) refl
   where
     go : (b : Bool) → eq_by_cmp key_cmp k j ≡ b → find key_cmp k (put key_cmp j x n) ≢ None
-    go true b = some_none x _ (find-put keys_total exact_keys k j x n ∙ rw b refl)
+    go true b = not_none x _ (find-put keys_total exact_keys k j x n ∙ rw b refl)
     go false b = λ g. h (sym (find-put keys_total exact_keys k j x n ∙ rw b refl) ∙ g)
 
 put_there : (j : Key) (x : Next) (n : LinksHold) → find key_cmp j (put key_cmp j x n) ≢ None
-put_there j x n = some_none x _ (find-put keys_total exact_keys j j x n ∙ rw (same-self keys_total exact_keys j) refl)
+put_there j x n = not_none x _ (find-put keys_total exact_keys j j x n ∙ rw (same-self keys_total exact_keys j) refl)
 
 module _ (In : Op → Type 0) (ops : List Id) (i : Id) (path : List Tagged) (n : LinksHold) (k : Key) (x : Next) (h : AreRightLinks In ops path n) (there : find key_cmp k n ≡ Some x) (applied : has_id i ops ≡ true) (inserted : IsInserted In i path) where
   abbrev pub with_link : LinksHold
@@ -177,7 +175,8 @@ reached_listed In ops P c k h r = reached_in (λ Q j. IsListPath Q) P c k new (a
     new : OfNew (λ Q n. (j : Key) → find key_cmp j n ≢ None → IsListPath Q)
     new Q j = (right _ _ (of_new In ops Q j).0, right _ _ (of_new In ops Q j).1)
 
-child_there : (t : Tagged) (c : Context) → HasContext t → (d : Context) × (child_context t c ≡ Some d)
+-- a tagged key of a map or a list has a child, a new one where none was made
+pub child_there : (t : Tagged) (c : Context) → HasContext t → (d : Context) × (child_context t c ≡ Some d)
 child_there (MapT k) c h = go (find key_cmp k (maps c))
   where
     go : (o : Option Context) → (d : Context) × (node_in (Some (content_or_new (MapT k) (node_of o))) ≡ Some d)

@@ -1,4 +1,4 @@
--- A network after a step.
+-- Lemmas about RunInvariant: a step keeps it.
 use Rattle.std.proofs.Common.{◌≡◌, ◌≢◌, ℕ, zero, suc, ◌+◌, ◌≤◌, List, [], ◌∷◌, Option, Some, None, Bool, true, false, Contains, ◌⊎◌, inl, inr, slice_get, slice_set, refl, sym, ◌∙◌, ap, subst, arith}
 use Rattle.std.specs.List.{AllByRecursion}
 use Rattle.std.proofs.lemmas.Option.{same_Some}
@@ -23,11 +23,12 @@ use Rattle.jc_network.specs.Rooted.{IsListPath, IsRootedCursor, IsRootedBound}
 use Rattle.jc_network.specs.RunInvariant.{IsReplicaAt, IsMadeOp, IsKnown, IsWell}
 use Rattle.jc_network.proofs.LinksKeptLemmas.{Operates, operates}
 use Rattle.jc_network.proofs.CursorsLemmas.{evaluated}
-use Rattle.jc_network.proofs.MembersLemmas.{none_in, in_with, still_with, now_with, in_both, still_both, op_in, in_with_id, still_with_id, now_with_id, below_greatest}
+use Rattle.jc_network.proofs.MembersLemmas.{none_in, in_with, still_with, now_with, in_both, still_both, op_in, in_with_id, still_with_id, now_with_id}
 use Rattle.jc_network.proofs.RootedLemmas.{cursor_still, vars_still, tree_still, tree_after, reached_listed}
 use Rattle.jc_network.proofs.EventDidLemmas.{new_op, Did, bound, made, sent, received, took, applied, done, did}
 use Rattle.jc_rules.proofs.IdsLemmas.{with-rises}
 use Rattle.jc_network.proofs.HeldSetsLemmas.{IsNew, Comes, Grows, Stands, moved, stayed, stands, new_unapplied, made_before, made_still, made_now, sets_after}
+use Rattle.jc_rules.proofs.IdSetLemmas.{member_greatest}
 
 module _ (N : List State) (p : ℕ) (A B : State) (New : Op → Type 0) (there : IsReplicaAt N p A) (w : IsWell N) (g : Grows (IsMadeOp N) New p A B)
     (cursors : (x : Op) → New x → IsRootedCursor (IsMadeOp N) A.ops x.cursor)
@@ -214,7 +215,7 @@ module _ (N : List State) (p : ℕ) (A : State) (there : IsReplicaAt N p A) (w :
     where
       fresh : (x : Op) → Contains A.queue x → x.id ≢ o.id
       fresh x k e =
-          let b : x.id.counter ≤ greatest A.ops = below_greatest x.id A.ops ((w.sets.own p A x there k).1) in
+          let b : x.id.counter ≤ greatest A.ops = member_greatest x.id A.ops ((w.sets.own p A x there k).1) in
           let c : x.id.counter ≡ o.id.counter = ap (λ (j : Id). j.counter) e in
           omega (arith, b, c, counter)
 

@@ -1,4 +1,4 @@
--- What replicas answer, as events of a network.
+-- Lemmas about Steps: what replicas return, as events of a network.
 use Rattle.std.proofs.Common.{◌≡◌, ℕ, zero, suc, ◌<◌, ◌≤◌, List, [], ◌∷◌, ◌++◌, Option, Some, None, IfSome, IsErrAnd, Result, Err, inl, inr, option_map, length, slice_get, slice_set, slice_index_or, refl, sym, ◌∙◌, ap, subst, arith}
 use Rattle.std.proofs.lemmas.List.{length-map}
 use Rattle.std.proofs.lemmas.Option.{slice_get-map, slice_get_past}
@@ -156,7 +156,7 @@ never_full version event old new E.Full m e = m
 never_full version event old new (E.Stuck s) m e = cc
 never_full version event old new E.Memory m e = cc
 
--- what an event that is stuck has told
+-- the fault of an event that is stuck
 pub told_stuck : (version : Version) (scripts : List (List Cmd)) (first : List State) (event : Event) (old new : List Past) (fault : StepFault) (s : Stuck) → IsInRun version scripts first (network_of old) (kept_of old) → MakesStep version event old new (Err fault) → fault ≡ E.Stuck s → IsStuckFor (of_version version (network_of old)) event s
 told_stuck version scripts first event old new fault s run m e =
     let h : MakesStep version event old new (Err (E.Stuck s)) = subst (λ f. MakesStep version event old new (Err f)) e m in

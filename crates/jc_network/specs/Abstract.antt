@@ -1,4 +1,4 @@
--- The network for which stored states stand, computed from them.
+-- The network that stored states represent, computed from them. The model of a network has it.
 use Rattle.std.specs.Prelude.{List, [], ◌∷◌, ◌++◌, map}
 use Rattle.jc_rules.specs.declared.operation.Op.{Op}
 use Rattle.jc_rules.specs.State.{State}
@@ -9,7 +9,7 @@ abbrev pub queues : List State → List Op
 queues [] = []
 queues (K ∷ kept) = K.queue ++ queues kept
 
--- the operation with the identifiers of the set in place of greatest counters
+-- the operation with the identifiers of the set in place of a version vector
 abbrev pub real_op : List Op → Op → Op
 real_op set o = with_deps (ids_within set o.deps) o
 
@@ -21,6 +21,6 @@ real_state set K = record K {
   recv = map (real_op set) K.recv;
 }
 
--- the states with the identifiers of all operations that were made in place of greatest counters
+-- the states with the identifiers of all operations that were made in place of version vectors
 abbrev pub real : List State → List State
 real kept = map (real_state (queues kept)) kept

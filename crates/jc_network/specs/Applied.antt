@@ -1,4 +1,4 @@
--- What a replica has applied.
+-- The operations that a replica has applied, for `Net::applied` and `applied_ids`.
 use Rattle.std.specs.Prelude.{◌≡◌, ◌↔◌, ℕ, List, true, Some, filter, map, slice_get, Contains, ◌⊎◌}
 use Rattle.jc_rules.specs.declared.id.Id.{Id}
 use Rattle.jc_rules.specs.declared.operation.Op.{Op}
@@ -14,7 +14,7 @@ use Rattle.jc_network.specs.Laws.{IsReached}
 abbrev pub applied_ops : State → List Op
 applied_ops A = filter (λ o. has_id o.id A.ops) (both A.queue A.recv)
 
--- what replica p has applied, as it is kept
+-- what replica p has applied, as stored operations
 pub record IsApplied (network : List State) (p : ℕ) (ops : List Op) : Type 0 where
   pub at : State
   pub there : slice_get network p ≡ Some at
@@ -24,8 +24,8 @@ pub record IsApplied (network : List State) (p : ℕ) (ops : List Op) : Type 0 w
 abbrev pub AreAppliedIds : List State → ℕ → List Id → Type 0
 AreAppliedIds network p ids = (A : State) → slice_get network p ≡ Some A → ids ≡ A.ops
 
--- In each network that is reached from a start these stand by identifier, none twice; each was made or received; and
--- each identifier that is applied is that of one of them.
+-- In each network that is reached from a start these are sorted by identifier, none twice; each was made or received;
+-- and each identifier that is applied is that of one of them.
 abbrev pub AppliedAreAll : Type 0
 AppliedAreAll =
     (scripts : List (List Cmd)) (network : List State)

@@ -1,4 +1,4 @@
--- Which events can be made in a network.
+-- The candidates for events of a network, and those that aren't stuck, for `Net::enabled`.
 use Rattle.std.specs.Prelude.{◌≡◌, ◌++◌, ◌↔◌, ℕ, zero, suc, List, [], ◌∷◌, Bool, true, false, Some, Contains, map, length, slice_get}
 use Rattle.jc_rules.specs.declared.operation.Event.{Event}
 use Rattle.jc_rules.specs.declared.operation.Event.TheVariants.{Exec, Send, Recv, Take, Apply, Done}
@@ -40,7 +40,7 @@ takings Two p states = takings_from p 0 states
 abbrev pub applyings : ℕ → List Op → List Event
 applyings p os = map (λ o. Apply p o.id) os
 
--- The events of replica p that are asked for in the network, which has received these operations.
+-- The candidates of replica p in the network; the replica has received these operations.
 abbrev pub applyings_of : Network → ℕ → List Op → List Event
 applyings_of network p received =
     Exec p ∷ Send p ∷ receivings p (length network.states) ++ takings network.version p network.states
@@ -51,7 +51,7 @@ abbrev pub events_from : Network → ℕ → List State → List Event
 events_from network p [] = []
 events_from network p (A ∷ states) = applyings_of network p A.recv ++ events_from network (suc p) states
 
--- The events that are asked for in a network: of each replica in order exec, send, recv from each replica, in version 2
+-- The candidates of a network: of each replica in order exec, send, recv from each replica, in version 2
 -- take of each operation that each replica offers, apply of each operation that it has received, and done.
 abbrev pub candidates : Network → List Event
 candidates network = events_from network 0 network.states
@@ -76,13 +76,13 @@ IsAnyStuck network event = (why : Cause) × IsStuckIn network event why
 abbrev pub IsNotStuck : Network → Event → Type 0
 IsNotStuck network event = (why : Cause) → IsStuckIn network event why → ⊥
 
--- Of the events that are asked for just those are listed, in their order, that aren't stuck.
+-- Of the candidates just those are listed, in their order, that aren't stuck.
 abbrev pub AreEnabled : Network → List Event → List Event → Type 0
 AreEnabled network asked listed = AreChosen (IsNotStuck network) (IsAnyStuck network) asked listed
 
 -- ---- laws
 
--- the refusals of events that aren't asked for
+-- the refusals of events that aren't candidates
 abbrev pub IsOfOther : Refusal → Type 0
 IsOfOther F.NoSuchReplica = Unit {0}
 IsOfOther F.WrongVersion = Unit {0}
@@ -91,8 +91,8 @@ IsOfOther F.NotAtYield = Unit {0}
 IsOfOther F.NotReceived = Unit {0}
 IsOfOther _ = ⊥
 
--- An event that isn't asked for is stuck: a replica is missing, or the version has no such event, or the operation wasn't
--- offered or received or no yield comes next.
+-- An event that isn't a candidate is stuck: a replica is missing, or the version has no such event, or the operation
+-- wasn't offered or received, or no yield comes next.
 abbrev pub OthersAreStuck : Type 0
 OthersAreStuck =
     (network : Network) (event : Event)
@@ -103,7 +103,7 @@ OthersAreStuck =
 abbrev pub HasStep : Network → Event → Type 0
 HasStep network event = (new : Network) × (rows : List (Rule × ℕ)) × StepIn network event new rows
 
--- no event stands in the list twice
+-- no event is in the list twice
 abbrev pub AreOnce : List Event → Type 0
 AreOnce [] = Unit {0}
 AreOnce (event ∷ events) = (Contains events event → ⊥) × AreOnce events
@@ -120,7 +120,7 @@ EnabledHaveSteps =
 
 -- ---- replicas
 
--- Of the events that are asked for just those come in behind what was there that the replica can make.
+-- Of these events just those are appended that the replica can make.
 pub record Lists (past : Past) (asked old new : List Event) : Type 0 where
   pub listed : List Event
   pub behind : new ≡ old ++ listed
@@ -132,7 +132,8 @@ pub record TellsEnabled (pasts : List Past) (can : Bool) (event : Event) : Type 
   pub there : slice_get pasts (replica_of event) ≡ Some past
   pub answer : CanOccur event past can
 
--- Of the events that are asked for just those are listed that their replicas can make.
+-- Of the candidates just those are listed that their replicas can make.
 abbrev pub AreEnabledAsKnown : Version → List Past → List Event → Type 0
 AreEnabledAsKnown version pasts listed =
-    AreChosen (TellsEnabled pasts true) (TellsEnabled pasts false) (candidates (of_version version (kept_of pasts))) listed
+    AreChosen (TellsEnabled pasts true) (TellsEnabled pasts false)
+        (candidates (of_version version (kept_of pasts))) listed

@@ -1,4 +1,4 @@
--- The start of a scenario: the network to which its given events lead.
+-- The start of a scenario: the network to which its given events lead, or the first of them that is stuck.
 use Rattle.std.specs.Prelude.{◌≡◌, ◌⊎◌, ℕ, ◌+◌, List, [], take, slice_get, Some}
 use Rattle.jc_rules.specs.declared.operation.Event.{Event}
 use Rattle.jc_rules.specs.Refused.{Cause, IsStuckIn}
@@ -18,14 +18,13 @@ before_given s = of_version s.version (starts s.scripts)
 abbrev pub IsStart : Scenario → Network → Type 0
 IsStart s network = AfterIn (before_given s) s.given network
 
--- It is at the start of the scenario, and no step was made.
+-- The course is at the start of the scenario, and no step was made.
 pub record IsStarted (s : Scenario) (c : Course) : Type 0 where
   pub names : c.names ≡ s.names
   pub start : IsStart s c.network
   pub earlier : c.earlier ≡ []
 
--- Of the events that are given from the network on, this one, of the number `at` from 1, is the first that is stuck, for
--- this cause.
+-- Of the events given in the network, the one of the number `at`, from 1, is the first that is stuck, for this cause.
 pub record IsGivenStuck (first : Network) (given : List Event) (at : ℕ) (event : Event) (why : Cause) : Type 0 where
   pub before : ℕ
   pub network : Network
@@ -34,7 +33,7 @@ pub record IsGivenStuck (first : Network) (given : List Event) (at : ℕ) (event
   pub is : slice_get given before ≡ Some event
   pub stuck : IsStuckIn network event why
 
--- the same as it is told
+-- the first given event that is stuck, as a fault has it
 pub record IsGivenFault (first : Network) (given : List Event) (at : ℕ) (s : Stuck) : Type 0 where
   pub event : Event
   pub why : Cause

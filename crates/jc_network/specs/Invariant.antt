@@ -1,4 +1,4 @@
--- What the type of a network keeps.
+-- The invariant of a network's type, and what it promises its callers.
 use Rattle.std.specs.Prelude.{◌≡◌, ◌≢◌, ◌≤◌, ◌+◌, ℕ, List, [], ◌∷◌, Some, Contains, length, slice_get}
 use Rattle.jc_rules.specs.declared.operation.Event.{Event}
 use Rattle.jc_rules.specs.declared.operation.Op.{Op}
@@ -14,8 +14,8 @@ use Rattle.jc_network.specs.Laws.{starts, ops_held, IsReached}
 use Rattle.jc_network.specs.RunInvariant.{commands_left}
 use Rattle.jc_network.specs.Refines.{AreSeen, AreShort}
 
--- Events of the version have led to the first network from the start of the scripts, which are short, and others from
--- there to the network; in the set of what was made the stored states stand for it.
+-- Events of the version have led from the start of the scripts, which are short, to the first network, and others from
+-- there to the network. In the set of what was made the stored states represent it.
 pub record IsInRun (version : Version) (scripts : List (List Cmd)) (first network kept : List State) : Type 0 where
   pub short : AreShort scripts
   pub given : List Event
@@ -38,8 +38,8 @@ pub record HasBegun (c : Course) : Type 0 where
   pub events : List Event
   pub led : AfterIn (first_network c) events c.network
 
--- In a network at hand, which began at the start of a scenario, no counter is above the number of commands of that
--- scenario that were run.
+-- In a course that began at the start of a scenario, no counter is above the number of that scenario's commands that
+-- were run.
 abbrev pub OwnCountersAreRun : Type 0
 OwnCountersAreRun =
     (s : Scenario) (c : Course)

@@ -1,4 +1,4 @@
--- What the definitions promise of every network that events lead to from a start.
+-- Laws of every network that events lead to from a start. The functions in laws.rt have them as contracts.
 use Rattle.std.specs.Prelude.{◌≡◌, ℕ, ◌+◌, ◌≤◌, List, [], ◌∷◌, ◌++◌, true, false, Some, Contains, ◌⊎◌, slice_get, map}
 use Rattle.jc_rules.specs.declared.id.Id.{Id}
 use Rattle.jc_rules.specs.declared.operation.Op.{Op}
@@ -59,7 +59,7 @@ OfferedIsOwn =
     → Contains A.send o
     → o.id.replica ≡ p
 
--- No counter is above the number of commands that were run.
+-- No operation's counter is above the number of commands that were run.
 abbrev pub CountersAreRun : Type 0
 CountersAreRun =
     (scripts : List (List Cmd)) (network : List State)
@@ -79,7 +79,7 @@ pub record IsOpDueAt (network : List State) (p : ℕ) (i : Id) : Type 0 where
   pub unapplied : has_id i at.ops ≡ false
   pub deps : AreIn op.deps at.ops
 
--- To apply it leads to a network.
+-- A due operation can be applied.
 abbrev pub AppliesAtYield : Type 0
 AppliesAtYield =
     (scripts : List (List Cmd)) (network : List State)
@@ -90,7 +90,7 @@ AppliesAtYield =
     × (rows : List (Rule × ℕ))
     × Step network (Apply p i) new rows
 
--- So no numbered condition fails there.
+-- Applying a due operation is stuck for no cause.
 abbrev pub NeverStuckAtYield : Type 0
 NeverStuckAtYield =
     (scripts : List (List Cmd)) (network : List State)

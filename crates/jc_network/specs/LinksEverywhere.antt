@@ -1,4 +1,4 @@
--- What holds of the links of each context of a tree, by the path to it.
+-- A property of the links of each context of a tree, by the path to it. RunInvariant has the one that trees keep.
 use Rattle.std.specs.Prelude.{◌≢◌, List, [], ◌∷◌, None}
 use Rattle.jc_rules.specs.declared.key.Key.{Key}
 use Rattle.jc_rules.specs.declared.key.Next.{Next}

@@ -1,4 +1,4 @@
--- What a network is seen as.
+-- The value of a network's model: its names, the network now and the earlier ones.
 use Rattle.std.specs.Prelude.{◌≡◌, ℕ, zero, suc, ◌-◌, List, [], ◌∷◌, ◌++◌, length, take, map, slice_get, unwrap_or, refl}
 use Rattle.std.specs.Coded.{Coded, code_by, coded×, coded_ℕ, coded_list}
 use Rattle.jc_rules.specs.declared.operation.Event.{Event}
@@ -53,7 +53,7 @@ pub record StepsTo (old : Course) (event : Event) (new : Course) (rows : Rows) :
 abbrev pub kept_of : List Past → List State
 kept_of ps = map (λ p. p.now) ps
 
--- the network for which the replicas' states stand
+-- the network that the replicas' stored states represent
 abbrev pub network_of : List Past → List State
 network_of ps = real (kept_of ps)
 

@@ -1,8 +1,9 @@
--- What the states that a network keeps stand for.
+-- The stored states of a network refine the states of the table: what they represent, and what calls make of them.
 use Rattle.std.specs.Prelude.{◌≡◌, ◌≤◌, ℕ, List, [], Some, Contains, length, slice_set}
 use Rattle.std.specs.List.{AllByRecursion}
 use Rattle.jc_rules.specs.declared.operation.Event.{Event}
 use Rattle.jc_rules.specs.declared.operation.Op.{Op}
+use Rattle.jc_rules.specs.declared.limits.TheConstants.{MAX_COMMANDS, MAX_REPLICAS}
 use Rattle.jc_rules.specs.Refused.{Cause, IsStuck}
 use Rattle.jc_rules.specs.State.{State}
 use Rattle.jc_rules.specs.Step.{Step, replica_of, read_by}
@@ -15,25 +16,25 @@ use Rattle.jc_replica.specs.Refines.{IsSeenAs}
 use Rattle.jc_network.specs.Laws.{starts, IsReached}
 use Rattle.jc_network.specs.RunInvariant.{IsReplicaAt, IsMadeOp}
 
--- the state of replica p, for which its stored state stands
+-- the state of replica p, which its stored state represents
 pub record HasSeen (set : List Op) (p : ℕ) (network : List State) (kept : State) : Type 0 where
   pub at : State
   pub there : IsReplicaAt network p at
   pub seen : IsSeenAs set p at kept
 
--- In the set of all operations that were made, the stored states stand for the network's states, one for one.
+-- In the set of all operations that were made, the stored states represent the network's states, one for one.
 pub record AreSeen (set : List Op) (network kept : List State) : Type 0 where
   pub all : (o : Op) → Contains set o → IsMadeOp network o
   pub as_many : length network ≡ length kept
   pub each : (p : ℕ) (K : State) → IsReplicaAt kept p K → HasSeen set p network K
 
--- The event is the replica's whose past it is, and the operations are those that it reads, as they are kept.
+-- The event is one of the replica whose past this is, and it reads these stored operations.
 pub record IsAsked (kept : List State) (event : Event) (read : List Op) (past : Past) : Type 0 where
   pub number : past.number ≡ replica_of event
   pub there : IsReplicaAt kept (replica_of event) past.now
   pub reads : read_by event kept ≡ Some read
 
--- The event is a step of the network to one for which the new stored states stand.
+-- The event is a step of the network to one that the new stored states represent.
 pub record StepsOn (network : List State) (event : Event) (rows : Rows) (kept : List State) : Type 0 where
   pub new : List State
   pub set : List Op
@@ -41,7 +42,7 @@ pub record StepsOn (network : List State) (event : Event) (rows : Rows) (kept : 
   pub depth : rows.depth ≡ 0
   pub seen : AreSeen set new kept
 
--- At the start, where nothing was made, stored states stand for themselves.
+-- At the start, where nothing was made, stored states represent themselves.
 abbrev pub StartIsSeen : Type 0
 StartIsSeen = (scripts : List (List Cmd)) → AreSeen [] (starts scripts) (starts scripts)
 
@@ -58,7 +59,7 @@ EventSteps =
     → Occurs event read old new rows
     → StepsOn network event rows (slice_set kept (replica_of event) new.now)
 
--- What it is refused for, the network's event is stuck for.
+-- The cause for which a replica's call is refused is one for which the network's event is stuck.
 abbrev pub EventIsStuck : Type 0
 EventIsStuck =
     (scripts : List (List Cmd)) (network : List State)
@@ -70,12 +71,12 @@ EventIsStuck =
     → RefusedFor event read old why
     → IsStuck network event why
 
--- at most 64 scripts, none with more than 65,536 commands
+-- at most MAX_REPLICAS scripts, none with more than MAX_COMMANDS commands
 pub record AreShort (scripts : List (List Cmd)) : Type 0 where
-  pub many : length scripts ≤ 64
-  pub each : AllByRecursion (λ s. length s ≤ 65536) scripts
+  pub many : length scripts ≤ MAX_REPLICAS
+  pub each : AllByRecursion (λ s. length s ≤ MAX_COMMANDS) scripts
 
--- Where scripts are short, what is offered has counters that a replica may be handed.
+-- Where scripts are short, a replica may receive all that is offered: its counters are small enough.
 abbrev pub OfferedIsHanded : Type 0
 OfferedIsHanded =
     (scripts : List (List Cmd)) (network : List State)

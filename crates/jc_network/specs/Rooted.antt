@@ -1,5 +1,5 @@
--- What is known of the cursors and the tree of a replica that has applied the operations of the identifiers `ops`,
--- where `In` says which operations were ever made.
+-- Rooted cursors and right links of a replica that has applied the operations with the identifiers `ops`. `In` holds
+-- of the operations that were made.
 use Rattle.std.specs.Prelude.{◌≡◌, ◌≢◌, List, [], ◌∷◌, ◌++◌, true, Some, None}
 use Rattle.std.specs.List.{AllByRecursion}
 use Rattle.jc_rules.specs.declared.id.Id.{Id}
@@ -31,12 +31,12 @@ pub record IsInserted (In : Op → Type 0) (i : Id) (P : List Tagged) : Type 0 w
   pub inserts : IsInsert op.mutation
   pub path : op.cursor.path ≡ P
 
--- a key that may stand directly below a list: its head, or an element whose insert was applied
+-- a key that may be directly below a list: its head, or an element whose insert was applied
 pub data IsRootKey (In : Op → Type 0) (ops : List Id) (P : List Tagged) (k : Key) : Type 0 where
   head : k ≡ Head → IsRootKey In ops P k
   element : (i : Id) → k ≡ Elem i → has_id i ops ≡ true → IsInserted In i P → IsRootKey In ops P k
 
--- each key of the cursor that stands directly below a list may stand there
+-- each key of the cursor that is directly below a list may be there
 pub record IsRootedCursor (In : Op → Type 0) (ops : List Id) (cur : Cursor) : Type 0 where
   pub plain : AllByRecursion HasContext cur.path
   pub rooted : (above : List Tagged) (l k : Key)
@@ -48,8 +48,8 @@ IsRootedBound In ops (ACursor cur) = IsRootedCursor In ops cur
 IsRootedBound In ops (Names ks) = Unit {0}
 IsRootedBound In ops (Pairs vs) = Unit {0}
 
--- The links of the context at P: only lists have some, each key may stand there, what follows a key has a link too,
--- and a list's head has one.
+-- The links of the context at P: only lists have some, each key may be there, what follows a key has a link too, and a
+-- list's head has one.
 pub record AreRightLinks (In : Op → Type 0) (ops : List Id) (P : List Tagged) (n : LinksHold) : Type 0 where
   pub keys : AllByRecursion (λ e. IsListPath P × IsRootKey In ops P e.0) n
   pub closed : (k : Key) (j : Id) → find key_cmp k n ≡ Some (To j) → find key_cmp (Elem j) n ≢ None

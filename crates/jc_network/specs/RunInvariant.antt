@@ -1,4 +1,4 @@
--- What every network that events lead to from a start keeps.
+-- The invariant of every network that events lead to from a start, from which the laws are proved.
 use Rattle.std.specs.Prelude.{◌≡◌, ℕ, ◌+◌, ◌≤◌, ◌<◌, List, [], ◌∷◌, true, Some, Contains, ◌⊎◌, slice_get, length}
 use Rattle.std.specs.List.{AllByRecursion}
 use Rattle.jc_rules.specs.declared.id.Id.{Id}
@@ -20,7 +20,7 @@ pub record IsMadeOp (network : List State) (o : Op) : Type 0 where
   pub there : slice_get network o.id.replica ≡ Some at
   pub queued : Contains at.queue o
 
--- a sound set, where `In` says what is in it
+-- a sound set; `In` holds of its operations
 pub record IsSoundOf (In : Op → Type 0) : Type 0 where
   pub counted : (o : Op) → In o → 1 ≤ o.id.counter
   pub one_each : (o e : Op) → In o → In e → o.id ≡ e.id → o ≡ e

@@ -1,4 +1,4 @@
--- The replicas at the start.
+-- The replicas of a network at its start.
 use Rattle.std.specs.Prelude.{ℕ, suc, List, [], ◌∷◌}
 use Rattle.jc_rules.specs.State.{start}
 use Rattle.jc_rules.specs.Syntax.{Cmd}

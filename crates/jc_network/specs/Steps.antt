@@ -1,4 +1,4 @@
--- What a network's call answers that makes an event.
+-- What a network's call returns that makes an event: a step, or a stuck event with its cause.
 use Rattle.std.specs.Prelude.{◌≡◌, ◌≤◌, ◌<◌, ◌⊎◌, ℕ, List, [], Option, Some, None, Result, Ok, Err, length, slice_get, slice_set}
 use Rattle.jc_rules.specs.declared.key.Tagged.{Tagged}
 use Rattle.jc_rules.specs.declared.operation.Event.{Event}
@@ -45,14 +45,14 @@ pub record IsStuckFor (network : Network) (event : Event) (s : Stuck) : Type 0 w
   pub stuck : IsStuckIn network event why
   pub is : s ≡ stuck_for why event
 
--- for the cause, or for want of memory
+-- the fault for the cause, or for want of memory
 abbrev pub fault_for : Option Cause → Event → StepFault
 fault_for (Some why) event = E.Stuck (stuck_for why event)
 fault_for None event = E.Memory
 
 -- ---- a replica of the network
 
--- what replica p keeps, and the state for which that stands
+-- replica p of the network has this past: its stored state is that of the network's state
 pub record HasReplica (network : List State) (p : ℕ) (past : Past) : Type 0 where
   pub at : State
   pub there : slice_get network p ≡ Some at
@@ -66,7 +66,7 @@ abbrev pub sent_by : Option Past → List Op
 sent_by None = []
 sent_by (Some past) = past.now.send
 
--- what replicas offer may be handed on
+-- all that replicas offer may be passed on
 abbrev pub AllHand : List Past → Type 0
 AllHand ps = (q : ℕ) (past : Past) → slice_get ps q ≡ Some past → AreHanded past.now.send
 
@@ -74,15 +74,16 @@ AllHand ps = (q : ℕ) (past : Past) → slice_get ps q ≡ Some past → AreHan
 abbrev pub AllOwn : List Past → Type 0
 AllOwn ps = (q : ℕ) (past : Past) → slice_get ps q ≡ Some past → AreOfOne past.now.send
 
--- Replica p answered the event, and no other replica changed.
-pub record Moves (p : ℕ) (event : Event) (read : List Op) (old new : List Past) (result : Result Rows ReplicaFault) : Type 0 where
+-- Replica p made the event or refused it, and no other replica changed.
+pub record Moves
+    (p : ℕ) (event : Event) (read : List Op) (old new : List Past) (result : Result Rows ReplicaFault) : Type 0 where
   pub before : Past
   pub after : Past
   pub there : slice_get old p ≡ Some before
   pub now : new ≡ slice_set old p after
   pub answers : AnswersEvent event read before after result
 
--- the event's replica answered it
+-- the event's replica made it or refused it
 pub record ActsReplica (event : Event) (old new : List Past) (result : Result Rows ReplicaFault) : Type 0 where
   pub read : List Op
   pub reads : read_by event (kept_of old) ≡ Some read
@@ -116,7 +117,7 @@ pub record IsRefusedBy (event : Event) (ps : List Past) (why : Cause) : Type 0 w
   pub asked : IsAsked (kept_of ps) event read past
   pub refuses : RefusedFor event read past why
 
--- The event isn't made by a network of the version, for this cause.
+-- A network of the version doesn't make the event, for this cause.
 pub data Stops (version : Version) (event : Event) (ps : List Past) : Cause → Type 0 where
   stops_missing : IsMissing event ps → Stops version event ps (because NoSuchReplica)
   stops_version : HasReplicas event ps → (Allows event version → ⊥) → Stops version event ps (because WrongVersion)

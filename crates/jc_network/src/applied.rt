@@ -1,4 +1,4 @@
-//! What a replica has applied.
+//! The operations that a replica has applied, listed by identifier for `Net::applied` and `applied_ids`.
 
 ghost use Rattle.std.specs.Prelude.{◌≡◌, ◌+◌, ◌<◌, ◌∷◌, [], length, filter, IfOk, IfSome, MatchOption};
 ghost use Rattle.jc_rules.specs.Ids.{has_id};
@@ -12,8 +12,8 @@ use jc_tree::TreeStore;
 use std::alloc::{AllocError, Global};
 use std::cmp::Ordering;
 
-/// The first operation of two lists by identifier, and what is left of each behind it. Where both
-/// begin with it, it is that of the first list.
+/// The first operation of two lists by identifier, and the rest of each list after it. Where both begin
+/// with it, it is that of the first list.
 fn next_of<'a>(made: &'a [Op], received: &'a [Op]) -> Option<(&'a Op, &'a [Op], &'a [Op])>
     requires made { AreInOrder made.now }
     requires received { AreInOrder received.now }
@@ -35,8 +35,8 @@ fn next_of<'a>(made: &'a [Op], received: &'a [Op]) -> Option<(&'a Op, &'a [Op], 
     }
 }
 
-/// The first operation of two lists by identifier whose identifier is in the set, and what is left of
-/// each behind it.
+/// The first operation of two lists by identifier whose identifier is in the set, and the rest of each
+/// list after it.
 fn next_in<'a>(
     made: &'a [Op],
     received: &'a [Op],

@@ -1,4 +1,4 @@
-//! Which events can be made.
+//! The events that a network's replicas can make, listed for `Net::enabled`.
 
 ghost use Rattle.std.specs.Prelude.{◌≡◌, ◌≤◌, ◌∷◌, [], length, OnOk, IfOk};
 ghost use Rattle.jc_rules.specs.Step.{replica_of};
@@ -11,7 +11,7 @@ use jc_rules::{Event, Op, Version};
 use jc_tree::TreeStore;
 use std::alloc::{AllocError, Global};
 
-/// Lists the event, which is the replica's, if the replica can make it.
+/// Appends the replica's event if the replica can make it.
 fn list<S: TreeStore>(
     replica: &Replica<S>,
     event: Event,
@@ -26,7 +26,7 @@ fn list<S: TreeStore>(
     Ok(())
 }
 
-/// Lists the events in which the replica receives from one of so many replicas.
+/// Appends the events in which the replica receives from a replica; count is the number of replicas.
 fn list_receivings<S: TreeStore>(
     replica: &Replica<S>,
     count: u16,
@@ -41,7 +41,7 @@ fn list_receivings<S: TreeStore>(
     Ok(())
 }
 
-/// Lists the events in which the replica takes one of the operations that another one offers.
+/// Appends the events in which the replica takes one of the operations that the sender offers.
 fn list_offered<S: TreeStore>(
     replica: &Replica<S>,
     sender: u16,
@@ -61,7 +61,7 @@ fn list_offered<S: TreeStore>(
     Ok(())
 }
 
-/// Lists the events in which the replica takes an operation that one of these replicas offers.
+/// Appends the events in which the replica takes an operation that one of the replicas offers.
 fn list_takings<S: TreeStore>(
     version: Version,
     replica: &Replica<S>,
@@ -84,7 +84,7 @@ fn list_takings<S: TreeStore>(
     Ok(())
 }
 
-/// Lists the events in which the replica applies an operation that it has received.
+/// Appends the events in which the replica applies an operation that it has received.
 fn list_applyings<S: TreeStore>(
     replica: &Replica<S>,
     events: &mut Vec<Event>,
@@ -98,7 +98,7 @@ fn list_applyings<S: TreeStore>(
     Ok(())
 }
 
-/// Lists the events that the replica can make, which is one of these.
+/// Appends the events that the replica can make; it is one of the replicas.
 fn list_events<S: TreeStore>(
     version: Version,
     replica: &Replica<S>,

@@ -1,12 +1,12 @@
-//! Why calls of a network are refused.
+//! The faults of a network's calls: stuck events, and want of memory.
 
 ghost use Rattle.std.specs.Prelude.{◌≡◌, IfOk};
 
 use jc_rules::{Event, Refusal, Tagged};
 use std::alloc::AllocError;
 
-/// Why an event can't be made: the refusal of the first condition that fails, with its number, for 25 the tagged key,
-/// and the event.
+/// Why an event can't be made: the refusal of the first condition that fails and its number, the tagged key for 25
+/// alone, and the event.
 #[derive(Drop)]
 pub struct Stuck {
     pub number: u8,
@@ -73,10 +73,10 @@ impl From<AllocError> for StepFault {
     }
 }
 
-/// Why a network isn't at the start of a scenario.
+/// Why a network didn't come to the start of a scenario.
 #[derive(Drop)]
 pub enum StartFault {
-    /// 44: of the given events the one of this number, from 1, is the first that is stuck.
+    /// 44: the given event of this number, from 1, is the first that is stuck.
     Given { at: u64, stuck: Stuck },
     /// There was no memory.
     Memory,
@@ -92,7 +92,7 @@ impl From<AllocError> for StartFault {
     }
 }
 
-/// Why replicas weren't compared or looked at.
+/// Why the operations of a replica weren't listed, or replicas weren't compared.
 #[derive(Clone, Copy, PartialEq, Eq)]
 pub enum CompareFault {
     /// The network has no such replica.

@@ -1,4 +1,4 @@
-//! Laws of networks. Each function does nothing: its contract is the law.
+//! Laws of networks, for the crates above. Each function does nothing: its contract is the law.
 
 ghost use Rattle.jc_network.specs.Applied.{AppliedAreAll};
 ghost use Rattle.jc_network.specs.Enabled.{OthersAreStuck, EnabledHaveSteps};
@@ -18,23 +18,23 @@ pub fn offered_is_own()
     ensures { OfferedIsOwn }
 {}
 
-/// No counter is above the number of commands that were run.
+/// No operation's counter is above the number of commands that were run.
 pub fn counters_are_run()
     ensures { CountersAreRun }
 {}
 
-/// Nor, in a network at hand, above the number of commands of its scenario that were run.
+/// In a network that began at the start of a scenario, no counter is above the number of that scenario's commands that
+/// were run.
 pub fn own_counters_are_run()
     ensures { OwnCountersAreRun }
 {}
 
-/// At a yield, to apply an operation that was received and isn't applied, though its dependencies are, leads to a
-/// network.
+/// At a yield, a received operation that isn't applied can be applied where its dependencies are.
 pub fn applies_at_yield()
     ensures { AppliesAtYield }
 {}
 
-/// So no numbered condition fails there.
+/// At a yield, applying such an operation is stuck for no cause.
 pub fn never_stuck_at_yield()
     ensures { NeverStuckAtYield }
 {}
@@ -49,38 +49,38 @@ pub fn step_or_stuck()
     ensures { StepOrStuck }
 {}
 
-/// At the start stored states stand for themselves.
+/// At the start stored states represent themselves.
 pub fn start_is_seen()
     ensures { StartIsSeen }
 {}
 
-/// What a replica's call makes of the state that it keeps is a step of the network that the stored states stand for.
+/// What a replica's call makes of its stored state is a step of the network that the stored states represent.
 pub fn event_steps()
     ensures { EventSteps }
 {}
 
-/// What a replica's call is refused for, the network's event is stuck for.
+/// The cause for which a replica's call is refused is one for which the network's event is stuck.
 pub fn event_is_stuck()
     ensures { EventIsStuck }
 {}
 
-/// Where scripts are short, what is offered has counters that a replica may be handed.
+/// Where scripts are short, a replica may receive all that is offered: its counters are small enough.
 pub fn offered_is_handed()
     ensures { OfferedIsHanded }
 {}
 
-/// An event that isn't asked for in what is enabled is stuck: a replica is missing, or the version has no such event, or
-/// an operation wasn't offered or received, or no yield comes next.
+/// An event that isn't among the candidates is stuck: a replica is missing, or the version has no such event, or an
+/// operation wasn't offered or received, or no yield comes next.
 pub fn others_are_stuck()
     ensures { OthersAreStuck }
 {}
 
-/// What is enabled is just what has a step, and is told once.
+/// The enabled events are just those that have a step, each listed once.
 pub fn enabled_have_steps()
     ensures { EnabledHaveSteps }
 {}
 
-/// What a replica has applied is of what it made or received, by identifier, and each identifier applied is there.
+/// What a replica has applied is among what it made or received, sorted by identifier, with each identifier applied.
 pub fn applied_are_all()
     ensures { AppliedAreAll }
 {}

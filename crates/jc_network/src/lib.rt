@@ -1,4 +1,4 @@
-//! Networks of replicas: their steps, the way back, and what holds in every run.
+//! A network: all replicas of a scenario, their steps and their way back, and laws of every run.
 #![tactic(auto)]
 
 mod applied;

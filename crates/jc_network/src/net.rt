@@ -1,6 +1,7 @@
-//! Networks.
+//! A network's type `Net`: its start, its steps and its way back. Runs, debuggers and dumps hold one.
 
 ghost use Rattle.std.specs.Prelude.{◌≡◌, ◌≤◌, ◌++◌, ◌∷◌, ◌↔◌, [], length, slice_get, ℕ, IfOk, IfSome, OnOk, OnErr, IsErrOf, IsTrue, IsFalse, IfNone};
+ghost use Rattle.jc_rules.specs.declared.limits.TheConstants.{MAX_EVENTS, MAX_REPLICAS};
 ghost use Rattle.jc_scenario.specs.WellFormed.{IsWellFormedScenario};
 ghost use Rattle.jc_scenario.specs.Views.{scenario_view};
 ghost use Rattle.jc_network.specs.declared.fault.CompareFault.TheVariants as C;
@@ -21,6 +22,7 @@ use crate::fault::{CompareFault, StartFault, StepFault};
 use crate::replicas::replicas_of;
 use crate::stepping::make;
 use jc_replica::Replica;
+use jc_rules::limits::MAX_EVENTS;
 use jc_rules::{Event, Id, Op, Text, Trace, Version};
 use jc_scenario::{Scenario, copy_names};
 use jc_tree::ArenaTree;
@@ -34,7 +36,7 @@ pub struct Net {
     version: Version,
     names: Vec<Text>,
     replicas: Vec<Replica<ArenaTree>>,
-    /// Whose step each was.
+    /// The number of the replica that made each step.
     whose: Vec<u16>,
     alloc: Global,
 }
@@ -54,10 +56,10 @@ impl Model for Net {
 }
 
 impl Net {
-    /// The network at the start of the scenario: that to which its given events lead. Steps are counted from there, and
-    /// none is taken back past it.
+    /// The network at the start of the scenario, to which its given events lead. Steps are counted from there, and
+    /// `undo` doesn't pass it.
     ///
-    /// `Given` exactly where no network is the start, with the first given event that is stuck.
+    /// It is refused with `Given` exactly where no network is the start, with the first given event that is stuck.
     pub fn start(alloc: Global, scenario: &Scenario) -> Result<Self, StartFault>
         requires { IsWellFormedScenario (scenario_view scenario.now) }
         ensures started { IfOk result (λ net. IsStarted (scenario_view scenario.now) net) }
@@ -82,7 +84,7 @@ impl Net {
     pub fn names(&self) -> &[Text]
         ensures names { result.now ≡ self.now.names }
         ensures each { length self.now.network.states ≡ length self.now.names }
-        ensures few { length self.now.names ≤ 64 }
+        ensures few { length self.now.names ≤ MAX_REPLICAS }
     {
         self.names.as_slice()
     }
@@ -94,8 +96,8 @@ impl Net {
         self.version
     }
 
-    /// The number of steps. Events of its version have led to its first network from the start of some scripts, and
-    /// others from there to the one now, so the laws of runs hold of it.
+    /// The number of steps. Events of the version have led from the start of some scripts to the first network, and
+    /// others from there to the one now, so the laws of networks hold of it.
     pub fn steps(&self) -> u64
         ensures steps { result ≡ length self.now.earlier }
         ensures reached { IsFromStart self.now.network.states }
@@ -113,8 +115,8 @@ impl Net {
     }
 
     /// The events that aren't stuck, each once: of each replica in order exec, send, recv from each replica, in
-    /// version 2 take of each operation that each replica offers, apply by identifier, and done. That there are
-    /// 100,000 steps is left aside.
+    /// version 2 take of each operation that each replica offers, apply by identifier, and done. The limit of
+    /// 100,000 steps doesn't count here.
     pub fn enabled(&self) -> Result<Vec<Event>, AllocError>
         ensures { IfOk result (λ events.
             AreEnabled self.now.network (candidates self.now.network) events.items) }
@@ -144,19 +146,19 @@ impl Net {
         }
     }
 
-    /// Makes the event, and gives its trace.
+    /// Makes the event, and returns its trace.
     ///
-    /// It is refused with `Full` after 100,000 steps; else with `Stuck`, where the replica that the event names
-    /// first isn't there, or the other one, or the network's version has no such event, or for what the replica
-    /// refuses it. After a refusal all is as it was.
+    /// It is refused with `Full` after 100,000 steps. Else it is refused with `Stuck`, in this order: where the replica
+    /// that the event names first isn't there, or the other one, where the network's version has no such event, or for
+    /// the cause for which the replica refuses it. After a refusal all is as it was.
     pub fn step(&mut self, event: &Event) -> Result<Trace, StepFault>
         ensures made { IfOk result (λ trace. StepsTo self.old event.now self.new trace) }
         ensures stuck { (s : AnyStuck) → IsErrOf result (E.Stuck s) → IsStuckFor self.old.network event.now s }
-        ensures full { IsErrOf result E.Full ↔ 100000 ≤ length self.old.earlier }
+        ensures full { IsErrOf result E.Full ↔ MAX_EVENTS ≤ length self.old.earlier }
         ensures kept { OnErr result (self.new ≡ self.old) }
     {
         let steps = self.whose.len();
-        if steps >= 100_000 {
+        if steps >= MAX_EVENTS {
             return Err(StepFault::Full);
         }
         if self.whose.reserve(1).is_err() {
@@ -167,7 +169,7 @@ impl Net {
         Ok(trace)
     }
 
-    /// Takes the last step back, and says whether there was one. It takes no memory.
+    /// Takes the last step back, and returns whether there was one. It takes no memory.
     pub fn undo(&mut self) -> bool
         ensures undone { IsTrue result → self.old.earlier ≡ self.new.earlier ++ self.new.network ∷ [] }
         ensures version { self.new.network.version ≡ self.old.network.version }
@@ -180,10 +182,10 @@ impl Net {
         }
     }
 
-    /// Makes the given events. Where not all are made, it isn't told how the network stands then.
+    /// Makes the given events. Where one is refused, the network may have made those before it.
     fn lead(&mut self, given: &[Event]) -> Result<(), StartFault>
         requires new { self.old.earlier ≡ [] }
-        requires short { length given.now ≤ 100000 }
+        requires short { length given.now ≤ MAX_EVENTS }
         ensures led { OnOk result (AfterIn self.old.network given.now self.new.network) }
         ensures names { OnOk result (self.new.names ≡ self.old.names) }
         ensures stuck { (at : ℕ) (s : AnyStuck) → IsErrOf result (S.Given at s)
@@ -202,7 +204,7 @@ impl Net {
         Ok(())
     }
 
-    /// Counts steps from here on: none was made, and none can be taken back. It takes no memory.
+    /// Forgets the steps made: none is counted, and none can be taken back. It takes no memory.
     fn begin(&mut self)
         ensures { self.new ≡ record self.old { earlier = [] } }
     {

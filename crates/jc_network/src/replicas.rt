@@ -1,7 +1,8 @@
-//! The replicas of a scenario.
+//! The replicas of a network at the start of its scenario.
 
 ghost use Rattle.std.specs.Prelude.{◌≡◌, ◌≤◌, ◌+◌, length, IfOk};
 ghost use Rattle.std.specs.List.{AllByRecursion};
+ghost use Rattle.jc_rules.specs.declared.limits.TheConstants.{MAX_COMMANDS, MAX_REPLICAS};
 ghost use Rattle.jc_scenario.specs.Views.{scripts_view};
 ghost use Rattle.jc_network.specs.Start.{pasts_from};
 
@@ -16,8 +17,8 @@ pub(crate) fn replicas_of(
     alloc: Global,
     scripts: &[Vec<Cmd>],
 ) -> Result<Vec<Replica<ArenaTree>>, AllocError>
-    requires many { length scripts.now ≤ 64 }
-    requires short { AllByRecursion (λ s. length s ≤ 65536) (scripts_view scripts.now) }
+    requires many { length scripts.now ≤ MAX_REPLICAS }
+    requires short { AllByRecursion (λ s. length s ≤ MAX_COMMANDS) (scripts_view scripts.now) }
     ensures { IfOk result (λ replicas. replicas.items ≡ pasts_from 0 (scripts_view scripts.now)) }
 {
     let mut replicas = Vec::new(alloc);

@@ -1,4 +1,4 @@
-//! Events of the replicas of a network.
+//! One event of a network: its replica makes it, and reads what the sender offers. `Net::step` calls it.
 
 ghost use Rattle.std.specs.Prelude.{◌≡◌, ◌<◌, ◌≤◌, ℕ, length, slice_get, MatchBool};
 ghost use Rattle.jc_rules.specs.declared.refusal.Refusal.TheVariants.{NoSuchReplica as Missing, WrongVersion as OfAnother};
@@ -13,7 +13,7 @@ use jc_replica::{Replica, ReplicaFault};
 use jc_rules::{Event, Id, Op, Refusal, Trace, Version};
 use jc_tree::ArenaTree;
 
-/// That a replica which the event names isn't there.
+/// The stuck event where a replica that it names isn't there.
 fn missing(event: Event) -> Stuck
     ensures { result ≡ stuck_for (because Missing) event }
 {
@@ -25,7 +25,7 @@ fn missing(event: Event) -> Stuck
     }
 }
 
-/// That a network of the version has no such event.
+/// The stuck event where the network's version has no such event.
 fn wrong_version(event: Event) -> Stuck
     ensures { result ≡ stuck_for (because OfAnother) event }
 {
@@ -62,39 +62,26 @@ fn are_there(event: &Event, replicas: &[Replica<ArenaTree>]) -> bool
     true
 }
 
-/// What the replica's refusal of the event is for the network.
+/// The network's fault for the replica's fault.
 fn step_fault(fault: ReplicaFault, event: Event) -> StepFault
     ensures { result ≡ fault_for (fault_cause_of fault) event }
 {
-    let (refusal, key) = match fault {
-        ReplicaFault::NotInList => (Refusal::NotInList, None),
-        ReplicaFault::UnboundVariable => (Refusal::UnboundVariable, None),
-        ReplicaFault::GetOnHead => (Refusal::GetOnHead, None),
-        ReplicaFault::NotACursor => (Refusal::NotACursor, None),
-        ReplicaFault::NoSuchNode(key) => (Refusal::NoSuchNode, Some(key)),
-        ReplicaFault::PastEnd => (Refusal::PastEnd, None),
-        ReplicaFault::NoMap => (Refusal::NoMap, None),
-        ReplicaFault::NoRegister => (Refusal::NoRegister, None),
-        ReplicaFault::TooDeep => (Refusal::TooDeep, None),
-        ReplicaFault::NoCommand => (Refusal::NoCommand, None),
-        ReplicaFault::AtYield => (Refusal::AtYield, None),
-        ReplicaFault::NotAtYield => (Refusal::NotAtYield, None),
-        ReplicaFault::NotActed => (Refusal::NotActed, None),
-        ReplicaFault::NotReceived => (Refusal::NotReceived, None),
-        ReplicaFault::AlreadyApplied => (Refusal::AlreadyApplied, None),
-        ReplicaFault::DepsMissing => (Refusal::DepsMissing, None),
-        ReplicaFault::Memory => return StepFault::Memory,
+    let Some(refusal) = fault.refusal() else {
+        return StepFault::Memory;
     };
-    let number = refusal.number();
+    let key = match fault {
+        ReplicaFault::NoSuchNode(key) => Some(key),
+        _ => None,
+    };
     StepFault::Stuck(Stuck {
-        number,
+        number: refusal.number(),
         refusal,
         key,
         event,
     })
 }
 
-/// Has the event's replica make the event, where its replicas are there and the version has such events. After a refusal
+/// The event's replica makes the event, where its replicas are there and the version has such events. After a refusal
 /// all is as it was.
 pub(crate) fn make(
     version: Version,
@@ -118,7 +105,7 @@ pub(crate) fn make(
     }
 }
 
-/// The same, where the replicas are there.
+/// The event's replica makes the event. The replicas that the event names are there.
 fn act(replicas: &mut [Replica<ArenaTree>], event: &Event) -> Result<Trace, ReplicaFault>
     requires numbered { AreNumbered replicas.old }
     requires hand { AllHand replicas.old }
@@ -136,7 +123,7 @@ fn act(replicas: &mut [Replica<ArenaTree>], event: &Event) -> Result<Trace, Repl
     }
 }
 
-/// The replica takes in what another one offers: all of it, or the operation with the identifier.
+/// The replica receives what another one offers: all of it, or the operation with the identifier.
 fn read_from(
     replica: &mut Replica<ArenaTree>,
     offered: &[Op],
@@ -145,7 +132,8 @@ fn read_from(
     requires order { AreInOrder offered.now }
     requires handed { AreHanded offered.now }
     requires own { AreOfOne offered.now }
-    ensures { (q : ℕ) → AnswersEvent (receiving_event q id replica.old.number) offered.now replica.old replica.new result }
+    ensures { (q : ℕ) → AnswersEvent (receiving_event q id replica.old.number) offered.now
+        replica.old replica.new result }
 {
     match id {
         None => replica.recv(offered),
@@ -153,7 +141,7 @@ fn read_from(
     }
 }
 
-/// The same of what it offers itself.
+/// The replica receives what it offers itself: all of it, or the operation with the identifier.
 fn read_own(replica: &mut Replica<ArenaTree>, id: Option<Id>) -> Result<Trace, ReplicaFault>
     requires { AreHanded replica.old.now.send }
     ensures { AnswersEvent (receiving_event replica.old.number id replica.old.number) replica.old.now.send
@@ -165,8 +153,8 @@ fn read_own(replica: &mut Replica<ArenaTree>, id: Option<Id>) -> Result<Trace, R
     }
 }
 
-/// Replica p takes in what replica q offers, which may be itself: all of it, or the operation with the
-/// identifier. No operation is copied to hand it on.
+/// Replica p receives what replica q offers, which may be p itself: all of it, or the operation with the
+/// identifier. No operation is copied to pass it.
 fn receive(
     replicas: &mut [Replica<ArenaTree>],
     p: u16,

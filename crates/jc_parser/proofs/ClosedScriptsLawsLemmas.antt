@@ -1,4 +1,4 @@
--- From one token on stands one script with its brace at most, or there is one fault, and not both.
+-- About `ClosedScripts`: one script with its brace at most begins at a token, or there is one fault, and not both.
 use Rattle.std.proofs.Common.{◌≡◌, ℕ, ◌+◌, ◌≤◌, inl, inr, true, List, [], ◌∷◌, ◌++◌, length, Err, refl, sym, ap, subst, ◌∙◌, append_assoc, arith}
 use Rattle.std.specs.Prelude.{drop, slice_range}
 use Rattle.jc_syntax.specs.declared.token.Token.{Token}

@@ -1,4 +1,4 @@
--- A script with the closing brace behind it: its reader, the grammar and the faults.
+-- About `ClosedScripts`: the reader, the grammar and the faults of a script with its closing brace.
 use Rattle.std.proofs.Common.{◌≡◌, ◌≢◌, ℕ, ◌+◌, ◌-◌, ◌≤◌, ◌<◌, inl, inr, Bool, true, List, [], ◌∷◌, ◌++◌, length, drop, Ok, Err, refl, sym, ap, subst, ◌∙◌, append_assoc, arith}
 use Rattle.std.specs.Prelude.{slice_range}
 use Rattle.std.proofs.lemmas.List.{length-append, length-map, length-drop}

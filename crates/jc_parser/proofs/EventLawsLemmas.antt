@@ -1,4 +1,4 @@
--- A text is one event at most, or has one fault at most, and not both; so do the tokens from one of them on.
+-- About `EventLaws`: a text is one event at most, or has one fault at most, not both; so do tokens from one of them on.
 use Rattle.std.proofs.Common.{◌≡◌, ℕ, inl, inr, true, List, ◌++◌, refl, sym, ap, subst, ◌∙◌}
 use Rattle.std.specs.Prelude.{drop, slice_range}
 use Rattle.jc_rules.specs.declared.version.Version.{Version}

@@ -1,4 +1,4 @@
--- What the readers of events of the whole language take, and where they stop.
+-- About `EventReader`: what the readers of events take, and where they stop.
 use Rattle.std.proofs.Common.{◌≡◌, ℕ, ◌<◌, ◌⊎◌, inl, inr, Bool, true, List, [], ◌∷◌, ◌++◌, Ok, refl, ap, arith}
 use Rattle.std.specs.Prelude.{codes}
 use Rattle.jc_rules.specs.declared.version.Version.{Version}

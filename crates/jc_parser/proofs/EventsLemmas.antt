@@ -1,4 +1,4 @@
--- An event that is all of the lexemes, or stands at their front: the grammar, the places and the faults.
+-- About `Events`: an event that is all of the lexemes, or a prefix of them: the grammar, the offsets and the faults.
 use Rattle.std.proofs.Common.{◌≡◌, ◌≢◌, ℕ, ◌-◌, ◌≤◌, inl, inr, true, List, [], ◌++◌, length, Result, Ok, Err, refl, sym, ap, subst, ◌∙◌}
 use Rattle.std.specs.Prelude.{IfOk, IfErr, drop}
 use Rattle.std.proofs.lemmas.List.{append-nil}

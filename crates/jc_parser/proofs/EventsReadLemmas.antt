@@ -1,4 +1,4 @@
--- What is spelled is read, and what passes the limit of a counter: events of the whole language.
+-- About `EventReader`: an event that is spelled is read, and a counter past the limit is refused.
 use Rattle.std.proofs.Common.{◌≡◌, ◌≢◌, ℕ, ◌≤◌, ◌<◌, inl, inr, Bool, true, false, List, [], ◌∷◌, ◌++◌, Ok, Err, refl, sym, ap, ◌∙◌}
 use Rattle.std.specs.Prelude.{codes, nat_lt}
 use Rattle.std.proofs.lemmas.Bool.{cases_Bool, le-ltb}

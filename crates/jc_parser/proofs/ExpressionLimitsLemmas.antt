@@ -1,4 +1,4 @@
--- What passes a limit of an expression: a sentence begins so, and whatever follows is refused with that limit's fault.
+-- About `ExpressionFaults`: what passes a limit of an expression is refused with that limit's fault.
 use Rattle.std.proofs.Common.{◌≡◌, ◌≢◌, ℕ, zero, suc, ◌-◌, ◌≤◌, ◌<◌, inl, inr, Bool, true, false, List, [], ◌∷◌, ◌++◌, length, Err, refl, sym, ap, subst, ◌∙◌, append_assoc, arith}
 use Rattle.std.specs.Prelude.{codes, nat_lt}
 use Rattle.std.proofs.lemmas.Bool.{le-ltb}

@@ -1,4 +1,4 @@
--- The loop over selectors of the whole language, and indices.
+-- For `expressions`: the loop over selectors, and indices.
 use Rattle.std.proofs.Common.{◌≡◌, ◌≢◌, ℕ, zero, suc, ◌-◌, ◌<◌, true, false, not, ◌==◌, inl, inr, List, [], ◌∷◌, length, Ok, Err, Option, Some, None, refl, sub-one, arith}
 use Rattle.std.specs.Prelude.{nat_lt, if◌then◌else◌}
 use Rattle.std.specs.Str.{all_ascii_digits}
@@ -45,7 +45,7 @@ some_digit : (bs : List ℕ) → not (length bs == 0) ≡ true → 0 < length bs
 some_digit [] e = absurd cc
 some_digit (b ∷ bs) e = omega arith
 
-own_digits : IsNumeralModel (λ ds. all_ascii_digits ds ≡ true) (digits_value 10)
+pub own_digits : IsNumeralModel (λ ds. all_ascii_digits ds ≡ true) (digits_value 10)
 own_digits = numerals_by_value (λ ds. all_ascii_digits ds ≡ true) tells_all_ascii_digits
 
 pub refused_index : {E : Type 0} (bs : List ℕ) (e : E) → ParsesUnsigned {E = E} 32 10 bs (Err e) → is_numeral bs ≡ true → None ≡ if◌then◌else◌ {A = Option ℕ} (nat_lt (numeral_value bs) 4294967296) (Some (numeral_value bs)) None

@@ -1,4 +1,4 @@
--- What the readers of expressions and values take, and where they stop.
+-- About `PartReaders`: what the readers of expressions and values take, and where they stop.
 use Rattle.std.proofs.Common.{◌≡◌, ℕ, Bool, true, false, cond, eqb, List, [], ◌∷◌, Ok, refl, sym, ap, ◌∙◌}
 use Rattle.std.specs.Prelude.{codes}
 use Rattle.std.specs.Str.{bytes_eq}

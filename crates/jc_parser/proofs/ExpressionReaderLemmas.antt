@@ -1,4 +1,4 @@
--- What the reader of an expression of the whole language takes, and where it stops.
+-- About `ExpressionReader`: what the reader of a whole expression takes, and where it stops.
 use Rattle.std.proofs.Common.{◌≡◌, ℕ, suc, ◌+◌, ◌≤◌, inl, inr, Bool, true, false, cond, not, ◌&&◌, List, [], ◌∷◌, ◌++◌, length, Ok, Err, refl, sym, ap, subst, ◌∙◌, append_assoc, arith}
 use Rattle.std.specs.Prelude.{codes, nat_lt}
 use Rattle.std.specs.Str.{bytes_eq}
@@ -17,8 +17,9 @@ use Rattle.jc_parser.proofs.ReaderStateLemmas.{Language, Excess, Never, Reads, r
 use Rattle.jc_parser.proofs.ExpressionPartsLemmas.{word_is, Within, within, within-map, OneMore}
 use Rattle.jc_parser.proofs.NamesLemmas.{is_free, free_is, free_name_at, guarded, same_names}
 use Rattle.jc_parser.proofs.PartsReadLemmas.{reading}
-use Rattle.jc_parser.proofs.TestAnswersLemmas.{both_true, or_none, untrue}
+use Rattle.jc_parser.proofs.TestAnswersLemmas.{both_true}
 use Rattle.jc_parser.proofs.ExpressionReadersLemmas.{IsLegal, index_front, extends, AreSelectors, AreLegal, Extends, ChainExcess, steps_at, undotted_is, reads_steps}
+use Rattle.jc_rules.proofs.BoolLemmas.{neither, untrue}
 
 -- ---- `doc` and variables
 
@@ -34,8 +35,8 @@ is_taken s = reserved s && not (is_word (codes "doc") s)
 
 pub not_doc : (name : List ℕ) → is_reserved name ≡ false → bytes_eq name (codes "doc") ≡ false
 not_doc name free =
-    let (no_let, rest) = or_none (bytes_eq name (codes "let")) _ free in
-    (or_none (bytes_eq name (codes "doc")) _ rest).0
+    let (no_let, rest) = neither (bytes_eq name (codes "let")) _ free in
+    (neither (bytes_eq name (codes "doc")) _ rest).0
 
 free_variable_at : Reading → ReadOutcome Expr
 free_variable_at r = free_name_at r >>= λ n. Ok (Variable n.0, n.1)

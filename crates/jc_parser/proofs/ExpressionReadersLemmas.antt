@@ -1,4 +1,4 @@
--- What the readers of expressions of the whole language take, and where they stop.
+-- About `ExpressionReader`: what the readers of selectors and chains take, and where they stop.
 use Rattle.std.proofs.Common.{◌≡◌, ℕ, zero, suc, ◌≤◌, ◌<◌, ◌⊎◌, inl, inr, Bool, true, false, cond, List, [], ◌∷◌, ◌++◌, length, Ok, Err, refl, sym, ap, subst, ◌∙◌, append_assoc, le_refl, arith}
 use Rattle.std.specs.Prelude.{codes, nat_lt}
 use Rattle.std.proofs.lemmas.Bool.{cases_Bool, ltb-true}
@@ -13,7 +13,8 @@ use Rattle.jc_parser.specs.ExpressionReader.{is_index, is_large, index_at, key_s
 use Rattle.jc_parser.proofs.ReaderStateLemmas.{Language, Excess, Never, Reads, Stopped, same_begins, same_stuck, fault_as, read_as, took_if, reads_one, reads_symbol, reads_then, reads_if, reads_done, reads_map, reads_refused, reads_more}
 use Rattle.jc_parser.proofs.ExpressionPartsLemmas.{kind_is, word_is, same_bytes, Within, within, OneMore, reads_get}
 use Rattle.jc_parser.proofs.PartsReadLemmas.{reading}
-use Rattle.jc_parser.proofs.TestAnswersLemmas.{both_true, or_none}
+use Rattle.jc_parser.proofs.TestAnswersLemmas.{both_true}
+use Rattle.jc_rules.proofs.BoolLemmas.{neither}
 
 -- ---- limits
 
@@ -182,9 +183,9 @@ step_none : (stop : ℕ) (ls : List Lexeme) → begins_with is_selector ls ≡ f
 unfolding step_at one
 step_none stop [] other = refl
 step_none stop (x ∷ xs) other =
-    let (no_get, rest) = or_none (is_word (codes "get") x.symbol) _ other in
-    let (no_idx, more) = or_none (is_word (codes "idx") x.symbol) _ rest in
-    let (no_keys, no_values) = or_none (is_word (codes "keys") x.symbol) _ more in
+    let (no_get, rest) = neither (is_word (codes "get") x.symbol) _ other in
+    let (no_idx, more) = neither (is_word (codes "idx") x.symbol) _ rest in
+    let (no_keys, no_values) = neither (is_word (codes "keys") x.symbol) _ more in
     rw (no_get, no_idx, no_keys, no_values) refl
 
 after_step : (n : ℕ) (e : Expr) (read : ReadOutcome Selector) → ((s : Selector) (t : Reading) → (chain_at n (extended e s) t >>= undotted) ≡ steps_at n (extended e s) t) → ((read >>= λ s. chain_at n (extended e s.0) s.1) >>= undotted) ≡ (read >>= λ s. steps_at n (extended e s.0) s.1)

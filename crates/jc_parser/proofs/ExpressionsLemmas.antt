@@ -1,4 +1,4 @@
--- An expression that is all of the lexemes: the grammar and the faults.
+-- About `Expressions`: an expression that is all of the lexemes: the grammar and the faults.
 use Rattle.std.proofs.Common.{◌≢◌, List, Result, refl}
 use Rattle.std.specs.Prelude.{IfOk, IfErr}
 use Rattle.jc_syntax.specs.declared.tree.Expr.{Expr}

@@ -1,4 +1,4 @@
--- A text that is no sentence has a fault, and so have tokens that are no scenario.
+-- About `Sentences` and `ScenarioFaults`: what is no sentence has a fault, and so have tokens that are no scenario.
 use Rattle.std.proofs.Common.{◌≡◌, ℕ, ◌-◌, ◌⊎◌, inl, inr, List, length, drop, Result, Ok, Err, refl}
 use Rattle.jc_rules.specs.Syntax.{Cmd}
 use Rattle.jc_syntax.specs.declared.token.Token.{Token}

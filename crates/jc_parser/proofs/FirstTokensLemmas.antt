@@ -1,4 +1,4 @@
--- What the first token says of what is left to read, and how reading goes on behind it.
+-- About `ReaderState`: what the first token decides, and how reading goes on behind it.
 use Rattle.std.proofs.Common.{◌≡◌, ℕ, ◌<◌, ◌-◌, Bool, true, false, List, [], ◌∷◌, length, get_or, take, drop, Ok, Err, refl, sym, ap, subst, ◌∙◌, arith}
 use Rattle.std.proofs.lemmas.List.{take_rest}
 use Rattle.jc_syntax.specs.declared.token.Token.{Token}

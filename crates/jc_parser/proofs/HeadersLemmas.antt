@@ -1,4 +1,4 @@
--- The header of a scenario and the word before its first replica, which have faults of their own.
+-- About `PartReaders`: the header of a scenario and the word before its first replica, with their own faults.
 use Rattle.std.proofs.Common.{◌≡◌, ℕ, ◌⊎◌, inl, inr, Bool, true, false, ◌||◌, List, [], ◌∷◌, ◌++◌, Ok, Err, refl, sym, ap, subst, ◌∙◌, append_assoc}
 use Rattle.std.specs.Prelude.{codes}
 use Rattle.std.proofs.lemmas.Bool.{cases_Bool}

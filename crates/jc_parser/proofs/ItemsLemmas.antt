@@ -1,4 +1,4 @@
--- What the readers of lists take, and where they stop.
+-- About `PartReaders`: what the readers of lists take, and where they stop.
 use Rattle.std.proofs.Common.{◌≡◌, ℕ, zero, suc, ◌≤◌, ◌<◌, ◌⊎◌, inl, inr, Bool, true, cond, List, [], ◌∷◌, ◌++◌, map, length, Ok, refl, sym, ap, append_assoc, le_refl, arith, ◌∙◌}
 use Rattle.std.specs.Prelude.{All}
 use Rattle.std.proofs.lemmas.List.{append-nil}

@@ -1,18 +1,18 @@
--- The symbols of a UTF-8 text's tokens are legal.
+-- About `LegalSymbols`: the symbols of a UTF-8 text's tokens are legal.
 use Rattle.std.proofs.Common.{◌≡◌, ℕ, ◌+◌, ◌-◌, ◌<◌, ◌≤◌, List, [], ◌∷◌, length, slice_index, get_or, take, drop, true, Some, inl, inr, refl, ap, ◌∙◌, arith, get_or-drop}
 use Rattle.std.specs.List.{All, AllByRecursion, AllPass, prefix_len, slice_range}
 use Rattle.std.specs.Str.{IsUtf8}
 use Rattle.std.proofs.lemmas.Bool.{cases_lt}
 use Rattle.std.proofs.lemmas.Bool.Decides.{nat_tests}
 use Rattle.std.proofs.lemmas.List.{get_or_past, get_or-take, length-take}
-use Rattle.std.proofs.lemmas.List.Elements.{All-head, All-tail, All-nil, All-cons}
+use Rattle.std.proofs.lemmas.List.Elements.{All-head, All-tail}
 use Rattle.std.proofs.lemmas.List.Folds.{length-prefix_len}
 use Rattle.std.proofs.lemmas.List.Sums.{prefix_len_passes, prefix_len-drop_yes}
 use Rattle.jc_syntax.specs.declared.token.Token.{Token}
 use Rattle.jc_syntax.specs.declared.token.TokenKind.{TokenKind}
 use Rattle.jc_syntax.specs.declared.token.TokenKind.TheVariants.{Name, Number, Str}
 use Rattle.jc_syntax.specs.Bytes.{is_name_start, is_name_byte}
-use Rattle.jc_syntax.specs.Lexemes.{kind_of_byte, after_name, AreTokens, IsTokenOf, IsStringToken, token_content}
+use Rattle.jc_syntax.specs.Lexemes.{kind_of_byte, after_name, IsTokenOf, IsStringToken, token_content}
 use Rattle.jc_parser.specs.LegalSymbols.{IsName, IsNumeric, IsContent}
 use Rattle.jc_parser.specs.Symbols.{Symbol, word, number, string, symbol_of, lexemes, symbols}
 
@@ -77,7 +77,3 @@ symbol_legal strings text kind start stop utf8 h = tt
 pub symbols_legal : LegalStrings → (text : List ℕ) (ts : List Token) → IsUtf8 text → All (IsTokenOf text) ts → AllByRecursion IsLegalSymbol (symbols (lexemes text ts))
 symbols_legal strings text [] utf8 each = tt
 symbols_legal strings text (t ∷ ts) utf8 each = (symbol_legal strings text t.kind t.start t.stop utf8 (All-head (IsTokenOf text) t ts each), symbols_legal strings text ts utf8 (All-tail (IsTokenOf text) t ts each))
-
-pub each_token : (text : List ℕ) (at place : ℕ) (ts : List Token) → length text ≤ 8388608 → AreTokens text at ts place → All (IsTokenOf text) ts
-each_token text at place [] short h = All-nil (IsTokenOf text)
-each_token text at place (t ∷ ts) short h = All-cons (IsTokenOf text) t ts (short, h.2) (each_token text t.stop place ts short h.3)

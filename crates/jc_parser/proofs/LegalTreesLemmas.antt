@@ -1,4 +1,4 @@
--- What is written with legal symbols is legal.
+-- About `LegalSymbolLaws`: what is written with legal symbols is legal.
 use Rattle.std.proofs.Common.{◌≡◌, ℕ, ◌+◌, List, [], ◌∷◌, ◌++◌, inl, inr, sym, subst}
 use Rattle.std.specs.Prelude.{codes}
 use Rattle.std.specs.List.{All, AllByRecursion, slice_range}
@@ -20,7 +20,8 @@ use Rattle.jc_parser.specs.ReservedWords.{IsListText}
 use Rattle.jc_parser.specs.Scenarios.{Part, ScenarioTree, tree_of_named, block_head, ArePartsSpelled, IsBlockSpelled, IsGivenSpelled, IsTreeSpelled}
 use Rattle.jc_parser.specs.LegalSymbols.{IsLegalExpr, IsLegalValue, IsLegalCmd, IsLegalCall, IsLegalPart, IsLegalTree}
 use Rattle.jc_parser.specs.LegalSymbolLaws.{LegalExpressions, LegalScripts, LegalEvents, LegalScriptsAt, LegalEventsAt, LegalScenarios}
-use Rattle.jc_parser.proofs.LegalTokensLemmas.{LegalStrings, IsLegalSymbol, symbols_legal, each_token}
+use Rattle.jc_parser.proofs.LegalTokensLemmas.{LegalStrings, IsLegalSymbol, symbols_legal}
+use Rattle.jc_syntax.proofs.LexemesLemmas.{each_token}
 
 abbrev AreLegal : List Symbol → Type 0
 AreLegal w = AllByRecursion IsLegalSymbol w

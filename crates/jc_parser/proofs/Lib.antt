@@ -12,7 +12,7 @@ mod PrefixLemmas
 mod ItemsLemmas
 mod ExpressionReaderLemmas
 mod ExpressionLimitsLemmas
-mod ExpressionLoopsLemmas
+pub mod ExpressionLoopsLemmas
 mod ExpressionReadersLemmas
 mod ExpressionsReadLemmas
 mod TestAnswersLemmas
@@ -24,13 +24,13 @@ mod NamesLemmas
 mod ReaderStateLemmas
 mod LimitsRefusedLemmas
 mod ScriptLimitsLemmas
-mod ScriptReaderLemmas
+pub mod ScriptReaderLemmas
 mod ScriptsReadLemmas
 mod ScriptsLemmas
 mod SentenceClausesLemmas
 mod SentenceLawsLemmas
 mod SentencesLemmas
-mod PartsReadLemmas
+pub mod PartsReadLemmas
 mod ListsReadLemmas
 mod StopsOnceLemmas
 mod SymbolTestsLemmas

@@ -1,4 +1,4 @@
--- Loops over selectors, over the items of a list and over events.
+-- For `scripts` and `scenarios`: loops over the items of a list.
 use Rattle.std.proofs.Common.{◌≡◌, ◌≢◌, ℕ, zero, suc, ◌-◌, Bool, true, false, List, [], ◌∷◌, ◌++◌, Ok, Err, refl, sym, ap, append_assoc, sub-one, arith}
 use Rattle.std.proofs.lemmas.List.{append-nil}
 use Rattle.jc_syntax.specs.declared.token.TokenKind.TheVariants.{Semi}

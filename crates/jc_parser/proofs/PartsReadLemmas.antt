@@ -1,4 +1,4 @@
--- What is spelled is read: expressions, commands and events.
+-- About `PartReaders`: keys, values and names that are spelled are read.
 use Rattle.std.proofs.Common.{◌≡◌, ℕ, ◌⊎◌, Bool, true, false, List, [], ◌∷◌, ◌++◌, Result, Ok, Err, refl, sym, ap, ◌∙◌}
 use Rattle.std.specs.Prelude.{codes}
 use Rattle.jc_rules.specs.declared.value.Value.{Value}

@@ -1,4 +1,4 @@
--- What a reader takes, where it stops, and that it looks no further than one lexeme ahead.
+-- About `ReaderState`: what a reader takes, where it stops, and that it looks one lexeme ahead at most.
 use Rattle.std.proofs.Common.{◌≡◌, ℕ, ◌⊎◌, inl, inr, Bool, true, false, cond, List, [], ◌∷◌, ◌++◌, Result, Ok, Err, refl, sym, ap, subst, ◌∙◌, append_assoc}
 use Rattle.std.proofs.lemmas.Bool.{cases_Bool}
 use Rattle.std.proofs.lemmas.List.{map-append, append-nil}

@@ -1,4 +1,4 @@
--- What stops the reader of a scenario at a limit is the fault of the definition.
+-- About `ScenarioFaults`: where the reader of a scenario stops at a limit, the definition has that fault.
 use Rattle.std.proofs.Common.{◌≡◌, ◌≢◌, ℕ, zero, suc, ◌+◌, ◌≤◌, inl, inr, Bool, true, false, not, List, [], ◌∷◌, ◌++◌, map, length, refl, sym, ap, subst, ◌∙◌, append_assoc, arith}
 use Rattle.std.proofs.lemmas.List.{append-nil, length-append, length-map, map-append}
 use Rattle.std.specs.Prelude.{All, codes}
@@ -17,12 +17,13 @@ use Rattle.jc_parser.specs.ScenarioFaults.{ReplicasAreDone, IsNameFault, IsBlock
 use Rattle.jc_parser.specs.ScenarioReader.{is_among, known}
 use Rattle.jc_parser.proofs.ExpressionPartsLemmas.{kind_is}
 use Rattle.jc_parser.proofs.ItemsLemmas.{list_map, list_all, start_map, start_all}
-use Rattle.jc_parser.proofs.TestAnswersLemmas.{both_true, untrue}
+use Rattle.jc_parser.proofs.TestAnswersLemmas.{both_true}
 use Rattle.jc_parser.proofs.NamesLemmas.{reserved_is}
 use Rattle.jc_parser.proofs.EventReaderLemmas.{Calls}
 use Rattle.jc_parser.proofs.ScenarioReaderLemmas.{IsNew, new_is, IsRefusedName, PartExcess, BlockExcess, AnyBlocks, Givens, GivenExcess, Schedules, LaterExcess, BlocksExcess}
 use Rattle.jc_parser.proofs.ScenarioTailsLemmas.{replica, AreNew, CrowdExcess, TailExcess, AfterExcess}
 use Rattle.jc_parser.proofs.ScenarioNamesLemmas.{contained, not_contained, parts_within, new_snoc}
+use Rattle.jc_rules.proofs.BoolLemmas.{untrue}
 
 -- ---- events that were read
 

@@ -1,4 +1,4 @@
--- Tokens are one scenario at most, or have one fault at most, and not both.
+-- About `ScenarioLaws`: tokens are one scenario at most, or have one fault at most, and not both.
 use Rattle.std.proofs.Common.{◌≡◌, ℕ, zero, suc, ◌+◌, ◌-◌, ◌≤◌, ◌⊎◌, inl, inr, true, List, [], ◌∷◌, ◌++◌, map, length, Ok, Err, refl, sym, ap, subst, ◌∙◌, append_assoc, arith}
 use Rattle.std.proofs.lemmas.List.{append-nil}
 use Rattle.jc_rules.specs.declared.version.Version.{Version}

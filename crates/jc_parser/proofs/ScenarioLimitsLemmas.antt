@@ -1,4 +1,4 @@
--- What passes a limit of a scenario: a scenario begins so, and whatever follows is refused with that limit's fault.
+-- About `ScenarioFaults`: what passes a limit of a scenario is refused with that limit's fault.
 use Rattle.std.proofs.Common.{◌≡◌, ◌≢◌, ℕ, zero, suc, ◌+◌, ◌-◌, ◌≤◌, ◌<◌, ◌⊎◌, inl, inr, Bool, true, false, List, [], ◌∷◌, ◌++◌, map, length, Ok, Err, refl, sym, ap, subst, ◌∙◌, append_assoc, arith}
 use Rattle.std.specs.Prelude.{codes, All}
 use Rattle.std.specs.List.{Contains}
@@ -28,7 +28,7 @@ use Rattle.jc_parser.proofs.PartsReadLemmas.{reading, at_place, First, split_one
 use Rattle.jc_parser.proofs.StopsOnceLemmas.{IsLimit}
 use Rattle.jc_parser.proofs.ItemsLemmas.{list_more}
 use Rattle.jc_parser.proofs.LimitsRefusedLemmas.{crowded, broken}
-use Rattle.jc_parser.proofs.ScriptLimitsLemmas.{same_first}
+use Rattle.jc_parser.proofs.ScriptLimitsLemmas.{same_first, no_dot_word}
 use Rattle.jc_parser.proofs.ClosedScriptsLawsLemmas.{has_limits as script_limits, excess_limit, no_stuck}
 use Rattle.jc_parser.proofs.EventReaderLemmas.{call_at}
 use Rattle.jc_parser.proofs.EventsReadLemmas.{has_limits as call_limits}
@@ -97,9 +97,6 @@ limit_of stop e ls c =
       no_dot = c.no_dot;
       refused = λ y. ap (λ (l : List Lexeme). tree_at (reading stop l)) (append_assoc c.front c.taken y) ∙ front_refused c.version stop c.room c.parts c.front (c.taken ++ y) e c.count c.done (c.starts y) (c.refused y);
     }
-
-no_dot_word : (name : List ℕ) (s : Symbol) → s ≡ word name → s ≢ dot
-no_dot_word name s is = λ e. let bad : word name ≡ dot = sym is ∙ e in absurd cc
 
 -- what a limit refuses is refused before its end is looked at
 before_end : {A : Type 0} (read : ReadOutcome A) (e : ScenarioFault) → IsLimitFault e → (read >>= result_of_read) ≡ Err e → read ≡ Err e

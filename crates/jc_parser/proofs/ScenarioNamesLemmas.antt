@@ -1,5 +1,5 @@
--- Names of replicas that are new after others, and names that differ.
-use Rattle.std.proofs.Common.{◌≡◌, ◌≢◌, ℕ, zero, suc, ◌≤◌, ◌<◌, inl, inr, Bool, true, false, ◌||◌, List, [], ◌∷◌, ◌++◌, map, length, refl, sym, ap, ◌∙◌, append_assoc, arith}
+-- About `Scenarios`: names of replicas that are new after others, and names that differ.
+use Rattle.std.proofs.Common.{◌≡◌, ◌≢◌, ℕ, zero, suc, ◌≤◌, ◌<◌, inl, inr, true, false, List, [], ◌∷◌, ◌++◌, map, length, refl, sym, ap, ◌∙◌, append_assoc, arith}
 use Rattle.std.specs.Prelude.{All, slice_index_or}
 use Rattle.std.specs.List.{AllPairs, Contains}
 use Rattle.std.specs.Str.{bytes_eq}
@@ -16,12 +16,9 @@ use Rattle.jc_parser.specs.ScenarioReader.{is_among}
 use Rattle.jc_parser.proofs.ExpressionPartsLemmas.{same_bytes}
 use Rattle.jc_parser.proofs.ScenarioReaderLemmas.{IsNew}
 use Rattle.jc_parser.proofs.ScenarioTailsLemmas.{AreNew}
+use Rattle.jc_rules.proofs.BoolLemmas.{neither}
 
 -- ---- among names
-
-neither : (a b : Bool) → (a || b) ≡ false → (a ≡ false) × (b ≡ false)
-neither true b e = absurd cc
-neither false b e = (refl, e)
 
 different : (x y : List ℕ) → x ≢ y → bytes_eq y x ≡ false
 different x y other =

@@ -1,4 +1,4 @@
--- Replicas within the limits, before whatever follows them, are read; and a scenario that is spelled is read.
+-- About `ScenarioReader`: replicas within the limits are read before anything, and a scenario that is spelled is read.
 use Rattle.std.proofs.Common.{◌≡◌, ℕ, zero, suc, ◌+◌, ◌≤◌, ◌⊎◌, inl, inr, Bool, true, List, [], ◌∷◌, ◌++◌, map, length, Ok, Err, refl, sym, ap, subst, ◌∙◌, append_assoc, arith}
 use Rattle.std.specs.Prelude.{All}
 use Rattle.std.proofs.lemmas.List.{append-nil}

@@ -1,4 +1,4 @@
--- What the readers of a scenario's parts take, and where they stop.
+-- About `ScenarioReader`: what the readers of a scenario's parts take, and where they stop.
 use Rattle.std.proofs.Common.{◌≡◌, ℕ, ◌+◌, ◌<◌, ◌⊎◌, inl, inr, Bool, true, false, cond, not, ◌&&◌, List, [], ◌∷◌, ◌++◌, length, Ok, Err, refl, ap, ◌∙◌, arith}
 use Rattle.std.specs.Prelude.{codes}
 use Rattle.std.specs.Str.{bytes_eq}
@@ -29,6 +29,7 @@ use Rattle.jc_parser.proofs.ItemsLemmas.{Lists, ListExcess, reads_items}
 use Rattle.jc_parser.proofs.TestAnswersLemmas.{both_true}
 use Rattle.jc_parser.proofs.EventReaderLemmas.{Calls, reads_event}
 use Rattle.jc_parser.proofs.ClosedScriptsLemmas.{reads_closed}
+use Rattle.jc_rules.proofs.BoolLemmas.{untrue}
 
 -- ---- the name of a replica
 
@@ -46,10 +47,6 @@ is_new names s = false
 -- a name that an earlier replica has
 abbrev pub is_taken : List (List ℕ) → Symbol → Bool
 is_taken names s = not (reserved s) && known names s
-
-untrue : (b : Bool) → not b ≡ true → b ≡ false
-untrue true e = absurd cc
-untrue false e = refl
 
 pub new_is : (names : List (List ℕ)) (s : Symbol) → is_new names s ≡ true → (s ≡ word (value_of_symbol s)) × IsNew names (value_of_symbol s)
 new_is names (word name) e =

@@ -1,4 +1,4 @@
--- A scenario that is all of the lexemes: the grammar and the faults, from what is read.
+-- About `Scenarios`: a scenario that is all of the lexemes: the grammar and the faults, from what is read.
 use Rattle.std.proofs.Common.{◌≡◌, ◌≢◌, ℕ, zero, suc, ◌+◌, ◌≤◌, ◌⊎◌, inl, inr, Bool, true, false, List, [], ◌∷◌, ◌++◌, map, length, Ok, Err, refl, sym, ap, subst, ◌∙◌, append_assoc, arith}
 use Rattle.std.specs.Prelude.{codes}
 use Rattle.std.proofs.lemmas.List.{append-nil}

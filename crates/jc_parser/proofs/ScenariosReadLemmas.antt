@@ -1,4 +1,4 @@
--- What is spelled is read: replicas and blocks of events.
+-- About `ScenarioReader`: replicas and blocks of events that are spelled are read.
 use Rattle.std.proofs.Common.{◌≡◌, ℕ, zero, suc, ◌≤◌, ◌⊎◌, inl, inr, Bool, true, false, List, [], ◌∷◌, ◌++◌, map, length, Ok, refl, sym, ap, subst, ◌∙◌, append_assoc, arith}
 use Rattle.std.specs.Prelude.{codes, All}
 use Rattle.std.proofs.lemmas.Bool.{cases_Bool}

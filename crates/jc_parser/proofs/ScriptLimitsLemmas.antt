@@ -1,4 +1,4 @@
--- What passes a limit of a script: a sentence begins so, and whatever follows is refused with that limit's fault.
+-- About `Scripts`: what passes a limit of a script is refused with that limit's fault.
 use Rattle.std.proofs.Common.{◌≡◌, ◌≢◌, ℕ, ◌≤◌, ◌<◌, inl, inr, Bool, true, false, List, [], ◌∷◌, ◌++◌, length, Ok, Err, refl, sym, ap, subst, ◌∙◌, append_assoc, arith}
 use Rattle.std.specs.Prelude.{codes}
 use Rattle.std.specs.Str.{bytes_eq}
@@ -23,13 +23,13 @@ use Rattle.jc_parser.proofs.ItemsLemmas.{list_more}
 use Rattle.jc_parser.proofs.PartsReadLemmas.{reading, at_place, IsLimitFault, split_one, split_around, split_none}
 use Rattle.jc_parser.proofs.LimitsRefusedLemmas.{crowded, broken}
 use Rattle.jc_parser.proofs.StopsOnceLemmas.{IsLimit}
-use Rattle.jc_parser.proofs.TestAnswersLemmas.{or_none}
 use Rattle.jc_parser.proofs.ExpressionsReadLemmas.{variable_taken}
 use Rattle.jc_parser.proofs.ExpressionLimitsLemmas.{has_limits as expression_limits}
 use Rattle.jc_parser.proofs.ScriptReaderLemmas.{IsLead}
 use Rattle.jc_parser.proofs.ScriptsReadLemmas.{LedBy, led_by, update_first, binding_taken, binding_free, commands_are}
 use Rattle.jc_parser.proofs.SentencesLemmas.{Spelling}
 use Rattle.jc_parser.proofs.SentenceLawsLemmas.{HasLimits}
+use Rattle.jc_rules.proofs.BoolLemmas.{neither}
 
 -- ---- an expression that is refused
 
@@ -164,7 +164,7 @@ limit_of stop e ls c = record {
   refused = λ y. whole_refused stop ((c.front ++ c.taken) ++ y) e (ap (λ (l : List Lexeme). commands_at 65536 (reading stop l)) (append_assoc c.front c.taken y) ∙ c.refused y);
 }
 
-no_dot_word : (name : List ℕ) (s : Symbol) → s ≡ word name → s ≢ dot
+pub no_dot_word : (name : List ℕ) (s : Symbol) → s ≡ word name → s ≢ dot
 no_dot_word name s is = λ e. let bad : word name ≡ dot = sym is ∙ e in absurd cc
 
 -- ---- each limit
@@ -187,9 +187,9 @@ continues name (inl e) = (LetIn (codes "x") TheDoc, word (codes "x") ∷ equals 
 continues name (inr (inl e)) = (Yield, [], ap (λ l. word l ∷ []) e)
 continues name (inr (inr (inl e))) = (SetTo TheDoc values.Null, assign ∷ word (codes "null") ∷ [], (word (codes "doc") ∷ [], word (codes "null") ∷ [], tt, refl, refl, ap (λ l. word l ∷ assign ∷ word (codes "null") ∷ []) e))
 continues name (inr (inr (inr free))) =
-    let (no_let, rest) = or_none (bytes_eq name (codes "let")) _ free in
-    let (no_doc, more) = or_none (bytes_eq name (codes "doc")) _ rest in
-    let (no_yield, others) = or_none (bytes_eq name (codes "yield")) _ more in
+    let (no_let, rest) = neither (bytes_eq name (codes "let")) _ free in
+    let (no_doc, more) = neither (bytes_eq name (codes "doc")) _ rest in
+    let (no_yield, others) = neither (bytes_eq name (codes "yield")) _ more in
     lead_continues name no_let no_yield no_doc
 
 -- the next lexeme is the one that passes the limit

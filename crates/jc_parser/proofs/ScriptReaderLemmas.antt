@@ -1,4 +1,4 @@
--- What the readers of commands of the whole language take, and where they stop.
+-- About `ScriptReader`: what the readers of commands take, and where they stop.
 use Rattle.std.proofs.Common.{◌≡◌, ℕ, zero, suc, ◌≤◌, ◌⊎◌, inl, inr, Bool, true, false, cond, List, [], ◌∷◌, ◌++◌, length, Ok, Err, refl, sym, ap, subst, ◌∙◌, append_assoc, le_refl, arith}
 use Rattle.std.specs.Prelude.{codes}
 use Rattle.std.specs.Str.{bytes_eq}
@@ -23,10 +23,10 @@ use Rattle.jc_parser.proofs.ReaderStateLemmas.{Language, Excess, Never, Reads, T
 use Rattle.jc_parser.proofs.ExpressionPartsLemmas.{kind_is, word_is, Within, within, OneMore, reads_value}
 use Rattle.jc_parser.proofs.NamesLemmas.{IsTaken, reads_name}
 use Rattle.jc_parser.proofs.PartsReadLemmas.{reading}
-use Rattle.jc_parser.proofs.TestAnswersLemmas.{or_none}
 use Rattle.jc_parser.proofs.ExpressionReadersLemmas.{within-both, IsLegal, extends, AreSelectors, AreLegal, Steps, ChainExcess, DotExcess, excess_more, reads_step}
 use Rattle.jc_parser.proofs.ExpressionReaderLemmas.{Roots, IsRoot, is_taken, free_root_at, roots_at, same_roots, reads_free_root, Expressions, by_selectors, chain_excess, reads_expression}
 use Rattle.jc_parser.proofs.ExpressionsReadLemmas.{chain}
+use Rattle.jc_rules.proofs.BoolLemmas.{neither}
 
 -- ---- values
 
@@ -316,12 +316,12 @@ reads_tail n root =
     (λ d x after o. o) (λ c d x y after l o. absurd o)
 
 -- an unreserved variable leads a command
-free_leads : (root : Expr) → HasLegalParts root → LeadsToPlace root
+pub free_leads : (root : Expr) → HasLegalParts root → LeadsToPlace root
 free_leads TheDoc legal = tt
 free_leads (Variable name) legal =
-    let (no_let, rest) = or_none (bytes_eq name (codes "let")) _ legal in
-    let (no_doc, more) = or_none (bytes_eq name (codes "doc")) _ rest in
-    let (no_yield, others) = or_none (bytes_eq name (codes "yield")) _ more in
+    let (no_let, rest) = neither (bytes_eq name (codes "let")) _ legal in
+    let (no_doc, more) = neither (bytes_eq name (codes "doc")) _ rest in
+    let (no_yield, others) = neither (bytes_eq name (codes "yield")) _ more in
     (no_let, no_yield)
 free_leads (GetKey e key) legal = free_leads e legal
 free_leads (Index e i) legal = free_leads e legal.1

@@ -1,4 +1,4 @@
--- A script that is all of the lexemes: the grammar and the faults.
+-- About `Scripts`: a script that is all of the lexemes: the grammar and the faults.
 use Rattle.std.proofs.Common.{◌≡◌, ◌≢◌, ℕ, ◌≤◌, ◌<◌, inl, inr, Bool, true, false, cond, not, List, [], ◌∷◌, ◌++◌, length, Result, refl, sym, ap, subst, ◌∙◌, arith}
 use Rattle.std.specs.Prelude.{codes, IfOk, IfErr}
 use Rattle.std.specs.Str.{bytes_eq}
@@ -21,12 +21,13 @@ use Rattle.jc_parser.proofs.ReaderStateLemmas.{Reads, reads_as, reads_more}
 use Rattle.jc_parser.proofs.ExpressionPartsLemmas.{kind_is, Within}
 use Rattle.jc_parser.proofs.ItemsLemmas.{Lists, ListExcess, reads_items, list_give, list_all, start_give, start_all}
 use Rattle.jc_parser.proofs.NamesLemmas.{reserved_is}
-use Rattle.jc_parser.proofs.TestAnswersLemmas.{both_true, untrue}
+use Rattle.jc_parser.proofs.TestAnswersLemmas.{both_true}
 use Rattle.jc_parser.proofs.ExpressionsLemmas.{excess_is}
 use Rattle.jc_parser.proofs.ScriptReaderLemmas.{Commands, CommandExcess, reads_command}
 use Rattle.jc_parser.proofs.ScriptsReadLemmas.{reads_spelled}
 use Rattle.jc_parser.proofs.SentencesLemmas.{Spelling}
 use Rattle.jc_parser.proofs.SentenceClausesLemmas as clauses
+use Rattle.jc_rules.proofs.BoolLemmas.{untrue}
 
 -- ---- the items of a list
 

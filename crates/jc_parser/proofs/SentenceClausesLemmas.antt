@@ -1,4 +1,4 @@
--- What the reader of a sentence gives, as the clauses of functions have it.
+-- About `Sentences`: the outcome of a sentence's reader, in the form of the functions' clauses.
 use Rattle.std.proofs.Common.{◌≡◌, ◌≢◌, ℕ, inl, inr, List, [], ◌∷◌, Result, Ok, Err, refl}
 use Rattle.std.specs.Prelude.{IfOk, IfErr}
 use Rattle.jc_syntax.specs.declared.fault.LexFault.{LexFault}

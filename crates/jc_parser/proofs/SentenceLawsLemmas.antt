@@ -1,4 +1,4 @@
--- A text is one sentence at most, or has one fault at most, and not both.
+-- About `Laws`: a text is one sentence at most, or has one fault at most, and not both.
 use Rattle.std.proofs.Common.{◌≡◌, ◌≢◌, ℕ, ◌⊎◌, inl, inr, true, false, List, [], ◌∷◌, ◌++◌, Ok, Err, refl, sym, ap, subst, ◌∙◌, append_assoc}
 use Rattle.std.proofs.lemmas.List.{append-nil}
 use Rattle.jc_syntax.specs.declared.token.Token.{Token}

@@ -1,4 +1,4 @@
--- A sentence that is all of the lexemes: from its reader to the grammar and the faults.
+-- About `Sentences`: a sentence that is all of the lexemes, from its reader to the grammar and the faults.
 use Rattle.std.proofs.Common.{◌≡◌, ℕ, ◌⊎◌, inl, inr, Bool, true, false, List, [], ◌∷◌, ◌++◌, Ok, Err, refl, sym, ap, subst, ◌∙◌, append_assoc}
 use Rattle.std.proofs.lemmas.List.{append-nil}
 use Rattle.jc_parser.specs.declared.fault.ScenarioFault.{ScenarioFault}

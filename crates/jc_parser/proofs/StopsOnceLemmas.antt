@@ -1,4 +1,4 @@
--- Where a text of a language stops: at what fits nothing, or past a limit. It stops once.
+-- About `Sentences`: a text stops once, at what fits nothing or past a limit.
 use Rattle.std.proofs.Common.{◌≡◌, ◌≢◌, ◌⊎◌, inl, inr, true, false, List, [], ◌∷◌, ◌++◌, Result, Err, refl, sym, ap, subst, ◌∙◌, append_assoc}
 use Rattle.std.proofs.lemmas.List.{append-nil}
 use Rattle.jc_parser.specs.declared.fault.ScenarioFault.{ScenarioFault}

@@ -1,4 +1,4 @@
--- Tests on the symbol of a token.
+-- About `ReaderState`: tests on the symbol of a token.
 use Rattle.std.proofs.Common.{◌≡◌, ℕ, ◌&&◌, List, refl}
 use Rattle.std.specs.Str.{bytes_eq}
 use Rattle.jc_syntax.specs.declared.token.TokenKind.{TokenKind}

@@ -1,4 +1,4 @@
--- What the definitions of events promise by themselves.
+-- The laws' statements for events, which follow from the definitions alone.
 use Rattle.std.specs.Prelude.{◌≡◌, ◌≤◌, ◌⊎◌, ℕ, List, length}
 use Rattle.jc_rules.specs.declared.version.Version.{Version}
 use Rattle.jc_syntax.specs.declared.token.Token.{Token}
@@ -6,25 +6,30 @@ use Rattle.jc_syntax.specs.declared.tree.NamedEvent.{NamedEvent}
 use Rattle.jc_parser.specs.declared.fault.ScenarioFault.{ScenarioFault}
 use Rattle.jc_parser.specs.Events.{IsEventOf, IsEventFault, IsEventAt, IsEventFaultAt}
 
--- A text is one event at most, with one place for each of its names.
+-- A text is one event at most, with one offset for each of its names.
 abbrev pub OneEvent : Type 0
-OneEvent = (v : Version) (text : List ℕ) (e other : NamedEvent) → IsEventOf v text e → IsEventOf v text other → e ≡ other
+OneEvent =
+    (v : Version) (text : List ℕ) (e other : NamedEvent) → IsEventOf v text e → IsEventOf v text other → e ≡ other
 
 -- A text that is an event has no fault.
 abbrev pub EventOrFault : Type 0
-EventOrFault = (v : Version) (text : List ℕ) (e : NamedEvent) (fault : ScenarioFault) → IsEventOf v text e → IsEventFault v text fault → ⊥
+EventOrFault =
+    (v : Version) (text : List ℕ) (e : NamedEvent) (fault : ScenarioFault)
+    → IsEventOf v text e → IsEventFault v text fault → ⊥
 
 -- A text that is no event has a fault.
 abbrev pub EventElseFault : Type 0
 EventElseFault =
-    (v : Version) (text : List ℕ) → ((e : NamedEvent) × IsEventOf v text e) ⊎ ((fault : ScenarioFault) × IsEventFault v text fault)
+    (v : Version) (text : List ℕ)
+    → ((e : NamedEvent) × IsEventOf v text e) ⊎ ((fault : ScenarioFault) × IsEventFault v text fault)
 
--- A text that is no event has one fault at most, at one place.
+-- A text that is no event has one fault at most, at one offset.
 abbrev pub OneEventFault : Type 0
 OneEventFault =
-    (v : Version) (text : List ℕ) (fault other : ScenarioFault) → IsEventFault v text fault → IsEventFault v text other → fault ≡ other
+    (v : Version) (text : List ℕ) (fault other : ScenarioFault)
+    → IsEventFault v text fault → IsEventFault v text other → fault ≡ other
 
--- From one token on stands one event at most, and one token comes behind it.
+-- At most one event begins at a token, and one token comes after it.
 abbrev pub OneEventAt : Type 0
 OneEventAt =
     (v : Version) (text : List ℕ) (tokens : List Token) (from next other_next : ℕ) (e other : NamedEvent)
@@ -32,7 +37,7 @@ OneEventAt =
     → IsEventAt v text tokens from other other_next
     → (e ≡ other) × (next ≡ other_next)
 
--- Where an event stands among the tokens, there is no fault.
+-- Where an event begins at a token, there is no fault.
 abbrev pub EventOrFaultAt : Type 0
 EventOrFaultAt =
     (v : Version) (text : List ℕ) (tokens : List Token) (from next : ℕ) (e : NamedEvent) (fault : ScenarioFault)
@@ -40,7 +45,7 @@ EventOrFaultAt =
     → IsEventFaultAt v text tokens from fault
     → ⊥
 
--- From each token on stands an event, or there is a fault.
+-- At each token an event begins, or there is a fault.
 abbrev pub EventElseFaultAt : Type 0
 EventElseFaultAt =
     (v : Version) (text : List ℕ) (tokens : List Token) (from : ℕ)
@@ -48,7 +53,7 @@ EventElseFaultAt =
     → ((e : NamedEvent) × (next : ℕ) × IsEventAt v text tokens from e next)
     ⊎ ((fault : ScenarioFault) × IsEventFaultAt v text tokens from fault)
 
--- Where no event stands among the tokens, there is one fault at most, at one place.
+-- Where no event begins at a token, there is one fault at most, at one offset.
 abbrev pub OneEventFaultAt : Type 0
 OneEventFaultAt =
     (v : Version) (text : List ℕ) (tokens : List Token) (from : ℕ) (fault other : ScenarioFault)

@@ -1,4 +1,4 @@
--- The parts of an event of the whole language, read from left to right.
+-- How an event is read from left to right. The code follows these readers; a reader believes `Events`.
 use Rattle.std.specs.Prelude.{ℕ, codes, if◌then◌else◌, Result, Ok}
 use Rattle.jc_rules.specs.declared.version.Version.{Version}
 use Rattle.jc_rules.specs.declared.version.Version.TheVariants.{One, Two}

@@ -1,4 +1,4 @@
--- What events of the whole language are written with, and what is too much in them.
+-- The grammar of events, their limits and their faults. `parse_event`, `event_at` and scenarios are about these.
 use Rattle.std.specs.Prelude.{◌≡◌, ◌⊎◌, ℕ, zero, suc, ◌≤◌, ◌<◌, List, [], ◌∷◌, ◌++◌, length, drop, slice_range, codes, true}
 use Rattle.jc_rules.specs.declared.version.Version.{Version}
 use Rattle.jc_rules.specs.declared.version.Version.TheVariants.{One, Two}
@@ -13,7 +13,7 @@ use Rattle.jc_parser.specs.Expressions.{is_numeral, numeral_value}
 use Rattle.jc_parser.specs.ReaderState.{Reading, reading_of}
 use Rattle.jc_parser.specs.Sentences.{IsStopped, IsSentenceFault}
 
--- an event by the names of its replicas, wherever they stand
+-- an event by the names of its replicas, without their offsets
 pub data Call : Type 0 where
   executes : List ℕ → Call
   sends : List ℕ → Call
@@ -37,7 +37,8 @@ IsTakeSpelled Two p q counter r w =
     (digits : List ℕ)
     × (is_numeral digits ≡ true)
     × (counter ≡ numeral_value digits)
-    × (w ≡ word p ∷ dot ∷ word (codes "take") ∷ open_paren ∷ word q ∷ comma ∷ number digits ∷ comma ∷ word r ∷ close_paren ∷ [])
+    × (w ≡ word p ∷ dot ∷ word (codes "take") ∷ open_paren ∷ word q ∷ comma ∷ number digits ∷ comma ∷ word r
+    ∷ close_paren ∷ [])
 
 abbrev pub IsCallSpelled : Version → Call → List Symbol → Type 0
 IsCallSpelled v (executes p) w = w ≡ word p ∷ dot ∷ word (codes "exec") ∷ []
@@ -63,7 +64,8 @@ IsTakeCounterNext Two xs = (p q : List ℕ) × (xs ≡ word p ∷ dot ∷ word (
 
 -- the counter of an event comes next
 abbrev pub IsCounterNext : Version → List Symbol → Type 0
-IsCounterNext v xs = ((p : List ℕ) × (xs ≡ word p ∷ dot ∷ word (codes "apply") ∷ open_paren ∷ [])) ⊎ IsTakeCounterNext v xs
+IsCounterNext v xs =
+    ((p : List ℕ) × (xs ≡ word p ∷ dot ∷ word (codes "apply") ∷ open_paren ∷ [])) ⊎ IsTakeCounterNext v xs
 
 -- a counter of 2 to the 32 or more comes next
 pub record IsCounterPast (v : Version) (xs : List Symbol) (next : Symbol) : Type 0 where
@@ -77,13 +79,13 @@ abbrev pub IsCallExcess : Version → ScenarioFault → List Symbol → List Lex
 IsCallExcess v (IndexTooLarge p) xs (next ∷ after) = (p ≡ next.place) × IsCounterPast v xs next.symbol
 IsCallExcess v fault xs after = ⊥
 
--- the lexeme of this number, from 0, stands at this place
+-- the lexeme of this number, from 0, is at this offset
 abbrev pub IsNameAt : ℕ → List Lexeme → ℕ → Type 0
 IsNameAt place [] n = ⊥
 IsNameAt place (x ∷ xs) zero = place ≡ x.place
 IsNameAt place (x ∷ xs) (suc n) = IsNameAt place xs n
 
--- each name has its place
+-- each name has its offset
 abbrev pub ArePlaced : NamedEvent → List Lexeme → Type 0
 ArePlaced (Exec p) ls = IsNameAt p.place ls 0
 ArePlaced (Send p) ls = IsNameAt p.place ls 0
@@ -92,7 +94,7 @@ ArePlaced (Take p q counter r) ls = IsNameAt p.place ls 0 × IsNameAt q.place ls
 ArePlaced (Apply p counter q) ls = IsNameAt p.place ls 0 × IsNameAt q.place ls 6
 ArePlaced (Done p) ls = IsNameAt p.place ls 0
 
--- these lexemes are this event of this version, with the places of its names
+-- these lexemes are this event of this version, with the offsets of its names
 pub record IsEvent (v : Version) (e : NamedEvent) (ls : List Lexeme) : Type 0 where
   pub spelled : IsCallSpelled v (call_of e) (symbols ls)
   pub within : IsCallWellFormed (call_of e)
@@ -110,7 +112,7 @@ IsEventFault v text fault = IsSentenceFault (IsCallSpelled v) IsCallWellFormed (
 
 -- ---- an event among the tokens of a text
 
--- these lexemes begin with this event, and behind it so many are left
+-- a prefix of these lexemes is this event, and this many are left
 pub record IsAhead (v : Version) (ls : List Lexeme) (e : NamedEvent) (left : ℕ) : Type 0 where
   pub before : List Lexeme
   pub after : List Lexeme
@@ -124,15 +126,15 @@ pub record IsEventAt (v : Version) (text : List ℕ) (tokens : List Token) (from
   pub ends : next ≤ length tokens
   pub event : IsEvent v e (lexemes text (slice_range tokens from next))
 
--- no event of this version stands at the front of these lexemes
+-- no prefix of these lexemes is an event of this version
 abbrev pub NoneAhead : Version → List Lexeme → Type 0
 NoneAhead v ls = (e : NamedEvent) (before after : List Lexeme) → ls ≡ before ++ after → IsEvent v e before → ⊥
 
--- no event of this version stands at the front of what is left, and its fault is this
+-- no prefix of what is left is an event of this version, and this is the fault
 pub record HasNoEvent (v : Version) (r : Reading) (fault : ScenarioFault) : Type 0 where
   pub none : NoneAhead v r.left
   pub stops : IsStopped (IsCallSpelled v) IsCallWellFormed (IsCallExcess v) r fault
 
--- from the token of this number on stands no event of this version
+-- at the token of this number no event of this version begins, and this is the fault
 abbrev pub IsEventFaultAt : Version → List ℕ → List Token → ℕ → ScenarioFault → Type 0
 IsEventFaultAt v text tokens from fault = HasNoEvent v (reading_of text (drop from tokens)) fault

@@ -1,7 +1,8 @@
--- What is too much in an expression: a reserved word, a selector, an index.
+-- The faults of expressions at a reserved word, a selector or an index, and the expression that a text is.
 use Rattle.std.specs.Prelude.{◌≡◌, ℕ, ◌≤◌, ◌<◌, List, [], ◌∷◌, ◌++◌, codes, true, false}
 use Rattle.std.specs.Str.{bytes_eq}
 use Rattle.jc_rules.specs.Syntax.{Expr}
+use Rattle.jc_rules.specs.declared.limits.TheConstants.{MAX_SELECTORS}
 use Rattle.jc_parser.specs.declared.fault.ScenarioFault.{ScenarioFault}
 use Rattle.jc_parser.specs.declared.fault.ScenarioFault.TheVariants.{IndexTooLarge, ReservedName, TooLongExpression}
 use Rattle.jc_parser.specs.Symbols.{Symbol, word, number, dot, open_paren, Lexeme}
@@ -21,7 +22,7 @@ pub record IsReservedVariable (xs : List Symbol) (next : Symbol) : Type 0 where
 pub record IsSelectorPast (xs : List Symbol) (next second : Symbol) : Type 0 where
   pub expression : Expr
   pub within : IsWellFormedExpression expression
-  pub full : selector_count expression ≡ 256
+  pub full : selector_count expression ≡ MAX_SELECTORS
   pub spelled : IsExpressionText expression xs
   pub is_dot : next ≡ dot
   pub is_word : is_selector second ≡ true
@@ -30,7 +31,7 @@ pub record IsSelectorPast (xs : List Symbol) (next second : Symbol) : Type 0 whe
 pub record IsIndexPast (xs : List Symbol) (next : Symbol) : Type 0 where
   pub expression : Expr
   pub within : IsWellFormedExpression expression
-  pub room : selector_count expression < 256
+  pub room : selector_count expression < MAX_SELECTORS
   pub text : List Symbol
   pub spelled : IsExpressionText expression text
   pub is : xs ≡ text ++ dot ∷ word (codes "idx") ∷ open_paren ∷ []

@@ -1,7 +1,8 @@
--- The parts of an expression of the whole language, read from left to right.
+-- How an expression is read from left to right. The code follows these readers; a reader believes `Expressions`.
 use Rattle.std.specs.Prelude.{ℕ, zero, suc, List, Bool, true, false, ◌&&◌, not, nat_lt, if◌then◌else◌, codes, Result, Ok, Err}
 use Rattle.jc_syntax.specs.declared.token.TokenKind.TheVariants.{Dot, ParenL, ParenR}
 use Rattle.jc_rules.specs.Syntax.{Expr, TheDoc, Variable}
+use Rattle.jc_rules.specs.declared.limits.TheConstants.{MAX_SELECTORS}
 use Rattle.jc_parser.specs.declared.fault.ScenarioFault.{ScenarioFault}
 use Rattle.jc_parser.specs.declared.fault.ScenarioFault.TheVariants.{TooLongExpression, IndexTooLarge}
 use Rattle.jc_parser.specs.Symbols.{Symbol, number}
@@ -56,7 +57,7 @@ step_at r =
 
 -- ---- expressions
 
--- an expression, and whether a dot was taken after it
+-- an expression, and whether the dot after it was taken
 pub record Chain : Type 0 where
   pub expression : Expr
   pub dotted : Bool
@@ -77,7 +78,7 @@ chain_at (suc n) e r =
     else Ok (record { expression = e; dotted = true }, a.1))
     else Ok (record { expression = e; dotted = false }, r)
 
--- no dot may stand at the end
+-- no dot may come at the end
 abbrev pub undotted : Chain × Reading → ReadOutcome Expr
 undotted x = if x.0.dotted then Err (stuck x.1) else Ok (x.0.expression, x.1)
 
@@ -98,7 +99,7 @@ root_at r = if begins (is_word (codes "doc")) r then doc_at r else variable_at r
 unfoldable pub expression_at : Reading → ReadOutcome Expr
 expression_at r = do
   e ← root_at r
-  c ← chain_at 256 e.0 e.1
+  c ← chain_at MAX_SELECTORS e.0 e.1
   undotted c
 
 -- an expression and nothing more

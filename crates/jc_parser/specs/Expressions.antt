@@ -1,8 +1,9 @@
--- What the expressions of the whole language are written with.
+-- The grammar of expressions, and their limits. Scripts contain them.
 use Rattle.std.specs.Prelude.{◌≡◌, ℕ, ◌≤◌, ◌<◌, List, [], ◌∷◌, ◌++◌, length, codes, Bool, true, false, ◌&&◌, ◌||◌, not, ◌==◌}
 use Rattle.std.specs.Str.{bytes_eq, all_ascii_digits}
 use Rattle.std.specs.Str.Parse.{digits_value}
 use Rattle.jc_rules.specs.Syntax.{Expr, TheDoc, Variable, GetKey, Index, KeysOf, ValuesOf}
+use Rattle.jc_rules.specs.declared.limits.TheConstants.{MAX_SELECTORS}
 use Rattle.jc_parser.specs.Symbols.{Symbol, word, number, dot, open_paren, close_paren}
 use Rattle.jc_parser.specs.ReaderState.{is_word}
 use Rattle.jc_parser.specs.ReservedWords.{is_reserved, get_text, selector_count}
@@ -13,7 +14,7 @@ use Rattle.jc_parser.specs.ReservedWords.{is_reserved, get_text, selector_count}
 abbrev pub is_numeral : List ℕ → Bool
 is_numeral bs = not (length bs == 0) && all_ascii_digits bs
 
--- the number that digits write
+-- the value of digits
 abbrev pub numeral_value : List ℕ → ℕ
 numeral_value bs = digits_value 10 bs
 
@@ -30,7 +31,7 @@ abbrev pub is_selector : Symbol → Bool
 is_selector s =
     is_word (codes "get") s || (is_word (codes "idx") s || (is_word (codes "keys") s || is_word (codes "values") s))
 
--- an expression, and one selector more
+-- an expression, extended by one selector
 abbrev pub extended : Expr → Selector → Expr
 extended e (by_key key) = GetKey e key
 extended e (by_index i) = Index e i
@@ -57,7 +58,8 @@ IsExpressionText (GetKey e key) w =
     (u : List Symbol) × (v : List Symbol) × IsExpressionText e u × IsSelectorText (by_key key) v × (w ≡ u ++ v)
 IsExpressionText (Index e i) w =
     (u : List Symbol) × (v : List Symbol) × IsExpressionText e u × IsSelectorText (by_index i) v × (w ≡ u ++ v)
-IsExpressionText (KeysOf e) w = (u : List Symbol) × (v : List Symbol) × IsExpressionText e u × IsSelectorText by_keys v × (w ≡ u ++ v)
+IsExpressionText (KeysOf e) w =
+    (u : List Symbol) × (v : List Symbol) × IsExpressionText e u × IsSelectorText by_keys v × (w ≡ u ++ v)
 IsExpressionText (ValuesOf e) w =
     (u : List Symbol) × (v : List Symbol) × IsExpressionText e u × IsSelectorText by_values v × (w ≡ u ++ v)
 
@@ -74,4 +76,4 @@ HasLegalParts (ValuesOf e) = HasLegalParts e
 
 pub record IsWellFormedExpression (e : Expr) : Type 0 where
   pub parts : HasLegalParts e
-  pub selectors : selector_count e ≤ 256
+  pub selectors : selector_count e ≤ MAX_SELECTORS

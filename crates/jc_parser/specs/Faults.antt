@@ -1,4 +1,4 @@
--- Faults of scenarios and sentences: the refusal, its number, the offset, and what is shown of them.
+-- Faults of scenarios and sentences: refusal, number, offset, and the text shown. Both types of faults follow these.
 use Rattle.std.specs.Prelude.{◌≡◌, ℕ, Option, Some, None, List, option_map}
 use Rattle.jc_rules.specs.declared.refusal.Refusal.{Refusal}
 use Rattle.jc_rules.specs.declared.refusal.Refusal.TheVariants as refusals
@@ -61,7 +61,7 @@ fault_number fault = option_map refusal_number (fault_refusal fault)
 abbrev pub fault_text : ScenarioFault → List ℕ
 fault_text fault = refusal_text (fault_refusal fault) (fault_offset fault)
 
--- a lexical fault of a scenario's text
+-- a lexical fault, as a fault of a scenario
 abbrev pub from_lexer : LexFault → ScenarioFault
 from_lexer (lexical.BadByte place) = BadByte place
 from_lexer (lexical.OpenString place) = OpenString place
@@ -71,7 +71,7 @@ from_lexer (lexical.BadNumber place) = BadNumber place
 from_lexer (lexical.TextTooLong place) = TextTooLong place
 from_lexer lexical.Memory = Memory
 
--- a fault of a sentence, among all faults
+-- a fault of a sentence, as a fault of a scenario
 abbrev pub from_sentence : ParseFault → ScenarioFault
 from_sentence (sentence.BadByte place) = BadByte place
 from_sentence (sentence.OpenString place) = OpenString place

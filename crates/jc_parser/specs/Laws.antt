@@ -1,4 +1,4 @@
--- What the definitions promise by themselves.
+-- The laws' statements for expressions and scripts, which follow from the definitions alone.
 use Rattle.std.specs.Prelude.{◌≡◌, ◌⊎◌, ℕ, List}
 use Rattle.jc_rules.specs.Syntax.{Expr, Cmd}
 use Rattle.jc_parser.specs.declared.fault.ScenarioFault.{ScenarioFault}
@@ -19,7 +19,7 @@ abbrev pub ExpressionElseFault : Type 0
 ExpressionElseFault =
     (text : List ℕ) → ((e : Expr) × IsExpressionOf text e) ⊎ ((fault : ScenarioFault) × IsExpressionFault text fault)
 
--- A text that is no expression has one fault at most, at one place.
+-- A text that is no expression has one fault at most, at one offset.
 abbrev pub OneExpressionFault : Type 0
 OneExpressionFault =
     (text : List ℕ) (fault other : ScenarioFault)
@@ -39,9 +39,10 @@ ScriptOrFault =
 -- A text that is no script has a fault.
 abbrev pub ScriptElseFault : Type 0
 ScriptElseFault =
-    (text : List ℕ) → ((script : List Cmd) × IsScriptOf text script) ⊎ ((fault : ScenarioFault) × IsScriptFault text fault)
+    (text : List ℕ)
+    → ((script : List Cmd) × IsScriptOf text script) ⊎ ((fault : ScenarioFault) × IsScriptFault text fault)
 
--- A text that is no script has one fault at most, at one place.
+-- A text that is no script has one fault at most, at one offset.
 abbrev pub OneScriptFault : Type 0
 OneScriptFault =
     (text : List ℕ) (fault other : ScenarioFault) → IsScriptFault text fault → IsScriptFault text other → fault ≡ other

@@ -1,4 +1,4 @@
--- What is parsed is legal: within the limits, with names, numbers and strings such as the tokens of a UTF-8 text have.
+-- The laws' statements that what is parsed is legal: within the limits, and its parts are such as tokens have.
 use Rattle.std.specs.Prelude.{ℕ, List, All}
 use Rattle.std.specs.Str.{IsUtf8}
 use Rattle.jc_rules.specs.declared.version.Version.{Version}

@@ -1,4 +1,4 @@
--- Trees that a text can be written of: their names, numbers and strings are such as tokens have.
+-- Legal trees: their names, numbers and strings are such as tokens have. The printer's laws are about these.
 use Rattle.std.specs.Prelude.{◌≡◌, ℕ, ◌<◌, ◌≤◌, List, length, slice_index, true, All}
 use Rattle.std.specs.List.{AllPass}
 use Rattle.std.specs.Str.{IsUtf8}
@@ -12,18 +12,19 @@ use Rattle.jc_syntax.specs.Numbers.{IsNumber}
 use Rattle.jc_parser.specs.Events.{Call, executes, sends, receives, takes, applies, ends}
 use Rattle.jc_parser.specs.Scenarios.{Part, ScenarioTree}
 use Rattle.jc_rules.specs.ReplicaNames.{name_at}
+use Rattle.jc_rules.specs.declared.limits.TheConstants.{MAX_NAME, MAX_STRING}
 
 -- a letter or `_`, then letters, digits and `_`, at most 255 bytes in all
 abbrev pub IsName : List ℕ → Type 0
-IsName name = (is_name_start (slice_index name 0) ≡ true) × AllPass is_name_byte name × (length name ≤ 255)
+IsName name = (is_name_start (slice_index name 0) ≡ true) × AllPass is_name_byte name × (length name ≤ MAX_NAME)
 
 -- a JSON number of at most 65,535 bytes
 abbrev pub IsNumeric : List ℕ → Type 0
-IsNumeric text = IsNumber text × (length text ≤ 65535)
+IsNumeric text = IsNumber text × (length text ≤ MAX_STRING)
 
 -- what a string may spell: UTF-8 of at most 65,535 bytes
 abbrev pub IsContent : List ℕ → Type 0
-IsContent content = IsUtf8 content × (length content ≤ 65535)
+IsContent content = IsUtf8 content × (length content ≤ MAX_STRING)
 
 abbrev pub IsLegalExpr : Expr → Type 0
 IsLegalExpr TheDoc = Unit {0}
@@ -56,7 +57,7 @@ IsLegalCall (takes p q counter r) = IsName p × IsName q × IsName r
 IsLegalCall (applies p counter q) = IsName p × IsName q
 IsLegalCall (ends p) = IsName p
 
--- what an event is called, by its replicas' names
+-- an event by the names of its replicas
 abbrev pub call_by : List (List ℕ) → Event → Call
 call_by names (Exec p) = executes (name_at names p)
 call_by names (Send p) = sends (name_at names p)
@@ -65,7 +66,7 @@ call_by names (Take p q i) = takes (name_at names p) (name_at names q) i.counter
 call_by names (Apply p i) = applies (name_at names p) i.counter (name_at names i.replica)
 call_by names (Done p) = ends (name_at names p)
 
--- a counter that a text may have
+-- a counter within the limit of a text
 abbrev pub IsCounterBelow : Event → Type 0
 IsCounterBelow (Apply p i) = i.counter < 4294967296
 IsCounterBelow (Take p q i) = i.counter < 4294967296

@@ -1,4 +1,4 @@
--- The parts of a scenario, read from left to right.
+-- Readers of what sentences share, from left to right: keys, values, lists with `;`, names and the header.
 use Rattle.std.specs.Prelude.{ℕ, zero, suc, List, [], ◌∷◌, Bool, if◌then◌else◌, codes, Result, Ok, Err}
 use Rattle.jc_syntax.specs.declared.token.TokenKind.TheVariants.{Number, Str, ParenL, ParenR, Semi}
 use Rattle.jc_rules.specs.declared.version.Version.{Version}
@@ -48,10 +48,11 @@ read_value_at r =
 
 -- ---- commands
 
--- At most n items that begin with a symbol that passes the test, parted by `;`, with or without one after the last. One
--- more has the fault beyond.
+-- At most n items, separated by `;`, with or without one after the last. Each begins with a symbol that passes the
+-- test. One more has the fault beyond.
 unfoldable pub items_at :
-    {A : Type 0} → (Symbol → Bool) → (Reading → ReadOutcome A) → (Reading → ScenarioFault) → ℕ → Reading → ReadOutcome (List A)
+    {A : Type 0} → (Symbol → Bool) → (Reading → ReadOutcome A) → (Reading → ScenarioFault) → ℕ → Reading
+    → ReadOutcome (List A)
 items_at p item beyond zero r = if begins p r then Err (beyond r) else Ok ([], r)
 items_at p item beyond (suc n) r =
     if begins p r

@@ -1,4 +1,4 @@
--- Reading symbols from left to right, up to the first fault that is met.
+-- The state of a reader, its outcome, and the steps of one token. All readers are made of these.
 use Rattle.std.specs.Prelude.{◌≡◌, ◌≢◌, ℕ, List, [], ◌∷◌, Bool, true, false, ◌==◌, if◌then◌else◌, Result, Ok, Err, length}
 use Rattle.std.specs.Str.{bytes_eq}
 use Rattle.jc_syntax.specs.declared.token.Token.{Token}
@@ -18,7 +18,7 @@ pub record Reading : Type 0 where
 abbrev pub reading_of : List ℕ → List Token → Reading
 reading_of text ts = record { left = lexemes text ts; stop = length text }
 
--- what is read, and what is left then; or a fault
+-- what is read, and what is left after it; or a fault
 abbrev pub ReadOutcome : Type 0 → Type 0
 ReadOutcome A = Result (A × Reading) ScenarioFault
 
@@ -27,7 +27,7 @@ abbrev pub ◌>>=◌ : {A B : Type 0} → Result A ScenarioFault → (A → Resu
 (Ok x) >>= f = f x
 (Err e) >>= f = Err e
 
--- What a function returned, seen by view, is what reading gives, unless memory ran out.
+-- what a function returns, seen by view, is the outcome of the reader, unless memory ran out
 abbrev pub MapsResult : {X Y : Type 0} → (X → Y) → Result X ScenarioFault → Result Y ScenarioFault → Type 0
 MapsResult view (Ok x) read = read ≡ Ok (view x)
 MapsResult view (Err e) read = e ≢ Memory → read ≡ Err e
@@ -97,7 +97,7 @@ abbrev pub place_at : ℕ → List Lexeme → ℕ
 place_at stop [] = stop
 place_at stop (x ∷ xs) = x.place
 
--- where the next lexeme stands, or the text's end
+-- the offset of the next lexeme, or of the text's end
 abbrev pub place : Reading → ℕ
 place r = place_at r.stop r.left
 
@@ -131,13 +131,13 @@ skip p r = do
   x ← one p r
   Ok (tt, x.1)
 
--- takes a lexeme that passes the test, and gives its value
+-- takes a lexeme that passes the test, and returns its value
 abbrev pub take : (Symbol → Bool) → Reading → ReadOutcome (List ℕ)
 take p r = do
   x ← one p r
   Ok (value_of_symbol x.0.symbol, x.1)
 
--- takes a name, with its place
+-- takes a name, and returns it with its offset
 unfoldable pub named_at : Reading → ReadOutcome Named
 named_at r = do
   x ← one (has_kind Name) r

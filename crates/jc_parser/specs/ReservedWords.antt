@@ -1,4 +1,4 @@
--- What several sentences are written with.
+-- The grammar that sentences share: reserved words, the selector `get`, values, and lists with `;`.
 use Rattle.std.specs.Prelude.{◌≡◌, ℕ, suc, ◌⊎◌, List, [], ◌∷◌, ◌++◌, codes, Bool, ◌||◌}
 use Rattle.std.specs.Str.{bytes_eq}
 use Rattle.jc_rules.specs.declared.value.Value.{Value}
@@ -37,7 +37,7 @@ IsValueText v w = ⊥
 
 -- ---- lists
 
--- Items parted by `;`. After the last one a `;` may stand or not.
+-- items separated by `;`, with or without one after the last
 abbrev pub IsListText : {A : Type 0} → (A → List Symbol → Type 0) → List A → List Symbol → Type 0
 IsListText L [] w = w ≡ []
 IsListText L (x ∷ xs) w =

@@ -1,9 +1,9 @@
--- The fault of a text whose tokens are no scenario, and its place. Whether the names in events are replicas' is
--- another question: here they are names.
+-- The fault of tokens that are no scenario. Whether the names in events are replicas' is not asked here.
 use Rattle.std.specs.Prelude.{◌≡◌, ◌≢◌, ℕ, ◌≤◌, ◌<◌, ◌⊎◌, List, [], ◌∷◌, ◌++◌, length, map, codes, true, false, All}
 use Rattle.std.specs.List.{Contains}
 use Rattle.jc_rules.specs.declared.version.Version.{Version}
 use Rattle.jc_rules.specs.declared.version.Version.TheVariants.{One, Two}
+use Rattle.jc_rules.specs.declared.limits.TheConstants.{MAX_EVENTS, MAX_REPLICAS}
 use Rattle.jc_parser.specs.declared.fault.ScenarioFault.{ScenarioFault}
 use Rattle.jc_parser.specs.declared.fault.ScenarioFault.TheVariants.{ReservedName, NoHeader, SameName, NoReplica, TooManyReplicas, TooManyEvents}
 use Rattle.jc_parser.specs.Symbols.{Symbol, word, dot, Lexeme, symbols}
@@ -16,7 +16,7 @@ use Rattle.jc_parser.specs.Scenarios.{Part, name_of_part, header, part_head, giv
 
 -- ---- what fits nothing
 
--- in the place of the header's two symbols, in that of the first word `replica`, or later
+-- where the header's two symbols must be, where the first word `replica` must be, or later
 abbrev pub misfit_fault : List Symbol → ℕ → List Lexeme → ScenarioFault
 misfit_fault [] stop after = NoHeader (place_at stop after)
 misfit_fault (a ∷ []) stop after = NoHeader (place_at stop after)
@@ -30,8 +30,8 @@ pub record ReplicasAreDone (v : Version) (ps : List Part) (w : List Symbol) : Ty
   pub within : ArePartsWithin ps
   pub is : w ≡ header v ++ parts
 
--- A scenario begins so, and no limit is passed, but perhaps by the last symbol: whether a dot is one too many, or the
--- word before a replica, only what follows it says.
+-- A scenario begins so, and no limit is passed but perhaps by the last symbol. Whether a dot, or the word before a
+-- replica, is one too many depends on what follows it.
 pub record ScenarioIsBegun (xs : List Symbol) : Type 0 where
   pub begins : Begins IsTreeSpelled xs
   pub kept : List Symbol
@@ -49,13 +49,13 @@ pub record ScenarioIsOutOfPlace (fault : ScenarioFault) (stop : ℕ) (before aft
 
 -- ---- what fits, and is too much
 
--- the fault of a replica's name after these replicas, the smaller number first
+-- the fault of a replica's name after these replicas; at one offset the smaller number comes first
 abbrev pub IsNameFault : List Part → List ℕ → ℕ → ScenarioFault → Type 0
 IsNameFault ps name place fault =
     ((is_reserved name ≡ true) × (fault ≡ ReservedName place))
     ⊎ ((is_reserved name ≡ false)
     × ((Contains (map name_of_part ps) name × (fault ≡ SameName place))
-    ⊎ ((Contains (map name_of_part ps) name → ⊥) × (length ps ≡ 64) × (fault ≡ TooManyReplicas place))))
+    ⊎ ((Contains (map name_of_part ps) name → ⊥) × (length ps ≡ MAX_REPLICAS) × (fault ≡ TooManyReplicas place))))
 
 -- the name of one replica more comes next
 pub record IsNameExcess (fault : ScenarioFault) (xs : List Symbol) (next : Lexeme) : Type 0 where
@@ -74,7 +74,7 @@ pub record IsPartExcess (fault : ScenarioFault) (xs : List Symbol) (after : List
   pub parts : List Part
   pub before : List Symbol
   pub done : ReplicasAreDone version parts before
-  pub room : length parts < 64
+  pub room : length parts < MAX_REPLICAS
   pub name : List ℕ
   pub free : is_reserved name ≡ false
   pub new : Contains (map name_of_part parts) name → ⊥
@@ -85,7 +85,7 @@ pub record IsPartExcess (fault : ScenarioFault) (xs : List Symbol) (after : List
 -- after so many events of a block, one too many begins, or the counter of an event is too large
 abbrev pub IsEventExcess : Version → ℕ → ScenarioFault → List Symbol → List Lexeme → Type 0
 IsEventExcess v n fault xs after =
-    ((n ≡ 100000)
+    ((n ≡ MAX_EVENTS)
     × (xs ≡ [])
     × (next : Lexeme)
     × (rest : List Lexeme)
@@ -93,7 +93,7 @@ IsEventExcess v n fault xs after =
     × (name : List ℕ)
     × (next.symbol ≡ word name)
     × (fault ≡ TooManyEvents next.place))
-    ⊎ ((n < 100000) × IsCallExcess v fault xs after)
+    ⊎ ((n < MAX_EVENTS) × IsCallExcess v fault xs after)
 
 -- too much in a block with this head
 pub record IsBlockExcess (head : List Symbol) (v : Version) (fault : ScenarioFault) (xs : List Symbol) (after : List Lexeme) : Type 0 where
@@ -114,7 +114,7 @@ pub record IsScheduleExcess (v : Version) (fault : ScenarioFault) (xs : List Sym
   pub given : List Call
   pub before : List Symbol
   pub spelled : IsGivenSpelled v given before
-  pub few : length given ≤ 100000
+  pub few : length given ≤ MAX_EVENTS
   pub small : All IsCallWellFormed given
   pub schedule : List Symbol
   pub is : xs ≡ before ++ schedule

@@ -1,11 +1,11 @@
--- What the definitions of scenarios of several replicas promise by themselves.
+-- The laws' statements for scenarios, which follow from the definitions alone.
 use Rattle.std.specs.Prelude.{◌≡◌, ◌⊎◌}
 use Rattle.jc_parser.specs.declared.fault.ScenarioFault.{ScenarioFault}
 use Rattle.jc_parser.specs.ReaderState.{Reading}
 use Rattle.jc_parser.specs.Scenarios.{NamedTree, IsNamedTree}
 use Rattle.jc_parser.specs.ScenarioFaults.{IsTreeFault}
 
--- Tokens are one scenario at most, with one place for each name in its events.
+-- Tokens are one scenario at most, with one offset for each name in its events.
 abbrev pub OneNamedTree : Type 0
 OneNamedTree = (r : Reading) (t other : NamedTree) → IsNamedTree r t → IsNamedTree r other → t ≡ other
 
@@ -15,8 +15,9 @@ NamedTreeOrFault = (r : Reading) (t : NamedTree) (fault : ScenarioFault) → IsN
 
 -- Tokens that are no scenario have a fault.
 abbrev pub NamedTreeElseFault : Type 0
-NamedTreeElseFault = (r : Reading) → ((t : NamedTree) × IsNamedTree r t) ⊎ ((fault : ScenarioFault) × IsTreeFault r fault)
+NamedTreeElseFault =
+    (r : Reading) → ((t : NamedTree) × IsNamedTree r t) ⊎ ((fault : ScenarioFault) × IsTreeFault r fault)
 
--- Tokens have one fault at most, at one place.
+-- Tokens have one fault at most, at one offset.
 abbrev pub OneTreeFault : Type 0
 OneTreeFault = (r : Reading) (fault other : ScenarioFault) → IsTreeFault r fault → IsTreeFault r other → fault ≡ other

@@ -1,5 +1,5 @@
--- The parts of a scenario of any number of replicas, read from left to right.
-use Rattle.std.specs.Prelude.{ℕ, zero, suc, List, [], ◌∷◌, ◌++◌, Bool, false, if◌then◌else◌, codes, Result, Ok, Err}
+-- How a scenario is read from left to right. The code follows these readers; a reader believes `Scenarios`.
+use Rattle.std.specs.Prelude.{ℕ, zero, suc, ◌-◌, List, [], ◌∷◌, ◌++◌, Bool, false, if◌then◌else◌, codes, Result, Ok, Err}
 use Rattle.std.specs.Str.{bytes_eq}
 use Rattle.std.specs.List.{list_any}
 use Rattle.jc_rules.specs.declared.version.Version.{Version}
@@ -7,6 +7,7 @@ use Rattle.jc_rules.specs.declared.version.Version.TheVariants.{One, Two}
 use Rattle.jc_syntax.specs.declared.token.TokenKind.TheVariants.{Name, BraceL, BraceR}
 use Rattle.jc_syntax.specs.declared.tree.NamedEvent.{NamedEvent}
 use Rattle.jc_rules.specs.Syntax.{Cmd}
+use Rattle.jc_rules.specs.declared.limits.TheConstants.{MAX_EVENTS, MAX_REPLICAS}
 use Rattle.jc_parser.specs.declared.fault.ScenarioFault.{ScenarioFault}
 use Rattle.jc_parser.specs.declared.fault.ScenarioFault.TheVariants.{ReservedName, SameName, TooManyReplicas, TooManyEvents}
 use Rattle.jc_parser.specs.Symbols.{Symbol, word}
@@ -51,7 +52,7 @@ part_at names r = do
 
 -- ---- blocks of events
 
--- at most n events, with the places of their names
+-- at most n events, with the offsets of their names
 abbrev pub events_at : Version → ℕ → Reading → ReadOutcome (List NamedEvent)
 events_at v n r = items_at (has_kind Name) (any_event_at v) (λ s. TooManyEvents (place s)) n r
 
@@ -120,5 +121,5 @@ rest_at v m n r = do
 unfoldable pub tree_at : Reading → Result NamedTree ScenarioFault
 tree_at r = do
   a ← front_at r
-  t ← rest_at a.0 100000 63 a.1
+  t ← rest_at a.0 MAX_EVENTS (MAX_REPLICAS - 1) a.1
   result_of_read t

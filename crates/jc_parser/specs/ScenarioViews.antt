@@ -1,4 +1,4 @@
--- What contracts see of a scenario that was read from its tokens.
+-- What a scenario in memory represents, for the contracts of `scenarios`.
 use Rattle.std.specs.Prelude.{ℕ, List, map}
 use Rattle.jc_syntax.specs.Trees.{cmd_of}
 use Rattle.jc_parser.specs.declared.scenarios.NamedReplica as replicas
@@ -10,7 +10,12 @@ part_view p = record { name = p.name; script = map cmd_of p.script.items }
 
 abbrev pub tree_view : scenarios.NamedScenario → NamedTree
 tree_view t =
-    record { version = t.version; parts = map part_view t.replicas.items; given = t.given.items; events = t.events.items }
+    record {
+      version = t.version;
+      parts = map part_view t.replicas.items;
+      given = t.given.items;
+      events = t.events.items;
+    }
 
 -- the names of these replicas
 abbrev pub names_of : List replicas.NamedReplica → List (List ℕ)

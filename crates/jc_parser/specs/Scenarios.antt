@@ -1,10 +1,10 @@
--- What scenarios are written with: a version, replicas in the order of the text, and events by the names of their
--- replicas, given ones and those of the schedule.
+-- The grammar of scenarios: a version, replicas in the order of the text, given events and a schedule by names; limits.
 use Rattle.std.specs.Prelude.{◌≡◌, ◌≢◌, ℕ, ◌≤◌, ◌⊎◌, List, [], ◌∷◌, ◌++◌, length, map, codes, false, All}
 use Rattle.std.specs.List.{AllPairs}
 use Rattle.jc_rules.specs.declared.version.Version.{Version}
 use Rattle.jc_rules.specs.declared.version.Version.TheVariants.{One, Two}
 use Rattle.jc_rules.specs.Syntax.{Cmd}
+use Rattle.jc_rules.specs.declared.limits.TheConstants.{MAX_EVENTS, MAX_REPLICAS}
 use Rattle.jc_syntax.specs.declared.tree.NamedEvent.{NamedEvent}
 use Rattle.jc_parser.specs.Symbols.{Symbol, word, number, open_brace, close_brace, semicolon, Lexeme, symbols}
 use Rattle.jc_parser.specs.ReaderState.{Reading}
@@ -27,7 +27,7 @@ pub record ScenarioTree : Type 0 where
 abbrev pub name_of_part : Part → List ℕ
 name_of_part p = p.name
 
--- a version and replicas, and events with the places of their names
+-- a version and replicas, and events with the offsets of their names
 pub record NamedTree : Type 0 where
   pub version : Version
   pub parts : List Part
@@ -35,7 +35,8 @@ pub record NamedTree : Type 0 where
   pub events : List NamedEvent
 
 abbrev pub tree_of_named : NamedTree → ScenarioTree
-tree_of_named t = record { version = t.version; parts = t.parts; given = map call_of t.given; calls = map call_of t.events }
+tree_of_named t =
+    record { version = t.version; parts = t.parts; given = map call_of t.given; calls = map call_of t.events }
 
 -- ---- the grammar
 
@@ -101,20 +102,20 @@ IsTreeSpelled t w =
 pub record ArePartsWithin (ps : List Part) : Type 0 where
   pub free : All (λ p. is_reserved p.name ≡ false) ps
   pub apart : AllPairs (λ a b. a ≢ b) (map name_of_part ps)
-  pub few : length ps ≤ 64
+  pub few : length ps ≤ MAX_REPLICAS
   pub scripts : All (λ p. IsScriptWellFormed p.script) ps
 
 -- the given events and the schedule are counted apart
 pub record IsTreeWithin (t : ScenarioTree) : Type 0 where
   pub parts : ArePartsWithin t.parts
-  pub few_given : length t.given ≤ 100000
+  pub few_given : length t.given ≤ MAX_EVENTS
   pub given : All IsCallWellFormed t.given
-  pub few : length t.calls ≤ 100000
+  pub few : length t.calls ≤ MAX_EVENTS
   pub calls : All IsCallWellFormed t.calls
 
--- ---- the places of names in events
+-- ---- the offsets of names in events
 
--- these lexemes are these events, with the places of their names
+-- these lexemes are these events, with the offsets of their names
 abbrev pub AreEvents : Version → List NamedEvent → List Lexeme → Type 0
 AreEvents v [] ls = ls ≡ []
 AreEvents v (e ∷ es) ls =
@@ -123,7 +124,7 @@ AreEvents v (e ∷ es) ls =
     × (((es ≡ []) × (ls ≡ u))
     ⊎ ((s : Lexeme) × (w : List Lexeme) × (s.symbol ≡ semicolon) × (ls ≡ u ++ s ∷ w) × AreEvents v es w))
 
--- these lexemes are a block of these events, or none stand there and there are none
+-- these lexemes are a block of these events, or there are no lexemes and no events
 abbrev pub AreBlock : List Symbol → Version → List NamedEvent → List Lexeme → Type 0
 AreBlock head v es ls =
     ((es ≡ []) × (ls ≡ []))
@@ -139,7 +140,7 @@ abbrev pub AreGiven : Version → List NamedEvent → List Lexeme → Type 0
 AreGiven One es ls = (es ≡ []) × (ls ≡ [])
 AreGiven Two es ls = AreBlock given_head Two es ls
 
--- the given events stand behind these replicas, and the schedule behind them
+-- the given events come after these replicas, and the schedule after them
 pub record AreBlocks (t : NamedTree) (ls : List Lexeme) : Type 0 where
   pub front : List Lexeme
   pub parts : List Symbol
@@ -151,7 +152,7 @@ pub record AreBlocks (t : NamedTree) (ls : List Lexeme) : Type 0 where
   pub schedule_are : AreBlock schedule_head t.version t.events schedule
   pub is : ls ≡ front ++ (given ++ schedule)
 
--- these lexemes are this scenario, with the places of the names in its events
+-- these lexemes are this scenario, with the offsets of the names in its events
 pub record IsNamedTree (r : Reading) (t : NamedTree) : Type 0 where
   pub spelled : IsTreeSpelled (tree_of_named t) (symbols r.left)
   pub within : IsTreeWithin (tree_of_named t)

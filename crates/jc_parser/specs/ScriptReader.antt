@@ -1,10 +1,11 @@
--- The parts of a script of the whole language, read from left to right.
+-- How a script is read from left to right. The code follows these readers; a reader believes `Scripts`.
 use Rattle.std.specs.Prelude.{ℕ, List, Bool, true, false, ◌&&◌, not, if◌then◌else◌, codes, Result, Ok}
 use Rattle.jc_syntax.specs.declared.token.TokenKind.{TokenKind}
 use Rattle.jc_syntax.specs.declared.token.TokenKind.TheVariants.{Name, ParenL, ParenR, BraceL, BraceR, BracketL, BracketR, Assign, Equals}
 use Rattle.jc_rules.specs.declared.value.Value.{Value}
 use Rattle.jc_rules.specs.declared.value.Value.TheVariants as values
 use Rattle.jc_rules.specs.Syntax.{Expr, Cmd, LetIn, SetTo, InsertAfter, DeleteAt, Yield}
+use Rattle.jc_rules.specs.declared.limits.TheConstants.{MAX_COMMANDS, MAX_SELECTORS}
 use Rattle.jc_parser.specs.declared.fault.ScenarioFault.{ScenarioFault}
 use Rattle.jc_parser.specs.declared.fault.ScenarioFault.TheVariants.{ReservedName, TooManyCommands}
 use Rattle.jc_parser.specs.Symbols.{Symbol}
@@ -68,7 +69,7 @@ finish_at e false r = assignment_at e r
 unfoldable pub update_at : Reading → ReadOutcome Cmd
 update_at r = do
   e ← root_at r
-  c ← chain_at 256 e.0 e.1
+  c ← chain_at MAX_SELECTORS e.0 e.1
   finish_at c.0.expression c.0.dotted c.1
 
 unfoldable pub yield_at : Reading → ReadOutcome Cmd
@@ -98,7 +99,7 @@ abbrev pub commands_at : ℕ → Reading → ReadOutcome (List Cmd)
 commands_at n r = items_at (has_kind Name) command_at too_many_commands_at n r
 
 unfoldable pub script_at : Reading → ReadOutcome (List Cmd)
-script_at r = commands_at 65536 r
+script_at r = commands_at MAX_COMMANDS r
 
 -- a script and nothing more
 unfoldable pub only_script_at : Reading → Result (List Cmd) ScenarioFault

@@ -1,9 +1,10 @@
--- What scripts of the whole language are written with, and what is too much in them.
+-- The grammar of scripts, their limits and their faults. `parse_script` and scenarios are about these.
 use Rattle.std.specs.Prelude.{◌≡◌, ℕ, ◌≤◌, ◌<◌, ◌⊎◌, List, [], ◌∷◌, ◌++◌, length, codes, true, false, All}
 use Rattle.std.specs.Str.{bytes_eq}
 use Rattle.jc_rules.specs.declared.value.Value.{Value}
 use Rattle.jc_rules.specs.declared.value.Value.TheVariants as values
 use Rattle.jc_rules.specs.Syntax.{Expr, TheDoc, Variable, GetKey, Index, KeysOf, ValuesOf, Cmd, LetIn, SetTo, InsertAfter, DeleteAt, Yield}
+use Rattle.jc_rules.specs.declared.limits.TheConstants.{MAX_COMMANDS}
 use Rattle.jc_parser.specs.declared.fault.ScenarioFault.{ScenarioFault}
 use Rattle.jc_parser.specs.declared.fault.ScenarioFault.TheVariants.{ReservedName, TooManyCommands}
 use Rattle.jc_parser.specs.Symbols.{Symbol, word, dot, open_paren, close_paren, open_brace, close_brace, open_bracket, close_bracket, assign, equals, Lexeme}
@@ -33,7 +34,8 @@ IsCommandSpelled Yield w = w ≡ word (codes "yield") ∷ []
 IsCommandSpelled (LetIn name e) w =
     (u : List Symbol) × IsExpressionText e u × (w ≡ word (codes "let") ∷ word name ∷ equals ∷ u)
 IsCommandSpelled (SetTo e v) w =
-    (x : List Symbol) × (y : List Symbol) × LeadsToPlace e × IsExpressionText e x × IsValueSpelled v y × (w ≡ x ++ assign ∷ y)
+    (x : List Symbol) × (y : List Symbol) × LeadsToPlace e × IsExpressionText e x × IsValueSpelled v y
+    × (w ≡ x ++ assign ∷ y)
 IsCommandSpelled (InsertAfter e v) w =
     (x : List Symbol) × (y : List Symbol)
     × LeadsToPlace e
@@ -56,7 +58,7 @@ abbrev pub IsScriptSpelled : List Cmd → List Symbol → Type 0
 IsScriptSpelled script w = IsListText IsCommandSpelled script w
 
 pub record IsScriptWellFormed (script : List Cmd) : Type 0 where
-  pub commands : length script ≤ 65536
+  pub commands : length script ≤ MAX_COMMANDS
   pub each : All IsCommandWellFormed script
 
 -- ---- what is too much
@@ -75,7 +77,7 @@ BeginsCommand name =
 pub record IsCommandPast (xs : List Symbol) (next : Symbol) : Type 0 where
   pub script : List Cmd
   pub done : CommandsAreDone script xs
-  pub full : length script ≡ 65536
+  pub full : length script ≡ MAX_COMMANDS
   pub name : List ℕ
   pub is : next ≡ word name
   pub begins : BeginsCommand name
@@ -85,7 +87,7 @@ pub record IsReservedBinding (xs : List Symbol) (next : Symbol) : Type 0 where
   pub script : List Cmd
   pub before : List Symbol
   pub done : CommandsAreDone script before
-  pub room : length script < 65536
+  pub room : length script < MAX_COMMANDS
   pub is : xs ≡ before ++ word (codes "let") ∷ []
   pub name : List ℕ
   pub next_is : next ≡ word name
@@ -95,7 +97,7 @@ pub record IsReservedBinding (xs : List Symbol) (next : Symbol) : Type 0 where
 pub record IsReservedLead (xs : List Symbol) (next : Symbol) : Type 0 where
   pub script : List Cmd
   pub done : CommandsAreDone script xs
-  pub room : length script ≤ 65536
+  pub room : length script ≤ MAX_COMMANDS
   pub name : List ℕ
   pub is : next ≡ word name
   pub reserved : is_reserved name ≡ true
@@ -108,7 +110,7 @@ pub record IsBindingExcess (fault : ScenarioFault) (xs : List Symbol) (after : L
   pub script : List Cmd
   pub before : List Symbol
   pub done : CommandsAreDone script before
-  pub room : length script < 65536
+  pub room : length script < MAX_COMMANDS
   pub name : List ℕ
   pub free : is_reserved name ≡ false
   pub expression : List Symbol
@@ -120,7 +122,7 @@ pub record IsLeadExcess (fault : ScenarioFault) (xs : List Symbol) (after : List
   pub script : List Cmd
   pub before : List Symbol
   pub done : CommandsAreDone script before
-  pub room : length script < 65536
+  pub room : length script < MAX_COMMANDS
   pub first : Symbol
   pub no_let : first ≡ word (codes "let") → ⊥
   pub no_yield : first ≡ word (codes "yield") → ⊥

@@ -1,5 +1,5 @@
--- Sentences of a language that are a whole text, and the faults of a text that is none. A language says what a tree is
--- spelled with, perhaps past a limit; which trees are within the limits; and what is too much after which symbols.
+-- Whole texts that are a sentence, and the faults of others, for any language. A language says how a tree is spelled,
+-- perhaps past a limit; which trees are within the limits; and what is too much after which symbols.
 use Rattle.std.specs.Prelude.{◌≡◌, ℕ, ◌⊎◌, List, [], ◌∷◌, ◌++◌}
 use Rattle.jc_syntax.specs.declared.token.Token.{Token}
 use Rattle.jc_syntax.specs.declared.fault.LexFault.{LexFault}
@@ -20,7 +20,7 @@ pub record IsBegun {T : Type 0} (L : T → List Symbol → Type 0) (W : T → Ty
   pub within : Begins (λ t w. W t × L t w) kept
   pub rest : (xs ≡ kept) ⊎ (xs ≡ kept ++ dot ∷ [])
 
--- with what comes next, this is the beginning of no sentence; or it is none, and nothing comes
+-- with what comes next, this is the prefix of no sentence; or it is no sentence, and nothing comes next
 abbrev pub FitsNothing : {T : Type 0} → (T → List Symbol → Type 0) → List Symbol → List Lexeme → Type 0
 FitsNothing {T} L xs [] = (t : T) → L t xs → ⊥
 FitsNothing L xs (next ∷ after) = Begins L (xs ++ next.symbol ∷ []) → ⊥
@@ -32,7 +32,7 @@ pub record IsOutOfPlace {T : Type 0} (L : T → List Symbol → Type 0) (W : T �
   pub unfit : FitsNothing L (symbols before) after
   pub is : fault ≡ stuck_at stop after
 
--- which fault stands after these symbols, at what comes next and fits
+-- the fault after these symbols, at what comes next and fits
 abbrev pub Excess : Type 1
 Excess = ScenarioFault → List Symbol → List Lexeme → Type 0
 

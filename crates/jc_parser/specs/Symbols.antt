@@ -1,11 +1,11 @@
--- Tokens as the grammar sees them.
+-- Tokens as the grammar sees them: a symbol, and its offset.
 use Rattle.std.specs.Prelude.{ℕ, List, map}
 use Rattle.jc_syntax.specs.declared.token.Token.{Token}
 use Rattle.jc_syntax.specs.declared.token.TokenKind.{TokenKind}
 use Rattle.jc_syntax.specs.declared.token.TokenKind.TheVariants.{Name, Number, Str, Dot, ParenL, ParenR, BraceL, BraceR, BracketL, BracketR, Comma, Semi, Assign, Equals}
 use Rattle.jc_syntax.specs.Lexemes.{token_bytes, token_content}
 
--- a word and a number have their bytes, a string has what it spells
+-- a word or a number has its bytes, a string has what it spells
 pub data Symbol : Type 0 where
   word : List ℕ → Symbol
   number : List ℕ → Symbol
@@ -39,7 +39,7 @@ symbol_of Semi bytes content = semicolon
 symbol_of Assign bytes content = assign
 symbol_of Equals bytes content = equals
 
--- a symbol, and where in the text it begins
+-- a symbol, and its offset in the text
 pub record Lexeme : Type 0 where
   pub place : ℕ
   pub symbol : Symbol

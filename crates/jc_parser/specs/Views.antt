@@ -1,4 +1,4 @@
--- What contracts see of what was parsed.
+-- What selectors and chains in memory represent, for the contracts of `expressions`.
 use Rattle.jc_syntax.specs.Trees.{expr_of}
 use Rattle.jc_parser.specs.declared.expressions.Selector as language
 use Rattle.jc_parser.specs.declared.expressions.Selector.TheVariants as selectors

@@ -1,4 +1,4 @@
-//! The lexemes of a text that are left.
+//! A cursor over the tokens that are left, with which every reader of this crate takes tokens.
 
 ghost use Rattle.std.specs.Prelude.{◌≡◌, All, IfOk, Bool, Ok, Err, true, nat_lt, if◌then◌else◌, length, Some, None};
 ghost use Rattle.std.specs.Str.{all_ascii_digits};
@@ -18,7 +18,7 @@ use jc_syntax::{Named, Token, TokenKind, slice_of, string_of};
 use std::alloc::{AllocError, Global};
 use std::marker::Model;
 
-/// The lexemes of a text that are left, from the first one on.
+/// A text, and its tokens that are left.
 #[derive(Drop)]
 pub(crate) struct Cursor<'a> {
     text: &'a str,
@@ -45,7 +45,7 @@ impl<'a> Cursor<'a> {
         Cursor { text, tokens }
     }
 
-    /// Where the next token stands, or the text's end.
+    /// The offset of the next token, or of the text's end.
     pub(crate) fn place(&self) -> usize
         ensures { result ≡ place self.now }
     {
@@ -66,7 +66,7 @@ impl<'a> Cursor<'a> {
         }
     }
 
-    /// How many tokens are left.
+    /// The number of tokens that are left.
     pub(crate) fn left(&self) -> usize
         ensures { result ≡ length self.now.left }
     {
@@ -90,7 +90,7 @@ impl<'a> Cursor<'a> {
         }
     }
 
-    /// The bytes of the next token; none where none is left.
+    /// The bytes of the next token; none where no token is left.
     fn spelling(&self) -> &'a str
         ensures name { begins (has_kind Name) self.now ≡ true
             → (p : Symbol → Bool) → begins p self.now ≡ p (word result.now) }
@@ -153,7 +153,7 @@ impl<'a> Cursor<'a> {
         is_selector(self.spelling())
     }
 
-    /// Goes over the next token, if one is left.
+    /// Passes over the next token, if one is left.
     pub(crate) fn advance(&mut self)
         ensures { (p : Symbol → Bool) → begins p self.old ≡ true → skip p self.old ≡ Ok (tt, self.new) }
     {
@@ -195,7 +195,7 @@ impl<'a> Cursor<'a> {
         Ok(())
     }
 
-    /// Takes a string, and gives what it spells.
+    /// Takes a string, and returns what it spells.
     pub(crate) fn string(&mut self, alloc: Global) -> Result<Text, ScenarioFault>
         ensures { MapsResult (λ t. (t, self.new)) result (take (has_kind Str) self.old) }
     {
@@ -210,7 +210,7 @@ impl<'a> Cursor<'a> {
         Ok(value)
     }
 
-    /// Takes a number, and gives its text.
+    /// Takes a number, and returns its bytes.
     pub(crate) fn number(&mut self, alloc: Global) -> Result<Text, ScenarioFault>
         ensures { MapsResult (λ t. (t, self.new)) result (take (has_kind Number) self.old) }
     {
@@ -246,7 +246,7 @@ impl<'a> Cursor<'a> {
         }
     }
 
-    /// Takes a name, and gives it with its place.
+    /// Takes a name, and returns it with its offset.
     pub(crate) fn name(&mut self, alloc: Global) -> Result<Named, ScenarioFault>
         ensures { MapsResult (λ n. (n, self.new)) result (named_at self.old) }
     {
@@ -263,14 +263,14 @@ impl<'a> Cursor<'a> {
     }
 }
 
-/// A text of its own with the same bytes.
+/// A copy of a text.
 fn text_of(alloc: Global, text: &str) -> Result<Text, AllocError>
     ensures { IfOk result (λ t. t ≡ text.now) }
 {
     Ok(Text::new(String::from_str(alloc, text)?))
 }
 
-/// Whether a name is one of the language's words.
+/// Whether a name is a reserved word.
 fn is_reserved(name: &str) -> bool
     ensures { result ≡ words.is_reserved name.now }
 {
@@ -325,7 +325,7 @@ fn is_numeral(text: &str) -> bool
     !text.is_empty() && all_digits(text.as_bytes())
 }
 
-/// The number that digits write, if it is below 2 to the 32.
+/// The value of digits, if it is below 2 to the 32.
 fn index_of(digits: &str) -> Option<u32>
     requires { language.is_numeral digits.now ≡ true }
     ensures { result

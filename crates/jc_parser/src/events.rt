@@ -1,4 +1,4 @@
-//! Events of the whole language: version 2 has one more, `take`.
+//! Readers of events. `scenarios` reads blocks with them, and sessions read lone events; version 2 alone has `take`.
 
 ghost use Rattle.std.specs.Prelude.{◌≡◌, ◌≢◌, ◌≤◌, IfOk, IfErr, All, length};
 ghost use Rattle.jc_syntax.specs.Lexemes.{IsTokenOf};
@@ -84,7 +84,7 @@ fn application(
     })
 }
 
-/// The event of a replica, after its dot, where each version has it.
+/// An event that each version has, of a replica, after its dot.
 #[tactic(auto, unfolding(crate::specs::EventReader::common_action_at))]
 fn common_action(
     alloc: Global,
@@ -170,7 +170,8 @@ fn event_of(
     requires { All (IsTokenOf text.now) tokens.now }
     ensures tree { IfOk result (λ e. IsEvent version e (lexemes text.now tokens.now)) }
     ensures fault { IfErr result (λ e. e ≢ ScenarioFault.Memory
-        → IsStopped (IsCallSpelled version) IsCallWellFormed (IsCallExcess version) (reading_of text.now tokens.now) e) }
+        → IsStopped (IsCallSpelled version) IsCallWellFormed (IsCallExcess version)
+        (reading_of text.now tokens.now) e) }
     ensures kind { IfErr result IsOfSentence }
 {
     let mut cursor = Cursor::new(text, tokens);
@@ -193,7 +194,7 @@ fn event_in(alloc: Global, version: Version, text: &str) -> Result<NamedEvent, S
 /// the first by place of `Unexpected`, `EndOfText` and `IndexTooLarge`, at one place that with the
 /// smaller number.
 pub fn parse_event(alloc: Global, version: Version, text: &str) -> Result<NamedEvent, ParseFault>
-    // What is read is the event that the text is, each name with its place.
+    // What is read is the event that the text is, each name with its offset.
     ensures tree { IfOk result (λ e. IsEventOf version text.now e) }
     // What is refused has this fault.
     ensures fault { IfErr result (λ e. e ≢ ParseFault.Memory → IsEventFault version text.now (from_sentence e)) }
@@ -204,7 +205,7 @@ pub fn parse_event(alloc: Global, version: Version, text: &str) -> Result<NamedE
     }
 }
 
-/// The event at the front of the tokens, and how many tokens are left behind it.
+/// The event that a prefix of the tokens is, and the number of tokens after it.
 fn event_before(
     alloc: Global,
     version: Version,
@@ -213,7 +214,8 @@ fn event_before(
 ) -> Result<(NamedEvent, usize), ScenarioFault>
     requires { All (IsTokenOf text.now) tokens.now }
     ensures tree { IfOk result (λ x. IsAhead version (lexemes text.now tokens.now) x.0 x.1) }
-    ensures fault { IfErr result (λ e. e ≢ ScenarioFault.Memory → HasNoEvent version (reading_of text.now tokens.now) e) }
+    ensures fault { IfErr result (λ e. e ≢ ScenarioFault.Memory
+        → HasNoEvent version (reading_of text.now tokens.now) e) }
     ensures kind { IfErr result IsOfSentence }
 {
     let mut cursor = Cursor::new(text, tokens);
@@ -221,8 +223,8 @@ fn event_before(
     Ok((event, cursor.left()))
 }
 
-/// Reads the event of a version that stands in the tokens of a text from the token of the number
-/// `from` on, and gives the number of the token behind it. Names of replicas are not looked up.
+/// Reads the event of a version whose first token has the number `from`, and returns the number of the
+/// token after it. Names of replicas are not looked up. It is offered to callers; the program has none.
 ///
 /// Refusals: the first by place of `Unexpected`, `EndOfText` and `IndexTooLarge`.
 pub fn event_at(
@@ -234,9 +236,9 @@ pub fn event_at(
 ) -> Result<(NamedEvent, usize), ParseFault>
     requires lexed { All (IsTokenOf text.now) tokens.now }
     requires within { from ≤ length tokens.now }
-    // What is read is the event that these tokens are, each name with its place.
+    // What is read is the event that these tokens are, each name with its offset.
     ensures tree { IfOk result (λ x. IsEventAt version text.now tokens.now from x.0 x.1) }
-    // Where it refuses no event stands there, and reading stops so.
+    // Where it refuses, no event begins there, and this is the fault.
     ensures fault { IfErr result (λ e. e ≢ ParseFault.Memory
         → IsEventFaultAt version text.now tokens.now from (from_sentence e)) }
 {

@@ -1,6 +1,7 @@
-//! Expressions of the whole language.
+//! Readers of expressions, which scripts and lone expressions are read with.
 
 ghost use Rattle.std.specs.Prelude.{◌≡◌, ◌≢◌, IfOk, IfErr, All, true, false};
+ghost use Rattle.jc_rules.specs.declared.limits.TheConstants.{MAX_SELECTORS};
 ghost use Rattle.jc_syntax.specs.Trees.{expr_of};
 ghost use Rattle.jc_syntax.specs.Lexemes.{IsTokenOf};
 ghost use Rattle.jc_parser.specs.ReaderState.{MapsResult, reading_of};
@@ -15,12 +16,13 @@ ghost use Rattle.jc_parser.specs.Views.{selector_view, chain_view};
 use crate::cursor::Cursor;
 use crate::fault::ScenarioFault;
 use crate::parse_fault::{ParseFault, of_sentence};
-use crate::parts::{MAX_SELECTORS, get, name};
+use crate::parts::{get, name};
 use jc_rules::Text;
+use jc_rules::limits::MAX_SELECTORS;
 use jc_syntax::{Expr, Token, TokenKind, lex};
 use std::alloc::{AllocError, Global};
 
-/// What leads on from an expression.
+/// A selector.
 #[derive(Drop)]
 enum Selector {
     Get(Text),
@@ -29,7 +31,7 @@ enum Selector {
     Values,
 }
 
-/// An expression, and whether a dot was taken after it.
+/// An expression, and whether the dot after it was taken.
 #[derive(Drop)]
 pub(crate) struct Chain {
     pub(crate) expression: Expr,
@@ -76,7 +78,7 @@ fn step(alloc: Global, cursor: &mut Cursor) -> Result<Selector, ScenarioFault>
     Ok(Selector::Values)
 }
 
-/// The expression, and one selector more.
+/// The expression, extended by one selector.
 fn extend(alloc: Global, from: Expr, selector: Selector) -> Result<Expr, AllocError>
     ensures { IfOk result (λ e. expr_of e ≡ extended (expr_of from) (selector_view selector)) }
 {
@@ -89,10 +91,10 @@ fn extend(alloc: Global, from: Expr, selector: Selector) -> Result<Expr, AllocEr
     })
 }
 
-/// The expression by as many selectors as follow.
-// A call drops the expression: `?` would do so variant by variant, and is dear to prove.
+/// The root, extended by the selectors that follow.
+// `drop` is a call: `?` would drop the expression variant by variant, which is dear to prove.
 pub(crate) fn follow(alloc: Global, cursor: &mut Cursor, root: Expr) -> Result<Chain, ScenarioFault>
-    ensures { MapsResult (λ c. (chain_view c, cursor.new)) result (chain_at 256 (expr_of root) cursor.old) }
+    ensures { MapsResult (λ c. (chain_view c, cursor.new)) result (chain_at MAX_SELECTORS (expr_of root) cursor.old) }
 {
     let mut expression = root;
     let mut left = MAX_SELECTORS;

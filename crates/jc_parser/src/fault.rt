@@ -1,4 +1,4 @@
-//! Why a text is no scenario.
+//! The faults that a scenario text can have: their refusals, their offsets, and how they are shown.
 
 ghost use Rattle.std.specs.Prelude.{◌≡◌, Some};
 ghost use Rattle.jc_parser.specs.declared.fault.ScenarioFault.TheVariants.{Memory};
@@ -10,7 +10,7 @@ use std::alloc::{AllocError, AllocFailed};
 use std::fmt;
 use thiserror::Error;
 
-/// Why a text is no scenario. Places are byte numbers from 0.
+/// Why a text is no scenario. Places are offsets in bytes, from 0.
 #[derive(Clone, Copy, Error)]
 pub enum ScenarioFault {
     /// A byte that begins no token, or a control byte inside a string.
@@ -21,7 +21,7 @@ pub enum ScenarioFault {
     BadEscape { place: usize },
     /// The escape of a surrogate that is no half of a pair; the place is its backslash.
     LoneSurrogate { place: usize },
-    /// What begins like a number and is no JSON number.
+    /// Bytes that begin like a number and are no JSON number.
     BadNumber { place: usize },
     /// A text or a token that is longer than its limit; for a token the place is its start.
     TextTooLong { place: usize },
@@ -29,17 +29,17 @@ pub enum ScenarioFault {
     Unexpected { place: usize },
     /// The text ends too early; the place is its length.
     EndOfText { place: usize },
-    /// A number of 4,294,967,296 or more where an index must stand.
+    /// A number of 4,294,967,296 or more where an index must be.
     IndexTooLarge { place: usize },
-    /// A reserved word where a name must stand.
+    /// A reserved word where a name must be.
     ReservedName { place: usize },
     /// A command past the limit of 65,536; the place is its first token.
     TooManyCommands { place: usize },
     /// A selector past the limit of 256; the place is the dot before it.
     TooLongExpression { place: usize },
-    /// The bytes are not UTF-8; the place is the length of their longest prefix that is.
+    /// The bytes are not UTF-8; the place is the length of the longest prefix that is UTF-8.
     NotUtf8 { place: usize },
-    /// A token that is not the header's, or the text's end in its place.
+    /// A token that is not the header's, or the text's end before the header's.
     NoHeader { place: usize },
     /// A name that an earlier replica has.
     SameName { place: usize },
@@ -138,7 +138,7 @@ impl fmt::Display for ScenarioFault {
     }
 }
 
-// As it is shown: a derived match of every variant is dear to prove.
+// The same text as `Display`: a derived match of every variant is dear to prove.
 impl fmt::Debug for ScenarioFault {
     ghost debug_output = { λ fault. Some (fault_text fault) };
 

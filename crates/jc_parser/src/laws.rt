@@ -1,5 +1,5 @@
-//! Laws of the definitions: a text is one scenario, expression, script or event, or has one fault, and not
-//! both. What is parsed is legal.
+//! Laws of the grammar, for the layers above: a text is one scenario, expression, script or event, or has one fault,
+//! and not both. What is parsed is legal.
 
 ghost use Rattle.jc_parser.specs.Laws.{OneExpression, ExpressionOrFault, ExpressionElseFault, OneExpressionFault, OneScript, ScriptOrFault, ScriptElseFault, OneScriptFault};
 ghost use Rattle.jc_parser.specs.ClosedScripts.{OneScriptAt, ScriptOrFaultAt, ScriptElseFaultAt, OneScriptFaultAt};
@@ -31,7 +31,7 @@ pub fn expression_else_fault()
     lexemes::tokens_else_fault();
 }
 
-/// A text has one fault at most as an expression: its number and its place are determined.
+/// A text has one fault at most as an expression: its number and its offset are determined.
 pub fn one_expression_fault()
     ensures { OneExpressionFault }
 {
@@ -62,7 +62,7 @@ pub fn script_else_fault()
     lexemes::tokens_else_fault();
 }
 
-/// A text has one fault at most as a script: its number and its place are determined.
+/// A text has one fault at most as a script: its number and its offset are determined.
 pub fn one_script_fault()
     ensures { OneScriptFault }
 {
@@ -71,7 +71,7 @@ pub fn one_script_fault()
     lexemes::tokens_or_fault();
 }
 
-/// A text is one event at most, with one place for each of its names.
+/// A text is one event at most, with one offset for each of its names.
 pub fn one_event()
     ensures { OneEvent }
 {
@@ -93,7 +93,7 @@ pub fn event_else_fault()
     lexemes::tokens_else_fault();
 }
 
-/// A text has one fault at most as an event: its number and its place are determined.
+/// A text has one fault at most as an event: its number and its offset are determined.
 pub fn one_event_fault()
     ensures { OneEventFault }
 {
@@ -102,63 +102,62 @@ pub fn one_event_fault()
     lexemes::tokens_or_fault();
 }
 
-/// From one token on stands one event at most, and one token comes behind it.
+/// At most one event begins at a token, and one token comes after it.
 pub fn one_event_at()
     ensures { OneEventAt }
 {}
 
-/// Where an event stands among the tokens, there is no fault.
+/// Where an event begins at a token, there is no fault.
 pub fn event_or_fault_at()
     ensures { EventOrFaultAt }
 {}
 
-/// From each token on stands an event, or there is a fault.
+/// At each token an event begins, or there is a fault.
 pub fn event_else_fault_at()
     ensures { EventElseFaultAt }
 {}
 
-/// Where no event stands among the tokens, there is one fault at most.
+/// Where no event begins at a token, there is one fault at most.
 pub fn one_event_fault_at()
     ensures { OneEventFaultAt }
 {}
 
-/// From one token on stands one script with a closing brace at most, and its brace has one number.
+/// At most one script with a closing brace begins at a token, and its brace has one number.
 pub fn one_script_at()
     ensures { OneScriptAt }
 {}
 
-/// Where a script with a closing brace stands among the tokens, there is no fault.
+/// Where a script with a closing brace begins at a token, there is no fault.
 pub fn script_or_fault_at()
     ensures { ScriptOrFaultAt }
 {}
 
-/// From each token on stands a script with a closing brace, or there is a fault.
+/// At each token a script with a closing brace begins, or there is a fault.
 pub fn script_else_fault_at()
     ensures { ScriptElseFaultAt }
 {}
 
-/// Where no script with a closing brace stands among the tokens, there is one fault at most.
+/// Where no script with a closing brace begins at a token, there is one fault at most.
 pub fn one_script_fault_at()
     ensures { OneScriptFaultAt }
 {}
 
-/// Tokens are one scenario of the whole language at most, with one place for each name in its events.
+/// Tokens are one scenario at most, with one offset for each name in its events.
 pub fn one_named_tree()
     ensures { OneNamedTree }
 {}
 
-/// Tokens that are a scenario of the whole language have no fault.
+/// Tokens that are a scenario have no fault.
 pub fn named_tree_or_fault()
     ensures { NamedTreeOrFault }
 {}
 
-/// Tokens that are no scenario of the whole language have a fault.
+/// Tokens that are no scenario have a fault.
 pub fn named_tree_else_fault()
     ensures { NamedTreeElseFault }
 {}
 
-/// Tokens have one fault at most as a scenario of the whole language: its number and its place are
-/// determined.
+/// Tokens have one fault at most as a scenario: its number and its offset are determined.
 pub fn one_tree_fault()
     ensures { OneTreeFault }
 {}
@@ -199,8 +198,8 @@ pub fn legal_events_at()
     lexemes::legal_strings();
 }
 
-/// A scenario of the whole language that the tokens of a UTF-8 text are keeps the limits, and its names,
-/// numbers and strings are such as tokens have.
+/// A scenario that the tokens of a UTF-8 text are keeps the limits, and its names, numbers and strings are such as
+/// tokens have.
 pub fn legal_scenarios()
     ensures { LegalScenarios }
 {

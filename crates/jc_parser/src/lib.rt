@@ -1,4 +1,4 @@
-//! Parses the texts of scenarios, with exact faults.
+//! Parses texts and tokens into expressions, scripts, events and scenarios, with exact faults. Names are not looked up.
 #![tactic(auto)]
 
 mod cursor;

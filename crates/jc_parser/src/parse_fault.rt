@@ -1,4 +1,4 @@
-//! Why a text is no sentence of the language.
+//! The faults that an expression, a script or an event can have, which are some of those of a scenario.
 
 ghost use Rattle.std.specs.Prelude.{◌≡◌, Some};
 ghost use Rattle.jc_parser.specs.Faults.{fault_refusal, fault_number, fault_offset, fault_text, from_sentence, IsOfSentence};
@@ -8,7 +8,7 @@ use jc_rules::Refusal;
 use std::fmt;
 use thiserror::Error;
 
-/// Why a text is no script, expression or event. Places are byte numbers from 0.
+/// Why a text is no script, expression or event. Places are offsets in bytes, from 0.
 #[derive(Clone, Copy, Error)]
 pub enum ParseFault {
     /// A byte that begins no token, or a control byte inside a string.
@@ -19,7 +19,7 @@ pub enum ParseFault {
     BadEscape { place: usize },
     /// The escape of a surrogate that is no half of a pair; the place is its backslash.
     LoneSurrogate { place: usize },
-    /// What begins like a number and is no JSON number.
+    /// Bytes that begin like a number and are no JSON number.
     BadNumber { place: usize },
     /// A text or a token that is longer than its limit; for a token the place is its start.
     TextTooLong { place: usize },
@@ -27,9 +27,9 @@ pub enum ParseFault {
     Unexpected { place: usize },
     /// The text ends too early; the place is its length.
     EndOfText { place: usize },
-    /// A number of 4,294,967,296 or more where an index must stand.
+    /// A number of 4,294,967,296 or more where an index must be.
     IndexTooLarge { place: usize },
-    /// A reserved word where a name must stand.
+    /// A reserved word where a name must be.
     ReservedName { place: usize },
     /// A command past the limit of 65,536; the place is its first token.
     TooManyCommands { place: usize },
@@ -40,7 +40,7 @@ pub enum ParseFault {
 }
 
 impl ParseFault {
-    /// The same fault, among all that a scenario can have.
+    /// The same fault, as a fault of a scenario.
     fn of_scenario(&self) -> ScenarioFault
         ensures { result ≡ from_sentence self.now }
     {
@@ -91,7 +91,7 @@ impl fmt::Display for ParseFault {
     }
 }
 
-// As it is shown: a derived match of every variant is dear to prove.
+// The same text as `Display`: a derived match of every variant is dear to prove.
 impl fmt::Debug for ParseFault {
     ghost debug_output = { λ fault. Some (fault_text (from_sentence fault)) };
 
@@ -100,7 +100,7 @@ impl fmt::Debug for ParseFault {
     }
 }
 
-/// A fault that a sentence can have, as such.
+/// A fault of a scenario, as the fault of a sentence that it is.
 pub(crate) fn of_sentence(fault: ScenarioFault) -> ParseFault
     requires { IsOfSentence fault }
     ensures { from_sentence result ≡ fault }

@@ -1,4 +1,4 @@
-//! The parts of a scenario that several sentences have, read from left to right.
+//! Readers of what expressions, scripts and scenarios share: keys, values, names and the header.
 
 ghost use Rattle.jc_parser.specs.ReaderState.{MapsResult};
 ghost use Rattle.jc_parser.specs.PartReaders.{get_at, read_value_at, read_name_at, version_at, front_at};
@@ -8,13 +8,6 @@ use crate::fault::ScenarioFault;
 use jc_rules::{Text, Value, Version};
 use jc_syntax::TokenKind;
 use std::alloc::Global;
-
-/// How many commands a script may have.
-pub(crate) const MAX_COMMANDS: usize = 65536;
-/// How many selectors an expression may have.
-pub(crate) const MAX_SELECTORS: usize = 256;
-/// How many events a block may have.
-pub(crate) const MAX_EVENTS: usize = 100000;
 
 /// The key of a selector `get`, from its word on.
 #[tactic(auto, unfolding(crate::specs::PartReaders::get_at))]

@@ -1,6 +1,7 @@
-//! Scenarios of the whole language, from their tokens.
+//! Scenarios as their texts have them, and their readers. `jc_scenario` numbers the replicas.
 
-ghost use Rattle.std.specs.Prelude.{◌≡◌, ◌≢◌, [], IfOk, IfErr, All, map};
+ghost use Rattle.std.specs.Prelude.{◌≡◌, ◌≢◌, ◌-◌, [], IfOk, IfErr, All, map};
+ghost use Rattle.jc_rules.specs.declared.limits.TheConstants.{MAX_EVENTS, MAX_REPLICAS};
 ghost use Rattle.jc_syntax.specs.Lexemes.{IsTokenOf};
 ghost use Rattle.jc_syntax.specs.Trees.{cmd_of};
 ghost use Rattle.jc_parser.specs.ReaderState.{MapsResult, reading_of};
@@ -12,14 +13,12 @@ ghost use Rattle.jc_parser.specs.ScenarioViews.{part_view, tree_view, names_of};
 use crate::cursor::Cursor;
 use crate::events::event;
 use crate::fault::ScenarioFault;
-use crate::parts::{MAX_EVENTS, front};
+use crate::parts::front;
 use crate::scripts::closed_script;
+use jc_rules::limits::{MAX_EVENTS, MAX_REPLICAS};
 use jc_rules::{Text, Version};
 use jc_syntax::{Cmd, NamedEvent, Token, TokenKind, copy_script};
 use std::alloc::{AllocError, Global};
-
-/// How many replicas a scenario may have.
-const MAX_REPLICAS: usize = 64;
 
 /// A replica of a text: its name and its script.
 #[derive(Drop)]
@@ -28,8 +27,8 @@ pub struct NamedReplica {
     pub script: Vec<Cmd>,
 }
 
-/// What the text of a scenario says: its version, its replicas in the order of the text, and its
-/// events with the names of replicas and where these stand.
+/// A scenario as its text has it: the version, the replicas in the order of the text, and the events
+/// with the names of replicas and their offsets.
 #[derive(Drop)]
 pub struct NamedScenario {
     pub version: Version,
@@ -41,7 +40,7 @@ pub struct NamedScenario {
 }
 
 impl NamedReplica {
-    /// The same replica once more.
+    /// A copy of the replica.
     pub fn copy(&self) -> Result<NamedReplica, AllocError>
         ensures { IfOk result (λ replica. part_view replica ≡ part_view self.now) }
     {
@@ -53,7 +52,7 @@ impl NamedReplica {
 }
 
 impl NamedScenario {
-    /// The same scenario once more.
+    /// A copy of the scenario.
     pub fn copy(&self) -> Result<NamedScenario, AllocError>
         ensures { IfOk result (λ scenario. tree_view scenario ≡ tree_view self.now) }
     {
@@ -152,8 +151,7 @@ fn replica(
     Ok(NamedReplica { name, script })
 }
 
-/// The fault of one replica more than there may be, after its word. Want of memory may come in its
-/// place.
+/// The fault of one replica more than there may be, after its word; or want of memory.
 fn crowd(alloc: Global, cursor: &mut Cursor, replicas: &[NamedReplica]) -> ScenarioFault
     ensures { result ≢ ScenarioFault.Memory → result ≡ too_many_replicas_at (names_of replicas.now) cursor.old }
 {
@@ -170,7 +168,7 @@ fn events(
     version: Version,
     cursor: &mut Cursor,
 ) -> Result<Vec<NamedEvent>, ScenarioFault>
-    ensures { MapsResult (λ es. (es.items, cursor.new)) result (events_at version 100000 cursor.old) }
+    ensures { MapsResult (λ es. (es.items, cursor.new)) result (events_at version MAX_EVENTS cursor.old) }
 {
     let mut events = Vec::new(alloc);
     let mut left = MAX_EVENTS;
@@ -199,7 +197,7 @@ fn block(
     cursor: &mut Cursor,
     word: &str,
 ) -> Result<Vec<NamedEvent>, ScenarioFault>
-    ensures { MapsResult (λ es. (es.items, cursor.new)) result (block_at word.now version 100000 cursor.old) }
+    ensures { MapsResult (λ es. (es.items, cursor.new)) result (block_at word.now version MAX_EVENTS cursor.old) }
 {
     cursor.word(word)?;
     cursor.mark(TokenKind::BraceL)?;
@@ -216,7 +214,7 @@ fn any_block(
     cursor: &mut Cursor,
     word: &str,
 ) -> Result<Vec<NamedEvent>, ScenarioFault>
-    ensures { MapsResult (λ es. (es.items, cursor.new)) result (any_block_at word.now version 100000 cursor.old) }
+    ensures { MapsResult (λ es. (es.items, cursor.new)) result (any_block_at word.now version MAX_EVENTS cursor.old) }
 {
     if cursor.begins_word(word) {
         block(alloc, version, cursor, word)
@@ -232,7 +230,7 @@ fn given(
     version: Version,
     cursor: &mut Cursor,
 ) -> Result<Vec<NamedEvent>, ScenarioFault>
-    ensures { MapsResult (λ es. (es.items, cursor.new)) result (given_at version 100000 cursor.old) }
+    ensures { MapsResult (λ es. (es.items, cursor.new)) result (given_at version MAX_EVENTS cursor.old) }
 {
     match version {
         Version::One => Ok(Vec::new(alloc)),
@@ -247,7 +245,8 @@ fn blocks(
     version: Version,
     cursor: &mut Cursor,
 ) -> Result<(Vec<NamedEvent>, Vec<NamedEvent>), ScenarioFault>
-    ensures { MapsResult (λ b. (tree version [] b.0.items b.1.items, cursor.new)) result (blocks_at version 100000 cursor.old) }
+    ensures { MapsResult (λ b. (tree version [] b.0.items b.1.items, cursor.new)) result
+        (blocks_at version MAX_EVENTS cursor.old) }
 {
     let given = given(alloc, version, cursor)?;
     let events = any_block(alloc, version, cursor, "schedule")?;
@@ -260,7 +259,8 @@ fn rest(
     version: Version,
     cursor: &mut Cursor,
 ) -> Result<NamedScenario, ScenarioFault>
-    ensures { MapsResult (λ t. (tree_view t, cursor.new)) result (rest_at version 100000 63 cursor.old) }
+    ensures { MapsResult (λ t. (tree_view t, cursor.new)) result
+        (rest_at version MAX_EVENTS (MAX_REPLICAS - 1) cursor.old) }
 {
     let mut replicas = Vec::new(alloc);
     let first = replica(alloc, cursor, &replicas)?;
@@ -306,7 +306,7 @@ pub fn scenario_of(
     tokens: &[Token],
 ) -> Result<NamedScenario, ScenarioFault>
     requires { All (IsTokenOf text.now) tokens.now }
-    // What is read is the scenario that the tokens are, each name in an event with its place.
+    // What is read is the scenario that the tokens are, each name in an event with its offset.
     ensures tree { IfOk result (λ t. IsNamedTree (reading_of text.now tokens.now) (tree_view t)) }
     // What is refused has this fault.
     ensures fault { IfErr result (λ e. e ≢ ScenarioFault.Memory → IsTreeFault (reading_of text.now tokens.now) e) }

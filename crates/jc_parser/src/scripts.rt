@@ -1,7 +1,8 @@
-//! Scripts of the whole language.
+//! Readers of commands and scripts, for lone scripts and for the replicas of a scenario.
 
 ghost use Rattle.std.specs.Prelude.{◌≡◌, ◌≢◌, ◌≤◌, ◌<◌, IfOk, IfErr, All, map, length};
 ghost use Rattle.jc_rules.specs.Syntax.{Expr, SetTo, InsertAfter};
+ghost use Rattle.jc_rules.specs.declared.limits.TheConstants.{MAX_COMMANDS};
 ghost use Rattle.jc_syntax.specs.Trees.{cmd_of, expr_of};
 ghost use Rattle.jc_syntax.specs.Lexemes.{IsTokenOf};
 ghost use Rattle.jc_parser.specs.ReaderState.{MapsResult, reading_of};
@@ -16,8 +17,9 @@ use crate::cursor::Cursor;
 use crate::expressions::{Chain, expression, follow, root};
 use crate::fault::ScenarioFault;
 use crate::parse_fault::{ParseFault, of_sentence};
-use crate::parts::{MAX_COMMANDS, name, value as plain_value};
+use crate::parts::{name, value as plain_value};
 use jc_rules::Value;
+use jc_rules::limits::MAX_COMMANDS;
 use jc_syntax::{Cmd, Token, TokenKind, lex};
 use std::alloc::Global;
 
@@ -63,7 +65,8 @@ fn assigned(alloc: Global, cursor: &mut Cursor) -> Result<Value, ScenarioFault>
 /// The value of a command `insertAfter`, from its word on.
 #[tactic(auto, unfolding(crate::specs::ScriptReader::insertion_at))]
 fn inserted(alloc: Global, cursor: &mut Cursor) -> Result<Value, ScenarioFault>
-    ensures { (place : Expr) → MapsResult (λ v. (InsertAfter place v, cursor.new)) result (insertion_at place cursor.old) }
+    ensures { (place : Expr)
+        → MapsResult (λ v. (InsertAfter place v, cursor.new)) result (insertion_at place cursor.old) }
 {
     cursor.word("insertAfter")?;
     cursor.mark(TokenKind::ParenL)?;
@@ -73,7 +76,7 @@ fn inserted(alloc: Global, cursor: &mut Cursor) -> Result<Value, ScenarioFault>
 }
 
 /// What follows the expression of a command.
-// A call drops the expression: each `?` would do so variant by variant, and is dear to prove.
+// `drop` is a call: each `?` would drop the expression variant by variant, which is dear to prove.
 #[tactic(auto, unfolding(crate::specs::ScriptReader::finish_at, crate::specs::ScriptReader::deletion_at))]
 fn finish(alloc: Global, cursor: &mut Cursor, chain: Chain) -> Result<Cmd, ScenarioFault>
     ensures { MapsResult (λ c. (cmd_of c, cursor.new)) result
@@ -141,7 +144,7 @@ fn crowd(cursor: &Cursor) -> ScenarioFault
 
 /// The commands of a script, up to what begins none.
 pub(crate) fn script(alloc: Global, cursor: &mut Cursor) -> Result<Vec<Cmd>, ScenarioFault>
-    ensures { MapsResult (λ s. (map cmd_of s.items, cursor.new)) result (commands_at 65536 cursor.old) }
+    ensures { MapsResult (λ s. (map cmd_of s.items, cursor.new)) result (commands_at MAX_COMMANDS cursor.old) }
 {
     let mut script = Vec::new(alloc);
     let mut left = MAX_COMMANDS;
@@ -209,7 +212,7 @@ pub fn parse_script(alloc: Global, text: &str) -> Result<Vec<Cmd>, ParseFault>
     }
 }
 
-/// A script and the closing brace behind it.
+/// A script and the closing brace after it.
 #[tactic(auto, unfolding(crate::specs::ScriptReader::closed_script_at, crate::specs::ScriptReader::script_at))]
 pub(crate) fn closed_script(alloc: Global, cursor: &mut Cursor) -> Result<Vec<Cmd>, ScenarioFault>
     ensures { MapsResult (λ s. (map cmd_of s.items, cursor.new)) result (closed_script_at cursor.old) }
@@ -219,7 +222,7 @@ pub(crate) fn closed_script(alloc: Global, cursor: &mut Cursor) -> Result<Vec<Cm
     Ok(commands)
 }
 
-/// The script at the front of the tokens, and how many tokens are left behind its closing brace.
+/// The script that a prefix of the tokens is, and the number of tokens after its closing brace.
 fn closed_before(
     alloc: Global,
     text: &str,
@@ -236,8 +239,8 @@ fn closed_before(
     Ok((script, cursor.left()))
 }
 
-/// Reads the script that stands in the tokens of a text from the token of the number `from` on, and
-/// gives the number of the token behind it, which is a closing brace.
+/// Reads the script whose first token has the number `from`, and returns the number of the token after
+/// it, which is a closing brace. It is offered to callers; the program has none.
 ///
 /// Refusals: the first by place of `Unexpected`, `EndOfText`, `IndexTooLarge`, `ReservedName`,
 /// `TooManyCommands` and `TooLongExpression`, at one place that with the smaller number.
@@ -251,7 +254,7 @@ pub fn script_at(
     requires within { from ≤ length tokens.now }
     // What is read is the script that these tokens are, up to its brace.
     ensures tree { IfOk result (λ x. IsScriptAt text.now tokens.now from (map cmd_of x.0.items) x.1) }
-    // Where it refuses no script with a brace stands there, and reading stops so.
+    // Where it refuses, no script with a brace begins there, and this is the fault.
     ensures fault { IfErr result (λ e. e ≢ ParseFault.Memory
         → IsScriptFaultAt text.now tokens.now from (from_sentence e)) }
 {

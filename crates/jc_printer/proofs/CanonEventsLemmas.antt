@@ -1,4 +1,4 @@
--- The canonical text of an event is written with symbols of the event.
+-- About `Canon`: the canonical text of an event is written with symbols of the event.
 use Rattle.std.proofs.Common.{◌≡◌, ℕ, ◌<◌, ◌^◌, zero, suc, List, [], ◌∷◌, ◌++◌, length, refl, sym, ap, subst, arith, append_assoc, decimal}
 use Rattle.std.specs.Prelude.{codes}
 use Rattle.std.specs.List.{All}
@@ -19,7 +19,7 @@ use Rattle.jc_parser.specs.Events.{IsCallSpelled, call_of, IsNameAt, IsEvent}
 use Rattle.jc_parser.specs.LegalSymbols.{IsName, IsNumeric, call_by, IsCounterBelow}
 use Rattle.jc_printer.proofs.NumeralsLemmas.{numeral_of, value_of_numeral, numeric_of}
 use Rattle.jc_printer.proofs.PrintedSymbolsLemmas.{IsPrinted, put, spaced}
-use Rattle.jc_printer.proofs.CanonTreesLemmas.{dotted, enclosed, keyword}
+use Rattle.jc_printer.proofs.CanonTreesLemmas.{dotted, enclosed, keyword, regroup}
 
 -- symbols of the call are written so
 pub record IsCallPrinted (v : Version) (names : List (List ℕ)) (e : Event) : Type 0 where
@@ -29,9 +29,6 @@ pub record IsCallPrinted (v : Version) (names : List (List ℕ)) (e : Event) : T
 
 named_legal : (names : List (List ℕ)) (p : ℕ) → All IsName names → p < length names → IsName (name_at names p)
 named_legal names p all within = rw (unwrap_or-slice_get names p []) (All-get_or IsName names p [] within all)
-
-regroup_three : (a b c d : List ℕ) → ((a ++ b) ++ c) ++ d ≡ a ++ (b ++ (c ++ d))
-regroup_three a b c d = simp append_assoc
 
 regroup_five : (a b c d e f : List ℕ) → ((((a ++ b) ++ c) ++ d) ++ e) ++ f ≡ a ++ (b ++ (c ++ (d ++ (e ++ f))))
 regroup_five a b c d e f = simp append_assoc
@@ -101,7 +98,7 @@ event_printed v names (Done p) all within small allowed = record {
 event_printed v names (Recv p q) all within small allowed = record {
   text = word (name_at names p) ∷ dot ∷ word (codes "recv") ∷ open_paren ∷ word (name_at names q) ∷ close_paren ∷ [];
   spelled = refl;
-  printed = subst (IsPrinted (word (name_at names p) ∷ dot ∷ word (codes "recv") ∷ open_paren ∷ word (name_at names q) ∷ close_paren ∷ [])) (sym (regroup_three (name_at names p) (codes ".recv(") (name_at names q) (codes ")"))) (recv_printed (name_at names p) (name_at names q) (named_legal names p all within.0) (named_legal names q all within.1));
+  printed = subst (IsPrinted (word (name_at names p) ∷ dot ∷ word (codes "recv") ∷ open_paren ∷ word (name_at names q) ∷ close_paren ∷ [])) (sym (regroup (name_at names p) (codes ".recv(") (name_at names q) (codes ")"))) (recv_printed (name_at names p) (name_at names q) (named_legal names p all within.0) (named_legal names q all within.1));
 }
 event_printed One names (Take p q i) all within small allowed = absurd allowed
 event_printed Two names (Take p q i) all within small allowed =

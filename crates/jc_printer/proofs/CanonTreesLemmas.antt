@@ -1,4 +1,4 @@
--- The canonical text of a tree is written with symbols of the tree.
+-- About `Canon`: the canonical text of a tree is written with symbols of the tree.
 use Rattle.std.proofs.Common.{◌≡◌, ℕ, ◌<◌, ◌≤◌, ◌^◌, List, [], ◌∷◌, ◌++◌, length, slice_index, true, false, inl, inr, refl, sym, ap, subst, arith, append_assoc, append-nil, decimal}
 use Rattle.std.specs.Prelude.{codes, flat_map}
 use Rattle.std.specs.Str.{bytes_eq}
@@ -14,11 +14,12 @@ use Rattle.jc_parser.specs.Symbols.{Symbol, word, number, string, dot, open_pare
 use Rattle.jc_printer.specs.Canon.{quoted, canon_expr, canon_value, canon_cmd, canon_script}
 use Rattle.jc_parser.specs.ReservedWords.{is_reserved, get_text, IsListText}
 use Rattle.jc_parser.specs.Expressions.{index_text, IsExpressionText, HasLegalParts}
-use Rattle.jc_parser.specs.Scripts.{IsValueSpelled, LeadsToPlace, IsCommandSpelled, IsCommandWellFormed}
+use Rattle.jc_parser.specs.Scripts.{IsValueSpelled, IsCommandSpelled, IsCommandWellFormed}
 use Rattle.jc_parser.specs.LegalSymbols.{IsName, IsLegalExpr, IsLegalValue, IsLegalCmd}
 use Rattle.jc_printer.proofs.NumeralsLemmas.{numeral_of, value_of_numeral, numeric_of}
 use Rattle.jc_printer.proofs.PrintedSymbolsLemmas.{IsPrinted, put, spaced}
 use Rattle.jc_printer.proofs.WrittenSymbolsLemmas.{IsPartedBy, IsWritten}
+use Rattle.jc_parser.proofs.ScriptReaderLemmas.{free_leads}
 
 -- symbols of a language are written with these bytes, before what follows
 pub record PrintsAs (L : List Symbol → Type 0) (own : List ℕ) (after : List Symbol) (rest : List ℕ) : Type 0 where
@@ -37,7 +38,7 @@ more_printed u v after xs ys same p = subst (λ (ss : List Symbol). IsPrinted ss
 pub alone : (ss : List Symbol) (own : List ℕ) → IsPrinted (ss ++ []) (own ++ []) → IsPrinted ss own
 alone ss own p = subst (IsPrinted ss) (append-nil own) (subst (λ (l : List Symbol). IsPrinted l (own ++ [])) (append-nil ss) p)
 
-regroup : (a b c d : List ℕ) → ((a ++ b) ++ c) ++ d ≡ a ++ (b ++ (c ++ d))
+pub regroup : (a b c d : List ℕ) → ((a ++ b) ++ c) ++ d ≡ a ++ (b ++ (c ++ d))
 regroup a b c d = simp append_assoc
 
 regroup_four : (a b c d e : List ℕ) → (((a ++ b) ++ c) ++ d) ++ e ≡ a ++ (b ++ (c ++ (d ++ e)))
@@ -49,7 +50,7 @@ pub keyword : (name : List ℕ) → is_name_start (slice_index name 0) ≡ true 
 keyword name start all short = (start, AllPass-from_list_all is_name_byte name all, short)
 
 -- what no number goes on with, no name goes on with
-number_parts : (rest : List ℕ) → IsPartedBy is_number_byte rest → IsPartedBy is_name_byte rest
+pub number_parts : (rest : List ℕ) → IsPartedBy is_number_byte rest → IsPartedBy is_name_byte rest
 number_parts rest h = (or_parts (is_name_byte (slice_index rest 0)) _ h).0
 
 -- a name that isn't reserved is none of the words that lead
@@ -160,14 +161,6 @@ value_printed values.EmptyList after rest legal parted p = record {
 
 -- ---- commands
 
-leads : (e : Expr) → HasLegalParts e → LeadsToPlace e
-leads TheDoc parts = tt
-leads (Variable name) parts = let f = free name parts in (f.no_let, f.no_yield)
-leads (GetKey e key) parts = leads e parts
-leads (Index e i) parts = leads e parts.1
-leads (KeysOf e) parts = leads e parts
-leads (ValuesOf e) parts = leads e parts
-
 -- a keyword and a blank
 pub command_printed : (c : Cmd) (after : List Symbol) (rest : List ℕ) → IsLegalCmd c → IsCommandWellFormed c → IsPartedBy is_number_byte rest → IsPrinted after rest → PrintsAs (IsCommandSpelled c) (canon_cmd c) after rest
 command_printed Yield after rest legal formed parted p = value_word (codes "yield") (IsCommandSpelled Yield) after rest refl (keyword (codes "yield") refl refl (omega arith)) parted p
@@ -187,7 +180,7 @@ command_printed (SetTo e v) after rest legal formed parted p =
     let left = expression_printed e (assign ∷ (right.text ++ after)) (codes " := " ++ (canon_value v ++ rest)) legal.0 formed.parts refl (spaced (assign ∷ (right.text ++ after)) 32 (58 ∷ 61 ∷ 32 ∷ (canon_value v ++ rest)) refl sign) in
     record {
       text = left.text ++ assign ∷ right.text;
-      spelled = (left.text, right.text, leads e formed.parts, left.spelled, right.spelled, refl);
+      spelled = (left.text, right.text, free_leads e formed.parts, left.spelled, right.spelled, refl);
       printed = more_printed left.text (assign ∷ right.text) after _ _ (regroup (canon_expr e) (codes " := ") (canon_value v) rest) left.printed;
     }
 command_printed (InsertAfter e v) after rest legal formed parted p =
@@ -200,7 +193,7 @@ command_printed (InsertAfter e v) after rest legal formed parted p =
     let same : tail ++ after ≡ dot ∷ word (codes "insertAfter") ∷ open_paren ∷ (inner.text ++ close_paren ∷ after) = ap (λ (l : List Symbol). dot ∷ word (codes "insertAfter") ∷ open_paren ∷ l) (append_assoc inner.text (close_paren ∷ []) after) in
     record {
       text = before.text ++ tail;
-      spelled = (before.text, inner.text, leads e formed.parts, before.spelled, inner.spelled, refl);
+      spelled = (before.text, inner.text, free_leads e formed.parts, before.spelled, inner.spelled, refl);
       printed = more_printed before.text tail after _ _ (regroup_four (canon_expr e) (codes ".insertAfter(") (canon_value v) (codes ")") rest) (rw same before.printed);
     }
 command_printed (DeleteAt e) after rest legal formed parted p =
@@ -208,7 +201,7 @@ command_printed (DeleteAt e) after rest legal formed parted p =
     let before = expression_printed e (dot ∷ word (codes "delete") ∷ after) (codes ".delete" ++ rest) legal formed.parts refl step in
     record {
       text = before.text ++ dot ∷ word (codes "delete") ∷ [];
-      spelled = (before.text, leads e formed.parts, before.spelled, refl);
+      spelled = (before.text, free_leads e formed.parts, before.spelled, refl);
       printed = more_printed before.text (dot ∷ word (codes "delete") ∷ []) after _ _ (append_assoc (canon_expr e) (codes ".delete") rest) before.printed;
     }
 

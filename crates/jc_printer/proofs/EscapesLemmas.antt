@@ -1,4 +1,4 @@
--- The escapes of a text: a run of plain bytes, an escape, and the rest.
+-- About `Canon`: the escapes of a text are a run of plain bytes, an escape, and the rest.
 use Rattle.std.proofs.Common.{◌≡◌, ℕ, suc, ◌<◌, true, false, List, [], ◌∷◌, ◌++◌, length, get_or, take, drop, refl, sym, subst, ap, ◌∙◌, arith, append_assoc, add-zero, get_or-drop, length-drop, append-nil, inl, inr}
 use Rattle.std.proofs.lemmas.Bool.{cases_Bool, cases_lt}
 use Rattle.std.proofs.lemmas.Bool.Decides.{nat_tests}

@@ -1,4 +1,4 @@
--- The bytes of JSON numbers.
+-- About `Numbers` of jc_syntax: the bytes of JSON numbers are those that number tokens may have.
 use Rattle.std.proofs.Common.{◌≡◌, ℕ, List, [], ◌∷◌, ◌++◌, slice_index, true, ◌⊎◌, inl, inr, refl, ◌∙◌, arith}
 use Rattle.std.specs.Char.{is_ascii_digit}
 use Rattle.std.specs.List.{list_all}

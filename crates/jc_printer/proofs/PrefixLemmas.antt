@@ -1,4 +1,4 @@
--- What is left of a text from a place on, and what stands there.
+-- What is left of a text from an offset on, for the lemmas about written symbols.
 use Rattle.std.proofs.Common.{◌≡◌, ℕ, ◌+◌, ◌<◌, List, ◌∷◌, ◌++◌, length, slice_index, drop, refl, sym, ap, subst, ◌∙◌, arith, length-drop, add-zero}
 use Rattle.std.proofs.lemmas.List.{get_or-drop, drop-drop, drop_at}
 

@@ -1,4 +1,4 @@
--- Symbols that are written one after the other, with blanks between them as they please, are the symbols of that text.
+-- Symbols that are written one after the other, with any blanks between them, are the symbols of that text.
 use Rattle.std.proofs.Common.{◌≡◌, ℕ, ◌+◌, ◌≤◌, List, [], ◌∷◌, ◌++◌, length, slice_index, drop, true, false, refl, sym, ap, ◌∙◌, arith, append-nil, length-drop, add-zero}
 use Rattle.std.specs.List.{prefix_len, list_all}
 use Rattle.std.proofs.lemmas.Bool.{and_from}

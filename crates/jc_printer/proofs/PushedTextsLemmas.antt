@@ -1,4 +1,4 @@
--- Texts that are pushed one after another.
+-- Texts that are pushed one after another, for the functions of `print`.
 use Rattle.std.proofs.Common.{◌≡◌, ℕ, ◌+◌, ◌<◌, List, [], ◌∷◌, ◌++◌, map, take, length, get_or, Result, Ok, Err, sym, ap, ◌∙◌, append_assoc}
 use Rattle.std.specs.Prelude.{if◌then◌else◌, is_ok, OnOk, flat_map}
 use Rattle.std.proofs.lemmas.List.{append-nil, map-append, take_more}

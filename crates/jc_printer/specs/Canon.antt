@@ -1,4 +1,4 @@
--- The canonical text of the language.
+-- The canonical text of the language, which `print` writes.
 use Rattle.std.specs.Prelude.{ℕ, ◌/◌, ◌%◌, ◌<◌, Bool, not, ◌&&◌, ◌==◌, nat_le, if◌then◌else◌, List, [], ◌∷◌, ◌++◌, codes, decimal, flat_map}
 use Rattle.std.specs.Char.{digit_char}
 use Rattle.jc_rules.specs.declared.operation.Event.{Event}
@@ -10,11 +10,11 @@ use Rattle.jc_rules.specs.Syntax.{Expr, TheDoc, Variable, GetKey, Index, KeysOf,
 
 -- ---- string literals
 
--- a byte that stands for itself in a string: neither a control byte nor a quote nor a backslash
+-- a plain byte, which spells itself: neither a control byte nor a quote nor a backslash
 abbrev pub is_plain_char : ℕ → Bool
 is_plain_char b = nat_le 32 b && (not (b == 34) && not (b == 92))
 
--- what stands in a string for a byte: the short escapes, `\u00` with two lower-case digits, or the byte
+-- how a string spells a byte: a short escape, `\u00` with two lower-case digits, or the byte
 abbrev pub escape_byte : ℕ → List ℕ
 escape_byte b =
     if b == 34 then codes "\\\""
@@ -78,7 +78,7 @@ canon_event names (Apply p i) =
     name_at names p ++ codes ".apply(" ++ decimal i.counter ++ codes ", " ++ name_at names i.replica ++ codes ")"
 canon_event names (Done p) = name_at names p ++ codes ".done"
 
--- the numbers in the event are below the number of names
+-- each replica of the event has a name
 abbrev pub AreNamed : Event → ℕ → Type 0
 AreNamed (Exec p) n = p < n
 AreNamed (Send p) n = p < n

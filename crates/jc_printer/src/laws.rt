@@ -1,4 +1,4 @@
-//! What canonical texts spell: each is a text of what it was printed from.
+//! Laws of canonical texts, for the layers above: each is read back as what it was printed from.
 
 ghost use Rattle.jc_printer.specs.Laws.{ExpressionsReadBack, ScriptsReadBack, EventsReadBack};
 

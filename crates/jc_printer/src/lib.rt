@@ -1,4 +1,4 @@
-//! The canonical text of scripts, expressions, values and events.
+//! The canonical text of scripts, expressions, values and events, which scenarios and sessions are written with.
 #![tactic(auto)]
 
 pub mod laws;

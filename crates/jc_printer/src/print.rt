@@ -1,4 +1,4 @@
-//! The canonical texts.
+//! The functions that write canonical texts. `quote` writes their string literals.
 
 ghost use Rattle.std.specs.Prelude.{◌≡◌, ◌++◌, ◌<◌, length, map, codes, decimal, OnOk, OnErr, IfOk, string_bytes};
 ghost use Rattle.jc_syntax.specs.Trees.{expr_of, cmd_of};
@@ -43,7 +43,7 @@ pub fn print_value(alloc: Global, value: &Value) -> Result<String, AllocError>
     Ok(out)
 }
 
-/// The canonical text of an event. Each replica that occurs in it has its name at its number.
+/// The canonical text of an event. `names` has the name of each of its replicas at the replica's number.
 pub fn print_event(alloc: Global, names: &[Text], event: &Event) -> Result<String, AllocError>
     requires { AreNamed event.now (length names.now) }
     ensures { IfOk result (λ text. string_bytes text ≡ canon_event names.now event.now) }
@@ -98,7 +98,7 @@ fn apply_event(alloc: Global, name: &str, counter: u64, author: &str) -> Result<
     format!(in alloc; "{name}.apply({counter}, {author})")
 }
 
-/// Writes the canonical text of a command behind what is there. A refusal leaves it as it was.
+/// Appends the canonical text of a command. A refusal leaves the text as it was.
 pub fn push_cmd(out: &mut String, cmd: &Cmd) -> Result<(), AllocError>
     ensures ok { OnOk result (string_bytes out.new ≡ string_bytes out.old ++ canon_cmd (cmd_of cmd.now)) }
     ensures err { OnErr result (string_bytes out.new ≡ string_bytes out.old) }
@@ -108,7 +108,7 @@ pub fn push_cmd(out: &mut String, cmd: &Cmd) -> Result<(), AllocError>
     out.push_str(text.as_str())
 }
 
-/// Writes the canonical text of a command behind what is there. A refusal may leave a part of it.
+/// Appends the canonical text of a command. After a refusal a part of it may be there.
 fn write_cmd(out: &mut String, cmd: &Cmd) -> Result<(), AllocError>
     ensures { OnOk result (string_bytes out.new ≡ string_bytes out.old ++ canon_cmd (cmd_of cmd.now)) }
 {

@@ -1,4 +1,4 @@
-//! String literals.
+//! Canonical string literals, which `print` writes for strings and keys.
 
 ghost use Rattle.std.specs.Prelude.{◌≡◌, ◌++◌, ◌<◌, ◌≤◌, length, slice_index, OnOk, string_bytes, false, [], ◌∷◌, take, drop, MatchOption, IfSome, IsUtf8};
 ghost use Rattle.std.specs.List.{prefix_len};
@@ -7,7 +7,7 @@ ghost use Rattle.jc_printer.specs.Canon.{is_plain_char, escape_byte, escape, quo
 
 use std::alloc::AllocError;
 
-/// Writes a string literal.
+/// Appends a string literal.
 pub fn push_quoted(out: &mut String, text: &str) -> Result<(), AllocError>
     ensures { OnOk result (string_bytes out.new ≡ string_bytes out.old ++ quoted text.now) }
 {
@@ -16,7 +16,7 @@ pub fn push_quoted(out: &mut String, text: &str) -> Result<(), AllocError>
     out.push_str("\"")
 }
 
-/// Writes what stands between the quotes: runs of plain bytes, and escapes.
+/// Appends what is between the quotes: runs of plain bytes, and escapes.
 fn push_content(out: &mut String, text: &str) -> Result<(), AllocError>
     ensures { OnOk result (string_bytes out.new ≡ string_bytes out.old ++ escape text.now) }
 {
@@ -45,7 +45,7 @@ fn plain_run(bytes: &[u8]) -> usize
     bytes.iter().take_while(|byte| is_plain(**byte)).count()
 }
 
-/// The plain bytes at the front, and the rest.
+/// The longest prefix of plain bytes, and the rest.
 fn split_plain(text: &str) -> (&str, &str)
     ensures front { result.0.now ≡ take (prefix_len is_plain_char text.now) text.now }
     ensures back { result.1.now ≡ drop (prefix_len is_plain_char text.now) text.now }
@@ -65,7 +65,7 @@ fn split_first(text: &str) -> Option<(u8, &str)>
     Some((text.as_bytes()[0], &text[1..]))
 }
 
-/// Writes what stands in a string for a byte that isn't plain.
+/// Appends the escape of a byte that isn't plain.
 fn push_escape(out: &mut String, byte: u8) -> Result<(), AllocError>
     requires { is_plain_char byte ≡ false }
     ensures { OnOk result (string_bytes out.new ≡ string_bytes out.old ++ escape_byte byte) }

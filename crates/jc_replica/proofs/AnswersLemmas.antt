@@ -1,4 +1,4 @@
--- Events, from what is held before to what is held after.
+-- Lemmas about Answers: an event, from what is held before it to what is held after it.
 use Rattle.std.proofs.Common.{◌≡◌, ℕ, ◌+◌, ◌-◌, List, [], ◌∷◌, ◌++◌, length, take, drop, true, false, refl, sym, ◌∙◌, ap, subst, arith}
 use Rattle.std.proofs.lemmas.List.{take_all}
 use Rattle.std.specs.List.{AllByRecursion}
@@ -28,7 +28,7 @@ all_last : {X : Type 0} (P : X → Type 0) (xs : List X) (x : X) → AllByRecurs
 all_last P [] x a = a.0
 all_last P (y ∷ ys) x a = all_last P ys x a.1
 
--- in each sound set an event leads from what the one stored state stands for to what the other one does
+-- in each sound set an event leads from the state that the old stored state represents to that of the new one
 abbrev pub Leading : ℕ → Event → List Op → State → State → Rows → Type 0
 Leading p event read K new rows = (set os : List Op) (A : State) → RepresentsState set A K → HasOwnFor event set p A → IsRead set os read → LeadsReplica set event p os A new rows
 

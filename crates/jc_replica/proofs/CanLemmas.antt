@@ -1,4 +1,4 @@
--- Which events can be made, of what the state stands for.
+-- Lemmas about Can: which events can be made in the state that is represented.
 use Rattle.std.proofs.Common.{◌≡◌, ◌≢◌, ◌⊎◌, inl, inr, ℕ, List, ◌∷◌, Option, Some, None, IfSome, IsSome, Bool, true, false, IsTrue, IsFalse, Result, Ok, Err, IfOk, refl, sym, ◌∙◌, ap, subst}
 use Rattle.std.specs.declared.alloc.AllocError.{AllocError}
 use Rattle.jc_rules.specs.declared.id.Id.{Id}

@@ -1,5 +1,5 @@
--- An operation's identifier among those applied.
-use Rattle.std.proofs.Common.{◌≡◌, ◌≢◌, ℕ, zero, suc, ◌<◌, ◌≤◌, max, List, [], ◌∷◌, Bool, true, false, ◌||◌, refl, sym, ◌∙◌, ap, arith}
+-- Lemmas about Invariant, where an identifier is added to those applied.
+use Rattle.std.proofs.Common.{◌≡◌, ◌≢◌, ◌<◌, ◌≤◌, max, List, [], ◌∷◌, Bool, true, false, ◌||◌, refl, sym, ◌∙◌, ap, arith}
 use Rattle.std.specs.declared.cmp.Ordering.{Ordering}
 use Rattle.std.specs.declared.cmp.Ordering.TheVariants.{Less, Equal, Greater}
 use Rattle.jc_rules.specs.declared.id.Id.{Id}
@@ -8,7 +8,7 @@ use Rattle.jc_rules.specs.VersionVectors.{covered, ids_up_to, greatest_of}
 use Rattle.jc_rules.specs.Ids.{has_id, with_id, union, greatest}
 use Rattle.jc_rules.specs.Order.{id_cmp}
 use Rattle.jc_rules.proofs.IdSetLemmas.{member_greatest, greatest-filled}
-use Rattle.jc_rules.proofs.CoveredLemmas.{counted_in, filled-with, greatest_here, greatest_of-filled, greatest_of-with, reached, same_filled}
+use Rattle.jc_rules.proofs.CoveredLemmas.{counted_in, filled-with, greatest_here, greatest_of-filled, greatest_of-with, same_filled}
 use Rattle.jc_rules.proofs.IdsLemmas.{has_id-union}
 use Rattle.jc_rules.proofs.OrderLemmas.{exact_ids}
 use Rattle.jc_apply.specs.Fits.{IsUnlinked}
@@ -34,14 +34,6 @@ greatest_with i (j ∷ s) = go (id_cmp i j) refl (greatest_with i s)
 
 pub greatest_after : (i : Id) (s : List Id) → s ≡ covered s → greatest (union (ids_up_to i.replica i.counter) s) ≡ max i.counter (greatest s)
 greatest_after i s e = ap greatest (filled_more i s e) ∙ greatest-filled (with_id i s) ∙ greatest_with i s
-
--- the greatest one of a replica
-pub at_most : (p : ℕ) (s : List Id) → greatest_of p s ≤ greatest s
-at_most p s = go (greatest_of p s) refl
-  where
-    go : (n : ℕ) → greatest_of p s ≡ n → greatest_of p s ≤ greatest s
-    go zero e = omega (arith, e)
-    go (suc n) e = member_greatest (record { counter = greatest_of p s; replica = p }) s (reached p s (omega (arith, e)))
 
 pub is_greatest : (i : Id) (s : List Id) → s ≡ covered s → greatest_of i.replica s < i.counter → IsGreatest i (greatest_of i.replica s) (union (ids_up_to i.replica i.counter) s)
 is_greatest i s e l =

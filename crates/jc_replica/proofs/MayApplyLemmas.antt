@@ -1,4 +1,4 @@
--- Applying a received operation, from what is held before to what is held after.
+-- Lemmas about MayApply: a received operation is applied, from what is held before to what is held after.
 use Rattle.std.proofs.Common.{◌≡◌, ◌≢◌, ℕ, ◌<◌, ◌≤◌, List, [], ◌∷◌, ◌++◌, length, map, Option, Some, None, IfSome, Bool, true, false, ◌↔◌, ◌⊎◌, inl, inr, Bor, option_copied, refl, sym, ◌∙◌, ap, subst, arith}
 use Rattle.std.proofs.lemmas.Bool.{cases_lt}
 use Rattle.std.specs.List.{AllByRecursion}
@@ -49,7 +49,7 @@ use Rattle.jc_replica.proofs.RefinesLemmas.{left_seen}
 use Rattle.jc_replica.proofs.ReceivedLemmas.{found_in}
 use Rattle.jc_rules.proofs.BoolLemmas.{or_right}
 
--- what isn't among the kept operations isn't among those that they stand for
+-- what isn't among stored operations isn't among those that they represent
 pub kept_absent : (i : Id) (os : List Op) → op_of i (map stored_op os) ≡ None → op_of i os ≡ None
 kept_absent i [] h = refl
 kept_absent i (e ∷ os) h = go (same_id i e.id) refl (kept_absent i os)
@@ -58,7 +58,7 @@ kept_absent i (e ∷ os) h = go (same_id i e.id) refl (kept_absent i os)
     go true p ih = let no : Some (stored_op e) ≡ None = rw p at h in cc
     go false p ih = rw p (ih (rw p at h))
 
--- the received operation that a kept one stands for, and what is asked of it
+-- the received operation that a stored one represents, and when it may be applied
 pub record StoodFor (A K : State) (i : Id) (k : Op) : Type 0 where
   pub operation : Op
   pub found : op_of i A.recv ≡ Some operation
@@ -226,7 +226,7 @@ module _ {script : List Cmd} {t : Tree} {rs : List Record} {h : Held} (kept : Is
   taken_leads p d u v w ue de we =
       subst (λ (x : Held × Rows). Leading p (E.Apply p i) [] (state_of script h t.now) (state_of script x.0 d) x.1) (λ n. (sym now_held n, sym we n)) (takes_event p script h t.now d i k u v takes ue de)
 
--- a cause that is handed up
+-- the cause of a premise
 pub some_each : (x : Option Cause) (P Q : Cause → Type 0) → ((why : Cause) → P why → Q why) → IfSome x P → IfSome x Q
 some_each None P Q f h = tt
 some_each (Some why) P Q f h = f why h

@@ -1,4 +1,4 @@
--- A command that makes an operation, from what is held before to what is held after.
+-- Lemmas about NextCommand: a command makes an operation, from what is held before to what is held after.
 use Rattle.std.proofs.Common.{◌≡◌, ◌≢◌, ℕ, zero, suc, ◌+◌, ◌-◌, ◌<◌, ◌≤◌, List, [], ◌∷◌, ◌++◌, length, take, drop, refl, sym, ◌∙◌, ap, subst, arith, length-append}
 use Rattle.jc_rules.specs.declared.id.Id.{Id}
 use Rattle.jc_rules.specs.declared.operation.Event.TheVariants as E
@@ -25,12 +25,13 @@ use Rattle.jc_replica.specs.NextCommand.{MakesOp}
 use Rattle.jc_replica.specs.ReplicaHistory.{Past, no_rows}
 use Rattle.jc_replica.specs.ReadyToStep.{IsReadyToStep}
 use Rattle.jc_replica.specs.Undo.{Held, held_of, undone_once, state_of, past_of}
-use Rattle.jc_replica.proofs.InvariantAddLemmas.{not_there, counters_after, greatest_after, at_most, is_greatest, still_linked}
+use Rattle.jc_replica.proofs.InvariantAddLemmas.{not_there, counters_after, greatest_after, is_greatest, still_linked}
 use Rattle.jc_replica.proofs.AnswersLemmas.{Leading, ready_now, occurs}
 use Rattle.jc_replica.proofs.NextCommandSeenLemmas.{leads_made}
 use Rattle.jc_replica.proofs.QueueLemmas.{with_op-last, up_to-pushed, in_order-pushed, front}
 use Rattle.jc_replica.proofs.ScriptLemmas.{drop-more, one_less, one_more_fits}
 use Rattle.jc_replica.proofs.UndoStepsLemmas.{Stepped, stepped}
+use Rattle.jc_rules.proofs.IdSetLemmas.{greatest_of_below}
 
 -- with the operation
 abbrev pub made_held : Held → Op → Held
@@ -38,7 +39,7 @@ made_held h o = held_of (h.done + 1) h.acted h.vars (union (ids_up_to o.id.repli
 
 module _ (script : List Cmd) (h : Held) (c : Context) (o : Op) (ready : IsReadyToStep (state_of script h c)) (new : o.id.counter ≡ greatest h.ops + 1) where
   pub above : greatest_of o.id.replica h.ops < o.id.counter
-  above = omega (arith, new, at_most o.id.replica h.ops)
+  above = omega (arith, new, greatest_of_below o.id.replica h.ops)
 
   pub made_back : undone_once (C.Made o.id (greatest_of o.id.replica h.ops)) (made_held h o) ≡ h
   made_back =

@@ -1,4 +1,4 @@
--- Commands that make operations.
+-- Lemmas about NextCommand: commands that make operations, in the state that is represented.
 use Rattle.std.proofs.Common.{◌≡◌, ◌≢◌, ℕ, ◌+◌, List, ◌∷◌, Some, refl, ◌∙◌, ap, subst}
 use Rattle.jc_rules.specs.declared.id.Id.{Id}
 use Rattle.jc_rules.specs.declared.operation.Cursor.{Cursor}
@@ -20,9 +20,7 @@ use Rattle.jc_rules.specs.Table.{Follows, IsMake}
 use Rattle.jc_rules.specs.Trace.{Rows, at_depth}
 use Rattle.jc_rules.proofs.RepresentationLemmas.{greatest_stands}
 use Rattle.jc_rules.proofs.DerivesLemmas.{one_premise, two_premises}
-use Rattle.jc_cursor.specs.declared.bound.Bound.{Bound as BoundInMemory}
 use Rattle.jc_cursor.specs.declared.bound.Bound.TheVariants as B
-use Rattle.jc_cursor.specs.Bounds.{bound_of}
 use Rattle.jc_cursor.specs.Evaluates.{Evaluates, IsEvalRefused}
 use Rattle.jc_vectors.specs.OperationIds.{with_deps}
 use Rattle.jc_vectors.specs.StoredStates.{new_op, after_making, after_making_stored, stored_state, RepresentsState, HasOwn}
@@ -120,11 +118,6 @@ evaluated_in {c} {d} {vs} {ws} {e} {f} {b} {t} {u} ce ve ee h = subst (λ (x : C
 
 pub refused_in : {c d : Context} {vs ws : List (List ℕ × Bound)} {e f : Expr} {why : Cause} → c ≡ d → vs ≡ ws → e ≡ f → IsEvalRefused c vs e why → IsEvalRefused d ws f why
 refused_in {c} {d} {vs} {ws} {e} {f} {why} ce ve ee h = subst (λ (x : Context). IsEvalRefused x ws f why) ce (subst (λ (y : List (List ℕ × Bound)). IsEvalRefused c y f why) ve (subst (λ (z : Expr). IsEvalRefused c vs z why) ee h))
-
-pub no_cursor : (b : BoundInMemory) → ((c : Cursor) → b ≡ B.Cursor c → ⊥) → IsCursor (bound_of b) → ⊥
-no_cursor (B.Cursor c) f h = f c refl
-no_cursor (B.Keys ks) f h = h
-no_cursor (B.Values vs) f h = h
 
 -- the operation that the next command makes
 pub makes : (K : State) (p q : ℕ) (next : MakesNext K.left) (cursor : Cursor) (mutation : Mutation) (most : ℕ) (deps : List Id) (r : Rule) (t t1 t2 t3 t4 t5 : Rows) → t1 ≡ opened t R.Exec → t2 ≡ opened t1 r → r ≡ rule_by next.command → Evaluates K.tree K.vars (expr_by next.command) (ACursor cursor) t2 t3 → t4 ≡ opened t3 R.MakeOp → t5 ≡ opened t4 R.ApplyLocal → most ≡ greatest K.ops → deps ≡ K.ops → mutation ≡ mutation_by next.command → q ≡ p → MakesOp K p (record { id = record { counter = most + 1; replica = q }; deps = deps; cursor = cursor; mutation = mutation }) t t5

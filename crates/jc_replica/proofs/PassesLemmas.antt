@@ -1,4 +1,4 @@
--- What passes all conditions of its rules isn't refused.
+-- Lemmas about the refusals of the rules: a question that passes all conditions isn't refused. CanLemmas cites them.
 use Rattle.std.proofs.Common.{◌≡◌, ◌≢◌, ℕ, List, [], ◌∷◌, Option, Some, None, Bool, true, false, sym, ◌∙◌, ap, subst}
 use Rattle.jc_rules.specs.declared.operation.Cursor.{Cursor}
 use Rattle.jc_rules.specs.declared.operation.Event.{Event}
@@ -9,11 +9,10 @@ use Rattle.jc_rules.specs.declared.operation.Op.{Op}
 use Rattle.jc_rules.specs.Ids.{has_id, AreIn}
 use Rattle.jc_rules.specs.Syntax.{Expr, Cmd, LetIn, SetTo, InsertAfter, DeleteAt, Yield}
 use Rattle.jc_rules.specs.State.{State, Bound, ACursor}
-use Rattle.jc_rules.specs.Derivation.{Question, Occur, Run, Evaluate, Make, ApplyOp, Operate, Answer, ToBound, asked, answered, conclusion}
+use Rattle.jc_rules.specs.Derivation.{Question, Occur, Run, Evaluate, Make, ApplyOp, Operate, Answer, ToBound, asked, answered}
 use Rattle.jc_rules.specs.Table.{op_of}
 use Rattle.jc_rules.specs.Refused.{Cause, Refused, IsAnswered, IsCursor, IsYieldEvent, WantsCursor, first_expr, made_by, no_command, at_yield, in_command, no_yield, not_at_yield, not_acted, not_received, not_offered, already_applied, deps_missing, in_received, in_first, not_a_cursor, in_making, in_made, in_applied}
-use Rattle.jc_rules.proofs.DerivationLemmas.{same_derivation}
-use Rattle.jc_rules.proofs.RefusedLemmas.{refused_has_none}
+use Rattle.jc_rules.proofs.RefusedLemmas.{refused_has_none, one_answer}
 use Rattle.jc_vectors.specs.StoredStates.{new_op}
 
 -- refused for no cause
@@ -44,11 +43,6 @@ IsOpen _ = ⊥
 
 pub answered_free : (q : Question) (a : Answer) → IsAnswered q a → IsFree q
 answered_free q a s why r = refused_has_none q why r s.derivation s.holds (ap asked s.concludes)
-
-one_answer : (q : Question) (a b : Answer) → IsAnswered q a → IsAnswered q b → a ≡ b
-one_answer q a b s t =
-    let same : s.derivation ≡ t.derivation = same_derivation s.derivation t.derivation s.holds t.holds (ap asked s.concludes ∙ sym (ap asked t.concludes)) in
-    ap answered (sym s.concludes ∙ ap conclusion same ∙ t.concludes)
 
 yield_left : (A : State) (event : Event) (os : List Op) → IsYieldEvent event → IsOpen (Occur A event os) → (rest : List Cmd) × (A.left ≡ Yield ∷ rest)
 yield_left A (E.Exec p) os y h = absurd y

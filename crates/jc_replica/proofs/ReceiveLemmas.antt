@@ -1,4 +1,4 @@
--- Receiving operations, from what is held before to what is held after.
+-- Lemmas about Received: operations are received, from what is held before to what is held after.
 use Rattle.std.proofs.Common.{◌≡◌, ℕ, List, [], ◌∷◌, ◌++◌, length, map, Option, Some, None, IfSome, unwrap_or, option_copied, Bor, true, refl, sym, ◌∙◌, ap, subst}
 use Rattle.jc_rules.specs.declared.id.Id.{Id}
 use Rattle.jc_rules.specs.declared.operation.Event.TheVariants as E
@@ -27,16 +27,17 @@ use Rattle.jc_replica.specs.Refines.{IsRead, LeadsReplica}
 use Rattle.jc_replica.specs.Undo.{Held, held_of, undone_once, past_of}
 use Rattle.jc_replica.proofs.AnswersLemmas.{ready_now}
 use Rattle.jc_replica.proofs.RefinesLemmas.{left_seen}
-use Rattle.jc_replica.proofs.UndoStepsLemmas.{Stepped, stepped, no_later}
+use Rattle.jc_replica.proofs.UndoStepsLemmas.{Stepped, stepped}
 use Rattle.jc_replica.proofs.MayApplyLemmas.{kept_absent}
 use Rattle.jc_replica.proofs.ReceivedLemmas.{found_in}
+use Rattle.jc_tree.proofs.HistoryLemmas.{still}
 
 -- operations of the set, as they are kept
 kept_of : (set os : List Op) → AreOf set os → AreKeptOf set (map stored_op os)
 kept_of set [] h = tt
 kept_of set (o ∷ os) h = ((o, h.0, refl), kept_of set os h.1)
 
--- what is kept with what was received stands for what received it
+-- the stored state with what was received represents the state that received it
 received_stands : (set : List Op) (A K : State) → RepresentsState set A K → (os read new : List Op) → IsRead set os read → IsUnited K.recv read new → RepresentsState set (record A { acted = true; recv = both A.recv os }) (record K { acted = true; recv = new })
 received_stands set A K stands os read new of united =
     let B : State = record A { acted = true; recv = both A.recv os } in
@@ -61,7 +62,7 @@ leads_received set p q A K stands os read new rest rows of l united re =
       fresh = tt;
     }
 
--- of what is offered one operation is received, in each sound set the one that it stands for
+-- of what is offered one operation is received, in each sound set the one that it represents
 found_one : (set os read : List Op) (i : Id) (k : Op) → IsRead set os read → op_of i read ≡ Some k → (o : Op) × (op_of i os ≡ Some o) × IsRead set (o ∷ []) (k ∷ [])
 found_one set os read i k of found =
     let x = kept_found i os k (ap (op_of i) (sym of.is) ∙ found) in
@@ -129,7 +130,7 @@ has_received {script} {t} {rs} {h} number p v read new ss united s =
 pub received_step : {script : List Cmd} {t : Tree} {rs : List Record} {h : Held} → IsKeptReplica script t rs h → (new : List Op) (ss : List Record) (r : Record) → ss ≡ rs ++ r ∷ [] → r.mark.changes ≡ length t.earlier → undone_once r.change (received_held h new) ≡ h → CanBack r.change (received_held h new) → AreInOrder new → AreHanded new → Stepped script t t rs ss h (received_held h new)
 received_step {script} {t} {rs} {h} kept new ss r se me be cb order handed =
     let a = ready_now kept in
-    stepped kept t ss r (received_held h new) (no_later t) se me be cb
+    stepped kept t ss r (received_held h new) (still t) se me be cb
     (record {
       chained = a.chained;
       linked = a.linked;

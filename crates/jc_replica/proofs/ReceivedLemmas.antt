@@ -1,4 +1,4 @@
--- How far nothing of a sender's operations is missing.
+-- Lemmas about Received: up to which counter a sender's operations are complete.
 use Rattle.std.proofs.Common.{◌≡◌, ℕ, zero, suc, ◌-◌, length-drop, ◌≤◌, ◌<◌, List, [], ◌∷◌, ◌++◌, length, take, drop, remove, slice_get, filter, Some, None, Result, Ok, Err, Bool, true, false, not, ◌||◌, eqb, leb, eqb-true, eq-eqb, leb-true, le-leb, max, ◌⊎◌, inl, inr, refl, sym, ◌∙◌, ap, subst, arith}
 use Rattle.std.proofs.Math.Nat.{eq-or-lt_of_le}
 use Rattle.std.proofs.lemmas.Bool.{cases_lt}
@@ -136,7 +136,7 @@ united set q last n os ps order sound kept of own low whole =
 pub none_whole : IsKeptList [] []
 none_whole = record { order = tt; filled = refl; missing = λ q. none }
 
--- greatest counters
+-- version vectors
 
 filled_again : (s : List Id) → covered (covered s) ≡ covered s
 filled_again s = same_filled (covered s) s (λ p. greatest_of-filled p s)

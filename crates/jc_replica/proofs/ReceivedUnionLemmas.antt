@@ -1,4 +1,4 @@
--- Lists of operations: one more, and two united.
+-- Lemmas about Received: lists of operations with one more, and the union of two.
 use Rattle.std.proofs.Common.{◌≡◌, ℕ, zero, suc, ◌+◌, ◌≤◌, ◌<◌, List, [], ◌∷◌, ◌++◌, length, get_or, take, drop, leb, leb-true, le-leb, insert, filter, cond, map, Some, None, Bool, true, false, not, Result, Ok, Err, IsErr, refl, sym, ◌∙◌, ap, subst, arith}
 use Rattle.std.specs.List.{AllByRecursion, AllWithin}
 use Rattle.std.specs.Result.{is_err}
@@ -18,12 +18,12 @@ use Rattle.jc_rules.specs.Ids.{has_id, with_id}
 use Rattle.jc_rules.specs.Table.{op_of, with_op, both}
 use Rattle.jc_rules.proofs.OrderLemmas.{ids_total, exact_ids}
 use Rattle.jc_rules.proofs.RisingLemmas as rising
-use Rattle.jc_rules.proofs.IdsLemmas.{has_id-with, with-rises, same_id-true, same_id-self}
+use Rattle.jc_rules.proofs.IdsLemmas.{has_id-with, with-rises, same_id-true, same_id-self, all_later}
 use Rattle.jc_rules.proofs.CoveredLemmas.{left_in}
 use Rattle.jc_replica.specs.Operations.{identifiers, AreInOrder}
 use Rattle.jc_replica.specs.Received.{is_new, IsOpAt, OpBelongsAt, IsOpPlace}
 use Rattle.jc_replica.specs.Undo.{without_ops}
-use Rattle.jc_rules.proofs.BoolLemmas.{or_right}
+use Rattle.jc_rules.proofs.BoolLemmas.{or_right, untrue}
 
 -- the identifiers of a list with one more
 pub identifiers-with : (p : Op) (os : List Op) → identifiers (with_op p os) ≡ with_id p.id (identifiers os)
@@ -69,10 +69,6 @@ below_others : (i : Id) (is : List Id) → AllByRecursion (λ j. id_cmp i j ≡ 
 below_others i [] h = refl
 below_others i (j ∷ is) h = rw (h.0) (below_others i is h.1)
 
-after_less : (i j : Id) (is : List Id) → id_cmp i j ≡ Less → AllByRecursion (λ k. id_cmp j k ≡ Less) is → AllByRecursion (λ k. id_cmp i k ≡ Less) is
-after_less i j [] e h = tt
-after_less i j (k ∷ is) e h = (ids_total.trans i j k e h.0, after_less i j is e h.1)
-
 -- one that is there already changes nothing
 pub with-there : (p : Op) (os : List Op) → AreInOrder os → has_id p.id (identifiers os) ≡ true → with_op p os ≡ os
 with-there p [] h e = absurd (let f : ⊥ = cc in f)
@@ -80,7 +76,7 @@ with-there p (o ∷ os) h e = go (id_cmp p.id o.id) refl (with-there p os h.1)
   where
     go : (c : Ordering) → id_cmp p.id o.id ≡ c → (has_id p.id (identifiers os) ≡ true → with_op p os ≡ os) → with_op p (o ∷ os) ≡ o ∷ os
     go Less f ih =
-        let none = below_others p.id (identifiers os) (after_less p.id o.id (identifiers os) f h.0) in
+        let none = below_others p.id (identifiers os) (all_later p.id o.id (identifiers os) f h.0) in
         let no : false ≡ true = sym (rw f none) ∙ e in
         absurd (let z : ⊥ = cc in z)
     go Equal f ih = rw f refl
@@ -194,7 +190,7 @@ found_with i p (q ∷ os) o h e = go (id_cmp p.id q.id) refl (same_id i p.id) re
     go : (c : Ordering) → id_cmp p.id q.id ≡ c → (b : Bool) → same_id i p.id ≡ b → (d : Bool) → same_id i q.id ≡ d → (op_of i os ≡ Some o → op_of i (with_op p os) ≡ Some o) → op_of i (with_op p (q ∷ os)) ≡ Some o
     go Less f true g d s ih =
         let same : i ≡ p.id = same_id-true i p.id g in
-        let none = below_others p.id (identifiers (q ∷ os)) (f, after_less p.id q.id (identifiers os) f h.0) in
+        let none = below_others p.id (identifiers (q ∷ os)) (f, all_later p.id q.id (identifiers os) f h.0) in
         let there = there_found i (q ∷ os) o e in
         let no : false ≡ true = sym none ∙ sym (ap (λ (j : Id). has_id j (identifiers (q ∷ os))) same) ∙ there in
         absurd (let z : ⊥ = cc in z)
@@ -234,7 +230,7 @@ pub both-last : (os ps : List Op) (p : Op) → AllByRecursion (λ q. id_cmp q.id
 both-last os [] p h = refl
 both-last os (q ∷ ps) p h = ap (with_op q) (both-last os ps p h.1) ∙ with-swap p q (both os ps) h.0
 
--- where it isn't there, it isn't when only others came in
+-- where it isn't in the list, it isn't in the list with others
 pub absent_both : (i : Id) (os ps : List Op) → has_id i (identifiers os) ≡ false → AllByRecursion (λ q. same_id i q.id ≡ false) ps → has_id i (identifiers (both os ps)) ≡ false
 absent_both i os [] e h = e
 absent_both i os (q ∷ ps) e h =
@@ -264,10 +260,6 @@ pub record IsTurn (old before : List Op) (o : Op) : Type 0 where
   pub later : AllByRecursion (λ q. id_cmp q.id o.id ≡ Less) before
   pub absent : has_id o.id (identifiers (both old before)) ≡ false
 
-not_new : (b : Bool) → not b ≡ true → b ≡ false
-not_new true e = cc
-not_new false e = refl
-
 pub turn : (old fresh before : List Op) (o : Op) → AreInOrder fresh → AllByRecursion (λ p. is_new old p ≡ true) fresh → map (λ x. x) before ≡ take (length before) fresh → (length before < length fresh) × (o ≡ get_or fresh (length before) o) → IsTurn old before o
 turn old fresh before o order new so_far at =
     let n = length before in
@@ -276,7 +268,7 @@ turn old fresh before o order new so_far at =
     let less = subst (λ (x : Op). AllByRecursion (λ q. id_cmp q.id x.id ≡ Less) (take n fresh)) (sym at.1) (before_place fresh n o order l) in
     let later = subst (λ (ps : List Op). AllByRecursion (λ q. id_cmp q.id o.id ≡ Less) ps) front less in
     let here : is_new old o ≡ true = subst (λ (x : Op). is_new old x ≡ true) (sym at.1) (rising.all_at (λ p. is_new old p ≡ true) fresh new n o l) in
-    record { later = later; absent = absent_both o.id old before (not_new (has_id o.id (identifiers old)) here) (later_others o.id before later) }
+    record { later = later; absent = absent_both o.id old before (untrue (has_id o.id (identifiers old)) here) (later_others o.id before later) }
 
 -- where one that isn't there belongs
 pub belongs : (i : Id) (os : List Op) (r : Result ℕ ℕ) → has_id i (identifiers os) ≡ false → IsOpPlace i os r → IsErr r
@@ -337,18 +329,18 @@ filter-in_order f (o ∷ os) h = go (f o) refl (filter-in_order f os h.1)
     go true e ih = rw e (less_filter o.id f os h.0, ih)
     go false e ih = rw e ih
 
--- new operations in order are found once they came in
+-- new operations in order are found once they are inserted
 pub found_all : (os ps : List Op) → AreInOrder os → AreInOrder ps → AllByRecursion (λ p. is_new os p ≡ true) ps → AllByRecursion (λ p. op_of p.id (both os ps) ≡ Some p) ps
 found_all os [] h g n = tt
 found_all os (p ∷ ps) h g n =
-    let absent = absent_both p.id os ps (not_new (has_id p.id (identifiers os)) n.0) (earlier_others p.id ps g.0) in
+    let absent = absent_both p.id os ps (untrue (has_id p.id (identifiers os)) n.0) (earlier_others p.id ps g.0) in
     (found_new p (both os ps) absent, others ps (found_all os ps h g.1 n.1))
   where
     others : (qs : List Op) → AllByRecursion (λ q. op_of q.id (both os ps) ≡ Some q) qs → AllByRecursion (λ q. op_of q.id (with_op p (both os ps)) ≡ Some q) qs
     others [] a = tt
     others (q ∷ qs) a = (found_with q.id p (both os ps) q (both-in_order os ps h) a.0, others qs a.1)
 
--- taking out again what came in
+-- what was inserted is removed
 
 without-with : (ids : List Id) (p : Op) (os : List Op) → has_id p.id ids ≡ true → without_ops ids (with_op p os) ≡ without_ops ids os
 without-with ids p [] h = rw h refl
@@ -392,7 +384,7 @@ not_among [] ps n = tt
 not_among (o ∷ os) ps n = (head ps n, not_among os ps (tail ps n))
   where
     parts : (p : Op) → is_new (o ∷ os) p ≡ true → (same_id o.id p.id ≡ false) × (is_new os p ≡ true)
-    parts p e = pick (same_id p.id o.id) refl (not_new (has_id p.id (identifiers (o ∷ os))) e)
+    parts p e = pick (same_id p.id o.id) refl (untrue (has_id p.id (identifiers (o ∷ os))) e)
       where
         pick : (b : Bool) → same_id p.id o.id ≡ b → has_id p.id (identifiers (o ∷ os)) ≡ false → (same_id o.id p.id ≡ false) × (is_new os p ≡ true)
         pick true f g = let no : true ≡ false = rw f at g in absurd (let z : ⊥ = cc in z)

@@ -1,4 +1,4 @@
--- What the stored state stands for, before and after an event.
+-- Lemmas about Refines: the state that is represented before and after an event.
 use Rattle.std.proofs.Common.{◌≡◌, ℕ, List, ◌∷◌, map, None, true, false, refl, sym, ◌∙◌, ap}
 use Rattle.jc_rules.specs.declared.operation.Op.{Op}
 use Rattle.jc_rules.specs.declared.operation.Event.TheVariants as E

@@ -1,4 +1,4 @@
--- Refusals that are handed up.
+-- Lemmas about refusals: a premise's refusal is the refusal of its question.
 use Rattle.std.proofs.Common.{◌≡◌, List, Option, Some, None, IfSome, IfErr, IsErrAnd, Result, Ok, Err, sym, subst}
 use Rattle.jc_rules.specs.declared.operation.Event.{Event}
 use Rattle.jc_rules.specs.declared.operation.Op.{Op}

@@ -1,4 +1,4 @@
--- Where a script stands.
+-- Lemmas about scripts: the commands that have ended, and those that are left.
 use Rattle.std.proofs.Common.{◌≡◌, ℕ, zero, suc, ◌+◌, ◌≤◌, ◌<◌, List, [], ◌∷◌, ◌-◌, length, take, drop, map, get_or, slice_get, Some, None, refl, sym, ◌∙◌, ap, arith, add-one}
 use Rattle.std.proofs.lemmas.List.{take_all, length-drop, drop-map}
 use Rattle.std.proofs.lemmas.Option.{slice_get_past, slice_get_read}

@@ -1,4 +1,4 @@
--- Offering what was made.
+-- Lemmas about the event `send`: what was made is offered.
 use Rattle.std.proofs.Common.{◌≡◌, ℕ, zero, suc, List, [], ◌∷◌, take, refl, ◌∙◌, ap}
 use Rattle.std.specs.List.{AllByRecursion}
 use Rattle.std.specs.declared.cmp.Ordering.TheVariants.{Less}

@@ -1,4 +1,4 @@
--- The last step taken back.
+-- Lemmas about Undo: the last step is taken back.
 use Rattle.std.proofs.Common.{◌≡◌, ℕ, ◌+◌, ◌-◌, ◌<◌, List, [], ◌∷◌, ◌++◌, length, take, ap, subst, arith, length-take-le}
 use Rattle.std.proofs.lemmas.List.{length-map}
 use Rattle.jc_rules.specs.Syntax.{Cmd}

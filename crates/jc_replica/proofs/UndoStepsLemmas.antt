@@ -1,4 +1,4 @@
--- Steps that are kept, and taken back.
+-- Lemmas about Undo: a step is recorded, and all steps can be taken back.
 use Rattle.std.proofs.Common.{◌≡◌, ℕ, zero, suc, ◌+◌, ◌≤◌, ◌<◌, List, [], ◌∷◌, ◌++◌, length, take, refl, sym, ◌∙◌, ap, subst, arith, length-append, length-take-le, add-one}
 use Rattle.std.specs.List.{AllByRecursion}
 use Rattle.jc_rules.specs.Context.{Context}
@@ -9,6 +9,7 @@ use Rattle.jc_replica.specs.declared.record.Record.{Record}
 use Rattle.jc_replica.specs.ReadyToStep.{IsReadyToStep, AreReady}
 use Rattle.jc_replica.specs.Undo.{Held, state_of, undone_once, steps_undone, states, content_at}
 use Rattle.jc_replica.specs.Invariant.{AreMarks, CanBack, AreBacks, IsInBounds, IsKeptReplica}
+use Rattle.jc_tree.proofs.HistoryLemmas.{still}
 
 -- what a further step takes back was held before it
 undone-pushed : (rs : List Record) (r : Record) (h h2 : Held) → undone_once r.change h2 ≡ h → steps_undone (rs ++ r ∷ []) h2 ≡ steps_undone rs h
@@ -79,14 +80,6 @@ stepped {script} {t} {rs} {h} k u ss r h2 later se me be cb ready bounds =
         backs = backs-pushed rs r h h2 k.backs be cb;
       };
     })
-
--- where the document stays as it is
-pub no_later : (t : Tree) → IsLater t t
-no_later t = record { added = []; is = sym (go (tree_history t)) }
-  where
-    go : (cs : List Context) → cs ++ [] ≡ cs
-    go [] = refl
-    go (c ∷ cs) = ap (λ (x : List Context). c ∷ x) (go cs)
 
 -- the last step taken back
 marks_left : (n : ℕ) (rs : List Record) (r : Record) → AreMarks n (rs ++ r ∷ []) → AreMarks r.mark.changes rs × (r.mark.changes ≤ n)

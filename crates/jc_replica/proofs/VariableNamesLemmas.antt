@@ -1,4 +1,4 @@
--- Variables that are bound, and taken back.
+-- Lemmas about Variables: a variable is bound, and the binding is taken back.
 use Rattle.std.proofs.Common.{◌≡◌, ℕ, zero, suc, ◌≤◌, ◌<◌, List, [], ◌∷◌, length, get_or, slice_get, slice_set, insert, remove, Some, None, Bool, true, false, nat_eq, eq-eqb, refl, sym, ◌∙◌, ap, subst, arith}
 use Rattle.std.specs.Cmp.Lexicographic.{pointwise}
 use Rattle.std.specs.declared.cmp.Ordering.{Ordering}
@@ -154,7 +154,7 @@ bound_new vs new n x b r ne other we =
     let h = subst (λ (m : ℕ). IsBound x (bound_of b) m None (vars_of vs) (insert (vars_of vs) m (x, bound_of b))) (sym ne) (bound_first x (bound_of b) (vars_of vs) r none) in
     subst (λ (ws : Vars). IsBound x (bound_of b) n None (vars_of vs) ws) (sym (insert_in_memory vs n x b) ∙ ap (λ (ws : List (List ℕ × BoundInMemory)). vars_of ws) (sym we)) h
 
--- a text is told from itself by no test
+-- no test tells a text from itself
 pub same_text : (x y : List ℕ) (t : Bool) → t ≡ pointwise nat_eq x y → t ≡ false → x ≡ y → ⊥
 same_text x y t e f s = let g : false ≡ true = sym f ∙ e ∙ ap (λ (z : List ℕ). pointwise nat_eq z y) s ∙ itself y in cc
   where

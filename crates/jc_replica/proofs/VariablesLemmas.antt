@@ -1,4 +1,4 @@
--- A command that binds a variable, from what is held before to what is held after.
+-- Lemmas about NextCommand: a command binds a variable, from what is held before to what is held after.
 use Rattle.std.proofs.Common.{◌≡◌, ℕ, ◌+◌, ◌-◌, List, [], ◌∷◌, ◌++◌, length, drop, Option, option_map, refl, sym, ◌∙◌, ap, subst, arith}
 use Rattle.jc_rules.specs.declared.operation.Event.TheVariants as E
 use Rattle.jc_rules.specs.Context.{Context}
@@ -26,7 +26,8 @@ use Rattle.jc_replica.specs.Undo.{Held, held_of, undone_once, state_of, past_of}
 use Rattle.jc_replica.proofs.VariablesSeenLemmas.{leads_bound}
 use Rattle.jc_replica.proofs.AnswersLemmas.{Leading, ready_now, occurs}
 use Rattle.jc_replica.proofs.ScriptLemmas.{drop-more, one_less, one_more_fits}
-use Rattle.jc_replica.proofs.UndoStepsLemmas.{Stepped, stepped, no_later}
+use Rattle.jc_replica.proofs.UndoStepsLemmas.{Stepped, stepped}
+use Rattle.jc_tree.proofs.HistoryLemmas.{still}
 
 abbrev pub bound_held : Held → List (List ℕ × Bound) → Held
 bound_held h vars = held_of (h.done + 1) h.acted vars h.ops h.queue h.sent h.recv
@@ -69,7 +70,7 @@ module _ {script : List Cmd} {t : Tree} {rs : List Record} {h : Held} (k : IsKep
   bound_step =
       let r : Record = record { mark = mark; change = C.Bound at before } in
       let bounds : IsInBounds script (bound_held h vars) = record { done = one_more_fits h.done script _ m.next.rest m.next.next; sent = k.bounds.sent } in
-      subst (λ (y : Held). Stepped script t t rs ss h y) (sym he) (stepped k t ss r (bound_held h vars) (no_later t) se me (bound_back script h vars x b at before is) is.there (bound_ready script h vars x b at before is t.now (ready_now k) _ m.next.rest m.next.next) bounds)
+      subst (λ (y : Held). Stepped script t t rs ss h y) (sym he) (stepped k t ss r (bound_held h vars) (still t) se me (bound_back script h vars x b at before is) is.there (bound_ready script h vars x b at before is t.now (ready_now k) _ m.next.rest m.next.next) bounds)
 
   pub bound_kept_replica : IsKeptReplica script t ss h2
   bound_kept_replica = bound_step.kept

@@ -1,4 +1,4 @@
--- Commands that bind variables.
+-- Lemmas about NextCommand: commands that bind variables, in the state that is represented.
 use Rattle.std.proofs.Common.{◌≡◌, ◌≢◌, ℕ, ◌+◌, List, ◌∷◌, None, refl, ◌∙◌, ap, subst}
 use Rattle.jc_rules.specs.declared.operation.Event.TheVariants as E
 use Rattle.jc_rules.specs.declared.operation.Op.{Op}

@@ -1,10 +1,12 @@
--- What a call answers that makes an event.
+-- What a call returns that makes an event. Each such call of a replica has one clause by it.
 use Rattle.std.specs.Prelude.{◌≡◌, ◌∷◌, ◌++◌, [], List, Option, Some, None, IfSome, Result, Ok, Err}
+use Rattle.std.specs.Option.{option_map}
 use Rattle.jc_rules.specs.declared.operation.Event.{Event}
 use Rattle.jc_rules.specs.declared.operation.Op.{Op}
+use Rattle.jc_rules.specs.declared.refusal.Refusal.{Refusal}
 use Rattle.jc_rules.specs.declared.refusal.Refusal.TheVariants as F
 use Rattle.jc_rules.specs.Derivation.{Occur}
-use Rattle.jc_rules.specs.Refused.{Cause, because, no_node, Refused}
+use Rattle.jc_rules.specs.Refused.{Cause, because, no_node, refusal_of, Refused}
 use Rattle.jc_rules.specs.State.{State}
 use Rattle.jc_rules.specs.Trace.{Rows}
 use Rattle.jc_apply.specs.declared.apply.ApplyFault.{ApplyFault}
@@ -15,8 +17,8 @@ use Rattle.jc_replica.specs.ReplicaHistory.{Past}
 use Rattle.jc_vectors.specs.StoredStates.{RepresentsState}
 use Rattle.jc_replica.specs.Refines.{HasOwnFor, IsRead, LeadsReplica}
 
--- One step: in each sound set the event leads by the table from what the old state stands for to what the new one
--- stands for, with these rules, and the state before it is kept.
+-- One step: in each sound set the event leads by the table from the state that the old stored state represents to the
+-- one that the new stored state represents, with these rules. The old stored state is kept.
 pub record Occurs (event : Event) (read : List Op) (old new : Past) (rows : Rows) : Type 0 where
   pub leads : (set os : List Op) (A : State)
       → RepresentsState set A old.now → HasOwnFor event set old.number A → IsRead set os read
@@ -24,7 +26,7 @@ pub record Occurs (event : Event) (read : List Op) (old new : Past) (rows : Rows
   pub earlier : new.earlier ≡ old.earlier ++ old.now ∷ []
   pub number : new.number ≡ old.number
 
--- the cause in the table, but for want of memory
+-- the cause in the table, none for want of memory
 abbrev pub fault_cause_of : ReplicaFault → Option Cause
 fault_cause_of E.NotInList = Some (because F.NotInList)
 fault_cause_of E.UnboundVariable = Some (because F.UnboundVariable)
@@ -44,12 +46,16 @@ fault_cause_of E.AlreadyApplied = Some (because F.AlreadyApplied)
 fault_cause_of E.DepsMissing = Some (because F.DepsMissing)
 fault_cause_of E.Memory = None
 
+-- the refusal of the fault's cause
+abbrev pub fault_refusal : ReplicaFault → Option Refusal
+fault_refusal fault = option_map refusal_of (fault_cause_of fault)
+
 -- the same of an operation that isn't applied
 abbrev pub apply_cause : ApplyFault → Option Cause
 apply_cause A.NotInList = Some (because F.NotInList)
 apply_cause A.Memory = None
 
--- In each sound set what the state stands for refuses the event for this cause.
+-- In each sound set the state that is represented refuses the event for this cause.
 abbrev pub RefusedFor : Event → List Op → Past → Cause → Type 0
 RefusedFor event read old why =
     (set os : List Op) (A : State)

@@ -1,4 +1,4 @@
--- Which events can be made.
+-- Which events a replica can make, for the contract of `can`.
 use Rattle.std.specs.Prelude.{◌≡◌, List, [], Bool, true, false, IsSome}
 use Rattle.jc_rules.specs.declared.operation.Event.{Event}
 use Rattle.jc_rules.specs.declared.operation.Event.TheVariants as E
@@ -11,14 +11,14 @@ use Rattle.jc_rules.specs.Table.{op_of}
 use Rattle.jc_replica.specs.ReplicaHistory.{Past}
 use Rattle.jc_replica.specs.Refines.{IsRead}
 
--- what an event may read: whatever is offered where it receives, something with the identifier where it takes one, and
--- else nothing
+-- What an event may read: any list where it receives all, a list with the identifier where it takes one, and else
+-- nothing.
 abbrev pub MayRead : Event → List Op → Type 0
 MayRead (E.Recv p q) read = Unit {0}
 MayRead (E.Take p q i) read = IsSome (op_of i read)
 MayRead _ read = read ≡ []
 
--- In each sound set, whatever is read: what the state stands for refuses the event for no cause, or for one.
+-- In each sound set, whatever is read, the state that is represented refuses the event for no cause, or for one.
 abbrev pub CanOccur : Event → Past → Bool → Type 0
 CanOccur event now true =
     (set os read : List Op) (A : State) (why : Cause)

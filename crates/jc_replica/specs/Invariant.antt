@@ -1,4 +1,4 @@
--- What a replica's type keeps.
+-- The invariant of a replica's type.
 use Rattle.std.specs.Prelude.{◌≡◌, ◌≤◌, ◌<◌, ℕ, List, [], ◌∷◌, ◌++◌, length}
 use Rattle.std.specs.List.{AllByRecursion}
 use Rattle.jc_rules.specs.declared.id.Id.{Id}
@@ -22,7 +22,7 @@ pub record IsGreatest (i : Id) (before : ℕ) (ops : List Id) : Type 0 where
   pub greatest : greatest_of i.replica ops ≡ i.counter
   pub lower : before < i.counter
 
--- what taking the change back asks of what is held after it
+-- what is held after a change allows it to be taken back
 abbrev pub CanBack : Change → Held → Type 0
 CanBack (C.Bound place before) h = place < length h.vars
 CanBack (C.Made i before) h = IsGreatest i before h.ops × (h.sent < length h.queue)

@@ -1,4 +1,4 @@
--- What applying a received operation asks of a replica's state.
+-- When a received operation can be applied, for the event `apply`.
 use Rattle.std.specs.Prelude.{◌≡◌, List, ◌∷◌, Some, false}
 use Rattle.jc_rules.specs.declared.id.Id.{Id}
 use Rattle.jc_rules.specs.declared.operation.Op.{Op}
@@ -7,7 +7,7 @@ use Rattle.jc_rules.specs.State.{State}
 use Rattle.jc_rules.specs.Syntax.{Cmd, Yield}
 use Rattle.jc_rules.specs.Table.{op_of}
 
--- At a yield, the operation was received; all that it depends on was applied, but it wasn't.
+-- At a yield: the operation was received, and all that it depends on was applied, but not the operation itself.
 pub record TakesOp (K : State) (i : Id) (o : Op) : Type 0 where
   pub rest : List Cmd
   pub yields : K.left ≡ Yield ∷ rest

@@ -1,4 +1,4 @@
--- What a command makes: the cursor of its expression, and its operation.
+-- What the next command does, for the event `exec`: the operation that it makes, or the variable that it binds.
 use Rattle.std.specs.Prelude.{◌≡◌, ℕ, List, ◌∷◌}
 use Rattle.jc_rules.specs.declared.operation.Cursor.{Cursor}
 use Rattle.jc_rules.specs.declared.operation.Mutation.{Mutation}
@@ -61,8 +61,8 @@ pub record BindsNext (left : List Cmd) : Type 0 where
   pub rest : List Cmd
   pub next : left ≡ LetIn name expr ∷ rest
 
--- The next command of the stored state K of replica p makes this operation, and the trace has come to the operation's own
--- rules.
+-- The next command of the stored state K of replica p makes this operation. The trace ends where the operation's own
+-- rules begin.
 pub record MakesOp (K : State) (p : ℕ) (o : Op) (t u : Rows) : Type 0 where
   pub next : MakesNext K.left
   pub cursor : Cursor
@@ -72,8 +72,7 @@ pub record MakesOp (K : State) (p : ℕ) (o : Op) (t u : Rows) : Type 0 where
   pub is : o ≡ new_op p K.ops cursor (mutation_by next.command)
   pub rows : u ≡ opened (opened between R.MakeOp) R.ApplyLocal
 
--- The next command of the stored state K binds the variable x to b, and the trace has come to the end of what is
--- evaluated.
+-- The next command of the stored state K binds the variable x to b. The trace ends with the rules of its expression.
 pub record Binds (K : State) (x : List ℕ) (b : Bound) (t u : Rows) : Type 0 where
   pub next : BindsNext K.left
   pub name : x ≡ next.name

@@ -1,4 +1,4 @@
--- Lists of received operations, and how far nothing of a sender's is missing in them.
+-- Lists of received operations, and up to which counter a sender's operations are complete in them.
 use Rattle.std.specs.Prelude.{◌≡◌, ◌≤◌, ◌<◌, ℕ, Bool, true, List, [], ◌∷◌, ◌++◌, length, insert, not, slice_get, Some, None, Result, Ok, Err}
 use Rattle.std.specs.List.{AllByRecursion}
 use Rattle.jc_rules.specs.declared.id.Id.{Id}
@@ -11,13 +11,13 @@ use Rattle.jc_vectors.specs.StoredStates.{stored_op}
 use Rattle.jc_replica.specs.Operations.{identifiers, AreInOrder, AreOfOne}
 use Rattle.jc_replica.specs.ReplicaHistory.{Past}
 
--- the operation with the identifier stands there
+-- the operation with the identifier is there
 pub record IsOpAt (i : Id) (os : List Op) (n : ℕ) : Type 0 where
   pub operation : Op
   pub entry : slice_get os n ≡ Some operation
   pub found : op_of i os ≡ Some operation
 
--- no operation has the identifier, and one that had it would come in there
+-- no operation has the identifier, and there is its place
 pub record OpBelongsAt (i : Id) (os : List Op) (n : ℕ) : Type 0 where
   pub within : n ≤ length os
   pub absent : op_of i os ≡ None
@@ -31,24 +31,24 @@ IsOpPlace i os (Err n) = OpBelongsAt i os n
 abbrev pub is_new : List Op → Op → Bool
 is_new os p = not (has_id p.id (identifiers os))
 
--- each is an operation of the set as it is kept
+-- each represents an operation of the set
 abbrev pub AreKeptOf : List Op → List Op → Type 0
 AreKeptOf set os = AllByRecursion (λ k. (o : Op) × (op_of k.id set ≡ Some o) × (k ≡ stored_op o)) os
 
--- in each sound set that both are of, these are united
+-- in each sound set of which both are, the new list is their union
 abbrev pub IsUnited : List Op → List Op → List Op → Type 0
 IsUnited old read new =
     (set : List Op) → IsSound set → AreKeptOf set old → AreKeptOf set read → AreOfOne read → new ≡ both old read
 
--- these were received: one step, by which they are united with what was received before
+-- these were received: one step adds them to what was received before
 pub record HasReceived (read : List Op) (old new : Past) : Type 0 where
   pub united : IsUnited old.now.recv read new.now.recv
   pub now : new.now ≡ record old.now { acted = true; recv = new.now.recv }
   pub earlier : new.earlier ≡ old.earlier ++ old.now ∷ []
   pub number : new.number ≡ old.number
 
--- Of the replica's own nothing is missing up to the counter: the operation that has it is there, and so is all on which
--- that one depends, the nearest first.
+-- No operation of the replica is missing up to the counter: the operation that has it is there, and so are all of the
+-- replica's on which that one depends, the nearest first.
 pub data IsContiguousTo (q : ℕ) (os : List Op) : ℕ → Type 0 where
   none : IsContiguousTo q os 0
   more : {n : ℕ} {o : Op}
@@ -61,7 +61,7 @@ pub data IsContiguousTo (q : ℕ) (os : List Op) : ℕ → Type 0 where
 abbrev pub AreAmong : List Op → List Op → Type 0
 AreAmong ps os = AllByRecursion (λ p. op_of p.id os ≡ Some p) ps
 
--- the list stands by identifier, and of each replica nothing up to its greatest counter is missing
+-- the list is sorted by identifier, and no operation of a replica is missing up to the replica's counter
 pub record IsKeptList (os : List Op) (whole : List Id) : Type 0 where
   pub order : AreInOrder os
   pub filled : whole ≡ covered whole

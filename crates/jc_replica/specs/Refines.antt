@@ -1,4 +1,4 @@
--- What the stored state of a replica stands for, and what an event makes of that.
+-- What the stored state of a replica represents, and how its events refine those of the table.
 use Rattle.std.specs.Prelude.{◌≡◌, ℕ, List, ◌∷◌, Option, Some, None, IfSome, map}
 use Rattle.jc_rules.specs.declared.operation.Event.{Event}
 use Rattle.jc_rules.specs.declared.operation.Event.TheVariants as E
@@ -12,25 +12,25 @@ use Rattle.jc_vectors.specs.StoredStates.{RepresentsState, HasOwn, stored_op, Ar
 use Rattle.jc_replica.specs.Operations.{AreOfOne}
 use Rattle.jc_replica.specs.ReplicaHistory.{no_rows}
 
--- The stored state of the replica p stands for the state A in the sound set of operations, all of p's own among them
--- applied.
+-- The stored state of the replica p represents the state A in the sound set of operations, and all of p's own among
+-- them were applied.
 pub record IsSeenAs (set : List Op) (p : ℕ) (A kept : State) : Type 0 where
   pub stands : RepresentsState set A kept
   pub own : HasOwn set p A
 
--- What an event's promise asks beside that its state stands for A. A command can make an operation, whose identifier is
--- new only where all of p's own operations in the set are applied. A yield event makes none, and asks nothing.
+-- What an event's promise needs beside that A is represented. A command can make an operation, whose identifier is new
+-- only where all of p's own operations in the set were applied. A yield event makes none, and needs nothing.
 abbrev pub HasOwnFor : Event → List Op → ℕ → State → Type 0
 HasOwnFor (E.Exec q) set p A = HasOwn set p A
 HasOwnFor _ set p A = Unit {0}
 
--- the operations of the set that are read, as they are kept: what one replica offers, of its own
+-- the stored operations that are read represent these of the set: what one replica offers of its own
 pub record IsRead (set os read : List Op) : Type 0 where
   pub of : AreOf set os
   pub is : read ≡ map stored_op os
   pub one : AreOfOne read
 
--- with the operation that was made, if one was
+-- the set with the operation that was made, if one was
 abbrev pub grown : Option Op → List Op → List Op
 grown None set = set
 grown (Some o) set = o ∷ set
@@ -39,9 +39,10 @@ abbrev pub queued : Option Op → List Op → List Op
 queued None queue = queue
 queued (Some o) queue = with_op o queue
 
--- The event leads from A to a state for which the new kept one stands, in the set with what was made. If all of p's own
--- operations in the set were applied, they still are, with what was made.
-pub record LeadsReplica (set : List Op) (event : Event) (p : ℕ) (os : List Op) (A kept : State) (rows : Rows) : Type 0 where
+-- The event leads from A to a state that the new stored state represents, in the set with what was made. If all of p's
+-- own operations in the set were applied, they still are, with what was made.
+pub record LeadsReplica
+    (set : List Op) (event : Event) (p : ℕ) (os : List Op) (A kept : State) (rows : Rows) : Type 0 where
   pub now : State
   pub made : Option Op
   pub derives : Derives (Occur A event os) (ToState now) no_rows rows

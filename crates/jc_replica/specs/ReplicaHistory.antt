@@ -1,11 +1,11 @@
--- What a replica is seen as.
+-- The value of a replica's model: its number, its stored state and the earlier ones.
 use Rattle.std.specs.Prelude.{ℕ, List, [], ◌∷◌, ◌++◌, refl}
 use Rattle.std.specs.Coded.{Coded, code_by, coded×, coded_ℕ, coded_list}
 use Rattle.jc_rules.specs.State.{State}
 use Rattle.jc_rules.specs.Trace.{Rows}
 use Rattle.jc_replica.specs.Codes.{state_code}
 
--- the replica's number in the order of names, its state, and the states before its steps, the oldest first
+-- the replica's number in the order of names, its stored state, and those before its steps, the oldest first
 pub record Past : Type 0 where
   pub number : ℕ
   pub now : State

@@ -1,4 +1,4 @@
--- How steps are taken back.
+-- What undo records are for: what a replica held before its steps, computed from them.
 use Rattle.std.specs.Prelude.{ℕ, zero, suc, ◌-◌, List, [], ◌∷◌, Bool, true, not, length, take, drop, filter, slice_get, Option, Some, None}
 use Rattle.std.specs.Option.{option_map}
 use Rattle.jc_rules.specs.declared.id.Id.{Id}
@@ -51,7 +51,7 @@ unbound zero None (v ∷ vs) = vs
 unbound zero (Some b) (v ∷ vs) = (v.0, b) ∷ vs
 unbound (suc n) before (v ∷ vs) = v ∷ unbound n before vs
 
--- without the operations that have these identifiers
+-- the list without the operations that have these identifiers
 abbrev pub without_ops : List Id → List Op → List Op
 without_ops ids os = filter (λ o. not (has_id o.id ids)) os
 

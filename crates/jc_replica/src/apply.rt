@@ -1,4 +1,4 @@
-//! Applying received operations.
+//! The event `apply` of a replica: it applies an operation that was received.
 
 ghost use Rattle.std.specs.Prelude.{◌≡◌, [], IfOk, IfErr};
 ghost use Rattle.jc_rules.specs.declared.operation.Event.TheVariants as E;
@@ -13,8 +13,8 @@ use jc_rules::{Id, Op, Rule, Trace};
 use jc_tree::TreeStore;
 
 impl<S: TreeStore> Replica<S> {
-    /// The received operation with the identifier, where a yield comes next and all that it depends
-    /// on was applied, but it wasn't.
+    /// The received operation with the identifier. A yield comes next, and all that the operation depends on was
+    /// applied, but not the operation itself.
     pub(crate) fn takes(&self, id: Id) -> Result<&Op, ReplicaFault>
         ensures ok { IfOk result (λ op. TakesOp self.now.now id op.now) }
         ensures err { IfErr result (λ f. IsEventRefused (E.Apply self.now.number id) [] self.now f) }
@@ -32,10 +32,10 @@ impl<S: TreeStore> Replica<S> {
         Ok(op)
     }
 
-    /// Applies the received operation with the identifier, and gives the trace of the event.
+    /// Applies the received operation with the identifier, and returns the trace of the event.
     ///
     /// It is refused, in this order, with `NoCommand` or `NotAtYield` where no yield comes next, `NotReceived`,
-    /// `AlreadyApplied`, `DepsMissing` where it depends on one that isn't applied, and `NotInList`. After a
+    /// `AlreadyApplied`, `DepsMissing` where it depends on an operation that isn't applied, and `NotInList`. After a
     /// refusal all is as it was.
     pub fn apply(&mut self, id: Id) -> Result<Trace, ReplicaFault>
         ensures { AnswersEvent (E.Apply self.old.number id) [] self.old self.new result }

@@ -1,4 +1,4 @@
-//! Which events can be made.
+//! Which events a replica can make, asked before the event is made. A network lists its events by it.
 
 ghost use Rattle.std.specs.Prelude.{◌≡◌, List, [], IfOk, IfErr, IsFalse, IsSome};
 ghost use Rattle.jc_rules.specs.declared.operation.Event.TheVariants as E;
@@ -14,7 +14,7 @@ use jc_rules::{Event, Id, Trace};
 use jc_tree::TreeStore;
 use std::alloc::AllocError;
 
-/// That an event refused for this can't be made, unless memory was refused.
+/// An event that is refused for this fault can't be made. Where memory was refused, that isn't known.
 fn cannot(fault: ReplicaFault) -> Result<bool, AllocError>
     ensures { IfOk result (λ b. IsFalse b × IsSome (fault_cause_of fault)) }
 {
@@ -25,9 +25,9 @@ fn cannot(fault: ReplicaFault) -> Result<bool, AllocError>
 }
 
 impl<S: TreeStore> Replica<S> {
-    /// Whether the event, which is the replica's, can be made: whether its call isn't refused, other
-    /// than for want of memory, whatever a replica offers. Where one operation is to be taken in, it is
-    /// asked of a replica that offers it. Only for a command does it take memory.
+    /// Whether the event, which is the replica's own, can be made: its call isn't refused, whatever a replica
+    /// offers, other than for want of memory. For one operation to receive, the answer is that for a replica which
+    /// offers it. Only a command takes memory.
     pub fn can(&self, event: &Event) -> Result<bool, AllocError>
         requires { replica_of event.now ≡ self.now.number }
         ensures { IfOk result (λ b. CanOccur event.now self.now b) }

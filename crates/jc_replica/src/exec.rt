@@ -1,4 +1,4 @@
-//! Running commands.
+//! The event `exec` of a replica: it runs the next command of the script.
 
 ghost use Rattle.std.specs.Prelude.{◌≡◌, [], ◌↔◌, IsTrue, IsFalse, IfOk, IfErr};
 ghost use Rattle.jc_rules.specs.declared.operation.Event.TheVariants as E;
@@ -30,7 +30,7 @@ fn rule_of(command: &Cmd) -> Rule
     }
 }
 
-/// The expression of the place where the command makes an operation.
+/// The expression of the cursor at which the command makes an operation.
 fn place_of(command: &Cmd) -> &Expr
     requires { IsMaking (cmd_of command.now) }
     ensures { expr_of result.now ≡ expr_by (cmd_of command.now) }
@@ -41,7 +41,7 @@ fn place_of(command: &Cmd) -> &Expr
     }
 }
 
-/// What the operation does that the command makes.
+/// The mutation of the operation that the command makes.
 fn mutation_of(command: &Cmd) -> Result<Mutation, AllocError>
     ensures { IfOk result (λ mutation. mutation ≡ mutation_by (cmd_of command.now)) }
 {
@@ -63,15 +63,15 @@ fn is_let(command: &Cmd) -> bool
 }
 
 impl<S: TreeStore> Replica<S> {
-    /// Runs the next command, and gives the trace of the event.
+    /// Runs the next command, and returns the trace of the event.
     ///
     /// It is refused, in this order, with `NoCommand` where none is left, `AtYield` where `yield`
     /// comes next, for the first condition that fails in the command's expression, `NotACursor`
-    /// where an operation is to be made at what is no cursor, and `NotInList` where an insert has no
+    /// where the expression gives no cursor for an operation, and `NotInList` where an insert has no
     /// place. After a refusal all is as it was.
     ///
-    /// What is said of the new state rests on all of the replica's own operations being applied, since
-    /// an operation is made with a greater counter than all that was applied. No other event asks it.
+    /// The new state is right only where all of the replica's own operations were applied: a new operation has a
+    /// greater counter than all that was applied. No other event needs that.
     pub fn exec(&mut self) -> Result<Trace, ReplicaFault>
         ensures { AnswersEvent (E.Exec self.old.number) [] self.old self.new result }
     {
@@ -83,7 +83,7 @@ impl<S: TreeStore> Replica<S> {
     }
 
     /// Whether the next command binds a variable; else it makes an operation. Where there is none, or
-    /// it is `yield`, why it isn't run.
+    /// it is `yield`, the fault.
     pub(crate) fn binds_next(&self) -> Result<bool, ReplicaFault>
         ensures binds { IfOk result (λ b. IsTrue b → BindsNext self.now.now.left) }
         ensures makes { IfOk result (λ b. IsFalse b → MakesNext self.now.now.left) }
@@ -99,7 +99,7 @@ impl<S: TreeStore> Replica<S> {
         Ok(is_let(command))
     }
 
-    /// What the next command binds which variable to.
+    /// The variable that the next command binds, and what it is bound to.
     pub(crate) fn bound_next(&self, trace: &mut Trace) -> Result<(Text, Bound), ReplicaFault>
         requires { BindsNext self.now.now.left }
         ensures ok { IfOk result (λ var. Binds self.now.now var.0 (bound_of var.1) trace.old trace.new) }

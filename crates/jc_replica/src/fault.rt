@@ -1,33 +1,33 @@
-//! Why events of a replica are refused.
+//! The faults for which events of a replica are refused. A network makes its own faults of them.
 
 ghost use Rattle.std.specs.Prelude.{◌≡◌, IfOk};
 ghost use Rattle.jc_cursor.specs.Evaluates.{eval_cause_of as eval_cause};
 ghost use Rattle.jc_replica.specs.declared.fault.ReplicaFault.TheVariants.{Memory as NoMemory};
-ghost use Rattle.jc_replica.specs.Answers.{fault_cause_of, apply_cause};
+ghost use Rattle.jc_replica.specs.Answers.{fault_cause_of, fault_refusal, apply_cause};
 
 use jc_apply::ApplyFault;
 use jc_cursor::EvalFault;
-use jc_rules::Tagged;
+use jc_rules::{Refusal, Tagged};
 use std::alloc::AllocError;
 
 /// Why an event was refused.
 #[derive(Debug, PartialEq, Eq, Drop)]
 pub enum ReplicaFault {
-    /// The place of an insert isn't in the list.
+    /// The list doesn't have the place of an insert.
     NotInList,
     /// The variable isn't bound.
     UnboundVariable,
     /// `get` on the head of a list.
     GetOnHead,
-    /// What stands before a selector, or what a command makes an operation at, is no cursor.
+    /// What is before a selector, or what a command makes an operation at, is no cursor.
     NotACursor,
-    /// Nothing stands under this tagged key of a cursor's path.
+    /// There is no node under this tagged key of a cursor's path.
     NoSuchNode(Tagged),
     /// The list has no such element.
     PastEnd,
-    /// No map stands at the cursor.
+    /// There is no map at the cursor.
     NoMap,
-    /// No register stands at the cursor.
+    /// There is no register at the cursor.
     NoRegister,
     /// The cursor's path would be longer than 512 keys.
     TooDeep,
@@ -37,7 +37,7 @@ pub enum ReplicaFault {
     AtYield,
     /// The next command isn't `yield`.
     NotAtYield,
-    /// There was no event of the yield yet.
+    /// No event of the yield was made.
     NotActed,
     /// No operation with the identifier was received.
     NotReceived,
@@ -50,6 +50,31 @@ pub enum ReplicaFault {
 }
 
 impl ReplicaFault {
+    /// The refusal; none where there was no memory.
+    pub fn refusal(&self) -> Option<Refusal>
+        ensures { result ≡ fault_refusal self.now }
+    {
+        match self {
+            ReplicaFault::NotInList => Some(Refusal::NotInList),
+            ReplicaFault::UnboundVariable => Some(Refusal::UnboundVariable),
+            ReplicaFault::GetOnHead => Some(Refusal::GetOnHead),
+            ReplicaFault::NotACursor => Some(Refusal::NotACursor),
+            ReplicaFault::NoSuchNode(_) => Some(Refusal::NoSuchNode),
+            ReplicaFault::PastEnd => Some(Refusal::PastEnd),
+            ReplicaFault::NoMap => Some(Refusal::NoMap),
+            ReplicaFault::NoRegister => Some(Refusal::NoRegister),
+            ReplicaFault::TooDeep => Some(Refusal::TooDeep),
+            ReplicaFault::NoCommand => Some(Refusal::NoCommand),
+            ReplicaFault::AtYield => Some(Refusal::AtYield),
+            ReplicaFault::NotAtYield => Some(Refusal::NotAtYield),
+            ReplicaFault::NotActed => Some(Refusal::NotActed),
+            ReplicaFault::NotReceived => Some(Refusal::NotReceived),
+            ReplicaFault::AlreadyApplied => Some(Refusal::AlreadyApplied),
+            ReplicaFault::DepsMissing => Some(Refusal::DepsMissing),
+            ReplicaFault::Memory => None,
+        }
+    }
+
     /// A copy.
     pub fn copy(&self) -> Result<Self, AllocError>
         ensures { IfOk result (λ fault. fault ≡ self.now) }

@@ -1,4 +1,4 @@
-//! Commands and yield events of one replica, and the way back.
+//! One replica: its commands, its yield events, and its way back. A network of jc_network has several.
 #![tactic(auto)]
 
 mod apply;

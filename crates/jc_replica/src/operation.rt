@@ -1,4 +1,4 @@
-//! An operation in a document and among those applied.
+//! One operation is applied to a document, and its identifier is added. The events `exec` and `apply` do so.
 
 ghost use Rattle.std.specs.Prelude.{◌≡◌, ◌≢◌, ◌<◌, List, OnOk, OnErr, IfErr, IfSome};
 ghost use Rattle.jc_rules.specs.declared.id.Id.{Id as AnyId};

@@ -1,4 +1,4 @@
-//! The operations that a replica received.
+//! The operations that a replica received, and how far those of each sender are complete.
 
 ghost use Rattle.std.specs.Prelude.{◌≡◌, ◌≤◌, ◌+◌, ◌∷◌, ℕ, List, [], Some, true, IfOk, OnOk, OnErr, option_copied, vec_len, vec_capacity, length, take, filter};
 ghost use Rattle.std.specs.List.{AllByRecursion};
@@ -15,12 +15,12 @@ use std::marker::Model;
 
 /// The operations that a replica received, by identifier. It is seen as their list.
 ///
-/// For each sender it knows a counter up to which nothing of the sender's is missing. So what a
-/// sender offers again, with more at its end, isn't looked at again.
+/// For each sender there is a counter up to which none of its operations is missing. So what a sender offers
+/// again, with more at its end, isn't read again.
 #[derive(Drop)]
 pub struct Received {
     ops: Vec<Op>,
-    /// Of each sender the identifiers up to which nothing is missing.
+    /// Each sender's identifiers up to which no operation is missing.
     contiguous: IdSet,
 }
 
@@ -36,7 +36,7 @@ impl Model for Received {
     ghost invariant = { λ a. IsKeptList a.ops.items a.contiguous };
 }
 
-/// Where the operation with the identifier stands, or else where it belongs.
+/// The index of the operation with the identifier, or else the index where it belongs.
 fn place_of(ops: &[Op], id: Id) -> Result<usize, usize>
     requires { AreInOrder ops.now }
     ensures { IsOpPlace id ops.now result }
@@ -55,7 +55,7 @@ pub fn find(ops: &[Op], id: Id) -> Option<&Op>
     }
 }
 
-/// The replica whose own they are.
+/// The replica that made the offered operations.
 fn sender_of(offered: &[Op]) -> u16
     ensures { AreOfOne offered.now → AreOwn result offered.now }
 {
@@ -65,7 +65,7 @@ fn sender_of(offered: &[Op]) -> u16
     }
 }
 
-/// How many of the operations have counters up to this one.
+/// The number of operations whose counters are at most `last`.
 fn up_to(offered: &[Op], last: u64) -> usize
     requires { AreInOrder offered.now }
     ensures bound { result ≤ length offered.now }
@@ -74,7 +74,7 @@ fn up_to(offered: &[Op], last: u64) -> usize
     offered.partition_point(|op| op.id.counter <= last)
 }
 
-/// Copies of the operations that aren't there yet.
+/// Copies of the offered operations that aren't in the list.
 fn new_ones(alloc: Global, ops: &[Op], offered: &[Op]) -> Result<Vec<Op>, AllocError>
     requires { AreInOrder ops.now }
     ensures { IfOk result (λ fresh. fresh.items ≡ filter (is_new ops.now) offered.now) }
@@ -88,7 +88,7 @@ fn new_ones(alloc: Global, ops: &[Op], offered: &[Op]) -> Result<Vec<Op>, AllocE
     Ok(fresh)
 }
 
-/// Their identifiers.
+/// The identifiers of the operations.
 fn ids_of(alloc: Global, ops: &[Op]) -> Result<Vec<Id>, AllocError>
     ensures { IfOk result (λ ids. ids.items ≡ identifiers ops.now) }
 {
@@ -99,10 +99,11 @@ fn ids_of(alloc: Global, ops: &[Op]) -> Result<Vec<Id>, AllocError>
     Ok(ids)
 }
 
-/// The counter up to which nothing of the replica's own is missing once these are there, where
-/// nothing was up to `from`: each depends on all that its replica made before it.
+/// The counter up to which no operation of the replica is missing once these are in the list, where none was
+/// missing up to `from`: an operation depends on all that its replica made before it.
 fn whole_to(ops: &[Op], replica: u16, from: u64) -> u64
-    ensures { (os : List AnyOp) → AreAmong ops.now os → IsContiguousTo replica os from → IsContiguousTo replica os result }
+    ensures { (os : List AnyOp) → AreAmong ops.now os
+        → IsContiguousTo replica os from → IsContiguousTo replica os result }
 {
     let mut last = from;
     for op in ops {
@@ -117,7 +118,7 @@ fn whole_to(ops: &[Op], replica: u16, from: u64) -> u64
     last
 }
 
-/// Brings each operation to its place. None of them is there, and there is room for all.
+/// Inserts each operation at its place. None of them is in the list, and there is room for all.
 fn bring_in(ops: &mut Vec<Op>, fresh: Vec<Op>)
     requires order { AreInOrder ops.old.items }
     requires rises { AreInOrder fresh.items }
@@ -131,7 +132,7 @@ fn bring_in(ops: &mut Vec<Op>, fresh: Vec<Op>)
     }
 }
 
-/// Lowers the counter of the operation's replica to one up to which nothing is missing without it.
+/// Lowers the counter of the operation's replica to one up to which none is missing without the operation.
 fn lower(contiguous: &mut IdSet, op: &Op)
     requires { contiguous.old ≡ covered contiguous.old }
     ensures filled { contiguous.new ≡ covered contiguous.new }
@@ -156,7 +157,7 @@ fn lower(contiguous: &mut IdSet, op: &Op)
 }
 
 impl Received {
-    /// None.
+    /// No operations.
     pub fn new(alloc: Global) -> Self
         ensures { result ≡ [] }
     {
@@ -181,7 +182,7 @@ impl Received {
         find(self.ops.as_slice(), id)
     }
 
-    /// Takes in what one replica offers, which is its own, and gives the identifiers of what came in.
+    /// Adds what one replica offers of its own operations, and returns the identifiers of the new ones.
     /// After a refusal all is as it was.
     pub fn unite(&mut self, alloc: Global, offered: &[Op]) -> Result<Vec<Id>, AllocError>
         requires { AreInOrder offered.now }
@@ -209,7 +210,7 @@ impl Received {
         Ok(came)
     }
 
-    /// Takes the operation with the identifier out again.
+    /// Removes the operation with the identifier.
     fn take_out(&mut self, id: Id)
         ensures { self.new ≡ without_ops (id ∷ []) self.old }
     {
@@ -220,7 +221,7 @@ impl Received {
         self.ops.remove(place);
     }
 
-    /// Takes the operations with these identifiers out again. It takes no memory.
+    /// Removes the operations with these identifiers. It takes no memory.
     pub fn withdraw(&mut self, came: &[Id])
         ensures { self.new ≡ without_ops came.now self.old }
     {

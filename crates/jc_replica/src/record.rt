@@ -1,20 +1,20 @@
-//! What takes steps back.
+//! The undo record of a step, which a replica keeps for each of its steps.
 
 use jc_cursor::Bound;
 use jc_rules::Id;
 use jc_tree::Mark;
 
-/// What takes a step back, beside the store's content before it.
+/// The undo record of what a step changed outside the store.
 #[derive(Drop)]
 pub enum Change {
-    /// A command bound the variable at this place, which was bound to `before` or came in.
+    /// A command bound the variable at this place. It was bound to `before`, or is new.
     Bound { place: usize, before: Option<Bound> },
     /// A command made the last operation of the queue, which has this identifier. The greatest
     /// counter of its replica was `before`.
     Made { id: Id, before: u64 },
-    /// So many operations of the queue were offered.
+    /// The number of operations of the queue that were offered before.
     Sent { sent: usize, acted: bool },
-    /// Operations with these identifiers came in.
+    /// Operations with these identifiers were received.
     Received { came: Vec<Id>, acted: bool },
     /// The received operation with this identifier was applied. The greatest counter of its replica
     /// was `before`.
@@ -23,7 +23,7 @@ pub enum Change {
     Ended,
 }
 
-/// The record of a step: the store's mark before it, and what else takes it back.
+/// The undo record of a step: the store's mark before it, and what else it changed.
 #[derive(Drop)]
 pub struct Record {
     pub mark: Mark,

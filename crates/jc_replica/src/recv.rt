@@ -1,4 +1,4 @@
-//! Receiving operations.
+//! The events `recv` and `take` of a replica: it receives operations that a replica offers.
 
 ghost use Rattle.std.specs.Prelude.{◌≡◌, ℕ, IfOk, OnOk, OnErr, IfSome, option_copied, unwrap_or};
 ghost use Rattle.jc_rules.specs.declared.operation.Event.TheVariants as E;
@@ -18,8 +18,8 @@ use std::alloc::AllocError;
 use std::slice::from_ref;
 
 impl<S: TreeStore> Replica<S> {
-    /// Takes in what a replica offers, its own operations by identifier, and gives the trace of the
-    /// event. What it offered before isn't looked at again.
+    /// Receives what a replica offers, its own operations by identifier, and returns the trace of the
+    /// event. What it offered before isn't read again.
     ///
     /// It is refused with `NoCommand` or `NotAtYield` where no yield comes next. After a refusal all
     /// is as it was.
@@ -33,7 +33,7 @@ impl<S: TreeStore> Replica<S> {
         Ok(self.receive(Rule::Recv, Some(ops))?)
     }
 
-    /// Takes in what the replica itself offers, as `recv` does.
+    /// Receives what the replica itself offers, as `recv` does.
     pub fn recv_own(&mut self) -> Result<Trace, ReplicaFault>
         requires { AreHanded self.old.now.send }
         ensures { AnswersEvent (E.Recv self.old.number self.old.number) self.old.now.send self.old self.new result }
@@ -42,8 +42,8 @@ impl<S: TreeStore> Replica<S> {
         Ok(self.receive(Rule::Recv, None)?)
     }
 
-    /// Takes in one operation of what a replica offers, its own operations by identifier: the one with
-    /// the identifier. It gives the trace of the event.
+    /// Receives the operation with the identifier of what a replica offers, its own operations by identifier.
+    /// It returns the trace of the event.
     ///
     /// It is refused, in this order, with `NoCommand` or `NotAtYield` where no yield comes next, and
     /// `NotReceived` where no operation that is offered has the identifier. After a refusal all is as
@@ -61,7 +61,7 @@ impl<S: TreeStore> Replica<S> {
         Ok(self.receive(Rule::RecvOne, Some(from_ref(op)))?)
     }
 
-    /// Takes in one operation of what the replica itself offers, as `recv_one` does.
+    /// Receives one operation of what the replica itself offers, as `recv_one` does.
     pub fn recv_one_own(&mut self, id: Id) -> Result<Trace, ReplicaFault>
         requires { AreHanded self.old.now.send }
         ensures { AnswersEvent (E.Take self.old.number self.old.number id) self.old.now.send self.old self.new result }
@@ -74,7 +74,7 @@ impl<S: TreeStore> Replica<S> {
         Ok(self.receive(Rule::RecvOne, Some(from_ref(&copy)))?)
     }
 
-    /// Takes in by the rule what is offered, or else what the replica itself offers, and gives the trace.
+    /// Receives by the rule what is offered, or else what the replica itself offers, and returns the trace.
     /// After a refusal all is as it was.
     fn receive(&mut self, rule: Rule, offered: Option<&[Op]>) -> Result<Trace, AllocError>
         requires order { IfSome offered (λ ops. AreInOrder ops.now) }

@@ -1,6 +1,7 @@
-//! A replica: its state, and what takes its steps back.
+//! A replica's type: its state, and an undo record for each step. The other files have its events.
 
 ghost use Rattle.std.specs.Prelude.{◌≡◌, ◌≤◌, [], length, map};
+ghost use Rattle.jc_rules.specs.declared.limits.TheConstants.{MAX_COMMANDS};
 ghost use Rattle.jc_rules.specs.Context.{empty};
 ghost use Rattle.jc_rules.specs.State.{start};
 ghost use Rattle.jc_syntax.specs.Trees.{cmd_of};
@@ -16,13 +17,13 @@ use jc_tree::TreeStore;
 use std::alloc::Global;
 use std::marker::Model;
 
-/// A replica with its script, its document in a store, and a record of each of its steps. It is seen
+/// A replica with its script, its document in a store, and an undo record of each of its steps. It is seen
 /// as its number in the order of names, its state, and the states before its steps.
 #[derive(Drop)]
 pub struct Replica<S: TreeStore> {
     pub(crate) number: u16,
     pub(crate) script: Vec<Cmd>,
-    /// How many commands have ended.
+    /// The number of commands that have ended.
     pub(crate) done: usize,
     /// Whether an event of the yield was made.
     pub(crate) acted: bool,
@@ -30,7 +31,7 @@ pub struct Replica<S: TreeStore> {
     pub(crate) store: S,
     /// The identifiers applied.
     pub(crate) ops: IdSet,
-    /// The operations made, by identifier. What is offered is a front of them.
+    /// The operations made, by identifier. The first `sent` of them are offered.
     pub(crate) queue: Vec<Op>,
     pub(crate) sent: usize,
     /// The operations received, by identifier.
@@ -61,7 +62,7 @@ impl<S: TreeStore> Model for Replica<S> {
 impl<S: TreeStore> Replica<S> {
     /// The replica at its start.
     pub fn new(alloc: Global, number: u16, script: Vec<Cmd>, store: S) -> Self
-        requires short { length script.items ≤ 65536 }
+        requires short { length script.items ≤ MAX_COMMANDS }
         requires empty { S.tree store ≡ record { now = empty; earlier = [] } }
         ensures { result ≡ record { number = number; now = start (map cmd_of script.items); earlier = [] } }
     {
@@ -124,7 +125,7 @@ impl<S: TreeStore> Replica<S> {
         self.queue.as_slice()
     }
 
-    /// The operations offered, by identifier. They are a front of those made.
+    /// The operations offered, by identifier. They are a prefix of those made.
     pub fn sent(&self) -> &[Op]
         ensures sent { result.now ≡ self.now.now.send }
         ensures order { AreInOrder result.now }

@@ -1,4 +1,4 @@
-//! Taking steps back.
+//! The way back: a replica's last step is taken back by its undo record.
 
 ghost use Rattle.std.specs.Prelude.{◌≡◌, ◌-◌, [], length, take, IsTrue, IsFalse};
 ghost use Rattle.jc_replica.specs.ReplicaHistory.{replica_history};
@@ -9,7 +9,7 @@ use crate::vars::unbind_var;
 use jc_rules::Op;
 use jc_tree::TreeStore;
 
-/// Takes the last operation away.
+/// Removes the last operation.
 fn drop_last(queue: &mut Vec<Op>)
     ensures { queue.new.items ≡ take (length queue.old.items - 1) queue.old.items }
 {
@@ -18,7 +18,7 @@ fn drop_last(queue: &mut Vec<Op>)
 }
 
 impl<S: TreeStore> Replica<S> {
-    /// Takes the last step back, and says whether there was one. It takes no memory.
+    /// Takes the last step back, and returns whether there was one. It takes no memory.
     pub fn undo(&mut self) -> bool
         ensures undone { IsTrue result → replica_history self.new ≡ self.old.earlier }
         ensures none { IsFalse result → (self.new ≡ self.old) × (self.old.earlier ≡ []) }

@@ -1,4 +1,4 @@
-//! Variables, which stand by name.
+//! The variables of a replica, sorted by name: they are bound by commands, and unbound by `undo`.
 
 ghost use Rattle.std.specs.Prelude.{◌≡◌, ◌<◌, length, IfOk, OnErr};
 ghost use Rattle.std.specs.Option.{option_map};
@@ -13,7 +13,7 @@ use jc_rules::Text;
 use std::alloc::AllocError;
 use std::mem;
 
-/// The number of variables whose names are less.
+/// The number of variables whose names are less than this one.
 fn place_of(vars: &[(Text, Bound)], name: &Text) -> usize
     ensures { result ≡ first_from name.now (vars_of vars.now) }
 {
@@ -24,7 +24,7 @@ fn place_of(vars: &[(Text, Bound)], name: &Text) -> usize
     place
 }
 
-/// Binds the variable. It gives the variable's place and what it was bound to. After a refusal all
+/// Binds the variable. It returns the variable's place and what it was bound to. After a refusal all
 /// is as it was.
 pub fn bind_var(
     vars: &mut Vec<(Text, Bound)>,
@@ -45,7 +45,7 @@ pub fn bind_var(
     Ok((place, None))
 }
 
-/// Gives the variable at the place what it was bound to, or takes it away where it wasn't bound.
+/// Binds the variable at the place to what it was bound to before, or removes it where it wasn't bound.
 pub fn unbind_var(vars: &mut Vec<(Text, Bound)>, place: usize, before: Option<Bound>)
     requires { place < length vars.old.items }
     ensures { vars_of vars.new.items ≡ unbound place (option_map bound_of before) (vars_of vars.old.items) }

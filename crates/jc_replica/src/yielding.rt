@@ -1,4 +1,4 @@
-//! Offering operations, and the end of a yield.
+//! The events `send` and `done` of a replica: it offers its operations, or ends the yield.
 
 ghost use Rattle.std.specs.Prelude.{◌≡◌, ◌∷◌, [], ◌↔◌, IsTrue, List, IfOk, IfErr};
 ghost use Rattle.jc_rules.specs.declared.operation.Event.{Event as AnyEvent};
@@ -27,7 +27,7 @@ pub fn is_yield(command: &Cmd) -> bool
 }
 
 impl<S: TreeStore> Replica<S> {
-    /// Nothing where the next command is `yield`, else why an event of a yield is refused.
+    /// Ok where the next command is `yield`; else the fault for which each event of a yield is refused.
     pub(crate) fn at_yield(&self) -> Result<(), ReplicaFault>
         ensures ok { IfOk result (λ _. (rest : List AnyCmd) × (self.now.now.left ≡ Yield ∷ rest)) }
         ensures err { IfErr result (λ f. (event : AnyEvent) → (read : List AnyOp)
@@ -44,7 +44,7 @@ impl<S: TreeStore> Replica<S> {
         }
     }
 
-    /// Offers what the replica has made, and gives the trace of the event.
+    /// Offers what the replica has made, and returns the trace of the event.
     ///
     /// It is refused with `NoCommand` or `NotAtYield` where no yield comes next. After a refusal all
     /// is as it was.
@@ -68,7 +68,7 @@ impl<S: TreeStore> Replica<S> {
         Ok(trace)
     }
 
-    /// Ends the yield, and gives the trace of the event.
+    /// Ends the yield, and returns the trace of the event.
     ///
     /// It is refused, in this order, with `NoCommand` or `NotAtYield` where no yield comes next, and
     /// `NotActed` where no event of the yield was made. After a refusal all is as it was.

@@ -129,7 +129,7 @@ greatest_bound n (i ∷ s) h =
     let rest = greatest_bound n s (λ k e. h k (or_right (same_id k i) (has_id k s) e)) in
     omega arith
 
-greatest_of_below : (p : ℕ) (s : List Id) → greatest_of p s ≤ greatest s
+pub greatest_of_below : (p : ℕ) (s : List Id) → greatest_of p s ≤ greatest s
 greatest_of_below p s = go (leb 1 (greatest_of p s)) refl
   where
     go : (b : Bool) → leb 1 (greatest_of p s) ≡ b → greatest_of p s ≤ greatest s

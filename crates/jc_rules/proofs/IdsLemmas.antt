@@ -84,7 +84,7 @@ has_id-without k (i ∷ is) deps = go (has_id i deps) refl (same_id k i) refl (h
     go false p false q ih = rw (p, q) ih
     go false p true q ih = let s : k ≡ i = same_id-true k i q in rw (p, q) (rw s (rw p refl))
 
-all_later : (i j : Id) (s : List Id) → id_cmp i j ≡ Less → AllByRecursion (λ k. id_cmp j k ≡ Less) s → AllByRecursion (λ k. id_cmp i k ≡ Less) s
+pub all_later : (i j : Id) (s : List Id) → id_cmp i j ≡ Less → AllByRecursion (λ k. id_cmp j k ≡ Less) s → AllByRecursion (λ k. id_cmp i k ≡ Less) s
 all_later i j [] h a = tt
 all_later i j (k ∷ s) h a = (ids_total.trans i j k h a.0, all_later i j s h a.1)
 

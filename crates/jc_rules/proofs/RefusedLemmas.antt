@@ -259,7 +259,7 @@ answered_passes q a s = passing s.derivation s.holds s.concludes
         let same : p ≡ q = ap asked e in
         subst (λ (x : Question). Passes (tests_of x)) same (rule_passes r p b ps h.0 h.1)
 
-one_answer : (q : Question) (a b : Answer) → IsAnswered q a → IsAnswered q b → a ≡ b
+pub one_answer : (q : Question) (a b : Answer) → IsAnswered q a → IsAnswered q b → a ≡ b
 one_answer q a b s t =
     let same : s.derivation ≡ t.derivation = same_derivation s.derivation t.derivation s.holds t.holds (ap asked s.concludes ∙ sym (ap asked t.concludes)) in
     ap answered (sym s.concludes ∙ ap conclusion same ∙ t.concludes)

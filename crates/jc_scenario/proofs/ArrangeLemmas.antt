@@ -1,4 +1,4 @@
--- A name put into its place among rising names, and its script beside it.
+-- For `order`: a name inserted among rising names, and its script beside it.
 use Rattle.std.proofs.Common.{◌≡◌, ℕ, zero, suc, ◌≤◌, ◌<◌, List, [], ◌∷◌, map, length, get_or, Ok, Err, refl, ap, ◌∙◌, arith}
 use Rattle.std.specs.List.{AllByRecursion, Contains, insert}
 use Rattle.std.specs.List.Sorted.{IsBinarySearchResult, IsPermutation}

@@ -1,11 +1,12 @@
--- What is printed before other symbols, and that what is printed is UTF-8.
-use Rattle.std.proofs.Common.{◌≡◌, ℕ, List, [], ◌∷◌, ◌++◌, slice_index, Bool, true, ap, ◌∙◌, append_assoc}
+-- About `Canon`: symbols printed before other symbols.
+use Rattle.std.proofs.Common.{◌≡◌, ℕ, List, [], ◌∷◌, ◌++◌, Bool, true, ap, ◌∙◌, append_assoc}
 use Rattle.std.specs.List.{list_all}
-use Rattle.std.proofs.lemmas.Bool.{and_parts, or_parts}
+use Rattle.std.proofs.lemmas.Bool.{and_parts}
 use Rattle.jc_syntax.specs.Bytes.{is_blank_byte, is_name_byte, is_number_byte}
 use Rattle.jc_parser.specs.Symbols.{Symbol, word, number, string, dot, open_paren, close_paren, open_brace, close_brace, open_bracket, close_bracket, comma, semicolon, assign, equals}
 use Rattle.jc_printer.proofs.WrittenSymbolsLemmas.{IsPartedBy, IsWritten}
 use Rattle.jc_printer.proofs.PrintedSymbolsLemmas.{IsPrinted, spaced}
+use Rattle.jc_printer.proofs.CanonTreesLemmas.{number_parts}
 
 -- ---- symbols before others
 
@@ -13,9 +14,6 @@ use Rattle.jc_printer.proofs.PrintedSymbolsLemmas.{IsPrinted, spaced}
 parted : (p : ℕ → Bool) (own rest : List ℕ) → IsPartedBy p own → IsPartedBy p rest → IsPartedBy p (own ++ rest)
 parted p [] rest before after = after
 parted p (b ∷ own) rest before after = before
-
-number_parts : (rest : List ℕ) → IsPartedBy is_number_byte rest → IsPartedBy is_name_byte rest
-number_parts rest h = (or_parts (is_name_byte (slice_index rest 0)) _ h).0
 
 written_before : (s : Symbol) (own rest more : List ℕ) → IsPartedBy is_number_byte more → IsWritten s own rest → IsWritten s own (rest ++ more)
 written_before (word name) own rest more h w = (w.0, w.1, parted is_name_byte rest more w.2 (number_parts more h))

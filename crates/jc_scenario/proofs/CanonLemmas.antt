@@ -1,4 +1,4 @@
--- The canonical text of a scenario is written with symbols of its tree.
+-- About `Canon`: the canonical text of a scenario is written with symbols of its tree.
 use Rattle.std.proofs.Common.{◌≡◌, ℕ, List, [], ◌∷◌, ◌++◌, map, length, inr, refl, sym, ap, subst, arith, append_assoc}
 use Rattle.std.specs.Prelude.{codes, flat_map, All}
 use Rattle.std.proofs.lemmas.List.Elements.{All-nil, All-cons, All-head, All-tail}

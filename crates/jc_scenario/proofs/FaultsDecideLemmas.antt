@@ -1,4 +1,4 @@
--- Bytes that are no scenario have a fault.
+-- About `Faults`: bytes that are no scenario have a fault.
 use Rattle.std.proofs.Common.{◌≡◌, ◌≢◌, ℕ, zero, suc, ◌≤◌, ◌<◌, ◌⊎◌, inl, inr, List, [], ◌∷◌, ◌++◌, map, length, get_or, refl, sym, ap, subst, ◌∙◌, arith}
 use Rattle.std.specs.List.{AllPairs, Contains, insert}
 use Rattle.std.specs.Str.{IsUtf8, bytes_eq, is_utf8}

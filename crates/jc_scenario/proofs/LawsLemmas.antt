@@ -1,10 +1,10 @@
--- Bytes are one scenario, or have one fault, and not both.
+-- About `Laws`: bytes are one scenario, or have one fault, and not both.
 use Rattle.std.proofs.Common.{◌≡◌, ℕ, ◌≤◌, inl, inr, List, [], ◌∷◌, ◌++◌, length, map, sym, ap, subst, ◌∙◌, arith}
 use Rattle.std.specs.Prelude.{All}
-use Rattle.std.proofs.lemmas.List.Elements.{All-nil, All-cons, All-weaker}
+use Rattle.std.proofs.lemmas.List.Elements.{All-weaker}
 use Rattle.jc_syntax.specs.declared.fault.LexFault.{LexFault}
 use Rattle.jc_syntax.specs.declared.token.Token.{Token}
-use Rattle.jc_syntax.specs.Lexemes.{AreTokens, AreTokensOf, IsTokenOf, IsFaultOf}
+use Rattle.jc_syntax.specs.Lexemes.{AreTokensOf, IsTokenOf, IsFaultOf}
 use Rattle.jc_parser.specs.declared.fault.ScenarioFault.{ScenarioFault}
 use Rattle.jc_parser.specs.declared.fault.ScenarioFault.TheVariants.{UnknownReplica}
 use Rattle.jc_parser.specs.Faults.{from_lexer}
@@ -20,6 +20,7 @@ use Rattle.jc_scenario.specs.Laws.{OneScenario, ScenarioOrFault, OneFault, Scena
 use Rattle.jc_scenario.proofs.WellFormedLemmas.{well_formed}
 use Rattle.jc_scenario.proofs.UnknownNamesLemmas.{one_stranger, no_stranger}
 use Rattle.jc_scenario.proofs.UniqueLemmas.{one_of_tree}
+use Rattle.jc_syntax.proofs.LexemesLemmas.{each_token}
 
 abbrev pub OneList : Type 0
 OneList = (text : List ℕ) (ts us : List Token) → AreTokensOf text ts → AreTokensOf text us → ts ≡ us
@@ -84,10 +85,6 @@ one_fault one_list one_lexical no_lexical one_tree no_fault one bytes e f (inr (
 one_fault one_list one_lexical no_lexical one_tree no_fault one bytes e f (inr (short, h)) (inr (short2, g)) = one_within one_list one_lexical no_lexical one_tree no_fault one bytes e f h g
 
 -- ---- well-formed scenarios
-
-each_token : (text : List ℕ) (at place : ℕ) (ts : List Token) → length text ≤ 8388608 → AreTokens text at ts place → All (IsTokenOf text) ts
-each_token text at place [] short h = All-nil (IsTokenOf text)
-each_token text at place (t ∷ ts) short h = All-cons (IsTokenOf text) t ts (short, h.2) (each_token text t.stop place ts short h.3)
 
 pub well_formed_scenarios : LegalScenarios → ScenariosAreWellFormed
 well_formed_scenarios legal bytes s a =

@@ -1,4 +1,4 @@
--- Lexemes that a scenario is written with give each name in its events its place.
+-- About `WellFormed`: lexemes that a scenario is written with give each name in its events its offset.
 use Rattle.std.proofs.Common.{◌≡◌, ℕ, List, [], ◌∷◌, ◌++◌, map, inl, inr, refl, sym, ap, subst, ◌∙◌}
 use Rattle.std.specs.Prelude.{All}
 use Rattle.std.proofs.lemmas.List.Elements.{All-head, All-tail}
@@ -12,6 +12,7 @@ use Rattle.jc_parser.specs.Events.{Call, call_of, IsCallSpelled}
 use Rattle.jc_parser.specs.LegalSymbols.{call_by, IsCounterBelow}
 use Rattle.jc_parser.specs.Scenarios.{Part, ScenarioTree, NamedTree, tree_of_named, header, given_head, schedule_head, IsBlockSpelled, IsGivenSpelled, IsScheduleSpelled, IsTreeSpelled, AreEvents, AreBlock, AreGiven, AreBlocks}
 use Rattle.jc_printer.proofs.CanonEventsLemmas.{named_event}
+use Rattle.jc_parser.proofs.PartsReadLemmas.{split_none}
 
 -- lexemes of symbols that stand one behind the other
 record Parted (ls : List Lexeme) (a b : List Symbol) : Type 0 where
@@ -48,10 +49,6 @@ leads : (ls : List Lexeme) (s : Symbol) (b : List Symbol) → symbols ls ≡ s �
 leads [] s b same = cc
 leads (l ∷ ls) s b same = record { first = l; others = ls; is = refl; symbol = cc; second = cc }
 
-none_left : (ls : List Lexeme) → symbols ls ≡ [] → ls ≡ []
-none_left [] same = refl
-none_left (l ∷ ls) same = cc
-
 -- ---- events
 
 -- lexemes of events by numbers, as events with the places of their names
@@ -61,7 +58,7 @@ record ArePlaced (Are : List NamedEvent → List Lexeme → Type 0) (names : Lis
   are : Are events ls
 
 placed_events : (v : Version) (names : List (List ℕ)) (es : List Event) (ls : List Lexeme) → All IsCounterBelow es → IsListText (IsCallSpelled v) (map (call_by names) es) (symbols ls) → ArePlaced (AreEvents v) names es ls
-placed_events v names [] ls small none = record { events = []; same = refl; are = none_left ls none }
+placed_events v names [] ls small none = record { events = []; same = refl; are = split_none ls none }
 placed_events v names (e ∷ []) ls small (u, spelled, inl (last, text)) =
     let one = named_event v names e ls (All-head IsCounterBelow e [] small) (subst (IsCallSpelled v (call_by names e)) (sym text) spelled) in
     record { events = one.event ∷ []; same = ap (λ (c : Call). c ∷ []) one.same; are = (ls, one.is, inl (refl, refl)) }
@@ -81,10 +78,10 @@ placed_events v names (e ∷ es) ls small (u, spelled, inr (w, text, rest)) =
 
 -- the lexemes of a block, from three parts
 block_parts : (ls front back listed last others : List Lexeme) (brace : Lexeme) → ls ≡ front ++ back → back ≡ listed ++ last → last ≡ brace ∷ others → symbols others ≡ [] → ls ≡ front ++ (listed ++ brace ∷ [])
-block_parts ls front back listed last others brace whole inner end none = rw (whole, inner, end, none_left others none) refl
+block_parts ls front back listed last others brace whole inner end none = rw (whole, inner, end, split_none others none) refl
 
 placed_block : (head : List Symbol) (v : Version) (names : List (List ℕ)) (es : List Event) (ls : List Lexeme) → All IsCounterBelow es → IsBlockSpelled head v (map (call_by names) es) (symbols ls) → ArePlaced (AreBlock head v) names es ls
-placed_block head v names es ls small (inl (none, nil)) = record { events = []; same = sym none; are = inl (refl, none_left ls nil) }
+placed_block head v names es ls small (inl (none, nil)) = record { events = []; same = sym none; are = inl (refl, split_none ls nil) }
 placed_block head v names es ls small (inr (l, listed, block)) =
     let whole = parted ls head (l ++ close_brace ∷ []) block in
     let inner = parted whole.back l (close_brace ∷ []) whole.second in
@@ -97,7 +94,7 @@ placed_block head v names es ls small (inr (l, listed, block)) =
     }
 
 placed_given : (v : Version) (names : List (List ℕ)) (es : List Event) (ls : List Lexeme) → All IsCounterBelow es → IsGivenSpelled v (map (call_by names) es) (symbols ls) → ArePlaced (AreGiven v) names es ls
-placed_given One names es ls small (none, nil) = record { events = []; same = sym none; are = (refl, none_left ls nil) }
+placed_given One names es ls small (none, nil) = record { events = []; same = sym none; are = (refl, split_none ls nil) }
 placed_given Two names es ls small spelled =
     let block = placed_block given_head Two names es ls small spelled in
     record { events = block.events; same = block.same; are = block.are }

@@ -1,4 +1,4 @@
--- The canonical text of a well-formed scenario is that scenario.
+-- About `Laws`: the canonical text of a well-formed scenario is that scenario.
 use Rattle.std.proofs.Common.{◌≡◌, ◌≢◌, ℕ, ◌≤◌, List, [], ◌∷◌, ◌++◌, map, length, true, false, inl, inr, refl, sym, ap, subst, ◌∙◌, arith, append_assoc, append-nil}
 use Rattle.std.specs.Prelude.{codes, flat_map, All}
 use Rattle.std.specs.Char.{is_ascii_digit}

@@ -1,4 +1,4 @@
--- The scenario of tokens, or its fault, from what is read, arranged and resolved.
+-- For `reading`: the scenario of tokens, or its fault, from what is read, arranged and resolved.
 use Rattle.std.proofs.Common.{◌≡◌, ℕ, ◌≤◌, List, ◌++◌, map, length, refl, ap, ◌∙◌, arith}
 use Rattle.std.specs.List.Sorted.{IsPermutation}
 use Rattle.std.proofs.lemmas.List.{length-map}

@@ -1,4 +1,4 @@
--- The scenario of a legal tree is well formed.
+-- About `WellFormed`: the scenario of a legal tree is well formed.
 use Rattle.std.proofs.Common.{◌≡◌, ◌≢◌, ℕ, List, [], ◌∷◌, map, length, false, inl, inr, refl, sym, ap, subst, ◌∙◌, arith}
 use Rattle.std.specs.Prelude.{All}
 use Rattle.std.proofs.lemmas.List.{length-map}

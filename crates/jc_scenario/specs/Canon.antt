@@ -1,4 +1,4 @@
--- The canonical text of a scenario. Each line ends with LF.
+-- The canonical text of a scenario, which `print` writes. Each line ends with LF.
 use Rattle.std.specs.Prelude.{ℕ, List, [], ◌++◌, codes, flat_map}
 use Rattle.jc_rules.specs.declared.operation.Event.{Event}
 use Rattle.jc_rules.specs.declared.version.Version.{Version}
@@ -42,4 +42,5 @@ canon s =
 
 -- the text of version 1: the header, the replicas and the schedule
 abbrev pub canon_one : Scenario → List ℕ
-canon_one s = codes "jsoncrdt 1\n" ++ flat_map canon_part (parts_of s.names s.scripts) ++ canon_schedule s.names s.schedule
+canon_one s =
+    codes "jsoncrdt 1\n" ++ flat_map canon_part (parts_of s.names s.scripts) ++ canon_schedule s.names s.schedule

@@ -1,7 +1,8 @@
--- The fault of bytes that are no scenario, and its place.
+-- The fault of bytes that are no scenario, with its offset. `read` returns it.
 use Rattle.std.specs.Prelude.{◌≡◌, ℕ, ◌≤◌, ◌<◌, ◌⊎◌, List, ◌++◌, length, map}
 use Rattle.std.specs.Str.{IsUtf8}
 use Rattle.std.specs.Str.Lossy.{utf8_valid_len}
+use Rattle.jc_rules.specs.declared.limits.TheConstants.{MAX_TEXT}
 use Rattle.jc_syntax.specs.declared.token.Token.{Token}
 use Rattle.jc_syntax.specs.declared.fault.LexFault.{LexFault}
 use Rattle.jc_syntax.specs.Lexemes.{AreTokensOf, IsFaultOf}
@@ -13,8 +14,8 @@ use Rattle.jc_parser.specs.Scenarios.{NamedTree, name_of_part, IsNamedTree}
 use Rattle.jc_parser.specs.ScenarioFaults.{IsTreeFault}
 use Rattle.jc_scenario.specs.Resolved.{all_names_in, IsFirstStranger}
 
--- These lexemes are a scenario, but for a name in its events that no replica has; the first such name stands there. The
--- given events stand before the schedule's.
+-- These lexemes are a scenario, but for names in its events that no replica has. The first such name is at this offset;
+-- the given events are before the schedule's.
 pub record IsStranger (r : Reading) (fault : ScenarioFault) : Type 0 where
   pub tree : NamedTree
   pub named : IsNamedTree r tree
@@ -22,12 +23,12 @@ pub record IsStranger (r : Reading) (fault : ScenarioFault) : Type 0 where
   pub first : IsFirstStranger (map name_of_part tree.parts) (all_names_in (tree.given ++ tree.events)) place
   pub is : fault ≡ UnknownReplica place
 
--- the fault of these lexemes: that of the scenario's sentence, or else of a name in its events
+-- the fault of these lexemes: that of the grammar, else that of a name in its events
 abbrev pub IsFaultAmong : Reading → ScenarioFault → Type 0
 IsFaultAmong r fault = IsTreeFault r fault ⊎ IsStranger r fault
 
--- The fault of bytes within the text's limit: that they are not UTF-8, or else that of their tokens, or else that of
--- their scenario.
+-- the fault of bytes within the text's limit: that they are not UTF-8, else that of their tokens, else that of their
+-- lexemes
 abbrev pub IsFaultWithin : List ℕ → ScenarioFault → Type 0
 IsFaultWithin bytes fault =
     ((IsUtf8 bytes → ⊥) × (fault ≡ NotUtf8 (utf8_valid_len bytes)))
@@ -37,5 +38,5 @@ IsFaultWithin bytes fault =
 -- the fault of bytes
 abbrev pub IsFault : List ℕ → ScenarioFault → Type 0
 IsFault bytes fault =
-    ((8388608 < length bytes) × (fault ≡ TextTooLong 8388608))
-    ⊎ ((length bytes ≤ 8388608) × IsFaultWithin bytes fault)
+    ((MAX_TEXT < length bytes) × (fault ≡ TextTooLong MAX_TEXT))
+    ⊎ ((length bytes ≤ MAX_TEXT) × IsFaultWithin bytes fault)

@@ -1,6 +1,7 @@
--- What the definitions promise by themselves.
+-- The statements of `laws`, which follow from the definitions alone.
 use Rattle.std.specs.Prelude.{◌≡◌, ◌⊎◌, ℕ, ◌≤◌, List, length}
 use Rattle.jc_rules.specs.declared.version.Version.TheVariants.{One}
+use Rattle.jc_rules.specs.declared.limits.TheConstants.{MAX_TEXT}
 use Rattle.jc_parser.specs.declared.fault.ScenarioFault.{ScenarioFault}
 use Rattle.jc_scenario.specs.WellFormed.{Scenario, IsWellFormedScenario, IsScenario}
 use Rattle.jc_scenario.specs.Faults.{IsFault}
@@ -30,7 +31,7 @@ ScenariosAreWellFormed = (bytes : List ℕ) (s : Scenario) → IsScenario bytes 
 
 -- The canonical text of a well-formed scenario, within the limit for texts, is that scenario.
 abbrev pub ScenariosReadBack : Type 0
-ScenariosReadBack = (s : Scenario) → IsWellFormedScenario s → length (canon s) ≤ 8388608 → IsScenario (canon s) s
+ScenariosReadBack = (s : Scenario) → IsWellFormedScenario s → length (canon s) ≤ MAX_TEXT → IsScenario (canon s) s
 
 -- A scenario of version 1 is written as version 1 writes it: without given events.
 abbrev pub FirstVersionStays : Type 0

@@ -1,4 +1,4 @@
--- Names in events, and the numbers of the replicas that have them.
+-- Names in events and the replicas' numbers, for `resolve` and for scenarios of texts.
 use Rattle.std.specs.Prelude.{◌≡◌, ℕ, ◌⊎◌, List, [], ◌∷◌, length, map, flat_map, All}
 use Rattle.std.specs.List.{Contains}
 use Rattle.jc_rules.specs.declared.operation.Event.{Event}
@@ -11,7 +11,7 @@ use Rattle.jc_printer.specs.Canon.{AreNamed}
 
 -- ---- one event
 
--- its replicas have these numbers: by their names it is called as it was written
+-- its replicas have these numbers: with their names it is the event that was written
 pub record IsResolved (names : List (List ℕ)) (named : NamedEvent) (event : Event) : Type 0 where
   pub known : AreNamed event (length names)
   pub called : call_by names event ≡ call_of named
@@ -25,7 +25,7 @@ names_in_event (Take p q counter r) = p ∷ q ∷ r ∷ []
 names_in_event (Apply p counter q) = p ∷ q ∷ []
 names_in_event (Done p) = p ∷ []
 
--- the first of these names that no replica has stands there
+-- the first of these names that no replica has is at this offset
 abbrev pub IsFirstStranger : List (List ℕ) → List Named → ℕ → Type 0
 IsFirstStranger names [] at = ⊥
 IsFirstStranger names (x ∷ xs) at =

@@ -1,4 +1,4 @@
--- What contracts see of scripts and scenarios in memory.
+-- The scripts and scenarios that those in memory represent. Contracts are about these.
 use Rattle.std.specs.Prelude.{List, map}
 use Rattle.std.specs.declared.alloc.Global.{Global}
 use Rattle.std.specs.declared.vec.Vec.{Vec}

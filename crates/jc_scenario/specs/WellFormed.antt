@@ -1,4 +1,4 @@
--- Scenarios, and the bytes that are one.
+-- Scenarios as plain lists, which of them are well formed, and the bytes that are one. `read` returns these.
 use Rattle.std.specs.Prelude.{◌≡◌, ◌≢◌, ℕ, ◌≤◌, List, [], ◌∷◌, length, map, false, All, IsPermutation}
 use Rattle.std.specs.Str.{IsUtf8}
 use Rattle.jc_rules.specs.declared.operation.Event.{Event}
@@ -8,6 +8,7 @@ use Rattle.jc_rules.specs.Entries.{IsRising}
 use Rattle.jc_rules.specs.Order.{name_cmp}
 use Rattle.jc_rules.specs.Syntax.{Cmd}
 use Rattle.jc_rules.specs.Version.{Allows}
+use Rattle.jc_rules.specs.declared.limits.TheConstants.{MAX_EVENTS, MAX_REPLICAS}
 use Rattle.jc_syntax.specs.declared.token.Token.{Token}
 use Rattle.jc_syntax.specs.Lexemes.{AreTokensOf}
 use Rattle.jc_parser.specs.ReaderState.{Reading, reading_of}
@@ -17,8 +18,8 @@ use Rattle.jc_parser.specs.LegalSymbols.{IsName, IsLegalCmd, call_by, IsCounterB
 use Rattle.jc_parser.specs.Scenarios.{Part, ScenarioTree, NamedTree, tree_of_named, IsNamedTree}
 use Rattle.jc_printer.specs.Canon.{AreNamed}
 
--- The version of its text, the replicas' names, their scripts, and events by the numbers of the replicas: those that are
--- given, which run before the schedule's first, and the schedule.
+-- The version of its text, the replicas' names, their scripts, and events by the numbers of the replicas: the given
+-- events, which run before the schedule, and the schedule.
 pub record Scenario : Type 0 where
   pub version : Version
   pub names : List (List ℕ)
@@ -37,7 +38,7 @@ parts_of (n ∷ ns) (s ∷ ss) = record { name = n; script = s } ∷ parts_of ns
 pub record IsWellFormedScenario (s : Scenario) : Type 0 where
   -- the replicas, in the order of their names
   pub some : s.names ≢ []
-  pub few : length s.names ≤ 64
+  pub few : length s.names ≤ MAX_REPLICAS
   pub legal : All IsName s.names
   pub free : All (λ n. is_reserved n ≡ false) s.names
   pub rising : IsRising name_cmp s.names
@@ -47,11 +48,11 @@ pub record IsWellFormedScenario (s : Scenario) : Type 0 where
   pub commands : All (λ script. All IsLegalCmd script) s.scripts
   -- the given events, of which version 1 has none
   pub first_given : s.version ≡ One → s.given ≡ []
-  pub given_short : length s.given ≤ 100000
+  pub given_short : length s.given ≤ MAX_EVENTS
   pub given_known : All (λ e. AreNamed e (length s.names)) s.given
   pub given_counters : All IsCounterBelow s.given
   -- the schedule, whose events the version has
-  pub short : length s.schedule ≤ 100000
+  pub short : length s.schedule ≤ MAX_EVENTS
   pub known : All (λ e. AreNamed e (length s.names)) s.schedule
   pub counters : All IsCounterBelow s.schedule
   pub allowed : All (λ e. Allows e s.version) s.schedule

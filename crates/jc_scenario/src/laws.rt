@@ -1,5 +1,5 @@
-//! Laws of the definitions: bytes are one scenario or have one fault, what is read is well formed, and what
-//! is printed is read back.
+//! Laws of scenarios, for the layers above: bytes are one scenario or have one fault, what is read is well formed,
+//! and what is printed is read back.
 
 ghost use Rattle.jc_scenario.specs.Laws.{OneScenario, ScenarioOrFault, ScenarioElseFault, OneFault, ScenariosAreWellFormed, ScenariosReadBack, FirstVersionStays};
 

@@ -1,4 +1,4 @@
-//! Texts of scenarios, both ways.
+//! Scenarios from their texts, and their canonical texts. Networks and sessions start from here.
 #![tactic(auto)]
 
 pub mod laws;

@@ -1,4 +1,4 @@
-//! Names of replicas in events.
+//! The numbers of the replicas that an event names. `reading` and sessions resolve events with it.
 
 ghost use Rattle.std.specs.Prelude.{◌≡◌, ◌≢◌, ◌≤◌, IfOk, IfErr, Some, length, slice_get, Contains};
 ghost use Rattle.jc_parser.specs.declared.fault.ScenarioFault.TheVariants as faults;
@@ -11,7 +11,7 @@ use jc_syntax::{Named, NamedEvent};
 /// A name in an event that no replica has.
 #[derive(Clone, Copy, Debug, PartialEq, Eq)]
 pub struct UnknownReplica {
-    /// Where the name stands in the text: a byte number from 0.
+    /// The offset of the name in the text.
     pub place: usize,
 }
 
@@ -39,14 +39,14 @@ fn number_of(names: &[Text], named: &Named) -> Result<u16, UnknownReplica>
     Err(UnknownReplica { place: named.place })
 }
 
-/// The event by the numbers of its replicas, which are their places in the list of names. It takes no memory.
+/// The event by the numbers of its replicas. A replica's number is where its name is in the list. It takes no memory.
 ///
-/// `UnknownReplica` is at the first of its names, from the left, that isn't in the list.
+/// `UnknownReplica` is at the first of the event's names, from the left, that isn't in the list.
 pub fn resolve(names: &[Text], event: &NamedEvent) -> Result<Event, UnknownReplica>
     requires few { length names.now ≤ 65536 }
-    // Each replica has its number.
+    // Each name is the one at its replica's number.
     ensures event { IfOk result (λ e. IsResolved names.now event.now e) }
-    // The first name that no replica has stands there.
+    // At this offset is the first name that no replica has.
     ensures fault { IfErr result (λ e. IsFirstStranger names.now (names_in_event event.now) e.place) }
 {
     match event {

@@ -1,4 +1,4 @@
-//! Replicas in the order of their names.
+//! The replicas of a text, put in the order of their names. `reading` numbers them so.
 
 ghost use Rattle.std.specs.Prelude.{◌≡◌, ◌≢◌, ◌∷◌, IfOk, OnOk, All, AllPairs, Contains, IsPermutation, length, map};
 ghost use Rattle.jc_rules.specs.Entries.{IsRising};
@@ -12,7 +12,7 @@ use jc_rules::Text;
 use jc_syntax::Cmd;
 use std::alloc::{AllocError, Global};
 
-/// Puts a replica where its name stands in the order of names.
+/// Inserts a replica where its name belongs in the order of names.
 fn enter(
     names: &mut Vec<Text>,
     scripts: &mut Vec<Vec<Cmd>>,
@@ -36,7 +36,7 @@ fn enter(
     Ok(())
 }
 
-/// The names of the replicas in their order, and the script of each.
+/// The names of the replicas in rising order, and the script of each.
 pub(crate) fn arranged(
     alloc: Global,
     replicas: Vec<NamedReplica>,

@@ -1,4 +1,4 @@
-//! The canonical text of a scenario.
+//! The canonical text of a scenario, which `read` reads back.
 
 ghost use Rattle.std.specs.Prelude.{◌≡◌, ◌++◌, ◌<◌, ◌≤◌, OnOk, IfOk, All, string_bytes, map, length, codes, flat_map};
 ghost use Rattle.jc_syntax.specs.Trees.{cmd_of};
@@ -13,7 +13,7 @@ use jc_rules::{Event, Text, Version};
 use jc_syntax::Cmd;
 use std::alloc::{AllocError, Global};
 
-/// The canonical text of a scenario. It may be longer than a text that `read` takes.
+/// The canonical text of a scenario. It may be longer than the limit of `read`.
 pub fn print(alloc: Global, scenario: &Scenario) -> Result<String, AllocError>
     requires { IsWellFormedScenario (scenario_view scenario.now) }
     ensures { IfOk result (λ text. string_bytes text ≡ canon (scenario_view scenario.now)) }

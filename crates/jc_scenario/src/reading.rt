@@ -1,4 +1,4 @@
-//! Reads scenarios.
+//! From the bytes of a scenario text to the scenario, or its fault.
 
 ghost use Rattle.std.specs.Prelude.{◌≡◌, ◌≢◌, ℕ, ◌≤◌, IfOk, IfErr, All, length};
 ghost use Rattle.jc_syntax.specs.Lexemes.{IsTokenOf};
@@ -13,11 +13,12 @@ use crate::names::resolve;
 use crate::order::arranged;
 use crate::scenario::Scenario;
 use jc_parser::{NamedScenario, ScenarioFault, scenario_of};
+use jc_rules::limits::MAX_TEXT;
 use jc_rules::{Event, Text};
-use jc_syntax::{MAX_TEXT, NamedEvent, Token, lex};
+use jc_syntax::{NamedEvent, Token, lex};
 use std::alloc::Global;
 
-/// The events of a list by the numbers of their replicas, if each name is a replica's.
+/// The events by the numbers of their replicas, if each name is a replica's.
 fn resolved(
     alloc: Global,
     names: &[Text],
@@ -59,16 +60,16 @@ fn scenario(alloc: Global, text: &str, tokens: &[Token]) -> Result<Scenario, Sce
     })
 }
 
-/// Reads the text of a scenario. Its replicas stand in the order of their names then, and its events
-/// name them by number.
+/// Reads the text of a scenario. The replicas are sorted by their names, and events have their numbers in
+/// that order.
 ///
 /// Refusals, in this order: `TextTooLong` for a text over 8,388,608 bytes; `NotUtf8`; the first
 /// fault of a token; `NoHeader`; then the first by place of `Unexpected`, `EndOfText`,
 /// `IndexTooLarge`, `ReservedName`, `TooManyCommands`, `TooLongExpression`, `SameName`,
 /// `NoReplica`, `TooManyReplicas` and `TooManyEvents`, at one place that with the smaller number;
-/// then `UnknownReplica` at the first such name. Given events and those of the schedule are counted
-/// apart for `TooManyEvents`. Events that take one operation and given events are of version 2, and
-/// `Unexpected` in version 1.
+/// then `UnknownReplica` at the first such name. `TooManyEvents` counts the given events and those of
+/// the schedule apart. A block of given events and an event `take` are of version 2, and `Unexpected` in
+/// version 1.
 pub fn read(alloc: Global, bytes: &[u8]) -> Result<Scenario, ScenarioFault>
     // What is read is the scenario that the bytes are.
     ensures scenario { IfOk result (λ s. IsScenario bytes.now (scenario_view s)) }

@@ -1,4 +1,4 @@
-//! Scenarios.
+//! Scenarios in memory, as `read` returns them and networks start with them.
 
 ghost use Rattle.std.specs.Prelude.{◌≡◌, IfOk};
 ghost use Rattle.jc_scenario.specs.Views.{scripts_view};
@@ -7,8 +7,8 @@ use jc_rules::{Event, Text, Version};
 use jc_syntax::{Cmd, copy_script};
 use std::alloc::{AllocError, Global};
 
-/// Replicas in the order of their names, each with its script, and a schedule of events by the numbers
-/// of the replicas.
+/// Replicas in the order of their names, each with its script; and given events and a schedule, by the numbers of the
+/// replicas.
 #[derive(Drop)]
 pub struct Scenario {
     /// The version of its text.
@@ -16,7 +16,7 @@ pub struct Scenario {
     pub names: Vec<Text>,
     /// The script of each replica.
     pub scripts: Vec<Vec<Cmd>>,
-    /// Events that run before the first one of the schedule. They lead to its start. In version 1 there is none.
+    /// Events that run before the schedule and lead to its start. Version 1 has none.
     pub given: Vec<Event>,
     pub schedule: Vec<Event>,
 }
@@ -24,7 +24,7 @@ pub struct Scenario {
 impl Scenario {
     ghost use Rattle.jc_scenario.specs.Views.{scenario_view};
 
-    /// The same scenario once more.
+    /// A copy of the scenario.
     pub fn copy(&self) -> Result<Self, AllocError>
         ensures { IfOk result (λ scenario. scenario_view scenario ≡ scenario_view self.now) }
     {
@@ -39,7 +39,7 @@ impl Scenario {
     }
 }
 
-/// The same names once more.
+/// A copy of the names.
 pub fn copy_names(alloc: Global, names: &[Text]) -> Result<Vec<Text>, AllocError>
     ensures { IfOk result (λ copies. copies.items ≡ names.now) }
 {

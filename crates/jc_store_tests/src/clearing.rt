@@ -51,14 +51,14 @@ fn has<S: TreeStore>(store: &S, at: &[Tagged], key: &Key, ids: &[Id], values: us
             .is_some_and(|pairs| pairs.len() == values)
 }
 
-/// What is cleared: what stands under a tagged key, or a key under each tag.
+/// What is cleared: what is under a tagged key, or a key under each tag.
 #[derive(Clone, Copy)]
 enum Cleared<'a> {
     Child(&'a Tagged),
     Key(&'a Key),
 }
 
-/// Clears at the place, and gives the identifiers that are left.
+/// Clears at the place, and returns the identifiers that are left.
 fn left_after<S: TreeStore>(
     alloc: Global,
     store: &mut S,

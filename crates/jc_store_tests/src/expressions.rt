@@ -13,7 +13,7 @@ use jc_tree::{TreeStore, is_place};
 use std::alloc::{AllocError, Global};
 use std::process::Abort;
 
-/// What the expression gives.
+/// What the expression evaluates to.
 fn given<S: TreeStore>(
     alloc: Global,
     store: &S,
@@ -61,7 +61,7 @@ fn is_value(bound: &Bound) -> bool {
     }
 }
 
-/// What an expression gives, or why it is refused.
+/// What an expression evaluates to, or why it is refused.
 #[derive(Clone, Copy)]
 pub enum Want {
     /// The element of the document's list with this counter.
@@ -109,7 +109,7 @@ fn is_as(outcome: &Result<Bound, EvalFault>, want: Want) -> Result<bool, AllocEr
     }
 }
 
-/// Whether the expression gives that by so many rules; where it is refused, the trace is as it was.
+/// Whether the expression evaluates to that by so many rules; where it is refused, the trace is as it was.
 pub fn gives<S: TreeStore>(
     alloc: Global,
     store: &S,

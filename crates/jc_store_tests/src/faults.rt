@@ -1,4 +1,4 @@
-//! Copies of why a replica refuses an event.
+//! Copies of the faults by which a replica refuses an event.
 
 use jc_replica::ReplicaFault;
 use jc_rules::{Key, Tagged};

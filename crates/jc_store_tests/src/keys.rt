@@ -34,7 +34,7 @@ const TENTH: Id = Id {
     replica: 0,
 };
 
-/// A key. They stand in the order of keys.
+/// A key. The variants are in the order of keys.
 #[derive(Clone, Copy)]
 pub enum At {
     Doc,

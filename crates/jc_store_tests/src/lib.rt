@@ -1,5 +1,5 @@
 //! Tests of stores and of all that works on one alone: calls that no session shows, or that are made on a plain store.
-//! What a session shows stands as rows in jc_rows.
+//! What a session shows is in the rows of jc_rows.
 #![tactic(auto)]
 
 #[cfg(test)]

@@ -1,4 +1,4 @@
-//! Documents that operations made, each after all before it; what operations give, and what fits.
+//! Documents that operations made, each after all before it: what operations lead to, and what fits.
 
 ghost use Rattle.std.specs.Prelude.{◌≢◌, ◌+◌, ◌<◌, IfOk, OnOk};
 ghost use Rattle.jc_rules.specs.declared.id.Id.{Id as AnyId};
@@ -9,6 +9,7 @@ ghost use Rattle.jc_store_tests.specs.Ready.{IsReady};
 use crate::keys::{At, Keys, Tag, text};
 use crate::texts::is_shown;
 use jc_apply::{ApplyFault, apply_op, fits};
+use jc_rules::limits::MAX_PATH;
 use jc_rules::{Cursor, Id, IdSet, Mutation, Op, Path, Tagged, Trace, Value};
 use jc_tree::{ArenaTree, PlainTree, TreeStore};
 use std::alloc::{AllocError, Global};
@@ -32,7 +33,7 @@ pub struct Made {
 }
 
 fn push_key(keys: &Keys, path: &mut Path, tag: Tag, at: At) -> Result<(), AllocError> {
-    if path.as_slice().len() >= 512 {
+    if path.as_slice().len() >= MAX_PATH {
         return Err(AllocError);
     }
     let key = keys.key(at).copy()?;

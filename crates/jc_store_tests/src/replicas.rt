@@ -8,6 +8,7 @@ use crate::keys::Keys;
 use crate::texts::is_shown;
 use jc_parser::parse_script;
 use jc_replica::{Replica, ReplicaFault};
+use jc_rules::limits::{MAX_COMMANDS, MAX_PATH};
 use jc_rules::{Event, Id, Op, Rule, Trace};
 use jc_tree::PlainTree;
 use std::alloc::{AllocError, Global};
@@ -23,11 +24,11 @@ fn replica(
     let Ok(script) = parse_script(alloc, script) else {
         return Err(AllocError);
     };
-    assert!(rt; script.len() <= 65_536);
+    assert!(rt; script.len() <= MAX_COMMANDS);
     Ok(Replica::new(alloc, number, script, PlainTree::new(alloc)))
 }
 
-/// Whether each counter is one that a replica may be handed.
+/// Whether each counter is one that a replica may be passed.
 fn are_handed(ops: &[Op]) -> bool
     ensures { result ≡ list_all (λ (o : AnyOp). leb 1 o.id.counter && leb o.id.counter 4194304) ops.now }
 {
@@ -106,8 +107,8 @@ fn make(
     }
 }
 
-/// What is seen of a replica: its commands left, whether it acted, its variables, the greatest counters applied of both
-/// replicas, and its operations made, offered and received.
+/// What is seen of a replica: its commands left, whether it acted, its variables, the greatest counters
+/// that it applied of both replicas, and its operations made, offered and received.
 #[derive(Clone, Copy, PartialEq, Eq)]
 struct Seen {
     left: usize,
@@ -498,7 +499,7 @@ pub fn takings(rt: &impl Abort, keys: &Keys) -> Result<(), AllocError> {
 /// A script whose 515th command leads to the deepest cursor; the one after it would lead deeper.
 fn deepest_script(alloc: Global) -> Result<String, AllocError> {
     let mut script = String::from_str(alloc, "let x = doc")?;
-    for _ in 0..512 {
+    for _ in 0..MAX_PATH {
         script.push_str("; let x = x.get(\"a\")")?;
     }
     script.push_str("; x := 1; doc := {}; let x = x.get(\"a\")")?;

@@ -295,7 +295,7 @@ fn five_times(
     Ok(())
 }
 
-/// Twenty changes at five depths are taken back one by one, and once more at once.
+/// Twenty changes at five depths are taken back one by one, and all at once.
 pub fn change_and_undo(
     rt: &impl Abort,
     keys: &Keys,

@@ -32,7 +32,7 @@ impl Twins {
         Ok(Twins { plain, arena })
     }
 
-    /// Whether the same stands under a key of the place, and comes after it.
+    /// Whether the same is under a key of the place, and comes after it.
     fn is_same_at(&self, key: &Key) -> bool {
         let at = self.plain.at.as_slice();
         let (plain, arena) = (&self.plain.store, &self.arena.store);
@@ -67,7 +67,7 @@ impl Twins {
         self.is_same_at(keys.key(at)) && self.is_same_after(keys.key(at))
     }
 
-    /// Whether the same stands at the place.
+    /// Whether the same is at the place.
     pub fn is_same(&self, keys: &Keys) -> bool {
         for at in KEYS {
             if !self.is_same_under(keys, at) {

@@ -1,5 +1,5 @@
-//! One walk over both stores: changes, ways down and up, and ways back, as if by chance. After each step what stands at
-//! the place is compared, and after each hundred all that stands below the root.
+//! One walk over both stores: changes, ways down and up, and ways back, as if by chance. After each step what is at
+//! the place is compared, and after each hundred all that is below the root.
 
 use crate::keys::{At, FIRST, Keys, SECOND, Set, Tag, Values};
 use crate::steps::Step;
@@ -98,7 +98,7 @@ impl Twins {
         }
     }
 
-    /// Whether the same stands at the place and so many levels below it.
+    /// Whether the same is at the place and so many levels below it.
     fn is_same_below(&mut self, keys: &Keys, levels: usize) -> Result<bool, AllocError> {
         if !self.is_same(keys) {
             return Ok(false);

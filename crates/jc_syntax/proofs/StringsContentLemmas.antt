@@ -1,4 +1,4 @@
--- What string literals spell.
+-- About `Strings`: what string literals spell.
 use Rattle.std.proofs.Common.{◌≡◌, ◌≢◌, ℕ, zero, suc, ◌+◌, ◌-◌, ◌<◌, ◌≤◌, List, [], ◌∷◌, ◌++◌, length, slice_index, take, drop, true, false, ◌==◌, inl, inr, refl, sym, subst, ap, ◌∙◌, arith, add-one, add-zero, drop-cons}
 use Rattle.std.specs.List.{prefix_len}
 use Rattle.std.proofs.lemmas.Bool.{cases_Bool, ne_eqb}

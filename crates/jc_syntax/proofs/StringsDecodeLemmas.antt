@@ -1,4 +1,4 @@
--- What is left of a string literal after some of its pieces.
+-- About `Strings`: what is left of a string literal after some of its pieces.
 use Rattle.std.proofs.Common.{◌≡◌, ◌≢◌, ℕ, ◌+◌, ◌-◌, ◌<◌, ◌≤◌, List, [], ◌∷◌, ◌++◌, length, slice_index, take, drop, false, Result, Ok, Err, Some, None, refl, sym, ap, ◌∙◌, arith, append_assoc, get_or-drop, length-drop}
 use Rattle.std.specs.List.{prefix_len, slice_range}
 use Rattle.std.specs.Char.{encode_utf8}
@@ -18,7 +18,7 @@ use Rattle.jc_syntax.proofs.StringsContentLemmas.{plain_pieces, token_is_string}
 use Rattle.jc_syntax.proofs.StringsEscapesLemmas.{escape_inside, backslash_no_byte, quote_no_escape}
 use Rattle.jc_syntax.proofs.StringsPiecesLemmas.{pieces_later}
 
--- What is left of a literal that closes at `close` is what `at` is followed by, and with what is done it makes the whole.
+-- what is left of a literal that closes at `close`, after the pieces that are done
 pub record IsLeft (text : List ℕ) (close at : ℕ) (done whole : List ℕ) : Type 0 where
   pub inside : close < length text
   pub closed : slice_index text close ≡ 34

@@ -1,4 +1,4 @@
--- Where escapes lie.
+-- About `Strings`: an escape lies inside its text, and its last byte is ASCII.
 use Rattle.std.proofs.Common.{◌≡◌, ◌≢◌, ℕ, ◌+◌, ◌<◌, List, length, slice_index, true, false, ◌&&◌, ◌==◌, nat_lt, Result, Ok, Option, Some, None, inl, inr, refl, arith}
 use Rattle.std.proofs.lemmas.Bool.{cases_Bool, cases_lt, eqb-true}
 use Rattle.std.proofs.lemmas.Bool.Decides.{nat_tests}

@@ -1,4 +1,4 @@
--- String literals, put together from the end on.
+-- About `Strings`: string literals, put together from the end on.
 use Rattle.std.proofs.Common.{◌≡◌, ◌≢◌, ℕ, ◌+◌, ◌<◌, ◌≤◌, List, [], ◌∷◌, ◌++◌, length, slice_index, false, ◌==◌, nat_lt, Ok, Some, refl, sym, ap, ◌∙◌, arith}
 use Rattle.std.specs.Char.{encode_utf8}
 use Rattle.std.proofs.lemmas.Bool.{ne_eqb, le-ltb, lt-ltb}

@@ -1,4 +1,4 @@
--- The pieces of a string, one after the other.
+-- About `Strings`: the pieces of a string, one after the other.
 use Rattle.std.proofs.Common.{◌≡◌, ◌≢◌, ℕ, ◌+◌, ◌<◌, ◌≤◌, List, [], ◌∷◌, ◌++◌, length, slice_index, Ok, inl, inr, refl, sym, ap, ◌∙◌, arith, append_assoc}
 use Rattle.std.proofs.lemmas.List.{append-nil}
 use Rattle.jc_syntax.specs.declared.fault.LexFault.{LexFault}

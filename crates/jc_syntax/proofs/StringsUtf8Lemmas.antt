@@ -1,4 +1,4 @@
--- What a string of a UTF-8 text spells is UTF-8.
+-- About `Strings`: what a string of a UTF-8 text spells is UTF-8.
 use Rattle.std.proofs.Common.{◌≡◌, ℕ, zero, suc, ◌+◌, ◌-◌, ◌*◌, ◌<◌, ◌≤◌, List, [], ◌++◌, length, slice_index, true, false, ◌&&◌, ◌==◌, nat_lt, Result, Ok, Option, Some, None, ◌⊎◌, inl, inr, refl, sym, subst, arith}
 use Rattle.std.specs.List.{slice_range}
 use Rattle.std.specs.Char.{encode_utf8, IsScalar}

@@ -1,4 +1,4 @@
--- Tokens begin and end where characters do.
+-- About `Lexemes`: tokens begin and end where characters do.
 use Rattle.std.proofs.Common.{◌≡◌, ℕ, ◌+◌, ◌-◌, ◌<◌, List, length, slice_index, get_or, drop, Bool, true, Some, arith, get_or-drop, length-drop}
 use Rattle.std.specs.List.{prefix_len}
 use Rattle.std.specs.Str.{IsUtf8, IsCharBoundary}

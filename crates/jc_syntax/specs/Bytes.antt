@@ -1,4 +1,4 @@
--- Sets of bytes.
+-- Sets of bytes: blanks, and those of names and numbers. `Lexemes` tells tokens apart by them.
 use Rattle.std.specs.Prelude.{ℕ, Bool, ◌||◌, ◌==◌}
 use Rattle.std.specs.Char.{is_ascii_alphabetic, is_ascii_digit}
 

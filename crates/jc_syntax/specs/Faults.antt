@@ -1,4 +1,4 @@
--- Faults of a text's tokens: the refusal, its number, the offset, and what is shown of them.
+-- Lexical faults: refusal, number, offset, and the text shown. `LexFault` follows it, and the parser cites it.
 use Rattle.std.specs.Prelude.{ℕ, Option, Some, None, List, ◌++◌, codes, decimal, option_map}
 use Rattle.jc_rules.specs.declared.refusal.Refusal.{Refusal}
 use Rattle.jc_rules.specs.declared.refusal.Refusal.TheVariants as refusals
@@ -27,7 +27,7 @@ lex_refusal Memory = None
 abbrev pub lex_fault_number : LexFault → Option ℕ
 lex_fault_number fault = option_map refusal_number (lex_refusal fault)
 
--- a refusal at a place, as it is shown; what is no refusal is want of memory
+-- a refusal and its offset, as they are shown; what is no refusal is want of memory
 abbrev pub refusal_text : Option Refusal → Option ℕ → List ℕ
 refusal_text (Some refusal) (Some place) = refusal_name refusal ++ codes " at " ++ decimal place
 refusal_text (Some refusal) None = codes "no memory"

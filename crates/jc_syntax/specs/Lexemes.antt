@@ -1,6 +1,7 @@
--- What the tokens of a text are.
+-- The tokens of a text, or its lexical fault, by its bytes. `lex` returns these, and the grammar is defined on them.
 use Rattle.std.specs.Prelude.{◌≡◌, ℕ, ◌+◌, ◌-◌, ◌<◌, ◌≤◌, ◌⊎◌, List, [], ◌∷◌, ◌&&◌, ◌==◌, if◌then◌else◌, length, drop, slice_index, slice_range, Option, Some, None}
 use Rattle.std.specs.List.{prefix_len}
+use Rattle.jc_rules.specs.declared.limits.TheConstants.{MAX_NAME, MAX_STRING, MAX_TEXT}
 use Rattle.jc_syntax.specs.declared.token.Token.{Token}
 use Rattle.jc_syntax.specs.declared.token.TokenKind.{TokenKind}
 use Rattle.jc_syntax.specs.declared.token.TokenKind.TheVariants.{Name, Number, Str, Dot, ParenL, ParenR, BraceL, BraceR, BracketL, BracketR, Comma, Semi, Assign, Equals}
@@ -10,14 +11,14 @@ use Rattle.jc_syntax.specs.Bytes.{is_blank_byte, is_name_start, is_name_byte, is
 use Rattle.jc_syntax.specs.Numbers.{IsNumber}
 use Rattle.jc_syntax.specs.Strings.{IsString, IsStringFault, spelled_from}
 
--- the place after the blanks from a place on
+-- the offset after the blanks from an offset on
 abbrev pub after_blanks : List ℕ → ℕ → ℕ
 after_blanks text at = at + prefix_len is_blank_byte (drop at text)
 
 abbrev pub after_name : List ℕ → ℕ → ℕ
 after_name text at = at + prefix_len is_name_byte (drop at text)
 
--- the place after the longest run of bytes that a number may have
+-- the offset after the longest run of bytes that a number may have
 abbrev pub after_number_run : List ℕ → ℕ → ℕ
 after_number_run text at = at + prefix_len is_number_byte (drop at text)
 
@@ -44,12 +45,12 @@ kind_of_byte b next =
 abbrev pub kind_at : List ℕ → ℕ → Option TokenKind
 kind_at text at = kind_of_byte (slice_index text at) (slice_index text (at + 1))
 
--- how long a mark is, a token that has one form
+-- the length of a mark: a token that has one form
 abbrev pub mark_len : TokenKind → ℕ
 mark_len Assign = 2
 mark_len kind = 1
 
--- where a token of a kind that begins at `at` ends, and its size: its length, or that of what a string spells
+-- the end of a token of a kind that begins at `at`, and its size: its length, or for a string that of what it spells
 abbrev pub LexemeEndsAt : TokenKind → List ℕ → ℕ → ℕ → ℕ → Type 0
 LexemeEndsAt Name text at stop size = (stop ≡ after_name text at) × (stop ≡ at + size)
 LexemeEndsAt Number text at stop size =
@@ -57,19 +58,19 @@ LexemeEndsAt Number text at stop size =
 LexemeEndsAt Str text at stop size = (content : List ℕ) × IsString text at stop content × (size ≡ length content)
 LexemeEndsAt kind text at stop size = (size ≡ mark_len kind) × (stop ≡ at + size)
 
--- how large a token may be, which no mark comes near
+-- the greatest size of a token; no mark comes near it
 abbrev pub token_limit : TokenKind → ℕ
-token_limit Name = 255
-token_limit kind = 65535
+token_limit Name = MAX_NAME
+token_limit kind = MAX_STRING
 
--- a token stands in the text, no larger than it may be
+-- a token of the text, within its limit
 pub record IsLexeme (text : List ℕ) (t : Token) : Type 0 where
   pub size : ℕ
   pub begins : kind_at text t.start ≡ Some t.kind
   pub ends : LexemeEndsAt t.kind text t.start t.stop size
   pub within : size ≤ token_limit t.kind
 
--- what is wrong with a token of this kind, or with a byte that begins none
+-- the fault of a token of this kind, or of a byte that begins none
 abbrev pub IsMalformed : Option TokenKind → List ℕ → ℕ → LexFault → Type 0
 IsMalformed None text at fault = fault ≡ BadByte at
 IsMalformed (Some Number) text at fault =
@@ -77,7 +78,7 @@ IsMalformed (Some Number) text at fault =
 IsMalformed (Some Str) text at fault = IsStringFault text at fault
 IsMalformed (Some kind) text at fault = ⊥
 
--- what stands at a place is a well-formed token, and larger than it may be
+-- at an offset is a well-formed token over its limit
 pub record IsTooLong (text : List ℕ) (at : ℕ) (fault : LexFault) : Type 0 where
   pub kind : TokenKind
   pub stop : ℕ
@@ -87,12 +88,11 @@ pub record IsTooLong (text : List ℕ) (at : ℕ) (fault : LexFault) : Type 0 wh
   pub beyond : token_limit kind < size
   pub is : fault ≡ TextTooLong at
 
--- the fault of what stands at a place
+-- the fault at an offset
 abbrev pub IsLexFault : List ℕ → ℕ → LexFault → Type 0
 IsLexFault text at fault = IsMalformed (kind_at text at) text at fault ⊎ IsTooLong text at fault
 
--- from a place on stand blanks and these tokens, up to another place, which is the text's end or a byte that is no
--- blank
+-- from an offset on are blanks and these tokens, up to another offset: the text's end, or a byte that is no blank
 abbrev pub AreTokens : List ℕ → ℕ → List Token → ℕ → Type 0
 AreTokens text at [] place = place ≡ after_blanks text at
 AreTokens text at (t ∷ ts) place =
@@ -100,21 +100,22 @@ AreTokens text at (t ∷ ts) place =
 
 -- the tokens of a text
 abbrev pub AreTokensOf : List ℕ → List Token → Type 0
-AreTokensOf text ts = (length text ≤ 8388608) × (place : ℕ) × AreTokens text 0 ts place × (length text ≤ place)
+AreTokensOf text ts =
+    (length text ≤ MAX_TEXT) × (place : ℕ) × AreTokens text 0 ts place × (length text ≤ place)
 
--- the fault of a text: that it is too long, else that of what stands after some of its tokens
+-- the fault of a text: that it is too long, else the fault after some of its tokens
 abbrev pub IsFaultOf : List ℕ → LexFault → Type 0
 IsFaultOf text fault =
-    ((8388608 < length text) × (fault ≡ TextTooLong 8388608))
-    ⊎ ((length text ≤ 8388608)
+    ((MAX_TEXT < length text) × (fault ≡ TextTooLong MAX_TEXT))
+    ⊎ ((length text ≤ MAX_TEXT)
     × (ts : List Token) × (place : ℕ)
     × AreTokens text 0 ts place
     × (place < length text)
     × IsLexFault text place fault)
 
--- a token that stands in a text, which is no longer than it may be
+-- a token of a text within the limit
 abbrev pub IsTokenOf : List ℕ → Token → Type 0
-IsTokenOf text t = (length text ≤ 8388608) × IsLexeme text t
+IsTokenOf text t = (length text ≤ MAX_TEXT) × IsLexeme text t
 
 abbrev pub IsStringToken : List ℕ → Token → Type 0
 IsStringToken text t = (t.kind ≡ Str) × IsTokenOf text t

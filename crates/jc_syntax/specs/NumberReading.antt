@@ -1,5 +1,5 @@
--- How a number is read from left to right: each part takes the bytes that are left, and gives those that follow it.
--- These words serve the reading functions; what a number is stands in `Numbers`.
+-- How a number is read from left to right: each part takes the bytes that are left, and returns those after it.
+-- The code follows these words. A reader believes `Numbers`, which says what a number is.
 use Rattle.std.specs.Prelude.{ℕ, List, [], ◌∷◌, drop, ◌||◌, ◌==◌, if◌then◌else◌, Option, Some, None, option_and_then}
 use Rattle.std.specs.List.{prefix_len}
 use Rattle.std.specs.Char.{is_ascii_digit}

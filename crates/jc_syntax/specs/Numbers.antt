@@ -1,4 +1,4 @@
--- JSON numbers (RFC 8259, section 6).
+-- JSON numbers (RFC 8259, section 6), as `Lexemes` wants them of number tokens.
 use Rattle.std.specs.Prelude.{◌≡◌, ◌≢◌, ℕ, ◌<◌, ◌⊎◌, List, [], ◌∷◌, ◌++◌, length, slice_index}
 use Rattle.std.specs.List.{AllPass}
 use Rattle.std.specs.Char.{is_ascii_digit}

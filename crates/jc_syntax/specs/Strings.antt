@@ -1,5 +1,5 @@
--- String literals (RFC 8259, section 7), by the places of their bytes. Past the end of a text its bytes count as 0. 34
--- is the quote, 92 the backslash.
+-- String literals (RFC 8259, section 7), by the offsets of their bytes, for `Lexemes`. Past its end a text has bytes 0.
+-- 34 is the quote, 92 the backslash.
 use Rattle.std.specs.Prelude.{◌≡◌, ◌≢◌, ℕ, zero, suc, ◌+◌, ◌-◌, ◌*◌, ◌<◌, ◌≤◌, List, [], ◌∷◌, ◌++◌, Bool, not, ◌&&◌, ◌==◌, nat_lt, nat_le, if◌then◌else◌, length, drop, slice_index, flat_map, Option, Some, None, Result, Ok, Err, ◌⊎◌}
 use Rattle.std.specs.List.{prefix_len}
 use Rattle.std.specs.Char.{digit_value, encode_utf8}
@@ -8,9 +8,9 @@ use Rattle.jc_syntax.specs.declared.fault.LexFault.TheVariants.{BadByte, OpenStr
 use Rattle.jc_syntax.specs.declared.piece.Piece.{Piece}
 use Rattle.jc_syntax.specs.declared.piece.Piece.TheVariants.{Byte, Escape}
 
--- ---- pieces: a byte that stands for itself, or an escape
+-- ---- pieces: a byte that spells itself, or an escape
 
--- how many bytes of the text a piece takes
+-- the number of bytes that a piece takes in the text
 abbrev pub piece_len : Piece → ℕ
 piece_len (Byte b) = 1
 piece_len (Escape len character) = len
@@ -31,7 +31,7 @@ abbrev pub of_digits : Option ℕ → Option ℕ → Option ℕ → Option ℕ �
 of_digits (Some a) (Some b) (Some c) (Some d) = Some (a * 4096 + b * 256 + c * 16 + d)
 of_digits a b c d = None
 
--- the number that the four hexadecimal digits at a place spell
+-- the number that the four hexadecimal digits at an offset spell
 abbrev pub code_unit : List ℕ → ℕ → Option ℕ
 code_unit text at =
     of_digits
@@ -40,12 +40,12 @@ code_unit text at =
     (hex_digit (slice_index text (at + 2)))
     (hex_digit (slice_index text (at + 3)))
 
--- the number that an escape `\u` at a place spells
+-- the number that an escape `\u` at an offset spells
 abbrev pub unit_escape : List ℕ → ℕ → Option ℕ
 unit_escape text at =
     if slice_index text at == 92 && slice_index text (at + 1) == 117 then code_unit text (at + 2) else None
 
--- the character that a byte after a backslash stands for: `"`, `\`, `/`, `b`, `f`, `n`, `r`, `t`
+-- the character that a byte after a backslash spells: `"`, `\`, `/`, `b`, `f`, `n`, `r`, `t`
 abbrev pub short_escape : ℕ → Option ℕ
 short_escape b =
     if b == 34 then Some 34
@@ -68,7 +68,7 @@ is_low unit = nat_le 0xDC00 unit && nat_lt unit 0xE000
 abbrev pub paired : ℕ → ℕ → ℕ
 paired high low = 0x10000 + (high - 0xD800) * 0x400 + (low - 0xDC00)
 
--- a high surrogate wants the escape of a low one
+-- the escape of a low surrogate must follow a high one
 abbrev pub pair_at : ℕ → ℕ → Option ℕ → Result Piece LexFault
 pair_at at high None = Err (LoneSurrogate at)
 pair_at at high (Some low) = if is_low low then Ok (Escape 12 (paired high low)) else Err (LoneSurrogate at)
@@ -87,7 +87,7 @@ short_or_unit text at None = unit_at text at (unit_escape text at)
 unfoldable pub escape_at : List ℕ → ℕ → Result Piece LexFault
 escape_at text at = short_or_unit text at (short_escape (slice_index text (at + 1)))
 
--- the piece at a place, or its fault
+-- the piece at an offset, or its fault
 unfoldable pub piece_at : List ℕ → ℕ → Result Piece LexFault
 piece_at text at =
     if nat_lt (slice_index text at) 32 then Err (BadByte at)
@@ -96,7 +96,7 @@ piece_at text at =
 
 -- ---- literals
 
--- from a place on stand these pieces, and no quote among them, up to another place
+-- from an offset up to another are these pieces, with no quote among them
 abbrev pub ArePieces : List ℕ → ℕ → List Piece → ℕ → Type 0
 ArePieces text at [] stop = at ≡ stop
 ArePieces text at (p ∷ ps) stop =
@@ -105,7 +105,7 @@ ArePieces text at (p ∷ ps) stop =
     × (piece_at text at ≡ Ok p)
     × ArePieces text (at + piece_len p) ps stop
 
--- a string literal that spells `content` stands from the quote at `quote` up to `stop`
+-- a string literal from the quote at `quote` up to `stop`, which spells `content`
 pub record IsString (text : List ℕ) (quote stop : ℕ) (content : List ℕ) : Type 0 where
   pub pieces : List Piece
   pub close : ℕ
@@ -115,7 +115,7 @@ pub record IsString (text : List ℕ) (quote stop : ℕ) (content : List ℕ) : 
   pub ends : stop ≡ close + 1
   pub spells : content ≡ spelled pieces
 
--- what stops the pieces of a string that begins at `quote`: the fault of what stands at a place, or the text's end
+-- what stops the pieces of a string that begins at `quote`: the fault at an offset, or the text's end
 abbrev pub StopsString : List ℕ → ℕ → ℕ → LexFault → Type 0
 StopsString text quote at fault =
     ((at < length text) × (slice_index text at ≢ 34) × (piece_at text at ≡ Err fault))
@@ -136,7 +136,7 @@ abbrev pub step_of : Result Piece LexFault → ℕ
 step_of (Ok p) = piece_len p
 step_of (Err fault) = 0
 
--- what `count` pieces from a place on spell, or fewer where a quote comes first
+-- what `count` pieces from an offset on spell, or fewer where a quote comes first
 unfoldable pub spelled_from : ℕ → List ℕ → ℕ → List ℕ
 spelled_from zero text at = []
 spelled_from (suc count) text at =

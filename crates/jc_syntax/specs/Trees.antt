@@ -1,4 +1,4 @@
--- The trees of the rules that the trees in memory stand for: what they hold, wherever it lies.
+-- The trees of the rules that the trees in memory represent. Contracts of the parser and the printer are about them.
 use Rattle.jc_rules.specs.Syntax as rules
 use Rattle.jc_syntax.specs.declared.tree.Expr.{Expr, Doc, Var, Get', Idx', Keys', Values'}
 use Rattle.jc_syntax.specs.declared.tree.Cmd.{Cmd}

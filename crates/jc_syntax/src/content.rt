@@ -1,4 +1,4 @@
-//! What tokens hold.
+//! The bytes of a token, and what a string token spells. The parser takes names, numbers and strings from here.
 
 ghost use Rattle.std.specs.Prelude.{◌≡◌, ◌≤◌, length, IfOk, IsUtf8};
 ghost use Rattle.std.specs.List.{prefix_len};
@@ -10,7 +10,7 @@ use crate::token::Token;
 use jc_rules::Text;
 use std::alloc::{AllocError, Global};
 
-/// The part of a text that is a token of it.
+/// The bytes of a token.
 pub fn slice_of<'a>(text: &'a str, token: &Token) -> &'a str
     requires { IsTokenOf text.now token.now }
     ensures { result.now ≡ token_bytes text.now token.now }
@@ -31,7 +31,7 @@ fn plain_run(bytes: &[u8]) -> usize
     bytes.iter().take_while(|b| is_plain(**b)).count()
 }
 
-/// The place of the first byte from `at` on that is not plain, or the end.
+/// The offset of the first byte from `at` on that is not plain, or the end.
 fn skip_plain(bytes: &[u8], at: usize) -> usize
     requires { at ≤ length bytes.now }
     ensures place { result ≡ after_plain bytes.now at }
@@ -41,7 +41,7 @@ fn skip_plain(bytes: &[u8], at: usize) -> usize
     at + plain_run(&bytes[at..])
 }
 
-/// What a string token of a text spells.
+/// What a string token spells, its escapes decoded.
 pub fn string_of(alloc: Global, text: &str, token: &Token) -> Result<Text, AllocError>
     requires { IsStringToken text.now token.now }
     ensures content { IfOk result (λ t. t ≡ token_content text.now token.now) }

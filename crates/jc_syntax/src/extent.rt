@@ -1,7 +1,8 @@
-//! How far a token goes, by its kind.
+//! Where a token of a known kind ends, and its size. The lexer checks the size against the limit of the kind.
 
 ghost use Rattle.std.specs.Prelude.{◌≡◌, ◌+◌, ◌<◌, ◌≤◌, length, IfOk, IfErr, Some};
 ghost use Rattle.std.specs.List.{prefix_len};
+ghost use Rattle.jc_rules.specs.declared.limits.TheConstants.{MAX_TEXT};
 ghost use Rattle.jc_syntax.specs.declared.token.TokenKind.TheVariants.{Name, Number, Str};
 ghost use Rattle.jc_syntax.specs.Bytes as spec;
 ghost use Rattle.jc_syntax.specs.Strings.{IsStringFault};
@@ -11,8 +12,9 @@ use crate::fault::LexFault;
 use crate::number::is_number;
 use crate::piece::piece_at;
 use crate::token::TokenKind;
+use jc_rules::limits::{MAX_NAME, MAX_STRING};
 
-/// Where a token ends, and its size: its length, or that of what a string spells.
+/// The offset of a token's end, and its size: its length, or for a string that of what it spells.
 #[derive(Clone, Copy)]
 pub(crate) struct Extent {
     pub(crate) stop: usize,
@@ -80,7 +82,7 @@ fn number_extent(bytes: &[u8], at: usize) -> Result<Extent, LexFault>
 
 fn string_extent(bytes: &[u8], quote: usize) -> Result<Extent, LexFault>
     requires inside { quote < length bytes.now }
-    requires room { length bytes.now ≤ 8388608 }
+    requires room { length bytes.now ≤ MAX_TEXT }
     ensures found { IfOk result (λ e. LexemeEndsAt Str bytes.now quote e.stop e.size) }
     ensures inside { IfOk result (λ e. e.stop ≤ length bytes.now) }
     ensures malformed { IfErr result (IsStringFault bytes.now quote) }
@@ -98,11 +100,11 @@ fn string_extent(bytes: &[u8], quote: usize) -> Result<Extent, LexFault>
     Err(LexFault::OpenString { place: quote })
 }
 
-/// How far the token of this kind at `at` goes.
+/// The extent of the token of this kind that begins at `at`, or its fault.
 pub(crate) fn extent_of(kind: TokenKind, bytes: &[u8], at: usize) -> Result<Extent, LexFault>
     requires begins { kind_at bytes.now at ≡ Some kind }
     requires inside { at < length bytes.now }
-    requires room { length bytes.now ≤ 8388608 }
+    requires room { length bytes.now ≤ MAX_TEXT }
     ensures found { IfOk result (λ e. LexemeEndsAt kind bytes.now at e.stop e.size) }
     ensures inside { IfOk result (λ e. e.stop ≤ length bytes.now) }
     ensures malformed { IfErr result (IsMalformed (Some kind) bytes.now at) }
@@ -129,12 +131,12 @@ pub(crate) fn extent_of(kind: TokenKind, bytes: &[u8], at: usize) -> Result<Exte
     })
 }
 
-/// How large a token of this kind may be.
+/// The greatest size of a token of this kind.
 pub(crate) fn limit_of(kind: TokenKind) -> usize
     ensures { result ≡ token_limit kind }
 {
     match kind {
-        TokenKind::Name => 255,
-        _ => 65535,
+        TokenKind::Name => MAX_NAME,
+        _ => MAX_STRING,
     }
 }

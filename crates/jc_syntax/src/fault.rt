@@ -1,4 +1,4 @@
-//! Why a text has no list of tokens.
+//! Lexical faults: their refusals, their offsets, and how they are shown. The lexer returns them.
 
 ghost use Rattle.std.specs.Prelude.{◌≡◌, Some};
 ghost use Rattle.jc_syntax.specs.declared.fault.LexFault.TheVariants.{Memory};
@@ -9,7 +9,7 @@ use std::alloc::{AllocError, AllocFailed};
 use std::fmt;
 use thiserror::Error;
 
-/// Why a text has no list of tokens. Places are byte numbers from 0.
+/// Why a text has no list of tokens. Places are offsets in bytes, from 0.
 #[derive(Clone, Copy, Debug, Error)]
 pub enum LexFault {
     /// A byte that begins no token, or a control byte inside a string.
@@ -20,7 +20,7 @@ pub enum LexFault {
     BadEscape { place: usize },
     /// The escape of a surrogate that is no half of a pair; the place is its backslash.
     LoneSurrogate { place: usize },
-    /// What begins like a number and is no JSON number.
+    /// Bytes that begin like a number and are no JSON number.
     BadNumber { place: usize },
     /// A text or a token that is longer than its limit; for a token the place is its start.
     TextTooLong { place: usize },

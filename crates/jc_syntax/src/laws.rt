@@ -1,7 +1,8 @@
-//! Laws of the definitions of tokens and faults: a text has one list of tokens or one fault, and not both.
+//! Laws of tokens and lexical faults, for the layers above: a text has one list of tokens or one fault, not both.
 //! A string spells one content, which is UTF-8 where the text is.
 
 ghost use Rattle.std.specs.Prelude.{◌≡◌, ◌≤◌, ◌⊎◌, List, ℕ, length, IsUtf8};
+ghost use Rattle.jc_rules.specs.declared.limits.TheConstants.{MAX_STRING};
 ghost use Rattle.jc_syntax.specs.declared.fault.LexFault.{LexFault as AnyFault};
 ghost use Rattle.jc_syntax.specs.declared.token.Token.{Token as AnyToken};
 ghost use Rattle.jc_syntax.specs.Lexemes.{AreTokensOf, IsFaultOf, IsStringToken, token_content};
@@ -28,7 +29,7 @@ pub fn tokens_else_fault()
         → ((ts : List AnyToken) × AreTokensOf text ts) ⊎ ((e : AnyFault) × IsFaultOf text e) }
 {}
 
-/// The string that begins at a place ends at one place, and spells one content.
+/// The string that begins at an offset ends at one offset, and spells one content.
 pub fn one_string()
     ensures { (text : List ℕ) (quote p q : ℕ) (c d : List ℕ)
         → IsString text quote p c → IsString text quote q d
@@ -39,5 +40,5 @@ pub fn one_string()
 pub fn legal_strings()
     ensures { (text : List ℕ) (t : AnyToken)
         → IsUtf8 text → IsStringToken text t
-        → IsUtf8 (token_content text t) × (length (token_content text t) ≤ 65535) }
+        → IsUtf8 (token_content text t) × (length (token_content text t) ≤ MAX_STRING) }
 {}

@@ -1,7 +1,8 @@
-//! From a text to its tokens.
+//! The lexer: the tokens of a text, or its lexical fault. The readers of texts begin with it.
 
 ghost use Rattle.std.specs.Prelude.{◌≡◌, ◌≢◌, ◌+◌, ◌<◌, ◌≤◌, length, All, IfOk, IfErr};
 ghost use Rattle.std.specs.List.{prefix_len};
+ghost use Rattle.jc_rules.specs.declared.limits.TheConstants.{MAX_TEXT};
 ghost use Rattle.jc_syntax.specs.Bytes as spec;
 ghost use Rattle.jc_syntax.specs.Lexemes.{after_blanks, kind_at, IsLexeme, IsTokenOf, IsLexFault, AreTokensOf, IsFaultOf};
 
@@ -9,10 +10,8 @@ use crate::extent::{extent_of, is_name_start, limit_of};
 use crate::fault::LexFault;
 use crate::piece::byte_at;
 use crate::token::{Token, TokenKind};
+use jc_rules::limits::MAX_TEXT;
 use std::alloc::Global;
-
-/// How many bytes a text may have.
-pub const MAX_TEXT: usize = 8388608;
 
 fn is_blank(byte: u8) -> bool
     ensures { result ≡ spec.is_blank_byte byte }
@@ -27,7 +26,7 @@ fn blank_run(bytes: &[u8]) -> usize
     bytes.iter().take_while(|b| is_blank(**b)).count()
 }
 
-/// The place of the first byte from `at` on that is no blank, or the end.
+/// The offset of the first byte from `at` on that is no blank, or the end.
 fn skip_blanks(bytes: &[u8], at: usize) -> usize
     requires { at ≤ length bytes.now }
     ensures place { result ≡ after_blanks bytes.now at }
@@ -64,7 +63,7 @@ fn kind_at(bytes: &[u8], at: usize) -> Option<TokenKind>
 /// The token that begins at `at`.
 fn token_at(bytes: &[u8], at: usize) -> Result<Token, LexFault>
     requires inside { at < length bytes.now }
-    requires room { length bytes.now ≤ 8388608 }
+    requires room { length bytes.now ≤ MAX_TEXT }
     ensures token { IfOk result (λ t. (t.start ≡ at) × IsLexeme bytes.now t) }
     ensures inside { IfOk result (λ t. t.stop ≤ length bytes.now) }
     ensures fault { IfErr result (IsLexFault bytes.now at) }
@@ -85,15 +84,14 @@ fn token_at(bytes: &[u8], at: usize) -> Result<Token, LexFault>
 
 /// The tokens of a text.
 ///
-/// A text that has no tokens is refused with its fault: that it has more than 8,388,608 bytes, else
-/// that of its first token or stray byte that has one. In a string this is the first control byte, bad
-/// escape or lone surrogate from the left, else that the string is open, else that it spells more than
-/// 65,535 bytes; a number is no JSON number, or has more than 65,535 bytes; a name has more than 255.
+/// Refusals: `TextTooLong` for a text over 8,388,608 bytes, at that offset; then the first fault from the
+/// left. `BadByte` is at a byte that begins no token. In a string the first of `BadByte`, `BadEscape` and
+/// `LoneSurrogate` comes before `OpenString`, and that before `TextTooLong` for more than 65,535 bytes
+/// that it spells. `BadNumber` comes before `TextTooLong` for a number over 65,535 bytes. A name over 255
+/// bytes is `TextTooLong`.
 pub fn lex(alloc: Global, text: &str) -> Result<Vec<Token>, LexFault>
     ensures tokens { IfOk result (λ v. AreTokensOf text.now v.items) }
     ensures each { IfOk result (λ v. All (IsTokenOf text.now) v.items) }
-
-    // The fault is the text's, unless memory ran out.
     ensures fault { IfErr result (λ e. e ≢ LexFault.Memory → IsFaultOf text.now e) }
 {
     let bytes = text.as_bytes();

@@ -1,4 +1,4 @@
-//! Tokens of a text, exactly, and the trees of the language.
+//! Tokens and lexical faults of texts, and the trees of the language, which the parser and the printer share.
 #![tactic(auto)]
 
 mod content;
@@ -13,6 +13,6 @@ mod tree;
 
 pub use content::{slice_of, string_of};
 pub use fault::LexFault;
-pub use lexer::{MAX_TEXT, lex};
+pub use lexer::lex;
 pub use token::{Token, TokenKind};
 pub use tree::{Cmd, Expr, Named, NamedEvent, copy_script};

@@ -1,4 +1,4 @@
-//! JSON numbers.
+//! JSON numbers: whether bytes are one. `extent` asks it of each number token.
 
 ghost use Rattle.std.specs.Prelude.{◌≡◌, ◌≤◌, ◌↔◌, option_map, length, IsTrue};
 ghost use Rattle.std.specs.List.{prefix_len};

@@ -1,4 +1,4 @@
-//! The pieces of a string literal: bytes that stand for themselves, and escapes.
+//! The pieces of a string literal: plain bytes and escapes. `extent` measures with them, and `content` decodes.
 
 ghost use Rattle.std.specs.Prelude.{◌≡◌, ◌+◌, ◌<◌, ◌≤◌, ◌^◌, length, slice_index, IfOk, IfSome, true};
 ghost use Rattle.std.specs.Char.{InScalarRange};
@@ -6,12 +6,12 @@ ghost use Rattle.jc_syntax.specs.Strings as spec;
 
 use crate::fault::LexFault;
 
-/// What stands at one place of a string literal.
+/// A plain byte or an escape of a string literal.
 #[derive(Clone, Copy)]
 pub(crate) enum Piece {
-    /// A byte that stands for itself.
+    /// A byte that spells itself.
     Byte(u8),
-    /// An escape of `len` bytes that stands for a character.
+    /// An escape of `len` bytes that spells a character.
     Escape { len: usize, character: char },
 }
 
@@ -78,7 +78,7 @@ fn unit_escape(bytes: &[u8], at: usize) -> Option<u32>
     }
 }
 
-/// The character that a letter after a backslash stands for.
+/// The character that a letter after a backslash spells.
 fn short_escape(letter: u8) -> Option<char>
     ensures { result ≡ spec.short_escape letter }
 {
@@ -115,7 +115,7 @@ fn character_of(code: u32) -> char
     char::from_u32(code).unwrap()
 }
 
-/// The escape of a high surrogate at `at`, with that of the low one that is to follow it.
+/// The escape of a high surrogate at `at`, and of the low surrogate that must follow it.
 fn pair_at(at: usize, high: u32, low: Option<u32>) -> Result<Piece, LexFault>
     requires { spec.is_high high ≡ true }
     ensures value { result ≡ spec.pair_at at high low }
@@ -150,7 +150,7 @@ fn unit_at(bytes: &[u8], at: usize) -> Result<Piece, LexFault>
     }
 }
 
-/// The escape whose backslash stands at `at`.
+/// The escape whose backslash is at `at`.
 #[tactic(auto, unfolding(crate::specs::Strings::escape_at))]
 pub(crate) fn escape_at(bytes: &[u8], at: usize) -> Result<Piece, LexFault>
     requires { at + 16 < 2 ^ 64 }
@@ -177,7 +177,7 @@ pub(crate) fn piece_at(bytes: &[u8], at: usize) -> Result<Piece, LexFault>
     }
 }
 
-/// The length and the character of the escape at `at`, if one stands there.
+/// The length and the character of the escape at `at`, if there is one.
 pub(crate) fn escape_of(bytes: &[u8], at: usize) -> Option<(usize, char)>
     requires { at + 16 < 2 ^ 64 }
     ensures value { result ≡ spec.escape_of (spec.piece_at bytes.now at) }

@@ -1,6 +1,6 @@
-//! Tokens of a text.
+//! Tokens and their kinds, as the lexer returns them and the parser reads them.
 
-/// What a token is.
+/// The kind of a token.
 #[derive(Clone, Copy, PartialEq, Eq)]
 pub enum TokenKind {
     /// A letter or `_`, then letters, digits and `_`.
@@ -33,8 +33,7 @@ pub enum TokenKind {
     Equals,
 }
 
-/// A token of a text: its bytes from `start` on, up to but not including `stop`. Places are byte
-/// numbers from 0.
+/// A token: the bytes from the offset `start` up to but not including `stop`.
 #[derive(Clone, Copy)]
 pub struct Token {
     pub kind: TokenKind,

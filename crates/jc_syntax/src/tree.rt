@@ -1,4 +1,4 @@
-//! Trees of commands, expressions and events, as they are read.
+//! The trees of expressions, commands and events that the parser builds, and their copies.
 
 ghost use Rattle.std.specs.Prelude.{◌≡◌, IfOk, map};
 ghost use Rattle.jc_syntax.specs.Trees.{expr_of, cmd_of};
@@ -38,14 +38,14 @@ pub enum Cmd {
     Yield,
 }
 
-/// The name of a replica, and where it stands in the text: a byte number from 0.
+/// The name of a replica, and its offset in the text.
 #[derive(Drop, PartialEq, Eq)]
 pub struct Named {
     pub name: Text,
     pub place: usize,
 }
 
-/// An event, with names for its replicas. The first is the replica that acts.
+/// An event with the names of its replicas. The first is the replica that acts.
 #[derive(Drop, PartialEq, Eq)]
 pub enum NamedEvent {
     /// `p.exec`
@@ -72,7 +72,7 @@ pub enum NamedEvent {
 }
 
 impl Expr {
-    /// The same expression once more.
+    /// A copy of the expression.
     pub fn copy(&self, alloc: Global) -> Result<Expr, AllocError>
         ensures { IfOk result (λ e. expr_of e ≡ expr_of self.now) }
     {
@@ -88,7 +88,7 @@ impl Expr {
 }
 
 impl Cmd {
-    /// The same command once more.
+    /// A copy of the command.
     pub fn copy(&self, alloc: Global) -> Result<Cmd, AllocError>
         ensures { IfOk result (λ c. cmd_of c ≡ cmd_of self.now) }
     {
@@ -102,7 +102,7 @@ impl Cmd {
     }
 }
 
-/// The same script once more.
+/// A copy of the script.
 pub fn copy_script(alloc: Global, script: &[Cmd]) -> Result<Vec<Cmd>, AllocError>
     ensures { IfOk result (λ copies. map cmd_of copies.items ≡ map cmd_of script.now) }
 {
@@ -114,7 +114,7 @@ pub fn copy_script(alloc: Global, script: &[Cmd]) -> Result<Vec<Cmd>, AllocError
 }
 
 impl Named {
-    /// The same name and place once more.
+    /// A copy of the name and its offset.
     pub fn copy(&self) -> Result<Named, AllocError>
         ensures { IfOk result (λ named. named ≡ self.now) }
     {
@@ -126,7 +126,7 @@ impl Named {
 }
 
 impl NamedEvent {
-    /// The same event once more.
+    /// A copy of the event.
     pub fn copy(&self) -> Result<NamedEvent, AllocError>
         ensures { IfOk result (λ event. event ≡ self.now) }
     {

@@ -1,5 +1,5 @@
-//! Tests of texts: their tokens, what they are parsed to, what is printed, and scenarios. What a session shows of a
-//! refused scenario stands among the rows of `jc_rows`.
+//! Tests of texts: their tokens, what they are parsed to, what is printed, and scenarios.
+//! What a session shows of a refused scenario is among the rows of `jc_rows`.
 #![tactic(auto)]
 
 #[cfg(test)]

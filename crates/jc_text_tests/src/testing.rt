@@ -1,4 +1,4 @@
-//! What the tests of texts share.
+//! What the tests of texts share: faults, comparisons, and texts with a repeated part.
 
 use std::alloc::{AllocError, Global};
 use std::process::Abort;
@@ -23,7 +23,7 @@ pub fn is_text(rt: &impl Abort, got: &str, want: &str) {
     assert!(rt; got == want, "{got}");
 }
 
-/// A head, a part, how often it stands, and a tail.
+/// A head, a part, how often it comes, and a tail.
 pub type Parts = (&'static str, &'static str, usize, &'static str);
 
 /// The text of these parts.

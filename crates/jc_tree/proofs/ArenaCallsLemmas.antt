@@ -1,4 +1,4 @@
--- What the calls of a change leave of an arena's nodes.
+-- About Arena: what a changing call leaves of an arena's nodes.
 use Rattle.std.proofs.Common.{◌≡◌, ℕ, zero, suc, ◌<◌, ◌≤◌, List, [], ◌∷◌, ◌++◌, length, get_or, slice_set, take, ◌-◌, Result, Ok, is_ok, if◌then◌else◌, refl, sym, ◌∙◌, ap, arith}
 use Rattle.std.proofs.lemmas.List.{set-get_or}
 use Rattle.jc_rules.specs.declared.key.Tagged.{Tagged}

@@ -1,4 +1,4 @@
--- The changes of an arena.
+-- About Arena: a change of one node is a change of its context in the content.
 use Rattle.std.proofs.Common.{◌≡◌, ◌≢◌, ℕ, zero, suc, ◌+◌, ◌<◌, ◌≤◌, List, [], ◌∷◌, ◌++◌, length, Option, Some, None, Bool, true, false, slice_set, ◌⊎◌, refl, sym, ◌∙◌, ap, arith, cond, subst}
 use Rattle.std.specs.Ordering.{eq_by_cmp}
 use Rattle.std.specs.declared.cmp.Ordering.{Ordering}

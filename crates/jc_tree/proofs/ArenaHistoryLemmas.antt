@@ -1,4 +1,4 @@
--- The earlier contents of an arena.
+-- About ArenaUndo: the earlier contents of an arena after a change and after an undo.
 use Rattle.std.proofs.Common.{◌≡◌, ℕ, zero, suc, ◌+◌, arith, length, take, add-one, List, [], ◌∷◌, ◌++◌, refl, sym, ◌∙◌, ap, subst}
 use Rattle.jc_rules.specs.declared.key.Tagged.{Tagged}
 use Rattle.jc_rules.specs.Context.{Context}

@@ -1,4 +1,4 @@
--- Numbers of places last.
+-- About Arena: changes keep the numbers to which paths lead.
 use Rattle.std.proofs.Common.{◌≡◌, ℕ, ◌<◌, ◌≤◌, List, [], ◌∷◌, ◌++◌, length, Option, Some, None, Bool, true, false, is_some, ◌⊎◌, refl, sym, ◌∙◌, ap, arith, cond}
 use Rattle.std.specs.Ordering.{eq_by_cmp}
 use Rattle.std.proofs.lemmas.Option.{same_Some}

@@ -1,4 +1,4 @@
--- What is read of an arena along a path.
+-- About Arena: reading along a path, node by node.
 use Rattle.std.proofs.Common.{◌≡◌, ◌≢◌, ℕ, ◌+◌, ◌<◌, List, [], ◌∷◌, ◌++◌, length, drop, get_or, Bool, Option, Some, None, is_some, cond, true, false, refl, sym, ◌∙◌, ap}
 use Rattle.std.proofs.lemmas.List.{drop_more, get_or_default}
 use Rattle.jc_rules.specs.declared.key.Tagged.{Tagged}

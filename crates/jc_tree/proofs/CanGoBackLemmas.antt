@@ -1,4 +1,4 @@
--- What calls leave that keep what was there, and going back to it.
+-- About CanGoBack: calls that can go back, one after the other, and going back.
 use Rattle.std.proofs.Common.{◌≡◌, ℕ, ◌+◌, append-nil, List, [], ◌∷◌, length, take, refl, sym, ◌∙◌, ap}
 use Rattle.std.proofs.Math.Seq.{take-append_seam}
 use Rattle.jc_rules.specs.declared.rule.Rule.{Rule}

@@ -1,4 +1,4 @@
--- Changes other than of links leave lists chained, and so does a fresh element linked behind a place.
+-- About Laws: changes other than of links leave lists chained, and so does a fresh element linked behind a place.
 use Rattle.std.proofs.Common.{◌≡◌, ◌≢◌, List, [], ◌∷◌, Option, Some, None, refl, ◌∙◌, ap, arith}
 use Rattle.std.specs.List.{AllByRecursion}
 use Rattle.jc_rules.specs.declared.id.Id.{Id}
@@ -10,7 +10,7 @@ use Rattle.jc_rules.specs.declared.key.Tagged.{Tagged}
 use Rattle.jc_rules.specs.declared.key.Tagged.TheVariants.{MapT, ListT, RegT}
 use Rattle.jc_rules.specs.Order.{key_cmp}
 use Rattle.jc_rules.specs.Entries.{find, put}
-use Rattle.jc_rules.specs.Context.{Context, context, Children, no_child, child, children, listed, links, Register, Content, Node, Values, values_of, content, with_content, new_content, with_presence, next, with_next, empty, empty_list}
+use Rattle.jc_rules.specs.Context.{Context, context, Children, no_child, child, children, listed, links, Register, Content, Node, Values, content, with_content, new_content, with_presence, next, with_next, empty, empty_list}
 use Rattle.jc_rules.specs.ContextsAt.{node_at, with_node_at, context_at}
 use Rattle.jc_rules.specs.WellFormed.{LeadsThrough, IsChain, IsChained, AreChained, AreLists, IsChainedList}
 use Rattle.jc_rules.proofs.OrderLemmas.{keys_total, exact_keys}
@@ -20,6 +20,7 @@ use Rattle.jc_tree.specs.Laws.{KeepsChained}
 use Rattle.jc_tree.specs.Tree.{Tree, HasPlace, here, IsChanged}
 use Rattle.jc_tree.proofs.LinkedLemmas.{linked, linked_back}
 use Rattle.jc_tree.proofs.PlacesLemmas.{then_here, then_now}
+use Rattle.jc_rules.proofs.ContextLemmas.{no_node}
 
 -- each child is chained
 pub each_chained : (cs : Children) → AreChained cs → AllByRecursion (λ e. IsChained e.1) (listed cs)
@@ -54,10 +55,6 @@ chain-same c d is e h = record { leads = leads-same c d Head is e h.leads; disti
 
 new_list_chained : IsChainedList empty_list
 new_list_chained = (([], record { leads = refl; distinct = (tt, tt); no_other = ((0, omega arith, refl), tt) }), tt, tt)
-
-no_node : {A : Type 0} (x : Option Register) (d : Context) → values_of x ≡ Some (Node d) → A
-no_node None d h = cc
-no_node (Some v) d h = cc
 
 -- a context with another chained map
 chained-with_map : (k : Key) (d c : Context) → IsChained d → IsChained c → IsChained (with_content (MapT k) (Node d) c)

@@ -1,4 +1,4 @@
--- What the history of a tree tells.
+-- About Tree: what follows from the history of a tree, and that only changes were made.
 use Rattle.std.proofs.Common.{◌≡◌, ◌≤◌, ◌+◌, suc, List, [], ◌∷◌, ◌++◌, length, take, refl, sym, ◌∙◌, ap, arith, append_assoc, append-nil, length-append, add-one}
 use Rattle.jc_rules.specs.declared.key.Tagged.{Tagged}
 use Rattle.jc_rules.specs.Context.{Context}

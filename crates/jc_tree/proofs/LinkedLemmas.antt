@@ -1,4 +1,4 @@
--- A fresh element that is linked behind a place of a list keeps the list chained.
+-- About Laws: a fresh element that is linked behind a place of a list keeps the list chained.
 use Rattle.std.proofs.Common.{◌≡◌, ◌≢◌, zero, suc, List, [], ◌∷◌, ◌++◌, Option, Some, None, Bool, true, false, cond, Contains, refl, sym, ◌∙◌, ap, subst, arith}
 use Rattle.std.specs.List.{AllByRecursion}
 use Rattle.std.specs.Ordering.{eq_by_cmp}
@@ -117,7 +117,7 @@ module _ (place : Key) (i : Id) (n : Next) (c d : Context) (adds : Adds place i 
 
 -- ---- the links that are set
 
-next-with : (j k : Key) (x : Next) (c : Context) → next j (with_next k x c) ≡ cond (eq_by_cmp key_cmp j k) (Some x) (next j c)
+pub next-with : (j k : Key) (x : Next) (c : Context) → next j (with_next k x c) ≡ cond (eq_by_cmp key_cmp j k) (Some x) (next j c)
 next-with j k x (context m l r p n) = find-put keys_total exact_keys j k x n
 
 keys-with : (P : Key → Type 0) (k : Key) (x : Next) (c : Context) → P k → AllByRecursion P (keys_of (links c)) → AllByRecursion P (keys_of (links (with_next k x c)))

@@ -1,4 +1,4 @@
--- What the lists of a node say of the context that it is.
+-- About Nested: the lists of a plain store's node, and the context that it is.
 use Rattle.std.proofs.Common.{◌≡◌, ◌≢◌, List, ◌∷◌, ◌++◌, Bool, Option, Some, None, Bor, Result, Ok, Err, is_err, true, false, is_some, option_copied, IfSome, IsSomeAnd, OnOk, IfOk, refl, sym, ◌∙◌, ap}
 use Rattle.jc_rules.specs.declared.id.Id.{Id}
 use Rattle.jc_rules.specs.declared.key.Key.{Key}
@@ -17,6 +17,7 @@ use Rattle.jc_tree.specs.declared.node.Former.{Former}
 use Rattle.jc_tree.specs.declared.node.Former.TheVariants as F
 use Rattle.jc_tree.specs.Undo.{removed, restored_by}
 use Rattle.jc_tree.proofs.WalksLeastLemmas.{least_of, least_after-append}
+use Rattle.jc_rules.proofs.ContextLemmas.{none_some}
 
 module _ (m l : List (Key × Context)) (r : List (Key × Register)) (p : List (Key × List Id)) (n : List (Key × Next)) (s : Context) (v : context (children m) (children l) r p n ≡ s) where
   pub map_content : (k : Key) → content (MapT k) s ≡ node_of (find key_cmp k m)
@@ -101,9 +102,6 @@ module _ (m l : List (Key × Context)) (r : List (Key × Register)) (p : List (K
 pub if_some : (P : Context → Type 0) (o : Option Context) (d : Context) → o ≡ Some d → P d → IfSome o P
 if_some P None d e h = tt
 if_some P (Some c) d e h = let same : c ≡ d = cc in rw same h
-
-pub none_some : {A : Type 0} {d : Context} → None ≡ Some d → A
-none_some e = absurd (let no : ⊥ = cc in no)
 
 pub none_there : {A : Type 0} (P : Context → Type 0) (o : Option Context) → IsSomeAnd o P → o ≡ None → A
 none_there P None h e = absurd h

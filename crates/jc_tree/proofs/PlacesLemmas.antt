@@ -1,5 +1,5 @@
--- What stands at a place once something was put there.
-use Rattle.std.proofs.Common.{◌≡◌, ◌≢◌, List, Option, Some, None, is_some, false, refl, sym, ◌∙◌}
+-- About Tree: what is at a place after something was put there.
+use Rattle.std.proofs.Common.{◌≡◌, ◌≢◌, List, Option, Some, None, is_some, refl, sym, ◌∙◌}
 use Rattle.jc_rules.specs.declared.key.Key.{Key}
 use Rattle.jc_rules.specs.declared.key.Tagged.{Tagged}
 use Rattle.jc_rules.specs.declared.key.Tagged.TheVariants.{MapT, ListT, RegT}
@@ -28,10 +28,6 @@ then_place at y a b p e = some_place at b.now y (then_node at y a b p e)
 -- of two that were put there, the later
 pub then_now : (at : List Tagged) (y z : Context) (a b d : Tree) → b.now ≡ with_node_at at y a.now → d.now ≡ with_node_at at z b.now → d.now ≡ with_node_at at z a.now
 then_now at y z a b d e f = rw (f, e) (with_node-twice at y z a.now)
-
-pub none_found : {X : Type 0} (o : Option X) → is_some o ≡ false → o ≡ None
-none_found None e = refl
-none_found (Some x) e = cc
 
 -- where anything is under a map's or a list's tagged key, it is a context
 pub some_content : (t : Tagged) (c : Context) → HasContext t → is_some (node_in (content t c)) ≡ is_some (content t c)

@@ -1,4 +1,4 @@
--- Identifiers that are added to a presence set, and taken out of it.
+-- About Undo: identifiers that are added to a presence set, and taken out of it.
 use Rattle.std.proofs.Common.{◌≡◌, ℕ, zero, suc, ◌<◌, List, [], ◌∷◌, length, get_or, remove, Bool, true, false, Option, Some, None, refl, sym, ◌∙◌, ap, arith}
 use Rattle.std.specs.List.{AllByRecursion}
 use Rattle.std.specs.declared.cmp.Ordering.{Ordering}

@@ -1,4 +1,4 @@
--- What is kept of a register when it is cleared.
+-- What clearing keeps of a register is well formed; jc_clear uses it.
 use Rattle.std.proofs.Common.{◌≡◌, [], ◌∷◌, List, Bool, true, false, refl}
 use Rattle.std.specs.List.{AllByRecursion}
 use Rattle.std.specs.declared.cmp.Ordering.TheVariants.{Less}
@@ -26,7 +26,7 @@ rising_kept deps (e ∷ r) h = go (has_id e.0 deps) refl (rising_kept deps r h.1
     go true p ih = rw p ih
     go false p ih = rw p (below_kept e.0 deps r h.0, ih)
 
-primitive_kept : (deps : List Id) (r : Register) → AllByRecursion (λ e. IsPrimitive e.1) r → AllByRecursion (λ e. IsPrimitive e.1) (kept deps r)
+pub primitive_kept : (deps : List Id) (r : Register) → AllByRecursion (λ e. IsPrimitive e.1) r → AllByRecursion (λ e. IsPrimitive e.1) (kept deps r)
 primitive_kept deps [] h = tt
 primitive_kept deps (e ∷ r) h = go (has_id e.0 deps) refl (primitive_kept deps r h.1)
   where

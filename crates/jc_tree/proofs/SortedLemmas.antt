@@ -1,4 +1,4 @@
--- What a place in a sorted list of entries tells.
+-- About Sorted: finding, putting and taking away at a place of a sorted list.
 use Rattle.std.proofs.Common.{◌≡◌, ℕ, zero, suc, ◌≤◌, ◌<◌, List, [], ◌∷◌, length, take, drop, filter, get_or, slice_get, slice_set, insert, remove, option_map, Option, Some, None, true, false, Result, Ok, Err, Bor, MatchOption, IsSomeAnd, option_copied, refl, sym, ◌∙◌, ap, arith}
 use Rattle.std.specs.List.{AllByRecursion, AllWithin}
 use Rattle.std.specs.Slice.{IsItemAt}

@@ -1,5 +1,5 @@
--- What the calls of a balanced tree say in the words of entries by key.
-use Rattle.std.proofs.Common.{◌≡◌, ◌<◌, List, [], ◌∷◌, length, Bool, true, false, ◌&&◌, cond, filter, Option, Some, None, Result, Ok, Err, OnErr, option_map, slice_get, refl, sym, ◌∙◌, ap, subst, arith}
+-- About Sorted: the calls of std's B-tree in the words of entries by key.
+use Rattle.std.proofs.Common.{◌≡◌, ◌<◌, List, [], ◌∷◌, length, Bool, true, false, cond, filter, Option, Some, None, Result, Ok, Err, OnErr, option_map, slice_get, refl, sym, ◌∙◌, ap, subst, arith}
 use Rattle.std.specs.List.{AllByRecursion}
 use Rattle.std.specs.List.Sorted.{IsStrictlySortedBy}
 use Rattle.std.specs.Ordering.{is_eq, is_lt}
@@ -20,6 +20,7 @@ use Rattle.jc_tree.specs.Sorted.{AreSorted}
 use Rattle.jc_tree.specs.Tree.{is_after, least_after}
 use Rattle.jc_tree.specs.Undo.{removed}
 use Rattle.jc_tree.proofs.SortedLemmas.{least-none}
+use Rattle.jc_rules.proofs.BoolLemmas.{and_true}
 
 -- the order of keys is that of the rules
 pub same_order : cmp-value.it ≡ key_cmp
@@ -63,10 +64,6 @@ rising_filtered p (k ∷ ks) h = go (p k) refl (rising_filtered p ks h.1)
     go : (b : Bool) → p k ≡ b → IsRising key_cmp (filter p ks) → IsRising key_cmp (filter p (k ∷ ks))
     go true e ih = rw e (all_filtered (λ j. key_cmp k j ≡ Less) p ks h.0, ih)
     go false e ih = rw e ih
-
-and_true : (b : Bool) → b && true ≡ b
-and_true true = refl
-and_true false = refl
 
 module _ {X : Type 0} where
   pub sorted_is : (es : List (Key × X)) → IsStrictlySortedBy cmp-value.it (keys_of es) → AreSorted es

@@ -1,11 +1,11 @@
--- What a change leaves at its place, and one key further down.
+-- About Tree: what a change leaves at its place, and one key further down.
 use Rattle.std.proofs.Common.{◌≡◌, List, [], ◌∷◌, ◌++◌, Option, Some, None, refl}
 use Rattle.jc_rules.specs.declared.key.Tagged.{Tagged}
 use Rattle.jc_rules.specs.Context.{Context, Content, Node, Values, content}
 use Rattle.jc_rules.specs.ContextsAt.{at_node, node_in, node_at}
 use Rattle.jc_tree.specs.Tree.{Tree, HasPlace, here, IsChanged}
-use Rattle.jc_tree.proofs.NodeLemmas.{none_some}
 use Rattle.jc_tree.proofs.PlacesLemmas.{then_node, then_here, then_place}
+use Rattle.jc_rules.proofs.ContextLemmas.{none_some}
 
 -- the changed context is at its place
 pub node_changed : (at : List Tagged) (y : Context) (a b : Tree) → HasPlace at a → IsChanged at y a b → node_at at b.now ≡ Some y

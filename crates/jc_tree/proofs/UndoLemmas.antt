@@ -1,4 +1,4 @@
--- Changes are taken back exactly.
+-- About Undo: changes are taken back exactly.
 use Rattle.std.proofs.Common.{◌≡◌, ◌≢◌, ℕ, ◌+◌, ◌≤◌, suc, length, take, subst, add-one, arith, Bool, true, false, cond, if◌then◌else◌, Result, Ok, Err, is_ok, OnErr, List, [], ◌∷◌, ◌++◌, Option, Some, None, refl, sym, ◌∙◌, ap}
 use Rattle.std.specs.List.{AllByRecursion}
 use Rattle.std.specs.declared.cmp.Ordering.{Ordering}

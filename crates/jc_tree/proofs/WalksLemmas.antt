@@ -1,4 +1,4 @@
--- A walk over keys, from each to the least above it, and over entries that rise by key.
+-- About Walks: a walk over keys, from each to the least above it, and over entries that rise by key.
 use Rattle.std.proofs.Common.{◌≡◌, ◌≢◌, ◌<◌, ◌≤◌, ◌⊎◌, List, [], ◌∷◌, ◌++◌, length, filter, Bool, true, false, Option, Some, None, refl, sym, ◌∙◌, ap, subst, arith, inl, inr}
 use Rattle.std.specs.List.{AllByRecursion}
 use Rattle.std.specs.Ordering.{is_lt}
@@ -25,7 +25,7 @@ record IsLeast (k : Key) (ks : List Key) : Type 0 where
   among : IsAmong k ks
   below : AllByRecursion (λ j. key_cmp k j ≢ Greater) ks
 
-none_found : (k : Key) (o : Option Key) → lesser k o ≢ None
+pub none_found : (k : Key) (o : Option Key) → lesser k o ≢ None
 none_found k None e = cc
 none_found k (Some j) e = go (key_cmp k j) refl
   where

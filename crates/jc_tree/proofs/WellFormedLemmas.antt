@@ -1,4 +1,4 @@
--- Changes leave a content kept.
+-- About Change: changes keep a content well formed.
 use Rattle.std.proofs.Common.{◌≡◌, ◌≢◌, List, [], ◌∷◌, ◌++◌, Option, Some, None, refl}
 use Rattle.std.specs.List.{AllByRecursion}
 use Rattle.jc_rules.specs.declared.id.Id.{Id}
@@ -7,9 +7,9 @@ use Rattle.jc_rules.specs.declared.key.Key.{Key}
 use Rattle.jc_rules.specs.declared.key.Tagged.{Tagged}
 use Rattle.jc_rules.specs.declared.key.Tagged.TheVariants.{MapT, ListT, RegT}
 use Rattle.jc_rules.specs.Order.{id_cmp, key_cmp}
-use Rattle.jc_rules.specs.Entries.{find, put}
+use Rattle.jc_rules.specs.Entries.{IsRising, find, keys_of, put}
 use Rattle.jc_rules.specs.Ids.{AreRising, with_id}
-use Rattle.jc_rules.specs.Context.{Context, context, Children, no_child, child, children, listed, Register, Content, Node, Values, values_of, content, with_content, presence, with_presence, registers, IsPrimitive, empty, empty_list}
+use Rattle.jc_rules.specs.Context.{Context, context, Children, no_child, child, children, listed, Register, Content, Node, Values, content, with_content, presence, with_presence, presences, registers, IsPrimitive, empty, empty_list}
 use Rattle.jc_rules.specs.ContextsAt.{node_at, with_node_at, context_at}
 use Rattle.jc_rules.specs.WellFormed.{IsWellFormedContext, AreWellFormedContexts, IsWellFormedRegister}
 use Rattle.jc_rules.proofs.OrderLemmas.{ids_total, exact_ids, keys_total, exact_keys}
@@ -21,25 +21,22 @@ use Rattle.jc_tree.specs.Change.{IsFit, changed_by, changed_at}
 use Rattle.jc_tree.proofs.PresencesLemmas.{rising_there}
 use Rattle.jc_tree.specs.declared.node.Change.{Change}
 use Rattle.jc_tree.specs.declared.node.Change.TheVariants.{Child, AddId, Presence, Link, PutValue, Register as Set}
+use Rattle.jc_rules.proofs.ContextLemmas.{no_node}
 
 -- each child is kept
-all_kept : (cs : Children) → AreWellFormedContexts cs → AllByRecursion (λ e. IsWellFormedContext e.1) (listed cs)
+pub all_kept : (cs : Children) → AreWellFormedContexts cs → AllByRecursion (λ e. IsWellFormedContext e.1) (listed cs)
 all_kept no_child h = tt
 all_kept (child k c cs) h = (h.0, all_kept cs h.1)
 
-kept_all : (es : List (Key × Context)) → AllByRecursion (λ e. IsWellFormedContext e.1) es → AreWellFormedContexts (children es)
+pub kept_all : (es : List (Key × Context)) → AllByRecursion (λ e. IsWellFormedContext e.1) es → AreWellFormedContexts (children es)
 kept_all [] h = tt
 kept_all (e ∷ es) h = (h.0, kept_all es h.1)
 
 kept-child : (k : Key) (d : Context) (cs : Children) → AreWellFormedContexts cs → find key_cmp k (listed cs) ≡ Some d → IsWellFormedContext d
 kept-child k d cs h f = value-found keys_total exact_keys IsWellFormedContext k d (listed cs) (all_kept cs h) f
 
-kept-put : (k : Key) (d : Context) (cs : Children) → AreWellFormedContexts cs → IsWellFormedContext d → AreWellFormedContexts (children (put key_cmp k d (listed cs)))
+pub kept-put : (k : Key) (d : Context) (cs : Children) → AreWellFormedContexts cs → IsWellFormedContext d → AreWellFormedContexts (children (put key_cmp k d (listed cs)))
 kept-put k d cs h g = kept_all (put key_cmp k d (listed cs)) (values-put keys_total exact_keys IsWellFormedContext k d (listed cs) g (all_kept cs h))
-
-no_node : {A : Type 0} (x : Option Register) (d : Context) → values_of x ≡ Some (Node d) → A
-no_node None d h = cc
-no_node (Some v) d h = cc
 
 -- a kept context holds kept ones
 pub kept-content : (t : Tagged) (c d : Context) → IsWellFormedContext c → content t c ≡ Some (Node d) → IsWellFormedContext d
@@ -56,11 +53,11 @@ kept-with (RegT k) (context m l r p n) d h g = h
 kept-register : (k : Key) (v : Register) (c : Context) → IsWellFormedContext c → IsWellFormedRegister v → IsWellFormedContext (with_content (RegT k) (Values v) c)
 kept-register k v (context m l r p n) h g = (h.0, h.1, rising-put keys_total exact_keys k v r h.2, h.3, h.4, values-put keys_total exact_keys IsWellFormedRegister k v r g h.5, h.6, h.7, h.8)
 
-kept-presence : (k : Key) (s : List Id) (c : Context) → AreRising s → IsWellFormedContext c → IsWellFormedContext (with_presence k s c)
+pub kept-presence : (k : Key) (s : List Id) (c : Context) → AreRising s → IsWellFormedContext c → IsWellFormedContext (with_presence k s c)
 kept-presence k s (context m l r p n) f h = (h.0, h.1, h.2, rising-put keys_total exact_keys k s p h.3, h.4, h.5, values-put keys_total exact_keys AreRising k s p f h.6, h.7, h.8)
 
 -- a set of a kept context rises
-rising : (k : Key) (s : List Id) (c : Context) → IsWellFormedContext c → presence k c ≡ Some s → AreRising s
+pub rising : (k : Key) (s : List Id) (c : Context) → IsWellFormedContext c → presence k c ≡ Some s → AreRising s
 rising k s (context m l r p n) h e = value-found keys_total exact_keys AreRising k s p h.6 e
 
 -- so does a register, with primitive values
@@ -120,3 +117,6 @@ presence_rises ks k s ids c h place f e = rw e (rising k s (context_at ks c) (ke
 
 pub register_kept : (ks : List Tagged) (k : Key) (v pairs : Register) (c : Context) → IsWellFormedContext c → node_at ks c ≢ None → find key_cmp k (registers (context_at ks c)) ≡ Some v → pairs ≡ v → IsWellFormedRegister pairs
 register_kept ks k v pairs c h place f e = rw e (kept_values k v (context_at ks c) (kept-node ks c (context_at ks c) h (there ks c place)) f)
+
+pub presences_rise : (c : Context) → IsWellFormedContext c → IsRising key_cmp (keys_of (presences c))
+presences_rise (context m l r p n) h = h.3

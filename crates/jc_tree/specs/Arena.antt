@@ -1,4 +1,4 @@
--- Contexts as nodes in one list, each of which names its children by their numbers.
+-- Contexts as numbered nodes in one list, and which such lists are sound: the fast store's words for its content.
 use Rattle.std.specs.Prelude.{◌≡◌, ℕ, zero, suc, ◌<◌, List, [], ◌∷◌, length, Bool, Option, Some, None, is_some, get_or}
 use Rattle.jc_rules.specs.declared.id.Id.{Id}
 use Rattle.jc_rules.specs.declared.key.Key.{Key}
@@ -133,13 +133,13 @@ changed_flat (Link k x) n = with_links (put key_cmp k x n.links) n
 changed_flat (PutValue k i v) n = with_registers (put key_cmp k (put id_cmp i v (or_no_entries (find key_cmp k n.registers))) n.registers) n
 changed_flat (SetRegister k v) n = with_registers (put key_cmp k v n.registers) n
 
--- what takes it back that a node is made
+-- the undo record of a new node
 abbrev pub former_of_node : Tagged → Former
 former_of_node (MapT k) = F.Map k
 former_of_node (ListT k) = F.List k
 former_of_node (RegT k) = F.Same
 
--- what takes a change back
+-- the undo record of a change
 abbrev pub former_of_flat : Change → Flat → Former
 former_of_flat (Child (RegT k)) n = F.Register k (find key_cmp k n.registers)
 former_of_flat (Child t) n = former_of_node t

@@ -1,4 +1,4 @@
--- The earlier contents of an arena.
+-- The earlier contents of the fast store, by its undo records.
 use Rattle.std.specs.Prelude.{◌≡◌, ℕ, ◌<◌, List, [], ◌∷◌, length, slice_set}
 use Rattle.std.specs.List.{AllByRecursion-prop}
 use Rattle.std.specs.Coded.{Coded-set, le_prop, ×_prop, Unit-prop, coded_ℕ}
@@ -36,7 +36,7 @@ restored_in i f ns = slice_set ns i (restored_flat f (flat_at ns i))
 abbrev pub arena_undone_once : Undo → List Flat → List Flat
 arena_undone_once u ns = restored_in u.node u.former (fewer u.former ns)
 
--- the nodes before all the changes that these take back, of which the last was the latest
+-- the nodes before all the changes of these undo records, the latest last
 abbrev pub arena_undone : List Undo → List Flat → List Flat
 arena_undone [] ns = ns
 arena_undone (u ∷ us) ns = arena_undone_once u (arena_undone us ns)

@@ -1,4 +1,4 @@
--- What was there can be had again.
+-- That a tree and a trace can go back to what they were: the calls of jc_clear, jc_apply and jc_cursor leave it.
 use Rattle.jc_rules.specs.Trace.{Rows, IsLonger}
 use Rattle.jc_tree.specs.Tree.{Tree, IsLater}
 

@@ -1,4 +1,4 @@
--- Changes of one context.
+-- One change of one context, and which changes keep a content well formed, for both stores.
 use Rattle.std.specs.Prelude.{◌≡◌, List, None}
 use Rattle.jc_rules.specs.declared.key.Tagged.{Tagged}
 use Rattle.jc_rules.specs.declared.key.Tagged.TheVariants.{RegT}

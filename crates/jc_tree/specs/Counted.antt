@@ -1,4 +1,4 @@
--- Presence sets that are counted.
+-- Presence sets with the number of those that have an identifier, for the nodes of the fast store.
 use Rattle.std.specs.Prelude.{◌≡◌, ℕ, List, Bool, ◌&&◌, not}
 use Rattle.jc_rules.specs.declared.id.Id.{Id}
 use Rattle.jc_rules.specs.declared.key.Key.{Key}

@@ -1,4 +1,4 @@
--- The children of a context are smaller than the context.
+-- The children of a context are smaller than the context: recursion over the plain store ends by it.
 use Rattle.std.specs.Prelude.{ℕ, ◌+◌, ◌≤◌, List, [], ◌∷◌}
 use Rattle.std.proofs.Common.{arith}
 use denote.Param.Weighed.{most}

@@ -1,4 +1,4 @@
--- Laws of stores.
+-- The laws of stores: a mark gives back its tree, and changes keep lists chained.
 use Rattle.std.specs.Prelude.{◌≡◌, ◌≢◌, ◌≤◌, ◌+◌, List, length, take, Some, None}
 use Rattle.jc_rules.specs.declared.id.Id.{Id}
 use Rattle.jc_rules.specs.declared.key.Key.{Key}
@@ -12,7 +12,7 @@ use Rattle.jc_rules.specs.ContextsAt.{node_at, with_node_at, context_at}
 use Rattle.jc_rules.specs.WellFormed.{IsChained}
 use Rattle.jc_tree.specs.Tree.{Tree, tree_history, IsChanged, IsLater}
 
--- However many changes were made since a mark, the mark still counts, and going back to it gives the tree that was
+-- However many changes were made since a mark, the mark is still valid, and going back to it gives the tree that was
 -- marked.
 pub record GivesBack (a b : Tree) : Type 0 where
   pub counts : length a.earlier ≤ length b.earlier

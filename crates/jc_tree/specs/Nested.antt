@@ -1,4 +1,4 @@
--- Nested contexts as values: how they are stored, and how large they are.
+-- Nested contexts as values of the plain store: how they are stored, and how large they are.
 use Rattle.std.specs.Prelude.{◌≡◌, ℕ, suc, ◌+◌, List, refl}
 use Rattle.std.specs.Coded.{Coded, coded×, coded_list}
 use Rattle.std.proofs.Common.{ap}

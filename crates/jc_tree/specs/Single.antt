@@ -1,4 +1,4 @@
--- That a content is kept has one proof.
+-- That a content is well formed has one proof, so a store's invariant is a proposition.
 use Rattle.std.specs.Prelude.{◌≡◌, List, [], ◌∷◌}
 use Rattle.std.specs.List.{AllByRecursion, AllByRecursion-prop}
 use Rattle.std.specs.Coded.{×_prop, Unit-prop}

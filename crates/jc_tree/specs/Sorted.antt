@@ -1,4 +1,4 @@
--- Places in lists of entries that rise by key.
+-- Places in lists of entries that rise by key, for the lists and the searches of jc_tree.
 use Rattle.std.specs.Prelude.{◌≡◌, ℕ, ◌≤◌, List, length, take, drop, slice_get, Some, Result, Ok, Err}
 use Rattle.std.specs.List.{AllByRecursion}
 use Rattle.std.specs.declared.cmp.Ordering.{Ordering}
@@ -25,7 +25,7 @@ pub record EntryBelongsAt {K X : Type 0} (R : K → K → Ordering) (k : K) (es 
   pub lesser : AllByRecursion (λ e. R e.0 k ≡ Less) (take i es)
   pub greater : AllByRecursion (λ e. R k e.0 ≡ Less) (drop i es)
 
--- where the key stands, or else where it belongs
+-- where the key is, or else where it belongs
 abbrev pub IsEntryPlace : {K X : Type 0} → (K → K → Ordering) → K → List (K × X) → Result ℕ ℕ → Type 0
 IsEntryPlace R k es (Ok i) = IsEntryAt k es i
 IsEntryPlace R k es (Err i) = EntryBelongsAt R k es i

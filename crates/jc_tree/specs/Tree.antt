@@ -1,4 +1,4 @@
--- What a store contains.
+-- What a store contains, and its changes: the contracts of `TreeStore` and of all rules over it are in these words.
 use Rattle.std.specs.Prelude.{◌≡◌, ◌≢◌, ℕ, List, [], ◌∷◌, ◌++◌, Option, Some, None, Bool, true, false, filter, count_by}
 use Rattle.std.specs.Ordering.{is_lt}
 use Rattle.jc_rules.specs.declared.id.Id.{Id}
@@ -9,7 +9,7 @@ use Rattle.jc_rules.specs.Context.{Context}
 use Rattle.jc_rules.specs.ContextsAt.{node_at, with_node_at, context_at}
 use Rattle.jc_rules.specs.Table.{least}
 
--- the content, and the contents before each change since the marks were last forgotten, the oldest first
+-- the content, and the contents before each change since `forget_marks` was last called, the oldest first
 pub record Tree : Type 0 where
   pub now : Context
   pub earlier : List Context
@@ -37,7 +37,7 @@ pub record IsChanged (at : List Tagged) (y : Context) (old new : Tree) : Type 0 
   pub now : new.now ≡ with_node_at at y old.now
   pub earlier : new.earlier ≡ tree_history old
 
--- Only changes have been made: what the history was is still its beginning.
+-- Only changes have been made: the earlier history is a prefix of the history now.
 pub record IsLater (old new : Tree) : Type 0 where
   pub added : List Context
   pub is : tree_history new ≡ tree_history old ++ added

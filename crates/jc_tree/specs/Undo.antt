@@ -1,4 +1,4 @@
--- How changes are taken back.
+-- How changes are taken back by their undo records, in both stores.
 use Rattle.std.specs.Prelude.{List, [], ◌∷◌, Bool, true, false, Option, Some, None, cond}
 use Rattle.std.specs.Ordering.{eq_by_cmp}
 use Rattle.std.specs.declared.cmp.Ordering.{Ordering}
@@ -43,17 +43,17 @@ abbrev pub restored_value : Key → Id → Option Value → Option Register → 
 restored_value k i o None es = es
 restored_value k i o (Some r) es = put key_cmp k (restored id_cmp i o r) es
 
--- what takes it back that the identifier is added to the key's set
+-- the undo record of adding the identifier to the key's set
 abbrev pub former_of_id : Key → Id → Option (List Id) → Former
 former_of_id k i None = F.Presence k None
 former_of_id k i (Some s) = cond (has_id i s) F.Same (F.NoId k i)
 
--- what takes it back that a value is put under the identifier into the key's register
+-- the undo record of putting a value under the identifier into the key's register
 abbrev pub former_of_value : Key → Id → Option Register → Former
 former_of_value k i None = F.Register k None
 former_of_value k i (Some r) = F.Value k i (find id_cmp i r)
 
--- whether there was a register or a presence set, by what takes it back that it was set
+-- whether there was a register or a presence set before, by the undo record of setting one
 abbrev pub was_there : Former → Bool
 was_there (F.Register k None) = false
 was_there (F.Presence k None) = false
@@ -85,7 +85,7 @@ restored_by F.Same c = c
 abbrev pub restored_at : List Tagged → Former → Context → Context
 restored_at at former c = with_node_at at (restored_by former (context_at at c)) c
 
--- the content before all the changes that these take back, of which the last was the latest
+-- the content before all the changes of these undo records, the latest last
 abbrev pub tree_undone : List Undo → Context → Context
 tree_undone [] c = c
 tree_undone (u ∷ us) c = restored_at u.at.items u.former (tree_undone us c)

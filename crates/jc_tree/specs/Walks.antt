@@ -1,4 +1,4 @@
--- Entries that a walk by key comes to.
+-- Entries that a walk by key comes to, for the loops of jc_json over a store.
 use Rattle.std.specs.Prelude.{List, [], ◌∷◌, Option, Some, None, filter}
 use Rattle.jc_rules.specs.declared.key.Key.{Key}
 use Rattle.jc_tree.specs.Tree.{is_after}

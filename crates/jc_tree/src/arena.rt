@@ -1,4 +1,4 @@
-//! The fast store: nodes in one list, each of which names its children by their numbers.
+//! The fast store, which the program uses: nodes in one list, each of which names its children by number.
 
 ghost use Rattle.std.specs.Prelude.{◌≡◌, ◌≢◌, ◌<◌, ◌+◌, List, None, Some, [], ◌∷◌, ◌++◌, length, IfOk, OnOk, OnErr};
 ghost use Rattle.jc_rules.specs.declared.key.Tagged.{Tagged as AnyTagged};
@@ -18,16 +18,16 @@ use crate::store::{Mark, Place, TreeStore};
 use jc_rules::{Id, Key, Next, Tagged, Value};
 use std::alloc::{AllocError, Global};
 
-/// What takes one change back: the number of the node that was changed, and what the change set in
-/// it, as it was before.
+/// The undo record of one change: the number of the changed node, and what the change set in it, as
+/// it was before.
 #[derive(Drop)]
 pub struct Undo {
     node: NodeId,
     former: Former,
 }
 
-/// A tree as a list of nodes, the document's first and each one before its children, with what takes
-/// each of its changes back, the latest last.
+/// A tree as a list of nodes, the document's first and each one before its children, with the undo
+/// records of its changes, the latest last.
 #[derive(Drop)]
 pub struct ArenaTree {
     alloc: Global,
@@ -52,7 +52,7 @@ fn drop_node(nodes: &mut Vec<ArenaNode>, former: &Former)
     }
 }
 
-/// Makes the nodes what they were before a change. It takes no memory.
+/// Takes a change back by its undo record. It takes no memory.
 fn take_back(nodes: &mut Vec<ArenaNode>, undo: Undo)
     ensures { nodes.new.items ≡ arena_undone_once undo nodes.old.items }
 {
@@ -102,9 +102,9 @@ impl ArenaTree {
         node
     }
 
-    /// Makes one change of a node to which a path leads, and which makes no node, and keeps what takes it
-    /// back. Paths lead to the same numbers then. Says whether there was a register or a presence set, where
-    /// one was set. After a refusal all is as it was.
+    /// Makes one change of a node to which a path leads, and keeps its undo record. The change makes no
+    /// node, so paths lead to the same numbers as before. Returns whether there was a register or a
+    /// presence set, where one was set. After a refusal all is as it was.
     fn change_node(&mut self, node: NodeId, change: Change) -> Result<bool, AllocError>
         requires there { (at : List AnyTagged) × (walk self.old.nodes.items 0 at ≡ Some node) }
         requires within { node < length self.old.nodes.items }

@@ -1,4 +1,4 @@
-//! The nodes of an arena.
+//! The nodes of the fast store: contexts that name their children by number.
 
 ghost use Rattle.std.specs.Prelude.{◌≡◌, ℕ, ◌++◌, None, is_some, option_copied, IfOk, OnOk, OnErr};
 ghost use Rattle.jc_rules.specs.Order.{key_cmp};
@@ -66,7 +66,7 @@ impl Model for ArenaNode {
     ghost invariant = { λ a. IsSortedFlat (record { maps = a.maps.entries; lists = a.lists.entries; registers = a.registers.entries; presences = a.presences; links = a.links.entries }) };
 }
 
-/// What takes it back that a node is made under a tagged key.
+/// The undo record of a new node under a tagged key.
 pub fn former_of_node(key: Tagged) -> Former
     requires { HasContext key }
     ensures { result ≡ former_of_node key }
@@ -198,7 +198,7 @@ impl ArenaNode {
         }
     }
 
-    /// Gives the key this register, and gives what takes it back. After a refusal the node is as it was.
+    /// Sets the key's register. Returns the undo record. After a refusal the node is as it was.
     fn put_register(&mut self, key: Key, pairs: Pairs) -> Result<Former, AllocError>
         ensures ok { OnOk result (self.new ≡ changed_flat (Change.Register key pairs) self.old) }
         ensures former { IfOk result (λ former. former ≡ former_of_flat (Change.Register key pairs) self.old) }
@@ -208,8 +208,7 @@ impl ArenaNode {
         Ok(Former::Register(copy, put_in(&mut self.registers, key, pairs)?))
     }
 
-    /// Gives the key this presence set, and gives what takes it back. After a refusal the node is as it
-    /// was.
+    /// Sets the key's presence set. Returns the undo record. After a refusal the node is as it was.
     fn put_presence(&mut self, key: Key, ids: Ids) -> Result<Former, AllocError>
         ensures ok { OnOk result (self.new ≡ changed_flat (Change.Presence key ids) self.old) }
         ensures former { IfOk result (λ former. former ≡ former_of_flat (Change.Presence key ids) self.old) }
@@ -219,7 +218,7 @@ impl ArenaNode {
         Ok(Former::Presence(copy, self.presences.put(key, ids)?))
     }
 
-    /// Sets what follows the key, and gives what takes it back. After a refusal the node is as it was.
+    /// Sets what follows the key. Returns the undo record. After a refusal the node is as it was.
     fn put_link(&mut self, key: Key, next: Next) -> Result<Former, AllocError>
         ensures ok { OnOk result (self.new ≡ changed_flat (Change.Link key next) self.old) }
         ensures former { IfOk result (λ former. former ≡ former_of_flat (Change.Link key next) self.old) }
@@ -229,8 +228,8 @@ impl ArenaNode {
         Ok(Former::Link(copy, put_in(&mut self.links, key, next)?))
     }
 
-    /// Makes a change that makes no node, and gives what takes it back. After a refusal the node is
-    /// as it was.
+    /// Makes a change that makes no node. Returns the undo record. After a refusal the node is as it
+    /// was.
     pub fn change(&mut self, change: Change, alloc: Global) -> Result<Former, AllocError>
         requires { IsInside change }
         ensures ok { OnOk result (self.new ≡ changed_flat change self.old) }
@@ -252,7 +251,7 @@ impl ArenaNode {
         }
     }
 
-    /// Makes what a change set what it was. It takes no memory.
+    /// Takes a change back by its undo record. It takes no memory.
     pub fn restore(&mut self, former: Former)
         ensures { self.new ≡ restored_flat former self.old }
     {

@@ -1,4 +1,4 @@
-//! Presence sets that are changed in place.
+//! Presence sets that are changed in place, for the nodes of both stores.
 
 ghost use Rattle.std.specs.Prelude.{◌≡◌, [], ◌∷◌, not, IfOk, OnOk, OnErr};
 ghost use Rattle.jc_rules.specs.Ids.{AreRising, has_id, with_id};

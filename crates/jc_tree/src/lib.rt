@@ -1,4 +1,5 @@
-//! Trees of contexts: what every store of a document's tree promises, a plain store and a fast one.
+//! Trees of contexts: what every store of a document promises, a plain store and a fast one. The rules of
+//! jc_clear, jc_apply and jc_cursor are written over any store.
 #![tactic(auto)]
 
 mod arena;

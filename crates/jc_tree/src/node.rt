@@ -1,4 +1,4 @@
-//! Contexts as lists that are sorted by key.
+//! The contexts of the plain store, as nested lists sorted by key, with the changes and undo records of both stores.
 
 ghost use Rattle.std.specs.Prelude.{◌≡◌, ◌≢◌, ◌++◌, None, Some, is_some, option_copied, option_to_list, IfOk, IfSome, IsSomeAnd, OnOk, OnErr};
 ghost use Rattle.jc_rules.specs.Order.{key_cmp};
@@ -64,9 +64,9 @@ pub enum Change {
     Register(Key, Pairs),
 }
 
-/// What a change set, as it was before: that there was no map or list under the key; what else stood
-/// under it, if anything did; what the identifier had in the key's register, if anything; that it
-/// wasn't in the key's presence set; or that all was as it is.
+/// An undo record: what a change set, as it was before. There was no map or list under the key; or
+/// another entry or none; or the identifier's value in the key's register, or none; or the identifier
+/// wasn't in the key's presence set; or nothing was changed.
 #[derive(Drop)]
 pub enum Former {
     Map(Key),
@@ -80,7 +80,8 @@ pub enum Former {
 }
 
 impl Former {
-    /// Whether there was a register or a presence set, where this takes it back that it was set.
+    /// Whether there was a register or a presence set before, where this is the undo record of setting
+    /// one.
     pub fn was_there(&self) -> bool
         ensures { result ≡ was_there self.now }
     {
@@ -200,8 +201,8 @@ impl Node {
         key_above(self.links.as_slice(), after)
     }
 
-    /// Puts an empty map under the key, and gives what takes it back. After a refusal the context is as
-    /// it was.
+    /// Puts an empty map under the key. Returns the undo record. After a refusal the context is as it
+    /// was.
     #[tactic(auto, using(crate::proofs::NodeLemmas::map_with))]
     fn make_map(&mut self, key: Key, alloc: Global) -> Result<Former, AllocError>
         ensures ok { OnOk result (self.new ≡ changed_by (Change.Child (Tagged.MapT key)) self.old) }
@@ -213,8 +214,8 @@ impl Node {
         Ok(Former::Map(copy))
     }
 
-    /// Puts an empty list under the key, and gives what takes it back. After a refusal the context is as
-    /// it was.
+    /// Puts an empty list under the key. Returns the undo record. After a refusal the context is as it
+    /// was.
     fn make_list(&mut self, key: Key, alloc: Global) -> Result<Former, AllocError>
         ensures ok { OnOk result (self.new ≡ changed_by (Change.Child (Tagged.ListT key)) self.old) }
         ensures former { IfOk result (λ former. former ≡ former_of (Change.Child (Tagged.ListT key)) self.old) }
@@ -225,8 +226,7 @@ impl Node {
         Ok(Former::List(copy))
     }
 
-    /// Gives the key this register, and gives what takes it back. After a refusal the context is as it
-    /// was.
+    /// Sets the key's register. Returns the undo record. After a refusal the context is as it was.
     fn put_register(&mut self, key: Key, pairs: Pairs) -> Result<Former, AllocError>
         ensures ok { OnOk result (self.new ≡ changed_by (Change.Register key pairs) self.old) }
         ensures former { IfOk result (λ former. former ≡ former_of (Change.Register key pairs) self.old) }
@@ -236,8 +236,7 @@ impl Node {
         Ok(Former::Register(copy, put_value(&mut self.registers, key, pairs)?))
     }
 
-    /// Gives the key this presence set, and gives what takes it back. After a refusal the context is as
-    /// it was.
+    /// Sets the key's presence set. Returns the undo record. After a refusal the context is as it was.
     fn put_presence(&mut self, key: Key, ids: Ids) -> Result<Former, AllocError>
         ensures ok { OnOk result (self.new ≡ changed_by (Change.Presence key ids) self.old) }
         ensures former { IfOk result (λ former. former ≡ former_of (Change.Presence key ids) self.old) }
@@ -247,7 +246,7 @@ impl Node {
         Ok(Former::Presence(copy, put_value(&mut self.presences, key, ids)?))
     }
 
-    /// Sets what follows the key, and gives what takes it back. After a refusal the context is as it was.
+    /// Sets what follows the key. Returns the undo record. After a refusal the context is as it was.
     fn put_link(&mut self, key: Key, next: Next) -> Result<Former, AllocError>
         ensures ok { OnOk result (self.new ≡ changed_by (Change.Link key next) self.old) }
         ensures former { IfOk result (λ former. former ≡ former_of (Change.Link key next) self.old) }
@@ -257,8 +256,8 @@ impl Node {
         Ok(Former::Link(copy, put_value(&mut self.links, key, next)?))
     }
 
-    /// Adds the identifier to the key's presence set, a new one where there is none, and gives what takes
-    /// it back. After a refusal the context is as it was.
+    /// Adds the identifier to the key's presence set, a new one where there is none. Returns the undo
+    /// record. After a refusal the context is as it was.
     fn add_id(&mut self, key: Key, id: Id, alloc: Global) -> Result<Former, AllocError>
         ensures ok { OnOk result (self.new ≡ changed_by (Change.AddId key id) self.old) }
         ensures former { IfOk result (λ former. former ≡ former_of (Change.AddId key id) self.old) }
@@ -269,7 +268,7 @@ impl Node {
         Ok(former)
     }
 
-    /// Changes this context, and gives the entry as it was. After a refusal the context is as it was.
+    /// Changes this context. Returns the undo record. After a refusal the context is as it was.
     fn change(&mut self, change: Change, alloc: Global) -> Result<Former, AllocError>
         ensures ok { OnOk result (self.new ≡ changed_by change self.old) }
         ensures former { IfOk result (λ former. former ≡ former_of change self.old) }
@@ -291,8 +290,7 @@ impl Node {
         }
     }
 
-    /// Changes the context at the place, and gives the entry as it was. After a refusal all is as it
-    /// was.
+    /// Changes the context at the place. Returns the undo record. After a refusal all is as it was.
     #[cycle(changing)]
     pub fn change_at(
         &mut self,
@@ -315,7 +313,7 @@ impl Node {
         }
     }
 
-    /// Makes an entry what it was.
+    /// Takes a change of this context back by its undo record.
     #[tactic(auto, using(crate::proofs::NodeLemmas::map_restored, crate::proofs::NodeLemmas::list_restored))]
     fn restore(&mut self, former: Former)
         ensures { self.new ≡ restored_by former self.old }
@@ -332,7 +330,7 @@ impl Node {
         }
     }
 
-    /// Makes an entry of the context at the place what it was.
+    /// Takes a change of the context at the place back by its undo record.
     #[cycle(restoring)]
     pub fn restore_at(&mut self, at: &[Tagged], former: Former)
         ensures { self.new ≡ restored_at at.now former self.old }
@@ -348,7 +346,7 @@ impl Node {
     }
 }
 
-/// What takes it back that the identifier is added to the key's presence set, which is there or not.
+/// The undo record of adding the identifier to the key's presence set, which is there or not.
 pub fn former_of_id(presence: Option<&Ids>, key: &Key, id: Id) -> Result<Former, AllocError>
     ensures { IfOk result (λ former. former ≡ former_of_id key.now id (option_copied presence.entry)) }
 {
@@ -359,8 +357,8 @@ pub fn former_of_id(presence: Option<&Ids>, key: &Key, id: Id) -> Result<Former,
     }
 }
 
-/// Changes the context at the place in the key's child, and gives the entry as it was. After a
-/// refusal all is as it was.
+/// Changes the context at the place in the key's child. Returns the undo record. After a refusal all
+/// is as it was.
 #[cycle(changing)]
 fn change_in(
     children: &mut Vec<(Key, Node)>,
@@ -384,7 +382,7 @@ fn change_in(
     }
 }
 
-/// Makes an entry of the context at the place in the key's child what it was.
+/// Takes a change of the context at the place in the key's child back by its undo record.
 #[cycle(restoring)]
 fn restore_in(children: &mut Vec<(Key, Node)>, key: &Key, at: &[Tagged], former: Former)
     requires sorted { AreSorted children.old.items }
@@ -399,7 +397,7 @@ fn restore_in(children: &mut Vec<(Key, Node)>, key: &Key, at: &[Tagged], former:
     }
 }
 
-/// The lesser of two keys, or the one that is there.
+/// The lesser of two keys, or the only one.
 pub fn lesser<'a>(first: Option<&'a Key>, second: Option<&'a Key>) -> Option<&'a Key>
     ensures { option_copied result
         ≡ least (option_to_list (option_copied first.entry) ++ option_to_list (option_copied second.entry)) }

@@ -1,4 +1,4 @@
-//! The plain store: nested lists that are sorted by key.
+//! The plain store: nested lists that are sorted by key. Tests compare the fast store with it.
 
 ghost use Rattle.std.specs.Prelude.{◌≡◌, ◌≢◌, ◌<◌, ◌+◌, None, [], ◌∷◌, ◌++◌, length, OnOk, OnErr};
 ghost use Rattle.std.specs.List.{AllByRecursion};
@@ -17,14 +17,14 @@ use crate::store::{Mark, Place, TreeStore};
 use jc_rules::{Id, Key, Next, Tagged, Value};
 use std::alloc::{AllocError, Global};
 
-/// What takes one change back: what the change set in the context at the place, as it was before.
+/// The undo record of one change: what the change set in the context at the place, as it was before.
 #[derive(Drop)]
 pub struct Undo {
     at: Vec<Tagged>,
     former: Former,
 }
 
-/// A tree of nested sorted lists, with what takes each of its changes back, the latest last.
+/// A tree of nested sorted lists, with the undo records of its changes, the latest last.
 #[derive(Drop)]
 pub struct PlainTree {
     alloc: Global,
@@ -47,7 +47,7 @@ impl PlainTree {
         }
     }
 
-    /// Makes one change, and keeps what takes it back. After a refusal all is as it was.
+    /// Makes one change, and keeps its undo record. After a refusal all is as it was.
     fn change(&mut self, at: &[Tagged], change: Change) -> Result<(), AllocError>
         requires there { node_at at.now self.old.root ≢ None }
         requires absent { IsNew change (context_at at.now self.old.root) }

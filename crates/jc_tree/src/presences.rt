@@ -1,4 +1,4 @@
-//! The presence sets of a node, with the number of those that have an identifier.
+//! The presence sets of a fast store's node, with the number of those that have an identifier.
 
 ghost use Rattle.std.specs.Prelude.{◌≡◌, ◌+◌, [], cond, option_copied, IfOk, OnOk, OnErr};
 ghost use Rattle.jc_rules.specs.Order.{key_cmp};
@@ -45,8 +45,8 @@ fn is_inhabited(set: Option<&Ids>) -> bool
     }
 }
 
-/// How many of the sets have an identifier, where so many had one before one set changed: whether it
-/// had one then, and whether it has one now.
+/// How many of the sets have an identifier after one set changed. `count` had one before; `was` and
+/// `is` are whether the changed set had one before and has one now.
 fn recounted(sets: &BTreeMap<Key, Ids>, count: usize, was: bool, is: bool) -> usize
     requires { count + cond is 1 0 ≡ count_present sets.now.entries + cond was 1 0 }
     ensures { result ≡ count_present sets.now.entries }
@@ -93,7 +93,7 @@ impl Presences {
         self.present
     }
 
-    /// Gives the key this set, and gives the one that it had. After a refusal all is as it was.
+    /// Sets the key's set, and returns the one that it had. After a refusal all is as it was.
     pub fn put(&mut self, key: Key, ids: Ids) -> Result<Option<Ids>, AllocError>
         ensures ok { OnOk result (self.new ≡ put key_cmp key ids self.old) }
         ensures former { IfOk result (λ former. former ≡ find key_cmp key self.old) }
@@ -106,8 +106,8 @@ impl Presences {
         Ok(former)
     }
 
-    /// Adds the identifier to the key's set, a new one where there is none, and gives what takes it
-    /// back. After a refusal all is as it was.
+    /// Adds the identifier to the key's set, a new one where there is none. Returns the undo record.
+    /// After a refusal all is as it was.
     pub fn add(&mut self, key: Key, id: Id, alloc: Global) -> Result<Former, AllocError>
         ensures ok { OnOk result (self.new
             ≡ put key_cmp key (with_id id (or_no_entries (find key_cmp key self.old))) self.old) }

@@ -1,4 +1,4 @@
-//! What every store of a document's tree promises.
+//! What every store of a document's tree promises; the rules of operations and expressions are written over it.
 
 ghost use Rattle.std.specs.Prelude.{◌≡◌, ◌≤◌, ◌+◌, ◌↔◌, List, [], ◌∷◌, ◌++◌, None, IsTrue, length, take, is_some, option_copied, IfSome, IfOk, OnOk, OnErr};
 ghost use Rattle.jc_rules.specs.declared.key.Tagged.{Tagged as AnyTagged};
@@ -16,7 +16,7 @@ ghost use Rattle.jc_tree.specs.Tree.{Tree, tree_history, HasPlace, here, or_no_e
 use jc_rules::{Id, Key, Next, Tagged, Value};
 use std::alloc::AllocError;
 
-/// A time in a store's history: the number of the contents before the one that was there then.
+/// A savepoint in a store's history: the number of earlier contents at that time.
 #[derive(Clone, Copy, Debug, PartialEq, Eq)]
 pub struct Mark {
     pub changes: usize,
@@ -28,15 +28,15 @@ pub struct Place {
     pub number: usize,
 }
 
-/// A document's tree, with the contents that it had before each change since the marks were last
-/// forgotten. A place is the path of a context that is there. Each changing call changes the named
-/// entry and no other; after a refusal, for want of memory, the content and the earlier ones are as
-/// they were.
+/// A document's tree, with the contents that it had before each change since `forget_marks` was last
+/// called. A place is the path of a context that is there. Each changing call changes the named
+/// entry and no other. Only memory can be refused; the content and the earlier ones are then as they
+/// were.
 pub trait TreeStore {
     /// The content now and the earlier ones.
     ghost tree: { Self → Tree };
 
-    /// What it means that the store's name for a place stands for the path.
+    /// That the store's name for a place represents the path.
     ghost names: { Self → AnyPlace → List AnyTagged → Type 0 };
 
     /// Whether the tagged key is in the context.
@@ -58,7 +58,7 @@ pub trait TreeStore {
         requires { HasPlace at.now (tree self.now) }
         ensures { option_copied result ≡ presence key.now (here at.now (tree self.now)) };
 
-    /// Gives the key this presence set. An empty one stays an entry.
+    /// Sets the key's presence set. An empty set is an entry too.
     fn set_presence(&mut self, at: &[Tagged], key: &Key, ids: &[Id]) -> Result<(), AllocError>
         requires there { HasPlace at.now (tree self.old) }
         requires rising { AreRising ids.now }
@@ -67,7 +67,7 @@ pub trait TreeStore {
             (tree self.old) (tree self.new)) }
         ensures err { OnErr result (tree self.new ≡ tree self.old) };
 
-    /// Adds the identifier to the key's presence set, a new one where there is none. Says whether
+    /// Adds the identifier to the key's presence set, a new one where there is none. Returns whether
     /// there was one.
     fn add_presence(&mut self, at: &[Tagged], key: &Key, id: Id) -> Result<bool, AllocError>
         requires { HasPlace at.now (tree self.old) }
@@ -96,7 +96,7 @@ pub trait TreeStore {
         requires { HasPlace at.now (tree self.now) }
         ensures { option_copied result ≡ find key_cmp key.now (registers (here at.now (tree self.now))) };
 
-    /// Gives the key a register with these values. After a refusal the values are gone.
+    /// Sets the key's register to these values. After a refusal the values are gone.
     fn set_register(
         &mut self,
         at: &[Tagged],
@@ -110,8 +110,8 @@ pub trait TreeStore {
             (tree self.old) (tree self.new)) }
         ensures err { OnErr result (tree self.new ≡ tree self.old) };
 
-    /// Puts the value under the identifier into the key's register, a new one where there is none. Says
-    /// whether there was one. After a refusal the value is gone.
+    /// Puts the value under the identifier into the key's register, a new one where there is
+    /// none. Returns whether there was one. After a refusal the value is gone.
     fn put_value(
         &mut self,
         at: &[Tagged],
@@ -156,15 +156,16 @@ pub trait TreeStore {
     fn root(&self) -> Place
         ensures { names self.now result [] };
 
-    /// The name of the map or the list under the tagged key of the place, which has the given name.
+    /// The name of the map or the list under the tagged key in the context at the place; `place` is the
+    /// store's name for it.
     fn below(&self, place: Place, at: &[Tagged], key: &Tagged) -> Option<Place>
         requires there { HasPlace at.now (tree self.now) }
         requires named { names self.now place at.now }
         ensures some { is_some result ≡ is_some (node_in (content key.now (here at.now (tree self.now)))) }
         ensures named { IfSome result (λ child. names self.now child (at.now ++ key.now ∷ [])) };
 
-    /// Makes a new map or list under the tagged key of the place, which has the given name, and
-    /// gives its name. A new list has its head linked to its end.
+    /// Makes a new map or list under the tagged key in the context at the place, whose name is `place`.
+    /// Returns the name of the new one. A new list has its head linked to its end.
     fn make_below(&mut self, place: Place, at: &[Tagged], key: &Tagged) -> Result<Place, AllocError>
         requires there { HasPlace at.now (tree self.old) }
         requires named { names self.old place at.now }
@@ -176,8 +177,7 @@ pub trait TreeStore {
         ensures named { IfOk result (λ child. names self.new child (at.now ++ key.now ∷ [])) }
         ensures err { OnErr result (tree self.new ≡ tree self.old) };
 
-    /// Adds the identifier to the presence set of a key of the place, which has the given name and
-    /// keeps it. Otherwise as `add_presence`.
+    /// As `add_presence`, for a place whose name is known. The place keeps its name.
     fn add_presence_at(
         &mut self,
         place: Place,
@@ -195,16 +195,16 @@ pub trait TreeStore {
         ensures named { OnOk result (names self.new place at.now) }
         ensures err { OnErr result (tree self.new ≡ tree self.old) };
 
-    /// Marks the content.
+    /// Marks the content as it is: a savepoint.
     fn mark(&self) -> Mark
         ensures { result.changes ≡ length (tree self.now).earlier };
 
-    /// Goes back to the content at the mark.
+    /// Goes back to the content at the mark: a rollback. It takes no memory.
     fn undo_to(&mut self, mark: Mark)
         requires { mark.changes ≤ length (tree self.old).earlier }
         ensures { tree_history (tree self.new) ≡ take (mark.changes + 1) (tree_history (tree self.old)) };
 
-    /// Gives up the earlier contents, so that earlier marks count no more.
+    /// Gives up the earlier contents, so that earlier marks are valid no more: a commit.
     fn forget_marks(&mut self)
         ensures { tree self.new ≡ record { now = (tree self.old).now; earlier = [] } };
 
@@ -213,7 +213,8 @@ pub trait TreeStore {
     ghost kept: { (s : Self) → IsWellFormedContext (tree s).now };
 }
 
-/// Whether the path leads to a context, which is what the calls of a store ask of a place.
+/// Whether the path leads to a context, which the calls of a store require of a place. With it a
+/// caller that doesn't know can meet that condition.
 pub fn is_place<S: TreeStore>(store: &S, at: &[Tagged]) -> bool
     ensures { IsTrue result ↔ HasPlace at.now (S.tree store.now) }
 {

@@ -1,4 +1,4 @@
-//! Entries by key in trees that are kept in balance, so that a key among many is found, put and taken away at once.
+//! Entries by key in B-trees: the fast store keeps a context's entries in them, so that a key among many is found fast.
 
 ghost use Rattle.std.specs.Prelude.{◌≡◌, IfOk, OnOk, OnErr, option_copied};
 ghost use Rattle.jc_rules.specs.Order.{id_cmp, key_cmp};
@@ -25,7 +25,7 @@ pub fn value_in<'a, X>(table: &'a BTreeMap<Key, X>, key: &Key) -> Option<&'a X>
     table.get(key)
 }
 
-/// Puts the value under the key, and gives the one that stood there. After a refusal the entries
+/// Puts the value under the key, and returns the one that was there. After a refusal the entries
 /// are as they were.
 pub fn put_in<X: Drop>(
     table: &mut BTreeMap<Key, X>,
@@ -42,8 +42,8 @@ pub fn put_in<X: Drop>(
     Ok(former)
 }
 
-/// Gives the key the value that it had, or takes its entry away where it had none, and gives the one
-/// that stood there. Takes no memory: a key without an entry gets none.
+/// Gives the key the value that it had, or takes its entry away where it had none, and returns the
+/// one that was there. It takes no memory: a key without an entry gets none.
 pub fn restore_in<X: Drop>(table: &mut BTreeMap<Key, X>, key: &Key, former: Option<X>) -> Option<X>
     requires { AreSorted table.old.entries }
     ensures ok { table.new.entries ≡ restored key_cmp key.now former table.old.entries }
@@ -71,8 +71,8 @@ pub fn key_above_in<'a, X>(table: &'a BTreeMap<Key, X>, after: Option<&Key>) -> 
     Some(key)
 }
 
-/// Adds the identifier to the key's set, a new one where there is none. Gives what takes it back, and
-/// says whether the set had an identifier before. After a refusal the sets are as they were.
+/// Adds the identifier to the key's set, a new one where there is none. Returns the undo record, and
+/// whether the set had an identifier before. After a refusal the sets are as they were.
 pub fn add_in(
     sets: &mut BTreeMap<Key, Ids>,
     key: Key,
@@ -103,8 +103,8 @@ pub fn add_in(
     Ok((Former::Presence(copy, None), false))
 }
 
-/// Takes the identifier out of the key's set, where there is one. Says whether it was the last one of
-/// the set. It takes no memory.
+/// Takes the identifier out of the key's set, where there is one. Returns whether it was the last one
+/// of the set. It takes no memory.
 pub fn take_out_in(sets: &mut BTreeMap<Key, Ids>, key: &Key, id: Id) -> bool
     requires { AreSorted sets.old.entries }
     ensures ok { sets.new.entries ≡ out_of_set key.now id (find key_cmp key.now sets.old.entries) sets.old.entries }
@@ -119,8 +119,8 @@ pub fn take_out_in(sets: &mut BTreeMap<Key, Ids>, key: &Key, id: Id) -> bool
     was && ids.is_empty()
 }
 
-/// Puts the value under the identifier into the key's register, a new one where there is none, and
-/// gives what takes it back. After a refusal the registers are as they were.
+/// Puts the value under the identifier into the key's register, a new one where there is none.
+/// Returns the undo record. After a refusal the registers are as they were.
 pub fn put_value_in(
     registers: &mut BTreeMap<Key, Pairs>,
     key: Key,

@@ -57,7 +57,7 @@ one_set set s t sound a b e = same_members s t a.rises b.rises (λ k. same_tests
         let two = standing.counters_tell set y sound d k o.0 o.1 in
         sym two ∙ ap (λ (z : List Id). has_id k z) (sym f) ∙ one ∙ h
 
-ids-rise : (set : List Op) → AreRising (ids_of_ops set)
+pub ids-rise : (set : List Op) → AreRising (ids_of_ops set)
 ids-rise [] = tt
 ids-rise (o ∷ set) = with-rises o.id (ids_of_ops set) (ids-rise set)
 

@@ -15,7 +15,7 @@ use Rattle.jc_rules.specs.State.{State}
 use Rattle.jc_rules.specs.Syntax.{Cmd}
 use Rattle.jc_rules.specs.Table.{op_of}
 use Rattle.jc_rules.proofs.IdsLemmas.{same_id-true}
-use Rattle.jc_json.proofs.PartsPlacesLemmas.{presences_rise}
+use Rattle.jc_tree.proofs.WellFormedLemmas.{presences_rise}
 use Rattle.jc_network.specs.Applied.{applied_ops}
 use Rattle.jc_network.specs.Laws.{IsReached}
 use Rattle.jc_network.specs.RunInvariant.{IsReplicaAt, IsWell}

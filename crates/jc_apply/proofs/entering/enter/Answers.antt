@@ -2,10 +2,10 @@ use Rattle.std.proofs.Common.{◌≡◌, None, sym, refl}
 use Rattle.jc_rules.specs.Context.{content}
 use Rattle.jc_tree.specs.Tree.{here}
 use Rattle.jc_tree.proofs.CanGoBackLemmas.{then, rule_added, tree_changed}
-use Rattle.jc_tree.proofs.PlacesLemmas.{none_found}
 use Rattle.jc_apply.proofs.ApplyRulesLemmas.{entered_there, entered_new}
 use Rattle.jc_apply.proofs.LinksLemmas.{links_none, none_child}
 use Rattle.jc_apply.proofs.entering.enter.Goals as goal
+use Rattle.jc_rules.proofs.BoolLemmas.{none_of}
 
 pub returns-in_ok-push-clause-ok : goal.returns-in_ok-push-clause-ok
 returns-in_ok-push-clause-ok g c =
@@ -16,7 +16,7 @@ returns-in_ok-push-clause-links g c = links_none _ _ _ refl
 
 pub returns-in_ok-make_child-clause-ok : goal.returns-in_ok-make_child-clause-ok
 returns-in_ok-make_child-clause-ok g c =
-    let none : content c.args.key.now (here c.args.at.now (g.S.TreeStore.tree c.args.store.now)) ≡ None = none_found _ (sym c.if-has.ensures) in
+    let none : content c.args.key.now (here c.args.at.now (g.S.TreeStore.tree c.args.store.now)) ≡ None = none_of _ (sym c.if-has.ensures) in
     entered_new _ _ c.child_rule.result _ _ _ _ c.requires.context none (c.child_rule.ensures _ none) c.in_ok-push-2.ensures.ok c.in_ok-make_child.ensures.ok
 
 pub returns-in_ok-make_child-clause-links : goal.returns-in_ok-make_child-clause-links

@@ -11,10 +11,10 @@ use Rattle.jc_clear.proofs.BareLemmas.{below-list}
 use Rattle.jc_tree.proofs.CanGoBackLemmas.{nothing, then, rule_opened, rule_added, rows_added, tree_changed, depth_changed}
 use Rattle.jc_clear.proofs.ClearListLemmas.{first_along, after_along, along_finds, along_on, last_along}
 use Rattle.jc_clear.proofs.ClearMapLemmas.{first_through, after_through, through_on, last_through}
-use Rattle.jc_tree.proofs.PlacesLemmas.{none_found}
 use Rattle.jc_clear.proofs.ClearRulesLemmas.{after_call, clear_none, clear_elem, rises_left, clear_any, down_map, down_list, map_cleared, list_cleared}
 use Rattle.jc_clear.proofs.clearing.+clearing.Goals.{list_in-in-Tail, list_in-in-Elem}
 use Rattle.jc_clear.proofs.clearing.+clearing.Goals as goal
+use Rattle.jc_rules.proofs.BoolLemmas.{none_of}
 
 pub any_in-clear_list-requires : goal.any_in-clear_list-requires
 any_in-clear_list-requires g t c =
@@ -44,7 +44,7 @@ any_in-returns-clause-kept g t c =
 pub clear_map-returns-then-not-has-clause-ok : goal.clear_map-returns-then-not-has-clause-ok
 clear_map-returns-then-not-has-clause-ok g t c =
     let e = rw (c.as_slice.ensures.value, c.in_ok-copy.ensures) at c.if-not-has.ensures in
-    clear_none _ _ _ _ _ _ _ _ c.requires.there (none_found _ (sym e)) c.in_ok-push.ensures.ok refl c.new.ensures.items
+    clear_none _ _ _ _ _ _ _ _ c.requires.there (none_of _ (sym e)) c.in_ok-push.ensures.ok refl c.new.ensures.items
 
 pub clear_map-map_in-requires : goal.clear_map-map_in-requires
 clear_map-map_in-requires g t c =
@@ -60,7 +60,7 @@ clear_map-returns-clause-ok g t c =
 pub clear_list-returns-then-not-has-clause-ok : goal.clear_list-returns-then-not-has-clause-ok
 clear_list-returns-then-not-has-clause-ok g t c =
     let e = rw (c.as_slice.ensures.value, c.in_ok-copy.ensures) at c.if-not-has.ensures in
-    clear_none _ _ _ _ _ _ _ _ c.requires.there (none_found _ (sym e)) c.in_ok-push.ensures.ok refl c.new.ensures.items
+    clear_none _ _ _ _ _ _ _ _ c.requires.there (none_of _ (sym e)) c.in_ok-push.ensures.ok refl c.new.ensures.items
 
 pub clear_list-list_in-requires : goal.clear_list-list_in-requires
 clear_list-list_in-requires g t c =

@@ -1,25 +1,12 @@
-use Rattle.std.proofs.Common.{List, subst}
-use Rattle.jc_rules.specs.declared.key.Tagged.{Tagged}
-use Rattle.jc_rules.specs.Derivation.{ClearElem}
-use Rattle.jc_vectors.proofs.LawsLemmas.{clear_elem_stands}
 use Rattle.jc_tree.specs.Tree.{HasPlace}
 use Rattle.jc_tree.proofs.CanGoBackLemmas.{gone_back}
-use Rattle.jc_clear.specs.Clears.{Clears}
 use Rattle.jc_clear.proofs.ClearsBelowLemmas.{chained_here, still_chained}
-use Rattle.jc_clear.proofs.ClearRepresentsLemmas.{cleared_for}
 use Rattle.jc_clear.proofs.clearing.clear_elem.Goals as goal
 
 pub elem_in-requires-clause-chained : goal.elem_in-requires-clause-chained
 elem_in-requires-clause-chained g c =
     let there : HasPlace c.in_ok-path.path.items (g.S.TreeStore.tree c.args.store.now) = rw c.in_ok-path.ensures c.requires.there in
     chained_here c.in_ok-path.path.items (g.S.TreeStore.tree c.args.store.now) there c.requires.chained
-
-pub returns-in-Ok-clause-stands : goal.returns-in-Ok-clause-stands
-returns-in-Ok-clause-stands g c =
-    let before = g.S.TreeStore.tree c.args.store.now in
-    let after = g.S.TreeStore.tree c.elem_in.new.store in
-    let clears = subst (λ (p : List Tagged). Clears (λ x. ClearElem x c.args.deps.now c.args.key.now) p before after c.in-Ok.ids.items c.args.trace.now c.elem_in.new.trace) c.in_ok-path.ensures c.in-Ok.ensures.ok in
-    cleared_for (λ deps x. ClearElem x deps c.args.key.now) (λ set deps counters x d s t u. clear_elem_stands set deps counters x d c.args.key.now s t u) c.args.deps.now c.args.at.now before after c.in-Ok.ids.items c.args.trace.now c.elem_in.new.trace c.requires.there clears
 
 pub returns-in-Ok-clause-chained : goal.returns-in-Ok-clause-chained
 returns-in-Ok-clause-chained g c =

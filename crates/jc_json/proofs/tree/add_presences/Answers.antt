@@ -9,9 +9,10 @@ use Rattle.jc_json.specs.Json.{presence_member, entry_text}
 use Rattle.jc_json.specs.declared.tree.Part.TheVariants as P
 use Rattle.jc_json.proofs.PartsListsLemmas.{adding_begins, adding_goes_on, adding_ends, adds_one, adds_none}
 use Rattle.jc_tree.proofs.WalksLemmas.{IsNext, next_is, none_is}
-use Rattle.jc_json.proofs.PartsPlacesLemmas.{kept_at, presences_rise}
+use Rattle.jc_json.proofs.PartsPlacesLemmas.{kept_at}
 use Rattle.jc_json.proofs.tree.add_presences.Goals as goal
 use Rattle.jc_json.proofs.tree.add_presences.Goals.{in-Some-presence+in_ok-name+in_ok-insert, in_default-presence}
+use Rattle.jc_tree.proofs.WellFormedLemmas.{presences_rise}
 
 pub loop-key-init : goal.loop-key-init
 loop-key-init g c =

@@ -6,9 +6,10 @@ use Rattle.jc_rules.proofs.OrderLemmas.{keys_total, exact_keys}
 use Rattle.jc_rules.proofs.EntriesLemmas.{rising-put}
 use Rattle.jc_tree.specs.Sorted.{AreSorted}
 use Rattle.jc_tree.specs.Undo.{restored_by, restored_at}
-use Rattle.jc_tree.proofs.NodeLemmas.{map_changed, list_changed, child_changed, none_some}
+use Rattle.jc_tree.proofs.NodeLemmas.{map_changed, list_changed, child_changed}
 use Rattle.jc_tree.proofs.SortedLemmas.{find-standing, find-absent, put-standing}
 use Rattle.jc_tree.proofs.node.+restoring.Goals as goal
+use Rattle.jc_rules.proofs.ContextLemmas.{none_some}
 
 pub Node::restore_at-returns-in-MapT : goal.Node::restore_at-returns-in-MapT
 Node::restore_at-returns-in-MapT t c =

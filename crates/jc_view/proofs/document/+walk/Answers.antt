@@ -22,7 +22,8 @@ use Rattle.jc_tree.specs.Nested.{nested}
 use Rattle.jc_tree.proofs.WalksLemmas.{IsNext, next_is, none_is}
 use Rattle.jc_apply.proofs.InsertLemmas.{list_here}
 use Rattle.jc_cursor.proofs.ElementsLemmas.{nearer}
-use Rattle.jc_json.proofs.PartsPlacesLemmas.{kept_at, presences_rise}
+use Rattle.jc_json.proofs.PartsPlacesLemmas.{kept_at}
+use Rattle.jc_tree.proofs.WellFormedLemmas.{presences_rise}
 use Rattle.jc_meaning.proofs.ComparedContextsLemmas.{StandsBelow, stands_below}
 use Rattle.jc_view.specs.declared.document.Form.TheVariants as F
 use Rattle.jc_view.specs.Visible.{goes_by, or_no_value, present, marked, map_json, list_json, parts_json}

@@ -2,7 +2,8 @@ use Rattle.std.proofs.Common.{rules, ◌≡◌, ◌&&◌, true, false, is_some, 
 use Rattle.jc_rules.specs.Context.{content, presences}
 use Rattle.jc_rules.specs.WellFormed.{IsWellFormedContext}
 use Rattle.jc_tree.specs.Tree.{here}
-use Rattle.jc_json.proofs.PartsPlacesLemmas.{kept_at, presences_rise}
+use Rattle.jc_json.proofs.PartsPlacesLemmas.{kept_at}
+use Rattle.jc_tree.proofs.WellFormedLemmas.{presences_rise}
 use Rattle.jc_view.specs.Visible.{goes_by, is_alive, present}
 use Rattle.jc_view.proofs.PresentLemmas.{alive_by}
 use Rattle.jc_view.proofs.document.is_shown.Goals as goal

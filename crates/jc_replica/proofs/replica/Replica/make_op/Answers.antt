@@ -7,10 +7,11 @@ use Rattle.jc_cursor.specs.Evaluates.{Evaluates, IsEvalRefused, eval_cause_of}
 use Rattle.jc_replica.specs.NextCommand.{IsMaking, rule_by, expr_by, mutation_by}
 use Rattle.jc_replica.specs.ReplicaHistory.{Past}
 use Rattle.jc_replica.proofs.AnswersLemmas.{ready_now}
-use Rattle.jc_replica.proofs.NextCommandSeenLemmas.{refused_first, refused_bound, evaluated_in, refused_in, no_cursor, makes}
+use Rattle.jc_replica.proofs.NextCommandSeenLemmas.{refused_first, refused_bound, evaluated_in, refused_in, makes}
 use Rattle.jc_replica.proofs.RefusedLemmas.{handed_up}
 use Rattle.jc_replica.proofs.ScriptLemmas.{is_next}
 use Rattle.jc_replica.proofs.replica.Replica.make_op.Goals as goal
+use Rattle.jc_cursor.proofs.EvaluatesLemmas.{not_cursor}
 
 pub place_of-requires : goal.place_of-requires
 place_of-requires g c =
@@ -46,7 +47,7 @@ returns-in_default g c =
     let expr = c.place_of.ensures ∙ ap expr_by next in
     record {
       ok = tt;
-      err = λ set os A stands of. refused_bound set c.args.self.now.number A c.args.self.now.now stands c.requires.command c.requires.rest c.requires.next c.requires.makes os (bound_of c.in_ok-bound.bound) _ _ (evaluated_in tree vars expr c.in_ok-bound.ensures.ok) (no_cursor c.in_ok-bound.bound c.in_default.not-Cursor);
+      err = λ set os A stands of. refused_bound set c.args.self.now.number A c.args.self.now.now stands c.requires.command c.requires.rest c.requires.next c.requires.makes os (bound_of c.in_ok-bound.bound) _ _ (evaluated_in tree vars expr c.in_ok-bound.ensures.ok) (not_cursor c.in_ok-bound.bound c.in_default.not-Cursor);
     }
 
 pub overflow_add-result : goal.overflow_add-result
