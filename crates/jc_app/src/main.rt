@@ -1,4 +1,4 @@
-//! `jsoncrdt`: checks, prints, runs and debugs scenarios, and runs their replicas in threads.
+//! The executable `jsoncrdt`: calls jc_program with the process's arguments, streams and files.
 #![tactic(auto)]
 
 mod files;
@@ -10,7 +10,7 @@ use crate::process::{Ended, run};
 use crate::words::words_of;
 use jc_io::{FromRead, ToWrite};
 
-/// Calls `run` with the process's words, its standard streams and the files of its machine.
+/// Calls `run` with the process's arguments, its standard streams and the files of its machine.
 fn main(rt: HostRuntime) -> Ended {
     let mut input = FromRead::new(rt.stdin());
     let mut out = ToWrite::new(rt.stdout());

@@ -1,4 +1,4 @@
-//! The process: its streams, and how it ends.
+//! The process: its streams, and its exit code. `main` ends by `run`.
 
 ghost use Rattle.std.specs.Prelude.{◌≡◌};
 ghost use Rattle.std.specs.Process.{exit_status};
@@ -13,7 +13,7 @@ use std::rt::{Stderr, Stdin, Stdout};
 use std::sync::Wait;
 use std::thread::Threads;
 
-/// How the process ends. Nothing but `run` makes one, so `main` ends by it.
+/// The end of the process. Nothing but `run` makes one, so `main` ends by `run`.
 #[derive(Drop)]
 pub struct Ended {
     status: ExitCode,
@@ -27,7 +27,7 @@ impl Termination for Ended {
     }
 }
 
-/// Calls `exit` with the process's standard streams. Each has a type of its own, so none stands in another's place.
+/// Calls `exit` with the process's standard streams. Each has a type of its own, so none can be exchanged for another.
 pub fn run<R: Threads + Wait + Sync + AllocGlobal + Files>(
     rt: &R,
     words: io::Result<Vec<String>>,

@@ -1,4 +1,4 @@
-//! The words that the program is called with, and the files of the machine.
+//! Tests of the arguments of the process, and of the files of the machine.
 
 use crate::files::Host;
 use crate::words::words_of;
@@ -11,7 +11,7 @@ use std::process::Abort;
 use std::rt::Env;
 use std::{fs, io};
 
-/// A call of the program with these words, its name first.
+/// A call of the program with these arguments, its name first.
 #[derive(Clone, Copy)]
 struct Called<'a> {
     words: &'a [&'a [u8]],
@@ -42,7 +42,7 @@ fn holds(rt: &impl Abort, fact: bool) {
     assert!(rt; fact);
 }
 
-/// Expects the words after the program's name.
+/// Expects the arguments after the program's name.
 fn expect_words(rt: &impl Abort, alloc: Global, words: &[&[u8]], want: &[&str]) {
     match words_of(&(Called { words }, alloc)) {
         Ok(got) => {
@@ -72,7 +72,7 @@ fn words_are_read(rt: HostRuntime) {
     }
 }
 
-/// Expects what is read of a file, at most four bytes.
+/// Expects the bytes that are read of a file, at most four.
 fn expect_file<F: AllocGlobal + Files>(
     rt: &impl Abort,
     files: &F,

@@ -1,4 +1,4 @@
--- Rows of which each has a value that can be read, and the arguments whose uses keep them so.
+-- About Arguments: rows of which each has a readable value, and the arguments whose uses keep them readable.
 use Rattle.std.proofs.Common.{◌≡◌, ◌∙◌, ◌||◌, List, [], ◌∷◌, ◌++◌, Bool, true, false, Some, None, if◌then◌else◌, refl, ap, subst, find, codes, slice_get, length}
 use Rattle.std.proofs.lemmas.Slice.Eq.{bytes_eq-Decides}
 use Rattle.std.specs.Prelude.{IfSome}

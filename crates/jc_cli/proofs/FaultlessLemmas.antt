@@ -1,4 +1,4 @@
--- Words without a fault leave the rows of a command readable.
+-- About Arguments (IsFaultless): arguments without a fault leave the rows of a command readable. For LawsLemmas.
 use Rattle.std.proofs.Common.{◌≡◌, ◌&&◌, ℕ, zero, suc, List, [], ◌∷◌, Bool, true, false, not, Option, Some, None, if◌then◌else◌, drop, length, is_some, slice_get, encode_utf8}
 use Rattle.std.specs.Prelude.{IfSome, fold}
 use Rattle.std.specs.Option.{option_map_or}

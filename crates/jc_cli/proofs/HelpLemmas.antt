@@ -1,4 +1,4 @@
--- Where the faults of words have a call for help or for the version among them, it is the only one.
+-- About Arguments (AsksHelp): a call for help or for the version is the only fault of its arguments.
 use Rattle.std.proofs.Common.{◌≡◌, ◌&&◌, ◌||◌, ◌==◌, ◌+◌, ℕ, zero, suc, nat_lt, List, [], ◌∷◌, Bool, true, false, not, Option, Some, None, if◌then◌else◌, inl, inr, refl, ap, sym, ◌∙◌, min, drop, length, is_some, find, slice_get, codes, encode_utf8}
 use Rattle.std.specs.List.{list_any}
 use Rattle.std.specs.Option.{option_map_or}

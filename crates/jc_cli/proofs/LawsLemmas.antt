@@ -1,4 +1,4 @@
--- Words without a fault are an order.
+-- About Laws: arguments without a fault are a command.
 use Rattle.std.proofs.Common.{◌≡◌, ◌∙◌, ◌&&◌, ◌||◌, List, [], ◌∷◌, Bool, true, false, not, Option, Some, None, if◌then◌else◌, refl, ap, find, codes, is_some, option_map}
 use Rattle.std.specs.Prelude.{IfSome, fold}
 use Rattle.std.specs.Option.{option_and_then, option_map_or}

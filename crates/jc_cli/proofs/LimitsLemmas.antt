@@ -1,4 +1,4 @@
--- The limits of texts and of orders, by clap's test of a value.
+-- About Arguments (limit_in, HasLimitInRange): the limits of texts and of commands, by clap's test of a value.
 use Rattle.std.proofs.Common.{◌≡◌, ◌≤◌, ◌<◌, ◌^◌, ℕ, List, Bool, true, false, if◌then◌else◌, Option, Some, None, option_map, codes, refl, sym, ap, subst, arith}
 use Rattle.std.proofs.lemmas.Option.{cond_some, option_and_then_some, same_Some}
 use Rattle.std.specs.Option.{option_and_then}

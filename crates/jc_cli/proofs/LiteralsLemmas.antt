@@ -1,4 +1,4 @@
--- What the definition is, and what some words are taken for.
+-- About Program: the definition is simple, and no arguments lack a command.
 use Rattle.std.proofs.Common.{◌≡◌, ◌∙◌, inl, inr, [], ◌∷◌, true, refl, sym}
 use Rattle.clap.specs.Words.{is_simple, is_simple_and_free}
 use Rattle.clap.proofs.OnLiterals.{clap_on_literals}

@@ -1,4 +1,4 @@
--- What words are taken for, by what they matched.
+-- About Arguments (words_order): the command that the arguments are, by what they matched. For `order_of`.
 use Rattle.std.proofs.Common.{◌≡◌, ◌≢◌, ◌⊎◌, List, [], ◌∷◌, subst, true, Option, Some, None, Box, option_map, refl, ap, sym, ◌∙◌, inl, inr, codes, length, map}
 use Rattle.std.specs.Box.{box_value}
 use Rattle.std.specs.Option.{option_and_then}

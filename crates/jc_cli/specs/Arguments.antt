@@ -1,4 +1,4 @@
--- What the words are taken for that the program is called with.
+-- The command that the arguments are, or the fault in them. `order_of` and the contracts of jc_program cite it.
 use Rattle.std.specs.Prelude.{◌≡◌, ◌≢◌, ◌≤◌, ◌⊎◌, ⊤, ℕ, List, [], ◌∷◌, Bool, true, Option, Some, None, codes, if◌then◌else◌, option_map, unwrap_or, string_bytes}
 use Rattle.std.specs.Option.{option_and_then}
 use Rattle.std.specs.Str.{bytes_eq}
@@ -7,6 +7,7 @@ use Rattle.clap.specs.ValueTests.{is_unsigned_in}
 use Rattle.clap.specs.Words.{Kinds, Row, Text, fault_of, first_of, subcommand_of}
 use Rattle.clap.specs.declared.error.kind.ErrorKind.{ErrorKind}
 use Rattle.clap.specs.declared.error.kind.ErrorKind.TheVariants.{DisplayHelp, DisplayVersion, OutOfMemory}
+use Rattle.jc_rules.specs.declared.limits.TheConstants.{MAX_THREAD_EVENTS}
 use Rattle.jc_cli.specs.Program.{program}
 use Rattle.jc_cli.specs.declared.order.Order.{Order}
 use Rattle.jc_cli.specs.declared.order.Task.{Task}
@@ -18,18 +19,19 @@ use Rattle.jc_cli.specs.declared.fault.WordsFault.TheVariants.{Help, Usage, Memo
 abbrev pub is_traced : List Row → Bool
 is_traced rows = bytes_eq (unwrap_or (first_of (codes "trace") rows) []) (codes "true")
 
--- the number of a text that is one from 0 to 100,000
+-- the number of a text that is one from 0 to 100,000; `view` and `threads` have the same greatest limit
 abbrev pub limit_in : Text → Option ℕ
-limit_in text = if is_unsigned_in 0 100000 text then Some (digits_value 10 (without_leading_plus text)) else None
+limit_in text =
+    if is_unsigned_in 0 MAX_THREAD_EVENTS text then Some (digits_value 10 (without_leading_plus text)) else None
 
 abbrev pub limit_given : List Row → Option ℕ
 limit_given rows = option_and_then limit_in (first_of (codes "limit") rows)
 
--- the documents after the first events, as many as the number at most
+-- the documents after this number of events at most
 abbrev pub documents : ℕ → Task
 documents n = Show (Document n)
 
--- the task of the command with this name, by what the words gave its arguments
+-- the task of the command with this name, by the values of its arguments
 abbrev pub task_in : Text → List Row → Option Task
 task_in name rows =
     if bytes_eq name (codes "check") then Some (Show Check)
@@ -48,26 +50,26 @@ with_file None file = None
 abbrev pub order_in : (Text × List Row) → Option Order
 order_in s = with_file (task_in s.0 s.1) (first_of (codes "file") s.1)
 
--- the order of words with these faults and this command
+-- the command of arguments with these faults and these matches
 abbrev pub order_by : Kinds → Option (Text × List Row) → Option Order
 order_by [] s = option_and_then order_in s
 order_by (k ∷ kinds) s = None
 
--- The words for which `help` stands in front of these. What is behind the topic isn't read.
+-- The arguments that `help` before these means. What follows the topic isn't read.
 abbrev pub asked_of : List Text → List Text
 asked_of [] = codes "--help" ∷ []
 asked_of (topic ∷ rest) = if bytes_eq topic (codes "help") then codes "--help" ∷ [] else topic ∷ codes "--help" ∷ []
 
--- The words as they are parsed: `help` is `--help`, and `help TOPIC` is `TOPIC --help`.
+-- The arguments as they are parsed: `help` is `--help`, and `help TOPIC` is `TOPIC --help`.
 unfoldable pub with_help_meant : List Text → List Text
 with_help_meant [] = []
 with_help_meant (w ∷ ws) = if bytes_eq w (codes "help") then asked_of ws else w ∷ ws
 
--- what the parser finds wrong with the words
+-- the faults that the parser finds in the arguments
 abbrev pub words_faults : List Text → Kinds
 words_faults words = fault_of program (with_help_meant words)
 
--- What words are taken for; no words are `run --trace -`.
+-- The command that the arguments are; no arguments are `run --trace -`.
 unfoldable pub words_order : List Text → Option Order
 words_order [] = Some (record { task = Show (Run true); file = codes "-" })
 words_order (w ∷ ws) = order_by (words_faults (w ∷ ws)) (subcommand_of program (with_help_meant (w ∷ ws)))
@@ -76,32 +78,32 @@ words_order (w ∷ ws) = order_by (words_faults (w ∷ ws)) (subcommand_of progr
 abbrev pub IsCall : ErrorKind → Type 0
 IsCall kind = (kind ≡ DisplayHelp) ⊎ (kind ≡ DisplayVersion)
 
--- the words are such a call; they have no other fault then
+-- the arguments are such a call, and have no other fault
 abbrev pub AsksHelp : List Text → Type 0
 AsksHelp words = (words_faults words ≡ DisplayHelp ∷ []) ⊎ (words_faults words ≡ DisplayVersion ∷ [])
 
--- the command line finds no fault in the words
+-- the arguments have no fault
 abbrev pub IsFaultless : List Text → Type 0
 IsFaultless words = words_faults words ≡ []
 
--- a limit that the task has is from 0 to 100,000
+-- the limit of `threads` is from 0 to 100,000
 abbrev pub HasLimitInRange : Task → Type 0
-HasLimitInRange (Threads limit) = limit ≤ 100000
+HasLimitInRange (Threads limit) = limit ≤ MAX_THREAD_EVENTS
 HasLimitInRange task = ⊤
 
--- why the words are no order
+-- why the arguments are no command
 abbrev pub IsWordsFault : List Text → WordsFault → Type 0
 IsWordsFault words (Help text) = (words_order words ≡ None) × AsksHelp words
 IsWordsFault words (Usage text) = (words_order words ≡ None) × (AsksHelp words → ⊥)
 IsWordsFault words Memory = Unit {0}
 
--- what is answered for an error of this kind
+-- the fault for an error of this kind
 abbrev pub IsFaultBy : ErrorKind → WordsFault → Type 0
 IsFaultBy kind (Help text) = IsCall kind
 IsFaultBy kind (Usage text) = (IsCall kind → ⊥) × (kind ≢ OutOfMemory)
 IsFaultBy kind Memory = Unit {0}
 
--- what is told of words that are no order is never empty
+-- the text of a fault is never empty
 abbrev pub HasText : WordsFault → Type 0
 HasText (Help text) = string_bytes text ≢ []
 HasText (Usage text) = string_bytes text ≢ []

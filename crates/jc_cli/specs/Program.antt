@@ -1,10 +1,11 @@
--- The command line, as it is defined to its parser.
+-- The definition of the command line for clap. Arguments says by it what arguments are.
 use Rattle.std.specs.Prelude.{◌≡◌, true, false, Some, codes, [], ◌∷◌}
 use Rattle.clap.specs.Words.{App, Rule, Shape, Text, new_app, new_rule, with_rule, with_subcommand}
 use Rattle.clap.specs.declared.builder.command.Command.{Command}
 use Rattle.clap.specs.declared.builder.command.Command.TheViews.{out-Command}
 use Rattle.clap.specs.declared.builder.action.ArgAction.TheVariants.{SetTrue}
 use Rattle.clap.specs.declared.builder.value_parser.ValueParser.TheVariants.{Unsigned}
+use Rattle.jc_rules.specs.declared.limits.TheConstants.{MAX_EVENTS, MAX_THREAD_EVENTS}
 
 -- no argument of the command is one of all commands
 abbrev pub IsLocal : Command → Type 0
@@ -16,28 +17,28 @@ file_rule = record (new_rule (codes "file")) { required = true; value_names = 1 
 abbrev pub trace_rule : Rule
 trace_rule = record (new_rule (codes "trace")) { long = Some (codes "trace"); action = Some SetTrue }
 
--- a number from 0 to 100,000, and 10,000 where it is not said
+-- a number from 0 to 100,000, by default 10,000
 abbrev pub limit_rule : Rule
 limit_rule = record (new_rule (codes "limit")) {
   long = Some (codes "limit");
   value_names = 1;
-  parser = Some (Unsigned 0 100000);
+  parser = Some (Unsigned 0 MAX_THREAD_EVENTS);
   defaults = codes "10000" ∷ [];
 }
 
--- a command with nothing but its file
+-- a command whose only argument is its file
 abbrev pub plain_app : Text → App
 plain_app name = with_rule (new_app name) file_rule
 
 abbrev pub run_app : App
 run_app = with_rule (with_rule (new_app (codes "run")) trace_rule) file_rule
 
--- a number from 0 to 100,000, which is how many events a schedule has at most, and that where it is not said
+-- a number from 0 to 100,000, the number of events of a schedule at most, by default that
 abbrev pub at_rule : Rule
 at_rule = record (new_rule (codes "limit")) {
   long = Some (codes "at");
   value_names = 1;
-  parser = Some (Unsigned 0 100000);
+  parser = Some (Unsigned 0 MAX_EVENTS);
   defaults = codes "100000" ∷ [];
 }
 
@@ -47,10 +48,15 @@ view_app = with_rule (with_rule (new_app (codes "view")) at_rule) file_rule
 abbrev pub threads_app : App
 threads_app = with_rule (with_rule (new_app (codes "threads")) limit_rule) file_rule
 
--- The program without its commands: one of them is wanted. It has a version. Help is asked for by a flag alone, so that
--- each fault of the words has one kind; `meant` of Words says which flag the word `help` stands for.
+-- The program without its commands: one of them is required. It has a version. A flag alone asks for help, so that each
+-- fault of the arguments has one kind; `with_help_meant` of Arguments says what the argument `help` means.
 abbrev pub bare_shape : Shape → Shape
-bare_shape s = record s { no_binary_name = true; disable_help_subcommand = true; subcommand_required = true; has_version = true }
+bare_shape s = record s {
+  no_binary_name = true;
+  disable_help_subcommand = true;
+  subcommand_required = true;
+  has_version = true;
+}
 
 abbrev pub bare : App
 bare = record { top = bare_shape (new_app (codes "jsoncrdt")).top; subs = [] }

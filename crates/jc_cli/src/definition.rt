@@ -1,4 +1,5 @@
-//! The definition of the command line. A command is a function here, and a line of `program`.
+//! The definition of the command line, by which clap parses the arguments. A command is a function here, and a line
+//! of `program` in specs/Program.antt.
 
 ghost use Rattle.std.specs.Prelude.{◌≡◌, IfOk, false};
 ghost use Rattle.clap.specs.Words.{app_of, rule_of, new_app, with_rule};
@@ -7,6 +8,7 @@ ghost use Rattle.jc_cli.specs.Program.{IsLocal, file_rule, plain_app, run_app, v
 use crate::help::{ABOUT, CHECK, DEBUG, PRINT, PROGRAM, RUN, THREADS, USAGE, VERSION, VIEW};
 use clap::builder::ValueParser;
 use clap::{Arg, ArgAction, Command};
+use jc_rules::limits::{MAX_EVENTS, MAX_THREAD_EVENTS};
 use std::alloc::{AllocError, Global};
 
 /// The file with the scenario.
@@ -20,7 +22,7 @@ fn file<'a>(alloc: Global) -> Arg<'a>
         .required(true)
 }
 
-/// A command with nothing but its file.
+/// A command whose only argument is its file.
 fn plain<'a>(
     alloc: Global,
     name: &'a str,
@@ -59,7 +61,7 @@ fn view<'a>(alloc: Global) -> Result<Command<'a>, AllocError>
         .long("at")
         .value_name("N")
         .help("Execute the first N events of the schedule only, from 0 to 100000")
-        .value_parser(ValueParser::unsigned(0, 100_000))
+        .value_parser(ValueParser::unsigned(0, MAX_EVENTS as u64))
         .default_value("100000");
     Command::new(alloc, "view")
         .about(
@@ -78,7 +80,7 @@ fn threads<'a>(alloc: Global) -> Result<Command<'a>, AllocError>
         .long("limit")
         .value_name("N")
         .help("Let each replica execute N events at most, from 0 to 100000")
-        .value_parser(ValueParser::unsigned(0, 100_000))
+        .value_parser(ValueParser::unsigned(0, MAX_THREAD_EVENTS))
         .default_value("10000");
     Command::new(alloc, "threads")
         .about(
@@ -89,8 +91,8 @@ fn threads<'a>(alloc: Global) -> Result<Command<'a>, AllocError>
         .arg(file(alloc))
 }
 
-/// The whole command line, but for the program's name. Each command is made right before it is added,
-/// so that there is one to drop where memory is wanting.
+/// The whole command line, without the program's name. Each command is made right before it is added, so that
+/// there is only one to drop where there is no memory.
 pub(crate) fn definition<'a>(alloc: Global) -> Result<Command<'a>, AllocError>
     ensures { IfOk result (λ c. app_of c ≡ program) }
 {

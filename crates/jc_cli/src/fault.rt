@@ -1,4 +1,4 @@
-//! Why words are no order.
+//! The faults of the arguments: what `order_of` returns where these are no command.
 
 ghost use Rattle.std.specs.Prelude.{◌≡◌, ◌≢◌, [], IfOk, string_bytes};
 ghost use Rattle.clap.specs.Words.{kind_of};
@@ -10,12 +10,12 @@ use clap::Error;
 use clap::error::ErrorKind;
 use std::alloc::{AllocError, Global};
 
-/// Why words are no order. A text is never empty.
+/// Why the arguments are no command. A text is never empty.
 #[derive(Debug, Drop)]
 pub enum WordsFault {
-    /// They ask for help, or for the version, and this is it.
+    /// They ask for help or for the version, and this is its text.
     Help(String),
-    /// They are no command line, for the reason that this text gives.
+    /// They are wrong, for the reason in this text.
     Usage(String),
     /// There was no memory.
     Memory,
@@ -29,7 +29,7 @@ impl From<AllocError> for WordsFault {
     }
 }
 
-/// What is told of an error of the command line.
+/// The text of an error of clap's.
 fn text_of(alloc: Global, error: &Error) -> Result<String, AllocError>
     ensures { IfOk result (λ text. string_bytes text ≢ []) }
 {
@@ -40,7 +40,7 @@ fn text_of(alloc: Global, error: &Error) -> Result<String, AllocError>
     Ok(text)
 }
 
-/// What is answered for an error of the command line.
+/// The fault for an error of clap's.
 pub(crate) fn fault_by(alloc: Global, error: &Error) -> WordsFault
     ensures kind { IsFaultBy (kind_of error.now) result }
     ensures text { HasText result }

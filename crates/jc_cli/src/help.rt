@@ -1,4 +1,4 @@
-//! What help says beside the lists of commands and options.
+//! The texts of help, beside the lists of commands and options that clap makes. The definition has them.
 
 /// The version of the program. Its first number is that of the newest header of a scenario that it reads.
 pub(crate) const VERSION: &str = "2.0.0";

@@ -1,8 +1,8 @@
-//! A law of the definitions alone. The function does nothing: its contract is the law.
+//! The law of the definitions, for `order_of` and jc_program. The function does nothing: its contract is the law.
 
 ghost use Rattle.jc_cli.specs.Laws.{FaultlessAreOrders};
 
-/// Words in which the command line finds no fault are an order.
+/// Arguments without a fault are a command.
 pub fn faultless_words_are_orders()
     ensures { FaultlessAreOrders }
 {}

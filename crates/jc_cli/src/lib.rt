@@ -1,4 +1,4 @@
-//! What the words ask for that the program is called with.
+//! Parses the command line: from the program's arguments to a command and its file. jc_program executes it.
 #![tactic(auto)]
 
 mod definition;

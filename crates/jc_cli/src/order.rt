@@ -1,4 +1,4 @@
-//! What the program can be asked.
+//! The commands of the program, which `order_of` returns and jc_program executes.
 
 use jc_rules::Text;
 
@@ -16,26 +16,26 @@ pub enum View {
     },
     /// Each replica's document after the first events, as an application sees it.
     Document {
-        /// How many events are made at most.
+        /// The number of events executed at most.
         events: u64,
     },
 }
 
-/// What is done with a scenario.
+/// What a command does with a scenario.
 #[derive(Clone, Copy, Debug, PartialEq, Eq)]
 pub enum Task {
-    /// Show this of it.
+    /// Show something of it.
     Show(View),
-    /// Answer the lines of standard input, each about its run.
+    /// Debug its run: answer the lines of standard input.
     Debug,
     /// Run each replica in a thread of its own, and print the scenario with the schedule that they made.
     Threads {
-        /// How many events each replica makes at most.
+        /// The number of events executed by each replica at most.
         limit: u64,
     },
 }
 
-/// A task, and the file with the scenario's text. The file `-` is standard input.
+/// A command: its task, and the file with the scenario's text. The file `-` is standard input.
 #[derive(Debug, Drop)]
 pub struct Order {
     pub task: Task,

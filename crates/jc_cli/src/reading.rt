@@ -1,4 +1,4 @@
-//! What words are taken for.
+//! Parses the arguments: to a command with its file, or a fault. jc_program calls `order_of`.
 
 ghost use Rattle.std.specs.Prelude.{◌≡◌, ◌≢◌, [], ◌∷◌, IfOk, IfErr, IsErr, Some, codes, map, string_bytes, option_map};
 ghost use Rattle.std.specs.Option.{option_and_then};
@@ -14,16 +14,17 @@ use crate::laws::faultless_words_are_orders;
 use crate::order::{Order, Task, View};
 use clap::{ArgMatches, Error};
 use jc_rules::Text;
+use jc_rules::limits::MAX_THREAD_EVENTS;
 use std::alloc::{AllocError, Global};
 
-/// A text of its own with the same bytes.
+/// A copy of the text.
 fn copied(alloc: Global, text: &str) -> Result<Text, AllocError>
     ensures { IfOk result (λ copy. copy ≡ text.now) }
 {
     Ok(Text::new(String::from_str(alloc, text)?))
 }
 
-/// The words themselves.
+/// The arguments themselves.
 fn said_by<'a>(alloc: Global, words: &'a [String]) -> Result<Vec<&'a str>, AllocError>
     ensures { IfOk result (λ said. map (λ s. s.now) said.items ≡ map string_bytes words.now) }
 {
@@ -34,7 +35,7 @@ fn said_by<'a>(alloc: Global, words: &'a [String]) -> Result<Vec<&'a str>, Alloc
     Ok(said)
 }
 
-/// The words for which `help` stands in front of these.
+/// The arguments that `help` before these means.
 fn asked_by<'a>(alloc: Global, rest: &'a [String]) -> Result<Vec<&'a str>, AllocError>
     ensures { IfOk result (λ said. map (λ s. s.now) said.items ≡ asked_of (map string_bytes rest.now)) }
 {
@@ -51,7 +52,7 @@ fn asked_by<'a>(alloc: Global, rest: &'a [String]) -> Result<Vec<&'a str>, Alloc
     Ok(asked)
 }
 
-/// The words as they are parsed.
+/// The arguments as they are parsed: `help` is `--help`, and `help TOPIC` is `TOPIC --help`.
 #[tactic(auto, unfolding(crate::specs::Arguments::with_help_meant))]
 fn meant_by<'a>(alloc: Global, words: &'a [String]) -> Result<Vec<&'a str>, AllocError>
     ensures { IfOk result (λ said. map (λ s. s.now) said.items ≡ with_help_meant (map string_bytes words.now)) }
@@ -68,7 +69,7 @@ fn meant_by<'a>(alloc: Global, words: &'a [String]) -> Result<Vec<&'a str>, Allo
     }
 }
 
-/// What the words match of the command line.
+/// What clap matches of the arguments.
 fn matches_of<'a>(alloc: Global, words: &'a [&'a str]) -> Result<ArgMatches<'a>, Error>
     ensures ok { IfOk result (λ m.
         subcommand_rows_of m ≡ subcommand_of program (map (λ s. s.now) words.entry.now)) }
@@ -77,7 +78,7 @@ fn matches_of<'a>(alloc: Global, words: &'a [&'a str]) -> Result<ArgMatches<'a>,
     definition(alloc)?.try_get_matches_from(words)
 }
 
-/// Whether the rules of each event are asked for.
+/// Whether `--trace` is given.
 fn has_trace(matches: &ArgMatches<'_>) -> bool
     ensures { result ≡ is_traced (rows_of (found_of matches.now)) }
 {
@@ -87,17 +88,17 @@ fn has_trace(matches: &ArgMatches<'_>) -> bool
     }
 }
 
-/// The number of a text that is one from 0 to 100,000.
+/// The number of a text, where it is one from 0 to 100,000. `view` and `threads` have the same greatest limit.
 fn limit_in(text: &str) -> Option<u64>
     ensures { result ≡ limit_in text.now }
 {
     match text.parse::<u64>() {
-        Ok(limit) if limit <= 100_000 => Some(limit),
+        Ok(limit) if limit <= MAX_THREAD_EVENTS => Some(limit),
         _ => None,
     }
 }
 
-/// How many events are made at most, in all or by each replica.
+/// The number of events at most: in all for `view`, by each replica for `threads`.
 fn limit_of(matches: &ArgMatches<'_>) -> Option<u64>
     ensures { result ≡ limit_given (rows_of (found_of matches.now)) }
 {
@@ -107,7 +108,7 @@ fn limit_of(matches: &ArgMatches<'_>) -> Option<u64>
     }
 }
 
-/// The task of a command with these matches.
+/// The task of the command with this name and these matches.
 fn task_of(name: &str, matches: &ArgMatches<'_>) -> Option<Task>
     ensures { result ≡ task_in name.now (rows_of (found_of matches.now)) }
 {
@@ -130,7 +131,7 @@ fn task_of(name: &str, matches: &ArgMatches<'_>) -> Option<Task>
     }
 }
 
-/// The order of matches.
+/// The command of matches, with its file. There is none where the matches lack the command, its limit or its file.
 fn order_matched(alloc: Global, matches: &ArgMatches<'_>) -> Result<Option<Order>, AllocError>
     ensures { IfOk result (λ order. order ≡ option_and_then order_in (subcommand_rows_of matches.now)) }
 {
@@ -147,16 +148,16 @@ fn order_matched(alloc: Global, matches: &ArgMatches<'_>) -> Result<Option<Order
     Ok(Some(Order { task, file }))
 }
 
-/// What the words after the program's name are taken for; no words are `run --trace -`.
+/// The command that the arguments after the program's name are; no arguments are `run --trace -`.
 ///
-/// Refusals: `Help` where they ask for help or for the version, `Usage` where they are no command line,
-/// and `Memory` where there was no memory.
+/// Refusals: `Help` where they ask for help or for the version, `Usage` where they are wrong, and `Memory` where there
+/// was no memory.
 pub fn order_of(alloc: Global, words: &[String]) -> Result<Order, WordsFault>
-    // What is answered is what they are taken for.
+    // What is returned is the command that they are.
     ensures ok { IfOk result (λ order. words_order (map string_bytes words.now) ≡ Some order) }
-    // What is refused is no order; it is help where that is asked for, and else a fault.
+    // Refused arguments are no command. The fault is help exactly where they ask for it, or want of memory.
     ensures err { IfErr result (IsWordsFault (map string_bytes words.now)) }
-    // Words without a fault are refused for want of memory alone.
+    // Arguments without a fault are refused for want of memory alone.
     ensures taken { IsFaultless (map string_bytes words.now) → IfErr result (λ fault. fault ≡ NoMemory) }
     ensures help { AsksHelp (map string_bytes words.now) → IsErr result }
     ensures text { IfErr result HasText }
@@ -175,6 +176,7 @@ pub fn order_of(alloc: Global, words: &[String]) -> Result<Order, WordsFault>
         Ok(matches) => matches,
         Err(error) => return Err(fault_by(alloc, &error)),
     };
+    // For its contract alone: arguments that clap matches are a command.
     faultless_words_are_orders();
     match order_matched(alloc, &matches)? {
         Some(order) => Ok(order),

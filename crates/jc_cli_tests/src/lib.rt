@@ -1,4 +1,4 @@
-//! Tests of what words are taken for.
+//! Tests of jc_cli: the commands that arguments are, and the texts of help and faults.
 #![tactic(auto)]
 
 #[cfg(test)]

@@ -1,8 +1,10 @@
+//! Tables of arguments, each with the command, the help or the fault that `order_of` returns for them.
+
 use jc_cli::{Order, Task, View, WordsFault, order_of};
 use std::alloc::{AllocError, Global};
 use std::process::Abort;
 
-/// What words are taken for: a task and its file, help, a fault, or want of memory.
+/// What `order_of` returns: a task, help, a fault, or want of memory.
 #[derive(Clone, Copy, Debug, PartialEq, Eq)]
 enum Taken {
     Check,
@@ -17,7 +19,7 @@ enum Taken {
     Memory,
 }
 
-/// The words, each a text of its own.
+/// The arguments, as `order_of` takes them.
 fn said(alloc: Global, words: &[&str]) -> Result<Vec<String>, AllocError> {
     let mut said = Vec::new(alloc);
     for word in words {
@@ -43,7 +45,7 @@ fn is_taken(rt: &impl Abort, got: Taken, file: &str, want: Taken, want_file: &st
     assert!(rt; file == want_file);
 }
 
-/// Expects what words are taken for, and the file that they name.
+/// Expects this task and this file of the arguments.
 fn expect_taken<R: AllocGlobal + Abort>(rt: &R, words: &[&str], want: Taken, file: &str) {
     let Ok(words) = said(rt.alloc(), words) else {
         panic!(rt; "no memory for the words")
@@ -56,7 +58,7 @@ fn expect_taken<R: AllocGlobal + Abort>(rt: &R, words: &[&str], want: Taken, fil
     }
 }
 
-/// Words, what they are taken for, and the file.
+/// Arguments, the task, and the file.
 const WORDS: &[(&[&str], Taken, &str)] = &[
     (&[], Taken::RunWithTrace, "-"),
     (&["check", "-"], Taken::Check, "-"),
@@ -149,7 +151,7 @@ fn words_are_taken(rt: HostRuntime) {
     }
 }
 
-/// What is told of words that are no order: whether they ask for help or the version, and the text.
+/// For arguments that are no command: whether they ask for help or the version, and the text.
 fn told<R: AllocGlobal + Abort>(rt: &R, words: &[&str]) -> (bool, String) {
     let Ok(words) = said(rt.alloc(), words) else {
         panic!(rt; "no memory for the words")
@@ -169,7 +171,7 @@ fn version_is_told(rt: HostRuntime) {
     assert!(&rt; text.as_str() == "jsoncrdt 2.0.0\n");
 }
 
-/// Words that ask for help by `help`, those that ask for it by `--help`, and what is in it.
+/// Arguments that ask for help by `help`, those that ask for it by `--help`, and a part of the text.
 const CALLS: &[(&[&str], &[&str], &str)] = &[
     (&["help"], &["--help"], "\nUsage: jsoncrdt [COMMAND]\n"),
     (

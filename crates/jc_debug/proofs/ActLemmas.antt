@@ -1,4 +1,4 @@
--- Events that a caller has made.
+-- About specs/Moves: events of a caller's (`act`).
 use Rattle.std.proofs.Common.{◌≡◌, ℕ, zero, suc, ◌+◌, ◌<◌, ◌≤◌, List, [], ◌∷◌, ◌++◌, length, take, slice_get, Option, Some, refl, ap, ◌∙◌, arith, length-append}
 use Rattle.jc_rules.specs.declared.operation.Event.{Event}
 use Rattle.jc_rules.specs.Trace.{Rows}
@@ -27,7 +27,7 @@ cut_length xs y zero le = refl
 cut_length [] y (suc n) le = absurd (omega arith)
 cut_length (x ∷ xs) y (suc n) le = ap suc (cut_length xs y n (omega arith)) ∙ omega arith
 
--- the schedule is cut at the position, and the event comes behind it
+-- the schedule is cut at the position, and the event is appended
 cut_trail : (d : Seen) (event : Event) → IsOnTrail d → length d.traces < 100000 → IsOnTrail (seen d.net (take (length d.traces) d.schedule ++ event ∷ []) d.traces d.breaks)
 cut_trail d event h lt =
     let n = cut_length d.schedule event (length d.traces) h.within in
@@ -49,7 +49,7 @@ cut_trail d event h lt =
       };
     }
 
--- and is made
+-- then the event is made
 pub acted_trail : (d e : Seen) (t : Rows) (event : Event) → IsOnTrail d → StepsTo d.net event e.net t → e.schedule ≡ take (length d.traces) d.schedule ++ event ∷ [] → e.traces ≡ d.traces ++ t ∷ [] → e.breaks ≡ d.breaks → length d.traces < 100000 → IsOnTrail e
 acted_trail d e t event h s sc tr br lt =
     trail_on (seen d.net (take (length d.traces) d.schedule ++ event ∷ []) d.traces d.breaks) e t event (cut_trail d event h lt) (get_end d.schedule event (length d.traces) h.within) s sc tr br

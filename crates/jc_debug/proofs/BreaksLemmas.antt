@@ -1,4 +1,4 @@
--- Which breakpoints name a position.
+-- About specs/DebuggerState and specs/Moves: which breakpoints name a position.
 use Rattle.std.proofs.Common.{◌≡◌, ◌↔◌, ℕ, ◌+◌, ◌<◌, ◌≤◌, List, length, take, slice_get, slice_set, nat_eq, Option, Some, None, Bool, true, false, IsTrue, ap, sym, subst, ◌∙◌, arith, rules}
 use Rattle.std.proofs.lemmas.Option.{slice_get_within, same_Some}
 use Rattle.jc_rules.specs.declared.operation.Event.{Event}

@@ -1,4 +1,4 @@
--- Moves forward that end before an event which isn't made.
+-- About specs/Moves: moves forward that end before an event which isn't made.
 use Rattle.std.proofs.Common.{◌≡◌, ℕ, ◌<◌, ◌≤◌, length, slice_get, Some, sym, subst}
 use Rattle.jc_rules.specs.declared.operation.Event.{Event}
 use Rattle.jc_network.specs.declared.fault.Stuck.{Stuck}
@@ -35,7 +35,7 @@ pub halted : (old now new : Seen) (n to : ℕ) (halt : Halt) → IsMoved old now
 halted old now new n to H.Memory m le lt told e = no_memory old now new n to m le lt e
 halted old now new n to (H.Stuck s) m le lt told e = (n, stops_at old now new n to m le lt e, told_old old now n s m told)
 
--- ---- as the calls answer it
+-- ---- the refusals of the calls
 
 pub step_halted : (old new : Seen) (to : ℕ) (halt : Halt) (fault : StepFault) → fault ≡ step_fault halt → IsHalted old new to halt → IsStepFault old new to fault
 step_halted old new to (H.Stuck s) fault e h = subst (λ (f : StepFault). IsStepFault old new to f) (sym e) h

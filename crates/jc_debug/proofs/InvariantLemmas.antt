@@ -1,13 +1,13 @@
--- Networks that follow from one another, one event on and one back.
+-- About specs/Invariant: one event made, and one taken back, keep the trail of networks.
 use Rattle.std.proofs.Common.{◌≡◌, ℕ, zero, suc, ◌+◌, ◌-◌, ◌<◌, ◌≤◌, List, [], ◌∷◌, ◌++◌, length, take, slice_get, unwrap_or, option_to_list, Option, Some, None, Bool, true, false, IsTrue, IsFalse, IsSome, IfSome, get_or, refl, ap, sym, subst, ◌∙◌, arith, length-append, below_more}
 use Rattle.std.proofs.lemmas.Option.{slice_get_within, slice_get_read, same_Some}
 use Rattle.std.specs.Borrow.{Bor}
 use Rattle.std.specs.Option.{option_copied}
 use Rattle.jc_rules.specs.declared.operation.Event.{Event}
-use Rattle.jc_rules.specs.declared.rule.Rule.{Rule}
 use Rattle.jc_rules.specs.Step.{Network, StepIn, AfterIn}
 use Rattle.jc_rules.specs.Trace.{Rows}
 use Rattle.jc_network.specs.NetworkHistory.{Course, StepsTo}
+use Rattle.jc_network.proofs.AfterLemmas.{after_one_more, take_more}
 use Rattle.jc_network.proofs.HalvesLemmas.{get_front, get_back}
 use Rattle.jc_debug.specs.declared.breaks.Break.{Break}
 use Rattle.jc_debug.specs.Moves.{IsTraceOf}
@@ -30,11 +30,6 @@ get_within (y ∷ xs) ys (suc i) x h e = get_within xs ys i x (omega arith) e
 first_stays : {X : Type 0} (xs ys : List X) (x : X) → slice_get ((xs ++ x ∷ []) ++ ys) 0 ≡ slice_get (xs ++ x ∷ []) 0
 first_stays [] ys x = refl
 first_stays (y ∷ xs) ys x = refl
-
-take_get : {X : Type 0} (xs : List X) (k : ℕ) (x : X) → slice_get xs k ≡ Some x → take (suc k) xs ≡ take k xs ++ x ∷ []
-take_get [] k x e = absurd cc
-take_get (y ∷ xs) zero x e = let h : y ≡ x = cc in ap (λ z. z ∷ []) h
-take_get (y ∷ xs) (suc k) x e = ap (λ l. y ∷ l) (take_get xs k x e)
 
 -- ---- one event on
 
@@ -133,7 +128,7 @@ moved_back d e t n ns sc tr br =
     let size : length d.traces ≡ length e.traces + 1 = ap length tr ∙ length-append e.traces (t ∷ []) in
     record { names = ns; start = sym (start_on e d n); schedule = sc; breaks = br; position = omega (arith, size) }
 
--- what the network says of a step that it took back, where there was one
+-- the network before a step that was taken back
 pub undone : (b : Bool) (old new : Course) → (IsTrue b → old.earlier ≡ networks_of new) → (IsFalse b → (new ≡ old) × (old.earlier ≡ [])) → 0 < length old.earlier → old.earlier ≡ networks_of new
 undone true old new t f some = t refl
 undone false old new t f some = let none : length old.earlier ≡ 0 = ap length (f refl).1 in absurd (omega (arith, none, some))
@@ -159,7 +154,7 @@ moved_both d e f n m k a b h = record {
 pub moved_more : (old now new : Seen) (i : ℕ) → IsMoved old now i → IsMoved now new (length now.traces + 1) → IsMoved old new (i + 1)
 moved_more old now new i a b = let p = a.position in moved_both old now new i (length now.traces + 1) (i + 1) a b (omega (arith, p))
 
--- what holds at a new position, said of the old debugger's start, schedule and breakpoints
+-- what holds at a new position holds by the old debugger's start, schedule and breakpoints
 pub carried : (P : Network → List Event → List (Option Break) → ℕ → Type 0) (old now : Seen) (n : ℕ) → IsMoved old now n → P (start_of now) now.schedule now.breaks (length now.traces) → P (start_of old) old.schedule old.breaks n
 carried P old now n m h =
     subst (λ (S : Network). P S old.schedule old.breaks n) m.start
@@ -169,11 +164,7 @@ carried P old now n m h =
 
 -- ---- where the schedule leads
 
-after_more : (S : Network) (es : List Event) (M : Network) (e : Event) (N : Network) (rows : List (Rule × ℕ)) → AfterIn S es M → StepIn M e N rows → AfterIn S (es ++ e ∷ []) N
-after_more S [] M e N rows h s = (N, rows, subst (λ (X : Network). StepIn X e N rows) (sym h) s, refl)
-after_more S (x ∷ es) M e N rows h s = (h.0, h.1, h.2, after_more h.0 es M e N rows h.3 s)
-
--- the network at each position is the one that the schedule leads to
+-- the schedule leads to the network at each position
 pub after_first : (d : Seen) → IsOnTrail d → (k : ℕ) → k ≤ length d.traces → (N : Network) → slice_get (networks_of d.net) k ≡ Some N → AfterIn (start_of d) (take k d.schedule) N
 after_first d h zero le N e = ap (λ o. unwrap_or o no_network) e
 after_first d h (suc k) le N e =
@@ -181,8 +172,8 @@ after_first d h (suc k) le N e =
     let next : slice_get (networks_of d.net) (k + 1) ≡ Some N = ap (slice_get (networks_of d.net)) (omega arith) ∙ e in
     let same : f.after ≡ N = same_Some f.after N (sym f.is_after ∙ next) in
     let before = after_first d h k (omega arith) f.before f.is_before in
-    subst (λ (es : List Event). AfterIn (start_of d) es N) (sym (take_get d.schedule k f.event f.is_event))
-    (after_more (start_of d) (take k d.schedule) f.before f.event N f.rows.rows before (subst (λ (X : Network). StepIn f.before f.event X f.rows.rows) same f.step))
+    subst (λ (es : List Event). AfterIn (start_of d) es N) (sym (take_more d.schedule k f.event f.is_event))
+    (after_one_more (start_of d) (take k d.schedule) f.before f.event N f.rows.rows before (subst (λ (X : Network). StepIn f.before f.event X f.rows.rows) same f.step))
 
 pub is_at : (d : Seen) → IsOnTrail d → IsNetworkAt (start_of d) d.schedule (length d.traces) d.net.network
 is_at d h = record {
@@ -219,6 +210,6 @@ last_trace d h (Some t) e =
     let some = slice_get_within d.traces (length d.traces - 1) t.now at in
     trace_of d h (length d.traces - 1) t.now (omega (arith, some)) at
 
--- the event at the position, as it is read
+-- the event at the position, which code reads by its index
 pub next_event : (d : Seen) (i : ℕ) (event : Event) → i ≡ length d.traces → length d.traces < length d.schedule → event ≡ get_or d.schedule i event → slice_get d.schedule (length d.traces) ≡ Some event
 next_event d i event here more e = ap (slice_get d.schedule) (sym here) ∙ slice_get_read d.schedule (length d.schedule) i event refl (omega (arith, here, more)) e

@@ -1,4 +1,4 @@
--- Moves and runs have one outcome.
+-- About specs/Laws: moves and runs have one outcome.
 use Rattle.std.proofs.Common.{◌≡◌, ℕ, ◌<◌, ◌≤◌, zero, suc, List, [], ◌∷◌, length, take, Option, Some, refl, ap, sym, subst, ◌∙◌, arith}
 use Rattle.std.proofs.lemmas.Option.{same_Some, slice_get_within}
 use Rattle.jc_rules.specs.declared.operation.Event.{Event}
@@ -30,7 +30,7 @@ none_makes S es n e f rows why m k =
     let step : StepIn k.before f m.after rows = subst (λ (x : Event). StepIn k.before x m.after rows) event (subst (λ (N : Network). StepIn N e m.after rows) before m.step) in
     stuck_in_has_none k.before m.after f why rows k.stuck step
 
--- nothing is come to past a stuck event
+-- the schedule leads to nothing past a stuck event
 not_past : (S : Network) (es : List Event) (n to : ℕ) (N : Network) (f : Event) (why : Cause) → n < to → IsNetworkAt S es to N → IsStuckAt S es n f why → ⊥
 not_past S es n to N f why lt a k = let r = cut S es n to N lt a.within a.after in none_makes S es n r.0 f r.1 why r.2 k
 
@@ -44,7 +44,7 @@ one_cause S es n e f why due a b =
 same_stop : (S : Network) (es : List Event) (n : ℕ) (e f : Event) (why due : Cause) → IsStuckAt S es n e why → IsStuckAt S es n f due → ◌≡◌ {A = Option StuckEvent} (Some (e, why)) (Some (f, due))
 same_stop S es n e f why due a b = let one = one_cause S es n e f why due a b in λ i. Some (one.0 i, one.1 i)
 
--- which of two numbers is less
+-- one of two numbers is less, or they are equal
 by_order : (P : Type 0) (n m : ℕ) → (n < m → P) → (m < n → P) → (n ≡ m → P) → P
 by_order P zero zero a b c = c refl
 by_order P zero (suc m) a b c = a (omega arith)

@@ -1,4 +1,5 @@
--- What the contracts of a debugger's calls say of the session that is seen in it.
+-- About specs/DebuggerState and specs/Moves: what the contracts of a debugger's calls say of its `Session`. jc_session
+-- cites it.
 use Rattle.std.proofs.Common.{◌≡◌, ℕ, List, [], ◌∷◌, ◌++◌, length, slice_get, unwrap_or, Option, Some, None, ap, refl, sym, subst}
 use Rattle.jc_rules.specs.declared.operation.Event.{Event}
 use Rattle.jc_rules.specs.Refused.{Cause}
@@ -26,11 +27,11 @@ moved_session d e n m = λ i. record { schedule = m.schedule i; position = m.pos
 pub placed_session : (d : Seen) (j : ℕ) (b : Option Break) → session_of (placed_in d j b) ≡ with_break (session_of d) j b
 placed_session d j b = refl
 
--- a move that came to its end
+-- a move that arrived
 pub arrived : (d e : Seen) (to : ℕ) → IsOnTrail e → IsMoved d e to → GoesTo (start_of d) d.schedule (length d.traces) to to None
 arrived d e to h m = arrives (at_old d e to m h)
 
--- and one that stopped before a stuck event
+-- a move that stopped before a stuck event
 pub record Stopped (d e : Seen) (to : ℕ) (s : Stuck) : Type 0 where
   pub position : ℕ
   pub event : Event

@@ -1,4 +1,4 @@
--- Runs.
+-- About specs/Moves: how a run ends, from its last move.
 use Rattle.std.proofs.Common.{◌≡◌, ℕ, ◌+◌, ◌<◌, ◌≤◌, length, refl, sym, subst, arith, below_more}
 use Rattle.jc_network.specs.declared.fault.Stuck.{Stuck}
 use Rattle.jc_debug.specs.declared.fault.Halt.TheVariants as H
@@ -24,7 +24,7 @@ pub quiet_more : (old now new : Seen) (i : ℕ) → IsMoved old now i → Quiet 
 quiet_more old now new i m q b f =
     below_more (λ x. length old.traces < x → IsFree (start_of old) (session_of old) x) (i + 1) q (λ _. free_old old new (i + 1) (moved_more old now new i m b) f)
 
--- before an event that is stuck
+-- a run that ends before a stuck event
 pub ran_stuck : (old now new : Seen) (i : ℕ) (s : Stuck) → IsMoved old now i → length old.traces ≤ i → Quiet old (i + 1) → IsNextHalted now (H.Stuck s) → new ≡ now → RunMoves old new (E.Stuck s)
 ran_stuck old now new i s m le q told e =
     let there = told_old old now i s m told in
@@ -42,12 +42,12 @@ ran_stuck old now new i s m le q told e =
       };
     }
 
--- for want of memory
+-- a run that ends for want of memory
 pub ran_short : (old now new : Seen) (i : ℕ) → IsMoved old now i → length old.traces ≤ i → i < length old.schedule → Quiet old (i + 1) → new ≡ now → IsDebugRunFault old new R.Memory
 ran_short old now new i m le lt q e =
     (i, record { forward = le; short = lt; moved = subst (λ (v : Seen). IsMoved old v i) (sym e) m }, λ k from to. q k (omega (arith, to)) from)
 
--- at a breakpoint
+-- a run that ends at a breakpoint
 pub ran_break : (old now new : Seen) (i k j : ℕ) → IsMoved old now i → length old.traces ≤ i → Quiet old (i + 1) → IsMoved now new (length now.traces + 1) → IsOnTrail new → k ≡ j + 1
     → IsLeast (NamesAt (start_of new) (session_of new) (length new.traces)) j → RunMoves old new (E.Break k)
 ran_break old now new i k j m le q b h e least =
@@ -66,7 +66,7 @@ ran_break old now new i k j m le q b h e least =
       };
     }
 
--- at the schedule's end
+-- a run that ends at the schedule's end
 pub ran_end : (old now : Seen) (i : ℕ) → IsOnTrail now → IsMoved old now i → Quiet old (i + 1) → i ≡ length old.schedule → length old.traces < i → RunMoves old now E.End
 ran_end old now i h m q e lt = record {
   position = i;

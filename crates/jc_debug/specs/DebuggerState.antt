@@ -1,5 +1,7 @@
--- The state of a debugger: where its schedule leads, what its breakpoints name, and how its runs end.
+-- The state of a debugger, apart from code: where its schedule leads, what its breakpoints name, and how its runs end.
+-- The contracts of `Debugger` cite it through specs/Moves; jc_session's definitions cite it directly.
 use Rattle.std.specs.Prelude.{◌≡◌, ℕ, ◌+◌, ◌≤◌, ◌<◌, List, [], ◌∷◌, ◌++◌, length, take, replicate, slice_get, slice_set, Option, Some, None}
+use Rattle.jc_rules.specs.declared.limits.TheConstants.{MAX_BREAKS}
 use Rattle.jc_rules.specs.declared.operation.Event.{Event}
 use Rattle.jc_rules.specs.declared.rule.Rule.{Rule}
 use Rattle.jc_rules.specs.Step.{Network, StepIn, AfterIn, replica_of}
@@ -7,7 +9,7 @@ use Rattle.jc_rules.specs.Refused.{Cause, IsStuckIn}
 use Rattle.jc_debug.specs.declared.breaks.Break.{Break}
 use Rattle.jc_debug.specs.declared.breaks.Break.TheVariants as B
 
--- The schedule, the position in it, and 256 places for breakpoints: breakpoint j + 1 stands at place j.
+-- The schedule, the position in it, and the places for breakpoints: breakpoint j + 1 is at place j.
 pub record Session : Type 0 where
   pub schedule : List Event
   pub position : ℕ
@@ -15,13 +17,13 @@ pub record Session : Type 0 where
 
 -- at the start of a schedule, without breakpoints
 abbrev pub begun : List Event → Session
-begun events = record { schedule = events; position = 0; breaks = replicate 256 None }
+begun events = record { schedule = events; position = 0; breaks = replicate MAX_BREAKS None }
 
 -- at another position
 abbrev pub moved_to : Session → ℕ → Session
 moved_to A n = record A { position = n }
 
--- the schedule is cut at the position, and the event comes behind it
+-- the schedule is cut at the position, and the event is appended
 abbrev pub acted : Session → Event → Session
 acted A event = record A { schedule = take A.position A.schedule ++ event ∷ []; position = A.position + 1 }
 
@@ -36,7 +38,7 @@ pub record IsNetworkAt (start : Network) (events : List Event) (n : ℕ) (networ
   pub within : n ≤ length events
   pub after : AfterIn start (take n events) network
 
--- The event that comes after the first n is a step from where they lead, by these rules, in the network's version.
+-- The event after the first n is a step from the network to which they lead, by these rules, in its version.
 pub record MakesEvent (start : Network) (events : List Event) (n : ℕ) (event : Event)
     (rows : List (Rule × ℕ)) : Type 0 where
   pub before : Network
@@ -45,7 +47,7 @@ pub record MakesEvent (start : Network) (events : List Event) (n : ℕ) (event :
   pub is : slice_get events n ≡ Some event
   pub step : StepIn before event after rows
 
--- It is stuck there, for this cause.
+-- The event after the first n is stuck in the network to which they lead, for this cause.
 pub record IsStuckAt (start : Network) (events : List Event) (n : ℕ) (event : Event)
     (why : Cause) : Type 0 where
   pub before : Network
@@ -57,7 +59,7 @@ pub record IsStuckAt (start : Network) (events : List Event) (n : ℕ) (event : 
 abbrev pub StuckEvent : Type 0
 StuckEvent = Event × Cause
 
--- On the way from a position to a later one the later one is come to, or one before it, whose event is stuck.
+-- A move forward from a position to a later one arrives there, or stops at one before it, whose event is stuck.
 pub data GoesTo (start : Network) (events : List Event) (from to : ℕ)
     : ℕ → Option StuckEvent → Type 0 where
   arrives : {network : Network} → IsNetworkAt start events to network → GoesTo start events from to to None
@@ -84,35 +86,35 @@ Names start events (B.Rule rule) n =
 Names start events (B.Replica p) n =
     (m : ℕ) × (event : Event) × (n ≡ m + 1) × (slice_get events m ≡ Some event) × (replica_of event ≡ p)
 
--- that of place j names it
+-- the breakpoint at place j names the position
 abbrev pub NamesAt : Network → Session → ℕ → ℕ → Type 0
 NamesAt start A n j = (b : Break) × (slice_get A.breaks j ≡ Some (Some b)) × Names start A.schedule b n
 
--- none names it
+-- no breakpoint names the position
 abbrev pub IsFree : Network → Session → ℕ → Type 0
 IsFree start A n = (j : ℕ) → NamesAt start A n j → ⊥
 
--- the number is one of these, and no smaller one is
+-- the number has the property, and no smaller one has it
 abbrev pub IsLeast : (ℕ → Type 0) → ℕ → Type 0
 IsLeast P j = P j × ((i : ℕ) → i < j → P i → ⊥)
 
 -- ---- runs
 
--- A run ends where the breakpoint of a place names the position, before an event that is stuck, or at the schedule's
+-- A run ends where the breakpoint at a place names the position, before an event that is stuck, or at the schedule's
 -- end.
 pub data RunOutcome : Type 0 where
   breaks : ℕ → RunOutcome
   sticks : Event → Cause → RunOutcome
   ends : RunOutcome
 
--- How a run can end at a position: the least breakpoint names it, and it is a later one than the first; its event is
--- stuck, or it is the last one, and no breakpoint names it, or it is the first.
+-- How a run can end at position n. The least breakpoint that names n ends it where n is later than its first position.
+-- A stuck event ends it where no breakpoint names n or it began there; the schedule's end, where none names n.
 abbrev pub RunEndsAt : Network → Session → ℕ → RunOutcome → Type 0
 RunEndsAt start A n (breaks j) = (A.position < n) × IsLeast (NamesAt start A n) j
 RunEndsAt start A n (sticks event why) = (A.position < n → IsFree start A n) × IsStuckAt start A.schedule n event why
 RunEndsAt start A n ends = (n ≡ length A.schedule) × IsFree start A n
 
--- A run goes from the position to the first one at which it can end: no breakpoint names one on the way.
+-- A run goes to the first position at which it can end: no breakpoint names one on the way.
 pub record Runs (start : Network) (A : Session) (n : ℕ) (outcome : RunOutcome) : Type 0 where
   pub network : Network
   pub is_at : IsNetworkAt start A.schedule n network

@@ -1,5 +1,6 @@
--- What a debugger is seen as, and that its networks follow from one another.
+-- What contracts see of a debugger, and what its type keeps: each network follows from the one before it.
 use Rattle.std.specs.Prelude.{◌≡◌, ℕ, ◌+◌, ◌<◌, ◌≤◌, List, [], ◌∷◌, ◌++◌, length, slice_get, slice_set, unwrap_or, Option, Some}
+use Rattle.jc_rules.specs.declared.limits.TheConstants.{MAX_BREAKS, MAX_EVENTS}
 use Rattle.jc_rules.specs.declared.operation.Event.{Event}
 use Rattle.jc_rules.specs.declared.version.Version.TheVariants.{One}
 use Rattle.jc_rules.specs.Step.{Network, StepIn}
@@ -8,14 +9,14 @@ use Rattle.jc_network.specs.NetworkHistory.{Course}
 use Rattle.jc_debug.specs.declared.breaks.Break.{Break}
 use Rattle.jc_debug.specs.DebuggerState.{Session}
 
--- the network with those before it, the schedule, the traces of the events up to the position, the breakpoints
+-- the network and those before it, the schedule, the traces of the events up to the position, the breakpoints
 pub record Seen : Type 0 where
   pub net : Course
   pub schedule : List Event
   pub traces : List Rows
   pub breaks : List (Option Break)
 
--- the networks at each position, the first one's first
+-- the networks by position, from 0 on
 abbrev pub networks_of : Course → List Network
 networks_of c = c.earlier ++ c.network ∷ []
 
@@ -30,11 +31,11 @@ start_of d = unwrap_or (slice_get (networks_of d.net) 0) no_network
 abbrev pub session_of : Seen → Session
 session_of d = record { schedule = d.schedule; position = length d.traces; breaks = d.breaks }
 
--- with this breakpoint, or none, at place j
+-- the same with this breakpoint, or none, at place j
 abbrev pub placed_in : Seen → ℕ → Option Break → Seen
 placed_in d j b = record d { breaks = slice_set d.breaks j b }
 
--- the event after the first k leads from the network at position k to the one at the next, by its trace
+-- the event after the first k leads from the network at position k to the next one, by its trace
 pub record FollowsTrail (d : Seen) (k : ℕ) : Type 0 where
   pub before : Network
   pub after : Network
@@ -50,11 +51,11 @@ pub record FollowsTrail (d : Seen) (k : ℕ) : Type 0 where
 pub record IsOnTrail (d : Seen) : Type 0 where
   pub count : length d.net.earlier ≡ length d.traces
   pub within : length d.traces ≤ length d.schedule
-  pub short : length d.schedule ≤ 100000
-  pub places : length d.breaks ≡ 256
+  pub short : length d.schedule ≤ MAX_EVENTS
+  pub places : length d.breaks ≡ MAX_BREAKS
   pub follows : (k : ℕ) → k < length d.traces → FollowsTrail d k
 
--- The position is n, and all else is as it was: names, start, schedule and breakpoints.
+-- The position is n. Names, start, schedule and breakpoints are as they were.
 pub record IsMoved (old new : Seen) (n : ℕ) : Type 0 where
   pub names : new.net.names ≡ old.net.names
   pub start : start_of new ≡ start_of old

@@ -1,5 +1,6 @@
--- How a debugger moves, runs, acts, and gets breakpoints.
+-- What the contracts of a debugger's calls say: moves, runs, events of a caller's, and breakpoints.
 use Rattle.std.specs.Prelude.{◌≡◌, ◌≢◌, ℕ, ◌+◌, ◌<◌, ◌≤◌, List, length, slice_get, Some, None, Result, Ok, Err}
+use Rattle.jc_rules.specs.declared.limits.TheConstants.{MAX_EVENTS}
 use Rattle.jc_rules.specs.declared.operation.Event.{Event}
 use Rattle.jc_rules.specs.declared.rule.Rule.{Rule}
 use Rattle.jc_rules.specs.Refused.{Cause}
@@ -27,14 +28,14 @@ use Rattle.jc_debug.specs.Invariant.{Seen, IsMoved, start_of, session_of, placed
 
 -- ---- moves
 
--- The event that comes after the first n is stuck, as is told.
+-- The event after the first n is stuck, for the cause in s.
 pub record IsToldAt (start : Network) (events : List Event) (n : ℕ) (s : Stuck) : Type 0 where
   pub why : Cause
   pub event : Event
   pub is : s ≡ stuck_for why event
   pub stuck : IsStuckAt start events n event why
 
--- A move forward to a position ended at an earlier one.
+-- A move forward to position `to` ended at an earlier one, n.
 pub record MoveStopsAt (old new : Seen) (to n : ℕ) : Type 0 where
   pub forward : length old.traces ≤ n
   pub short : n < to
@@ -45,17 +46,18 @@ abbrev pub IsNextHalted : Seen → Halt → Type 0
 IsNextHalted d (H.Stuck s) = IsToldAt (start_of d) d.schedule (length d.traces) s
 IsNextHalted d H.Memory = Unit {0}
 
--- It ended so before an event that is stuck, or for which there was no memory.
+-- A move ended before an event that is stuck, or for which there was no memory.
 abbrev pub IsHalted : Seen → Seen → ℕ → Halt → Type 0
 IsHalted old new to (H.Stuck s) = (n : ℕ) × MoveStopsAt old new to n × IsToldAt (start_of old) old.schedule n s
 IsHalted old new to H.Memory = (n : ℕ) × MoveStopsAt old new to n
 
--- Or nothing moved.
+-- Why a step ended early; at `AtEnd` nothing moved.
 abbrev pub IsStepFault : Seen → Seen → ℕ → StepFault → Type 0
 IsStepFault old new to (S.Stuck s) = IsHalted old new to (H.Stuck s)
 IsStepFault old new to S.Memory = IsHalted old new to H.Memory
 IsStepFault old new to S.AtEnd = new ≡ old
 
+-- the same for `goto`
 abbrev pub IsGotoFault : Seen → Seen → ℕ → GotoFault → Type 0
 IsGotoFault old new to (G.Stuck s) = IsHalted old new to (H.Stuck s)
 IsGotoFault old new to G.Memory = IsHalted old new to H.Memory
@@ -78,13 +80,13 @@ pub record IsTraceOf (d : Seen) (t : Rows) : Type 0 where
 
 -- ---- runs
 
--- the end of a run as it is told; breakpoint j + 1 stands at place j
+-- the end that a run returns; breakpoint j + 1 is at place j
 abbrev pub IsEnd : RunEnd → RunOutcome → Type 0
 IsEnd (E.Break k) outcome = (j : ℕ) × (k ≡ j + 1) × (outcome ≡ breaks j)
 IsEnd (E.Stuck s) outcome = (why : Cause) × (event : Event) × (s ≡ stuck_for why event) × (outcome ≡ sticks event why)
 IsEnd E.End outcome = outcome ≡ ends
 
--- a run that came to its end
+-- a run that has ended
 pub record RunMoves (old new : Seen) (end : RunEnd) : Type 0 where
   pub position : ℕ
   pub outcome : RunOutcome
@@ -92,7 +94,7 @@ pub record RunMoves (old new : Seen) (end : RunEnd) : Type 0 where
   pub moved : IsMoved old new position
   pub runs : Runs (start_of old) (session_of old) position outcome
 
--- A run for which there was no memory: no breakpoint named a later position up to where it stopped.
+-- A run for which there was no memory: no breakpoint names a later position up to where it stopped.
 abbrev pub IsDebugRunFault : Seen → Seen → RunFault → Type 0
 IsDebugRunFault old new R.Memory =
     (n : ℕ)
@@ -100,9 +102,9 @@ IsDebugRunFault old new R.Memory =
     × ((m : ℕ) → length old.traces < m → m ≤ n → IsFree (start_of old) (session_of old) m)
 IsDebugRunFault old new R.AtEnd = new ≡ old
 
--- ---- events of a caller
+-- ---- events of a caller's
 
--- The event is a step from the network at the position, in its version, and the schedule was cut there.
+-- The event is a step from the network at the position, in its version; the schedule is cut there, and ends with it.
 pub record IsActed (old new : Seen) (event : Event) : Type 0 where
   pub rows : List (Rule × ℕ)
   pub is_at : IsNetworkAt (start_of old) old.schedule (length old.traces) old.net.network
@@ -111,14 +113,14 @@ pub record IsActed (old new : Seen) (event : Event) : Type 0 where
   pub start : start_of new ≡ start_of old
   pub session : session_of new ≡ acted (session_of old) event
 
--- It is stuck at the position, as is told.
+-- The event is stuck at the position, for the cause in s.
 pub record IsStuckHere (d : Seen) (event : Event) (s : Stuck) : Type 0 where
   pub is_at : IsNetworkAt (start_of d) d.schedule (length d.traces) d.net.network
   pub stuck : IsStuckFor d.net.network event s
 
 abbrev pub IsActFault : Seen → Event → ActFault → Type 0
 IsActFault d event (A.Stuck s) = IsStuckHere d event s
-IsActFault d event A.TooManyEvents = length d.traces ≡ 100000
+IsActFault d event A.TooManyEvents = length d.traces ≡ MAX_EVENTS
 IsActFault d event A.Memory = Unit {0}
 
 -- ---- breakpoints
@@ -133,7 +135,7 @@ IsSet old new b (Ok k) =
 IsSet old new b (Err B.TooManyBreaks) = ((j : ℕ) → slice_get old.breaks j ≢ Some None) × (new ≡ old)
 IsSet old new b (Err B.NoSuchReplica) = new ≡ old
 
--- Breakpoint k was there, and its place is free now.
+-- There was a breakpoint k, and its place is free now.
 pub record IsCleared (old new : Seen) (k : ℕ) : Type 0 where
   pub place : ℕ
   pub was : Break

@@ -1,4 +1,4 @@
--- How what a debugger is seen as is stored as a value.
+-- The code of a debugger's view, which its `Model` needs.
 use Rattle.std.specs.Prelude.{List, Option, refl}
 use Rattle.std.specs.Coded.{Coded, code_by, coded×, coded_list, coded_option}
 use Rattle.jc_rules.specs.declared.operation.Event.{Event}

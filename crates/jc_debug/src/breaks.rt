@@ -1,13 +1,13 @@
-//! Breakpoints.
+//! Breakpoints: what they name, and why one isn't set. The debugger's file has the moves.
 
 use jc_rules::Rule;
 
-/// What a breakpoint names.
+/// A breakpoint: the positions that it names.
 #[derive(Clone, Copy)]
 pub enum Break {
-    /// The position.
+    /// The position with this number.
     Position(u64),
-    /// Each position whose event used the rule.
+    /// Each position whose event has the rule in its trace.
     Rule(Rule),
     /// Each position whose event is of the replica.
     Replica(u16),
@@ -18,6 +18,6 @@ pub enum Break {
 pub enum BreakFault {
     /// The network has no such replica.
     NoSuchReplica,
-    /// There are 256 breakpoints.
+    /// There are `MAX_BREAKS` breakpoints already.
     TooManyBreaks,
 }

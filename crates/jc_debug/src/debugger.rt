@@ -1,6 +1,8 @@
-//! The debugger.
+//! The debugger: a network, its schedule, the traces of the events that were made, and breakpoints. Each call is a
+//! move, a question, or a change of breakpoints.
 
 ghost use Rattle.std.specs.Prelude.{◌≡◌, ◌≢◌, ◌+◌, ◌-◌, ◌<◌, ◌≤◌, ◌↔◌, ℕ, length, slice_get, Some, None, Err, IsTrue, IsFalse, IsOk, IsNone, IfOk, IfErr, IfSome, IfNone, OnOk, OnErr, IsErrOf};
+ghost use Rattle.jc_rules.specs.declared.limits.TheConstants.{MAX_BREAKS, MAX_EVENTS};
 ghost use Rattle.jc_network.specs.declared.fault.StartFault.TheVariants as Start;
 ghost use Rattle.jc_network.specs.declared.fault.Stuck.{Stuck as AnyStuck};
 ghost use Rattle.jc_network.specs.Given.{before_given, IsStarted, IsGivenFault};
@@ -19,22 +21,23 @@ ghost use Rattle.jc_debug.specs.Invariant.{IsOnTrail, IsMoved, start_of, session
 use crate::breaks::{Break, BreakFault};
 use crate::fault::{ActFault, GotoFault, Halt, RunEnd, RunFault, StepFault};
 use jc_network::{Net, StartFault, StepFault as NetFault};
+use jc_rules::limits::{MAX_BREAKS, MAX_EVENTS};
 use jc_rules::{Event, Rule, Trace};
 use jc_scenario::Scenario;
 use std::alloc::Global;
 use std::marker::Model;
 
-/// A network that goes along a schedule, forwards and backwards. It is seen as its networks at the positions up to the
-/// one where it is, the schedule, the traces of the events that were made, and the breakpoints.
+/// A network that moves along a schedule, forwards and backwards. Contracts see it as the networks at the positions up
+/// to its own, the schedule, the traces of the events up to there, and the breakpoints.
 #[derive(Drop)]
 pub struct Debugger {
     net: Net,
     schedule: Vec<Event>,
-    /// The trace of each event up to the position. A step that is taken back can't be made again without memory, so
-    /// each is kept.
+    /// The trace of each event up to the position. Each is kept, since a step that was taken back can't be made again
+    /// without memory.
     traces: Vec<Trace>,
-    /// Breakpoint j + 1 stands at place j.
-    breaks: [Option<Break>; 256],
+    /// Breakpoint j + 1 is at place j.
+    breaks: [Option<Break>; MAX_BREAKS],
 }
 
 impl Model for Debugger {
@@ -53,9 +56,10 @@ impl Model for Debugger {
 }
 
 impl Debugger {
-    /// A debugger at the start of the scenario, without breakpoints.
+    /// Makes a debugger at the start of the scenario, without breakpoints.
     ///
-    /// `Given` exactly where no network is the start, with the first given event that is stuck.
+    /// Refused: `Given`, with the first given event that is stuck, where the scenario has no start; else want of
+    /// memory.
     pub fn new(alloc: Global, scenario: Scenario) -> Result<Self, StartFault>
         requires { IsWellFormedScenario (scenario_view scenario) }
         ensures net { IfOk result (λ debugger. IsStarted (scenario_view scenario) debugger.net) }
@@ -68,13 +72,13 @@ impl Debugger {
             net,
             schedule: scenario.schedule,
             traces: Vec::new(alloc),
-            breaks: [None; 256],
+            breaks: [None; MAX_BREAKS],
         })
     }
 
-    // ---- what is shown
+    // ---- questions
 
-    /// How many events led from the start to the network.
+    /// Returns the position: the number of events from the start to the network.
     pub fn position(&self) -> u64
         ensures position { result ≡ length self.now.traces }
         ensures trail { IsOnTrail self.now }
@@ -82,14 +86,14 @@ impl Debugger {
         self.traces.len() as u64
     }
 
-    /// The events, those before the position first.
+    /// Returns all events, also those after the position.
     pub fn schedule(&self) -> &[Event]
         ensures { result.now ≡ self.now.schedule }
     {
         self.schedule.as_slice()
     }
 
-    /// The network to which the events before the position lead from the start.
+    /// Returns the network to which the events before the position lead from the start.
     pub fn net(&self) -> &Net
         ensures net { result.now ≡ self.now.net }
         ensures is_at { IsNetworkAt (start_of self.now) self.now.schedule (length self.now.traces) result.now.network }
@@ -97,7 +101,7 @@ impl Debugger {
         &self.net
     }
 
-    /// The trace of the event that led to the position. At the start there is none.
+    /// Returns the trace of the event that led to the position. At the start there is none.
     pub fn trace(&self) -> Option<&Trace>
         ensures trace { IfSome result (λ trace. IsTraceOf self.now trace.now) }
         ensures start { IsNone result ↔ (length self.now.traces ≡ 0) }
@@ -107,8 +111,8 @@ impl Debugger {
 
     // ---- moves
 
-    /// Makes n events. It is refused with `AtEnd` where the schedule has fewer left, and then nothing moves. Else it
-    /// stays before the event that is stuck, or for which there was no memory.
+    /// Makes the next n events. It is refused with `AtEnd` where the schedule has fewer left, and then nothing moves.
+    /// After another refusal the debugger is before the event that is stuck, or for which there was no memory.
     pub fn step(&mut self, n: u64) -> Result<(), StepFault>
         ensures ok { OnOk result (IsMoved self.old self.new (length self.old.traces + n)) }
         ensures end { IsErrOf result S.AtEnd ↔ (length self.old.schedule < length self.old.traces + n) }
@@ -123,7 +127,7 @@ impl Debugger {
         }
     }
 
-    /// Takes n events back, and says whether so many were made. Else nothing moves. It takes no memory.
+    /// Takes n events back. It returns `false`, and nothing moves, where fewer were made. It takes no memory.
     pub fn back(&mut self, n: u64) -> bool
         ensures back { IsTrue result → IsMoved self.old self.new (length self.old.traces - n) }
         ensures start { IsFalse result ↔ (length self.old.traces < n) }
@@ -139,8 +143,8 @@ impl Debugger {
     }
 
     /// Goes to position n. It is refused with `PastSchedule` where the schedule is shorter, and then nothing moves. On
-    /// the way forward it stays before the event that is stuck, or for which there was no memory. The way back takes no
-    /// memory, and nothing is refused on it.
+    /// the way forward, after another refusal, it is before the event that is stuck, or for which there was no memory.
+    /// The way back takes no memory and isn't refused.
     pub fn goto(&mut self, n: u64) -> Result<(), GotoFault>
         ensures ok { OnOk result (IsMoved self.old self.new n) }
         ensures past { IsErrOf result G.PastSchedule ↔ (length self.old.schedule < n) }
@@ -162,8 +166,8 @@ impl Debugger {
     }
 
     /// Makes events up to the first of: a later position that a breakpoint names, an event that is stuck, the
-    /// schedule's end. It is refused with `AtEnd` where it is there already. Where there was no memory it stays before
-    /// the event that wasn't made.
+    /// schedule's end. It is refused with `AtEnd` where it is at the end already. Where there was no memory it is
+    /// before the event that wasn't made.
     pub fn run(&mut self) -> Result<RunEnd, RunFault>
         ensures ok { IfOk result (RunMoves self.old self.new) }
         ensures end { IsErrOf result R.AtEnd ↔ (length self.old.traces ≡ length self.old.schedule) }
@@ -187,16 +191,17 @@ impl Debugger {
         Ok(RunEnd::End)
     }
 
-    /// Makes another event: the schedule is cut at the position, and the event comes behind it. It is refused with
-    /// `TooManyEvents` at position 100,000, else where the event is stuck. After a refusal all is as it was.
+    /// Makes an event of the caller's: the schedule is cut at the position, and the event is appended. Refused, in this
+    /// order: `TooManyEvents` at position `MAX_EVENTS`, then `Stuck` or want of memory. After a refusal nothing has
+    /// changed.
     pub fn act(&mut self, event: &Event) -> Result<(), ActFault>
         ensures ok { OnOk result (IsActed self.old self.new event.now) }
-        ensures full { IsErrOf result A.TooManyEvents ↔ (length self.old.traces ≡ 100000) }
+        ensures full { IsErrOf result A.TooManyEvents ↔ (length self.old.traces ≡ MAX_EVENTS) }
         ensures stuck { IfErr result (IsActFault self.old event.now) }
         ensures kept { OnErr result (self.new ≡ self.old) }
     {
         let here = self.traces.len();
-        if here >= 100_000 {
+        if here >= MAX_EVENTS {
             return Err(ActFault::TooManyEvents);
         }
         if self.traces.reserve(1).is_err() || self.schedule.reserve(1).is_err() {
@@ -216,8 +221,8 @@ impl Debugger {
 
     // ---- breakpoints
 
-    /// A breakpoint that names position n. It gets the least number from 1 to 256 that is free, and is refused where
-    /// none is. It takes no memory, as the next two don't.
+    /// Sets a breakpoint that names position n. It gets the least number from 1 to `MAX_BREAKS` that is free, and is
+    /// refused where none is. It takes no memory, nor do the next two.
     pub fn break_at(&mut self, n: u64) -> Result<u16, BreakFault>
         ensures set { IsSet self.old self.new (Kind.Position n) result }
         ensures kind { result ≢ Err B.NoSuchReplica }
@@ -225,7 +230,7 @@ impl Debugger {
         self.set(Break::Position(n))
     }
 
-    /// A breakpoint that names each position whose event used the rule.
+    /// Sets a breakpoint that names each position whose event has the rule in its trace.
     pub fn break_rule(&mut self, rule: Rule) -> Result<u16, BreakFault>
         ensures set { IsSet self.old self.new (Kind.Rule rule) result }
         ensures kind { result ≢ Err B.NoSuchReplica }
@@ -233,8 +238,8 @@ impl Debugger {
         self.set(Break::Rule(rule))
     }
 
-    /// A breakpoint that names each position whose event is of the replica. That there is no such replica is the
-    /// first refusal.
+    /// Sets a breakpoint that names each position whose event is of replica p. Refused, in this order: where there is
+    /// no such replica, then where no number is free.
     pub fn break_replica(&mut self, p: u16) -> Result<u16, BreakFault>
         ensures set { IsSet self.old self.new (Kind.Replica p) result }
         ensures missing { IsErrOf result B.NoSuchReplica ↔ (length self.old.net.names ≤ p) }
@@ -245,13 +250,14 @@ impl Debugger {
         self.set(Break::Replica(p))
     }
 
-    /// Takes breakpoint k away, and says whether there was one. It takes no memory.
+    /// Takes breakpoint k away, and returns whether there was one. It takes no memory.
     pub fn unbreak(&mut self, k: u64) -> bool
         ensures cleared { IsTrue result → IsCleared self.old self.new k }
         ensures none { IsFalse result → IsNoBreak self.old k × (self.new ≡ self.old) }
     {
+        // For its contract: there are `MAX_BREAKS` places.
         let _ = self.position();
-        if k == 0 || k > 256 {
+        if k == 0 || k > MAX_BREAKS as u64 {
             return false;
         }
         let j = k as usize - 1;
@@ -263,16 +269,16 @@ impl Debugger {
     }
 }
 
-// Parts of the calls.
+// The parts that the calls share.
 impl Debugger {
-    /// How many events the schedule has.
+    /// Returns the number of events of the schedule.
     fn events(&self) -> u64
         ensures { result ≡ length self.now.schedule }
     {
         self.schedule.len() as u64
     }
 
-    /// Makes the next event. After a refusal all is as it was.
+    /// Makes the next event. After a refusal nothing has changed.
     fn forward(&mut self) -> Result<(), Halt>
         requires more { length self.old.traces < length self.old.schedule }
         ensures ok { OnOk result (IsMoved self.old self.new (length self.old.traces + 1)) }
@@ -293,7 +299,7 @@ impl Debugger {
         Ok(())
     }
 
-    /// Makes the next n events, up to the one that is stuck or for which there was no memory.
+    /// Makes the next n events, up to one that is stuck or for which there was no memory.
     fn advance(&mut self, n: u64) -> Result<(), Halt>
         requires { length self.old.traces + n ≤ length self.old.schedule }
         ensures ok { OnOk result (IsMoved self.old self.new (length self.old.traces + n)) }
@@ -317,16 +323,17 @@ impl Debugger {
         let _ = self.traces.pop();
     }
 
-    /// The least place of a breakpoint that names the position.
+    /// Returns the least place of a breakpoint that names the position.
     fn named(&self) -> Option<usize>
         ensures some { IfSome result (λ j.
-            (j < 256)
+            (j < MAX_BREAKS)
             × IsLeast (NamesAt (start_of self.now) (session_of self.now) (length self.now.traces)) j) }
         ensures none { IfNone result (IsFree (start_of self.now) (session_of self.now) (length self.now.traces)) }
         ensures trail { IsOnTrail self.now }
     {
+        // For its contract: there are `MAX_BREAKS` places, and the debugger is on its trail.
         let _ = self.position();
-        for j in 0..256 {
+        for j in 0..MAX_BREAKS {
             if let Some(b) = self.place(j) {
                 if self.names(b) {
                     return Some(j);
@@ -336,7 +343,7 @@ impl Debugger {
         None
     }
 
-    /// Says whether the breakpoint names the position.
+    /// Returns whether the breakpoint names the position.
     fn names(&self, b: Break) -> bool
         ensures { IsTrue result ↔ Names (start_of self.now) self.now.schedule b (length self.now.traces) }
     {
@@ -350,7 +357,7 @@ impl Debugger {
         }
     }
 
-    /// Says whether the event that led to the position is of the replica.
+    /// Returns whether the event that led to the position is of the replica.
     fn is_last_of(&self, p: u16) -> bool
         ensures { IsTrue result
             ↔ Names (start_of self.now) self.now.schedule (Kind.Replica p) (length self.now.traces) }
@@ -362,21 +369,23 @@ impl Debugger {
         self.schedule[here - 1].replica() == p
     }
 
-    /// The breakpoint at the place.
+    /// Returns the breakpoint at the place.
     fn place(&self, j: usize) -> Option<Break>
-        requires { j < 256 }
+        requires { j < MAX_BREAKS }
         ensures { slice_get self.now.breaks j ≡ Some result }
     {
         self.breaks[j]
     }
 
-    /// The least place without a breakpoint.
+    /// Returns the least place without a breakpoint.
     fn free(&self) -> Option<usize>
-        ensures some { IfSome result (λ j. (j < 256) × IsLeast (λ i. slice_get self.now.breaks i ≡ Some None) j) }
+        ensures some { IfSome result (λ j.
+            (j < MAX_BREAKS) × IsLeast (λ i. slice_get self.now.breaks i ≡ Some None) j) }
         ensures none { IfNone result ((j : ℕ) → slice_get self.now.breaks j ≢ Some None) }
     {
+        // For its contract: there are `MAX_BREAKS` places.
         let _ = self.position();
-        for place in 0..256 {
+        for place in 0..MAX_BREAKS {
             if self.place(place).is_none() {
                 return Some(place);
             }
@@ -386,13 +395,13 @@ impl Debugger {
 
     /// Puts a breakpoint, or none, at the place.
     fn put(&mut self, j: usize, b: Option<Break>)
-        requires { j < 256 }
+        requires { j < MAX_BREAKS }
         ensures { self.new ≡ placed_in self.old j b }
     {
         self.breaks[j] = b;
     }
 
-    /// Puts a breakpoint at the least free place, and gives its number.
+    /// Puts a breakpoint at the least free place, and returns its number.
     fn set(&mut self, b: Break) -> Result<u16, BreakFault>
         ensures set { IsSet self.old self.new b result }
         ensures kind { result ≢ Err B.NoSuchReplica }
@@ -406,7 +415,7 @@ impl Debugger {
         }
     }
 
-    /// How many replicas the network has.
+    /// Returns the number of replicas of the network.
     fn replicas(&self) -> usize
         ensures { result ≡ length self.now.net.names }
     {
@@ -414,7 +423,7 @@ impl Debugger {
     }
 }
 
-/// Says whether a row of the trace has the rule.
+/// Returns whether a row of the trace has the rule.
 fn has_rule(rows: &[(Rule, u64)], rule: Rule) -> bool
     ensures { IsTrue result ↔ HasRule rows.now rule }
 {

@@ -1,4 +1,4 @@
-//! How moves of a debugger end.
+//! How the calls of a debugger end: the refusals of each call, and the ends of runs.
 
 ghost use Rattle.std.specs.Prelude.{◌≡◌, IfOk};
 
@@ -12,7 +12,7 @@ pub(crate) enum Halt {
     Memory,
 }
 
-/// Why not all events were made that were asked for.
+/// Why a step didn't make all events.
 #[derive(Drop)]
 pub enum StepFault {
     /// The schedule has fewer events left. Nothing moved.
@@ -50,7 +50,7 @@ impl From<Halt> for StepFault {
     }
 }
 
-/// Why a position wasn't come to.
+/// Why the debugger didn't get to a position.
 #[derive(Drop)]
 pub enum GotoFault {
     /// The schedule is shorter. Nothing moved.
@@ -112,7 +112,7 @@ impl RunEnd {
     }
 }
 
-/// Why a run didn't end so.
+/// Why a run didn't start or go on.
 #[derive(Clone, Copy)]
 pub enum RunFault {
     /// No event was left. Nothing moved.
@@ -121,10 +121,10 @@ pub enum RunFault {
     Memory,
 }
 
-/// Why an event of the caller's wasn't made. Nothing moved, and the schedule wasn't cut.
+/// Why a caller's event wasn't made. Nothing moved, and the schedule wasn't cut.
 #[derive(Drop)]
 pub enum ActFault {
-    /// The position is 100,000.
+    /// The position is `MAX_EVENTS`.
     TooManyEvents,
     /// The event can't be made.
     Stuck(Stuck),

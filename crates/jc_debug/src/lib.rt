@@ -1,4 +1,4 @@
-//! A debugger that goes forwards and backwards along a schedule.
+//! A debugger that moves forwards and backwards along a schedule, for the sessions of `jc_session`. It prints nothing.
 #![tactic(auto)]
 
 mod breaks;

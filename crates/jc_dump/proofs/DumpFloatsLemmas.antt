@@ -1,4 +1,4 @@
--- No dump has a float.
+-- About specs/Dump: no dump has a float, so its text is compact JSON.
 use Rattle.std.proofs.Common.{◌≡◌, ℕ, List, [], ◌∷◌, ◌++◌, map, codes, false, refl}
 use Rattle.serde_json.specs.Data.{Data}
 use Rattle.serde_json.specs.Written.{has_float}

@@ -1,4 +1,4 @@
--- What is shown of a state.
+-- About specs/DumpParts: the members that are sent one by one are the dump of the state.
 use Rattle.std.proofs.Common.{◌≡◌, ℕ, List, [], ◌∷◌, ◌++◌, Some, codes, ap, ◌∙◌, refl}
 use Rattle.serde.specs.Event.{Log, Logs, Sends, Then, map_begins, map_ends, field_key}
 use Rattle.serde.specs.declared.name.Case.TheVariants.{AsIs}
@@ -17,7 +17,7 @@ shown_is : (names : List (List ℕ)) (A : State) (shown : Shown) (tree : Context
 unfolding shown_members
 shown_is names A shown tree h = rw (h.acted, h.left, h.ops, h.queue, h.recv, h.send, h.tree_is, h.vars) refl
 
--- the line of a state, from the text of what is shown of it
+-- the dump line of a state, from the text of the members
 pub line_is : (names : List (List ℕ)) (A : State) (shown : Shown) (tree : Context) → HasParts A shown tree → (text line : List ℕ) → text ≡ compact_text (object_of (shown_members names shown tree)) → line ≡ text ++ 10 ∷ []
     → line ≡ dump_line names shown.name.now A
 unfolding dump_line dump_of
@@ -27,7 +27,7 @@ line_is names A shown tree h text line e f = f ∙ ap (λ t. t ++ 10 ∷ []) (e 
 abbrev pub Member : List ℕ → Data → Log → Log → Type 0
 Member name d = Then (Sends (field_key name AsIs)) (SendsValue d)
 
--- what is sent member by member is the object of what is shown
+-- the members that are sent one by one are one object
 pub shown_sent : (names : List (List ℕ)) (shown : Shown) (tree : Context) (old begun acted left name ops queue recv send root named vars end : Log) → Logs old begun (map_begins (Some 9))
     → Member (codes "acted") (boolean shown.acted) begun acted
     → Member (codes "left") (number (unsigned shown.left)) acted left

@@ -1,4 +1,4 @@
--- What is shown of the state that a replica keeps.
+-- About specs/DumpParts: the parts of the state that a replica of a network keeps.
 use Rattle.std.proofs.Common.{◌≡◌, ℕ, List, Some, slice_get, map, length, sym, ◌∙◌, ap}
 use Rattle.std.proofs.lemmas.List.{length-map}
 use Rattle.std.proofs.lemmas.Option.{same_Some}
@@ -17,7 +17,7 @@ use Rattle.jc_dump.specs.declared.dump.Shown.{Shown}
 use Rattle.jc_dump.specs.Dump.{ids_of_dumped}
 use Rattle.jc_dump.specs.DumpParts.{HasParts}
 
--- the parts of the state K that is kept for A are shown
+-- the parts of K, which is the stored state of A, are those of A
 pub parts_kept : (A K : State) (shown : Shown) (tree : Context) (left : List Cmd) (ops : List Id) (queue recv send : List Op) → K ≡ stored_state A
     → shown.acted ≡ K.acted → shown.left ≡ length left → map cmd_of left ≡ K.left
     → shown.ops.now ≡ ops → ops ≡ A.ops
@@ -36,6 +36,6 @@ parts_kept A K shown tree left ops queue recv send k acted n l o o2 q q2 r r2 s 
   vars = sym (v ∙ ap (λ (S : State). S.vars) k);
 }
 
--- what a network keeps of its replica
+-- the state that a network keeps for its replica
 pub of_replica : (network : List State) (p : ℕ) (past : Past) (A : State) → HasReplica network p past → slice_get network p ≡ Some A → past.now ≡ stored_state A
 of_replica network p past A has there = has.kept ∙ ap stored_state (same_Some has.at A (sym has.there ∙ there))

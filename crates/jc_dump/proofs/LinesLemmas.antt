@@ -1,11 +1,9 @@
--- The lines of stuck events, from the number, the key and the event that are told.
+-- About specs/Lines: the line of a stuck event, from its refusal, its key and its event.
 use Rattle.std.proofs.Common.{◌≡◌, ℕ, List, [], ◌++◌, Some, None, codes, decimal, append-nil, append_assoc, refl, sym, ◌∙◌, ap}
 use Rattle.jc_rules.specs.declared.key.Tagged.{Tagged}
 use Rattle.jc_rules.specs.declared.operation.Event.{Event}
-use Rattle.jc_rules.specs.declared.refusal.Refusal.{Refusal}
 use Rattle.jc_rules.specs.Refusals.{refusal_number, refusal_name}
 use Rattle.jc_rules.specs.Refused.{Cause, because, no_node, refusal_of}
-use Rattle.jc_rules.proofs.RefusalsLemmas.{numbers_differ}
 use Rattle.jc_printer.specs.Canon.{canon_event}
 use Rattle.jc_network.specs.declared.fault.Stuck.{Stuck}
 use Rattle.jc_network.specs.Steps.{stuck_for, key_of_event}
@@ -24,18 +22,15 @@ absent_some names (no_node j) k e = let same : j ≡ k = cc in ap (λ t. tagged_
 abbrev front : ℕ → List ℕ → List ℕ
 front number cause = codes "stuck " ++ decimal number ++ codes " " ++ cause ++ codes " "
 
-told : (r : Refusal) (n : ℕ) (why : Cause) → refusal_number r ≡ n → n ≡ refusal_number (refusal_of why) → r ≡ refusal_of why
-told r n why e f = numbers_differ r (refusal_of why) (e ∙ f)
-
-module _ (names : List (List ℕ)) (s : Stuck) (why : Cause) (event : Event) (is : s ≡ stuck_for why event) (r : Refusal) (e : refusal_number r ≡ s.number) where
-  refusal_is : r ≡ refusal_of why
-  refusal_is = told r s.number why e (ap (λ (x : Stuck). x.number) is)
+module _ (names : List (List ℕ)) (s : Stuck) (why : Cause) (event : Event) (is : s ≡ stuck_for why event) where
+  refusal_is : s.refusal ≡ refusal_of why
+  refusal_is = ap (λ (x : Stuck). x.refusal) is
 
   event_is : canon_event names s.event ≡ canon_event names event
   event_is = ap (λ (x : Stuck). canon_event names x.event) is
 
   -- without a key
-  pub line_without : (n : ℕ) (cause text shown : List ℕ) → s.key ≡ None → n ≡ refusal_number r → cause ≡ refusal_name r → text ≡ canon_event names s.event → shown ≡ codes "stuck " ++ decimal n ++ codes " " ++ cause ++ codes " " ++ text ++ codes "\n" → shown ≡ stuck_text names why event
+  pub line_without : (n : ℕ) (cause text shown : List ℕ) → s.key ≡ None → n ≡ refusal_number s.refusal → cause ≡ refusal_name s.refusal → text ≡ canon_event names s.event → shown ≡ codes "stuck " ++ decimal n ++ codes " " ++ cause ++ codes " " ++ text ++ codes "\n" → shown ≡ stuck_text names why event
   line_without n cause text shown none num name t line =
       line
       ∙ ap (λ m. front m cause ++ text ++ codes "\n") (num ∙ ap refusal_number refusal_is)
@@ -45,7 +40,7 @@ module _ (names : List (List ℕ)) (s : Stuck) (why : Cause) (event : Event) (is
       ∙ ap (λ k. front (refusal_number (refusal_of why)) (refusal_name (refusal_of why)) ++ k ++ canon_event names event ++ codes "\n") (sym (absent_none names why (sym (ap (λ (x : Stuck). x.key) is) ∙ none)))
 
   -- with one
-  pub line_with : (n : ℕ) (k : Tagged) (cause key text shown : List ℕ) → s.key ≡ Some k → n ≡ refusal_number r → cause ≡ refusal_name r → key ≡ tagged_text names k → text ≡ canon_event names s.event → shown ≡ codes "stuck " ++ decimal n ++ codes " " ++ cause ++ codes " " ++ key ++ codes " " ++ text ++ codes "\n" → shown ≡ stuck_text names why event
+  pub line_with : (n : ℕ) (k : Tagged) (cause key text shown : List ℕ) → s.key ≡ Some k → n ≡ refusal_number s.refusal → cause ≡ refusal_name s.refusal → key ≡ tagged_text names k → text ≡ canon_event names s.event → shown ≡ codes "stuck " ++ decimal n ++ codes " " ++ cause ++ codes " " ++ key ++ codes " " ++ text ++ codes "\n" → shown ≡ stuck_text names why event
   line_with n k cause key text shown some num name kt t line =
       line
       ∙ ap (λ m. front m cause ++ key ++ codes " " ++ text ++ codes "\n") (num ∙ ap refusal_number refusal_is)

@@ -1,5 +1,5 @@
--- The dump of a replica's state: one JSON object, and its line. The list of names has the name of each replica at its
--- number.
+-- The dump of a replica's state: one JSON object, and its line. The contract of `dump_replica` cites it.
+-- The list of names has the name of each replica at its number.
 use Rattle.std.specs.Prelude.{ℕ, List, [], ◌∷◌, ◌++◌, length, map, codes}
 use Rattle.serde_json.specs.Data.{unsigned, Data, boolean, number, string, array, no_items, item}
 use Rattle.serde_json.specs.View.{items_of}

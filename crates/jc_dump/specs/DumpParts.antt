@@ -1,4 +1,4 @@
--- The parts of a dump that the code makes it of.
+-- The parts of which the code makes a dump, for the contracts of dump.rt and vars.rt.
 use Rattle.std.specs.Prelude.{◌≡◌, ℕ, List, [], ◌∷◌, length, codes}
 use Rattle.std.specs.Borrow.{Bor}
 use Rattle.serde_json.specs.Data.{Data, unsigned, boolean, number, string}
@@ -13,7 +13,7 @@ use Rattle.jc_dump.specs.Dump.{bound_data, vars_data, ids_of_dumped}
 abbrev pub bound_shown : List (List ℕ) → Bor BoundInMemory → Data
 bound_shown names b = bound_data names (bound_of b.now)
 
--- the members of the dump of a replica
+-- the members of a dump, from the parts in memory
 unfoldable pub shown_members : List (List ℕ) → Shown → Context → List (List ℕ × Data)
 shown_members names shown tree =
     (codes "acted", boolean shown.acted)
@@ -27,7 +27,7 @@ shown_members names shown tree =
     ∷ (codes "vars", vars_data names (vars_of shown.vars.now))
     ∷ []
 
--- The state has what is shown and this tree.
+-- The parts and the tree are those of the state.
 pub record HasParts (A : State) (shown : Shown) (tree : Context) : Type 0 where
   pub acted : A.acted ≡ shown.acted
   pub left : length A.left ≡ shown.left

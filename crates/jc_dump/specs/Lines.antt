@@ -1,4 +1,5 @@
--- The lines of traces and of stuck events. The list of names has the name of each replica at its number.
+-- The lines of traces and of stuck events, for the contracts of lines.rt and of the crates above.
+-- The list of names has the name of each replica at its number.
 use Rattle.std.specs.Prelude.{◌≡◌, ℕ, List, [], ◌++◌, length, codes, decimal, flat_map}
 use Rattle.jc_rules.specs.declared.operation.Event.{Event}
 use Rattle.jc_rules.specs.declared.rule.Rule.{Rule}

@@ -1,4 +1,4 @@
--- Trace blocks, the dump lines of a network, and the lines of refused texts.
+-- Trace blocks, the dump lines of a network, and the lines of refused texts: for texts.rt and jc_session.
 use Rattle.std.specs.Prelude.{ℕ, suc, List, [], ◌∷◌, ◌++◌, codes, decimal}
 use Rattle.jc_rules.specs.declared.operation.Event.{Event}
 use Rattle.jc_rules.specs.declared.refusal.Refusal.{Refusal}
@@ -23,11 +23,11 @@ refused_text refusal place =
     codes "refused " ++ decimal (refusal_number refusal) ++ codes " " ++ refusal_name refusal ++ codes " at " ++ decimal place
     ++ codes "\n"
 
--- the lines of the first given event that is stuck, which is of this number from 1
+-- the lines of the first given event that is stuck, with its number from 1
 abbrev pub given_text : List (List ℕ) → ℕ → Cause → Event → List ℕ
 given_text names at why event = refused_text GivenStuck at ++ stuck_text names why event
 
--- the dump lines of replicas, of which the first one has the number p
+-- the dump lines of replicas, numbered from p on
 abbrev pub dumps_from : ℕ → List (List ℕ) → List State → List ℕ
 dumps_from p names [] = []
 dumps_from p names (A ∷ network) = dump_line names (name_at names p) A ++ dumps_from (suc p) names network

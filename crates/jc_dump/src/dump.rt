@@ -1,4 +1,4 @@
-//! The dump of a replica's state as one line of JSON.
+//! The dump of a replica's state as one line of JSON, sent to the writer member by member. replica.rt calls it.
 
 ghost use Rattle.std.specs.Prelude.{◌≡◌, Ok, IfOk, OnOk, string_bytes};
 ghost use Rattle.serde.specs.Event.{Sends, Then, field_key};
@@ -18,22 +18,26 @@ use serde::{Described, Serialize, Serializer};
 use serde_json::Error;
 use std::alloc::{AllocError, Global};
 
-/// What a dump shows of a replica beside its tree: its name, whether it made an event of its yield,
-/// how many commands are left, the identifiers of the operations that it applied, made, was sent
-/// and offers, in their order, and its variables.
+/// What a dump shows of a replica beside its tree.
 #[derive(Clone, Copy)]
 pub(crate) struct Shown<'a> {
     pub(crate) name: &'a str,
+    /// Whether it made an event of its yield.
     pub(crate) acted: bool,
+    /// The number of commands that are left.
     pub(crate) left: usize,
+    /// The identifiers of the applied operations, in their order.
     pub(crate) ops: &'a [Id],
+    /// Those of the operations that it made.
     pub(crate) queue: &'a [Id],
+    /// Those of the operations that it received.
     pub(crate) recv: &'a [Id],
+    /// Those of the operations that it offers.
     pub(crate) send: &'a [Id],
     pub(crate) vars: &'a [(Text, Bound)],
 }
 
-/// A replica's dump, as it is sent.
+/// A replica's dump, which `serde` sends to a writer.
 #[derive(Drop)]
 struct Dump<'a, S> {
     alloc: Global,
@@ -47,7 +51,7 @@ impl<S: TreeStore> Described for Dump<'_, S> {
 }
 
 impl<S: TreeStore> Serialize for Dump<'_, S> {
-    /// The members stand in the order of their names.
+    /// Sends the members in the order of their names.
     fn serialize<W: Serializer>(&self, out: &mut W) -> Result<(), W::Error> {
         let shown = self.shown;
         out.begin_map(Some(9))?;
@@ -98,7 +102,7 @@ fn send_ids_member<W: Serializer>(
     send_ids(alloc, names, ids, out)
 }
 
-/// The text, unless memory ran out: nothing else is refused of a dump.
+/// Returns the text. A dump can be refused for want of memory alone.
 fn unless_refused(text: Result<String, Error>) -> Result<String, AllocError>
     ensures { IfOk result (λ s. text ≡ Ok s) }
 {
@@ -108,7 +112,7 @@ fn unless_refused(text: Result<String, Error>) -> Result<String, AllocError>
     }
 }
 
-/// The dump line, with its line feed, of a replica.
+/// Returns the dump line of a replica, with its line feed.
 pub(crate) fn dump_line_of<S: TreeStore>(
     alloc: Global,
     names: &[Text],

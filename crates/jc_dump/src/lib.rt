@@ -1,4 +1,5 @@
-//! What is shown of networks: dump lines, traces and stuck lines.
+//! The lines in which networks are shown: dumps of replicas, traces, stuck events and refused texts. Sessions and the
+//! program print them.
 #![tactic(auto)]
 
 mod dump;

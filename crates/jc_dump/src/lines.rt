@@ -1,4 +1,4 @@
-//! The lines of traces and of stuck events.
+//! The lines of traces and of stuck events: texts.rt puts blocks together from them.
 
 ghost use Rattle.std.specs.Prelude.{◌≡◌, ◌++◌, IfOk, OnOk, string_bytes, codes, decimal};
 ghost use Rattle.jc_rules.specs.declared.operation.Event.{Event as AnyEvent};
@@ -13,7 +13,7 @@ use jc_rules::{Text, Trace};
 use std::alloc::{AllocError, Global};
 use std::fmt::Write;
 
-/// Adds the line of a rule.
+/// Appends the line of a rule to the text.
 fn push_row(text: &mut String, depth: u64, name: &str) -> Result<(), AllocError>
     ensures { OnOk result
         (string_bytes text.new ≡ string_bytes text.old ++ decimal depth ++ codes " " ++ name.now ++ codes "\n") }
@@ -21,7 +21,7 @@ fn push_row(text: &mut String, depth: u64, name: &str) -> Result<(), AllocError>
     writeln!(text, "{depth} {name}")
 }
 
-/// The text of a trace: for each rule a line with its depth and its name.
+/// Returns the text of a trace: a line for each rule, with its depth and its name.
 pub fn trace_text(alloc: Global, trace: &Trace) -> Result<String, AllocError>
     ensures { IfOk result (λ text. string_bytes text ≡ trace_text trace.now.rows) }
 {
@@ -32,7 +32,7 @@ pub fn trace_text(alloc: Global, trace: &Trace) -> Result<String, AllocError>
     Ok(text)
 }
 
-/// The line of an event that can't be made, as the network tells it.
+/// Returns the line of an event that is stuck in the network.
 pub fn stuck_text(alloc: Global, net: &Net, stuck: &Stuck) -> Result<String, AllocError>
     requires { IsNamedStuck net.now.names stuck.now }
     ensures { IfOk result (λ text.
@@ -43,7 +43,7 @@ pub fn stuck_text(alloc: Global, net: &Net, stuck: &Stuck) -> Result<String, All
     named_stuck_text(alloc, net.names(), stuck)
 }
 
-/// The same, where the list of names has the name of each replica at its number.
+/// Returns the line of a stuck event. The list of names has the name of each replica at its number.
 pub(crate) fn named_stuck_text(
     alloc: Global,
     names: &[Text],
@@ -72,6 +72,7 @@ pub(crate) fn named_stuck_text(
     }
 }
 
+/// The line of a stuck event whose refusal has no tagged key.
 fn stuck_line(alloc: Global, number: u8, cause: &str, event: &str) -> Result<String, AllocError>
     ensures { IfOk result (λ text.
         string_bytes text
@@ -80,7 +81,7 @@ fn stuck_line(alloc: Global, number: u8, cause: &str, event: &str) -> Result<Str
     format!(in alloc; "stuck {number} {cause} {event}\n")
 }
 
-/// The same with the tagged key that isn't there.
+/// The line of a stuck event, with the tagged key that isn't there.
 fn absent_line(
     alloc: Global,
     number: u8,

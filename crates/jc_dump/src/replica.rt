@@ -1,4 +1,4 @@
-//! The dump of a network's replica.
+//! The dump line of one replica of a network: the crate's main call.
 
 ghost use Rattle.std.specs.Prelude.{◌≡◌, ◌≤◌, ◌↔◌, Some, length, slice_get, string_bytes, IfOk, IsErrOf};
 ghost use Rattle.jc_rules.specs.ReplicaNames.{name_at};
@@ -14,7 +14,7 @@ use jc_rules::{Id, Op, Text, name_at};
 use jc_tree::ArenaTree;
 use std::alloc::{AllocError, Global};
 
-/// The identifiers of operations.
+/// Returns the identifiers of the operations.
 fn ids_of(alloc: Global, ops: &[Op]) -> Result<Vec<Id>, AllocError>
     ensures { IfOk result (λ ids. ids.items ≡ ids_of_dumped ops.now) }
 {
@@ -25,7 +25,7 @@ fn ids_of(alloc: Global, ops: &[Op]) -> Result<Vec<Id>, AllocError>
     Ok(ids)
 }
 
-/// The dump line of the replica `p`, which has applied the operations with these identifiers.
+/// Returns the dump line of replica `p`, which has applied the operations with the identifiers `applied`.
 fn line_of(
     alloc: Global,
     names: &[Text],
@@ -53,8 +53,8 @@ fn line_of(
     dump_line_of(alloc, names, &shown, replica.tree())
 }
 
-/// The dump line of the network's replica `p`, with its line feed. It is refused with
-/// `NoSuchReplica` where there is none.
+/// Returns the dump line of the network's replica `p`, with its line feed. It is refused with `NoSuchReplica` where
+/// there is none, else for want of memory.
 pub fn dump_replica(alloc: Global, net: &Net, p: u16) -> Result<String, CompareFault>
     ensures dump { IfOk result (λ line.
         (A : State) → slice_get net.now.network.states p ≡ Some A

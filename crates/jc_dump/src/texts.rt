@@ -1,4 +1,4 @@
-//! Trace blocks, the lines of refused texts, and those of a given event that is stuck.
+//! Trace blocks, the lines of refused texts, and the lines of a given event that is stuck.
 
 ghost use Rattle.std.specs.Prelude.{◌≡◌, ◌++◌, IfOk, length, string_bytes, codes, decimal};
 ghost use Rattle.jc_rules.specs.declared.operation.Event.{Event as AnyEvent};
@@ -15,7 +15,7 @@ use jc_rules::{Event, Refusal, Text, Trace};
 use jc_scenario::Scenario;
 use std::alloc::{AllocError, Global};
 
-/// The trace block of an event by its number: a line with the event, and the text of its trace.
+/// Returns the trace block of an event: a line with its number and the event, and the text of its trace.
 pub fn block_text(
     alloc: Global,
     names: &[Text],
@@ -31,6 +31,7 @@ pub fn block_text(
     joined(alloc, n, event.as_str(), rows.as_str())
 }
 
+/// Puts a trace block together from its parts.
 fn joined(alloc: Global, n: u64, event: &str, rows: &str) -> Result<String, AllocError>
     ensures { IfOk result (λ text.
         string_bytes text ≡ codes "event " ++ decimal n ++ codes " " ++ event.now ++ codes "\n" ++ rows.now) }
@@ -38,15 +39,15 @@ fn joined(alloc: Global, n: u64, event: &str, rows: &str) -> Result<String, Allo
     format!(in alloc; "event {n} {event}\n{rows}")
 }
 
-/// The line of a text that is refused at a place.
+/// Returns the line of a text that is refused at the offset `place`.
 pub fn refused_text(alloc: Global, refusal: Refusal, place: usize) -> Result<String, AllocError>
     ensures { IfOk result (λ text. string_bytes text ≡ refused_text refusal place) }
 {
     refused_line(alloc, refusal.number(), refusal.name(), place)
 }
 
-/// The lines of a scenario that has no start: the given event of this number, from 1, is the first that is stuck. The
-/// scenario tells the names of its replicas.
+/// Returns the two lines of a scenario that has no start: `at` is the number, from 1, of the first given event that is
+/// stuck. The names of replicas are the scenario's.
 pub fn given_text(
     alloc: Global,
     scenario: &Scenario,
@@ -65,6 +66,7 @@ pub fn given_text(
     Ok(text)
 }
 
+/// Puts the line of a refused text together from its parts.
 fn refused_line(alloc: Global, number: u8, cause: &str, place: usize) -> Result<String, AllocError>
     ensures { IfOk result (λ text.
         string_bytes text

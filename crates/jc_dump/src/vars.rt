@@ -1,4 +1,4 @@
-//! Variables and what they are bound to, as JSON values.
+//! Variables and what they are bound to, as JSON: the member `vars` of a dump.
 
 ghost use Rattle.std.specs.Prelude.{◌≡◌, ℕ, List, map, IfOk, OnOk};
 ghost use Rattle.serde_json.specs.Data.{no_members};
@@ -18,7 +18,7 @@ use serde_json::Value as Json;
 use std::alloc::{AllocError, Global};
 use std::collections::BTreeMap;
 
-/// A cursor: the texts of its path, then that of its last key.
+/// Returns a cursor as a list: the texts of its path, then that of its last key.
 fn cursor_value(alloc: Global, names: &[Text], cursor: &Cursor) -> Result<Json, AllocError>
     ensures { IfOk result (λ v. view v ≡ cursor_data names.now cursor.now) }
 {
@@ -41,7 +41,7 @@ fn send_keys<W: Serializer>(keys: &[Text], out: &mut W) -> Result<(), W::Error>
     out.end_seq()
 }
 
-/// A value with its identifier before it.
+/// Returns a value as a pair, with its identifier first.
 fn pair_value(alloc: Global, names: &[Text], id: Id, value: &Value) -> Result<Json, AllocError>
     ensures { IfOk result (λ v. view v ≡ pair_data names.now (id, value.now)) }
 {
@@ -51,7 +51,7 @@ fn pair_value(alloc: Global, names: &[Text], id: Id, value: &Value) -> Result<Js
     Ok(Json::from(pair))
 }
 
-/// The values that were read, each with its identifier, as a list.
+/// Returns the values that were read as a list, each with its identifier.
 fn pairs_value(alloc: Global, names: &[Text], pairs: &[(Id, Value)]) -> Result<Json, AllocError>
     ensures { IfOk result (λ v. view v ≡ pairs_data names.now pairs.now) }
 {
@@ -90,7 +90,7 @@ fn send_bound<W: Serializer>(
     out.end_map()
 }
 
-/// What the variables are bound to, in the order of their names.
+/// Sorts the variables by name.
 fn by_name<'a>(
     alloc: Global,
     vars: &'a [(Text, Bound)],

@@ -1,4 +1,4 @@
--- What the sources and sinks for tests hold and answer.
+-- Values and results of the sources and sinks for tests, which their contracts cite.
 use Rattle.std.specs.Prelude.{ℕ, zero, suc, List, Option, Some, None, Result, Ok, Err}
 use Rattle.jc_io.specs.declared.io.Failed.{Failed}
 use Rattle.jc_fakes.specs.declared.Then.{Then}
@@ -9,18 +9,18 @@ pub record Kept : Type 0 where
   pub bytes : List ℕ
   pub failures : ℕ
 
--- how many calls are left before the one that fails, after one call more: none are left after that one
+-- the number of calls before the one that fails, after one more call; none once it has failed
 abbrev pub one_call_on : Option ℕ → Option ℕ
 one_call_on None = None
 one_call_on (Some zero) = None
 one_call_on (Some (suc n)) = Some n
 
--- how many failures it has made: one, once no call is left that fails
+-- the number of failures so far: one, once the call has failed
 abbrev pub failures_made : Option ℕ → ℕ
 failures_made None = 1
 failures_made (Some n) = 0
 
--- what a sink without room answers to some bytes
+-- the result of a write of some bytes without room
 abbrev pub result_of_fake : Then → Result ℕ Failed
 result_of_fake Fails = Err (record {})
 result_of_fake TakesNone = Ok 0

@@ -1,4 +1,4 @@
-//! Sources and sinks for tests.
+//! Sources and sinks in memory, for the crates of tests: whole, in pieces, and with failures.
 #![tactic(auto)]
 
 ghost use Rattle.std.specs.Prelude.{◌≡◌, ℕ, ◌+◌, ◌-◌, ◌^◌, ◌<◌, ◌≤◌, ◌↔◌, min, List, [], length, replicate, Some, None, Ok, Err, IsTrue, IsOk, IsErr, IfOk, OnOk, OnErr};
@@ -11,7 +11,7 @@ use jc_io::{Failed, Sink, Source};
 use std::alloc::Global;
 use std::marker::Model;
 
-/// A source over bytes in memory, which gives as many as fit and never fails.
+/// A source of bytes in memory. A read returns as many as fit, and never fails.
 ///
 /// Contracts see it as the bytes that are left.
 #[derive(Drop)]
@@ -102,7 +102,7 @@ impl<K: Sink> Sink for OneByte<K> {
     }
 }
 
-/// A source of one byte again and again, which has no end. Its bytes are not told.
+/// A source of one byte again and again, without end. Contracts don't know its bytes.
 #[derive(Drop)]
 pub struct Endless {
     pub byte: u8,
@@ -131,7 +131,7 @@ impl Source for Endless {
     }
 }
 
-/// What a sink answers to some bytes once it has no room.
+/// What a write of some bytes returns once a sink has no room.
 #[derive(Clone, Copy)]
 pub enum Then {
     /// `Failed`.
@@ -147,7 +147,7 @@ pub enum Then {
 #[derive(Drop)]
 pub struct FailsAt<T> {
     pub inner: T,
-    /// How many calls go well before the one that fails; `None` once it has failed.
+    /// The number of calls before the one that fails; `None` once it has failed.
     pub at: Option<u64>,
 }
 
@@ -161,7 +161,7 @@ impl<T> FailsAt<T> {
         }
     }
 
-    // Counts a call, and says whether it is the one that fails.
+    // Counts a call, and returns whether it is the one that fails.
     fn is_due(&mut self) -> bool
         ensures due { IsTrue result ↔ (self.old.at ≡ Some 0) }
         ensures counted { self.new ≡ record self.old { at = one_call_on self.old.at } }
@@ -228,8 +228,8 @@ impl<K: Sink> Sink for FailsAt<K> {
 
 /// A sink that keeps what it took. Want of memory is `Failed`.
 ///
-/// Contracts see it as the bytes that it keeps and the number of its failures. After 2^64 - 1
-/// failures it drops what it is given and tells nothing any more.
+/// Contracts see it as the bytes that it keeps and the number of its failures. After 2^64 - 1 failures it drops the
+/// bytes, and contracts don't know what it took.
 #[derive(Drop)]
 pub struct Taken {
     bytes: Vec<u8>,
@@ -297,7 +297,7 @@ impl Sink for Taken {
 #[derive(Drop)]
 pub struct CountsFlushes<K> {
     pub sink: K,
-    /// How often it was flushed, as far as 64 bits count.
+    /// The number of its flushes, 2^64 - 1 at most.
     pub flushes: u64,
 }
 
@@ -335,17 +335,17 @@ impl<K: Sink> Sink for CountsFlushes<K> {
     }
 }
 
-/// A sink that takes so many bytes in all, and then refuses.
+/// A sink that takes `room` bytes in all, and then refuses.
 ///
-/// Empty writes and flushes go on without room. After 2^64 - 1 refusals it passes all writes on and
-/// tells nothing any more.
+/// Empty writes and flushes succeed without room. After 2^64 - 1 refusals it passes all writes on, and contracts don't
+/// know what it took.
 #[derive(Drop)]
 pub struct TakesUpTo<K> {
     pub sink: K,
-    /// How many bytes it takes yet.
+    /// The number of bytes that it takes yet.
     pub room: usize,
     pub then: Then,
-    /// How many writes it refused for want of room.
+    /// The number of writes that it refused.
     pub refused: u64,
 }
 

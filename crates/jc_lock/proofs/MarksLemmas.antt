@@ -1,4 +1,4 @@
--- Marking numbers, each once.
+-- About specs/Numbers: the marks of `close` show whether each number is there once.
 use Rattle.std.proofs.Common.{◌≡◌, ℕ, zero, suc, ◌+◌, ◌<◌, ◌≤◌, Bool, true, false, eqb, ltb, List, [], ◌∷◌, ◌++◌, length, get_or, set, take, map, sym, refl, ap, ◌∙◌, arith, lt_of_not-le, length-set, get_or-set_same, get_or-set_other, add-one}
 use Rattle.std.specs.List.{IsAnyAnswer}
 use Rattle.std.proofs.lemmas.Bool.{le-ltb, lt-ltb, false≢true}

@@ -1,4 +1,5 @@
--- The numbers from 0 on are there, each once.
+-- About specs/Numbers: the numbers from 0 on are there, each once. Callers cite it that close a lock with
+-- the passes of `open`.
 use Rattle.std.proofs.Common.{◌≡◌, ℕ, zero, suc, ◌+◌, ◌<◌, ◌≤◌, sym, refl, ap, ◌∙◌, arith, lt_of_not-le}
 use Rattle.std.specs.List.{range_with_len}
 use Rattle.std.proofs.lemmas.Bool.{le-ltb, lt-ltb}

@@ -1,4 +1,4 @@
--- Sums over the views of all seats, what holds of each view, and counts that are 1 at most.
+-- About specs/Rules: sums over the views of all seats, what holds of each view, and counts that are 1 at most.
 use Rattle.std.proofs.Common.{◌≡◌, ◌≢◌, ℕ, zero, suc, ◌+◌, ◌<◌, ◌≤◌, Bool, cond, eqb, List, [], ◌∷◌, ◌++◌, set, sym, refl, ap, subst, arith, eq-eqb, ne_eqb, ⊎_elim}
 use Rattle.std.specs.Prelude.{sum_by}
 use Rattle.std.proofs.lemmas.List.Sums.{sum_by-cons}

@@ -1,4 +1,4 @@
--- The steps on the words keep the rule.
+-- About specs/Steps: each step on the words keeps the rule.
 use Rattle.std.proofs.Common.{◌≡◌, ◌≢◌, ℕ, ◌+◌, ◌*◌, ◌^◌, ◌%◌, ◌<◌, ◌≤◌, true, false, eqb, Option, Some, None, List, [], ◌∷◌, ◌++◌, length, get_or, set, sym, refl, ap, ◌∙◌, subst, arith, eq-eqb, ne_eqb, ⊎_elim, ◌⊎◌, inl, inr, length-set, length-append, append_assoc, drop, cond, get_or-set_same, get_or-set_other}
 use Rattle.std.specs.Prelude.{sum_by, count_by, All}
 use Rattle.std.proofs.lemmas.List.Elements.{filter-append, All-push}

@@ -1,4 +1,5 @@
--- What is known under the numbers of passes. A pass knows for its own number, so its list has one element.
+-- What a seat knows under the numbers of passes, for the contracts of turns and of `close`.
+-- A pass knows for its own number alone, so its list has one element.
 use Rattle.std.specs.Prelude.{◌≡◌, ℕ, Bool, List, [], ◌∷◌, ◌++◌, length, drop, filter, nat_eq, zero, suc}
 use mathlib.Core.List.{IsPrefix}
 use Rattle.jc_lock.specs.declared.view.Known.{Known}
@@ -11,7 +12,7 @@ module _ {E : Type 0} where
   abbrev pub blank : ℕ → Known E
   blank p = record { number = p; seen = []; mine = [] }
 
-  -- for n numbers, from k on
+  -- nothing is known yet for n numbers, from k on
   abbrev pub blanks : ℕ → ℕ → List (Known E)
   blanks k zero = []
   blanks k (suc n) = blank k ∷ blanks (suc k) n
@@ -39,18 +40,18 @@ module _ {E : Type 0} where
   mine_in [] = []
   mine_in (x ∷ xs) = x.mine
 
-  -- where the history was seen
+  -- once the history is seen
   abbrev pub seen_to : List E → List (Known E) → List (Known E)
   seen_to history [] = []
   seen_to history (x ∷ xs) = record x { seen = history } ∷ xs
 
-  -- where the history was seen, which grew by entries of the pass
+  -- once the history is seen, after it grew by entries of the pass
   abbrev pub grown_to : List E → List (Known E) → List (Known E)
   grown_to history [] = []
   grown_to history (x ∷ xs) = record x { seen = history; mine = x.mine ++ drop (length x.seen) history } ∷ xs
 
 module _ {E : Type 0} (maker : E → ℕ) where
-  -- what was seen begins the history, in which the pass has the entries that it made and no others
+  -- what was seen is a prefix of the history, in which the pass has the entries that it made and no others
   abbrev pub IsTrueOf : List E → Known E → Type 0
   IsTrueOf history x = IsPrefix x.seen history × (own maker history x.number ≡ x.mine)
 

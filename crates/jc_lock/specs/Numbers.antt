@@ -1,4 +1,4 @@
--- The numbers of passes.
+-- Each number once: what `close` asks of the numbers of its passes.
 use Rattle.std.specs.Prelude.{◌≡◌, ℕ, List, count_by, nat_eq, nat_lt, if◌then◌else◌}
 
 abbrev pub times : ℕ → List ℕ → ℕ

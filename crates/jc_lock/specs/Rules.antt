@@ -1,4 +1,4 @@
--- The rule of the lock's table, which holds between any two steps.
+-- The rule of the lock's table (`InTurn` of lock.rt), which holds between any two steps.
 -- Word 0 is the number of tickets drawn, word 1 the ticket whose turn it is, and word 2 the length of the history. The
 -- one slot holds the value.
 use Rattle.std.specs.Prelude.{◌≡◌, ℕ, ◌+◌, ◌*◌, ◌^◌, ◌<◌, ◌≤◌, Bool, true, false, List, [], ◌∷◌, length, slice_index, nat_eq, sum_by, count_by, All, Some, Option, if◌then◌else◌}
@@ -12,7 +12,7 @@ use Rattle.jc_lock.specs.declared.view.Stage.{Stage}
 use Rattle.jc_lock.specs.declared.view.Stage.TheVariants.{Rests, Waits, Holds}
 use Rattle.jc_lock.specs.Knowledge.{is_for, AllTrueOf}
 
--- how many tickets there are, and how many of them are the ticket t
+-- the count of the seat's tickets, 0 or 1, and how often it has the ticket t
 abbrev pub ticket_count : Stage → ℕ
 ticket_count Rests = 0
 ticket_count (Waits u) = 1
@@ -50,7 +50,8 @@ module _ {E O : Type 0} where
   NoTurn views = (j : ℕ) (v : View E O) → get_elem? views j ≡ some v → has_turn v.stage ≡ false
 
 module _ {E : Type 0} where
-  -- who waits or holds a turn is one pass; who holds one has the ticket that is due, and has seen the whole history
+  -- a seat that waits or holds a turn is of one pass; one that holds a turn has the ticket that is due, and has seen
+  -- the whole history
   abbrev pub FitsStage : ℕ → List E → List (Known E) → Stage → Type 0
   FitsStage due history known Rests = Unit {0}
   FitsStage due history known (Waits t) = (x : Known E) × (known ≡ x ∷ [])
@@ -63,8 +64,8 @@ module _ {E : Type 0} where
       × FitsStage due history v.knows v.stage
 
 module _ {K E O : Type 0} (origin : K → O) (list : K → List E) (maker : E → ℕ) where
-  -- There is one history. Tickets are drawn, served and made within the terms, each once; each number of a pass is
-  -- known at one seat at most.
+  -- There is one history. Each ticket is drawn and served once, and there are no more than the terms allow. Each number
+  -- of a pass is known at one seat at most.
   -- While no seat has the turn the value at home has the history for its list, and the origin of the value that the
   -- lock was opened with.
   pub record IsKept (terms : Terms K) (s : State (Option K) (View E O)) : Type 0 where

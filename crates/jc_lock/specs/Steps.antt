@@ -1,4 +1,4 @@
--- What each step on the lock's words tells, and what the views become.
+-- What a seat learns by each step on the lock's words, and what its view becomes: the definitions of plays.rt.
 use Rattle.std.specs.Prelude.{◌≡◌, ◌≢◌, ℕ, ◌+◌, ◌-◌, ◌*◌, List, [], ◌∷◌, ◌++◌, length, Option, Some, None}
 use Rattle.atomic_table.specs.declared.shared.Seat.{Seat}
 use Rattle.atomic_table.specs.Table.{Me, Step, rest}
@@ -14,11 +14,12 @@ ticket_in Rests = 0
 ticket_in (Waits t) = t
 ticket_in (Holds t) = t
 
--- the list of the value in the slot that was taken last
+-- the list of the value, empty where there is none
 abbrev pub option_list : {K E : Type 0} → (K → List E) → Option K → List E
 option_list list (Some x) = list x
 option_list list None = []
 
+-- the list of the value in the slot that was taken last
 abbrev pub list_in : {K E : Type 0} → (K → List E) → List (ℕ × Option K) → List E
 list_in list [] = []
 list_in list (c ∷ cs) = option_list list c.1
@@ -39,7 +40,7 @@ module _ {E O : Type 0} where
   abbrev pub with_grown : View E O → List E → View E O
   with_grown v history = record v { knows = grown_to history v.knows }
 
-  -- the seat that deals, once its first number is dealt, and the seat that gets it
+  -- the view of the seat that deals, once its first number is dealt, and that of the seat that gets it
   abbrev pub rest_of_deal : View E O → View E O
   rest_of_deal v = record v { left = v.left - v.share; knows = others_of v.knows }
 
@@ -52,7 +53,7 @@ module _ {E O : Type 0} where
   abbrev pub spent_view : View E O
   spent_view = record { stage = Rests; left = 0; share = 0; origin = None; knows = [] }
 
-  -- the seat that has n passes to deal, from the number k on
+  -- the view of the seat that has n passes to deal, from the number k on
   abbrev pub dealer : O → ℕ → ℕ → ℕ → View E O
   dealer o takes k n = record { stage = Rests; left = n * takes; share = takes; origin = Some o; knows = blanks k n }
 
@@ -62,7 +63,7 @@ first_dealer origin terms = dealer (origin terms.opened.value) terms.takes 0 ter
 abbrev Sat : Type 0 → Type 0 → Type 0 → Type 0
 Sat K E O = Me (Option K) (View E O)
 
--- of a step, the seat before, the number found and the seat after
+-- a step, the seat before it, the number that it found, and the seat after it
 abbrev pub Draws : {K E O : Type 0} → Step (Option K) → Sat K E O → ℕ → Sat K E O → Type 0
 Draws step me found me' = me' ≡ (with_ticket me.0 found, me.1)
 

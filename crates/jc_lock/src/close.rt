@@ -1,4 +1,4 @@
-//! Closing a lock.
+//! Closing a lock, the last call on it: the seats of the passes become one, and the value leaves its slot.
 use crate::kept::Kept;
 use crate::lock::{CloseRefused, HistoryLock, Pass, Place};
 use crate::marks::each_is_there;
@@ -34,7 +34,7 @@ impl<K: Kept> HistoryLock<K> {
         seat
     }
 
-    // Takes the value out of the slot, where the seat knows for each pass.
+    // Takes the value out of the slot. The seat knows for each pass, so no other seat can have the turn.
     fn into_value(self, seat: Place<K>) -> K
         requires table { seat.table_id ≡ self.table.shared.table_id }
         requires rests { seat.me.0.stage ≡ Rests }
@@ -53,11 +53,11 @@ impl<K: Kept> HistoryLock<K> {
         }
     }
 
-    /// Gives the value back. Its list is the history: it begins with all that each pass has seen, each pass's own
-    /// entries in it are those that were made under the pass, and it has no others. Its origin is that of `open`.
+    /// Gives the value back. Its list is the history: what each pass has seen is a prefix of it. The entries of each
+    /// pass in it are those that were made under the pass, and it has no others. Its origin is that of `open`.
     ///
-    /// 43 exactly where the numbers of the passes aren't those of `open`, each once. Then lock and passes come back as
-    /// they were.
+    /// 43 exactly where the numbers of the passes aren't those of `open`, each once. Then lock and passes come back
+    /// unchanged.
     pub fn close(self, passes: Vec<Pass<K>>) -> Result<K, CloseRefused<K>>
         requires { All (IsPassOf self) passes.items }
         ensures when { IsOk result ↔ EachOnce (lock_passes self) (map pass_number passes.items) }

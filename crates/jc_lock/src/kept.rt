@@ -1,4 +1,4 @@
-//! What a lock can hold.
+//! The trait of a lock's value: its origin, its list of entries, and the pass that made each entry.
 ghost use Rattle.std.specs.Prelude.{◌≡◌, ℕ, List, length};
 
 /// A value that keeps a history. Contracts see it as an origin and a list of entries, all plain data. Each entry names

@@ -1,8 +1,11 @@
-//! One history for all threads: a lock whose value keeps a list of entries, and that is passed on by turns.
+//! One history for all threads: a lock whose value keeps a list of entries. `jc_runner` has its network under one.
 //!
-//! `HistoryLock::open` gives the lock and its passes. Who has a pass takes a turn with it, works on the value, adds one
-//! entry at most, and gives the turn back. `count` looks how long the history is, and waits for nobody. `close` gives
-//! the value back once all passes are handed in.
+//! In the field's words a pass is a handle of the lock, a turn is a guard, and to take and give a turn is to acquire
+//! and release the lock.
+//!
+//! `HistoryLock::open` makes the lock and its passes. A thread takes a turn with its pass, works on the value, adds one
+//! entry at most, and gives the turn back. `count` returns the length of the history, and waits for nobody. `close`
+//! takes all passes and returns the value.
 //!
 //! Refusals: 40 `NoPasses` and 41 `TooManyTakes` of `open`, 42 `Spent` of `take`, 43 `MissingPass` of `close`.
 #![tactic(auto)]

@@ -1,4 +1,4 @@
-//! The lock, its passes and its turns.
+//! The types of callers: the lock, its passes, its turns and the refusals. The calls are in the other files.
 ghost use Rattle.std.specs.Prelude.{◌≡◌, ◌<◌, ℕ, [], ◌∷◌, true, length, vec_len, None};
 ghost use Rattle.jc_lock.specs.declared.view.Stage.TheVariants.{Rests};
 ghost use Rattle.jc_lock.specs.Knowledge.{own, number_in, seen_in, mine_in};
@@ -28,14 +28,14 @@ pub type Place<K> = Seat<Option<K>, View<<K as Kept>::Entry, <K as Kept>::Origin
 #[derive(Drop)]
 pub struct HistoryLock<K: Kept> {
     pub(crate) table: Table<Option<K>, View<K::Entry, K::Origin>, Terms<K>, InTurn, Global>,
-    // One for each pass. With them `close` sees whether each number is there once.
+    // One for each pass: `close` checks with them that each number is there once.
     pub(crate) marks: Vec<bool>,
     ghost sized: { (table.shared.table_id.words ≡ 3) × (table.shared.table_id.slots ≡ 1) },
     ghost some_pass: { 0 < table.shared.key.passes },
     ghost marked: { vec_len marks ≡ table.shared.key.passes },
 }
 
-/// The right to take turns at one lock, so often as it has takes left.
+/// The right to take turns at one lock, as many as it has takes left.
 #[derive(Drop)]
 pub struct Pass<K: Kept> {
     pub(crate) number: u16,
@@ -49,11 +49,11 @@ pub struct Pass<K: Kept> {
     ghost no_slot: { length seat.me.1 ≡ 0 },
 }
 
-/// What a turn keeps beside the value.
+/// What a turn has beside the value.
 pub struct Held<K: Kept> {
     pub(crate) number: u16,
     pub(crate) left: u64,
-    // The length of the list as the turn began.
+    // The length of the list when the turn began.
     pub(crate) entries: u64,
     pub(crate) seat: Seat<Option<K>, View<K::Entry, K::Origin>>,
     ghost turn: { has_turn seat.me.0.stage ≡ true },
@@ -66,19 +66,19 @@ pub struct Held<K: Kept> {
 }
 
 /// A turn, with the lock's value. It can't be dropped: give it back.
-// The facts on the seat stand in `held`, so that a loan of the value leaves them alone.
+// The facts on the seat are in `held`, so that a borrow of the value leaves them alone.
 pub struct Turn<K: Kept> {
     pub(crate) value: K,
     pub(crate) held: Held<K>,
 }
 
-/// 42: the pass has made its takes.
+/// 42: the pass has no take left. It comes back unchanged.
 #[derive(Drop)]
 pub struct Spent<K: Kept> {
     pub pass: Pass<K>,
 }
 
-/// Why a lock was not opened.
+/// Why a lock wasn't opened.
 #[derive(Drop)]
 pub enum OpenFault {
     /// 40: a lock without a pass was asked for.
@@ -89,14 +89,14 @@ pub enum OpenFault {
     Memory,
 }
 
-/// The lock was not opened. The value comes back.
+/// The refusal of `open`. The value comes back.
 #[derive(Drop)]
 pub struct OpenRefused<K> {
     pub value: K,
     pub why: OpenFault,
 }
 
-/// 43: the passes handed in are not those of `open`, each once. Lock and passes come back as they were.
+/// 43: the passes aren't those of `open`, each once. Lock and passes come back unchanged.
 #[derive(Drop)]
 pub struct CloseRefused<K: Kept> {
     pub lock: HistoryLock<K>,

@@ -1,4 +1,4 @@
-//! Opening a lock, and dealing its passes.
+//! Opening a lock, the first call: the table with the value in its slot, and the passes.
 ghost use Rattle.std.specs.Prelude.{◌≡◌, ◌≤◌, ◌∷◌, [], IfOk, IfErr, Some, vec_len, vec_capacity};
 
 use crate::kept::Kept;
@@ -9,10 +9,11 @@ use atomic_table::{Refused, Table};
 use std::alloc::{AllocError, Global};
 use std::snapshot::Snapshot;
 
-/// The most takes of a pass.
+/// The greatest number of takes of a pass. All takes of all passes together then fit a word of the table.
 pub const MOST_TAKES: u64 = 1 << 40;
 
-/// The lock's table: how many tickets were drawn, which is due, how many entries there are; and the value.
+/// The lock's table. Its words are the tickets drawn, the ticket that is due, and the count of entries; its slot holds
+/// the value.
 type TurnTable<K> = Table<
     Option<K>,
     View<<K as Kept>::Entry, <K as Kept>::Origin>,
@@ -21,6 +22,7 @@ type TurnTable<K> = Table<
     Global,
 >;
 
+// Makes the list of slots, with the value in its one slot.
 fn one_slot<K>(alloc: Global, value: K) -> Result<Vec<Option<K>>, K>
     ensures ok { IfOk result (λ slots. slots.items ≡ Some value ∷ []) }
     ensures err { IfErr result (λ x. x ≡ value) }
@@ -34,6 +36,7 @@ fn one_slot<K>(alloc: Global, value: K) -> Result<Vec<Option<K>>, K>
     }
 }
 
+// Takes the value out of the list of slots.
 fn out_of_slot<K>(mut slots: Vec<Option<K>>) -> K
     requires { (x : K) × (slots.items ≡ Some x ∷ []) }
     ensures { slots.items ≡ Some result ∷ [] }
@@ -47,7 +50,7 @@ fn out_of_slot<K>(mut slots: Vec<Option<K>>) -> K
     }
 }
 
-/// The marks with which `close` checks the passes, and a list with room for the passes.
+/// Makes the marks with which `close` checks the passes, and a list with room for the passes.
 fn room_for<K: Kept>(alloc: Global, passes: usize) -> Result<(Vec<bool>, Vec<Pass<K>>), AllocError>
     ensures marks { IfOk result (λ room. vec_len room.0 ≡ passes) }
     ensures list { IfOk result (λ room. (room.1.items ≡ []) × (passes ≤ vec_capacity room.1)) }
@@ -64,6 +67,7 @@ impl<K: Kept> HistoryLock<K> {
     ghost use Rattle.jc_lock.specs.declared.view.Stage.TheVariants.{Rests};
     ghost use Rattle.jc_lock.specs.Knowledge.{blank};
     ghost use Rattle.jc_lock.specs.Steps.{first_dealer, rest_of_deal, IsSameSeat};
+    ghost use Rattle.jc_lock.specs.declared.open.TheConstants.{MOST_TAKES};
     ghost use Rattle.jc_lock.specs.Shows.{lock_passes, opened_value, pass_number, IsNewPass, IsRefusedFor};
 
     fn table_of(alloc: Global, value: K, terms: &Terms<K>) -> Result<(TurnTable<K>, Place<K>), K>
@@ -83,7 +87,7 @@ impl<K: Kept> HistoryLock<K> {
         }
     }
 
-    // Deals the next pass, which the seat knows first.
+    // Deals the next pass: its number is the first that the seat knows for.
     fn deal(&self, seat: &mut Place<K>, terms: &Terms<K>, number: u16) -> Pass<K>
         requires table { seat.old.table_id ≡ self.now.table.shared.table_id }
         requires rests { seat.old.me.0.stage ≡ Rests }
@@ -119,11 +123,11 @@ impl<K: Kept> HistoryLock<K> {
         }
     }
 
-    /// Makes a lock of a value without entries, and its passes, each with so many takes. They are numbered from 0, in
-    /// the list's order.
+    /// Makes a lock of a value without entries, and its passes; each pass has `takes` takes. The passes are numbered
+    /// from 0, in the list's order.
     ///
-    /// Refused, in this order: 40 where no pass is asked for, 41 where more than `MOST_TAKES` takes are, then want of
-    /// memory. The value comes back with the refusal.
+    /// Refused, in this order: 40 for no pass, 41 for more than `MOST_TAKES` takes, then want of memory. The value
+    /// comes back with the refusal.
     pub fn open(
         alloc: Global,
         value: K,
@@ -131,7 +135,7 @@ impl<K: Kept> HistoryLock<K> {
         takes: u64,
     ) -> Result<(HistoryLock<K>, Vec<Pass<K>>), OpenRefused<K>>
         requires { K.list value ≡ [] }
-        ensures allowed { IfOk result (λ r. (0 < passes) × (takes ≤ 2 ^ 40)) }
+        ensures allowed { IfOk result (λ r. (0 < passes) × (takes ≤ MOST_TAKES)) }
         ensures lock { IfOk result (λ r. (lock_passes r.0 ≡ passes) × (opened_value r.0 ≡ value)) }
         ensures numbers { IfOk result (λ r. map pass_number r.1.items ≡ range_with_len 0 passes) }
         ensures new { IfOk result (λ r. All (IsNewPass r.0 takes (K.origin value)) r.1.items) }

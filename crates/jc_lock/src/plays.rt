@@ -1,4 +1,4 @@
-//! What each step on the lock's words tells, and how seats are cut in two and joined.
+//! The kinds of steps at the lock's table, and how a seat is split or joined: steps.rt, open.rt and close.rt name them.
 ghost use Rattle.jc_lock.specs.Steps.{Draws, Looks, PassesOn, Publishes, ReadsWord, rest_of_deal, next_of_deal, join_of, spent_view};
 
 use crate::kept::Kept;
@@ -12,14 +12,14 @@ impl<K: Kept> Play<Option<K>, View<K::Entry, K::Origin>> for Draw {
     ghost then = { Draws };
 }
 
-/// Looks whether the ticket is due, and takes the value's slot where it is.
+/// Looks whether the ticket is due, and if so takes the value's slot.
 pub(crate) struct Look;
 
 impl<K: Kept> Play<Option<K>, View<K::Entry, K::Origin>> for Look {
     ghost then = { Looks K.origin K.list K.maker };
 }
 
-/// Counts the entry that the value in the slot has more.
+/// Counts the entry that was added to the value in the slot.
 pub(crate) struct Publish;
 
 impl<K: Kept> Play<Option<K>, View<K::Entry, K::Origin>> for Publish {
@@ -40,7 +40,7 @@ impl<K: Kept> Play<Option<K>, View<K::Entry, K::Origin>> for Read {
     ghost then = { ReadsWord K.maker };
 }
 
-/// Makes the seat of the next pass.
+/// Splits off the seat of the next pass.
 pub(crate) struct Deal;
 
 impl<E, O> Split<View<E, O>> for Deal {
@@ -49,7 +49,7 @@ impl<E, O> Split<View<E, O>> for Deal {
     ghost right = { next_of_deal };
 }
 
-/// Takes in the seat of a pass.
+/// Joins the seat of a pass to the seat that closes the lock.
 pub(crate) struct Gather;
 
 impl<E, O> Join<View<E, O>> for Gather {

@@ -1,4 +1,4 @@
-//! What a pass and a turn show.
+//! What callers read of a pass and of a turn: their numbers, and the turn's value.
 use crate::kept::Kept;
 use crate::lock::{Pass, Turn};
 
@@ -27,13 +27,14 @@ impl<K: Kept> Turn<K> {
         self.held.number
     }
 
+    /// The lock's value.
     pub fn value(&self) -> &K
         ensures { result.now ≡ turn_value self.now }
     {
         &self.value
     }
 
-    /// Lends the value. All else of the turn stays.
+    /// Lends the value to be changed. All else of the turn stays.
     pub fn value_mut(&mut self) -> &mut K
         ensures* writes_back { sem 𝓛 (LendsValue K.row K.Entry.row K.Origin.row K.Kept self.entry result) }
         ensures value { result.now ≡ turn_value self.old }

@@ -1,4 +1,4 @@
-//! The steps of a turn and of a look, each on the seat alone.
+//! The steps that a turn and a count are made of, each on one seat: turns.rt puts them together.
 ghost use Rattle.std.specs.Prelude.{◌≡◌, ◌∷◌, [], ◌++◌, ◌<◌, ◌^◌, List, length, true, None, Some};
 ghost use Rattle.jc_lock.specs.declared.view.Stage.TheVariants.{Rests, Waits};
 ghost use Rattle.jc_lock.specs.Knowledge.{own, number_in, seen_in, mine_in, Continues};
@@ -10,14 +10,16 @@ use crate::lock::{HistoryLock, Place};
 use crate::plays::{Draw, Look, PassOn, Publish, Read};
 use std::sync::Wait;
 
-/// The words of the table.
+/// The word with the number of tickets drawn.
 const DRAWN: usize = 0;
 
+/// The word with the ticket that is due.
 const DUE: usize = 1;
 
+/// The word with the count of entries.
 const COUNT: usize = 2;
 
-/// A thread parks on the low half of a word.
+/// The low half of a word. A thread parks on it.
 const LOW_HALF: u64 = 0xffff_ffff;
 
 impl<K: Kept> HistoryLock<K> {
@@ -78,7 +80,7 @@ impl<K: Kept> HistoryLock<K> {
         }
     }
 
-    /// Counts one entry more, which the value in the slot has.
+    /// Counts the entry that was added to the value in the slot.
     pub(crate) fn publish(&self, seat: &mut Place<K>)
         requires table { seat.old.table_id ≡ self.now.table.shared.table_id }
         requires turn { has_turn seat.old.me.0.stage ≡ true }

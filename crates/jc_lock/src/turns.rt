@@ -1,4 +1,4 @@
-//! Taking a turn, giving it back, and counting without one.
+//! The calls on an open lock: take a turn, give it back, and count the entries without a turn.
 use crate::kept::Kept;
 use crate::lock::{Held, HistoryLock, Pass, Spent, Turn};
 use std::sync::Wait;
@@ -9,9 +9,9 @@ impl<K: Kept> HistoryLock<K> {
     ghost use Rattle.jc_lock.specs.Knowledge.{own};
     ghost use Rattle.jc_lock.specs.Shows.{IsPassOf, IsTurnOf, pass_number, pass_left, pass_origin, pass_seen, pass_mine, turn_number, turn_left, turn_origin, turn_seen, turn_mine, turn_value, AddsOneAtMost};
 
-    /// Waits for the pass's turn. The turn has the value, whose list begins with all that the pass has seen.
+    /// Waits for the pass's turn. The turn has the value; what the pass has seen is a prefix of its list.
     ///
-    /// 42 exactly where the pass has made its takes: then it doesn't wait, and the pass comes back as it was.
+    /// 42 exactly where the pass has no take left: then the call doesn't wait, and the pass comes back unchanged.
     pub fn take<R: Wait>(&self, rt: &R, pass: Pass<K>) -> Result<Turn<K>, Spent<K>>
         requires { IsPassOf self.now pass }
         ensures lock { IfOk result (λ t. IsTurnOf self.now t) }
@@ -46,8 +46,8 @@ impl<K: Kept> HistoryLock<K> {
         Ok(Turn { value, held })
     }
 
-    /// Gives a turn of this lock back. The value's origin must be as it was taken, and so must its list, or it has one
-    /// entry more, which names the turn's pass. The entry stands in the history from then on.
+    /// Gives a turn of this lock back. The value's origin must be the one that was taken. Its list must be the one that
+    /// was taken, or that list and one more entry, made under the turn's pass. The entry is then in the history.
     pub fn give(&self, turn: Turn<K>) -> Pass<K>
         requires lock { IsTurnOf self.now turn }
         requires origin { turn_origin turn ≡ Some (K.origin (turn_value turn)) }
@@ -56,7 +56,7 @@ impl<K: Kept> HistoryLock<K> {
         ensures number { (pass_number result ≡ turn_number turn) × (pass_left result ≡ turn_left turn) }
         ensures origin { pass_origin result ≡ turn_origin turn }
         ensures seen { pass_seen result ≡ K.list (turn_value turn) }
-        // the new entry, where there is one
+        // the new entry, if there is one
         ensures mine { pass_mine result ≡ turn_mine turn ++ drop (length (turn_seen turn)) (K.list (turn_value turn)) }
         ensures own { own K.maker (pass_seen result) (pass_number result) ≡ pass_mine result }
     {
@@ -76,7 +76,7 @@ impl<K: Kept> HistoryLock<K> {
         Pass { number, left, seat }
     }
 
-    /// The length of the history, which the pass has then seen. It waits for nobody.
+    /// Returns the length of the history, and the pass has then seen it. The call waits for nobody.
     pub fn count(&self, pass: &mut Pass<K>) -> u64
         requires { IsPassOf self.now pass.old }
         ensures lock { IsPassOf self.now pass.new }

@@ -1,4 +1,4 @@
-//! Passes taken out of a list and handed in.
+//! What the tests share: they take passes out of a list and put them back.
 mod counter;
 mod diary;
 

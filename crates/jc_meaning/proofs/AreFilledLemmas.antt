@@ -1,4 +1,4 @@
--- No presence set is empty.
+-- About specs/Meaning: writes into a tree leave no presence set empty (`AreFilled`).
 use Rattle.std.proofs.Common.{◌≡◌, ◌≢◌, List, [], ◌∷◌, Option, Some, None, refl, subst}
 use Rattle.std.specs.List.{AllByRecursion}
 use Rattle.std.specs.Ordering.{match_ordering}
@@ -18,6 +18,7 @@ use Rattle.jc_rules.specs.ContextsAt.{node_at, with_node_at}
 use Rattle.jc_rules.proofs.OrderLemmas.{keys_total, exact_keys}
 use Rattle.jc_rules.proofs.EntriesLemmas.{value-found, values-put}
 use Rattle.jc_rules.proofs.ContextsAtLemmas.{node_found}
+use Rattle.jc_rules.proofs.ContextLemmas.{none_some}
 use Rattle.jc_meaning.specs.Meaning.{AreFilled, AreAllFilled}
 
 each_filled : (cs : Children) → AreAllFilled cs → AllByRecursion (λ e. AreFilled e.1) (listed cs)
@@ -28,16 +29,13 @@ all_filled : (es : List (Key × Context)) → AllByRecursion (λ e. AreFilled e.
 all_filled [] h = tt
 all_filled (e ∷ es) h = (h.0, all_filled es h.1)
 
-pub nothing_there : {A : Type 0} {x : Context} → None ≡ Some x → A
-nothing_there e = absurd (let f : ⊥ = cc in f)
-
 filled_below : (t : Tagged) (d c : Context) → AreFilled c → content t c ≡ Some (Node d) → AreFilled d
 filled_below (MapT k) d (context m l r p n) h e = value-found keys_total exact_keys AreFilled k d (listed m) (each_filled m h.1) (node_found (find key_cmp k (listed m)) d e)
 filled_below (ListT k) d (context m l r p n) h e = value-found keys_total exact_keys AreFilled k d (listed l) (each_filled l h.2) (node_found (find key_cmp k (listed l)) d e)
 filled_below (RegT k) d (context m l r p n) h e = no_node (find key_cmp k r) e
   where
     no_node : (o : Option Register) → values_of o ≡ Some (Node d) → AreFilled d
-    no_node None f = nothing_there {x = d} (let g : ⊥ = cc in absurd g)
+    no_node None f = none_some {d = d} (let g : ⊥ = cc in absurd g)
     no_node (Some v) f = let g : ⊥ = cc in absurd g
 
 filled_node : (t : Tagged) (e c : Context) → AreFilled c → AreFilled e → AreFilled (with_content t (Node e) c)
@@ -74,8 +72,8 @@ filled_at [] c x e h = subst AreFilled (same_Some c x e) h
 filled_at (a ∷ ks) c x e h = go (content a c) refl (λ d. filled_at ks d x) e
   where
     go : (o : Option Content) → content a c ≡ o → ((d : Context) → node_at ks d ≡ Some x → AreFilled d → AreFilled x) → node_at (a ∷ ks) c ≡ Some x → AreFilled x
-    go None f ih g = nothing_there (rw f at g)
-    go (Some (Values r)) f ih g = nothing_there (rw f at g)
+    go None f ih g = none_some (rw f at g)
+    go (Some (Values r)) f ih g = none_some (rw f at g)
     go (Some (Node d)) f ih g = ih d (rw f at g) (filled_below a d c h f)
 
 -- the whole, with another one there
@@ -84,6 +82,6 @@ filled_whole [] y c x e g h = g
 filled_whole (a ∷ ks) y c x e g h = go (content a c) refl (λ d f. filled_whole ks y d x f g) e
   where
     go : (o : Option Content) → content a c ≡ o → ((d : Context) → node_at ks d ≡ Some x → AreFilled d → AreFilled (with_node_at ks y d)) → node_at (a ∷ ks) c ≡ Some x → AreFilled (with_node_at (a ∷ ks) y c)
-    go None f ih k = nothing_there (rw f at k)
-    go (Some (Values r)) f ih k = nothing_there (rw f at k)
+    go None f ih k = none_some (rw f at k)
+    go (Some (Values r)) f ih k = none_some (rw f at k)
     go (Some (Node d)) f ih k = rw f (filled_node a (with_node_at ks y d) c h (ih d (rw f at k) (filled_below a d c h f)))

@@ -1,4 +1,5 @@
--- A chain gets one element more at its end; lists of operations one after another; the links of all lists.
+-- About specs/Growth and Listing: a chain gets one more element at its end, lists are linked one after another, and so
+-- are all lists (`LinksIds`, `AreLinked`).
 use Rattle.std.proofs.Common.{◌≡◌, ◌≢◌, ℕ, suc, ◌+◌, ◌<◌, List, [], ◌∷◌, ◌++◌, length, take, drop, get_or, Bool, true, false, ◌||◌, ◌&&◌, cond, Option, Some, None, inl, inr, refl, sym, ◌∙◌, ap, subst}
 use Rattle.std.specs.List.{AllByRecursion}
 use Rattle.std.proofs.Math.Seq.{drop-cons}
@@ -16,30 +17,28 @@ use Rattle.jc_rules.specs.declared.key.Tagged.TheVariants.{MapT, ListT, RegT}
 use Rattle.jc_rules.specs.Context.{Context, context, next, with_next}
 use Rattle.jc_rules.specs.ContextsAt.{with_node_at, node_at}
 use Rattle.jc_rules.specs.WellFormed.{AreDistinct, chain_of, elements}
+use Rattle.jc_rules.proofs.BoolLemmas.{neither, or_false}
+use Rattle.jc_tree.proofs.LinkedLemmas.{last_of}
 use Rattle.jc_meaning.specs.Effects.{same_path, list_at, is_insert}
 use Rattle.jc_meaning.specs.Seen.{seen, ids_at, value_seen_at, has_tag}
 use Rattle.jc_meaning.specs.Forest.{preorder, follow}
 use Rattle.jc_meaning.specs.Meaning.{some_op, AreFilled}
 use Rattle.jc_meaning.specs.Growth.{LinksIds}
 use Rattle.jc_meaning.specs.Listing.{IsListing, inserts_at, unlinked, AreLinked, LinksNew}
-use Rattle.jc_meaning.proofs.BooleansLemmas.{no_first, no_second}
 use Rattle.jc_meaning.proofs.ChainLemmas.{key_in}
 use Rattle.jc_meaning.proofs.NextOperationLemmas.{paths_eq}
 use Rattle.jc_meaning.proofs.AreFilledLemmas.{filled_next, filled_at, filled_whole}
 use Rattle.jc_meaning.proofs.ForestOfOpsLemmas.{once_at}
-use Rattle.jc_meaning.proofs.InsertEffectsLemmas.{next_next}
+use Rattle.jc_meaning.proofs.InsertEffectsLemmas.{next_next, next_seen, next_ids, next_value}
 use Rattle.jc_meaning.proofs.OrdersLemmas.{keys_eq, keys_back, keys_self}
 use Rattle.jc_meaning.proofs.ForestOnceLemmas.{distinct_from, head_out}
 use Rattle.jc_meaning.proofs.InsertWalkLemmas.{Distinct}
-use Rattle.jc_meaning.proofs.GrowthWriteLemmas.{node_seen, tag_still, id_still, value_still, next_still, same_seen, write_seen}
+use Rattle.jc_meaning.proofs.GrowthWriteLemmas.{tag_still, id_still, value_still, next_still, same_seen, write_seen}
+use Rattle.jc_meaning.proofs.SeenLemmas.{node_seen}
 
 -- ---- the end of a chain
 
-abbrev pub end_of : Key → List Id → Key
-end_of j [] = j
-end_of j (n ∷ ns) = end_of (K.Elem n) ns
-
-pub end_more : (j : Key) (ns : List Id) (o : Id) → end_of j (ns ++ o ∷ []) ≡ K.Elem o
+pub end_more : (j : Key) (ns : List Id) (o : Id) → last_of j (ns ++ o ∷ []) ≡ K.Elem o
 end_more j [] o = refl
 end_more j (n ∷ ns) o = end_more (K.Elem n) ns o
 
@@ -48,7 +47,7 @@ abbrev pub IsOut : Key → List Key → Type 0
 IsOut k ks = AllByRecursion (λ q. q ≢ k) ks
 
 -- the end of a chain isn't a key that stands nowhere in it
-end_out : (k : Key) (n : Id) (ns : List Id) → IsOut k (elements (n ∷ ns)) → end_of (K.Elem n) ns ≢ k
+end_out : (k : Key) (n : Id) (ns : List Id) → IsOut k (elements (n ∷ ns)) → last_of (K.Elem n) ns ≢ k
 end_out k n [] h = h.0
 end_out k n (m ∷ ms) h = end_out k m ms h.1
 
@@ -65,18 +64,18 @@ apart : (i j k : Key) → i ≢ j → same_key i k ≡ true → same_key j k ≡
 apart i j k h e f = h (keys_eq i k e ∙ sym (keys_eq j k f))
 
 pub follow_more : (j : Key) (ns : List Id) (o : Id) → AreDistinct (j ∷ elements ns) → IsOut (K.Elem o) (j ∷ elements ns) → (k : Key)
-    → follow j (ns ++ o ∷ []) k ≡ cond (same_key (K.Elem o) k) (Some Tail) (cond (same_key (end_of j ns) k) (Some (To o)) (follow j ns k))
+    → follow j (ns ++ o ∷ []) k ≡ cond (same_key (K.Elem o) k) (Some Tail) (cond (same_key (last_of j ns) k) (Some (To o)) (follow j ns k))
 follow_more j [] o d out k = swap (same_key j k) (same_key (K.Elem o) k) (Some (To o)) (Some Tail) None (apart j (K.Elem o) k out.0) ∙ ap (λ z. cond (same_key (K.Elem o) k) (Some Tail) z) (twice (same_key j k) (Some (To o)) (Some Tail) None)
 follow_more j (n ∷ ns) o d out k =
     ap (λ z. cond (same_key j k) (Some (To n)) z) (follow_more (K.Elem n) ns o d.1 out.1 k)
-    ∙ swap (same_key j k) (same_key (K.Elem o) k) (Some (To n)) (Some Tail) (cond (same_key (end_of (K.Elem n) ns) k) (Some (To o)) (follow (K.Elem n) ns k)) (apart j (K.Elem o) k out.0)
-    ∙ ap (λ z. cond (same_key (K.Elem o) k) (Some Tail) z) (swap (same_key j k) (same_key (end_of (K.Elem n) ns) k) (Some (To n)) (Some (To o)) (follow (K.Elem n) ns k) (λ e f. end_out j n ns d.0 (keys_eq (end_of (K.Elem n) ns) k f ∙ sym (keys_eq j k e))))
+    ∙ swap (same_key j k) (same_key (K.Elem o) k) (Some (To n)) (Some Tail) (cond (same_key (last_of (K.Elem n) ns) k) (Some (To o)) (follow (K.Elem n) ns k)) (apart j (K.Elem o) k out.0)
+    ∙ ap (λ z. cond (same_key (K.Elem o) k) (Some Tail) z) (swap (same_key j k) (same_key (last_of (K.Elem n) ns) k) (Some (To n)) (Some (To o)) (follow (K.Elem n) ns k) (λ e f. end_out j n ns d.0 (keys_eq (last_of (K.Elem n) ns) k f ∙ sym (keys_eq j k e))))
 
 -- ---- a listing's elements differ
 
 out_elements : (k : Key) (ns : List Id) → key_in k ns ≡ false → IsOut k (elements ns)
 out_elements k [] h = tt
-out_elements k (n ∷ ns) h = (λ e. let yes : same_key (K.Elem n) k ≡ true = ap (λ q. same_key q k) e ∙ keys_self k in let z : true ≡ false = sym yes ∙ no_first (same_key (K.Elem n) k) (key_in k ns) h in cc, out_elements k ns (no_second (same_key (K.Elem n) k) (key_in k ns) h))
+out_elements k (n ∷ ns) h = (λ e. let yes : same_key (K.Elem n) k ≡ true = ap (λ q. same_key q k) e ∙ keys_self k in let z : true ≡ false = sym yes ∙ (neither (same_key (K.Elem n) k) (key_in k ns) h).0 in cc, out_elements k ns ((neither (same_key (K.Elem n) k) (key_in k ns) h).1))
 
 distinct_elements : (j : Key) (ns : List Id) → Distinct j ns → AreDistinct (j ∷ elements ns)
 distinct_elements j [] d = (tt, tt)
@@ -89,21 +88,10 @@ listing_differs O P is l =
 
 -- ---- two links are written
 
-next_seen : (k : Key) (x : Next) (u : Tagged) (P : List Tagged) (c : Context) → seen (u ∷ P) (with_next k x c) ≡ seen (u ∷ P) c
-next_seen k x (MapT j) P (context m l r p n) = refl
-next_seen k x (ListT j) P (context m l r p n) = refl
-next_seen k x (RegT j) P (context m l r p n) = refl
-
 next_tag : (k : Key) (x : Next) (u : Tagged) (c : Context) → has_tag u (with_next k x c) ≡ has_tag u c
 next_tag k x (MapT j) (context m l r p n) = refl
 next_tag k x (ListT j) (context m l r p n) = refl
 next_tag k x (RegT j) (context m l r p n) = refl
-
-next_ids : (k : Key) (x : Next) (c : Context) (l : Key) → ids_at l (with_next k x c) ≡ ids_at l c
-next_ids k x (context m l2 r p n) l = refl
-
-next_value : (k : Key) (x : Next) (c : Context) (l : Key) (j : Id) → value_seen_at j l (with_next k x c) ≡ value_seen_at j l c
-next_value k x (context m l2 r p n) l j = refl
 
 -- one link is written
 pub record LinksOne (at : List Tagged) (k : Key) (x : Next) (c d : Context) : Type 0 where
@@ -143,7 +131,7 @@ links_none at c h = record {
     go P k true w = ap (λ Q. next k (seen Q c)) (sym (paths_eq at P w)) ∙ h k
     go P k false w = refl
 
-pub links_more : (at : List Tagged) (is : List Id) (o : Id) (last : Key) (a b c d : Context) → last ≡ end_of K.Head is → AreDistinct (chain_of is) → IsOut (K.Elem o) (chain_of is)
+pub links_more : (at : List Tagged) (is : List Id) (o : Id) (last : Key) (a b c d : Context) → last ≡ last_of K.Head is → AreDistinct (chain_of is) → IsOut (K.Elem o) (chain_of is)
     → LinksIds at is a b → LinksOne at last (To o) b c → LinksOne at (K.Elem o) Tail c d → LinksIds at (is ++ o ∷ []) a d
 links_more at is o last a b c d end differ out x y z = record {
   tags = λ P u. z.tags P u ∙ y.tags P u ∙ x.tags P u;
@@ -198,12 +186,8 @@ linked_still os O o c inserts_not l = record {
   rest = λ P e. l.rest P (ap (λ b. list_at false P && b) (sym (same P)) ∙ e);
 }
   where
-    or_none : (b : Bool) → (b || false) ≡ b
-    or_none true = refl
-    or_none false = refl
-
     same : (P : List Tagged) → some_op (inserts_at P) (os ++ o ∷ []) ≡ some_op (inserts_at P) os
-    same P = some_more (inserts_at P) os o ∙ ap (λ b. some_op (inserts_at P) os || (b && same_path o.cursor.path P)) inserts_not ∙ or_none (some_op (inserts_at P) os)
+    same P = some_more (inserts_at P) os o ∙ ap (λ b. some_op (inserts_at P) os || (b && same_path o.cursor.path P)) inserts_not ∙ or_false (some_op (inserts_at P) os)
 
 unlinked_head : (b : Bool) → b ≡ true → unlinked b K.Head ≡ Some Tail
 unlinked_head true e = refl
@@ -279,13 +263,9 @@ linked_more os O o c d is l (inr (tail, ids, listing, links)) = record { done = 
     done : (P : List Tagged) → list_at false P ≡ true → some_op (inserts_at P) (os ++ o ∷ []) ≡ true → (is : List Id) × IsListing O P is × ((k : Key) → next k (seen P d) ≡ follow K.Head is k)
     done P list e = go (same_path o.cursor.path P) refl
       where
-        or_none : (b : Bool) → (b || false) ≡ b
-        or_none true = refl
-        or_none false = refl
-
         go : (b : Bool) → same_path o.cursor.path P ≡ b → (is : List Id) × IsListing O P is × ((k : Key) → next k (seen P d) ≡ follow K.Head is k)
         go true f = (ids, subst (λ Q. IsListing O Q ids) (paths_eq o.cursor.path P f) listing, λ k. links.links P k ∙ ap (λ z. cond z (follow K.Head ids k) (next k (seen P c))) f)
-        go false f = listed_still O P c d (away P f) (l.done P list (sym (some P ∙ ap (λ z. some_op (inserts_at P) os || z) f ∙ or_none (some_op (inserts_at P) os)) ∙ e))
+        go false f = listed_still O P c d (away P f) (l.done P list (sym (some P ∙ ap (λ z. some_op (inserts_at P) os || z) f ∙ or_false (some_op (inserts_at P) os)) ∙ e))
 
     rest : (P : List Tagged) → (list_at false P && some_op (inserts_at P) (os ++ o ∷ [])) ≡ false → (k : Key) → next k (seen P d) ≡ unlinked (list_at false P) k
     rest P e k = go (same_path o.cursor.path P) refl
@@ -315,10 +295,10 @@ module _ (ids : List Id) (n : ℕ) (z : Id) (h : n < length ids) where
   taken_more : take (n + 1) ids ≡ take n ids ++ this_one ∷ []
   taken_more = take_more ids n z h
 
-  pub last_on : K.Elem this_one ≡ end_of K.Head (take (n + 1) ids)
-  last_on = sym (ap (end_of K.Head) taken_more ∙ end_more K.Head (take n ids) this_one)
+  pub last_on : K.Elem this_one ≡ last_of K.Head (take (n + 1) ids)
+  last_on = sym (ap (last_of K.Head) taken_more ∙ end_more K.Head (take n ids) this_one)
 
-  pub link_on : (at : List Tagged) (last : Key) (a b c d x y : Context) → AreDistinct (chain_of ids) → last ≡ end_of K.Head (take n ids) → LinksIds at (take n ids) a b
+  pub link_on : (at : List Tagged) (last : Key) (a b c d x y : Context) → AreDistinct (chain_of ids) → last ≡ last_of K.Head (take n ids) → LinksIds at (take n ids) a b
       → node_at at b ≡ Some x → c ≡ with_node_at at (with_next last (To this_one) x) b → node_at at c ≡ Some y → d ≡ with_node_at at (with_next (K.Elem this_one) Tail y) c
       → LinksIds at (take (n + 1) ids) a d
   link_on at last a b c d x y differ end linked e f g k =

@@ -1,4 +1,4 @@
--- What clearing takes away: by rule induction.
+-- About specs/ClearingEffects: what clearing takes away, by rule induction (the motives, and clearing maps and lists).
 use Rattle.std.proofs.Common.{◌≡◌, List, [], ◌∷◌, ◌++◌, Bool, true, false, not, ◌||◌, ◌&&◌, cond, Option, Some, None, is_some, filter, refl, sym, ◌∙◌, ap, subst}
 use Rattle.std.specs.declared.cmp.Ordering.{Ordering}
 use Rattle.std.specs.declared.cmp.Ordering.TheVariants.{Less, Equal, Greater}
@@ -25,6 +25,7 @@ use Rattle.jc_rules.specs.Derivation.{Operate, Child, AddId, Presence, Clear, Cl
 use Rattle.jc_rules.specs.Table.{Follows, Holds, AllHold, moved, kept, is_done, least_left, IsBefore, op_of}
 use Rattle.jc_rules.specs.WellFormed.{LeadsThrough, elements}
 use Rattle.jc_rules.proofs.IdsLemmas.{has_id-union}
+use Rattle.jc_rules.proofs.BoolLemmas.{first_true}
 use Rattle.jc_meaning.specs.Effects.{same_tagged}
 use Rattle.jc_meaning.specs.Seen.{context_or_new, seen, ids_at, reg_at, value_in_some, value_seen_at, has_tag}
 use Rattle.jc_meaning.proofs.ClearingEffectsLemmas.{nowhere, and_true, takes_none, takes_both, IsDownward, tidy_after, ids_empty, value_empty, below_reg, ids_below_new, value_below_new, no_value, widen, leads_still}
@@ -34,7 +35,6 @@ use Rattle.jc_meaning.proofs.InductionLemmas.{All}
 use Rattle.jc_meaning.proofs.OperationActsLemmas.{OfOperate, OfChild, OfAdd}
 use Rattle.jc_meaning.specs.ClearingEffects.{is_tagged, Tidy, TakesAway, in_key}
 use Rattle.jc_meaning.proofs.OrdersLemmas.{keys_eq, keys_back}
-use Rattle.jc_meaning.proofs.BooleansLemmas.{first_true}
 
 abbrev pub below_key : Key → List Tagged → Key → Bool
 below_key k [] l = false

@@ -1,4 +1,4 @@
--- What clearing takes away: the rest of the rule induction, and the law.
+-- About specs/ClearingEffects: what clearing takes away, the other cases of the rule induction.
 use Rattle.std.proofs.Common.{◌≡◌, List, [], ◌∷◌, Bool, true, false, not, ◌||◌, ◌&&◌, cond, Option, Some, None, is_some, refl, sym, ◌∙◌, ap, subst}
 use Rattle.jc_rules.specs.declared.id.Id.{Id}
 use Rattle.jc_rules.specs.declared.key.Key.{Key}
@@ -16,6 +16,7 @@ use Rattle.jc_rules.specs.declared.rule.Rule.TheVariants as R
 use Rattle.jc_rules.specs.Derivation.{Presence, Clear, ClearAny, ClearElem, ClearMap, ClearList, Answer, ToIds, Cleared, Judgement, gives}
 use Rattle.jc_rules.specs.Table.{Follows, kept}
 use Rattle.jc_rules.proofs.IdsLemmas.{has_id-union, has_id-without}
+use Rattle.jc_rules.proofs.BoolLemmas.{or_false}
 use Rattle.jc_meaning.specs.Seen.{context_or_new, seen, ids_of_some, ids_at, reg_at, value_seen_at, has_tag}
 use Rattle.jc_meaning.proofs.ClearingEffectsLemmas.{and_true, takes_both, tidy_after, widen}
 use Rattle.jc_meaning.proofs.TagsLemmas.{presence_seen, presence_tag, presence_value, presence_next, presence_ids, has_found, find_kept}
@@ -79,10 +80,6 @@ clear_case _ c deps t a js h hs = absurd h
 
 abbrev pub or_in : (p q : List Tagged → Key → Bool) → List Tagged → Key → Bool
 or_in p q P l = p P l || q P l
-
-or_false : (x : Bool) → (x || false) ≡ x
-or_false true = refl
-or_false false = refl
 
 three_tags : (k : Key) (P : List Tagged) (l : Key) → (or_in (in_tag (MapT k)) (in_tag (ListT k)) P l || in_tag (RegT k) P l) ≡ below_key k P l
 three_tags k [] l = refl

@@ -1,4 +1,4 @@
--- What clearing needs of a context, and what it takes away.
+-- About specs/ClearingEffects: what clearing needs of a context (`Tidy`), and what it takes away (`TakesAway`).
 use Rattle.std.proofs.Common.{◌≡◌, List, [], ◌∷◌, ◌++◌, Bool, true, false, not, ◌||◌, ◌&&◌, cond, Option, Some, None, is_some, refl, sym, ◌∙◌, ap, subst}
 use Rattle.jc_rules.specs.declared.id.Id.{Id}
 use Rattle.jc_rules.specs.declared.key.Key.{Key}
@@ -12,10 +12,10 @@ use Rattle.jc_rules.specs.Ids.{has_id}
 use Rattle.jc_rules.specs.Context.{Context, maps, lists, registers, Register, node_of, values_of, content, next, empty, empty_list, key_of_tagged}
 use Rattle.jc_rules.specs.ContextsAt.{first_key}
 use Rattle.jc_rules.specs.WellFormed.{LeadsThrough}
+use Rattle.jc_rules.proofs.BoolLemmas.{first_true}
 use Rattle.jc_meaning.specs.Effects.{list_at}
 use Rattle.jc_meaning.specs.Seen.{context_or_new, seen, ids_at, reg_at, value_in_some, value_seen_at, has_tag}
 use Rattle.jc_meaning.specs.ClearingEffects.{is_tagged, TidyAt, Tidy, TakesAway}
-use Rattle.jc_meaning.proofs.BooleansLemmas.{first_true}
 
 abbrev pub nowhere : List Tagged → Key → Bool
 nowhere P l = false

@@ -1,4 +1,5 @@
--- Two contexts are one, but for empty presence sets, where the same stands under each key.
+-- About specs/Compared: two contexts are the same, but for empty presence sets, where they are the same under each key.
+-- The proofs of `sameness` use it.
 use Rattle.std.proofs.Common.{◌≡◌, ◌≢◌, ◌<◌, List, [], ◌∷◌, ◌++◌, Bool, true, false, cond, Option, Some, None, is_some, filter, refl, sym, ◌∙◌, ap, subst}
 use Rattle.std.specs.List.{AllByRecursion}
 use Rattle.std.specs.Ordering.{is_lt}
@@ -23,6 +24,7 @@ use Rattle.jc_rules.proofs.RisingLemmas as rising
 use Rattle.jc_meaning.proofs.ClearingEffectsLemmas.{tag_of_key}
 use Rattle.jc_rules.proofs.OrderLemmas.{keys_total, exact_keys}
 use Rattle.jc_rules.proofs.ContextsAtLemmas.{there, node-below}
+use Rattle.jc_rules.proofs.BoolLemmas.{none_of}
 use Rattle.jc_tree.specs.Tree.{Tree, HasPlace, here, is_after, least_after}
 use Rattle.jc_tree.specs.Nested.{nested}
 use Rattle.jc_tree.proofs.PlacesLemmas.{some_place}
@@ -76,12 +78,8 @@ module _ (Q : Key → Type 0) (ks : List Key) (absent : (k : Key) → is_done ks
       go false y = absent k y
       go true y = old k (in_all (λ j. is_after last j ≡ false) ks k (none_is last ks e) y)
 
-no_some : {X : Type 0} (o : Option X) → is_some o ≡ false → o ≡ None
-no_some None e = refl
-no_some (Some x) e = cc
-
 not_found : {X : Type 0} (es : List (Key × X)) (k : Key) → is_done (keys_of es) k ≡ false → find key_cmp k es ≡ None
-not_found es k e = no_some (find key_cmp k es) (sym (done_found es k) ∙ e)
+not_found es k e = none_of (find key_cmp k es) (sym (done_found es k) ∙ e)
 
 pub no_link : (c d : Context) (k : Key) → is_done (keys_of (links c)) k ≡ false → HasLink c d k
 no_link c d k e n f = let none : None ≡ Some n = sym (not_found (links c) k e) ∙ f in cc
@@ -252,7 +250,7 @@ no_key c d k e f =
     }
   where
     absent : (t : Tagged) (x : Context) → is_tagged (key_of_tagged t) x ≡ false → node_in (content t x) ≡ None
-    absent t x g = ap node_in (no_some (content t x) (tag_of_key t x g))
+    absent t x g = ap node_in (none_of (content t x) (tag_of_key t x g))
 
     both_none : (x y : Option Context) → x ≡ None → y ≡ None → Both SameTree x y
     both_none None None g h = tt

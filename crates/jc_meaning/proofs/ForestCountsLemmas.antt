@@ -1,14 +1,11 @@
--- How often an identifier stands in a forest.
+-- About specs/Forest: how often an identifier occurs in a forest.
 use Rattle.std.proofs.Common.{◌≡◌, ℕ, ◌+◌, List, [], ◌∷◌, ◌++◌, Bool, true, false, ◌&&◌, Option, Some, None, refl, sym, ◌∙◌, ap, arith}
 use Rattle.jc_rules.specs.declared.id.Id.{Id}
 use Rattle.jc_rules.specs.declared.key.Key.{Key}
 use Rattle.jc_rules.specs.declared.key.Key.TheVariants as K
 use Rattle.jc_rules.specs.Order.{id_cmp, same_id, same_key}
+use Rattle.jc_tree.proofs.CountedLemmas.{one_if}
 use Rattle.jc_meaning.specs.Forest.{Forest, bare, tree, preorder, is_less, is_under, Hangs}
-
-abbrev pub one_if : Bool → ℕ
-one_if true = 1
-one_if false = 0
 
 abbrev pub count : Id → List Id → ℕ
 count i [] = 0

@@ -1,4 +1,4 @@
--- The forest of a list with one insert more.
+-- About specs/Forest and Meaning: the forest of a list with one more insert.
 use Rattle.std.proofs.Common.{◌≡◌, ◌<◌, List, ◌∷◌, Bool, true, false, ◌||◌, ◌&&◌, None, refl, sym, ◌∙◌, ap, subst}
 use Rattle.jc_rules.specs.declared.id.Id.{Id}
 use Rattle.jc_rules.specs.declared.key.Key.{Key}
@@ -8,10 +8,10 @@ use Rattle.jc_rules.specs.declared.operation.Op.{Op}
 use Rattle.jc_rules.specs.Order.{id_cmp, same_id, same_key}
 use Rattle.jc_rules.specs.Ids.{has_id}
 use Rattle.jc_rules.proofs.IdsLemmas.{same_id-true}
+use Rattle.jc_rules.proofs.BoolLemmas.{not_so}
 use Rattle.jc_meaning.specs.Effects.{same_path, list_at, is_insert}
 use Rattle.jc_meaning.specs.Forest.{Forest, preorder, is_less, Hangs}
 use Rattle.jc_meaning.specs.Meaning.{holds_of, names, hangs_at}
-use Rattle.jc_meaning.proofs.BooleansLemmas.{not_so}
 use Rattle.jc_meaning.proofs.OrdersLemmas.{keys_back, keys_self, less_counter}
 use Rattle.jc_meaning.proofs.ChainLemmas.{add, graft, add_preorder, graft_preorder, after, after_here, after_later}
 use Rattle.jc_meaning.proofs.NextOperationLemmas.{paths_self, inserted_at, Inserted, the_insert, hung_inserted, hangs_is, IsRoot, IsGood, NewFor, not_in_deps_of, not_its_own}

@@ -1,4 +1,4 @@
--- An insert comes into the forest.
+-- About specs/Forest: an insert comes into a forest.
 use Rattle.std.proofs.Common.{◌≡◌, List, [], ◌∷◌, ◌++◌, Bool, true, false, ◌||◌, ◌&&◌, cond, Option, Some, None, refl, sym, ◌∙◌, ap, subst}
 use Rattle.jc_rules.specs.declared.id.Id.{Id}
 use Rattle.jc_rules.specs.declared.key.Key.{Key}
@@ -7,9 +7,9 @@ use Rattle.jc_rules.specs.Order.{id_cmp, same_id, same_key}
 use Rattle.jc_meaning.specs.Forest.{Forest, bare, tree, preorder, is_less, is_under, Hangs}
 use Rattle.jc_rules.proofs.CoveredLemmas.{left_in}
 use Rattle.jc_rules.proofs.IdsLemmas.{same_id-self, same_id-true}
+use Rattle.jc_rules.proofs.BoolLemmas.{neither}
 use Rattle.jc_meaning.proofs.OrdersLemmas.{keys_eq, keys_self, less_trans, less_self, less_total, under_less}
 use Rattle.jc_meaning.proofs.ChainLemmas.{add, key_in, graft}
-use Rattle.jc_meaning.proofs.BooleansLemmas.{no_first, no_second}
 
 pub key_in_append : (r : Key) (xs ys : List Id) → key_in r (xs ++ ys) ≡ (key_in r xs || key_in r ys)
 key_in_append r [] ys = refl
@@ -54,12 +54,12 @@ module _ (at : Key → Id → Bool) (r : Key) (o : Id) (nothing_below : (j : Id)
   pub keep : (k : Key) (b : Option Id) (f : Forest) → (same_key k r && is_under o b) ≡ false → key_in r (preorder f) ≡ false → Hangs at k b f → Hangs with_new k b f
   keep k b bare h q s = λ j e u. s j (was k b j h e u) u
   keep k b (tree i f x) h q s =
-      let inner : (key_in r (preorder f) || key_in r (preorder x)) ≡ false = sym (key_in_append r (preorder f) (preorder x)) ∙ no_second _ _ q in (
+      let inner : (key_in r (preorder f) || key_in r (preorder x)) ≡ false = sym (key_in_append r (preorder f) (preorder x)) ∙ (neither _ _ q).1 in (
         left_in _ _ s.0,
         s.1,
         λ j e u. s.2 j (was k b j h e u) u,
-        keep (K.Elem i) None f (ap (λ b. b && true) (no_first _ _ q)) (no_first _ _ inner) s.3,
-        keep k (Some i) x (by_cases (same_key k r) (is_under o b) (is_less (id_cmp o i)) refl refl h) (no_second _ _ inner) s.4,
+        keep (K.Elem i) None f (ap (λ b. b && true) ((neither _ _ q).0)) ((neither _ _ inner).0) s.3,
+        keep k (Some i) x (by_cases (same_key k r) (is_under o b) (is_less (id_cmp o i)) refl refl h) ((neither _ _ inner).1) s.4,
       )
     where
       by_cases : (y z w : Bool) → is_under o b ≡ z → is_less (id_cmp o i) ≡ w → (y && z) ≡ false → (y && w) ≡ false
@@ -89,13 +89,13 @@ module _ (at : Key → Id → Bool) (r : Key) (o : Id) (nothing_below : (j : Id)
     new_bare,
     λ j e v. split ⊥ r j e (λ a. s j a (under_less j o b v u)) (λ w. not_itself_before j w v),
   )
-  add_hangs b (tree i f x) u n q s = by_cases (is_less (id_cmp o i)) refl (λ l. add_hangs (Some i) x l n (no_second (key_in r (preorder f)) (key_in r (preorder x)) inner) s.4)
+  add_hangs b (tree i f x) u n q s = by_cases (is_less (id_cmp o i)) refl (λ l. add_hangs (Some i) x l n ((neither (key_in r (preorder f)) (key_in r (preorder x)) inner).1) s.4)
     where
       inner : (key_in r (preorder f) || key_in r (preorder x)) ≡ false
-      inner = sym (key_in_append r (preorder f) (preorder x)) ∙ no_second (same_key (K.Elem i) r) (key_in r (preorder f ++ preorder x)) q
+      inner = sym (key_in_append r (preorder f) (preorder x)) ∙ (neither (same_key (K.Elem i) r) (key_in r (preorder f ++ preorder x)) q).1
 
       below : Hangs with_new (K.Elem i) None f
-      below = keep (K.Elem i) None f (ap (λ b. b && true) (no_first (same_key (K.Elem i) r) (key_in r (preorder f ++ preorder x)) q)) (no_first (key_in r (preorder f)) (key_in r (preorder x)) inner) s.3
+      below = keep (K.Elem i) None f (ap (λ b. b && true) ((neither (same_key (K.Elem i) r) (key_in r (preorder f ++ preorder x)) q).0)) ((neither (key_in r (preorder f)) (key_in r (preorder x)) inner).0) s.3
 
       apart : (b : Bool) → same_id o i ≡ b → b ≡ false
       apart true e = let same : o ≡ i = same_id-true o i e in let there : at r o ≡ true = subst (λ j. at r j ≡ true) (sym same) s.0 in cc
@@ -115,7 +115,7 @@ module _ (at : Key → Id → Bool) (r : Key) (o : Id) (nothing_below : (j : Id)
               lower,
               λ j h v l. split ⊥ r j h (λ a. s.2 j a (under_less j o b v u) l) (λ w. not_itself_before j w v),
               below,
-              keep r (Some i) x (rw (keys_self r, e) refl) (no_second (key_in r (preorder f)) (key_in r (preorder x)) inner) s.4,
+              keep r (Some i) x (rw (keys_self r, e) refl) ((neither (key_in r (preorder f)) (key_in r (preorder x)) inner).1) s.4,
             ),
           )
 

@@ -1,5 +1,5 @@
--- Each list has a forest of inserts, whatever the operations: what isn't reached from the head is left out. In it none
--- stands twice.
+-- About specs/Forest and Meaning: each list has a forest of inserts, whatever the operations. What isn't reached from
+-- the head is left out, and no identifier occurs twice.
 use Rattle.std.proofs.Common.{◌≡◌, ℕ, zero, suc, ◌+◌, ◌≤◌, ◌<◌, List, [], ◌∷◌, length, Bool, true, false, not, ◌||◌, ◌&&◌, cond, Option, Some, None, is_some, refl, sym, ◌∙◌, ap, subst, arith}
 use Rattle.std.specs.List.{AllByRecursion}
 use Rattle.std.specs.Ordering.{match_ordering}
@@ -16,12 +16,13 @@ use Rattle.jc_rules.specs.Table.{op_of}
 use Rattle.jc_rules.proofs.OrderLemmas.{ids_total, exact_ids}
 use Rattle.jc_rules.proofs.IdsLemmas.{same_id-self, same_id-true}
 use Rattle.jc_rules.proofs.RisingLemmas as rising
+use Rattle.jc_rules.proofs.BoolLemmas.{first_true, second_true, both_true, not_so}
+use Rattle.jc_tree.proofs.CountedLemmas.{one_if}
 use Rattle.jc_meaning.specs.Effects.{same_path, is_insert}
 use Rattle.jc_meaning.specs.Forest.{Forest, bare, tree, preorder, is_less, is_under, Hangs}
 use Rattle.jc_meaning.specs.Meaning.{holds_of, names, hangs_at}
-use Rattle.jc_meaning.proofs.BooleansLemmas.{first_true, second_true, both_true, not_so}
 use Rattle.jc_meaning.proofs.ChainLemmas.{key_in}
-use Rattle.jc_meaning.proofs.ForestCountsLemmas.{one_if, count, count_key}
+use Rattle.jc_meaning.proofs.ForestCountsLemmas.{count, count_key}
 use Rattle.jc_meaning.proofs.ForestInsertLemmas.{key_in_append}
 use Rattle.jc_meaning.proofs.OrdersLemmas.{keys_eq, ids_back, less_trans, less_self, under_less}
 use Rattle.jc_meaning.proofs.ForestOnceLemmas.{counted_at, out_counted}

@@ -1,4 +1,4 @@
--- Each insert into a list stands in its forest once.
+-- About specs/Forest and Meaning: each insert into a list occurs once in its forest.
 use Rattle.std.proofs.Common.{◌≡◌, ℕ, zero, suc, ◌+◌, ◌≤◌, ◌<◌, List, [], ◌∷◌, ◌++◌, Bool, true, false, ◌||◌, ◌&&◌, Option, Some, None, refl, sym, ◌∙◌, ap, subst, arith}
 use Rattle.jc_rules.specs.declared.id.Id.{Id}
 use Rattle.jc_rules.specs.declared.key.Key.{Key}
@@ -7,13 +7,14 @@ use Rattle.jc_rules.specs.declared.key.Tagged.{Tagged}
 use Rattle.jc_rules.specs.declared.operation.Op.{Op}
 use Rattle.jc_rules.specs.Order.{id_cmp, same_id, same_key}
 use Rattle.jc_rules.proofs.IdsLemmas.{same_id-self, same_id-true}
+use Rattle.jc_rules.proofs.BoolLemmas.{no_either, not_so}
+use Rattle.jc_tree.proofs.CountedLemmas.{one_if}
 use Rattle.jc_meaning.specs.Effects.{list_at}
 use Rattle.jc_meaning.specs.Forest.{Forest, bare, tree, preorder, is_less, is_under, Hangs}
 use Rattle.jc_meaning.specs.Meaning.{hangs_at}
-use Rattle.jc_meaning.proofs.BooleansLemmas.{no_either, not_so}
 use Rattle.jc_meaning.proofs.OrdersLemmas.{keys_self, ids_back, less_self, less_total, under_less}
 use Rattle.jc_meaning.proofs.NextOperationLemmas.{inserted_at, Inserted, the_insert, hangs_is, not_hung, IsRoot, IsGood}
-use Rattle.jc_meaning.proofs.ForestCountsLemmas.{one_if, count, count_append, count_key, counted}
+use Rattle.jc_meaning.proofs.ForestCountsLemmas.{count, count_append, count_key, counted}
 use Rattle.jc_meaning.proofs.ChainLemmas.{key_in}
 use Rattle.jc_meaning.proofs.MeaningForcesLemmas.{path_above}
 use Rattle.jc_meaning.proofs.ForestInsertLemmas.{key_in_append, Once}

@@ -1,12 +1,12 @@
--- In a forest of inserts what is below one is above it.
+-- About specs/Forest: in a forest of inserts, what hangs below an identifier is greater than it.
 use Rattle.std.proofs.Common.{◌≡◌, List, [], ◌∷◌, ◌++◌, Bool, true, false, ◌||◌, Option, Some, None, refl, sym, subst}
 use Rattle.jc_rules.specs.declared.id.Id.{Id}
 use Rattle.jc_rules.specs.declared.key.Key.{Key}
 use Rattle.jc_rules.specs.declared.key.Key.TheVariants as K
 use Rattle.jc_rules.specs.Order.{id_cmp, same_id}
 use Rattle.jc_rules.proofs.IdsLemmas.{same_id-true}
+use Rattle.jc_rules.proofs.BoolLemmas.{not_so}
 use Rattle.jc_meaning.specs.Forest.{Forest, bare, tree, preorder, is_less, Hangs}
-use Rattle.jc_meaning.proofs.BooleansLemmas.{not_so}
 use Rattle.jc_meaning.proofs.OrdersLemmas.{less_trans, less_self}
 use Rattle.jc_meaning.proofs.ChainLemmas.{AllOver, Rises, Stops, key_in, Fits}
 

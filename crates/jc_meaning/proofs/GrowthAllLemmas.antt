@@ -1,4 +1,4 @@
--- What all operations bring, one after another.
+-- About specs/Growth and Listing: what all operations contribute to a tree, one after another, is their meaning.
 use Rattle.std.proofs.Common.{◌≡◌, ◌≢◌, ℕ, suc, ◌+◌, ◌<◌, List, [], ◌∷◌, ◌++◌, length, take, drop, get_or, Bool, true, false, not, ◌||◌, ◌&&◌, cond, Option, Some, None, inl, inr, Contains, refl, sym, ◌∙◌, ap, subst}
 use Rattle.std.specs.List.{AllByRecursion}
 use Rattle.std.proofs.lemmas.List.{take-append-drop, take_more}
@@ -28,12 +28,14 @@ use Rattle.std.proofs.lemmas.List.Elements.{Contains-get_or}
 use Rattle.jc_rules.specs.Paths.{HasContext, IsPath}
 use Rattle.jc_rules.specs.ContextsAt.{node_at, context_at}
 use Rattle.jc_rules.proofs.ContextsAtLemmas.{there}
+use Rattle.jc_rules.proofs.BoolLemmas.{or_false, or_right}
 use Rattle.jc_meaning.proofs.NextOperationLemmas.{in_some}
 use Rattle.jc_meaning.proofs.GrowthPathLemmas.{place_there, passed_is}
 use Rattle.jc_meaning.proofs.ChainEndsLemmas.{some_more, new_list, linked_more, linked_still}
 use Rattle.jc_meaning.proofs.LinkEffectsLemmas.{start_means}
 use Rattle.jc_meaning.proofs.OrdersLemmas.{keys_back}
-use Rattle.jc_meaning.proofs.GrowthWriteLemmas.{node_seen, both_grow, grows_as}
+use Rattle.jc_meaning.proofs.GrowthWriteLemmas.{both_grow, grows_as}
+use Rattle.jc_meaning.proofs.SeenLemmas.{node_seen}
 
 op_of_more : (i : Id) (os : List Op) (o : Op) → op_of o.id os ≡ None → op_of i (os ++ o ∷ []) ≡ cond (same_id i o.id) (Some o) (op_of i os)
 op_of_more i [] o h = refl
@@ -88,13 +90,9 @@ more_brought O os o a b c new x y =
     absent : (i : Id) → same_id i o.id ≡ true → op_of i os ≡ None
     absent i e = ap (λ q. op_of q os) (same_id-true i o.id e) ∙ new
 
-    or_none : (z : Bool) → (z || false) ≡ z
-    or_none true = refl
-    or_none false = refl
-
     ids : (P : List Tagged) (k : Key) (i : Id) (s : Bool) → same_id i o.id ≡ s → (ids_of_first O os P k i || (s && (touches o P k && not (is_cleared O P k i)))) ≡ (holds_of (λ o. touches o P k) (cond s (Some o) (op_of i os)) && not (is_cleared O P k i))
     ids P k i true e = ap (λ z. (holds_of (λ o. touches o P k) z && not (is_cleared O P k i)) || (touches o P k && not (is_cleared O P k i))) (absent i e)
-    ids P k i false e = or_none (ids_of_first O os P k i)
+    ids P k i false e = or_false (ids_of_first O os P k i)
 
     one : (g : Bool) (w : Option Value) → first_some (cond (not g) w None) (cond g None None) ≡ cond g None w
     one true w = refl
@@ -139,13 +137,9 @@ module _ (O : List Op) (c d : Context) (start : c ≡ empty) (g : Grows c d (goe
       some true false z e w = cc
       some false y z e w = cc
 
-      or_true : (x y : Bool) → y ≡ true → (x || y) ≡ true
-      or_true true y e = refl
-      or_true false y e = e
-
       go : (b : Bool) → (hangs_at os P k j ≡ true → some_op (inserts_at P) os ≡ true) → holds_of (names P k) (cond b (Some o) (op_of j os)) ≡ true → (inserts_at P o || some_op (inserts_at P) os) ≡ true
       go true ih e = some (is_insert o.mutation) (same_path o.cursor.path P) (same_key o.cursor.last k) e (some_op (inserts_at P) os)
-      go false ih e = or_true (inserts_at P o) (some_op (inserts_at P) os) (ih e)
+      go false ih e = or_right (inserts_at P o) (some_op (inserts_at P) os) (ih e)
 
   -- with the links of its lists it is the meaning
   pub meant : (e : Context) → IsSameButLinks d e → AreLinked O O e → IsMeaning O e

@@ -1,4 +1,4 @@
--- The way along a path: what is made and touched on it.
+-- About specs/Growth: what is made and touched along an operation's path, and at its end.
 use Rattle.std.proofs.Common.{◌≡◌, ◌≢◌, ℕ, ◌+◌, ◌<◌, List, [], ◌∷◌, ◌++◌, length, take, drop, get_or, Bool, true, false, not, ◌||◌, ◌&&◌, cond, Option, Some, None, is_some, refl, sym, ◌∙◌, ap, subst}
 use Rattle.std.specs.List.{AllByRecursion}
 use Rattle.jc_rules.specs.declared.id.Id.{Id}
@@ -18,15 +18,16 @@ use Rattle.std.proofs.Math.Seq.{take-length}
 use Rattle.jc_rules.specs.ContextsAt.{at_node, node_at, context_at}
 use Rattle.jc_rules.proofs.ContextsAtLemmas.{there}
 use Rattle.jc_rules.proofs.IdsLemmas.{same_id-true}
+use Rattle.jc_rules.proofs.BoolLemmas.{first_true, second_true, or_false, or_right}
 use Rattle.jc_meaning.specs.Effects.{same_tagged, same_path, is_at_or_above, target, is_delete, value_in, primitive, primitive_in, is_made_by, passed, goes_through}
 use Rattle.jc_meaning.specs.Seen.{context_or_new, seen, has_tag}
 use Rattle.jc_meaning.specs.Meaning.{is_cleared}
 use Rattle.jc_meaning.specs.Growth.{Grows, no_tag, no_id, no_value, first_some, tag_here, key_here, along, tag_on, key_on, stays, is_gone, brings_id, brings_value, Brings, made_here}
 use Rattle.jc_meaning.proofs.OrdersLemmas.{keys_back, keys_self, keys_eq}
-use Rattle.jc_meaning.proofs.BooleansLemmas.{first_true, second_true}
 use Rattle.jc_meaning.proofs.NextOperationLemmas.{paths_eq, paths_self}
-use Rattle.jc_meaning.proofs.TagsLemmas.{tags_eq, tags_back}
-use Rattle.jc_meaning.proofs.GrowthWriteLemmas.{node_seen, or_false, both_grow, grows_as, nothing_grows}
+use Rattle.jc_meaning.proofs.TagsLemmas.{tags_eq, tags_back, tags_self}
+use Rattle.jc_meaning.proofs.GrowthWriteLemmas.{both_grow, grows_as, nothing_grows}
+use Rattle.jc_meaning.proofs.SeenLemmas.{node_seen}
 
 -- one key further
 along_more : {X : Type 0} (f : Tagged → X → Bool) (ts : List Tagged) (t : Tagged) (P : List Tagged) (x : X) → along f (ts ++ t ∷ []) P x ≡ (along f ts P x || (same_path ts P && f t x))
@@ -36,7 +37,7 @@ along_more f [] t (s ∷ ss) x = nothing (same_tagged t s)
     nothing : (b : Bool) → (b && false) ≡ false
     nothing true = refl
     nothing false = refl
-along_more f (r ∷ rs) t [] x = or_false (f r x)
+along_more f (r ∷ rs) t [] x = sym (or_false (f r x))
 along_more f (r ∷ rs) t (s ∷ ss) x = go (same_tagged r s) (along_more f rs t ss x)
   where
     go : (b : Bool) → along f (rs ++ t ∷ []) ss x ≡ (along f rs ss x || (same_path rs ss && f t x)) → (b && along f (rs ++ t ∷ []) ss x) ≡ ((b && along f rs ss x) || ((b && same_path rs ss) && f t x))
@@ -47,7 +48,7 @@ along_more f (r ∷ rs) t (s ∷ ss) x = go (same_tagged r s) (along_more f rs t
 pub passed_is : (ts : List Tagged) (k : Key) (v : Option Value) (P : List Tagged) (u : Tagged) → passed ts k v P u ≡ (tag_on ts P u || made_here ts k v P u)
 passed_is [] k v [] u = refl
 passed_is [] k v (s ∷ ss) u = refl
-passed_is (t ∷ ts) k v [] u = or_false (same_tagged t u)
+passed_is (t ∷ ts) k v [] u = sym (or_false (same_tagged t u))
 passed_is (t ∷ ts) k v (s ∷ ss) u = go (same_tagged t s) (passed_is ts k v ss u)
   where
     go : (b : Bool) → passed ts k v ss u ≡ (tag_on ts ss u || (same_path ts ss && is_made_by v k u)) → (b && passed ts k v ss u) ≡ ((b && tag_on ts ss u) || ((b && same_path ts ss) && is_made_by v k u))
@@ -58,7 +59,7 @@ passed_is (t ∷ ts) k v (s ∷ ss) u = go (same_tagged t s) (passed_is ts k v s
 pub above_is : (ts : List Tagged) (k : Key) (P : List Tagged) (l : Key) → is_at_or_above P l ts k ≡ (key_on ts P l || key_here ts k P l)
 above_is [] k [] l = keys_back l k
 above_is [] k (s ∷ ss) l = refl
-above_is (t ∷ ts) k [] l = or_false (same_key l (key_of_tagged t))
+above_is (t ∷ ts) k [] l = sym (or_false (same_key l (key_of_tagged t)))
 above_is (t ∷ ts) k (s ∷ ss) l = ap (λ b. b && is_at_or_above ss l ts k) (tags_back s t) ∙ go (same_tagged t s) (above_is ts k ss l)
   where
     go : (b : Bool) → is_at_or_above ss l ts k ≡ (key_on ts ss l || (same_path ts ss && same_key k l)) → (b && is_at_or_above ss l ts k) ≡ ((b && key_on ts ss l) || ((b && same_path ts ss) && same_key k l))
@@ -71,11 +72,6 @@ pub place_there : (path : List Tagged) (c : Context) → AllByRecursion HasConte
 place_there [] c all h e = cc
 place_there (t ∷ ts) c all h e = go t all.0 (content t c) refl (h [] t (tags_self t)) (λ d deeper. place_there ts d all.1 deeper)
   where
-    tags_self : (u : Tagged) → same_tagged u u ≡ true
-    tags_self (MapT k) = keys_self k
-    tags_self (ListT k) = keys_self k
-    tags_self (RegT k) = keys_self k
-
     no_values : (u : Tagged) (v : Register) → HasContext u → content u c ≡ Some (Values v) → ⊥
     no_values (MapT k) v has f = no_node (find key_cmp k (maps c)) f
       where
@@ -117,8 +113,8 @@ one_further O o ts t a b c d x y z =
     grows_as a d (λ P u. (tag_on ts P u || tag_here ts t P u) || no_tag P u) (tag_on (ts ++ t ∷ []))
     (λ P k i. ((key_on ts P k && stays O o P k i) || no_id P k i) || (key_here ts (key_of_tagged t) P k && stays O o P k i)) (λ P k i. key_on (ts ++ t ∷ []) P k && stays O o P k i)
     (λ P k i. first_some (no_value P k i) (first_some (no_value P k i) (no_value P k i))) no_value
-    (λ P u. sym (or_false (tag_on ts P u || tag_here ts t P u)) ∙ sym (along_more same_tagged ts t P u))
-    (λ P k i. ap (λ b. b || (key_here ts (key_of_tagged t) P k && stays O o P k i)) (sym (or_false (key_on ts P k && stays O o P k i))) ∙ or_and (key_on ts P k) (key_here ts (key_of_tagged t) P k) (stays O o P k i)
+    (λ P u. or_false (tag_on ts P u || tag_here ts t P u) ∙ sym (along_more same_tagged ts t P u))
+    (λ P k i. ap (λ b. b || (key_here ts (key_of_tagged t) P k && stays O o P k i)) (or_false (key_on ts P k && stays O o P k i)) ∙ or_and (key_on ts P k) (key_here ts (key_of_tagged t) P k) (stays O o P k i)
     ∙ ap (λ b. (key_on ts P k || b) && stays O o P k i) (key_back_here ts t P k) ∙ ap (λ b. b && stays O o P k i) (sym (along_more (λ t l. same_key l (key_of_tagged t)) ts t P k)))
     (λ P k i. refl)
     three
@@ -182,7 +178,7 @@ deletes_brings O o a b m x =
     no_and false = refl
 
     made_none : (P : List Tagged) (u : Tagged) → tag_on o.cursor.path P u ≡ (tag_on o.cursor.path P u || made_here o.cursor.path (target o) (value_in o.mutation) P u)
-    made_none P u = rw m (or_false (tag_on o.cursor.path P u) ∙ ap (λ z. tag_on o.cursor.path P u || z) (sym (no_and (same_path o.cursor.path P))))
+    made_none P u = rw m (sym (or_false (tag_on o.cursor.path P u)) ∙ ap (λ z. tag_on o.cursor.path P u || z) (sym (no_and (same_path o.cursor.path P))))
 
     gone : (z s : Bool) → (z && (s && false)) ≡ (s && false)
     gone true s = refl
@@ -196,16 +192,12 @@ deletes_brings O o a b m x =
 
 -- ---- the loop along the path
 
-or_true : (a b : Bool) → b ≡ true → (a || b) ≡ true
-or_true true b e = refl
-or_true false b e = e
-
 pub grown_place : (ts : List Tagged) (c d : Context) (i : List Tagged → Key → Id → Bool) (v : List Tagged → Key → Id → Option Value) → AllByRecursion HasContext ts → Grows c d (tag_on ts) i v → node_at ts d ≢ None
-grown_place ts c d i v all g = place_there ts d all (λ P u w. g.tags P u ∙ or_true (has_tag u (seen P c)) (tag_on ts P u) w)
+grown_place ts c d i v all g = place_there ts d all (λ P u w. g.tags P u ∙ or_right (has_tag u (seen P c)) (tag_on ts P u) w)
 
 pub still_place : (ts : List Tagged) (b c d : Context) (a : List Tagged → Tagged → Bool) (i j : List Tagged → Key → Id → Bool) (v w : List Tagged → Key → Id → Option Value) → AllByRecursion HasContext ts → Grows b c (tag_on ts) i v → Grows c d a j w → node_at ts d ≢ None
 still_place ts b c d a i j v w all g h =
-    place_there ts d all (λ P u e. h.tags P u ∙ ap (λ z. z || a P u) (g.tags P u ∙ or_true (has_tag u (seen P b)) (tag_on ts P u) e))
+    place_there ts d all (λ P u e. h.tags P u ∙ ap (λ z. z || a P u) (g.tags P u ∙ or_right (has_tag u (seen P b)) (tag_on ts P u) e))
 
 all_front : (P : Tagged → Type 0) (xs ys : List Tagged) → AllByRecursion P (xs ++ ys) → AllByRecursion P xs
 all_front P [] ys a = tt
@@ -302,8 +294,8 @@ module _ (O : List Op) (o : Op) (k : Key) (v : Value) (path : List Tagged) (t : 
       grows_as a d (λ P u. (no_tag P u || tag_here path t P u) || no_tag P u) (made_here o.cursor.path k (Some v))
       (λ P l i. ((key_here path k P l && stays O o P l i) || no_id P l i) || no_id P l i) (λ P l i. key_here o.cursor.path k P l && stays O o P l i)
       (λ P l i. first_some (w P l i) (first_some (no_value P l i) (no_value P l i))) (brings_value O o)
-      (λ P u. sym (or_false (tag_here path t P u)) ∙ ap (λ Q. same_path Q P && same_tagged t u) at ∙ ap (λ b. same_path o.cursor.path P && b) (tag u))
-      (λ P l i. sym (or_false ((key_here path k P l && stays O o P l i) || false)) ∙ sym (or_false (key_here path k P l && stays O o P l i)) ∙ ap (λ Q. key_here Q k P l && stays O o P l i) at)
+      (λ P u. or_false (tag_here path t P u) ∙ ap (λ Q. same_path Q P && same_tagged t u) at ∙ ap (λ b. same_path o.cursor.path P && b) (tag u))
+      (λ P l i. or_false ((key_here path k P l && stays O o P l i) || false) ∙ or_false (key_here path k P l && stays O o P l i) ∙ ap (λ Q. key_here Q k P l && stays O o P l i) at)
       (λ P l i. first_none (w P l i) ∙ told P l i)
       (both_grow a c d (λ P u. no_tag P u || tag_here path t P u) no_tag (λ P l i. (key_here path k P l && stays O o P l i) || no_id P l i) no_id (λ P l i. first_some (no_value P l i) (no_value P l i)) w
       (both_grow a b c no_tag (tag_here path t) (λ P l i. key_here path k P l && stays O o P l i) no_id no_value no_value x y) z)
@@ -350,7 +342,7 @@ pub made_register : (slice : List Tagged) (t : Tagged) (k : Key) (b c : Context)
 made_register slice t k b c h g e =
     let here : seen slice c ≡ context_at slice c = node_seen slice c (context_at slice c) (there slice c h) in
     let self : same_tagged t (RegT k) ≡ true = ap (λ z. same_tagged z (RegT k)) e ∙ keys_self k in
-    ap (has_tag (RegT k)) (sym here) ∙ g.tags slice (RegT k) ∙ or_true (has_tag (RegT k) (seen slice b)) (same_path slice slice && same_tagged t (RegT k)) (ap (λ z. z && same_tagged t (RegT k)) (paths_self slice) ∙ self)
+    ap (has_tag (RegT k)) (sym here) ∙ g.tags slice (RegT k) ∙ or_right (has_tag (RegT k) (seen slice b)) (same_path slice slice && same_tagged t (RegT k)) (ap (λ z. z && same_tagged t (RegT k)) (paths_self slice) ∙ self)
 
 pub path_of : (path slice : List Tagged) → slice ≡ path → IsPath path → IsPath slice
 path_of path slice e p = subst IsPath (sym e) p

@@ -1,4 +1,4 @@
--- What is seen at each place after a context was written at one.
+-- About specs/Growth and Seen: what is seen at each place after one context of the tree was written.
 use Rattle.std.proofs.Common.{◌≡◌, List, [], ◌∷◌, Bool, true, false, ◌||◌, ◌&&◌, cond, Option, Some, None, is_some, refl, sym, ◌∙◌, ap, subst}
 use Rattle.std.proofs.lemmas.Option.{same_Some}
 use Rattle.jc_rules.specs.declared.id.Id.{Id}
@@ -20,10 +20,12 @@ use Rattle.jc_meaning.specs.Seen.{context_or_new, seen, ids_of_some, ids_at, reg
 use Rattle.jc_meaning.specs.Meaning.{AreFilled}
 use Rattle.jc_meaning.specs.Growth.{first_some, Grows, no_tag, no_id, no_value, tag_here, key_here}
 use Rattle.jc_meaning.proofs.NextOperationLemmas.{paths_eq}
-use Rattle.jc_meaning.proofs.AreFilledLemmas.{nothing_there, filled_values, filled_new, filled_presence, filled_at, filled_whole}
+use Rattle.jc_meaning.proofs.AreFilledLemmas.{filled_values, filled_new, filled_presence, filled_at, filled_whole}
 use Rattle.jc_meaning.proofs.OrdersLemmas.{keys_eq, keys_back, keys_self}
 use Rattle.jc_meaning.proofs.TagsLemmas.{tags_eq, tags_back, node_ids, node_value, node_next, values_seen, values_ids, values_next, values_reg, presence_seen, presence_tag, presence_value, presence_next, presence_ids}
-use Rattle.jc_meaning.proofs.SeenLemmas.{is_node_tag, content_with_node, seen_with_node}
+use Rattle.jc_meaning.proofs.SeenLemmas.{is_node_tag, content_with_node, seen_with_node, node_seen}
+use Rattle.jc_rules.proofs.ContextLemmas.{none_some}
+use Rattle.jc_rules.proofs.BoolLemmas.{or_false}
 
 node_tag : (t : Tagged) (d c : Context) → content t c ≡ Some (Node d) → is_node_tag t ≡ true
 node_tag (MapT k) d c e = refl
@@ -33,16 +35,6 @@ node_tag (RegT k) d c e = no_node (find key_cmp k (registers c)) e
     no_node : (o : Option Register) → values_of o ≡ Some (Node d) → false ≡ true
     no_node None f = cc
     no_node (Some v) f = cc
-
--- the context at a place is what is seen there
-pub node_seen : (at : List Tagged) (c x : Context) → node_at at c ≡ Some x → seen at c ≡ x
-node_seen [] c x e = same_Some c x e
-node_seen (a ∷ ks) c x e = go (content a c) refl (λ d. node_seen ks d x) e
-  where
-    go : (o : Option Content) → content a c ≡ o → ((d : Context) → node_at ks d ≡ Some x → seen ks d ≡ x) → node_at (a ∷ ks) c ≡ Some x → seen (a ∷ ks) c ≡ x
-    go None f ih g = nothing_there (rw f at g)
-    go (Some (Values r)) f ih g = nothing_there (rw f at g)
-    go (Some (Node d)) f ih g = rw f (ih d (rw f at g))
 
 module _ {X : Type 0} (f : Context → X) (still : (t : Tagged) (d e c : Context) → content t c ≡ Some (Node d) → f (with_content t (Node e) c) ≡ f c) where
   -- f of what is seen at each place: of what was written at that one, and as before elsewhere
@@ -60,8 +52,8 @@ module _ {X : Type 0} (f : Context → X) (still : (t : Tagged) (d e c : Context
       below d k u R ih false w = refl
 
       go : (o : Option Content) → content a c ≡ o → ((d : Context) → node_at ks d ≡ Some x → (Q : List Tagged) → f (seen Q (with_node_at ks y d)) ≡ cond (same_path ks Q) (f y) (f (seen Q d))) → node_at (a ∷ ks) c ≡ Some x → (Q : List Tagged) → f (seen Q (with_node_at (a ∷ ks) y c)) ≡ cond (same_path (a ∷ ks) Q) (f y) (f (seen Q c))
-      go None k ih g Q = nothing_there (rw k at g)
-      go (Some (Values r)) k ih g Q = nothing_there (rw k at g)
+      go None k ih g Q = none_some (rw k at g)
+      go (Some (Values r)) k ih g Q = none_some (rw k at g)
       go (Some (Node d)) k ih g [] = rw k (still a d (with_node_at ks y d) c k)
       go (Some (Node d)) k ih g (u ∷ R) =
           let whole : with_node_at (a ∷ ks) y c ≡ with_content a (Node (with_node_at ks y d)) c = rw k refl in
@@ -104,10 +96,6 @@ value_still l j t d e c k = node_value t e c l j
 pub next_still : (l : Key) (t : Tagged) (d e c : Context) → content t c ≡ Some (Node d) → next l (with_content t (Node e) c) ≡ next l c
 next_still l t d e c k = node_next t e c l
 
-pub or_false : (b : Bool) → b ≡ (b || false)
-or_false true = refl
-or_false false = refl
-
 and_assoc : (a b c : Bool) → (a && (b && c)) ≡ ((a && b) && c)
 and_assoc true b c = refl
 and_assoc false b c = refl
@@ -120,8 +108,8 @@ or_more b x = x || b
 pub presence_grows : (at : List Tagged) (k : Key) (i : Id) (c d x : Context) → node_at at c ≡ Some x → d ≡ with_node_at at (with_presence k (with_id i (or_no_entries (presence k x))) x) c
     → Grows c d no_tag (λ P l j. key_here at k P l && same_id j i) no_value
 presence_grows at k i c d x e is = record {
-  tags = λ P u. ap (λ z. has_tag u (seen P z)) is ∙ same_seen (has_tag u) (tag_still u) at y c x e (ap is_some (presence_tag k s u x)) (λ v R. ap (has_tag u) (presence_seen k s v R x)) P ∙ or_false (has_tag u (seen P c));
-  ids = λ P l j. ap (λ z. has_id j (ids_at l (seen P z))) is ∙ changed_seen (λ z. has_id j (ids_at l z)) (id_still l j) or_more (λ b. sym (or_false b)) (same_key k l && same_id j i) at y c x e (there l j) (λ v R. ap (λ z. has_id j (ids_at l z)) (presence_seen k s v R x)) P
+  tags = λ P u. ap (λ z. has_tag u (seen P z)) is ∙ same_seen (has_tag u) (tag_still u) at y c x e (ap is_some (presence_tag k s u x)) (λ v R. ap (has_tag u) (presence_seen k s v R x)) P ∙ sym (or_false (has_tag u (seen P c)));
+  ids = λ P l j. ap (λ z. has_id j (ids_at l (seen P z))) is ∙ changed_seen (λ z. has_id j (ids_at l z)) (id_still l j) or_more (λ b. or_false b) (same_key k l && same_id j i) at y c x e (there l j) (λ v R. ap (λ z. has_id j (ids_at l z)) (presence_seen k s v R x)) P
       ∙ ap (λ b. has_id j (ids_at l (seen P c)) || b) (and_assoc (same_path at P) (same_key k l) (same_id j i));
   values = λ P l j. ap (λ z. value_seen_at j l (seen P z)) is ∙ same_seen (value_seen_at j l) (value_still l j) at y c x e (presence_value k s x l j) (λ v R. ap (value_seen_at j l) (presence_seen k s v R x)) P;
   links = λ P l. ap (λ z. next l (seen P z)) is ∙ same_seen (next l) (next_still l) at y c x e (presence_next k s x l) (λ v R. ap (next l) (presence_seen k s v R x)) P;
@@ -149,7 +137,7 @@ presence_grows at k i c d x e is = record {
       where
         go : (b : Bool) → same_key l k ≡ b → has_id j (cond b s (ids_at l x)) ≡ (has_id j (ids_at l x) || (b && same_id j i))
         go true w = has_id-with j i (or_no_entries (presence k x)) ∙ turn (same_id j i) (has_id j (or_no_entries (presence k x))) ∙ ap (λ z. has_id j z || same_id j i) (none_is (presence k x)) ∙ ap (λ q. has_id j (ids_at q x) || same_id j i) (sym (keys_eq l k w))
-        go false w = or_false (has_id j (ids_at l x))
+        go false w = sym (or_false (has_id j (ids_at l x)))
 
 -- ---- a value comes to a register that is there
 
@@ -159,8 +147,8 @@ first_if v b w = first_some (cond b v None) w
 pub value_grows : (at : List Tagged) (k : Key) (i : Id) (v : Value) (r : Register) (c d x : Context) → node_at at c ≡ Some x → reg_at k x ≡ Some r → d ≡ with_node_at at (with_content (RegT k) (Values (put id_cmp i v r)) x) c
     → Grows c d no_tag no_id (λ P l j. cond (key_here at k P l && same_id j i) (Some v) None)
 value_grows at k i v r c d x e old is = record {
-  tags = λ P u. ap (λ z. has_tag u (seen P z)) is ∙ same_seen (has_tag u) (tag_still u) at y c x e (tag_there u) (λ w R. ap (has_tag u) (values_seen k s w R x)) P ∙ or_false (has_tag u (seen P c));
-  ids = λ P l j. ap (λ z. has_id j (ids_at l (seen P z))) is ∙ same_seen (λ z. has_id j (ids_at l z)) (id_still l j) at y c x e (ap (has_id j) (values_ids k s x l)) (λ w R. ap (λ z. has_id j (ids_at l z)) (values_seen k s w R x)) P ∙ or_false (has_id j (ids_at l (seen P c)));
+  tags = λ P u. ap (λ z. has_tag u (seen P z)) is ∙ same_seen (has_tag u) (tag_still u) at y c x e (tag_there u) (λ w R. ap (has_tag u) (values_seen k s w R x)) P ∙ sym (or_false (has_tag u (seen P c)));
+  ids = λ P l j. ap (λ z. has_id j (ids_at l (seen P z))) is ∙ same_seen (λ z. has_id j (ids_at l z)) (id_still l j) at y c x e (ap (has_id j) (values_ids k s x l)) (λ w R. ap (λ z. has_id j (ids_at l z)) (values_seen k s w R x)) P ∙ sym (or_false (has_id j (ids_at l (seen P c))));
   values = λ P l j. ap (λ z. value_seen_at j l (seen P z)) is ∙ changed_seen (value_seen_at j l) (value_still l j) (first_if (Some v)) (λ w. refl) (same_key k l && same_id j i) at y c x e (there l j) (λ w R. ap (value_seen_at j l) (values_seen k s w R x)) P
       ∙ ap (λ b. first_some (cond b (Some v) None) (value_seen_at j l (seen P c))) (and_assoc (same_path at P) (same_key k l) (same_id j i));
   links = λ P l. ap (λ z. next l (seen P z)) is ∙ same_seen (next l) (next_still l) at y c x e (values_next k s x l) (λ w R. ap (next l) (values_seen k s w R x)) P;
@@ -256,8 +244,8 @@ new_value (RegT k) x l j e = ap (value_in_some j) (values_reg k [] x l) ∙ go (
 pub make_grows : (at : List Tagged) (t : Tagged) (c d x : Context) → node_at at c ≡ Some x → content t x ≡ None → d ≡ with_node_at at (with_content t (new_content t) x) c
     → Grows c d (tag_here at t) no_id no_value
 make_grows at t c d x e none is = record {
-  tags = λ P u. ap (λ z. has_tag u (seen P z)) is ∙ changed_seen (has_tag u) (tag_still u) or_more (λ b. sym (or_false b)) (same_tagged t u) at y c x e (there u) (λ v R. ap (has_tag u) (new_seen t v R x none)) P;
-  ids = λ P l j. ap (λ z. has_id j (ids_at l (seen P z))) is ∙ same_seen (λ z. has_id j (ids_at l z)) (id_still l j) at y c x e (ap (has_id j) (new_ids t x l)) (λ v R. ap (λ z. has_id j (ids_at l z)) (new_seen t v R x none)) P ∙ or_false (has_id j (ids_at l (seen P c)));
+  tags = λ P u. ap (λ z. has_tag u (seen P z)) is ∙ changed_seen (has_tag u) (tag_still u) or_more (λ b. or_false b) (same_tagged t u) at y c x e (there u) (λ v R. ap (has_tag u) (new_seen t v R x none)) P;
+  ids = λ P l j. ap (λ z. has_id j (ids_at l (seen P z))) is ∙ same_seen (λ z. has_id j (ids_at l z)) (id_still l j) at y c x e (ap (has_id j) (new_ids t x l)) (λ v R. ap (λ z. has_id j (ids_at l z)) (new_seen t v R x none)) P ∙ sym (or_false (has_id j (ids_at l (seen P c))));
   values = λ P l j. ap (λ z. value_seen_at j l (seen P z)) is ∙ same_seen (value_seen_at j l) (value_still l j) at y c x e (new_value t x l j none) (λ v R. ap (value_seen_at j l) (new_seen t v R x none)) P;
   links = λ P l. ap (λ z. next l (seen P z)) is ∙ same_seen (next l) (next_still l) at y c x e (new_next t x l) (λ v R. ap (next l) (new_seen t v R x none)) P;
   filled = λ h. subst AreFilled (sym is) (filled_whole at y c x e (filled_new t x (filled_at at c x e h)) h);
@@ -271,13 +259,13 @@ make_grows at t c d x e none is = record {
       where
         go : (b : Bool) → same_tagged u t ≡ b → is_some (cond b (Some (new_content t)) (content u x)) ≡ (has_tag u x || b)
         go true w = sym (ap (λ z. is_some z || true) (ap (λ z. content z x) (tags_eq u t w) ∙ none))
-        go false w = or_false (has_tag u x)
+        go false w = sym (or_false (has_tag u x))
 
 -- it is there already
 pub there_grows : (at : List Tagged) (t : Tagged) (c x : Context) → node_at at c ≡ Some x → has_tag t x ≡ true → Grows c c (tag_here at t) no_id no_value
 there_grows at t c x e there = record {
   tags = λ P u. go P u (same_path at P) (same_tagged t u) refl refl;
-  ids = λ P l j. or_false (has_id j (ids_at l (seen P c)));
+  ids = λ P l j. sym (or_false (has_id j (ids_at l (seen P c))));
   values = λ P l j. refl;
   links = λ P l. refl;
   filled = λ h. h;
@@ -292,14 +280,14 @@ there_grows at t c x e there = record {
         let here : has_tag t (seen at c) ≡ true = ap (has_tag t) (node_seen at c x e) ∙ there in
         let one : has_tag u (seen P c) ≡ has_tag t (seen at c) = ap (λ Q. has_tag u (seen Q c)) (sym (paths_eq at P v)) ∙ ap (λ z. has_tag z (seen at c)) (sym (tags_eq t u w)) in
         or_true (has_tag u (seen P c)) (one ∙ here)
-    go P u true false v w = or_false (has_tag u (seen P c))
-    go P u false b v w = or_false (has_tag u (seen P c))
+    go P u true false v w = sym (or_false (has_tag u (seen P c)))
+    go P u false b v w = sym (or_false (has_tag u (seen P c)))
 
 -- nothing comes
 pub nothing_grows : (c : Context) → Grows c c no_tag no_id no_value
 nothing_grows c = record {
-  tags = λ P u. or_false (has_tag u (seen P c));
-  ids = λ P l j. or_false (has_id j (ids_at l (seen P c)));
+  tags = λ P u. sym (or_false (has_tag u (seen P c)));
+  ids = λ P l j. sym (or_false (has_id j (ids_at l (seen P c))));
   values = λ P l j. refl;
   links = λ P l. refl;
   filled = λ h. h;

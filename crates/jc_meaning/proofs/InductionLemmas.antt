@@ -1,4 +1,4 @@
--- Induction over derivations.
+-- Induction over derivations, by the rules: what each rule keeps is true of each derivable judgement.
 use Rattle.std.proofs.Common.{List, [], ◌∷◌}
 use Rattle.jc_rules.specs.declared.rule.Rule.{Rule}
 use Rattle.jc_rules.specs.Derivation.{Question, Answer, Judgement, gives, Derivation, derive, Premises, none, premise, conclusion, conclusions}

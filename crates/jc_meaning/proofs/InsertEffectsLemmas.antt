@@ -1,4 +1,4 @@
--- What an operation changes: inserts, and the law over derivations.
+-- About specs/Effects: what an operation changes, the cases of inserts, and the law over all derivations.
 use Rattle.std.proofs.Common.{◌≡◌, List, [], ◌∷◌, Bool, true, false, not, ◌||◌, ◌&&◌, cond, Option, Some, None, is_some, inl, inr, refl, sym, ◌∙◌, ap, subst}
 use Rattle.std.specs.declared.cmp.Ordering.TheVariants.{Less}
 use Rattle.jc_rules.specs.declared.id.Id.{Id}
@@ -33,12 +33,13 @@ use Rattle.jc_meaning.proofs.OperationActsLemmas.{touched, cleared, written, ove
 use Rattle.jc_rules.specs.Refused.{IsAnswered}
 use Rattle.jc_meaning.proofs.ClearingEffectsInductionLemmas.{OfElem, Motive, map_case, list_case}
 use Rattle.jc_meaning.proofs.ClearingEffectsLawLemmas.{clear_case, any_case, elem_case, presence_case}
-use Rattle.jc_meaning.proofs.OperationEffectsInductionLemmas.{tags_self, child_seen, descends}
+use Rattle.jc_meaning.proofs.OperationEffectsInductionLemmas.{child_seen, descends}
 use Rattle.jc_meaning.proofs.OperationEffectsLemmas.{the_value, deletes, makes_node, assigns}
 use Rattle.jc_meaning.specs.ClearingEffects.{Tidy, TakesAway, in_key}
 use Rattle.jc_meaning.proofs.OrdersLemmas.{keys_back}
+use Rattle.jc_meaning.proofs.TagsLemmas.{tags_self}
 
-next_seen : (k : Key) (x : Next) (u : Tagged) (P : List Tagged) (c : Context) → seen (u ∷ P) (with_next k x c) ≡ seen (u ∷ P) c
+pub next_seen : (k : Key) (x : Next) (u : Tagged) (P : List Tagged) (c : Context) → seen (u ∷ P) (with_next k x c) ≡ seen (u ∷ P) c
 next_seen k x (MapT j) P (context m l r p n) = refl
 next_seen k x (ListT j) P (context m l r p n) = refl
 next_seen k x (RegT j) P (context m l r p n) = refl
@@ -48,10 +49,10 @@ next_tag k x (MapT j) (context m l r p n) = refl
 next_tag k x (ListT j) (context m l r p n) = refl
 next_tag k x (RegT j) (context m l r p n) = refl
 
-next_ids : (k : Key) (x : Next) (c : Context) (l : Key) → ids_at l (with_next k x c) ≡ ids_at l c
+pub next_ids : (k : Key) (x : Next) (c : Context) (l : Key) → ids_at l (with_next k x c) ≡ ids_at l c
 next_ids k x (context m l2 r p n) l = refl
 
-next_value : (k : Key) (x : Next) (c : Context) (l : Key) (j : Id) → value_seen_at j l (with_next k x c) ≡ value_seen_at j l c
+pub next_value : (k : Key) (x : Next) (c : Context) (l : Key) (j : Id) → value_seen_at j l (with_next k x c) ≡ value_seen_at j l c
 next_value k x (context m l2 r p n) l j = refl
 
 pub next_next : (k : Key) (x : Next) (c : Context) (l : Key) → next l (with_next k x c) ≡ cond (same_key l k) (Some x) (next l c)

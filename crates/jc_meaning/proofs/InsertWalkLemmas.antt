@@ -1,4 +1,4 @@
--- The walk of an insert along the links.
+-- About specs/Forest: the walk of an insert along the links (`follow`).
 use Rattle.std.proofs.Common.{◌≡◌, List, [], ◌∷◌, Bool, true, false, ◌||◌, cond, Option, Some, None, refl, sym, ◌∙◌, subst}
 use Rattle.jc_rules.specs.declared.id.Id.{Id}
 use Rattle.jc_rules.specs.declared.key.Key.{Key}
@@ -9,8 +9,7 @@ use Rattle.jc_rules.specs.Order.{id_cmp, same_key}
 use Rattle.jc_meaning.specs.Forest.{is_less, follow}
 use Rattle.jc_meaning.proofs.OrdersLemmas.{keys_eq, keys_self}
 use Rattle.jc_meaning.proofs.ChainLemmas.{skip, after, key_in, after_here}
-use Rattle.jc_meaning.proofs.BooleansLemmas.{no_first, no_second}
-use Rattle.jc_rules.proofs.BoolLemmas.{or_right}
+use Rattle.jc_rules.proofs.BoolLemmas.{or_right, neither}
 
 abbrev pub Distinct : Key → List Id → Type 0
 Distinct j [] = Unit {0}
@@ -88,7 +87,7 @@ linked r o j [] n d a q e s k = by_cases (same_key j r) refl e
     by_cases true h g =
         let same : j ≡ r = keys_eq j r h in
         rw (← same, ← g) (turned (same_key j k) (same_key (K.Elem o) k) (Some (To o)) (Some Tail) (Some Tail) None (λ x y. not_both j (K.Elem o) k a x y))
-linked r o j (m ∷ ns) n d a q e s k = by_cases (same_key j r) refl e (λ g. linked r o (K.Elem m) ns n d.1 (no_first _ _ q) (no_second _ _ q) g s k)
+linked r o j (m ∷ ns) n d a q e s k = by_cases (same_key j r) refl e (λ g. linked r o (K.Elem m) ns n d.1 ((neither _ _ q).0) ((neither _ _ q).1) g s k)
   where
     by_cases : (b : Bool) → same_key j r ≡ b → cond b (Some (To m)) (follow (K.Elem m) ns r) ≡ Some n → (follow (K.Elem m) ns r ≡ Some n → follow (K.Elem m) (after r o (K.Elem m) ns) k ≡ cond (same_key (K.Elem o) k) (Some n) (cond (same_key r k) (Some (To o)) (follow (K.Elem m) ns k))) → follow j (cond b (skip o (m ∷ ns)) (m ∷ after r o (K.Elem m) ns)) k ≡ cond (same_key (K.Elem o) k) (Some n) (cond (same_key r k) (Some (To o)) (cond (same_key j k) (Some (To m)) (follow (K.Elem m) ns k)))
     by_cases true h g l =

@@ -1,5 +1,5 @@
--- The inserts after one key, found one after another.
-use Rattle.std.proofs.Common.{◌≡◌, ◌≢◌, ℕ, ◌+◌, ◌<◌, List, [], ◌∷◌, ◌++◌, length, take, get_or, Bool, true, false, ◌||◌, ◌&&◌, cond, Option, Some, None, is_some, ◌↔◌, refl, sym, ◌∙◌, ap, subst}
+-- About specs/Meaning: the inserts after one key, found one after another; and whether identifiers differ.
+use Rattle.std.proofs.Common.{◌≡◌, ◌≢◌, ℕ, ◌+◌, ◌<◌, List, [], ◌∷◌, ◌++◌, length, take, get_or, Bool, true, false, ◌||◌, ◌&&◌, cond, Some, None, is_some, ◌↔◌, refl, sym, ◌∙◌, ap, subst}
 use Rattle.std.specs.List.{AllByRecursion}
 use Rattle.std.proofs.Math.Seq.{take-length}
 use Rattle.std.proofs.lemmas.List.{take_more}
@@ -12,6 +12,7 @@ use Rattle.jc_rules.specs.Ids.{has_id, with_id}
 use Rattle.jc_rules.specs.WellFormed.{AreDistinct}
 use Rattle.jc_rules.specs.Table.{op_of}
 use Rattle.jc_rules.proofs.IdsLemmas.{has_id-with, same_id-true, same_id-self}
+use Rattle.jc_rules.proofs.BoolLemmas.{none_of as none_is, and_true, or_false}
 use Rattle.jc_replica.specs.Operations.{identifiers}
 use Rattle.jc_meaning.specs.Meaning.{some_op, holds_of, names, hangs_at}
 use Rattle.jc_meaning.proofs.ChainEndsLemmas.{some_more}
@@ -33,14 +34,6 @@ named_hangs : (P : List Tagged) (k : Key) (O : List Op) → AreDistinct (identif
 named_hangs P k [] d i = refl
 named_hangs P k (o ∷ os) d i = go (same_id i o.id) refl (named_hangs P k os d.1 i)
   where
-    or_none : (b : Bool) → (b || false) ≡ b
-    or_none true = refl
-    or_none false = refl
-
-    and_true : (b : Bool) → (b && true) ≡ b
-    and_true true = refl
-    and_true false = refl
-
     and_none : (b c : Bool) → ((b && false) || c) ≡ c
     and_none true c = refl
     and_none false c = refl
@@ -48,7 +41,7 @@ named_hangs P k (o ∷ os) d i = go (same_id i o.id) refl (named_hangs P k os d.
     go : (b : Bool) → same_id i o.id ≡ b → some_op (is_named P k i) os ≡ hangs_at os P k i → ((names P k o && b) || some_op (is_named P k i) os) ≡ holds_of (names P k) (cond b (Some o) (op_of i os))
     go true e h =
         let absent : op_of i os ≡ None = ap (λ j. op_of j os) (same_id-true i o.id e) ∙ none_of o.id os d.0 in
-        ap (λ b. (names P k o && true) || b) (h ∙ ap (holds_of (names P k)) absent) ∙ or_none (names P k o && true) ∙ and_true (names P k o)
+        ap (λ b. (names P k o && true) || b) (h ∙ ap (holds_of (names P k)) absent) ∙ or_false (names P k o && true) ∙ and_true (names P k o)
     go false e h = and_none (names P k o) (some_op (is_named P k i) os) ∙ h
 
 module _ (O : List Op) (P : List Tagged) (k : Key) (n : ℕ) (ids : List Id) (has : (i : Id) → has_id i ids ≡ some_op (is_named P k i) (take n O)) where
@@ -69,11 +62,7 @@ module _ (O : List Op) (P : List Tagged) (k : Key) (n : ℕ) (ids : List Id) (ha
     one_named t i = has_id-with i o.id ids ∙ ap (λ b. same_id i o.id || b) (has i) ∙ turn (same_id i o.id) (some_op (is_named P k i) (take n O)) ∙ ap (λ b. some_op (is_named P k i) (take n O) || (b && same_id i o.id)) (sym t) ∙ sym (more i)
 
     pub not_named : names P k o ≡ false → (i : Id) → has_id i ids ≡ some_op (is_named P k i) (take (n + 1) O)
-    not_named f i = has i ∙ or_none (some_op (is_named P k i) (take n O)) ∙ ap (λ b. some_op (is_named P k i) (take n O) || (b && same_id i o.id)) (sym f) ∙ sym (more i)
-      where
-        or_none : (b : Bool) → b ≡ (b || false)
-        or_none true = refl
-        or_none false = refl
+    not_named f i = has i ∙ sym (or_false (some_op (is_named P k i) (take n O))) ∙ ap (λ b. some_op (is_named P k i) (take n O) || (b && same_id i o.id)) (sym f) ∙ sym (more i)
 
 -- ---- whether identifiers differ
 
@@ -84,10 +73,6 @@ others_differ i (o ∷ os) h = go (same_id i o.id) refl (others_differ i os) h
     go : (b : Bool) → same_id i o.id ≡ b → (op_of i os ≡ None → AllByRecursion (λ y. y ≢ i) (identifiers os)) → cond b (Some o) (op_of i os) ≡ None → AllByRecursion (λ y. y ≢ i) (identifiers (o ∷ os))
     go true e ih g = cc
     go false e ih g = (λ s. let yes : same_id i o.id ≡ true = ap (λ q. same_id i q) s ∙ same_id-self i in let z : true ≡ false = sym yes ∙ e in cc, ih g)
-
-none_is : {X : Type 0} (o : Option X) → is_some o ≡ false → o ≡ None
-none_is None e = refl
-none_is (Some x) e = cc
 
 -- one has the first one's identifier
 pub twice_there : (all rest later : List Op) (o : Op) → (AreDistinct (identifiers all) ↔ AreDistinct (identifiers rest)) → rest ≡ o ∷ later → is_some (op_of o.id later) ≡ true → AreDistinct (identifiers all) → ⊥

@@ -1,5 +1,4 @@
 pub mod InductionLemmas
-pub mod BooleansLemmas
 pub mod OrdersLemmas
 pub mod SeenLemmas
 pub mod ForestLemmas

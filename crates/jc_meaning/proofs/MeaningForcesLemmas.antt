@@ -1,4 +1,4 @@
--- What a meaning forces of its tree and the tidiness that clearing needs.
+-- About specs/Meaning and ClearingEffects: what a meaning implies of its tree, and that it is tidy.
 use Rattle.std.proofs.Common.{◌≡◌, List, [], ◌∷◌, ◌++◌, Bool, true, false, not, ◌||◌, ◌&&◌, cond, Option, Some, None, is_some, refl, sym, ◌∙◌, ap}
 use Rattle.jc_rules.specs.declared.id.Id.{Id}
 use Rattle.jc_rules.specs.declared.key.Key.{Key}
@@ -15,6 +15,7 @@ use Rattle.jc_rules.specs.Ids.{has_id}
 use Rattle.jc_rules.specs.Context.{Context, key_of_tagged}
 use Rattle.jc_rules.specs.Table.{is_done, op_of}
 use Rattle.jc_rules.specs.WellFormed.{LeadsThrough, chain_of}
+use Rattle.jc_rules.proofs.BoolLemmas.{first_true}
 use Rattle.jc_meaning.specs.Effects.{same_tagged, same_path, is_at_or_above, target, is_delete, is_clearing, touches, clears, value_in, primitive_in, written_by, overwrites, is_made_by, passed, goes_through, list_at}
 use Rattle.jc_meaning.specs.Seen.{seen}
 use Rattle.jc_meaning.proofs.ClearingEffectsLemmas.{seen_append}
@@ -24,7 +25,6 @@ use Rattle.jc_meaning.proofs.MeaningLemmas.{above_lower}
 use Rattle.jc_meaning.proofs.MeaningStepButLinksLemmas.{MeansAt}
 use Rattle.jc_meaning.specs.ClearingEffects.{is_tagged, Tidy}
 use Rattle.jc_meaning.proofs.OrdersLemmas.{keys_back, keys_self}
-use Rattle.jc_meaning.proofs.BooleansLemmas.{first_true}
 
 -- who touches a lower node touches the upper one
 lower_above : (P : List Tagged) (u : Tagged) (l : Key) (Q : List Tagged) (q : Key) → is_at_or_above (P ++ u ∷ []) l Q q ≡ true → is_at_or_above P (key_of_tagged u) Q q ≡ true

@@ -1,4 +1,4 @@
--- What the operations mean with one more.
+-- About specs/Meaning: what operations mean with one more, place by place.
 use Rattle.std.proofs.Common.{◌≡◌, List, [], ◌∷◌, ◌++◌, Bool, true, false, not, ◌||◌, ◌&&◌, cond, Some, None, refl, sym, subst}
 use Rattle.jc_rules.specs.declared.id.Id.{Id}
 use Rattle.jc_rules.specs.declared.key.Key.{Key}

@@ -1,4 +1,4 @@
--- What the operations mean with one more: the tree after it was applied.
+-- About specs/Meaning: a derivation of one more operation leads to what the set with it means.
 use Rattle.std.proofs.Common.{◌≡◌, List, [], ◌∷◌, Bool, true, false, ◌&&◌, cond, Option, Some, None, refl, sym, ap, subst}
 use Rattle.jc_rules.specs.declared.id.Id.{Id}
 use Rattle.jc_rules.specs.declared.key.Key.{Key}
@@ -17,13 +17,13 @@ use Rattle.jc_apply.specs.Fits.{child_context, InChild}
 use Rattle.jc_network.specs.LinksEverywhere.{Reach}
 use Rattle.jc_network.proofs.LinksKeptLemmas.{operates}
 use Rattle.jc_rules.specs.declared.key.Next.TheVariants.{Tail}
+use Rattle.jc_rules.proofs.BoolLemmas.{first_true, second_true}
 use Rattle.jc_meaning.specs.Effects.{same_path, list_at, is_insert}
 use Rattle.jc_meaning.specs.Seen.{context_or_new, seen}
 use Rattle.jc_meaning.specs.Forest.{bare, preorder}
 use Rattle.jc_meaning.specs.Meaning.{LinksOf, Means}
 use Rattle.jc_meaning.specs.ClearingEffects.{is_tagged, Tidy}
 use Rattle.jc_meaning.proofs.OperationActsLemmas.{Fresh}
-use Rattle.jc_meaning.proofs.BooleansLemmas.{first_true, second_true}
 use Rattle.jc_meaning.proofs.OrdersLemmas.{keys_back}
 use Rattle.jc_meaning.proofs.NextOperationLemmas.{paths_eq, is_insert-is, IsGood, NewFor, not_inserted}
 use Rattle.jc_meaning.proofs.MeaningForcesLemmas.{tidy_means}

@@ -1,4 +1,4 @@
--- Sets of operations, and one that may come next.
+-- About specs/Meaning and Effects: sets of operations, and an operation that may come next.
 use Rattle.std.proofs.Common.{◌≡◌, ◌<◌, List, [], ◌∷◌, ◌++◌, Bool, true, false, ◌||◌, ◌&&◌, Option, Some, None, is_some, Contains, ◌⊎◌, inl, inr, refl, sym, ◌∙◌, ap, subst}
 use Rattle.jc_rules.specs.declared.id.Id.{Id}
 use Rattle.jc_rules.specs.declared.key.Key.{Key}
@@ -18,10 +18,9 @@ use Rattle.jc_rules.proofs.CoveredLemmas.{left_in}
 use Rattle.jc_network.proofs.MembersLemmas.{none_in, first_in, later_in, in_cons, op_in}
 use Rattle.jc_meaning.specs.Effects.{same_tagged, same_path, is_at_or_above, is_list_tag, list_at, is_insert}
 use Rattle.jc_meaning.specs.Meaning.{some_op, holds_of, names, hangs_at}
-use Rattle.jc_meaning.proofs.BooleansLemmas.{first_true, second_true, both_true}
 use Rattle.jc_meaning.proofs.OrdersLemmas.{keys_eq, keys_self}
 use Rattle.jc_meaning.proofs.TagsLemmas.{tags_eq}
-use Rattle.jc_rules.proofs.BoolLemmas.{or_right}
+use Rattle.jc_rules.proofs.BoolLemmas.{or_right, first_true, second_true, both_true}
 
 -- ---- members
 

@@ -1,4 +1,5 @@
--- What an operation changes in what is seen, told by its parts: identifier, deps, path, last key, mutation.
+-- About specs/Effects: what an operation changes in what is seen (`Changes`), by its parts: identifier, deps, path,
+-- last key, mutation.
 use Rattle.std.proofs.Common.{◌≡◌, List, Bool, true, false, not, ◌||◌, ◌&&◌, cond, Option, Some, None, is_some, ◌⊎◌}
 use Rattle.jc_rules.specs.declared.id.Id.{Id}
 use Rattle.jc_rules.specs.declared.key.Key.{Key}

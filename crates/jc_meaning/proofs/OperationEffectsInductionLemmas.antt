@@ -1,4 +1,4 @@
--- What an operation changes: the cases of the rule induction.
+-- About specs/Effects: what an operation changes, the cases of the rule induction.
 use Rattle.std.proofs.Common.{◌≡◌, List, [], ◌∷◌, Bool, true, false, not, ◌||◌, ◌&&◌, cond, Option, Some, None, is_some, inl, inr, refl, sym, ◌∙◌, ap}
 use Rattle.jc_rules.specs.declared.id.Id.{Id}
 use Rattle.jc_rules.specs.declared.key.Key.{Key}
@@ -13,16 +13,17 @@ use Rattle.jc_rules.specs.Ids.{has_id, with_id}
 use Rattle.jc_rules.specs.Context.{Context, registers, Register, Node, values_of, content, with_content, new_content, with_presence, next, key_of_tagged}
 use Rattle.jc_rules.specs.Derivation.{ToContext, ToContent}
 use Rattle.jc_rules.proofs.IdsLemmas.{has_id-with}
+use Rattle.jc_rules.proofs.BoolLemmas.{or_false}
 use Rattle.jc_meaning.specs.Effects.{same_tagged, same_path, is_at_or_above, target_of, is_delete, is_insert, is_clearing, value_in, primitive_in, passed}
 use Rattle.jc_meaning.specs.Seen.{context_or_new, seen, ids_at, value_seen_at, has_tag}
 use Rattle.jc_meaning.specs.Forest.{follow}
 use Rattle.jc_meaning.proofs.ChainLemmas.{add, after, key_in}
 use Rattle.jc_meaning.proofs.ClearingEffectsLemmas.{and_true}
 use Rattle.jc_meaning.proofs.InsertWalkLemmas.{Distinct}
-use Rattle.jc_meaning.proofs.TagsLemmas.{tags_eq, tags_back, node_ids, node_value, node_next, presence_tag, presence_value, presence_next, presence_ids}
+use Rattle.jc_meaning.proofs.TagsLemmas.{tags_eq, tags_back, node_ids, node_value, node_next, presence_tag, presence_value, presence_next, presence_ids, tags_self}
 use Rattle.jc_meaning.proofs.SeenLemmas.{is_node_tag, content_with_node, seen_with_node}
 use Rattle.jc_meaning.proofs.OperationActsLemmas.{touched, cleared, written, overwritten, or_else, Changes, node_content, OfChild, OfAdd}
-use Rattle.jc_meaning.proofs.OrdersLemmas.{keys_eq, keys_self}
+use Rattle.jc_meaning.proofs.OrdersLemmas.{keys_eq}
 use Rattle.jc_meaning.specs.ClearingEffects.{in_key}
 
 -- ---- below the root
@@ -30,11 +31,6 @@ use Rattle.jc_meaning.specs.ClearingEffects.{in_key}
 pub at_root_key : (k : Key) (P : List Tagged) (l : Key) → is_at_or_above [] k P l ≡ in_key k P l
 at_root_key k [] l = refl
 at_root_key k (u ∷ us) l = refl
-
-pub tags_self : (t : Tagged) → same_tagged t t ≡ true
-tags_self (MapT k) = keys_self k
-tags_self (ListT k) = keys_self k
-tags_self (RegT k) = keys_self k
 
 pub node_tag : (t : Tagged) (c d : Context) → OfChild c t (ToContent (Node d)) → is_node_tag t ≡ true
 node_tag (MapT k) c d h = refl
@@ -72,10 +68,6 @@ below_node t c d e n there f g u P h out = ap f (seen_with_node t u P e c n) ∙
 pub or_true : (x : Bool) → true ≡ (x || true)
 or_true true = refl
 or_true false = refl
-
-pub or_none : (x : Bool) → x ≡ (x || false)
-or_none true = refl
-or_none false = refl
 
 quiet_ids : (x s n m z : Bool) → x ≡ ((s && (n && false)) || (x && not ((m && false) && z)))
 quiet_ids x true true true z = go x
@@ -159,8 +151,8 @@ descends i deps t rest last m c d e c2 made_child k add = record { tags = tags; 
       where
         go : (b : Bool) → same_tagged t u ≡ b → is_some (cond b (Some (Node e)) (content u c2)) ≡ (has_tag u c || same_tagged t u)
         go true x = rw x (or_true (has_tag u c))
-        go false x = rw x (ap is_some (same_content u) ∙ or_none (has_tag u c))
-    tags (v ∷ P) u = down (has_tag u) (λ b x. x || (b && passed rest tgt (value_in m) P u)) v P (k.tags P u) (or_none (has_tag u (seen (v ∷ P) c)))
+        go false x = rw x (ap is_some (same_content u) ∙ sym (or_false (has_tag u c)))
+    tags (v ∷ P) u = down (has_tag u) (λ b x. x || (b && passed rest tgt (value_in m) P u)) v P (k.tags P u) (sym (or_false (has_tag u (seen (v ∷ P) c))))
 
     ids : (P : List Tagged) (l : Key) (j : Id) → has_id j (ids_at l (seen P (with_content t (Node e) c2))) ≡ ((same_id j i && touched (t ∷ rest) tgt m P l) || (has_id j (ids_at l (seen P c)) && not (cleared (t ∷ rest) tgt m P l && has_id j deps)))
     ids [] l j = ap (has_id j) (node_ids t e c2 l) ∙ added_ids c c2 t i m add l j ∙ root_ids (has_id j (ids_at l c)) (same_id j i) (not (is_delete m)) (is_clearing m) (same_key l (key_of_tagged t)) (has_id j deps)

@@ -1,4 +1,4 @@
--- What an operation changes: at its place, and the law.
+-- About specs/Effects: what an operation changes at its own place.
 use Rattle.std.proofs.Common.{◌≡◌, List, [], ◌∷◌, Bool, true, false, not, ◌||◌, ◌&&◌, cond, Option, Some, None, is_some, ◌⊎◌, inl, inr, refl, sym, ◌∙◌, ap, subst}
 use Rattle.jc_rules.specs.declared.id.Id.{Id}
 use Rattle.jc_rules.specs.declared.key.Key.{Key}
@@ -14,6 +14,7 @@ use Rattle.std.proofs.lemmas.Option.{same_Some}
 use Rattle.jc_rules.specs.Derivation.{ToContext, ToContent}
 use Rattle.jc_rules.proofs.OrderLemmas.{ids_total, exact_ids}
 use Rattle.jc_rules.proofs.EntriesLemmas.{find-put}
+use Rattle.jc_rules.proofs.BoolLemmas.{or_false}
 use Rattle.jc_meaning.specs.Effects.{same_tagged, same_path, is_at_or_above, is_clearing, primitive, is_made_by, passed}
 use Rattle.jc_meaning.specs.Seen.{context_or_new, seen, ids_at, reg_at, value_in_some, value_seen_at, has_tag}
 use Rattle.jc_meaning.proofs.ClearingEffectsLemmas.{and_true}
@@ -21,7 +22,7 @@ use Rattle.jc_meaning.proofs.TagsLemmas.{tags_eq, tags_back, node_ids, node_valu
 use Rattle.jc_meaning.proofs.SeenLemmas.{is_node_tag, content_with_node, seen_with_node}
 use Rattle.jc_meaning.proofs.OperationActsLemmas.{touched, cleared, written, overwritten, or_else, Changes, OfChild, OfAdd}
 use Rattle.jc_meaning.proofs.ClearingEffectsInductionLemmas.{in_tag, reg_tag, same_bool, same_value, reg_ids, reg_value}
-use Rattle.jc_meaning.proofs.OperationEffectsInductionLemmas.{at_root_key, or_true, or_none, added_ids, added_else}
+use Rattle.jc_meaning.proofs.OperationEffectsInductionLemmas.{at_root_key, or_true, added_ids, added_else}
 use Rattle.jc_meaning.specs.ClearingEffects.{TakesAway, in_key}
 use Rattle.jc_meaning.proofs.OrdersLemmas.{keys_eq, keys_back, keys_self}
 
@@ -42,8 +43,8 @@ pub deletes : (i : Id) (deps : List Id) (last : Key) (c d : Context) → TakesAw
 deletes i deps last c d k = record { tags = tags; ids = ids; values = values; links = λ x. k.links; elsewhere = λ P l h. k.links P l; linked = λ x. cc }
   where
     tags : (P : List Tagged) (u : Tagged) → has_tag u (seen P d) ≡ (has_tag u (seen P c) || passed [] last None P u)
-    tags [] u = k.tags [] u ∙ or_none (has_tag u c)
-    tags (v ∷ P) u = k.tags (v ∷ P) u ∙ or_none (has_tag u (seen (v ∷ P) c))
+    tags [] u = k.tags [] u ∙ sym (or_false (has_tag u c))
+    tags (v ∷ P) u = k.tags (v ∷ P) u ∙ sym (or_false (has_tag u (seen (v ∷ P) c)))
 
     no_touch : (s x : Bool) → x ≡ ((s && false) || x)
     no_touch true x = refl
@@ -113,8 +114,8 @@ makes_node i deps t v c c1 c2 x n prim clr mk k add ch = subst (λ y. Changes i 
       where
         go : (b : Bool) → same_tagged t u ≡ b → is_some (cond b (Some (Node e)) (content u c2)) ≡ (has_tag u c || same_tagged t u)
         go true y = rw y (or_true (has_tag u c))
-        go false y = rw y (ap is_some (same_content u) ∙ k.tags [] u ∙ or_none (has_tag u c))
-    tags (s ∷ P) u = ap (has_tag u) (down s P) ∙ k.tags (s ∷ P) u ∙ or_none (has_tag u (seen (s ∷ P) c))
+        go false y = rw y (ap is_some (same_content u) ∙ k.tags [] u ∙ sym (or_false (has_tag u c)))
+    tags (s ∷ P) u = ap (has_tag u) (down s P) ∙ k.tags (s ∷ P) u ∙ sym (or_false (has_tag u (seen (s ∷ P) c)))
 
     ids : (P : List Tagged) (l : Key) (j : Id) → has_id j (ids_at l (seen P (with_content t (Node e) c2))) ≡ ((same_id j i && touched [] last (M.Assign v) P l) || (has_id j (ids_at l (seen P c)) && not (cleared [] last (M.Assign v) P l && has_id j deps)))
     ids [] l j = ap (has_id j) (node_ids t e c2 l) ∙ added_ids c1 c2 t i (M.Assign v) add l j ∙ rw clr (ap (λ y. (same_id j i && (true && same_key l last)) || y) (k.ids [] l j))
@@ -153,17 +154,17 @@ assigns i deps last v c c1 c2 r prim clr mk k add ch = record { tags = tags; ids
     down u P = values_seen last new u P c2 ∙ ap (λ o. seen P (context_or_new o u)) (same_content u)
 
     root : (u : Tagged) (c2 : Context) → has_tag u (with_content (RegT last) (Values new) c2) ≡ (has_tag u c2 || same_tagged (RegT last) u)
-    root (MapT j) (context m l r p n) = or_none _
-    root (ListT j) (context m l r p n) = or_none _
+    root (MapT j) (context m l r p n) = sym (or_false _)
+    root (ListT j) (context m l r p n) = sym (or_false _)
     root (RegT j) c2 = ap (λ o. is_some (values_of o)) (values_reg last new c2 j) ∙ go (same_key j last) (keys_back last j)
       where
         go : (b : Bool) → same_key last j ≡ b → is_some (values_of (cond b (Some new) (reg_at j c2))) ≡ (has_tag (RegT j) c2 || same_key last j)
         go true y = rw y (or_true (has_tag (RegT j) c2))
-        go false y = rw y (or_none (has_tag (RegT j) c2))
+        go false y = rw y (sym (or_false (has_tag (RegT j) c2)))
 
     tags : (P : List Tagged) (u : Tagged) → has_tag u (seen P (with_content (RegT last) (Values new) c2)) ≡ (has_tag u (seen P c) || passed [] last (Some v) P u)
     tags [] u = root u c2 ∙ ap (λ o. is_some o || same_tagged (RegT last) u) (same_content u) ∙ rw (mk u) (ap (λ b. b || same_tagged (RegT last) u) (k.tags [] u))
-    tags (s ∷ P) u = ap (has_tag u) (down s P) ∙ k.tags (s ∷ P) u ∙ or_none (has_tag u (seen (s ∷ P) c))
+    tags (s ∷ P) u = ap (has_tag u) (down s P) ∙ k.tags (s ∷ P) u ∙ sym (or_false (has_tag u (seen (s ∷ P) c)))
 
     ids : (P : List Tagged) (l : Key) (j : Id) → has_id j (ids_at l (seen P (with_content (RegT last) (Values new) c2))) ≡ ((same_id j i && touched [] last (M.Assign v) P l) || (has_id j (ids_at l (seen P c)) && not (cleared [] last (M.Assign v) P l && has_id j deps)))
     ids [] l j = ap (has_id j) (values_ids last new c2 l) ∙ added_ids c1 c2 (RegT last) i (M.Assign v) add l j ∙ rw clr (ap (λ y. (same_id j i && (true && same_key l last)) || y) (k.ids [] l j))

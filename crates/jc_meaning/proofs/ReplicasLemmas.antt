@@ -1,4 +1,5 @@
--- What the operations mean that a replica has applied is its tree, without empty presence sets.
+-- About specs/Replicas: the meaning of the operations that a replica has applied is its tree but for empty presence
+-- sets.
 use Rattle.std.proofs.Common.{◌≡◌, ◌≢◌, List, [], ◌∷◌, map, filter, Some, Contains, ◌⊎◌, inl, inr, refl, sym, ◌∙◌, ap, subst}
 use Rattle.std.specs.List.{AllByRecursion}
 use Rattle.std.proofs.lemmas.Option.{same_Some}
@@ -17,6 +18,7 @@ use Rattle.jc_network.specs.RunInvariant.{IsWell}
 use Rattle.jc_network.proofs.AppliedLemmas.{applied_is}
 use Rattle.jc_network.proofs.MembersLemmas.{none_in, first_in, later_in, in_cons, of_id}
 use Rattle.jc_network.proofs.RunInvariantStartLemmas.{sound, at_member}
+use Rattle.jc_network.proofs.AbstractLemmas.{mapped_in, in_mapped}
 use Rattle.jc_meaning.specs.Meaning.{Means, IsMeaning, AreFilled, AreAllFilled}
 use Rattle.jc_meaning.specs.Replicas.{HasApplied, IsTreeOfReplicas}
 use Rattle.jc_meaning.proofs.ComparedLemmas.{one_tree}
@@ -48,22 +50,6 @@ mutual
       λ i. child k (one i) (rest i)
 
 -- ---- the operations that kept ones stand for
-
-mapped_in : (os : List Op) (o : Op) → Contains os o → Contains (map stored_op os) (stored_op o)
-mapped_in [] o c = none_in o c
-mapped_in (p ∷ os) o c = go (in_cons o p os c) (mapped_in os o)
-  where
-    go : (p ≡ o) ⊎ Contains os o → (Contains os o → Contains (map stored_op os) (stored_op o)) → Contains (map stored_op (p ∷ os)) (stored_op o)
-    go (inl s) f = subst (λ x. Contains (map stored_op (p ∷ os)) (stored_op x)) s (first_in (stored_op p) (map stored_op os))
-    go (inr m) f = later_in (stored_op o) (stored_op p) (map stored_op os) (f m)
-
-in_mapped : (os : List Op) (k : Op) → Contains (map stored_op os) k → (o : Op) × Contains os o × (stored_op o ≡ k)
-in_mapped [] k c = none_in k c
-in_mapped (p ∷ os) k c = go (in_cons k (stored_op p) (map stored_op os) c) (in_mapped os k)
-  where
-    go : (stored_op p ≡ k) ⊎ Contains (map stored_op os) k → (Contains (map stored_op os) k → (o : Op) × Contains os o × (stored_op o ≡ k)) → (o : Op) × Contains (p ∷ os) o × (stored_op o ≡ k)
-    go (inl s) f = (p, first_in p os, s)
-    go (inr m) f = let x = f m in (x.0, later_in x.0 p os x.1, x.2)
 
 -- kept operations that are all of a list stand for some of the list
 record Stand (ops all : List Op) : Type 0 where

@@ -1,4 +1,4 @@
--- What is used of sound and rooted sets.
+-- About specs/Laws: what the laws need of sound, rooted and closed sets.
 use Rattle.std.proofs.Common.{◌≡◌, ◌<◌, List, [], ◌∷◌, ◌++◌, Option, Some, None, is_some, Bool, true, false, ◌&&◌, not, cond, Contains, ◌⊎◌, inl, inr, refl, sym, ◌∙◌, ap, subst}
 use Rattle.jc_rules.specs.declared.id.Id.{Id}
 use Rattle.jc_rules.specs.declared.key.Key.{Key}
@@ -8,13 +8,12 @@ use Rattle.jc_rules.specs.declared.key.Tagged.TheVariants.{ListT}
 use Rattle.jc_rules.specs.declared.operation.Op.{Op}
 use Rattle.jc_rules.specs.Order.{same_id}
 use Rattle.jc_rules.specs.Ids.{has_id}
-use Rattle.jc_rules.specs.Context.{Context, Content, Node, Values, content}
+use Rattle.jc_rules.specs.Context.{Context, content}
 use Rattle.jc_rules.specs.Derivation.{ClearElem, Cleared}
 use Rattle.jc_rules.specs.ContextsAt.{IsAtOrAbove, node_at}
 use Rattle.jc_rules.specs.Refused.{IsAnswered}
 use Rattle.jc_rules.specs.Sound.{IsSound, IsRooted, IsRootedAt}
 use Rattle.jc_rules.specs.Table.{op_of}
-use Rattle.std.proofs.lemmas.Option.{same_Some}
 use Rattle.jc_rules.proofs.IdsLemmas.{same_id-self, same_id-true}
 use Rattle.jc_network.proofs.MembersLemmas.{none_in, first_in, later_in, in_cons, op_in}
 use Rattle.jc_meaning.specs.Laws.{IsClosedSet, ComesNext}
@@ -25,6 +24,8 @@ use Rattle.jc_meaning.specs.Effects.{list_at, is_list_tag, same_path}
 use Rattle.jc_meaning.proofs.NextOperationLemmas.{at_list, paths_self, insert_is, inserted_by, DepsIn, DepsOlder, IsRoot, RootedIn, IsGood, NewFor}
 use Rattle.jc_meaning.proofs.InsertEffectsLemmas.{clears_elem}
 use Rattle.jc_meaning.proofs.MeaningStepLemmas.{is_tidy}
+use Rattle.jc_meaning.proofs.SeenLemmas.{node_seen}
+use Rattle.jc_vectors.proofs.StateShrinksLemmas.{some_of}
 
 -- All is a sound and rooted set, S has the operation of each identifier of its own that All has.
 module _ (All S : List Op) (sound : IsSound All) (rooted : IsRooted All) (same : (i : Id) → is_some (op_of i S) ≡ true → op_of i All ≡ op_of i S) (p : Op) (k : Contains All p) (deps : DepsIn S p) where
@@ -53,16 +54,6 @@ closed_good set h =
       older = λ p k. older_of set set h.sound h.rooted (λ i e. refl) p k (h.closed p k);
       rooted = λ p k. rooted_of set set h.sound h.rooted (λ i e. refl) p k (h.closed p k);
     }
-
--- an operation of the list has an identifier of it
-has_op : (S : List Op) (p : Op) → Contains S p → op_of p.id S ≡ None → ⊥
-has_op [] p k e = none_in p k
-has_op (q ∷ qs) p k e = go (same_id p.id q.id) refl (in_cons p q qs k) (λ m f. has_op qs p m f) e
-  where
-    go : (b : Bool) → same_id p.id q.id ≡ b → (q ≡ p) ⊎ Contains qs p → (Contains qs p → op_of p.id qs ≡ None → ⊥) → cond b (Some q) (op_of p.id qs) ≡ None → ⊥
-    go true x y f z = cc
-    go false x (inl s) f z = let t : same_id p.id q.id ≡ true = subst (λ (r : Op). same_id p.id r.id ≡ true) (sym s) (same_id-self p.id) in cc
-    go false x (inr m) f z = f m z
 
 pub next_new : (set : List Op) (o : Op) → ComesNext set o → NewFor set o
 next_new set o h =
@@ -94,21 +85,11 @@ next_new set o h =
     there p k = go (op_of p.id set) refl
       where
         go : (x : Option Op) → op_of p.id set ≡ x → is_some x ≡ true
-        go None e = absurd (has_op set p k e)
+        go None e = absurd (some_of set p k e)
         go (Some q) e = refl
 
     one : (p : Op) → Contains set p → op_of p.id set ≡ Some p
     one p k = sym (same p.id (there p k)) ∙ h.sound.one_each p (later_in p o set k)
-
--- what is seen where there is a context
-seen_node : (P : List Tagged) (c d : Context) → node_at P c ≡ Some d → seen P c ≡ d
-seen_node [] c d e = same_Some c d e
-seen_node (t ∷ ts) c d e = go (content t c) refl (λ x f. seen_node ts x d f) e
-  where
-    go : (o : Option Content) → content t c ≡ o → ((x : Context) → node_at ts x ≡ Some d → seen ts x ≡ d) → node_at (t ∷ ts) c ≡ Some d → seen ts (context_or_new o t) ≡ d
-    go None f ih g = let no : None ≡ Some d = rw f at g in cc
-    go (Some (Values r)) f ih g = let no : None ≡ Some d = rw f at g in cc
-    go (Some (Node x)) f ih g = ih x (rw f at g)
 
 tidy_below : (b : Bool) (P : List Tagged) (c : Context) → Tidy b c → Tidy (list_at b P) (seen P c)
 tidy_below b [] c h = h
@@ -116,7 +97,7 @@ tidy_below b (t ∷ ts) c h = tidy_below (is_list_tag t) ts (context_or_new (con
 
 pub clearing_takes : (set : List Op) (t : Context) → IsClosedSet set → Means set t → (path : List Tagged) (c d : Context) (deps s : List Id) (k : Key) → node_at path t ≡ Some c → IsAnswered (ClearElem c deps k) (Cleared d s)
     → TakesAway c d deps (in_key k) (in_key k) × ((i : Id) → has_id i s ≡ (has_id i (ids_at k c) && not (has_id i deps)))
-clearing_takes set t h m path c d deps s k there a = clears_elem (list_at false path) c d deps s k (subst (Tidy (list_at false path)) (seen_node path t c there) below) a
+clearing_takes set t h m path c d deps s k there a = clears_elem (list_at false path) c d deps s k (subst (Tidy (list_at false path)) (node_seen path t c there) below) a
   where
     whole : Tidy false t
     whole = is_tidy set t (closed_good set h) m

@@ -1,4 +1,4 @@
--- What stands in a list and in a new element, by the roots of operations.
+-- About specs/Meaning: which keys a list and a new element have, by the roots of operations.
 use Rattle.std.proofs.Common.{◌≡◌, List, [], ◌∷◌, Bool, true, false, not, ◌||◌, cond, Option, Some, None, is_some, Contains, ◌⊎◌, inl, inr, refl, sym, ◌∙◌, ap, subst}
 use Rattle.jc_rules.specs.declared.id.Id.{Id}
 use Rattle.jc_rules.specs.declared.key.Key.{Key}
@@ -21,7 +21,6 @@ use Rattle.jc_meaning.specs.Seen.{seen, has_tag}
 use Rattle.jc_meaning.specs.Forest.{follow}
 use Rattle.jc_meaning.specs.Meaning.{holds_of, is_present, is_cleared, value_written, goes}
 use Rattle.jc_meaning.specs.ClearingEffects.{is_tagged}
-use Rattle.jc_meaning.proofs.BooleansLemmas.{first_true, second_true, both_true, not_so}
 use Rattle.jc_meaning.proofs.OrdersLemmas.{keys_eq, keys_back, keys_self}
 use Rattle.jc_meaning.proofs.TagsLemmas.{tags_eq, tags_back}
 use Rattle.jc_meaning.proofs.OperationActsLemmas.{Fresh}
@@ -31,7 +30,7 @@ use Rattle.jc_meaning.proofs.NextOperationLemmas.{some_in, inserted_at, inserted
 use Rattle.jc_meaning.proofs.MeaningForcesLemmas.{value_present}
 use Rattle.jc_meaning.proofs.MeaningStepButLinksLemmas.{MeansAt}
 use Rattle.jc_meaning.proofs.InsertWalkLemmas.{Distinct}
-use Rattle.jc_rules.proofs.BoolLemmas.{or_right}
+use Rattle.jc_rules.proofs.BoolLemmas.{or_right, first_true, second_true, both_true, not_so}
 
 -- ---- places above places
 

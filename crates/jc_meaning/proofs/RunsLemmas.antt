@@ -1,5 +1,5 @@
--- In every run a replica's tree is what the operations mean that it has applied.
-use Rattle.std.proofs.Common.{◌≡◌, ◌≢◌, ℕ, ◌+◌, ◌≤◌, ◌<◌, List, [], ◌∷◌, ◌++◌, Option, Some, None, is_some, Bool, true, false, ◌||◌, cond, Contains, ◌⊎◌, inl, inr, slice_get, slice_set, refl, sym, ◌∙◌, ap, subst, arith}
+-- About specs/Laws: in every run the tree of a replica is what the operations mean that it has applied.
+use Rattle.std.proofs.Common.{◌≡◌, ◌≢◌, ℕ, ◌+◌, ◌<◌, List, [], ◌∷◌, ◌++◌, Option, Some, None, is_some, Bool, true, false, ◌||◌, cond, Contains, ◌⊎◌, inl, inr, slice_get, slice_set, refl, sym, ◌∙◌, ap, subst}
 use Rattle.std.proofs.lemmas.Option.{same_Some}
 use Rattle.jc_rules.specs.declared.id.Id.{Id}
 use Rattle.jc_rules.specs.declared.key.Key.{Key}
@@ -8,7 +8,7 @@ use Rattle.jc_rules.specs.declared.key.Tagged.TheVariants.{ListT}
 use Rattle.jc_rules.specs.declared.operation.Op.{Op}
 use Rattle.jc_rules.specs.declared.operation.Event.{Event}
 use Rattle.jc_rules.specs.Order.{same_id}
-use Rattle.jc_rules.specs.Ids.{has_id, with_id, greatest, AreIn}
+use Rattle.jc_rules.specs.Ids.{has_id, with_id, AreIn}
 use Rattle.jc_rules.specs.Derivation.{Operate, ToContext}
 use Rattle.jc_rules.specs.ContextsAt.{IsAtOrAbove}
 use Rattle.jc_rules.specs.Refused.{IsAnswered}
@@ -36,7 +36,7 @@ use Rattle.jc_meaning.proofs.ComparedLemmas.{one_tree}
 use Rattle.jc_meaning.proofs.WellFormedLemmas.{operated_kept}
 use Rattle.jc_meaning.proofs.MeaningOfSetLemmas.{SameOps, same_ops, means_same}
 use Rattle.jc_rules.proofs.BoolLemmas.{same_tests}
-use Rattle.jc_rules.proofs.IdSetLemmas.{member_greatest}
+use Rattle.jc_network.proofs.ChainedLemmas.{new_unapplied}
 
 -- a list of the operations that a replica has applied, of which the tree is the meaning
 record Built (In : Op → Type 0) (A : State) : Type 0 where
@@ -129,13 +129,6 @@ module _ (N : List State) (w : IsWell N) (p : ℕ) (A : State) (there : IsReplic
 data Treed (A B : State) : Type 0 where
   quiet : B.tree ≡ A.tree → B.ops ≡ A.ops → ((x : Op) → Contains A.queue x → Contains B.queue x) → Treed A B
   operated : (o : Op) → has_id o.id A.ops ≡ false → AreIn o.deps A.ops → IsAnswered (Operate A.tree o) (ToContext B.tree) → B.ops ≡ with_id o.id A.ops → ((x : Op) → Contains A.queue x → Contains B.queue x) → Contains B.queue o ⊎ Contains A.recv o → Treed A B
-
-new_unapplied : (p : ℕ) (A : State) → has_id (record { counter = greatest A.ops + 1; replica = p }) A.ops ≡ false
-new_unapplied p A = go (has_id (record { counter = greatest A.ops + 1; replica = p }) A.ops) refl
-  where
-    go : (b : Bool) → has_id (record { counter = greatest A.ops + 1; replica = p }) A.ops ≡ b → b ≡ false
-    go true e = let l : greatest A.ops + 1 ≤ greatest A.ops = member_greatest (record { counter = greatest A.ops + 1; replica = p }) A.ops e in absurd (omega (arith, l))
-    go false e = refl
 
 treed : (A : State) (event : Event) (read : List Op) (B : State) → ((x : Op) → Contains A.queue x → has_id x.id A.ops ≡ true) → Did A event read B → Treed A B
 treed A event read B own (bound p rest x e b is left s new) = subst (λ (S : State). Treed A S) (sym new) (quiet refl refl (λ y k. k))

@@ -1,4 +1,4 @@
--- Operations as they are kept mean what they mean with the dependencies that these stand for.
+-- About specs/Meaning: operations with version vectors mean what they mean with the dependencies that these represent.
 use Rattle.std.proofs.Common.{◌≡◌, List, [], ◌∷◌, map, Bool, true, false, not, ◌||◌, ◌&&◌, cond, Option, Some, None, refl, sym, ◌∙◌, ap}
 use Rattle.jc_rules.specs.declared.id.Id.{Id}
 use Rattle.jc_rules.specs.declared.key.Key.{Key}
@@ -25,11 +25,11 @@ some_kept : (f : Op → Bool) → ((o : Op) → f (stored_op o) ≡ f o) → (os
 some_kept f same [] = refl
 some_kept f same (o ∷ os) = ap (λ b. b || some_op f (map stored_op os)) (same o) ∙ ap (λ b. f o || b) (some_kept f same os)
 
-abbrev kept_of : Option Op → Option Op
+abbrev pub kept_of : Option Op → Option Op
 kept_of None = None
 kept_of (Some o) = Some (stored_op o)
 
-found_kept : (i : Id) (os : List Op) → op_of i (map stored_op os) ≡ kept_of (op_of i os)
+pub found_kept : (i : Id) (os : List Op) → op_of i (map stored_op os) ≡ kept_of (op_of i os)
 found_kept i [] = refl
 found_kept i (o ∷ os) = go (same_id i o.id) (found_kept i os)
   where

@@ -1,4 +1,4 @@
--- Laws of tags, and what is seen after a write.
+-- About specs/Effects and Seen: equality of tagged keys, and what is seen after a write.
 use Rattle.std.proofs.Common.{◌≡◌, List, [], ◌∷◌, Bool, true, false, ◌||◌, cond, Option, Some, None, is_some, refl, sym, ◌∙◌, ap}
 use Rattle.jc_rules.specs.declared.id.Id.{Id}
 use Rattle.jc_rules.specs.declared.key.Key.{Key}
@@ -15,7 +15,7 @@ use Rattle.jc_rules.proofs.EntriesLemmas.{find-put}
 use Rattle.jc_rules.proofs.IdsLemmas.{same_id-true}
 use Rattle.jc_meaning.specs.Effects.{same_tagged}
 use Rattle.jc_meaning.specs.Seen.{seen, ids_of_some, ids_at, reg_at, value_seen_at}
-use Rattle.jc_meaning.proofs.OrdersLemmas.{keys_eq, keys_back}
+use Rattle.jc_meaning.proofs.OrdersLemmas.{keys_eq, keys_back, keys_self}
 use Rattle.jc_meaning.proofs.ClearingEffectsLemmas.{below_reg}
 
 pub tags_eq : (t u : Tagged) → same_tagged t u ≡ true → t ≡ u
@@ -28,6 +28,11 @@ tags_eq (ListT j) (MapT k) h = cc
 tags_eq (ListT j) (RegT k) h = cc
 tags_eq (RegT j) (MapT k) h = cc
 tags_eq (RegT j) (ListT k) h = cc
+
+pub tags_self : (t : Tagged) → same_tagged t t ≡ true
+tags_self (MapT k) = keys_self k
+tags_self (ListT k) = keys_self k
+tags_self (RegT k) = keys_self k
 
 pub tags_back : (t u : Tagged) → same_tagged t u ≡ same_tagged u t
 tags_back (MapT j) (MapT k) = keys_back j k

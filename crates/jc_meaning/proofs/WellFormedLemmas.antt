@@ -1,6 +1,5 @@
--- Derivations leave trees kept: entries in order, registers primitive.
-use Rattle.std.proofs.Common.{◌≡◌, List, [], ◌∷◌, Option, Some, None, Bool, true, false, not, refl, sym, ap, subst}
-use Rattle.std.specs.List.{AllByRecursion}
+-- Derivations leave trees well-formed: entries are sorted, and registers hold primitive values. `RunsLemmas` uses it.
+use Rattle.std.proofs.Common.{◌≡◌, List, [], ◌∷◌, Option, Some, None, not, sym, ap, subst}
 use Rattle.std.proofs.lemmas.Option.{same_Some}
 use Rattle.jc_rules.specs.declared.id.Id.{Id}
 use Rattle.jc_rules.specs.declared.key.Key.{Key}
@@ -18,32 +17,22 @@ use Rattle.jc_rules.specs.declared.value.Value.{Value}
 use Rattle.jc_rules.specs.Order.{key_cmp, id_cmp}
 use Rattle.jc_rules.specs.Entries.{find, put}
 use Rattle.jc_rules.specs.Ids.{AreRising, has_id, with_id, union, without}
-use Rattle.jc_rules.specs.Context.{Context, context, Children, no_child, child, children, listed, Register, IsPrimitive, Content, Node, Values, node_of, values_of, maps, lists, content, with_content, presence, with_presence, with_next, key_of_tagged}
+use Rattle.jc_rules.specs.Context.{Context, context, listed, Register, IsPrimitive, Content, Node, Values, node_of, values_of, maps, lists, content, with_content, with_next, key_of_tagged}
 use Rattle.jc_rules.specs.Derivation.{Question, Occur, Run, Evaluate, SelectIndex, SelectKeys, SelectValues, Make, ApplyOp, Operate, Child, AddId, Presence, Clear, ClearAny, ClearElem, ClearMap, ClearList, Answer, ToContext, ToContent, ToIds, Cleared, Judgement, gives}
 use Rattle.jc_rules.specs.Refused.{IsAnswered}
-use Rattle.jc_rules.specs.WellFormed.{IsWellFormedContext, AreWellFormedContexts, IsWellFormedRegister}
+use Rattle.jc_rules.specs.WellFormed.{IsWellFormedContext, IsWellFormedRegister}
 use Rattle.jc_rules.specs.Table as Table
 use Rattle.jc_rules.specs.Table.{Follows, moved, kept}
 use Rattle.jc_rules.proofs.OrderLemmas.{keys_total, exact_keys, ids_total, exact_ids}
 use Rattle.jc_rules.proofs.EntriesLemmas.{rising-put, values-put, value-found}
 use Rattle.jc_rules.proofs.IdsLemmas.{with-rises, union-rises, without-rises}
 use Rattle.jc_rules.proofs.ContextsAtLemmas.{listed_children}
-use Rattle.jc_tree.proofs.WellFormedLemmas.{kept-content}
+use Rattle.jc_tree.proofs.WellFormedLemmas.{kept-content, kept-put, kept-presence, rising}
+use Rattle.jc_tree.proofs.RegistersLemmas.{primitive_kept}
 use Rattle.jc_meaning.proofs.InductionLemmas.{All, by_rules}
 use Rattle.jc_meaning.proofs.SameKeysLemmas.{filter_rises}
 
 -- ---- writes
-
-all_kept : (cs : Children) → AreWellFormedContexts cs → AllByRecursion (λ e. IsWellFormedContext e.1) (listed cs)
-all_kept no_child h = tt
-all_kept (child k c cs) h = (h.0, all_kept cs h.1)
-
-kept_all : (es : List (Key × Context)) → AllByRecursion (λ e. IsWellFormedContext e.1) es → AreWellFormedContexts (children es)
-kept_all [] h = tt
-kept_all (e ∷ es) h = (h.0, kept_all es h.1)
-
-kept_put : (k : Key) (d : Context) (cs : Children) → AreWellFormedContexts cs → IsWellFormedContext d → AreWellFormedContexts (children (put key_cmp k d (listed cs)))
-kept_put k d cs h g = kept_all (put key_cmp k d (listed cs)) (values-put keys_total exact_keys IsWellFormedContext k d (listed cs) g (all_kept cs h))
 
 -- what stands under a tagged key
 abbrev KeptContent : Content → Type 0
@@ -51,23 +40,17 @@ KeptContent (Node d) = IsWellFormedContext d
 KeptContent (Values v) = IsWellFormedRegister v
 
 kept_with : (t : Tagged) (x : Content) (c : Context) → IsWellFormedContext c → KeptContent x → IsWellFormedContext (with_content t x c)
-kept_with (MapT k) (Node d) (context m l r p n) h g = rw listed_children (rising-put keys_total exact_keys k d (listed m) h.0, h.1, h.2, h.3, h.4, h.5, h.6, kept_put k d m h.7 g, h.8)
-kept_with (ListT k) (Node d) (context m l r p n) h g = rw listed_children (h.0, rising-put keys_total exact_keys k d (listed l) h.1, h.2, h.3, h.4, h.5, h.6, h.7, kept_put k d l h.8 g)
+kept_with (MapT k) (Node d) (context m l r p n) h g = rw listed_children (rising-put keys_total exact_keys k d (listed m) h.0, h.1, h.2, h.3, h.4, h.5, h.6, kept-put k d m h.7 g, h.8)
+kept_with (ListT k) (Node d) (context m l r p n) h g = rw listed_children (h.0, rising-put keys_total exact_keys k d (listed l) h.1, h.2, h.3, h.4, h.5, h.6, h.7, kept-put k d l h.8 g)
 kept_with (RegT k) (Values v) (context m l r p n) h g = (h.0, h.1, rising-put keys_total exact_keys k v r h.2, h.3, h.4, values-put keys_total exact_keys IsWellFormedRegister k v r g h.5, h.6, h.7, h.8)
 kept_with (MapT k) (Values v) c h g = h
 kept_with (ListT k) (Values v) c h g = h
 kept_with (RegT k) (Node d) c h g = h
 
-kept_presence : (k : Key) (s : List Id) (c : Context) → AreRising s → IsWellFormedContext c → IsWellFormedContext (with_presence k s c)
-kept_presence k s (context m l r p n) f h = (h.0, h.1, h.2, rising-put keys_total exact_keys k s p h.3, h.4, h.5, values-put keys_total exact_keys AreRising k s p f h.6, h.7, h.8)
-
 kept_next : (k : Key) (x : Next) (c : Context) → IsWellFormedContext c → IsWellFormedContext (with_next k x c)
 kept_next k x (context m l r p n) h = (h.0, h.1, h.2, h.3, rising-put keys_total exact_keys k x n h.4, h.5, h.6, h.7, h.8)
 
 -- ---- reads
-
-rising_presence : (k : Key) (s : List Id) (c : Context) → IsWellFormedContext c → presence k c ≡ Some s → AreRising s
-rising_presence k s (context m l r p n) h e = value-found keys_total exact_keys AreRising k s p h.6 e
 
 values_found : (k : Key) (v : Register) (o : Option Register) → values_of o ≡ Some (Values v) → o ≡ Some v
 values_found k v None e = cc
@@ -125,16 +108,8 @@ Motive _ = Unit {0}
 
 -- ---- the cases
 
-kept_primitive : (deps : List Id) (es : Register) → AllByRecursion (λ e. IsPrimitive e.1) es → AllByRecursion (λ e. IsPrimitive e.1) (kept deps es)
-kept_primitive deps [] g = tt
-kept_primitive deps (e ∷ es) g = go (has_id e.0 deps) refl (kept_primitive deps es g.1)
-  where
-    go : (b : Bool) → has_id e.0 deps ≡ b → AllByRecursion (λ x. IsPrimitive x.1) (kept deps es) → AllByRecursion (λ x. IsPrimitive x.1) (kept deps (e ∷ es))
-    go true x ih = rw x ih
-    go false x ih = rw x (g.0, ih)
-
 kept_kept : (deps : List Id) (r : Register) → IsWellFormedRegister r → IsWellFormedRegister (kept deps r)
-kept_kept deps r h = (filter_rises ids_total exact_ids (λ e. not (has_id e.0 deps)) r h.0, kept_primitive deps r h.1)
+kept_kept deps r h = (filter_rises ids_total exact_ids (λ e. not (has_id e.0 deps)) r h.0, primitive_kept deps r h.1)
 
 clear_case : (r : Rule) (c : Context) (deps : List Id) (t : Tagged) (a : Answer) (js : List Judgement) → Follows r (Clear c deps t) a js → All Motive js → OfClear c a
 clear_case R.ClearNone c deps t a js (e, p, q) hs = subst (OfClear c) (sym q) (λ h. h)
@@ -156,7 +131,7 @@ any_case _ c deps k a js h hs = absurd h
 elem_case : (r : Rule) (c : Context) (deps : List Id) (k : Key) (a : Answer) (js : List Judgement) → Follows r (ClearElem c deps k) a js → All Motive js → OfClear c a
 elem_case R.ClearElem c deps k a js (d, s1, s2, p, q) hs =
     let hs2 : All Motive (gives (ClearAny c deps k) (Cleared d s1) ∷ gives (Presence d k) (ToIds s2) ∷ []) = subst (All Motive) p hs in
-    subst (OfClear c) (sym q) (λ h. kept_presence k (without (union s1 s2) deps) d (without-rises (union s1 s2) deps (union-rises s1 s2)) (hs2.0 h))
+    subst (OfClear c) (sym q) (λ h. kept-presence k (without (union s1 s2) deps) d (without-rises (union s1 s2) deps (union-rises s1 s2)) (hs2.0 h))
 elem_case _ c deps k a js h hs = absurd h
 
 map_case : (r : Rule) (c : Context) (deps : List Id) (done : List Key) (a : Answer) (js : List Judgement) → Follows r (ClearMap c deps done) a js → All Motive js → OfClear c a
@@ -174,7 +149,7 @@ list_case R.ClearList3 c deps None a js (p, q) hs = subst (OfClear c) (sym q) (�
 list_case _ c deps k a js h hs = absurd h
 
 presence_case : (r : Rule) (c : Context) (k : Key) (a : Answer) (js : List Judgement) → Follows r (Presence c k) a js → OfPresence c a
-presence_case R.Presence1 c k a js (s, e, p, q) = subst (OfPresence c) (sym q) (λ h. rising_presence k s c h e)
+presence_case R.Presence1 c k a js (s, e, p, q) = subst (OfPresence c) (sym q) (λ h. rising k s c h e)
 presence_case R.Presence2 c k a js (e, p, q) = subst (OfPresence c) (sym q) (λ h. tt)
 presence_case _ c k a js h = absurd h
 
@@ -188,7 +163,7 @@ child_case _ c t a js h = absurd h
 add_case : (r : Rule) (c : Context) (t : Tagged) (i : Id) (m : Mutation) (a : Answer) (js : List Judgement) → Follows r (AddId c t i m) a js → All Motive js → OfOperate c a
 add_case R.AddId1 c t i m a js (s, e, p, q) hs =
     let hs2 : All Motive (gives (Presence c (key_of_tagged t)) (ToIds s) ∷ []) = subst (All Motive) p hs in
-    subst (OfOperate c) (sym q) (λ h. kept_presence (key_of_tagged t) (with_id i s) c (with-rises i s (hs2.0 h)) h)
+    subst (OfOperate c) (sym q) (λ h. kept-presence (key_of_tagged t) (with_id i s) c (with-rises i s (hs2.0 h)) h)
 add_case R.AddId2 c t i m a js (e, p, q) hs = subst (OfOperate c) (sym q) (λ h. h)
 add_case _ c t i m a js h hs = absurd h
 

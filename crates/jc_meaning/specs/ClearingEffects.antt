@@ -1,4 +1,5 @@
--- What each context of a tree must have so that clearing takes exactly what an operation depends on, and what it takes.
+-- What each context of a tree must have so that clearing takes exactly what an operation depends on (`Tidy`), and what
+-- it takes (`TakesAway`). `Laws` cites both.
 use Rattle.std.specs.Prelude.{◌≡◌, List, Bool, true, not, ◌||◌, ◌&&◌, cond, None, is_some}
 use Rattle.jc_rules.specs.declared.id.Id.{Id}
 use Rattle.jc_rules.specs.declared.key.Key.{Key}
@@ -14,7 +15,7 @@ use Rattle.jc_rules.specs.Table.{is_done}
 use Rattle.jc_meaning.specs.Effects.{list_at}
 use Rattle.jc_meaning.specs.Seen.{context_or_new, seen, ids_at, value_seen_at, has_tag}
 
--- the key stands in the context under some tag
+-- the context has the key under some tag
 abbrev pub is_tagged : Key → Context → Bool
 is_tagged k c = has_tag (MapT k) c || (has_tag (ListT k) c || has_tag (RegT k) c)
 
@@ -31,7 +32,7 @@ pub record TidyAt (list : Bool) (d : Context) : Type 0 where
       × LeadsThrough d K.Head is
       × ((k : Key) → is_tagged k d ≡ true → is_done (chain_of is) k ≡ true)
 
--- each context below, where it is told whether the root is a list's
+-- each context below the root is tidy; the flag says whether the root is a list's
 abbrev pub Tidy : Bool → Context → Type 0
 Tidy b c = (P : List Tagged) → TidyAt (list_at b P) (seen P c)
 

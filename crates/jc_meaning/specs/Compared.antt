@@ -1,4 +1,4 @@
--- What is compared of two contexts.
+-- What `same_tree` compares of two contexts, key by key: children, registers, presence sets and links.
 use Rattle.std.specs.Prelude.{◌≡◌, ◌≢◌, [], Option, Some, None}
 use Rattle.jc_rules.specs.declared.key.Key.{Key}
 use Rattle.jc_rules.specs.declared.key.Next.{Next}
@@ -22,14 +22,14 @@ Both S (Some x) None = ⊥
 abbrev pub SameTree : Context → Context → Type 0
 SameTree c d = drop c ≡ drop d
 
--- the same stands under the tagged key
+-- the same context under the tagged key, or none
 abbrev pub IsSameNode : Tagged → Context → Context → Type 0
 IsSameNode t c d = Both SameTree (node_in (content t c)) (node_in (content t d))
 
 abbrev pub IsSameRegister : Key → Context → Context → Type 0
 IsSameRegister k c d = find key_cmp k (registers c) ≡ find key_cmp k (registers d)
 
--- the same map, list and register stand under the key
+-- the same map, list and register under the key
 pub record IsSameKey (c d : Context) (k : Key) : Type 0 where
   pub maps : IsSameNode (MapT k) c d
   pub lists : IsSameNode (ListT k) c d

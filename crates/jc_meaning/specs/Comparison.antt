@@ -1,4 +1,4 @@
--- What a comparison of replicas says.
+-- What `compare` returns for two replicas of a network.
 use Rattle.std.specs.Prelude.{◌≡◌, ◌≢◌, ℕ, List, true, Some, slice_get}
 use Rattle.jc_rules.specs.WellFormed.{drop}
 use Rattle.jc_rules.specs.State.{State}

@@ -1,4 +1,5 @@
--- What operations touch, clear, write and make. A place is a path and a key: that of k in the context below P.
+-- What an operation touches, clears, writes and makes at a place; `Meaning` is built on it. A place is a path and a
+-- key: that of k in the context below P.
 use Rattle.std.specs.Prelude.{List, [], ◌∷◌, Bool, true, false, not, ◌&&◌, cond, Option, Some, None, is_some}
 use Rattle.jc_rules.specs.declared.id.Id.{Id}
 use Rattle.jc_rules.specs.declared.key.Key.{Key}
@@ -13,7 +14,7 @@ use Rattle.jc_rules.specs.declared.value.Value.TheVariants as V
 use Rattle.jc_rules.specs.Order.{same_key}
 use Rattle.jc_rules.specs.Context.{key_of_tagged}
 
--- whether they are one tagged key
+-- whether they are the same tagged key
 abbrev pub same_tagged : Tagged → Tagged → Bool
 same_tagged (MapT j) (MapT k) = same_key j k
 same_tagged (ListT j) (ListT k) = same_key j k
@@ -36,7 +37,7 @@ abbrev pub is_list_tag : Tagged → Bool
 is_list_tag (ListT k) = true
 is_list_tag _ = false
 
--- whether the path ends in a list, where it is told of the path without tags
+-- whether the path ends in a list; for the empty path the flag says so
 abbrev pub list_at : Bool → List Tagged → Bool
 list_at b [] = b
 list_at b (t ∷ ts) = list_at (is_list_tag t) ts

@@ -1,4 +1,4 @@
--- The tree of inserts of a list.
+-- The tree of inserts of a list, its preorder, and the links along it; `Meaning` and `Listing` use them.
 use Rattle.std.specs.Prelude.{◌≡◌, List, [], ◌∷◌, ◌++◌, Bool, true, false, cond, Option, Some, None}
 use Rattle.std.specs.declared.cmp.Ordering.{Ordering}
 use Rattle.std.specs.declared.cmp.Ordering.TheVariants.{Less}
@@ -28,8 +28,8 @@ abbrev pub is_under : Id → Option Id → Bool
 is_under i None = true
 is_under i (Some j) = is_less (id_cmp i j)
 
--- The forest is that of all that hang at the key and are under the bound, siblings by falling identifier, where `at`
--- says which identifiers hang at which key.
+-- The forest is that of all identifiers that hang at the key and are under the bound, siblings by falling identifier.
+-- Which identifiers hang at which key is given by `at`.
 abbrev pub Hangs : (Key → Id → Bool) → Key → Option Id → Forest → Type 0
 Hangs at k b bare = (j : Id) → at k j ≡ true → is_under j b ≡ true → ⊥
 Hangs at k b (tree i f x) =

@@ -1,4 +1,4 @@
--- What the making of a meaning adds to a tree.
+-- What building a meaning adds to a tree, step by step; the contracts of `building` and `ordering` cite it.
 use Rattle.std.specs.Prelude.{◌≡◌, List, [], ◌∷◌, Bool, false, not, ◌||◌, ◌&&◌, cond, Option, Some, None}
 use Rattle.jc_rules.specs.declared.id.Id.{Id}
 use Rattle.jc_rules.specs.declared.key.Key.{Key}
@@ -20,7 +20,8 @@ first_some (Some v) w = Some v
 first_some None w = w
 
 -- Tags, identifiers and values come to a tree, and links stay as they are. Where no presence set was empty, none is.
-pub record Grows (c d : Context) (tag : List Tagged → Tagged → Bool) (id : List Tagged → Key → Id → Bool) (value : List Tagged → Key → Id → Option Value) : Type 0 where
+pub record Grows (c d : Context) (tag : List Tagged → Tagged → Bool) (id : List Tagged → Key → Id → Bool)
+    (value : List Tagged → Key → Id → Option Value) : Type 0 where
   pub tags : (P : List Tagged) (u : Tagged) → has_tag u (seen P d) ≡ (has_tag u (seen P c) || tag P u)
   pub ids : (P : List Tagged) (k : Key) (i : Id)
       → has_id i (ids_at k (seen P d)) ≡ (has_id i (ids_at k (seen P c)) || id P k i)
@@ -60,15 +61,15 @@ tag_on path P u = along same_tagged path P u
 abbrev pub key_on : List Tagged → List Tagged → Key → Bool
 key_on path P k = along (λ t l. same_key l (key_of_tagged t)) path P k
 
--- the operation's identifier, which it doesn't withhold and nothing clears at the place
+-- the operation's identifier, where the operation is no delete and nothing clears the identifier at the place
 abbrev pub stays : List Op → Op → List Tagged → Key → Id → Bool
 stays O o P k i = same_id i o.id && (not (is_delete o.mutation) && not (is_cleared O P k i))
 
--- what was written by the operation with the identifier is cleared there, or overwritten
+-- the value that the operation with the identifier wrote is cleared there, or overwritten
 abbrev pub is_gone : List Op → List Tagged → Key → Id → Bool
 is_gone O P k i = is_cleared O P k i || some_op (λ a. overwrites a P k && has_id i a.deps) O
 
--- what one of the operations brings
+-- what one of the operations contributes
 abbrev pub brings_id : List Op → Op → List Tagged → Key → Id → Bool
 brings_id O o P k i = same_id i o.id && (touches o P k && not (is_cleared O P k i))
 

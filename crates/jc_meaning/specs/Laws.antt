@@ -1,4 +1,4 @@
--- What the meaning of operations promises.
+-- The statements of the crate's laws (`laws`), and the sets of operations of which they are true.
 use Rattle.std.specs.Prelude.{◌≡◌, ◌↔◌, List, [], ◌∷◌, true, false, not, ◌&&◌, None, Some, is_some, Contains}
 use Rattle.jc_rules.specs.declared.id.Id.{Id}
 use Rattle.jc_rules.specs.declared.key.Key.{Key}
@@ -54,7 +54,7 @@ OrdersMeanTheSame =
     → Means set t
     → Means other t
 
--- Where a tree is what a set means, a derivation of one operation more leads to what the set with it means.
+-- Where a tree is what a set means, a derivation of one more operation leads to what the set with it means.
 abbrev pub OneMoreMeans : Type 0
 OneMoreMeans =
     (set : List Op) (o : Op) (t d : Context)
@@ -67,8 +67,8 @@ OneMoreMeans =
 abbrev pub MeaningsAreTidy : Type 0
 MeaningsAreTidy = (set : List Op) (t : Context) → IsClosedSet set → Means set t → Tidy false t
 
--- In what a causally closed set means, clearing a key takes exactly the given identifiers from the presence sets and registers
--- at the key and below it, and answers what stays in its presence set.
+-- In what a causally closed set means, clearing a key takes exactly the given identifiers from the presence sets and
+-- registers at the key and below it, and its answer is what stays in the key's presence set.
 abbrev pub ClearingTakesDeps : Type 0
 ClearingTakesDeps =
     (set : List Op) (t : Context)
@@ -89,7 +89,7 @@ TreesAreMeant =
     → Contains network A
     → Means (applied_ops A) A.tree
 
--- Without its empty presence sets it is their meaning.
+-- Without its empty presence sets, that tree is the operations' meaning itself.
 abbrev pub DroppedTreesAreMeanings : Type 0
 DroppedTreesAreMeanings =
     (scripts : List (List Cmd)) (network : List State)
@@ -98,12 +98,12 @@ DroppedTreesAreMeanings =
     → Contains network A
     → IsMeaning (applied_ops A) (drop A.tree)
 
--- The other way round, what the operations mean that a replica has applied, as they are kept, is its tree without empty
--- presence sets.
+-- The other way round, the meaning of the operations that a replica has applied, as they are kept, is its tree without
+-- empty presence sets.
 abbrev pub MeaningsAreTrees : Type 0
 MeaningsAreTrees = (ops : List Op) (t : Context) → IsWellFormedContext t → IsMeaning ops t → IsTreeOfReplicas ops t
 
--- A meaning is one tree, but for empty presence sets, whatever the order of the list.
+-- Operations mean one tree, but for empty presence sets, whatever the order of the list.
 abbrev pub OneTree : Type 0
 OneTree =
     (set : List Op) (t d : Context)

@@ -1,4 +1,4 @@
--- How the elements of a list stand, of all sets of operations whose identifiers differ.
+-- The elements of a list in their order, and which lists are linked already; the contracts of `ordering` cite it.
 use Rattle.std.specs.Prelude.{◌≡◌, ◌≢◌, ◌⊎◌, List, [], ◌&&◌, Bool, true, false, Option, Some, None}
 use Rattle.jc_rules.specs.declared.id.Id.{Id}
 use Rattle.jc_rules.specs.declared.key.Key.{Key}
@@ -30,7 +30,7 @@ abbrev pub unlinked : Bool → Key → Option Next
 unlinked true k = follow K.Head [] k
 unlinked false k = None
 
--- The lists into which operations of the first set insert are linked as all operations mean it, and no others.
+-- The lists into which operations of the first set insert are linked as all operations mean them, and no others are.
 pub record AreLinked (some all : List Op) (c : Context) : Type 0 where
   pub done : (P : List Tagged) → list_at false P ≡ true → some_op (inserts_at P) some ≡ true
       → (is : List Id) × IsListing all P is × ((k : Key) → next k (seen P c) ≡ follow K.Head is k)
@@ -43,7 +43,7 @@ LinksNew P O c d =
     ((next K.Head (seen P c) ≢ Some Tail) × (d ≡ c))
     ⊎ ((next K.Head (seen P c) ≡ Some Tail) × (is : List Id) × IsListing O P is × LinksIds P is c d)
 
--- All but the links is as it was.
+-- Only links have changed.
 pub record IsSameButLinks (c d : Context) : Type 0 where
   pub tags : (P : List Tagged) (u : Tagged) → has_tag u (seen P d) ≡ has_tag u (seen P c)
   pub ids : (P : List Tagged) (k : Key) (i : Id) → has_id i (ids_at k (seen P d)) ≡ has_id i (ids_at k (seen P c))

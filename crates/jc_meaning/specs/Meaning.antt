@@ -1,4 +1,4 @@
--- What a set of operations means.
+-- What a set of operations means at each place, and the trees of which that is true. `meaning` and the laws cite it.
 use Rattle.std.specs.Prelude.{◌≡◌, ◌≢◌, List, [], ◌∷◌, Bool, true, false, not, ◌||◌, ◌&&◌, cond, Option, Some, None}
 use Rattle.std.specs.List.{AllByRecursion}
 use Rattle.jc_rules.specs.declared.id.Id.{Id}
@@ -28,7 +28,7 @@ holds_of f (Some o) = f o
 abbrev pub is_cleared : List Op → List Tagged → Key → Id → Bool
 is_cleared O P k i = some_op (λ c. clears c P k && has_id i c.deps) O
 
--- its operation touches the place, and it isn't cleared there
+-- the identifier's operation touches the place, and the identifier isn't cleared there
 abbrev pub is_present : List Op → List Tagged → Key → Id → Bool
 is_present O P k i = holds_of (λ o. touches o P k) (op_of i O) && not (is_cleared O P k i)
 
@@ -36,7 +36,7 @@ abbrev pub written_of : Option Op → List Tagged → Key → Option Value
 written_of None P k = None
 written_of (Some o) P k = written_by o P k
 
--- what its operation has written there, unless that is cleared or overwritten by an operation that depends on it
+-- what the identifier's operation writes there, unless an operation that depends on it clears or overwrites the place
 abbrev pub value_written : List Op → List Tagged → Key → Id → Option Value
 value_written O P k i =
     cond (is_cleared O P k i || some_op (λ a. overwrites a P k && has_id i a.deps) O)
@@ -54,9 +54,9 @@ names P k o = is_insert o.mutation && (same_path o.cursor.path P && same_key o.c
 abbrev pub hangs_at : List Op → List Tagged → Key → Id → Bool
 hangs_at O P k i = holds_of (names P k) (op_of i O)
 
--- In a list the links lead from the head through the preorder of the tree in which each insert hangs below the key
--- that it names, siblings by falling identifier; an insert that isn't reached from the head isn't linked. Elsewhere
--- nothing is.
+-- In a list the links lead from the head through the preorder of a forest. In it each insert hangs below the key that
+-- it names, siblings by falling identifier. An insert that isn't reached from the head isn't linked. Elsewhere nothing
+-- is linked.
 abbrev pub LinksOf : Bool → List Op → List Tagged → Context → Type 0
 LinksOf true O P d =
     (f : Forest)
@@ -65,14 +65,14 @@ LinksOf true O P d =
 LinksOf false O P d = (k : Key) → next k d ≡ None
 
 -- The tree is what the operations mean, but for empty presence sets: which tagged keys are there, what is in presence
--- sets and registers, and the links. Nothing of it knows an order in which the operations were applied.
+-- sets and registers, and the links. The order in which operations were applied occurs nowhere.
 pub record Means (O : List Op) (t : Context) : Type 0 where
   pub tags : (P : List Tagged) (u : Tagged) → has_tag u (seen P t) ≡ goes O P u
   pub ids : (P : List Tagged) (k : Key) (i : Id) → has_id i (ids_at k (seen P t)) ≡ is_present O P k i
   pub values : (P : List Tagged) (k : Key) (i : Id) → value_seen_at i k (seen P t) ≡ value_written O P k i
   pub links : (P : List Tagged) → LinksOf (list_at false P) O P (seen P t)
 
--- no presence set is empty, at every depth
+-- at no depth is a presence set empty
 abbrev mutual
   pub AreFilled : Context → Type 0
   AreFilled (context m l r p n) = AllByRecursion (λ e. e.1 ≢ []) p × AreAllFilled m × AreAllFilled l

@@ -1,4 +1,4 @@
--- The tree of the replicas that have applied a set of operations.
+-- The tree of the replicas that have applied a set of operations; `meaning` and a law cite it.
 use Rattle.std.specs.Prelude.{◌≡◌, ◌↔◌, List, map, Contains}
 use Rattle.jc_rules.specs.declared.operation.Op.{Op}
 use Rattle.jc_rules.specs.Context.{Context}

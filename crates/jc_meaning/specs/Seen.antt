@@ -1,4 +1,4 @@
--- What is seen of a context below a path: what is there, or what a descent makes there.
+-- What is seen of a context below a path: what is there, or what a descent makes there. `Meaning` reads trees so.
 use Rattle.std.specs.Prelude.{List, [], ◌∷◌, Bool, Option, Some, None, is_some}
 use Rattle.jc_rules.specs.declared.id.Id.{Id}
 use Rattle.jc_rules.specs.declared.key.Key.{Key}
@@ -23,7 +23,7 @@ abbrev pub ids_of_some : Option (List Id) → List Id
 ids_of_some None = []
 ids_of_some (Some s) = s
 
--- the presence of a key, an absent one as an empty one
+-- the presence set of a key; a missing one counts as empty
 abbrev pub ids_at : Key → Context → List Id
 ids_at k c = ids_of_some (presence k c)
 

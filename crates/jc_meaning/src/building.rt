@@ -1,4 +1,5 @@
-//! What operations make, touch and write, put into a tree.
+//! Puts into a store what each operation makes, touches and writes: a meaning but for the links of lists. `meaning`
+//! calls `fill`, and then `ordering`.
 
 ghost use Rattle.std.specs.Prelude.{◌≡◌, ◌&&◌, cond, true, Some, None, is_some, OnOk};
 ghost use Rattle.jc_rules.specs.declared.key.Tagged.{Tagged as AnyTagged};
@@ -18,10 +19,11 @@ use jc_rules::{Id, Key, Mutation, Op, Tagged, Value};
 use jc_tree::TreeStore;
 use std::alloc::AllocError;
 
-/// Makes what stands under the tagged key, if it isn't there already.
+/// Makes the map, list or register under the tagged key, if there is none.
 fn make<S: TreeStore>(store: &mut S, at: &[Tagged], key: &Tagged) -> Result<(), AllocError>
     requires { HasPlace at.now (S.tree store.old) }
-    ensures { OnOk result (Grows (S.tree store.old).now (S.tree store.new).now (tag_here at.now key.now) no_id no_value) }
+    ensures { OnOk result
+        (Grows (S.tree store.old).now (S.tree store.new).now (tag_here at.now key.now) no_id no_value) }
 {
     if store.has(at, key) {
         return Ok(());
@@ -30,7 +32,8 @@ fn make<S: TreeStore>(store: &mut S, at: &[Tagged], key: &Tagged) -> Result<(), 
     Ok(())
 }
 
-/// Adds the operation's identifier to the presence set of the key, unless it deletes or is cleared there.
+/// Adds the operation's identifier to the key's presence set, unless the operation is a delete or the identifier is
+/// cleared there.
 fn touch<S: TreeStore>(
     store: &mut S,
     ops: &[Op],
@@ -52,7 +55,7 @@ fn touch<S: TreeStore>(
     Ok(())
 }
 
-/// Makes and touches what is on the operation's path.
+/// Makes and touches each tagged key on the operation's path.
 fn enter<S: TreeStore>(store: &mut S, ops: &[Op], op: &Op) -> Result<(), AllocError>
     ensures grows { OnOk result (Grows (S.tree store.old).now (S.tree store.new).now (tag_on op.now.cursor.path)
         (λ P k i. key_on op.now.cursor.path P k && stays ops.now op.now P k i) no_value) }
@@ -79,7 +82,7 @@ fn tag_of(value: &Value, key: Key) -> Tagged
     }
 }
 
-/// Writes the value into the key's register, which is there.
+/// Writes the value into the key's register, which exists.
 fn write<S: TreeStore>(
     store: &mut S,
     at: &[Tagged],
@@ -126,7 +129,7 @@ fn put<S: TreeStore>(
     Ok(())
 }
 
-/// Adds what the operation brings to the meaning of all.
+/// Adds what this one of the operations contributes to the meaning of all.
 fn add<S: TreeStore>(store: &mut S, ops: &[Op], op: &Op) -> Result<(), AllocError>
     ensures { OnOk result (Brings ops.now op.now (S.tree store.old).now (S.tree store.new).now) }
 {
@@ -139,7 +142,7 @@ fn add<S: TreeStore>(store: &mut S, ops: &[Op], op: &Op) -> Result<(), AllocErro
     }
 }
 
-/// Adds what all operations bring, without the links of lists.
+/// Adds what all operations contribute, without the links of lists.
 pub fn fill<S: TreeStore>(store: &mut S, ops: &[Op]) -> Result<(), AllocError>
     requires { AreDistinct (identifiers ops.now) }
     ensures { OnOk result (Grows (S.tree store.old).now (S.tree store.new).now

@@ -1,4 +1,5 @@
-//! Replicas compared.
+//! Compares two replicas of a network: have they applied the same operations, and have they the same tree? The
+//! debugger shows the answer.
 
 ghost use Rattle.std.specs.Prelude.{◌≤◌, ◌⊎◌, ◌↔◌, length, IfOk, IsErrOf};
 ghost use Rattle.jc_network.specs.declared.fault.CompareFault.TheVariants as C;
@@ -8,7 +9,7 @@ use crate::sameness::same_tree;
 use jc_network::{CompareFault, Net};
 use std::alloc::Global;
 
-/// What is found of two replicas.
+/// What `compare` finds of two replicas.
 #[derive(Clone, Copy, Debug, PartialEq, Eq)]
 pub enum Comparison {
     /// They have applied the same operations.
@@ -20,15 +21,17 @@ pub enum Comparison {
     DifferentOps,
 }
 
-/// Compares two replicas of the network: what they have applied, and where that is the same, their trees.
+/// Compares two replicas of the network: the operations that they have applied, and where these are the same, their
+/// trees.
 ///
-/// It is refused with `NoSuchReplica` exactly where one of them isn't there.
+/// It is refused with `NoSuchReplica` exactly where the network has no replica of one of the two numbers, and else for
+/// want of memory alone.
 pub fn compare(alloc: Global, net: &Net, p: u16, q: u16) -> Result<Comparison, CompareFault>
     ensures compared { IfOk result (λ comparison. IsComparison net.now.network.states p q comparison) }
     ensures missing { IsErrOf result C.NoSuchReplica
         ↔ ((length net.now.network.states ≤ p) ⊎ (length net.now.network.states ≤ q)) }
 {
-    // Events have led to the network from a start, so that greatest counters tell what is applied.
+    // For its contract: events have led to the network from a start, so version vectors determine what is applied.
     let _steps = net.steps();
     let Some(left) = net.replica(p) else {
         return Err(CompareFault::NoSuchReplica);

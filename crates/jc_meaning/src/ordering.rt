@@ -1,4 +1,5 @@
-//! The order of lists: inserts below the keys that they name, siblings by falling identifier.
+//! Links the elements of lists in their order: inserts below the keys that they name, siblings by falling identifier.
+//! `meaning` calls `link_all` after `building`.
 
 ghost use Rattle.std.specs.Prelude.{◌≡◌, List, [], Some, IfOk, OnOk};
 ghost use Rattle.jc_rules.specs.declared.id.Id.{Id as AnyId};
@@ -35,7 +36,7 @@ fn names(op: &Op, at: &[Tagged], key: &Key) -> bool
     compare_keys(&op.cursor.last, key).is_eq()
 }
 
-/// The identifiers of the inserts into the list at the place after the key, rising.
+/// The identifiers of the inserts into the list at the place, after the key, in rising order.
 fn after(alloc: Global, ops: &[Op], at: &[Tagged], key: &Key) -> Result<Vec<Id>, AllocError>
     requires { AreDistinct (identifiers ops.now) }
     ensures rises { IfOk result (λ ids. AreRising ids.items) }
@@ -81,7 +82,7 @@ fn link<S: TreeStore>(store: &mut S, at: &[Tagged], ids: &[Id]) -> Result<(), Al
     Ok(())
 }
 
-/// Links the elements of the list at the place, where it is new.
+/// Links the elements of the list at the place, if nothing is linked in it yet.
 fn link_list<S: TreeStore>(
     alloc: Global,
     store: &mut S,
@@ -105,7 +106,8 @@ fn link_list<S: TreeStore>(
 /// Links each list into which one of the operations inserts.
 pub fn link_all<S: TreeStore>(alloc: Global, store: &mut S, ops: &[Op]) -> Result<(), AllocError>
     requires differ { AreDistinct (identifiers ops.now) }
-    requires made { (P : List AnyTagged) → (u : AnyTagged) → has_tag u (seen P (S.tree store.old).now) ≡ goes ops.now P u }
+    requires made { (P : List AnyTagged) → (u : AnyTagged)
+        → has_tag u (seen P (S.tree store.old).now) ≡ goes ops.now P u }
     requires new { AreLinked [] ops.now (S.tree store.old).now }
     ensures same { OnOk result (IsSameButLinks (S.tree store.old).now (S.tree store.new).now) }
     ensures links { OnOk result (AreLinked ops.now ops.now (S.tree store.new).now) }

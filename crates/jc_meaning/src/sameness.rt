@@ -1,4 +1,4 @@
-//! Whether two trees are one but for empty presence sets.
+//! Decides whether two stores have the same tree, but for empty presence sets. `compare` calls `same_tree`.
 
 ghost use Rattle.std.specs.Prelude.{◌≡◌, ◌↔◌, IsTrue, Some, IfOk, OnOk, option_copied};
 ghost use Rattle.jc_rules.specs.Paths.{HasContext};
@@ -10,7 +10,7 @@ use jc_rules::{Id, Key, Tagged, Value};
 use jc_tree::TreeStore;
 use std::alloc::{AllocError, Global};
 
-/// Whether the trees of both stores are the same, but for empty presence sets.
+/// Whether the trees of both stores are the same, but for empty presence sets. Nothing but memory is refused.
 pub fn same_tree<S: TreeStore, T: TreeStore>(
     alloc: Global,
     left: &S,
@@ -22,7 +22,8 @@ pub fn same_tree<S: TreeStore, T: TreeStore>(
     same_place(left, right, &mut at)
 }
 
-/// Whether the contexts at a place of both are the same. The place is given back as it was, unless memory ran out.
+/// Whether the contexts at a path of both are the same, but for empty presence sets. At the end `at` is as it was,
+/// unless memory ran out.
 #[cycle(walk)]
 fn same_place<S: TreeStore, T: TreeStore>(
     left: &S,
@@ -44,7 +45,7 @@ fn same_place<S: TreeStore, T: TreeStore>(
     same_keys(left, right, at)
 }
 
-/// Whether the same stands under each key.
+/// Whether both contexts have the same map, list and register under each key.
 #[cycle(walk)]
 fn same_keys<S: TreeStore, T: TreeStore>(
     left: &S,
@@ -70,7 +71,7 @@ fn same_keys<S: TreeStore, T: TreeStore>(
     Ok(right.key_after(at.as_slice(), last).is_none())
 }
 
-/// Whether the same stands under the key.
+/// Whether both contexts have the same map, list and register under the key.
 #[cycle(walk)]
 fn same_key<S: TreeStore, T: TreeStore>(
     left: &S,
@@ -94,7 +95,7 @@ fn same_key<S: TreeStore, T: TreeStore>(
     same_child(left, right, at, Tagged::ListT(key.copy()?))
 }
 
-/// Whether the same context stands under the tagged key, or none does.
+/// Whether both have the same context under the tagged key, or neither has one.
 #[cycle(walk)]
 fn same_child<S: TreeStore, T: TreeStore>(
     left: &S,
@@ -121,14 +122,14 @@ fn same_child<S: TreeStore, T: TreeStore>(
     Ok(same)
 }
 
-/// Whether the key is the one that is given.
+/// Whether there is a given key, and it is this one.
 fn is_key(given: Option<&Key>, key: &Key) -> bool
     ensures { IsTrue result ↔ option_copied given.entry ≡ Some key.now }
 {
     given == Some(key)
 }
 
-/// Whether the key has the same register in both, or none.
+/// Whether both have the same register under the key, or neither has one.
 fn same_register<S: TreeStore, T: TreeStore>(left: &S, right: &T, at: &[Tagged], key: &Key) -> bool
     requires left { HasPlace at.now (S.tree left.now) }
     requires right { HasPlace at.now (T.tree right.now) }
@@ -148,7 +149,7 @@ fn same_pairs(left: &[(Id, Value)], right: &[(Id, Value)]) -> bool
     left == right
 }
 
-/// Whether each key has the same presence set in both, where none counts as an empty one.
+/// Whether each key has the same presence set in both. A missing one counts as empty.
 fn same_presences<S: TreeStore, T: TreeStore>(left: &S, right: &T, at: &[Tagged]) -> bool
     requires left { HasPlace at.now (S.tree left.now) }
     requires right { HasPlace at.now (T.tree right.now) }
@@ -158,7 +159,7 @@ fn same_presences<S: TreeStore, T: TreeStore>(left: &S, right: &T, at: &[Tagged]
     has_presences(left, right, at) && has_presences(right, left, at)
 }
 
-/// Whether each presence set of the first that isn't empty is the second one's.
+/// Whether the second has each presence set of the first that isn't empty.
 fn has_presences<S: TreeStore, T: TreeStore>(left: &S, right: &T, at: &[Tagged]) -> bool
     requires left { HasPlace at.now (S.tree left.now) }
     requires right { HasPlace at.now (T.tree right.now) }
@@ -175,7 +176,7 @@ fn has_presences<S: TreeStore, T: TreeStore>(left: &S, right: &T, at: &[Tagged])
     true
 }
 
-/// Whether the key's presence set is the second one's, or empty.
+/// Whether the key's presence set in the first is empty, or the same in the second.
 fn has_presence<S: TreeStore, T: TreeStore>(left: &S, right: &T, at: &[Tagged], key: &Key) -> bool
     requires left { HasPlace at.now (S.tree left.now) }
     requires right { HasPlace at.now (T.tree right.now) }
@@ -194,7 +195,7 @@ fn same_ids(left: &[Id], right: &[Id]) -> bool
     left == right
 }
 
-/// Whether each key has the same link in both, or none.
+/// Whether each key has the same link in both, or in neither.
 fn same_links<S: TreeStore, T: TreeStore>(left: &S, right: &T, at: &[Tagged]) -> bool
     requires left { HasPlace at.now (S.tree left.now) }
     requires right { HasPlace at.now (T.tree right.now) }
@@ -204,7 +205,7 @@ fn same_links<S: TreeStore, T: TreeStore>(left: &S, right: &T, at: &[Tagged]) ->
     has_links(left, right, at) && has_links(right, left, at)
 }
 
-/// Whether each link of the first is the second one's.
+/// Whether the second has each link of the first.
 fn has_links<S: TreeStore, T: TreeStore>(left: &S, right: &T, at: &[Tagged]) -> bool
     requires left { HasPlace at.now (S.tree left.now) }
     requires right { HasPlace at.now (T.tree right.now) }

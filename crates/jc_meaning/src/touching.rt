@@ -1,4 +1,4 @@
-//! What operations clear, overwrite and write.
+//! Tests of an operation at a place, for `building` and `ordering`: does it clear, overwrite, write or insert there?
 
 ghost use Rattle.std.specs.Prelude.{◌≡◌, ◌&&◌, is_some, IfOk};
 ghost use Rattle.jc_rules.specs.Ids.{has_id};
@@ -9,14 +9,14 @@ ghost use Rattle.jc_meaning.specs.Growth.{is_gone as is_gone_by};
 use jc_rules::{Id, Key, Mutation, Op, Tagged, Value, compare_keys};
 use std::alloc::AllocError;
 
-/// Whether both are one path.
+/// Whether the two paths are the same.
 pub fn is_path(path: &[Tagged], at: &[Tagged]) -> bool
     ensures { result ≡ same_path path.now at.now }
 {
     path == at
 }
 
-/// Whether the place of the last key below the path is that of the key at the place, or above it.
+/// Whether the key `last` at `path` is the key at `at`, or above it.
 fn is_above(path: &[Tagged], last: &Key, at: &[Tagged], key: &Key) -> bool
     ensures { result ≡ is_at_or_above path.now last.now at.now key.now }
 {
@@ -45,7 +45,7 @@ pub fn is_insert(mutation: &Mutation) -> bool
     matches!(mutation, Mutation::Insert(_))
 }
 
-/// Whether the mutation clears what is at its place.
+/// Whether the mutation clears its place: it deletes, or assigns a new map or list.
 fn is_clearing(mutation: &Mutation) -> bool
     ensures { result ≡ is_clear mutation.now }
 {
@@ -58,7 +58,7 @@ fn is_clearing(mutation: &Mutation) -> bool
     }
 }
 
-/// Whether the operation clears the key at the place, there or above.
+/// Whether the operation clears the key at the place: it clears there or above.
 fn clears(op: &Op, at: &[Tagged], key: &Key) -> bool
     ensures { result ≡ clears_at op.now at.now key.now }
 {
@@ -119,7 +119,7 @@ fn is_overwritten(ops: &[Op], at: &[Tagged], key: &Key, id: Id) -> bool
     false
 }
 
-/// Whether what the operation with the identifier writes there is cleared or overwritten.
+/// Whether the value that the operation with the identifier writes there is cleared or overwritten.
 pub fn is_gone(ops: &[Op], at: &[Tagged], key: &Key, id: Id) -> bool
     ensures { result ≡ is_gone_by ops.now at.now key.now id }
 {

@@ -1,4 +1,4 @@
-//! The tree that a set of operations means.
+//! Builds the tree that a set of operations means; `building` and `ordering` are its two halves.
 
 ghost use Rattle.std.specs.Prelude.{◌≡◌, ◌↔◌, List, [], map, is_some, IsTrue, IfOk};
 ghost use Rattle.jc_rules.specs.declared.operation.Op.{Op as AnyOp};
@@ -28,7 +28,7 @@ fn has_op(ops: &[Op], id: Id) -> bool
     false
 }
 
-/// Whether no two operations have one identifier, which `meaning` asks of them.
+/// Whether no two operations have the same identifier. A caller of `meaning` can meet its condition by this test.
 pub fn have_distinct_ids(ops: &[Op]) -> bool
     ensures { IsTrue result ↔ AreDistinct (identifiers ops.now) }
 {
@@ -43,14 +43,15 @@ pub fn have_distinct_ids(ops: &[Op]) -> bool
 }
 
 /// The tree that the operations mean, in whatever order they are listed. No presence set in it is empty, and an insert
-/// that isn't reached from its list's head isn't linked.
+/// that isn't reached from its list's head isn't linked. Identifiers must differ, which `have_distinct_ids` tests.
 ///
-/// Of the operations that a replica has applied, in a network that is reached from a start, it is the replica's tree
+/// For the operations that a replica has applied, in a network that is reached from a start, it is the replica's tree
 /// without empty presence sets.
 ///
-/// Of operations of one sound set, whose dependencies are kept as greatest counters, it is what they mean with the
-/// dependencies that these stand for. The set need not have what its operations depend on. Nothing but memory is
-/// refused.
+/// Dependencies may be version vectors, where the operations are of one sound set. The tree is then what the operations
+/// mean with the dependencies that these represent. What an operation depends on need not be listed.
+///
+/// Nothing but memory is refused.
 pub fn meaning(alloc: Global, ops: &[Op]) -> Result<PlainTree, AllocError>
     requires { AreDistinct (identifiers ops.now) }
     ensures meaning { IfOk result (λ tree. IsMeaning ops.now (⟦<PlainTree as TreeStore>⟧.tree tree).now) }

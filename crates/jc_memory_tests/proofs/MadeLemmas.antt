@@ -1,4 +1,4 @@
--- Documents that operations made, one after another.
+-- About Ready: a document stays ready after an operation. The loops of `stores` use it.
 use Rattle.std.proofs.Common.{◌≡◌, ◌≢◌, ℕ, ◌+◌, [], None, ap, arith}
 use Rattle.jc_rules.specs.declared.id.Id.{Id}
 use Rattle.jc_rules.specs.Context.{Context}

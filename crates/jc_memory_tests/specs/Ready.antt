@@ -1,4 +1,4 @@
--- Documents that a script made.
+-- Documents to which the next operation fits, for the loops of `stores`.
 use Rattle.std.specs.Prelude.{ℕ, ◌<◌}
 use Rattle.jc_rules.specs.declared.id.Id.{Id}
 use Rattle.jc_rules.specs.Context.{Context}

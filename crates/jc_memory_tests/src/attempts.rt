@@ -1,16 +1,16 @@
-//! Calls that are made with more and more memory, until there is enough.
+//! Makes a call with more and more memory, until there is enough. The tests of the other files use it.
 
 use crate::memory::{SPARE, UNIT, leave};
 use std::alloc::Global;
 use std::process::Abort;
 
-/// How often a call is made at most.
+/// The number of calls at most.
 pub const MOST: usize = SPARE / UNIT;
 
-/// What came of a call.
+/// The outcome of a call.
 #[derive(Clone, Copy, PartialEq, Eq)]
 pub enum Outcome {
-    /// What comes of it with ample memory.
+    /// The same as with ample memory.
     Done,
     /// It was refused for want of memory.
     Refused,
@@ -43,7 +43,7 @@ pub trait Attempt {
     /// Makes the call. It takes no memory besides.
     fn make(&mut self) -> Outcome;
 
-    /// With some memory, after a refusal: whether all stands as it did before the call.
+    /// With some memory, after a refusal: whether everything is as it was before the call.
     fn stands(&mut self) -> bool;
 }
 
@@ -54,8 +54,8 @@ fn made_with<A: Attempt>(rt: &impl Abort, alloc: Global, attempt: &mut A, bytes:
     outcome
 }
 
-/// Makes the call with no memory, and with a little more each time, until it does what it does with ample memory. Says
-/// how often it was refused. After each refusal all must stand as it did.
+/// Makes the call with no memory, and with a little more each time, until it does what it does with ample memory.
+/// Returns the number of refusals. After each refusal everything must be as it was.
 pub fn refusals<A: Attempt>(rt: &impl Abort, alloc: Global, attempt: &mut A) -> u64 {
     for n in 0..MOST {
         if is_done(rt, made_with(rt, alloc, attempt, n * UNIT)) {

@@ -1,4 +1,4 @@
-//! Steps at a bench with too little memory count nothing, and are made with enough.
+//! Tests of a bench: steps with too little memory count nothing, and succeed with enough.
 
 ghost use Rattle.std.specs.Prelude.{All};
 ghost use Rattle.jc_rules.specs.Step.{replica_of};
@@ -8,7 +8,8 @@ use crate::attempts::{MOST, Outcome, done_if, holds};
 use crate::memory::{UNIT, fill, leave};
 use crate::rows::{DELETION, scene};
 use jc_rules::Event;
-use jc_runner::{Bench, MOST_LIMIT, Pass, StepAnswer};
+use jc_rules::limits::MAX_THREAD_EVENTS;
+use jc_runner::{Bench, Pass, StepAnswer};
 use std::alloc::Global;
 use std::process::Abort;
 use std::sync::Wait;
@@ -27,7 +28,7 @@ fn opened(rt: &impl Abort, alloc: Global) -> (Bench, Pass, Pass)
     ensures { IsPassFor result.0 0 result.1 × IsPassFor result.0 1 result.2 }
 {
     let scenario = scene(rt, alloc, DELETION);
-    let (bench, mut passes) = match Bench::open(alloc, scenario, MOST_LIMIT) {
+    let (bench, mut passes) = match Bench::open(alloc, scenario, MAX_THREAD_EVENTS) {
         Ok(opened) => opened,
         Err(_) => panic!(rt; "no bench"),
     };
@@ -37,12 +38,12 @@ fn opened(rt: &impl Abort, alloc: Global) -> (Bench, Pass, Pass)
     (bench, a, b)
 }
 
-/// What comes of an event with enough memory.
+/// The outcome of an event with enough memory.
 #[derive(Clone, Copy)]
 enum Want {
-    /// It is made, and has this number.
+    /// It is executed, with this number.
     Made(u64),
-    /// It is stuck after so many events, with this number.
+    /// It is stuck after this number of events, with the number of its refusal.
     Stuck(u64, u8),
 }
 
@@ -59,7 +60,7 @@ fn outcome(answer: StepAnswer, want: Want) -> Outcome {
     }
 }
 
-// Asks for the event with so much memory. The length of the schedule after it is told.
+// Asks for the event with this much memory. Returns the length of the schedule after it.
 fn stepped_with<R: Wait + Abort>(
     rt: &R,
     alloc: Global,
@@ -78,7 +79,7 @@ fn stepped_with<R: Wait + Abort>(
     (pass, answer, count)
 }
 
-// Asks for the event until there is enough memory. Says how often there was too little; then nothing was counted.
+// Asks for the event until there is enough memory. Returns the number of refusals, after which nothing was counted.
 fn refused_step<R: Wait + Abort>(
     rt: &R,
     alloc: Global,
@@ -103,7 +104,7 @@ fn refused_step<R: Wait + Abort>(
     panic!(rt; "it is always refused")
 }
 
-// The event is made, after it was refused, and has this number.
+// The event is executed after refusals, with this number.
 fn makes<R: Wait + Abort>(
     rt: &R,
     alloc: Global,

@@ -1,4 +1,4 @@
-//! The program with too little memory: it ends with status 5, after a front of its output.
+//! Tests of the program: with too little memory it ends with status 5, after a prefix of its output.
 
 ghost use Rattle.std.specs.Prelude.{None, true};
 
@@ -41,7 +41,7 @@ impl Files for OneFile<'_> {
     }
 }
 
-/// How the program is called, and what comes of it.
+/// How the program is called, and its outcome.
 struct Row {
     words: &'static [&'static str],
     file: &'static str,
@@ -150,7 +150,7 @@ impl<'a> Attempt for Call<'a> {
     }
 }
 
-/// The words, each a text of its own.
+/// The arguments, as the program takes them.
 pub fn texts(alloc: Global, words: &[&str]) -> Result<Vec<String>, AllocError> {
     let mut texts = Vec::new(alloc);
     for word in words {
@@ -159,7 +159,7 @@ pub fn texts(alloc: Global, words: &[&str]) -> Result<Vec<String>, AllocError> {
     Ok(texts)
 }
 
-/// How often the call is refused memory before it does what it is to do.
+/// The number of calls that are refused memory before one succeeds.
 fn refused_call(rt: &impl Abort, alloc: Global, row: &Row) -> Result<u64, AllocError> {
     let words = texts(alloc, row.words)?;
     let mut call = Call {

@@ -1,4 +1,4 @@
-//! Moves of a debugger with too little memory stay before an event, and end with enough.
+//! Tests of a debugger: moves with too little memory stop at an earlier position, and succeed with enough.
 
 ghost use Rattle.jc_scenario.specs.WellFormed.{IsWellFormedScenario};
 ghost use Rattle.jc_scenario.specs.Views.{scenario_view};
@@ -30,7 +30,7 @@ fn begun_with(rt: &impl Abort, alloc: Global, bytes: usize) -> Outcome {
     outcome
 }
 
-/// How often a debugger is refused before it is there.
+/// The number of refusals before a debugger is made.
 fn refused_begins(rt: &impl Abort, alloc: Global) -> u64 {
     for n in 0..MOST {
         if is_done(rt, begun_with(rt, alloc, n * UNIT)) {
@@ -49,7 +49,7 @@ fn debuggers_are_refused(rt: HostRuntime) {
     drop(blocks);
 }
 
-/// A way to go on.
+/// A move of the debugger.
 #[derive(Clone, Copy)]
 enum Move {
     Step(u64),
@@ -90,7 +90,7 @@ fn act(debugger: &mut Debugger, event: &Event) -> Outcome {
     }
 }
 
-/// What a debugger shows at a position: dump lines, and how many rules the event used that led there.
+/// A debugger's state at a position: dump lines, and the number of rules of the event that led there.
 #[derive(Drop)]
 struct Seen {
     lines: String,
@@ -106,11 +106,11 @@ struct Way<'a> {
     by: Move,
     from: u64,
     to: u64,
-    /// The last position at which it stayed.
+    /// The greatest position at which it stopped.
     farthest: u64,
 }
 
-/// How many rules the last event used.
+/// The number of rules of the last event.
 fn rules(debugger: &Debugger) -> usize {
     match debugger.trace() {
         Some(trace) => trace.rows().len(),
@@ -119,7 +119,7 @@ fn rules(debugger: &Debugger) -> usize {
 }
 
 impl<'a> Way<'a> {
-    /// Whether the debugger shows what stands at its position.
+    /// Whether the debugger shows the state of its position.
     fn shows_its_position(&self) -> bool {
         match self.seen.get(self.debugger.position() as usize) {
             Some(seen) => {
@@ -156,7 +156,7 @@ impl<'a> Attempt for Way<'a> {
     }
 }
 
-/// Goes on by the move. Before that it was refused memory, and came at least to the position `least`.
+/// Makes the move. Before it succeeds it is refused memory, and comes at least to the position `least`.
 fn goes(rt: &impl Abort, way: &mut Way<'_>, by: Move, to: u64, least: u64) {
     way.by = by;
     way.from = way.debugger.position();
@@ -190,7 +190,7 @@ fn begun(rt: &impl Abort, alloc: Global) -> Debugger {
     Debugger::new(alloc, scenario).ok().expect(rt, "a debugger")
 }
 
-/// What it shows at each position.
+/// The state at each position.
 fn seen_by(
     rt: &impl Abort,
     alloc: Global,

@@ -1,18 +1,18 @@
-//! Sinks that keep nothing.
+//! Sinks that compare what is written with what is due, and take no memory. Commands and sessions use them.
 
 ghost use Rattle.std.specs.Prelude.{None};
 
 use jc_io::{Failed, Sink};
 
-/// A sink that compares what it is given with what is due. It takes no memory.
+/// A sink that compares what is written with what is due. It takes no memory.
 #[derive(Drop)]
 pub struct Due<'a> {
     all: &'a [u8],
-    /// What is due yet.
+    /// The bytes that are due yet.
     left: &'a [u8],
-    /// How many bytes were due yet when it was flushed last.
+    /// The number of bytes that were due yet at the last flush.
     waiting: usize,
-    /// Whether it was given something else.
+    /// Whether anything else was written.
     differs: bool,
 }
 
@@ -26,22 +26,22 @@ impl<'a> Due<'a> {
         }
     }
 
-    /// Whether nothing was given.
+    /// Whether nothing was written.
     pub fn is_unused(&self) -> bool {
         !self.differs && self.left.len() == self.all.len()
     }
 
-    /// Whether a front of what is due was given, and nothing else.
+    /// Whether a prefix of what is due was written, and nothing else.
     pub fn is_front(&self) -> bool {
         !self.differs
     }
 
-    /// Whether all that was due was given, and nothing else.
+    /// Whether all that was due was written, and nothing else.
     pub fn is_whole(&self) -> bool {
         !self.differs && self.left.is_empty()
     }
 
-    /// How many bytes are due yet; `None` where some of those given weren't flushed, or something else was given.
+    /// The number of bytes that are due yet; `None` where some weren't flushed, or anything else was written.
     pub fn flushed_to(&self) -> Option<usize> {
         if self.differs || self.waiting != self.left.len() {
             return None;
@@ -73,7 +73,7 @@ impl<'a> Sink for Due<'a> {
     }
 }
 
-/// A sink that compares what it is given with five texts, of which one is due.
+/// A sink that compares what is written with five texts, of which one is due.
 #[derive(Drop)]
 pub struct AnyOf<'a> {
     each: [Due<'a>; 5],
@@ -93,7 +93,7 @@ impl<'a> AnyOf<'a> {
         }
     }
 
-    /// Whether the text with this number was given.
+    /// Whether the text with this number was written.
     pub fn is_whole(&self, number: usize) -> bool {
         match self.each.get(number) {
             Some(due) => due.is_whole(),
@@ -101,7 +101,7 @@ impl<'a> AnyOf<'a> {
         }
     }
 
-    /// Whether one of the texts was given.
+    /// Whether one of the texts was written.
     pub fn is_one(&self) -> bool {
         self.each.iter().any(|due| due.is_whole())
     }

@@ -1,5 +1,5 @@
-//! Tests in which requests for memory are refused: each call is made with no memory, and with a little more each time,
-//! until there is enough. After each refusal all must stand as it did.
+//! Tests of all crates with too little memory: each call is made with no memory, and with a little more each time,
+//! until there is enough. After each refusal everything must be as it was before the call.
 #![tactic(auto)]
 
 #[cfg(test)]

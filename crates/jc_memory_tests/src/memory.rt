@@ -1,34 +1,34 @@
-//! Memory that runs out: blocks to which nothing is written take the whole address space of the test's own process, but
-//! for so many bytes.
+//! Limits the memory of a test: blocks to which nothing is written take the whole address space of its process, but for
+//! as many bytes as a call may get. The tests of the other files use it.
 //!
-//! A test makes each call with ample memory first. So the stack has grown then as far as the call needs; later it can't.
+//! A test makes each call with ample memory first, so that the stack grows as far as the call needs; later it can't.
 
 use std::alloc::{AllocError, Global};
 use std::process::Abort;
 
-/// How large the largest block is, and how many there are at most.
+/// The size of the largest block, and the number of blocks at most.
 const LARGEST: usize = 1 << 34;
 
 const MANY: usize = 1 << 17;
 
-/// The room that is left, in pieces: what is made ready for a call and looked at after it has its memory here.
+/// The room that is left, in pieces: what is prepared for a call and checked after it has its memory here.
 const PIECE: usize = 1 << 22;
 
-/// How many pieces there are. The C library keeps up to seven freed blocks of each of 64 small sizes where they are, so
+/// The number of pieces. The C library keeps up to seven freed blocks of each of 64 small sizes where they are, so
 /// 448 in all; between two of them there is room here for the longest list and the spare block.
 const PIECES: usize = 128;
 
-/// How many there are beside threads. This is less than a heap of a thread's own, and than the holes for threads, which
-/// would be cut out of it else.
+/// The number of pieces beside threads. This is less than a heap of a thread's own, and than the holes for threads,
+/// which would be cut out of it else.
 const PIECES_BESIDE_THREADS: usize = 11;
 
-/// How many blocks the room is cut into at most.
+/// The number of blocks of the room at most.
 const FEW: usize = 20_000;
 
-/// What a call can get at most.
+/// The memory of a call at most.
 pub const SPARE: usize = 1 << 18;
 
-/// By so many bytes what a call can get grows. No block of the C library has less than twice as many.
+/// The step by which the memory of a call grows. No block of the C library has less than twice as many.
 pub const UNIT: usize = 16;
 
 /// Above this size the C library keeps no list of freed blocks for each size.
@@ -43,12 +43,12 @@ fn smaller(size: usize) -> usize {
     }
 }
 
-/// A block of so many bytes.
+/// A block of this size.
 pub fn block(alloc: Global, bytes: usize) -> Result<Vec<u8>, AllocError> {
     Vec::with_capacity(alloc, bytes)
 }
 
-/// Takes blocks of falling size, until there is memory for none.
+/// Takes blocks of decreasing size, until there is memory for none.
 fn take(alloc: Global, largest: usize, many: usize) -> Result<Vec<Vec<u8>>, AllocError> {
     let mut blocks = Vec::with_capacity(alloc, many)?;
     let mut size = largest;
@@ -81,7 +81,7 @@ fn all_but_room(alloc: Global, pieces: usize) -> Result<Vec<Vec<u8>>, AllocError
     Ok(blocks)
 }
 
-/// The room but for so many bytes, which stand in one piece.
+/// The room but for this number of bytes, which are in one piece.
 fn room_but(alloc: Global, bytes: usize) -> Result<Vec<Vec<u8>>, AllocError> {
     let spare = block(alloc, SPARE)?;
     let mut blocks = take(alloc, PIECE, FEW)?;
@@ -97,14 +97,14 @@ pub fn fill(rt: &impl Abort, alloc: Global) -> Vec<Vec<u8>> {
     all_but_room(alloc, PIECES).ok().expect(rt, "the blocks")
 }
 
-/// The same where threads are made behind it.
+/// Does so before threads are made.
 pub fn fill_beside_threads(rt: &impl Abort, alloc: Global) -> Vec<Vec<u8>> {
     all_but_room(alloc, PIECES_BESIDE_THREADS)
         .ok()
         .expect(rt, "the blocks")
 }
 
-/// How much a call gets: all that it may need, or what it gets when it is made for the time n.
+/// The memory of a call: all that it may need, or that of its attempt number n.
 pub fn budget(is_ample: bool, n: usize) -> usize {
     if is_ample {
         SPARE
@@ -113,7 +113,7 @@ pub fn budget(is_ample: bool, n: usize) -> usize {
     }
 }
 
-/// Takes the room too, but for so many bytes. For a call with ample memory nothing is taken.
+/// Takes the room too, but for this number of bytes. For a call with ample memory it takes nothing.
 pub fn leave(rt: &impl Abort, alloc: Global, bytes: usize) -> Vec<Vec<u8>> {
     if bytes >= SPARE {
         return Vec::new(alloc);

@@ -1,4 +1,4 @@
-//! What is told of a network, with too little memory.
+//! Tests of questions to a network and a trace, with too little memory.
 
 use crate::attempts::{Attempt, Outcome, done_if, holds, refusals};
 use crate::memory::fill;
@@ -11,7 +11,7 @@ use std::alloc::Global;
 use std::process::Abort;
 use std::test::Fail;
 
-/// What is asked of the network.
+/// A question.
 #[derive(Clone, Copy)]
 enum Asked {
     Enabled,
@@ -31,7 +31,7 @@ const ALL: [Asked; 6] = [
     Asked::Traced,
 ];
 
-/// What can come after the last event.
+/// The events that are enabled after the last one.
 const ENABLED: &[Event] = &[
     Event::Send(0),
     Event::Recv(0, 0),
@@ -43,7 +43,7 @@ const ENABLED: &[Event] = &[
     Event::Done(1),
 ];
 
-/// What both replicas have applied.
+/// The operations that both replicas have applied.
 const APPLIED: &[Id] = &[
     Id {
         counter: 1,

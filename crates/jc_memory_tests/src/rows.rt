@@ -1,4 +1,4 @@
-//! Scenarios, and the networks at their starts.
+//! Scenarios for the tests of the other files, and the networks at their starts.
 
 ghost use Rattle.jc_scenario.specs.WellFormed.{IsWellFormedScenario};
 ghost use Rattle.jc_scenario.specs.Views.{scenario_view};
@@ -18,7 +18,7 @@ pub const DELETION: &str =
 pub const INSERTS: &str =
     "jsoncrdt 1 replica a { doc.get(\"l\") := []; yield; doc.get(\"l\").idx(0).insertAfter(\"x\"); yield } replica b { yield; doc.get(\"l\").idx(0).insertAfter(\"y\"); yield } schedule { a.exec; a.send; a.done; b.recv(a); b.apply(1, a); b.done; a.exec; b.exec; a.send; b.send; a.recv(b); b.recv(a); a.apply(2, b); b.apply(2, a) }";
 
-/// A list with a deleted element. The last command is stuck behind its end.
+/// A list with a deleted element. The last command is stuck after its end.
 pub const TOMBSTONE: &str =
     "jsoncrdt 1 replica a { doc := []; doc.idx(0).insertAfter(\"x\"); doc.idx(1).insertAfter(\"y\"); doc.idx(1).delete; let z = doc.idx(1); let w = doc.idx(2) } schedule { a.exec; a.exec; a.exec; a.exec; a.exec; a.exec }";
 

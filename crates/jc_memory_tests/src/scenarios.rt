@@ -1,4 +1,4 @@
-//! Scenarios read, printed and begun with too little memory.
+//! Tests of reading, printing and starting a scenario with too little memory.
 
 ghost use Rattle.jc_scenario.specs.WellFormed.{IsWellFormedScenario};
 ghost use Rattle.jc_scenario.specs.Views.{scenario_view};
@@ -61,7 +61,7 @@ fn texts_are_refused(rt: HostRuntime) {
     drop(blocks);
 }
 
-/// What is made of a scenario.
+/// A call on a scenario.
 #[derive(Clone, Copy)]
 enum Made {
     Text,
@@ -103,7 +103,7 @@ fn made_with(
     outcome
 }
 
-/// How often it is refused before it is made.
+/// The number of refusals before it succeeds.
 fn refused(rt: &impl Abort, alloc: Global, scenario: &Scenario, made: Made) -> u64
     requires { IsWellFormedScenario (scenario_view scenario.now) }
 {

@@ -1,4 +1,4 @@
-//! Sessions with too little memory end with whole answers.
+//! Tests of sessions: with too little memory they end after whole answers.
 
 use crate::attempts::{Attempt, Outcome, done_if, holds, refusals, refused_if};
 use crate::due::Due;
@@ -54,7 +54,7 @@ const TALK: &[(&str, &str)] = &[
 /// The line of a text that is no scenario.
 const NO_HEADER: &[(&str, &str)] = &[("where", "refused 14 NoHeader at 0\n")];
 
-/// Whether so many bytes are those of the last answers, whole.
+/// Whether this number of bytes is that of the last answers, whole.
 fn are_last(talk: &[(&str, &str)], bytes: usize) -> bool {
     let mut last = 0usize;
     for (_, answer) in talk.iter().rev() {
@@ -109,7 +109,7 @@ impl<'a> Attempt for Talk<'a> {
     }
 }
 
-/// How often a session is refused memory before it is held.
+/// The number of sessions that are refused memory before one succeeds.
 fn refused_talk(
     rt: &impl Abort,
     alloc: Global,

@@ -1,4 +1,4 @@
-//! Steps of networks with too little memory leave the network as it was, and are made with enough.
+//! Tests of steps: with too little memory they leave the network as it was, and they succeed with enough.
 
 use crate::attempts::{Attempt, Outcome, done_if, holds, refusals};
 use crate::memory::fill;
@@ -9,18 +9,18 @@ use std::alloc::{AllocError, Global};
 use std::process::Abort;
 use std::test::Fail;
 
-/// What comes of an event.
+/// The outcome of an event.
 #[derive(Drop)]
 pub enum Answer {
-    /// It is made, with this trace.
+    /// It is executed, with this trace.
     Made(Trace),
-    /// It is stuck with this number.
+    /// It is stuck, with the number of its refusal.
     Stuck(u8),
     /// There was no memory.
     Memory,
 }
 
-/// Makes the event, if it can be made.
+/// Executes the event, unless it is stuck.
 pub fn answer_to(net: &mut Net, event: &Event) -> Answer {
     match net.step(event) {
         Ok(trace) => Answer::Made(trace),
@@ -39,14 +39,14 @@ fn outcome(answer: &Answer, want: &Answer) -> Outcome {
     }
 }
 
-/// An event with ample memory: the dump lines before it, and what came of it.
+/// An event with ample memory: the dump lines before it, and its outcome.
 #[derive(Drop)]
 struct Ample {
     lines: String,
     answer: Answer,
 }
 
-/// Makes the events with ample memory.
+/// Executes the events with ample memory.
 fn ample_run(
     rt: &impl Abort,
     alloc: Global,
@@ -84,7 +84,7 @@ impl<'a> Walk<'a> {
         }
     }
 
-    /// Whether it was so before the last event, which is taken back and made again.
+    /// Whether it was so before the last event, which is taken back and executed again.
     fn was_before(&mut self) -> bool {
         let Some(before) = self.at.checked_sub(1) else {
             return !self.net.undo();
@@ -110,7 +110,7 @@ impl<'a> Attempt for Walk<'a> {
     }
 }
 
-/// Makes each event. Says how often one was refused.
+/// Executes each event. Returns the number of refusals.
 fn walk_on(rt: &impl Abort, walk: &mut Walk<'_>) -> u64 {
     let mut refused = 0u64;
     for at in 0..walk.events.len() {
@@ -122,7 +122,7 @@ fn walk_on(rt: &impl Abort, walk: &mut Walk<'_>) -> u64 {
     refused
 }
 
-/// Makes the events of the scenario with ample memory, and then with little.
+/// Executes the events of the scenario with ample memory, and then with little.
 fn refused_steps(rt: &impl Abort, alloc: Global, text: &str) -> Result<u64, AllocError> {
     let (mut net, events) = start(rt, alloc, text);
     let run = ample_run(rt, alloc, &mut net, &events)?;

@@ -1,5 +1,5 @@
-//! Both stores with too little memory: operations, clearing and expressions leave document and trace as they were, and
-//! do what they do with enough.
+//! Tests of both stores: with too little memory operations, clearing and expressions leave document and trace as they
+//! were, and they succeed with enough.
 
 ghost use Rattle.std.specs.Prelude.{◌≡◌, ◌≢◌, ◌+◌, ◌<◌, false, IfOk, OnOk};
 ghost use Rattle.jc_rules.specs.declared.id.Id.{Id as AnyId};
@@ -40,7 +40,7 @@ enum Does {
     Delete,
 }
 
-/// An operation: the keys down to its last key, those of lists told by true, and what it does.
+/// An operation: the keys down to its last key, `true` for those of lists, and what it does.
 struct Made {
     path: &'static [(bool, At)],
     last: At,
@@ -157,7 +157,7 @@ fn all_to(alloc: Global, counter: u64) -> Result<IdSet, AllocError> {
     Ok(all)
 }
 
-/// The operation that comes after so many.
+/// The operation with this index.
 fn op_of(alloc: Global, made: &Made, count: u64) -> Result<Op, AllocError>
     requires { count < 100 }
     ensures { IfOk result (λ op. op.id.counter ≡ count + 1) }
@@ -194,7 +194,7 @@ fn is_shown<S: TreeStore>(alloc: Global, store: &S, want: &str) -> bool {
     }
 }
 
-/// Applies the operation with so much memory, and says whether there was enough.
+/// Applies the operation with this much memory, and returns whether there was enough.
 fn is_applied<S: TreeStore>(
     rt: &impl Abort,
     alloc: Global,
@@ -220,8 +220,8 @@ fn is_applied<S: TreeStore>(
     }
 }
 
-/// Applies the operation that comes after so many, once there is enough memory. Says how often there was too little.
-/// Then document and trace were as before.
+/// Applies the operation with this index, once there is enough memory. Returns the number of refusals, after which
+/// document and trace were as before.
 #[tactic(auto, using(crate::proofs::MadeLemmas::ready_on))]
 fn applied_at_last<S: TreeStore>(
     rt: &impl Abort,
@@ -251,7 +251,7 @@ fn applied_at_last<S: TreeStore>(
     panic!(rt; "it is always refused")
 }
 
-/// Applies all operations to an empty document. Gives the traces, and says how often there was too little memory.
+/// Applies all operations to an empty document. Returns the traces and the number of refusals.
 fn apply_all<S: TreeStore>(
     rt: &impl Abort,
     alloc: Global,
@@ -277,14 +277,14 @@ fn apply_all<S: TreeStore>(
     Ok((traces, refused))
 }
 
-/// Expressions, and how many rules evaluate each after all operations.
+/// Expressions, and the number of rules that evaluate each after all operations.
 const EXPRESSIONS: &[(&str, usize)] = &[
     ("doc.keys", 3),
     ("doc.get(\"v\").values", 5),
     ("doc.get(\"l\").idx(0)", 6),
 ];
 
-/// Evaluates the expression with so much memory. Where it is refused, the trace is empty.
+/// Evaluates the expression with this much memory. Where it is refused, the trace is empty.
 fn evaluated<S: TreeStore>(
     rt: &impl Abort,
     alloc: Global,
@@ -306,7 +306,7 @@ fn evaluated<S: TreeStore>(
     }
 }
 
-/// How often the expression is refused memory before it is evaluated.
+/// The number of refusals before the expression is evaluated.
 fn refused_value<S: TreeStore>(
     rt: &impl Abort,
     alloc: Global,
@@ -346,7 +346,7 @@ fn refused_values<S: TreeStore>(
     Ok(refused)
 }
 
-/// Clears the document's map with so much memory, or all of the document. Says whether there was enough.
+/// Clears the document's map with this much memory, or all of the document. Returns whether there was enough.
 #[tactic(auto, using(crate::proofs::MadeLemmas::at_top))]
 fn is_cleared<S: TreeStore>(
     rt: &impl Abort,
@@ -376,7 +376,7 @@ fn is_cleared<S: TreeStore>(
     }
 }
 
-/// How often clearing is refused memory. Then document and trace were as before.
+/// The number of times that clearing is refused memory. Then document and trace were as before.
 fn refused_clearing<S: TreeStore>(
     rt: &impl Abort,
     alloc: Global,
@@ -403,7 +403,7 @@ fn refused_clearing<S: TreeStore>(
     panic!(rt; "it is always refused")
 }
 
-/// How often operations, expressions and clearing were refused.
+/// The numbers of refusals of operations, expressions and clearing.
 #[derive(Clone, Copy)]
 struct Refused {
     operations: u64,
@@ -411,7 +411,7 @@ struct Refused {
     clearing: u64,
 }
 
-/// Makes all calls, and says what was shown after the operations.
+/// Makes all calls, and returns the document after the operations.
 fn call_all<S: TreeStore>(
     rt: &impl Abort,
     alloc: Global,

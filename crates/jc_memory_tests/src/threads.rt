@@ -1,9 +1,9 @@
-//! Runs by threads with too little memory: no report, or one in which an end says so.
+//! Tests of runs by threads: with too little memory there is no report, or one in which an end says so.
 //!
 //! Each thread would get a heap of its own from the C library. So the memory is filled before the first thread is made,
 //! but for a hole in which stacks fit and no such heap does. Stacks are kept for the next threads; after the first run
 //! what threads take comes page by page out of a second hole, and what the thread takes that started them out of the
-//! room. Where the C library does otherwise, fewer requests are refused, and what must be so after each is the same.
+//! room. Where the C library does otherwise, fewer requests are refused, and the same must hold after each.
 
 ghost use Rattle.std.specs.Prelude.{None, true};
 ghost use Rattle.jc_scenario.specs.WellFormed.{IsWellFormedScenario};
@@ -32,21 +32,21 @@ const HOLES: [usize; 3] = [48 << 20, 40 << 20, 32 << 20];
 
 const PAGE: usize = 4_096;
 
-/// How many pages threads get at most. In fewer than 256 the C library makes no heap for their caller.
+/// The number of pages that threads get at most. In fewer than 256 the C library makes no heap for their caller.
 const PAGES: usize = 200;
 
-/// What the caller gets where the threads are to be refused: all that it needs.
+/// The memory of the caller where the threads are to be refused: all that it needs.
 const AMPLE: usize = SPARE / 2;
 
-/// By so many bytes what the caller gets grows where it is to be refused, and how often.
+/// The step by which the caller's memory grows where it is to be refused, and the number of steps.
 const STEP: usize = 128;
 
 const STEPS: usize = 128;
 
-/// How often a flag is looked at.
+/// The number of looks at a flag.
 const LOOKS: u64 = 1_000_000_000;
 
-/// A gate that is open. It tells no question.
+/// A gate that is open.
 #[derive(Drop)]
 struct Open;
 
@@ -65,7 +65,7 @@ fn gates(alloc: Global) -> Result<Vec<Open>, AllocError> {
     Ok(gates)
 }
 
-/// A gate at which a thread waits for the other one, so that both have stacks at one time. It tells no question.
+/// A gate at which a thread waits for the other one, so that both have stacks at one time.
 #[derive(Drop)]
 struct Meeting<'a> {
     mine: &'a AtomicBool,
@@ -111,7 +111,7 @@ fn outcome_of(report: &Report) -> Outcome {
     outcome
 }
 
-/// Whether as many events stand in the schedule as were made.
+/// Whether the schedule has as many events as were made.
 fn is_summed(report: &Report) -> bool {
     let mut all = 0u64;
     for made in &report.made {
@@ -176,7 +176,7 @@ const RECORDED: &str = "jsoncrdt 1\nreplica a {\n  doc := 1;\n}\nschedule {\n  a
 
 const UNBEGUN: &str = "jsoncrdt 1\nreplica a {\n  doc := 1;\n}\nschedule {\n}\n";
 
-/// What standard error has: where there was too little memory, and the last where there was enough.
+/// The texts of standard error: where there was too little memory, and the last where there was enough.
 const LINES: [&str; 5] = [
     "no memory\n",
     "no thread\n",
@@ -185,7 +185,7 @@ const LINES: [&str; 5] = [
     "a made 1 finished\n",
 ];
 
-/// The command `threads`, or what else the words ask for.
+/// The command of the arguments, for `threads`.
 fn command<R: Threads + Wait + Sync + AllocGlobal>(rt: &R, words: &[String]) -> Outcome {
     let mut out = AnyOf::new([RECORDED, UNBEGUN, "", "", ""]);
     let mut err = AnyOf::new(LINES);
@@ -207,7 +207,7 @@ fn hole(alloc: Global) -> Vec<u8> {
     Vec::new(alloc)
 }
 
-/// Takes all memory, but for so many bytes of the room and so many pages of the hole.
+/// Takes all memory, but for this number of bytes of the room and of pages of the hole.
 fn leave_both(rt: &impl Abort, alloc: Global, bytes: usize, pages: usize) -> Vec<Vec<u8>> {
     let hole = hole(alloc);
     let size = hole.capacity();
@@ -220,7 +220,7 @@ fn leave_both(rt: &impl Abort, alloc: Global, bytes: usize, pages: usize) -> Vec
     blocks
 }
 
-/// Whether a run is done with so much memory.
+/// Whether a run is done with this much memory.
 fn is_run<R: Threads + Wait + Sync + Abort>(
     rt: &R,
     alloc: Global,
@@ -235,7 +235,7 @@ fn is_run<R: Threads + Wait + Sync + Abort>(
     is_done(rt, outcome)
 }
 
-/// How many runs are refused whose caller has more each time, and whose threads have nothing.
+/// The number of refused runs whose caller has more each time, and whose threads have nothing.
 fn refused_callers<R: Threads + Wait + Sync + Abort>(rt: &R, alloc: Global) -> u64 {
     let mut refused = 0u64;
     for n in 0..STEPS {
@@ -246,7 +246,7 @@ fn refused_callers<R: Threads + Wait + Sync + Abort>(rt: &R, alloc: Global) -> u
     refused
 }
 
-/// How many runs are refused whose threads have more each time.
+/// The number of refused runs whose threads have more each time.
 fn refused_threads<R: Threads + Wait + Sync + Abort>(rt: &R, alloc: Global) -> u64 {
     let mut refused = 0u64;
     for pages in 0..PAGES {
@@ -276,7 +276,7 @@ fn runs_are_refused(rt: HostRuntime) -> Result<(), Fail> {
     Ok(())
 }
 
-/// Whether the command is done with so much memory.
+/// Whether the command is done with this much memory.
 fn is_carried_out<R: Threads + Wait + Sync + AllocGlobal + Abort>(
     rt: &R,
     words: &[String],
@@ -289,7 +289,7 @@ fn is_carried_out<R: Threads + Wait + Sync + AllocGlobal + Abort>(
     is_done(rt, outcome)
 }
 
-/// How often the command is refused where its caller has more each time, and its threads have nothing.
+/// The number of refusals of the command where its caller has more each time, and its threads have nothing.
 fn refused_words<R: Threads + Wait + Sync + AllocGlobal + Abort>(rt: &R, words: &[String]) -> u64 {
     let mut refused = 0u64;
     for n in 0..STEPS {
@@ -300,7 +300,7 @@ fn refused_words<R: Threads + Wait + Sync + AllocGlobal + Abort>(rt: &R, words: 
     refused
 }
 
-/// How often it is refused where its threads have more each time.
+/// The number of refusals of the command where its threads have more each time.
 fn refused_commands<R: Threads + Wait + Sync + AllocGlobal + Abort>(
     rt: &R,
     words: &[String],

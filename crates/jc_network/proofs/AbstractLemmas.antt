@@ -69,7 +69,7 @@ id_in (p ∷ os) o c = go (in_cons o p os c) (id_in os o)
     go (inl s) f = subst (λ (x : Op). has_id o.id (ids_of_ops (x ∷ os)) ≡ true) (sym s) (now_with_id o.id (ids_of_ops os))
     go (inr m) f = still_with_id o.id p.id (ids_of_ops os) (f m)
 
-mapped_in : (os : List Op) (o : Op) → Contains os o → Contains (map stored_op os) (stored_op o)
+pub mapped_in : (os : List Op) (o : Op) → Contains os o → Contains (map stored_op os) (stored_op o)
 mapped_in [] o c = none_in o c
 mapped_in (p ∷ os) o c = go (in_cons o p os c) (mapped_in os o)
   where
@@ -77,7 +77,7 @@ mapped_in (p ∷ os) o c = go (in_cons o p os c) (mapped_in os o)
     go (inl s) f = subst (λ x. Contains (map stored_op (p ∷ os)) (stored_op x)) s (first_in (stored_op p) (map stored_op os))
     go (inr m) f = later_in (stored_op o) (stored_op p) (map stored_op os) (f m)
 
-in_mapped : (os : List Op) (k : Op) → Contains (map stored_op os) k → (o : Op) × Contains os o × (stored_op o ≡ k)
+pub in_mapped : (os : List Op) (k : Op) → Contains (map stored_op os) k → (o : Op) × Contains os o × (stored_op o ≡ k)
 in_mapped [] k c = none_in k c
 in_mapped (p ∷ os) k c = go (in_cons k (stored_op p) (map stored_op os) c) (in_mapped os k)
   where

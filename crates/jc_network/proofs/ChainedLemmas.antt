@@ -159,7 +159,7 @@ data Treed (A B : State) : Type 0 where
   same : B.tree ≡ A.tree → Treed A B
   operated : (o : Op) → has_id o.id A.ops ≡ false → IsAnswered (Operate A.tree o) (ToContext B.tree) → Treed A B
 
-new_unapplied : (p : ℕ) (A : State) → has_id (record { counter = greatest A.ops + 1; replica = p }) A.ops ≡ false
+pub new_unapplied : (p : ℕ) (A : State) → has_id (record { counter = greatest A.ops + 1; replica = p }) A.ops ≡ false
 new_unapplied p A = go (has_id (record { counter = greatest A.ops + 1; replica = p }) A.ops) refl
   where
     go : (b : Bool) → has_id (record { counter = greatest A.ops + 1; replica = p }) A.ops ≡ b → b ≡ false

@@ -1,4 +1,4 @@
--- Orders that were done, and of which nothing was.
+-- About Commands: commands that came to their end, and their statuses. For PromiseLemmas.
 use Rattle.std.proofs.Common.{◌≡◌, ℕ, inl, inr, List, [], Bool, true, false, if◌then◌else◌, Option, Some, None, Ok, Err, refl, sym, subst}
 use Rattle.std.proofs.lemmas.Option.{same_Some}
 use Rattle.jc_cli.specs.declared.order.Task.{Task}

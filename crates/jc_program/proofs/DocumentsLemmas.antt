@@ -1,4 +1,4 @@
--- Documents that are written one after the other.
+-- About ViewText (Document): documents that are written one after the other. `send_views` uses it.
 use Rattle.std.proofs.Common.{◌≡◌, ℕ, zero, suc, ◌+◌, ◌<◌, List, [], ◌∷◌, ◌++◌, length, take, get_or, slice_get, Some, refl, sym, ◌∙◌, ap, subst, append_assoc, append-nil, arith}
 use Rattle.std.proofs.lemmas.Option.{slice_get-get_or, same_Some}
 use Rattle.jc_rules.specs.ReplicaNames.{name_at}

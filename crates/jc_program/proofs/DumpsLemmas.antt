@@ -1,4 +1,4 @@
--- Dumps that are written one after the other.
+-- About ViewText (Run): states that are written one after the other. `send_dumps` uses it.
 use Rattle.std.proofs.Common.{◌≡◌, ℕ, zero, suc, ◌+◌, ◌<◌, List, [], ◌∷◌, ◌++◌, length, take, get_or, slice_get, Some, refl, sym, ◌∙◌, ap, subst, append_assoc}
 use Rattle.std.proofs.lemmas.Option.{slice_get-get_or}
 use Rattle.jc_rules.specs.ReplicaNames.{name_at}

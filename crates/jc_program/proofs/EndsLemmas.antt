@@ -1,4 +1,4 @@
--- What a report says of the lines that tell it.
+-- About Ends (AreTellable): the ends of a report have lines. `told` uses it.
 use Rattle.std.proofs.Common.{arith, ◌≡◌, ◌∙◌, ℕ, List, length, sym, ap, subst}
 use Rattle.std.proofs.lemmas.Option.{slice_get_within}
 use Rattle.jc_rules.specs.declared.operation.Event.{Event}

@@ -1,18 +1,13 @@
--- Given events that are stuck.
-use Rattle.std.proofs.Common.{◌≡◌, ℕ, List, length, slice_get, Some, All, refl, subst}
-use Rattle.std.proofs.lemmas.Option.{slice_get_within, get_or_from_slice_get}
-use Rattle.jc_rules.specs.declared.operation.Event.{Event}
+-- About ViewText (IsGivenShown): the lines of a stuck given event.
+use Rattle.std.proofs.Common.{ℕ, List, length, refl}
 use Rattle.jc_printer.specs.Canon.{AreNamed}
 use Rattle.jc_scenario.specs.WellFormed.{Scenario, IsWellFormedScenario}
 use Rattle.jc_network.specs.declared.fault.Stuck.{Stuck}
 use Rattle.jc_network.specs.Given.{before_given, IsGivenFault}
 use Rattle.jc_dump.specs.Lines.{IsNamedStuck}
+use Rattle.jc_session.proofs.AnswerOfLemmas.{of_all}
 use Rattle.jc_program.specs.ViewText.{IsGivenShown}
 use Rattle.jc_program.specs.Recordings.{AreGivenLines}
-
--- what is so of all events is so of the one at a place
-of_all : (P : Event → Type 0) (es : List Event) (k : ℕ) (e : Event) → All P es → slice_get es k ≡ Some e → P e
-of_all P es k e all there = subst P (get_or_from_slice_get es k e e there) (all k e (slice_get_within es k e there))
 
 module _ (s : Scenario) (at : ℕ) (stuck : Stuck) (h : IsGivenFault (before_given s) s.given at stuck) where
   -- its replicas have names

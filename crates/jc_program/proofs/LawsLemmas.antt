@@ -1,11 +1,10 @@
--- A run is a function of its bytes.
+-- About Laws (OneRun): a view of bytes has one text and one status at most.
 use Rattle.std.proofs.Common.{◌≡◌, ℕ, inl, inr, List, [], ◌∷◌, ◌++◌, take, Bool, false, Option, Some, None, Result, Ok, Err, refl, sym, ◌∙◌, ap, subst}
 use Rattle.std.proofs.lemmas.Option.{same_Some}
 use Rattle.jc_rules.specs.declared.operation.Event.{Event}
 use Rattle.jc_rules.specs.Refused.{IsStuckIn}
-use Rattle.jc_rules.specs.Refusals.{refusal_number as refusal_number}
 use Rattle.jc_rules.specs.Step.{Network, StepIn}
-use Rattle.jc_rules.specs.Laws.{OneStepIn, StuckInHasNone, OneStuckIn, NumbersDiffer}
+use Rattle.jc_rules.specs.Laws.{OneStepIn, StuckInHasNone, OneStuckIn}
 use Rattle.jc_parser.specs.declared.fault.ScenarioFault.{ScenarioFault}
 use Rattle.jc_scenario.specs.Laws.{OneScenario, ScenarioOrFault, OneFault}
 use Rattle.jc_scenario.specs.WellFormed.{Scenario}
@@ -99,11 +98,10 @@ module _ (one_step : OneStepIn) (stuck_has_none : StuckInHasNone) (one_stuck : O
           a.ends ∙ (ap status_of same.2 ∙ sym b.ends),
         )
 
-    module _ (one_scenario : OneScenario) (scenario_or_fault : ScenarioOrFault) (one_fault : OneFault) (numbers_differ : NumbersDiffer) where
+    module _ (one_scenario : OneScenario) (scenario_or_fault : ScenarioOrFault) (one_fault : OneFault) where
       same_refused : (fault : ScenarioFault) (shown other : List ℕ) (status other_status : ℕ) → IsRefused fault shown status → IsRefused fault other other_status → (shown ≡ other) × (status ≡ other_status)
       same_refused fault shown other status other_status a b =
-          let number = same_Some (refusal_number a.refusal) (refusal_number b.refusal) (sym a.number ∙ b.number) in
-          let refusal = numbers_differ a.refusal b.refusal number in
+          let refusal = same_Some a.refusal b.refusal (sym a.is ∙ b.is) in
           let place = same_Some a.place b.place (sym a.stands ∙ b.stands) in
           (a.written ∙ ((λ i. refused_text (refusal i) (place i)) ∙ sym b.written), a.ends ∙ sym b.ends)
 

@@ -1,9 +1,8 @@
--- A run that goes on by one event.
-use Rattle.std.proofs.Common.{◌≡◌, ℕ, zero, suc, ◌+◌, ◌<◌, ◌≤◌, List, [], ◌∷◌, ◌++◌, length, take, drop, get_or, slice_get, is_some, Bool, Option, Some, None, true, false, refl, ap, sym, ◌∙◌, subst, append_assoc, append-nil, add-zero, arith}
+-- About PlayResult: a run that goes on by one event, and its end. `play` uses it.
+use Rattle.std.proofs.Common.{◌≡◌, ℕ, suc, ◌+◌, ◌<◌, ◌≤◌, List, [], ◌∷◌, ◌++◌, length, take, drop, get_or, slice_get, is_some, Bool, Option, Some, None, true, false, refl, ap, sym, ◌∙◌, subst, append_assoc, append-nil, add-zero, arith}
 use Rattle.std.proofs.lemmas.Grind.{common_steps}
 use Rattle.std.proofs.lemmas.List.{take_more, length-append}
 use Rattle.std.proofs.Math.Seq.{take-length}
-use Rattle.std.proofs.lemmas.Option.{same_Some}
 use Rattle.jc_rules.specs.declared.operation.Event.{Event}
 use Rattle.jc_rules.specs.declared.rule.Rule.{Rule}
 use Rattle.jc_rules.specs.ReplicaNames.{name_at}
@@ -17,10 +16,11 @@ use Rattle.jc_network.specs.NetworkHistory.{Course}
 use Rattle.jc_network.specs.Given.{IsStarted}
 use Rattle.jc_dump.specs.Dump.{dump_line}
 use Rattle.jc_session.specs.Written.{Stream, Wrote}
+use Rattle.jc_session.proofs.TextsListLemmas.{next_dumps}
 use Rattle.jc_session.proofs.WrittenLemmas.{wrote_both}
 use Rattle.jc_program.specs.Texts.{event_text}
 use Rattle.jc_program.specs.ViewText.{RanThrough}
-use Rattle.jc_dump.specs.Texts.{dumps_from, dumps_text}
+use Rattle.jc_dump.specs.Texts.{dumps_text}
 use Rattle.jc_program.specs.Runs.{Made, GoesBy, Plays, events_of, events_text, stuck_line, status_of}
 use Rattle.jc_program.specs.PlayResult.{PlaysNext, PlaysAll}
 
@@ -67,18 +67,6 @@ ran trace s first last schedule a b answer from events h shown is =
       written = is ∙ ap (λ n. h.text ++ dumps_text n last.network.states ++ stuck_line n h.stuck) names;
       ends = refl;
     }
-
-next_dumps : (names : List (List ℕ)) (n p : ℕ) (network : List State) (A : State) → slice_get network p ≡ Some A → dumps_from n names (take (suc p) network) ≡ dumps_from n names (take p network) ++ dump_line names (name_at names (n + p)) A
-next_dumps names n p [] A e = cc
-next_dumps names n zero (B ∷ network) A e =
-    let same : B ≡ A = same_Some B A e in
-    let number : n ≡ n + 0 = omega arith in
-    append-nil (dump_line names (name_at names n) B) ∙ (ap (λ S. dump_line names (name_at names n) S) same ∙ ap (λ k. dump_line names (name_at names k) A) number)
-next_dumps names n (suc p) (B ∷ network) A e =
-    let number : suc n + p ≡ n + suc p = omega arith in
-    ap (λ t. dump_line names (name_at names n) B ++ t) (next_dumps names (suc n) p network A e)
-    ∙ sym (append_assoc (dump_line names (name_at names n) B) (dumps_from (suc n) names (take p network)) _)
-    ∙ ap (λ k. (dump_line names (name_at names n) B ++ dumps_from (suc n) names (take p network)) ++ dump_line names (name_at names k) A) number
 
 -- one dump more
 pub dumps_more : (names : List (List ℕ)) (p : ℕ) (network : List State) (A : State) → slice_get network p ≡ Some A → dumps_text names (take (p + 1) network) ≡ dumps_text names (take p network) ++ dump_line names (name_at names p) A

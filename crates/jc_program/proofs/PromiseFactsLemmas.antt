@@ -1,4 +1,4 @@
--- What the program's promise gives.
+-- About PromiseFacts: each fact follows from the promise.
 use Rattle.std.proofs.Common.{◌≡◌, ◌≢◌, ◌⊎◌, ◌∙◌, ℕ, inl, inr, List, [], ◌∷◌, Option, Some, None, codes, refl, sym, ap, subst}
 use Rattle.std.proofs.lemmas.Option.{same_Some}
 use Rattle.jc_cli.specs.Arguments.{words_order, AsksHelp, IsFaultless}

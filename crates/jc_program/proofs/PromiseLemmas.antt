@@ -1,4 +1,4 @@
--- How the program's ends keep its promise.
+-- About Promise: each end of the program keeps it. `work`, `work_alone` and `exit` use it.
 use Rattle.std.proofs.Common.{◌≡◌, ◌≢◌, ◌⊎◌, ◌≤◌, ◌∙◌, ℕ, inl, inr, List, [], Bool, true, false, Option, Some, None, Ok, Err, codes, string_bytes, refl, sym, ap, subst, arith}
 use Rattle.std.proofs.lemmas.Slice.Eq.{bytes_eq-Decides}
 use Rattle.std.specs.Str.{bytes_eq}

@@ -1,4 +1,4 @@
--- Runs that are refused.
+-- About Recordings (IsToldAs): refused runs by threads, and their faults.
 use Rattle.std.proofs.Common.{arith, ◌≡◌, ◌≤◌, ℕ, length, string_bytes}
 use Rattle.jc_scenario.specs.WellFormed.{Scenario, IsWellFormedScenario}
 use Rattle.jc_runner.specs.declared.run.RunFault.{RunFault}

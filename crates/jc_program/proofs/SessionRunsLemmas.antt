@@ -1,4 +1,4 @@
--- Sessions on the bytes that are told.
+-- About SessionRuns: a session on the bytes that were read is one on the whole. `debug` uses it.
 use Rattle.std.proofs.Common.{◌≡◌, ◌≢◌, ◌⊎◌, ◌∙◌, ℕ, inl, inr, List, [], take, Bool, true, false, Option, Some, None, Err, Ok, codes, if◌then◌else◌, refl, ap, sym, subst}
 use Rattle.std.specs.Str.{bytes_eq}
 use Rattle.std.proofs.lemmas.Slice.Eq.{bytes_eq-Decides}

@@ -1,4 +1,4 @@
--- Each view of bytes has a text and a status.
+-- About Laws (RunHasAText): each view of bytes has a text and a status.
 use Rattle.std.proofs.Common.{◌≡◌, inl, inr, ℕ, ◌+◌, List, [], ◌∷◌, ◌++◌, take, Bool, false, Option, Some, None, Ok, Err, refl}
 use Rattle.jc_rules.specs.declared.operation.Event.{Event}
 use Rattle.jc_rules.specs.Refused.{Cause}
@@ -116,7 +116,7 @@ module _ (step_or_stuck : StepOrStuck) (led_or_stuck : LedOrStuck) where
 refused_of : (bytes : List ℕ) (fault : ScenarioFault) → IsFault bytes fault → (out : List ℕ) × (status : ℕ) × IsRefused fault out status
 refused_of bytes fault is =
     let (text, line) = fault_line fault (fault_told bytes fault is) in
-    (text, 1, record { refusal = line.refusal; place = line.place; number = line.is_number; stands = line.is_place; written = line.written; ends = refl })
+    (text, 1, record { refusal = line.refusal; place = line.place; is = line.is_refusal; stands = line.is_place; written = line.written; ends = refl })
 
 pub run_has_a_text : ScenarioElseFault → StepOrStuck → LedOrStuck → RunHasAText
 run_has_a_text either step_or_stuck led_or_stuck view bytes =

@@ -1,4 +1,4 @@
--- Runs by threads, whole or up to a fault.
+-- About ThreadRuns: recordings, and runs on the bytes that were read. The functions of `threads` use it.
 use Rattle.std.proofs.Common.{◌≡◌, ◌≢◌, ◌⊎◌, ℕ, ◌<◌, arith, inl, inr, List, [], take, Option, Some, None, Result, Ok, Err, IfOk, IfErr, string_bytes, refl, ap, sym, subst}
 use Rattle.std.specs.Bool.{⊤}
 use Rattle.jc_io.specs.Streams.{IsPrefixUpTo}
@@ -17,7 +17,7 @@ use Rattle.jc_program.specs.Faults.{IsCause}
 use Rattle.jc_program.specs.declared.fault.WorkFault.{WorkFault}
 use Rattle.jc_program.specs.declared.fault.WorkFault.TheVariants.{Read, Write, TooManyLines, NoThread, Memory}
 use Rattle.jc_program.specs.ThreadRuns.{outcome_status, IsUnrecorded, RanThreads, ShowsThreads, ThreadsRan, AreTextsOf, IsTextOf, AreThreadScenario, StopsThreads, HaveThreaded, HaveStopped}
-use Rattle.jc_program.proofs.ReadsScenarioLemmas.{reads_whole, has_number}
+use Rattle.jc_program.proofs.ReadsScenarioLemmas.{reads_whole, has_refusal}
 
 -- ---- recordings
 
@@ -83,7 +83,7 @@ of_scenario limit bytes s is out lines status h = (Ok s, is, h)
 
 module _ (limit : ℕ) (bytes : List ℕ) (fault : ScenarioFault) (known : fault ≢ NoMemoryRead → ReadsAs bytes (Err fault)) where
   of_refusal : (out : List ℕ) (status : ℕ) → IsRefused fault out status → ThreadsRan limit bytes out [] status
-  of_refusal out status h = (Err fault, known (has_number fault _ h.number), (h, refl))
+  of_refusal out status h = (Err fault, known (has_refusal fault _ h.is), (h, refl))
 
   -- a refused text; a sink that was left alone was sent nothing
   pub refused : (err old new : Stream) (status : ℕ) → Written (λ text. IsRefused fault text status) old new → AreTextsOf (ThreadsRan limit bytes) old new (λ lines. Sent lines err err) status

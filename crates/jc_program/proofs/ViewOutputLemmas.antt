@@ -1,4 +1,4 @@
--- What was written before a fault.
+-- About ViewOutput: what was written before a fault. The functions of `run` and `alone` use it.
 use Rattle.std.proofs.Common.{◌≡◌, ◌≢◌, ◌⊎◌, ℕ, ◌+◌, ◌<◌, ◌≤◌, inl, inr, List, [], ◌∷◌, ◌++◌, length, take, drop, get_or, Bool, Option, Some, None, Result, Ok, Err, IfOk, OnErr, vec_len, refl, ap, sym, ◌∙◌, subst, append_assoc, arith}
 use Rattle.std.proofs.lemmas.List.{take-append-drop}
 use Rattle.std.specs.Io.KnownBytes.{Consumes}
@@ -23,7 +23,7 @@ use Rattle.jc_program.specs.Runs.{Made, GoesBy, events_of, events_text}
 use Rattle.jc_program.specs.ViewText.{ReadsAs, Ran}
 use Rattle.jc_program.specs.ViewOutput.{IsNext, Begins, IsDueAt, IsDue, Unfinished, blocks, IsUnfinished, HasRun, StopsView, IsStoppedView}
 use Rattle.jc_program.proofs.PlayResultLemmas.{goes_on, events_of-append, split_here, shown_more}
-use Rattle.jc_program.proofs.ReadsScenarioLemmas.{reads_whole, ran_whole, has_number}
+use Rattle.jc_program.proofs.ReadsScenarioLemmas.{reads_whole, ran_whole, has_refusal}
 
 -- the events that were made
 pub made_begins : (trace : Bool) (names : List (List ℕ)) (first now : Network) (es : List Event) (i : ℕ) (made : List Made) → GoesBy first made now → take i es ≡ events_of made → Begins trace names first es (events_text trace names 1 made)
@@ -77,7 +77,7 @@ module _ (trace : Bool) (s : Scenario) (wanted : List Event) (lines : List State
 
 -- what is due at a fault is due on the bytes that have it
 pub due_at : (view : View) (bytes : List ℕ) (fault : ScenarioFault) (text : List ℕ) → (fault ≢ NoMemoryRead → ReadsAs bytes (Err fault)) → IsDueAt fault text → IsDue view bytes text
-due_at view bytes fault text known h = (Err fault, known (has_number fault _ h.1.number), h)
+due_at view bytes fault text known h = (Err fault, known (has_refusal fault _ h.1.is), h)
 
 -- what was begun of the front that was read was begun of the whole
 due_whole : (view : View) (n : ℕ) (b v text : List ℕ) → n ≡ 8388609 → v ≡ take n b → IsDue view v text → IsDue view b text

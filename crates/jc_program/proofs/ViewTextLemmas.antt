@@ -1,4 +1,4 @@
--- Runs of scenarios, whole or up to a fault.
+-- About ViewText (Run): runs of scenarios, whole or up to a fault. `run_through` uses it.
 use Rattle.std.proofs.Common.{◌≡◌, ℕ, ◌<◌, inl, inr, List, ◌++◌, length, take, Bool, Option, Some, None, refl, sym, ◌∙◌, ap, subst, append-nil}
 use Rattle.jc_rules.specs.declared.operation.Event.{Event}
 use Rattle.jc_rules.specs.Refused.{Cause}

@@ -1,4 +1,4 @@
--- Documents of scenarios, whole or up to a fault.
+-- About ViewText (Document): documents of scenarios, whole or up to a fault. `view_through` uses it.
 use Rattle.std.proofs.Common.{◌≡◌, ℕ, ◌+◌, inl, List, [], ◌∷◌, ◌++◌, length, take, false, Option, Some, None, refl, sym, ◌∙◌, ap, subst, append-nil, arith}
 use Rattle.jc_rules.specs.declared.operation.Event.{Event}
 use Rattle.jc_rules.specs.Refused.{Cause}

@@ -1,4 +1,4 @@
--- What an order has come to.
+-- What a command without threads has written, whole or up to a fault. The facts cite it.
 use Rattle.std.specs.Prelude.{◌≡◌, ℕ, List, Option, Some}
 use Rattle.jc_cli.specs.Arguments.{words_order}
 use Rattle.jc_cli.specs.declared.order.Order.{Order}
@@ -10,24 +10,24 @@ use Rattle.jc_session.specs.Written.{Stream}
 use Rattle.jc_program.specs.ViewOutput.{HasRun, IsStoppedView}
 use Rattle.jc_program.specs.SessionRuns.{HasTalked, HasStopped}
 
--- a task that waits for nobody
+-- a task without threads
 abbrev pub IsAlone : Task → Type 0
 IsAlone (Show view) = Unit {0}
 IsAlone Debug = Unit {0}
 IsAlone (Threads limit) = ⊥
 
--- the words ask for threads
+-- the arguments are the command `threads`
 abbrev pub IsThreadsOrder : List (List ℕ) → Type 0
 IsThreadsOrder words = (order : Order) × (limit : ℕ) × (words_order words ≡ Some order) × (order.task ≡ Threads limit)
 
--- A task that waits for nobody was done, on the bytes and the lines that are told: what it shows was written, and it
--- ends with this status.
+-- A task without threads came to its end, on the bytes and the lines, where these are known: its text was written, and
+-- it ended with this status.
 abbrev pub IsDone : Task → Option (List ℕ) → Option (List ℕ) → Stream → Stream → ℕ → Type 0
 IsDone (Show view) told lines old new status = HasRun view told old new status
 IsDone Debug told lines old new status = HasTalked told lines old new status
 IsDone (Threads limit) told lines old new status = ⊥
 
--- A fault stopped a task. Where it is one for threads there was no memory for its words, and nothing was written.
+-- A fault stopped a task. For threads there was no memory for the arguments, and nothing was written.
 abbrev pub IsStoppedCommand
     : Task → WorkFault → Option (List ℕ) → Option (List ℕ) → Option (List ℕ) → Stream → Stream → Type 0
 IsStoppedCommand (Show view) fault told lines left old new = IsStoppedView view fault told old new

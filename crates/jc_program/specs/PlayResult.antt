@@ -1,4 +1,4 @@
--- What playing a schedule answers.
+-- What `play` and `play_next` of `run` return: the contracts of these cite it.
 use Rattle.std.specs.Prelude.{◌≡◌, ℕ, List, Bool, Option, Some, None, length}
 use Rattle.jc_rules.specs.declared.operation.Event.{Event}
 use Rattle.jc_rules.specs.Trace.{Rows}
@@ -10,7 +10,7 @@ use Rattle.jc_session.specs.Written.{Stream, Wrote}
 use Rattle.jc_program.specs.Texts.{event_text}
 use Rattle.jc_program.specs.Runs.{Stuck, Plays}
 
--- The event was made, and what is shown of it was written; or it is stuck, and all is as it was.
+-- The event was executed, and its text was written; or it is stuck, and nothing changed.
 abbrev pub PlaysNext
     : Bool → Course → Course → ℕ → Event → Stream → Stream → Option StuckEvent → Type 0
 PlaysNext trace old new n event a b None =
@@ -23,7 +23,7 @@ Tells names None None = Unit {0}
 Tells names (Some s) (Some (event, why)) = (s ≡ stuck_for why event) × AreNamed event (length names)
 Tells names _ _ = ⊥
 
--- The schedule was played to its end or its first stuck event, and what is shown of its events was written.
+-- The schedule was executed to its end or its first stuck event, and the text of its events was written.
 pub record PlaysAll
     (trace : Bool) (old new : Course) (schedule : List Event)
     (a b : Stream) (answer : Option StuckEvent) : Type 0 where

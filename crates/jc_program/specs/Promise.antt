@@ -1,4 +1,5 @@
--- The program's promise: the ways in which it may end, and what each leaves.
+-- The program's promise: the ways in which it may end, and what it has read and written then. `work`, `work_alone` and
+-- `exit` have it as their contract; docs/PROMISE.md reads it aloud.
 use Rattle.std.specs.Prelude.{◌≡◌, ◌≢◌, ◌⊎◌, ◌<◌, ◌+◌, ℕ, List, [], Bool, Option, Some, None, Result, Ok, Err, codes, map, string_bytes, String}
 use Rattle.std.specs.IoError.{error_kind}
 use Rattle.std.specs.declared.alloc.Global.{Global}
@@ -10,6 +11,7 @@ use Rattle.jc_rules.specs.Step.{Network}
 use Rattle.jc_io.specs.Streams.{ConsumesUpTo}
 use Rattle.jc_io.specs.declared.io.Source.{Ghosts as SourceGhosts}
 use Rattle.jc_io.specs.declared.io.Sink.{Ghosts as SinkGhosts}
+use Rattle.jc_rules.specs.declared.limits.TheConstants.{MAX_TEXT}
 use Rattle.jc_scenario.specs.WellFormed.{Scenario, IsScenario}
 use Rattle.jc_network.specs.Given.{before_given, IsStart, IsGivenStuck}
 use Rattle.jc_session.specs.Written.{Stream, sink, Wrote, WrotePart, Sent, Written}
@@ -30,14 +32,14 @@ use Rattle.jc_program.specs.ThreadRuns.{ThreadsRan, AreTextsOf, AreThreadScenari
 
 -- ---- the world
 
--- Standard input, standard output and standard error, each as a `Stream`: its bytes, where they are known, and how many
--- of its calls have failed.
+-- Standard input, standard output and standard error, each as a `Stream`: its bytes, where they are known, and the
+-- number of its failures.
 pub record World : Type 0 where
   pub input : Stream
   pub out : Stream
   pub err : Stream
 
--- What is told of the files by their names: the bytes, where they are known, and whether reading may fail. The program
+-- The files by their names: the bytes of each, where they are known, and whether reading it may fail. The program
 -- changes none.
 pub record Files : Type 0 where
   pub texts : List ℕ → Option (List ℕ)
@@ -60,17 +62,17 @@ pub record NoneFailed (old new : World) : Type 0 where
 -- Standard input is read for the text of the file `-` alone, and at most 8,388,609 bytes of it.
 pub record ReadsText (file : List ℕ) (old new : World) : Type 0 where
   pub other_file : file ≢ codes "-" → new.input ≡ old.input
-  pub most : ConsumesUpTo 8388609 old.input.bytes new.input.bytes
+  pub most : ConsumesUpTo (MAX_TEXT + 1) old.input.bytes new.input.bytes
 
--- What an order that ends so reads of standard input. A session reads its lines there, unless they are none, because the
--- input has the scenario, or because the scenario was refused or a given event of it is stuck.
+-- What a command that ends with this status reads of standard input: no more than a text. A session reads its lines
+-- there, unless the input has the scenario, the scenario was refused, or a given event of it is stuck.
 abbrev pub ReadsFor : Order → ℕ → World → World → Type 0
 ReadsFor order status old new =
     ((order.task ≢ Debug) ⊎ ((status ≡ 1) ⊎ ((status ≡ 3) ⊎ (order.file ≡ codes "-"))) → ReadsText order.file old new)
 
--- ---- orders
+-- ---- commands
 
--- A task on a scenario's bytes and a session's lines, as far as these are told, came to its end with this status: its
+-- A task on a scenario's bytes and a session's lines, where these are known, came to its end with this status: its
 -- whole text was written.
 abbrev pub Completes : Task → List ℕ → Option (List ℕ) → World → World → ℕ → Type 0
 Completes (Show view) bytes lines old new status =
@@ -80,17 +82,18 @@ Completes Debug bytes lines old new status =
 Completes (Threads limit) bytes lines old new status =
     AreTextsOf (ThreadsRan limit bytes) old.out new.out (Says old new) status
 
--- A fault stopped a task on these bytes, and these lines, of which those are left. After a failed write a prefix of its
--- text was written, and not the whole, unless it was the flush of an answer that failed; else whole texts, before that
--- which is missing. Nothing was written where the text of a view or for threads wasn't read, and for threads unless a
--- write failed. A thread is wanting for a scenario alone.
+-- A fault stopped a task on these bytes, and these lines, of which those are left. After a failed write a prefix of the
+-- task's text was written, which isn't the whole unless the flush of an answer failed. After any other fault whole
+-- texts up to the missing one were written. Nothing was written where the text of a view or for threads wasn't read,
+-- nor for threads unless a write failed. Threads alone end for want of a thread, and only where the bytes are a
+-- scenario.
 abbrev pub Breaks : Task → WorkFault → List ℕ → Option (List ℕ) → Option (List ℕ) → Stream → Stream → Type 0
 Breaks (Show view) fault bytes lines left old new = StopsView view bytes fault old new
 Breaks Debug fault bytes lines left old new = StopsOn fault bytes lines left old new
 Breaks (Threads limit) fault bytes lines left old new =
     StopsThreads (AreThreadScenario bytes) (ThreadsRan limit bytes) fault old new
 
--- The words are an order with a task of this kind, which came to its end with this status.
+-- The arguments are a command with a task of this kind, which came to its end with this status.
 pub record Carried (Does : Task → Type 0) (files : Files) (words : List (List ℕ)) (old new : World) (status : ℕ)
     : Type 0 where
   pub order : Order
@@ -102,7 +105,7 @@ pub record Carried (Does : Task → Type 0) (files : Files) (words : List (List 
   pub reads : ReadsFor order status old new
   pub none_failed : NoneFailed old new
 
--- The words are an order with a task of this kind, which a fault stopped: its line was sent.
+-- The arguments are a command with a task of this kind, which a fault stopped: the fault's line was sent.
 pub record Stopped (Does : Task → Type 0) (files : Files) (words : List (List ℕ)) (old new : World) (fault : WorkFault)
     : Type 0 where
   pub order : Order
@@ -115,7 +118,7 @@ pub record Stopped (Does : Task → Type 0) (files : Files) (words : List (List 
   pub reads : ReadsFor order 4 old new
   pub line : Says old new (fault_line fault)
 
--- the order's file isn't standard input, and may fail to be read
+-- the command's file isn't standard input, and reading it may fail
 abbrev pub IsUnreadable : {Does : Task → Type 0} {files : Files} {words : List (List ℕ)} {old new : World}
     {fault : WorkFault} → Stopped Does files words old new fault → Type 0
 IsUnreadable {files = files} s = IsUnread files.may_fail s.order.file
@@ -133,20 +136,20 @@ HasStuckGiven bytes =
 
 -- ---- the promise
 
--- Called with these words, among these files, the program ends with the status; the world was the old one before and is
--- the new one now. It carries out the orders with a task of this kind.
+-- With these arguments and these files the program ends with the status; the world was the old one before, and is the
+-- new one after. It executes the commands with a task of this kind.
 pub data Promise (Does : Task → Type 0) (files : Files) (words : List (List ℕ)) (old new : World) : ℕ → Type 0 where
-  -- the order was carried out
+  -- the command came to its end
   done : Carried Does files words old new 0 → Promise Does files words old new 0
-  -- its text was refused
+  -- the scenario's text was refused
   text_refused : Carried Does files words old new 1 → Promise Does files words old new 1
-  -- an event of its schedule, or one that a thread chose, was stuck
+  -- an event of the schedule, or one that a thread chose, was stuck
   stuck : (c : Carried Does files words old new 3) → HasStart c.bytes → Promise Does files words old new 3
-  -- a given event of it was stuck
+  -- a given event was stuck
   given_stuck : (c : Carried Does files words old new 3) → HasStuckGiven c.bytes → Promise Does files words old new 3
-  -- a thread of it had no memory; what all threads made is written
+  -- a thread had no memory; what all threads made is written
   thread_starved : Carried Does files words old new 5 → Promise Does files words old new 5
-  -- the words ask for help, which was written
+  -- the arguments ask for help, which was written
   help : (text : List ℕ)
       → words_order words ≡ None
       → AsksHelp words
@@ -155,7 +158,7 @@ pub data Promise (Does : Task → Type 0) (files : Files) (words : List (List �
       → new.input ≡ old.input
       → new.err ≡ old.err
       → Promise Does files words old new 0
-  -- the words are no order, nor do they ask for help; standard error was sent why
+  -- the arguments are no command, nor do they ask for help; the reason was sent to standard error
   usage : (text : List ℕ)
       → words_order words ≡ None
       → (AsksHelp words → ⊥)
@@ -164,7 +167,7 @@ pub data Promise (Does : Task → Type 0) (files : Files) (words : List (List �
       → new.input ≡ old.input
       → new.out ≡ old.out
       → Promise Does files words old new 2
-  -- a read failed, or the order's file may fail to be read
+  -- a read failed, or reading the command's file may fail
   read_failed : (s : Stopped Does files words old new Read)
       → (old.input.failures < new.input.failures) ⊎ IsUnreadable s
       → new.out.failures ≡ old.out.failures
@@ -182,19 +185,19 @@ pub data Promise (Does : Task → Type 0) (files : Files) (words : List (List �
       → new.input ≡ old.input
       → Says old new (fault_line Write)
       → Promise Does files words old new 4
-  -- a session had more lines than it may have
+  -- a session had more lines or bytes than it may have
   too_many_lines : Stopped Does files words old new TooManyLines
       → NoneFailed old new
       → Promise Does files words old new 4
-  -- a thread for a scenario couldn't be made
+  -- a thread couldn't be made, for a text that is a scenario
   no_thread : Stopped Does files words old new NoThread
       → NoneFailed old new
       → Promise Does files words old new 5
-  -- there was no memory to carry the order out
+  -- there was no memory to execute the command
   no_memory : Stopped Does files words old new Memory
       → NoneFailed old new
       → Promise Does files words old new 5
-  -- there was no memory for the words, whatever they are; nothing was read or written but the line
+  -- there was no memory for the arguments, whatever they are; nothing was read or written but the line
   no_memory_for_words : new.input ≡ old.input
       → new.out ≡ old.out
       → Says old new (fault_line Memory)
@@ -204,16 +207,16 @@ pub data Promise (Does : Task → Type 0) (files : Files) (words : List (List �
 abbrev pub All : Task → Type 0
 All task = Unit {0}
 
--- The program but for runs by threads. Where the words ask for one it has no answer, and has done nothing; or there was no
--- memory for the words.
+-- The program without the command `threads`. For this it has no status, and has done nothing; or there was no memory
+-- for the arguments.
 abbrev pub PromiseAlone : Files → List (List ℕ) → World → World → Option ℕ → Type 0
 PromiseAlone files words old new None = IsThreadsOrder words × (new ≡ old)
 PromiseAlone files words old new (Some status) = Promise IsAlone files words old new status
 
 -- ---- the process
 
--- The process, among these files, whose words may be unreadable. Then nothing is read, and nothing written but a line:
--- by the error there was no memory for them, or one isn't UTF-8.
+-- The process with these files, whose arguments may be unreadable. Then nothing is read, and nothing written but a
+-- line: by the kind of the error there was no memory for them, or one isn't UTF-8.
 abbrev pub ProcessPromise : Files → Result (Vec (String Global) Global) Error → World → World → ℕ → Type 0
 ProcessPromise files (Ok words) old new status = Promise All files (map string_bytes words.items) old new status
 ProcessPromise files (Err error) old new status =

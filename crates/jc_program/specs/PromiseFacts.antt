@@ -1,7 +1,8 @@
--- What follows from the promise, fact by fact.
-use Rattle.std.specs.Prelude.{◌≡◌, ◌≢◌, ◌⊎◌, ℕ, List, [], Option, Some, None, codes}
+-- Facts that follow from the promise, for readers: laws prove them of each result that keeps it.
+use Rattle.std.specs.Prelude.{◌≡◌, ◌≢◌, ◌⊎◌, ◌+◌, ℕ, List, [], Option, Some, None, codes}
 use Rattle.jc_session.specs.Written.{Wrote, WrotePart}
 use Rattle.jc_io.specs.Streams.{ConsumesUpTo}
+use Rattle.jc_rules.specs.declared.limits.TheConstants.{MAX_TEXT}
 use Rattle.jc_cli.specs.Arguments.{words_order, AsksHelp, IsFaultless}
 use Rattle.jc_cli.specs.declared.order.Order.{Order}
 use Rattle.jc_cli.specs.declared.order.Task.TheVariants.{Debug, Threads}
@@ -15,28 +16,28 @@ use Rattle.jc_program.specs.ThreadRuns.{HaveThreaded, IsThreadsFault}
 use Rattle.jc_program.specs.Promise.{World, Files, Says}
 
 module _ (files : Files) (words : List (List ℕ)) (old new : World) (result : ℕ) where
-  -- an order is no fault of the words
+  -- a command never ends with 2
   abbrev pub OrderFact : Type 0
   OrderFact = (order : Order) → words_order words ≡ Some order → result ≢ 2
 
-  -- nor are words in which the command line finds none
+  -- nor do arguments without a fault
   abbrev pub TakenFact : Type 0
   TakenFact = IsFaultless words → result ≢ 2
 
-  -- an order that waits for nobody, and was done: what it shows was written
+  -- a command without threads that came to its end: its text was written
   abbrev pub DoneFact : Type 0
   DoneFact = (order : Order) → words_order words ≡ Some order → IsAlone order.task → result ≢ 4 → result ≢ 5
       → IsDone order.task (told_by old.input.bytes files.texts order.file) (lines_by old.input.bytes order.file)
       old.out new.out result
 
-  -- such an order that a fault stopped: its line was sent, and what was written is up to the fault
+  -- such a command that a fault stopped: the fault's line was sent, and what was written is up to the fault
   abbrev pub StoppedFact : Type 0
   StoppedFact = (order : Order) → words_order words ≡ Some order → IsAlone order.task → (result ≡ 4) ⊎ (result ≡ 5)
       → (fault : WorkFault) × (result ≡ fault_status fault) × Says old new (fault_line fault)
       × IsCause fault (IsUnread files.may_fail order.file)
       old.input.failures new.input.failures old.out.failures new.out.failures
-      × IsStoppedCommand order.task fault (told_by old.input.bytes files.texts order.file) (lines_by old.input.bytes order.file)
-      (lines_by new.input.bytes order.file) old.out new.out
+      × IsStoppedCommand order.task fault (told_by old.input.bytes files.texts order.file)
+      (lines_by old.input.bytes order.file) (lines_by new.input.bytes order.file) old.out new.out
 
   -- threads ran to their end, or a fault stopped the command
   abbrev pub ThreadsFact : Type 0
@@ -45,7 +46,7 @@ module _ (files : Files) (words : List (List ℕ)) (old new : World) (result : �
       ⊎ IsThreadsFault limit (told_by old.input.bytes files.texts order.file) (IsUnread files.may_fail order.file)
       old.input.failures new.input.failures old.out new.out (Says old new) result
 
-  -- words that ask for help
+  -- arguments that ask for help
   abbrev pub HelpFact : Type 0
   HelpFact = AsksHelp words → (result ≡ 0) ⊎ ((result ≡ 4) ⊎ (result ≡ 5))
 
@@ -54,50 +55,50 @@ module _ (files : Files) (words : List (List ℕ)) (old new : World) (result : �
   LostFact = words_order words ≡ None → result ≡ 4
       → ((text : List ℕ) × WrotePart text old.out new.out) × Says old new (codes "write failed\n")
 
-  -- words that are neither an order nor ask for help
+  -- arguments that neither are a command nor ask for help
   abbrev pub FaultyFact : Type 0
   FaultyFact = words_order words ≡ None → (AsksHelp words → ⊥) → (result ≡ 2) ⊎ (result ≡ 5)
 
-  -- a fault of the words writes nothing on standard output
+  -- wrong arguments write nothing on standard output
   abbrev pub SilentFact : Type 0
   SilentFact = result ≡ 2 → new.out ≡ old.out
 
-  -- nor does want of memory for words that are no order
+  -- nor does want of memory for arguments that are no command
   abbrev pub UnshownFact : Type 0
   UnshownFact = words_order words ≡ None → result ≡ 5 → new.out ≡ old.out
 
-  -- help is a text
+  -- help is a text, which isn't empty
   abbrev pub ShownFact : Type 0
   ShownFact = words_order words ≡ None → result ≡ 0
       → (text : List ℕ) × (text ≢ []) × Wrote text old.out new.out
 
-  -- and so is why words are no order
+  -- and so is the reason why arguments are wrong
   abbrev pub UsageFact : Type 0
   UsageFact = result ≡ 2 → (text : List ℕ) × (text ≢ []) × Says old new text
 
-  -- words that are no order read nothing
+  -- for arguments that are no command nothing is read
   abbrev pub UnreadFact : Type 0
   UnreadFact = words_order words ≡ None → new.input ≡ old.input
 
-  -- standard input is left alone where the order names another file, but by a session that has a start
+  -- standard input is not read where the command names another file, but by a session whose scenario has a start
   abbrev pub OtherFileFact : Type 0
   OtherFileFact = (order : Order) → words_order words ≡ Some order
       → (order.task ≢ Debug) ⊎ ((result ≡ 1) ⊎ (result ≡ 3)) → order.file ≢ codes "-" → new.input ≡ old.input
 
-  -- of a text at most so many bytes are read
+  -- of a text at most 8,388,609 bytes are read
   abbrev pub MostFact : Type 0
   MostFact = (order : Order) → words_order words ≡ Some order → (order.task ≢ Debug) ⊎ (order.file ≡ codes "-")
-      → ConsumesUpTo 8388609 old.input.bytes new.input.bytes
+      → ConsumesUpTo (MAX_TEXT + 1) old.input.bytes new.input.bytes
 
-  -- failures come with the status 4 alone
+  -- reads and writes fail with the status 4 alone
   abbrev pub FailedFact : Type 0
   FailedFact = result ≢ 4 → (new.input.failures ≡ old.input.failures) × (new.out.failures ≡ old.out.failures)
 
-  -- unless threads are asked for, want of memory has its line
+  -- but for the command `threads`, want of memory has its line
   abbrev pub MemoryLineFact : Type 0
   MemoryLineFact = (IsThreadsOrder words → ⊥) → result ≡ 5 → Says old new (codes "no memory\n")
 
-  -- and standard error is left alone but for faults
+  -- and nothing is written on standard error but for faults
   abbrev pub QuietFact : Type 0
   QuietFact = (IsThreadsOrder words → ⊥) → result ≢ 2 → result ≢ 4 → result ≢ 5 → new.err ≡ old.err
 
@@ -122,17 +123,17 @@ pub record Facts (files : Files) (words : List (List ℕ)) (old new : World) (re
   pub memory_line : MemoryLineFact files words old new result
   pub quiet : QuietFact files words old new result
 
--- The program but for runs by threads: where it has an answer, all of these facts are so of it.
+-- The program without the command `threads`: where it has a status, all of these facts hold of it.
 pub record AloneFacts (files : Files) (words : List (List ℕ)) (old new : World) (result : Option ℕ) : Type 0 where
-  -- it has no answer where threads are asked for alone
+  -- it has no status for the command `threads` alone
   pub waits : result ≡ None → IsThreadsOrder words
   pub untouched : result ≡ None → (new.input ≡ old.input) × (new.out ≡ old.out) × (new.err ≡ old.err)
-  -- there it has none, unless there was no memory for the words
+  -- there it has none, unless there was no memory for the arguments
   pub threads : (order : Order) (limit : ℕ) → words_order words ≡ Some order → order.task ≡ Threads limit
       → (result ≡ None) ⊎ (result ≡ Some 5)
   pub unwritten : (order : Order) (limit : ℕ) → words_order words ≡ Some order → order.task ≡ Threads limit
       → result ≡ Some 5 → new.out ≡ old.out
   pub facts : (status : ℕ) → result ≡ Some status → Facts files words old new status
-  -- whatever the words are
+  -- whatever the arguments are
   pub memory_line : result ≡ Some 5 → Says old new (codes "no memory\n")
   pub quiet : result ≢ Some 2 → result ≢ Some 4 → result ≢ Some 5 → new.err ≡ old.err

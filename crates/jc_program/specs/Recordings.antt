@@ -1,4 +1,4 @@
--- What is told of a run of all threads.
+-- The texts of a run by threads, and what its refusals mean. `record` and ThreadRuns cite them.
 use Rattle.std.specs.Prelude.{◌≡◌, ℕ, List, string_bytes}
 use Rattle.jc_rules.specs.declared.operation.Event.{Event}
 use Rattle.jc_rules.specs.Refused.{Cause}
@@ -19,7 +19,7 @@ use Rattle.jc_runner.specs.declared.run.RunFault.TheVariants as R
 use Rattle.jc_program.specs.declared.recording.RecordFault.{RecordFault}
 use Rattle.jc_program.specs.declared.recording.RecordFault.TheVariants as F
 
--- Memory or a thread was wanting, or a given event is stuck whose replicas have names.
+-- There was no memory or no thread, or a given event is stuck whose replicas have names.
 abbrev pub IsTellableFault : List (List ℕ) → RunFault → Type 0
 IsTellableFault names R.GateCount = ⊥
 IsTellableFault names R.LimitTooLarge = ⊥
@@ -32,8 +32,8 @@ abbrev pub AreGivenLines : List (List ℕ) → ℕ → Stuck → List ℕ → Ty
 AreGivenLines names at s lines =
     (why : Cause) (event : Event) → s ≡ stuck_for why event → lines ≡ given_text names at why event
 
--- How it is told what a run was refused for, with as many gates as replicas and a limit that may be. Of a given event
--- that is stuck the lines are told, unless there was no memory for them.
+-- The fault of the recording for a refused run, with as many gates as replicas and a limit within its range. A stuck
+-- given event has its lines, unless there was no memory for them.
 abbrev pub IsToldAs : List (List ℕ) → RunFault → RecordFault → Type 0
 IsToldAs names R.GateCount told = ⊥
 IsToldAs names R.LimitTooLarge told = ⊥
@@ -42,7 +42,7 @@ IsToldAs names (R.Given at s) told = told ≡ F.Memory
 IsToldAs names R.Memory told = told ≡ F.Memory
 IsToldAs names R.NoThread told = told ≡ F.NoThread
 
--- what is told where there is no recording: of a given event that is stuck its lines
+-- where there is no recording because a given event is stuck, the fault has its lines
 abbrev pub IsRecordFault : Scenario → RecordFault → Type 0
 IsRecordFault s (F.Given lines) = IsGivenShown s (string_bytes lines) 3
 IsRecordFault s F.Memory = Unit {0}

@@ -1,4 +1,4 @@
--- What the command `threads` leaves, whole or up to a fault.
+-- What the command `threads` writes, whole or up to a fault. The promise cites `ThreadsRan` and `StopsThreads`.
 use Rattle.std.specs.Prelude.{◌≡◌, ◌⊎◌, ℕ, List, [], Option, Result, Ok, Err, string_bytes}
 use Rattle.jc_parser.specs.declared.fault.ScenarioFault.{ScenarioFault}
 use Rattle.jc_scenario.specs.WellFormed.{Scenario, IsScenario}
@@ -16,8 +16,7 @@ use Rattle.jc_program.specs.declared.fault.WorkFault.TheVariants.{Read, Write, T
 use Rattle.jc_program.specs.declared.recording.RecordFault.{RecordFault}
 use Rattle.jc_program.specs.declared.recording.RecordFault.TheVariants as F
 
--- What is answered where there is no recording: the lines of a given event that is stuck, with the status 3; else a
--- fault.
+-- The result where there is no recording: the lines of a stuck given event, with the status 3; else a fault.
 abbrev pub IsUnrecorded : RecordFault → Stream → Stream → Result ℕ WorkFault → Type 0
 IsUnrecorded (F.Given lines) old new (Ok status) = (status ≡ 3) × Wrote (string_bytes lines) old new
 IsUnrecorded (F.Given lines) old new (Err fault) = (fault ≡ Write) × WrotePart (string_bytes lines) old new
@@ -37,12 +36,12 @@ pub record RanThreads (limit : ℕ) (s : Scenario) (out lines : List ℕ) (statu
   pub told : lines ≡ string_bytes recording.lines
   pub ends : status ≡ outcome_status recording.outcome
 
--- The same, or a given event is stuck, and no thread was started.
+-- Threads ran; or a given event is stuck, and no thread was started.
 abbrev pub ShowsThreads : ℕ → Scenario → List ℕ → List ℕ → ℕ → Type 0
 ShowsThreads limit s out lines status =
     RanThreads limit s out lines status ⊎ (IsGivenShown s out status × (lines ≡ []))
 
--- the same for what a text is read as; where it is refused, no thread was started
+-- so for a text; where it is refused, no thread was started
 abbrev pub ThreadsOn : ℕ → Result Scenario ScenarioFault → List ℕ → List ℕ → ℕ → Type 0
 ThreadsOn limit (Ok s) out lines status = ShowsThreads limit s out lines status
 ThreadsOn limit (Err fault) out lines status = IsRefused fault out status × (lines ≡ [])
@@ -52,12 +51,12 @@ abbrev pub ThreadsRan : ℕ → List ℕ → List ℕ → List ℕ → ℕ → T
 ThreadsRan limit bytes out lines status =
     (read : Result Scenario ScenarioFault) × ReadsAs bytes read × ThreadsOn limit read out lines status
 
--- The text of such a run was written, and its lines were sent to standard error.
+-- The text of a run was written, and its lines were sent to standard error.
 abbrev pub AreTextsOf : (List ℕ → List ℕ → ℕ → Type 0) → Stream → Stream → (List ℕ → Type 0) → ℕ → Type 0
 AreTextsOf IsRun old new WereSent status =
     (lines : List ℕ) × Written (λ out. IsRun out lines status) old new × WereSent lines
 
--- the text of such a run
+-- the text of a run
 abbrev pub IsTextOf : (List ℕ → List ℕ → ℕ → Type 0) → List ℕ → Type 0
 IsTextOf IsRun out = (lines : List ℕ) × (status : ℕ) × IsRun out lines status
 
@@ -65,8 +64,8 @@ IsTextOf IsRun out = (lines : List ℕ) × (status : ℕ) × IsRun out lines sta
 abbrev pub AreThreadScenario : List ℕ → Type 0
 AreThreadScenario bytes = (s : Scenario) × IsScenario bytes s
 
--- A fault stopped such a run. After a failed write a prefix of its text was written, and not the whole; else nothing was.
--- No thread is wanting but for a scenario. There are never too many lines.
+-- A fault stopped a run. After a failed write a prefix of its text was written, but not the whole; else nothing was.
+-- Want of a thread stops it only where the bytes are a scenario. Too many lines never stop it.
 abbrev pub StopsThreads : Type 0 → (List ℕ → List ℕ → ℕ → Type 0) → WorkFault → Stream → Stream → Type 0
 StopsThreads HasScenario IsRun Read old new = new ≡ old
 StopsThreads HasScenario IsRun Write old new = WrittenInPart (IsTextOf IsRun) old new
@@ -74,18 +73,19 @@ StopsThreads HasScenario IsRun TooManyLines old new = ⊥
 StopsThreads HasScenario IsRun NoThread old new = (new ≡ old) × HasScenario
 StopsThreads HasScenario IsRun Memory old new = new ≡ old
 
--- threads on the bytes that are told, to their end
+-- the command came to its end on the bytes
 abbrev pub HaveThreaded : ℕ → Option (List ℕ) → Stream → Stream → (List ℕ → Type 0) → ℕ → Type 0
 HaveThreaded limit told old new WereSent status =
     (bytes : List ℕ) × AreTold told bytes × AreTextsOf (ThreadsRan limit bytes) old new WereSent status
 
--- and up to a fault
+-- a fault stopped the command on the bytes
 abbrev pub HaveStopped : ℕ → WorkFault → Option (List ℕ) → Stream → Stream → Type 0
 HaveStopped limit fault told old new =
-    (bytes : List ℕ) × AreTold told bytes × StopsThreads (AreThreadScenario bytes) (ThreadsRan limit bytes) fault old new
+    (bytes : List ℕ) × AreTold told bytes
+    × StopsThreads (AreThreadScenario bytes) (ThreadsRan limit bytes) fault old new
 
--- A fault stopped the command: it has the status, its line was sent to standard error, and it says which failures were
--- counted.
+-- A fault stopped the command: its status and its line, which was sent to standard error, and the failures of input and
+-- output.
 pub record IsThreadsFault
     (limit : ℕ) (told : Option (List ℕ)) (unread : Type 0) (input_old input_new : ℕ) (old new : Stream)
     (WasSent : List ℕ → Type 0) (status : ℕ) : Type 0 where

@@ -1,4 +1,4 @@
--- What a view writes, whole or up to a fault.
+-- What a view writes, whole or up to a fault. The promise cites `StopsView` for faults.
 use Rattle.std.specs.Prelude.{◌≡◌, ℕ, ◌<◌, ◌⊎◌, List, [], ◌++◌, length, Bool, false, take, Option, Some, Result, Ok, Err, IfSome, codes, if◌then◌else◌}
 use Rattle.std.specs.Str.{bytes_eq}
 use Rattle.jc_rules.specs.declared.operation.Event.{Event}
@@ -19,15 +19,15 @@ use Rattle.jc_cli.specs.declared.order.View.{View}
 use Rattle.jc_cli.specs.declared.order.View.TheVariants.{Check, Print, Run, Document}
 use Rattle.jc_program.specs.ViewText.{ReadsAs, Shows, IsRefused, Ran}
 
--- ---- what is due
+-- ---- the text that a failed write cuts
 
--- what is shown of the next event, whose number is n
+-- the text of the next event, whose number is n
 abbrev pub IsNext : Bool → List (List ℕ) → Network → Event → ℕ → List ℕ → Type 0
 IsNext trace names network event n text =
     (rows : List (Rule × ℕ)) × (new : Network)
     × StepIn network event new rows × (text ≡ event_text trace names n event rows)
 
--- The first events of a schedule lead from a network to another, and what is shown of them is the text.
+-- The first events of a schedule lead from a network to another, and this is their text.
 pub record Begins
     (trace : Bool) (names : List (List ℕ)) (network : Network) (schedule : List Event) (text : List ℕ)
     : Type 0 where
@@ -38,17 +38,17 @@ pub record Begins
   pub events : schedule ≡ events_of made ++ more
   pub shown : text ≡ events_text trace names 1 made
 
--- what a run of a scenario shows, whole or as far as its first events
+-- the text of a run of a scenario, whole or of its first events
 abbrev pub IsRunDue : Bool → Scenario → List ℕ → Type 0
 IsRunDue trace s text =
     ((start : Network) × IsStart s start × Begins trace s.names start s.schedule text)
     ⊎ ((status : ℕ) × Shows (Run trace) s text status)
 
--- what the documents after the first events show
+-- the text of the documents after the first events
 abbrev pub IsViewDue : ℕ → Scenario → List ℕ → Type 0
 IsViewDue events s text = (status : ℕ) × Shows (Document events) s text status
 
--- what a view shows of a scenario; of a run it may be what its first events show
+-- the text of a view of a scenario, or of the first events of a run
 abbrev pub IsDueOf : View → Scenario → List ℕ → Type 0
 IsDueOf Check s text = (status : ℕ) × Shows Check s text status
 IsDueOf Print s text = (status : ℕ) × Shows Print s text status
@@ -63,14 +63,14 @@ abbrev pub IsDueOn : View → Result Scenario ScenarioFault → List ℕ → Typ
 IsDueOn view (Ok s) text = IsDueOf view s text
 IsDueOn view (Err fault) text = IsDueAt fault text
 
--- what a view of these bytes shows; of a run it may be what its first events show
+-- the text of a view of these bytes, or of the first events of a run
 abbrev pub IsDue : View → List ℕ → List ℕ → Type 0
 IsDue view bytes text = (read : Result Scenario ScenarioFault) × ReadsAs bytes read × IsDueOn view read text
 
--- ---- what stands between two texts
+-- ---- whole texts without memory
 
--- Whole texts of a schedule that is played, and not the last one: the blocks of its first events; or those of all that
--- are made, and the lines of some first replicas; or those of all replicas, but not the line of the stuck event.
+-- Whole texts of the execution of a schedule, without the last one: the blocks of its first events; or those of all
+-- executed events, and the lines of some first replicas; or those of all replicas, but not the line of the stuck event.
 pub data Unfinished
     (trace : Bool) (names : List (List ℕ)) (network : Network) (schedule : List Event)
     (lines : List State → List ℕ)
@@ -86,7 +86,7 @@ pub data Unfinished
       → Plays trace names network schedule last (Some stuck) text
       → Unfinished trace names network schedule lines (text ++ lines last.states)
 
--- nothing, where there was no memory up to the start
+-- nothing is written where there was no memory for the start
 abbrev pub IsRunUnfinished : Bool → Scenario → List ℕ → Type 0
 IsRunUnfinished trace s text =
     (text ≡ [])
@@ -98,32 +98,31 @@ IsViewUnfinished events s text =
     ⊎ ((start : Network) × IsStart s start
     × Unfinished false s.names start (take events s.schedule) (views_text s.names) text)
 
--- whole texts of what a view shows of a scenario, and not all
+-- whole texts of a view of a scenario, without the last one
 abbrev pub IsUnfinishedOf : View → Scenario → List ℕ → Type 0
 IsUnfinishedOf Check s text = text ≡ []
 IsUnfinishedOf Print s text = text ≡ []
 IsUnfinishedOf (Run trace) s text = IsRunUnfinished trace s text
 IsUnfinishedOf (Document events) s text = IsViewUnfinished events s text
 
--- Whole texts of what a view of these bytes shows, and not all; or nothing, where the bytes weren't read or have a
--- fault.
+-- Whole texts of a view of these bytes, without the last one; or nothing, where the bytes weren't read or have a fault.
 abbrev pub IsUnfinished : View → List ℕ → List ℕ → Type 0
 IsUnfinished view bytes text =
     (text ≡ []) ⊎ ((s : Scenario) × IsScenario bytes s × IsUnfinishedOf view s text)
 
--- ---- what a view leaves
+-- ---- what a view has written
 
--- these are the bytes, where they are told
+-- these are the bytes, where they are known
 abbrev pub AreTold : Option (List ℕ) → List ℕ → Type 0
 AreTold told bytes = IfSome told (λ all. bytes ≡ all)
 
--- A view of the bytes that are told, to its end: its text was written, and it ends with this status.
+-- A view of the bytes came to its end: its text was written, and it ended with this status.
 abbrev pub HasRun : View → Option (List ℕ) → Stream → Stream → ℕ → Type 0
 HasRun view told old new status =
     (bytes : List ℕ) × AreTold told bytes × Written (λ text. Ran view bytes text status) old new
 
 -- A fault stopped a view of these bytes. Where they weren't read nothing was written; after a failed write a prefix of
--- what it shows, and not the whole; without memory whole texts of it. No other fault stops a view.
+-- its text was written, but not the whole; without memory whole texts of it were. No other fault stops a view.
 abbrev pub StopsView : View → List ℕ → WorkFault → Stream → Stream → Type 0
 StopsView view bytes Read old new = new ≡ old
 StopsView view bytes Write old new = WrittenInPart (IsDue view bytes) old new
@@ -131,10 +130,10 @@ StopsView view bytes TooManyLines old new = ⊥
 StopsView view bytes NoThread old new = ⊥
 StopsView view bytes Memory old new = Written (IsUnfinished view bytes) old new
 
--- A fault stopped a view of the bytes that are told.
+-- A fault stopped a view of the bytes.
 abbrev pub IsStoppedView : View → WorkFault → Option (List ℕ) → Stream → Stream → Type 0
 IsStoppedView view fault told old new = (bytes : List ℕ) × AreTold told bytes × StopsView view bytes fault old new
 
--- What is told of the file that an order names: of standard input at `-`, and of the file of this name else.
+-- The bytes of the file that a command names, where they are known: those of standard input for `-`, else of the file.
 abbrev pub told_by : Option (List ℕ) → (List ℕ → Option (List ℕ)) → List ℕ → Option (List ℕ)
 told_by input files name = if bytes_eq name (codes "-") then input else files name

@@ -1,4 +1,4 @@
--- The text and the status of a view of a scenario's bytes.
+-- The text and the status of a view of a scenario's bytes: `check`, `print`, `run` and `view`. The promise cites `Ran`.
 use Rattle.std.specs.Prelude.{◌≡◌, ◌⊎◌, ℕ, List, [], ◌++◌, Bool, false, take, Option, Some, Result, Ok, Err}
 use Rattle.jc_rules.specs.declared.refusal.Refusal.{Refusal}
 use Rattle.jc_rules.specs.declared.operation.Event.{Event}
@@ -18,13 +18,13 @@ use Rattle.jc_dump.specs.Texts.{dumps_text}
 use Rattle.jc_view.specs.Visible.{views_text}
 use Rattle.jc_program.specs.Runs.{Stuck, Plays, stuck_line, status_of}
 
--- what bytes are: a scenario, or a text with this fault
+-- the bytes are this scenario, or have this fault
 abbrev pub ReadsAs : List ℕ → Result Scenario ScenarioFault → Type 0
 ReadsAs bytes (Ok s) = IsScenario bytes s
 ReadsAs bytes (Err fault) = IsFault bytes fault
 
--- The run of a scenario: with the trace the blocks of the events that are made from the start, the dump of each replica
--- in the last network, and the line of the stuck event, if there is one.
+-- The run of a scenario: with the trace the blocks of the events that are executed from the start, the state of each
+-- replica in the last network, and the line of the stuck event, if there is one.
 pub record RanThrough (trace : Bool) (s : Scenario) (out : List ℕ) (status : ℕ) : Type 0 where
   pub start : Network
   pub is_start : IsStart s start
@@ -64,7 +64,7 @@ pub record IsRefused (fault : ScenarioFault) (out : List ℕ) (status : ℕ) : T
   pub written : out ≡ refused_text refusal place
   pub ends : status ≡ 1
 
--- What a view shows of a scenario, and its status. `check` and `print` run no event.
+-- The text of a view of a scenario, and its status. `check` and `print` execute no event.
 abbrev pub Shows : View → Scenario → List ℕ → ℕ → Type 0
 Shows Check s out status = (out ≡ counts_text s) × (status ≡ 0)
 Shows Print s out status = (out ≡ canon s) × (status ≡ 0)
@@ -75,6 +75,6 @@ abbrev pub RanOn : View → Result Scenario ScenarioFault → List ℕ → ℕ �
 RanOn view (Ok s) out status = Shows view s out status
 RanOn view (Err fault) out status = IsRefused fault out status
 
--- a view of these bytes writes this and ends with this status
+-- a view of these bytes has this text and this status
 abbrev pub Ran : View → List ℕ → List ℕ → ℕ → Type 0
 Ran view bytes out status = (read : Result Scenario ScenarioFault) × ReadsAs bytes read × RanOn view read out status

@@ -1,4 +1,4 @@
--- What the program ends with where there is no status of a run, and what is told of it.
+-- Lines and statuses of faults, and of arguments that are no command. The promise cites them.
 use Rattle.std.specs.Prelude.{◌≡◌, ◌≢◌, ◌⊎◌, ℕ, List, codes, string_bytes}
 use Rattle.std.specs.declared.io.ErrorKind.{ErrorKind}
 use Rattle.std.specs.declared.io.ErrorKind.TheVariants.{OutOfMemory}
@@ -23,8 +23,9 @@ fault_line TooManyLines = codes "too many lines\n"
 fault_line NoThread = codes "no thread\n"
 fault_line Memory = codes "no memory\n"
 
--- How words that are no order are answered, by what is told of the output and of standard error, and with which status:
--- help on the output, unless a write fails; why they are none, or that there was no memory, on standard error.
+-- What is written for arguments that are no command, before and after on the output and on standard error, and the
+-- status: help on the output, unless a write fails; else on standard error why they are wrong, or that there was no
+-- memory.
 abbrev pub Explains : WordsFault → Stream → Stream → Stream → Stream → ℕ → Type 0
 Explains (words.Help text) old_out new_out old_err new_err status =
     ((status ≡ 0) × Wrote (string_bytes text) old_out new_out × (new_err ≡ old_err))
@@ -34,8 +35,8 @@ Explains (words.Usage text) old_out new_out old_err new_err status =
 Explains words.Memory old_out new_out old_err new_err status =
     (status ≡ 5) × (new_out ≡ old_out) × Sent (fault_line Memory) old_err new_err
 
--- How words that can't be read are answered on standard error, by the kind of the error: there was no memory for them;
--- every other one says that a word isn't UTF-8.
+-- What is written on standard error for arguments that can't be read, and the status, by the kind of the error: there
+-- was no memory for them; any other kind means that an argument isn't UTF-8.
 abbrev pub RefusesWords : ErrorKind → Stream → Stream → ℕ → Type 0
 RefusesWords kind old_err new_err status =
     ((kind ≡ OutOfMemory) × (status ≡ 5) × Sent (fault_line Memory) old_err new_err)

@@ -1,4 +1,4 @@
-//! Faults of the program's work.
+//! The faults that end a command, with their lines and statuses.
 
 ghost use Rattle.std.specs.Prelude.{◌≡◌};
 ghost use Rattle.jc_program.specs.WorkFaults.{fault_status, fault_line};
@@ -7,14 +7,14 @@ ghost use Rattle.jc_session.specs.Written.{sink, Sent};
 use crate::sending::report;
 use jc_io::Sink;
 
-/// Why there is no status of a run.
+/// Why a command didn't come to its end.
 #[derive(Clone, Copy, Debug, PartialEq, Eq)]
 pub enum WorkFault {
     /// A read failed.
     Read,
     /// A write failed.
     Write,
-    /// A session had more lines than it may have.
+    /// A session had more lines or bytes than it may have.
     TooManyLines,
     /// A thread could not be made.
     NoThread,
@@ -48,7 +48,7 @@ impl WorkFault {
     }
 }
 
-/// Writes the line of a fault, and answers its status. A failure of `err` changes nothing.
+/// Writes the line of a fault on `err`, where a failure is ignored, and returns its status.
 pub fn end<E: Sink>(fault: WorkFault, err: &mut E) -> u8
     ensures status { result ≡ fault_status fault }
     ensures line { Sent (fault_line fault) (sink E.Sink err.old) (sink E.Sink err.new) }

@@ -1,4 +1,4 @@
-//! The program: checks, prints, runs and debugs scenarios, and runs their replicas in threads.
+//! The program as a library: executes the command that the arguments are. jc_app calls it with the process's streams.
 #![tactic(auto)]
 
 mod alone;

@@ -1,4 +1,4 @@
-//! The whole program.
+//! The whole program, with threads: `work` for arguments, `exit` for a process.
 
 ghost use Rattle.std.specs.Prelude.{map, string_bytes};
 ghost use Rattle.std.specs.Process.{exit_status};
@@ -6,7 +6,7 @@ ghost use Rattle.jc_program.specs.Commands.{IsThreadsOrder};
 ghost use Rattle.jc_program.specs.Promise.{Promise, All, ProcessPromise, files_of, world};
 
 use crate::alone::work_alone;
-use crate::fault::{WorkFault, end};
+use crate::fault::end;
 use crate::files::Files;
 use crate::threads::threads;
 use crate::words::{explain, refuse_words};
@@ -17,7 +17,7 @@ use std::process::ExitCode;
 use std::sync::Wait;
 use std::thread::Threads;
 
-/// Carries words out that ask for threads, and answers the status.
+/// Executes the command `threads`, and returns the status.
 fn work_threads<R: Threads + Wait + Sync + AllocGlobal + Files, I: Source, K: Sink, E: Sink>(
     rt: &R,
     words: &[String],
@@ -43,13 +43,12 @@ fn work_threads<R: Threads + Wait + Sync + AllocGlobal + Files, I: Source, K: Si
     }
 }
 
-/// The program: `work_alone`, and the command `threads`. This runs each replica in a thread of its
-/// own, and waits for them. The scenario with the schedule that they made is written on the output,
-/// and a line for each replica on `err`. Its status is 3 where an event was stuck, and 5 where one
-/// of the replicas, or the program, had no memory, or no thread could be made. Where a given event
-/// is stuck no thread is made, and its lines are written on the output.
+/// The program: `work_alone`, and the command `threads`. This runs each replica in a thread of its own, and waits for
+/// them. The scenario with the schedule that they made is written on the output, and a line for each replica on `err`.
+/// Its status is 3 where an event was stuck, and 5 where one of the replicas, or the program, had no memory, or no
+/// thread could be made. Where a given event is stuck, no thread is made, and its lines are written on the output.
 ///
-/// `specs/Promise.antt` says all ways in which it ends, and what each leaves.
+/// `specs/Promise.antt` has all ways in which it ends, and what each writes.
 pub fn work<R: Threads + Wait + Sync + AllocGlobal + Files, I: Source, K: Sink, E: Sink>(
     rt: &R,
     words: &[String],
@@ -67,8 +66,8 @@ pub fn work<R: Threads + Wait + Sync + AllocGlobal + Files, I: Source, K: Sink, 
     }
 }
 
-/// What a process ends with that is called with these words, or whose words can't be read: the program's status. Words
-/// that can't be read are told of on `err`, and nothing else is read or written.
+/// The exit code of a process with these arguments, or with arguments that can't be read: the program's status. Where
+/// they can't be read, `err` has a line that says so, and nothing else is read or written.
 pub fn exit<R: Threads + Wait + Sync + AllocGlobal + Files, I: Source, K: Sink, E: Sink>(
     rt: &R,
     words: io::Result<Vec<String>>,

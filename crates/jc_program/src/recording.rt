@@ -1,7 +1,8 @@
-//! Runs of all replicas, each in a thread of its own.
+//! Runs all replicas of a scenario, each in a thread of its own, and makes texts of what they made. For `threads`.
 
 ghost use Rattle.std.specs.Prelude.{◌≡◌, ◌≤◌, ℕ, IfOk, IfErr, string_bytes, vec_len};
 ghost use Rattle.std.specs.List.{list_any};
+ghost use Rattle.jc_rules.specs.declared.limits.TheConstants.{MAX_THREAD_EVENTS};
 ghost use Rattle.jc_rules.specs.declared.operation.Event.{Event as AnyEvent};
 ghost use Rattle.jc_rules.specs.Refused.{Cause};
 ghost use Rattle.jc_network.specs.Steps.{stuck_for};
@@ -35,12 +36,12 @@ pub enum Outcome {
     Done,
 }
 
-/// What is told of a run.
+/// The texts of a run.
 #[derive(Drop)]
 pub struct Recording {
-    /// The canonical text of the scenario, with the schedule that was made in place of its own.
+    /// The canonical text of the scenario, with the schedule that the threads made in place of its own.
     pub text: String,
-    /// A line for each replica, in the order of their names: its name, how many events it made, and how it ended.
+    /// A line for each replica, in the order of their names: its name, the number of its events, and how it ended.
     pub lines: String,
     pub outcome: Outcome,
 }
@@ -48,11 +49,11 @@ pub struct Recording {
 /// Why there is no recording.
 #[derive(Debug, Drop)]
 pub enum RecordFault {
-    /// A request for memory was refused.
+    /// There was no memory.
     Memory,
-    /// 44: a given event is stuck, and no thread was started. These are the lines that say so.
+    /// 44: a given event is stuck, and no thread was started. The text has the lines that say so.
     Given(String),
-    /// 47: a thread can't be made, for whatever cause.
+    /// 47: a thread couldn't be made, for whatever cause.
     NoThread,
 }
 
@@ -64,7 +65,7 @@ impl From<AllocError> for RecordFault {
     }
 }
 
-/// A gate that is open: its replica goes on at once. It tells no question.
+/// A gate that is open: its replica goes on at once.
 #[derive(Drop)]
 struct Open;
 
@@ -177,7 +178,7 @@ fn given_lines(
     given_text(alloc, &named, at, stuck)
 }
 
-/// How it is told what a run of a scenario with these names was refused for.
+/// The fault for a refused run of a scenario with these names.
 fn fault_of(alloc: Global, names: Vec<Text>, fault: RunFault) -> RecordFault
     requires { IsTellableFault names.items fault }
     ensures { IsToldAs names.items fault result }
@@ -193,11 +194,11 @@ fn fault_of(alloc: Global, names: Vec<Text>, fault: RunFault) -> RecordFault
     }
 }
 
-/// Runs one thread for each replica, each of which makes the events that its replica chooses, `limit` of them at most,
-/// and tells what they made. Before that the given events are made. The scenario's own schedule is left aside.
+/// Executes the given events. Then runs one thread for each replica, each of which executes the events that its replica
+/// chooses, `limit` of them at most. The scenario's own schedule is ignored.
 ///
-/// `Given` where a given event is stuck, before any thread is made. Else refused for want of memory, or where a thread
-/// can't be made; those that were started have ended then.
+/// Refusals: `Given` where a given event is stuck, before any thread is made; `Memory` where there was no memory;
+/// `NoThread` where a thread couldn't be made. After a refusal all threads that were started have ended.
 pub fn record<R: Threads + Wait + Sync>(
     rt: &R,
     alloc: Global,
@@ -205,7 +206,7 @@ pub fn record<R: Threads + Wait + Sync>(
     limit: u64,
 ) -> Result<Recording, RecordFault>
     requires scenario { IsWellFormedScenario (scenario_view scenario) }
-    requires limit { limit ≤ 100000 }
+    requires limit { limit ≤ MAX_THREAD_EVENTS }
     ensures recorded { IfOk result (IsRecording (scenario_view scenario) limit) }
     ensures fault { IfErr result (IsRecordFault (scenario_view scenario)) }
 {

@@ -1,8 +1,9 @@
-//! Sessions: lines are answered on a scenario's text.
+//! The command `debug`: a session on a scenario's text. `work_alone` calls it.
 
-ghost use Rattle.std.specs.Prelude.{◌≡◌, ◌≢◌, ◌<◌, ◌⊎◌, [], Some, Ok, codes, IfOk, IfErr, OnOk};
+ghost use Rattle.std.specs.Prelude.{◌≡◌, ◌≢◌, ◌+◌, ◌<◌, ◌⊎◌, [], Some, Ok, codes, IfOk, IfErr, OnOk};
 ghost use Rattle.std.specs.Io.{ReadsAtMost};
 ghost use Rattle.jc_io.specs.Streams.{ConsumesUpTo, ReadsBytes};
+ghost use Rattle.jc_rules.specs.declared.limits.TheConstants.{MAX_TEXT};
 ghost use Rattle.jc_session.specs.Written.{sink};
 ghost use Rattle.jc_program.specs.ViewOutput.{told_by};
 ghost use Rattle.jc_program.specs.Faults.{IsCause, IsUnread};
@@ -29,8 +30,7 @@ impl Source for NoBytes {
     }
 }
 
-/// Answers the lines of a source on a scenario's text, each before the next is read, and answers
-/// the status.
+/// Answers the lines of a source on a scenario's text, each before it reads the next, and returns the status.
 fn converse<S: Source, K: Sink>(
     alloc: Global,
     text: &[u8],
@@ -57,8 +57,8 @@ fn converse<S: Source, K: Sink>(
     }
 }
 
-/// Answers the lines of the input on the scenario in a file, and answers the status. Where the file
-/// is `-` the input has the scenario, and there is no line.
+/// Answers the lines of the input on the scenario in a file, and returns the status. Where the file is `-`, the input
+/// has the scenario, and there is no line.
 pub fn debug<R: AllocGlobal + Files, I: Source, K: Sink>(
     rt: &R,
     file: &str,
@@ -70,7 +70,7 @@ pub fn debug<R: AllocGlobal + Files, I: Source, K: Sink>(
     ensures stopped { IfErr result (λ fault. HasStopped fault
         (told_by (I.left input.old) (R.texts rt.now) file.now) (lines_by (I.left input.old) file.now)
         (lines_by (I.left input.new) file.now) (sink K.Sink out.old) (sink K.Sink out.new)) }
-    ensures most { file.now ≡ codes "-" → ConsumesUpTo 8388609 (I.left input.old) (I.left input.new) }
+    ensures most { file.now ≡ codes "-" → ConsumesUpTo (MAX_TEXT + 1) (I.left input.old) (I.left input.new) }
     ensures untouched { (result ≡ Ok 1) ⊎ (result ≡ Ok 3) → file.now ≢ codes "-" → input.new ≡ input.old }
     ensures same { OnOk result
         ((I.failures input.new ≡ I.failures input.old) × (K.failures out.new ≡ K.failures out.old)) }

@@ -1,7 +1,8 @@
-//! The command `threads`: what a scenario's replicas make in threads of their own.
+//! The command `threads`: runs a scenario's replicas in threads, and writes what they made. `work` calls it.
 
-ghost use Rattle.std.specs.Prelude.{◌≡◌, ◌≢◌, ◌≤◌, ℕ, ⊤, codes, string_bytes, IfOk, IfErr, OnOk, OnErr};
+ghost use Rattle.std.specs.Prelude.{◌≡◌, ◌≢◌, ◌+◌, ◌≤◌, ℕ, ⊤, codes, string_bytes, IfOk, IfErr, OnOk, OnErr};
 ghost use Rattle.jc_io.specs.Streams.{ConsumesUpTo};
+ghost use Rattle.jc_rules.specs.declared.limits.TheConstants.{MAX_TEXT, MAX_THREAD_EVENTS};
 ghost use Rattle.jc_scenario.specs.WellFormed.{IsWellFormedScenario};
 ghost use Rattle.jc_scenario.specs.Views.{scenario_view};
 ghost use Rattle.jc_session.specs.Written.{sink, Wrote, WrotePart, Sent};
@@ -30,8 +31,7 @@ fn status_of(outcome: Outcome) -> u8
     }
 }
 
-/// Writes a recording: its text on the output, and then its lines on `err`, whose failures change
-/// nothing.
+/// Writes a recording: its text on the output, and then its lines on `err`, where a failure is ignored.
 fn tell<K: Sink, E: Sink>(recording: &Recording, out: &mut K, err: &mut E) -> Result<u8, RunFault>
     ensures ok { IfOk result (λ status. (status ≡ outcome_status recording.now.outcome)
         × Wrote (string_bytes recording.now.text) (sink K.Sink out.old) (sink K.Sink out.new)
@@ -45,7 +45,7 @@ fn tell<K: Sink, E: Sink>(recording: &Recording, out: &mut K, err: &mut E) -> Re
     Ok(status_of(recording.outcome))
 }
 
-/// What is answered where there is no recording. Of a given event that is stuck its lines are written.
+/// The result where there is no recording: the status 3 for a stuck given event, whose lines are written, else a fault.
 fn unrecorded<K: Sink>(fault: &RecordFault, out: &mut K) -> Result<u8, WorkFault>
     ensures { IsUnrecorded fault.now (sink K.Sink out.old) (sink K.Sink out.new) result }
 {
@@ -59,8 +59,8 @@ fn unrecorded<K: Sink>(fault: &RecordFault, out: &mut K) -> Result<u8, WorkFault
     }
 }
 
-/// Runs a scenario's replicas in threads, and tells what they made. Where a given event is stuck it has its lines, and
-/// no thread is started.
+/// Runs a scenario's replicas in threads, and writes what they made. Where a given event is stuck, its lines are
+/// written, and no thread is started.
 fn run_all<R: Threads + Wait + Sync + AllocGlobal, K: Sink, E: Sink>(
     rt: &R,
     scenario: Scenario,
@@ -69,7 +69,7 @@ fn run_all<R: Threads + Wait + Sync + AllocGlobal, K: Sink, E: Sink>(
     err: &mut E,
 ) -> Result<u8, WorkFault>
     requires formed { IsWellFormedScenario (scenario_view scenario) }
-    requires limit { limit ≤ 100000 }
+    requires limit { limit ≤ MAX_THREAD_EVENTS }
     ensures ok { IfOk result (AreTextsOf (ShowsThreads limit (scenario_view scenario))
         (sink K.Sink out.old) (sink K.Sink out.new) (λ lines. Sent lines (sink E.Sink err.old) (sink E.Sink err.new))) }
     ensures stopped { IfErr result (λ fault. StopsThreads ⊤ (ShowsThreads limit (scenario_view scenario)) fault
@@ -87,7 +87,7 @@ fn run_all<R: Threads + Wait + Sync + AllocGlobal, K: Sink, E: Sink>(
     }
 }
 
-/// The same for a scenario's text. One that is refused has its line, and no thread is started.
+/// Does so for a scenario's text. Where it is refused, its line is written, and no thread is started.
 fn run_text<R: Threads + Wait + Sync + AllocGlobal, K: Sink, E: Sink>(
     rt: &R,
     text: &[u8],
@@ -95,7 +95,7 @@ fn run_text<R: Threads + Wait + Sync + AllocGlobal, K: Sink, E: Sink>(
     out: &mut K,
     err: &mut E,
 ) -> Result<u8, WorkFault>
-    requires { limit ≤ 100000 }
+    requires { limit ≤ MAX_THREAD_EVENTS }
     ensures ok { IfOk result (AreTextsOf (ThreadsRan limit text.now) (sink K.Sink out.old) (sink K.Sink out.new)
         (λ lines. Sent lines (sink E.Sink err.old) (sink E.Sink err.new))) }
     ensures stopped { IfErr result (λ fault. StopsThreads (AreThreadScenario text.now) (ThreadsRan limit text.now) fault
@@ -115,10 +115,9 @@ fn run_text<R: Threads + Wait + Sync + AllocGlobal, K: Sink, E: Sink>(
     }
 }
 
-/// Runs the replicas of the scenario in a file in threads, each of which makes `limit` events at
-/// most. Writes the scenario with the schedule that they made, and on `err` a line for each replica,
-/// and answers the status. Where a given event is stuck its lines are all. After a fault nothing is
-/// written on `err`.
+/// Runs the replicas of the scenario in a file in threads, each of which makes `limit` events at most. Writes the
+/// scenario with the schedule that they made, and on `err` a line for each replica, and returns the status. Where a
+/// given event is stuck, its lines alone are written. After a fault nothing is written on `err`.
 pub fn threads<R: Threads + Wait + Sync + AllocGlobal + Files, I: Source, K: Sink, E: Sink>(
     rt: &R,
     limit: u64,
@@ -127,13 +126,13 @@ pub fn threads<R: Threads + Wait + Sync + AllocGlobal + Files, I: Source, K: Sin
     out: &mut K,
     err: &mut E,
 ) -> Result<u8, WorkFault>
-    requires { limit ≤ 100000 }
+    requires { limit ≤ MAX_THREAD_EVENTS }
     ensures ok { IfOk result (HaveThreaded limit (told_by (I.left input.old) (R.texts rt.now) file.now)
         (sink K.Sink out.old) (sink K.Sink out.new) (λ lines. Sent lines (sink E.Sink err.old) (sink E.Sink err.new))) }
     ensures stopped { IfErr result (λ fault. HaveStopped limit fault
         (told_by (I.left input.old) (R.texts rt.now) file.now) (sink K.Sink out.old) (sink K.Sink out.new)) }
     ensures quiet { OnErr result (err.new ≡ err.old) }
-    ensures most { ConsumesUpTo 8388609 (I.left input.old) (I.left input.new) }
+    ensures most { ConsumesUpTo (MAX_TEXT + 1) (I.left input.old) (I.left input.new) }
     ensures untouched { file.now ≢ codes "-" → input.new ≡ input.old }
     ensures same { OnOk result
         ((I.failures input.new ≡ I.failures input.old) × (K.failures out.new ≡ K.failures out.old)) }

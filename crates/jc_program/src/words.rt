@@ -1,4 +1,4 @@
-//! Words that are no order, or can't be read.
+//! Arguments that are no command, or can't be read: help, or why they are wrong.
 
 ghost use Rattle.jc_session.specs.Written.{sink};
 ghost use Rattle.jc_program.specs.WorkFaults.{Explains, RefusesWords};
@@ -9,7 +9,7 @@ use jc_cli::WordsFault;
 use jc_io::{Failed, Sink, write_all};
 use std::io::ErrorKind;
 
-/// Answers words that are no order: help on the output, and what is wrong with the words on `err`.
+/// Writes help on the output, or on `err` why the arguments are wrong, and returns the status.
 pub fn explain<K: Sink, E: Sink>(fault: &WordsFault, out: &mut K, err: &mut E) -> u8
     ensures { Explains fault.now (sink K.Sink out.old) (sink K.Sink out.new)
         (sink E.Sink err.old) (sink E.Sink err.new) result }
@@ -27,9 +27,8 @@ pub fn explain<K: Sink, E: Sink>(fault: &WordsFault, out: &mut K, err: &mut E) -
     }
 }
 
-/// The status where the words could not be read: 5 for want of memory, and 2 for every other cause,
-/// which is that a word is not UTF-8. Either is a line of `err`, of whose failure the status says
-/// nothing.
+/// Writes on `err` why the arguments can't be read, and returns the status: 5 where there was no memory, and else 2,
+/// since then an argument is not UTF-8. A failure of `err` is ignored.
 pub fn refuse_words<E: Sink>(why: ErrorKind, err: &mut E) -> u8
     ensures { RefusesWords why (sink E.Sink err.old) (sink E.Sink err.new) result }
 {

@@ -1,4 +1,4 @@
-//! Commands, files and help.
+//! Tests of `work_alone`: commands, files, wrong arguments and help.
 
 ghost use Rattle.std.specs.Prelude.{None, true};
 
@@ -45,7 +45,7 @@ pub(super) fn no_files<'a>(alloc: Global) -> Shelf<'a> {
     Shelf { alloc, files: &[] }
 }
 
-/// The words, each a text of its own.
+/// The arguments, as the program takes them.
 pub(super) fn said(alloc: Global, words: &[&str]) -> Result<Vec<String>, AllocError> {
     let mut said = Vec::new(alloc);
     for word in words {
@@ -92,7 +92,7 @@ const ABSENT: &str = "jsoncrdt 1 replica a { let x = doc.get(\"l\").idx(0) } sch
 const ABSENT_ENDS: &str =
     "{\"acted\":false,\"left\":1,\"name\":\"a\",\"ops\":[],\"queue\":[],\"recv\":[],\"send\":[],\"tree\":{},\"vars\":{}}\nstuck 25 NoSuchNode mapT(doc) a.exec\n";
 
-/// Words, the text of standard input, what is printed, and the status.
+/// Arguments, the text of standard input, what is printed, and the status.
 const COMMANDS: &[(&[&str], &str, &[&str], u8)] = &[
     (&["check", "-"], ONE, &[COUNTS], 0),
     (
@@ -125,8 +125,7 @@ fn commands(rt: HostRuntime) {
     }
 }
 
-/// Expects words that end with this status before any text is read, and what the error's sink has
-/// then begins so.
+/// Expects that arguments end with this status before any text is read, and that the error's sink begins with the line.
 fn expect_unread<R: AllocGlobal + Abort>(rt: &R, words: &[&str], status: u8, line: &[u8]) {
     let mut input = Bytes::new(ONE.as_bytes());
     let mut out = Taken::new(rt.alloc());
@@ -151,7 +150,7 @@ fn expect_unread<R: AllocGlobal + Abort>(rt: &R, words: &[&str], status: u8, lin
     holds(rt, input.read(&mut left) == Ok(62));
 }
 
-/// Words that are no command.
+/// Arguments that are no command.
 const UNKNOWN: &[&[&str]] = &[
     &["debug"],
     &["debug", "--trace", "-"],
@@ -187,7 +186,7 @@ fn no_such_file(rt: HostRuntime) {
 const CONFLICT: &str =
     "{\"doc\":{\"key\":{\"!conflict\":{\"values\":[[\"1@p\",\"B\"],[\"1@q\",\"C\"]]}}},\"name\":\"q\"}\n";
 
-/// Words that ask for help or the version, and what it has in it.
+/// Arguments that ask for help or the version, and parts of the text.
 const HELPS: &[(&[&str], &[&str])] = &[
     (
         &["--help"],

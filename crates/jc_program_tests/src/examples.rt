@@ -1,4 +1,4 @@
-//! The examples of the folder `examples`, each with the states that its run ends with.
+//! Tests of `run` on the scenarios of the folder `examples`, each with the states at its end.
 
 use super::commands::{expect_shown, no_files};
 

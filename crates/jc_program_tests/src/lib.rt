@@ -1,4 +1,4 @@
-//! Tests of `jc_program`: runs of whole texts, by the words that the program is called with.
+//! Tests of jc_program: calls of the program in memory, by its arguments, streams and files.
 #![tactic(auto)]
 
 #[cfg(test)]

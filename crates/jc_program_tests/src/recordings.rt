@@ -1,4 +1,4 @@
-//! Runs that can go in one way alone, and what is told of them.
+//! Tests of `record`: runs by threads that can go in one way alone, and their texts.
 
 use jc_program::{Outcome, record};
 use jc_scenario::read;
@@ -22,7 +22,8 @@ const FIRST: &str =
 const BESIDE: &str =
     "jsoncrdt 1\nreplica a {\n  doc.get(\"a\") := 1;\n}\nreplica b {\n  let s = doc.keys;\n}\nschedule {\n  a.exec;\n}\n";
 
-/// A scenario's text, how many events each replica makes at most, the text and the lines that are told, and the outcome.
+/// A scenario's text, the number of events of each replica at most, the text and the lines of the recording, and the
+/// outcome.
 const RUNS: &[(&str, u16, &str, &str, Outcome)] = &[
     (TWO_KEYS, 2, BOTH, "a made 2 limit\n", Outcome::Done),
     (TWO_KEYS, 100, BOTH, "a made 2 finished\n", Outcome::Done),

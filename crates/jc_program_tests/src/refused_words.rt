@@ -1,4 +1,4 @@
-//! Words that can't be read.
+//! Tests of `refuse_words`: arguments that can't be read.
 
 use super::holds;
 use jc_fakes::Taken;
@@ -7,7 +7,7 @@ use std::alloc::Global;
 use std::io::ErrorKind;
 use std::process::Abort;
 
-/// Expects the status and the line that a call ends with whose words can't be read.
+/// Expects the status and the line of a call whose arguments can't be read.
 fn expect_refused(rt: &impl Abort, alloc: Global, why: ErrorKind, status: u8, line: &[u8]) {
     let mut err = Taken::new(alloc);
     let answer = refuse_words(why, &mut err);

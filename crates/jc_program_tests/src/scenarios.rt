@@ -1,11 +1,11 @@
-//! What runs of scenarios show after their blocks: the dump of each replica, and the line of the stuck event.
+//! Tests of `run`: the states at the end, and the line of the stuck event.
 
 use super::holds;
 use super::whole_runs::{ends, work};
 use jc_fakes::{Bytes, Taken};
 use std::process::Abort;
 
-/// A scenario, what its run ends with, and its status.
+/// A scenario, the end of its run's text, and the status.
 const RUNS: &[(&str, &str, u8)] = &[
     // A list that isn't there.
     (
@@ -75,7 +75,7 @@ const RUNS: &[(&str, &str, u8)] = &[
     ),
 ];
 
-/// Expects the end of what a run shows, and its status.
+/// Expects the end of a run's text, and the status.
 fn expect_end<R: AllocGlobal + Abort>(rt: &R, scenario: &str, end: &str, status: u8) {
     let mut input = Bytes::new(scenario.as_bytes());
     let mut out = Taken::new(rt.alloc());

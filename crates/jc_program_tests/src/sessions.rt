@@ -1,4 +1,4 @@
-//! The command `debug`.
+//! Tests of the command `debug`.
 
 use super::commands::{Shelf, expect_shown, no_files, said};
 use super::holds;
@@ -124,7 +124,7 @@ fn scenario_on_the_input(rt: HostRuntime) {
     expect_shown(&rt, &shelf, &words, "", &["refused 14 NoHeader at 0\n"], 1);
 }
 
-/// Expects what a session on the first scenario shows that ends with 4, and the line of the error's sink.
+/// Expects a session on the first scenario that ends with 4, with this text, and this line on the error's sink.
 fn expect_stopped<I: Source + Drop, K: Sink>(
     rt: &impl Abort,
     alloc: Global,

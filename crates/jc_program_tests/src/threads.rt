@@ -1,4 +1,4 @@
-//! The command `threads`, and the whole program.
+//! Tests of `work`: the command `threads`, and the whole program.
 
 ghost use Rattle.std.specs.Prelude.{None, true};
 
@@ -41,7 +41,7 @@ impl<R> Files for NoFiles<R> {
     }
 }
 
-/// The program's status on these words.
+/// The program's status for these arguments.
 fn status<R: Threads + Wait + Sync + AllocGlobal + Abort, I: Source, K: Sink, E: Sink>(
     rt: &R,
     words: &[&str],
@@ -65,7 +65,7 @@ const YIELDS: &str =
 
 const NO_MAP: &str = "jsoncrdt 1\nreplica a {\n  let s = doc.keys;\n}\nschedule {\n}\n";
 
-/// Words, the text of standard input, what is written on the output and on the error, and the status.
+/// Arguments, the text of standard input, what is written on the output and on the error, and the status.
 const RUNS: &[(&[&str], &str, &str, &str, u8)] = &[
     (&["threads", "-"], ONE, RECORDED, "a made 1 finished\n", 0),
     (
@@ -138,7 +138,7 @@ fn runs_by_threads(rt: HostRuntime) {
     }
 }
 
-/// Two replicas that hand their operations to each other.
+/// Two replicas that send their operations to each other.
 const TWO: &str =
     "jsoncrdt 1 replica a { doc.get(\"a\") := 1; yield } replica b { doc.get(\"b\") := 2; yield }";
 

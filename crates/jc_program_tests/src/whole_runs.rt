@@ -1,4 +1,4 @@
-//! Whole runs, over sources and sinks in memory.
+//! Tests of `work_alone` without arguments: whole runs, refused texts, and failures of each stream.
 
 use super::commands::no_files;
 use super::{counts, holds};
@@ -32,7 +32,7 @@ const TOO_LONG: &str = "refused 6 TextTooLong at 8388608\n";
 const TWO_DUMP: &str =
     "{\"acted\":false,\"left\":0,\"name\":\"a\",\"ops\":[\"1@a\",\"2@a\"],\"queue\":[\"1@a\",\"2@a\"],\"recv\":[],\"send\":[],\"tree\":{\"mapT(doc)\":{\"pres(\\\"a\\\")\":[\"1@a\",\"2@a\"],\"regT(\\\"a\\\")\":{\"2@a\":{\"n\":\"2\"}}},\"pres(doc)\":[\"1@a\",\"2@a\"]},\"vars\":{}}\n";
 
-/// Runs the program on these words.
+/// Runs the program with these arguments, without files.
 pub(super) fn work<R: AllocGlobal, I: Source, K: Sink, E: Sink>(
     rt: &R,
     words: &[String],
@@ -56,7 +56,7 @@ pub(super) fn expect_text(rt: &impl Abort, mut text: &[u8], parts: &[&str]) {
     holds(rt, text.is_empty());
 }
 
-/// Expects the text and the status of a run without words, and nothing on the error's sink.
+/// Expects the text and the status of a run without arguments, and nothing on the error's sink.
 fn expect_run<R: AllocGlobal + Abort, I: Source + Drop>(
     rt: &R,
     mut input: I,
@@ -72,7 +72,7 @@ fn expect_run<R: AllocGlobal + Abort, I: Source + Drop>(
 
 #[test]
 fn runs(rt: HostRuntime) {
-    // Each of these bytes has one text and one status at most, and each run all that follows from the promise.
+    // For their contracts alone: the texts below are the only ones, and all facts of the promise hold of these runs.
     one_run();
     promise_gives_facts();
     alone_promise_gives_facts();
@@ -131,7 +131,7 @@ fn longest_text(rt: HostRuntime) -> Result<(), Fail> {
     Ok(())
 }
 
-/// Expects a run whose read number `at` fails, if it comes so far.
+/// Expects a run whose read number `at` fails.
 fn expect_failed_read<R: AllocGlobal + Abort, I: Source + Drop>(rt: &R, input: I, at: u64) {
     let mut input = FailsAt::new(input, at);
     let mut out = Taken::new(rt.alloc());
@@ -152,7 +152,7 @@ fn failed_reads(rt: HostRuntime) {
     expect_run(&rt, FailsAt::new(source, 63), &[FIRST_BLOCK, ONE_DUMP], 0);
 }
 
-/// Expects a run whose output has room for so many bytes alone.
+/// Expects a run whose output has room for `room` bytes alone.
 fn expect_failed_write<R: AllocGlobal + Abort>(rt: &R, shown: &[u8], room: usize, then: Then) {
     let mut input = Bytes::new(STUCK.as_bytes());
     let mut out = TakesUpTo::new(Taken::new(rt.alloc()), room, then);

@@ -1,8 +1,8 @@
-//! Worked rows of the program, as data: standard input has them, and each is shown with what the program writes and
-//! with its status. The file `stdout` beside `src` has what must be shown; it is written by hand.
+//! Runs rows of examples by jc_program: standard input has the rows, and each is shown with what the program writes
+//! and with its status. The file `stdout` beside `src` has what must be shown; it is written by hand.
 //!
-//! The first line says what the rows are. A row begins with a line `== ` and its title. Then come a line with the words
-//! of the command line, the text of the file that they name, and, where there is standard input, a line `--` and the
+//! The first line says what the rows are. A row begins with a line `== ` and its title. Then come a line with the
+//! arguments, the text of the file that they name, and, where there is standard input, a line `--` and the
 //! input. The line feed before a line `--`, before the next row, or at the end belongs to neither text.
 #![tactic(auto)]
 
@@ -17,7 +17,7 @@ use std::process::ExitCode;
 /// More bytes than the rows have.
 const MOST: usize = 1_000_000;
 
-/// A row, which says how the program is called.
+/// A row: how the program is called.
 #[derive(Drop)]
 struct Row<'a> {
     title: &'a str,
@@ -47,13 +47,13 @@ impl From<AllocError> for Fault {
     }
 }
 
-/// The text of the rows, behind the first `== `.
+/// The text of the rows, after the first `== `.
 fn rows_of(text: &str) -> Option<&str> {
     let (_, rows) = text.split_once("\n")?;
     rows.strip_prefix("== ")?.strip_suffix("\n")
 }
 
-/// The row with this text, behind `== `.
+/// The row with this text, after `== `.
 fn row_of(text: &str) -> Option<Row<'_>> {
     let (title, text) = text.split_once("\n")?;
     let (words, text) = text.split_once("\n")?;
@@ -94,7 +94,7 @@ impl Files for OneFile<'_> {
     }
 }
 
-/// The words of the line, each a text of its own.
+/// The arguments of the line, as the program takes them.
 fn words_of(alloc: Global, line: &str) -> Result<Vec<String>, AllocError> {
     let mut words = Vec::new(alloc);
     for word in line.split_whitespace() {
@@ -103,7 +103,7 @@ fn words_of(alloc: Global, line: &str) -> Result<Vec<String>, AllocError> {
     Ok(words)
 }
 
-/// Calls the program as the row says. Its standard error, if there is any, comes behind its output.
+/// Calls the program as the row says. Its standard error, if there is any, follows its output.
 fn work<K: Sink>(alloc: Global, row: &Row<'_>, out: &mut K) -> Result<u8, Fault> {
     let files = OneFile {
         alloc,

@@ -43,3 +43,28 @@ pub same_tests : (a b : Bool) → (a ≡ true → b ≡ true) → (b ≡ true �
 same_tests true b f g = sym (f refl)
 same_tests false true f g = g refl
 same_tests false false f g = refl
+
+pub first_true : (x y : Bool) → (x && y) ≡ true → x ≡ true
+first_true true y h = refl
+first_true false y h = cc
+
+pub second_true : (x y : Bool) → (x && y) ≡ true → y ≡ true
+second_true true y h = h
+second_true false y h = cc
+
+pub both_true : (x y : Bool) → x ≡ true → y ≡ true → (x && y) ≡ true
+both_true true y h g = g
+both_true false y h g = cc
+
+pub no_either : (x y : Bool) → x ≡ false → y ≡ false → (x || y) ≡ false
+no_either true y h g = cc
+no_either false y h g = g
+
+-- what isn't true is false
+pub not_so : (x : Bool) → (x ≡ true → ⊥) → x ≡ false
+not_so true f = absurd (f refl)
+not_so false f = refl
+
+pub or_false : (a : Bool) → a || false ≡ a
+or_false true = refl
+or_false false = refl

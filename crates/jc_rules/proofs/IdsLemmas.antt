@@ -10,7 +10,7 @@ use Rattle.jc_rules.specs.Order.{id_cmp, same_id}
 use Rattle.jc_rules.specs.Ids.{AreRising, has_id, with_id, added, union, without}
 use Rattle.jc_rules.proofs.OrderLemmas.{ids_total, exact_ids}
 use Rattle.jc_rules.proofs.RisingLemmas as rising
-use Rattle.jc_rules.proofs.BoolLemmas.{no_truth, or_swap}
+use Rattle.jc_rules.proofs.BoolLemmas.{no_truth, or_swap, or_false}
 
 pub equal_itself : (i : Id) → id_cmp i i ≡ Equal
 equal_itself i = tied_itself ids_total i
@@ -49,10 +49,6 @@ has_id-with k i (j ∷ js) = go (id_cmp i j) refl (has_id-with k i js)
 or_assoc : (a b c : Bool) → a || (b || c) ≡ (a || b) || c
 or_assoc true b c = refl
 or_assoc false b c = refl
-
-or_false : (a : Bool) → a || false ≡ a
-or_false true = refl
-or_false false = refl
 
 has_id-added : (k : Id) (is js : List Id) → has_id k (added is js) ≡ has_id k is || has_id k js
 has_id-added k [] js = refl

@@ -1,7 +1,7 @@
 //! Lamport identifiers, which every operation has, and their order.
 
 /// The Lamport identifier of an operation. Identifiers are ordered by counter, then by replica.
-#[derive(Clone, Copy, Debug, PartialEq, Eq, PartialOrd, Ord)]
+#[derive(Clone, Copy, Debug, PartialEq, Eq, PartialOrd, Ord, Hash)]
 pub struct Id {
     /// At least 1 in an operation.
     pub counter: u64,

@@ -11,7 +11,7 @@ use std::cmp::Ordering;
 
 /// A key: of the document, of a map's entry, of a list's head or of a list's element.
 /// Keys are ordered `doc`, `head`, names by their bytes, identifiers.
-#[derive(Debug, PartialEq, Eq, PartialOrd, Ord, Drop)]
+#[derive(Debug, PartialEq, Eq, PartialOrd, Ord, Hash, Drop)]
 pub enum Key {
     Doc,
     Head,

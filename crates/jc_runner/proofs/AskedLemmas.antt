@@ -1,4 +1,4 @@
--- Questions that follow one another.
+-- About specs/Asked: questions that follow one another.
 use Rattle.std.proofs.Common.{arith, ◌≡◌, ℕ, ◌+◌, suc, List, [], ◌∷◌, ◌++◌, refl, sym, ◌∙◌, ap, subst, Option, Some, None, append_assoc, append-nil}
 use Rattle.jc_runner.specs.Asked.{GateQuestion, Asks, questions_of}
 

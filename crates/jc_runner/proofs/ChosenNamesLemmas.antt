@@ -1,4 +1,4 @@
--- What a replica chooses names replicas of the network.
+-- About specs/Chosen: what a replica chooses names replicas of the network.
 use Rattle.std.proofs.Common.{rules, arith, ◌≡◌, ℕ, ◌+◌, ◌<◌, List, [], ◌∷◌, ◌++◌, Option, Some, None, Bool, true, false, cond, nat_lt, Contains, refl, ◌∙◌, subst, length, slice_get}
 use Rattle.std.proofs.lemmas.Option.{same_Some, slice_get_within}
 use Rattle.jc_rules.specs.declared.id.Id.{Id}
@@ -82,7 +82,7 @@ event_named : (n : ℕ) (o : Option (Event × Phase)) (e : Event) → IsNamedCho
 event_named n None e named is = cc
 event_named n (Some c) e named is = subst (λ x. AreNamed x n) (same_Some c.0 e is) named
 
--- an event that a replica chose, and that is stuck
+-- a stuck event that a replica chose names replicas of the scenario
 pub stuck_named : (s : Scenario) (p : ℕ) (history : List Event) (stuck : Stuck) → IsWellFormedScenario s → p < length s.scripts → (t : IsStuckAfter s p history stuck) → AreNamed t.event (length s.names)
 stuck_named s p history stuck well low t =
     let count : length t.network.states ≡ length s.scripts = as_many s history t.network t.legal in

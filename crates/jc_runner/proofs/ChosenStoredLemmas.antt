@@ -1,4 +1,4 @@
--- What a replica keeps of its operations tells the same choice as what that stands for.
+-- About specs/Chosen: a replica's stored state chooses the same as the state that it represents.
 use Rattle.std.proofs.Common.{◌≡◌, ℕ, zero, suc, List, [], ◌∷◌, ◌++◌, Bool, true, false, not, ◌&&◌, ◌||◌, refl, sym, ◌∙◌, ap, subst, Some, None, cond, nat_lt, length, map, slice_get, Contains, ◌⊎◌, inl, inr, ◌+◌}
 use Rattle.std.specs.List.{list_all, AllByRecursion}
 use Rattle.std.proofs.lemmas.List.Elements.{Contains-append_left, Contains-append_right}
@@ -14,6 +14,7 @@ use Rattle.jc_rules.specs.Representation.{IsCausallyClosed}
 use Rattle.jc_rules.specs.State.{State}
 use Rattle.jc_rules.specs.Syntax.{Cmd}
 use Rattle.jc_rules.specs.Table.{op_of}
+use Rattle.jc_rules.proofs.BoolLemmas.{or_right, same_tests}
 use Rattle.jc_rules.proofs.IdsLemmas.{same_id-self, same_id-true}
 use Rattle.jc_rules.proofs.RepresentationLemmas.{looked_up, counters_tell, subset_both}
 use Rattle.jc_vectors.specs.StoredStates.{stored_op, stored_state, AreOf}
@@ -28,13 +29,8 @@ use Rattle.jc_network.proofs.RunInvariantStartLemmas.{start_well, after_well, he
 use Rattle.jc_runner.specs.declared.phase.Phase.{Phase}
 use Rattle.jc_runner.specs.declared.phase.Phase.TheVariants as P
 use Rattle.jc_runner.specs.Chosen.{is_ready, first_ready, apply_or_end, past_own, at_yield, is_yield, chosen_by, chosen_in, choice}
-use Rattle.jc_runner.proofs.ChosenLemmas.{same_tests}
 
 -- ---- sets in sets
-
-or_right : (a b : Bool) → b ≡ true → a || b ≡ true
-or_right true b h = refl
-or_right false b h = h
 
 pub all_in : (s is : List Id) → AreIn is s → list_all (λ i. has_id i s) is ≡ true
 all_in s [] f = refl
@@ -91,7 +87,7 @@ module _ (N : List State) (w : IsWell N) (p : ℕ) (A : State) (there : slice_ge
   found o (inl k) = (sound N w).one_each o (queue_held N p A o there k)
   found o (inr k) = (sound N w).one_each o (recv_held N p A o there k)
 
-  -- what the replica has applied is closed
+  -- what the replica has applied is causally closed
   applied_closed : IsCausallyClosed (ops_held N) A.ops
   applied_closed = record {
     rises = w.sets.rising p A there;
@@ -113,7 +109,7 @@ module _ (N : List State) (w : IsWell N) (p : ℕ) (A : State) (there : slice_ge
   kept_chosen n q phase [] = refl
   kept_chosen n q phase (c ∷ rest) = ap (λ y. Some (cond (is_yield c) y (E.Exec q, P.Start))) (kept_at_yield n q phase)
 
--- what the stored state chooses is the choice
+-- the choice of the stored state is that of the network
 pub chosen_of_kept : (N : List State) (p : ℕ) (past : Past) (phase : Phase) → IsFromStart N → HasReplica N p past → chosen_by (length N) past.number past.now phase past.now.left ≡ choice N p phase
 chosen_of_kept N p past phase run has =
     let well : IsWell N = after_well (starts run.0) run.1.0 N (start_well run.0) run.1.1 in

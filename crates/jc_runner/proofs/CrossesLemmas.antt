@@ -1,4 +1,4 @@
--- What a recorded network holds crosses threads, and so do a bench and what a thread gives back.
+-- About the types of this crate: a recorded network, a bench and a thread's result may cross threads.
 use base.Fml.{Lft}
 use denote.Exit.{no}
 use denote.RattleType.{RattleType}
@@ -63,8 +63,8 @@ pass_send = search (sendable, crosses, pass.the_send, recorded_send) depth 20
 pub worked_send : IsSend worked_row
 worked_send = search (sendable, crosses, pass.the_field_send, end.the_field_send, recorded_send) depth 20
 
--- A closure that borrows the runtime and the bench, and owns a pass and a gate, as a call is given it. The names of the
--- closure and of its lifetimes play no part here.
+-- A closure that borrows the runtime and the bench, and owns a pass and a gate. The names of the closure and of its
+-- lifetimes don't matter.
 pub closure_send : (κ ν : Lft) (R G : RattleType) → IsSync R → IsSend G
     → IsSend (param 2 (arg ty_unit no (TupleAt [] (ShrRef static κ R ∷ ShrRef static ν bench_row ∷ Pass.the_row recorded_row event_row beginning_row ghosts ∷ G ∷ []))))
 closure_send κ ν R G sync send =

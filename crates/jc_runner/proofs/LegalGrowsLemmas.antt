@@ -1,9 +1,7 @@
--- Histories that grow.
-use Rattle.std.proofs.Common.{rules, ◌≡◌, ◌⊎◌, ℕ, List, [], ◌∷◌, ◌++◌, refl, sym, ◌∙◌, ap, subst, true, false, Bool, nat_eq, length, inl, inr, Some}
+-- About specs/Legal: histories that grow, and their parts.
+use Rattle.std.proofs.Common.{rules, ◌≡◌, ◌⊎◌, ℕ, List, [], ◌∷◌, ◌++◌, refl, sym, ◌∙◌, ap, subst, true, false, Bool, nat_eq, inl, inr, Some}
 use Rattle.jc_rules.specs.declared.operation.Event.{Event}
-use Rattle.jc_rules.specs.declared.rule.Rule.{Rule}
-use Rattle.jc_rules.specs.State.{State}
-use Rattle.jc_rules.specs.Step.{After, Network, StepIn, AfterIn, replica_of}
+use Rattle.jc_rules.specs.Step.{After, Network, AfterIn, replica_of}
 use Rattle.jc_rules.proofs.VersionLemmas.{after_states, one_after_in}
 use Rattle.jc_network.specs.Given.{before_given}
 use Rattle.jc_network.specs.Laws.{starts}
@@ -12,16 +10,11 @@ use Rattle.jc_scenario.specs.WellFormed.{Scenario}
 use Rattle.jc_runner.specs.Phases.{last_event_of}
 use Rattle.jc_runner.specs.Legal.{IsLegal, own_events, IsChosenAfter, AllChosen}
 
--- one event more
-pub after_one_more : (N : Network) (es : List Event) (M : Network) (e : Event) (M2 : Network) (rows : List (Rule × ℕ)) → AfterIn N es M → StepIn M e M2 rows → AfterIn N (es ++ e ∷ []) M2
-after_one_more N [] M e M2 rows after step = (M2, rows, subst (λ (K : Network). StepIn K e M2 rows) (sym after) step, refl)
-after_one_more N (f ∷ es) M e M2 rows after step = (after.0, after.1, after.2, after_one_more after.0 es M e M2 rows after.3 step)
-
 -- the states of a network to which a history leads: the given events come before it
 pub legal_states : (s : Scenario) (history : List Event) (N : Network) → IsLegal history s N → After (starts s.scripts) (s.given ++ history) N.states
 legal_states s history N legal = after_states (before_given s) (s.given ++ history) N (after_more (before_given s) s.given legal.start history N legal.is_start legal.after)
 
--- it leads to one network
+-- a history leads to one network
 pub one_legal : (s : Scenario) (history : List Event) (N M : Network) → IsLegal history s N → IsLegal history s M → N ≡ M
 one_legal s history N M legal other =
     let same : other.start ≡ legal.start = one_after_in (before_given s) s.given other.start legal.start other.is_start legal.is_start in
@@ -31,16 +24,11 @@ after_both : (N : Network) (xs ys : List Event) (M : Network) → AfterIn N (xs 
 after_both N [] ys M after = (N, refl, after)
 after_both N (x ∷ xs) ys M after = let more = after_both after.0 xs ys M after.3 in (more.0, (after.0, after.1, after.2, more.1), more.2)
 
--- so does its beginning, and the rest leads on from there
+-- a prefix leads to a network, and the rest leads on from there
 pub legal_both : (s : Scenario) (xs ys : List Event) (M : Network) → IsLegal (xs ++ ys) s M → (K : Network) × IsLegal xs s K × AfterIn K ys M
 legal_both s xs ys M legal =
     let split = after_both legal.start xs ys M legal.after in
     (split.0, record { start = legal.start; is_start = legal.is_start; after = split.1 }, split.2)
-
--- no replica comes or goes
-pub same_number : (N : List State) (es : List Event) (M : List State) → After N es M → length M ≡ length N
-same_number N [] M after = ap length (sym after)
-same_number N (e ∷ es) M after = same_number after.0 es M after.3 ∙ (ap length after.2.is_new ∙ search rules)
 
 pub last_more : (es : List Event) (e : Event) → last_event_of (es ++ e ∷ []) ≡ Some e
 last_more [] e = refl
@@ -79,7 +67,7 @@ nothing_more (x ∷ xs) ys e = nothing_more xs ys (ap tail_of e)
 same_cons : (x y : Event) (xs ys : List Event) → x ≡ y → xs ≡ ys → x ∷ xs ≡ y ∷ ys
 same_cons x y xs ys e f i = e i ∷ f i
 
--- where the rest has no event of the replica, each of its events stands in the beginning
+-- where the rest has no event of the replica, each of its events is in the prefix
 in_beginning : (p : ℕ) (before : List Event) (e : Event) (later seen rest : List Event) → seen ++ rest ≡ before ++ e ∷ later → replica_of e ≡ p → own_events rest p ≡ [] → (mid : List Event) × (seen ≡ before ++ e ∷ mid)
 in_beginning p before e later [] rest is of none = absurd (own_has p before e later of (rw (sym is) none))
 in_beginning p [] e later (x ∷ xs) rest is of none = (xs, ap (λ y. y ∷ xs) (ap (head_or e) is))

@@ -1,7 +1,6 @@
--- A schedule that leads from a scenario's start is one that a scenario may have.
-use Rattle.std.proofs.Common.{arith, ◌≡◌, ℕ, ◌*◌, ◌≤◌, ◌<◌, List, [], ◌∷◌, ◌++◌, Option, Some, None, Contains, refl, sym, ◌∙◌, ap, subst, length, slice_get}
+-- About specs/Laws: a scenario may have each schedule that leads from its start.
+use Rattle.std.proofs.Common.{arith, ◌≡◌, ℕ, ◌≤◌, ◌<◌, List, [], ◌∷◌, ◌++◌, Option, Some, None, Contains, refl, sym, ◌∙◌, ap, subst, length, slice_get}
 use Rattle.std.specs.Prelude.{All}
-use Rattle.std.specs.List.{AllByRecursion}
 use Rattle.std.proofs.lemmas.List.{length-map}
 use Rattle.std.proofs.lemmas.List.Elements.{All-nil, All-cons, All-tail}
 use Rattle.std.proofs.lemmas.Option.{same_Some, slice_get_within}
@@ -12,7 +11,6 @@ use Rattle.jc_rules.specs.declared.operation.Event.TheVariants as E
 use Rattle.jc_rules.specs.declared.rule.Rule.{Rule}
 use Rattle.jc_rules.specs.State.{State, start}
 use Rattle.jc_rules.specs.Step.{Step, After, Network, AfterIn, replica_of, read_by, send_of}
-use Rattle.jc_rules.specs.Syntax.{Cmd}
 use Rattle.jc_rules.specs.Table.{op_of}
 use Rattle.jc_rules.specs.Version.{Allows}
 use Rattle.jc_rules.proofs.RepresentationLemmas.{looked_up}
@@ -23,14 +21,16 @@ use Rattle.jc_network.specs.Given.{before_given}
 use Rattle.jc_network.specs.Laws.{starts}
 use Rattle.jc_network.specs.RunInvariant.{IsMadeOp, IsWell, CountsCommands, commands_left}
 use Rattle.jc_network.specs.Refines.{AreShort}
+use Rattle.jc_network.proofs.AfterLemmas.{after_count, after_version}
 use Rattle.jc_network.proofs.StartLemmas.{short_scripts}
 use Rattle.jc_network.proofs.CountersLemmas.{start_counted, step_counted}
 use Rattle.jc_network.proofs.EventDidLemmas.{Did, bound, made, sent, received, took, applied, done, did}
 use Rattle.jc_network.proofs.RunInvariantStartLemmas.{start_well}
 use Rattle.jc_network.proofs.RunInvariantLemmas.{step_well}
+use Rattle.jc_network.proofs.OfferedLemmas.{left_bound}
 use Rattle.jc_runner.specs.Legal.{IsLegal}
 use Rattle.jc_runner.specs.Laws.{with_schedule}
-use Rattle.jc_runner.proofs.LegalGrowsLemmas.{legal_states, same_number}
+use Rattle.jc_runner.proofs.LegalGrowsLemmas.{legal_states}
 
 -- replicas and counters that the event may name in a scenario of n replicas
 abbrev IsFit : ℕ → Event → Type 0
@@ -102,16 +102,9 @@ all_fit : (total : ℕ) → total < 4294967296 → (N : List State) (es : List E
 all_fit total few N [] M w c after = All-nil (IsFit (length N))
 all_fit total few N (e ∷ es) M w c after =
     let first : IsFit (length N) e = step_fit total few N w c e after.0 after.1 after.2 in
-    let same : length after.0 ≡ length N = same_number N (e ∷ []) after.0 (after.0, after.1, after.2, refl) in
+    let same : length after.0 ≡ length N = after_count N (e ∷ []) after.0 (after.0, after.1, after.2, refl) in
     let rest = all_fit total few after.0 es M (step_well N e after.0 after.1 w after.2) (step_counted total N e after.0 after.1 w c after.2) after.3 in
     All-cons (IsFit (length N)) e es first (subst (λ n. All (IsFit n) es) same rest)
-
-commands_few : (scripts : List (List Cmd)) → AllByRecursion (λ s. length s ≤ 65536) scripts → commands_left (starts scripts) ≤ length scripts * 65536
-commands_few [] h = omega arith
-commands_few (s ∷ scripts) h =
-    let first : length s ≤ 65536 = h.0 in
-    let rest : commands_left (starts scripts) ≤ length scripts * 65536 = commands_few scripts h.1 in
-    omega (arith, first, rest)
 
 -- each event of a history is one that its network's version has
 all_allowed : (N : Network) (es : List Event) (M : Network) → AfterIn N es M → All (λ e. Allows e N.version) es
@@ -119,11 +112,6 @@ all_allowed N [] M after = All-nil (λ e. Allows e N.version)
 all_allowed N (e ∷ es) M after =
     All-cons (λ f. Allows f N.version) e es after.2.allowed
     (subst (λ v. All (λ f. Allows f v) es) after.2.version (all_allowed after.0 es M after.3))
-
--- no event changes the version
-same_version : (N : Network) (es : List Event) (M : Network) → AfterIn N es M → M.version ≡ N.version
-same_version N [] M after = ap (λ (K : Network). K.version) (sym after)
-same_version N (e ∷ es) M after = same_version after.0 es M after.3 ∙ after.2.version
 
 all_behind : (P : Event → Type 0) (xs ys : List Event) → All P (xs ++ ys) → All P ys
 all_behind P [] ys all = all
@@ -133,14 +121,14 @@ pub well_formed_with : (s : Scenario) (history : List Event) (N : Network) → I
 well_formed_with s history N well legal small =
     let many : length s.scripts ≤ 64 = omega (arith, well.each, well.few) in
     let short : AreShort s.scripts = short_scripts s.scripts many well.formed in
-    let bounded = commands_few s.scripts short.each in
+    let bounded = left_bound s.scripts short.each in
     let total = commands_left (starts s.scripts) in
     let few : total < 4294967296 = omega (arith, bounded, many) in
     let count : length (starts s.scripts) ≡ length s.names = length-map s.scripts start ∙ well.each in
     let events = s.given ++ history in
     let all : All (IsFit (length s.names)) events = subst (λ n. All (IsFit n) events) count (all_fit total few (starts s.scripts) events N.states (start_well s.scripts) (start_counted s.scripts) (legal_states s history N legal)) in
     let fit : All (IsFit (length s.names)) history = all_behind (IsFit (length s.names)) s.given history all in
-    let version : legal.start.version ≡ s.version = same_version (before_given s) s.given legal.start legal.is_start in
+    let version : legal.start.version ≡ s.version = after_version (before_given s) s.given legal.start legal.is_start in
     record {
       some = well.some;
       few = well.few;

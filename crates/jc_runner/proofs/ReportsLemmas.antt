@@ -1,4 +1,4 @@
--- What the passes tell of the history that the closed bench gives.
+-- About specs/Reports: what the passes know of the history that the closed bench returns.
 use Rattle.std.proofs.Common.{rules, arith, ◌≡◌, ℕ, zero, suc, ◌+◌, ◌≤◌, ◌<◌, List, [], ◌∷◌, ◌++◌, refl, sym, ◌∙◌, ap, subst, Bool, true, false, nat_eq, length, length-append, append-nil, sum, map, get_or, inl, inr, slice_get, slice_set}
 use Rattle.std.specs.Prelude.{All}
 use Rattle.std.specs.List.{range_with_len}

@@ -1,4 +1,4 @@
--- What a replica's thread knows between two turns.
+-- About specs/WorkerResult: what a replica's thread knows between two turns.
 use Rattle.std.proofs.Common.{arith, ◌≡◌, ℕ, ◌<◌, ◌+◌, List, [], ◌∷◌, ◌++◌, sym, ◌∙◌, ap, subst, length, Option, Some, None, inr}
 use Rattle.std.proofs.lemmas.List.{length-map}
 use mathlib.Core.List.{IsPrefix}
@@ -14,6 +14,7 @@ use Rattle.std.proofs.lemmas.Option.{same_Some}
 use Rattle.jc_runner.specs.Recording.{Recording, recording, IsRecorded}
 use Rattle.jc_network.specs.Laws.{starts}
 use Rattle.jc_network.specs.Steps.{IsStuckFor}
+use Rattle.jc_network.proofs.AfterLemmas.{after_count}
 use Rattle.jc_runner.specs.Phases.{last_event_of, phase_after}
 use Rattle.jc_runner.specs.Chosen.{choice, event_in}
 use Rattle.jc_runner.specs.Legal.{IsLegal, own_events, IsChosenAfter, AllChosen}
@@ -27,14 +28,14 @@ use Rattle.jc_runner.specs.declared.worker.End.TheVariants as Ends
 use Rattle.jc_runner.specs.declared.worker.Worked.{Worked}
 use Rattle.jc_runner.specs.Answers.{IsStepAnswered, IsSpent, seen_after}
 use Rattle.jc_runner.specs.WorkerResult.{IsFinishedAfter, IsStuckAfter, ChoosesAfter, EndsWith, IsWorkerResult, end_of}
-use Rattle.jc_runner.proofs.LegalGrowsLemmas.{legal_states, one_legal, chosen_longer, same_number, last_more}
+use Rattle.jc_runner.proofs.LegalGrowsLemmas.{legal_states, one_legal, chosen_longer, last_more}
 use Rattle.jc_runner.proofs.ChosenLemmas.{choice_is, none_chosen}
 
 -- the network in hand has the scenario's replicas
 pub as_many : (s : Scenario) (history : List Event) (N : Network) → IsLegal history s N → length N.states ≡ length s.scripts
-as_many s history N legal = same_number (starts s.scripts) (s.given ++ history) N.states (legal_states s history N legal) ∙ length-map s.scripts start
+as_many s history N legal = after_count (starts s.scripts) (s.given ++ history) N.states (legal_states s history N legal) ∙ length-map s.scripts start
 
--- what is known of the own events stands in the longer history too
+-- what is known of the own events holds in the longer history too
 pub still_chosen : (s : Scenario) (p : ℕ) (seen longer mine : List Event) → IsPrefix seen longer → own_events seen p ≡ mine → own_events longer p ≡ mine → AllChosen s p seen → AllChosen s p longer
 still_chosen s p seen longer mine begins before after all =
     subst (AllChosen s p) begins.1 (chosen_longer s p seen begins.0 (ap (λ l. own_events l p) begins.1 ∙ (after ∙ sym before)) all)
@@ -107,7 +108,7 @@ goes_on s e seen mine new_mine history left new_left (A.Full front) none h is = 
 goes_on s e seen mine new_mine history left new_left A.Memory none h is = cc
 goes_on s e seen mine new_mine history left new_left A.Spent none h is = cc
 
--- what an answer by which a thread ends says of the history in hand, where the pass's own events are below the limit
+-- what the result by which a thread ends says of the history, where the pass's own events are below the limit
 module _ (s : Scenario) (p limit : ℕ) (history mine : List Event) (N : Network) (phase next : Phase) (e : Event)
     (legal : IsLegal history s N) (own : own_events history p ≡ mine) (at : phase ≡ phase_after (last_event_of mine)) (is : choice N.states p phase ≡ Some (e, next)) (low : length mine < limit)
     (seen old_mine new_mine : List Event) (left new_left : ℕ) where

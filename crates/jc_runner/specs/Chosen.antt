@@ -1,4 +1,4 @@
--- The event that a replica chooses by itself, and its phase after it.
+-- The rule by which a replica chooses its next event, and its phase after it: the contract of `choose`.
 use Rattle.std.specs.Prelude.{ℕ, ◌+◌, List, [], ◌∷◌, Bool, true, false, not, ◌&&◌, cond, nat_eq, nat_lt, length, slice_get, find, Option, Some, None}
 use Rattle.std.specs.List.{list_all}
 use Rattle.jc_rules.specs.declared.id.Id.{Id}
@@ -12,7 +12,7 @@ use Rattle.jc_runner.specs.declared.phase.Phase.{Phase}
 use Rattle.jc_runner.specs.declared.phase.Phase.TheVariants as P
 use Rattle.jc_runner.specs.Phases.{phase_after}
 
--- not applied, and has its dependencies applied
+-- the operation isn't applied, and its dependencies are
 abbrev pub is_ready : List Id → Op → Bool
 is_ready ops o = not (has_id o.id ops) && list_all (λ i. has_id i ops) o.deps
 
@@ -20,7 +20,7 @@ abbrev pub id_in : Option Op → Option Id
 id_in None = None
 id_in (Some o) = Some o.id
 
--- the first that is ready: in a list by identifier the least
+-- the first operation that is ready; in a list sorted by identifier it is the least
 abbrev pub first_ready : List Id → List Op → Option Id
 first_ready ops os = id_in (find (is_ready ops) os)
 
@@ -33,7 +33,7 @@ abbrev pub past_own : ℕ → ℕ → ℕ
 past_own p q = cond (nat_eq q p) (q + 1) q
 
 -- What replica p of n does at a yield: it sends, receives from each other replica, applies what is ready, and ends. It
--- takes nothing alone.
+-- never takes a single operation.
 abbrev pub at_yield : ℕ → ℕ → State → Phase → Event × Phase
 at_yield n p A P.Start = (E.Send p, P.Receiving 0)
 at_yield n p A (P.Receiving q) =

@@ -1,5 +1,6 @@
--- What the definitions of choices and of histories promise.
+-- The laws of choices and of histories.
 use Rattle.std.specs.Prelude.{◌≡◌, ℕ, ◌<◌, ◌≤◌, List, [], Some, None, length, slice_get}
+use Rattle.jc_rules.specs.declared.limits.TheConstants.{MAX_EVENTS}
 use Rattle.jc_rules.specs.declared.operation.Event.{Event}
 use Rattle.jc_rules.specs.State.{State}
 use Rattle.jc_rules.specs.Step.{Network, replica_of}
@@ -9,14 +10,14 @@ use Rattle.jc_runner.specs.Chosen.{choice}
 use Rattle.jc_runner.specs.Legal.{IsLegal}
 use Rattle.jc_runner.specs.Phases.{phase_after}
 
--- What replica p chooses is an event of its own, and its phase after it is that after this event, whatever came before.
+-- What replica p chooses is an event of its own. Its phase after it depends on this event alone.
 abbrev pub ChoicesAreOwn : Type 0
 ChoicesAreOwn =
     (network : List State) (p : ℕ) (phase : Phase) (e : Event) (next : Phase)
     → choice network p phase ≡ Some (e, next)
     → (replica_of e ≡ p) × (next ≡ phase_after (Some e))
 
--- Where a replica of the network chooses nothing it has no command left.
+-- A replica of the network that chooses nothing has no command left.
 abbrev pub NoChoiceIsTheEnd : Type 0
 NoChoiceIsTheEnd =
     (network : List State) (p : ℕ) (phase : Phase)
@@ -28,11 +29,11 @@ NoChoiceIsTheEnd =
 abbrev pub with_schedule : Scenario → List Event → Scenario
 with_schedule s events = record s { schedule = events }
 
--- A scenario may have each schedule that leads from its start to a network, where that is not too long.
+-- A scenario may have each schedule that leads from its start to a network and isn't too long.
 abbrev pub SchedulesAreWellFormed : Type 0
 SchedulesAreWellFormed =
     (s : Scenario) (schedule : List Event) (network : Network)
     → IsWellFormedScenario s
     → IsLegal schedule s network
-    → length schedule ≤ 100000
+    → length schedule ≤ MAX_EVENTS
     → IsWellFormedScenario (with_schedule s schedule)

@@ -1,4 +1,4 @@
--- Histories, and the events in them that are chosen.
+-- Histories: what they lead to, the events of one replica, and that these were chosen. Most contracts here cite it.
 use Rattle.std.specs.Prelude.{◌≡◌, ℕ, List, ◌∷◌, ◌++◌, Some}
 use Rattle.jc_rules.specs.declared.operation.Event.{Event}
 use Rattle.jc_rules.specs.Step.{Network, AfterIn, replica_of}
@@ -8,7 +8,7 @@ use Rattle.jc_scenario.specs.WellFormed.{Scenario}
 use Rattle.jc_runner.specs.Phases.{last_event_of}
 use Rattle.jc_runner.specs.Chosen.{chosen}
 
--- the network follows from the scenario's start by the events, in their order
+-- the events lead, in their order, from the scenario's start to the network
 pub record IsLegal (history : List Event) (s : Scenario) (network : Network) : Type 0 where
   pub start : Network
   pub is_start : IsStart s start
@@ -18,7 +18,7 @@ pub record IsLegal (history : List Event) (s : Scenario) (network : Network) : T
 abbrev pub own_events : List Event → ℕ → List Event
 own_events history p = own replica_of history p
 
--- after these events it is what its replica chooses
+-- after these events the event is the one that its replica chooses
 pub record IsChosenAfter (s : Scenario) (before : List Event) (e : Event) : Type 0 where
   pub network : Network
   pub legal : IsLegal before s network

@@ -1,6 +1,7 @@
--- What a recorded network is seen as.
+-- What contracts see of a recorded network, and what its type keeps: `Recorded`'s view and invariant.
 use Rattle.std.specs.Prelude.{◌≡◌, ℕ, ◌≤◌, List, length, refl}
 use Rattle.std.specs.Coded.{Coded, code_by, coded×, coded_ℕ, coded_list}
+use Rattle.jc_rules.specs.declared.limits.TheConstants.{MAX_EVENTS}
 use Rattle.jc_rules.specs.declared.operation.Event.{Event}
 use Rattle.jc_rules.specs.contracts.operation.Event.{the_row as event_row}
 use Rattle.jc_rules.specs.declared.version.Version.{Version}
@@ -38,9 +39,9 @@ recording_code =
 abbrev pub recording : Course → List Event → Scenario → Recording
 recording net schedule start = record { net = net; schedule = schedule; start = start }
 
--- The events lead from the start to the network, which has counted them, and there are no more than may be.
+-- The events lead from the start to the network, which counts them, and there aren't too many.
 pub record IsRecorded (net : Course) (schedule : List Event) (start : Scenario) : Type 0 where
   pub legal : IsLegal schedule start net.network
   pub named : net.names ≡ start.names
   pub counted : length net.earlier ≡ length schedule
-  pub small : length schedule ≤ 100000
+  pub small : length schedule ≤ MAX_EVENTS

@@ -1,5 +1,6 @@
--- What a replica's thread gives back.
+-- The result of a replica's thread: what it promises (`Works` of run.rt).
 use Rattle.std.specs.Prelude.{◌≡◌, ◌⊎◌, ℕ, ◌<◌, List, [], length, get_or, Option, None, Some, slice_get}
+use Rattle.jc_rules.specs.declared.limits.TheConstants.{MAX_EVENTS}
 use Rattle.jc_rules.specs.declared.operation.Event.{Event}
 use Rattle.jc_rules.specs.State.{State}
 use Rattle.jc_rules.specs.Step.{Network}
@@ -41,19 +42,19 @@ pub record ChoosesAfter (s : Scenario) (p : ℕ) (history : List Event) : Type 0
   pub legal : IsLegal history s network
   pub is_chosen : chosen network.states p (last_event_of (own_events history p)) ≡ Some event
 
--- What each end says of the history that was seen, and of the pass's own events. That the script has ended, that the
--- next event is stuck, or that memory is wanting for it, is found in a take of its own. With 100,000 events no event is
+-- What each end says of the history that was seen, and of the pass's own events. A thread finds in a take of its own
+-- that the script has ended, the next event is stuck, or memory is wanting for it. With 100,000 events no event is
 -- stuck, and no memory is asked for.
 abbrev pub EndsWith : Scenario → ℕ → ℕ → List Event → List Event → End → Type 0
 EndsWith s p limit seen mine N.Finished = IsFinishedAfter s p seen × (length mine < limit)
 EndsWith s p limit seen mine (N.StuckAt stuck) =
-    IsStuckAfter s p seen stuck × (length mine < limit) × (length seen < 100000)
+    IsStuckAfter s p seen stuck × (length mine < limit) × (length seen < MAX_EVENTS)
 EndsWith s p limit seen mine N.LimitReached =
-    (length mine ≡ limit) ⊎ ((length seen ≡ 100000) × ChoosesAfter s p seen)
+    (length mine ≡ limit) ⊎ ((length seen ≡ MAX_EVENTS) × ChoosesAfter s p seen)
 EndsWith s p limit seen mine N.NoMemory =
-    ChoosesAfter s p seen × (length mine < limit) × (length seen < 100000)
+    ChoosesAfter s p seen × (length mine < limit) × (length seen < MAX_EVENTS)
 
--- How a thread ends by an answer; it goes on where the event was made.
+-- How a thread ends after a step; it goes on where the event was made.
 abbrev pub end_of : StepAnswer → Option End
 end_of (A.Made number trace) = None
 end_of (A.Refused front stuck) = Some (N.StuckAt stuck)

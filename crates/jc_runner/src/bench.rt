@@ -1,7 +1,8 @@
-//! The bench: replicas of one network step there in turn, and each step is recorded.
+//! The bench: a network under a lock, at which replicas step in turn. Each event that was made is recorded.
 use crate::recorded::Recorded;
 use jc_lock::{HistoryLock, Kept, OpenRefused, Turn};
 use jc_network::{Net, StartFault, StepFault, Stuck};
+use jc_rules::limits::MAX_THREAD_EVENTS;
 use jc_rules::{Event, Trace};
 use jc_scenario::Scenario;
 use std::alloc::Global;
@@ -16,13 +17,10 @@ pub struct Bench {
     pub(crate) lock: HistoryLock<Recorded>,
 }
 
-/// The most steps of a pass.
-pub const MOST_LIMIT: u64 = 100_000;
-
-/// Why a bench was not opened.
+/// Why a bench wasn't opened.
 #[derive(Drop)]
 pub enum BenchFault {
-    /// 46: the limit is above `MOST_LIMIT`.
+    /// 46: the limit is above `MAX_THREAD_EVENTS`.
     LimitTooLarge,
     /// 44: of the given events the one of this number, from 1, is the first that is stuck.
     Given { at: u64, stuck: Stuck },
@@ -30,25 +28,25 @@ pub enum BenchFault {
     Memory,
 }
 
-/// 43: the passes handed in are not those of `open`, each once. Bench and passes come back as they were.
+/// 43: the passes aren't those of `open`, each once. Bench and passes come back unchanged.
 #[derive(Drop)]
 pub struct CloseRefused {
     pub bench: Bench,
     pub passes: Vec<Pass>,
 }
 
-/// What a step at the bench answers. Nothing but `Made` changes the schedule.
+/// The result of a step at the bench. Only `Made` changes the schedule.
 #[derive(Drop)]
 pub enum StepAnswer {
     /// The event is recorded, as the schedule's event of this number, from 1.
     Made { number: u64, trace: Trace },
-    /// The event is stuck after so many events.
+    /// The event is stuck after `front` events.
     Refused { front: u64, stuck: Stuck },
-    /// 38: as many events were made as can be.
+    /// 38: the schedule has `MAX_EVENTS` events, which is `front`.
     Full { front: u64 },
     /// A request for memory was refused. The event can be asked for again.
     Memory,
-    /// 42: the pass has made its takes.
+    /// 42: the pass has no take left.
     Spent,
 }
 
@@ -56,6 +54,7 @@ impl Bench {
     ghost use Rattle.std.specs.Prelude.{◌≡◌, ◌+◌, ◌<◌, ◌≤◌, ◌↔◌, length, All, map, IfOk, IfErr, IsOk, IsSome, Some};
     ghost use Rattle.std.specs.List.{range_with_len};
     ghost use mathlib.Core.List.{IsPrefix};
+    ghost use Rattle.jc_rules.specs.declared.limits.TheConstants.{MAX_THREAD_EVENTS};
     ghost use Rattle.jc_rules.specs.Step.{replica_of};
     ghost use Rattle.jc_lock.specs.Numbers.{EachOnce};
     ghost use Rattle.jc_lock.specs.Shows.{IsTurnOf, pass_number, pass_left, pass_origin, pass_seen, pass_mine, turn_number, turn_left, turn_origin, turn_seen, turn_mine, turn_value};
@@ -65,11 +64,11 @@ impl Bench {
     ghost use Rattle.jc_runner.specs.Benches.{IsPassAt, IsPassFor, IsNewAt, IsSameBench, IsOpenFault, bench_start, bench_passes};
     ghost use Rattle.jc_runner.specs.Legal.{IsLegal, own_events};
 
-    /// A bench at the scenario's start, and one pass for each replica, each of `limit` takes. The scenario's schedule is
-    /// left aside.
+    /// Opens a bench at the scenario's start, with one pass of `limit` takes for each replica. The scenario's schedule
+    /// is ignored.
     ///
-    /// Refused, in this order: 46 where the limit is above `MOST_LIMIT`, then 44 where a given event is stuck, or want of
-    /// memory.
+    /// Refused, in this order: 46 where the limit is above `MAX_THREAD_EVENTS`, then 44 where a given event is stuck,
+    /// or want of memory.
     pub fn open(
         alloc: Global,
         scenario: Scenario,
@@ -82,10 +81,10 @@ impl Bench {
             map pass_number r.1.items ≡ range_with_len 0 (length (scenario_view scenario).scripts)) }
         ensures new { IfOk result (λ r. All (IsNewAt r.0 limit) r.1.items) }
         ensures own { IfOk result (λ r. All (λ p. own_events (pass_seen p) (pass_number p) ≡ pass_mine p) r.1.items) }
-        ensures limit { IfOk result (λ r. limit ≤ 100000) }
+        ensures limit { IfOk result (λ r. limit ≤ MAX_THREAD_EVENTS) }
         ensures refused { IfErr result (λ fault. IsOpenFault fault (scenario_view scenario) limit) }
     {
-        if limit > MOST_LIMIT {
+        if limit > MAX_THREAD_EVENTS {
             return Err(BenchFault::LimitTooLarge);
         }
         let passes = scenario.scripts.len() as u16;
@@ -135,11 +134,11 @@ impl Bench {
         }
     }
 
-    /// Waits for the pass's turn, and makes the event there, which must be of the pass's replica. The pass comes back with
-    /// a take less, and has then seen the history as the answer found it or made it. That history leads from the start of
-    /// the scenario with which the pass began.
+    /// Waits for the pass's turn, and makes the event, which must be of the pass's replica. The pass comes back with
+    /// one take less, and has seen the history up to this step. The history leads from the start of the scenario that
+    /// is the pass's origin.
     ///
-    /// `Spent` exactly where the pass has made its takes: then it doesn't wait, and the pass comes back as it was.
+    /// `Spent` exactly where the pass has no take left: then the call doesn't wait, and the pass comes back unchanged.
     pub fn step<R: Wait>(&self, rt: &R, pass: Pass, event: &Event) -> (Pass, StepAnswer)
         requires { IsPassFor self.now (replica_of event.now) pass }
         ensures pass { IsPassFor self.now (replica_of event.now) result.0 }
@@ -159,7 +158,7 @@ impl Bench {
         }
     }
 
-    /// The length of the schedule, which the pass has then seen. It waits for nobody.
+    /// Returns the length of the schedule, and the pass has then seen it. The call waits for nobody.
     pub fn count(&self, pass: &mut Pass) -> u64
         requires { IsPassAt self.now pass.old }
         ensures pass { IsPassAt self.now pass.new }
@@ -173,12 +172,12 @@ impl Bench {
         self.lock.count(pass)
     }
 
-    /// Gives the network and its schedule back, which leads to it from the start of the bench's scenario. The schedule
-    /// begins with all that each pass has seen, each pass's events in it are those that were made under the pass, and it
-    /// has no others.
+    /// Returns the network and its schedule, which leads to it from the start of the bench's scenario. What each pass
+    /// has seen is a prefix of the schedule. The events of each pass in it are those that were made under the pass, and
+    /// it has no others.
     ///
-    /// 43 exactly where the numbers of the passes aren't those of `open`, each once. Then bench and passes come back as
-    /// they were.
+    /// 43 exactly where the numbers of the passes aren't those of `open`, each once. Then bench and passes come back
+    /// unchanged.
     pub fn close(self, passes: Vec<Pass>) -> Result<Recorded, CloseRefused>
         requires { All (IsPassAt self) passes.items }
         ensures when { IsOk result ↔ EachOnce (bench_passes self) (map pass_number passes.items) }
@@ -192,7 +191,7 @@ impl Bench {
     {
         match self.lock.close(passes) {
             Ok(recorded) => {
-                // Here it is known what the type keeps.
+                // Reading a field makes known what the type keeps: that the schedule leads to the network.
                 let _ = &recorded.schedule;
                 Ok(recorded)
             }

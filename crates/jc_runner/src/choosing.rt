@@ -1,4 +1,4 @@
-//! What a replica's thread chooses.
+//! The rule by which a replica chooses its next event (docs/RULES.md). Its thread calls `choose` in each turn.
 ghost use Rattle.std.specs.Prelude.{◌≡◌};
 ghost use Rattle.jc_syntax.specs.Trees.{cmd_of};
 ghost use Rattle.jc_runner.specs.Chosen.{is_ready, first_ready, apply_or_end, at_yield, is_yield, chosen_by, choice};
@@ -10,7 +10,7 @@ use jc_rules::{Event, Id, IdSet, Op};
 use jc_syntax::Cmd;
 use jc_tree::TreeStore;
 
-/// Whether the operation isn't applied, and all that it depends on is.
+/// Returns whether the operation is ready: it isn't applied, and its dependencies are.
 fn is_ready_for(ops: &IdSet, op: &Op) -> bool
     ensures { result ≡ is_ready ops.now op.now }
 {
@@ -20,6 +20,7 @@ fn is_ready_for(ops: &IdSet, op: &Op) -> bool
     op.deps.is_subset(ops)
 }
 
+/// Returns the identifier of the first operation that is ready.
 fn first_ready_of(ops: &IdSet, received: &[Op]) -> Option<Id>
     ensures { result ≡ first_ready ops.now received.now }
 {
@@ -33,6 +34,7 @@ fn first_ready_of(ops: &IdSet, received: &[Op]) -> Option<Id>
     None
 }
 
+/// Chooses to apply the first operation that is ready, or else to end the yield.
 fn apply_or_done<S: TreeStore>(replica: &Replica<S>) -> (Event, Phase)
     ensures { result
         ≡ apply_or_end replica.now.number (first_ready replica.now.now.ops replica.now.now.recv) }
@@ -44,7 +46,7 @@ fn apply_or_done<S: TreeStore>(replica: &Replica<S>) -> (Event, Phase)
     }
 }
 
-/// What the replica, which is one of so many, does at a yield.
+/// Chooses the replica's next event at a yield; `replicas` is the number of replicas.
 fn in_yield<S: TreeStore>(replica: &Replica<S>, replicas: u16, phase: Phase) -> (Event, Phase)
     ensures { result ≡ at_yield replicas replica.now.number replica.now.now phase }
 {
@@ -67,6 +69,7 @@ fn in_yield<S: TreeStore>(replica: &Replica<S>, replicas: u16, phase: Phase) -> 
     }
 }
 
+/// Returns whether the command is a yield.
 fn yields(cmd: &Cmd) -> bool
     ensures { result ≡ is_yield (cmd_of cmd.now) }
 {
@@ -76,6 +79,7 @@ fn yields(cmd: &Cmd) -> bool
     }
 }
 
+/// Chooses the replica's next event. `None` where no command is left.
 fn chosen_of<S: TreeStore>(
     replica: &Replica<S>,
     replicas: u16,
@@ -90,16 +94,16 @@ fn chosen_of<S: TreeStore>(
     }
 }
 
-/// The event that replica p makes next, and its phase after it. `None` where no command is left, or where the network
-/// has no such replica. It takes no memory.
+/// Returns the event that replica p makes next, and its phase after it. `None` where no command is left, or where the
+/// network has no such replica. It takes no memory.
 ///
 /// Where no yield comes next it is `exec`. At a yield the replica sends, then receives from each other replica in turn,
-/// then applies the operations that are ready, each time the least, and is done: where it stands in this its phase says,
-/// which is `Start` at first.
+/// then applies the operations that are ready, each time the least, and is done. The phase is how far it is in this; it
+/// is `Start` at first.
 pub fn choose(net: &Net, p: u16, phase: Phase) -> Option<(Event, Phase)>
     ensures { result ≡ choice net.now.network.states p phase }
 {
-    // Events have led to the network from a start, so that kept counters tell what is applied.
+    // For its contract: events led to the network from a start, so the stored counters decide what is applied.
     net.steps();
     let replicas = net.names().len() as u16;
     chosen_of(net.replica(p)?, replicas, phase)

@@ -7,13 +7,13 @@ pub fn choices_are_own()
     ensures { ChoicesAreOwn }
 {}
 
-/// Where a replica of the network chooses nothing it has no command left.
+/// A replica of the network that chooses nothing has no command left.
 pub fn no_choice_is_the_end()
     ensures { NoChoiceIsTheEnd }
 {}
 
-/// A scenario whose schedule is replaced by one that leads from its start, with 100,000 events at most, is well formed
-/// too: so it can be printed, and its text, within the limit for texts, can be read.
+/// A scenario whose schedule is replaced by one that leads from its start, with `MAX_EVENTS` events at most, is well
+/// formed too. So it can be printed, and its text, within the limit for texts, can be read.
 pub fn schedules_are_well_formed()
     ensures { SchedulesAreWellFormed }
 {}

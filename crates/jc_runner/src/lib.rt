@@ -1,9 +1,12 @@
-//! Threads over one network: a bench at which replicas step in turn, and a thread for each replica that chooses by
-//! itself.
+//! Threads over one network: a bench at which replicas step in turn, and runs with a thread for each replica, which
+//! chooses its events. The program's runs by threads use it.
 //!
-//! `Bench::open` gives a bench and a pass for each replica. Who has a pass steps with it; what was made is recorded, and
-//! `count` looks how much that is. `close` gives the network back beside its schedule. `run_threads` does this with one
-//! thread for each replica, which makes the events that `choose` gives.
+//! In the field's words a bench is a shared network, a gate is a hook, a pass is a handle, and a turn is a guard; to
+//! take and give a turn is to acquire and release a lock.
+//!
+//! `Bench::open` makes a bench and a pass for each replica. A thread steps with its pass, and each event is recorded;
+//! `count` returns how many there are. `close` returns the network and its schedule. `run_threads` does this with one
+//! thread for each replica, which makes the events that `choose` returns.
 //!
 //! Refusals: 42 of a step whose pass is spent, 43 of `close`, 44 where a given event is stuck, 45 `GateCount`, 46
 //! `LimitTooLarge`, 47 `NoThread`; and those of the network's events.
@@ -17,7 +20,7 @@ mod recorded;
 mod run;
 mod worker;
 
-pub use bench::{Bench, BenchFault, CloseRefused, MOST_LIMIT, Pass, StepAnswer};
+pub use bench::{Bench, BenchFault, CloseRefused, Pass, StepAnswer};
 pub use choosing::choose;
 pub use phase::Phase;
 pub use recorded::Recorded;

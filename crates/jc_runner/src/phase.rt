@@ -1,4 +1,4 @@
-//! Where a replica's thread stands in a yield.
+//! The phase of a replica's thread: how far it is in a yield. choosing.rt chooses by it.
 
 /// What a replica's thread does next at a yield.
 #[derive(Clone, Copy, Debug, PartialEq, Eq)]

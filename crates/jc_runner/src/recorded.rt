@@ -1,5 +1,6 @@
-//! A network beside the events that led to it.
+//! The value under a bench's lock: a network, the events that led to it, and the scenario from whose start they did.
 ghost use Rattle.std.specs.Prelude.{◌≡◌, ◌<◌, ◌∷◌, [], ◌++◌, ◌↔◌, length, IfOk, OnOk, OnErr, IsErrOf};
+ghost use Rattle.jc_rules.specs.declared.limits.TheConstants.{MAX_EVENTS};
 ghost use Rattle.jc_rules.specs.Step.{StepIn, replica_of};
 ghost use Rattle.jc_network.specs.declared.fault.StepFault.TheVariants as Fault;
 ghost use Rattle.jc_network.specs.declared.fault.Stuck.{Stuck as AnyStuck};
@@ -7,15 +8,13 @@ ghost use Rattle.jc_network.specs.Steps.{IsStuckFor};
 
 use jc_lock::Kept;
 use jc_network::{Net, StepFault};
+use jc_rules::limits::MAX_EVENTS;
 use jc_rules::{Event, Trace};
 use jc_scenario::Scenario;
 use std::marker::Model;
 
-/// The most events of a network.
-const MOST_EVENTS: usize = 100_000;
-
-/// A network, the events that were made from a scenario's start, and the scenario. The events lead to the network: the
-/// type keeps it. They are 100,000 at most.
+/// A network, the events that were made from a scenario's start, and the scenario. The type keeps that the events lead
+/// to the network, and that they are `MAX_EVENTS` at most.
 #[derive(Drop)]
 pub struct Recorded {
     pub net: Net,
@@ -36,7 +35,7 @@ impl Model for Recorded {
     ghost invariant = { λ r. IsRecorded r.net r.schedule.items (scenario_view r.start) };
 }
 
-/// What contracts see of the scenario with which a history began. No value of it is made.
+/// The origin of a history in contracts: the scenario from whose start it leads. No value of it is made.
 pub struct Beginning {
     scenario: Scenario,
 }
@@ -71,18 +70,18 @@ impl Kept for Recorded {
 }
 
 impl Recorded {
-    /// Makes the event and records it. After a refusal all is as it was.
+    /// Makes the event and records it. After a refusal nothing has changed.
     pub(crate) fn add(&mut self, event: &Event) -> Result<Trace, StepFault>
         ensures start { self.new.start ≡ self.old.start }
         ensures step { IfOk result (λ trace.
             StepIn self.old.net.network event.now self.new.net.network trace.rows) }
         ensures made { OnOk result (self.new.schedule ≡ self.old.schedule ++ event.now ∷ []) }
         ensures same { OnErr result (self.new ≡ self.old) }
-        ensures full { IsErrOf result Fault.Full ↔ (length self.old.schedule ≡ 100000) }
-        ensures memory { IsErrOf result Fault.Memory → length self.old.schedule < 100000 }
+        ensures full { IsErrOf result Fault.Full ↔ (length self.old.schedule ≡ MAX_EVENTS) }
+        ensures memory { IsErrOf result Fault.Memory → length self.old.schedule < MAX_EVENTS }
         ensures stuck { (s : AnyStuck) → IsErrOf result (Fault.Stuck s)
             → IsStuckFor self.old.net.network event.now s }
-        ensures room { (s : AnyStuck) → IsErrOf result (Fault.Stuck s) → length self.old.schedule < 100000 }
+        ensures room { (s : AnyStuck) → IsErrOf result (Fault.Stuck s) → length self.old.schedule < MAX_EVENTS }
     {
         let Recorded {
             net,
@@ -90,7 +89,7 @@ impl Recorded {
             start: _,
         } = self;
         // Where no more events may be made, no memory is asked for.
-        if schedule.len() >= MOST_EVENTS {
+        if schedule.len() >= MAX_EVENTS {
             return Err(StepFault::Full);
         }
         // Room for the record comes before the event, so that nothing is refused once it is made.

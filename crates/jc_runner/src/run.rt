@@ -1,5 +1,6 @@
-//! One thread for each replica.
+//! Runs by threads: one thread for each replica, joined to one report. worker.rt has the work of a thread.
 ghost use Rattle.std.specs.Prelude.{◌≡◌, ◌≤◌, map, vec_len, IfOk, IfErr, IfSome};
+ghost use Rattle.jc_rules.specs.declared.limits.TheConstants.{MAX_THREAD_EVENTS};
 ghost use Rattle.jc_scenario.specs.WellFormed.{IsWellFormedScenario};
 ghost use Rattle.jc_scenario.specs.Views.{scenario_view};
 ghost use Rattle.jc_runner.specs.WorkerResult.{HaveWorked, CanStart};
@@ -18,18 +19,18 @@ use std::sync::Wait;
 use std::thread;
 use std::thread::{Promise, PromisedHandle, Scope, SpawnError, Threads, join_promised};
 
-/// Why there is no report.
+/// Why a run has no report.
 #[derive(Drop)]
 pub enum RunFault {
     /// 45: there are not as many gates as replicas.
     GateCount,
-    /// 46: the limit is above `MOST_LIMIT`.
+    /// 46: the limit is above `MAX_THREAD_EVENTS`.
     LimitTooLarge,
     /// 44: of the given events the one of this number, from 1, is the first that is stuck.
     Given { at: u64, stuck: Stuck },
     /// A request for memory was refused.
     Memory,
-    /// 47: a thread can't be made, for whatever cause.
+    /// 47: a thread can't be made, whatever the cause.
     NoThread,
 }
 
@@ -41,7 +42,7 @@ impl From<AllocError> for RunFault {
     }
 }
 
-// A refused start tells no cause.
+// The error of a refused start has no cause in it.
 impl<F: Drop> From<SpawnError<F>> for RunFault {
     ghost from_gives = { λ _ fault. fault ≡ WantOfThread };
 
@@ -50,7 +51,7 @@ impl<F: Drop> From<SpawnError<F>> for RunFault {
     }
 }
 
-/// What a replica's thread promises.
+/// The promise of a replica's thread: what its result is.
 #[derive(Drop)]
 pub struct Works {
     bench: Snapshot<Bench>,
@@ -64,13 +65,14 @@ impl Promise<Worked> for Works {
     ghost kept_by = { λ p w. IsWorkerResult p.bench.value p.number p.limit w };
 }
 
+// Joins the threads, and drops their results.
 fn join_each<R: Threads>(rt: &R, handles: Vec<PromisedHandle<Worked, Works>>) {
     for handle in handles {
         let _worked = handle.join(rt);
     }
 }
 
-// Starts a thread for each pass, and joins them all, also those that were started before one can't be made.
+// Starts a thread for each pass, and joins them all. Where one can't be made, those started before it are joined too.
 fn start_all<'s, E, R: Threads + Wait + Sync, G: Gate + Send + Drop + 's>(
     rt: &'s R,
     alloc: Global,
@@ -113,14 +115,16 @@ fn start_all<'s, E, R: Threads + Wait + Sync, G: Gate + Send + Drop + 's>(
     }
 }
 
-/// What the threads made.
+/// The result of a run by threads.
 #[derive(Drop)]
 pub struct Report {
+    /// The network after all events.
     pub net: Net,
     /// The events in the order in which they were made.
     pub schedule: Vec<Event>,
-    /// How many events each replica made.
+    /// The number of events that each replica made.
     pub made: Vec<u64>,
+    /// How each replica's thread ended.
     pub ends: Vec<End>,
     /// The scenario that was run. With `schedule` in place of its own it is the recorded one, which can be printed.
     pub start: Scenario,
@@ -133,7 +137,7 @@ struct Parts {
     ends: Vec<End>,
 }
 
-// Takes the results of the threads apart.
+// Splits the results of the threads into lists. `None` for want of memory.
 fn parts_of(alloc: Global, all: Vec<Worked>) -> Option<Parts>
     ensures passes { IfSome result (λ parts. parts.passes.items ≡ map (λ (w : Worked). w.pass) all.items) }
     ensures made { IfSome result (λ parts. parts.made.items ≡ map (λ (w : Worked). w.made) all.items) }
@@ -180,12 +184,12 @@ fn run_on<R: Threads + Wait + Sync, G: Gate + Send + Drop>(
 }
 
 /// Runs one thread for each replica, with a gate for each. A thread makes the events that its replica chooses, at most
-/// `limit` of them, and asks its gate before each take. The scenario's schedule is left aside. The schedule that is
-/// reported leads from the scenario's start to the network that is reported.
+/// `limit` of them, and asks its gate before each take. The scenario's schedule is ignored. The reported schedule leads
+/// from the scenario's start to the reported network.
 ///
-/// Refused, in this order: 45 where the gates aren't as many as the replicas, 46 where the limit is above `MOST_LIMIT`;
-/// 44 where a given event is stuck, before any thread is made; then want of memory, or 47 where a thread can't be made,
-/// once those that were started are joined.
+/// Refused, in this order: 45 where the gates aren't as many as the replicas; 46 where the limit is above
+/// `MAX_THREAD_EVENTS`; 44 where a given event is stuck, before any thread is made; then want of memory, or 47 where a
+/// thread can't be made, once those that were started are joined.
 pub fn run_threads<R: Threads + Wait + Sync, G: Gate + Send + Drop>(
     rt: &R,
     alloc: Global,
@@ -194,7 +198,7 @@ pub fn run_threads<R: Threads + Wait + Sync, G: Gate + Send + Drop>(
     limit: u64,
 ) -> Result<Report, RunFault>
     requires { IsWellFormedScenario (scenario_view scenario) }
-    ensures accepted { IfOk result (λ r. (vec_len gates ≡ vec_len scenario.scripts) × (limit ≤ 100000)) }
+    ensures accepted { IfOk result (λ r. (vec_len gates ≡ vec_len scenario.scripts) × (limit ≤ MAX_THREAD_EVENTS)) }
     ensures report { IfOk result (λ r. IsReport (scenario_view scenario) limit r) }
     ensures fault { IfErr result (λ fault. IsReportedFault fault (scenario_view scenario) (vec_len gates) limit) }
 {

@@ -1,4 +1,4 @@
-//! The work of one replica's thread.
+//! The work of one replica's thread: it asks its gate, takes a turn, chooses an event and makes it. run.rt starts it.
 ghost use Rattle.std.specs.Prelude.{◌≡◌, ◌+◌, ◌<◌, ◌∷◌, [], List, Option, length};
 ghost use Rattle.jc_lock.specs.Shows.{pass_number, pass_left};
 ghost use Rattle.jc_runner.specs.Asked.{GateQuestion, Asks, questions_of};
@@ -11,13 +11,13 @@ use crate::phase::Phase;
 use jc_network::Stuck;
 use std::sync::Wait;
 
-/// What a replica's thread does before each take, while it holds no turn.
+/// A hook that a replica's thread calls before each take, while it holds no turn.
 ///
-/// Contracts see a gate as the questions that it was asked so far, where it tells them.
+/// Contracts see a gate as the questions that it was asked so far, if it shows them.
 pub trait Gate {
     ghost asked: { Self → Option (List GateQuestion) };
 
-    /// `step` is the number of events that the replica has made.
+    /// Asks the gate; `step` is the number of events that the replica has made.
     fn before<R: Wait>(&mut self, rt: &R, replica: u16, step: u64)
         ensures { Asks (asked self.old) (asked self.new) ((replica, step) ∷ []) };
 }
@@ -29,13 +29,13 @@ pub enum End {
     Finished,
     /// The event that it chose is stuck.
     StuckAt(Stuck),
-    /// It has made its takes, or the network has made as many steps as it can.
+    /// Its pass has no take left, or the schedule has `MAX_EVENTS` events.
     LimitReached,
     /// A request for memory was refused.
     NoMemory,
 }
 
-/// A replica's pass after the work, and how many events were made.
+/// The result of a thread: the replica's pass, the number of events that it made, and how it ended.
 #[derive(Drop)]
 pub struct Worked {
     pub(crate) pass: Pass,
@@ -43,7 +43,7 @@ pub struct Worked {
     pub(crate) end: End,
 }
 
-/// How a thread ends by an answer at the bench; `None` where the event was made.
+/// Returns how a thread ends after a step; `None` where the event was made, and it goes on.
 fn end_of(answer: StepAnswer) -> Option<End>
     ensures { result ≡ end_of answer }
 {
@@ -58,9 +58,9 @@ fn end_of(answer: StepAnswer) -> Option<End>
     }
 }
 
-/// Makes the events that the replica chooses, until it has no command left, one is stuck, the takes are made or memory
-/// is wanting. The replica chooses while it holds the turn, from the network in hand. It asks the gate once before each
-/// take, also before the last one, which makes no event.
+/// Makes the events that the replica chooses, until no command is left, one is stuck, no take is left, or memory is
+/// wanting. The replica chooses while it holds the turn, from the network as it is then. It asks the gate once before
+/// each take, also before the last one, which makes no event.
 fn work_through<R: Wait, G: Gate>(rt: &R, bench: &Bench, mut pass: Pass, gate: &mut G) -> Worked
     requires new { IsNewAt bench.now (pass_left pass) pass }
     requires there { pass_number pass < length (bench_start bench.now).scripts }
@@ -105,7 +105,7 @@ fn work_through<R: Wait, G: Gate>(rt: &R, bench: &Bench, mut pass: Pass, gate: &
     unreachable!()
 }
 
-/// The same with a gate of its own.
+/// Does the work of a thread that owns its gate.
 pub(crate) fn work<R: Wait, G: Gate + Drop>(
     rt: &R,
     bench: &Bench,

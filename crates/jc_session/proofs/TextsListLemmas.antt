@@ -26,7 +26,6 @@ numbered_more names es i d lt =
 
 -- ---- dumps
 
--- the dump lines of one replica more
 pub next_dumps : (names : List (List ℕ)) (n p : ℕ) (network : List State) (A : State) → slice_get network p ≡ Some A → dumps_from n names (take (suc p) network) ≡ dumps_from n names (take p network) ++ dump_line names (name_at names (n + p)) A
 next_dumps names n p [] A e = let no : slice_get {X = State} [] p ≡ Some A = e in cc
 next_dumps names n zero (B ∷ network) A e =

@@ -288,8 +288,8 @@ fn limits(rt: HostRuntime) -> Result<(), Fail> {
 /// A text with scripts among its tokens.
 const PROGRAM: &str = "replica p { yield; let x = doc.keys } schedule";
 
-/// How many commands stand in a text from a token on, and the number of the brace behind them; or the number and the
-/// place of the fault.
+/// The number of commands of the script that begins at a token, and the number of the brace after it; or the number
+/// and the offset of the fault.
 const SCRIPTS_AT: &[(&str, usize, (usize, usize))] = &[
     (PROGRAM, 3, (2, 11)),
     (PROGRAM, 5, (1, 11)),

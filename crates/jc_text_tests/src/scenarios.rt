@@ -1,4 +1,4 @@
-//! Scenarios read, printed and copied, and those refused that no row of `jc_rows` can hold: bytes that are no text, and
+//! Scenarios read, printed and copied; and those refused that no row of `jc_rows` can hold, as bytes that are no text and
 //! texts that are too long.
 
 use crate::testing::{Fault, Parts, fault, holds, is_fault, is_text, repeated};
@@ -57,7 +57,7 @@ fn faults_are_shown(rt: HostRuntime) -> Result<(), Fail> {
     Ok(())
 }
 
-/// What stands before an event.
+/// The text before an event.
 const HEAD: &str = "jsoncrdt 1 replica a {} schedule {";
 
 fn have_faults(rt: &impl Abort, alloc: Global, rows: &[(Parts, Fault)]) -> Result<(), AllocError> {
@@ -79,7 +79,7 @@ fn events(rt: HostRuntime) -> Result<(), Fail> {
     Ok(have_faults(&rt, rt.alloc(), EVENTS)?)
 }
 
-/// What stands before a given event.
+/// The text before a given event.
 const GIVEN: &str = "jsoncrdt 2 replica a {} given {";
 
 const GIVEN_EVENTS: &[(Parts, Fault)] = &[
@@ -87,7 +87,7 @@ const GIVEN_EVENTS: &[(Parts, Fault)] = &[
     ((GIVEN, "a.send;", 100001, "}"), Some((19, 700031))),
 ];
 
-/// Events behind as many given ones as there may be.
+/// Events after as many given ones as there may be.
 const BEHIND: &[(usize, Fault)] = &[(100000, None), (100001, Some((19, 1400043)))];
 
 /// Given events and those of the schedule are counted apart.
@@ -134,7 +134,7 @@ fn commands_and_tokens(rt: HostRuntime) -> Result<(), Fail> {
     Ok(have_faults(&rt, rt.alloc(), COMMANDS)?)
 }
 
-/// How many blanks stand behind the 23 bytes of a scenario, what stands behind them, and the fault.
+/// The number of blanks after the 23 bytes of a scenario, the bytes after them, and the fault.
 const BLANKS: &[(usize, &[u8], Fault)] = &[
     (8388585, b"", None),
     (8388586, b"", Some((6, 8388608))),
@@ -219,7 +219,7 @@ const PRINTED: &[(&str, &str)] = &[
         "jsoncrdt 1 replica a { doc.get(\"a\") := 1 } schedule { a.exec }",
         "jsoncrdt 1\nreplica a {\n  doc.get(\"a\") := 1;\n}\nschedule {\n  a.exec;\n}\n",
     ),
-    // names stand by their bytes: capitals, `_`, small letters, and the shorter one first
+    // names are sorted by their bytes: capitals, `_`, small letters, and the shorter one first
     (
         "jsoncrdt 1 replica b{} replica a1{} replica _{} replica a{} replica B{} schedule {b.recv(B)}",
         "jsoncrdt 1\nreplica B {\n}\nreplica _ {\n}\nreplica a {\n}\nreplica a1 {\n}\nreplica b {\n}\nschedule {\n  b.recv(B);\n}\n",
@@ -260,7 +260,7 @@ fn named(alloc: Global, name: &str, place: usize) -> Result<Named, AllocError> {
     Ok(Named { name, place })
 }
 
-/// What `b.recv` of this sender is among `a` and `b`, or the place of the unknown name.
+/// The event `b.recv` of this sender, resolved among `a` and `b`, or the offset of the unknown name.
 fn receiving(alloc: Global, sender: &str) -> Result<Result<Event, usize>, AllocError> {
     let first = text(alloc, "a")?;
     let names = [first, text(alloc, "b")?];
@@ -269,7 +269,7 @@ fn receiving(alloc: Global, sender: &str) -> Result<Result<Event, usize>, AllocE
     Ok(resolve(&names, &event).map_err(|unknown| unknown.place))
 }
 
-/// What `b.take` of the operation 2 of this author from `a` is, or the place of the unknown name.
+/// The event `b.take` of the operation 2 of this author from `a`, resolved, or the offset of the unknown name.
 fn taking(alloc: Global, author: &str) -> Result<Result<Event, usize>, AllocError> {
     let first = text(alloc, "a")?;
     let names = [first, text(alloc, "b")?];

@@ -3,10 +3,10 @@
 use std::alloc::{AllocError, Global};
 use std::process::Abort;
 
-/// The number and the place of a fault.
+/// The number and the offset of a fault.
 pub type Fault = Option<(u8, usize)>;
 
-/// A fault with this number and place; two zeros for want of memory.
+/// A fault with this number and offset; two zeros for want of memory.
 pub fn fault(number: Option<u8>, place: Option<usize>) -> Fault {
     Some((number.unwrap_or(0), place.unwrap_or(0)))
 }

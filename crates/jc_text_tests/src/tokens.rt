@@ -18,7 +18,7 @@ const BAD_NUMBER: u8 = 5;
 
 const TEXT_TOO_LONG: u8 = 6;
 
-/// How many tokens a text has, or the number and the place of its fault.
+/// The number of tokens of a text, or the number and the offset of its fault.
 type Outcome = Result<usize, (u8, usize)>;
 
 fn outcome(alloc: Global, text: &str) -> Outcome {
@@ -28,7 +28,7 @@ fn outcome(alloc: Global, text: &str) -> Outcome {
     }
 }
 
-/// The kinds, places and bytes of tokens.
+/// The kinds, offsets and bytes of tokens.
 type Tokens = &'static [(TokenKind, usize, usize, &'static str)];
 
 /// The tokens of a text that has one of each kind.
@@ -74,7 +74,7 @@ fn kinds_and_places(rt: HostRuntime) -> Result<(), Fail> {
     has_tokens(&rt, rt.alloc(), "doc:=-0", WITHOUT_BLANKS)
 }
 
-/// Texts, and how many tokens each has, or the number and the place of its fault.
+/// Texts, and the number of tokens of each, or the number and the offset of its fault.
 const SHORT: &[(&str, Outcome)] = &[
     ("doc := 1e999", Ok(3)),
     (".5", Ok(2)),

@@ -64,8 +64,8 @@ fn each_selector(rt: HostRuntime) -> Result<(), Fail> {
     Ok(())
 }
 
-/// The kind of an event, its replica and its sender or author with their places, and its counter; no name and 0 for what
-/// its kind lacks.
+/// The kind of an event, its replica and its sender or author with their offsets, and its counter. What its kind lacks
+/// is no name and 0.
 type Event = (
     &'static str,
     (&'static str, usize),
@@ -125,7 +125,7 @@ fn each_event_and_its_copy(rt: HostRuntime) -> Result<(), Fail> {
     Ok(())
 }
 
-/// The replica, the sender and the author of a take with their places, and its counter.
+/// The replica, the sender and the author of a take with their offsets, and its counter.
 type Take = (
     (&'static str, usize),
     (&'static str, usize),
@@ -227,7 +227,7 @@ fn are_the_replicas(replicas: &[NamedReplica]) -> bool {
     }
 }
 
-/// Whether these are `a.recv(b)` and `c.send`, with the places of their names.
+/// Whether these are `a.recv(b)` and `c.send`, with the offsets of their names.
 fn are_the_events(events: &[NamedEvent]) -> bool {
     match events {
         [first, second] => {
@@ -344,7 +344,7 @@ fn faults_of_scenarios(rt: HostRuntime) -> Result<(), Fail> {
     Ok(())
 }
 
-/// The fault of a scenario with so many given events, and so many in the schedule.
+/// The fault of a scenario with this many given events, and this many in the schedule.
 fn fault_of_counts(alloc: Global, given: usize, events: usize) -> Result<Fault, Fail> {
     let head = "jsoncrdt 2 replica a {} given {";
     let before = repeated(alloc, (head, "a.send;", given, "} schedule {"))?;

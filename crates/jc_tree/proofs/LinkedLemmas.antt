@@ -30,7 +30,7 @@ all_more P Q [] f a = tt
 all_more P Q (k ∷ ks) f a = (f k a.0, all_more P Q ks f a.1)
 
 -- the last of a key and the elements behind it
-abbrev last_of : Key → List Id → Key
+abbrev pub last_of : Key → List Id → Key
 last_of k [] = k
 last_of k (i ∷ is) = last_of (Elem i) is
 

@@ -19,6 +19,7 @@ use Rattle.jc_rules.proofs.IdsLemmas.{has_id-with}
 use Rattle.jc_vectors.specs.StateLaws.{OwnAreApplied}
 use Rattle.jc_vectors.specs.StoredStates.{HasOwn}
 use Rattle.jc_rules.proofs.BoolLemmas.{or_right}
+use Rattle.jc_vectors.proofs.StateShrinksLemmas.{further}
 
 -- where a state leads to a state, the identifiers applied are applied there too
 abbrev Grows : Judgement → Type 0
@@ -83,9 +84,6 @@ mutual
 
 pub applied_stay : (A B : State) (event : Event) (os : List Op) (t u : Rows) → Derives (Occur A event os) (ToState B) t u → AreIn A.ops B.ops
 applied_stay A B event os t u d = subst Grows d.concludes (grows d.derivation d.holds)
-
-further : (o : Op) (set : List Op) (e : Op) → Contains set e → Contains (o ∷ set) e
-further o set e c = (suc c.0, (let l = c.1 in omega arith), c.2)
 
 pub own_are_applied : OwnAreApplied
 own_are_applied = record {

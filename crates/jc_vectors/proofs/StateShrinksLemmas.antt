@@ -26,11 +26,11 @@ no_some o e = absurd (let f : ⊥ = cc in f)
 found_less : (set : List Op) (o : Op) (i : Id) (e : Op) → same_id i o.id ≡ false → op_of i (o ∷ set) ≡ Some e → op_of i set ≡ Some e
 found_less set o i e n h = rw n at h
 
-further : (o : Op) (set : List Op) (e : Op) → Contains set e → Contains (o ∷ set) e
+pub further : (o : Op) (set : List Op) (e : Op) → Contains set e → Contains (o ∷ set) e
 further o set e c = (suc c.0, (let l = c.1 in omega arith), c.2)
 
 -- an operation of a list is found there by its identifier
-some_of : (set : List Op) (e : Op) → Contains set e → op_of e.id set ≡ None → ⊥
+pub some_of : (set : List Op) (e : Op) → Contains set e → op_of e.id set ≡ None → ⊥
 some_of [] e (k, l, f) n = omega arith
 some_of (o ∷ set) e (zero, l, f) n =
     let same : op_of o.id (o ∷ set) ≡ None = subst (λ (x : Op). op_of x.id (o ∷ set) ≡ None) (sym f) n in

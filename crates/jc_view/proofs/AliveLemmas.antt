@@ -1,4 +1,4 @@
--- A map or a list in which something is present is alive.
+-- About specs/Laws: a map or a list in which something is present is alive.
 use Rattle.std.proofs.Common.{◌≡◌, List, [], ◌∷◌, ◌++◌, Bool, true, false, not, cond, ◌||◌, ◌&&◌, Option, Some, None, Contains, ◌⊎◌, refl, sym, ◌∙◌, ap, subst}
 use Rattle.jc_rules.specs.declared.id.Id.{Id}
 use Rattle.jc_rules.specs.declared.key.Key.{Key}
@@ -15,6 +15,7 @@ use Rattle.jc_rules.specs.State.{State}
 use Rattle.jc_rules.specs.Syntax.{Cmd}
 use Rattle.jc_rules.specs.Table.{op_of}
 use Rattle.jc_rules.proofs.IdsLemmas.{same_id-true}
+use Rattle.jc_rules.proofs.BoolLemmas.{first_true, second_true, both_true}
 use Rattle.jc_tree.proofs.WellFormedLemmas.{presences_rise}
 use Rattle.jc_network.specs.Applied.{applied_ops}
 use Rattle.jc_network.specs.Laws.{IsReached}
@@ -26,24 +27,22 @@ use Rattle.jc_meaning.specs.Effects.{same_tagged, is_at_or_above, is_delete, tar
 use Rattle.jc_meaning.specs.Seen.{seen, ids_at}
 use Rattle.jc_meaning.specs.Meaning.{Means, holds_of, is_present, is_cleared}
 use Rattle.jc_meaning.proofs.ComparisonLemmas.{run_well}
-use Rattle.jc_meaning.proofs.BooleansLemmas.{first_true, second_true, both_true}
 use Rattle.jc_meaning.proofs.DroppedLemmas.{kept_seen}
 use Rattle.jc_meaning.proofs.MeaningForcesLemmas.{present_above}
 use Rattle.jc_meaning.proofs.RunsLemmas.{trees_meant, kept_tree}
-use Rattle.jc_meaning.proofs.TagsLemmas.{tags_eq}
+use Rattle.jc_meaning.proofs.TagsLemmas.{tags_eq, tags_self}
 use Rattle.jc_view.specs.Visible.{GoesThrough, some_goes, is_alive, applied_op, goes_by, present}
 use Rattle.jc_view.proofs.AppliedPathsLemmas.{applied_found}
-use Rattle.jc_view.proofs.PathTestsLemmas.{tag_self}
 use Rattle.jc_view.proofs.PresentLemmas.{alive_by}
 
 -- who touches something below a tagged key goes through it
 goes_below : (at : List Tagged) (t : Tagged) (k : Key) (path : List Tagged) (q : Key) (v : Value) → is_at_or_above (at ++ t ∷ []) k path q ≡ true → passed path q (Some v) at t ≡ true
 goes_below [] t k [] q v h = cc
-goes_below [] t k (s ∷ ss) q v h = subst (λ x. same_tagged x t ≡ true) (tags_eq t s (first_true (same_tagged t s) (is_at_or_above [] k ss q) h)) (tag_self t)
+goes_below [] t k (s ∷ ss) q v h = subst (λ x. same_tagged x t ≡ true) (tags_eq t s (first_true (same_tagged t s) (is_at_or_above [] k ss q) h)) (tags_self t)
 goes_below (u ∷ us) t k [] q v h = cc
 goes_below (u ∷ us) t k (s ∷ ss) q v h =
     both_true (same_tagged s u) (passed ss q (Some v) us t)
-    (subst (λ x. same_tagged x u ≡ true) (tags_eq u s (first_true (same_tagged u s) (is_at_or_above (us ++ t ∷ []) k ss q) h)) (tag_self u))
+    (subst (λ x. same_tagged x u ≡ true) (tags_eq u s (first_true (same_tagged u s) (is_at_or_above (us ++ t ∷ []) k ss q) h)) (tags_self u))
     (goes_below us t k ss q v (second_true (same_tagged u s) (is_at_or_above (us ++ t ∷ []) k ss q) h))
 
 touches_goes : (o : Op) (at : List Tagged) (t : Tagged) (k : Key) → touches o (at ++ t ∷ []) k ≡ true → goes_through o at t ≡ true

@@ -1,11 +1,10 @@
--- Which operations go through a tagged key, by what a replica has applied.
-use Rattle.std.proofs.Common.{◌≡◌, ℕ, List, [], ◌∷◌, map, Bool, true, false, cond, Option, Some, None, Contains, ◌⊎◌, inl, inr, refl, sym, ◌∙◌, ap, subst}
+-- About specs/Visible: which operations go through a tagged key, by what a replica has applied (`goes_by`).
+use Rattle.std.proofs.Common.{◌≡◌, ℕ, List, map, Bool, true, false, cond, Option, Some, None, Contains, ◌⊎◌, inl, inr, refl, sym, ◌∙◌, ap, subst}
 use Rattle.jc_rules.specs.declared.id.Id.{Id}
 use Rattle.jc_rules.specs.declared.key.Tagged.{Tagged}
 use Rattle.jc_rules.specs.declared.operation.Op.{Op}
 use Rattle.jc_rules.specs.VersionVectors.{covered}
 use Rattle.jc_rules.specs.Ids.{has_id}
-use Rattle.jc_rules.specs.Order.{same_id}
 use Rattle.jc_rules.specs.State.{State}
 use Rattle.jc_rules.specs.Syntax.{Cmd}
 use Rattle.jc_rules.specs.Table.{op_of}
@@ -20,19 +19,8 @@ use Rattle.jc_network.proofs.RunInvariantStartLemmas.{held_made, sound, at_membe
 use Rattle.jc_meaning.specs.Effects.{goes_through}
 use Rattle.jc_meaning.specs.Meaning.{holds_of}
 use Rattle.jc_meaning.proofs.ComparisonLemmas.{held_has, run_well, stands_held}
+use Rattle.jc_meaning.proofs.StoredMeaningLemmas.{kept_of, found_kept}
 use Rattle.jc_view.specs.Visible.{made_or, applied_op, goes_by}
-
-abbrev kept_of : Option Op → Option Op
-kept_of None = None
-kept_of (Some o) = Some (stored_op o)
-
-found_kept : (i : Id) (os : List Op) → op_of i (map stored_op os) ≡ kept_of (op_of i os)
-found_kept i [] = refl
-found_kept i (o ∷ os) = go (same_id i o.id) (found_kept i os)
-  where
-    go : (b : Bool) → op_of i (map stored_op os) ≡ kept_of (op_of i os) → cond b (Some (stored_op o)) (op_of i (map stored_op os)) ≡ kept_of (cond b (Some o) (op_of i os))
-    go true h = refl
-    go false h = h
 
 module _ (N : List State) (w : IsWell N) (p : ℕ) (A : State) (there : IsReplicaAt N p A) where
   -- of what the replica made or received one operation has the identifier

@@ -1,4 +1,4 @@
--- Along the members of a map.
+-- About specs/Visible and Parts: the members of a map, written one after another; what is shown at a key; the line.
 use Rattle.std.proofs.Common.{◌≡◌, ◌≢◌, ℕ, List, [], ◌∷◌, ◌++◌, Bool, true, false, cond, Option, Some, None, is_some, filter, length, append_assoc, refl, sym, ◌∙◌, ap, subst, codes}
 use Rattle.std.specs.List.{AllByRecursion}
 use Rattle.json.specs.Json.{Json, Members, no_members, member, object}
@@ -8,6 +8,7 @@ use Rattle.json.specs.Token as T
 use Rattle.json.specs.Tree.{json_tokens, members_tokens}
 use Rattle.json.specs.Written.{Written}
 use Rattle.std.specs.declared.cmp.Ordering.TheVariants.{Greater}
+use Rattle.std.proofs.lemmas.List.{append-nil}
 use Rattle.jc_rules.specs.declared.id.Id.{Id}
 use Rattle.jc_rules.specs.declared.key.Key.{Key}
 use Rattle.jc_rules.specs.declared.key.Key.TheVariants as K
@@ -67,10 +68,6 @@ pub map_ends : (show : Key → Json) (c : Context) (last : Option Key) (a b : Wr
 map_ends show c last a b h w =
     subst (λ (p : List (Key × List Id)). Wrote a b (members_front show (present p)) (members_front show (present (presences c)))) (none_above last (presences c) h) w
 
-nil_after : (ts : List Token) → ts ++ [] ≡ ts
-nil_after [] = refl
-nil_after (t ∷ ts) = ap (λ r. t ∷ r) (nil_after ts)
-
 -- a member, if its key is a name that is present
 pub member_by : (show : Key → Json) (s : List ℕ) (c : Context) (b : Bool) → b ≡ is_some (find key_cmp (K.Name s) (present (presences c))) → IsRising key_cmp (keys_of (presences c))
     → member_of show (K.Name s) c ≡ cond b (T.key (marked s) ∷ json_tokens (show (K.Name s))) []
@@ -81,7 +78,7 @@ member_by show s c b e h = go (find key_cmp (K.Name s) (presences c)) refl
     go (Some []) f = let n : b ≡ false = e ∙ present_by (K.Name s) (presences c) (Some []) h (sym f) in rw (f, n) refl
     go (Some (i ∷ is)) f =
         let n : b ≡ true = e ∙ present_by (K.Name s) (presences c) (Some (i ∷ is)) h (sym f) in
-        rw (f, n) (ap (λ x. T.key (marked s) ∷ x) (nil_after (json_tokens (show (K.Name s)))))
+        rw (f, n) (ap (λ x. T.key (marked s) ∷ x) (append-nil (json_tokens (show (K.Name s)))))
 
 pub no_member : (show : Key → Json) (k : Key) (c : Context) → ((s : List ℕ) → k ≢ K.Name s) → member_of show k c ≡ []
 no_member show k c h = go k h (find key_cmp k (presences c))

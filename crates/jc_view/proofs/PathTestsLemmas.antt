@@ -1,4 +1,4 @@
--- What the code tells of the paths of operations.
+-- About specs/Parts: what the tests of `alive` decide of the paths of operations.
 use Rattle.std.proofs.Common.{◌≡◌, List, [], ◌∷◌, length, arith, Bool, true, false, ◌&&◌, IsTrue, ◌↔◌, Option, Some, refl, sym, ◌∙◌, ap, subst}
 use Rattle.jc_rules.specs.declared.key.Key.{Key}
 use Rattle.jc_rules.specs.declared.key.Tagged.{Tagged}
@@ -7,19 +7,13 @@ use Rattle.jc_rules.specs.declared.value.Value.{Value}
 use Rattle.jc_rules.specs.declared.value.Value.TheVariants as V
 use Rattle.jc_rules.specs.Context.{key_of_tagged}
 use Rattle.jc_rules.specs.Order.{same_key}
+use Rattle.jc_rules.proofs.BoolLemmas.{not_so}
 use Rattle.jc_meaning.specs.Effects.{same_tagged, is_made_by, passed}
-use Rattle.jc_meaning.proofs.BooleansLemmas.{not_so}
-use Rattle.jc_meaning.proofs.OrdersLemmas.{keys_self}
-use Rattle.jc_meaning.proofs.TagsLemmas.{tags_eq}
+use Rattle.jc_meaning.proofs.TagsLemmas.{tags_eq, tags_self}
 use Rattle.jc_view.specs.Parts.{has_tag_of}
 
-pub tag_self : (t : Tagged) → same_tagged t t ≡ true
-tag_self (MapT k) = keys_self k
-tag_self (ListT k) = keys_self k
-tag_self (RegT k) = keys_self k
-
 pub tag_told : (b : Bool) (t u : Tagged) → (IsTrue b ↔ (t ≡ u)) → b ≡ same_tagged t u
-tag_told true t u h = sym (subst (λ v. same_tagged t v ≡ true) (h.0 refl) (tag_self t))
+tag_told true t u h = sym (subst (λ v. same_tagged t v ≡ true) (h.0 refl) (tags_self t))
 tag_told false t u h = sym (not_so (same_tagged t u) (λ e. let z : false ≡ true = h.1 (tags_eq t u e) in cc))
 
 -- a path that goes on through the tagged key
@@ -32,7 +26,7 @@ pub passed_apart : (path : List Tagged) (k : Key) (v : Option Value) (at : List 
 passed_apart path k v at u t ts s ss e f apart = rw (e, f) (ap (λ b. b && passed ts k v ss u) (sym (not_so (same_tagged t s) (λ h. apart (tags_eq t s h)))))
 
 pub passed_on : (path : List Tagged) (k : Key) (v : Option Value) (at : List Tagged) (u t : Tagged) (ts : List Tagged) (s : Tagged) (ss : List Tagged) (r : Bool) → path ≡ t ∷ ts → at ≡ s ∷ ss → t ≡ s → r ≡ passed ts k v ss u → r ≡ passed path k v at u
-passed_on path k v at u t ts s ss r e f same h = rw (e, f) (h ∙ ap (λ b. b && passed ts k v ss u) (sym (subst (λ w. same_tagged t w ≡ true) same (tag_self t))))
+passed_on path k v at u t ts s ss r e f same h = rw (e, f) (h ∙ ap (λ b. b && passed ts k v ss u) (sym (subst (λ w. same_tagged t w ≡ true) same (tags_self t))))
 
 -- what a value makes, by its tag and its key
 pub made_by : (v : Value) (k : Key) (t : Tagged) → (has_tag_of v t && same_key k (key_of_tagged t)) ≡ is_made_by (Some v) k t

@@ -1,4 +1,4 @@
--- What views promise.
+-- The statements of the crate's laws (`laws`).
 use Rattle.std.specs.Prelude.{◌≡◌, ◌≢◌, ℕ, List, [], ◌∷◌, ◌++◌, true, Contains, codes}
 use Rattle.json.specs.Tree.{HasNumbers}
 use Rattle.jc_rules.specs.declared.id.Id.{Id}
@@ -29,7 +29,7 @@ ViewsConverge =
     → A.ops ≡ B.ops
     → visible names A ≡ visible names B
 
--- A map or a list in which something is present is alive, in each network that events lead to: what is present is shown.
+-- A map or a list in which something is present is alive, in each network that events lead to, so it is shown.
 abbrev pub PresentAreAlive : Type 0
 PresentAreAlive =
     (scripts : List (List Cmd)) (network : List State)
@@ -44,7 +44,7 @@ PresentAreAlive =
 abbrev pub ViewsHaveNumbers : Type 0
 ViewsHaveNumbers = (names : List (List ℕ)) (name : List ℕ) (A : State) → HasNumbers (view_json names name A)
 
--- No name is shown as a conflict is, and different names are shown as different ones.
+-- No name is shown as `!conflict`, and different names are shown differently.
 abbrev pub NamesStayApart : Type 0
 NamesStayApart =
     ((s : List ℕ) → marked s ≢ codes "!conflict") × ((s t : List ℕ) → marked s ≡ marked t → s ≡ t)

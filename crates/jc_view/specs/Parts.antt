@@ -1,4 +1,4 @@
--- The parts of a document that the code writes.
+-- The tokens that each private function of `document`, `values` and `alive` writes or tests, as parts of `Visible`.
 use Rattle.std.specs.Prelude.{◌≡◌, ℕ, List, [], ◌∷◌, ◌++◌, length, codes, Bool, true, false, not, cond, ◌||◌, ◌&&◌, Option, Some, None, is_some, ⊤}
 use Rattle.json.specs.Json
 use Rattle.json.specs.Json.{Json, null, Items, Members}
@@ -27,22 +27,22 @@ pub record Gains (old new : Written) (ts : List Token) : Type 0 where
   pub before : new.before ≡ old.before
   pub tokens : new.tokens ≡ old.tokens ++ ts
 
--- what stands at a key of a context at a path
+-- what is shown at a key of a context at a path
 abbrev pub parts_shown_at : List (List ℕ) → GoesThrough → List Tagged → Context → Key → Json
 parts_shown_at names goes at (context m l r p n) k =
     at_key names (is_alive goes at (present p)) (maps_in names goes at m) (lists_in names goes at l) r k
 
--- a context under a tagged key, where the path ends in that
+-- a context under a tagged key, in which the path ends
 abbrev pub node_json : List (List ℕ) → GoesThrough → List Tagged → Tagged → Context → Json
 node_json names goes at (ListT k) c = list_json names goes at c
 node_json names goes at (MapT k) c = map_json names goes at c
 node_json names goes at (RegT k) c = null
 
--- whether what stands under the tagged key is shown
+-- whether the tagged key is there and is shown
 abbrev pub shows_at : GoesThrough → List Tagged → Tagged → Context → Bool
 shows_at goes at t c = is_some (content t c) && is_alive goes at (present (presences c)) t
 
--- the one alternative, or all
+-- the form of a place: its one alternative, or all
 abbrev pub form_of : Register → Bool → Bool → AnyForm
 form_of (e ∷ []) false false = F.Value
 form_of [] true false = F.Map
@@ -61,7 +61,9 @@ member_of show k c = members_front show (present (entry_of k (find key_cmp k (pr
 abbrev pub items_front : (Key → Json) → List (Key × List Id) → List Id → List Token
 items_front show p [] = []
 items_front show p (i ∷ is) =
-    cond (is_some (find key_cmp (Elem i) p)) (json_tokens (show (Elem i)) ++ items_front show p is) (items_front show p is)
+    cond (is_some (find key_cmp (Elem i) p))
+    (json_tokens (show (Elem i)) ++ items_front show p is)
+    (items_front show p is)
 
 -- the tokens of a part under its name, if it is shown
 abbrev pub part_tokens : List ℕ → Bool → Json → List Token
@@ -103,7 +105,8 @@ first_tokens (e ∷ r) = json_tokens (value_json e.1)
 -- the tokens of the values under their name, if there are any
 abbrev pub values_tokens : List (List ℕ) → Register → List Token
 values_tokens names [] = []
-values_tokens names (e ∷ r) = T.key (codes "values") ∷ json_tokens (Rattle.json.specs.Json.array (pair_items names (e ∷ r)))
+values_tokens names (e ∷ r) =
+    T.key (codes "values") ∷ json_tokens (Rattle.json.specs.Json.array (pair_items names (e ∷ r)))
 
 abbrev pub item_of : (Key → Json) → Key → Context → List Token
 item_of show k c = cond (is_some (find key_cmp k (present (presences c)))) (json_tokens (show k)) []

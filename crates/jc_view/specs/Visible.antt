@@ -1,4 +1,5 @@
--- The document as an application sees it. The list of names has the name of each replica at its number.
+-- The document as an application sees it, and its line; the crate's contracts cite it. The list of names has the name of
+-- each replica at its number.
 use Rattle.std.specs.Prelude.{ℕ, zero, suc, List, [], ◌∷◌, ◌++◌, length, filter, codes, Bool, true, false, cond, ◌||◌, ◌==◌, Option, Some, None, is_some}
 use Rattle.json.specs.Json.{Json, null, boolean, number, string, array, object, Items, no_items, item, Members, no_members, member}
 use Rattle.json.specs.Print.{print}
@@ -29,7 +30,7 @@ use Rattle.jc_meaning.specs.Meaning.{holds_of}
 
 -- ---- values
 
--- The text of a literal stays as it is. What is no number of JSON, as no scenario has it, is a string.
+-- The text of a number stays as it is. A text that is no number of JSON, which no scenario has, is a string.
 abbrev pub number_json : Option (List ℕ) → List ℕ → Json
 number_json (Some []) s = number s
 number_json _ s = string s
@@ -64,7 +65,7 @@ with_values names (e ∷ r) = member (codes "values") (array (pair_items names (
 abbrev pub parts_json : List (List ℕ) → Register → Option Json → Option Json → Json
 parts_json names r m l = object (with_part (codes "list") l (with_part (codes "map") m (with_values names r)))
 
--- One alternative is shown as it is. More are shown all, under a name that no member of a map has.
+-- One alternative is shown as it is. Several are all shown, under a name that no member of a map has.
 abbrev pub one_of : List (List ℕ) → Register → Option Json → Option Json → Json
 one_of names (e ∷ []) None None = value_json e.1
 one_of names [] (Some m) None = m
@@ -78,8 +79,9 @@ or_no_value (Some r) = r
 abbrev pub if_alive : Bool → Option Json → Option Json
 if_alive alive part = cond alive part None
 
--- What stands at a key, by the maps, the lists and the registers: its values, and the map and the list that are alive.
-abbrev pub at_key : List (List ℕ) → (Tagged → Bool) → List (Key × Json) → List (Key × Json) → List (Key × Register) → Key → Json
+-- What is shown at a key: its values in the registers, and the map and the list, where they are alive.
+abbrev pub at_key : List (List ℕ) → (Tagged → Bool) → List (Key × Json) → List (Key × Json) → List (Key × Register) → Key
+    → Json
 at_key names alive ms ls rs k =
     one_of names (or_no_value (find key_cmp k rs))
     (if_alive (alive (MapT k)) (find key_cmp k ms))
@@ -117,18 +119,18 @@ goes_by A i at t = holds_of (λ o. goes_through o at t) (applied_op A i)
 abbrev pub present : List (Key × List Id) → List (Key × List Id)
 present p = filter (λ e. is_some_id e.1) p
 
--- a name that begins with `!` has one more in front
+-- a name that begins with `!` gets one more in front
 abbrev pub marked : List ℕ → List ℕ
 marked [] = []
 marked (b ∷ s) = cond (b == 33) (33 ∷ b ∷ s) (b ∷ s)
 
--- the names among the keys, in their order, each with what stands there
+-- the names among the keys, in their order, each with what is shown there
 abbrev pub members_at : (Key → Json) → List (Key × List Id) → Members
 members_at show [] = no_members
 members_at show ((Name s, ids) ∷ p) = member (marked s) (show (Name s)) (members_at show p)
 members_at show (e ∷ p) = members_at show p
 
--- the elements that follow, as many as the number at most
+-- the elements that follow the key, at most as many as the number
 abbrev pub followed : Option Next → (Id → List Id) → List Id
 followed (Some (N.Elem i)) more = i ∷ more i
 followed _ more = []
@@ -137,21 +139,28 @@ abbrev pub elements_after : ℕ → Key → List (Key × Next) → List Id
 elements_after zero k n = []
 elements_after (suc most) k n = followed (find key_cmp k n) (λ i. elements_after most (Elem i) n)
 
--- the elements that are present, each with what stands there
+-- the elements that are present, each with what is shown there
 abbrev pub visible_items_at : (Key → Json) → List (Key × List Id) → List Id → Items
 visible_items_at show p [] = no_items
 visible_items_at show p (i ∷ is) =
-    cond (is_some (find key_cmp (Elem i) p)) (item (show (Elem i)) (visible_items_at show p is)) (visible_items_at show p is)
+    cond (is_some (find key_cmp (Elem i) p))
+    (item (show (Elem i)) (visible_items_at show p is))
+    (visible_items_at show p is)
 
 -- the map, or the list, that a context at a path is
 abbrev mutual
   pub map_json : List (List ℕ) → GoesThrough → List Tagged → Context → Json
   map_json names goes at (context m l r p n) =
-      object (members_at (at_key names (is_alive goes at (present p)) (maps_in names goes at m) (lists_in names goes at l) r) (present p))
+      object (members_at
+      (at_key names (is_alive goes at (present p)) (maps_in names goes at m) (lists_in names goes at l) r)
+      (present p))
 
   pub list_json : List (List ℕ) → GoesThrough → List Tagged → Context → Json
   list_json names goes at (context m l r p n) =
-      array (visible_items_at (at_key names (is_alive goes at (present p)) (maps_in names goes at m) (lists_in names goes at l) r) (present p) (elements_after (length n) Head n))
+      array (visible_items_at
+      (at_key names (is_alive goes at (present p)) (maps_in names goes at m) (lists_in names goes at l) r)
+      (present p)
+      (elements_after (length n) Head n))
 
   pub maps_in : List (List ℕ) → GoesThrough → List Tagged → Children → List (Key × Json)
   maps_in names goes at no_child = []

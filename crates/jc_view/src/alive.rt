@@ -1,4 +1,4 @@
-//! Which maps and lists are alive.
+//! Decides which maps and lists are alive, so shown, by the operations that a replica has applied; `document` asks it.
 
 ghost use Rattle.std.specs.Prelude.{◌≡◌, option_copied};
 ghost use Rattle.jc_rules.specs.Table.{op_of};

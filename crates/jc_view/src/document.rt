@@ -1,4 +1,4 @@
-//! The document of a store.
+//! Writes the document of a replica as JSON, and the line that holds it. `view_replica` calls `view_line`.
 
 ghost use Rattle.std.specs.Prelude.{◌≡◌, ◌≢◌, ◌∷◌, [], true, is_some, Some, None, IfOk, OnOk, codes};
 ghost use Rattle.json.specs.Json.{member, no_members, object};
@@ -25,7 +25,7 @@ use jc_tree::TreeStore;
 use json::Writer;
 use std::alloc::{AllocError, Global};
 
-/// How a place is shown: by its one alternative, or by all.
+/// How a place is shown: as its one alternative, or as a conflict of all its alternatives.
 #[derive(Clone, Copy)]
 enum Form {
     Value,
@@ -56,7 +56,7 @@ fn values_at<'a, S: TreeStore>(store: &'a S, at: &[Tagged], key: &Key) -> &'a [(
     }
 }
 
-/// Whether a map or a list is shown: one stands under the tagged key, and is alive.
+/// Whether the map or list under the tagged key is shown: it exists and is alive.
 fn is_shown<S: TreeStore>(replica: &Replica<S>, store: &S, at: &[Tagged], tagged: &Tagged) -> bool
     requires { HasPlace at.now (S.tree store.now) }
     ensures { result ≡
@@ -71,7 +71,7 @@ fn is_shown<S: TreeStore>(replica: &Replica<S>, store: &S, at: &[Tagged], tagged
     }
 }
 
-/// Which of the map and the list at a key are shown.
+/// Whether the map at a key is shown, and whether the list is.
 fn parts_at<S: TreeStore>(
     replica: &Replica<S>,
     store: &S,
@@ -101,7 +101,7 @@ fn choose_form(values: &[(Id, Value)], map: bool, list: bool) -> Form
     }
 }
 
-/// Writes a name as a key, marked where it begins as the name of several alternatives does.
+/// Writes a name as a key. A name that begins with `!` gets one more, so none looks like `!conflict`.
 fn write_name(alloc: Global, name: &str, out: &mut Writer) -> Result<(), AllocError>
     ensures { OnOk result (Gains out.old out.new (T.key (marked name.now) ∷ [])) }
 {
@@ -157,7 +157,7 @@ fn write_values(
     write_pairs(alloc, names, values, out)
 }
 
-/// Writes the map or the list under a tagged key. The place is given back as it was, unless memory ran out.
+/// Writes the map or the list under a tagged key. At the end `at` is as it was, unless memory ran out.
 #[cycle(walk)]
 fn write_child<S: TreeStore>(
     alloc: Global,
@@ -189,7 +189,7 @@ fn write_child<S: TreeStore>(
     Ok(())
 }
 
-/// Writes the map or the list under a tagged key with a name, if it is shown.
+/// Writes the map or the list under a tagged key as the member `name`, if it is shown.
 #[cycle(walk)]
 fn write_part<S: TreeStore>(
     alloc: Global,
@@ -218,7 +218,7 @@ fn write_part<S: TreeStore>(
     Ok(())
 }
 
-/// Writes all that stands at a key: the list and the map, where they are shown, and the values.
+/// Writes a conflict: all alternatives at a key, which are the list and the map, where they are shown, and the values.
 #[cycle(walk)]
 fn write_every<S: TreeStore>(
     alloc: Global,
@@ -274,7 +274,7 @@ fn write_every<S: TreeStore>(
     out.end_object()
 }
 
-/// Writes what stands at a key of a place.
+/// Writes what is shown at a key of the context at a path.
 #[cycle(walk)]
 fn write_place<S: TreeStore>(
     alloc: Global,
@@ -332,7 +332,8 @@ fn write_member<S: TreeStore>(
     requires there { HasPlace at.old.items (S.tree store.now) }
     requires chained { IsChained (S.tree store.now).now }
     ensures written { OnOk result (Gains out.old out.new
-        (member_of (parts_shown_at names.now (goes_by replica.now.now) at.old.items (here at.old.items (S.tree store.now))) key.now
+        (member_of (parts_shown_at names.now (goes_by replica.now.now) at.old.items
+        (here at.old.items (S.tree store.now))) key.now
         (here at.old.items (S.tree store.now)))) }
     ensures place { OnOk result (at.new.items ≡ at.old.items) }
 {
@@ -359,7 +360,8 @@ fn write_item<S: TreeStore>(
     requires there { HasPlace at.old.items (S.tree store.now) }
     requires chained { IsChained (S.tree store.now).now }
     ensures written { OnOk result (Gains out.old out.new
-        (item_of (parts_shown_at names.now (goes_by replica.now.now) at.old.items (here at.old.items (S.tree store.now))) key.now
+        (item_of (parts_shown_at names.now (goes_by replica.now.now) at.old.items
+        (here at.old.items (S.tree store.now))) key.now
         (here at.old.items (S.tree store.now)))) }
     ensures place { OnOk result (at.new.items ≡ at.old.items) }
 {
@@ -369,7 +371,7 @@ fn write_item<S: TreeStore>(
     Ok(())
 }
 
-/// Writes the context at a place as a map.
+/// Writes the context at a path as a map.
 #[cycle(walk)]
 fn write_map<S: TreeStore>(
     alloc: Global,
@@ -395,7 +397,7 @@ fn write_map<S: TreeStore>(
     out.end_object()
 }
 
-/// Writes the context at a place as a list.
+/// Writes the context at a path as a list.
 #[cycle(walk)]
 fn write_list<S: TreeStore>(
     alloc: Global,
@@ -442,7 +444,8 @@ fn write_document<S: TreeStore>(
     Ok(())
 }
 
-/// The line of a replica with this name, with its line feed: its document as an application sees it.
+/// The line of a replica with this name, with its line feed: its document as an application sees it. `names` has the
+/// name of each replica at its number. Nothing but memory is refused.
 pub fn view_line<S: TreeStore>(
     alloc: Global,
     names: &[Text],

@@ -22,7 +22,7 @@ pub fn views_have_numbers()
     ensures { ViewsHaveNumbers }
 {}
 
-/// No name of a map is shown as a conflict is, and different names are shown as different ones.
+/// No name of a map is shown as `!conflict`, and different names are shown differently.
 pub fn names_stay_apart()
     ensures { NamesStayApart }
 {}

@@ -1,4 +1,4 @@
-//! The line of a network's replica.
+//! Finds a replica of a network by its number and returns its document line, for the command `view`.
 
 ghost use Rattle.std.specs.Prelude.{◌≡◌, ◌≤◌, ◌↔◌, Some, length, slice_get, IfOk, IsErrOf};
 ghost use Rattle.jc_rules.specs.ReplicaNames.{name_at};
@@ -11,15 +11,15 @@ use jc_network::{CompareFault, Net};
 use jc_rules::name_at;
 use std::alloc::Global;
 
-/// The document line, with its line feed, of the network's replica `p`. It is refused with
-/// `NoSuchReplica` where there is none.
+/// The document line, with its line feed, of the network's replica `p`. It is refused with `NoSuchReplica` exactly
+/// where there is none, and else for want of memory alone.
 pub fn view_replica(alloc: Global, net: &Net, p: u16) -> Result<Vec<u8>, CompareFault>
     ensures view { IfOk result (λ line.
         (A : State) → slice_get net.now.network.states p ≡ Some A
         → line.items ≡ view_line net.now.names (name_at net.now.names p) A) }
     ensures missing { IsErrOf result E.NoSuchReplica ↔ length net.now.network.states ≤ p }
 {
-    // Events have led to the network from a start, so that lists are chained.
+    // For its contract: events have led to the network from a start, so lists are chained.
     let _steps = net.steps();
     let Some(replica) = net.replica(p) else {
         return Err(CompareFault::NoSuchReplica);

@@ -1,4 +1,4 @@
-// A plain counter under a lock. It keeps no list, so that its changes are seen by these tests alone.
+//! A plain counter under a lock: limits, turns and closing. It has no list, so that only these tests see its changes.
 ghost use Rattle.std.specs.Prelude.{All};
 ghost use Rattle.jc_lock.specs.Shows.{IsPassOf, IsSameLock};
 
@@ -46,7 +46,7 @@ fn opened(
         .expect(rt, "a lock")
 }
 
-// With the passes as `open` gave them a lock closes. It is proved that it does.
+// Opens a lock and closes it with the passes of `open`. It is proved that it closes.
 fn opened_and_closed(alloc: Global, passes: u16) -> Option<Counter> {
     let Ok((lock, passes)) = HistoryLock::open(alloc, Counter { count: 0 }, passes, 1) else {
         return None;
@@ -57,7 +57,7 @@ fn opened_and_closed(alloc: Global, passes: u16) -> Option<Counter> {
     }
 }
 
-// Takes turns until the pass is spent, and adds 1 in each. Answers how often, with the pass.
+// Takes turns until the pass is spent, and adds 1 in each. Returns how often, and the pass.
 fn add_all<R: Wait>(
     rt: &R,
     lock: &HistoryLock<Counter>,
@@ -79,7 +79,7 @@ fn add_all<R: Wait>(
     (1000, pass)
 }
 
-// Expects that a lock is refused, and gives the cause. The value comes back.
+// Expects that a lock is refused and the value comes back. Returns the cause.
 fn open_refused(rt: &impl Abort, alloc: Global, count: u64, passes: u16, takes: u64) -> OpenFault {
     let Err(OpenRefused { value, why }) = HistoryLock::open(alloc, Counter { count }, passes, takes)
     else {
@@ -127,7 +127,7 @@ fn fourth_take_of_three_is_spent(rt: HostRuntime) {
     is_spent(&rt, &lock, pass, 0);
 }
 
-// Expects that the lock closes with these passes, and what was counted.
+// Expects that the lock closes with these passes, and that its count is as given.
 fn closes(rt: &impl Abort, lock: HistoryLock<Counter>, passes: Vec<Pass<Counter>>, count: u64)
     requires { All (IsPassOf lock) passes.items }
 {
@@ -151,10 +151,10 @@ fn two_threads_take_in_turn(rt: HostRuntime) {
     closes(&rt, lock, passes, 200);
 }
 
-/// How often a thread looks whether the others have come.
+/// How often a thread looks at most whether the others have come.
 const LOOKS: u64 = 1_000_000_000;
 
-// Waits until so many threads have come, so that all of them want turns at once.
+// Waits until all threads have come, so that they want turns at once.
 fn meets(rt: &impl Abort, come: &AtomicU64, all: u64) {
     come.fetch_add(1, Ordering::SeqCst);
     for _ in 0..LOOKS {
@@ -178,7 +178,7 @@ fn meet_and_add<R: Wait + Abort>(
     add_all(rt, lock, pass)
 }
 
-// Two of four threads.
+// Runs two of the four threads.
 fn add_both<R: Threads + Wait + Abort + Sync>(
     rt: &R,
     lock: &HistoryLock<Counter>,
@@ -198,8 +198,7 @@ fn add_both<R: Threads + Wait + Abort + Sync>(
     (a.1, b.1)
 }
 
-// A turn that is passed on without waking those who wait for it leaves them asleep, and no contract can say it: then
-// this test doesn't end.
+// No contract can say that a turn passed on wakes those who wait for it. Without the wake this test doesn't end.
 #[test]
 fn four_threads_take_a_thousand_turns_each(rt: HostRuntime) {
     let (lock, mut passes) = opened(&rt, rt.alloc(), 4, 1000);

@@ -1,5 +1,5 @@
-// A diary under a lock. What is proved here follows from the public contracts alone: the lines of each writer stand in
-// the diary in their order, each once, whatever the threads do.
+//! A diary under a lock. From the public contracts alone it is proved that the diary has the lines of each writer in
+//! their order, each once, whatever the threads do.
 ghost use Rattle.std.specs.Prelude.{◌≡◌, ℕ, List, ◌++◌, ◌∷◌, [], ◌<◌, All, MatchBool, IfSome, map, take, length};
 ghost use Rattle.jc_lock_tests.specs.declared.tests.diary.Line.{Line};
 ghost use Rattle.jc_lock.specs.Knowledge.{own};
@@ -40,7 +40,7 @@ impl Kept for Diary {
     }
 }
 
-// Writes a line, and answers whether it stands there: it doesn't where the pass is spent or memory is wanting.
+// Writes a line, and returns whether it was written: it isn't where the pass is spent or memory is wanting.
 fn write<R: Wait>(
     rt: &R,
     lock: &HistoryLock<Diary>,
@@ -66,7 +66,7 @@ fn write<R: Wait>(
     (lock.give(turn), written)
 }
 
-// Writes the texts in their order, until one can't be written, and answers how many were.
+// Writes the texts in their order, until one can't be written. Returns how many were.
 fn write_all<R: Wait>(
     rt: &R,
     lock: &HistoryLock<Diary>,
@@ -129,7 +129,7 @@ fn close_of_two(
     lock.close(passes).ok()
 }
 
-// Two threads write into one diary. Answers how many texts of each stand in it, or `None` where memory is wanting.
+// Two threads write into one diary. Returns how many texts of each are in it, or `None` where memory is wanting.
 fn write_both<R: Threads + Wait + Sync>(
     rt: &R,
     alloc: Global,
@@ -180,7 +180,7 @@ fn two_threads_write(rt: HostRuntime) {
     holds(&rt, diary.lines.len() == 7);
 }
 
-// Expects how many lines a pass counts. Its number stays.
+// Expects that a pass counts so many lines, and keeps its number.
 fn counts(rt: &impl Abort, lock: &HistoryLock<Diary>, pass: &mut Pass<Diary>, lines: u64)
     requires { IsPassOf lock.now pass.old }
     ensures { IsPassOf lock.now pass.new }
@@ -189,7 +189,7 @@ fn counts(rt: &impl Abort, lock: &HistoryLock<Diary>, pass: &mut Pass<Diary>, li
     holds(rt, lock.count(pass) == lines && pass.number() == number);
 }
 
-// Also while another pass has the turn.
+// A pass counts also while another one has the turn.
 #[test]
 fn counts_what_stands(rt: HostRuntime) {
     let (lock, one, mut two) = open_for_two(rt.alloc(), 9).expect(&rt, "memory");

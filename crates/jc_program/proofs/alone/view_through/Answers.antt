@@ -1,12 +1,13 @@
 use Rattle.std.proofs.Common.{◌∙◌, inr, Result, Err, refl, ap, take, false}
+use Rattle.std.proofs.lemmas.Result.{IfOk-weaker}
 use Rattle.jc_scenario.specs.Views.{scenario_view}
 use Rattle.jc_session.specs.Written.{sink, Written}
+use Rattle.jc_session.proofs.SentLemmas.{handed}
 use Rattle.jc_view.specs.Visible.{views_text}
 use Rattle.jc_network.specs.declared.fault.StartFault.{StartFault}
 use Rattle.jc_network.specs.declared.net.Net.{Net}
 use Rattle.jc_cli.specs.declared.order.View.TheVariants.{Document}
 use Rattle.jc_program.specs.ViewText.{Shows}
-use Rattle.jc_program.proofs.ReadsScenarioLemmas.{handed, if_ok}
 use Rattle.jc_program.proofs.ViewOutputLemmas.{unstarted, events_stand}
 use Rattle.jc_program.proofs.ViewTextLemmas.{replicas_stand, all_stand}
 use Rattle.jc_program.proofs.ViewsLemmas.{ended, stopped, no_part, viewing, telling}
@@ -70,8 +71,9 @@ send_given-requires-clause-stuck g c = c.in-Err-Given.ensures.given c.in-Err-Giv
 
 pub returns-in-Err-Given-clause-ok : goal.returns-in-Err-Given-clause-ok
 returns-in-Err-Given-clause-ok g c =
-    if_ok {Q = λ status. Written (λ text. Shows (Document c.args.events) (scenario_view c.args.scenario.now) text status) (sink g.K.Sink c.args.out.now) (sink g.K.Sink c.send_given.new.out)}
-    c.send_given.result (λ status h. (h.0, inr h.1, h.2)) c.send_given.ensures.ok
+    IfOk-weaker c.send_given.result _
+    (λ status. Written (λ text. Shows (Document c.args.events) (scenario_view c.args.scenario.now) text status) (sink g.K.Sink c.args.out.now) (sink g.K.Sink c.send_given.new.out))
+    (λ status h. (h.0, inr h.1, h.2)) c.send_given.ensures.ok
 
 pub returns-in-Err-Given-clause-memory : goal.returns-in-Err-Given-clause-memory
 returns-in-Err-Given-clause-memory g c = λ k. unstarted false (scenario_view c.args.scenario.now) (take c.args.events (scenario_view c.args.scenario.now).schedule) (views_text (scenario_view c.args.scenario.now).names) (sink g.K.Sink c.args.out.now) (sink g.K.Sink c.send_given.new.out) (ap (sink g.K.Sink) (c.send_given.ensures.memory k))

@@ -1,5 +1,5 @@
 use Rattle.std.proofs.Common.{arith, ◌∷◌, [], ◌∙◌, length, length-append, lt_of_not-le, ap, ◌≤◌}
-use Rattle.jc_runner.proofs.LegalGrowsLemmas.{after_one_more}
+use Rattle.jc_network.proofs.AfterLemmas.{after_one_more}
 use Rattle.jc_runner.proofs.recorded.Recorded.add.Goals as goal
 
 pub invariant_of-self-2 : goal.invariant_of-self-2
