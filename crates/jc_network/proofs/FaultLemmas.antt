@@ -8,7 +8,7 @@ use Rattle.jc_rules.specs.Refusals.{refusal_number}
 use Rattle.jc_rules.specs.Refused.{Cause, because, no_node, refusal_of}
 use Rattle.jc_replica.specs.declared.fault.ReplicaFault.{ReplicaFault}
 use Rattle.jc_replica.specs.declared.fault.ReplicaFault.TheVariants as F
-use Rattle.jc_replica.specs.Answers.{fault_cause_of, fault_refusal}
+use Rattle.jc_replica.specs.Answers.{fault_cause_of, fault_refusal_of}
 use Rattle.jc_network.specs.declared.fault.StepFault.{StepFault}
 use Rattle.jc_network.specs.declared.fault.StepFault.TheVariants as E
 use Rattle.jc_network.specs.Steps.{fault_for}
@@ -34,7 +34,7 @@ keyed F.DepsMissing k e = absurd cc
 keyed F.Memory k e = absurd cc
 
 -- a fault without a tagged key
-pub without_key : (fault : ReplicaFault) (refusal : Refusal) (event : Event) → Some refusal ≡ fault_refusal fault → ((k : Tagged) → fault ≡ F.NoSuchNode k → ⊥) → E.Stuck (record { number = refusal_number refusal; refusal = refusal; key = None; event = event }) ≡ fault_for (fault_cause_of fault) event
+pub without_key : (fault : ReplicaFault) (refusal : Refusal) (event : Event) → Some refusal ≡ fault_refusal_of fault → ((k : Tagged) → fault ≡ F.NoSuchNode k → ⊥) → E.Stuck (record { number = refusal_number refusal; refusal = refusal; key = None; event = event }) ≡ fault_for (fault_cause_of fault) event
 without_key fault refusal event is none = go (fault_cause_of fault) refl is
   where
     go : (o : Option Cause) → fault_cause_of fault ≡ o → Some refusal ≡ option_map refusal_of o → E.Stuck (record { number = refusal_number refusal; refusal = refusal; key = None; event = event }) ≡ fault_for o event

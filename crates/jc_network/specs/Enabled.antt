@@ -136,4 +136,4 @@ pub record TellsEnabled (pasts : List Past) (can : Bool) (event : Event) : Type 
 abbrev pub AreEnabledAsKnown : Version → List Past → List Event → Type 0
 AreEnabledAsKnown version pasts listed =
     AreChosen (TellsEnabled pasts true) (TellsEnabled pasts false)
-        (candidates (of_version version (kept_of pasts))) listed
+    (candidates (of_version version (kept_of pasts))) listed

@@ -47,8 +47,8 @@ fault_cause_of E.DepsMissing = Some (because F.DepsMissing)
 fault_cause_of E.Memory = None
 
 -- the refusal of the fault's cause
-abbrev pub fault_refusal : ReplicaFault → Option Refusal
-fault_refusal fault = option_map refusal_of (fault_cause_of fault)
+abbrev pub fault_refusal_of : ReplicaFault → Option Refusal
+fault_refusal_of fault = option_map refusal_of (fault_cause_of fault)
 
 -- the same of an operation that isn't applied
 abbrev pub apply_cause : ApplyFault → Option Cause

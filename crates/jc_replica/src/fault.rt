@@ -3,7 +3,7 @@
 ghost use Rattle.std.specs.Prelude.{◌≡◌, IfOk};
 ghost use Rattle.jc_cursor.specs.Evaluates.{eval_cause_of as eval_cause};
 ghost use Rattle.jc_replica.specs.declared.fault.ReplicaFault.TheVariants.{Memory as NoMemory};
-ghost use Rattle.jc_replica.specs.Answers.{fault_cause_of, fault_refusal, apply_cause};
+ghost use Rattle.jc_replica.specs.Answers.{fault_cause_of, fault_refusal_of, apply_cause};
 
 use jc_apply::ApplyFault;
 use jc_cursor::EvalFault;
@@ -52,7 +52,7 @@ pub enum ReplicaFault {
 impl ReplicaFault {
     /// The refusal; none where there was no memory.
     pub fn refusal(&self) -> Option<Refusal>
-        ensures { result ≡ fault_refusal self.now }
+        ensures { result ≡ fault_refusal_of self.now }
     {
         match self {
             ReplicaFault::NotInList => Some(Refusal::NotInList),
