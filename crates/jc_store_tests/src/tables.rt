@@ -6,7 +6,6 @@ use crate::steps::{Kind, Step};
 use crate::turns::{Steps, Turn, in_new_stores};
 use crate::twins::Twins;
 use jc_rules::Next;
-use jc_tree::laws;
 use std::alloc::AllocError;
 use std::process::Abort;
 
@@ -312,11 +311,4 @@ pub fn change_and_undo(
 pub fn many_changes(rt: &impl Abort, keys: &Keys) -> Result<(), AllocError> {
     in_new_stores(rt, keys, &Turn::Changes(HERE))?;
     in_new_stores(rt, keys, &Turn::Changes(THREE_DOWN))
-}
-
-// Laws are contracts, and hold where they can be called.
-#[test]
-fn laws_stand() {
-    laws::undo_gives_back();
-    laws::changes_keep_lists_chained();
 }
