@@ -21,7 +21,7 @@ use Rattle.jc_rules.specs.declared.value.Value.TheVariants as V
 use Rattle.jc_rules.specs.Order.{key_cmp, id_cmp}
 use Rattle.jc_rules.specs.Entries.{find}
 use Rattle.jc_rules.specs.Ids.{has_id, AreIn}
-use Rattle.jc_rules.specs.Context.{Context, context, Content, Node, Values, Register, IsPrimitive, values_of, lists, content, new_content, next, registers, empty, empty_list, key_of_tagged}
+use Rattle.jc_rules.specs.Context.{Context, context, Content, Node, Values, Register, IsPrimitive, values_of, content, new_content, next, registers, empty, empty_list, key_of_tagged}
 use Rattle.jc_rules.specs.WellFormed.{LeadsThrough, IsChained, IsChainedList}
 use Rattle.jc_rules.specs.Sound.{IsInsert}
 use Rattle.jc_rules.specs.State.{State}

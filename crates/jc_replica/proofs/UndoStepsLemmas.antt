@@ -9,7 +9,6 @@ use Rattle.jc_replica.specs.declared.record.Record.{Record}
 use Rattle.jc_replica.specs.ReadyToStep.{IsReadyToStep, AreReady}
 use Rattle.jc_replica.specs.Undo.{Held, state_of, undone_once, steps_undone, states, content_at}
 use Rattle.jc_replica.specs.Invariant.{AreMarks, CanBack, AreBacks, IsInBounds, IsKeptReplica}
-use Rattle.jc_tree.proofs.HistoryLemmas.{still}
 
 -- what a further step takes back was held before it
 undone-pushed : (rs : List Record) (r : Record) (h h2 : Held) → undone_once r.change h2 ≡ h → steps_undone (rs ++ r ∷ []) h2 ≡ steps_undone rs h

@@ -9,26 +9,26 @@ use Rattle.jc_network.proofs.net.Net.step.Goals as goal
 
 -- ---- the number of steps
 
-pub returns-then-steps-geMAX_EVENTS-clause-full : goal.returns-then-steps-geMAX_EVENTS-clause-full
-returns-then-steps-geMAX_EVENTS-clause-full c =
+pub returns-then-steps-ge-MAX_EVENTS-clause-full : goal.returns-then-steps-ge-MAX_EVENTS-clause-full
+returns-then-steps-ge-MAX_EVENTS-clause-full c =
     let many = as_many c.self.inside.version c.self.inside.whose.items c.self.inside.replicas.items in
     let seen = ap (λ (v : Course). length v.earlier) c.self.view_is in
     let n = c.self.inside.whose.ok.0 in
-    (λ _. omega (arith, many, seen, n, c.len-steps.ensures, c.if-steps-geMAX_EVENTS.true), λ _. refl)
+    (λ _. omega (arith, many, seen, n, c.len-steps.ensures, c.if-steps-ge-MAX_EVENTS.true), λ _. refl)
 
 pub returns-then-is_err-clause-full : goal.returns-then-is_err-clause-full
 returns-then-is_err-clause-full c =
     let many = as_many c.self.inside.version c.self.inside.whose.items c.self.inside.replicas.items in
     let seen = ap (λ (v : Course). length v.earlier) c.self.view_is in
     let n = c.self.inside.whose.ok.0 in
-    (λ e. cc, λ l. absurd (omega (arith, many, seen, n, c.len-steps.ensures, c.if-steps-geMAX_EVENTS.false, l)))
+    (λ e. cc, λ l. absurd (omega (arith, many, seen, n, c.len-steps.ensures, c.if-steps-ge-MAX_EVENTS.false, l)))
 
 pub returns-in_err-trace-clause-full : goal.returns-in_err-trace-clause-full
 returns-in_err-trace-clause-full c =
     let many = as_many c.self.inside.version c.self.inside.whose.items c.self.inside.replicas.items in
     let seen = ap (λ (v : Course). length v.earlier) c.self.view_is in
     let n = c.self.inside.whose.ok.0 in
-    let short : 100000 ≤ length c.args.self.now.earlier → ⊥ = λ l. omega (arith, many, seen, n, c.len-steps.ensures, c.if-steps-geMAX_EVENTS.false, l) in
+    let short : 100000 ≤ length c.args.self.now.earlier → ⊥ = λ l. omega (arith, many, seen, n, c.len-steps.ensures, c.if-steps-ge-MAX_EVENTS.false, l) in
     (λ e. absurd (never_full c.self.inside.version c.args.event.now _ _ c.in_err-trace.field-0.0 c.in_err-trace.ensures (let q = at_err _ c.from_residual.result E.Full c.from_residual.ensures.1 e in let s : c.in_err-trace.field-0.0 ≡ E.Full = cc in s)), λ l. absurd (short l))
 
 pub returns-clause-full : goal.returns-clause-full
@@ -36,7 +36,7 @@ returns-clause-full c =
     let many = as_many c.self.inside.version c.self.inside.whose.items c.self.inside.replicas.items in
     let seen = ap (λ (v : Course). length v.earlier) c.self.view_is in
     let n = c.self.inside.whose.ok.0 in
-    (λ e. cc, λ l. absurd (omega (arith, many, seen, n, c.len-steps.ensures, c.if-steps-geMAX_EVENTS.false, l)))
+    (λ e. cc, λ l. absurd (omega (arith, many, seen, n, c.len-steps.ensures, c.if-steps-ge-MAX_EVENTS.false, l)))
 
 -- ---- the event
 
