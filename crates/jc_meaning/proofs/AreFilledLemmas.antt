@@ -1,4 +1,4 @@
--- About specs/Meaning: writes into a tree leave no presence set empty (`AreFilled`).
+-- About Meaning: writes into a tree leave no presence set empty (`AreFilled`).
 use Rattle.std.proofs.Common.{◌≡◌, ◌≢◌, List, [], ◌∷◌, Option, Some, None, refl, subst}
 use Rattle.std.specs.List.{AllByRecursion}
 use Rattle.std.specs.Ordering.{match_ordering}

@@ -1,4 +1,4 @@
--- About specs/Growth and Listing: a chain gets one more element at its end, lists are linked one after another, and so
+-- About Growth and Listing: a chain gets one more element at its end, lists are linked one after another, and so
 -- are all lists (`LinksIds`, `AreLinked`).
 use Rattle.std.proofs.Common.{◌≡◌, ◌≢◌, ℕ, suc, ◌+◌, ◌<◌, List, [], ◌∷◌, ◌++◌, length, take, drop, get_or, Bool, true, false, ◌||◌, ◌&&◌, cond, Option, Some, None, inl, inr, refl, sym, ◌∙◌, ap, subst}
 use Rattle.std.specs.List.{AllByRecursion}

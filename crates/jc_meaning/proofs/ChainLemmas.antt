@@ -1,4 +1,4 @@
--- About specs/Forest: an element comes into a chain (`follow`). The rules of inserts use it.
+-- About Forest: an element comes into a chain (`follow`). The rules of inserts use it.
 use Rattle.std.proofs.Common.{◌≡◌, List, [], ◌∷◌, ◌++◌, Bool, true, false, ◌||◌, cond, refl, sym, ap}
 use Rattle.jc_rules.specs.declared.id.Id.{Id}
 use Rattle.jc_rules.specs.declared.key.Key.{Key}

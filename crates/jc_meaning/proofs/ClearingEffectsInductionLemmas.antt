@@ -1,4 +1,4 @@
--- About specs/ClearingEffects: what clearing takes away, by rule induction (the motives, and clearing maps and lists).
+-- About ClearingEffects: what clearing takes away, by rule induction (the motives, and clearing maps and lists).
 use Rattle.std.proofs.Common.{◌≡◌, List, [], ◌∷◌, ◌++◌, Bool, true, false, not, ◌||◌, ◌&&◌, cond, Option, Some, None, is_some, filter, refl, sym, ◌∙◌, ap, subst}
 use Rattle.std.specs.declared.cmp.Ordering.{Ordering}
 use Rattle.std.specs.declared.cmp.Ordering.TheVariants.{Less, Equal, Greater}

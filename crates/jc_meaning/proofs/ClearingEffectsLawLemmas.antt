@@ -1,4 +1,4 @@
--- About specs/ClearingEffects: what clearing takes away, the other cases of the rule induction.
+-- About ClearingEffects: what clearing takes away, the other cases of the rule induction.
 use Rattle.std.proofs.Common.{◌≡◌, List, [], ◌∷◌, Bool, true, false, not, ◌||◌, ◌&&◌, cond, Option, Some, None, is_some, refl, sym, ◌∙◌, ap, subst}
 use Rattle.jc_rules.specs.declared.id.Id.{Id}
 use Rattle.jc_rules.specs.declared.key.Key.{Key}

@@ -1,4 +1,4 @@
--- About specs/Compared: two contexts are the same, but for empty presence sets, where they are the same under each key.
+-- About Compared: two contexts are the same, but for empty presence sets, where they are the same under each key.
 -- The proofs of `sameness` use it.
 use Rattle.std.proofs.Common.{◌≡◌, ◌≢◌, ◌<◌, List, [], ◌∷◌, ◌++◌, Bool, true, false, cond, Option, Some, None, is_some, filter, refl, sym, ◌∙◌, ap, subst}
 use Rattle.std.specs.List.{AllByRecursion}

@@ -1,4 +1,4 @@
--- About specs/Compared and Meaning: well-formed trees in which the same is seen are one, but for empty presence sets.
+-- About Compared and Meaning: well-formed trees in which the same is seen are one, but for empty presence sets.
 use Rattle.std.proofs.Common.{◌≡◌, List, [], ◌∷◌, Bool, true, false, cond, Option, Some, None, is_some, filter, refl, sym, ◌∙◌, ap}
 use Rattle.std.specs.List.{AllByRecursion}
 use Rattle.std.specs.Ordering.{eq_by_cmp}

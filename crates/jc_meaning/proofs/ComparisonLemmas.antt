@@ -1,4 +1,4 @@
--- About specs/Comparison: the version vectors of two replicas of a network determine what they have applied.
+-- About Comparison: the version vectors of two replicas of a network determine what they have applied.
 use Rattle.std.proofs.Common.{◌≡◌, ◌≤◌, ℕ, zero, suc, length, arith, List, [], ◌∷◌, ◌++◌, Some, Bool, true, IsTrue, ◌↔◌, Contains, ◌⊎◌, inl, inr, slice_get, refl, sym, ◌∙◌, ap, subst}
 use Rattle.std.proofs.lemmas.List.Elements.{Contains-append_left, Contains-append_right}
 use Rattle.std.proofs.lemmas.Option.{same_Some}

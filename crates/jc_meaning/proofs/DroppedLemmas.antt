@@ -1,4 +1,4 @@
--- About specs/Seen and Meaning: in a tree without its empty presence sets the same is seen as before.
+-- About Seen and Meaning: in a tree without its empty presence sets the same is seen as before.
 use Rattle.std.proofs.Common.{◌≡◌, ◌≢◌, List, [], ◌∷◌, Bool, true, false, cond, Option, Some, None, is_some, filter, refl, sym, ◌∙◌, ap}
 use Rattle.std.specs.List.{AllByRecursion}
 use Rattle.std.specs.Ordering.{eq_by_cmp}

@@ -1,4 +1,4 @@
--- About specs/Growth: an operation's identifier comes into a key's presence set, or it is withheld. `touch` uses it.
+-- About Growth: an operation's identifier comes into a key's presence set, or it is withheld. `touch` uses it.
 use Rattle.std.proofs.Common.{◌≡◌, List, Bool, true, false, not, ◌&&◌, Some, refl, sym, ◌∙◌, ap}
 use Rattle.jc_rules.specs.declared.id.Id.{Id}
 use Rattle.jc_rules.specs.declared.key.Key.{Key}

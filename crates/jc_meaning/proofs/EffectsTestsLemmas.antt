@@ -1,4 +1,4 @@
--- About specs/Effects: what the tests of `touching` decide of paths and places.
+-- About Effects: what the tests of `touching` decide of paths and places.
 use Rattle.std.proofs.Common.{◌≡◌, List, ◌∷◌, Bool, true, false, ◌&&◌, IsTrue, ◌↔◌, Result, Ok, Err, OnOk, refl, sym, ◌∙◌, ap, subst}
 use Rattle.jc_rules.specs.declared.key.Tagged.{Tagged}
 use Rattle.jc_rules.specs.declared.key.Key.{Key}

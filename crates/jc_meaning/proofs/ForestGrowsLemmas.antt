@@ -1,4 +1,4 @@
--- About specs/Forest and Meaning: the forest of a list with one more insert.
+-- About Forest and Meaning: the forest of a list with one more insert.
 use Rattle.std.proofs.Common.{◌≡◌, ◌<◌, List, ◌∷◌, Bool, true, false, ◌||◌, ◌&&◌, None, refl, sym, ◌∙◌, ap, subst}
 use Rattle.jc_rules.specs.declared.id.Id.{Id}
 use Rattle.jc_rules.specs.declared.key.Key.{Key}

@@ -1,4 +1,4 @@
--- About specs/Forest: there is one forest of inserts at a key and a bound.
+-- About Forest: there is one forest of inserts at a key and a bound.
 use Rattle.std.proofs.Common.{◌≡◌, Bool, Option, Some, None, refl, sym, subst}
 use Rattle.jc_rules.specs.declared.id.Id.{Id}
 use Rattle.jc_rules.specs.declared.key.Key.{Key}

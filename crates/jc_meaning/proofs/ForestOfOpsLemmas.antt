@@ -1,4 +1,4 @@
--- About specs/Forest and Meaning: each list has a forest of inserts, whatever the operations. What isn't reached from
+-- About Forest and Meaning: each list has a forest of inserts, whatever the operations. What isn't reached from
 -- the head is left out, and no identifier occurs twice.
 use Rattle.std.proofs.Common.{◌≡◌, ℕ, zero, suc, ◌+◌, ◌≤◌, ◌<◌, List, [], ◌∷◌, length, Bool, true, false, not, ◌||◌, ◌&&◌, cond, Option, Some, None, is_some, refl, sym, ◌∙◌, ap, subst, arith}
 use Rattle.std.specs.List.{AllByRecursion}

@@ -1,4 +1,4 @@
--- About specs/Forest: in a forest of inserts, what hangs below an identifier is greater than it.
+-- About Forest: in a forest of inserts, what hangs below an identifier is greater than it.
 use Rattle.std.proofs.Common.{◌≡◌, List, [], ◌∷◌, ◌++◌, Bool, true, false, ◌||◌, Option, Some, None, refl, sym, subst}
 use Rattle.jc_rules.specs.declared.id.Id.{Id}
 use Rattle.jc_rules.specs.declared.key.Key.{Key}

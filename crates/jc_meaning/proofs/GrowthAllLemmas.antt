@@ -1,4 +1,4 @@
--- About specs/Growth and Listing: what all operations contribute to a tree, one after another, is their meaning.
+-- About Growth and Listing: what all operations contribute to a tree, one after another, is their meaning.
 use Rattle.std.proofs.Common.{◌≡◌, ◌≢◌, ℕ, suc, ◌+◌, ◌<◌, List, [], ◌∷◌, ◌++◌, length, take, drop, get_or, Bool, true, false, not, ◌||◌, ◌&&◌, cond, Option, Some, None, inl, inr, Contains, refl, sym, ◌∙◌, ap, subst}
 use Rattle.std.specs.List.{AllByRecursion}
 use Rattle.std.proofs.lemmas.List.{take-append-drop, take_more}

@@ -1,4 +1,4 @@
--- About specs/Growth and Seen: what is seen at each place after one context of the tree was written.
+-- About Growth and Seen: what is seen at each place after one context of the tree was written.
 use Rattle.std.proofs.Common.{◌≡◌, List, [], ◌∷◌, Bool, true, false, ◌||◌, ◌&&◌, cond, Option, Some, None, is_some, refl, sym, ◌∙◌, ap, subst}
 use Rattle.std.proofs.lemmas.Option.{same_Some}
 use Rattle.jc_rules.specs.declared.id.Id.{Id}

@@ -1,4 +1,4 @@
--- About specs/Effects: what an operation changes, the cases of inserts, and the law over all derivations.
+-- About Effects: what an operation changes, the cases of inserts, and the law over all derivations.
 use Rattle.std.proofs.Common.{◌≡◌, List, [], ◌∷◌, Bool, true, false, not, ◌||◌, ◌&&◌, cond, Option, Some, None, is_some, inl, inr, refl, sym, ◌∙◌, ap, subst}
 use Rattle.std.specs.declared.cmp.Ordering.TheVariants.{Less}
 use Rattle.jc_rules.specs.declared.id.Id.{Id}

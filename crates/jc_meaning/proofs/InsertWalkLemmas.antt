@@ -1,4 +1,4 @@
--- About specs/Forest: the walk of an insert along the links (`follow`).
+-- About Forest: the walk of an insert along the links (`follow`).
 use Rattle.std.proofs.Common.{◌≡◌, List, [], ◌∷◌, Bool, true, false, ◌||◌, cond, Option, Some, None, refl, sym, ◌∙◌, subst}
 use Rattle.jc_rules.specs.declared.id.Id.{Id}
 use Rattle.jc_rules.specs.declared.key.Key.{Key}

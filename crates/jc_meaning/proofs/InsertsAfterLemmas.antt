@@ -1,4 +1,4 @@
--- About specs/Meaning: the inserts after one key, found one after another; and whether identifiers differ.
+-- About Meaning: the inserts after one key, found one after another; and whether identifiers differ.
 use Rattle.std.proofs.Common.{◌≡◌, ◌≢◌, ℕ, ◌+◌, ◌<◌, List, [], ◌∷◌, ◌++◌, length, take, get_or, Bool, true, false, ◌||◌, ◌&&◌, cond, Some, None, is_some, ◌↔◌, refl, sym, ◌∙◌, ap, subst}
 use Rattle.std.specs.List.{AllByRecursion}
 use Rattle.std.proofs.Math.Seq.{take-length}

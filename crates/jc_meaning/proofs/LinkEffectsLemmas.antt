@@ -1,4 +1,4 @@
--- About specs/Meaning: the links of a meaning where nothing was inserted, and at the start.
+-- About Meaning: the links of a meaning where nothing was inserted, and at the start.
 use Rattle.std.proofs.Common.{◌≡◌, List, [], ◌∷◌, Bool, true, false, ◌||◌, ◌&&◌, cond, Option, Some, None, ◌⊎◌, inl, inr, refl, sym, ◌∙◌, ap, subst}
 use Rattle.jc_rules.specs.declared.id.Id.{Id}
 use Rattle.jc_rules.specs.declared.key.Key.{Key}

@@ -1,4 +1,4 @@
--- About specs/Listing: a list's elements one after another; those that are still to come are a forest.
+-- About Listing: a list's elements one after another; those that are still to come are a forest.
 use Rattle.std.proofs.Common.{◌≡◌, ℕ, ◌-◌, ◌<◌, List, [], ◌∷◌, ◌++◌, length, Bool, true, false, ◌||◌, ◌&&◌, Option, Some, None, refl, sym, ◌∙◌, ap, subst, append_assoc, length-append, arith}
 use Rattle.std.proofs.lemmas.List.{append-nil}
 use Rattle.std.specs.List.{AllByRecursion}

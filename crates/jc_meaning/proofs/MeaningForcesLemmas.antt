@@ -1,4 +1,4 @@
--- About specs/Meaning and ClearingEffects: what a meaning implies of its tree, and that it is tidy.
+-- About Meaning and ClearingEffects: what a meaning implies of its tree, and that it is tidy.
 use Rattle.std.proofs.Common.{◌≡◌, List, [], ◌∷◌, ◌++◌, Bool, true, false, not, ◌||◌, ◌&&◌, cond, Option, Some, None, is_some, refl, sym, ◌∙◌, ap}
 use Rattle.jc_rules.specs.declared.id.Id.{Id}
 use Rattle.jc_rules.specs.declared.key.Key.{Key}

@@ -1,4 +1,4 @@
--- About specs/Meaning: what operations mean with one more, place by place.
+-- About Meaning: what operations mean with one more, place by place.
 use Rattle.std.proofs.Common.{◌≡◌, List, [], ◌∷◌, ◌++◌, Bool, true, false, not, ◌||◌, ◌&&◌, cond, Some, None, refl, sym, subst}
 use Rattle.jc_rules.specs.declared.id.Id.{Id}
 use Rattle.jc_rules.specs.declared.key.Key.{Key}

@@ -1,4 +1,4 @@
--- About specs/Meaning: a meaning depends on the set alone, not on the order of the list.
+-- About Meaning: a meaning depends on the set alone, not on the order of the list.
 use Rattle.std.proofs.Common.{◌≡◌, List, Bool, true, false, not, ◌||◌, ◌&&◌, cond, Option, Some, None, is_some, Contains, ◌↔◌, refl, sym, ◌∙◌, ap, subst}
 use Rattle.jc_rules.specs.declared.id.Id.{Id}
 use Rattle.jc_rules.specs.declared.key.Key.TheVariants as K

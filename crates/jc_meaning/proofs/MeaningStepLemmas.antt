@@ -1,4 +1,4 @@
--- About specs/Meaning: a derivation of one more operation leads to what the set with it means.
+-- About Meaning: a derivation of one more operation leads to what the set with it means.
 use Rattle.std.proofs.Common.{◌≡◌, List, [], ◌∷◌, Bool, true, false, ◌&&◌, cond, Option, Some, None, refl, sym, ap, subst}
 use Rattle.jc_rules.specs.declared.id.Id.{Id}
 use Rattle.jc_rules.specs.declared.key.Key.{Key}

@@ -1,4 +1,4 @@
--- About specs/Meaning and Effects: sets of operations, and an operation that may come next.
+-- About Meaning and Effects: sets of operations, and an operation that may come next.
 use Rattle.std.proofs.Common.{◌≡◌, ◌<◌, List, [], ◌∷◌, ◌++◌, Bool, true, false, ◌||◌, ◌&&◌, Option, Some, None, is_some, Contains, ◌⊎◌, inl, inr, refl, sym, ◌∙◌, ap, subst}
 use Rattle.jc_rules.specs.declared.id.Id.{Id}
 use Rattle.jc_rules.specs.declared.key.Key.{Key}

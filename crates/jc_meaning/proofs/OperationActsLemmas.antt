@@ -1,4 +1,4 @@
--- About specs/Effects: what an operation changes in what is seen (`Changes`), by its parts: identifier, deps, path,
+-- About Effects: what an operation changes in what is seen (`Changes`), by its parts: identifier, deps, path,
 -- last key, mutation.
 use Rattle.std.proofs.Common.{◌≡◌, List, Bool, true, false, not, ◌||◌, ◌&&◌, cond, Option, Some, None, is_some, ◌⊎◌}
 use Rattle.jc_rules.specs.declared.id.Id.{Id}

@@ -1,4 +1,4 @@
--- About specs/Effects: what an operation changes, the cases of the rule induction.
+-- About Effects: what an operation changes, the cases of the rule induction.
 use Rattle.std.proofs.Common.{◌≡◌, List, [], ◌∷◌, Bool, true, false, not, ◌||◌, ◌&&◌, cond, Option, Some, None, is_some, inl, inr, refl, sym, ◌∙◌, ap}
 use Rattle.jc_rules.specs.declared.id.Id.{Id}
 use Rattle.jc_rules.specs.declared.key.Key.{Key}

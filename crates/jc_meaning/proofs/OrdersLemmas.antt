@@ -1,4 +1,4 @@
--- About specs/Forest and the orders of the rules: identifiers and keys, by the tests that definitions use.
+-- About Forest and the orders of the rules: identifiers and keys, by the tests that definitions use.
 use Rattle.std.proofs.Common.{◌≡◌, ◌<◌, true, false, Option, Some, None, refl, sym, ◌∙◌, ap, arith}
 use Rattle.std.specs.Ordering.{nat_cmp}
 use Rattle.std.specs.declared.cmp.Ordering.{Ordering}

@@ -1,4 +1,4 @@
--- About specs/Replicas: the meaning of the operations that a replica has applied is its tree but for empty presence
+-- About Replicas: the meaning of the operations that a replica has applied is its tree but for empty presence
 -- sets.
 use Rattle.std.proofs.Common.{◌≡◌, ◌≢◌, List, [], ◌∷◌, map, filter, Some, Contains, ◌⊎◌, inl, inr, refl, sym, ◌∙◌, ap, subst}
 use Rattle.std.specs.List.{AllByRecursion}

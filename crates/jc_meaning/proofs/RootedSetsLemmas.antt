@@ -1,4 +1,4 @@
--- About specs/Laws: what the laws need of sound, rooted and closed sets.
+-- About Laws: what the laws need of sound, rooted and closed sets.
 use Rattle.std.proofs.Common.{◌≡◌, ◌<◌, List, [], ◌∷◌, ◌++◌, Option, Some, None, is_some, Bool, true, false, ◌&&◌, not, cond, Contains, ◌⊎◌, inl, inr, refl, sym, ◌∙◌, ap, subst}
 use Rattle.jc_rules.specs.declared.id.Id.{Id}
 use Rattle.jc_rules.specs.declared.key.Key.{Key}
@@ -14,8 +14,8 @@ use Rattle.jc_rules.specs.ContextsAt.{IsAtOrAbove, node_at}
 use Rattle.jc_rules.specs.Refused.{IsAnswered}
 use Rattle.jc_rules.specs.Sound.{IsSound, IsRooted, IsRootedAt}
 use Rattle.jc_rules.specs.Table.{op_of}
-use Rattle.jc_rules.proofs.IdsLemmas.{same_id-self, same_id-true}
-use Rattle.jc_network.proofs.MembersLemmas.{none_in, first_in, later_in, in_cons, op_in}
+use Rattle.jc_rules.proofs.IdsLemmas.{same_id-true}
+use Rattle.jc_network.proofs.MembersLemmas.{first_in, later_in, op_in}
 use Rattle.jc_meaning.specs.Laws.{IsClosedSet, ComesNext}
 use Rattle.jc_meaning.specs.Meaning.{Means}
 use Rattle.jc_meaning.specs.Seen.{context_or_new, seen, ids_at}

@@ -1,4 +1,4 @@
--- About specs/Meaning: which keys a list and a new element have, by the roots of operations.
+-- About Meaning: which keys a list and a new element have, by the roots of operations.
 use Rattle.std.proofs.Common.{◌≡◌, List, [], ◌∷◌, Bool, true, false, not, ◌||◌, cond, Option, Some, None, is_some, Contains, ◌⊎◌, inl, inr, refl, sym, ◌∙◌, ap, subst}
 use Rattle.jc_rules.specs.declared.id.Id.{Id}
 use Rattle.jc_rules.specs.declared.key.Key.{Key}

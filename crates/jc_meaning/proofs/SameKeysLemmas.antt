@@ -1,4 +1,4 @@
--- About specs/Compared: rising lists of entries in which the same keys are found have the same keys, entry by entry.
+-- About Compared: rising lists of entries in which the same keys are found have the same keys, entry by entry.
 use Rattle.std.proofs.Common.{◌≡◌, List, [], ◌∷◌, Bool, true, false, cond, Option, Some, None, filter, refl, sym, ◌∙◌, ap, subst}
 use Rattle.std.specs.List.{AllByRecursion}
 use Rattle.std.specs.Ordering.{eq_by_cmp}

@@ -1,4 +1,4 @@
--- About specs/Seen: what is seen at each place after a write, and that the context at a path is seen there.
+-- About Seen: what is seen at each place after a write, and that the context at a path is seen there.
 use Rattle.std.proofs.Common.{◌≡◌, List, [], ◌∷◌, Bool, true, false, cond, Option, Some, None, refl}
 use Rattle.std.specs.Ordering.{eq_by_cmp}
 use Rattle.std.proofs.lemmas.Option.{same_Some}

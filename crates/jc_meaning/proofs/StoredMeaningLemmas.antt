@@ -1,4 +1,4 @@
--- About specs/Meaning: operations with version vectors mean what they mean with the dependencies that these represent.
+-- About Meaning: operations with version vectors mean what they mean with the dependencies that these represent.
 use Rattle.std.proofs.Common.{◌≡◌, List, [], ◌∷◌, map, Bool, true, false, not, ◌||◌, ◌&&◌, cond, Option, Some, None, refl, sym, ◌∙◌, ap}
 use Rattle.jc_rules.specs.declared.id.Id.{Id}
 use Rattle.jc_rules.specs.declared.key.Key.{Key}

@@ -1,4 +1,4 @@
--- About specs/Effects and Seen: equality of tagged keys, and what is seen after a write.
+-- About Effects and Seen: equality of tagged keys, and what is seen after a write.
 use Rattle.std.proofs.Common.{◌≡◌, List, [], ◌∷◌, Bool, true, false, ◌||◌, cond, Option, Some, None, is_some, refl, sym, ◌∙◌, ap}
 use Rattle.jc_rules.specs.declared.id.Id.{Id}
 use Rattle.jc_rules.specs.declared.key.Key.{Key}

@@ -1,4 +1,4 @@
--- About specs/Laws: a map or a list in which something is present is alive.
+-- About Laws: a map or a list in which something is present is alive.
 use Rattle.std.proofs.Common.{◌≡◌, List, [], ◌∷◌, ◌++◌, Bool, true, false, not, cond, ◌||◌, ◌&&◌, Option, Some, None, Contains, ◌⊎◌, refl, sym, ◌∙◌, ap, subst}
 use Rattle.jc_rules.specs.declared.id.Id.{Id}
 use Rattle.jc_rules.specs.declared.key.Key.{Key}

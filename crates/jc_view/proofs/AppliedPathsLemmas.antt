@@ -1,4 +1,4 @@
--- About specs/Visible: which operations go through a tagged key, by what a replica has applied (`goes_by`).
+-- About Visible: which operations go through a tagged key, by what a replica has applied (`goes_by`).
 use Rattle.std.proofs.Common.{◌≡◌, ℕ, List, map, Bool, true, false, cond, Option, Some, None, Contains, ◌⊎◌, inl, inr, refl, sym, ◌∙◌, ap, subst}
 use Rattle.jc_rules.specs.declared.id.Id.{Id}
 use Rattle.jc_rules.specs.declared.key.Tagged.{Tagged}

@@ -1,4 +1,4 @@
--- About specs/Laws: empty presence sets show nothing, and replicas with the same operations show the same document.
+-- About Laws: empty presence sets show nothing, and replicas with the same operations show the same document.
 use Rattle.std.proofs.Common.{◌≡◌, ℕ, List, [], ◌∷◌, ◌++◌, refl, sym, ◌∙◌, ap, Contains}
 use Rattle.jc_rules.specs.declared.id.Id.{Id}
 use Rattle.jc_rules.specs.declared.key.Key.{Key}

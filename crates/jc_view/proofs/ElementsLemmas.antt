@@ -1,4 +1,4 @@
--- About specs/Visible and Parts: the elements of a list, written one after another.
+-- About Visible and Parts: the elements of a list, written one after another.
 use Rattle.std.proofs.Common.{◌≡◌, ◌≢◌, ℕ, zero, suc, ◌-◌, ◌<◌, ◌≤◌, List, [], ◌∷◌, ◌++◌, Bool, true, false, cond, Option, Some, None, is_some, length, append_assoc, refl, sym, ◌∙◌, ap, subst, arith}
 use Rattle.json.specs.Json.{Json}
 use Rattle.json.specs.Token.{Token}

@@ -1,4 +1,4 @@
--- About specs/Visible and Parts: the members of a map, written one after another; what is shown at a key; the line.
+-- About Visible and Parts: the members of a map, written one after another; what is shown at a key; the line.
 use Rattle.std.proofs.Common.{◌≡◌, ◌≢◌, ℕ, List, [], ◌∷◌, ◌++◌, Bool, true, false, cond, Option, Some, None, is_some, filter, length, append_assoc, refl, sym, ◌∙◌, ap, subst, codes}
 use Rattle.std.specs.List.{AllByRecursion}
 use Rattle.json.specs.Json.{Json, Members, no_members, member, object}

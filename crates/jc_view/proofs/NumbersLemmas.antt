@@ -1,4 +1,4 @@
--- About specs/Laws: what is shown has numbers of JSON alone.
+-- About Laws: what is shown has numbers of JSON alone.
 use Rattle.std.proofs.Common.{◌≡◌, ℕ, List, [], ◌∷◌, ◌++◌, Bool, true, false, cond, Option, Some, None, is_some, length, refl, codes}
 use Rattle.std.specs.List.{AllByRecursion}
 use Rattle.json.specs.Json.{Json, object, Items, Members}

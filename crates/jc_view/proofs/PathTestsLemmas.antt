@@ -1,4 +1,4 @@
--- About specs/Parts: what the tests of `alive` decide of the paths of operations.
+-- About Parts: what the tests of `alive` decide of the paths of operations.
 use Rattle.std.proofs.Common.{◌≡◌, List, [], ◌∷◌, length, arith, Bool, true, false, ◌&&◌, IsTrue, ◌↔◌, Option, Some, refl, sym, ◌∙◌, ap, subst}
 use Rattle.jc_rules.specs.declared.key.Key.{Key}
 use Rattle.jc_rules.specs.declared.key.Tagged.{Tagged}

@@ -1,4 +1,4 @@
--- About specs/Visible and Parts: which keys are present, and which child is under a tagged key.
+-- About Visible and Parts: which keys are present, and which child is under a tagged key.
 use Rattle.std.proofs.Common.{◌≡◌, ℕ, List, [], ◌∷◌, ◌++◌, Bool, true, false, cond, ◌&&◌, Option, Some, None, is_some, refl, sym, ◌∙◌, ap, option_map}
 use Rattle.std.specs.Ordering.{eq_by_cmp}
 use Rattle.json.specs.Json.{Json}

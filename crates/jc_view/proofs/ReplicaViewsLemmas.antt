@@ -1,4 +1,4 @@
--- About specs/Visible: the documents of a network's replicas.
+-- About Visible: the documents of a network's replicas.
 use Rattle.std.proofs.Common.{◌≡◌, ℕ, List, [], ◌∷◌, ◌++◌, Some, slice_get, sym, ◌∙◌, ap, subst}
 use Rattle.std.proofs.lemmas.Option.{same_Some}
 use Rattle.json.specs.Print.{print}
