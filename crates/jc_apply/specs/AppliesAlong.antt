@@ -43,7 +43,9 @@ IsAdded k i m (Some was) c d =
     × (d ≡ with_presence (key_of_tagged k) (with_id i (or_no_entries (presence (key_of_tagged k) c))) c)
 
 -- The same was done with the context at the place.
-pub record AddsId (k : Tagged) (i : Id) (m : Mutation) (was : Option Bool) (at : List Tagged) (a b : Tree) : Type 0 where
+pub record AddsId
+    (k : Tagged) (i : Id) (m : Mutation) (was : Option Bool) (at : List Tagged) (a b : Tree)
+    : Type 0 where
   pub after : Context
   pub added : IsAdded k i m was (here at a) after
   pub now : b.now ≡ with_node_at at after a.now

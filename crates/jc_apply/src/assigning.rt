@@ -140,7 +140,8 @@ fn assign_empty<S: TreeStore>(
     requires there { HasPlace at.now (S.tree store.old) }
     requires chained { IsChained (S.tree store.old).now }
     requires context { HasContext key.now }
-    ensures ok { OnOk result (LeadsTo (λ c. Operate c (moved op.now [] (key_of_tagged key.now) (Assign (empty_of key.now))))
+    ensures ok { OnOk result (LeadsTo
+        (λ c. Operate c (moved op.now [] (key_of_tagged key.now) (Assign (empty_of key.now))))
         at.now (S.tree store.old) (S.tree store.new) trace.old trace.new) }
     ensures links { OnOk result (LinksNone at.now (S.tree store.old) (S.tree store.new)) }
     ensures kept { TreeCanGoBack (S.tree store.old) (S.tree store.new) trace.old trace.new }

@@ -1,4 +1,4 @@
--- What clearing leaves of a context as it is: its tagged keys at every depth, and its links. For the contract of `clear`.
+-- What clearing leaves of a context as it is: its tagged keys at every depth, and its links. `clear`'s contract cites it.
 use Rattle.std.specs.Prelude.{List, [], map}
 use Rattle.jc_rules.specs.declared.key.Key.{Key}
 use Rattle.jc_rules.specs.Context.{Context, context, Children, no_child, child, Register}

@@ -86,7 +86,8 @@ fn variable(vars: &[(Text, Bound)], name: &Text, trace: &mut Trace) -> Result<Bo
     ensures ok { IfOk result (λ b.
         (c : AnyContext) → Evaluates c (vars_of vars.now) (Variable name.now) (bound_of b) trace.old trace.new) }
     ensures refused { IfErr result (λ f.
-        IfSome (eval_cause_of f) (λ why. (c : AnyContext) → IsEvalRefused c (vars_of vars.now) (Variable name.now) why)) }
+        IfSome (eval_cause_of f) (λ why.
+        (c : AnyContext) → IsEvalRefused c (vars_of vars.now) (Variable name.now) why)) }
     ensures grown { IsGrown trace.old trace.new }
 {
     let Some(bound) = bound_to(vars, name) else {
@@ -108,7 +109,8 @@ fn evaluate<S: TreeStore>(
     ensures ok { IfOk result (λ b.
         Evaluates (S.tree store.now).now (vars_of vars.now) (expr_of expr.now) (bound_of b) trace.old trace.new) }
     ensures refused { IfErr result (λ f.
-        IfSome (eval_cause_of f) (λ why. IsEvalRefused (S.tree store.now).now (vars_of vars.now) (expr_of expr.now) why)) }
+        IfSome (eval_cause_of f) (λ why.
+        IsEvalRefused (S.tree store.now).now (vars_of vars.now) (expr_of expr.now) why)) }
     ensures grown { IsGrown trace.old trace.new }
 {
     match expr {
@@ -149,7 +151,8 @@ pub fn eval<S: TreeStore>(
     ensures ok { IfOk result (λ b.
         Evaluates (S.tree store.now).now (vars_of vars.now) (expr_of expr.now) (bound_of b) trace.old trace.new) }
     ensures refused { IfErr result (λ f.
-        IfSome (eval_cause_of f) (λ why. IsEvalRefused (S.tree store.now).now (vars_of vars.now) (expr_of expr.now) why)) }
+        IfSome (eval_cause_of f) (λ why.
+        IsEvalRefused (S.tree store.now).now (vars_of vars.now) (expr_of expr.now) why)) }
     ensures err_trace { OnErr result (trace.new ≡ trace.old) }
 {
     let start = trace.mark();

@@ -37,7 +37,8 @@ fn path_below(path: Path, key: Tagged) -> Result<Path, EvalFault>
     requires { HasContext key }
     ensures ok { IfOk result (λ longer. longer ≡ path ++ key ∷ []) }
     ensures short { OnOk result (length path < MAX_PATH) }
-    ensures refused { IfErr result (λ f. IfSome (eval_cause_of f) (λ why. (why ≡ because F.TooDeep) × (MAX_PATH ≤ length path))) }
+    ensures refused { IfErr result (λ f.
+        IfSome (eval_cause_of f) (λ why. (why ≡ because F.TooDeep) × (MAX_PATH ≤ length path))) }
 {
     let mut longer = path;
     if longer.as_slice().len() >= MAX_PATH {
@@ -57,7 +58,8 @@ fn is_head(key: &Key) -> bool
 fn name_below(last: &Key, name: &Text) -> Result<Key, EvalFault>
     ensures ok { IfOk result (λ key. key ≡ ToName name.now) }
     ensures no_head { OnOk result (last.now ≢ Head) }
-    ensures refused { IfErr result (λ f. IfSome (eval_cause_of f) (λ why. (why ≡ because F.GetOnHead) × (last.now ≡ Head))) }
+    ensures refused { IfErr result (λ f.
+        IfSome (eval_cause_of f) (λ why. (why ≡ because F.GetOnHead) × (last.now ≡ Head))) }
 {
     if is_head(last) {
         return Err(EvalFault::GetOnHead);

@@ -26,7 +26,8 @@ absent_text names (no_node k) = tagged_text names k ++ codes " "
 -- the line of a stuck event
 abbrev pub stuck_text : List (List ℕ) → Cause → Event → List ℕ
 stuck_text names why event =
-    codes "stuck " ++ decimal (refusal_number (refusal_of why)) ++ codes " " ++ refusal_name (refusal_of why) ++ codes " "
+    codes "stuck " ++ decimal (refusal_number (refusal_of why)) ++ codes " "
+    ++ refusal_name (refusal_of why) ++ codes " "
     ++ absent_text names why ++ canon_event names event ++ codes "\n"
 
 -- an event that is stuck for a cause, and whose replicas have names

@@ -20,7 +20,8 @@ block_text names n event rows =
 -- the line of a refused text
 abbrev pub refused_text : Refusal → ℕ → List ℕ
 refused_text refusal place =
-    codes "refused " ++ decimal (refusal_number refusal) ++ codes " " ++ refusal_name refusal ++ codes " at " ++ decimal place
+    codes "refused " ++ decimal (refusal_number refusal) ++ codes " "
+    ++ refusal_name refusal ++ codes " at " ++ decimal place
     ++ codes "\n"
 
 -- the lines of the first given event that is stuck, with its number from 1

@@ -1,4 +1,5 @@
--- Identifiers, keys, values and trees of documents as JSON; jc_dump cites it. `names` has each replica's name at its number.
+-- Identifiers, keys, values and trees of documents as JSON; jc_dump cites it. `names` has each replica's name at its
+-- number.
 use Rattle.std.specs.Prelude.{ℕ, List, [], ◌∷◌, ◌++◌, map, codes, decimal, true, false}
 use Rattle.serde_json.specs.Data.{Data, null, boolean, string, array, object, no_items, Members, no_members, put}
 use Rattle.serde_json.specs.View.{items_of}

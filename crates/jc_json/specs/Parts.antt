@@ -61,7 +61,9 @@ abbrev pub HasPartsOf : Context → List (String Global × Part) → Type 0
 HasPartsOf c es = AllByRecursion (λ e. IsPartOf c e.1) es
 
 -- The new parts of a context are the old ones, with those of these members.
-pub record AddsMembers (names : List (List ℕ)) (c : Context) (ms : List (List ℕ × Data)) (old new : List (String Global × Part)) : Type 0 where
+pub record AddsMembers
+    (names : List (List ℕ)) (c : Context) (ms : List (List ℕ × Data)) (old new : List (String Global × Part))
+    : Type 0 where
   pub shown : shown_as (part_data names c) new ≡ put_all ms (shown_as (part_data names c) old)
   pub parts : HasPartsOf c old → HasPartsOf c new
 

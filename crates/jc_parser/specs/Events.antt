@@ -121,7 +121,9 @@ pub record IsAhead (v : Version) (ls : List Lexeme) (e : NamedEvent) (left : ℕ
   pub count : left ≡ length after
 
 -- the tokens from the number `from` up to the number `next` are this event
-pub record IsEventAt (v : Version) (text : List ℕ) (tokens : List Token) (from : ℕ) (e : NamedEvent) (next : ℕ) : Type 0 where
+pub record IsEventAt
+    (v : Version) (text : List ℕ) (tokens : List Token) (from : ℕ) (e : NamedEvent) (next : ℕ)
+    : Type 0 where
   pub ordered : from ≤ next
   pub ends : next ≤ length tokens
   pub event : IsEvent v e (lexemes text (slice_range tokens from next))

@@ -96,7 +96,9 @@ IsEventExcess v n fault xs after =
     ⊎ ((n < MAX_EVENTS) × IsCallExcess v fault xs after)
 
 -- too much in a block with this head
-pub record IsBlockExcess (head : List Symbol) (v : Version) (fault : ScenarioFault) (xs : List Symbol) (after : List Lexeme) : Type 0 where
+pub record IsBlockExcess
+    (head : List Symbol) (v : Version) (fault : ScenarioFault) (xs : List Symbol) (after : List Lexeme)
+    : Type 0 where
   pub calls : List Call
   pub listed : List Symbol
   pub spelled : IsStartText (IsCallSpelled v) calls listed
@@ -110,7 +112,9 @@ IsGivenExcess One fault xs after = ⊥
 IsGivenExcess Two fault xs after = IsBlockExcess given_head Two fault xs after
 
 -- given events within the limits, and too much in the schedule behind them
-pub record IsScheduleExcess (v : Version) (fault : ScenarioFault) (xs : List Symbol) (after : List Lexeme) : Type 0 where
+pub record IsScheduleExcess
+    (v : Version) (fault : ScenarioFault) (xs : List Symbol) (after : List Lexeme)
+    : Type 0 where
   pub given : List Call
   pub before : List Symbol
   pub spelled : IsGivenSpelled v given before

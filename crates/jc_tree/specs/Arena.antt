@@ -57,7 +57,8 @@ filled_all g [] = []
 filled_all g (e ∷ es) = (e.0, g e.1) ∷ filled_all g es
 
 abbrev pub with_children : (ℕ → Context) → Flat → Context
-with_children g n = context (children (filled_all g n.maps)) (children (filled_all g n.lists)) n.registers n.presences n.links
+with_children g n =
+    context (children (filled_all g n.maps)) (children (filled_all g n.lists)) n.registers n.presences n.links
 
 -- the context of the node with a number, as deep as the first number says
 abbrev pub context_of : ℕ → List Flat → ℕ → Context
@@ -108,13 +109,37 @@ abbrev pub with_links : List (Key × Next) → Flat → Flat
 with_links l n = record { maps = n.maps; lists = n.lists; registers = n.registers; presences = n.presences; links = l }
 
 abbrev pub with_child_number : Tagged → ℕ → Flat → Flat
-with_child_number (MapT k) i n = record { maps = put key_cmp k i n.maps; lists = n.lists; registers = n.registers; presences = n.presences; links = n.links }
-with_child_number (ListT k) i n = record { maps = n.maps; lists = put key_cmp k i n.lists; registers = n.registers; presences = n.presences; links = n.links }
+with_child_number (MapT k) i n = record {
+  maps = put key_cmp k i n.maps;
+  lists = n.lists;
+  registers = n.registers;
+  presences = n.presences;
+  links = n.links;
+}
+with_child_number (ListT k) i n = record {
+  maps = n.maps;
+  lists = put key_cmp k i n.lists;
+  registers = n.registers;
+  presences = n.presences;
+  links = n.links;
+}
 with_child_number (RegT k) i n = n
 
 abbrev pub without_number : Tagged → Flat → Flat
-without_number (MapT k) n = record { maps = removed key_cmp k n.maps; lists = n.lists; registers = n.registers; presences = n.presences; links = n.links }
-without_number (ListT k) n = record { maps = n.maps; lists = removed key_cmp k n.lists; registers = n.registers; presences = n.presences; links = n.links }
+without_number (MapT k) n = record {
+  maps = removed key_cmp k n.maps;
+  lists = n.lists;
+  registers = n.registers;
+  presences = n.presences;
+  links = n.links;
+}
+without_number (ListT k) n = record {
+  maps = n.maps;
+  lists = removed key_cmp k n.lists;
+  registers = n.registers;
+  presences = n.presences;
+  links = n.links;
+}
 without_number (RegT k) n = n
 
 -- a change that makes no node
@@ -127,10 +152,12 @@ IsInside _ = Unit {0}
 abbrev pub changed_flat : Change → Flat → Flat
 changed_flat (Child (RegT k)) n = with_registers (put key_cmp k [] n.registers) n
 changed_flat (Child t) n = n
-changed_flat (AddId k i) n = with_presences (put key_cmp k (with_id i (or_no_entries (find key_cmp k n.presences))) n.presences) n
+changed_flat (AddId k i) n =
+    with_presences (put key_cmp k (with_id i (or_no_entries (find key_cmp k n.presences))) n.presences) n
 changed_flat (Presence k s) n = with_presences (put key_cmp k s n.presences) n
 changed_flat (Link k x) n = with_links (put key_cmp k x n.links) n
-changed_flat (PutValue k i v) n = with_registers (put key_cmp k (put id_cmp i v (or_no_entries (find key_cmp k n.registers))) n.registers) n
+changed_flat (PutValue k i v) n =
+    with_registers (put key_cmp k (put id_cmp i v (or_no_entries (find key_cmp k n.registers))) n.registers) n
 changed_flat (SetRegister k v) n = with_registers (put key_cmp k v n.registers) n
 
 -- the undo record of a new node

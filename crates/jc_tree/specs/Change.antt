@@ -17,7 +17,8 @@ changed_by (Child t) c = with_content t (new_content t) c
 changed_by (AddId k i) c = with_presence k (with_id i (or_no_entries (presence k c))) c
 changed_by (Presence k s) c = with_presence k s c
 changed_by (Link k n) c = with_next k n c
-changed_by (PutValue k i v) c = with_content (RegT k) (Values (put id_cmp i v (or_no_entries (find key_cmp k (registers c))))) c
+changed_by (PutValue k i v) c =
+    with_content (RegT k) (Values (put id_cmp i v (or_no_entries (find key_cmp k (registers c))))) c
 changed_by (Register k r) c = with_content (RegT k) (Values r) c
 
 -- with the context at the place changed

@@ -112,7 +112,8 @@ impl ArenaTree {
         requires fit { IsFit change }
         ensures ok { OnOk result ((at : List AnyTagged) → walk self.old.nodes.items 0 at ≡ Some node → IsChanged at
             (changed_by change (context_at at (content_of_arena self.old.nodes.items)))
-            (tree_of_arena self.old.nodes.items self.old.undos.items) (tree_of_arena self.new.nodes.items self.new.undos.items)) }
+            (tree_of_arena self.old.nodes.items self.old.undos.items)
+            (tree_of_arena self.new.nodes.items self.new.undos.items)) }
         ensures was { IfOk result (λ was.
             was ≡ was_there (former_of_flat change (flat_at self.old.nodes.items node))) }
         ensures numbers { OnOk result ((at : List AnyTagged) →
@@ -135,7 +136,8 @@ impl ArenaTree {
         requires fit { IsFit change }
         ensures ok { OnOk result (IsChanged at.now
             (changed_by change (context_at at.now (content_of_arena self.old.nodes.items)))
-            (tree_of_arena self.old.nodes.items self.old.undos.items) (tree_of_arena self.new.nodes.items self.new.undos.items)) }
+            (tree_of_arena self.old.nodes.items self.old.undos.items)
+            (tree_of_arena self.new.nodes.items self.new.undos.items)) }
         ensures err { OnErr result (tree_of_arena self.new.nodes.items self.new.undos.items
             ≡ tree_of_arena self.old.nodes.items self.old.undos.items) }
     {

@@ -61,9 +61,21 @@ impl Model for ArenaNode {
 
     ghost Value = { Flat };
 
-    ghost view = { λ a. record { maps = a.maps.entries; lists = a.lists.entries; registers = a.registers.entries; presences = a.presences; links = a.links.entries } };
+    ghost view = { λ a. record {
+      maps = a.maps.entries;
+      lists = a.lists.entries;
+      registers = a.registers.entries;
+      presences = a.presences;
+      links = a.links.entries;
+    } };
 
-    ghost invariant = { λ a. IsSortedFlat (record { maps = a.maps.entries; lists = a.lists.entries; registers = a.registers.entries; presences = a.presences; links = a.links.entries }) };
+    ghost invariant = { λ a. IsSortedFlat (record {
+      maps = a.maps.entries;
+      lists = a.lists.entries;
+      registers = a.registers.entries;
+      presences = a.presences;
+      links = a.links.entries;
+    }) };
 }
 
 /// The undo record of a new node under a tagged key.
