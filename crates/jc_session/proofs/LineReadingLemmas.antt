@@ -3,7 +3,7 @@ use Rattle.std.proofs.Common.{◌≡◌, ◌≢◌, ℕ, ◌+◌, ◌<◌, ◌�
 use Rattle.std.proofs.lemmas.Bool.Decides.{nat_tests}
 use Rattle.std.specs.Io.KnownBytes.{Consumes, IsAtEnd, prepend_known}
 use Rattle.std.proofs.KnownBytes.{Consumes-nil, Consumes-trans}
-use Rattle.core.proofs.slice.Lists.{all_by_recursion_push}
+use Rattle.std.proofs.ByRecursion.{All-push}
 use Rattle.jc_io.specs.Streams.{StaysIfKnown}
 use Rattle.jc_session.specs.Lines.{Lacks}
 use Rattle.jc_session.specs.LineReading.{ReadStopsAt, LineRead}
@@ -19,7 +19,7 @@ pub reads_more : (old now next : Option (List ℕ)) (kept new : List ℕ) (some 
     → LineRead old next new true before (bytes + 1)
 reads_more old now next kept new some before bytes b r h ne e lt = record {
   raw = r.raw ++ b ∷ [];
-  no_lf = all_by_recursion_push (λ x. x ≢ 10) r.raw b r.no_lf ne;
+  no_lf = All-push (λ x. x ≢ 10) r.raw b r.no_lf ne;
   gone = Consumes-trans old now next r.raw (b ∷ []) r.gone h;
   kept_is = kept_more 4097 r.raw b kept new r.kept_is e;
   some_is = longer r.raw b;

@@ -4,6 +4,7 @@ use Rattle.std.specs.List.{AllByRecursion}
 use Rattle.std.proofs.lemmas.Bool.Decides.{nat_tests}
 use Rattle.std.proofs.lemmas.List.{map-append, length-map}
 use Rattle.std.proofs.lemmas.Grind.{common_steps, flat_map-append}
+use Rattle.std.proofs.ByRecursion.{All-append}
 use Rattle.std.proofs.Math.Seq.{take-append-add, take-append_seam}
 use Rattle.jc_session.specs.Lines.{Line, Lacks, AreLines, with_line_ends, whole_line, last_line}
 use Rattle.jc_session.specs.SessionText.{End, finished, too_many, AreWithin}
@@ -13,10 +14,6 @@ take_whole n xs h = grind (arith, common_steps)
 
 pub ended_append : (xs ys : List (List ℕ)) → with_line_ends (xs ++ ys) ≡ with_line_ends xs ++ with_line_ends ys
 ended_append xs ys = flat_map-append (λ x. x ++ 10 ∷ []) xs ys
-
-pub all_both : {X : Type 0} (P : X → Type 0) (xs ys : List X) → AllByRecursion P xs → AllByRecursion P ys → AllByRecursion P (xs ++ ys)
-all_both P [] ys h k = k
-all_both P (x ∷ xs) ys h k = (h.0, all_both P xs ys h.1 k)
 
 -- ---- every list of bytes is lines
 
@@ -40,7 +37,7 @@ lines_of (b ∷ bs) = let s = lines_of bs in onward b bs (nat_eq b 10) refl s.0 
 pub lines_before : (xs : List (List ℕ)) (bytes : List ℕ) (whole : List (List ℕ)) (last : List ℕ) → AllByRecursion (Lacks 10) xs → AreLines bytes whole last → AreLines (with_line_ends xs ++ bytes) (xs ++ whole) last
 lines_before xs bytes whole last n h = record {
   is = ap (λ l. with_line_ends xs ++ l) h.is ∙ sym (append_assoc (with_line_ends xs) (with_line_ends whole) last) ∙ ap (λ l. l ++ last) (sym (ended_append xs whole));
-  no_lf = all_both (Lacks 10) xs whole n h.no_lf;
+  no_lf = All-append (Lacks 10) xs whole n h.no_lf;
   last_no_lf = h.last_no_lf;
 }
 

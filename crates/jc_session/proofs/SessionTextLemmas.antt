@@ -5,7 +5,7 @@ use Rattle.std.proofs.lemmas.List.{map-append, length-map, length-take-le}
 use Rattle.std.specs.Io.KnownBytes.{Consumes, IsAtEnd, prepend_known}
 use Rattle.std.proofs.KnownBytes.{Consumes-trans}
 use Rattle.std.specs.List.{All}
-use Rattle.core.proofs.slice.Lists.{all_by_recursion_push}
+use Rattle.std.proofs.ByRecursion.{All-push}
 use Rattle.jc_io.specs.declared.io.Sink.{Ghosts as SinkGhosts}
 use Rattle.jc_rules.specs.declared.operation.Event.{Event}
 use Rattle.jc_printer.specs.Canon.{AreNamed}
@@ -93,7 +93,7 @@ so_far_more O A B C first now next o p q n m i j raw line ei ej s l h e g =
     record {
       whole = s.whole ++ raw ∷ [];
       text = s.text ++ g.0;
-      no_lf = all_by_recursion_push (Lacks 10) s.whole raw s.no_lf l;
+      no_lf = All-push (Lacks 10) s.whole raw s.no_lf l;
       gone = subst (λ (x : List ℕ). Consumes first next x) (sym grown) (Consumes-trans first now next (with_line_ends s.whole) (raw ++ 10 ∷ []) s.gone h);
       bytes_are = omega (arith, b, size, ei);
       count_is = omega (arith, c, more, ej);
@@ -191,7 +191,7 @@ told_quit O A B (Some bytes) (Some rest) (Some more) o p q n m raw line le few s
     let b = s.bytes_are in
     let c = s.count_is in
     let count = length-append s.whole (raw ∷ []) in
-    let due = due_front 67108864 1000000 bytes more (s.whole ++ raw ∷ []) whole (all_by_recursion_push (Lacks 10) s.whole raw s.no_lf l) (omega (arith, size, b)) (omega (arith, count, c)) in
+    let due = due_front 67108864 1000000 bytes more (s.whole ++ raw ∷ []) whole (All-push (Lacks 10) s.whole raw s.no_lf l) (omega (arith, size, b)) (omega (arith, count, c)) in
     let parts : map whole_line (s.whole ++ raw ∷ []) ++ due.0 ≡ map whole_line s.whole ++ line ∷ due.0 =
     ap (λ x. x ++ due.0) (map-append whole_line s.whole (raw ∷ [])) ∙ append_assoc (map whole_line s.whole) (whole_line raw ∷ []) due.0 ∙ ap (λ x. map whole_line s.whole ++ x ∷ due.0) (sym e) in (
       s.text,
