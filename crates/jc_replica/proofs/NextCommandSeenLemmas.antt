@@ -20,7 +20,6 @@ use Rattle.jc_rules.specs.Table.{Follows, IsMake}
 use Rattle.jc_rules.specs.Trace.{Rows, at_depth}
 use Rattle.jc_rules.proofs.RepresentationLemmas.{greatest_stands}
 use Rattle.jc_rules.proofs.DerivesLemmas.{one_premise, two_premises}
-use Rattle.jc_cursor.specs.declared.bound.Bound.TheVariants as B
 use Rattle.jc_cursor.specs.Evaluates.{Evaluates, IsEvalRefused}
 use Rattle.jc_vectors.specs.OperationIds.{with_deps}
 use Rattle.jc_vectors.specs.StoredStates.{new_op, after_making, after_making_stored, stored_state, RepresentsState, HasOwn}

@@ -9,7 +9,7 @@ use Rattle.jc_rules.specs.declared.operation.Op.{Op}
 use Rattle.jc_rules.specs.Ids.{has_id, AreIn}
 use Rattle.jc_rules.specs.Syntax.{Expr, Cmd, LetIn, SetTo, InsertAfter, DeleteAt, Yield}
 use Rattle.jc_rules.specs.State.{State, Bound, ACursor}
-use Rattle.jc_rules.specs.Derivation.{Question, Occur, Run, Evaluate, Make, ApplyOp, Operate, Answer, ToBound, asked, answered}
+use Rattle.jc_rules.specs.Derivation.{Question, Occur, Run, Evaluate, Make, ApplyOp, Operate, Answer, ToBound, asked}
 use Rattle.jc_rules.specs.Table.{op_of}
 use Rattle.jc_rules.specs.Refused.{Cause, Refused, IsAnswered, IsCursor, IsYieldEvent, WantsCursor, first_expr, made_by, no_command, at_yield, in_command, no_yield, not_at_yield, not_acted, not_received, not_offered, already_applied, deps_missing, in_received, in_first, not_a_cursor, in_making, in_made, in_applied}
 use Rattle.jc_rules.proofs.RefusedLemmas.{refused_has_none, one_answer}
