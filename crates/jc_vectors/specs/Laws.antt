@@ -5,6 +5,7 @@ use Rattle.jc_rules.specs.declared.key.Key.{Key}
 use Rattle.jc_rules.specs.declared.key.Tagged.{Tagged}
 use Rattle.jc_rules.specs.declared.operation.Op.{Op}
 use Rattle.jc_rules.specs.Context.{Context}
+use Rattle.jc_rules.specs.ContextsAt.{node_at, with_node_at}
 use Rattle.jc_rules.specs.Derivation.{Operate, Clear, ClearElem, ToContext, Cleared}
 use Rattle.jc_rules.specs.Derives.{Derives}
 use Rattle.jc_rules.specs.VersionVectors.{covered, ids_up_to, greatest_of, truncated}
@@ -80,3 +81,11 @@ ClearElemStands =
     → Represents set deps counters → KnowsOnly (ids_of_ops set) c
     → Derives (ClearElem c counters k) (Cleared d s) t u
     → Derives (ClearElem c deps k) (Cleared d s) t u × KnowsOnly (ids_of_ops set) d
+
+-- Where a document has only these identifiers, the context at a path has only them, and so has the document with another
+-- such context there. So the laws above, which are about one context, hold of a whole document.
+abbrev pub KnownAtPaths : Type 0
+KnownAtPaths =
+    (ids : List Id) (path : List Tagged) (c d : Context)
+    → KnowsOnly ids c
+    → (node_at path c ≡ Some d → KnowsOnly ids d) × (KnowsOnly ids d → KnowsOnly ids (with_node_at path d c))

@@ -1,7 +1,7 @@
 //! Laws of version vectors in sets of operations and in derivations. Each function does nothing: its contract is the
 //! law. jc_clear and jc_apply cite them.
 
-ghost use Rattle.jc_vectors.specs.Laws.{CountersTell, WithinIs, InsertedWithdrawn, OperateAlike, ClearAlike, ClearElemAlike, OperateStands, ClearStands, ClearElemStands};
+ghost use Rattle.jc_vectors.specs.Laws.{CountersTell, WithinIs, InsertedWithdrawn, OperateAlike, ClearAlike, ClearElemAlike, OperateStands, ClearStands, ClearElemStands, KnownAtPaths};
 
 /// In a sound set of operations, a causally closed set has an operation's identifier exactly where the version vector
 /// covers it.
@@ -48,4 +48,10 @@ pub fn clear_stands()
 /// Clearing a key under each tag gives the same by a version vector and by the set that it represents.
 pub fn clear_elem_stands()
     ensures { ClearElemStands }
+{}
+
+/// Where a document has only these identifiers, so has the context at a path, and so has the document with another such
+/// context there. So the laws of clearing hold of a whole document.
+pub fn known_at_paths()
+    ensures { KnownAtPaths }
 {}
