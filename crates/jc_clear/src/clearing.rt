@@ -7,14 +7,14 @@ ghost use Rattle.jc_rules.specs.declared.key.Tagged.TheVariants.{MapT, ListT};
 ghost use Rattle.jc_rules.specs.Derivation.{Clear, ClearAny, ClearElem, ClearList, ClearMap};
 ghost use Rattle.jc_rules.specs.WellFormed.{IsChained, IsChainedList};
 ghost use Rattle.jc_tree.specs.CanGoBack.{TreeCanGoBack};
-ghost use Rattle.jc_tree.specs.Tree.{HasPlace, here};
+ghost use Rattle.jc_tree.specs.Tree.{HasPlace, NamesStay, here};
 ghost use Rattle.jc_clear.specs.Bare.{AreChainedBelow};
 ghost use Rattle.jc_clear.specs.Clears.{Clears};
 
 use crate::registers::{clear_register, presence_of};
 use crate::sets::{left_out, united};
 use jc_rules::{Id, IdSet, Key, Next, Rule, Tagged, Trace};
-use jc_tree::TreeStore;
+use jc_tree::{Place, TreeStore, place_of};
 use std::alloc::{AllocError, Global};
 
 /// Clears a key under each tag, and takes the dependencies out of its presence set.
@@ -23,15 +23,18 @@ fn elem_in<S: TreeStore>(
     alloc: Global,
     store: &mut S,
     deps: &IdSet,
+    place: Place,
     at: &mut Vec<Tagged>,
     key: &Key,
     trace: &mut Trace,
 ) -> Result<Vec<Id>, AllocError>
     requires there { HasPlace at.old.items (S.tree store.old) }
+    requires named { S.names store.old place at.old.items }
     requires chained { AreChainedBelow (here at.old.items (S.tree store.old)) }
     ensures ok { IfOk result (λ ids. Clears (λ c. ClearElem c deps.now key.now)
         at.old.items (S.tree store.old) (S.tree store.new) ids.items trace.old trace.new) }
     ensures path { OnOk result (at.new.items ≡ at.old.items) }
+    ensures names_stay { OnOk result (NamesStay (S.names store.old) (S.names store.new)) }
     ensures kept { TreeCanGoBack (S.tree store.old) (S.tree store.new) trace.old trace.new }
 {
     let depth = trace.depth();
@@ -51,15 +54,18 @@ fn any_in<S: TreeStore>(
     alloc: Global,
     store: &mut S,
     deps: &IdSet,
+    place: Place,
     at: &mut Vec<Tagged>,
     key: &Key,
     trace: &mut Trace,
 ) -> Result<Vec<Id>, AllocError>
     requires there { HasPlace at.old.items (S.tree store.old) }
+    requires named { S.names store.old place at.old.items }
     requires chained { AreChainedBelow (here at.old.items (S.tree store.old)) }
     ensures ok { IfOk result (λ ids. Clears (λ c. ClearAny c deps.now key.now)
         at.old.items (S.tree store.old) (S.tree store.new) ids.items trace.old trace.new) }
     ensures path { OnOk result (at.new.items ≡ at.old.items) }
+    ensures names_stay { OnOk result (NamesStay (S.names store.old) (S.names store.new)) }
     ensures kept { TreeCanGoBack (S.tree store.old) (S.tree store.new) trace.old trace.new }
 {
     let depth = trace.depth();
@@ -79,15 +85,18 @@ fn clear_map<S: TreeStore>(
     alloc: Global,
     store: &mut S,
     deps: &IdSet,
+    place: Place,
     at: &mut Vec<Tagged>,
     key: &Key,
     trace: &mut Trace,
 ) -> Result<Vec<Id>, AllocError>
     requires there { HasPlace at.old.items (S.tree store.old) }
+    requires named { S.names store.old place at.old.items }
     requires chained { AreChainedBelow (here at.old.items (S.tree store.old)) }
     ensures ok { IfOk result (λ ids. Clears (λ c. Clear c deps.now (MapT key.now))
         at.old.items (S.tree store.old) (S.tree store.new) ids.items trace.old trace.new) }
     ensures path { OnOk result (at.new.items ≡ at.old.items) }
+    ensures names_stay { OnOk result (NamesStay (S.names store.old) (S.names store.new)) }
     ensures kept { TreeCanGoBack (S.tree store.old) (S.tree store.new) trace.old trace.new }
 {
     let tagged = Tagged::MapT(key.copy()?);
@@ -111,14 +120,17 @@ fn map_in<S: TreeStore>(
     alloc: Global,
     store: &mut S,
     deps: &IdSet,
+    place: Place,
     at: &mut Vec<Tagged>,
     trace: &mut Trace,
 ) -> Result<Vec<Id>, AllocError>
     requires there { HasPlace at.old.items (S.tree store.old) }
+    requires named { S.names store.old place at.old.items }
     requires chained { AreChainedBelow (here at.old.items (S.tree store.old)) }
     ensures ok { IfOk result (λ ids. Clears (λ c. ClearMap c deps.now [])
         at.old.items (S.tree store.old) (S.tree store.new) ids.items trace.old trace.new) }
     ensures path { OnOk result (at.new.items ≡ at.old.items) }
+    ensures names_stay { OnOk result (NamesStay (S.names store.old) (S.names store.new)) }
     ensures kept { TreeCanGoBack (S.tree store.old) (S.tree store.new) trace.old trace.new }
 {
     let depth = trace.depth();
@@ -142,15 +154,18 @@ fn clear_list<S: TreeStore>(
     alloc: Global,
     store: &mut S,
     deps: &IdSet,
+    place: Place,
     at: &mut Vec<Tagged>,
     key: &Key,
     trace: &mut Trace,
 ) -> Result<Vec<Id>, AllocError>
     requires there { HasPlace at.old.items (S.tree store.old) }
+    requires named { S.names store.old place at.old.items }
     requires chained { AreChainedBelow (here at.old.items (S.tree store.old)) }
     ensures ok { IfOk result (λ ids. Clears (λ c. Clear c deps.now (ListT key.now))
         at.old.items (S.tree store.old) (S.tree store.new) ids.items trace.old trace.new) }
     ensures path { OnOk result (at.new.items ≡ at.old.items) }
+    ensures names_stay { OnOk result (NamesStay (S.names store.old) (S.names store.new)) }
     ensures kept { TreeCanGoBack (S.tree store.old) (S.tree store.new) trace.old trace.new }
 {
     let tagged = Tagged::ListT(key.copy()?);
@@ -174,14 +189,17 @@ fn list_in<S: TreeStore>(
     alloc: Global,
     store: &mut S,
     deps: &IdSet,
+    place: Place,
     at: &mut Vec<Tagged>,
     trace: &mut Trace,
 ) -> Result<Vec<Id>, AllocError>
     requires there { HasPlace at.old.items (S.tree store.old) }
+    requires named { S.names store.old place at.old.items }
     requires chained { IsChainedList (here at.old.items (S.tree store.old)) }
     ensures ok { IfOk result (λ ids. Clears (λ c. ClearList c deps.now (Some Head))
         at.old.items (S.tree store.old) (S.tree store.new) ids.items trace.old trace.new) }
     ensures path { OnOk result (at.new.items ≡ at.old.items) }
+    ensures names_stay { OnOk result (NamesStay (S.names store.old) (S.names store.new)) }
     ensures kept { TreeCanGoBack (S.tree store.old) (S.tree store.new) trace.old trace.new }
 {
     let depth = trace.depth();
@@ -209,14 +227,17 @@ fn tagged_in<S: TreeStore>(
     alloc: Global,
     store: &mut S,
     deps: &IdSet,
+    place: Place,
     at: &mut Vec<Tagged>,
     key: &Tagged,
     trace: &mut Trace,
 ) -> Result<Vec<Id>, AllocError>
     requires there { HasPlace at.old.items (S.tree store.old) }
+    requires named { S.names store.old place at.old.items }
     requires chained { AreChainedBelow (here at.old.items (S.tree store.old)) }
     ensures ok { IfOk result (λ ids. Clears (λ c. Clear c deps.now key.now)
         at.old.items (S.tree store.old) (S.tree store.new) ids.items trace.old trace.new) }
+    ensures names_stay { OnOk result (NamesStay (S.names store.old) (S.names store.new)) }
     ensures kept { TreeCanGoBack (S.tree store.old) (S.tree store.new) trace.old trace.new }
 {
     match key {
@@ -256,6 +277,32 @@ pub fn clear<S: TreeStore>(
     requires chained { IsChained (S.tree store.old).now }
     ensures ok { IfOk result (λ ids. Clears (λ c. Clear c deps.now key.now)
         at.now (S.tree store.old) (S.tree store.new) ids.items trace.old trace.new) }
+    ensures names_stay { OnOk result (NamesStay (S.names store.old) (S.names store.new)) }
+    ensures err_store { OnErr result (S.tree store.new ≡ S.tree store.old) }
+    ensures err_trace { OnErr result (trace.new ≡ trace.old) }
+    ensures kept { TreeCanGoBack (S.tree store.old) (S.tree store.new) trace.old trace.new }
+    ensures chained { IsChained (S.tree store.new).now }
+{
+    let place = place_of(store, at);
+    clear_at(alloc, store, deps, place, at, key, trace)
+}
+
+/// As [`clear`], for a place whose name is known.
+pub fn clear_at<S: TreeStore>(
+    alloc: Global,
+    store: &mut S,
+    deps: &IdSet,
+    place: Place,
+    at: &[Tagged],
+    key: &Tagged,
+    trace: &mut Trace,
+) -> Result<Vec<Id>, AllocError>
+    requires there { HasPlace at.now (S.tree store.old) }
+    requires named { S.names store.old place at.now }
+    requires chained { IsChained (S.tree store.old).now }
+    ensures ok { IfOk result (λ ids. Clears (λ c. Clear c deps.now key.now)
+        at.now (S.tree store.old) (S.tree store.new) ids.items trace.old trace.new) }
+    ensures names_stay { OnOk result (NamesStay (S.names store.old) (S.names store.new)) }
     ensures err_store { OnErr result (S.tree store.new ≡ S.tree store.old) }
     ensures err_trace { OnErr result (trace.new ≡ trace.old) }
     ensures kept { TreeCanGoBack (S.tree store.old) (S.tree store.new) trace.old trace.new }
@@ -264,7 +311,7 @@ pub fn clear<S: TreeStore>(
     let mut path = copied(alloc, at)?;
     let start = store.mark();
     let first = trace.mark();
-    match tagged_in(alloc, store, deps, &mut path, key, trace) {
+    match tagged_in(alloc, store, deps, place, &mut path, key, trace) {
         Ok(ids) => Ok(ids),
         Err(refused) => {
             store.undo_to(start);
@@ -294,6 +341,32 @@ pub fn clear_elem<S: TreeStore>(
     requires chained { IsChained (S.tree store.old).now }
     ensures ok { IfOk result (λ ids. Clears (λ c. ClearElem c deps.now key.now)
         at.now (S.tree store.old) (S.tree store.new) ids.items trace.old trace.new) }
+    ensures names_stay { OnOk result (NamesStay (S.names store.old) (S.names store.new)) }
+    ensures err_store { OnErr result (S.tree store.new ≡ S.tree store.old) }
+    ensures err_trace { OnErr result (trace.new ≡ trace.old) }
+    ensures kept { TreeCanGoBack (S.tree store.old) (S.tree store.new) trace.old trace.new }
+    ensures chained { IsChained (S.tree store.new).now }
+{
+    let place = place_of(store, at);
+    clear_elem_at(alloc, store, deps, place, at, key, trace)
+}
+
+/// As [`clear_elem`], for a place whose name is known.
+pub fn clear_elem_at<S: TreeStore>(
+    alloc: Global,
+    store: &mut S,
+    deps: &IdSet,
+    place: Place,
+    at: &[Tagged],
+    key: &Key,
+    trace: &mut Trace,
+) -> Result<Vec<Id>, AllocError>
+    requires there { HasPlace at.now (S.tree store.old) }
+    requires named { S.names store.old place at.now }
+    requires chained { IsChained (S.tree store.old).now }
+    ensures ok { IfOk result (λ ids. Clears (λ c. ClearElem c deps.now key.now)
+        at.now (S.tree store.old) (S.tree store.new) ids.items trace.old trace.new) }
+    ensures names_stay { OnOk result (NamesStay (S.names store.old) (S.names store.new)) }
     ensures err_store { OnErr result (S.tree store.new ≡ S.tree store.old) }
     ensures err_trace { OnErr result (trace.new ≡ trace.old) }
     ensures kept { TreeCanGoBack (S.tree store.old) (S.tree store.new) trace.old trace.new }
@@ -302,7 +375,7 @@ pub fn clear_elem<S: TreeStore>(
     let mut path = copied(alloc, at)?;
     let start = store.mark();
     let first = trace.mark();
-    match elem_in(alloc, store, deps, &mut path, key, trace) {
+    match elem_in(alloc, store, deps, place, &mut path, key, trace) {
         Ok(ids) => Ok(ids),
         Err(refused) => {
             store.undo_to(start);

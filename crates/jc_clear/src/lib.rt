@@ -5,4 +5,4 @@ mod clearing;
 mod registers;
 mod sets;
 
-pub use clearing::{clear, clear_elem};
+pub use clearing::{clear, clear_at, clear_elem, clear_elem_at};

@@ -114,6 +114,10 @@ module _ (ns : List Flat) (i : ℕ) (t : Tagged) (g : IsGood ns) (w : i < length
   child_at at path kind =
       further_down (with_child t i ns) at 0 i t (walk_lasts ns (with_child t i ns) each_child at 0 i path) ∙ ap (λ n. child_number t n) (at_changed ns i t g.sound w) ∙ child_named t (length ns) (flat_at ns i) kind
 
+  -- each path leads to the number that it led to
+  pub names_last : (at : List Tagged) (j : ℕ) → walk ns 0 at ≡ Some j → walk (with_child t i ns) 0 at ≡ Some j
+  names_last at j path = walk_lasts ns (with_child t i ns) each_child at 0 j path
+
 -- where each child is the same, each path leads to the same number
 walk_same : (ns ms : List Flat) → ((a : ℕ) (u : Tagged) → child_number u (flat_at ms a) ≡ child_number u (flat_at ns a)) → (at : List Tagged) (a : ℕ) → walk ms a at ≡ walk ns a at
 walk_same ns ms k [] a = refl

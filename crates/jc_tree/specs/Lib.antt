@@ -11,3 +11,4 @@ pub mod CanGoBack
 pub mod Arena
 pub mod ArenaUndo
 pub mod Counted
+pub mod Numbered

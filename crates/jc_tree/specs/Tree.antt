@@ -8,6 +8,7 @@ use Rattle.jc_rules.specs.Order.{key_cmp}
 use Rattle.jc_rules.specs.Context.{Context}
 use Rattle.jc_rules.specs.ContextsAt.{node_at, with_node_at, context_at}
 use Rattle.jc_rules.specs.Table.{least}
+use Rattle.jc_tree.specs.declared.store.Place.{Place}
 
 -- the content, and the contents before each change since `forget_marks` was last called, the oldest first
 pub record Tree : Type 0 where
@@ -41,6 +42,10 @@ pub record IsChanged (at : List Tagged) (y : Context) (old new : Tree) : Type 0 
 pub record IsLater (old new : Tree) : Type 0 where
   pub added : List Context
   pub is : tree_history new ≡ tree_history old ++ added
+
+-- each name of a place still names it
+abbrev pub NamesStay : (Place → List Tagged → Type 0) → (Place → List Tagged → Type 0) → Type 0
+NamesStay old new = (p : Place) (at : List Tagged) → old p at → new p at
 
 -- whether the key comes after the given one, if one is given
 abbrev pub is_after : Option Key → Key → Bool

@@ -14,7 +14,7 @@ use crate::arena_node::{ArenaNode, NodeId, former_of_node};
 use crate::ids::Ids;
 use crate::lists::Pairs;
 use crate::node::{Change, Former};
-use crate::store::{Mark, Place, TreeStore};
+use crate::store::{Hint, Mark, Place, Step, TreeStore};
 use jc_rules::{Id, Key, Next, Tagged, Value};
 use std::alloc::{AllocError, Global};
 
@@ -138,6 +138,8 @@ impl ArenaTree {
             (changed_by change (context_at at.now (content_of_arena self.old.nodes.items)))
             (tree_of_arena self.old.nodes.items self.old.undos.items)
             (tree_of_arena self.new.nodes.items self.new.undos.items)) }
+        ensures numbers { OnOk result ((q : List AnyTagged) →
+            walk self.new.nodes.items 0 q ≡ walk self.old.nodes.items 0 q) }
         ensures err { OnErr result (tree_of_arena self.new.nodes.items self.new.undos.items
             ≡ tree_of_arena self.old.nodes.items self.old.undos.items) }
     {
@@ -288,6 +290,50 @@ impl TreeStore for ArenaTree {
     ) -> Result<bool, AllocError> {
         let node = NodeId::new(place.number);
         self.change_node(node, Change::AddId(key.copy()?, id))
+    }
+
+    fn step_by(&self, place: Place, at: &[Tagged], key: &Key, hint: Hint) -> Step {
+        self.node(NodeId::new(place.number)).step(key, hint)
+    }
+
+    fn set_next_at(
+        &mut self,
+        place: Place,
+        at: &[Tagged],
+        key: &Key,
+        next: Next,
+    ) -> Result<(), AllocError> {
+        let node = NodeId::new(place.number);
+        self.change_node(node, Change::Link(key.copy()?, next))?;
+        Ok(())
+    }
+
+    fn register_at(&self, place: Place, at: &[Tagged], key: &Key) -> Option<&[(Id, Value)]> {
+        self.node(NodeId::new(place.number)).register(key)
+    }
+
+    fn set_register_at(
+        &mut self,
+        place: Place,
+        at: &[Tagged],
+        key: &Key,
+        pairs: Vec<(Id, Value)>,
+    ) -> Result<(), AllocError> {
+        let node = NodeId::new(place.number);
+        self.change_node(node, Change::Register(key.copy()?, Pairs::new(pairs)))?;
+        Ok(())
+    }
+
+    fn put_value_at(
+        &mut self,
+        place: Place,
+        at: &[Tagged],
+        key: &Key,
+        id: Id,
+        value: Value,
+    ) -> Result<bool, AllocError> {
+        let node = NodeId::new(place.number);
+        self.change_node(node, Change::PutValue(key.copy()?, id, value))
     }
 
     fn mark(&self) -> Mark {

@@ -4,13 +4,14 @@ ghost use Rattle.std.specs.Prelude.{◌≡◌, ℕ, ◌++◌, None, is_some, opt
 ghost use Rattle.jc_rules.specs.Order.{key_cmp};
 ghost use Rattle.jc_rules.specs.Entries.{find, keys_of};
 ghost use Rattle.jc_rules.specs.Paths.{HasContext};
-ghost use Rattle.jc_tree.specs.Tree.{least_after, count_present};
+ghost use Rattle.jc_tree.specs.Tree.{or_no_entries, least_after, has_ids, count_present};
 ghost use Rattle.jc_tree.specs.Arena.{blank, new_flat, child_number, is_in, with_child_number, IsInside, changed_flat, former_of_node, former_of_flat, restored_flat};
 
 use crate::ids::Ids;
 use crate::lists::Pairs;
 use crate::node::{Change, Former, lesser};
 use crate::presences::Presences;
+use crate::store::{Hint, Step};
 use crate::tables::{key_above_in, put_in, put_value_in, restore_in, restore_value_in, value_in};
 use jc_rules::{Id, Key, Next, Tagged, Value};
 use std::alloc::{AllocError, Global};
@@ -157,6 +158,18 @@ impl ArenaNode {
         ensures { option_copied result ≡ find key_cmp key.now self.now.registers }
     {
         Some(value_in(&self.registers, key)?.as_slice())
+    }
+
+    /// What a walk along a list reads of the key; `hint` is where to look first.
+    pub fn step(&self, key: &Key, hint: Hint) -> Step
+        ensures next { result.next ≡ find key_cmp key.now self.now.links }
+        ensures present { result.present ≡ has_ids (or_no_entries (find key_cmp key.now self.now.presences)) }
+    {
+        Step {
+            next: self.next(key),
+            present: self.presence(key).is_some_and(|ids| !ids.is_empty()),
+            hint,
+        }
     }
 
     /// The least key with a tag, above the given one.

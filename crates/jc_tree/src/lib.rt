@@ -16,4 +16,4 @@ mod tables;
 
 pub use arena::ArenaTree;
 pub use plain::PlainTree;
-pub use store::{Mark, Place, TreeStore, is_place};
+pub use store::{Hint, Mark, Place, Step, TreeStore, is_place, place_of};

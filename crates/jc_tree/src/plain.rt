@@ -13,7 +13,7 @@ ghost use Rattle.jc_tree.specs.Single.{IsKept-single, AreAllKept-single};
 use crate::ids::Ids;
 use crate::lists::{Pairs, copy_place};
 use crate::node::{Change, Former, Node};
-use crate::store::{Mark, Place, TreeStore};
+use crate::store::{Hint, Mark, Place, Step, TreeStore};
 use jc_rules::{Id, Key, Next, Tagged, Value};
 use std::alloc::{AllocError, Global};
 
@@ -187,6 +187,50 @@ impl TreeStore for PlainTree {
         id: Id,
     ) -> Result<bool, AllocError> {
         self.add_presence(at, key, id)
+    }
+
+    fn step_by(&self, place: Place, at: &[Tagged], key: &Key, hint: Hint) -> Step {
+        let node = self.root.node_at(at);
+        Step {
+            next: node.next(key),
+            present: node.presence(key).is_some_and(|ids| !ids.is_empty()),
+            hint,
+        }
+    }
+
+    fn set_next_at(
+        &mut self,
+        place: Place,
+        at: &[Tagged],
+        key: &Key,
+        next: Next,
+    ) -> Result<(), AllocError> {
+        self.set_next(at, key, next)
+    }
+
+    fn register_at(&self, place: Place, at: &[Tagged], key: &Key) -> Option<&[(Id, Value)]> {
+        self.register(at, key)
+    }
+
+    fn set_register_at(
+        &mut self,
+        place: Place,
+        at: &[Tagged],
+        key: &Key,
+        pairs: Vec<(Id, Value)>,
+    ) -> Result<(), AllocError> {
+        self.set_register(at, key, pairs)
+    }
+
+    fn put_value_at(
+        &mut self,
+        place: Place,
+        at: &[Tagged],
+        key: &Key,
+        id: Id,
+        value: Value,
+    ) -> Result<bool, AllocError> {
+        self.put_value(at, key, id, value)
     }
 
     #[tactic(auto, using(crate::proofs::UndoLemmas::length_contents))]

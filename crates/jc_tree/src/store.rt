@@ -11,7 +11,7 @@ ghost use Rattle.jc_rules.specs.Paths.{HasContext};
 ghost use Rattle.jc_rules.specs.ContextsAt.{node_in};
 ghost use Rattle.jc_rules.specs.WellFormed.{IsWellFormedContext, IsWellFormedRegister};
 ghost use Rattle.jc_tree.specs.declared.store.Place.{Place as AnyPlace};
-ghost use Rattle.jc_tree.specs.Tree.{Tree, tree_history, HasPlace, here, or_no_entries, IsChanged, least_after, count_present};
+ghost use Rattle.jc_tree.specs.Tree.{Tree, tree_history, HasPlace, here, or_no_entries, IsChanged, NamesStay, least_after, has_ids, count_present};
 
 use jc_rules::{Id, Key, Next, Tagged, Value};
 use std::alloc::AllocError;
@@ -26,6 +26,24 @@ pub struct Mark {
 #[derive(Clone, Copy, Debug, PartialEq, Eq)]
 pub struct Place {
     pub number: usize,
+}
+
+/// Where a store may look first for a key of a context. Any number will do: a wrong one costs a
+/// search, and changes no answer.
+#[derive(Clone, Copy, Debug, PartialEq, Eq)]
+pub struct Hint {
+    pub number: usize,
+}
+
+/// What a walk along a list reads of a key.
+#[derive(Clone, Copy, Debug, PartialEq, Eq)]
+pub struct Step {
+    /// What follows the key.
+    pub next: Option<Next>,
+    /// Whether the key's presence set has an identifier.
+    pub present: bool,
+    /// Where to look first for the key that follows.
+    pub hint: Hint,
 }
 
 /// A document's tree, with the contents that it had before each change since `forget_marks` was last
@@ -51,6 +69,7 @@ pub trait TreeStore {
         ensures ok { OnOk result (IsChanged at.now
             (with_content key.now (new_content key.now) (here at.now (tree self.old)))
             (tree self.old) (tree self.new)) }
+        ensures names_stay { OnOk result (NamesStay (names self.old) (names self.new)) }
         ensures err { OnErr result (tree self.new ≡ tree self.old) };
 
     /// The presence set of the key, rising.
@@ -65,6 +84,7 @@ pub trait TreeStore {
         ensures ok { OnOk result (IsChanged at.now
             (with_presence key.now ids.now (here at.now (tree self.old)))
             (tree self.old) (tree self.new)) }
+        ensures names_stay { OnOk result (NamesStay (names self.old) (names self.new)) }
         ensures err { OnErr result (tree self.new ≡ tree self.old) };
 
     /// Adds the identifier to the key's presence set, a new one where there is none. Returns whether
@@ -76,6 +96,7 @@ pub trait TreeStore {
             (here at.now (tree self.old)))
             (tree self.old) (tree self.new)) }
         ensures was { IfOk result (λ was. was ≡ is_some (presence key.now (here at.now (tree self.old)))) }
+        ensures names_stay { OnOk result (NamesStay (names self.old) (names self.new)) }
         ensures err { OnErr result (tree self.new ≡ tree self.old) };
 
     /// What follows the key in a list.
@@ -89,6 +110,7 @@ pub trait TreeStore {
         ensures ok { OnOk result (IsChanged at.now
             (with_next key.now next (here at.now (tree self.old)))
             (tree self.old) (tree self.new)) }
+        ensures names_stay { OnOk result (NamesStay (names self.old) (names self.new)) }
         ensures err { OnErr result (tree self.new ≡ tree self.old) };
 
     /// The values of the key's register, rising by identifier.
@@ -108,6 +130,7 @@ pub trait TreeStore {
         ensures ok { OnOk result (IsChanged at.now
             (with_content (RegT key.now) (Values pairs.items) (here at.now (tree self.old)))
             (tree self.old) (tree self.new)) }
+        ensures names_stay { OnOk result (NamesStay (names self.old) (names self.new)) }
         ensures err { OnErr result (tree self.new ≡ tree self.old) };
 
     /// Puts the value under the identifier into the key's register, a new one where there is
@@ -128,6 +151,7 @@ pub trait TreeStore {
             (tree self.old) (tree self.new)) }
         ensures was { IfOk result (λ was.
             was ≡ is_some (find key_cmp key.now (registers (here at.now (tree self.old))))) }
+        ensures names_stay { OnOk result (NamesStay (names self.old) (names self.new)) }
         ensures err { OnErr result (tree self.new ≡ tree self.old) };
 
     /// The least key with a map, a list or a register, above the given one.
@@ -175,9 +199,10 @@ pub trait TreeStore {
             (with_content key.now (new_content key.now) (here at.now (tree self.old)))
             (tree self.old) (tree self.new)) }
         ensures named { IfOk result (λ child. names self.new child (at.now ++ key.now ∷ [])) }
+        ensures names_stay { OnOk result (NamesStay (names self.old) (names self.new)) }
         ensures err { OnErr result (tree self.new ≡ tree self.old) };
 
-    /// As `add_presence`, for a place whose name is known. The place keeps its name.
+    /// As `add_presence`, for a place whose name is known.
     fn add_presence_at(
         &mut self,
         place: Place,
@@ -192,7 +217,77 @@ pub trait TreeStore {
             (here at.now (tree self.old)))
             (tree self.old) (tree self.new)) }
         ensures was { IfOk result (λ was. was ≡ is_some (presence key.now (here at.now (tree self.old)))) }
-        ensures named { OnOk result (names self.new place at.now) }
+        ensures names_stay { OnOk result (NamesStay (names self.old) (names self.new)) }
+        ensures err { OnErr result (tree self.new ≡ tree self.old) };
+
+    /// One step of a walk along a list: what follows the key in the context at the place, whether the
+    /// key is present, and a hint for the key that follows. `place` is the store's name for the place,
+    /// `hint` is where to look first.
+    fn step_by(&self, place: Place, at: &[Tagged], key: &Key, hint: Hint) -> Step
+        requires there { HasPlace at.now (tree self.now) }
+        requires named { names self.now place at.now }
+        ensures next { result.next ≡ next_of key.now (here at.now (tree self.now)) }
+        ensures present { result.present ≡ has_ids (or_no_entries (presence key.now (here at.now (tree self.now)))) };
+
+    /// As `set_next`, for a place whose name is known.
+    fn set_next_at(
+        &mut self,
+        place: Place,
+        at: &[Tagged],
+        key: &Key,
+        next: Next,
+    ) -> Result<(), AllocError>
+        requires there { HasPlace at.now (tree self.old) }
+        requires named { names self.old place at.now }
+        ensures ok { OnOk result (IsChanged at.now
+            (with_next key.now next (here at.now (tree self.old)))
+            (tree self.old) (tree self.new)) }
+        ensures names_stay { OnOk result (NamesStay (names self.old) (names self.new)) }
+        ensures err { OnErr result (tree self.new ≡ tree self.old) };
+
+    /// As `register`, for a place whose name is known.
+    fn register_at(&self, place: Place, at: &[Tagged], key: &Key) -> Option<&[(Id, Value)]>
+        requires there { HasPlace at.now (tree self.now) }
+        requires named { names self.now place at.now }
+        ensures { option_copied result ≡ find key_cmp key.now (registers (here at.now (tree self.now))) };
+
+    /// As `set_register`, for a place whose name is known.
+    fn set_register_at(
+        &mut self,
+        place: Place,
+        at: &[Tagged],
+        key: &Key,
+        pairs: Vec<(Id, Value)>,
+    ) -> Result<(), AllocError>
+        requires there { HasPlace at.now (tree self.old) }
+        requires named { names self.old place at.now }
+        requires kept { IsWellFormedRegister pairs.items }
+        ensures ok { OnOk result (IsChanged at.now
+            (with_content (RegT key.now) (Values pairs.items) (here at.now (tree self.old)))
+            (tree self.old) (tree self.new)) }
+        ensures names_stay { OnOk result (NamesStay (names self.old) (names self.new)) }
+        ensures err { OnErr result (tree self.new ≡ tree self.old) };
+
+    /// As `put_value`, for a place whose name is known.
+    fn put_value_at(
+        &mut self,
+        place: Place,
+        at: &[Tagged],
+        key: &Key,
+        id: Id,
+        value: Value,
+    ) -> Result<bool, AllocError>
+        requires there { HasPlace at.now (tree self.old) }
+        requires named { names self.old place at.now }
+        requires primitive { IsPrimitive value }
+        ensures ok { OnOk result (IsChanged at.now
+            (with_content (RegT key.now)
+            (Values (put id_cmp id value (or_no_entries (find key_cmp key.now (registers (here at.now (tree self.old)))))))
+            (here at.now (tree self.old)))
+            (tree self.old) (tree self.new)) }
+        ensures was { IfOk result (λ was.
+            was ≡ is_some (find key_cmp key.now (registers (here at.now (tree self.old))))) }
+        ensures names_stay { OnOk result (NamesStay (names self.old) (names self.new)) }
         ensures err { OnErr result (tree self.new ≡ tree self.old) };
 
     /// Marks the content as it is: a savepoint.
@@ -226,4 +321,19 @@ pub fn is_place<S: TreeStore>(store: &S, at: &[Tagged]) -> bool
         }
     }
     true
+}
+
+/// The store's name for the place.
+pub fn place_of<S: TreeStore>(store: &S, at: &[Tagged]) -> Place
+    requires { HasPlace at.now (S.tree store.now) }
+    ensures { S.names store.now result at.now }
+{
+    let mut place = store.root();
+    for (depth, key) in at.iter().enumerate() {
+        match store.below(place, &at[..depth], key) {
+            Some(child) => place = child,
+            None => unreachable!(),
+        }
+    }
+    place
 }

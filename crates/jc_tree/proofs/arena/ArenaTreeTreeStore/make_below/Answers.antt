@@ -6,7 +6,7 @@ use Rattle.jc_tree.specs.ArenaUndo.{IsGood, AreGood}
 use Rattle.jc_tree.specs.declared.arena.Undo.{Undo}
 use Rattle.jc_tree.proofs.ArenaChangesLemmas.{Changes, child_changes}
 use Rattle.jc_tree.proofs.ArenaStepsLemmas.{content_absent}
-use Rattle.jc_tree.proofs.ArenaPlacesLemmas.{place_inside, child_at}
+use Rattle.jc_tree.proofs.ArenaPlacesLemmas.{place_inside, child_at, names_last}
 use Rattle.jc_tree.proofs.ArenaHistoryLemmas.{good_pushed, changed_tree}
 use Rattle.jc_tree.proofs.UndoLemmas.{pushed}
 use Rattle.jc_tree.proofs.ArenaCallsLemmas.{nodes_made, nodes_left, pushed_ok}
@@ -65,3 +65,13 @@ returns-clause-named c =
     let made = nodes_made ns c.reserve-2.new.self.items c.push.new.self.items c.args.place.number c.new.result key c.in_ok-copy.copy c.index_mut.result.now c.name_child.new.self c.in_ok-child.child c.in_ok-reserve-2.ensures.items c.index_mut.ensures.value within c.in_ok-copy.ensures (c.new.ensures ∙ c.len-number.ensures ∙ self.nodes.ok.0) c.in_ok-name_child.ensures.ok c.in_ok-child.ensures (pushed_ok c.push.result _ _ c.push.new.self.items _ c.unwrap.ensures c.push.ensures.items) in
     let absent = content_absent ns c.args.at.now c.args.place.number key self.good c.requires.named within c.requires.context c.requires.absent in
     rw made (child_at ns c.args.place.number key self.good within absent c.args.at.now c.requires.named c.requires.context) ∙ ap (λ n. Some n) (sym (c.len-number.ensures ∙ self.nodes.ok.0))
+
+pub returns-clause-names_stay : goal.returns-clause-names_stay
+returns-clause-names_stay c p q named =
+    let self = c.args.self.now in
+    let ns = self.nodes.items in
+    let within = place_inside ns c.args.at.now c.args.place.number self.good c.requires.named in
+    let key = c.args.key.now in
+    let made = nodes_made ns c.reserve-2.new.self.items c.push.new.self.items c.args.place.number c.new.result key c.in_ok-copy.copy c.index_mut.result.now c.name_child.new.self c.in_ok-child.child c.in_ok-reserve-2.ensures.items c.index_mut.ensures.value within c.in_ok-copy.ensures (c.new.ensures ∙ c.len-number.ensures ∙ self.nodes.ok.0) c.in_ok-name_child.ensures.ok c.in_ok-child.ensures (pushed_ok c.push.result _ _ c.push.new.self.items _ c.unwrap.ensures c.push.ensures.items) in
+    let absent = content_absent ns c.args.at.now c.args.place.number key self.good c.requires.named within c.requires.context c.requires.absent in
+    rw made (names_last ns c.args.place.number key self.good within absent q p.number named)
