@@ -22,7 +22,7 @@ abbrev pub with_key : Key → Numbering → Numbering
 with_key k t = record { keys = t.keys ++ k ∷ []; order = put key_cmp k (length t.keys) t.order }
 
 -- The key has the number: it had it before, or it had none and is the one key more.
-data pub GetsNumber (k : Key) (n : ℕ) (old new : Numbering) : Type 0 where
+pub data GetsNumber (k : Key) (n : ℕ) (old new : Numbering) : Type 0 where
   pub had : find key_cmp k old.order ≡ Some n → new ≡ old → GetsNumber k n old new
   pub gets : find key_cmp k old.order ≡ None → n ≡ length old.keys → new ≡ with_key k old → GetsNumber k n old new
 
