@@ -30,6 +30,20 @@ no_way : (at : List Tagged) (i : ℕ) (t : Tagged) (c : Context) → i < length 
 no_way at i t c h e p none =
     subst (λ (ks : List Tagged). node_at ks c ≡ None) (take-append-drop (i + 1) at) (nowhere (take (i + 1) at) (drop (i + 1) at) c (rw (further at i t c h e p) none))
 
+-- where a path leads to a context, so does each front of it
+pub front_there : (at : List Tagged) (i : ℕ) (c : Context) → node_at at c ≢ None → node_at (take i at) c ≢ None
+front_there at i c p e =
+    p (subst (λ (ks : List Tagged). node_at ks c ≡ None) (take-append-drop i at) (nowhere (take i at) (drop i at) c e))
+
+-- and its next key leads on
+pub leads_on : (at : List Tagged) (i : ℕ) (t : Tagged) (c : Context) → i < length at → t ≡ get_or at i t → node_at at c ≢ None → is_some (node_in (content t (context_at (take i at) c))) ≡ true
+leads_on at i t c h e p =
+    go (node_in (content t (context_at (take i at) c))) (λ none. p (no_way at i t c h e (front_there at i c p) none))
+  where
+    go : (o : Option Context) → (o ≡ None → ⊥) → is_some o ≡ true
+    go None n = absurd (n refl)
+    go (Some d) n = refl
+
 module _ (at : List Tagged) (i : ℕ) (t : Tagged) (c : Context) (h : i < length at) (e : t ≡ get_or at i t) (p : node_at (take i at) c ≢ None) where
   -- no context stands under a register's key
   pub no_way_register : (k : Key) → t ≡ RegT k → node_at at c ≡ None
