@@ -1,30 +1,30 @@
 //! A store and a place of it: each call, by the path and by the name of the place.
 
-ghost use Rattle.std.specs.Prelude.{IfSome};
+ghost use Rattle.std.specs.Prelude.{IsSome, IfSome};
 ghost use Rattle.jc_rules.specs.Ids.{AreRising};
 ghost use Rattle.jc_rules.specs.Context.{IsPrimitive};
 ghost use Rattle.jc_rules.specs.Paths.{HasContext};
+ghost use Rattle.jc_tree.specs.Tree.{HasPlace};
 
 use crate::keys::{At, Keys, Values, ids_of, values_of};
 use crate::steps::{Kind, Step};
 use jc_rules::{Id, Key, Next, Tagged, Value};
-use jc_tree::{Mark, Place, TreeStore, is_place};
+use jc_tree::{Hint, Mark, Place, TreeStore, is_place, place_of};
 use std::alloc::AllocError;
 
-/// The name of the place, found key by key.
+/// The name of the place, where there is one.
 fn name_of<S: TreeStore>(store: &S, at: &[Tagged]) -> Option<Place>
-    ensures { IfSome result (λ place. S.names store.now place at.now) }
+    ensures there { IsSome result → HasPlace at.now (S.tree store.now) }
+    ensures named { IfSome result (λ place. S.names store.now place at.now) }
 {
-    let mut place = store.root();
-    for (depth, key) in at.iter().enumerate() {
-        let above = &at[..depth];
-        if !is_place(store, above) {
-            return None;
-        }
-        place = store.below(place, above, key)?;
+    if !is_place(store, at) {
+        return None;
     }
-    Some(place)
+    Some(place_of(store, at))
 }
+
+/// Where a store looks first for a key: at each of the first keys, and where none is.
+const HINTS: [usize; 5] = [0, 1, 2, 5, usize::MAX];
 
 /// A store, and the place of it that is changed and looked at. Its calls say whether the store answered as it should;
 /// where there is no such place they say no.
@@ -88,9 +88,6 @@ impl<S: TreeStore> Placed<S> {
     /// The name of the place lasts.
     fn add_id_named(&mut self, key: &Key, id: Id) -> Result<bool, AllocError> {
         let at = self.at.as_slice();
-        if !is_place(&self.store, at) {
-            return Ok(false);
-        }
         let Some(place) = name_of(&self.store, at) else {
             return Ok(false);
         };
@@ -107,6 +104,16 @@ impl<S: TreeStore> Placed<S> {
         Ok(true)
     }
 
+    /// The name of the place lasts.
+    fn link_named(&mut self, key: &Key, next: Next) -> Result<bool, AllocError> {
+        let at = self.at.as_slice();
+        let Some(place) = name_of(&self.store, at) else {
+            return Ok(false);
+        };
+        self.store.set_next_at(place, at, key, next)?;
+        Ok(name_of(&self.store, at) == Some(place))
+    }
+
     fn put_values(&mut self, keys: &Keys, at: At, values: Values) -> Result<bool, AllocError> {
         if !is_place(&self.store, self.at.as_slice()) {
             return Ok(false);
@@ -115,6 +122,23 @@ impl<S: TreeStore> Placed<S> {
         self.store
             .set_register(self.at.as_slice(), keys.key(at), pairs)?;
         Ok(true)
+    }
+
+    /// The name of the place lasts.
+    fn put_values_named(
+        &mut self,
+        keys: &Keys,
+        at: At,
+        values: Values,
+    ) -> Result<bool, AllocError> {
+        let path = self.at.as_slice();
+        let Some(place) = name_of(&self.store, path) else {
+            return Ok(false);
+        };
+        let pairs = values_of(keys.alloc, values)?;
+        self.store
+            .set_register_at(place, path, keys.key(at), pairs)?;
+        Ok(name_of(&self.store, path) == Some(place))
     }
 
     fn put(&mut self, key: &Key, id: Id, value: Value) -> Result<bool, AllocError>
@@ -137,18 +161,54 @@ impl<S: TreeStore> Placed<S> {
         }
     }
 
+    /// The name of the place lasts, and by it the register is found.
+    fn put_named(&mut self, key: &Key, id: Id, value: Value) -> Result<bool, AllocError>
+        requires { IsPrimitive value }
+    {
+        let at = self.at.as_slice();
+        let Some(place) = name_of(&self.store, at) else {
+            return Ok(false);
+        };
+        let was = self.store.register_at(place, at, key).is_some();
+        let told = self.store.put_value_at(place, at, key, id, value)?;
+        Ok(told == was && name_of(&self.store, at) == Some(place))
+    }
+
+    /// Puts `true`, `false` or, for none, `null`, by the name of the place.
+    fn put_value_named(
+        &mut self,
+        key: &Key,
+        id: Id,
+        value: Option<bool>,
+    ) -> Result<bool, AllocError> {
+        match value {
+            None => self.put_named(key, id, Value::Null),
+            Some(true) => self.put_named(key, id, Value::True),
+            Some(false) => self.put_named(key, id, Value::False),
+        }
+    }
+
+    fn change_named(&mut self, keys: &Keys, step: &Step) -> Result<bool, AllocError> {
+        match step {
+            Step::MakeNamed(tag, at) => self.make_named(keys.child(*tag, *at)),
+            Step::AddIdNamed(at, id) => self.add_id_named(keys.key(*at), *id),
+            Step::LinkNamed(at, next) => self.link_named(keys.key(*at), *next),
+            Step::PutValuesNamed(at, values) => self.put_values_named(keys, *at, *values),
+            Step::PutValueNamed(at, id, value) => self.put_value_named(keys.key(*at), *id, *value),
+            _ => Ok(false),
+        }
+    }
+
     /// Makes the change.
     pub fn change(&mut self, keys: &Keys, step: &Step) -> Result<bool, AllocError> {
         match step {
             Step::Make(tag, at) => self.make(keys.child(*tag, *at)),
-            Step::MakeNamed(tag, at) => self.make_named(keys.child(*tag, *at)),
             Step::PutIds(at, ids) => self.put_ids(keys.key(*at), ids_of(*ids)),
             Step::AddId(at, id) => self.add_id(keys.key(*at), *id),
-            Step::AddIdNamed(at, id) => self.add_id_named(keys.key(*at), *id),
             Step::Link(at, next) => self.link(keys.key(*at), *next),
             Step::PutValues(at, values) => self.put_values(keys, *at, *values),
             Step::PutValue(at, id, value) => self.put_value(keys.key(*at), *id, *value),
-            _ => Ok(false),
+            _ => self.change_named(keys, step),
         }
     }
 
@@ -196,13 +256,30 @@ impl<S: TreeStore> Placed<S> {
 
     pub fn has_below(&self, child: &Tagged) -> bool {
         let at = self.at.as_slice();
-        if !is_place(&self.store, at) {
-            return false;
-        }
         let Some(place) = name_of(&self.store, at) else {
             return false;
         };
         self.store.below(place, at, child).is_some()
+    }
+
+    /// Whether one step along a list from the key says what the other calls say, wherever it looks first.
+    pub fn steps_alike(&self, key: &Key) -> bool {
+        let at = self.at.as_slice();
+        let Some(place) = name_of(&self.store, at) else {
+            return false;
+        };
+        let next = self.store.next(at, key);
+        let present = self
+            .store
+            .presence(at, key)
+            .is_some_and(|ids| !ids.is_empty());
+        for number in HINTS {
+            let step = self.store.step_by(place, at, key, Hint { number });
+            if step.next != next || step.present != present {
+                return false;
+            }
+        }
+        true
     }
 
     /// The least key of the kind above the given one.
@@ -249,7 +326,9 @@ impl<S: TreeStore> Placed<S> {
             Step::HasBelow(tag, key, want) => self.has_below(keys.child(*tag, *key)) == *want,
             Step::Ids(key, want) => self.store.presence(at, keys.key(*key)) == *want,
             Step::CountPresent(want) => self.store.count_present(at) == *want,
-            Step::Next(key, want) => self.store.next(at, keys.key(*key)) == *want,
+            Step::Next(key, want) => {
+                self.store.next(at, keys.key(*key)) == *want && self.steps_alike(keys.key(*key))
+            }
             Step::Values(key, None) => self.store.register(at, keys.key(*key)).is_none(),
             Step::Keys(of, want) => self.has_just(keys, *of, want),
             Step::Changes(want) => self.store.mark().changes == *want,

@@ -22,9 +22,12 @@ pub enum Step<'a> {
     AddId(At, Id),
     AddIdNamed(At, Id),
     Link(At, Next),
+    LinkNamed(At, Next),
     PutValues(At, Values),
+    PutValuesNamed(At, Values),
     /// Puts `true`, `false` or, for none, `null`.
     PutValue(At, Id, Option<bool>),
+    PutValueNamed(At, Id, Option<bool>),
     /// Goes down to a child, and up again.
     Down(Tag, At),
     Up,

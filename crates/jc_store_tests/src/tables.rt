@@ -64,7 +64,7 @@ const REGISTERS: &[Step] = &[
 /// The last value is put under an identifier that has one.
 const PUT_VALUES: &[Step] = &[
     Step::PutValue(At::Doc, SECOND, None),
-    Step::PutValue(At::Doc, FIRST, Some(true)),
+    Step::PutValueNamed(At::Doc, FIRST, Some(true)),
     Step::Values(At::Doc, Some(Values::TrueAndNull)),
     Step::PutValue(At::Doc, FIRST, Some(false)),
     Step::Values(At::Doc, Some(Values::FalseAndNull)),
@@ -94,7 +94,7 @@ const PRESENCE_KEYS: &[Step] = &[
 
 const LINK_KEYS: &[Step] = &[
     Step::Keys(Kind::Link, &[]),
-    Step::Link(At::First, Next::Tail),
+    Step::LinkNamed(At::First, Next::Tail),
     Step::Link(At::Head, Next::Elem(FIRST)),
     Step::Keys(Kind::Link, &[At::Head, At::First]),
 ];
@@ -141,7 +141,7 @@ const REPLACED: &[Step] = &[
     Step::Ids(At::Doc, Some(&[SECOND])),
     Step::Back(1),
     Step::Ids(At::Doc, Some(&[FIRST])),
-    Step::Link(At::Head, Next::Tail),
+    Step::LinkNamed(At::Head, Next::Tail),
     Step::Link(At::Head, Next::Elem(FIRST)),
     Step::Back(1),
     Step::Next(At::Head, Some(Next::Tail)),
@@ -157,7 +157,7 @@ const MADE_BY_NAME: &[Step] = &[
     Step::Next(At::Head, None),
     Step::MakeNamed(Tag::Map, At::Doc),
     Step::Down(Tag::Map, At::Doc),
-    Step::PutValues(At::Doc, Values::Nothing),
+    Step::PutValuesNamed(At::Doc, Values::Nothing),
     Step::Up,
     Step::HasChild(Tag::Map, At::Doc, true),
     Step::Up,
@@ -171,7 +171,7 @@ const MADE_BY_NAME: &[Step] = &[
 const NAMED: &[Step] = &[
     Step::Make(Tag::Map, At::Doc),
     Step::Make(Tag::List, At::Second),
-    Step::PutValues(At::Head, Values::Three),
+    Step::PutValuesNamed(At::Head, Values::Three),
     Step::HasBelow(Tag::Map, At::Doc, true),
     Step::HasBelow(Tag::List, At::Doc, false),
     Step::HasBelow(Tag::List, At::Second, true),

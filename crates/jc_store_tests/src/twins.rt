@@ -64,7 +64,11 @@ impl Twins {
                 return false;
             }
         }
-        self.is_same_at(keys.key(at)) && self.is_same_after(keys.key(at))
+        let key = keys.key(at);
+        self.is_same_at(key)
+            && self.is_same_after(key)
+            && self.plain.steps_alike(key)
+            && self.arena.steps_alike(key)
     }
 
     /// Whether the same is at the place.
@@ -114,8 +118,11 @@ impl Twins {
             | Step::AddId(_, _)
             | Step::AddIdNamed(_, _)
             | Step::Link(_, _)
+            | Step::LinkNamed(_, _)
             | Step::PutValues(_, _)
-            | Step::PutValue(_, _, _) => self.change(keys, step),
+            | Step::PutValuesNamed(_, _)
+            | Step::PutValue(_, _, _)
+            | Step::PutValueNamed(_, _, _) => self.change(keys, step),
             Step::Down(_, _) | Step::Up | Step::Back(_) | Step::ForgetMarks => self.go(keys, step),
             _ => Ok(self.plain.sees(keys, step)? && self.arena.sees(keys, step)?),
         }

@@ -40,18 +40,29 @@ fn tag_of(number: u64) -> Tag {
     }
 }
 
-/// The change that a number chooses, of the key.
+/// The change that a number chooses, of the key, by its path.
 fn change_of(number: u64, at: At) -> Step<'static> {
     match number {
         0 => Step::PutIds(at, Set::First),
         1 => Step::PutIds(at, Set::Empty),
         2 => Step::AddId(at, FIRST),
-        3 => Step::AddIdNamed(at, SECOND),
+        3 => Step::AddId(at, SECOND),
         4 => Step::Link(at, Next::Elem(SECOND)),
         5 => Step::PutValues(at, Values::Three),
         6 => Step::PutValues(at, Values::Nothing),
         7 => Step::PutValue(at, FIRST, Some(false)),
         _ => Step::PutValue(at, SECOND, Some(false)),
+    }
+}
+
+/// The same change, by the name of its place.
+fn named(step: Step<'static>) -> Step<'static> {
+    match step {
+        Step::AddId(at, id) => Step::AddIdNamed(at, id),
+        Step::Link(at, next) => Step::LinkNamed(at, next),
+        Step::PutValues(at, values) => Step::PutValuesNamed(at, values),
+        Step::PutValue(at, id, value) => Step::PutValueNamed(at, id, value),
+        other => other,
     }
 }
 
@@ -94,7 +105,8 @@ impl Twins {
             12 if self.plain.at.is_empty() => Ok(true),
             12 => self.go(keys, &Step::Up),
             13 => self.go_back(keys, number / 128),
-            change => self.change(keys, &change_of(change, at)),
+            change if number / 512 % 2 == 0 => self.change(keys, &change_of(change, at)),
+            change => self.change(keys, &named(change_of(change, at))),
         }
     }
 
