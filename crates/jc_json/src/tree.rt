@@ -11,7 +11,7 @@ use crate::send::{granted, send_ids, send_value};
 use crate::texts::{entry_text, next_text, tagged_text};
 use crate::values::register_value;
 use jc_rules::{Id, Key, Next, Tagged, Text, Value};
-use jc_tree::TreeStore;
+use jc_tree::{Hint, TreeStore, place_of};
 use serde::{Described, Serialize, Serializer};
 use std::alloc::{AllocError, Global};
 use std::collections::BTreeMap;
@@ -149,13 +149,17 @@ fn add_links<S: TreeStore>(
         (map (next_member names.now) (links (here at.now (S.tree store.now))))
         parts.old.entries parts.new.entries) }
 {
+    let place = place_of(store, at);
+    let mut hint = Hint { number: 0 };
     let mut last = None;
     while let Some(key) = store.link_after(at, last) {
-        if let Some(next) = store.next(at, key) {
+        let step = store.step_by(place, at, key, hint);
+        if let Some(next) = step.next {
             let name = entry_text(alloc, "next", names, key)?;
             drop(parts.insert(name, Part::Link(next))?);
         }
         last = Some(key);
+        hint = step.hint;
     }
     Ok(())
 }

@@ -34,15 +34,15 @@ loop-key-preserved g c =
     let n : IsNext last (keys_of (links d)) key = next_is last (keys_of (links d)) key (sym c.in-Some.ensures) in
     let kept : IsWellFormedContext d = kept_at c.args.at.now t.now c.requires (g.met.S.TreeStore.kept c.args.store.now) in
     let old = c.loop-key.parts.entries in
-    let new = c.match-next.parts.entries in
+    let new = c.match-step.parts.entries in
     let found = find key_cmp key (links d) in
     adding_goes_on names d (next_member names) (links d) last key c.args.parts.now.entries old new n.after n.below (links_rise d kept)
-    (elim c.match-next.branch [
+    (elim c.match-step.branch [
       | in-Some-next+in_ok-name+in_ok-insert w ↦
           let shown = w.in-Some-next.next in
           let name : string_bytes w.in_ok-name.name ≡ entry_text (codes "next") names key = search rules in
-          adds_one names d (next_member names) key shown found w.in_ok-name.name (P.Link shown) old new w.in-Some-next.ensures name refl tt (ap (λ m. m.entries) w.parts-is ∙ w.in_ok-insert.ensures.entries)
-      | in_default-next w ↦ adds_none names d (next_member names) key found old new w.in_default-next.ensures (ap (λ m. m.entries) w.parts-is)
+          adds_one names d (next_member names) key shown found w.in_ok-name.name (P.Link shown) old new (sym w.in-Some-next.is ∙ c.step_by-step.ensures.next) name refl tt (ap (λ m. m.entries) w.parts-is ∙ w.in_ok-insert.ensures.entries)
+      | in_default-next w ↦ adds_none names d (next_member names) key found old new (sym w.in_default-next.is ∙ c.step_by-step.ensures.next) (ap (λ m. m.entries) w.parts-is)
     ])
     c.loop-key.invariant
 
