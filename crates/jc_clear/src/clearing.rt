@@ -183,7 +183,8 @@ fn clear_list<S: TreeStore>(
     Ok(ids)
 }
 
-/// Clears the elements of a list, its head first.
+/// Clears the elements of a list, its head first. What follows an element is read before the element
+/// is cleared; clearing leaves links as they are.
 #[cycle(clearing)]
 fn list_in<S: TreeStore>(
     alloc: Global,
@@ -236,7 +237,8 @@ fn copied(alloc: Global, path: &[Tagged]) -> Result<Vec<Tagged>, AllocError>
     Ok(keys)
 }
 
-/// Clears what is under a tagged key. For a register no path is copied.
+/// Clears what is under a tagged key. Below a map or a list the path grows, so it is copied for these
+/// alone.
 fn tagged_in<S: TreeStore>(
     alloc: Global,
     store: &mut S,
@@ -271,8 +273,8 @@ fn tagged_in<S: TreeStore>(
 /// whose operation is in `deps`, and in the presence sets at or below it the identifiers that are.
 /// Returns the identifiers that are left in what was cleared, rising.
 ///
-/// The rules are added to the trace at its depth. Tagged keys and links stay as they are. That the
-/// same rules clear alike by the causally closed set that `deps` represents is the law
+/// The rules are added to the trace at its depth. Tagged keys, links and names of places stay as they
+/// are. That the same rules clear alike by the causally closed set that `deps` represents is the law
 /// `clear_stands` of jc_vectors. Only memory can be refused; store and trace are then as they were.
 pub fn clear<S: TreeStore>(
     alloc: Global,
@@ -296,7 +298,7 @@ pub fn clear<S: TreeStore>(
     clear_at(alloc, store, deps, place, at, key, trace)
 }
 
-/// As [`clear`], for a place whose name is known.
+/// As [`clear`], for a place whose name is known. For a register no path is copied.
 pub fn clear_at<S: TreeStore>(
     alloc: Global,
     store: &mut S,
@@ -333,8 +335,8 @@ pub fn clear_at<S: TreeStore>(
 /// and the identifiers that are left below, without those in `deps`; it is set even where it is
 /// empty. Returns that set, rising.
 ///
-/// The rules are added to the trace at its depth. Tagged keys and links stay as they are. That the
-/// same rules clear alike by the causally closed set that `deps` represents is the law
+/// The rules are added to the trace at its depth. Tagged keys, links and names of places stay as they
+/// are. That the same rules clear alike by the causally closed set that `deps` represents is the law
 /// `clear_elem_stands` of jc_vectors. Only memory can be refused; store and trace are then as they
 /// were.
 pub fn clear_elem<S: TreeStore>(
