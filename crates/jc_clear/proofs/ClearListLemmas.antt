@@ -90,10 +90,10 @@ abbrev LeadsFrom : Context → Option Key → List Id → Type 0
 LeadsFrom c None is = is ≡ []
 LeadsFrom c (Some k) is = LeadsThrough c k is
 
--- from the place the links lead to the end
-pub record Leads (c : Context) (place : Option Key) : Type 0 where
+-- from the key the links lead to the end
+pub record Leads (c : Context) (key : Option Key) : Type 0 where
   pub elements : List Id
-  pub leads : LeadsFrom c place elements
+  pub leads : LeadsFrom c key elements
   pub fits : suc (length elements) ≤ length (links c)
 
 pub leads_head : (c : Context) → IsChainedList c → (is : List Id) × IsChain c is
@@ -145,7 +145,7 @@ leads_on c k x w e = go w.elements w.leads w.fits
         let s : x ≡ To i = cc in
         rw s (record { elements = is; leads = h.1; fits = omega (arith, f) }, omega (arith, steps-is (length (links c)) c k (i ∷ is) h f, steps-is (length (links c)) c (Elem i) is h.1 (omega (arith, f))))
 
--- a place from which the links lead to the end is linked
+-- a key from which the links lead to the end is linked
 pub leads_next : (c : Context) (k : Key) → Leads c (Some k) → next k c ≢ None
 leads_next c k w = go w.elements w.leads
   where
@@ -154,30 +154,30 @@ leads_next c k w = go w.elements w.leads
     go (i ∷ is) h = some_next (To i) _ h.0
 
 -- what the loop along a list keeps
-pub record Along (deps : List Id) (at : List Tagged) (a : Tree) (t : Rows) (b : Tree) (place : Option Key) (ids : List Id) (u : Rows) : Type 0 where
-  pub turn : Turn (λ c. ClearList c deps (Some Head)) (λ c. ClearList c deps place) at a t b ids u
-  pub leads : Leads (here at a) place
+pub record Along (deps : List Id) (at : List Tagged) (a : Tree) (t : Rows) (b : Tree) (key : Option Key) (ids : List Id) (u : Rows) : Type 0 where
+  pub turn : Turn (λ c. ClearList c deps (Some Head)) (λ c. ClearList c deps key) at a t b ids u
+  pub leads : Leads (here at a) key
 
 pub first_along : (deps : List Id) (at : List Tagged) (a : Tree) (t : Rows) (ids : List Id) → HasPlace at a → IsChainedList (here at a) → ids ≡ [] → Along deps at a t a (Some Head) ids t
 first_along deps at a t ids p h i = record { turn = first_turn _ at a t ids p i; leads = leads_whole (here at a) h }
 
-pub after_along : (deps : List Id) (at p : List Tagged) (a : Tree) (t : Rows) (b : Tree) (place : Option Key) (ids : List Id) (u : Rows) → HasPlace at a → p ≡ at → Along deps at a t b place ids u → After at p a b
-after_along deps at p a t b place ids u h e w = after_turns _ _ at p a t b ids u h e w.turn
+pub after_along : (deps : List Id) (at p : List Tagged) (a : Tree) (t : Rows) (b : Tree) (key : Option Key) (ids : List Id) (u : Rows) → HasPlace at a → p ≡ at → Along deps at a t b key ids u → After at p a b
+after_along deps at p a t b key ids u h e w = after_turns _ _ at p a t b ids u h e w.turn
 
-next_was : (deps : List Id) (at p : List Tagged) (a : Tree) (t : Rows) (b : Tree) (place : Option Key) (ids : List Id) (u : Rows) (k : Key) → HasPlace at a → p ≡ at → Along deps at a t b place ids u → next k (here p b) ≡ next k (here at a)
-next_was deps at p a t b place ids u k h e w =
-    ap (find key_cmp k) (links-same (here p b) (here at a) (after_along deps at p a t b place ids u h e w).same)
+next_was : (deps : List Id) (at p : List Tagged) (a : Tree) (t : Rows) (b : Tree) (key : Option Key) (ids : List Id) (u : Rows) (k : Key) → HasPlace at a → p ≡ at → Along deps at a t b key ids u → next k (here p b) ≡ next k (here at a)
+next_was deps at p a t b key ids u k h e w =
+    ap (find key_cmp k) (links-same (here p b) (here at a) (after_along deps at p a t b key ids u h e w).same)
 
-pub along_finds : (deps : List Id) (at p : List Tagged) (a : Tree) (t : Rows) (b : Tree) (place : Option Key) (k : Key) (ids : List Id) (u : Rows) → HasPlace at a → p ≡ at → Along deps at a t b place ids u → place ≡ Some k → next k (here p b) ≢ None
-along_finds deps at p a t b place k ids u h e w f g =
+pub along_finds : (deps : List Id) (at p : List Tagged) (a : Tree) (t : Rows) (b : Tree) (key : Option Key) (k : Key) (ids : List Id) (u : Rows) → HasPlace at a → p ≡ at → Along deps at a t b key ids u → key ≡ Some k → next k (here p b) ≢ None
+along_finds deps at p a t b key k ids u h e w f g =
     let l : Leads (here at a) (Some k) = subst (λ (y : Option Key). Leads (here at a) y) f w.leads in
-    leads_next (here at a) k l (sym (next_was deps at p a t b place ids u k h e w) ∙ g)
+    leads_next (here at a) k l (sym (next_was deps at p a t b key ids u k h e w) ∙ g)
 
 -- one element further
-pub along_on : (deps : List Id) (at p q : List Tagged) (a : Tree) (t : Rows) (b d : Tree) (place place2 : Option Key) (k : Key) (x : Next) (ids more all : List Id) (u o v : Rows) → HasPlace at a → p ≡ at → q ≡ at → Along deps at a t b place ids u → place ≡ Some k → next k (here p b) ≡ Some x → Clears (λ c. ClearElem c deps k) q b d more o v → o ≡ one_deeper (pushed u R.ClearList2) → all ≡ union ids more → place2 ≡ after x → Along deps at a t d place2 all v × (steps place2 (length (links (here at a))) (here at a) < steps place (length (links (here at a))) (here at a))
-along_on deps at p q a t b d place place2 k x ids more all u o v h pe qe w f n z oe i g =
-    let was : next k (here at a) ≡ Some x = sym (next_was deps at p a t b place ids u k h pe w) ∙ n in
-    let now : next k (here at b) ≡ Some x = next_was deps at at a t b place ids u k h refl w ∙ was in
+pub along_on : (deps : List Id) (at p q : List Tagged) (a : Tree) (t : Rows) (b d : Tree) (key key2 : Option Key) (k : Key) (x : Next) (ids more all : List Id) (u o v : Rows) → HasPlace at a → p ≡ at → q ≡ at → Along deps at a t b key ids u → key ≡ Some k → next k (here p b) ≡ Some x → Clears (λ c. ClearElem c deps k) q b d more o v → o ≡ one_deeper (pushed u R.ClearList2) → all ≡ union ids more → key2 ≡ after x → Along deps at a t d key2 all v × (steps key2 (length (links (here at a))) (here at a) < steps key (length (links (here at a))) (here at a))
+along_on deps at p q a t b d key key2 k x ids more all u o v h pe qe w f n z oe i g =
+    let was : next k (here at a) ≡ Some x = sym (next_was deps at p a t b key ids u k h pe w) ∙ n in
+    let now : next k (here at b) ≡ Some x = next_was deps at at a t b key ids u k h refl w ∙ was in
     let turn = subst (λ (y : Option Key). Turn (λ c. ClearList c deps (Some Head)) (λ c. ClearList c deps y) at a t b ids u) f w.turn in
     let elem = subst (λ (y : List Tagged). Clears (λ c. ClearElem c deps k) y b d more o v) qe z in
     let on = leads_on (here at a) k x (subst (λ (y : Option Key). Leads (here at a) y) f w.leads) was in
@@ -189,7 +189,7 @@ along_on deps at p q a t b d place place2 k x ids more all u o v h pe qe w f n z
       on.1,
     )
 
-pub last_along : (deps : List Id) (at : List Tagged) (a : Tree) (t : Rows) (b : Tree) (place : Option Key) (ids : List Id) (u v : Rows) → HasPlace at a → Along deps at a t b place ids u → place ≡ None → v ≡ at_depth t.depth (pushed u R.ClearList3) → Clears (λ c. ClearList c deps (Some Head)) at a b ids t v
-last_along deps at a t b place ids u v h w f e =
+pub last_along : (deps : List Id) (at : List Tagged) (a : Tree) (t : Rows) (b : Tree) (key : Option Key) (ids : List Id) (u v : Rows) → HasPlace at a → Along deps at a t b key ids u → key ≡ None → v ≡ at_depth t.depth (pushed u R.ClearList3) → Clears (λ c. ClearList c deps (Some Head)) at a b ids t v
+last_along deps at a t b key ids u v h w f e =
     let turn = subst (λ (y : Option Key). Turn (λ c. ClearList c deps (Some Head)) (λ c. ClearList c deps y) at a t b ids u) f w.turn in
     last_turn _ (λ c. ClearList c deps None) R.ClearList3 at a t b ids u v h turn e (refl, refl)

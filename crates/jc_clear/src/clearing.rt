@@ -14,7 +14,7 @@ ghost use Rattle.jc_clear.specs.Clears.{Clears};
 use crate::registers::{clear_register, presence_of};
 use crate::sets::{left_out, united};
 use jc_rules::{Id, IdSet, Key, Next, Rule, Tagged, Trace};
-use jc_tree::{Place, TreeStore, place_of};
+use jc_tree::{Hint, Place, TreeStore, place_of};
 use std::alloc::{AllocError, Global};
 
 /// Clears a key under each tag, and takes the dependencies out of its presence set.
@@ -39,7 +39,7 @@ fn elem_in<S: TreeStore>(
 {
     let depth = trace.depth();
     trace.open(Rule::ClearElem)?;
-    let below = any_in(alloc, store, deps, at, key, trace)?;
+    let below = any_in(alloc, store, deps, place, at, key, trace)?;
     let present = presence_of(alloc, store, at.as_slice(), key, trace)?;
     let all = united(below, present.as_slice())?;
     let ids = left_out(alloc, all.as_slice(), deps)?;
@@ -70,9 +70,9 @@ fn any_in<S: TreeStore>(
 {
     let depth = trace.depth();
     trace.open(Rule::ClearAny)?;
-    let maps = clear_map(alloc, store, deps, at, key, trace)?;
-    let lists = clear_list(alloc, store, deps, at, key, trace)?;
-    let values = clear_register(alloc, store, deps, at.as_slice(), key, trace)?;
+    let maps = clear_map(alloc, store, deps, place, at, key, trace)?;
+    let lists = clear_list(alloc, store, deps, place, at, key, trace)?;
+    let values = clear_register(alloc, store, deps, place, at.as_slice(), key, trace)?;
     let rest = united(lists, values.as_slice())?;
     let ids = united(maps, rest.as_slice())?;
     trace.close(depth);
@@ -100,15 +100,15 @@ fn clear_map<S: TreeStore>(
     ensures kept { TreeCanGoBack (S.tree store.old) (S.tree store.new) trace.old trace.new }
 {
     let tagged = Tagged::MapT(key.copy()?);
-    if !store.has(at.as_slice(), &tagged) {
+    let Some(child) = store.below(place, at.as_slice(), &tagged) else {
         drop(tagged);
         trace.push(Rule::ClearNone)?;
         return Ok(Vec::new(alloc));
-    }
+    };
     let depth = trace.depth();
     at.push(tagged)?;
     trace.open(Rule::ClearMap1)?;
-    let ids = map_in(alloc, store, deps, at, trace)?;
+    let ids = map_in(alloc, store, deps, child, at, trace)?;
     drop(at.pop());
     trace.close(depth);
     Ok(ids)
@@ -139,7 +139,7 @@ fn map_in<S: TreeStore>(
     while let Some(key) = store.key_after(at.as_slice(), last.as_ref()) {
         trace.open(Rule::ClearMap2)?;
         let key = key.copy()?;
-        let more = elem_in(alloc, store, deps, at, &key, trace)?;
+        let more = elem_in(alloc, store, deps, place, at, &key, trace)?;
         ids = united(ids, more.as_slice())?;
         last = Some(key);
     }
@@ -169,21 +169,22 @@ fn clear_list<S: TreeStore>(
     ensures kept { TreeCanGoBack (S.tree store.old) (S.tree store.new) trace.old trace.new }
 {
     let tagged = Tagged::ListT(key.copy()?);
-    if !store.has(at.as_slice(), &tagged) {
+    let Some(child) = store.below(place, at.as_slice(), &tagged) else {
         drop(tagged);
         trace.push(Rule::ClearNone)?;
         return Ok(Vec::new(alloc));
-    }
+    };
     let depth = trace.depth();
     at.push(tagged)?;
     trace.open(Rule::ClearList1)?;
-    let ids = list_in(alloc, store, deps, at, trace)?;
+    let ids = list_in(alloc, store, deps, child, at, trace)?;
     drop(at.pop());
     trace.close(depth);
     Ok(ids)
 }
 
-/// Clears the elements of a list, its head first.
+/// Clears the elements of a list, its head first. What follows an element is read before the element
+/// is cleared; clearing leaves links as they are.
 #[cycle(clearing)]
 fn list_in<S: TreeStore>(
     alloc: Global,
@@ -204,15 +205,18 @@ fn list_in<S: TreeStore>(
 {
     let depth = trace.depth();
     let mut ids = Vec::new(alloc);
-    let mut place = Some(Key::Head);
-    while let Some(element) = place {
-        let Some(next) = store.next(at.as_slice(), &element) else {
+    let mut key = Some(Key::Head);
+    let mut hint = Hint { number: 0 };
+    while let Some(element) = key {
+        let step = store.step_by(place, at.as_slice(), &element, hint);
+        let Some(next) = step.next else {
             unreachable!();
         };
+        hint = step.hint;
         trace.open(Rule::ClearList2)?;
-        let more = elem_in(alloc, store, deps, at, &element, trace)?;
+        let more = elem_in(alloc, store, deps, place, at, &element, trace)?;
         ids = united(ids, more.as_slice())?;
-        place = match next {
+        key = match next {
             Next::Tail => None,
             Next::Elem(id) => Some(Key::Elem(id)),
         };
@@ -220,31 +224,6 @@ fn list_in<S: TreeStore>(
     trace.push(Rule::ClearList3)?;
     trace.close(depth);
     Ok(ids)
-}
-
-/// Clears what is under a tagged key.
-fn tagged_in<S: TreeStore>(
-    alloc: Global,
-    store: &mut S,
-    deps: &IdSet,
-    place: Place,
-    at: &mut Vec<Tagged>,
-    key: &Tagged,
-    trace: &mut Trace,
-) -> Result<Vec<Id>, AllocError>
-    requires there { HasPlace at.old.items (S.tree store.old) }
-    requires named { S.names store.old place at.old.items }
-    requires chained { AreChainedBelow (here at.old.items (S.tree store.old)) }
-    ensures ok { IfOk result (λ ids. Clears (λ c. Clear c deps.now key.now)
-        at.old.items (S.tree store.old) (S.tree store.new) ids.items trace.old trace.new) }
-    ensures names_stay { OnOk result (NamesStay (S.names store.old) (S.names store.new)) }
-    ensures kept { TreeCanGoBack (S.tree store.old) (S.tree store.new) trace.old trace.new }
-{
-    match key {
-        Tagged::MapT(key) => clear_map(alloc, store, deps, at, key, trace),
-        Tagged::ListT(key) => clear_list(alloc, store, deps, at, key, trace),
-        Tagged::RegT(key) => clear_register(alloc, store, deps, at.as_slice(), key, trace),
-    }
 }
 
 /// A copy of the path.
@@ -258,12 +237,44 @@ fn copied(alloc: Global, path: &[Tagged]) -> Result<Vec<Tagged>, AllocError>
     Ok(keys)
 }
 
+/// Clears what is under a tagged key. Below a map or a list the path grows, so it is copied for these
+/// alone.
+fn tagged_in<S: TreeStore>(
+    alloc: Global,
+    store: &mut S,
+    deps: &IdSet,
+    place: Place,
+    at: &[Tagged],
+    key: &Tagged,
+    trace: &mut Trace,
+) -> Result<Vec<Id>, AllocError>
+    requires there { HasPlace at.now (S.tree store.old) }
+    requires named { S.names store.old place at.now }
+    requires chained { AreChainedBelow (here at.now (S.tree store.old)) }
+    ensures ok { IfOk result (λ ids. Clears (λ c. Clear c deps.now key.now)
+        at.now (S.tree store.old) (S.tree store.new) ids.items trace.old trace.new) }
+    ensures names_stay { OnOk result (NamesStay (S.names store.old) (S.names store.new)) }
+    ensures kept { TreeCanGoBack (S.tree store.old) (S.tree store.new) trace.old trace.new }
+{
+    match key {
+        Tagged::MapT(key) => {
+            let mut path = copied(alloc, at)?;
+            clear_map(alloc, store, deps, place, &mut path, key, trace)
+        }
+        Tagged::ListT(key) => {
+            let mut path = copied(alloc, at)?;
+            clear_list(alloc, store, deps, place, &mut path, key, trace)
+        }
+        Tagged::RegT(key) => clear_register(alloc, store, deps, place, at, key, trace),
+    }
+}
+
 /// Clears what is under the tagged key in the context at the place: in registers the values go
 /// whose operation is in `deps`, and in the presence sets at or below it the identifiers that are.
 /// Returns the identifiers that are left in what was cleared, rising.
 ///
-/// The rules are added to the trace at its depth. Tagged keys and links stay as they are. That the
-/// same rules clear alike by the causally closed set that `deps` represents is the law
+/// The rules are added to the trace at its depth. Tagged keys, links and names of places stay as they
+/// are. That the same rules clear alike by the causally closed set that `deps` represents is the law
 /// `clear_stands` of jc_vectors. Only memory can be refused; store and trace are then as they were.
 pub fn clear<S: TreeStore>(
     alloc: Global,
@@ -287,7 +298,7 @@ pub fn clear<S: TreeStore>(
     clear_at(alloc, store, deps, place, at, key, trace)
 }
 
-/// As [`clear`], for a place whose name is known.
+/// As [`clear`], for a place whose name is known. For a register no path is copied.
 pub fn clear_at<S: TreeStore>(
     alloc: Global,
     store: &mut S,
@@ -308,10 +319,9 @@ pub fn clear_at<S: TreeStore>(
     ensures kept { TreeCanGoBack (S.tree store.old) (S.tree store.new) trace.old trace.new }
     ensures chained { IsChained (S.tree store.new).now }
 {
-    let mut path = copied(alloc, at)?;
     let start = store.mark();
     let first = trace.mark();
-    match tagged_in(alloc, store, deps, place, &mut path, key, trace) {
+    match tagged_in(alloc, store, deps, place, at, key, trace) {
         Ok(ids) => Ok(ids),
         Err(refused) => {
             store.undo_to(start);
@@ -325,8 +335,8 @@ pub fn clear_at<S: TreeStore>(
 /// and the identifiers that are left below, without those in `deps`; it is set even where it is
 /// empty. Returns that set, rising.
 ///
-/// The rules are added to the trace at its depth. Tagged keys and links stay as they are. That the
-/// same rules clear alike by the causally closed set that `deps` represents is the law
+/// The rules are added to the trace at its depth. Tagged keys, links and names of places stay as they
+/// are. That the same rules clear alike by the causally closed set that `deps` represents is the law
 /// `clear_elem_stands` of jc_vectors. Only memory can be refused; store and trace are then as they
 /// were.
 pub fn clear_elem<S: TreeStore>(

@@ -1,6 +1,6 @@
 //! Clearing a register, and reading a presence set: steps of clearing.
 
-ghost use Rattle.std.specs.Prelude.{◌≡◌, IfOk, OnErr};
+ghost use Rattle.std.specs.Prelude.{◌≡◌, IfOk, OnOk, OnErr};
 ghost use Rattle.jc_rules.specs.declared.key.Tagged.TheVariants.{RegT};
 ghost use Rattle.jc_rules.specs.Ids.{AreRising};
 ghost use Rattle.jc_rules.specs.Derivation.{Presence, Clear, ToIds};
@@ -8,12 +8,12 @@ ghost use Rattle.jc_rules.specs.Derives.{Derives};
 ghost use Rattle.jc_rules.specs.Trace.{IsLonger};
 ghost use Rattle.jc_rules.specs.Table.{kept};
 ghost use Rattle.jc_tree.specs.CanGoBack.{TreeCanGoBack};
-ghost use Rattle.jc_tree.specs.Tree.{HasPlace, here};
+ghost use Rattle.jc_tree.specs.Tree.{HasPlace, NamesStay, here};
 ghost use Rattle.jc_clear.specs.Clears.{Clears};
 
 use crate::sets::ids_of;
 use jc_rules::{Id, IdSet, Key, Rule, Tagged, Trace, Value};
-use jc_tree::TreeStore;
+use jc_tree::{Place, TreeStore};
 use std::alloc::{AllocError, Global};
 
 /// Returns the presence set of the key in the context at the place, rising; the empty set where there
@@ -66,16 +66,19 @@ pub fn clear_register<S: TreeStore>(
     alloc: Global,
     store: &mut S,
     deps: &IdSet,
+    place: Place,
     at: &[Tagged],
     key: &Key,
     trace: &mut Trace,
 ) -> Result<Vec<Id>, AllocError>
-    requires { HasPlace at.now (S.tree store.old) }
+    requires there { HasPlace at.now (S.tree store.old) }
+    requires named { S.names store.old place at.now }
     ensures ok { IfOk result (λ ids. Clears (λ c. Clear c deps.now (RegT key.now))
         at.now (S.tree store.old) (S.tree store.new) ids.items trace.old trace.new) }
+    ensures names_stay { OnOk result (NamesStay (S.names store.old) (S.names store.new)) }
     ensures kept { TreeCanGoBack (S.tree store.old) (S.tree store.new) trace.old trace.new }
 {
-    match store.register(at, key) {
+    match store.register_at(place, at, key) {
         None => {
             trace.push(Rule::ClearNone)?;
             Ok(Vec::new(alloc))
@@ -84,7 +87,7 @@ pub fn clear_register<S: TreeStore>(
             let left = keep(alloc, pairs, deps)?;
             let ids = ids_of(alloc, left.as_slice())?;
             trace.push(Rule::ClearReg)?;
-            store.set_register(at, key, left)?;
+            store.set_register_at(place, at, key, left)?;
             Ok(ids)
         }
     }

@@ -7,6 +7,7 @@ use Rattle.jc_rules.specs.Context.{keys}
 use Rattle.jc_rules.specs.Table.{after}
 use Rattle.jc_rules.specs.Trace.{Rows, at_depth}
 use Rattle.jc_tree.specs.Tree.{here, least_after}
+use Rattle.jc_tree.proofs.PlacesLemmas.{some_content}
 use Rattle.jc_clear.proofs.BareLemmas.{below-list}
 use Rattle.jc_tree.proofs.CanGoBackLemmas.{nothing, then, rule_opened, rule_added, rows_added, tree_changed, depth_changed}
 use Rattle.jc_clear.proofs.ClearListLemmas.{first_along, after_along, along_finds, along_on, last_along}
@@ -19,10 +20,10 @@ use Rattle.jc_rules.proofs.BoolLemmas.{none_of}
 pub any_in-clear_list-requires : goal.any_in-clear_list-requires
 any_in-clear_list-requires g t c =
     let x = after_call _ _ _ _ _ _ _ _ c.requires.there c.in_ok-maps.ensures.path c.in_ok-maps.ensures.ok in
-    λ κs h. (omega (arith, x.nested), (h, (x.there, x.below c.requires.chained)))
+    λ κs h. (omega (arith, x.nested), (h, (x.there, (rw c.in_ok-maps.ensures.path (c.in_ok-maps.ensures.names_stay _ _ c.requires.named), x.below c.requires.chained))))
 
-pub any_in-clear_register-requires : goal.any_in-clear_register-requires
-any_in-clear_register-requires g t c =
+pub any_in-clear_register-requires-clause-there : goal.any_in-clear_register-requires-clause-there
+any_in-clear_register-requires-clause-there g t c =
     let x = after_call _ _ _ _ _ _ _ _ c.requires.there c.in_ok-maps.ensures.path c.in_ok-maps.ensures.ok in
     let y = after_call _ _ _ _ _ _ _ _ x.there (c.as_slice.ensures.value ∙ c.in_ok-lists.ensures.path) c.in_ok-lists.ensures.ok in
     y.there
@@ -41,37 +42,37 @@ pub any_in-returns-clause-kept : goal.any_in-returns-clause-kept
 any_in-returns-clause-kept g t c =
     then _ _ _ _ _ _ (rule_opened _ _ _ _ R.ClearAny refl c.in_ok-open.ensures.ok) (then _ _ _ _ _ _ c.in_ok-maps.ensures.kept (then _ _ _ _ _ _ c.in_ok-lists.ensures.kept (then _ _ _ _ _ _ c.in_ok-values.ensures.kept (depth_changed _ _ _ _ _ refl c.close.ensures))))
 
-pub clear_map-returns-then-not-has-clause-ok : goal.clear_map-returns-then-not-has-clause-ok
-clear_map-returns-then-not-has-clause-ok g t c =
-    let e = rw (c.as_slice.ensures.value, c.in_ok-copy.ensures) at c.if-not-has.ensures in
-    clear_none _ _ _ _ _ _ _ _ c.requires.there (none_of _ (sym e)) c.in_ok-push.ensures.ok refl c.new.ensures.items
+pub clear_map-returns-in_default-clause-ok : goal.clear_map-returns-in_default-clause-ok
+clear_map-returns-in_default-clause-ok g t c =
+    let e = rw (c.as_slice.ensures.value, c.in_ok-copy.ensures) at c.in_default.ensures.some in
+    clear_none _ _ _ _ _ _ _ _ c.requires.there (none_of _ (sym (e ∙ some_content (MapT c.args.key.now) (here c.args.at.now.items (g.S.TreeStore.tree c.args.store.now)) tt))) c.in_ok-push.ensures.ok refl c.new.ensures.items
 
 pub clear_map-map_in-requires : goal.clear_map-map_in-requires
 clear_map-map_in-requires g t c =
-    let e = rw (c.as_slice.ensures.value, c.in_ok-copy.ensures) at c.if-not-has.ensures in
-    let x = down_map c.args.at.now.items _ c.args.key.now (g.S.TreeStore.tree c.args.store.now) c.requires.there (c.in_ok-push-2.ensures.items ∙ ap (λ (k : Key). c.args.at.now.items ++ MapT k ∷ []) c.in_ok-copy.ensures) (sym e) c.requires.chained in
-    λ κs h. (omega (arith, x.smaller), (h, (x.there, x.chained)))
+    let e = rw (c.as_slice.ensures.value, c.in_ok-copy.ensures) at c.in-Some.ensures.some in
+    let x = down_map c.args.at.now.items _ c.args.key.now (g.S.TreeStore.tree c.args.store.now) c.requires.there (c.in_ok-push-2.ensures.items ∙ ap (λ (k : Key). c.args.at.now.items ++ MapT k ∷ []) c.in_ok-copy.ensures) (sym (e ∙ some_content (MapT c.args.key.now) (here c.args.at.now.items (g.S.TreeStore.tree c.args.store.now)) tt)) c.requires.chained in
+    λ κs h. (omega (arith, x.smaller), (h, (x.there, (rw c.in_ok-push-2.ensures.items (rw c.as_slice.ensures.value at c.in-Some.ensures.named), x.chained))))
 
 pub clear_map-returns-clause-ok : goal.clear_map-returns-clause-ok
 clear_map-returns-clause-ok g t c =
-    let e = rw (c.as_slice.ensures.value, c.in_ok-copy.ensures) at c.if-not-has.ensures in
-    map_cleared _ _ _ _ _ _ _ _ _ _ _ c.requires.there (sym e) (c.in_ok-push-2.ensures.items ∙ ap (λ (k : Key). c.args.at.now.items ++ MapT k ∷ []) c.in_ok-copy.ensures) c.in_ok-open.ensures.ok c.in_ok-ids.ensures.ok (c.close.ensures ∙ ap (λ (n : ℕ). at_depth n c.map_in.new.trace) c.depth-depth.ensures)
+    let e = rw (c.as_slice.ensures.value, c.in_ok-copy.ensures) at c.in-Some.ensures.some in
+    map_cleared _ _ _ _ _ _ _ _ _ _ _ c.requires.there (sym (e ∙ some_content (MapT c.args.key.now) (here c.args.at.now.items (g.S.TreeStore.tree c.args.store.now)) tt)) (c.in_ok-push-2.ensures.items ∙ ap (λ (k : Key). c.args.at.now.items ++ MapT k ∷ []) c.in_ok-copy.ensures) c.in_ok-open.ensures.ok c.in_ok-ids.ensures.ok (c.close.ensures ∙ ap (λ (n : ℕ). at_depth n c.map_in.new.trace) c.depth-depth.ensures)
 
-pub clear_list-returns-then-not-has-clause-ok : goal.clear_list-returns-then-not-has-clause-ok
-clear_list-returns-then-not-has-clause-ok g t c =
-    let e = rw (c.as_slice.ensures.value, c.in_ok-copy.ensures) at c.if-not-has.ensures in
-    clear_none _ _ _ _ _ _ _ _ c.requires.there (none_of _ (sym e)) c.in_ok-push.ensures.ok refl c.new.ensures.items
+pub clear_list-returns-in_default-clause-ok : goal.clear_list-returns-in_default-clause-ok
+clear_list-returns-in_default-clause-ok g t c =
+    let e = rw (c.as_slice.ensures.value, c.in_ok-copy.ensures) at c.in_default.ensures.some in
+    clear_none _ _ _ _ _ _ _ _ c.requires.there (none_of _ (sym (e ∙ some_content (ListT c.args.key.now) (here c.args.at.now.items (g.S.TreeStore.tree c.args.store.now)) tt))) c.in_ok-push.ensures.ok refl c.new.ensures.items
 
 pub clear_list-list_in-requires : goal.clear_list-list_in-requires
 clear_list-list_in-requires g t c =
-    let e = rw (c.as_slice.ensures.value, c.in_ok-copy.ensures) at c.if-not-has.ensures in
-    let x = down_list c.args.at.now.items _ c.args.key.now (g.S.TreeStore.tree c.args.store.now) c.requires.there (c.in_ok-push-2.ensures.items ∙ ap (λ (k : Key). c.args.at.now.items ++ ListT k ∷ []) c.in_ok-copy.ensures) (sym e) c.requires.chained in
-    λ κs h. (omega (arith, x.smaller), (h, (x.there, x.chained)))
+    let e = rw (c.as_slice.ensures.value, c.in_ok-copy.ensures) at c.in-Some.ensures.some in
+    let x = down_list c.args.at.now.items _ c.args.key.now (g.S.TreeStore.tree c.args.store.now) c.requires.there (c.in_ok-push-2.ensures.items ∙ ap (λ (k : Key). c.args.at.now.items ++ ListT k ∷ []) c.in_ok-copy.ensures) (sym (e ∙ some_content (ListT c.args.key.now) (here c.args.at.now.items (g.S.TreeStore.tree c.args.store.now)) tt)) c.requires.chained in
+    λ κs h. (omega (arith, x.smaller), (h, (x.there, (rw c.in_ok-push-2.ensures.items (rw c.as_slice.ensures.value at c.in-Some.ensures.named), x.chained))))
 
 pub clear_list-returns-clause-ok : goal.clear_list-returns-clause-ok
 clear_list-returns-clause-ok g t c =
-    let e = rw (c.as_slice.ensures.value, c.in_ok-copy.ensures) at c.if-not-has.ensures in
-    list_cleared _ _ _ _ _ _ _ _ _ _ _ c.requires.there (sym e) (c.in_ok-push-2.ensures.items ∙ ap (λ (k : Key). c.args.at.now.items ++ ListT k ∷ []) c.in_ok-copy.ensures) c.in_ok-open.ensures.ok c.in_ok-ids.ensures.ok (c.close.ensures ∙ ap (λ (n : ℕ). at_depth n c.list_in.new.trace) c.depth-depth.ensures)
+    let e = rw (c.as_slice.ensures.value, c.in_ok-copy.ensures) at c.in-Some.ensures.some in
+    list_cleared _ _ _ _ _ _ _ _ _ _ _ c.requires.there (sym (e ∙ some_content (ListT c.args.key.now) (here c.args.at.now.items (g.S.TreeStore.tree c.args.store.now)) tt)) (c.in_ok-push-2.ensures.items ∙ ap (λ (k : Key). c.args.at.now.items ++ ListT k ∷ []) c.in_ok-copy.ensures) c.in_ok-open.ensures.ok c.in_ok-ids.ensures.ok (c.close.ensures ∙ ap (λ (n : ℕ). at_depth n c.list_in.new.trace) c.depth-depth.ensures)
 
 pub elem_in-presence_of-requires : goal.elem_in-presence_of-requires
 elem_in-presence_of-requires g t c =
@@ -96,49 +97,50 @@ pub elem_in-returns-clause-kept : goal.elem_in-returns-clause-kept
 elem_in-returns-clause-kept g t c =
     then _ _ _ _ _ _ (rule_opened _ _ _ _ R.ClearElem refl c.in_ok-open.ensures.ok) (then _ _ _ _ _ _ c.in_ok-below.ensures.kept (then _ _ _ _ _ _ (rows_added _ _ _ _ refl c.in_ok-present.ensures.kept) (then _ _ _ _ _ _ (tree_changed _ _ _ _ _ _ c.in_ok-set_presence.ensures.ok refl) (depth_changed _ _ _ _ _ refl c.close.ensures))))
 
-pub list_in-loop-place-init : goal.list_in-loop-place-init
-list_in-loop-place-init g t c =
-    record { along = first_along _ _ _ _ _ c.requires.there c.requires.chained c.new-ids.ensures.items; path = refl; kept = nothing _ _ _ _ refl refl }
+pub list_in-loop-key-init : goal.list_in-loop-key-init
+list_in-loop-key-init g t c =
+    record { along = first_along _ _ _ _ _ c.requires.there c.requires.chained c.new-ids.ensures.items; path = refl; names_stay = λ p q h. h; kept = nothing _ _ _ _ refl refl }
 
-pub list_in-next-requires : goal.list_in-next-requires
-list_in-next-requires g t c =
-    (after_along _ _ _ _ _ _ _ _ _ c.requires.there (c.as_slice.ensures.value ∙ c.loop-place.invariant.path) c.loop-place.invariant.along).there
+pub list_in-step_by-step-requires-clause-there : goal.list_in-step_by-step-requires-clause-there
+list_in-step_by-step-requires-clause-there g t c =
+    (after_along _ _ _ _ _ _ _ _ _ c.requires.there (c.as_slice.ensures.value ∙ c.loop-key.invariant.path) c.loop-key.invariant.along).there
 
 pub list_in-unreachable-requires : goal.list_in-unreachable-requires
 list_in-unreachable-requires g t c =
-    let none : c.next.result ≡ None = search rules in
-    along_finds _ _ _ _ _ _ _ _ _ _ c.requires.there (c.as_slice.ensures.value ∙ c.loop-place.invariant.path) c.loop-place.invariant.along c.in-Some.is (sym c.next.ensures ∙ none)
+    let none : c.step_by-step.result.next ≡ None = search rules in
+    along_finds _ _ _ _ _ _ _ _ _ _ c.requires.there (c.as_slice.ensures.value ∙ c.loop-key.invariant.path) c.loop-key.invariant.along c.in-Some.is (sym c.step_by-step.ensures.next ∙ none)
 
 pub list_in-elem_in-requires : goal.list_in-elem_in-requires
 list_in-elem_in-requires g t c =
-    let x = after_along _ _ _ _ _ _ _ _ _ c.requires.there c.loop-place.invariant.path c.loop-place.invariant.along in
-    λ κs h. (omega (arith, x.nested), (h, (x.there, x.below (below-list _ c.requires.chained))))
+    let x = after_along _ _ _ _ _ _ _ _ _ c.requires.there c.loop-key.invariant.path c.loop-key.invariant.along in
+    λ κs h. (omega (arith, x.nested), (h, (x.there, (rw c.loop-key.invariant.path (c.loop-key.invariant.names_stay _ _ c.requires.named), x.below (below-list _ c.requires.chained)))))
 
 pub list_in-united-requires : goal.list_in-united-requires
-list_in-united-requires g t c = c.loop-place.invariant.along.turn.rises
+list_in-united-requires g t c = c.loop-key.invariant.along.turn.rises
 
-pub list_in-loop-place-smaller : goal.list_in-loop-place-smaller
-list_in-loop-place-smaller g t c =
-    let pl : c.match-next-2.place ≡ after c.in-Some-next.next = elim c.match-next-2.branch [ list_in-in-Tail w ↦ w.place-is ∙ sym (ap after w.in-Tail.is) | list_in-in-Elem w ↦ w.place-is ∙ sym (ap after w.in-Elem.is) ] in
-    (along_on _ _ _ _ _ _ _ _ _ _ _ _ _ _ _ _ _ _ c.requires.there (c.as_slice.ensures.value ∙ c.loop-place.invariant.path) c.loop-place.invariant.path c.loop-place.invariant.along c.in-Some.is (sym c.next.ensures ∙ c.in-Some-next.is) c.in_ok-more.ensures.ok c.in_ok-open.ensures.ok (c.in_ok-ids.ensures ∙ ap (union c.loop-place.ids.items) c.as_slice-in-Some.ensures.value) pl).1
+pub list_in-loop-key-smaller : goal.list_in-loop-key-smaller
+list_in-loop-key-smaller g t c =
+    let pl : c.match-next.key ≡ after c.in-Some-next.next = elim c.match-next.branch [ list_in-in-Tail w ↦ w.key-is ∙ sym (ap after w.in-Tail.is) | list_in-in-Elem w ↦ w.key-is ∙ sym (ap after w.in-Elem.is) ] in
+    (along_on _ _ _ _ _ _ _ _ _ _ _ _ _ _ _ _ _ _ c.requires.there (c.as_slice.ensures.value ∙ c.loop-key.invariant.path) c.loop-key.invariant.path c.loop-key.invariant.along c.in-Some.is (sym c.step_by-step.ensures.next ∙ c.in-Some-next.is) c.in_ok-more.ensures.ok c.in_ok-open.ensures.ok (c.in_ok-ids.ensures ∙ ap (union c.loop-key.ids.items) c.as_slice-in-Some.ensures.value) pl).1
 
-pub list_in-loop-place-preserved : goal.list_in-loop-place-preserved
-list_in-loop-place-preserved g t c =
-    let pl : c.match-next-2.place ≡ after c.in-Some-next.next = elim c.match-next-2.branch [ list_in-in-Tail w ↦ w.place-is ∙ sym (ap after w.in-Tail.is) | list_in-in-Elem w ↦ w.place-is ∙ sym (ap after w.in-Elem.is) ] in
+pub list_in-loop-key-preserved : goal.list_in-loop-key-preserved
+list_in-loop-key-preserved g t c =
+    let pl : c.match-next.key ≡ after c.in-Some-next.next = elim c.match-next.branch [ list_in-in-Tail w ↦ w.key-is ∙ sym (ap after w.in-Tail.is) | list_in-in-Elem w ↦ w.key-is ∙ sym (ap after w.in-Elem.is) ] in
     record {
-      along = (along_on _ _ _ _ _ _ _ _ _ _ _ _ _ _ _ _ _ _ c.requires.there (c.as_slice.ensures.value ∙ c.loop-place.invariant.path) c.loop-place.invariant.path c.loop-place.invariant.along c.in-Some.is (sym c.next.ensures ∙ c.in-Some-next.is) c.in_ok-more.ensures.ok c.in_ok-open.ensures.ok (c.in_ok-ids.ensures ∙ ap (union c.loop-place.ids.items) c.as_slice-in-Some.ensures.value) pl).0;
-      path = c.in_ok-more.ensures.path ∙ c.loop-place.invariant.path;
-      kept = then _ _ _ _ _ _ c.loop-place.invariant.kept (then _ _ _ _ _ _ (rule_opened _ _ _ _ R.ClearList2 refl c.in_ok-open.ensures.ok) c.in_ok-more.ensures.kept);
+      along = (along_on _ _ _ _ _ _ _ _ _ _ _ _ _ _ _ _ _ _ c.requires.there (c.as_slice.ensures.value ∙ c.loop-key.invariant.path) c.loop-key.invariant.path c.loop-key.invariant.along c.in-Some.is (sym c.step_by-step.ensures.next ∙ c.in-Some-next.is) c.in_ok-more.ensures.ok c.in_ok-open.ensures.ok (c.in_ok-ids.ensures ∙ ap (union c.loop-key.ids.items) c.as_slice-in-Some.ensures.value) pl).0;
+      path = c.in_ok-more.ensures.path ∙ c.loop-key.invariant.path;
+      names_stay = λ p q h. c.in_ok-more.ensures.names_stay p q (c.loop-key.invariant.names_stay p q h);
+      kept = then _ _ _ _ _ _ c.loop-key.invariant.kept (then _ _ _ _ _ _ (rule_opened _ _ _ _ R.ClearList2 refl c.in_ok-open.ensures.ok) c.in_ok-more.ensures.kept);
     }
 
 pub list_in-returns-clause-ok : goal.list_in-returns-clause-ok
 list_in-returns-clause-ok g t c =
-    let h : c.loop-place.place ≡ None = search rules in
-    last_along _ _ _ _ _ _ _ _ _ c.requires.there c.loop-place.invariant.along h (c.close.ensures ∙ ap (λ (n : ℕ). at_depth n c.push.new.self) c.depth-depth.ensures ∙ ap (λ (r : Rows). at_depth c.args.trace.now.depth r) c.in_ok-push.ensures.ok)
+    let h : c.loop-key.key ≡ None = search rules in
+    last_along _ _ _ _ _ _ _ _ _ c.requires.there c.loop-key.invariant.along h (c.close.ensures ∙ ap (λ (n : ℕ). at_depth n c.push.new.self) c.depth-depth.ensures ∙ ap (λ (r : Rows). at_depth c.args.trace.now.depth r) c.in_ok-push.ensures.ok)
 
 pub map_in-loop-key-init : goal.map_in-loop-key-init
 map_in-loop-key-init g t c =
-    record { through = first_through _ _ _ _ _ _ c.requires.there refl c.new-ids.ensures.items; path = refl; kept = nothing _ _ _ _ refl refl }
+    record { through = first_through _ _ _ _ _ _ c.requires.there refl c.new-ids.ensures.items; path = refl; names_stay = λ p q h. h; kept = nothing _ _ _ _ refl refl }
 
 pub map_in-key_after-requires : goal.map_in-key_after-requires
 map_in-key_after-requires g t c =
@@ -147,7 +149,7 @@ map_in-key_after-requires g t c =
 pub map_in-elem_in-requires : goal.map_in-elem_in-requires
 map_in-elem_in-requires g t c =
     let x = after_through _ _ _ _ _ _ _ _ _ c.requires.there c.loop-key.invariant.path c.loop-key.invariant.through in
-    λ κs h. (omega (arith, x.nested), (h, (x.there, x.below c.requires.chained)))
+    λ κs h. (omega (arith, x.nested), (h, (x.there, (rw c.loop-key.invariant.path (c.loop-key.invariant.names_stay _ _ c.requires.named), x.below c.requires.chained))))
 
 pub map_in-united-requires : goal.map_in-united-requires
 map_in-united-requires g t c = c.loop-key.invariant.through.turn.rises
@@ -165,6 +167,7 @@ map_in-loop-key-preserved g t c =
     record {
       through = (through_on _ _ _ _ _ _ _ _ _ _ _ _ _ _ _ _ _ c.requires.there (c.as_slice.ensures.value ∙ c.loop-key.invariant.path) c.loop-key.invariant.path c.loop-key.invariant.through n c.in_ok-more.ensures.ok c.in_ok-open.ensures.ok (c.in_ok-ids.ensures ∙ ap (union c.loop-key.ids.items) c.as_slice-in-Some.ensures.value) refl).0;
       path = c.in_ok-more.ensures.path ∙ c.loop-key.invariant.path;
+      names_stay = λ p q h. c.in_ok-more.ensures.names_stay p q (c.loop-key.invariant.names_stay p q h);
       kept = then _ _ _ _ _ _ c.loop-key.invariant.kept (then _ _ _ _ _ _ (rule_opened _ _ _ _ R.ClearMap2 refl c.in_ok-open.ensures.ok) c.in_ok-more.ensures.kept);
     }
 
@@ -216,8 +219,8 @@ clear_map-returns-in_err-copy-clause-kept g t c = nothing _ _ _ _ refl refl
 pub clear_map-returns-in_err-push-clause-kept : goal.clear_map-returns-in_err-push-clause-kept
 clear_map-returns-in_err-push-clause-kept g t c = nothing _ _ _ _ refl c.in_err-push.ensures.err
 
-pub clear_map-returns-then-not-has-clause-kept : goal.clear_map-returns-then-not-has-clause-kept
-clear_map-returns-then-not-has-clause-kept g t c = rule_added _ _ _ _ R.ClearNone refl c.in_ok-push.ensures.ok
+pub clear_map-returns-in_default-clause-kept : goal.clear_map-returns-in_default-clause-kept
+clear_map-returns-in_default-clause-kept g t c = rule_added _ _ _ _ R.ClearNone refl c.in_ok-push.ensures.ok
 
 pub clear_map-returns-in_err-open-clause-kept : goal.clear_map-returns-in_err-open-clause-kept
 clear_map-returns-in_err-open-clause-kept g t c = nothing _ _ _ _ refl c.in_err-open.ensures.err
@@ -237,8 +240,8 @@ clear_list-returns-in_err-copy-clause-kept g t c = nothing _ _ _ _ refl refl
 pub clear_list-returns-in_err-push-clause-kept : goal.clear_list-returns-in_err-push-clause-kept
 clear_list-returns-in_err-push-clause-kept g t c = nothing _ _ _ _ refl c.in_err-push.ensures.err
 
-pub clear_list-returns-then-not-has-clause-kept : goal.clear_list-returns-then-not-has-clause-kept
-clear_list-returns-then-not-has-clause-kept g t c = rule_added _ _ _ _ R.ClearNone refl c.in_ok-push.ensures.ok
+pub clear_list-returns-in_default-clause-kept : goal.clear_list-returns-in_default-clause-kept
+clear_list-returns-in_default-clause-kept g t c = rule_added _ _ _ _ R.ClearNone refl c.in_ok-push.ensures.ok
 
 pub clear_list-returns-in_err-open-clause-kept : goal.clear_list-returns-in_err-open-clause-kept
 clear_list-returns-in_err-open-clause-kept g t c = nothing _ _ _ _ refl c.in_err-open.ensures.err
@@ -253,19 +256,19 @@ pub clear_list-returns-clause-kept : goal.clear_list-returns-clause-kept
 clear_list-returns-clause-kept g t c = then _ _ _ _ _ _ (rule_opened _ _ _ _ R.ClearList1 refl c.in_ok-open.ensures.ok) (then _ _ _ _ _ _ c.in_ok-ids.ensures.kept (depth_changed _ _ _ _ _ refl c.close.ensures))
 
 pub list_in-returns-in_err-open-clause-kept : goal.list_in-returns-in_err-open-clause-kept
-list_in-returns-in_err-open-clause-kept g t c = then _ _ _ _ _ _ c.loop-place.invariant.kept (nothing _ _ _ _ refl c.in_err-open.ensures.err)
+list_in-returns-in_err-open-clause-kept g t c = then _ _ _ _ _ _ c.loop-key.invariant.kept (nothing _ _ _ _ refl c.in_err-open.ensures.err)
 
 pub list_in-returns-in_err-more-clause-kept : goal.list_in-returns-in_err-more-clause-kept
-list_in-returns-in_err-more-clause-kept g t c = then _ _ _ _ _ _ c.loop-place.invariant.kept (then _ _ _ _ _ _ (rule_opened _ _ _ _ R.ClearList2 refl c.in_ok-open.ensures.ok) c.in_err-more.ensures.kept)
+list_in-returns-in_err-more-clause-kept g t c = then _ _ _ _ _ _ c.loop-key.invariant.kept (then _ _ _ _ _ _ (rule_opened _ _ _ _ R.ClearList2 refl c.in_ok-open.ensures.ok) c.in_err-more.ensures.kept)
 
 pub list_in-returns-in_err-ids-clause-kept : goal.list_in-returns-in_err-ids-clause-kept
-list_in-returns-in_err-ids-clause-kept g t c = then _ _ _ _ _ _ c.loop-place.invariant.kept (then _ _ _ _ _ _ (rule_opened _ _ _ _ R.ClearList2 refl c.in_ok-open.ensures.ok) c.in_ok-more.ensures.kept)
+list_in-returns-in_err-ids-clause-kept g t c = then _ _ _ _ _ _ c.loop-key.invariant.kept (then _ _ _ _ _ _ (rule_opened _ _ _ _ R.ClearList2 refl c.in_ok-open.ensures.ok) c.in_ok-more.ensures.kept)
 
 pub list_in-returns-in_err-push-clause-kept : goal.list_in-returns-in_err-push-clause-kept
-list_in-returns-in_err-push-clause-kept g t c = then _ _ _ _ _ _ c.loop-place.invariant.kept (nothing _ _ _ _ refl c.in_err-push.ensures.err)
+list_in-returns-in_err-push-clause-kept g t c = then _ _ _ _ _ _ c.loop-key.invariant.kept (nothing _ _ _ _ refl c.in_err-push.ensures.err)
 
 pub list_in-returns-clause-kept : goal.list_in-returns-clause-kept
-list_in-returns-clause-kept g t c = then _ _ _ _ _ _ c.loop-place.invariant.kept (then _ _ _ _ _ _ (rule_added _ _ _ _ R.ClearList3 refl c.in_ok-push.ensures.ok) (depth_changed _ _ _ _ _ refl c.close.ensures))
+list_in-returns-clause-kept g t c = then _ _ _ _ _ _ c.loop-key.invariant.kept (then _ _ _ _ _ _ (rule_added _ _ _ _ R.ClearList3 refl c.in_ok-push.ensures.ok) (depth_changed _ _ _ _ _ refl c.close.ensures))
 
 pub map_in-returns-in_err-key-clause-kept : goal.map_in-returns-in_err-key-clause-kept
 map_in-returns-in_err-key-clause-kept g t c = then _ _ _ _ _ _ c.loop-key.invariant.kept (rule_opened _ _ _ _ R.ClearMap2 refl c.in_ok-open.ensures.ok)
@@ -286,19 +289,19 @@ pub map_in-returns-clause-kept : goal.map_in-returns-clause-kept
 map_in-returns-clause-kept g t c = then _ _ _ _ _ _ c.loop-key.invariant.kept (then _ _ _ _ _ _ (rule_added _ _ _ _ R.ClearMap3 refl c.in_ok-push.ensures.ok) (depth_changed _ _ _ _ _ refl c.close.ensures))
 
 pub elem_in-any_in-requires : goal.elem_in-any_in-requires
-elem_in-any_in-requires g t c = λ κs h. (omega arith, (h, (c.requires.there, c.requires.chained)))
+elem_in-any_in-requires g t c = λ κs h. (omega arith, (h, (c.requires.there, (c.requires.named, c.requires.chained))))
 
 pub any_in-clear_map-requires : goal.any_in-clear_map-requires
-any_in-clear_map-requires g t c = λ κs h. (omega arith, (h, (c.requires.there, c.requires.chained)))
+any_in-clear_map-requires g t c = λ κs h. (omega arith, (h, (c.requires.there, (c.requires.named, c.requires.chained))))
 
-pub clear_map-has-requires : goal.clear_map-has-requires
-clear_map-has-requires g t c = rw c.as_slice.ensures.value c.requires.there
+pub clear_map-below-requires-clause-there : goal.clear_map-below-requires-clause-there
+clear_map-below-requires-clause-there g t c = rw c.as_slice.ensures.value c.requires.there
 
 pub clear_map-close-requires : goal.clear_map-close-requires
 clear_map-close-requires g t c = omega (arith, c.depth-depth.ensures, ap (λ (r : Rows). r.depth) c.in_ok-open.ensures.ok, c.in_ok-ids.ensures.ok.derives.depth)
 
-pub clear_list-has-requires : goal.clear_list-has-requires
-clear_list-has-requires g t c = rw c.as_slice.ensures.value c.requires.there
+pub clear_list-below-requires-clause-there : goal.clear_list-below-requires-clause-there
+clear_list-below-requires-clause-there g t c = rw c.as_slice.ensures.value c.requires.there
 
 pub clear_list-close-requires : goal.clear_list-close-requires
 clear_list-close-requires g t c = omega (arith, c.depth-depth.ensures, ap (λ (r : Rows). r.depth) c.in_ok-open.ensures.ok, c.in_ok-ids.ensures.ok.derives.depth)
@@ -310,21 +313,22 @@ pub elem_in-close-requires : goal.elem_in-close-requires
 elem_in-close-requires g t c = omega (arith, c.depth-depth.ensures, ap (λ (r : Rows). r.depth) c.in_ok-open.ensures.ok, c.in_ok-below.ensures.ok.derives.depth, c.in_ok-present.ensures.ok.depth)
 
 pub list_in-close-requires : goal.list_in-close-requires
-list_in-close-requires g t c = omega (arith, c.depth-depth.ensures, ap (λ (r : Rows). r.depth) c.in_ok-push.ensures.ok, c.loop-place.invariant.along.turn.deeper)
+list_in-close-requires g t c = omega (arith, c.depth-depth.ensures, ap (λ (r : Rows). r.depth) c.in_ok-push.ensures.ok, c.loop-key.invariant.along.turn.deeper)
 
 pub map_in-close-requires : goal.map_in-close-requires
 map_in-close-requires g t c = omega (arith, c.depth-depth.ensures, ap (λ (r : Rows). r.depth) c.in_ok-push.ensures.ok, c.loop-key.invariant.through.turn.deeper)
 
-pub list_in-loop-place-smaller-after-next-2 : goal.list_in-loop-place-smaller-after-next-2
-list_in-loop-place-smaller-after-next-2 g t c =
-    let pl : c.match-next-2.place ≡ after c.in-Some-next.next = elim c.match-next-2.branch [ list_in-in-Tail w ↦ w.place-is ∙ sym (ap after w.in-Tail.is) | list_in-in-Elem w ↦ w.place-is ∙ sym (ap after w.in-Elem.is) ] in
-    (along_on _ _ _ _ _ _ _ _ _ _ _ _ _ _ _ _ _ _ c.requires.there (c.as_slice.ensures.value ∙ c.loop-place.invariant.path) c.loop-place.invariant.path c.loop-place.invariant.along c.in-Some.is (sym c.next.ensures ∙ c.in-Some-next.is) c.in_ok-more.ensures.ok c.in_ok-open.ensures.ok (c.in_ok-ids.ensures ∙ ap (union c.loop-place.ids.items) c.as_slice-in-Some.ensures.value) pl).1
+pub list_in-loop-key-smaller-after-next : goal.list_in-loop-key-smaller-after-next
+list_in-loop-key-smaller-after-next g t c =
+    let pl : c.match-next.key ≡ after c.in-Some-next.next = elim c.match-next.branch [ list_in-in-Tail w ↦ w.key-is ∙ sym (ap after w.in-Tail.is) | list_in-in-Elem w ↦ w.key-is ∙ sym (ap after w.in-Elem.is) ] in
+    (along_on _ _ _ _ _ _ _ _ _ _ _ _ _ _ _ _ _ _ c.requires.there (c.as_slice.ensures.value ∙ c.loop-key.invariant.path) c.loop-key.invariant.path c.loop-key.invariant.along c.in-Some.is (sym c.step_by-step.ensures.next ∙ c.in-Some-next.is) c.in_ok-more.ensures.ok c.in_ok-open.ensures.ok (c.in_ok-ids.ensures ∙ ap (union c.loop-key.ids.items) c.as_slice-in-Some.ensures.value) pl).1
 
-pub list_in-loop-place-preserved-after-next-2 : goal.list_in-loop-place-preserved-after-next-2
-list_in-loop-place-preserved-after-next-2 g t c =
-    let pl : c.match-next-2.place ≡ after c.in-Some-next.next = elim c.match-next-2.branch [ list_in-in-Tail w ↦ w.place-is ∙ sym (ap after w.in-Tail.is) | list_in-in-Elem w ↦ w.place-is ∙ sym (ap after w.in-Elem.is) ] in
+pub list_in-loop-key-preserved-after-next : goal.list_in-loop-key-preserved-after-next
+list_in-loop-key-preserved-after-next g t c =
+    let pl : c.match-next.key ≡ after c.in-Some-next.next = elim c.match-next.branch [ list_in-in-Tail w ↦ w.key-is ∙ sym (ap after w.in-Tail.is) | list_in-in-Elem w ↦ w.key-is ∙ sym (ap after w.in-Elem.is) ] in
     record {
-      along = (along_on _ _ _ _ _ _ _ _ _ _ _ _ _ _ _ _ _ _ c.requires.there (c.as_slice.ensures.value ∙ c.loop-place.invariant.path) c.loop-place.invariant.path c.loop-place.invariant.along c.in-Some.is (sym c.next.ensures ∙ c.in-Some-next.is) c.in_ok-more.ensures.ok c.in_ok-open.ensures.ok (c.in_ok-ids.ensures ∙ ap (union c.loop-place.ids.items) c.as_slice-in-Some.ensures.value) pl).0;
-      path = c.in_ok-more.ensures.path ∙ c.loop-place.invariant.path;
-      kept = then _ _ _ _ _ _ c.loop-place.invariant.kept (then _ _ _ _ _ _ (rule_opened _ _ _ _ R.ClearList2 refl c.in_ok-open.ensures.ok) c.in_ok-more.ensures.kept);
+      along = (along_on _ _ _ _ _ _ _ _ _ _ _ _ _ _ _ _ _ _ c.requires.there (c.as_slice.ensures.value ∙ c.loop-key.invariant.path) c.loop-key.invariant.path c.loop-key.invariant.along c.in-Some.is (sym c.step_by-step.ensures.next ∙ c.in-Some-next.is) c.in_ok-more.ensures.ok c.in_ok-open.ensures.ok (c.in_ok-ids.ensures ∙ ap (union c.loop-key.ids.items) c.as_slice-in-Some.ensures.value) pl).0;
+      path = c.in_ok-more.ensures.path ∙ c.loop-key.invariant.path;
+      names_stay = λ p q h. c.in_ok-more.ensures.names_stay p q (c.loop-key.invariant.names_stay p q h);
+      kept = then _ _ _ _ _ _ c.loop-key.invariant.kept (then _ _ _ _ _ _ (rule_opened _ _ _ _ R.ClearList2 refl c.in_ok-open.ensures.ok) c.in_ok-more.ensures.kept);
     }

@@ -1,6 +1,6 @@
 use Rattle.std.proofs.Common.{◌≡◌, ◌+◌, ◌*◌, length}
 use Rattle.jc_rules.specs.Context.{links}
-use Rattle.jc_tree.specs.Tree.{here}
+use Rattle.jc_tree.specs.Tree.{NamesStay, here}
 use Rattle.jc_tree.specs.Nested.{nested}
 use Rattle.jc_tree.specs.CanGoBack.{TreeCanGoBack}
 use Rattle.jc_clear.proofs.ClearListLemmas.{Along, steps}
@@ -29,18 +29,20 @@ abbrev pub invariant-map_in-loop-key : goal.invariant-map_in-loop-key
 invariant-map_in-loop-key g l = record {
   through : Through l.deps l.initial.at.items (g.S.TreeStore.tree l.initial.store) l.initial.trace (g.S.TreeStore.tree l.store) l.last l.ids.items l.trace;
   path : l.at.items ≡ l.initial.at.items;
+  names_stay : NamesStay (g.S.TreeStore.names l.initial.store) (g.S.TreeStore.names l.store);
   kept : TreeCanGoBack (g.S.TreeStore.tree l.initial.store) (g.S.TreeStore.tree l.store) l.initial.trace l.trace;
 }
 
 abbrev pub decreases-map_in-loop-key : goal.decreases-map_in-loop-key
 decreases-map_in-loop-key g l = left_after l.last (here l.initial.at.items (g.S.TreeStore.tree l.initial.store))
 
-abbrev pub invariant-list_in-loop-place : goal.invariant-list_in-loop-place
-invariant-list_in-loop-place g l = record {
-  along : Along l.deps l.initial.at.items (g.S.TreeStore.tree l.initial.store) l.initial.trace (g.S.TreeStore.tree l.store) l.place l.ids.items l.trace;
+abbrev pub invariant-list_in-loop-key : goal.invariant-list_in-loop-key
+invariant-list_in-loop-key g l = record {
+  along : Along l.deps l.initial.at.items (g.S.TreeStore.tree l.initial.store) l.initial.trace (g.S.TreeStore.tree l.store) l.key l.ids.items l.trace;
   path : l.at.items ≡ l.initial.at.items;
+  names_stay : NamesStay (g.S.TreeStore.names l.initial.store) (g.S.TreeStore.names l.store);
   kept : TreeCanGoBack (g.S.TreeStore.tree l.initial.store) (g.S.TreeStore.tree l.store) l.initial.trace l.trace;
 }
 
-abbrev pub decreases-list_in-loop-place : goal.decreases-list_in-loop-place
-decreases-list_in-loop-place g l = steps l.place (length (links (here l.initial.at.items (g.S.TreeStore.tree l.initial.store)))) (here l.initial.at.items (g.S.TreeStore.tree l.initial.store))
+abbrev pub decreases-list_in-loop-key : goal.decreases-list_in-loop-key
+decreases-list_in-loop-key g l = steps l.key (length (links (here l.initial.at.items (g.S.TreeStore.tree l.initial.store)))) (here l.initial.at.items (g.S.TreeStore.tree l.initial.store))

@@ -9,19 +9,19 @@ use Rattle.jc_tree.proofs.WellFormedLemmas.{register_kept}
 use Rattle.jc_clear.proofs.ClearRulesLemmas.{no_register, clear_values}
 use Rattle.jc_clear.proofs.registers.clear_register.Goals as goal
 
-pub set_register-requires-clause-kept : goal.set_register-requires-clause-kept
-set_register-requires-clause-kept g c =
-    register_left c.args.deps.now c.in-Some.pairs.now _ (register_kept c.args.at.now c.args.key.now c.in-Some.pairs.now _ (g.S.TreeStore.tree c.args.store.now).now (g.met.S.TreeStore.kept c.args.store.now) c.requires (sym c.in-Some.ensures) refl) c.in_ok-left-in-Some.ensures
+pub set_register_at-requires-clause-kept : goal.set_register_at-requires-clause-kept
+set_register_at-requires-clause-kept g c =
+    register_left c.args.deps.now c.in-Some.pairs.now _ (register_kept c.args.at.now c.args.key.now c.in-Some.pairs.now _ (g.S.TreeStore.tree c.args.store.now).now (g.met.S.TreeStore.kept c.args.store.now) c.requires.there (sym c.in-Some.ensures) refl) c.in_ok-left-in-Some.ensures
 
 pub returns-in_ok-push-in-None-clause-ok : goal.returns-in_ok-push-in-None-clause-ok
 returns-in_ok-push-in-None-clause-ok g c =
-    no_register _ _ _ _ _ _ _ _ c.requires (sym c.in-None.ensures) c.in_ok-push-in-None.ensures.ok refl c.new.ensures.items
+    no_register _ _ _ _ _ _ _ _ c.requires.there (sym c.in-None.ensures) c.in_ok-push-in-None.ensures.ok refl c.new.ensures.items
 
-pub returns-in_ok-set_register-in-Some-clause-ok : goal.returns-in_ok-set_register-in-Some-clause-ok
-returns-in_ok-set_register-in-Some-clause-ok g c =
-    let left : IsWellFormedRegister c.in_ok-left-in-Some.left.items = register_left c.args.deps.now c.in-Some.pairs.now _ (register_kept c.args.at.now c.args.key.now c.in-Some.pairs.now _ (g.S.TreeStore.tree c.args.store.now).now (g.met.S.TreeStore.kept c.args.store.now) c.requires (sym c.in-Some.ensures) refl) c.in_ok-left-in-Some.ensures in
-    clear_values _ _ _ c.in-Some.pairs.now c.in_ok-left-in-Some.left.items _ _ _ _ _ (sym c.in-Some.ensures) c.in_ok-left-in-Some.ensures left c.in_ok-push-in-Some.ensures.ok c.in_ok-set_register-in-Some.ensures.ok (c.in_ok-ids-in-Some.ensures ∙ ap (λ (r : Register). keys_of r) c.as_slice.ensures.value)
+pub returns-in_ok-set_register_at-in-Some-clause-ok : goal.returns-in_ok-set_register_at-in-Some-clause-ok
+returns-in_ok-set_register_at-in-Some-clause-ok g c =
+    let left : IsWellFormedRegister c.in_ok-left-in-Some.left.items = register_left c.args.deps.now c.in-Some.pairs.now _ (register_kept c.args.at.now c.args.key.now c.in-Some.pairs.now _ (g.S.TreeStore.tree c.args.store.now).now (g.met.S.TreeStore.kept c.args.store.now) c.requires.there (sym c.in-Some.ensures) refl) c.in_ok-left-in-Some.ensures in
+    clear_values _ _ _ c.in-Some.pairs.now c.in_ok-left-in-Some.left.items _ _ _ _ _ (sym c.in-Some.ensures) c.in_ok-left-in-Some.ensures left c.in_ok-push-in-Some.ensures.ok c.in_ok-set_register_at-in-Some.ensures.ok (c.in_ok-ids-in-Some.ensures ∙ ap (λ (r : Register). keys_of r) c.as_slice.ensures.value)
 
-pub returns-in_ok-set_register-in-Some-clause-kept : goal.returns-in_ok-set_register-in-Some-clause-kept
-returns-in_ok-set_register-in-Some-clause-kept g c =
-    then _ _ _ _ _ _ (rule_added _ _ _ _ R.ClearReg refl c.in_ok-push-in-Some.ensures.ok) (tree_changed _ _ _ _ _ _ c.in_ok-set_register-in-Some.ensures.ok refl)
+pub returns-in_ok-set_register_at-in-Some-clause-kept : goal.returns-in_ok-set_register_at-in-Some-clause-kept
+returns-in_ok-set_register_at-in-Some-clause-kept g c =
+    then _ _ _ _ _ _ (rule_added _ _ _ _ R.ClearReg refl c.in_ok-push-in-Some.ensures.ok) (tree_changed _ _ _ _ _ _ c.in_ok-set_register_at-in-Some.ensures.ok refl)

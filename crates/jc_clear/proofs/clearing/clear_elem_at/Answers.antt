@@ -1,17 +1,17 @@
 use Rattle.jc_tree.specs.Tree.{HasPlace}
 use Rattle.jc_tree.proofs.CanGoBackLemmas.{gone_back}
 use Rattle.jc_clear.proofs.ClearsBelowLemmas.{chained_here, still_chained}
-use Rattle.jc_clear.proofs.clearing.clear.Goals as goal
+use Rattle.jc_clear.proofs.clearing.clear_elem_at.Goals as goal
 
-pub tagged_in-requires-clause-chained : goal.tagged_in-requires-clause-chained
-tagged_in-requires-clause-chained g c =
+pub elem_in-requires-clause-chained : goal.elem_in-requires-clause-chained
+elem_in-requires-clause-chained g c =
     let there : HasPlace c.in_ok-path.path.items (g.S.TreeStore.tree c.args.store.now) = rw c.in_ok-path.ensures c.requires.there in
     chained_here c.in_ok-path.path.items (g.S.TreeStore.tree c.args.store.now) there c.requires.chained
 
 pub returns-in-Ok-clause-chained : goal.returns-in-Ok-clause-chained
 returns-in-Ok-clause-chained g c =
     let there : HasPlace c.in_ok-path.path.items (g.S.TreeStore.tree c.args.store.now) = rw c.in_ok-path.ensures c.requires.there in
-    still_chained c.in_ok-path.path.items c.in-Ok.ensures.ok.after (g.S.TreeStore.tree c.args.store.now) (g.S.TreeStore.tree c.tagged_in.new.store) there c.in-Ok.ensures.ok.now c.in-Ok.ensures.ok.same c.requires.chained
+    still_chained c.in_ok-path.path.items c.in-Ok.ensures.ok.after (g.S.TreeStore.tree c.args.store.now) (g.S.TreeStore.tree c.elem_in.new.store) there c.in-Ok.ensures.ok.now c.in-Ok.ensures.ok.same c.requires.chained
 
 pub returns-clause-kept : goal.returns-clause-kept
 returns-clause-kept g c =
