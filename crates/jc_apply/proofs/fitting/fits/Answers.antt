@@ -19,16 +19,6 @@ loop-depth-preserved g c =
       }
     ]
 
-pub returns-in-Insert : goal.returns-in-Insert
-returns-in-Insert g c =
-    let t = told _ c.args.cursor.now c.args.mutation.now c.is_some.result c.as_slice-path.ensures.path (insert_there _ c.as_slice-path.result.now c.args.cursor.now.path c.loop-depth.depth (is_some c.loop-depth.place) c.args.cursor.now.last c.args.mutation.now _ c.next.result c.is_some.result c.as_slice-path.ensures.keys c.loop-depth-test.false c.loop-depth.invariant.walked (sym c.is_some-there.ensures ∙ c.if-there.true) c.in-Insert.is c.next.ensures c.is_some.ensures) in
-    record { fits = t.fits; refused = t.refused; not_refused = t.not_refused }
-
-pub returns-in-Insert-2 : goal.returns-in-Insert-2
-returns-in-Insert-2 g c =
-    let t = told _ c.args.cursor.now c.args.mutation.now c.is_new_head.result c.as_slice-path.ensures.path (insert_new _ c.as_slice-path.result.now c.args.cursor.now.path c.loop-depth.depth (is_some c.loop-depth.place) c.args.cursor.now.last c.args.mutation.now _ _ c.is_new_head.result c.as_slice-path.ensures.keys c.loop-depth-test.false c.loop-depth.auto.depth-end c.loop-depth.invariant.walked (sym c.is_some-there.ensures ∙ c.if-there.false) c.in-Insert-2.is c.last.ensures.value c.is_new_head.ensures) in
-    record { fits = t.fits; refused = t.refused; not_refused = t.not_refused }
-
 pub returns-in_default-mutation : goal.returns-in_default-mutation
 returns-in_default-mutation g c =
     let fit = other_fits _ c.as_slice-path.result.now c.args.cursor.now.path c.loop-depth.depth (is_some c.loop-depth.place) c.args.cursor.now.last c.args.mutation.now c.as_slice-path.ensures.keys c.loop-depth-test.false c.loop-depth.auto.depth-end c.loop-depth.invariant.walked c.in_default-mutation.not-Insert in
