@@ -32,7 +32,7 @@ pub enum ApplyFault {
     Memory,
 }
 
-/// Deletes what is under the operation's last key.
+/// Deletes what is under the operation's last key, in the context at the place whose name is `place`.
 fn delete<S: TreeStore>(
     alloc: Global,
     store: &mut S,
@@ -143,7 +143,7 @@ fn operate<S: TreeStore>(
     let key = &path[depth];
     let above = trace.depth();
     trace.open(Rule::Descend)?;
-    // Added before the way down, while the place has its name: its rules come after.
+    // Added before the way down, by the name of this place: its rules come after.
     let was = add_op(store, place, at, key, op)?;
     let child = enter_below(store, place, at, key, trace)?;
     operate(alloc, store, op, depth + 1, child, trace)?;

@@ -61,8 +61,9 @@ pub fn trace_added(was: Option<bool>, trace: &mut Trace) -> Result<(), AllocErro
     Ok(())
 }
 
-/// Adds an identifier to the presence set of a key, for an operation that doesn't delete.
-pub fn add_id<S: TreeStore>(
+/// Adds an identifier to the presence set of a key in the context at the place, whose name is `place`,
+/// for an operation that doesn't delete.
+fn add_id<S: TreeStore>(
     store: &mut S,
     place: Place,
     at: &[Tagged],
@@ -83,7 +84,8 @@ pub fn add_id<S: TreeStore>(
     trace_added(Some(was), trace)
 }
 
-/// Assigns a primitive value to the register of a key.
+/// Assigns a primitive value to the register of a key, in the context at the place whose name is
+/// `place`.
 fn assign_primitive<S: TreeStore>(
     alloc: Global,
     store: &mut S,
@@ -127,8 +129,8 @@ fn empty_rule(key: &Tagged) -> Rule
     }
 }
 
-/// Assigns an empty map or an empty list to a key: what is under it is cleared, and the map or the
-/// list is made where there is none.
+/// Assigns an empty map or an empty list to a key, in the context at the place whose name is `place`:
+/// what is under the key is cleared, and the map or the list is made where there is none.
 fn assign_empty<S: TreeStore>(
     alloc: Global,
     store: &mut S,
@@ -158,7 +160,7 @@ fn assign_empty<S: TreeStore>(
     Ok(())
 }
 
-/// Assigns a value to a key.
+/// Assigns a value to a key, in the context at the place whose name is `place`.
 pub fn assign<S: TreeStore>(
     alloc: Global,
     store: &mut S,

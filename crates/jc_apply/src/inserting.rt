@@ -22,7 +22,8 @@ use jc_rules::{Id, Key, Next, Op, Rule, Tagged, Trace, Value, compare_ids};
 use jc_tree::{Hint, Place, TreeStore};
 use std::alloc::{AllocError, Global};
 
-/// What follows a key of a list, and a hint for the key that follows. `hint` is where to look first.
+/// What follows a key of the list at the place, and a hint for the key that follows. `place` is the
+/// store's name for the place, `hint` is where to look first.
 fn step_in<S: TreeStore>(
     store: &S,
     place: Place,
@@ -54,7 +55,8 @@ fn greater_element(next: Next, id: Id) -> Option<Id>
 }
 
 /// Goes from the operation's last key past the elements there whose identifier is greater than the
-/// operation's. Returns the key behind which the new element belongs, and what follows that key.
+/// operation's, each step with the hint of the step before. `place` is the store's name for the list.
+/// Returns the key behind which the new element belongs, and what follows that key.
 fn pass<S: TreeStore>(
     store: &S,
     place: Place,
@@ -82,7 +84,7 @@ fn pass<S: TreeStore>(
 }
 
 /// Inserts the value behind the operation's last key and behind the elements there whose identifier
-/// is greater than the operation's.
+/// is greater than the operation's. `place` is the store's name for the list.
 pub fn insert<S: TreeStore>(
     alloc: Global,
     store: &mut S,
