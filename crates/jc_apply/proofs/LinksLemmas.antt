@@ -18,9 +18,6 @@ use Rattle.jc_clear.proofs.ClearsBelowLemmas.{still_chained}
 use Rattle.jc_apply.specs.AppliesAlong.{LinksNone, LinksOnly}
 use Rattle.jc_apply.proofs.UnlinkedLemmas.{unlinked_here, unlinked_now, unlinked-new, unlinked-presence, unlinked-register, unlinked-same}
 
-pub links_none : (at : List Tagged) (a b : Tree) → b ≡ a → LinksNone at a b
-links_none at a b e = rw e (record { same = refl; chained = λ h. h; unlinked = λ i h. h })
-
 pub none_then : (at : List Tagged) (a b d : Tree) → LinksNone at a b → LinksNone at b d → LinksNone at a d
 none_then at a b d x y =
     record { same = y.same ∙ x.same; chained = λ h. y.chained (x.chained h); unlinked = λ i h. y.unlinked i (x.unlinked i h) }

@@ -18,7 +18,7 @@ use crate::assigning::{assign, trace_added};
 use crate::entering::enter_below;
 use crate::fitting::fits;
 use crate::inserting::insert;
-use jc_clear::clear_elem;
+use jc_clear::clear_elem_at;
 use jc_rules::{Mutation, Op, Rule, Tagged, Trace};
 use jc_tree::{Place, TreeStore};
 use std::alloc::{AllocError, Global};
@@ -32,15 +32,17 @@ pub enum ApplyFault {
     Memory,
 }
 
-/// Deletes what is under the operation's last key.
+/// Deletes what is under the operation's last key, in the context at the place whose name is `place`.
 fn delete<S: TreeStore>(
     alloc: Global,
     store: &mut S,
+    place: Place,
     at: &[Tagged],
     op: &Op,
     trace: &mut Trace,
 ) -> Result<(), AllocError>
     requires there { HasPlace at.now (S.tree store.old) }
+    requires named { S.names store.old place at.now }
     requires chained { IsChained (S.tree store.old).now }
     requires deletes { op.now.mutation ≡ Mutation.Delete }
     ensures ok { OnOk result (LeadsTo (λ c. Operate c (moved op.now [] op.now.cursor.last op.now.mutation))
@@ -50,20 +52,23 @@ fn delete<S: TreeStore>(
 {
     let depth = trace.depth();
     trace.open(Rule::Delete)?;
-    clear_elem(alloc, store, &op.deps, at, &op.cursor.last, trace)?;
+    clear_elem_at(alloc, store, &op.deps, place, at, &op.cursor.last, trace)?;
     trace.close(depth);
     Ok(())
 }
 
-/// Applies the operation to the context that its whole path leads to.
+/// Applies the operation to the context that its whole path leads to. `place` is the store's name for
+/// that context.
 fn operate_here<S: TreeStore>(
     alloc: Global,
     store: &mut S,
+    place: Place,
     at: &[Tagged],
     op: &Op,
     trace: &mut Trace,
 ) -> Result<(), AllocError>
     requires there { HasPlace at.now (S.tree store.old) }
+    requires named { S.names store.old place at.now }
     requires chained { IsChained (S.tree store.old).now }
     requires fresh { IsUnlinked op.now.id (S.tree store.old).now }
     requires fits { Fits (here at.now (S.tree store.old)) [] op.now.cursor.last op.now.mutation }
@@ -73,9 +78,11 @@ fn operate_here<S: TreeStore>(
     ensures kept { TreeCanGoBack (S.tree store.old) (S.tree store.new) trace.old trace.new }
 {
     match &op.mutation {
-        Mutation::Assign(value) => assign(alloc, store, at, op, &op.cursor.last, value, trace),
-        Mutation::Insert(value) => insert(alloc, store, at, op, value, trace),
-        Mutation::Delete => delete(alloc, store, at, op, trace),
+        Mutation::Assign(value) => {
+            assign(alloc, store, place, at, op, &op.cursor.last, value, trace)
+        }
+        Mutation::Insert(value) => insert(alloc, store, place, at, op, value, trace),
+        Mutation::Delete => delete(alloc, store, place, at, op, trace),
     }
 }
 
@@ -130,13 +137,13 @@ fn operate<S: TreeStore>(
 {
     let path = op.cursor.path.as_slice();
     if depth == path.len() {
-        return operate_here(alloc, store, path, op, trace);
+        return operate_here(alloc, store, place, path, op, trace);
     }
     let at = &path[..depth];
     let key = &path[depth];
     let above = trace.depth();
     trace.open(Rule::Descend)?;
-    // Added before the way down, while the place has its name: its rules come after.
+    // Added before the way down, by the name of this place: its rules come after.
     let was = add_op(store, place, at, key, op)?;
     let child = enter_below(store, place, at, key, trace)?;
     operate(alloc, store, op, depth + 1, child, trace)?;

@@ -14,15 +14,15 @@ ghost use Rattle.jc_rules.specs.WellFormed.{IsChained};
 ghost use Rattle.jc_rules.specs.Table.{Follows, moved};
 ghost use Rattle.jc_rules.specs.Trace.{IsLonger};
 ghost use Rattle.jc_rules.specs.Paths.{HasContext};
-ghost use Rattle.jc_tree.specs.Tree.{HasPlace, here, or_no_entries};
+ghost use Rattle.jc_tree.specs.Tree.{HasPlace, NamesStay, here, or_no_entries};
 ghost use Rattle.jc_tree.specs.CanGoBack.{TreeCanGoBack};
 ghost use Rattle.jc_apply.specs.Fits.{empty_of};
 ghost use Rattle.jc_apply.specs.AppliesAlong.{LeadsTo, LinksNone, AssignsEmpty, TellsAdded};
 
-use crate::entering::enter;
-use jc_clear::{clear, clear_elem};
+use crate::entering::enter_below;
+use jc_clear::{clear_at, clear_elem_at};
 use jc_rules::{Id, Key, Op, Rule, Tagged, Trace, Value};
-use jc_tree::TreeStore;
+use jc_tree::{Place, TreeStore};
 use std::alloc::{AllocError, Global};
 
 /// The rule by which a key's presence set is found, or found absent.
@@ -61,29 +61,35 @@ pub fn trace_added(was: Option<bool>, trace: &mut Trace) -> Result<(), AllocErro
     Ok(())
 }
 
-/// Adds an identifier to the presence set of a key, for an operation that doesn't delete.
-pub fn add_id<S: TreeStore>(
+/// Adds an identifier to the presence set of a key in the context at the place, whose name is `place`,
+/// for an operation that doesn't delete.
+fn add_id<S: TreeStore>(
     store: &mut S,
+    place: Place,
     at: &[Tagged],
     key: &Key,
     id: Id,
     trace: &mut Trace,
 ) -> Result<(), AllocError>
-    requires { HasPlace at.now (S.tree store.old) }
+    requires there { HasPlace at.now (S.tree store.old) }
+    requires named { S.names store.old place at.now }
     ensures ok { OnOk result ((k : Tagged) → (m : AnyMutation) → key_of_tagged k ≡ key.now → m ≢ Delete
         → LeadsTo (λ c. AddId c k id m)
         at.now (S.tree store.old) (S.tree store.new) trace.old trace.new) }
     ensures links { OnOk result (LinksNone at.now (S.tree store.old) (S.tree store.new)) }
+    ensures names_stay { OnOk result (NamesStay (S.names store.old) (S.names store.new)) }
     ensures kept { TreeCanGoBack (S.tree store.old) (S.tree store.new) trace.old trace.new }
 {
-    let was = store.add_presence(at, key, id)?;
+    let was = store.add_presence_at(place, at, key, id)?;
     trace_added(Some(was), trace)
 }
 
-/// Assigns a primitive value to the register of a key.
+/// Assigns a primitive value to the register of a key, in the context at the place whose name is
+/// `place`.
 fn assign_primitive<S: TreeStore>(
     alloc: Global,
     store: &mut S,
+    place: Place,
     at: &[Tagged],
     op: &Op,
     last: &Key,
@@ -91,25 +97,21 @@ fn assign_primitive<S: TreeStore>(
     trace: &mut Trace,
 ) -> Result<(), AllocError>
     requires there { HasPlace at.now (S.tree store.old) }
+    requires named { S.names store.old place at.now }
     requires chained { IsChained (S.tree store.old).now }
     requires primitive { IsPrimitive value.now }
     ensures ok { OnOk result (LeadsTo (λ c. Operate c (moved op.now [] last.now (Assign value.now)))
         at.now (S.tree store.old) (S.tree store.new) trace.old trace.new) }
     ensures links { OnOk result (LinksNone at.now (S.tree store.old) (S.tree store.new)) }
+    ensures names_stay { OnOk result (NamesStay (S.names store.old) (S.names store.new)) }
     ensures kept { TreeCanGoBack (S.tree store.old) (S.tree store.new) trace.old trace.new }
 {
     let depth = trace.depth();
     trace.open(Rule::Assign)?;
-    clear(
-        alloc,
-        store,
-        &op.deps,
-        at,
-        &Tagged::RegT(last.copy()?),
-        trace,
-    )?;
-    add_id(store, at, last, op.id, trace)?;
-    let was = store.put_value(at, last, op.id, value.copy()?)?;
+    let register = Tagged::RegT(last.copy()?);
+    clear_at(alloc, store, &op.deps, place, at, &register, trace)?;
+    add_id(store, place, at, last, op.id, trace)?;
+    let was = store.put_value_at(place, at, last, op.id, value.copy()?)?;
     trace.push(register_rule(was))?;
     trace.close(depth);
     Ok(())
@@ -127,38 +129,42 @@ fn empty_rule(key: &Tagged) -> Rule
     }
 }
 
-/// Assigns an empty map or an empty list to a key: what is under it is cleared, and the map or the
-/// list is made where there is none.
+/// Assigns an empty map or an empty list to a key, in the context at the place whose name is `place`:
+/// what is under the key is cleared, and the map or the list is made where there is none.
 fn assign_empty<S: TreeStore>(
     alloc: Global,
     store: &mut S,
+    place: Place,
     at: &[Tagged],
     op: &Op,
     key: &Tagged,
     trace: &mut Trace,
 ) -> Result<(), AllocError>
     requires there { HasPlace at.now (S.tree store.old) }
+    requires named { S.names store.old place at.now }
     requires chained { IsChained (S.tree store.old).now }
     requires context { HasContext key.now }
     ensures ok { OnOk result (LeadsTo
         (λ c. Operate c (moved op.now [] (key_of_tagged key.now) (Assign (empty_of key.now))))
         at.now (S.tree store.old) (S.tree store.new) trace.old trace.new) }
     ensures links { OnOk result (LinksNone at.now (S.tree store.old) (S.tree store.new)) }
+    ensures names_stay { OnOk result (NamesStay (S.names store.old) (S.names store.new)) }
     ensures kept { TreeCanGoBack (S.tree store.old) (S.tree store.new) trace.old trace.new }
 {
     let depth = trace.depth();
     trace.open(empty_rule(key))?;
-    clear_elem(alloc, store, &op.deps, at, key.key(), trace)?;
-    add_id(store, at, key.key(), op.id, trace)?;
-    enter(store, at, key, trace)?;
+    clear_elem_at(alloc, store, &op.deps, place, at, key.key(), trace)?;
+    add_id(store, place, at, key.key(), op.id, trace)?;
+    enter_below(store, place, at, key, trace)?;
     trace.close(depth);
     Ok(())
 }
 
-/// Assigns a value to a key.
+/// Assigns a value to a key, in the context at the place whose name is `place`.
 pub fn assign<S: TreeStore>(
     alloc: Global,
     store: &mut S,
+    place: Place,
     at: &[Tagged],
     op: &Op,
     last: &Key,
@@ -166,15 +172,23 @@ pub fn assign<S: TreeStore>(
     trace: &mut Trace,
 ) -> Result<(), AllocError>
     requires there { HasPlace at.now (S.tree store.old) }
+    requires named { S.names store.old place at.now }
     requires chained { IsChained (S.tree store.old).now }
     ensures ok { OnOk result (LeadsTo (λ c. Operate c (moved op.now [] last.now (Assign value.now)))
         at.now (S.tree store.old) (S.tree store.new) trace.old trace.new) }
     ensures links { OnOk result (LinksNone at.now (S.tree store.old) (S.tree store.new)) }
+    ensures names_stay { OnOk result (NamesStay (S.names store.old) (S.names store.new)) }
     ensures kept { TreeCanGoBack (S.tree store.old) (S.tree store.new) trace.old trace.new }
 {
     match value {
-        Value::EmptyMap => assign_empty(alloc, store, at, op, &Tagged::MapT(last.copy()?), trace),
-        Value::EmptyList => assign_empty(alloc, store, at, op, &Tagged::ListT(last.copy()?), trace),
-        _ => assign_primitive(alloc, store, at, op, last, value, trace),
+        Value::EmptyMap => {
+            let key = Tagged::MapT(last.copy()?);
+            assign_empty(alloc, store, place, at, op, &key, trace)
+        }
+        Value::EmptyList => {
+            let key = Tagged::ListT(last.copy()?);
+            assign_empty(alloc, store, place, at, op, &key, trace)
+        }
+        _ => assign_primitive(alloc, store, place, at, op, last, value, trace),
     }
 }

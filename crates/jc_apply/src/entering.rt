@@ -5,7 +5,7 @@ ghost use Rattle.jc_rules.specs.Context.{Context, content, new_content};
 ghost use Rattle.jc_rules.specs.Derivation.{Child, ToContent};
 ghost use Rattle.jc_rules.specs.Table.{Follows};
 ghost use Rattle.jc_rules.specs.Paths.{HasContext};
-ghost use Rattle.jc_tree.specs.Tree.{HasPlace, here};
+ghost use Rattle.jc_tree.specs.Tree.{HasPlace, NamesStay, here};
 ghost use Rattle.jc_tree.specs.CanGoBack.{TreeCanGoBack};
 ghost use Rattle.jc_apply.specs.AppliesAlong.{Enters, LinksNone};
 
@@ -25,28 +25,6 @@ fn child_rule(key: &Tagged) -> Rule
     }
 }
 
-/// Makes the context under the tagged key, if it isn't there already.
-pub fn enter<S: TreeStore>(
-    store: &mut S,
-    at: &[Tagged],
-    key: &Tagged,
-    trace: &mut Trace,
-) -> Result<(), AllocError>
-    requires there { HasPlace at.now (S.tree store.old) }
-    requires context { HasContext key.now }
-    ensures ok { OnOk result (Enters key.now at.now (S.tree store.old) (S.tree store.new) trace.old trace.new) }
-    ensures links { OnOk result (LinksNone at.now (S.tree store.old) (S.tree store.new)) }
-    ensures kept { TreeCanGoBack (S.tree store.old) (S.tree store.new) trace.old trace.new }
-{
-    if store.has(at, key) {
-        trace.push(Rule::ChildGet)?;
-    } else {
-        trace.push(child_rule(key))?;
-        store.make_child(at, key)?;
-    }
-    Ok(())
-}
-
 /// Makes the context under the tagged key in the context at the place, whose name is `place`, if it
 /// isn't there already. Returns its name.
 pub fn enter_below<S: TreeStore>(
@@ -61,6 +39,7 @@ pub fn enter_below<S: TreeStore>(
     requires context { HasContext key.now }
     ensures ok { OnOk result (Enters key.now at.now (S.tree store.old) (S.tree store.new) trace.old trace.new) }
     ensures named { IfOk result (λ child. S.names store.new child (at.now ++ key.now ∷ [])) }
+    ensures names_stay { OnOk result (NamesStay (S.names store.old) (S.names store.new)) }
     ensures links { OnOk result (LinksNone at.now (S.tree store.old) (S.tree store.new)) }
     ensures kept { TreeCanGoBack (S.tree store.old) (S.tree store.new) trace.old trace.new }
 {

@@ -9,7 +9,7 @@ ghost use Rattle.jc_rules.specs.WellFormed.{IsChained};
 ghost use Rattle.jc_apply.specs.Fits.{Fits, EachOp, made_under};
 
 use jc_rules::{Cursor, Key, Mutation, Tagged};
-use jc_tree::TreeStore;
+use jc_tree::{Hint, TreeStore};
 
 /// Whether something follows the key in a new context under the tagged key: only the head of a new
 /// list is linked.
@@ -40,10 +40,14 @@ pub fn fits<S: TreeStore>(store: &S, cursor: &Cursor, mutation: &Mutation) -> bo
             place = store.below(parent, &path[..depth], key);
         }
     }
-    let there = place.is_some();
-    match mutation {
-        Mutation::Insert(_) if there => store.next(path, &cursor.last).is_some(),
-        Mutation::Insert(_) => is_new_head(path.last(), &cursor.last),
-        _ => true,
+    let Mutation::Insert(_) = mutation else {
+        return true;
+    };
+    match place {
+        Some(place) => {
+            let step = store.step_by(place, path, &cursor.last, Hint { number: 0 });
+            step.next.is_some()
+        }
+        None => is_new_head(path.last(), &cursor.last),
     }
 }

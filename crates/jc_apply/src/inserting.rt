@@ -19,19 +19,28 @@ ghost use Rattle.jc_apply.specs.AppliesAlong.{LeadsTo, LinksOnly, Passes};
 
 use crate::assigning::assign;
 use jc_rules::{Id, Key, Next, Op, Rule, Tagged, Trace, Value, compare_ids};
-use jc_tree::TreeStore;
+use jc_tree::{Hint, Place, TreeStore};
 use std::alloc::{AllocError, Global};
 
-/// What follows a key of a list.
-fn next_in<S: TreeStore>(store: &S, at: &[Tagged], key: &Key) -> Next
+/// What follows a key of the list at the place, and a hint for the key that follows. `place` is the
+/// store's name for the place, `hint` is where to look first.
+fn step_in<S: TreeStore>(
+    store: &S,
+    place: Place,
+    at: &[Tagged],
+    key: &Key,
+    hint: Hint,
+) -> (Next, Hint)
     requires there { HasPlace at.now (S.tree store.now) }
+    requires named { S.names store.now place at.now }
     requires linked { next_of key.now (here at.now (S.tree store.now)) ≢ None }
-    ensures { next_of key.now (here at.now (S.tree store.now)) ≡ Some result }
+    ensures { next_of key.now (here at.now (S.tree store.now)) ≡ Some result.0 }
 {
-    let Some(next) = store.next(at, key) else {
+    let step = store.step_by(place, at, key, hint);
+    let Some(next) = step.next else {
         unreachable!();
     };
-    next
+    (next, step.hint)
 }
 
 /// The element that `next` leads to, if its identifier is greater than the given one.
@@ -46,14 +55,17 @@ fn greater_element(next: Next, id: Id) -> Option<Id>
 }
 
 /// Goes from the operation's last key past the elements there whose identifier is greater than the
-/// operation's. Returns the key behind which the new element belongs, and what follows that key.
+/// operation's, each step with the hint of the step before. `place` is the store's name for the list.
+/// Returns the key behind which the new element belongs, and what follows that key.
 fn pass<S: TreeStore>(
     store: &S,
+    place: Place,
     at: &[Tagged],
     op: &Op,
     trace: &mut Trace,
 ) -> Result<(Key, Next), AllocError>
     requires there { HasPlace at.now (S.tree store.now) }
+    requires named { S.names store.now place at.now }
     requires chained { IsChained (S.tree store.now).now }
     requires fresh { IsUnlinked op.now.id (S.tree store.now).now }
     requires inserts { (v : AnyValue) × (op.now.mutation ≡ Insert v) }
@@ -61,27 +73,29 @@ fn pass<S: TreeStore>(
     ensures ok { IfOk result (λ p. Passes op.now (here at.now (S.tree store.now)) p.0 p.1 trace.old trace.new) }
     ensures kept { IsLonger trace.old trace.new }
 {
-    let mut place = op.cursor.last.copy()?;
-    let mut next = next_in(store, at, &place);
-    while let Some(id) = greater_element(next, op.id) {
+    let mut key = op.cursor.last.copy()?;
+    let mut step = step_in(store, place, at, &key, Hint { number: 0 });
+    while let Some(id) = greater_element(step.0, op.id) {
         trace.open(Rule::Insert2)?;
-        place = Key::Elem(id);
-        next = next_in(store, at, &place);
+        key = Key::Elem(id);
+        step = step_in(store, place, at, &key, step.1);
     }
-    Ok((place, next))
+    Ok((key, step.0))
 }
 
 /// Inserts the value behind the operation's last key and behind the elements there whose identifier
-/// is greater than the operation's.
+/// is greater than the operation's. `place` is the store's name for the list.
 pub fn insert<S: TreeStore>(
     alloc: Global,
     store: &mut S,
+    place: Place,
     at: &[Tagged],
     op: &Op,
     value: &Value,
     trace: &mut Trace,
 ) -> Result<(), AllocError>
     requires there { HasPlace at.now (S.tree store.old) }
+    requires named { S.names store.old place at.now }
     requires chained { IsChained (S.tree store.old).now }
     requires fresh { IsUnlinked op.now.id (S.tree store.old).now }
     requires inserts { op.now.mutation ≡ Insert value.now }
@@ -92,11 +106,12 @@ pub fn insert<S: TreeStore>(
     ensures kept { TreeCanGoBack (S.tree store.old) (S.tree store.new) trace.old trace.new }
 {
     let depth = trace.depth();
-    let (place, next) = pass(store, at, op, trace)?;
+    let (key, next) = pass(store, place, at, op, trace)?;
     trace.open(Rule::Insert1)?;
-    assign(alloc, store, at, op, &Key::Elem(op.id), value, trace)?;
-    store.set_next(at, &place, Next::Elem(op.id))?;
-    store.set_next(at, &Key::Elem(op.id), next)?;
+    let element = Key::Elem(op.id);
+    assign(alloc, store, place, at, op, &element, value, trace)?;
+    store.set_next_at(place, at, &key, Next::Elem(op.id))?;
+    store.set_next_at(place, at, &element, next)?;
     trace.close(depth);
     Ok(())
 }

@@ -10,7 +10,7 @@ returns-clause-ok g c =
 
 pub returns-clause-links : goal.returns-clause-links
 returns-clause-links g c =
-    on_ok _ (λ e. none_presence c.args.at.now c.args.key.now _ _ _ c.requires c.in_ok-was.ensures.ok) c.trace_added.ensures.ok
+    on_ok _ (λ e. none_presence c.args.at.now c.args.key.now _ _ _ c.requires.there c.in_ok-was.ensures.ok) c.trace_added.ensures.ok
 
 pub returns-clause-kept : goal.returns-clause-kept
 returns-clause-kept g c =

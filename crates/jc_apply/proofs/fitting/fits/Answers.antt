@@ -1,4 +1,4 @@
-use Rattle.std.proofs.Common.{◌+◌, true, take, refl, sym, ◌∙◌, ap, is_some}
+use Rattle.std.proofs.Common.{◌+◌, true, take, refl, ◌∙◌, ap, is_some}
 use Rattle.jc_tree.specs.declared.store.Place.{Place}
 use Rattle.jc_apply.proofs.ReachLemmas.{key_on, walked_there, walked_new, named_there, named_none, insert_there, insert_new, other_fits}
 use Rattle.jc_apply.proofs.FitsRefusedLemmas.{told}
@@ -19,14 +19,14 @@ loop-depth-preserved g c =
       }
     ]
 
-pub returns-in-Insert : goal.returns-in-Insert
-returns-in-Insert g c =
-    let t = told _ c.args.cursor.now c.args.mutation.now c.is_some.result c.as_slice-path.ensures.path (insert_there _ c.as_slice-path.result.now c.args.cursor.now.path c.loop-depth.depth (is_some c.loop-depth.place) c.args.cursor.now.last c.args.mutation.now _ c.next.result c.is_some.result c.as_slice-path.ensures.keys c.loop-depth-test.false c.loop-depth.invariant.walked (sym c.is_some-there.ensures ∙ c.if-there.true) c.in-Insert.is c.next.ensures c.is_some.ensures) in
+pub returns-in-Some-place : goal.returns-in-Some-place
+returns-in-Some-place g c =
+    let t = told _ c.args.cursor.now c.args.mutation.now c.is_some.result c.as_slice-path.ensures.path (insert_there _ c.as_slice-path.result.now c.args.cursor.now.path c.loop-depth.depth (is_some c.loop-depth.place) c.args.cursor.now.last c.args.mutation.now _ c.step_by-step.result.next c.is_some.result c.as_slice-path.ensures.keys c.loop-depth-test.false c.loop-depth.invariant.walked (ap is_some c.in-Some-place.is) c.in-Insert.is c.step_by-step.ensures.next c.is_some.ensures) in
     record { fits = t.fits; refused = t.refused; not_refused = t.not_refused }
 
-pub returns-in-Insert-2 : goal.returns-in-Insert-2
-returns-in-Insert-2 g c =
-    let t = told _ c.args.cursor.now c.args.mutation.now c.is_new_head.result c.as_slice-path.ensures.path (insert_new _ c.as_slice-path.result.now c.args.cursor.now.path c.loop-depth.depth (is_some c.loop-depth.place) c.args.cursor.now.last c.args.mutation.now _ _ c.is_new_head.result c.as_slice-path.ensures.keys c.loop-depth-test.false c.loop-depth.auto.depth-end c.loop-depth.invariant.walked (sym c.is_some-there.ensures ∙ c.if-there.false) c.in-Insert-2.is c.last.ensures.value c.is_new_head.ensures) in
+pub returns-in-None : goal.returns-in-None
+returns-in-None g c =
+    let t = told _ c.args.cursor.now c.args.mutation.now c.is_new_head.result c.as_slice-path.ensures.path (insert_new _ c.as_slice-path.result.now c.args.cursor.now.path c.loop-depth.depth (is_some c.loop-depth.place) c.args.cursor.now.last c.args.mutation.now _ _ c.is_new_head.result c.as_slice-path.ensures.keys c.loop-depth-test.false c.loop-depth.auto.depth-end c.loop-depth.invariant.walked (ap is_some c.in-None.is) c.in-Insert.is c.last.ensures.value c.is_new_head.ensures) in
     record { fits = t.fits; refused = t.refused; not_refused = t.not_refused }
 
 pub returns-in_default-mutation : goal.returns-in_default-mutation

@@ -7,29 +7,29 @@ use Rattle.jc_apply.proofs.ApplyRulesLemmas.{after_lead}
 use Rattle.jc_apply.proofs.InsertLemmas.{inserted, linked_only}
 use Rattle.jc_apply.proofs.inserting.insert.Goals as goal
 
-pub set_next-requires : goal.set_next-requires
-set_next-requires g c = after_lead _ _ _ _ _ _ c.requires.there c.in_ok-assign.ensures.ok
+pub set_next_at-requires-clause-there : goal.set_next_at-requires-clause-there
+set_next_at-requires-clause-there g c = after_lead _ _ _ _ _ _ c.requires.there c.in_ok-assign.ensures.ok
 
-pub set_next-requires-2 : goal.set_next-requires-2
-set_next-requires-2 g c =
-    still_place _ _ _ _ (after_lead _ _ _ _ _ _ c.requires.there c.in_ok-assign.ensures.ok) c.in_ok-set_next.ensures.ok
+pub set_next_at-requires-2-clause-there : goal.set_next_at-requires-2-clause-there
+set_next_at-requires-2-clause-there g c =
+    still_place _ _ _ _ (after_lead _ _ _ _ _ _ c.requires.there c.in_ok-assign.ensures.ok) c.in_ok-set_next_at.ensures.ok
 
 pub close-requires : goal.close-requires
 close-requires g c =
-    omega (arith, c.depth-depth.ensures, c.in_ok-place.ensures.ok.deeper, ap (λ (r : Rows). r.depth) c.in_ok-open.ensures.ok, c.in_ok-assign.ensures.ok.derives.depth)
+    omega (arith, c.depth-depth.ensures, c.in_ok-key.ensures.ok.deeper, ap (λ (r : Rows). r.depth) c.in_ok-open.ensures.ok, c.in_ok-assign.ensures.ok.derives.depth)
 
-pub returns-in_err-set_next-2-clause-kept : goal.returns-in_err-set_next-2-clause-kept
-returns-in_err-set_next-2-clause-kept g c =
-    then _ _ _ _ _ _ (rows_added _ _ _ _ refl c.in_ok-place.ensures.kept) (then _ _ _ _ _ _ (rule_opened _ _ _ _ R.Insert1 refl c.in_ok-open.ensures.ok) (then _ _ _ _ _ _ c.in_ok-assign.ensures.kept (then _ _ _ _ _ _ (tree_changed _ _ _ _ _ _ c.in_ok-set_next.ensures.ok refl) (nothing _ _ _ _ c.in_err-set_next-2.ensures.err refl))))
+pub returns-in_err-set_next_at-2-clause-kept : goal.returns-in_err-set_next_at-2-clause-kept
+returns-in_err-set_next_at-2-clause-kept g c =
+    then _ _ _ _ _ _ (rows_added _ _ _ _ refl c.in_ok-key.ensures.kept) (then _ _ _ _ _ _ (rule_opened _ _ _ _ R.Insert1 refl c.in_ok-open.ensures.ok) (then _ _ _ _ _ _ c.in_ok-assign.ensures.kept (then _ _ _ _ _ _ (tree_changed _ _ _ _ _ _ c.in_ok-set_next_at.ensures.ok refl) (nothing _ _ _ _ c.in_err-set_next_at-2.ensures.err refl))))
 
 pub returns-clause-ok : goal.returns-clause-ok
 returns-clause-ok g c =
-    inserted c.args.at.now c.args.op.now c.args.value.now _ _ _ _ _ _ _ _ _ _ _ _ c.requires.there c.requires.inserts c.in_ok-place.ensures.ok c.in_ok-open.ensures.ok refl c.in_ok-assign.ensures.ok c.in_ok-set_next.ensures.ok c.in_ok-set_next-2.ensures.ok (c.close.ensures ∙ ap (λ (n : ℕ). at_depth n c.assign.new.trace) c.depth-depth.ensures)
+    inserted c.args.at.now c.args.op.now c.args.value.now _ _ _ _ _ _ _ _ _ _ _ _ c.requires.there c.requires.inserts c.in_ok-key.ensures.ok c.in_ok-open.ensures.ok refl c.in_ok-assign.ensures.ok c.in_ok-set_next_at.ensures.ok c.in_ok-set_next_at-2.ensures.ok (c.close.ensures ∙ ap (λ (n : ℕ). at_depth n c.assign.new.trace) c.depth-depth.ensures)
 
 pub returns-clause-links : goal.returns-clause-links
 returns-clause-links g c =
-    linked_only c.args.at.now c.args.op.now.id _ _ _ _ _ _ c.requires.there (after_lead _ _ _ _ _ _ c.requires.there c.in_ok-assign.ensures.ok) c.requires.chained c.requires.fresh c.in_ok-place.ensures.ok.follows c.in_ok-assign.ensures.links c.in_ok-set_next.ensures.ok c.in_ok-set_next-2.ensures.ok
+    linked_only c.args.at.now c.args.op.now.id _ _ _ _ _ _ c.requires.there (after_lead _ _ _ _ _ _ c.requires.there c.in_ok-assign.ensures.ok) c.requires.chained c.requires.fresh c.in_ok-key.ensures.ok.follows c.in_ok-assign.ensures.links c.in_ok-set_next_at.ensures.ok c.in_ok-set_next_at-2.ensures.ok
 
 pub returns-clause-kept : goal.returns-clause-kept
 returns-clause-kept g c =
-    then _ _ _ _ _ _ (rows_added _ _ _ _ refl c.in_ok-place.ensures.kept) (then _ _ _ _ _ _ (rule_opened _ _ _ _ R.Insert1 refl c.in_ok-open.ensures.ok) (then _ _ _ _ _ _ c.in_ok-assign.ensures.kept (then _ _ _ _ _ _ (tree_changed _ _ _ _ _ _ c.in_ok-set_next.ensures.ok refl) (then _ _ _ _ _ _ (tree_changed _ _ _ _ _ _ c.in_ok-set_next-2.ensures.ok refl) (depth_changed _ _ _ _ _ refl c.close.ensures)))))
+    then _ _ _ _ _ _ (rows_added _ _ _ _ refl c.in_ok-key.ensures.kept) (then _ _ _ _ _ _ (rule_opened _ _ _ _ R.Insert1 refl c.in_ok-open.ensures.ok) (then _ _ _ _ _ _ c.in_ok-assign.ensures.kept (then _ _ _ _ _ _ (tree_changed _ _ _ _ _ _ c.in_ok-set_next_at.ensures.ok refl) (then _ _ _ _ _ _ (tree_changed _ _ _ _ _ _ c.in_ok-set_next_at-2.ensures.ok refl) (depth_changed _ _ _ _ _ refl c.close.ensures)))))

@@ -6,7 +6,7 @@ use Rattle.jc_apply.proofs.InsertLemmas.{Passing}
 use Rattle.jc_apply.proofs.inserting.pass.Given as goal
 
 abbrev pub invariant-loop-id : goal.invariant-loop-id
-invariant-loop-id g l = Passing l.fn.op (here l.fn.at (g.S.TreeStore.tree l.fn.store)) l.place l.next l.fn.trace l.trace
+invariant-loop-id g l = Passing l.fn.op (here l.fn.at (g.S.TreeStore.tree l.fn.store)) l.key l.step.0 l.fn.trace l.trace
 
 abbrev pub decreases-loop-id : goal.decreases-loop-id
-decreases-loop-id g l = steps (Some l.place) (length (links (here l.fn.at (g.S.TreeStore.tree l.fn.store)))) (here l.fn.at (g.S.TreeStore.tree l.fn.store))
+decreases-loop-id g l = steps (Some l.key) (length (links (here l.fn.at (g.S.TreeStore.tree l.fn.store)))) (here l.fn.at (g.S.TreeStore.tree l.fn.store))
