@@ -1,5 +1,6 @@
 -- Lemmas about NextCommand: a command binds a variable, from what is held before to what is held after.
-use Rattle.std.proofs.Common.{◌≡◌, ℕ, ◌+◌, ◌-◌, List, [], ◌∷◌, ◌++◌, length, drop, Option, option_map, refl, sym, ◌∙◌, ap, subst, arith}
+use Rattle.std.proofs.Common.{◌≡◌, ℕ, ◌+◌, ◌-◌, List, [], ◌∷◌, ◌++◌, length, drop, Option, refl, sym, ◌∙◌, ap, subst, arith}
+use Rattle.std.specs.Global.{Box}
 use Rattle.jc_rules.specs.declared.operation.Event.TheVariants as E
 use Rattle.jc_rules.specs.Context.{Context}
 use Rattle.jc_rules.specs.Entries.{IsRising, keys_of}
@@ -13,7 +14,6 @@ use Rattle.jc_rules.proofs.OrderLemmas.{names_total, exact_names}
 use Rattle.jc_tree.specs.declared.store.Mark.{Mark}
 use Rattle.jc_tree.specs.Tree.{Tree}
 use Rattle.jc_cursor.specs.declared.bound.Bound.{Bound as BoundInMemory}
-use Rattle.jc_cursor.specs.Bounds.{bound_of}
 use Rattle.jc_replica.specs.declared.record.Change.TheVariants as C
 use Rattle.jc_replica.specs.declared.record.Record.{Record}
 use Rattle.jc_replica.specs.Answers.{Occurs}
@@ -22,7 +22,7 @@ use Rattle.jc_replica.specs.Invariant.{IsInBounds, IsKeptReplica}
 use Rattle.jc_replica.specs.NextCommand.{Binds}
 use Rattle.jc_replica.specs.ReplicaHistory.{Past, no_rows}
 use Rattle.jc_replica.specs.ReadyToStep.{IsReadyToStep}
-use Rattle.jc_replica.specs.Undo.{Held, held_of, undone_once, state_of, past_of}
+use Rattle.jc_replica.specs.Undo.{Held, held_of, undone_once, state_of, past_of, was_bound}
 use Rattle.jc_replica.proofs.VariablesSeenLemmas.{leads_bound}
 use Rattle.jc_replica.proofs.AnswersLemmas.{Leading, ready_now, occurs}
 use Rattle.jc_replica.proofs.ScriptLemmas.{drop-more, one_less, one_more_fits}
@@ -32,7 +32,7 @@ use Rattle.jc_tree.proofs.HistoryLemmas.{still}
 abbrev pub bound_held : Held → List (List ℕ × Bound) → Held
 bound_held h vars = held_of (h.done + 1) h.acted vars h.ops h.queue h.sent h.recv
 
-module _ (script : List Cmd) (h : Held) (vars : List (List ℕ × Bound)) (x : List ℕ) (b : Bound) (at : ℕ) (before : Option BoundInMemory) (is : IsBound x b at (option_map bound_of before) h.vars vars) where
+module _ (script : List Cmd) (h : Held) (vars : List (List ℕ × Bound)) (x : List ℕ) (b : Bound) (at : ℕ) (before : Option (Box BoundInMemory)) (is : IsBound x b at (was_bound before) h.vars vars) where
   pub bound_back : undone_once (C.Bound at before) (bound_held h vars) ≡ h
   bound_back =
       let d : h.done + 1 - 1 ≡ h.done = omega arith in
@@ -62,7 +62,7 @@ module _ (script : List Cmd) (h : Held) (vars : List (List ℕ × Bound)) (x : L
       leads_bound set p A K stands os x b (state_of script (bound_held h vars) c) u (at_depth 0 u) m same refl
 
 -- the step of a command that binds a variable
-module _ {script : List Cmd} {t : Tree} {rs : List Record} {h : Held} (k : IsKeptReplica script t rs h) (number : ℕ) (x : List ℕ) (b : Bound) (t0 u : Rows) (none : t0 ≡ no_rows) (m0 : Binds (state_of script h t.now) x b t0 u) (vars : List (List ℕ × Bound)) (at : ℕ) (before : Option BoundInMemory) (is : IsBound x b at (option_map bound_of before) h.vars vars) (ss : List Record) (h2 : Held) (mark : Mark) (he : h2 ≡ bound_held h vars) (se : ss ≡ rs ++ (record { mark = mark; change = C.Bound at before }) ∷ []) (me : mark.changes ≡ length t.earlier) where
+module _ {script : List Cmd} {t : Tree} {rs : List Record} {h : Held} (k : IsKeptReplica script t rs h) (number : ℕ) (x : List ℕ) (b : Bound) (t0 u : Rows) (none : t0 ≡ no_rows) (m0 : Binds (state_of script h t.now) x b t0 u) (vars : List (List ℕ × Bound)) (at : ℕ) (before : Option (Box BoundInMemory)) (is : IsBound x b at (was_bound before) h.vars vars) (ss : List Record) (h2 : Held) (mark : Mark) (he : h2 ≡ bound_held h vars) (se : ss ≡ rs ++ (record { mark = mark; change = C.Bound at before }) ∷ []) (me : mark.changes ≡ length t.earlier) where
   m : Binds (state_of script h t.now) x b no_rows u
   m = subst (λ (r : Rows). Binds (state_of script h t.now) x b r u) none m0
 

@@ -1,5 +1,6 @@
 -- What undo records are for: what a replica held before its steps, computed from them.
-use Rattle.std.specs.Prelude.{ℕ, zero, suc, ◌-◌, List, [], ◌∷◌, Bool, true, not, length, take, drop, filter, slice_get, Option, Some, None}
+use Rattle.std.specs.Prelude.{ℕ, zero, suc, ◌-◌, List, [], ◌∷◌, Bool, true, not, length, take, drop, filter, slice_get, Option, Some, None, box_value}
+use Rattle.std.specs.Global.{Box}
 use Rattle.std.specs.Option.{option_map}
 use Rattle.jc_rules.specs.declared.id.Id.{Id}
 use Rattle.jc_rules.specs.declared.operation.Op.{Op}
@@ -10,6 +11,7 @@ use Rattle.jc_rules.specs.ContextsAt.{or_empty}
 use Rattle.jc_rules.specs.State.{State, Bound}
 use Rattle.jc_rules.specs.Syntax.{Cmd}
 use Rattle.jc_tree.specs.Tree.{Tree, tree_history}
+use Rattle.jc_cursor.specs.declared.bound.Bound.{Bound as BoundInMemory}
 use Rattle.jc_cursor.specs.Bounds.{bound_of}
 use Rattle.jc_replica.specs.declared.record.Change.{Change}
 use Rattle.jc_replica.specs.declared.record.Change.TheVariants as C
@@ -44,6 +46,10 @@ state_of script h c = record {
   recv = h.recv;
 }
 
+-- what a variable was bound to, as an undo record has it
+abbrev pub was_bound : Option (Box BoundInMemory) → Option Bound
+was_bound before = option_map (λ b. bound_of (box_value b)) before
+
 -- with what the variable at the place was bound to, or without it where it wasn't bound
 abbrev pub unbound : ℕ → Option Bound → List (List ℕ × Bound) → List (List ℕ × Bound)
 unbound n before [] = []
@@ -58,7 +64,7 @@ without_ops ids os = filter (λ o. not (has_id o.id ids)) os
 -- what was held before the change
 abbrev pub undone_once : Change → Held → Held
 undone_once (C.Bound place before) h =
-    record h { done = h.done - 1; vars = unbound place (option_map bound_of before) h.vars }
+    record h { done = h.done - 1; vars = unbound place (was_bound before) h.vars }
 undone_once (C.Made i before) h =
     record h { done = h.done - 1; ops = truncated i.replica before h.ops; queue = take (length h.queue - 1) h.queue }
 undone_once (C.Sent sent acted) h = record h { acted = acted; sent = sent }

@@ -124,7 +124,7 @@ impl<S: TreeStore> Replica<S> {
         let (name, bound) = self.bound_next(&mut trace)?;
         self.steps.reserve(1)?;
         let mark = self.store.mark();
-        let (place, before) = bind_var(&mut self.vars, name, bound)?;
+        let (place, before) = bind_var(self.alloc, &mut self.vars, name, bound)?;
         trace.close(0);
         self.done += 1;
         let change = Change::Bound { place, before };

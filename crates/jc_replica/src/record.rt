@@ -7,8 +7,12 @@ use jc_tree::Mark;
 /// The undo record of what a step changed outside the store.
 #[derive(Drop)]
 pub enum Change {
-    /// A command bound the variable at this place. It was bound to `before`, or is new.
-    Bound { place: usize, before: Option<Bound> },
+    /// A command bound the variable at this place. It was bound to `before`, or is new. Few steps bind
+    /// a variable that was bound, so that is in a box: each record would have room for it else.
+    Bound {
+        place: usize,
+        before: Option<Box<Bound>>,
+    },
     /// A command made the last operation of the queue, which has this identifier. The greatest
     /// counter of its replica was `before`.
     Made { id: Id, before: u64 },

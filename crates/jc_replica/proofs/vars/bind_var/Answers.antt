@@ -19,7 +19,9 @@ returns-then-eq-clause-ok c =
     let is : c.index_mut.result.now ≡ get_or vs p c.index_mut.result.now = search rules in
     let same : c.index.result.now.0 ≡ c.args.name = search rules in
     let name = ap (λ e. e.0) (read_twice vs p c.index_mut.result.now c.index.result.now within is at) ∙ same in
-    bound_at vs p c.args.name c.args.bound c.replace-before.new.dest c.replace-before.result c.index_mut.result.now ne within is name c.replace-before.ensures.after c.replace-before.ensures.value
+    let put : c.swap.new.y ≡ c.args.bound = search rules in
+    let was : c.swap.new.x ≡ c.index_mut.result.now.1 = search rules in
+    bound_at vs p c.args.name c.args.bound c.swap.new.y c.swap.new.x c.index_mut.result.now ne within is name put was
 
 pub insert-requires : goal.insert-requires
 insert-requires c =

@@ -1,11 +1,10 @@
 use Rattle.std.proofs.Common.{rules, ◌≡◌, ◌-◌, length, take, ap, sym, ◌∙◌, true}
-use Rattle.std.specs.Option.{option_map}
 use Rattle.jc_rules.specs.VersionVectors.{truncated}
-use Rattle.jc_cursor.specs.Bounds.{bound_of, vars_of}
+use Rattle.jc_cursor.specs.Bounds.{vars_of}
 use Rattle.jc_replica.specs.declared.record.Change.{Change}
 use Rattle.jc_replica.specs.declared.record.Change.TheVariants as C
 use Rattle.jc_replica.specs.ReplicaHistory.{Past}
-use Rattle.jc_replica.specs.Undo.{Held, held_of, undone_once, unbound, without_ops}
+use Rattle.jc_replica.specs.Undo.{Held, held_of, undone_once, unbound, was_bound, without_ops}
 use Rattle.jc_replica.proofs.UndoStepsLemmas.{mark_there}
 use Rattle.jc_replica.proofs.UndoLemmas.{unstep, can_back_as, in_memory}
 use Rattle.jc_replica.proofs.replica.Replica.undo.Goals as goal
@@ -45,7 +44,7 @@ invariant_of-self-in-Bound g c =
     let h0 : Held = held_of c.saturating_sub-ended.result i.acted (vars_of c.unbind_var.new.vars.items) i.ops i.queue.items i.sent i.recv in
     let is : c.in-Some.field-0.change ≡ C.Bound c.in-Bound.place c.in-Bound.before = search rules in
     let done : c.saturating_sub-ended.result ≡ i.done - 1 = search rules in
-    let vars : vars_of c.unbind_var.new.vars.items ≡ unbound c.in-Bound.place (option_map bound_of c.in-Bound.before) (vars_of i.vars.items) = c.unbind_var.ensures in
+    let vars : vars_of c.unbind_var.new.vars.items ≡ unbound c.in-Bound.place (was_bound c.in-Bound.before) (vars_of i.vars.items) = c.unbind_var.ensures in
     let restored : undone_once c.in-Some.field-0.change h ≡ h0 = ap (λ (x : Change). undone_once x h) is ∙ (λ j. held_of (sym done j) i.acted (sym vars j) i.ops i.queue.items i.sent i.recv) in
     let s = unstep c.self.invariant (g.S.TreeStore.tree c.undo_to.new.self) c.pop.new.self.items c.in-Some.field-0 h0 c.in-Some.ensures.items c.undo_to.ensures restored in
     s.kept
@@ -57,7 +56,7 @@ returns-in-Bound-clause-undone g c = λ yes.
     let h0 : Held = held_of c.saturating_sub-ended.result i.acted (vars_of c.unbind_var.new.vars.items) i.ops i.queue.items i.sent i.recv in
     let is : c.in-Some.field-0.change ≡ C.Bound c.in-Bound.place c.in-Bound.before = search rules in
     let done : c.saturating_sub-ended.result ≡ i.done - 1 = search rules in
-    let vars : vars_of c.unbind_var.new.vars.items ≡ unbound c.in-Bound.place (option_map bound_of c.in-Bound.before) (vars_of i.vars.items) = c.unbind_var.ensures in
+    let vars : vars_of c.unbind_var.new.vars.items ≡ unbound c.in-Bound.place (was_bound c.in-Bound.before) (vars_of i.vars.items) = c.unbind_var.ensures in
     let restored : undone_once c.in-Some.field-0.change h ≡ h0 = ap (λ (x : Change). undone_once x h) is ∙ (λ j. held_of (sym done j) i.acted (sym vars j) i.ops i.queue.items i.sent i.recv) in
     let s = unstep c.self.invariant (g.S.TreeStore.tree c.undo_to.new.self) c.pop.new.self.items c.in-Some.field-0 h0 c.in-Some.ensures.items c.undo_to.ensures restored in
     s.history ∙ ap (λ (p : Past). p.earlier) c.self.view_is
