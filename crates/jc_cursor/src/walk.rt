@@ -1,9 +1,11 @@
 //! Walks in a document for the selectors: down a path, and along a list. The trace is left at the depth
 //! of the last rule's premises.
 
-ghost use Rattle.std.specs.Prelude.{[], IsTrue, IsFalse, IfOk, IfErr, IfSome, OnOk};
+ghost use Rattle.std.specs.Prelude.{◌≡◌, ◌≢◌, None, Some, [], IsTrue, IsFalse, IfOk, IfErr, IfSome, OnOk};
 ghost use Rattle.std.specs.List.{AllByRecursion};
 ghost use Rattle.jc_rules.specs.declared.key.Key.TheVariants.{Head};
+ghost use Rattle.jc_rules.specs.declared.id.Id.{Id as AnyId};
+ghost use Rattle.jc_rules.specs.declared.key.Next.TheVariants.{Elem as To};
 ghost use Rattle.jc_rules.specs.Context.{presence as presence_set};
 ghost use Rattle.jc_rules.specs.Derivation.{SelectIndex, ToCursor};
 ghost use Rattle.jc_rules.specs.Derives.{Derives};
@@ -17,7 +19,7 @@ ghost use Rattle.jc_cursor.specs.WayDown.{IsGrown, LeadsDown, RefusesDown, Refus
 ghost use Rattle.jc_cursor.specs.Evaluates.{eval_cause_of};
 
 use crate::evaluating::EvalFault;
-use jc_rules::{Key, Next, Rule, Tagged, Trace};
+use jc_rules::{Id, Key, Next, Rule, Tagged, Trace};
 use jc_tree::{Hint, Place, TreeStore};
 
 /// Goes down the path, by the rule for each key. Returns the store's name for the place at its end.
@@ -59,6 +61,17 @@ pub fn is_present<S: TreeStore>(store: &S, at: &[Tagged], key: &Key) -> bool
     }
 }
 
+/// The element that follows.
+fn element_of(next: Option<Next>) -> Option<Id>
+    ensures some { (i : AnyId) → result ≡ Some i → next ≡ Some (To i) }
+    ensures none { result ≡ None → (i : AnyId) → next ≢ Some (To i) }
+{
+    match next {
+        Some(Next::Elem(id)) => Some(id),
+        _ => None,
+    }
+}
+
 /// The key of the list at the place that is `index` present elements behind its head; `place` is the
 /// store's name for the place.
 pub fn element_at<S: TreeStore>(
@@ -87,7 +100,7 @@ pub fn element_at<S: TreeStore>(
     let mut left = index;
     let mut step = store.step_by(place, at, &key, Hint { number: 0 });
     while left > 0 {
-        let Some(Next::Elem(id)) = step.next else {
+        let Some(id) = element_of(step.next) else {
             return Err(EvalFault::PastEnd);
         };
         key = Key::Elem(id);
