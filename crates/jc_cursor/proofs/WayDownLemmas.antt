@@ -89,9 +89,6 @@ module _ (r : Rule) (path : List Tagged) (n : ℕ) (c : Context) (t u : Rows) (a
   pub down_place : node_at path c ≢ None
   down_place = subst (λ (p : List Tagged). node_at p c ≢ None) at_end w.place
 
-  pub down_name : (P : Type 0) (N : P → List Tagged → Type 0) (p : P) → N p (take n path) → N p path
-  down_name P N p h = subst (λ (ps : List Tagged). N p ps) at_end h
-
   pub down_leads : LeadsDown r path c t u
   down_leads = λ Q A v D x.
       w.leads Q A v D (subst (λ (p : List Tagged). Derives (Q p (context_at (take n path) c)) (A p) u v) (sym no_rest) (subst (λ (p : List Tagged). Derives (Q [] (context_at p c)) (A []) u v) (sym at_end) x))

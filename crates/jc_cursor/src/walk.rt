@@ -61,7 +61,7 @@ pub fn is_present<S: TreeStore>(store: &S, at: &[Tagged], key: &Key) -> bool
     }
 }
 
-/// The element that follows.
+/// The element that follows, if one does.
 fn element_of(next: Option<Next>) -> Option<Id>
     ensures some { (i : AnyId) → result ≡ Some i → next ≡ Some (To i) }
     ensures none { result ≡ None → (i : AnyId) → next ≢ Some (To i) }

@@ -9,6 +9,9 @@ pub returns-then-index-eq0-clause-ok : goal.returns-then-index-eq0-clause-ok
 returns-then-index-eq0-clause-ok g c =
     along_ends (here c.args.at.now (g.S.TreeStore.tree c.args.store.now)) c.args.index Head c.args.index c.args.trace.now c.args.trace.now c.push.new.self (omega (arith, c.if-index-eq0.true)) (along_begins _ _ _ _ _ refl refl) c.in_ok-push.ensures.ok
 
+pub loop-left-init : goal.loop-left-init
+loop-left-init g c = record { along = along_begins _ _ _ _ _ refl refl; next = c.step_by-step.ensures.next }
+
 pub returns-in_default-clause-refused : goal.returns-in_default-clause-refused
 returns-in_default-clause-refused g c =
     along_past_end _ _ _ _ _ _ c.loop-left-test.true (λ d e. c.element_of.ensures.none c.in_default.is d (c.loop-left.invariant.next ∙ e)) c.loop-left.invariant.along
