@@ -1,5 +1,5 @@
 -- About WayDown and Evaluates: along a list to an element by its index.
-use Rattle.std.proofs.Common.{◌≡◌, ◌≢◌, ℕ, suc, ◌-◌, ◌<◌, ◌≤◌, [], length, Some, refl, sym, subst, arith}
+use Rattle.std.proofs.Common.{◌≡◌, ◌≢◌, ℕ, suc, ◌-◌, ◌<◌, ◌≤◌, List, [], ◌∷◌, length, Option, Some, None, true, false, refl, sym, subst, arith}
 use Rattle.jc_rules.specs.declared.id.Id.{Id}
 use Rattle.jc_rules.specs.declared.key.Key.{Key}
 use Rattle.jc_rules.specs.declared.key.Key.TheVariants.{Head, Elem}
@@ -14,6 +14,7 @@ use Rattle.jc_rules.specs.WellFormed.{IsChainedList}
 use Rattle.jc_rules.specs.Table.{cursor, IsEmptyIds}
 use Rattle.jc_rules.specs.Trace.{Rows, pushed, one_deeper, at_depth}
 use Rattle.jc_rules.proofs.DerivesLemmas.{by_axiom, one_premise}
+use Rattle.jc_tree.specs.Tree.{or_no_entries, has_ids}
 use Rattle.jc_clear.proofs.ClearListLemmas.{leads_from, leads_on, steps}
 use Rattle.jc_cursor.specs.WayDown.{IsGrown}
 use Rattle.jc_cursor.proofs.TraceGrowsLemmas.{not_grown, grown_below}
@@ -30,6 +31,17 @@ along_begins c i k m t ke me = rw (ke, me) (record {
   refuses = λ why x. x;
   grown = not_grown t;
 })
+
+-- a presence set with an identifier, and one with none
+pub has_one : (o : Option (List Id)) → has_ids (or_no_entries o) ≡ true → IsEmptyIds o → ⊥
+has_one None e h = let f : false ≡ true = e in cc
+has_one (Some []) e h = let f : false ≡ true = e in cc
+has_one (Some (i ∷ is)) e h = h
+
+pub has_none : (o : Option (List Id)) → has_ids (or_no_entries o) ≡ false → IsEmptyIds o
+has_none None e = tt
+has_none (Some []) e = tt
+has_none (Some (i ∷ is)) e = let f : true ≡ false = e in cc
 
 -- the key that follows is nearer to the end
 pub nearer : (c : Context) (k j : Key) (i : Id) → (next k c ≡ Some (To i) → IsChainedList c) → next k c ≡ Some (To i) → j ≡ Elem i → steps (Some j) (length (links c)) c < steps (Some k) (length (links c)) c

@@ -8,7 +8,7 @@ use Rattle.jc_rules.specs.declared.key.Tagged.{Tagged}
 use Rattle.jc_rules.specs.declared.key.Tagged.TheVariants.{MapT}
 use Rattle.jc_rules.specs.declared.rule.Rule.{Rule}
 use Rattle.jc_rules.specs.Context.{Context, Node, content}
-use Rattle.jc_rules.specs.ContextsAt.{node_at, context_at, or_empty}
+use Rattle.jc_rules.specs.ContextsAt.{node_at, node_in, context_at, or_empty}
 use Rattle.jc_rules.specs.Derivation.{Question, Answer}
 use Rattle.jc_rules.specs.Derives.{Derives}
 use Rattle.jc_rules.specs.Refused.{Cause, no_node, Refused}
@@ -20,6 +20,7 @@ use Rattle.jc_rules.specs.Paths.{HasContext}
 use Rattle.jc_cursor.specs.WayDown.{IsGrown, Descends, Refuses, LeadsDown, RefusesDown, RefusedOnWay}
 use Rattle.jc_cursor.proofs.TraceGrowsLemmas.{not_grown, grown_below}
 use Rattle.jc_rules.proofs.BoolLemmas.{none_of}
+use Rattle.jc_tree.proofs.PlacesLemmas.{some_content}
 use Rattle.jc_apply.proofs.ApplyRulesLemmas.{found_context}
 
 -- what the loop down a path keeps: what is derived or refused where it has come is so for the whole
@@ -44,12 +45,17 @@ module _ (path : List Tagged) (n : ℕ) (k : Tagged) (within : n < length path) 
   rest : drop n path ≡ k ∷ drop (n + 1) path
   rest = drop-cons path n k within ∙ ap (λ (x : Tagged). x ∷ drop (suc n) path) (sym is) ∙ ap (λ (m : ℕ). k ∷ drop m path) (sym (add-one n))
 
+  -- the name of what is there is the name of the longer path
+  pub down_named : (P : Type 0) (N : P → List Tagged → Type 0) (p : P) → N p (take n path ++ k ∷ []) → N p (take (n + 1) path)
+  down_named P N p h = subst (λ (ps : List Tagged). N p ps) (sym front) h
+
   -- one key further down
-  pub down_on : (r : Rule) (b : Bool) (c : Context) (t u v : Rows) → AllByRecursion HasContext path → Down r path n c t u → b ≡ is_some (content k (context_at (take n path) c)) → b ≡ true → v ≡ one_deeper (pushed u r) → Down r path (n + 1) c t v
-  down_on r b c t u v h w e be ve =
+  pub down_on : (r : Rule) (c : Context) (t u v : Rows) → AllByRecursion HasContext path → Down r path n c t u → true ≡ is_some (node_in (content k (context_at (take n path) c))) → v ≡ one_deeper (pushed u r) → Down r path (n + 1) c t v
+  down_on r c t u v h w e ve =
       let here = context_at (take n path) c in
       let parent : node_at (take n path) c ≡ Some here = there (take n path) c w.place in
-      let found = found_context k here (subst HasContext (sym is) (all_at HasContext path h n k within)) (sym e ∙ be) in
+      let fit : HasContext k = subst HasContext (sym is) (all_at HasContext path h n k within) in
+      let found = found_context k here fit (sym (e ∙ some_content k here fit)) in
       let node : node_at (take (n + 1) path) c ≡ Some found.0 = ap (λ (p : List Tagged). node_at p c) front ∙ node-below (take n path) k here found.0 c parent found.1 in
       let same : context_at (take (n + 1) path) c ≡ found.0 = ap or_empty node in
       rw ve (record {
@@ -65,10 +71,11 @@ module _ (path : List Tagged) (n : ℕ) (k : Tagged) (within : n < length path) 
       })
 
   -- a key under which nothing is
-  pub down_missing : (r : Rule) (b : Bool) (c : Context) (t u : Rows) → Down r path n c t u → b ≡ is_some (content k (context_at (take n path) c)) → b ≡ false → RefusedOnWay path c (no_node k)
-  down_missing r b c t u w e be = λ Q R.
+  pub down_missing : (r : Rule) (c : Context) (t u : Rows) → AllByRecursion HasContext path → Down r path n c t u → false ≡ is_some (node_in (content k (context_at (take n path) c))) → RefusedOnWay path c (no_node k)
+  down_missing r c t u h w e = λ Q R.
       let here = context_at (take n path) c in
-      let none : content k here ≡ None = none_of (content k here) (sym e ∙ be) in
+      let fit : HasContext k = subst HasContext (sym is) (all_at HasContext path h n k within) in
+      let none : content k here ≡ None = none_of (content k here) (sym (e ∙ some_content k here fit)) in
       w.refuses Q (no_node k) R (subst (λ (p : List Tagged). Refused (Q p here) (no_node k)) (sym rest) (R.missing k (drop (n + 1) path) here none))
 
 -- at the end of the path

@@ -29,7 +29,7 @@ use crate::walk::{element_at, go_down, is_present};
 use jc_rules::limits::MAX_PATH;
 use jc_rules::{Cursor, Key, Names, Pairs, Path, Rule, Tagged, Text, Trace};
 use jc_syntax::Expr;
-use jc_tree::TreeStore;
+use jc_tree::{Place, TreeStore};
 use std::alloc::{AllocError, Global};
 
 /// The path with one key more.
@@ -97,8 +97,8 @@ fn element_below<S: TreeStore>(
         Refused (SelectIndex (S.tree store.now).now (cursor_at path.now Head) index) why)) }
     ensures grown { IsGrown trace.old trace.new }
 {
-    go_down(store, path, Rule::Idx2, trace)?;
-    element_at(store, path, index, trace)
+    let place = go_down(store, path, Rule::Idx2, trace)?;
+    element_at(store, place, path, index, trace)
 }
 
 /// The cursor of an element in the list at the cursor.
@@ -169,13 +169,19 @@ fn names_at<S: TreeStore>(alloc: Global, store: &S, at: &[Tagged]) -> Result<Nam
     Ok(Names::new(names))
 }
 
-/// Whether a map is under the key.
-fn has_map<S: TreeStore>(store: &S, at: &[Tagged], key: &Key) -> Result<bool, AllocError>
-    requires { HasPlace at.now (S.tree store.now) }
+/// Whether a map is under the key in the context at the place, whose name is `place`.
+fn has_map<S: TreeStore>(
+    store: &S,
+    place: Place,
+    at: &[Tagged],
+    key: &Key,
+) -> Result<bool, AllocError>
+    requires there { HasPlace at.now (S.tree store.now) }
+    requires named { S.names store.now place at.now }
     ensures { IfOk result (λ b. b ≡ is_some (content (MapT key.now) (here at.now (S.tree store.now)))) }
 {
     let map = Tagged::MapT(key.copy()?);
-    Ok(store.has(at, &map))
+    Ok(store.below(place, at, &map).is_some())
 }
 
 /// The names in the map at the cursor.
@@ -193,13 +199,13 @@ fn names_below<S: TreeStore>(
     ensures grown { IsGrown trace.old trace.new }
 {
     let at = cursor.path.as_slice();
-    go_down(store, at, Rule::Keys3, trace)?;
-    if !has_map(store, at, &cursor.last)? {
+    let place = go_down(store, at, Rule::Keys3, trace)?;
+    if !has_map(store, place, at, &cursor.last)? {
         return Err(EvalFault::NoMap);
     }
     trace.push(Rule::Keys2)?;
-    let place = place_below(alloc, at, Tagged::MapT(cursor.last.copy()?))?;
-    Ok(names_at(alloc, store, place.as_slice())?)
+    let map = place_below(alloc, at, Tagged::MapT(cursor.last.copy()?))?;
+    Ok(names_at(alloc, store, map.as_slice())?)
 }
 
 /// The values of the register at the cursor.
@@ -217,8 +223,8 @@ fn values_below<S: TreeStore>(
     ensures grown { IsGrown trace.old trace.new }
 {
     let at = cursor.path.as_slice();
-    go_down(store, at, Rule::Val3, trace)?;
-    let Some(pairs) = store.register(at, &cursor.last) else {
+    let place = go_down(store, at, Rule::Val3, trace)?;
+    let Some(pairs) = store.register_at(place, at, &cursor.last) else {
         return Err(EvalFault::NoRegister);
     };
     trace.push(Rule::Val2)?;

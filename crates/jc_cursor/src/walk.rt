@@ -6,7 +6,7 @@ ghost use Rattle.std.specs.List.{AllByRecursion};
 ghost use Rattle.jc_rules.specs.declared.key.Key.TheVariants.{Head};
 ghost use Rattle.jc_rules.specs.declared.id.Id.{Id as AnyId};
 ghost use Rattle.jc_rules.specs.declared.key.Next.TheVariants.{Elem as To};
-ghost use Rattle.jc_rules.specs.Context.{presence as presence_set, next as next_of};
+ghost use Rattle.jc_rules.specs.Context.{presence as presence_set};
 ghost use Rattle.jc_rules.specs.Derivation.{SelectIndex, ToCursor};
 ghost use Rattle.jc_rules.specs.Derives.{Derives};
 ghost use Rattle.jc_rules.specs.Refused.{Refused};
@@ -20,30 +20,33 @@ ghost use Rattle.jc_cursor.specs.Evaluates.{eval_cause_of};
 
 use crate::evaluating::EvalFault;
 use jc_rules::{Id, Key, Next, Rule, Tagged, Trace};
-use jc_tree::TreeStore;
+use jc_tree::{Hint, Place, TreeStore};
 
-/// Goes down the path, by the rule for each key.
+/// Goes down the path, by the rule for each key. Returns the store's name for the place at its end.
 pub fn go_down<S: TreeStore>(
     store: &S,
     path: &[Tagged],
     rule: Rule,
     trace: &mut Trace,
-) -> Result<(), EvalFault>
+) -> Result<Place, EvalFault>
     requires { AllByRecursion HasContext path.now }
     ensures place { OnOk result (HasPlace path.now (S.tree store.now)) }
     ensures leads { OnOk result (LeadsDown rule path.now (S.tree store.now).now trace.old trace.new) }
     ensures refuses { OnOk result (RefusesDown path.now (S.tree store.now).now) }
     ensures refused { IfErr result (λ f.
         IfSome (eval_cause_of f) (λ why. RefusedOnWay path.now (S.tree store.now).now why)) }
+    ensures named { IfOk result (λ place. S.names store.now place path.now) }
     ensures grown { IsGrown trace.old trace.new }
 {
+    let mut place = store.root();
     for (depth, key) in path.iter().enumerate() {
-        if !store.has(&path[..depth], key) {
+        let Some(child) = store.below(place, &path[..depth], key) else {
             return Err(EvalFault::NoSuchNode(key.copy()?));
-        }
+        };
+        place = child;
         trace.open(rule)?;
     }
-    Ok(())
+    Ok(place)
 }
 
 /// Whether the key's presence set has an identifier.
@@ -58,26 +61,28 @@ pub fn is_present<S: TreeStore>(store: &S, at: &[Tagged], key: &Key) -> bool
     }
 }
 
-/// The element that follows a key of a list.
-fn element_after<S: TreeStore>(store: &S, at: &[Tagged], key: &Key) -> Option<Id>
-    requires { HasPlace at.now (S.tree store.now) }
-    ensures some { (i : AnyId) → result ≡ Some i → next_of key.now (here at.now (S.tree store.now)) ≡ Some (To i) }
-    ensures none { result ≡ None → (i : AnyId) → next_of key.now (here at.now (S.tree store.now)) ≢ Some (To i) }
+/// The element that follows, if one does.
+fn element_of(next: Option<Next>) -> Option<Id>
+    ensures some { (i : AnyId) → result ≡ Some i → next ≡ Some (To i) }
+    ensures none { result ≡ None → (i : AnyId) → next ≢ Some (To i) }
 {
-    match store.next(at, key) {
+    match next {
         Some(Next::Elem(id)) => Some(id),
         _ => None,
     }
 }
 
-/// The key of the list at the place that is `index` present elements behind its head.
+/// The key of the list at the place that is `index` present elements behind its head; `place` is the
+/// store's name for the place.
 pub fn element_at<S: TreeStore>(
     store: &S,
+    place: Place,
     at: &[Tagged],
     index: u32,
     trace: &mut Trace,
 ) -> Result<Key, EvalFault>
     requires there { HasPlace at.now (S.tree store.now) }
+    requires named { S.names store.now place at.now }
     requires chained { IsChained (S.tree store.now).now }
     ensures ok { IfOk result (λ k.
         Derives (SelectIndex (here at.now (S.tree store.now)) (cursor [] Head) index) (ToCursor (cursor [] k))
@@ -87,14 +92,20 @@ pub fn element_at<S: TreeStore>(
         Refused (SelectIndex (here at.now (S.tree store.now)) (cursor [] Head) index) why)) }
     ensures grown { IsGrown trace.old trace.new }
 {
-    let mut place = Key::Head;
+    let mut key = Key::Head;
+    if index == 0 {
+        trace.push(Rule::Idx5)?;
+        return Ok(key);
+    }
     let mut left = index;
+    let mut step = store.step_by(place, at, &key, Hint { number: 0 });
     while left > 0 {
-        let Some(id) = element_after(store, at, &place) else {
+        let Some(id) = element_of(step.next) else {
             return Err(EvalFault::PastEnd);
         };
-        place = Key::Elem(id);
-        if is_present(store, at, &place) {
+        key = Key::Elem(id);
+        step = store.step_by(place, at, &key, step.hint);
+        if step.present {
             trace.open(Rule::Idx3)?;
             left -= 1;
         } else {
@@ -102,5 +113,5 @@ pub fn element_at<S: TreeStore>(
         }
     }
     trace.push(Rule::Idx5)?;
-    Ok(place)
+    Ok(key)
 }
