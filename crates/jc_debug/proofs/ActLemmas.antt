@@ -8,7 +8,7 @@ use Rattle.jc_network.specs.Steps.{IsStuckFor}
 use Rattle.jc_debug.specs.declared.breaks.Break.{Break}
 use Rattle.jc_debug.specs.Moves.{IsActed, IsStuckHere}
 use Rattle.jc_debug.specs.DebuggerState.{Session}
-use Rattle.jc_debug.specs.Invariant.{Seen, IsOnTrail}
+use Rattle.jc_debug.specs.Invariant.{Seen, IsDebugger}
 use Rattle.jc_debug.proofs.InvariantLemmas.{seen, is_at, start_on, trail_on}
 
 get_cut : {X : Type 0} (xs ys : List X) (n k : ℕ) → k < n → n ≤ length xs → slice_get (take n xs ++ ys) k ≡ slice_get xs k
@@ -28,7 +28,7 @@ cut_length [] y (suc n) le = absurd (omega arith)
 cut_length (x ∷ xs) y (suc n) le = ap suc (cut_length xs y n (omega arith)) ∙ omega arith
 
 -- the schedule is cut at the position, and the event is appended
-cut_trail : (d : Seen) (event : Event) → IsOnTrail d → length d.traces < 100000 → IsOnTrail (seen d.net (take (length d.traces) d.schedule ++ event ∷ []) d.traces d.breaks)
+cut_trail : (d : Seen) (event : Event) → IsDebugger d → length d.traces < 100000 → IsDebugger (seen d.net (take (length d.traces) d.schedule ++ event ∷ []) d.traces d.breaks)
 cut_trail d event h lt =
     let n = cut_length d.schedule event (length d.traces) h.within in
     record {
@@ -50,11 +50,11 @@ cut_trail d event h lt =
     }
 
 -- then the event is made
-pub acted_trail : (d e : Seen) (t : Rows) (event : Event) → IsOnTrail d → StepsTo d.net event e.net t → e.schedule ≡ take (length d.traces) d.schedule ++ event ∷ [] → e.traces ≡ d.traces ++ t ∷ [] → e.breaks ≡ d.breaks → length d.traces < 100000 → IsOnTrail e
+pub acted_trail : (d e : Seen) (t : Rows) (event : Event) → IsDebugger d → StepsTo d.net event e.net t → e.schedule ≡ take (length d.traces) d.schedule ++ event ∷ [] → e.traces ≡ d.traces ++ t ∷ [] → e.breaks ≡ d.breaks → length d.traces < 100000 → IsDebugger e
 acted_trail d e t event h s sc tr br lt =
     trail_on (seen d.net (take (length d.traces) d.schedule ++ event ∷ []) d.traces d.breaks) e t event (cut_trail d event h lt) (get_end d.schedule event (length d.traces) h.within) s sc tr br
 
-pub is_acted : (d e : Seen) (t : Rows) (event : Event) → IsOnTrail d → StepsTo d.net event e.net t → e.schedule ≡ take (length d.traces) d.schedule ++ event ∷ [] → e.traces ≡ d.traces ++ t ∷ [] → e.breaks ≡ d.breaks → IsActed d e event
+pub is_acted : (d e : Seen) (t : Rows) (event : Event) → IsDebugger d → StepsTo d.net event e.net t → e.schedule ≡ take (length d.traces) d.schedule ++ event ∷ [] → e.traces ≡ d.traces ++ t ∷ [] → e.breaks ≡ d.breaks → IsActed d e event
 is_acted d e t event h s sc tr br = record {
   rows = t.rows;
   is_at = is_at d h;
@@ -68,5 +68,5 @@ is_acted d e t event h s sc tr br = record {
         → ◌≡◌ {A = Session} (record { schedule = es; position = n; breaks = b }) (record { schedule = fs; position = m; breaks = c })
     same_session x y z = λ i. record { schedule = x i; position = y i; breaks = z i }
 
-pub stuck_here : (d : Seen) (event : Event) (s : Stuck) → IsOnTrail d → IsStuckFor d.net.network event s → IsStuckHere d event s
+pub stuck_here : (d : Seen) (event : Event) (s : Stuck) → IsDebugger d → IsStuckFor d.net.network event s → IsStuckHere d event s
 stuck_here d event s h k = record { is_at = is_at d h; stuck = k }

@@ -10,7 +10,7 @@ use Rattle.jc_debug.specs.declared.breaks.Break.{Break}
 use Rattle.jc_debug.specs.declared.breaks.Break.TheVariants as Kind
 use Rattle.jc_debug.specs.Moves.{IsTraceOf}
 use Rattle.jc_debug.specs.DebuggerState.{Session, MakesEvent, Names, NamesAt, IsFree, HasRule}
-use Rattle.jc_debug.specs.Invariant.{Seen, IsOnTrail, start_of, session_of, placed_in}
+use Rattle.jc_debug.specs.Invariant.{Seen, IsDebugger, start_of, session_of, placed_in}
 
 -- ---- rules of a trace
 
@@ -75,12 +75,12 @@ no_at_other S A n j b t e h f (c, at, names) =
     let same : c ≡ b = same_Some c b (same_Some (Some c) (Some b) (sym at ∙ e)) in
     not_true t f (h.1 (subst (λ (x : Break). Names S A.schedule x n) same names))
 
-pub none_named : (d : Seen) → IsOnTrail d → (m : ℕ) → 256 ≤ m → ((i : ℕ) → i < m → NamesAt (start_of d) (session_of d) (length d.traces) i → ⊥) → IsFree (start_of d) (session_of d) (length d.traces)
+pub none_named : (d : Seen) → IsDebugger d → (m : ℕ) → 256 ≤ m → ((i : ℕ) → i < m → NamesAt (start_of d) (session_of d) (length d.traces) i → ⊥) → IsFree (start_of d) (session_of d) (length d.traces)
 none_named d h m le none j (b, at, names) = none j (let w : j < length d.breaks = slice_get_within d.breaks j (Some b) at in let p = h.places in omega (arith, w, p, le)) (b, at, names)
 
 -- ---- places
 
-pub placed_trail : (d : Seen) (j : ℕ) (b : Option Break) → IsOnTrail d → IsOnTrail (placed_in d j b)
+pub placed_trail : (d : Seen) (j : ℕ) (b : Option Break) → IsDebugger d → IsDebugger (placed_in d j b)
 placed_trail d j b h = record {
   count = h.count;
   within = h.within;

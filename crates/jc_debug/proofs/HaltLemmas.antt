@@ -10,11 +10,11 @@ use Rattle.jc_debug.specs.declared.fault.Halt.TheVariants as H
 use Rattle.jc_debug.specs.declared.fault.StepFault.{StepFault}
 use Rattle.jc_debug.specs.declared.fault.StepFault.TheVariants as S
 use Rattle.jc_debug.specs.Moves.{IsToldAt, MoveStopsAt, IsNextHalted, IsHalted, IsStepFault, IsGotoFault, step_fault, goto_fault}
-use Rattle.jc_debug.specs.Invariant.{Seen, IsOnTrail, IsMoved, start_of}
+use Rattle.jc_debug.specs.Invariant.{Seen, IsDebugger, IsMoved, start_of}
 use Rattle.jc_debug.proofs.InvariantLemmas.{is_at, carried}
 
 -- the event at the position is stuck in the network
-pub told_here : (d : Seen) → IsOnTrail d → (event : Event) → slice_get d.schedule (length d.traces) ≡ Some event → (s : Stuck) → IsStuckFor d.net.network event s → IsNextHalted d (H.Stuck s)
+pub told_here : (d : Seen) → IsDebugger d → (event : Event) → slice_get d.schedule (length d.traces) ≡ Some event → (s : Stuck) → IsStuckFor d.net.network event s → IsNextHalted d (H.Stuck s)
 told_here d h event is s k = record {
   why = k.why;
   event = event;

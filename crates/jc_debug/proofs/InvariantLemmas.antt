@@ -12,7 +12,7 @@ use Rattle.jc_network.proofs.HalvesLemmas.{get_front, get_back}
 use Rattle.jc_debug.specs.declared.breaks.Break.{Break}
 use Rattle.jc_debug.specs.Moves.{IsTraceOf}
 use Rattle.jc_debug.specs.DebuggerState.{IsNetworkAt}
-use Rattle.jc_debug.specs.Invariant.{Seen, networks_of, no_network, start_of, FollowsTrail, IsOnTrail, IsMoved}
+use Rattle.jc_debug.specs.Invariant.{Seen, networks_of, no_network, start_of, FollowsTrail, IsDebugger, IsMoved}
 
 abbrev pub seen : Course → List Event → List Rows → List (Option Break) → Seen
 seen net schedule traces breaks = record { net = net; schedule = schedule; traces = traces; breaks = breaks }
@@ -47,7 +47,7 @@ follows_on d e k f ns n s ts t = record {
 }
 
 -- the event at the position was made
-pub trail_on : (d e : Seen) (t : Rows) (event : Event) → IsOnTrail d → slice_get d.schedule (length d.traces) ≡ Some event → StepsTo d.net event e.net t → e.schedule ≡ d.schedule → e.traces ≡ d.traces ++ t ∷ [] → e.breaks ≡ d.breaks → IsOnTrail e
+pub trail_on : (d e : Seen) (t : Rows) (event : Event) → IsDebugger d → slice_get d.schedule (length d.traces) ≡ Some event → StepsTo d.net event e.net t → e.schedule ≡ d.schedule → e.traces ≡ d.traces ++ t ∷ [] → e.breaks ≡ d.breaks → IsDebugger e
 trail_on d e t event h i s sc tr br =
     let grown : length e.traces ≡ length d.traces + 1 = ap length tr ∙ length-append d.traces (t ∷ []) in
     let networks : length e.net.earlier ≡ length d.net.earlier + 1 = ap length s.earlier ∙ length-append d.net.earlier (d.net.network ∷ []) in
@@ -105,7 +105,7 @@ follows_back d e k f ns n s ts t in_networks in_traces = record {
 }
 
 -- the last event was taken back
-pub trail_back : (d e : Seen) (t : Rows) → IsOnTrail d → d.net.earlier ≡ networks_of e.net → e.schedule ≡ d.schedule → d.traces ≡ e.traces ++ t ∷ [] → e.breaks ≡ d.breaks → IsOnTrail e
+pub trail_back : (d e : Seen) (t : Rows) → IsDebugger d → d.net.earlier ≡ networks_of e.net → e.schedule ≡ d.schedule → d.traces ≡ e.traces ++ t ∷ [] → e.breaks ≡ d.breaks → IsDebugger e
 trail_back d e t h n sc tr br =
     let grown : length d.traces ≡ length e.traces + 1 = ap length tr ∙ length-append e.traces (t ∷ []) in
     let networks : length d.net.earlier ≡ length e.net.earlier + 1 = ap length n ∙ length-append e.net.earlier (e.net.network ∷ []) in
@@ -165,7 +165,7 @@ carried P old now n m h =
 -- ---- where the schedule leads
 
 -- the schedule leads to the network at each position
-pub after_first : (d : Seen) → IsOnTrail d → (k : ℕ) → k ≤ length d.traces → (N : Network) → slice_get (networks_of d.net) k ≡ Some N → AfterIn (start_of d) (take k d.schedule) N
+pub after_first : (d : Seen) → IsDebugger d → (k : ℕ) → k ≤ length d.traces → (N : Network) → slice_get (networks_of d.net) k ≡ Some N → AfterIn (start_of d) (take k d.schedule) N
 after_first d h zero le N e = ap (λ o. unwrap_or o no_network) e
 after_first d h (suc k) le N e =
     let f = h.follows k (omega arith) in
@@ -175,17 +175,17 @@ after_first d h (suc k) le N e =
     subst (λ (es : List Event). AfterIn (start_of d) es N) (sym (take_more d.schedule k f.event f.is_event))
     (after_one_more (start_of d) (take k d.schedule) f.before f.event N f.rows.rows before (subst (λ (X : Network). StepIn f.before f.event X f.rows.rows) same f.step))
 
-pub is_at : (d : Seen) → IsOnTrail d → IsNetworkAt (start_of d) d.schedule (length d.traces) d.net.network
+pub is_at : (d : Seen) → IsDebugger d → IsNetworkAt (start_of d) d.schedule (length d.traces) d.net.network
 is_at d h = record {
   within = h.within;
   after = after_first d h (length d.traces) (omega arith) d.net.network (ap (slice_get (networks_of d.net)) (sym h.count) ∙ get_last d.net.earlier d.net.network);
 }
 
-pub at_old : (old now : Seen) (n : ℕ) → IsMoved old now n → IsOnTrail now → IsNetworkAt (start_of old) old.schedule n now.net.network
+pub at_old : (old now : Seen) (n : ℕ) → IsMoved old now n → IsDebugger now → IsNetworkAt (start_of old) old.schedule n now.net.network
 at_old old now n m h = carried (λ S es bs k. IsNetworkAt S es k now.net.network) old now n m (is_at now h)
 
 -- the trace of the last event
-pub trace_of : (d : Seen) → IsOnTrail d → (n : ℕ) (t : Rows) → length d.traces ≡ n + 1 → slice_get d.traces n ≡ Some t → IsTraceOf d t
+pub trace_of : (d : Seen) → IsDebugger d → (n : ℕ) (t : Rows) → length d.traces ≡ n + 1 → slice_get d.traces n ≡ Some t → IsTraceOf d t
 trace_of d h n t e at =
     let f = h.follows n (omega (arith, e)) in
     let same : f.rows ≡ t = same_Some f.rows t (sym f.is_trace ∙ at) in
@@ -203,7 +203,7 @@ trace_of d h n t e at =
       };
     }
 
-pub last_trace : (d : Seen) → IsOnTrail d → (r : Option (Bor Rows)) → option_copied r ≡ slice_get d.traces (length d.traces - 1) → IfSome r (λ t. IsTraceOf d t.now)
+pub last_trace : (d : Seen) → IsDebugger d → (r : Option (Bor Rows)) → option_copied r ≡ slice_get d.traces (length d.traces - 1) → IfSome r (λ t. IsTraceOf d t.now)
 last_trace d h None e = tt
 last_trace d h (Some t) e =
     let at : slice_get d.traces (length d.traces - 1) ≡ Some t.now = sym e in

@@ -12,7 +12,7 @@ use Rattle.jc_debug.specs.declared.breaks.Break.{Break}
 use Rattle.jc_debug.specs.declared.fault.Halt.TheVariants as H
 use Rattle.jc_debug.specs.Moves.{IsHalted}
 use Rattle.jc_debug.specs.DebuggerState.{GoesTo, arrives, stops, moved_to, with_break}
-use Rattle.jc_debug.specs.Invariant.{Seen, no_network, start_of, session_of, IsOnTrail, IsMoved, placed_in}
+use Rattle.jc_debug.specs.Invariant.{Seen, no_network, start_of, session_of, IsDebugger, IsMoved, placed_in}
 use Rattle.jc_debug.proofs.InvariantLemmas.{at_old}
 
 -- a new debugger is at the scenario's start
@@ -28,7 +28,7 @@ pub placed_session : (d : Seen) (j : ℕ) (b : Option Break) → session_of (pla
 placed_session d j b = refl
 
 -- a move that arrived
-pub arrived : (d e : Seen) (to : ℕ) → IsOnTrail e → IsMoved d e to → GoesTo (start_of d) d.schedule (length d.traces) to to None
+pub arrived : (d e : Seen) (to : ℕ) → IsDebugger e → IsMoved d e to → GoesTo (start_of d) d.schedule (length d.traces) to to None
 arrived d e to h m = arrives (at_old d e to m h)
 
 -- a move that stopped before a stuck event

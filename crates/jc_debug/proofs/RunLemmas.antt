@@ -6,7 +6,7 @@ use Rattle.jc_debug.specs.declared.fault.RunEnd.TheVariants as E
 use Rattle.jc_debug.specs.declared.fault.RunFault.TheVariants as R
 use Rattle.jc_debug.specs.Moves.{IsNextHalted, RunMoves, IsDebugRunFault}
 use Rattle.jc_debug.specs.DebuggerState.{NamesAt, IsFree, IsLeast, breaks, sticks, ends}
-use Rattle.jc_debug.specs.Invariant.{Seen, IsOnTrail, IsMoved, start_of, session_of}
+use Rattle.jc_debug.specs.Invariant.{Seen, IsDebugger, IsMoved, start_of, session_of}
 use Rattle.jc_debug.proofs.HaltLemmas.{told_old}
 use Rattle.jc_debug.proofs.InvariantLemmas.{at_old, carried, moved_more}
 
@@ -48,7 +48,7 @@ ran_short old now new i m le lt q e =
     (i, record { forward = le; short = lt; moved = subst (λ (v : Seen). IsMoved old v i) (sym e) m }, λ k from to. q k (omega (arith, to)) from)
 
 -- a run that ends at a breakpoint
-pub ran_break : (old now new : Seen) (i k j : ℕ) → IsMoved old now i → length old.traces ≤ i → Quiet old (i + 1) → IsMoved now new (length now.traces + 1) → IsOnTrail new → k ≡ j + 1
+pub ran_break : (old now new : Seen) (i k j : ℕ) → IsMoved old now i → length old.traces ≤ i → Quiet old (i + 1) → IsMoved now new (length now.traces + 1) → IsDebugger new → k ≡ j + 1
     → IsLeast (NamesAt (start_of new) (session_of new) (length new.traces)) j → RunMoves old new (E.Break k)
 ran_break old now new i k j m le q b h e least =
     let more = moved_more old now new i m b in
@@ -67,7 +67,7 @@ ran_break old now new i k j m le q b h e least =
     }
 
 -- a run that ends at the schedule's end
-pub ran_end : (old now : Seen) (i : ℕ) → IsOnTrail now → IsMoved old now i → Quiet old (i + 1) → i ≡ length old.schedule → length old.traces < i → RunMoves old now E.End
+pub ran_end : (old now : Seen) (i : ℕ) → IsDebugger now → IsMoved old now i → Quiet old (i + 1) → i ≡ length old.schedule → length old.traces < i → RunMoves old now E.End
 ran_end old now i h m q e lt = record {
   position = i;
   outcome = ends;

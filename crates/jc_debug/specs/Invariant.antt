@@ -48,7 +48,7 @@ pub record FollowsTrail (d : Seen) (k : ℕ) : Type 0 where
   pub step : StepIn before event after rows.rows
 
 -- There are a network and a trace for each event up to the position, and each network follows from the one before.
-pub record IsOnTrail (d : Seen) : Type 0 where
+pub record IsDebugger (d : Seen) : Type 0 where
   pub count : length d.net.earlier ≡ length d.traces
   pub within : length d.traces ≤ length d.schedule
   pub short : length d.schedule ≤ MAX_EVENTS

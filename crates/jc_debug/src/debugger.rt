@@ -16,7 +16,7 @@ ghost use Rattle.jc_debug.specs.declared.fault.RunFault.TheVariants as R;
 ghost use Rattle.jc_debug.specs.declared.fault.StepFault.TheVariants as S;
 ghost use Rattle.jc_debug.specs.Moves.{IsNextHalted, IsHalted, IsStepFault, IsGotoFault, IsTraceOf, RunMoves, IsDebugRunFault, IsActed, IsActFault, IsSet, IsCleared, IsNoBreak};
 ghost use Rattle.jc_debug.specs.DebuggerState.{IsNetworkAt, Names, NamesAt, IsFree, IsLeast, HasRule, begun};
-ghost use Rattle.jc_debug.specs.Invariant.{IsOnTrail, IsMoved, start_of, session_of, placed_in};
+ghost use Rattle.jc_debug.specs.Invariant.{IsDebugger, IsMoved, start_of, session_of, placed_in};
 
 use crate::breaks::{Break, BreakFault};
 use crate::fault::{ActFault, GotoFault, Halt, RunEnd, RunFault, StepFault};
@@ -41,7 +41,7 @@ pub struct Debugger {
 }
 
 impl Model for Debugger {
-    ghost use Rattle.jc_debug.specs.Invariant.{Seen, IsOnTrail};
+    ghost use Rattle.jc_debug.specs.Invariant.{Seen, IsDebugger};
     ghost use Rattle.jc_debug.specs.Stored.{seen_code};
 
     ghost Value = { Seen };
@@ -51,7 +51,7 @@ impl Model for Debugger {
     ghost view = { λ a.
         record { net = a.net; schedule = a.schedule.items; traces = a.traces.items; breaks = a.breaks } };
 
-    ghost invariant = { λ a. IsOnTrail
+    ghost invariant = { λ a. IsDebugger
         (record { net = a.net; schedule = a.schedule.items; traces = a.traces.items; breaks = a.breaks }) };
 }
 
@@ -81,7 +81,7 @@ impl Debugger {
     /// Returns the position: the number of events from the start to the network.
     pub fn position(&self) -> u64
         ensures position { result ≡ length self.now.traces }
-        ensures trail { IsOnTrail self.now }
+        ensures trail { IsDebugger self.now }
     {
         self.traces.len() as u64
     }
@@ -329,7 +329,7 @@ impl Debugger {
             (j < MAX_BREAKS)
             × IsLeast (NamesAt (start_of self.now) (session_of self.now) (length self.now.traces)) j) }
         ensures none { IfNone result (IsFree (start_of self.now) (session_of self.now) (length self.now.traces)) }
-        ensures trail { IsOnTrail self.now }
+        ensures trail { IsDebugger self.now }
     {
         // For its contract: there are `MAX_BREAKS` places, and the debugger is on its trail.
         let _ = self.position();

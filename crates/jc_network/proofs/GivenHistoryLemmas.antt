@@ -19,7 +19,7 @@ use Rattle.jc_network.specs.NetworkHistory.{Course, StepsTo, network_of, of_vers
 use Rattle.jc_network.specs.Given.{before_given, IsStart, IsGivenFault}
 use Rattle.jc_network.specs.Laws.{starts, IsReached}
 use Rattle.jc_network.specs.Steps.{IsStuckFor}
-use Rattle.jc_network.specs.Invariant.{IsKeptNet}
+use Rattle.jc_network.specs.Invariant.{IsNet}
 use Rattle.jc_network.proofs.AfterLemmas.{after_more, after_one_more, after_count}
 use Rattle.jc_network.proofs.InvariantLemmas.{now_in_run, length_end}
 
@@ -88,7 +88,7 @@ lead_fails first now given i n d r t l c h told is at s e =
     led_stuck first now given i d at s l h number (subst (IsStuckFor now.network (get_or given i d)) same (told t is))
 
 -- a network whose steps so far aren't counted is kept all the same
-pub begun : (version : Version) (count : ℕ) (whose : List ℕ) (ps : List Past) → IsKeptNet version count whose ps → IsKeptNet version count [] ps
+pub begun : (version : Version) (count : ℕ) (whose : List ℕ) (ps : List Past) → IsNet version count whose ps → IsNet version count [] ps
 begun version count whose ps h =
     let run = now_in_run version count whose ps h in
     let now = of_version version (network_of ps) in

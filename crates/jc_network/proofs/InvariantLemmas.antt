@@ -17,7 +17,7 @@ use Rattle.jc_network.specs.Applied.{applied_ops, IsApplied}
 use Rattle.jc_network.specs.NetworkHistory.{kept_of, network_of, last_state_of, back_one, back_at, earlier_of, course_of, of_version, StepsTo}
 use Rattle.jc_network.specs.Laws.{starts, IsReached}
 use Rattle.jc_network.specs.Steps.{AllHand, AllOwn, HasReplica, ActsReplica}
-use Rattle.jc_network.specs.Invariant.{HasBegun, IsInRun, AreInRun, NetCanGoBack, AreBacked, AreNumbered, IsKeptNet}
+use Rattle.jc_network.specs.Invariant.{HasBegun, IsInRun, AreInRun, NetCanGoBack, AreBacked, AreNumbered, IsNet}
 use Rattle.jc_network.specs.Refines.{AreSeen, IsAsked}
 use Rattle.jc_network.proofs.StepsLemmas.{well, reached, as_many_states, kept_there}
 use Rattle.jc_network.proofs.AppliedLemmas.{applied_stands}
@@ -88,15 +88,15 @@ run_now : (version : Version) (scripts : List (List Cmd)) (first : List State) (
 run_now version scripts first [] ps h = h.0
 run_now version scripts first (i ∷ is) ps h = h.0
 
-pub now_in_run : (version : Version) (count : ℕ) (is : List ℕ) (ps : List Past) → (h : IsKeptNet version count is ps) → IsInRun version h.scripts h.first (network_of ps) (kept_of ps)
+pub now_in_run : (version : Version) (count : ℕ) (is : List ℕ) (ps : List Past) → (h : IsNet version count is ps) → IsInRun version h.scripts h.first (network_of ps) (kept_of ps)
 now_in_run version count is ps h = run_now version h.scripts h.first is ps h.runs
 
 -- and reached
-pub now_reached : (version : Version) (count : ℕ) (is : List ℕ) (ps : List Past) → (h : IsKeptNet version count is ps) → IsReached h.scripts (network_of ps)
+pub now_reached : (version : Version) (count : ℕ) (is : List ℕ) (ps : List Past) → (h : IsNet version count is ps) → IsReached h.scripts (network_of ps)
 now_reached version count is ps h = reached version h.scripts h.first (network_of ps) (kept_of ps) (now_in_run version count is ps h)
 
 -- a network has a replica for each name, and at most 64
-pub few_names : (version : Version) (count : ℕ) (is : List ℕ) (ps : List Past) → IsKeptNet version count is ps → (length (network_of ps) ≡ count) × (count ≤ 64)
+pub few_names : (version : Version) (count : ℕ) (is : List ℕ) (ps : List Past) → IsNet version count is ps → (length (network_of ps) ≡ count) × (count ≤ 64)
 few_names version count is ps h =
     let run = now_in_run version count is ps h in
     let led = now_reached version count is ps h in
@@ -133,7 +133,7 @@ first_is version scripts first (i ∷ is) ps h =
     ap (λ (Ns : List Network). first_or now (Ns ++ now ∷ [])) (versions-push version (earlier_of is (back_at i ps)) (network_of (back_at i ps)))
     ∙ (first_more front before now now ∙ first_is version scripts first is (back_at i ps) h.1)
 
-pub has_begun : (version : Version) (names : List (List ℕ)) (is : List ℕ) (ps : List Past) → IsKeptNet version (length names) is ps → HasBegun (course_of version names is ps)
+pub has_begun : (version : Version) (names : List (List ℕ)) (is : List ℕ) (ps : List Past) → IsNet version (length names) is ps → HasBegun (course_of version names is ps)
 has_begun version names is ps h =
     let first = first_is version h.scripts h.first is ps h.runs in
     let run = now_in_run version (length names) is ps h in
@@ -185,10 +185,10 @@ step_of version scripts first old new event rows allowed run numbered acts =
 
 -- what holds of a network after a step
 pub record IsAfter (version : Version) (names : List (List ℕ)) (old new : List Past) (whose more : List ℕ) (event : Event) (rows : Rows) : Type 0 where
-  pub kept : IsKeptNet version (length names) (reverse more) new
+  pub kept : IsNet version (length names) (reverse more) new
   pub steps : StepsTo (course_of version names (reverse whose) old) event (course_of version names (reverse more) new) rows
 
-pub stepped : (version : Version) (names : List (List ℕ)) (old new : List Past) (whose more : List ℕ) (event : Event) (rows : Rows) → Allows event version → more ≡ whose ++ replica_of event ∷ [] → IsKeptNet version (length names) (reverse whose) old → ActsReplica event old new (Ok rows) → IsAfter version names old new whose more event rows
+pub stepped : (version : Version) (names : List (List ℕ)) (old new : List Past) (whose more : List ℕ) (event : Event) (rows : Rows) → Allows event version → more ≡ whose ++ replica_of event ∷ [] → IsNet version (length names) (reverse whose) old → ActsReplica event old new (Ok rows) → IsAfter version names old new whose more event rows
 stepped version names old new whose more event rows allowed is inv acts =
     let m = acts.moves in
     let p = replica_of event in
@@ -198,7 +198,7 @@ stepped version names old new whose more event rows allowed is inv acts =
     let before : back_at p new ≡ old = ap (back_at p) m.now ∙ back_at-set old p m.before m.after m.there goes in
     let there : slice_get new p ≡ Some m.after = subst (λ (ps : List Past). slice_get ps p ≡ Some m.after) (sym m.now) (set_there old p m.before m.after m.there) in
     let can : NetCanGoBack p new = record { past = m.after; there = there; some = λ e. not_empty m.before.now m.before.earlier (sym m.answers.earlier ∙ e) } in
-    let kept : IsKeptNet version (length names) (p ∷ reverse whose) new = record {
+    let kept : IsNet version (length names) (p ∷ reverse whose) new = record {
       each = ap length m.now ∙ (states_set old p m.after ∙ inv.each);
       numbered = subst AreNumbered (sym m.now) (numbered_set old p m.before m.after m.there m.answers.number inv.numbered);
       backed = (can, subst (AreBacked (reverse whose)) (sym before) inv.backed);
@@ -208,7 +208,7 @@ stepped version names old new whose more event rows allowed is inv acts =
     } in
     let earlier : earlier_of (p ∷ reverse whose) new ≡ earlier_of (reverse whose) old ++ network_of old ∷ [] = ap (λ ps. earlier_of (reverse whose) ps ++ network_of ps ∷ []) before in
     record {
-      kept = subst (λ w. IsKeptNet version (length names) w new) (sym turned) kept;
+      kept = subst (λ w. IsNet version (length names) w new) (sym turned) kept;
       steps = record {
         step = s.step;
         depth = s.depth;
@@ -219,7 +219,7 @@ stepped version names old new whose more event rows allowed is inv acts =
     }
 
 -- what a loan of the whole list has given back
-pub stepped_whole : (version : Version) (names : List (List ℕ)) (old new : List Past) (n : ℕ) (whose more : List ℕ) (event : Event) (rows : Rows) → Allows event version → n ≡ length old → more ≡ whose ++ replica_of event ∷ [] → IsKeptNet version (length names) (reverse whose) old → ActsReplica event old new (Ok rows) → IsAfter version names old (take n (new ++ drop (length new) old)) whose more event rows
+pub stepped_whole : (version : Version) (names : List (List ℕ)) (old new : List Past) (n : ℕ) (whose more : List ℕ) (event : Event) (rows : Rows) → Allows event version → n ≡ length old → more ≡ whose ++ replica_of event ∷ [] → IsNet version (length names) (reverse whose) old → ActsReplica event old new (Ok rows) → IsAfter version names old (take n (new ++ drop (length new) old)) whose more event rows
 stepped_whole version names old new n whose more event rows allowed len is inv acts =
     let m = acts.moves in
     let count : length new ≡ length old = ap length m.now ∙ states_set old (replica_of event) m.after in
@@ -227,20 +227,20 @@ stepped_whole version names old new n whose more event rows allowed len is inv a
     subst (λ ps. IsAfter version names old ps whose more event rows) (sym whole) (stepped version names old new whose more event rows allowed is inv acts)
 
 -- what the replicas offer may be handed on
-pub all_hand : (version : Version) (count : ℕ) (is : List ℕ) (ps : List Past) → IsKeptNet version count is ps → AllHand ps
+pub all_hand : (version : Version) (count : ℕ) (is : List ℕ) (ps : List Past) → IsNet version count is ps → AllHand ps
 all_hand version count is ps h q past e =
     let run = now_in_run version count is ps h in
     offered_handed h.scripts (network_of ps) (now_reached version count is ps h) run.short run.set (kept_of ps) run.seen q past.now (kept_there ps q past e)
 
 -- what each offers is one replica's own
-pub all_own : (version : Version) (count : ℕ) (is : List ℕ) (ps : List Past) → IsKeptNet version count is ps → AllOwn ps
+pub all_own : (version : Version) (count : ℕ) (is : List ℕ) (ps : List Past) → IsNet version count is ps → AllOwn ps
 all_own version count is ps h q past e =
     let run = now_in_run version count is ps h in
     let x = run.seen.each q past.now (kept_there ps q past e) in
     subst AreOfOne (sym (ap (λ (S : State). S.send) x.seen.stands.is)) (of_one q x.at.send (λ o c. ((well h.scripts (network_of ps) (now_reached version count is ps h)).sets.sent q x.at o x.there c).0))
 
 -- a replica's stored state represents its state
-pub has_replica : (version : Version) (count : ℕ) (is : List ℕ) (ps : List Past) → IsKeptNet version count is ps → (p : ℕ) (past : Past) → slice_get ps p ≡ Some past → HasReplica (network_of ps) p past
+pub has_replica : (version : Version) (count : ℕ) (is : List ℕ) (ps : List Past) → IsNet version count is ps → (p : ℕ) (past : Past) → slice_get ps p ≡ Some past → HasReplica (network_of ps) p past
 has_replica version count is ps h p past e =
     let run = now_in_run version count is ps h in
     let x = run.seen.each p past.now (kept_there ps p past e) in
@@ -258,7 +258,7 @@ some_lent ps i (Some y) x f e =
     subst (λ (z : Bor Past). slice_get ps i ≡ Some z.now) same (slice_get_read ps (length ps) i y.now refl f.3.0 (f.3.1 y.now))
 
 -- what a replica has applied
-pub applies : (version : Version) (count : ℕ) (is : List ℕ) (ps : List Past) → IsKeptNet version count is ps → (p : ℕ) (past : Past) (ops : List Op) → slice_get ps p ≡ Some past → ops ≡ applied_ops past.now → IsApplied (network_of ps) p ops
+pub applies : (version : Version) (count : ℕ) (is : List ℕ) (ps : List Past) → IsNet version count is ps → (p : ℕ) (past : Past) (ops : List Op) → slice_get ps p ≡ Some past → ops ≡ applied_ops past.now → IsApplied (network_of ps) p ops
 applies version count is ps h p past ops e found =
     let run = now_in_run version count is ps h in
     subst (IsApplied (network_of ps) p) (sym found) (applied_stands run.set (network_of ps) (kept_of ps) run.seen p past.now (kept_there ps p past e))
@@ -266,29 +266,29 @@ applies version count is ps h p past ops e found =
 -- ---- the way back
 
 pub record IsBefore (version : Version) (count : ℕ) (old new : List Past) (whose fewer : List ℕ) : Type 0 where
-  pub kept : IsKeptNet version count (reverse fewer) new
+  pub kept : IsNet version count (reverse fewer) new
   pub earlier : earlier_of (reverse whose) old ≡ earlier_of (reverse fewer) new ++ network_of new ∷ []
 
 turned_back : (whose fewer : List ℕ) (p : ℕ) → whose ≡ fewer ++ p ∷ [] → reverse whose ≡ p ∷ reverse fewer
 turned_back whose fewer p is = ap reverse is ∙ reverse-append fewer (p ∷ [])
 
 -- the replica whose step was the last is there
-pub can_index : (version : Version) (count : ℕ) (ps : List Past) (p : ℕ) (whose fewer : List ℕ) → whose ≡ fewer ++ p ∷ [] → IsKeptNet version count (reverse whose) ps → p < length ps
+pub can_index : (version : Version) (count : ℕ) (ps : List Past) (p : ℕ) (whose fewer : List ℕ) → whose ≡ fewer ++ p ∷ [] → IsNet version count (reverse whose) ps → p < length ps
 can_index version count ps p whose fewer is inv =
-    let h : IsKeptNet version count (p ∷ reverse fewer) ps = subst (λ w. IsKeptNet version count w ps) (turned_back whose fewer p is) inv in
+    let h : IsNet version count (p ∷ reverse fewer) ps = subst (λ w. IsNet version count w ps) (turned_back whose fewer p is) inv in
     slice_get_within ps p h.backed.0.past h.backed.0.there
 
 -- and it can go back
-pub goes_back : (version : Version) (count : ℕ) (ps : List Past) (p : ℕ) (a : Past) (whose fewer : List ℕ) → whose ≡ fewer ++ p ∷ [] → IsKeptNet version count (reverse whose) ps → slice_get ps p ≡ Some a → a.earlier ≢ []
+pub goes_back : (version : Version) (count : ℕ) (ps : List Past) (p : ℕ) (a : Past) (whose fewer : List ℕ) → whose ≡ fewer ++ p ∷ [] → IsNet version count (reverse whose) ps → slice_get ps p ≡ Some a → a.earlier ≢ []
 goes_back version count ps p a whose fewer is inv there e =
-    let h : IsKeptNet version count (p ∷ reverse fewer) ps = subst (λ w. IsKeptNet version count w ps) (turned_back whose fewer p is) inv in
+    let h : IsNet version count (p ∷ reverse fewer) ps = subst (λ w. IsNet version count w ps) (turned_back whose fewer p is) inv in
     let s : h.backed.0.past ≡ a = same_Some h.backed.0.past a (sym h.backed.0.there ∙ there) in
     h.backed.0.some (ap (λ (q : Past). q.earlier) s ∙ e)
 
-pub undone : (version : Version) (count : ℕ) (ps : List Past) (p : ℕ) (a b : Past) (whose fewer : List ℕ) → whose ≡ fewer ++ p ∷ [] → IsKeptNet version count (reverse whose) ps → slice_get ps p ≡ Some a → b.number ≡ a.number → replica_history b ≡ a.earlier → IsBefore version count ps (slice_set ps p b) whose fewer
+pub undone : (version : Version) (count : ℕ) (ps : List Past) (p : ℕ) (a b : Past) (whose fewer : List ℕ) → whose ≡ fewer ++ p ∷ [] → IsNet version count (reverse whose) ps → slice_get ps p ≡ Some a → b.number ≡ a.number → replica_history b ≡ a.earlier → IsBefore version count ps (slice_set ps p b) whose fewer
 undone version count ps p a b whose fewer is inv there number was =
     let turned = turned_back whose fewer p is in
-    let h : IsKeptNet version count (p ∷ reverse fewer) ps = subst (λ w. IsKeptNet version count w ps) turned inv in
+    let h : IsNet version count (p ∷ reverse fewer) ps = subst (λ w. IsNet version count w ps) turned inv in
     let new : slice_set ps p b ≡ back_at p ps = ap (slice_set ps p) (sym (back_is b a number (sym was))) ∙ sym (back_at-is p ps a there) in
     record {
       kept = record {
@@ -307,7 +307,7 @@ pub versions_before : (version : Version) (count : ℕ) (old new : List Past) (w
 versions_before version count old new whose fewer h = ap (map (of_version version)) h.earlier ∙ versions-push version (earlier_of (reverse fewer) new) (network_of new)
 
 -- the same, where the replica says whether it went back
-pub undone_by : (version : Version) (count : ℕ) (ps : List Past) (p : ℕ) (a b : Past) (whose fewer : List ℕ) → whose ≡ fewer ++ p ∷ [] → IsKeptNet version count (reverse whose) ps → slice_get ps p ≡ Some a → b.number ≡ a.number → (result : Bool) → (IsTrue result → replica_history b ≡ a.earlier) → (IsFalse result → (b ≡ a) × (a.earlier ≡ [])) → IsBefore version count ps (slice_set ps p b) whose fewer
+pub undone_by : (version : Version) (count : ℕ) (ps : List Past) (p : ℕ) (a b : Past) (whose fewer : List ℕ) → whose ≡ fewer ++ p ∷ [] → IsNet version count (reverse whose) ps → slice_get ps p ≡ Some a → b.number ≡ a.number → (result : Bool) → (IsTrue result → replica_history b ≡ a.earlier) → (IsFalse result → (b ≡ a) × (a.earlier ≡ [])) → IsBefore version count ps (slice_set ps p b) whose fewer
 undone_by version count ps p a b whose fewer is inv there number true was none = undone version count ps p a b whose fewer is inv there number (was refl)
 undone_by version count ps p a b whose fewer is inv there number false was none = absurd (goes_back version count ps p a whose fewer is inv there (none refl).1)
 

@@ -11,7 +11,7 @@ use Rattle.jc_replica.specs.ReplicaHistory.{Past}
 use Rattle.jc_network.specs.NetworkHistory.{kept_of, network_of, of_version}
 use Rattle.jc_network.specs.Laws.{starts}
 use Rattle.jc_network.specs.Abstract.{real}
-use Rattle.jc_network.specs.Invariant.{IsInRun, IsKeptNet}
+use Rattle.jc_network.specs.Invariant.{IsInRun, IsNet}
 use Rattle.jc_network.specs.Refines.{AreSeen, AreShort}
 use Rattle.jc_network.specs.Start.{pasts_from}
 use Rattle.jc_network.proofs.AbstractLemmas.{seen_is_real}
@@ -37,7 +37,7 @@ numbered_from n (s ∷ scripts) (suc p) past e = let h : past.number ≡ suc n +
 pub real_start : (scripts : List (List Cmd)) → network_of (pasts_from 0 scripts) ≡ starts scripts
 real_start scripts = ap real (kept_start 0 scripts) ∙ sym (seen_is_real [] (starts scripts) (starts scripts) (start_seen scripts))
 
-pub starts_in_run : (version : Version) (scripts : List (List Cmd)) → AreShort scripts → IsKeptNet version (length scripts) [] (pasts_from 0 scripts)
+pub starts_in_run : (version : Version) (scripts : List (List Cmd)) → AreShort scripts → IsNet version (length scripts) [] (pasts_from 0 scripts)
 starts_in_run version scripts short =
     let now : IsInRun version scripts (starts scripts) (network_of (pasts_from 0 scripts)) (kept_of (pasts_from 0 scripts)) = record {
       short = short;

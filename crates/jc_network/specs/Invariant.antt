@@ -71,7 +71,7 @@ abbrev pub AreNumbered : List Past → Type 0
 AreNumbered ps = (p : ℕ) (past : Past) → slice_get ps p ≡ Some past → past.number ≡ p
 
 -- a replica for each of so many names
-pub record IsKeptNet (version : Version) (count : ℕ) (whose : List ℕ) (ps : List Past) : Type 0 where
+pub record IsNet (version : Version) (count : ℕ) (whose : List ℕ) (ps : List Past) : Type 0 where
   pub each : length ps ≡ count
   pub numbered : AreNumbered ps
   pub backed : AreBacked whose ps

@@ -44,7 +44,7 @@ pub struct Net {
 impl Model for Net {
     ghost use Rattle.std.specs.Prelude.{length, reverse};
     ghost use Rattle.jc_network.specs.NetworkHistory.{Course, course_code, course_of};
-    ghost use Rattle.jc_network.specs.Invariant.{IsKeptNet};
+    ghost use Rattle.jc_network.specs.Invariant.{IsNet};
 
     ghost Value = { Course };
 
@@ -52,7 +52,7 @@ impl Model for Net {
 
     ghost view = { λ a. course_of a.version a.names.items (reverse a.whose.items) a.replicas.items };
 
-    ghost invariant = { λ a. IsKeptNet a.version (length a.names.items) (reverse a.whose.items) a.replicas.items };
+    ghost invariant = { λ a. IsNet a.version (length a.names.items) (reverse a.whose.items) a.replicas.items };
 }
 
 impl Net {

@@ -19,7 +19,7 @@ use Rattle.jc_replica.specs.Answers.{Occurs}
 use Rattle.jc_vectors.specs.StoredStates.{RepresentsState}
 use Rattle.jc_replica.specs.Refines.{HasOwnFor, IsRead, LeadsReplica}
 use Rattle.jc_replica.specs.Undo.{Held, held_of, undone_once, state_of, states, past_of}
-use Rattle.jc_replica.specs.Invariant.{IsKeptReplica}
+use Rattle.jc_replica.specs.Invariant.{IsReplica}
 use Rattle.jc_replica.proofs.ScriptLemmas.{drop-more, one_less}
 use Rattle.jc_replica.proofs.RefinesLemmas.{leads_sent, leads_done}
 use Rattle.jc_replica.proofs.SendLemmas.{both-front}
@@ -32,11 +32,11 @@ all_last P (y ∷ ys) x a = all_last P ys x a.1
 abbrev pub Leading : ℕ → Event → List Op → State → State → Rows → Type 0
 Leading p event read K new rows = (set os : List Op) (A : State) → RepresentsState set A K → HasOwnFor event set p A → IsRead set os read → LeadsReplica set event p os A new rows
 
-pub ready_now : {script : List Cmd} {t : Tree} {rs : List Record} {h : Held} → IsKeptReplica script t rs h → IsReadyToStep (state_of script h t.now)
+pub ready_now : {script : List Cmd} {t : Tree} {rs : List Record} {h : Held} → IsReplica script t rs h → IsReadyToStep (state_of script h t.now)
 ready_now {script} {t} {rs} {h} k = all_last IsReadyToStep (states script (tree_history t) rs h) (state_of script h t.now) k.ready
 
 -- the step that a call has made, by what was seen before it
-pub occurs : {script : List Cmd} {t : Tree} {rs : List Record} {h : Held} → IsKeptReplica script t rs h → (number : ℕ) (p : Past) → past_of number script t rs h ≡ p → (event : ℕ → Event) (read : List Op) (u : Tree) (ss : List Record) (h2 : Held) (rows : Rows) → Leading number (event number) read (state_of script h t.now) (state_of script h2 u.now) rows → states script (tree_history u) ss h2 ≡ states script (tree_history t) rs h ++ state_of script h t.now ∷ [] → Occurs (event p.number) read p (past_of number script u ss h2) rows
+pub occurs : {script : List Cmd} {t : Tree} {rs : List Record} {h : Held} → IsReplica script t rs h → (number : ℕ) (p : Past) → past_of number script t rs h ≡ p → (event : ℕ → Event) (read : List Op) (u : Tree) (ss : List Record) (h2 : Held) (rows : Rows) → Leading number (event number) read (state_of script h t.now) (state_of script h2 u.now) rows → states script (tree_history u) ss h2 ≡ states script (tree_history t) rs h ++ state_of script h t.now ∷ [] → Occurs (event p.number) read p (past_of number script u ss h2) rows
 occurs {script} k number p v event read u ss h2 rows d e =
     subst (λ (x : Past). Occurs (event x.number) read x (past_of number script u ss h2) rows) v (record { leads = d; earlier = e; number = refl })
 

@@ -34,7 +34,7 @@ use Rattle.jc_replica.specs.declared.record.Record.{Record}
 use Rattle.jc_tree.specs.declared.store.Mark.{Mark}
 use Rattle.jc_tree.specs.Tree.{Tree, IsLater}
 use Rattle.jc_replica.specs.Answers.{RefusedFor, fault_cause_of, IsEventRefused}
-use Rattle.jc_replica.specs.Invariant.{CanBack, IsKeptReplica}
+use Rattle.jc_replica.specs.Invariant.{CanBack, IsReplica}
 use Rattle.jc_replica.specs.NextCommand.{opened}
 use Rattle.jc_replica.specs.Operations.{IsHanded}
 use Rattle.jc_replica.specs.ReplicaHistory.{Past, no_rows}
@@ -206,7 +206,7 @@ takes_again K L i k o t e f =
     subst (λ (x : State × Op). TakesOp x.0 i x.1) (λ n. (e n, same n)) t
 
 -- The step, where the operation's identifier was added.
-module _ {script : List Cmd} {t : Tree} {rs : List Record} {h : Held} (kept : IsKeptReplica script t rs h) (i : Id) (k : Op) (takes : TakesOp (state_of script h t.now) i k) (ops : List Id) (added : ops ≡ union (ids_up_to k.id.replica k.id.counter) h.ops) where
+module _ {script : List Cmd} {t : Tree} {rs : List Record} {h : Held} (kept : IsReplica script t rs h) (i : Id) (k : Op) (takes : TakesOp (state_of script h t.now) i k) (ops : List Id) (added : ops ≡ union (ids_up_to k.id.replica k.id.counter) h.ops) where
   now_held : held_of h.done true h.vars ops h.queue h.sent h.recv ≡ taken_held h i
   now_held =
       let is : ops ≡ union (ids_up_to i.replica i.counter) h.ops = added ∙ ap (λ (j : Id). union (ids_up_to j.replica j.counter) h.ops) (own script h t.now i k (ready_now kept) takes) in

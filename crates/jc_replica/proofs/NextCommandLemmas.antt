@@ -20,7 +20,7 @@ use Rattle.jc_vectors.specs.StoredStates.{after_making_stored}
 use Rattle.jc_replica.specs.declared.record.Change.TheVariants as C
 use Rattle.jc_replica.specs.declared.record.Record.{Record}
 use Rattle.jc_replica.specs.Answers.{Occurs}
-use Rattle.jc_replica.specs.Invariant.{CanBack, IsInBounds, IsKeptReplica}
+use Rattle.jc_replica.specs.Invariant.{CanBack, IsInBounds, IsReplica}
 use Rattle.jc_replica.specs.NextCommand.{MakesOp}
 use Rattle.jc_replica.specs.ReplicaHistory.{Past, no_rows}
 use Rattle.jc_replica.specs.ReadyToStep.{IsReadyToStep}
@@ -89,7 +89,7 @@ makes_event p script h c d o u v ready new sent m de set os A stands own read =
     leads_made set p A K stands own os o d (state_of script (made_held h o) d) u v (at_depth 0 v) m de is refl
 
 -- the step of a command that makes an operation
-module _ {script : List Cmd} {t : Tree} {rs : List Record} {h : Held} (k : IsKeptReplica script t rs h) (number : ℕ) (o : Op) (t0 u : Rows) (none : t0 ≡ no_rows) (m0 : MakesOp (state_of script h t.now) number o t0 u) where
+module _ {script : List Cmd} {t : Tree} {rs : List Record} {h : Held} (k : IsReplica script t rs h) (number : ℕ) (o : Op) (t0 u : Rows) (none : t0 ≡ no_rows) (m0 : MakesOp (state_of script h t.now) number o t0 u) where
   m : MakesOp (state_of script h t.now) number o no_rows u
   m = subst (λ (r : Rows). MakesOp (state_of script h t.now) number o r u) none m0
 
@@ -117,7 +117,7 @@ module _ {script : List Cmd} {t : Tree} {rs : List Record} {h : Held} (k : IsKep
         let bounds : IsInBounds script (made_held h o) = record { done = one_more_fits h.done script m.next.command m.next.rest m.next.next; sent = omega (arith, k.bounds.sent, length-append h.queue (o ∷ [])) } in
         subst (λ (x : Held). Stepped script t d rs ss h x) (sym he) (stepped k d ss r (made_held h o) later se me back_is can (made_ready script h t.now o ready new m.next.command m.next.rest m.next.next d.now chained unlinked) bounds)
 
-    pub made_kept_replica : IsKeptReplica script d ss h2
+    pub made_kept_replica : IsReplica script d ss h2
     made_kept_replica = made_step.kept
 
     pub made_occurs : (p : Past) → past_of number script t rs h ≡ p → (v w : Rows) → Derives (Operate t.now o) (ToContext d.now) u v → w ≡ at_depth 0 v → Occurs (E.Exec p.number) [] p (past_of number script d ss h2) w

@@ -19,7 +19,7 @@ use Rattle.jc_vectors.proofs.UnionStandsLemmas.{union_stands}
 use Rattle.jc_tree.specs.Tree.{Tree}
 use Rattle.jc_replica.specs.declared.record.Record.{Record}
 use Rattle.jc_replica.specs.Answers.{RefusedFor, Occurs}
-use Rattle.jc_replica.specs.Invariant.{IsKeptReplica, CanBack}
+use Rattle.jc_replica.specs.Invariant.{IsReplica, CanBack}
 use Rattle.jc_replica.specs.Operations.{AreInOrder, IsHanded, AreHanded}
 use Rattle.jc_replica.specs.ReplicaHistory.{Past, no_rows}
 use Rattle.jc_replica.specs.Received.{AreKeptOf, IsUnited, HasReceived}
@@ -127,7 +127,7 @@ has_received {script} {t} {rs} {h} number p v read new ss united s =
     subst (λ (x : Past). HasReceived read x (past_of number script t ss (received_held h new))) v
     (record { united = united; now = refl; earlier = s.earlier; number = refl })
 
-pub received_step : {script : List Cmd} {t : Tree} {rs : List Record} {h : Held} → IsKeptReplica script t rs h → (new : List Op) (ss : List Record) (r : Record) → ss ≡ rs ++ r ∷ [] → r.mark.changes ≡ length t.earlier → undone_once r.change (received_held h new) ≡ h → CanBack r.change (received_held h new) → AreInOrder new → AreHanded new → Stepped script t t rs ss h (received_held h new)
+pub received_step : {script : List Cmd} {t : Tree} {rs : List Record} {h : Held} → IsReplica script t rs h → (new : List Op) (ss : List Record) (r : Record) → ss ≡ rs ++ r ∷ [] → r.mark.changes ≡ length t.earlier → undone_once r.change (received_held h new) ≡ h → CanBack r.change (received_held h new) → AreInOrder new → AreHanded new → Stepped script t t rs ss h (received_held h new)
 received_step {script} {t} {rs} {h} kept new ss r se me be cb order handed =
     let a = ready_now kept in
     stepped kept t ss r (received_held h new) (still t) se me be cb

@@ -8,7 +8,7 @@ use Rattle.jc_cursor.specs.Bounds.{bound_of, vars_of}
 use Rattle.jc_replica.specs.declared.record.Change.{Change}
 use Rattle.jc_replica.specs.declared.record.Change.TheVariants as C
 use Rattle.jc_replica.specs.declared.record.Record.{Record}
-use Rattle.jc_replica.specs.Invariant.{CanBack, IsInBounds, IsKeptReplica}
+use Rattle.jc_replica.specs.Invariant.{CanBack, IsInBounds, IsReplica}
 use Rattle.jc_replica.specs.Undo.{Held, undone_once, states}
 use Rattle.jc_replica.proofs.UndoStepsLemmas.{Unstepped, unstepped, can_back}
 
@@ -25,12 +25,12 @@ back_in_bounds script (C.Received came acted) h b can = record { done = b.done; 
 back_in_bounds script (C.Applied i before acted) h b can = record { done = b.done; sent = b.sent }
 back_in_bounds script C.Ended h b can = record { done = omega (arith, b.done); sent = b.sent }
 
-pub unstep : {script : List Cmd} {t : Tree} {ss : List Record} {h : Held} → IsKeptReplica script t ss h → (u : Tree) (rs : List Record) (r : Record) (h0 : Held) → ss ≡ rs ++ r ∷ [] → tree_history u ≡ take (r.mark.changes + 1) (tree_history t) → undone_once r.change h ≡ h0 → Unstepped script t u rs ss h h0
+pub unstep : {script : List Cmd} {t : Tree} {ss : List Record} {h : Held} → IsReplica script t ss h → (u : Tree) (rs : List Record) (r : Record) (h0 : Held) → ss ≡ rs ++ r ∷ [] → tree_history u ≡ take (r.mark.changes + 1) (tree_history t) → undone_once r.change h ≡ h0 → Unstepped script t u rs ss h h0
 unstep {script} {t} {ss} {h} k u rs r h0 se ue be =
     unstepped k u rs r h0 se ue be (subst (IsInBounds script) be (back_in_bounds script r.change h k.bounds (can_back k rs r se)))
 
 -- what is asked of the last step, as it is
-pub can_back_as : {script : List Cmd} {t : Tree} {ss : List Record} {h : Held} → IsKeptReplica script t ss h → (rs : List Record) (r : Record) → ss ≡ rs ++ r ∷ [] → (c : Change) → r.change ≡ c → CanBack c h
+pub can_back_as : {script : List Cmd} {t : Tree} {ss : List Record} {h : Held} → IsReplica script t ss h → (rs : List Record) (r : Record) → ss ≡ rs ++ r ∷ [] → (c : Change) → r.change ≡ c → CanBack c h
 can_back_as {script} {t} {ss} {h} k rs r se c ce = subst (λ (x : Change). CanBack x h) ce (can_back k rs r se)
 
 pub in_memory : (vs : List (List ℕ × BoundInMemory)) (n : ℕ) → n < length (vars_of vs) → n < length vs

@@ -8,7 +8,7 @@ use Rattle.jc_tree.specs.Tree.{Tree, IsLater, tree_history}
 use Rattle.jc_replica.specs.declared.record.Record.{Record}
 use Rattle.jc_replica.specs.ReadyToStep.{IsReadyToStep, AreReady}
 use Rattle.jc_replica.specs.Undo.{Held, state_of, undone_once, steps_undone, states, content_at}
-use Rattle.jc_replica.specs.Invariant.{AreMarks, CanBack, AreBacks, IsInBounds, IsKeptReplica}
+use Rattle.jc_replica.specs.Invariant.{AreMarks, CanBack, AreBacks, IsInBounds, IsReplica}
 
 -- what a further step takes back was held before it
 undone-pushed : (rs : List Record) (r : Record) (h h2 : Held) → undone_once r.change h2 ≡ h → steps_undone (rs ++ r ∷ []) h2 ≡ steps_undone rs h
@@ -58,9 +58,9 @@ backs-pushed (s ∷ rs) r h h2 a e b =
 -- A step keeps the old states and the one before it.
 pub record Stepped (script : List Cmd) (t u : Tree) (rs ss : List Record) (h h2 : Held) : Type 0 where
   pub earlier : states script (tree_history u) ss h2 ≡ states script (tree_history t) rs h ++ state_of script h t.now ∷ []
-  pub kept : IsKeptReplica script u ss h2
+  pub kept : IsReplica script u ss h2
 
-pub stepped : {script : List Cmd} {t : Tree} {rs : List Record} {h : Held} → IsKeptReplica script t rs h → (u : Tree) (ss : List Record) (r : Record) (h2 : Held) → IsLater t u → ss ≡ rs ++ r ∷ [] → r.mark.changes ≡ length t.earlier → undone_once r.change h2 ≡ h → CanBack r.change h2 → IsReadyToStep (state_of script h2 u.now) → IsInBounds script h2 → Stepped script t u rs ss h h2
+pub stepped : {script : List Cmd} {t : Tree} {rs : List Record} {h : Held} → IsReplica script t rs h → (u : Tree) (ss : List Record) (r : Record) (h2 : Held) → IsLater t u → ss ≡ rs ++ r ∷ [] → r.mark.changes ≡ length t.earlier → undone_once r.change h2 ≡ h → CanBack r.change h2 → IsReadyToStep (state_of script h2 u.now) → IsInBounds script h2 → Stepped script t u rs ss h h2
 stepped {script} {t} {rs} {h} k u ss r h2 later se me be cb ready bounds =
     let there : length t.earlier < length (tree_history t) = omega (arith, length-append t.earlier (t.now ∷ [])) in
     let longer : length t.earlier ≤ length u.earlier = omega (arith, ap length later.is, length-append t.earlier (t.now ∷ []), length-append u.earlier (u.now ∷ []), length-append (tree_history t) later.added) in
@@ -105,10 +105,10 @@ last_back [] r h a = a.0
 last_back (s ∷ rs) r h a = last_back rs r h a.1
 
 -- what the last record knows of the store and of what is held
-pub mark_there : {script : List Cmd} {t : Tree} {ss : List Record} {h : Held} → IsKeptReplica script t ss h → (rs : List Record) (r : Record) → ss ≡ rs ++ r ∷ [] → r.mark.changes ≤ length t.earlier
+pub mark_there : {script : List Cmd} {t : Tree} {ss : List Record} {h : Held} → IsReplica script t ss h → (rs : List Record) (r : Record) → ss ≡ rs ++ r ∷ [] → r.mark.changes ≤ length t.earlier
 mark_there {script} {t} {ss} {h} k rs r e = (marks_left (length t.earlier) rs r (subst (AreMarks (length t.earlier)) e k.marks)).1
 
-pub can_back : {script : List Cmd} {t : Tree} {ss : List Record} {h : Held} → IsKeptReplica script t ss h → (rs : List Record) (r : Record) → ss ≡ rs ++ r ∷ [] → CanBack r.change h
+pub can_back : {script : List Cmd} {t : Tree} {ss : List Record} {h : Held} → IsReplica script t ss h → (rs : List Record) (r : Record) → ss ≡ rs ++ r ∷ [] → CanBack r.change h
 can_back {script} {t} {ss} {h} k rs r e = last_back rs r h (subst (λ (x : List Record). AreBacks x h) e k.backs)
 
 content-front : (cs : List Context) (n : ℕ) → n < length cs → content_at (take (suc n) cs) n ≡ content_at cs n
@@ -134,9 +134,9 @@ all_front P (x ∷ xs) ys a = (a.0, all_front P xs ys a.1)
 
 pub record Unstepped (script : List Cmd) (t u : Tree) (rs ss : List Record) (h h0 : Held) : Type 0 where
   pub history : states script (tree_history u) rs h0 ++ state_of script h0 u.now ∷ [] ≡ states script (tree_history t) ss h
-  pub kept : IsKeptReplica script u rs h0
+  pub kept : IsReplica script u rs h0
 
-pub unstepped : {script : List Cmd} {t : Tree} {ss : List Record} {h : Held} → IsKeptReplica script t ss h → (u : Tree) (rs : List Record) (r : Record) (h0 : Held) → ss ≡ rs ++ r ∷ [] → tree_history u ≡ take (r.mark.changes + 1) (tree_history t) → undone_once r.change h ≡ h0 → IsInBounds script h0 → Unstepped script t u rs ss h h0
+pub unstepped : {script : List Cmd} {t : Tree} {ss : List Record} {h : Held} → IsReplica script t ss h → (u : Tree) (rs : List Record) (r : Record) (h0 : Held) → ss ≡ rs ++ r ∷ [] → tree_history u ≡ take (r.mark.changes + 1) (tree_history t) → undone_once r.change h ≡ h0 → IsInBounds script h0 → Unstepped script t u rs ss h h0
 unstepped {script} {t} {ss} {h} k u rs r h0 se ue be bounds =
     let marks : AreMarks (length t.earlier) (rs ++ r ∷ []) = subst (AreMarks (length t.earlier)) se k.marks in
     let m = marks_left (length t.earlier) rs r marks in

@@ -18,7 +18,7 @@ use Rattle.jc_replica.specs.declared.record.Change.TheVariants as C
 use Rattle.jc_replica.specs.declared.record.Record.{Record}
 use Rattle.jc_replica.specs.Answers.{Occurs}
 use Rattle.jc_replica.specs.Variables.{IsBound}
-use Rattle.jc_replica.specs.Invariant.{IsInBounds, IsKeptReplica}
+use Rattle.jc_replica.specs.Invariant.{IsInBounds, IsReplica}
 use Rattle.jc_replica.specs.NextCommand.{Binds}
 use Rattle.jc_replica.specs.ReplicaHistory.{Past, no_rows}
 use Rattle.jc_replica.specs.ReadyToStep.{IsReadyToStep}
@@ -62,7 +62,7 @@ module _ (script : List Cmd) (h : Held) (vars : List (List ℕ × Bound)) (x : L
       leads_bound set p A K stands os x b (state_of script (bound_held h vars) c) u (at_depth 0 u) m same refl
 
 -- the step of a command that binds a variable
-module _ {script : List Cmd} {t : Tree} {rs : List Record} {h : Held} (k : IsKeptReplica script t rs h) (number : ℕ) (x : List ℕ) (b : Bound) (t0 u : Rows) (none : t0 ≡ no_rows) (m0 : Binds (state_of script h t.now) x b t0 u) (vars : List (List ℕ × Bound)) (at : ℕ) (before : Option (Box BoundInMemory)) (is : IsBound x b at (was_bound before) h.vars vars) (ss : List Record) (h2 : Held) (mark : Mark) (he : h2 ≡ bound_held h vars) (se : ss ≡ rs ++ (record { mark = mark; change = C.Bound at before }) ∷ []) (me : mark.changes ≡ length t.earlier) where
+module _ {script : List Cmd} {t : Tree} {rs : List Record} {h : Held} (k : IsReplica script t rs h) (number : ℕ) (x : List ℕ) (b : Bound) (t0 u : Rows) (none : t0 ≡ no_rows) (m0 : Binds (state_of script h t.now) x b t0 u) (vars : List (List ℕ × Bound)) (at : ℕ) (before : Option (Box BoundInMemory)) (is : IsBound x b at (was_bound before) h.vars vars) (ss : List Record) (h2 : Held) (mark : Mark) (he : h2 ≡ bound_held h vars) (se : ss ≡ rs ++ (record { mark = mark; change = C.Bound at before }) ∷ []) (me : mark.changes ≡ length t.earlier) where
   m : Binds (state_of script h t.now) x b no_rows u
   m = subst (λ (r : Rows). Binds (state_of script h t.now) x b r u) none m0
 
@@ -72,7 +72,7 @@ module _ {script : List Cmd} {t : Tree} {rs : List Record} {h : Held} (k : IsKep
       let bounds : IsInBounds script (bound_held h vars) = record { done = one_more_fits h.done script _ m.next.rest m.next.next; sent = k.bounds.sent } in
       subst (λ (y : Held). Stepped script t t rs ss h y) (sym he) (stepped k t ss r (bound_held h vars) (still t) se me (bound_back script h vars x b at before is) is.there (bound_ready script h vars x b at before is t.now (ready_now k) _ m.next.rest m.next.next) bounds)
 
-  pub bound_kept_replica : IsKeptReplica script t ss h2
+  pub bound_kept_replica : IsReplica script t ss h2
   bound_kept_replica = bound_step.kept
 
   pub bound_occurs : (p : Past) → past_of number script t rs h ≡ p → (w : Rows) → w ≡ at_depth 0 u → Occurs (E.Exec p.number) [] p (past_of number script t ss h2) w

@@ -41,7 +41,7 @@ pub record IsInBounds (script : List Cmd) (h : Held) : Type 0 where
   pub done : h.done ≤ length script
   pub sent : h.sent ≤ length h.queue
 
-pub record IsKeptReplica (script : List Cmd) (t : Tree) (steps : List Record) (h : Held) : Type 0 where
+pub record IsReplica (script : List Cmd) (t : Tree) (steps : List Record) (h : Held) : Type 0 where
   pub ready : AreReady (states script (tree_history t) steps h ++ state_of script h t.now ∷ [])
   pub bounds : IsInBounds script h
   pub marks : AreMarks (length t.earlier) steps

@@ -46,7 +46,7 @@ impl<S: TreeStore> Model for Replica<S> {
     ghost use Rattle.jc_cursor.specs.Bounds.{vars_of};
     ghost use Rattle.jc_replica.specs.ReplicaHistory.{Past, past_code};
     ghost use Rattle.jc_replica.specs.Undo.{past_of, held_of};
-    ghost use Rattle.jc_replica.specs.Invariant.{IsKeptReplica};
+    ghost use Rattle.jc_replica.specs.Invariant.{IsReplica};
 
     ghost Value = { Past };
 
@@ -55,7 +55,7 @@ impl<S: TreeStore> Model for Replica<S> {
     ghost view = { λ a. past_of a.number (map cmd_of a.script.items) (S.tree a.store) a.steps.items
         (held_of a.done a.acted (vars_of a.vars.items) a.ops a.queue.items a.sent a.recv) };
 
-    ghost invariant = { λ a. IsKeptReplica (map cmd_of a.script.items) (S.tree a.store) a.steps.items
+    ghost invariant = { λ a. IsReplica (map cmd_of a.script.items) (S.tree a.store) a.steps.items
         (held_of a.done a.acted (vars_of a.vars.items) a.ops a.queue.items a.sent a.recv) };
 }
 

@@ -37,7 +37,7 @@ use Rattle.jc_debug.specs.declared.fault.RunEnd.{RunEnd}
 use Rattle.jc_debug.specs.declared.fault.RunEnd.TheVariants as E
 use Rattle.jc_debug.specs.Moves.{MoveStopsAt, IsToldAt, IsStepFault, IsGotoFault, IsDebugRunFault, IsActFault, IsTraceOf, RunMoves, IsActed, IsStuckHere, IsSet, IsCleared, IsNoBreak}
 use Rattle.jc_debug.specs.DebuggerState.{Session, IsNetworkAt, RunEndsAt, RunOutcome, sticks, moved_to, acted}
-use Rattle.jc_debug.specs.Invariant.{Seen, start_of, session_of, IsOnTrail, IsMoved}
+use Rattle.jc_debug.specs.Invariant.{Seen, start_of, session_of, IsDebugger, IsMoved}
 use Rattle.jc_debug.proofs.RepliesLemmas.{moved_session, arrived, stopped}
 use Rattle.jc_dump.specs.Dump.{dump_line}
 use Rattle.jc_dump.specs.Lines.{stuck_text, IsNamedStuck}
@@ -115,7 +115,7 @@ halted_named d e to net s all same (n, stops, told) =
       named = subst (λ (ns : List (List ℕ)). AreNamed told.event (length ns)) names (of_all (λ x. AreNamed x (length d.net.names)) d.schedule n told.event all told.stuck.is);
     }
 
-pub reply_step : (d e : Seen) (n m : ℕ) (text : List ℕ) → IsOnTrail e → length d.traces + n ≤ length d.schedule → IsMoved d e (length d.traces + n) → m ≡ length e.traces → text ≡ at_line m → GivesAnswer d (Q.step n) e text
+pub reply_step : (d e : Seen) (n m : ℕ) (text : List ℕ) → IsDebugger e → length d.traces + n ≤ length d.schedule → IsMoved d e (length d.traces + n) → m ≡ length e.traces → text ≡ at_line m → GivesAnswer d (Q.step n) e text
 reply_step d e n m text trail le moves at h =
     gives_moved d e (length d.traces + n) (Q.step n) text moves
     (same_text (origin_in d) (session_of d) (moved_to (session_of d) (length d.traces + n)) (Q.step n) (at_line (length d.traces + n)) text (at_end_of d e (length d.traces + n) m text moves at h)
@@ -128,7 +128,7 @@ reply_step_stuck d e n m net s text le halted at same told =
     (same_text (origin_in d) (session_of d) (moved_to (session_of d) st.position) (Q.step n) (at_line st.position ++ stuck_text d.net.names st.why st.event) text (stuck_at d e st.position m net s st.why st.event text st.moved at same st.is told)
     (A.steps le st.goes))
 
-pub reply_goto : (d e : Seen) (n m : ℕ) (text : List ℕ) → IsOnTrail e → n ≤ length d.schedule → IsMoved d e n → m ≡ length e.traces → text ≡ at_line m → GivesAnswer d (Q.goto n) e text
+pub reply_goto : (d e : Seen) (n m : ℕ) (text : List ℕ) → IsDebugger e → n ≤ length d.schedule → IsMoved d e n → m ≡ length e.traces → text ≡ at_line m → GivesAnswer d (Q.goto n) e text
 reply_goto d e n m text trail le moves at h =
     gives_moved d e n (Q.goto n) text moves
     (same_text (origin_in d) (session_of d) (moved_to (session_of d) n) (Q.goto n) (at_line n) text (at_end_of d e n m text moves at h) (A.goes_to le (arrived d e n trail moves)))
@@ -191,7 +191,7 @@ TellsEnd m net (E.Break k) text = text ≡ at_line m ++ (codes "break " ++ decim
 TellsEnd m net (E.Stuck s) text = TellsStuck m net s text
 TellsEnd m net E.End text = text ≡ at_line m ++ codes "end\n"
 
-before_end : (d e : Seen) (end : RunEnd) → IsOnTrail e → (length d.traces ≡ length d.schedule → ⊥) → RunMoves d e end → length d.traces < length d.schedule
+before_end : (d e : Seen) (end : RunEnd) → IsDebugger e → (length d.traces ≡ length d.schedule → ⊥) → RunMoves d e end → length d.traces < length d.schedule
 before_end d e end trail other r =
     let there = r.runs.forward in
     let within = r.runs.is_at.within in
@@ -221,7 +221,7 @@ run_is d e end end_is is r = subst (λ (x : RunEnd). RunMoves d e x) is r
 pub not_at_end : (d : Seen) (end : RunEnd) → ((◌≡◌ {A = Result RunEnd RunFault} (Ok end) (Err RF.AtEnd)) ↔ (length d.traces ≡ length d.schedule)) → length d.traces ≡ length d.schedule → ⊥
 not_at_end d end exactly h = let e : ◌≡◌ {A = Result RunEnd RunFault} (Ok end) (Err RF.AtEnd) = exactly.1 h in cc
 
-pub reply_run : (d e : Seen) (end : RunEnd) (m : ℕ) (net : Course) (text : List ℕ) → IsOnTrail e → (length d.traces ≡ length d.schedule → ⊥) → RunMoves d e end → m ≡ length e.traces → net ≡ e.net → TellsEnd m net end text → GivesAnswer d Q.run e text
+pub reply_run : (d e : Seen) (end : RunEnd) (m : ℕ) (net : Course) (text : List ℕ) → IsDebugger e → (length d.traces ≡ length d.schedule → ⊥) → RunMoves d e end → m ≡ length e.traces → net ≡ e.net → TellsEnd m net end text → GivesAnswer d Q.run e text
 reply_run d e end m net text trail other r at same h =
     gives_moved d e r.position Q.run text r.moved
     (same_text (origin_in d) (session_of d) (moved_to (session_of d) r.position) Q.run (ran_text d.net.names r.position r.outcome) text (ran_is d e end m net text at same r h)
@@ -241,7 +241,7 @@ ran_named d e net s all same r =
 
 -- ---- events of a line
 
-pub reply_act : (d e : Seen) (rest text : List ℕ) (event : Event) (m : ℕ) → IsEventText (start_of d).version d.net.names rest event → IsOnTrail e → IsActed d e event → m ≡ length e.traces → text ≡ at_line m → GivesAnswer d (Q.act rest) e text
+pub reply_act : (d e : Seen) (rest text : List ℕ) (event : Event) (m : ℕ) → IsEventText (start_of d).version d.net.names rest event → IsDebugger e → IsActed d e event → m ≡ length e.traces → text ≡ at_line m → GivesAnswer d (Q.act rest) e text
 reply_act d e rest text event m spelled trail a at h =
     let position : length e.traces ≡ length d.traces + 1 = ap (λ (S : Session). S.position) a.session in
     let within = trail.within in
@@ -290,18 +290,18 @@ reply_misspelled d net version names rest text of at same is h =
     let named = subst (λ (ns : List (List ℕ)). A.IsMisspelled version ns rest text) (is ∙ ap (λ (c : Course). c.names) same) h in
     record { replies = A.acts_misspelled (subst (λ (v : Version). A.IsMisspelled v d.net.names rest text) (same_version d net version of at) named); origin = refl }
 
-pub reply_act_stuck : (d e : Seen) (rest text : List ℕ) (event : Event) (m : ℕ) (net : Course) (s : Stuck) → IsEventText (start_of d).version d.net.names rest event → IsOnTrail e → (length d.traces ≡ 100000 → ⊥) → e ≡ d → IsStuckHere d event s → m ≡ length e.traces → net ≡ e.net → TellsStuck m net s text → GivesAnswer d (Q.act rest) e text
+pub reply_act_stuck : (d e : Seen) (rest text : List ℕ) (event : Event) (m : ℕ) (net : Course) (s : Stuck) → IsEventText (start_of d).version d.net.names rest event → IsDebugger e → (length d.traces ≡ 100000 → ⊥) → e ≡ d → IsStuckHere d event s → m ≡ length e.traces → net ≡ e.net → TellsStuck m net s text → GivesAnswer d (Q.act rest) e text
 reply_act_stuck d e rest text event m net s spelled trail other same here at net_is told =
     let why = here.stuck.why in
     let number : m ≡ length d.traces = at ∙ ap (λ (v : Seen). length v.traces) same in
     let names : net.names ≡ d.net.names = ap (λ (c : Course). c.names) net_is ∙ ap (λ (v : Seen). v.net.names) same in
     let due : text ≡ at_line (length d.traces) ++ stuck_text d.net.names why event = told why event here.stuck.is ∙ (λ i. at_line (number i) ++ stuck_text (names i) why event) in
-    let trail_before : IsOnTrail d = subst IsOnTrail same trail in
+    let trail_before : IsDebugger d = subst IsDebugger same trail in
     gives_same d e (Q.act rest) text same
     (same_text (origin_in d) (session_of d) (session_of d) (Q.act rest) (at_line (length d.traces) ++ stuck_text d.net.names why event) text due
     (A.acts event spelled (A.stuck why d.net.network (less trail_before) here.is_at here.stuck.stuck)))
   where
-    less : IsOnTrail d → length d.traces < 100000
+    less : IsDebugger d → length d.traces < 100000
     less h = by_order (cases_lt (length d.traces) 100000) h.within h.short
       where
         by_order : (length d.traces < 100000) ⊎ (100000 ≤ length d.traces) → length d.traces ≤ length d.schedule → length d.schedule ≤ 100000 → length d.traces < 100000

@@ -5,7 +5,7 @@ use Rattle.jc_scenario.specs.Views.{scenario_view, scripts_view}
 use Rattle.jc_network.specs.declared.fault.StartFault.TheVariants as S
 use Rattle.jc_network.specs.NetworkHistory.{Course, network_of, of_version}
 use Rattle.jc_network.specs.Given.{IsStarted, IsGivenFault}
-use Rattle.jc_network.specs.Invariant.{IsKeptNet}
+use Rattle.jc_network.specs.Invariant.{IsNet}
 use Rattle.jc_network.specs.Start.{pasts_from}
 use Rattle.jc_network.proofs.StepsLemmas.{at_err}
 use Rattle.jc_network.proofs.StartLemmas.{starts_in_run, real_start, short_scripts}
@@ -22,9 +22,9 @@ invariant_of-net c =
     let few = c.requires.few in
     let count : length names ≡ length scripts = ap length (c.in_ok-names.ensures ∙ c.deref.ensures.value) ∙ sym each in
     let whole = starts_in_run version scripts (short_scripts scripts (omega (arith, each, few)) c.requires.formed) in
-    subst (λ ps. IsKeptNet version (length names) (reverse c.new.result.items) ps) (sym made)
-    (subst (λ w. IsKeptNet version (length names) w (pasts_from 0 scripts)) (sym none)
-    (subst (λ n. IsKeptNet version n [] (pasts_from 0 scripts)) (sym count) whole))
+    subst (λ ps. IsNet version (length names) (reverse c.new.result.items) ps) (sym made)
+    (subst (λ w. IsNet version (length names) w (pasts_from 0 scripts)) (sym none)
+    (subst (λ n. IsNet version n [] (pasts_from 0 scripts)) (sym count) whole))
 
 -- the first given event that is stuck, from the start of the scripts on
 pub returns-in_err-lead-clause-given : goal.returns-in_err-lead-clause-given
