@@ -21,3 +21,5 @@ pub mod ArenaHistoryLemmas
 pub mod ArenaCallsLemmas
 pub mod ArenaPlacesLemmas
 pub mod CountedLemmas
+pub mod ShownLemmas
+pub mod ColumnLemmas

@@ -4,8 +4,10 @@
 
 mod arena;
 mod arena_node;
+mod columns;
 mod entries;
 mod ids;
+mod keys;
 pub mod laws;
 mod lists;
 mod node;
