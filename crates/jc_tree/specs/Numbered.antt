@@ -23,8 +23,8 @@ with_key k t = record { keys = t.keys ++ k ∷ []; order = put key_cmp k (length
 
 -- The key has the number: it had it before, or it had none and is the one key more.
 pub data GetsNumber (k : Key) (n : ℕ) (old new : Numbering) : Type 0 where
-  pub had : find key_cmp k old.order ≡ Some n → new ≡ old → GetsNumber k n old new
-  pub gets : find key_cmp k old.order ≡ None → n ≡ length old.keys → new ≡ with_key k old → GetsNumber k n old new
+  had : find key_cmp k old.order ≡ Some n → new ≡ old → GetsNumber k n old new
+  gets : find key_cmp k old.order ≡ None → n ≡ length old.keys → new ≡ with_key k old → GetsNumber k n old new
 
 -- what a column has at a number: nothing past its end
 abbrev pub at_number : {X : Type 0} → List (Option X) → ℕ → Option X
