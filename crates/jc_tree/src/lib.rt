@@ -12,7 +12,6 @@ pub mod laws;
 mod lists;
 mod node;
 mod plain;
-mod presences;
 mod store;
 mod tables;
 
