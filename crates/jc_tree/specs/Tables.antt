@@ -6,12 +6,12 @@ use Rattle.jc_rules.specs.declared.key.Next.{Next}
 use Rattle.jc_rules.specs.Context.{Register}
 use Rattle.jc_tree.specs.Tree.{count_present}
 use Rattle.jc_tree.specs.Arena.{Flat}
-use Rattle.jc_tree.specs.Numbered.{Numbering, GetsNumber, at_number, column_entries}
+use Rattle.jc_tree.specs.Numbered.{Numbering, IsNumbered, GetsNumber, at_number, column_entries}
 
 -- the keys are as they were, but that the key may have got a number
 pub data MayNumber (k : Key) (old new : Numbering) : Type 0 where
   same : new ≡ old → MayNumber k old new
-  numbers : (n : ℕ) → GetsNumber k n old new → MayNumber k old new
+  numbers : (n : ℕ) → IsNumbered old → GetsNumber k n old new → MayNumber k old new
 
 -- what is seen of the columns of a node
 abbrev pub flat_of : Numbering → List (Option ℕ) → List (Option ℕ) → List (Option Register) → List (Option (List Id)) → List (Option Next) → Flat

@@ -1,11 +1,12 @@
 //! The keys of a fast store's node, numbered by first use, with their order beside.
 
-ghost use Rattle.std.specs.Prelude.{◌≡◌, ◌<◌, ℕ, [], Some, None, length, slice_get, option_copied, option_map, IsTrue, ◌↔◌, IfOk, OnErr, take};
+ghost use Rattle.std.specs.Prelude.{◌≡◌, ◌<◌, ℕ, [], Some, None, length, slice_get, option_copied, option_map, IsTrue, ◌↔◌, IfOk, IfSome, OnErr, take};
+ghost use Rattle.jc_rules.specs.declared.key.Key.{Key as AnyKey};
 ghost use Rattle.jc_rules.specs.Order.{key_cmp};
 ghost use Rattle.jc_rules.specs.Entries.{find, keys_of};
 ghost use Rattle.jc_tree.specs.Tree.{least_after};
 ghost use Rattle.jc_tree.specs.Undo.{removed};
-ghost use Rattle.jc_tree.specs.Numbered.{GetsNumber};
+ghost use Rattle.jc_tree.specs.Numbered.{GetsNumber, IsNumbered};
 
 use indexmap::IndexSet;
 use jc_rules::Key;
@@ -50,14 +51,16 @@ impl KeyTable {
 
     /// The key's number.
     pub fn number(&self, key: &Key) -> Option<usize>
-        ensures { result ≡ find key_cmp key.now self.now.order }
+        ensures found { result ≡ find key_cmp key.now self.now.order }
+        ensures numbered { IsNumbered self.now }
     {
         self.keys.get_index_of(key)
     }
 
     /// The key's number, which may be the given one: then no search is needed.
     pub fn number_near(&self, key: &Key, hint: usize) -> Option<usize>
-        ensures { result ≡ find key_cmp key.now self.now.order }
+        ensures found { result ≡ find key_cmp key.now self.now.order }
+        ensures numbered { IsNumbered self.now }
     {
         match self.keys.get_index(hint) {
             Some(there) if there == key => Some(hint),
@@ -69,6 +72,7 @@ impl KeyTable {
     pub fn number_of(&mut self, key: &Key) -> Result<usize, AllocError>
         ensures ok { IfOk result (λ n. GetsNumber key.now n self.old self.new) }
         ensures err { OnErr result (self.new ≡ self.old) }
+        ensures numbered { IsNumbered self.old × IsNumbered self.new }
     {
         if let Some(number) = self.number(key) {
             return Ok(number);
@@ -86,6 +90,7 @@ impl KeyTable {
         ensures keys { self.new.keys ≡ take (length self.old.keys - 1) self.old.keys }
         ensures order { (k : AnyKey) → slice_get self.old.keys (length self.old.keys - 1) ≡ Some k
             → self.new.order ≡ removed key_cmp k self.old.order }
+        ensures numbered { IsNumbered self.old }
     {
         if let Some(key) = self.keys.pop() {
             self.order.remove(&key);
@@ -97,6 +102,7 @@ impl KeyTable {
         ensures key { option_map (λ p. p.0.now) result
             ≡ least_after (option_copied after.entry) (keys_of self.now.order) }
         ensures number { IfSome result (λ p. find key_cmp p.0.now self.now.order ≡ Some p.1) }
+        ensures numbered { IsNumbered self.now }
     {
         let (key, number) = match after {
             None => self.order.first_key_value()?,
