@@ -7,15 +7,8 @@ use Rattle.jc_tree.specs.Arena.{go_on}
 use Rattle.jc_tree.specs.Sorted.{AreSorted}
 use Rattle.jc_tree.specs.Tree.{least_after}
 use Rattle.jc_tree.specs.Undo.{removed, restored}
+pub use Rattle.jc_tree.proofs.NumberedLemmas.{number_within, keys_grow, has_number, one_key, no_keys, popped_numbered}
 use Rattle.jc_tree.specs.Numbered.{Numbering, IsNumbered, GetsNumber, at_number, IsSetAt, column_entries}
-
--- the number that a key gets is one of the numbers
-pub number_within : (k : Key) (n : ℕ) (old new : Numbering) → IsNumbered new → GetsNumber k n old new → n < length new.keys
-number_within k n old new i g = ?
-
--- there are no fewer keys than before
-pub keys_grow : (k : Key) (n : ℕ) (old new : Numbering) → GetsNumber k n old new → length old.keys ≤ length new.keys
-keys_grow k n old new g = ?
 
 module _ {X : Type 0} where
   -- nothing is past the end of a column
@@ -76,11 +69,3 @@ module _ {X : Type 0} where
   -- where it has nothing there, the next key of the entries is the one after it
   pub further_above_column : (after : Option Key) (k : Key) (n : ℕ) (col : List (Option X)) (t : Numbering) → IsNumbered t → least_after after (keys_of t.order) ≡ Some k → find key_cmp k t.order ≡ Some n → at_number col n ≡ None → least_after after (keys_of (column_entries col t)) ≡ least_after (Some k) (keys_of (column_entries col t))
   further_above_column after k n col t i h f a = ?
-
--- the numbering without its last key is one again
-pub popped_numbered : (k : Key) (old new : Numbering) → IsNumbered old → slice_get old.keys (length old.keys - 1) ≡ Some k → new.keys ≡ take (length old.keys - 1) old.keys → new.order ≡ removed key_cmp k old.order → IsNumbered new
-popped_numbered k old new i h t o = ?
-
--- a numbering without keys has nothing in its order
-pub no_keys : (t : Numbering) → IsNumbered t → t.keys ≡ [] → t.order ≡ []
-no_keys t i h = ?

@@ -22,4 +22,5 @@ pub mod ArenaCallsLemmas
 pub mod ArenaPlacesLemmas
 pub mod CountedLemmas
 pub mod ShownLemmas
+pub mod NumberedLemmas
 pub mod ColumnLemmas
