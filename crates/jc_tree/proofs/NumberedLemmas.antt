@@ -1,5 +1,5 @@
 -- About Numbered: keys with their numbers.
-use Rattle.std.proofs.Common.{◌≡◌, ◌≢◌, ◌<◌, ◌≤◌, ◌-◌, ◌+◌, ◌↔◌, ℕ, zero, suc, List, [], ◌∷◌, ◌++◌, length, take, get_or, slice_get, position, Option, Some, None, is_some, Bool, true, false, cond, refl, sym, ◌∙◌, ap, subst, true≢false, arith}
+use Rattle.std.proofs.Common.{◌≡◌, ◌≢◌, ◌<◌, ◌≤◌, ◌-◌, ◌+◌, ◌↔◌, ◌⊎◌, inl, inr, ℕ, zero, suc, List, [], ◌∷◌, ◌++◌, length, take, get_or, slice_get, position, Option, Some, None, is_some, Bool, true, false, cond, refl, sym, ◌∙◌, ap, subst, true≢false, arith}
 use Rattle.std.specs.List.{AllByRecursion, list_any}
 use Rattle.std.specs.Ordering.{eq_by_cmp}
 use Rattle.std.specs.declared.cmp.Ordering.{Ordering}
@@ -7,12 +7,12 @@ use Rattle.std.specs.declared.cmp.Ordering.TheVariants.{Less, Equal, Greater}
 use Rattle.std.proofs.lemmas.List.{length-append}
 use Rattle.std.proofs.lemmas.List.Folds.{list_any_at}
 use Rattle.std.proofs.lemmas.List.Quantifiers.{position-Some}
-use Rattle.std.proofs.lemmas.Option.{same_Some, slice_get_past, slice_get_within, slice_get-get_or, get_or_from_slice_get}
+use Rattle.std.proofs.lemmas.Option.{same_Some, slice_get_past, slice_get_within, slice_get-get_or, get_or_from_slice_get, slice_get_cases}
 use Rattle.jc_rules.specs.declared.key.Key.{Key}
 use Rattle.jc_rules.specs.Order.{key_cmp}
 use Rattle.jc_rules.specs.Entries.{IsRising, keys_of, find, put}
 use Rattle.jc_rules.proofs.OrderLemmas.{keys_total, exact_keys}
-use Rattle.jc_rules.proofs.EntriesLemmas.{same-self, same-eq, find-put, found-put, rising-put}
+use Rattle.jc_rules.proofs.EntriesLemmas.{same-self, same-back, same-eq, find-put, found-put, rising-put}
 use Rattle.jc_rules.proofs.RisingLemmas.{less_greater}
 use Rattle.jc_tree.specs.Sorted.{AreSorted}
 use Rattle.jc_tree.specs.Undo.{removed}
@@ -48,6 +48,11 @@ get_taken xs zero n h = absurd (omega (arith, h))
 get_taken [] (suc m) n h = refl
 get_taken (x ∷ xs) (suc m) zero h = refl
 get_taken (x ∷ xs) (suc m) (suc n) h = get_taken xs m n (omega (arith, h))
+
+pub length_taken : {X : Type 0} (m : ℕ) (xs : List X) → length (take m xs) ≤ m
+length_taken zero xs = omega arith
+length_taken (suc m) [] = omega arith
+length_taken (suc m) (x ∷ xs) = omega (arith, length_taken m xs)
 
 -- the number of a key that is found, and the key of a number
 pub key_at : (t : Numbering) → IsNumbered t → (k : Key) (n : ℕ) → find key_cmp k t.order ≡ Some n → slice_get t.keys n ≡ Some k
@@ -124,20 +129,52 @@ with_key_numbered k t i f = record
         within l = number_at t i j n (sym (get_left t.keys (k ∷ []) n l) ∙ h)
 
         at_end : j ≡ k → n ≡ length t.keys
-        at_end e = ?
+        at_end e = by (slice_get_cases t.keys n).1
+          where
+            by : (((x : Key) × (n < length t.keys) × (slice_get t.keys n ≡ Some x) × (get_or t.keys n x ≡ x)) ⊎ ((length t.keys ≤ n) × (slice_get t.keys n ≡ None))) → n ≡ length t.keys
+            by (inl c) = let d : None ≡ Some n = sym f ∙ ap (λ i. find key_cmp i t.order) (sym e) ∙ within c.1 in cc
+            by (inr c) =
+                let w : n < length (t.keys ++ k ∷ []) = slice_get_within (t.keys ++ k ∷ []) n j h in
+                let l : length (t.keys ++ k ∷ []) ≡ length t.keys + 1 = length-append t.keys (k ∷ []) in
+                omega (arith, w, l, c.0)
 
         go : (b : Bool) → same j k ≡ b → cond (same j k) (Some (length t.keys)) (find key_cmp j t.order) ≡ Some n
         go true e = ap (λ b. cond b (Some (length t.keys)) (find key_cmp j t.order)) e ∙ ap Some (sym (at_end (equal j k e)))
         go false e = ap (λ b. cond b (Some (length t.keys)) (find key_cmp j t.order)) e ∙ within (get_in_last t.keys k j n h (λ l. true≢false (sym (self j) ∙ ap (same j) (sym (last l)) ∙ e)))
 
 module _ {X : Type 0} where
-  rising_behind : (k : Key) (e : Key × X) (es : List (Key × X)) → AllByRecursion (λ j. key_cmp k j ≡ Less) (keys_of es) → find key_cmp k es ≡ None
-  rising_behind k e [] a = refl
-  rising_behind k e (f ∷ es) a = rw a.0 (rising_behind k e es a.1)
+  none_behind : (k : Key) (es : List (Key × X)) → AllByRecursion (λ j. key_cmp k j ≡ Less) (keys_of es) → find key_cmp k es ≡ None
+  none_behind k [] a = refl
+  none_behind k (f ∷ es) a = rw a.0 (none_behind k es a.1)
 
   -- what is found without an entry
   find_removed : (j k : Key) (es : List (Key × X)) → AreSorted es → find key_cmp j (removed key_cmp k es) ≡ cond (same j k) None (find key_cmp j es)
-  find_removed j k es h = ?
+  find_removed j k [] h = go (same j k)
+    where
+      go : (b : Bool) → None ≡ cond b None None
+      go true = refl
+      go false = refl
+  find_removed j k (e ∷ es) h = go (same k e.0) refl (same j e.0) refl (find_removed j k es h.1)
+    where
+      either : (b : Bool) (o : Option X) → o ≡ None → o ≡ cond b None o
+      either true o n = n
+      either false o n = refl
+
+      go : (b : Bool) → same k e.0 ≡ b → (c : Bool) → same j e.0 ≡ c → find key_cmp j (removed key_cmp k es) ≡ cond (same j k) None (find key_cmp j es) → find key_cmp j (removed key_cmp k (e ∷ es)) ≡ cond (same j k) None (find key_cmp j (e ∷ es))
+      go true q true r ih =
+          let s : k ≡ e.0 = equal k e.0 q in
+          let u : j ≡ e.0 = equal j e.0 r in
+          let d : same j k ≡ true = ap (same j) s ∙ r in
+          rw (q, d) (ap (λ i. find key_cmp i es) u ∙ none_behind e.0 es h.0)
+      go true q false r ih =
+          let s : k ≡ e.0 = equal k e.0 q in
+          let d : same j k ≡ false = ap (same j) s ∙ r in
+          rw (q, d, r) refl
+      go false q true r ih =
+          let u : j ≡ e.0 = equal j e.0 r in
+          let d : same j k ≡ false = same-back keys_total exact_keys j k ∙ ap (same k) u ∙ q in
+          rw (q, d, r) refl
+      go false q false r ih = rw (q, r) ih
 
   all_removed : (P : Key → Type 0) (k : Key) (es : List (Key × X)) → AllByRecursion P (keys_of es) → AllByRecursion P (keys_of (removed key_cmp k es))
   all_removed P k [] a = tt
@@ -169,4 +206,46 @@ no_keys t i h = go t.order refl
 
 -- the numbering without its last key is one
 pub popped_numbered : (k : Key) (old new : Numbering) → IsNumbered old → slice_get old.keys (length old.keys - 1) ≡ Some k → new.keys ≡ take (length old.keys - 1) old.keys → new.order ≡ removed key_cmp k old.order → IsNumbered new
-popped_numbered k old new i h t o = ?
+popped_numbered k old new i h t o = subst IsNumbered (sym is) (record { rise = sorted_removed k old.order i.rise; same = λ j n. (there j n, back j n) })
+  where
+    abbrev m : ℕ
+    m = length old.keys - 1
+
+    abbrev popped : Numbering
+    popped = record { keys = take m old.keys; order = removed key_cmp k old.order }
+
+    is : new ≡ popped
+    is = λ a. record { keys = t a; order = o a }
+
+    found : (j : Key) → find key_cmp j (removed key_cmp k old.order) ≡ cond (same j k) None (find key_cmp j old.order)
+    found j = find_removed j k old.order i.rise
+
+    there : (j : Key) (n : ℕ) → find key_cmp j (removed key_cmp k old.order) ≡ Some n → slice_get (take m old.keys) n ≡ Some j
+    there j n f = go (same j k) refl
+      where
+        go : (b : Bool) → same j k ≡ b → slice_get (take m old.keys) n ≡ Some j
+        go true e = let c : None ≡ Some n = sym (ap (λ b. cond b None (find key_cmp j old.order)) e) ∙ sym (found j) ∙ f in cc
+        go false e =
+            let s : find key_cmp j old.order ≡ Some n = sym (ap (λ b. cond b None (find key_cmp j old.order)) e) ∙ sym (found j) ∙ f in
+            let g : slice_get old.keys n ≡ Some j = key_at old i j n s in
+            let w : n < length old.keys = slice_get_within old.keys n j g in
+            let d : n ≢ m = λ l. true≢false (sym (self j) ∙ ap (same j) (same_Some j k (sym g ∙ ap (slice_get old.keys) l ∙ h)) ∙ e) in
+            get_taken old.keys m n (omega (arith, w, d)) ∙ g
+
+    back : (j : Key) (n : ℕ) → slice_get (take m old.keys) n ≡ Some j → find key_cmp j (removed key_cmp k old.order) ≡ Some n
+    back j n g = found j ∙ go (same j k) refl
+      where
+        below : n < m
+        below =
+            let w : n < length (take m old.keys) = slice_get_within (take m old.keys) n j g in
+            let l : length (take m old.keys) ≤ m = length_taken m old.keys in
+            omega (arith, w, l)
+
+        s : find key_cmp j old.order ≡ Some n
+        s = number_at old i j n (sym (get_taken old.keys m n below) ∙ g)
+
+        go : (b : Bool) → same j k ≡ b → cond (same j k) None (find key_cmp j old.order) ≡ Some n
+        go true e =
+            let l : n ≡ m = same_Some n m (sym s ∙ ap (λ a. find key_cmp a old.order) (equal j k e) ∙ number_at old i k m h) in
+            absurd (omega (arith, l, below))
+        go false e = ap (λ b. cond b None (find key_cmp j old.order)) e ∙ s
