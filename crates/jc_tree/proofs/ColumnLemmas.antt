@@ -1,9 +1,9 @@
 -- About Numbered: the entries of a column, in the words of entries by key.
-use Rattle.std.proofs.Common.{◌≡◌, ◌<◌, ◌≤◌, ◌-◌, ◌⊎◌, inl, inr, ℕ, List, [], ◌∷◌, length, take, get_or, slice_get, Option, Some, None, Bool, true, false, refl, sym, ◌∙◌, ap, subst, true≢false, arith}
+use Rattle.std.proofs.Common.{◌≡◌, ◌≢◌, ◌<◌, ◌≤◌, ◌-◌, ◌+◌, ◌⊎◌, inl, inr, ℕ, zero, suc, List, [], ◌∷◌, ◌++◌, length, take, get_or, slice_get, Option, Some, None, Bool, true, false, refl, sym, ◌∙◌, ap, subst, true≢false, arith}
 use Rattle.std.specs.List.{AllByRecursion}
 use Rattle.std.specs.Ordering.{eq_by_cmp}
 use Rattle.std.specs.declared.cmp.Ordering.TheVariants.{Less}
-use Rattle.std.proofs.lemmas.List.{length-take-le}
+use Rattle.std.proofs.lemmas.List.{length-append, length-take-le}
 use Rattle.std.proofs.lemmas.Option.{slice_get_past, slice_get_within, slice_get_cases}
 use Rattle.jc_rules.specs.declared.key.Key.{Key}
 use Rattle.jc_rules.specs.Order.{key_cmp}
@@ -18,7 +18,7 @@ use Rattle.jc_tree.specs.Undo.{removed, restored}
 use Rattle.jc_tree.specs.Numbered.{Numbering, IsNumbered, GetsNumber, at_number, IsSetAt, shown, column_entries}
 use Rattle.jc_tree.specs.Numbered.GetsNumber.{had, gets}
 pub use Rattle.jc_tree.proofs.NumberedLemmas.{number_within, keys_grow, has_number, one_key, key_at, number_at, no_keys, popped_numbered}
-use Rattle.jc_tree.proofs.NumberedLemmas.{get_taken, length_taken}
+use Rattle.jc_tree.proofs.NumberedLemmas.{get_last, get_taken, length_taken}
 use Rattle.jc_tree.proofs.ShownLemmas.{rising-shown, find-shown, put-shown, take-shown, new-shown, gone-shown, same-shown}
 use Rattle.jc_tree.proofs.ShownLeastLemmas.{none-shown, there-shown, further-shown}
 use Rattle.jc_tree.proofs.SortedMapLemmas.{replaced_absent}
@@ -108,33 +108,55 @@ module _ {X : Type 0} where
   pub not_restored_blank : (k : Key) (n : ℕ) (former : Option X) (col : List (Option X)) (t : Numbering) → IsNumbered t → find key_cmp k t.order ≡ Some n → at_number col n ≡ None → restored key_cmp k former (column_entries col t) ≡ column_entries col t
   not_restored_blank k n former col t i f h = not_restored k former (column_entries col t) (find_column k col t i ∙ ap (λ o. go_on o (λ n. at_number col n)) f ∙ h)
 
-  -- the last key that goes, where the column has nothing at its number, takes no entry with it
-  pub popped_column : (k : Key) (col : List (Option X)) (old new : Numbering) → IsNumbered old → slice_get old.keys (length old.keys - 1) ≡ Some k → new.order ≡ removed key_cmp k old.order → at_number col (length old.keys - 1) ≡ None → column_entries (take (length old.keys - 1) col) new ≡ column_entries col old
-  popped_column k col old new i h o a =
-      ap (λ es. shown (λ n. at_number (take m col) n) es) o
-      ∙ gone-shown keys_total exact_keys k m (λ n. at_number (take m col) n) old.order (number_at old i k m h) cut
-      ∙ same-shown keys_total exact_keys (λ n. at_number col n) (λ n. at_number (take m col) n) old.order (each_found (λ e. at_number (take m col) e.1 ≡ at_number col e.1) old.order i.rise stays)
+  -- without the last key, which has the number m and nothing in the column
+  column_below : (k : Key) (m : ℕ) (col : List (Option X)) (t : Numbering) → IsNumbered t → length t.keys ≡ m + 1 → slice_get t.keys m ≡ Some k → at_number col m ≡ None → shown (λ n. at_number (take m col) n) (removed key_cmp k t.order) ≡ column_entries col t
+  column_below k m col t i l h a =
+      gone-shown keys_total exact_keys k m (λ n. at_number (take m col) n) t.order (number_at t i k m h) cut
+      ∙ same-shown keys_total exact_keys (λ n. at_number col n) (λ n. at_number (take m col) n) t.order (each_found (λ e. at_number (take m col) e.1 ≡ at_number col e.1) t.order i.rise stays)
     where
-      abbrev m : ℕ
-      m = length old.keys - 1
-
       cut : at_number (take m col) m ≡ None
       cut = past_column (take m col) m (length_taken m col)
 
-      stays : (e : Key × ℕ) → find key_cmp e.0 old.order ≡ Some e.1 → at_number (take m col) e.1 ≡ at_number col e.1
-      stays e f = by (slice_get_cases (take m old.keys) e.1).1
+      stays : (e : Key × ℕ) → find key_cmp e.0 t.order ≡ Some e.1 → at_number (take m col) e.1 ≡ at_number col e.1
+      stays e f = by (slice_get_cases (take m t.keys) e.1).1
         where
-          w : e.1 < length old.keys
-          w = slice_get_within old.keys e.1 e.0 (key_at old i e.0 e.1 f)
+          w : e.1 < length t.keys
+          w = slice_get_within t.keys e.1 e.0 (key_at t i e.0 e.1 f)
 
-          by : (((x : Key) × (e.1 < length (take m old.keys)) × (slice_get (take m old.keys) e.1 ≡ Some x) × (get_or (take m old.keys) e.1 x ≡ x)) ⊎ ((length (take m old.keys) ≤ e.1) × (slice_get (take m old.keys) e.1 ≡ None))) → at_number (take m col) e.1 ≡ at_number col e.1
+          by : (((x : Key) × (e.1 < length (take m t.keys)) × (slice_get (take m t.keys) e.1 ≡ Some x) × (get_or (take m t.keys) e.1 x ≡ x)) ⊎ ((length (take m t.keys) ≤ e.1) × (slice_get (take m t.keys) e.1 ≡ None))) → at_number (take m col) e.1 ≡ at_number col e.1
           by (inl c) =
-              let l : length (take m old.keys) ≤ m = length_taken m old.keys in
-              ap (λ o. go_on o (λ o. o)) (get_taken col m e.1 (omega (arith, l, c.1)))
+              let u : length (take m t.keys) ≤ m = length_taken m t.keys in
+              ap (λ o. go_on o (λ o. o)) (get_taken col m e.1 (omega (arith, u, c.1)))
           by (inr c) =
-              let l : length (take m old.keys) ≡ m = length-take-le m old.keys (omega arith) in
-              let z : e.1 ≡ m = omega (arith, w, l, c.0) in
+              let u : length (take m t.keys) ≡ m = length-take-le m t.keys (omega (arith, l)) in
+              let z : e.1 ≡ m = omega (arith, w, u, l, c.0) in
               ap (at_number (take m col)) z ∙ cut ∙ sym (ap (at_number col) z ∙ a)
+
+  -- the last key that goes, where the column has nothing at its number, takes no entry with it
+  pub popped_column : (k : Key) (col : List (Option X)) (old new : Numbering) → IsNumbered old → slice_get old.keys (length old.keys - 1) ≡ Some k → new.order ≡ removed key_cmp k old.order → at_number col (length old.keys - 1) ≡ None → column_entries (take (length old.keys - 1) col) new ≡ column_entries col old
+  popped_column k col old new i h o a =
+      let w : length old.keys - 1 < length old.keys = slice_get_within old.keys (length old.keys - 1) k h in
+      ap (λ es. shown (λ n. at_number (take (length old.keys - 1) col) n) es) o ∙ column_below k (length old.keys - 1) col old i (omega (arith, w)) h a
+
+  -- a blank at the end changes nothing
+  pub push_blank : (col : List (Option X)) (n : ℕ) → at_number (col ++ None ∷ []) n ≡ at_number col n
+  push_blank [] zero = refl
+  push_blank [] (suc n) = refl
+  push_blank (o ∷ col) zero = refl
+  push_blank (o ∷ col) (suc n) = push_blank col n
+
+  before_end : (col : List (Option X)) (o : Option X) (n : ℕ) → n ≢ length col → at_number (col ++ o ∷ []) n ≡ at_number col n
+  before_end [] o zero d = absurd (d refl)
+  before_end [] o (suc n) d = refl
+  before_end (p ∷ col) o zero d = refl
+  before_end (p ∷ col) o (suc n) d = before_end col o n (λ q. d (ap suc q))
+
+  -- a value at the end is set there
+  pub push_value : (x : X) (old col : List (Option X)) (n : ℕ) → length col ≡ n → ((m : ℕ) → at_number col m ≡ at_number old m) → IsSetAt n (Some x) old (col ++ Some x ∷ [])
+  push_value x old col n l s = record
+    { here = ap (λ m. at_number (col ++ Some x ∷ []) m) (sym l) ∙ ap (λ o. go_on o (λ o. o)) (get_last col (Some x))
+    ; others = λ m d. before_end col (Some x) m (λ q. d (q ∙ l)) ∙ s m
+    ; within = λ most h g. let u : length (col ++ Some x ∷ []) ≡ length col + 1 = length-append col (Some x ∷ []) in omega (arith, u, l, g) }
 
   -- where no key of the order comes after the given one, no key of the entries does
   pub none_above_column : (after : Option Key) (col : List (Option X)) (t : Numbering) → IsNumbered t → least_after after (keys_of t.order) ≡ None → least_after after (keys_of (column_entries col t)) ≡ None

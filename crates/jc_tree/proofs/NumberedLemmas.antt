@@ -1,5 +1,5 @@
 -- About Numbered: keys with their numbers.
-use Rattle.std.proofs.Common.{◌≡◌, ◌≢◌, ◌<◌, ◌≤◌, ◌-◌, ◌+◌, ◌↔◌, ◌⊎◌, inl, inr, ℕ, zero, suc, List, [], ◌∷◌, ◌++◌, length, take, get_or, slice_get, position, Option, Some, None, is_some, Bool, true, false, cond, refl, sym, ◌∙◌, ap, subst, true≢false, arith}
+use Rattle.std.proofs.Common.{◌≡◌, ◌≢◌, ◌<◌, ◌≤◌, ◌-◌, ◌+◌, ◌⊎◌, inl, inr, ℕ, zero, suc, List, [], ◌∷◌, ◌++◌, length, take, get_or, slice_get, position, Option, Some, None, is_some, Bool, true, false, cond, refl, sym, ◌∙◌, ap, subst, true≢false, arith}
 use Rattle.std.specs.List.{AllByRecursion, list_any}
 use Rattle.std.specs.Ordering.{eq_by_cmp}
 use Rattle.std.specs.declared.cmp.Ordering.{Ordering}
@@ -33,7 +33,7 @@ get_left [] ys n h = absurd (omega (arith, h))
 get_left (x ∷ xs) ys zero h = refl
 get_left (x ∷ xs) ys (suc n) h = get_left xs ys n (omega (arith, h))
 
-get_last : {X : Type 0} (xs : List X) (x : X) → slice_get (xs ++ x ∷ []) (length xs) ≡ Some x
+pub get_last : {X : Type 0} (xs : List X) (x : X) → slice_get (xs ++ x ∷ []) (length xs) ≡ Some x
 get_last [] x = refl
 get_last (y ∷ xs) x = get_last xs x
 
@@ -151,15 +151,11 @@ module _ {X : Type 0} where
   find_removed : (j k : Key) (es : List (Key × X)) → AreSorted es → find key_cmp j (removed key_cmp k es) ≡ cond (same j k) None (find key_cmp j es)
   find_removed j k [] h = go (same j k)
     where
-      go : (b : Bool) → None ≡ cond b None None
+      go : (b : Bool) → find key_cmp {X = X} j [] ≡ cond b None (find key_cmp {X = X} j [])
       go true = refl
       go false = refl
   find_removed j k (e ∷ es) h = go (same k e.0) refl (same j e.0) refl (find_removed j k es h.1)
     where
-      either : (b : Bool) (o : Option X) → o ≡ None → o ≡ cond b None o
-      either true o n = n
-      either false o n = refl
-
       go : (b : Bool) → same k e.0 ≡ b → (c : Bool) → same j e.0 ≡ c → find key_cmp j (removed key_cmp k es) ≡ cond (same j k) None (find key_cmp j es) → find key_cmp j (removed key_cmp k (e ∷ es)) ≡ cond (same j k) None (find key_cmp j (e ∷ es))
       go true q true r ih =
           let s : k ≡ e.0 = equal k e.0 q in
@@ -204,48 +200,47 @@ no_keys t i h = go t.order refl
         let n : None ≡ Some e.0 = sym (ap (λ ks. slice_get ks e.1) h) ∙ g in
         cc
 
--- the numbering without its last key is one
-pub popped_numbered : (k : Key) (old new : Numbering) → IsNumbered old → slice_get old.keys (length old.keys - 1) ≡ Some k → new.keys ≡ take (length old.keys - 1) old.keys → new.order ≡ removed key_cmp k old.order → IsNumbered new
-popped_numbered k old new i h t o = subst IsNumbered (sym is) (record { rise = sorted_removed k old.order i.rise; same = λ j n. (there j n, back j n) })
+-- without the last key, which has the number m
+numbered_below : (k : Key) (m : ℕ) (t : Numbering) → IsNumbered t → length t.keys ≡ m + 1 → slice_get t.keys m ≡ Some k → IsNumbered (record { keys = take m t.keys; order = removed key_cmp k t.order })
+numbered_below k m t i l h = record { rise = sorted_removed k t.order i.rise; same = λ j n. (there j n, back j n) }
   where
-    abbrev m : ℕ
-    m = length old.keys - 1
+    found : (j : Key) → find key_cmp j (removed key_cmp k t.order) ≡ cond (same j k) None (find key_cmp j t.order)
+    found j = find_removed j k t.order i.rise
 
-    abbrev popped : Numbering
-    popped = record { keys = take m old.keys; order = removed key_cmp k old.order }
-
-    is : new ≡ popped
-    is = λ a. record { keys = t a; order = o a }
-
-    found : (j : Key) → find key_cmp j (removed key_cmp k old.order) ≡ cond (same j k) None (find key_cmp j old.order)
-    found j = find_removed j k old.order i.rise
-
-    there : (j : Key) (n : ℕ) → find key_cmp j (removed key_cmp k old.order) ≡ Some n → slice_get (take m old.keys) n ≡ Some j
+    there : (j : Key) (n : ℕ) → find key_cmp j (removed key_cmp k t.order) ≡ Some n → slice_get (take m t.keys) n ≡ Some j
     there j n f = go (same j k) refl
       where
-        go : (b : Bool) → same j k ≡ b → slice_get (take m old.keys) n ≡ Some j
-        go true e = let c : None ≡ Some n = sym (ap (λ b. cond b None (find key_cmp j old.order)) e) ∙ sym (found j) ∙ f in cc
+        go : (b : Bool) → same j k ≡ b → slice_get (take m t.keys) n ≡ Some j
+        go true e = let c : None ≡ Some n = sym (ap (λ b. cond b None (find key_cmp j t.order)) e) ∙ sym (found j) ∙ f in cc
         go false e =
-            let s : find key_cmp j old.order ≡ Some n = sym (ap (λ b. cond b None (find key_cmp j old.order)) e) ∙ sym (found j) ∙ f in
-            let g : slice_get old.keys n ≡ Some j = key_at old i j n s in
-            let w : n < length old.keys = slice_get_within old.keys n j g in
-            let d : n ≢ m = λ l. true≢false (sym (self j) ∙ ap (same j) (same_Some j k (sym g ∙ ap (slice_get old.keys) l ∙ h)) ∙ e) in
-            get_taken old.keys m n (omega (arith, w, d)) ∙ g
+            let s : find key_cmp j t.order ≡ Some n = sym (ap (λ b. cond b None (find key_cmp j t.order)) e) ∙ sym (found j) ∙ f in
+            let g : slice_get t.keys n ≡ Some j = key_at t i j n s in
+            let w : n < length t.keys = slice_get_within t.keys n j g in
+            let d : n ≢ m = λ q. true≢false (sym (self j) ∙ ap (same j) (same_Some j k (sym g ∙ ap (slice_get t.keys) q ∙ h)) ∙ e) in
+            get_taken t.keys m n (omega (arith, w, d, l)) ∙ g
 
-    back : (j : Key) (n : ℕ) → slice_get (take m old.keys) n ≡ Some j → find key_cmp j (removed key_cmp k old.order) ≡ Some n
+    back : (j : Key) (n : ℕ) → slice_get (take m t.keys) n ≡ Some j → find key_cmp j (removed key_cmp k t.order) ≡ Some n
     back j n g = found j ∙ go (same j k) refl
       where
         below : n < m
         below =
-            let w : n < length (take m old.keys) = slice_get_within (take m old.keys) n j g in
-            let l : length (take m old.keys) ≤ m = length_taken m old.keys in
-            omega (arith, w, l)
+            let w : n < length (take m t.keys) = slice_get_within (take m t.keys) n j g in
+            let u : length (take m t.keys) ≤ m = length_taken m t.keys in
+            omega (arith, w, u)
 
-        s : find key_cmp j old.order ≡ Some n
-        s = number_at old i j n (sym (get_taken old.keys m n below) ∙ g)
+        s : find key_cmp j t.order ≡ Some n
+        s = number_at t i j n (sym (get_taken t.keys m n below) ∙ g)
 
-        go : (b : Bool) → same j k ≡ b → cond (same j k) None (find key_cmp j old.order) ≡ Some n
+        go : (b : Bool) → same j k ≡ b → cond (same j k) None (find key_cmp j t.order) ≡ Some n
         go true e =
-            let l : n ≡ m = same_Some n m (sym s ∙ ap (λ a. find key_cmp a old.order) (equal j k e) ∙ number_at old i k m h) in
-            absurd (omega (arith, l, below))
-        go false e = ap (λ b. cond b None (find key_cmp j old.order)) e ∙ s
+            let q : n ≡ m = same_Some n m (sym s ∙ ap (λ a. find key_cmp a t.order) (equal j k e) ∙ number_at t i k m h) in
+            absurd (omega (arith, q, below))
+        go false e = ap (λ b. cond b None (find key_cmp j t.order)) e ∙ s
+
+-- the numbering without its last key is one
+pub popped_numbered : (k : Key) (old new : Numbering) → IsNumbered old → slice_get old.keys (length old.keys - 1) ≡ Some k → new.keys ≡ take (length old.keys - 1) old.keys → new.order ≡ removed key_cmp k old.order → IsNumbered new
+popped_numbered k old new i h t o =
+    let w : length old.keys - 1 < length old.keys = slice_get_within old.keys (length old.keys - 1) k h in
+    let popped : Numbering = record { keys = take (length old.keys - 1) old.keys; order = removed key_cmp k old.order } in
+    let is : new ≡ popped = λ a. record { keys = t a; order = o a } in
+    subst IsNumbered (sym is) (numbered_below k (length old.keys - 1) old i (omega (arith, w)) h)

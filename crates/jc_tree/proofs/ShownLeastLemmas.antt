@@ -35,11 +35,11 @@ module _ {X : Type 0} (a : Option Key) (e : Key × X) (es : List (Key × X)) (h 
 -- the least key that comes after does so
 is_it_after : {X : Type 0} (a : Option Key) (k : Key) (es : List (Key × X)) → AreSorted es → least_after a (keys_of es) ≡ Some k → is_after a k ≡ true
 is_it_after a k [] h l = cc
-is_it_after a k (e ∷ es) h l = go (is_after a e.0) refl
+is_it_after a k (e ∷ es) h l = go (is_after a e.0) refl (is_it_after a k es h.1)
   where
-    go : (b : Bool) → is_after a e.0 ≡ b → is_after a k ≡ true
-    go true q = ap (is_after a) (sym (same_Some e.0 k (sym (after_here a e es h q) ∙ l))) ∙ q
-    go false q = is_it_after a k es h.1 (sym (after_there a e es h q) ∙ l)
+    go : (b : Bool) → is_after a e.0 ≡ b → (least_after a (keys_of es) ≡ Some k → is_after a k ≡ true) → is_after a k ≡ true
+    go true q ih = ap (is_after a) (sym (same_Some e.0 k (sym (after_here a e es h q) ∙ l))) ∙ q
+    go false q ih = ih (sym (after_there a e es h q) ∙ l)
 
 -- keys above one that comes after do so too
 after_both : (a : Option Key) (k j : Key) → is_after a k ≡ true → key_cmp k j ≡ Less → is_after a j ≡ is_after (Some k) j
@@ -74,11 +74,11 @@ module _ {N X : Type 0} (p : N → Option X) (a : Option Key) where
   -- where no key comes after, none does in what is shown
   pub none-shown : (es : List (Key × N)) → AreSorted es → least_after a (keys_of es) ≡ None → least_after a (keys_of (shown p es)) ≡ None
   none-shown [] h l = refl
-  none-shown (e ∷ es) h l = go (is_after a e.0) refl
+  none-shown (e ∷ es) h l = go (is_after a e.0) refl (none-shown es h.1)
     where
-      go : (b : Bool) → is_after a e.0 ≡ b → least_after a (keys_of (shown p (e ∷ es))) ≡ None
-      go true q = let c : Some e.0 ≡ None = sym (after_here a e es h q) ∙ l in cc
-      go false q = passed e es h q ∙ none-shown es h.1 (sym (after_there a e es h q) ∙ l)
+      go : (b : Bool) → is_after a e.0 ≡ b → (least_after a (keys_of es) ≡ None → least_after a (keys_of (shown p es)) ≡ None) → least_after a (keys_of (shown p (e ∷ es))) ≡ None
+      go true q ih = let c : Some e.0 ≡ None = sym (after_here a e es h q) ∙ l in cc
+      go false q ih = passed e es h q ∙ ih (sym (after_there a e es h q) ∙ l)
 
 module _ {N X : Type 0} (p : N → Option X) (a : Option Key) (k : Key) where
   -- the least key that comes after isn't one that doesn't
@@ -92,26 +92,26 @@ module _ {N X : Type 0} (p : N → Option X) (a : Option Key) (k : Key) where
   -- the least key that comes after has something that is shown
   pub there-shown : (n : N) (x : X) (es : List (Key × N)) → AreSorted es → least_after a (keys_of es) ≡ Some k → find key_cmp k es ≡ Some n → p n ≡ Some x → least_after a (keys_of (shown p es)) ≡ Some k
   there-shown n x [] h l f w = cc
-  there-shown n x (e ∷ es) h l f w = go (is_after a e.0) refl
+  there-shown n x (e ∷ es) h l f w = go (is_after a e.0) refl (λ r g. there-shown n x es h.1 r g w)
     where
-      go : (b : Bool) → is_after a e.0 ≡ b → least_after a (keys_of (shown p (e ∷ es))) ≡ Some k
-      go true q =
+      go : (b : Bool) → is_after a e.0 ≡ b → (least_after a (keys_of es) ≡ Some k → find key_cmp k es ≡ Some n → least_after a (keys_of (shown p es)) ≡ Some k) → least_after a (keys_of (shown p (e ∷ es))) ≡ Some k
+      go true q ih =
           let s : e.0 ≡ k = same_Some e.0 k (sym (after_here a e es h q) ∙ l) in
           let t : eq_by_cmp key_cmp k e.0 ≡ true = ap (eq_by_cmp key_cmp k) s ∙ same-self keys_total exact_keys k in
           let m : e.1 ≡ n = same_Some e.1 n (rw t at f) in
           let v : p e.1 ≡ Some x = ap p m ∙ w in
           rw v (after_here a (e.0, x) (shown p es) (sorted p a e x es h) q) ∙ ap Some s
-      go false q =
+      go false q ih =
           let r : least_after a (keys_of es) ≡ Some k = sym (after_there a e es h q) ∙ l in
-          passed p a e es h q ∙ there-shown n x es h.1 r (rw (apart e es h q r) at f) w
+          passed p a e es h q ∙ ih r (rw (apart e es h q r) at f)
 
   -- where it has nothing that is shown, the least key after it is the one
   pub further-shown : (n : N) (es : List (Key × N)) → AreSorted es → least_after a (keys_of es) ≡ Some k → find key_cmp k es ≡ Some n → p n ≡ None → least_after a (keys_of (shown p es)) ≡ least_after (Some k) (keys_of (shown p es))
   further-shown n [] h l f w = cc
-  further-shown n (e ∷ es) h l f w = go (is_after a e.0) refl
+  further-shown n (e ∷ es) h l f w = go (is_after a e.0) refl (λ r g. further-shown n es h.1 r g w)
     where
-      go : (b : Bool) → is_after a e.0 ≡ b → least_after a (keys_of (shown p (e ∷ es))) ≡ least_after (Some k) (keys_of (shown p (e ∷ es)))
-      go true q =
+      go : (b : Bool) → is_after a e.0 ≡ b → (least_after a (keys_of es) ≡ Some k → find key_cmp k es ≡ Some n → least_after a (keys_of (shown p es)) ≡ least_after (Some k) (keys_of (shown p es))) → least_after a (keys_of (shown p (e ∷ es))) ≡ least_after (Some k) (keys_of (shown p (e ∷ es)))
+      go true q ih =
           let s : e.0 ≡ k = same_Some e.0 k (sym (after_here a e es h q) ∙ l) in
           let t : eq_by_cmp key_cmp k e.0 ≡ true = ap (eq_by_cmp key_cmp k) s ∙ same-self keys_total exact_keys k in
           let m : e.1 ≡ n = same_Some e.1 n (rw t at f) in
@@ -119,8 +119,8 @@ module _ {N X : Type 0} (p : N → Option X) (a : Option Key) (k : Key) where
           let all = all-shown keys_total exact_keys (λ j. key_cmp e.0 j ≡ Less) p es h.0 in
           let ks : List Key = keys_of (shown p es) in
           rw v (ap least (filtered_both (is_after a) (is_after (Some e.0)) ks (all_both a e.0 ks q all)) ∙ ap (λ i. least_after (Some i) ks) s)
-      go false q =
+      go false q ih =
           let r : least_after a (keys_of es) ≡ Some k = sym (after_there a e es h q) ∙ l in
           let d : eq_by_cmp key_cmp k e.0 ≡ false = apart e es h q r in
           let g : key_cmp k e.0 ≡ Greater = behind keys_total exact_keys k n e es h f d in
-          passed p a e es h q ∙ further-shown n es h.1 r (rw d at f) w ∙ sym (passed p (Some k) e es h (ap is_lt g))
+          passed p a e es h q ∙ ih r (rw d at f) ∙ sym (passed p (Some k) e es h (ap is_lt g))

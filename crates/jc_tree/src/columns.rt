@@ -28,7 +28,10 @@ pub fn put_at<X: Drop>(
     if number < column.len() {
         return Ok(mem::replace(&mut column[number], Some(value)));
     }
-    column.reserve((number - column.len()).saturating_add(1))?;
+    let Some(end) = number.checked_add(1) else {
+        return Err(AllocError);
+    };
+    column.reserve(end - column.len())?;
     while column.len() < number {
         column.push(None).unwrap();
     }
