@@ -151,7 +151,7 @@ module _ {X : Type 0} where
   find_removed : (j k : Key) (es : List (Key × X)) → AreSorted es → find key_cmp j (removed key_cmp k es) ≡ cond (same j k) None (find key_cmp j es)
   find_removed j k [] h = go (same j k)
     where
-      go : (b : Bool) → find key_cmp {X = X} j [] ≡ cond b None (find key_cmp {X = X} j [])
+      go : (b : Bool) → find {X = X} key_cmp j [] ≡ cond b None (find {X = X} key_cmp j [])
       go true = refl
       go false = refl
   find_removed j k (e ∷ es) h = go (same k e.0) refl (same j e.0) refl (find_removed j k es h.1)

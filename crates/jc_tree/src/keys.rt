@@ -1,11 +1,13 @@
 //! The keys of a fast store's node, numbered by first use, with their order beside.
 
-ghost use Rattle.std.specs.Prelude.{◌≡◌, ◌<◌, ℕ, [], Some, None, length, slice_get, option_copied, option_map, IsTrue, ◌↔◌, IfOk, OnErr, take};
+ghost use Rattle.std.specs.Prelude.{◌≡◌, ◌-◌, [], length, take, slice_get, option_copied, Some, IfOk, IfSome, OnErr};
+ghost use Rattle.std.specs.Option.{option_map};
 ghost use Rattle.jc_rules.specs.Order.{key_cmp};
 ghost use Rattle.jc_rules.specs.Entries.{find, keys_of};
 ghost use Rattle.jc_tree.specs.Tree.{least_after};
 ghost use Rattle.jc_tree.specs.Undo.{removed};
 ghost use Rattle.jc_tree.specs.Numbered.{GetsNumber};
+ghost use Rattle.jc_rules.specs.declared.key.Key.{Key as AnyKey};
 
 use indexmap::IndexSet;
 use jc_rules::Key;
