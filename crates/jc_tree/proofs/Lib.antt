@@ -22,4 +22,6 @@ pub mod ArenaCallsLemmas
 pub mod ArenaPlacesLemmas
 pub mod CountedLemmas
 pub mod ShownLemmas
+pub mod ShownLeastLemmas
+pub mod NumberedLemmas
 pub mod ColumnLemmas

@@ -37,7 +37,7 @@ module _ {K : Type 0} {R : K → K → Ordering} (total : IsTotalOrder R) (exact
 
   module _ {N : Type 0} where
     -- the first below a key that is found is below it
-    behind : (k : K) (n : N) (e : K × N) (es : List (K × N)) → IsRising R (keys_of (e ∷ es)) → find R k (e ∷ es) ≡ Some n → eq_by_cmp R k e.0 ≡ false → R k e.0 ≡ Greater
+    pub behind : (k : K) (n : N) (e : K × N) (es : List (K × N)) → IsRising R (keys_of (e ∷ es)) → find R k (e ∷ es) ≡ Some n → eq_by_cmp R k e.0 ≡ false → R k e.0 ≡ Greater
     behind k n e es r f d = go (R k e.0) refl f d
       where
         go : (o : Ordering) → R k e.0 ≡ o → find R k (e ∷ es) ≡ Some n → eq_by_cmp R k e.0 ≡ false → R k e.0 ≡ Greater
@@ -46,7 +46,7 @@ module _ {K : Type 0} {R : K → K → Ordering} (total : IsTotalOrder R) (exact
         go Greater h g c = h
 
   module _ {N X : Type 0} where
-    all-shown : (P : K → Type 0) (p : N → Option X) (es : List (K × N)) → AllByRecursion P (keys_of es) → AllByRecursion P (keys_of (shown p es))
+    pub all-shown : (P : K → Type 0) (p : N → Option X) (es : List (K × N)) → AllByRecursion P (keys_of es) → AllByRecursion P (keys_of (shown p es))
     all-shown P p [] a = tt
     all-shown P p (e ∷ es) a = go (p e.1) refl (all-shown P p es a.1)
       where
@@ -75,7 +75,7 @@ module _ {K : Type 0} {R : K → K → Ordering} (total : IsTotalOrder R) (exact
         go false h (Some x) q ih = rw (q, h) ih
 
     -- where the other numbers have the same
-    same-shown : (p q : N → Option X) (es : List (K × N)) → AllByRecursion (λ e. q e.1 ≡ p e.1) es → shown q es ≡ shown p es
+    pub same-shown : (p q : N → Option X) (es : List (K × N)) → AllByRecursion (λ e. q e.1 ≡ p e.1) es → shown q es ≡ shown p es
     same-shown p q [] a = refl
     same-shown p q (e ∷ es) a = rw (a.0, same-shown p q es a.1) refl
 

@@ -28,7 +28,10 @@ pub fn put_at<X: Drop>(
     if number < column.len() {
         return Ok(mem::replace(&mut column[number], Some(value)));
     }
-    column.reserve(number - column.len() + 1)?;
+    let Some(end) = number.checked_add(1) else {
+        return Err(AllocError);
+    };
+    column.reserve(end - column.len())?;
     while column.len() < number {
         column.push(None).unwrap();
     }
@@ -48,4 +51,11 @@ pub fn restore_at<X: Drop>(column: &mut Vec<Option<X>>, number: usize, former: O
         return None;
     }
     mem::replace(slot, former)
+}
+
+/// Keeps what the column has at the first numbers, so many, and drops the rest.
+pub fn cut<X: Drop>(column: &mut Vec<Option<X>>, most: usize)
+    ensures { column.new.items ≡ take most column.old.items }
+{
+    column.truncate(most);
 }

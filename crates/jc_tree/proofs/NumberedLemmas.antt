@@ -1,0 +1,246 @@
+-- About Numbered: keys with their numbers.
+use Rattle.std.proofs.Common.{◌≡◌, ◌≢◌, ◌<◌, ◌≤◌, ◌-◌, ◌+◌, ◌⊎◌, inl, inr, ℕ, zero, suc, List, [], ◌∷◌, ◌++◌, length, take, get_or, slice_get, position, Option, Some, None, is_some, Bool, true, false, cond, refl, sym, ◌∙◌, ap, subst, true≢false, arith}
+use Rattle.std.specs.List.{AllByRecursion, list_any}
+use Rattle.std.specs.Ordering.{eq_by_cmp}
+use Rattle.std.specs.declared.cmp.Ordering.{Ordering}
+use Rattle.std.specs.declared.cmp.Ordering.TheVariants.{Less, Equal, Greater}
+use Rattle.std.proofs.lemmas.List.{length-append}
+use Rattle.std.proofs.lemmas.List.Folds.{list_any_at}
+use Rattle.std.proofs.lemmas.List.Quantifiers.{position-Some}
+use Rattle.std.proofs.lemmas.Option.{same_Some, slice_get_past, slice_get_within, slice_get-get_or, get_or_from_slice_get, slice_get_cases}
+use Rattle.jc_rules.specs.declared.key.Key.{Key}
+use Rattle.jc_rules.specs.Order.{key_cmp}
+use Rattle.jc_rules.specs.Entries.{IsRising, keys_of, find, put}
+use Rattle.jc_rules.proofs.OrderLemmas.{keys_total, exact_keys}
+use Rattle.jc_rules.proofs.EntriesLemmas.{same-self, same-back, same-eq, find-put, found-put, rising-put}
+use Rattle.jc_rules.proofs.RisingLemmas.{less_greater}
+use Rattle.jc_tree.specs.Sorted.{AreSorted}
+use Rattle.jc_tree.specs.Undo.{removed}
+use Rattle.jc_tree.specs.Numbered.{Numbering, IsNumbered, GetsNumber, with_key}
+use Rattle.jc_tree.specs.Numbered.GetsNumber.{had, gets}
+
+abbrev same : Key → Key → Bool
+same j k = eq_by_cmp key_cmp j k
+
+self : (k : Key) → same k k ≡ true
+self k = same-self keys_total exact_keys k
+
+equal : (j k : Key) → same j k ≡ true → j ≡ k
+equal j k h = same-eq keys_total exact_keys j k h
+
+get_left : {X : Type 0} (xs ys : List X) (n : ℕ) → n < length xs → slice_get (xs ++ ys) n ≡ slice_get xs n
+get_left [] ys n h = absurd (omega (arith, h))
+get_left (x ∷ xs) ys zero h = refl
+get_left (x ∷ xs) ys (suc n) h = get_left xs ys n (omega (arith, h))
+
+pub get_last : {X : Type 0} (xs : List X) (x : X) → slice_get (xs ++ x ∷ []) (length xs) ≡ Some x
+get_last [] x = refl
+get_last (y ∷ xs) x = get_last xs x
+
+get_in_last : {X : Type 0} (xs : List X) (x y : X) (n : ℕ) → slice_get (xs ++ x ∷ []) n ≡ Some y → n ≢ length xs → n < length xs
+get_in_last xs x y n h d =
+    let w : n < length (xs ++ x ∷ []) = slice_get_within (xs ++ x ∷ []) n y h in
+    let l : length (xs ++ x ∷ []) ≡ length xs + 1 = length-append xs (x ∷ []) in
+    omega (arith, w, l, d)
+
+pub get_taken : {X : Type 0} (xs : List X) (m n : ℕ) → n < m → slice_get (take m xs) n ≡ slice_get xs n
+get_taken xs zero n h = absurd (omega (arith, h))
+get_taken [] (suc m) n h = refl
+get_taken (x ∷ xs) (suc m) zero h = refl
+get_taken (x ∷ xs) (suc m) (suc n) h = get_taken xs m n (omega (arith, h))
+
+pub length_taken : {X : Type 0} (m : ℕ) (xs : List X) → length (take m xs) ≤ m
+length_taken zero xs = omega arith
+length_taken (suc m) [] = omega arith
+length_taken (suc m) (x ∷ xs) = omega (arith, length_taken m xs)
+
+-- the number of a key that is found, and the key of a number
+pub key_at : (t : Numbering) → IsNumbered t → (k : Key) (n : ℕ) → find key_cmp k t.order ≡ Some n → slice_get t.keys n ≡ Some k
+key_at t i k n f = (i.same k n).0 f
+
+pub number_at : (t : Numbering) → IsNumbered t → (k : Key) (n : ℕ) → slice_get t.keys n ≡ Some k → find key_cmp k t.order ≡ Some n
+number_at t i k n g = (i.same k n).1 g
+
+-- two keys with one number are the same
+pub one_key : (t : Numbering) → IsNumbered t → (j k : Key) (n : ℕ) → find key_cmp j t.order ≡ Some n → find key_cmp k t.order ≡ Some n → j ≡ k
+one_key t i j k n f g = same_Some j k (sym (key_at t i j n f) ∙ key_at t i k n g)
+
+-- a key has the number that it gets
+pub has_number : (k : Key) (n : ℕ) (old new : Numbering) → GetsNumber k n old new → find key_cmp k new.order ≡ Some n
+has_number k n old new (had f s) = ap (λ (t : Numbering). find key_cmp k t.order) s ∙ f
+has_number k n old new (gets f m s) = ap (λ (t : Numbering). find key_cmp k t.order) s ∙ found-put keys_total exact_keys k (length old.keys) old.order ∙ ap Some (sym m)
+
+-- the number that a key gets is one of the numbers
+pub number_within : (k : Key) (n : ℕ) (old new : Numbering) → IsNumbered new → GetsNumber k n old new → n < length new.keys
+number_within k n old new i g = slice_get_within new.keys n k (key_at new i k n (has_number k n old new g))
+
+-- there are no fewer keys than before
+pub keys_grow : (k : Key) (n : ℕ) (old new : Numbering) → GetsNumber k n old new → length old.keys ≤ length new.keys
+keys_grow k n old new (had f s) = let l : length new.keys ≡ length old.keys = ap (λ (t : Numbering). length t.keys) s in omega (arith, l)
+keys_grow k n old new (gets f m s) =
+    let l : length new.keys ≡ length old.keys + 1 = ap (λ (t : Numbering). length t.keys) s ∙ length-append old.keys (k ∷ []) in
+    omega (arith, l)
+
+-- what a search by the hash finds is the number
+pub number_is : (eq : Key → Key → Bool) → ((j k : Key) → eq j k ≡ true → j ≡ k) → ((k : Key) → eq k k ≡ true) → (k : Key) (t : Numbering) (o : Option ℕ) → IsNumbered t → o ≡ position (eq k) t.keys → is_some o ≡ list_any (eq k) t.keys → o ≡ find key_cmp k t.order
+number_is eq exact own k t (Some n) i p s =
+    let f = position-Some (eq k) t.keys n k (sym p) in
+    let e : k ≡ get_or t.keys n k = exact k (get_or t.keys n k) f.1 in
+    sym (number_at t i k n (slice_get-get_or t.keys n k f.0 ∙ ap Some (sym e)))
+number_is eq exact own k t None i p s = go (find key_cmp k t.order) refl
+  where
+    go : (o : Option ℕ) → find key_cmp k t.order ≡ o → None ≡ find key_cmp k t.order
+    go None f = sym f
+    go (Some n) f =
+        let g : slice_get t.keys n ≡ Some k = key_at t i k n f in
+        let e : get_or t.keys n k ≡ k = get_or_from_slice_get t.keys n k k g in
+        let a : list_any (eq k) t.keys ≡ true = list_any_at (eq k) t.keys n k (slice_get_within t.keys n k g) (ap (eq k) e ∙ own k) in
+        let c : false ≡ true = s ∙ a in
+        cc
+
+-- a numbering without a key is one with it
+pub with_key_numbered : (k : Key) (t : Numbering) → IsNumbered t → find key_cmp k t.order ≡ None → IsNumbered (with_key k t)
+with_key_numbered k t i f = record
+  { rise = rising-put keys_total exact_keys k (length t.keys) t.order i.rise
+  ; same = λ j n. (there j n, back j n) }
+  where
+    there : (j : Key) (n : ℕ) → find key_cmp j (put key_cmp k (length t.keys) t.order) ≡ Some n → slice_get (t.keys ++ k ∷ []) n ≡ Some j
+    there j n h = go (same j k) refl
+      where
+        found : find key_cmp j (put key_cmp k (length t.keys) t.order) ≡ cond (same j k) (Some (length t.keys)) (find key_cmp j t.order)
+        found = find-put keys_total exact_keys j k (length t.keys) t.order
+
+        go : (b : Bool) → same j k ≡ b → slice_get (t.keys ++ k ∷ []) n ≡ Some j
+        go true e =
+            let s : Some (length t.keys) ≡ Some n = sym (ap (λ b. cond b (Some (length t.keys)) (find key_cmp j t.order)) e) ∙ sym found ∙ h in
+            ap (slice_get (t.keys ++ k ∷ [])) (sym (same_Some (length t.keys) n s)) ∙ get_last t.keys k ∙ ap Some (sym (equal j k e))
+        go false e =
+            let s : find key_cmp j t.order ≡ Some n = sym (ap (λ b. cond b (Some (length t.keys)) (find key_cmp j t.order)) e) ∙ sym found ∙ h in
+            let g : slice_get t.keys n ≡ Some j = key_at t i j n s in
+            get_left t.keys (k ∷ []) n (slice_get_within t.keys n j g) ∙ g
+
+    back : (j : Key) (n : ℕ) → slice_get (t.keys ++ k ∷ []) n ≡ Some j → find key_cmp j (put key_cmp k (length t.keys) t.order) ≡ Some n
+    back j n h = find-put keys_total exact_keys j k (length t.keys) t.order ∙ go (same j k) refl
+      where
+        last : n ≡ length t.keys → k ≡ j
+        last e = same_Some k j (sym (get_last t.keys k) ∙ ap (slice_get (t.keys ++ k ∷ [])) (sym e) ∙ h)
+
+        within : n < length t.keys → find key_cmp j t.order ≡ Some n
+        within l = number_at t i j n (sym (get_left t.keys (k ∷ []) n l) ∙ h)
+
+        at_end : j ≡ k → n ≡ length t.keys
+        at_end e = by (slice_get_cases t.keys n).1
+          where
+            by : (((x : Key) × (n < length t.keys) × (slice_get t.keys n ≡ Some x) × (get_or t.keys n x ≡ x)) ⊎ ((length t.keys ≤ n) × (slice_get t.keys n ≡ None))) → n ≡ length t.keys
+            by (inl c) = let d : None ≡ Some n = sym f ∙ ap (λ i. find key_cmp i t.order) (sym e) ∙ within c.1 in cc
+            by (inr c) =
+                let w : n < length (t.keys ++ k ∷ []) = slice_get_within (t.keys ++ k ∷ []) n j h in
+                let l : length (t.keys ++ k ∷ []) ≡ length t.keys + 1 = length-append t.keys (k ∷ []) in
+                omega (arith, w, l, c.0)
+
+        go : (b : Bool) → same j k ≡ b → cond (same j k) (Some (length t.keys)) (find key_cmp j t.order) ≡ Some n
+        go true e = ap (λ b. cond b (Some (length t.keys)) (find key_cmp j t.order)) e ∙ ap Some (sym (at_end (equal j k e)))
+        go false e = ap (λ b. cond b (Some (length t.keys)) (find key_cmp j t.order)) e ∙ within (get_in_last t.keys k j n h (λ l. true≢false (sym (self j) ∙ ap (same j) (sym (last l)) ∙ e)))
+
+module _ {X : Type 0} where
+  none_behind : (k : Key) (es : List (Key × X)) → AllByRecursion (λ j. key_cmp k j ≡ Less) (keys_of es) → find key_cmp k es ≡ None
+  none_behind k [] a = refl
+  none_behind k (f ∷ es) a = rw a.0 (none_behind k es a.1)
+
+  -- what is found without an entry
+  find_removed : (j k : Key) (es : List (Key × X)) → AreSorted es → find key_cmp j (removed key_cmp k es) ≡ cond (same j k) None (find key_cmp j es)
+  find_removed j k [] h = go (same j k)
+    where
+      go : (b : Bool) → find {X = X} key_cmp j [] ≡ cond b None (find {X = X} key_cmp j [])
+      go true = refl
+      go false = refl
+  find_removed j k (e ∷ es) h = go (same k e.0) refl (same j e.0) refl (find_removed j k es h.1)
+    where
+      go : (b : Bool) → same k e.0 ≡ b → (c : Bool) → same j e.0 ≡ c → find key_cmp j (removed key_cmp k es) ≡ cond (same j k) None (find key_cmp j es) → find key_cmp j (removed key_cmp k (e ∷ es)) ≡ cond (same j k) None (find key_cmp j (e ∷ es))
+      go true q true r ih =
+          let s : k ≡ e.0 = equal k e.0 q in
+          let u : j ≡ e.0 = equal j e.0 r in
+          let d : same j k ≡ true = ap (same j) s ∙ r in
+          rw (q, d) (ap (λ i. find key_cmp i es) u ∙ none_behind e.0 es h.0)
+      go true q false r ih =
+          let s : k ≡ e.0 = equal k e.0 q in
+          let d : same j k ≡ false = ap (same j) s ∙ r in
+          rw (q, d, r) refl
+      go false q true r ih =
+          let u : j ≡ e.0 = equal j e.0 r in
+          let d : same j k ≡ false = same-back keys_total exact_keys j k ∙ ap (same k) u ∙ q in
+          rw (q, d, r) refl
+      go false q false r ih = rw (q, r) ih
+
+  all_removed : (P : Key → Type 0) (k : Key) (es : List (Key × X)) → AllByRecursion P (keys_of es) → AllByRecursion P (keys_of (removed key_cmp k es))
+  all_removed P k [] a = tt
+  all_removed P k (e ∷ es) a = go (same k e.0) refl (all_removed P k es a.1)
+    where
+      go : (b : Bool) → same k e.0 ≡ b → AllByRecursion P (keys_of (removed key_cmp k es)) → AllByRecursion P (keys_of (removed key_cmp k (e ∷ es)))
+      go true q ih = rw q a.1
+      go false q ih = rw q (a.0, ih)
+
+  sorted_removed : (k : Key) (es : List (Key × X)) → AreSorted es → AreSorted (removed key_cmp k es)
+  sorted_removed k [] h = tt
+  sorted_removed k (e ∷ es) h = go (same k e.0) refl (sorted_removed k es h.1)
+    where
+      go : (b : Bool) → same k e.0 ≡ b → AreSorted (removed key_cmp k es) → AreSorted (removed key_cmp k (e ∷ es))
+      go true q ih = rw q h.1
+      go false q ih = rw q (all_removed (λ j. key_cmp e.0 j ≡ Less) k es h.0, ih)
+
+-- a numbering without keys has nothing in its order
+pub no_keys : (t : Numbering) → IsNumbered t → t.keys ≡ [] → t.order ≡ []
+no_keys t i h = go t.order refl
+  where
+    go : (es : List (Key × ℕ)) → t.order ≡ es → t.order ≡ []
+    go [] q = q
+    go (e ∷ es) q =
+        let f : find key_cmp e.0 t.order ≡ Some e.1 = ap (find key_cmp e.0) q ∙ rw (self e.0) refl in
+        let g : slice_get t.keys e.1 ≡ Some e.0 = key_at t i e.0 e.1 f in
+        let n : None ≡ Some e.0 = sym (ap (λ ks. slice_get ks e.1) h) ∙ g in
+        cc
+
+-- without the last key, which has the number m
+numbered_below : (k : Key) (m : ℕ) (t : Numbering) → IsNumbered t → length t.keys ≡ m + 1 → slice_get t.keys m ≡ Some k → IsNumbered (record { keys = take m t.keys; order = removed key_cmp k t.order })
+numbered_below k m t i l h = record { rise = sorted_removed k t.order i.rise; same = λ j n. (there j n, back j n) }
+  where
+    found : (j : Key) → find key_cmp j (removed key_cmp k t.order) ≡ cond (same j k) None (find key_cmp j t.order)
+    found j = find_removed j k t.order i.rise
+
+    there : (j : Key) (n : ℕ) → find key_cmp j (removed key_cmp k t.order) ≡ Some n → slice_get (take m t.keys) n ≡ Some j
+    there j n f = go (same j k) refl
+      where
+        go : (b : Bool) → same j k ≡ b → slice_get (take m t.keys) n ≡ Some j
+        go true e = let c : None ≡ Some n = sym (ap (λ b. cond b None (find key_cmp j t.order)) e) ∙ sym (found j) ∙ f in cc
+        go false e =
+            let s : find key_cmp j t.order ≡ Some n = sym (ap (λ b. cond b None (find key_cmp j t.order)) e) ∙ sym (found j) ∙ f in
+            let g : slice_get t.keys n ≡ Some j = key_at t i j n s in
+            let w : n < length t.keys = slice_get_within t.keys n j g in
+            let d : n ≢ m = λ q. true≢false (sym (self j) ∙ ap (same j) (same_Some j k (sym g ∙ ap (slice_get t.keys) q ∙ h)) ∙ e) in
+            get_taken t.keys m n (omega (arith, w, d, l)) ∙ g
+
+    back : (j : Key) (n : ℕ) → slice_get (take m t.keys) n ≡ Some j → find key_cmp j (removed key_cmp k t.order) ≡ Some n
+    back j n g = found j ∙ go (same j k) refl
+      where
+        below : n < m
+        below =
+            let w : n < length (take m t.keys) = slice_get_within (take m t.keys) n j g in
+            let u : length (take m t.keys) ≤ m = length_taken m t.keys in
+            omega (arith, w, u)
+
+        s : find key_cmp j t.order ≡ Some n
+        s = number_at t i j n (sym (get_taken t.keys m n below) ∙ g)
+
+        go : (b : Bool) → same j k ≡ b → cond (same j k) None (find key_cmp j t.order) ≡ Some n
+        go true e =
+            let q : n ≡ m = same_Some n m (sym s ∙ ap (λ a. find key_cmp a t.order) (equal j k e) ∙ number_at t i k m h) in
+            absurd (omega (arith, q, below))
+        go false e = ap (λ b. cond b None (find key_cmp j t.order)) e ∙ s
+
+-- the numbering without its last key is one
+pub popped_numbered : (k : Key) (old new : Numbering) → IsNumbered old → slice_get old.keys (length old.keys - 1) ≡ Some k → new.keys ≡ take (length old.keys - 1) old.keys → new.order ≡ removed key_cmp k old.order → IsNumbered new
+popped_numbered k old new i h t o =
+    let w : length old.keys - 1 < length old.keys = slice_get_within old.keys (length old.keys - 1) k h in
+    let popped : Numbering = record { keys = take (length old.keys - 1) old.keys; order = removed key_cmp k old.order } in
+    let is : new ≡ popped = λ a. record { keys = t a; order = o a } in
+    subst IsNumbered (sym is) (numbered_below k (length old.keys - 1) old i (omega (arith, w)) h)
