@@ -1,7 +1,7 @@
 //! Entries by key, of which the keys are numbered and the values are in a column: the fast store keeps a context's
 //! entries so, and a key is found in all columns by one search.
 
-ghost use Rattle.std.specs.Prelude.{◌≡◌, ◌≤◌, length, IfOk, OnOk, OnErr, option_copied};
+ghost use Rattle.std.specs.Prelude.{◌≡◌, ◌≤◌, Some, length, option_map, IfOk, OnOk, OnErr, option_copied};
 ghost use Rattle.jc_rules.specs.Order.{id_cmp, key_cmp};
 ghost use Rattle.jc_rules.specs.Entries.{find, put, keys_of};
 ghost use Rattle.jc_rules.specs.Ids.{with_id};
@@ -9,7 +9,7 @@ ghost use Rattle.jc_tree.specs.Tree.{or_no_entries, least_after, has_ids};
 ghost use Rattle.jc_tree.specs.Counted.{is_last};
 ghost use Rattle.jc_tree.specs.Numbered.{column_entries};
 ghost use Rattle.jc_tree.specs.Tables.{MayNumber};
-ghost use Rattle.jc_tree.specs.Undo.{restored, restored_value, former_of_id, former_of_value, out_of_set};
+ghost use Rattle.jc_tree.specs.Undo.{taken_out, restored, restored_value, former_of_id, former_of_value, out_of_set};
 
 use crate::columns::{put_at, restore_at, value_at};
 use crate::ids::Ids;
@@ -87,6 +87,34 @@ pub fn key_above_in<'a, X>(
     None
 }
 
+/// Adds the identifier to the set, a new one where there is none. Returns the undo record, by the set's
+/// key, and whether the set had an identifier before. After a refusal the set is as it was.
+fn add_to_set(
+    set: &mut Option<Ids>,
+    key: Key,
+    id: Id,
+    alloc: Global,
+) -> Result<(Former, bool), AllocError>
+    ensures ok { OnOk result (set.new ≡ Some (with_id id (or_no_entries set.old))) }
+    ensures former { IfOk result (λ added. added.0 ≡ former_of_id key id set.old) }
+    ensures was { IfOk result (λ added. added.1 ≡ has_ids (or_no_entries set.old)) }
+    ensures err { OnErr result (set.new ≡ set.old) }
+{
+    let Some(ids) = set else {
+        *set = Some(Ids::single(id, alloc)?);
+        return Ok((Former::Presence(key, None), false));
+    };
+    let was = !ids.is_empty();
+    let had = ids.contains(id);
+    ids.insert(id)?;
+    let former = if had {
+        Former::Same
+    } else {
+        Former::NoId(key, id)
+    };
+    Ok((former, was))
+}
+
 /// Adds the identifier to the key's set, a new one where there is none. Returns the undo record, and
 /// whether the set had an identifier before. After a refusal the sets are as they were.
 pub fn add_in(
@@ -109,19 +137,24 @@ pub fn add_in(
     ensures err { OnErr result (column_entries sets.new.items keys.new ≡ column_entries sets.old.items keys.old) }
 {
     let number = keys.number_of(&key)?;
-    if let Some(Some(ids)) = sets.get_mut(number) {
-        let was = !ids.is_empty();
-        let had = ids.contains(id);
-        ids.insert(id)?;
-        let former = if had {
-            Former::Same
-        } else {
-            Former::NoId(key, id)
-        };
-        return Ok((former, was));
-    }
-    put_at(sets, number, Ids::single(id, alloc)?)?;
-    Ok((Former::Presence(key, None), false))
+    let Some(set) = sets.get_mut(number) else {
+        put_at(sets, number, Ids::single(id, alloc)?)?;
+        return Ok((Former::Presence(key, None), false));
+    };
+    add_to_set(set, key, id, alloc)
+}
+
+/// Takes the identifier out of the set, if there is one. Returns whether it was the last one of the set.
+fn take_out_of_set(set: &mut Option<Ids>, id: Id) -> bool
+    ensures ok { set.new ≡ option_map (λ s. taken_out id s) set.old }
+    ensures last { result ≡ is_last id (or_no_entries set.old) }
+{
+    let Some(ids) = set else {
+        return false;
+    };
+    let was = !ids.is_empty();
+    ids.take_out(id);
+    was && ids.is_empty()
 }
 
 /// Takes the identifier out of the key's set, where there is one. Returns whether it was the last one
@@ -138,12 +171,31 @@ pub fn take_out_in(keys: &KeyTable, sets: &mut Vec<Option<Ids>>, key: &Key, id: 
     let Some(number) = keys.number(key) else {
         return false;
     };
-    let Some(Some(ids)) = sets.get_mut(number) else {
-        return false;
+    match sets.get_mut(number) {
+        Some(set) => take_out_of_set(set, id),
+        None => false,
+    }
+}
+
+/// Puts the value under the identifier into the register, a new one where there is none. Returns the
+/// undo record, by the register's key. After a refusal the register is as it was.
+fn put_to_register(
+    register: &mut Option<Pairs>,
+    key: Key,
+    id: Id,
+    value: Value,
+    alloc: Global,
+) -> Result<Former, AllocError>
+    ensures ok { OnOk result (register.new ≡ Some (put id_cmp id value (or_no_entries register.old))) }
+    ensures former { IfOk result (λ former. former ≡ former_of_value key id register.old) }
+    ensures err { OnErr result (register.new ≡ register.old) }
+{
+    let Some(pairs) = register else {
+        *register = Some(Pairs::single(id, value, alloc)?);
+        return Ok(Former::Register(key, None));
     };
-    let was = !ids.is_empty();
-    ids.take_out(id);
-    was && ids.is_empty()
+    let former = pairs.put(id, value)?;
+    Ok(Former::Value(key, id, former))
 }
 
 /// Puts the value under the identifier into the key's register, a new one where there is none.
@@ -169,12 +221,20 @@ pub fn put_value_in(
         ≡ column_entries registers.old.items keys.old) }
 {
     let number = keys.number_of(&key)?;
-    if let Some(Some(pairs)) = registers.get_mut(number) {
-        let former = pairs.put(id, value)?;
-        return Ok(Former::Value(key, id, former));
+    let Some(register) = registers.get_mut(number) else {
+        put_at(registers, number, Pairs::single(id, value, alloc)?)?;
+        return Ok(Former::Register(key, None));
+    };
+    put_to_register(register, key, id, value, alloc)
+}
+
+/// Gives the identifier the value that it had in the register, if there is one.
+fn restore_register(register: &mut Option<Pairs>, id: Id, former: Option<Value>)
+    ensures { register.new ≡ option_map (λ r. restored id_cmp id former r) register.old }
+{
+    if let Some(pairs) = register {
+        pairs.restore(id, former);
     }
-    put_at(registers, number, Pairs::single(id, value, alloc)?)?;
-    Ok(Former::Register(key, None))
 }
 
 /// Gives the identifier the value that it had in the key's register, where there is one. It takes no
@@ -195,7 +255,7 @@ pub fn restore_value_in(
     let Some(number) = keys.number(key) else {
         return;
     };
-    if let Some(Some(pairs)) = registers.get_mut(number) {
-        pairs.restore(id, former);
+    if let Some(register) = registers.get_mut(number) {
+        restore_register(register, id, former);
     }
 }
