@@ -25,3 +25,4 @@ pub mod ShownLemmas
 pub mod ShownLeastLemmas
 pub mod NumberedLemmas
 pub mod ColumnLemmas
+pub mod TablesLemmas

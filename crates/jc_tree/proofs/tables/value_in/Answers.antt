@@ -1,6 +1,5 @@
-use Rattle.std.proofs.Common.{◌≡◌, Some, None, sym, ◌∙◌, ap}
-use Rattle.jc_tree.specs.Numbered.{at_number}
-use Rattle.jc_tree.specs.Arena.{go_on}
+use Rattle.std.proofs.Common.{sym, ◌∙◌}
+use Rattle.jc_tree.proofs.TablesLemmas.{found_none}
 use Rattle.jc_tree.proofs.ColumnLemmas.{find_column}
 use Rattle.jc_tree.proofs.tables.value_in.Goals as goal
 
