@@ -100,13 +100,14 @@ impl KeyTable {
             ≡ least_after (option_copied after.entry) (keys_of self.now.order) }
         ensures number { IfSome result (λ p. find key_cmp p.0.now self.now.order ≡ Some p.1) }
     {
-        let (key, number) = match after {
-            None => self.order.first_key_value()?,
-            Some(above) => self
-                .order
-                .range((Bound::Excluded(above), Bound::Unbounded))
-                .next()?,
+        let Some(above) = after else {
+            let (key, number) = self.order.first_key_value()?;
+            return Some((key, *number));
         };
+        let mut greater = self
+            .order
+            .range((Bound::Excluded(above), Bound::Unbounded));
+        let (key, number) = greater.next()?;
         Some((key, *number))
     }
 }
