@@ -7,6 +7,8 @@ use Rattle.std.specs.declared.cmp.Ordering.TheVariants.{Less, Equal, Greater}
 use Rattle.std.proofs.lemmas.List.{length-append}
 use Rattle.std.proofs.Math.Seq.{take-append_seam}
 use Rattle.std.specs.BTreeMap.{insert_entry}
+use Rattle.std.specs.BTreeMap.Range.{entries_between}
+use Rattle.std.specs.declared.ops.Bound.TheVariants.{Excluded, Unbounded}
 use Rattle.indexmap.specs.IndexSet.{insert_key}
 use Rattle.std.proofs.lemmas.List.Folds.{list_any_at}
 use Rattle.std.proofs.lemmas.List.Quantifiers.{position-Some}
@@ -23,10 +25,11 @@ use Rattle.jc_rules.proofs.OrderLemmas.{keys_total, exact_keys}
 use Rattle.jc_rules.proofs.EntriesLemmas.{same-self, same-back, same-eq, find-put, found-put, rising-put}
 use Rattle.jc_rules.proofs.RisingLemmas.{less_greater}
 use Rattle.jc_tree.specs.Sorted.{AreSorted}
+use Rattle.jc_tree.specs.Tree.{is_after}
 use Rattle.jc_tree.specs.Undo.{removed}
 use Rattle.jc_tree.specs.Numbered.{Numbering, IsNumbered, GetsNumber, with_key}
 use Rattle.jc_tree.specs.Numbered.GetsNumber.{had, gets}
-use Rattle.jc_tree.proofs.SortedMapLemmas.{insert_is}
+use Rattle.jc_tree.proofs.SortedMapLemmas.{insert_is, between_is}
 
 abbrev same : Key → Key → Bool
 same j k = eq_by_cmp key_cmp j k
@@ -356,3 +359,7 @@ module _ {X : Type 0} where
           let l : d ∷ filter (λ e. p e.0) es ≡ e ∷ t = rw q at g in
           head_found d e es (same_Some d e (ap (λ l. slice_get l 0) l))
       go false q ih = still_found e.0 e.1 d es h (ih (rw q at g))
+
+  -- and so is the first that comes after a key
+  pub above_found : (k : Key) (es s t : List (Key × X)) (e : Key × X) → AreSorted es → s ≡ entries_between cmp-value.it (Excluded k) Unbounded es → s ≡ e ∷ t → find key_cmp e.0 es ≡ Some e.1
+  above_found k es s t e h b g = passing_found (is_after (Some k)) e t es h (sym (between_is k es) ∙ sym b ∙ g)
