@@ -1,5 +1,5 @@
 -- About Numbered: keys with their numbers.
-use Rattle.std.proofs.Common.{◌≡◌, ◌≢◌, ◌==◌, ◌&&◌, ◌<◌, ◌≤◌, ◌-◌, ◌+◌, ◌⊎◌, inl, inr, ℕ, zero, suc, List, [], ◌∷◌, ◌++◌, length, take, get_or, slice_get, position, filter, if◌then◌else◌, Option, Some, None, is_some, Bool, true, false, cond, refl, sym, ◌∙◌, ap, subst, true≢false, arith}
+use Rattle.std.proofs.Common.{◌≡◌, ◌≢◌, ◌==◌, ◌&&◌, ◌<◌, ◌≤◌, ◌-◌, ◌+◌, ◌⊎◌, inl, inr, ℕ, zero, suc, List, [], ◌∷◌, ◌++◌, length, take, get_or, slice_get, position, filter, if◌then◌else◌, Option, Some, None, is_some, IsSome, option_to_list, Bool, true, false, cond, refl, sym, ◌∙◌, ap, subst, true≢false, arith}
 use Rattle.std.specs.List.{AllByRecursion, list_any}
 use Rattle.std.specs.Ordering.{eq_by_cmp}
 use Rattle.std.specs.declared.cmp.Ordering.{Ordering}
@@ -322,16 +322,12 @@ numbered_again k n old new i (gets f m s) = subst IsNumbered (sym s) (with_key_n
 last_index : (ks : List Key) (k : Key) → length (ks ++ k ∷ []) - 1 ≡ length ks
 last_index ks k = let l : length (ks ++ k ∷ []) ≡ length ks + 1 = length-append ks (k ∷ []) in omega (arith, l)
 
--- the last key of keys that end with it
-pub last_key : (ks js : List Key) (k : Key) → js ≡ ks ++ k ∷ [] → slice_get js (length js - 1) ≡ Some k
-last_key ks js k h = ap (λ (l : List Key). slice_get l (length l - 1)) h ∙ ap (slice_get (ks ++ k ∷ [])) (last_index ks k) ∙ get_last ks k
-
--- and those before it
-pub keys_before : (ks js : List Key) (k : Key) → js ≡ ks ++ k ∷ [] → ks ≡ take (length js - 1) js
-keys_before ks js k h = sym (ap (λ (l : List Key). take (length l - 1) l) h ∙ ap (λ n. take n (ks ++ k ∷ [])) (last_index ks k) ∙ take-append_seam ks (k ∷ []))
-
-pub last_taken : (k : Key) (t : Numbering) (ks : List Key) (es : List (Key × ℕ)) → IsNumbered t → t.keys ≡ ks ++ k ∷ [] → es ≡ removed key_cmp k t.order → IsNumbered (record { keys = ks; order = es })
-last_taken k t ks es i h o = popped_numbered k t (record { keys = ks; order = es }) i (last_key ks t.keys k h) (keys_before ks t.keys k h) o
+-- what a pop leaves of keys
+pub keys_left : (k : Key) (js ks : List Key) (o : Option Key) → slice_get js (length js - 1) ≡ Some k → (0 < length js → IsSome o) → js ≡ ks ++ option_to_list o → ks ≡ take (length js - 1) js
+keys_left k js ks None l s h =
+    let w : length js - 1 < length js = slice_get_within js (length js - 1) k l in
+    absurd (true≢false (sym (s (omega (arith, w)))))
+keys_left k js ks (Some j) l s h = sym (ap (λ (l : List Key). take (length l - 1) l) h ∙ ap (λ n. take n (ks ++ j ∷ [])) (last_index ks j) ∙ take-append_seam ks (j ∷ []))
 
 module _ {X : Type 0} where
   still_found : (j : Key) (x : X) (e : Key × X) (es : List (Key × X)) → AreSorted (e ∷ es) → find key_cmp j es ≡ Some x → find key_cmp j (e ∷ es) ≡ Some x

@@ -89,9 +89,11 @@ impl KeyTable {
         ensures order { (k : AnyKey) → slice_get self.old.keys (length self.old.keys - 1) ≡ Some k
             → self.new.order ≡ removed key_cmp k self.old.order }
     {
-        if let Some(key) = self.keys.pop() {
-            self.order.remove(&key);
-        }
+        let Some(key) = self.keys.last() else {
+            return;
+        };
+        self.order.remove(key);
+        self.keys.pop();
     }
 
     /// The least key above the given one, or the least of all where none is given, with its number.
