@@ -1,4 +1,4 @@
-use Rattle.std.proofs.Common.{◌≡◌, ℕ, None, Result, IfOk, sym, ◌∙◌, ap, subst}
+use Rattle.std.proofs.Common.{◌≡◌, None, IfOk, sym, ◌∙◌, ap, subst}
 use Rattle.indexmap.specs.IndexSet.{insert_key}
 use Rattle.jc_rules.specs.contracts.key.KeyPartialEq.TheImpl.{eq-value}
 use Rattle.jc_rules.specs.Order.{key_cmp}
