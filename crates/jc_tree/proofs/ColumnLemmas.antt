@@ -1,9 +1,9 @@
 -- About Numbered: the entries of a column, in the words of entries by key.
-use Rattle.std.proofs.Common.{◌≡◌, ◌≢◌, ◌<◌, ◌≤◌, ◌-◌, ◌+◌, ◌⊎◌, inl, inr, ℕ, zero, suc, List, [], ◌∷◌, ◌++◌, length, take, get_or, slice_get, Option, Some, None, Bool, true, false, refl, sym, ◌∙◌, ap, subst, true≢false, arith}
+use Rattle.std.proofs.Common.{◌≡◌, ◌<◌, ◌≤◌, ◌-◌, ◌+◌, ◌⊎◌, inl, inr, ℕ, List, [], ◌∷◌, length, take, get_or, slice_get, Option, Some, None, Bool, true, false, refl, sym, ◌∙◌, ap, subst, true≢false, arith}
 use Rattle.std.specs.List.{AllByRecursion}
 use Rattle.std.specs.Ordering.{eq_by_cmp}
 use Rattle.std.specs.declared.cmp.Ordering.TheVariants.{Less}
-use Rattle.std.proofs.lemmas.List.{length-append, length-take-le}
+use Rattle.std.proofs.lemmas.List.{length-take-le}
 use Rattle.std.proofs.lemmas.Option.{slice_get_past, slice_get_within, slice_get_cases}
 use Rattle.jc_rules.specs.declared.key.Key.{Key}
 use Rattle.jc_rules.specs.Order.{key_cmp}
@@ -18,7 +18,7 @@ use Rattle.jc_tree.specs.Undo.{removed, restored}
 use Rattle.jc_tree.specs.Numbered.{Numbering, IsNumbered, GetsNumber, at_number, IsSetAt, shown, column_entries}
 use Rattle.jc_tree.specs.Numbered.GetsNumber.{had, gets}
 pub use Rattle.jc_tree.proofs.NumberedLemmas.{number_within, keys_grow, has_number, one_key, key_at, number_at, no_keys, popped_numbered}
-use Rattle.jc_tree.proofs.NumberedLemmas.{get_last, get_taken, length_taken}
+use Rattle.jc_tree.proofs.NumberedLemmas.{get_taken, length_taken}
 use Rattle.jc_tree.proofs.ShownLemmas.{rising-shown, find-shown, put-shown, take-shown, new-shown, gone-shown, same-shown}
 use Rattle.jc_tree.proofs.ShownLeastLemmas.{none-shown, there-shown, further-shown}
 use Rattle.jc_tree.proofs.SortedMapLemmas.{replaced_absent}
@@ -137,26 +137,6 @@ module _ {X : Type 0} where
   popped_column k col old new i h o a =
       let w : length old.keys - 1 < length old.keys = slice_get_within old.keys (length old.keys - 1) k h in
       ap (λ es. shown (λ n. at_number (take (length old.keys - 1) col) n) es) o ∙ column_below k (length old.keys - 1) col old i (omega (arith, w)) h a
-
-  -- a blank at the end changes nothing
-  pub push_blank : (col : List (Option X)) (n : ℕ) → at_number (col ++ None ∷ []) n ≡ at_number col n
-  push_blank [] zero = refl
-  push_blank [] (suc n) = refl
-  push_blank (o ∷ col) zero = refl
-  push_blank (o ∷ col) (suc n) = push_blank col n
-
-  before_end : (col : List (Option X)) (o : Option X) (n : ℕ) → n ≢ length col → at_number (col ++ o ∷ []) n ≡ at_number col n
-  before_end [] o zero d = absurd (d refl)
-  before_end [] o (suc n) d = refl
-  before_end (p ∷ col) o zero d = refl
-  before_end (p ∷ col) o (suc n) d = before_end col o n (λ q. d (ap suc q))
-
-  -- a value at the end is set there
-  pub push_value : (x : X) (old col : List (Option X)) (n : ℕ) → length col ≡ n → ((m : ℕ) → at_number col m ≡ at_number old m) → IsSetAt n (Some x) old (col ++ Some x ∷ [])
-  push_value x old col n l s = record
-    { here = ap (λ m. at_number (col ++ Some x ∷ []) m) (sym l) ∙ ap (λ o. go_on o (λ o. o)) (get_last col (Some x))
-    ; others = λ m d. before_end col (Some x) m (λ q. d (q ∙ l)) ∙ s m
-    ; within = λ most h g. let u : length (col ++ Some x ∷ []) ≡ length col + 1 = length-append col (Some x ∷ []) in omega (arith, u, l, g) }
 
   -- where no key of the order comes after the given one, no key of the entries does
   pub none_above_column : (after : Option Key) (col : List (Option X)) (t : Numbering) → IsNumbered t → least_after after (keys_of t.order) ≡ None → least_after after (keys_of (column_entries col t)) ≡ None

@@ -1,23 +1,33 @@
 -- About Numbered: keys with their numbers.
-use Rattle.std.proofs.Common.{◌≡◌, ◌≢◌, ◌<◌, ◌≤◌, ◌-◌, ◌+◌, ◌⊎◌, inl, inr, ℕ, zero, suc, List, [], ◌∷◌, ◌++◌, length, take, get_or, slice_get, position, Option, Some, None, is_some, Bool, true, false, cond, refl, sym, ◌∙◌, ap, subst, true≢false, arith}
+use Rattle.std.proofs.Common.{◌≡◌, ◌≢◌, ◌==◌, ◌&&◌, ◌<◌, ◌≤◌, ◌-◌, ◌+◌, ◌⊎◌, inl, inr, ℕ, zero, suc, List, [], ◌∷◌, ◌++◌, length, take, get_or, slice_get, position, filter, if◌then◌else◌, Option, Some, None, is_some, IsSome, option_to_list, Bool, true, false, cond, refl, sym, ◌∙◌, ap, subst, true≢false, arith}
 use Rattle.std.specs.List.{AllByRecursion, list_any}
 use Rattle.std.specs.Ordering.{eq_by_cmp}
-use Rattle.std.specs.declared.cmp.Ordering.{Ordering}
-use Rattle.std.specs.declared.cmp.Ordering.TheVariants.{Less, Equal, Greater}
+use Rattle.std.specs.declared.cmp.Ordering.TheVariants.{Less}
 use Rattle.std.proofs.lemmas.List.{length-append}
+use Rattle.std.proofs.Math.Seq.{take-append_seam}
+use Rattle.std.specs.BTreeMap.{insert_entry}
+use Rattle.std.specs.BTreeMap.Range.{entries_between}
+use Rattle.std.specs.declared.ops.Bound.TheVariants.{Excluded, Unbounded}
+use Rattle.indexmap.specs.IndexSet.{insert_key}
 use Rattle.std.proofs.lemmas.List.Folds.{list_any_at}
 use Rattle.std.proofs.lemmas.List.Quantifiers.{position-Some}
-use Rattle.std.proofs.lemmas.Option.{same_Some, slice_get_past, slice_get_within, slice_get-get_or, get_or_from_slice_get, slice_get_cases}
+use Rattle.std.proofs.lemmas.Option.{same_Some, slice_get_within, slice_get-get_or, get_or_from_slice_get, slice_get_cases}
+use Rattle.std.proofs.lemmas.Bool.{eqb-true, eq-eqb}
+use Rattle.std.specs.Cmp.Lexicographic.{bytes_decides}
+use Rattle.jc_rules.specs.contracts.key.KeyOrd.TheImpl.{cmp-value}
+use Rattle.jc_rules.specs.contracts.key.KeyPartialEq.TheImpl.{eq-value}
 use Rattle.jc_rules.specs.declared.key.Key.{Key}
+use Rattle.jc_rules.specs.declared.key.Key.TheVariants.{Doc, Head, Name, Elem}
 use Rattle.jc_rules.specs.Order.{key_cmp}
-use Rattle.jc_rules.specs.Entries.{IsRising, keys_of, find, put}
+use Rattle.jc_rules.specs.Entries.{keys_of, find, put}
 use Rattle.jc_rules.proofs.OrderLemmas.{keys_total, exact_keys}
 use Rattle.jc_rules.proofs.EntriesLemmas.{same-self, same-back, same-eq, find-put, found-put, rising-put}
-use Rattle.jc_rules.proofs.RisingLemmas.{less_greater}
 use Rattle.jc_tree.specs.Sorted.{AreSorted}
+use Rattle.jc_tree.specs.Tree.{is_after}
 use Rattle.jc_tree.specs.Undo.{removed}
 use Rattle.jc_tree.specs.Numbered.{Numbering, IsNumbered, GetsNumber, with_key}
 use Rattle.jc_tree.specs.Numbered.GetsNumber.{had, gets}
+use Rattle.jc_tree.proofs.SortedMapLemmas.{insert_is, between_is}
 
 abbrev same : Key → Key → Bool
 same j k = eq_by_cmp key_cmp j k
@@ -97,6 +107,63 @@ number_is eq exact own k t None i p s = go (find key_cmp k t.order) refl
         let a : list_any (eq k) t.keys ≡ true = list_any_at (eq k) t.keys n k (slice_get_within t.keys n k g) (ap (eq k) e ∙ own k) in
         let c : false ≡ true = s ∙ a in
         cc
+
+both : (a b : Bool) → a && b ≡ true → (a ≡ true) × (b ≡ true)
+both true b h = (refl, h)
+both false b h = absurd (true≢false (sym h))
+
+-- the derived equality of keys tells different keys apart
+equal_keys : (j k : Key) → eq-value.it j k ≡ true → j ≡ k
+equal_keys Doc Doc h = refl
+equal_keys Head Head h = refl
+equal_keys (Name s) (Name t) h = ap Name ((bytes_decides s t).0 h)
+equal_keys (Elem i) (Elem j) h =
+    let b = both (i.counter == j.counter) (i.replica == j.replica) h in
+    ap (λ (p : ℕ × ℕ). Elem (record { counter = p.0; replica = p.1 })) (λ a. (eqb-true i.counter j.counter b.0 a, eqb-true i.replica j.replica b.1 a))
+equal_keys Doc Head h = cc
+equal_keys Doc (Name t) h = cc
+equal_keys Doc (Elem t) h = cc
+equal_keys Head Doc h = cc
+equal_keys Head (Name t) h = cc
+equal_keys Head (Elem t) h = cc
+equal_keys (Name s) Doc h = cc
+equal_keys (Name s) Head h = cc
+equal_keys (Name s) (Elem t) h = cc
+equal_keys (Elem s) Doc h = cc
+equal_keys (Elem s) Head h = cc
+equal_keys (Elem s) (Name t) h = cc
+
+-- and a key is equal to itself
+equal_itself : (k : Key) → eq-value.it k k ≡ true
+equal_itself Doc = refl
+equal_itself Head = refl
+equal_itself (Name s) = (bytes_decides s s).1 refl
+equal_itself (Elem i) = rw (eq-eqb i.counter i.counter refl, eq-eqb i.replica i.replica refl) refl
+
+pub number_of_key : (k : Key) (t : Numbering) (o : Option ℕ) → IsNumbered t → o ≡ position (eq-value.it k) t.keys → is_some o ≡ list_any (eq-value.it k) t.keys → o ≡ find key_cmp k t.order
+number_of_key = number_is eq-value.it equal_keys equal_itself
+
+not_among : (k : Key) (ks : List Key) → ((n : ℕ) → slice_get ks n ≢ Some k) → list_any (eq-value.it k) ks ≡ false
+not_among k [] h = refl
+not_among k (j ∷ ks) h = go (eq-value.it k j) refl (not_among k ks (λ n. h (suc n)))
+  where
+    go : (b : Bool) → eq-value.it k j ≡ b → list_any (eq-value.it k) ks ≡ false → list_any (eq-value.it k) (j ∷ ks) ≡ false
+    go true e ih = absurd (h 0 (ap Some (sym (equal_keys k j e))))
+    go false e ih = rw e ih
+
+-- a key that has no number isn't among the keys
+absent_key : (k : Key) (t : Numbering) → IsNumbered t → find key_cmp k t.order ≡ None → list_any (eq-value.it k) t.keys ≡ false
+absent_key k t i f = not_among k t.keys (λ n g. let c : None ≡ Some n = sym f ∙ number_at t i k n g in cc)
+
+-- a key that is put in last, with the next number, gets it
+pub number_given : (k i j : Key) (n : ℕ) (t : Numbering) (ks ks' : List Key) (es : List (Key × ℕ)) → IsNumbered t → find key_cmp k t.order ≡ None → ks ≡ t.keys → n ≡ length ks → i ≡ k → j ≡ k → ks' ≡ insert_key eq-value.it ks i → es ≡ insert_entry cmp-value.it t.order j n → GetsNumber k n t (record { keys = ks'; order = es })
+number_given k i j n t ks ks' es h f a m b c p q = gets f (m ∙ ap length a) (λ x. record { keys = keys x; order = order x })
+  where
+    keys : ks' ≡ t.keys ++ k ∷ []
+    keys = p ∙ (λ x. insert_key eq-value.it (a x) (b x)) ∙ ap (λ (y : Bool). if y then t.keys else t.keys ++ k ∷ []) (absent_key k t h f)
+
+    order : es ≡ put key_cmp k (length t.keys) t.order
+    order = q ∙ insert_is j n t.order h.rise ∙ (λ x. put key_cmp (c x) ((m ∙ ap length a) x) t.order)
 
 -- a numbering without a key is one with it
 pub with_key_numbered : (k : Key) (t : Numbering) → IsNumbered t → find key_cmp k t.order ≡ None → IsNumbered (with_key k t)
@@ -244,3 +311,49 @@ popped_numbered k old new i h t o =
     let popped : Numbering = record { keys = take (length old.keys - 1) old.keys; order = removed key_cmp k old.order } in
     let is : new ≡ popped = λ a. record { keys = t a; order = o a } in
     subst IsNumbered (sym is) (numbered_below k (length old.keys - 1) old i (omega (arith, w)) h)
+
+-- which is a numbering again
+pub numbered_again : (k : Key) (n : ℕ) (old new : Numbering) → IsNumbered old → GetsNumber k n old new → IsNumbered new
+numbered_again k n old new i (had f s) = subst IsNumbered (sym s) i
+numbered_again k n old new i (gets f m s) = subst IsNumbered (sym s) (with_key_numbered k old i f)
+
+last_index : (ks : List Key) (k : Key) → length (ks ++ k ∷ []) - 1 ≡ length ks
+last_index ks k = let l : length (ks ++ k ∷ []) ≡ length ks + 1 = length-append ks (k ∷ []) in omega (arith, l)
+
+-- what a pop leaves of keys
+pub keys_left : (k : Key) (js ks : List Key) (o : Option Key) → slice_get js (length js - 1) ≡ Some k → (0 < length js → IsSome o) → js ≡ ks ++ option_to_list o → ks ≡ take (length js - 1) js
+keys_left k js ks None l s h =
+    let w : length js - 1 < length js = slice_get_within js (length js - 1) k l in
+    absurd (true≢false (sym (s (omega (arith, w)))))
+keys_left k js ks (Some j) l s h = sym (ap (λ (l : List Key). take (length l - 1) l) h ∙ ap (λ n. take n (ks ++ j ∷ [])) (last_index ks j) ∙ take-append_seam ks (j ∷ []))
+
+module _ {X : Type 0} where
+  still_found : (j : Key) (x : X) (e : Key × X) (es : List (Key × X)) → AreSorted (e ∷ es) → find key_cmp j es ≡ Some x → find key_cmp j (e ∷ es) ≡ Some x
+  still_found j x e es h f = go (same j e.0) refl
+    where
+      go : (b : Bool) → same j e.0 ≡ b → find key_cmp j (e ∷ es) ≡ Some x
+      go true q = let c : None ≡ Some x = sym (none_behind e.0 es h.0) ∙ ap (λ i. find key_cmp i es) (sym (equal j e.0 q)) ∙ f in cc
+      go false q = rw q f
+
+  head_found : (d e : Key × X) (es : List (Key × X)) → d ≡ e → find key_cmp e.0 (d ∷ es) ≡ Some e.1
+  head_found d e es q = ap (λ (b : Key × X). find key_cmp e.0 (b ∷ es)) q ∙ rw (self e.0) refl
+
+  -- the first entry is found, by its key
+  pub first_found : (e : Key × X) (es : List (Key × X)) → slice_get es 0 ≡ Some e → find key_cmp e.0 es ≡ Some e.1
+  first_found e [] h = cc
+  first_found e (d ∷ es) h = head_found d e es (same_Some d e h)
+
+  -- so is the first that passes
+  pub passing_found : (p : Key → Bool) (e : Key × X) (t es : List (Key × X)) → AreSorted es → filter (λ e. p e.0) es ≡ e ∷ t → find key_cmp e.0 es ≡ Some e.1
+  passing_found p e t [] h g = let c : None ≡ Some e = ap (λ l. slice_get l 0) g in cc
+  passing_found p e t (d ∷ es) h g = go (p d.0) refl (passing_found p e t es h.1)
+    where
+      go : (b : Bool) → p d.0 ≡ b → (filter (λ e. p e.0) es ≡ e ∷ t → find key_cmp e.0 es ≡ Some e.1) → find key_cmp e.0 (d ∷ es) ≡ Some e.1
+      go true q ih =
+          let l : d ∷ filter (λ e. p e.0) es ≡ e ∷ t = rw q at g in
+          head_found d e es (same_Some d e (ap (λ l. slice_get l 0) l))
+      go false q ih = still_found e.0 e.1 d es h (ih (rw q at g))
+
+  -- and so is the first that comes after a key
+  pub above_found : (k : Key) (es s t : List (Key × X)) (e : Key × X) → AreSorted es → s ≡ entries_between cmp-value.it (Excluded k) Unbounded es → s ≡ e ∷ t → find key_cmp e.0 es ≡ Some e.1
+  above_found k es s t e h b g = passing_found (is_after (Some k)) e t es h (sym (between_is k es) ∙ sym b ∙ g)

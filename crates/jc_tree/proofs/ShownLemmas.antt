@@ -1,12 +1,12 @@
 -- About Numbered: what is shown by number, in an order R that is total and tells different keys apart.
-use Rattle.std.proofs.Common.{◌≡◌, List, [], ◌∷◌, Option, Some, None, Bool, true, false, cond, refl, sym, ap, ◌∙◌}
+use Rattle.std.proofs.Common.{◌≡◌, List, [], ◌∷◌, Option, Some, None, Bool, true, false, refl, sym, ap, ◌∙◌}
 use Rattle.std.specs.List.{AllByRecursion}
-use Rattle.std.specs.Ordering.{eq_by_cmp, is_eq}
+use Rattle.std.specs.Ordering.{eq_by_cmp}
 use Rattle.std.specs.declared.cmp.Ordering.{Ordering}
 use Rattle.std.specs.declared.cmp.Ordering.TheVariants.{Less, Equal, Greater}
 use Rattle.std.specs.Cmp.{IsTotalOrder}
 use Rattle.std.proofs.lemmas.Map.Lookups.{CmpEqualImpliesEq}
-use Rattle.jc_rules.specs.Entries.{IsRising, keys_of, if_found, find, replaced, placed, put}
+use Rattle.jc_rules.specs.Entries.{IsRising, keys_of, find, placed, put}
 use Rattle.std.proofs.lemmas.Option.{same_Some}
 use Rattle.jc_rules.proofs.EntriesLemmas.{same-eq, same-self, none-below}
 use Rattle.jc_tree.specs.Arena.{go_on}

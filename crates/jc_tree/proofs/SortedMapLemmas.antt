@@ -125,7 +125,7 @@ module _ {X : Type 0} where
       go true f ih = rw f (ap (λ ks. e.0 ∷ ks) ih)
       go false f ih = rw f ih
 
-  between_is : (k : Key) (es : List (Key × X)) → entries_between cmp-value.it (Excluded k) Unbounded es ≡ filter (λ e. is_after (Some k) e.0) es
+  pub between_is : (k : Key) (es : List (Key × X)) → entries_between cmp-value.it (Excluded k) Unbounded es ≡ filter (λ e. is_after (Some k) e.0) es
   between_is k es = ap (λ (p : Key → Bool). filter (λ e. p e.0) es) (λ i j. (and_true (is_lt (cmp-value.it k j)) ∙ ap is_lt (same_cmp k j)) i)
 
   first_key : (es : List (Key × X)) → slice_get (keys_of es) 0 ≡ option_map (λ e. e.0) (slice_get es 0)

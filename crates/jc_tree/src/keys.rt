@@ -92,9 +92,11 @@ impl KeyTable {
             → self.new.order ≡ removed key_cmp k self.old.order }
         ensures numbered { IsNumbered self.old }
     {
-        if let Some(key) = self.keys.pop() {
-            self.order.remove(&key);
-        }
+        let Some(key) = self.keys.last() else {
+            return;
+        };
+        self.order.remove(key);
+        self.keys.pop();
     }
 
     /// The least key above the given one, or the least of all where none is given, with its number.
@@ -104,13 +106,14 @@ impl KeyTable {
         ensures number { IfSome result (λ p. find key_cmp p.0.now self.now.order ≡ Some p.1) }
         ensures numbered { IsNumbered self.now }
     {
-        let (key, number) = match after {
-            None => self.order.first_key_value()?,
-            Some(above) => self
-                .order
-                .range((Bound::Excluded(above), Bound::Unbounded))
-                .next()?,
+        let Some(above) = after else {
+            let (key, number) = self.order.first_key_value()?;
+            return Some((key, *number));
         };
+        let mut greater = self
+            .order
+            .range((Bound::Excluded(above), Bound::Unbounded));
+        let (key, number) = greater.next()?;
         Some((key, *number))
     }
 }
