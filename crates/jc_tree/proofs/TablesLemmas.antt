@@ -1,5 +1,6 @@
 -- About Tables: what calls by key make of the entries of a column.
-use Rattle.std.proofs.Common.{◌≡◌, ◌≢◌, ◌<◌, ◌≤◌, ℕ, zero, suc, List, [], ◌∷◌, length, slice_get, slice_set, Option, Some, None, option_map, option_copied, refl, sym, ◌∙◌, ap, subst, arith}
+use Rattle.std.proofs.Common.{◌≡◌, ◌≢◌, ◌<◌, ◌≤◌, ℕ, zero, suc, List, [], ◌∷◌, length, slice_get, slice_set, slice_index_or, Result, Ok, Err, OnOk, IfOk, IfSome, IfNone, Option, Some, None, option_map, option_copied, refl, sym, ◌∙◌, ap, subst, arith}
+use Rattle.std.proofs.lemmas.Option.{slice_get_past}
 use Rattle.jc_rules.specs.declared.key.Key.{Key}
 use Rattle.jc_rules.specs.Order.{key_cmp}
 use Rattle.jc_rules.specs.Entries.{keys_of, find, put}
@@ -82,3 +83,35 @@ module _ {X : Type 0} where
 pub may_grow : (k : Key) (old new : Numbering) → MayNumber k old new → length old.keys ≤ length new.keys
 may_grow k old new (same e) = omega (arith, ap (λ t. length t.keys) e)
 may_grow k old new (numbers n i g) = keys_grow k n old new g
+
+pub on_ok : {A E P Q : Type 0} (r : Result A E) → (P → Q) → OnOk r P → OnOk r Q
+on_ok (Ok a) f h = f h
+on_ok (Err e) f h = h
+
+pub if_ok : {A E : Type 0} {P Q : A → Type 0} (r : Result A E) → ((a : A) → P a → Q a) → IfOk r P → IfOk r Q
+if_ok (Ok a) f h = f a h
+if_ok (Err e) f h = h
+
+module _ {X : Type 0} where
+  -- the slot that a column lends
+  pub slot_here : (col : List X) (n : ℕ) (x : X) → n < length col → x ≡ slice_index_or col n x → slice_get col n ≡ Some x
+  slot_here [] n x h e = absurd (omega (arith, h))
+  slot_here (y ∷ ys) zero x h e = ap Some (sym e)
+  slot_here (y ∷ ys) (suc n) x h e = slot_here ys n x (omega (arith, h)) e
+
+  pub no_slot : (col : List X) (n : ℕ) → length col ≤ n → slice_get col n ≡ None
+  no_slot col n h = slice_get_past col n h
+
+module _ {X : Type 0} where
+  -- what a call by the key's number that restores does
+  pub restored_slot : (k : Key) (n : ℕ) (r former : Option X) (col new : List (Option X)) (t : Numbering) → IsNumbered t → find key_cmp k t.order ≡ Some n → r ≡ at_number col n → IfSome r (λ w. IsSetAt n former col new) → IfNone r (new ≡ col) → column_entries new t ≡ restored key_cmp k former (column_entries col t)
+  restored_slot k n None former col new t i f h s e = ap (λ d. column_entries d t) e ∙ sym (not_restored_blank k n former col t i f (sym h))
+  restored_slot k n (Some w) former col new t i f h s e = restored_column k n w former col new t i f (sym h) s
+
+  pub restored_within : (k : Key) (n : ℕ) (r former : Option X) (col new : List (Option X)) (t : Numbering) → IsNumbered t → find key_cmp k t.order ≡ Some n → length col ≤ length t.keys → IfSome r (λ w. IsSetAt n former col new) → IfNone r (new ≡ col) → length new ≤ length t.keys
+  restored_within k n None former col new t i f l s e = omega (arith, l, ap (λ d. length d) e)
+  restored_within k n (Some w) former col new t i f l s e = s.within (length t.keys) l (number_within k n t t i (had f refl))
+
+  -- what is set at the number that a key gets is within the keys
+  pub put_within : (k : Key) (n : ℕ) (o : Option X) (col new : List (Option X)) (old t : Numbering) → IsNumbered old × IsNumbered t → GetsNumber k n old t → length col ≤ length old.keys → IsSetAt n o col new → length new ≤ length t.keys
+  put_within k n o col new old t i g l s = s.within (length t.keys) (omega (arith, l, keys_grow k n old t g)) (number_within k n old t i.1 g)

@@ -376,7 +376,7 @@ impl ArenaNode {
         let is = !ids.is_empty();
         let former = put_in(&mut self.keys, &mut self.presences, &key, ids)?;
         let was = is_inhabited(former.as_ref());
-        self.present = recounted(self.keys.len(), self.present, was, is);
+        self.present = recounted(self.keys.count(), self.present, was, is);
         Ok(Former::Presence(key, former))
     }
 
@@ -403,7 +403,7 @@ impl ArenaNode {
         ensures err { OnErr result (self.new ≡ self.old) }
     {
         let (former, was) = add_in(&mut self.keys, &mut self.presences, key, id, alloc)?;
-        self.present = recounted(self.keys.len(), self.present, was, true);
+        self.present = recounted(self.keys.count(), self.present, was, true);
         Ok(former)
     }
 
@@ -436,7 +436,7 @@ impl ArenaNode {
     {
         let is = is_inhabited(former.as_ref());
         if let Some(ids) = restore_in(&self.keys, &mut self.presences, key, former) {
-            self.present = recounted(self.keys.len(), self.present, !ids.is_empty(), is);
+            self.present = recounted(self.keys.count(), self.present, !ids.is_empty(), is);
         }
     }
 
@@ -459,7 +459,7 @@ impl ArenaNode {
         ensures { self.new ≡ restored_flat (Former.NoId key id) self.old }
     {
         let last = take_out_in(&self.keys, &mut self.presences, &key, id);
-        self.present = recounted(self.keys.len(), self.present, last, false);
+        self.present = recounted(self.keys.count(), self.present, last, false);
     }
 
     /// Takes a change back by its undo record. Keys keep their numbers.

@@ -1,6 +1,6 @@
 //! The keys of a fast store's node, numbered by first use, with their order beside.
 
-ghost use Rattle.std.specs.Prelude.{◌≡◌, ◌<◌, ℕ, [], Some, None, length, slice_get, option_copied, option_map, IsTrue, ◌↔◌, IfOk, IfSome, OnErr, take};
+ghost use Rattle.std.specs.Prelude.{◌≡◌, ◌-◌, [], Some, length, slice_get, option_copied, option_map, IfOk, IfSome, OnErr, take};
 ghost use Rattle.jc_rules.specs.declared.key.Key.{Key as AnyKey};
 ghost use Rattle.jc_rules.specs.Order.{key_cmp};
 ghost use Rattle.jc_rules.specs.Entries.{find, keys_of};
@@ -47,6 +47,13 @@ impl KeyTable {
         ensures { result ≡ length self.now.keys }
     {
         self.keys.len()
+    }
+
+    /// How many keys there are, as their order counts them.
+    pub fn count(&self) -> usize
+        ensures { result ≡ length self.now.order }
+    {
+        self.order.len()
     }
 
     /// The key's number.
