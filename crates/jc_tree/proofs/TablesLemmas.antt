@@ -1,5 +1,5 @@
 -- About Tables: what calls by key make of the entries of a column.
-use Rattle.std.proofs.Common.{◌≡◌, ◌≢◌, ◌<◌, ◌≤◌, ℕ, zero, suc, List, [], ◌∷◌, length, slice_get, slice_set, slice_index_or, Result, Ok, Err, OnOk, IfOk, IfSome, IfNone, Option, Some, None, option_map, option_copied, refl, sym, ◌∙◌, ap, subst, arith}
+use Rattle.std.proofs.Common.{◌≡◌, ◌≢◌, ◌<◌, ◌≤◌, ℕ, zero, suc, List, [], ◌∷◌, length, slice_get, slice_set, slice_index_or, Result, Ok, Err, OnOk, IfOk, IfSome, IfNone, Option, Some, None, is_some, Bool, true, false, Bor, option_map, option_copied, refl, sym, ◌∙◌, ap, subst, arith}
 use Rattle.std.proofs.lemmas.Option.{slice_get_past}
 use Rattle.jc_rules.specs.declared.key.Key.{Key}
 use Rattle.jc_rules.specs.Order.{key_cmp}
@@ -8,11 +8,12 @@ use Rattle.jc_rules.proofs.OrderLemmas.{keys_total, exact_keys}
 use Rattle.jc_rules.proofs.EntriesLemmas.{put-same}
 use Rattle.jc_tree.specs.Arena.{go_on}
 use Rattle.jc_tree.specs.Undo.{restored}
+use Rattle.jc_tree.specs.Tree.{least_after}
 use Rattle.jc_tree.specs.Numbered.{Numbering, IsNumbered, GetsNumber, at_number, IsSetAt, column_entries}
 use Rattle.jc_tree.specs.Numbered.GetsNumber.{had, gets}
 use Rattle.jc_tree.specs.Tables.{MayNumber}
 use Rattle.jc_tree.specs.Tables.MayNumber.{same, numbers}
-use Rattle.jc_tree.proofs.ColumnLemmas.{number_within, keys_grow, find_column, same_column, former_column, put_column, restored_column, not_restored, not_restored_unnumbered, not_restored_blank}
+use Rattle.jc_tree.proofs.ColumnLemmas.{number_within, keys_grow, find_column, same_column, former_column, put_column, restored_column, not_restored, not_restored_unnumbered, not_restored_blank, there_above_column, further_above_column}
 
 module _ {X : Type 0} where
   set_here : (col : List X) (n : ℕ) (x : X) → n < length col → slice_get (slice_set col n x) n ≡ Some x
@@ -115,3 +116,12 @@ module _ {X : Type 0} where
   -- what is set at the number that a key gets is within the keys
   pub put_within : (k : Key) (n : ℕ) (o : Option X) (col new : List (Option X)) (old t : Numbering) → IsNumbered old × IsNumbered t → GetsNumber k n old t → length col ≤ length old.keys → IsSetAt n o col new → length new ≤ length t.keys
   put_within k n o col new old t i g l s = s.within (length t.keys) (omega (arith, l, keys_grow k n old t g)) (number_within k n old t i.1 g)
+
+  -- the next key of the order, by whether the column has something at its number
+  pub there_above : (after : Option Key) (k : Key) (n : ℕ) (col : List (Option X)) (t : Numbering) → IsNumbered t → least_after after (keys_of t.order) ≡ Some k → find key_cmp k t.order ≡ Some n → (r : Option (Bor X)) → option_copied r ≡ at_number col n → is_some r ≡ true → least_after after (keys_of (column_entries col t)) ≡ Some k
+  there_above after k n col t i h f None e s = cc
+  there_above after k n col t i h f (Some x) e s = there_above_column after k n x.now col t i h f (sym e)
+
+  pub further_above : (after : Option Key) (k : Key) (n : ℕ) (col : List (Option X)) (t : Numbering) → IsNumbered t → least_after after (keys_of t.order) ≡ Some k → find key_cmp k t.order ≡ Some n → (r : Option (Bor X)) → option_copied r ≡ at_number col n → is_some r ≡ false → least_after after (keys_of (column_entries col t)) ≡ least_after (Some k) (keys_of (column_entries col t))
+  further_above after k n col t i h f None e s = further_above_column after k n col t i h f (sym e)
+  further_above after k n col t i h f (Some x) e s = cc

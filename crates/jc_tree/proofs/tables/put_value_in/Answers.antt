@@ -38,25 +38,25 @@ returns-in_default-clause-within c =
 pub returns-in_default-clause-ok : goal.returns-in_default-clause-ok
 returns-in_default-clause-ok c =
     let es = column_entries c.args.registers.now.items c.args.keys.now in
-    let none : find key_cmp c.args.key es ≡ None = former_slot c.args.key c.in_ok-number.number None c.args.registers.now.items c.args.keys.now c.number_of.new.self c.number_of.ensures.numbered c.in_ok-number.ensures.ok c.requires (no_slot c.args.registers.now.items c.in_ok-number.number c.in_default.ensures.item.1.1.1.0) in
+    let none : find key_cmp c.args.key es ≡ None = former_slot c.args.key c.in_ok-number.number None c.args.registers.now.items c.args.keys.now c.number_of.new.self c.number_of.ensures.numbered c.in_ok-number.ensures.ok c.requires (no_slot c.args.registers.now.items c.in_ok-number.number c.in_default.ensures.item.3) in
     put_column c.args.key c.in_ok-number.number c.in_ok-single.field-0 c.args.registers.now.items c.put_at.new.column.items c.args.keys.now c.number_of.new.self c.number_of.ensures.numbered.0 c.number_of.ensures.numbered.1 c.in_ok-number.ensures.ok c.requires c.in_ok-put_at.ensures.ok
     ∙ ap (λ (x : Register). put key_cmp c.args.key x es) (c.in_ok-single.ensures ∙ ap (λ (o : Option Register). put id_cmp c.args.id c.args.value (or_no_entries o)) (sym none))
 
 pub returns-in_default-clause-former : goal.returns-in_default-clause-former
 returns-in_default-clause-former c =
-    ap (λ (o : Option Register). former_of_value c.args.key c.args.id o) (sym (former_slot c.args.key c.in_ok-number.number None c.args.registers.now.items c.args.keys.now c.number_of.new.self c.number_of.ensures.numbered c.in_ok-number.ensures.ok c.requires (no_slot c.args.registers.now.items c.in_ok-number.number c.in_default.ensures.item.1.1.1.0)))
+    ap (λ (o : Option Register). former_of_value c.args.key c.args.id o) (sym (former_slot c.args.key c.in_ok-number.number None c.args.registers.now.items c.args.keys.now c.number_of.new.self c.number_of.ensures.numbered c.in_ok-number.ensures.ok c.requires (no_slot c.args.registers.now.items c.in_ok-number.number c.in_default.ensures.item.3)))
 
 pub returns-clause-ok : goal.returns-clause-ok
 returns-clause-ok c =
     let col = c.args.registers.now.items in
     let es = column_entries col c.args.keys.now in
-    let here = slot_here col c.in_ok-number.number c.in-Some.register.now c.in-Some.ensures.item.1.1.1.0.0 c.in-Some.ensures.item.1.0 in
+    let here = slot_here col c.in_ok-number.number c.in-Some.register.now c.in-Some.ensures.item.3.0 c.in-Some.ensures.item.1 in
     let was : find key_cmp c.args.key es ≡ c.in-Some.register.now = former_slot c.args.key c.in_ok-number.number (Some c.in-Some.register.now) col c.args.keys.now c.number_of.new.self c.number_of.ensures.numbered c.in_ok-number.ensures.ok c.requires here in
     on_ok c.put_to_register.result (λ e. put_slot c.args.key c.in_ok-number.number _ c.in-Some.register.now c.put_to_register.new.register col c.args.keys.now c.number_of.new.self c.number_of.ensures.numbered c.in_ok-number.ensures.ok c.requires here e ∙ ap (λ (o : Option Register). put key_cmp c.args.key (put id_cmp c.args.id c.args.value (or_no_entries o)) es) (sym was)) c.put_to_register.ensures.ok
 
 pub returns-clause-former : goal.returns-clause-former
 returns-clause-former c =
     let col = c.args.registers.now.items in
-    let here = slot_here col c.in_ok-number.number c.in-Some.register.now c.in-Some.ensures.item.1.1.1.0.0 c.in-Some.ensures.item.1.0 in
+    let here = slot_here col c.in_ok-number.number c.in-Some.register.now c.in-Some.ensures.item.3.0 c.in-Some.ensures.item.1 in
     let was = former_slot c.args.key c.in_ok-number.number (Some c.in-Some.register.now) col c.args.keys.now c.number_of.new.self c.number_of.ensures.numbered c.in_ok-number.ensures.ok c.requires here in
     if_ok c.put_to_register.result (λ a e. e ∙ ap (λ (o : Option Register). former_of_value c.args.key c.args.id o) (sym was)) c.put_to_register.ensures.former

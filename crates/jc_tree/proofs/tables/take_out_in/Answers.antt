@@ -21,21 +21,21 @@ returns-in-Some-get_mut-clause-ok c =
     let col = c.args.sets.now.items in
     let es = column_entries col c.args.keys.now in
     let item = c.in-Some-get_mut.ensures.item in
-    in_place c.args.key.now c.in-Some.number (λ (s : List Id). taken_out c.args.id s) (λ o. out_of_set c.args.key.now c.args.id o es) c.in-Some-get_mut.set.now c.take_out_of_set.new.set col c.args.keys.now c.number.ensures.numbered (sym c.number.ensures.found ∙ c.in-Some.is) (slot_here col c.in-Some.number c.in-Some-get_mut.set.now item.1.1.1.0.0 item.1.0) c.take_out_of_set.ensures.ok c.requires refl (λ x. refl)
+    in_place c.args.key.now c.in-Some.number (λ (s : List Id). taken_out c.args.id s) (λ o. out_of_set c.args.key.now c.args.id o es) c.in-Some-get_mut.set.now c.take_out_of_set.new.set col c.args.keys.now c.number.ensures.numbered (sym c.number.ensures.found ∙ c.in-Some.is) (slot_here col c.in-Some.number c.in-Some-get_mut.set.now item.3.0 item.1) c.take_out_of_set.ensures.ok c.requires refl (λ x. refl)
 
 pub returns-in-Some-get_mut-clause-last : goal.returns-in-Some-get_mut-clause-last
 returns-in-Some-get_mut-clause-last c =
     let col = c.args.sets.now.items in
     let item = c.in-Some-get_mut.ensures.item in
-    c.take_out_of_set.ensures.last ∙ ap (λ (o : Option (List Id)). is_last c.args.id (or_no_entries o)) (sym (found_slot c.args.key.now c.in-Some.number (Some c.in-Some-get_mut.set.now) col c.args.keys.now c.number.ensures.numbered (sym c.number.ensures.found ∙ c.in-Some.is) (slot_here col c.in-Some.number c.in-Some-get_mut.set.now item.1.1.1.0.0 item.1.0)))
+    c.take_out_of_set.ensures.last ∙ ap (λ (o : Option (List Id)). is_last c.args.id (or_no_entries o)) (sym (found_slot c.args.key.now c.in-Some.number (Some c.in-Some-get_mut.set.now) col c.args.keys.now c.number.ensures.numbered (sym c.number.ensures.found ∙ c.in-Some.is) (slot_here col c.in-Some.number c.in-Some-get_mut.set.now item.3.0 item.1)))
 
 pub returns-in-None-clause-ok : goal.returns-in-None-clause-ok
 returns-in-None-clause-ok c =
     let col = c.args.sets.now.items in
     let es = column_entries col c.args.keys.now in
-    ap (λ o. out_of_set c.args.key.now c.args.id o es) (sym (found_slot c.args.key.now c.in-Some.number None col c.args.keys.now c.number.ensures.numbered (sym c.number.ensures.found ∙ c.in-Some.is) (no_slot col c.in-Some.number c.in-None.ensures.item.1.1.1.0)))
+    ap (λ o. out_of_set c.args.key.now c.args.id o es) (sym (found_slot c.args.key.now c.in-Some.number None col c.args.keys.now c.number.ensures.numbered (sym c.number.ensures.found ∙ c.in-Some.is) (no_slot col c.in-Some.number c.in-None.ensures.item.3)))
 
 pub returns-in-None-clause-last : goal.returns-in-None-clause-last
 returns-in-None-clause-last c =
     let col = c.args.sets.now.items in
-    ap (λ (o : Option (List Id)). is_last c.args.id (or_no_entries o)) (sym (found_slot c.args.key.now c.in-Some.number None col c.args.keys.now c.number.ensures.numbered (sym c.number.ensures.found ∙ c.in-Some.is) (no_slot col c.in-Some.number c.in-None.ensures.item.1.1.1.0)))
+    ap (λ (o : Option (List Id)). is_last c.args.id (or_no_entries o)) (sym (found_slot c.args.key.now c.in-Some.number None col c.args.keys.now c.number.ensures.numbered (sym c.number.ensures.found ∙ c.in-Some.is) (no_slot col c.in-Some.number c.in-None.ensures.item.3)))
