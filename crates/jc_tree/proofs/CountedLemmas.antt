@@ -23,7 +23,7 @@ one s = one_if (has_ids s)
 abbrev pub one_of : Option (List Id) → ℕ
 one_of o = one (or_no_entries o)
 
-count_cons : (e : Key × List Id) (es : List (Key × List Id)) → count_present (e ∷ es) ≡ one e.1 + count_present es
+pub count_cons : (e : Key × List Id) (es : List (Key × List Id)) → count_present (e ∷ es) ≡ one e.1 + count_present es
 count_cons e es = sum_by-cons (λ (d : Key × List Id). cond (has_ids d.1) 1 0) e es
 
 -- the set of an entry that is put in another's place

@@ -26,3 +26,4 @@ pub mod ShownLeastLemmas
 pub mod NumberedLemmas
 pub mod ColumnLemmas
 pub mod TablesLemmas
+pub mod ArenaNodeLemmas

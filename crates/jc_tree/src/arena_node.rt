@@ -134,6 +134,21 @@ fn hint_of(keys: &KeyTable, next: Next) -> usize {
     }
 }
 
+/// What follows a key, by its link.
+fn next_of(link: Option<&Link>) -> Option<Next>
+    ensures { result ≡ option_copied link.entry }
+{
+    Some(link?.next)
+}
+
+/// The link's hint, or else the given one.
+fn hint_after(link: Option<&Link>, hint: Hint) -> Hint {
+    match link {
+        Some(link) => Hint { number: link.hint },
+        None => hint,
+    }
+}
+
 /// Whether there is a map, a list or a register at the number.
 fn has_tag(
     maps: &[Option<NodeId>],
@@ -286,10 +301,9 @@ impl ArenaNode {
             };
         };
         let present = is_inhabited(value_at(self.presences.as_slice(), number));
-        let (next, hint) = match value_at(self.links.as_slice(), number) {
-            Some(link) => (Some(link.next), Hint { number: link.hint }),
-            None => (None, hint),
-        };
+        let link = value_at(self.links.as_slice(), number);
+        let next = next_of(link);
+        let hint = hint_after(link, hint);
         Step {
             next,
             present,

@@ -1,31 +1,41 @@
-use Rattle.std.proofs.Common.{rules, ◌≡◌, ◌≤◌, ◌+◌, ℕ, ◌++◌, cond, None, is_some, option_copied, ◌||◌, IfOk, IsTrue, OnOk, OnErr, ◌-◌, ◌*◌, ◌<◌, length, ◌/◌, ◌%◌, Bool, true, false, nat_eq, nat_lt, List, [], ◌∷◌, slice_index_or, slice_set, bit_and, bit_or, Fits, w8, w32, w64, Bor, MutBor}
-use Rattle.jc_rules.specs.Order.{key_cmp}
+use Rattle.std.proofs.Common.{◌≡◌, ◌+◌, ◌≤◌, ◌-◌, ◌||◌, ◌++◌, ℕ, List, Bool, true, false, not, cond, Option, Some, None, is_some, option_copied, length, take, slice_get, refl, sym, ◌∙◌, ap, arith}
+use Rattle.jc_rules.specs.declared.id.Id.{Id}
+use Rattle.jc_rules.specs.declared.key.Key.{Key}
+use Rattle.jc_rules.specs.declared.key.Next.{Next}
+use Rattle.jc_rules.specs.Context.{Register}
+use Rattle.jc_rules.specs.Order.{key_cmp, id_cmp}
 use Rattle.jc_rules.specs.Entries.{find, put, keys_of}
-use Rattle.jc_rules.specs.Paths.{HasContext}
+use Rattle.jc_rules.specs.Ids.{with_id}
+use Rattle.jc_tree.specs.Arena.{Flat, changed_flat, with_child_number}
 use Rattle.jc_tree.specs.Tree.{or_no_entries, least_after, has_ids, count_present}
-use Rattle.jc_tree.specs.Numbered.{at_number}
-use Rattle.jc_tree.specs.Tables.{AreWithin, IsBare, flat_of}
-use Rattle.jc_tree.specs.Arena.{blank, new_flat, child_number, is_in, with_child_number, IsInside, changed_flat, former_of_node, former_of_flat, restored_flat}
+use Rattle.jc_tree.specs.Undo.{restored}
+use Rattle.jc_tree.specs.Numbered.{Numbering, at_number, column_entries}
+use Rattle.jc_tree.specs.Tables.{AreWithin, IsNodeOf, IsBare, flat_of}
+use Rattle.jc_tree.specs.Tables.MayNumber.{same}
+use Rattle.jc_tree.proofs.SortedMapLemmas.{on_err, as_err}
+use Rattle.jc_tree.proofs.TablesLemmas.{on_ok, found_none, may_same}
+use Rattle.jc_tree.proofs.ColumnLemmas.{find_column}
+use Rattle.jc_tree.proofs.CountedLemmas.{counted_put, counted_add, counted_restore, counted_out, restored_absent}
+use Rattle.jc_tree.proofs.WalksLemmas.{IsNext, next_is}
+use Rattle.jc_tree.proofs.ArenaNodeLemmas.{within_maps, within_lists, within_registers, within_presences, within_links, count_stays, seen_maps, seen_lists, seen_registers, seen_presences, seen_links, count_within, popped_flat, tag_there, no_tag_there, no_tag_above}
 use Rattle.jc_tree.proofs.arena_node.ArenaNode.put_presence.Goals as goal
 
--- src/arena_node.rt:377:22
 pub returns-in_err-former-clause-err : goal.returns-in_err-former-clause-err
-returns-in_err-former-clause-err c = ?
+returns-in_err-former-clause-err c = as_err _ (seen_presences c.args.key c.self.inside.keys c.put_in.new.keys c.self.inside.maps.items c.self.inside.lists.items c.self.inside.registers.items c.self.inside.presences.items c.self.inside.links.items c.self.invariant.within c.put_in.ensures.numbers c.args.self.now c.self.view_is c.put_in.new.column.items _ (c.in_err-former.ensures.err ∙ (ap (λ (d : Flat). d.presences) c.self.view_is)))
 
--- src/arena_node.rt:379:24
-pub recounted-self-inside-requires-clause-within :
-    goal.recounted-self-inside-requires-clause-within
-recounted-self-inside-requires-clause-within c = ?
+pub recounted-self-inside-requires-clause-within : goal.recounted-self-inside-requires-clause-within
+recounted-self-inside-requires-clause-within c =
+    omega (arith, counted_put c.self.inside.present c.args.key _ c.self.invariant.count c.args.ids _ _ _ _ c.is_empty-is.ensures c.is_inhabited-was.ensures (c.as_ref.ensures.value ∙ c.in_ok-former.ensures.former) c.in_ok-former.ensures.ok, c.count.ensures, count_within c.put_in.new.column.items c.put_in.new.keys)
 
--- src/arena_node.rt:379:24
-pub recounted-self-inside-requires-clause-counted :
-    goal.recounted-self-inside-requires-clause-counted
-recounted-self-inside-requires-clause-counted c = ?
+pub recounted-self-inside-requires-clause-counted : goal.recounted-self-inside-requires-clause-counted
+recounted-self-inside-requires-clause-counted c =
+    omega (arith, counted_put c.self.inside.present c.args.key _ c.self.invariant.count c.args.ids _ _ _ _ c.is_empty-is.ensures c.is_inhabited-was.ensures (c.as_ref.ensures.value ∙ c.in_ok-former.ensures.former) c.in_ok-former.ensures.ok)
 
--- src/arena_node.rt:371:5
 pub invariant_of-self-2 : goal.invariant_of-self-2
-invariant_of-self-2 c = ?
+invariant_of-self-2 c = record {
+  within = within_presences c.args.key c.self.inside.keys c.put_in.new.keys c.self.inside.maps.items c.self.inside.lists.items c.self.inside.registers.items c.self.inside.presences.items c.self.inside.links.items c.self.invariant.within c.put_in.ensures.numbers c.put_in.new.column.items c.put_in.ensures.within;
+  count = omega (arith, counted_put c.self.inside.present c.args.key _ c.self.invariant.count c.args.ids _ _ _ _ c.is_empty-is.ensures c.is_inhabited-was.ensures (c.as_ref.ensures.value ∙ c.in_ok-former.ensures.former) c.in_ok-former.ensures.ok, c.recounted-self-inside.ensures);
+}
 
--- src/arena_node.rt:371:5
 pub returns-clause-ok : goal.returns-clause-ok
-returns-clause-ok c = ?
+returns-clause-ok c = seen_presences c.args.key c.self.inside.keys c.put_in.new.keys c.self.inside.maps.items c.self.inside.lists.items c.self.inside.registers.items c.self.inside.presences.items c.self.inside.links.items c.self.invariant.within c.put_in.ensures.numbers c.args.self.now c.self.view_is c.put_in.new.column.items _ (c.in_ok-former.ensures.ok ∙ ap (λ es. put key_cmp c.args.key c.args.ids es) (ap (λ (d : Flat). d.presences) c.self.view_is))

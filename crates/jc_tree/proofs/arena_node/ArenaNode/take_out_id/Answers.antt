@@ -1,23 +1,35 @@
-use Rattle.std.proofs.Common.{rules, ◌≡◌, ◌≤◌, ◌+◌, ℕ, ◌++◌, cond, None, is_some, option_copied, ◌||◌, IfOk, IsTrue, OnOk, OnErr, ◌-◌, ◌*◌, ◌<◌, length, ◌/◌, ◌%◌, Bool, true, false, nat_eq, nat_lt, List, [], ◌∷◌, slice_index_or, slice_set, bit_and, bit_or, Fits, w8, w32, w64, Bor, MutBor}
-use Rattle.jc_rules.specs.Order.{key_cmp}
+use Rattle.std.proofs.Common.{◌≡◌, ◌+◌, ◌≤◌, ◌-◌, ◌||◌, ◌++◌, ℕ, List, Bool, true, false, not, cond, Option, Some, None, is_some, option_copied, length, take, slice_get, refl, sym, ◌∙◌, ap, arith}
+use Rattle.jc_rules.specs.declared.id.Id.{Id}
+use Rattle.jc_rules.specs.declared.key.Key.{Key}
+use Rattle.jc_rules.specs.declared.key.Next.{Next}
+use Rattle.jc_rules.specs.Context.{Register}
+use Rattle.jc_rules.specs.Order.{key_cmp, id_cmp}
 use Rattle.jc_rules.specs.Entries.{find, put, keys_of}
-use Rattle.jc_rules.specs.Paths.{HasContext}
+use Rattle.jc_rules.specs.Ids.{with_id}
+use Rattle.jc_tree.specs.Arena.{Flat, changed_flat, with_child_number}
 use Rattle.jc_tree.specs.Tree.{or_no_entries, least_after, has_ids, count_present}
-use Rattle.jc_tree.specs.Numbered.{at_number}
-use Rattle.jc_tree.specs.Tables.{AreWithin, IsBare, flat_of}
-use Rattle.jc_tree.specs.Arena.{blank, new_flat, child_number, is_in, with_child_number, IsInside, changed_flat, former_of_node, former_of_flat, restored_flat}
+use Rattle.jc_tree.specs.Undo.{restored}
+use Rattle.jc_tree.specs.Numbered.{Numbering, at_number, column_entries}
+use Rattle.jc_tree.specs.Tables.{AreWithin, IsNodeOf, IsBare, flat_of}
+use Rattle.jc_tree.specs.Tables.MayNumber.{same}
+use Rattle.jc_tree.proofs.SortedMapLemmas.{on_err, as_err}
+use Rattle.jc_tree.proofs.TablesLemmas.{on_ok, found_none, may_same}
+use Rattle.jc_tree.proofs.ColumnLemmas.{find_column}
+use Rattle.jc_tree.proofs.CountedLemmas.{counted_put, counted_add, counted_restore, counted_out, restored_absent}
+use Rattle.jc_tree.proofs.WalksLemmas.{IsNext, next_is}
+use Rattle.jc_tree.proofs.ArenaNodeLemmas.{within_maps, within_lists, within_registers, within_presences, within_links, count_stays, seen_maps, seen_lists, seen_registers, seen_presences, seen_links, count_within, popped_flat, tag_there, no_tag_there, no_tag_above}
 use Rattle.jc_tree.proofs.arena_node.ArenaNode.take_out_id.Goals as goal
 
--- src/arena_node.rt:462:24
-pub recounted-self-inside-requires-clause-within :
-    goal.recounted-self-inside-requires-clause-within
-recounted-self-inside-requires-clause-within c = ?
+pub recounted-self-inside-requires-clause-within : goal.recounted-self-inside-requires-clause-within
+recounted-self-inside-requires-clause-within c =
+    omega (arith, counted_out c.self.inside.present c.args.key _ c.self.invariant.count c.args.id _ _ c.take_out_in-last.ensures.last c.take_out_in-last.ensures.ok, c.count.ensures, count_within c.take_out_in-last.new.sets.items c.self.inside.keys)
 
--- src/arena_node.rt:462:24
-pub recounted-self-inside-requires-clause-counted :
-    goal.recounted-self-inside-requires-clause-counted
-recounted-self-inside-requires-clause-counted c = ?
+pub recounted-self-inside-requires-clause-counted : goal.recounted-self-inside-requires-clause-counted
+recounted-self-inside-requires-clause-counted c =
+    omega (arith, counted_out c.self.inside.present c.args.key _ c.self.invariant.count c.args.id _ _ c.take_out_in-last.ensures.last c.take_out_in-last.ensures.ok)
 
--- src/arena_node.rt:458:5
 pub invariant_of-self : goal.invariant_of-self
-invariant_of-self c = ?
+invariant_of-self c = record {
+  within = within_presences c.args.key c.self.inside.keys c.self.inside.keys c.self.inside.maps.items c.self.inside.lists.items c.self.inside.registers.items c.self.inside.presences.items c.self.inside.links.items c.self.invariant.within (same refl) c.take_out_in-last.new.sets.items c.take_out_in-last.ensures.within;
+  count = omega (arith, counted_out c.self.inside.present c.args.key _ c.self.invariant.count c.args.id _ _ c.take_out_in-last.ensures.last c.take_out_in-last.ensures.ok, c.recounted-self-inside.ensures);
+}
