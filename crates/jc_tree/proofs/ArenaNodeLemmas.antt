@@ -2,6 +2,7 @@
 use Rattle.std.proofs.Common.{◌≡◌, ◌≤◌, ◌<◌, ◌+◌, ◌-◌, ◌||◌, ℕ, zero, suc, List, [], ◌∷◌, ◌++◌, length, take, slice_get, Bool, true, false, not, cond, Option, Some, None, is_some, option_to_list, refl, sym, ◌∙◌, ap, subst, arith}
 use Rattle.std.specs.declared.cmp.Ordering.{Ordering}
 use Rattle.std.specs.declared.cmp.Ordering.TheVariants.{Less, Equal, Greater}
+use Rattle.std.proofs.lemmas.List.{length-take-le}
 use Rattle.jc_rules.specs.declared.id.Id.{Id}
 use Rattle.jc_rules.specs.declared.key.Key.{Key}
 use Rattle.jc_rules.specs.declared.key.Next.{Next}
@@ -175,14 +176,14 @@ kind_not_below : (k : Key) (b : Bool) (a : Option Key) (ks : List Key) → a ≡
 kind_not_below k true a ks e = ap (lesser k) e ∙ lesser_itself k
 kind_not_below k false a ks e = ap (lesser k) e ∙ next_not_below k ks
 
-module _ (k : Key) (a b c : Option Key) (as bs cs : List Key) where
-  three : (u v w : Bool) → a ≡ cond u (Some k) (least_after (Some k) as) → b ≡ cond v (Some k) (least_after (Some k) bs) → c ≡ cond w (Some k) (least_after (Some k) cs) → (u || v || w) ≡ true → least_of (least_of a b) c ≡ Some k
-  three true v w e f g h = ap (λ o. least_of (least_of o b) c) e ∙ ap (λ o. least_of o c) (left_least k b (kind_not_below k v b bs f)) ∙ left_least k c (kind_not_below k w c cs g)
-  three false true w e f g h = ap (λ o. least_of (least_of a o) c) f ∙ ap (λ o. least_of o c) (right_least k a (kind_not_below k false a as e)) ∙ left_least k c (kind_not_below k w c cs g)
-  three false false true e f g h = ap (λ o. least_of (least_of a b) o) g ∙ right_least k (least_of a b) (both_not_below k a b (kind_not_below k false a as e) (kind_not_below k false b bs f))
+module _ (k : Key) (a b c : Option Key) (is js ks : List Key) where
+  three : (u v w : Bool) → a ≡ cond u (Some k) (least_after (Some k) is) → b ≡ cond v (Some k) (least_after (Some k) js) → c ≡ cond w (Some k) (least_after (Some k) ks) → (u || v || w) ≡ true → least_of (least_of a b) c ≡ Some k
+  three true v w e f g h = ap (λ o. least_of (least_of o b) c) e ∙ ap (λ o. least_of o c) (left_least k b (kind_not_below k v b js f)) ∙ left_least k c (kind_not_below k w c ks g)
+  three false true w e f g h = ap (λ o. least_of (least_of a o) c) f ∙ ap (λ o. least_of o c) (right_least k a (kind_not_below k false a is e)) ∙ left_least k c (kind_not_below k w c ks g)
+  three false false true e f g h = ap (λ o. least_of (least_of a b) o) g ∙ right_least k (least_of a b) (both_not_below k a b (kind_not_below k false a is e) (kind_not_below k false b js f))
   three false false false e f g h = cc
 
-  none_of : (u v w : Bool) → a ≡ cond u (Some k) (least_after (Some k) as) → b ≡ cond v (Some k) (least_after (Some k) bs) → c ≡ cond w (Some k) (least_after (Some k) cs) → (u || v || w) ≡ false → least_of (least_of a b) c ≡ least_of (least_of (least_after (Some k) as) (least_after (Some k) bs)) (least_after (Some k) cs)
+  none_of : (u v w : Bool) → a ≡ cond u (Some k) (least_after (Some k) is) → b ≡ cond v (Some k) (least_after (Some k) js) → c ≡ cond w (Some k) (least_after (Some k) ks) → (u || v || w) ≡ false → least_of (least_of a b) c ≡ least_of (least_of (least_after (Some k) is) (least_after (Some k) js)) (least_after (Some k) ks)
   none_of true v w e f g h = cc
   none_of false true w e f g h = cc
   none_of false false true e f g h = cc
@@ -209,3 +210,38 @@ module _ (after : Option Key) (t : Numbering) (i : IsNumbered t) where
 
     pub no_tag_above : least_after after (keys_of t.order) ≡ None → least_after after (keys_of (column_entries m t) ++ keys_of (column_entries l t) ++ keys_of (column_entries r t)) ≡ None
     no_tag_above h = kinds after ∙ (λ j. least_of (least_of (none_above_column after m t i h j) (none_above_column after l t i h j)) (none_above_column after r t i h j))
+
+module _ (t u : Numbering) (m l : List (Option ℕ)) (r : List (Option Register)) (p : List (Option (List Id))) (x : List (Option Next)) (last : ℕ) (i : IsNumbered t) (some : last + 1 ≡ length t.keys) (keys : u.keys ≡ take (length t.keys - 1) t.keys) (order : (k : Key) → slice_get t.keys (length t.keys - 1) ≡ Some k → u.order ≡ removed key_cmp k t.order) (b : IsBare last m l r p x) where
+  last_is : last ≡ length t.keys - 1
+  last_is = omega (arith, some)
+
+  fewer : last ≡ length u.keys
+  fewer = sym (ap length keys ∙ length-take-le (length t.keys - 1) t.keys (omega (arith, some)) ∙ sym last_is)
+
+  cut_length : {X : Type 0} (col : List X) → length (take last col) ≤ length u.keys
+  cut_length col = go last col (omega (arith, fewer))
+    where
+      go : {X : Type 0} (n : ℕ) (c : List X) → n ≤ length u.keys → length (take n c) ≤ length u.keys
+      go zero c h = omega arith
+      go (suc n) [] h = omega arith
+      go (suc n) (y ∷ c) h = omega (arith, shorter n c, h)
+        where
+          shorter : {X : Type 0} (n : ℕ) (c : List X) → length (take n c) ≤ n
+          shorter zero c = omega arith
+          shorter (suc n) [] = omega arith
+          shorter (suc n) (y ∷ c) = omega (arith, shorter n c)
+
+  pub trimmed_within : AreWithin u (take last m) (take last l) (take last r) (take last p) (take last x)
+  trimmed_within = record { maps = cut_length m; lists = cut_length l; registers = cut_length r; presences = cut_length p; links = cut_length x }
+
+  pub trimmed_seen : flat_of u (take last m) (take last l) (take last r) (take last p) (take last x) ≡ flat_of t m l r p x
+  trimmed_seen = go (slice_get t.keys (length t.keys - 1)) refl
+    where
+      go : (o : Option Key) → slice_get t.keys (length t.keys - 1) ≡ o → flat_of u (take last m) (take last l) (take last r) (take last p) (take last x) ≡ flat_of t m l r p x
+      go None e = absurd (none_past t.keys (length t.keys - 1) (omega (arith, some)) e)
+        where
+          none_past : {X : Type 0} (c : List X) (n : ℕ) → n < length c → slice_get c n ≡ None → ⊥
+          none_past [] n h e = omega (arith, h)
+          none_past (y ∷ c) zero h e = cc
+          none_past (y ∷ c) (suc n) h e = none_past c n (omega (arith, h)) e
+      go (Some k) e = popped_flat k t u m l r p x last i last_is e (order k e) b

@@ -17,8 +17,11 @@ use Rattle.jc_tree.proofs.TablesLemmas.{on_ok, found_none, may_same}
 use Rattle.jc_tree.proofs.ColumnLemmas.{find_column}
 use Rattle.jc_tree.proofs.CountedLemmas.{counted_put, counted_add, counted_restore, counted_out, restored_absent}
 use Rattle.jc_tree.proofs.WalksLemmas.{IsNext, next_is}
-use Rattle.jc_tree.proofs.ArenaNodeLemmas.{within_maps, within_lists, within_registers, within_presences, within_links, count_stays, seen_maps, seen_lists, seen_registers, seen_presences, seen_links, count_within, popped_flat, tag_there, no_tag_there, no_tag_above}
+use Rattle.jc_tree.proofs.ArenaNodeLemmas.{within_maps, within_lists, within_registers, within_presences, within_links, count_stays, seen_maps, seen_lists, seen_registers, seen_presences, seen_links, count_within, popped_flat, tag_there, no_tag_there, no_tag_above, trimmed_within, trimmed_seen}
 use Rattle.jc_tree.proofs.arena_node.trim.Goals as goal
 
 pub loop-last-preserved : goal.loop-last-preserved
-loop-last-preserved c = ?
+loop-last-preserved c =
+    let n = c.in-Some.last in
+    let bare = c.is_bare.ensures ? in
+    ?
