@@ -122,7 +122,7 @@ popped_flat key t u m l r p x last i e h o b = rw e (λ j. record {
 })
 
 -- that is no lesser key
-not_below : Key → Option Key → Type 0
+abbrev not_below : Key → Option Key → Type 0
 not_below k o = lesser k o ≡ Some k
 
 same_key : (k j : Key) → Some j ≡ Some k → j ≡ k
@@ -146,7 +146,7 @@ right_least k (Some j) h = go (key_cmp k j) refl h
   where
     go : (c : Ordering) → key_cmp k j ≡ c → lesser k (Some j) ≡ Some k → lesser j (Some k) ≡ Some k
     go Less e f = rw (less_greater keys_total k j e) refl
-    go Equal e f = let s : k ≡ j = exact_keys k j e in rw s (rw s at e) refl
+    go Equal e f = let s : k ≡ j = exact_keys k j e in rw s (lesser_itself j)
     go Greater e f = let s : Some j ≡ Some k = rw e at f in ap (λ i. lesser j (Some i)) (sym (same_key k j s)) ∙ lesser_itself j ∙ s
 
 both_not_below : (k : Key) (a b : Option Key) → not_below k a → not_below k b → not_below k (least_of a b)
@@ -191,7 +191,7 @@ module _ (k : Key) (a b c : Option Key) (is js ks : List Key) where
 
 module _ (after : Option Key) (t : Numbering) (i : IsNumbered t) where
   kind : {X : Type 0} (k : Key) (n : ℕ) (col : List (Option X)) → least_after after (keys_of t.order) ≡ Some k → find key_cmp k t.order ≡ Some n → least_after after (keys_of (column_entries col t)) ≡ cond (is_some (at_number col n)) (Some k) (least_after (Some k) (keys_of (column_entries col t)))
-  kind k n col h f = go (at_number col n) refl
+  kind {X = X} k n col h f = go (at_number col n) refl
     where
       go : (o : Option X) → at_number col n ≡ o → least_after after (keys_of (column_entries col t)) ≡ cond (is_some (at_number col n)) (Some k) (least_after (Some k) (keys_of (column_entries col t)))
       go None e = further_above_column after k n col t i h f e ∙ ap (λ q. cond (is_some q) (Some k) (least_after (Some k) (keys_of (column_entries col t)))) (sym e)
