@@ -125,15 +125,6 @@ some_left {b} h = ap not h ∙ twice b
     twice true = refl
     twice false = refl
 
--- whether an identifier was the last one, by whether the set was and is empty
-pub last_there : {was is : Bool} (i : Id) (s t : List Id) → was ≡ not (has_ids s) → was ≡ false → t ≡ taken_out i s → is ≡ not (has_ids t) → is ≡ is_last i s
-last_there i [] t h g e f = let n : false ≡ true = sym g ∙ h in cc
-last_there i (j ∷ js) t h g e f = f ∙ ap (λ l. not (has_ids l)) e
-
-pub none_there : {was : Bool} (i : Id) (s : List Id) → was ≡ not (has_ids s) → was ≡ true → not was ≡ is_last i s
-none_there i [] h g = ap not g
-none_there i (j ∷ js) h g = let n : true ≡ false = sym g ∙ h in cc
-
 module _ (n : ℕ) (k : Key) (es : List (Key × List Id)) (count : n ≡ count_present es) where
   ones : {a b : Bool} → a ≡ b → one_if a ≡ one_if b
   ones h = ap one_if h

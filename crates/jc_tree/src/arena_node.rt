@@ -2,7 +2,7 @@
 
 ghost use Rattle.std.specs.Prelude.{◌≡◌, ◌≤◌, ◌+◌, ℕ, ◌++◌, cond, None, is_some, option_copied, ◌||◌, IfOk, IsTrue, OnOk, OnErr};
 ghost use Rattle.jc_rules.specs.Order.{key_cmp};
-ghost use Rattle.jc_rules.specs.Entries.{find, put, keys_of};
+ghost use Rattle.jc_rules.specs.Entries.{find, keys_of};
 ghost use Rattle.jc_rules.specs.Paths.{HasContext};
 ghost use Rattle.jc_tree.specs.Tree.{or_no_entries, least_after, has_ids, count_present};
 ghost use Rattle.jc_tree.specs.Numbered.{at_number};

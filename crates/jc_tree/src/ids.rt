@@ -43,7 +43,7 @@ impl Ids {
     pub fn single(id: Id, alloc: Global) -> Result<Self, AllocError>
         ensures { IfOk result (λ ids. ids ≡ id ∷ []) }
     {
-        let mut ids = Vec::new(alloc);
+        let mut ids = Vec::with_capacity(alloc, 1)?;
         ids.push(id)?;
         Ok(Ids { ids })
     }
