@@ -17,7 +17,7 @@ use Rattle.jc_tree.specs.Tree.{least_after}
 use Rattle.jc_tree.specs.Undo.{removed, restored}
 use Rattle.jc_tree.specs.Numbered.{Numbering, IsNumbered, GetsNumber, at_number, IsSetAt, shown, column_entries}
 use Rattle.jc_tree.specs.Numbered.GetsNumber.{had, gets}
-pub use Rattle.jc_tree.proofs.NumberedLemmas.{number_within, keys_grow, has_number, one_key, key_at, number_at, no_keys, popped_numbered}
+pub use Rattle.jc_tree.proofs.NumberedLemmas.{number_within, keys_grow, has_number, one_key, key_at, number_at, blank_numbered, numbered_again, no_keys, popped_numbered}
 use Rattle.jc_tree.proofs.NumberedLemmas.{get_taken, length_taken}
 use Rattle.jc_tree.proofs.ShownLemmas.{rising-shown, find-shown, put-shown, take-shown, new-shown, gone-shown, same-shown}
 use Rattle.jc_tree.proofs.ShownLeastLemmas.{none-shown, there-shown, further-shown}
@@ -31,16 +31,17 @@ module _ {N : Type 0} where
   -- what goes for each entry that is found goes for all entries
   each_found : (P : Key × N → Type 0) (es : List (Key × N)) → AreSorted es → ((e : Key × N) → find key_cmp e.0 es ≡ Some e.1 → P e) → AllByRecursion P es
   each_found P [] r h = tt
-  each_found P (e ∷ es) r h =
-      ( h e (rw (same-self keys_total exact_keys e.0) refl)
-      , below_all P e.0 es r.0 (each_found (λ f. key_cmp e.0 f.0 ≡ Less → P f) es r.1 (λ f g l. h f (rw (less_greater keys_total e.0 f.0 l) g))) )
+  each_found P (e ∷ es) r h = (
+    h e (rw (same-self keys_total exact_keys e.0) refl),
+    below_all P e.0 es r.0 (each_found (λ f. key_cmp e.0 f.0 ≡ Less → P f) es r.1 (λ f g l. h f (rw (less_greater keys_total e.0 f.0 l) g))),
+  )
 
 module _ {X : Type 0} where
   -- what is set at a key's number leaves what other keys have
   others_stay : (k : Key) (n : ℕ) (o : Option X) (col col' : List (Option X)) (t : Numbering) → IsNumbered t → find key_cmp k t.order ≡ Some n → IsSetAt n o col col' → AllByRecursion (λ e. eq_by_cmp key_cmp k e.0 ≡ false → at_number col' e.1 ≡ at_number col e.1) t.order
   others_stay k n o col col' t i f s =
       each_found (λ e. eq_by_cmp key_cmp k e.0 ≡ false → at_number col' e.1 ≡ at_number col e.1) t.order i.rise
-        (λ e g d. s.others e.1 (λ q. true≢false (sym (same-self keys_total exact_keys k) ∙ ap (eq_by_cmp key_cmp k) (one_key t i k e.0 n f (g ∙ ap Some q)) ∙ d)))
+      (λ e g d. s.others e.1 (λ q. true≢false (sym (same-self keys_total exact_keys k) ∙ ap (eq_by_cmp key_cmp k) (one_key t i k e.0 n f (g ∙ ap Some q)) ∙ d)))
 
   removed_absent : (k : Key) (es : List (Key × X)) → find key_cmp k es ≡ None → removed key_cmp k es ≡ es
   removed_absent k [] h = refl

@@ -41,7 +41,11 @@ pub fn put_at<X: Drop>(
 
 /// Gives the number the value that it had, or none, where it has one, and returns the one that it has.
 /// It takes no memory: a number without a value gets none.
-pub fn restore_at<X: Drop>(column: &mut Vec<Option<X>>, number: usize, former: Option<X>) -> Option<X>
+pub fn restore_at<X: Drop>(
+    column: &mut Vec<Option<X>>,
+    number: usize,
+    former: Option<X>,
+) -> Option<X>
     ensures was { result ≡ at_number column.old.items number }
     ensures some { IfSome result (λ was. IsSetAt number former column.old.items column.new.items) }
     ensures none { IfNone result (column.new.items ≡ column.old.items) }

@@ -6,7 +6,7 @@ ghost use Rattle.jc_rules.specs.Order.{key_cmp};
 ghost use Rattle.jc_rules.specs.Entries.{find, keys_of};
 ghost use Rattle.jc_tree.specs.Tree.{least_after};
 ghost use Rattle.jc_tree.specs.Undo.{removed};
-ghost use Rattle.jc_tree.specs.Numbered.{GetsNumber};
+ghost use Rattle.jc_tree.specs.Numbered.{IsNumbered, GetsNumber};
 ghost use Rattle.jc_rules.specs.declared.key.Key.{Key as AnyKey};
 
 use indexmap::IndexSet;
@@ -71,6 +71,7 @@ impl KeyTable {
     pub fn number_of(&mut self, key: &Key) -> Result<usize, AllocError>
         ensures ok { IfOk result (λ n. GetsNumber key.now n self.old self.new) }
         ensures err { OnErr result (self.new ≡ self.old) }
+        ensures numbered { IsNumbered self.new }
     {
         if let Some(number) = self.number(key) {
             return Ok(number);
@@ -88,6 +89,7 @@ impl KeyTable {
         ensures keys { self.new.keys ≡ take (length self.old.keys - 1) self.old.keys }
         ensures order { (k : AnyKey) → slice_get self.old.keys (length self.old.keys - 1) ≡ Some k
             → self.new.order ≡ removed key_cmp k self.old.order }
+        ensures numbered { IsNumbered self.new }
     {
         let Some(key) = self.keys.last() else {
             return;
@@ -106,9 +108,7 @@ impl KeyTable {
             let (key, number) = self.order.first_key_value()?;
             return Some((key, *number));
         };
-        let mut greater = self
-            .order
-            .range((Bound::Excluded(above), Bound::Unbounded));
+        let mut greater = self.order.range((Bound::Excluded(above), Bound::Unbounded));
         let (key, number) = greater.next()?;
         Some((key, *number))
     }
