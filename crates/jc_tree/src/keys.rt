@@ -52,14 +52,16 @@ impl KeyTable {
 
     /// The key's number.
     pub fn number(&self, key: &Key) -> Option<usize>
-        ensures { result ≡ find key_cmp key.now self.now.order }
+        ensures found { result ≡ find key_cmp key.now self.now.order }
+        ensures numbered { IsNumbered self.now }
     {
         self.keys.get_index_of(key)
     }
 
     /// The key's number, which may be the given one: then no search is needed.
     pub fn number_near(&self, key: &Key, hint: usize) -> Option<usize>
-        ensures { result ≡ find key_cmp key.now self.now.order }
+        ensures found { result ≡ find key_cmp key.now self.now.order }
+        ensures numbered { IsNumbered self.now }
     {
         match self.keys.get_index(hint) {
             Some(there) if there == key => Some(hint),
@@ -71,7 +73,7 @@ impl KeyTable {
     pub fn number_of(&mut self, key: &Key) -> Result<usize, AllocError>
         ensures ok { IfOk result (λ n. GetsNumber key.now n self.old self.new) }
         ensures err { OnErr result (self.new ≡ self.old) }
-        ensures numbered { IsNumbered self.new }
+        ensures numbered { IsNumbered self.old × IsNumbered self.new }
     {
         if let Some(number) = self.number(key) {
             return Ok(number);
@@ -89,7 +91,8 @@ impl KeyTable {
         ensures keys { self.new.keys ≡ take (length self.old.keys - 1) self.old.keys }
         ensures order { (k : AnyKey) → slice_get self.old.keys (length self.old.keys - 1) ≡ Some k
             → self.new.order ≡ removed key_cmp k self.old.order }
-        ensures numbered { IsNumbered self.new }
+        ensures numbered { IsNumbered self.old }
+        ensures left { IsNumbered self.new }
     {
         let Some(key) = self.keys.last() else {
             return;
@@ -103,6 +106,7 @@ impl KeyTable {
         ensures key { option_map (λ p. p.0.now) result
             ≡ least_after (option_copied after.entry) (keys_of self.now.order) }
         ensures number { IfSome result (λ p. find key_cmp p.0.now self.now.order ≡ Some p.1) }
+        ensures numbered { IsNumbered self.now }
     {
         let Some(above) = after else {
             let (key, number) = self.order.first_key_value()?;
