@@ -1,7 +1,7 @@
 //! Entries that are kept by number: a fast store's node has a column for each kind. A column may be shorter than the
 //! numbers are many; nothing is past its end.
 
-ghost use Rattle.std.specs.Prelude.{◌≡◌, ◌≤◌, None, length, take, option_copied, IfOk, IfSome, IfNone, OnOk, OnErr, Some};
+ghost use Rattle.std.specs.Prelude.{◌≡◌, None, take, option_copied, IfOk, IfSome, IfNone, OnOk, OnErr, Some};
 ghost use Rattle.jc_tree.specs.Numbered.{at_number, IsSetAt};
 
 use std::alloc::AllocError;
