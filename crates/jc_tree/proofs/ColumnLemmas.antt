@@ -1,9 +1,9 @@
 -- About Numbered: the entries of a column, in the words of entries by key.
-use Rattle.std.proofs.Common.{◌≡◌, ◌<◌, ◌≤◌, ◌-◌, ◌+◌, ◌⊎◌, inl, inr, ℕ, List, [], ◌∷◌, length, take, get_or, slice_get, Option, Some, None, Bool, true, false, refl, sym, ◌∙◌, ap, subst, true≢false, arith}
+use Rattle.std.proofs.Common.{◌≡◌, ◌≢◌, ◌<◌, ◌≤◌, ◌-◌, ◌+◌, ◌⊎◌, inl, inr, ℕ, zero, suc, slice_set, List, [], ◌∷◌, length, take, get_or, slice_get, Option, Some, None, Bool, true, false, refl, sym, ◌∙◌, ap, subst, true≢false, arith}
 use Rattle.std.specs.List.{AllByRecursion}
 use Rattle.std.specs.Ordering.{eq_by_cmp}
 use Rattle.std.specs.declared.cmp.Ordering.TheVariants.{Less}
-use Rattle.std.proofs.lemmas.List.{length-take-le}
+use Rattle.std.proofs.lemmas.List.{length-set, length-take-le}
 use Rattle.std.proofs.lemmas.Option.{slice_get_past, slice_get_within, slice_get_cases}
 use Rattle.jc_rules.specs.declared.key.Key.{Key}
 use Rattle.jc_rules.specs.Order.{key_cmp}
@@ -17,7 +17,7 @@ use Rattle.jc_tree.specs.Tree.{least_after}
 use Rattle.jc_tree.specs.Undo.{removed, restored}
 use Rattle.jc_tree.specs.Numbered.{Numbering, IsNumbered, GetsNumber, at_number, IsSetAt, shown, column_entries}
 use Rattle.jc_tree.specs.Numbered.GetsNumber.{had, gets}
-pub use Rattle.jc_tree.proofs.NumberedLemmas.{number_within, keys_grow, has_number, one_key, key_at, number_at, no_keys, popped_numbered}
+pub use Rattle.jc_tree.proofs.NumberedLemmas.{number_within, keys_grow, has_number, one_key, key_at, number_at, blank_numbered, numbered_again, no_keys, popped_numbered}
 use Rattle.jc_tree.proofs.NumberedLemmas.{get_taken, length_taken}
 use Rattle.jc_tree.proofs.ShownLemmas.{rising-shown, find-shown, put-shown, take-shown, new-shown, gone-shown, same-shown}
 use Rattle.jc_tree.proofs.ShownLeastLemmas.{none-shown, there-shown, further-shown}
@@ -31,16 +31,17 @@ module _ {N : Type 0} where
   -- what goes for each entry that is found goes for all entries
   each_found : (P : Key × N → Type 0) (es : List (Key × N)) → AreSorted es → ((e : Key × N) → find key_cmp e.0 es ≡ Some e.1 → P e) → AllByRecursion P es
   each_found P [] r h = tt
-  each_found P (e ∷ es) r h =
-      ( h e (rw (same-self keys_total exact_keys e.0) refl)
-      , below_all P e.0 es r.0 (each_found (λ f. key_cmp e.0 f.0 ≡ Less → P f) es r.1 (λ f g l. h f (rw (less_greater keys_total e.0 f.0 l) g))) )
+  each_found P (e ∷ es) r h = (
+    h e (rw (same-self keys_total exact_keys e.0) refl),
+    below_all P e.0 es r.0 (each_found (λ f. key_cmp e.0 f.0 ≡ Less → P f) es r.1 (λ f g l. h f (rw (less_greater keys_total e.0 f.0 l) g))),
+  )
 
 module _ {X : Type 0} where
   -- what is set at a key's number leaves what other keys have
   others_stay : (k : Key) (n : ℕ) (o : Option X) (col col' : List (Option X)) (t : Numbering) → IsNumbered t → find key_cmp k t.order ≡ Some n → IsSetAt n o col col' → AllByRecursion (λ e. eq_by_cmp key_cmp k e.0 ≡ false → at_number col' e.1 ≡ at_number col e.1) t.order
   others_stay k n o col col' t i f s =
       each_found (λ e. eq_by_cmp key_cmp k e.0 ≡ false → at_number col' e.1 ≡ at_number col e.1) t.order i.rise
-        (λ e g d. s.others e.1 (λ q. true≢false (sym (same-self keys_total exact_keys k) ∙ ap (eq_by_cmp key_cmp k) (one_key t i k e.0 n f (g ∙ ap Some q)) ∙ d)))
+      (λ e g d. s.others e.1 (λ q. true≢false (sym (same-self keys_total exact_keys k) ∙ ap (eq_by_cmp key_cmp k) (one_key t i k e.0 n f (g ∙ ap Some q)) ∙ d)))
 
   removed_absent : (k : Key) (es : List (Key × X)) → find key_cmp k es ≡ None → removed key_cmp k es ≡ es
   removed_absent k [] h = refl
@@ -137,6 +138,26 @@ module _ {X : Type 0} where
   popped_column k col old new i h o a =
       let w : length old.keys - 1 < length old.keys = slice_get_within old.keys (length old.keys - 1) k h in
       ap (λ es. shown (λ n. at_number (take (length old.keys - 1) col) n) es) o ∙ column_below k (length old.keys - 1) col old i (omega (arith, w)) h a
+
+  get_set : (col : List (Option X)) (n : ℕ) (o : Option X) → n < length col → slice_get (slice_set col n o) n ≡ Some o
+  get_set [] n o h = absurd (omega (arith, h))
+  get_set (p ∷ col) zero o h = refl
+  get_set (p ∷ col) (suc n) o h = get_set col n o (omega (arith, h))
+
+  get_other : (col : List (Option X)) (n m : ℕ) (o : Option X) → m ≢ n → slice_get (slice_set col n o) m ≡ slice_get col m
+  get_other [] n m o d = refl
+  get_other (p ∷ col) zero zero o d = absurd (d refl)
+  get_other (p ∷ col) zero (suc m) o d = refl
+  get_other (p ∷ col) (suc n) zero o d = refl
+  get_other (p ∷ col) (suc n) (suc m) o d = get_other col n m o (λ q. d (ap suc q))
+
+  -- what is written in a slot that is there is set at its number
+  pub set_at : (n : ℕ) (o : Option X) (col : List (Option X)) → n < length col → IsSetAt n o col (slice_set col n o)
+  set_at n o col h = record {
+    here = ap (λ s. go_on s (λ o. o)) (get_set col n o h);
+    others = λ m d. ap (λ s. go_on s (λ o. o)) (get_other col n m o d);
+    within = λ most l g. let s : length (slice_set col n o) ≡ length col = length-set col n o in omega (arith, s, l);
+  }
 
   -- where no key of the order comes after the given one, no key of the entries does
   pub none_above_column : (after : Option Key) (col : List (Option X)) (t : Numbering) → IsNumbered t → least_after after (keys_of t.order) ≡ None → least_after after (keys_of (column_entries col t)) ≡ None

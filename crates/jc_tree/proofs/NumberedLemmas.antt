@@ -167,9 +167,10 @@ number_given k i j n t ks ks' es h f a m b c p q = gets f (m ∙ ap length a) (�
 
 -- a numbering without a key is one with it
 pub with_key_numbered : (k : Key) (t : Numbering) → IsNumbered t → find key_cmp k t.order ≡ None → IsNumbered (with_key k t)
-with_key_numbered k t i f = record
-  { rise = rising-put keys_total exact_keys k (length t.keys) t.order i.rise
-  ; same = λ j n. (there j n, back j n) }
+with_key_numbered k t i f = record {
+  rise = rising-put keys_total exact_keys k (length t.keys) t.order i.rise;
+  same = λ j n. (there j n, back j n);
+}
   where
     there : (j : Key) (n : ℕ) → find key_cmp j (put key_cmp k (length t.keys) t.order) ≡ Some n → slice_get (t.keys ++ k ∷ []) n ≡ Some j
     there j n h = go (same j k) refl
@@ -254,6 +255,10 @@ module _ {X : Type 0} where
       go : (b : Bool) → same k e.0 ≡ b → AreSorted (removed key_cmp k es) → AreSorted (removed key_cmp k (e ∷ es))
       go true q ih = rw q h.1
       go false q ih = rw q (all_removed (λ j. key_cmp e.0 j ≡ Less) k es h.0, ih)
+
+-- nothing is a numbering
+pub blank_numbered : (t : Numbering) → t ≡ record { keys = []; order = [] } → IsNumbered t
+blank_numbered t h = subst IsNumbered (sym h) (record { rise = tt; same = λ k n. ((λ f. let c : None ≡ Some n = f in cc), (λ g. let c : None ≡ Some k = g in cc)) })
 
 -- a numbering without keys has nothing in its order
 pub no_keys : (t : Numbering) → IsNumbered t → t.keys ≡ [] → t.order ≡ []

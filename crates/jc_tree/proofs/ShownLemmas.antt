@@ -91,19 +91,19 @@ module _ {K : Type 0} {R : K → K → Ordering} (total : IsTotalOrder R) (exact
       where
         go : (b : Bool) → eq_by_cmp R k e.0 ≡ b → (o : Option X) → p e.1 ≡ o → (find R k es ≡ Some n → shown q es ≡ put R k x (shown p es)) → shown q (e ∷ es) ≡ put R k x (shown p (e ∷ es))
         go true h None w ih =
-          let s : k ≡ e.0 = same-eq total exact k e.0 h in
-          let m : e.1 ≡ n = same_Some e.1 n (rw h at f) in
-          let t : shown q es ≡ shown p es = same-shown p q es (others k p q es (rw s r.0) a.1) in
-          rw (m, v, t, ← m, w) (rw s (sym (before e.0 x (shown p es) (all-shown (λ j. R e.0 j ≡ Less) p es r.0))))
+            let s : k ≡ e.0 = same-eq total exact k e.0 h in
+            let m : e.1 ≡ n = same_Some e.1 n (rw h at f) in
+            let t : shown q es ≡ shown p es = same-shown p q es (others k p q es (rw s r.0) a.1) in
+            rw (m, v, t, ← m, w) (rw s (sym (before e.0 x (shown p es) (all-shown (λ j. R e.0 j ≡ Less) p es r.0))))
         go true h (Some y) w ih =
-          let s : k ≡ e.0 = same-eq total exact k e.0 h in
-          let m : e.1 ≡ n = same_Some e.1 n (rw h at f) in
-          let t : shown q es ≡ shown p es = same-shown p q es (others k p q es (rw s r.0) a.1) in
-          rw (m, v, t, ← m, w) (rw s (rw (same-self total exact e.0) refl))
+            let s : k ≡ e.0 = same-eq total exact k e.0 h in
+            let m : e.1 ≡ n = same_Some e.1 n (rw h at f) in
+            let t : shown q es ≡ shown p es = same-shown p q es (others k p q es (rw s r.0) a.1) in
+            rw (m, v, t, ← m, w) (rw s (rw (same-self total exact e.0) refl))
         go false h None w ih = rw (a.0 h, w) (ih (rw h at f))
         go false h (Some y) w ih =
-          let g : R k e.0 ≡ Greater = behind k n e es r f h in
-          rw (a.0 h, w) (ap (λ l. (e.0, y) ∷ l) (ih (rw h at f)) ∙ sym (passed k x (e.0, y) (shown p es) g))
+            let g : R k e.0 ≡ Greater = behind k n e es r f h in
+            rw (a.0 h, w) (ap (λ l. (e.0, y) ∷ l) (ih (rw h at f)) ∙ sym (passed k x (e.0, y) (shown p es) g))
 
     -- Where p loses the value at a key's number, the key's entry goes.
     pub take-shown : (k : K) (n : N) (p q : N → Option X) (es : List (K × N)) → IsRising R (keys_of es) → find R k es ≡ Some n → q n ≡ None → AllByRecursion (λ e. eq_by_cmp R k e.0 ≡ false → q e.1 ≡ p e.1) es → shown q es ≡ removed R k (shown p es)
@@ -112,15 +112,15 @@ module _ {K : Type 0} {R : K → K → Ordering} (total : IsTotalOrder R) (exact
       where
         go : (b : Bool) → eq_by_cmp R k e.0 ≡ b → (o : Option X) → p e.1 ≡ o → (find R k es ≡ Some n → shown q es ≡ removed R k (shown p es)) → shown q (e ∷ es) ≡ removed R k (shown p (e ∷ es))
         go true h None w ih =
-          let s : k ≡ e.0 = same-eq total exact k e.0 h in
-          let m : e.1 ≡ n = same_Some e.1 n (rw h at f) in
-          let t : shown q es ≡ shown p es = same-shown p q es (others k p q es (rw s r.0) a.1) in
-          rw (m, v, t, ← m, w) (rw s (sym (kept e.0 (shown p es) (all-shown (λ j. R e.0 j ≡ Less) p es r.0))))
+            let s : k ≡ e.0 = same-eq total exact k e.0 h in
+            let m : e.1 ≡ n = same_Some e.1 n (rw h at f) in
+            let t : shown q es ≡ shown p es = same-shown p q es (others k p q es (rw s r.0) a.1) in
+            rw (m, v, t, ← m, w) (rw s (sym (kept e.0 (shown p es) (all-shown (λ j. R e.0 j ≡ Less) p es r.0))))
         go true h (Some y) w ih =
-          let s : k ≡ e.0 = same-eq total exact k e.0 h in
-          let m : e.1 ≡ n = same_Some e.1 n (rw h at f) in
-          let t : shown q es ≡ shown p es = same-shown p q es (others k p q es (rw s r.0) a.1) in
-          rw (m, v, t, ← m, w) (rw s (rw (same-self total exact e.0) refl))
+            let s : k ≡ e.0 = same-eq total exact k e.0 h in
+            let m : e.1 ≡ n = same_Some e.1 n (rw h at f) in
+            let t : shown q es ≡ shown p es = same-shown p q es (others k p q es (rw s r.0) a.1) in
+            rw (m, v, t, ← m, w) (rw s (rw (same-self total exact e.0) refl))
         go false h None w ih = rw (a.0 h, w) (ih (rw h at f))
         go false h (Some y) w ih = rw (a.0 h, w, h) (ap (λ l. (e.0, y) ∷ l) (ih (rw h at f)))
 

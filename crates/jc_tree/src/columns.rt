@@ -1,7 +1,7 @@
 //! Entries that are kept by number: a fast store's node has a column for each kind. A column may be shorter than the
 //! numbers are many; nothing is past its end.
 
-ghost use Rattle.std.specs.Prelude.{◌≡◌, ◌≤◌, None, length, take, option_copied, IfOk, IfSome, IfNone, OnOk, OnErr, Some};
+ghost use Rattle.std.specs.Prelude.{◌≡◌, None, take, option_copied, IfOk, IfSome, IfNone, OnOk, OnErr, Some};
 ghost use Rattle.jc_tree.specs.Numbered.{at_number, IsSetAt};
 
 use std::alloc::AllocError;
@@ -41,7 +41,11 @@ pub fn put_at<X: Drop>(
 
 /// Gives the number the value that it had, or none, where it has one, and returns the one that it has.
 /// It takes no memory: a number without a value gets none.
-pub fn restore_at<X: Drop>(column: &mut Vec<Option<X>>, number: usize, former: Option<X>) -> Option<X>
+pub fn restore_at<X: Drop>(
+    column: &mut Vec<Option<X>>,
+    number: usize,
+    former: Option<X>,
+) -> Option<X>
     ensures was { result ≡ at_number column.old.items number }
     ensures some { IfSome result (λ was. IsSetAt number former column.old.items column.new.items) }
     ensures none { IfNone result (column.new.items ≡ column.old.items) }

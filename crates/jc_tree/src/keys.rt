@@ -1,12 +1,13 @@
 //! The keys of a fast store's node, numbered by first use, with their order beside.
 
-ghost use Rattle.std.specs.Prelude.{◌≡◌, ◌-◌, [], Some, length, slice_get, option_copied, option_map, IfOk, IfSome, OnErr, take};
-ghost use Rattle.jc_rules.specs.declared.key.Key.{Key as AnyKey};
+ghost use Rattle.std.specs.Prelude.{◌≡◌, ◌-◌, [], length, take, slice_get, option_copied, Some, IfOk, IfSome, OnErr};
+ghost use Rattle.std.specs.Option.{option_map};
 ghost use Rattle.jc_rules.specs.Order.{key_cmp};
 ghost use Rattle.jc_rules.specs.Entries.{find, keys_of};
 ghost use Rattle.jc_tree.specs.Tree.{least_after};
 ghost use Rattle.jc_tree.specs.Undo.{removed};
-ghost use Rattle.jc_tree.specs.Numbered.{GetsNumber, IsNumbered};
+ghost use Rattle.jc_tree.specs.Numbered.{IsNumbered, GetsNumber};
+ghost use Rattle.jc_rules.specs.declared.key.Key.{Key as AnyKey};
 
 use indexmap::IndexSet;
 use jc_rules::Key;
@@ -98,6 +99,7 @@ impl KeyTable {
         ensures order { (k : AnyKey) → slice_get self.old.keys (length self.old.keys - 1) ≡ Some k
             → self.new.order ≡ removed key_cmp k self.old.order }
         ensures numbered { IsNumbered self.old }
+        ensures left { IsNumbered self.new }
     {
         let Some(key) = self.keys.last() else {
             return;
@@ -117,9 +119,7 @@ impl KeyTable {
             let (key, number) = self.order.first_key_value()?;
             return Some((key, *number));
         };
-        let mut greater = self
-            .order
-            .range((Bound::Excluded(above), Bound::Unbounded));
+        let mut greater = self.order.range((Bound::Excluded(above), Bound::Unbounded));
         let (key, number) = greater.next()?;
         Some((key, *number))
     }

@@ -11,8 +11,8 @@ pub returns-in_default-clause-key : goal.returns-in_default-clause-key
 returns-in_default-clause-key c =
     let es = c.self.inside.order.entries in
     sym (ap (λ (t : Numbering). least_after (option_copied c.args.after) (keys_of t.order)) (sym c.self.view_is)
-      ∙ ap (λ o. least_after (option_copied o) (keys_of es)) c.in_default.is
-      ∙ first_some es _ c.self.invariant.rise c.in_ok-key.ensures.first)
+    ∙ ap (λ o. least_after (option_copied o) (keys_of es)) c.in_default.is
+    ∙ first_some es _ c.self.invariant.rise c.in_ok-key.ensures.first)
 
 pub returns-in_default-clause-number : goal.returns-in_default-clause-number
 returns-in_default-clause-number c =
@@ -23,15 +23,15 @@ returns-in_err-key-2-clause-key c =
     let es = c.self.inside.order.entries in
     ap (λ o. option_map (λ p. p.0.now) o) c.from_residual-in_err-key-2.ensures
     ∙ sym (ap (λ (t : Numbering). least_after (option_copied c.args.after) (keys_of t.order)) (sym c.self.view_is)
-      ∙ ap (λ o. least_after (option_copied o) (keys_of es)) c.in-Some.is
-      ∙ above_none c.in-Some.above.now es c.range-greater.result c.self.invariant.rise (c.range-greater.ensures.between tt) c.in_err-key-2.ensures.steps.0)
+    ∙ ap (λ o. least_after (option_copied o) (keys_of es)) c.in-Some.is
+    ∙ above_none c.in-Some.above.now es c.range-greater.result c.self.invariant.rise (c.range-greater.ensures.between tt) c.in_err-key-2.ensures.steps.0)
 
 pub returns-clause-key : goal.returns-clause-key
 returns-clause-key c =
     let es = c.self.inside.order.entries in
     sym (ap (λ (t : Numbering). least_after (option_copied c.args.after) (keys_of t.order)) (sym c.self.view_is)
-      ∙ ap (λ o. least_after (option_copied o) (keys_of es)) c.in-Some.is
-      ∙ above_some c.in-Some.above.now es c.range-greater.result _ _ c.self.invariant.rise (c.range-greater.ensures.between tt) c.in_ok-key-2.ensures.steps)
+    ∙ ap (λ o. least_after (option_copied o) (keys_of es)) c.in-Some.is
+    ∙ above_some c.in-Some.above.now es c.range-greater.result _ _ c.self.invariant.rise (c.range-greater.ensures.between tt) c.in_ok-key-2.ensures.steps)
 
 pub returns-clause-number : goal.returns-clause-number
 returns-clause-number c =

@@ -14,6 +14,12 @@ invariant_of-self c =
     let left = keys_left k c.self.inside.keys.keys c.pop.new.self.keys c.pop.result (sym c.in-Some.ensures.key) c.pop.ensures.found.1 c.pop.ensures.keys in
     popped_numbered k _ _ c.self.invariant (sym c.in-Some.ensures.key) left (c.remove.ensures.entries ∙ remove_is k c.self.inside.order.entries)
 
+pub returns-clause-left : goal.returns-clause-left
+returns-clause-left c =
+    let k = c.in-Some.key.now in
+    let left = keys_left k c.self.inside.keys.keys c.pop.new.self.keys c.pop.result (sym c.in-Some.ensures.key) c.pop.ensures.found.1 c.pop.ensures.keys in
+    popped_numbered k _ _ c.self.invariant (sym c.in-Some.ensures.key) left (c.remove.ensures.entries ∙ remove_is k c.self.inside.order.entries)
+
 pub returns-clause-order : goal.returns-clause-order
 returns-clause-order c = λ k h.
     let j = c.in-Some.key.now in
