@@ -9,7 +9,7 @@ ghost use Rattle.jc_tree.specs.Numbered.{at_number};
 ghost use Rattle.jc_tree.specs.Tables.{AreWithin, IsBare, flat_of};
 ghost use Rattle.jc_tree.specs.Arena.{blank, new_flat, child_number, is_in, with_child_number, IsInside, changed_flat, former_of_node, former_of_flat, restored_flat};
 
-use crate::columns::value_at;
+use crate::columns::{cut, value_at};
 use crate::ids::Ids;
 use crate::keys::KeyTable;
 use crate::lists::Pairs;
@@ -209,11 +209,11 @@ fn trim(
             return;
         }
         keys.pop();
-        maps.truncate(last);
-        lists.truncate(last);
-        registers.truncate(last);
-        presences.truncate(last);
-        links.truncate(last);
+        cut(maps, last);
+        cut(lists, last);
+        cut(registers, last);
+        cut(presences, last);
+        cut(links, last);
     }
 }
 

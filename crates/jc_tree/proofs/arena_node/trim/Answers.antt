@@ -34,12 +34,13 @@ loop-last-preserved c =
       links = ap (λ (d : List (Option Next)). at_number d n) (sym c.as_slice-in-Some-4.ensures.value) ∙ slices.links;
     } in
     let some : n + 1 ≡ length k.keys.keys = omega (arith, c.in-Some.ensures, c.len.ensures) in
-    let within : AreWithin u (take n k.maps.items) (take n k.lists.items) (take n k.registers.items) (take n k.presences.items) (take n k.links.items) = trimmed_within k.keys u k.maps.items k.lists.items k.registers.items k.presences.items k.links.items n c.pop.ensures.numbered some c.pop.ensures.keys c.pop.ensures.order bare in
-    ( record {
-      maps = omega (arith, within.maps, ap length c.truncate.ensures.items);
-      lists = omega (arith, within.lists, ap length c.truncate-in-Some.ensures.items);
-      registers = omega (arith, within.registers, ap length c.truncate-in-Some-2.ensures.items);
-      presences = omega (arith, within.presences, ap length c.truncate-in-Some-3.ensures.items);
-      links = omega (arith, within.links, ap length c.truncate-in-Some-4.ensures.items);
-    }
-    , (λ j. flat_of u (c.truncate.ensures.items j) (c.truncate-in-Some.ensures.items j) (c.truncate-in-Some-2.ensures.items j) (c.truncate-in-Some-3.ensures.items j) (c.truncate-in-Some-4.ensures.items j)) ∙ trimmed_seen k.keys u k.maps.items k.lists.items k.registers.items k.presences.items k.links.items n c.pop.ensures.numbered some c.pop.ensures.keys c.pop.ensures.order bare ∙ k.invariant.1 )
+    let within : AreWithin u (take n k.maps.items) (take n k.lists.items) (take n k.registers.items) (take n k.presences.items) (take n k.links.items) = trimmed_within k.keys u k.maps.items k.lists.items k.registers.items k.presences.items k.links.items n c.pop.ensures.numbered some c.pop.ensures.keys c.pop.ensures.order bare in (
+      record {
+        maps = omega (arith, within.maps, ap length c.cut.ensures);
+        lists = omega (arith, within.lists, ap length c.cut-in-Some.ensures);
+        registers = omega (arith, within.registers, ap length c.cut-in-Some-2.ensures);
+        presences = omega (arith, within.presences, ap length c.cut-in-Some-3.ensures);
+        links = omega (arith, within.links, ap length c.cut-in-Some-4.ensures);
+      },
+      (λ j. flat_of u (c.cut.ensures j) (c.cut-in-Some.ensures j) (c.cut-in-Some-2.ensures j) (c.cut-in-Some-3.ensures j) (c.cut-in-Some-4.ensures j)) ∙ trimmed_seen k.keys u k.maps.items k.lists.items k.registers.items k.presences.items k.links.items n c.pop.ensures.numbered some c.pop.ensures.keys c.pop.ensures.order bare ∙ k.invariant.1,
+    )

@@ -22,9 +22,9 @@ use Rattle.jc_tree.proofs.arena_node.ArenaNode.change.Goals as goal
 
 pub invariant_of-self : goal.invariant_of-self
 invariant_of-self c = record {
-      within = within_registers c.in-PutValue.key c.self.inside.keys c.put_value_in.new.keys c.self.inside.maps.items c.self.inside.lists.items c.self.inside.registers.items c.self.inside.presences.items c.self.inside.links.items c.self.invariant.within c.put_value_in.ensures.numbers c.put_value_in.new.registers.items c.put_value_in.ensures.within;
-      count = count_stays c.in-PutValue.key c.self.inside.keys c.put_value_in.new.keys c.self.inside.maps.items c.self.inside.lists.items c.self.inside.registers.items c.self.inside.presences.items c.self.inside.links.items c.self.invariant.within c.put_value_in.ensures.numbers c.self.inside.present c.self.invariant.count;
-    }
+  within = within_registers c.in-PutValue.key c.self.inside.keys c.put_value_in.new.keys c.self.inside.maps.items c.self.inside.lists.items c.self.inside.registers.items c.self.inside.presences.items c.self.inside.links.items c.self.invariant.within c.put_value_in.ensures.numbers c.put_value_in.new.registers.items c.put_value_in.ensures.within;
+  count = count_stays c.in-PutValue.key c.self.inside.keys c.put_value_in.new.keys c.self.inside.maps.items c.self.inside.lists.items c.self.inside.registers.items c.self.inside.presences.items c.self.inside.links.items c.self.invariant.within c.put_value_in.ensures.numbers c.self.inside.present c.self.invariant.count;
+}
 
 pub returns-in-PutValue-clause-ok : goal.returns-in-PutValue-clause-ok
 returns-in-PutValue-clause-ok c =
