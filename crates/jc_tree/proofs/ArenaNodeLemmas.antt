@@ -1,5 +1,5 @@
 -- About Tables: what is seen of a node of the fast store after one of its columns changed, and the next key with a tag.
-use Rattle.std.proofs.Common.{◌≡◌, ◌≤◌, ◌<◌, ◌+◌, ◌-◌, ◌||◌, ℕ, zero, suc, List, [], ◌∷◌, ◌++◌, length, take, slice_get, Bool, true, false, not, cond, Option, Some, None, is_some, option_to_list, refl, sym, ◌∙◌, ap, subst, arith}
+use Rattle.std.proofs.Common.{◌≡◌, ◌≤◌, ◌<◌, ◌+◌, ◌-◌, ◌||◌, ℕ, zero, suc, List, [], ◌∷◌, ◌++◌, length, take, slice_get, Bool, true, false, cond, Option, Some, None, is_some, refl, sym, ◌∙◌, ap, arith}
 use Rattle.std.specs.declared.cmp.Ordering.{Ordering}
 use Rattle.std.specs.declared.cmp.Ordering.TheVariants.{Less, Equal, Greater}
 use Rattle.std.proofs.lemmas.List.{length-take-le}
@@ -8,15 +8,15 @@ use Rattle.jc_rules.specs.declared.key.Key.{Key}
 use Rattle.jc_rules.specs.declared.key.Next.{Next}
 use Rattle.jc_rules.specs.Context.{Register}
 use Rattle.jc_rules.specs.Order.{key_cmp}
-use Rattle.jc_rules.specs.Entries.{keys_of, find, put}
+use Rattle.jc_rules.specs.Entries.{keys_of, find}
 use Rattle.jc_rules.specs.Table.{lesser}
 use Rattle.jc_rules.proofs.OrderLemmas.{keys_total, exact_keys}
-use Rattle.jc_rules.proofs.RisingLemmas.{less_greater, greater_less}
+use Rattle.jc_rules.proofs.RisingLemmas.{less_greater}
 use Rattle.jc_tree.specs.Arena.{Flat}
 use Rattle.jc_tree.specs.Tree.{least_after, is_after, count_present}
 use Rattle.jc_tree.specs.Undo.{removed}
 use Rattle.jc_tree.specs.Numbered.{Numbering, IsNumbered, at_number, shown, column_entries}
-use Rattle.jc_tree.specs.Tables.{MayNumber, AreWithin, IsNodeOf, IsBare, flat_of}
+use Rattle.jc_tree.specs.Tables.{MayNumber, AreWithin, IsBare, flat_of}
 use Rattle.jc_tree.proofs.ArenaStepsLemmas.{least_by_kind}
 use Rattle.jc_tree.proofs.ColumnLemmas.{there_above_column, further_above_column, none_above_column, popped_column}
 use Rattle.jc_tree.proofs.CountedLemmas.{count_cons, one}

@@ -8,7 +8,7 @@ use Rattle.jc_rules.specs.declared.key.Key.{Key}
 use Rattle.jc_rules.specs.Order.{id_cmp, key_cmp, same_id}
 use Rattle.jc_rules.specs.Entries.{find, put}
 use Rattle.jc_rules.specs.Ids.{AreRising, has_id, with_id}
-use Rattle.jc_rules.proofs.OrderLemmas.{keys_total, exact_keys, ids_total, exact_ids}
+use Rattle.jc_rules.proofs.OrderLemmas.{keys_total, exact_keys, ids_total}
 use Rattle.jc_rules.proofs.RisingLemmas.{less_greater, greater_less}
 use Rattle.jc_rules.proofs.EntriesLemmas.{found-put, put-put, put-same}
 use Rattle.jc_rules.proofs.IdsLemmas.{equal_itself, same_id-self, same_id-true, with-rises}

@@ -1,38 +1,19 @@
 -- About Tables: what calls by key make of the entries of a column.
-use Rattle.std.proofs.Common.{◌≡◌, ◌≢◌, ◌<◌, ◌≤◌, ℕ, zero, suc, List, [], ◌∷◌, length, slice_get, slice_set, slice_index_or, Result, Ok, Err, OnOk, IfOk, IfSome, IfNone, Option, Some, None, is_some, Bool, true, false, Bor, option_map, option_copied, refl, sym, ◌∙◌, ap, subst, arith}
+use Rattle.std.proofs.Common.{◌≡◌, ◌<◌, ◌≤◌, ℕ, zero, suc, List, [], ◌∷◌, length, slice_get, slice_set, slice_index_or, Result, Ok, Err, OnOk, IfOk, IfSome, IfNone, Option, Some, None, is_some, true, false, Bor, option_map, option_copied, refl, sym, ◌∙◌, ap, subst, arith}
 use Rattle.std.proofs.lemmas.Option.{slice_get_past}
 use Rattle.jc_rules.specs.declared.key.Key.{Key}
 use Rattle.jc_rules.specs.Order.{key_cmp}
 use Rattle.jc_rules.specs.Entries.{keys_of, find, put}
-use Rattle.jc_rules.proofs.OrderLemmas.{keys_total, exact_keys}
-use Rattle.jc_rules.proofs.EntriesLemmas.{put-same}
 use Rattle.jc_tree.specs.Arena.{go_on}
 use Rattle.jc_tree.specs.Undo.{restored}
 use Rattle.jc_tree.specs.Tree.{least_after}
 use Rattle.jc_tree.specs.Numbered.{Numbering, IsNumbered, GetsNumber, at_number, IsSetAt, column_entries}
-use Rattle.jc_tree.specs.Numbered.GetsNumber.{had, gets}
+use Rattle.jc_tree.specs.Numbered.GetsNumber.{had}
 use Rattle.jc_tree.specs.Tables.{MayNumber}
 use Rattle.jc_tree.specs.Tables.MayNumber.{same, numbers}
-use Rattle.jc_tree.proofs.ColumnLemmas.{number_within, keys_grow, find_column, same_column, former_column, put_column, restored_column, not_restored, not_restored_unnumbered, not_restored_blank, there_above_column, further_above_column}
+use Rattle.jc_tree.proofs.ColumnLemmas.{set_at, number_within, keys_grow, find_column, same_column, former_column, put_column, restored_column, not_restored_blank, there_above_column, further_above_column}
 
 module _ {X : Type 0} where
-  set_here : (col : List X) (n : ℕ) (x : X) → n < length col → slice_get (slice_set col n x) n ≡ Some x
-  set_here [] n x h = absurd (omega (arith, h))
-  set_here (y ∷ ys) zero x h = refl
-  set_here (y ∷ ys) (suc n) x h = set_here ys n x (omega (arith, h))
-
-  set_others : (col : List X) (n m : ℕ) (x : X) → m ≢ n → slice_get (slice_set col n x) m ≡ slice_get col m
-  set_others [] n m x h = refl
-  set_others (y ∷ ys) zero zero x h = absurd (h refl)
-  set_others (y ∷ ys) zero (suc m) x h = refl
-  set_others (y ∷ ys) (suc n) zero x h = refl
-  set_others (y ∷ ys) (suc n) (suc m) x h = set_others ys n m x (λ e. h (ap suc e))
-
-  pub set_length : (col : List X) (n : ℕ) (x : X) → length (slice_set col n x) ≡ length col
-  set_length [] n x = refl
-  set_length (y ∷ ys) zero x = refl
-  set_length (y ∷ ys) (suc n) x = ap suc (set_length ys n x)
-
   set_same : (col : List X) (n : ℕ) (x : X) → slice_get col n ≡ Some x → slice_set col n x ≡ col
   set_same [] n x h = refl
   set_same (y ∷ ys) zero x h = let e : Some y ≡ Some x = h in cc
@@ -45,15 +26,11 @@ module _ {X : Type 0} where
 
 module _ {X : Type 0} where
   -- what is written in a slot is set there
-  pub set_at : (n : ℕ) (o w : Option X) (col : List (Option X)) → slice_get col n ≡ Some w → IsSetAt n o col (slice_set col n o)
-  set_at n o w col h = record {
-    here = ap (λ p. go_on p (λ q. q)) (set_here col n o (some_within col n w h));
-    others = λ m d. ap (λ p. go_on p (λ q. q)) (set_others col n m o d);
-    within = λ most l i. omega (arith, set_length col n o, l);
-  }
+  slot_set : (n : ℕ) (o w : Option X) (col : List (Option X)) → slice_get col n ≡ Some w → IsSetAt n o col (slice_set col n o)
+  slot_set n o w col h = set_at n o col (some_within col n w h)
 
   -- a value that is written back leaves the column as it was
-  pub set_back : (n : ℕ) (o w : Option X) (col : List (Option X)) → slice_get col n ≡ Some w → o ≡ w → slice_set col n o ≡ col
+  set_back : (n : ℕ) (o w : Option X) (col : List (Option X)) → slice_get col n ≡ Some w → o ≡ w → slice_set col n o ≡ col
   set_back n o w col h e = ap (λ p. slice_set col n p) e ∙ set_same col n w h
 
   -- what is found, by the slot at the key's number
@@ -67,7 +44,7 @@ module _ {X : Type 0} where
   pub in_place : (k : Key) (n : ℕ) (f : X → X) (G : Option X → List (Key × X)) (w v : Option X) (col : List (Option X)) (t : Numbering) → IsNumbered t → find key_cmp k t.order ≡ Some n → slice_get col n ≡ Some w → v ≡ option_map f w → length col ≤ length t.keys → G None ≡ column_entries col t → ((x : X) → G (Some x) ≡ put key_cmp k (f x) (column_entries col t)) → column_entries (slice_set col n v) t ≡ G (find key_cmp k (column_entries col t))
   in_place k n f G None v col t i e h c l a b = ap (λ d. column_entries d t) (set_back n v None col h c) ∙ sym a ∙ ap G (sym (found_slot k n (Some None) col t i e h))
   in_place k n f G (Some x) v col t i e h c l a b =
-      put_column k n (f x) col (slice_set col n v) t t i i (had e refl) l (subst (λ o. IsSetAt n o col (slice_set col n v)) c (set_at n v (Some x) col h)) ∙ sym (b x) ∙ ap G (sym (found_slot k n (Some (Some x)) col t i e h))
+      put_column k n (f x) col (slice_set col n v) t t i i (had e refl) l (subst (λ o. IsSetAt n o col (slice_set col n v)) c (slot_set n v (Some x) col h)) ∙ sym (b x) ∙ ap G (sym (found_slot k n (Some (Some x)) col t i e h))
 
   -- a key that may have got a number changes no entry
   pub may_same : (k : Key) (col : List (Option X)) (old new : Numbering) → MayNumber k old new → length col ≤ length old.keys → column_entries col new ≡ column_entries col old
@@ -76,7 +53,7 @@ module _ {X : Type 0} where
 
   -- a slot that is put by the number that the key gets
   pub put_slot : (k : Key) (n : ℕ) (x : X) (w : Option X) (v : Option X) (col : List (Option X)) (old new : Numbering) → IsNumbered old × IsNumbered new → GetsNumber k n old new → length col ≤ length old.keys → slice_get col n ≡ Some w → v ≡ Some x → column_entries (slice_set col n v) new ≡ put key_cmp k x (column_entries col old)
-  put_slot k n x w v col old new i g l h e = put_column k n x col (slice_set col n v) old new i.0 i.1 g l (subst (λ o. IsSetAt n o col (slice_set col n v)) e (set_at n v w col h))
+  put_slot k n x w v col old new i g l h e = put_column k n x col (slice_set col n v) old new i.0 i.1 g l (subst (λ o. IsSetAt n o col (slice_set col n v)) e (slot_set n v w col h))
 
   pub former_slot : (k : Key) (n : ℕ) (o : Option (Option X)) (col : List (Option X)) (old new : Numbering) → IsNumbered old × IsNumbered new → GetsNumber k n old new → length col ≤ length old.keys → slice_get col n ≡ o → find key_cmp k (column_entries col old) ≡ go_on o (λ q. q)
   former_slot k n o col old new i g l h = sym (former_column k n col old new i.0 g l) ∙ ap (λ p. go_on p (λ q. q)) h

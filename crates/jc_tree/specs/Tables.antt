@@ -14,7 +14,8 @@ pub data MayNumber (k : Key) (old new : Numbering) : Type 0 where
   numbers : (n : ℕ) → IsNumbered old → GetsNumber k n old new → MayNumber k old new
 
 -- what is seen of the columns of a node
-abbrev pub flat_of : Numbering → List (Option ℕ) → List (Option ℕ) → List (Option Register) → List (Option (List Id)) → List (Option Next) → Flat
+abbrev pub flat_of : Numbering → List (Option ℕ) → List (Option ℕ) → List (Option Register) → List (Option (List Id))
+    → List (Option Next) → Flat
 flat_of t m l r p x = record {
   maps = column_entries m t;
   lists = column_entries l t;

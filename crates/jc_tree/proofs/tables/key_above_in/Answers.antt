@@ -1,6 +1,5 @@
-use Rattle.std.proofs.Common.{◌≡◌, Some, None, Option, option_copied, sym, ◌∙◌}
+use Rattle.std.proofs.Common.{option_copied, sym, ◌∙◌}
 use Rattle.jc_rules.specs.Entries.{keys_of}
-use Rattle.jc_tree.specs.Numbered.{column_entries}
 use Rattle.jc_tree.proofs.ColumnLemmas.{none_above_column}
 use Rattle.jc_tree.proofs.TablesLemmas.{there_above, further_above}
 use Rattle.jc_tree.proofs.WalksLemmas.{IsNext, next_is}

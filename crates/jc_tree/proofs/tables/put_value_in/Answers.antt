@@ -1,12 +1,9 @@
-use Rattle.std.proofs.Common.{◌≡◌, List, Option, Some, None, sym, ◌∙◌, ap}
-use Rattle.jc_rules.specs.declared.id.Id.{Id}
-use Rattle.jc_rules.specs.declared.key.Key.{Key}
+use Rattle.std.proofs.Common.{◌≡◌, Option, Some, None, sym, ◌∙◌, ap}
 use Rattle.jc_rules.specs.Order.{id_cmp, key_cmp}
 use Rattle.jc_rules.specs.Entries.{find, put}
-use Rattle.jc_rules.specs.Ids.{with_id}
 use Rattle.jc_rules.specs.Context.{Register}
-use Rattle.jc_tree.specs.Tree.{or_no_entries, has_ids}
-use Rattle.jc_tree.specs.Undo.{former_of_id, former_of_value}
+use Rattle.jc_tree.specs.Tree.{or_no_entries}
+use Rattle.jc_tree.specs.Undo.{former_of_value}
 use Rattle.jc_tree.specs.Numbered.{column_entries}
 use Rattle.jc_tree.specs.Tables.MayNumber.{numbers}
 use Rattle.jc_tree.proofs.SortedMapLemmas.{as_err}

@@ -1,4 +1,4 @@
-use Rattle.std.proofs.Common.{◌≡◌, Option, Some, None, refl, sym, ◌∙◌, ap}
+use Rattle.std.proofs.Common.{None, refl, sym, ◌∙◌, ap}
 use Rattle.jc_rules.specs.Order.{id_cmp}
 use Rattle.jc_rules.specs.Context.{Register}
 use Rattle.jc_tree.specs.Undo.{restored, restored_value}
