@@ -23,7 +23,7 @@ one s = one_if (has_ids s)
 abbrev pub one_of : Option (List Id) → ℕ
 one_of o = one (or_no_entries o)
 
-count_cons : (e : Key × List Id) (es : List (Key × List Id)) → count_present (e ∷ es) ≡ one e.1 + count_present es
+pub count_cons : (e : Key × List Id) (es : List (Key × List Id)) → count_present (e ∷ es) ≡ one e.1 + count_present es
 count_cons e es = sum_by-cons (λ (d : Key × List Id). cond (has_ids d.1) 1 0) e es
 
 -- the set of an entry that is put in another's place
@@ -124,15 +124,6 @@ some_left {b} h = ap not h ∙ twice b
     twice : (b : Bool) → not (not b) ≡ b
     twice true = refl
     twice false = refl
-
--- whether an identifier was the last one, by whether the set was and is empty
-pub last_there : {was is : Bool} (i : Id) (s t : List Id) → was ≡ not (has_ids s) → was ≡ false → t ≡ taken_out i s → is ≡ not (has_ids t) → is ≡ is_last i s
-last_there i [] t h g e f = let n : false ≡ true = sym g ∙ h in cc
-last_there i (j ∷ js) t h g e f = f ∙ ap (λ l. not (has_ids l)) e
-
-pub none_there : {was : Bool} (i : Id) (s : List Id) → was ≡ not (has_ids s) → was ≡ true → not was ≡ is_last i s
-none_there i [] h g = ap not g
-none_there i (j ∷ js) h g = let n : true ≡ false = sym g ∙ h in cc
 
 module _ (n : ℕ) (k : Key) (es : List (Key × List Id)) (count : n ≡ count_present es) where
   ones : {a b : Bool} → a ≡ b → one_if a ≡ one_if b

@@ -21,3 +21,9 @@ pub mod ArenaHistoryLemmas
 pub mod ArenaCallsLemmas
 pub mod ArenaPlacesLemmas
 pub mod CountedLemmas
+pub mod ShownLemmas
+pub mod ShownLeastLemmas
+pub mod NumberedLemmas
+pub mod ColumnLemmas
+pub mod TablesLemmas
+pub mod ArenaNodeLemmas

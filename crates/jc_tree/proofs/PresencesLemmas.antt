@@ -1,5 +1,5 @@
 -- About Undo: identifiers that are added to a presence set, and taken out of it.
-use Rattle.std.proofs.Common.{◌≡◌, ℕ, zero, suc, ◌<◌, List, [], ◌∷◌, length, get_or, remove, Bool, true, false, Option, Some, None, refl, sym, ◌∙◌, ap, arith}
+use Rattle.std.proofs.Common.{◌≡◌, ℕ, zero, suc, ◌<◌, List, [], ◌∷◌, ◌++◌, length, ◌+◌, slice_get, get_or, remove, Bool, true, false, Option, Some, None, refl, sym, ◌∙◌, ap, arith}
 use Rattle.std.specs.List.{AllByRecursion}
 use Rattle.std.specs.declared.cmp.Ordering.{Ordering}
 use Rattle.std.specs.declared.cmp.Ordering.TheVariants.{Less, Equal, Greater}
@@ -8,9 +8,10 @@ use Rattle.jc_rules.specs.declared.key.Key.{Key}
 use Rattle.jc_rules.specs.Order.{id_cmp, key_cmp, same_id}
 use Rattle.jc_rules.specs.Entries.{find, put}
 use Rattle.jc_rules.specs.Ids.{AreRising, has_id, with_id}
-use Rattle.jc_rules.proofs.OrderLemmas.{keys_total, exact_keys}
+use Rattle.jc_rules.proofs.OrderLemmas.{keys_total, exact_keys, ids_total}
+use Rattle.jc_rules.proofs.RisingLemmas.{less_greater, greater_less}
 use Rattle.jc_rules.proofs.EntriesLemmas.{found-put, put-put, put-same}
-use Rattle.jc_rules.proofs.IdsLemmas.{equal_itself, same_id-self, same_id-true}
+use Rattle.jc_rules.proofs.IdsLemmas.{equal_itself, same_id-self, same_id-true, with-rises}
 use Rattle.jc_tree.specs.Tree.{or_no_entries}
 use Rattle.jc_tree.specs.Undo.{taken_out, out_of_set}
 
@@ -77,3 +78,37 @@ set-out k i s es e h =
 pub rising_there : (o : Option (List Id)) → ((s : List Id) → o ≡ Some s → AreRising s) → AreRising (or_no_entries o)
 rising_there None h = tt
 rising_there (Some s) h = h s refl
+
+same_last : (i j : Id) → Some i ≡ Some j → i ≡ j
+same_last i j h = cc
+
+-- an identifier above all of a set isn't there, and comes last
+pub above_absent : (i : Id) (s : List Id) → AllByRecursion (λ j. id_cmp j i ≡ Less) s → has_id i s ≡ false
+above_absent i [] h = refl
+above_absent i (j ∷ js) h = rw (less_greater ids_total j i h.0) (above_absent i js h.1)
+
+pub above_with : (i : Id) (s : List Id) → AllByRecursion (λ j. id_cmp j i ≡ Less) s → with_id i s ≡ s ++ i ∷ []
+above_with i [] h = refl
+above_with i (j ∷ js) h = rw (less_greater ids_total j i h.0) (ap (λ l. j ∷ l) (above_with i js h.1))
+
+pub above_rises : (i : Id) (s : List Id) → AreRising s → AllByRecursion (λ j. id_cmp j i ≡ Less) s → AreRising (s ++ i ∷ [])
+above_rises i s r h = rw (← above_with i s h) (with-rises i s r)
+
+-- what is above the last one of a rising set is above all
+pub above_last : (i l : Id) (s : List Id) (n : ℕ) → AreRising s → n + 1 ≡ length s → slice_get s n ≡ Some l → id_cmp i l ≡ Greater → AllByRecursion (λ j. id_cmp j i ≡ Less) s
+above_last i l [] n r q e h = tt
+above_last i l (j ∷ []) zero r q e h = (greater_less ids_total i j (ap (id_cmp i) (same_last j l e) ∙ h), tt)
+above_last i l (j ∷ []) (suc n) r q e h = absurd (omega (arith, q))
+above_last i l (j ∷ k ∷ js) zero r q e h = absurd (omega (arith, q))
+above_last i l (j ∷ k ∷ js) (suc n) r q e h =
+    let rest = above_last i l (k ∷ js) n r.1 (omega (arith, q)) e h in
+    (ids_total.trans j k i r.0.0 rest.0, rest)
+
+pub found_there : (i : Id) (s : List Id) (n : ℕ) → slice_get s n ≡ Some i → has_id i s ≡ true
+found_there i [] n h = cc
+found_there i (j ∷ js) zero h = let e : j ≡ i = same_last j i h in rw (e, same_id-self i) refl
+found_there i (j ∷ js) (suc n) h = go (same_id i j) refl (found_there i js n h)
+  where
+    go : (b : Bool) → same_id i j ≡ b → has_id i js ≡ true → has_id i (j ∷ js) ≡ true
+    go true p f = rw p refl
+    go false p f = rw p f

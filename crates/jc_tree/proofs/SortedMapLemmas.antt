@@ -1,12 +1,11 @@
 -- About Sorted: the calls of std's B-tree in the words of entries by key.
-use Rattle.std.proofs.Common.{◌≡◌, ◌<◌, List, [], ◌∷◌, length, Bool, true, false, cond, filter, Option, Some, None, Result, Ok, Err, OnErr, option_map, slice_get, refl, sym, ◌∙◌, ap, subst, arith}
+use Rattle.std.proofs.Common.{◌≡◌, ◌<◌, List, [], ◌∷◌, length, Bool, true, false, cond, filter, Option, Some, None, Result, Ok, Err, OnErr, option_map, slice_get, refl, sym, ◌∙◌, ap, arith}
 use Rattle.std.specs.List.{AllByRecursion}
-use Rattle.std.specs.List.Sorted.{IsStrictlySortedBy}
 use Rattle.std.specs.Ordering.{is_eq, is_lt}
 use Rattle.std.specs.BTreeMap.{is_at, insert_entry}
 use Rattle.std.specs.BTreeMap.Range.{entries_between}
 use Rattle.std.specs.declared.ops.Bound.TheVariants.{Excluded, Unbounded}
-use Rattle.std.specs.Map.{lookup, remove_entry, set_value}
+use Rattle.std.specs.Map.{remove_entry}
 use Rattle.std.specs.declared.cmp.Ordering.{Ordering}
 use Rattle.std.specs.declared.cmp.Ordering.TheVariants.{Less, Equal, Greater}
 use Rattle.jc_rules.specs.contracts.key.KeyOrd.TheImpl.{cmp-value}
@@ -25,11 +24,6 @@ use Rattle.jc_rules.proofs.BoolLemmas.{and_true}
 -- the order of keys is that of the rules
 pub same_order : cmp-value.it ≡ key_cmp
 same_order i j k = same_cmp j k i
-
-rises : (ks : List Key) → IsStrictlySortedBy key_cmp ks → IsRising key_cmp ks
-unfolding IsStrictlySortedBy
-rises [] h = tt
-rises (k ∷ ks) h = (h.0, rises ks h.1)
 
 pub on_err : {A E P Q : Type 0} (r : Result A E) → (P → Q) → OnErr r P → OnErr r Q
 on_err (Ok a) f h = h
@@ -66,13 +60,6 @@ rising_filtered p (k ∷ ks) h = go (p k) refl (rising_filtered p ks h.1)
     go false e ih = rw e ih
 
 module _ {X : Type 0} where
-  pub sorted_is : (es : List (Key × X)) → IsStrictlySortedBy cmp-value.it (keys_of es) → AreSorted es
-  sorted_is es h = rises (keys_of es) (subst (λ c. IsStrictlySortedBy c (keys_of es)) same_order h)
-
-  pub lookup_is : (k : Key) (es : List (Key × X)) → lookup (is_at (cmp-value.it k)) es ≡ find key_cmp k es
-  lookup_is k [] = refl
-  lookup_is k (e ∷ es) = λ i. cond (is_eq (same_cmp k e.0 i)) (Some e.1) (lookup_is k es i)
-
   pub remove_is : (k : Key) (es : List (Key × X)) → remove_entry (is_at (cmp-value.it k)) es ≡ removed key_cmp k es
   remove_is k [] = refl
   remove_is k (e ∷ es) = λ i. cond (is_eq (same_cmp k e.0 i)) es (e ∷ remove_is k es i)
@@ -89,18 +76,6 @@ module _ {X : Type 0} where
   pub insert_is : (k : Key) (v : X) (es : List (Key × X)) → AreSorted es → insert_entry cmp-value.it es k v ≡ put key_cmp k v es
   insert_is k v es h = ap (λ c. insert_entry c es k v) same_order ∙ inserted k v es h
 
-  replaced_is : (k : Key) (v : X) (es : List (Key × X)) → set_value (is_at (key_cmp k)) es v ≡ replaced key_cmp k v es
-  replaced_is k v [] = refl
-  replaced_is k v (e ∷ es) = go (key_cmp k e.0) refl (replaced_is k v es)
-    where
-      go : (o : Ordering) → key_cmp k e.0 ≡ o → set_value (is_at (key_cmp k)) es v ≡ replaced key_cmp k v es → set_value (is_at (key_cmp k)) (e ∷ es) v ≡ replaced key_cmp k v (e ∷ es)
-      go Less p ih = rw p (ap (λ r. e ∷ r) ih)
-      go Equal p ih = rw p (ap (λ (j : Key). (j, v) ∷ es) (sym (exact_keys k e.0 p)))
-      go Greater p ih = rw p (ap (λ r. e ∷ r) ih)
-
-  pub write_is : (k : Key) (v : X) (es : List (Key × X)) → set_value (is_at (cmp-value.it k)) es v ≡ replaced key_cmp k v es
-  write_is k v es = ap (λ c. set_value (is_at (c k)) es v) same_order ∙ replaced_is k v es
-
   pub replaced_absent : (k : Key) (v : X) (es : List (Key × X)) → find key_cmp k es ≡ None → replaced key_cmp k v es ≡ es
   replaced_absent k v [] h = refl
   replaced_absent k v (e ∷ es) h = go (key_cmp k e.0) refl (λ f. replaced_absent k v es f) h
@@ -110,13 +85,6 @@ module _ {X : Type 0} where
       go Equal p ih f = let n : Some e.1 ≡ None = rw p at f in cc
       go Greater p ih f = rw p (ap (λ r. e ∷ r) (ih (rw p at f)))
 
-  -- a value that is written where one stands is put there
-  pub write_put : (k : Key) (v x : X) (es : List (Key × X)) → find key_cmp k es ≡ Some x → set_value (is_at (cmp-value.it k)) es v ≡ put key_cmp k v es
-  write_put k v x es e = write_is k v es ∙ put_there e
-    where
-      put_there : find key_cmp k es ≡ Some x → replaced key_cmp k v es ≡ put key_cmp k v es
-      put_there f = rw f refl
-
   keys_filtered : (p : Key → Bool) (es : List (Key × X)) → keys_of (filter (λ e. p e.0) es) ≡ filter p (keys_of es)
   keys_filtered p [] = refl
   keys_filtered p (e ∷ es) = go (p e.0) refl (keys_filtered p es)
@@ -125,7 +93,7 @@ module _ {X : Type 0} where
       go true f ih = rw f (ap (λ ks. e.0 ∷ ks) ih)
       go false f ih = rw f ih
 
-  between_is : (k : Key) (es : List (Key × X)) → entries_between cmp-value.it (Excluded k) Unbounded es ≡ filter (λ e. is_after (Some k) e.0) es
+  pub between_is : (k : Key) (es : List (Key × X)) → entries_between cmp-value.it (Excluded k) Unbounded es ≡ filter (λ e. is_after (Some k) e.0) es
   between_is k es = ap (λ (p : Key → Bool). filter (λ e. p e.0) es) (λ i j. (and_true (is_lt (cmp-value.it k j)) ∙ ap is_lt (same_cmp k j)) i)
 
   first_key : (es : List (Key × X)) → slice_get (keys_of es) 0 ≡ option_map (λ e. e.0) (slice_get es 0)

@@ -27,13 +27,6 @@ pub record Flat : Type 0 where
   pub presences : List (Key × List Id)
   pub links : List (Key × Next)
 
--- the entries of each kind but the presence sets rise by key
-pub record IsSortedFlat (n : Flat) : Type 0 where
-  pub maps_rise : AreSorted n.maps
-  pub lists_rise : AreSorted n.lists
-  pub registers_rise : AreSorted n.registers
-  pub links_rise : AreSorted n.links
-
 -- the node of a new map
 abbrev pub blank : Flat
 blank = record { maps = []; lists = []; registers = []; presences = []; links = [] }

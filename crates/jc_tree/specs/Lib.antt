@@ -12,3 +12,4 @@ pub mod Arena
 pub mod ArenaUndo
 pub mod Counted
 pub mod Numbered
+pub mod Tables

@@ -1,21 +1,25 @@
 //! The nodes of the fast store: contexts that name their children by number.
 
-ghost use Rattle.std.specs.Prelude.{◌≡◌, ℕ, ◌++◌, None, is_some, option_copied, IfOk, OnOk, OnErr};
+ghost use Rattle.std.specs.Prelude.{◌≡◌, ◌≤◌, ◌+◌, ℕ, ◌++◌, cond, None, is_some, option_copied, ◌||◌, IfOk, IsTrue, OnOk, OnErr};
 ghost use Rattle.jc_rules.specs.Order.{key_cmp};
 ghost use Rattle.jc_rules.specs.Entries.{find, keys_of};
 ghost use Rattle.jc_rules.specs.Paths.{HasContext};
 ghost use Rattle.jc_tree.specs.Tree.{or_no_entries, least_after, has_ids, count_present};
+ghost use Rattle.jc_tree.specs.Numbered.{at_number};
+ghost use Rattle.jc_tree.specs.Tables.{AreWithin, IsBare, flat_of};
 ghost use Rattle.jc_tree.specs.Arena.{blank, new_flat, child_number, is_in, with_child_number, IsInside, changed_flat, former_of_node, former_of_flat, restored_flat};
 
+use crate::columns::{cut, value_at};
 use crate::ids::Ids;
+use crate::keys::KeyTable;
 use crate::lists::Pairs;
-use crate::node::{Change, Former, lesser};
-use crate::presences::Presences;
+use crate::node::{Change, Former};
 use crate::store::{Hint, Step};
-use crate::tables::{key_above_in, put_in, put_value_in, restore_in, restore_value_in, value_in};
+use crate::tables::{
+    add_in, key_above_in, put_in, put_value_in, restore_in, restore_value_in, take_out_in, value_in,
+};
 use jc_rules::{Id, Key, Next, Tagged, Value};
 use std::alloc::{AllocError, Global};
-use std::collections::BTreeMap;
 use std::marker::Model;
 
 /// The number of a node in an arena's list.
@@ -46,37 +50,44 @@ impl NodeId {
     }
 }
 
-/// A context whose children are named by the numbers of their nodes: its entries by kind, each kind by
-/// key.
+/// What follows a key, and where to look first for the key that follows: any number will do.
+#[derive(Drop)]
+pub struct Link {
+    next: Next,
+    hint: usize,
+}
+
+impl Model for Link {
+    ghost use Rattle.jc_rules.specs.declared.key.Next.{Next as AnyNext};
+
+    ghost Value = { AnyNext };
+
+    ghost view = { λ a. a.next };
+}
+
+/// A context whose children are named by the numbers of their nodes: its keys, numbered by first use,
+/// and for each kind of entry a column, which has at a key's number what the key has.
 #[derive(Drop)]
 pub struct ArenaNode {
-    maps: BTreeMap<Key, NodeId>,
-    lists: BTreeMap<Key, NodeId>,
-    registers: BTreeMap<Key, Pairs>,
-    presences: Presences,
-    links: BTreeMap<Key, Next>,
+    keys: KeyTable,
+    maps: Vec<Option<NodeId>>,
+    lists: Vec<Option<NodeId>>,
+    registers: Vec<Option<Pairs>>,
+    presences: Vec<Option<Ids>>,
+    links: Vec<Option<Link>>,
+    present: usize,
 }
 
 impl Model for ArenaNode {
-    ghost use Rattle.jc_tree.specs.Arena.{Flat, IsSortedFlat};
+    ghost use Rattle.jc_tree.specs.Arena.{Flat};
+    ghost use Rattle.jc_tree.specs.Tables.{IsNodeOf, flat_of};
 
     ghost Value = { Flat };
 
-    ghost view = { λ a. record {
-      maps = a.maps.entries;
-      lists = a.lists.entries;
-      registers = a.registers.entries;
-      presences = a.presences;
-      links = a.links.entries;
-    } };
+    ghost view = { λ a. flat_of a.keys a.maps.items a.lists.items a.registers.items a.presences.items a.links.items };
 
-    ghost invariant = { λ a. IsSortedFlat (record {
-      maps = a.maps.entries;
-      lists = a.lists.entries;
-      registers = a.registers.entries;
-      presences = a.presences;
-      links = a.links.entries;
-    }) };
+    ghost invariant = { λ a. IsNodeOf a.keys a.maps.items a.lists.items a.registers.items a.presences.items
+        a.links.items a.present };
 }
 
 /// The undo record of a new node under a tagged key.
@@ -91,17 +102,134 @@ pub fn former_of_node(key: Tagged) -> Former
     }
 }
 
+/// Whether there is a set, and it has an identifier.
+fn is_inhabited(set: Option<&Ids>) -> bool
+    ensures { result ≡ has_ids (or_no_entries (option_copied set.entry)) }
+{
+    match set {
+        Some(ids) => !ids.is_empty(),
+        None => false,
+    }
+}
+
+/// How many of at most `most` sets have an identifier after one set changed. `count` had one before;
+/// `was` and `is` are whether the changed set had one before and has one now.
+fn recounted(most: usize, count: usize, was: bool, is: bool) -> usize
+    requires within { count + cond is 1 0 ≤ most + cond was 1 0 }
+    requires counted { cond was 1 0 ≤ count + cond is 1 0 }
+    ensures { result + cond was 1 0 ≡ count + cond is 1 0 }
+{
+    match (was, is) {
+        (true, false) => count - 1,
+        (false, true) => count + 1,
+        _ => count,
+    }
+}
+
+/// Where to look first for the key that follows.
+fn hint_of(keys: &KeyTable, next: Next) -> usize {
+    match next {
+        Next::Elem(id) => keys.number(&Key::Elem(id)).unwrap_or(0),
+        Next::Tail => 0,
+    }
+}
+
+/// What follows a key, by its link.
+fn next_of(link: Option<&Link>) -> Option<Next>
+    ensures { result ≡ option_copied link.entry }
+{
+    Some(link?.next)
+}
+
+/// The link's hint, or else the given one.
+fn hint_after(link: Option<&Link>, hint: Hint) -> Hint {
+    match link {
+        Some(link) => Hint { number: link.hint },
+        None => hint,
+    }
+}
+
+/// Whether there is a map, a list or a register at the number.
+fn has_tag(
+    maps: &[Option<NodeId>],
+    lists: &[Option<NodeId>],
+    registers: &[Option<Pairs>],
+    number: usize,
+) -> bool
+    ensures { result ≡ (is_some (at_number maps.now number) || is_some (at_number lists.now number)
+        || is_some (at_number registers.now number)) }
+{
+    value_at(maps, number).is_some()
+        || value_at(lists, number).is_some()
+        || value_at(registers, number).is_some()
+}
+
+/// Whether nothing stands at the number in any column.
+fn is_bare(
+    maps: &[Option<NodeId>],
+    lists: &[Option<NodeId>],
+    registers: &[Option<Pairs>],
+    presences: &[Option<Ids>],
+    links: &[Option<Link>],
+    number: usize,
+) -> bool
+    ensures { IsTrue result → IsBare number maps.now lists.now registers.now presences.now links.now }
+{
+    !has_tag(maps, lists, registers, number)
+        && value_at(presences, number).is_none()
+        && value_at(links, number).is_none()
+}
+
+/// Takes the last keys away under which nothing stands, and cuts the columns to their number.
+fn trim(
+    keys: &mut KeyTable,
+    maps: &mut Vec<Option<NodeId>>,
+    lists: &mut Vec<Option<NodeId>>,
+    registers: &mut Vec<Option<Pairs>>,
+    presences: &mut Vec<Option<Ids>>,
+    links: &mut Vec<Option<Link>>,
+)
+    requires { AreWithin keys.old maps.old.items lists.old.items registers.old.items presences.old.items
+        links.old.items }
+    ensures within { AreWithin keys.new maps.new.items lists.new.items registers.new.items presences.new.items
+        links.new.items }
+    ensures seen { flat_of keys.new maps.new.items lists.new.items registers.new.items presences.new.items
+        links.new.items
+        ≡ flat_of keys.old maps.old.items lists.old.items registers.old.items presences.old.items links.old.items }
+{
+    while let Some(last) = keys.len().checked_sub(1) {
+        if !is_bare(
+            maps.as_slice(),
+            lists.as_slice(),
+            registers.as_slice(),
+            presences.as_slice(),
+            links.as_slice(),
+            last,
+        ) {
+            return;
+        }
+        keys.pop();
+        cut(maps, last);
+        cut(lists, last);
+        cut(registers, last);
+        cut(presences, last);
+        cut(links, last);
+    }
+}
+
 impl ArenaNode {
     /// The node of a new map.
     pub fn new(alloc: Global) -> Self
         ensures { result ≡ blank }
     {
         ArenaNode {
-            maps: BTreeMap::new(alloc),
-            lists: BTreeMap::new(alloc),
-            registers: BTreeMap::new(alloc),
-            presences: Presences::new(alloc),
-            links: BTreeMap::new(alloc),
+            keys: KeyTable::new(alloc),
+            maps: Vec::new(alloc),
+            lists: Vec::new(alloc),
+            registers: Vec::new(alloc),
+            presences: Vec::new(alloc),
+            links: Vec::new(alloc),
+            present: 0,
         }
     }
 
@@ -112,7 +240,7 @@ impl ArenaNode {
     {
         let mut node = ArenaNode::new(alloc);
         if let Tagged::ListT(_) = key {
-            put_in(&mut node.links, Key::Head, Next::Tail)?;
+            node.put_link(Key::Head, Next::Tail)?;
         }
         Ok(node)
     }
@@ -122,9 +250,9 @@ impl ArenaNode {
         ensures { result ≡ is_in key.now self.now }
     {
         match key {
-            Tagged::MapT(key) => value_in(&self.maps, key).is_some(),
-            Tagged::ListT(key) => value_in(&self.lists, key).is_some(),
-            Tagged::RegT(key) => value_in(&self.registers, key).is_some(),
+            Tagged::MapT(key) => value_in(&self.keys, self.maps.as_slice(), key).is_some(),
+            Tagged::ListT(key) => value_in(&self.keys, self.lists.as_slice(), key).is_some(),
+            Tagged::RegT(key) => value_in(&self.keys, self.registers.as_slice(), key).is_some(),
         }
     }
 
@@ -133,8 +261,8 @@ impl ArenaNode {
         ensures { result ≡ child_number key.now self.now }
     {
         match key {
-            Tagged::MapT(key) => value_in(&self.maps, key).copied(),
-            Tagged::ListT(key) => value_in(&self.lists, key).copied(),
+            Tagged::MapT(key) => value_in(&self.keys, self.maps.as_slice(), key).copied(),
+            Tagged::ListT(key) => value_in(&self.keys, self.lists.as_slice(), key).copied(),
             Tagged::RegT(_) => None,
         }
     }
@@ -143,21 +271,21 @@ impl ArenaNode {
     pub fn presence(&self, key: &Key) -> Option<&[Id]>
         ensures { option_copied result ≡ find key_cmp key.now self.now.presences }
     {
-        Some(self.presences.get(key)?.as_slice())
+        Some(value_in(&self.keys, self.presences.as_slice(), key)?.as_slice())
     }
 
     /// What follows the key.
     pub fn next(&self, key: &Key) -> Option<Next>
         ensures { result ≡ find key_cmp key.now self.now.links }
     {
-        value_in(&self.links, key).copied()
+        Some(value_in(&self.keys, self.links.as_slice(), key)?.next)
     }
 
     /// The values of the key's register.
     pub fn register(&self, key: &Key) -> Option<&[(Id, Value)]>
         ensures { option_copied result ≡ find key_cmp key.now self.now.registers }
     {
-        Some(value_in(&self.registers, key)?.as_slice())
+        Some(value_in(&self.keys, self.registers.as_slice(), key)?.as_slice())
     }
 
     /// What a walk along a list reads of the key; `hint` is where to look first.
@@ -165,9 +293,20 @@ impl ArenaNode {
         ensures next { result.next ≡ find key_cmp key.now self.now.links }
         ensures present { result.present ≡ has_ids (or_no_entries (find key_cmp key.now self.now.presences)) }
     {
+        let Some(number) = self.keys.number_near(key, hint.number) else {
+            return Step {
+                next: None,
+                present: false,
+                hint,
+            };
+        };
+        let present = is_inhabited(value_at(self.presences.as_slice(), number));
+        let link = value_at(self.links.as_slice(), number);
+        let next = next_of(link);
+        let hint = hint_after(link, hint);
         Step {
-            next: self.next(key),
-            present: self.presence(key).is_some_and(|ids| !ids.is_empty()),
+            next,
+            present,
             hint,
         }
     }
@@ -177,31 +316,40 @@ impl ArenaNode {
         ensures { option_copied result ≡ least_after (option_copied after.entry)
             (keys_of self.now.maps ++ keys_of self.now.lists ++ keys_of self.now.registers) }
     {
-        let of_maps = key_above_in(&self.maps, after);
-        let of_lists = key_above_in(&self.lists, after);
-        let of_registers = key_above_in(&self.registers, after);
-        lesser(lesser(of_maps, of_lists), of_registers)
+        let mut last = after;
+        while let Some((key, number)) = self.keys.above(last) {
+            if has_tag(
+                self.maps.as_slice(),
+                self.lists.as_slice(),
+                self.registers.as_slice(),
+                number,
+            ) {
+                return Some(key);
+            }
+            last = Some(key);
+        }
+        None
     }
 
     /// The least key with a presence set, above the given one.
     pub fn presence_after(&self, after: Option<&Key>) -> Option<&Key>
         ensures { option_copied result ≡ least_after (option_copied after.entry) (keys_of self.now.presences) }
     {
-        self.presences.key_above(after)
+        key_above_in(&self.keys, self.presences.as_slice(), after)
     }
 
     /// How many keys have a presence set with an identifier.
     pub fn count_present(&self) -> usize
         ensures { result ≡ count_present self.now.presences }
     {
-        self.presences.count_present()
+        self.present
     }
 
     /// The least key that something follows, above the given one.
     pub fn link_after(&self, after: Option<&Key>) -> Option<&Key>
         ensures { option_copied result ≡ least_after (option_copied after.entry) (keys_of self.now.links) }
     {
-        key_above_in(&self.links, after)
+        key_above_in(&self.keys, self.links.as_slice(), after)
     }
 
     /// Names a child under the tagged key. After a refusal the node is as it was.
@@ -212,11 +360,11 @@ impl ArenaNode {
     {
         match key {
             Tagged::MapT(key) => {
-                put_in(&mut self.maps, key, number)?;
+                put_in(&mut self.keys, &mut self.maps, &key, number)?;
                 Ok(())
             }
             Tagged::ListT(key) => {
-                put_in(&mut self.lists, key, number)?;
+                put_in(&mut self.keys, &mut self.lists, &key, number)?;
                 Ok(())
             }
             Tagged::RegT(_) => unreachable!(),
@@ -229,8 +377,8 @@ impl ArenaNode {
         ensures former { IfOk result (λ former. former ≡ former_of_flat (Change.Register key pairs) self.old) }
         ensures err { OnErr result (self.new ≡ self.old) }
     {
-        let copy = key.copy()?;
-        Ok(Former::Register(copy, put_in(&mut self.registers, key, pairs)?))
+        let former = put_in(&mut self.keys, &mut self.registers, &key, pairs)?;
+        Ok(Former::Register(key, former))
     }
 
     /// Sets the key's presence set. Returns the undo record. After a refusal the node is as it was.
@@ -239,8 +387,11 @@ impl ArenaNode {
         ensures former { IfOk result (λ former. former ≡ former_of_flat (Change.Presence key ids) self.old) }
         ensures err { OnErr result (self.new ≡ self.old) }
     {
-        let copy = key.copy()?;
-        Ok(Former::Presence(copy, self.presences.put(key, ids)?))
+        let is = !ids.is_empty();
+        let former = put_in(&mut self.keys, &mut self.presences, &key, ids)?;
+        let was = is_inhabited(former.as_ref());
+        self.present = recounted(self.keys.count(), self.present, was, is);
+        Ok(Former::Presence(key, former))
     }
 
     /// Sets what follows the key. Returns the undo record. After a refusal the node is as it was.
@@ -249,8 +400,25 @@ impl ArenaNode {
         ensures former { IfOk result (λ former. former ≡ former_of_flat (Change.Link key next) self.old) }
         ensures err { OnErr result (self.new ≡ self.old) }
     {
-        let copy = key.copy()?;
-        Ok(Former::Link(copy, put_in(&mut self.links, key, next)?))
+        let hint = hint_of(&self.keys, next);
+        let former = put_in(&mut self.keys, &mut self.links, &key, Link { next, hint })?;
+        let former = match former {
+            Some(link) => Some(link.next),
+            None => None,
+        };
+        Ok(Former::Link(key, former))
+    }
+
+    /// Adds the identifier to the key's presence set, a new one where there is none. Returns the undo
+    /// record. After a refusal the node is as it was.
+    fn add_id(&mut self, key: Key, id: Id, alloc: Global) -> Result<Former, AllocError>
+        ensures ok { OnOk result (self.new ≡ changed_flat (Change.AddId key id) self.old) }
+        ensures former { IfOk result (λ former. former ≡ former_of_flat (Change.AddId key id) self.old) }
+        ensures err { OnErr result (self.new ≡ self.old) }
+    {
+        let (former, was) = add_in(&mut self.keys, &mut self.presences, key, id, alloc)?;
+        self.present = recounted(self.keys.count(), self.present, was, true);
+        Ok(former)
     }
 
     /// Makes a change that makes no node. Returns the undo record. After a refusal the node is as it
@@ -266,29 +434,81 @@ impl ArenaNode {
                 self.put_register(key, Pairs::new(Vec::new(alloc)))
             }
             Change::Child(Tagged::MapT(_) | Tagged::ListT(_)) => unreachable!(),
-            Change::AddId(key, id) => self.presences.add(key, id, alloc),
+            Change::AddId(key, id) => self.add_id(key, id, alloc),
             Change::Presence(key, ids) => self.put_presence(key, ids),
             Change::Link(key, next) => self.put_link(key, next),
             Change::PutValue(key, id, value) => {
-                put_value_in(&mut self.registers, key, id, value, alloc)
+                put_value_in(&mut self.keys, &mut self.registers, key, id, value, alloc)
             }
             Change::Register(key, pairs) => self.put_register(key, pairs),
         }
     }
 
-    /// Takes a change back by its undo record. It takes no memory.
-    pub fn restore(&mut self, former: Former)
+    /// Gives the key the presence set that it had, or takes its own away where it had none.
+    fn restore_presence(&mut self, key: &Key, former: Option<Ids>)
+        ensures { self.new ≡ restored_flat (Former.Presence key.now former) self.old }
+    {
+        let is = is_inhabited(former.as_ref());
+        if let Some(ids) = restore_in(&self.keys, &mut self.presences, key, former) {
+            self.present = recounted(self.keys.count(), self.present, !ids.is_empty(), is);
+        }
+    }
+
+    /// Gives what follows the key back, or takes its own away where nothing followed it.
+    fn restore_link(&mut self, key: &Key, former: Option<Next>)
+        ensures { self.new ≡ restored_flat (Former.Link key.now former) self.old }
+    {
+        let link = match former {
+            Some(next) => Some(Link {
+                next,
+                hint: hint_of(&self.keys, next),
+            }),
+            None => None,
+        };
+        drop(restore_in(&self.keys, &mut self.links, key, link));
+    }
+
+    /// Takes the identifier out of the key's presence set, where there is one.
+    fn take_out_id(&mut self, key: Key, id: Id)
+        ensures { self.new ≡ restored_flat (Former.NoId key id) self.old }
+    {
+        let last = take_out_in(&self.keys, &mut self.presences, &key, id);
+        self.present = recounted(self.keys.count(), self.present, last, false);
+    }
+
+    /// Takes a change back by its undo record. Keys keep their numbers.
+    fn put_back(&mut self, former: Former)
         ensures { self.new ≡ restored_flat former self.old }
     {
         match former {
-            Former::Map(key) => drop(restore_in(&mut self.maps, &key, None)),
-            Former::List(key) => drop(restore_in(&mut self.lists, &key, None)),
-            Former::Register(key, pairs) => drop(restore_in(&mut self.registers, &key, pairs)),
-            Former::Value(key, id, value) => restore_value_in(&mut self.registers, &key, id, value),
-            Former::Presence(key, ids) => self.presences.restore(&key, ids),
-            Former::Link(key, next) => drop(restore_in(&mut self.links, &key, next)),
-            Former::NoId(key, id) => self.presences.take_out(&key, id),
+            Former::Map(key) => drop(restore_in(&self.keys, &mut self.maps, &key, None)),
+            Former::List(key) => drop(restore_in(&self.keys, &mut self.lists, &key, None)),
+            Former::Register(key, pairs) => {
+                drop(restore_in(&self.keys, &mut self.registers, &key, pairs))
+            }
+            Former::Value(key, id, value) => {
+                restore_value_in(&self.keys, &mut self.registers, &key, id, value)
+            }
+            Former::Presence(key, ids) => self.restore_presence(&key, ids),
+            Former::Link(key, next) => self.restore_link(&key, next),
+            Former::NoId(key, id) => self.take_out_id(key, id),
             Former::Same => {}
         }
+    }
+
+    /// Takes a change back by its undo record, and the last keys away under which nothing stands. It takes
+    /// no memory.
+    pub fn restore(&mut self, former: Former)
+        ensures { self.new ≡ restored_flat former self.old }
+    {
+        self.put_back(former);
+        trim(
+            &mut self.keys,
+            &mut self.maps,
+            &mut self.lists,
+            &mut self.registers,
+            &mut self.presences,
+            &mut self.links,
+        );
     }
 }

@@ -1,16 +1,19 @@
 //! Presence sets that are changed in place, for the nodes of both stores.
 
-ghost use Rattle.std.specs.Prelude.{◌≡◌, [], ◌∷◌, not, IfOk, OnOk, OnErr};
+ghost use Rattle.std.specs.Prelude.{◌≡◌, [], ◌∷◌, true, not, IfOk, OnOk, OnErr};
+ghost use Rattle.std.specs.List.{AllByRecursion};
+ghost use Rattle.std.specs.declared.cmp.Ordering.TheVariants.{Less, Equal, Greater};
 ghost use Rattle.jc_rules.specs.Ids.{AreRising, has_id, with_id};
-ghost use Rattle.jc_rules.specs.Order.{key_cmp};
+ghost use Rattle.jc_rules.specs.Order.{id_cmp, key_cmp};
 ghost use Rattle.jc_rules.specs.Entries.{find, put};
 ghost use Rattle.jc_tree.specs.Tree.{or_no_entries, has_ids, count_present};
 ghost use Rattle.jc_tree.specs.Sorted.{AreSorted};
 ghost use Rattle.jc_tree.specs.Undo.{taken_out, out_of_set};
 
 use crate::entries::{place_of, put_value};
-use jc_rules::{Id, Key, insert_id};
+use jc_rules::{Id, Key, compare_ids, insert_id};
 use std::alloc::{AllocError, Global};
+use std::cmp::Ordering;
 use std::marker::Model;
 
 /// The identifiers of a presence set, rising.
@@ -43,7 +46,7 @@ impl Ids {
     pub fn single(id: Id, alloc: Global) -> Result<Self, AllocError>
         ensures { IfOk result (λ ids. ids ≡ id ∷ []) }
     {
-        let mut ids = Vec::new(alloc);
+        let mut ids = Vec::with_capacity(alloc, 1)?;
         ids.push(id)?;
         Ok(Ids { ids })
     }
@@ -61,11 +64,26 @@ impl Ids {
         self.ids.is_empty()
     }
 
+    /// How the identifier compares with the last one of the set: it is greater where there is none.
+    fn against_last(&self, id: Id) -> Ordering
+        ensures above { result ≡ Greater → AllByRecursion (λ j. id_cmp j id ≡ Less) self.now }
+        ensures there { result ≡ Equal → has_id id self.now ≡ true }
+    {
+        match self.ids.last() {
+            Some(last) => compare_ids(id, *last),
+            None => Ordering::Greater,
+        }
+    }
+
     /// Whether the identifier is in the set.
     pub fn contains(&self, id: Id) -> bool
         ensures { result ≡ has_id id self.now }
     {
-        self.ids.binary_search(&id).is_ok()
+        match self.against_last(id) {
+            Ordering::Greater => false,
+            Ordering::Equal => true,
+            Ordering::Less => self.ids.binary_search(&id).is_ok(),
+        }
     }
 
     /// Adds the identifier, if it isn't there already. After a refusal the set is as it was.
@@ -73,7 +91,14 @@ impl Ids {
         ensures ok { OnOk result (self.new ≡ with_id id self.old) }
         ensures err { OnErr result (self.new ≡ self.old) }
     {
-        insert_id(&mut self.ids, id)
+        match self.against_last(id) {
+            Ordering::Greater => {
+                self.ids.push(id)?;
+                Ok(())
+            }
+            Ordering::Equal => Ok(()),
+            Ordering::Less => insert_id(&mut self.ids, id),
+        }
     }
 
     /// Takes the identifier out, where it is there. It takes no memory.

@@ -4,13 +4,14 @@
 
 mod arena;
 mod arena_node;
+mod columns;
 mod entries;
 mod ids;
+mod keys;
 pub mod laws;
 mod lists;
 mod node;
 mod plain;
-mod presences;
 mod store;
 mod tables;
 

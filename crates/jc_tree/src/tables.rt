@@ -1,117 +1,155 @@
-//! Entries by key in B-trees: the fast store keeps a context's entries in them, so that a key among many is found fast.
+//! Entries by key, of which the keys are numbered and the values are in a column: the fast store keeps a context's
+//! entries so, and a key is found in all columns by one search.
 
-ghost use Rattle.std.specs.Prelude.{◌≡◌, IfOk, OnOk, OnErr, option_copied};
+ghost use Rattle.std.specs.Prelude.{◌≡◌, ◌≤◌, Some, length, option_map, IfOk, OnOk, OnErr, option_copied};
 ghost use Rattle.jc_rules.specs.Order.{id_cmp, key_cmp};
 ghost use Rattle.jc_rules.specs.Entries.{find, put, keys_of};
 ghost use Rattle.jc_rules.specs.Ids.{with_id};
 ghost use Rattle.jc_tree.specs.Tree.{or_no_entries, least_after, has_ids};
 ghost use Rattle.jc_tree.specs.Counted.{is_last};
-ghost use Rattle.jc_tree.specs.Sorted.{AreSorted};
-ghost use Rattle.jc_tree.specs.Undo.{restored, restored_value, former_of_id, former_of_value, out_of_set};
+ghost use Rattle.jc_tree.specs.Numbered.{column_entries};
+ghost use Rattle.jc_tree.specs.Tables.{MayNumber};
+ghost use Rattle.jc_tree.specs.Undo.{taken_out, restored, restored_value, former_of_id, former_of_value, out_of_set};
 
+use crate::columns::{put_at, restore_at, value_at};
 use crate::ids::Ids;
+use crate::keys::KeyTable;
 use crate::lists::Pairs;
 use crate::node::Former;
 use jc_rules::{Id, Key, Value};
 use std::alloc::{AllocError, Global};
-use std::collections::BTreeMap;
-use std::mem;
-use std::ops::Bound;
 
 /// The value under the key.
-pub fn value_in<'a, X>(table: &'a BTreeMap<Key, X>, key: &Key) -> Option<&'a X>
-    ensures { option_copied result ≡ find key_cmp key.now table.now.entries }
+pub fn value_in<'a, X>(keys: &KeyTable, column: &'a [Option<X>], key: &Key) -> Option<&'a X>
+    ensures { option_copied result ≡ find key_cmp key.now (column_entries column.now keys.now) }
 {
-    table.get(key)
+    let number = keys.number(key)?;
+    value_at(column, number)
 }
 
 /// Puts the value under the key, and returns the one that was there. After a refusal the entries
 /// are as they were.
 pub fn put_in<X: Drop>(
-    table: &mut BTreeMap<Key, X>,
-    key: Key,
+    keys: &mut KeyTable,
+    column: &mut Vec<Option<X>>,
+    key: &Key,
     value: X,
 ) -> Result<Option<X>, AllocError>
-    requires { AreSorted table.old.entries }
-    ensures ok { OnOk result (table.new.entries ≡ put key_cmp key value table.old.entries) }
-    ensures former { IfOk result (λ former. former ≡ find key_cmp key table.old.entries) }
-    ensures err { OnErr result (table.new.entries ≡ table.old.entries) }
-    ensures sorted { AreSorted table.new.entries }
+    requires { length column.old.items ≤ length keys.old.keys }
+    ensures numbers { MayNumber key.now keys.old keys.new }
+    ensures within { length column.new.items ≤ length keys.new.keys }
+    ensures ok { OnOk result (column_entries column.new.items keys.new
+        ≡ put key_cmp key.now value (column_entries column.old.items keys.old)) }
+    ensures former { IfOk result (λ former.
+        former ≡ find key_cmp key.now (column_entries column.old.items keys.old)) }
+    ensures err { OnErr result (column_entries column.new.items keys.new
+        ≡ column_entries column.old.items keys.old) }
 {
-    let former = table.insert(key, value)?;
+    let number = keys.number_of(key)?;
+    let former = put_at(column, number, value)?;
     Ok(former)
 }
 
 /// Gives the key the value that it had, or takes its entry away where it had none, and returns the
 /// one that was there. It takes no memory: a key without an entry gets none.
-pub fn restore_in<X: Drop>(table: &mut BTreeMap<Key, X>, key: &Key, former: Option<X>) -> Option<X>
-    requires { AreSorted table.old.entries }
-    ensures ok { table.new.entries ≡ restored key_cmp key.now former table.old.entries }
-    ensures stood { result ≡ find key_cmp key.now table.old.entries }
-    ensures sorted { AreSorted table.new.entries }
+pub fn restore_in<X: Drop>(
+    keys: &KeyTable,
+    column: &mut Vec<Option<X>>,
+    key: &Key,
+    former: Option<X>,
+) -> Option<X>
+    requires { length column.old.items ≤ length keys.now.keys }
+    ensures within { length column.new.items ≤ length keys.now.keys }
+    ensures ok { column_entries column.new.items keys.now
+        ≡ restored key_cmp key.now former (column_entries column.old.items keys.now) }
+    ensures stood { result ≡ find key_cmp key.now (column_entries column.old.items keys.now) }
 {
-    let Some(value) = former else {
-        return table.remove(key);
-    };
-    let slot = table.get_mut(key)?;
-    Some(mem::replace(slot, value))
+    let number = keys.number(key)?;
+    restore_at(column, number, former)
 }
 
-/// The least key above the given one, or the least of all where none is given.
-pub fn key_above_in<'a, X>(table: &'a BTreeMap<Key, X>, after: Option<&Key>) -> Option<&'a Key>
-    requires { AreSorted table.now.entries }
-    ensures { option_copied result ≡ least_after (option_copied after.entry) (keys_of table.now.entries) }
+/// The least key above the given one that has an entry, or the least of all where none is given.
+pub fn key_above_in<'a, X>(
+    keys: &'a KeyTable,
+    column: &[Option<X>],
+    after: Option<&Key>,
+) -> Option<&'a Key>
+    ensures { option_copied result
+        ≡ least_after (option_copied after.entry) (keys_of (column_entries column.now keys.now)) }
 {
-    let Some(above) = after else {
-        let (key, _) = table.first_key_value()?;
-        return Some(key);
+    let mut last = after;
+    while let Some((key, number)) = keys.above(last) {
+        if value_at(column, number).is_some() {
+            return Some(key);
+        }
+        last = Some(key);
+    }
+    None
+}
+
+/// Adds the identifier to the set, a new one where there is none. Returns the undo record, by the set's
+/// key, and whether the set had an identifier before. After a refusal the set is as it was.
+fn add_to_set(
+    set: &mut Option<Ids>,
+    key: Key,
+    id: Id,
+    alloc: Global,
+) -> Result<(Former, bool), AllocError>
+    ensures ok { OnOk result (set.new ≡ Some (with_id id (or_no_entries set.old))) }
+    ensures former { IfOk result (λ added. added.0 ≡ former_of_id key id set.old) }
+    ensures was { IfOk result (λ added. added.1 ≡ has_ids (or_no_entries set.old)) }
+    ensures err { OnErr result (set.new ≡ set.old) }
+{
+    let Some(ids) = set else {
+        *set = Some(Ids::single(id, alloc)?);
+        return Ok((Former::Presence(key, None), false));
     };
-    let mut greater = table.range((Bound::Excluded(above), Bound::Unbounded));
-    let (key, _) = greater.next()?;
-    Some(key)
+    let was = !ids.is_empty();
+    let had = ids.contains(id);
+    ids.insert(id)?;
+    let former = if had {
+        Former::Same
+    } else {
+        Former::NoId(key, id)
+    };
+    Ok((former, was))
 }
 
 /// Adds the identifier to the key's set, a new one where there is none. Returns the undo record, and
 /// whether the set had an identifier before. After a refusal the sets are as they were.
 pub fn add_in(
-    sets: &mut BTreeMap<Key, Ids>,
+    keys: &mut KeyTable,
+    sets: &mut Vec<Option<Ids>>,
     key: Key,
     id: Id,
     alloc: Global,
 ) -> Result<(Former, bool), AllocError>
-    requires { AreSorted sets.old.entries }
-    ensures ok { OnOk result (sets.new.entries
-        ≡ put key_cmp key (with_id id (or_no_entries (find key_cmp key sets.old.entries))) sets.old.entries) }
-    ensures former { IfOk result (λ added. added.0 ≡ former_of_id key id (find key_cmp key sets.old.entries)) }
-    ensures was { IfOk result (λ added. added.1 ≡ has_ids (or_no_entries (find key_cmp key sets.old.entries))) }
-    ensures err { OnErr result (sets.new.entries ≡ sets.old.entries) }
-    ensures sorted { AreSorted sets.new.entries }
+    requires { length sets.old.items ≤ length keys.old.keys }
+    ensures numbers { MayNumber key keys.old keys.new }
+    ensures within { length sets.new.items ≤ length keys.new.keys }
+    ensures ok { OnOk result (column_entries sets.new.items keys.new
+        ≡ put key_cmp key (with_id id (or_no_entries (find key_cmp key (column_entries sets.old.items keys.old))))
+        (column_entries sets.old.items keys.old)) }
+    ensures former { IfOk result (λ added.
+        added.0 ≡ former_of_id key id (find key_cmp key (column_entries sets.old.items keys.old))) }
+    ensures was { IfOk result (λ added.
+        added.1 ≡ has_ids (or_no_entries (find key_cmp key (column_entries sets.old.items keys.old)))) }
+    ensures err { OnErr result (column_entries sets.new.items keys.new ≡ column_entries sets.old.items keys.old) }
 {
-    if let Some(ids) = sets.get_mut(&key) {
-        let was = !ids.is_empty();
-        let had = ids.contains(id);
-        ids.insert(id)?;
-        let former = if had {
-            Former::Same
-        } else {
-            Former::NoId(key, id)
-        };
-        return Ok((former, was));
-    }
-    let copy = key.copy()?;
-    put_in(sets, key, Ids::single(id, alloc)?)?;
-    Ok((Former::Presence(copy, None), false))
+    let number = keys.number_of(&key)?;
+    let Some(set) = sets.get_mut(number) else {
+        put_at(sets, number, Ids::single(id, alloc)?)?;
+        return Ok((Former::Presence(key, None), false));
+    };
+    add_to_set(set, key, id, alloc)
 }
 
-/// Takes the identifier out of the key's set, where there is one. Returns whether it was the last one
-/// of the set. It takes no memory.
-pub fn take_out_in(sets: &mut BTreeMap<Key, Ids>, key: &Key, id: Id) -> bool
-    requires { AreSorted sets.old.entries }
-    ensures ok { sets.new.entries ≡ out_of_set key.now id (find key_cmp key.now sets.old.entries) sets.old.entries }
-    ensures last { result ≡ is_last id (or_no_entries (find key_cmp key.now sets.old.entries)) }
-    ensures sorted { AreSorted sets.new.entries }
+/// Takes the identifier out of the set, if there is one. Returns whether it was the last one of the set.
+fn take_out_of_set(set: &mut Option<Ids>, id: Id) -> bool
+    ensures ok { set.new ≡ option_map (λ s. taken_out id s) set.old }
+    ensures last { result ≡ is_last id (or_no_entries set.old) }
 {
-    let Some(ids) = sets.get_mut(key) else {
+    let Some(ids) = set else {
         return false;
     };
     let was = !ids.is_empty();
@@ -119,46 +157,105 @@ pub fn take_out_in(sets: &mut BTreeMap<Key, Ids>, key: &Key, id: Id) -> bool
     was && ids.is_empty()
 }
 
-/// Puts the value under the identifier into the key's register, a new one where there is none.
-/// Returns the undo record. After a refusal the registers are as they were.
-pub fn put_value_in(
-    registers: &mut BTreeMap<Key, Pairs>,
+/// Takes the identifier out of the key's set, where there is one. Returns whether it was the last one
+/// of the set. It takes no memory.
+pub fn take_out_in(keys: &KeyTable, sets: &mut Vec<Option<Ids>>, key: &Key, id: Id) -> bool
+    requires { length sets.old.items ≤ length keys.now.keys }
+    ensures within { length sets.new.items ≤ length keys.now.keys }
+    ensures ok { column_entries sets.new.items keys.now
+        ≡ out_of_set key.now id (find key_cmp key.now (column_entries sets.old.items keys.now))
+        (column_entries sets.old.items keys.now) }
+    ensures last { result
+        ≡ is_last id (or_no_entries (find key_cmp key.now (column_entries sets.old.items keys.now))) }
+{
+    let Some(number) = keys.number(key) else {
+        return false;
+    };
+    match sets.get_mut(number) {
+        Some(set) => take_out_of_set(set, id),
+        None => false,
+    }
+}
+
+/// Puts the value under the identifier into the register, a new one where there is none. Returns the
+/// undo record, by the register's key. After a refusal the register is as it was.
+fn put_to_register(
+    register: &mut Option<Pairs>,
     key: Key,
     id: Id,
     value: Value,
     alloc: Global,
 ) -> Result<Former, AllocError>
-    requires { AreSorted registers.old.entries }
-    ensures ok { OnOk result (registers.new.entries
-        ≡ put key_cmp key (put id_cmp id value (or_no_entries (find key_cmp key registers.old.entries)))
-        registers.old.entries) }
-    ensures former { IfOk result (λ former. former ≡ former_of_value key id (find key_cmp key registers.old.entries)) }
-    ensures err { OnErr result (registers.new.entries ≡ registers.old.entries) }
-    ensures sorted { AreSorted registers.new.entries }
+    ensures ok { OnOk result (register.new ≡ Some (put id_cmp id value (or_no_entries register.old))) }
+    ensures former { IfOk result (λ former. former ≡ former_of_value key id register.old) }
+    ensures err { OnErr result (register.new ≡ register.old) }
 {
-    if let Some(pairs) = registers.get_mut(&key) {
-        let former = pairs.put(id, value)?;
-        return Ok(Former::Value(key, id, former));
+    let Some(pairs) = register else {
+        *register = Some(Pairs::single(id, value, alloc)?);
+        return Ok(Former::Register(key, None));
+    };
+    let former = pairs.put(id, value)?;
+    Ok(Former::Value(key, id, former))
+}
+
+/// Puts the value under the identifier into the key's register, a new one where there is none.
+/// Returns the undo record. After a refusal the registers are as they were.
+pub fn put_value_in(
+    keys: &mut KeyTable,
+    registers: &mut Vec<Option<Pairs>>,
+    key: Key,
+    id: Id,
+    value: Value,
+    alloc: Global,
+) -> Result<Former, AllocError>
+    requires { length registers.old.items ≤ length keys.old.keys }
+    ensures numbers { MayNumber key keys.old keys.new }
+    ensures within { length registers.new.items ≤ length keys.new.keys }
+    ensures ok { OnOk result (column_entries registers.new.items keys.new
+        ≡ put key_cmp key
+        (put id_cmp id value (or_no_entries (find key_cmp key (column_entries registers.old.items keys.old))))
+        (column_entries registers.old.items keys.old)) }
+    ensures former { IfOk result (λ former.
+        former ≡ former_of_value key id (find key_cmp key (column_entries registers.old.items keys.old))) }
+    ensures err { OnErr result (column_entries registers.new.items keys.new
+        ≡ column_entries registers.old.items keys.old) }
+{
+    let number = keys.number_of(&key)?;
+    let Some(register) = registers.get_mut(number) else {
+        put_at(registers, number, Pairs::single(id, value, alloc)?)?;
+        return Ok(Former::Register(key, None));
+    };
+    put_to_register(register, key, id, value, alloc)
+}
+
+/// Gives the identifier the value that it had in the register, if there is one.
+fn restore_register(register: &mut Option<Pairs>, id: Id, former: Option<Value>)
+    ensures { register.new ≡ option_map (λ r. restored id_cmp id former r) register.old }
+{
+    if let Some(pairs) = register {
+        pairs.restore(id, former);
     }
-    let copy = key.copy()?;
-    put_in(registers, key, Pairs::single(id, value, alloc)?)?;
-    Ok(Former::Register(copy, None))
 }
 
 /// Gives the identifier the value that it had in the key's register, where there is one. It takes no
 /// memory.
 pub fn restore_value_in(
-    registers: &mut BTreeMap<Key, Pairs>,
+    keys: &KeyTable,
+    registers: &mut Vec<Option<Pairs>>,
     key: &Key,
     id: Id,
     former: Option<Value>,
 )
-    requires { AreSorted registers.old.entries }
-    ensures ok { registers.new.entries
-        ≡ restored_value key.now id former (find key_cmp key.now registers.old.entries) registers.old.entries }
-    ensures sorted { AreSorted registers.new.entries }
+    requires { length registers.old.items ≤ length keys.now.keys }
+    ensures within { length registers.new.items ≤ length keys.now.keys }
+    ensures ok { column_entries registers.new.items keys.now
+        ≡ restored_value key.now id former (find key_cmp key.now (column_entries registers.old.items keys.now))
+        (column_entries registers.old.items keys.now) }
 {
-    if let Some(pairs) = registers.get_mut(key) {
-        pairs.restore(id, former);
+    let Some(number) = keys.number(key) else {
+        return;
+    };
+    if let Some(register) = registers.get_mut(number) {
+        restore_register(register, id, former);
     }
 }

@@ -1,60 +1,71 @@
-use Rattle.std.proofs.Common.{◌≡◌, Bool, true, false, not, cond, Some, None, Option, List, sym, ◌∙◌, ap}
+use Rattle.std.proofs.Common.{◌≡◌, List, Option, Some, None, sym, ◌∙◌, ap}
 use Rattle.jc_rules.specs.declared.id.Id.{Id}
-use Rattle.jc_rules.specs.declared.key.Key.{Key}
 use Rattle.jc_rules.specs.Order.{key_cmp}
 use Rattle.jc_rules.specs.Entries.{find, put}
 use Rattle.jc_rules.specs.Ids.{with_id}
-use Rattle.jc_rules.proofs.OrderLemmas.{keys_total, exact_keys}
-use Rattle.jc_rules.proofs.EntriesLemmas.{put-same}
 use Rattle.jc_tree.specs.Tree.{or_no_entries, has_ids}
 use Rattle.jc_tree.specs.Undo.{former_of_id}
-use Rattle.jc_tree.specs.declared.node.Former.TheVariants as F
-use Rattle.jc_tree.proofs.SortedMapLemmas.{lookup_is, write_put, as_err}
-use Rattle.jc_tree.proofs.CountedLemmas.{some_left}
+use Rattle.jc_tree.specs.Numbered.{column_entries}
+use Rattle.jc_tree.specs.Tables.MayNumber.{numbers}
+use Rattle.jc_tree.proofs.SortedMapLemmas.{as_err}
+use Rattle.jc_tree.proofs.ColumnLemmas.{same_column, put_column}
+use Rattle.jc_tree.proofs.TablesLemmas.{put_within, put_slot, former_slot, slot_here, no_slot, on_ok, if_ok}
 use Rattle.jc_tree.proofs.tables.add_in.Goals as goal
-use Rattle.jc_tree.proofs.tables.add_in.Goals.{then-had+in-Name-1, then-had+in-Doc-1, else-had}
 
-pub returns-in_err-insert-clause-err : goal.returns-in_err-insert-clause-err
-returns-in_err-insert-clause-err c =
-    let es = c.args.sets.now.entries in
-    let found : find key_cmp c.args.key es ≡ Some c.in-Some.ids.now = sym (c.in-Some.ensures.value ∙ lookup_is c.args.key es) in
-    as_err _ ((c.get_mut.follows.holds c.insert.new.self).0 ∙ write_put c.args.key c.insert.new.self c.in-Some.ids.now es found ∙ ap (λ v. put key_cmp c.args.key v es) c.in_err-insert.ensures.err ∙ put-same keys_total exact_keys c.args.key c.in-Some.ids.now es found)
+pub returns-in_err-single-clause-numbers : goal.returns-in_err-single-clause-numbers
+returns-in_err-single-clause-numbers c = numbers c.in_ok-number.number c.number_of.ensures.numbered.0 c.in_ok-number.ensures.ok
 
-pub returns-in-Some-clause-ok : goal.returns-in-Some-clause-ok
-returns-in-Some-clause-ok c =
-    let es = c.args.sets.now.entries in
-    let found : find key_cmp c.args.key es ≡ Some c.in-Some.ids.now = sym (c.in-Some.ensures.value ∙ lookup_is c.args.key es) in
-    (c.get_mut.follows.holds c.insert.new.self).0 ∙ write_put c.args.key c.insert.new.self c.in-Some.ids.now es found ∙ ap (λ v. put key_cmp c.args.key v es) (c.in_ok-insert.ensures.ok ∙ ap (λ o. with_id c.args.id (or_no_entries o)) (sym found))
+pub returns-in_err-single-clause-err : goal.returns-in_err-single-clause-err
+returns-in_err-single-clause-err c =
+    as_err _ (same_column c.args.key c.in_ok-number.number c.args.sets.now.items c.args.keys.now c.number_of.new.self c.number_of.ensures.numbered.0 c.in_ok-number.ensures.ok c.requires)
 
-pub returns-in-Some-clause-former : goal.returns-in-Some-clause-former
-returns-in-Some-clause-former c =
-    let found : find key_cmp c.args.key c.args.sets.now.entries ≡ Some c.in-Some.ids.now = sym (c.in-Some.ensures.value ∙ lookup_is c.args.key c.args.sets.now.entries) in
-    let is : (b : Bool) → c.contains-had.result ≡ b → cond b F.Same (F.NoId c.args.key c.args.id) ≡ former_of_id c.args.key c.args.id (find key_cmp c.args.key c.args.sets.now.entries) =
-    λ b e. ap (λ d. cond d F.Same (F.NoId c.args.key c.args.id)) (sym e ∙ c.contains-had.ensures) ∙ ap (λ (o : Option (List Id)). former_of_id c.args.key c.args.id o) (sym found) in
-    elim c.if-had.branch [
-      | then-had+in-Name-1 w ↦ w.former-is ∙ is true w.if-had.true
-      | then-had+in-Doc-1 w ↦ w.former-is ∙ is true w.if-had.true
-      | else-had w ↦ w.former-is ∙ is false w.if-had.false
-    ]
+pub returns-in_err-put_at-clause-numbers : goal.returns-in_err-put_at-clause-numbers
+returns-in_err-put_at-clause-numbers c = numbers c.in_ok-number.number c.number_of.ensures.numbered.0 c.in_ok-number.ensures.ok
+
+pub returns-in_err-put_at-clause-err : goal.returns-in_err-put_at-clause-err
+returns-in_err-put_at-clause-err c =
+    as_err _ (ap (λ d. column_entries d c.number_of.new.self) c.in_err-put_at.ensures.err ∙ same_column c.args.key c.in_ok-number.number c.args.sets.now.items c.args.keys.now c.number_of.new.self c.number_of.ensures.numbered.0 c.in_ok-number.ensures.ok c.requires)
+
+pub returns-in_default-clause-numbers : goal.returns-in_default-clause-numbers
+returns-in_default-clause-numbers c = numbers c.in_ok-number.number c.number_of.ensures.numbered.0 c.in_ok-number.ensures.ok
+
+pub returns-in_default-clause-within : goal.returns-in_default-clause-within
+returns-in_default-clause-within c =
+    put_within c.args.key c.in_ok-number.number _ c.args.sets.now.items c.put_at.new.column.items c.args.keys.now c.number_of.new.self c.number_of.ensures.numbered c.in_ok-number.ensures.ok c.requires c.in_ok-put_at.ensures.ok
+
+pub returns-in_default-clause-ok : goal.returns-in_default-clause-ok
+returns-in_default-clause-ok c =
+    let es = column_entries c.args.sets.now.items c.args.keys.now in
+    let none : find key_cmp c.args.key es ≡ None = former_slot c.args.key c.in_ok-number.number None c.args.sets.now.items c.args.keys.now c.number_of.new.self c.number_of.ensures.numbered c.in_ok-number.ensures.ok c.requires (no_slot c.args.sets.now.items c.in_ok-number.number c.in_default.ensures.item.3) in
+    put_column c.args.key c.in_ok-number.number c.in_ok-single.field-0 c.args.sets.now.items c.put_at.new.column.items c.args.keys.now c.number_of.new.self c.number_of.ensures.numbered.0 c.number_of.ensures.numbered.1 c.in_ok-number.ensures.ok c.requires c.in_ok-put_at.ensures.ok
+    ∙ ap (λ (x : List Id). put key_cmp c.args.key x es) (c.in_ok-single.ensures ∙ ap (λ (o : Option (List Id)). with_id c.args.id (or_no_entries o)) (sym none))
+
+pub returns-in_default-clause-former : goal.returns-in_default-clause-former
+returns-in_default-clause-former c =
+    ap (λ (o : Option (List Id)). former_of_id c.args.key c.args.id o) (sym (former_slot c.args.key c.in_ok-number.number None c.args.sets.now.items c.args.keys.now c.number_of.new.self c.number_of.ensures.numbered c.in_ok-number.ensures.ok c.requires (no_slot c.args.sets.now.items c.in_ok-number.number c.in_default.ensures.item.3)))
 
 pub returns-clause-ok : goal.returns-clause-ok
 returns-clause-ok c =
-    let es = c.args.sets.now.entries in
-    let absent : find key_cmp c.args.key es ≡ None = sym (c.in_default.ensures.value ∙ lookup_is c.args.key es) in
-    let ids : c.in_ok-single.field-0 ≡ with_id c.args.id (or_no_entries (find key_cmp c.args.key es)) = c.in_ok-single.ensures ∙ ap (λ o. with_id c.args.id (or_no_entries o)) (sym absent) in
-    c.in_ok-put_in.ensures.ok ∙ (λ j. put key_cmp c.args.key (ids j) (c.get_mut.follows.holds-at-none j).entries)
+    let col = c.args.sets.now.items in
+    let es = column_entries col c.args.keys.now in
+    let here = slot_here col c.in_ok-number.number c.in-Some.set.now c.in-Some.ensures.item.3.0 c.in-Some.ensures.item.1 in
+    let was : find key_cmp c.args.key es ≡ c.in-Some.set.now = former_slot c.args.key c.in_ok-number.number (Some c.in-Some.set.now) col c.args.keys.now c.number_of.new.self c.number_of.ensures.numbered c.in_ok-number.ensures.ok c.requires here in
+    on_ok c.add_to_set.result (λ e. put_slot c.args.key c.in_ok-number.number _ c.in-Some.set.now c.add_to_set.new.set col c.args.keys.now c.number_of.new.self c.number_of.ensures.numbered c.in_ok-number.ensures.ok c.requires here e ∙ ap (λ (o : Option (List Id)). put key_cmp c.args.key (with_id c.args.id (or_no_entries o)) es) (sym was)) c.add_to_set.ensures.ok
 
 pub returns-clause-former : goal.returns-clause-former
 returns-clause-former c =
-    let absent : find key_cmp c.args.key c.args.sets.now.entries ≡ None = sym (c.in_default.ensures.value ∙ lookup_is c.args.key c.args.sets.now.entries) in
-    ap (λ (k : Key). F.Presence k None) c.in_ok-copy.ensures ∙ ap (λ (o : Option (List Id)). former_of_id c.args.key c.args.id o) (sym absent)
+    let col = c.args.sets.now.items in
+    let here = slot_here col c.in_ok-number.number c.in-Some.set.now c.in-Some.ensures.item.3.0 c.in-Some.ensures.item.1 in
+    let was = former_slot c.args.key c.in_ok-number.number (Some c.in-Some.set.now) col c.args.keys.now c.number_of.new.self c.number_of.ensures.numbered c.in_ok-number.ensures.ok c.requires here in
+    if_ok c.add_to_set.result (λ a e. e ∙ ap (λ (o : Option (List Id)). former_of_id c.args.key c.args.id o) (sym was)) c.add_to_set.ensures.former
 
-pub returns-in-Some-clause-was : goal.returns-in-Some-clause-was
-returns-in-Some-clause-was c =
-    let found : find key_cmp c.args.key c.args.sets.now.entries ≡ Some c.in-Some.ids.now = sym (c.in-Some.ensures.value ∙ lookup_is c.args.key c.args.sets.now.entries) in
-    some_left (c.is_empty-was.ensures ∙ ap (λ o. not (has_ids (or_no_entries o))) (sym found))
+pub returns-in_default-clause-was : goal.returns-in_default-clause-was
+returns-in_default-clause-was c =
+    ap (λ (o : Option (List Id)). has_ids (or_no_entries o)) (sym (former_slot c.args.key c.in_ok-number.number None c.args.sets.now.items c.args.keys.now c.number_of.new.self c.number_of.ensures.numbered c.in_ok-number.ensures.ok c.requires (no_slot c.args.sets.now.items c.in_ok-number.number c.in_default.ensures.item.3)))
 
 pub returns-clause-was : goal.returns-clause-was
 returns-clause-was c =
-    let absent : find key_cmp c.args.key c.args.sets.now.entries ≡ None = sym (c.in_default.ensures.value ∙ lookup_is c.args.key c.args.sets.now.entries) in
-    ap (λ o. has_ids (or_no_entries o)) (sym absent)
+    let col = c.args.sets.now.items in
+    let here = slot_here col c.in_ok-number.number c.in-Some.set.now c.in-Some.ensures.item.3.0 c.in-Some.ensures.item.1 in
+    let was = former_slot c.args.key c.in_ok-number.number (Some c.in-Some.set.now) col c.args.keys.now c.number_of.new.self c.number_of.ensures.numbered c.in_ok-number.ensures.ok c.requires here in
+    if_ok c.add_to_set.result (λ a e. e ∙ ap (λ (o : Option (List Id)). has_ids (or_no_entries o)) (sym was)) c.add_to_set.ensures.was

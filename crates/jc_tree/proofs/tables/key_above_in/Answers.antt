@@ -1,21 +1,23 @@
-use Rattle.std.proofs.Common.{option_copied, sym, ◌∙◌, ap}
+use Rattle.std.proofs.Common.{option_copied, sym, ◌∙◌}
 use Rattle.jc_rules.specs.Entries.{keys_of}
-use Rattle.jc_tree.specs.Tree.{least_after}
-use Rattle.jc_tree.proofs.SortedMapLemmas.{first_some, above_some, above_none}
+use Rattle.jc_tree.proofs.ColumnLemmas.{none_above_column}
+use Rattle.jc_tree.proofs.TablesLemmas.{there_above, further_above}
+use Rattle.jc_tree.proofs.WalksLemmas.{IsNext, next_is}
 use Rattle.jc_tree.proofs.tables.key_above_in.Goals as goal
 
-pub returns-in_default : goal.returns-in_default
-returns-in_default g c =
-    let es = c.args.table.now.entries in
-    sym (ap (λ o. least_after (option_copied o) (keys_of es)) c.in_default.is ∙ first_some es _ c.requires c.in_ok-key.ensures.first)
+pub returns-then-is_some : goal.returns-then-is_some
+returns-then-is_some g c =
+    sym (sym c.loop-key.invariant ∙ there_above (option_copied c.loop-key.last) c.in-Some.key.now c.in-Some.number c.args.column.now c.args.keys.now c.above.ensures.numbered (sym c.in-Some.ensures.key) c.in-Some.ensures.number c.value_at.result c.value_at.ensures (sym c.is_some.ensures ∙ c.if-is_some.true))
 
-pub returns-in_err-key-2 : goal.returns-in_err-key-2
-returns-in_err-key-2 g c =
-    let es = c.args.table.now.entries in
-    ap (λ o. option_copied o) c.from_residual-in_err-key-2.ensures
-    ∙ sym (ap (λ o. least_after (option_copied o) (keys_of es)) c.in-Some.is ∙ above_none c.in-Some.above.now es c.range-greater.result c.requires (c.range-greater.ensures.between tt) c.in_err-key-2.ensures.steps.0)
+pub loop-key-smaller : goal.loop-key-smaller
+loop-key-smaller g c =
+    let n : IsNext (option_copied c.loop-key.last) (keys_of c.args.keys.now.order) c.in-Some.key.now = next_is (option_copied c.loop-key.last) (keys_of c.args.keys.now.order) c.in-Some.key.now (sym c.in-Some.ensures.key) in
+    n.fewer
+
+pub loop-key-preserved : goal.loop-key-preserved
+loop-key-preserved g c =
+    sym (further_above (option_copied c.loop-key.last) c.in-Some.key.now c.in-Some.number c.args.column.now c.args.keys.now c.above.ensures.numbered (sym c.in-Some.ensures.key) c.in-Some.ensures.number c.value_at.result c.value_at.ensures (sym c.is_some.ensures ∙ c.if-is_some.false)) ∙ c.loop-key.invariant
 
 pub returns : goal.returns
 returns g c =
-    let es = c.args.table.now.entries in
-    sym (ap (λ o. least_after (option_copied o) (keys_of es)) c.in-Some.is ∙ above_some c.in-Some.above.now es c.range-greater.result _ _ c.requires (c.range-greater.ensures.between tt) c.in_ok-key-2.ensures.steps)
+    sym (sym c.loop-key.invariant ∙ none_above_column (option_copied c.loop-key.last) c.args.column.now c.args.keys.now c.above.ensures.numbered (sym c.in_default.ensures.key))

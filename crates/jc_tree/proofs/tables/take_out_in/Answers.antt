@@ -1,45 +1,41 @@
-use Rattle.std.proofs.Common.{◌≡◌, Some, None, sym, ◌∙◌, ap}
-use Rattle.jc_rules.specs.Order.{key_cmp}
-use Rattle.jc_rules.specs.Entries.{find, put}
-use Rattle.jc_tree.specs.Counted.{is_last}
+use Rattle.std.proofs.Common.{List, Option, Some, None, refl, sym, ◌∙◌, ap}
+use Rattle.jc_rules.specs.declared.id.Id.{Id}
 use Rattle.jc_tree.specs.Tree.{or_no_entries}
-use Rattle.jc_tree.specs.Undo.{out_of_set}
-use Rattle.jc_tree.proofs.SortedMapLemmas.{lookup_is, write_put}
-use Rattle.jc_tree.proofs.CountedLemmas.{last_there, none_there}
+use Rattle.jc_tree.specs.Counted.{is_last}
+use Rattle.jc_tree.specs.Undo.{taken_out, out_of_set}
+use Rattle.jc_tree.specs.Numbered.{column_entries}
+use Rattle.jc_tree.proofs.TablesLemmas.{found_none, found_slot, in_place, slot_here, no_slot}
 use Rattle.jc_tree.proofs.tables.take_out_in.Goals as goal
 
 pub returns-in_default-clause-ok : goal.returns-in_default-clause-ok
 returns-in_default-clause-ok c =
-    let es = c.args.sets.now.entries in
-    let absent : find key_cmp c.args.key.now es ≡ None = sym (c.in_default.ensures.value ∙ lookup_is c.args.key.now es) in
-    ap (λ m. m.entries) c.get_mut.follows.holds-at-none ∙ ap (λ o. out_of_set c.args.key.now c.args.id o es) (sym absent)
+    let es = column_entries c.args.sets.now.items c.args.keys.now in
+    ap (λ o. out_of_set c.args.key.now c.args.id o es) (sym (found_none c.args.key.now c.args.sets.now.items c.args.keys.now c.number.ensures.numbered (sym c.number.ensures.found ∙ c.in_default.is)))
 
 pub returns-in_default-clause-last : goal.returns-in_default-clause-last
 returns-in_default-clause-last c =
-    let es = c.args.sets.now.entries in
-    let absent : find key_cmp c.args.key.now es ≡ None = sym (c.in_default.ensures.value ∙ lookup_is c.args.key.now es) in
-    ap (λ o. is_last c.args.id (or_no_entries o)) (sym absent)
+    ap (λ (o : Option (List Id)). is_last c.args.id (or_no_entries o)) (sym (found_none c.args.key.now c.args.sets.now.items c.args.keys.now c.number.ensures.numbered (sym c.number.ensures.found ∙ c.in_default.is)))
 
-pub returns-then-was-clause-ok : goal.returns-then-was-clause-ok
-returns-then-was-clause-ok c =
-    let es = c.args.sets.now.entries in
-    let found : find key_cmp c.args.key.now es ≡ Some c.in-Some.ids.now = sym (c.in-Some.ensures.value ∙ lookup_is c.args.key.now es) in
-    (c.get_mut.follows.holds c.take_out.new.self).0 ∙ write_put c.args.key.now c.take_out.new.self c.in-Some.ids.now es found ∙ ap (λ v. put key_cmp c.args.key.now v es) c.take_out.ensures ∙ ap (λ o. out_of_set c.args.key.now c.args.id o es) (sym found)
+pub returns-in-Some-get_mut-clause-ok : goal.returns-in-Some-get_mut-clause-ok
+returns-in-Some-get_mut-clause-ok c =
+    let col = c.args.sets.now.items in
+    let es = column_entries col c.args.keys.now in
+    let item = c.in-Some-get_mut.ensures.item in
+    in_place c.args.key.now c.in-Some.number (λ (s : List Id). taken_out c.args.id s) (λ o. out_of_set c.args.key.now c.args.id o es) c.in-Some-get_mut.set.now c.take_out_of_set.new.set col c.args.keys.now c.number.ensures.numbered (sym c.number.ensures.found ∙ c.in-Some.is) (slot_here col c.in-Some.number c.in-Some-get_mut.set.now item.3.0 item.1) c.take_out_of_set.ensures.ok c.requires refl (λ x. refl)
 
-pub returns-then-was-clause-last : goal.returns-then-was-clause-last
-returns-then-was-clause-last c =
-    let es = c.args.sets.now.entries in
-    let found : find key_cmp c.args.key.now es ≡ Some c.in-Some.ids.now = sym (c.in-Some.ensures.value ∙ lookup_is c.args.key.now es) in
-    last_there c.args.id c.in-Some.ids.now c.take_out.new.self c.is_empty-was.ensures c.if-was.true c.take_out.ensures c.is_empty.ensures ∙ ap (λ o. is_last c.args.id (or_no_entries o)) (sym found)
+pub returns-in-Some-get_mut-clause-last : goal.returns-in-Some-get_mut-clause-last
+returns-in-Some-get_mut-clause-last c =
+    let col = c.args.sets.now.items in
+    let item = c.in-Some-get_mut.ensures.item in
+    c.take_out_of_set.ensures.last ∙ ap (λ (o : Option (List Id)). is_last c.args.id (or_no_entries o)) (sym (found_slot c.args.key.now c.in-Some.number (Some c.in-Some-get_mut.set.now) col c.args.keys.now c.number.ensures.numbered (sym c.number.ensures.found ∙ c.in-Some.is) (slot_here col c.in-Some.number c.in-Some-get_mut.set.now item.3.0 item.1)))
 
-pub returns-else-was-clause-ok : goal.returns-else-was-clause-ok
-returns-else-was-clause-ok c =
-    let es = c.args.sets.now.entries in
-    let found : find key_cmp c.args.key.now es ≡ Some c.in-Some.ids.now = sym (c.in-Some.ensures.value ∙ lookup_is c.args.key.now es) in
-    (c.get_mut.follows.holds c.take_out.new.self).0 ∙ write_put c.args.key.now c.take_out.new.self c.in-Some.ids.now es found ∙ ap (λ v. put key_cmp c.args.key.now v es) c.take_out.ensures ∙ ap (λ o. out_of_set c.args.key.now c.args.id o es) (sym found)
+pub returns-in-None-clause-ok : goal.returns-in-None-clause-ok
+returns-in-None-clause-ok c =
+    let col = c.args.sets.now.items in
+    let es = column_entries col c.args.keys.now in
+    ap (λ o. out_of_set c.args.key.now c.args.id o es) (sym (found_slot c.args.key.now c.in-Some.number None col c.args.keys.now c.number.ensures.numbered (sym c.number.ensures.found ∙ c.in-Some.is) (no_slot col c.in-Some.number c.in-None.ensures.item.3)))
 
-pub returns-else-was-clause-last : goal.returns-else-was-clause-last
-returns-else-was-clause-last c =
-    let es = c.args.sets.now.entries in
-    let found : find key_cmp c.args.key.now es ≡ Some c.in-Some.ids.now = sym (c.in-Some.ensures.value ∙ lookup_is c.args.key.now es) in
-    none_there c.args.id c.in-Some.ids.now c.is_empty-was.ensures c.if-was.false ∙ ap (λ o. is_last c.args.id (or_no_entries o)) (sym found)
+pub returns-in-None-clause-last : goal.returns-in-None-clause-last
+returns-in-None-clause-last c =
+    let col = c.args.sets.now.items in
+    ap (λ (o : Option (List Id)). is_last c.args.id (or_no_entries o)) (sym (found_slot c.args.key.now c.in-Some.number None col c.args.keys.now c.number.ensures.numbered (sym c.number.ensures.found ∙ c.in-Some.is) (no_slot col c.in-Some.number c.in-None.ensures.item.3)))

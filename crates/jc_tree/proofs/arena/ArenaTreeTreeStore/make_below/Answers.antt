@@ -1,8 +1,8 @@
-use Rattle.std.proofs.Common.{◌≡◌, ℕ, ◌∷◌, ◌++◌, [], sym, ◌∙◌, ap, subst, Some}
+use Rattle.std.proofs.Common.{◌≡◌, ℕ, ◌∷◌, ◌++◌, [], slice_set, sym, ◌∙◌, ap, subst, Some}
 use Rattle.jc_rules.specs.Context.{with_content, new_content}
 use Rattle.jc_rules.specs.ContextsAt.{context_at}
 use Rattle.jc_tree.specs.Arena.{content_of_arena}
-use Rattle.jc_tree.specs.ArenaUndo.{IsGood, AreGood}
+use Rattle.jc_tree.specs.ArenaUndo.{IsGood, AreGood, tree_of_arena}
 use Rattle.jc_tree.specs.declared.arena.Undo.{Undo}
 use Rattle.jc_tree.proofs.ArenaChangesLemmas.{Changes, child_changes}
 use Rattle.jc_tree.proofs.ArenaStepsLemmas.{content_absent}
@@ -10,6 +10,7 @@ use Rattle.jc_tree.proofs.ArenaPlacesLemmas.{place_inside, child_at, names_last}
 use Rattle.jc_tree.proofs.ArenaHistoryLemmas.{good_pushed, changed_tree}
 use Rattle.jc_tree.proofs.UndoLemmas.{pushed}
 use Rattle.jc_tree.proofs.ArenaCallsLemmas.{nodes_made, nodes_left, pushed_ok}
+use Rattle.jc_tree.proofs.SortedMapLemmas.{as_err}
 use Rattle.jc_tree.proofs.arena.ArenaTreeTreeStore.make_below.Goals as goal
 
 pub index_mut-requires : goal.index_mut-requires
@@ -26,6 +27,12 @@ invariant_of-self-in-Break-branch-6 c =
       good = subst (λ l. IsGood l) (sym left) self.good;
       earlier_good = subst (λ l. AreGood c.reserve.new.self.items l) (sym left) (subst (λ us. AreGood us self.nodes.items) (sym c.in_ok-reserve.ensures.items) self.earlier_good);
     }
+
+pub returns-in_err-name_child-clause-err : goal.returns-in_err-name_child-clause-err
+returns-in_err-name_child-clause-err c =
+    let left = nodes_left c.args.self.now.nodes.items c.reserve-2.new.self.items c.args.place.number c.index_mut.result.now c.name_child.new.self c.in_ok-reserve-2.ensures.items c.index_mut.ensures.value c.in_err-name_child.ensures.err in
+    let kept : tree_of_arena (slice_set c.reserve-2.new.self.items c.args.place.number c.name_child.new.self) c.reserve.new.self.items ≡ tree_of_arena c.args.self.now.nodes.items c.args.self.now.undos.items = λ j. tree_of_arena (left j) (c.in_ok-reserve.ensures.items j) in
+    as_err _ kept
 
 pub invariant_of-self-2 : goal.invariant_of-self-2
 invariant_of-self-2 c =
