@@ -15,14 +15,27 @@ pub enum Change {
     },
     /// A command made the last operation of the queue, which has this identifier. The greatest
     /// counter of its replica was `before`.
-    Made { id: Id, before: u64 },
+    Made {
+        id: Id,
+        before: u64,
+    },
     /// The number of operations of the queue that were offered before.
-    Sent { sent: usize, acted: bool },
+    Sent {
+        sent: usize,
+        acted: bool,
+    },
     /// Operations with these identifiers were received.
-    Received { came: Vec<Id>, acted: bool },
+    Received {
+        came: Vec<Id>,
+        acted: bool,
+    },
     /// The received operation with this identifier was applied. The greatest counter of its replica
     /// was `before`.
-    Applied { id: Id, before: u64, acted: bool },
+    Applied {
+        id: Id,
+        before: u64,
+        acted: bool,
+    },
     /// A yield ended.
     Ended,
 }
