@@ -5,6 +5,7 @@ import itertools
 import re
 
 from grammar import read
+from journal import write_journal
 from lines import read_line
 from rules import GivenStuck, Stuck, change, start
 from session import Session
@@ -13,7 +14,7 @@ from texts import Texts, counts_of, refused
 from view import line_of
 
 VERSION = "jsoncrdt 2.0.0\n"
-USAGE = "usage: oracle/jsoncrdt check|print|run [--trace]|view [--at N]|debug FILE    (help says more)"
+USAGE = "usage: oracle/jsoncrdt check|print|run|view|journal|debug FILE    (help says more)"
 HELP = """\
 usage: oracle/jsoncrdt COMMAND FILE      (FILE - is standard input; no arguments are run --trace -)
        oracle/jsoncrdt help | --version
@@ -25,6 +26,9 @@ The program by the same rules, written once more in Python. Nothing of it is pro
   run [--trace] FILE    executes the schedule and prints each replica's state, as a line of JSON;
                         with --trace the rules that each event used come first (this may be long)
   view [--at N] FILE    prints each replica's document as an application sees it, after N events
+  journal [--trace] FILE
+                        prints a line of JSON for each event, with its operation in full, and for the
+                        one that is stuck with why; the proved program doesn't have this command yet
   debug FILE            the debugger: steps forwards and backwards by lines of standard input (`act`
                         cuts off the rest of the schedule for good); in a terminal it has a prompt
                         and a history, and `help` lists the lines
@@ -37,7 +41,7 @@ Statuses: 0 done; 1 the text was refused; 2 wrong arguments; 3 an event is stuck
 
 Not here: `threads`, which runs each replica in a thread of its own. The proved program has it.
 """
-COMMANDS = ("check", "print", "run", "view", "debug")
+COMMANDS = ("check", "print", "run", "view", "journal", "debug")
 MOST_LINES, MOST_OF_LINES, MOST_EVENTS = 1_000_000, 67_108_864, 100_000
 
 Order = collections.namedtuple("Order", "command file traced at")
@@ -98,7 +102,7 @@ def order_of(words):
         number += 1
         if options and word == "--":
             options = False
-        elif options and word == "--trace" and command == "run" and not traced:
+        elif options and word == "--trace" and command in ("run", "journal") and not traced:
             traced = True
         elif options and command == "view" and at is None and (word == "--at" or word.startswith("--at=")):
             given = word[5:] if word != "--at" else taken(words, number)
@@ -193,6 +197,8 @@ def done(order, source, out, err, by_hand):
     if order.command in ("check", "print"):
         out.write(counts_of(scenario) if order.command == "check" else texts.scenario(scenario))
         return 0
+    if order.command == "journal":
+        return write_journal(scenario, texts, order.traced, out)
     try:
         if order.command != "debug":
             return show(order, scenario, out)

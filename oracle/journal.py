@@ -1,0 +1,113 @@
+"""The journal of a scenario: JSON Lines, an object for each event that is made, and last one for an event that is stuck.
+
+Members stand by their names, texts are those of dumps. Each object has `event`, the event's text; `kind`, its word;
+`number`, from 1; `replica`, its name. Given events come first and have `"given":true` and numbers of their own.
+
+`exec` has `command`, and where it made an operation `op`; `apply` has `op`. `recv` and `take` have `from`, the sender;
+they and `send` have `new`, the identifiers that came to `send` or `recv` by the event. An operation has `id`, `cursor`,
+`mutation`, `value` where it doesn't delete, and `deps` as a version vector: each replica's greatest counter among the
+operations that it depends on. `rules` are the rules of the event with their depths, where they are asked for.
+
+An event that is stuck has `stuck` and `cause`, the refusal's number and name; for 25 `key`, the tagged key that is
+missing; for 34 `offered`, the replicas that send the operation; for 36 `missing`, the operations that it depends on
+and that the replica has not applied.
+"""
+
+from rules import Network, Stuck, change
+from texts import REFUSALS, array, object_of, string
+
+EMPTY = {"map": b"{}", "list": b"[]"}
+
+
+class Journal:
+    def __init__(self, texts, traced):
+        self.texts, self.traced = texts, traced
+
+    def vector(self, identifiers):
+        """The version vector of a set of identifiers."""
+        greatest = {}
+        for counter, replica in sorted(identifiers):
+            greatest[self.texts.names[replica]] = b"%d" % counter
+        return object_of(greatest.items())
+
+    def operation(self, operation):
+        cursor = [*map(self.texts.tagged, operation.path), self.texts.key(operation.last)]
+        members = {
+            b"cursor": array(map(string, cursor)),
+            b"deps": self.vector(operation.deps),
+            b"id": string(self.texts.identifier(operation.identifier)),
+            b"mutation": string(operation.mutation[0].encode()),
+        }
+        if operation.mutation[0] != "delete":
+            value = operation.mutation[1]
+            members[b"value"] = EMPTY.get(value[0]) or self.texts.value(value)
+        return object_of(members.items())
+
+    def common(self, number, event, given):
+        members = {
+            b"event": string(self.texts.event(event)),
+            b"kind": string(event[0].encode()),
+            b"number": b"%d" % number,
+            b"replica": string(self.texts.names[event[1]]),
+        }
+        return {**members, b"given": b"true"} if given else members
+
+    def what(self, event, before, replica):
+        """What the event ran, applied, sent or received; `before` is what the replica had of it."""
+        if event[0] == "exec":
+            made = [self.operation(replica.queue[i]) for i in replica.queue.keys() - before]
+            return {b"command": string(self.texts.command(before.command)), **{b"op": text for text in made}}
+        if event[0] == "apply":
+            return {b"op": self.operation(replica.received[event[2]])}
+        if event[0] == "done":
+            return {}
+        came = (replica.sent if event[0] == "send" else replica.received).keys() - before
+        sender = {b"from": string(self.texts.names[event[2]])} if event[0] != "send" else {}
+        return {b"new": self.texts.identifiers(came), **sender}
+
+    def made(self, number, event, before, replica, trace, given):
+        """The line of an event that was made."""
+        members = {**self.common(number, event, given), **self.what(event, before, replica)}
+        if self.traced:
+            members[b"rules"] = array(array([b"%d" % depth, string(rule.encode())]) for depth, rule in trace)
+        return object_of(members.items()) + b"\n"
+
+    def stuck(self, number, event, network, stuck, given):
+        """The line of an event that is stuck in the network."""
+        members = self.common(number, event, given)
+        members[b"cause"] = string(REFUSALS[stuck.number].encode())
+        members[b"stuck"] = b"%d" % stuck.number
+        replica, identifier = network[event[1]], event[-1]
+        if stuck.number == 25:
+            members[b"key"] = string(self.texts.tagged(stuck.key))
+        elif stuck.number == 34:
+            senders = [self.texts.names[other.number] for other in network if identifier in other.sent]
+            members[b"offered"] = array(map(string, senders))
+        elif stuck.number == 36:
+            members[b"missing"] = self.texts.identifiers(replica.received[identifier].deps - replica.applied)
+        return object_of(members.items()) + b"\n"
+
+
+class Before(frozenset):
+    """The identifiers of what an event may add to, and the command that is next."""
+
+    def __new__(cls, event, replica):
+        of = {"exec": replica.queue, "send": replica.sent, "recv": replica.received, "take": replica.received}
+        before = super().__new__(cls, of.get(event[0], ()))
+        before.command = replica.left[0] if replica.left else None
+        return before
+
+
+def write_journal(scenario, texts, traced, out):
+    """Writes the journal, and gives the status."""
+    journal, network = Journal(texts, traced), Network(scenario.version, scenario.scripts)
+    for given, events in ((True, scenario.given), (False, scenario.schedule)):
+        for number, event in enumerate(events, 1):
+            before, trace = Before(event, network[event[1]]), []
+            try:
+                change(network, event, trace)
+            except Stuck as stuck:
+                out.write(journal.stuck(number, event, network, stuck, given))
+                return 3
+            out.write(journal.made(number, event, before, network[event[1]], trace, given))
+    return 0
