@@ -12,9 +12,10 @@ from session import Session
 from streams import reason_of
 from texts import Texts, counts_of, refused
 from view import line_of
+from weave import LARGEST_SEED, weave
 
 VERSION = "jsoncrdt 2.0.0\n"
-USAGE = "usage: oracle/jsoncrdt check|print|run|view|journal|debug FILE    (help says more)"
+USAGE = "usage: oracle/jsoncrdt check|print|run|view|journal|weave|debug FILE    (help says more)"
 HELP = """\
 usage: oracle/jsoncrdt COMMAND FILE      (FILE - is standard input; no arguments are run --trace -)
        oracle/jsoncrdt help | --version
@@ -29,6 +30,11 @@ The program by the same rules, written once more in Python. Nothing of it is pro
   journal [--trace] FILE
                         prints a line of JSON for each event, with its operation in full, and for the
                         one that is stuck with why; the proved program doesn't have this command yet
+  weave [--seed N] [--limit N] FILE
+                        prints the scenario with a schedule drawn from the seed (0 unless it is said):
+                        each replica chooses its events as its thread does, up to the limit (10,000);
+                        yields between commands make schedules that end differently; the proved
+                        program doesn't have this command yet either
   debug FILE            the debugger: steps forwards and backwards by lines of standard input (`act`
                         cuts off the rest of the schedule for good); in a terminal it has a prompt
                         and a history, and `help` lists the lines
@@ -41,10 +47,17 @@ Statuses: 0 done; 1 the text was refused; 2 wrong arguments; 3 an event is stuck
 
 Not here: `threads`, which runs each replica in a thread of its own. The proved program has it.
 """
-COMMANDS = ("check", "print", "run", "view", "journal", "debug")
+COMMANDS = ("check", "print", "run", "view", "journal", "weave", "debug")
 MOST_LINES, MOST_OF_LINES, MOST_EVENTS = 1_000_000, 67_108_864, 100_000
 
-Order = collections.namedtuple("Order", "command file traced at")
+# The options with a value, their commands, the greatest value and what it is where it isn't said.
+OPTIONS = {
+    "--at": ("view", MOST_EVENTS, MOST_EVENTS),
+    "--seed": ("weave", LARGEST_SEED, 0),
+    "--limit": ("weave", MOST_EVENTS, 10_000),
+}
+
+Order = collections.namedtuple("Order", "command file traced numbers")
 
 
 class BadWords(Exception):
@@ -80,18 +93,18 @@ def taken(words, number):
     return words[number]
 
 
-def limit(word):
-    if not re.fullmatch("[0-9]+", word) or int(word[-9:]) > MOST_EVENTS or len(word) > 9:
-        raise BadWords(f"{word} is no number from 0 to {MOST_EVENTS}")
+def number_in(word, most):
+    if not re.fullmatch("[0-9]{1,20}", word) or int(word) > most:
+        raise BadWords(f"{word} is no number from 0 to {most}")
     return int(word)
 
 
 def order_of(words):
     """What the words ask for."""
     if not words:
-        return Order("run", "-", True, MOST_EVENTS)
+        return Order("run", "-", True, {})
     words = meant(words)
-    command, files, traced, at, number = words[0], [], False, None, 1
+    command, files, traced, numbers, number = words[0], [], False, {}, 1
     if command == "threads":
         raise BadWords("threads is a command of the proved program alone")
     if command not in COMMANDS:
@@ -100,21 +113,21 @@ def order_of(words):
     while number < len(words):
         word = words[number]
         number += 1
+        option, equals, value = word.partition("=")
         if options and word == "--":
             options = False
         elif options and word == "--trace" and command in ("run", "journal") and not traced:
             traced = True
-        elif options and command == "view" and at is None and (word == "--at" or word.startswith("--at=")):
-            given = word[5:] if word != "--at" else taken(words, number)
-            number += word == "--at"
-            at = limit(given)
+        elif options and OPTIONS.get(option, ("",))[0] == command and option not in numbers:
+            numbers[option] = number_in(value if equals else taken(words, number), OPTIONS[option][1])
+            number += not equals
         elif options and word.startswith("-") and word != "-":
             raise BadWords(f"{command} has no option {word}, or has it already")
         else:
             files.append(word)
     if len(files) != 1:
         raise BadWords(f"{command} needs one FILE")
-    return Order(command, files[0], traced, MOST_EVENTS if at is None else at)
+    return Order(command, files[0], traced, {option: of[2] for option, of in OPTIONS.items()} | numbers)
 
 
 def made(scenario, events, texts=None, out=None):
@@ -133,7 +146,7 @@ def made(scenario, events, texts=None, out=None):
 
 def show(order, scenario, out):
     """Executes the schedule, and shows states or documents."""
-    texts, events = Texts(scenario.names), scenario.schedule[:order.at]
+    texts, events = Texts(scenario.names), scenario.schedule[:order.numbers.get("--at")]
     network, count, stuck = made(scenario, events, texts, out if order.traced else None)
     for replica in network:
         out.write(line_of(texts, replica) if order.command == "view" else texts.dump(replica))
@@ -200,6 +213,8 @@ def done(order, source, out, err, by_hand):
     if order.command == "journal":
         return write_journal(scenario, texts, order.traced, out)
     try:
+        if order.command == "weave":
+            return weave(scenario, texts, order.numbers["--seed"], order.numbers["--limit"], out, err)
         if order.command != "debug":
             return show(order, scenario, out)
         session = Session(scenario)
