@@ -21,7 +21,7 @@ use std::alloc::{AllocError, Global};
 fn copied(alloc: Global, text: &str) -> Result<Text, AllocError>
     ensures { IfOk result (λ copy. copy ≡ text.now) }
 {
-    Ok(Text::new(String::from_str(alloc, text)?))
+    Text::new(alloc, String::from_str(alloc, text)?)
 }
 
 /// The arguments themselves.

@@ -112,7 +112,7 @@ fn id_of(counter: u64) -> Id {
 }
 
 fn text(alloc: Global, text: &str) -> Result<Text, AllocError> {
-    Ok(Text::new(String::from_str(alloc, text)?))
+    Text::new(alloc, String::from_str(alloc, text)?)
 }
 
 fn key_of(alloc: Global, at: At) -> Result<Key, AllocError> {

@@ -267,7 +267,7 @@ impl<'a> Cursor<'a> {
 fn text_of(alloc: Global, text: &str) -> Result<Text, AllocError>
     ensures { IfOk result (λ t. t ≡ text.now) }
 {
-    Ok(Text::new(String::from_str(alloc, text)?))
+    Text::new(alloc, String::from_str(alloc, text)?)
 }
 
 /// Whether a name is a reserved word.

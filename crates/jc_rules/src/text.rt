@@ -9,36 +9,41 @@ ghost use Rattle.std.specs.Ordering.{nat_cmp, as_partial_cmp};
 ghost use Rattle.std.specs.Cmp.Lexicographic.{slice_cmp, pointwise};
 ghost use Rattle.jc_rules.specs.ReplicaNames.{name_at};
 
-use std::alloc::AllocError;
+use std::alloc::{AllocError, Global};
 use std::cmp::Ordering;
 use std::hash::{Hash, Hasher};
 use std::marker::Model;
+use std::sync::Arc;
 
-/// A text, seen as its bytes. Texts are ordered by their bytes.
+/// A text, seen as its bytes. Texts are ordered by their bytes. Copies share the bytes, also between threads.
 #[derive(Debug, Drop)]
 pub struct Text {
-    text: String,
+    text: Arc<String, Global>,
 }
 
 impl Model for Text {
     ghost use Rattle.std.specs.Prelude.{List, ℕ, string_bytes};
+    ghost use Rattle.std.specs.Arc.{arc_value};
 
     ghost Value = { List ℕ };
 
-    ghost view = { λ a. string_bytes a.text };
+    ghost view = { λ a. string_bytes (arc_value a.text) };
 }
 
 impl Text {
-    pub fn new(text: String) -> Self
-        ensures { result ≡ string_bytes text }
+    /// The text with these bytes, which its copies share.
+    pub fn new(alloc: Global, text: String) -> Result<Self, AllocError>
+        ensures { IfOk result (λ t. t ≡ string_bytes text) }
     {
-        Text { text }
+        Ok(Text {
+            text: Arc::new(alloc, text)?,
+        })
     }
 
     pub fn as_str(&self) -> &str
         ensures { result.now ≡ self.now }
     {
-        self.text.as_str()
+        self.text.as_ref().as_str()
     }
 
     /// The same text once more.
@@ -46,7 +51,7 @@ impl Text {
         ensures { IfOk result (λ text. text ≡ self.now) }
     {
         Ok(Text {
-            text: self.text.clone()?,
+            text: Arc::try_clone(&self.text)?,
         })
     }
 }
@@ -57,7 +62,7 @@ impl PartialEq for Text {
     ghost laws = { Prim.search (comparing, rules) };
 
     fn eq(&self, other: &Text) -> bool {
-        self.text.as_str() == other.text.as_str()
+        self.as_str() == other.as_str()
     }
 }
 
@@ -85,7 +90,7 @@ impl Ord for Text {
     ghost matches_eq = { Prim.search (comparing, rules) };
 
     fn cmp(&self, other: &Text) -> Ordering {
-        self.text.as_str().cmp(other.text.as_str())
+        self.as_str().cmp(other.as_str())
     }
 }
 

@@ -11,7 +11,7 @@ use std::process::Abort;
 use std::test::Fail;
 
 fn text(alloc: Global, bytes: &str) -> Result<Text, AllocError> {
-    Ok(Text::new(String::from_str(alloc, bytes)?))
+    Text::new(alloc, String::from_str(alloc, bytes)?)
 }
 
 fn id(counter: u64, replica: u16) -> Id {

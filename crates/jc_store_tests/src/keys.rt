@@ -66,7 +66,7 @@ pub struct Keys {
 }
 
 pub fn text(alloc: Global, text: &str) -> Result<Text, AllocError> {
-    Ok(Text::new(String::from_str(alloc, text)?))
+    Text::new(alloc, String::from_str(alloc, text)?)
 }
 
 fn names(alloc: Global) -> Result<[Text; 2], AllocError> {

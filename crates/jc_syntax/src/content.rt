@@ -55,7 +55,7 @@ pub fn string_of(alloc: Global, text: &str, token: &Token) -> Result<Text, Alloc
         let end = skip_plain(bytes, at);
         content.push_str(&text[at..end])?;
         let Some((len, character)) = escape_of(bytes, end) else {
-            return Ok(Text::new(content));
+            return Text::new(alloc, content);
         };
         content.push(character)?;
         at = end + len;

@@ -78,7 +78,7 @@ fn a_command_behind_a_text(rt: HostRuntime) -> Result<(), Fail> {
 }
 
 fn text(alloc: Global, bytes: &str) -> Result<Text, AllocError> {
-    Ok(Text::new(String::from_str(alloc, bytes)?))
+    Text::new(alloc, String::from_str(alloc, bytes)?)
 }
 
 fn prints_value(
@@ -119,7 +119,7 @@ fn controls(alloc: Global) -> Result<Value, AllocError> {
         bytes.push(byte as char)?;
     }
     bytes.push_str("\"\\/\u{7f}é")?;
-    Ok(Value::Str(Text::new(bytes)))
+    Ok(Value::Str(Text::new(alloc, bytes)?))
 }
 
 #[test]

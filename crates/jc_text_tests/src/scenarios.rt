@@ -252,7 +252,7 @@ fn canonical_texts(rt: HostRuntime) -> Result<(), Fail> {
 }
 
 fn text(alloc: Global, bytes: &str) -> Result<Text, AllocError> {
-    Ok(Text::new(String::from_str(alloc, bytes)?))
+    Text::new(alloc, String::from_str(alloc, bytes)?)
 }
 
 fn named(alloc: Global, name: &str, place: usize) -> Result<Named, AllocError> {
