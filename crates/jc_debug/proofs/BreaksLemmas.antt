@@ -4,7 +4,6 @@ use Rattle.std.proofs.lemmas.Option.{slice_get_within, same_Some}
 use Rattle.jc_rules.specs.declared.operation.Event.{Event}
 use Rattle.jc_rules.specs.declared.rule.Rule.{Rule}
 use Rattle.jc_rules.specs.Step.{Network, StepIn, replica_of}
-use Rattle.jc_rules.specs.Trace.{Rows}
 use Rattle.jc_rules.proofs.VersionLemmas.{one_step_in, one_after_in}
 use Rattle.jc_debug.specs.declared.breaks.Break.{Break}
 use Rattle.jc_debug.specs.declared.breaks.Break.TheVariants as Kind
@@ -23,14 +22,14 @@ one_makes S es n e f rows more a b =
     (event, (one_step_in b.before f a.after b.after rows more step b.step).1)
 
 -- a breakpoint for a rule names the position exactly where the trace of the event that led to it has the rule
-pub rule_named : (d : Seen) (t : Rows) (rule : Rule) → IsTraceOf d t → HasRule t.rows rule ↔ Names (start_of d) d.schedule (Kind.Rule rule) (length d.traces)
+pub rule_named : (d : Seen) (t : List (Rule × ℕ)) (rule : Rule) → IsTraceOf d t → HasRule t rule ↔ Names (start_of d) d.schedule (Kind.Rule rule) (length d.traces)
 rule_named d t rule is = (
-  λ h. (is.before, is.event, t.rows, is.position, is.makes, h),
+  λ h. (is.before, is.event, t, is.position, is.makes, h),
   λ x. let p = is.position in
       let q = x.3 in
       let same : x.0 ≡ is.before = omega (arith, p, q) in
       let makes = subst (λ (k : ℕ). MakesEvent (start_of d) d.schedule k x.1 x.2) same x.4 in
-      subst (λ (r : List (Rule × ℕ)). HasRule r rule) (one_makes (start_of d) d.schedule is.before x.1 is.event x.2 t.rows makes is.makes).1 x.5,
+      subst (λ (r : List (Rule × ℕ)). HasRule r rule) (one_makes (start_of d) d.schedule is.before x.1 is.event x.2 t makes is.makes).1 x.5,
 )
 
 pub no_rule_at_start : (d : Seen) (rule : Rule) → length d.traces ≡ 0 → Names (start_of d) d.schedule (Kind.Rule rule) (length d.traces) → ⊥

@@ -1,18 +1,19 @@
 -- About specs/Invariant: one event made, and one taken back, keep the trail of networks.
-use Rattle.std.proofs.Common.{◌≡◌, ℕ, zero, suc, ◌+◌, ◌-◌, ◌<◌, ◌≤◌, List, [], ◌∷◌, ◌++◌, length, take, slice_get, unwrap_or, option_to_list, Option, Some, None, Bool, true, false, IsTrue, IsFalse, IsSome, IfSome, get_or, refl, ap, sym, subst, ◌∙◌, arith, length-append, below_more}
+use Rattle.std.proofs.Common.{◌≡◌, ℕ, zero, suc, ◌+◌, ◌-◌, ◌<◌, ◌≤◌, List, [], ◌∷◌, ◌++◌, length, take, slice_get, unwrap_or, Option, Some, None, Bool, true, false, IsTrue, IsFalse, IfSome, get_or, refl, ap, sym, subst, ◌∙◌, arith, length-append, below_more}
 use Rattle.std.proofs.lemmas.Option.{slice_get_within, slice_get_read, same_Some}
 use Rattle.std.specs.Borrow.{Bor}
-use Rattle.std.specs.Option.{option_copied}
 use Rattle.jc_rules.specs.declared.operation.Event.{Event}
+use Rattle.jc_rules.specs.declared.rule.Rule.{Rule}
 use Rattle.jc_rules.specs.Step.{Network, StepIn, AfterIn}
 use Rattle.jc_rules.specs.Trace.{Rows}
-use Rattle.jc_network.specs.NetworkHistory.{Course, StepsTo}
+use Rattle.jc_rules.proofs.HistoryLemmas.{same_ends}
+use Rattle.jc_network.specs.NetworkHistory.{Course, StepsTo, network_history}
 use Rattle.jc_network.proofs.AfterLemmas.{after_one_more, take_more}
 use Rattle.jc_network.proofs.HalvesLemmas.{get_front, get_back}
 use Rattle.jc_debug.specs.declared.breaks.Break.{Break}
 use Rattle.jc_debug.specs.Moves.{IsTraceOf}
 use Rattle.jc_debug.specs.DebuggerState.{IsNetworkAt}
-use Rattle.jc_debug.specs.Invariant.{Seen, networks_of, no_network, start_of, FollowsTrail, IsDebugger, IsMoved}
+use Rattle.jc_debug.specs.Invariant.{Seen, no_network, start_of, FollowsTrail, IsDebugger, IsMoved}
 
 abbrev pub seen : Course → List Event → List Rows → List (Option Break) → Seen
 seen net schedule traces breaks = record { net = net; schedule = schedule; traces = traces; breaks = breaks }
@@ -33,14 +34,14 @@ first_stays (y ∷ xs) ys x = refl
 
 -- ---- one event on
 
-follows_on : (d e : Seen) (k : ℕ) → FollowsTrail d k → (ns : List Network) → networks_of e.net ≡ networks_of d.net ++ ns → e.schedule ≡ d.schedule → (ts : List Rows) → e.traces ≡ d.traces ++ ts → FollowsTrail e k
+follows_on : (d e : Seen) (k : ℕ) → FollowsTrail d k → (ns : List Network) → network_history e.net ≡ network_history d.net ++ ns → e.schedule ≡ d.schedule → (ts : List Rows) → e.traces ≡ d.traces ++ ts → FollowsTrail e k
 follows_on d e k f ns n s ts t = record {
   before = f.before;
   after = f.after;
   event = f.event;
   rows = f.rows;
-  is_before = ap (λ l. slice_get l k) n ∙ get_front (networks_of d.net) ns k f.before f.is_before;
-  is_after = ap (λ l. slice_get l (k + 1)) n ∙ get_front (networks_of d.net) ns (k + 1) f.after f.is_after;
+  is_before = ap (λ l. slice_get l k) n ∙ get_front (network_history d.net) ns k f.before f.is_before;
+  is_after = ap (λ l. slice_get l (k + 1)) n ∙ get_front (network_history d.net) ns (k + 1) f.after f.is_after;
   is_event = ap (λ l. slice_get l k) s ∙ f.is_event;
   is_trace = ap (λ l. slice_get l k) t ∙ get_front d.traces ts k f.rows f.is_trace;
   step = f.step;
@@ -54,14 +55,14 @@ trail_on d e t event h i s sc tr br =
     let c = h.count in
     let w : length d.traces < length d.schedule = slice_get_within d.schedule (length d.traces) event i in
     let size : length e.schedule ≡ length d.schedule = ap length sc in
-    let all : networks_of e.net ≡ networks_of d.net ++ e.net.network ∷ [] = ap (λ l. l ++ e.net.network ∷ []) s.earlier in
+    let all : network_history e.net ≡ network_history d.net ++ e.net.network ∷ [] = ap (λ l. l ++ e.net.network ∷ []) s.earlier in
     let last : FollowsTrail e (length d.traces) = record {
       before = d.net.network;
       after = e.net.network;
       event = event;
       rows = t;
-      is_before = ap (λ l. slice_get l (length d.traces)) all ∙ get_front (networks_of d.net) (e.net.network ∷ []) (length d.traces) d.net.network (ap (slice_get (networks_of d.net)) (sym c) ∙ get_last d.net.earlier d.net.network);
-      is_after = ap (slice_get (networks_of e.net)) (omega (arith, networks, c)) ∙ get_last e.net.earlier e.net.network;
+      is_before = ap (λ l. slice_get l (length d.traces)) all ∙ get_front (network_history d.net) (e.net.network ∷ []) (length d.traces) d.net.network (ap (slice_get (network_history d.net)) (sym c) ∙ get_last d.net.earlier d.net.network);
+      is_after = ap (slice_get (network_history e.net)) (omega (arith, networks, c)) ∙ get_last e.net.earlier e.net.network;
       is_event = ap (λ l. slice_get l (length d.traces)) sc ∙ i;
       is_trace = ap (λ l. slice_get l (length d.traces)) tr ∙ get_last d.traces t;
       step = s.step;
@@ -77,7 +78,7 @@ trail_on d e t event h i s sc tr br =
     }
 
 -- the first network stays
-pub start_on : (d e : Seen) → e.net.earlier ≡ networks_of d.net → start_of e ≡ start_of d
+pub start_on : (d e : Seen) → e.net.earlier ≡ network_history d.net → start_of e ≡ start_of d
 start_on d e n = ap (λ l. unwrap_or (slice_get (l ++ e.net.network ∷ []) 0) no_network) n ∙ ap (λ o. unwrap_or o no_network) (first_stays d.net.earlier (e.net.network ∷ []) d.net.network)
 
 pub moved_on : (d e : Seen) (t : Rows) (event : Event) → StepsTo d.net event e.net t → e.schedule ≡ d.schedule → e.traces ≡ d.traces ++ t ∷ [] → e.breaks ≡ d.breaks → IsMoved d e (length d.traces + 1)
@@ -91,26 +92,26 @@ moved_on d e t event s sc tr br = record {
 
 -- ---- one event back
 
-follows_back : (d e : Seen) (k : ℕ) → FollowsTrail d k → (ns : List Network) → networks_of d.net ≡ networks_of e.net ++ ns → e.schedule ≡ d.schedule → (ts : List Rows) → d.traces ≡ e.traces ++ ts → k + 1 < length (networks_of e.net) → k < length e.traces → FollowsTrail e k
+follows_back : (d e : Seen) (k : ℕ) → FollowsTrail d k → (ns : List Network) → network_history d.net ≡ network_history e.net ++ ns → e.schedule ≡ d.schedule → (ts : List Rows) → d.traces ≡ e.traces ++ ts → k + 1 < length (network_history e.net) → k < length e.traces → FollowsTrail e k
 follows_back d e k f ns n s ts t in_networks in_traces = record {
   before = f.before;
   after = f.after;
   event = f.event;
   rows = f.rows;
-  is_before = get_within (networks_of e.net) ns k f.before (omega arith) (ap (λ l. slice_get l k) (sym n) ∙ f.is_before);
-  is_after = get_within (networks_of e.net) ns (k + 1) f.after in_networks (ap (λ l. slice_get l (k + 1)) (sym n) ∙ f.is_after);
+  is_before = get_within (network_history e.net) ns k f.before (omega arith) (ap (λ l. slice_get l k) (sym n) ∙ f.is_before);
+  is_after = get_within (network_history e.net) ns (k + 1) f.after in_networks (ap (λ l. slice_get l (k + 1)) (sym n) ∙ f.is_after);
   is_event = ap (λ l. slice_get l k) s ∙ f.is_event;
   is_trace = get_within e.traces ts k f.rows in_traces (ap (λ l. slice_get l k) (sym t) ∙ f.is_trace);
   step = f.step;
 }
 
 -- the last event was taken back
-pub trail_back : (d e : Seen) (t : Rows) → IsDebugger d → d.net.earlier ≡ networks_of e.net → e.schedule ≡ d.schedule → d.traces ≡ e.traces ++ t ∷ [] → e.breaks ≡ d.breaks → IsDebugger e
+pub trail_back : (d e : Seen) (t : Rows) → IsDebugger d → d.net.earlier ≡ network_history e.net → e.schedule ≡ d.schedule → d.traces ≡ e.traces ++ t ∷ [] → e.breaks ≡ d.breaks → IsDebugger e
 trail_back d e t h n sc tr br =
     let grown : length d.traces ≡ length e.traces + 1 = ap length tr ∙ length-append e.traces (t ∷ []) in
     let networks : length d.net.earlier ≡ length e.net.earlier + 1 = ap length n ∙ length-append e.net.earlier (e.net.network ∷ []) in
-    let whole : length (networks_of e.net) ≡ length e.net.earlier + 1 = length-append e.net.earlier (e.net.network ∷ []) in
-    let all : networks_of d.net ≡ networks_of e.net ++ d.net.network ∷ [] = ap (λ l. l ++ d.net.network ∷ []) n in
+    let whole : length (network_history e.net) ≡ length e.net.earlier + 1 = length-append e.net.earlier (e.net.network ∷ []) in
+    let all : network_history d.net ≡ network_history e.net ++ d.net.network ∷ [] = ap (λ l. l ++ d.net.network ∷ []) n in
     let c = h.count in
     let w = h.within in
     let short = h.short in
@@ -123,19 +124,24 @@ trail_back d e t h n sc tr br =
       follows = λ k lt. follows_back d e k (h.follows k (omega (arith, lt, grown))) (d.net.network ∷ []) all sc (t ∷ []) tr (omega (arith, whole, networks, grown, c, lt)) lt;
     }
 
-pub moved_back : (d e : Seen) (t : Rows) → d.net.earlier ≡ networks_of e.net → e.net.names ≡ d.net.names → e.schedule ≡ d.schedule → d.traces ≡ e.traces ++ t ∷ [] → e.breaks ≡ d.breaks → IsMoved d e (length d.traces - 1)
+pub moved_back : (d e : Seen) (t : Rows) → d.net.earlier ≡ network_history e.net → e.net.names ≡ d.net.names → e.schedule ≡ d.schedule → d.traces ≡ e.traces ++ t ∷ [] → e.breaks ≡ d.breaks → IsMoved d e (length d.traces - 1)
 moved_back d e t n ns sc tr br =
     let size : length d.traces ≡ length e.traces + 1 = ap length tr ∙ length-append e.traces (t ∷ []) in
     record { names = ns; start = sym (start_on e d n); schedule = sc; breaks = br; position = omega (arith, size) }
 
 -- the network before a step that was taken back
-pub undone : (b : Bool) (old new : Course) → (IsTrue b → old.earlier ≡ networks_of new) → (IsFalse b → (new ≡ old) × (old.earlier ≡ [])) → 0 < length old.earlier → old.earlier ≡ networks_of new
+pub undone : (b : Bool) (old new : Course) → (IsTrue b → old.earlier ≡ network_history new) → (IsFalse b → (new ≡ old) × (old.earlier ≡ [])) → 0 < length old.earlier → old.earlier ≡ network_history new
 undone true old new t f some = t refl
 undone false old new t f some = let none : length old.earlier ≡ 0 = ap length (f refl).1 in absurd (omega (arith, none, some))
 
-pub popped : (o : Option Rows) (ts new : List Rows) → ts ≡ new ++ option_to_list o → IsSome o → (t : Rows) × (ts ≡ new ++ t ∷ [])
-popped None ts new e h = absurd cc
-popped (Some t) ts new e h = (t, e)
+-- a step that was taken back at once
+pub step_undone : (old made new : Course) → made.earlier ≡ network_history old → made.names ≡ old.names → (b : Bool) → (IsTrue b → made.earlier ≡ network_history new) → (IsFalse b → (new ≡ made) × (made.earlier ≡ [])) → new.names ≡ made.names → new ≡ old
+step_undone old made new grown names b t f named =
+    let some : 0 < length made.earlier = let n : length made.earlier ≡ length old.earlier + 1 = ap length grown ∙ length-append old.earlier (old.network ∷ []) in omega (arith, n) in
+    let back = undone b made new t f some in
+    let both = same_ends new.earlier old.earlier new.network old.network (sym back ∙ grown) in
+    let same_names : new.names ≡ old.names = named ∙ names in
+    λ i. record { names = same_names i; network = both.1 i; earlier = both.0 i }
 
 -- ---- moves one after the other
 
@@ -165,11 +171,11 @@ carried P old now n m h =
 -- ---- where the schedule leads
 
 -- the schedule leads to the network at each position
-pub after_first : (d : Seen) → IsDebugger d → (k : ℕ) → k ≤ length d.traces → (N : Network) → slice_get (networks_of d.net) k ≡ Some N → AfterIn (start_of d) (take k d.schedule) N
+pub after_first : (d : Seen) → IsDebugger d → (k : ℕ) → k ≤ length d.traces → (N : Network) → slice_get (network_history d.net) k ≡ Some N → AfterIn (start_of d) (take k d.schedule) N
 after_first d h zero le N e = ap (λ o. unwrap_or o no_network) e
 after_first d h (suc k) le N e =
     let f = h.follows k (omega arith) in
-    let next : slice_get (networks_of d.net) (k + 1) ≡ Some N = ap (slice_get (networks_of d.net)) (omega arith) ∙ e in
+    let next : slice_get (network_history d.net) (k + 1) ≡ Some N = ap (slice_get (network_history d.net)) (omega arith) ∙ e in
     let same : f.after ≡ N = same_Some f.after N (sym f.is_after ∙ next) in
     let before = after_first d h k (omega arith) f.before f.is_before in
     subst (λ (es : List Event). AfterIn (start_of d) es N) (sym (take_more d.schedule k f.event f.is_event))
@@ -178,14 +184,14 @@ after_first d h (suc k) le N e =
 pub is_at : (d : Seen) → IsDebugger d → IsNetworkAt (start_of d) d.schedule (length d.traces) d.net.network
 is_at d h = record {
   within = h.within;
-  after = after_first d h (length d.traces) (omega arith) d.net.network (ap (slice_get (networks_of d.net)) (sym h.count) ∙ get_last d.net.earlier d.net.network);
+  after = after_first d h (length d.traces) (omega arith) d.net.network (ap (slice_get (network_history d.net)) (sym h.count) ∙ get_last d.net.earlier d.net.network);
 }
 
 pub at_old : (old now : Seen) (n : ℕ) → IsMoved old now n → IsDebugger now → IsNetworkAt (start_of old) old.schedule n now.net.network
 at_old old now n m h = carried (λ S es bs k. IsNetworkAt S es k now.net.network) old now n m (is_at now h)
 
 -- the trace of the last event
-pub trace_of : (d : Seen) → IsDebugger d → (n : ℕ) (t : Rows) → length d.traces ≡ n + 1 → slice_get d.traces n ≡ Some t → IsTraceOf d t
+pub trace_of : (d : Seen) → IsDebugger d → (n : ℕ) (t : Rows) → length d.traces ≡ n + 1 → slice_get d.traces n ≡ Some t → IsTraceOf d t.rows
 trace_of d h n t e at =
     let f = h.follows n (omega (arith, e)) in
     let same : f.rows ≡ t = same_Some f.rows t (sym f.is_trace ∙ at) in
@@ -203,12 +209,11 @@ trace_of d h n t e at =
       };
     }
 
-pub last_trace : (d : Seen) → IsDebugger d → (r : Option (Bor Rows)) → option_copied r ≡ slice_get d.traces (length d.traces - 1) → IfSome r (λ t. IsTraceOf d t.now)
-last_trace d h None e = tt
-last_trace d h (Some t) e =
-    let at : slice_get d.traces (length d.traces - 1) ≡ Some t.now = sym e in
-    let some = slice_get_within d.traces (length d.traces - 1) t.now at in
-    trace_of d h (length d.traces - 1) t.now (omega (arith, some)) at
+pub last_trace : (d : Seen) → IsDebugger d → (r : Option (Bor (List (Rule × ℕ)))) → IfSome r (λ rows. (t : Rows) × (slice_get d.traces (length d.traces - 1) ≡ Some t) × (rows.now ≡ t.rows)) → IfSome r (λ rows. IsTraceOf d rows.now)
+last_trace d h None x = tt
+last_trace d h (Some rows) (t, at, same) =
+    let some = slice_get_within d.traces (length d.traces - 1) t at in
+    subst (IsTraceOf d) (sym same) (trace_of d h (length d.traces - 1) t (omega (arith, some)) at)
 
 -- the event at the position, which code reads by its index
 pub next_event : (d : Seen) (i : ℕ) (event : Event) → i ≡ length d.traces → length d.traces < length d.schedule → event ≡ get_or d.schedule i event → slice_get d.schedule (length d.traces) ≡ Some event

@@ -1,4 +1,5 @@
 pub mod InvariantLemmas
+pub mod TracesLemmas
 pub mod HaltLemmas
 pub mod BreaksLemmas
 pub mod RunLemmas

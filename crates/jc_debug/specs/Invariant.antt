@@ -1,11 +1,11 @@
 -- What contracts see of a debugger, and what its type keeps: each network follows from the one before it.
-use Rattle.std.specs.Prelude.{◌≡◌, ℕ, ◌+◌, ◌<◌, ◌≤◌, List, [], ◌∷◌, ◌++◌, length, slice_get, slice_set, unwrap_or, Option, Some}
+use Rattle.std.specs.Prelude.{◌≡◌, ℕ, ◌+◌, ◌<◌, ◌≤◌, List, [], length, slice_get, slice_set, unwrap_or, Option, Some}
 use Rattle.jc_rules.specs.declared.limits.TheConstants.{MAX_BREAKS, MAX_EVENTS}
 use Rattle.jc_rules.specs.declared.operation.Event.{Event}
 use Rattle.jc_rules.specs.declared.version.Version.TheVariants.{One}
 use Rattle.jc_rules.specs.Step.{Network, StepIn}
 use Rattle.jc_rules.specs.Trace.{Rows}
-use Rattle.jc_network.specs.NetworkHistory.{Course}
+use Rattle.jc_network.specs.NetworkHistory.{Course, network_history}
 use Rattle.jc_debug.specs.declared.breaks.Break.{Break}
 use Rattle.jc_debug.specs.DebuggerState.{Session}
 
@@ -16,17 +16,13 @@ pub record Seen : Type 0 where
   pub traces : List Rows
   pub breaks : List (Option Break)
 
--- the networks by position, from 0 on
-abbrev pub networks_of : Course → List Network
-networks_of c = c.earlier ++ c.network ∷ []
-
 -- a network without replicas
 abbrev pub no_network : Network
 no_network = record { version = One; states = [] }
 
 -- the network at position 0
 abbrev pub start_of : Seen → Network
-start_of d = unwrap_or (slice_get (networks_of d.net) 0) no_network
+start_of d = unwrap_or (slice_get (network_history d.net) 0) no_network
 
 abbrev pub session_of : Seen → Session
 session_of d = record { schedule = d.schedule; position = length d.traces; breaks = d.breaks }
@@ -41,8 +37,8 @@ pub record FollowsTrail (d : Seen) (k : ℕ) : Type 0 where
   pub after : Network
   pub event : Event
   pub rows : Rows
-  pub is_before : slice_get (networks_of d.net) k ≡ Some before
-  pub is_after : slice_get (networks_of d.net) (k + 1) ≡ Some after
+  pub is_before : slice_get (network_history d.net) k ≡ Some before
+  pub is_after : slice_get (network_history d.net) (k + 1) ≡ Some after
   pub is_event : slice_get d.schedule k ≡ Some event
   pub is_trace : slice_get d.traces k ≡ Some rows
   pub step : StepIn before event after rows.rows

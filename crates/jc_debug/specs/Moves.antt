@@ -5,7 +5,6 @@ use Rattle.jc_rules.specs.declared.operation.Event.{Event}
 use Rattle.jc_rules.specs.declared.rule.Rule.{Rule}
 use Rattle.jc_rules.specs.Refused.{Cause}
 use Rattle.jc_rules.specs.Step.{Network, StepIn}
-use Rattle.jc_rules.specs.Trace.{Rows}
 use Rattle.jc_network.specs.declared.fault.Stuck.{Stuck}
 use Rattle.jc_network.specs.Steps.{IsStuckFor, stuck_for}
 use Rattle.jc_debug.specs.declared.breaks.Break.{Break}
@@ -71,12 +70,12 @@ abbrev pub goto_fault : Halt → GotoFault
 goto_fault (H.Stuck s) = G.Stuck s
 goto_fault H.Memory = G.Memory
 
--- the trace is that of the event which led to the position
-pub record IsTraceOf (d : Seen) (t : Rows) : Type 0 where
+-- the rows are those of the trace of the event which led to the position
+pub record IsTraceOf (d : Seen) (rows : List (Rule × ℕ)) : Type 0 where
   pub before : ℕ
   pub event : Event
   pub position : length d.traces ≡ before + 1
-  pub makes : MakesEvent (start_of d) d.schedule before event t.rows
+  pub makes : MakesEvent (start_of d) d.schedule before event rows
 
 -- ---- runs
 

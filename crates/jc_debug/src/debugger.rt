@@ -20,9 +20,10 @@ ghost use Rattle.jc_debug.specs.Invariant.{IsDebugger, IsMoved, start_of, sessio
 
 use crate::breaks::{Break, BreakFault};
 use crate::fault::{ActFault, GotoFault, Halt, RunEnd, RunFault, StepFault};
+use crate::traces::Traces;
 use jc_network::{Net, StartFault, StepFault as NetFault};
 use jc_rules::limits::{MAX_BREAKS, MAX_EVENTS};
-use jc_rules::{Event, Rule, Trace};
+use jc_rules::{Event, Rule};
 use jc_scenario::Scenario;
 use std::alloc::Global;
 use std::marker::Model;
@@ -35,7 +36,7 @@ pub struct Debugger {
     schedule: Vec<Event>,
     /// The trace of each event up to the position. Each is kept, since a step that was taken back can't be made again
     /// without memory.
-    traces: Vec<Trace>,
+    traces: Traces,
     /// Breakpoint j + 1 is at place j.
     breaks: [Option<Break>; MAX_BREAKS],
 }
@@ -49,10 +50,10 @@ impl Model for Debugger {
     ghost coded = { seen_code };
 
     ghost view = { λ a.
-        record { net = a.net; schedule = a.schedule.items; traces = a.traces.items; breaks = a.breaks } };
+        record { net = a.net; schedule = a.schedule.items; traces = a.traces; breaks = a.breaks } };
 
     ghost invariant = { λ a. IsDebugger
-        (record { net = a.net; schedule = a.schedule.items; traces = a.traces.items; breaks = a.breaks }) };
+        (record { net = a.net; schedule = a.schedule.items; traces = a.traces; breaks = a.breaks }) };
 }
 
 impl Debugger {
@@ -71,7 +72,7 @@ impl Debugger {
         Ok(Debugger {
             net,
             schedule: scenario.schedule,
-            traces: Vec::new(alloc),
+            traces: Traces::new(alloc),
             breaks: [None; MAX_BREAKS],
         })
     }
@@ -101,8 +102,8 @@ impl Debugger {
         &self.net
     }
 
-    /// Returns the trace of the event that led to the position. At the start there is none.
-    pub fn trace(&self) -> Option<&Trace>
+    /// Returns the rows of the trace of the event that led to the position. At the start there is none.
+    pub fn trace(&self) -> Option<&[(Rule, u64)]>
         ensures trace { IfSome result (λ trace. IsTraceOf self.now trace.now) }
         ensures start { IsNone result ↔ (length self.now.traces ≡ 0) }
     {
@@ -204,7 +205,7 @@ impl Debugger {
         if here >= MAX_EVENTS {
             return Err(ActFault::TooManyEvents);
         }
-        if self.traces.reserve(1).is_err() || self.schedule.reserve(1).is_err() {
+        if self.schedule.reserve(1).is_err() {
             return Err(ActFault::Memory);
         }
         let trace = match self.net.step(event) {
@@ -213,7 +214,10 @@ impl Debugger {
             Err(NetFault::Stuck(stuck)) => return Err(ActFault::Stuck(stuck)),
             Err(NetFault::Memory) => return Err(ActFault::Memory),
         };
-        self.traces.push(trace).unwrap();
+        if self.traces.push(&trace).is_err() {
+            let _ = self.net.undo();
+            return Err(ActFault::Memory);
+        }
         self.schedule.truncate(here);
         self.schedule.push(*event).unwrap();
         Ok(())
@@ -285,9 +289,6 @@ impl Debugger {
         ensures err { IfErr result (IsNextHalted self.old) }
         ensures kept { OnErr result (self.new ≡ self.old) }
     {
-        if self.traces.reserve(1).is_err() {
-            return Err(Halt::Memory);
-        }
         let event = self.schedule[self.traces.len()];
         let trace = match self.net.step(&event) {
             Ok(trace) => trace,
@@ -295,7 +296,10 @@ impl Debugger {
             Err(NetFault::Stuck(stuck)) => return Err(Halt::Stuck(stuck)),
             Err(NetFault::Memory) => return Err(Halt::Memory),
         };
-        self.traces.push(trace).unwrap();
+        if self.traces.push(&trace).is_err() {
+            let _ = self.net.undo();
+            return Err(Halt::Memory);
+        }
         Ok(())
     }
 
@@ -320,7 +324,7 @@ impl Debugger {
         ensures { IsMoved self.old self.new (length self.old.traces - 1) }
     {
         let _ = self.net.undo();
-        let _ = self.traces.pop();
+        self.traces.pop();
     }
 
     /// Returns the least place of a breakpoint that names the position.
@@ -350,7 +354,7 @@ impl Debugger {
         match b {
             Break::Position(n) => n == self.position(),
             Break::Rule(rule) => match self.trace() {
-                Some(trace) => has_rule(trace.rows(), rule),
+                Some(rows) => has_rule(rows, rule),
                 None => false,
             },
             Break::Replica(p) => self.is_last_of(p),

@@ -3,8 +3,10 @@
 
 mod breaks;
 mod debugger;
+mod descent;
 mod fault;
 pub mod laws;
+mod traces;
 
 pub use breaks::{Break, BreakFault};
 pub use debugger::Debugger;

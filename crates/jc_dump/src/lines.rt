@@ -9,7 +9,7 @@ ghost use Rattle.jc_dump.specs.Lines.{trace_text, stuck_text, IsNamedStuck};
 use jc_json::tagged_text;
 use jc_network::{Net, Stuck};
 use jc_printer::print_event;
-use jc_rules::{Text, Trace};
+use jc_rules::{Rule, Text, Trace};
 use std::alloc::{AllocError, Global};
 use std::fmt::Write;
 
@@ -25,8 +25,15 @@ fn push_row(text: &mut String, depth: u64, name: &str) -> Result<(), AllocError>
 pub fn trace_text(alloc: Global, trace: &Trace) -> Result<String, AllocError>
     ensures { IfOk result (λ text. string_bytes text ≡ trace_text trace.now.rows) }
 {
+    rows_text(alloc, trace.rows())
+}
+
+/// Returns the text of the rows of a trace.
+pub(crate) fn rows_text(alloc: Global, rows: &[(Rule, u64)]) -> Result<String, AllocError>
+    ensures { IfOk result (λ text. string_bytes text ≡ trace_text rows.now) }
+{
     let mut text = String::new(alloc);
-    for (rule, depth) in trace.rows() {
+    for (rule, depth) in rows {
         push_row(&mut text, *depth, rule.name())?;
     }
     Ok(text)

@@ -8,26 +8,26 @@ ghost use Rattle.jc_network.specs.Steps.{stuck_for};
 ghost use Rattle.jc_dump.specs.Lines.{IsNamedStuck};
 ghost use Rattle.jc_dump.specs.Texts.{block_text, given_text, refused_text};
 
-use crate::lines::{named_stuck_text, trace_text};
+use crate::lines::{named_stuck_text, rows_text};
 use jc_network::Stuck;
 use jc_printer::print_event;
-use jc_rules::{Event, Refusal, Text, Trace};
+use jc_rules::{Event, Refusal, Rule, Text};
 use jc_scenario::Scenario;
 use std::alloc::{AllocError, Global};
 
-/// Returns the trace block of an event: a line with its number and the event, and the text of its trace.
+/// Returns the trace block of an event: a line with its number and the event, and a line for each row of its trace.
 pub fn block_text(
     alloc: Global,
     names: &[Text],
     n: u64,
     event: &Event,
-    trace: &Trace,
+    rows: &[(Rule, u64)],
 ) -> Result<String, AllocError>
     requires { AreNamed event.now (length names.now) }
-    ensures { IfOk result (λ text. string_bytes text ≡ block_text names.now n event.now trace.now.rows) }
+    ensures { IfOk result (λ text. string_bytes text ≡ block_text names.now n event.now rows.now) }
 {
     let event = print_event(alloc, names, event)?;
-    let rows = trace_text(alloc, trace)?;
+    let rows = rows_text(alloc, rows)?;
     joined(alloc, n, event.as_str(), rows.as_str())
 }
 

@@ -11,6 +11,7 @@ use Rattle.jc_rules.specs.declared.operation.Op.{Op}
 use Rattle.jc_rules.specs.Order.{id_cmp, same_id}
 use Rattle.jc_rules.specs.Ids.{AreRising, has_id}
 use Rattle.jc_rules.proofs.IdsLemmas.{same_id-true, same_members}
+use Rattle.jc_rules.proofs.HistoryLemmas.{same_ends}
 use Rattle.jc_meaning.specs.Forest.{Forest, bare, tree, preorder, is_less, is_under, Hangs}
 use Rattle.jc_meaning.specs.Meaning.{hangs_at}
 use Rattle.jc_meaning.specs.Listing.{IsListing}
@@ -130,16 +131,6 @@ no_end : {A : Type 0} (js : List Id) (i : Id) → js ++ i ∷ [] ≡ [] → A
 no_end [] i e = absurd (let f : ⊥ = cc in f)
 no_end (j ∷ js) i e = absurd (let f : ⊥ = cc in f)
 
-ends_same : (xs ys : List Id) (a b : Id) → xs ++ a ∷ [] ≡ ys ++ b ∷ [] → (xs ≡ ys) × (a ≡ b)
-ends_same [] [] a b e = (refl, cc)
-ends_same [] (y ∷ ys) a b e = let f : [] ≡ ys ++ b ∷ [] = cc in no_end ys b (sym f)
-ends_same (x ∷ xs) [] a b e = let f : xs ++ a ∷ [] ≡ [] = cc in no_end xs a f
-ends_same (x ∷ xs) (y ∷ ys) a b e =
-    let f : xs ++ a ∷ [] ≡ ys ++ b ∷ [] = cc in
-    let h : x ≡ y = cc in
-    let g = ends_same xs ys a b f in
-    (let k : xs ≡ ys = g.0 in cc, g.1)
-
 module _ (O : List Op) (P : List Tagged) (is next_ones : List Id) (w : IsWalk O P is next_ones) where
   pub walk_ends : next_ones ≡ [] → IsListing O P is
   walk_ends e = go w.rest w.are w.all
@@ -161,7 +152,7 @@ module _ (O : List Op) (P : List Tagged) (is next_ones : List Id) (w : IsWalk O 
       go : (r : Forest) → AreHung (hangs_at O P) r → next_ones ≡ roots r → is ++ preorder r ≡ preorder (forest_of O P).0 → IsWalk O P (is ++ i ∷ []) (left ++ next)
       go bare h f g = no_end left i (sym e ∙ f)
       go (tree j f x) h g a =
-          let same = ends_same (roots x) left j i (sym g ∙ e) in
+          let same = same_ends (roots x) left j i (sym g ∙ e) in
           let below : Hangs (hangs_at O P) (K.Elem i) None f = subst (λ q. Hangs (hangs_at O P) (K.Elem q) None f) same.1 h.0 in
           let open2 : left ++ next ≡ roots (joined f x) = ap (λ l. l ++ next) (sym same.0) ∙ ap (λ l. roots x ++ l) (these_roots (hangs_at O P) (K.Elem i) f next below rises has) ∙ sym (roots_joined f x) in
           let whole : (is ++ i ∷ []) ++ preorder (joined f x) ≡ is ++ i ∷ (preorder f ++ preorder x) = append_assoc is (i ∷ []) (preorder (joined f x)) ∙ ap (λ l. is ++ i ∷ l) (preorder_joined f x) in

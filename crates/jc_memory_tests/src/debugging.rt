@@ -113,7 +113,7 @@ struct Way<'a> {
 /// The number of rules of the last event.
 fn rules(debugger: &Debugger) -> usize {
     match debugger.trace() {
-        Some(trace) => trace.rows().len(),
+        Some(rows) => rows.len(),
         None => 0,
     }
 }

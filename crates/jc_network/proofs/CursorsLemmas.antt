@@ -23,6 +23,7 @@ use Rattle.jc_rules.specs.Table.{Follows, cursor}
 use Rattle.jc_rules.specs.Refused.{IsAnswered}
 use Rattle.jc_rules.proofs.OrderLemmas.{names_total, exact_names}
 use Rattle.jc_rules.proofs.EntriesLemmas.{value-found}
+use Rattle.jc_rules.proofs.HistoryLemmas.{same_ends}
 use Rattle.jc_network.specs.LinksEverywhere.{LinksHold, LinksAt, Everywhere}
 use Rattle.jc_rules.specs.Paths.{HasContext}
 use Rattle.jc_network.specs.Rooted.{IsListPath, IsRootKey, head, IsRootedCursor, IsRootedBound, AreRightLinks}
@@ -130,15 +131,6 @@ tags_end : (path : List Tagged) (t : Tagged) → AllByRecursion HasContext path 
 tags_end [] t h g = (g, tt)
 tags_end (u ∷ path) t h g = (h.0, tags_end path t h.1 g)
 
--- two paths with a last key
-pub same_end : (p q : List Tagged) (t u : Tagged) → p ++ t ∷ [] ≡ q ++ u ∷ [] → t ≡ u
-same_end [] [] t u e = cc
-same_end [] (y ∷ []) t u e = cc
-same_end [] (y ∷ z ∷ q) t u e = cc
-same_end (x ∷ []) [] t u e = cc
-same_end (x ∷ z ∷ p) [] t u e = cc
-same_end (x ∷ p) (y ∷ q) t u e = same_end p q t u (cc)
-
 module _ (In : Op → Type 0) (ops : List Id) where
   -- a key of a map further down
   rooted_get : (cur : Cursor) (name : List ℕ) → IsRootedCursor In ops cur → IsRootedCursor In ops (cursor (cur.path ++ MapT cur.last ∷ []) (K.Name name))
@@ -149,7 +141,7 @@ module _ (In : Op → Type 0) (ops : List Id) where
       }
     where
       go : (above : List Tagged) (l k : Key) (s : IsAtOrAbove (above ++ ListT l ∷ []) k (cur.path ++ MapT cur.last ∷ []) (K.Name name)) → SplitAt cur.path (MapT cur.last) (above ++ ListT l ∷ []) s.0 → IsRootKey In ops (above ++ ListT l ∷ []) k
-      go above l k s (at_end x y) = let f : MapT cur.last ≡ ListT l = same_end cur.path above _ _ y in cc
+      go above l k s (at_end x y) = let f : MapT cur.last ≡ ListT l = (same_ends cur.path above _ _ y).1 in cc
       go above l k s (before r x y) = h.rooted above l k (r, y, sym (ap (λ z. first_key z (K.Name name)) x ∙ first_before r (MapT cur.last) (K.Name name)) ∙ s.2)
 
   -- an element of a list further down

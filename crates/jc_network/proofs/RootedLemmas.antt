@@ -21,6 +21,7 @@ use Rattle.jc_rules.specs.Derivation.{Operate, ToContext}
 use Rattle.jc_rules.specs.Refused.{IsAnswered}
 use Rattle.jc_rules.proofs.OrderLemmas.{keys_total, exact_keys}
 use Rattle.jc_rules.proofs.EntriesLemmas.{same-self, find-put}
+use Rattle.jc_rules.proofs.HistoryLemmas.{same_ends}
 use Rattle.jc_network.specs.LinksEverywhere.{LinksHold, LinksAt, Everywhere, Reach}
 use Rattle.jc_apply.specs.Fits.{content_or_new, child_context, InChild}
 use Rattle.jc_rules.specs.ContextsAt.{node_in}
@@ -28,7 +29,6 @@ use Rattle.jc_rules.specs.Paths.{HasContext}
 use Rattle.jc_network.specs.Rooted.{IsListPath, IsInserted, IsRootKey, head, element, IsRootedCursor, IsRootedBound, AreRightLinks}
 use Rattle.jc_network.proofs.LinksEverywhereLemmas.{OfNew, entry-found, entries-put, at_root, in_entered, all_follow}
 use Rattle.jc_network.proofs.LinksKeptLemmas.{operates}
-use Rattle.jc_network.proofs.CursorsLemmas.{same_end}
 use Rattle.jc_network.proofs.MembersLemmas.{still_with_id, now_with_id}
 use Rattle.jc_rules.proofs.BoolLemmas.{not_none}
 
@@ -67,7 +67,7 @@ module _ (In More : Op → Type 0) (ops others : List Id) (made : (o : Op) → I
 -- ---- new maps and lists, and an insert
 
 not_listed : {A : Type 0} (P : List Tagged) (k : Key) → IsListPath (P ++ MapT k ∷ []) → A
-not_listed P k (above, l, e) = let f : MapT k ≡ ListT l = same_end P above _ _ e in cc
+not_listed P k (above, l, e) = let f : MapT k ≡ ListT l = (same_ends P above _ _ e).1 in cc
 
 new_closed : (k : Key) (j : Id) → find key_cmp k ((Head, Tail) ∷ []) ≡ Some (To j) → find key_cmp (Elem j) ((Head, Tail) ∷ []) ≢ None
 new_closed k j e = absurd (go (eq_by_cmp key_cmp k Head) e)

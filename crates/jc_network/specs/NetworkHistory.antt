@@ -4,6 +4,7 @@ use Rattle.std.specs.Coded.{Coded, code_by, coded×, coded_ℕ, coded_list}
 use Rattle.jc_rules.specs.declared.operation.Event.{Event}
 use Rattle.jc_rules.specs.declared.version.Version.{Version}
 use Rattle.jc_rules.specs.contracts.version.Version.{the_row as version_row}
+use Rattle.jc_rules.specs.History.{history}
 use Rattle.jc_rules.specs.State.{State}
 use Rattle.jc_rules.specs.Step.{Network, StepIn}
 use Rattle.jc_rules.specs.Trace.{Rows}
@@ -37,15 +38,19 @@ course_code =
     (λ t. record { names = t.0; network = t.1.0; earlier = t.1.1 })
     (λ _. refl)
 
+-- the networks by the number of steps that led to them, from 0 on
+abbrev pub network_history : Course → List Network
+network_history c = history c.earlier c.network
+
 -- the network before all steps
 abbrev pub first_network : Course → Network
-first_network c = unwrap_or (slice_get (c.earlier ++ c.network ∷ []) 0) c.network
+first_network c = unwrap_or (slice_get (network_history c) 0) c.network
 
 -- The event is a step by these rules, in the network's version, and the network before it is kept.
 pub record StepsTo (old : Course) (event : Event) (new : Course) (rows : Rows) : Type 0 where
   pub step : StepIn old.network event new.network rows.rows
   pub depth : rows.depth ≡ 0
-  pub earlier : new.earlier ≡ old.earlier ++ old.network ∷ []
+  pub earlier : new.earlier ≡ network_history old
   pub names : new.names ≡ old.names
 
 -- ---- the replicas' pasts

@@ -1,6 +1,6 @@
 //! A network's type `Net`: its start, its steps and its way back. Runs, debuggers and dumps hold one.
 
-ghost use Rattle.std.specs.Prelude.{◌≡◌, ◌≤◌, ◌++◌, ◌∷◌, ◌↔◌, [], length, slice_get, ℕ, IfOk, IfSome, OnOk, OnErr, IsErrOf, IsTrue, IsFalse, IfNone};
+ghost use Rattle.std.specs.Prelude.{◌≡◌, ◌≤◌, ◌↔◌, [], length, slice_get, ℕ, IfOk, IfSome, OnOk, OnErr, IsErrOf, IsTrue, IsFalse, IfNone};
 ghost use Rattle.jc_rules.specs.declared.limits.TheConstants.{MAX_EVENTS, MAX_REPLICAS};
 ghost use Rattle.jc_scenario.specs.WellFormed.{IsWellFormedScenario};
 ghost use Rattle.jc_scenario.specs.Views.{scenario_view};
@@ -9,7 +9,7 @@ ghost use Rattle.jc_network.specs.declared.fault.StartFault.TheVariants as S;
 ghost use Rattle.jc_network.specs.declared.fault.StepFault.TheVariants as E;
 ghost use Rattle.jc_network.specs.declared.fault.Stuck.{Stuck as AnyStuck};
 ghost use Rattle.jc_network.specs.Applied.{IsApplied, AreAppliedIds};
-ghost use Rattle.jc_network.specs.NetworkHistory.{StepsTo};
+ghost use Rattle.jc_network.specs.NetworkHistory.{StepsTo, network_history};
 ghost use Rattle.jc_network.specs.Enabled.{AreEnabled, candidates};
 ghost use Rattle.jc_network.specs.Given.{before_given, IsStarted, IsGivenFault};
 ghost use Rattle.jc_network.specs.Steps.{IsStuckFor, HasReplica};
@@ -171,7 +171,7 @@ impl Net {
 
     /// Takes the last step back, and returns whether there was one. It takes no memory.
     pub fn undo(&mut self) -> bool
-        ensures undone { IsTrue result → self.old.earlier ≡ self.new.earlier ++ self.new.network ∷ [] }
+        ensures undone { IsTrue result → self.old.earlier ≡ network_history self.new }
         ensures version { self.new.network.version ≡ self.old.network.version }
         ensures names { self.new.names ≡ self.old.names }
         ensures none { IsFalse result → (self.new ≡ self.old) × (self.old.earlier ≡ []) }

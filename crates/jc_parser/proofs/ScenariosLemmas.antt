@@ -5,6 +5,7 @@ use Rattle.std.proofs.lemmas.List.{append-nil}
 use Rattle.std.proofs.lemmas.List.Elements.{All-nil}
 use Rattle.jc_rules.specs.declared.version.Version.{Version}
 use Rattle.jc_rules.specs.declared.version.Version.TheVariants.{One, Two}
+use Rattle.jc_rules.proofs.HistoryLemmas.{same_ends}
 use Rattle.jc_syntax.specs.declared.tree.NamedEvent.{NamedEvent}
 use Rattle.jc_parser.specs.declared.fault.ScenarioFault.{ScenarioFault}
 use Rattle.jc_parser.specs.declared.fault.ScenarioFault.TheVariants.{NoHeader, NoReplica, Unexpected}
@@ -19,7 +20,6 @@ use Rattle.jc_parser.specs.ScenarioReader.{tree, tail_at, rest_at, tree_at}
 use Rattle.jc_parser.proofs.ReaderStateLemmas.{bind_ok, bind_err, chosen_ok, chosen_err, same_stuck, symbols-append, Begun, IsKept}
 use Rattle.jc_parser.proofs.ExpressionPartsLemmas.{word_is}
 use Rattle.jc_parser.proofs.PartsReadLemmas.{reading, at_place, lexed, symbols-lexed, IsLimitFault, IsPast}
-use Rattle.jc_parser.proofs.StopsOnceLemmas.{snoc}
 use Rattle.jc_parser.proofs.SentencesLemmas.{none_left, same_no_more, fits_nothing}
 use Rattle.jc_parser.proofs.HeadersLemmas.{took_one, missed_one, is_version, version_ok, version_err, version_passes, Front, front_ok, HasFirst, unfit_at, front_symbols}
 use Rattle.jc_parser.proofs.ScenarioReaderLemmas.{part, Givens, Schedules, HasBlocks}
@@ -167,7 +167,7 @@ begun_by v kept before rest (t, more, (new, few, inr (u, full, none, parts, text
     ends : (front : List Symbol) (s : Symbol) → more ≡ front ++ s ∷ [] → replica ∷ (kept ++ front) ≡ u
     ends front s same =
         let whole : (replica ∷ (kept ++ front)) ++ s ∷ [] ≡ u ++ replica ∷ [] = ap (λ (l : List Symbol). replica ∷ l) (append_assoc kept front (s ∷ []) ∙ ap (λ (l : List Symbol). kept ++ l) (sym same)) ∙ text in
-        (snoc (replica ∷ (kept ++ front)) u s replica whole).0
+        (same_ends (replica ∷ (kept ++ front)) u s replica whole).0
 
     by_last : HasLast more → KeptDot kept before → ScenarioIsBegun (opening v ++ before)
     by_last (inr (front, s, same)) rest = record {

@@ -6,20 +6,6 @@ use Rattle.jc_parser.specs.Symbols.{Symbol, dot, Lexeme, symbols}
 use Rattle.jc_parser.proofs.ReaderStateLemmas.{symbols-append, Language, Begun}
 use Rattle.jc_parser.proofs.PartsReadLemmas.{lexed, symbols-lexed}
 
--- ---- lists
-
-pub snoc : (a b : List Symbol) (s t : Symbol) → a ++ s ∷ [] ≡ b ++ t ∷ [] → (a ≡ b) × (s ≡ t)
-snoc [] [] s t e = (refl, cc)
-snoc [] (y ∷ []) s t e = absurd cc
-snoc [] (y ∷ z ∷ b) s t e = absurd cc
-snoc (x ∷ []) [] s t e = absurd cc
-snoc (x ∷ z ∷ a) [] s t e = absurd cc
-snoc (x ∷ a) (y ∷ b) s t e =
-    let rest : a ++ s ∷ [] ≡ b ++ t ∷ [] = cc in
-    let first : x ≡ y = cc in
-    let (same, last) = snoc a b s t rest in
-    (rw (first, same) refl, last)
-
 pub symbols-snoc : (before : List Lexeme) (x : Lexeme) → symbols (before ++ x ∷ []) ≡ symbols before ++ x.symbol ∷ []
 symbols-snoc before x = symbols-append before (x ∷ [])
 

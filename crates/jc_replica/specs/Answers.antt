@@ -1,5 +1,5 @@
 -- What a call returns that makes an event. Each such call of a replica has one clause by it.
-use Rattle.std.specs.Prelude.{◌≡◌, ◌∷◌, ◌++◌, [], List, Option, Some, None, IfSome, Result, Ok, Err}
+use Rattle.std.specs.Prelude.{◌≡◌, List, Option, Some, None, IfSome, Result, Ok, Err}
 use Rattle.std.specs.Option.{option_map}
 use Rattle.jc_rules.specs.declared.operation.Event.{Event}
 use Rattle.jc_rules.specs.declared.operation.Op.{Op}
@@ -13,7 +13,7 @@ use Rattle.jc_apply.specs.declared.apply.ApplyFault.{ApplyFault}
 use Rattle.jc_apply.specs.declared.apply.ApplyFault.TheVariants as A
 use Rattle.jc_replica.specs.declared.fault.ReplicaFault.{ReplicaFault}
 use Rattle.jc_replica.specs.declared.fault.ReplicaFault.TheVariants as E
-use Rattle.jc_replica.specs.ReplicaHistory.{Past}
+use Rattle.jc_replica.specs.ReplicaHistory.{Past, replica_history}
 use Rattle.jc_vectors.specs.StoredStates.{RepresentsState}
 use Rattle.jc_replica.specs.Refines.{HasOwnFor, IsRead, LeadsReplica}
 
@@ -23,7 +23,7 @@ pub record Occurs (event : Event) (read : List Op) (old new : Past) (rows : Rows
   pub leads : (set os : List Op) (A : State)
       → RepresentsState set A old.now → HasOwnFor event set old.number A → IsRead set os read
       → LeadsReplica set event old.number os A new.now rows
-  pub earlier : new.earlier ≡ old.earlier ++ old.now ∷ []
+  pub earlier : new.earlier ≡ replica_history old
   pub number : new.number ≡ old.number
 
 -- the cause in the table, none for want of memory

@@ -1,5 +1,5 @@
 -- Lists of received operations, and up to which counter a sender's operations are complete in them.
-use Rattle.std.specs.Prelude.{◌≡◌, ◌≤◌, ◌<◌, ℕ, Bool, true, List, [], ◌∷◌, ◌++◌, length, insert, not, slice_get, Some, None, Result, Ok, Err}
+use Rattle.std.specs.Prelude.{◌≡◌, ◌≤◌, ◌<◌, ℕ, Bool, true, List, length, insert, not, slice_get, Some, None, Result, Ok, Err}
 use Rattle.std.specs.List.{AllByRecursion}
 use Rattle.jc_rules.specs.declared.id.Id.{Id}
 use Rattle.jc_rules.specs.declared.operation.Op.{Op}
@@ -9,7 +9,7 @@ use Rattle.jc_rules.specs.Sound.{IsSound}
 use Rattle.jc_rules.specs.Table.{op_of, with_op, both}
 use Rattle.jc_vectors.specs.StoredStates.{stored_op}
 use Rattle.jc_replica.specs.Operations.{identifiers, AreInOrder, AreOfOne}
-use Rattle.jc_replica.specs.ReplicaHistory.{Past}
+use Rattle.jc_replica.specs.ReplicaHistory.{Past, replica_history}
 
 -- the operation with the identifier is there
 pub record IsOpAt (i : Id) (os : List Op) (n : ℕ) : Type 0 where
@@ -44,7 +44,7 @@ IsUnited old read new =
 pub record HasReceived (read : List Op) (old new : Past) : Type 0 where
   pub united : IsUnited old.now.recv read new.now.recv
   pub now : new.now ≡ record old.now { acted = true; recv = new.now.recv }
-  pub earlier : new.earlier ≡ old.earlier ++ old.now ∷ []
+  pub earlier : new.earlier ≡ replica_history old
   pub number : new.number ≡ old.number
 
 -- No operation of the replica is missing up to the counter: the operation that has it is there, and so are all of the

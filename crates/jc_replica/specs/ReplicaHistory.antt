@@ -1,6 +1,7 @@
 -- The value of a replica's model: its number, its stored state and the earlier ones.
-use Rattle.std.specs.Prelude.{ℕ, List, [], ◌∷◌, ◌++◌, refl}
+use Rattle.std.specs.Prelude.{ℕ, List, [], refl}
 use Rattle.std.specs.Coded.{Coded, code_by, coded×, coded_ℕ, coded_list}
+use Rattle.jc_rules.specs.History.{history}
 use Rattle.jc_rules.specs.State.{State}
 use Rattle.jc_rules.specs.Trace.{Rows}
 use Rattle.jc_replica.specs.Codes.{state_code}
@@ -21,7 +22,7 @@ past_code =
 
 -- the states from the oldest to the one now
 abbrev pub replica_history : Past → List State
-replica_history p = p.earlier ++ p.now ∷ []
+replica_history p = history p.earlier p.now
 
 -- a trace without a rule
 abbrev pub no_rows : Rows

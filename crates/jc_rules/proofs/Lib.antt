@@ -19,3 +19,4 @@ pub mod VersionVectorsLemmas
 pub mod IdSetLemmas
 pub mod RepresentationLemmas
 pub mod WithdrawLemmas
+pub mod HistoryLemmas

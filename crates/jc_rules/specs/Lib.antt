@@ -22,3 +22,4 @@ pub mod Laws
 pub mod Examples
 pub mod VersionVectors
 pub mod Representation
+pub mod History

@@ -11,7 +11,6 @@ use Rattle.jc_rules.specs.ReplicaNames.{name_at}
 use Rattle.jc_rules.specs.RuleNames.{rule_name}
 use Rattle.jc_rules.specs.Refused.{Cause}
 use Rattle.jc_rules.specs.State.{State, start}
-use Rattle.jc_rules.specs.Trace.{Rows}
 use Rattle.jc_printer.specs.Canon.{AreNamed}
 use Rattle.jc_network.specs.declared.fault.Stuck.{Stuck}
 use Rattle.jc_network.specs.NetworkHistory.{Course}
@@ -379,31 +378,31 @@ strange_in d net names name same is none = subst (λ (ns : List (List ℕ)). Con
 pub named_in : (d : Seen) (net : Course) (names : List (List ℕ)) (name : List ℕ) (p : ℕ) → net ≡ d.net → names ≡ net.names → IsNamed names name p → IsNamed d.net.names name p
 named_in d net names name p same is named = subst (λ (ns : List (List ℕ)). IsNamed ns name p) (is ∙ ap (λ (c : Course). c.names) same) named
 
-pub reply_trace : (d : Seen) (t : Rows) (net : Course) (names : List (List ℕ)) (n : ℕ) (event : Event) (text : List ℕ) → net ≡ d.net → names ≡ net.names → n ≡ length d.traces → (h : IsTraceOf d t) → event ≡ h.event → text ≡ block_text names n event t.rows → GivesAnswer d Q.trace d text
+pub reply_trace : (d : Seen) (t : List (Rule × ℕ)) (net : Course) (names : List (List ℕ)) (n : ℕ) (event : Event) (text : List ℕ) → net ≡ d.net → names ≡ net.names → n ≡ length d.traces → (h : IsTraceOf d t) → event ≡ h.event → text ≡ block_text names n event t → GivesAnswer d Q.trace d text
 reply_trace d t net names n event text same is at h event_is due =
     let known : names ≡ d.net.names = is ∙ ap (λ (c : Course). c.names) same in
     let number : n ≡ h.before + 1 = at ∙ h.position in
-    let all : text ≡ block_text d.net.names (h.before + 1) h.event t.rows = due ∙ (λ i. block_text (known i) (number i) (event_is i) t.rows) in
-    gives_same d d Q.trace text refl (same_text (origin_in d) (session_of d) (session_of d) Q.trace (block_text d.net.names (h.before + 1) h.event t.rows) text all (A.traces h.position h.makes))
+    let all : text ≡ block_text d.net.names (h.before + 1) h.event t = due ∙ (λ i. block_text (known i) (number i) (event_is i) t) in
+    gives_same d d Q.trace text refl (same_text (origin_in d) (session_of d) (session_of d) Q.trace (block_text d.net.names (h.before + 1) h.event t) text all (A.traces h.position h.makes))
 
 -- the event that led to the position
-pub event_at : (d : Seen) (t : Rows) (h : IsTraceOf d t) (es : List Event) (n : ℕ) (x : Event) → es ≡ d.schedule → n ≡ length d.traces → get_or es (n - 1) x ≡ h.event
+pub event_at : (d : Seen) (t : List (Rule × ℕ)) (h : IsTraceOf d t) (es : List Event) (n : ℕ) (x : Event) → es ≡ d.schedule → n ≡ length d.traces → get_or es (n - 1) x ≡ h.event
 event_at d t h es n x same at =
     let position = h.position in
     let there : n - 1 ≡ h.before = omega (arith, position, at) in
     ap (λ xs. get_or xs (n - 1) x) same ∙ get_or_from_slice_get d.schedule (n - 1) h.event x (subst (λ (m : ℕ). slice_get d.schedule m ≡ Some h.event) (sym there) h.makes.is)
 
-pub place_within : (d : Seen) (t : Rows) → IsTraceOf d t → (es : List Event) (n : ℕ) → es ≡ d.schedule → n ≡ length d.traces → n - 1 < length es
+pub place_within : (d : Seen) (t : List (Rule × ℕ)) → IsTraceOf d t → (es : List Event) (n : ℕ) → es ≡ d.schedule → n ≡ length d.traces → n - 1 < length es
 place_within d t h es n same at =
     let position = h.position in
     let size : length es ≡ length d.schedule = ap length same in
     let within = slice_get_within d.schedule h.before h.event h.makes.is in
     omega (arith, position, at, size, within)
 
-pub some_made : (d : Seen) (t : Rows) → IsTraceOf d t → (n : ℕ) → n ≡ length d.traces → 1 ≤ n
+pub some_made : (d : Seen) (t : List (Rule × ℕ)) → IsTraceOf d t → (n : ℕ) → n ≡ length d.traces → 1 ≤ n
 some_made d t h n at = let position = h.position in omega (arith, position, at)
 
-pub trace_named : (d : Seen) (t : Rows) (h : IsTraceOf d t) (net : Course) (names : List (List ℕ)) (event : Event) → AllNamed d → net ≡ d.net → names ≡ net.names → event ≡ h.event → AreNamed event (length names)
+pub trace_named : (d : Seen) (t : List (Rule × ℕ)) (h : IsTraceOf d t) (net : Course) (names : List (List ℕ)) (event : Event) → AllNamed d → net ≡ d.net → names ≡ net.names → event ≡ h.event → AreNamed event (length names)
 trace_named d t h net names event all same is event_is =
     let known : d.net.names ≡ names = sym (is ∙ ap (λ (c : Course). c.names) same) in
     let named = of_all (λ x. AreNamed x (length d.net.names)) d.schedule h.before h.event all h.makes.is in

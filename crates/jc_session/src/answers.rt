@@ -288,12 +288,12 @@ fn trace(alloc: Global, debugger: &Debugger) -> Result<String, AllocError>
     requires { AllNamed debugger.now }
     ensures { IfOk result (λ text. GivesAnswer debugger.now Q.trace debugger.now (string_bytes text)) }
 {
-    let Some(trace) = debugger.trace() else {
+    let Some(rows) = debugger.trace() else {
         return String::from_str(alloc, "start\n");
     };
     let n = debugger.position();
     let event = &debugger.schedule()[n as usize - 1];
-    block_text(alloc, debugger.net().names(), n, event, trace)
+    block_text(alloc, debugger.net().names(), n, event, rows)
 }
 
 fn enabled(alloc: Global, debugger: &Debugger) -> Result<String, AllocError>

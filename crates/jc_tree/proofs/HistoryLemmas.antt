@@ -1,7 +1,8 @@
 -- About Tree: what follows from the history of a tree, and that only changes were made.
-use Rattle.std.proofs.Common.{◌≡◌, ◌≤◌, ◌+◌, suc, List, [], ◌∷◌, ◌++◌, length, take, refl, sym, ◌∙◌, ap, arith, append_assoc, append-nil, length-append, add-one}
+use Rattle.std.proofs.Common.{◌≡◌, ◌≤◌, ◌+◌, List, [], ◌∷◌, ◌++◌, length, take, refl, sym, ◌∙◌, ap, arith, append_assoc, append-nil, length-append, add-one}
 use Rattle.jc_rules.specs.declared.key.Tagged.{Tagged}
 use Rattle.jc_rules.specs.Context.{Context}
+use Rattle.jc_rules.proofs.HistoryLemmas.{same_ends, take_front}
 use Rattle.jc_tree.specs.Tree.{Tree, tree_history, IsChanged, IsLater}
 use Rattle.jc_tree.specs.Laws.{UndoLaw}
 
@@ -13,22 +14,6 @@ later_still a b c h k = record { added = h.added ++ k.added; is = rw (k.is, h.is
 
 pub later_changed : (at : List Tagged) (y : Context) (a b : Tree) → IsChanged at y a b → IsLater a b
 later_changed at y a b h = record { added = b.now ∷ []; is = rw h.earlier refl }
-
-take_front : {A : Type 0} (xs : List A) (x : A) (es : List A) → take (suc (length xs)) ((xs ++ x ∷ []) ++ es) ≡ xs ++ x ∷ []
-take_front [] x es = refl
-take_front (y ∷ ys) x es = ap (λ r. y ∷ r) (take_front ys x es)
-
-same_ends : {A : Type 0} (xs ys : List A) (x y : A) → xs ++ x ∷ [] ≡ ys ++ y ∷ [] → (xs ≡ ys) × (x ≡ y)
-same_ends [] [] x y e = (refl, cc)
-same_ends [] (b ∷ []) x y e = cc
-same_ends [] (b ∷ c ∷ ys) x y e = cc
-same_ends (a ∷ []) [] x y e = cc
-same_ends (a ∷ c ∷ xs) [] x y e = cc
-same_ends (a ∷ xs) (b ∷ ys) x y e =
-    let tails : xs ++ x ∷ [] ≡ ys ++ y ∷ [] = cc in
-    let heads : a ≡ b = cc in
-    let rest = same_ends xs ys x y tails in
-    (rw (heads, rest.0) refl, rest.1)
 
 -- going back to a mark gives the tree at the mark
 pub undone : (a b c : Tree) → IsLater a b → tree_history c ≡ take (length a.earlier + 1) (tree_history b) → c ≡ a

@@ -7,6 +7,7 @@ use Rattle.jc_rules.specs.declared.key.Tagged.{Tagged}
 use Rattle.jc_rules.specs.Order.{key_cmp}
 use Rattle.jc_rules.specs.Context.{Context}
 use Rattle.jc_rules.specs.ContextsAt.{node_at, with_node_at, context_at}
+use Rattle.jc_rules.specs.History.{history}
 use Rattle.jc_rules.specs.Table.{least}
 use Rattle.jc_tree.specs.declared.store.Place.{Place}
 
@@ -17,7 +18,7 @@ pub record Tree : Type 0 where
 
 -- the contents from the oldest to the one now
 abbrev pub tree_history : Tree → List Context
-tree_history t = t.earlier ++ t.now ∷ []
+tree_history t = history t.earlier t.now
 
 -- the path leads to a context
 abbrev pub HasPlace : List Tagged → Tree → Type 0

@@ -10,7 +10,7 @@ returns-in_default c = IfOk-weaker c.from_str.result _ _ (λ text h. reply_start
 pub block_text-requires : goal.block_text-requires
 block_text-requires c =
     let d = c.args.debugger.now in
-    let t = c.in-Some.trace.now in
+    let t = c.in-Some.rows.now in
     let es = c.schedule.result.now in
     let n = c.position-n.result in
     trace_named d t c.in-Some.ensures.trace c.net.result.now c.names.result.now (get_or es (n - 1) (Exec 0)) c.requires c.net.ensures.net c.names.ensures.names (event_at d t c.in-Some.ensures.trace es n (Exec 0) c.schedule.ensures c.position-n.ensures.position)
@@ -18,7 +18,7 @@ block_text-requires c =
 pub returns : goal.returns
 returns c =
     let d = c.args.debugger.now in
-    let t = c.in-Some.trace.now in
+    let t = c.in-Some.rows.now in
     let es = c.schedule.result.now in
     let n = c.position-n.result in
     IfOk-weaker c.block_text.result _ _ (λ text due.

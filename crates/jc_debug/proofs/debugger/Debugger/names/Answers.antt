@@ -9,6 +9,5 @@ use Rattle.jc_debug.proofs.debugger.Debugger.names.Goals as goal
 pub returns-in-Some : goal.returns-in-Some
 returns-in-Some c =
     let d = c.args.self.now in
-    let named = rule_named d c.in-Some.trace.now c.in-Rule.rule c.in-Some.ensures.trace in
-    let has = subst (λ (rows : List (Rule × ℕ)). IsTrue c.has_rule.result ↔ HasRule rows c.in-Rule.rule) c.rows.ensures c.has_rule.ensures in
-    as_break (start_of d) d.schedule (length d.traces) c.args.b (Kind.Rule c.in-Rule.rule) c.has_rule.result c.in-Rule.is (both_ways has named)
+    let named = rule_named d c.in-Some.rows.now c.in-Rule.rule c.in-Some.ensures.trace in
+    as_break (start_of d) d.schedule (length d.traces) c.args.b (Kind.Rule c.in-Rule.rule) c.has_rule.result c.in-Rule.is (both_ways c.has_rule.ensures named)
