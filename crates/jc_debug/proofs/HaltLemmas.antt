@@ -1,5 +1,5 @@
 -- About specs/Moves: moves forward that end before an event which isn't made.
-use Rattle.std.proofs.Common.{◌≡◌, ℕ, ◌<◌, ◌≤◌, length, slice_get, Some, sym, subst}
+use Rattle.std.proofs.Common.{◌≡◌, ℕ, ◌<◌, ◌≤◌, length, slice_get, Some, sym, ◌∙◌, subst}
 use Rattle.jc_rules.specs.declared.operation.Event.{Event}
 use Rattle.jc_network.specs.declared.fault.Stuck.{Stuck}
 use Rattle.jc_network.specs.Steps.{IsStuckFor}
@@ -28,27 +28,28 @@ stops_at old now new n to m le lt e = record { forward = le; short = lt; moved =
 pub told_old : (old now : Seen) (n : ℕ) (s : Stuck) → IsMoved old now n → IsNextHalted now (H.Stuck s) → IsToldAt (start_of old) old.schedule n s
 told_old old now n s m told = carried (λ S es bs k. IsToldAt S es k s) old now n m told
 
-pub no_memory : (old now new : Seen) (n to : ℕ) → IsMoved old now n → length old.traces ≤ n → n < to → new ≡ now → IsHalted old new to H.Memory
-no_memory old now new n to m le lt e = (n, stops_at old now new n to m le lt e)
+-- memory was wanting at the position that the debugger has
+pub no_memory : (old now new : Seen) (n to at : ℕ) → IsMoved old now n → length old.traces ≤ n → n < to → at ≡ length now.traces → new ≡ now → IsHalted old new to (H.Memory at)
+no_memory old now new n to at m le lt here e = subst (MoveStopsAt old new to) (sym (here ∙ m.position)) (stops_at old now new n to m le lt e)
 
 pub halted : (old now new : Seen) (n to : ℕ) (halt : Halt) → IsMoved old now n → length old.traces ≤ n → n < to → IsNextHalted now halt → new ≡ now → IsHalted old new to halt
-halted old now new n to H.Memory m le lt told e = no_memory old now new n to m le lt e
+halted old now new n to (H.Memory at) m le lt told e = no_memory old now new n to at m le lt told e
 halted old now new n to (H.Stuck s) m le lt told e = (n, stops_at old now new n to m le lt e, told_old old now n s m told)
 
 -- ---- the refusals of the calls
 
 pub step_halted : (old new : Seen) (to : ℕ) (halt : Halt) (fault : StepFault) → fault ≡ step_fault halt → IsHalted old new to halt → IsStepFault old new to fault
 step_halted old new to (H.Stuck s) fault e h = subst (λ (f : StepFault). IsStepFault old new to f) (sym e) h
-step_halted old new to H.Memory fault e h = subst (λ (f : StepFault). IsStepFault old new to f) (sym e) h
+step_halted old new to (H.Memory at) fault e h = subst (λ (f : StepFault). IsStepFault old new to f) (sym e) (at, h)
 
 pub never_at_end : (halt : Halt) → step_fault halt ≡ S.AtEnd → ⊥
 never_at_end (H.Stuck s) e = cc
-never_at_end H.Memory e = cc
+never_at_end (H.Memory at) e = cc
 
 pub goto_halted : (old new : Seen) (to : ℕ) (halt : Halt) (fault : GotoFault) → fault ≡ goto_fault halt → IsHalted old new to halt → IsGotoFault old new to fault
 goto_halted old new to (H.Stuck s) fault e h = subst (λ (f : GotoFault). IsGotoFault old new to f) (sym e) h
-goto_halted old new to H.Memory fault e h = subst (λ (f : GotoFault). IsGotoFault old new to f) (sym e) h
+goto_halted old new to (H.Memory at) fault e h = subst (λ (f : GotoFault). IsGotoFault old new to f) (sym e) (at, h)
 
 pub never_past : (halt : Halt) → goto_fault halt ≡ G.PastSchedule → ⊥
 never_past (H.Stuck s) e = cc
-never_past H.Memory e = cc
+never_past (H.Memory at) e = cc

@@ -40,35 +40,36 @@ pub record MoveStopsAt (old new : Seen) (to n : ℕ) : Type 0 where
   pub short : n < to
   pub moved : IsMoved old new n
 
--- Why the event at the position wasn't made.
+-- Why the event at the position wasn't made. Want of memory has the position at which it was met.
 abbrev pub IsNextHalted : Seen → Halt → Type 0
 IsNextHalted d (H.Stuck s) = IsToldAt (start_of d) d.schedule (length d.traces) s
-IsNextHalted d H.Memory = Unit {0}
+IsNextHalted d (H.Memory at) = at ≡ length d.traces
 
--- A move ended before an event that is stuck, or for which there was no memory.
+-- A move ended before an event that is stuck, or for which there was no memory. Then it is at the position at which it
+-- met that.
 abbrev pub IsHalted : Seen → Seen → ℕ → Halt → Type 0
 IsHalted old new to (H.Stuck s) = (n : ℕ) × MoveStopsAt old new to n × IsToldAt (start_of old) old.schedule n s
-IsHalted old new to H.Memory = (n : ℕ) × MoveStopsAt old new to n
+IsHalted old new to (H.Memory at) = MoveStopsAt old new to at
 
 -- Why a step ended early; at `AtEnd` nothing moved.
 abbrev pub IsStepFault : Seen → Seen → ℕ → StepFault → Type 0
 IsStepFault old new to (S.Stuck s) = IsHalted old new to (H.Stuck s)
-IsStepFault old new to S.Memory = IsHalted old new to H.Memory
+IsStepFault old new to S.Memory = (n : ℕ) × MoveStopsAt old new to n
 IsStepFault old new to S.AtEnd = new ≡ old
 
 -- the same for `goto`
 abbrev pub IsGotoFault : Seen → Seen → ℕ → GotoFault → Type 0
 IsGotoFault old new to (G.Stuck s) = IsHalted old new to (H.Stuck s)
-IsGotoFault old new to G.Memory = IsHalted old new to H.Memory
+IsGotoFault old new to G.Memory = (n : ℕ) × MoveStopsAt old new to n
 IsGotoFault old new to G.PastSchedule = new ≡ old
 
 abbrev pub step_fault : Halt → StepFault
 step_fault (H.Stuck s) = S.Stuck s
-step_fault H.Memory = S.Memory
+step_fault (H.Memory at) = S.Memory
 
 abbrev pub goto_fault : Halt → GotoFault
 goto_fault (H.Stuck s) = G.Stuck s
-goto_fault H.Memory = G.Memory
+goto_fault (H.Memory at) = G.Memory
 
 -- the rows are those of the trace of the event which led to the position
 pub record IsTraceOf (d : Seen) (rows : List (Rule × ℕ)) : Type 0 where

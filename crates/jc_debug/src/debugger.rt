@@ -183,7 +183,7 @@ impl Debugger {
             match self.forward() {
                 Ok(()) => {}
                 Err(Halt::Stuck(stuck)) => return Ok(RunEnd::Stuck(stuck)),
-                Err(Halt::Memory) => return Err(RunFault::Memory),
+                Err(Halt::Memory { at: _ }) => return Err(RunFault::Memory),
             }
             if let Some(j) = self.named() {
                 return Ok(RunEnd::Break(j as u16 + 1));
@@ -289,21 +289,22 @@ impl Debugger {
         ensures err { IfErr result (IsNextHalted self.old) }
         ensures kept { OnErr result (self.new ≡ self.old) }
     {
+        let at = self.position();
         let event = self.schedule[self.traces.len()];
         let trace = match self.net.step(&event) {
             Ok(trace) => trace,
             Err(NetFault::Full) => unreachable!(),
             Err(NetFault::Stuck(stuck)) => return Err(Halt::Stuck(stuck)),
-            Err(NetFault::Memory) => return Err(Halt::Memory),
+            Err(NetFault::Memory) => return Err(Halt::Memory { at }),
         };
         if self.traces.push(&trace).is_err() {
             let _ = self.net.undo();
-            return Err(Halt::Memory);
+            return Err(Halt::Memory { at });
         }
         Ok(())
     }
 
-    /// Makes the next n events, up to one that is stuck or for which there was no memory.
+    /// Makes the next n events, up to one that is stuck or for which there was no memory. Then it is before that event.
     fn advance(&mut self, n: u64) -> Result<(), Halt>
         requires { length self.old.traces + n ≤ length self.old.schedule }
         ensures ok { OnOk result (IsMoved self.old self.new (length self.old.traces + n)) }

@@ -9,7 +9,8 @@ use std::alloc::AllocError;
 #[derive(Drop)]
 pub(crate) enum Halt {
     Stuck(Stuck),
-    Memory,
+    /// There was no memory for the event after this position.
+    Memory { at: u64 },
 }
 
 /// Why a step didn't make all events.
@@ -45,7 +46,7 @@ impl From<Halt> for StepFault {
     fn from(halt: Halt) -> Self {
         match halt {
             Halt::Stuck(stuck) => StepFault::Stuck(stuck),
-            Halt::Memory => StepFault::Memory,
+            Halt::Memory { at: _ } => StepFault::Memory,
         }
     }
 }
@@ -83,7 +84,7 @@ impl From<Halt> for GotoFault {
     fn from(halt: Halt) -> Self {
         match halt {
             Halt::Stuck(stuck) => GotoFault::Stuck(stuck),
-            Halt::Memory => GotoFault::Memory,
+            Halt::Memory { at: _ } => GotoFault::Memory,
         }
     }
 }

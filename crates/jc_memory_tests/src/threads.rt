@@ -137,7 +137,7 @@ fn run<R: Threads + Wait + Sync, G: Gate + Send + Drop>(
                 Outcome::Wrong
             }
         }
-        Err(RunFault::Memory | RunFault::NoThread) => Outcome::Refused,
+        Err(RunFault::Memory | RunFault::NoThread(_)) => Outcome::Refused,
         Err(_) => Outcome::Wrong,
     }
 }

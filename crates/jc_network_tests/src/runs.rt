@@ -438,7 +438,7 @@ fn refusal<R: Threads + Wait + Sync>(
         Err(RunFault::Given { .. }) => Ok(254),
         Err(RunFault::GateCount) => Ok(45),
         Err(RunFault::LimitTooLarge) => Ok(46),
-        Err(RunFault::NoThread) => Ok(47),
+        Err(RunFault::NoThread(_)) => Ok(47),
         Err(RunFault::Memory) => Ok(255),
     }
 }

@@ -14,6 +14,7 @@ use Rattle.jc_program.specs.SessionRuns.{lines_by}
 use Rattle.jc_program.specs.Commands.{IsAlone, IsDone, IsStoppedCommand, IsThreadsOrder}
 use Rattle.jc_program.specs.ThreadRuns.{HaveThreaded, IsThreadsFault}
 use Rattle.jc_io.specs.Streams.{ConsumesUpTo}
+use Rattle.jc_runner.specs.declared.starting.SpawnRefused.{SpawnRefused}
 use Rattle.jc_session.specs.Written.{Stream}
 use Rattle.jc_program.specs.Promise.{World, Files, Promise, All, Says, Carried, Stopped, Completes, Breaks, done, text_refused, stuck, given_stuck, thread_starved, help, usage, read_failed, write_failed, help_write_failed, too_many_lines, no_thread, no_memory, no_memory_for_words}
 use Rattle.jc_cli.specs.Laws.{FaultlessAreOrders}
@@ -99,16 +100,16 @@ complete_quiet (Show view) bytes lines old new n alone h = h.1
 complete_quiet Debug bytes lines old new n alone h = h.1
 complete_quiet (Threads limit) bytes lines old new n alone h = absurd alone
 
-pub unthreaded : (task : Task) (bytes : List ℕ) (lines left : Option (List ℕ)) (old new : Stream) → IsAlone task → Breaks task NoThread bytes lines left old new → ⊥
-unthreaded (Show view) bytes lines left old new alone h = h
-unthreaded Debug bytes lines left old new alone h = h
-unthreaded (Threads limit) bytes lines left old new alone h = absurd alone
+pub unthreaded : (refused : SpawnRefused) (task : Task) (bytes : List ℕ) (lines left : Option (List ℕ)) (old new : Stream) → IsAlone task → Breaks task (NoThread refused) bytes lines left old new → ⊥
+unthreaded refused (Show view) bytes lines left old new alone h = h
+unthreaded refused Debug bytes lines left old new alone h = h
+unthreaded refused (Threads limit) bytes lines left old new alone h = absurd alone
 
 fault_ends : (fault : WorkFault) (n : ℕ) → n ≡ fault_status fault → n ≢ 4 → n ≢ 5 → ⊥
 fault_ends Read n e four five = four e
 fault_ends Write n e four five = four e
 fault_ends TooManyLines n e four five = four e
-fault_ends NoThread n e four five = five e
+fault_ends (NoThread refused) n e four five = five e
 fault_ends Memory n e four five = five e
 
 fault_no_refusal : (fault : WorkFault) (n : ℕ) → n ≡ fault_status fault → (n ≡ 1) ⊎ (n ≡ 3) → ⊥
@@ -118,8 +119,8 @@ fault_no_refusal Write n e (inl one) = cc
 fault_no_refusal Write n e (inr three) = cc
 fault_no_refusal TooManyLines n e (inl one) = cc
 fault_no_refusal TooManyLines n e (inr three) = cc
-fault_no_refusal NoThread n e (inl one) = cc
-fault_no_refusal NoThread n e (inr three) = cc
+fault_no_refusal (NoThread refused) n e (inl one) = cc
+fault_no_refusal (NoThread refused) n e (inr three) = cc
 fault_no_refusal Memory n e (inl one) = cc
 fault_no_refusal Memory n e (inr three) = cc
 
@@ -153,7 +154,7 @@ module _ (Does : Task → Type 0) (files : Files) (words : List (List ℕ)) (old
   stopped_of (write_failed s failed same) order some alone ends = of_stop files words old new 4 Write refl s (same, failed) order some alone ends
   stopped_of (help_write_failed text none by part input says) order some alone ends = absurd (none_some none some)
   stopped_of (too_many_lines s same) order some alone ends = of_stop files words old new 4 TooManyLines refl s (same.input, same.out) order some alone ends
-  stopped_of (no_thread s same) order some alone ends = of_stop files words old new 5 NoThread refl s (same.input, same.out) order some alone ends
+  stopped_of (no_thread refused s same) order some alone ends = of_stop files words old new 5 (NoThread refused) refl s (same.input, same.out) order some alone ends
   stopped_of (no_memory s same) order some alone ends = of_stop files words old new 5 Memory refl s (same.input, same.out) order some alone ends
   stopped_of (no_memory_for_words input out says) order some alone ends = (Memory, refl, says, (ap (λ (s : Stream). s.failures) input, ap (λ (s : Stream). s.failures) out), unstarted order input out)
 
@@ -174,7 +175,7 @@ module _ (Does : Task → Type 0) (files : Files) (words : List (List ℕ)) (old
   help_of (write_failed s failed same) asks = inr (inl refl)
   help_of (help_write_failed text none by part input says) asks = inr (inl refl)
   help_of (too_many_lines s same) asks = inr (inl refl)
-  help_of (no_thread s same) asks = inr (inr refl)
+  help_of (no_thread refused s same) asks = inr (inr refl)
   help_of (no_memory s same) asks = inr (inr refl)
   help_of (no_memory_for_words input out says) asks = inr (inr refl)
 
@@ -191,7 +192,7 @@ module _ (Does : Task → Type 0) (files : Files) (words : List (List ℕ)) (old
   usage_at (write_failed s failed same) e = cc
   usage_at (help_write_failed text none by part input says) e = cc
   usage_at (too_many_lines s same) e = cc
-  usage_at (no_thread s same) e = cc
+  usage_at (no_thread refused s same) e = cc
   usage_at (no_memory s same) e = cc
   usage_at (no_memory_for_words input out says) e = cc
 
@@ -224,7 +225,7 @@ module _ (Does : Task → Type 0) (files : Files) (words : List (List ℕ)) (old
   lost_of (write_failed s failed same) n0 e = absurd (no_stopped n0 s)
   lost_of (help_write_failed text none by part input says) n0 e = ((text, part), says)
   lost_of (too_many_lines s same) n0 e = absurd (no_stopped n0 s)
-  lost_of (no_thread s same) n0 e = absurd (no_stopped n0 s)
+  lost_of (no_thread refused s same) n0 e = absurd (no_stopped n0 s)
   lost_of (no_memory s same) n0 e = absurd (no_stopped n0 s)
   lost_of (no_memory_for_words input out says) n0 e = cc
 
@@ -240,7 +241,7 @@ module _ (Does : Task → Type 0) (files : Files) (words : List (List ℕ)) (old
   faulty_of (write_failed s failed same) n0 e = absurd (no_stopped n0 s)
   faulty_of (help_write_failed text none by part input says) n0 e = absurd (e by)
   faulty_of (too_many_lines s same) n0 e = absurd (no_stopped n0 s)
-  faulty_of (no_thread s same) n0 e = absurd (no_stopped n0 s)
+  faulty_of (no_thread refused s same) n0 e = absurd (no_stopped n0 s)
   faulty_of (no_memory s same) n0 e = absurd (no_stopped n0 s)
   faulty_of (no_memory_for_words input out says) n0 e = inr refl
 
@@ -256,7 +257,7 @@ module _ (Does : Task → Type 0) (files : Files) (words : List (List ℕ)) (old
   unshown_of (write_failed s failed same) n0 e = absurd (no_stopped n0 s)
   unshown_of (help_write_failed text none by part input says) n0 e = cc
   unshown_of (too_many_lines s same) n0 e = absurd (no_stopped n0 s)
-  unshown_of (no_thread s same) n0 e = absurd (no_stopped n0 s)
+  unshown_of (no_thread refused s same) n0 e = absurd (no_stopped n0 s)
   unshown_of (no_memory s same) n0 e = absurd (no_stopped n0 s)
   unshown_of (no_memory_for_words input out says) n0 e = out
 
@@ -272,7 +273,7 @@ module _ (Does : Task → Type 0) (files : Files) (words : List (List ℕ)) (old
   shown_of (write_failed s failed same) n0 e = absurd (no_stopped n0 s)
   shown_of (help_write_failed text none by part input says) n0 e = cc
   shown_of (too_many_lines s same) n0 e = absurd (no_stopped n0 s)
-  shown_of (no_thread s same) n0 e = absurd (no_stopped n0 s)
+  shown_of (no_thread refused s same) n0 e = absurd (no_stopped n0 s)
   shown_of (no_memory s same) n0 e = absurd (no_stopped n0 s)
   shown_of (no_memory_for_words input out says) n0 e = cc
 
@@ -288,7 +289,7 @@ module _ (Does : Task → Type 0) (files : Files) (words : List (List ℕ)) (old
   unread_of (write_failed s failed same) n0 = absurd (no_stopped n0 s)
   unread_of (help_write_failed text none by part input says) n0 = input
   unread_of (too_many_lines s same) n0 = absurd (no_stopped n0 s)
-  unread_of (no_thread s same) n0 = absurd (no_stopped n0 s)
+  unread_of (no_thread refused s same) n0 = absurd (no_stopped n0 s)
   unread_of (no_memory s same) n0 = absurd (no_stopped n0 s)
   unread_of (no_memory_for_words input out says) n0 = input
 
@@ -306,7 +307,7 @@ module _ (Does : Task → Type 0) (files : Files) (words : List (List ℕ)) (old
   failed_of (write_failed s failed same) e = absurd (e refl)
   failed_of (help_write_failed text none by part input says) e = absurd (e refl)
   failed_of (too_many_lines s same) e = absurd (e refl)
-  failed_of (no_thread s same) e = (same.input, same.out)
+  failed_of (no_thread refused s same) e = (same.input, same.out)
   failed_of (no_memory s same) e = (same.input, same.out)
   failed_of (no_memory_for_words input out says) e = (ap (λ (s : Stream). s.failures) input, ap (λ (s : Stream). s.failures) out)
 
@@ -335,7 +336,7 @@ module _ (Does : Task → Type 0) (files : Files) (words : List (List ℕ)) (old
   kind_of (write_failed s failed same) = inr (inl (Write, refl, (s, (same, failed))))
   kind_of (help_write_failed text none by part input says) = inr (inr (inr none))
   kind_of (too_many_lines s same) = inr (inl (TooManyLines, refl, (s, (same.input, same.out))))
-  kind_of (no_thread s same) = inr (inl (NoThread, refl, (s, (same.input, same.out))))
+  kind_of (no_thread refused s same) = inr (inl (NoThread refused, refl, (s, (same.input, same.out))))
   kind_of (no_memory s same) = inr (inl (Memory, refl, (s, (same.input, same.out))))
   kind_of (no_memory_for_words input out says) = inr (inr (inl (refl, input, out, says)))
 
@@ -424,7 +425,7 @@ module _ (Does : Task → Type 0) (files : Files) (words : List (List ℕ)) (old
   memory_line_of (write_failed s failed same) alone e = cc
   memory_line_of (help_write_failed text none by part input says) alone e = cc
   memory_line_of (too_many_lines s same) alone e = cc
-  memory_line_of (no_thread s same) alone e = absurd (unthreaded s.order.task s.bytes (lines_by old.input.bytes s.order.file) (lines_by new.input.bytes s.order.file) old.out new.out (alone_of s.order s.is_order alone) s.breaks)
+  memory_line_of (no_thread refused s same) alone e = absurd (unthreaded refused s.order.task s.bytes (lines_by old.input.bytes s.order.file) (lines_by new.input.bytes s.order.file) old.out new.out (alone_of s.order s.is_order alone) s.breaks)
   memory_line_of (no_memory s same) alone e = s.line
   memory_line_of (no_memory_for_words input out says) alone e = says
 
@@ -443,7 +444,7 @@ module _ (Does : Task → Type 0) (files : Files) (words : List (List ℕ)) (old
   quiet_of (write_failed s failed same) alone two four five = absurd (four refl)
   quiet_of (help_write_failed text none by part input says) alone two four five = absurd (four refl)
   quiet_of (too_many_lines s same) alone two four five = absurd (four refl)
-  quiet_of (no_thread s same) alone two four five = absurd (five refl)
+  quiet_of (no_thread refused s same) alone two four five = absurd (five refl)
   quiet_of (no_memory s same) alone two four five = absurd (five refl)
   quiet_of (no_memory_for_words input out says) alone two four five = absurd (five refl)
 
@@ -495,7 +496,7 @@ module _ (files : Files) (words : List (List ℕ)) (old new : World) where
     starving (write_failed s failed same) = absurd (waits s.order s.is_order s.does)
     starving (help_write_failed text none by part input says) = absurd (none_some none some)
     starving (too_many_lines s same) = absurd (waits s.order s.is_order s.does)
-    starving (no_thread s same) = absurd (waits s.order s.is_order s.does)
+    starving (no_thread refused s same) = absurd (waits s.order s.is_order s.does)
     starving (no_memory s same) = absurd (waits s.order s.is_order s.does)
     starving (no_memory_for_words input out says) = (refl, out)
 
@@ -511,7 +512,7 @@ module _ (files : Files) (words : List (List ℕ)) (old new : World) where
   line_of (write_failed s failed same) e = cc
   line_of (help_write_failed text none by part input says) e = cc
   line_of (too_many_lines s same) e = cc
-  line_of (no_thread s same) e = absurd (unthreaded s.order.task s.bytes (lines_by old.input.bytes s.order.file) (lines_by new.input.bytes s.order.file) old.out new.out s.does s.breaks)
+  line_of (no_thread refused s same) e = absurd (unthreaded refused s.order.task s.bytes (lines_by old.input.bytes s.order.file) (lines_by new.input.bytes s.order.file) old.out new.out s.does s.breaks)
   line_of (no_memory s same) e = s.line
   line_of (no_memory_for_words input out says) e = says
 
@@ -530,7 +531,7 @@ module _ (files : Files) (words : List (List ℕ)) (old new : World) where
   calm_of (write_failed s failed same) two four five = absurd (four refl)
   calm_of (help_write_failed text none by part input says) two four five = absurd (four refl)
   calm_of (too_many_lines s same) two four five = absurd (four refl)
-  calm_of (no_thread s same) two four five = absurd (five refl)
+  calm_of (no_thread refused s same) two four five = absurd (five refl)
   calm_of (no_memory s same) two four five = absurd (five refl)
   calm_of (no_memory_for_words input out says) two four five = absurd (five refl)
 

@@ -131,7 +131,7 @@ module _ (Does : Task → Type 0) (files : Files) (words : List (List ℕ)) (old
   halted Read n e s c = subst (Promise Does files words old new) (sym e) (read_failed s c.0 c.1)
   halted Write n e s c = subst (Promise Does files words old new) (sym e) (write_failed s c.1 c.0)
   halted TooManyLines n e s c = subst (Promise Does files words old new) (sym e) (too_many_lines s (record { input = c.0; out = c.1 }))
-  halted NoThread n e s c = subst (Promise Does files words old new) (sym e) (no_thread s (record { input = c.0; out = c.1 }))
+  halted (NoThread refused) n e s c = subst (Promise Does files words old new) (sym e) (no_thread refused s (record { input = c.0; out = c.1 }))
   halted Memory n e s c = subst (Promise Does files words old new) (sym e) (no_memory s (record { input = c.0; out = c.1 }))
 
   module _ (order : Order) (is_order : words_order words ≡ Some order) (does : Does order.task) where
@@ -187,6 +187,6 @@ module _ (files : Files) (words : List (List ℕ)) (old new : World) where
   more_tasks (write_failed s failed same) = write_failed (stopped_more s) failed same
   more_tasks (help_write_failed text none by part input says) = help_write_failed text none by part input says
   more_tasks (too_many_lines s same) = too_many_lines (stopped_more s) same
-  more_tasks (no_thread s same) = no_thread (stopped_more s) same
+  more_tasks (no_thread refused s same) = no_thread refused (stopped_more s) same
   more_tasks (no_memory s same) = no_memory (stopped_more s) same
   more_tasks (no_memory_for_words input out says) = no_memory_for_words input out says

@@ -43,14 +43,14 @@ module _ (s : Scenario) (limit : ℕ) where
       ([], (string_bytes lines, inr (subst (IsGivenShown s (string_bytes lines)) (sym ends) is, refl), wrote), inl (wrote_none err err refl))
   given_told (F.Given lines) (Err fault) err old new is h = tt
   given_told F.Memory result err old new is (e, same) = subst (λ (r : Result ℕ WorkFault). IfOk r (AreTextsOf (ShowsThreads limit s) old new (λ lines. Sent lines err err))) (sym e) tt
-  given_told F.NoThread result err old new is (e, same) = subst (λ (r : Result ℕ WorkFault). IfOk r (AreTextsOf (ShowsThreads limit s) old new (λ lines. Sent lines err err))) (sym e) tt
+  given_told (F.NoThread refused) result err old new is (e, same) = subst (λ (r : Result ℕ WorkFault). IfOk r (AreTextsOf (ShowsThreads limit s) old new (λ lines. Sent lines err err))) (sym e) tt
 
   pub given_stopped : (fault : RecordFault) (result : Result ℕ WorkFault) (old new : Stream) → IsRecordFault s fault → IsUnrecorded fault old new result → IfErr result (λ fault. StopsThreads ⊤ (ShowsThreads limit s) fault old new)
   given_stopped (F.Given lines) (Ok status) old new is h = tt
   given_stopped (F.Given lines) (Err fault) old new is (e, part) =
       subst (λ (f : WorkFault). StopsThreads ⊤ (ShowsThreads limit s) f old new) (sym e) (string_bytes lines, ([], 3, inr (is, refl)), part)
   given_stopped F.Memory result old new is (e, same) = subst (λ (r : Result ℕ WorkFault). IfErr r (λ fault. StopsThreads ⊤ (ShowsThreads limit s) fault old new)) (sym e) same
-  given_stopped F.NoThread result old new is (e, same) = subst (λ (r : Result ℕ WorkFault). IfErr r (λ fault. StopsThreads ⊤ (ShowsThreads limit s) fault old new)) (sym e) (same, tt)
+  given_stopped (F.NoThread refused) result old new is (e, same) = subst (λ (r : Result ℕ WorkFault). IfErr r (λ fault. StopsThreads ⊤ (ShowsThreads limit s) fault old new)) (sym e) (same, tt)
 
 -- which failures were counted then
 pub given_cause : (fault : RecordFault) (result : Result ℕ WorkFault) (old new : Stream) → IsUnrecorded fault old new result → IfErr result (λ fault. (n : ℕ) → IsCause fault ⊥ n n old.failures new.failures)
@@ -59,7 +59,7 @@ given_cause (F.Given lines) (Err fault) old new (e, part) =
     subst (λ (f : WorkFault). (n : ℕ) → IsCause f ⊥ n n old.failures new.failures) (sym e) (λ n. (refl, part.1))
 given_cause F.Memory result old new (e, same) =
     subst (λ (r : Result ℕ WorkFault). IfErr r (λ fault. (n : ℕ) → IsCause fault ⊥ n n old.failures new.failures)) (sym e) (λ n. (refl, ap (λ (x : Stream). x.failures) same))
-given_cause F.NoThread result old new (e, same) =
+given_cause (F.NoThread refused) result old new (e, same) =
     subst (λ (r : Result ℕ WorkFault). IfErr r (λ fault. (n : ℕ) → IsCause fault ⊥ n n old.failures new.failures)) (sym e) (λ n. (refl, ap (λ (x : Stream). x.failures) same))
 
 -- ---- what is so of one run is so of another
@@ -73,7 +73,7 @@ module _ (P Q : List ℕ → List ℕ → ℕ → Type 0) (more : (out lines : L
     stops_more Read old new h = h
     stops_more Write old new (out, (lines, status, run), part) = (out, (lines, status, more out lines status run), part)
     stops_more TooManyLines old new h = h
-    stops_more NoThread old new h = (h.0, read h.1)
+    stops_more (NoThread refused) old new h = (h.0, read h.1)
     stops_more Memory old new h = h
 
 -- ---- texts
@@ -129,5 +129,5 @@ cause_of Read unread input_old input_new out_old out_new same h = absurd (none (
   none (inr e) = e
 cause_of Write unread input_old input_new out_old out_new same h = (same, (h 0).1)
 cause_of TooManyLines unread input_old input_new out_old out_new same h = (same, (h 0).1)
-cause_of NoThread unread input_old input_new out_old out_new same h = (same, (h 0).1)
+cause_of (NoThread refused) unread input_old input_new out_old out_new same h = (same, (h 0).1)
 cause_of Memory unread input_old input_new out_old out_new same h = (same, (h 0).1)

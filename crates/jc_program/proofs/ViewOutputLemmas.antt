@@ -91,7 +91,7 @@ stops_whole : (view : View) (fault : WorkFault) (n : ℕ) (b v : List ℕ) (old 
 stops_whole view Read n b v old new is e h = h
 stops_whole view Write n b v old new is e h = (h.0, due_whole view n b v h.0 is e h.1, h.2)
 stops_whole view TooManyLines n b v old new is e h = absurd h
-stops_whole view NoThread n b v old new is e h = absurd h
+stops_whole view (NoThread refused) n b v old new is e h = absurd h
 stops_whole view Memory n b v old new is e h = (h.0, unfinished_whole view n b v h.0 is e h.1, h.2)
 
 -- the bytes that a source had left, where they are known, and a run on them

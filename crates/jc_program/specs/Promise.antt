@@ -14,6 +14,7 @@ use Rattle.jc_io.specs.declared.io.Sink.{Ghosts as SinkGhosts}
 use Rattle.jc_rules.specs.declared.limits.TheConstants.{MAX_TEXT}
 use Rattle.jc_scenario.specs.WellFormed.{Scenario, IsScenario}
 use Rattle.jc_network.specs.Given.{before_given, IsStart, IsGivenStuck}
+use Rattle.jc_runner.specs.declared.starting.SpawnRefused.{SpawnRefused}
 use Rattle.jc_session.specs.Written.{Stream, sink, Wrote, WrotePart, Sent, Written}
 use Rattle.jc_cli.specs.Arguments.{words_order, AsksHelp}
 use Rattle.jc_cli.specs.declared.order.Order.{Order}
@@ -189,8 +190,9 @@ pub data Promise (Does : Task → Type 0) (files : Files) (words : List (List �
   too_many_lines : Stopped Does files words old new TooManyLines
       → NoneFailed old new
       → Promise Does files words old new 4
-  -- a thread couldn't be made, for a text that is a scenario
-  no_thread : Stopped Does files words old new NoThread
+  -- the start of a thread was refused, for a text that is a scenario
+  no_thread : (refused : SpawnRefused)
+      → Stopped Does files words old new (NoThread refused)
       → NoneFailed old new
       → Promise Does files words old new 5
   -- there was no memory to execute the command

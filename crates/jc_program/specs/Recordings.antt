@@ -25,7 +25,7 @@ IsTellableFault names R.GateCount = ⊥
 IsTellableFault names R.LimitTooLarge = ⊥
 IsTellableFault names (R.Given at s) = IsNamedStuck names s
 IsTellableFault names R.Memory = Unit {0}
-IsTellableFault names R.NoThread = Unit {0}
+IsTellableFault names (R.NoThread refused) = Unit {0}
 
 -- these are the lines of a given event that is stuck
 abbrev pub AreGivenLines : List (List ℕ) → ℕ → Stuck → List ℕ → Type 0
@@ -40,13 +40,13 @@ IsToldAs names R.LimitTooLarge told = ⊥
 IsToldAs names (R.Given at s) (F.Given lines) = AreGivenLines names at s (string_bytes lines)
 IsToldAs names (R.Given at s) told = told ≡ F.Memory
 IsToldAs names R.Memory told = told ≡ F.Memory
-IsToldAs names R.NoThread told = told ≡ F.NoThread
+IsToldAs names (R.NoThread refused) told = told ≡ F.NoThread refused
 
 -- where there is no recording because a given event is stuck, the fault has its lines
 abbrev pub IsRecordFault : Scenario → RecordFault → Type 0
 IsRecordFault s (F.Given lines) = IsGivenShown s (string_bytes lines) 3
 IsRecordFault s F.Memory = Unit {0}
-IsRecordFault s F.NoThread = Unit {0}
+IsRecordFault s (F.NoThread refused) = Unit {0}
 
 -- There is a report of the run; the text is that of the scenario with its schedule, and the lines say what each replica
 -- made and how its thread ended.

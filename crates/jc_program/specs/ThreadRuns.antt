@@ -21,7 +21,7 @@ abbrev pub IsUnrecorded : RecordFault → Stream → Stream → Result ℕ WorkF
 IsUnrecorded (F.Given lines) old new (Ok status) = (status ≡ 3) × Wrote (string_bytes lines) old new
 IsUnrecorded (F.Given lines) old new (Err fault) = (fault ≡ Write) × WrotePart (string_bytes lines) old new
 IsUnrecorded F.Memory old new result = (result ≡ Err Memory) × (new ≡ old)
-IsUnrecorded F.NoThread old new result = (result ≡ Err NoThread) × (new ≡ old)
+IsUnrecorded (F.NoThread refused) old new result = (result ≡ Err (NoThread refused)) × (new ≡ old)
 
 abbrev pub outcome_status : Outcome → ℕ
 outcome_status NoMemory = 5
@@ -70,7 +70,7 @@ abbrev pub StopsThreads : Type 0 → (List ℕ → List ℕ → ℕ → Type 0) 
 StopsThreads HasScenario IsRun Read old new = new ≡ old
 StopsThreads HasScenario IsRun Write old new = WrittenInPart (IsTextOf IsRun) old new
 StopsThreads HasScenario IsRun TooManyLines old new = ⊥
-StopsThreads HasScenario IsRun NoThread old new = (new ≡ old) × HasScenario
+StopsThreads HasScenario IsRun (NoThread refused) old new = (new ≡ old) × HasScenario
 StopsThreads HasScenario IsRun Memory old new = new ≡ old
 
 -- the command came to its end on the bytes

@@ -127,7 +127,7 @@ abbrev pub StopsView : View → List ℕ → WorkFault → Stream → Stream →
 StopsView view bytes Read old new = new ≡ old
 StopsView view bytes Write old new = WrittenInPart (IsDue view bytes) old new
 StopsView view bytes TooManyLines old new = ⊥
-StopsView view bytes NoThread old new = ⊥
+StopsView view bytes (NoThread refused) old new = ⊥
 StopsView view bytes Memory old new = Written (IsUnfinished view bytes) old new
 
 -- A fault stopped a view of the bytes.

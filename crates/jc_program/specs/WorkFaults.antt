@@ -12,7 +12,7 @@ abbrev pub fault_status : WorkFault → ℕ
 fault_status Read = 4
 fault_status Write = 4
 fault_status TooManyLines = 4
-fault_status NoThread = 5
+fault_status (NoThread refused) = 5
 fault_status Memory = 5
 
 -- the line of standard error
@@ -20,7 +20,7 @@ abbrev pub fault_line : WorkFault → List ℕ
 fault_line Read = codes "read failed\n"
 fault_line Write = codes "write failed\n"
 fault_line TooManyLines = codes "too many lines\n"
-fault_line NoThread = codes "no thread\n"
+fault_line (NoThread refused) = codes "no thread\n"
 fault_line Memory = codes "no memory\n"
 
 -- What is written for arguments that are no command, before and after on the output and on standard error, and the

@@ -6,6 +6,7 @@ ghost use Rattle.jc_session.specs.Written.{sink, Sent};
 
 use crate::sending::report;
 use jc_io::Sink;
+use jc_runner::SpawnRefused;
 
 /// Why a command didn't come to its end.
 #[derive(Clone, Copy, Debug, PartialEq, Eq)]
@@ -16,8 +17,8 @@ pub enum WorkFault {
     Write,
     /// A session had more lines or bytes than it may have.
     TooManyLines,
-    /// A thread could not be made.
-    NoThread,
+    /// A thread could not be made: the start of one was refused.
+    NoThread(SpawnRefused),
     /// There was no memory.
     Memory,
 }
@@ -30,7 +31,7 @@ impl WorkFault {
             WorkFault::Read => "read failed\n",
             WorkFault::Write => "write failed\n",
             WorkFault::TooManyLines => "too many lines\n",
-            WorkFault::NoThread => "no thread\n",
+            WorkFault::NoThread(_) => "no thread\n",
             WorkFault::Memory => "no memory\n",
         }
     }
@@ -42,7 +43,7 @@ impl WorkFault {
             WorkFault::Read => 4,
             WorkFault::Write => 4,
             WorkFault::TooManyLines => 4,
-            WorkFault::NoThread => 5,
+            WorkFault::NoThread(_) => 5,
             WorkFault::Memory => 5,
         }
     }

@@ -19,7 +19,7 @@ use crate::lines::end_lines;
 use jc_dump::given_text;
 use jc_network::Stuck;
 use jc_rules::{Text, Version};
-use jc_runner::{End, Gate, Report, RunFault, run_threads};
+use jc_runner::{End, Gate, Report, RunFault, SpawnRefused, run_threads};
 use jc_scenario::{Scenario, copy_names, print};
 use std::alloc::{AllocError, Global};
 use std::sync::Wait;
@@ -53,8 +53,8 @@ pub enum RecordFault {
     Memory,
     /// 44: a given event is stuck, and no thread was started. The text has the lines that say so.
     Given(String),
-    /// 47: a thread couldn't be made, for whatever cause.
-    NoThread,
+    /// 47: a thread couldn't be made, for whatever cause. The start of one was refused.
+    NoThread(SpawnRefused),
 }
 
 impl From<AllocError> for RecordFault {
@@ -185,7 +185,7 @@ fn fault_of(alloc: Global, names: Vec<Text>, fault: RunFault) -> RecordFault
 {
     match fault {
         RunFault::Memory => RecordFault::Memory,
-        RunFault::NoThread => RecordFault::NoThread,
+        RunFault::NoThread(refused) => RecordFault::NoThread(refused),
         RunFault::Given { at, stuck } => match given_lines(alloc, names, at, &stuck) {
             Ok(lines) => RecordFault::Given(lines),
             Err(AllocError) => RecordFault::Memory,

@@ -55,7 +55,7 @@ fn unrecorded<K: Sink>(fault: &RecordFault, out: &mut K) -> Result<u8, WorkFault
             Err(_) => Err(WorkFault::Write),
         },
         RecordFault::Memory => Err(WorkFault::Memory),
-        RecordFault::NoThread => Err(WorkFault::NoThread),
+        RecordFault::NoThread(refused) => Err(WorkFault::NoThread(*refused)),
     }
 }
 

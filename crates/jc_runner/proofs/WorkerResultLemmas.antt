@@ -18,7 +18,7 @@ use Rattle.jc_network.proofs.AfterLemmas.{after_count}
 use Rattle.jc_runner.specs.Phases.{last_event_of, phase_after}
 use Rattle.jc_runner.specs.Chosen.{choice, event_in}
 use Rattle.jc_runner.specs.Legal.{IsLegal, own_events, IsChosenAfter, AllChosen}
-use Rattle.jc_lock.specs.Shows.{pass_number, pass_origin, pass_seen, pass_mine}
+use Rattle.jc_lock.specs.Shows.{pass_number, pass_left, pass_origin, pass_seen, pass_mine}
 use Rattle.jc_runner.specs.Benches.{IsPassAt, bench_start}
 use Rattle.jc_runner.specs.declared.bench.Bench.{Bench}
 use Rattle.jc_runner.specs.declared.bench.StepAnswer.{StepAnswer}
@@ -27,7 +27,7 @@ use Rattle.jc_runner.specs.declared.worker.End.{End}
 use Rattle.jc_runner.specs.declared.worker.End.TheVariants as Ends
 use Rattle.jc_runner.specs.declared.worker.Worked.{Worked}
 use Rattle.jc_runner.specs.Answers.{IsStepAnswered, IsSpent, seen_after}
-use Rattle.jc_runner.specs.WorkerResult.{IsFinishedAfter, IsStuckAfter, ChoosesAfter, EndsWith, IsWorkerResult, end_of}
+use Rattle.jc_runner.specs.WorkerResult.{IsFinishedAfter, IsStuckAfter, ChoosesAfter, EndsWith, AreTakes, IsWorkerResult, end_of}
 use Rattle.jc_runner.proofs.LegalGrowsLemmas.{legal_states, one_legal, chosen_longer, last_more}
 use Rattle.jc_runner.proofs.ChosenLemmas.{choice_is, none_chosen}
 
@@ -84,8 +84,8 @@ is_stuck_after s p history mine N phase next e M stuck legal own at is other is_
 -- a turn in which nothing was made ends the work
 pub ended : (bench : Bench) (p limit : ℕ) (w : Worked) (history mine : List Event)
     → IsPassAt bench w.pass → pass_number w.pass ≡ p → pass_origin w.pass ≡ Some (bench_start bench) → own_events (pass_seen w.pass) (pass_number w.pass) ≡ pass_mine w.pass
-    → pass_seen w.pass ≡ history → own_events history p ≡ mine → length mine ≡ w.made → AllChosen (bench_start bench) p history → EndsWith (bench_start bench) p limit history mine w.end → IsWorkerResult bench p limit w
-ended bench p limit w history mine lock number origin own seen owned made all ends =
+    → pass_seen w.pass ≡ history → own_events history p ≡ mine → length mine ≡ w.made → AreTakes limit (pass_left w.pass) w.made → AllChosen (bench_start bench) p history → EndsWith (bench_start bench) p limit history mine w.end → IsWorkerResult bench p limit w
+ended bench p limit w history mine lock number origin own seen owned made takes all ends =
     let own' : own_events (pass_seen w.pass) p ≡ pass_mine w.pass = ap (own_events (pass_seen w.pass)) (sym number) ∙ own in
     let same : pass_mine w.pass ≡ mine = sym own' ∙ (ap (λ l. own_events l p) seen ∙ owned) in
     record {
@@ -94,6 +94,7 @@ ended bench p limit w history mine lock number origin own seen owned made all en
       origin = origin;
       own = own';
       made = ap length same ∙ made;
+      takes = takes;
       chosen = subst (AllChosen (bench_start bench) p) (sym seen) all;
       ends = subst (λ l. EndsWith (bench_start bench) p limit l (pass_mine w.pass) w.end) (sym seen) (subst (λ l. EndsWith (bench_start bench) p limit history l w.end) (sym same) ends);
     }

@@ -80,7 +80,7 @@ IsLateFault R.GateCount = ⊥
 IsLateFault R.LimitTooLarge = ⊥
 IsLateFault (R.Given at stuck) = ⊥
 IsLateFault R.Memory = Unit {0}
-IsLateFault R.NoThread = Unit {0}
+IsLateFault (R.NoThread refused) = Unit {0}
 
 -- when a run is refused, in order
 abbrev pub IsReportedFault : RunFault → Scenario → ℕ → ℕ → Type 0
@@ -89,4 +89,4 @@ IsReportedFault R.LimitTooLarge s gates limit = (gates ≡ length s.scripts) × 
 IsReportedFault (R.Given at stuck) s gates limit =
     (gates ≡ length s.scripts) × (limit ≤ MAX_THREAD_EVENTS) × IsGivenFault (before_given s) s.given at stuck
 IsReportedFault R.Memory s gates limit = (gates ≡ length s.scripts) × (limit ≤ MAX_THREAD_EVENTS)
-IsReportedFault R.NoThread s gates limit = (gates ≡ length s.scripts) × (limit ≤ MAX_THREAD_EVENTS)
+IsReportedFault (R.NoThread refused) s gates limit = (gates ≡ length s.scripts) × (limit ≤ MAX_THREAD_EVENTS)

@@ -1,10 +1,10 @@
 -- The result of a replica's thread: what it promises (`Works` of run.rt).
-use Rattle.std.specs.Prelude.{◌≡◌, ◌⊎◌, ℕ, ◌<◌, List, [], length, get_or, Option, None, Some, slice_get}
+use Rattle.std.specs.Prelude.{◌≡◌, ◌⊎◌, ℕ, ◌+◌, ◌<◌, List, [], length, get_or, Option, None, Some, slice_get}
 use Rattle.jc_rules.specs.declared.limits.TheConstants.{MAX_EVENTS}
 use Rattle.jc_rules.specs.declared.operation.Event.{Event}
 use Rattle.jc_rules.specs.State.{State}
 use Rattle.jc_rules.specs.Step.{Network}
-use Rattle.jc_lock.specs.Shows.{pass_number, pass_origin, pass_seen, pass_mine}
+use Rattle.jc_lock.specs.Shows.{pass_number, pass_left, pass_origin, pass_seen, pass_mine}
 use Rattle.jc_network.specs.declared.fault.Stuck.{Stuck}
 use Rattle.jc_network.specs.Steps.{IsStuckFor}
 use Rattle.jc_scenario.specs.WellFormed.{Scenario}
@@ -62,6 +62,11 @@ end_of (A.Full front) = Some N.LimitReached
 end_of A.Memory = Some N.NoMemory
 end_of A.Spent = Some N.LimitReached
 
+-- A thread takes no turn after the one in which it ended: each take but that one made an event. Where no take was left
+-- each of them made one.
+abbrev pub AreTakes : ℕ → ℕ → ℕ → Type 0
+AreTakes limit left made = (left + made + 1 ≡ limit) ⊎ ((left ≡ 0) × (made ≡ limit))
+
 -- The pass is back, and its events are those that its replica chose.
 pub record IsWorkerResult (bench : Bench) (p limit : ℕ) (w : Worked) : Type 0 where
   pub of_bench : IsPassAt bench w.pass
@@ -69,6 +74,7 @@ pub record IsWorkerResult (bench : Bench) (p limit : ℕ) (w : Worked) : Type 0 
   pub origin : pass_origin w.pass ≡ Some (bench_start bench)
   pub own : own_events (pass_seen w.pass) p ≡ pass_mine w.pass
   pub made : length (pass_mine w.pass) ≡ w.made
+  pub takes : AreTakes limit (pass_left w.pass) w.made
   pub chosen : AllChosen (bench_start bench) p (pass_seen w.pass)
   pub ends : EndsWith (bench_start bench) p limit (pass_seen w.pass) (pass_mine w.pass) w.end
 

@@ -18,6 +18,7 @@ pub mod laws;
 mod phase;
 mod recorded;
 mod run;
+mod starting;
 mod worker;
 
 pub use bench::{Bench, BenchFault, CloseRefused, Pass, StepAnswer};
@@ -25,4 +26,5 @@ pub use choosing::choose;
 pub use phase::Phase;
 pub use recorded::Recorded;
 pub use run::{Report, RunFault, run_threads};
+pub use starting::SpawnRefused;
 pub use worker::{End, Gate};

@@ -9,15 +9,15 @@ ghost use Rattle.jc_runner.specs.declared.run.RunFault.TheVariants.{Memory as Wa
 
 use crate::bench::{Bench, BenchFault, Pass};
 use crate::recorded::Recorded;
-use crate::worker::{End, Gate, Worked, work};
+use crate::starting::{SpawnRefused, Works, start};
+use crate::worker::{End, Gate, Worked};
 use jc_network::{Net, Stuck};
 use jc_rules::Event;
 use jc_scenario::Scenario;
 use std::alloc::{AllocError, Global};
-use std::snapshot::Snapshot;
 use std::sync::Wait;
 use std::thread;
-use std::thread::{Promise, PromisedHandle, Scope, SpawnError, Threads, join_promised};
+use std::thread::{PromisedHandle, Scope, Threads, join_promised};
 
 /// Why a run has no report.
 #[derive(Drop)]
@@ -30,8 +30,8 @@ pub enum RunFault {
     Given { at: u64, stuck: Stuck },
     /// A request for memory was refused.
     Memory,
-    /// 47: a thread can't be made, whatever the cause.
-    NoThread,
+    /// 47: a thread can't be made, whatever the cause. The start of one was refused.
+    NoThread(SpawnRefused),
 }
 
 impl From<AllocError> for RunFault {
@@ -42,27 +42,12 @@ impl From<AllocError> for RunFault {
     }
 }
 
-// The error of a refused start has no cause in it.
-impl<F: Drop> From<SpawnError<F>> for RunFault {
-    ghost from_gives = { λ _ fault. fault ≡ WantOfThread };
+impl From<SpawnRefused> for RunFault {
+    ghost from_gives = { λ refused fault. fault ≡ WantOfThread refused };
 
-    fn from(_: SpawnError<F>) -> Self {
-        RunFault::NoThread
+    fn from(refused: SpawnRefused) -> Self {
+        RunFault::NoThread(refused)
     }
-}
-
-/// The promise of a replica's thread: what its result is.
-#[derive(Drop)]
-pub struct Works {
-    bench: Snapshot<Bench>,
-    number: u16,
-    limit: u64,
-}
-
-impl Promise<Worked> for Works {
-    ghost use Rattle.jc_runner.specs.WorkerResult.{IsWorkerResult};
-
-    ghost kept_by = { λ p w. IsWorkerResult p.bench.value p.number p.limit w };
 }
 
 // Joins the threads, and drops their results.
@@ -93,12 +78,7 @@ fn start_all<'s, E, R: Threads + Wait + Sync, G: Gate + Send + Drop + 's>(
         let Some(gate) = gates.next() else {
             unreachable!()
         };
-        let promise = Works {
-            bench: Snapshot::of(bench),
-            number: pass.number(),
-            limit,
-        };
-        match scope.spawn_with(promise, move || work(rt, bench, pass, gate)) {
+        match start(rt, scope, bench, pass, gate, limit) {
             Ok(handle) => handles.push_reserved(handle),
             Err(refused) => {
                 join_each(rt, handles);

@@ -1,5 +1,5 @@
 -- Entries by key over numbered keys, and the nodes of the fast store that keep them.
-use Rattle.std.specs.Prelude.{◌≡◌, ◌≤◌, ℕ, List, length, Option, None}
+use Rattle.std.specs.Prelude.{◌≡◌, ◌≤◌, ◌+◌, ℕ, List, length, Option, None}
 use Rattle.jc_rules.specs.declared.id.Id.{Id}
 use Rattle.jc_rules.specs.declared.key.Key.{Key}
 use Rattle.jc_rules.specs.declared.key.Next.{Next}
@@ -47,3 +47,8 @@ pub record IsBare (n : ℕ) (m l : List (Option ℕ)) (r : List (Option Register
   pub registers : at_number r n ≡ None
   pub presences : at_number p n ≡ None
   pub links : at_number x n ≡ None
+
+-- something stands at the number of the last key, if there is one
+abbrev pub IsTrimmed : Numbering → List (Option ℕ) → List (Option ℕ) → List (Option Register)
+    → List (Option (List Id)) → List (Option Next) → Type 0
+IsTrimmed t m l r p x = (n : ℕ) → length t.keys ≡ n + 1 → IsBare n m l r p x → ⊥

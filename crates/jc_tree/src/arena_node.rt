@@ -1,12 +1,12 @@
 //! The nodes of the fast store: contexts that name their children by number.
 
-ghost use Rattle.std.specs.Prelude.{◌≡◌, ◌≤◌, ◌+◌, ℕ, ◌++◌, cond, None, is_some, option_copied, ◌||◌, IfOk, IsTrue, OnOk, OnErr};
+ghost use Rattle.std.specs.Prelude.{◌≡◌, ◌≤◌, ◌+◌, ◌↔◌, ℕ, ◌++◌, cond, None, is_some, option_copied, ◌||◌, IfOk, IsTrue, OnOk, OnErr};
 ghost use Rattle.jc_rules.specs.Order.{key_cmp};
 ghost use Rattle.jc_rules.specs.Entries.{find, keys_of};
 ghost use Rattle.jc_rules.specs.Paths.{HasContext};
 ghost use Rattle.jc_tree.specs.Tree.{or_no_entries, least_after, has_ids, count_present};
 ghost use Rattle.jc_tree.specs.Numbered.{at_number};
-ghost use Rattle.jc_tree.specs.Tables.{AreWithin, IsBare, flat_of};
+ghost use Rattle.jc_tree.specs.Tables.{AreWithin, IsBare, IsTrimmed, flat_of};
 ghost use Rattle.jc_tree.specs.Arena.{blank, new_flat, child_number, is_in, with_child_number, IsInside, changed_flat, former_of_node, former_of_flat, restored_flat};
 
 use crate::columns::{cut, value_at};
@@ -173,7 +173,7 @@ fn is_bare(
     links: &[Option<Link>],
     number: usize,
 ) -> bool
-    ensures { IsTrue result → IsBare number maps.now lists.now registers.now presences.now links.now }
+    ensures { IsTrue result ↔ IsBare number maps.now lists.now registers.now presences.now links.now }
 {
     !has_tag(maps, lists, registers, number)
         && value_at(presences, number).is_none()
@@ -196,6 +196,8 @@ fn trim(
     ensures seen { flat_of keys.new maps.new.items lists.new.items registers.new.items presences.new.items
         links.new.items
         ≡ flat_of keys.old maps.old.items lists.old.items registers.old.items presences.old.items links.old.items }
+    ensures trimmed { IsTrimmed keys.new maps.new.items lists.new.items registers.new.items presences.new.items
+        links.new.items }
 {
     while let Some(last) = keys.len().checked_sub(1) {
         if !is_bare(

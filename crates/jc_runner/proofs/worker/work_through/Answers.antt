@@ -1,4 +1,4 @@
-use Rattle.std.proofs.Common.{arith, ◌≡◌, ◌<◌, ◌+◌, ◌∷◌, [], ◌++◌, refl, sym, ◌∙◌, ap, subst, length, length-append, Some}
+use Rattle.std.proofs.Common.{arith, ◌≡◌, ◌<◌, ◌+◌, ◌∷◌, [], ◌++◌, refl, sym, ◌∙◌, ap, subst, length, length-append, Some, inl}
 use Rattle.jc_lock.specs.Shows.{pass_number, pass_left, pass_origin, pass_seen, pass_mine, turn_value, turn_mine, turn_left}
 use Rattle.jc_scenario.specs.Views.{scenario_view}
 use Rattle.jc_runner.specs.Benches.{bench_start}
@@ -47,7 +47,7 @@ returns-in-None-choose-clause-worked g c =
     let low : p < length s.scripts = subst (λ k. k < length s.scripts) (sym c.number-p.ensures) c.requires.there in
     let worked : Worked = record { pass = c.give.result; made = c.loop.made; end = N.Finished } in
     subst (λ k. IsWorkerResult c.args.bench.now k (pass_left c.args.pass) worked) c.number-p.ensures
-    (ended c.args.bench.now p (pass_left c.args.pass) worked history (pass_mine c.loop.pass) give.lock (give.number.0 ∙ (ok.number.0 ∙ inv.number)) (give.origin ∙ (ok.origin.0 ∙ inv.origin)) give.own give.seen owned inv.made all
+    (ended c.args.bench.now p (pass_left c.args.pass) worked history (pass_mine c.loop.pass) give.lock (give.number.0 ∙ (ok.number.0 ∙ inv.number)) (give.origin ∙ (ok.origin.0 ∙ inv.origin)) give.own give.seen owned inv.made (inl (omega (arith, give.number.1, ok.number.1, inv.takes))) all
     (is_finished s p history network c.loop.phase legal low (sym c.choose.ensures ∙ c.in-None-choose.is), omega (arith, ok.number.1, inv.takes, inv.made)))
 
 pub make-back-requires-clause-number : goal.make-back-requires-clause-number
@@ -114,7 +114,7 @@ returns-in-Some-end_of-clause-worked g c =
     let by =
     ends_by s p limit history (pass_mine c.loop.pass) network c.loop.phase next e legal owned inv.phase is (omega (arith, ok.number.1, inv.takes, inv.made)) (pass_seen new) (turn_mine c.in-Ok.turn) (pass_mine new) (turn_left c.in-Ok.turn + 1) (pass_left new) a c.in-Some-end_of.end (sym c.end_of.ensures ∙ c.in-Some-end_of.is) m.waited answered (m.list ∙ ap (λ h. seen_after h e a) ok.list.0) in
     subst (λ k. IsWorkerResult c.args.bench.now k limit worked) c.number-p.ensures
-    (ended c.args.bench.now p limit worked history (pass_mine c.loop.pass) m.lock number (m.number.1 ∙ (ok.origin.0 ∙ inv.origin)) m.own by.0 owned inv.made all by.1)
+    (ended c.args.bench.now p limit worked history (pass_mine c.loop.pass) m.lock number (m.number.1 ∙ (ok.origin.0 ∙ inv.origin)) m.own by.0 owned inv.made (inl (omega (arith, m.left, ok.number.1, inv.takes))) all by.1)
 
 pub returns-in-Err-clause-asked : goal.returns-in-Err-clause-asked
 returns-in-Err-clause-asked g c =
