@@ -6,7 +6,6 @@ use Rattle.jc_rules.specs.declared.operation.Event.{Event}
 use Rattle.jc_rules.specs.declared.rule.Rule.{Rule}
 use Rattle.jc_rules.specs.Step.{Network, StepIn, AfterIn}
 use Rattle.jc_rules.specs.Trace.{Rows}
-use Rattle.jc_rules.proofs.HistoryLemmas.{same_ends}
 use Rattle.jc_network.specs.NetworkHistory.{Course, StepsTo, network_history}
 use Rattle.jc_network.proofs.AfterLemmas.{after_one_more, take_more}
 use Rattle.jc_network.proofs.HalvesLemmas.{get_front, get_back}
@@ -133,15 +132,6 @@ moved_back d e t n ns sc tr br =
 pub undone : (b : Bool) (old new : Course) → (IsTrue b → old.earlier ≡ network_history new) → (IsFalse b → (new ≡ old) × (old.earlier ≡ [])) → 0 < length old.earlier → old.earlier ≡ network_history new
 undone true old new t f some = t refl
 undone false old new t f some = let none : length old.earlier ≡ 0 = ap length (f refl).1 in absurd (omega (arith, none, some))
-
--- a step that was taken back at once
-pub step_undone : (old made new : Course) → made.earlier ≡ network_history old → made.names ≡ old.names → (b : Bool) → (IsTrue b → made.earlier ≡ network_history new) → (IsFalse b → (new ≡ made) × (made.earlier ≡ [])) → new.names ≡ made.names → new ≡ old
-step_undone old made new grown names b t f named =
-    let some : 0 < length made.earlier = let n : length made.earlier ≡ length old.earlier + 1 = ap length grown ∙ length-append old.earlier (old.network ∷ []) in omega (arith, n) in
-    let back = undone b made new t f some in
-    let both = same_ends new.earlier old.earlier new.network old.network (sym back ∙ grown) in
-    let same_names : new.names ≡ old.names = named ∙ names in
-    λ i. record { names = same_names i; network = both.1 i; earlier = both.0 i }
 
 -- ---- moves one after the other
 

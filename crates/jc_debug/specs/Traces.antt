@@ -26,6 +26,6 @@ rows_if_any None = []
 rows_if_any (Some t) = t.rows
 
 -- The rows are those of the last trace, and there is room for those of each.
-pub record AreAtHand (traces : List Rows) (rows : List (Rule × ℕ)) (room : ℕ) : Type 0 where
+pub record AreAtHand (traces : List Rows) (rows : List (Rule × ℕ)) (capacity : ℕ) : Type 0 where
   pub last : rows ≡ rows_if_any (slice_get traces (length traces - 1))
-  pub room : All (λ t. length t.rows ≤ room) traces
+  pub room : All (λ t. length t.rows ≤ capacity) traces

@@ -1,6 +1,6 @@
 //! Rows of a trace that go down by one rule: the form in which traces.rt keeps them.
 
-ghost use Rattle.std.specs.Prelude.{◌≡◌, ◌+◌, ◌≤◌, ◌×◌, IfSome};
+ghost use Rattle.std.specs.Prelude.{◌≡◌, ◌+◌, ◌≤◌, IfSome};
 
 use jc_rules::Rule;
 
@@ -32,13 +32,13 @@ impl Descent {
         ensures { IfSome result (λ longer. (longer.rule ≡ self.rule) × (longer.depth ≡ self.depth)
             × (longer.count ≡ self.count + 1) × (row ≡ (self.rule, self.depth + self.count))) }
     {
-        if self.rule != row.0 || row.1 < self.depth || row.1 - self.depth != u64::from(self.count) {
-            return None;
+        if self.rule == row.0 && row.1 >= self.depth && row.1 - self.depth == u64::from(self.count) {
+            return Some(Descent {
+                rule: self.rule,
+                count: self.count.checked_add(1)?,
+                depth: self.depth,
+            });
         }
-        Some(Descent {
-            rule: self.rule,
-            count: self.count.checked_add(1)?,
-            depth: self.depth,
-        })
+        None
     }
 }

@@ -1,7 +1,7 @@
 //! The traces of the events that a debugger has made: each is kept short, and the rows of the last one are at hand, in
 //! a list that has room for the longest. So going back takes no memory, and neither does a look at the last trace.
 
-ghost use Rattle.std.specs.Prelude.{◌≡◌, ◌+◌, ◌-◌, ◌<◌, ◌≤◌, ◌++◌, ◌∷◌, ◌↔◌, ◌×◌, [], Some, length, slice_get, vec_len, vec_capacity, IsNone, IfOk, IfSome, OnOk, OnErr};
+ghost use Rattle.std.specs.Prelude.{◌≡◌, ◌+◌, ◌-◌, ◌<◌, ◌≤◌, ◌++◌, ◌∷◌, ◌↔◌, [], Some, length, slice_get, vec_len, vec_capacity, IsNone, IfOk, IfSome, OnOk, OnErr};
 ghost use Rattle.jc_rules.specs.Trace.{Rows};
 ghost use Rattle.jc_debug.specs.Traces.{rows_of, rows_of_all};
 
@@ -84,7 +84,7 @@ impl Traces {
         requires { 0 < length self.old }
         ensures { (t : Rows) × (self.old ≡ self.new ++ t ∷ []) }
     {
-        let _ = self.kept.pop();
+        drop(self.kept.pop());
         self.rows.clear();
         if let Some(descents) = self.kept.last() {
             write_all(descents.as_slice(), &mut self.rows);
@@ -102,17 +102,29 @@ fn descents_of(alloc: Global, rows: &[(Rule, u64)]) -> Result<Vec<Descent>, Allo
     };
     let mut last = Descent::of_row(*first);
     for row in rest {
-        match last.with(*row) {
-            Some(longer) => last = longer,
-            None => {
-                descents.push(last)?;
-                last = Descent::of_row(*row);
-            }
-        }
+        last = go_on(&mut descents, last, *row)?;
     }
     descents.push(last)?;
     descents.shrink_to_fit();
     Ok(descents)
+}
+
+/// Adds a row behind the rows of the descents and of the last one, which isn't among them yet, and returns the last one
+/// then.
+fn go_on(
+    descents: &mut Vec<Descent>,
+    last: Descent,
+    row: (Rule, u64),
+) -> Result<Descent, AllocError>
+    ensures { IfOk result (λ next.
+        rows_of_all descents.new.items ++ rows_of next
+        ≡ (rows_of_all descents.old.items ++ rows_of last) ++ row ∷ []) }
+{
+    if let Some(longer) = last.with(row) {
+        return Ok(longer);
+    }
+    descents.push(last)?;
+    Ok(Descent::of_row(row))
 }
 
 /// Appends the rows of the descents, for which there is room.

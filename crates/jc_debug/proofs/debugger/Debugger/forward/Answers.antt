@@ -15,8 +15,8 @@ returns-in-Err-Stuck-clause-err c =
     let stuck = c.in-Err-Stuck.ensures.stuck c.in-Err-Stuck.stuck (ap Err c.in-Err-Stuck.field-0-is) in
     subst (λ (v : Seen). IsNextHalted v (H.Stuck c.in-Err-Stuck.stuck)) c.self.view_is (told_here d c.self.invariant c.index.result.now event c.in-Err-Stuck.stuck stuck)
 
-pub invariant_of-self-2 : goal.invariant_of-self-2
-invariant_of-self-2 c =
+pub invariant_of-self-else-is_err : goal.invariant_of-self-else-is_err
+invariant_of-self-else-is_err c =
     let d = seen c.self.inside.net c.self.inside.schedule.items c.self.inside.traces c.self.inside.breaks in
     let e = seen c.step.new.self c.self.inside.schedule.items c.push.new.self c.self.inside.breaks in
     let here : c.len.result ≡ length c.self.inside.traces = search rules in
