@@ -50,19 +50,58 @@ impl NodeId {
     }
 }
 
-/// What follows a key, and where to look first for the key that follows: any number will do.
+/// What follows a key, and where to look first for the key that follows: any number will do. The parts of
+/// the identifier that follows are fields of their own, so that the hint fits between them.
 #[derive(Drop)]
 pub struct Link {
-    next: Next,
-    hint: usize,
+    counter: u64,
+    hint: u32,
+    replica: u16,
+    is_tail: bool,
 }
 
 impl Model for Link {
+    ghost use Rattle.std.specs.Prelude.{cond};
     ghost use Rattle.jc_rules.specs.declared.key.Next.{Next as AnyNext};
+    ghost use Rattle.jc_rules.specs.declared.key.Next.TheVariants.{Tail, Elem};
 
     ghost Value = { AnyNext };
 
-    ghost view = { λ a. a.next };
+    ghost view = { λ a. cond a.is_tail Tail (Elem (record { counter = a.counter; replica = a.replica })) };
+}
+
+impl Link {
+    fn new(next: Next, hint: u32) -> Self
+        ensures { result ≡ next }
+    {
+        match next {
+            Next::Tail => Link {
+                counter: 0,
+                hint,
+                replica: 0,
+                is_tail: true,
+            },
+            Next::Elem(id) => Link {
+                counter: id.counter,
+                hint,
+                replica: id.replica,
+                is_tail: false,
+            },
+        }
+    }
+
+    /// What follows.
+    fn next(&self) -> Next
+        ensures { result ≡ self.now }
+    {
+        if self.is_tail {
+            return Next::Tail;
+        }
+        Next::Elem(Id {
+            counter: self.counter,
+            replica: self.replica,
+        })
+    }
 }
 
 /// A context whose children are named by the numbers of their nodes: its keys, numbered by first use,
@@ -127,9 +166,12 @@ fn recounted(most: usize, count: usize, was: bool, is: bool) -> usize
 }
 
 /// Where to look first for the key that follows.
-fn hint_of(keys: &KeyTable, next: Next) -> usize {
+fn hint_of(keys: &KeyTable, next: Next) -> u32 {
     match next {
-        Next::Elem(id) => keys.number(&Key::Elem(id)).unwrap_or(0),
+        Next::Elem(id) => {
+            let number = keys.number(&Key::Elem(id)).unwrap_or(0);
+            u32::try_from(number).unwrap_or(0)
+        }
         Next::Tail => 0,
     }
 }
@@ -138,13 +180,15 @@ fn hint_of(keys: &KeyTable, next: Next) -> usize {
 fn next_of(link: Option<&Link>) -> Option<Next>
     ensures { result ≡ option_copied link.entry }
 {
-    Some(link?.next)
+    Some(link?.next())
 }
 
 /// The link's hint, or else the given one.
 fn hint_after(link: Option<&Link>, hint: Hint) -> Hint {
     match link {
-        Some(link) => Hint { number: link.hint },
+        Some(link) => Hint {
+            number: link.hint as usize,
+        },
         None => hint,
     }
 }
@@ -278,7 +322,7 @@ impl ArenaNode {
     pub fn next(&self, key: &Key) -> Option<Next>
         ensures { result ≡ find key_cmp key.now self.now.links }
     {
-        Some(value_in(&self.keys, self.links.as_slice(), key)?.next)
+        Some(value_in(&self.keys, self.links.as_slice(), key)?.next())
     }
 
     /// The values of the key's register.
@@ -289,6 +333,7 @@ impl ArenaNode {
     }
 
     /// What a walk along a list reads of the key; `hint` is where to look first.
+    #[inline(always)]
     pub fn step(&self, key: &Key, hint: Hint) -> Step
         ensures next { result.next ≡ find key_cmp key.now self.now.links }
         ensures present { result.present ≡ has_ids (or_no_entries (find key_cmp key.now self.now.presences)) }
@@ -401,9 +446,9 @@ impl ArenaNode {
         ensures err { OnErr result (self.new ≡ self.old) }
     {
         let hint = hint_of(&self.keys, next);
-        let former = put_in(&mut self.keys, &mut self.links, &key, Link { next, hint })?;
+        let former = put_in(&mut self.keys, &mut self.links, &key, Link::new(next, hint))?;
         let former = match former {
-            Some(link) => Some(link.next),
+            Some(link) => Some(link.next()),
             None => None,
         };
         Ok(Former::Link(key, former))
@@ -459,10 +504,7 @@ impl ArenaNode {
         ensures { self.new ≡ restored_flat (Former.Link key.now former) self.old }
     {
         let link = match former {
-            Some(next) => Some(Link {
-                next,
-                hint: hint_of(&self.keys, next),
-            }),
+            Some(next) => Some(Link::new(next, hint_of(&self.keys, next))),
             None => None,
         };
         drop(restore_in(&self.keys, &mut self.links, key, link));
