@@ -14,9 +14,11 @@ use crate::ids::Ids;
 use crate::keys::KeyTable;
 use crate::lists::Pairs;
 use crate::node::{Change, Former};
+use crate::presences::{Presences, is_inhabited};
 use crate::store::{Hint, Step};
 use crate::tables::{
-    add_in, key_above_in, put_in, put_value_in, restore_in, restore_value_in, take_out_in, value_in,
+    add_in, key_above_in, put_in, put_set_in, put_value_in, restore_in, restore_set_in,
+    restore_value_in, take_out_in, value_in,
 };
 use jc_rules::{Id, Key, Next, Tagged, Value};
 use std::alloc::{AllocError, Global};
@@ -112,7 +114,7 @@ pub struct ArenaNode {
     maps: Vec<Option<NodeId>>,
     lists: Vec<Option<NodeId>>,
     registers: Vec<Option<Pairs>>,
-    presences: Vec<Option<Ids>>,
+    presences: Presences,
     links: Vec<Option<Link>>,
     present: usize,
 }
@@ -123,9 +125,9 @@ impl Model for ArenaNode {
 
     ghost Value = { Flat };
 
-    ghost view = { λ a. flat_of a.keys a.maps.items a.lists.items a.registers.items a.presences.items a.links.items };
+    ghost view = { λ a. flat_of a.keys a.maps.items a.lists.items a.registers.items a.presences a.links.items };
 
-    ghost invariant = { λ a. IsNodeOf a.keys a.maps.items a.lists.items a.registers.items a.presences.items
+    ghost invariant = { λ a. IsNodeOf a.keys a.maps.items a.lists.items a.registers.items a.presences
         a.links.items a.present };
 }
 
@@ -138,16 +140,6 @@ pub fn former_of_node(key: Tagged) -> Former
         Tagged::MapT(key) => Former::Map(key),
         Tagged::ListT(key) => Former::List(key),
         Tagged::RegT(_) => unreachable!(),
-    }
-}
-
-/// Whether there is a set, and it has an identifier.
-fn is_inhabited(set: Option<&Ids>) -> bool
-    ensures { result ≡ has_ids (or_no_entries (option_copied set.entry)) }
-{
-    match set {
-        Some(ids) => !ids.is_empty(),
-        None => false,
     }
 }
 
@@ -230,16 +222,16 @@ fn trim(
     maps: &mut Vec<Option<NodeId>>,
     lists: &mut Vec<Option<NodeId>>,
     registers: &mut Vec<Option<Pairs>>,
-    presences: &mut Vec<Option<Ids>>,
+    presences: &mut Presences,
     links: &mut Vec<Option<Link>>,
 )
-    requires { AreWithin keys.old maps.old.items lists.old.items registers.old.items presences.old.items
+    requires { AreWithin keys.old maps.old.items lists.old.items registers.old.items presences.old
         links.old.items }
-    ensures within { AreWithin keys.new maps.new.items lists.new.items registers.new.items presences.new.items
+    ensures within { AreWithin keys.new maps.new.items lists.new.items registers.new.items presences.new
         links.new.items }
-    ensures seen { flat_of keys.new maps.new.items lists.new.items registers.new.items presences.new.items
+    ensures seen { flat_of keys.new maps.new.items lists.new.items registers.new.items presences.new
         links.new.items
-        ≡ flat_of keys.old maps.old.items lists.old.items registers.old.items presences.old.items links.old.items }
+        ≡ flat_of keys.old maps.old.items lists.old.items registers.old.items presences.old links.old.items }
 {
     while let Some(last) = keys.len().checked_sub(1) {
         if !is_bare(
@@ -256,7 +248,7 @@ fn trim(
         cut(maps, last);
         cut(lists, last);
         cut(registers, last);
-        cut(presences, last);
+        presences.cut(last);
         cut(links, last);
     }
 }
@@ -271,7 +263,7 @@ impl ArenaNode {
             maps: Vec::new(alloc),
             lists: Vec::new(alloc),
             registers: Vec::new(alloc),
-            presences: Vec::new(alloc),
+            presences: Presences::new(alloc),
             links: Vec::new(alloc),
             present: 0,
         }
@@ -345,7 +337,7 @@ impl ArenaNode {
                 hint,
             };
         };
-        let present = is_inhabited(value_at(self.presences.as_slice(), number));
+        let present = self.presences.is_inhabited(number);
         let link = value_at(self.links.as_slice(), number);
         let next = next_of(link);
         let hint = hint_after(link, hint);
@@ -433,7 +425,7 @@ impl ArenaNode {
         ensures err { OnErr result (self.new ≡ self.old) }
     {
         let is = !ids.is_empty();
-        let former = put_in(&mut self.keys, &mut self.presences, &key, ids)?;
+        let former = put_set_in(&mut self.keys, &mut self.presences, &key, ids)?;
         let was = is_inhabited(former.as_ref());
         self.present = recounted(self.keys.count(), self.present, was, is);
         Ok(Former::Presence(key, former))
@@ -494,7 +486,7 @@ impl ArenaNode {
         ensures { self.new ≡ restored_flat (Former.Presence key.now former) self.old }
     {
         let is = is_inhabited(former.as_ref());
-        if let Some(ids) = restore_in(&self.keys, &mut self.presences, key, former) {
+        if let Some(ids) = restore_set_in(&self.keys, &mut self.presences, key, former) {
             self.present = recounted(self.keys.count(), self.present, !ids.is_empty(), is);
         }
     }
