@@ -1,5 +1,5 @@
 -- About Flags: flags once a set has changed.
-use Rattle.std.proofs.Common.{◌≡◌, ◌≢◌, ◌==◌, ◌<◌, ◌≤◌, ◌-◌, ℕ, zero, suc, List, [], ◌∷◌, ◌++◌, length, take, replicate, slice_get, slice_set, get_or, Bool, true, false, not, Option, Some, None, refl, sym, ◌∙◌, ap, true≢false, arith}
+use Rattle.std.proofs.Common.{◌≡◌, ◌≢◌, ◌==◌, ◌<◌, ◌≤◌, ◌-◌, ℕ, zero, suc, List, [], ◌∷◌, ◌++◌, length, take, replicate, slice_get, slice_set, get_or, Bool, true, false, not, Option, Some, None, option_map, refl, sym, ◌∙◌, ap, true≢false, arith}
 use Rattle.std.proofs.lemmas.Bool.{eqb-true, eq-eqb}
 use Rattle.std.proofs.lemmas.List.{get_or-set_same, get_or-set_other, length-set}
 use Rattle.jc_rules.specs.declared.id.Id.{Id}
@@ -97,14 +97,15 @@ flags_cut most fs gs sets new a g e =
     let cut : AreFlags (take most fs) (take most sets) = record { within = shorter most sets fs a.within; same = cut_same most fs sets a.same } in
     rw (g, e) cut
 
--- a set of which the identifier wasn't the last one has one where it had one
-pub not_last : (i : Id) (s : List Id) → is_last i s ≡ false → has_ids (taken_out i s) ≡ has_ids s
-not_last i [] h = refl
-not_last i (j ∷ js) h = go (has_ids (taken_out i (j ∷ js))) refl h
+-- nothing is left of a set once its last identifier is taken out
+pub none_left : (i : Id) (o : Option (List Id)) → is_last i (or_no_entries o) ≡ true → inhabited (option_map (λ s. taken_out i s) o) ≡ false
+none_left i None h = refl
+none_left i (Some []) h = refl
+none_left i (Some (j ∷ js)) h = go (has_ids (taken_out i (j ∷ js))) refl h
   where
-    go : (b : Bool) → has_ids (taken_out i (j ∷ js)) ≡ b → not (has_ids (taken_out i (j ∷ js))) ≡ false → has_ids (taken_out i (j ∷ js)) ≡ true
-    go true q n = q
-    go false q n = let c : true ≡ false = rw q at n in cc
+    go : (b : Bool) → has_ids (taken_out i (j ∷ js)) ≡ b → not (has_ids (taken_out i (j ∷ js))) ≡ true → has_ids (taken_out i (j ∷ js)) ≡ false
+    go true q n = let c : false ≡ true = rw q at n in cc
+    go false q n = q
 
 -- an identifier that is taken out of the set at a key's number
 module _ (k : Key) (n : ℕ) (i : Id) (col new : List (Option (List Id))) (t : Numbering) (is : IsNumbered t) (f : find key_cmp k t.order ≡ Some n) (l : length col ≤ length t.keys) (some : (s : List Id) → at_number col n ≡ Some s → IsSetAt n (Some (taken_out i s)) col new) (none : at_number col n ≡ None → new ≡ col) where
