@@ -1,17 +1,19 @@
 -- About Flags: flags once a set has changed.
-use Rattle.std.proofs.Common.{◌≡◌, ◌≢◌, ◌==◌, ◌<◌, ◌≤◌, ◌-◌, ℕ, zero, suc, List, [], ◌∷◌, ◌++◌, length, take, replicate, slice_get, slice_set, get_or, Bool, true, false, not, Option, Some, None, option_map, refl, sym, ◌∙◌, ap, true≢false, arith}
+use Rattle.std.proofs.Common.{◌≡◌, ◌≢◌, ◌==◌, ◌<◌, ◌≤◌, ◌-◌, ℕ, zero, suc, List, [], ◌∷◌, ◌++◌, length, take, replicate, slice_get, slice_set, get_or, Bool, true, false, not, Option, Some, None, option_map, refl, sym, ◌∙◌, ap, subst, true≢false, arith}
 use Rattle.std.proofs.lemmas.Bool.{eqb-true, eq-eqb}
 use Rattle.std.proofs.lemmas.List.{get_or-set_same, get_or-set_other, length-set}
 use Rattle.jc_rules.specs.declared.id.Id.{Id}
 use Rattle.jc_rules.specs.declared.key.Key.{Key}
 use Rattle.jc_rules.specs.Order.{key_cmp}
 use Rattle.jc_rules.specs.Entries.{find}
+use Rattle.jc_tree.specs.Arena.{go_on}
 use Rattle.jc_tree.specs.Tree.{or_no_entries, has_ids}
 use Rattle.jc_tree.specs.Counted.{is_last}
 use Rattle.jc_tree.specs.Undo.{taken_out, out_of_set}
 use Rattle.jc_tree.specs.Numbered.{Numbering, IsNumbered, at_number, IsSetAt, column_entries}
 use Rattle.jc_tree.specs.Numbered.GetsNumber.{had}
 use Rattle.jc_tree.proofs.ColumnLemmas.{number_within, former_column, put_column}
+use Rattle.jc_tree.proofs.TablesLemmas.{slot_set, set_back}
 use Rattle.jc_tree.specs.Flags.{flag_at, AreFlags}
 
 abbrev inhabited : Option (List Id) → Bool
@@ -106,6 +108,21 @@ none_left i (Some (j ∷ js)) h = go (has_ids (taken_out i (j ∷ js))) refl h
     go : (b : Bool) → has_ids (taken_out i (j ∷ js)) ≡ b → not (has_ids (taken_out i (j ∷ js))) ≡ true → has_ids (taken_out i (j ∷ js)) ≡ false
     go true q n = let c : false ≡ true = rw q at n in cc
     go false q n = q
+
+-- the set that a column lends, which is now seen as another list
+module _ (col now : List (Option (List Id))) (n : ℕ) (w : Option (List Id)) (here : slice_get col n ≡ Some w) (seen : col ≡ now) where
+  pub lent : w ≡ at_number now n
+  lent = sym (ap (λ p. go_on p (λ o. o)) here) ∙ ap (λ (t : List (Option (List Id))). at_number t n) seen
+
+  -- what is written there is set there
+  pub lent_set : (v o : Option (List Id)) → v ≡ o → IsSetAt n o now (slice_set col n v)
+  lent_set v o e = subst (λ t. IsSetAt n o t (slice_set col n v)) seen (subst (λ p. IsSetAt n p col (slice_set col n v)) e (slot_set n v w col here))
+
+  -- where there is none, none is written back
+  pub lent_none : (i : Id) (v : Option (List Id)) → v ≡ option_map (λ s. taken_out i s) w → at_number now n ≡ None → slice_set col n v ≡ now
+  lent_none i v e h =
+      let none : w ≡ None = lent ∙ h in
+      set_back n v w col here (e ∙ ap (λ (o : Option (List Id)). option_map (λ s. taken_out i s) o) none ∙ sym none) ∙ seen
 
 -- an identifier that is taken out of the set at a key's number
 module _ (k : Key) (n : ℕ) (i : Id) (col new : List (Option (List Id))) (t : Numbering) (is : IsNumbered t) (f : find key_cmp k t.order ≡ Some n) (l : length col ≤ length t.keys) (some : (s : List Id) → at_number col n ≡ Some s → IsSetAt n (Some (taken_out i s)) col new) (none : at_number col n ≡ None → new ≡ col) where
