@@ -26,4 +26,5 @@ pub mod ShownLeastLemmas
 pub mod NumberedLemmas
 pub mod ColumnLemmas
 pub mod TablesLemmas
+pub mod FlagsLemmas
 pub mod ArenaNodeLemmas

@@ -26,11 +26,11 @@ module _ {X : Type 0} where
 
 module _ {X : Type 0} where
   -- what is written in a slot is set there
-  slot_set : (n : ℕ) (o w : Option X) (col : List (Option X)) → slice_get col n ≡ Some w → IsSetAt n o col (slice_set col n o)
+  pub slot_set : (n : ℕ) (o w : Option X) (col : List (Option X)) → slice_get col n ≡ Some w → IsSetAt n o col (slice_set col n o)
   slot_set n o w col h = set_at n o col (some_within col n w h)
 
   -- a value that is written back leaves the column as it was
-  set_back : (n : ℕ) (o w : Option X) (col : List (Option X)) → slice_get col n ≡ Some w → o ≡ w → slice_set col n o ≡ col
+  pub set_back : (n : ℕ) (o w : Option X) (col : List (Option X)) → slice_get col n ≡ Some w → o ≡ w → slice_set col n o ≡ col
   set_back n o w col h e = ap (λ p. slice_set col n p) e ∙ set_same col n w h
 
   -- what is found, by the slot at the key's number

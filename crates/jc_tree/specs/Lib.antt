@@ -12,4 +12,5 @@ pub mod Arena
 pub mod ArenaUndo
 pub mod Counted
 pub mod Numbered
+pub mod Flags
 pub mod Tables

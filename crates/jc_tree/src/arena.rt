@@ -292,6 +292,7 @@ impl TreeStore for ArenaTree {
         self.change_node(node, Change::AddId(key.copy()?, id))
     }
 
+    #[inline(always)]
     fn step_by(&self, place: Place, at: &[Tagged], key: &Key, hint: Hint) -> Step {
         self.node(NodeId::new(place.number)).step(key, hint)
     }

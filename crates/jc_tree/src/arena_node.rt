@@ -14,9 +14,11 @@ use crate::ids::Ids;
 use crate::keys::KeyTable;
 use crate::lists::Pairs;
 use crate::node::{Change, Former};
+use crate::presences::{Presences, is_inhabited};
 use crate::store::{Hint, Step};
 use crate::tables::{
-    add_in, key_above_in, put_in, put_value_in, restore_in, restore_value_in, take_out_in, value_in,
+    add_in, key_above_in, put_in, put_set_in, put_value_in, restore_in, restore_set_in,
+    restore_value_in, take_out_in, value_in,
 };
 use jc_rules::{Id, Key, Next, Tagged, Value};
 use std::alloc::{AllocError, Global};
@@ -50,19 +52,58 @@ impl NodeId {
     }
 }
 
-/// What follows a key, and where to look first for the key that follows: any number will do.
+/// What follows a key, and where to look first for the key that follows: any number will do. The parts of
+/// the identifier that follows are fields of their own, so that the hint fits between them.
 #[derive(Drop)]
 pub struct Link {
-    next: Next,
-    hint: usize,
+    counter: u64,
+    hint: u32,
+    replica: u16,
+    is_tail: bool,
 }
 
 impl Model for Link {
+    ghost use Rattle.std.specs.Prelude.{cond};
     ghost use Rattle.jc_rules.specs.declared.key.Next.{Next as AnyNext};
+    ghost use Rattle.jc_rules.specs.declared.key.Next.TheVariants.{Tail, Elem};
 
     ghost Value = { AnyNext };
 
-    ghost view = { λ a. a.next };
+    ghost view = { λ a. cond a.is_tail Tail (Elem (record { counter = a.counter; replica = a.replica })) };
+}
+
+impl Link {
+    fn new(next: Next, hint: u32) -> Self
+        ensures { result ≡ next }
+    {
+        match next {
+            Next::Tail => Link {
+                counter: 0,
+                hint,
+                replica: 0,
+                is_tail: true,
+            },
+            Next::Elem(id) => Link {
+                counter: id.counter,
+                hint,
+                replica: id.replica,
+                is_tail: false,
+            },
+        }
+    }
+
+    /// What follows.
+    fn next(&self) -> Next
+        ensures { result ≡ self.now }
+    {
+        if self.is_tail {
+            return Next::Tail;
+        }
+        Next::Elem(Id {
+            counter: self.counter,
+            replica: self.replica,
+        })
+    }
 }
 
 /// A context whose children are named by the numbers of their nodes: its keys, numbered by first use,
@@ -73,7 +114,7 @@ pub struct ArenaNode {
     maps: Vec<Option<NodeId>>,
     lists: Vec<Option<NodeId>>,
     registers: Vec<Option<Pairs>>,
-    presences: Vec<Option<Ids>>,
+    presences: Presences,
     links: Vec<Option<Link>>,
     present: usize,
 }
@@ -84,9 +125,9 @@ impl Model for ArenaNode {
 
     ghost Value = { Flat };
 
-    ghost view = { λ a. flat_of a.keys a.maps.items a.lists.items a.registers.items a.presences.items a.links.items };
+    ghost view = { λ a. flat_of a.keys a.maps.items a.lists.items a.registers.items a.presences a.links.items };
 
-    ghost invariant = { λ a. IsNodeOf a.keys a.maps.items a.lists.items a.registers.items a.presences.items
+    ghost invariant = { λ a. IsNodeOf a.keys a.maps.items a.lists.items a.registers.items a.presences
         a.links.items a.present };
 }
 
@@ -99,16 +140,6 @@ pub fn former_of_node(key: Tagged) -> Former
         Tagged::MapT(key) => Former::Map(key),
         Tagged::ListT(key) => Former::List(key),
         Tagged::RegT(_) => unreachable!(),
-    }
-}
-
-/// Whether there is a set, and it has an identifier.
-fn is_inhabited(set: Option<&Ids>) -> bool
-    ensures { result ≡ has_ids (or_no_entries (option_copied set.entry)) }
-{
-    match set {
-        Some(ids) => !ids.is_empty(),
-        None => false,
     }
 }
 
@@ -127,9 +158,12 @@ fn recounted(most: usize, count: usize, was: bool, is: bool) -> usize
 }
 
 /// Where to look first for the key that follows.
-fn hint_of(keys: &KeyTable, next: Next) -> usize {
+fn hint_of(keys: &KeyTable, next: Next) -> u32 {
     match next {
-        Next::Elem(id) => keys.number(&Key::Elem(id)).unwrap_or(0),
+        Next::Elem(id) => {
+            let number = keys.number(&Key::Elem(id)).unwrap_or(0);
+            u32::try_from(number).unwrap_or(0)
+        }
         Next::Tail => 0,
     }
 }
@@ -138,13 +172,15 @@ fn hint_of(keys: &KeyTable, next: Next) -> usize {
 fn next_of(link: Option<&Link>) -> Option<Next>
     ensures { result ≡ option_copied link.entry }
 {
-    Some(link?.next)
+    Some(link?.next())
 }
 
 /// The link's hint, or else the given one.
 fn hint_after(link: Option<&Link>, hint: Hint) -> Hint {
     match link {
-        Some(link) => Hint { number: link.hint },
+        Some(link) => Hint {
+            number: link.hint as usize,
+        },
         None => hint,
     }
 }
@@ -186,17 +222,17 @@ fn trim(
     maps: &mut Vec<Option<NodeId>>,
     lists: &mut Vec<Option<NodeId>>,
     registers: &mut Vec<Option<Pairs>>,
-    presences: &mut Vec<Option<Ids>>,
+    presences: &mut Presences,
     links: &mut Vec<Option<Link>>,
 )
-    requires { AreWithin keys.old maps.old.items lists.old.items registers.old.items presences.old.items
+    requires { AreWithin keys.old maps.old.items lists.old.items registers.old.items presences.old
         links.old.items }
-    ensures within { AreWithin keys.new maps.new.items lists.new.items registers.new.items presences.new.items
+    ensures within { AreWithin keys.new maps.new.items lists.new.items registers.new.items presences.new
         links.new.items }
-    ensures seen { flat_of keys.new maps.new.items lists.new.items registers.new.items presences.new.items
+    ensures seen { flat_of keys.new maps.new.items lists.new.items registers.new.items presences.new
         links.new.items
-        ≡ flat_of keys.old maps.old.items lists.old.items registers.old.items presences.old.items links.old.items }
-    ensures trimmed { IsTrimmed keys.new maps.new.items lists.new.items registers.new.items presences.new.items
+        ≡ flat_of keys.old maps.old.items lists.old.items registers.old.items presences.old links.old.items }
+    ensures trimmed { IsTrimmed keys.new maps.new.items lists.new.items registers.new.items presences.new
         links.new.items }
 {
     while let Some(last) = keys.len().checked_sub(1) {
@@ -214,7 +250,7 @@ fn trim(
         cut(maps, last);
         cut(lists, last);
         cut(registers, last);
-        cut(presences, last);
+        presences.cut(last);
         cut(links, last);
     }
 }
@@ -229,7 +265,7 @@ impl ArenaNode {
             maps: Vec::new(alloc),
             lists: Vec::new(alloc),
             registers: Vec::new(alloc),
-            presences: Vec::new(alloc),
+            presences: Presences::new(alloc),
             links: Vec::new(alloc),
             present: 0,
         }
@@ -280,7 +316,7 @@ impl ArenaNode {
     pub fn next(&self, key: &Key) -> Option<Next>
         ensures { result ≡ find key_cmp key.now self.now.links }
     {
-        Some(value_in(&self.keys, self.links.as_slice(), key)?.next)
+        Some(value_in(&self.keys, self.links.as_slice(), key)?.next())
     }
 
     /// The values of the key's register.
@@ -291,6 +327,7 @@ impl ArenaNode {
     }
 
     /// What a walk along a list reads of the key; `hint` is where to look first.
+    #[inline(always)]
     pub fn step(&self, key: &Key, hint: Hint) -> Step
         ensures next { result.next ≡ find key_cmp key.now self.now.links }
         ensures present { result.present ≡ has_ids (or_no_entries (find key_cmp key.now self.now.presences)) }
@@ -302,7 +339,7 @@ impl ArenaNode {
                 hint,
             };
         };
-        let present = is_inhabited(value_at(self.presences.as_slice(), number));
+        let present = self.presences.is_inhabited(number);
         let link = value_at(self.links.as_slice(), number);
         let next = next_of(link);
         let hint = hint_after(link, hint);
@@ -390,7 +427,7 @@ impl ArenaNode {
         ensures err { OnErr result (self.new ≡ self.old) }
     {
         let is = !ids.is_empty();
-        let former = put_in(&mut self.keys, &mut self.presences, &key, ids)?;
+        let former = put_set_in(&mut self.keys, &mut self.presences, &key, ids)?;
         let was = is_inhabited(former.as_ref());
         self.present = recounted(self.keys.count(), self.present, was, is);
         Ok(Former::Presence(key, former))
@@ -403,9 +440,9 @@ impl ArenaNode {
         ensures err { OnErr result (self.new ≡ self.old) }
     {
         let hint = hint_of(&self.keys, next);
-        let former = put_in(&mut self.keys, &mut self.links, &key, Link { next, hint })?;
+        let former = put_in(&mut self.keys, &mut self.links, &key, Link::new(next, hint))?;
         let former = match former {
-            Some(link) => Some(link.next),
+            Some(link) => Some(link.next()),
             None => None,
         };
         Ok(Former::Link(key, former))
@@ -451,7 +488,7 @@ impl ArenaNode {
         ensures { self.new ≡ restored_flat (Former.Presence key.now former) self.old }
     {
         let is = is_inhabited(former.as_ref());
-        if let Some(ids) = restore_in(&self.keys, &mut self.presences, key, former) {
+        if let Some(ids) = restore_set_in(&self.keys, &mut self.presences, key, former) {
             self.present = recounted(self.keys.count(), self.present, !ids.is_empty(), is);
         }
     }
@@ -461,10 +498,7 @@ impl ArenaNode {
         ensures { self.new ≡ restored_flat (Former.Link key.now former) self.old }
     {
         let link = match former {
-            Some(next) => Some(Link {
-                next,
-                hint: hint_of(&self.keys, next),
-            }),
+            Some(next) => Some(Link::new(next, hint_of(&self.keys, next))),
             None => None,
         };
         drop(restore_in(&self.keys, &mut self.links, key, link));

@@ -1,6 +1,6 @@
 //! The keys of a fast store's node, numbered by first use, with their order beside.
 
-ghost use Rattle.std.specs.Prelude.{◌≡◌, ◌-◌, [], length, take, slice_get, option_copied, Some, IfOk, IfSome, OnErr};
+ghost use Rattle.std.specs.Prelude.{◌≡◌, ◌-◌, ◌↔◌, [], length, take, slice_get, option_copied, Some, IsTrue, IfOk, IfSome, OnErr};
 ghost use Rattle.std.specs.Option.{option_map};
 ghost use Rattle.jc_rules.specs.Order.{key_cmp};
 ghost use Rattle.jc_rules.specs.Entries.{find, keys_of};
@@ -15,6 +15,16 @@ use std::alloc::{AllocError, Global};
 use std::collections::BTreeMap;
 use std::marker::Model;
 use std::ops::Bound;
+
+/// Whether the keys are the same. Elements are compared here, since a walk along a list compares no others.
+fn is_same(first: &Key, second: &Key) -> bool
+    ensures { IsTrue result ↔ first.now ≡ second.now }
+{
+    match (first, second) {
+        (Key::Elem(element), Key::Elem(other)) => element == other,
+        _ => first == second,
+    }
+}
 
 /// Keys with their numbers. A key's number is its place among the first uses.
 #[derive(Drop)]
@@ -58,6 +68,7 @@ impl KeyTable {
     }
 
     /// The key's number.
+    #[inline(never)]
     pub fn number(&self, key: &Key) -> Option<usize>
         ensures found { result ≡ find key_cmp key.now self.now.order }
         ensures numbered { IsNumbered self.now }
@@ -66,12 +77,13 @@ impl KeyTable {
     }
 
     /// The key's number, which may be the given one: then no search is needed.
+    #[inline(always)]
     pub fn number_near(&self, key: &Key, hint: usize) -> Option<usize>
         ensures found { result ≡ find key_cmp key.now self.now.order }
         ensures numbered { IsNumbered self.now }
     {
         match self.keys.get_index(hint) {
-            Some(there) if there == key => Some(hint),
+            Some(there) if is_same(there, key) => Some(hint),
             _ => self.number(key),
         }
     }

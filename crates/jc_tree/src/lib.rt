@@ -12,6 +12,7 @@ pub mod laws;
 mod lists;
 mod node;
 mod plain;
+mod presences;
 mod store;
 mod tables;
 

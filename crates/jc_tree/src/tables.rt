@@ -16,6 +16,7 @@ use crate::ids::Ids;
 use crate::keys::KeyTable;
 use crate::lists::Pairs;
 use crate::node::Former;
+use crate::presences::Presences;
 use jc_rules::{Id, Key, Value};
 use std::alloc::{AllocError, Global};
 
@@ -87,94 +88,86 @@ pub fn key_above_in<'a, X>(
     None
 }
 
-/// Adds the identifier to the set, a new one where there is none. Returns the undo record, by the set's
-/// key, and whether the set had an identifier before. After a refusal the set is as it was.
-fn add_to_set(
-    set: &mut Option<Ids>,
-    key: Key,
-    id: Id,
-    alloc: Global,
-) -> Result<(Former, bool), AllocError>
-    ensures ok { OnOk result (set.new ≡ Some (with_id id (or_no_entries set.old))) }
-    ensures former { IfOk result (λ added. added.0 ≡ former_of_id key id set.old) }
-    ensures was { IfOk result (λ added. added.1 ≡ has_ids (or_no_entries set.old)) }
-    ensures err { OnErr result (set.new ≡ set.old) }
+/// Puts the key's presence set, and returns the one that was there. After a refusal the sets are as they
+/// were.
+pub fn put_set_in(
+    keys: &mut KeyTable,
+    sets: &mut Presences,
+    key: &Key,
+    ids: Ids,
+) -> Result<Option<Ids>, AllocError>
+    requires { length sets.old ≤ length keys.old.keys }
+    ensures numbers { MayNumber key.now keys.old keys.new }
+    ensures within { length sets.new ≤ length keys.new.keys }
+    ensures ok { OnOk result (column_entries sets.new keys.new
+        ≡ put key_cmp key.now ids (column_entries sets.old keys.old)) }
+    ensures former { IfOk result (λ former. former ≡ find key_cmp key.now (column_entries sets.old keys.old)) }
+    ensures err { OnErr result (column_entries sets.new keys.new ≡ column_entries sets.old keys.old) }
 {
-    let Some(ids) = set else {
-        *set = Some(Ids::single(id, alloc)?);
-        return Ok((Former::Presence(key, None), false));
-    };
-    let was = !ids.is_empty();
-    let had = ids.contains(id);
-    ids.insert(id)?;
-    let former = if had {
-        Former::Same
-    } else {
-        Former::NoId(key, id)
-    };
-    Ok((former, was))
+    let number = keys.number_of(key)?;
+    let former = sets.put(number, ids)?;
+    Ok(former)
+}
+
+/// Gives the key the presence set that it had, or takes its own away where it had none, and returns the
+/// one that was there. It takes no memory: a key without a set gets none.
+pub fn restore_set_in(
+    keys: &KeyTable,
+    sets: &mut Presences,
+    key: &Key,
+    former: Option<Ids>,
+) -> Option<Ids>
+    requires { length sets.old ≤ length keys.now.keys }
+    ensures within { length sets.new ≤ length keys.now.keys }
+    ensures ok { column_entries sets.new keys.now
+        ≡ restored key_cmp key.now former (column_entries sets.old keys.now) }
+    ensures stood { result ≡ find key_cmp key.now (column_entries sets.old keys.now) }
+{
+    let number = keys.number(key)?;
+    sets.restore(number, former)
 }
 
 /// Adds the identifier to the key's set, a new one where there is none. Returns the undo record, and
 /// whether the set had an identifier before. After a refusal the sets are as they were.
 pub fn add_in(
     keys: &mut KeyTable,
-    sets: &mut Vec<Option<Ids>>,
+    sets: &mut Presences,
     key: Key,
     id: Id,
     alloc: Global,
 ) -> Result<(Former, bool), AllocError>
-    requires { length sets.old.items ≤ length keys.old.keys }
+    requires { length sets.old ≤ length keys.old.keys }
     ensures numbers { MayNumber key keys.old keys.new }
-    ensures within { length sets.new.items ≤ length keys.new.keys }
-    ensures ok { OnOk result (column_entries sets.new.items keys.new
-        ≡ put key_cmp key (with_id id (or_no_entries (find key_cmp key (column_entries sets.old.items keys.old))))
-        (column_entries sets.old.items keys.old)) }
+    ensures within { length sets.new ≤ length keys.new.keys }
+    ensures ok { OnOk result (column_entries sets.new keys.new
+        ≡ put key_cmp key (with_id id (or_no_entries (find key_cmp key (column_entries sets.old keys.old))))
+        (column_entries sets.old keys.old)) }
     ensures former { IfOk result (λ added.
-        added.0 ≡ former_of_id key id (find key_cmp key (column_entries sets.old.items keys.old))) }
+        added.0 ≡ former_of_id key id (find key_cmp key (column_entries sets.old keys.old))) }
     ensures was { IfOk result (λ added.
-        added.1 ≡ has_ids (or_no_entries (find key_cmp key (column_entries sets.old.items keys.old)))) }
-    ensures err { OnErr result (column_entries sets.new.items keys.new ≡ column_entries sets.old.items keys.old) }
+        added.1 ≡ has_ids (or_no_entries (find key_cmp key (column_entries sets.old keys.old)))) }
+    ensures err { OnErr result (column_entries sets.new keys.new ≡ column_entries sets.old keys.old) }
 {
     let number = keys.number_of(&key)?;
-    let Some(set) = sets.get_mut(number) else {
-        put_at(sets, number, Ids::single(id, alloc)?)?;
-        return Ok((Former::Presence(key, None), false));
-    };
-    add_to_set(set, key, id, alloc)
-}
-
-/// Takes the identifier out of the set, if there is one. Returns whether it was the last one of the set.
-fn take_out_of_set(set: &mut Option<Ids>, id: Id) -> bool
-    ensures ok { set.new ≡ option_map (λ s. taken_out id s) set.old }
-    ensures last { result ≡ is_last id (or_no_entries set.old) }
-{
-    let Some(ids) = set else {
-        return false;
-    };
-    let was = !ids.is_empty();
-    ids.take_out(id);
-    was && ids.is_empty()
+    let added = sets.add(number, key, id, alloc)?;
+    Ok(added)
 }
 
 /// Takes the identifier out of the key's set, where there is one. Returns whether it was the last one
 /// of the set. It takes no memory.
-pub fn take_out_in(keys: &KeyTable, sets: &mut Vec<Option<Ids>>, key: &Key, id: Id) -> bool
-    requires { length sets.old.items ≤ length keys.now.keys }
-    ensures within { length sets.new.items ≤ length keys.now.keys }
-    ensures ok { column_entries sets.new.items keys.now
-        ≡ out_of_set key.now id (find key_cmp key.now (column_entries sets.old.items keys.now))
-        (column_entries sets.old.items keys.now) }
+pub fn take_out_in(keys: &KeyTable, sets: &mut Presences, key: &Key, id: Id) -> bool
+    requires { length sets.old ≤ length keys.now.keys }
+    ensures within { length sets.new ≤ length keys.now.keys }
+    ensures ok { column_entries sets.new keys.now
+        ≡ out_of_set key.now id (find key_cmp key.now (column_entries sets.old keys.now))
+        (column_entries sets.old keys.now) }
     ensures last { result
-        ≡ is_last id (or_no_entries (find key_cmp key.now (column_entries sets.old.items keys.now))) }
+        ≡ is_last id (or_no_entries (find key_cmp key.now (column_entries sets.old keys.now))) }
 {
     let Some(number) = keys.number(key) else {
         return false;
     };
-    match sets.get_mut(number) {
-        Some(set) => take_out_of_set(set, id),
-        None => false,
-    }
+    sets.take_out(number, id)
 }
 
 /// Puts the value under the identifier into the register, a new one where there is none. Returns the

@@ -13,7 +13,7 @@ loop-last-preserved c =
     let u = c.pop.new.self in
     let n = c.in-Some.last in
     let slices = c.is_bare.ensures.0 c.if-not-is_bare.false in
-    let bare : IsBare n k.maps.items k.lists.items k.registers.items k.presences.items k.links.items = record {
+    let bare : IsBare n k.maps.items k.lists.items k.registers.items k.presences k.links.items = record {
       maps = ap (λ (d : List (Option ℕ)). at_number d n) (sym c.as_slice.ensures.value) ∙ slices.maps;
       lists = ap (λ (d : List (Option ℕ)). at_number d n) (sym c.as_slice-in-Some.ensures.value) ∙ slices.lists;
       registers = ap (λ (d : List (Option Register)). at_number d n) (sym c.as_slice-in-Some-2.ensures.value) ∙ slices.registers;
@@ -21,7 +21,7 @@ loop-last-preserved c =
       links = ap (λ (d : List (Option Next)). at_number d n) (sym c.as_slice-in-Some-4.ensures.value) ∙ slices.links;
     } in
     let some : n + 1 ≡ length k.keys.keys = omega (arith, c.in-Some.ensures, c.len.ensures) in
-    let within : AreWithin u (take n k.maps.items) (take n k.lists.items) (take n k.registers.items) (take n k.presences.items) (take n k.links.items) = trimmed_within k.keys u k.maps.items k.lists.items k.registers.items k.presences.items k.links.items n c.pop.ensures.numbered some c.pop.ensures.keys c.pop.ensures.order bare in (
+    let within : AreWithin u (take n k.maps.items) (take n k.lists.items) (take n k.registers.items) (take n k.presences) (take n k.links.items) = trimmed_within k.keys u k.maps.items k.lists.items k.registers.items k.presences k.links.items n c.pop.ensures.numbered some c.pop.ensures.keys c.pop.ensures.order bare in (
       record {
         maps = omega (arith, within.maps, ap length c.cut.ensures);
         lists = omega (arith, within.lists, ap length c.cut-in-Some.ensures);
@@ -29,5 +29,5 @@ loop-last-preserved c =
         presences = omega (arith, within.presences, ap length c.cut-in-Some-3.ensures);
         links = omega (arith, within.links, ap length c.cut-in-Some-4.ensures);
       },
-      (λ j. flat_of u (c.cut.ensures j) (c.cut-in-Some.ensures j) (c.cut-in-Some-2.ensures j) (c.cut-in-Some-3.ensures j) (c.cut-in-Some-4.ensures j)) ∙ trimmed_seen k.keys u k.maps.items k.lists.items k.registers.items k.presences.items k.links.items n c.pop.ensures.numbered some c.pop.ensures.keys c.pop.ensures.order bare ∙ k.invariant.1,
+      (λ j. flat_of u (c.cut.ensures j) (c.cut-in-Some.ensures j) (c.cut-in-Some-2.ensures j) (c.cut-in-Some-3.ensures j) (c.cut-in-Some-4.ensures j)) ∙ trimmed_seen k.keys u k.maps.items k.lists.items k.registers.items k.presences k.links.items n c.pop.ensures.numbered some c.pop.ensures.keys c.pop.ensures.order bare ∙ k.invariant.1,
     )

@@ -4,9 +4,9 @@ use Rattle.jc_tree.proofs.arena_node.trim.Given as goal
 
 abbrev pub invariant-loop-last : goal.invariant-loop-last
 invariant-loop-last l =
-    AreWithin l.keys l.maps.items l.lists.items l.registers.items l.presences.items l.links.items
-    × (flat_of l.keys l.maps.items l.lists.items l.registers.items l.presences.items l.links.items
-    ≡ flat_of l.fn.keys l.fn.maps.items l.fn.lists.items l.fn.registers.items l.fn.presences.items l.fn.links.items)
+    AreWithin l.keys l.maps.items l.lists.items l.registers.items l.presences l.links.items
+    × (flat_of l.keys l.maps.items l.lists.items l.registers.items l.presences l.links.items
+    ≡ flat_of l.fn.keys l.fn.maps.items l.fn.lists.items l.fn.registers.items l.fn.presences l.fn.links.items)
 
 abbrev pub decreases-loop-last : goal.decreases-loop-last
 decreases-loop-last l = length l.keys.keys

@@ -1,71 +1,40 @@
-use Rattle.std.proofs.Common.{◌≡◌, List, Option, Some, None, sym, ◌∙◌, ap}
+use Rattle.std.proofs.Common.{List, Option, ◌∙◌, ap}
 use Rattle.jc_rules.specs.declared.id.Id.{Id}
 use Rattle.jc_rules.specs.Order.{key_cmp}
-use Rattle.jc_rules.specs.Entries.{find, put}
+use Rattle.jc_rules.specs.Entries.{put}
 use Rattle.jc_rules.specs.Ids.{with_id}
 use Rattle.jc_tree.specs.Tree.{or_no_entries, has_ids}
 use Rattle.jc_tree.specs.Undo.{former_of_id}
 use Rattle.jc_tree.specs.Numbered.{column_entries}
 use Rattle.jc_tree.specs.Tables.MayNumber.{numbers}
 use Rattle.jc_tree.proofs.SortedMapLemmas.{as_err}
-use Rattle.jc_tree.proofs.ColumnLemmas.{same_column, put_column}
-use Rattle.jc_tree.proofs.TablesLemmas.{put_within, put_slot, former_slot, slot_here, no_slot, on_ok, if_ok}
+use Rattle.jc_tree.proofs.ColumnLemmas.{same_column, former_column, put_column}
+use Rattle.jc_tree.proofs.TablesLemmas.{put_within}
 use Rattle.jc_tree.proofs.tables.add_in.Goals as goal
 
-pub returns-in_err-single-clause-numbers : goal.returns-in_err-single-clause-numbers
-returns-in_err-single-clause-numbers c = numbers c.in_ok-number.number c.number_of.ensures.numbered.0 c.in_ok-number.ensures.ok
+pub returns-in_err-added-clause-numbers : goal.returns-in_err-added-clause-numbers
+returns-in_err-added-clause-numbers c = numbers c.in_ok-number.number c.number_of.ensures.numbered.0 c.in_ok-number.ensures.ok
 
-pub returns-in_err-single-clause-err : goal.returns-in_err-single-clause-err
-returns-in_err-single-clause-err c =
-    as_err _ (same_column c.args.key c.in_ok-number.number c.args.sets.now.items c.args.keys.now c.number_of.new.self c.number_of.ensures.numbered.0 c.in_ok-number.ensures.ok c.requires)
+pub returns-in_err-added-clause-err : goal.returns-in_err-added-clause-err
+returns-in_err-added-clause-err c =
+    as_err _ (ap (λ d. column_entries d c.number_of.new.self) c.in_err-added.ensures.err ∙ same_column c.args.key c.in_ok-number.number c.args.sets.now c.args.keys.now c.number_of.new.self c.number_of.ensures.numbered.0 c.in_ok-number.ensures.ok c.requires)
 
-pub returns-in_err-put_at-clause-numbers : goal.returns-in_err-put_at-clause-numbers
-returns-in_err-put_at-clause-numbers c = numbers c.in_ok-number.number c.number_of.ensures.numbered.0 c.in_ok-number.ensures.ok
+pub returns-clause-numbers : goal.returns-clause-numbers
+returns-clause-numbers c = numbers c.in_ok-number.number c.number_of.ensures.numbered.0 c.in_ok-number.ensures.ok
 
-pub returns-in_err-put_at-clause-err : goal.returns-in_err-put_at-clause-err
-returns-in_err-put_at-clause-err c =
-    as_err _ (ap (λ d. column_entries d c.number_of.new.self) c.in_err-put_at.ensures.err ∙ same_column c.args.key c.in_ok-number.number c.args.sets.now.items c.args.keys.now c.number_of.new.self c.number_of.ensures.numbered.0 c.in_ok-number.ensures.ok c.requires)
-
-pub returns-in_default-clause-numbers : goal.returns-in_default-clause-numbers
-returns-in_default-clause-numbers c = numbers c.in_ok-number.number c.number_of.ensures.numbered.0 c.in_ok-number.ensures.ok
-
-pub returns-in_default-clause-within : goal.returns-in_default-clause-within
-returns-in_default-clause-within c =
-    put_within c.args.key c.in_ok-number.number _ c.args.sets.now.items c.put_at.new.column.items c.args.keys.now c.number_of.new.self c.number_of.ensures.numbered c.in_ok-number.ensures.ok c.requires c.in_ok-put_at.ensures.ok
-
-pub returns-in_default-clause-ok : goal.returns-in_default-clause-ok
-returns-in_default-clause-ok c =
-    let es = column_entries c.args.sets.now.items c.args.keys.now in
-    let none : find key_cmp c.args.key es ≡ None = former_slot c.args.key c.in_ok-number.number None c.args.sets.now.items c.args.keys.now c.number_of.new.self c.number_of.ensures.numbered c.in_ok-number.ensures.ok c.requires (no_slot c.args.sets.now.items c.in_ok-number.number c.in_default.ensures.item.3) in
-    put_column c.args.key c.in_ok-number.number c.in_ok-single.field-0 c.args.sets.now.items c.put_at.new.column.items c.args.keys.now c.number_of.new.self c.number_of.ensures.numbered.0 c.number_of.ensures.numbered.1 c.in_ok-number.ensures.ok c.requires c.in_ok-put_at.ensures.ok
-    ∙ ap (λ (x : List Id). put key_cmp c.args.key x es) (c.in_ok-single.ensures ∙ ap (λ (o : Option (List Id)). with_id c.args.id (or_no_entries o)) (sym none))
-
-pub returns-in_default-clause-former : goal.returns-in_default-clause-former
-returns-in_default-clause-former c =
-    ap (λ (o : Option (List Id)). former_of_id c.args.key c.args.id o) (sym (former_slot c.args.key c.in_ok-number.number None c.args.sets.now.items c.args.keys.now c.number_of.new.self c.number_of.ensures.numbered c.in_ok-number.ensures.ok c.requires (no_slot c.args.sets.now.items c.in_ok-number.number c.in_default.ensures.item.3)))
+pub returns-clause-within : goal.returns-clause-within
+returns-clause-within c =
+    put_within c.args.key c.in_ok-number.number _ c.args.sets.now c.add.new.self c.args.keys.now c.number_of.new.self c.number_of.ensures.numbered c.in_ok-number.ensures.ok c.requires c.in_ok-added.ensures.ok
 
 pub returns-clause-ok : goal.returns-clause-ok
 returns-clause-ok c =
-    let col = c.args.sets.now.items in
-    let es = column_entries col c.args.keys.now in
-    let here = slot_here col c.in_ok-number.number c.in-Some.set.now c.in-Some.ensures.item.3.0 c.in-Some.ensures.item.1 in
-    let was : find key_cmp c.args.key es ≡ c.in-Some.set.now = former_slot c.args.key c.in_ok-number.number (Some c.in-Some.set.now) col c.args.keys.now c.number_of.new.self c.number_of.ensures.numbered c.in_ok-number.ensures.ok c.requires here in
-    on_ok c.add_to_set.result (λ e. put_slot c.args.key c.in_ok-number.number _ c.in-Some.set.now c.add_to_set.new.set col c.args.keys.now c.number_of.new.self c.number_of.ensures.numbered c.in_ok-number.ensures.ok c.requires here e ∙ ap (λ (o : Option (List Id)). put key_cmp c.args.key (with_id c.args.id (or_no_entries o)) es) (sym was)) c.add_to_set.ensures.ok
+    put_column c.args.key c.in_ok-number.number _ c.args.sets.now c.add.new.self c.args.keys.now c.number_of.new.self c.number_of.ensures.numbered.0 c.number_of.ensures.numbered.1 c.in_ok-number.ensures.ok c.requires c.in_ok-added.ensures.ok
+    ∙ ap (λ (o : Option (List Id)). put key_cmp c.args.key (with_id c.args.id (or_no_entries o)) (column_entries c.args.sets.now c.args.keys.now)) (former_column c.args.key c.in_ok-number.number c.args.sets.now c.args.keys.now c.number_of.new.self c.number_of.ensures.numbered.0 c.in_ok-number.ensures.ok c.requires)
 
 pub returns-clause-former : goal.returns-clause-former
 returns-clause-former c =
-    let col = c.args.sets.now.items in
-    let here = slot_here col c.in_ok-number.number c.in-Some.set.now c.in-Some.ensures.item.3.0 c.in-Some.ensures.item.1 in
-    let was = former_slot c.args.key c.in_ok-number.number (Some c.in-Some.set.now) col c.args.keys.now c.number_of.new.self c.number_of.ensures.numbered c.in_ok-number.ensures.ok c.requires here in
-    if_ok c.add_to_set.result (λ a e. e ∙ ap (λ (o : Option (List Id)). former_of_id c.args.key c.args.id o) (sym was)) c.add_to_set.ensures.former
-
-pub returns-in_default-clause-was : goal.returns-in_default-clause-was
-returns-in_default-clause-was c =
-    ap (λ (o : Option (List Id)). has_ids (or_no_entries o)) (sym (former_slot c.args.key c.in_ok-number.number None c.args.sets.now.items c.args.keys.now c.number_of.new.self c.number_of.ensures.numbered c.in_ok-number.ensures.ok c.requires (no_slot c.args.sets.now.items c.in_ok-number.number c.in_default.ensures.item.3)))
+    c.in_ok-added.ensures.former ∙ ap (λ (o : Option (List Id)). former_of_id c.args.key c.args.id o) (former_column c.args.key c.in_ok-number.number c.args.sets.now c.args.keys.now c.number_of.new.self c.number_of.ensures.numbered.0 c.in_ok-number.ensures.ok c.requires)
 
 pub returns-clause-was : goal.returns-clause-was
 returns-clause-was c =
-    let col = c.args.sets.now.items in
-    let here = slot_here col c.in_ok-number.number c.in-Some.set.now c.in-Some.ensures.item.3.0 c.in-Some.ensures.item.1 in
-    let was = former_slot c.args.key c.in_ok-number.number (Some c.in-Some.set.now) col c.args.keys.now c.number_of.new.self c.number_of.ensures.numbered c.in_ok-number.ensures.ok c.requires here in
-    if_ok c.add_to_set.result (λ a e. e ∙ ap (λ (o : Option (List Id)). has_ids (or_no_entries o)) (sym was)) c.add_to_set.ensures.was
+    c.in_ok-added.ensures.was ∙ ap (λ (o : Option (List Id)). has_ids (or_no_entries o)) (former_column c.args.key c.in_ok-number.number c.args.sets.now c.args.keys.now c.number_of.new.self c.number_of.ensures.numbered.0 c.in_ok-number.ensures.ok c.requires)

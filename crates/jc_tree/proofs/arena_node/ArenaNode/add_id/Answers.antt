@@ -12,17 +12,17 @@ use Rattle.jc_tree.proofs.ArenaNodeLemmas.{within_presences, seen_presences, cou
 use Rattle.jc_tree.proofs.arena_node.ArenaNode.add_id.Goals as goal
 
 pub returns-in_err-former-clause-err : goal.returns-in_err-former-clause-err
-returns-in_err-former-clause-err c = as_err _ (seen_presences c.args.key c.self.inside.keys c.add_in.new.keys c.self.inside.maps.items c.self.inside.lists.items c.self.inside.registers.items c.self.inside.presences.items c.self.inside.links.items c.self.invariant.within c.add_in.ensures.numbers c.args.self.now c.self.view_is c.add_in.new.sets.items _ (c.in_err-former.ensures.err ∙ (ap (λ (d : Flat). d.presences) c.self.view_is)))
+returns-in_err-former-clause-err c = as_err _ (seen_presences c.args.key c.self.inside.keys c.add_in.new.keys c.self.inside.maps.items c.self.inside.lists.items c.self.inside.registers.items c.self.inside.presences c.self.inside.links.items c.self.invariant.within c.add_in.ensures.numbers c.args.self.now c.self.view_is c.add_in.new.sets _ (c.in_err-former.ensures.err ∙ (ap (λ (d : Flat). d.presences) c.self.view_is)))
 
 pub recounted-self-inside-requires-clause-within : goal.recounted-self-inside-requires-clause-within
 recounted-self-inside-requires-clause-within c =
-    omega (arith, counted_add c.self.inside.present c.args.key _ c.self.invariant.count c.args.id _ _ c.in_ok-former.ensures.was c.in_ok-former.ensures.ok, c.count.ensures, count_within c.add_in.new.sets.items c.add_in.new.keys)
+    omega (arith, counted_add c.self.inside.present c.args.key _ c.self.invariant.count c.args.id _ _ c.in_ok-former.ensures.was c.in_ok-former.ensures.ok, c.count.ensures, count_within c.add_in.new.sets c.add_in.new.keys)
 
 pub invariant_of-self-2 : goal.invariant_of-self-2
 invariant_of-self-2 c = record {
-  within = within_presences c.args.key c.self.inside.keys c.add_in.new.keys c.self.inside.maps.items c.self.inside.lists.items c.self.inside.registers.items c.self.inside.presences.items c.self.inside.links.items c.self.invariant.within c.add_in.ensures.numbers c.add_in.new.sets.items c.add_in.ensures.within;
+  within = within_presences c.args.key c.self.inside.keys c.add_in.new.keys c.self.inside.maps.items c.self.inside.lists.items c.self.inside.registers.items c.self.inside.presences c.self.inside.links.items c.self.invariant.within c.add_in.ensures.numbers c.add_in.new.sets c.add_in.ensures.within;
   count = omega (arith, counted_add c.self.inside.present c.args.key _ c.self.invariant.count c.args.id _ _ c.in_ok-former.ensures.was c.in_ok-former.ensures.ok, c.recounted-self-inside.ensures);
 }
 
 pub returns-clause-ok : goal.returns-clause-ok
-returns-clause-ok c = seen_presences c.args.key c.self.inside.keys c.add_in.new.keys c.self.inside.maps.items c.self.inside.lists.items c.self.inside.registers.items c.self.inside.presences.items c.self.inside.links.items c.self.invariant.within c.add_in.ensures.numbers c.args.self.now c.self.view_is c.add_in.new.sets.items _ (c.in_ok-former.ensures.ok ∙ ap (λ (es : List (Key × List Id)). put key_cmp c.args.key (with_id c.args.id (or_no_entries (find key_cmp c.args.key es))) es) (ap (λ (d : Flat). d.presences) c.self.view_is))
+returns-clause-ok c = seen_presences c.args.key c.self.inside.keys c.add_in.new.keys c.self.inside.maps.items c.self.inside.lists.items c.self.inside.registers.items c.self.inside.presences c.self.inside.links.items c.self.invariant.within c.add_in.ensures.numbers c.args.self.now c.self.view_is c.add_in.new.sets _ (c.in_ok-former.ensures.ok ∙ ap (λ (es : List (Key × List Id)). put key_cmp c.args.key (with_id c.args.id (or_no_entries (find key_cmp c.args.key es))) es) (ap (λ (d : Flat). d.presences) c.self.view_is))

@@ -8,11 +8,11 @@ use Rattle.jc_tree.proofs.ArenaNodeLemmas.{within_presences, seen_presences, cou
 use Rattle.jc_tree.proofs.arena_node.ArenaNode.put_presence.Goals as goal
 
 pub returns-in_err-former-clause-err : goal.returns-in_err-former-clause-err
-returns-in_err-former-clause-err c = as_err _ (seen_presences c.args.key c.self.inside.keys c.put_in.new.keys c.self.inside.maps.items c.self.inside.lists.items c.self.inside.registers.items c.self.inside.presences.items c.self.inside.links.items c.self.invariant.within c.put_in.ensures.numbers c.args.self.now c.self.view_is c.put_in.new.column.items _ (c.in_err-former.ensures.err ∙ (ap (λ (d : Flat). d.presences) c.self.view_is)))
+returns-in_err-former-clause-err c = as_err _ (seen_presences c.args.key c.self.inside.keys c.put_set_in.new.keys c.self.inside.maps.items c.self.inside.lists.items c.self.inside.registers.items c.self.inside.presences c.self.inside.links.items c.self.invariant.within c.put_set_in.ensures.numbers c.args.self.now c.self.view_is c.put_set_in.new.sets _ (c.in_err-former.ensures.err ∙ (ap (λ (d : Flat). d.presences) c.self.view_is)))
 
 pub recounted-self-inside-requires-clause-within : goal.recounted-self-inside-requires-clause-within
 recounted-self-inside-requires-clause-within c =
-    omega (arith, counted_put c.self.inside.present c.args.key _ c.self.invariant.count c.args.ids _ _ _ _ c.is_empty-is.ensures c.is_inhabited-was.ensures (c.as_ref.ensures.value ∙ c.in_ok-former.ensures.former) c.in_ok-former.ensures.ok, c.count.ensures, count_within c.put_in.new.column.items c.put_in.new.keys)
+    omega (arith, counted_put c.self.inside.present c.args.key _ c.self.invariant.count c.args.ids _ _ _ _ c.is_empty-is.ensures c.is_inhabited-was.ensures (c.as_ref.ensures.value ∙ c.in_ok-former.ensures.former) c.in_ok-former.ensures.ok, c.count.ensures, count_within c.put_set_in.new.sets c.put_set_in.new.keys)
 
 pub recounted-self-inside-requires-clause-counted : goal.recounted-self-inside-requires-clause-counted
 recounted-self-inside-requires-clause-counted c =
@@ -20,9 +20,9 @@ recounted-self-inside-requires-clause-counted c =
 
 pub invariant_of-self-2 : goal.invariant_of-self-2
 invariant_of-self-2 c = record {
-  within = within_presences c.args.key c.self.inside.keys c.put_in.new.keys c.self.inside.maps.items c.self.inside.lists.items c.self.inside.registers.items c.self.inside.presences.items c.self.inside.links.items c.self.invariant.within c.put_in.ensures.numbers c.put_in.new.column.items c.put_in.ensures.within;
+  within = within_presences c.args.key c.self.inside.keys c.put_set_in.new.keys c.self.inside.maps.items c.self.inside.lists.items c.self.inside.registers.items c.self.inside.presences c.self.inside.links.items c.self.invariant.within c.put_set_in.ensures.numbers c.put_set_in.new.sets c.put_set_in.ensures.within;
   count = omega (arith, counted_put c.self.inside.present c.args.key _ c.self.invariant.count c.args.ids _ _ _ _ c.is_empty-is.ensures c.is_inhabited-was.ensures (c.as_ref.ensures.value ∙ c.in_ok-former.ensures.former) c.in_ok-former.ensures.ok, c.recounted-self-inside.ensures);
 }
 
 pub returns-clause-ok : goal.returns-clause-ok
-returns-clause-ok c = seen_presences c.args.key c.self.inside.keys c.put_in.new.keys c.self.inside.maps.items c.self.inside.lists.items c.self.inside.registers.items c.self.inside.presences.items c.self.inside.links.items c.self.invariant.within c.put_in.ensures.numbers c.args.self.now c.self.view_is c.put_in.new.column.items _ (c.in_ok-former.ensures.ok ∙ ap (λ es. put key_cmp c.args.key c.args.ids es) (ap (λ (d : Flat). d.presences) c.self.view_is))
+returns-clause-ok c = seen_presences c.args.key c.self.inside.keys c.put_set_in.new.keys c.self.inside.maps.items c.self.inside.lists.items c.self.inside.registers.items c.self.inside.presences c.self.inside.links.items c.self.invariant.within c.put_set_in.ensures.numbers c.args.self.now c.self.view_is c.put_set_in.new.sets _ (c.in_ok-former.ensures.ok ∙ ap (λ es. put key_cmp c.args.key c.args.ids es) (ap (λ (d : Flat). d.presences) c.self.view_is))

@@ -7,22 +7,22 @@ use Rattle.jc_tree.proofs.arena_node.ArenaNode.restore_presence.Goals as goal
 
 pub recounted-self-inside-requires-clause-within : goal.recounted-self-inside-requires-clause-within
 recounted-self-inside-requires-clause-within c =
-    omega (arith, counted_restore c.self.inside.present c.args.key.now _ c.self.invariant.count c.in-Some.ids _ c.args.former _ _ c.in-Some.ensures.stood (c.is_inhabited-is.ensures ∙ ap (λ o. has_ids (or_no_entries o)) c.as_ref.ensures.value) c.is_empty.ensures c.restore_in.ensures.ok, c.count.ensures, count_within c.restore_in.new.column.items c.self.inside.keys)
+    omega (arith, counted_restore c.self.inside.present c.args.key.now _ c.self.invariant.count c.in-Some.ids _ c.args.former _ _ c.in-Some.ensures.stood (c.is_inhabited-is.ensures ∙ ap (λ o. has_ids (or_no_entries o)) c.as_ref.ensures.value) c.is_empty.ensures c.restore_set_in.ensures.ok, c.count.ensures, count_within c.restore_set_in.new.sets c.self.inside.keys)
 
 pub recounted-self-inside-requires-clause-counted : goal.recounted-self-inside-requires-clause-counted
 recounted-self-inside-requires-clause-counted c =
-    omega (arith, counted_restore c.self.inside.present c.args.key.now _ c.self.invariant.count c.in-Some.ids _ c.args.former _ _ c.in-Some.ensures.stood (c.is_inhabited-is.ensures ∙ ap (λ o. has_ids (or_no_entries o)) c.as_ref.ensures.value) c.is_empty.ensures c.restore_in.ensures.ok)
+    omega (arith, counted_restore c.self.inside.present c.args.key.now _ c.self.invariant.count c.in-Some.ids _ c.args.former _ _ c.in-Some.ensures.stood (c.is_inhabited-is.ensures ∙ ap (λ o. has_ids (or_no_entries o)) c.as_ref.ensures.value) c.is_empty.ensures c.restore_set_in.ensures.ok)
 
 pub invariant_of-self : goal.invariant_of-self
 invariant_of-self c = record {
-  within = within_presences c.args.key.now c.self.inside.keys c.self.inside.keys c.self.inside.maps.items c.self.inside.lists.items c.self.inside.registers.items c.self.inside.presences.items c.self.inside.links.items c.self.invariant.within (same refl) c.restore_in.new.column.items c.restore_in.ensures.within;
-  count = omega (arith, counted_restore c.self.inside.present c.args.key.now _ c.self.invariant.count c.in-Some.ids _ c.args.former _ _ c.in-Some.ensures.stood (c.is_inhabited-is.ensures ∙ ap (λ o. has_ids (or_no_entries o)) c.as_ref.ensures.value) c.is_empty.ensures c.restore_in.ensures.ok, c.recounted-self-inside.ensures);
+  within = within_presences c.args.key.now c.self.inside.keys c.self.inside.keys c.self.inside.maps.items c.self.inside.lists.items c.self.inside.registers.items c.self.inside.presences c.self.inside.links.items c.self.invariant.within (same refl) c.restore_set_in.new.sets c.restore_set_in.ensures.within;
+  count = omega (arith, counted_restore c.self.inside.present c.args.key.now _ c.self.invariant.count c.in-Some.ids _ c.args.former _ _ c.in-Some.ensures.stood (c.is_inhabited-is.ensures ∙ ap (λ o. has_ids (or_no_entries o)) c.as_ref.ensures.value) c.is_empty.ensures c.restore_set_in.ensures.ok, c.recounted-self-inside.ensures);
 }
 
 pub invariant_of-self-in_default : goal.invariant_of-self-in_default
 invariant_of-self-in_default c =
-    let kept = c.restore_in.ensures.ok ∙ restored_absent c.args.key.now c.args.former _ (sym c.restore_in.ensures.stood ∙ c.in_default.is) in
+    let kept = c.restore_set_in.ensures.ok ∙ restored_absent c.args.key.now c.args.former _ (sym c.restore_set_in.ensures.stood ∙ c.in_default.is) in
     record {
-      within = within_presences c.args.key.now c.self.inside.keys c.self.inside.keys c.self.inside.maps.items c.self.inside.lists.items c.self.inside.registers.items c.self.inside.presences.items c.self.inside.links.items c.self.invariant.within (same refl) c.restore_in.new.column.items c.restore_in.ensures.within;
+      within = within_presences c.args.key.now c.self.inside.keys c.self.inside.keys c.self.inside.maps.items c.self.inside.lists.items c.self.inside.registers.items c.self.inside.presences c.self.inside.links.items c.self.invariant.within (same refl) c.restore_set_in.new.sets c.restore_set_in.ensures.within;
       count = c.self.invariant.count ∙ ap count_present (sym kept);
     }

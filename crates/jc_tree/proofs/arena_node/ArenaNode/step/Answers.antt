@@ -17,14 +17,14 @@ returns-in_default-clause-next c =
 
 pub returns-in_default-clause-present : goal.returns-in_default-clause-present
 returns-in_default-clause-present c =
-    ap (λ (o : Option (List Id)). has_ids (or_no_entries o)) (sym (ap (λ (f : Flat). find key_cmp c.args.key.now f.presences) (sym c.self.view_is) ∙ found_none c.args.key.now c.self.inside.presences.items c.self.inside.keys c.number_near.ensures.numbered (sym c.number_near.ensures.found ∙ c.in_default.is)))
+    ap (λ (o : Option (List Id)). has_ids (or_no_entries o)) (sym (ap (λ (f : Flat). find key_cmp c.args.key.now f.presences) (sym c.self.view_is) ∙ found_none c.args.key.now c.self.inside.presences c.self.inside.keys c.number_near.ensures.numbered (sym c.number_near.ensures.found ∙ c.in_default.is)))
 
 pub returns-clause-next : goal.returns-clause-next
 returns-clause-next c =
-    c.next_of-next.ensures ∙ c.value_at-link.ensures ∙ ap (λ (d : List (Option Next)). at_number d c.in-Some.number) c.as_slice-2.ensures.value
+    c.next_of-next.ensures ∙ c.value_at-link.ensures ∙ ap (λ (d : List (Option Next)). at_number d c.in-Some.number) c.as_slice.ensures.value
     ∙ sym (ap (λ (f : Flat). find key_cmp c.args.key.now f.links) (sym c.self.view_is) ∙ find_column c.args.key.now c.self.inside.links.items c.self.inside.keys c.number_near.ensures.numbered ∙ ap (λ o. go_on o (λ n. at_number c.self.inside.links.items n)) (sym c.number_near.ensures.found ∙ c.in-Some.is))
 
 pub returns-clause-present : goal.returns-clause-present
 returns-clause-present c =
-    c.is_inhabited-present.ensures ∙ ap (λ (o : Option (List Id)). has_ids (or_no_entries o)) (c.value_at.ensures ∙ ap (λ (d : List (Option (List Id))). at_number d c.in-Some.number) c.as_slice.ensures.value
-    ∙ sym (ap (λ (f : Flat). find key_cmp c.args.key.now f.presences) (sym c.self.view_is) ∙ find_column c.args.key.now c.self.inside.presences.items c.self.inside.keys c.number_near.ensures.numbered ∙ ap (λ o. go_on o (λ n. at_number c.self.inside.presences.items n)) (sym c.number_near.ensures.found ∙ c.in-Some.is)))
+    c.is_inhabited-present.ensures ∙ ap (λ (o : Option (List Id)). has_ids (or_no_entries o))
+    (sym (ap (λ (f : Flat). find key_cmp c.args.key.now f.presences) (sym c.self.view_is) ∙ find_column c.args.key.now c.self.inside.presences c.self.inside.keys c.number_near.ensures.numbered ∙ ap (λ o. go_on o (λ n. at_number c.self.inside.presences n)) (sym c.number_near.ensures.found ∙ c.in-Some.is)))

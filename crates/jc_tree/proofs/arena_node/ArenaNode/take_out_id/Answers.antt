@@ -6,7 +6,7 @@ use Rattle.jc_tree.proofs.arena_node.ArenaNode.take_out_id.Goals as goal
 
 pub recounted-self-inside-requires-clause-within : goal.recounted-self-inside-requires-clause-within
 recounted-self-inside-requires-clause-within c =
-    omega (arith, counted_out c.self.inside.present c.args.key _ c.self.invariant.count c.args.id _ _ c.take_out_in-last.ensures.last c.take_out_in-last.ensures.ok, c.count.ensures, count_within c.take_out_in-last.new.sets.items c.self.inside.keys)
+    omega (arith, counted_out c.self.inside.present c.args.key _ c.self.invariant.count c.args.id _ _ c.take_out_in-last.ensures.last c.take_out_in-last.ensures.ok, c.count.ensures, count_within c.take_out_in-last.new.sets c.self.inside.keys)
 
 pub recounted-self-inside-requires-clause-counted : goal.recounted-self-inside-requires-clause-counted
 recounted-self-inside-requires-clause-counted c =
@@ -14,6 +14,6 @@ recounted-self-inside-requires-clause-counted c =
 
 pub invariant_of-self : goal.invariant_of-self
 invariant_of-self c = record {
-  within = within_presences c.args.key c.self.inside.keys c.self.inside.keys c.self.inside.maps.items c.self.inside.lists.items c.self.inside.registers.items c.self.inside.presences.items c.self.inside.links.items c.self.invariant.within (same refl) c.take_out_in-last.new.sets.items c.take_out_in-last.ensures.within;
+  within = within_presences c.args.key c.self.inside.keys c.self.inside.keys c.self.inside.maps.items c.self.inside.lists.items c.self.inside.registers.items c.self.inside.presences c.self.inside.links.items c.self.invariant.within (same refl) c.take_out_in-last.new.sets c.take_out_in-last.ensures.within;
   count = omega (arith, counted_out c.self.inside.present c.args.key _ c.self.invariant.count c.args.id _ _ c.take_out_in-last.ensures.last c.take_out_in-last.ensures.ok, c.recounted-self-inside.ensures);
 }
