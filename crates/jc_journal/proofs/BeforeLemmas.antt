@@ -3,9 +3,9 @@ use Rattle.std.proofs.Common.{◌≡◌, ℕ, ◌<◌, ◌≤◌, List, [], ◌�
 use Rattle.std.specs.Borrow.{Bor}
 use Rattle.std.specs.List.{AllByRecursion}
 use Rattle.std.specs.declared.cmp.Ordering.TheVariants.{Less}
-use Rattle.std.proofs.lemmas.List.{drop-map}
+use Rattle.std.proofs.lemmas.List.{drop-map, length-map}
 use Rattle.std.proofs.lemmas.List.Elements.{filter-append}
-use Rattle.std.proofs.lemmas.Option.{same_Some}
+use Rattle.std.proofs.lemmas.Option.{same_Some, slice_get_past}
 use Rattle.std.proofs.Math.Seq.{drop-append_seam}
 use Rattle.jc_rules.specs.declared.id.Id.{Id}
 use Rattle.jc_rules.specs.declared.operation.Event.{Event}
@@ -14,6 +14,7 @@ use Rattle.jc_rules.specs.declared.operation.Op.{Op}
 use Rattle.jc_rules.specs.Ids.{AreRising, has_id, with_id, without}
 use Rattle.jc_rules.specs.Order.{id_cmp, same_id}
 use Rattle.jc_rules.specs.State.{State}
+use Rattle.jc_rules.specs.Step.{replica_of, read_by, send_of}
 use Rattle.jc_rules.specs.Table.{op_of, with_op, both}
 use Rattle.jc_rules.proofs.BoolLemmas.{or_right}
 use Rattle.jc_rules.proofs.IdsLemmas.{same_id-self, same_id-true, has_id-with, has_id-without, without-rises, same_members}
@@ -22,9 +23,15 @@ use Rattle.jc_rules.proofs.RisingLemmas as rising
 use Rattle.jc_vectors.specs.StoredStates.{stored_op, stored_state}
 use Rattle.jc_replica.specs.Operations.{identifiers, AreInOrder}
 use Rattle.jc_replica.specs.Received.{is_new}
+use Rattle.jc_replica.specs.ReplicaHistory.{Past}
 use Rattle.jc_replica.proofs.QueueLemmas.{AreUpTo}
 use Rattle.jc_replica.proofs.ReceivedUnionLemmas.{identifiers-with, both-in_order, there_found, not_there_absent}
+use Rattle.jc_network.specs.Invariant.{IsFromStart}
+use Rattle.jc_network.specs.Steps.{HasReplica}
 use Rattle.jc_network.proofs.AppliedIdsLemmas.{kept_ids}
+use Rattle.jc_journal.specs.declared.before.Before.{Before}
+use Rattle.jc_journal.specs.declared.before.Before.TheVariants as V
+use Rattle.jc_journal.specs.Before.{Notes, IsNoted}
 
 -- ---- new operations and their identifiers
 
@@ -168,3 +175,43 @@ found_kept i (p ∷ os) o h = go (same_id i p.id) refl (found_kept i os o)
 pub found_tells : (i : Id) (os : List Op) (found : Option (Bor Op)) → option_copied found ≡ op_of i os → is_some found ≡ has_id i (identifiers os)
 found_tells i os None e = sym (not_there_absent i os (sym e))
 found_tells i os (Some o) e = sym (there_found i os o.now (sym e))
+
+-- ---- what is noted of a stored state
+
+pub notes_kept : (event : Event) (A : State) (read : List Op) (before : Before) → Notes event (stored_state A) (map stored_op read) before → Notes event A read before
+notes_kept (E.Exec p) A read (V.Exec command made) n = (n.0, n.1 ∙ length-map A.queue stored_op)
+notes_kept (E.Send p) A read (V.Send sent) n = n ∙ length-map A.send stored_op
+notes_kept (E.Recv p q) A read (V.Recv came) n =
+    n
+    ∙ ap (λ (is : List Id). without is (identifiers (map stored_op A.recv))) (kept_ids read)
+    ∙ ap (λ (is : List Id). without (identifiers read) is) (kept_ids A.recv)
+notes_kept (E.Take p q i) A read (V.Recv came) n = n ∙ ap (λ (is : List Id). without (i ∷ []) is) (kept_ids A.recv)
+notes_kept (E.Apply p i) A read V.Nothing n = tt
+notes_kept (E.Done p) A read V.Nothing n = tt
+notes_kept event A read before n = absurd n
+
+-- what is offered by the replica that the event reads
+pub sent_read : (N : List State) (q : ℕ) (past : Past) (offered read : List Op) → HasReplica N q past → offered ≡ past.now.send → send_of (slice_get N q) ≡ Some read → offered ≡ map stored_op read
+sent_read N q past offered read has e r =
+    let there : Some has.at.send ≡ Some read = ap send_of (sym has.there) ∙ r in
+    e ∙ ap (λ (S : State). S.send) has.kept ∙ ap (λ (os : List Op). map stored_op os) (same_Some has.at.send read there)
+
+pub none_read : (N : List State) (q : ℕ) (read : List Op) → length N ≤ q → send_of (slice_get N q) ≡ Some read → ⊥
+none_read N q read l r = let none : None ≡ Some read = ap send_of (sym (slice_get_past N q l)) ∙ r in cc
+
+-- what is noted of the network
+pub noted_of : (event : Event) (N : List State) (past : Past) (before : Before) → IsFromStart N → HasReplica N (replica_of event) past
+    → ((read : List Op) → read_by event N ≡ Some read → Notes event past.now (map stored_op read) before)
+    → IsNoted event N before
+noted_of event N past before r has n = record {
+  reached = r;
+  notes = λ A read there reads.
+      let same : past.now ≡ stored_state A = has.kept ∙ ap stored_state (same_Some has.at A (sym has.there ∙ there)) in
+      notes_kept event A read before (subst (λ (S : State). Notes event S (map stored_op read) before) same (n read reads));
+}
+
+pub noted_nothing : (event : Event) (N : List State) → IsFromStart N → length N ≤ replica_of event → IsNoted event N V.Nothing
+noted_nothing event N r l = record {
+  reached = r;
+  notes = λ A read there reads. let none : None ≡ Some A = sym (slice_get_past N (replica_of event) l) ∙ there in absurd (let z : ⊥ = cc in z);
+}

@@ -40,7 +40,6 @@ record IsLineOf (names : List (List ℕ)) (event : Event) (A B : State) (before 
   op : op_member names (noted_op event before (stored_state B)) ≡ op_member names (event_op event A B)
 
 module _ (names : List (List ℕ)) (A : State) (read : List Op) where
-
   -- a command that makes no operation
   bound_line : (p : ℕ) (B : State) (before : Before) → B.queue ≡ A.queue → Notes (E.Exec p) A read before → IsLineOf names (E.Exec p) A B before
   bound_line p B (V.Exec command count) q n =

@@ -4,3 +4,4 @@ pub mod BeforeLemmas
 pub mod PrefixLemmas
 pub mod EventLineLemmas
 pub mod StuckLineLemmas
+pub mod KnownLemmas

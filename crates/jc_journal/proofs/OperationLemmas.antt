@@ -30,6 +30,6 @@ counters_kept p (name ∷ names) ids =
 pub op_kept : (names : List (List ℕ)) (o : Op) → op_json names (stored_op o) ≡ op_json names o
 op_kept names o =
     ap (λ (ms : List NamedJson). json_object (
-        (codes "cursor", cursor_json names o.cursor) ∷ (codes "deps", json_object ms) ∷ (codes "id", string (id_text names o.id))
-        ∷ (codes "mutation", string (mutation_name o.mutation)) ∷ mutation_value o.mutation))
+    (codes "cursor", cursor_json names o.cursor) ∷ (codes "deps", json_object ms) ∷ (codes "id", string (id_text names o.id))
+    ∷ (codes "mutation", string (mutation_name o.mutation)) ∷ mutation_value o.mutation))
     (counters_kept 0 names o.deps)

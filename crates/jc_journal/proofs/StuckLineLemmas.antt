@@ -88,7 +88,7 @@ made_more network p A k e =
 
 -- ---- the identifiers of what was made are those of the sound set
 
-id_in : (os : List Op) (o : Op) → Contains os o → has_id o.id (identifiers os) ≡ true
+pub id_in : (os : List Op) (o : Op) → Contains os o → has_id o.id (identifiers os) ≡ true
 id_in [] o k = none_in o k
 id_in (p ∷ os) o k = go (in_cons o p os k) (id_in os o)
   where

@@ -1,5 +1,7 @@
 -- About Parts: the tokens of members, and the line that they are.
 use Rattle.std.proofs.Common.{◌≡◌, ℕ, List, [], ◌∷◌, ◌++◌, append_assoc, refl, sym, ◌∙◌, ap, subst}
+use Rattle.std.proofs.lemmas.List.{append-nil}
+use Rattle.json.specs.Json.{Json}
 use Rattle.json.specs.Print.{print}
 use Rattle.json.specs.Token.{Token}
 use Rattle.json.specs.Token as T
@@ -43,3 +45,8 @@ line_is begun done es line b t g e =
     e
     ∙ ap (λ (x : List ℕ). (x ++ print (done.tokens ++ T.end_object ∷ [])) ++ 10 ∷ []) before
     ∙ ap (λ (ts : List Token). print ts ++ 10 ∷ []) tokens
+
+-- one member: its key, then its value
+pub member_one : (a b c : Written) (k : List ℕ) (j : Json) → Gains a b (T.key k ∷ []) → Gains b c (json_tokens j) → Gains a c (member_tokens ((k, j) ∷ []))
+member_one a b c k j g h =
+    subst (Gains a c) (ap (λ (ts : List Token). T.key k ∷ ts) (sym (append-nil (json_tokens j)))) (gains_then a b c (T.key k ∷ []) (json_tokens j) g h)

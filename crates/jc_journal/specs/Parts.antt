@@ -1,6 +1,7 @@
 -- What the private functions write, from what was noted before an event and the stored state after it.
-use Rattle.std.specs.Prelude.{ℕ, List, [], ◌∷◌, ◌++◌, codes, cond, decimal, drop, Bool, Option, Some, None, slice_get}
+use Rattle.std.specs.Prelude.{◌≡◌, ◌≤◌, ◌==◌, ℕ, List, [], ◌∷◌, ◌++◌, codes, cond, decimal, drop, Bool, true, Option, Some, None, slice_get}
 use Rattle.std.specs.Borrow.{Bor}
+use Rattle.std.specs.List.{AllByRecursion}
 use Rattle.std.specs.Option.{option_map}
 use Rattle.json.specs.Json.{number, string}
 use Rattle.json.specs.Token.{Token}
@@ -17,6 +18,7 @@ use Rattle.jc_rules.specs.ReplicaNames.{name_at}
 use Rattle.jc_rules.specs.State.{State}
 use Rattle.jc_rules.specs.Table.{op_of}
 use Rattle.jc_rules.specs.Trace.{Rows}
+use Rattle.jc_rules.specs.VersionVectors.{greatest_of}
 use Rattle.jc_replica.specs.Operations.{identifiers}
 use Rattle.jc_network.specs.declared.fault.Stuck.{Stuck}
 use Rattle.jc_journal.specs.declared.before.Before.{Before}
@@ -24,6 +26,19 @@ use Rattle.jc_journal.specs.declared.before.Before.TheVariants as V
 use Rattle.jc_journal.specs.Operation.{NamedJson}
 use Rattle.jc_journal.specs.EventLine.{given_member, event_member, kind_member, number_member, replica_member, line_members, new_member, op_member}
 use Rattle.jc_journal.specs.StuckLine.{key_member, wanted_id, offered_member, missing_member}
+
+-- ---- before an event
+
+-- those with counters up to this one were received
+abbrev pub AreKnown : ℕ → List Op → List Op → Type 0
+AreKnown known received offered =
+    AllByRecursion (λ o. o.id.counter ≤ known → has_id o.id (identifiers received) ≡ true) offered
+
+-- the greatest counter of another replica among those applied
+abbrev pub known_counter : ℕ → ℕ → List Id → ℕ
+known_counter p q ops = cond (q == p) 0 (greatest_of q ops)
+
+-- ---- after an event
 
 -- the tokens of members, without the end of their object
 abbrev pub member_tokens : List NamedJson → List Token

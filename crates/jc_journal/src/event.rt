@@ -1,6 +1,6 @@
 //! The line of an event that was made: the crate's main call.
 
-ghost use Rattle.std.specs.Prelude.{◌≡◌, ◌≤◌, ◌×◌, ◌∷◌, [], ℕ, List, IfOk, OnOk, length, map, option_copied};
+ghost use Rattle.std.specs.Prelude.{◌≡◌, ◌≤◌, ◌∷◌, [], ℕ, List, IfOk, OnOk, length, map, option_copied};
 ghost use Rattle.std.specs.Option.{option_map};
 ghost use Rattle.json.specs.Token as T;
 ghost use Rattle.json.specs.Tree.{json_tokens, items_tokens};
@@ -213,7 +213,7 @@ pub fn event_line(
         → (made : StepIn old scheduled.now.event net.now.network rows)
         → IsNoted scheduled.now.event old.states before.now
         → line.items ≡ event_line net.now.names scheduled.now.given scheduled.now.number scheduled.now.event
-            (rows_of rules) made.step.before made.step.after) }
+        (rows_of rules) made.step.before made.step.after) }
 {
     let Some(replica) = net.replica(scheduled.event.replica()) else {
         unreachable!();

@@ -110,12 +110,7 @@ fn write_tagged(
 }
 
 /// Writes the text of a key.
-fn write_key(
-    alloc: Global,
-    names: &[Text],
-    key: &Key,
-    out: &mut Writer,
-) -> Result<(), AllocError>
+fn write_key(alloc: Global, names: &[Text], key: &Key, out: &mut Writer) -> Result<(), AllocError>
     ensures { OnOk result (Gains out.old out.new (T.string (key_text names.now key.now) ∷ [])) }
 {
     let text = key_text(alloc, names, key)?;
@@ -195,22 +190,36 @@ fn write_mutation_value(mutation: &Mutation, out: &mut Writer) -> Result<(), All
     }
 }
 
-/// Writes what an operation does: its cursor and what it depends on.
-fn write_reach(
+/// Writes an operation's cursor as a member.
+fn write_op_cursor(
     alloc: Global,
     names: &[Text],
-    op: &Op,
+    cursor: &Cursor,
     out: &mut Writer,
 ) -> Result<(), AllocError>
-    requires { length names.now ≤ MAX_REPLICAS }
     ensures { OnOk result (Gains out.old out.new
-        (member_tokens ((codes "cursor", cursor_json names.now op.now.cursor)
-        ∷ (codes "deps", vector_json names.now op.now.deps) ∷ []))) }
+        (member_tokens ((codes "cursor", cursor_json names.now cursor.now) ∷ []))) }
 {
     out.key("cursor")?;
-    write_cursor(alloc, names, &op.cursor, out)?;
+    write_cursor(alloc, names, cursor, out)
+}
+
+/// Writes what an operation depends on as a member.
+fn write_op_deps(names: &[Text], deps: &IdSet, out: &mut Writer) -> Result<(), AllocError>
+    requires { length names.now ≤ MAX_REPLICAS }
+    ensures { OnOk result (Gains out.old out.new
+        (member_tokens ((codes "deps", vector_json names.now deps.now) ∷ []))) }
+{
     out.key("deps")?;
-    write_vector(names, &op.deps, out)
+    write_vector(names, deps, out)
+}
+
+/// Writes an operation's identifier as a member.
+fn write_op_id(alloc: Global, names: &[Text], id: Id, out: &mut Writer) -> Result<(), AllocError>
+    ensures { OnOk result (Gains out.old out.new (member_tokens ((codes "id", string (id_text names.now id)) ∷ []))) }
+{
+    let text = id_text(alloc, names, id)?;
+    write_text("id", text.as_str(), out)
 }
 
 /// Writes an operation.
@@ -224,9 +233,9 @@ pub(crate) fn write_op(
     ensures { OnOk result (Gains out.old out.new (json_tokens (op_json names.now op.now))) }
 {
     out.begin_object()?;
-    write_reach(alloc, names, op, out)?;
-    out.key("id")?;
-    write_id(alloc, names, op.id, out)?;
+    write_op_cursor(alloc, names, &op.cursor, out)?;
+    write_op_deps(names, &op.deps, out)?;
+    write_op_id(alloc, names, op.id, out)?;
     write_text("mutation", mutation_name(&op.mutation), out)?;
     write_mutation_value(&op.mutation, out)?;
     out.end_object()

@@ -86,12 +86,7 @@ fn write_offering(net: &Net, id: Id, out: &mut Writer) -> Result<(), AllocError>
 }
 
 /// Writes which replicas offer the operation, where the refusal is that it isn't received.
-fn write_offered(
-    net: &Net,
-    refusal: u8,
-    event: &Event,
-    out: &mut Writer,
-) -> Result<(), AllocError>
+fn write_offered(net: &Net, refusal: u8, event: &Event, out: &mut Writer) -> Result<(), AllocError>
     ensures { OnOk result (Gains out.old out.new (member_tokens
         (offered_member net.now.names refusal (wanted_id event.now) net.now.network.states))) }
 {

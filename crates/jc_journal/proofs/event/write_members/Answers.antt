@@ -1,0 +1,39 @@
+use Rattle.std.proofs.Common.{◌∷◌, ◌++◌, [], List, ap, subst, option_copied}
+use Rattle.std.proofs.lemmas.Result.{on_ok_weaker}
+use Rattle.jc_view.specs.Parts.{Gains}
+use Rattle.jc_journal.specs.Operation.{NamedJson}
+use Rattle.jc_journal.specs.EventLine.{event_member, sender_member, given_member, kind_member, new_member, number_member, op_member, replica_member, rules_member}
+use Rattle.jc_journal.specs.Parts.{member_tokens, rows_of, noted_command, noted_new, noted_op}
+use Rattle.jc_journal.proofs.TokensLemmas.{members_then}
+use Rattle.jc_journal.proofs.event.write_members.Goals as goal
+
+pub returns : goal.returns
+returns c =
+    let names = c.args.names.now in
+    let s = c.args.scheduled.now in
+    let before = c.args.before.now in
+    let K = c.args.replica.now.now in
+    let m1 : List NamedJson = noted_command before in
+    let m2 : List NamedJson = event_member names s.event ∷ [] in
+    let m3 : List NamedJson = sender_member names s.event in
+    let m4 : List NamedJson = given_member s.given in
+    let m5 : List NamedJson = kind_member s.event ∷ [] in
+    let m6 : List NamedJson = new_member names (noted_new before K) in
+    let m7 : List NamedJson = number_member s.number ∷ [] in
+    let m8 : List NamedJson = op_member names (noted_op s.event before K) in
+    let m9 : List NamedJson = replica_member names s.event ∷ [] in
+    let m10 : List NamedJson = rules_member (rows_of c.args.rules) in
+    let g8 : Gains c.write_number.new.out c.write_op_member.new.out (member_tokens m8) =
+    subst (λ o. Gains c.write_number.new.out c.write_op_member.new.out (member_tokens (op_member names o))) c.op_of.ensures c.in_ok-write_op_member.ensures in
+    on_ok_weaker c.write_rules.result
+    (λ g10.
+    members_then _ _ _ m1 (m2 ++ m3 ++ m4 ++ m5 ++ m6 ++ m7 ++ m8 ++ m9 ++ m10) c.in_ok-write_command.ensures
+    (members_then _ _ _ m2 (m3 ++ m4 ++ m5 ++ m6 ++ m7 ++ m8 ++ m9 ++ m10) c.in_ok-write_event.ensures
+    (members_then _ _ _ m3 (m4 ++ m5 ++ m6 ++ m7 ++ m8 ++ m9 ++ m10) c.in_ok-write_sender.ensures
+    (members_then _ _ _ m4 (m5 ++ m6 ++ m7 ++ m8 ++ m9 ++ m10) c.in_ok-write_given.ensures
+    (members_then _ _ _ m5 (m6 ++ m7 ++ m8 ++ m9 ++ m10) c.in_ok-write_kind.ensures
+    (members_then _ _ _ m6 (m7 ++ m8 ++ m9 ++ m10) c.in_ok-write_new.ensures
+    (members_then _ _ _ m7 (m8 ++ m9 ++ m10) c.in_ok-write_number.ensures
+    (members_then _ _ _ m8 (m9 ++ m10) g8
+    (members_then _ _ _ m9 m10 c.in_ok-write_replica.ensures g10)))))))))
+    c.write_rules.ensures
