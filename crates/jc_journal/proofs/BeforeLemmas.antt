@@ -109,7 +109,7 @@ without_itself is = among is (λ i h. h)
         let there : has_id j is ≡ true = h j (rw (same_id-self j) refl) in
         rw there (among js (λ i e. h i (or_right (same_id i j) (has_id i js) e)))
 
-identifiers-append : (os ps : List Op) → identifiers (os ++ ps) ≡ identifiers os ++ identifiers ps
+pub identifiers-append : (os ps : List Op) → identifiers (os ++ ps) ≡ identifiers os ++ identifiers ps
 identifiers-append [] ps = refl
 identifiers-append (o ∷ os) ps = ap (λ (is : List Id). o.id ∷ is) (identifiers-append os ps)
 

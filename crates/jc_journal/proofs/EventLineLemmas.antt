@@ -13,6 +13,7 @@ use Rattle.jc_rules.specs.Ids.{greatest, without}
 use Rattle.jc_rules.specs.State.{State}
 use Rattle.jc_rules.specs.Step.{Step, replica_of}
 use Rattle.jc_rules.specs.Table.{op_of, both}
+use Rattle.jc_printer.specs.Canon.{AreNamed}
 use Rattle.jc_vectors.specs.StoredStates.{stored_op, stored_state}
 use Rattle.jc_replica.specs.Operations.{identifiers, AreInOrder}
 use Rattle.jc_replica.specs.Received.{is_new}
@@ -143,6 +144,15 @@ module _ (names : List (List ℕ)) (A : State) (read : List Op) where
   did_line event B before low o h r (applied p i rest x t is left there new_id deps op new) =
       as_event event (E.Apply p i) B before is (applied_line p i B x before there (ap (λ (S : State). S.recv) new))
   did_line event B before low o h r (done p rest is left new) = as_event event (E.Done p) B before is (done_line p B before)
+
+-- the replica of an event has a name
+pub named_within : (event : Event) (n : ℕ) → AreNamed event n → replica_of event < n
+named_within (E.Exec p) n h = h
+named_within (E.Send p) n h = h
+named_within (E.Recv p q) n h = h.0
+named_within (E.Take p q i) n h = h.0
+named_within (E.Apply p i) n h = h.0
+named_within (E.Done p) n h = h
 
 -- The line of a step, from what was noted before it and the stored state after it.
 pub line_of_step : (names : List (List ℕ)) (given : Bool) (n : ℕ) (event : Event) (rules : Option (List (Rule × ℕ))) (before : Before) (old new : List State) (rows : List (Rule × ℕ)) (past : Past)

@@ -1,13 +1,13 @@
 -- About StuckLine: which replicas offer an operation, and which of its dependencies are missing.
-use Rattle.std.proofs.Common.{◌≡◌, ℕ, zero, suc, ◌+◌, ◌<◌, List, [], ◌∷◌, ◌++◌, Bool, true, false, not, ◌||◌, ◌&&◌, cond, Contains, ◌⊎◌, inl, inr, Option, Some, None, length, drop, take, slice_get, refl, sym, ◌∙◌, ap, subst, arith, add-one}
-use Rattle.std.proofs.lemmas.Option.{same_Some}
+use Rattle.std.proofs.Common.{◌≡◌, ℕ, zero, suc, ◌+◌, ◌<◌, List, [], ◌∷◌, ◌++◌, Bool, true, false, not, ◌||◌, ◌&&◌, cond, Contains, ◌⊎◌, inl, inr, Option, Some, None, length, drop, take, map, slice_get, get_or, refl, sym, ◌∙◌, ap, subst, arith, add-one}
+use Rattle.std.proofs.lemmas.Option.{same_Some, slice_get_read}
 use Rattle.std.proofs.lemmas.List.Elements.{Contains-append_left, Contains-append_right}
 use Rattle.json.specs.Token.{Token}
 use Rattle.json.specs.Token as T
 use Rattle.json.specs.Tree.{items_tokens}
 use Rattle.jc_rules.specs.declared.id.Id.{Id}
 use Rattle.jc_rules.specs.declared.operation.Op.{Op}
-use Rattle.jc_rules.specs.Ids.{AreRising, has_id, without}
+use Rattle.jc_rules.specs.Ids.{AreRising, has_id, with_id, without}
 use Rattle.jc_rules.specs.Order.{same_id}
 use Rattle.jc_rules.specs.ReplicaNames.{name_at}
 use Rattle.jc_rules.specs.State.{State}
@@ -17,18 +17,24 @@ use Rattle.jc_rules.proofs.BoolLemmas.{or_right, or_cases}
 use Rattle.jc_rules.proofs.CoveredLemmas.{left_in}
 use Rattle.jc_rules.proofs.IdsLemmas.{same_id-self, same_id-true, has_id-with, has_id-without, without-rises, same_members}
 use Rattle.jc_rules.proofs.RepresentationLemmas.{counters_tell}
-use Rattle.jc_vectors.proofs.ApplyStandsLemmas.{deps_closed}
+use Rattle.jc_vectors.specs.StoredStates.{stored_op}
+use Rattle.jc_vectors.proofs.ApplyStandsLemmas.{deps_closed, kept_found}
 use Rattle.jc_replica.specs.Operations.{identifiers}
+use Rattle.jc_replica.specs.ReplicaHistory.{Past}
+use Rattle.jc_replica.proofs.MayApplyLemmas.{kept_absent}
 use Rattle.jc_network.specs.Laws.{ops_held}
 use Rattle.jc_network.specs.Invariant.{IsFromStart}
 use Rattle.jc_network.specs.RunInvariant.{IsReplicaAt, IsMadeOp, IsWell}
+use Rattle.jc_network.specs.Steps.{HasReplica}
 use Rattle.jc_network.proofs.AfterLemmas.{take_more}
+use Rattle.jc_network.proofs.AppliedIdsLemmas.{kept_ids}
 use Rattle.jc_network.proofs.MembersLemmas.{none_in, first_in, later_in, in_cons, op_in}
 use Rattle.jc_network.proofs.RunInvariantStartLemmas.{held_made, sound}
 use Rattle.jc_meaning.proofs.ComparisonLemmas.{held_has, run_well, stands_held}
 use Rattle.jc_journal.specs.Operation.{string_items}
-use Rattle.jc_journal.specs.StuckLine.{offering_from}
-use Rattle.jc_journal.specs.Parts.{name_tokens, made_ids}
+use Rattle.jc_journal.specs.StuckLine.{offering_from, deps_of, missing_ids}
+use Rattle.jc_journal.specs.Parts.{name_tokens, made_ids, IsMissingOf}
+use Rattle.jc_journal.proofs.BeforeLemmas.{identifiers-append}
 
 -- ---- who offers it
 
@@ -85,6 +91,80 @@ made_more network p A k e =
     ∙ has_id-append k (made_ids (take p network)) (identifiers A.queue ++ [])
     ∙ ap (λ b. has_id k (made_ids (take p network)) || b) (has_id-append k (identifiers A.queue) [])
     ∙ last_or (has_id k (made_ids (take p network))) (has_id k (identifiers A.queue))
+
+-- ---- one operation more that is looked at
+
+or_false : (b : Bool) → b || false ≡ b
+or_false true = refl
+or_false false = refl
+
+taken_ids : (k : Id) (made : List Op) (n : ℕ) (o : Op) → n < length made → o ≡ get_or made n o → has_id k (identifiers (take (n + 1) made)) ≡ has_id k (identifiers (take n made)) || same_id k o.id
+taken_ids k made n o l e =
+    ap (λ (m : ℕ). has_id k (identifiers (take m made))) (add-one n)
+    ∙ ap (λ (os : List Op). has_id k (identifiers os)) (take_more made n o (slice_get_read made (length made) n o refl l e))
+    ∙ ap (has_id k) (identifiers-append (take n made) (o ∷ []))
+    ∙ has_id-append k (identifiers (take n made)) (o.id ∷ [])
+    ∙ ap (λ b. has_id k (identifiers (take n made)) || b) (or_false (same_id k o.id))
+
+with_one : (s old t f : Bool) → (s ≡ true → f ≡ true) → s || (old || (t && f)) ≡ old || ((t || s) && f)
+with_one true true t f h = refl
+with_one true false true f h = sym (h refl)
+with_one true false false f h = sym (h refl)
+with_one false old true f h = refl
+with_one false old false f h = refl
+
+without_one : (s old t f : Bool) → (s ≡ true → f ≡ false) → old || (t && f) ≡ old || ((t || s) && f)
+without_one true old true f h = refl
+without_one true old false f h = ap (λ b. old || b) (sym (h refl))
+without_one false old true f h = refl
+without_one false old false f h = refl
+
+module _ (old ids deps applied : List Id) (made : List Op) (n : ℕ) (o : Op) (l : n < length made) (is : o ≡ get_or made n o)
+    (so_far : (k : Id) → has_id k ids ≡ has_id k old || (has_id k (identifiers (take n made)) && (has_id k deps && not (has_id k applied)))) where
+  wanted : Id → Bool
+  wanted k = has_id k deps && not (has_id k applied)
+
+  same : (k : Id) (b : Bool) → wanted o.id ≡ b → same_id k o.id ≡ true → wanted k ≡ b
+  same k b h e = ap (λ (j : Id). has_id j deps && not (has_id j applied)) (same_id-true k o.id e) ∙ h
+
+  pub added_one : wanted o.id ≡ true → (new : List Id) → new ≡ with_id o.id ids
+      → (k : Id) → has_id k new ≡ has_id k old || (has_id k (identifiers (take (n + 1) made)) && (has_id k deps && not (has_id k applied)))
+  added_one h new e k =
+      ap (has_id k) e ∙ has_id-with k o.id ids ∙ ap (λ b. same_id k o.id || b) (so_far k)
+      ∙ with_one (same_id k o.id) (has_id k old) (has_id k (identifiers (take n made))) (has_id k deps && not (has_id k applied)) (same k true h)
+      ∙ ap (λ b. has_id k old || (b && (has_id k deps && not (has_id k applied)))) (sym (taken_ids k made n o l is))
+
+  pub passed_one : wanted o.id ≡ false → (k : Id) → has_id k ids ≡ has_id k old || (has_id k (identifiers (take (n + 1) made)) && (has_id k deps && not (has_id k applied)))
+  passed_one h k =
+      so_far k
+      ∙ without_one (same_id k o.id) (has_id k old) (has_id k (identifiers (take n made))) (has_id k deps && not (has_id k applied)) (same k false h)
+      ∙ ap (λ b. has_id k old || (b && (has_id k deps && not (has_id k applied)))) (sym (taken_ids k made n o l is))
+
+-- whether it is wanted, by its two tests
+pub both_tests : (i : Id) (deps applied : List Id) (a b : Bool) → has_id i deps ≡ a → has_id i applied ≡ b → has_id i deps && not (has_id i applied) ≡ a && not b
+both_tests i deps applied a b e f = ap (λ x. x && not (has_id i applied)) e ∙ ap (λ x. a && not x) f
+
+-- one replica more
+either_made : (m q f : Bool) → (m && f) || (q && f) ≡ (m || q) && f
+either_made true true true = refl
+either_made true true false = refl
+either_made true false true = refl
+either_made true false false = refl
+either_made false q f = refl
+
+pub replica_missing : (network : List State) (p : ℕ) (past : Past) (old new deps applied : List Id) (queue : List Op) → HasReplica network p past → queue ≡ past.now.queue
+    → ((k : Id) → has_id k old ≡ has_id k (made_ids (take p network)) && (has_id k deps && not (has_id k applied)))
+    → ((k : Id) → has_id k new ≡ has_id k old || (has_id k (identifiers queue) && (has_id k deps && not (has_id k applied))))
+    → (k : Id) → has_id k new ≡ has_id k (made_ids (take (p + 1) network)) && (has_id k deps && not (has_id k applied))
+replica_missing network p past old new deps applied queue has q h g k =
+    let f = has_id k deps && not (has_id k applied) in
+    let ids : identifiers queue ≡ identifiers has.at.queue = ap identifiers (q ∙ ap (λ (S : State). S.queue) has.kept) ∙ kept_ids has.at.queue in
+    g k
+    ∙ ap (λ b. b || (has_id k (identifiers queue) && f)) (h k)
+    ∙ ap (λ (is : List Id). (has_id k (made_ids (take p network)) && f) || (has_id k is && f)) ids
+    ∙ either_made (has_id k (made_ids (take p network))) (has_id k (identifiers has.at.queue)) f
+    ∙ ap (λ b. b && f) (sym (made_more network p has.at k has.there))
+    ∙ ap (λ (n : ℕ). has_id k (made_ids (take n network)) && f) (sym (add-one p))
 
 -- ---- the identifiers of what was made are those of the sound set
 
@@ -173,3 +253,38 @@ module _ (N : List State) (r : IsFromStart N) (p : ℕ) (A : State) (there : IsR
               let m : has_id k (made_ids N) ≡ true = op_made k x.0 x.1 in
               absurd (let z : ⊥ = cc in z)
           none false f = rw f refl
+
+-- what is found among the stored operations
+pub missing_found : (N : List State) → IsFromStart N → (p : ℕ) (past : Past) (i : Id) (k : Op) (recv : List Op) (applied ids : List Id) → HasReplica N p past
+    → Some k ≡ op_of i recv → recv ≡ past.now.recv → applied ≡ past.now.ops → IsMissingOf N k.deps applied ids
+    → ids ≡ missing_ids (slice_get N p) i
+missing_found N r p past i k recv applied ids has found is ops m =
+    let A : State = has.at in
+    let kept : op_of i (map stored_op A.recv) ≡ Some k = sym (found ∙ ap (op_of i) (is ∙ ap (λ (S : State). S.recv) has.kept)) in
+    let x = kept_found i A.recv k kept in
+    let deps : k.deps ≡ covered x.0.deps = ap (λ (o : Op). o.deps) x.2 in
+    let all : applied ≡ covered A.ops = ops ∙ ap (λ (S : State). S.ops) has.kept in
+    missing_is N r p A has.there x.0 i ids x.1 m.rises
+    (λ j. m.each j
+    ∙ ap (λ (s : List Id). has_id j (made_ids N) && (has_id j s && not (has_id j applied))) deps
+    ∙ ap (λ (s : List Id). has_id j (made_ids N) && (has_id j (covered x.0.deps) && not (has_id j s))) all)
+    ∙ ap (λ (o : Option Op). without (deps_of o) A.ops) (sym x.1)
+    ∙ ap (λ (S : Option State). missing_ids S i) (sym has.there)
+
+pub missing_none : (N : List State) (p : ℕ) (past : Past) (i : Id) (recv : List Op) → HasReplica N p past → None ≡ op_of i recv → recv ≡ past.now.recv → missing_ids (slice_get N p) i ≡ []
+missing_none N p past i recv has none is =
+    let A : State = has.at in
+    let kept : op_of i (map stored_op A.recv) ≡ None = sym (none ∙ ap (op_of i) (is ∙ ap (λ (S : State). S.recv) has.kept)) in
+    ap (λ (S : Option State). missing_ids S i) has.there ∙ ap (λ (o : Option Op). without (deps_of o) A.ops) (kept_absent i A.recv kept)
+
+-- whether a replica offers the operation
+pub offers_tell : (N : List State) (p : ℕ) (past : Past) (A : State) (i : Id) (sent : List Op) (b : Bool) → HasReplica N p past → slice_get N p ≡ Some A → sent ≡ past.now.send → b ≡ has_id i (identifiers sent) → b ≡ has_id i (identifiers A.send)
+offers_tell N p past A i sent b has there is e =
+    let same : has.at ≡ A = same_Some has.at A (sym has.there ∙ there) in
+    e
+    ∙ ap (λ (os : List Op). has_id i (identifiers os)) (is ∙ ap (λ (S : State). S.send) has.kept)
+    ∙ ap (has_id i) (kept_ids has.at.send)
+    ∙ ap (λ (S : State). has_id i (identifiers S.send)) same
+
+pub name_tells : (names : List (List ℕ)) (p : ℕ) (i : Id) (A : State) (b : Bool) → b ≡ has_id i (identifiers A.send) → name_tokens names p i A ≡ cond b (T.string (name_at names p) ∷ []) []
+name_tells names p i A b e = ap (λ x. cond x (T.string (name_at names p) ∷ []) []) (sym e)

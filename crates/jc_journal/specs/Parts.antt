@@ -1,5 +1,5 @@
 -- What the private functions write, from what was noted before an event and the stored state after it.
-use Rattle.std.specs.Prelude.{◌≡◌, ◌≤◌, ◌==◌, ℕ, List, [], ◌∷◌, ◌++◌, codes, cond, decimal, drop, Bool, true, Option, Some, None, slice_get}
+use Rattle.std.specs.Prelude.{◌≡◌, ◌≤◌, ◌==◌, ◌&&◌, not, ℕ, List, [], ◌∷◌, ◌++◌, codes, cond, decimal, drop, Bool, true, Option, Some, None, slice_get}
 use Rattle.std.specs.Borrow.{Bor}
 use Rattle.std.specs.List.{AllByRecursion}
 use Rattle.std.specs.Option.{option_map}
@@ -12,7 +12,7 @@ use Rattle.jc_rules.specs.declared.operation.Event.{Event}
 use Rattle.jc_rules.specs.declared.operation.Event.TheVariants as E
 use Rattle.jc_rules.specs.declared.operation.Op.{Op}
 use Rattle.jc_rules.specs.declared.rule.Rule.{Rule}
-use Rattle.jc_rules.specs.Ids.{has_id}
+use Rattle.jc_rules.specs.Ids.{AreRising, has_id}
 use Rattle.jc_rules.specs.Refusals.{refusal_name}
 use Rattle.jc_rules.specs.ReplicaNames.{name_at}
 use Rattle.jc_rules.specs.State.{State}
@@ -82,6 +82,11 @@ name_tokens names p i A = cond (has_id i (identifiers A.send)) (T.string (name_a
 abbrev pub made_ids : List State → List Id
 made_ids [] = []
 made_ids (A ∷ network) = identifiers A.queue ++ made_ids network
+
+-- the identifiers of those that were made and are in the one set and not in the other
+pub record IsMissingOf (network : List State) (deps applied ids : List Id) : Type 0 where
+  pub rises : AreRising ids
+  pub each : (k : Id) → has_id k ids ≡ has_id k (made_ids network) && (has_id k deps && not (has_id k applied))
 
 -- the members of a stuck event's line, from the fault
 abbrev pub told_members : List (List ℕ) → Bool → ℕ → List State → Stuck → List NamedJson

@@ -1,6 +1,6 @@
 //! The line of an event that was made: the crate's main call.
 
-ghost use Rattle.std.specs.Prelude.{◌≡◌, ◌≤◌, ◌∷◌, [], ℕ, List, IfOk, OnOk, length, map, option_copied};
+ghost use Rattle.std.specs.Prelude.{◌≡◌, ◌≤◌, ◌∷◌, [], ℕ, List, decimal, IfOk, OnOk, length, map, option_copied};
 ghost use Rattle.std.specs.Option.{option_map};
 ghost use Rattle.json.specs.Token as T;
 ghost use Rattle.json.specs.Tree.{json_tokens, items_tokens};
@@ -103,7 +103,7 @@ fn write_op_member(
 ) -> Result<(), AllocError>
     requires { length names.now ≤ MAX_REPLICAS }
     ensures { OnOk result (Gains out.old out.new
-        (member_tokens (op_member names.now (option_copied op)))) }
+        (member_tokens (op_member names.now (option_copied op.entry)))) }
 {
     match op {
         Some(op) => {
@@ -138,7 +138,7 @@ fn write_rows(rules: &Trace, out: &mut Writer) -> Result<(), AllocError>
 
 /// Writes the rules of the event, where they are asked for.
 fn write_rules(rules: Option<&Trace>, out: &mut Writer) -> Result<(), AllocError>
-    ensures { OnOk result (Gains out.old out.new (member_tokens (rules_member (rows_of rules)))) }
+    ensures { OnOk result (Gains out.old out.new (member_tokens (rules_member (rows_of rules.entry)))) }
 {
     match rules {
         Some(rules) => {
@@ -162,7 +162,7 @@ fn write_members(
     requires few { length names.now ≤ MAX_REPLICAS }
     requires named { AreNamed scheduled.now.event (length names.now) }
     ensures { OnOk result (Gains out.old out.new (member_tokens
-        (noted_members names.now scheduled.now.given scheduled.now.number scheduled.now.event (rows_of rules)
+        (noted_members names.now scheduled.now.given scheduled.now.number scheduled.now.event (rows_of rules.entry)
         before.now replica.now.now))) }
 {
     let event = &scheduled.event;
@@ -190,7 +190,7 @@ fn line_of(
     requires few { length names.now ≤ MAX_REPLICAS }
     requires named { AreNamed scheduled.now.event (length names.now) }
     ensures { IfOk result (λ line. line.items ≡ members_line
-        (noted_members names.now scheduled.now.given scheduled.now.number scheduled.now.event (rows_of rules)
+        (noted_members names.now scheduled.now.given scheduled.now.number scheduled.now.event (rows_of rules.entry)
         before.now replica.now.now)) }
 {
     let mut out = begin_line(alloc)?;
@@ -215,8 +215,9 @@ pub fn event_line(
         → line.items ≡ event_line net.now.names scheduled.now.given scheduled.now.number scheduled.now.event
         (rows_of rules) made.step.before made.step.after) }
 {
+    let names = net.names();
     let Some(replica) = net.replica(scheduled.event.replica()) else {
         unreachable!();
     };
-    line_of(alloc, net.names(), scheduled, before, replica, rules)
+    line_of(alloc, names, scheduled, before, replica, rules)
 }

@@ -15,7 +15,7 @@ ghost use Rattle.jc_view.specs.Parts.{Gains};
 ghost use Rattle.jc_journal.specs.Operation.{strings_json};
 ghost use Rattle.jc_journal.specs.EventLine.{members_line};
 ghost use Rattle.jc_journal.specs.StuckLine.{wanted_id, key_member, offering_from, offered_member, missing_ids, missing_member, stuck_event_line};
-ghost use Rattle.jc_journal.specs.Parts.{member_tokens, name_tokens, made_ids, told_members};
+ghost use Rattle.jc_journal.specs.Parts.{member_tokens, name_tokens, IsMissingOf, told_members};
 
 use crate::lookup::{find, has};
 use crate::members::{
@@ -128,15 +128,14 @@ fn made_missing(
     deps: &IdSet,
     applied: &IdSet,
 ) -> Result<Vec<Id>, AllocError>
-    ensures rises { IfOk result (λ ids. AreRising ids.items) }
-    ensures made { IfOk result (λ ids. (k : AnyId) → has_id k ids.items
-        ≡ has_id k (made_ids net.now.network.states) && (has_id k deps.now && not (has_id k applied.now))) }
+    ensures { IfOk result (λ ids. IsMissingOf net.now.network.states deps.now applied.now ids.items) }
 {
     let mut ids = Vec::new(alloc);
     let count = net.names().len() as u16;
     for p in 0..count {
-        if let Some(replica) = net.replica(p) {
-            add_missing(&mut ids, replica.queue(), deps, applied)?;
+        match net.replica(p) {
+            Some(replica) => add_missing(&mut ids, replica.queue(), deps, applied)?,
+            None => unreachable!(),
         }
     }
     Ok(ids)
