@@ -121,7 +121,7 @@ without_one false old false f h = refl
 
 module _ (old ids deps applied : List Id) (made : List Op) (n : ℕ) (o : Op) (l : n < length made) (is : o ≡ get_or made n o)
     (so_far : (k : Id) → has_id k ids ≡ has_id k old || (has_id k (identifiers (take n made)) && (has_id k deps && not (has_id k applied)))) where
-  wanted : Id → Bool
+  abbrev pub wanted : Id → Bool
   wanted k = has_id k deps && not (has_id k applied)
 
   same : (k : Id) (b : Bool) → wanted o.id ≡ b → same_id k o.id ≡ true → wanted k ≡ b

@@ -213,7 +213,7 @@ pub fn event_line(
         → (made : StepIn old scheduled.now.event net.now.network rows)
         → IsNoted scheduled.now.event old.states before.now
         → line.items ≡ event_line net.now.names scheduled.now.given scheduled.now.number scheduled.now.event
-        (rows_of rules) made.step.before made.step.after) }
+        (rows_of rules.entry) made.step.before made.step.after) }
 {
     let names = net.names();
     let Some(replica) = net.replica(scheduled.event.replica()) else {
