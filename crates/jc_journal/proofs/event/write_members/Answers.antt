@@ -25,17 +25,14 @@ returns c =
     let m10 : List NamedJson = rules_member (rows_of c.args.rules) in
     let g8 : Gains c.write_number.new.out c.write_op_member.new.out (member_tokens m8) =
     subst (λ o. Gains c.write_number.new.out c.write_op_member.new.out (member_tokens (op_member names o))) c.op_of.ensures c.in_ok-write_op_member.ensures in
+    let t2 : Gains c.args.out.now c.write_event.new.out (member_tokens (m1 ++ m2)) = members_then c.args.out.now c.write_command.new.out c.write_event.new.out (m1) m2 c.in_ok-write_command.ensures c.in_ok-write_event.ensures in
+    let t3 : Gains c.args.out.now c.write_sender.new.out (member_tokens (m1 ++ m2 ++ m3)) = members_then c.args.out.now c.write_event.new.out c.write_sender.new.out (m1 ++ m2) m3 t2 c.in_ok-write_sender.ensures in
+    let t4 : Gains c.args.out.now c.write_given.new.out (member_tokens (m1 ++ m2 ++ m3 ++ m4)) = members_then c.args.out.now c.write_sender.new.out c.write_given.new.out (m1 ++ m2 ++ m3) m4 t3 c.in_ok-write_given.ensures in
+    let t5 : Gains c.args.out.now c.write_kind.new.out (member_tokens (m1 ++ m2 ++ m3 ++ m4 ++ m5)) = members_then c.args.out.now c.write_given.new.out c.write_kind.new.out (m1 ++ m2 ++ m3 ++ m4) m5 t4 c.in_ok-write_kind.ensures in
+    let t6 : Gains c.args.out.now c.write_new.new.out (member_tokens (m1 ++ m2 ++ m3 ++ m4 ++ m5 ++ m6)) = members_then c.args.out.now c.write_kind.new.out c.write_new.new.out (m1 ++ m2 ++ m3 ++ m4 ++ m5) m6 t5 c.in_ok-write_new.ensures in
+    let t7 : Gains c.args.out.now c.write_number.new.out (member_tokens (m1 ++ m2 ++ m3 ++ m4 ++ m5 ++ m6 ++ m7)) = members_then c.args.out.now c.write_new.new.out c.write_number.new.out (m1 ++ m2 ++ m3 ++ m4 ++ m5 ++ m6) m7 t6 c.in_ok-write_number.ensures in
+    let t8 : Gains c.args.out.now c.write_op_member.new.out (member_tokens (m1 ++ m2 ++ m3 ++ m4 ++ m5 ++ m6 ++ m7 ++ m8)) = members_then c.args.out.now c.write_number.new.out c.write_op_member.new.out (m1 ++ m2 ++ m3 ++ m4 ++ m5 ++ m6 ++ m7) m8 t7 g8 in
+    let t9 : Gains c.args.out.now c.write_replica.new.out (member_tokens (m1 ++ m2 ++ m3 ++ m4 ++ m5 ++ m6 ++ m7 ++ m8 ++ m9)) = members_then c.args.out.now c.write_op_member.new.out c.write_replica.new.out (m1 ++ m2 ++ m3 ++ m4 ++ m5 ++ m6 ++ m7 ++ m8) m9 t8 c.in_ok-write_replica.ensures in
     on_ok_weaker c.write_rules.result
-    (λ g10.
-    let end = c.write_rules.new.out in
-    let t9 : Gains c.write_op_member.new.out end (member_tokens (m9 ++ m10)) = members_then c.write_op_member.new.out c.write_replica.new.out end m9 (m10) c.in_ok-write_replica.ensures g10 in
-    let t8 : Gains c.write_number.new.out end (member_tokens (m8 ++ m9 ++ m10)) = members_then c.write_number.new.out c.write_op_member.new.out end m8 (m9 ++ m10) g8 t9 in
-    let t7 : Gains c.write_new.new.out end (member_tokens (m7 ++ m8 ++ m9 ++ m10)) = members_then c.write_new.new.out c.write_number.new.out end m7 (m8 ++ m9 ++ m10) c.in_ok-write_number.ensures t8 in
-    let t6 : Gains c.write_kind.new.out end (member_tokens (m6 ++ m7 ++ m8 ++ m9 ++ m10)) = members_then c.write_kind.new.out c.write_new.new.out end m6 (m7 ++ m8 ++ m9 ++ m10) c.in_ok-write_new.ensures t7 in
-    let t5 : Gains c.write_given.new.out end (member_tokens (m5 ++ m6 ++ m7 ++ m8 ++ m9 ++ m10)) = members_then c.write_given.new.out c.write_kind.new.out end m5 (m6 ++ m7 ++ m8 ++ m9 ++ m10) c.in_ok-write_kind.ensures t6 in
-    let t4 : Gains c.write_sender.new.out end (member_tokens (m4 ++ m5 ++ m6 ++ m7 ++ m8 ++ m9 ++ m10)) = members_then c.write_sender.new.out c.write_given.new.out end m4 (m5 ++ m6 ++ m7 ++ m8 ++ m9 ++ m10) c.in_ok-write_given.ensures t5 in
-    let t3 : Gains c.write_event.new.out end (member_tokens (m3 ++ m4 ++ m5 ++ m6 ++ m7 ++ m8 ++ m9 ++ m10)) = members_then c.write_event.new.out c.write_sender.new.out end m3 (m4 ++ m5 ++ m6 ++ m7 ++ m8 ++ m9 ++ m10) c.in_ok-write_sender.ensures t4 in
-    let t2 : Gains c.write_command.new.out end (member_tokens (m2 ++ m3 ++ m4 ++ m5 ++ m6 ++ m7 ++ m8 ++ m9 ++ m10)) = members_then c.write_command.new.out c.write_event.new.out end m2 (m3 ++ m4 ++ m5 ++ m6 ++ m7 ++ m8 ++ m9 ++ m10) c.in_ok-write_event.ensures t3 in
-    let t1 : Gains c.args.out.now end (member_tokens (m1 ++ m2 ++ m3 ++ m4 ++ m5 ++ m6 ++ m7 ++ m8 ++ m9 ++ m10)) = members_then c.args.out.now c.write_command.new.out end m1 (m2 ++ m3 ++ m4 ++ m5 ++ m6 ++ m7 ++ m8 ++ m9 ++ m10) c.in_ok-write_command.ensures t2 in
-    t1)
+    (λ g10. members_then c.args.out.now c.write_replica.new.out c.write_rules.new.out (m1 ++ m2 ++ m3 ++ m4 ++ m5 ++ m6 ++ m7 ++ m8 ++ m9) m10 t9 g10)
     c.write_rules.ensures
