@@ -1,0 +1,21 @@
+use Rattle.std.proofs.Common.{◌<◌, ℕ, List, length, subst, ap, ◌∙◌, arith}
+use Rattle.std.proofs.lemmas.Result.{IfOk-weaker}
+use Rattle.jc_rules.specs.Step.{replica_of}
+use Rattle.jc_network.specs.Steps.{HasReplica}
+use Rattle.jc_journal.specs.EventLine.{members_line}
+use Rattle.jc_journal.specs.Parts.{rows_of, noted_members}
+use Rattle.jc_journal.proofs.EventLineLemmas.{named_within, line_of_step}
+use Rattle.jc_journal.proofs.event.event_line.Goals as goal
+
+pub returns : goal.returns
+returns c =
+    let N = c.args.net.now.network.states in
+    let s = c.args.scheduled.now in
+    let past = c.in-Some.replica.now in
+    let has : HasReplica N (replica_of s.event) past = subst (λ (p : ℕ). HasReplica N p past) c.replica.ensures c.in-Some.ensures.some in
+    IfOk-weaker c.line_of.result _ _
+    (λ line e old rows made noted.
+    e
+    ∙ ap (λ (ns : List (List ℕ)). members_line (noted_members ns s.given s.number s.event (rows_of c.args.rules) c.args.before.now past.now)) c.names-names.ensures.names
+    ∙ line_of_step c.args.net.now.names s.given s.number s.event (rows_of c.args.rules) c.args.before.now old.states N rows past made.step noted has)
+    c.line_of.ensures

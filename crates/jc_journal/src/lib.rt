@@ -1,0 +1,14 @@
+//! The journal of a scenario: a line of JSON for each event that is made, with its operation in full, and one for an
+//! event that is stuck.
+#![tactic(auto)]
+
+mod before;
+mod event;
+mod lookup;
+mod members;
+mod operation;
+mod stuck;
+
+pub use before::Before;
+pub use event::{Scheduled, event_line};
+pub use stuck::stuck_line;
