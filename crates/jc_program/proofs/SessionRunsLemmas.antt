@@ -73,7 +73,7 @@ stops_whole Write n b v lines left old new is e (inl h) = inl (h.0, refused_whol
 stops_whole Write n b v lines left old new is e (inr (inl h)) = inr (inl (h.0, given_whole n b v old new is e h.1))
 stops_whole Write n b v lines left old new is e (inr (inr h)) = inr (inr (scenario_whole (λ O A. OfLinesLeft lines left (λ l rest. WentFront O A l rest old new)) n b v is e h))
 stops_whole TooManyLines n b v lines left old new is e h = past_whole n b v lines left old new is e h
-stops_whole (NoThread refused) n b v lines left old new is e h = absurd h
+stops_whole (NoThread spawn) n b v lines left old new is e h = absurd h
 stops_whole Memory n b v lines left old new is e (inl h) = inl h
 stops_whole Memory n b v lines left old new is e (inr h) = inr (scenario_whole (λ O A. OfLinesLeft lines left (λ l rest. WentWhole O A l rest old new)) n b v is e h)
 

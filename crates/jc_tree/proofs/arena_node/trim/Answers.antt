@@ -1,4 +1,4 @@
-use Rattle.std.proofs.Common.{◌≡◌, ◌+◌, ℕ, List, Option, length, take, sym, ◌∙◌, ap, arith}
+use Rattle.std.proofs.Common.{rules, ◌≡◌, ◌+◌, ℕ, List, Option, length, take, sym, ◌∙◌, ap, subst, arith}
 use Rattle.jc_rules.specs.declared.id.Id.{Id}
 use Rattle.jc_rules.specs.declared.key.Next.{Next}
 use Rattle.jc_rules.specs.Context.{Register}
@@ -31,3 +31,19 @@ loop-last-preserved c =
       },
       (λ j. flat_of u (c.cut.ensures j) (c.cut-in-Some.ensures j) (c.cut-in-Some-2.ensures j) (c.cut-in-Some-3.ensures j) (c.cut-in-Some-4.ensures j)) ∙ trimmed_seen k.keys u k.maps.items k.lists.items k.registers.items k.presences k.links.items n c.pop.ensures.numbered some c.pop.ensures.keys c.pop.ensures.order bare ∙ k.invariant.1,
     )
+
+pub returns-then-not-is_bare-clause-trimmed : goal.returns-then-not-is_bare-clause-trimmed
+returns-then-not-is_bare-clause-trimmed c = λ n long bare.
+    let k = c.loop-last in
+    let last = c.in-Some.last in
+    let at : n ≡ last = omega (arith, c.in-Some.ensures, c.len.ensures, long) in
+    let here : IsBare last k.maps.items k.lists.items k.registers.items k.presences.items k.links.items =
+    subst (λ i. IsBare i k.maps.items k.lists.items k.registers.items k.presences.items k.links.items) at bare in
+    let is = c.is_bare.ensures.1 (record {
+      maps = ap (λ (d : List (Option ℕ)). at_number d last) c.as_slice.ensures.value ∙ here.maps;
+      lists = ap (λ (d : List (Option ℕ)). at_number d last) c.as_slice-in-Some.ensures.value ∙ here.lists;
+      registers = ap (λ (d : List (Option Register)). at_number d last) c.as_slice-in-Some-2.ensures.value ∙ here.registers;
+      presences = ap (λ (d : List (Option (List Id))). at_number d last) c.as_slice-in-Some-3.ensures.value ∙ here.presences;
+      links = ap (λ (d : List (Option Next)). at_number d last) c.as_slice-in-Some-4.ensures.value ∙ here.links;
+    }) in
+    absurd (search (rules, is, c.if-not-is_bare.true))
