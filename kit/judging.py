@@ -35,6 +35,15 @@ def names():
     return sorted(name for name in os.listdir(HERE) if os.path.exists(os.path.join(HERE, name, "about")))
 
 
+def chosen(words):
+    """The names that are asked for, or all."""
+    there = names()
+    for word in words or ():
+        if word not in there:
+            stop(f"the kit has no scenario {word}")
+    return [name for name in there if not words or name in words]
+
+
 def path_of(name, file):
     return os.path.join(HERE, name, file)
 

@@ -17,6 +17,7 @@ EVERYTHING = None
 FAULTS = {
     "delete-wins": "a delete takes away what its maker didn't know, too",
     "rising": "of elements behind one and the same, the least identifier comes first",
+    "arrival": "of elements behind one and the same, the one that came last comes first",
     "forgets": "a send offers what is new, and no longer what was offered before",
     "last-writer": "an assignment takes away values that its maker didn't know, too",
     "shallow": "a delete, or an assignment of {} or [], takes nothing away below its place",
@@ -55,10 +56,10 @@ class List:
     def there(self):
         return [element for element in self.order[1:] if self.places[element].is_there()]
 
-    def insert(self, behind, identifier, is_rising):
+    def insert(self, behind, identifier, fault):
         """Puts an element behind another, and behind those there that are greater."""
         at = self.order.index(behind) + 1 if behind in self.order else len(self.order)
-        while at < len(self.order) and (self.order[at] > identifier) != is_rising:
+        while fault != "arrival" and at < len(self.order) and (self.order[at] > identifier) != (fault == "rising"):
             at += 1
         self.order.insert(at, identifier)
 
@@ -142,7 +143,7 @@ class Document:
             content = self.go(place, operation, kind)
             place = content.places[key]
         if operation.kind == "insert":
-            content.insert(key, operation.identifier, self.fault == "rising")
+            content.insert(key, operation.identifier, self.fault)
             place = content.places[operation.identifier]
         if operation.kind == "delete":
             place.clear(EVERYTHING if self.fault == "delete-wins" else operation.known, self.fault == "shallow")
