@@ -16,7 +16,7 @@ HERE = os.path.dirname(os.path.abspath(__file__))
 sys.path.append(os.path.join(os.path.dirname(HERE), "oracle"))
 
 from program import command_line
-from streams import reason_of, stop
+from streams import READ_OR_WRITE_FAILED, reason_of, stop
 
 STUCK = 3
 SECONDS, MOST_BYTES = 10, 1 << 26
@@ -35,13 +35,13 @@ def names():
     return sorted(name for name in os.listdir(HERE) if os.path.exists(os.path.join(HERE, name, "about")))
 
 
-def chosen(words):
-    """The names that are asked for, or all."""
+def chosen(only, but=()):
+    """The names that are asked for, or all but some."""
     there = names()
-    for word in words or ():
+    for word in [*(only or ()), *(but or ())]:
         if word not in there:
             stop(f"the kit has no scenario {word}")
-    return [name for name in there if not words or name in words]
+    return [name for name in there if (not only or name in only) and name not in (but or ())]
 
 
 def path_of(name, file):
@@ -49,8 +49,11 @@ def path_of(name, file):
 
 
 def stored(name, file):
-    with open(path_of(name, file), "rb") as opened:
-        return opened.read()
+    try:
+        with open(path_of(name, file), "rb") as opened:
+            return opened.read()
+    except OSError as error:
+        stop(f"read failed: {path_of(name, file)}: {reason_of(error)}", READ_OR_WRITE_FAILED)
 
 
 def by_rules(words, text):
@@ -84,8 +87,8 @@ def kill(process):
     """Ends what is left of a process and of those that it started."""
     try:
         os.killpg(process.pid, signal.SIGKILL)
-    except ProcessLookupError:
-        pass
+    except (ProcessLookupError, PermissionError):
+        pass  # none is left
 
 
 def ended(process):

@@ -1,0 +1,209 @@
+"""The kit of scenarios for other engines: its files, the adapters that must pass and those that must fail, and how kit/check
+judges what an adapter writes."""
+
+import glob
+import json
+import os
+import re
+import tempfile
+
+from cases import IN_PYTHON, NotTried, expect, expect_same, run, stored
+from engine import FAULTS
+
+FILES = {"about", "dump", "scenario.jsoncrdt", "status", "trace", "view"}
+NAMES = [os.path.basename(os.path.dirname(path)) for path in sorted(glob.glob("kit/*/about"))]
+LEAST_NAMES, LEAST_WOVEN, MOST_OF_ABOUT = 80, 40, 5
+FIGURES = ("one-value", "emptied-map", "two-lists", "characters", "two-types", "to-do")
+
+# The scenarios in which the engine of oracle/adapter must fail with each of its faults. It has others; these are tried.
+BROKEN = {
+    "delete-wins": ("delete-against-assign", "three-at-one-element", "woven-delete-wins-3"),
+    "rising": ("both-append", "both-insert-between", "woven-rising-1"),
+    "arrival": ("both-append", "anomaly-late-message", "woven-arrival-2"),
+    "forgets": ("late-joiner", "conflict-half-settled", "woven-forgets-2"),
+    "last-writer": ("figure-one-value", "element-edited-by-both", "woven-last-writer-2"),
+    "shallow": ("figure-emptied-map", "list-emptied-again", "woven-shallow-3"),
+    "unlinks": ("figure-characters", "insert-behind-deleted", "woven-unlinks-4"),
+    "stays-deleted": ("figure-to-do", "list-deleted-against-insert", "woven-stays-deleted-1"),
+    "one-type": ("value-beside-map", "woven-one-type-1", "woven-one-type-2"),
+    "impatient": ("refused-36-deps-missing",),
+}
+# Woven scenarios that are woven again, to the byte.
+WOVEN_AGAIN = ("woven-last-writer-3", "woven-rising-1")
+
+# A scenario, a line of a shell that takes the place of an adapter, and what kit/check says of it; nothing where it passes.
+VIEW = "cat kit/%s/view"
+JUDGED = [
+    ("both-append", VIEW, ""),
+    ("first-assignment", """echo '{ "name" : "ann", "doc": {"title":"Trip"}}'""", ""),
+    ("odd-names-and-values", VIEW + " | sed 's/1.50/1.5e0/'", ""),
+    ("odd-names-and-values", VIEW + r" | sed 's/\(.*\)$/\1\r/'", ""),
+    ("odd-names-and-values", VIEW + " | sed s/1e400/1e401/", "differs at /doc/far\n"),
+    ("odd-names-and-values", VIEW + """ | sed 's/1e400/"1e400"/'""", "differs at /doc/far\n"),
+    ("odd-names-and-values", VIEW + " | sed s/true/1/", "differs at /doc/!!important\n"),
+    ("both-append", VIEW + """ | sed 's/"flour","eggs"/"eggs","flour"/'""", "line 1 differs at /doc/shopping/1\n"),
+    ("both-append", VIEW + """ | sed 's/,"eggs"//'""", "line 1 differs at /doc/shopping/2\n"),
+    ("both-append", VIEW + " | tac", "line 1 differs at /name\n"),
+    ("both-append", VIEW + " | head -1", "line 2 is missing: {"),
+    ("first-assignment", VIEW + "; echo '{}'", "line 2 is one too many: {}"),
+    ("first-assignment", "echo hello", "line 1 isn't JSON: "),
+    ("first-assignment", """echo '{"doc":{"title":"Trip"},"name":NaN}'""", "line 1 isn't JSON: NaN is no JSON"),
+    ("first-assignment", """echo '{"name":"ann","name":"ann"}'""", "line 1 isn't JSON: an object has one name twice"),
+    ("first-assignment", "true", "line 1 is missing: {"),
+    ("first-assignment", "echo why >&2; exit 7", "it ended with status 7: why\n"),
+    ("first-assignment", "exit 3", "it ended with status 3, and no event is stuck\n"),
+    ("first-assignment", "kill -9 $$", "it was ended by signal 9\n"),
+    ("first-assignment", "sleep 60", "it didn't end within 10 seconds\n"),
+    ("first-assignment", "yes", "it wrote more than 67108864 bytes\n"),
+    ("refused-26-past-end", "exit 3", ""),
+    ("refused-26-past-end", VIEW, "line 3 is one too many: stuck 26"),
+    ("refused-26-past-end", VIEW + "; exit 3", ""),
+    ("refused-26-past-end", VIEW + " | grep name", ""),
+    ("refused-26-past-end", VIEW + " | sed s/eggs/milk/; exit 3", "line 1 differs at /doc/shopping/0\n"),
+    ("refused-26-past-end", "exit 1", "it ended with status 1\n"),
+    ("refused-44-given", "exit 3", ""),
+    ("refused-44-given", "echo '{}'", "line 1 is one too many: {}"),
+]
+
+
+def check(programs, words, names=()):
+    """How kit/check ends for these words, and what it tells."""
+    told = run(["kit/check", *(word for name in names for word in ("--only", name)), *words], programs.program)
+    return told.returncode, told.stdout.decode()
+
+
+def passing_case(words, of=NAMES):
+    """Each of the scenarios passes."""
+
+    def tried(programs):
+        if "BUILT" in words and not (programs.is_built and programs.has_view):
+            raise NotTried("the built program")
+        asked = [programs.program if word == "BUILT" else word for word in words]
+        status, output = check(programs, asked, of if of is not NAMES else ())
+        expect_same(output, f"{len(of)} passed, 0 failed\n")
+        expect(status == 0, f"status {status}")
+
+    return f"kit: kit/check {' '.join(words)}" + (f", {len(of)} of them" if of is not NAMES else ""), tried
+
+
+def broken_case(fault, names):
+    """The engine with this fault fails in each of these scenarios."""
+
+    def tried(programs):
+        status, output = check(programs, ["oracle/adapter", "--fault", fault], names)
+        failed = re.findall(r"^FAILED (\S+)$", output, re.MULTILINE)
+        expect(status == 1 and failed == sorted(names), f"status {status}\n{output}")
+        expect(output.endswith(f"\n0 passed, {len(names)} failed\n"), output)
+
+    return f"kit: kit/check oracle/adapter --fault {fault}", tried
+
+
+def judged_case(name, line, told):
+    def tried(programs):
+        status, output = check(programs, ["sh", "-c", line % name if "%s" in line else line], [name])
+        if told:
+            is_right = status == 1 and f"FAILED {name}\n  {stored(f'kit/{name}/about')[:40]}" in output and told in output
+            expect(is_right and f"\n  repeat: sh -c " in output, f"status {status}\n{output}")
+        else:
+            expect(status == 0, f"status {status}\n{output}")
+
+    return f"kit: {line[:60]} for {name}" + (" fails" if told else " passes"), tried
+
+
+def is_repeated(programs):
+    """The command that repeats a failure gives the line that was told, in either form."""
+    for form in ([], ["--ops"]):
+        _, output = check(programs, [*form, "oracle/adapter", *form, "--fault", "rising"], ["both-append"])
+        line = re.search(r"^    the adapter     (.*)$", output, re.MULTILINE)[1]
+        repeat = re.search(r"^  repeat: (.*)$", output, re.MULTILINE)[1]
+        again = run(repeat, programs.program, shell=True).stdout.decode()
+        expect_same(again.split("\n")[0], line)
+
+
+def is_kept(programs):
+    """What an adapter is given and writes is kept, of scenarios that pass too."""
+    with tempfile.TemporaryDirectory() as folder:
+        path = os.path.join(folder, "new")
+        check(programs, ["--keep", path, "sh", "-c", "echo told >&2; cat kit/first-assignment/view"], ["first-assignment"])
+        for kind, want in (("input", "scenario.jsoncrdt"), ("output", "view")):
+            expect_same(stored(os.path.join(path, f"first-assignment.{kind}")), stored(f"kit/first-assignment/{want}"))
+        expect_same(stored(os.path.join(path, "first-assignment.errors")), "told\n")
+
+
+def tells_difference(programs):
+    """kit/differs ends with 0 where an adapter differs, and with 1 where it doesn't."""
+    text = stored("kit/both-append/scenario.jsoncrdt")
+    for form in ([], ["--ops"]):
+        for fault, status in ((["--fault", "rising"], 0), ([], 1)):
+            told = run(["kit/differs", *form, "oracle/adapter", *form, *fault], programs.program, text)
+            expect(told.returncode == status and bool(told.stdout) != bool(status), f"{form} {fault}: {told}")
+
+
+def is_whole(_):
+    """Each folder has its files, a short `about`, and an event of each replica, so that its journal names them all."""
+    woven = [name for name in NAMES if name.startswith("woven-")]
+    expect(len(NAMES) >= LEAST_NAMES and len(woven) >= LEAST_WOVEN, f"{len(NAMES)} scenarios, {len(woven)} are woven")
+    for name in NAMES:
+        expect({*os.listdir(f"kit/{name}")} == FILES, f"kit/{name} has {sorted(os.listdir(f'kit/{name}'))}")
+        about, text = stored(f"kit/{name}/about"), stored(f"kit/{name}/scenario.jsoncrdt")
+        expect(about.count("\n") <= MOST_OF_ABOUT and max(map(len, about.split("\n"))) <= 120, f"kit/{name}/about is long")
+        events = re.split("^(?:given|schedule) {$", text, 1, re.MULTILINE)[1]
+        silent = [n for n in re.findall(r"^replica (\w+) {$", text, re.MULTILINE) if not re.search(rf"\b{n}\b", events)]
+        expect(not silent, f"kit/{name} has no event of {silent}")
+
+
+def has_figures(_):
+    """The figures are the examples of the same names."""
+    for name in FIGURES:
+        expect_same(stored(f"kit/figure-{name}/scenario.jsoncrdt"), stored(f"examples/{name}.jsoncrdt"))
+
+
+def agree(_):
+    """Where all replicas of a scenario have applied the same operations at the end, they show the same document."""
+    for name in NAMES:
+        dumps, views = ([json.loads(line) for line in stored(f"kit/{name}/{file}").split("\n") if line[:1] == "{"]
+                        for file in ("dump", "view"))
+        documents = {json.dumps(dump["ops"]): [] for dump in dumps}
+        for dump, view in zip(dumps, views):
+            documents[json.dumps(dump["ops"])].append(json.dumps(view.get("doc"), sort_keys=True))
+        expect(all(len(set(same)) == 1 for same in documents.values()), f"kit/{name}: {documents}")
+
+
+def made_case(words):
+    """kit/make would write what is stored."""
+
+    def tried(programs):
+        beside = ["--program", programs.program] if programs.is_built and programs.has_view else []
+        told = run(["kit/make", "--check", *words, *beside], programs.program)
+        expect(told.returncode == 0 and not told.stdout and not told.stderr, (told.stdout + told.stderr).decode())
+
+    return f"kit: kit/make --check {' '.join(words)}", tried
+
+
+def covers_all(programs):
+    """Each rule and each refusal of an event is met."""
+    told = run(["kit/table"], programs.program)
+    expect(told.returncode == 0, told.stdout.decode())
+
+
+def kit():
+    yield "kit: files", is_whole
+    yield "kit: figures", has_figures
+    yield "kit: replicas agree", agree
+    yield "kit: kit/table", covers_all
+    yield made_case([])
+    yield made_case(["--weave", *(word for name in WOVEN_AGAIN for word in ("--only", name))])
+    yield passing_case(["oracle/adapter"])
+    yield passing_case([IN_PYTHON, "view", "-"])
+    yield passing_case(["BUILT", "view", "-"])
+    yield passing_case(["--dumps", "BUILT", "run", "-"])
+    yield passing_case(["--dumps", IN_PYTHON, "run", "-"], NAMES[::8])
+    yield passing_case(["--ops", "oracle/adapter", "--ops"], NAMES[::2])
+    expect({*BROKEN} == {*FAULTS}, "each fault has its scenarios")
+    for fault, names in BROKEN.items():
+        yield broken_case(fault, names)
+    for row in JUDGED:
+        yield judged_case(*row)
+    yield "kit: the command that repeats a failure", is_repeated
+    yield "kit: kit/check --keep", is_kept
+    yield "kit: kit/differs", tells_difference
