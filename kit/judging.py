@@ -244,8 +244,8 @@ def dump_fault(dump, status, ended):
 
 
 def told_of(text, is_journal):
-    """What an adapter is given for a scenario, and what `view` has of it: the text itself, or its journal. A replica that
-    the journal doesn't name isn't asked for."""
+    """What an adapter is given for a scenario, the text itself or its journal, and what `view` tells of it with the
+    status. A replica that the journal doesn't name isn't asked for."""
     (view, status), given = by_rules(["view"], text), text
     if is_journal:
         given = by_rules(["journal"], text)[0]

@@ -1,9 +1,9 @@
-"""The woven scenarios of the kit: random scripts of a number, a schedule that `weave` draws from a seed, and what is left
-when the scenario is made smaller as long as it shows the same.
+"""The woven scenarios of the kit: random scripts of a number, a schedule that `weave` draws from a seed, and what is
+left when the scenario is made smaller as long as it shows the same.
 
-The scripts are made of the commands of oracle/compare, with words of an editor. Each replica runs a few commands between
-two yields, and a yield is last. All draws are words of the generator of `weave`, so the same numbers make the same
-scenario on any machine.
+The scripts are made of the commands of oracle/compare, with words of an editor. Each replica runs a few commands
+between two yields, and a yield is last. All draws are words of the generator of `weave`, so the same numbers make the
+same scenario on any machine.
 """
 
 import collections
@@ -39,8 +39,8 @@ of_scenario = loaded("oracle/adapter").of_scenario
 
 NAMES = [b"desk", b"phone", b"tablet"]
 # What stands in a scenario for the names, strings and variables of oracle/compare.
-WORDS = {b"a": b"shopping", b"b": b"note", b"": b"title", b"a1": b"done", b"doc": b"tags", b"\x01": b"color", b"x": b"item",
-         b"y": b"place", b"xs": b"all"}
+WORDS = {b"a": b"shopping", b"b": b"note", b"": b"title", b"a1": b"done", b"doc": b"tags", b"\x01": b"color",
+         b"x": b"item", b"y": b"place", b"xs": b"all"}
 STRINGS = [b"milk", b"eggs", b"bread", b"tea", b"salt", b"oat milk"]
 MOST_EVENTS, MOST_TRIES = 400, 40
 
@@ -77,8 +77,8 @@ def renamed(tree):
 
 
 class Writer(Maker):
-    """Writes scripts, of which most commands can be run where each yield is an exchange of all. Those of an even number are
-    of version 2, and something is given."""
+    """Writes scripts, of which most commands can be run where each yield is an exchange of all. Those of an even number
+    are of version 2, and something is given."""
 
     def __init__(self, number):
         self.random = Draws(number)
@@ -172,8 +172,8 @@ def parts_of(scenario):
     texts = Texts(scenario.names)
     scripts = {name.decode(): [texts.command(command).decode() for command in script]
                for name, script in zip(scenario.names, scenario.scripts)}
-    given, events = ([texts.event(event).decode() for event in events] for events in (scenario.given, scenario.schedule))
-    return Parts(scenario.version, scripts, given, events)
+    lists = ([texts.event(event).decode() for event in events] for events in (scenario.given, scenario.schedule))
+    return Parts(scenario.version, scripts, *lists)
 
 
 def documents(text):
@@ -182,8 +182,8 @@ def documents(text):
 
 
 class Shrinking(shrink.Shrinking):
-    """Makes a scenario smaller as long as it ends with the same documents by the rules, and with others by the engine of
-    oracle/adapter with a fault."""
+    """Makes a scenario smaller as long as it ends with the same documents by the rules, and with others by the engine
+    of oracle/adapter with a fault."""
 
     def __init__(self, scenario, fault):
         self.fault, self.documents = fault, documents(Texts(scenario.names).scenario(scenario))

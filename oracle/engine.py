@@ -1,10 +1,11 @@
 """A small engine for JSON documents that several replicas edit, to try the scenarios of kit/ with.
 
-It is written from the published algorithm, and isn't rules.py again: a document is a tree of places, operations go down
-it by steps, what an operation depends on is a version vector, and a list is an array of identifiers. It keeps no trace.
+It is written from the published algorithm, and isn't rules.py again: a document is a tree of places, operations go
+down it by steps, what an operation depends on is a version vector, and a list is an array of identifiers. It keeps no
+trace.
 
-A place is what is at a key: values by identifier, a map, a list. A step is ("map", name) or ("list", element), an element
-being an identifier (counter, replica) or HEAD; the steps of `doc` are none. A value is its JSON text.
+A place is what is at a key: values by identifier, a map, a list. A step is ("map", name) or ("list", element), an
+element being an identifier (counter, replica) or HEAD; the steps of `doc` are none. A value is its JSON text.
 """
 
 import collections
@@ -197,7 +198,8 @@ class Replica:
         operation = self.received.get(identifier)
         if not operation or covers(self.applied, identifier):
             raise Refused("not received, or applied already")
-        if not all(covers(self.applied, (c, name)) for name, c in operation.known.items()) and self.fault != "impatient":
+        lacking = [name for name, counter in operation.known.items() if not covers(self.applied, (counter, name))]
+        if lacking and self.fault != "impatient":
             raise Refused("what it depends on isn't applied")
         self.document.apply(operation)
         self.applied[identifier[1]] = max(identifier[0], self.applied.get(identifier[1], 0))

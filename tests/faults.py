@@ -55,7 +55,7 @@ ROWS = [
     ("kit/make x", 2, "make: "),
     ("kit/make --check --only nothing", 2, "make: the kit has no scenario nothing"),
     ("kit/make --check " + ONE + "--program /no/such", 2, "make: /no/such: "),
-    ("kit/make --check " + ONE + "--program /bin/true", 1, "make: /bin/true view - prints otherwise for first-assignment"),
+    ("kit/make --check " + ONE + "--program /bin/true", 1, "make: /bin/true view - prints otherwise for "),
     ("kit/table x", 2, "table: "),
     # The quotes keep the word out of the case's own name: a case that the word selects would run itself again and again.
     ("./test no-such-''word", 2, "test: no case has no-such-word in its name"),

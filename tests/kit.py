@@ -1,5 +1,5 @@
-"""The kit of scenarios for other engines: its files, the adapters that must pass and those that must fail, and how kit/check
-judges what an adapter writes."""
+"""The kit of scenarios for other engines: its files, the adapters that must pass and those that must fail, and how
+kit/check judges what an adapter writes."""
 
 import glob
 import json
@@ -31,7 +31,8 @@ BROKEN = {
 # Woven scenarios that are woven again, to the byte.
 WOVEN_AGAIN = ("woven-last-writer-3", "woven-rising-1")
 
-# A scenario, a line of a shell that takes the place of an adapter, and what kit/check says of it; nothing where it passes.
+# A scenario, a line of a shell that takes the place of an adapter, and what kit/check says of it: nothing where it
+# passes.
 VIEW = "cat kit/%s/view"
 JUDGED = [
     ("both-append", VIEW, ""),
@@ -101,11 +102,8 @@ def broken_case(fault, names):
 def judged_case(name, line, told):
     def tried(programs):
         status, output = check(programs, ["sh", "-c", line % name if "%s" in line else line], [name])
-        if told:
-            is_right = status == 1 and f"FAILED {name}\n  {stored(f'kit/{name}/about')[:40]}" in output and told in output
-            expect(is_right and f"\n  repeat: sh -c " in output, f"status {status}\n{output}")
-        else:
-            expect(status == 0, f"status {status}\n{output}")
+        parts = [f"FAILED {name}\n  {stored(f'kit/{name}/about')[:40]}", told, "\n  repeat: sh -c "] if told else []
+        expect(status == bool(told) and all(part in output for part in parts), f"status {status}\n{output}")
 
     return f"kit: {line[:60]} for {name}" + (" fails" if told else " passes"), tried
 
@@ -124,7 +122,8 @@ def is_kept(programs):
     """What an adapter is given and writes is kept, of scenarios that pass too."""
     with tempfile.TemporaryDirectory() as folder:
         path = os.path.join(folder, "new")
-        check(programs, ["--keep", path, "sh", "-c", "echo told >&2; cat kit/first-assignment/view"], ["first-assignment"])
+        line = "echo told >&2; cat kit/first-assignment/view"
+        check(programs, ["--keep", path, "sh", "-c", line], ["first-assignment"])
         for kind, want in (("input", "scenario.jsoncrdt"), ("output", "view")):
             expect_same(stored(os.path.join(path, f"first-assignment.{kind}")), stored(f"kit/first-assignment/{want}"))
         expect_same(stored(os.path.join(path, "first-assignment.errors")), "told\n")
@@ -146,7 +145,8 @@ def is_whole(_):
     for name in NAMES:
         expect({*os.listdir(f"kit/{name}")} == FILES, f"kit/{name} has {sorted(os.listdir(f'kit/{name}'))}")
         about, text = stored(f"kit/{name}/about"), stored(f"kit/{name}/scenario.jsoncrdt")
-        expect(about.count("\n") <= MOST_OF_ABOUT and max(map(len, about.split("\n"))) <= 120, f"kit/{name}/about is long")
+        is_short = about.count("\n") <= MOST_OF_ABOUT and max(map(len, about.split("\n"))) <= 120
+        expect(is_short, f"kit/{name}/about is long")
         events = re.split("^(?:given|schedule) {$", text, 1, re.MULTILINE)[1]
         silent = [n for n in re.findall(r"^replica (\w+) {$", text, re.MULTILINE) if not re.search(rf"\b{n}\b", events)]
         expect(not silent, f"kit/{name} has no event of {silent}")
@@ -186,11 +186,23 @@ def covers_all(programs):
     expect(told.returncode == 0, told.stdout.decode())
 
 
+def is_documented(_):
+    """The documents have the faults, where each is seen, and how long an adapter may take."""
+    document, readme = stored("docs/CONFORMANCE.md"), stored("kit/README.md")
+    for fault, names in BROKEN.items():
+        row = f"| `{fault}` | {FAULTS[fault]} | {', '.join(names)} |\n"
+        expect(row in document, f"docs/CONFORMANCE.md lacks the row\n{row}")
+    seconds = re.search(r"^SECONDS, MOST_BYTES = (\d+), ", stored("kit/judging.py"), re.MULTILINE)[1]
+    expect(f"within {seconds} seconds" in readme, f"kit/README.md doesn't say that an adapter has {seconds} seconds")
+    expect(f"it didn't end within {seconds} seconds" in str(JUDGED), "no adapter is tried that doesn't end")
+
+
 def kit():
     yield "kit: files", is_whole
     yield "kit: figures", has_figures
     yield "kit: replicas agree", agree
     yield "kit: kit/table", covers_all
+    yield "kit: documents", is_documented
     yield made_case([])
     yield made_case(["--weave", *(word for name in WOVEN_AGAIN for word in ("--only", name))])
     yield passing_case(["oracle/adapter"])

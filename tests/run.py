@@ -34,7 +34,8 @@ MOST_OF_README, MOST_OF_PARAGRAPH = 150, 12
 HEADINGS = ("## What the layer above sees", "## Only tested")
 ABOUT = """\
 Runs what needs no proof: blocks of the documents, examples, tools, scripts, the kit for other engines, and the rules in
-Python. It proves nothing; the gate, rt ci, does that. The last line is `N passed, M failed`, and the status is 1 where one failed."""
+Python. It proves nothing; the gate, rt ci, does that. The last line is `N passed, M failed`, and the status is 1 where
+one failed."""
 WORDS = """\
 With words, what has one of them in its name: examples, README, docs, pages, tools, faults, launcher, more-edits, gate,
 process, arguments, editors, kit, oracle, or a part of a file's name or of a command."""
