@@ -1,6 +1,7 @@
 """What the commands of the kit have in common: its folders, how an adapter is run, and how what it writes is judged."""
 
 import collections
+import contextlib
 import decimal
 import io
 import json
@@ -80,15 +81,11 @@ def run_adapter(words, text):
         try:
             return ended(process)
         finally:
-            kill(process)
-
-
-def kill(process):
-    """Ends what is left of a process and of those that it started."""
-    try:
-        os.killpg(process.pid, signal.SIGKILL)
-    except (ProcessLookupError, PermissionError):
-        pass  # none is left
+            # A process that was waited for has given its number back. Where only the first of them has ended, some
+            # systems refuse.
+            if process.returncode is None:
+                with contextlib.suppress(PermissionError):
+                    os.killpg(process.pid, signal.SIGKILL)
 
 
 def ended(process):
