@@ -109,25 +109,32 @@ def string(text):
     return json.dumps(text, ensure_ascii=False)
 
 
+def inside(place, kind):
+    """The map or the list of a place, which must be there or have been."""
+    if place.content[kind] is None:
+        raise Refused(f"no {kind}")
+    return place.content[kind]
+
+
 class Document:
     def __init__(self, fault):
         self.root, self.fault = Place(), fault
 
-    def content(self, steps, kind):
-        """The map or the list at the end of the steps, which must be there or have been."""
+    def place(self, steps):
+        """The place at the end of the steps. The maps and lists on the way must be there or have been."""
         place = self.root
-        for step, key in [*steps, (kind, None)]:
-            content = place.content[step]
-            if content is None:
-                raise Refused(f"no {step}")
-            place = content.places[key] if key in content.places else Place()
-        return content
+        for kind, key in steps:
+            place = inside(place, kind).places.get(key) or Place()
+        return place
+
+    def content(self, steps, kind):
+        return inside(self.place(steps), kind)
 
     def values(self, steps):
-        place = self.content(steps[:-1], steps[-1][0]).places[steps[-1][1]] if steps else self.root
-        if place.values is None:
+        values = self.place(steps).values
+        if values is None:
             raise Refused("no values")
-        return sorted(place.values.items())
+        return sorted(values.items())
 
     def go(self, place, operation, kind):
         """The map or the list of a place on the operation's way. It is made where it wasn't, and is there after it."""

@@ -5,6 +5,10 @@ import json
 from engine import HEAD, Operation, Refused, Replica
 
 
+class NoJournal(Exception):
+    """Why a text is no journal."""
+
+
 def identifier_of(text):
     counter, name = text.split("@")
     return int(counter), name
@@ -50,14 +54,23 @@ def run_line(line, replicas):
             replica.receive(replicas[line["from"]], identifier_of(one))
 
 
-def of_journal(text, fault=None):
-    """What the engine gives for a journal, as of_scenario."""
-    lines = [json.loads(line) for line in text.splitlines()]
+def run_lines(lines, fault):
+    """The lines of documents, and whether an event is stuck; none of documents where it is a given one."""
     names = {line[member] for line in lines for member in ("replica", "from") if member in line}
     replicas = {name: Replica(name, fault) for name in sorted(names)}
+    is_stuck = is_given = False
     try:
         for line in lines:
+            is_given = "given" in line
             run_line(line, replicas)
     except Refused:
-        return ([] if "given" in line else [replica.line() for replica in replicas.values()]), True
-    return [replica.line() for replica in replicas.values()], False
+        is_stuck = True
+    return [replica.line() for replica in replicas.values() if not (is_stuck and is_given)], is_stuck
+
+
+def of_journal(text, fault=None):
+    """What the engine gives for a journal: the lines of documents, and whether an event is stuck."""
+    try:
+        return run_lines([json.loads(line) for line in text.splitlines()], fault)
+    except (ValueError, LookupError, TypeError, AttributeError) as error:
+        raise NoJournal(repr(error)) from error

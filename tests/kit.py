@@ -5,6 +5,7 @@ import glob
 import json
 import os
 import re
+import shutil
 import tempfile
 
 from cases import IN_PYTHON, NotTried, expect, expect_same, run, stored
@@ -186,6 +187,26 @@ def covers_all(programs):
     expect(told.returncode == 0, told.stdout.decode())
 
 
+def is_made(programs):
+    """In a small kit, files that lack or are otherwise are made, and the table tells that rules aren't met."""
+    with tempfile.TemporaryDirectory() as folder:
+        for name in ("oracle", "tools", "docs"):
+            os.symlink(os.path.abspath(name), os.path.join(folder, name))
+        copied = os.path.join(folder, "kit")
+        shutil.copytree("kit", copied, ignore=lambda path, names: set(names) & {*NAMES[1:]} if path == "kit" else ())
+        os.remove(os.path.join(copied, NAMES[0], "view"))
+        with open(os.path.join(copied, NAMES[0], "status"), "w", encoding="utf-8") as file:
+            file.write("7\n")
+        otherwise, made = ([f"{NAMES[0]}/{file} {how}" for file in ("view", "status")]
+                           for how in ("is otherwise", "was made"))
+        for words, status, told in ((["--check"], 1, otherwise), ([], 0, made), (["--check"], 0, [])):
+            ended = run([os.path.join(copied, "make"), *words], programs.program)
+            expect(ended.returncode == status and ended.stdout.decode().splitlines() == told, f"{words}: {ended}")
+        expect_same(stored(os.path.join(copied, NAMES[0], "view")), stored(f"kit/{NAMES[0]}/view"))
+        ended = run([os.path.join(copied, "table")], programs.program)
+        expect(ended.returncode == 1 and ended.stdout.startswith(b"1 scenarios\n"), f"{ended}")
+
+
 def is_documented(_):
     """The documents have the faults, where each is seen, and how long an adapter may take."""
     document, readme = stored("docs/CONFORMANCE.md"), stored("kit/README.md")
@@ -203,6 +224,7 @@ def kit():
     yield "kit: replicas agree", agree
     yield "kit: kit/table", covers_all
     yield "kit: documents", is_documented
+    yield "kit: kit/make of a small kit", is_made
     yield made_case([])
     yield made_case(["--weave", *(word for name in WOVEN_AGAIN for word in ("--only", name))])
     yield passing_case(["oracle/adapter"])
