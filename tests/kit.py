@@ -1,7 +1,6 @@
 """The kit of scenarios for other engines: its files, the adapters that must pass and those that must fail, and how
 kit/check judges what an adapter writes."""
 
-import glob
 import json
 import os
 import re
@@ -10,9 +9,12 @@ import tempfile
 
 from cases import IN_PYTHON, NotTried, expect, expect_same, run, stored
 from engine import FAULTS
+from lines import RULES
+from texts import REFUSALS
 
 FILES = {"about", "dump", "scenario.jsoncrdt", "status", "trace", "view"}
-NAMES = [os.path.basename(os.path.dirname(path)) for path in sorted(glob.glob("kit/*/about"))]
+HERE = os.path.join(os.path.dirname(os.path.dirname(os.path.abspath(__file__))), "kit")
+NAMES = sorted(name for name in os.listdir(HERE) if os.path.exists(os.path.join(HERE, name, "about")))
 LEAST_NAMES, LEAST_WOVEN, MOST_OF_ABOUT = 80, 40, 5
 FIGURES = ("one-value", "emptied-map", "two-lists", "characters", "two-types", "to-do")
 
@@ -29,6 +31,9 @@ BROKEN = {
     "one-type": ("value-beside-map", "woven-one-type-1", "woven-one-type-2"),
     "impatient": ("refused-36-deps-missing",),
 }
+# What the `about` of a woven scenario has: its numbers, a fault, and what that is.
+WOVEN = re.compile(r"Woven: the random scripts \d+ with the schedule of seed \d+, .* with the fault ([\w-]+) shows "
+                   r"others: (.*)\.")
 # Woven scenarios that are woven again, to the byte.
 WOVEN_AGAIN = ("woven-last-writer-3", "woven-rising-1")
 
@@ -153,6 +158,30 @@ def is_whole(_):
         expect(not silent, f"kit/{name} has no event of {silent}")
 
 
+def about_fault(name, about, trace):
+    """What is wrong with an `about`, or nothing. It names rules that are used, the refusal that is met, or a fault."""
+    if name.startswith("woven-"):
+        woven = WOVEN.fullmatch(about)
+        is_right = woven and name.startswith(f"woven-{woven[1]}-") and FAULTS.get(woven[1]) == woven[2]
+        return "" if is_right else "it doesn't have its numbers and its fault"
+    met = re.search(r"^(?:stuck|refused) (\d+) ", trace, re.MULTILINE)
+    if met:
+        begin = f"Refusal {met[1]} {REFUSALS[int(met[1])]}"
+        is_right = about.startswith(begin) and name.startswith(f"refused-{met[1]}-")
+        return "" if is_right else f"it doesn't begin with {begin}"
+    named = {rule for rule in RULES if re.search(rf"(?<![\w-]){rule}(?![\w-])", about)}
+    unused = sorted(named - {*re.findall(r"^\d+ (\S+)$", trace, re.MULTILINE)})
+    return f"it names {unused}, which aren't used" if unused else ""
+
+
+def is_about(_):
+    """Each `about` is true of its trace, as far as can be told."""
+    for name in NAMES:
+        about = " ".join(stored(f"kit/{name}/about").split())
+        fault = about_fault(name, about, stored(f"kit/{name}/trace"))
+        expect(not fault, f"kit/{name}/about: {fault}")
+
+
 def has_figures(_):
     """The figures are the examples of the same names."""
     for name in FIGURES:
@@ -210,6 +239,7 @@ def is_made(programs):
 def is_documented(_):
     """The documents have the faults, where each is seen, and how long an adapter may take."""
     document, readme = stored("docs/CONFORMANCE.md"), stored("kit/README.md")
+    expect({*BROKEN} == {*FAULTS}, "not each fault has its scenarios")
     for fault, names in BROKEN.items():
         row = f"| `{fault}` | {FAULTS[fault]} | {', '.join(names)} |\n"
         expect(row in document, f"docs/CONFORMANCE.md lacks the row\n{row}")
@@ -220,6 +250,7 @@ def is_documented(_):
 
 def kit():
     yield "kit: files", is_whole
+    yield "kit: about", is_about
     yield "kit: figures", has_figures
     yield "kit: replicas agree", agree
     yield "kit: kit/table", covers_all
@@ -233,7 +264,6 @@ def kit():
     yield passing_case(["--dumps", "BUILT", "run", "-"])
     yield passing_case(["--dumps", IN_PYTHON, "run", "-"], NAMES[::8])
     yield passing_case(["--ops", "oracle/adapter", "--ops"], NAMES[::2])
-    expect({*BROKEN} == {*FAULTS}, "each fault has its scenarios")
     for fault, names in BROKEN.items():
         yield broken_case(fault, names)
     for row in JUDGED:
