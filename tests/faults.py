@@ -4,6 +4,8 @@ is told in one line on standard error, with the status that the program has for 
 from cases import expect, folder_of, run
 
 FIRST = "examples/first.jsoncrdt"
+ONE = "--only first-assignment "
+KIT_FIRST = "kit/first-assignment/scenario.jsoncrdt"
 DEEP = "jsoncrdt 1 replica a { let x = doc" + '.get("k")' * 250 + "; x" + '.get("k")' * 250 + " := 1 } schedule { a.exec; a.exec }"
 
 # A line of a shell, its status, and a part of what it tells on standard error, or nothing where it tells nothing.
@@ -35,6 +37,26 @@ ROWS = [
     ("examples/engine/compare x", 2, "compare: argument COUNT"),
     ("examples/engine/compare -1", 2, "compare: argument COUNT"),
     ("examples/engine/compare 0", 2, "compare: argument COUNT"),
+    ("oracle/adapter x", 2, "adapter: "),
+    ("oracle/adapter --fault none", 2, "adapter: argument --fault"),
+    ("echo | oracle/adapter", 1, "adapter: refused 14 NoHeader at 1"),
+    ("echo '[]' | oracle/adapter --ops", 1, "adapter: this is no journal: "),
+    ("kit/check", 2, "check: the following arguments are required: COMMAND"),
+    ("kit/check --nothing true", 2, "check: "),
+    ("kit/check --dumps --ops true", 2, "check: "),
+    ("kit/check --only nothing true", 2, "check: the kit has no scenario nothing"),
+    ("kit/check --except nothing true", 2, "check: the kit has no scenario nothing"),
+    ("kit/check ./no-such-command", 2, "check: ./no-such-command: "),
+    ("kit/check docs/TESTING.md", 2, "check: docs/TESTING.md: "),
+    ("kit/check ''", 2, "check: "),
+    ("kit/differs <" + KIT_FIRST, 2, "differs: the following arguments are required: COMMAND"),
+    ("kit/differs ./no-such-command <" + KIT_FIRST, 2, "differs: ./no-such-command: "),
+    ("echo | kit/differs true", 2, "differs: refused 14 NoHeader at 1"),
+    ("kit/make x", 2, "make: "),
+    ("kit/make --check --only nothing", 2, "make: the kit has no scenario nothing"),
+    ("kit/make --check " + ONE + "--program /no/such", 2, "make: /no/such: "),
+    ("kit/make --check " + ONE + "--program /bin/true", 1, "make: /bin/true view - prints otherwise for "),
+    ("kit/table x", 2, "table: "),
     # The quotes keep the word out of the case's own name: a case that the word selects would run itself again and again.
     ("./test no-such-''word", 2, "test: no case has no-such-word in its name"),
     ("./test --nothing", 2, "test: "),
@@ -46,6 +68,8 @@ ROWS = [
     ("tools/lanes - <&-", 4, "lanes: read failed: -: "),
     ("tools/tree - a <&-", 4, "tree: read failed: -: "),
     ("tools/shrink - true <&-", 4, "shrink: read failed: -: "),
+    ("oracle/adapter <&-", 4, "adapter: read failed: -: "),
+    ("kit/differs true <&-", 4, "differs: read failed: -: "),
     ("oracle/jsoncrdt run - <&-", 4, "read failed: -: "),
     ("oracle/jsoncrdt debug " + FIRST + " <&-", 4, "read failed: standard input: "),
     # A standard error that is closed or full changes no status.
@@ -53,11 +77,17 @@ ROWS = [
     ("tools/lanes no-such-file 2>/dev/full", 4, ""),
     ("oracle/compare x 2>&-", 2, ""),
     ("./test no-such-''word 2>&-", 2, ""),
+    ("kit/check ./no-such-command 2>&-", 2, ""),
+    ("kit/check ./no-such-command 2>/dev/full", 2, ""),
+    # A folder that can't be made.
+    ("kit/check --keep /dev/null/here true", 4, "check: write failed: /dev/null/here: "),
     # A program that is none.
     ("JSONCRDT=/bin/false tools/lanes " + FIRST, 2, "lanes: /bin/false isn't jsoncrdt"),
     ("JSONCRDT=/bin/true tools/tree " + FIRST + " a", 2, "tree: /bin/true isn't jsoncrdt"),
     ("JSONCRDT=/no/such tools/shrink " + FIRST + " true", 2, "shrink: /no/such: "),
     ("JSONCRDT=/bin/true examples/engine/compare 1", 2, "compare: /bin/true isn't jsoncrdt"),
+    # No fault: an adapter needs no standard input of kit/check.
+    ("kit/check " + ONE + "oracle/adapter <&- >/dev/null", 0, ""),
     # No fault: 500 maps in one another, and a letter that the terminal hasn't.
     (f"echo '{DEEP}' | tools/tree - a >/dev/null", 0, ""),
     ("""echo 'jsoncrdt 1 replica a { doc := "\u00e9" } schedule { a.exec }' | PYTHONIOENCODING=ascii tools/lanes -""", 0, ""),
@@ -77,10 +107,16 @@ WRITING = [
     ("oracle/compare --help", "compare: write failed: "),
     ("oracle/selftest --help", "selftest: write failed: "),
     ("examples/engine/compare 1", "compare: write failed: "),
+    ("oracle/adapter <" + KIT_FIRST, "adapter: write failed: "),
+    ("kit/check " + ONE + "oracle/adapter", "check: write failed: "),
+    ("kit/check " + ONE + "true", "check: write failed: "),
+    ("kit/differs true <" + KIT_FIRST, "differs: write failed: "),
+    ("kit/make --help", "make: write failed: "),
+    ("kit/table", "table: write failed: "),
     ("./test --help", "test: write failed: "),
 ]
 HELPED = ("tools/lanes", "tools/tree", "tools/shrink", "tools/make-completions", "oracle/compare", "oracle/selftest",
-          "examples/engine/compare", "./test")
+          "oracle/adapter", "kit/check", "kit/differs", "kit/make", "kit/table", "examples/engine/compare", "./test")
 UNPROVED = "oracle/jsoncrdt: these are the rules in Python"
 # A command rt that tells that it was called, so that nothing here can build.
 NO_RT = "#!/bin/sh\necho rt was called >&2\nexit 1\n"

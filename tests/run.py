@@ -24,19 +24,21 @@ from blocks import bare_blocks, commands_of, long_paragraphs
 from cases import IN_PYTHON, IN_TEST, NotTried, Programs, Wrong, expect, expect_same, run, stored
 from faults import faults
 from grammar import EVENTS, RESERVED
+from kit import kit
 from scripts import scripts
 
 EXPECTED = os.path.join("tests", "expected")
-DOCUMENTS = ("README.md", "docs/*.md", "examples/*.md", "editors/*.md", "crates/*/README.md")
+DOCUMENTS = ("README.md", "docs/*.md", "examples/*.md", "editors/*.md", "kit/*.md", "crates/*/README.md")
 AT_ONCE = 4
 MOST_OF_README, MOST_OF_PARAGRAPH = 150, 12
 HEADINGS = ("## What the layer above sees", "## Only tested")
 ABOUT = """\
-Runs what needs no proof: blocks of the documents, examples, tools, scripts, and the rules in Python. It proves nothing;
-the gate, rt ci, does that. The last line is `N passed, M failed`, and the status is 1 where one failed."""
+Runs what needs no proof: blocks of the documents, examples, tools, scripts, the kit for other engines, and the rules in
+Python. It proves nothing; the gate, rt ci, does that. The last line is `N passed, M failed`, and the status is 1 where
+one failed."""
 WORDS = """\
 With words, what has one of them in its name: examples, README, docs, pages, tools, faults, launcher, more-edits, gate,
-process, arguments, editors, oracle, or a part of a file's name or of a command."""
+process, arguments, editors, kit, oracle, or a part of a file's name or of a command."""
 
 
 def block_case(command):
@@ -340,7 +342,7 @@ def main():
                         help="write what the tools print of each example to tests/expected, to be read before it is kept")
     asked, programs = parser.parse_args(), Programs()
     cases = [*examples(asked.write), *blocks(), *pages(), *tools(asked.write), *faults(), *scripts(), *process(), *arguments(),
-             *editors()]
+             *editors(), *kit()]
     cases = chosen_of(cases, asked.words)
     if IN_TEST in os.environ:
         streams.stop("a test runs no tests")
