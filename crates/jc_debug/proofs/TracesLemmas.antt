@@ -83,7 +83,7 @@ hand_more ks new k old rows n m h grown le same fits =
     let all : map trace_of new ≡ ts ++ trace_of k ∷ [] = ap (map trace_of) grown ∙ map-append trace_of ks (k ∷ []) in
     let size : length (ts ++ trace_of k ∷ []) ≡ length ts + 1 = length-append ts (trace_of k ∷ []) in
     let end : slice_get (ts ++ trace_of k ∷ []) (length (ts ++ trace_of k ∷ []) - 1) ≡ Some (trace_of k) =
-      ap (slice_get (ts ++ trace_of k ∷ [])) (omega (arith, size)) ∙ get_last ts (trace_of k) in
+    ap (slice_get (ts ++ trace_of k ∷ [])) (omega (arith, size)) ∙ get_last ts (trace_of k) in
     let long : length (rows_of_all k.items) ≤ m = subst (λ (l : List (Rule × ℕ)). length l ≤ m) same fits in
     subst (λ (l : List Rows). AreAtHand l rows m) (sym all) (record {
       last = same ∙ ap rows_if_any (sym end);

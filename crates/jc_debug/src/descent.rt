@@ -32,7 +32,10 @@ impl Descent {
         ensures { IfSome result (λ longer. (longer.rule ≡ self.rule) × (longer.depth ≡ self.depth)
             × (longer.count ≡ self.count + 1) × (row ≡ (self.rule, self.depth + self.count))) }
     {
-        if self.rule == row.0 && row.1 >= self.depth && row.1 - self.depth == u64::from(self.count) {
+        if self.rule == row.0
+            && row.1 >= self.depth
+            && row.1 - self.depth == u64::from(self.count)
+        {
             return Some(Descent {
                 rule: self.rule,
                 count: self.count.checked_add(1)?,

@@ -72,7 +72,8 @@ impl Traces {
         let rows = trace.rows();
         let descents = descents_of(self.alloc, rows)?;
         self.kept.reserve(1)?;
-        self.rows.reserve(rows.len().saturating_sub(self.rows.len()))?;
+        self.rows
+            .reserve(rows.len().saturating_sub(self.rows.len()))?;
         self.rows.clear();
         self.rows.extend_from_slice(rows).unwrap();
         self.kept.push(descents).unwrap();
@@ -145,6 +146,7 @@ fn write(descent: &Descent, rows: &mut Vec<(Rule, u64)>)
     ensures capacity { vec_capacity rows.old ≤ vec_capacity rows.new }
 {
     for i in 0..descent.count {
-        rows.push((descent.rule, descent.depth + u64::from(i))).unwrap();
+        rows.push((descent.rule, descent.depth + u64::from(i)))
+            .unwrap();
     }
 }
