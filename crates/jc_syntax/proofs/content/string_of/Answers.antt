@@ -1,7 +1,8 @@
-use Rattle.std.proofs.Common.{◌-◌, string_bytes, ◌∙◌, arith}
+use Rattle.std.proofs.Common.{ℕ, List, ◌-◌, string_bytes, sym, subst, ◌∙◌, arith}
 use Rattle.std.proofs.lemmas.Result.{IfOk-weaker}
 use Rattle.std.proofs.lemmas.Str.{IsUtf8-string_bytes}
 use Rattle.jc_syntax.specs.Lexemes.{token_content}
+use Rattle.jc_syntax.specs.Strings.{IsString}
 use Rattle.jc_syntax.proofs.StringsContentLemmas.{token_is_string}
 use Rattle.jc_syntax.proofs.StringsDecodeLemmas.{left_at_first, left_before, run_boundary, step_to_end, step_to_escape}
 use Rattle.jc_syntax.proofs.content.string_of.Goals as goal
@@ -20,7 +21,7 @@ returns-in_default-clause-content c =
 pub returns-in_default-clause-spells : goal.returns-in_default-clause-spells
 returns-in_default-clause-spells c =
     let all = step_to_end c.args.text.now c.as_bytes-bytes.result.now c.range.result.now (c.args.token.now.stop - 1) c.runs.at c.skip_plain-end.result (string_bytes c.runs.content) (string_bytes c.push_str.new.self) (token_content c.args.text.now c.args.token.now) c.as_bytes-bytes.ensures.value c.skip_plain-end.ensures.place c.range.ensures.value c.in_ok-push_str.ensures.bytes c.runs.invariant c.in_default.ensures.value in
-    IfOk-weaker c.new.result _ _ (λ t is. rw (is, all) (token_is_string c.args.text.now c.args.token.now c.requires.0 c.requires.1.1)) c.new.ensures
+    IfOk-weaker c.new.result _ _ (λ t is. subst (λ (b : List ℕ). IsString c.args.text.now c.args.token.now.start c.args.token.now.stop b) (sym (is ∙ all)) (token_is_string c.args.text.now c.args.token.now c.requires.0 c.requires.1.1)) c.new.ensures
 
 pub returns-in_default-clause-utf8 : goal.returns-in_default-clause-utf8
 returns-in_default-clause-utf8 c = IfOk-weaker c.new.result _ _ (λ t is. rw is (IsUtf8-string_bytes c.push_str.new.self)) c.new.ensures
