@@ -21,7 +21,7 @@ mod run;
 mod worker;
 
 pub use bench::{Bench, BenchFault, CloseRefused, Pass, StepAnswer};
-pub use choosing::choose;
+pub use choosing::{choose, yields};
 pub use phase::Phase;
 pub use recorded::Recorded;
 pub use run::{Report, RunFault, run_threads};

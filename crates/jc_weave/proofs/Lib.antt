@@ -1,0 +1,5 @@
+mod LoomsLemmas
+mod LoomsOnceLemmas
+pub mod WeavingLemmas
+pub mod WeavingChosenLemmas
+pub mod WeavingStuckLemmas
