@@ -4,7 +4,7 @@ mod ChosenStoredLemmas
 pub mod WorkerResultLemmas
 pub mod ChosenNamesLemmas
 mod ElementsKnownLemmas
-mod LegalLemmas
+pub mod LegalLemmas
 mod ReportsLemmas
 mod CrossesLemmas
 mod AskedLemmas
