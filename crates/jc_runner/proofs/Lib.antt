@@ -5,6 +5,6 @@ pub mod WorkerResultLemmas
 pub mod ChosenNamesLemmas
 mod ElementsKnownLemmas
 pub mod LegalLemmas
-mod ReportsLemmas
+pub mod ReportsLemmas
 mod CrossesLemmas
 mod AskedLemmas

@@ -3,3 +3,4 @@ mod LoomsOnceLemmas
 pub mod WeavingLemmas
 pub mod WeavingChosenLemmas
 pub mod WeavingStuckLemmas
+mod WeavingEndsLemmas

@@ -13,7 +13,7 @@ set_beyond [] i y h = refl
 set_beyond (x ∷ xs) zero y h = absurd (omega (arith, h))
 set_beyond (x ∷ xs) (suc i) y h = ap (λ l. x ∷ l) (set_beyond xs i y (omega (arith, h)))
 
-abbrev In : ℕ → List ℕ → Type 0
+abbrev pub In : ℕ → List ℕ → Type 0
 In q [] = ⊥
 In q (x ∷ xs) = (x ≡ q) ⊎ In q xs
 
@@ -65,10 +65,14 @@ shorter p (x ∷ xs) (inr later) = go (nat_eq x p) (shorter p xs later)
     go true h = omega (arith, h)
     go false h = omega (arith, h)
 
--- where the drawn replica leaves, fewer are left
-pub fewer : (states : List State) (phases : List Phase) (live : List ℕ) (g : Lcg) (p : ℕ) → live ≢ [] → p ≡ drawn_of (pool states phases live) g → length (without_number p live) < length live
-fewer states phases live g p some at =
+-- who is drawn hasn't left
+pub drawn_live : (states : List State) (phases : List Phase) (live : List ℕ) (g : Lcg) (p : ℕ) → live ≢ [] → p ≡ drawn_of (pool states phases live) g → In p live
+drawn_live states phases live g p some at =
     let ps = pool states phases live in
     let low : (pcg32 g).0 % length ps < length ps = mod_below (pcg32 g).0 (length ps) (positive ps (or_some (eager_of states phases live) live some)) in
     let there : In p ps = subst (λ (q : ℕ). In q ps) (sym at) (at_in ps ((pcg32 g).0 % length ps) low) in
-    shorter p live (or_in (eager_of states phases live) live p (eager_in states phases live p) there)
+    or_in (eager_of states phases live) live p (eager_in states phases live p) there
+
+-- where it leaves, fewer are left
+pub fewer : (states : List State) (phases : List Phase) (live : List ℕ) (g : Lcg) (p : ℕ) → live ≢ [] → p ≡ drawn_of (pool states phases live) g → length (without_number p live) < length live
+fewer states phases live g p some at = shorter p live (drawn_live states phases live g p some at)

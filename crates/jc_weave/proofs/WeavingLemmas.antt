@@ -151,7 +151,7 @@ leads s seed limit schedule network ends x =
 
 -- ---- how many events are made
 
-weaves_count : (L M : Loom) (ts : List LoomTurn) → WeavesTo L ts M → length (made_events ts) + M.left ≡ L.left
+pub weaves_count : (L M : Loom) (ts : List LoomTurn) → WeavesTo L ts M → length (made_events ts) + M.left ≡ L.left
 weaves_count L M [] same = ap (λ (X : Loom). X.left) (sym same)
 weaves_count L M (makes e ∷ ts) w = omega (arith, weaves_count w.0 M ts w.2, w.1.does.left)
 weaves_count L M (finishes p ∷ ts) w = weaves_count w.0 M ts w.2 ∙ w.1.does.2.left

@@ -1,9 +1,10 @@
 -- The laws of woven schedules, which `laws` states.
-use Rattle.std.specs.Prelude.{◌≡◌, ℕ, List}
+use Rattle.std.specs.Prelude.{◌≡◌, ℕ, List, Some, length, slice_get}
 use Rattle.jc_rules.specs.declared.operation.Event.{Event}
 use Rattle.jc_rules.specs.Step.{Network}
 use Rattle.jc_scenario.specs.WellFormed.{Scenario, IsWellFormedScenario}
 use Rattle.jc_runner.specs.declared.worker.End.{End}
+use Rattle.jc_runner.specs.declared.worker.End.TheVariants.{LimitReached}
 use Rattle.jc_runner.specs.Legal.{IsLegal, AllChosen}
 use Rattle.jc_weave.specs.Weaving.{IsWoven}
 
@@ -30,3 +31,12 @@ EachIsChosen =
     → IsWoven s seed limit schedule network ends
     → (p : ℕ)
     → AllChosen s p schedule
+
+-- Where the end of a replica is the limit, the schedule has as many events as that.
+abbrev pub LimitsAreMet : Type 0
+LimitsAreMet =
+    (s : Scenario) (seed limit : ℕ) (schedule : List Event) (network : Network) (ends : List End)
+    → IsWoven s seed limit schedule network ends
+    → (p : ℕ)
+    → slice_get ends p ≡ Some LimitReached
+    → length schedule ≡ limit

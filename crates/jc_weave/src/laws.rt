@@ -1,6 +1,6 @@
 //! Laws of woven schedules. Each function does nothing: its contract is the law.
 
-ghost use Rattle.jc_weave.specs.Laws.{OneSchedule, SchedulesLead, EachIsChosen};
+ghost use Rattle.jc_weave.specs.Laws.{OneSchedule, SchedulesLead, EachIsChosen, LimitsAreMet};
 
 /// A scenario, a seed and a limit have one schedule at most.
 pub fn one_schedule()
@@ -15,4 +15,9 @@ pub fn schedules_lead()
 /// Each event of a woven schedule is the one that its replica chooses at its place.
 pub fn each_is_chosen()
     ensures { EachIsChosen }
+{}
+
+/// Where the end of a replica is the limit, the schedule has as many events as that.
+pub fn limits_are_met()
+    ensures { LimitsAreMet }
 {}
