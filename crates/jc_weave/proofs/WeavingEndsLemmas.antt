@@ -107,7 +107,7 @@ has_left L M (finishes q ∷ ts) p here none w = go (nat_eq (drawn_replica L) p)
         let done : choice L.network.states p (phase_at L.phases p) ≡ None = subst (λ (d : ℕ). choice L.network.states d (phase_at L.phases d) ≡ None) at w.1.does.1 in
         let out = λ (h : In p w.0.live). not_in p L.live (subst (λ (d : ℕ). In p (without_number d L.live)) at (subst (In p) w.1.does.2.live h)) in
         let still = untouched p w.0.network.states (made_events ts) M.network.states (after_states w.0.network (made_events ts) M.network (weaves_after w.0 M ts w.2)) (none_made w.0 M ts p out w.2) in
-        inr (ap end_of_state (still ∙ ap (λ (N : Network). slice_get N.states p) w.1.does.2.network) ∙ by_state (length L.network.states) p (phase_at L.phases p) (slice_get L.network.states p) done)
+        inr (ap end_of_state (still ∙ ap (λ (K : Network). slice_get K.states p) w.1.does.2.network) ∙ by_state (length L.network.states) p (phase_at L.phases p) (slice_get L.network.states p) done)
     go false other = has_left w.0 M ts p (subst (In p) (sym w.1.does.2.live) (still_in p (drawn_replica L) L.live other here)) none w.2
 has_left L M (gets_stuck e why ∷ ts) p here none w = go (nat_eq (replica_of e) p) refl
   where
@@ -151,5 +151,5 @@ limits_are_met s seed limit schedule network ends x k at = go x.is_over
         let is : slice_get (ends_in x.stucks network.states s.names) k ≡ Some N.LimitReached = ap (λ (l : List End). slice_get l k) (sym x.are_ends) ∙ at in
         let found = mapped_at (end_in x.stucks network.states) (numbers_from 0 s.names) k N.LimitReached is in
         let left = has_left (first_loom s x.after.start seed limit) x.last x.after.turns found.0 found.1 none x.after.weaves in
-        let here = subst (λ (l : List Stuck). HasLeft found.0 l network.states) (sym x.after.stuck) (subst (λ (N : Network). HasLeft found.0 (stuck_events x.after.turns) N.states) (sym x.is_network) left) in
+        let here = subst (λ (l : List Stuck). HasLeft found.0 l network.states) (sym x.after.stuck) (subst (λ (K : Network). HasLeft found.0 (stuck_events x.after.turns) K.states) (sym x.is_network) left) in
         absurd (no_limit found.0 x.stucks network.states here found.2)
