@@ -99,30 +99,32 @@ HasLeft p stucks states = (find (is_own p) stucks ≢ None) ⊎ (end_of_state (s
 has_left : (L M : Loom) (ts : List LoomTurn) (p : ℕ) → In p L.live → M.live ≡ [] → WeavesTo L ts M → HasLeft p (stuck_events ts) M.network.states
 has_left L M [] p here none w = absurd (subst (In p) (ap (λ (X : Loom). X.live) w ∙ none) here)
 has_left L M (makes e ∷ ts) p here none w = has_left w.0 M ts p (subst (In p) (sym w.1.does.live) here) none w.2
-has_left L M (finishes q ∷ ts) p here none w = go (nat_eq (drawn_replica L) p) refl
+has_left L M (finishes q ∷ ts) p here none w = go (nat_eq (drawn_replica L) p) refl (λ h. has_left w.0 M ts p h none w.2)
   where
-    go : (b : Bool) → nat_eq (drawn_replica L) p ≡ b → HasLeft p (stuck_events ts) M.network.states
-    go true same =
+    go : (b : Bool) → nat_eq (drawn_replica L) p ≡ b → (In p w.0.live → HasLeft p (stuck_events ts) M.network.states) → HasLeft p (stuck_events ts) M.network.states
+    go true same more =
         let at : drawn_replica L ≡ p = same_number (drawn_replica L) p same in
         let done : choice L.network.states p (phase_at L.phases p) ≡ None = subst (λ (d : ℕ). choice L.network.states d (phase_at L.phases d) ≡ None) at w.1.does.1 in
         let out = λ (h : In p w.0.live). not_in p L.live (subst (λ (d : ℕ). In p (without_number d L.live)) at (subst (In p) w.1.does.2.live h)) in
         let still = untouched p w.0.network.states (made_events ts) M.network.states (after_states w.0.network (made_events ts) M.network (weaves_after w.0 M ts w.2)) (none_made w.0 M ts p out w.2) in
         inr (ap end_of_state (still ∙ ap (λ (K : Network). slice_get K.states p) w.1.does.2.network) ∙ by_state (length L.network.states) p (phase_at L.phases p) (slice_get L.network.states p) done)
-    go false other = has_left w.0 M ts p (subst (In p) (sym w.1.does.2.live) (still_in p (drawn_replica L) L.live other here)) none w.2
-has_left L M (gets_stuck e why ∷ ts) p here none w = go (nat_eq (replica_of e) p) refl
+    go false other more = more (subst (In p) (sym w.1.does.2.live) (still_in p (drawn_replica L) L.live other here))
+has_left L M (gets_stuck e why ∷ ts) p here none w = go (nat_eq (replica_of e) p) refl (λ h. has_left w.0 M ts p h none w.2)
   where
     own : replica_of e ≡ drawn_replica L
     own = (choice_is L.network.states (drawn_replica L) (phase_at L.phases (drawn_replica L)) e w.1.does.0.next w.1.does.0.is_chosen).0
 
-    more : HasLeft p (stuck_events ts) M.network.states → nat_eq (replica_of e) p ≡ false → HasLeft p (stuck_for why e ∷ stuck_events ts) M.network.states
-    more (inl some) other = inl (λ h. some (sym (rw other refl) ∙ h))
-    more (inr finished) other = inr finished
+    longer : HasLeft p (stuck_events ts) M.network.states → nat_eq (replica_of e) p ≡ false → HasLeft p (stuck_for why e ∷ stuck_events ts) M.network.states
+    longer (inl some) other = inl (λ h. some (sym (rw other refl) ∙ h))
+    longer (inr finished) other = inr finished
 
-    go : (b : Bool) → nat_eq (replica_of e) p ≡ b → HasLeft p (stuck_for why e ∷ stuck_events ts) M.network.states
-    go true same = inl (λ h. none-some _ (sym h ∙ rw same refl))
-    go false other =
+    go : (b : Bool) → nat_eq (replica_of e) p ≡ b → (In p w.0.live → HasLeft p (stuck_events ts) M.network.states) → HasLeft p (stuck_for why e ∷ stuck_events ts) M.network.states
+    go true same more =
+        let there : find (is_own p) (stuck_for why e ∷ stuck_events ts) ≡ Some (stuck_for why e) = rw same refl in
+        inl (λ h. none-some (stuck_for why e) (sym h ∙ there))
+    go false other more =
         let far : nat_eq (drawn_replica L) p ≡ false = ap (λ (d : ℕ). nat_eq d p) (sym own) ∙ other in
-        more (has_left w.0 M ts p (subst (In p) (sym w.1.does.1.live) (still_in p (drawn_replica L) L.live far here)) none w.2) other
+        longer (more (subst (In p) (sym w.1.does.1.live) (still_in p (drawn_replica L) L.live far here))) other
 
 no_limit : (p : ℕ) (stucks : List Stuck) (states : List State) → HasLeft p stucks states → end_in stucks states p ≡ N.LimitReached → ⊥
 no_limit p stucks states (inl some) e = stuck_no_limit (find (is_own p) stucks) (end_of_state (slice_get states p)) some e

@@ -1,5 +1,5 @@
 -- About specs/Weaving: turns of a loom, the events that they make, and how many.
-use Rattle.std.proofs.Common.{arith, ◌≡◌, ◌≢◌, ℕ, ◌<◌, ◌≤◌, ◌+◌, List, [], ◌∷◌, ◌++◌, refl, sym, ◌∙◌, ap, subst, length, slice_set, append-nil, Some, None, ◌⊎◌}
+use Rattle.std.proofs.Common.{arith, ◌≡◌, ◌≢◌, ℕ, ◌<◌, ◌≤◌, ◌+◌, List, [], ◌∷◌, ◌++◌, refl, sym, ◌∙◌, ap, subst, length, slice_set, append-nil, Some, None, Result, Ok, Err, IfOk, ◌⊎◌}
 use Rattle.rand_pcg.specs.Lcg.{Lcg}
 use Rattle.rand_pcg.specs.Pcg.{pcg32}
 use Rattle.jc_rules.specs.declared.operation.Event.{Event}
@@ -152,7 +152,7 @@ leads s seed limit schedule network ends x =
 -- ---- how many events are made
 
 pub weaves_count : (L M : Loom) (ts : List LoomTurn) → WeavesTo L ts M → length (made_events ts) + M.left ≡ L.left
-weaves_count L M [] same = ap (λ (X : Loom). X.left) (sym same)
+weaves_count L M [] same = omega (arith, ap (λ (X : Loom). X.left) (sym same))
 weaves_count L M (makes e ∷ ts) w = omega (arith, weaves_count w.0 M ts w.2, w.1.does.left)
 weaves_count L M (finishes p ∷ ts) w = weaves_count w.0 M ts w.2 ∙ w.1.does.2.left
 weaves_count L M (gets_stuck e why ∷ ts) w = weaves_count w.0 M ts w.2 ∙ w.1.does.1.left
@@ -164,6 +164,15 @@ within s seed limit schedule network ends x =
     omega (arith, ap length a.events, weaves_count (first_loom s a.start seed limit) x.last a.turns a.weaves)
 
 -- ---- the end
+
+-- what is so of each result with three facts
+pub of_three : {A E : Type 0} (P Q R S : A → Type 0) (r : Result A E) → IfOk r P → IfOk r Q → IfOk r R → ((w : A) → P w → Q w → R w → S w) → IfOk r S
+of_three P Q R S (Ok w) p q r f = f w p q r
+of_three P Q R S (Err e) p q r f = tt
+
+pub nil_of : {X : Type 0} (xs : List X) → length xs ≡ 0 → xs ≡ []
+nil_of [] none = refl
+nil_of (x ∷ xs) none = absurd (omega (arith, none))
 
 pub is_woven : (s : Scenario) (seed limit : ℕ) (M : Loom) (es fs : List Event) (ss : List Stuck) (network : Network) (ends : List End)
     → IsLoomAfter s seed limit M es ss → (M.left ≡ 0) ⊎ (M.live ≡ []) → fs ≡ es → network ≡ M.network → ends ≡ ends_in ss M.network.states s.names → IsWoven s seed limit fs network ends

@@ -1,5 +1,5 @@
 -- About specs/Weaving: a stuck event names replicas of the scenario, and how many ends and counts there are.
-use Rattle.std.proofs.Common.{arith, ◌≡◌, ℕ, ◌+◌, List, [], ◌∷◌, ◌++◌, refl, sym, ◌∙◌, ap, subst, length, map, find, nat_eq, slice_get, Option, Some, None, Bool, true, false}
+use Rattle.std.proofs.Common.{arith, ◌≡◌, ℕ, ◌+◌, List, [], ◌∷◌, ◌++◌, refl, sym, ◌∙◌, ap, subst, length, map, find, nat_eq, slice_get, Option, Some, None, Bool, true, false, if◌then◌else◌}
 use Rattle.std.specs.Prelude.{All}
 use Rattle.std.proofs.lemmas.List.{length-map}
 use Rattle.std.proofs.lemmas.List.Elements.{All-nil, All-cons, All-head, All-tail}
@@ -57,11 +57,11 @@ along s before L M (gets_stuck e why ∷ ts) formed legal w =
 -- what is found is one of all
 found_of_all : (P : Stuck → Type 0) (f : Stuck → Bool) (stucks : List Stuck) (stuck : Stuck) → All P stucks → find f stucks ≡ Some stuck → P stuck
 found_of_all P f [] stuck all is = absurd (none-some _ is)
-found_of_all P f (t ∷ stucks) stuck all is = go (f t) refl
+found_of_all P f (t ∷ stucks) stuck all is = go (f t) is (found_of_all P f stucks stuck (All-tail P t stucks all))
   where
-    go : (b : Bool) → f t ≡ b → P stuck
-    go true yes = subst P (same_Some t stuck (sym (rw yes refl) ∙ is)) (All-head P t stucks all)
-    go false no = found_of_all P f stucks stuck (All-tail P t stucks all) (sym (rw no refl) ∙ is)
+    go : (b : Bool) → (if b then Some t else find f stucks) ≡ Some stuck → (find f stucks ≡ Some stuck → P stuck) → P stuck
+    go true here more = subst P (same_Some t stuck here) (All-head P t stucks all)
+    go false later more = more later
 
 -- an end of a replica that is stuck has such an event
 abbrev pub IsEndOfReplicas : ℕ → End → Type 0
