@@ -1,5 +1,5 @@
 -- About PromiseFacts: each fact follows from the promise.
-use Rattle.std.proofs.Common.{◌≡◌, ◌≢◌, ◌⊎◌, ◌∙◌, ℕ, inl, inr, List, [], ◌∷◌, Option, Some, None, codes, refl, sym, ap, subst}
+use Rattle.std.proofs.Common.{◌≡◌, ◌≢◌, ◌⊎◌, ◌∙◌, ℕ, inl, inr, List, [], ◌∷◌, Option, Some, None, Ok, Err, codes, refl, sym, ap, subst}
 use Rattle.std.proofs.lemmas.Option.{same_Some}
 use Rattle.jc_cli.specs.Arguments.{words_order, AsksHelp, IsFaultless}
 use Rattle.jc_cli.specs.declared.order.Order.{Order}
@@ -40,8 +40,8 @@ five_is_no_end bytes e = at 5 e refl
 -- nor is 5 the status of a woven schedule
 woven_not_starved : (seed limit : ℕ) (bytes out lines : List ℕ) → Records (IsBySeed seed limit) bytes out lines 5 → ⊥
 woven_not_starved seed limit bytes out lines (Ok s, is, inl h) = woven_not_five s seed limit out lines h
-woven_not_starved seed limit bytes out lines (Ok s, is, inr h) = let e : 5 ≡ 3 = h.0.ends in cc
-woven_not_starved seed limit bytes out lines (Err fault, is, h) = let e : 5 ≡ 1 = h.0.ends in cc
+woven_not_starved seed limit bytes out lines (Ok s, is, inr h) = let e : ◌≡◌ {A = ℕ} 5 3 = h.0.ends in cc
+woven_not_starved seed limit bytes out lines (Err fault, is, h) = let e : ◌≡◌ {A = ℕ} 5 1 = h.0.ends in cc
 
 -- a task without threads that came to its end hasn't the status 5
 pub not_starved : (task : Task) (bytes : List ℕ) (lines : Option (List ℕ)) (old new : World) → IsAlone task → Completes task bytes lines old new 5 → ⊥
@@ -441,11 +441,11 @@ module _ (Does : Task → Type 0) (files : Files) (words : List (List ℕ)) (old
   memory_line_of (no_memory s same) alone e = s.line
   memory_line_of (no_memory_for_words input out says) alone e = says
 
-  silent_of : (order : Order) → words_order words ≡ Some order → (IsWeaveOrder words → ⊥) → IsAlone order.task → IsSilent order.task
-  silent_of order some none alone = silent_at order.task alone (λ seed limit is. none (order, seed, limit, some, is))
+  silent_order : (order : Order) → words_order words ≡ Some order → (IsWeaveOrder words → ⊥) → IsAlone order.task → IsSilent order.task
+  silent_order order some none alone = silent_at order.task alone (λ seed limit is. none (order, seed, limit, some, is))
 
   quiet_at : {n : ℕ} → (IsThreadsOrder words → ⊥) → (IsWeaveOrder words → ⊥) → Carried Does files words old new n → new.err ≡ old.err
-  quiet_at {n} alone still c = complete_quiet c.order.task c.bytes (lines_by old.input.bytes c.order.file) old new n (silent_of c.order c.is_order still (alone_of c.order c.is_order alone)) c.completes
+  quiet_at {n} alone still c = complete_quiet c.order.task c.bytes (lines_by old.input.bytes c.order.file) old new n (silent_order c.order c.is_order still (alone_of c.order c.is_order alone)) c.completes
 
   pub quiet_of : {n : ℕ} → Promise Does files words old new n → QuietFact files words old new n
   quiet_of (done c) alone still two four five = quiet_at alone still c

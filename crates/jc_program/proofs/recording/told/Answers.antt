@@ -7,8 +7,8 @@ use Rattle.jc_program.specs.Recordings.{HasTexts}
 use Rattle.jc_program.proofs.EndsLemmas.{of_report}
 use Rattle.jc_program.proofs.recording.told.Goals as goal
 
-pub texts_of-requires-tellable : goal.texts_of-requires-tellable
-texts_of-requires-tellable c =
+pub texts_of-requires-clause-tellable : goal.texts_of-requires-clause-tellable
+texts_of-requires-clause-tellable c =
     let is = of_report (scenario_view c.args.report.start) c.requires.0 c.args.report c.requires.1 in
     subst (λ (made : List ℕ). AreTellable c.args.report.net.names made c.deref-2.result.now) (sym c.deref.ensures.value)
     (subst (λ (ends : List End). AreTellable c.args.report.net.names c.args.report.made.items ends) (sym c.deref-2.ensures.value) is)
