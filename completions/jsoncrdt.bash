@@ -4,19 +4,20 @@ _jsoncrdt() {
     local word=${COMP_WORDS[COMP_CWORD]} before=${COMP_WORDS[COMP_CWORD - 1]} options=
     COMPREPLY=()
     if [ "$COMP_CWORD" -eq 1 ]; then
-        COMPREPLY=($(compgen -W 'check print run view debug threads help -h --help -V --version' -- "$word"))
+        COMPREPLY=($(compgen -W 'check print run view debug threads weave help -h --help -V --version' -- "$word"))
         return
     fi
     case ${COMP_WORDS[1]} in
-        help) COMPREPLY=($(compgen -W 'check print run view debug threads' -- "$word")); return ;;
+        help) COMPREPLY=($(compgen -W 'check print run view debug threads weave' -- "$word")); return ;;
         check) options='-h --help' ;;
         print) options='-h --help' ;;
         run) options='--trace -h --help' ;;
         view) options='--at -h --help' ;;
         debug) options='-h --help' ;;
         threads) options='--limit -h --help' ;;
+        weave) options='--seed --limit -h --help' ;;
     esac
-    case $before in --at|--limit) return ;; esac
+    case $before in --at|--limit|--seed) return ;; esac
     if [[ $word == -* ]]; then
         COMPREPLY=($(compgen -W "$options" -- "$word"))
     else

@@ -33,8 +33,7 @@ The program by the same rules, written once more in Python. Nothing of it is pro
   weave [--seed N] [--limit N] FILE
                         prints the scenario with a schedule drawn from the seed (0 unless it is said):
                         each replica chooses its events as its thread does, up to the limit (10,000);
-                        yields between commands make schedules that end differently; the proved
-                        program doesn't have this command yet either
+                        yields between commands make schedules that end differently
   debug FILE            the debugger: steps forwards and backwards by lines of standard input (`act`
                         cuts off the rest of the schedule for good); in a terminal it has a prompt
                         and a history, and `help` lists the lines

@@ -38,13 +38,15 @@ def commands():
     """The commands in their order, each as (name, text, options)."""
     found = {}
     parts = re.split(r"^(?:pub\(crate\) )?fn ", stored(DEFINITION), flags=re.MULTILINE)[1:]
+    shared = {part.split("<")[0]: option_of(part) for part in parts if "-> Arg<" in part}
     for part in parts:
         name = NEW.search(part)
         found |= {plain: (plain, about, []) for plain, about in PLAIN.findall(part)}
         if name and name[1] != "jsoncrdt":
-            arguments = re.findall(r"Arg::new\(.*?;", part, re.DOTALL)
+            options = [option_of(own) for own in re.findall(r"Arg::new\(.*?;", part, re.DOTALL)]
+            options += [shared[name] for name in re.findall(r"\.arg\((\w+)\(alloc\)\)", part)]
             about = dict((call, string) for call, string, _ in CALL.findall(part[name.end():]))["about"]
-            found[name[1]] = name[1], about, [option for option in map(option_of, arguments) if option]
+            found[name[1]] = name[1], about, [option for option in options if option]
     return [found[name] for name in re.findall(r"top\.subcommand\((\w+)\)", parts[-1])]
 
 

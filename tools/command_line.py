@@ -42,6 +42,14 @@ COMMANDS = [
             "Run each replica in a thread of its own, and print the scenario with the schedule that they made",
             "The schedule in the file isn't looked at; given events are executed first, and kept. A line for each replica "
             "goes to standard error. A stuck event isn't in the schedule that is printed."),
+    Command("weave",
+            [Option("--seed", value="N", about="Draw the schedule from this number, from 0 to 18446744073709551615",
+                    default="0"),
+             Option("--limit", value="N", about="Let the schedule have N events at most, from 0 to 100000",
+                    default="10000")],
+            "Draw a schedule from a seed, in which each replica chooses its events, and print the scenario with it",
+            "The same seed gives the same schedule. The schedule in the file isn't looked at; given events are executed "
+            "first, and kept. A line for each replica goes to standard error. A stuck event isn't in the schedule."),
 ]
 STATUSES = [
     (0, "done, also after help and the version"),

@@ -16,7 +16,7 @@ use Rattle.clap.specs.declared.error.kind.ErrorKind.{ErrorKind}
 use Rattle.clap.specs.declared.parser.matches.ValueSource.{ValueSource}
 use Rattle.clap.specs.declared.parser.matches.ValueSource.TheVariants.{DefaultValue, CommandLine}
 use Rattle.clap.specs.declared.builder.value_parser.ValueParser.TheVariants.{Unsigned}
-use Rattle.jc_cli.specs.Program.{file_rule, limit_rule, at_rule, trace_rule}
+use Rattle.jc_cli.specs.Program.{file_rule, limit_rule, at_rule, seed_rule, trace_rule}
 
 -- P holds of each element
 abbrev pub Each : {X : Type 0} → (X → Type 0) → List X → Type 0
@@ -56,10 +56,12 @@ failed k false more e = (refl, e)
 
 -- ---- rows
 
--- There is a first value, and that of the limit is a number from 0 to 100,000.
+-- There is a first value; that of the limit is a number from 0 to 100,000, and that of the seed one below 2 to the 64.
 abbrev pub is_readable : Text → List Text → Bool
 is_readable id [] = false
-is_readable id (v ∷ vs) = if bytes_eq id (codes "limit") then is_unsigned_in 0 100000 v else true
+is_readable id (v ∷ vs) =
+    if bytes_eq id (codes "limit") then is_unsigned_in 0 100000 v
+    else (if bytes_eq id (codes "seed") then is_unsigned_in 0 18446744073709551615 v else true)
 
 -- the values of a row are such
 abbrev pub IsReadable : Row → Type 0
@@ -113,6 +115,16 @@ given_row id (r ∷ rs) e = pick (bytes_eq r.id id) (given_row id rs) e
     pick true later e = refl
     pick false later e = later e
 
+-- values of another argument take no row away
+pub kept_row : (id other : Text) (how : Reading) (values : List Text) (rows : List Row) → has_row id rows ≡ true → has_row id (with_values other how DefaultValue values rows) ≡ true
+kept_row id other how values [] e = cc
+kept_row id other how values (r ∷ rs) e = next (bytes_eq r.id other) (bytes_eq r.id id) refl e (kept_row id other how values rs)
+  where
+    next : (t b : Bool) → bytes_eq r.id id ≡ b → (b || has_row id rs) ≡ true → (has_row id rs ≡ true → has_row id (with_values other how DefaultValue values rs) ≡ true) → has_row id (if t then record r { values = r.values ++ values; source = Some (stronger r.source DefaultValue) } ∷ rs else r ∷ with_values other how DefaultValue values rs) ≡ true
+    next true b is there more = ap (λ x. x || has_row id rs) is ∙ there
+    next false true is there more = ap (λ x. x || has_row id (with_values other how DefaultValue values rs)) is
+    next false false is there more = ap (λ x. x || has_row id (with_values other how DefaultValue values rs)) is ∙ more there
+
 -- an argument with a default value has a row after it was filled in
 pub row_by_default : (id : Text) (how : Reading) (values : List Text) (rows : List Row) → bytes_eq id id ≡ true → has_row id (if has_row id rows then rows else with_values id how DefaultValue values rows) ≡ true
 row_by_default id how values rows same = pick (has_row id rows) refl
@@ -162,6 +174,9 @@ built_limit = with_index 1 (filled limit_rule)
 
 abbrev pub built_at : Rule
 built_at = with_index 1 (filled at_rule)
+
+abbrev pub built_seed : Rule
+built_seed = with_index 1 (filled seed_rule)
 
 abbrev pub built_help : Rule
 built_help = with_index 1 (filled help_rule)
@@ -216,6 +231,22 @@ pub sound_at : IsSound built_at
 sound_at = record {
   by_use = use_of_at;
   by_default = λ rows h. filled_in (codes "limit") (reading_by built_at) (codes "100000" ∷ []) rows refl h;
+}
+
+-- a use of the seed without a fault has a number below 2 to the 64
+use_of_seed : (again : Bool) (values : List Text) (rows : List Row) → use_fault again built_seed values rows ≡ [] → AreReadable rows → AreReadable (used built_seed values rows)
+use_of_seed again [] rows e h = cc
+use_of_seed again (v ∷ vs) rows e h =
+    let later = (neither (range_kinds 1 1 (length (v ∷ vs))) _ e).1 in
+    let taken = (neither (repeat_fault again (codes "seed") rows) (values_kinds false (Unsigned 0 18446744073709551615) (v ∷ vs)) later).1 in
+    let number = passed _ (is_unsigned_in 0 18446744073709551615 v) (neither _ (values_kinds false (Unsigned 0 18446744073709551615) vs) taken).0 in
+    replaced (codes "seed") (reading_by built_seed) (v ∷ vs) rows number h
+
+-- 0 is the seed's default value
+pub sound_seed : IsSound built_seed
+sound_seed = record {
+  by_use = use_of_seed;
+  by_default = λ rows h. filled_in (codes "seed") (reading_by built_seed) (codes "0" ∷ []) rows refl h;
 }
 
 -- help changes no row

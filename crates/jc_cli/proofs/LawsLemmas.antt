@@ -9,15 +9,16 @@ use Rattle.clap.specs.Kinds.{check_kinds}
 use Rattle.clap.specs.Simple.{App, Shape, argument_words, built, built_leaf, entered, inherited, label_of, names_of, rows_at, subcommand_of}
 use Rattle.clap.specs.Takes.{is_given}
 use Rattle.clap.specs.ValueTests.{is_unsigned_in}
-use Rattle.clap.specs.Walk.{Row, Text, answers_to, finished, first_of, has_row, nothing_held, reading_by, settled, stop_after, walk, walk_from, with_default}
+use Rattle.clap.specs.Walk.{Row, Text, answers_to, finished, first_of, has_row, nothing_held, reading_by, settled, stop_after, walk, walk_from, with_default, with_values}
 use Rattle.clap.specs.declared.error.kind.ErrorKind.TheVariants as K
+use Rattle.clap.specs.declared.parser.matches.ValueSource.TheVariants.{DefaultValue}
 use Rattle.jc_cli.specs.Laws.{FaultlessAreOrders}
-use Rattle.jc_cli.specs.Program.{bare, plain_app, program, run_app, threads_app, view_app}
-use Rattle.jc_cli.specs.Arguments.{with_help_meant, is_traced, limit_given, documents, order_by, order_in, task_in, with_file, words_order}
+use Rattle.jc_cli.specs.Program.{bare, plain_app, program, run_app, threads_app, view_app, weave_app}
+use Rattle.jc_cli.specs.Arguments.{with_help_meant, is_traced, limit_given, seed_given, weave_by, documents, order_by, order_in, task_in, with_file, words_order}
 use Rattle.jc_cli.specs.declared.order.Task.{Task}
-use Rattle.jc_cli.specs.declared.order.Task.TheVariants.{Show, Debug, Threads}
+use Rattle.jc_cli.specs.declared.order.Task.TheVariants.{Show, Debug, Threads, Weave}
 use Rattle.jc_cli.specs.declared.order.View.TheVariants.{Check, Print, Run}
-use Rattle.jc_cli.proofs.ArgumentsLemmas.{AreReadable, Each, IsSound, built_file, built_at, built_help, built_limit, built_trace, failed, first_there, found, given_row, neither, row_by_default, sound_at, sound_file, sound_help, sound_limit, sound_trace, unfilled}
+use Rattle.jc_cli.proofs.ArgumentsLemmas.{AreReadable, Each, IsSound, built_file, built_at, built_help, built_limit, built_seed, built_trace, failed, first_there, found, given_row, kept_row, neither, row_by_default, sound_at, sound_file, sound_help, sound_limit, sound_seed, sound_trace, unfilled}
 use Rattle.jc_cli.proofs.FaultlessLemmas.{of_level}
 
 -- there is a value
@@ -62,6 +63,15 @@ documents_there rows h has =
     let first = first_there (codes "limit") rows h has in
     let number : is_unsigned_in 0 100000 first.0 ≡ true = first.2 in
     (documents (digits_value 10 (without_leading_plus first.0)), rw (first.1, number) refl)
+
+-- so are a seed and a limit
+weave_there : (rows : List Row) → AreReadable rows → has_row (codes "seed") rows ≡ true → has_row (codes "limit") rows ≡ true → IsThere (weave_by (seed_given rows) (limit_given rows))
+weave_there rows h seeded limited =
+    let seed = first_there (codes "seed") rows h seeded in
+    let limit = first_there (codes "limit") rows h limited in
+    let one : is_unsigned_in 0 18446744073709551615 seed.0 ≡ true = seed.2 in
+    let two : is_unsigned_in 0 100000 limit.0 ≡ true = limit.2 in
+    (Weave (digits_value 10 (without_leading_plus seed.0)) (digits_value 10 (without_leading_plus limit.0)), rw (seed.1, one, limit.1, two) refl)
 
 -- a task and a file are an order
 ordered_by : (t : Option Task) (file : Option Text) → IsThere t → IsThere file → IsThere (with_file t file)
@@ -125,6 +135,36 @@ of_view =
     orders_by (command view_app) (sound_at, (sound_file, (sound_help, tt))) (λ rows e. was_given (is_given (codes "file") rows) e)
     (λ before h. documents_there (fold with_default before (built_at ∷ built_file ∷ built_help ∷ [])) h (at_row before))
 
+-- so have a seed and a limit beside each other
+module _ (before : List Row) where
+  abbrev seeded_rows : List Row
+  seeded_rows = with_default before built_seed
+
+  abbrev woven_rows : List Row
+  woven_rows = fold with_default before (built_seed ∷ built_limit ∷ built_file ∷ built_help ∷ [])
+
+  woven_same : woven_rows ≡ with_default seeded_rows built_limit
+  woven_same =
+      let limited = with_default seeded_rows built_limit in
+      let filed = with_default limited built_file in
+      unfilled (has_row (codes "help") filed) filed ∙ unfilled (has_row (codes "file") limited) limited
+
+  woven_limit : has_row (codes "limit") woven_rows ≡ true
+  woven_limit = ap (has_row (codes "limit")) woven_same ∙ row_by_default (codes "limit") (reading_by built_limit) (codes "10000" ∷ []) seeded_rows refl
+
+  woven_seed : has_row (codes "seed") woven_rows ≡ true
+  woven_seed = ap (has_row (codes "seed")) woven_same ∙ by_limit (has_row (codes "limit") seeded_rows) (row_by_default (codes "seed") (reading_by built_seed) (codes "0" ∷ []) before refl)
+    where
+      by_limit : (t : Bool) → has_row (codes "seed") seeded_rows ≡ true → has_row (codes "seed") (if t then seeded_rows else with_values (codes "limit") (reading_by built_limit) DefaultValue (codes "10000" ∷ []) seeded_rows) ≡ true
+      by_limit true there = there
+      by_limit false there = kept_row (codes "seed") (codes "limit") (reading_by built_limit) (codes "10000" ∷ []) seeded_rows there
+
+-- the command `weave`
+of_weave : Orders (command weave_app)
+of_weave =
+    orders_by (command weave_app) (sound_seed, (sound_limit, (sound_file, (sound_help, tt)))) (λ rows e. was_given (is_given (codes "file") rows) e)
+    (λ before h. weave_there (fold with_default before (built_seed ∷ built_limit ∷ built_file ∷ built_help ∷ [])) h (woven_seed before) (woven_limit before))
+
 -- ---- the command that words name
 
 -- the command that was met has an order
@@ -162,7 +202,7 @@ each_command : Each Orders (built program).subs
 unfolding program clap_on_literals
 each_command = (
   of_plain (codes "check") (Show Check) (λ rows. refl),
-  (of_plain (codes "print") (Show Print) (λ rows. refl), (of_run, (of_view, (of_plain (codes "debug") Debug (λ rows. refl), (of_threads, tt))))),
+  (of_plain (codes "print") (Show Print) (λ rows. refl), (of_run, (of_view, (of_plain (codes "debug") Debug (λ rows. refl), (of_threads, (of_weave, tt)))))),
 )
 
 -- a command is wanted

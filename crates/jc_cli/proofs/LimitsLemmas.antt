@@ -9,10 +9,10 @@ use Rattle.clap.specs.ValueTests.{is_unsigned_in}
 use Rattle.clap.proofs.ValueTestLemmas.{accepts-Accepts, Accepts-accepts}
 use Rattle.clap.specs.Words.{Row, Text, first_of}
 use Rattle.clap.specs.declared.builder.value_parser.ValueParser.TheVariants.{Unsigned}
-use Rattle.jc_cli.specs.Arguments.{is_traced, limit_in, limit_given, order_in, task_in, with_file, documents, HasLimitInRange}
+use Rattle.jc_cli.specs.Arguments.{is_traced, limit_in, limit_given, seed_in, seed_given, weave_by, order_in, task_in, with_file, documents, HasLimitInRange}
 use Rattle.jc_cli.specs.declared.order.Order.{Order}
 use Rattle.jc_cli.specs.declared.order.Task.{Task}
-use Rattle.jc_cli.specs.declared.order.Task.TheVariants.{Show, Debug, Threads}
+use Rattle.jc_cli.specs.declared.order.Task.TheVariants.{Show, Debug, Threads, Weave}
 use Rattle.jc_cli.specs.declared.order.View.TheVariants.{Check, Print, Run}
 
 -- ---- the limit of a text
@@ -28,6 +28,20 @@ pub outside : (text : Text) → (IsUnsignedIn 0 100000 text → ⊥) → limit_i
 outside text beyond = by_test (is_unsigned_in 0 100000 text) refl where
   by_test : (t : Bool) → is_unsigned_in 0 100000 text ≡ t → limit_in text ≡ None
   by_test true e = absurd (beyond (accepts-Accepts false (Unsigned 0 100000) text e))
+  by_test false e = rw e refl
+
+-- ---- the seed of a text
+
+pub seed_within : (text : Text) (n : ℕ) → IsNumeral 10 (without_leading_plus text) × (digits_value 10 (without_leading_plus text) < 2 ^ 64) → n ≡ digits_value 10 (without_leading_plus text) → seed_in text ≡ Some n
+seed_within text n read is =
+    let accepted : is_unsigned_in 0 18446744073709551615 text ≡ true = Accepts-accepts false (Unsigned 0 18446744073709551615) text (read.0, read.1, omega arith, omega (arith, read.1)) in
+    rw accepted (ap Some (sym is))
+
+-- any other text
+pub seed_outside : (text : Text) → (IsUnsignedIn 0 18446744073709551615 text → ⊥) → seed_in text ≡ None
+seed_outside text beyond = by_test (is_unsigned_in 0 18446744073709551615 text) refl where
+  by_test : (t : Bool) → is_unsigned_in 0 18446744073709551615 text ≡ t → seed_in text ≡ None
+  by_test true e = absurd (beyond (accepts-Accepts false (Unsigned 0 18446744073709551615) text e))
   by_test false e = rw e refl
 
 -- ---- the limit of an order
@@ -54,9 +68,16 @@ of_limit : (o : Option ℕ) → ((n : ℕ) → o ≡ Some n → n ≤ 100000) �
 of_limit None p = none
 of_limit (Some n) p = one (Threads n) (p n refl)
 
+given_in_range : (rows : List Row) (n : ℕ) → limit_given rows ≡ Some n → n ≤ 100000
+given_in_range rows n e = option_and_then_some limit_in (first_of (codes "limit") rows) n e (λ text _ is. text_in_range text n is)
+
 of_rows : (rows : List Row) → IsInRange (option_map Threads (limit_given rows))
-of_rows rows =
-    of_limit (limit_given rows) (λ n e. option_and_then_some limit_in (first_of (codes "limit") rows) n e (λ text _ is. text_in_range text n is))
+of_rows rows = of_limit (limit_given rows) (given_in_range rows)
+
+of_weave : (seed limit : Option ℕ) → ((n : ℕ) → limit ≡ Some n → n ≤ 100000) → IsInRange (weave_by seed limit)
+of_weave None limit p = none
+of_weave (Some s) None p = none
+of_weave (Some s) (Some n) p = one (Weave s n) (p n refl)
 
 of_documents : (o : Option ℕ) → IsInRange (option_map documents o)
 of_documents None = none
@@ -69,7 +90,8 @@ of_task name rows =
     (by_test (bytes_eq name (codes "run")) (one (Show (Run (is_traced rows))) tt)
     (by_test (bytes_eq name (codes "view")) (of_documents (limit_given rows))
     (by_test (bytes_eq name (codes "debug")) (one Debug tt)
-    (by_test (bytes_eq name (codes "threads")) (of_rows rows) none)))))
+    (by_test (bytes_eq name (codes "threads")) (of_rows rows)
+    (by_test (bytes_eq name (codes "weave")) (of_weave (seed_given rows) (limit_given rows) (given_in_range rows)) none))))))
 
 of_file : (t : Option Task) (file : Option Text) (o : Order) → IsInRange t → with_file t file ≡ Some o → HasLimitInRange o.task
 of_file (Some task) (Some file) o p e =

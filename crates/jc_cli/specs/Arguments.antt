@@ -7,11 +7,11 @@ use Rattle.clap.specs.ValueTests.{is_unsigned_in}
 use Rattle.clap.specs.Words.{Kinds, Row, Text, fault_of, first_of, subcommand_of}
 use Rattle.clap.specs.declared.error.kind.ErrorKind.{ErrorKind}
 use Rattle.clap.specs.declared.error.kind.ErrorKind.TheVariants.{DisplayHelp, DisplayVersion, OutOfMemory}
-use Rattle.jc_rules.specs.declared.limits.TheConstants.{MAX_THREAD_EVENTS}
+use Rattle.jc_rules.specs.declared.limits.TheConstants.{MAX_EVENTS, MAX_THREAD_EVENTS}
 use Rattle.jc_cli.specs.Program.{program}
 use Rattle.jc_cli.specs.declared.order.Order.{Order}
 use Rattle.jc_cli.specs.declared.order.Task.{Task}
-use Rattle.jc_cli.specs.declared.order.Task.TheVariants.{Show, Debug, Threads}
+use Rattle.jc_cli.specs.declared.order.Task.TheVariants.{Show, Debug, Threads, Weave}
 use Rattle.jc_cli.specs.declared.order.View.TheVariants.{Check, Print, Run, Document}
 use Rattle.jc_cli.specs.declared.fault.WordsFault.{WordsFault}
 use Rattle.jc_cli.specs.declared.fault.WordsFault.TheVariants.{Help, Usage, Memory}
@@ -19,7 +19,7 @@ use Rattle.jc_cli.specs.declared.fault.WordsFault.TheVariants.{Help, Usage, Memo
 abbrev pub is_traced : List Row → Bool
 is_traced rows = bytes_eq (unwrap_or (first_of (codes "trace") rows) []) (codes "true")
 
--- the number of a text that is one from 0 to 100,000; `view` and `threads` have the same greatest limit
+-- the number of a text that is one from 0 to 100,000, the greatest limit of each command that has one
 abbrev pub limit_in : Text → Option ℕ
 limit_in text =
     if is_unsigned_in 0 MAX_THREAD_EVENTS text then Some (digits_value 10 (without_leading_plus text)) else None
@@ -27,9 +27,23 @@ limit_in text =
 abbrev pub limit_given : List Row → Option ℕ
 limit_given rows = option_and_then limit_in (first_of (codes "limit") rows)
 
+-- the number of a text that is one below 2 to the 64
+abbrev pub seed_in : Text → Option ℕ
+seed_in text =
+    if is_unsigned_in 0 18446744073709551615 text then Some (digits_value 10 (without_leading_plus text)) else None
+
+abbrev pub seed_given : List Row → Option ℕ
+seed_given rows = option_and_then seed_in (first_of (codes "seed") rows)
+
 -- the documents after this number of events at most
 abbrev pub documents : ℕ → Task
 documents n = Show (Document n)
+
+-- a schedule from this seed, with this number of events at most
+abbrev pub weave_by : Option ℕ → Option ℕ → Option Task
+weave_by (Some seed) (Some limit) = Some (Weave seed limit)
+weave_by (Some seed) None = None
+weave_by None limit = None
 
 -- the task of the command with this name, by the values of its arguments
 abbrev pub task_in : Text → List Row → Option Task
@@ -40,7 +54,8 @@ task_in name rows =
     else (if bytes_eq name (codes "view") then option_map documents (limit_given rows)
     else (if bytes_eq name (codes "debug") then Some Debug
     else (if bytes_eq name (codes "threads") then option_map Threads (limit_given rows)
-    else None)))))
+    else (if bytes_eq name (codes "weave") then weave_by (seed_given rows) (limit_given rows)
+    else None))))))
 
 abbrev pub with_file : Option Task → Option Text → Option Order
 with_file (Some task) (Some file) = Some (record { task = task; file = file })
@@ -86,9 +101,10 @@ AsksHelp words = (words_faults words ≡ DisplayHelp ∷ []) ⊎ (words_faults w
 abbrev pub IsFaultless : List Text → Type 0
 IsFaultless words = words_faults words ≡ []
 
--- the limit of `threads` is from 0 to 100,000
+-- the limit of `threads` and of `weave` is from 0 to 100,000
 abbrev pub HasLimitInRange : Task → Type 0
 HasLimitInRange (Threads limit) = limit ≤ MAX_THREAD_EVENTS
+HasLimitInRange (Weave seed limit) = limit ≤ MAX_EVENTS
 HasLimitInRange task = ⊤
 
 -- why the arguments are no command

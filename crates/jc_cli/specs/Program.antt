@@ -48,6 +48,18 @@ view_app = with_rule (with_rule (new_app (codes "view")) at_rule) file_rule
 abbrev pub threads_app : App
 threads_app = with_rule (with_rule (new_app (codes "threads")) limit_rule) file_rule
 
+-- a number below 2 to the 64, by default 0
+abbrev pub seed_rule : Rule
+seed_rule = record (new_rule (codes "seed")) {
+  long = Some (codes "seed");
+  value_names = 1;
+  parser = Some (Unsigned 0 18446744073709551615);
+  defaults = codes "0" ∷ [];
+}
+
+abbrev pub weave_app : App
+weave_app = with_rule (with_rule (with_rule (new_app (codes "weave")) seed_rule) limit_rule) file_rule
+
 -- The program without its commands: one of them is required. It has a version. A flag alone asks for help, so that each
 -- fault of the arguments has one kind; `with_help_meant` of Arguments says what the argument `help` means.
 abbrev pub bare_shape : Shape → Shape
@@ -63,6 +75,6 @@ bare = record { top = bare_shape (new_app (codes "jsoncrdt")).top; subs = [] }
 
 unfoldable pub program : App
 program =
-    with_subcommand (with_subcommand (with_subcommand (with_subcommand (with_subcommand (with_subcommand bare
-    (plain_app (codes "check")).top) (plain_app (codes "print")).top) run_app.top) view_app.top)
-    (plain_app (codes "debug")).top) threads_app.top
+    with_subcommand (with_subcommand (with_subcommand (with_subcommand (with_subcommand (with_subcommand (with_subcommand
+    bare (plain_app (codes "check")).top) (plain_app (codes "print")).top) run_app.top) view_app.top)
+    (plain_app (codes "debug")).top) threads_app.top) weave_app.top

@@ -3,9 +3,9 @@
 
 ghost use Rattle.std.specs.Prelude.{◌≡◌, IfOk, false};
 ghost use Rattle.clap.specs.Words.{app_of, rule_of, new_app, with_rule};
-ghost use Rattle.jc_cli.specs.Program.{IsLocal, file_rule, plain_app, run_app, view_app, threads_app, program};
+ghost use Rattle.jc_cli.specs.Program.{IsLocal, file_rule, limit_rule, seed_rule, plain_app, run_app, view_app, threads_app, weave_app, program};
 
-use crate::help::{ABOUT, CHECK, DEBUG, PRINT, PROGRAM, RUN, THREADS, USAGE, VERSION, VIEW};
+use crate::help::{ABOUT, CHECK, DEBUG, PRINT, PROGRAM, RUN, THREADS, USAGE, VERSION, VIEW, WEAVE};
 use clap::builder::ValueParser;
 use clap::{Arg, ArgAction, Command};
 use jc_rules::limits::{MAX_EVENTS, MAX_THREAD_EVENTS};
@@ -91,6 +91,46 @@ fn threads<'a>(alloc: Global) -> Result<Command<'a>, AllocError>
         .arg(file(alloc))
 }
 
+/// The seed of a woven schedule.
+fn weave_seed<'a>(alloc: Global) -> Arg<'a>
+    ensures rule { rule_of result ≡ seed_rule }
+    ensures local { result.global ≡ false }
+{
+    Arg::new(alloc, "seed")
+        .long("seed")
+        .value_name("N")
+        .help("Draw the schedule from this number, from 0 to 18446744073709551615")
+        .value_parser(ValueParser::unsigned(0, u64::MAX))
+        .default_value("0")
+}
+
+/// The limit of a woven schedule.
+fn weave_limit<'a>(alloc: Global) -> Arg<'a>
+    ensures rule { rule_of result ≡ limit_rule }
+    ensures local { result.global ≡ false }
+{
+    Arg::new(alloc, "limit")
+        .long("limit")
+        .value_name("N")
+        .help("Let the schedule have N events at most, from 0 to 100000")
+        .value_parser(ValueParser::unsigned(0, MAX_EVENTS as u64))
+        .default_value("10000")
+}
+
+fn weave<'a>(alloc: Global) -> Result<Command<'a>, AllocError>
+    ensures shape { IfOk result (λ c. app_of c ≡ weave_app) }
+    ensures local { IfOk result IsLocal }
+{
+    Command::new(alloc, "weave")
+        .about(
+            "Draw a schedule from a seed, in which each replica chooses its events, and print the scenario with it",
+        )
+        .after_help(WEAVE)
+        .arg(weave_seed(alloc))?
+        .arg(weave_limit(alloc))?
+        .arg(file(alloc))
+}
+
 /// The whole command line, without the program's name. Each command is made right before it is added, so that
 /// there is only one to drop where there is no memory.
 pub(crate) fn definition<'a>(alloc: Global) -> Result<Command<'a>, AllocError>
@@ -131,5 +171,7 @@ pub(crate) fn definition<'a>(alloc: Global) -> Result<Command<'a>, AllocError>
     )?;
     let top = top.subcommand(debug)?;
     let threads = threads(alloc)?;
-    top.subcommand(threads)
+    let top = top.subcommand(threads)?;
+    let weave = weave(alloc)?;
+    top.subcommand(weave)
 }

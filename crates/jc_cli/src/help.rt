@@ -13,7 +13,8 @@ what they give, and why.";
 pub(crate) const USAGE: &str = "jsoncrdt [COMMAND]\n       jsoncrdt help [COMMAND]";
 
 /// The command line in one line, where its parser has no text.
-pub(crate) const BRIEF: &str = "Usage: jsoncrdt [check|print|run|view|debug|threads] [FILE]\n";
+pub(crate) const BRIEF: &str =
+    "Usage: jsoncrdt [check|print|run|view|debug|threads|weave] [FILE]\n";
 
 /// The help of the program.
 pub(crate) const PROGRAM: &str =
@@ -242,3 +243,45 @@ Statuses:\n  \
 3  a given event or a replica's was stuck, since no rule allows it; its line says why\n  \
 4  a read or a write failed\n  \
 5  there was no memory, or a thread could not be made";
+
+/// The help of `weave`.
+pub(crate) const WEAVE: &str =
+    "A scenario is a text with a script of commands for each replica, and a schedule of the events\n\
+that execute them.\n\
+The schedule of FILE isn't looked at. In each turn one replica is drawn, and executes the event that\n\
+its thread would choose, as `jsoncrdt help threads` says. A replica whose script is done, or whose\n\
+event is stuck, is drawn no more. Where a `yield` is a replica's last command, it sends and then\n\
+waits, before it receives, until no other one has anything to do before. So one `yield` at the end\n\
+of each script is enough for all to receive what the others sent. A stuck event isn't in the\n\
+schedule.\n\
+The same seed gives the same schedule, on any machine. Put yields between commands: with all commands\n\
+first, and one `yield` last, all is concurrent in whatever order it is executed.\n\
+Given events, of version 2, run before any replica is drawn. Where one is stuck none is: its number\n\
+and why it is stuck are printed, and nothing goes to standard error.\n\
+\n\
+For each replica a line `NAME made M END` goes to standard error, where M is how many events\n\
+it executed, and END is why it executed no more:\n  \
+finished   its script is done\n  \
+limit      the schedule has as many events as the limit\n  \
+stuck ..   no rule allows its next event; the line says why\n\
+\n\
+Example:\n  \
+echo 'jsoncrdt 1 replica a { doc.get(\"a\") := 1 } schedule { }' | jsoncrdt weave --seed 7 -\n\
+prints\n  \
+jsoncrdt 1\n  \
+replica a {\n    \
+doc.get(\"a\") := 1;\n  \
+}\n  \
+schedule {\n    \
+a.exec;\n  \
+}\n\
+and on standard error\n  \
+a made 1 finished\n\
+\n\
+Statuses:\n  \
+0  done, also after help\n  \
+1  the scenario's text was refused; the line printed says why and where\n  \
+2  the arguments are wrong\n  \
+3  a given event or a replica's was stuck, since no rule allows it; its line says why\n  \
+4  a read or a write failed\n  \
+5  there was no memory";

@@ -33,6 +33,12 @@ pub enum Task {
         /// The number of events executed by each replica at most.
         limit: u64,
     },
+    /// Print it with a schedule that is drawn from the seed.
+    Weave {
+        seed: u64,
+        /// The number of events of the schedule at most.
+        limit: u64,
+    },
 }
 
 /// A command: its task, and the file with the scenario's text. The file `-` is standard input.

@@ -6,7 +6,7 @@ ghost use Rattle.std.specs.Str.{bytes_eq};
 ghost use Rattle.clap.specs.Words.{FailsBy, fault_of, first_of, found_of, rows_of, subcommand_of, subcommand_rows_of};
 ghost use Rattle.jc_cli.specs.Program.{program};
 ghost use Rattle.jc_cli.specs.declared.fault.WordsFault.TheVariants.{Memory as NoMemory};
-ghost use Rattle.jc_cli.specs.Arguments.{is_traced, limit_in, limit_given, task_in, order_in, asked_of, with_help_meant, words_order, AsksHelp, HasLimitInRange, HasText, IsFaultless, IsWordsFault};
+ghost use Rattle.jc_cli.specs.Arguments.{is_traced, limit_in, limit_given, seed_in, seed_given, weave_by, task_in, order_in, asked_of, with_help_meant, words_order, AsksHelp, HasLimitInRange, HasText, IsFaultless, IsWordsFault};
 
 use crate::definition::definition;
 use crate::fault::{WordsFault, fault_by};
@@ -88,7 +88,7 @@ fn has_trace(matches: &ArgMatches<'_>) -> bool
     }
 }
 
-/// The number of a text, where it is one from 0 to 100,000. `view` and `threads` have the same greatest limit.
+/// The number of a text, where it is one from 0 to 100,000, the greatest limit of each command that has one.
 fn limit_in(text: &str) -> Option<u64>
     ensures { result ≡ limit_in text.now }
 {
@@ -98,7 +98,37 @@ fn limit_in(text: &str) -> Option<u64>
     }
 }
 
-/// The number of events at most: in all for `view`, by each replica for `threads`.
+/// The number of a text, where it is one below 2 to the 64.
+fn seed_in(text: &str) -> Option<u64>
+    ensures { result ≡ seed_in text.now }
+{
+    match text.parse::<u64>() {
+        Ok(seed) => Some(seed),
+        Err(_) => None,
+    }
+}
+
+/// The seed.
+fn seed_of(matches: &ArgMatches<'_>) -> Option<u64>
+    ensures { result ≡ seed_given (rows_of (found_of matches.now)) }
+{
+    match matches.get_str("seed") {
+        Some(text) => seed_in(text),
+        None => None,
+    }
+}
+
+/// The task with this seed and this limit, where both are there.
+fn weave_by(seed: Option<u64>, limit: Option<u64>) -> Option<Task>
+    ensures { result ≡ weave_by seed limit }
+{
+    Some(Task::Weave {
+        seed: seed?,
+        limit: limit?,
+    })
+}
+
+/// The number of events at most: in all for `view` and `weave`, by each replica for `threads`.
 fn limit_of(matches: &ArgMatches<'_>) -> Option<u64>
     ensures { result ≡ limit_given (rows_of (found_of matches.now)) }
 {
@@ -127,6 +157,7 @@ fn task_of(name: &str, matches: &ArgMatches<'_>) -> Option<Task>
             Some(limit) => Some(Task::Threads { limit }),
             None => None,
         },
+        "weave" => weave_by(seed_of(matches), limit_of(matches)),
         _ => None,
     }
 }

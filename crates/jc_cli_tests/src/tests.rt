@@ -14,6 +14,7 @@ enum Taken {
     View(u64),
     Debug,
     Threads(u64),
+    Weave(u64, u64),
     Help,
     Usage,
     Memory,
@@ -37,6 +38,7 @@ fn task_of(order: &Order) -> Taken {
         Task::Show(View::Document { events }) => Taken::View(events),
         Task::Debug => Taken::Debug,
         Task::Threads { limit } => Taken::Threads(limit),
+        Task::Weave { seed, limit } => Taken::Weave(seed, limit),
     }
 }
 
@@ -83,6 +85,25 @@ const WORDS: &[(&[&str], Taken, &str)] = &[
         Taken::Threads(100_000),
         "x",
     ),
+    (&["weave", "-"], Taken::Weave(0, 10_000), "-"),
+    (&["weave", "--seed", "5", "x"], Taken::Weave(5, 10_000), "x"),
+    (
+        &["weave", "--limit=7", "x", "--seed=3"],
+        Taken::Weave(3, 7),
+        "x",
+    ),
+    (
+        &[
+            "weave",
+            "--seed",
+            "18446744073709551615",
+            "--limit",
+            "100000",
+            "x",
+        ],
+        Taken::Weave(18_446_744_073_709_551_615, 100_000),
+        "x",
+    ),
     (&["--help"], Taken::Help, ""),
     (&["-h"], Taken::Help, ""),
     (&["run", "--help"], Taken::Help, ""),
@@ -90,6 +111,7 @@ const WORDS: &[(&[&str], Taken, &str)] = &[
     (&["debug", "--help"], Taken::Help, ""),
     (&["threads", "--help"], Taken::Help, ""),
     (&["view", "--help"], Taken::Help, ""),
+    (&["weave", "--help"], Taken::Help, ""),
     (&["run"], Taken::Usage, ""),
     (&["debug"], Taken::Usage, ""),
     (&["debug", "--trace", "x"], Taken::Usage, ""),
@@ -119,6 +141,24 @@ const WORDS: &[(&[&str], Taken, &str)] = &[
     ),
     (&["threads", "--trace", "x"], Taken::Usage, ""),
     (&["run", "--limit", "5", "x"], Taken::Usage, ""),
+    (&["threads", "--seed", "5", "x"], Taken::Usage, ""),
+    (&["weave"], Taken::Usage, ""),
+    (
+        &["weave", "--seed", "18446744073709551616", "x"],
+        Taken::Usage,
+        "",
+    ),
+    (&["weave", "--seed", "-1", "x"], Taken::Usage, ""),
+    (&["weave", "--seed", "0x5", "x"], Taken::Usage, ""),
+    (&["weave", "--seed=", "x"], Taken::Usage, ""),
+    (&["weave", "x", "--seed"], Taken::Usage, ""),
+    (
+        &["weave", "--seed", "1", "--seed", "1", "x"],
+        Taken::Usage,
+        "",
+    ),
+    (&["weave", "--limit", "100001", "x"], Taken::Usage, ""),
+    (&["weave", "--at", "1", "x"], Taken::Usage, ""),
     (&["help"], Taken::Help, ""),
     (&["help", "run"], Taken::Help, ""),
     (&["help", "run", "x", "y"], Taken::Help, ""),
@@ -208,6 +248,11 @@ const CALLS: &[(&[&str], &[&str], &str)] = &[
         &["help", "threads"],
         &["threads", "--help"],
         "A stuck event isn't in it.",
+    ),
+    (
+        &["help", "weave"],
+        &["weave", "--help"],
+        "The same seed gives the same schedule",
     ),
 ];
 

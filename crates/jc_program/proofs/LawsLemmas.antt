@@ -23,6 +23,22 @@ first_same x y xs ys e = cc
 rest_same : {X : Type 0} (x y : X) (xs ys : List X) → x ∷ xs ≡ y ∷ ys → xs ≡ ys
 rest_same x y xs ys e = cc
 
+-- a scenario has a start, or a given event is stuck, and not both
+pub no_start : LedOrStuck → (s : Scenario) (start : Network) (out : List ℕ) (status : ℕ) → IsStart s start → IsGivenShown s out status → ⊥
+no_start led_or_stuck s start out status led a = (led_or_stuck s.scripts (before_given s) s.given ([], refl)).1 start a.at a.event a.why led a.stuck
+
+-- a stuck given event has one text, and so has a fault
+pub same_given : OneGivenStuck → (s : Scenario) (shown other : List ℕ) (status other_status : ℕ) → IsGivenShown s shown status → IsGivenShown s other other_status → (shown ≡ other) × (status ≡ other_status)
+same_given one_given_stuck s shown other status other_status a b =
+    let same = one_given_stuck (before_given s) s.given a.at b.at a.event b.event a.why b.why a.stuck b.stuck in
+    (a.written ∙ ((λ i. given_text s.names (same.0 i) (same.2 i) (same.1 i)) ∙ sym b.written), a.ends ∙ sym b.ends)
+
+pub same_refused : (fault : ScenarioFault) (shown other : List ℕ) (status other_status : ℕ) → IsRefused fault shown status → IsRefused fault other other_status → (shown ≡ other) × (status ≡ other_status)
+same_refused fault shown other status other_status a b =
+    let refusal = same_Some a.refusal b.refusal (sym a.is ∙ b.is) in
+    let place = same_Some a.place b.place (sym a.stands ∙ b.stands) in
+    (a.written ∙ ((λ i. refused_text (refusal i) (place i)) ∙ sym b.written), a.ends ∙ sym b.ends)
+
 module _ (one_step : OneStepIn) (stuck_has_none : StuckInHasNone) (one_stuck : OneStuckIn) where
   -- no event is made where the next is stuck or none is left
   no_more : (es : List Event) (network : Network) (m : Made) (made : List Made) (stuck other_stuck : Option Stuck) (last : Network) → EndsAt es [] network stuck → GoesBy network (m ∷ made) last → EndsAt es (m ∷ made) last other_stuck → ⊥
@@ -70,15 +86,6 @@ module _ (one_step : OneStepIn) (stuck_has_none : StuckInHasNone) (one_stuck : O
       ((λ i. first i ∷ more.0 i), more.1, more.2)
 
   module _ (one_start : OneStart) (one_given_stuck : OneGivenStuck) (led_or_stuck : LedOrStuck) where
-    -- a scenario has a start, or a given event is stuck, and not both
-    no_start : (s : Scenario) (start : Network) (out : List ℕ) (status : ℕ) → IsStart s start → IsGivenShown s out status → ⊥
-    no_start s start out status led a = (led_or_stuck s.scripts (before_given s) s.given ([], refl)).1 start a.at a.event a.why led a.stuck
-
-    same_given : (s : Scenario) (shown other : List ℕ) (status other_status : ℕ) → IsGivenShown s shown status → IsGivenShown s other other_status → (shown ≡ other) × (status ≡ other_status)
-    same_given s shown other status other_status a b =
-        let same = one_given_stuck (before_given s) s.given a.at b.at a.event b.event a.why b.why a.stuck b.stuck in
-        (a.written ∙ ((λ i. given_text s.names (same.0 i) (same.2 i) (same.1 i)) ∙ sym b.written), a.ends ∙ sym b.ends)
-
     same_through : (trace : Bool) (s : Scenario) (shown other : List ℕ) (status other_status : ℕ) → RanThrough trace s shown status → RanThrough trace s other other_status → (shown ≡ other) × (status ≡ other_status)
     same_through trace s shown other status other_status a b =
         let q = b.plays in
@@ -99,23 +106,17 @@ module _ (one_step : OneStepIn) (stuck_has_none : StuckInHasNone) (one_stuck : O
         )
 
     module _ (one_scenario : OneScenario) (scenario_or_fault : ScenarioOrFault) (one_fault : OneFault) where
-      same_refused : (fault : ScenarioFault) (shown other : List ℕ) (status other_status : ℕ) → IsRefused fault shown status → IsRefused fault other other_status → (shown ≡ other) × (status ≡ other_status)
-      same_refused fault shown other status other_status a b =
-          let refusal = same_Some a.refusal b.refusal (sym a.is ∙ b.is) in
-          let place = same_Some a.place b.place (sym a.stands ∙ b.stands) in
-          (a.written ∙ ((λ i. refused_text (refusal i) (place i)) ∙ sym b.written), a.ends ∙ sym b.ends)
-
       same_shown : (view : View) (s : Scenario) (shown other : List ℕ) (status other_status : ℕ) → Shows view s shown status → Shows view s other other_status → (shown ≡ other) × (status ≡ other_status)
       same_shown Check s shown other status other_status a b = (a.0 ∙ sym b.0, a.1 ∙ sym b.1)
       same_shown Print s shown other status other_status a b = (a.0 ∙ sym b.0, a.1 ∙ sym b.1)
       same_shown (Run trace) s shown other status other_status (inl a) (inl b) = same_through trace s shown other status other_status a b
-      same_shown (Run trace) s shown other status other_status (inl a) (inr b) = absurd (no_start s a.start other other_status a.is_start b)
-      same_shown (Run trace) s shown other status other_status (inr a) (inl b) = absurd (no_start s b.start shown status b.is_start a)
-      same_shown (Run trace) s shown other status other_status (inr a) (inr b) = same_given s shown other status other_status a b
+      same_shown (Run trace) s shown other status other_status (inl a) (inr b) = absurd (no_start led_or_stuck s a.start other other_status a.is_start b)
+      same_shown (Run trace) s shown other status other_status (inr a) (inl b) = absurd (no_start led_or_stuck s b.start shown status b.is_start a)
+      same_shown (Run trace) s shown other status other_status (inr a) (inr b) = same_given one_given_stuck s shown other status other_status a b
       same_shown (Document n) s shown other status other_status (inl a) (inl b) = same_viewed n s shown other status other_status a b
-      same_shown (Document n) s shown other status other_status (inl a) (inr b) = absurd (no_start s a.start other other_status a.is_start b)
-      same_shown (Document n) s shown other status other_status (inr a) (inl b) = absurd (no_start s b.start shown status b.is_start a)
-      same_shown (Document n) s shown other status other_status (inr a) (inr b) = same_given s shown other status other_status a b
+      same_shown (Document n) s shown other status other_status (inl a) (inr b) = absurd (no_start led_or_stuck s a.start other other_status a.is_start b)
+      same_shown (Document n) s shown other status other_status (inr a) (inl b) = absurd (no_start led_or_stuck s b.start shown status b.is_start a)
+      same_shown (Document n) s shown other status other_status (inr a) (inr b) = same_given one_given_stuck s shown other status other_status a b
 
       pub one_run : (view : View) (bytes shown other : List ℕ) (status other_status : ℕ) (read other_read : Result Scenario ScenarioFault) → ReadsAs bytes read → ReadsAs bytes other_read → RanOn view read shown status → RanOn view other_read other other_status → (shown ≡ other) × (status ≡ other_status)
       one_run view bytes shown other status other_status (Ok s) (Ok t) r q a b =

@@ -12,6 +12,7 @@ pub mod SomeRunLemmas
 pub mod SessionRunsLemmas
 pub mod CommandsLemmas
 pub mod ThreadRunsLemmas
+pub mod WeaveRunsLemmas
 mod PromiseLemmas
 mod PromiseFactsLemmas
 mod EndsLemmas

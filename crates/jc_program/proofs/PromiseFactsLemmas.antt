@@ -1,18 +1,19 @@
 -- About PromiseFacts: each fact follows from the promise.
-use Rattle.std.proofs.Common.{◌≡◌, ◌≢◌, ◌⊎◌, ◌∙◌, ℕ, inl, inr, List, [], ◌∷◌, Option, Some, None, codes, refl, sym, ap, subst}
+use Rattle.std.proofs.Common.{◌≡◌, ◌≢◌, ◌⊎◌, ◌∙◌, ℕ, inl, inr, List, [], ◌∷◌, Option, Some, None, Ok, Err, codes, refl, sym, ap, subst}
 use Rattle.std.proofs.lemmas.Option.{same_Some}
 use Rattle.jc_cli.specs.Arguments.{words_order, AsksHelp, IsFaultless}
 use Rattle.jc_cli.specs.declared.order.Order.{Order}
 use Rattle.jc_cli.specs.declared.order.Task.{Task}
-use Rattle.jc_cli.specs.declared.order.Task.TheVariants.{Show, Debug, Threads}
+use Rattle.jc_cli.specs.declared.order.Task.TheVariants.{Show, Debug, Threads, Weave}
 use Rattle.jc_program.specs.declared.fault.WorkFault.{WorkFault}
 use Rattle.jc_program.specs.declared.fault.WorkFault.TheVariants.{Read, Write, TooManyLines, NoThread, Memory}
 use Rattle.jc_program.specs.WorkFaults.{fault_status, fault_line}
 use Rattle.jc_program.specs.ViewOutput.{AreTold, told_by}
 use Rattle.jc_program.specs.Faults.{IsCause, IsUnread}
 use Rattle.jc_program.specs.SessionRuns.{lines_by}
-use Rattle.jc_program.specs.Commands.{IsAlone, IsDone, IsStoppedCommand, IsThreadsOrder}
-use Rattle.jc_program.specs.ThreadRuns.{HaveThreaded, IsThreadsFault}
+use Rattle.jc_program.specs.Commands.{IsAlone, IsSilent, IsDone, IsStoppedCommand, IsThreadsOrder, IsWeaveOrder}
+use Rattle.jc_program.specs.ThreadRuns.{IsByThreads, AreThreadScenario, Records, HaveThreaded, IsThreadsFault}
+use Rattle.jc_program.specs.WeaveRuns.{IsBySeed}
 use Rattle.jc_io.specs.Streams.{ConsumesUpTo}
 use Rattle.jc_runner.specs.declared.starting.SpawnRefused.{SpawnRefused}
 use Rattle.jc_session.specs.Written.{Stream}
@@ -23,7 +24,8 @@ use Rattle.jc_program.specs.PromiseFacts.{OrderFact, DoneFact, StoppedFact, Thre
 use Rattle.jc_program.specs.Laws.{PromiseGivesFacts, AlonePromiseGivesFacts}
 use Rattle.jc_program.proofs.CommandsLemmas as E
 use Rattle.jc_program.proofs.ThreadRunsLemmas.{lacking}
-use Rattle.jc_program.proofs.PromiseLemmas.{alone_at, loses_none}
+use Rattle.jc_program.proofs.WeaveRunsLemmas.{woven_not_five}
+use Rattle.jc_program.proofs.PromiseLemmas.{alone_at, silent_at, loses_none}
 
 -- ---- statuses
 
@@ -36,11 +38,18 @@ five_is_no_end bytes e = at 5 e refl
     at n (E.event_stuck start) e = cc
     at n (E.given_stuck given) e = cc
 
+-- nor is 5 the status of a woven schedule
+woven_not_starved : (seed limit : ℕ) (bytes out lines : List ℕ) → Records (IsBySeed seed limit) bytes out lines 5 → ⊥
+woven_not_starved seed limit bytes out lines (Ok s, is, inl h) = woven_not_five s seed limit out lines h
+woven_not_starved seed limit bytes out lines (Ok s, is, inr h) = let e : ◌≡◌ {A = ℕ} 5 3 = h.0.ends in cc
+woven_not_starved seed limit bytes out lines (Err fault, is, h) = let e : ◌≡◌ {A = ℕ} 5 1 = h.0.ends in cc
+
 -- a task without threads that came to its end hasn't the status 5
 pub not_starved : (task : Task) (bytes : List ℕ) (lines : Option (List ℕ)) (old new : World) → IsAlone task → Completes task bytes lines old new 5 → ⊥
 not_starved (Show view) bytes lines old new alone h = five_is_no_end bytes (E.of_view view bytes h.0.0 5 h.0.1)
 not_starved Debug bytes lines old new alone h = five_is_no_end bytes (E.of_session bytes lines h.0.0 old.out new.out 5 h.0.1 h.0.2)
 not_starved (Threads limit) bytes lines old new alone h = absurd alone
+not_starved (Weave seed limit) bytes lines old new alone h = woven_not_starved seed limit bytes h.1.0 h.0 h.1.1
 
 pub none_some : {X : Type 0} {x : X} {o : Option X} → o ≡ None → o ≡ Some x → ⊥
 none_some {x = x} e f = let bad : None ≡ Some x = sym e ∙ f in cc
@@ -75,6 +84,7 @@ breaks_stop : (task : Task) (fault : WorkFault) (bytes : List ℕ) (told lines l
 breaks_stop (Show view) fault bytes told lines left old new is alone h = (bytes, is, h)
 breaks_stop Debug fault bytes told lines left old new is alone h = (bytes, is, h)
 breaks_stop (Threads limit) fault bytes told lines left old new is alone h = absurd alone
+breaks_stop (Weave seed limit) fault bytes told lines left old new is alone h = (bytes, is, h)
 
 abbrev Stop : Files → World → World → WorkFault → Order → Type 0
 Stop files old new fault order =
@@ -90,20 +100,23 @@ of_stop files words old new n fault status s cause order some alone ends =
 
 -- ---- tasks
 
-complete_done : (task : Task) (bytes : List ℕ) (told lines : Option (List ℕ)) (old new : World) (n : ℕ) → IsAlone task → AreTold told bytes → Completes task bytes lines old new n → IsDone task told lines old.out new.out n
+complete_done : (task : Task) (bytes : List ℕ) (told lines : Option (List ℕ)) (old new : World) (n : ℕ) → IsAlone task → AreTold told bytes → Completes task bytes lines old new n → IsDone task told lines old.out new.out (Says old new) n
 complete_done (Show view) bytes told lines old new n alone is h = (bytes, is, h.0)
 complete_done Debug bytes told lines old new n alone is h = (bytes, is, h.0)
 complete_done (Threads limit) bytes told lines old new n alone is h = absurd alone
+complete_done (Weave seed limit) bytes told lines old new n alone is h = (bytes, is, h)
 
-pub complete_quiet : (task : Task) (bytes : List ℕ) (lines : Option (List ℕ)) (old new : World) (n : ℕ) → IsAlone task → Completes task bytes lines old new n → new.err ≡ old.err
-complete_quiet (Show view) bytes lines old new n alone h = h.1
-complete_quiet Debug bytes lines old new n alone h = h.1
-complete_quiet (Threads limit) bytes lines old new n alone h = absurd alone
+pub complete_quiet : (task : Task) (bytes : List ℕ) (lines : Option (List ℕ)) (old new : World) (n : ℕ) → IsSilent task → Completes task bytes lines old new n → new.err ≡ old.err
+complete_quiet (Show view) bytes lines old new n silent h = h.1
+complete_quiet Debug bytes lines old new n silent h = h.1
+complete_quiet (Threads limit) bytes lines old new n silent h = absurd silent
+complete_quiet (Weave seed limit) bytes lines old new n silent h = absurd silent
 
 pub unthreaded : (refused : SpawnRefused) (task : Task) (bytes : List ℕ) (lines left : Option (List ℕ)) (old new : Stream) → IsAlone task → Breaks task (NoThread refused) bytes lines left old new → ⊥
 unthreaded refused (Show view) bytes lines left old new alone h = h
 unthreaded refused Debug bytes lines left old new alone h = h
 unthreaded refused (Threads limit) bytes lines left old new alone h = absurd alone
+unthreaded refused (Weave seed limit) bytes lines left old new alone h = h.1
 
 fault_ends : (fault : WorkFault) (n : ℕ) → n ≡ fault_status fault → n ≢ 4 → n ≢ 5 → ⊥
 fault_ends Read n e four five = four e
@@ -344,7 +357,7 @@ module _ (Does : Task → Type 0) (files : Files) (words : List (List ℕ)) (old
   done_at {n} (inl c) order some alone four five =
       let same : c.order ≡ order = same_Some c.order order (sym c.is_order ∙ some) in
       let own : IsAlone c.order.task = subst (λ (o : Order). IsAlone o.task) (sym same) alone in
-      subst (λ (o : Order). IsDone o.task (told_by old.input.bytes files.texts o.file) (lines_by old.input.bytes o.file) old.out new.out n) same (complete_done c.order.task c.bytes (told_by old.input.bytes files.texts c.order.file) (lines_by old.input.bytes c.order.file) old new n own c.told c.completes)
+      subst (λ (o : Order). IsDone o.task (told_by old.input.bytes files.texts o.file) (lines_by old.input.bytes o.file) old.out new.out (Says old new) n) same (complete_done c.order.task c.bytes (told_by old.input.bytes files.texts c.order.file) (lines_by old.input.bytes c.order.file) old new n own c.told c.completes)
   done_at {n} (inr (inl f)) order some alone four five = absurd (fault_ends f.0 n f.1 four five)
   done_at (inr (inr (inl u))) order some alone four five = absurd (five u.0)
   done_at (inr (inr (inr none))) order some alone four five = absurd (none_some none some)
@@ -373,7 +386,7 @@ module _ (Does : Task → Type 0) (files : Files) (words : List (List ℕ)) (old
   threads_at {n} (inr (inr (inl (five, input, out, says)))) order limit some is =
       let cause : IsCause Memory (IsUnread files.may_fail order.file) old.input.failures new.input.failures old.out.failures new.out.failures = (ap (λ (s : Stream). s.failures) input, ap (λ (s : Stream). s.failures) out) in
       let told = told_by old.input.bytes files.texts order.file in
-      inr (record { fault = Memory; ends = five; line = says; cause = cause; stops = lacking limit told old.out new.out out })
+      inr (record { fault = Memory; ends = five; line = says; cause = cause; stops = lacking (IsByThreads limit) AreThreadScenario told old.out new.out out })
   threads_at (inr (inr (inr none))) order limit some is = absurd (none_some none some)
 
   pub threads_of : {n : ℕ} → Promise Does files words old new n → ThreadsFact files words old new n
@@ -429,24 +442,27 @@ module _ (Does : Task → Type 0) (files : Files) (words : List (List ℕ)) (old
   memory_line_of (no_memory s same) alone e = s.line
   memory_line_of (no_memory_for_words input out says) alone e = says
 
-  quiet_at : {n : ℕ} → (IsThreadsOrder words → ⊥) → Carried Does files words old new n → new.err ≡ old.err
-  quiet_at {n} alone c = complete_quiet c.order.task c.bytes (lines_by old.input.bytes c.order.file) old new n (alone_of c.order c.is_order alone) c.completes
+  silent_order : (order : Order) → words_order words ≡ Some order → (IsWeaveOrder words → ⊥) → IsAlone order.task → IsSilent order.task
+  silent_order order some none alone = silent_at order.task alone (λ seed limit is. none (order, seed, limit, some, is))
+
+  quiet_at : {n : ℕ} → (IsThreadsOrder words → ⊥) → (IsWeaveOrder words → ⊥) → Carried Does files words old new n → new.err ≡ old.err
+  quiet_at {n} alone still c = complete_quiet c.order.task c.bytes (lines_by old.input.bytes c.order.file) old new n (silent_order c.order c.is_order still (alone_of c.order c.is_order alone)) c.completes
 
   pub quiet_of : {n : ℕ} → Promise Does files words old new n → QuietFact files words old new n
-  quiet_of (done c) alone two four five = quiet_at alone c
-  quiet_of (text_refused c) alone two four five = quiet_at alone c
-  quiet_of (stuck c start) alone two four five = quiet_at alone c
-  quiet_of (given_stuck c given) alone two four five = quiet_at alone c
-  quiet_of (thread_starved c) alone two four five = quiet_at alone c
-  quiet_of (help text none by full out input err) alone two four five = err
-  quiet_of (usage text none by full says input out) alone two four five = absurd (two refl)
-  quiet_of (read_failed s cause same) alone two four five = absurd (four refl)
-  quiet_of (write_failed s failed same) alone two four five = absurd (four refl)
-  quiet_of (help_write_failed text none by part input says) alone two four five = absurd (four refl)
-  quiet_of (too_many_lines s same) alone two four five = absurd (four refl)
-  quiet_of (no_thread refused s same) alone two four five = absurd (five refl)
-  quiet_of (no_memory s same) alone two four five = absurd (five refl)
-  quiet_of (no_memory_for_words input out says) alone two four five = absurd (five refl)
+  quiet_of (done c) alone still two four five = quiet_at alone still c
+  quiet_of (text_refused c) alone still two four five = quiet_at alone still c
+  quiet_of (stuck c start) alone still two four five = quiet_at alone still c
+  quiet_of (given_stuck c given) alone still two four five = quiet_at alone still c
+  quiet_of (thread_starved c) alone still two four five = quiet_at alone still c
+  quiet_of (help text none by full out input err) alone still two four five = err
+  quiet_of (usage text none by full says input out) alone still two four five = absurd (two refl)
+  quiet_of (read_failed s cause same) alone still two four five = absurd (four refl)
+  quiet_of (write_failed s failed same) alone still two four five = absurd (four refl)
+  quiet_of (help_write_failed text none by part input says) alone still two four five = absurd (four refl)
+  quiet_of (too_many_lines s same) alone still two four five = absurd (four refl)
+  quiet_of (no_thread refused s same) alone still two four five = absurd (five refl)
+  quiet_of (no_memory s same) alone still two four five = absurd (five refl)
+  quiet_of (no_memory_for_words input out says) alone still two four five = absurd (five refl)
 
 facts_of : (Does : Task → Type 0) → FaultlessAreOrders → (files : Files) (words : List (List ℕ)) (old new : World) (n : ℕ) → Promise Does files words old new n → Facts files words old new n
 facts_of Does law files words old new n p = record {
@@ -516,24 +532,24 @@ module _ (files : Files) (words : List (List ℕ)) (old new : World) where
   line_of (no_memory s same) e = s.line
   line_of (no_memory_for_words input out says) e = says
 
-  calm_at : {n : ℕ} → Carried IsAlone files words old new n → new.err ≡ old.err
-  calm_at {n} c = complete_quiet c.order.task c.bytes (lines_by old.input.bytes c.order.file) old new n c.does c.completes
+  calm_at : {n : ℕ} → (IsWeaveOrder words → ⊥) → Carried IsAlone files words old new n → new.err ≡ old.err
+  calm_at {n} still c = complete_quiet c.order.task c.bytes (lines_by old.input.bytes c.order.file) old new n (silent_at c.order.task c.does (λ seed limit is. still (c.order, seed, limit, c.is_order, is))) c.completes
 
-  calm_of : {n : ℕ} → Promise IsAlone files words old new n → n ≢ 2 → n ≢ 4 → n ≢ 5 → new.err ≡ old.err
-  calm_of (done c) two four five = calm_at c
-  calm_of (text_refused c) two four five = calm_at c
-  calm_of (stuck c start) two four five = calm_at c
-  calm_of (given_stuck c given) two four five = calm_at c
-  calm_of (thread_starved c) two four five = calm_at c
-  calm_of (help text none by full out input err) two four five = err
-  calm_of (usage text none by full says input out) two four five = absurd (two refl)
-  calm_of (read_failed s cause same) two four five = absurd (four refl)
-  calm_of (write_failed s failed same) two four five = absurd (four refl)
-  calm_of (help_write_failed text none by part input says) two four five = absurd (four refl)
-  calm_of (too_many_lines s same) two four five = absurd (four refl)
-  calm_of (no_thread refused s same) two four five = absurd (five refl)
-  calm_of (no_memory s same) two four five = absurd (five refl)
-  calm_of (no_memory_for_words input out says) two four five = absurd (five refl)
+  calm_of : {n : ℕ} → (IsWeaveOrder words → ⊥) → Promise IsAlone files words old new n → n ≢ 2 → n ≢ 4 → n ≢ 5 → new.err ≡ old.err
+  calm_of still (done c) two four five = calm_at still c
+  calm_of still (text_refused c) two four five = calm_at still c
+  calm_of still (stuck c start) two four five = calm_at still c
+  calm_of still (given_stuck c given) two four five = calm_at still c
+  calm_of still (thread_starved c) two four five = calm_at still c
+  calm_of still (help text none by full out input err) two four five = err
+  calm_of still (usage text none by full says input out) two four five = absurd (two refl)
+  calm_of still (read_failed s cause same) two four five = absurd (four refl)
+  calm_of still (write_failed s failed same) two four five = absurd (four refl)
+  calm_of still (help_write_failed text none by part input says) two four five = absurd (four refl)
+  calm_of still (too_many_lines s same) two four five = absurd (four refl)
+  calm_of still (no_thread refused s same) two four five = absurd (five refl)
+  calm_of still (no_memory s same) two four five = absurd (five refl)
+  calm_of still (no_memory_for_words input out says) two four five = absurd (five refl)
 
 pub alone_promise_gives_facts : FaultlessAreOrders → AlonePromiseGivesFacts
 alone_promise_gives_facts law files words old new None (asks, same) = record {
@@ -543,7 +559,7 @@ alone_promise_gives_facts law files words old new None (asks, same) = record {
   unwritten = λ order limit some is e. cc;
   facts = λ status e. cc;
   memory_line = λ e. cc;
-  quiet = λ two four five. ap (λ (w : World). w.err) same;
+  quiet = λ still two four five. ap (λ (w : World). w.err) same;
 }
 alone_promise_gives_facts law files words old new (Some n) p = record {
   waits = λ e. cc;
@@ -552,5 +568,5 @@ alone_promise_gives_facts law files words old new (Some n) p = record {
   unwritten = λ order limit some is e. (starving files words old new order limit some is p).1;
   facts = λ status e. subst (Facts files words old new) (same_Some n status e) (facts_of IsAlone law files words old new n p);
   memory_line = λ e. line_of files words old new p (same_Some n 5 e);
-  quiet = λ two four five. calm_of files words old new p (λ e. two (ap Some e)) (λ e. four (ap Some e)) (λ e. five (ap Some e));
+  quiet = λ still two four five. calm_of files words old new still p (λ e. two (ap Some e)) (λ e. four (ap Some e)) (λ e. five (ap Some e));
 }

@@ -3,22 +3,27 @@ use Rattle.std.proofs.Common.{◌≡◌, ◌≢◌, ◌⊎◌, ◌≤◌, ◌∙
 use Rattle.std.proofs.lemmas.Slice.Eq.{bytes_eq-Decides}
 use Rattle.std.specs.Str.{bytes_eq}
 use Rattle.jc_io.specs.Streams.{ConsumesUpTo, ConsumesIfKnown}
+use Rattle.jc_rules.specs.Step.{Network}
+use Rattle.jc_scenario.specs.WellFormed.{Scenario}
+use Rattle.jc_network.specs.Given.{IsStart}
 use Rattle.jc_cli.specs.Arguments.{words_order, IsWordsFault, HasText}
 use Rattle.jc_cli.specs.declared.fault.WordsFault.{WordsFault}
 use Rattle.jc_cli.specs.declared.fault.WordsFault.TheVariants as W
 use Rattle.jc_cli.specs.declared.order.Order.{Order}
 use Rattle.jc_cli.specs.declared.order.Task.{Task}
-use Rattle.jc_cli.specs.declared.order.Task.TheVariants.{Show, Debug, Threads}
+use Rattle.jc_cli.specs.declared.order.Task.TheVariants.{Show, Debug, Threads, Weave}
 use Rattle.jc_program.specs.declared.fault.WorkFault.{WorkFault}
 use Rattle.jc_program.specs.declared.fault.WorkFault.TheVariants.{Read, Write, TooManyLines, NoThread, Memory}
 use Rattle.jc_program.specs.declared.recording.Outcome.{Outcome}
+use Rattle.jc_program.specs.declared.recording.Recording.{Recording}
 use Rattle.jc_program.specs.declared.recording.Outcome.TheVariants as O
 use Rattle.jc_program.specs.WorkFaults.{Explains, fault_status, fault_line}
 use Rattle.jc_program.specs.ViewOutput.{AreTold, told_by}
 use Rattle.jc_program.specs.Faults.{IsCause, IsUnread}
 use Rattle.jc_program.specs.SessionRuns.{lines_by}
-use Rattle.jc_program.specs.ThreadRuns.{outcome_status, ThreadsRan, HaveThreaded, HaveStopped}
-use Rattle.jc_program.specs.Commands.{IsAlone, IsDone, IsStoppedCommand}
+use Rattle.jc_program.specs.ThreadRuns.{outcome_status, Records, IsByThreads, HaveThreaded, HaveStopped}
+use Rattle.jc_program.specs.WeaveRuns.{IsBySeed}
+use Rattle.jc_program.specs.Commands.{IsAlone, IsSilent, IsDone, IsStoppedCommand}
 use Rattle.jc_session.specs.Written.{Stream}
 use Rattle.jc_program.specs.Promise.{World, Files, NoneFailed, ReadsFor, HasStart, Promise, All, Says, Carried, Stopped, Completes, Breaks, done, text_refused, stuck, given_stuck, thread_starved, help, usage, read_failed, write_failed, help_write_failed, too_many_lines, no_thread, no_memory, no_memory_for_words}
 use Rattle.jc_program.proofs.CommandsLemmas as E
@@ -26,22 +31,32 @@ use Rattle.jc_program.proofs.CommandsLemmas as E
 -- ---- tasks
 
 -- a task without threads came to its end
-completed : (task : Task) (told lines : Option (List ℕ)) (old new : World) (n : ℕ) → IsDone task told lines old.out new.out n → new.err ≡ old.err → (bytes : List ℕ) × AreTold told bytes × Completes task bytes lines old new n
-completed (Show view) told lines old new n h quiet = (h.0, h.1, (h.2, quiet))
-completed Debug told lines old new n h quiet = (h.0, h.1, (h.2, quiet))
+completed : (task : Task) (told lines : Option (List ℕ)) (old new : World) (n : ℕ) → IsDone task told lines old.out new.out (Says old new) n → (IsSilent task → new.err ≡ old.err) → (bytes : List ℕ) × AreTold told bytes × Completes task bytes lines old new n
+completed (Show view) told lines old new n h quiet = (h.0, h.1, (h.2, quiet tt))
+completed Debug told lines old new n h quiet = (h.0, h.1, (h.2, quiet tt))
 completed (Threads limit) told lines old new n h quiet = absurd h
+completed (Weave seed limit) told lines old new n h quiet = h
 
 -- a fault stopped it
 broken : (task : Task) (fault : WorkFault) (told lines left : Option (List ℕ)) (old new : Stream) → IsAlone task → IsStoppedCommand task fault told lines left old new → (bytes : List ℕ) × AreTold told bytes × Breaks task fault bytes lines left old new
 broken (Show view) fault told lines left old new alone h = h
 broken Debug fault told lines left old new alone h = h
 broken (Threads limit) fault told lines left old new alone h = absurd alone
+broken (Weave seed limit) fault told lines left old new alone h = h
 
 -- a task that isn't `Threads` is without threads
 pub alone_at : (task : Task) → ((limit : ℕ) → task ≡ Threads limit → ⊥) → IsAlone task
 alone_at (Show view) none = tt
 alone_at Debug none = tt
 alone_at (Threads limit) none = absurd (none limit refl)
+alone_at (Weave seed limit) none = tt
+
+-- a task without threads that isn't `Weave` leaves standard error alone
+pub silent_at : (task : Task) → IsAlone task → ((seed limit : ℕ) → task ≡ Weave seed limit → ⊥) → IsSilent task
+silent_at (Show view) alone none = tt
+silent_at Debug alone none = tt
+silent_at (Threads limit) alone none = absurd alone
+silent_at (Weave seed limit) alone none = absurd (none seed limit refl)
 
 -- ---- statuses
 
@@ -55,17 +70,19 @@ of_outcome bytes start O.NoMemory = at_5
 of_outcome bytes start O.Stuck = at_end (E.event_stuck start)
 of_outcome bytes start O.Done = at_end E.well
 
-of_threads : (limit : ℕ) (bytes out lines : List ℕ) (n : ℕ) → ThreadsRan limit bytes out lines n → IsStatus bytes n
-of_threads limit bytes out lines n (Ok s, is, inl h) =
-    let legal = h.is_recording.is_report.legal in
-    subst (IsStatus bytes) (sym h.ends) (of_outcome bytes (s, legal.start, is, legal.is_start) h.recording.outcome)
-of_threads limit bytes out lines n (Ok s, is, inr h) = at_end (E.of_given bytes s out n is h.0)
-of_threads limit bytes out lines n (Err fault, is, h) = subst (IsStatus bytes) (sym h.0.ends) (at_end E.text_refused)
+-- where a recording is one from a start
+of_recording : (IsMade : Scenario → Recording → Type 0) → ((s : Scenario) (r : Recording) → IsMade s r → (start : Network) × IsStart s start) → (bytes out lines : List ℕ) (n : ℕ) → Records IsMade bytes out lines n → IsStatus bytes n
+of_recording IsMade starts bytes out lines n (Ok s, is, inl h) =
+    let start = starts s h.recording h.is_recording in
+    subst (IsStatus bytes) (sym h.ends) (of_outcome bytes (s, start.0, is, start.1) h.recording.outcome)
+of_recording IsMade starts bytes out lines n (Ok s, is, inr h) = at_end (E.of_given bytes s out n is h.0)
+of_recording IsMade starts bytes out lines n (Err fault, is, h) = subst (IsStatus bytes) (sym h.0.ends) (at_end E.text_refused)
 
 of_task : (task : Task) (bytes : List ℕ) (lines : Option (List ℕ)) (old new : World) (n : ℕ) → Completes task bytes lines old new n → IsStatus bytes n
 of_task (Show view) bytes lines old new n h = at_end (E.of_view view bytes h.0.0 n h.0.1)
 of_task Debug bytes lines old new n h = at_end (E.of_session bytes lines h.0.0 old.out new.out n h.0.1 h.0.2)
-of_task (Threads limit) bytes lines old new n h = of_threads limit bytes h.1.0 h.0 n h.1.1
+of_task (Threads limit) bytes lines old new n h = of_recording (IsByThreads limit) (λ s r is. (is.is_report.legal.start, is.is_report.legal.is_start)) bytes h.1.0 h.0 n h.1.1
+of_task (Weave seed limit) bytes lines old new n h = of_recording (IsBySeed seed limit) (λ s r is. (is.is_woven.after.start, is.is_woven.after.is_start)) bytes h.1.0 h.0 n h.1.1
 
 -- ---- what is read
 
@@ -136,7 +153,7 @@ module _ (Does : Task → Type 0) (files : Files) (words : List (List ℕ)) (old
 
   module _ (order : Order) (is_order : words_order words ≡ Some order) (does : Does order.task) where
     -- a task without threads came to its end
-    pub carried : (n : ℕ) → IsDone order.task (told_by old.input.bytes files.texts order.file) (lines_by old.input.bytes order.file) old.out new.out n → new.err ≡ old.err → ReadsFor order n old new → NoneFailed old new → Promise Does files words old new n
+    pub carried : (n : ℕ) → IsDone order.task (told_by old.input.bytes files.texts order.file) (lines_by old.input.bytes order.file) old.out new.out (Says old new) n → (IsSilent order.task → new.err ≡ old.err) → ReadsFor order n old new → NoneFailed old new → Promise Does files words old new n
     carried n h quiet reads free =
         let told = told_by old.input.bytes files.texts order.file in
         let lines = lines_by old.input.bytes order.file in

@@ -10,6 +10,7 @@ pub mod Faults
 pub mod SessionRuns
 pub mod Commands
 pub mod ThreadRuns
+pub mod WeaveRuns
 pub mod Promise
 pub mod PromiseFacts
 pub mod Laws

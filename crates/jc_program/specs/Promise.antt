@@ -19,7 +19,7 @@ use Rattle.jc_session.specs.Written.{Stream, sink, Wrote, WrotePart, Sent, Writt
 use Rattle.jc_cli.specs.Arguments.{words_order, AsksHelp}
 use Rattle.jc_cli.specs.declared.order.Order.{Order}
 use Rattle.jc_cli.specs.declared.order.Task.{Task}
-use Rattle.jc_cli.specs.declared.order.Task.TheVariants.{Show, Debug, Threads}
+use Rattle.jc_cli.specs.declared.order.Task.TheVariants.{Show, Debug, Threads, Weave}
 use Rattle.jc_program.specs.declared.fault.WorkFault.{WorkFault}
 use Rattle.jc_program.specs.declared.fault.WorkFault.TheVariants.{Read, Write, TooManyLines, NoThread, Memory}
 use Rattle.jc_program.specs.declared.files.Files.{Ghosts as FilesGhosts}
@@ -29,7 +29,8 @@ use Rattle.jc_program.specs.ViewText.{Ran}
 use Rattle.jc_program.specs.ViewOutput.{AreTold, told_by, StopsView}
 use Rattle.jc_program.specs.Faults.{IsUnread}
 use Rattle.jc_program.specs.SessionRuns.{lines_by, TalksOn, StopsOn}
-use Rattle.jc_program.specs.ThreadRuns.{ThreadsRan, AreTextsOf, AreThreadScenario, StopsThreads}
+use Rattle.jc_program.specs.ThreadRuns.{ThreadsRan, AreTextsOf, AreThreadScenario, StopsRecording}
+use Rattle.jc_program.specs.WeaveRuns.{WeaveRan, HaveNoThreads}
 
 -- ---- the world
 
@@ -82,17 +83,21 @@ Completes Debug bytes lines old new status =
     TalksOn bytes lines old.out new.out status × (new.err ≡ old.err)
 Completes (Threads limit) bytes lines old new status =
     AreTextsOf (ThreadsRan limit bytes) old.out new.out (Says old new) status
+Completes (Weave seed limit) bytes lines old new status =
+    AreTextsOf (WeaveRan seed limit bytes) old.out new.out (Says old new) status
 
 -- A fault stopped a task on these bytes, and these lines, of which those are left. After a failed write a prefix of the
 -- task's text was written, which isn't the whole unless the flush of an answer failed. After any other fault whole
--- texts up to the missing one were written. Nothing was written where the text of a view or for threads wasn't read,
--- nor for threads unless a write failed. Threads alone end for want of a thread, and only where the bytes are a
--- scenario.
+-- texts up to the missing one were written. Nothing was written where the text of a view, for threads or to be woven
+-- wasn't read, nor for threads or a woven schedule unless a write failed. Threads alone end for want of a thread, and
+-- only where the bytes are a scenario.
 abbrev pub Breaks : Task → WorkFault → List ℕ → Option (List ℕ) → Option (List ℕ) → Stream → Stream → Type 0
 Breaks (Show view) fault bytes lines left old new = StopsView view bytes fault old new
 Breaks Debug fault bytes lines left old new = StopsOn fault bytes lines left old new
 Breaks (Threads limit) fault bytes lines left old new =
-    StopsThreads (AreThreadScenario bytes) (ThreadsRan limit bytes) fault old new
+    StopsRecording (AreThreadScenario bytes) (ThreadsRan limit bytes) fault old new
+Breaks (Weave seed limit) fault bytes lines left old new =
+    StopsRecording (HaveNoThreads bytes) (WeaveRan seed limit bytes) fault old new
 
 -- The arguments are a command with a task of this kind, which came to its end with this status.
 pub record Carried (Does : Task → Type 0) (files : Files) (words : List (List ℕ)) (old new : World) (status : ℕ)
@@ -144,7 +149,7 @@ pub data Promise (Does : Task → Type 0) (files : Files) (words : List (List �
   done : Carried Does files words old new 0 → Promise Does files words old new 0
   -- the scenario's text was refused
   text_refused : Carried Does files words old new 1 → Promise Does files words old new 1
-  -- an event of the schedule, or one that a thread chose, was stuck
+  -- an event of the schedule, or one that a replica chose, was stuck
   stuck : (c : Carried Does files words old new 3) → HasStart c.bytes → Promise Does files words old new 3
   -- a given event was stuck
   given_stuck : (c : Carried Does files words old new 3) → HasStuckGiven c.bytes → Promise Does files words old new 3

@@ -11,7 +11,7 @@ use Rattle.jc_program.specs.WorkFaults.{fault_status, fault_line}
 use Rattle.jc_program.specs.ViewOutput.{told_by}
 use Rattle.jc_program.specs.Faults.{IsCause, IsUnread}
 use Rattle.jc_program.specs.SessionRuns.{lines_by}
-use Rattle.jc_program.specs.Commands.{IsAlone, IsDone, IsStoppedCommand, IsThreadsOrder}
+use Rattle.jc_program.specs.Commands.{IsAlone, IsDone, IsStoppedCommand, IsThreadsOrder, IsWeaveOrder}
 use Rattle.jc_program.specs.ThreadRuns.{HaveThreaded, IsThreadsFault}
 use Rattle.jc_program.specs.Promise.{World, Files, Says}
 
@@ -24,11 +24,11 @@ module _ (files : Files) (words : List (List ℕ)) (old new : World) (result : �
   abbrev pub TakenFact : Type 0
   TakenFact = IsFaultless words → result ≢ 2
 
-  -- a command without threads that came to its end: its text was written
+  -- a command without threads that came to its end: its text was written, and the lines of a woven schedule were sent
   abbrev pub DoneFact : Type 0
   DoneFact = (order : Order) → words_order words ≡ Some order → IsAlone order.task → result ≢ 4 → result ≢ 5
       → IsDone order.task (told_by old.input.bytes files.texts order.file) (lines_by old.input.bytes order.file)
-      old.out new.out result
+      old.out new.out (Says old new) result
 
   -- such a command that a fault stopped: the fault's line was sent, and what was written is up to the fault
   abbrev pub StoppedFact : Type 0
@@ -98,9 +98,9 @@ module _ (files : Files) (words : List (List ℕ)) (old new : World) (result : �
   abbrev pub MemoryLineFact : Type 0
   MemoryLineFact = (IsThreadsOrder words → ⊥) → result ≡ 5 → Says old new (codes "no memory\n")
 
-  -- and nothing is written on standard error but for faults
+  -- but for this command and `weave`, nothing is written on standard error but for faults
   abbrev pub QuietFact : Type 0
-  QuietFact = (IsThreadsOrder words → ⊥) → result ≢ 2 → result ≢ 4 → result ≢ 5 → new.err ≡ old.err
+  QuietFact = (IsThreadsOrder words → ⊥) → (IsWeaveOrder words → ⊥) → result ≢ 2 → result ≢ 4 → result ≢ 5 → new.err ≡ old.err
 
 -- all of them
 pub record Facts (files : Files) (words : List (List ℕ)) (old new : World) (result : ℕ) : Type 0 where
@@ -136,4 +136,5 @@ pub record AloneFacts (files : Files) (words : List (List ℕ)) (old new : World
   pub facts : (status : ℕ) → result ≡ Some status → Facts files words old new status
   -- whatever the arguments are
   pub memory_line : result ≡ Some 5 → Says old new (codes "no memory\n")
-  pub quiet : result ≢ Some 2 → result ≢ Some 4 → result ≢ Some 5 → new.err ≡ old.err
+  -- but for the command `weave`
+  pub quiet : (IsWeaveOrder words → ⊥) → result ≢ Some 2 → result ≢ Some 4 → result ≢ Some 5 → new.err ≡ old.err

@@ -1,4 +1,5 @@
--- The texts of a run by threads, and what its refusals mean. `record` and ThreadRuns cite them.
+-- The texts of a schedule that replicas made, those of a run by threads, and what its refusals mean. `record`, ThreadRuns
+-- and WeaveRuns cite them.
 use Rattle.std.specs.Prelude.{◌≡◌, ℕ, List, string_bytes}
 use Rattle.jc_rules.specs.declared.operation.Event.{Event}
 use Rattle.jc_rules.specs.Refused.{Cause}
@@ -9,6 +10,7 @@ use Rattle.jc_network.specs.Steps.{stuck_for}
 use Rattle.jc_dump.specs.Lines.{IsNamedStuck}
 use Rattle.jc_dump.specs.Texts.{given_text}
 use Rattle.jc_runner.specs.declared.run.Report.{Report}
+use Rattle.jc_runner.specs.declared.worker.End.{End}
 use Rattle.jc_runner.specs.Laws.{with_schedule}
 use Rattle.jc_runner.specs.Reports.{IsReport}
 use Rattle.jc_program.specs.Ends.{AreEndLines, outcome_of}
@@ -48,11 +50,15 @@ IsRecordFault s (F.Given lines) = IsGivenShown s (string_bytes lines) 3
 IsRecordFault s F.Memory = Unit {0}
 IsRecordFault s (F.NoThread refused) = Unit {0}
 
--- There is a report of the run; the text is that of the scenario with its schedule, and the lines say what each replica
--- made and how its thread ended.
+-- The text is that of the scenario with the schedule, and the lines say how many events each replica made and how it
+-- ended.
+pub record HasTexts (s : Scenario) (schedule : List Event) (made : List ℕ) (ends : List End) (r : Recording) : Type 0 where
+  pub text : string_bytes r.text ≡ canon (with_schedule s schedule)
+  pub lines : AreEndLines s.names made ends (string_bytes r.lines)
+  pub outcome : r.outcome ≡ outcome_of ends
+
+-- There is a report of the run, and these are the texts of its schedule.
 pub record IsRecording (s : Scenario) (limit : ℕ) (r : Recording) : Type 0 where
   pub report : Report
   pub is_report : IsReport s limit report
-  pub text : string_bytes r.text ≡ canon (with_schedule s report.schedule.items)
-  pub lines : AreEndLines s.names report.made.items report.ends.items (string_bytes r.lines)
-  pub outcome : r.outcome ≡ outcome_of report.ends.items
+  pub texts : HasTexts s report.schedule.items report.made.items report.ends.items r

@@ -1,4 +1,5 @@
--- What the command `threads` writes, whole or up to a fault. The promise cites `ThreadsRan` and `StopsThreads`.
+-- What a command writes that records a schedule, whole or up to a fault, for `threads` here and for `weave` in WeaveRuns.
+-- The promise cites `ThreadsRan` and `StopsRecording`.
 use Rattle.std.specs.Prelude.{◌≡◌, ◌⊎◌, ℕ, List, [], Option, Result, Ok, Err, string_bytes}
 use Rattle.jc_parser.specs.declared.fault.ScenarioFault.{ScenarioFault}
 use Rattle.jc_scenario.specs.WellFormed.{Scenario, IsScenario}
@@ -28,28 +29,31 @@ outcome_status NoMemory = 5
 outcome_status Stuck = 3
 outcome_status Done = 0
 
--- Threads ran on a scenario, with this text for the output, these lines for standard error, and this status.
-pub record RanThreads (limit : ℕ) (s : Scenario) (out lines : List ℕ) (status : ℕ) : Type 0 where
+-- ---- recordings of a kind: `IsMade` says which are those of a scenario
+
+-- This is the text of such a recording for the output, these are its lines for standard error, and this is its status.
+pub record AreRecordingTexts (IsMade : Recording → Type 0) (out lines : List ℕ) (status : ℕ) : Type 0 where
   pub recording : Recording
-  pub is_recording : IsRecording s limit recording
+  pub is_recording : IsMade recording
   pub shown : out ≡ string_bytes recording.text
   pub told : lines ≡ string_bytes recording.lines
   pub ends : status ≡ outcome_status recording.outcome
 
--- Threads ran; or a given event is stuck, and no thread was started.
-abbrev pub ShowsThreads : ℕ → Scenario → List ℕ → List ℕ → ℕ → Type 0
-ShowsThreads limit s out lines status =
-    RanThreads limit s out lines status ⊎ (IsGivenShown s out status × (lines ≡ []))
+-- a recording of the scenario; or a given event is stuck, and nothing was recorded
+abbrev pub ShowsRecording : (Scenario → Recording → Type 0) → Scenario → List ℕ → List ℕ → ℕ → Type 0
+ShowsRecording IsMade s out lines status =
+    AreRecordingTexts (IsMade s) out lines status ⊎ (IsGivenShown s out status × (lines ≡ []))
 
--- so for a text; where it is refused, no thread was started
-abbrev pub ThreadsOn : ℕ → Result Scenario ScenarioFault → List ℕ → List ℕ → ℕ → Type 0
-ThreadsOn limit (Ok s) out lines status = ShowsThreads limit s out lines status
-ThreadsOn limit (Err fault) out lines status = IsRefused fault out status × (lines ≡ [])
+-- so for a text; where it is refused, nothing was recorded
+abbrev pub RecordsOn
+    : (Scenario → Recording → Type 0) → Result Scenario ScenarioFault → List ℕ → List ℕ → ℕ → Type 0
+RecordsOn IsMade (Ok s) out lines status = ShowsRecording IsMade s out lines status
+RecordsOn IsMade (Err fault) out lines status = IsRefused fault out status × (lines ≡ [])
 
--- a run by threads of these bytes has this text, these lines and this status
-abbrev pub ThreadsRan : ℕ → List ℕ → List ℕ → List ℕ → ℕ → Type 0
-ThreadsRan limit bytes out lines status =
-    (read : Result Scenario ScenarioFault) × ReadsAs bytes read × ThreadsOn limit read out lines status
+-- a command that records has this text, these lines and this status for these bytes
+abbrev pub Records : (Scenario → Recording → Type 0) → List ℕ → List ℕ → List ℕ → ℕ → Type 0
+Records IsMade bytes out lines status =
+    (read : Result Scenario ScenarioFault) × ReadsAs bytes read × RecordsOn IsMade read out lines status
 
 -- The text of a run was written, and its lines were sent to standard error.
 abbrev pub AreTextsOf : (List ℕ → List ℕ → ℕ → Type 0) → Stream → Stream → (List ℕ → Type 0) → ℕ → Type 0
@@ -60,29 +64,48 @@ AreTextsOf IsRun old new WereSent status =
 abbrev pub IsTextOf : (List ℕ → List ℕ → ℕ → Type 0) → List ℕ → Type 0
 IsTextOf IsRun out = (lines : List ℕ) × (status : ℕ) × IsRun out lines status
 
--- the bytes are a scenario
+-- A fault stopped a run. After a failed write a prefix of its text was written, but not the whole; else nothing was.
+-- Want of a thread stops it only where threads may have been started. Too many lines never stop it.
+abbrev pub StopsRecording : Type 0 → (List ℕ → List ℕ → ℕ → Type 0) → WorkFault → Stream → Stream → Type 0
+StopsRecording HasThreads IsRun Read old new = new ≡ old
+StopsRecording HasThreads IsRun Write old new = WrittenInPart (IsTextOf IsRun) old new
+StopsRecording HasThreads IsRun TooManyLines old new = ⊥
+StopsRecording HasThreads IsRun (NoThread refused) old new = (new ≡ old) × HasThreads
+StopsRecording HasThreads IsRun Memory old new = new ≡ old
+
+-- a command that records came to its end on the bytes
+abbrev pub HasRecorded
+    : (Scenario → Recording → Type 0) → Option (List ℕ) → Stream → Stream → (List ℕ → Type 0) → ℕ → Type 0
+HasRecorded IsMade told old new WereSent status =
+    (bytes : List ℕ) × AreTold told bytes × AreTextsOf (Records IsMade bytes) old new WereSent status
+
+-- a fault stopped it on the bytes
+abbrev pub IsStoppedRecording
+    : (List ℕ → Type 0) → (Scenario → Recording → Type 0) → WorkFault → Option (List ℕ) → Stream → Stream → Type 0
+IsStoppedRecording HasThreads IsMade fault told old new =
+    (bytes : List ℕ) × AreTold told bytes × StopsRecording (HasThreads bytes) (Records IsMade bytes) fault old new
+
+-- ---- threads
+
+-- threads made the recording
+abbrev pub IsByThreads : ℕ → Scenario → Recording → Type 0
+IsByThreads limit s recording = IsRecording s limit recording
+
+-- a run by threads of these bytes has this text, these lines and this status
+abbrev pub ThreadsRan : ℕ → List ℕ → List ℕ → List ℕ → ℕ → Type 0
+ThreadsRan limit bytes out lines status = Records (IsByThreads limit) bytes out lines status
+
+-- the bytes are a scenario, for which threads may be started
 abbrev pub AreThreadScenario : List ℕ → Type 0
 AreThreadScenario bytes = (s : Scenario) × IsScenario bytes s
 
--- A fault stopped a run. After a failed write a prefix of its text was written, but not the whole; else nothing was.
--- Want of a thread stops it only where the bytes are a scenario. Too many lines never stop it.
-abbrev pub StopsThreads : Type 0 → (List ℕ → List ℕ → ℕ → Type 0) → WorkFault → Stream → Stream → Type 0
-StopsThreads HasScenario IsRun Read old new = new ≡ old
-StopsThreads HasScenario IsRun Write old new = WrittenInPart (IsTextOf IsRun) old new
-StopsThreads HasScenario IsRun TooManyLines old new = ⊥
-StopsThreads HasScenario IsRun (NoThread refused) old new = (new ≡ old) × HasScenario
-StopsThreads HasScenario IsRun Memory old new = new ≡ old
-
 -- the command came to its end on the bytes
 abbrev pub HaveThreaded : ℕ → Option (List ℕ) → Stream → Stream → (List ℕ → Type 0) → ℕ → Type 0
-HaveThreaded limit told old new WereSent status =
-    (bytes : List ℕ) × AreTold told bytes × AreTextsOf (ThreadsRan limit bytes) old new WereSent status
+HaveThreaded limit told old new WereSent status = HasRecorded (IsByThreads limit) told old new WereSent status
 
 -- a fault stopped the command on the bytes
 abbrev pub HaveStopped : ℕ → WorkFault → Option (List ℕ) → Stream → Stream → Type 0
-HaveStopped limit fault told old new =
-    (bytes : List ℕ) × AreTold told bytes
-    × StopsThreads (AreThreadScenario bytes) (ThreadsRan limit bytes) fault old new
+HaveStopped limit fault told old new = IsStoppedRecording AreThreadScenario (IsByThreads limit) fault told old new
 
 -- A fault stopped the command: its status and its line, which was sent to standard error, and the failures of input and
 -- output.

@@ -13,10 +13,12 @@ mod sending;
 mod sessions;
 mod texts;
 mod threads;
+mod weaving;
 mod words;
 
 pub use alone::work_alone;
 pub use files::Files;
 pub use program::{exit, work};
 pub use recording::{Outcome, RecordFault, Recording, record};
+pub use weaving::weave_text;
 pub use words::refuse_words;

@@ -1,4 +1,5 @@
-//! Runs all replicas of a scenario, each in a thread of its own, and makes texts of what they made. For `threads`.
+//! Recordings: texts of schedules that replicas made, and what each made. For `threads`, whose replicas `record` runs
+//! here, each in a thread of its own, and for `weave`.
 
 ghost use Rattle.std.specs.Prelude.{◌≡◌, ◌≤◌, ℕ, IfOk, IfErr, string_bytes, vec_len};
 ghost use Rattle.std.specs.List.{list_any};
@@ -10,25 +11,26 @@ ghost use Rattle.jc_dump.specs.Lines.{IsNamedStuck};
 ghost use Rattle.jc_dump.specs.Texts.{given_text};
 ghost use Rattle.jc_scenario.specs.WellFormed.{IsWellFormedScenario};
 ghost use Rattle.jc_scenario.specs.Views.{scenario_view};
+ghost use Rattle.jc_runner.specs.Laws.{with_schedule};
 ghost use Rattle.jc_runner.specs.Reports.{IsReport};
-ghost use Rattle.jc_program.specs.Ends.{is_stuck, lacks_memory, outcome_of};
-ghost use Rattle.jc_program.specs.Recordings.{IsRecording, IsRecordFault, IsTellableFault, IsToldAs};
+ghost use Rattle.jc_program.specs.Ends.{AreTellable, is_stuck, lacks_memory, outcome_of};
+ghost use Rattle.jc_program.specs.Recordings.{HasTexts, IsRecording, IsRecordFault, IsTellableFault, IsToldAs};
 ghost use Rattle.jc_program.specs.declared.recording.RecordFault.TheVariants.{Memory as WantOfMemory};
 
 use crate::lines::end_lines;
 use jc_dump::given_text;
-use jc_network::Stuck;
-use jc_rules::{Text, Version};
+use jc_network::{Net, Stuck};
+use jc_rules::{Event, Text, Version};
 use jc_runner::{End, Gate, Report, RunFault, SpawnRefused, run_threads};
 use jc_scenario::{Scenario, copy_names, print};
 use std::alloc::{AllocError, Global};
 use std::sync::Wait;
 use std::thread::Threads;
 
-/// How the threads ended, the worst first.
+/// How the replicas ended, the worst first.
 #[derive(Clone, Copy, Debug, PartialEq, Eq)]
 pub enum Outcome {
-    /// One of them had no memory.
+    /// The thread of one of them had no memory.
     NoMemory,
     /// One of them chose an event that is stuck.
     Stuck,
@@ -36,10 +38,10 @@ pub enum Outcome {
     Done,
 }
 
-/// The texts of a run.
+/// The texts of a schedule that replicas made.
 #[derive(Drop)]
 pub struct Recording {
-    /// The canonical text of the scenario, with the schedule that the threads made in place of its own.
+    /// The canonical text of the scenario, with this schedule in place of its own.
     pub text: String,
     /// A line for each replica, in the order of their names: its name, the number of its events, and how it ended.
     pub lines: String,
@@ -129,6 +131,32 @@ fn outcome_of(ends: &[End]) -> Outcome
     }
 }
 
+/// The texts of a schedule for the scenario, with the numbers of events and the ends of the replicas.
+pub fn texts_of(
+    alloc: Global,
+    net: &Net,
+    schedule: Vec<Event>,
+    made: &[u64],
+    ends: &[End],
+    start: Scenario,
+) -> Result<Recording, AllocError>
+    requires tellable { AreTellable net.now.names made.now ends.now }
+    requires named { net.now.names ≡ (scenario_view start).names }
+    requires formed { IsWellFormedScenario (with_schedule (scenario_view start) schedule.items) }
+    ensures { IfOk result (HasTexts (scenario_view start) schedule.items made.now ends.now) }
+{
+    let lines = end_lines(alloc, net, made, ends)?;
+    let outcome = outcome_of(ends);
+    let mut recorded = start;
+    recorded.schedule = schedule;
+    let text = print(alloc, &recorded)?;
+    Ok(Recording {
+        text,
+        lines,
+        outcome,
+    })
+}
+
 /// The texts of a report.
 fn told(alloc: Global, report: Report) -> Result<Recording, AllocError>
     requires { (limit : ℕ) × IsReport (scenario_view report.start) limit report }
@@ -143,16 +171,7 @@ fn told(alloc: Global, report: Report) -> Result<Recording, AllocError>
         ends,
         start,
     } = report;
-    let lines = end_lines(alloc, &net, &made, &ends)?;
-    let outcome = outcome_of(&ends);
-    let mut recorded = start;
-    recorded.schedule = schedule;
-    let text = print(alloc, &recorded)?;
-    Ok(Recording {
-        text,
-        lines,
-        outcome,
-    })
+    texts_of(alloc, &net, schedule, &made, &ends, start)
 }
 
 /// The lines of a given event that is stuck, in a scenario with these names.

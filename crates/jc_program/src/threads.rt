@@ -8,7 +8,7 @@ ghost use Rattle.jc_scenario.specs.Views.{scenario_view};
 ghost use Rattle.jc_session.specs.Written.{sink, Wrote, WrotePart, Sent};
 ghost use Rattle.jc_program.specs.ViewOutput.{told_by};
 ghost use Rattle.jc_program.specs.Faults.{IsCause, IsUnread};
-ghost use Rattle.jc_program.specs.ThreadRuns.{outcome_status, IsUnrecorded, ShowsThreads, ThreadsRan, AreTextsOf, AreThreadScenario, StopsThreads, HaveThreaded, HaveStopped};
+ghost use Rattle.jc_program.specs.ThreadRuns.{outcome_status, IsUnrecorded, ShowsRecording, IsByThreads, ThreadsRan, AreTextsOf, AreThreadScenario, StopsRecording, HaveThreaded, HaveStopped};
 
 use crate::alone::{refuse, text_of};
 use crate::fault::WorkFault;
@@ -32,7 +32,11 @@ fn status_of(outcome: Outcome) -> u8
 }
 
 /// Writes a recording: its text on the output, and then its lines on `err`, where a failure is ignored.
-fn tell<K: Sink, E: Sink>(recording: &Recording, out: &mut K, err: &mut E) -> Result<u8, RunFault>
+pub fn tell<K: Sink, E: Sink>(
+    recording: &Recording,
+    out: &mut K,
+    err: &mut E,
+) -> Result<u8, RunFault>
     ensures ok { IfOk result (λ status. (status ≡ outcome_status recording.now.outcome)
         × Wrote (string_bytes recording.now.text) (sink K.Sink out.old) (sink K.Sink out.new)
         × Sent (string_bytes recording.now.lines) (sink E.Sink err.old) (sink E.Sink err.new)) }
@@ -46,7 +50,7 @@ fn tell<K: Sink, E: Sink>(recording: &Recording, out: &mut K, err: &mut E) -> Re
 }
 
 /// The result where there is no recording: the status 3 for a stuck given event, whose lines are written, else a fault.
-fn unrecorded<K: Sink>(fault: &RecordFault, out: &mut K) -> Result<u8, WorkFault>
+pub fn unrecorded<K: Sink>(fault: &RecordFault, out: &mut K) -> Result<u8, WorkFault>
     ensures { IsUnrecorded fault.now (sink K.Sink out.old) (sink K.Sink out.new) result }
 {
     match fault {
@@ -70,9 +74,10 @@ fn run_all<R: Threads + Wait + Sync + AllocGlobal, K: Sink, E: Sink>(
 ) -> Result<u8, WorkFault>
     requires formed { IsWellFormedScenario (scenario_view scenario) }
     requires limit { limit ≤ MAX_THREAD_EVENTS }
-    ensures ok { IfOk result (AreTextsOf (ShowsThreads limit (scenario_view scenario))
+    ensures ok { IfOk result (AreTextsOf (ShowsRecording (IsByThreads limit) (scenario_view scenario))
         (sink K.Sink out.old) (sink K.Sink out.new) (λ lines. Sent lines (sink E.Sink err.old) (sink E.Sink err.new))) }
-    ensures stopped { IfErr result (λ fault. StopsThreads ⊤ (ShowsThreads limit (scenario_view scenario)) fault
+    ensures stopped { IfErr result (λ fault.
+        StopsRecording ⊤ (ShowsRecording (IsByThreads limit) (scenario_view scenario)) fault
         (sink K.Sink out.old) (sink K.Sink out.new)) }
     ensures quiet { OnErr result (err.new ≡ err.old) }
     ensures cause { IfErr result (λ fault. (n : ℕ)
@@ -98,7 +103,8 @@ fn run_text<R: Threads + Wait + Sync + AllocGlobal, K: Sink, E: Sink>(
     requires { limit ≤ MAX_THREAD_EVENTS }
     ensures ok { IfOk result (AreTextsOf (ThreadsRan limit text.now) (sink K.Sink out.old) (sink K.Sink out.new)
         (λ lines. Sent lines (sink E.Sink err.old) (sink E.Sink err.new))) }
-    ensures stopped { IfErr result (λ fault. StopsThreads (AreThreadScenario text.now) (ThreadsRan limit text.now) fault
+    ensures stopped { IfErr result (λ fault.
+        StopsRecording (AreThreadScenario text.now) (ThreadsRan limit text.now) fault
         (sink K.Sink out.old) (sink K.Sink out.new)) }
     ensures quiet { OnErr result (err.new ≡ err.old) }
     ensures cause { IfErr result (λ fault. (n : ℕ)

@@ -27,7 +27,7 @@ abbrev IsNamedId : ℕ → Option Id → Type 0
 IsNamedId n None = Unit {0}
 IsNamedId n (Some i) = i.replica < n
 
-abbrev IsNamedChoice : ℕ → Option (Event × Phase) → Type 0
+abbrev pub IsNamedChoice : ℕ → Option (Event × Phase) → Type 0
 IsNamedChoice n None = Unit {0}
 IsNamedChoice n (Some c) = AreNamed c.0 n
 
@@ -68,7 +68,7 @@ module _ (n p : ℕ) (low : p < n) where
     by_named phase [] = tt
     by_named phase (c ∷ rest) = command_named phase (is_yield c)
 
-chosen_named : (N : List State) (p : ℕ) (phase : Phase) → IsWell N → p < length N → IsNamedChoice (length N) (choice N p phase)
+pub chosen_named : (N : List State) (p : ℕ) (phase : Phase) → IsWell N → p < length N → IsNamedChoice (length N) (choice N p phase)
 chosen_named N p phase w low = go (slice_get N p) refl
   where
     known : (A : State) → slice_get N p ≡ Some A → (o : Op) → Contains A.recv o → o.id.replica < length N

@@ -1,10 +1,10 @@
-mod LegalGrowsLemmas
-mod ChosenLemmas
+pub mod LegalGrowsLemmas
+pub mod ChosenLemmas
 mod ChosenStoredLemmas
-mod WorkerResultLemmas
-mod ChosenNamesLemmas
+pub mod WorkerResultLemmas
+pub mod ChosenNamesLemmas
 mod ElementsKnownLemmas
-mod LegalLemmas
-mod ReportsLemmas
+pub mod LegalLemmas
+pub mod ReportsLemmas
 mod CrossesLemmas
 mod AskedLemmas

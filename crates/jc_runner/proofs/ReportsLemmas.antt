@@ -45,7 +45,7 @@ is_other : (a b : ℕ) → (a ≡ b → ⊥) → nat_eq a b ≡ false
 is_other a b e = search (rules, e)
 
 -- events of others leave a replica as it was
-untouched : (p : ℕ) (K : List State) (es : List Event) (M : List State) → After K es M → own_events es p ≡ [] → slice_get M p ≡ slice_get K p
+pub untouched : (p : ℕ) (K : List State) (es : List Event) (M : List State) → After K es M → own_events es p ≡ [] → slice_get M p ≡ slice_get K p
 untouched p K [] M after none = ap (λ l. slice_get l p) (sym after)
 untouched p K (e ∷ es) M after none = go (nat_eq (replica_of e) p) refl (λ h. untouched p after.0 es M after.3 h)
   where

@@ -70,7 +70,7 @@ fn in_yield<S: TreeStore>(replica: &Replica<S>, replicas: u16, phase: Phase) -> 
 }
 
 /// Returns whether the command is a yield.
-fn yields(cmd: &Cmd) -> bool
+pub fn yields(cmd: &Cmd) -> bool
     ensures { result ≡ is_yield (cmd_of cmd.now) }
 {
     match cmd {

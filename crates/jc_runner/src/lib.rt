@@ -22,7 +22,7 @@ mod starting;
 mod worker;
 
 pub use bench::{Bench, BenchFault, CloseRefused, Pass, StepAnswer};
-pub use choosing::choose;
+pub use choosing::{choose, yields};
 pub use phase::Phase;
 pub use recorded::Recorded;
 pub use run::{Report, RunFault, run_threads};

@@ -1,0 +1,6 @@
+mod LoomsLemmas
+mod LoomsOnceLemmas
+pub mod WeavingLemmas
+pub mod WeavingChosenLemmas
+pub mod WeavingStuckLemmas
+mod WeavingEndsLemmas

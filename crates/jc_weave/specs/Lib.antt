@@ -1,0 +1,3 @@
+pub mod Looms
+pub mod Weaving
+pub mod Laws
