@@ -1,4 +1,3 @@
-use Rattle.std.proofs.Common.{rules}
 use denote.Param.Send.{sendable}
 use Rattle.jc_runner.proofs.CrossesLemmas.{closure_send, worked_send}
 use Rattle.jc_runner.proofs.starting.start.Goals as goal
