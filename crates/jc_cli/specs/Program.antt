@@ -75,6 +75,6 @@ bare = record { top = bare_shape (new_app (codes "jsoncrdt")).top; subs = [] }
 
 unfoldable pub program : App
 program =
-    with_subcommand (with_subcommand (with_subcommand (with_subcommand (with_subcommand (with_subcommand (with_subcommand
-    bare (plain_app (codes "check")).top) (plain_app (codes "print")).top) run_app.top) view_app.top)
+    with_subcommand (with_subcommand (with_subcommand (with_subcommand (with_subcommand (with_subcommand
+    (with_subcommand bare (plain_app (codes "check")).top) (plain_app (codes "print")).top) run_app.top) view_app.top)
     (plain_app (codes "debug")).top) threads_app.top) weave_app.top

@@ -1,5 +1,5 @@
 -- About WeaveRuns: what is woven has texts, is never starved, and the same seed gives the same.
-use Rattle.std.proofs.Common.{arith, ◌≡◌, ◌≢◌, ◌⊎◌, ◌∙◌, ◌≤◌, if◌then◌else◌, ℕ, zero, suc, inl, inr, List, [], ◌∷◌, ◌++◌, Bool, true, false, Option, Some, None, Result, Ok, Err, string_bytes, codes, decimal, refl, sym, ap, subst, length, map, slice_get, slice_index}
+use Rattle.std.proofs.Common.{arith, ◌≡◌, ◌≢◌, ◌∙◌, ◌≤◌, if◌then◌else◌, ℕ, zero, suc, inl, inr, List, [], ◌∷◌, ◌++◌, Bool, true, false, Option, Some, None, Result, Ok, Err, string_bytes, codes, decimal, refl, sym, ap, subst, length, map, slice_get, slice_index}
 use Rattle.std.specs.Prelude.{All}
 use Rattle.std.specs.List.{list_any}
 use Rattle.std.proofs.lemmas.Option.{same_Some, none-some, slice_get_within, get_or_from_slice_get}
@@ -21,16 +21,15 @@ use Rattle.jc_runner.specs.declared.worker.End.TheVariants as N
 use Rattle.jc_runner.specs.Laws.{with_schedule}
 use Rattle.jc_runner.proofs.LegalLemmas.{well_formed_with}
 use Rattle.jc_weave.specs.Laws.{OneSchedule, SchedulesLead, EachIsChosen}
-use Rattle.jc_weave.specs.Weaving.{end_of_left, end_of_state, end_or, end_in, ends_in, counts_in, numbers_from, IsWoven}
+use Rattle.jc_weave.specs.Weaving.{end_of_left, end_of_state, end_or, end_in, counts_in, numbers_from, IsWoven}
 use Rattle.jc_weave.proofs.WeavingLemmas.{leads, within}
 use Rattle.jc_weave.proofs.WeavingStuckLemmas.{IsEndOfReplicas, ends_of_replicas, ends_long, counts_long}
-use Rattle.jc_program.specs.declared.recording.Outcome.{Outcome}
 use Rattle.jc_program.specs.declared.recording.Outcome.TheVariants as O
 use Rattle.jc_program.specs.Ends.{IsEndText, IsEndLine, AreLinesBelow, AreEndLines, IsTellable, AreTellable, lacks_memory, is_stuck, outcome_of}
 use Rattle.jc_program.specs.Laws.{OneWeaving, WovenTextsLead}
-use Rattle.jc_program.specs.ThreadRuns.{outcome_status, AreRecordingTexts, ShowsRecording, RecordsOn, Records}
+use Rattle.jc_program.specs.ThreadRuns.{outcome_status, AreRecordingTexts, ShowsRecording, RecordsOn}
 use Rattle.jc_program.specs.ViewText.{ReadsAs, IsRefused}
-use Rattle.jc_program.specs.WeaveRuns.{IsWeaving, IsBySeed, WeaveRan}
+use Rattle.jc_program.specs.WeaveRuns.{IsBySeed}
 use Rattle.jc_program.proofs.LawsLemmas.{no_start, same_given, same_refused}
 
 -- ---- texts

@@ -1,5 +1,5 @@
--- The texts of a schedule that replicas made, those of a run by threads, and what its refusals mean. `record`, ThreadRuns
--- and WeaveRuns cite them.
+-- The texts of a schedule that replicas made, those of a run by threads, and what its refusals mean. `record`,
+-- ThreadRuns and WeaveRuns cite them.
 use Rattle.std.specs.Prelude.{◌≡◌, ℕ, List, string_bytes}
 use Rattle.jc_rules.specs.declared.operation.Event.{Event}
 use Rattle.jc_rules.specs.Refused.{Cause}
@@ -52,7 +52,8 @@ IsRecordFault s (F.NoThread refused) = Unit {0}
 
 -- The text is that of the scenario with the schedule, and the lines say how many events each replica made and how it
 -- ended.
-pub record HasTexts (s : Scenario) (schedule : List Event) (made : List ℕ) (ends : List End) (r : Recording) : Type 0 where
+pub record HasTexts (s : Scenario) (schedule : List Event) (made : List ℕ) (ends : List End) (r : Recording)
+    : Type 0 where
   pub text : string_bytes r.text ≡ canon (with_schedule s schedule)
   pub lines : AreEndLines s.names made ends (string_bytes r.lines)
   pub outcome : r.outcome ≡ outcome_of ends

@@ -1,5 +1,5 @@
--- What a command writes that records a schedule, whole or up to a fault, for `threads` here and for `weave` in WeaveRuns.
--- The promise cites `ThreadsRan` and `StopsRecording`.
+-- What a command writes that records a schedule, whole or up to a fault, for `threads` here and for `weave` in
+-- WeaveRuns. The promise cites `ThreadsRan` and `StopsRecording`.
 use Rattle.std.specs.Prelude.{◌≡◌, ◌⊎◌, ℕ, List, [], Option, Result, Ok, Err, string_bytes}
 use Rattle.jc_parser.specs.declared.fault.ScenarioFault.{ScenarioFault}
 use Rattle.jc_scenario.specs.WellFormed.{Scenario, IsScenario}

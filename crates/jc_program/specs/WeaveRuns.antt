@@ -1,4 +1,5 @@
--- The texts of a woven schedule, and what the command `weave` writes, whole or up to a fault. The promise cites `WeaveRan`.
+-- The texts of a woven schedule, and what the command `weave` writes, whole or up to a fault. The promise cites
+-- `WeaveRan`.
 use Rattle.std.specs.Prelude.{ℕ, List}
 use Rattle.jc_rules.specs.declared.operation.Event.{Event}
 use Rattle.jc_rules.specs.Step.{Network}

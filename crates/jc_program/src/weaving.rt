@@ -1,4 +1,5 @@
-//! The command `weave`: draws a schedule of a scenario from a seed, and writes the scenario with it. `work_alone` calls it.
+//! The command `weave`: draws a schedule of a scenario from a seed, and writes the scenario with it. `work_alone` calls
+//! it.
 
 ghost use Rattle.std.specs.Prelude.{◌≡◌, ◌≢◌, ◌+◌, ◌≤◌, ℕ, codes, IfOk, IfErr, OnOk, OnErr};
 ghost use Rattle.jc_io.specs.Streams.{ConsumesUpTo};
@@ -63,8 +64,8 @@ fn given_fault(alloc: Global, scenario: &Scenario, at: u64, stuck: &Stuck) -> Re
     }
 }
 
-/// Draws a schedule from the seed, with `limit` events at most, in which each replica chooses its events. The scenario's
-/// own schedule is ignored.
+/// Draws a schedule from the seed, with `limit` events at most, in which each replica chooses its events. The
+/// scenario's own schedule is ignored.
 ///
 /// Refusals: `Given` where a given event is stuck, before any replica is drawn; `Memory` where there was no memory.
 pub fn weave_text(
@@ -130,7 +131,8 @@ fn weave_read<K: Sink, E: Sink>(
     requires { limit ≤ MAX_EVENTS }
     ensures ok { IfOk result (AreTextsOf (WeaveRan seed limit text.now) (sink K.Sink out.old) (sink K.Sink out.new)
         (λ lines. Sent lines (sink E.Sink err.old) (sink E.Sink err.new))) }
-    ensures stopped { IfErr result (λ fault. StopsRecording (HaveNoThreads text.now) (WeaveRan seed limit text.now) fault
+    ensures stopped { IfErr result (λ fault.
+        StopsRecording (HaveNoThreads text.now) (WeaveRan seed limit text.now) fault
         (sink K.Sink out.old) (sink K.Sink out.new)) }
     ensures quiet { OnErr result (err.new ≡ err.old) }
     ensures cause { IfErr result (λ fault. (n : ℕ)

@@ -1,16 +1,14 @@
 -- About specs/Looms and Laws: a loom has one turn at most, so a seed has one schedule.
-use Rattle.std.proofs.Common.{arith, ◌≡◌, ℕ, ◌+◌, List, [], ◌∷◌, refl, sym, ◌∙◌, ap, subst, slice_set, Some, None, inl, inr, ◌⊎◌}
+use Rattle.std.proofs.Common.{arith, ◌≡◌, ℕ, List, [], ◌∷◌, refl, sym, ◌∙◌, ap, subst, slice_set, None, inl, inr, ◌⊎◌}
 use Rattle.std.proofs.lemmas.Option.{same_Some, none-some}
-use Rattle.rand_pcg.specs.Lcg.{Lcg}
 use Rattle.jc_rules.specs.declared.operation.Event.{Event}
 use Rattle.jc_rules.specs.Refused.{Cause, IsStuckIn}
 use Rattle.jc_rules.specs.Step.{Network, StepIn}
 use Rattle.jc_rules.proofs.VersionLemmas.{one_step_in, one_after_in, one_stuck_in, stuck_in_has_none}
-use Rattle.jc_network.specs.declared.fault.Stuck.{Stuck}
 use Rattle.jc_network.specs.Given.{before_given}
 use Rattle.jc_scenario.specs.WellFormed.{Scenario}
 use Rattle.jc_runner.specs.declared.worker.End.{End}
-use Rattle.jc_weave.specs.Looms.{Loom, LoomTurn, makes, finishes, gets_stuck, MakesChosen, LeavesLoom, ChoosesStuck, IsLoomTurn, WeavesTo, drawn_replica, drawn_choice, without_number}
+use Rattle.jc_weave.specs.Looms.{Loom, LoomTurn, makes, finishes, gets_stuck, MakesChosen, LeavesLoom, ChoosesStuck, IsLoomTurn, WeavesTo, drawn_replica, drawn_choice}
 use Rattle.jc_weave.specs.Weaving.{loom, first_loom, made_events, stuck_events, ends_in, IsWoven}
 
 same_loom : (M K : Loom) → M.network ≡ K.network → M.phases ≡ K.phases → M.live ≡ K.live → M.generator ≡ K.generator → M.left ≡ K.left → M ≡ K

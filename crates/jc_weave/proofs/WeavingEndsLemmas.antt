@@ -2,7 +2,6 @@
 use Rattle.std.proofs.Common.{arith, rules, ◌≡◌, ◌≢◌, ◌⊎◌, ◌∙◌, ℕ, zero, suc, ◌+◌, List, [], ◌∷◌, Bool, true, false, cond, nat_eq, Option, Some, None, inl, inr, refl, sym, ap, subst, length, map, find, slice_get}
 use Rattle.std.proofs.lemmas.Option.{same_Some, none-some}
 use Rattle.jc_rules.specs.declared.operation.Event.{Event}
-use Rattle.jc_rules.specs.Refused.{Cause}
 use Rattle.jc_rules.specs.State.{State}
 use Rattle.jc_rules.specs.Step.{Network, replica_of}
 use Rattle.jc_rules.specs.Syntax.{Cmd}
@@ -17,7 +16,7 @@ use Rattle.jc_runner.specs.Chosen.{choice, chosen_by, chosen_in}
 use Rattle.jc_runner.specs.Legal.{own_events}
 use Rattle.jc_runner.proofs.ChosenLemmas.{choice_is}
 use Rattle.jc_runner.proofs.ReportsLemmas.{untouched}
-use Rattle.jc_weave.specs.Looms.{Loom, LoomTurn, makes, finishes, gets_stuck, IsLoomTurn, WeavesTo, phase_at, drawn_replica, without_number}
+use Rattle.jc_weave.specs.Looms.{Loom, LoomTurn, makes, finishes, gets_stuck, WeavesTo, phase_at, drawn_replica, without_number}
 use Rattle.jc_weave.specs.Weaving.{first_loom, made_events, stuck_events, numbers_from, end_of_left, end_of_state, end_or, end_in, ends_in, IsWoven}
 use Rattle.jc_weave.proofs.LoomsLemmas.{In, drawn_live}
 use Rattle.jc_weave.proofs.WeavingLemmas.{weaves_after, weaves_count}

@@ -1,5 +1,5 @@
 -- About specs/Weaving: a stuck event names replicas of the scenario, and how many ends and counts there are.
-use Rattle.std.proofs.Common.{arith, ◌≡◌, ℕ, ◌+◌, List, [], ◌∷◌, ◌++◌, refl, sym, ◌∙◌, ap, subst, length, map, find, nat_eq, slice_get, Option, Some, None, Bool, true, false, if◌then◌else◌}
+use Rattle.std.proofs.Common.{arith, ◌≡◌, ℕ, ◌+◌, List, [], ◌∷◌, ◌++◌, refl, sym, ◌∙◌, subst, length, map, find, nat_eq, slice_get, Option, Some, None, Bool, true, false, if◌then◌else◌}
 use Rattle.std.specs.Prelude.{All}
 use Rattle.std.proofs.lemmas.List.{length-map}
 use Rattle.std.proofs.lemmas.List.Elements.{All-nil, All-cons, All-head, All-tail}
@@ -17,7 +17,6 @@ use Rattle.jc_network.specs.Steps.{stuck_for}
 use Rattle.jc_network.proofs.AfterLemmas.{after_one_more}
 use Rattle.jc_network.proofs.RunInvariantStartLemmas.{start_well, after_well}
 use Rattle.jc_scenario.specs.WellFormed.{Scenario, IsWellFormedScenario}
-use Rattle.jc_runner.specs.declared.phase.Phase.{Phase}
 use Rattle.jc_runner.specs.declared.worker.End.{End}
 use Rattle.jc_runner.specs.declared.worker.End.TheVariants as N
 use Rattle.jc_runner.specs.Legal.{IsLegal}
@@ -25,7 +24,7 @@ use Rattle.jc_runner.proofs.ChosenNamesLemmas.{IsNamedChoice, chosen_named}
 use Rattle.jc_runner.proofs.LegalGrowsLemmas.{legal_states}
 use Rattle.jc_runner.proofs.WorkerResultLemmas.{as_many}
 use Rattle.jc_weave.specs.Looms.{Loom, LoomTurn, makes, finishes, gets_stuck, ChoosesStuck, WeavesTo, phase_at, drawn_replica}
-use Rattle.jc_weave.specs.Weaving.{first_loom, made_events, stuck_events, numbers_from, end_of_left, end_of_state, end_or, end_in, ends_in, counts_in, IsWoven}
+use Rattle.jc_weave.specs.Weaving.{first_loom, stuck_events, numbers_from, end_of_left, end_of_state, end_or, end_in, ends_in, counts_in, IsWoven}
 use Rattle.jc_weave.proofs.WeavingChosenLemmas.{chooser}
 
 -- an event of replicas of the scenario, with the cause for which it is stuck

@@ -81,8 +81,8 @@ abbrev pub end_or : Option Stuck → End → End
 end_or None end = end
 end_or (Some stuck) end = N.StuckAt stuck
 
--- Where replica p got stuck, this is its end. Else it has finished where no command is left to it, and the limit was met
--- where one is.
+-- Where replica p got stuck, this is its end. Else it has finished where no command is left to it, and the limit was
+-- met where one is.
 abbrev pub end_in : List Stuck → List State → ℕ → End
 end_in stucks states p =
     end_or (find (λ (stuck : Stuck). nat_eq (replica_of stuck.event) p) stucks) (end_of_state (slice_get states p))

@@ -2,8 +2,8 @@
 //! program's command `weave` uses it.
 //!
 //! `weave` begins at a scenario's start. In each turn one replica is drawn, and it makes the event that it chooses. A
-//! replica that chooses none, or one that is stuck, leaves. Replicas wait at a last `yield` where they have sent, so what
-//! anybody sends at its end is there when they receive (docs/FORMATS.md).
+//! replica that chooses none, or one that is stuck, leaves. Replicas wait at a last `yield` where they have sent, so
+//! that what anybody sends at its end is there when they receive (docs/FORMATS.md).
 //!
 //! Nothing here waits for a thread, and the same scenario, seed and limit give the same schedule.
 #![tactic(auto)]

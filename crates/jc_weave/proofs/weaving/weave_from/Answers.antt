@@ -1,4 +1,4 @@
-use Rattle.std.proofs.Common.{rules, arith, ◌≡◌, ◌+◌, ◌∙◌, ◌⊎◌, [], ap, inl, inr, refl, true-eqb}
+use Rattle.std.proofs.Common.{rules, ◌≡◌, ◌∙◌, ◌⊎◌, [], ap, inl, inr}
 use Rattle.jc_weave.specs.Weaving.{ends_in}
 use Rattle.jc_weave.proofs.WeavingLemmas.{after_turn, of_three, is_woven, nil_of}
 use Rattle.jc_weave.proofs.weaving.weave_from.Goals.{then-loop-loom-test+else-not-is_empty, else-loop-loom-test}

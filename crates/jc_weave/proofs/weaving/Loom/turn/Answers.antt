@@ -1,4 +1,4 @@
-use Rattle.std.proofs.Common.{arith, ◌≡◌, ◌+◌, ◌∙◌, ap, sym, refl, length}
+use Rattle.std.proofs.Common.{arith, ◌≡◌, ◌∙◌, ap, sym, refl, length}
 use Rattle.jc_runner.specs.Chosen.{choice}
 use Rattle.jc_weave.specs.Looms.{drawn_of, pool, phase_at}
 use Rattle.jc_weave.proofs.LoomsLemmas.{fewer}
