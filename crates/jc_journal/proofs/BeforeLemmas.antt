@@ -1,5 +1,5 @@
 -- About Before: which identifiers are new, from what was noted.
-use Rattle.std.proofs.Common.{◌≡◌, ℕ, ◌<◌, ◌≤◌, List, [], ◌∷◌, ◌++◌, Bool, true, false, not, ◌||◌, ◌&&◌, cond, filter, length, map, drop, slice_get, Option, Some, None, option_copied, is_some, refl, sym, ◌∙◌, ap, subst, arith}
+use Rattle.std.proofs.Common.{◌≡◌, ℕ, ◌<◌, ◌≤◌, List, [], ◌∷◌, ◌++◌, Bool, true, false, not, ◌||◌, ◌&&◌, filter, length, map, drop, slice_get, Option, Some, None, option_copied, is_some, refl, sym, ◌∙◌, ap, subst, arith}
 use Rattle.std.specs.Borrow.{Bor}
 use Rattle.std.specs.List.{AllByRecursion}
 use Rattle.std.specs.declared.cmp.Ordering.TheVariants.{Less}
@@ -11,11 +11,11 @@ use Rattle.jc_rules.specs.declared.id.Id.{Id}
 use Rattle.jc_rules.specs.declared.operation.Event.{Event}
 use Rattle.jc_rules.specs.declared.operation.Event.TheVariants as E
 use Rattle.jc_rules.specs.declared.operation.Op.{Op}
-use Rattle.jc_rules.specs.Ids.{AreRising, has_id, with_id, without}
+use Rattle.jc_rules.specs.Ids.{AreRising, has_id, without}
 use Rattle.jc_rules.specs.Order.{id_cmp, same_id}
 use Rattle.jc_rules.specs.State.{State}
 use Rattle.jc_rules.specs.Step.{replica_of, read_by, send_of}
-use Rattle.jc_rules.specs.Table.{op_of, with_op, both}
+use Rattle.jc_rules.specs.Table.{op_of, both}
 use Rattle.jc_rules.proofs.BoolLemmas.{or_right}
 use Rattle.jc_rules.proofs.IdsLemmas.{same_id-self, same_id-true, has_id-with, has_id-without, without-rises, same_members}
 use Rattle.jc_rules.proofs.OrderLemmas.{ids_total}

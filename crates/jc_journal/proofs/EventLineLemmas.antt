@@ -1,5 +1,5 @@
 -- About EventLine: what was noted before an event and the stored state after it give the event's line.
-use Rattle.std.proofs.Common.{◌≡◌, ℕ, ◌+◌, ◌<◌, List, [], ◌∷◌, ◌++◌, Bool, filter, length, map, drop, slice_get, slice_set, Option, Some, None, codes, refl, sym, ◌∙◌, ap, subst, arith}
+use Rattle.std.proofs.Common.{◌≡◌, ℕ, ◌+◌, ◌<◌, List, [], ◌∷◌, ◌++◌, Bool, filter, length, map, drop, slice_get, Option, Some, None, codes, refl, sym, ◌∙◌, ap, subst, arith}
 use Rattle.std.specs.Option.{option_map}
 use Rattle.std.proofs.lemmas.List.{length-map}
 use Rattle.std.proofs.lemmas.Option.{same_Some, slice_get_past, slice_get-map}
@@ -26,7 +26,7 @@ use Rattle.jc_network.proofs.MembersLemmas.{op_in, set_there}
 use Rattle.jc_network.proofs.StepsLemmas.{well}
 use Rattle.jc_journal.specs.declared.before.Before.{Before}
 use Rattle.jc_journal.specs.declared.before.Before.TheVariants as V
-use Rattle.jc_journal.specs.Operation.{NamedJson, op_json}
+use Rattle.jc_journal.specs.Operation.{NamedJson}
 use Rattle.jc_journal.specs.EventLine.{command_member, new_ids, new_member, event_op, op_member, line_members, members_line, event_line}
 use Rattle.jc_journal.specs.Before.{Notes, IsNoted}
 use Rattle.jc_journal.specs.Parts.{noted_command, noted_new, noted_op, noted_members}

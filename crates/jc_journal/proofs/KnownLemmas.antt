@@ -1,9 +1,8 @@
 -- About Before: what a replica has applied of another one it has received, so it need not be looked up.
-use Rattle.std.proofs.Common.{◌≡◌, ◌≢◌, ℕ, zero, suc, ◌≤◌, ◌<◌, List, [], ◌∷◌, ◌++◌, Bool, true, false, eqb, eq-eqb, Contains, ◌⊎◌, inl, inr, Option, Some, None, filter, length, map, take, drop, slice_get, cond, refl, sym, ◌∙◌, ap, subst, arith}
+use Rattle.std.proofs.Common.{◌≡◌, ℕ, zero, suc, ◌≤◌, List, [], ◌∷◌, ◌++◌, Bool, true, false, eqb, eq-eqb, Contains, ◌⊎◌, inl, inr, Some, filter, map, take, drop, cond, refl, sym, ◌∙◌, ap, subst, arith}
 use Rattle.std.specs.List.{AllByRecursion}
 use Rattle.std.proofs.lemmas.List.{take-append-drop}
 use Rattle.std.proofs.lemmas.List.Elements.{filter-append}
-use Rattle.std.proofs.lemmas.Option.{same_Some}
 use Rattle.jc_rules.specs.declared.id.Id.{Id}
 use Rattle.jc_rules.specs.declared.operation.Op.{Op}
 use Rattle.jc_rules.specs.Ids.{has_id}
@@ -12,7 +11,7 @@ use Rattle.jc_rules.specs.Table.{op_of}
 use Rattle.jc_rules.specs.VersionVectors.{covered, greatest_of}
 use Rattle.jc_rules.proofs.CoveredLemmas.{filled_in, greatest_of-filled}
 use Rattle.jc_rules.proofs.RepresentationLemmas.{counters_tell}
-use Rattle.jc_vectors.specs.StoredStates.{stored_op, stored_state}
+use Rattle.jc_vectors.specs.StoredStates.{stored_op}
 use Rattle.jc_replica.specs.Operations.{identifiers}
 use Rattle.jc_replica.specs.Received.{is_new}
 use Rattle.jc_replica.specs.ReplicaHistory.{Past}

@@ -1,5 +1,5 @@
 -- About Operation: counters one by one, and an operation with the version vector in place of the identifiers.
-use Rattle.std.proofs.Common.{◌≡◌, ℕ, zero, suc, ◌<◌, List, [], ◌∷◌, ◌++◌, length, drop, codes, refl, sym, ◌∙◌, ap, arith}
+use Rattle.std.proofs.Common.{◌≡◌, ℕ, zero, suc, ◌<◌, List, [], ◌∷◌, ◌++◌, length, drop, codes, refl, ◌∙◌, ap, arith}
 use Rattle.json.specs.Json.{string}
 use Rattle.jc_rules.specs.declared.id.Id.{Id}
 use Rattle.jc_rules.specs.declared.operation.Op.{Op}
@@ -8,7 +8,7 @@ use Rattle.jc_rules.specs.VersionVectors.{covered, greatest_of}
 use Rattle.jc_rules.proofs.CoveredLemmas.{greatest_of-filled}
 use Rattle.jc_json.specs.Json.{id_text}
 use Rattle.jc_vectors.specs.StoredStates.{stored_op}
-use Rattle.jc_journal.specs.Operation.{NamedJson, json_object, cursor_json, counter_member, counter_members, vector_json, mutation_name, mutation_value, op_json}
+use Rattle.jc_journal.specs.Operation.{NamedJson, json_object, cursor_json, counter_member, counter_members, mutation_name, mutation_value, op_json}
 
 -- the name of a replica is the next one
 name_next : (names : List (List ℕ)) (p : ℕ) → p < length names → drop p names ≡ name_at names p ∷ drop (suc p) names

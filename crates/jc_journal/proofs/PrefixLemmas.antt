@@ -1,6 +1,6 @@
 -- About EventLine: in every run what a replica offers is a prefix of its queue, and the operation that it makes comes
 -- last in it.
-use Rattle.std.proofs.Common.{◌≡◌, ℕ, ◌+◌, ◌<◌, ◌≤◌, List, [], ◌∷◌, ◌++◌, Some, None, Option, ◌⊎◌, inl, inr, Contains, length, take, slice_get, slice_set, append_assoc, refl, sym, ◌∙◌, ap, subst, arith}
+use Rattle.std.proofs.Common.{◌≡◌, ℕ, ◌≤◌, List, [], ◌∷◌, ◌++◌, Some, None, Option, ◌⊎◌, inl, inr, Contains, length, take, slice_get, slice_set, append_assoc, refl, sym, ◌∙◌, ap, subst, arith}
 use Rattle.std.proofs.lemmas.List.{append-nil}
 use Rattle.std.proofs.lemmas.Option.{same_Some}
 use Rattle.std.proofs.Math.Seq.{take-append_seam}
@@ -21,7 +21,7 @@ use Rattle.jc_replica.proofs.QueueLemmas.{AreUpTo, with_op-last}
 use Rattle.jc_replica.proofs.SendLemmas.{both-front}
 use Rattle.jc_network.specs.Laws.{starts, IsReached}
 use Rattle.jc_network.specs.RunInvariant.{IsReplicaAt, IsWell}
-use Rattle.jc_network.proofs.EnabledOrderLemmas.{IsOrdered, ordered}
+use Rattle.jc_network.proofs.EnabledOrderLemmas.{ordered}
 use Rattle.jc_network.proofs.EventDidLemmas.{new_op, Did, bound, made, sent, received, took, applied, done, did}
 use Rattle.jc_network.proofs.MembersLemmas.{first_in, later_in, set_there, set_other}
 use Rattle.jc_network.proofs.RunInvariantStartLemmas.{started}

@@ -1,5 +1,5 @@
 -- About StuckLine: which replicas offer an operation, and which of its dependencies are missing.
-use Rattle.std.proofs.Common.{◌≡◌, ℕ, zero, suc, ◌+◌, ◌<◌, List, [], ◌∷◌, ◌++◌, Bool, true, false, not, ◌||◌, ◌&&◌, cond, Contains, ◌⊎◌, inl, inr, Option, Some, None, length, drop, take, map, slice_get, get_or, refl, sym, ◌∙◌, ap, subst, arith, add-one}
+use Rattle.std.proofs.Common.{◌≡◌, ℕ, zero, suc, ◌+◌, ◌<◌, List, [], ◌∷◌, ◌++◌, Bool, true, false, not, ◌||◌, ◌&&◌, cond, Contains, ◌⊎◌, inl, inr, Option, Some, None, length, drop, take, map, slice_get, get_or, refl, sym, ◌∙◌, ap, subst, add-one}
 use Rattle.std.proofs.lemmas.Option.{same_Some, slice_get_read}
 use Rattle.std.proofs.lemmas.List.Elements.{Contains-append_left, Contains-append_right}
 use Rattle.json.specs.Token.{Token}
@@ -24,7 +24,7 @@ use Rattle.jc_replica.specs.ReplicaHistory.{Past}
 use Rattle.jc_replica.proofs.MayApplyLemmas.{kept_absent}
 use Rattle.jc_network.specs.Laws.{ops_held}
 use Rattle.jc_network.specs.Invariant.{IsFromStart}
-use Rattle.jc_network.specs.RunInvariant.{IsReplicaAt, IsMadeOp, IsWell}
+use Rattle.jc_network.specs.RunInvariant.{IsReplicaAt, IsWell}
 use Rattle.jc_network.specs.Steps.{HasReplica}
 use Rattle.jc_network.proofs.AfterLemmas.{take_more}
 use Rattle.jc_network.proofs.AppliedIdsLemmas.{kept_ids}

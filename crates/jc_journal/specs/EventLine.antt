@@ -1,7 +1,7 @@
 -- The line of an event that was made, by the states of its replica before and after it. The contract of `event_line`
 -- cites it. The list of names has the name of each replica at its number.
 use Rattle.std.specs.Prelude.{ℕ, List, [], ◌∷◌, ◌++◌, codes, decimal, filter, Bool, true, false, Option, Some, None, slice_get}
-use Rattle.json.specs.Json.{Json, boolean, number, string, array, Items, no_items, item}
+use Rattle.json.specs.Json.{boolean, number, string, array, Items, no_items, item}
 use Rattle.json.specs.Print.{print}
 use Rattle.json.specs.Tree.{json_tokens}
 use Rattle.jc_rules.specs.declared.id.Id.{Id}

@@ -198,8 +198,8 @@ fn line_of(
     end_line(out)
 }
 
-/// The line, with its line feed, of an event that led to the network. `before` is what `Before::of` noted of the network
-/// before it; with `rules` the line has those of its trace. Nothing but memory is refused.
+/// The line, with its line feed, of an event that led to the network. `before` is what `Before::of` noted of the
+/// network before it; with `rules` the line has those of its trace. Nothing but memory is refused.
 pub fn event_line(
     alloc: Global,
     net: &Net,

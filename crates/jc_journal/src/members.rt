@@ -1,5 +1,5 @@
-//! Writes the members that the lines of made and of stuck events have in common, and begins and ends a line. `event` and
-//! `stuck` call it.
+//! Writes the members that the lines of made and of stuck events have in common, and begins and ends a line. `event`
+//! and `stuck` call it.
 
 ghost use Rattle.std.specs.Prelude.{◌≡◌, ◌∷◌, ◌++◌, [], IfOk, OnOk, length, decimal};
 ghost use Rattle.json.specs.Json.{number, string};

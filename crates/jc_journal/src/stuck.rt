@@ -205,8 +205,8 @@ fn write_members(
     write_count("stuck", u64::from(stuck.number), out)
 }
 
-/// The line, with its line feed, of an event that is stuck in the network: its number, from 1, and whether it is a given
-/// event. Nothing but memory is refused.
+/// The line, with its line feed, of an event that is stuck in the network. `number` is the event's, from 1; `given` is
+/// whether it is a given event. Nothing but memory is refused.
 pub fn stuck_line(
     alloc: Global,
     net: &Net,

@@ -1,4 +1,4 @@
-use Rattle.std.proofs.Common.{List, filter, ap, ◌∙◌}
+use Rattle.std.proofs.Common.{List, ap, ◌∙◌}
 use Rattle.jc_rules.specs.declared.operation.Op.{Op}
 use Rattle.jc_rules.specs.Ids.{without}
 use Rattle.jc_replica.specs.Operations.{identifiers}

@@ -1,10 +1,10 @@
-use Rattle.std.proofs.Common.{◌<◌, ℕ, List, length, subst, ap, ◌∙◌, arith}
+use Rattle.std.proofs.Common.{ℕ, List, subst, ap, ◌∙◌}
 use Rattle.std.proofs.lemmas.Result.{IfOk-weaker}
 use Rattle.jc_rules.specs.Step.{replica_of}
 use Rattle.jc_network.specs.Steps.{HasReplica}
 use Rattle.jc_journal.specs.EventLine.{members_line}
 use Rattle.jc_journal.specs.Parts.{rows_of, noted_members}
-use Rattle.jc_journal.proofs.EventLineLemmas.{named_within, line_of_step}
+use Rattle.jc_journal.proofs.EventLineLemmas.{line_of_step}
 use Rattle.jc_journal.proofs.event.event_line.Goals as goal
 
 pub returns : goal.returns

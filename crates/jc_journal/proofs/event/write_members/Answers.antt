@@ -1,4 +1,4 @@
-use Rattle.std.proofs.Common.{◌∷◌, ◌++◌, [], List, ap, subst, option_copied}
+use Rattle.std.proofs.Common.{◌∷◌, ◌++◌, [], List, subst}
 use Rattle.std.proofs.lemmas.Result.{on_ok_weaker}
 use Rattle.jc_view.specs.Parts.{Gains}
 use Rattle.jc_journal.specs.Operation.{NamedJson}

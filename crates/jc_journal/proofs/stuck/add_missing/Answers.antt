@@ -1,4 +1,4 @@
-use Rattle.std.proofs.Common.{rules, ◌≡◌, ◌||◌, ◌&&◌, true, false, not, List, take, ◌+◌, refl, sym, ◌∙◌, ap, subst}
+use Rattle.std.proofs.Common.{rules, ◌≡◌, ◌||◌, ◌&&◌, true, false, not, take, ◌+◌, refl, sym, ◌∙◌, ap, subst}
 use Rattle.jc_rules.specs.declared.id.Id.{Id}
 use Rattle.jc_rules.specs.Ids.{AreRising, has_id, with_id}
 use Rattle.jc_replica.specs.Operations.{identifiers}

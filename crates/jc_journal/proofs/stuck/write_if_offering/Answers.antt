@@ -2,7 +2,6 @@ use Rattle.std.proofs.Common.{rules, ◌≡◌, List, true, false, [], ◌∷◌
 use Rattle.std.proofs.lemmas.Result.{on_ok_weaker}
 use Rattle.json.specs.Token.{Token}
 use Rattle.json.specs.Token as T
-use Rattle.jc_rules.specs.State.{State}
 use Rattle.jc_rules.specs.ReplicaNames.{name_at}
 use Rattle.jc_view.specs.Parts.{Gains}
 use Rattle.jc_view.proofs.TokensLemmas.{gains_nothing}

@@ -1,4 +1,4 @@
-use Rattle.std.proofs.Common.{◌∷◌, ◌++◌, [], List, ℕ, codes, decimal, ap, subst}
+use Rattle.std.proofs.Common.{◌∷◌, ◌++◌, [], List, ℕ, codes, decimal, subst}
 use Rattle.std.proofs.lemmas.Result.{on_ok_weaker}
 use Rattle.json.specs.Json.{number, string}
 use Rattle.jc_rules.specs.Refusals.{refusal_name}

@@ -1,4 +1,4 @@
-use Rattle.std.proofs.Common.{◌<◌, suc, length, drop, sym, subst, ap, arith, add-one}
+use Rattle.std.proofs.Common.{◌<◌, length, drop, sym, subst, ap, arith, add-one}
 use Rattle.json.specs.Tree.{items_tokens}
 use Rattle.jc_network.proofs.MembersLemmas.{some_at}
 use Rattle.jc_view.proofs.TokensLemmas.{Wrote, wrote_more}
