@@ -85,25 +85,6 @@ const WORDS: &[(&[&str], Taken, &str)] = &[
         Taken::Threads(100_000),
         "x",
     ),
-    (&["weave", "-"], Taken::Weave(0, 10_000), "-"),
-    (&["weave", "--seed", "5", "x"], Taken::Weave(5, 10_000), "x"),
-    (
-        &["weave", "--limit=7", "x", "--seed=3"],
-        Taken::Weave(3, 7),
-        "x",
-    ),
-    (
-        &[
-            "weave",
-            "--seed",
-            "18446744073709551615",
-            "--limit",
-            "100000",
-            "x",
-        ],
-        Taken::Weave(18_446_744_073_709_551_615, 100_000),
-        "x",
-    ),
     (&["--help"], Taken::Help, ""),
     (&["-h"], Taken::Help, ""),
     (&["run", "--help"], Taken::Help, ""),
@@ -111,7 +92,6 @@ const WORDS: &[(&[&str], Taken, &str)] = &[
     (&["debug", "--help"], Taken::Help, ""),
     (&["threads", "--help"], Taken::Help, ""),
     (&["view", "--help"], Taken::Help, ""),
-    (&["weave", "--help"], Taken::Help, ""),
     (&["run"], Taken::Usage, ""),
     (&["debug"], Taken::Usage, ""),
     (&["debug", "--trace", "x"], Taken::Usage, ""),
@@ -141,24 +121,6 @@ const WORDS: &[(&[&str], Taken, &str)] = &[
     ),
     (&["threads", "--trace", "x"], Taken::Usage, ""),
     (&["run", "--limit", "5", "x"], Taken::Usage, ""),
-    (&["threads", "--seed", "5", "x"], Taken::Usage, ""),
-    (&["weave"], Taken::Usage, ""),
-    (
-        &["weave", "--seed", "18446744073709551616", "x"],
-        Taken::Usage,
-        "",
-    ),
-    (&["weave", "--seed", "-1", "x"], Taken::Usage, ""),
-    (&["weave", "--seed", "0x5", "x"], Taken::Usage, ""),
-    (&["weave", "--seed=", "x"], Taken::Usage, ""),
-    (&["weave", "x", "--seed"], Taken::Usage, ""),
-    (
-        &["weave", "--seed", "1", "--seed", "1", "x"],
-        Taken::Usage,
-        "",
-    ),
-    (&["weave", "--limit", "100001", "x"], Taken::Usage, ""),
-    (&["weave", "--at", "1", "x"], Taken::Usage, ""),
     (&["help"], Taken::Help, ""),
     (&["help", "run"], Taken::Help, ""),
     (&["help", "run", "x", "y"], Taken::Help, ""),
@@ -187,6 +149,55 @@ const WORDS: &[(&[&str], Taken, &str)] = &[
 #[test]
 fn words_are_taken(rt: HostRuntime) {
     for (words, want, file) in WORDS {
+        expect_taken(&rt, words, *want, file);
+    }
+}
+
+/// The same for `weave` and its seed.
+const WEAVE_WORDS: &[(&[&str], Taken, &str)] = &[
+    (&["weave", "-"], Taken::Weave(0, 10_000), "-"),
+    (&["weave", "--seed", "5", "x"], Taken::Weave(5, 10_000), "x"),
+    (
+        &["weave", "--limit=7", "x", "--seed=3"],
+        Taken::Weave(3, 7),
+        "x",
+    ),
+    (
+        &[
+            "weave",
+            "--seed",
+            "18446744073709551615",
+            "--limit",
+            "100000",
+            "x",
+        ],
+        Taken::Weave(18_446_744_073_709_551_615, 100_000),
+        "x",
+    ),
+    (&["weave", "--help"], Taken::Help, ""),
+    (&["threads", "--seed", "5", "x"], Taken::Usage, ""),
+    (&["weave"], Taken::Usage, ""),
+    (
+        &["weave", "--seed", "18446744073709551616", "x"],
+        Taken::Usage,
+        "",
+    ),
+    (&["weave", "--seed", "-1", "x"], Taken::Usage, ""),
+    (&["weave", "--seed", "0x5", "x"], Taken::Usage, ""),
+    (&["weave", "--seed=", "x"], Taken::Usage, ""),
+    (&["weave", "x", "--seed"], Taken::Usage, ""),
+    (
+        &["weave", "--seed", "1", "--seed", "1", "x"],
+        Taken::Usage,
+        "",
+    ),
+    (&["weave", "--limit", "100001", "x"], Taken::Usage, ""),
+    (&["weave", "--at", "1", "x"], Taken::Usage, ""),
+];
+
+#[test]
+fn words_of_weave_are_taken(rt: HostRuntime) {
+    for (words, want, file) in WEAVE_WORDS {
         expect_taken(&rt, words, *want, file);
     }
 }

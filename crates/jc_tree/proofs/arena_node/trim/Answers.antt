@@ -37,8 +37,8 @@ returns-then-not-is_bare-clause-trimmed c = λ n long bare.
     let k = c.loop-last in
     let last = c.in-Some.last in
     let at : n ≡ last = omega (arith, c.in-Some.ensures, c.len.ensures, long) in
-    let here : IsBare last k.maps.items k.lists.items k.registers.items k.presences.items k.links.items =
-    subst (λ i. IsBare i k.maps.items k.lists.items k.registers.items k.presences.items k.links.items) at bare in
+    let here : IsBare last k.maps.items k.lists.items k.registers.items k.presences k.links.items =
+    subst (λ i. IsBare i k.maps.items k.lists.items k.registers.items k.presences k.links.items) at bare in
     let is = c.is_bare.ensures.1 (record {
       maps = ap (λ (d : List (Option ℕ)). at_number d last) c.as_slice.ensures.value ∙ here.maps;
       lists = ap (λ (d : List (Option ℕ)). at_number d last) c.as_slice-in-Some.ensures.value ∙ here.lists;
