@@ -76,21 +76,11 @@ const WORDS: &[(&[&str], Taken, &str)] = &[
     (&["view", "--at", "100000", "x"], Taken::View(100_000), "x"),
     (&["debug", "-"], Taken::Debug, "-"),
     (&["debug", "a b"], Taken::Debug, "a b"),
-    (&["threads", "-"], Taken::Threads(10_000), "-"),
-    (&["threads", "--limit", "5", "x"], Taken::Threads(5), "x"),
-    (&["threads", "--limit=0", "x"], Taken::Threads(0), "x"),
-    (&["threads", "--limit", "+7", "x"], Taken::Threads(7), "x"),
-    (
-        &["threads", "x", "--limit", "100000"],
-        Taken::Threads(100_000),
-        "x",
-    ),
     (&["--help"], Taken::Help, ""),
     (&["-h"], Taken::Help, ""),
     (&["run", "--help"], Taken::Help, ""),
     (&["check", "-h"], Taken::Help, ""),
     (&["debug", "--help"], Taken::Help, ""),
-    (&["threads", "--help"], Taken::Help, ""),
     (&["view", "--help"], Taken::Help, ""),
     (&["run"], Taken::Usage, ""),
     (&["debug"], Taken::Usage, ""),
@@ -105,22 +95,8 @@ const WORDS: &[(&[&str], Taken, &str)] = &[
     (&["view", "--at", "1.5", "x"], Taken::Usage, ""),
     (&["view", "x", "--at"], Taken::Usage, ""),
     (&["view", "--at", "1", "--at", "2", "x"], Taken::Usage, ""),
-    (&["view", "--limit", "5", "x"], Taken::Usage, ""),
     (&["view", "--trace", "x"], Taken::Usage, ""),
     (&["run", "--at", "5", "x"], Taken::Usage, ""),
-    (&["threads"], Taken::Usage, ""),
-    (&["threads", "--limit", "100001", "x"], Taken::Usage, ""),
-    (&["threads", "--limit", "-1", "x"], Taken::Usage, ""),
-    (&["threads", "--limit", "x", "x"], Taken::Usage, ""),
-    (&["threads", "x", "--limit"], Taken::Usage, ""),
-    (&["threads", "--limit=", "x"], Taken::Usage, ""),
-    (
-        &["threads", "--limit", "5", "--limit", "6", "x"],
-        Taken::Usage,
-        "",
-    ),
-    (&["threads", "--trace", "x"], Taken::Usage, ""),
-    (&["run", "--limit", "5", "x"], Taken::Usage, ""),
     (&["help"], Taken::Help, ""),
     (&["help", "run"], Taken::Help, ""),
     (&["help", "run", "x", "y"], Taken::Help, ""),
@@ -153,8 +129,32 @@ fn words_are_taken(rt: HostRuntime) {
     }
 }
 
-/// The same for `weave` and its seed.
-const WEAVE_WORDS: &[(&[&str], Taken, &str)] = &[
+/// The same for the commands that make a schedule.
+const SCHEDULE_WORDS: &[(&[&str], Taken, &str)] = &[
+    (&["threads", "-"], Taken::Threads(10_000), "-"),
+    (&["threads", "--limit", "5", "x"], Taken::Threads(5), "x"),
+    (&["threads", "--limit=0", "x"], Taken::Threads(0), "x"),
+    (&["threads", "--limit", "+7", "x"], Taken::Threads(7), "x"),
+    (
+        &["threads", "x", "--limit", "100000"],
+        Taken::Threads(100_000),
+        "x",
+    ),
+    (&["threads", "--help"], Taken::Help, ""),
+    (&["view", "--limit", "5", "x"], Taken::Usage, ""),
+    (&["threads"], Taken::Usage, ""),
+    (&["threads", "--limit", "100001", "x"], Taken::Usage, ""),
+    (&["threads", "--limit", "-1", "x"], Taken::Usage, ""),
+    (&["threads", "--limit", "x", "x"], Taken::Usage, ""),
+    (&["threads", "x", "--limit"], Taken::Usage, ""),
+    (&["threads", "--limit=", "x"], Taken::Usage, ""),
+    (
+        &["threads", "--limit", "5", "--limit", "6", "x"],
+        Taken::Usage,
+        "",
+    ),
+    (&["threads", "--trace", "x"], Taken::Usage, ""),
+    (&["run", "--limit", "5", "x"], Taken::Usage, ""),
     (&["weave", "-"], Taken::Weave(0, 10_000), "-"),
     (&["weave", "--seed", "5", "x"], Taken::Weave(5, 10_000), "x"),
     (
@@ -196,8 +196,8 @@ const WEAVE_WORDS: &[(&[&str], Taken, &str)] = &[
 ];
 
 #[test]
-fn words_of_weave_are_taken(rt: HostRuntime) {
-    for (words, want, file) in WEAVE_WORDS {
+fn words_of_schedules_are_taken(rt: HostRuntime) {
+    for (words, want, file) in SCHEDULE_WORDS {
         expect_taken(&rt, words, *want, file);
     }
 }
