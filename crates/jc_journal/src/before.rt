@@ -1,20 +1,17 @@
 //! What is noted of a network before an event, since the event's line tells what came by it. `event` reads it.
 
-ghost use Rattle.std.specs.Prelude.{◌≡◌, ◌≤◌, [], Some, ℕ, List, IfOk, filter, length, map, take, slice_get};
+ghost use Rattle.std.specs.Prelude.{◌≡◌, ◌≤◌, Some, ℕ, List, IfOk, filter, length, map, take};
 ghost use Rattle.std.specs.List.{AllByRecursion};
 ghost use Rattle.jc_rules.specs.declared.operation.Op.{Op as AnyOp};
 ghost use Rattle.jc_rules.specs.declared.operation.Event.TheVariants as E;
-ghost use Rattle.jc_rules.specs.Step.{read_by};
-ghost use Rattle.jc_rules.specs.Ids.{without};
+ghost use Rattle.jc_rules.specs.Step.{read_by, replica_of};
 ghost use Rattle.jc_syntax.specs.Trees.{cmd_of};
 ghost use Rattle.jc_vectors.specs.StoredStates.{stored_op};
 ghost use Rattle.jc_replica.specs.Operations.{identifiers, AreInOrder};
 ghost use Rattle.jc_replica.specs.Received.{is_new};
-ghost use Rattle.jc_journal.specs.EventLine.{command_text};
-ghost use Rattle.jc_network.specs.Invariant.{IsFromStart};
 ghost use Rattle.jc_network.specs.Steps.{HasReplica};
-ghost use Rattle.jc_rules.specs.Step.{replica_of};
 ghost use Rattle.jc_journal.specs.Before.{Notes, IsNoted};
+ghost use Rattle.jc_journal.specs.EventLine.{command_text};
 ghost use Rattle.jc_journal.specs.Parts.{AreKnown, known_counter};
 
 use crate::lookup::has;

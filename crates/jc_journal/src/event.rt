@@ -1,9 +1,8 @@
 //! The line of an event that was made: the crate's main call.
 
-ghost use Rattle.std.specs.Prelude.{◌≡◌, ◌≤◌, ◌∷◌, [], ℕ, List, decimal, IfOk, OnOk, length, map, option_copied};
-ghost use Rattle.std.specs.Option.{option_map};
+ghost use Rattle.std.specs.Prelude.{◌≡◌, ◌≤◌, ◌∷◌, [], ℕ, List, decimal, IfOk, OnOk, length, option_copied};
 ghost use Rattle.json.specs.Token as T;
-ghost use Rattle.json.specs.Tree.{json_tokens, items_tokens};
+ghost use Rattle.json.specs.Tree.{items_tokens};
 ghost use Rattle.jc_rules.specs.declared.limits.TheConstants.{MAX_REPLICAS};
 ghost use Rattle.jc_rules.specs.declared.rule.Rule.{Rule as AnyRule};
 ghost use Rattle.jc_rules.specs.RuleNames.{rule_name};
@@ -28,7 +27,7 @@ use jc_tree::ArenaTree;
 use json::Writer;
 use std::alloc::{AllocError, Global};
 
-/// An event of a scenario.
+/// An event of a scenario, with its number.
 #[derive(Clone, Copy, PartialEq, Eq)]
 pub struct Scheduled {
     pub event: Event,

@@ -3,7 +3,7 @@
 ghost use Rattle.std.specs.Prelude.{◌≡◌, ◌≤◌, ◌∷◌, [], OnOk, length, codes};
 ghost use Rattle.json.specs.Json.{string};
 ghost use Rattle.json.specs.Token as T;
-ghost use Rattle.json.specs.Tree.{json_tokens, items_tokens};
+ghost use Rattle.json.specs.Tree.{json_tokens};
 ghost use Rattle.jc_rules.specs.declared.limits.TheConstants.{MAX_REPLICAS};
 ghost use Rattle.jc_json.specs.Json.{id_text, key_text, tagged_text};
 ghost use Rattle.jc_replica.specs.Operations.{identifiers};

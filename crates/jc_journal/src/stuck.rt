@@ -1,11 +1,10 @@
 //! The line of an event that is stuck: why it is, and for two refusals which replicas or operations would help.
 
-ghost use Rattle.std.specs.Prelude.{◌≡◌, ◌<◌, ◌∷◌, ◌&&◌, ◌||◌, [], not, Some, List, IfOk, OnOk, length, slice_get, codes};
+ghost use Rattle.std.specs.Prelude.{◌≡◌, ◌&&◌, ◌||◌, not, Some, IfOk, OnOk, slice_get};
 ghost use Rattle.json.specs.Json.{string};
 ghost use Rattle.json.specs.Tree.{json_tokens};
 ghost use Rattle.jc_rules.specs.declared.id.Id.{Id as AnyId};
 ghost use Rattle.jc_rules.specs.Ids.{AreRising, has_id};
-ghost use Rattle.jc_rules.specs.Refusals.{refusal_name};
 ghost use Rattle.jc_rules.specs.Refused.{Cause};
 ghost use Rattle.jc_rules.specs.State.{State};
 ghost use Rattle.jc_replica.specs.Operations.{identifiers};
@@ -13,7 +12,6 @@ ghost use Rattle.jc_network.specs.Steps.{stuck_for};
 ghost use Rattle.jc_dump.specs.Lines.{IsNamedStuck};
 ghost use Rattle.jc_view.specs.Parts.{Gains};
 ghost use Rattle.jc_journal.specs.Operation.{strings_json};
-ghost use Rattle.jc_journal.specs.EventLine.{members_line};
 ghost use Rattle.jc_journal.specs.StuckLine.{wanted_id, key_member, offering_from, offered_member, missing_ids, missing_member, stuck_event_line};
 ghost use Rattle.jc_journal.specs.Parts.{member_tokens, name_tokens, IsMissingOf, told_members};
 
