@@ -1,6 +1,7 @@
 -- About `Sentences`: a text stops once, at what fits nothing or past a limit.
 use Rattle.std.proofs.Common.{◌≡◌, ◌≢◌, ◌⊎◌, inl, inr, true, false, List, [], ◌∷◌, ◌++◌, Result, Err, refl, sym, ap, subst, ◌∙◌, append_assoc}
 use Rattle.std.proofs.lemmas.List.{append-nil}
+use Rattle.jc_rules.proofs.HistoryLemmas.{same_ends}
 use Rattle.jc_parser.specs.declared.fault.ScenarioFault.{ScenarioFault}
 use Rattle.jc_parser.specs.Symbols.{Symbol, dot, Lexeme, symbols}
 use Rattle.jc_parser.proofs.ReaderStateLemmas.{symbols-append, Language, Begun}
@@ -114,7 +115,7 @@ after_limit : {A R : Type 0} {L : Language A} {f : List Lexeme → Result R Scen
 after_limit {L} e ls before after c allowed s l parts = by_rest s.rest
   where
     by_dot : (symbols l.taken ≡ s.kept ++ dot ∷ []) ⊎ ((d : List Symbol) × (s.kept ≡ symbols l.taken ++ d)) → ⊥
-    by_dot (inl all) = let (others, last) = snoc l.others s.kept l.last dot (sym l.ends ∙ all) in l.no_dot last
+    by_dot (inl all) = let (others, last) = same_ends l.others s.kept l.last dot (sym l.ends ∙ all) in l.no_dot last
     by_dot (inr (d, less)) = limit_ends e ls d allowed l (subst (Begun (L true)) less s.within)
 
     by_rest : (symbols before ≡ s.kept) ⊎ (symbols before ≡ s.kept ++ dot ∷ []) → ⊥
