@@ -31,7 +31,7 @@ use Rattle.jc_network.specs.Steps.{HasReplica}
 use Rattle.jc_network.proofs.AppliedIdsLemmas.{kept_ids}
 use Rattle.jc_journal.specs.declared.before.Before.{Before}
 use Rattle.jc_journal.specs.declared.before.Before.TheVariants as V
-use Rattle.jc_journal.specs.Before.{Notes, IsNoted}
+use Rattle.jc_journal.specs.Before.{IsNotedOf, IsNoted}
 
 -- ---- new operations and their identifiers
 
@@ -178,7 +178,7 @@ found_tells i os (Some o) e = sym (there_found i os o.now (sym e))
 
 -- ---- what is noted of a stored state
 
-pub notes_kept : (event : Event) (A : State) (read : List Op) (before : Before) → Notes event (stored_state A) (map stored_op read) before → Notes event A read before
+pub notes_kept : (event : Event) (A : State) (read : List Op) (before : Before) → IsNotedOf event (stored_state A) (map stored_op read) before → IsNotedOf event A read before
 notes_kept (E.Exec p) A read (V.Exec command made) n = (n.0, n.1 ∙ length-map A.queue stored_op)
 notes_kept (E.Send p) A read (V.Send sent) n = n ∙ length-map A.send stored_op
 notes_kept (E.Recv p q) A read (V.Recv came) n =
@@ -201,13 +201,13 @@ none_read N q read l r = let none : None ≡ Some read = ap send_of (sym (slice_
 
 -- what is noted of the network
 pub noted_of : (event : Event) (N : List State) (past : Past) (before : Before) → IsFromStart N → HasReplica N (replica_of event) past
-    → ((read : List Op) → read_by event N ≡ Some read → Notes event past.now (map stored_op read) before)
+    → ((read : List Op) → read_by event N ≡ Some read → IsNotedOf event past.now (map stored_op read) before)
     → IsNoted event N before
 noted_of event N past before r has n = record {
   reached = r;
   notes = λ A read there reads.
       let same : past.now ≡ stored_state A = has.kept ∙ ap stored_state (same_Some has.at A (sym has.there ∙ there)) in
-      notes_kept event A read before (subst (λ (S : State). Notes event S (map stored_op read) before) same (n read reads));
+      notes_kept event A read before (subst (λ (S : State). IsNotedOf event S (map stored_op read) before) same (n read reads));
 }
 
 pub noted_nothing : (event : Event) (N : List State) → IsFromStart N → length N ≤ replica_of event → IsNoted event N V.Nothing

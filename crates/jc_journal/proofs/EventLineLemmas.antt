@@ -28,7 +28,7 @@ use Rattle.jc_journal.specs.declared.before.Before.{Before}
 use Rattle.jc_journal.specs.declared.before.Before.TheVariants as V
 use Rattle.jc_journal.specs.Operation.{NamedJson}
 use Rattle.jc_journal.specs.EventLine.{command_member, new_ids, new_member, event_op, op_member, line_members, members_line, event_line}
-use Rattle.jc_journal.specs.Before.{Notes, IsNoted}
+use Rattle.jc_journal.specs.Before.{IsNotedOf, IsNoted}
 use Rattle.jc_journal.specs.Parts.{noted_command, noted_new, noted_op, noted_members}
 use Rattle.jc_journal.proofs.OperationLemmas.{op_kept}
 use Rattle.jc_journal.proofs.BeforeLemmas.{none_new, above_absent, one_new, at_end, rest_new, rest_kept, both_new, found_kept}
@@ -42,7 +42,7 @@ record IsLineOf (names : List (List ℕ)) (event : Event) (A B : State) (before 
 
 module _ (names : List (List ℕ)) (A : State) (read : List Op) where
   -- a command that makes no operation
-  bound_line : (p : ℕ) (B : State) (before : Before) → B.queue ≡ A.queue → Notes (E.Exec p) A read before → IsLineOf names (E.Exec p) A B before
+  bound_line : (p : ℕ) (B : State) (before : Before) → B.queue ≡ A.queue → IsNotedOf (E.Exec p) A read before → IsLineOf names (E.Exec p) A B before
   bound_line p B (V.Exec command count) q n =
       let past : slice_get (map stored_op B.queue) count ≡ None =
       slice_get_past (map stored_op B.queue) count (let l = length-map B.queue stored_op in let m = ap length q in let k = n.1 in omega (arith, l, m, k)) in
@@ -57,7 +57,7 @@ module _ (names : List (List ℕ)) (A : State) (read : List Op) where
   bound_line p B V.Nothing q n = absurd n
 
   -- a command that makes the operation o
-  made_line : (p : ℕ) (B : State) (o : Op) (before : Before) → AreUpTo (greatest A.ops) A.queue → o.id.counter ≡ greatest A.ops + 1 → B.queue ≡ A.queue ++ o ∷ [] → Notes (E.Exec p) A read before → IsLineOf names (E.Exec p) A B before
+  made_line : (p : ℕ) (B : State) (o : Op) (before : Before) → AreUpTo (greatest A.ops) A.queue → o.id.counter ≡ greatest A.ops + 1 → B.queue ≡ A.queue ++ o ∷ [] → IsNotedOf (E.Exec p) A read before → IsLineOf names (E.Exec p) A B before
   made_line p B o (V.Exec command count) low c q n =
       let kept : slice_get (map stored_op B.queue) count ≡ Some (stored_op o) =
       slice_get-map stored_op B.queue count
@@ -73,7 +73,7 @@ module _ (names : List (List ℕ)) (A : State) (read : List Op) where
   made_line p B o (V.Recv came) low c q n = absurd n
   made_line p B o V.Nothing low c q n = absurd n
 
-  sent_line : (p : ℕ) (B : State) (before : Before) → OffersPrefix A → AreInOrder A.queue → B.send ≡ both A.send A.queue → Notes (E.Send p) A read before → IsLineOf names (E.Send p) A B before
+  sent_line : (p : ℕ) (B : State) (before : Before) → OffersPrefix A → AreInOrder A.queue → B.send ≡ both A.send A.queue → IsNotedOf (E.Send p) A read before → IsLineOf names (E.Send p) A B before
   sent_line p B (V.Exec command count) h o e n = absurd n
   sent_line p B (V.Send count) h o e n =
       let all : B.send ≡ A.send ++ h.rest = e ∙ all_sent A h o ∙ h.is in
@@ -88,7 +88,7 @@ module _ (names : List (List ℕ)) (A : State) (read : List Op) where
   sent_line p B (V.Recv came) h o e n = absurd n
   sent_line p B V.Nothing h o e n = absurd n
 
-  received_line : (p q : ℕ) (B : State) (before : Before) → AreInOrder A.recv → AreInOrder read → B.recv ≡ both A.recv read → Notes (E.Recv p q) A read before → IsLineOf names (E.Recv p q) A B before
+  received_line : (p q : ℕ) (B : State) (before : Before) → AreInOrder A.recv → AreInOrder read → B.recv ≡ both A.recv read → IsNotedOf (E.Recv p q) A read before → IsLineOf names (E.Recv p q) A B before
   received_line p q B (V.Exec command count) h o e n = absurd n
   received_line p q B (V.Send count) h o e n = absurd n
   received_line p q B (V.Recv came) h o e n =
@@ -97,7 +97,7 @@ module _ (names : List (List ℕ)) (A : State) (read : List Op) where
       record { command = refl; new = ap (λ (is : List Id). Some is) (n ∙ sym new); op = refl }
   received_line p q B V.Nothing h o e n = absurd n
 
-  took_line : (p q : ℕ) (i : Id) (B : State) (o : Op) (before : Before) → AreInOrder A.recv → o.id ≡ i → B.recv ≡ both A.recv (o ∷ []) → Notes (E.Take p q i) A read before → IsLineOf names (E.Take p q i) A B before
+  took_line : (p q : ℕ) (i : Id) (B : State) (o : Op) (before : Before) → AreInOrder A.recv → o.id ≡ i → B.recv ≡ both A.recv (o ∷ []) → IsNotedOf (E.Take p q i) A read before → IsLineOf names (E.Take p q i) A B before
   took_line p q i B o (V.Exec command count) h s e n = absurd n
   took_line p q i B o (V.Send count) h s e n = absurd n
   took_line p q i B o (V.Recv came) h s e n =
@@ -108,7 +108,7 @@ module _ (names : List (List ℕ)) (A : State) (read : List Op) where
       record { command = refl; new = ap (λ (is : List Id). Some is) (n ∙ sym new); op = refl }
   took_line p q i B o V.Nothing h s e n = absurd n
 
-  applied_line : (p : ℕ) (i : Id) (B : State) (o : Op) (before : Before) → op_of i A.recv ≡ Some o → B.recv ≡ A.recv → Notes (E.Apply p i) A read before → IsLineOf names (E.Apply p i) A B before
+  applied_line : (p : ℕ) (i : Id) (B : State) (o : Op) (before : Before) → op_of i A.recv ≡ Some o → B.recv ≡ A.recv → IsNotedOf (E.Apply p i) A read before → IsLineOf names (E.Apply p i) A B before
   applied_line p i B o (V.Exec command count) f e n = absurd n
   applied_line p i B o (V.Send count) f e n = absurd n
   applied_line p i B o (V.Recv came) f e n = absurd n
@@ -120,17 +120,17 @@ module _ (names : List (List ℕ)) (A : State) (read : List Op) where
         op = ap (op_member names) kept ∙ ap (λ j. (codes "op", j) ∷ []) (op_kept names o) ∙ sym (ap (op_member names) f);
       }
 
-  done_line : (p : ℕ) (B : State) (before : Before) → Notes (E.Done p) A read before → IsLineOf names (E.Done p) A B before
+  done_line : (p : ℕ) (B : State) (before : Before) → IsNotedOf (E.Done p) A read before → IsLineOf names (E.Done p) A B before
   done_line p B (V.Exec command count) n = absurd n
   done_line p B (V.Send count) n = absurd n
   done_line p B (V.Recv came) n = absurd n
   done_line p B V.Nothing n = record { command = refl; new = refl; op = refl }
 
   -- an event that is this one
-  as_event : (event other : Event) (B : State) (before : Before) → event ≡ other → (Notes other A read before → IsLineOf names other A B before) → Notes event A read before → IsLineOf names event A B before
-  as_event event other B before e f = subst (λ (x : Event). Notes x A read before → IsLineOf names x A B before) (sym e) f
+  as_event : (event other : Event) (B : State) (before : Before) → event ≡ other → (IsNotedOf other A read before → IsLineOf names other A B before) → IsNotedOf event A read before → IsLineOf names event A B before
+  as_event event other B before e f = subst (λ (x : Event). IsNotedOf x A read before → IsLineOf names x A B before) (sym e) f
 
-  did_line : (event : Event) (B : State) (before : Before) → AreUpTo (greatest A.ops) A.queue → IsOrdered A → OffersPrefix A → AreInOrder read → Did A event read B → Notes event A read before → IsLineOf names event A B before
+  did_line : (event : Event) (B : State) (before : Before) → AreUpTo (greatest A.ops) A.queue → IsOrdered A → OffersPrefix A → AreInOrder read → Did A event read B → IsNotedOf event A read before → IsLineOf names event A B before
   did_line event B before low o h r (bound p rest x e b is left s new) =
       as_event event (E.Exec p) B before is (bound_line p B before (ap (λ (S : State). S.queue) new))
   did_line event B before low o h r (made p rest c e cur m t is left s op new) =

@@ -13,14 +13,14 @@ use Rattle.jc_journal.specs.declared.before.Before.TheVariants as V
 use Rattle.jc_journal.specs.EventLine.{command_text}
 
 -- What is noted of the state of the event's replica, and of what the event reads.
-abbrev pub Notes : Event → State → List Op → Before → Type 0
-Notes (E.Exec p) A read (V.Exec command made) = (command ≡ command_text A.left) × (made ≡ length A.queue)
-Notes (E.Send p) A read (V.Send sent) = sent ≡ length A.send
-Notes (E.Recv p q) A read (V.Recv came) = came.items ≡ without (identifiers read) (identifiers A.recv)
-Notes (E.Take p q i) A read (V.Recv came) = came.items ≡ without (i ∷ []) (identifiers A.recv)
-Notes (E.Apply p i) A read V.Nothing = Unit {0}
-Notes (E.Done p) A read V.Nothing = Unit {0}
-Notes event A read before = ⊥
+abbrev pub IsNotedOf : Event → State → List Op → Before → Type 0
+IsNotedOf (E.Exec p) A read (V.Exec command made) = (command ≡ command_text A.left) × (made ≡ length A.queue)
+IsNotedOf (E.Send p) A read (V.Send sent) = sent ≡ length A.send
+IsNotedOf (E.Recv p q) A read (V.Recv came) = came.items ≡ without (identifiers read) (identifiers A.recv)
+IsNotedOf (E.Take p q i) A read (V.Recv came) = came.items ≡ without (i ∷ []) (identifiers A.recv)
+IsNotedOf (E.Apply p i) A read V.Nothing = Unit {0}
+IsNotedOf (E.Done p) A read V.Nothing = Unit {0}
+IsNotedOf event A read before = ⊥
 
 -- It is noted of the network, which was reached from a start. Of a replica that isn't there nothing is said.
 pub record IsNoted (event : Event) (network : List State) (before : Before) : Type 0 where
@@ -28,4 +28,4 @@ pub record IsNoted (event : Event) (network : List State) (before : Before) : Ty
   pub notes : (A : State) (read : List Op)
       → slice_get network (replica_of event) ≡ Some A
       → read_by event network ≡ Some read
-      → Notes event A read before
+      → IsNotedOf event A read before

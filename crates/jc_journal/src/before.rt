@@ -10,7 +10,7 @@ ghost use Rattle.jc_vectors.specs.StoredStates.{stored_op};
 ghost use Rattle.jc_replica.specs.Operations.{identifiers, AreInOrder};
 ghost use Rattle.jc_replica.specs.Received.{is_new};
 ghost use Rattle.jc_network.specs.Steps.{HasReplica};
-ghost use Rattle.jc_journal.specs.Before.{Notes, IsNoted};
+ghost use Rattle.jc_journal.specs.Before.{IsNotedOf, IsNoted};
 ghost use Rattle.jc_journal.specs.EventLine.{command_text};
 ghost use Rattle.jc_journal.specs.Parts.{AreKnown, known_counter};
 
@@ -99,7 +99,7 @@ fn known_of(replica: &Replica<ArenaTree>, from: u16) -> u64
 
 /// What is noted before a command.
 fn before_exec(alloc: Global, replica: &Replica<ArenaTree>) -> Result<Before, AllocError>
-    ensures { IfOk result (λ before. (p : ℕ) (read : List AnyOp) → Notes (E.Exec p) replica.now.now read before) }
+    ensures { IfOk result (λ before. (p : ℕ) (read : List AnyOp) → IsNotedOf (E.Exec p) replica.now.now read before) }
 {
     let command = command_text(alloc, replica.left())?;
     let made = replica.queue().len();
@@ -108,7 +108,7 @@ fn before_exec(alloc: Global, replica: &Replica<ArenaTree>) -> Result<Before, Al
 
 /// What is noted before operations are sent.
 fn before_send(replica: &Replica<ArenaTree>) -> Before
-    ensures { (p : ℕ) (read : List AnyOp) → Notes (E.Send p) replica.now.now read result }
+    ensures { (p : ℕ) (read : List AnyOp) → IsNotedOf (E.Send p) replica.now.now read result }
 {
     let sent = replica.sent().len();
     Before::Send { sent }
@@ -124,7 +124,7 @@ fn before_recv(
     requires order { AreInOrder offered.now }
     requires known { AreKnown (known_counter replica.now.number from replica.now.now.ops) replica.now.now.recv
         offered.now }
-    ensures { IfOk result (λ before. (p q : ℕ) → Notes (E.Recv p q) replica.now.now offered.now before) }
+    ensures { IfOk result (λ before. (p q : ℕ) → IsNotedOf (E.Recv p q) replica.now.now offered.now before) }
 {
     let known = known_of(replica, from);
     let came = came_of(alloc, offered, replica.received(), known)?;
@@ -134,7 +134,7 @@ fn before_recv(
 /// What is noted before one operation is received.
 fn before_take(alloc: Global, replica: &Replica<ArenaTree>, id: Id) -> Result<Before, AllocError>
     ensures { IfOk result (λ before. (p q : ℕ) (read : List AnyOp)
-        → Notes (E.Take p q id) replica.now.now read before) }
+        → IsNotedOf (E.Take p q id) replica.now.now read before) }
 {
     let mut came = Vec::new(alloc);
     if !has(replica.received(), id) {
@@ -153,7 +153,7 @@ fn before_event(
     requires { HasReplica net.now.network.states (replica_of event.now) replica.now }
     ensures { IfOk result (λ before. (read : List AnyOp)
         → read_by event.now net.now.network.states ≡ Some read
-        → Notes event.now replica.now.now (map stored_op read) before) }
+        → IsNotedOf event.now replica.now.now (map stored_op read) before) }
 {
     // For its contract: events have led to the network from a start.
     let _steps = net.steps();

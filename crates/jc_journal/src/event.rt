@@ -29,7 +29,7 @@ use std::alloc::{AllocError, Global};
 
 /// An event of a scenario, with its number.
 #[derive(Clone, Copy, PartialEq, Eq)]
-pub struct Scheduled {
+pub struct NumberedEvent {
     pub event: Event,
     /// Its number, from 1, in the schedule or among the given events.
     pub number: u64,
@@ -152,26 +152,26 @@ fn write_rules(rules: Option<&Trace>, out: &mut Writer) -> Result<(), AllocError
 fn write_members(
     alloc: Global,
     names: &[Text],
-    scheduled: &Scheduled,
+    numbered: &NumberedEvent,
     before: &Before,
     replica: &Replica<ArenaTree>,
     rules: Option<&Trace>,
     out: &mut Writer,
 ) -> Result<(), AllocError>
     requires few { length names.now ≤ MAX_REPLICAS }
-    requires named { AreNamed scheduled.now.event (length names.now) }
+    requires named { AreNamed numbered.now.event (length names.now) }
     ensures { OnOk result (Gains out.old out.new (member_tokens
-        (noted_members names.now scheduled.now.given scheduled.now.number scheduled.now.event (rows_of rules.entry)
+        (noted_members names.now numbered.now.given numbered.now.number numbered.now.event (rows_of rules.entry)
         before.now replica.now.now))) }
 {
-    let event = &scheduled.event;
+    let event = &numbered.event;
     write_command(before, out)?;
     write_event(alloc, names, event, out)?;
     write_sender(names, event, out)?;
-    write_given(scheduled.given, out)?;
+    write_given(numbered.given, out)?;
     write_kind(event, out)?;
     write_new(alloc, names, before, replica, out)?;
-    write_number(scheduled.number, out)?;
+    write_number(numbered.number, out)?;
     write_op_member(alloc, names, op_of(event, before, replica), out)?;
     write_replica(names, event, out)?;
     write_rules(rules, out)
@@ -181,19 +181,19 @@ fn write_members(
 fn line_of(
     alloc: Global,
     names: &[Text],
-    scheduled: &Scheduled,
+    numbered: &NumberedEvent,
     before: &Before,
     replica: &Replica<ArenaTree>,
     rules: Option<&Trace>,
 ) -> Result<Vec<u8>, AllocError>
     requires few { length names.now ≤ MAX_REPLICAS }
-    requires named { AreNamed scheduled.now.event (length names.now) }
+    requires named { AreNamed numbered.now.event (length names.now) }
     ensures { IfOk result (λ line. line.items ≡ members_line
-        (noted_members names.now scheduled.now.given scheduled.now.number scheduled.now.event (rows_of rules.entry)
+        (noted_members names.now numbered.now.given numbered.now.number numbered.now.event (rows_of rules.entry)
         before.now replica.now.now)) }
 {
     let mut out = begin_line(alloc)?;
-    write_members(alloc, names, scheduled, before, replica, rules, &mut out)?;
+    write_members(alloc, names, numbered, before, replica, rules, &mut out)?;
     end_line(out)
 }
 
@@ -202,21 +202,21 @@ fn line_of(
 pub fn event_line(
     alloc: Global,
     net: &Net,
-    scheduled: &Scheduled,
+    numbered: &NumberedEvent,
     before: &Before,
     rules: Option<&Trace>,
 ) -> Result<Vec<u8>, AllocError>
-    requires { AreNamed scheduled.now.event (length net.now.names) }
+    requires { AreNamed numbered.now.event (length net.now.names) }
     ensures { IfOk result (λ line.
         (old : AnyNetwork) (rows : List (AnyRule × ℕ))
-        → (made : StepIn old scheduled.now.event net.now.network rows)
-        → IsNoted scheduled.now.event old.states before.now
-        → line.items ≡ event_line net.now.names scheduled.now.given scheduled.now.number scheduled.now.event
+        → (made : StepIn old numbered.now.event net.now.network rows)
+        → IsNoted numbered.now.event old.states before.now
+        → line.items ≡ event_line net.now.names numbered.now.given numbered.now.number numbered.now.event
         (rows_of rules.entry) made.step.before made.step.after) }
 {
     let names = net.names();
-    let Some(replica) = net.replica(scheduled.event.replica()) else {
+    let Some(replica) = net.replica(numbered.event.replica()) else {
         unreachable!();
     };
-    line_of(alloc, names, scheduled, before, replica, rules)
+    line_of(alloc, names, numbered, before, replica, rules)
 }

@@ -10,5 +10,5 @@ mod operation;
 mod stuck;
 
 pub use before::Before;
-pub use event::{Scheduled, event_line};
+pub use event::{NumberedEvent, event_line};
 pub use stuck::stuck_line;

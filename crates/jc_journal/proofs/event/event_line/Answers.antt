@@ -10,7 +10,7 @@ use Rattle.jc_journal.proofs.event.event_line.Goals as goal
 pub returns : goal.returns
 returns c =
     let N = c.args.net.now.network.states in
-    let s = c.args.scheduled.now in
+    let s = c.args.numbered.now in
     let past = c.in-Some.replica.now in
     let has : HasReplica N (replica_of s.event) past = subst (λ (p : ℕ). HasReplica N p past) c.replica.ensures c.in-Some.ensures.some in
     IfOk-weaker c.line_of.result _ _

@@ -10,7 +10,7 @@ use Rattle.jc_journal.proofs.event.write_members.Goals as goal
 pub returns : goal.returns
 returns c =
     let names = c.args.names.now in
-    let s = c.args.scheduled.now in
+    let s = c.args.numbered.now in
     let before = c.args.before.now in
     let K = c.args.replica.now.now in
     let m1 : List NamedJson = noted_command before in
