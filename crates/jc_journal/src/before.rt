@@ -44,7 +44,7 @@ fn command_text(alloc: Global, left: &[Cmd]) -> Result<Text, AllocError>
     if let Some(command) = left.first() {
         push_cmd(&mut text, command)?;
     }
-    Ok(Text::new(text))
+    Text::new(alloc, text)
 }
 
 /// The number of operations whose counters are at most `known`.
