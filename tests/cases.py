@@ -50,6 +50,15 @@ def run(words, program, text="", shell=False, path=None):
     return subprocess.run(words, input=text.encode(), capture_output=True, shell=shell, env=environment, check=False)
 
 
+def place(path, text):
+    """Makes a command of this text.
+
+    A process of its own writes it: what another thread starts meanwhile would have the file open for a moment, and what
+    is open for writing can't be started.
+    """
+    subprocess.run(["sh", "-c", 'cat >"$1" && chmod 755 "$1"', "sh", path], input=text.encode(), check=True)
+
+
 @contextlib.contextmanager
 def folder_of(commands):
     """A folder with commands, each with the text of its script, for as long as it is used."""
@@ -57,9 +66,7 @@ def folder_of(commands):
         for name, text in commands.items():
             path = os.path.join(folder, name)
             os.makedirs(os.path.dirname(path), exist_ok=True)
-            with open(path, "w", encoding="utf-8") as file:
-                file.write(text)
-            os.chmod(path, 0o755)
+            place(path, text)
         yield folder
 
 

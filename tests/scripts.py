@@ -1,10 +1,9 @@
 """The scripts that call rt, tried with a command rt that is none: the launcher, ./more-edits and .ci/run."""
 
 import os
-import shutil
 import subprocess
 
-from cases import expect, expect_same, folder_of, stored
+from cases import expect, expect_same, folder_of, place, stored
 
 # A command rt for the launcher, which only tells its arguments, the files of a folder of cases, and its input.
 TELLING = """#!/bin/sh
@@ -93,7 +92,7 @@ def goes_on(_):
         (["jc_c"], 1, 0, "refused: jc_c\n", ["jc_a", "jc_c"]),
     ]
     with folder_of({"rt": REFUSING, "crates.txt": "", "HANDLES": "", **files}) as folder:
-        shutil.copy("more-edits", folder)
+        place(os.path.join(folder, "more-edits"), stored("more-edits"))
         for words, edits, status, output, recorded in steps:
             told = called(folder, ["./more-edits", *words], EDITS=str(edits))
             lines = stored(os.path.join(folder, "more-edits.txt")).splitlines()
@@ -108,7 +107,7 @@ def gate_case(gate, tests, status, output):
     def tried(_):
         ending = f"#!/bin/sh\necho {tests} failed\nexit {tests}\n"
         with folder_of({"rt": REFUSING, "test": ending, "more-edits": "#!/bin/sh\nexit 1\n", ".ci/run": ""}) as folder:
-            shutil.copy(".ci/run", os.path.join(folder, ".ci"))
+            place(os.path.join(folder, ".ci", "run"), stored(".ci/run"))
             told = called(folder, [".ci/run"], GATE=str(gate))
         expect(told.returncode == status and told.stdout.decode() == output, f"{told}")
         expect_same(told.stderr.decode(), "gate: rt ci took 0.0 processor minutes\n")
