@@ -5,7 +5,6 @@ the command line over the rules in Python, which gives the same texts.
 """
 
 import collections
-import json
 import os
 import re
 import subprocess
@@ -75,11 +74,6 @@ class Scenario:
             elif line.startswith("  "):
                 block.append(line[2:-1])
 
-    def past(self):
-        """The text of the scenario in which what is given here is the schedule, and nothing is given."""
-        front = self.text[:self.text.index("\ngiven {\n")]
-        return "\n".join([front, "given {", "}", "schedule {", *(f"  {event};" for event in self.given), "}", ""])
-
 
 EVENT = re.compile(r"(\w+)\.(exec|send|done|recv|take|apply)(?:\((?:([A-Za-z_]\w*), )?(?:(\d+), )?(\w+)\))?")
 
@@ -102,41 +96,3 @@ def session(text, lines):
     if status:
         stop(answers, status)
     return answers
-
-
-class Step:
-    """An event that is given or of the schedule: its number from 1, its text, the state of its replica before and after
-    it, and the line that says why it is stuck, where it is."""
-
-    def __init__(self, is_given, number, event, before, after, stuck):
-        self.is_given, self.number, self.event = is_given, number, event
-        self.before, self.after, self.stuck = before, after, stuck
-
-
-def steps_of(text, names, events, is_given):
-    """The events, which are the schedule of the text, up to the first that is stuck, each as a step."""
-    asked = ["state"]
-    for event in events:
-        asked += ["step", "state " + parts_of(event).replica]
-    answers = iter(session(text, asked).split("\n"))
-    states = {}
-    for name in names:
-        states[name] = json.loads(next(answers))
-    for number, event in enumerate(events, 1):
-        name = parts_of(event).replica
-        stuck = next(answers) if next(answers) != f"at {number}" else None
-        after = json.loads(next(answers))
-        yield Step(is_given, number, event, states[name], after, stuck)
-        if stuck:
-            return
-        states[name] = after
-
-
-def steps(scenario):
-    """The given events and those of the schedule, up to the first that is stuck, each as a step."""
-    step = None
-    if scenario.given:
-        for step in steps_of(scenario.past(), scenario.scripts, scenario.given, True):
-            yield step
-    if not step or not step.stuck:
-        yield from steps_of(scenario.text, scenario.scripts, scenario.events, False)
