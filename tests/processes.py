@@ -21,6 +21,10 @@ RECORDED = 'jsoncrdt 1\nreplica a {\n  doc.get("a") := 1;\n}\nschedule {\n  a.ex
 BEGUN = 'jsoncrdt 2 replica a { doc.get("a") := 1; doc.get("a") := 2 } given {a.exec} schedule {a.send}'
 RECORDED_TWO = ('jsoncrdt 2\nreplica a {\n  doc.get("a") := 1;\n  doc.get("a") := 2;\n}\ngiven {\n  a.exec;\n}\nschedule {\n'
                 '  a.exec;\n}\n')
+JOURNAL = ('{"command":"doc.get(\\"a\\") := 1","event":"a.exec","kind":"exec","number":1,"op":{"cursor":["mapT(doc)","\\"a\\""],'
+           '"deps":{},"id":"1@a","mutation":"assign","value":{"n":"1"}},"replica":"a"}\n')
+JOURNAL_STUCK = ('{"event":"a.send","given":true,"kind":"send","new":[],"number":1,"replica":"a"}\n'
+                 '{"cause":"AtYield","event":"a.exec","given":true,"kind":"exec","number":2,"replica":"a","stuck":31}\n')
 UNBEGUN = "jsoncrdt 1\nreplica a {\n  let s = doc.keys;\n}\nschedule {\n}\n"
 # The most events that there may be, and one replica that sends at each.
 FULL = "jsoncrdt 1 replica a {yield} schedule {" + "a.send;" * 100_000 + "}"
@@ -42,6 +46,8 @@ Row = collections.namedtuple("Row", "words file input status out err shell limit
 ROWS = [
     Row("run FILE", ONE, "", 0, DUMP, ""),
     Row("run -", "", ONE, 0, DUMP, ""),
+    Row("journal FILE", ONE, "", 0, JOURNAL, ""),
+    Row("journal -", "", ONE, 0, JOURNAL, ""),
     Row("check FILE", "jsoncrdt 2", "", 1, "refused 16 NoReplica at 10\n", ""),
     Row("check FILE", "jsoncrdt 3", "", 1, "refused 14 NoHeader at 9\n", ""),
     Row("debug FILE", "", "step\n", 1, "refused 14 NoHeader at 0\n", ""),
@@ -52,6 +58,7 @@ ROWS = [
     # A given event that is stuck: the lines of a session aren't read.
     Row("run FILE", STUCK_BEFORE, "", 3, GIVEN_STUCK, ""),
     Row("view FILE", STUCK_BEFORE, "", 3, GIVEN_STUCK, ""),
+    Row("journal FILE", STUCK_BEFORE, "", 3, JOURNAL_STUCK, ""),
     Row("debug FILE", STUCK_BEFORE, "where\n", 3, GIVEN_STUCK, ""),
     Row("check FILE", STUCK_BEFORE, "", 0, "replicas 1 commands 1 given 2 events 0\n", ""),
     Row("debug FILE", STUCK_BEFORE, "where\n", 4, "", "write failed\n", ">/dev/full"),
@@ -66,6 +73,8 @@ ROWS = [
     # A standard output that is full, or closed.
     Row("run FILE", ONE, "", 4, "", "write failed\n", ">/dev/full"),
     Row("check FILE", "", "", 4, "", "write failed\n", ">/dev/full"),
+    Row("journal FILE", ONE, "", 4, "", "write failed\n", ">/dev/full"),
+    Row("journal /", "", "", 4, "", "read failed\n"),
     Row("debug FILE", ONE, "where\n", 4, "", "write failed\n", ">/dev/full"),
     Row("run FILE", ONE, "", 4, "", "write failed\n", ">&-"),
     # A standard error that is full, or closed, changes no status.
