@@ -90,6 +90,13 @@ const ROWS: &[Row] = &[
         status: 0,
     },
     Row {
+        words: &["journal", "file"],
+        file: "jsoncrdt 2 replica p { doc.get(\"a\") := \"x\"; doc.get(\"b\") := \"y\"; yield } replica q { yield } given { p.exec; p.exec; p.send } schedule { q.recv(p); q.apply(2, p) }",
+        input: "",
+        shown: "{\"command\":\"doc.get(\\\"a\\\") := \\\"x\\\"\",\"event\":\"p.exec\",\"given\":true,\"kind\":\"exec\",\"number\":1,\"op\":{\"cursor\":[\"mapT(doc)\",\"\\\"a\\\"\"],\"deps\":{},\"id\":\"1@p\",\"mutation\":\"assign\",\"value\":\"x\"},\"replica\":\"p\"}\n{\"command\":\"doc.get(\\\"b\\\") := \\\"y\\\"\",\"event\":\"p.exec\",\"given\":true,\"kind\":\"exec\",\"number\":2,\"op\":{\"cursor\":[\"mapT(doc)\",\"\\\"b\\\"\"],\"deps\":{\"p\":1},\"id\":\"2@p\",\"mutation\":\"assign\",\"value\":\"y\"},\"replica\":\"p\"}\n{\"event\":\"p.send\",\"given\":true,\"kind\":\"send\",\"new\":[\"1@p\",\"2@p\"],\"number\":3,\"replica\":\"p\"}\n{\"event\":\"q.recv(p)\",\"from\":\"p\",\"kind\":\"recv\",\"new\":[\"1@p\",\"2@p\"],\"number\":1,\"replica\":\"q\"}\n{\"cause\":\"DepsMissing\",\"event\":\"q.apply(2, p)\",\"kind\":\"apply\",\"missing\":[\"1@p\"],\"number\":2,\"replica\":\"q\",\"stuck\":36}\n",
+        status: 3,
+    },
+    Row {
         words: &["print", "-"],
         file: "",
         input: WORDS,
