@@ -106,7 +106,7 @@ impl Net {
         requires new { self.old.earlier ≡ [] }
         requires short { length given.now ≤ MAX_EVENTS }
         ensures led { OnOk result (AfterIn self.old.network given.now self.new.network) }
-        ensures names { OnOk result (self.new.names ≡ self.old.names) }
+        ensures names { self.new.names ≡ self.old.names }
         ensures stuck { (at : ℕ) (s : AnyStuck) → IsErrOf result (S.Given at s)
             → IsGivenFault self.old.network given.now at s }
     {

@@ -1,9 +1,8 @@
 //! The replicas of a network at the start of its scenario.
 
-ghost use Rattle.std.specs.Prelude.{◌≡◌, ◌≤◌, ◌+◌, length, IfOk};
-ghost use Rattle.std.specs.List.{AllByRecursion};
-ghost use Rattle.jc_rules.specs.declared.limits.TheConstants.{MAX_COMMANDS, MAX_REPLICAS};
+ghost use Rattle.std.specs.Prelude.{◌≡◌, IfOk};
 ghost use Rattle.jc_scenario.specs.Views.{scripts_view};
+ghost use Rattle.jc_network.specs.Refines.{AreShort};
 ghost use Rattle.jc_network.specs.Start.{pasts_from};
 
 use jc_replica::Replica;
@@ -16,8 +15,7 @@ pub(crate) fn replicas_of(
     alloc: Global,
     scripts: Vec<Vec<Cmd>>,
 ) -> Result<Vec<Replica<ArenaTree>>, AllocError>
-    requires many { length scripts.items ≤ MAX_REPLICAS }
-    requires short { AllByRecursion (λ s. length s ≤ MAX_COMMANDS) (scripts_view scripts.items) }
+    requires { AreShort (scripts_view scripts.items) }
     ensures { IfOk result (λ replicas. replicas.items ≡ pasts_from 0 (scripts_view scripts.items)) }
 {
     let mut replicas = Vec::new(alloc);
