@@ -34,8 +34,8 @@ has_parts s h =
     record { each = each; short = short_scripts s.scripts (omega (arith, each, few)) h.formed }
 
 -- where its given events have led, it begins
-pub has_started : (s : Scenario) (first now begun : Course) → IsBeforeGiven s.version s.names s.scripts first → AfterIn first.network s.given now.network → now.names ≡ first.names → begun ≡ record now { earlier = [] } → IsStarted s begun
-has_started s first now begun before led names is =
+pub has_started : (s : Scenario) (first now last : Course) → IsBeforeGiven s.version s.names s.scripts first → AfterIn first.network s.given now.network → now.names ≡ first.names → last ≡ record now { earlier = [] } → IsStarted s last
+has_started s first now last before led names is =
     subst (IsStarted s) (sym is)
     (record {
       names = names ∙ before.called;

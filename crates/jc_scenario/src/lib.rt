@@ -9,7 +9,6 @@ mod reading;
 mod scenario;
 
 pub use jc_parser::ScenarioFault;
-pub use jc_syntax::copy_script;
 pub use names::{UnknownReplica, resolve};
 pub use printing::print;
 pub use reading::read;
