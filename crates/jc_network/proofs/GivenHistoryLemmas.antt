@@ -34,18 +34,19 @@ has_parts s h =
     record { each = each; short = short_scripts s.scripts (omega (arith, each, few)) h.formed }
 
 -- where its given events have led, it begins
-pub has_started : (s : Scenario) (first now last : Course) → IsBeforeGiven s.version s.names s.scripts first → AfterIn first.network s.given now.network → now.names ≡ first.names → last ≡ record now { earlier = [] } → IsStarted s last
-has_started s first now last before led names is =
+pub has_started : (s : Scenario) (first now last : Course) (given : List Event) → IsBeforeGiven s.version s.names s.scripts first → given ≡ s.given → AfterIn first.network given now.network → now.names ≡ first.names → last ≡ record now { earlier = [] } → IsStarted s last
+has_started s first now last given before all led names is =
     subst (IsStarted s) (sym is)
     (record {
       names = names ∙ before.called;
-      start = subst (λ (N : Network). AfterIn N s.given now.network) before.network led;
+      start = subst (λ (N : Network). AfterIn N s.given now.network) before.network (subst (λ (es : List Event). AfterIn first.network es now.network) all led);
       earlier = refl;
     })
 
 -- or one of them is the first that is stuck
-pub has_stuck : (s : Scenario) (first : Course) (at : ℕ) (t : Stuck) → IsBeforeGiven s.version s.names s.scripts first → IsGivenFault first.network s.given at t → IsGivenFault (before_given s) s.given at t
-has_stuck s first at t before h = subst (λ (N : Network). IsGivenFault N s.given at t) before.network h
+pub has_stuck : (s : Scenario) (first : Course) (given : List Event) (at : ℕ) (t : Stuck) → IsBeforeGiven s.version s.names s.scripts first → given ≡ s.given → IsGivenFault first.network given at t → IsGivenFault (before_given s) s.given at t
+has_stuck s first given at t before all h =
+    subst (λ (N : Network). IsGivenFault N s.given at t) before.network (subst (λ (es : List Event). IsGivenFault first.network es at t) all h)
 
 -- ---- the start of a scenario
 
