@@ -99,7 +99,7 @@ returns-in-Err-Given-clause-ok g c =
     let names : c.names.result.now ≡ s.names = c.names.ensures.names ∙ (c.lead.ensures.names ∙ c.in_ok-net.ensures.called) in
     IfOk-weaker c.send_given.result _
     (λ status. Written (λ text. Shows (Document c.args.events) s text status) o p)
-    (λ status h. let w = given_written s w.at w.stuck stuck c.names.result.now status o p names h in (w.0, inr w.1, w.2)) c.send_given.ensures.ok
+    (λ status h. (let x = given_written s w.at w.stuck stuck c.names.result.now status o p names h in (x.0, inr x.1, x.2))) c.send_given.ensures.ok
 
 pub returns-in-Err-Given-clause-memory : goal.returns-in-Err-Given-clause-memory
 returns-in-Err-Given-clause-memory g c = λ k. unstarted false (scenario_view c.args.scenario) (take c.args.events (scenario_view c.args.scenario).schedule) (views_text (scenario_view c.args.scenario).names) (sink g.K.Sink c.args.out.now) (sink g.K.Sink c.send_given.new.out) (ap (sink g.K.Sink) (c.send_given.ensures.memory k))
