@@ -233,6 +233,39 @@ impl TreeStore for PlainTree {
         self.put_value(at, key, id, value)
     }
 
+    fn keys_at(
+        &self,
+        alloc: Global,
+        place: Place,
+        at: &[Tagged],
+    ) -> Result<Vec<(&Key, Hint)>, AllocError> {
+        self.root.node_at(at).keys_in_order(alloc)
+    }
+
+    fn map_by(&self, place: Place, at: &[Tagged], key: &Key, hint: Hint) -> Option<Place> {
+        let has = self.root.node_at(at).has_map(key);
+        has.then_some(Place { number: 0 })
+    }
+
+    fn list_by(&self, place: Place, at: &[Tagged], key: &Key, hint: Hint) -> Option<Place> {
+        let has = self.root.node_at(at).has_list(key);
+        has.then_some(Place { number: 0 })
+    }
+
+    fn register_by(
+        &self,
+        place: Place,
+        at: &[Tagged],
+        key: &Key,
+        hint: Hint,
+    ) -> Option<&[(Id, Value)]> {
+        self.register(at, key)
+    }
+
+    fn presence_by(&self, place: Place, at: &[Tagged], key: &Key, hint: Hint) -> Option<&[Id]> {
+        self.presence(at, key)
+    }
+
     #[tactic(auto, using(crate::proofs::UndoLemmas::length_contents))]
     fn mark(&self) -> Mark {
         Mark {
