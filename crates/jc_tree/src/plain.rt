@@ -243,13 +243,19 @@ impl TreeStore for PlainTree {
     }
 
     fn map_by(&self, place: Place, at: &[Tagged], key: &Key, hint: Hint) -> Option<Place> {
-        let has = self.root.node_at(at).has_map(key);
-        has.then_some(Place { number: 0 })
+        if self.root.node_at(at).has_map(key) {
+            Some(Place { number: 0 })
+        } else {
+            None
+        }
     }
 
     fn list_by(&self, place: Place, at: &[Tagged], key: &Key, hint: Hint) -> Option<Place> {
-        let has = self.root.node_at(at).has_list(key);
-        has.then_some(Place { number: 0 })
+        if self.root.node_at(at).has_list(key) {
+            Some(Place { number: 0 })
+        } else {
+            None
+        }
     }
 
     fn register_by(
