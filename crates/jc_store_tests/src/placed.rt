@@ -282,6 +282,71 @@ impl<S: TreeStore> Placed<S> {
         true
     }
 
+    /// Whether the key's presence set and register are as the other calls say, wherever the store looks first.
+    pub fn reads_alike(&self, key: &Key) -> bool {
+        let at = self.at.as_slice();
+        let Some(place) = name_of(&self.store, at) else {
+            return false;
+        };
+        let ids = self.store.presence(at, key);
+        let pairs = self.store.register(at, key);
+        for number in HINTS {
+            let hint = Hint { number };
+            if self.store.presence_by(place, at, key, hint) != ids
+                || self.store.register_by(place, at, key, hint) != pairs
+            {
+                return false;
+            }
+        }
+        true
+    }
+
+    /// The name of the map or the list, where the store looks first at the hint.
+    fn child_by(&self, place: Place, child: &Tagged, hint: Hint) -> Option<Place>
+        requires there { HasPlace self.now.at.items (S.tree self.now.store) }
+        requires named { S.names self.now.store place self.now.at.items }
+    {
+        let at = self.at.as_slice();
+        match child {
+            Tagged::MapT(key) => self.store.map_by(place, at, key, hint),
+            Tagged::ListT(key) => self.store.list_by(place, at, key, hint),
+            Tagged::RegT(_) => None,
+        }
+    }
+
+    /// Whether the child has the name that it has by its tagged key, wherever the store looks first.
+    pub fn is_named_alike(&self, child: &Tagged) -> bool {
+        let at = self.at.as_slice();
+        let Some(place) = name_of(&self.store, at) else {
+            return false;
+        };
+        let name = self.store.below(place, at, child);
+        for number in HINTS {
+            if self.child_by(place, child, Hint { number }) != name {
+                return false;
+            }
+        }
+        true
+    }
+
+    /// Whether the keys that are lent are these, in this order.
+    fn lends(&self, keys: &Keys, want: &[At]) -> Result<bool, AllocError> {
+        let at = self.at.as_slice();
+        let Some(place) = name_of(&self.store, at) else {
+            return Ok(false);
+        };
+        let lent = self.store.keys_at(keys.alloc, place, at)?;
+        if lent.len() != want.len() {
+            return Ok(false);
+        }
+        for ((key, _), at) in lent.iter().zip(want) {
+            if *key != keys.key(*at) {
+                return Ok(false);
+            }
+        }
+        Ok(true)
+    }
+
     /// The least key of the kind above the given one.
     pub fn after(&self, of: Kind, above: Option<&Key>) -> Option<&Key> {
         let at = self.at.as_slice();
@@ -313,7 +378,8 @@ impl<S: TreeStore> Placed<S> {
             return Ok(false);
         }
         let want = values_of(keys.alloc, values)?;
-        Ok(self.store.register(at, keys.key(key)) == Some(want.as_slice()))
+        let key = keys.key(key);
+        Ok(self.store.register(at, key) == Some(want.as_slice()) && self.reads_alike(key))
     }
 
     fn shows(&self, keys: &Keys, step: &Step) -> bool {
@@ -323,8 +389,14 @@ impl<S: TreeStore> Placed<S> {
         }
         match step {
             Step::HasChild(tag, key, want) => self.has(keys.child(*tag, *key)) == *want,
-            Step::HasBelow(tag, key, want) => self.has_below(keys.child(*tag, *key)) == *want,
-            Step::Ids(key, want) => self.store.presence(at, keys.key(*key)) == *want,
+            Step::HasBelow(tag, key, want) => {
+                let child = keys.child(*tag, *key);
+                self.has_below(child) == *want && self.is_named_alike(child)
+            }
+            Step::Ids(key, want) => {
+                let key = keys.key(*key);
+                self.store.presence(at, key) == *want && self.reads_alike(key)
+            }
             Step::CountPresent(want) => self.store.count_present(at) == *want,
             Step::Next(key, want) => {
                 self.store.next(at, keys.key(*key)) == *want && self.steps_alike(keys.key(*key))
@@ -340,6 +412,7 @@ impl<S: TreeStore> Placed<S> {
     pub fn sees(&self, keys: &Keys, step: &Step) -> Result<bool, AllocError> {
         match step {
             Step::Values(key, Some(values)) => self.has_values(keys, *key, *values),
+            Step::Lent(want) => self.lends(keys, want),
             _ => Ok(self.shows(keys, step)),
         }
     }

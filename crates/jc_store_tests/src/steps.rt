@@ -43,6 +43,8 @@ pub enum Step<'a> {
     Values(At, Option<Values>),
     /// The keys of a kind, from the least to the greatest.
     Keys(Kind, &'a [At]),
+    /// The keys that are lent, by the name of the place.
+    Lent(&'a [At]),
     /// How many changes there are since the marks were last forgotten.
     Changes(usize),
 }

@@ -99,6 +99,38 @@ const LINK_KEYS: &[Step] = &[
     Step::Keys(Kind::Link, &[At::Head, At::First]),
 ];
 
+/// Each kind of entry under a key of its own, the greatest key first, and two under one.
+const LENT: &[Step] = &[
+    Step::Lent(&[]),
+    Step::Make(Tag::List, At::Second),
+    Step::PutIds(At::First, Set::Empty),
+    Step::PutValues(At::A1, Values::Nothing),
+    Step::Make(Tag::Map, At::A),
+    Step::Link(At::Head, Next::Elem(FIRST)),
+    Step::Lent(&[At::Head, At::A, At::A1, At::First, At::Second]),
+    Step::PutIds(At::A, Set::Both),
+    Step::PutIds(At::Doc, Set::First),
+    Step::Lent(&[
+        At::Doc,
+        At::Head,
+        At::A,
+        At::A1,
+        At::First,
+        At::Second,
+    ]),
+    Step::Ids(At::A, Some(&[FIRST, SECOND])),
+    Step::Ids(At::First, Some(&[])),
+    Step::Ids(At::Second, None),
+    Step::Values(At::A1, Some(Values::Nothing)),
+    Step::HasBelow(Tag::Map, At::A, true),
+    Step::HasBelow(Tag::List, At::A, false),
+    Step::HasBelow(Tag::List, At::Second, true),
+    Step::HasBelow(Tag::Map, At::Second, false),
+    Step::Back(3),
+    Step::Lent(&[At::A, At::A1, At::First, At::Second]),
+    Step::Ids(At::A, None),
+];
+
 /// Sets that get their first identifier and lose their last one, forwards and back.
 const COUNTED: &[Step] = &[
     Step::CountPresent(0),
@@ -248,6 +280,7 @@ const TABLES: &[(&str, &[Step])] = &[
     ("keys of children", CHILD_KEYS),
     ("keys of presences", PRESENCE_KEYS),
     ("keys of links", LINK_KEYS),
+    ("lent", LENT),
     ("counted", COUNTED),
     ("marks", MARKS),
     ("replaced", REPLACED),

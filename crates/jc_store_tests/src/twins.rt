@@ -56,6 +56,8 @@ impl Twins {
     fn is_same_child(&self, child: &Tagged) -> bool {
         self.plain.has(child) == self.arena.has(child)
             && self.plain.has_below(child) == self.arena.has_below(child)
+            && self.plain.is_named_alike(child)
+            && self.arena.is_named_alike(child)
     }
 
     fn is_same_under(&self, keys: &Keys, at: At) -> bool {
@@ -69,6 +71,8 @@ impl Twins {
             && self.is_same_after(key)
             && self.plain.steps_alike(key)
             && self.arena.steps_alike(key)
+            && self.plain.reads_alike(key)
+            && self.arena.reads_alike(key)
     }
 
     /// Whether the same is at the place.

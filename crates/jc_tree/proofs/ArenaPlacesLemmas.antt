@@ -57,6 +57,10 @@ child_is g n (RegT k) = ap (λ o. is_some o) (no_node k (with_children g n))
 pub below_some : (ns : List Flat) (at : List Tagged) (i : ℕ) (t : Tagged) (x : Flat) (o : Option ℕ) → IsGood ns → walk ns 0 at ≡ Some i → x ≡ flat_at ns i → o ≡ child_number t x → is_some o ≡ is_some (node_in (content t (context_at at (content_of_arena ns))))
 below_some ns at i t x o g path e h = read_at (λ d. is_some (node_in (content t d))) (λ n. is_some (child_number t n)) ns at i x (is_some o) g path (place_inside ns at i g path) e (λ f n. child_is f n t) (ap (λ u. is_some u) h)
 
+-- under a map's or a list's tagged key it is all that is there
+pub child_some : (ns : List Flat) (at : List Tagged) (i : ℕ) (t : Tagged) (x : Flat) (o : Option ℕ) → IsGood ns → walk ns 0 at ≡ Some i → x ≡ flat_at ns i → HasContext t → o ≡ child_number t x → is_some o ≡ is_some (content t (context_at at (content_of_arena ns)))
+child_some ns at i t x o g path e k h = below_some ns at i t x o g path e h ∙ some_content t (context_at at (content_of_arena ns)) k
+
 pub below_named : (ns : List Flat) (at : List Tagged) (i : ℕ) (t : Tagged) (x : Flat) (o : Option ℕ) → IsGood ns → walk ns 0 at ≡ Some i → x ≡ flat_at ns i → o ≡ child_number t x → walk ns 0 (at ++ t ∷ []) ≡ o
 below_named ns at i t x o g path e h = further_down ns at 0 i t path ∙ ap (λ n. child_number t n) (sym e) ∙ sym h
 

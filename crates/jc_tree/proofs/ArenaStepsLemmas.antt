@@ -12,8 +12,8 @@ use Rattle.jc_rules.specs.Ids.{has_id}
 use Rattle.jc_rules.specs.Paths.{HasContext}
 use Rattle.jc_rules.specs.ContextsAt.{node_at, context_at}
 use Rattle.jc_rules.proofs.ContextsAtLemmas.{listed_children}
-use Rattle.jc_tree.specs.Tree.{least_after}
-use Rattle.jc_tree.specs.Arena.{Flat, blank, flat_at, filled_all, with_children, content_of_arena, child_number, is_in, go_on, walk}
+use Rattle.jc_tree.specs.Tree.{least_after, all_keys}
+use Rattle.jc_tree.specs.Arena.{Flat, flat_keys, blank, flat_at, filled_all, with_children, content_of_arena, child_number, is_in, go_on, walk}
 use Rattle.jc_tree.specs.ArenaUndo.{IsGood}
 use Rattle.jc_tree.specs.Undo.{was_there, former_of_id, former_of_value}
 use Rattle.jc_tree.specs.declared.node.Former.TheVariants as F
@@ -67,6 +67,10 @@ keys_filled g n = rw (listed_children (filled_all g n.maps), listed_children (fi
     same : (es : List (Key × ℕ)) → keys_of (filled_all g es) ≡ keys_of es
     same [] = refl
     same (e ∷ es) = ap (λ ks. e.0 ∷ ks) (same es)
+
+-- the keys under which something stands, likewise
+pub all_filled : (g : ℕ → Context) (n : Flat) → all_keys (with_children g n) ≡ flat_keys n
+all_filled g n = ap (λ ks. ks ++ keys_of n.presences ++ keys_of n.links) (keys_filled g n)
 
 -- the least key with a tag, kind by kind
 pub least_by_kind : (m l : List (Key × ℕ)) (r : List (Key × Register)) (k : Option Key) → least_after k (keys_of m ++ keys_of l ++ keys_of r) ≡ least_of (least_of (least_after k (keys_of m)) (least_after k (keys_of l))) (least_after k (keys_of r))

@@ -26,5 +26,6 @@ pub mod ShownLeastLemmas
 pub mod NumberedLemmas
 pub mod ColumnLemmas
 pub mod TablesLemmas
+pub mod LentLemmas
 pub mod FlagsLemmas
 pub mod ArenaNodeLemmas

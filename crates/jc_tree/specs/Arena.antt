@@ -1,5 +1,5 @@
 -- Contexts as numbered nodes in one list, and which such lists are sound: the fast store's words for its content.
-use Rattle.std.specs.Prelude.{◌≡◌, ℕ, zero, suc, ◌<◌, List, [], ◌∷◌, length, Bool, Option, Some, None, is_some, get_or}
+use Rattle.std.specs.Prelude.{◌≡◌, ℕ, zero, suc, ◌<◌, List, [], ◌∷◌, ◌++◌, length, Bool, Option, Some, None, is_some, get_or}
 use Rattle.jc_rules.specs.declared.id.Id.{Id}
 use Rattle.jc_rules.specs.declared.key.Key.{Key}
 use Rattle.jc_rules.specs.declared.key.Key.TheVariants.{Head}
@@ -8,7 +8,7 @@ use Rattle.jc_rules.specs.declared.key.Next.TheVariants.{Tail}
 use Rattle.jc_rules.specs.declared.key.Tagged.{Tagged}
 use Rattle.jc_rules.specs.declared.key.Tagged.TheVariants.{MapT, ListT, RegT}
 use Rattle.jc_rules.specs.Order.{id_cmp, key_cmp}
-use Rattle.jc_rules.specs.Entries.{find, put}
+use Rattle.jc_rules.specs.Entries.{find, put, keys_of}
 use Rattle.jc_rules.specs.Ids.{with_id}
 use Rattle.jc_rules.specs.Context.{Context, context, children, Register, empty}
 use Rattle.jc_tree.specs.Tree.{or_no_entries}
@@ -26,6 +26,10 @@ pub record Flat : Type 0 where
   pub registers : List (Key × Register)
   pub presences : List (Key × List Id)
   pub links : List (Key × Next)
+
+-- the keys under which something stands in a node
+abbrev pub flat_keys : Flat → List Key
+flat_keys n = keys_of n.maps ++ keys_of n.lists ++ keys_of n.registers ++ keys_of n.presences ++ keys_of n.links
 
 -- the node of a new map
 abbrev pub blank : Flat

@@ -1,11 +1,13 @@
 -- What a store contains, and its changes: the contracts of `TreeStore` and of all rules over it are in these words.
-use Rattle.std.specs.Prelude.{◌≡◌, ◌≢◌, ℕ, List, [], ◌∷◌, ◌++◌, Option, Some, None, Bool, true, false, filter, count_by}
+use Rattle.std.specs.Prelude.{◌≡◌, ◌≢◌, ℕ, List, [], ◌∷◌, ◌++◌, map, Option, Some, None, Bool, true, false, filter, count_by}
+use Rattle.std.specs.Borrow.{Bor}
 use Rattle.std.specs.Ordering.{is_lt}
 use Rattle.jc_rules.specs.declared.id.Id.{Id}
 use Rattle.jc_rules.specs.declared.key.Key.{Key}
 use Rattle.jc_rules.specs.declared.key.Tagged.{Tagged}
 use Rattle.jc_rules.specs.Order.{key_cmp}
-use Rattle.jc_rules.specs.Context.{Context}
+use Rattle.jc_rules.specs.Entries.{keys_of}
+use Rattle.jc_rules.specs.Context.{Context, keys, presences, links}
 use Rattle.jc_rules.specs.ContextsAt.{node_at, with_node_at, context_at}
 use Rattle.jc_rules.specs.History.{history}
 use Rattle.jc_rules.specs.Table.{least}
@@ -65,3 +67,11 @@ has_ids (i ∷ is) = true
 -- how many of these keys have a presence set with an identifier
 abbrev pub count_present : List (Key × List Id) → ℕ
 count_present es = count_by (λ e. has_ids e.1) es
+
+-- the keys under which something stands in the context: a child, a register, a presence set, or what follows in a list
+abbrev pub all_keys : Context → List Key
+all_keys c = keys c ++ keys_of (presences c) ++ keys_of (links c)
+
+-- the keys that are lent, each beside something
+abbrev pub keys_lent : {X : Type 0} → List (Bor Key × X) → List Key
+keys_lent lent = map (λ l. l.0.now) lent

@@ -337,6 +337,47 @@ impl TreeStore for ArenaTree {
         self.change_node(node, Change::PutValue(key.copy()?, id, value))
     }
 
+    fn keys_at(
+        &self,
+        alloc: Global,
+        place: Place,
+        at: &[Tagged],
+    ) -> Result<Vec<(&Key, Hint)>, AllocError> {
+        self.node(NodeId::new(place.number)).keys_in_order(alloc)
+    }
+
+    fn map_by(&self, place: Place, at: &[Tagged], key: &Key, hint: Hint) -> Option<Place> {
+        let child = self
+            .node(NodeId::new(place.number))
+            .map_near(key, hint)?;
+        Some(Place {
+            number: child.number(),
+        })
+    }
+
+    fn list_by(&self, place: Place, at: &[Tagged], key: &Key, hint: Hint) -> Option<Place> {
+        let child = self
+            .node(NodeId::new(place.number))
+            .list_near(key, hint)?;
+        Some(Place {
+            number: child.number(),
+        })
+    }
+
+    fn register_by(
+        &self,
+        place: Place,
+        at: &[Tagged],
+        key: &Key,
+        hint: Hint,
+    ) -> Option<&[(Id, Value)]> {
+        self.node(NodeId::new(place.number)).register_near(key, hint)
+    }
+
+    fn presence_by(&self, place: Place, at: &[Tagged], key: &Key, hint: Hint) -> Option<&[Id]> {
+        self.node(NodeId::new(place.number)).presence_near(key, hint)
+    }
+
     fn mark(&self) -> Mark {
         Mark {
             changes: self.undos.len(),

@@ -1,13 +1,14 @@
 //! The nodes of the fast store: contexts that name their children by number.
 
-ghost use Rattle.std.specs.Prelude.{◌≡◌, ◌≤◌, ◌+◌, ◌↔◌, ℕ, ◌++◌, cond, None, is_some, option_copied, ◌||◌, IfOk, IsTrue, OnOk, OnErr};
+ghost use Rattle.std.specs.Prelude.{◌≡◌, ◌≤◌, ◌+◌, ◌↔◌, ℕ, ◌++◌, cond, None, is_some, option_copied, ◌||◌, Contains, IfOk, IsTrue, OnOk, OnErr};
+ghost use Rattle.std.specs.List.{AllByRecursion};
 ghost use Rattle.jc_rules.specs.Order.{key_cmp};
-ghost use Rattle.jc_rules.specs.Entries.{find, keys_of};
+ghost use Rattle.jc_rules.specs.Entries.{IsRising, find, keys_of};
 ghost use Rattle.jc_rules.specs.Paths.{HasContext};
-ghost use Rattle.jc_tree.specs.Tree.{or_no_entries, least_after, has_ids, count_present};
+ghost use Rattle.jc_tree.specs.Tree.{or_no_entries, least_after, has_ids, count_present, keys_lent};
 ghost use Rattle.jc_tree.specs.Numbered.{at_number};
 ghost use Rattle.jc_tree.specs.Tables.{AreWithin, IsBare, IsTrimmed, flat_of};
-ghost use Rattle.jc_tree.specs.Arena.{blank, new_flat, child_number, is_in, with_child_number, IsInside, changed_flat, former_of_node, former_of_flat, restored_flat};
+ghost use Rattle.jc_tree.specs.Arena.{blank, new_flat, flat_keys, child_number, is_in, with_child_number, IsInside, changed_flat, former_of_node, former_of_flat, restored_flat};
 
 use crate::columns::{cut, value_at};
 use crate::ids::Ids;
@@ -18,7 +19,7 @@ use crate::presences::{Presences, is_inhabited};
 use crate::store::{Hint, Step};
 use crate::tables::{
     add_in, key_above_in, put_in, put_set_in, put_value_in, restore_in, restore_set_in,
-    restore_value_in, take_out_in, value_in,
+    restore_value_in, take_out_in, value_in, value_near,
 };
 use jc_rules::{Id, Key, Next, Tagged, Value};
 use std::alloc::{AllocError, Global};
@@ -324,6 +325,42 @@ impl ArenaNode {
         ensures { option_copied result ≡ find key_cmp key.now self.now.registers }
     {
         Some(value_in(&self.keys, self.registers.as_slice(), key)?.as_slice())
+    }
+
+    /// All keys in their order, each with a hint for it. Nothing may stand under some of them.
+    pub fn keys_in_order(&self, alloc: Global) -> Result<Vec<(&Key, Hint)>, AllocError>
+        ensures rising { IfOk result (λ lent. IsRising key_cmp (keys_lent lent.items)) }
+        ensures all { IfOk result (λ lent. AllByRecursion (Contains (keys_lent lent.items)) (flat_keys self.now)) }
+    {
+        self.keys.in_order(alloc)
+    }
+
+    /// The number of the map under the key; `hint` is where to look first.
+    pub fn map_near(&self, key: &Key, hint: Hint) -> Option<NodeId>
+        ensures { result ≡ find key_cmp key.now self.now.maps }
+    {
+        value_near(&self.keys, self.maps.as_slice(), key, hint).copied()
+    }
+
+    /// The number of the list under the key; `hint` is where to look first.
+    pub fn list_near(&self, key: &Key, hint: Hint) -> Option<NodeId>
+        ensures { result ≡ find key_cmp key.now self.now.lists }
+    {
+        value_near(&self.keys, self.lists.as_slice(), key, hint).copied()
+    }
+
+    /// The values of the key's register; `hint` is where to look first.
+    pub fn register_near(&self, key: &Key, hint: Hint) -> Option<&[(Id, Value)]>
+        ensures { option_copied result ≡ find key_cmp key.now self.now.registers }
+    {
+        Some(value_near(&self.keys, self.registers.as_slice(), key, hint)?.as_slice())
+    }
+
+    /// The presence set of the key; `hint` is where to look first.
+    pub fn presence_near(&self, key: &Key, hint: Hint) -> Option<&[Id]>
+        ensures { option_copied result ≡ find key_cmp key.now self.now.presences }
+    {
+        Some(value_near(&self.keys, self.presences.as_slice(), key, hint)?.as_slice())
     }
 
     /// What a walk along a list reads of the key; `hint` is where to look first.

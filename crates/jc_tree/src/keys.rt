@@ -4,11 +4,12 @@ ghost use Rattle.std.specs.Prelude.{◌≡◌, ◌-◌, ◌↔◌, [], length, t
 ghost use Rattle.std.specs.Option.{option_map};
 ghost use Rattle.jc_rules.specs.Order.{key_cmp};
 ghost use Rattle.jc_rules.specs.Entries.{find, keys_of};
-ghost use Rattle.jc_tree.specs.Tree.{least_after};
+ghost use Rattle.jc_tree.specs.Tree.{least_after, keys_lent};
 ghost use Rattle.jc_tree.specs.Undo.{removed};
 ghost use Rattle.jc_tree.specs.Numbered.{IsNumbered, GetsNumber};
 ghost use Rattle.jc_rules.specs.declared.key.Key.{Key as AnyKey};
 
+use crate::store::Hint;
 use indexmap::IndexSet;
 use jc_rules::Key;
 use std::alloc::{AllocError, Global};
@@ -118,6 +119,18 @@ impl KeyTable {
         };
         self.order.remove(key);
         self.keys.pop();
+    }
+
+    /// All keys in their order, each with its number as a hint.
+    pub fn in_order(&self, alloc: Global) -> Result<Vec<(&Key, Hint)>, AllocError>
+        ensures keys { IfOk result (λ lent. keys_lent lent.items ≡ keys_of self.now.order) }
+        ensures numbered { IsNumbered self.now }
+    {
+        let mut lent = Vec::with_capacity(alloc, self.order.len())?;
+        for (key, number) in self.order.iter() {
+            lent.push((key, Hint { number: *number }))?;
+        }
+        Ok(lent)
     }
 
     /// The least key above the given one, or the least of all where none is given, with its number.

@@ -1,12 +1,13 @@
 //! The contexts of the plain store, as nested lists sorted by key, with the changes and undo records of both stores.
 
-ghost use Rattle.std.specs.Prelude.{◌≡◌, ◌≢◌, ◌++◌, None, Some, is_some, option_copied, option_to_list, IfOk, IfSome, IsSomeAnd, OnOk, OnErr};
+ghost use Rattle.std.specs.Prelude.{◌≡◌, ◌≢◌, ◌++◌, None, Some, is_some, option_copied, option_to_list, Contains, IfOk, IfSome, IsSomeAnd, OnOk, OnErr};
+ghost use Rattle.std.specs.List.{AllByRecursion};
 ghost use Rattle.jc_rules.specs.Order.{key_cmp};
-ghost use Rattle.jc_rules.specs.Entries.{find, put, keys_of};
+ghost use Rattle.jc_rules.specs.Entries.{IsRising, find, put, keys_of};
 ghost use Rattle.jc_rules.specs.Context.{empty, empty_list, content, presence, presences, links, next as next_of, registers, keys};
 ghost use Rattle.jc_rules.specs.ContextsAt.{node_in, node_at, context_at};
 ghost use Rattle.jc_rules.specs.Table.{least};
-ghost use Rattle.jc_tree.specs.Tree.{least_after, count_present};
+ghost use Rattle.jc_tree.specs.Tree.{least_after, count_present, all_keys, keys_lent};
 ghost use Rattle.jc_tree.specs.Sorted.{AreSorted};
 ghost use Rattle.jc_tree.specs.Change.{changed_by, changed_at};
 ghost use Rattle.jc_tree.specs.Undo.{was_there, former_of, former_of_id, restored_by, restored_at};
@@ -14,6 +15,7 @@ ghost use Rattle.jc_tree.specs.Undo.{was_there, former_of, former_of_id, restore
 use crate::entries::{key_above, place_of, put_value, restore_value, value_of};
 use crate::ids::{Ids, add_to, count_present, take_from};
 use crate::lists::{Pairs, put_to, restore_from};
+use crate::store::Hint;
 use jc_rules::{Id, Key, Next, Tagged, Value, compare_keys};
 use std::alloc::{AllocError, Global};
 use std::marker::Model;
@@ -123,6 +125,20 @@ impl Node {
         }
     }
 
+    /// Whether a map is under the key.
+    pub fn has_map(&self, key: &Key) -> bool
+        ensures { result ≡ is_some (content (Tagged.MapT key.now) self.now) }
+    {
+        value_of(self.maps.as_slice(), key).is_some()
+    }
+
+    /// Whether a list is under the key.
+    pub fn has_list(&self, key: &Key) -> bool
+        ensures { result ≡ is_some (content (Tagged.ListT key.now) self.now) }
+    {
+        value_of(self.lists.as_slice(), key).is_some()
+    }
+
     /// The context under the tagged key.
     fn child(&self, key: &Tagged) -> Option<&Node>
         ensures { option_copied result ≡ node_in (content key.now self.now) }
@@ -199,6 +215,30 @@ impl Node {
         ensures { option_copied result ≡ least_after (option_copied after.entry) (keys_of (links self.now)) }
     {
         key_above(self.links.as_slice(), after)
+    }
+
+    /// The least key under which something stands, above the given one.
+    fn any_after(&self, after: Option<&Key>) -> Option<&Key>
+        ensures { option_copied result ≡ least_after (option_copied after.entry) (all_keys self.now) }
+    {
+        let of_tags = self.key_after(after);
+        let of_presences = self.presence_after(after);
+        let of_links = self.link_after(after);
+        lesser(lesser(of_tags, of_presences), of_links)
+    }
+
+    /// The keys under which something stands, in their order. The hints are of no use here.
+    pub fn keys_in_order(&self, alloc: Global) -> Result<Vec<(&Key, Hint)>, AllocError>
+        ensures rising { IfOk result (λ lent. IsRising key_cmp (keys_lent lent.items)) }
+        ensures all { IfOk result (λ lent. AllByRecursion (Contains (keys_lent lent.items)) (all_keys self.now)) }
+    {
+        let mut lent = Vec::new(alloc);
+        let mut last = None;
+        while let Some(key) = self.any_after(last) {
+            lent.push((key, Hint { number: 0 }))?;
+            last = Some(key);
+        }
+        Ok(lent)
     }
 
     /// Puts an empty map under the key. Returns the undo record. After a refusal the context is as it

@@ -233,6 +233,45 @@ impl TreeStore for PlainTree {
         self.put_value(at, key, id, value)
     }
 
+    fn keys_at(
+        &self,
+        alloc: Global,
+        place: Place,
+        at: &[Tagged],
+    ) -> Result<Vec<(&Key, Hint)>, AllocError> {
+        self.root.node_at(at).keys_in_order(alloc)
+    }
+
+    fn map_by(&self, place: Place, at: &[Tagged], key: &Key, hint: Hint) -> Option<Place> {
+        if self.root.node_at(at).has_map(key) {
+            Some(Place { number: 0 })
+        } else {
+            None
+        }
+    }
+
+    fn list_by(&self, place: Place, at: &[Tagged], key: &Key, hint: Hint) -> Option<Place> {
+        if self.root.node_at(at).has_list(key) {
+            Some(Place { number: 0 })
+        } else {
+            None
+        }
+    }
+
+    fn register_by(
+        &self,
+        place: Place,
+        at: &[Tagged],
+        key: &Key,
+        hint: Hint,
+    ) -> Option<&[(Id, Value)]> {
+        self.register(at, key)
+    }
+
+    fn presence_by(&self, place: Place, at: &[Tagged], key: &Key, hint: Hint) -> Option<&[Id]> {
+        self.presence(at, key)
+    }
+
     #[tactic(auto, using(crate::proofs::UndoLemmas::length_contents))]
     fn mark(&self) -> Mark {
         Mark {

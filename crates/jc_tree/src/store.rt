@@ -1,20 +1,21 @@
 //! What every store of a document's tree promises; the rules of operations and expressions are written over it.
 
-ghost use Rattle.std.specs.Prelude.{◌≡◌, ◌≤◌, ◌+◌, ◌↔◌, List, [], ◌∷◌, ◌++◌, None, IsTrue, length, take, is_some, option_copied, IfSome, IfOk, OnOk, OnErr};
+ghost use Rattle.std.specs.Prelude.{◌≡◌, ◌≤◌, ◌+◌, ◌↔◌, List, [], ◌∷◌, ◌++◌, None, IsTrue, length, take, is_some, option_copied, Contains, IfSome, IfOk, OnOk, OnErr};
+ghost use Rattle.std.specs.List.{AllByRecursion};
 ghost use Rattle.jc_rules.specs.declared.key.Tagged.{Tagged as AnyTagged};
-ghost use Rattle.jc_rules.specs.declared.key.Tagged.TheVariants.{RegT};
+ghost use Rattle.jc_rules.specs.declared.key.Tagged.TheVariants.{MapT, ListT, RegT};
 ghost use Rattle.jc_rules.specs.Order.{id_cmp, key_cmp};
-ghost use Rattle.jc_rules.specs.Entries.{find, put, keys_of};
+ghost use Rattle.jc_rules.specs.Entries.{IsRising, find, put, keys_of};
 ghost use Rattle.jc_rules.specs.Ids.{AreRising, with_id};
 ghost use Rattle.jc_rules.specs.Context.{Values, IsPrimitive, content, with_content, new_content, presence, with_presence, presences, links, next as next_of, with_next, registers, keys};
 ghost use Rattle.jc_rules.specs.Paths.{HasContext};
 ghost use Rattle.jc_rules.specs.ContextsAt.{node_in};
 ghost use Rattle.jc_rules.specs.WellFormed.{IsWellFormedContext, IsWellFormedRegister};
 ghost use Rattle.jc_tree.specs.declared.store.Place.{Place as AnyPlace};
-ghost use Rattle.jc_tree.specs.Tree.{Tree, tree_history, HasPlace, here, or_no_entries, IsChanged, NamesStay, least_after, has_ids, count_present};
+ghost use Rattle.jc_tree.specs.Tree.{Tree, tree_history, HasPlace, here, or_no_entries, IsChanged, NamesStay, least_after, has_ids, count_present, all_keys, keys_lent};
 
 use jc_rules::{Id, Key, Next, Tagged, Value};
-use std::alloc::AllocError;
+use std::alloc::{AllocError, Global};
 
 /// A savepoint in a store's history: the number of earlier contents at that time.
 #[derive(Clone, Copy, Debug, PartialEq, Eq)]
@@ -289,6 +290,53 @@ pub trait TreeStore {
             was ≡ is_some (find key_cmp key.now (registers (here at.now (tree self.old))))) }
         ensures names_stay { OnOk result (NamesStay (names self.old) (names self.new)) }
         ensures err { OnErr result (tree self.new ≡ tree self.old) };
+
+    /// The keys of the context at the place, rising, each with a hint for it. Each key under which
+    /// something stands is one of them; others may be too. `place` is the store's name for the place.
+    fn keys_at(
+        &self,
+        alloc: Global,
+        place: Place,
+        at: &[Tagged],
+    ) -> Result<Vec<(&Key, Hint)>, AllocError>
+        requires there { HasPlace at.now (tree self.now) }
+        requires named { names self.now place at.now }
+        ensures rising { IfOk result (λ lent. IsRising key_cmp (keys_lent lent.items)) }
+        ensures all { IfOk result (λ lent.
+            AllByRecursion (Contains (keys_lent lent.items)) (all_keys (here at.now (tree self.now)))) };
+
+    /// The name of the map under the key in the context at the place. `place` is the store's name for
+    /// the place, `hint` is where to look first for the key.
+    fn map_by(&self, place: Place, at: &[Tagged], key: &Key, hint: Hint) -> Option<Place>
+        requires there { HasPlace at.now (tree self.now) }
+        requires named { names self.now place at.now }
+        ensures some { is_some result ≡ is_some (content (MapT key.now) (here at.now (tree self.now))) }
+        ensures named { IfSome result (λ child. names self.now child (at.now ++ MapT key.now ∷ [])) };
+
+    /// As `map_by`, for the list under the key.
+    fn list_by(&self, place: Place, at: &[Tagged], key: &Key, hint: Hint) -> Option<Place>
+        requires there { HasPlace at.now (tree self.now) }
+        requires named { names self.now place at.now }
+        ensures some { is_some result ≡ is_some (content (ListT key.now) (here at.now (tree self.now))) }
+        ensures named { IfSome result (λ child. names self.now child (at.now ++ ListT key.now ∷ [])) };
+
+    /// As `register_at`, with a hint for the key.
+    fn register_by(
+        &self,
+        place: Place,
+        at: &[Tagged],
+        key: &Key,
+        hint: Hint,
+    ) -> Option<&[(Id, Value)]>
+        requires there { HasPlace at.now (tree self.now) }
+        requires named { names self.now place at.now }
+        ensures { option_copied result ≡ find key_cmp key.now (registers (here at.now (tree self.now))) };
+
+    /// As `presence`, for a place whose name is known and with a hint for the key.
+    fn presence_by(&self, place: Place, at: &[Tagged], key: &Key, hint: Hint) -> Option<&[Id]>
+        requires there { HasPlace at.now (tree self.now) }
+        requires named { names self.now place at.now }
+        ensures { option_copied result ≡ presence key.now (here at.now (tree self.now)) };
 
     /// Marks the content as it is: a savepoint.
     fn mark(&self) -> Mark

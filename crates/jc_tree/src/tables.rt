@@ -17,6 +17,7 @@ use crate::keys::KeyTable;
 use crate::lists::Pairs;
 use crate::node::Former;
 use crate::presences::Presences;
+use crate::store::Hint;
 use jc_rules::{Id, Key, Value};
 use std::alloc::{AllocError, Global};
 
@@ -26,6 +27,19 @@ pub fn value_in<'a, X>(keys: &KeyTable, column: &'a [Option<X>], key: &Key) -> O
 {
     let number = keys.number(key)?;
     value_at(column, number)
+}
+
+/// The value under the key; `hint` is where to look first.
+pub fn value_near<'a, X>(
+    keys: &KeyTable,
+    column: &'a [Option<X>],
+    key: &Key,
+    hint: Hint,
+) -> Option<&'a X>
+    ensures { option_copied result ≡ find key_cmp key.now (column_entries column.now keys.now) }
+{
+    let near = keys.number_near(key, hint.number)?;
+    value_at(column, near)
 }
 
 /// Puts the value under the key, and returns the one that was there. After a refusal the entries
