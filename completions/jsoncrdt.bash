@@ -4,15 +4,16 @@ _jsoncrdt() {
     local word=${COMP_WORDS[COMP_CWORD]} before=${COMP_WORDS[COMP_CWORD - 1]} options=
     COMPREPLY=()
     if [ "$COMP_CWORD" -eq 1 ]; then
-        COMPREPLY=($(compgen -W 'check print run view debug threads weave help -h --help -V --version' -- "$word"))
+        COMPREPLY=($(compgen -W 'check print run view journal debug threads weave help -h --help -V --version' -- "$word"))
         return
     fi
     case ${COMP_WORDS[1]} in
-        help) COMPREPLY=($(compgen -W 'check print run view debug threads weave' -- "$word")); return ;;
+        help) COMPREPLY=($(compgen -W 'check print run view journal debug threads weave' -- "$word")); return ;;
         check) options='-h --help' ;;
         print) options='-h --help' ;;
         run) options='--trace -h --help' ;;
         view) options='--at -h --help' ;;
+        journal) options='--trace -h --help' ;;
         debug) options='-h --help' ;;
         threads) options='--limit -h --help' ;;
         weave) options='--seed --limit -h --help' ;;

@@ -16,6 +16,11 @@ PAST_THE_END = "jsoncrdt 1 replica a {} schedule {a.exec}"
 NO_COMMAND = "stuck 30 NoCommand a.exec\n"
 STUCK_BEFORE = "jsoncrdt 2 replica a {yield} given {a.send; a.exec}"
 GIVEN_STUCK = "refused 44 GivenStuck at 2\nstuck 31 AtYield a.exec\n"
+JOURNALED = ('{"command":"doc.get(\\"a\\") := 1","event":"a.exec","kind":"exec","number":1,"op":{"cursor":["mapT(doc)",'
+             '"\\"a\\""],"deps":{},"id":"1@a","mutation":"assign","value":{"n":"1"}},"replica":"a"}\n')
+# The journal of given events, of which the second is stuck.
+GIVEN_JOURNAL = ('{"event":"a.send","given":true,"kind":"send","new":[],"number":1,"replica":"a"}\n'
+                 '{"cause":"AtYield","event":"a.exec","given":true,"kind":"exec","number":2,"replica":"a","stuck":31}\n')
 RECORDED = 'jsoncrdt 1\nreplica a {\n  doc.get("a") := 1;\n}\nschedule {\n  a.exec;\n}\n'
 # The first command is executed by a given event, the second one by the thread.
 BEGUN = 'jsoncrdt 2 replica a { doc.get("a") := 1; doc.get("a") := 2 } given {a.exec} schedule {a.send}'
@@ -53,6 +58,10 @@ ROWS = [
     Row("run FILE", STUCK_BEFORE, "", 3, GIVEN_STUCK, ""),
     Row("view FILE", STUCK_BEFORE, "", 3, GIVEN_STUCK, ""),
     Row("debug FILE", STUCK_BEFORE, "where\n", 3, GIVEN_STUCK, ""),
+    Row("journal FILE", STUCK_BEFORE, "", 3, GIVEN_JOURNAL, ""),
+    Row("journal -", "", ONE, 0, JOURNALED, ""),
+    Row("journal FILE", "", "", 1, "refused 14 NoHeader at 0\n", ""),
+    Row("journal FILE", ONE, "", 4, "", "write failed\n", ">/dev/full"),
     Row("check FILE", STUCK_BEFORE, "", 0, "replicas 1 commands 1 given 2 events 0\n", ""),
     Row("debug FILE", STUCK_BEFORE, "where\n", 4, "", "write failed\n", ">/dev/full"),
     # A file that isn't there, and one that opens and can't be read.

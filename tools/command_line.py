@@ -32,6 +32,10 @@ COMMANDS = [
             "Execute the schedule, and print the document of each replica as an application sees it",
             "Prints a line of JSON for each replica. More than one alternative at a place is shown under the name "
             "!conflict."),
+    Command("journal",
+            [Option("--trace", about="Print the rules that each event used, in its line (this may be long)")],
+            "Execute the schedule, and print a line of JSON for each event, with its operation in full",
+            "Given events come first. Where an event is stuck, the last line says why."),
     Command("debug", [],
             "Debugger: step through the schedule, forwards and backwards, by lines of standard input",
             "Answers each line before it reads the next. debug --help lists the lines; act cuts off the rest of the "
