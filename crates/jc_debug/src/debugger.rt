@@ -57,7 +57,8 @@ impl Model for Debugger {
 }
 
 impl Debugger {
-    /// Makes a debugger at the start of the scenario, without breakpoints.
+    /// Makes a debugger at the start of the scenario, without breakpoints. It takes over the scenario's names, scripts
+    /// and schedule.
     ///
     /// Refused: `Given`, with the first given event that is stuck, where the scenario has no start; else want of
     /// memory.
@@ -68,10 +69,19 @@ impl Debugger {
         ensures given { (at : ℕ) (s : AnyStuck) → IsErrOf result (Start.Given at s)
             → IsGivenFault (before_given (scenario_view scenario)) (scenario_view scenario).given at s }
     {
-        let net = Net::start(alloc, &scenario)?;
+        let Scenario {
+            version,
+            names,
+            scripts,
+            given,
+            schedule,
+        } = scenario;
+        let mut net = Net::before_given(alloc, version, names, scripts)?;
+        net.lead(&given)?;
+        net.begin();
         Ok(Debugger {
             net,
-            schedule: scenario.schedule,
+            schedule,
             traces: Traces::new(alloc),
             breaks: [None; MAX_BREAKS],
         })

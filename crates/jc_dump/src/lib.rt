@@ -10,4 +10,4 @@ mod vars;
 
 pub use lines::{stuck_text, trace_text};
 pub use replica::dump_replica;
-pub use texts::{block_text, given_text, refused_text};
+pub use texts::{block_text, given_text, named_given_text, refused_text};

@@ -60,8 +60,25 @@ pub fn given_text(
         → stuck.now ≡ stuck_for why event
         → string_bytes text ≡ given_text scenario.now.names.items at why event) }
 {
+    named_given_text(alloc, scenario.names.as_slice(), at, stuck)
+}
+
+/// Returns the same two lines, for who has the scenario's names alone. The list of names has the name of each replica
+/// at its number.
+pub fn named_given_text(
+    alloc: Global,
+    names: &[Text],
+    at: u64,
+    stuck: &Stuck,
+) -> Result<String, AllocError>
+    requires { IsNamedStuck names.now stuck.now }
+    ensures { IfOk result (λ text.
+        (why : Cause) (event : AnyEvent)
+        → stuck.now ≡ stuck_for why event
+        → string_bytes text ≡ given_text names.now at why event) }
+{
     let mut text = refused_text(alloc, Refusal::GivenStuck, at as usize)?;
-    let line = named_stuck_text(alloc, scenario.names.as_slice(), stuck)?;
+    let line = named_stuck_text(alloc, names, stuck)?;
     text.push_str(line.as_str())?;
     Ok(text)
 }

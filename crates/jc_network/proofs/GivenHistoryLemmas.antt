@@ -9,19 +9,44 @@ use Rattle.jc_rules.specs.Step.{Network, AfterIn}
 use Rattle.jc_rules.specs.Trace.{Rows}
 use Rattle.jc_rules.proofs.VersionLemmas.{after_states}
 use Rattle.jc_replica.specs.ReplicaHistory.{Past}
-use Rattle.jc_scenario.specs.WellFormed.{Scenario}
+use Rattle.jc_scenario.specs.WellFormed.{Scenario, IsWellFormedScenario}
 use Rattle.jc_network.specs.declared.fault.StartFault.{StartFault}
 use Rattle.jc_network.specs.declared.fault.StartFault.TheVariants as S
 use Rattle.jc_network.specs.declared.fault.StepFault.{StepFault}
 use Rattle.jc_network.specs.declared.fault.StepFault.TheVariants as E
 use Rattle.jc_network.specs.declared.fault.Stuck.{Stuck}
 use Rattle.jc_network.specs.NetworkHistory.{Course, StepsTo, network_of, of_version}
-use Rattle.jc_network.specs.Given.{before_given, IsStart, IsGivenFault}
+use Rattle.jc_network.specs.Given.{before_given, AreParts, IsBeforeGiven, IsStart, IsStarted, IsGivenFault}
 use Rattle.jc_network.specs.Laws.{starts, IsReached}
 use Rattle.jc_network.specs.Steps.{IsStuckFor}
 use Rattle.jc_network.specs.Invariant.{IsNet}
 use Rattle.jc_network.proofs.AfterLemmas.{after_more, after_one_more, after_count}
 use Rattle.jc_network.proofs.InvariantLemmas.{now_in_run, length_end}
+use Rattle.jc_network.proofs.StartLemmas.{short_scripts}
+
+-- ---- from the parts of a scenario to its start
+
+-- a network can begin with those of a well-formed one
+pub has_parts : (s : Scenario) → IsWellFormedScenario s → AreParts s.names s.scripts
+has_parts s h =
+    let each = h.each in
+    let few = h.few in
+    record { each = each; short = short_scripts s.scripts (omega (arith, each, few)) h.formed }
+
+-- where its given events have led, it begins
+pub has_started : (s : Scenario) (first now last : Course) (given : List Event) → IsBeforeGiven s.version s.names s.scripts first → given ≡ s.given → AfterIn first.network given now.network → now.names ≡ first.names → last ≡ record now { earlier = [] } → IsStarted s last
+has_started s first now last given before all led names is =
+    subst (IsStarted s) (sym is)
+    (record {
+      names = names ∙ before.called;
+      start = subst (λ (N : Network). AfterIn N s.given now.network) before.network (subst (λ (es : List Event). AfterIn first.network es now.network) all led);
+      earlier = refl;
+    })
+
+-- or one of them is the first that is stuck
+pub has_stuck : (s : Scenario) (first : Course) (given : List Event) (at : ℕ) (t : Stuck) → IsBeforeGiven s.version s.names s.scripts first → given ≡ s.given → IsGivenFault first.network given at t → IsGivenFault (before_given s) s.given at t
+has_stuck s first given at t before all h =
+    subst (λ (N : Network). IsGivenFault N s.given at t) before.network (subst (λ (es : List Event). IsGivenFault first.network es at t) all h)
 
 -- ---- the start of a scenario
 

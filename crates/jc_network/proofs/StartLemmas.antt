@@ -1,8 +1,7 @@
 -- Lemmas about Start: the replicas of a network at its start.
-use Rattle.std.proofs.Common.{◌≡◌, ℕ, zero, suc, ◌+◌, ◌<◌, ◌≤◌, All, List, [], ◌∷◌, ◌++◌, Some, length, take, slice_get, refl, sym, ◌∙◌, ap, subst, arith}
+use Rattle.std.proofs.Common.{◌≡◌, ℕ, zero, suc, ◌+◌, ◌≤◌, All, List, [], ◌∷◌, ◌++◌, Some, length, slice_get, refl, sym, ◌∙◌, ap, subst, arith}
 use Rattle.std.specs.List.{AllByRecursion}
-use Rattle.std.proofs.lemmas.List.{length-take-le, take_more}
-use Rattle.std.proofs.lemmas.Option.{same_Some, slice_get_within, get_or_from_slice_get}
+use Rattle.std.proofs.lemmas.Option.{same_Some}
 use Rattle.jc_parser.specs.Scripts.{IsScriptWellFormed}
 use Rattle.jc_rules.specs.declared.version.Version.{Version}
 use Rattle.jc_rules.specs.State.{start}
@@ -69,14 +68,11 @@ all_at P [] i s h e = cc
 all_at P (t ∷ scripts) zero s h e = subst P (same_Some t s e) h.0
 all_at P (t ∷ scripts) (suc i) s h e = all_at P scripts i s h.1 e
 
--- the replica of the script at the place
-pub next_replica : (scripts : List (List Cmd)) (i : ℕ) (s : List Cmd) (ps new : List Past) → slice_get scripts i ≡ Some s → ps ≡ pasts_from 0 (take i scripts) → new ≡ ps ++ record { number = i; now = start s; earlier = [] } ∷ [] → new ≡ pasts_from 0 (take (i + 1) scripts)
-next_replica scripts i s ps new e made pushed =
-    let l : i < length scripts = slice_get_within scripts i s e in
-    let count : length (take i scripts) ≡ i = length-take-le i scripts (omega (arith, l)) in
-    let number : i ≡ 0 + length (take i scripts) = omega (arith, count) in
-    let is : take (i + 1) scripts ≡ take i scripts ++ s ∷ [] = take_more scripts i s l ∙ ap (λ x. take i scripts ++ x ∷ []) (get_or_from_slice_get scripts i s s e) in
-    pushed ∙ (ap (λ l2. l2 ++ record { number = i; now = start s; earlier = [] } ∷ []) made ∙ (ap (λ n. pasts_from 0 (take i scripts) ++ record { number = n; now = start s; earlier = [] } ∷ []) number ∙ (sym (one_more 0 (take i scripts) s) ∙ ap (pasts_from 0) (sym is))))
+-- the replica of the next script
+pub next_replica : (scripts : List (List Cmd)) (number : ℕ) (s : List Cmd) (ps new : List Past) → number ≡ length scripts → ps ≡ pasts_from 0 scripts → new ≡ ps ++ record { number = number; now = start s; earlier = [] } ∷ [] → new ≡ pasts_from 0 (scripts ++ s ∷ [])
+next_replica scripts number s ps new counted made pushed =
+    let last : number ≡ 0 + length scripts = omega (arith, counted) in
+    pushed ∙ (ap (λ l. l ++ record { number = number; now = start s; earlier = [] } ∷ []) made ∙ (ap (λ n. pasts_from 0 scripts ++ record { number = n; now = start s; earlier = [] } ∷ []) last ∙ sym (one_more 0 scripts s)))
 
 -- the scripts of a well-formed scenario
 all_short : (scripts : List (List Cmd)) → All IsScriptWellFormed scripts → AllByRecursion (λ s. length s ≤ 65536) scripts

@@ -1,6 +1,7 @@
 -- The start of a scenario: the network to which its given events lead, or the first of them that is stuck.
-use Rattle.std.specs.Prelude.{◌≡◌, ◌⊎◌, ℕ, ◌+◌, List, [], take, slice_get, Some}
+use Rattle.std.specs.Prelude.{◌≡◌, ◌⊎◌, ℕ, ◌+◌, List, [], length, take, slice_get, Some}
 use Rattle.jc_rules.specs.declared.operation.Event.{Event}
+use Rattle.jc_rules.specs.declared.version.Version.{Version}
 use Rattle.jc_rules.specs.Refused.{Cause, IsStuckIn}
 use Rattle.jc_rules.specs.Step.{Network, AfterIn}
 use Rattle.jc_rules.specs.Syntax.{Cmd}
@@ -8,7 +9,20 @@ use Rattle.jc_scenario.specs.WellFormed.{Scenario}
 use Rattle.jc_network.specs.declared.fault.Stuck.{Stuck}
 use Rattle.jc_network.specs.NetworkHistory.{Course, of_version}
 use Rattle.jc_network.specs.Laws.{starts, IsReached}
+use Rattle.jc_network.specs.Refines.{AreShort}
 use Rattle.jc_network.specs.Steps.{stuck_for}
+
+-- Names and scripts with which a network can begin: a script for each name, and the scripts are short.
+pub record AreParts (names : List (List ℕ)) (scripts : List (List Cmd)) : Type 0 where
+  pub each : length scripts ≡ length names
+  pub short : AreShort scripts
+
+-- The course is before the given events of a scenario with these parts: each replica is at the start of its script,
+-- and no step was made.
+pub record IsBeforeGiven (version : Version) (names : List (List ℕ)) (scripts : List (List Cmd)) (c : Course) : Type 0 where
+  pub called : c.names ≡ names
+  pub network : c.network ≡ of_version version (starts scripts)
+  pub earlier : c.earlier ≡ []
 
 -- before the given events: each replica with its script, in the scenario's version
 abbrev pub before_given : Scenario → Network

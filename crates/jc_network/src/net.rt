@@ -3,7 +3,7 @@
 ghost use Rattle.std.specs.Prelude.{◌≡◌, ◌≤◌, ◌↔◌, [], length, slice_get, ℕ, IfOk, IfSome, OnOk, OnErr, IsErrOf, IsTrue, IsFalse, IfNone};
 ghost use Rattle.jc_rules.specs.declared.limits.TheConstants.{MAX_EVENTS, MAX_REPLICAS};
 ghost use Rattle.jc_scenario.specs.WellFormed.{IsWellFormedScenario};
-ghost use Rattle.jc_scenario.specs.Views.{scenario_view};
+ghost use Rattle.jc_scenario.specs.Views.{scenario_view, scripts_view};
 ghost use Rattle.jc_network.specs.declared.fault.CompareFault.TheVariants as C;
 ghost use Rattle.jc_network.specs.declared.fault.StartFault.TheVariants as S;
 ghost use Rattle.jc_network.specs.declared.fault.StepFault.TheVariants as E;
@@ -11,7 +11,7 @@ ghost use Rattle.jc_network.specs.declared.fault.Stuck.{Stuck as AnyStuck};
 ghost use Rattle.jc_network.specs.Applied.{IsApplied, AreAppliedIds};
 ghost use Rattle.jc_network.specs.NetworkHistory.{StepsTo, network_history};
 ghost use Rattle.jc_network.specs.Enabled.{AreEnabled, candidates};
-ghost use Rattle.jc_network.specs.Given.{before_given, IsStarted, IsGivenFault};
+ghost use Rattle.jc_network.specs.Given.{before_given, AreParts, IsBeforeGiven, IsStarted, IsGivenFault};
 ghost use Rattle.jc_network.specs.Steps.{IsStuckFor, HasReplica};
 ghost use Rattle.jc_network.specs.Invariant.{IsFromStart, HasBegun};
 ghost use Rattle.jc_rules.specs.Step.{AfterIn};
@@ -24,7 +24,8 @@ use crate::stepping::make;
 use jc_replica::Replica;
 use jc_rules::limits::MAX_EVENTS;
 use jc_rules::{Event, Id, Op, Text, Trace, Version};
-use jc_scenario::{Scenario, copy_names};
+use jc_scenario::{Scenario, copy_names, copy_scripts};
+use jc_syntax::Cmd;
 use jc_tree::ArenaTree;
 use std::alloc::{AllocError, Global};
 use std::marker::Model;
@@ -67,17 +68,67 @@ impl Net {
             → IsGivenFault (before_given (scenario_view scenario.now)) (scenario_view scenario.now).given at s }
     {
         let names = copy_names(alloc, &scenario.names)?;
-        let replicas = replicas_of(alloc, &scenario.scripts)?;
-        let mut net = Net {
-            version: scenario.version,
+        let scripts = copy_scripts(alloc, &scenario.scripts)?;
+        let mut net = Net::before_given(alloc, scenario.version, names, scripts)?;
+        net.lead(&scenario.given)?;
+        net.begin();
+        Ok(net)
+    }
+
+    /// The network before the given events of a scenario in this version, with these names and scripts: each replica
+    /// is at the start of its script, which it takes over. From there `lead`, or `step` for each of them, makes the
+    /// given events, and `begin` makes the network to which they lead the start.
+    pub fn before_given(
+        alloc: Global,
+        version: Version,
+        names: Vec<Text>,
+        scripts: Vec<Vec<Cmd>>,
+    ) -> Result<Self, AllocError>
+        requires { AreParts names.items (scripts_view scripts.items) }
+        ensures { IfOk result (λ net. IsBeforeGiven version names.items (scripts_view scripts.items) net) }
+    {
+        let replicas = replicas_of(alloc, scripts)?;
+        Ok(Net {
+            version,
             names,
             replicas,
             whose: Vec::new(alloc),
             alloc,
-        };
-        net.lead(&scenario.given)?;
-        net.begin();
-        Ok(net)
+        })
+    }
+
+    /// Makes the given events, before which no step was made. They are steps until `begin`.
+    ///
+    /// It is refused with `Given` for the first given event that is stuck, with its number, from 1. After a refusal the
+    /// network may have made the events before that one, or before the one for which there was no memory; `undo` takes
+    /// them back.
+    pub fn lead(&mut self, given: &[Event]) -> Result<(), StartFault>
+        requires new { self.old.earlier ≡ [] }
+        requires short { length given.now ≤ MAX_EVENTS }
+        ensures led { OnOk result (AfterIn self.old.network given.now self.new.network) }
+        ensures names { self.new.names ≡ self.old.names }
+        ensures stuck { (at : ℕ) (s : AnyStuck) → IsErrOf result (S.Given at s)
+            → IsGivenFault self.old.network given.now at s }
+    {
+        let mut at = 0u64;
+        for event in given {
+            at += 1;
+            match self.step(event) {
+                Ok(_trace) => {}
+                Err(StepFault::Full) => unreachable!(),
+                Err(StepFault::Stuck(stuck)) => return Err(StartFault::Given { at, stuck }),
+                Err(StepFault::Memory) => return Err(StartFault::Memory),
+            }
+        }
+        Ok(())
+    }
+
+    /// Begins at the network now: no step is counted from then on, and none that was made can be taken back. It takes no
+    /// memory.
+    pub fn begin(&mut self)
+        ensures { self.new ≡ record self.old { earlier = [] } }
+    {
+        self.whose.clear();
     }
 
     /// The replicas' names, in order.
@@ -180,34 +231,5 @@ impl Net {
             Some(p) => self.replicas[usize::from(p)].undo(),
             None => false,
         }
-    }
-
-    /// Makes the given events. Where one is refused, the network may have made those before it.
-    fn lead(&mut self, given: &[Event]) -> Result<(), StartFault>
-        requires new { self.old.earlier ≡ [] }
-        requires short { length given.now ≤ MAX_EVENTS }
-        ensures led { OnOk result (AfterIn self.old.network given.now self.new.network) }
-        ensures names { OnOk result (self.new.names ≡ self.old.names) }
-        ensures stuck { (at : ℕ) (s : AnyStuck) → IsErrOf result (S.Given at s)
-            → IsGivenFault self.old.network given.now at s }
-    {
-        let mut at = 0u64;
-        for event in given {
-            at += 1;
-            match self.step(event) {
-                Ok(_trace) => {}
-                Err(StepFault::Full) => unreachable!(),
-                Err(StepFault::Stuck(stuck)) => return Err(StartFault::Given { at, stuck }),
-                Err(StepFault::Memory) => return Err(StartFault::Memory),
-            }
-        }
-        Ok(())
-    }
-
-    /// Forgets the steps made: none is counted, and none can be taken back. It takes no memory.
-    fn begin(&mut self)
-        ensures { self.new ≡ record self.old { earlier = [] } }
-    {
-        self.whose.clear();
     }
 }

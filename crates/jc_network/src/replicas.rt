@@ -1,30 +1,26 @@
 //! The replicas of a network at the start of its scenario.
 
-ghost use Rattle.std.specs.Prelude.{◌≡◌, ◌≤◌, ◌+◌, length, IfOk};
-ghost use Rattle.std.specs.List.{AllByRecursion};
-ghost use Rattle.jc_rules.specs.declared.limits.TheConstants.{MAX_COMMANDS, MAX_REPLICAS};
+ghost use Rattle.std.specs.Prelude.{◌≡◌, IfOk};
 ghost use Rattle.jc_scenario.specs.Views.{scripts_view};
+ghost use Rattle.jc_network.specs.Refines.{AreShort};
 ghost use Rattle.jc_network.specs.Start.{pasts_from};
 
 use jc_replica::Replica;
-use jc_scenario::copy_script;
 use jc_syntax::Cmd;
 use jc_tree::ArenaTree;
 use std::alloc::{AllocError, Global};
 
-/// A replica at its start for each script.
+/// A replica at its start for each script, which it takes over.
 pub(crate) fn replicas_of(
     alloc: Global,
-    scripts: &[Vec<Cmd>],
+    scripts: Vec<Vec<Cmd>>,
 ) -> Result<Vec<Replica<ArenaTree>>, AllocError>
-    requires many { length scripts.now ≤ MAX_REPLICAS }
-    requires short { AllByRecursion (λ s. length s ≤ MAX_COMMANDS) (scripts_view scripts.now) }
-    ensures { IfOk result (λ replicas. replicas.items ≡ pasts_from 0 (scripts_view scripts.now)) }
+    requires { AreShort (scripts_view scripts.items) }
+    ensures { IfOk result (λ replicas. replicas.items ≡ pasts_from 0 (scripts_view scripts.items)) }
 {
     let mut replicas = Vec::new(alloc);
     let mut number: u16 = 0;
     for script in scripts {
-        let script = copy_script(alloc, script)?;
         let store = ArenaTree::new(alloc)?;
         replicas.push(Replica::new(alloc, number, script, store))?;
         number += 1;

@@ -9,8 +9,7 @@ mod reading;
 mod scenario;
 
 pub use jc_parser::ScenarioFault;
-pub use jc_syntax::copy_script;
 pub use names::{UnknownReplica, resolve};
 pub use printing::print;
 pub use reading::read;
-pub use scenario::{Scenario, copy_names};
+pub use scenario::{Scenario, copy_names, copy_scripts};

@@ -50,7 +50,8 @@ pub fn copy_names(alloc: Global, names: &[Text]) -> Result<Vec<Text>, AllocError
     Ok(copies)
 }
 
-fn copy_scripts(alloc: Global, scripts: &[Vec<Cmd>]) -> Result<Vec<Vec<Cmd>>, AllocError>
+/// A copy of the scripts.
+pub fn copy_scripts(alloc: Global, scripts: &[Vec<Cmd>]) -> Result<Vec<Vec<Cmd>>, AllocError>
     ensures { IfOk result (λ copies. scripts_view copies.items ≡ scripts_view scripts.now) }
 {
     let mut copies = Vec::new(alloc);
