@@ -1,21 +1,85 @@
--- About JournalResult: a journal that goes on by one event, and its end. `journal_events` uses it.
-use Rattle.std.proofs.Common.{◌≡◌, ℕ, ◌+◌, ◌<◌, List, [], ◌∷◌, ◌++◌, length, take, drop, get_or, is_some, Bool, Some, None, true, false, inl, inr, refl, sym, ◌∙◌, ap, subst, append_assoc, append-nil, arith}
+-- About JournalResult: one line, a journal that goes on by one event, and its end. `journal_next` and `journal_events`
+-- use it.
+use Rattle.std.proofs.Common.{◌≡◌, ℕ, ◌+◌, ◌<◌, List, [], ◌∷◌, ◌++◌, length, take, drop, get_or, is_some, Bool, Option, Some, None, true, false, Result, Ok, Err, IfErr, IsErrOf, inl, inr, refl, sym, ◌∙◌, ap, subst, append-nil, arith}
 use Rattle.std.proofs.lemmas.List.{take_more, take-append-drop, length-append}
 use Rattle.std.proofs.Math.Seq.{take-length}
 use Rattle.jc_rules.specs.declared.operation.Event.{Event}
+use Rattle.jc_rules.specs.declared.rule.Rule.{Rule}
 use Rattle.jc_rules.specs.Refused.{Cause, IsStuckIn}
 use Rattle.jc_rules.specs.Step.{Network}
-use Rattle.jc_network.specs.NetworkHistory.{Course}
+use Rattle.jc_rules.specs.Trace.{Rows}
+use Rattle.jc_printer.specs.Canon.{AreNamed}
+use Rattle.jc_network.specs.declared.fault.Stuck.{Stuck as StuckEvent}
+use Rattle.jc_network.specs.NetworkHistory.{Course, StepsTo}
+use Rattle.jc_network.specs.Steps.{IsStuckFor, stuck_for}
+use Rattle.jc_dump.specs.Lines.{IsNamedStuck}
+use Rattle.jc_journal.specs.declared.before.Before.{Before}
 use Rattle.jc_journal.specs.declared.event.NumberedEvent.{NumberedEvent}
+use Rattle.jc_journal.specs.Before.{IsNoted}
 use Rattle.jc_journal.specs.EventLine.{event_line}
 use Rattle.jc_journal.specs.StuckLine.{stuck_event_line}
 use Rattle.jc_session.specs.Written.{Stream, Wrote, WrotePart, Written, WrittenInPart}
 use Rattle.jc_session.proofs.WrittenLemmas.{wrote_both, part_after}
-use Rattle.jc_program.specs.JournalResult.{JournalsNext, IsNextLine, JournalsAll, AreLinesDue}
+use Rattle.jc_program.specs.declared.run.RunFault.{RunFault}
+use Rattle.jc_program.specs.declared.run.RunFault.TheVariants.{Write}
+use Rattle.jc_program.specs.JournalResult.{OfEventLine, OfStuckLine, JournalsNext, IsNextLine, JournalsAll, AreLinesDue}
 use Rattle.jc_program.specs.Journals.{rows_asked, JournalBy, JournalOf, JournalBegins}
 use Rattle.jc_program.specs.Runs.{Made, events_of}
 use Rattle.jc_program.proofs.JournalsLemmas.{lines_more, journal_to}
-use Rattle.jc_program.proofs.PlayResultLemmas.{made_count, split_here, events_of-append}
+use Rattle.jc_program.proofs.PlayResultLemmas.{made_count, events_of-append}
+
+-- ---- one line
+
+-- what was written of a text where a write of it failed
+pub cut_of : {T : Type 0} (r : Result T RunFault) (text : List ℕ) (a b : Stream) → IfErr r (λ fault. (fault ≡ Write) × WrotePart text a b) → IsErrOf r Write → WrotePart text a b
+cut_of (Ok v) text a b h k = absurd cc
+cut_of (Err fault) text a b h k = h.1
+
+module _ (trace : Bool) (old new : Course) (e : NumberedEvent) (before : Before) (noted : IsNoted e.event old.network.states before) (rows : Rows) (to : StepsTo old e.event new rows) (asked : Option (List (Rule × ℕ))) (are_asked : asked ≡ rows_asked trace rows.rows) where
+  abbrev own_line : List ℕ
+  own_line = event_line old.names e.given e.number e.event (rows_asked trace rows.rows) to.step.step.before to.step.step.after
+
+  of_own_line : (Holds : List ℕ → Type 0) → OfEventLine new e before asked Holds → Holds own_line
+  of_own_line Holds h =
+      subst (λ (ns : List (List ℕ)). Holds (event_line ns e.given e.number e.event (rows_asked trace rows.rows) to.step.step.before to.step.step.after)) to.names
+      (subst (λ (rules : Option (List (Rule × ℕ))). Holds (event_line new.names e.given e.number e.event rules to.step.step.before to.step.step.after)) are_asked (h old.network rows.rows to.step noted))
+
+  -- an event that was made
+  pub event_sent : (a b : Stream) → OfEventLine new e before asked (λ line. Wrote line a b) → JournalsNext trace old new e a b false
+  event_sent a b h = (rows, to, of_own_line (λ line. Wrote line a b) h)
+
+  pub event_cut : (a b : Stream) → OfEventLine new e before asked (λ line. WrotePart line a b) → WrittenInPart (IsNextLine trace old.names old.network e) a b
+  event_cut a b h = (own_line, inl (rows.rows, new.network, to.step, refl), of_own_line (λ line. WrotePart line a b) h)
+
+module _ (trace : Bool) (old new : Course) (e : NumberedEvent) (s : StuckEvent) (x : IsStuckFor old.network e.event s) (same : new ≡ old) where
+  its_event : s.event ≡ e.event
+  its_event = ap (λ (t : StuckEvent). t.event) x.is
+
+  abbrev stuck_own : List ℕ
+  stuck_own = stuck_event_line old.names e.given e.number old.network.states x.why e.event
+
+  of_stuck_own : (Holds : List ℕ → Type 0) → OfStuckLine new e s Holds → Holds stuck_own
+  of_stuck_own Holds h =
+      subst (λ (c : Course). Holds (stuck_event_line c.names e.given e.number c.network.states x.why e.event)) same
+      (subst (λ (event : Event). Holds (stuck_event_line new.names e.given e.number new.network.states x.why event)) its_event
+      (h x.why (x.is ∙ ap (stuck_for x.why) (sym its_event))))
+
+  -- a stuck one
+  pub stuck_named : AreNamed e.event (length old.names) → IsNamedStuck new.names s
+  stuck_named named = record {
+    why = x.why;
+    event = e.event;
+    is = x.is;
+    named = subst (λ (c : Course). AreNamed e.event (length c.names)) (sym same) named;
+  }
+
+  pub stuck_sent : (a b : Stream) → OfStuckLine new e s (λ line. Wrote line a b) → JournalsNext trace old new e a b true
+  stuck_sent a b h = (same, x.why, x.stuck, of_stuck_own (λ line. Wrote line a b) h)
+
+  pub stuck_cut : (a b : Stream) → OfStuckLine new e s (λ line. WrotePart line a b) → WrittenInPart (IsNextLine trace old.names old.network e) a b
+  stuck_cut a b h = (stuck_own, inr (x.why, x.stuck, refl), of_stuck_own (λ line. WrotePart line a b) h)
+
+-- ---- all events
 
 -- the events before a place of the list were made, and their lines were written
 pub record LinesGoOn (trace given : Bool) (old new : Course) (es : List Event) (i : ℕ) (a c : Stream) : Type 0 where
@@ -33,6 +97,9 @@ pub record IsNumbered (given : Bool) (es : List Event) (i : ℕ) (d : Event) (e 
   pub event : e.event ≡ get_or es i d
   pub number : e.number ≡ i + 1
   pub given_is : e.given ≡ given
+
+pub numbered_at : (given : Bool) (es : List Event) (i n : ℕ) (d : Event) → i < length es → n ≡ i + 1 → IsNumbered given es i d (record { event = get_or es i d; number = n; given = given })
+numbered_at given es i n d inside number = record { inside = inside; event = refl; number = number; given_is = refl }
 
 module _ (trace given : Bool) (old now new : Course) (es : List Event) (i : ℕ) (d : Event) (e : NumberedEvent) (a b c : Stream) (so_far : LinesGoOn trace given old now es i a b) (at : IsNumbered given es i d e) where
   abbrev made : List Made

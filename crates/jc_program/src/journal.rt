@@ -133,7 +133,8 @@ fn journal_events<K: Sink>(
             number,
             given,
         };
-        if journal_next(alloc, net, &numbered, trace, out)? {
+        let is_stuck = journal_next(alloc, net, &numbered, trace, out)?;
+        if is_stuck {
             return Ok(true);
         }
     }
@@ -163,11 +164,13 @@ pub fn journal_through<K: Sink>(
         schedule,
     } = scenario;
     let mut net = Net::before_given(alloc, version, names, scripts)?;
-    if journal_events(alloc, &mut net, &given, true, trace, out)? {
+    let given_is_stuck = journal_events(alloc, &mut net, &given, true, trace, out)?;
+    if given_is_stuck {
         return Ok(3);
     }
     net.begin();
-    if journal_events(alloc, &mut net, &schedule, false, trace, out)? {
+    let is_stuck = journal_events(alloc, &mut net, &schedule, false, trace, out)?;
+    if is_stuck {
         return Ok(3);
     }
     Ok(0)
