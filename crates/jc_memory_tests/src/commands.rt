@@ -90,6 +90,13 @@ const ROWS: &[Row] = &[
         status: 0,
     },
     Row {
+        words: &["journal", "-"],
+        file: "",
+        input: TWO,
+        shown: "{\"command\":\"doc.get(\\\"a\\\") := 1\",\"event\":\"a.exec\",\"kind\":\"exec\",\"number\":1,\"op\":{\"cursor\":[\"mapT(doc)\",\"\\\"a\\\"\"],\"deps\":{},\"id\":\"1@a\",\"mutation\":\"assign\",\"value\":{\"n\":\"1\"}},\"replica\":\"a\"}\n{\"command\":\"doc.get(\\\"a\\\") := 2\",\"event\":\"a.exec\",\"kind\":\"exec\",\"number\":2,\"op\":{\"cursor\":[\"mapT(doc)\",\"\\\"a\\\"\"],\"deps\":{\"a\":1},\"id\":\"2@a\",\"mutation\":\"assign\",\"value\":{\"n\":\"2\"}},\"replica\":\"a\"}\n",
+        status: 0,
+    },
+    Row {
         words: &["print", "-"],
         file: "",
         input: WORDS,
