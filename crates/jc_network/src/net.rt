@@ -58,7 +58,7 @@ impl Model for Net {
 
 impl Net {
     /// The network at the start of the scenario, to which its given events lead. Steps are counted from there, and
-    /// `undo` doesn't pass it.
+    /// `undo` doesn't pass it. The scenario's names and scripts are copied; who owns them has `before_given`.
     ///
     /// It is refused with `Given` exactly where no network is the start, with the first given event that is stuck.
     pub fn start(alloc: Global, scenario: &Scenario) -> Result<Self, StartFault>
@@ -123,7 +123,7 @@ impl Net {
         Ok(())
     }
 
-    /// Begins at the network now: no step is counted from then on, and none that was made can be taken back. It takes no
+    /// Begins at the network now: no step that was made is counted any more, and none can be taken back. It takes no
     /// memory.
     pub fn begin(&mut self)
         ensures { self.new ≡ record self.old { earlier = [] } }

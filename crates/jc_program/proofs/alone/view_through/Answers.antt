@@ -84,20 +84,22 @@ returns-in_err-send-in-Some-clause-write g c = λ _.
 pub send_given-requires : goal.send_given-requires
 send_given-requires g c =
     let s = scenario_view c.args.scenario in
-    let stuck = has_stuck s c.in_ok-net.net c.deref.result.now c.in-Err-Given.at c.in-Err-Given.stuck c.in_ok-net.ensures c.deref.ensures.value (c.in-Err-Given.ensures.stuck c.in-Err-Given.at c.in-Err-Given.stuck (ap failed c.in-Err-Given.field-0-is)) in
+    let w = c.in-Err-Given in
+    let stuck = has_stuck s c.in_ok-net.net c.deref.result.now w.at w.stuck c.in_ok-net.ensures c.deref.ensures.value (w.ensures.stuck w.at w.stuck (ap failed w.field-0-is)) in
     let names : c.names.result.now ≡ s.names = c.names.ensures.names ∙ (c.lead.ensures.names ∙ c.in_ok-net.ensures.called) in
-    subst (λ (ns : List (List ℕ)). IsNamedStuck ns c.in-Err-Given.stuck) (sym names) (given_named s c.in-Err-Given.at c.in-Err-Given.stuck stuck c.requires)
+    subst (λ (ns : List (List ℕ)). IsNamedStuck ns w.stuck) (sym names) (given_named s w.at w.stuck stuck c.requires)
 
 pub returns-in-Err-Given-clause-ok : goal.returns-in-Err-Given-clause-ok
 returns-in-Err-Given-clause-ok g c =
     let s = scenario_view c.args.scenario in
+    let w = c.in-Err-Given in
     let o = sink g.K.Sink c.args.out.now in
     let p = sink g.K.Sink c.send_given.new.out in
-    let stuck = has_stuck s c.in_ok-net.net c.deref.result.now c.in-Err-Given.at c.in-Err-Given.stuck c.in_ok-net.ensures c.deref.ensures.value (c.in-Err-Given.ensures.stuck c.in-Err-Given.at c.in-Err-Given.stuck (ap failed c.in-Err-Given.field-0-is)) in
+    let stuck = has_stuck s c.in_ok-net.net c.deref.result.now w.at w.stuck c.in_ok-net.ensures c.deref.ensures.value (w.ensures.stuck w.at w.stuck (ap failed w.field-0-is)) in
     let names : c.names.result.now ≡ s.names = c.names.ensures.names ∙ (c.lead.ensures.names ∙ c.in_ok-net.ensures.called) in
     IfOk-weaker c.send_given.result _
     (λ status. Written (λ text. Shows (Document c.args.events) s text status) o p)
-    (λ status h. let w = given_written s c.in-Err-Given.at c.in-Err-Given.stuck stuck c.names.result.now status o p names h in (w.0, inr w.1, w.2)) c.send_given.ensures.ok
+    (λ status h. (let x = given_written s w.at w.stuck stuck c.names.result.now status o p names h in (x.0, inr x.1, x.2))) c.send_given.ensures.ok
 
 pub returns-in-Err-Given-clause-memory : goal.returns-in-Err-Given-clause-memory
 returns-in-Err-Given-clause-memory g c = λ k. unstarted false (scenario_view c.args.scenario) (take c.args.events (scenario_view c.args.scenario).schedule) (views_text (scenario_view c.args.scenario).names) (sink g.K.Sink c.args.out.now) (sink g.K.Sink c.send_given.new.out) (ap (sink g.K.Sink) (c.send_given.ensures.memory k))
@@ -105,7 +107,8 @@ returns-in-Err-Given-clause-memory g c = λ k. unstarted false (scenario_view c.
 pub returns-in-Err-Given-clause-write : goal.returns-in-Err-Given-clause-write
 returns-in-Err-Given-clause-write g c = λ k.
     let s = scenario_view c.args.scenario in
-    let stuck = has_stuck s c.in_ok-net.net c.deref.result.now c.in-Err-Given.at c.in-Err-Given.stuck c.in_ok-net.ensures c.deref.ensures.value (c.in-Err-Given.ensures.stuck c.in-Err-Given.at c.in-Err-Given.stuck (ap failed c.in-Err-Given.field-0-is)) in
+    let w = c.in-Err-Given in
+    let stuck = has_stuck s c.in_ok-net.net c.deref.result.now w.at w.stuck c.in_ok-net.ensures c.deref.ensures.value (w.ensures.stuck w.at w.stuck (ap failed w.field-0-is)) in
     let names : c.names.result.now ≡ s.names = c.names.ensures.names ∙ (c.lead.ensures.names ∙ c.in_ok-net.ensures.called) in
-    let h = given_cut s c.in-Err-Given.at c.in-Err-Given.stuck stuck c.names.result.now (sink g.K.Sink c.args.out.now) (sink g.K.Sink c.send_given.new.out) names (c.send_given.ensures.write k) in
+    let h = given_cut s w.at w.stuck stuck c.names.result.now (sink g.K.Sink c.args.out.now) (sink g.K.Sink c.send_given.new.out) names (c.send_given.ensures.write k) in
     (h.0, (3, inr h.1), h.2)
