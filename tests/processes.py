@@ -60,6 +60,7 @@ ROWS = [
     Row("view FILE", STUCK_BEFORE, "", 3, GIVEN_STUCK, ""),
     Row("journal FILE", STUCK_BEFORE, "", 3, JOURNAL_STUCK, ""),
     Row("debug FILE", STUCK_BEFORE, "where\n", 3, GIVEN_STUCK, ""),
+    Row("journal FILE", "", "", 1, "refused 14 NoHeader at 0\n", ""),
     Row("check FILE", STUCK_BEFORE, "", 0, "replicas 1 commands 1 given 2 events 0\n", ""),
     Row("debug FILE", STUCK_BEFORE, "where\n", 4, "", "write failed\n", ">/dev/full"),
     # A file that isn't there, and one that opens and can't be read.

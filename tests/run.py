@@ -292,6 +292,7 @@ def editors():
     yield completed_case(["jsoncrdt", "r"], "run")
     yield completed_case(["jsoncrdt", "-"], "-h --help -V --version")
     yield completed_case(["jsoncrdt", "view", "-"], "--at -h --help")
+    yield completed_case(["jsoncrdt", "journal", "-"], "--trace -h --help")
     yield completed_case(["jsoncrdt", "run", "examples/tw"], "examples/two-lists.jsoncrdt examples/two-types.jsoncrdt")
     yield "editors: tools/command_line.py and the sources of the program", is_defined
     yield "editors: tools/command_line.py and --help", names_commands

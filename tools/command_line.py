@@ -33,7 +33,7 @@ COMMANDS = [
             "Prints a line of JSON for each replica. More than one alternative at a place is shown under the name "
             "!conflict."),
     Command("journal",
-            [Option("--trace", about="Print the rules of each event in its line (this may be long)")],
+            [Option("--trace", about="Print the rules that each event used, in its line (this may be long)")],
             "Execute the schedule, and print a line of JSON for each event, with its operation in full",
             "Given events come first. The line of a stuck event is the last, and says what is missing where dependencies "
             "are."),

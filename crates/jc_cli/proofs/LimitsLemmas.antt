@@ -13,7 +13,7 @@ use Rattle.jc_cli.specs.Arguments.{is_traced, limit_in, limit_given, seed_in, se
 use Rattle.jc_cli.specs.declared.order.Order.{Order}
 use Rattle.jc_cli.specs.declared.order.Task.{Task}
 use Rattle.jc_cli.specs.declared.order.Task.TheVariants.{Show, Debug, Threads, Weave}
-use Rattle.jc_cli.specs.declared.order.View.TheVariants.{Check, Print, Run}
+use Rattle.jc_cli.specs.declared.order.View.TheVariants.{Check, Print, Run, Journal}
 
 -- ---- the limit of a text
 
@@ -89,9 +89,10 @@ of_task name rows =
     (by_test (bytes_eq name (codes "print")) (one (Show Print) tt)
     (by_test (bytes_eq name (codes "run")) (one (Show (Run (is_traced rows))) tt)
     (by_test (bytes_eq name (codes "view")) (of_documents (limit_given rows))
+    (by_test (bytes_eq name (codes "journal")) (one (Show (Journal (is_traced rows))) tt)
     (by_test (bytes_eq name (codes "debug")) (one Debug tt)
     (by_test (bytes_eq name (codes "threads")) (of_rows rows)
-    (by_test (bytes_eq name (codes "weave")) (of_weave (seed_given rows) (limit_given rows) (given_in_range rows)) none))))))
+    (by_test (bytes_eq name (codes "weave")) (of_weave (seed_given rows) (limit_given rows) (given_in_range rows)) none)))))))
 
 of_file : (t : Option Task) (file : Option Text) (o : Order) → IsInRange t → with_file t file ≡ Some o → HasLimitInRange o.task
 of_file (Some task) (Some file) o p e =

@@ -12,7 +12,7 @@ use Rattle.jc_cli.specs.Program.{program}
 use Rattle.jc_cli.specs.declared.order.Order.{Order}
 use Rattle.jc_cli.specs.declared.order.Task.{Task}
 use Rattle.jc_cli.specs.declared.order.Task.TheVariants.{Show, Debug, Threads, Weave}
-use Rattle.jc_cli.specs.declared.order.View.TheVariants.{Check, Print, Run, Document}
+use Rattle.jc_cli.specs.declared.order.View.TheVariants.{Check, Print, Run, Document, Journal}
 use Rattle.jc_cli.specs.declared.fault.WordsFault.{WordsFault}
 use Rattle.jc_cli.specs.declared.fault.WordsFault.TheVariants.{Help, Usage, Memory}
 
@@ -52,10 +52,11 @@ task_in name rows =
     else (if bytes_eq name (codes "print") then Some (Show Print)
     else (if bytes_eq name (codes "run") then Some (Show (Run (is_traced rows)))
     else (if bytes_eq name (codes "view") then option_map documents (limit_given rows)
+    else (if bytes_eq name (codes "journal") then Some (Show (Journal (is_traced rows)))
     else (if bytes_eq name (codes "debug") then Some Debug
     else (if bytes_eq name (codes "threads") then option_map Threads (limit_given rows)
     else (if bytes_eq name (codes "weave") then weave_by (seed_given rows) (limit_given rows)
-    else None))))))
+    else None)))))))
 
 abbrev pub with_file : Option Task → Option Text → Option Order
 with_file (Some task) (Some file) = Some (record { task = task; file = file })

@@ -3,9 +3,11 @@
 
 ghost use Rattle.std.specs.Prelude.{◌≡◌, IfOk, false};
 ghost use Rattle.clap.specs.Words.{app_of, rule_of, new_app, with_rule};
-ghost use Rattle.jc_cli.specs.Program.{IsLocal, file_rule, limit_rule, seed_rule, plain_app, run_app, view_app, threads_app, weave_app, program};
+ghost use Rattle.jc_cli.specs.Program.{IsLocal, file_rule, limit_rule, seed_rule, plain_app, run_app, view_app, journal_app, threads_app, weave_app, program};
 
-use crate::help::{ABOUT, CHECK, DEBUG, PRINT, PROGRAM, RUN, THREADS, USAGE, VERSION, VIEW, WEAVE};
+use crate::help::{
+    ABOUT, CHECK, DEBUG, JOURNAL, PRINT, PROGRAM, RUN, THREADS, USAGE, VERSION, VIEW, WEAVE,
+};
 use clap::builder::ValueParser;
 use clap::{Arg, ArgAction, Command};
 use jc_rules::limits::{MAX_EVENTS, MAX_THREAD_EVENTS};
@@ -69,6 +71,23 @@ fn view<'a>(alloc: Global) -> Result<Command<'a>, AllocError>
         )
         .after_help(VIEW)
         .arg(limit)?
+        .arg(file(alloc))
+}
+
+fn journal<'a>(alloc: Global) -> Result<Command<'a>, AllocError>
+    ensures shape { IfOk result (λ c. app_of c ≡ journal_app) }
+    ensures local { IfOk result IsLocal }
+{
+    let trace = Arg::new(alloc, "trace")
+        .long("trace")
+        .help("Print the rules that each event used, in its line (this may be long)")
+        .action(ArgAction::SetTrue);
+    Command::new(alloc, "journal")
+        .about(
+            "Execute the schedule, and print a line of JSON for each event, with its operation in full",
+        )
+        .after_help(JOURNAL)
+        .arg(trace)?
         .arg(file(alloc))
 }
 
@@ -163,6 +182,8 @@ pub(crate) fn definition<'a>(alloc: Global) -> Result<Command<'a>, AllocError>
     let top = top.subcommand(run)?;
     let view = view(alloc)?;
     let top = top.subcommand(view)?;
+    let journal = journal(alloc)?;
+    let top = top.subcommand(journal)?;
     let debug = plain(
         alloc,
         "debug",

@@ -14,7 +14,7 @@ pub(crate) const USAGE: &str = "jsoncrdt [COMMAND]\n       jsoncrdt help [COMMAN
 
 /// The command line in one line, where its parser has no text.
 pub(crate) const BRIEF: &str =
-    "Usage: jsoncrdt [check|print|run|view|debug|threads|weave] [FILE]\n";
+    "Usage: jsoncrdt [check|print|run|view|journal|debug|threads|weave] [FILE]\n";
 
 /// The help of the program.
 pub(crate) const PROGRAM: &str =
@@ -147,6 +147,32 @@ prints the document of replica a after its only event:\n  \
 {\"doc\":{\"a\":1},\"name\":\"a\"}\n\
 With --at 0 it prints\n  \
 {\"name\":\"a\"}\n\
+\n\
+Statuses:\n  \
+0  done, also after help\n  \
+1  the scenario's text was refused; the line printed says why and where\n  \
+2  the arguments are wrong\n  \
+3  an event was stuck, since no rule allows it; the last line says why\n  \
+4  a read or a write failed\n  \
+5  there was no memory";
+
+/// The help of `journal`.
+pub(crate) const JOURNAL: &str =
+    "A scenario is a text with a script of commands for each replica, and a schedule of the events\n\
+that execute them.\n\
+\n\
+Prints a line of JSON for each event, with its number, its kind and its replica. `exec` has the\n\
+command, and the operation that it made; `apply` has the operation; `send`, `recv` and `take` have\n\
+the identifiers that are new. An operation has its cursor, its mutation, and under `deps` what it\n\
+depends on: the greatest counter of each replica.\n\
+It stops before an event that no rule allows, and the last line says why that one is stuck. Given\n\
+events, of version 2, come first, with numbers of their own and `\"given\":true`.\n\
+\n\
+Example:\n  \
+echo 'jsoncrdt 1 replica a { doc.get(\"a\") := 1 } schedule { a.exec }' | jsoncrdt journal -\n\
+prints the line of its only event:\n  \
+{\"command\":\"doc.get(\\\"a\\\") := 1\",\"event\":\"a.exec\",\"kind\":\"exec\",\"number\":1,\"op\":{\"cursor\":[\"mapT(doc)\",\"\\\"a\\\"\"],\"deps\":{},\"id\":\"1@a\",\"mutation\":\"assign\",\"value\":{\"n\":\"1\"}},\"replica\":\"a\"}\n\
+With --trace each line has the rules of its event too, each with its depth.\n\
 \n\
 Statuses:\n  \
 0  done, also after help\n  \

@@ -19,6 +19,11 @@ pub enum View {
         /// The number of events executed at most.
         events: u64,
     },
+    /// A line of JSON for each event, given ones too, with its operation in full.
+    Journal {
+        /// Whether each line has the rules of its event.
+        trace: bool,
+    },
 }
 
 /// What a command does with a scenario.

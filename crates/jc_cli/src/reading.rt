@@ -152,6 +152,9 @@ fn task_of(name: &str, matches: &ArgMatches<'_>) -> Option<Task>
             Some(events) => Some(Task::Show(View::Document { events })),
             None => None,
         },
+        "journal" => Some(Task::Show(View::Journal {
+            trace: has_trace(matches),
+        })),
         "debug" => Some(Task::Debug),
         "threads" => match limit_of(matches) {
             Some(limit) => Some(Task::Threads { limit }),

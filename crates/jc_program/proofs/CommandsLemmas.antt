@@ -4,18 +4,21 @@ use Rattle.std.proofs.lemmas.Option.{same_Some}
 use Rattle.jc_cli.specs.declared.order.Task.{Task}
 use Rattle.jc_cli.specs.declared.order.Task.TheVariants.{Show, Debug, Threads, Weave}
 use Rattle.jc_cli.specs.declared.order.View.{View}
-use Rattle.jc_cli.specs.declared.order.View.TheVariants.{Check, Print, Run, Document}
+use Rattle.jc_cli.specs.declared.order.View.TheVariants.{Check, Print, Run, Document, Journal}
 use Rattle.jc_scenario.specs.WellFormed.{Scenario, IsScenario}
 use Rattle.jc_session.specs.Lines.{Line}
 use Rattle.jc_session.specs.SessionText.{End}
 use Rattle.jc_session.specs.SessionText as S
 use Rattle.jc_program.specs.Commands.{IsStoppedCommand}
 use Rattle.jc_program.specs.Promise.{HasStart, HasStuckGiven}
+use Rattle.jc_program.specs.Journals as J
+use Rattle.jc_network.specs.Given.{before_given}
 use Rattle.jc_program.specs.ViewText.{IsGivenShown, Ran}
 use Rattle.jc_program.specs.Runs.{Stuck, status_of}
 use Rattle.jc_program.specs.SessionRuns.{session_status, ShowsTo}
 use Rattle.jc_program.specs.declared.fault.WorkFault.TheVariants.{Memory}
 use Rattle.jc_session.specs.Written.{Stream}
+use Rattle.jc_program.proofs.JournalsLemmas.{all_led, first_stuck}
 use Rattle.jc_program.proofs.ViewOutputLemmas.{nothing_shown}
 use Rattle.jc_program.specs.WeaveRuns.{IsBySeed, HaveNoThreads}
 use Rattle.jc_program.proofs.SessionRunsLemmas.{without_memory}
@@ -71,6 +74,11 @@ of_view (Run trace) bytes shown status (Ok s, is, inl h) = subst (IsEnd bytes) (
 of_view (Run trace) bytes shown status (Ok s, is, inr h) = of_given bytes s shown status is h
 of_view (Document n) bytes shown status (Ok s, is, inl h) = subst (IsEnd bytes) (sym h.ends) (of_run bytes (s, h.start, is, h.is_start) h.stuck)
 of_view (Document n) bytes shown status (Ok s, is, inr h) = of_given bytes s shown status is h
+of_view (Journal trace) bytes shown status (Ok s, is, J.given_stuck last (event, why) h) =
+    let first = first_stuck trace true s.names (before_given s) s.given last event why shown h in
+    given_stuck (s, first.0, event, why, is, first.1)
+of_view (Journal trace) bytes shown status (Ok s, is, J.ran start last stuck first text given h out) =
+    of_run bytes (s, start, is, all_led trace true s.names (before_given s) s.given start first given) stuck
 
 pub of_session : (bytes : List ℕ) (lines : Option (List ℕ)) (end : End) (a b : Stream) (status : ℕ) → session_status end ≡ Some status → ShowsTo bytes lines end a b → IsEnd bytes status
 of_session bytes lines S.finished a b status e h = subst (IsEnd bytes) (same_Some 0 status e) well

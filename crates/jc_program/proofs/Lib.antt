@@ -1,4 +1,6 @@
 pub mod PlayResultLemmas
+pub mod JournalsLemmas
+pub mod JournalResultLemmas
 pub mod ReadsScenarioLemmas
 pub mod ViewOutputLemmas
 pub mod CommandCountLemmas
@@ -7,6 +9,7 @@ pub mod ViewTextLemmas
 pub mod GivenStuckLemmas
 pub mod DocumentsLemmas
 pub mod ViewsLemmas
+pub mod JournaledLemmas
 pub mod LawsLemmas
 pub mod SomeRunLemmas
 pub mod SessionRunsLemmas

@@ -3,9 +3,11 @@ pub mod Ends
 pub mod Recordings
 pub mod Texts
 pub mod Runs
+pub mod Journals
 pub mod ViewText
 pub mod ViewOutput
 pub mod PlayResult
+pub mod JournalResult
 pub mod Faults
 pub mod SessionRuns
 pub mod Commands

@@ -1,4 +1,5 @@
--- The text and the status of a view of a scenario's bytes: `check`, `print`, `run` and `view`. The promise cites `Ran`.
+-- The text and the status of a view of a scenario's bytes: `check`, `print`, `run`, `view` and `journal`. The promise
+-- cites `Ran`.
 use Rattle.std.specs.Prelude.{◌≡◌, ◌⊎◌, ℕ, List, [], ◌++◌, Bool, false, take, Option, Some, Result, Ok, Err}
 use Rattle.jc_rules.specs.declared.refusal.Refusal.{Refusal}
 use Rattle.jc_rules.specs.declared.operation.Event.{Event}
@@ -11,11 +12,12 @@ use Rattle.jc_scenario.specs.Faults.{IsFault}
 use Rattle.jc_scenario.specs.Canon.{canon}
 use Rattle.jc_network.specs.Given.{before_given, IsStart, IsGivenStuck}
 use Rattle.jc_cli.specs.declared.order.View.{View}
-use Rattle.jc_cli.specs.declared.order.View.TheVariants.{Check, Print, Run, Document}
+use Rattle.jc_cli.specs.declared.order.View.TheVariants.{Check, Print, Run, Document, Journal}
 use Rattle.jc_dump.specs.Texts.{refused_text, given_text}
 use Rattle.jc_program.specs.Texts.{counts_text}
 use Rattle.jc_dump.specs.Texts.{dumps_text}
 use Rattle.jc_view.specs.Visible.{views_text}
+use Rattle.jc_program.specs.Journals.{Journaled}
 use Rattle.jc_program.specs.Runs.{Stuck, Plays, stuck_line, status_of}
 
 -- the bytes are this scenario, or have this fault
@@ -70,6 +72,7 @@ Shows Check s out status = (out ≡ counts_text s) × (status ≡ 0)
 Shows Print s out status = (out ≡ canon s) × (status ≡ 0)
 Shows (Run trace) s out status = RanThrough trace s out status ⊎ IsGivenShown s out status
 Shows (Document events) s out status = ViewedThrough events s out status ⊎ IsGivenShown s out status
+Shows (Journal trace) s out status = Journaled trace s out status
 
 abbrev pub RanOn : View → Result Scenario ScenarioFault → List ℕ → ℕ → Type 0
 RanOn view (Ok s) out status = Shows view s out status

@@ -4,6 +4,7 @@
 mod alone;
 mod fault;
 mod files;
+mod journal;
 pub mod laws;
 mod lines;
 mod program;

@@ -92,6 +92,10 @@ const ABSENT: &str = "jsoncrdt 1 replica a { let x = doc.get(\"l\").idx(0) } sch
 const ABSENT_ENDS: &str =
     "{\"acted\":false,\"left\":1,\"name\":\"a\",\"ops\":[],\"queue\":[],\"recv\":[],\"send\":[],\"tree\":{},\"vars\":{}}\nstuck 25 NoSuchNode mapT(doc) a.exec\n";
 
+/// The journal of one event.
+const ONE_LINE: &str =
+    "{\"command\":\"doc.get(\\\"a\\\") := 1\",\"event\":\"a.exec\",\"kind\":\"exec\",\"number\":1,\"op\":{\"cursor\":[\"mapT(doc)\",\"\\\"a\\\"\"],\"deps\":{},\"id\":\"1@a\",\"mutation\":\"assign\",\"value\":{\"n\":\"1\"}},\"replica\":\"a\"}\n";
+
 /// Arguments, the text of standard input, what is printed, and the status.
 const COMMANDS: &[(&[&str], &str, &[&str], u8)] = &[
     (&["check", "-"], ONE, &[COUNTS], 0),
@@ -109,6 +113,7 @@ const COMMANDS: &[(&[&str], &str, &[&str], u8)] = &[
     (&["run", "-"], ABSENT, &[ABSENT_ENDS], 3),
     (&["run", "--trace", "-"], ONE, &[FIRST_BLOCK, ONE_DUMP], 0),
     (&["run", "-", "--trace"], ONE, &[FIRST_BLOCK, ONE_DUMP], 0),
+    (&["journal", "-"], ONE, &[ONE_LINE], 0),
     (&["check", "here"], "", &[COUNTS], 0),
     (&["run", "here"], "", &[ONE_DUMP], 0),
     (&["run", "broken"], "", &[NO_HEADER], 1),
@@ -240,6 +245,17 @@ const HELPS: &[(&[&str], &[&str])] = &[
             ONE,
             ONE_DUMP,
             "Usage: jsoncrdt run [OPTIONS] <FILE>\n",
+            "--trace",
+            "  3  an event was stuck",
+        ],
+    ),
+    (
+        &["journal", "--help"],
+        &[
+            "A scenario is",
+            ONE,
+            ONE_LINE,
+            "Usage: jsoncrdt journal [OPTIONS] <FILE>\n",
             "--trace",
             "  3  an event was stuck",
         ],

@@ -1,0 +1,118 @@
+-- About Journals (Journaled): the journal of a scenario, whole or up to a fault. `journal_through` uses it.
+use Rattle.std.proofs.Common.{◌≡◌, ℕ, List, [], ◌++◌, length, All, is_some, Bool, Option, Some, None, true, false, inl, inr, refl, sym, ◌∙◌, ap, subst}
+use Rattle.jc_rules.specs.declared.operation.Event.{Event}
+use Rattle.jc_rules.specs.Step.{Network}
+use Rattle.jc_printer.specs.Canon.{AreNamed}
+use Rattle.jc_scenario.specs.WellFormed.{Scenario}
+use Rattle.jc_network.specs.NetworkHistory.{Course}
+use Rattle.jc_network.specs.Given.{before_given, IsBeforeGiven}
+use Rattle.jc_cli.specs.declared.order.View.TheVariants.{Journal}
+use Rattle.jc_session.specs.Written.{Stream, Wrote, Written, WrittenInPart}
+use Rattle.jc_session.proofs.WrittenLemmas.{wrote_none, wrote_both, part_after}
+use Rattle.jc_program.specs.JournalResult.{JournalsAll, AreLinesDue}
+use Rattle.jc_program.specs.Journals.{JournalOf, Journaled, given_stuck, ran, JournalBegins, AreFirstLines}
+use Rattle.jc_program.specs.Runs.{Stuck, status_of}
+use Rattle.jc_program.specs.ViewOutput.{IsJournalDue}
+use Rattle.jc_program.specs.ViewText.{Shows}
+use Rattle.jc_program.proofs.JournalsLemmas.{journal_as, begins_as}
+
+-- where there was no memory for the network, nothing was written
+pub nothing_journaled : (trace : Bool) (s : Scenario) (a b : Stream) → b ≡ a → Written (AreFirstLines trace s) a b
+nothing_journaled trace s a b same =
+    ([], inl (record { made = []; more = s.given; last = before_given s; goes = (refl, refl); are_first = refl }), wrote_none a b same)
+
+-- the status for a stuck event, and that for none
+some_status : (stuck : Option Stuck) → is_some stuck ≡ true → status_of stuck ≡ 3
+some_status None e = let f : false ≡ true = e in cc
+some_status (Some x) e = refl
+
+none_status : (stuck : Option Stuck) → is_some stuck ≡ false → status_of stuck ≡ 0
+none_status None e = refl
+none_status (Some x) e = let f : true ≡ false = e in cc
+
+-- events of named replicas are such in each network with these names
+pub all_named : (names ns : List (List ℕ)) (events es : List Event) → names ≡ ns → events ≡ es → All (λ e. AreNamed e (length ns)) es → All (λ e. AreNamed e (length names)) events
+all_named names ns events es p q h =
+    subst (λ (x : List (List ℕ)). All (λ e. AreNamed e (length x)) events) (sym p) (subst (λ (x : List Event). All (λ e. AreNamed e (length ns)) x) (sym q) h)
+
+-- ---- the given events
+
+-- All given events were made and their lines were written, and the network begins there.
+pub record HasLed (trace : Bool) (s : Scenario) (begun : Course) (a b : Stream) : Type 0 where
+  pub start : Network
+  pub first : List ℕ
+  pub given : JournalOf trace true s.names (before_given s) s.given start None first
+  pub wrote : Wrote first a b
+  pub names : begun.names ≡ s.names
+  pub network : begun.network ≡ start
+
+module _ (trace : Bool) (s : Scenario) (first : Course) (from : IsBeforeGiven s.version s.names s.scripts first) (given : List Event) (are_given : given ≡ s.given) where
+  given_journal : (last : Network) (stuck : Option Stuck) (text : List ℕ) → JournalOf trace true first.names first.network given last stuck text → JournalOf trace true s.names (before_given s) s.given last stuck text
+  given_journal last stuck text h = journal_as trace true first.names s.names first.network (before_given s) given s.given last stuck text from.called from.network are_given h
+
+  given_begins : (text : List ℕ) → JournalBegins trace true first.names first.network given text → JournalBegins trace true s.names (before_given s) s.given text
+  given_begins text h = begins_as trace true first.names s.names first.network (before_given s) given s.given text from.called from.network are_given h
+
+  stuck_journal : (last : Network) (stuck : Option Stuck) (text : List ℕ) → is_some stuck ≡ true → JournalOf trace true first.names first.network given last stuck text → Journaled trace s text 3
+  stuck_journal last None text e h = let f : false ≡ true = e in cc
+  stuck_journal last (Some x) text e h = given_stuck last x (given_journal last (Some x) text h)
+
+  whole_journal : (last : Network) (stuck : Option Stuck) (text : List ℕ) → is_some stuck ≡ false → JournalOf trace true first.names first.network given last stuck text → JournalOf trace true s.names (before_given s) s.given last None text
+  whole_journal last None text e h = given_journal last None text h
+  whole_journal last (Some x) text e h = let f : true ≡ false = e in cc
+
+  -- one is stuck
+  pub given_stops : (last : Course) (a b : Stream) (answer : Bool) → answer ≡ true → JournalsAll trace true first last given a b answer → Written (λ text. Shows (Journal trace) s text 3) a b
+  given_stops last a b answer some h = (h.text, stuck_journal last.network h.stuck h.text (h.tells ∙ some) h.journal, h.written)
+
+  -- none is
+  pub has_led : (last begun : Course) (a b : Stream) (answer : Bool) → answer ≡ false → JournalsAll trace true first last given a b answer → begun ≡ record last { earlier = [] } → HasLed trace s begun a b
+  has_led last begun a b answer none h at = record {
+    start = last.network;
+    first = h.text;
+    given = whole_journal last.network h.stuck h.text (h.tells ∙ none) h.journal;
+    wrote = h.written;
+    names = ap (λ (c : Course). c.names) at ∙ (h.names ∙ from.called);
+    network = ap (λ (c : Course). c.network) at;
+  }
+
+  -- the lines of some first ones
+  pub given_stand : (a b : Stream) → Written (JournalBegins trace true first.names first.network given) a b → Written (AreFirstLines trace s) a b
+  given_stand a b h = (h.0, inl (given_begins h.0 h.1), h.2)
+
+  -- a line was begun
+  pub given_part : (a b : Stream) → WrittenInPart (AreLinesDue trace true first.names first.network given) a b → WrittenInPart (IsJournalDue trace s) a b
+  given_part a b (text, inl begins, part) = (text, inl (inl (given_begins text begins)), part)
+  given_part a b (text, inr (last, x, h), part) = (text, inr (3, given_stuck last x (given_journal last (Some x) text h)), part)
+
+-- ---- the schedule behind them
+
+module _ (trace : Bool) (s : Scenario) (begun : Course) (a b : Stream) (led : HasLed trace s begun a b) (schedule : List Event) (are_scheduled : schedule ≡ s.schedule) where
+  later_begins : (text : List ℕ) → JournalBegins trace false begun.names begun.network schedule text → JournalBegins trace false s.names led.start s.schedule text
+  later_begins text h = begins_as trace false begun.names s.names begun.network led.start schedule s.schedule text led.names led.network are_scheduled h
+
+  journaled : (last : Network) (stuck : Option Stuck) (text : List ℕ) → JournalOf trace false begun.names begun.network schedule last stuck text → Journaled trace s (led.first ++ text) (status_of stuck)
+  journaled last stuck text h =
+      ran led.start last stuck led.first text led.given (journal_as trace false begun.names s.names begun.network led.start schedule s.schedule last stuck text led.names led.network are_scheduled h) refl
+
+  -- one of its events is stuck
+  pub schedule_stops : (last : Course) (c : Stream) (answer : Bool) → answer ≡ true → JournalsAll trace false begun last schedule b c answer → Written (λ text. Shows (Journal trace) s text 3) a c
+  schedule_stops last c answer some h =
+      (led.first ++ h.text, subst (λ (n : ℕ). Journaled trace s (led.first ++ h.text) n) (some_status h.stuck (h.tells ∙ some)) (journaled last.network h.stuck h.text h.journal), wrote_both a b c led.first h.text led.wrote h.written)
+
+  -- none is
+  pub schedule_ends : (last : Course) (c : Stream) (answer : Bool) → answer ≡ false → JournalsAll trace false begun last schedule b c answer → Written (λ text. Shows (Journal trace) s text 0) a c
+  schedule_ends last c answer none h =
+      (led.first ++ h.text, subst (λ (n : ℕ). Journaled trace s (led.first ++ h.text) n) (none_status h.stuck (h.tells ∙ none)) (journaled last.network h.stuck h.text h.journal), wrote_both a b c led.first h.text led.wrote h.written)
+
+  -- the lines of some first ones
+  pub schedule_stand : (c : Stream) → Written (JournalBegins trace false begun.names begun.network schedule) b c → Written (AreFirstLines trace s) a c
+  schedule_stand c h =
+      (led.first ++ h.0, inr (led.start, led.first, h.0, led.given, later_begins h.0 h.1, refl), wrote_both a b c led.first h.0 led.wrote h.2)
+
+  -- a line was begun
+  pub schedule_part : (c : Stream) → WrittenInPart (AreLinesDue trace false begun.names begun.network schedule) b c → WrittenInPart (IsJournalDue trace s) a c
+  schedule_part c (text, inl begins, part) =
+      (led.first ++ text, inl (inr (led.start, led.first, text, led.given, later_begins text begins, refl)), part_after a b c led.first text led.wrote part)
+  schedule_part c (text, inr (last, x, h), part) =
+      (led.first ++ text, inr (3, journaled last (Some x) text h), part_after a b c led.first text led.wrote part)

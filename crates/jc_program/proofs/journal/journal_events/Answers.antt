@@ -1,0 +1,44 @@
+use Rattle.std.proofs.Common.{◌≡◌, ◌+◌, ◌<◌, length, ap, sym, arith}
+use Rattle.jc_rules.specs.declared.operation.Event.TheVariants.{Exec}
+use Rattle.jc_session.specs.Written.{sink}
+use Rattle.jc_session.proofs.SentLemmas.{handed}
+use Rattle.jc_program.proofs.JournalResultLemmas.{numbered_at, line_here, line_stops, line_begun, lines_end, lines_stand}
+use Rattle.jc_program.proofs.journal.journal_events.Goals as goal
+
+pub returns-then-is_stuck-clause-ok : goal.returns-then-is_stuck-clause-ok
+returns-then-is_stuck-clause-ok g c =
+    let es = c.args.events.now in
+    let i = c.loop-event.event-index in
+    let inside : i < length es = omega arith in
+    let number : c.loop-event.number + 1 ≡ i + 1 = omega (arith, c.loop-event.invariant.counted) in
+    line_stops c.args.trace c.args.given c.args.net.now c.loop-event.net c.journal_next.new.net es i (Exec 0) _ (sink g.K.Sink c.args.out.now) (sink g.K.Sink c.loop-event.out) (sink g.K.Sink c.journal_next.new.out) c.loop-event.invariant.goes (numbered_at c.args.given es i (c.loop-event.number + 1) (Exec 0) inside number) c.in_ok-is_stuck.is_stuck c.if-is_stuck.true c.in_ok-is_stuck.ensures.ok
+
+pub loop-event-preserved : goal.loop-event-preserved
+loop-event-preserved g c =
+    let es = c.args.events.now in
+    let i = c.loop-event.event-index in
+    let inside : i < length es = omega arith in
+    let number : c.loop-event.number + 1 ≡ i + 1 = omega (arith, c.loop-event.invariant.counted) in
+    let on = line_here c.args.trace c.args.given c.args.net.now c.loop-event.net c.journal_next.new.net es i (Exec 0) _ (sink g.K.Sink c.args.out.now) (sink g.K.Sink c.loop-event.out) (sink g.K.Sink c.journal_next.new.out) c.loop-event.invariant.goes (numbered_at c.args.given es i (c.loop-event.number + 1) (Exec 0) inside number) c.in_ok-is_stuck.is_stuck c.if-is_stuck.false c.in_ok-is_stuck.ensures.ok in
+    record { counted = number; names = on.names; steps = on.steps; goes = on }
+
+-- all were made
+pub returns-clause-ok : goal.returns-clause-ok
+returns-clause-ok g c =
+    let es = c.args.events.now in
+    let i = c.loop-event.event-index in
+    lines_end c.args.trace c.args.given c.args.net.now c.loop-event.net es i (sink g.K.Sink c.args.out.now) (sink g.K.Sink c.loop-event.out) c.loop-event.invariant.goes (omega arith)
+
+-- the lines of those before it are there
+pub returns-in_err-is_stuck-clause-memory : goal.returns-in_err-is_stuck-clause-memory
+returns-in_err-is_stuck-clause-memory g c = λ k.
+    lines_stand c.args.trace c.args.given c.args.net.now c.loop-event.net c.args.events.now c.loop-event.event-index (sink g.K.Sink c.args.out.now) (sink g.K.Sink c.loop-event.out) c.loop-event.invariant.goes (sink g.K.Sink c.journal_next.new.out) (ap (sink g.K.Sink) (c.in_err-is_stuck.ensures.memory (handed _ _ _ c.from_residual.ensures.1 k)))
+
+-- and the next one was begun
+pub returns-in_err-is_stuck-clause-write : goal.returns-in_err-is_stuck-clause-write
+returns-in_err-is_stuck-clause-write g c = λ k.
+    let es = c.args.events.now in
+    let i = c.loop-event.event-index in
+    let inside : i < length es = omega arith in
+    let number : c.loop-event.number + 1 ≡ i + 1 = omega (arith, c.loop-event.invariant.counted) in
+    line_begun c.args.trace c.args.given c.args.net.now c.loop-event.net c.journal_next.new.net es i (Exec 0) _ (sink g.K.Sink c.args.out.now) (sink g.K.Sink c.loop-event.out) (sink g.K.Sink c.journal_next.new.out) c.loop-event.invariant.goes (numbered_at c.args.given es i (c.loop-event.number + 1) (Exec 0) inside number) (c.in_err-is_stuck.ensures.write (handed _ _ _ c.from_residual.ensures.1 k))
