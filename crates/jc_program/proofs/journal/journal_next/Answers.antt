@@ -10,8 +10,8 @@ abbrev failed : StepFault → Result Rows StepFault
 failed fault = Err fault
 
 -- the event was made
-pub returns-in_ok-send_event-in-Ok-clause-ok : goal.returns-in_ok-send_event-in-Ok-clause-ok
-returns-in_ok-send_event-in-Ok-clause-ok g c =
+pub returns-in-Ok-clause-ok : goal.returns-in-Ok-clause-ok
+returns-in-Ok-clause-ok g c =
     event_sent c.args.trace c.args.net.now c.step.new.self c.args.numbered.now c.in_ok-before.before c.in_ok-before.ensures c.in-Ok.rules c.in-Ok.ensures.made _ c.rows_asked-asked.ensures (sink g.K.Sink c.args.out.now) (sink g.K.Sink c.send_event.new.out) c.in_ok-send_event-in-Ok.ensures.ok
 
 pub returns-in_err-send_event-in-Ok-clause-write : goal.returns-in_err-send_event-in-Ok-clause-write
@@ -23,8 +23,8 @@ pub send_stuck-requires : goal.send_stuck-requires
 send_stuck-requires g c =
     stuck_named c.args.trace c.args.net.now c.step.new.self c.args.numbered.now c.in-Err-Stuck.stuck (c.in-Err-Stuck.ensures.stuck c.in-Err-Stuck.stuck (ap failed c.in-Err-Stuck.field-0-is)) c.in-Err-Stuck.ensures.kept c.requires.named
 
-pub returns-in_ok-send_stuck-in-Err-Stuck-clause-ok : goal.returns-in_ok-send_stuck-in-Err-Stuck-clause-ok
-returns-in_ok-send_stuck-in-Err-Stuck-clause-ok g c =
+pub returns-in-Err-Stuck-clause-ok : goal.returns-in-Err-Stuck-clause-ok
+returns-in-Err-Stuck-clause-ok g c =
     stuck_sent c.args.trace c.args.net.now c.step.new.self c.args.numbered.now c.in-Err-Stuck.stuck (c.in-Err-Stuck.ensures.stuck c.in-Err-Stuck.stuck (ap failed c.in-Err-Stuck.field-0-is)) c.in-Err-Stuck.ensures.kept (sink g.K.Sink c.args.out.now) (sink g.K.Sink c.send_stuck.new.out) c.in_ok-send_stuck-in-Err-Stuck.ensures.ok
 
 pub returns-in_err-send_stuck-in-Err-Stuck-clause-write : goal.returns-in_err-send_stuck-in-Err-Stuck-clause-write
