@@ -48,6 +48,18 @@ with-same m l h = ap (λ b. cond b (m ∷ []) (l ∷ m ∷ [])) (same_text m l E
 with-other : (m l : Member) → name_cmp m.text.now l.text.now ≡ Greater → with_last m (l ∷ []) ≡ l ∷ m ∷ []
 with-other m l h = ap (λ b. cond b (m ∷ []) (l ∷ m ∷ [])) (same_text m l Less (greater_less names_total m.text.now l.text.now h))
 
+-- the last member gives way to one of the same text
+pub gives_way : (m x : Member) (front : List Member) → pointwise nat_eq x.text.now m.text.now ≡ true → with_last m (front ++ x ∷ []) ≡ front ++ m ∷ []
+gives_way m x [] h = rw h refl
+gives_way m x (l ∷ []) h = ap (λ ns. l ∷ ns) (gives_way m x [] h)
+gives_way m x (l ∷ k ∷ ls) h = ap (λ ns. l ∷ ns) (gives_way m x (k ∷ ls) h)
+
+-- and stays before one of another
+pub stays : (m x : Member) (front : List Member) → pointwise nat_eq x.text.now m.text.now ≡ false → with_last m (front ++ x ∷ []) ≡ (front ++ x ∷ []) ++ m ∷ []
+stays m x [] h = rw h refl
+stays m x (l ∷ []) h = ap (λ ns. l ∷ ns) (stays m x [] h)
+stays m x (l ∷ k ∷ ls) h = ap (λ ns. l ∷ ns) (stays m x (k ∷ ls) h)
+
 -- what is true of the members and of one more
 all_with : (P : Member → Type 0) (m : Member) (ms : List Member) → P m → AllByRecursion P ms → AllByRecursion P (with_last m ms)
 all_with P m [] p a = (p, tt)

@@ -93,14 +93,34 @@ module _ {X : Type 0} (f : X → Data) where
   among-data : (P : Key → Type 0) (es : List (Key × X)) → AllByRecursion P (keys_of es) → AllByRecursion P (keys_of (with_data f es))
   among-data P es h = subst (AllByRecursion P) (sym (keys-data es)) h
 
-  -- what is found shows what is there
-  pub found-data : (k : Key) (es : List (Key × X)) → find key_cmp k (with_data f es) ≡ option_map f (find key_cmp k es)
+  found-data : (k : Key) (es : List (Key × X)) → find key_cmp k (with_data f es) ≡ option_map f (find key_cmp k es)
   found-data k [] = refl
   found-data k (e ∷ es) = go (same_key k e.0) refl (found-data k es)
     where
       go : (b : Bool) → same_key k e.0 ≡ b → find key_cmp k (with_data f es) ≡ option_map f (find key_cmp k es) → find key_cmp k (with_data f (e ∷ es)) ≡ option_map f (find key_cmp k (e ∷ es))
       go true q ih = rw q refl
       go false q ih = rw q ih
+
+  -- a value that is there shows itself, and no value shows none
+  pub value_shown : (k : Key) (es : List (Key × X)) (o : Option X) → o ≡ find key_cmp k es → option_map f o ≡ find key_cmp k (with_data f es)
+  value_shown k es o e = ap (option_map f) e ∙ sym (found-data k es)
+
+module _ (b : Branch) (k : Key) (c : Context) (names : List (List ℕ)) where
+  -- a child that is there shows itself
+  pub child_shown : is_some (content (tag_of b k) c) ≡ true → Some (context_data names (or_empty (find key_cmp k (children_in b c)))) ≡ find key_cmp k (with_data (context_data names) (children_in b c))
+  child_shown h = go (find key_cmp k (children_in b c)) refl ∙ sym (found-data (context_data names) k (children_in b c))
+    where
+      go : (o : Option Context) → find key_cmp k (children_in b c) ≡ o → Some (context_data names (or_empty (find key_cmp k (children_in b c)))) ≡ option_map (context_data names) (find key_cmp k (children_in b c))
+      go None f = let g : is_some (node_of (find key_cmp k (children_in b c))) ≡ true = ap is_some (sym (content_in b k c)) ∙ h in let i : false ≡ true = rw f at g in cc
+      go (Some d) f = rw f refl
+
+  -- and where there is none, none is shown
+  pub no_child_shown : is_some (content (tag_of b k) c) ≡ false → None ≡ find key_cmp k (with_data (context_data names) (children_in b c))
+  no_child_shown h = go (find key_cmp k (children_in b c)) refl ∙ sym (found-data (context_data names) k (children_in b c))
+    where
+      go : (o : Option Context) → find key_cmp k (children_in b c) ≡ o → None ≡ option_map (context_data names) (find key_cmp k (children_in b c))
+      go None f = rw f refl
+      go (Some d) f = let g : is_some (node_of (find key_cmp k (children_in b c))) ≡ false = ap is_some (sym (content_in b k c)) ∙ h in let i : true ≡ false = rw f at g in cc
 
 pub shown_rises : (names : List (List ℕ)) (kind : Kind) (c : Context) → IsWellFormedContext c → IsRising key_cmp (keys_of (shown_in names kind c))
 shown_rises names K.List (context m l r p n) h = rise-data (context_data names) (listed l) h.1

@@ -1,15 +1,16 @@
 -- About Parts: sending a list's items, entries under names, and a list's members, one after the other.
-use Rattle.std.proofs.Common.{◌≡◌, ℕ, suc, ◌+◌, ◌<◌, ◌≤◌, List, [], ◌∷◌, map, length, drop, get_or, String, Global, Ordering, Less, Equal, Greater, string_bytes, string_cmp, refl, sym, ap, ◌∙◌, subst}
+use Rattle.std.proofs.Common.{◌≡◌, ℕ, suc, ◌+◌, ◌<◌, ◌≤◌, List, [], ◌∷◌, map, length, drop, get_or, Some, String, Global, Ordering, Less, Equal, Greater, string_bytes, string_cmp, refl, sym, ap, ◌∙◌, subst}
 use Rattle.std.specs.Ordering.{match_ordering}
 use Rattle.std.specs.BTreeMap.{insert_entry}
 use Rattle.std.proofs.lemmas.List.{at_drop_more, drop_all}
-use Rattle.serde.specs.Event.{Log, Logs, seq_ends, map_ends, field_key}
+use Rattle.serde.specs.Event.{Log, Logs, seq_ends, map_begins, map_ends, field_key}
 use Rattle.serde.specs.declared.name.Case.TheVariants.{AsIs}
 use Rattle.serde_json.specs.Data.{Data, Items, no_items, item, Members, no_members, member, put}
 use Rattle.serde_json.specs.Events.{items_len, members_len, SendsValue, SendsItems, SendsMembers}
 use Rattle.serde_json.specs.View.{items_of}
 use Rattle.jc_rules.specs.Context.{Context}
 use Rattle.jc_json.specs.declared.tree.Member.{Member}
+use Rattle.jc_json.specs.Json.{object_of}
 use Rattle.jc_json.specs.Parts.{shown_as, members_data}
 
 -- ---- the items of a list
@@ -58,6 +59,10 @@ module _ {X : Type 0} (f : X → Data) where
   entries_end all rest start old end none ended so_far = so_far end (subst (λ es. SendsMembers (shown_as f es) old end) (sym none) ended)
 
 -- ---- the members of a list
+
+-- an object with one member
+pub one_sent : (k : List ℕ) (d : Data) (old begun named mid end : Log) → Logs old begun (map_begins (Some 1)) → Logs begun named (field_key k AsIs) → SendsValue d named mid → Logs mid end map_ends → SendsValue (object_of ((k, d) ∷ [])) old end
+one_sent k d old begun named mid end b n s e = (begun, b, (named, mid, n, s, e))
 
 -- Whatever ends the members from i on, ends all.
 abbrev pub MembersFrom : {X : Type 0} → (List X → Members) → List X → ℕ → Log → Log → Type 0

@@ -8,9 +8,8 @@ ghost use Rattle.jc_tree.specs.Tree.{HasPlace, here};
 ghost use Rattle.jc_json.specs.Json.{context_data};
 ghost use Rattle.jc_json.specs.Parts.{tag_of, word_of, shown_in, part_data, IsPartAt, name_of, with_last, AreTextsOf, AreMembersOfKind, AreMembersOf};
 
-use crate::send::{granted, send_ids, send_value};
+use crate::send::{granted, send_ids, send_register};
 use crate::texts::{closed_text, next_text};
-use crate::values::register_value;
 use jc_rules::{Id, Key, Next, Tagged, Text, Value};
 use jc_tree::{Hint, Place, TreeStore};
 use serde::{Described, Serialize, Serializer};
@@ -262,7 +261,7 @@ fn send_part<S: TreeStore, W: Serializer>(
             at.truncate(depth);
             Ok(())
         }
-        Part::Register(pairs) => send_value(register_value(alloc, names, pairs), out),
+        Part::Register(pairs) => send_register(alloc, names, pairs, out),
         Part::Presence(ids) => send_ids(alloc, names, ids, out),
         Part::Link(next) => {
             let text = granted(next_text(alloc, names, next), out)?;
