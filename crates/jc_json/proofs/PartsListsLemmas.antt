@@ -91,7 +91,7 @@ module _ (o : Ordering) (w : List ℕ) where
 
   compares-at : (q : Ordering) (k j : List ℕ) (d x : Data) (ms new : Members) → ((t : List ℕ) → name_cmp (w ++ t) k ≡ o) → ((t : List ℕ) → name_cmp (w ++ t) j ≡ o) → Compares o w ms → Compares o w new
       → Compares o w (match_ordering q (member k d (member j x ms)) (member j d ms) (member j x new))
-  compares-at Less k j d x ms new h i c b = (h, i, c)
+  compares-at Less k j d x ms new h i c b = (h, (i, c))
   compares-at Equal k j d x ms new h i c b = (i, c)
   compares-at Greater k j d x ms new h i c b = (i, b)
 

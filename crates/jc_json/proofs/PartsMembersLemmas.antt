@@ -67,7 +67,7 @@ all_with P m (l ∷ []) p a = go (pointwise nat_eq l.text.now m.text.now)
   where
     go : (b : Bool) → AllByRecursion P (cond b (m ∷ []) (l ∷ m ∷ []))
     go true = (p, tt)
-    go false = (a.0, p, tt)
+    go false = (a.0, (p, tt))
 all_with P m (l ∷ k ∷ ls) p a = (a.0, all_with P m (k ∷ ls) p a.1)
 
 all_texts : (P : List ℕ → Type 0) (ms : List Member) → AllByRecursion (λ (m : Member). P m.text.now) ms → AllByRecursion P (texts_of ms)
@@ -108,7 +108,7 @@ module _ (kind : Kind) (m : Member) where
       go : (o : Ordering) → name_cmp m.text.now l.text.now ≡ o → IsRising name_cmp (texts_of (with_last m (l ∷ [])))
       go Less f = absurd (u.low.0 f)
       go Equal f = subst (λ ns. IsRising name_cmp (texts_of ns)) (sym (with-same m l f)) (tt, tt)
-      go Greater f = subst (λ ns. IsRising name_cmp (texts_of ns)) (sym (with-other m l f)) ((greater_less names_total m.text.now l.text.now f, tt), tt, tt)
+      go Greater f = subst (λ ns. IsRising name_cmp (texts_of ns)) (sym (with-other m l f)) ((greater_less names_total m.text.now l.text.now f, tt), (tt, tt))
   rises-with (l ∷ k ∷ ls) u = (
       all_texts (λ t. name_cmp l.text.now t ≡ Less) (with_last m (k ∷ ls))
           (all_with (λ (n : Member). name_cmp l.text.now n.text.now ≡ Less) m (k ∷ ls) (greater_less names_total m.text.now l.text.now (over_lower l.text.now k.text.now m.text.now u.rising.0.0 u.low.1.0)) (of_texts (λ t. name_cmp l.text.now t ≡ Less) (k ∷ ls) u.rising.0)),

@@ -165,7 +165,7 @@ module _ {X : Type 0} where
       ap (λ o. entry_of k o ++ entries_at ks (e ∷ es)) f ∙ ap (λ fs. entry_of k (find key_cmp k es) ++ fs) (passed ks e es a.1)
 
 either : (k j : Key) (ks : List Key) → Contains (k ∷ ks) j → (k ≡ j) ⊎ Contains ks j
-either k j ks c = go c.0 c.1.0 c.1.1
+either k j ks c = go c.0 c.1 c.2
   where
     go : (i : ℕ) → i < length (k ∷ ks) → slice_index_or (k ∷ ks) i j ≡ j → (k ≡ j) ⊎ Contains ks j
     go zero h e = inl e
@@ -188,7 +188,7 @@ below_too k j [] h a = tt
 below_too k j (i ∷ js) h a = (keys_total.trans k j i h a.0, below_too k j js h a.1)
 
 holds_at : (P : Key → Type 0) (ks : List Key) (j : Key) → AllByRecursion P ks → Contains ks j → P j
-holds_at P [] j a c = absurd (omega (arith, c.1.0))
+holds_at P [] j a c = absurd (omega (arith, c.1))
 holds_at P (k ∷ ks) j a c = go (either k j ks c) (λ d. holds_at P ks j a.1 d)
   where
     go : (k ≡ j) ⊎ Contains ks j → (Contains ks j → P j) → P j
@@ -198,7 +198,7 @@ holds_at P (k ∷ ks) j a c = go (either k j ks c) (λ d. holds_at P ks j a.1 d)
 -- rising keys, with those of all entries among them, find the entries as they are
 all_entries : {X : Type 0} (ks : List Key) (es : List (Key × X)) → IsRising key_cmp ks → IsRising key_cmp (keys_of es) → AllByRecursion (Contains ks) (keys_of es) → entries_at ks es ≡ es
 all_entries ks [] r s c = nothing_at ks
-all_entries [] (e ∷ es) r s c = absurd (omega (arith, c.0.1.0))
+all_entries [] (e ∷ es) r s c = absurd (omega (arith, c.0.1))
 all_entries (k ∷ ks) (e ∷ es) r s c = go (key_cmp k e.0) refl (λ d. all_entries ks (e ∷ es) r.1 s d) (λ d. all_entries ks es r.1 s.1 d)
   where
     go : (o : Ordering) → key_cmp k e.0 ≡ o → (AllByRecursion (Contains ks) (keys_of (e ∷ es)) → entries_at ks (e ∷ es) ≡ e ∷ es) → (AllByRecursion (Contains ks) (keys_of es) → entries_at ks es ≡ es)

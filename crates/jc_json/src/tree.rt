@@ -144,7 +144,7 @@ fn part_at<'a, S: TreeStore>(
 
 /// Puts a member last, in place of one of the same text.
 fn put_last<'a>(members: &mut Vec<Member<'a>>, member: Member<'a>) -> Result<(), AllocError>
-    ensures { OnOk result (members.new.items ≡ with_last member members.old.items) }
+    ensures { OnOk result (members.new.items ≡ with_last member.entry members.old.items) }
 {
     if let Some(last) = members.pop() {
         if last.text != member.text {
@@ -162,7 +162,7 @@ fn members_of<'a, S: TreeStore>(
     place: Place,
     at: &[Tagged],
     kind: Kind,
-    texts: &'a Texts<'a>,
+    texts: &'a Texts<'_>,
 ) -> Result<Vec<Member<'a>>, AllocError>
     requires there { HasPlace at.now (S.tree store.now) }
     requires named { S.names store.now place at.now }
@@ -185,7 +185,7 @@ fn members_at<'a, S: TreeStore>(
     store: &'a S,
     place: Place,
     at: &[Tagged],
-    texts: &'a Texts<'a>,
+    texts: &'a Texts<'_>,
 ) -> Result<Vec<Member<'a>>, AllocError>
     requires there { HasPlace at.now (S.tree store.now) }
     requires named { S.names store.now place at.now }

@@ -1,4 +1,4 @@
-use Rattle.std.proofs.Common.{rules, ◌≡◌, ◌<◌, ◌≤◌, length, take, string_bytes, sym, subst, arith}
+use Rattle.std.proofs.Common.{rules, ◌≡◌, ◌<◌, ◌≤◌, [], ◌∷◌, length, take, map, string_bytes, sym, subst, arith}
 use Rattle.std.proofs.lemmas.List.{map_more, take_all}
 use Rattle.jc_rules.specs.declared.key.Key.{Key}
 use Rattle.jc_rules.specs.WellFormed.{IsWellFormedContext}
@@ -14,10 +14,10 @@ loop-number-init g c = subst (AreTextsSoFar c.args.names.now [] 0) (sym c.new-te
 pub loop-number-preserved : goal.loop-number-preserved
 loop-number-preserved g c =
     let names = c.args.names.now in
-    let keys = c.in_ok-keys.keys.items in
-    let lent = c.loop-number-item.result.now in
+    let keys = c.as_slice-lent-items.result.now in
+    let lent = c.lent-item.result in
     let text : string_bytes c.in_ok-text.text ≡ closed_text names lent.0.now = c.in_ok-text.ensures in
-    rw (map_more (λ l. l.0.now) keys c.loop-number.number lent (omega arith), sym c.loop-number-item.is)
+    rw (map_more (λ l. l.0.now) keys c.loop-number.number lent (omega arith), sym c.lent-item.is)
     (texts_go_on names (keys_lent (take c.loop-number.number keys)) c.loop-number.number c.loop-number.texts.entries _ c.in_ok-text.text lent
         c.in_ok-insert.ensures.was_ordered text c.in_ok-insert.ensures.entries c.loop-number.invariant)
 
@@ -25,8 +25,11 @@ pub returns : goal.returns
 returns g c =
     let t = g.S.TreeStore.tree c.args.store.now in
     let names = c.args.names.now in
-    let keys = c.in_ok-keys.keys.items in
+    let keys = c.as_slice-lent-items.result.now in
     let kept : IsWellFormedContext (here c.args.at.now t) = kept_at c.args.at.now t.now c.requires.there (g.met.S.TreeStore.kept c.args.store.now) in
-    let all : length keys ≤ c.loop-number.number = omega (arith, c.loop-number-test.false, c.loop-number.auto.number-end) in
-    texts_end names (here c.args.at.now t) (keys_lent keys) c.loop-number.number c.loop-number.texts.entries kept c.in_ok-keys.ensures.rising c.in_ok-keys.ensures.all
-        (subst (λ ks. AreTextsSoFar names (keys_lent ks) c.loop-number.number c.loop-number.texts.entries) (take_all c.loop-number.number keys all) c.loop-number.invariant)
+    let all : length keys ≤ c.loop-number.number = omega arith in
+    let is : keys ≡ c.in_ok-keys.keys.items = c.as_slice-lent-items.ensures.value in
+    let texts : AreTextsSoFar names (keys_lent keys) c.loop-number.number c.loop-number.texts.entries =
+    subst (λ ks. AreTextsSoFar names (keys_lent ks) c.loop-number.number c.loop-number.texts.entries) (take_all c.loop-number.number keys all) c.loop-number.invariant in
+    texts_end names (here c.args.at.now t) (keys_lent c.in_ok-keys.keys.items) c.loop-number.number c.loop-number.texts.entries kept c.in_ok-keys.ensures.rising c.in_ok-keys.ensures.all
+        (subst (λ ks. AreTextsSoFar names (keys_lent ks) c.loop-number.number c.loop-number.texts.entries) is texts)
