@@ -347,18 +347,14 @@ impl TreeStore for ArenaTree {
     }
 
     fn map_by(&self, place: Place, at: &[Tagged], key: &Key, hint: Hint) -> Option<Place> {
-        let child = self
-            .node(NodeId::new(place.number))
-            .map_near(key, hint)?;
+        let child = self.node(NodeId::new(place.number)).map_near(key, hint)?;
         Some(Place {
             number: child.number(),
         })
     }
 
     fn list_by(&self, place: Place, at: &[Tagged], key: &Key, hint: Hint) -> Option<Place> {
-        let child = self
-            .node(NodeId::new(place.number))
-            .list_near(key, hint)?;
+        let child = self.node(NodeId::new(place.number)).list_near(key, hint)?;
         Some(Place {
             number: child.number(),
         })
@@ -371,11 +367,13 @@ impl TreeStore for ArenaTree {
         key: &Key,
         hint: Hint,
     ) -> Option<&[(Id, Value)]> {
-        self.node(NodeId::new(place.number)).register_near(key, hint)
+        self.node(NodeId::new(place.number))
+            .register_near(key, hint)
     }
 
     fn presence_by(&self, place: Place, at: &[Tagged], key: &Key, hint: Hint) -> Option<&[Id]> {
-        self.node(NodeId::new(place.number)).presence_near(key, hint)
+        self.node(NodeId::new(place.number))
+            .presence_near(key, hint)
     }
 
     fn mark(&self) -> Mark {

@@ -4,4 +4,4 @@ use Rattle.jc_tree.specs.Tree.{keys_lent}
 use Rattle.jc_tree.proofs.keys.KeyTable.in_order.Given as goal
 
 abbrev pub invariant-loop-key : goal.invariant-loop-key
-invariant-loop-key l = keys_lent l.lent.items ++ keys_of l.key-iterator ≡ keys_of l.self-inside.order.entries
+invariant-loop-key l = keys_lent l.lent.items ++ keys_of l.key-iterator ≡ keys_of l.self.order
