@@ -15,5 +15,5 @@ abbrev pub invariant-send_tree-loop-member : goal.invariant-send_tree-loop-membe
 invariant-send_tree-loop-member g l =
     let c = here l.initial.at.items (g.S.TreeStore.tree l.store) in
     (l.at.items ≡ l.initial.at.items)
-    × AreMembersOf (g.S.TreeStore.names l.store) l.initial.at.items l.names c l.members.items
-    × MembersFrom (members_data l.names c) l.members.items l.member-index (g.W.Serializer.written l.initial.out) (g.W.Serializer.written l.out)
+    × AreMembersOf (g.S.TreeStore.names l.store) l.initial.at.items l.names c l.member-items
+    × MembersFrom (members_data l.names c) l.member-items l.member-index (g.W.Serializer.written l.initial.out) (g.W.Serializer.written l.out)
