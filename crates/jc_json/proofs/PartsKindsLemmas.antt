@@ -75,16 +75,16 @@ module _ (names : List (List ℕ)) (c : Context) where
       ≡ joined (joined (joined lists_maps (data_of K.Next)) (data_of K.Presence)) (data_of K.Register)
   in_order =
       ap (λ ms. put_all (of_kind K.Next) (put_all (of_kind K.Presence) (put_all (of_kind K.Register) ms)))
-          (kind_below names (word_of K.List) (shown_in names K.List c) no_members (data_of K.Map) (before K.List K.Map (λ t u. refl)))
+      (kind_below names (word_of K.List) (shown_in names K.List c) no_members (data_of K.Map) (before K.List K.Map (λ t u. refl)))
       ∙ ap (λ ms. put_all (of_kind K.Next) (put_all (of_kind K.Presence) ms))
-          (ap (put_all (of_kind K.Register)) (sym (joined-none lists_maps))
-          ∙ kind_above names (word_of K.Register) (shown_in names K.Register c) lists_maps no_members (after_first K.Register (λ t u. refl) (λ t u. refl)))
+      (ap (put_all (of_kind K.Register)) (sym (joined-none lists_maps))
+      ∙ kind_above names (word_of K.Register) (shown_in names K.Register c) lists_maps no_members (after_first K.Register (λ t u. refl) (λ t u. refl)))
       ∙ ap (put_all (of_kind K.Next))
-          (kind_above names (word_of K.Presence) (shown_in names K.Presence c) lists_maps (data_of K.Register) (after_first K.Presence (λ t u. refl) (λ t u. refl))
-          ∙ ap (joined lists_maps) (kind_below names (word_of K.Presence) (shown_in names K.Presence c) no_members (data_of K.Register) (before K.Presence K.Register (λ t u. refl))))
+      (kind_above names (word_of K.Presence) (shown_in names K.Presence c) lists_maps (data_of K.Register) (after_first K.Presence (λ t u. refl) (λ t u. refl))
+      ∙ ap (joined lists_maps) (kind_below names (word_of K.Presence) (shown_in names K.Presence c) no_members (data_of K.Register) (before K.Presence K.Register (λ t u. refl))))
       ∙ kind_above names (word_of K.Next) (shown_in names K.Next c) lists_maps (joined (data_of K.Presence) (data_of K.Register)) (after_first K.Next (λ t u. refl) (λ t u. refl))
       ∙ ap (joined lists_maps) (kind_below names (word_of K.Next) (shown_in names K.Next c) no_members (joined (data_of K.Presence) (data_of K.Register))
-          (compares-joined Less (word_of K.Next) (data_of K.Presence) (data_of K.Register) (before K.Next K.Presence (λ t u. refl)) (before K.Next K.Register (λ t u. refl))))
+      (compares-joined Less (word_of K.Next) (data_of K.Presence) (data_of K.Register) (before K.Next K.Presence (λ t u. refl)) (before K.Next K.Register (λ t u. refl))))
       ∙ ap (joined lists_maps) (sym (joined-assoc (data_of K.Next) (data_of K.Presence) (data_of K.Register)))
       ∙ sym (joined-assoc lists_maps (joined (data_of K.Next) (data_of K.Presence)) (data_of K.Register))
       ∙ ap (λ ms. joined ms (data_of K.Register)) (sym (joined-assoc lists_maps (data_of K.Next) (data_of K.Presence)))
@@ -105,16 +105,16 @@ kinds_are names (context m l r p n) =
     let presences_are : ps ≡ of_kind names c K.Presence = entries_are names (word_of K.Presence) (ids_data names) (presence_member names) (λ e. ap (λ t. (t, ids_data names e.1)) (closed names (codes "pres") e.0)) p in
     let links_are : ns ≡ of_kind names c K.Next = entries_are names (word_of K.Next) (λ x. string (next_text names x)) (next_member names) (λ e. ap (λ t. (t, string (next_text names e.1))) (closed names (codes "next") e.0)) n in
     ap object (
-      sym (in_order names c)
-      ∙ ap (λ es. put_all es (put_all (of_kind names c K.Presence) (put_all (of_kind names c K.Register) (put_all (of_kind names c K.List) (put_all (of_kind names c K.Map) no_members))))) (sym links_are)
-      ∙ ap (λ es. put_all ns (put_all es (put_all (of_kind names c K.Register) (put_all (of_kind names c K.List) (put_all (of_kind names c K.Map) no_members))))) (sym presences_are)
-      ∙ ap (λ es. put_all ns (put_all ps (put_all es (put_all (of_kind names c K.List) (put_all (of_kind names c K.Map) no_members))))) (sym registers_are)
-      ∙ ap (λ es. put_all ns (put_all ps (put_all rs (put_all es (put_all (of_kind names c K.Map) no_members))))) (sym lists_are)
-      ∙ ap (λ es. put_all ns (put_all ps (put_all rs (put_all ls (put_all es no_members))))) (sym maps_are)
-      ∙ ap (λ x. put_all ns (put_all ps (put_all rs x))) (sym (put_all-append ms ls no_members))
-      ∙ ap (λ x. put_all ns (put_all ps x)) (sym (put_all-append (ms ++ ls) rs no_members))
-      ∙ ap (λ x. put_all ns x) (sym (put_all-append (ms ++ ls ++ rs) ps no_members))
-      ∙ sym (put_all-append (ms ++ ls ++ rs ++ ps) ns no_members)
+    sym (in_order names c)
+    ∙ ap (λ es. put_all es (put_all (of_kind names c K.Presence) (put_all (of_kind names c K.Register) (put_all (of_kind names c K.List) (put_all (of_kind names c K.Map) no_members))))) (sym links_are)
+    ∙ ap (λ es. put_all ns (put_all es (put_all (of_kind names c K.Register) (put_all (of_kind names c K.List) (put_all (of_kind names c K.Map) no_members))))) (sym presences_are)
+    ∙ ap (λ es. put_all ns (put_all ps (put_all es (put_all (of_kind names c K.List) (put_all (of_kind names c K.Map) no_members))))) (sym registers_are)
+    ∙ ap (λ es. put_all ns (put_all ps (put_all rs (put_all es (put_all (of_kind names c K.Map) no_members))))) (sym lists_are)
+    ∙ ap (λ es. put_all ns (put_all ps (put_all rs (put_all ls (put_all es no_members))))) (sym maps_are)
+    ∙ ap (λ x. put_all ns (put_all ps (put_all rs x))) (sym (put_all-append ms ls no_members))
+    ∙ ap (λ x. put_all ns (put_all ps x)) (sym (put_all-append (ms ++ ls) rs no_members))
+    ∙ ap (λ x. put_all ns x) (sym (put_all-append (ms ++ ls ++ rs) ps no_members))
+    ∙ sym (put_all-append (ms ++ ls ++ rs ++ ps) ns no_members)
     )
 
 -- ---- lists of members, one after the other
@@ -145,6 +145,6 @@ module _ (named : Place → List Tagged → Type 0) (at : List Tagged) (c : Cont
         ∙ ap (λ x. joined (joined (joined (joined (data_of names c K.List) (data_of names c K.Map)) x) (members_data names c ps)) (members_data names c rs)) (shows_kind names K.Next ts ns t n)
         ∙ ap (λ x. joined (joined (joined (joined (data_of names c K.List) (data_of names c K.Map)) (data_of names c K.Next)) x) (members_data names c rs)) (shows_kind names K.Presence ts ps t p)
         ∙ ap (λ x. joined (joined (joined (joined (data_of names c K.List) (data_of names c K.Map)) (data_of names c K.Next)) (data_of names c K.Presence)) x) (shows_kind names K.Register ts rs t r)
-      ) ∙ kinds_are names c;
+        ) ∙ kinds_are names c;
     parts = parts-joined (ls ++ ms ++ ns ++ ps) rs (parts-joined (ls ++ ms ++ ns) ps (parts-joined (ls ++ ms) ns (parts-joined ls ms l.parts m.parts) n.parts) p.parts) r.parts;
   })

@@ -1,5 +1,5 @@
 -- About Parts: the members of one kind, one key after the other in the order of their texts.
-use Rattle.std.proofs.Common.{◌≡◌, ◌≢◌, ℕ, List, [], ◌∷◌, ◌++◌, map, cond, Bool, true, false, Option, Some, None, nat_cmp, nat_eq, string_bytes, refl, sym, ap, ◌∙◌, subst}
+use Rattle.std.proofs.Common.{◌≡◌, ◌≢◌, ℕ, List, [], ◌∷◌, ◌++◌, map, cond, Bool, true, false, Some, None, nat_cmp, nat_eq, string_bytes, refl, sym, ap, ◌∙◌, subst}
 use Rattle.std.specs.List.{AllByRecursion}
 use Rattle.std.specs.List.Sorted.{IsStrictlySortedBy}
 use Rattle.std.specs.Map.{keys_of as map_keys}
@@ -110,9 +110,9 @@ module _ (kind : Kind) (m : Member) where
       go Equal f = subst (λ ns. IsRising name_cmp (texts_of ns)) (sym (with-same m l f)) (tt, tt)
       go Greater f = subst (λ ns. IsRising name_cmp (texts_of ns)) (sym (with-other m l f)) ((greater_less names_total m.text.now l.text.now f, tt), (tt, tt))
   rises-with (l ∷ k ∷ ls) u = (
-      all_texts (λ t. name_cmp l.text.now t ≡ Less) (with_last m (k ∷ ls))
-          (all_with (λ (n : Member). name_cmp l.text.now n.text.now ≡ Less) m (k ∷ ls) (greater_less names_total m.text.now l.text.now (over_lower l.text.now k.text.now m.text.now u.rising.0.0 u.low.1.0)) (of_texts (λ t. name_cmp l.text.now t ≡ Less) (k ∷ ls) u.rising.0)),
-      rises-with (k ∷ ls) (record { kinds = u.kinds.1; rising = u.rising.1; low = u.low.1 }),
+    all_texts (λ t. name_cmp l.text.now t ≡ Less) (with_last m (k ∷ ls))
+        (all_with (λ (n : Member). name_cmp l.text.now n.text.now ≡ Less) m (k ∷ ls) (greater_less names_total m.text.now l.text.now (over_lower l.text.now k.text.now m.text.now u.rising.0.0 u.low.1.0)) (of_texts (λ t. name_cmp l.text.now t ≡ Less) (k ∷ ls) u.rising.0)),
+    rises-with (k ∷ ls) (record { kinds = u.kinds.1; rising = u.rising.1; low = u.low.1 }),
   )
 
   -- it is put among the members that are shown
@@ -132,7 +132,7 @@ module _ (kind : Kind) (m : Member) where
   shown-with names c (l ∷ k ∷ ls) h u =
       ap (member (name_of l) (part_data names c l.part)) (shown-with names c (k ∷ ls) h (record { kinds = u.kinds.1; rising = u.rising.1; low = u.low.1 }))
       ∙ sym (put_greater (name_of m) (name_of l) (part_data names c m.part) (part_data names c l.part) (members_data names c (k ∷ ls))
-          (names-compare l Greater h u.kinds.0 (over_lower l.text.now k.text.now m.text.now u.rising.0.0 u.low.1.0)))
+      (names-compare l Greater h u.kinds.0 (over_lower l.text.now k.text.now m.text.now u.rising.0.0 u.low.1.0)))
 
   -- and it is the last
   pub up_to-with : (ms : List Member) → m.kind ≡ kind → AreUpTo kind m.text.now ms → AreUpTo kind m.text.now (with_last m ms)
@@ -192,9 +192,9 @@ module _ (named : Place → List Tagged → Type 0) (at : List Tagged) (c : Cont
         let g : AreSoFar named at c kind all (t ∷ rest) ms = subst (λ ts. AreSoFar named at c kind all ts ms) is f in
         record {
           shown = λ names h. (
-              (g.shown names h).0.1,
-              ap (λ o. put_all (map (member_of names (word_of kind)) (entry_of t.1.0.now o ++ entries_at (keys_in rest) (shown_in names kind c))) (members_data names c ms)) (none names)
-              ∙ (g.shown names h).1,
+            (g.shown names h).0.1,
+            ap (λ o. put_all (map (member_of names (word_of kind)) (entry_of t.1.0.now o ++ entries_at (keys_in rest) (shown_in names kind c))) (members_data names c ms)) (none names)
+                ∙ (g.shown names h).1,
           );
           kinds = g.kinds;
           rising = g.rising;
@@ -217,8 +217,8 @@ module _ (named : Place → List Tagged → Type 0) (at : List Tagged) (c : Cont
                 (g.shown names h).0.1,
                 ap (put_all (map (member_of names (word_of kind)) (entries_at (keys_in rest) (shown_in names kind c))))
                     (shown-with kind m names c ms k u ∙ ap (λ x. put x (part_data names c m.part) (members_data names c ms)) text)
-                ∙ ap (λ o. put_all (map (member_of names (word_of kind)) (entry_of t.1.0.now o ++ entries_at (keys_in rest) (shown_in names kind c))) (members_data names c ms)) (some names)
-                ∙ (g.shown names h).1,
+                    ∙ ap (λ o. put_all (map (member_of names (word_of kind)) (entry_of t.1.0.now o ++ entries_at (keys_in rest) (shown_in names kind c))) (members_data names c ms)) (some names)
+                    ∙ (g.shown names h).1,
               );
           kinds = v.kinds;
           rising = v.rising;

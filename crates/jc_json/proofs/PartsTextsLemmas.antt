@@ -1,5 +1,5 @@
 -- About Parts: the keys by their texts make the same members as the keys in their own order.
-use Rattle.std.proofs.Common.{◌≡◌, ◌≢◌, ◌⊎◌, inl, inr, ℕ, zero, suc, ◌+◌, ◌<◌, List, [], ◌∷◌, ◌++◌, map, length, slice_index_or, Option, Some, None, Contains, String, Global, Bor, nat_cmp, string_cmp, string_bytes, refl, sym, ap, ◌∙◌, subst, arith}
+use Rattle.std.proofs.Common.{◌≡◌, ◌⊎◌, inl, inr, ℕ, zero, suc, ◌+◌, ◌<◌, List, [], ◌∷◌, ◌++◌, map, length, slice_index_or, Option, Some, None, Contains, String, Global, Bor, nat_cmp, string_cmp, string_bytes, refl, sym, ap, ◌∙◌, subst, arith}
 use Rattle.std.specs.List.{AllByRecursion}
 use Rattle.std.specs.List.Sorted.{IsStrictlySortedBy}
 use Rattle.std.specs.Map.{keys_of as map_keys}
@@ -11,7 +11,7 @@ use Rattle.std.specs.BTreeMap.{insert_entry}
 use Rattle.std.proofs.lemmas.Cmp.{ranked}
 use Rattle.std.proofs.lemmas.List.{map-append}
 use Rattle.std.proofs.lemmas.Map.Keys.{sorted_head, sorted_tail}
-use Rattle.serde_json.specs.Data.{Data, Members, put}
+use Rattle.serde_json.specs.Data.{Data, Members}
 use Rattle.jc_rules.specs.declared.key.Key.{Key}
 use Rattle.jc_rules.specs.Order.{key_cmp, name_cmp}
 use Rattle.jc_rules.specs.Entries.{IsRising, keys_of, find}
@@ -22,7 +22,6 @@ use Rattle.jc_rules.proofs.RisingLemmas.{less_greater}
 use Rattle.jc_tree.specs.declared.store.Hint.{Hint}
 use Rattle.jc_tree.specs.Tree.{all_keys}
 use Rattle.jc_tree.specs.Walks.{entry_of}
-use Rattle.jc_json.specs.declared.tree.Kind.{Kind}
 use Rattle.jc_json.specs.Json.{closed_text, put_all}
 use Rattle.jc_json.specs.Parts.{LentText, Texts, word_of, member_of, entries_at, keys_in, shown_in, HasTexts, AreTextsOf}
 use Rattle.jc_json.proofs.PartsPlacesLemmas.{shown_rises, shown_among}
@@ -119,8 +118,8 @@ module _ (names : List (List ℕ)) (w : List ℕ) (es : List (Key × Data)) wher
       → AllByRecursion (λ j. name_cmp (closed_text names k) (closed_text names j) ≡ Less) (keys_in ts)
   all_over k u [] h a s = tt
   all_over k u (t ∷ ts) h a s = (
-      subst (λ (x : List ℕ). name_cmp (closed_text names k) x ≡ Less) s.0 (less_then (closed_text names k) (string_bytes u.0) (string_bytes t.0.0) (nat_cmp u.1 t.0.1) h a.0),
-      all_over k u ts h a.1 s.1,
+    subst (λ (x : List ℕ). name_cmp (closed_text names k) x ≡ Less) s.0 (less_then (closed_text names k) (string_bytes u.0) (string_bytes t.0.0) (nat_cmp u.1 t.0.1) h a.0),
+    all_over k u ts h a.1 s.1,
   )
 
   -- a key that is put among the texts is put last, as far as the members show

@@ -29,11 +29,7 @@ pub fn key_text(alloc: Global, names: &[Text], key: &Key) -> Result<String, Allo
 }
 
 /// A key's text with the bracket that ends the name of a context's member.
-pub(crate) fn closed_text(
-    alloc: Global,
-    names: &[Text],
-    key: &Key,
-) -> Result<String, AllocError>
+pub(crate) fn closed_text(alloc: Global, names: &[Text], key: &Key) -> Result<String, AllocError>
     ensures { IfOk result (λ s. string_bytes s ≡ closed_text names.now key.now) }
 {
     let mut text = key_text(alloc, names, key)?;
@@ -42,12 +38,7 @@ pub(crate) fn closed_text(
 }
 
 /// The name of a context's member: a kind of entry, and a key in brackets.
-fn entry_text(
-    alloc: Global,
-    kind: &str,
-    names: &[Text],
-    key: &Key,
-) -> Result<String, AllocError>
+fn entry_text(alloc: Global, kind: &str, names: &[Text], key: &Key) -> Result<String, AllocError>
     ensures { IfOk result (λ s. string_bytes s ≡ entry_text kind.now names.now key.now) }
 {
     let key = key_text(alloc, names, key)?;

@@ -1,7 +1,6 @@
-use Rattle.std.proofs.Common.{rules, ◌≡◌, [], ◌∷◌, ◌++◌, List, length, true, false, nat_eq, sym, ◌∙◌, ap, arith}
+use Rattle.std.proofs.Common.{rules, ◌≡◌, [], ◌∷◌, ◌++◌, true, false, nat_eq, sym, ◌∙◌, ap, arith}
 use Rattle.std.specs.Cmp.Lexicographic.{pointwise}
 use Rattle.std.proofs.lemmas.List.{nil_from_length}
-use Rattle.jc_json.specs.declared.tree.Member.{Member}
 use Rattle.jc_json.specs.Parts.{with_last}
 use Rattle.jc_json.proofs.PartsMembersLemmas.{gives_way, stays}
 use Rattle.jc_json.proofs.tree.put_last.Goals as goal

@@ -1,6 +1,5 @@
-use Rattle.std.proofs.Common.{rules, ◌≡◌, ◌<◌, ◌≤◌, [], ◌∷◌, length, take, map, string_bytes, sym, subst, arith}
+use Rattle.std.proofs.Common.{◌≡◌, ◌≤◌, [], length, take, string_bytes, sym, subst, arith}
 use Rattle.std.proofs.lemmas.List.{map_more, take_all}
-use Rattle.jc_rules.specs.declared.key.Key.{Key}
 use Rattle.jc_rules.specs.WellFormed.{IsWellFormedContext}
 use Rattle.jc_tree.specs.Tree.{here, keys_lent}
 use Rattle.jc_json.specs.Json.{closed_text}
@@ -19,7 +18,7 @@ loop-number-preserved g c =
     let text : string_bytes c.in_ok-text.text ≡ closed_text names lent.0.now = c.in_ok-text.ensures in
     rw (map_more (λ l. l.0.now) keys c.loop-number.number lent (omega arith), sym c.lent-item.is)
     (texts_go_on names (keys_lent (take c.loop-number.number keys)) c.loop-number.number c.loop-number.texts.entries _ c.in_ok-text.text lent
-        c.in_ok-insert.ensures.was_ordered text c.in_ok-insert.ensures.entries c.loop-number.invariant)
+    c.in_ok-insert.ensures.was_ordered text c.in_ok-insert.ensures.entries c.loop-number.invariant)
 
 pub returns : goal.returns
 returns g c =
@@ -32,4 +31,4 @@ returns g c =
     let texts : AreTextsSoFar names (keys_lent keys) c.loop-number.number c.loop-number.texts.entries =
     subst (λ ks. AreTextsSoFar names (keys_lent ks) c.loop-number.number c.loop-number.texts.entries) (take_all c.loop-number.number keys all) c.loop-number.invariant in
     texts_end names (here c.args.at.now t) (keys_lent c.in_ok-keys.keys.items) c.loop-number.number c.loop-number.texts.entries kept c.in_ok-keys.ensures.rising c.in_ok-keys.ensures.all
-        (subst (λ ks. AreTextsSoFar names (keys_lent ks) c.loop-number.number c.loop-number.texts.entries) is texts)
+    (subst (λ ks. AreTextsSoFar names (keys_lent ks) c.loop-number.number c.loop-number.texts.entries) is texts)
