@@ -42,7 +42,3 @@ pub shown_sent : (names : List (List ℕ)) (shown : Shown) (tree : Context) (old
 unfolding shown_members
 shown_sent names shown tree old begun acted left name ops queue recv send root named vars end b m1 m2 m3 m4 m5 m6 m7 m8 n9 s9 ended =
     (begun, b, (m1.0, acted, m1.1, m1.2, (m2.0, left, m2.1, m2.2, (m3.0, name, m3.1, m3.2, (m4.0, ops, m4.1, m4.2, (m5.0, queue, m5.1, m5.2, (m6.0, recv, m6.1, m6.2, (m7.0, send, m7.1, m7.2, (m8.0, root, m8.1, m8.2, (named, vars, n9, s9, ended))))))))))
-
--- an object with one member
-pub one_sent : (k : List ℕ) (d : Data) (old begun named mid end : Log) → Logs old begun (map_begins (Some 1)) → Logs begun named (field_key k AsIs) → SendsValue d named mid → Logs mid end map_ends → SendsValue (object_of ((k, d) ∷ [])) old end
-one_sent k d old begun named mid end b n s e = (begun, b, (named, mid, n, s, e))

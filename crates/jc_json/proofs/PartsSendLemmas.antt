@@ -1,15 +1,17 @@
--- About Parts: sending a list's items, and entries under names, one after the other.
-use Rattle.std.proofs.Common.{◌≡◌, ℕ, suc, ◌+◌, ◌<◌, ◌≤◌, List, [], ◌∷◌, map, length, drop, get_or, String, Global, Ordering, Less, Equal, Greater, string_bytes, string_cmp, refl, sym, ap, ◌∙◌, subst}
-use Rattle.std.specs.List.{AllByRecursion}
+-- About Parts: sending a list's items, entries under names, and a list's members, one after the other.
+use Rattle.std.proofs.Common.{◌≡◌, ℕ, suc, ◌+◌, ◌<◌, ◌≤◌, List, [], ◌∷◌, map, length, drop, get_or, Some, String, Global, Ordering, Less, Equal, Greater, string_bytes, string_cmp, refl, sym, ap, ◌∙◌, subst}
 use Rattle.std.specs.Ordering.{match_ordering}
 use Rattle.std.specs.BTreeMap.{insert_entry}
 use Rattle.std.proofs.lemmas.List.{at_drop_more, drop_all}
-use Rattle.serde.specs.Event.{Log, Logs, seq_ends, map_ends, field_key}
+use Rattle.serde.specs.Event.{Log, Logs, seq_ends, map_begins, map_ends, field_key}
 use Rattle.serde.specs.declared.name.Case.TheVariants.{AsIs}
-use Rattle.serde_json.specs.Data.{Data, Items, no_items, item, put}
+use Rattle.serde_json.specs.Data.{Data, Items, no_items, item, Members, no_members, member, put}
 use Rattle.serde_json.specs.Events.{items_len, members_len, SendsValue, SendsItems, SendsMembers}
 use Rattle.serde_json.specs.View.{items_of}
-use Rattle.jc_json.specs.Parts.{shown_as}
+use Rattle.jc_rules.specs.Context.{Context}
+use Rattle.jc_json.specs.declared.tree.Member.{Member}
+use Rattle.jc_json.specs.Json.{object_of}
+use Rattle.jc_json.specs.Parts.{shown_as, members_data}
 
 -- ---- the items of a list
 
@@ -56,13 +58,25 @@ module _ {X : Type 0} (f : X → Data) where
   pub entries_end : (all rest : List (String Global × X)) (start old end : Log) → rest ≡ [] → Logs old end map_ends → EntriesFrom all rest start old → SendsMembers (shown_as f all) start end
   entries_end all rest start old end none ended so_far = so_far end (subst (λ es. SendsMembers (shown_as f es) old end) (sym none) ended)
 
-module _ {X : Type 0} (P : X → Type 0) where
-  all-order : (o : Ordering) (a b c : List (String Global × X)) → AllByRecursion (λ e. P e.1) a → AllByRecursion (λ e. P e.1) b → AllByRecursion (λ e. P e.1) c → AllByRecursion (λ e. P e.1) (match_ordering o a b c)
-  all-order Less a b c p q r = p
-  all-order Equal a b c p q r = q
-  all-order Greater a b c p q r = r
+-- ---- the members of a list
 
-  -- what is true of the values stays so with one more
-  pub all-insert : (es : List (String Global × X)) (k : String Global) (v : X) → P v → AllByRecursion (λ e. P e.1) es → AllByRecursion (λ e. P e.1) (insert_entry string_cmp es k v)
-  all-insert [] k v h hs = (h, tt)
-  all-insert (e ∷ es) k v h hs = all-order (string_cmp k e.0) _ _ _ (h, hs) (h, hs.1) (hs.0, all-insert es k v h hs.1)
+-- an object with one member
+pub one_sent : (k : List ℕ) (d : Data) (old begun named mid end : Log) → Logs old begun (map_begins (Some 1)) → Logs begun named (field_key k AsIs) → SendsValue d named mid → Logs mid end map_ends → SendsValue (object_of ((k, d) ∷ [])) old end
+one_sent k d old begun named mid end b n s e = (begun, b, (named, mid, n, s, e))
+
+-- Whatever ends the members from i on, ends all.
+abbrev pub MembersFrom : {X : Type 0} → (List X → Members) → List X → ℕ → Log → Log → Type 0
+MembersFrom show xs i start now = (end : Log) → SendsMembers (show (drop i xs)) now end → SendsMembers (show xs) start end
+
+module _ {X : Type 0} (show : List X → Members) (xs : List X) (i : ℕ) (start old : Log) where
+  pub next_member : (name : X → List ℕ) (f : X → Data) (x d : X) (named new : Log) → ((y : X) (ys : List X) → show (y ∷ ys) ≡ member (name y) (f y) (show ys)) → i < length xs → x ≡ get_or xs i d
+      → Logs old named (field_key (name x) AsIs) → SendsValue (f x) named new → MembersFrom show xs i start old → MembersFrom show xs (i + 1) start new
+  next_member name f x d named new each h is key sent so_far = λ end more.
+      so_far end (subst (λ ms. SendsMembers ms old end) (sym (at_drop_more show xs i d h ∙ ap (λ y. show (y ∷ drop (i + 1) xs)) (sym is) ∙ each x (drop (i + 1) xs))) (named, new, key, sent, more))
+
+  pub members_end : (end : Log) → show [] ≡ no_members → length xs ≤ i → Logs old end map_ends → MembersFrom show xs i start old → SendsMembers (show xs) start end
+  members_end end none h ended so_far = so_far end (subst (λ ms. SendsMembers ms old end) (sym (ap show (drop_all i xs h) ∙ none)) ended)
+
+pub members_len-data : (names : List (List ℕ)) (c : Context) (ms : List Member) → members_len (members_data names c ms) ≡ length ms
+members_len-data names c [] = refl
+members_len-data names c (m ∷ ms) = ap suc (members_len-data names c ms)

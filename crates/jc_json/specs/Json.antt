@@ -29,6 +29,10 @@ key_text names Head = codes "head"
 key_text names (Name s) = compact_text (string s)
 key_text names (Elem i) = id_text names i
 
+-- a key's text and the bracket with which the name of its member ends
+abbrev pub closed_text : List (List ℕ) → Key → List ℕ
+closed_text names k = key_text names k ++ codes ")"
+
 -- a kind of entry, and a key in brackets
 abbrev pub entry_text : List ℕ → List (List ℕ) → Key → List ℕ
 entry_text kind names k = kind ++ codes "(" ++ key_text names k ++ codes ")"

@@ -1,73 +1,142 @@
--- The parts of a context, by which the code sends it, and their order; jc_dump cites them.
-use Rattle.std.specs.Prelude.{◌≡◌, ⊤, ℕ, List, map, true, is_some, String}
+-- The members of a context, kind by kind and by the texts of their keys, by which the code sends it; jc_dump cites
+-- `shown_as`.
+use Rattle.std.specs.Prelude.{◌≡◌, ⊤, ℕ, List, [], ◌∷◌, ◌++◌, map, codes, nat_eq, true, cond, is_some, String, string_bytes}
 use Rattle.std.specs.List.{AllByRecursion}
+use Rattle.std.specs.Borrow.{Bor}
+use Rattle.std.specs.Cmp.Lexicographic.{pointwise}
 use Rattle.std.specs.declared.alloc.Global.{Global}
-use Rattle.serde_json.specs.Data.{Data, string, object, Members}
+use Rattle.serde_json.specs.Data.{Data, string, object, Members, no_members, member}
 use Rattle.serde_json.specs.View.{members_of}
 use Rattle.jc_rules.specs.declared.key.Key.{Key}
 use Rattle.jc_rules.specs.declared.key.Tagged.{Tagged}
 use Rattle.jc_rules.specs.declared.key.Tagged.TheVariants.{MapT, ListT}
-use Rattle.jc_rules.specs.Context.{Context, context, Children, content, listed}
+use Rattle.jc_rules.specs.Context.{Context, maps, lists, registers, presences, links, content}
 use Rattle.jc_rules.specs.Order.{key_cmp}
 use Rattle.jc_rules.specs.Entries.{find}
 use Rattle.jc_rules.specs.ContextsAt.{or_empty}
+use Rattle.jc_tree.specs.declared.store.Hint.{Hint}
+use Rattle.jc_tree.specs.declared.store.Place.{Place}
 use Rattle.jc_tree.specs.Walks.{entry_of}
 use Rattle.jc_json.specs.declared.tree.Branch.{Branch}
 use Rattle.jc_json.specs.declared.tree.Branch.TheVariants as B
+use Rattle.jc_json.specs.declared.tree.Kind.{Kind}
+use Rattle.jc_json.specs.declared.tree.Kind.TheVariants as K
 use Rattle.jc_json.specs.declared.tree.Part.{Part}
 use Rattle.jc_json.specs.declared.tree.Part.TheVariants as P
-use Rattle.jc_json.specs.Json.{tagged_text, next_text, ids_data, register_data, context_data, child_members, put_all}
+use Rattle.jc_json.specs.declared.tree.Member.{Member}
+use Rattle.jc_json.specs.Json.{closed_text, next_text, ids_data, register_data, context_data, put_all}
+
+-- ---- entries under names
+
+-- what entries show, by what each value shows
+abbrev pub shown_as : {X : Type 0} → (X → Data) → List (String Global × X) → Members
+shown_as f es = members_of (map (λ e. (e.0, f e.1)) es)
+
+-- ---- the kinds
+
+-- what the names of a kind's members begin with
+abbrev pub word_of : Kind → List ℕ
+word_of K.List = codes "listT("
+word_of K.Map = codes "mapT("
+word_of K.Next = codes "next("
+word_of K.Presence = codes "pres("
+word_of K.Register = codes "regT("
+
+-- each value as what it shows
+abbrev pub with_data : {X : Type 0} → (X → Data) → List (Key × X) → List (Key × Data)
+with_data f es = map (λ e. (e.0, f e.1)) es
+
+-- the entries of one kind, each with what it shows
+abbrev pub shown_in : List (List ℕ) → Kind → Context → List (Key × Data)
+shown_in names K.List c = with_data (context_data names) (lists c)
+shown_in names K.Map c = with_data (context_data names) (maps c)
+shown_in names K.Next c = with_data (λ n. string (next_text names n)) (links c)
+shown_in names K.Presence c = with_data (ids_data names) (presences c)
+shown_in names K.Register c = with_data (register_data names) (registers c)
+
+-- the member of an entry
+abbrev pub member_of : List (List ℕ) → List ℕ → Key × Data → List ℕ × Data
+member_of names word e = (word ++ closed_text names e.0, e.1)
+
+-- the entries of these keys, key after key
+abbrev pub entries_at : {X : Type 0} → List Key → List (Key × X) → List (Key × X)
+entries_at [] es = []
+entries_at (k ∷ ks) es = entry_of k (find key_cmp k es) ++ entries_at ks es
+
+-- ---- the keys by their texts
+
+-- a key that is lent, by its text and its number
+abbrev pub LentText : Type 0
+LentText = (String Global × ℕ) × (Bor Key × Hint)
+
+abbrev pub Texts : Type 0
+Texts = List LentText
+
+abbrev pub keys_in : Texts → List Key
+keys_in ts = map (λ (t : LentText). t.1.0.now) ts
+
+-- each text is that of its key
+abbrev pub HasTexts : List (List ℕ) → Texts → Type 0
+HasTexts names ts = AllByRecursion (λ (t : LentText). string_bytes t.0.0 ≡ closed_text names t.1.0.now) ts
+
+-- Of each kind, the members of these keys one after the other make the object of all members.
+pub record AreTextsOf (names : List (List ℕ)) (c : Context) (ts : Texts) : Type 0 where
+  pub texts : HasTexts names ts
+  pub members : (kind : Kind) (ms : Members) → put_all (map (member_of names (word_of kind)) (entries_at (keys_in ts) (shown_in names kind c))) ms
+      ≡ put_all (map (member_of names (word_of kind)) (shown_in names kind c)) ms
+
+-- ---- parts
 
 abbrev pub tag_of : Branch → Key → Tagged
 tag_of B.Map k = MapT k
 tag_of B.List k = ListT k
 
 -- the children of one kind
-abbrev pub children_in : Branch → Context → Children
-children_in B.Map (context m l r p n) = m
-children_in B.List (context m l r p n) = l
-
--- a child's member
-abbrev pub child_member : List (List ℕ) → (Key → Tagged) → Key × Context → List ℕ × Data
-child_member names tag e = (tagged_text names (tag e.0), context_data names e.1)
-
--- the member of the child at a key, if there is one
-abbrev pub child_at : List (List ℕ) → Branch → Key → Context → List (List ℕ × Data)
-child_at names b k c = map (child_member names (tag_of b)) (entry_of k (find key_cmp k (listed (children_in b c))))
-
--- the members of the children of one kind
-abbrev pub children_members : List (List ℕ) → Branch → Context → List (List ℕ × Data)
-children_members names b c = child_members names (tag_of b) (children_in b c)
+abbrev pub children_in : Branch → Context → List (Key × Context)
+children_in B.Map c = maps c
+children_in B.List c = lists c
 
 -- what a part of a context shows
 abbrev pub part_data : List (List ℕ) → Context → Part → Data
-part_data names c (P.Child b k) = context_data names (or_empty (find key_cmp k.now (listed (children_in b c))))
+part_data names c (P.Child b k p) = context_data names (or_empty (find key_cmp k.now (children_in b c)))
 part_data names c (P.Register r) = register_data names r.now
 part_data names c (P.Presence ids) = ids_data names ids.now
 part_data names c (P.Link n) = string (next_text names n)
 
--- a part that is a child is there
-abbrev pub IsPartOf : Context → Part → Type 0
-IsPartOf c (P.Child b k) = is_some (content (tag_of b k.now) c) ≡ true
-IsPartOf c (P.Register r) = ⊤
-IsPartOf c (P.Presence ids) = ⊤
-IsPartOf c (P.Link n) = ⊤
+-- a part that is a child is there, and has the store's name for its place
+abbrev pub IsPartAt : (Place → List Tagged → Type 0) → List Tagged → Context → Part → Type 0
+IsPartAt named at c (P.Child b k p) = (is_some (content (tag_of b k.now) c) ≡ true) × named p (at ++ tag_of b k.now ∷ [])
+IsPartAt named at c (P.Register r) = ⊤
+IsPartAt named at c (P.Presence ids) = ⊤
+IsPartAt named at c (P.Link n) = ⊤
 
--- what entries show, by what each value shows
-abbrev pub shown_as : {X : Type 0} → (X → Data) → List (String Global × X) → Members
-shown_as f es = members_of (map (λ e. (e.0, f e.1)) es)
+-- ---- members
 
-abbrev pub HasPartsOf : Context → List (String Global × Part) → Type 0
-HasPartsOf c es = AllByRecursion (λ e. IsPartOf c e.1) es
+abbrev pub name_of : Member → List ℕ
+name_of m = word_of m.kind ++ m.text.now
 
--- The new parts of a context are the old ones, with those of these members.
-pub record AddsMembers
-    (names : List (List ℕ)) (c : Context) (ms : List (List ℕ × Data)) (old new : List (String Global × Part))
+abbrev pub members_data : List (List ℕ) → Context → List Member → Members
+members_data names c [] = no_members
+members_data names c (m ∷ ms) = member (name_of m) (part_data names c m.part) (members_data names c ms)
+
+abbrev pub ArePartsAt : (Place → List Tagged → Type 0) → List Tagged → Context → List Member → Type 0
+ArePartsAt named at c ms = AllByRecursion (λ (m : Member). IsPartAt named at c m.part) ms
+
+-- with this member last, in place of a last one of the same text
+abbrev pub with_last : Member → List Member → List Member
+with_last m [] = m ∷ []
+with_last m (l ∷ []) = cond (pointwise nat_eq l.text.now m.text.now) (m ∷ []) (l ∷ m ∷ [])
+with_last m (l ∷ k ∷ ls) = l ∷ with_last m (k ∷ ls)
+
+-- These are the members of one kind of a context, whose keys have these texts.
+pub record AreMembersOfKind (named : Place → List Tagged → Type 0) (at : List Tagged) (c : Context) (kind : Kind) (ts : Texts) (ms : List Member)
     : Type 0 where
-  pub shown : shown_as (part_data names c) new ≡ put_all ms (shown_as (part_data names c) old)
-  pub parts : HasPartsOf c old → HasPartsOf c new
+  pub shown : (names : List (List ℕ)) → HasTexts names ts
+      → members_data names c ms ≡ put_all (map (member_of names (word_of kind)) (entries_at (keys_in ts) (shown_in names kind c))) no_members
+  pub parts : ArePartsAt named at c ms
 
--- These are the parts of a context.
-pub record ArePartsOf (names : List (List ℕ)) (c : Context) (es : List (String Global × Part)) : Type 0 where
-  pub shown : object (shown_as (part_data names c) es) ≡ context_data names c
-  pub parts : HasPartsOf c es
+-- These are the members of a context, in the order of their names.
+pub record AreMembersOf (named : Place → List Tagged → Type 0) (at : List Tagged) (names : List (List ℕ)) (c : Context) (ms : List Member)
+    : Type 0 where
+  pub shown : object (members_data names c ms) ≡ context_data names c
+  pub parts : ArePartsAt named at c ms

@@ -1,7 +1,7 @@
 //! The texts of identifiers and keys, for JSON, dumps and views.
 
 ghost use Rattle.std.specs.Prelude.{◌≡◌, IfOk, string_bytes};
-ghost use Rattle.jc_json.specs.Json.{id_text, key_text, entry_text, tagged_text, next_text};
+ghost use Rattle.jc_json.specs.Json.{id_text, key_text, closed_text, entry_text, tagged_text, next_text};
 
 use jc_rules::{Id, Key, Next, Tagged, Text, name_at};
 use serde_json::Value as Json;
@@ -28,13 +28,17 @@ pub fn key_text(alloc: Global, names: &[Text], key: &Key) -> Result<String, Allo
     }
 }
 
+/// A key's text with the bracket that ends the name of a context's member.
+pub(crate) fn closed_text(alloc: Global, names: &[Text], key: &Key) -> Result<String, AllocError>
+    ensures { IfOk result (λ s. string_bytes s ≡ closed_text names.now key.now) }
+{
+    let mut text = key_text(alloc, names, key)?;
+    text.push_str(")")?;
+    Ok(text)
+}
+
 /// The name of a context's member: a kind of entry, and a key in brackets.
-pub(crate) fn entry_text(
-    alloc: Global,
-    kind: &str,
-    names: &[Text],
-    key: &Key,
-) -> Result<String, AllocError>
+fn entry_text(alloc: Global, kind: &str, names: &[Text], key: &Key) -> Result<String, AllocError>
     ensures { IfOk result (λ s. string_bytes s ≡ entry_text kind.now names.now key.now) }
 {
     let key = key_text(alloc, names, key)?;

@@ -1,20 +1,45 @@
 //! The tree of a document as JSON: a store is sent as it is walked.
 
-ghost use Rattle.std.specs.Prelude.{◌≡◌, [], ◌∷◌, ◌++◌, map, IfOk, OnOk};
+ghost use Rattle.std.specs.Prelude.{◌≡◌, ℕ, List, [], ◌∷◌, ◌++◌, string_bytes, option_map, IfSome, IfOk, OnOk};
 ghost use Rattle.serde_json.specs.Events.{SendsValue};
-ghost use Rattle.jc_rules.specs.Context.{registers, presences, links};
+ghost use Rattle.jc_rules.specs.Order.{key_cmp};
+ghost use Rattle.jc_rules.specs.Entries.{find};
 ghost use Rattle.jc_tree.specs.Tree.{HasPlace, here};
-ghost use Rattle.jc_json.specs.Json.{context_data, register_member, presence_member, next_member};
-ghost use Rattle.jc_json.specs.Parts.{tag_of, child_at, children_members, part_data, IsPartOf, shown_as, AddsMembers, ArePartsOf};
+ghost use Rattle.jc_json.specs.Json.{context_data};
+ghost use Rattle.jc_json.specs.Parts.{tag_of, word_of, shown_in, part_data, IsPartAt, name_of, with_last, AreTextsOf, AreMembersOfKind, AreMembersOf};
 
-use crate::send::{granted, send_ids, send_value};
-use crate::texts::{entry_text, next_text, tagged_text};
-use crate::values::register_value;
+use crate::send::{granted, send_ids, send_register};
+use crate::texts::{closed_text, next_text};
 use jc_rules::{Id, Key, Next, Tagged, Text, Value};
-use jc_tree::{Hint, TreeStore, place_of};
+use jc_tree::{Hint, Place, TreeStore};
 use serde::{Described, Serialize, Serializer};
 use std::alloc::{AllocError, Global};
 use std::collections::BTreeMap;
+
+/// The kinds of a context's members, in the order of their words.
+#[derive(Clone, Copy)]
+enum Kind {
+    List,
+    Map,
+    Next,
+    Presence,
+    Register,
+}
+
+impl Kind {
+    /// What the names of such members begin with.
+    fn word(self) -> &'static str
+        ensures { result.now ≡ word_of self }
+    {
+        match self {
+            Kind::List => "listT(",
+            Kind::Map => "mapT(",
+            Kind::Next => "next(",
+            Kind::Presence => "pres(",
+            Kind::Register => "regT(",
+        }
+    }
+}
 
 /// The kinds of entry that lead to a context.
 #[derive(Clone, Copy)]
@@ -34,153 +59,146 @@ impl Branch {
     }
 }
 
-/// What a member of a context's object shows.
+/// What a member of a context's object shows. A child has the store's name for its place.
 #[derive(Clone, Copy)]
 enum Part<'a> {
-    Child(Branch, &'a Key),
+    Child(Branch, &'a Key, Place),
     Register(&'a [(Id, Value)]),
     Presence(&'a [Id]),
     Link(Next),
 }
 
-/// Adds a context's children of one kind, each under its tagged key.
-fn add_children<'a, S: TreeStore>(
+/// A member of a context's object: its name is the word of its kind, and then the text.
+#[derive(Clone, Copy)]
+struct Member<'a> {
+    kind: Kind,
+    text: &'a str,
+    part: Part<'a>,
+}
+
+impl Member<'_> {
+    /// Writes the name over what is there.
+    fn write_name(&self, name: &mut String) -> Result<(), AllocError>
+        ensures { OnOk result (string_bytes name.new ≡ name_of self.now) }
+    {
+        name.clear();
+        name.push_str(self.kind.word())?;
+        name.push_str(self.text)
+    }
+}
+
+/// The keys of a context by their texts, each with its number in the order of the keys. So those with
+/// one text are in that order.
+type Texts<'a> = BTreeMap<(String, usize), (&'a Key, Hint)>;
+
+/// The keys of the context at a place by their texts.
+fn texts_at<'a, S: TreeStore>(
     alloc: Global,
     names: &[Text],
     store: &'a S,
+    place: Place,
     at: &[Tagged],
-    branch: Branch,
-    parts: &mut BTreeMap<String, Part<'a>>,
-) -> Result<(), AllocError>
-    requires { HasPlace at.now (S.tree store.now) }
-    ensures { OnOk result (AddsMembers names.now (here at.now (S.tree store.now))
-        (children_members names.now branch (here at.now (S.tree store.now)))
-        parts.old.entries parts.new.entries) }
+) -> Result<Texts<'a>, AllocError>
+    requires there { HasPlace at.now (S.tree store.now) }
+    requires named { S.names store.now place at.now }
+    ensures { IfOk result (λ texts. AreTextsOf names.now (here at.now (S.tree store.now)) texts.entries) }
 {
-    let mut last = None;
-    while let Some(key) = store.key_after(at, last) {
-        add_child(alloc, names, store, at, branch, key, parts)?;
-        last = Some(key);
+    let keys = store.keys_at(alloc, place, at)?;
+    let mut texts = BTreeMap::new(alloc);
+    for (number, lent) in keys.as_slice().iter().enumerate() {
+        let text = closed_text(alloc, names, lent.0)?;
+        drop(texts.insert((text, number), *lent)?);
     }
-    Ok(())
+    Ok(texts)
 }
 
-/// Adds the child of one kind at a key, if there is one.
-fn add_child<'a, S: TreeStore>(
-    alloc: Global,
-    names: &[Text],
-    store: &S,
+/// The part of one kind at a key, if there is one.
+fn part_at<'a, S: TreeStore>(
+    store: &'a S,
+    place: Place,
     at: &[Tagged],
-    branch: Branch,
+    kind: Kind,
     key: &'a Key,
-    parts: &mut BTreeMap<String, Part<'a>>,
-) -> Result<(), AllocError>
-    requires { HasPlace at.now (S.tree store.now) }
-    ensures { OnOk result (AddsMembers names.now (here at.now (S.tree store.now))
-        (child_at names.now branch key.now (here at.now (S.tree store.now)))
-        parts.old.entries parts.new.entries) }
+    hint: Hint,
+) -> Option<Part<'a>>
+    requires there { HasPlace at.now (S.tree store.now) }
+    requires named { S.names store.now place at.now }
+    ensures shown { (names : List (List ℕ)) → option_map (part_data names (here at.now (S.tree store.now))) result
+        ≡ find key_cmp key.now (shown_in names kind (here at.now (S.tree store.now))) }
+    ensures part { IfSome result (IsPartAt (S.names store.now) at.now (here at.now (S.tree store.now))) }
 {
-    let tagged = branch.tagged(key.copy()?);
-    if store.has(at, &tagged) {
-        let name = tagged_text(alloc, names, &tagged)?;
-        drop(parts.insert(name, Part::Child(branch, key))?);
-    }
-    Ok(())
-}
-
-/// Adds a context's registers.
-fn add_registers<'a, S: TreeStore>(
-    alloc: Global,
-    names: &[Text],
-    store: &'a S,
-    at: &[Tagged],
-    parts: &mut BTreeMap<String, Part<'a>>,
-) -> Result<(), AllocError>
-    requires { HasPlace at.now (S.tree store.now) }
-    ensures { OnOk result (AddsMembers names.now (here at.now (S.tree store.now))
-        (map (register_member names.now) (registers (here at.now (S.tree store.now))))
-        parts.old.entries parts.new.entries) }
-{
-    let mut last = None;
-    while let Some(key) = store.key_after(at, last) {
-        if let Some(pairs) = store.register(at, key) {
-            let name = entry_text(alloc, "regT", names, key)?;
-            drop(parts.insert(name, Part::Register(pairs))?);
+    match kind {
+        Kind::List => {
+            let child = store.list_by(place, at, key, hint)?;
+            Some(Part::Child(Branch::List, key, child))
         }
-        last = Some(key);
-    }
-    Ok(())
-}
-
-/// Adds a context's presence sets, the empty ones too.
-fn add_presences<'a, S: TreeStore>(
-    alloc: Global,
-    names: &[Text],
-    store: &'a S,
-    at: &[Tagged],
-    parts: &mut BTreeMap<String, Part<'a>>,
-) -> Result<(), AllocError>
-    requires { HasPlace at.now (S.tree store.now) }
-    ensures { OnOk result (AddsMembers names.now (here at.now (S.tree store.now))
-        (map (presence_member names.now) (presences (here at.now (S.tree store.now))))
-        parts.old.entries parts.new.entries) }
-{
-    let mut last = None;
-    while let Some(key) = store.presence_after(at, last) {
-        if let Some(ids) = store.presence(at, key) {
-            let name = entry_text(alloc, "pres", names, key)?;
-            drop(parts.insert(name, Part::Presence(ids))?);
+        Kind::Map => {
+            let child = store.map_by(place, at, key, hint)?;
+            Some(Part::Child(Branch::Map, key, child))
         }
-        last = Some(key);
+        Kind::Next => Some(Part::Link(store.step_by(place, at, key, hint).next?)),
+        Kind::Presence => Some(Part::Presence(store.presence_by(place, at, key, hint)?)),
+        Kind::Register => Some(Part::Register(store.register_by(place, at, key, hint)?)),
     }
-    Ok(())
 }
 
-/// Adds what follows each key of a context that is a list.
-fn add_links<S: TreeStore>(
-    alloc: Global,
-    names: &[Text],
-    store: &S,
-    at: &[Tagged],
-    parts: &mut BTreeMap<String, Part<'_>>,
-) -> Result<(), AllocError>
-    requires { HasPlace at.now (S.tree store.now) }
-    ensures { OnOk result (AddsMembers names.now (here at.now (S.tree store.now))
-        (map (next_member names.now) (links (here at.now (S.tree store.now))))
-        parts.old.entries parts.new.entries) }
+/// Puts a member last, in place of one of the same text.
+fn put_last<'a>(members: &mut Vec<Member<'a>>, member: Member<'a>) -> Result<(), AllocError>
+    ensures { OnOk result (members.new.items ≡ with_last member.entry members.old.items) }
 {
-    let place = place_of(store, at);
-    let mut hint = Hint { number: 0 };
-    let mut last = None;
-    while let Some(key) = store.link_after(at, last) {
-        let step = store.step_by(place, at, key, hint);
-        if let Some(next) = step.next {
-            let name = entry_text(alloc, "next", names, key)?;
-            drop(parts.insert(name, Part::Link(next))?);
+    if let Some(last) = members.pop() {
+        if last.text != member.text {
+            members.push(last)?;
         }
-        last = Some(key);
-        hint = step.hint;
     }
+    members.push(member)?;
     Ok(())
 }
 
-/// The parts of the context at a place, in the order of their names.
-fn parts_at<'a, S: TreeStore>(
+/// The members of one kind of the context at a place, in the order of their names.
+fn members_of<'a, S: TreeStore>(
     alloc: Global,
-    names: &[Text],
     store: &'a S,
+    place: Place,
     at: &[Tagged],
-) -> Result<BTreeMap<String, Part<'a>>, AllocError>
-    requires { HasPlace at.now (S.tree store.now) }
-    ensures { IfOk result (λ parts. ArePartsOf names.now (here at.now (S.tree store.now)) parts.entries) }
+    kind: Kind,
+    texts: &'a Texts<'_>,
+) -> Result<Vec<Member<'a>>, AllocError>
+    requires there { HasPlace at.now (S.tree store.now) }
+    requires named { S.names store.now place at.now }
+    ensures { IfOk result (λ members. AreMembersOfKind (S.names store.now) at.now (here at.now (S.tree store.now))
+        kind texts.now.entries members.items) }
 {
-    let mut parts = BTreeMap::new(alloc);
-    add_children(alloc, names, store, at, Branch::Map, &mut parts)?;
-    add_children(alloc, names, store, at, Branch::List, &mut parts)?;
-    add_registers(alloc, names, store, at, &mut parts)?;
-    add_presences(alloc, names, store, at, &mut parts)?;
-    add_links(alloc, names, store, at, &mut parts)?;
-    Ok(parts)
+    let mut members = Vec::new(alloc);
+    for (text, lent) in texts.iter() {
+        if let Some(part) = part_at(store, place, at, kind, lent.0, lent.1) {
+            let text = text.0.as_str();
+            put_last(&mut members, Member { kind, text, part })?;
+        }
+    }
+    Ok(members)
+}
+
+/// The members of the context at a place, in the order of their names.
+fn members_at<'a, S: TreeStore>(
+    alloc: Global,
+    store: &'a S,
+    place: Place,
+    at: &[Tagged],
+    texts: &'a Texts<'_>,
+) -> Result<Vec<Member<'a>>, AllocError>
+    requires there { HasPlace at.now (S.tree store.now) }
+    requires named { S.names store.now place at.now }
+    ensures { IfOk result (λ members. (names : List (List ℕ))
+        → AreTextsOf names (here at.now (S.tree store.now)) texts.now.entries
+        → AreMembersOf (S.names store.now) at.now names (here at.now (S.tree store.now)) members.items) }
+{
+    let mut members = members_of(alloc, store, place, at, Kind::List, texts)?;
+    members.append(&mut members_of(alloc, store, place, at, Kind::Map, texts)?)?;
+    members.append(&mut members_of(alloc, store, place, at, Kind::Next, texts)?)?;
+    members.append(&mut members_of(alloc, store, place, at, Kind::Presence, texts)?)?;
+    members.append(&mut members_of(alloc, store, place, at, Kind::Register, texts)?)?;
+    Ok(members)
 }
 
 /// Goes on to the child at a key.
@@ -191,25 +209,30 @@ fn step_down(at: &mut Vec<Tagged>, branch: Branch, key: &Key) -> Result<(), Allo
     Ok(())
 }
 
-/// Sends the context at a place of a store. Afterwards the place is as it was, unless memory ran out.
+/// Sends the context at a place of a store. Afterwards the path is as it was, unless memory ran out.
 #[cycle(walk)]
 fn send_tree<S: TreeStore, W: Serializer>(
     alloc: Global,
     names: &[Text],
     store: &S,
+    place: Place,
     at: &mut Vec<Tagged>,
     out: &mut W,
 ) -> Result<(), W::Error>
-    requires { HasPlace at.old.items (S.tree store.now) }
+    requires there { HasPlace at.old.items (S.tree store.now) }
+    requires named { S.names store.now place at.old.items }
     ensures sent { OnOk result (SendsValue (context_data names.now (here at.old.items (S.tree store.now)))
         (W.written out.old) (W.written out.new)) }
-    ensures place { OnOk result (at.new.items ≡ at.old.items) }
+    ensures path { OnOk result (at.new.items ≡ at.old.items) }
 {
-    let parts = granted(parts_at(alloc, names, store, at.as_slice()), out)?;
-    out.begin_map(Some(parts.len()))?;
-    for (name, part) in parts.iter() {
+    let texts = granted(texts_at(alloc, names, store, place, at.as_slice()), out)?;
+    let members = granted(members_at(alloc, store, place, at.as_slice(), &texts), out)?;
+    let mut name = String::new(alloc);
+    out.begin_map(Some(members.len()))?;
+    for member in members.as_slice() {
+        granted(member.write_name(&mut name), out)?;
         out.key(name.as_str())?;
-        send_part(alloc, names, store, at, *part, out)?;
+        send_part(alloc, names, store, at, member.part, out)?;
     }
     out.end_map()
 }
@@ -224,21 +247,21 @@ fn send_part<S: TreeStore, W: Serializer>(
     part: Part<'_>,
     out: &mut W,
 ) -> Result<(), W::Error>
-    requires place { HasPlace at.old.items (S.tree store.now) }
-    requires part { IsPartOf (here at.old.items (S.tree store.now)) part }
+    requires there { HasPlace at.old.items (S.tree store.now) }
+    requires part { IsPartAt (S.names store.now) at.old.items (here at.old.items (S.tree store.now)) part }
     ensures sent { OnOk result (SendsValue (part_data names.now (here at.old.items (S.tree store.now)) part.entry)
         (W.written out.old) (W.written out.new)) }
-    ensures place { OnOk result (at.new.items ≡ at.old.items) }
+    ensures path { OnOk result (at.new.items ≡ at.old.items) }
 {
     match part {
-        Part::Child(branch, key) => {
+        Part::Child(branch, key, place) => {
             let depth = at.len();
             granted(step_down(at, branch, key), out)?;
-            send_tree(alloc, names, store, at, out)?;
+            send_tree(alloc, names, store, place, at, out)?;
             at.truncate(depth);
             Ok(())
         }
-        Part::Register(pairs) => send_value(register_value(alloc, names, pairs), out),
+        Part::Register(pairs) => send_register(alloc, names, pairs, out),
         Part::Presence(ids) => send_ids(alloc, names, ids, out),
         Part::Link(next) => {
             let text = granted(next_text(alloc, names, next), out)?;
@@ -262,6 +285,7 @@ impl<S: TreeStore> Described for Tree<'_, S> {
 impl<S: TreeStore> Serialize for Tree<'_, S> {
     fn serialize<W: Serializer>(&self, out: &mut W) -> Result<(), W::Error> {
         let mut at = Vec::new(self.alloc);
-        send_tree(self.alloc, self.names, self.store, &mut at, out)
+        let root = self.store.root();
+        send_tree(self.alloc, self.names, self.store, root, &mut at, out)
     }
 }

@@ -5,8 +5,8 @@ use Rattle.serde_json.specs.View.{view}
 use Rattle.jc_cursor.specs.declared.bound.Bound.{Bound}
 use Rattle.jc_cursor.specs.Bounds.{bound_of}
 use Rattle.jc_json.specs.Json.{texts_data}
+use Rattle.jc_json.proofs.PartsSendLemmas.{one_sent}
 use Rattle.jc_dump.specs.Dump.{cursor_data, pairs_data, bound_data}
-use Rattle.jc_dump.proofs.DumpPartsLemmas.{one_sent}
 use Rattle.jc_dump.proofs.vars.send_bound.Goals as goal
 use Rattle.jc_dump.proofs.vars.send_bound.Goals.{in-Cursor+in_ok-key-in-Cursor+in_ok-send_value-in-Cursor, in-Keys+in_ok-key-in-Keys+in_ok-send_keys-in-Keys, in-Values+in_ok-key-in-Values+in_ok-send_value-in-Values}
 
