@@ -6,7 +6,6 @@ ghost use Rattle.jc_dump.specs.Bytes.{BeginsWith};
 ghost use Rattle.jc_dump.specs.Lines.{row_text, trace_text};
 ghost use Rattle.jc_dump.specs.Rows.{IsRowLine};
 
-use crate::bytes::push_text;
 use itoa::Buffer;
 use jc_rules::Rule;
 use std::alloc::{AllocError, Global};
@@ -96,10 +95,10 @@ fn push_row(out: &mut Vec<u8>, rule: Rule, depth: u64) -> Result<usize, AllocErr
     let mut buffer = Buffer::new();
     let digits = buffer.format(depth);
     let name = rule.name();
-    push_text(out, digits)?;
-    push_text(out, " ")?;
-    push_text(out, name)?;
-    push_text(out, "\n")?;
+    out.extend_from_slice(digits.as_bytes())?;
+    out.push(b' ')?;
+    out.extend_from_slice(name.as_bytes())?;
+    out.push(b'\n')?;
     Ok(digits.len())
 }
 

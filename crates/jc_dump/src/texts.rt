@@ -73,7 +73,8 @@ fn write_block(
 {
     let event = print_event(*out.allocator(), names, event)?;
     push_head(out, n, event.as_str())?;
-    push_rows(out, rows)
+    push_rows(out, rows)?;
+    Ok(())
 }
 
 /// Appends the first line of a trace block. After a refusal a part of it may be there.
@@ -88,7 +89,8 @@ fn push_head(out: &mut Vec<u8>, n: u64, event: &str) -> Result<(), AllocError>
     push_text(out, buffer.format(n))?;
     push_text(out, " ")?;
     push_text(out, event)?;
-    push_text(out, "\n")
+    push_text(out, "\n")?;
+    Ok(())
 }
 
 /// Returns the line of a text that is refused at the offset `place`.
