@@ -1,5 +1,5 @@
 -- About Rows: the line of a row with another last digit; the lines of rows are texts.
-use Rattle.std.proofs.Common.{◌≡◌, ℕ, zero, suc, ◌+◌, ◌/◌, ◌%◌, ◌^◌, ◌<◌, ◌≤◌, inl, inr, List, [], ◌∷◌, ◌++◌, length, set, take, get_or, flat_map, codes, decimal, refl, sym, ap, ◌∙◌, arith, length-append, append-nil, append_assoc}
+use Rattle.std.proofs.Common.{◌≡◌, ℕ, zero, suc, ◌+◌, ◌/◌, ◌%◌, ◌^◌, ◌<◌, inl, inr, List, [], ◌∷◌, ◌++◌, length, set, take, get_or, codes, decimal, refl, sym, ap, subst, ◌∙◌, arith, length-append, append-nil, append_assoc}
 use Rattle.std.specs.Str.{IsUtf8}
 use Rattle.std.proofs.lemmas.Bool.{cases_lt}
 use Rattle.std.proofs.lemmas.Fmt.{decimal_digit, decimal_step, IsAscii-decimal}
@@ -14,6 +14,9 @@ use Rattle.jc_dump.specs.Lines.{row_text, trace_text}
 -- what is behind the depth
 abbrev rest : Rule → List ℕ
 rest rule = codes " " ++ rule_name rule ++ codes "\n"
+
+row_split : (rule : Rule) (n : ℕ) → row_text (rule, n) ≡ decimal n ++ rest rule
+row_split rule n = append_assoc (decimal n ++ codes " ") (rule_name rule) (codes "\n") ∙ append_assoc (decimal n) (codes " ") (rule_name rule ++ codes "\n")
 
 -- ---- the last digit
 
@@ -38,7 +41,7 @@ decimal_last n small =
 
 row_last : (rule : Rule) (n : ℕ) → n < 2 ^ 64 → row_text (rule, n) ≡ high (n / 10) ++ (48 + n % 10) ∷ rest rule
 row_last rule n small =
-    ap (λ l. l ++ rest rule) (decimal_last n small) ∙ append_assoc (high (n / 10)) ((48 + n % 10) ∷ []) (rest rule)
+    row_split rule n ∙ (ap (λ l. l ++ rest rule) (decimal_last n small) ∙ append_assoc (high (n / 10)) ((48 + n % 10) ∷ []) (rest rule))
 
 high_length : (n : ℕ) → n < 2 ^ 64 → length (high (n / 10)) + 1 ≡ length (decimal n)
 high_length n small = sym (ap length (decimal_last n small) ∙ length-append (high (n / 10)) ((48 + n % 10) ∷ []))
@@ -58,7 +61,7 @@ other_digits old new last before after near digits =
 -- the last digit is within the line
 pub digit_within : (rule : Rule) (n last : ℕ) (bytes : List ℕ) → last + 1 ≡ length (decimal n) → bytes ≡ row_text (rule, n) → last < length bytes
 digit_within rule n last bytes digits is =
-    let all : length bytes ≡ length (decimal n) + length (rest rule) = ap length is ∙ length-append (decimal n) (rest rule) in
+    let all : length bytes ≡ length (decimal n) + length (rest rule) = ap length (is ∙ row_split rule n) ∙ length-append (decimal n) (rest rule) in
     omega (arith, all, digits)
 
 -- ---- texts
@@ -68,9 +71,10 @@ one_utf8 b low = IsUtf8-from_ascii (b ∷ []) (IsAscii-cons b [] low IsAscii-nil
 
 pub row_utf8 : (rule : Rule) (n : ℕ) → n < 2 ^ 64 → IsUtf8 (rule_name rule) → IsUtf8 (row_text (rule, n))
 row_utf8 rule n small name =
-    IsUtf8-append (decimal n) (rest rule) (IsUtf8-from_ascii (decimal n) (IsAscii-decimal n small))
+    subst IsUtf8 (sym (row_split rule n))
+    (IsUtf8-append (decimal n) (rest rule) (IsUtf8-from_ascii (decimal n) (IsAscii-decimal n small))
     (IsUtf8-append (codes " ") (rule_name rule ++ codes "\n") (one_utf8 32 (omega arith))
-    (IsUtf8-append (rule_name rule) (codes "\n") name (one_utf8 10 (omega arith))))
+    (IsUtf8-append (rule_name rule) (codes "\n") name (one_utf8 10 (omega arith)))))
 
 -- ---- one row more
 

@@ -1,6 +1,6 @@
 //! The rows of traces, as lines of bytes.
 
-ghost use Rattle.std.specs.Prelude.{◌≡◌, ◌++◌, ◌/◌, length, is_ok, if◌then◌else◌, decimal, IsUtf8, IfOk, OnOk, OnErr};
+ghost use Rattle.std.specs.Prelude.{◌≡◌, ◌++◌, ◌/◌, length, is_ok, if◌then◌else◌, decimal, IsUtf8, IfOk, OnOk};
 ghost use Rattle.jc_rules.specs.RuleNames.{rule_name};
 ghost use Rattle.jc_dump.specs.Bytes.{BeginsWith};
 ghost use Rattle.jc_dump.specs.Lines.{row_text, trace_text};

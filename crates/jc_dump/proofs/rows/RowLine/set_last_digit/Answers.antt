@@ -1,13 +1,6 @@
-use Rattle.std.proofs.Common.{◌<◌, length, refl, arith}
-use Rattle.jc_dump.proofs.RowsLemmas.{other_digit, other_digits, digit_within}
+use Rattle.std.proofs.Common.{refl}
+use Rattle.jc_dump.proofs.RowsLemmas.{other_digit, other_digits}
 use Rattle.jc_dump.proofs.rows.RowLine.set_last_digit.Goals as goal
-
-pub bounds-self-bytes-last_digit : goal.bounds-self-bytes-last_digit
-bounds-self-bytes-last_digit c =
-    let line = c.args.self.now in
-    let kept = c.requires.line in
-    let within : line.last_digit < length line.bytes.items = digit_within line.rule line.depth line.last_digit line.bytes.items kept.digits kept.text in
-    omega (arith, within, line.bytes.ok.0)
 
 pub returns : goal.returns
 returns c =
