@@ -1,3 +1,5 @@
+pub mod BytesLemmas
+pub mod RowsLemmas
 pub mod DumpListsLemmas
 pub mod DumpFloatsLemmas
 pub mod DumpPartsLemmas

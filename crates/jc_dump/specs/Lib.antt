@@ -1,4 +1,6 @@
+pub mod Bytes
 pub mod Dump
 pub mod DumpParts
 pub mod Lines
+pub mod Rows
 pub mod Texts

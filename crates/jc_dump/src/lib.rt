@@ -2,12 +2,14 @@
 //! program print them.
 #![tactic(auto)]
 
+mod bytes;
 mod dump;
 mod lines;
 mod replica;
+mod rows;
 mod texts;
 mod vars;
 
 pub use lines::{stuck_text, trace_text};
 pub use replica::dump_replica;
-pub use texts::{block_text, given_text, named_given_text, refused_text};
+pub use texts::{block_text, given_text, named_given_text, push_block, refused_text};

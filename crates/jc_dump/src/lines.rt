@@ -1,42 +1,26 @@
-//! The lines of traces and of stuck events: texts.rt puts blocks together from them.
+//! The text of a trace, and the lines of stuck events.
 
-ghost use Rattle.std.specs.Prelude.{◌≡◌, ◌++◌, IfOk, OnOk, string_bytes, codes, decimal};
+ghost use Rattle.std.specs.Prelude.{◌≡◌, ◌++◌, IfOk, string_bytes, codes, decimal};
 ghost use Rattle.jc_rules.specs.declared.operation.Event.{Event as AnyEvent};
 ghost use Rattle.jc_rules.specs.Refused.{Cause};
 ghost use Rattle.jc_network.specs.Steps.{stuck_for};
 ghost use Rattle.jc_dump.specs.Lines.{trace_text, stuck_text, IsNamedStuck};
 
+use crate::bytes::into_text;
+use crate::rows::push_rows;
 use jc_json::tagged_text;
 use jc_network::{Net, Stuck};
 use jc_printer::print_event;
-use jc_rules::{Rule, Text, Trace};
+use jc_rules::{Text, Trace};
 use std::alloc::{AllocError, Global};
-use std::fmt::Write;
-
-/// Appends the line of a rule to the text.
-fn push_row(text: &mut String, depth: u64, name: &str) -> Result<(), AllocError>
-    ensures { OnOk result
-        (string_bytes text.new ≡ string_bytes text.old ++ decimal depth ++ codes " " ++ name.now ++ codes "\n") }
-{
-    writeln!(text, "{depth} {name}")
-}
 
 /// Returns the text of a trace: a line for each rule, with its depth and its name.
 pub fn trace_text(alloc: Global, trace: &Trace) -> Result<String, AllocError>
     ensures { IfOk result (λ text. string_bytes text ≡ trace_text trace.now.rows) }
 {
-    rows_text(alloc, trace.rows())
-}
-
-/// Returns the text of the rows of a trace.
-pub(crate) fn rows_text(alloc: Global, rows: &[(Rule, u64)]) -> Result<String, AllocError>
-    ensures { IfOk result (λ text. string_bytes text ≡ trace_text rows.now) }
-{
-    let mut text = String::new(alloc);
-    for (rule, depth) in rows {
-        push_row(&mut text, *depth, rule.name())?;
-    }
-    Ok(text)
+    let mut lines = Vec::new(alloc);
+    push_rows(&mut lines, trace.rows())?;
+    Ok(into_text(lines))
 }
 
 /// Returns the line of an event that is stuck in the network.

@@ -1,14 +1,18 @@
 //! Trace blocks, the lines of refused texts, and the lines of a given event that is stuck.
 
-ghost use Rattle.std.specs.Prelude.{◌≡◌, ◌++◌, IfOk, length, string_bytes, codes, decimal};
+ghost use Rattle.std.specs.Prelude.{◌≡◌, ◌++◌, IfOk, OnOk, OnErr, length, string_bytes, codes, decimal, IsUtf8};
 ghost use Rattle.jc_rules.specs.declared.operation.Event.{Event as AnyEvent};
 ghost use Rattle.jc_rules.specs.Refused.{Cause};
 ghost use Rattle.jc_printer.specs.Canon.{AreNamed};
 ghost use Rattle.jc_network.specs.Steps.{stuck_for};
+ghost use Rattle.jc_dump.specs.Bytes.{BeginsWith};
 ghost use Rattle.jc_dump.specs.Lines.{IsNamedStuck};
 ghost use Rattle.jc_dump.specs.Texts.{block_text, given_text, refused_text};
 
-use crate::lines::{named_stuck_text, rows_text};
+use crate::bytes::{into_text, push_text};
+use crate::lines::named_stuck_text;
+use crate::rows::push_rows;
+use itoa::Buffer;
 use jc_network::Stuck;
 use jc_printer::print_event;
 use jc_rules::{Event, Refusal, Rule, Text};
@@ -26,17 +30,67 @@ pub fn block_text(
     requires { AreNamed event.now (length names.now) }
     ensures { IfOk result (λ text. string_bytes text ≡ block_text names.now n event.now rows.now) }
 {
-    let event = print_event(alloc, names, event)?;
-    let rows = rows_text(alloc, rows)?;
-    joined(alloc, n, event.as_str(), rows.as_str())
+    let mut block = Vec::new(alloc);
+    push_block(&mut block, names, n, event, rows)?;
+    Ok(into_text(block))
 }
 
-/// Puts a trace block together from its parts.
-fn joined(alloc: Global, n: u64, event: &str, rows: &str) -> Result<String, AllocError>
-    ensures { IfOk result (λ text.
-        string_bytes text ≡ codes "event " ++ decimal n ++ codes " " ++ event.now ++ codes "\n" ++ rows.now) }
+/// Appends the trace block of an event. A refusal leaves the bytes as they were.
+pub fn push_block(
+    out: &mut Vec<u8>,
+    names: &[Text],
+    n: u64,
+    event: &Event,
+    rows: &[(Rule, u64)],
+) -> Result<(), AllocError>
+    requires { AreNamed event.now (length names.now) }
+    ensures ok { OnOk result (out.new.items ≡ out.old.items ++ block_text names.now n event.now rows.now) }
+    ensures err { OnErr result (out.new.items ≡ out.old.items) }
+    ensures utf8 { IsUtf8 out.old.items → IsUtf8 out.new.items }
 {
-    format!(in alloc; "event {n} {event}\n{rows}")
+    let before = out.len();
+    match write_block(out, names, n, event, rows) {
+        Ok(()) => Ok(()),
+        Err(error) => {
+            out.truncate(before);
+            Err(error)
+        }
+    }
+}
+
+/// Appends the trace block of an event. After a refusal a part of it may be there.
+fn write_block(
+    out: &mut Vec<u8>,
+    names: &[Text],
+    n: u64,
+    event: &Event,
+    rows: &[(Rule, u64)],
+) -> Result<(), AllocError>
+    requires { AreNamed event.now (length names.now) }
+    ensures block { OnOk result (out.new.items ≡ out.old.items ++ block_text names.now n event.now rows.now) }
+    ensures begins { BeginsWith out.old.items out.new.items }
+    ensures utf8 { IsUtf8 out.old.items → IsUtf8 out.new.items }
+{
+    let event = print_event(*out.allocator(), names, event)?;
+    push_head(out, n, event.as_str())?;
+    push_rows(out, rows)?;
+    Ok(())
+}
+
+/// Appends the first line of a trace block. After a refusal a part of it may be there.
+fn push_head(out: &mut Vec<u8>, n: u64, event: &str) -> Result<(), AllocError>
+    ensures line { OnOk result (out.new.items
+        ≡ out.old.items ++ codes "event " ++ decimal n ++ codes " " ++ event.now ++ codes "\n") }
+    ensures begins { BeginsWith out.old.items out.new.items }
+    ensures utf8 { IsUtf8 out.old.items → IsUtf8 out.new.items }
+{
+    let mut buffer = Buffer::new();
+    push_text(out, "event ")?;
+    push_text(out, buffer.format(n))?;
+    push_text(out, " ")?;
+    push_text(out, event)?;
+    push_text(out, "\n")?;
+    Ok(())
 }
 
 /// Returns the line of a text that is refused at the offset `place`.

@@ -14,15 +14,16 @@ use Rattle.jc_parser.specs.declared.fault.ScenarioFault.TheVariants.{Memory as N
 use Rattle.jc_scenario.specs.WellFormed.{Scenario}
 use Rattle.jc_network.specs.NetworkHistory.{Course}
 use Rattle.jc_network.specs.Given.{IsStart, IsStarted}
-use Rattle.jc_session.specs.Written.{Stream, Wrote, WrotePart, Written, WrittenInPart}
-use Rattle.jc_session.proofs.WrittenLemmas.{wrote_none, part_after}
+use Rattle.jc_session.specs.Written.{Stream, WrotePart, Written, WrittenInPart}
+use Rattle.jc_session.proofs.WrittenLemmas.{wrote_none}
 use Rattle.jc_cli.specs.declared.order.View.{View}
 use Rattle.jc_program.specs.declared.fault.WorkFault.{WorkFault}
 use Rattle.jc_program.specs.declared.fault.WorkFault.TheVariants.{Read, Write, TooManyLines, NoThread, Memory}
 use Rattle.jc_program.specs.Runs.{Made, GoesBy, events_of, events_text}
+use Rattle.jc_program.specs.PlayResult.{WroteAndHolds, WrittenAndHeld}
 use Rattle.jc_program.specs.ViewText.{ReadsAs, Ran}
 use Rattle.jc_program.specs.ViewOutput.{IsNext, Begins, IsDueAt, IsDue, Unfinished, blocks, IsUnfinished, HasRun, StopsView, IsStoppedView}
-use Rattle.jc_program.proofs.PlayResultLemmas.{goes_on, events_of-append, split_here, shown_more}
+use Rattle.jc_program.proofs.PlayResultLemmas.{goes_on, events_of-append, split_here, shown_more, held_part_more}
 use Rattle.jc_program.proofs.ReadsScenarioLemmas.{reads_whole, ran_whole, has_refusal}
 
 -- the events that were made
@@ -30,16 +31,15 @@ pub made_begins : (trace : Bool) (names : List (List ℕ)) (first now : Network)
 made_begins trace names first now es i made goes taken =
     record { made = made; more = drop i es; last = now; goes = goes; events = sym (take-append-drop i es) ∙ ap (λ l. l ++ drop i es) taken; shown = refl }
 
--- those before a want of memory
-pub made_stand : (trace : Bool) (names : List (List ℕ)) (first now : Network) (es : List Event) (i : ℕ) (made : List Made) (a b c : Stream) → GoesBy first made now → take i es ≡ events_of made → Wrote (events_text trace names 1 made) a b → c ≡ b → Written (Begins trace names first es) a c
-made_stand trace names first now es i made a b c goes taken wrote same =
-    (events_text trace names 1 made, made_begins trace names first now es i made goes taken, subst (λ (s : Stream). Wrote (events_text trace names 1 made) a s) (sym same) wrote)
+-- those before a want of memory, and at the end
+pub made_stand : (trace : Bool) (names : List (List ℕ)) (first now : Network) (es : List Event) (i : ℕ) (made : List Made) (held : List ℕ) (a b : Stream) → GoesBy first made now → take i es ≡ events_of made → WroteAndHolds (events_text trace names 1 made) held a b → WrittenAndHeld (Begins trace names first es) held a b
+made_stand trace names first now es i made held a b goes taken wrote = (events_text trace names 1 made, made_begins trace names first now es i made goes taken, wrote)
 
--- those before a failure, and the next one, whose block was begun
-pub next_begun : (trace : Bool) (names : List (List ℕ)) (first now : Network) (es : List Event) (i n : ℕ) (made : List Made) (a b c : Stream) (d : Event)
+-- those before a failure, and the next one, of which a part may be there
+pub next_begun : (trace : Bool) (names : List (List ℕ)) (first now : Network) (es : List Event) (i n : ℕ) (made : List Made) (held text : List ℕ) (a b c : Stream) (d : Event)
     → GoesBy first made now → take i es ≡ events_of made → i < length es → n ≡ length made + 1
-    → Wrote (events_text trace names 1 made) a b → WrittenInPart (IsNext trace names now (get_or es i d) n) b c → WrittenInPart (Begins trace names first es) a c
-next_begun trace names first now es i n made a b c d goes taken inside count wrote (text, (rows, new, step, is), part) =
+    → WroteAndHolds (events_text trace names 1 made) held a b → IsNext trace names now (get_or es i d) n text → WrotePart (held ++ text) b c → WrittenInPart (Begins trace names first es) a c
+next_begun trace names first now es i n made held text a b c d goes taken inside count wrote (rows, new, step, is) part =
     let e : Event = get_or es i d in
     let m : Made = (e, rows) in (
       events_text trace names 1 (made ++ m ∷ []),
@@ -51,7 +51,7 @@ next_begun trace names first now es i n made a b c d goes taken inside count wro
         events = split_here es i made d inside taken ∙ (sym (append_assoc (events_of made) (e ∷ []) (drop (i + 1) es)) ∙ ap (λ l. l ++ drop (i + 1) es) (sym (events_of-append made m)));
         shown = refl;
       },
-      subst (λ l. WrotePart l a c) (ap (λ l. events_text trace names 1 made ++ l) is ∙ sym (shown_more trace names made e rows n count)) (part_after a b c (events_text trace names 1 made) text wrote part),
+      subst (λ l. WrotePart l a c) (ap (λ l. events_text trace names 1 made ++ l) is ∙ sym (shown_more trace names made e rows n count)) (held_part_more (events_text trace names 1 made) text held a b c wrote part),
     )
 
 -- the events that a network began at the start are those of its scenario

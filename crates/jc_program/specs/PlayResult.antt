@@ -1,5 +1,5 @@
--- What `play` and `play_next` of `run` return: the contracts of these cite it.
-use Rattle.std.specs.Prelude.{◌≡◌, ℕ, List, Bool, Option, Some, None, length}
+-- What `play` and what it calls return and write: the contracts in `run` cite it.
+use Rattle.std.specs.Prelude.{◌≡◌, ℕ, List, ◌++◌, Bool, Option, Some, None, length}
 use Rattle.jc_rules.specs.declared.operation.Event.{Event}
 use Rattle.jc_rules.specs.Trace.{Rows}
 use Rattle.jc_printer.specs.Canon.{AreNamed}
@@ -10,12 +10,22 @@ use Rattle.jc_session.specs.Written.{Stream, Wrote}
 use Rattle.jc_program.specs.Texts.{event_text}
 use Rattle.jc_program.specs.Runs.{Stuck, Plays}
 
--- The event was executed, and its text was written; or it is stuck, and nothing changed.
+-- The text was written, but for an end of it that is still held.
+abbrev pub WroteAndHolds : List ℕ → List ℕ → Stream → Stream → Type 0
+WroteAndHolds text held a b = (sent : List ℕ) × (text ≡ sent ++ held) × Wrote sent a b
+
+-- a text of this kind was written, but for an end of it that is still held
+abbrev pub WrittenAndHeld : (List ℕ → Type 0) → List ℕ → Stream → Stream → Type 0
+WrittenAndHeld IsText held a b = (text : List ℕ) × IsText text × WroteAndHolds text held a b
+
+-- The event was executed, and its text follows what was held; or it is stuck, and nothing changed.
 abbrev pub PlaysNext
-    : Bool → Course → Course → ℕ → Event → Stream → Stream → Option StuckEvent → Type 0
-PlaysNext trace old new n event a b None =
-    (rows : Rows) × StepsTo old event new rows × Wrote (event_text trace old.names n event rows.rows) a b
-PlaysNext trace old new n event a b (Some s) = IsStuckFor old.network event s × (new ≡ old) × (b ≡ a)
+    : Bool → Course → Course → ℕ → Event → List ℕ → List ℕ → Stream → Stream → Option StuckEvent → Type 0
+PlaysNext trace old new n event held holds a b None =
+    (rows : Rows) × StepsTo old event new rows
+    × WroteAndHolds (held ++ event_text trace old.names n event rows.rows) holds a b
+PlaysNext trace old new n event held holds a b (Some s) =
+    IsStuckFor old.network event s × (new ≡ old) × (holds ≡ held) × (b ≡ a)
 
 -- the stuck event, its cause, and that its replicas have names
 abbrev pub Tells : List (List ℕ) → Option StuckEvent → Option Stuck → Type 0
