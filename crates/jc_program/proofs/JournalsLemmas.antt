@@ -96,15 +96,17 @@ first_stuck trace given names network events last event why text h =
     let made = h.made in
     let more : List Event = h.ends.0 in
     let goes = lines_go trace given names 1 network made last h.lines h.goes in
-    let front : take (length made) events ≡ events_of made = ap (take (length made)) h.ends.1 ∙ first_made made (event ∷ more) in
-    (length made + 1, record {
-      before = length made;
-      network = last;
-      at_is = refl;
-      led = subst (λ (es : List Event). AfterIn network es last) (sym front) (after_made network made last goes);
-      is = ap (λ (es : List Event). slice_get es (length made)) h.ends.1 ∙ next_made made event more;
-      stuck = h.ends.2;
-    })
+    let front : take (length made) events ≡ events_of made = ap (take (length made)) h.ends.1 ∙ first_made made (event ∷ more) in (
+      length made + 1,
+      record {
+        before = length made;
+        network = last;
+        at_is = refl;
+        led = subst (λ (es : List Event). AfterIn network es last) (sym front) (after_made network made last goes);
+        is = ap (λ (es : List Event). slice_get es (length made)) h.ends.1 ∙ next_made made event more;
+        stuck = h.ends.2;
+      },
+    )
 
 -- the journal up to the event at the place, which is stuck
 pub journal_to : (trace given : Bool) (names : List (List ℕ)) (first last : Network) (es : List Event) (i : ℕ) (d : Event) (made : List Made) (text : List ℕ) (why : Cause)
