@@ -1,5 +1,5 @@
 -- About Laws (RunHasAText): each view of bytes has a text and a status.
-use Rattle.std.proofs.Common.{◌≡◌, inl, inr, ℕ, ◌+◌, length, List, [], ◌∷◌, ◌++◌, take, Bool, false, Option, Some, None, Ok, Err, refl}
+use Rattle.std.proofs.Common.{◌≡◌, inl, inr, ℕ, ◌+◌, length, List, [], ◌∷◌, ◌++◌, take, Bool, true, false, Option, Some, None, Ok, Err, refl}
 use Rattle.jc_rules.specs.declared.operation.Event.{Event}
 use Rattle.jc_rules.specs.Refused.{Cause}
 use Rattle.jc_rules.specs.Step.{Network, AfterIn}

@@ -1,4 +1,4 @@
-use Rattle.std.proofs.Common.{◌≡◌, ◌+◌, ◌<◌, length, ap, sym, arith}
+use Rattle.std.proofs.Common.{◌≡◌, ◌+◌, ◌<◌, length, ap, arith}
 use Rattle.jc_rules.specs.declared.operation.Event.TheVariants.{Exec}
 use Rattle.jc_session.specs.Written.{sink}
 use Rattle.jc_session.proofs.SentLemmas.{handed}

@@ -1,4 +1,4 @@
-use Rattle.std.proofs.Common.{◌≡◌, Result, Err, ap}
+use Rattle.std.proofs.Common.{Result, Err, ap}
 use Rattle.jc_rules.specs.Trace.{Rows}
 use Rattle.jc_session.specs.Written.{sink}
 use Rattle.jc_session.proofs.SentLemmas.{handed}

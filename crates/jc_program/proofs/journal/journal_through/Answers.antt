@@ -1,4 +1,4 @@
-use Rattle.std.proofs.Common.{◌≡◌, ◌∙◌, ℕ, List, refl}
+use Rattle.std.proofs.Common.{refl}
 use Rattle.jc_scenario.specs.Views.{scenario_view}
 use Rattle.jc_session.specs.Written.{sink}
 use Rattle.jc_session.proofs.SentLemmas.{handed}
