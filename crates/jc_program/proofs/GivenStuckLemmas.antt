@@ -1,11 +1,10 @@
 -- About ViewText (IsGivenShown): the lines of a stuck given event.
-use Rattle.std.proofs.Common.{◌≡◌, ℕ, List, length, refl, sym, subst}
+use Rattle.std.proofs.Common.{ℕ, List, length, refl}
 use Rattle.jc_printer.specs.Canon.{AreNamed}
 use Rattle.jc_scenario.specs.WellFormed.{Scenario, IsWellFormedScenario}
 use Rattle.jc_network.specs.declared.fault.Stuck.{Stuck}
 use Rattle.jc_network.specs.Given.{before_given, IsGivenFault}
 use Rattle.jc_dump.specs.Lines.{IsNamedStuck}
-use Rattle.jc_session.specs.Written.{Stream, Written, WrittenInPart}
 use Rattle.jc_session.proofs.AnswerOfLemmas.{of_all}
 use Rattle.jc_program.specs.ViewText.{IsGivenShown}
 use Rattle.jc_program.specs.Recordings.{AreGivenLines}
@@ -23,13 +22,3 @@ module _ (s : Scenario) (at : ℕ) (stuck : Stuck) (h : IsGivenFault (before_giv
   -- its lines are what is shown
   pub given_shown : (lines : List ℕ) → AreGivenLines s.names at stuck lines → IsGivenShown s lines 3
   given_shown lines are = record { at = at; event = h.event; why = h.why; stuck = h.stuck; written = are h.why h.event h.is; ends = refl }
-
-  -- also where they were written by names that are the scenario's
-  shown_by : (names : List (List ℕ)) (lines : List ℕ) → names ≡ s.names → AreGivenLines names at stuck lines → IsGivenShown s lines 3
-  shown_by names lines same are = given_shown lines (subst (λ (ns : List (List ℕ)). AreGivenLines ns at stuck lines) same are)
-
-  pub given_written : (names : List (List ℕ)) (status : ℕ) (a b : Stream) → names ≡ s.names → (status ≡ 3) × Written (AreGivenLines names at stuck) a b → Written (λ text. IsGivenShown s text status) a b
-  given_written names status a b same (is, lines, are, wrote) = (lines, subst (IsGivenShown s lines) (sym is) (shown_by names lines same are), wrote)
-
-  pub given_cut : (names : List (List ℕ)) (a b : Stream) → names ≡ s.names → WrittenInPart (AreGivenLines names at stuck) a b → WrittenInPart (λ text. IsGivenShown s text 3) a b
-  given_cut names a b same (lines, are, part) = (lines, shown_by names lines same are, part)
