@@ -29,7 +29,7 @@ The program by the same rules, written once more in Python. Nothing of it is pro
   view [--at N] FILE    prints each replica's document as an application sees it, after N events
   journal [--trace] FILE
                         prints a line of JSON for each event, with its operation in full, and for the
-                        one that is stuck with why; the proved program doesn't have this command yet
+                        one that is stuck with why
   weave [--seed N] [--limit N] FILE
                         prints the scenario with a schedule drawn from the seed (0 unless it is said):
                         each replica chooses its events as its thread does, up to the limit (10,000);

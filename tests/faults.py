@@ -22,6 +22,9 @@ ROWS = [
     ("tools/tree test a", 1, "tree: refused "),
     ("tools/tree examples/stuck.jsoncrdt q", 3, "tree: stuck "),
     ("echo 'jsoncrdt 2 replica a {} given {a.exec}' | tools/tree - a", 3, "tree: refused 44 GivenStuck at 1 stuck 30 "),
+    ("tools/tree --deleted examples/stuck.jsoncrdt q", 3, "tree: stuck "),
+    ("echo 'jsoncrdt 2 replica a {} given {a.exec}' | tools/tree --deleted - a", 3,
+     "tree: refused 44 GivenStuck at 1 stuck 30 "),
     ("echo 'jsoncrdt 2 replica a {} given {a.exec}' | tools/lanes - >/dev/null", 3, ""),
     ("tools/shrink " + FIRST, 2, "shrink: "),
     ("tools/shrink " + FIRST + " false", 2, "shrink: COMMAND doesn't end with 0"),
@@ -90,6 +93,7 @@ ROWS = [
     ("kit/check " + ONE + "oracle/adapter <&- >/dev/null", 0, ""),
     # No fault: 500 maps in one another, and a letter that the terminal hasn't.
     (f"echo '{DEEP}' | tools/tree - a >/dev/null", 0, ""),
+    (f"echo '{DEEP}' | tools/tree --deleted - a >/dev/null", 0, ""),
     ("""echo 'jsoncrdt 1 replica a { doc := "\u00e9" } schedule { a.exec }' | PYTHONIOENCODING=ascii tools/lanes -""", 0, ""),
 ]
 

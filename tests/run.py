@@ -115,6 +115,7 @@ def pictures(file):
     yield "svg", ["tools/lanes", "--svg", file]
     for name in re.findall(r"^replica (\w+)", stored(file), re.MULTILINE):
         yield f"{name}.dot", ["tools/tree", file, name]
+        yield f"{name}.deleted.dot", ["tools/tree", "--deleted", file, name]
     yield "view", ["./jsoncrdt", "view", file]
 
 
