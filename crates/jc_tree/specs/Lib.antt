@@ -9,6 +9,7 @@ pub mod Single
 pub mod Laws
 pub mod CanGoBack
 pub mod Arena
+pub mod SmallFormers
 pub mod ArenaUndo
 pub mod Counted
 pub mod Numbered

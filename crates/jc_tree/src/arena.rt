@@ -10,10 +10,11 @@ ghost use Rattle.jc_tree.specs.Arena.{IsInside, content_of_arena, flat_at, forme
 ghost use Rattle.jc_tree.specs.Undo.{was_there};
 ghost use Rattle.jc_tree.specs.ArenaUndo.{arena_contents, fewer, arena_undone_once, tree_of_arena, IsGood, AreGood, IsGood-single, AreGood-single};
 
-use crate::arena_node::{ArenaNode, NodeId, former_of_node};
+use crate::arena_node::{ArenaNode, NodeId};
 use crate::ids::Ids;
 use crate::lists::Pairs;
 use crate::node::{Change, Former};
+use crate::small_former::{Room, SmallFormer, former_of_node, make_room};
 use crate::store::{Hint, Mark, Place, Step, TreeStore};
 use jc_rules::{Id, Key, Next, Tagged, Value};
 use std::alloc::{AllocError, Global};
@@ -23,16 +24,18 @@ use std::alloc::{AllocError, Global};
 #[derive(Drop)]
 pub struct Undo {
     node: NodeId,
-    former: Former,
+    former: SmallFormer,
 }
 
 /// A tree as a list of nodes, the document's first and each one before its children, with the undo
-/// records of its changes, the latest last.
+/// records of its changes, the latest last. What a change replaces goes into the room, which is made before
+/// the change.
 #[derive(Drop)]
 pub struct ArenaTree {
     alloc: Global,
     nodes: Vec<ArenaNode>,
     undos: Vec<Undo>,
+    room: Room,
     ghost good: { IsGood nodes.items } by { IsGood-single nodes.items },
     ghost earlier_good: { AreGood undos.items nodes.items } by { AreGood-single undos.items nodes.items },
 }
@@ -57,6 +60,7 @@ fn take_back(nodes: &mut Vec<ArenaNode>, undo: Undo)
     ensures { nodes.new.items ≡ arena_undone_once undo nodes.old.items }
 {
     let Undo { node, former } = undo;
+    let former = former.former();
     drop_node(nodes, &former);
     let number = node.number();
     if number < nodes.len() {
@@ -75,6 +79,7 @@ impl ArenaTree {
             alloc,
             nodes,
             undos: Vec::new(alloc),
+            room: None,
         })
     }
 
@@ -123,8 +128,10 @@ impl ArenaTree {
     {
         let number = node.number();
         self.undos.reserve(1)?;
+        make_room(&mut self.room, self.alloc)?;
         let former = self.nodes[number].change(change, self.alloc)?;
         let was = former.was_there();
+        let former = SmallFormer::new(former, &mut self.room);
         self.undos.push(Undo { node, former }).unwrap();
         Ok(was)
     }

@@ -8,7 +8,7 @@ ghost use Rattle.jc_rules.specs.Paths.{HasContext};
 ghost use Rattle.jc_tree.specs.Tree.{or_no_entries, least_after, has_ids, count_present, keys_lent};
 ghost use Rattle.jc_tree.specs.Numbered.{at_number};
 ghost use Rattle.jc_tree.specs.Tables.{AreWithin, IsBare, IsTrimmed, flat_of};
-ghost use Rattle.jc_tree.specs.Arena.{blank, new_flat, flat_keys, child_number, is_in, with_child_number, IsInside, changed_flat, former_of_node, former_of_flat, restored_flat};
+ghost use Rattle.jc_tree.specs.Arena.{blank, new_flat, flat_keys, child_number, is_in, with_child_number, IsInside, changed_flat, former_of_flat, restored_flat};
 
 use crate::columns::{cut, value_at};
 use crate::ids::Ids;
@@ -130,18 +130,6 @@ impl Model for ArenaNode {
 
     ghost invariant = { λ a. IsNodeOf a.keys a.maps.items a.lists.items a.registers.items a.presences
         a.links.items a.present };
-}
-
-/// The undo record of a new node under a tagged key.
-pub fn former_of_node(key: Tagged) -> Former
-    requires { HasContext key }
-    ensures { result ≡ former_of_node key }
-{
-    match key {
-        Tagged::MapT(key) => Former::Map(key),
-        Tagged::ListT(key) => Former::List(key),
-        Tagged::RegT(_) => unreachable!(),
-    }
 }
 
 /// How many of at most `most` sets have an identifier after one set changed. `count` had one before;

@@ -13,6 +13,7 @@ mod lists;
 mod node;
 mod plain;
 mod presences;
+mod small_former;
 mod store;
 mod tables;
 

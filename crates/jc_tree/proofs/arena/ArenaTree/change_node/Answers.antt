@@ -16,9 +16,9 @@ invariant_of-self-2 c =
     let ns = self.nodes.items in
     let i = c.args.node in
     let made = nodes_changed ns i c.args.change c.index_mut.result.now c.change.new.self (rw c.number-number.ensures at c.index_mut.ensures.value) c.requires.within c.in_ok-former.ensures.ok in
-    let former : c.in_ok-former.former ≡ former_of_flat c.args.change (flat_at ns i) = former_there ns i c.args.change c.index_mut.result.now _ (rw c.number-number.ensures at c.index_mut.ensures.value) c.requires.within c.in_ok-former.ensures.former in
+    let former : c.new-former.result ≡ former_of_flat c.args.change (flat_at ns i) = c.new-former.ensures ∙ former_there ns i c.args.change c.index_mut.result.now _ (rw c.number-number.ensures at c.index_mut.ensures.value) c.requires.within c.in_ok-former.ensures.former in
     let change = inside_changes ns c.requires.there.0 i c.args.change self.good c.requires.there.1 c.requires.within c.requires.inside c.requires.fit in
-    let undo : Undo = record { node = i; former = c.in_ok-former.former } in
+    let undo : Undo = record { node = i; former = c.new-former.result } in
     let all : c.push.new.self.items ≡ self.undos.items ++ undo ∷ [] = c.push.ensures.items ∙ pushed c.push.result c.reserve.new.self.items undo _ _ c.push.ensures.full c.in_ok-reserve.ensures.ok ∙ ap (λ us. us ++ undo ∷ []) c.in_ok-reserve.ensures.items in
     record {
       good = rw (c.number-number.ensures, made) change.good;
@@ -31,10 +31,10 @@ returns-clause-ok c at path =
     let ns = self.nodes.items in
     let i = c.args.node in
     let made = nodes_changed ns i c.args.change c.index_mut.result.now c.change.new.self (rw c.number-number.ensures at c.index_mut.ensures.value) c.requires.within c.in_ok-former.ensures.ok in
-    let former : c.in_ok-former.former ≡ former_of_flat c.args.change (flat_at ns i) = former_there ns i c.args.change c.index_mut.result.now _ (rw c.number-number.ensures at c.index_mut.ensures.value) c.requires.within c.in_ok-former.ensures.former in
+    let former : c.new-former.result ≡ former_of_flat c.args.change (flat_at ns i) = c.new-former.ensures ∙ former_there ns i c.args.change c.index_mut.result.now _ (rw c.number-number.ensures at c.index_mut.ensures.value) c.requires.within c.in_ok-former.ensures.former in
     let change = inside_changes ns at i c.args.change self.good path c.requires.within c.requires.inside c.requires.fit in
-    let undo : Undo = record { node = i; former = c.in_ok-former.former } in
-    let here : Changes ns (with_change c.args.change i ns) at (changed_by c.args.change (context_at at (content_of_arena ns))) i c.in_ok-former.former = rw former change in
+    let undo : Undo = record { node = i; former = c.new-former.result } in
+    let here : Changes ns (with_change c.args.change i ns) at (changed_by c.args.change (context_at at (content_of_arena ns))) i c.new-former.result = rw former change in
     let all : c.push.new.self.items ≡ self.undos.items ++ undo ∷ [] = pushed_ok c.push.result _ c.reserve.new.self.items c.push.new.self.items undo c.unwrap.ensures c.push.ensures.items ∙ ap (λ us. us ++ undo ∷ []) c.in_ok-reserve.ensures.items in
     rw (c.number-number.ensures, made) (changed_tree ns (with_change c.args.change i ns) self.undos.items c.push.new.self.items undo at _ here all)
 
