@@ -51,7 +51,7 @@ impl<'a> Cursor<'a> {
     {
         match self.tokens {
             [] => self.text.len(),
-            [first, ..] => first.start,
+            [first, ..] => first.start as usize,
         }
     }
 
@@ -237,7 +237,9 @@ impl<'a> Cursor<'a> {
                     return Err(self.stuck());
                 }
                 let Some(index) = index_of(digits) else {
-                    return Err(ScenarioFault::IndexTooLarge { place: first.start });
+                    return Err(ScenarioFault::IndexTooLarge {
+                        place: first.start as usize,
+                    });
                 };
                 self.tokens = rest;
                 Ok(index)
@@ -257,7 +259,7 @@ impl<'a> Cursor<'a> {
             return Err(self.stuck());
         };
         let name = text_of(alloc, slice_of(self.text, first))?;
-        let place = first.start;
+        let place = first.start as usize;
         self.advance();
         Ok(Named { name, place })
     }

@@ -15,7 +15,7 @@ pub fn slice_of<'a>(text: &'a str, token: &Token) -> &'a str
     requires { IsTokenOf text.now token.now }
     ensures { result.now ≡ token_bytes text.now token.now }
 {
-    &text[token.start..token.stop]
+    &text[token.start as usize..token.stop as usize]
 }
 
 fn is_plain(byte: u8) -> bool
@@ -50,7 +50,7 @@ pub fn string_of(alloc: Global, text: &str, token: &Token) -> Result<Text, Alloc
 {
     let bytes = text.as_bytes();
     let mut content = String::new(alloc);
-    let mut at = token.start + 1;
+    let mut at = token.start as usize + 1;
     'runs: loop {
         let end = skip_plain(bytes, at);
         content.push_str(&text[at..end])?;

@@ -77,8 +77,8 @@ fn token_at(bytes: &[u8], at: usize) -> Result<Token, LexFault>
     }
     Ok(Token {
         kind,
-        start: at,
-        stop: extent.stop,
+        start: at as u32,
+        stop: extent.stop as u32,
     })
 }
 
@@ -103,7 +103,7 @@ pub fn lex(alloc: Global, text: &str) -> Result<Vec<Token>, LexFault>
     'tokens: while at < bytes.len() {
         let token = token_at(bytes, at)?;
         tokens.push(token)?;
-        at = skip_blanks(bytes, token.stop);
+        at = skip_blanks(bytes, token.stop as usize);
     }
     Ok(tokens)
 }

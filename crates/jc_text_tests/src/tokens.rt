@@ -29,7 +29,7 @@ fn outcome(alloc: Global, text: &str) -> Outcome {
 }
 
 /// The kinds, offsets and bytes of tokens.
-type Tokens = &'static [(TokenKind, usize, usize, &'static str)];
+type Tokens = &'static [(TokenKind, u32, u32, &'static str)];
 
 /// The tokens of a text that has one of each kind.
 const KINDS: Tokens = &[
