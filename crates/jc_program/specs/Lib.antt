@@ -1,5 +1,6 @@
 pub mod WorkFaults
 pub mod Ends
+pub mod StartFaults
 pub mod Recordings
 pub mod Texts
 pub mod Runs

@@ -2,19 +2,16 @@
 -- ThreadRuns and WeaveRuns cite them.
 use Rattle.std.specs.Prelude.{◌≡◌, ℕ, List, string_bytes}
 use Rattle.jc_rules.specs.declared.operation.Event.{Event}
-use Rattle.jc_rules.specs.Refused.{Cause}
 use Rattle.jc_scenario.specs.Canon.{canon}
 use Rattle.jc_scenario.specs.WellFormed.{Scenario}
-use Rattle.jc_network.specs.declared.fault.Stuck.{Stuck}
-use Rattle.jc_network.specs.Steps.{stuck_for}
 use Rattle.jc_dump.specs.Lines.{IsNamedStuck}
-use Rattle.jc_dump.specs.Texts.{given_text}
 use Rattle.jc_runner.specs.declared.run.Report.{Report}
 use Rattle.jc_runner.specs.declared.worker.End.{End}
 use Rattle.jc_runner.specs.Laws.{with_schedule}
 use Rattle.jc_runner.specs.Reports.{IsReport}
 use Rattle.jc_program.specs.Ends.{AreEndLines, outcome_of}
 use Rattle.jc_program.specs.declared.recording.Recording.{Recording}
+use Rattle.jc_program.specs.StartFaults.{AreGivenLines}
 use Rattle.jc_program.specs.ViewText.{IsGivenShown}
 use Rattle.jc_runner.specs.declared.run.RunFault.{RunFault}
 use Rattle.jc_runner.specs.declared.run.RunFault.TheVariants as R
@@ -28,11 +25,6 @@ IsTellableFault names R.LimitTooLarge = ⊥
 IsTellableFault names (R.Given at s) = IsNamedStuck names s
 IsTellableFault names R.Memory = Unit {0}
 IsTellableFault names (R.NoThread refused) = Unit {0}
-
--- these are the lines of a given event that is stuck
-abbrev pub AreGivenLines : List (List ℕ) → ℕ → Stuck → List ℕ → Type 0
-AreGivenLines names at s lines =
-    (why : Cause) (event : Event) → s ≡ stuck_for why event → lines ≡ given_text names at why event
 
 -- The fault of the recording for a refused run, with as many gates as replicas and a limit within its range. A stuck
 -- given event has its lines, unless there was no memory for them.
