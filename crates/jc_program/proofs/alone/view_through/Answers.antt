@@ -1,4 +1,4 @@
-use Rattle.std.proofs.Common.{◌≡◌, ◌∙◌, ℕ, inr, List, Result, Err, refl, sym, ap, subst, take, false}
+use Rattle.std.proofs.Common.{◌≡◌, ◌∙◌, inr, Result, Err, refl, ap, take, false}
 use Rattle.std.proofs.lemmas.Result.{IfOk-weaker}
 use Rattle.jc_scenario.specs.Views.{scenario_view}
 use Rattle.jc_session.specs.Written.{sink, Written}
