@@ -10,7 +10,7 @@ use Rattle.std.proofs.lemmas.Option.{slice_get-map}
 use Rattle.jc_rules.specs.declared.rule.Rule.{Rule}
 use Rattle.jc_rules.specs.Trace.{Rows}
 use Rattle.jc_debug.specs.declared.descent.Descent.{Descent}
-use Rattle.jc_debug.specs.Traces.{deeper, rows_of, rows_of_all, trace_of, rows_if_any, AreAtHand}
+use Rattle.jc_debug.specs.Traces.{deeper, descent_rows, rows_of_all, trace_of, rows_if_any, AreAtHand}
 use Rattle.jc_debug.proofs.InvariantLemmas.{get_last}
 
 pub deeper_more : (r : Rule) (d n : ℕ) → deeper r d (n + 1) ≡ deeper r d n ++ (r, d + n) ∷ []
@@ -27,28 +27,28 @@ deeper_length r d zero = refl
 deeper_length r d (suc n) = ap suc (deeper_length r (d + 1) n)
 
 -- one row more, which goes on
-pub longer_rows : (a b : Descent) (row : Rule × ℕ) → b.rule ≡ a.rule → b.depth ≡ a.depth → b.count ≡ a.count + 1 → row ≡ (a.rule, a.depth + a.count) → rows_of b ≡ rows_of a ++ row ∷ []
-longer_rows a b row r d n e = (λ i. deeper (r i) (d i) (n i)) ∙ deeper_more a.rule a.depth a.count ∙ ap (λ x. rows_of a ++ x ∷ []) (sym e)
+pub longer_rows : (a b : Descent) (row : Rule × ℕ) → b.rule ≡ a.rule → b.depth ≡ a.depth → b.count ≡ a.count + 1 → row ≡ (a.rule, a.depth + a.count) → descent_rows b ≡ descent_rows a ++ row ∷ []
+longer_rows a b row r d n e = (λ i. deeper (r i) (d i) (n i)) ∙ deeper_more a.rule a.depth a.count ∙ ap (λ x. descent_rows a ++ x ∷ []) (sym e)
 
-pub one_row : (a : Descent) (row : Rule × ℕ) → a.rule ≡ row.0 → a.count ≡ 1 → a.depth ≡ row.1 → rows_of a ≡ row ∷ []
+pub one_row : (a : Descent) (row : Rule × ℕ) → a.rule ≡ row.0 → a.count ≡ 1 → a.depth ≡ row.1 → descent_rows a ≡ row ∷ []
 one_row a row r n d = λ i. deeper (r i) (d i) (n i)
 
-pub rows_of_all_more : (ds : List Descent) (d : Descent) → rows_of_all (ds ++ d ∷ []) ≡ rows_of_all ds ++ rows_of d
-rows_of_all_more ds d = flat_map-append rows_of ds (d ∷ []) ∙ ap (λ l. rows_of_all ds ++ l) (append-nil (rows_of d))
+pub rows_of_all_more : (ds : List Descent) (d : Descent) → rows_of_all (ds ++ d ∷ []) ≡ rows_of_all ds ++ descent_rows d
+rows_of_all_more ds d = flat_map-append descent_rows ds (d ∷ []) ∙ ap (λ l. rows_of_all ds ++ l) (append-nil (descent_rows d))
 
 -- the rows of a descent are among those of all
 pub rows_fit : (ds : List Descent) (i : ℕ) (d : Descent) → slice_get ds i ≡ Some d → length (rows_of_all (take i ds)) + d.count ≤ length (rows_of_all ds)
 rows_fit [] i d e = cc
 rows_fit (a ∷ ds) zero d e =
     let same : a ≡ d = cc in
-    let n : length (rows_of d) ≡ d.count = deeper_length d.rule d.depth d.count in
-    let all : length (rows_of a ++ rows_of_all ds) ≡ length (rows_of a) + length (rows_of_all ds) = length-append (rows_of a) (rows_of_all ds) in
-    let first : length (rows_of a) ≡ length (rows_of d) = ap (λ x. length (rows_of x)) same in
+    let n : length (descent_rows d) ≡ d.count = deeper_length d.rule d.depth d.count in
+    let all : length (descent_rows a ++ rows_of_all ds) ≡ length (descent_rows a) + length (rows_of_all ds) = length-append (descent_rows a) (rows_of_all ds) in
+    let first : length (descent_rows a) ≡ length (descent_rows d) = ap (λ x. length (descent_rows x)) same in
     omega (arith, n, all, first)
 rows_fit (a ∷ ds) (suc i) d e =
     let rest = rows_fit ds i d e in
-    let front : length (rows_of a ++ rows_of_all (take i ds)) ≡ length (rows_of a) + length (rows_of_all (take i ds)) = length-append (rows_of a) (rows_of_all (take i ds)) in
-    let all : length (rows_of a ++ rows_of_all ds) ≡ length (rows_of a) + length (rows_of_all ds) = length-append (rows_of a) (rows_of_all ds) in
+    let front : length (descent_rows a ++ rows_of_all (take i ds)) ≡ length (descent_rows a) + length (rows_of_all (take i ds)) = length-append (descent_rows a) (rows_of_all (take i ds)) in
+    let all : length (descent_rows a ++ rows_of_all ds) ≡ length (descent_rows a) + length (rows_of_all ds) = length-append (descent_rows a) (rows_of_all ds) in
     omega (arith, rest, front, all)
 
 -- ---- the last trace at hand

@@ -11,11 +11,11 @@ abbrev pub deeper : Rule → ℕ → ℕ → List (Rule × ℕ)
 deeper rule depth zero = []
 deeper rule depth (suc count) = (rule, depth) ∷ deeper rule (depth + 1) count
 
-abbrev pub rows_of : Descent → List (Rule × ℕ)
-rows_of d = deeper d.rule d.depth d.count
+abbrev pub descent_rows : Descent → List (Rule × ℕ)
+descent_rows d = deeper d.rule d.depth d.count
 
 abbrev pub rows_of_all : List Descent → List (Rule × ℕ)
-rows_of_all ds = flat_map rows_of ds
+rows_of_all ds = flat_map descent_rows ds
 
 -- a whole trace, which ends where it began
 abbrev pub trace_of : Vec Descent Global → Rows

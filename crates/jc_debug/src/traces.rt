@@ -3,7 +3,7 @@
 
 ghost use Rattle.std.specs.Prelude.{◌≡◌, ◌+◌, ◌-◌, ◌<◌, ◌≤◌, ◌++◌, ◌∷◌, ◌↔◌, [], Some, length, slice_get, vec_len, vec_capacity, IsNone, IfOk, IfSome, OnOk, OnErr};
 ghost use Rattle.jc_rules.specs.Trace.{Rows};
-ghost use Rattle.jc_debug.specs.Traces.{rows_of, rows_of_all};
+ghost use Rattle.jc_debug.specs.Traces.{descent_rows, rows_of_all};
 
 use crate::descent::Descent;
 use jc_rules::{Rule, Trace};
@@ -118,8 +118,8 @@ fn go_on(
     row: (Rule, u64),
 ) -> Result<Descent, AllocError>
     ensures { IfOk result (λ next.
-        rows_of_all descents.new.items ++ rows_of next
-        ≡ (rows_of_all descents.old.items ++ rows_of last) ++ row ∷ []) }
+        rows_of_all descents.new.items ++ descent_rows next
+        ≡ (rows_of_all descents.old.items ++ descent_rows last) ++ row ∷ []) }
 {
     if let Some(longer) = last.with(row) {
         return Ok(longer);
@@ -142,7 +142,7 @@ fn write_all(descents: &[Descent], rows: &mut Vec<(Rule, u64)>)
 /// Appends the rows of the descent, for which there is room.
 fn write(descent: &Descent, rows: &mut Vec<(Rule, u64)>)
     requires room { vec_len rows.old + descent.now.count ≤ vec_capacity rows.old }
-    ensures rows { rows.new.items ≡ rows.old.items ++ rows_of descent.now }
+    ensures rows { rows.new.items ≡ rows.old.items ++ descent_rows descent.now }
     ensures capacity { vec_capacity rows.old ≤ vec_capacity rows.new }
 {
     for i in 0..descent.count {

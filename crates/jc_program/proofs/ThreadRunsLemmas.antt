@@ -16,7 +16,7 @@ use Rattle.jc_program.specs.ViewOutput.{IsDueAt}
 use Rattle.jc_program.specs.Faults.{IsCause}
 use Rattle.jc_program.specs.declared.fault.WorkFault.{WorkFault}
 use Rattle.jc_program.specs.declared.fault.WorkFault.TheVariants.{Read, Write, TooManyLines, NoThread, Memory}
-use Rattle.jc_program.specs.ThreadRuns.{outcome_status, IsUnrecorded, AreRecordingTexts, ShowsRecording, Records, AreTextsOf, IsTextOf, StopsRecording, HasRecorded, IsStoppedRecording, AreThreadScenario}
+use Rattle.jc_program.specs.ThreadRuns.{outcome_status, IsUnrecorded, AreRecordingTexts, ShowsRecording, Records, AreTextsOfRecording, IsTextOf, StopsRecording, HasRecorded, IsStoppedRecording, AreThreadScenario}
 use Rattle.jc_program.proofs.ReadsScenarioLemmas.{reads_whole, has_refusal}
 
 -- ---- recordings
@@ -27,7 +27,7 @@ module _ (IsMade : Scenario → Recording → Type 0) (s : Scenario) where
     ran = record { recording = r; is_recording = is; shown = refl; told = refl; ends = refl }
 
     -- a recording that was written
-    pub recorded : (old new : Stream) (WereSent : List ℕ → Type 0) (status : ℕ) → (status ≡ outcome_status r.outcome) × Wrote (string_bytes r.text) old new × WereSent (string_bytes r.lines) → AreTextsOf (ShowsRecording IsMade s) old new WereSent status
+    pub recorded : (old new : Stream) (WereSent : List ℕ → Type 0) (status : ℕ) → (status ≡ outcome_status r.outcome) × Wrote (string_bytes r.text) old new × WereSent (string_bytes r.lines) → AreTextsOfRecording (ShowsRecording IsMade s) old new WereSent status
     recorded old new WereSent status h =
         (string_bytes r.lines, (string_bytes r.text, inl (subst (AreRecordingTexts (IsMade s) (string_bytes r.text) (string_bytes r.lines)) (sym h.0) ran), h.1), h.2)
 
@@ -38,7 +38,7 @@ module _ (IsMade : Scenario → Recording → Type 0) (s : Scenario) where
   -- ---- where there is no recording
 
   abbrev Told : Stream → Stream → Stream → ℕ → Type 0
-  Told err old new status = AreTextsOf (ShowsRecording IsMade s) old new (λ lines. Sent lines err err) status
+  Told err old new status = AreTextsOfRecording (ShowsRecording IsMade s) old new (λ lines. Sent lines err err) status
 
   -- the lines of a given event that is stuck; a sink that was left alone was sent nothing
   pub given_told : (fault : RecordFault) (result : Result ℕ WorkFault) (err old new : Stream) → IsRecordFault s fault → IsUnrecorded fault old new result → IfOk result (Told err old new)
@@ -72,7 +72,7 @@ given_cause (F.NoThread refused) result old new (e, same) =
 -- ---- what is so of one run is so of another
 
 module _ (P Q : List ℕ → List ℕ → ℕ → Type 0) (more : (out lines : List ℕ) (status : ℕ) → P out lines status → Q out lines status) where
-  pub texts_more : (old new : Stream) (WereSent : List ℕ → Type 0) (status : ℕ) → AreTextsOf P old new WereSent status → AreTextsOf Q old new WereSent status
+  pub texts_more : (old new : Stream) (WereSent : List ℕ → Type 0) (status : ℕ) → AreTextsOfRecording P old new WereSent status → AreTextsOfRecording Q old new WereSent status
   texts_more old new WereSent status (lines, (out, run, wrote), sent) = (lines, (out, more out lines status run, wrote), sent)
 
   module _ (A B : Type 0) (read : A → B) where
@@ -94,7 +94,7 @@ module _ (IsMade : Scenario → Recording → Type 0) where
     of_refusal out status h = (Err fault, known (has_refusal fault _ h.is), (h, refl))
 
     -- a refused text; a sink that was left alone was sent nothing
-    pub refused : (err old new : Stream) (status : ℕ) → Written (λ text. IsRefused fault text status) old new → AreTextsOf (Records IsMade bytes) old new (λ lines. Sent lines err err) status
+    pub refused : (err old new : Stream) (status : ℕ) → Written (λ text. IsRefused fault text status) old new → AreTextsOfRecording (Records IsMade bytes) old new (λ lines. Sent lines err err) status
     refused err old new status h = ([], (h.0, of_refusal h.0 status h.1, h.2), inl (wrote_none err err refl))
 
     pub refusing : (old new : Stream) → WrittenInPart (IsDueAt fault) old new → WrittenInPart (IsTextOf (Records IsMade bytes)) old new
@@ -105,7 +105,7 @@ module _ (IsMade : Scenario → Recording → Type 0) where
   of_front : (n : ℕ) (b v : List ℕ) → n ≡ 8388609 → v ≡ take n b → (out lines : List ℕ) (status : ℕ) → Records IsMade v out lines status → Records IsMade b out lines status
   of_front n b v is e out lines status h = (h.0, reads_whole n b v h.0 is e h.1, h.2)
 
-  pub recorded_on_front : (n : ℕ) (told : Option (List ℕ)) (old new : Stream) (WereSent : List ℕ → Type 0) (v : List ℕ) (status : ℕ) → n ≡ 8388609 → IsPrefixUpTo n told v → AreTextsOf (Records IsMade v) old new WereSent status → HasRecorded IsMade told old new WereSent status
+  pub recorded_on_front : (n : ℕ) (told : Option (List ℕ)) (old new : Stream) (WereSent : List ℕ → Type 0) (v : List ℕ) (status : ℕ) → n ≡ 8388609 → IsPrefixUpTo n told v → AreTextsOfRecording (Records IsMade v) old new WereSent status → HasRecorded IsMade told old new WereSent status
   recorded_on_front n None old new WereSent v status is front h = (v, tt, h)
   recorded_on_front n (Some bytes) old new WereSent v status is front h =
       (bytes, refl, texts_more (Records IsMade v) (Records IsMade bytes) (of_front n bytes v is front) old new WereSent status h)

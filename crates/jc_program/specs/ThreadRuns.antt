@@ -56,8 +56,8 @@ Records IsMade bytes out lines status =
     (read : Result Scenario ScenarioFault) × ReadsAs bytes read × RecordsOn IsMade read out lines status
 
 -- The text of a run was written, and its lines were sent to standard error.
-abbrev pub AreTextsOf : (List ℕ → List ℕ → ℕ → Type 0) → Stream → Stream → (List ℕ → Type 0) → ℕ → Type 0
-AreTextsOf IsRun old new WereSent status =
+abbrev pub AreTextsOfRecording : (List ℕ → List ℕ → ℕ → Type 0) → Stream → Stream → (List ℕ → Type 0) → ℕ → Type 0
+AreTextsOfRecording IsRun old new WereSent status =
     (lines : List ℕ) × Written (λ out. IsRun out lines status) old new × WereSent lines
 
 -- the text of a run
@@ -77,7 +77,7 @@ StopsRecording HasThreads IsRun Memory old new = new ≡ old
 abbrev pub HasRecorded
     : (Scenario → Recording → Type 0) → Option (List ℕ) → Stream → Stream → (List ℕ → Type 0) → ℕ → Type 0
 HasRecorded IsMade told old new WereSent status =
-    (bytes : List ℕ) × AreTold told bytes × AreTextsOf (Records IsMade bytes) old new WereSent status
+    (bytes : List ℕ) × AreTold told bytes × AreTextsOfRecording (Records IsMade bytes) old new WereSent status
 
 -- a fault stopped it on the bytes
 abbrev pub IsStoppedRecording

@@ -8,7 +8,7 @@ ghost use Rattle.jc_scenario.specs.Views.{scenario_view};
 ghost use Rattle.jc_session.specs.Written.{sink, Wrote, WrotePart, Sent};
 ghost use Rattle.jc_program.specs.ViewOutput.{told_by};
 ghost use Rattle.jc_program.specs.Faults.{IsCause, IsUnread};
-ghost use Rattle.jc_program.specs.ThreadRuns.{outcome_status, IsUnrecorded, ShowsRecording, IsByThreads, ThreadsRan, AreTextsOf, AreThreadScenario, StopsRecording, HaveThreaded, HaveStopped};
+ghost use Rattle.jc_program.specs.ThreadRuns.{outcome_status, IsUnrecorded, ShowsRecording, IsByThreads, ThreadsRan, AreTextsOfRecording, AreThreadScenario, StopsRecording, HaveThreaded, HaveStopped};
 
 use crate::alone::{refuse, text_of};
 use crate::fault::WorkFault;
@@ -74,7 +74,7 @@ fn run_all<R: Threads + Wait + Sync + AllocGlobal, K: Sink, E: Sink>(
 ) -> Result<u8, WorkFault>
     requires formed { IsWellFormedScenario (scenario_view scenario) }
     requires limit { limit ≤ MAX_THREAD_EVENTS }
-    ensures ok { IfOk result (AreTextsOf (ShowsRecording (IsByThreads limit) (scenario_view scenario))
+    ensures ok { IfOk result (AreTextsOfRecording (ShowsRecording (IsByThreads limit) (scenario_view scenario))
         (sink K.Sink out.old) (sink K.Sink out.new) (λ lines. Sent lines (sink E.Sink err.old) (sink E.Sink err.new))) }
     ensures stopped { IfErr result (λ fault.
         StopsRecording ⊤ (ShowsRecording (IsByThreads limit) (scenario_view scenario)) fault
@@ -101,7 +101,7 @@ fn run_text<R: Threads + Wait + Sync + AllocGlobal, K: Sink, E: Sink>(
     err: &mut E,
 ) -> Result<u8, WorkFault>
     requires { limit ≤ MAX_THREAD_EVENTS }
-    ensures ok { IfOk result (AreTextsOf (ThreadsRan limit text.now) (sink K.Sink out.old) (sink K.Sink out.new)
+    ensures ok { IfOk result (AreTextsOfRecording (ThreadsRan limit text.now) (sink K.Sink out.old) (sink K.Sink out.new)
         (λ lines. Sent lines (sink E.Sink err.old) (sink E.Sink err.new))) }
     ensures stopped { IfErr result (λ fault.
         StopsRecording (AreThreadScenario text.now) (ThreadsRan limit text.now) fault

@@ -14,7 +14,7 @@ ghost use Rattle.jc_program.specs.Faults.{IsCause, IsUnread};
 ghost use Rattle.jc_program.specs.Recordings.{IsRecordFault};
 ghost use Rattle.jc_program.specs.declared.recording.RecordFault.TheVariants.{NoThread as WantOfThread};
 ghost use Rattle.jc_runner.specs.declared.starting.SpawnRefused.{SpawnRefused as AnyRefused};
-ghost use Rattle.jc_program.specs.ThreadRuns.{ShowsRecording, AreTextsOf, StopsRecording, HasRecorded, IsStoppedRecording};
+ghost use Rattle.jc_program.specs.ThreadRuns.{ShowsRecording, AreTextsOfRecording, StopsRecording, HasRecorded, IsStoppedRecording};
 ghost use Rattle.jc_program.specs.WeaveRuns.{IsWeaving, IsBySeed, WeaveRan, HaveNoThreads};
 
 use crate::alone::{refuse, text_of};
@@ -101,7 +101,7 @@ fn weave_all<K: Sink, E: Sink>(
 ) -> Result<u8, WorkFault>
     requires formed { IsWellFormedScenario (scenario_view scenario) }
     requires limit { limit ≤ MAX_EVENTS }
-    ensures ok { IfOk result (AreTextsOf (ShowsRecording (IsBySeed seed limit) (scenario_view scenario))
+    ensures ok { IfOk result (AreTextsOfRecording (ShowsRecording (IsBySeed seed limit) (scenario_view scenario))
         (sink K.Sink out.old) (sink K.Sink out.new) (λ lines. Sent lines (sink E.Sink err.old) (sink E.Sink err.new))) }
     ensures stopped { IfErr result (λ fault.
         StopsRecording ⊥ (ShowsRecording (IsBySeed seed limit) (scenario_view scenario)) fault
@@ -129,7 +129,7 @@ fn weave_read<K: Sink, E: Sink>(
     err: &mut E,
 ) -> Result<u8, WorkFault>
     requires { limit ≤ MAX_EVENTS }
-    ensures ok { IfOk result (AreTextsOf (WeaveRan seed limit text.now) (sink K.Sink out.old) (sink K.Sink out.new)
+    ensures ok { IfOk result (AreTextsOfRecording (WeaveRan seed limit text.now) (sink K.Sink out.old) (sink K.Sink out.new)
         (λ lines. Sent lines (sink E.Sink err.old) (sink E.Sink err.new))) }
     ensures stopped { IfErr result (λ fault.
         StopsRecording (HaveNoThreads text.now) (WeaveRan seed limit text.now) fault

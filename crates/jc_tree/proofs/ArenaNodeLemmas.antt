@@ -16,7 +16,7 @@ use Rattle.jc_tree.specs.Arena.{Flat}
 use Rattle.jc_tree.specs.Tree.{least_after, is_after, count_present}
 use Rattle.jc_tree.specs.Undo.{removed}
 use Rattle.jc_tree.specs.Numbered.{Numbering, IsNumbered, at_number, shown, column_entries}
-use Rattle.jc_tree.specs.Tables.{MayNumber, AreWithin, IsBare, flat_of}
+use Rattle.jc_tree.specs.Tables.{MayNumber, AreColumnsWithin, IsBare, flat_of}
 use Rattle.jc_tree.proofs.ArenaStepsLemmas.{least_by_kind}
 use Rattle.jc_tree.proofs.ColumnLemmas.{there_above_column, further_above_column, none_above_column, popped_column}
 use Rattle.jc_tree.proofs.CountedLemmas.{count_cons, one}
@@ -24,24 +24,24 @@ use Rattle.jc_tree.proofs.TablesLemmas.{may_same, may_grow}
 use Rattle.jc_tree.proofs.WalksLeastLemmas.{least_of}
 use Rattle.jc_tree.proofs.WalksLemmas.{IsNext, next_is}
 
-module _ (k : Key) (t u : Numbering) (m l : List (Option ℕ)) (r : List (Option Register)) (p : List (Option (List Id))) (x : List (Option Next)) (w : AreWithin t m l r p x) (g : MayNumber k t u) where
+module _ (k : Key) (t u : Numbering) (m l : List (Option ℕ)) (r : List (Option Register)) (p : List (Option (List Id))) (x : List (Option Next)) (w : AreColumnsWithin t m l r p x) (g : MayNumber k t u) where
   more : length t.keys ≤ length u.keys
   more = may_grow k t u g
 
   -- the columns are within the keys that there are then
-  pub within_maps : (n : List (Option ℕ)) → length n ≤ length u.keys → AreWithin u n l r p x
+  pub within_maps : (n : List (Option ℕ)) → length n ≤ length u.keys → AreColumnsWithin u n l r p x
   within_maps n h = record { maps = h; lists = omega (arith, w.lists, more); registers = omega (arith, w.registers, more); presences = omega (arith, w.presences, more); links = omega (arith, w.links, more) }
 
-  pub within_lists : (n : List (Option ℕ)) → length n ≤ length u.keys → AreWithin u m n r p x
+  pub within_lists : (n : List (Option ℕ)) → length n ≤ length u.keys → AreColumnsWithin u m n r p x
   within_lists n h = record { maps = omega (arith, w.maps, more); lists = h; registers = omega (arith, w.registers, more); presences = omega (arith, w.presences, more); links = omega (arith, w.links, more) }
 
-  pub within_registers : (n : List (Option Register)) → length n ≤ length u.keys → AreWithin u m l n p x
+  pub within_registers : (n : List (Option Register)) → length n ≤ length u.keys → AreColumnsWithin u m l n p x
   within_registers n h = record { maps = omega (arith, w.maps, more); lists = omega (arith, w.lists, more); registers = h; presences = omega (arith, w.presences, more); links = omega (arith, w.links, more) }
 
-  pub within_presences : (n : List (Option (List Id))) → length n ≤ length u.keys → AreWithin u m l r n x
+  pub within_presences : (n : List (Option (List Id))) → length n ≤ length u.keys → AreColumnsWithin u m l r n x
   within_presences n h = record { maps = omega (arith, w.maps, more); lists = omega (arith, w.lists, more); registers = omega (arith, w.registers, more); presences = h; links = omega (arith, w.links, more) }
 
-  pub within_links : (n : List (Option Next)) → length n ≤ length u.keys → AreWithin u m l r p n
+  pub within_links : (n : List (Option Next)) → length n ≤ length u.keys → AreColumnsWithin u m l r p n
   within_links n h = record { maps = omega (arith, w.maps, more); lists = omega (arith, w.lists, more); registers = omega (arith, w.registers, more); presences = omega (arith, w.presences, more); links = h }
 
   -- the count goes on
@@ -231,7 +231,7 @@ module _ (t u : Numbering) (m l : List (Option ℕ)) (r : List (Option Register)
           shorter (suc n) [] = omega arith
           shorter (suc n) (y ∷ c) = omega (arith, shorter n c)
 
-  pub trimmed_within : AreWithin u (take last m) (take last l) (take last r) (take last p) (take last x)
+  pub trimmed_within : AreColumnsWithin u (take last m) (take last l) (take last r) (take last p) (take last x)
   trimmed_within = record { maps = cut_length m; lists = cut_length l; registers = cut_length r; presences = cut_length p; links = cut_length x }
 
   pub trimmed_seen : flat_of u (take last m) (take last l) (take last r) (take last p) (take last x) ≡ flat_of t m l r p x

@@ -11,7 +11,7 @@ use Rattle.jc_rules.specs.Entries.{IsRising, keys_of}
 use Rattle.jc_rules.specs.Context.{Context}
 use Rattle.jc_rules.specs.WellFormed.{IsWellFormedContext}
 use Rattle.jc_tree.specs.Sorted.{AreSorted}
-use Rattle.jc_tree.specs.Single.{IsKept-single}
+use Rattle.jc_tree.specs.Single.{IsKept-single, IsRising-single}
 use Rattle.jc_tree.specs.Tree.{Tree}
 use Rattle.jc_tree.specs.Arena.{Flat, flat_at, content_of_arena, IsSoundArena, restored_flat}
 use Rattle.jc_tree.specs.declared.node.Former.{Former}
@@ -60,13 +60,8 @@ abbrev pub AreGood : List Undo → List Flat → Type 0
 AreGood [] ns = Unit {0}
 AreGood (u ∷ us) ns = IsGood (arena_undone (u ∷ us) ns) × AreGood us ns
 
-IsRising-single : (ks : List Key) → IsProp (IsRising key_cmp ks)
-IsRising-single [] = Unit-prop
-IsRising-single (k ∷ ks) =
-    ×_prop (AllByRecursion-prop (λ j. key_cmp k j ≡ Less) (λ j. Ordering-set _ _) ks) (IsRising-single ks)
-
 AreSorted-single : {X : Type 0} (es : List (Key × X)) → IsProp (AreSorted es)
-AreSorted-single es = IsRising-single (keys_of es)
+AreSorted-single es = IsRising-single key_cmp (keys_of es)
 
 -- each of these has one proof
 pub IsSound-single : (ns : List Flat) → IsProp (IsSoundArena ns)

@@ -13,7 +13,7 @@ use Rattle.jc_rules.specs.Ids.{AreRising}
 use Rattle.jc_rules.specs.Context.{Context, context, Children, no_child, child, listed, Register, IsPrimitive}
 use Rattle.jc_rules.specs.WellFormed.{IsWellFormedContext, AreWellFormedContexts, IsWellFormedRegister}
 
-IsRising-single : {K : Type 0} (R : K → K → Ordering) (ks : List K) → IsProp (IsRising R ks)
+pub IsRising-single : {K : Type 0} (R : K → K → Ordering) (ks : List K) → IsProp (IsRising R ks)
 IsRising-single R [] = Unit-prop
 IsRising-single R (k ∷ ks) =
     ×_prop (AllByRecursion-prop (λ j. R k j ≡ Less) (λ j. Ordering-set _ _) ks) (IsRising-single R ks)

@@ -25,7 +25,7 @@ flat_of t m l r p x = record {
 }
 
 -- no column is longer than the keys are many
-pub record AreWithin (t : Numbering) (m l : List (Option ℕ)) (r : List (Option Register)) (p : List (Option (List Id)))
+pub record AreColumnsWithin (t : Numbering) (m l : List (Option ℕ)) (r : List (Option Register)) (p : List (Option (List Id)))
     (x : List (Option Next)) : Type 0 where
   pub maps : length m ≤ length t.keys
   pub lists : length l ≤ length t.keys
@@ -36,7 +36,7 @@ pub record AreWithin (t : Numbering) (m l : List (Option ℕ)) (r : List (Option
 -- so it is, and as many presence sets have an identifier
 pub record IsNodeOf (t : Numbering) (m l : List (Option ℕ)) (r : List (Option Register)) (p : List (Option (List Id)))
     (x : List (Option Next)) (present : ℕ) : Type 0 where
-  pub within : AreWithin t m l r p x
+  pub within : AreColumnsWithin t m l r p x
   pub count : present ≡ count_present (column_entries p t)
 
 -- nothing stands at the number in any column

@@ -7,7 +7,7 @@ ghost use Rattle.jc_rules.specs.Entries.{IsRising, find, keys_of};
 ghost use Rattle.jc_rules.specs.Paths.{HasContext};
 ghost use Rattle.jc_tree.specs.Tree.{or_no_entries, least_after, has_ids, count_present, keys_lent};
 ghost use Rattle.jc_tree.specs.Numbered.{at_number};
-ghost use Rattle.jc_tree.specs.Tables.{AreWithin, IsBare, IsTrimmed, flat_of};
+ghost use Rattle.jc_tree.specs.Tables.{AreColumnsWithin, IsBare, IsTrimmed, flat_of};
 ghost use Rattle.jc_tree.specs.Arena.{blank, new_flat, flat_keys, child_number, is_in, with_child_number, IsInside, changed_flat, former_of_flat, restored_flat};
 
 use crate::columns::{cut, value_at};
@@ -214,9 +214,9 @@ fn trim(
     presences: &mut Presences,
     links: &mut Vec<Option<Link>>,
 )
-    requires { AreWithin keys.old maps.old.items lists.old.items registers.old.items presences.old
+    requires { AreColumnsWithin keys.old maps.old.items lists.old.items registers.old.items presences.old
         links.old.items }
-    ensures within { AreWithin keys.new maps.new.items lists.new.items registers.new.items presences.new
+    ensures within { AreColumnsWithin keys.new maps.new.items lists.new.items registers.new.items presences.new
         links.new.items }
     ensures seen { flat_of keys.new maps.new.items lists.new.items registers.new.items presences.new
         links.new.items

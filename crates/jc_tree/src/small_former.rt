@@ -185,7 +185,10 @@ impl SmallFormer {
             replica: self.replica,
         };
         let SmallFormer {
-            key, kept, kind, ..
+            key,
+            kept,
+            kind,
+            ..
         } = self;
         match kind {
             Kind::Map => Former::Map(key),

@@ -26,7 +26,7 @@ use Rattle.jc_tree.proofs.WalksLemmas.{above-none, none_above, step}
 use Rattle.jc_view.specs.declared.document.Form.{Form as AnyForm}
 use Rattle.jc_view.specs.declared.document.Form.TheVariants as F
 use Rattle.jc_view.specs.Visible.{GoesThrough, present, marked, members_at, elements_after, with_part, with_values, parts_json, one_of, map_json, list_json, document, line_json}
-use Rattle.jc_view.specs.Parts.{Gains, parts_shown_at, child_json, is_list, form_of, members_front, member_of, items_front, part_tokens, values_tokens, first_tokens, if_so}
+use Rattle.jc_view.specs.Parts.{Gains, parts_shown_at, child_json, is_list, form_of, members_front, member_shown, items_front, part_tokens, values_tokens, first_tokens, if_so}
 use Rattle.jc_view.proofs.PresentLemmas.{present_by}
 use Rattle.jc_view.proofs.ElementsLemmas.{items_tokens_are}
 use Rattle.jc_view.proofs.TokensLemmas.{Wrote, wrote_begins, wrote_more}
@@ -53,7 +53,7 @@ present-append ((k, []) ∷ p) q = present-append p q
 present-append ((k, i ∷ is) ∷ p) q = ap (λ r. (k, i ∷ is) ∷ r) (present-append p q)
 
 pub rest_is : (show : Key → Json) (c : Context) (last : Option Key) (k : Key) → is_after last k ≡ true → AllByRecursion (λ j. is_after last j ≡ true → key_cmp k j ≢ Greater) (keys_of (presences c)) → IsRising key_cmp (keys_of (presences c))
-    → members_front show (present (keys_above last (presences c))) ≡ member_of show k c ++ members_front show (present (keys_above (Some k) (presences c)))
+    → members_front show (present (keys_above last (presences c))) ≡ member_shown show k c ++ members_front show (present (keys_above (Some k) (presences c)))
 rest_is show c last k a h r =
     ap (λ p. members_front show (present p)) (step last k (presences c) a h r)
     ∙ ap (members_front show) (present-append (entry_of k (find key_cmp k (presences c))) (keys_above (Some k) (presences c)))
@@ -70,7 +70,7 @@ map_ends show c last a b h w =
 
 -- a member, if its key is a name that is present
 pub member_by : (show : Key → Json) (s : List ℕ) (c : Context) (b : Bool) → b ≡ is_some (find key_cmp (K.Name s) (present (presences c))) → IsRising key_cmp (keys_of (presences c))
-    → member_of show (K.Name s) c ≡ cond b (T.key (marked s) ∷ json_tokens (show (K.Name s))) []
+    → member_shown show (K.Name s) c ≡ cond b (T.key (marked s) ∷ json_tokens (show (K.Name s))) []
 member_by show s c b e h = go (find key_cmp (K.Name s) (presences c)) refl
   where
     go : (o : Option (List Id)) → find key_cmp (K.Name s) (presences c) ≡ o → members_front show (present (entry_of (K.Name s) (find key_cmp (K.Name s) (presences c)))) ≡ cond b (T.key (marked s) ∷ json_tokens (show (K.Name s))) []
@@ -80,7 +80,7 @@ member_by show s c b e h = go (find key_cmp (K.Name s) (presences c)) refl
         let n : b ≡ true = e ∙ present_by (K.Name s) (presences c) (Some (i ∷ is)) h (sym f) in
         rw (f, n) (ap (λ x. T.key (marked s) ∷ x) (append-nil (json_tokens (show (K.Name s)))))
 
-pub no_member : (show : Key → Json) (k : Key) (c : Context) → ((s : List ℕ) → k ≢ K.Name s) → member_of show k c ≡ []
+pub no_member : (show : Key → Json) (k : Key) (c : Context) → ((s : List ℕ) → k ≢ K.Name s) → member_shown show k c ≡ []
 no_member show k c h = go k h (find key_cmp k (presences c))
   where
     go : (j : Key) → ((s : List ℕ) → j ≢ K.Name s) → (o : Option (List Id)) → members_front show (present (entry_of j o)) ≡ []

@@ -55,8 +55,8 @@ members_front show [] = []
 members_front show ((Name s, ids) ∷ p) = T.key (marked s) ∷ (json_tokens (show (Name s)) ++ members_front show p)
 members_front show (e ∷ p) = members_front show p
 
-abbrev pub member_of : (Key → Json) → Key → Context → List Token
-member_of show k c = members_front show (present (entry_of k (find key_cmp k (presences c))))
+abbrev pub member_shown : (Key → Json) → Key → Context → List Token
+member_shown show k c = members_front show (present (entry_of k (find key_cmp k (presences c))))
 
 abbrev pub items_front : (Key → Json) → List (Key × List Id) → List Id → List Token
 items_front show p [] = []

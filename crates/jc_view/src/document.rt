@@ -15,7 +15,7 @@ ghost use Rattle.jc_rules.specs.Paths.{HasContext};
 ghost use Rattle.jc_rules.specs.WellFormed.{IsChained};
 ghost use Rattle.jc_tree.specs.Tree.{HasPlace, here};
 ghost use Rattle.jc_view.specs.Visible.{goes_by, marked, or_no_value, parts_json, present, map_json, list_json, view_line};
-ghost use Rattle.jc_view.specs.Parts.{Gains, parts_shown_at, child_json, shows_at, form_of, member_of, item_of, part_tokens, values_tokens, first_tokens, is_list, if_so};
+ghost use Rattle.jc_view.specs.Parts.{Gains, parts_shown_at, child_json, shows_at, form_of, member_shown, item_of, part_tokens, values_tokens, first_tokens, is_list, if_so};
 
 use crate::alive::is_alive;
 use crate::values::{write_pairs, write_value};
@@ -332,7 +332,7 @@ fn write_member<S: TreeStore>(
     requires there { HasPlace at.old.items (S.tree store.now) }
     requires chained { IsChained (S.tree store.now).now }
     ensures written { OnOk result (Gains out.old out.new
-        (member_of (parts_shown_at names.now (goes_by replica.now.now) at.old.items
+        (member_shown (parts_shown_at names.now (goes_by replica.now.now) at.old.items
         (here at.old.items (S.tree store.now))) key.now
         (here at.old.items (S.tree store.now)))) }
     ensures place { OnOk result (at.new.items ≡ at.old.items) }

@@ -5,7 +5,7 @@ use Rattle.rand_pcg.specs.Lcg.{Lcg}
 use Rattle.rand_pcg.specs.Pcg.{pcg32}
 use Rattle.jc_rules.specs.State.{State}
 use Rattle.jc_runner.specs.declared.phase.Phase.{Phase}
-use Rattle.jc_weave.specs.Looms.{is_waiting, eager_of, or_all, pool, drawn_of, without_number}
+use Rattle.jc_weave.specs.Looms.{is_waiting, eager_of, or_all, pool, drawn_of, without_replica}
 
 -- beyond its end a list is left as it is
 pub set_beyond : (xs : List Phase) (i : ℕ) (y : Phase) → length xs ≤ i → slice_set xs i y ≡ xs
@@ -43,25 +43,25 @@ or_in : (es xs : List ℕ) (q : ℕ) → (In q es → In q xs) → In q (or_all 
 or_in [] xs q f h = h
 or_in (e ∷ es) xs q f h = f h
 
-no_longer : (p : ℕ) (xs : List ℕ) → length (without_number p xs) ≤ length xs
+no_longer : (p : ℕ) (xs : List ℕ) → length (without_replica p xs) ≤ length xs
 no_longer p [] = omega arith
 no_longer p (x ∷ xs) = go (nat_eq x p) (no_longer p xs)
   where
-    go : (b : Bool) → length (without_number p xs) ≤ length xs → length (cond b (without_number p xs) (x ∷ without_number p xs)) ≤ suc (length xs)
+    go : (b : Bool) → length (without_replica p xs) ≤ length xs → length (cond b (without_replica p xs) (x ∷ without_replica p xs)) ≤ suc (length xs)
     go true h = omega (arith, h)
     go false h = omega (arith, h)
 
 same_self : (n : ℕ) → nat_eq n n ≡ true
 same_self n = search rules
 
-shorter : (p : ℕ) (xs : List ℕ) → In p xs → length (without_number p xs) < length xs
+shorter : (p : ℕ) (xs : List ℕ) → In p xs → length (without_replica p xs) < length xs
 shorter p [] h = elim h [ ]
 shorter p (x ∷ xs) (inl same) =
     let t : nat_eq x p ≡ true = ap (λ y. nat_eq y p) same ∙ same_self p in
     rw t (omega (arith, no_longer p xs))
 shorter p (x ∷ xs) (inr later) = go (nat_eq x p) (shorter p xs later)
   where
-    go : (b : Bool) → length (without_number p xs) < length xs → length (cond b (without_number p xs) (x ∷ without_number p xs)) < suc (length xs)
+    go : (b : Bool) → length (without_replica p xs) < length xs → length (cond b (without_replica p xs) (x ∷ without_replica p xs)) < suc (length xs)
     go true h = omega (arith, h)
     go false h = omega (arith, h)
 
@@ -74,5 +74,5 @@ drawn_live states phases live g p some at =
     or_in (eager_of states phases live) live p (eager_in states phases live p) there
 
 -- where it leaves, fewer are left
-pub fewer : (states : List State) (phases : List Phase) (live : List ℕ) (g : Lcg) (p : ℕ) → live ≢ [] → p ≡ drawn_of (pool states phases live) g → length (without_number p live) < length live
+pub fewer : (states : List State) (phases : List Phase) (live : List ℕ) (g : Lcg) (p : ℕ) → live ≢ [] → p ≡ drawn_of (pool states phases live) g → length (without_replica p live) < length live
 fewer states phases live g p some at = shorter p live (drawn_live states phases live g p some at)

@@ -16,7 +16,7 @@ use Rattle.jc_runner.specs.Chosen.{choice, chosen_by, chosen_in}
 use Rattle.jc_runner.specs.Legal.{own_events}
 use Rattle.jc_runner.proofs.ChosenLemmas.{choice_is}
 use Rattle.jc_runner.proofs.ReportsLemmas.{untouched}
-use Rattle.jc_weave.specs.Looms.{Loom, LoomTurn, makes, finishes, gets_stuck, WeavesTo, phase_at, drawn_replica, without_number}
+use Rattle.jc_weave.specs.Looms.{Loom, LoomTurn, makes, finishes, gets_stuck, WeavesTo, phase_at, drawn_replica, without_replica}
 use Rattle.jc_weave.specs.Weaving.{first_loom, made_events, stuck_events, numbers_from, end_of_left, end_of_state, end_or, end_in, ends_in, IsWoven}
 use Rattle.jc_weave.proofs.LoomsLemmas.{In, drawn_live}
 use Rattle.jc_weave.proofs.WeavingLemmas.{weaves_after, weaves_count}
@@ -26,30 +26,30 @@ same_number a b h = search (rules, h)
 
 -- ---- who is left
 
-still_in : (p q : ℕ) (xs : List ℕ) → nat_eq q p ≡ false → In p xs → In p (without_number q xs)
+still_in : (p q : ℕ) (xs : List ℕ) → nat_eq q p ≡ false → In p xs → In p (without_replica q xs)
 still_in p q [] other h = h
 still_in p q (x ∷ xs) other h = go (nat_eq x q) refl h (still_in p q xs other)
   where
-    go : (b : Bool) → nat_eq x q ≡ b → (x ≡ p) ⊎ In p xs → (In p xs → In p (without_number q xs)) → In p (cond b (without_number q xs) (x ∷ without_number q xs))
+    go : (b : Bool) → nat_eq x q ≡ b → (x ≡ p) ⊎ In p xs → (In p xs → In p (without_replica q xs)) → In p (cond b (without_replica q xs) (x ∷ without_replica q xs))
     go true same (inl here) more = absurd (search (rules, same, here, other))
     go true same (inr later) more = more later
     go false same (inl here) more = inl here
     go false same (inr later) more = inr (more later)
 
-was_in : (p q : ℕ) (xs : List ℕ) → In p (without_number q xs) → In p xs
+was_in : (p q : ℕ) (xs : List ℕ) → In p (without_replica q xs) → In p xs
 was_in p q [] h = h
 was_in p q (x ∷ xs) h = go (nat_eq x q) h (was_in p q xs)
   where
-    go : (b : Bool) → In p (cond b (without_number q xs) (x ∷ without_number q xs)) → (In p (without_number q xs) → In p xs) → (x ≡ p) ⊎ In p xs
+    go : (b : Bool) → In p (cond b (without_replica q xs) (x ∷ without_replica q xs)) → (In p (without_replica q xs) → In p xs) → (x ≡ p) ⊎ In p xs
     go true k more = inr (more k)
     go false (inl here) more = inl here
     go false (inr later) more = inr (more later)
 
-not_in : (p : ℕ) (xs : List ℕ) → In p (without_number p xs) → ⊥
+not_in : (p : ℕ) (xs : List ℕ) → In p (without_replica p xs) → ⊥
 not_in p [] h = h
 not_in p (x ∷ xs) h = go (nat_eq x p) refl h (not_in p xs)
   where
-    go : (b : Bool) → nat_eq x p ≡ b → In p (cond b (without_number p xs) (x ∷ without_number p xs)) → (In p (without_number p xs) → ⊥) → ⊥
+    go : (b : Bool) → nat_eq x p ≡ b → In p (cond b (without_replica p xs) (x ∷ without_replica p xs)) → (In p (without_replica p xs) → ⊥) → ⊥
     go true same k more = more k
     go false other (inl here) more = search (rules, other, here)
     go false other (inr later) more = more later
@@ -104,7 +104,7 @@ has_left L M (finishes q ∷ ts) p here none w = go (nat_eq (drawn_replica L) p)
     go true same more =
         let at : drawn_replica L ≡ p = same_number (drawn_replica L) p same in
         let done : choice L.network.states p (phase_at L.phases p) ≡ None = subst (λ (d : ℕ). choice L.network.states d (phase_at L.phases d) ≡ None) at w.1.does.1 in
-        let out = λ (h : In p w.0.live). not_in p L.live (subst (λ (d : ℕ). In p (without_number d L.live)) at (subst (In p) w.1.does.2.live h)) in
+        let out = λ (h : In p w.0.live). not_in p L.live (subst (λ (d : ℕ). In p (without_replica d L.live)) at (subst (In p) w.1.does.2.live h)) in
         let still = untouched p w.0.network.states (made_events ts) M.network.states (after_states w.0.network (made_events ts) M.network (weaves_after w.0 M ts w.2)) (none_made w.0 M ts p out w.2) in
         inr (ap end_of_state (still ∙ ap (λ (K : Network). slice_get K.states p) w.1.does.2.network) ∙ by_state (length L.network.states) p (phase_at L.phases p) (slice_get L.network.states p) done)
     go false other more = more (subst (In p) (sym w.1.does.2.live) (still_in p (drawn_replica L) L.live other here))

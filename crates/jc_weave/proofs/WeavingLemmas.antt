@@ -14,7 +14,7 @@ use Rattle.jc_runner.specs.declared.phase.Phase.{Phase}
 use Rattle.jc_runner.specs.declared.worker.End.{End}
 use Rattle.jc_runner.specs.Chosen.{choice}
 use Rattle.jc_runner.specs.Legal.{IsLegal}
-use Rattle.jc_weave.specs.Looms.{Loom, LoomTurn, makes, finishes, gets_stuck, IsLoomTurn, WeavesTo, LeavesLoom, phase_at, pool, drawn_of, without_number}
+use Rattle.jc_weave.specs.Looms.{Loom, LoomTurn, makes, finishes, gets_stuck, IsLoomTurn, WeavesTo, LeavesLoom, phase_at, pool, drawn_of, without_replica}
 use Rattle.jc_weave.specs.Weaving.{seeded, all_start, numbers_from, loom, first_loom, with_made, made_events, with_stuck, stuck_events, ends_in, IsLoomAfter, IsOneTurnMore, IsWoven}
 
 -- ---- one turn more
@@ -92,12 +92,12 @@ made_turn N N2 phases phases2 live live2 g g2 left left2 es fs ss us p e next ro
 
 module _ (N N2 : Network) (phases phases2 : List Phase) (live live2 : List ℕ) (g g2 : Lcg) (left left2 : ℕ) (es fs : List Event) (ss us : List Stuck) (p : ℕ)
     (room : 0 < left) (some : live ≢ []) (at : p ≡ drawn_of (pool N.states phases live) g) (moved : g2 ≡ (pcg32 g).1)
-    (net : N2 ≡ N) (ph : phases2 ≡ phases) (gone : live2 ≡ without_number p live) (same : left2 ≡ left) (none : fs ≡ es) where
+    (net : N2 ≡ N) (ph : phases2 ≡ phases) (gone : live2 ≡ without_replica p live) (same : left2 ≡ left) (none : fs ≡ es) where
   leaves : LeavesLoom (loom N phases live g left) (loom N2 phases2 live2 g2 left2)
   leaves = record {
     network = net;
     phases = ph;
-    live = gone ∙ ap (λ (q : ℕ). without_number q live) at;
+    live = gone ∙ ap (λ (q : ℕ). without_replica q live) at;
     generator = moved;
     left = same;
   }

@@ -85,9 +85,9 @@ pub data LoomTurn : Type 0 where
   finishes : ℕ → LoomTurn
   gets_stuck : Event → Cause → LoomTurn
 
-abbrev pub without_number : ℕ → List ℕ → List ℕ
-without_number p [] = []
-without_number p (q ∷ qs) = cond (nat_eq q p) (without_number p qs) (q ∷ without_number p qs)
+abbrev pub without_replica : ℕ → List ℕ → List ℕ
+without_replica p [] = []
+without_replica p (q ∷ qs) = cond (nat_eq q p) (without_replica p qs) (q ∷ without_replica p qs)
 
 -- The drawn replica makes the event that it chooses.
 pub record MakesChosen (L : Loom) (e : Event) (M : Loom) : Type 0 where
@@ -104,7 +104,7 @@ pub record MakesChosen (L : Loom) (e : Event) (M : Loom) : Type 0 where
 pub record LeavesLoom (L M : Loom) : Type 0 where
   pub network : M.network ≡ L.network
   pub phases : M.phases ≡ L.phases
-  pub live : M.live ≡ without_number (drawn_replica L) L.live
+  pub live : M.live ≡ without_replica (drawn_replica L) L.live
   pub generator : M.generator ≡ (pcg32 L.generator).1
   pub left : M.left ≡ L.left
 

@@ -11,7 +11,7 @@ ghost use Rattle.jc_network.specs.NetworkHistory.{StepsTo};
 ghost use Rattle.jc_network.specs.Steps.{IsStuckFor};
 ghost use Rattle.jc_scenario.specs.WellFormed.{Scenario as AnyScenario, IsWellFormedScenario};
 ghost use Rattle.jc_scenario.specs.Views.{scenario_view};
-ghost use Rattle.jc_weave.specs.Looms.{without_number};
+ghost use Rattle.jc_weave.specs.Looms.{without_replica};
 ghost use Rattle.jc_weave.specs.Weaving.{all_start, numbers_from, loom, counts_in, ends_in, IsOneTurnMore, IsWoven};
 
 use crate::drawing::{draw, phase_at};
@@ -56,8 +56,8 @@ fn numbers_of(alloc: Global, names: &[Text]) -> Result<Vec<u16>, AllocError>
 }
 
 /// The numbers but this one.
-fn without_number(alloc: Global, live: &[u16], p: u16) -> Result<Vec<u16>, AllocError>
-    ensures { IfOk result (λ ps. ps.items ≡ without_number p live.now) }
+fn without_replica(alloc: Global, live: &[u16], p: u16) -> Result<Vec<u16>, AllocError>
+    ensures { IfOk result (λ ps. ps.items ≡ without_replica p live.now) }
 {
     let mut kept = Vec::new(alloc);
     let mut rest = live;
@@ -155,7 +155,7 @@ impl Loom {
 
     /// The replica leaves.
     fn leave(&mut self, alloc: Global, p: u16) -> Result<(), AllocError>
-        ensures gone { OnOk result (self.new.live.items ≡ without_number p self.old.live.items) }
+        ensures gone { OnOk result (self.new.live.items ≡ without_replica p self.old.live.items) }
         ensures net { self.new.net ≡ self.old.net }
         ensures schedule { self.new.schedule ≡ self.old.schedule }
         ensures stucks { self.new.stucks ≡ self.old.stucks }
@@ -163,7 +163,7 @@ impl Loom {
         ensures generator { self.new.rng ≡ self.old.rng }
         ensures left { self.new.left ≡ self.old.left }
     {
-        self.live = without_number(alloc, &self.live, p)?;
+        self.live = without_replica(alloc, &self.live, p)?;
         Ok(())
     }
 

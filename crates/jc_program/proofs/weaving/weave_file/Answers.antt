@@ -3,7 +3,7 @@ use Rattle.std.proofs.lemmas.Result.{IfOk-weaker, IfErr-weaker}
 use Rattle.jc_session.specs.Written.{Stream, sink, Sent}
 use Rattle.jc_program.specs.ViewOutput.{told_by}
 use Rattle.jc_program.specs.Faults.{IsUnread}
-use Rattle.jc_program.specs.ThreadRuns.{Records, AreTextsOf, StopsRecording}
+use Rattle.jc_program.specs.ThreadRuns.{Records, AreTextsOfRecording, StopsRecording}
 use Rattle.jc_program.specs.WeaveRuns.{IsBySeed, HaveNoThreads}
 use Rattle.jc_program.proofs.ThreadRunsLemmas.{recorded_on_front, stopped_on_front, unread, lacking, cause_of}
 use Rattle.jc_program.proofs.weaving.weave_file.Goals as goal
@@ -25,7 +25,7 @@ returns-clause-ok g c =
     let old : Stream = sink g.K.Sink c.args.out.now in
     let new : Stream = sink g.K.Sink c.weave_read.new.out in
     let were_sent : List ℕ → Type 0 = λ lines. Sent lines (sink g.E.Sink c.args.err.now) (sink g.E.Sink c.weave_read.new.err) in
-    IfOk-weaker c.weave_read.result _ _ (λ status h. recorded_on_front by 8388609 told old new were_sent c.in-Ok.text.items status refl c.in-Ok.ensures.front (subst (λ (t : List ℕ). AreTextsOf (Records by t) old new were_sent status) c.deref.ensures.value h)) c.weave_read.ensures.ok
+    IfOk-weaker c.weave_read.result _ _ (λ status h. recorded_on_front by 8388609 told old new were_sent c.in-Ok.text.items status refl c.in-Ok.ensures.front (subst (λ (t : List ℕ). AreTextsOfRecording (Records by t) old new were_sent status) c.deref.ensures.value h)) c.weave_read.ensures.ok
 
 pub returns-clause-stopped : goal.returns-clause-stopped
 returns-clause-stopped g c =

@@ -4,7 +4,7 @@ use Rattle.jc_scenario.specs.Views.{scenario_view}
 use Rattle.jc_runner.specs.declared.worker.End.{End}
 use Rattle.jc_weave.specs.Weaving.{counts_in}
 use Rattle.jc_program.specs.Ends.{AreTellable}
-use Rattle.jc_program.specs.Recordings.{HasTexts}
+use Rattle.jc_program.specs.Recordings.{HasRecordingTexts}
 use Rattle.jc_program.proofs.WeaveRunsLemmas.{tellable, formed}
 use Rattle.jc_program.proofs.weaving.woven_texts.Goals as goal
 
@@ -28,6 +28,6 @@ returns c =
       network = c.args.woven.net.network;
       ends = c.args.woven.ends.items;
       is_woven = is;
-      texts = subst (λ (made : List ℕ). HasTexts s schedule made c.args.woven.ends.items r) (c.deref.ensures.value ∙ c.requires.made)
-          (subst (λ (ends : List End). HasTexts s schedule c.deref.result.now ends r) c.deref-2.ensures.value h);
+      texts = subst (λ (made : List ℕ). HasRecordingTexts s schedule made c.args.woven.ends.items r) (c.deref.ensures.value ∙ c.requires.made)
+          (subst (λ (ends : List End). HasRecordingTexts s schedule c.deref.result.now ends r) c.deref-2.ensures.value h);
     }) c.texts_of.ensures

@@ -3,7 +3,7 @@ use Rattle.jc_rules.specs.declared.id.Id.{Id}
 use Rattle.jc_rules.specs.declared.key.Next.{Next}
 use Rattle.jc_rules.specs.Context.{Register}
 use Rattle.jc_tree.specs.Numbered.{at_number}
-use Rattle.jc_tree.specs.Tables.{AreWithin, IsBare, flat_of}
+use Rattle.jc_tree.specs.Tables.{AreColumnsWithin, IsBare, flat_of}
 use Rattle.jc_tree.proofs.ArenaNodeLemmas.{trimmed_within, trimmed_seen}
 use Rattle.jc_tree.proofs.arena_node.trim.Goals as goal
 
@@ -21,7 +21,7 @@ loop-last-preserved c =
       links = ap (λ (d : List (Option Next)). at_number d n) (sym c.as_slice-in-Some-4.ensures.value) ∙ slices.links;
     } in
     let some : n + 1 ≡ length k.keys.keys = omega (arith, c.in-Some.ensures, c.len.ensures) in
-    let within : AreWithin u (take n k.maps.items) (take n k.lists.items) (take n k.registers.items) (take n k.presences) (take n k.links.items) = trimmed_within k.keys u k.maps.items k.lists.items k.registers.items k.presences k.links.items n c.pop.ensures.numbered some c.pop.ensures.keys c.pop.ensures.order bare in (
+    let within : AreColumnsWithin u (take n k.maps.items) (take n k.lists.items) (take n k.registers.items) (take n k.presences) (take n k.links.items) = trimmed_within k.keys u k.maps.items k.lists.items k.registers.items k.presences k.links.items n c.pop.ensures.numbered some c.pop.ensures.keys c.pop.ensures.order bare in (
       record {
         maps = omega (arith, within.maps, ap length c.cut.ensures);
         lists = omega (arith, within.lists, ap length c.cut-in-Some.ensures);

@@ -1,10 +1,10 @@
 use Rattle.std.proofs.Common.{◌≡◌, length}
-use Rattle.jc_tree.specs.Tables.{AreWithin, flat_of}
+use Rattle.jc_tree.specs.Tables.{AreColumnsWithin, flat_of}
 use Rattle.jc_tree.proofs.arena_node.trim.Given as goal
 
 abbrev pub invariant-loop-last : goal.invariant-loop-last
 invariant-loop-last l =
-    AreWithin l.keys l.maps.items l.lists.items l.registers.items l.presences l.links.items
+    AreColumnsWithin l.keys l.maps.items l.lists.items l.registers.items l.presences l.links.items
     × (flat_of l.keys l.maps.items l.lists.items l.registers.items l.presences l.links.items
     ≡ flat_of l.fn.keys l.fn.maps.items l.fn.lists.items l.fn.registers.items l.fn.presences l.fn.links.items)
 

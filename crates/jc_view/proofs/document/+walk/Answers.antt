@@ -27,7 +27,7 @@ use Rattle.jc_tree.proofs.WellFormedLemmas.{presences_rise}
 use Rattle.jc_meaning.proofs.ComparedContextsLemmas.{StandsBelow, stands_below}
 use Rattle.jc_view.specs.declared.document.Form.TheVariants as F
 use Rattle.jc_view.specs.Visible.{goes_by, or_no_value, present, marked, map_json, list_json, parts_json}
-use Rattle.jc_view.specs.Parts.{Gains, parts_shown_at, child_json, member_of, item_of, members_front, shows_at, form_of, first_tokens, part_tokens, values_tokens, if_so}
+use Rattle.jc_view.specs.Parts.{Gains, parts_shown_at, child_json, member_shown, item_of, members_front, shows_at, form_of, first_tokens, part_tokens, values_tokens, if_so}
 use Rattle.jc_view.proofs.TokensLemmas.{Wrote, gains_nothing, gains_one, gains_then, wrote_more, wrote_end, gains_between}
 use Rattle.jc_view.proofs.ElementsLemmas.{along_begins, along_on, along_ends}
 use Rattle.jc_view.proofs.MembersLemmas.{map_begins, rest_is, map_ends, member_by, every_is, value_place, map_place, list_place, every_place, map_is, list_is, list_child, map_child}
@@ -181,8 +181,8 @@ write_map-loop-key-preserved g t c =
     let e = c.as_slice.ensures.value ∙ c.loop-key.invariant.0 in
     let n : IsNext last (keys_of (presences d)) key = next_is last (keys_of (presences d)) key (sym (c.in-Some.ensures ∙ ap (λ (s : List Tagged). least_after last (keys_of (presences (here s tree)))) e)) in
     let kept : IsWellFormedContext d = kept_at at tree.now c.requires.there (g.met.S.TreeStore.kept c.args.store.now) in
-    let gains : Gains c.loop-key.out c.write_member.new.out (member_of (parts_shown_at names goes at d) key d) =
-    subst (λ (s : List Tagged). Gains c.loop-key.out c.write_member.new.out (member_of (parts_shown_at names goes s (here s tree)) key (here s tree))) c.loop-key.invariant.0 c.in_ok-write_member.ensures.written in (
+    let gains : Gains c.loop-key.out c.write_member.new.out (member_shown (parts_shown_at names goes at d) key d) =
+    subst (λ (s : List Tagged). Gains c.loop-key.out c.write_member.new.out (member_shown (parts_shown_at names goes s (here s tree)) key (here s tree))) c.loop-key.invariant.0 c.in_ok-write_member.ensures.written in (
       c.in_ok-write_member.ensures.place ∙ c.loop-key.invariant.0,
       wrote_more _ _ _ _ _ _ _ (rest_is (parts_shown_at names goes at d) d last key n.after n.below (presences_rise d kept)) gains c.loop-key.invariant.1,
     )
@@ -217,7 +217,7 @@ write_member-returns-in_ok-write_place-clause-written g t c =
     let named : Gains c.args.out.now c.write_name.new.out (T.key (marked s) ∷ []) = search rules in
     let placed : Gains c.write_name.new.out c.write_place.new.out (json_tokens (show (K.Name s))) = search rules in
     let both = gains_then _ _ _ _ _ named placed in
-    subst (λ (k : Key). Gains c.args.out.now c.write_place.new.out (member_of show k d)) (sym is)
+    subst (λ (k : Key). Gains c.args.out.now c.write_place.new.out (member_shown show k d)) (sym is)
     (subst (Gains c.args.out.now c.write_place.new.out) (sym (member_by show s d true there (presences_rise d kept))) both)
 
 pub write_member-returns-else-is_present-clause-written : goal.write_member-returns-else-is_present-clause-written
@@ -230,7 +230,7 @@ write_member-returns-else-is_present-clause-written g t c =
     let kept : IsWellFormedContext d = kept_at at tree.now c.requires.there (g.met.S.TreeStore.kept c.args.store.now) in
     let is : c.args.key.now ≡ K.Name s = search rules in
     let there : false ≡ is_some (find key_cmp (K.Name s) (present (presences d))) = search rules in
-    subst (λ (k : Key). Gains c.args.out.now c.args.out.now (member_of show k d)) (sym is)
+    subst (λ (k : Key). Gains c.args.out.now c.args.out.now (member_shown show k d)) (sym is)
     (subst (Gains c.args.out.now c.args.out.now) (sym (member_by show s d false there (presences_rise d kept))) (gains_nothing c.args.out.now))
 
 pub write_place-returns-in-Value-clause-written : goal.write_place-returns-in-Value-clause-written
