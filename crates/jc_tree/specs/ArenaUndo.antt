@@ -1,13 +1,10 @@
 -- The earlier contents of the fast store, by its undo records.
-use Rattle.std.specs.Prelude.{◌≡◌, ℕ, ◌<◌, List, [], ◌∷◌, length, slice_set}
-use Rattle.std.specs.List.{AllByRecursion-prop}
+use Rattle.std.specs.Prelude.{ℕ, ◌<◌, List, [], ◌∷◌, length, slice_set}
 use Rattle.std.specs.Coded.{Coded-set, le_prop, ×_prop, Unit-prop, coded_ℕ}
-use Rattle.std.specs.Ordering.{Ordering-set}
-use Rattle.std.specs.declared.cmp.Ordering.TheVariants.{Less}
 use Rattle.jc_rules.specs.declared.key.Key.{Key}
 use Rattle.jc_rules.specs.contracts.key.Tagged.{the_row as tagged_row}
 use Rattle.jc_rules.specs.Order.{key_cmp}
-use Rattle.jc_rules.specs.Entries.{IsRising, keys_of}
+use Rattle.jc_rules.specs.Entries.{keys_of}
 use Rattle.jc_rules.specs.Context.{Context}
 use Rattle.jc_rules.specs.WellFormed.{IsWellFormedContext}
 use Rattle.jc_tree.specs.Sorted.{AreSorted}
