@@ -20,7 +20,7 @@ pub invariant_of-self-in-Err : goal.invariant_of-self-in-Err
 invariant_of-self-in-Err c =
     let r = c.self.inside.pairs.items in
     let belongs : EntryBelongsAt id_cmp c.args.id r c.in-Err.place = subst (λ (s : Register). EntryBelongsAt id_cmp c.args.id s c.in-Err.place) (sym c.self.view_is) c.in-Err.ensures in
-    subst (λ (s : Register). AreRising (keys_of s)) (put-absent ids_total exact_ids c.args.id r c.in-Err.place c.args.value belongs ∙ sym c.in_ok-insert-in-Err.ensures.items) (rising-put ids_total exact_ids c.args.id c.args.value r c.self.invariant)
+    subst (λ (s : Register). AreRising (keys_of s)) (put-absent ids_total exact_ids c.args.id r c.in-Err.place c.args.value belongs ∙ sym c.in_ok-insert_pair-in-Err.ensures.items) (rising-put ids_total exact_ids c.args.id c.args.value r c.self.invariant)
 
 pub returns-in-Ok-clause-ok : goal.returns-in-Ok-clause-ok
 returns-in-Ok-clause-ok c =
@@ -38,13 +38,13 @@ returns-in-Ok-clause-former c =
     ∙ sym (find-standing ids_total exact_ids c.args.id r c.in-Ok.place c.index_mut.result.now c.self.invariant stands c.index_mut.ensures.value)
     ∙ ap (λ (s : Register). find id_cmp c.args.id s) c.self.view_is
 
-pub returns-in_ok-insert-in-Err-clause-ok : goal.returns-in_ok-insert-in-Err-clause-ok
-returns-in_ok-insert-in-Err-clause-ok c =
+pub returns-in_ok-insert_pair-in-Err-clause-ok : goal.returns-in_ok-insert_pair-in-Err-clause-ok
+returns-in_ok-insert_pair-in-Err-clause-ok c =
     let r = c.self.inside.pairs.items in
     let belongs : EntryBelongsAt id_cmp c.args.id r c.in-Err.place = subst (λ (s : Register). EntryBelongsAt id_cmp c.args.id s c.in-Err.place) (sym c.self.view_is) c.in-Err.ensures in
-    c.in_ok-insert-in-Err.ensures.items
+    c.in_ok-insert_pair-in-Err.ensures.items
     ∙ sym (put-absent ids_total exact_ids c.args.id r c.in-Err.place c.args.value belongs)
     ∙ ap (λ (s : Register). put id_cmp c.args.id c.args.value s) c.self.view_is
 
-pub returns-in_ok-insert-in-Err-clause-former : goal.returns-in_ok-insert-in-Err-clause-former
-returns-in_ok-insert-in-Err-clause-former c = sym (find-absent ids_total exact_ids c.args.id c.args.self.now c.in-Err.place c.in-Err.ensures)
+pub returns-in_ok-insert_pair-in-Err-clause-former : goal.returns-in_ok-insert_pair-in-Err-clause-former
+returns-in_ok-insert_pair-in-Err-clause-former c = sym (find-absent ids_total exact_ids c.args.id c.args.self.now c.in-Err.place c.in-Err.ensures)
