@@ -148,9 +148,12 @@ impl<S: TreeStore> Replica<S> {
             place_of(command),
             trace,
         )?;
-        let Bound::Cursor(cursor) = bound else {
+        let Bound::Cursor(mut cursor) = bound else {
             return Err(ReplicaFault::NotACursor);
         };
+        if let Some(last) = self.queue.last() {
+            cursor.path.share(&last.cursor.path)?;
+        }
         trace.open(Rule::MakeOp)?;
         trace.open(Rule::ApplyLocal)?;
         Ok(Op {

@@ -1,6 +1,7 @@
 pub mod BoolLemmas
 pub mod ContextLemmas
 pub mod OrderLemmas
+pub mod PathLemmas
 pub mod RisingLemmas
 pub mod EntriesLemmas
 pub mod KeyedEntriesLemmas

@@ -136,6 +136,23 @@ fn cursors_are_copied(rt: HostRuntime) -> Result<(), Fail> {
     Ok(())
 }
 
+/// A copy that goes further down leaves the first path as it was; a path takes no other path's keys.
+#[test]
+fn paths_share_their_keys(rt: HostRuntime) -> Result<(), Fail> {
+    let path = cursor_at_a(rt.alloc())?.path;
+    let mut below = path.copy()?;
+    below.push(Tagged::ListT(Key::Head))?;
+    holds(&rt, "the path", is_path(&path));
+    let keys = [Tagged::MapT(Key::Doc), Tagged::ListT(Key::Head)];
+    holds(&rt, "below it", below.as_slice() == keys.as_slice());
+    let mut again = cursor_at_a(rt.alloc())?.path;
+    again.share(&path)?;
+    holds(&rt, "with the same", is_path(&again));
+    again.share(&below)?;
+    holds(&rt, "with another", is_path(&again));
+    Ok(())
+}
+
 #[test]
 fn mutations_are_copied(rt: HostRuntime) -> Result<(), Fail> {
     let mutation = Mutation::Insert(Value::Number(text(rt.alloc(), "1e999")?));
