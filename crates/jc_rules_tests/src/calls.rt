@@ -139,7 +139,8 @@ fn cursors_are_copied(rt: HostRuntime) -> Result<(), Fail> {
 /// A copy that goes further down leaves the first path as it was; a path takes no other path's keys.
 #[test]
 fn paths_share_their_keys(rt: HostRuntime) -> Result<(), Fail> {
-    let path = cursor_at_a(rt.alloc())?.path;
+    let mut path = Path::new(rt.alloc());
+    path.push(Tagged::MapT(Key::Doc))?;
     let mut below = path.copy()?;
     below.push(Tagged::ListT(Key::Head))?;
     holds(&rt, "the path", is_path(&path));
