@@ -1,10 +1,11 @@
 -- Lemmas about Given: given events lead from one network to another, and aren't passed on the way back.
-use Rattle.std.proofs.Common.{◌≡◌, ℕ, ◌+◌, ◌<◌, ◌≤◌, Result, Err, List, [], ◌∷◌, ◌++◌, length, take, get_or, refl, sym, ◌∙◌, ap, subst, arith}
+use Rattle.std.proofs.Common.{◌≡◌, ℕ, ◌+◌, ◌<◌, ◌≤◌, Result, Err, Some, zero, suc, map, slice_get, drop, set, List, [], ◌∷◌, ◌++◌, length, take, get_or, refl, sym, ◌∙◌, ap, subst, arith}
+use Rattle.std.proofs.lemmas.Grind.{common_steps}
 use Rattle.std.proofs.lemmas.List.{take_more, take_all, length-map}
 use Rattle.std.proofs.lemmas.Option.{slice_get-get_or}
 use Rattle.jc_rules.specs.declared.operation.Event.{Event}
 use Rattle.jc_rules.specs.declared.version.Version.{Version}
-use Rattle.jc_rules.specs.State.{start}
+use Rattle.jc_rules.specs.State.{State, start}
 use Rattle.jc_rules.specs.Step.{Network, AfterIn}
 use Rattle.jc_rules.specs.Trace.{Rows}
 use Rattle.jc_rules.proofs.VersionLemmas.{after_states}
@@ -15,11 +16,12 @@ use Rattle.jc_network.specs.declared.fault.StartFault.TheVariants as S
 use Rattle.jc_network.specs.declared.fault.StepFault.{StepFault}
 use Rattle.jc_network.specs.declared.fault.StepFault.TheVariants as E
 use Rattle.jc_network.specs.declared.fault.Stuck.{Stuck}
-use Rattle.jc_network.specs.NetworkHistory.{Course, StepsTo, network_of, of_version}
+use Rattle.jc_network.specs.Abstract.{real}
+use Rattle.jc_network.specs.NetworkHistory.{Course, StepsTo, begin_now, course_of, kept_of, network_of, of_version}
 use Rattle.jc_network.specs.Given.{before_given, AreParts, IsBeforeGiven, IsStart, IsStarted, IsGivenFault}
 use Rattle.jc_network.specs.Laws.{starts, IsReached}
 use Rattle.jc_network.specs.Steps.{IsStuckFor}
-use Rattle.jc_network.specs.Invariant.{IsNet}
+use Rattle.jc_network.specs.Invariant.{IsInRun, IsNet}
 use Rattle.jc_network.proofs.AfterLemmas.{after_more, after_one_more, after_count}
 use Rattle.jc_network.proofs.InvariantLemmas.{now_in_run, length_end}
 use Rattle.jc_network.proofs.StartLemmas.{short_scripts}
@@ -136,3 +138,39 @@ begun version count whose ps h =
         refl,
       );
     }
+
+-- ---- where the replicas' histories begin anew
+
+pub states_kept : (ps : List Past) → kept_of (map begin_now ps) ≡ kept_of ps
+states_kept [] = refl
+states_kept (p ∷ ps) = ap (λ (As : List State). p.now ∷ As) (states_kept ps)
+
+number_kept : (ps : List Past) (p : ℕ) (past : Past) → slice_get (map begin_now ps) p ≡ Some past → (old : Past) × (slice_get ps p ≡ Some old) × (old.number ≡ past.number)
+number_kept [] p past h = cc
+number_kept (q ∷ ps) zero past h = (q, refl, let e : begin_now q ≡ past = cc in ap (λ (r : Past). r.number) e)
+number_kept (q ∷ ps) (suc p) past h = number_kept ps p past h
+
+pub begins_anew : (version : Version) (count : ℕ) (whose : List ℕ) (ps : List Past) → IsNet version count whose ps → IsNet version count [] (map begin_now ps)
+begins_anew version count whose ps h =
+    let now = begun version count whose ps h in
+    record {
+      each = length-map ps begin_now ∙ now.each;
+      numbered = λ p past e. let old = number_kept ps p past e in sym old.2 ∙ now.numbered p old.0 old.1;
+      backed = tt;
+      scripts = now.scripts;
+      first = now.first;
+      runs = subst (λ (As : List State). IsInRun version now.scripts now.first (real As) As × (real As ≡ now.first)) (sym (states_kept ps)) now.runs;
+    }
+
+pub course_anew : (version : Version) (names : List (List ℕ)) (whose : List ℕ) (ps : List Past) → course_of version names [] (map begin_now ps) ≡ record (course_of version names whose ps) { earlier = [] }
+course_anew version names whose ps = ap (λ (As : List State). record { names = names; network = of_version version (real As); earlier = [] }) (states_kept ps)
+
+-- one more begins
+pub one_more_begins : (ps : List Past) (p : ℕ) (r d : Past) → p < length ps → r ≡ begin_now (get_or (map begin_now (take p ps) ++ drop p ps) p d) → set (map begin_now (take p ps) ++ drop p ps) p r ≡ map begin_now (take (suc p) ps) ++ drop (suc p) ps
+one_more_begins [] p r d l h = absurd (omega arith)
+one_more_begins (q ∷ ps) zero r d l h = ap (λ (t : Past). t ∷ ps) h
+one_more_begins (q ∷ ps) (suc p) r d l h = ap (λ (ts : List Past). begin_now q ∷ ts) (one_more_begins ps p r d (omega arith) h)
+
+-- all of them, where a call was lent the whole list
+pub all_begin : (ps lent new : List Past) (n : ℕ) → n ≡ length ps → lent ≡ ps → new ≡ map begin_now lent → take n (new ++ drop (length new) ps) ≡ map begin_now ps
+all_begin ps lent new n e l h = grind (arith, common_steps)

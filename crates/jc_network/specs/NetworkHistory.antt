@@ -66,6 +66,10 @@ abbrev pub last_state_of : State → List State → State
 last_state_of A [] = A
 last_state_of A (B ∷ Bs) = last_state_of B Bs
 
+-- without the states before its steps
+abbrev pub begin_now : Past → Past
+begin_now p = record p { earlier = [] }
+
 -- before the last step
 abbrev pub back_one : Past → Past
 back_one p = record {

@@ -19,7 +19,7 @@ ghost use Rattle.jc_rules.specs.Step.{AfterIn};
 use crate::applied::{applied_ids_of, applied_of};
 use crate::enabled::enabled_in;
 use crate::fault::{CompareFault, StartFault, StepFault};
-use crate::replicas::replicas_of;
+use crate::replicas::{begin_all, replicas_of};
 use crate::stepping::make;
 use jc_replica::Replica;
 use jc_rules::limits::MAX_EVENTS;
@@ -124,11 +124,12 @@ impl Net {
     }
 
     /// Begins at the network now: no step that was made is counted any more, and none can be taken back. It takes no
-    /// memory.
+    /// memory, and gives that of the undo records up.
     pub fn begin(&mut self)
         ensures { self.new ≡ record self.old { earlier = [] } }
     {
         self.whose.clear();
+        begin_all(self.replicas.as_mut_slice());
     }
 
     /// The replicas' names, in order.

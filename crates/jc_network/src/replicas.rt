@@ -1,7 +1,8 @@
-//! The replicas of a network at the start of its scenario.
+//! The replicas of a network at the start of its scenario, and where their histories begin anew.
 
-ghost use Rattle.std.specs.Prelude.{◌≡◌, IfOk};
+ghost use Rattle.std.specs.Prelude.{◌≡◌, IfOk, map};
 ghost use Rattle.jc_scenario.specs.Views.{scripts_view};
+ghost use Rattle.jc_network.specs.NetworkHistory.{begin_now};
 ghost use Rattle.jc_network.specs.Refines.{AreShort};
 ghost use Rattle.jc_network.specs.Start.{pasts_from};
 
@@ -26,4 +27,13 @@ pub(crate) fn replicas_of(
         number += 1;
     }
     Ok(replicas)
+}
+
+/// Lets each replica begin at its state now.
+pub(crate) fn begin_all(replicas: &mut [Replica<ArenaTree>])
+    ensures { replicas.new ≡ map begin_now replicas.old }
+{
+    for p in 0..replicas.len() {
+        replicas[p].begin();
+    }
 }

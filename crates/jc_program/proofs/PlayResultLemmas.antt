@@ -2,7 +2,7 @@
 -- functions of `run` use it.
 use Rattle.std.proofs.Common.{◌≡◌, ℕ, suc, ◌+◌, ◌<◌, ◌≤◌, List, [], ◌∷◌, ◌++◌, length, take, drop, get_or, slice_get, is_some, Bool, Option, Some, None, true, false, refl, ap, sym, ◌∙◌, subst, append_assoc, append-nil, add-zero, arith}
 use Rattle.std.proofs.lemmas.Grind.{common_steps}
-use Rattle.std.proofs.lemmas.List.{take_more, length-append}
+use Rattle.std.proofs.lemmas.List.{take_more}
 use Rattle.std.proofs.Math.Seq.{take-length}
 use Rattle.jc_rules.specs.declared.operation.Event.{Event}
 use Rattle.jc_rules.specs.declared.rule.Rule.{Rule}
@@ -183,11 +183,10 @@ pub record GoesOn (trace : Bool) (old new : Course) (es : List Event) (i : ℕ) 
   pub taken : take (i + 1) es ≡ events_of made
   pub wrote : WroteAndHolds (events_text trace old.names 1 made) holds a c
   pub names : new.names ≡ old.names
-  pub steps : length new.earlier ≡ i + 1
 
-pub goes_here : (trace : Bool) (old now new : Course) (es : List Event) (i n : ℕ) (d : Event) (made : List Made) (held holds : List ℕ) (a b c : Stream) (s : Option StuckEvent) → is_some s ≡ false → now.names ≡ old.names → length now.earlier ≡ i → n ≡ i + 1 → GoesBy old.network made now.network → take i es ≡ events_of made → i < length es → WroteAndHolds (events_text trace old.names 1 made) held a b → PlaysNext trace now new n (get_or es i d) held holds b c s → GoesOn trace old new es i holds a c
-goes_here trace old now new es i n d made held holds a b c (Some s) none names steps number goes taken inside wrote h = let f : true ≡ false = none in cc
-goes_here trace old now new es i n d made held holds a b c None none names steps number goes taken inside wrote (rows, to, appended) =
+pub goes_here : (trace : Bool) (old now new : Course) (es : List Event) (i n : ℕ) (d : Event) (made : List Made) (held holds : List ℕ) (a b c : Stream) (s : Option StuckEvent) → is_some s ≡ false → now.names ≡ old.names → n ≡ i + 1 → GoesBy old.network made now.network → take i es ≡ events_of made → i < length es → WroteAndHolds (events_text trace old.names 1 made) held a b → PlaysNext trace now new n (get_or es i d) held holds b c s → GoesOn trace old new es i holds a c
+goes_here trace old now new es i n d made held holds a b c (Some s) none names number goes taken inside wrote h = let f : true ≡ false = none in cc
+goes_here trace old now new es i n d made held holds a b c None none names number goes taken inside wrote (rows, to, appended) =
     let e = get_or es i d in
     let m : Made = (e, rows.rows) in
     let count : length made ≡ i = made_count es i made (omega (arith, inside)) taken in
@@ -199,7 +198,6 @@ goes_here trace old now new es i n d made held holds a b c None none names steps
       taken = take_more es i d inside ∙ (ap (λ l. l ++ e ∷ []) taken ∙ sym (events_of-append made m));
       wrote = subst (λ t. WroteAndHolds t holds a c) (sym (shown_more trace old.names made e rows.rows n (omega (arith, number, count)))) whole;
       names = to.names ∙ names;
-      steps = ap length to.earlier ∙ (length-append now.earlier (now.network ∷ []) ∙ ap (λ k. k + 1) steps);
     }
 
 -- all events were made, and what is held is sent

@@ -14,7 +14,7 @@ use crate::replica::Replica;
 use crate::vars::bind_var;
 use crate::yielding::is_yield;
 use jc_cursor::{Bound, eval};
-use jc_rules::{Id, Mutation, Op, Rule, Text, Trace};
+use jc_rules::{Cursor, Id, Mutation, Op, Rule, Text, Trace};
 use jc_syntax::{Cmd, Expr};
 use jc_tree::TreeStore;
 use std::alloc::AllocError;
@@ -50,6 +50,17 @@ fn mutation_of(command: &Cmd) -> Result<Mutation, AllocError>
         Cmd::InsertAfter(_, value) => Ok(Mutation::Insert(value.copy()?)),
         Cmd::Let(_, _) | Cmd::Delete(_) | Cmd::Yield => Ok(Mutation::Delete),
     }
+}
+
+/// The same cursor, whose path shares the keys of the last operation's path where they are the same.
+fn sharing(queue: &[Op], cursor: Cursor) -> Result<Cursor, AllocError>
+    ensures { IfOk result (λ shared. shared ≡ cursor) }
+{
+    let mut cursor = cursor;
+    if let Some(last) = queue.last() {
+        cursor.path.share(&last.cursor.path)?;
+    }
+    Ok(cursor)
 }
 
 /// Whether the command binds a variable.
@@ -148,12 +159,10 @@ impl<S: TreeStore> Replica<S> {
             place_of(command),
             trace,
         )?;
-        let Bound::Cursor(mut cursor) = bound else {
+        let Bound::Cursor(cursor) = bound else {
             return Err(ReplicaFault::NotACursor);
         };
-        if let Some(last) = self.queue.last() {
-            cursor.path.share(&last.cursor.path)?;
-        }
+        let cursor = sharing(self.queue.as_slice(), cursor)?;
         trace.open(Rule::MakeOp)?;
         trace.open(Rule::ApplyLocal)?;
         Ok(Op {

@@ -1,4 +1,4 @@
-//! The way back: a replica's last step is taken back by its undo record.
+//! The way back: a replica's last step is taken back by its undo record, or no step can be any more.
 
 ghost use Rattle.std.specs.Prelude.{◌≡◌, ◌-◌, [], length, take, IsTrue, IsFalse};
 ghost use Rattle.jc_replica.specs.ReplicaHistory.{replica_history};
@@ -57,5 +57,12 @@ impl<S: TreeStore> Replica<S> {
             }
         }
         true
+    }
+    /// Begins at the state now: no step that was made can be taken back any more. It takes no memory.
+    pub fn begin(&mut self)
+        ensures { self.new ≡ record self.old { earlier = [] } }
+    {
+        self.steps.clear();
+        self.store.forget_marks();
     }
 }

@@ -373,7 +373,23 @@ fn are_shown(keys: &Keys, pair: &Pair, want: &str) -> Result<bool, AllocError> {
     Ok(is_shown(keys, pair.a.tree(), want)? && is_shown(keys, pair.b.tree(), want)?)
 }
 
-/// The replicas meet, and take each step back.
+/// The replicas meet and begin there: no step is taken back, and all else is as it was.
+fn begin(
+    rt: &impl Abort,
+    keys: &Keys,
+    pair: &mut Pair,
+    kept: &mut Vec<(u16, Seen, Seen)>,
+) -> Result<(), AllocError> {
+    pair.make(rt, MEETING, kept)?;
+    pair.a.begin();
+    pair.b.begin();
+    assert!(rt; !pair.a.undo() && !pair.b.undo());
+    let is = pair.seen() == MET_SEEN && are_shown(keys, pair, MET)?;
+    assert!(rt; is);
+    Ok(())
+}
+
+/// The replicas meet, take each step back, meet again and begin there.
 fn meet(
     rt: &impl Abort,
     keys: &Keys,
@@ -386,7 +402,7 @@ fn meet(
     pair.go_back(rt, kept.as_slice());
     let is = are_shown(keys, pair, "{}")?;
     assert!(rt; is);
-    Ok(())
+    begin(rt, keys, pair, kept)
 }
 
 /// What two replicas do.

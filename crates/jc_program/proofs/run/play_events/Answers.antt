@@ -1,18 +1,19 @@
 use Rattle.std.proofs.Common.{◌≡◌, ◌+◌, ◌<◌, ◌++◌, ℕ, List, [], length, get_or, refl, ap, sym, ◌∙◌, subst, arith}
 use Rattle.jc_rules.specs.declared.operation.Event.TheVariants.{Exec}
+use Rattle.jc_network.specs.NetworkHistory.{Course}
 use Rattle.jc_session.specs.Written.{sink, WrotePart}
 use Rattle.jc_session.proofs.SentLemmas.{handed}
 use Rattle.jc_program.specs.ViewOutput.{IsNext}
 use Rattle.jc_program.proofs.PlayResultLemmas.{made_count, holds_none, holds_less, stops_here, stuck_holds, goes_here, ends_here}
 use Rattle.jc_program.proofs.ViewOutputLemmas.{made_stand, next_begun}
-use Rattle.jc_program.specs.Runs.{events_text}
+use Rattle.jc_program.specs.Runs.{GoesBy, events_text}
 use Rattle.jc_program.proofs.run.play_events.Goals as goal
 
 pub loop-event-init : goal.loop-event-init
 loop-event-init g c = record {
   counted = refl;
   names = refl;
-  steps = ap length c.requires.new;
+  steps = c.requires.new;
   made = ([], refl, refl, holds_none c.args.blocks.now.held.items (sink g.K.Sink c.args.out.now) c.requires.none);
 }
 
@@ -39,12 +40,12 @@ loop-event-preserved g c =
     let es = c.args.schedule.now in
     let inside : i < length es = omega arith in
     let number : c.loop-event.number + 1 ≡ i + 1 = omega (arith, c.loop-event.invariant.counted) in
-    let on = goes_here c.args.trace c.args.net.now c.loop-event.net c.play_next.new.net es i (c.loop-event.number + 1) (Exec 0) so_far.0 c.loop-event.blocks.held.items c.play_next.new.blocks.held.items (sink g.K.Sink c.args.out.now) (sink g.K.Sink c.loop-event.out) (sink g.K.Sink c.play_next.new.out) c.in_ok-stuck.stuck (sym c.is_some.ensures ∙ c.if-is_some.false) c.loop-event.invariant.names c.loop-event.invariant.steps number so_far.1 so_far.2 inside so_far.3 c.in_ok-stuck.ensures.ok in
+    let on = goes_here c.args.trace c.args.net.now c.loop-event.net c.play_next.new.net es i (c.loop-event.number + 1) (Exec 0) so_far.0 c.loop-event.blocks.held.items c.play_next.new.blocks.held.items (sink g.K.Sink c.args.out.now) (sink g.K.Sink c.loop-event.out) (sink g.K.Sink c.play_next.new.out) c.in_ok-stuck.stuck (sym c.is_some.ensures ∙ c.if-is_some.false) c.loop-event.invariant.names number so_far.1 so_far.2 inside so_far.3 c.in_ok-stuck.ensures.ok in
     record {
       counted = number;
-      names = on.names;
-      steps = on.steps;
-      made = (on.made, on.goes, on.taken, on.wrote);
+      names = ap (λ (k : Course). k.names) c.begin.ensures ∙ on.names;
+      steps = ap (λ (k : Course). k.earlier) c.begin.ensures;
+      made = (on.made, subst (GoesBy c.args.net.now.network on.made) (sym (ap (λ (k : Course). k.network) c.begin.ensures)) on.goes, on.taken, on.wrote);
     }
 
 -- the events before it were made

@@ -1,9 +1,23 @@
-use Rattle.std.proofs.Common.{ℕ, List, length, reverse, sym, subst}
+use Rattle.std.proofs.Common.{ℕ, List, [], length, reverse, map, sym, ◌∙◌, ap, subst}
+use Rattle.jc_replica.specs.ReplicaHistory.{Past}
+use Rattle.jc_network.specs.NetworkHistory.{Course, begin_now, course_of}
 use Rattle.jc_network.specs.Invariant.{IsNet}
-use Rattle.jc_network.proofs.GivenHistoryLemmas.{begun}
+use Rattle.jc_network.proofs.GivenHistoryLemmas.{all_begin, begins_anew, course_anew}
 use Rattle.jc_network.proofs.net.Net.begin.Goals as goal
 
 pub invariant_of-self : goal.invariant_of-self
 invariant_of-self c =
-    subst (λ (ws : List ℕ). IsNet c.self.inside.version (length c.self.inside.names.items) (reverse ws) c.self.inside.replicas.items) (sym c.clear.ensures.items)
-    (begun c.self.inside.version _ _ _ c.self.invariant)
+    let i = c.self.inside in
+    let all = all_begin i.replicas.items c.as_mut_slice.result.now c.begin_all.new.replicas i.replicas.len i.replicas.ok.0 c.as_mut_slice.ensures.value c.begin_all.ensures in
+    subst (λ (ps : List Past). IsNet i.version (length i.names.items) (reverse c.clear.new.self.items) ps) (sym all)
+    (subst (λ (ws : List ℕ). IsNet i.version (length i.names.items) (reverse ws) (map begin_now i.replicas.items)) (sym c.clear.ensures.items)
+    (begins_anew i.version _ _ _ c.self.invariant))
+
+pub returns : goal.returns
+returns c =
+    let i = c.self.inside in
+    let all = all_begin i.replicas.items c.as_mut_slice.result.now c.begin_all.new.replicas i.replicas.len i.replicas.ok.0 c.as_mut_slice.ensures.value c.begin_all.ensures in
+    ap (λ (ps : List Past). course_of i.version i.names.items (reverse c.clear.new.self.items) ps) all
+    ∙ ap (λ (ws : List ℕ). course_of i.version i.names.items (reverse ws) (map begin_now i.replicas.items)) c.clear.ensures.items
+    ∙ course_anew i.version i.names.items (reverse i.whose.items) i.replicas.items
+    ∙ ap (λ (v : Course). record v { earlier = [] }) c.self.view_is

@@ -2,6 +2,7 @@ use Rattle.std.proofs.Common.{rules, ◌≡◌, get_or, ap, sym, ◌∙◌, subs
 use Rattle.jc_rules.specs.declared.operation.Event.TheVariants as E
 use Rattle.jc_rules.specs.Ids.{greatest}
 use Rattle.jc_syntax.specs.Trees.{expr_of}
+use Rattle.jc_cursor.specs.declared.bound.Bound.TheVariants as B
 use Rattle.jc_cursor.specs.Bounds.{vars_of, bound_of}
 use Rattle.jc_cursor.specs.Evaluates.{Evaluates, IsEvalRefused, eval_cause_of}
 use Rattle.jc_replica.specs.NextCommand.{IsMaking, rule_by, expr_by, mutation_by}
@@ -67,8 +68,9 @@ returns-clause-ok g c =
     let expr = c.place_of.ensures ∙ ap expr_by next in
     let ev = evaluated_in tree vars expr c.in_ok-bound.ensures.ok in
     let cursor = subst (λ b. Evaluates K.tree K.vars (expr_by c.requires.command) (bound_of b) c.open-2.new.self c.eval.new.trace) c.in-Cursor.is ev in
+    let shared = subst (λ k. Evaluates K.tree K.vars (expr_by c.requires.command) (bound_of (B.Cursor k)) c.open-2.new.self c.eval.new.trace) (sym c.in_ok-cursor.ensures) cursor in
     let ops = ap (λ (p : Past). p.now.ops) c.self.view_is in
     let number = ap (λ (p : Past). p.number) c.self.view_is in
-    makes K c.args.self.now.number i.number c.requires c.in-Cursor.cursor c.in_ok-mutation_of.field-0 c.greatest.result c.in_ok-copy.field-0 c.rule_of.result _ _ _ _ _ _
-    c.in_ok-open.ensures.ok c.in_ok-open-2.ensures.ok (c.rule_of.ensures ∙ ap rule_by next) cursor c.in_ok-open-3.ensures.ok c.in_ok-open-4.ensures.ok
+    makes K c.args.self.now.number i.number c.requires c.in_ok-cursor.cursor c.in_ok-mutation_of.field-0 c.greatest.result c.in_ok-copy.field-0 c.rule_of.result _ _ _ _ _ _
+    c.in_ok-open.ensures.ok c.in_ok-open-2.ensures.ok (c.rule_of.ensures ∙ ap rule_by next) shared c.in_ok-open-3.ensures.ok c.in_ok-open-4.ensures.ok
     (c.greatest.ensures.exact ∙ ap greatest ops) (c.in_ok-copy.ensures ∙ ops) (c.in_ok-mutation_of.ensures ∙ ap mutation_by next) number
