@@ -101,23 +101,27 @@ def goes_on(_):
             expect(status == 0 or told.stderr.rstrip().endswith(b"jc_b"), f"{words}: {told}")
 
 
-def gate_case(gate, tests, status, output):
-    """The gate ends as ./test does, or as rt ci where this failed, and tells the processor time of rt ci at its end."""
+def gate_case(edits, gate, tests, status, output, why):
+    """The gate ends as ./test does, or as rt ci where this failed, and tells the processor time of rt ci at its end. It
+    runs neither where ./more-edits --check fails."""
 
     def tried(_):
         ending = f"#!/bin/sh\necho {tests} failed\nexit {tests}\n"
-        with folder_of({"rt": REFUSING, "test": ending, "more-edits": "#!/bin/sh\nexit 1\n", ".ci/run": ""}) as folder:
+        check = f'#!/bin/sh\n[ "$*" = --check ]\n{"echo stale >&2; exit 1" if edits else ""}\n'
+        with folder_of({"rt": REFUSING, "test": ending, "more-edits": check, ".ci/run": ""}) as folder:
             place(os.path.join(folder, ".ci", "run"), stored(".ci/run"))
             told = called(folder, [".ci/run"], GATE=str(gate))
         expect(told.returncode == status and told.stdout.decode() == output, f"{told}")
-        expect_same(told.stderr.decode(), "gate: rt ci took 0.0 processor minutes\n")
+        expect_same(told.stderr.decode(), why)
 
-    return f"gate: rt ci ends with {gate}, ./test with {tests}", tried
+    return f"gate: ./more-edits --check ends with {edits}, rt ci with {gate}, ./test with {tests}", tried
 
 
 def scripts():
     yield from launcher()
     yield "more-edits: goes on behind a crate that fails", goes_on
-    yield gate_case(0, 0, 0, "0 failed\n")
-    yield gate_case(0, 1, 1, "1 failed\n")
-    yield gate_case(3, 0, 3, "")
+    took = "gate: rt ci took 0.0 processor minutes\n"
+    yield gate_case(0, 0, 0, 0, "0 failed\n", took)
+    yield gate_case(0, 0, 1, 1, "1 failed\n", took)
+    yield gate_case(0, 3, 0, 3, "", took)
+    yield gate_case(1, 0, 0, 1, "", "stale\n")
