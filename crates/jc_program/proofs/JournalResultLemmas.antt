@@ -1,7 +1,7 @@
 -- About JournalResult: one line, a journal that goes on by one event, and its end. `journal_next` and `journal_events`
 -- use it.
 use Rattle.std.proofs.Common.{◌≡◌, ℕ, ◌+◌, ◌<◌, List, [], ◌∷◌, ◌++◌, length, take, drop, get_or, Bool, Option, Some, None, true, false, Result, Ok, Err, IfErr, IsErrOf, inl, inr, refl, sym, ◌∙◌, ap, subst, append-nil, arith}
-use Rattle.std.proofs.lemmas.List.{take_more, take-append-drop, length-append}
+use Rattle.std.proofs.lemmas.List.{take_more, take-append-drop}
 use Rattle.std.proofs.Math.Seq.{take-length}
 use Rattle.jc_rules.specs.declared.operation.Event.{Event}
 use Rattle.jc_rules.specs.declared.rule.Rule.{Rule}
@@ -89,7 +89,6 @@ pub record LinesGoOn (trace given : Bool) (old new : Course) (es : List Event) (
   pub taken : take i es ≡ events_of made
   pub wrote : Wrote text a c
   pub names : new.names ≡ old.names
-  pub steps : length new.earlier ≡ i
 
 -- the numbered event is the one at the place
 pub record IsNumbered (given : Bool) (es : List Event) (i : ℕ) (d : Event) (e : NumberedEvent) : Type 0 where
@@ -142,7 +141,6 @@ module _ (trace given : Bool) (old now new : Course) (es : List Event) (i : ℕ)
         taken = taken_more (e.event, rows.rows) refl;
         wrote = wrote_both a b c text line so_far.wrote wrote;
         names = to.names ∙ names;
-        steps = ap length to.earlier ∙ (length-append now.earlier (now.network ∷ []) ∙ ap (λ k. k + 1) so_far.steps);
       }
 
   -- the line of the event that is stuck
@@ -197,6 +195,17 @@ module _ (trace given : Bool) (old now new : Course) (es : List Event) (i : ℕ)
       )
 
 module _ (trace given : Bool) (old now : Course) (es : List Event) (i : ℕ) (a b : Stream) (so_far : LinesGoOn trace given old now es i a b) where
+  -- where the network begins they are as they were
+  pub lines_begin : (last : Course) → last ≡ record now { earlier = [] } → LinesGoOn trace given old last es i a b
+  lines_begin last is = record {
+    made = so_far.made;
+    text = so_far.text;
+    goes = subst (λ (n : Network). JournalBy trace given old.names 1 old.network so_far.made n so_far.text) (sym (ap (λ (k : Course). k.network) is)) so_far.goes;
+    taken = so_far.taken;
+    wrote = so_far.wrote;
+    names = ap (λ (k : Course). k.names) is ∙ so_far.names;
+  }
+
   -- all events were made
   pub lines_end : length es ≡ i → JournalsAll trace given old now es a b false
   lines_end all =

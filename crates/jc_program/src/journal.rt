@@ -137,6 +137,8 @@ fn journal_events<K: Sink>(
         if is_stuck {
             return Ok(true);
         }
+        // Nothing is kept to go back with.
+        net.begin();
     }
     Ok(false)
 }

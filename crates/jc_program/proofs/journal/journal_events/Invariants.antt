@@ -1,4 +1,4 @@
-use Rattle.std.proofs.Common.{◌≡◌, length}
+use Rattle.std.proofs.Common.{◌≡◌, []}
 use Rattle.jc_session.specs.Written.{sink}
 use Rattle.jc_program.proofs.JournalResultLemmas.{LinesGoOn}
 use Rattle.jc_program.proofs.journal.journal_events.Given as goal
@@ -8,6 +8,6 @@ abbrev pub invariant-loop-event : goal.invariant-loop-event
 invariant-loop-event g l = record {
   counted : l.number ≡ l.event-index;
   names : l.net.names ≡ l.initial.net.names;
-  steps : length l.net.earlier ≡ l.event-index;
+  steps : l.net.earlier ≡ [];
   goes : LinesGoOn l.fn.trace l.fn.given l.initial.net l.net l.events l.event-index (sink g.K.Sink l.initial.out) (sink g.K.Sink l.out);
 }
