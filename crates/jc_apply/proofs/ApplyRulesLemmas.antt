@@ -22,7 +22,8 @@ use Rattle.jc_rules.specs.Table.{Follows, moved}
 use Rattle.jc_rules.specs.Paths.{HasContext}
 use Rattle.jc_rules.proofs.ContextsAtLemmas.{there, with_node-same, with-same}
 use Rattle.jc_rules.proofs.DerivesLemmas.{by_axiom, one_premise, three_premises, same_rows}
-use Rattle.jc_tree.specs.Tree.{Tree, HasPlace, IsLater, here, or_no_entries, IsChanged}
+use Rattle.jc_rules.specs.History.{IsLater}
+use Rattle.jc_tree.specs.Tree.{Tree, HasPlace, here, or_no_entries, IsChanged}
 use Rattle.jc_tree.specs.CanGoBack.{TreeCanGoBack}
 use Rattle.jc_tree.proofs.CanGoBackLemmas.{nothing, tree_changed}
 use Rattle.jc_clear.specs.Clears.{Clears}

@@ -10,7 +10,8 @@ use Rattle.jc_rules.specs.State.{State}
 use Rattle.jc_rules.specs.Syntax.{Cmd, Yield}
 use Rattle.jc_rules.specs.Context.{Context}
 use Rattle.jc_rules.specs.Trace.{Rows, pushed}
-use Rattle.jc_tree.specs.Tree.{Tree, tree_history}
+use Rattle.jc_rules.specs.History.{timeline}
+use Rattle.jc_tree.specs.Tree.{Tree}
 use Rattle.jc_replica.specs.declared.record.Record.{Record}
 use Rattle.jc_replica.specs.declared.record.Change.TheVariants as C
 use Rattle.jc_replica.specs.ReadyToStep.{IsReadyToStep}
@@ -33,10 +34,10 @@ abbrev pub Leading : ℕ → Event → List Op → State → State → Rows → 
 Leading p event read K new rows = (set os : List Op) (A : State) → RepresentsState set A K → HasOwnFor event set p A → IsRead set os read → LeadsReplica set event p os A new rows
 
 pub ready_now : {script : List Cmd} {t : Tree} {rs : List Record} {h : Held} → IsReplica script t rs h → IsReadyToStep (state_of script h t.now)
-ready_now {script} {t} {rs} {h} k = all_last IsReadyToStep (states script (tree_history t) rs h) (state_of script h t.now) k.ready
+ready_now {script} {t} {rs} {h} k = all_last IsReadyToStep (states script (timeline t) rs h) (state_of script h t.now) k.ready
 
 -- the step that a call has made, by what was seen before it
-pub occurs : {script : List Cmd} {t : Tree} {rs : List Record} {h : Held} → IsReplica script t rs h → (number : ℕ) (p : Past) → past_of number script t rs h ≡ p → (event : ℕ → Event) (read : List Op) (u : Tree) (ss : List Record) (h2 : Held) (rows : Rows) → Leading number (event number) read (state_of script h t.now) (state_of script h2 u.now) rows → states script (tree_history u) ss h2 ≡ states script (tree_history t) rs h ++ state_of script h t.now ∷ [] → Occurs (event p.number) read p (past_of number script u ss h2) rows
+pub occurs : {script : List Cmd} {t : Tree} {rs : List Record} {h : Held} → IsReplica script t rs h → (number : ℕ) (p : Past) → past_of number script t rs h ≡ p → (event : ℕ → Event) (read : List Op) (u : Tree) (ss : List Record) (h2 : Held) (rows : Rows) → Leading number (event number) read (state_of script h t.now) (state_of script h2 u.now) rows → states script (timeline u) ss h2 ≡ states script (timeline t) rs h ++ state_of script h t.now ∷ [] → Occurs (event p.number) read p (past_of number script u ss h2) rows
 occurs {script} k number p v event read u ss h2 rows d e =
     subst (λ (x : Past). Occurs (event x.number) read x (past_of number script u ss h2) rows) v (record { leads = d; earlier = e; number = refl })
 

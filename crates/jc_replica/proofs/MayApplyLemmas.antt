@@ -32,7 +32,8 @@ use Rattle.jc_replica.specs.declared.record.Change.TheVariants as C
 use Rattle.jc_replica.specs.declared.fault.ReplicaFault.{ReplicaFault}
 use Rattle.jc_replica.specs.declared.record.Record.{Record}
 use Rattle.jc_tree.specs.declared.store.Mark.{Mark}
-use Rattle.jc_tree.specs.Tree.{Tree, IsLater}
+use Rattle.jc_rules.specs.History.{IsLater}
+use Rattle.jc_tree.specs.Tree.{Tree}
 use Rattle.jc_replica.specs.Answers.{RefusedFor, fault_cause_of, IsEventRefused}
 use Rattle.jc_replica.specs.Invariant.{CanBack, IsReplica}
 use Rattle.jc_replica.specs.NextCommand.{opened}

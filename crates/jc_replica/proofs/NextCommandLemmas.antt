@@ -14,7 +14,8 @@ use Rattle.jc_rules.specs.Table.{with_op}
 use Rattle.jc_rules.specs.Trace.{Rows, at_depth}
 use Rattle.jc_rules.proofs.WithdrawLemmas.{lowered-inserted}
 use Rattle.jc_tree.specs.declared.store.Mark.{Mark}
-use Rattle.jc_tree.specs.Tree.{Tree, IsLater}
+use Rattle.jc_rules.specs.History.{IsLater}
+use Rattle.jc_tree.specs.Tree.{Tree}
 use Rattle.jc_apply.specs.Fits.{IsUnlinked}
 use Rattle.jc_vectors.specs.StoredStates.{after_making_stored}
 use Rattle.jc_replica.specs.declared.record.Change.TheVariants as C

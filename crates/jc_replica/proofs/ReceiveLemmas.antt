@@ -30,7 +30,7 @@ use Rattle.jc_replica.proofs.RefinesLemmas.{left_seen}
 use Rattle.jc_replica.proofs.UndoStepsLemmas.{Stepped, stepped}
 use Rattle.jc_replica.proofs.MayApplyLemmas.{kept_absent}
 use Rattle.jc_replica.proofs.ReceivedLemmas.{found_in}
-use Rattle.jc_tree.proofs.HistoryLemmas.{still}
+use Rattle.jc_rules.proofs.HistoryLemmas.{still}
 
 -- operations of the set, as they are kept
 kept_of : (set os : List Op) → AreOf set os → AreKeptOf set (map stored_op os)

@@ -2,7 +2,8 @@
 use Rattle.std.proofs.Common.{◌≡◌, ℕ, ◌+◌, ◌-◌, ◌<◌, List, [], ◌∷◌, ◌++◌, length, take, ap, subst, arith, length-take-le}
 use Rattle.std.proofs.lemmas.List.{length-map}
 use Rattle.jc_rules.specs.Syntax.{Cmd}
-use Rattle.jc_tree.specs.Tree.{Tree, tree_history}
+use Rattle.jc_rules.specs.History.{timeline}
+use Rattle.jc_tree.specs.Tree.{Tree}
 use Rattle.jc_cursor.specs.declared.bound.Bound.{Bound as BoundInMemory}
 use Rattle.jc_cursor.specs.Bounds.{bound_of, vars_of}
 use Rattle.jc_replica.specs.declared.record.Change.{Change}
@@ -25,7 +26,7 @@ back_in_bounds script (C.Received came acted) h b can = record { done = b.done; 
 back_in_bounds script (C.Applied i before acted) h b can = record { done = b.done; sent = b.sent }
 back_in_bounds script C.Ended h b can = record { done = omega (arith, b.done); sent = b.sent }
 
-pub unstep : {script : List Cmd} {t : Tree} {ss : List Record} {h : Held} → IsReplica script t ss h → (u : Tree) (rs : List Record) (r : Record) (h0 : Held) → ss ≡ rs ++ r ∷ [] → tree_history u ≡ take (r.mark.changes + 1) (tree_history t) → undone_once r.change h ≡ h0 → Unstepped script t u rs ss h h0
+pub unstep : {script : List Cmd} {t : Tree} {ss : List Record} {h : Held} → IsReplica script t ss h → (u : Tree) (rs : List Record) (r : Record) (h0 : Held) → ss ≡ rs ++ r ∷ [] → timeline u ≡ take (r.mark.changes + 1) (timeline t) → undone_once r.change h ≡ h0 → Unstepped script t u rs ss h h0
 unstep {script} {t} {ss} {h} k u rs r h0 se ue be =
     unstepped k u rs r h0 se ue be (subst (IsInBounds script) be (back_in_bounds script r.change h k.bounds (can_back k rs r se)))
 
@@ -39,5 +40,5 @@ in_memory vs n l =
     omega (arith, l, size)
 
 -- without a step
-pub no_earlier : (script : List Cmd) (t : Tree) (ss : List Record) (h : Held) → ss ≡ [] → states script (tree_history t) ss h ≡ []
-no_earlier script t ss h e = ap (λ (rs : List Record). states script (tree_history t) rs h) e
+pub no_earlier : (script : List Cmd) (t : Tree) (ss : List Record) (h : Held) → ss ≡ [] → states script (timeline t) ss h ≡ []
+no_earlier script t ss h e = ap (λ (rs : List Record). states script (timeline t) rs h) e

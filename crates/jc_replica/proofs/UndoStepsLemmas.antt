@@ -4,7 +4,8 @@ use Rattle.std.specs.List.{AllByRecursion}
 use Rattle.jc_rules.specs.Context.{Context}
 use Rattle.jc_rules.specs.State.{State}
 use Rattle.jc_rules.specs.Syntax.{Cmd}
-use Rattle.jc_tree.specs.Tree.{Tree, IsLater, tree_history}
+use Rattle.jc_rules.specs.History.{IsLater, timeline}
+use Rattle.jc_tree.specs.Tree.{Tree}
 use Rattle.jc_replica.specs.declared.record.Record.{Record}
 use Rattle.jc_replica.specs.ReadyToStep.{IsReadyToStep, AreReady}
 use Rattle.jc_replica.specs.Undo.{Held, state_of, undone_once, steps_undone, states, content_at}
@@ -27,7 +28,7 @@ content-kept [] ds n h = absurd (omega (arith, h))
 content-kept (c ∷ cs) ds zero h = refl
 content-kept (c ∷ cs) ds (suc n) h = content-kept cs ds n (omega (arith, h))
 
-content-now : (t : Tree) → content_at (tree_history t) (length t.earlier) ≡ t.now
+content-now : (t : Tree) → content_at (timeline t) (length t.earlier) ≡ t.now
 content-now t = go t.earlier
   where
     go : (cs : List Context) → content_at (cs ++ t.now ∷ []) (length cs) ≡ t.now
@@ -57,19 +58,19 @@ backs-pushed (s ∷ rs) r h h2 a e b =
 
 -- A step keeps the old states and the one before it.
 pub record Stepped (script : List Cmd) (t u : Tree) (rs ss : List Record) (h h2 : Held) : Type 0 where
-  pub earlier : states script (tree_history u) ss h2 ≡ states script (tree_history t) rs h ++ state_of script h t.now ∷ []
+  pub earlier : states script (timeline u) ss h2 ≡ states script (timeline t) rs h ++ state_of script h t.now ∷ []
   pub kept : IsReplica script u ss h2
 
 pub stepped : {script : List Cmd} {t : Tree} {rs : List Record} {h : Held} → IsReplica script t rs h → (u : Tree) (ss : List Record) (r : Record) (h2 : Held) → IsLater t u → ss ≡ rs ++ r ∷ [] → r.mark.changes ≡ length t.earlier → undone_once r.change h2 ≡ h → CanBack r.change h2 → IsReadyToStep (state_of script h2 u.now) → IsInBounds script h2 → Stepped script t u rs ss h h2
 stepped {script} {t} {rs} {h} k u ss r h2 later se me be cb ready bounds =
-    let there : length t.earlier < length (tree_history t) = omega (arith, length-append t.earlier (t.now ∷ [])) in
-    let longer : length t.earlier ≤ length u.earlier = omega (arith, ap length later.is, length-append t.earlier (t.now ∷ []), length-append u.earlier (u.now ∷ []), length-append (tree_history t) later.added) in
-    let earlier : states script (tree_history u) (rs ++ r ∷ []) h2 ≡ states script (tree_history t) rs h ++ state_of script h t.now ∷ [] =
-    states-pushed script (tree_history u) rs r h h2 be
+    let there : length t.earlier < length (timeline t) = omega (arith, length-append t.earlier (t.now ∷ [])) in
+    let longer : length t.earlier ≤ length u.earlier = omega (arith, ap length later.is, length-append t.earlier (t.now ∷ []), length-append u.earlier (u.now ∷ []), length-append (timeline t) later.added) in
+    let earlier : states script (timeline u) (rs ++ r ∷ []) h2 ≡ states script (timeline t) rs h ++ state_of script h t.now ∷ [] =
+    states-pushed script (timeline u) rs r h h2 be
     ∙ ap (λ (cs : List Context). states script cs rs h ++ state_of script h (content_at cs r.mark.changes) ∷ []) later.is
-    ∙ ap (λ (x : List State). x ++ state_of script h (content_at (tree_history t ++ later.added) r.mark.changes) ∷ []) (states-kept script (tree_history t) later.added rs h (length t.earlier) k.marks there)
-    ∙ ap (λ (n : ℕ). states script (tree_history t) rs h ++ state_of script h (content_at (tree_history t ++ later.added) n) ∷ []) me
-    ∙ ap (λ (c : Context). states script (tree_history t) rs h ++ state_of script h c ∷ []) (content-kept (tree_history t) later.added (length t.earlier) there ∙ content-now t) in
+    ∙ ap (λ (x : List State). x ++ state_of script h (content_at (timeline t ++ later.added) r.mark.changes) ∷ []) (states-kept script (timeline t) later.added rs h (length t.earlier) k.marks there)
+    ∙ ap (λ (n : ℕ). states script (timeline t) rs h ++ state_of script h (content_at (timeline t ++ later.added) n) ∷ []) me
+    ∙ ap (λ (c : Context). states script (timeline t) rs h ++ state_of script h c ∷ []) (content-kept (timeline t) later.added (length t.earlier) there ∙ content-now t) in
     rw se (record {
       earlier = earlier;
       kept = record {
@@ -133,25 +134,25 @@ all_front P [] ys a = tt
 all_front P (x ∷ xs) ys a = (a.0, all_front P xs ys a.1)
 
 pub record Unstepped (script : List Cmd) (t u : Tree) (rs ss : List Record) (h h0 : Held) : Type 0 where
-  pub history : states script (tree_history u) rs h0 ++ state_of script h0 u.now ∷ [] ≡ states script (tree_history t) ss h
+  pub history : states script (timeline u) rs h0 ++ state_of script h0 u.now ∷ [] ≡ states script (timeline t) ss h
   pub kept : IsReplica script u rs h0
 
-pub unstepped : {script : List Cmd} {t : Tree} {ss : List Record} {h : Held} → IsReplica script t ss h → (u : Tree) (rs : List Record) (r : Record) (h0 : Held) → ss ≡ rs ++ r ∷ [] → tree_history u ≡ take (r.mark.changes + 1) (tree_history t) → undone_once r.change h ≡ h0 → IsInBounds script h0 → Unstepped script t u rs ss h h0
+pub unstepped : {script : List Cmd} {t : Tree} {ss : List Record} {h : Held} → IsReplica script t ss h → (u : Tree) (rs : List Record) (r : Record) (h0 : Held) → ss ≡ rs ++ r ∷ [] → timeline u ≡ take (r.mark.changes + 1) (timeline t) → undone_once r.change h ≡ h0 → IsInBounds script h0 → Unstepped script t u rs ss h h0
 unstepped {script} {t} {ss} {h} k u rs r h0 se ue be bounds =
     let marks : AreMarks (length t.earlier) (rs ++ r ∷ []) = subst (AreMarks (length t.earlier)) se k.marks in
     let m = marks_left (length t.earlier) rs r marks in
     let n = r.mark.changes in
-    let there : n < length (tree_history t) = omega (arith, m.1, length-append t.earlier (t.now ∷ [])) in
-    let ue2 : tree_history u ≡ take (suc n) (tree_history t) = ue ∙ ap (λ (i : ℕ). take i (tree_history t)) (add-one n) in
-    let long : length (take (suc n) (tree_history t)) ≡ suc n = length-take-le (suc n) (tree_history t) (omega (arith, there)) in
+    let there : n < length (timeline t) = omega (arith, m.1, length-append t.earlier (t.now ∷ [])) in
+    let ue2 : timeline u ≡ take (suc n) (timeline t) = ue ∙ ap (λ (i : ℕ). take i (timeline t)) (add-one n) in
+    let long : length (take (suc n) (timeline t)) ≡ suc n = length-take-le (suc n) (timeline t) (omega (arith, there)) in
     let size : length u.earlier ≡ n = omega (arith, long, ap length ue2, length-append u.earlier (u.now ∷ [])) in
-    let now : u.now ≡ content_at (tree_history t) n = sym (content-now u) ∙ ap (content_at (tree_history u)) size ∙ ap (λ (cs : List Context). content_at cs n) ue2 ∙ content-front (tree_history t) n there in
-    let old : states script (tree_history u) rs h0 ≡ states script (tree_history t) rs h0 = ap (λ (cs : List Context). states script cs rs h0) ue2 ∙ states-front script (tree_history t) rs h0 n m.0 there in
-    let all : states script (tree_history u) rs h0 ++ state_of script h0 u.now ∷ [] ≡ states script (tree_history t) ss h =
+    let now : u.now ≡ content_at (timeline t) n = sym (content-now u) ∙ ap (content_at (timeline u)) size ∙ ap (λ (cs : List Context). content_at cs n) ue2 ∙ content-front (timeline t) n there in
+    let old : states script (timeline u) rs h0 ≡ states script (timeline t) rs h0 = ap (λ (cs : List Context). states script cs rs h0) ue2 ∙ states-front script (timeline t) rs h0 n m.0 there in
+    let all : states script (timeline u) rs h0 ++ state_of script h0 u.now ∷ [] ≡ states script (timeline t) ss h =
     ap (λ (x : List State). x ++ state_of script h0 u.now ∷ []) old
-    ∙ ap (λ (c : Context). states script (tree_history t) rs h0 ++ state_of script h0 c ∷ []) now
-    ∙ sym (states-pushed script (tree_history t) rs r h0 h be)
-    ∙ ap (λ (x : List Record). states script (tree_history t) x h) (sym se) in
+    ∙ ap (λ (c : Context). states script (timeline t) rs h0 ++ state_of script h0 c ∷ []) now
+    ∙ sym (states-pushed script (timeline t) rs r h0 h be)
+    ∙ ap (λ (x : List Record). states script (timeline t) x h) (sym se) in
     record {
       history = all;
       kept = record {

@@ -27,7 +27,7 @@ use Rattle.jc_replica.proofs.VariablesSeenLemmas.{leads_bound}
 use Rattle.jc_replica.proofs.AnswersLemmas.{Leading, ready_now, occurs}
 use Rattle.jc_replica.proofs.ScriptLemmas.{drop-more, one_less, one_more_fits}
 use Rattle.jc_replica.proofs.UndoStepsLemmas.{Stepped, stepped}
-use Rattle.jc_tree.proofs.HistoryLemmas.{still}
+use Rattle.jc_rules.proofs.HistoryLemmas.{still}
 
 abbrev pub bound_held : Held → List (List ℕ × Bound) → Held
 bound_held h vars = held_of (h.done + 1) h.acted vars h.ops h.queue h.sent h.recv

@@ -4,7 +4,8 @@ use Rattle.std.specs.List.{AllByRecursion}
 use Rattle.jc_rules.specs.declared.id.Id.{Id}
 use Rattle.jc_rules.specs.VersionVectors.{greatest_of}
 use Rattle.jc_rules.specs.Syntax.{Cmd}
-use Rattle.jc_tree.specs.Tree.{Tree, tree_history}
+use Rattle.jc_rules.specs.History.{timeline}
+use Rattle.jc_tree.specs.Tree.{Tree}
 use Rattle.jc_replica.specs.declared.record.Change.{Change}
 use Rattle.jc_replica.specs.declared.record.Change.TheVariants as C
 use Rattle.jc_replica.specs.declared.record.Record.{Record}
@@ -42,7 +43,7 @@ pub record IsInBounds (script : List Cmd) (h : Held) : Type 0 where
   pub sent : h.sent ≤ length h.queue
 
 pub record IsReplica (script : List Cmd) (t : Tree) (steps : List Record) (h : Held) : Type 0 where
-  pub ready : AreReady (states script (tree_history t) steps h ++ state_of script h t.now ∷ [])
+  pub ready : AreReady (states script (timeline t) steps h ++ state_of script h t.now ∷ [])
   pub bounds : IsInBounds script h
   pub marks : AreMarks (length t.earlier) steps
   pub backs : AreBacks steps h

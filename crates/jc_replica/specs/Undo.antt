@@ -10,7 +10,8 @@ use Rattle.jc_rules.specs.Ids.{has_id}
 use Rattle.jc_rules.specs.ContextsAt.{or_empty}
 use Rattle.jc_rules.specs.State.{State, Bound}
 use Rattle.jc_rules.specs.Syntax.{Cmd}
-use Rattle.jc_tree.specs.Tree.{Tree, tree_history}
+use Rattle.jc_rules.specs.History.{timeline}
+use Rattle.jc_tree.specs.Tree.{Tree}
 use Rattle.jc_cursor.specs.declared.bound.Bound.{Bound as BoundInMemory}
 use Rattle.jc_cursor.specs.Bounds.{bound_of}
 use Rattle.jc_replica.specs.declared.record.Change.{Change}
@@ -89,4 +90,4 @@ states script contents (r ∷ rs) h =
 
 abbrev pub past_of : ℕ → List Cmd → Tree → List Record → Held → Past
 past_of number script t steps h =
-    record { number = number; now = state_of script h t.now; earlier = states script (tree_history t) steps h }
+    record { number = number; now = state_of script h t.now; earlier = states script (timeline t) steps h }

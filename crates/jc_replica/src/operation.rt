@@ -8,7 +8,7 @@ ghost use Rattle.jc_rules.specs.VersionVectors.{covered, ids_up_to, greatest_of}
 ghost use Rattle.jc_rules.specs.Ids.{union};
 ghost use Rattle.jc_rules.specs.Refused.{Refused};
 ghost use Rattle.jc_rules.specs.WellFormed.{IsChained};
-ghost use Rattle.jc_tree.specs.Tree.{IsLater};
+ghost use Rattle.jc_rules.specs.History.{IsLater};
 ghost use Rattle.jc_vectors.specs.OperationIds.{with_deps};
 ghost use Rattle.jc_apply.specs.Fits.{IsUnlinked};
 ghost use Rattle.jc_replica.specs.Answers.{fault_cause_of};

@@ -1,6 +1,6 @@
 -- What a context holds under a tagged key of a register.
 use Rattle.std.proofs.Common.{◌≡◌, Option, Some, None}
-use Rattle.jc_rules.specs.Context.{Context, Content, Node, Register, values_of}
+use Rattle.jc_rules.specs.Context.{Context, Node, Register, values_of}
 
 -- a register is no node
 pub no_node : {A : Type 0} (x : Option Register) (d : Context) → values_of x ≡ Some (Node d) → A

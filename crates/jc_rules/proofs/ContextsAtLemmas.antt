@@ -5,7 +5,7 @@ use Rattle.jc_rules.specs.declared.key.Tagged.{Tagged}
 use Rattle.jc_rules.specs.declared.key.Tagged.TheVariants.{MapT, ListT, RegT}
 use Rattle.jc_rules.specs.Order.{key_cmp}
 use Rattle.jc_rules.specs.Entries.{find}
-use Rattle.jc_rules.specs.Context.{Context, context, Children, children, no_child, child, listed, Register, Content, Node, Values, node_of, values_of, content, with_content}
+use Rattle.jc_rules.specs.Context.{Context, context, Children, children, no_child, child, listed, Content, Node, Values, node_of, content, with_content}
 use Rattle.jc_rules.specs.ContextsAt.{node_at, with_node_at, context_at, or_empty}
 use Rattle.jc_rules.proofs.OrderLemmas.{keys_total, exact_keys}
 use Rattle.jc_rules.proofs.EntriesLemmas.{found-put, put-put, put-same}

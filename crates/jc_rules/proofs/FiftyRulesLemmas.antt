@@ -1,5 +1,5 @@
 -- About specs/Table: it is the table of the fifty rules of version 1, with RECV-ONE.
-use Rattle.std.proofs.Common.{◌≡◌, ◌≢◌, List, refl}
+use Rattle.std.proofs.Common.{◌≢◌, List, refl}
 use Rattle.std.specs.Prelude.{◌↔◌}
 use Rattle.jc_rules.specs.declared.rule.Rule.{Rule}
 use Rattle.jc_rules.specs.declared.rule.Rule.TheVariants as R

@@ -1,5 +1,5 @@
 -- About src/path: lists of tagged keys are compared truly.
-use Rattle.std.proofs.Common.{◌≡◌, ◌&&◌, ℕ, List, Bool, true, false, refl, sym, ap, ap₂, ◌∙◌, nat_eq, Decides, eqb-true, eq-eqb}
+use Rattle.std.proofs.Common.{◌≡◌, ◌&&◌, ℕ, List, Bool, true, refl, ap, ap₂, nat_eq, Decides, eqb-true, eq-eqb}
 use Rattle.std.specs.Cmp.Lexicographic.{pointwise}
 use Rattle.std.proofs.lemmas.Bool.{and_parts, and_from}
 use Rattle.std.proofs.lemmas.Bool.Decides.{Decides-eqb}

@@ -1,16 +1,11 @@
 -- About specs/Step and Version: in a network of a version an event has one step at most, and one that is stuck has none.
-use Rattle.std.proofs.Common.{◌≡◌, ℕ, List, [], ◌∷◌, Option, Some, None, refl, sym, ◌∙◌, ap, subst}
-use Rattle.std.proofs.lemmas.Option.{same_Some}
+use Rattle.std.proofs.Common.{◌≡◌, ℕ, List, [], ◌∷◌, refl, sym, ◌∙◌, ap}
 use Rattle.jc_rules.specs.declared.operation.Event.{Event}
-use Rattle.jc_rules.specs.declared.operation.Op.{Op}
 use Rattle.jc_rules.specs.declared.rule.Rule.{Rule}
-use Rattle.jc_rules.specs.declared.version.Version.{Version}
-use Rattle.jc_rules.specs.Derivation.{Occur}
-use Rattle.jc_rules.specs.Refused.{Cause, Refused, IsStuck, no_replica, no_sender, refused, IsStuckIn, replica_missing, sender_missing, wrong_version, question_refused}
-use Rattle.jc_rules.specs.State.{State}
-use Rattle.jc_rules.specs.Step.{Step, After, Network, StepIn, AfterIn}
+use Rattle.jc_rules.specs.Refused.{Cause, IsStuck, no_replica, no_sender, refused, IsStuckIn, replica_missing, sender_missing, wrong_version, question_refused}
+use Rattle.jc_rules.specs.Step.{After, Network, StepIn, AfterIn}
 use Rattle.jc_rules.specs.Version.{Allows}
-use Rattle.jc_rules.proofs.StepLemmas.{one_step, one_after}
+use Rattle.jc_rules.proofs.StepLemmas.{one_step}
 use Rattle.jc_rules.proofs.RefusedLemmas.{stuck_has_none, one_stuck}
 
 same_network : (N M : Network) → N.version ≡ M.version → N.states ≡ M.states → N ≡ M

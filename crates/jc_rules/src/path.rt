@@ -41,8 +41,8 @@ impl Path {
         Path { keys: None, alloc }
     }
 
-    /// Goes one key further down, into a map or a list. Where copies share the keys, this path gets its own first. After a
-    /// refusal the path is as it was.
+    /// Goes one key further down, into a map or a list. Where copies share the keys, this path gets
+    /// its own first. After a refusal the path is as it was.
     pub fn push(&mut self, key: Tagged) -> Result<(), AllocError>
         requires context { HasContext key }
         requires room { length self.old < MAX_PATH }

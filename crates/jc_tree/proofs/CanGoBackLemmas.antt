@@ -6,8 +6,10 @@ use Rattle.jc_rules.specs.declared.key.Tagged.{Tagged}
 use Rattle.jc_rules.specs.Context.{Context}
 use Rattle.jc_rules.specs.Trace.{Rows, IsLonger, pushed, one_deeper, at_depth}
 use Rattle.jc_rules.proofs.DerivesLemmas.{same_rows, longer_still}
-use Rattle.jc_tree.specs.Tree.{Tree, tree_history, IsChanged}
-use Rattle.jc_tree.proofs.HistoryLemmas.{still, later_still, later_changed, undone}
+use Rattle.jc_rules.specs.History.{timeline}
+use Rattle.jc_tree.specs.Tree.{Tree, IsChanged}
+use Rattle.jc_rules.proofs.HistoryLemmas.{still, later_still, undone}
+use Rattle.jc_tree.proofs.TreeLemmas.{later_changed}
 use Rattle.jc_tree.specs.CanGoBack.{TreeCanGoBack}
 
 pub nothing : (a b : Tree) (t u : Rows) → b ≡ a → u ≡ t → TreeCanGoBack a b t u
@@ -32,8 +34,8 @@ pub then : (a b d : Tree) (t u v : Rows) → TreeCanGoBack a b t u → TreeCanGo
 then a b d t u v h k = record { store = later_still a b d h.store k.store; trace = longer_still t u v h.trace k.trace }
 
 -- going back to marks gives what was there
-pub gone_back : (a b d : Tree) (t u v : Rows) (m n k : ℕ) → TreeCanGoBack a b t u → m ≡ length a.earlier → tree_history d ≡ take (m + 1) (tree_history b) → n ≡ length t.rows → k ≡ t.depth → v ≡ record { rows = take n u.rows; depth = k } → TreeCanGoBack a d t v
+pub gone_back : (a b d : Tree) (t u v : Rows) (m n k : ℕ) → TreeCanGoBack a b t u → m ≡ length a.earlier → timeline d ≡ take (m + 1) (timeline b) → n ≡ length t.rows → k ≡ t.depth → v ≡ record { rows = take n u.rows; depth = k } → TreeCanGoBack a d t v
 gone_back a b d t u v m n k h me de ne ke ve =
-    let tree : d ≡ a = undone a b d h.store (de ∙ ap (λ (x : ℕ). take (x + 1) (tree_history b)) me) in
+    let tree : d ≡ a = undone a b d h.store (de ∙ ap (λ (x : ℕ). take (x + 1) (timeline b)) me) in
     let rows : take n u.rows ≡ t.rows = ap (λ (x : ℕ). take x u.rows) ne ∙ ap (λ (r : List (Rule × ℕ)). take (length t.rows) r) h.trace.is ∙ take-append_seam t.rows h.trace.added in
     nothing a d t v tree (ve ∙ (λ i. record { rows = rows i; depth = ke i }))

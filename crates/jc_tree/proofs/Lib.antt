@@ -3,7 +3,6 @@ pub mod NodeLemmas
 pub mod WalksLeastLemmas
 pub mod WalksLemmas
 pub mod WellFormedLemmas
-pub mod HistoryLemmas
 pub mod ChainedLemmas
 pub mod TreeLemmas
 pub mod LinkedLemmas

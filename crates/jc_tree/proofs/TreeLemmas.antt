@@ -1,9 +1,12 @@
--- About Tree: what a change leaves at its place, and one key further down.
+-- About Tree: what a change leaves at its place, one key further down, and the law of marks.
 use Rattle.std.proofs.Common.{◌≡◌, List, [], ◌∷◌, ◌++◌, Option, Some, None, refl}
 use Rattle.jc_rules.specs.declared.key.Tagged.{Tagged}
 use Rattle.jc_rules.specs.Context.{Context, Content, Node, Values, content}
 use Rattle.jc_rules.specs.ContextsAt.{at_node, node_in, node_at}
+use Rattle.jc_rules.specs.History.{IsLater}
+use Rattle.jc_rules.proofs.HistoryLemmas.{still, later_still, later_step, mark_counts, undone}
 use Rattle.jc_tree.specs.Tree.{Tree, HasPlace, here, IsChanged}
+use Rattle.jc_tree.specs.Laws.{UndoLaw}
 use Rattle.jc_tree.proofs.PlacesLemmas.{then_node, then_here, then_place}
 use Rattle.jc_rules.proofs.ContextLemmas.{none_some}
 
@@ -31,3 +34,14 @@ node-further (j ∷ ks) k x c h = go (content j c) refl (λ d. node-further ks k
     go None e ih f = none_some (rw e at f)
     go (Some (Values r)) e ih f = none_some (rw e at f)
     go (Some (Node d)) e ih f = rw e (ih d (rw e at f))
+
+pub later_changed : (at : List Tagged) (y : Context) (a b : Tree) → IsChanged at y a b → IsLater a b
+later_changed at y a b h = later_step a b h.earlier
+
+pub undo_law : UndoLaw
+undo_law = record {
+  same = λ a. still a;
+  later = λ a b c h k. later_still a b c h k;
+  changed = later_changed;
+  undone = λ a b h. record { counts = mark_counts a b h; undone = λ c e. undone a b c h e };
+}

@@ -13,6 +13,7 @@ use Rattle.jc_rules.specs.declared.key.Tagged.{Tagged}
 use Rattle.jc_rules.specs.declared.key.Tagged.TheVariants.{MapT, ListT, RegT}
 use Rattle.jc_rules.specs.Order.{id_cmp, key_cmp}
 use Rattle.jc_rules.specs.Entries.{find, placed, replaced, put}
+use Rattle.jc_rules.specs.History.{begun}
 use Rattle.jc_rules.specs.Context.{Context, context, Children, Register, listed, node_of, empty, empty_list}
 use Rattle.jc_rules.specs.ContextsAt.{node_at, with_node_at, context_at}
 use Rattle.jc_rules.proofs.OrderLemmas.{ids_total, exact_ids, keys_total, exact_keys}
@@ -109,7 +110,7 @@ restored_change at change c place kept new =
     let here = context_at at c in
     let changed = changed_by change here in
     let back = restored_by (former_of change here) in
-    let there_now : context_at at (with_node_at at changed c) ≡ changed = then_here at changed (record { now = c; earlier = [] }) (record { now = with_node_at at changed c; earlier = [] }) place refl in
+    let there_now : context_at at (with_node_at at changed c) ≡ changed = then_here at changed (begun c) (record { now = with_node_at at changed c; earlier = [] }) place refl in
     ap (λ y. with_node_at at (back y) (with_node_at at changed c)) there_now
     ∙ with_node-twice at changed (back changed) c
     ∙ ap (λ y. with_node_at at y c) (restored_changed change here (kept-node at c here kept (there at c place)) new)

@@ -10,13 +10,14 @@ use Rattle.jc_rules.specs.declared.key.Tagged.TheVariants.{RegT}
 use Rattle.jc_rules.specs.Context.{Context, Register, Values, with_content, new_content, with_presence, next, with_next}
 use Rattle.jc_rules.specs.ContextsAt.{node_at, with_node_at, context_at}
 use Rattle.jc_rules.specs.WellFormed.{IsChained}
-use Rattle.jc_tree.specs.Tree.{Tree, tree_history, IsChanged, IsLater}
+use Rattle.jc_rules.specs.History.{IsLater, timeline}
+use Rattle.jc_tree.specs.Tree.{Tree, IsChanged}
 
 -- However many changes were made since a mark, the mark is still valid, and going back to it gives the tree that was
 -- marked.
 pub record GivesBack (a b : Tree) : Type 0 where
   pub counts : length a.earlier ≤ length b.earlier
-  pub undone : (c : Tree) → tree_history c ≡ take (length a.earlier + 1) (tree_history b) → c ≡ a
+  pub undone : (c : Tree) → timeline c ≡ take (length a.earlier + 1) (timeline b) → c ≡ a
 
 pub record UndoLaw : Type 0 where
   pub same : (a : Tree) → IsLater a a

@@ -25,8 +25,8 @@ flat_of t m l r p x = record {
 }
 
 -- no column is longer than the keys are many
-pub record AreColumnsWithin (t : Numbering) (m l : List (Option ℕ)) (r : List (Option Register)) (p : List (Option (List Id)))
-    (x : List (Option Next)) : Type 0 where
+pub record AreColumnsWithin (t : Numbering) (m l : List (Option ℕ)) (r : List (Option Register))
+    (p : List (Option (List Id))) (x : List (Option Next)) : Type 0 where
   pub maps : length m ≤ length t.keys
   pub lists : length l ≤ length t.keys
   pub registers : length r ≤ length t.keys

@@ -9,18 +9,13 @@ use Rattle.jc_rules.specs.Order.{key_cmp}
 use Rattle.jc_rules.specs.Entries.{keys_of}
 use Rattle.jc_rules.specs.Context.{Context, keys, presences, links}
 use Rattle.jc_rules.specs.ContextsAt.{node_at, with_node_at, context_at}
-use Rattle.jc_rules.specs.History.{history}
+use Rattle.jc_rules.specs.History.{History, timeline}
 use Rattle.jc_rules.specs.Table.{least}
 use Rattle.jc_tree.specs.declared.store.Place.{Place}
 
--- the content, and the contents before each change since `forget_marks` was last called, the oldest first
-pub record Tree : Type 0 where
-  pub now : Context
-  pub earlier : List Context
-
--- the contents from the oldest to the one now
-abbrev pub tree_history : Tree → List Context
-tree_history t = history t.earlier t.now
+-- the content, and the contents before each change since `forget_marks` was last called
+abbrev pub Tree : Type 0
+Tree = History Context
 
 -- the path leads to a context
 abbrev pub HasPlace : List Tagged → Tree → Type 0
@@ -39,12 +34,7 @@ or_no_entries (Some s) = s
 -- kept.
 pub record IsChanged (at : List Tagged) (y : Context) (old new : Tree) : Type 0 where
   pub now : new.now ≡ with_node_at at y old.now
-  pub earlier : new.earlier ≡ tree_history old
-
--- Only changes have been made: the earlier history is a prefix of the history now.
-pub record IsLater (old new : Tree) : Type 0 where
-  pub added : List Context
-  pub is : tree_history new ≡ tree_history old ++ added
+  pub earlier : new.earlier ≡ timeline old
 
 -- each name of a place still names it
 abbrev pub NamesStay : (Place → List Tagged → Type 0) → (Place → List Tagged → Type 0) → Type 0

@@ -2,6 +2,7 @@
 
 ghost use Rattle.std.specs.Prelude.{◌≡◌, ◌≢◌, ◌<◌, ◌+◌, List, None, Some, [], ◌∷◌, ◌++◌, length, IfOk, OnOk, OnErr};
 ghost use Rattle.jc_rules.specs.declared.key.Tagged.{Tagged as AnyTagged};
+ghost use Rattle.jc_rules.specs.History.{begun};
 ghost use Rattle.jc_rules.specs.Context.{empty};
 ghost use Rattle.jc_rules.specs.ContextsAt.{node_at, context_at};
 ghost use Rattle.jc_tree.specs.Tree.{IsChanged};
@@ -71,7 +72,7 @@ fn take_back(nodes: &mut Vec<ArenaNode>, undo: Undo)
 impl ArenaTree {
     /// The empty tree, with no earlier content.
     pub fn new(alloc: Global) -> Result<Self, AllocError>
-        ensures { IfOk result (λ s. ⟦<ArenaTree as TreeStore>⟧.tree s ≡ record { now = empty; earlier = [] }) }
+        ensures { IfOk result (λ s. ⟦<ArenaTree as TreeStore>⟧.tree s ≡ begun empty) }
     {
         let mut nodes = Vec::new(alloc);
         nodes.push(ArenaNode::new(alloc))?;

@@ -2,6 +2,7 @@
 
 ghost use Rattle.std.specs.Prelude.{◌≡◌, ◌≢◌, ◌<◌, ◌+◌, None, [], ◌∷◌, ◌++◌, length, OnOk, OnErr};
 ghost use Rattle.std.specs.List.{AllByRecursion};
+ghost use Rattle.jc_rules.specs.History.{begun};
 ghost use Rattle.jc_rules.specs.Context.{empty};
 ghost use Rattle.jc_rules.specs.ContextsAt.{node_at, context_at};
 ghost use Rattle.jc_rules.specs.WellFormed.{IsWellFormedContext};
@@ -38,7 +39,7 @@ pub struct PlainTree {
 impl PlainTree {
     /// The empty tree, with no earlier content.
     pub fn new(alloc: Global) -> Self
-        ensures { ⟦<PlainTree as TreeStore>⟧.tree result ≡ record { now = empty; earlier = [] } }
+        ensures { ⟦<PlainTree as TreeStore>⟧.tree result ≡ begun empty }
     {
         PlainTree {
             alloc,

@@ -12,7 +12,8 @@ ghost use Rattle.jc_rules.specs.Paths.{HasContext};
 ghost use Rattle.jc_rules.specs.ContextsAt.{node_in};
 ghost use Rattle.jc_rules.specs.WellFormed.{IsWellFormedContext, IsWellFormedRegister};
 ghost use Rattle.jc_tree.specs.declared.store.Place.{Place as AnyPlace};
-ghost use Rattle.jc_tree.specs.Tree.{Tree, tree_history, HasPlace, here, or_no_entries, IsChanged, NamesStay, least_after, has_ids, count_present, all_keys, keys_lent};
+ghost use Rattle.jc_rules.specs.History.{timeline, begun};
+ghost use Rattle.jc_tree.specs.Tree.{Tree, HasPlace, here, or_no_entries, IsChanged, NamesStay, least_after, has_ids, count_present, all_keys, keys_lent};
 
 use jc_rules::{Id, Key, Next, Tagged, Value};
 use std::alloc::{AllocError, Global};
@@ -345,11 +346,11 @@ pub trait TreeStore {
     /// Goes back to the content at the mark: a rollback. It takes no memory.
     fn undo_to(&mut self, mark: Mark)
         requires { mark.changes ≤ length (tree self.old).earlier }
-        ensures { tree_history (tree self.new) ≡ take (mark.changes + 1) (tree_history (tree self.old)) };
+        ensures { timeline (tree self.new) ≡ take (mark.changes + 1) (timeline (tree self.old)) };
 
     /// Gives up the earlier contents, so that earlier marks are valid no more: a commit.
     fn forget_marks(&mut self)
-        ensures { tree self.new ≡ record { now = (tree self.old).now; earlier = [] } };
+        ensures { tree self.new ≡ begun (tree self.old).now };
 
     /// At every depth the entries rise by key, presence sets and registers by identifier, and
     /// registers have primitive values.

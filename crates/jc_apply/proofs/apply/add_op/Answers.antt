@@ -1,4 +1,4 @@
-use Rattle.jc_tree.proofs.HistoryLemmas.{later_changed}
+use Rattle.jc_tree.proofs.TreeLemmas.{later_changed}
 use Rattle.jc_apply.proofs.LinksLemmas.{none_presence}
 use Rattle.jc_apply.proofs.ApplyRulesLemmas.{adds, adds_none}
 use Rattle.jc_apply.proofs.apply.add_op.Goals as goal

@@ -14,7 +14,7 @@ use Rattle.jc_replica.proofs.UndoStepsLemmas.{stepped}
 use Rattle.jc_replica.proofs.RefinesLemmas.{left_seen, acted_seen}
 use Rattle.jc_replica.proofs.AnswersLemmas.{ready_now, done_ready, ends, ended_back, occurs}
 use Rattle.jc_replica.proofs.replica.Replica.done.Goals as goal
-use Rattle.jc_tree.proofs.HistoryLemmas.{still}
+use Rattle.jc_rules.proofs.HistoryLemmas.{still}
 
 pub invariant_of-self-2 : goal.invariant_of-self-2
 invariant_of-self-2 g c =

@@ -11,7 +11,7 @@ use Rattle.jc_replica.specs.ReplicaHistory.{Past, no_rows}
 use Rattle.jc_replica.proofs.UndoStepsLemmas.{stepped}
 use Rattle.jc_replica.proofs.AnswersLemmas.{ready_now, sent_ready, sends, occurs}
 use Rattle.jc_replica.proofs.replica.Replica.send.Goals as goal
-use Rattle.jc_tree.proofs.HistoryLemmas.{still}
+use Rattle.jc_rules.proofs.HistoryLemmas.{still}
 
 pub invariant_of-self-2 : goal.invariant_of-self-2
 invariant_of-self-2 g c =
