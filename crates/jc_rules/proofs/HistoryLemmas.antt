@@ -1,6 +1,6 @@
 -- About specs/History: what follows from the timeline of a history, the way back, and that only steps were made.
-use Rattle.std.proofs.Common.{◌≡◌, ◌≤◌, ◌<◌, ◌+◌, ◌-◌, ℕ, zero, suc, List, [], ◌∷◌, ◌++◌, length, take, refl, sym, ◌∙◌, ap, subst, arith, append_assoc, append-nil, length-append, add-one}
-use Rattle.jc_rules.specs.History.{History, timeline, last_or, one_back, IsLater}
+use Rattle.std.proofs.Common.{◌≡◌, ◌≤◌, ◌<◌, ◌+◌, ◌-◌, ℕ, zero, suc, List, [], ◌∷◌, ◌++◌, length, take, slice_get, unwrap_or, refl, sym, ◌∙◌, ap, subst, arith, append_assoc, append-nil, length-append, add-one}
+use Rattle.jc_rules.specs.History.{History, timeline, first_of, last_or, one_back, IsLater}
 
 -- two lists are the same, if they are with one thing more at the end
 pub same_ends : {X : Type 0} (xs ys : List X) (x y : X) → xs ++ x ∷ [] ≡ ys ++ y ∷ [] → (xs ≡ ys) × (x ≡ y)
@@ -54,6 +54,14 @@ step_back {X} a b e = λ i. record { now = now i; earlier = earlier i }
 
     earlier : take (length b.earlier - 1) b.earlier ≡ a.earlier
     earlier = ap (λ l. take (length l - 1) l) e ∙ take_end a.now a.earlier
+
+-- a step leaves the first as it is
+pub first_more : {X : Type 0} (xs : List X) (x y z : X) → unwrap_or (slice_get ((xs ++ x ∷ []) ++ y ∷ []) 0) z ≡ unwrap_or (slice_get (xs ++ x ∷ []) 0) x
+first_more [] x y z = refl
+first_more (w ∷ xs) x y z = refl
+
+pub first_step : {X : Type 0} (a b : History X) → b.earlier ≡ timeline a → first_of b ≡ first_of a
+first_step a b e = ap (λ l. unwrap_or (slice_get (l ++ b.now ∷ []) 0) b.now) e ∙ first_more a.earlier a.now b.now b.now
 
 pub still : {X : Type 0} (a : History X) → IsLater a a
 still a = record { added = []; is = sym (append-nil (timeline a)) }
