@@ -68,5 +68,5 @@ is_acted d e t event h s sc tr br = record {
         → ◌≡◌ {A = Session} (record { schedule = es; position = n; breaks = b }) (record { schedule = fs; position = m; breaks = c })
     same_session x y z = λ i. record { schedule = x i; position = y i; breaks = z i }
 
-pub stuck_here : (d : Seen) (event : Event) (s : Stuck) → IsDebugger d → IsStuckFor d.net.network event s → IsStuckHere d event s
+pub stuck_here : (d : Seen) (event : Event) (s : Stuck) → IsDebugger d → IsStuckFor d.net.history.now event s → IsStuckHere d event s
 stuck_here d event s h k = record { is_at = is_at d h; stuck = k }

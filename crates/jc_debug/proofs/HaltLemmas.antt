@@ -14,12 +14,12 @@ use Rattle.jc_debug.specs.Invariant.{Seen, IsDebugger, IsMoved, start_of}
 use Rattle.jc_debug.proofs.InvariantLemmas.{is_at, carried}
 
 -- the event at the position is stuck in the network
-pub told_here : (d : Seen) → IsDebugger d → (event : Event) → slice_get d.schedule (length d.traces) ≡ Some event → (s : Stuck) → IsStuckFor d.net.network event s → IsNextHalted d (H.Stuck s)
+pub told_here : (d : Seen) → IsDebugger d → (event : Event) → slice_get d.schedule (length d.traces) ≡ Some event → (s : Stuck) → IsStuckFor d.net.history.now event s → IsNextHalted d (H.Stuck s)
 told_here d h event is s k = record {
   why = k.why;
   event = event;
   is = k.is;
-  stuck = record { before = d.net.network; is_at = is_at d h; is = is; stuck = k.stuck };
+  stuck = record { before = d.net.history.now; is_at = is_at d h; is = is; stuck = k.stuck };
 }
 
 stops_at : (old now new : Seen) (n to : ℕ) → IsMoved old now n → length old.traces ≤ n → n < to → new ≡ now → MoveStopsAt old new to n

@@ -6,15 +6,17 @@ use Rattle.jc_rules.specs.declared.operation.Event.{Event}
 use Rattle.jc_rules.specs.declared.rule.Rule.{Rule}
 use Rattle.jc_rules.specs.Step.{Network, StepIn, AfterIn}
 use Rattle.jc_rules.specs.Trace.{Rows}
-use Rattle.jc_network.specs.NetworkHistory.{Course, StepsTo, network_history}
+use Rattle.jc_rules.specs.History.{timeline}
+use Rattle.jc_rules.proofs.HistoryLemmas.{first_step}
+use Rattle.jc_network.specs.NetworkHistory.{NetworkHistory, StepsTo}
 use Rattle.jc_network.proofs.AfterLemmas.{after_one_more, take_more}
 use Rattle.jc_network.proofs.HalvesLemmas.{get_front, get_back}
 use Rattle.jc_debug.specs.declared.breaks.Break.{Break}
 use Rattle.jc_debug.specs.Moves.{IsTraceOf}
 use Rattle.jc_debug.specs.DebuggerState.{IsNetworkAt}
-use Rattle.jc_debug.specs.Invariant.{Seen, no_network, start_of, FollowsTrail, IsDebugger, IsMoved}
+use Rattle.jc_debug.specs.Invariant.{Seen, start_of, FollowsTrail, IsDebugger, IsMoved}
 
-abbrev pub seen : Course → List Event → List Rows → List (Option Break) → Seen
+abbrev pub seen : NetworkHistory → List Event → List Rows → List (Option Break) → Seen
 seen net schedule traces breaks = record { net = net; schedule = schedule; traces = traces; breaks = breaks }
 
 -- ---- elements by number
@@ -27,20 +29,16 @@ get_within [] ys i x h e = absurd (omega arith)
 get_within (y ∷ xs) ys zero x h e = e
 get_within (y ∷ xs) ys (suc i) x h e = get_within xs ys i x (omega arith) e
 
-first_stays : {X : Type 0} (xs ys : List X) (x : X) → slice_get ((xs ++ x ∷ []) ++ ys) 0 ≡ slice_get (xs ++ x ∷ []) 0
-first_stays [] ys x = refl
-first_stays (y ∷ xs) ys x = refl
-
 -- ---- one event on
 
-follows_on : (d e : Seen) (k : ℕ) → FollowsTrail d k → (ns : List Network) → network_history e.net ≡ network_history d.net ++ ns → e.schedule ≡ d.schedule → (ts : List Rows) → e.traces ≡ d.traces ++ ts → FollowsTrail e k
+follows_on : (d e : Seen) (k : ℕ) → FollowsTrail d k → (ns : List Network) → timeline e.net.history ≡ timeline d.net.history ++ ns → e.schedule ≡ d.schedule → (ts : List Rows) → e.traces ≡ d.traces ++ ts → FollowsTrail e k
 follows_on d e k f ns n s ts t = record {
   before = f.before;
   after = f.after;
   event = f.event;
   rows = f.rows;
-  is_before = ap (λ l. slice_get l k) n ∙ get_front (network_history d.net) ns k f.before f.is_before;
-  is_after = ap (λ l. slice_get l (k + 1)) n ∙ get_front (network_history d.net) ns (k + 1) f.after f.is_after;
+  is_before = ap (λ l. slice_get l k) n ∙ get_front (timeline d.net.history) ns k f.before f.is_before;
+  is_after = ap (λ l. slice_get l (k + 1)) n ∙ get_front (timeline d.net.history) ns (k + 1) f.after f.is_after;
   is_event = ap (λ l. slice_get l k) s ∙ f.is_event;
   is_trace = ap (λ l. slice_get l k) t ∙ get_front d.traces ts k f.rows f.is_trace;
   step = f.step;
@@ -50,18 +48,18 @@ follows_on d e k f ns n s ts t = record {
 pub trail_on : (d e : Seen) (t : Rows) (event : Event) → IsDebugger d → slice_get d.schedule (length d.traces) ≡ Some event → StepsTo d.net event e.net t → e.schedule ≡ d.schedule → e.traces ≡ d.traces ++ t ∷ [] → e.breaks ≡ d.breaks → IsDebugger e
 trail_on d e t event h i s sc tr br =
     let grown : length e.traces ≡ length d.traces + 1 = ap length tr ∙ length-append d.traces (t ∷ []) in
-    let networks : length e.net.earlier ≡ length d.net.earlier + 1 = ap length s.earlier ∙ length-append d.net.earlier (d.net.network ∷ []) in
+    let networks : length e.net.history.earlier ≡ length d.net.history.earlier + 1 = ap length s.earlier ∙ length-append d.net.history.earlier (d.net.history.now ∷ []) in
     let c = h.count in
     let w : length d.traces < length d.schedule = slice_get_within d.schedule (length d.traces) event i in
     let size : length e.schedule ≡ length d.schedule = ap length sc in
-    let all : network_history e.net ≡ network_history d.net ++ e.net.network ∷ [] = ap (λ l. l ++ e.net.network ∷ []) s.earlier in
+    let all : timeline e.net.history ≡ timeline d.net.history ++ e.net.history.now ∷ [] = ap (λ l. l ++ e.net.history.now ∷ []) s.earlier in
     let last : FollowsTrail e (length d.traces) = record {
-      before = d.net.network;
-      after = e.net.network;
+      before = d.net.history.now;
+      after = e.net.history.now;
       event = event;
       rows = t;
-      is_before = ap (λ l. slice_get l (length d.traces)) all ∙ get_front (network_history d.net) (e.net.network ∷ []) (length d.traces) d.net.network (ap (slice_get (network_history d.net)) (sym c) ∙ get_last d.net.earlier d.net.network);
-      is_after = ap (slice_get (network_history e.net)) (omega (arith, networks, c)) ∙ get_last e.net.earlier e.net.network;
+      is_before = ap (λ l. slice_get l (length d.traces)) all ∙ get_front (timeline d.net.history) (e.net.history.now ∷ []) (length d.traces) d.net.history.now (ap (slice_get (timeline d.net.history)) (sym c) ∙ get_last d.net.history.earlier d.net.history.now);
+      is_after = ap (slice_get (timeline e.net.history)) (omega (arith, networks, c)) ∙ get_last e.net.history.earlier e.net.history.now;
       is_event = ap (λ l. slice_get l (length d.traces)) sc ∙ i;
       is_trace = ap (λ l. slice_get l (length d.traces)) tr ∙ get_last d.traces t;
       step = s.step;
@@ -73,12 +71,12 @@ trail_on d e t event h i s sc tr br =
       short = omega (arith, size, short);
       places = ap length br ∙ h.places;
       follows = subst (λ (m : ℕ). (k : ℕ) → k < m → FollowsTrail e k) (sym grown)
-          (below_more (λ k. FollowsTrail e k) (length d.traces) (λ k lt. follows_on d e k (h.follows k lt) (e.net.network ∷ []) all sc (t ∷ []) tr) last);
+          (below_more (λ k. FollowsTrail e k) (length d.traces) (λ k lt. follows_on d e k (h.follows k lt) (e.net.history.now ∷ []) all sc (t ∷ []) tr) last);
     }
 
 -- the first network stays
-pub start_on : (d e : Seen) → e.net.earlier ≡ network_history d.net → start_of e ≡ start_of d
-start_on d e n = ap (λ l. unwrap_or (slice_get (l ++ e.net.network ∷ []) 0) no_network) n ∙ ap (λ o. unwrap_or o no_network) (first_stays d.net.earlier (e.net.network ∷ []) d.net.network)
+pub start_on : (d e : Seen) → e.net.history.earlier ≡ timeline d.net.history → start_of e ≡ start_of d
+start_on d e n = first_step d.net.history e.net.history n
 
 pub moved_on : (d e : Seen) (t : Rows) (event : Event) → StepsTo d.net event e.net t → e.schedule ≡ d.schedule → e.traces ≡ d.traces ++ t ∷ [] → e.breaks ≡ d.breaks → IsMoved d e (length d.traces + 1)
 moved_on d e t event s sc tr br = record {
@@ -91,26 +89,26 @@ moved_on d e t event s sc tr br = record {
 
 -- ---- one event back
 
-follows_back : (d e : Seen) (k : ℕ) → FollowsTrail d k → (ns : List Network) → network_history d.net ≡ network_history e.net ++ ns → e.schedule ≡ d.schedule → (ts : List Rows) → d.traces ≡ e.traces ++ ts → k + 1 < length (network_history e.net) → k < length e.traces → FollowsTrail e k
+follows_back : (d e : Seen) (k : ℕ) → FollowsTrail d k → (ns : List Network) → timeline d.net.history ≡ timeline e.net.history ++ ns → e.schedule ≡ d.schedule → (ts : List Rows) → d.traces ≡ e.traces ++ ts → k + 1 < length (timeline e.net.history) → k < length e.traces → FollowsTrail e k
 follows_back d e k f ns n s ts t in_networks in_traces = record {
   before = f.before;
   after = f.after;
   event = f.event;
   rows = f.rows;
-  is_before = get_within (network_history e.net) ns k f.before (omega arith) (ap (λ l. slice_get l k) (sym n) ∙ f.is_before);
-  is_after = get_within (network_history e.net) ns (k + 1) f.after in_networks (ap (λ l. slice_get l (k + 1)) (sym n) ∙ f.is_after);
+  is_before = get_within (timeline e.net.history) ns k f.before (omega arith) (ap (λ l. slice_get l k) (sym n) ∙ f.is_before);
+  is_after = get_within (timeline e.net.history) ns (k + 1) f.after in_networks (ap (λ l. slice_get l (k + 1)) (sym n) ∙ f.is_after);
   is_event = ap (λ l. slice_get l k) s ∙ f.is_event;
   is_trace = get_within e.traces ts k f.rows in_traces (ap (λ l. slice_get l k) (sym t) ∙ f.is_trace);
   step = f.step;
 }
 
 -- the last event was taken back
-pub trail_back : (d e : Seen) (t : Rows) → IsDebugger d → d.net.earlier ≡ network_history e.net → e.schedule ≡ d.schedule → d.traces ≡ e.traces ++ t ∷ [] → e.breaks ≡ d.breaks → IsDebugger e
+pub trail_back : (d e : Seen) (t : Rows) → IsDebugger d → d.net.history.earlier ≡ timeline e.net.history → e.schedule ≡ d.schedule → d.traces ≡ e.traces ++ t ∷ [] → e.breaks ≡ d.breaks → IsDebugger e
 trail_back d e t h n sc tr br =
     let grown : length d.traces ≡ length e.traces + 1 = ap length tr ∙ length-append e.traces (t ∷ []) in
-    let networks : length d.net.earlier ≡ length e.net.earlier + 1 = ap length n ∙ length-append e.net.earlier (e.net.network ∷ []) in
-    let whole : length (network_history e.net) ≡ length e.net.earlier + 1 = length-append e.net.earlier (e.net.network ∷ []) in
-    let all : network_history d.net ≡ network_history e.net ++ d.net.network ∷ [] = ap (λ l. l ++ d.net.network ∷ []) n in
+    let networks : length d.net.history.earlier ≡ length e.net.history.earlier + 1 = ap length n ∙ length-append e.net.history.earlier (e.net.history.now ∷ []) in
+    let whole : length (timeline e.net.history) ≡ length e.net.history.earlier + 1 = length-append e.net.history.earlier (e.net.history.now ∷ []) in
+    let all : timeline d.net.history ≡ timeline e.net.history ++ d.net.history.now ∷ [] = ap (λ l. l ++ d.net.history.now ∷ []) n in
     let c = h.count in
     let w = h.within in
     let short = h.short in
@@ -120,18 +118,18 @@ trail_back d e t h n sc tr br =
       within = omega (arith, grown, w, size);
       short = omega (arith, size, short);
       places = ap length br ∙ h.places;
-      follows = λ k lt. follows_back d e k (h.follows k (omega (arith, lt, grown))) (d.net.network ∷ []) all sc (t ∷ []) tr (omega (arith, whole, networks, grown, c, lt)) lt;
+      follows = λ k lt. follows_back d e k (h.follows k (omega (arith, lt, grown))) (d.net.history.now ∷ []) all sc (t ∷ []) tr (omega (arith, whole, networks, grown, c, lt)) lt;
     }
 
-pub moved_back : (d e : Seen) (t : Rows) → d.net.earlier ≡ network_history e.net → e.net.names ≡ d.net.names → e.schedule ≡ d.schedule → d.traces ≡ e.traces ++ t ∷ [] → e.breaks ≡ d.breaks → IsMoved d e (length d.traces - 1)
+pub moved_back : (d e : Seen) (t : Rows) → d.net.history.earlier ≡ timeline e.net.history → e.net.names ≡ d.net.names → e.schedule ≡ d.schedule → d.traces ≡ e.traces ++ t ∷ [] → e.breaks ≡ d.breaks → IsMoved d e (length d.traces - 1)
 moved_back d e t n ns sc tr br =
     let size : length d.traces ≡ length e.traces + 1 = ap length tr ∙ length-append e.traces (t ∷ []) in
     record { names = ns; start = sym (start_on e d n); schedule = sc; breaks = br; position = omega (arith, size) }
 
 -- the network before a step that was taken back
-pub undone : (b : Bool) (old new : Course) → (IsTrue b → old.earlier ≡ network_history new) → (IsFalse b → (new ≡ old) × (old.earlier ≡ [])) → 0 < length old.earlier → old.earlier ≡ network_history new
+pub undone : (b : Bool) (old new : NetworkHistory) → (IsTrue b → old.history.earlier ≡ timeline new.history) → (IsFalse b → (new ≡ old) × (old.history.earlier ≡ [])) → 0 < length old.history.earlier → old.history.earlier ≡ timeline new.history
 undone true old new t f some = t refl
-undone false old new t f some = let none : length old.earlier ≡ 0 = ap length (f refl).1 in absurd (omega (arith, none, some))
+undone false old new t f some = let none : length old.history.earlier ≡ 0 = ap length (f refl).1 in absurd (omega (arith, none, some))
 
 -- ---- moves one after the other
 
@@ -161,24 +159,24 @@ carried P old now n m h =
 -- ---- where the schedule leads
 
 -- the schedule leads to the network at each position
-pub after_first : (d : Seen) → IsDebugger d → (k : ℕ) → k ≤ length d.traces → (N : Network) → slice_get (network_history d.net) k ≡ Some N → AfterIn (start_of d) (take k d.schedule) N
-after_first d h zero le N e = ap (λ o. unwrap_or o no_network) e
+pub after_first : (d : Seen) → IsDebugger d → (k : ℕ) → k ≤ length d.traces → (N : Network) → slice_get (timeline d.net.history) k ≡ Some N → AfterIn (start_of d) (take k d.schedule) N
+after_first d h zero le N e = ap (λ o. unwrap_or o d.net.history.now) e
 after_first d h (suc k) le N e =
     let f = h.follows k (omega arith) in
-    let next : slice_get (network_history d.net) (k + 1) ≡ Some N = ap (slice_get (network_history d.net)) (omega arith) ∙ e in
+    let next : slice_get (timeline d.net.history) (k + 1) ≡ Some N = ap (slice_get (timeline d.net.history)) (omega arith) ∙ e in
     let same : f.after ≡ N = same_Some f.after N (sym f.is_after ∙ next) in
     let before = after_first d h k (omega arith) f.before f.is_before in
     subst (λ (es : List Event). AfterIn (start_of d) es N) (sym (take_more d.schedule k f.event f.is_event))
     (after_one_more (start_of d) (take k d.schedule) f.before f.event N f.rows.rows before (subst (λ (X : Network). StepIn f.before f.event X f.rows.rows) same f.step))
 
-pub is_at : (d : Seen) → IsDebugger d → IsNetworkAt (start_of d) d.schedule (length d.traces) d.net.network
+pub is_at : (d : Seen) → IsDebugger d → IsNetworkAt (start_of d) d.schedule (length d.traces) d.net.history.now
 is_at d h = record {
   within = h.within;
-  after = after_first d h (length d.traces) (omega arith) d.net.network (ap (slice_get (network_history d.net)) (sym h.count) ∙ get_last d.net.earlier d.net.network);
+  after = after_first d h (length d.traces) (omega arith) d.net.history.now (ap (slice_get (timeline d.net.history)) (sym h.count) ∙ get_last d.net.history.earlier d.net.history.now);
 }
 
-pub at_old : (old now : Seen) (n : ℕ) → IsMoved old now n → IsDebugger now → IsNetworkAt (start_of old) old.schedule n now.net.network
-at_old old now n m h = carried (λ S es bs k. IsNetworkAt S es k now.net.network) old now n m (is_at now h)
+pub at_old : (old now : Seen) (n : ℕ) → IsMoved old now n → IsDebugger now → IsNetworkAt (start_of old) old.schedule n now.net.history.now
+at_old old now n m h = carried (λ S es bs k. IsNetworkAt S es k now.net.history.now) old now n m (is_at now h)
 
 -- the trace of the last event
 pub trace_of : (d : Seen) → IsDebugger d → (n : ℕ) (t : Rows) → length d.traces ≡ n + 1 → slice_get d.traces n ≡ Some t → IsTraceOf d t.rows

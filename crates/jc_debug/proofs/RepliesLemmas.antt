@@ -12,13 +12,13 @@ use Rattle.jc_debug.specs.declared.breaks.Break.{Break}
 use Rattle.jc_debug.specs.declared.fault.Halt.TheVariants as H
 use Rattle.jc_debug.specs.Moves.{IsHalted}
 use Rattle.jc_debug.specs.DebuggerState.{GoesTo, arrives, stops, moved_to, with_break}
-use Rattle.jc_debug.specs.Invariant.{Seen, no_network, start_of, session_of, IsDebugger, IsMoved, placed_in}
+use Rattle.jc_debug.specs.Invariant.{Seen, start_of, session_of, IsDebugger, IsMoved, placed_in}
 use Rattle.jc_debug.proofs.InvariantLemmas.{at_old}
 
 -- a new debugger is at the scenario's start
 pub begun_at : (d : Seen) (s : Scenario) → IsStarted s d.net → IsStart s (start_of d)
 begun_at d s h =
-    let first : start_of d ≡ d.net.network = ap (λ (es : List Network). unwrap_or (slice_get (es ++ d.net.network ∷ []) 0) no_network) h.earlier in
+    let first : start_of d ≡ d.net.history.now = ap (λ (es : List Network). unwrap_or (slice_get (es ++ d.net.history.now ∷ []) 0) d.net.history.now) h.earlier in
     subst (IsStart s) (sym first) h.start
 
 pub moved_session : (d e : Seen) (n : ℕ) → IsMoved d e n → session_of e ≡ moved_to (session_of d) n

@@ -16,8 +16,8 @@ pub record Session : Type 0 where
   pub breaks : List (Option Break)
 
 -- at the start of a schedule, without breakpoints
-abbrev pub begun : List Event → Session
-begun events = record { schedule = events; position = 0; breaks = replicate MAX_BREAKS None }
+abbrev pub new_session : List Event → Session
+new_session events = record { schedule = events; position = 0; breaks = replicate MAX_BREAKS None }
 
 -- at another position
 abbrev pub moved_to : Session → ℕ → Session

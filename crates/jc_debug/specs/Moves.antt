@@ -107,16 +107,16 @@ IsDebugRunFault old new R.AtEnd = new ≡ old
 -- The event is a step from the network at the position, in its version; the schedule is cut there, and ends with it.
 pub record IsActed (old new : Seen) (event : Event) : Type 0 where
   pub rows : List (Rule × ℕ)
-  pub is_at : IsNetworkAt (start_of old) old.schedule (length old.traces) old.net.network
-  pub step : StepIn old.net.network event new.net.network rows
+  pub is_at : IsNetworkAt (start_of old) old.schedule (length old.traces) old.net.history.now
+  pub step : StepIn old.net.history.now event new.net.history.now rows
   pub names : new.net.names ≡ old.net.names
   pub start : start_of new ≡ start_of old
   pub session : session_of new ≡ acted (session_of old) event
 
 -- The event is stuck at the position, for the cause in s.
 pub record IsStuckHere (d : Seen) (event : Event) (s : Stuck) : Type 0 where
-  pub is_at : IsNetworkAt (start_of d) d.schedule (length d.traces) d.net.network
-  pub stuck : IsStuckFor d.net.network event s
+  pub is_at : IsNetworkAt (start_of d) d.schedule (length d.traces) d.net.history.now
+  pub stuck : IsStuckFor d.net.history.now event s
 
 abbrev pub IsActFault : Seen → Event → ActFault → Type 0
 IsActFault d event (A.Stuck s) = IsStuckHere d event s

@@ -15,7 +15,7 @@ ghost use Rattle.jc_debug.specs.declared.fault.GotoFault.TheVariants as G;
 ghost use Rattle.jc_debug.specs.declared.fault.RunFault.TheVariants as R;
 ghost use Rattle.jc_debug.specs.declared.fault.StepFault.TheVariants as S;
 ghost use Rattle.jc_debug.specs.Moves.{IsNextHalted, IsHalted, IsStepFault, IsGotoFault, IsTraceOf, RunMoves, IsDebugRunFault, IsActed, IsActFault, IsSet, IsCleared, IsNoBreak};
-ghost use Rattle.jc_debug.specs.DebuggerState.{IsNetworkAt, Names, NamesAt, IsFree, IsLeast, HasRule, begun};
+ghost use Rattle.jc_debug.specs.DebuggerState.{IsNetworkAt, Names, NamesAt, IsFree, IsLeast, HasRule, new_session};
 ghost use Rattle.jc_debug.specs.Invariant.{IsDebugger, IsMoved, start_of, session_of, placed_in};
 
 use crate::breaks::{Break, BreakFault};
@@ -65,7 +65,7 @@ impl Debugger {
     pub fn new(alloc: Global, scenario: Scenario) -> Result<Self, StartFault>
         requires { IsWellFormedScenario (scenario_view scenario) }
         ensures net { IfOk result (λ debugger. IsStarted (scenario_view scenario) debugger.net) }
-        ensures session { IfOk result (λ debugger. session_of debugger ≡ begun scenario.schedule.items) }
+        ensures session { IfOk result (λ debugger. session_of debugger ≡ new_session scenario.schedule.items) }
         ensures given { (at : ℕ) (s : AnyStuck) → IsErrOf result (Start.Given at s)
             → IsGivenFault (before_given (scenario_view scenario)) (scenario_view scenario).given at s }
     {
@@ -107,7 +107,8 @@ impl Debugger {
     /// Returns the network to which the events before the position lead from the start.
     pub fn net(&self) -> &Net
         ensures net { result.now ≡ self.now.net }
-        ensures is_at { IsNetworkAt (start_of self.now) self.now.schedule (length self.now.traces) result.now.network }
+        ensures is_at { IsNetworkAt (start_of self.now) self.now.schedule (length self.now.traces)
+            result.now.history.now }
     {
         &self.net
     }

@@ -10,7 +10,7 @@ use Rattle.jc_vectors.specs.StoredStates.{stored_state}
 use Rattle.jc_syntax.specs.declared.tree.Cmd.{Cmd}
 use Rattle.jc_syntax.specs.Trees.{cmd_of}
 use Rattle.jc_cursor.specs.Bounds.{vars_of}
-use Rattle.jc_replica.specs.ReplicaHistory.{Past}
+use Rattle.jc_replica.specs.ReplicaHistory.{ReplicaHistory}
 use Rattle.jc_network.proofs.AppliedIdsLemmas.{kept_ids}
 use Rattle.jc_network.specs.Steps.{HasReplica}
 use Rattle.jc_dump.specs.declared.dump.Shown.{Shown}
@@ -37,5 +37,5 @@ parts_kept A K shown tree left ops queue recv send k acted n l o o2 q q2 r r2 s 
 }
 
 -- the state that a network keeps for its replica
-pub of_replica : (network : List State) (p : ℕ) (past : Past) (A : State) → HasReplica network p past → slice_get network p ≡ Some A → past.now ≡ stored_state A
-of_replica network p past A has there = has.kept ∙ ap stored_state (same_Some has.at A (sym has.there ∙ there))
+pub of_replica : (network : List State) (p : ℕ) (replica : ReplicaHistory) (A : State) → HasReplica network p replica → slice_get network p ≡ Some A → replica.history.now ≡ stored_state A
+of_replica network p replica A has there = has.kept ∙ ap stored_state (same_Some has.at A (sym has.there ∙ there))

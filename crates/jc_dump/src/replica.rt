@@ -34,7 +34,7 @@ fn line_of(
     applied: &[Id],
 ) -> Result<String, AllocError>
     ensures { IfOk result (λ line.
-        (A : State) → replica.now.now ≡ stored_state A → applied.now ≡ A.ops
+        (A : State) → replica.now.history.now ≡ stored_state A → applied.now ≡ A.ops
         → string_bytes line ≡ dump_line names.now (name_at names.now p) A) }
 {
     let queue = ids_of(alloc, replica.queue())?;
@@ -57,9 +57,9 @@ fn line_of(
 /// there is none, else for want of memory.
 pub fn dump_replica(alloc: Global, net: &Net, p: u16) -> Result<String, CompareFault>
     ensures dump { IfOk result (λ line.
-        (A : State) → slice_get net.now.network.states p ≡ Some A
+        (A : State) → slice_get net.now.history.now.states p ≡ Some A
         → string_bytes line ≡ dump_line net.now.names (name_at net.now.names p) A) }
-    ensures missing { IsErrOf result E.NoSuchReplica ↔ length net.now.network.states ≤ p }
+    ensures missing { IsErrOf result E.NoSuchReplica ↔ length net.now.history.now.states ≤ p }
 {
     let Some(replica) = net.replica(p) else {
         return Err(CompareFault::NoSuchReplica);

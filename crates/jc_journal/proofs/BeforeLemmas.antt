@@ -23,7 +23,7 @@ use Rattle.jc_rules.proofs.RisingLemmas as rising
 use Rattle.jc_vectors.specs.StoredStates.{stored_op, stored_state}
 use Rattle.jc_replica.specs.Operations.{identifiers, AreInOrder}
 use Rattle.jc_replica.specs.Received.{is_new}
-use Rattle.jc_replica.specs.ReplicaHistory.{Past}
+use Rattle.jc_replica.specs.ReplicaHistory.{ReplicaHistory}
 use Rattle.jc_replica.proofs.QueueLemmas.{AreUpTo}
 use Rattle.jc_replica.proofs.ReceivedUnionLemmas.{identifiers-with, both-in_order, there_found, not_there_absent}
 use Rattle.jc_network.specs.Invariant.{IsFromStart}
@@ -191,8 +191,8 @@ notes_kept (E.Done p) A read V.Nothing n = tt
 notes_kept event A read before n = absurd n
 
 -- what is offered by the replica that the event reads
-pub sent_read : (N : List State) (q : ℕ) (past : Past) (offered read : List Op) → HasReplica N q past → offered ≡ past.now.send → send_of (slice_get N q) ≡ Some read → offered ≡ map stored_op read
-sent_read N q past offered read has e r =
+pub sent_read : (N : List State) (q : ℕ) (replica : ReplicaHistory) (offered read : List Op) → HasReplica N q replica → offered ≡ replica.history.now.send → send_of (slice_get N q) ≡ Some read → offered ≡ map stored_op read
+sent_read N q replica offered read has e r =
     let there : Some has.at.send ≡ Some read = ap send_of (sym has.there) ∙ r in
     e ∙ ap (λ (S : State). S.send) has.kept ∙ ap (λ (os : List Op). map stored_op os) (same_Some has.at.send read there)
 
@@ -200,13 +200,13 @@ pub none_read : (N : List State) (q : ℕ) (read : List Op) → length N ≤ q �
 none_read N q read l r = let none : None ≡ Some read = ap send_of (sym (slice_get_past N q l)) ∙ r in cc
 
 -- what is noted of the network
-pub noted_of : (event : Event) (N : List State) (past : Past) (before : Before) → IsFromStart N → HasReplica N (replica_of event) past
-    → ((read : List Op) → read_by event N ≡ Some read → IsNotedOf event past.now (map stored_op read) before)
+pub noted_of : (event : Event) (N : List State) (replica : ReplicaHistory) (before : Before) → IsFromStart N → HasReplica N (replica_of event) replica
+    → ((read : List Op) → read_by event N ≡ Some read → IsNotedOf event replica.history.now (map stored_op read) before)
     → IsNoted event N before
-noted_of event N past before r has n = record {
+noted_of event N replica before r has n = record {
   reached = r;
   notes = λ A read there reads.
-      let same : past.now ≡ stored_state A = has.kept ∙ ap stored_state (same_Some has.at A (sym has.there ∙ there)) in
+      let same : replica.history.now ≡ stored_state A = has.kept ∙ ap stored_state (same_Some has.at A (sym has.there ∙ there)) in
       notes_kept event A read before (subst (λ (S : State). IsNotedOf event S (map stored_op read) before) same (n read reads));
 }
 

@@ -17,7 +17,7 @@ use Rattle.jc_printer.specs.Canon.{AreNamed}
 use Rattle.jc_vectors.specs.StoredStates.{stored_op, stored_state}
 use Rattle.jc_replica.specs.Operations.{identifiers, AreInOrder}
 use Rattle.jc_replica.specs.Received.{is_new}
-use Rattle.jc_replica.specs.ReplicaHistory.{Past}
+use Rattle.jc_replica.specs.ReplicaHistory.{ReplicaHistory}
 use Rattle.jc_replica.proofs.QueueLemmas.{AreUpTo}
 use Rattle.jc_network.specs.Steps.{HasReplica}
 use Rattle.jc_network.proofs.EnabledOrderLemmas.{IsOrdered, ordered}
@@ -44,13 +44,13 @@ module _ (names : List (List ℕ)) (A : State) (read : List Op) where
   -- a command that makes no operation
   bound_line : (p : ℕ) (B : State) (before : Before) → B.queue ≡ A.queue → IsNotedOf (E.Exec p) A read before → IsLineOf names (E.Exec p) A B before
   bound_line p B (V.Exec command count) q n =
-      let past : slice_get (map stored_op B.queue) count ≡ None =
+      let replica : slice_get (map stored_op B.queue) count ≡ None =
       slice_get_past (map stored_op B.queue) count (let l = length-map B.queue stored_op in let m = ap length q in let k = n.1 in omega (arith, l, m, k)) in
       let none : slice_get (filter (is_new A.queue) B.queue) 0 ≡ None = ap (λ (os : List Op). slice_get (filter (is_new A.queue) os) 0) q ∙ ap (λ (os : List Op). slice_get os 0) (none_new A.queue) in
       record {
         command = ap (λ (c : List ℕ). (codes "command", string c) ∷ []) n.0;
         new = refl;
-        op = ap (op_member names) (past ∙ sym none);
+        op = ap (op_member names) (replica ∙ sym none);
       }
   bound_line p B (V.Send count) q n = absurd n
   bound_line p B (V.Recv came) q n = absurd n
@@ -155,16 +155,16 @@ named_within (E.Apply p i) n h = h.0
 named_within (E.Done p) n h = h
 
 -- The line of a step, from what was noted before it and the stored state after it.
-pub line_of_step : (names : List (List ℕ)) (given : Bool) (n : ℕ) (event : Event) (rules : Option (List (Rule × ℕ))) (before : Before) (old new : List State) (rows : List (Rule × ℕ)) (past : Past)
-    → (s : Step old event new rows) → IsNoted event old before → HasReplica new (replica_of event) past
-    → members_line (noted_members names given n event rules before past.now) ≡ event_line names given n event rules s.before s.after
-line_of_step names given n event rules before old new rows past s noted has =
+pub line_of_step : (names : List (List ℕ)) (given : Bool) (n : ℕ) (event : Event) (rules : Option (List (Rule × ℕ))) (before : Before) (old new : List State) (rows : List (Rule × ℕ)) (replica : ReplicaHistory)
+    → (s : Step old event new rows) → IsNoted event old before → HasReplica new (replica_of event) replica
+    → members_line (noted_members names given n event rules before replica.history.now) ≡ event_line names given n event rules s.before s.after
+line_of_step names given n event rules before old new rows replica s noted has =
     let scripts = noted.reached.0 in
     let r = noted.reached.1 in
     let p = replica_of event in
     let now : slice_get new p ≡ Some s.after = ap (λ (N : List State). slice_get N p) s.is_new ∙ set_there old p s.before s.after s.is_there in
     let after : has.at ≡ s.after = same_Some has.at s.after (sym has.there ∙ now) in
-    let kept : past.now ≡ stored_state s.after = has.kept ∙ ap stored_state after in
+    let kept : replica.history.now ≡ stored_state s.after = has.kept ∙ ap stored_state after in
     let line : IsLineOf names event s.before s.after before =
     did_line names s.before s.read event s.after before (queue_low old (well scripts old r) p s.before s.is_there) (ordered scripts old r p s.before s.is_there)
     (offers_prefix scripts old r p s.before s.is_there) (read_in_order scripts old r event s.read s.reads) (step_did old event new rows s) (noted.notes s.before s.read s.is_there s.reads) in

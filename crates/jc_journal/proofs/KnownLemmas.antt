@@ -14,7 +14,7 @@ use Rattle.jc_rules.proofs.RepresentationLemmas.{counters_tell}
 use Rattle.jc_vectors.specs.StoredStates.{stored_op}
 use Rattle.jc_replica.specs.Operations.{identifiers}
 use Rattle.jc_replica.specs.Received.{is_new}
-use Rattle.jc_replica.specs.ReplicaHistory.{Past}
+use Rattle.jc_replica.specs.ReplicaHistory.{ReplicaHistory}
 use Rattle.jc_network.specs.Laws.{ops_held}
 use Rattle.jc_network.specs.Invariant.{IsFromStart}
 use Rattle.jc_network.specs.RunInvariant.{IsReplicaAt, IsMadeOp, IsWell}
@@ -89,17 +89,17 @@ kept_known known received [] h = tt
 kept_known known received (o ∷ os) h = (λ l. ap (has_id o.id) (kept_ids received) ∙ h.0 l, kept_known known received os h.1)
 
 -- what a replica offers, and another one has received of it
-pub offered_known : (N : List State) → IsFromStart N → (p q : ℕ) (past sender : Past) (offered : List Op) → HasReplica N p past → HasReplica N q sender → offered ≡ sender.now.send → AreKnown (known_counter past.number q past.now.ops) past.now.recv offered
-offered_known N r p q past sender offered has other e =
+pub offered_known : (N : List State) → IsFromStart N → (p q : ℕ) (replica sender : ReplicaHistory) (offered : List Op) → HasReplica N p replica → HasReplica N q sender → offered ≡ sender.history.now.send → AreKnown (known_counter replica.number q replica.history.now.ops) replica.history.now.recv offered
+offered_known N r p q replica sender offered has other e =
     let A = has.at in
     let C = other.at in
     let sent : offered ≡ map stored_op C.send = e ∙ ap (λ (S : State). S.send) other.kept in
-    let recv : past.now.recv ≡ map stored_op A.recv = ap (λ (S : State). S.recv) has.kept in
-    let ops : past.now.ops ≡ covered A.ops = ap (λ (S : State). S.ops) has.kept in
+    let recv : replica.history.now.recv ≡ map stored_op A.recv = ap (λ (S : State). S.recv) has.kept in
+    let ops : replica.history.now.ops ≡ covered A.ops = ap (λ (S : State). S.ops) has.kept in
     let plain : AreKnown (known_counter p q A.ops) A.recv C.send = go (eqb q p) refl in
-    let counter : known_counter past.number q past.now.ops ≡ known_counter p q A.ops =
-    ap (λ (n : ℕ). known_counter n q past.now.ops) has.number ∙ ap (λ (n : ℕ). cond (eqb q p) 0 n) (ap (greatest_of q) ops ∙ greatest_of-filled q A.ops) in
-    subst (λ (n : ℕ). AreKnown n past.now.recv offered) (sym counter)
+    let counter : known_counter replica.number q replica.history.now.ops ≡ known_counter p q A.ops =
+    ap (λ (n : ℕ). known_counter n q replica.history.now.ops) has.number ∙ ap (λ (n : ℕ). cond (eqb q p) 0 n) (ap (greatest_of q) ops ∙ greatest_of-filled q A.ops) in
+    subst (λ (n : ℕ). AreKnown n replica.history.now.recv offered) (sym counter)
     (subst (λ (os : List Op). AreKnown (known_counter p q A.ops) os offered) (sym recv)
     (subst (λ (os : List Op). AreKnown (known_counter p q A.ops) (map stored_op A.recv) os) (sym sent) (kept_known (known_counter p q A.ops) A.recv C.send plain)))
   where

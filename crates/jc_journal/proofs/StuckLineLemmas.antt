@@ -20,7 +20,7 @@ use Rattle.jc_rules.proofs.RepresentationLemmas.{counters_tell}
 use Rattle.jc_vectors.specs.StoredStates.{stored_op}
 use Rattle.jc_vectors.proofs.ApplyStandsLemmas.{deps_closed, kept_found}
 use Rattle.jc_replica.specs.Operations.{identifiers}
-use Rattle.jc_replica.specs.ReplicaHistory.{Past}
+use Rattle.jc_replica.specs.ReplicaHistory.{ReplicaHistory}
 use Rattle.jc_replica.proofs.MayApplyLemmas.{kept_absent}
 use Rattle.jc_network.specs.Laws.{ops_held}
 use Rattle.jc_network.specs.Invariant.{IsFromStart}
@@ -152,11 +152,11 @@ either_made true false true = refl
 either_made true false false = refl
 either_made false q f = refl
 
-pub replica_missing : (network : List State) (p : ℕ) (past : Past) (old new deps applied : List Id) (queue : List Op) → HasReplica network p past → queue ≡ past.now.queue
+pub replica_missing : (network : List State) (p : ℕ) (replica : ReplicaHistory) (old new deps applied : List Id) (queue : List Op) → HasReplica network p replica → queue ≡ replica.history.now.queue
     → ((k : Id) → has_id k old ≡ has_id k (made_ids (take p network)) && (has_id k deps && not (has_id k applied)))
     → ((k : Id) → has_id k new ≡ has_id k old || (has_id k (identifiers queue) && (has_id k deps && not (has_id k applied))))
     → (k : Id) → has_id k new ≡ has_id k (made_ids (take (p + 1) network)) && (has_id k deps && not (has_id k applied))
-replica_missing network p past old new deps applied queue has q h g k =
+replica_missing network p replica old new deps applied queue has q h g k =
     let f = has_id k deps && not (has_id k applied) in
     let ids : identifiers queue ≡ identifiers has.at.queue = ap identifiers (q ∙ ap (λ (S : State). S.queue) has.kept) ∙ kept_ids has.at.queue in
     g k
@@ -255,10 +255,10 @@ module _ (N : List State) (r : IsFromStart N) (p : ℕ) (A : State) (there : IsR
           none false f = rw f refl
 
 -- what is found among the stored operations
-pub missing_found : (N : List State) → IsFromStart N → (p : ℕ) (past : Past) (i : Id) (k : Op) (recv : List Op) (applied ids : List Id) → HasReplica N p past
-    → Some k ≡ op_of i recv → recv ≡ past.now.recv → applied ≡ past.now.ops → IsMissingOf N k.deps applied ids
+pub missing_found : (N : List State) → IsFromStart N → (p : ℕ) (replica : ReplicaHistory) (i : Id) (k : Op) (recv : List Op) (applied ids : List Id) → HasReplica N p replica
+    → Some k ≡ op_of i recv → recv ≡ replica.history.now.recv → applied ≡ replica.history.now.ops → IsMissingOf N k.deps applied ids
     → ids ≡ missing_ids (slice_get N p) i
-missing_found N r p past i k recv applied ids has found is ops m =
+missing_found N r p replica i k recv applied ids has found is ops m =
     let A : State = has.at in
     let kept : op_of i (map stored_op A.recv) ≡ Some k = sym (found ∙ ap (op_of i) (is ∙ ap (λ (S : State). S.recv) has.kept)) in
     let x = kept_found i A.recv k kept in
@@ -271,15 +271,15 @@ missing_found N r p past i k recv applied ids has found is ops m =
     ∙ ap (λ (o : Option Op). without (deps_of o) A.ops) (sym x.1)
     ∙ ap (λ (S : Option State). missing_ids S i) (sym has.there)
 
-pub missing_none : (N : List State) (p : ℕ) (past : Past) (i : Id) (recv : List Op) → HasReplica N p past → None ≡ op_of i recv → recv ≡ past.now.recv → missing_ids (slice_get N p) i ≡ []
-missing_none N p past i recv has none is =
+pub missing_none : (N : List State) (p : ℕ) (replica : ReplicaHistory) (i : Id) (recv : List Op) → HasReplica N p replica → None ≡ op_of i recv → recv ≡ replica.history.now.recv → missing_ids (slice_get N p) i ≡ []
+missing_none N p replica i recv has none is =
     let A : State = has.at in
     let kept : op_of i (map stored_op A.recv) ≡ None = sym (none ∙ ap (op_of i) (is ∙ ap (λ (S : State). S.recv) has.kept)) in
     ap (λ (S : Option State). missing_ids S i) has.there ∙ ap (λ (o : Option Op). without (deps_of o) A.ops) (kept_absent i A.recv kept)
 
 -- whether a replica offers the operation
-pub offers_tell : (N : List State) (p : ℕ) (past : Past) (A : State) (i : Id) (sent : List Op) (b : Bool) → HasReplica N p past → slice_get N p ≡ Some A → sent ≡ past.now.send → b ≡ has_id i (identifiers sent) → b ≡ has_id i (identifiers A.send)
-offers_tell N p past A i sent b has there is e =
+pub offers_tell : (N : List State) (p : ℕ) (replica : ReplicaHistory) (A : State) (i : Id) (sent : List Op) (b : Bool) → HasReplica N p replica → slice_get N p ≡ Some A → sent ≡ replica.history.now.send → b ≡ has_id i (identifiers sent) → b ≡ has_id i (identifiers A.send)
+offers_tell N p replica A i sent b has there is e =
     let same : has.at ≡ A = same_Some has.at A (sym has.there ∙ there) in
     e
     ∙ ap (λ (os : List Op). has_id i (identifiers os)) (is ∙ ap (λ (S : State). S.send) has.kept)

@@ -89,7 +89,7 @@ fn came_of(
 
 /// A counter up to which the replica has received all that replica `from` made: what it has applied of another one.
 fn known_of(replica: &Replica<ArenaTree>, from: u16) -> u64
-    ensures { result ≡ known_counter replica.now.number from replica.now.now.ops }
+    ensures { result ≡ known_counter replica.now.number from replica.now.history.now.ops }
 {
     if from == replica.number() {
         return 0;
@@ -99,7 +99,8 @@ fn known_of(replica: &Replica<ArenaTree>, from: u16) -> u64
 
 /// What is noted before a command.
 fn before_exec(alloc: Global, replica: &Replica<ArenaTree>) -> Result<Before, AllocError>
-    ensures { IfOk result (λ before. (p : ℕ) (read : List AnyOp) → IsNotedOf (E.Exec p) replica.now.now read before) }
+    ensures { IfOk result (λ before.
+        (p : ℕ) (read : List AnyOp) → IsNotedOf (E.Exec p) replica.now.history.now read before) }
 {
     let command = command_text(alloc, replica.left())?;
     let made = replica.queue().len();
@@ -108,7 +109,7 @@ fn before_exec(alloc: Global, replica: &Replica<ArenaTree>) -> Result<Before, Al
 
 /// What is noted before operations are sent.
 fn before_send(replica: &Replica<ArenaTree>) -> Before
-    ensures { (p : ℕ) (read : List AnyOp) → IsNotedOf (E.Send p) replica.now.now read result }
+    ensures { (p : ℕ) (read : List AnyOp) → IsNotedOf (E.Send p) replica.now.history.now read result }
 {
     let sent = replica.sent().len();
     Before::Send { sent }
@@ -122,9 +123,9 @@ fn before_recv(
     offered: &[Op],
 ) -> Result<Before, AllocError>
     requires order { AreInOrder offered.now }
-    requires known { AreKnown (known_counter replica.now.number from replica.now.now.ops) replica.now.now.recv
-        offered.now }
-    ensures { IfOk result (λ before. (p q : ℕ) → IsNotedOf (E.Recv p q) replica.now.now offered.now before) }
+    requires known { AreKnown (known_counter replica.now.number from replica.now.history.now.ops)
+        replica.now.history.now.recv offered.now }
+    ensures { IfOk result (λ before. (p q : ℕ) → IsNotedOf (E.Recv p q) replica.now.history.now offered.now before) }
 {
     let known = known_of(replica, from);
     let came = came_of(alloc, offered, replica.received(), known)?;
@@ -134,7 +135,7 @@ fn before_recv(
 /// What is noted before one operation is received.
 fn before_take(alloc: Global, replica: &Replica<ArenaTree>, id: Id) -> Result<Before, AllocError>
     ensures { IfOk result (λ before. (p q : ℕ) (read : List AnyOp)
-        → IsNotedOf (E.Take p q id) replica.now.now read before) }
+        → IsNotedOf (E.Take p q id) replica.now.history.now read before) }
 {
     let mut came = Vec::new(alloc);
     if !has(replica.received(), id) {
@@ -150,10 +151,10 @@ fn before_event(
     replica: &Replica<ArenaTree>,
     event: &Event,
 ) -> Result<Before, AllocError>
-    requires { HasReplica net.now.network.states (replica_of event.now) replica.now }
+    requires { HasReplica net.now.history.now.states (replica_of event.now) replica.now }
     ensures { IfOk result (λ before. (read : List AnyOp)
-        → read_by event.now net.now.network.states ≡ Some read
-        → IsNotedOf event.now replica.now.now (map stored_op read) before) }
+        → read_by event.now net.now.history.now.states ≡ Some read
+        → IsNotedOf event.now replica.now.history.now (map stored_op read) before) }
 {
     // For its contract: events have led to the network from a start.
     let _steps = net.steps();
@@ -172,7 +173,7 @@ fn before_event(
 impl Before {
     /// What is noted of the network before the event. Whatever the event, nothing but memory is refused.
     pub fn of(alloc: Global, net: &Net, event: &Event) -> Result<Self, AllocError>
-        ensures { IfOk result (λ before. IsNoted event.now net.now.network.states before) }
+        ensures { IfOk result (λ before. IsNoted event.now net.now.history.now.states before) }
     {
         // For its contract: events have led to the network from a start.
         let _steps = net.steps();

@@ -67,7 +67,7 @@ fn write_new(
     out: &mut Writer,
 ) -> Result<(), AllocError>
     ensures { OnOk result (Gains out.old out.new
-        (member_tokens (new_member names.now (noted_new before.now replica.now.now)))) }
+        (member_tokens (new_member names.now (noted_new before.now replica.now.history.now)))) }
 {
     match before {
         Before::Send { sent } => {
@@ -84,7 +84,7 @@ fn write_new(
 
 /// The operation that the event made or applied.
 fn op_of<'a>(event: &Event, before: &Before, replica: &'a Replica<ArenaTree>) -> Option<&'a Op>
-    ensures { option_copied result ≡ noted_op event.now before.now replica.now.now }
+    ensures { option_copied result ≡ noted_op event.now before.now replica.now.history.now }
 {
     match (event, before) {
         (Event::Exec(_), Before::Exec { made, .. }) => replica.queue().get(*made),
@@ -162,7 +162,7 @@ fn write_members(
     requires named { AreNamed numbered.now.event (length names.now) }
     ensures { OnOk result (Gains out.old out.new (member_tokens
         (noted_members names.now numbered.now.given numbered.now.number numbered.now.event (rows_of rules.entry)
-        before.now replica.now.now))) }
+        before.now replica.now.history.now))) }
 {
     let event = &numbered.event;
     write_command(before, out)?;
@@ -190,7 +190,7 @@ fn line_of(
     requires named { AreNamed numbered.now.event (length names.now) }
     ensures { IfOk result (λ line. line.items ≡ members_line
         (noted_members names.now numbered.now.given numbered.now.number numbered.now.event (rows_of rules.entry)
-        before.now replica.now.now)) }
+        before.now replica.now.history.now)) }
 {
     let mut out = begin_line(alloc)?;
     write_members(alloc, names, numbered, before, replica, rules, &mut out)?;
@@ -209,7 +209,7 @@ pub fn event_line(
     requires { AreNamed numbered.now.event (length net.now.names) }
     ensures { IfOk result (λ line.
         (old : AnyNetwork) (rows : List (AnyRule × ℕ))
-        → (made : StepIn old numbered.now.event net.now.network rows)
+        → (made : StepIn old numbered.now.event net.now.history.now rows)
         → IsNoted numbered.now.event old.states before.now
         → line.items ≡ event_line net.now.names numbered.now.given numbered.now.number numbered.now.event
         (rows_of rules.entry) made.step.before made.step.after) }

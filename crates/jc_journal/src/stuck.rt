@@ -58,7 +58,7 @@ fn wanted_id(event: &Event) -> Option<Id>
 
 /// Writes the name of the replica, if it is there and offers the operation.
 fn write_if_offering(net: &Net, p: u16, id: Id, out: &mut Writer) -> Result<(), AllocError>
-    ensures { OnOk result ((A : State) → slice_get net.now.network.states p ≡ Some A
+    ensures { OnOk result ((A : State) → slice_get net.now.history.now.states p ≡ Some A
         → Gains out.old out.new (name_tokens net.now.names p id A)) }
 {
     let Some(replica) = net.replica(p) else {
@@ -73,7 +73,7 @@ fn write_if_offering(net: &Net, p: u16, id: Id, out: &mut Writer) -> Result<(), 
 /// Writes the names of the replicas that offer the operation, as a list.
 fn write_offering(net: &Net, id: Id, out: &mut Writer) -> Result<(), AllocError>
     ensures { OnOk result (Gains out.old out.new
-        (json_tokens (strings_json (offering_from 0 net.now.names id net.now.network.states)))) }
+        (json_tokens (strings_json (offering_from 0 net.now.names id net.now.history.now.states)))) }
 {
     let count = net.names().len() as u16;
     out.begin_array()?;
@@ -86,7 +86,7 @@ fn write_offering(net: &Net, id: Id, out: &mut Writer) -> Result<(), AllocError>
 /// Writes which replicas offer the operation, where the refusal is that it isn't received.
 fn write_offered(net: &Net, refusal: u8, event: &Event, out: &mut Writer) -> Result<(), AllocError>
     ensures { OnOk result (Gains out.old out.new (member_tokens
-        (offered_member net.now.names refusal (wanted_id event.now) net.now.network.states))) }
+        (offered_member net.now.names refusal (wanted_id event.now) net.now.history.now.states))) }
 {
     let Some(id) = wanted_id(event) else {
         return Ok(());
@@ -126,7 +126,7 @@ fn made_missing(
     deps: &IdSet,
     applied: &IdSet,
 ) -> Result<Vec<Id>, AllocError>
-    ensures { IfOk result (λ ids. IsMissingOf net.now.network.states deps.now applied.now ids.items) }
+    ensures { IfOk result (λ ids. IsMissingOf net.now.history.now.states deps.now applied.now ids.items) }
 {
     let mut ids = Vec::new(alloc);
     let count = net.names().len() as u16;
@@ -141,7 +141,7 @@ fn made_missing(
 
 /// What the received operation depends on and the replica has not applied, rising.
 fn missing_of(alloc: Global, net: &Net, p: u16, id: Id) -> Result<Vec<Id>, AllocError>
-    ensures { IfOk result (λ ids. ids.items ≡ missing_ids (slice_get net.now.network.states p) id) }
+    ensures { IfOk result (λ ids. ids.items ≡ missing_ids (slice_get net.now.history.now.states p) id) }
 {
     // For its contract: events have led to the network from a start.
     let _steps = net.steps();
@@ -163,7 +163,7 @@ fn write_missing(
     out: &mut Writer,
 ) -> Result<(), AllocError>
     ensures { OnOk result (Gains out.old out.new (member_tokens
-        (missing_member net.now.names refusal event.now net.now.network.states))) }
+        (missing_member net.now.names refusal event.now net.now.history.now.states))) }
 {
     let Event::Apply(p, id) = event else {
         return Ok(());
@@ -187,7 +187,7 @@ fn write_members(
 ) -> Result<(), AllocError>
     requires { IsNamedStuck net.now.names stuck.now }
     ensures { OnOk result (Gains out.old out.new (member_tokens
-        (told_members net.now.names given number net.now.network.states stuck.now))) }
+        (told_members net.now.names given number net.now.history.now.states stuck.now))) }
 {
     let names = net.names();
     let event = &stuck.event;
@@ -215,7 +215,7 @@ pub fn stuck_line(
     requires { IsNamedStuck net.now.names stuck.now }
     ensures { IfOk result (λ line. (why : Cause)
         → stuck.now ≡ stuck_for why stuck.now.event
-        → line.items ≡ stuck_event_line net.now.names given number net.now.network.states why stuck.now.event) }
+        → line.items ≡ stuck_event_line net.now.names given number net.now.history.now.states why stuck.now.event) }
 {
     let mut out = begin_line(alloc)?;
     write_members(alloc, net, number, given, stuck, &mut out)?;

@@ -12,7 +12,7 @@ use Rattle.jc_rules.specs.Representation.{IsCausallyClosed, Represents}
 use Rattle.jc_rules.specs.State.{State}
 use Rattle.jc_rules.specs.Table.{op_of}
 use Rattle.jc_rules.proofs.IdsLemmas.{same_members}
-use Rattle.jc_replica.specs.ReplicaHistory.{Past}
+use Rattle.jc_replica.specs.ReplicaHistory.{ReplicaHistory}
 use Rattle.jc_network.specs.Laws.{starts, ops_held}
 use Rattle.jc_network.specs.Steps.{HasReplica}
 use Rattle.jc_network.specs.RunInvariant.{IsReplicaAt, IsWell}
@@ -68,14 +68,14 @@ pub run_well : (N : List State) → IsFromStart N → IsWell N
 run_well N r = after_well (starts r.0) r.1.0 N (start_well r.0) r.1.1
 
 -- the greatest counters of two replicas, for what they have applied
-module _ (N : List State) (r : IsFromStart N) (p q : ℕ) (L R : Past) (one : HasReplica N p L) (other : HasReplica N q R) where
-  pub stands_one : (ops : List Id) → ops ≡ L.now.ops → Represents (ops_held N) one.at.ops ops
+module _ (N : List State) (r : IsFromStart N) (p q : ℕ) (L R : ReplicaHistory) (one : HasReplica N p L) (other : HasReplica N q R) where
+  pub stands_one : (ops : List Id) → ops ≡ L.history.now.ops → Represents (ops_held N) one.at.ops ops
   stands_one ops e = subst (Represents (ops_held N) one.at.ops) (sym (e ∙ ap (λ (S : State). S.ops) one.kept)) (stands_held N (run_well N r) p one.at one.there)
 
-  pub stands_other : (ops : List Id) → ops ≡ R.now.ops → Represents (ops_held N) other.at.ops ops
+  pub stands_other : (ops : List Id) → ops ≡ R.history.now.ops → Represents (ops_held N) other.at.ops ops
   stands_other ops e = subst (Represents (ops_held N) other.at.ops) (sym (e ∙ ap (λ (S : State). S.ops) other.kept)) (stands_held N (run_well N r) q other.at other.there)
 
-  pub are_same : (same : Bool) → AreIn one.at.ops other.at.ops → AreIn other.at.ops one.at.ops → (t u : Context) → t ≡ L.now.tree → u ≡ R.now.tree → IsTrue same ↔ drop t ≡ drop u → IsComparison N p q (SameOps same)
+  pub are_same : (same : Bool) → AreIn one.at.ops other.at.ops → AreIn other.at.ops one.at.ops → (t u : Context) → t ≡ L.history.now.tree → u ≡ R.history.now.tree → IsTrue same ↔ drop t ≡ drop u → IsComparison N p q (SameOps same)
   are_same same f g t u et eu e =
       let ops : one.at.ops ≡ other.at.ops = same_applied N (run_well N r) p q one.at other.at one.there other.there f g in
       let trees : drop one.at.tree ≡ drop other.at.tree = trees_converge r.0 N r.1 one.at other.at (in_list N p one.at one.there) (in_list N q other.at other.there) ops in

@@ -27,9 +27,9 @@ pub enum Comparison {
 /// It is refused with `NoSuchReplica` exactly where the network has no replica of one of the two numbers, and else for
 /// want of memory alone.
 pub fn compare(alloc: Global, net: &Net, p: u16, q: u16) -> Result<Comparison, CompareFault>
-    ensures compared { IfOk result (λ comparison. IsComparison net.now.network.states p q comparison) }
+    ensures compared { IfOk result (λ comparison. IsComparison net.now.history.now.states p q comparison) }
     ensures missing { IsErrOf result C.NoSuchReplica
-        ↔ ((length net.now.network.states ≤ p) ⊎ (length net.now.network.states ≤ q)) }
+        ↔ ((length net.now.history.now.states ≤ p) ⊎ (length net.now.history.now.states ≤ q)) }
 {
     // For its contract: events have led to the network from a start, so version vectors determine what is applied.
     let _steps = net.steps();

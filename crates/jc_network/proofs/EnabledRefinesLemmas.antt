@@ -18,7 +18,7 @@ use Rattle.jc_rules.specs.Order.{same_id}
 use Rattle.jc_rules.proofs.IdsLemmas.{same_id-self}
 use Rattle.jc_vectors.specs.StoredStates.{stored_op}
 use Rattle.jc_replica.specs.Can.{CanOccur, MayRead}
-use Rattle.jc_replica.specs.ReplicaHistory.{Past}
+use Rattle.jc_replica.specs.ReplicaHistory.{ReplicaHistory}
 use Rattle.jc_network.specs.NetworkHistory.{kept_of, of_version}
 use Rattle.jc_network.specs.Enabled.{receivings, takings_of, takings_from, takings, applyings, applyings_of, events_from, candidates, AreChosen, IsAnyStuck, IsNotStuck, AreEnabled, Lists, TellsEnabled, AreEnabledAsKnown, chosen, left_out, no_more}
 use Rattle.jc_network.specs.Invariant.{AreNumbered}
@@ -33,48 +33,48 @@ use Rattle.jc_network.proofs.StepsLemmas.{kept_there}
 
 -- ---- listing
 
-pub lists_none : (past : Past) (old new : List Event) → new ≡ old → Lists past [] old new
-lists_none past old new e = record { listed = []; behind = e ∙ sym (append-nil old); those = no_more }
+pub lists_none : (replica : ReplicaHistory) (old new : List Event) → new ≡ old → Lists replica [] old new
+lists_none replica old new e = record { listed = []; behind = e ∙ sym (append-nil old); those = no_more }
 
-pub lists_one : (past : Past) (event : Event) (can : Bool) (old new : List Event) → CanOccur event past can → (can ≡ true → new ≡ old ++ event ∷ []) → (can ≡ false → new ≡ old) → Lists past (event ∷ []) old new
-lists_one past event true old new h f g = record { listed = event ∷ []; behind = f refl; those = chosen h no_more }
-lists_one past event false old new h f g = record { listed = []; behind = g refl ∙ sym (append-nil old); those = left_out h no_more }
+pub lists_one : (replica : ReplicaHistory) (event : Event) (can : Bool) (old new : List Event) → CanOccur event replica can → (can ≡ true → new ≡ old ++ event ∷ []) → (can ≡ false → new ≡ old) → Lists replica (event ∷ []) old new
+lists_one replica event true old new h f g = record { listed = event ∷ []; behind = f refl; those = chosen h no_more }
+lists_one replica event false old new h f g = record { listed = []; behind = g refl ∙ sym (append-nil old); those = left_out h no_more }
 
-pub lists_more : (past : Past) (asked more old mid new : List Event) → Lists past asked old mid → Lists past more mid new → Lists past (asked ++ more) old new
-lists_more past asked more old mid new a b =
+pub lists_more : (replica : ReplicaHistory) (asked more old mid new : List Event) → Lists replica asked old mid → Lists replica more mid new → Lists replica (asked ++ more) old new
+lists_more replica asked more old mid new a b =
     record {
       listed = a.listed ++ b.listed;
       behind = b.behind ∙ ap (λ (l : List Event). l ++ b.listed) a.behind ∙ append_assoc old a.listed b.listed;
       those = chosen_append a.those b.those;
     }
 
-pub lists_receiving : (past : Past) (q p : ℕ) (old mid new : List Event) → p ≡ past.number → Lists past (receivings past.number q) old mid → Lists past (Recv p q ∷ []) mid new → Lists past (receivings past.number (q + 1)) old new
-lists_receiving past q p old mid new e a b =
-    let one : Lists past (Recv past.number q ∷ []) mid new = subst (λ n. Lists past (Recv n q ∷ []) mid new) e b in
-    rw add-one (lists_more past (receivings past.number q) (Recv past.number q ∷ []) old mid new a one)
+pub lists_receiving : (replica : ReplicaHistory) (q p : ℕ) (old mid new : List Event) → p ≡ replica.number → Lists replica (receivings replica.number q) old mid → Lists replica (Recv p q ∷ []) mid new → Lists replica (receivings replica.number (q + 1)) old new
+lists_receiving replica q p old mid new e a b =
+    let one : Lists replica (Recv replica.number q ∷ []) mid new = subst (λ n. Lists replica (Recv n q ∷ []) mid new) e b in
+    rw add-one (lists_more replica (receivings replica.number q) (Recv replica.number q ∷ []) old mid new a one)
 
 applyings_push : (p : ℕ) (os : List Op) (o : Op) → applyings p (os ++ o ∷ []) ≡ applyings p os ++ Apply p o.id ∷ []
 applyings_push p [] o = refl
 applyings_push p (x ∷ os) o = ap (λ (l : List Event). Apply p x.id ∷ l) (applyings_push p os o)
 
-pub lists_applying : (past : Past) (os : List Op) (i : ℕ) (o : Op) (p : ℕ) (old mid new : List Event) → i < length os → o ≡ get_or os i o → p ≡ past.number → Lists past (applyings past.number (take i os)) old mid → Lists past (Apply p o.id ∷ []) mid new → Lists past (applyings past.number (take (i + 1) os)) old new
-lists_applying past os i o p old mid new l at e a b =
-    let one : Lists past (Apply past.number o.id ∷ []) mid new = subst (λ n. Lists past (Apply n o.id ∷ []) mid new) e b in
+pub lists_applying : (replica : ReplicaHistory) (os : List Op) (i : ℕ) (o : Op) (p : ℕ) (old mid new : List Event) → i < length os → o ≡ get_or os i o → p ≡ replica.number → Lists replica (applyings replica.number (take i os)) old mid → Lists replica (Apply p o.id ∷ []) mid new → Lists replica (applyings replica.number (take (i + 1) os)) old new
+lists_applying replica os i o p old mid new l at e a b =
+    let one : Lists replica (Apply replica.number o.id ∷ []) mid new = subst (λ n. Lists replica (Apply n o.id ∷ []) mid new) e b in
     let front : take (i + 1) os ≡ take i os ++ o ∷ [] = take_more os i o l ∙ ap (λ (x : Op). take i os ++ x ∷ []) (sym at) in
-    let asked : applyings past.number (take (i + 1) os) ≡ applyings past.number (take i os) ++ Apply past.number o.id ∷ [] = ap (applyings past.number) front ∙ applyings_push past.number (take i os) o in
-    subst (λ (cs : List Event). Lists past cs old new) (sym asked) (lists_more past (applyings past.number (take i os)) (Apply past.number o.id ∷ []) old mid new a one)
+    let asked : applyings replica.number (take (i + 1) os) ≡ applyings replica.number (take i os) ++ Apply replica.number o.id ∷ [] = ap (applyings replica.number) front ∙ applyings_push replica.number (take i os) o in
+    subst (λ (cs : List Event). Lists replica cs old new) (sym asked) (lists_more replica (applyings replica.number (take i os)) (Apply replica.number o.id ∷ []) old mid new a one)
 
 -- taking
 takings_push : (p q : ℕ) (os : List Op) (o : Op) → takings_of p q (os ++ o ∷ []) ≡ takings_of p q os ++ Take p q o.id ∷ []
 takings_push p q [] o = refl
 takings_push p q (x ∷ os) o = ap (λ (l : List Event). Take p q x.id ∷ l) (takings_push p q os o)
 
-pub lists_taking : (past : Past) (os : List Op) (i : ℕ) (o : Op) (p q : ℕ) (old mid new : List Event) → i < length os → o ≡ get_or os i o → p ≡ past.number → Lists past (takings_of past.number q (take i os)) old mid → Lists past (Take p q o.id ∷ []) mid new → Lists past (takings_of past.number q (take (i + 1) os)) old new
-lists_taking past os i o p q old mid new l at e a b =
-    let one : Lists past (Take past.number q o.id ∷ []) mid new = subst (λ n. Lists past (Take n q o.id ∷ []) mid new) e b in
+pub lists_taking : (replica : ReplicaHistory) (os : List Op) (i : ℕ) (o : Op) (p q : ℕ) (old mid new : List Event) → i < length os → o ≡ get_or os i o → p ≡ replica.number → Lists replica (takings_of replica.number q (take i os)) old mid → Lists replica (Take p q o.id ∷ []) mid new → Lists replica (takings_of replica.number q (take (i + 1) os)) old new
+lists_taking replica os i o p q old mid new l at e a b =
+    let one : Lists replica (Take replica.number q o.id ∷ []) mid new = subst (λ n. Lists replica (Take n q o.id ∷ []) mid new) e b in
     let front : take (i + 1) os ≡ take i os ++ o ∷ [] = take_more os i o l ∙ ap (λ (x : Op). take i os ++ x ∷ []) (sym at) in
-    let asked : takings_of past.number q (take (i + 1) os) ≡ takings_of past.number q (take i os) ++ Take past.number q o.id ∷ [] = ap (takings_of past.number q) front ∙ takings_push past.number q (take i os) o in
-    subst (λ (cs : List Event). Lists past cs old new) (sym asked) (lists_more past (takings_of past.number q (take i os)) (Take past.number q o.id ∷ []) old mid new a one)
+    let asked : takings_of replica.number q (take (i + 1) os) ≡ takings_of replica.number q (take i os) ++ Take replica.number q o.id ∷ [] = ap (takings_of replica.number q) front ∙ takings_push replica.number q (take i os) o in
+    subst (λ (cs : List Event). Lists replica cs old new) (sym asked) (lists_more replica (takings_of replica.number q (take i os)) (Take replica.number q o.id ∷ []) old mid new a one)
 
 takings_push_from : (p q : ℕ) (states : List State) (A : State) (n : ℕ) → n ≡ q + length states → takings_from p q (states ++ A ∷ []) ≡ takings_from p q states ++ takings_of p n A.send
 takings_push_from p q [] A n e =
@@ -84,38 +84,38 @@ takings_push_from p q (B ∷ states) A n e =
     ap (λ (l : List Event). takings_of p q B.send ++ l) (takings_push_from p (suc q) states A n (omega (arith, e)))
     ∙ sym (append_assoc (takings_of p q B.send) (takings_from p (suc q) states) (takings_of p n A.send))
 
-states_more : (pasts : List Past) (past : Past) → kept_of (pasts ++ past ∷ []) ≡ kept_of pasts ++ past.now ∷ []
-states_more [] past = refl
-states_more (q ∷ pasts) past = ap (λ (l : List State). q.now ∷ l) (states_more pasts past)
+states_more : (replicas : List ReplicaHistory) (replica : ReplicaHistory) → kept_of (replicas ++ replica ∷ []) ≡ kept_of replicas ++ replica.history.now ∷ []
+states_more [] replica = refl
+states_more (q ∷ replicas) replica = ap (λ (l : List State). q.history.now ∷ l) (states_more replicas replica)
 
-pub lists_takings : (past : Past) (pasts : List Past) (i : ℕ) (sender : Past) (offered : List Op) (old mid new : List Event) → i < length pasts → sender ≡ get_or pasts i sender → offered ≡ sender.now.send → Lists past (takings_from past.number 0 (kept_of (take i pasts))) old mid → Lists past (takings_of past.number i offered) mid new → Lists past (takings_from past.number 0 (kept_of (take (i + 1) pasts))) old new
-lists_takings past pasts i sender offered old mid new l at is a b =
-    let p = past.number in
-    let front : take (i + 1) pasts ≡ take i pasts ++ sender ∷ [] = take_more pasts i sender l ∙ ap (λ (x : Past). take i pasts ++ x ∷ []) (sym at) in
-    let count : length (kept_of (take i pasts)) ≡ i = length-map (take i pasts) (λ (x : Past). x.now) ∙ length-take-le i pasts (omega (arith, l)) in
-    let asked : takings_from p 0 (kept_of (take (i + 1) pasts)) ≡ takings_from p 0 (kept_of (take i pasts)) ++ takings_of p i offered =
-    ap (λ (ps : List Past). takings_from p 0 (kept_of ps)) front
-    ∙ ap (takings_from p 0) (states_more (take i pasts) sender)
-    ∙ takings_push_from p 0 (kept_of (take i pasts)) sender.now i (omega (arith, count))
-    ∙ ap (λ (os : List Op). takings_from p 0 (kept_of (take i pasts)) ++ takings_of p i os) (sym is) in
-    subst (λ (cs : List Event). Lists past cs old new) (sym asked) (lists_more past (takings_from p 0 (kept_of (take i pasts))) (takings_of p i offered) old mid new a b)
+pub lists_takings : (replica : ReplicaHistory) (replicas : List ReplicaHistory) (i : ℕ) (sender : ReplicaHistory) (offered : List Op) (old mid new : List Event) → i < length replicas → sender ≡ get_or replicas i sender → offered ≡ sender.history.now.send → Lists replica (takings_from replica.number 0 (kept_of (take i replicas))) old mid → Lists replica (takings_of replica.number i offered) mid new → Lists replica (takings_from replica.number 0 (kept_of (take (i + 1) replicas))) old new
+lists_takings replica replicas i sender offered old mid new l at is a b =
+    let p = replica.number in
+    let front : take (i + 1) replicas ≡ take i replicas ++ sender ∷ [] = take_more replicas i sender l ∙ ap (λ (x : ReplicaHistory). take i replicas ++ x ∷ []) (sym at) in
+    let count : length (kept_of (take i replicas)) ≡ i = length-map (take i replicas) (λ (x : ReplicaHistory). x.history.now) ∙ length-take-le i replicas (omega (arith, l)) in
+    let asked : takings_from p 0 (kept_of (take (i + 1) replicas)) ≡ takings_from p 0 (kept_of (take i replicas)) ++ takings_of p i offered =
+    ap (λ (ps : List ReplicaHistory). takings_from p 0 (kept_of ps)) front
+    ∙ ap (takings_from p 0) (states_more (take i replicas) sender)
+    ∙ takings_push_from p 0 (kept_of (take i replicas)) sender.history.now i (omega (arith, count))
+    ∙ ap (λ (os : List Op). takings_from p 0 (kept_of (take i replicas)) ++ takings_of p i os) (sym is) in
+    subst (λ (cs : List Event). Lists replica cs old new) (sym asked) (lists_more replica (takings_from p 0 (kept_of (take i replicas))) (takings_of p i offered) old mid new a b)
 
-lists_last : {X E : Type 0} (r : Result X E) (past : Past) (asked more old mid new : List Event) → Lists past asked old mid → OnOk r (Lists past more mid new) → OnOk r (Lists past (asked ++ more) old new)
-lists_last (Ok x) past asked more old mid new a b = lists_more past asked more old mid new a b
-lists_last (Err e) past asked more old mid new a b = tt
+lists_last : {X E : Type 0} (r : Result X E) (replica : ReplicaHistory) (asked more old mid new : List Event) → Lists replica asked old mid → OnOk r (Lists replica more mid new) → OnOk r (Lists replica (asked ++ more) old new)
+lists_last (Ok x) replica asked more old mid new a b = lists_more replica asked more old mid new a b
+lists_last (Err e) replica asked more old mid new a b = tt
 
-pub lists_events : {X E : Type 0} (r : Result X E) (past : Past) (N : Network) (n p : ℕ) (a b c d e f g : List Event) → n ≡ length N.states → p ≡ past.number → Lists past (Exec p ∷ []) a b → Lists past (Send p ∷ []) b c → Lists past (receivings past.number n) c d → Lists past (takings N.version past.number N.states) d e → Lists past (applyings past.number past.now.recv) e f → OnOk r (Lists past (Done p ∷ []) f g) → OnOk r (Lists past (applyings_of N past.number past.now.recv) a g)
-lists_events r past N n p a b c d e f g many s x y z t w v =
-    let q = past.number in
-    let exec : Lists past (Exec q ∷ []) a b = subst (λ m. Lists past (Exec m ∷ []) a b) s x in
-    let send : Lists past (Send q ∷ []) b c = subst (λ m. Lists past (Send m ∷ []) b c) s y in
-    let recv : Lists past (receivings q (length N.states)) c d = subst (λ m. Lists past (receivings q m) c d) many z in
-    let done : OnOk r (Lists past (Done q ∷ []) f g) = subst (λ m. OnOk r (Lists past (Done m ∷ []) f g)) s v in
-    let two = lists_more past (Exec q ∷ []) (Send q ∷ []) a b c exec send in
-    let three = lists_more past (Exec q ∷ Send q ∷ []) (receivings q (length N.states)) a c d two recv in
-    let four = lists_more past (Exec q ∷ Send q ∷ receivings q (length N.states)) (takings N.version q N.states) a d e three t in
-    let five = lists_more past (Exec q ∷ Send q ∷ receivings q (length N.states) ++ takings N.version q N.states) (applyings q past.now.recv) a e f four w in
-    lists_last r past (Exec q ∷ Send q ∷ receivings q (length N.states) ++ takings N.version q N.states ++ applyings q past.now.recv) (Done q ∷ []) a f g five done
+pub lists_events : {X E : Type 0} (r : Result X E) (replica : ReplicaHistory) (N : Network) (n p : ℕ) (a b c d e f g : List Event) → n ≡ length N.states → p ≡ replica.number → Lists replica (Exec p ∷ []) a b → Lists replica (Send p ∷ []) b c → Lists replica (receivings replica.number n) c d → Lists replica (takings N.version replica.number N.states) d e → Lists replica (applyings replica.number replica.history.now.recv) e f → OnOk r (Lists replica (Done p ∷ []) f g) → OnOk r (Lists replica (applyings_of N replica.number replica.history.now.recv) a g)
+lists_events r replica N n p a b c d e f g many s x y z t w v =
+    let q = replica.number in
+    let exec : Lists replica (Exec q ∷ []) a b = subst (λ m. Lists replica (Exec m ∷ []) a b) s x in
+    let send : Lists replica (Send q ∷ []) b c = subst (λ m. Lists replica (Send m ∷ []) b c) s y in
+    let recv : Lists replica (receivings q (length N.states)) c d = subst (λ m. Lists replica (receivings q m) c d) many z in
+    let done : OnOk r (Lists replica (Done q ∷ []) f g) = subst (λ m. OnOk r (Lists replica (Done m ∷ []) f g)) s v in
+    let two = lists_more replica (Exec q ∷ []) (Send q ∷ []) a b c exec send in
+    let three = lists_more replica (Exec q ∷ Send q ∷ []) (receivings q (length N.states)) a c d two recv in
+    let four = lists_more replica (Exec q ∷ Send q ∷ receivings q (length N.states)) (takings N.version q N.states) a d e three t in
+    let five = lists_more replica (Exec q ∷ Send q ∷ receivings q (length N.states) ++ takings N.version q N.states) (applyings q replica.history.now.recv) a e f four w in
+    lists_last r replica (Exec q ∷ Send q ∷ receivings q (length N.states) ++ takings N.version q N.states ++ applyings q replica.history.now.recv) (Done q ∷ []) a f g five done
 
 -- one replica more
 from_push : (N : Network) (p : ℕ) (states : List State) (A : State) (q : ℕ) → q ≡ p + length states → events_from N p (states ++ A ∷ []) ≡ events_from N p states ++ applyings_of N q A.recv
@@ -127,42 +127,42 @@ from_push N p (B ∷ states) A q e =
     ∙ sym (append_assoc (applyings_of N p B.recv) (events_from N (suc p) states) (applyings_of N q A.recv))
 
 -- the events that the first replicas list
-abbrev pub HaveTold : List Past → Network → ℕ → List Event → Type 0
-HaveTold pasts N i listed = AreChosen (TellsEnabled pasts true) (TellsEnabled pasts false) (events_from N 0 (kept_of (take i pasts))) listed
+abbrev pub HaveTold : List ReplicaHistory → Network → ℕ → List Event → Type 0
+HaveTold replicas N i listed = AreChosen (TellsEnabled replicas true) (TellsEnabled replicas false) (events_from N 0 (kept_of (take i replicas))) listed
 
-pub told_none : (pasts : List Past) (N : Network) (listed : List Event) → listed ≡ [] → HaveTold pasts N 0 listed
-told_none pasts N listed e = subst (λ (ls : List Event). HaveTold pasts N 0 ls) (sym e) no_more
+pub told_none : (replicas : List ReplicaHistory) (N : Network) (listed : List Event) → listed ≡ [] → HaveTold replicas N 0 listed
+told_none replicas N listed e = subst (λ (ls : List Event). HaveTold replicas N 0 ls) (sym e) no_more
 
-pub told_more : (pasts : List Past) (N : Network) (i : ℕ) (past : Past) (old new : List Event) → AreNumbered pasts → i < length pasts → past ≡ get_or pasts i past → HaveTold pasts N i old → Lists past (applyings_of N past.number past.now.recv) old new → HaveTold pasts N (i + 1) new
-told_more pasts N i past old new numbered l at h more =
-    subst (λ (cs : List Event). AreChosen (TellsEnabled pasts true) (TellsEnabled pasts false) cs new) (sym asked)
-    (subst (λ (ls : List Event). AreChosen (TellsEnabled pasts true) (TellsEnabled pasts false) (events_from N 0 (kept_of (take i pasts)) ++ applyings_of N past.number past.now.recv) ls) (sym more.behind)
+pub told_more : (replicas : List ReplicaHistory) (N : Network) (i : ℕ) (replica : ReplicaHistory) (old new : List Event) → AreNumbered replicas → i < length replicas → replica ≡ get_or replicas i replica → HaveTold replicas N i old → Lists replica (applyings_of N replica.number replica.history.now.recv) old new → HaveTold replicas N (i + 1) new
+told_more replicas N i replica old new numbered l at h more =
+    subst (λ (cs : List Event). AreChosen (TellsEnabled replicas true) (TellsEnabled replicas false) cs new) (sym asked)
+    (subst (λ (ls : List Event). AreChosen (TellsEnabled replicas true) (TellsEnabled replicas false) (events_from N 0 (kept_of (take i replicas)) ++ applyings_of N replica.number replica.history.now.recv) ls) (sym more.behind)
     (chosen_append h (chosen_as (tells_so true) (tells_so false) more.those)))
   where
-    there : slice_get pasts i ≡ Some past
-    there = slice_get-get_or pasts i past l ∙ ap (λ (x : Past). Some x) (sym at)
+    there : slice_get replicas i ≡ Some replica
+    there = slice_get-get_or replicas i replica l ∙ ap (λ (x : ReplicaHistory). Some x) (sym at)
 
-    number : past.number ≡ i
-    number = numbered i past there
+    number : replica.number ≡ i
+    number = numbered i replica there
 
-    tells_so : (can : Bool) (e : Event) → Contains (applyings_of N past.number past.now.recv) e → CanOccur e past can → TellsEnabled pasts can e
-    tells_so can e k h = record { past = past; there = ap (slice_get pasts) (event_of N past.number past.now.recv e k ∙ number) ∙ there; answer = h }
+    tells_so : (can : Bool) (e : Event) → Contains (applyings_of N replica.number replica.history.now.recv) e → CanOccur e replica can → TellsEnabled replicas can e
+    tells_so can e k h = record { replica = replica; there = ap (slice_get replicas) (event_of N replica.number replica.history.now.recv e k ∙ number) ∙ there; answer = h }
 
-    front : length (kept_of (take i pasts)) ≡ i
-    front = length-map (take i pasts) (λ (x : Past). x.now) ∙ length-take-le i pasts (omega (arith, l))
+    front : length (kept_of (take i replicas)) ≡ i
+    front = length-map (take i replicas) (λ (x : ReplicaHistory). x.history.now) ∙ length-take-le i replicas (omega (arith, l))
 
-    asked : events_from N 0 (kept_of (take (i + 1) pasts)) ≡ events_from N 0 (kept_of (take i pasts)) ++ applyings_of N past.number past.now.recv
+    asked : events_from N 0 (kept_of (take (i + 1) replicas)) ≡ events_from N 0 (kept_of (take i replicas)) ++ applyings_of N replica.number replica.history.now.recv
     asked =
-        let front_more : take (i + 1) pasts ≡ take i pasts ++ past ∷ [] = take_more pasts i past l ∙ ap (λ (x : Past). take i pasts ++ x ∷ []) (sym at) in
-        ap (λ (ps : List Past). events_from N 0 (kept_of ps)) front_more
-        ∙ ap (λ (states : List State). events_from N 0 states) (states_more (take i pasts) past)
-        ∙ from_push N 0 (kept_of (take i pasts)) past.now past.number (omega (arith, number, front))
+        let front_more : take (i + 1) replicas ≡ take i replicas ++ replica ∷ [] = take_more replicas i replica l ∙ ap (λ (x : ReplicaHistory). take i replicas ++ x ∷ []) (sym at) in
+        ap (λ (ps : List ReplicaHistory). events_from N 0 (kept_of ps)) front_more
+        ∙ ap (λ (states : List State). events_from N 0 states) (states_more (take i replicas) replica)
+        ∙ from_push N 0 (kept_of (take i replicas)) replica.history.now replica.number (omega (arith, number, front))
 
-pub told_all : (version : Version) (pasts : List Past) (i : ℕ) (listed : List Event) → length pasts ≡ i → HaveTold pasts (of_version version (kept_of pasts)) i listed → AreEnabledAsKnown version pasts listed
-told_all version pasts i listed f h =
-    let N = of_version version (kept_of pasts) in
-    let all : take i pasts ≡ pasts = take_all i pasts (omega (arith, f)) in
-    subst (λ (ps : List Past). AreChosen (TellsEnabled pasts true) (TellsEnabled pasts false) (events_from N 0 (kept_of ps)) listed) all h
+pub told_all : (version : Version) (replicas : List ReplicaHistory) (i : ℕ) (listed : List Event) → length replicas ≡ i → HaveTold replicas (of_version version (kept_of replicas)) i listed → AreEnabledAsKnown version replicas listed
+told_all version replicas i listed f h =
+    let N = of_version version (kept_of replicas) in
+    let all : take i replicas ≡ replicas = take_all i replicas (omega (arith, f)) in
+    subst (λ (ps : List ReplicaHistory). AreChosen (TellsEnabled replicas true) (TellsEnabled replicas false) (events_from N 0 (kept_of ps)) listed) all h
 
 -- ---- the network
 
@@ -255,9 +255,9 @@ reading N p os e (of_take h) =
 reading N p os e (of_apply o k s) = subst (IsReading N) (sym s) (record { read = []; reads = refl; may = refl; allowed = tt })
 reading N p os e (of_done s) = subst (IsReading N) (sym s) (record { read = []; reads = refl; may = refl; allowed = tt })
 
-module _ (set : List Op) (version : Version) (states : List State) (pasts : List Past) (sound : HasSoundOps states) (seen : AreSeen set states (kept_of pasts)) where
+module _ (set : List Op) (version : Version) (states : List State) (replicas : List ReplicaHistory) (sound : HasSoundOps states) (seen : AreSeen set states (kept_of replicas)) where
   abbrev kept : Network
-  kept = of_version version (kept_of pasts)
+  kept = of_version version (kept_of replicas)
 
   abbrev network : Network
   network = of_version version states
@@ -265,35 +265,35 @@ module _ (set : List Op) (version : Version) (states : List State) (pasts : List
   asks : (e : Event) → Contains (candidates kept) e → IsReading kept e
   asks e k = let x = in_from kept 0 kept.states e k in reading kept x.1.number x.1.at.recv e x.1.event
 
-  seen_past : (p : ℕ) (past : Past) → slice_get pasts p ≡ Some past → HasSeen set p states past.now
-  seen_past p past t = seen.each p past.now (kept_there pasts p past t)
+  seen_replica : (p : ℕ) (replica : ReplicaHistory) → slice_get replicas p ≡ Some replica → HasSeen set p states replica.history.now
+  seen_replica p replica t = seen.each p replica.history.now (kept_there replicas p replica t)
 
-  not_stuck : (e : Event) → Contains (candidates kept) e → TellsEnabled pasts true e → IsNotStuck network e
+  not_stuck : (e : Event) → Contains (candidates kept) e → TellsEnabled replicas true e → IsNotStuck network e
   not_stuck e k t why s =
-      let x = seen_past (replica_of e) t.past t.there in
+      let x = seen_replica (replica_of e) t.replica t.there in
       let r = asks e k in
-      let os = reads_stand set states (kept_of pasts) sound seen e r.read r.reads in
+      let os = reads_stand set states (kept_of replicas) sound seen e r.read r.reads in
       t.answer set os.os r.read x.at why r.may x.seen.stands os.is (stuck_refused network e why s x.at os.os x.there os.reads r.allowed)
 
-  any_stuck : (e : Event) → Contains (candidates kept) e → TellsEnabled pasts false e → IsAnyStuck network e
+  any_stuck : (e : Event) → Contains (candidates kept) e → TellsEnabled replicas false e → IsAnyStuck network e
   any_stuck e k t =
-      let x = seen_past (replica_of e) t.past t.there in
+      let x = seen_replica (replica_of e) t.replica t.there in
       let r = asks e k in
-      let os = reads_stand set states (kept_of pasts) sound seen e r.read r.reads in
+      let os = reads_stand set states (kept_of replicas) sound seen e r.read r.reads in
       let w = t.answer set os.os r.read x.at r.may x.seen.stands os.is in
       (w.0, question_refused x.there os.reads r.allowed w.1)
 
-  like : (i : ℕ) (K : State) → IsReplicaAt (kept_of pasts) i K → IsLike states i K
+  like : (i : ℕ) (K : State) → IsReplicaAt (kept_of replicas) i K → IsLike states i K
   like i K t = let x = seen.each i K t in record { at = x.at; there = x.there; recv = ap (λ (S : State). S.recv) x.seen.stands.is; send = ap (λ (S : State). S.send) x.seen.stands.is }
 
   alike : candidates kept ≡ candidates network
-  alike = from_alike network kept seen.as_many (λ p. takings_same version p states (kept_of pasts) seen.as_many like) 0 states (kept_of pasts) seen.as_many like
+  alike = from_alike network kept seen.as_many (λ p. takings_same version p states (kept_of replicas) seen.as_many like) 0 states (kept_of replicas) seen.as_many like
 
-  told_enabled : (listed : List Event) → AreEnabledAsKnown version pasts listed → AreEnabled network (candidates network) listed
+  told_enabled : (listed : List Event) → AreEnabledAsKnown version replicas listed → AreEnabled network (candidates network) listed
   told_enabled listed h = subst (λ (cs : List Event). AreEnabled network cs listed) alike (chosen_as not_stuck any_stuck h)
 
 -- What the replicas of a network that is reached tell is what is enabled in it.
-pub enabled_stands : (scripts : List (List Cmd)) (version : Version) (states : List State) → IsReached scripts states → (set : List Op) (pasts : List Past) → AreSeen set states (kept_of pasts) → (listed : List Event) → AreEnabledAsKnown version pasts listed → AreEnabled (of_version version states) (candidates (of_version version states)) listed
-enabled_stands scripts version states r set pasts seen listed h =
+pub enabled_stands : (scripts : List (List Cmd)) (version : Version) (states : List State) → IsReached scripts states → (set : List Op) (replicas : List ReplicaHistory) → AreSeen set states (kept_of replicas) → (listed : List Event) → AreEnabledAsKnown version replicas listed → AreEnabled (of_version version states) (candidates (of_version version states)) listed
+enabled_stands scripts version states r set replicas seen listed h =
     let well = after_well (starts scripts) r.0 states (start_well scripts) r.1 in
-    told_enabled set version states pasts well.sets seen listed h
+    told_enabled set version states replicas well.sets seen listed h

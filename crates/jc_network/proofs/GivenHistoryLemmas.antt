@@ -9,7 +9,8 @@ use Rattle.jc_rules.specs.State.{State, start}
 use Rattle.jc_rules.specs.Step.{Network, AfterIn}
 use Rattle.jc_rules.specs.Trace.{Rows}
 use Rattle.jc_rules.proofs.VersionLemmas.{after_states}
-use Rattle.jc_replica.specs.ReplicaHistory.{Past}
+use Rattle.jc_rules.specs.History.{begun}
+use Rattle.jc_replica.specs.ReplicaHistory.{ReplicaHistory}
 use Rattle.jc_scenario.specs.WellFormed.{Scenario, IsWellFormedScenario}
 use Rattle.jc_network.specs.declared.fault.StartFault.{StartFault}
 use Rattle.jc_network.specs.declared.fault.StartFault.TheVariants as S
@@ -17,7 +18,7 @@ use Rattle.jc_network.specs.declared.fault.StepFault.{StepFault}
 use Rattle.jc_network.specs.declared.fault.StepFault.TheVariants as E
 use Rattle.jc_network.specs.declared.fault.Stuck.{Stuck}
 use Rattle.jc_network.specs.Abstract.{real}
-use Rattle.jc_network.specs.NetworkHistory.{Course, StepsTo, begin_now, course_of, kept_of, network_of, of_version}
+use Rattle.jc_network.specs.NetworkHistory.{NetworkHistory, StepsTo, begin_now, network_history_of, kept_of, network_of, of_version}
 use Rattle.jc_network.specs.Given.{before_given, AreParts, IsBeforeGiven, IsStart, IsStarted, IsGivenFault}
 use Rattle.jc_network.specs.Laws.{starts, IsReached}
 use Rattle.jc_network.specs.Steps.{IsStuckFor}
@@ -36,19 +37,19 @@ has_parts s h =
     record { each = each; short = short_scripts s.scripts (omega (arith, each, few)) h.formed }
 
 -- where its given events have led, it begins
-pub has_started : (s : Scenario) (first now last : Course) (given : List Event) → IsBeforeGiven s.version s.names s.scripts first → given ≡ s.given → AfterIn first.network given now.network → now.names ≡ first.names → last ≡ record now { earlier = [] } → IsStarted s last
+pub has_started : (s : Scenario) (first now last : NetworkHistory) (given : List Event) → IsBeforeGiven s.version s.names s.scripts first → given ≡ s.given → AfterIn first.history.now given now.history.now → now.names ≡ first.names → last ≡ record now { history = begun now.history.now } → IsStarted s last
 has_started s first now last given before all led names is =
     subst (IsStarted s) (sym is)
     (record {
       names = names ∙ before.called;
-      start = subst (λ (N : Network). AfterIn N s.given now.network) before.network (subst (λ (es : List Event). AfterIn first.network es now.network) all led);
+      start = subst (λ (N : Network). AfterIn N s.given now.history.now) before.network (subst (λ (es : List Event). AfterIn first.history.now es now.history.now) all led);
       earlier = refl;
     })
 
 -- or one of them is the first that is stuck
-pub has_stuck : (s : Scenario) (first : Course) (given : List Event) (at : ℕ) (t : Stuck) → IsBeforeGiven s.version s.names s.scripts first → given ≡ s.given → IsGivenFault first.network given at t → IsGivenFault (before_given s) s.given at t
+pub has_stuck : (s : Scenario) (first : NetworkHistory) (given : List Event) (at : ℕ) (t : Stuck) → IsBeforeGiven s.version s.names s.scripts first → given ≡ s.given → IsGivenFault first.history.now given at t → IsGivenFault (before_given s) s.given at t
 has_stuck s first given at t before all h =
-    subst (λ (N : Network). IsGivenFault N s.given at t) before.network (subst (λ (es : List Event). IsGivenFault first.network es at t) all h)
+    subst (λ (N : Network). IsGivenFault N s.given at t) before.network (subst (λ (es : List Event). IsGivenFault first.history.now es at t) all h)
 
 -- ---- the start of a scenario
 
@@ -64,41 +65,41 @@ start_each s network h =
 -- ---- one given event after another
 
 -- The first i of the given events have led from the one to the other, which has counted them.
-pub record HaveLed (first now : Course) (given : List Event) (i : ℕ) : Type 0 where
-  pub after : AfterIn first.network (take i given) now.network
-  pub counted : length now.earlier ≡ i
+pub record HaveLed (first now : NetworkHistory) (given : List Event) (i : ℕ) : Type 0 where
+  pub after : AfterIn first.history.now (take i given) now.history.now
+  pub counted : length now.history.earlier ≡ i
   pub names : now.names ≡ first.names
 
-pub led_none : (first : Course) (given : List Event) → first.earlier ≡ [] → HaveLed first first given 0
+pub led_none : (first : NetworkHistory) (given : List Event) → first.history.earlier ≡ [] → HaveLed first first given 0
 led_none first given e = record { after = refl; counted = ap length e; names = refl }
 
-pub led_more : (first old new : Course) (given : List Event) (i : ℕ) (d : Event) (rows : Rows) → i < length given → HaveLed first old given i → StepsTo old (get_or given i d) new rows → HaveLed first new given (i + 1)
+pub led_more : (first old new : NetworkHistory) (given : List Event) (i : ℕ) (d : Event) (rows : Rows) → i < length given → HaveLed first old given i → StepsTo old (get_or given i d) new rows → HaveLed first new given (i + 1)
 led_more first old new given i d rows l h s =
     let event = get_or given i d in
     let front : take (i + 1) given ≡ take i given ++ event ∷ [] = take_more given i d l in
-    let more : length new.earlier ≡ length old.earlier + 1 = ap length s.earlier ∙ length_end old.earlier old.network in
+    let more : length new.history.earlier ≡ length old.history.earlier + 1 = ap length s.earlier ∙ length_end old.history.earlier old.history.now in
     let c = h.counted in
     record {
-      after = subst (λ (es : List Event). AfterIn first.network es new.network) (sym front) (after_one_more first.network (take i given) old.network event new.network rows.rows h.after s.step);
+      after = subst (λ (es : List Event). AfterIn first.history.now es new.history.now) (sym front) (after_one_more first.history.now (take i given) old.history.now event new.history.now rows.rows h.after s.step);
       counted = omega (arith, more, c);
       names = s.names ∙ h.names;
     }
 
 -- so many steps don't fill it
-pub led_short : (first now : Course) (given : List Event) (i : ℕ) → i < length given → length given ≤ 100000 → HaveLed first now given i → 100000 ≤ length now.earlier → ⊥
+pub led_short : (first now : NetworkHistory) (given : List Event) (i : ℕ) → i < length given → length given ≤ 100000 → HaveLed first now given i → 100000 ≤ length now.history.earlier → ⊥
 led_short first now given i l m h f = let c = h.counted in absurd (omega (arith, l, m, c, f))
 
-pub led_all : (first now : Course) (given : List Event) (i : ℕ) → length given ≡ i → HaveLed first now given i → AfterIn first.network given now.network
-led_all first now given i n h = subst (λ (es : List Event). AfterIn first.network es now.network) (take_all i given (omega (arith, n))) h.after
+pub led_all : (first now : NetworkHistory) (given : List Event) (i : ℕ) → length given ≡ i → HaveLed first now given i → AfterIn first.history.now given now.history.now
+led_all first now given i n h = subst (λ (es : List Event). AfterIn first.history.now es now.history.now) (take_all i given (omega (arith, n))) h.after
 
-led_stuck : (first now : Course) (given : List Event) (i : ℕ) (d : Event) (at : ℕ) (s : Stuck) → i < length given → HaveLed first now given i → at ≡ i + 1 → IsStuckFor now.network (get_or given i d) s → IsGivenFault first.network given at s
+led_stuck : (first now : NetworkHistory) (given : List Event) (i : ℕ) (d : Event) (at : ℕ) (s : Stuck) → i < length given → HaveLed first now given i → at ≡ i + 1 → IsStuckFor now.history.now (get_or given i d) s → IsGivenFault first.history.now given at s
 led_stuck first now given i d at s l h n stuck = record {
   event = get_or given i d;
   why = stuck.why;
   is = stuck.is;
   stuck = record {
     before = i;
-    network = now.network;
+    network = now.history.now;
     at_is = n;
     led = h.after;
     is = slice_get-get_or given i d l;
@@ -107,16 +108,16 @@ led_stuck first now given i d at s l h n stuck = record {
 }
 
 -- the fault of the first given event that is stuck
-pub lead_fails : {X : Type 0} (first now : Course) (given : List Event) (i n : ℕ) (d : Event) (r : Result X StepFault) (t : Stuck) → i < length given → n ≡ i → HaveLed first now given i → ((s : Stuck) → r ≡ Err (E.Stuck s) → IsStuckFor now.network (get_or given i d) s) → r ≡ Err (E.Stuck t) → (at : ℕ) (s : Stuck) → ◌≡◌ {A = Result (Unit {0}) StartFault} (Err (S.Given (n + 1) t)) (Err (S.Given at s)) → IsGivenFault first.network given at s
+pub lead_fails : {X : Type 0} (first now : NetworkHistory) (given : List Event) (i n : ℕ) (d : Event) (r : Result X StepFault) (t : Stuck) → i < length given → n ≡ i → HaveLed first now given i → ((s : Stuck) → r ≡ Err (E.Stuck s) → IsStuckFor now.history.now (get_or given i d) s) → r ≡ Err (E.Stuck t) → (at : ℕ) (s : Stuck) → ◌≡◌ {A = Result (Unit {0}) StartFault} (Err (S.Given (n + 1) t)) (Err (S.Given at s)) → IsGivenFault first.history.now given at s
 lead_fails first now given i n d r t l c h told is at s e =
     let place : n + 1 ≡ at = cc in
     let same : t ≡ s = cc in
     let number : at ≡ i + 1 = sym place ∙ ap (λ (k : ℕ). k + 1) c in
-    led_stuck first now given i d at s l h number (subst (IsStuckFor now.network (get_or given i d)) same (told t is))
+    led_stuck first now given i d at s l h number (subst (IsStuckFor now.history.now (get_or given i d)) same (told t is))
 
 -- a network whose steps so far aren't counted is kept all the same
-pub begun : (version : Version) (count : ℕ) (whose : List ℕ) (ps : List Past) → IsNet version count whose ps → IsNet version count [] ps
-begun version count whose ps h =
+pub uncounted : (version : Version) (count : ℕ) (whose : List ℕ) (ps : List ReplicaHistory) → IsNet version count whose ps → IsNet version count [] ps
+uncounted version count whose ps h =
     let run = now_in_run version count whose ps h in
     let now = of_version version (network_of ps) in
     record {
@@ -141,36 +142,36 @@ begun version count whose ps h =
 
 -- ---- where the replicas' histories begin anew
 
-pub states_kept : (ps : List Past) → kept_of (map begin_now ps) ≡ kept_of ps
+pub states_kept : (ps : List ReplicaHistory) → kept_of (map begin_now ps) ≡ kept_of ps
 states_kept [] = refl
-states_kept (p ∷ ps) = ap (λ (As : List State). p.now ∷ As) (states_kept ps)
+states_kept (p ∷ ps) = ap (λ (As : List State). p.history.now ∷ As) (states_kept ps)
 
-number_kept : (ps : List Past) (p : ℕ) (past : Past) → slice_get (map begin_now ps) p ≡ Some past → (old : Past) × (slice_get ps p ≡ Some old) × (old.number ≡ past.number)
-number_kept [] p past h = cc
-number_kept (q ∷ ps) zero past h = (q, refl, let e : begin_now q ≡ past = cc in ap (λ (r : Past). r.number) e)
-number_kept (q ∷ ps) (suc p) past h = number_kept ps p past h
+number_kept : (ps : List ReplicaHistory) (p : ℕ) (replica : ReplicaHistory) → slice_get (map begin_now ps) p ≡ Some replica → (old : ReplicaHistory) × (slice_get ps p ≡ Some old) × (old.number ≡ replica.number)
+number_kept [] p replica h = cc
+number_kept (q ∷ ps) zero replica h = (q, refl, let e : begin_now q ≡ replica = cc in ap (λ (r : ReplicaHistory). r.number) e)
+number_kept (q ∷ ps) (suc p) replica h = number_kept ps p replica h
 
-pub begins_anew : (version : Version) (count : ℕ) (whose : List ℕ) (ps : List Past) → IsNet version count whose ps → IsNet version count [] (map begin_now ps)
+pub begins_anew : (version : Version) (count : ℕ) (whose : List ℕ) (ps : List ReplicaHistory) → IsNet version count whose ps → IsNet version count [] (map begin_now ps)
 begins_anew version count whose ps h =
-    let now = begun version count whose ps h in
+    let now = uncounted version count whose ps h in
     record {
       each = length-map ps begin_now ∙ now.each;
-      numbered = λ p past e. let old = number_kept ps p past e in sym old.2 ∙ now.numbered p old.0 old.1;
+      numbered = λ p replica e. let old = number_kept ps p replica e in sym old.2 ∙ now.numbered p old.0 old.1;
       backed = tt;
       scripts = now.scripts;
       first = now.first;
       runs = subst (λ (As : List State). IsInRun version now.scripts now.first (real As) As × (real As ≡ now.first)) (sym (states_kept ps)) now.runs;
     }
 
-pub course_anew : (version : Version) (names : List (List ℕ)) (whose : List ℕ) (ps : List Past) → course_of version names [] (map begin_now ps) ≡ record (course_of version names whose ps) { earlier = [] }
-course_anew version names whose ps = ap (λ (As : List State). record { names = names; network = of_version version (real As); earlier = [] }) (states_kept ps)
+pub history_anew : (version : Version) (names : List (List ℕ)) (whose : List ℕ) (ps : List ReplicaHistory) → network_history_of version names [] (map begin_now ps) ≡ record (network_history_of version names whose ps) { history = begun (of_version version (network_of ps)) }
+history_anew version names whose ps = ap (λ (As : List State). record { names = names; history = begun (of_version version (real As)) }) (states_kept ps)
 
 -- one more begins
-pub one_more_begins : (ps : List Past) (p : ℕ) (r d : Past) → p < length ps → r ≡ begin_now (get_or (map begin_now (take p ps) ++ drop p ps) p d) → set (map begin_now (take p ps) ++ drop p ps) p r ≡ map begin_now (take (suc p) ps) ++ drop (suc p) ps
+pub one_more_begins : (ps : List ReplicaHistory) (p : ℕ) (r d : ReplicaHistory) → p < length ps → r ≡ begin_now (get_or (map begin_now (take p ps) ++ drop p ps) p d) → set (map begin_now (take p ps) ++ drop p ps) p r ≡ map begin_now (take (suc p) ps) ++ drop (suc p) ps
 one_more_begins [] p r d l h = absurd (omega arith)
-one_more_begins (q ∷ ps) zero r d l h = ap (λ (t : Past). t ∷ ps) h
-one_more_begins (q ∷ ps) (suc p) r d l h = ap (λ (ts : List Past). begin_now q ∷ ts) (one_more_begins ps p r d (omega arith) h)
+one_more_begins (q ∷ ps) zero r d l h = ap (λ (t : ReplicaHistory). t ∷ ps) h
+one_more_begins (q ∷ ps) (suc p) r d l h = ap (λ (ts : List ReplicaHistory). begin_now q ∷ ts) (one_more_begins ps p r d (omega arith) h)
 
 -- all of them, where a call was lent the whole list
-pub all_begin : (ps lent new : List Past) (n : ℕ) → n ≡ length ps → lent ≡ ps → new ≡ map begin_now lent → take n (new ++ drop (length new) ps) ≡ map begin_now ps
+pub all_begin : (ps lent new : List ReplicaHistory) (n : ℕ) → n ≡ length ps → lent ≡ ps → new ≡ map begin_now lent → take n (new ++ drop (length new) ps) ≡ map begin_now ps
 all_begin ps lent new n e l h = grind (arith, common_steps)

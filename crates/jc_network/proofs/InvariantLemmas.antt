@@ -12,9 +12,11 @@ use Rattle.jc_rules.specs.State.{State}
 use Rattle.jc_rules.specs.Step.{Step, Network, StepIn, AfterIn, replica_of}
 use Rattle.jc_rules.specs.Syntax.{Cmd}
 use Rattle.jc_rules.specs.Trace.{Rows}
-use Rattle.jc_replica.specs.ReplicaHistory.{Past, replica_history}
+use Rattle.jc_rules.specs.History.{timeline}
+use Rattle.jc_rules.proofs.HistoryLemmas.{step_back, first_more}
+use Rattle.jc_replica.specs.ReplicaHistory.{ReplicaHistory}
 use Rattle.jc_network.specs.Applied.{applied_ops, IsApplied}
-use Rattle.jc_network.specs.NetworkHistory.{kept_of, network_of, last_state_of, back_one, back_at, earlier_of, course_of, of_version, StepsTo}
+use Rattle.jc_network.specs.NetworkHistory.{kept_of, network_of, back_one, back_at, earlier_of, network_history_of, of_version, StepsTo}
 use Rattle.jc_network.specs.Laws.{starts, IsReached}
 use Rattle.jc_network.specs.Steps.{AllHand, AllOwn, HasReplica, ActsReplica}
 use Rattle.jc_network.specs.Invariant.{HasBegun, IsInRun, AreInRun, NetCanGoBack, AreBacked, AreNumbered, IsNet}
@@ -28,45 +30,16 @@ use Rattle.jc_network.proofs.AbstractLemmas.{seen_is_real}
 use Rattle.jc_network.proofs.RefinesLemmas.{steps_on, of_one}
 use Rattle.jc_replica.specs.Operations.{AreOfOne}
 
-last-end : (A B : State) (As : List State) → last_state_of A (As ++ B ∷ []) ≡ B
-last-end A B [] = refl
-last-end A B (C ∷ As) = last-end C B As
-
-take-end : (B : State) (As : List State) → take (length (As ++ B ∷ []) - 1) (As ++ B ∷ []) ≡ As
-take-end B [] = refl
-take-end B (C ∷ As) = go (length (As ++ B ∷ [])) (some As) (take-end B As)
-  where
-    some : (As : List State) → 0 < length (As ++ B ∷ [])
-    some [] = omega arith
-    some (A ∷ As) = omega arith
-
-    go : (n : ℕ) → 0 < n → take (n - 1) (As ++ B ∷ []) ≡ As → take (suc n - 1) (C ∷ (As ++ B ∷ [])) ≡ C ∷ As
-    go zero l e = absurd (omega (arith, l))
-    go (suc n) l e =
-        let f : suc n - 1 ≡ n = omega arith in
-        let g : suc (suc n) - 1 ≡ suc n = omega arith in
-        let h : take n (As ++ B ∷ []) ≡ As = subst (λ m. take m (As ++ B ∷ []) ≡ As) f e in
-        rw g (ap (λ l2. C ∷ l2) h)
-
 -- what a step led from is what the way back leads to
-back_is : (A B : Past) → A.number ≡ B.number → B.earlier ≡ replica_history A → back_one B ≡ A
-back_is A B n e = λ i. record { number = number i; now = now i; earlier = earlier i }
-  where
-    number : B.number ≡ A.number
-    number = sym n
+back_is : (A B : ReplicaHistory) → A.number ≡ B.number → B.history.earlier ≡ timeline A.history → back_one B ≡ A
+back_is A B n e = λ i. record { number = sym n i; history = step_back A.history B.history e i }
 
-    now : last_state_of B.now B.earlier ≡ A.now
-    now = ap (last_state_of B.now) e ∙ last-end B.now A.now A.earlier
-
-    earlier : take (length B.earlier - 1) B.earlier ≡ A.earlier
-    earlier = ap (λ l. take (length l - 1) l) e ∙ take-end A.now A.earlier
-
-back_at-set : (ps : List Past) (p : ℕ) (A B : Past) → slice_get ps p ≡ Some A → back_one B ≡ A → back_at p (slice_set ps p B) ≡ ps
+back_at-set : (ps : List ReplicaHistory) (p : ℕ) (A B : ReplicaHistory) → slice_get ps p ≡ Some A → back_one B ≡ A → back_at p (slice_set ps p B) ≡ ps
 back_at-set [] p A B e f = cc
 back_at-set (q ∷ ps) zero A B e f = let s : q ≡ A = same_Some q A e in ap (λ x. x ∷ ps) (f ∙ sym s)
 back_at-set (q ∷ ps) (suc p) A B e f = ap (λ l. q ∷ l) (back_at-set ps p A B e f)
 
-back_at-is : (p : ℕ) (ps : List Past) (A : Past) → slice_get ps p ≡ Some A → back_at p ps ≡ slice_set ps p (back_one A)
+back_at-is : (p : ℕ) (ps : List ReplicaHistory) (A : ReplicaHistory) → slice_get ps p ≡ Some A → back_at p ps ≡ slice_set ps p (back_one A)
 back_at-is p [] A e = cc
 back_at-is zero (q ∷ ps) A e = let s : q ≡ A = same_Some q A e in ap (λ x. back_one x ∷ ps) s
 back_at-is (suc p) (q ∷ ps) A e = ap (λ l. q ∷ l) (back_at-is p ps A e)
@@ -75,28 +48,28 @@ not_empty : (A : State) (As : List State) → As ++ A ∷ [] ≢ []
 not_empty A [] e = cc
 not_empty A (B ∷ As) e = cc
 
-numbered_set : (ps : List Past) (p : ℕ) (A B : Past) → slice_get ps p ≡ Some A → B.number ≡ A.number → AreNumbered ps → AreNumbered (slice_set ps p B)
+numbered_set : (ps : List ReplicaHistory) (p : ℕ) (A B : ReplicaHistory) → slice_get ps p ≡ Some A → B.number ≡ A.number → AreNumbered ps → AreNumbered (slice_set ps p B)
 numbered_set ps p A B there same numbered q C e = go (set_other ps p q B)
   where
     go : (q ≡ p) ⊎ (slice_get (slice_set ps p B) q ≡ slice_get ps q) → C.number ≡ q
     go (inl s) =
         let is : B ≡ C = same_Some B C (sym (set_there ps p A B there) ∙ subst (λ n. slice_get (slice_set ps p B) n ≡ Some C) s e) in
-        sym (ap (λ (x : Past). x.number) is) ∙ (same ∙ (numbered p A there ∙ sym s))
+        sym (ap (λ (x : ReplicaHistory). x.number) is) ∙ (same ∙ (numbered p A there ∙ sym s))
     go (inr s) = numbered q C (sym s ∙ e)
 
-run_now : (version : Version) (scripts : List (List Cmd)) (first : List State) (is : List ℕ) (ps : List Past) → AreInRun version scripts first is ps → IsInRun version scripts first (network_of ps) (kept_of ps)
+run_now : (version : Version) (scripts : List (List Cmd)) (first : List State) (is : List ℕ) (ps : List ReplicaHistory) → AreInRun version scripts first is ps → IsInRun version scripts first (network_of ps) (kept_of ps)
 run_now version scripts first [] ps h = h.0
 run_now version scripts first (i ∷ is) ps h = h.0
 
-pub now_in_run : (version : Version) (count : ℕ) (is : List ℕ) (ps : List Past) → (h : IsNet version count is ps) → IsInRun version h.scripts h.first (network_of ps) (kept_of ps)
+pub now_in_run : (version : Version) (count : ℕ) (is : List ℕ) (ps : List ReplicaHistory) → (h : IsNet version count is ps) → IsInRun version h.scripts h.first (network_of ps) (kept_of ps)
 now_in_run version count is ps h = run_now version h.scripts h.first is ps h.runs
 
 -- and reached
-pub now_reached : (version : Version) (count : ℕ) (is : List ℕ) (ps : List Past) → (h : IsNet version count is ps) → IsReached h.scripts (network_of ps)
+pub now_reached : (version : Version) (count : ℕ) (is : List ℕ) (ps : List ReplicaHistory) → (h : IsNet version count is ps) → IsReached h.scripts (network_of ps)
 now_reached version count is ps h = reached version h.scripts h.first (network_of ps) (kept_of ps) (now_in_run version count is ps h)
 
 -- a network has a replica for each name, and at most 64
-pub few_names : (version : Version) (count : ℕ) (is : List ℕ) (ps : List Past) → IsNet version count is ps → (length (network_of ps) ≡ count) × (count ≤ 64)
+pub few_names : (version : Version) (count : ℕ) (is : List ℕ) (ps : List ReplicaHistory) → IsNet version count is ps → (length (network_of ps) ≡ count) × (count ≤ 64)
 few_names version count is ps h =
     let run = now_in_run version count is ps h in
     let led = now_reached version count is ps h in
@@ -119,12 +92,8 @@ versions-push version (M ∷ Ns) N = ap (λ l. of_version version M ∷ l) (vers
 abbrev first_or : Network → List Network → Network
 first_or other Ns = unwrap_or (slice_get Ns 0) other
 
-first_more : (Ns : List Network) (N M other : Network) → first_or other ((Ns ++ N ∷ []) ++ M ∷ []) ≡ first_or N (Ns ++ N ∷ [])
-first_more [] N M other = refl
-first_more (L ∷ Ns) N M other = refl
-
 -- it is the first one of these
-first_is : (version : Version) (scripts : List (List Cmd)) (first : List State) (is : List ℕ) (ps : List Past) → AreInRun version scripts first is ps → first_or (of_version version (network_of ps)) (map (of_version version) (earlier_of is ps) ++ of_version version (network_of ps) ∷ []) ≡ of_version version first
+first_is : (version : Version) (scripts : List (List Cmd)) (first : List State) (is : List ℕ) (ps : List ReplicaHistory) → AreInRun version scripts first is ps → first_or (of_version version (network_of ps)) (map (of_version version) (earlier_of is ps) ++ of_version version (network_of ps) ∷ []) ≡ of_version version first
 first_is version scripts first [] ps h = ap (of_version version) h.1
 first_is version scripts first (i ∷ is) ps h =
     let now = of_version version (network_of ps) in
@@ -133,7 +102,7 @@ first_is version scripts first (i ∷ is) ps h =
     ap (λ (Ns : List Network). first_or now (Ns ++ now ∷ [])) (versions-push version (earlier_of is (back_at i ps)) (network_of (back_at i ps)))
     ∙ (first_more front before now now ∙ first_is version scripts first is (back_at i ps) h.1)
 
-pub has_begun : (version : Version) (names : List (List ℕ)) (is : List ℕ) (ps : List Past) → IsNet version (length names) is ps → HasBegun (course_of version names is ps)
+pub has_begun : (version : Version) (names : List (List ℕ)) (is : List ℕ) (ps : List ReplicaHistory) → IsNet version (length names) is ps → HasBegun (network_history_of version names is ps)
 has_begun version names is ps h =
     let first = first_is version h.scripts h.first is ps h.runs in
     let run = now_in_run version (length names) is ps h in
@@ -148,23 +117,23 @@ has_begun version names is ps h =
 -- ---- a step
 
 -- the network after it
-record IsStepped (version : Version) (scripts : List (List Cmd)) (first : List State) (old new : List Past) (event : Event) (rows : Rows) : Type 0 where
+record IsStepped (version : Version) (scripts : List (List Cmd)) (first : List State) (old new : List ReplicaHistory) (event : Event) (rows : Rows) : Type 0 where
   step : StepIn (of_version version (network_of old)) event (of_version version (network_of new)) rows.rows
   depth : rows.depth ≡ 0
   run : IsInRun version scripts first (network_of new) (kept_of new)
 
-step_of : (version : Version) (scripts : List (List Cmd)) (first : List State) (old new : List Past) (event : Event) (rows : Rows) → Allows event version → IsInRun version scripts first (network_of old) (kept_of old) → AreNumbered old → ActsReplica event old new (Ok rows) → IsStepped version scripts first old new event rows
+step_of : (version : Version) (scripts : List (List Cmd)) (first : List State) (old new : List ReplicaHistory) (event : Event) (rows : Rows) → Allows event version → IsInRun version scripts first (network_of old) (kept_of old) → AreNumbered old → ActsReplica event old new (Ok rows) → IsStepped version scripts first old new event rows
 step_of version scripts first old new event rows allowed run numbered acts =
     let m = acts.moves in
     let p = replica_of event in
     let N = network_of old in
     let asked : IsAsked (kept_of old) event acts.read m.before = record {
       number = numbered p m.before m.there;
-      there = slice_get-map (λ (q : Past). q.now) old p ∙ rw m.there refl;
+      there = slice_get-map (λ (q : ReplicaHistory). q.history.now) old p ∙ rw m.there refl;
       reads = acts.reads;
     } in
     let s = steps_on run.set N (kept_of old) (well scripts N (reached version scripts first N (kept_of old) run)).sets run.seen event acts.read m.before m.after rows asked m.answers in
-    let kept : slice_set (kept_of old) p m.after.now ≡ kept_of new = sym (ap kept_of m.now ∙ map-set _ old p m.after) in
+    let kept : slice_set (kept_of old) p m.after.history.now ≡ kept_of new = sym (ap kept_of m.now ∙ map-set _ old p m.after) in
     let seen = subst (AreSeen s.set s.new) kept s.seen in
     let is : s.new ≡ network_of new = seen_is_real s.set s.new (kept_of new) seen in
     let step : StepIn (of_version version N) event (of_version version (network_of new)) rows.rows =
@@ -184,11 +153,11 @@ step_of version scripts first old new event rows allowed run numbered acts =
     }
 
 -- what holds of a network after a step
-pub record IsAfter (version : Version) (names : List (List ℕ)) (old new : List Past) (whose more : List ℕ) (event : Event) (rows : Rows) : Type 0 where
+pub record IsAfter (version : Version) (names : List (List ℕ)) (old new : List ReplicaHistory) (whose more : List ℕ) (event : Event) (rows : Rows) : Type 0 where
   pub kept : IsNet version (length names) (reverse more) new
-  pub steps : StepsTo (course_of version names (reverse whose) old) event (course_of version names (reverse more) new) rows
+  pub steps : StepsTo (network_history_of version names (reverse whose) old) event (network_history_of version names (reverse more) new) rows
 
-pub stepped : (version : Version) (names : List (List ℕ)) (old new : List Past) (whose more : List ℕ) (event : Event) (rows : Rows) → Allows event version → more ≡ whose ++ replica_of event ∷ [] → IsNet version (length names) (reverse whose) old → ActsReplica event old new (Ok rows) → IsAfter version names old new whose more event rows
+pub stepped : (version : Version) (names : List (List ℕ)) (old new : List ReplicaHistory) (whose more : List ℕ) (event : Event) (rows : Rows) → Allows event version → more ≡ whose ++ replica_of event ∷ [] → IsNet version (length names) (reverse whose) old → ActsReplica event old new (Ok rows) → IsAfter version names old new whose more event rows
 stepped version names old new whose more event rows allowed is inv acts =
     let m = acts.moves in
     let p = replica_of event in
@@ -196,8 +165,8 @@ stepped version names old new whose more event rows allowed is inv acts =
     let s = step_of version inv.scripts inv.first old new event rows allowed (run_now version inv.scripts inv.first (reverse whose) old inv.runs) inv.numbered acts in
     let goes : back_one m.after ≡ m.before = back_is m.before m.after (sym m.answers.number) m.answers.earlier in
     let before : back_at p new ≡ old = ap (back_at p) m.now ∙ back_at-set old p m.before m.after m.there goes in
-    let there : slice_get new p ≡ Some m.after = subst (λ (ps : List Past). slice_get ps p ≡ Some m.after) (sym m.now) (set_there old p m.before m.after m.there) in
-    let can : NetCanGoBack p new = record { past = m.after; there = there; some = λ e. not_empty m.before.now m.before.earlier (sym m.answers.earlier ∙ e) } in
+    let there : slice_get new p ≡ Some m.after = subst (λ (ps : List ReplicaHistory). slice_get ps p ≡ Some m.after) (sym m.now) (set_there old p m.before m.after m.there) in
+    let can : NetCanGoBack p new = record { replica = m.after; there = there; some = λ e. not_empty m.before.history.now m.before.history.earlier (sym m.answers.earlier ∙ e) } in
     let kept : IsNet version (length names) (p ∷ reverse whose) new = record {
       each = ap length m.now ∙ (states_set old p m.after ∙ inv.each);
       numbered = subst AreNumbered (sym m.now) (numbered_set old p m.before m.after m.there m.answers.number inv.numbered);
@@ -219,7 +188,7 @@ stepped version names old new whose more event rows allowed is inv acts =
     }
 
 -- what a loan of the whole list has given back
-pub stepped_whole : (version : Version) (names : List (List ℕ)) (old new : List Past) (n : ℕ) (whose more : List ℕ) (event : Event) (rows : Rows) → Allows event version → n ≡ length old → more ≡ whose ++ replica_of event ∷ [] → IsNet version (length names) (reverse whose) old → ActsReplica event old new (Ok rows) → IsAfter version names old (take n (new ++ drop (length new) old)) whose more event rows
+pub stepped_whole : (version : Version) (names : List (List ℕ)) (old new : List ReplicaHistory) (n : ℕ) (whose more : List ℕ) (event : Event) (rows : Rows) → Allows event version → n ≡ length old → more ≡ whose ++ replica_of event ∷ [] → IsNet version (length names) (reverse whose) old → ActsReplica event old new (Ok rows) → IsAfter version names old (take n (new ++ drop (length new) old)) whose more event rows
 stepped_whole version names old new n whose more event rows allowed len is inv acts =
     let m = acts.moves in
     let count : length new ≡ length old = ap length m.now ∙ states_set old (replica_of event) m.after in
@@ -227,45 +196,45 @@ stepped_whole version names old new n whose more event rows allowed len is inv a
     subst (λ ps. IsAfter version names old ps whose more event rows) (sym whole) (stepped version names old new whose more event rows allowed is inv acts)
 
 -- what the replicas offer may be handed on
-pub all_hand : (version : Version) (count : ℕ) (is : List ℕ) (ps : List Past) → IsNet version count is ps → AllHand ps
-all_hand version count is ps h q past e =
+pub all_hand : (version : Version) (count : ℕ) (is : List ℕ) (ps : List ReplicaHistory) → IsNet version count is ps → AllHand ps
+all_hand version count is ps h q replica e =
     let run = now_in_run version count is ps h in
-    offered_handed h.scripts (network_of ps) (now_reached version count is ps h) run.short run.set (kept_of ps) run.seen q past.now (kept_there ps q past e)
+    offered_handed h.scripts (network_of ps) (now_reached version count is ps h) run.short run.set (kept_of ps) run.seen q replica.history.now (kept_there ps q replica e)
 
 -- what each offers is one replica's own
-pub all_own : (version : Version) (count : ℕ) (is : List ℕ) (ps : List Past) → IsNet version count is ps → AllOwn ps
-all_own version count is ps h q past e =
+pub all_own : (version : Version) (count : ℕ) (is : List ℕ) (ps : List ReplicaHistory) → IsNet version count is ps → AllOwn ps
+all_own version count is ps h q replica e =
     let run = now_in_run version count is ps h in
-    let x = run.seen.each q past.now (kept_there ps q past e) in
+    let x = run.seen.each q replica.history.now (kept_there ps q replica e) in
     subst AreOfOne (sym (ap (λ (S : State). S.send) x.seen.stands.is)) (of_one q x.at.send (λ o c. ((well h.scripts (network_of ps) (now_reached version count is ps h)).sets.sent q x.at o x.there c).0))
 
 -- a replica's stored state represents its state
-pub has_replica : (version : Version) (count : ℕ) (is : List ℕ) (ps : List Past) → IsNet version count is ps → (p : ℕ) (past : Past) → slice_get ps p ≡ Some past → HasReplica (network_of ps) p past
-has_replica version count is ps h p past e =
+pub has_replica : (version : Version) (count : ℕ) (is : List ℕ) (ps : List ReplicaHistory) → IsNet version count is ps → (p : ℕ) (replica : ReplicaHistory) → slice_get ps p ≡ Some replica → HasReplica (network_of ps) p replica
+has_replica version count is ps h p replica e =
     let run = now_in_run version count is ps h in
-    let x = run.seen.each p past.now (kept_there ps p past e) in
-    record { at = x.at; there = x.there; number = h.numbered p past e; kept = x.seen.stands.is }
+    let x = run.seen.each p replica.history.now (kept_there ps p replica e) in
+    record { at = x.at; there = x.there; number = h.numbered p replica e; kept = x.seen.stands.is }
 
 -- of what is lent at a place
-pub if_lent : (ps : List Past) (i : ℕ) (r : Option (Bor Past)) (Q : Past → Type 0) → IsItemAt ps i r → ((a : Past) → slice_get ps i ≡ Some a → Q a) → IfSome r (λ x. Q x.now)
+pub if_lent : (ps : List ReplicaHistory) (i : ℕ) (r : Option (Bor ReplicaHistory)) (Q : ReplicaHistory → Type 0) → IsItemAt ps i r → ((a : ReplicaHistory) → slice_get ps i ≡ Some a → Q a) → IfSome r (λ x. Q x.now)
 if_lent ps i None Q f h = tt
 if_lent ps i (Some x) Q f h = h x.now (slice_get_read ps (length ps) i x.now refl f.3.0 (f.3.1 x.now))
 
-pub some_lent : (ps : List Past) (i : ℕ) (r : Option (Bor Past)) (x : Bor Past) → IsItemAt ps i r → r ≡ Some x → slice_get ps i ≡ Some x.now
+pub some_lent : (ps : List ReplicaHistory) (i : ℕ) (r : Option (Bor ReplicaHistory)) (x : Bor ReplicaHistory) → IsItemAt ps i r → r ≡ Some x → slice_get ps i ≡ Some x.now
 some_lent ps i None x f e = cc
 some_lent ps i (Some y) x f e =
     let same : y ≡ x = same_Some y x e in
-    subst (λ (z : Bor Past). slice_get ps i ≡ Some z.now) same (slice_get_read ps (length ps) i y.now refl f.3.0 (f.3.1 y.now))
+    subst (λ (z : Bor ReplicaHistory). slice_get ps i ≡ Some z.now) same (slice_get_read ps (length ps) i y.now refl f.3.0 (f.3.1 y.now))
 
 -- what a replica has applied
-pub applies : (version : Version) (count : ℕ) (is : List ℕ) (ps : List Past) → IsNet version count is ps → (p : ℕ) (past : Past) (ops : List Op) → slice_get ps p ≡ Some past → ops ≡ applied_ops past.now → IsApplied (network_of ps) p ops
-applies version count is ps h p past ops e found =
+pub applies : (version : Version) (count : ℕ) (is : List ℕ) (ps : List ReplicaHistory) → IsNet version count is ps → (p : ℕ) (replica : ReplicaHistory) (ops : List Op) → slice_get ps p ≡ Some replica → ops ≡ applied_ops replica.history.now → IsApplied (network_of ps) p ops
+applies version count is ps h p replica ops e found =
     let run = now_in_run version count is ps h in
-    subst (IsApplied (network_of ps) p) (sym found) (applied_stands run.set (network_of ps) (kept_of ps) run.seen p past.now (kept_there ps p past e))
+    subst (IsApplied (network_of ps) p) (sym found) (applied_stands run.set (network_of ps) (kept_of ps) run.seen p replica.history.now (kept_there ps p replica e))
 
 -- ---- the way back
 
-pub record IsBefore (version : Version) (count : ℕ) (old new : List Past) (whose fewer : List ℕ) : Type 0 where
+pub record IsBefore (version : Version) (count : ℕ) (old new : List ReplicaHistory) (whose fewer : List ℕ) : Type 0 where
   pub kept : IsNet version count (reverse fewer) new
   pub earlier : earlier_of (reverse whose) old ≡ earlier_of (reverse fewer) new ++ network_of new ∷ []
 
@@ -273,19 +242,19 @@ turned_back : (whose fewer : List ℕ) (p : ℕ) → whose ≡ fewer ++ p ∷ []
 turned_back whose fewer p is = ap reverse is ∙ reverse-append fewer (p ∷ [])
 
 -- the replica whose step was the last is there
-pub can_index : (version : Version) (count : ℕ) (ps : List Past) (p : ℕ) (whose fewer : List ℕ) → whose ≡ fewer ++ p ∷ [] → IsNet version count (reverse whose) ps → p < length ps
+pub can_index : (version : Version) (count : ℕ) (ps : List ReplicaHistory) (p : ℕ) (whose fewer : List ℕ) → whose ≡ fewer ++ p ∷ [] → IsNet version count (reverse whose) ps → p < length ps
 can_index version count ps p whose fewer is inv =
     let h : IsNet version count (p ∷ reverse fewer) ps = subst (λ w. IsNet version count w ps) (turned_back whose fewer p is) inv in
-    slice_get_within ps p h.backed.0.past h.backed.0.there
+    slice_get_within ps p h.backed.0.replica h.backed.0.there
 
 -- and it can go back
-pub goes_back : (version : Version) (count : ℕ) (ps : List Past) (p : ℕ) (a : Past) (whose fewer : List ℕ) → whose ≡ fewer ++ p ∷ [] → IsNet version count (reverse whose) ps → slice_get ps p ≡ Some a → a.earlier ≢ []
+pub goes_back : (version : Version) (count : ℕ) (ps : List ReplicaHistory) (p : ℕ) (a : ReplicaHistory) (whose fewer : List ℕ) → whose ≡ fewer ++ p ∷ [] → IsNet version count (reverse whose) ps → slice_get ps p ≡ Some a → a.history.earlier ≢ []
 goes_back version count ps p a whose fewer is inv there e =
     let h : IsNet version count (p ∷ reverse fewer) ps = subst (λ w. IsNet version count w ps) (turned_back whose fewer p is) inv in
-    let s : h.backed.0.past ≡ a = same_Some h.backed.0.past a (sym h.backed.0.there ∙ there) in
-    h.backed.0.some (ap (λ (q : Past). q.earlier) s ∙ e)
+    let s : h.backed.0.replica ≡ a = same_Some h.backed.0.replica a (sym h.backed.0.there ∙ there) in
+    h.backed.0.some (ap (λ (q : ReplicaHistory). q.history.earlier) s ∙ e)
 
-pub undone : (version : Version) (count : ℕ) (ps : List Past) (p : ℕ) (a b : Past) (whose fewer : List ℕ) → whose ≡ fewer ++ p ∷ [] → IsNet version count (reverse whose) ps → slice_get ps p ≡ Some a → b.number ≡ a.number → replica_history b ≡ a.earlier → IsBefore version count ps (slice_set ps p b) whose fewer
+pub undone : (version : Version) (count : ℕ) (ps : List ReplicaHistory) (p : ℕ) (a b : ReplicaHistory) (whose fewer : List ℕ) → whose ≡ fewer ++ p ∷ [] → IsNet version count (reverse whose) ps → slice_get ps p ≡ Some a → b.number ≡ a.number → timeline b.history ≡ a.history.earlier → IsBefore version count ps (slice_set ps p b) whose fewer
 undone version count ps p a b whose fewer is inv there number was =
     let turned = turned_back whose fewer p is in
     let h : IsNet version count (p ∷ reverse fewer) ps = subst (λ w. IsNet version count w ps) turned inv in
@@ -303,11 +272,11 @@ undone version count ps p a b whose fewer is inv there number was =
     }
 
 -- as networks of the version
-pub versions_before : (version : Version) (count : ℕ) (old new : List Past) (whose fewer : List ℕ) → IsBefore version count old new whose fewer → map (of_version version) (earlier_of (reverse whose) old) ≡ map (of_version version) (earlier_of (reverse fewer) new) ++ of_version version (network_of new) ∷ []
+pub versions_before : (version : Version) (count : ℕ) (old new : List ReplicaHistory) (whose fewer : List ℕ) → IsBefore version count old new whose fewer → map (of_version version) (earlier_of (reverse whose) old) ≡ map (of_version version) (earlier_of (reverse fewer) new) ++ of_version version (network_of new) ∷ []
 versions_before version count old new whose fewer h = ap (map (of_version version)) h.earlier ∙ versions-push version (earlier_of (reverse fewer) new) (network_of new)
 
 -- the same, where the replica says whether it went back
-pub undone_by : (version : Version) (count : ℕ) (ps : List Past) (p : ℕ) (a b : Past) (whose fewer : List ℕ) → whose ≡ fewer ++ p ∷ [] → IsNet version count (reverse whose) ps → slice_get ps p ≡ Some a → b.number ≡ a.number → (result : Bool) → (IsTrue result → replica_history b ≡ a.earlier) → (IsFalse result → (b ≡ a) × (a.earlier ≡ [])) → IsBefore version count ps (slice_set ps p b) whose fewer
+pub undone_by : (version : Version) (count : ℕ) (ps : List ReplicaHistory) (p : ℕ) (a b : ReplicaHistory) (whose fewer : List ℕ) → whose ≡ fewer ++ p ∷ [] → IsNet version count (reverse whose) ps → slice_get ps p ≡ Some a → b.number ≡ a.number → (result : Bool) → (IsTrue result → timeline b.history ≡ a.history.earlier) → (IsFalse result → (b ≡ a) × (a.history.earlier ≡ [])) → IsBefore version count ps (slice_set ps p b) whose fewer
 undone_by version count ps p a b whose fewer is inv there number true was none = undone version count ps p a b whose fewer is inv there number (was refl)
 undone_by version count ps p a b whose fewer is inv there number false was none = absurd (goes_back version count ps p a whose fewer is inv there (none refl).1)
 
@@ -317,12 +286,12 @@ pub length_end : {X : Type 0} (xs : List X) (x : X) → length (xs ++ x ∷ []) 
 length_end [] x = refl
 length_end (y ∷ xs) x = let h : length (xs ++ x ∷ []) ≡ length xs + 1 = length_end xs x in omega (arith, h)
 
-length_earlier : (is : List ℕ) (ps : List Past) → length (earlier_of is ps) ≡ length is
+length_earlier : (is : List ℕ) (ps : List ReplicaHistory) → length (earlier_of is ps) ≡ length is
 length_earlier [] ps = refl
 length_earlier (i ∷ is) ps =
     let h : length (earlier_of is (back_at i ps)) ≡ length is = length_earlier is (back_at i ps) in
     let g : length (earlier_of (i ∷ is) ps) ≡ length (earlier_of is (back_at i ps)) + 1 = length_end (earlier_of is (back_at i ps)) (network_of (back_at i ps)) in
     omega (arith, h, g)
 
-pub as_many : (version : Version) (whose : List ℕ) (ps : List Past) → length (map (of_version version) (earlier_of (reverse whose) ps)) ≡ length whose
+pub as_many : (version : Version) (whose : List ℕ) (ps : List ReplicaHistory) → length (map (of_version version) (earlier_of (reverse whose) ps)) ≡ length whose
 as_many version whose ps = length-map (earlier_of (reverse whose) ps) (of_version version) ∙ length_earlier (reverse whose) ps ∙ length-reverse whose

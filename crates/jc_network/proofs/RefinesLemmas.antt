@@ -17,7 +17,7 @@ use Rattle.jc_vectors.proofs.OwnAreAppliedLemmas.{own_are_applied}
 use Rattle.jc_vectors.proofs.StoredStatesLemmas.{state_stays}
 use Rattle.jc_replica.specs.Answers.{Occurs, RefusedFor}
 use Rattle.jc_replica.specs.Operations.{AreOfOne, AreOwn}
-use Rattle.jc_replica.specs.ReplicaHistory.{Past}
+use Rattle.jc_replica.specs.ReplicaHistory.{ReplicaHistory}
 use Rattle.jc_replica.specs.Refines.{IsSeenAs, HasOwnFor, IsRead, LeadsReplica, grown, queued}
 use Rattle.jc_network.specs.Laws.{starts}
 use Rattle.jc_network.specs.RunInvariant.{IsReplicaAt, IsMadeOp, HasSoundOps}
@@ -216,12 +216,12 @@ module _ (set : List Op) (network kept : List State) (sound : HasSoundOps networ
 
   -- ---- the event
 
-  pub steps_on : (event : Event) (read : List Op) (old new : Past) (rows : Rows) → IsAsked kept event read old → Occurs event read old new rows → StepsOn network event rows (slice_set kept (replica_of event) new.now)
+  pub steps_on : (event : Event) (read : List Op) (old new : ReplicaHistory) (rows : Rows) → IsAsked kept event read old → Occurs event read old new rows → StepsOn network event rows (slice_set kept (replica_of event) new.history.now)
   steps_on event read old new rows asked occurs =
-      let x = seen.each (replica_of event) old.now asked.there in
+      let x = seen.each (replica_of event) old.history.now asked.there in
       let r = reads_stand event read asked.reads in
-      let known = subst (λ n. IsSeenAs set n x.at old.now) (sym asked.number) x.seen in
-      let l = subst (λ n. LeadsReplica set event n r.os x.at new.now rows) asked.number (occurs.leads set r.os x.at known.stands (own_for event set old.number x.at known.own) r.is) in
+      let known = subst (λ n. IsSeenAs set n x.at old.history.now) (sym asked.number) x.seen in
+      let l = subst (λ n. LeadsReplica set event n r.os x.at new.history.now rows) asked.number (occurs.leads set r.os x.at known.stands (own_for event set old.number x.at known.own) r.is) in
       record {
         new = slice_set network (replica_of event) l.now;
         set = grown l.made set;
@@ -238,11 +238,11 @@ module _ (set : List Op) (network kept : List State) (sound : HasSoundOps networ
           is_trace = l.derives.rows;
         };
         depth = l.derives.depth;
-        seen = seen_after (replica_of event) x.at l.now old.now new.now x.there asked.there x.seen l.made (record { stands = l.stands; own = l.own x.seen.own }) l.queue l.fresh;
+        seen = seen_after (replica_of event) x.at l.now old.history.now new.history.now x.there asked.there x.seen l.made (record { stands = l.stands; own = l.own x.seen.own }) l.queue l.fresh;
       }
 
-  pub is_stuck : (event : Event) (read : List Op) (old : Past) (why : Cause) → IsAsked kept event read old → RefusedFor event read old why → IsStuck network event why
+  pub is_stuck : (event : Event) (read : List Op) (old : ReplicaHistory) (why : Cause) → IsAsked kept event read old → RefusedFor event read old why → IsStuck network event why
   is_stuck event read old why asked refuses =
-      let x = seen.each (replica_of event) old.now asked.there in
+      let x = seen.each (replica_of event) old.history.now asked.there in
       let r = reads_stand event read asked.reads in
       refused x.there r.reads (refuses set r.os x.at x.seen.stands r.is)

@@ -13,7 +13,7 @@ use Rattle.jc_rules.specs.State.{State}
 use Rattle.jc_rules.specs.Step.{Network, StepIn, replica_of}
 use Rattle.jc_rules.specs.Syntax.{Cmd}
 use Rattle.jc_replica.specs.Can.{CanOccur}
-use Rattle.jc_replica.specs.ReplicaHistory.{Past}
+use Rattle.jc_replica.specs.ReplicaHistory.{ReplicaHistory}
 use Rattle.jc_network.specs.NetworkHistory.{kept_of, of_version}
 use Rattle.jc_network.specs.Laws.{IsReached}
 
@@ -121,19 +121,19 @@ EnabledHaveSteps =
 -- ---- replicas
 
 -- Of these events just those are appended that the replica can make.
-pub record Lists (past : Past) (asked old new : List Event) : Type 0 where
+pub record Lists (replica : ReplicaHistory) (asked old new : List Event) : Type 0 where
   pub listed : List Event
   pub behind : new ≡ old ++ listed
-  pub those : AreChosen (λ e. CanOccur e past true) (λ e. CanOccur e past false) asked listed
+  pub those : AreChosen (λ e. CanOccur e replica true) (λ e. CanOccur e replica false) asked listed
 
 -- the event's replica can make it, or can't
-pub record TellsEnabled (pasts : List Past) (can : Bool) (event : Event) : Type 0 where
-  pub past : Past
-  pub there : slice_get pasts (replica_of event) ≡ Some past
-  pub answer : CanOccur event past can
+pub record TellsEnabled (replicas : List ReplicaHistory) (can : Bool) (event : Event) : Type 0 where
+  pub replica : ReplicaHistory
+  pub there : slice_get replicas (replica_of event) ≡ Some replica
+  pub answer : CanOccur event replica can
 
 -- Of the candidates just those are listed that their replicas can make.
-abbrev pub AreEnabledAsKnown : Version → List Past → List Event → Type 0
-AreEnabledAsKnown version pasts listed =
-    AreChosen (TellsEnabled pasts true) (TellsEnabled pasts false)
-    (candidates (of_version version (kept_of pasts))) listed
+abbrev pub AreEnabledAsKnown : Version → List ReplicaHistory → List Event → Type 0
+AreEnabledAsKnown version replicas listed =
+    AreChosen (TellsEnabled replicas true) (TellsEnabled replicas false)
+    (candidates (of_version version (kept_of replicas))) listed

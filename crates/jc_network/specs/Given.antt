@@ -7,7 +7,7 @@ use Rattle.jc_rules.specs.Step.{Network, AfterIn}
 use Rattle.jc_rules.specs.Syntax.{Cmd}
 use Rattle.jc_scenario.specs.WellFormed.{Scenario}
 use Rattle.jc_network.specs.declared.fault.Stuck.{Stuck}
-use Rattle.jc_network.specs.NetworkHistory.{Course, of_version}
+use Rattle.jc_network.specs.NetworkHistory.{NetworkHistory, of_version}
 use Rattle.jc_network.specs.Laws.{starts, IsReached}
 use Rattle.jc_network.specs.Refines.{AreShort}
 use Rattle.jc_network.specs.Steps.{stuck_for}
@@ -17,12 +17,13 @@ pub record AreParts (names : List (List ℕ)) (scripts : List (List Cmd)) : Type
   pub each : length scripts ≡ length names
   pub short : AreShort scripts
 
--- The course is before the given events of a scenario with these parts: each replica is at the start of its script,
+-- The network is before the given events of a scenario with these parts: each replica is at the start of its script,
 -- and no step was made.
-pub record IsBeforeGiven (version : Version) (names : List (List ℕ)) (scripts : List (List Cmd)) (c : Course) : Type 0 where
+pub record IsBeforeGiven (version : Version) (names : List (List ℕ)) (scripts : List (List Cmd))
+    (c : NetworkHistory) : Type 0 where
   pub called : c.names ≡ names
-  pub network : c.network ≡ of_version version (starts scripts)
-  pub earlier : c.earlier ≡ []
+  pub network : c.history.now ≡ of_version version (starts scripts)
+  pub earlier : c.history.earlier ≡ []
 
 -- before the given events: each replica with its script, in the scenario's version
 abbrev pub before_given : Scenario → Network
@@ -32,11 +33,11 @@ before_given s = of_version s.version (starts s.scripts)
 abbrev pub IsStart : Scenario → Network → Type 0
 IsStart s network = AfterIn (before_given s) s.given network
 
--- The course is at the start of the scenario, and no step was made.
-pub record IsStarted (s : Scenario) (c : Course) : Type 0 where
+-- The network is at the start of the scenario, and no step was made.
+pub record IsStarted (s : Scenario) (c : NetworkHistory) : Type 0 where
   pub names : c.names ≡ s.names
-  pub start : IsStart s c.network
-  pub earlier : c.earlier ≡ []
+  pub start : IsStart s c.history.now
+  pub earlier : c.history.earlier ≡ []
 
 -- Of the events given in the network, the one of the number `at`, from 1, is the first that is stuck, for this cause.
 pub record IsGivenStuck (first : Network) (given : List Event) (at : ℕ) (event : Event) (why : Cause) : Type 0 where

@@ -11,7 +11,7 @@ use Rattle.jc_rules.specs.Syntax.{Cmd}
 use Rattle.jc_rules.specs.Trace.{Rows}
 use Rattle.jc_replica.specs.Answers.{Occurs, RefusedFor}
 use Rattle.jc_replica.specs.Operations.{AreHanded}
-use Rattle.jc_replica.specs.ReplicaHistory.{Past}
+use Rattle.jc_replica.specs.ReplicaHistory.{ReplicaHistory}
 use Rattle.jc_replica.specs.Refines.{IsSeenAs}
 use Rattle.jc_network.specs.Laws.{starts, IsReached}
 use Rattle.jc_network.specs.RunInvariant.{IsReplicaAt, IsMadeOp}
@@ -28,10 +28,10 @@ pub record AreSeen (set : List Op) (network kept : List State) : Type 0 where
   pub as_many : length network ≡ length kept
   pub each : (p : ℕ) (K : State) → IsReplicaAt kept p K → HasSeen set p network K
 
--- The event is one of the replica whose past this is, and it reads these stored operations.
-pub record IsAsked (kept : List State) (event : Event) (read : List Op) (past : Past) : Type 0 where
-  pub number : past.number ≡ replica_of event
-  pub there : IsReplicaAt kept (replica_of event) past.now
+-- The event is one of this replica, and it reads these stored operations.
+pub record IsAsked (kept : List State) (event : Event) (read : List Op) (replica : ReplicaHistory) : Type 0 where
+  pub number : replica.number ≡ replica_of event
+  pub there : IsReplicaAt kept (replica_of event) replica.history.now
   pub reads : read_by event kept ≡ Some read
 
 -- The event is a step of the network to one that the new stored states represent.
@@ -54,10 +54,10 @@ EventSteps =
     → IsReached scripts network
     → (set : List Op) (kept : List State)
     → AreSeen set network kept
-    → (event : Event) (read : List Op) (old new : Past) (rows : Rows)
+    → (event : Event) (read : List Op) (old new : ReplicaHistory) (rows : Rows)
     → IsAsked kept event read old
     → Occurs event read old new rows
-    → StepsOn network event rows (slice_set kept (replica_of event) new.now)
+    → StepsOn network event rows (slice_set kept (replica_of event) new.history.now)
 
 -- The cause for which a replica's call is refused is one for which the network's event is stuck.
 abbrev pub EventIsStuck : Type 0
@@ -66,7 +66,7 @@ EventIsStuck =
     → IsReached scripts network
     → (set : List Op) (kept : List State)
     → AreSeen set network kept
-    → (event : Event) (read : List Op) (old : Past) (why : Cause)
+    → (event : Event) (read : List Op) (old : ReplicaHistory) (why : Cause)
     → IsAsked kept event read old
     → RefusedFor event read old why
     → IsStuck network event why

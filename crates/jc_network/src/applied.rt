@@ -68,7 +68,7 @@ pub(crate) fn applied_of<S: TreeStore>(
     alloc: Global,
     replica: &Replica<S>,
 ) -> Result<Vec<Op>, AllocError>
-    ensures { IfOk result (λ ops. ops.items ≡ applied_ops replica.now.now) }
+    ensures { IfOk result (λ ops. ops.items ≡ applied_ops replica.now.history.now) }
 {
     let mut applied = Vec::new(alloc);
     let mut own = replica.queue();
@@ -86,7 +86,7 @@ pub(crate) fn applied_ids_of<S: TreeStore>(
     alloc: Global,
     replica: &Replica<S>,
 ) -> Result<Vec<Id>, AllocError>
-    ensures { IfOk result (λ ids. ids.items ≡ identifiers (applied_ops replica.now.now)) }
+    ensures { IfOk result (λ ids. ids.items ≡ identifiers (applied_ops replica.now.history.now)) }
 {
     let mut ids = Vec::new(alloc);
     let mut made = replica.queue();

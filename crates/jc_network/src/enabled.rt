@@ -89,7 +89,7 @@ fn list_applyings<S: TreeStore>(
     replica: &Replica<S>,
     events: &mut Vec<Event>,
 ) -> Result<(), AllocError>
-    ensures { OnOk result (Lists replica.now (applyings replica.now.number replica.now.now.recv)
+    ensures { OnOk result (Lists replica.now (applyings replica.now.number replica.now.history.now.recv)
         events.old.items events.new.items) }
 {
     for op in replica.received() {
@@ -107,7 +107,7 @@ fn list_events<S: TreeStore>(
 ) -> Result<(), AllocError>
     requires few { length replicas.now ≤ 65535 }
     ensures { OnOk result (Lists replica.now
-        (applyings_of (of_version version (kept_of replicas.now)) replica.now.number replica.now.now.recv)
+        (applyings_of (of_version version (kept_of replicas.now)) replica.now.number replica.now.history.now.recv)
         events.old.items events.new.items) }
 {
     let count = replicas.len() as u16;

@@ -9,7 +9,8 @@ ghost use Rattle.jc_network.specs.declared.fault.StartFault.TheVariants as S;
 ghost use Rattle.jc_network.specs.declared.fault.StepFault.TheVariants as E;
 ghost use Rattle.jc_network.specs.declared.fault.Stuck.{Stuck as AnyStuck};
 ghost use Rattle.jc_network.specs.Applied.{IsApplied, AreAppliedIds};
-ghost use Rattle.jc_network.specs.NetworkHistory.{StepsTo, network_history};
+ghost use Rattle.jc_rules.specs.History.{timeline, begun};
+ghost use Rattle.jc_network.specs.NetworkHistory.{StepsTo};
 ghost use Rattle.jc_network.specs.Enabled.{AreEnabled, candidates};
 ghost use Rattle.jc_network.specs.Given.{before_given, AreParts, IsBeforeGiven, IsStarted, IsGivenFault};
 ghost use Rattle.jc_network.specs.Steps.{IsStuckFor, HasReplica};
@@ -44,14 +45,14 @@ pub struct Net {
 
 impl Model for Net {
     ghost use Rattle.std.specs.Prelude.{length, reverse};
-    ghost use Rattle.jc_network.specs.NetworkHistory.{Course, course_code, course_of};
+    ghost use Rattle.jc_network.specs.NetworkHistory.{NetworkHistory, network_history_code, network_history_of};
     ghost use Rattle.jc_network.specs.Invariant.{IsNet};
 
-    ghost Value = { Course };
+    ghost Value = { NetworkHistory };
 
-    ghost coded = { course_code };
+    ghost coded = { network_history_code };
 
-    ghost view = { λ a. course_of a.version a.names.items (reverse a.whose.items) a.replicas.items };
+    ghost view = { λ a. network_history_of a.version a.names.items (reverse a.whose.items) a.replicas.items };
 
     ghost invariant = { λ a. IsNet a.version (length a.names.items) (reverse a.whose.items) a.replicas.items };
 }
@@ -103,12 +104,12 @@ impl Net {
     /// network may have made the events before that one, or before the one for which there was no memory; `undo` takes
     /// them back.
     pub fn lead(&mut self, given: &[Event]) -> Result<(), StartFault>
-        requires new { self.old.earlier ≡ [] }
+        requires new { self.old.history.earlier ≡ [] }
         requires short { length given.now ≤ MAX_EVENTS }
-        ensures led { OnOk result (AfterIn self.old.network given.now self.new.network) }
+        ensures led { OnOk result (AfterIn self.old.history.now given.now self.new.history.now) }
         ensures names { self.new.names ≡ self.old.names }
         ensures stuck { (at : ℕ) (s : AnyStuck) → IsErrOf result (S.Given at s)
-            → IsGivenFault self.old.network given.now at s }
+            → IsGivenFault self.old.history.now given.now at s }
     {
         let mut at = 0u64;
         for event in given {
@@ -126,7 +127,7 @@ impl Net {
     /// Begins at the network now: no step that was made is counted any more, and none can be taken back. It takes no
     /// memory, and gives that of the undo records up.
     pub fn begin(&mut self)
-        ensures { self.new ≡ record self.old { earlier = [] } }
+        ensures { self.new ≡ record self.old { history = begun self.old.history.now } }
     {
         self.whose.clear();
         begin_all(self.replicas.as_mut_slice());
@@ -135,7 +136,7 @@ impl Net {
     /// The replicas' names, in order.
     pub fn names(&self) -> &[Text]
         ensures names { result.now ≡ self.now.names }
-        ensures each { length self.now.network.states ≡ length self.now.names }
+        ensures each { length self.now.history.now.states ≡ length self.now.names }
         ensures few { length self.now.names ≤ MAX_REPLICAS }
     {
         self.names.as_slice()
@@ -143,7 +144,7 @@ impl Net {
 
     /// The version of the scenario, which no step changes.
     pub fn version(&self) -> Version
-        ensures { result ≡ self.now.network.version }
+        ensures { result ≡ self.now.history.now.version }
     {
         self.version
     }
@@ -151,8 +152,8 @@ impl Net {
     /// The number of steps. Events of the version have led from the start of some scripts to the first network, and
     /// others from there to the one now, so the laws of networks hold of it.
     pub fn steps(&self) -> u64
-        ensures steps { result ≡ length self.now.earlier }
-        ensures reached { IsFromStart self.now.network.states }
+        ensures steps { result ≡ length self.now.history.earlier }
+        ensures reached { IsFromStart self.now.history.now.states }
         ensures begun { HasBegun self.now }
     {
         self.whose.len() as u64
@@ -160,8 +161,8 @@ impl Net {
 
     /// The replica with the number, if there is one.
     pub fn replica(&self, p: u16) -> Option<&Replica<ArenaTree>>
-        ensures some { IfSome result (λ replica. HasReplica self.now.network.states p replica.now) }
-        ensures none { IfNone result (length self.now.network.states ≤ p) }
+        ensures some { IfSome result (λ replica. HasReplica self.now.history.now.states p replica.now) }
+        ensures none { IfNone result (length self.now.history.now.states ≤ p) }
     {
         self.replicas.get(usize::from(p))
     }
@@ -171,15 +172,15 @@ impl Net {
     /// 100,000 steps doesn't count here.
     pub fn enabled(&self) -> Result<Vec<Event>, AllocError>
         ensures { IfOk result (λ events.
-            AreEnabled self.now.network (candidates self.now.network) events.items) }
+            AreEnabled self.now.history.now (candidates self.now.history.now) events.items) }
     {
         enabled_in(self.alloc, self.version, &self.replicas)
     }
 
     /// The operations that the replica has applied, by identifier.
     pub fn applied(&self, p: u16) -> Result<Vec<Op>, CompareFault>
-        ensures applied { IfOk result (λ ops. IsApplied self.now.network.states p ops.items) }
-        ensures missing { IsErrOf result C.NoSuchReplica ↔ length self.now.network.states ≤ p }
+        ensures applied { IfOk result (λ ops. IsApplied self.now.history.now.states p ops.items) }
+        ensures missing { IsErrOf result C.NoSuchReplica ↔ length self.now.history.now.states ≤ p }
     {
         match self.replicas.get(usize::from(p)) {
             Some(replica) => Ok(applied_of(self.alloc, replica)?),
@@ -189,8 +190,8 @@ impl Net {
 
     /// The identifiers of the operations that the replica has applied, rising.
     pub fn applied_ids(&self, p: u16) -> Result<Vec<Id>, CompareFault>
-        ensures applied { IfOk result (λ ids. AreAppliedIds self.now.network.states p ids.items) }
-        ensures missing { IsErrOf result C.NoSuchReplica ↔ length self.now.network.states ≤ p }
+        ensures applied { IfOk result (λ ids. AreAppliedIds self.now.history.now.states p ids.items) }
+        ensures missing { IsErrOf result C.NoSuchReplica ↔ length self.now.history.now.states ≤ p }
     {
         match self.replicas.get(usize::from(p)) {
             Some(replica) => Ok(applied_ids_of(self.alloc, replica)?),
@@ -205,8 +206,8 @@ impl Net {
     /// the cause for which the replica refuses it. After a refusal all is as it was.
     pub fn step(&mut self, event: &Event) -> Result<Trace, StepFault>
         ensures made { IfOk result (λ trace. StepsTo self.old event.now self.new trace) }
-        ensures stuck { (s : AnyStuck) → IsErrOf result (E.Stuck s) → IsStuckFor self.old.network event.now s }
-        ensures full { IsErrOf result E.Full ↔ MAX_EVENTS ≤ length self.old.earlier }
+        ensures stuck { (s : AnyStuck) → IsErrOf result (E.Stuck s) → IsStuckFor self.old.history.now event.now s }
+        ensures full { IsErrOf result E.Full ↔ MAX_EVENTS ≤ length self.old.history.earlier }
         ensures kept { OnErr result (self.new ≡ self.old) }
     {
         let steps = self.whose.len();
@@ -223,10 +224,10 @@ impl Net {
 
     /// Takes the last step back, and returns whether there was one. It takes no memory.
     pub fn undo(&mut self) -> bool
-        ensures undone { IsTrue result → self.old.earlier ≡ network_history self.new }
-        ensures version { self.new.network.version ≡ self.old.network.version }
+        ensures undone { IsTrue result → self.old.history.earlier ≡ timeline self.new.history }
+        ensures version { self.new.history.now.version ≡ self.old.history.now.version }
         ensures names { self.new.names ≡ self.old.names }
-        ensures none { IsFalse result → (self.new ≡ self.old) × (self.old.earlier ≡ []) }
+        ensures none { IsFalse result → (self.new ≡ self.old) × (self.old.history.earlier ≡ []) }
     {
         match self.whose.pop() {
             Some(p) => self.replicas[usize::from(p)].undo(),

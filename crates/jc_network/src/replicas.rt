@@ -4,7 +4,7 @@ ghost use Rattle.std.specs.Prelude.{◌≡◌, IfOk, map};
 ghost use Rattle.jc_scenario.specs.Views.{scripts_view};
 ghost use Rattle.jc_network.specs.NetworkHistory.{begin_now};
 ghost use Rattle.jc_network.specs.Refines.{AreShort};
-ghost use Rattle.jc_network.specs.Start.{pasts_from};
+ghost use Rattle.jc_network.specs.Start.{replicas_from};
 
 use jc_replica::Replica;
 use jc_syntax::Cmd;
@@ -17,7 +17,7 @@ pub(crate) fn replicas_of(
     scripts: Vec<Vec<Cmd>>,
 ) -> Result<Vec<Replica<ArenaTree>>, AllocError>
     requires { AreShort (scripts_view scripts.items) }
-    ensures { IfOk result (λ replicas. replicas.items ≡ pasts_from 0 (scripts_view scripts.items)) }
+    ensures { IfOk result (λ replicas. replicas.items ≡ replicas_from 0 (scripts_view scripts.items)) }
 {
     let mut replicas = Vec::new(alloc);
     let mut number: u16 = 0;

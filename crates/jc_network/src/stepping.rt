@@ -143,8 +143,8 @@ fn read_from(
 
 /// The replica receives what it offers itself: all of it, or the operation with the identifier.
 fn read_own(replica: &mut Replica<ArenaTree>, id: Option<Id>) -> Result<Trace, ReplicaFault>
-    requires { AreHanded replica.old.now.send }
-    ensures { AnswersEvent (receiving_event replica.old.number id replica.old.number) replica.old.now.send
+    requires { AreHanded replica.old.history.now.send }
+    ensures { AnswersEvent (receiving_event replica.old.number id replica.old.number) replica.old.history.now.send
         replica.old replica.new result }
 {
     match id {

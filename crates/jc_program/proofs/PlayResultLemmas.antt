@@ -14,7 +14,7 @@ use Rattle.jc_rules.specs.Trace.{Rows}
 use Rattle.jc_printer.specs.Canon.{AreNamed}
 use Rattle.jc_scenario.specs.WellFormed.{Scenario}
 use Rattle.jc_network.specs.declared.fault.Stuck.{Stuck as StuckEvent}
-use Rattle.jc_network.specs.NetworkHistory.{Course, StepsTo}
+use Rattle.jc_network.specs.NetworkHistory.{NetworkHistory, StepsTo}
 use Rattle.jc_network.specs.Given.{IsStarted}
 use Rattle.jc_dump.specs.Dump.{dump_line}
 use Rattle.jc_session.specs.Written.{Stream, Wrote, WrotePart, Written, WrittenInPart}
@@ -56,18 +56,18 @@ shown_more trace names made e rows n count =
     events_text-append trace names 1 made (e, rows) ∙ rw number refl
 
 -- what was played of a scenario from its start, with the dumps and the stuck line, is its run
-pub ran : (trace : Bool) (s : Scenario) (first last : Course) (schedule : List Event) (a b : Stream) (answer : Option StuckEvent) → IsStarted s first → schedule ≡ s.schedule → (h : PlaysAll trace first last schedule a b answer) → (shown : List ℕ) → shown ≡ h.text ++ dumps_text last.names last.network.states ++ stuck_line last.names h.stuck → RanThrough trace s shown (status_of h.stuck)
+pub ran : (trace : Bool) (s : Scenario) (first last : NetworkHistory) (schedule : List Event) (a b : Stream) (answer : Option StuckEvent) → IsStarted s first → schedule ≡ s.schedule → (h : PlaysAll trace first last schedule a b answer) → (shown : List ℕ) → shown ≡ h.text ++ dumps_text last.names last.history.now.states ++ stuck_line last.names h.stuck → RanThrough trace s shown (status_of h.stuck)
 ran trace s first last schedule a b answer from events h shown is =
     let names : last.names ≡ s.names = h.names ∙ from.names in
-    let there = subst (λ (es : List Event). Plays trace first.names first.network es last.network h.stuck h.text) events h.plays in
+    let there = subst (λ (es : List Event). Plays trace first.names first.history.now es last.history.now h.stuck h.text) events h.plays in
     record {
-      start = first.network;
+      start = first.history.now;
       is_start = from.start;
-      last = last.network;
+      last = last.history.now;
       stuck = h.stuck;
       blocks = h.text;
-      plays = subst (λ (ns : List (List ℕ)). Plays trace ns first.network s.schedule last.network h.stuck h.text) from.names there;
-      written = is ∙ ap (λ n. h.text ++ dumps_text n last.network.states ++ stuck_line n h.stuck) names;
+      plays = subst (λ (ns : List (List ℕ)). Plays trace ns first.history.now s.schedule last.history.now h.stuck h.text) from.names there;
+      written = is ∙ ap (λ n. h.text ++ dumps_text n last.history.now.states ++ stuck_line n h.stuck) names;
       ends = refl;
     }
 
@@ -132,59 +132,59 @@ module _ (IsText : List ℕ → Type 0) (held : List ℕ) (a b c : Stream) where
 -- ---- one event
 
 -- without the trace nothing is added
-pub adds_none : (trace : Bool) (old new : Course) (n : ℕ) (e : Event) (rows : Rows) (held : List ℕ) (a : Stream) → trace ≡ false → StepsTo old e new rows → PlaysNext trace old new n e held held a a None
+pub adds_none : (trace : Bool) (old new : NetworkHistory) (n : ℕ) (e : Event) (rows : Rows) (held : List ℕ) (a : Stream) → trace ≡ false → StepsTo old e new rows → PlaysNext trace old new n e held held a a None
 adds_none true old new n e rows held a quiet to = let f : true ≡ false = quiet in cc
 adds_none false old new n e rows held a quiet to = (rows, to, holds_all (held ++ []) held a (sym (append-nil held)))
 
 -- with it, the block is
-pub adds_block : (trace : Bool) (old new : Course) (n : ℕ) (e : Event) (rows : Rows) (names : List (List ℕ)) (shown : List (Rule × ℕ)) (held holds : List ℕ) (a b : Stream) → trace ≡ true → names ≡ new.names → shown ≡ rows.rows → StepsTo old e new rows → WroteAndHolds (held ++ block_text names n e shown) holds a b → PlaysNext trace old new n e held holds a b None
+pub adds_block : (trace : Bool) (old new : NetworkHistory) (n : ℕ) (e : Event) (rows : Rows) (names : List (List ℕ)) (shown : List (Rule × ℕ)) (held holds : List ℕ) (a b : Stream) → trace ≡ true → names ≡ new.names → shown ≡ rows.rows → StepsTo old e new rows → WroteAndHolds (held ++ block_text names n e shown) holds a b → PlaysNext trace old new n e held holds a b None
 adds_block false old new n e rows names shown held holds a b on named is to wrote = let f : false ≡ true = on in cc
 adds_block true old new n e rows names shown held holds a b on named is to wrote =
     let own = subst (λ ns. WroteAndHolds (held ++ block_text ns n e shown) holds a b) (named ∙ to.names) wrote in
     (rows, to, subst (λ rs. WroteAndHolds (held ++ block_text old.names n e rs) holds a b) is own)
 
 -- and where a write of it failed, it is the next one
-pub cuts_block : (trace : Bool) (old new : Course) (n : ℕ) (e : Event) (rows : Rows) (names : List (List ℕ)) (shown : List (Rule × ℕ)) (held : List ℕ) (a b : Stream) → trace ≡ true → names ≡ new.names → shown ≡ rows.rows → StepsTo old e new rows → WrotePart (held ++ block_text names n e shown) a b → (text : List ℕ) × IsNext trace old.names old.network e n text × WrotePart (held ++ text) a b
+pub cuts_block : (trace : Bool) (old new : NetworkHistory) (n : ℕ) (e : Event) (rows : Rows) (names : List (List ℕ)) (shown : List (Rule × ℕ)) (held : List ℕ) (a b : Stream) → trace ≡ true → names ≡ new.names → shown ≡ rows.rows → StepsTo old e new rows → WrotePart (held ++ block_text names n e shown) a b → (text : List ℕ) × IsNext trace old.names old.history.now e n text × WrotePart (held ++ text) a b
 cuts_block false old new n e rows names shown held a b on named is to part = let f : false ≡ true = on in cc
 cuts_block true old new n e rows names shown held a b on named is to part =
     let own = subst (λ ns. WrotePart (held ++ block_text ns n e shown) a b) (named ∙ to.names) part in
-    (block_text old.names n e rows.rows, (rows.rows, new.network, to.step, refl), subst (λ rs. WrotePart (held ++ block_text old.names n e rs) a b) is own)
+    (block_text old.names n e rows.rows, (rows.rows, new.history.now, to.step, refl), subst (λ rs. WrotePart (held ++ block_text old.names n e rs) a b) is own)
 
 -- The event at the place is stuck, after all before it were made, and what is held is sent.
-pub stops_here : (trace : Bool) (old now new : Course) (es : List Event) (i n : ℕ) (d : Event) (made : List Made) (held holds : List ℕ) (a b c : Stream) (s : Option StuckEvent) → is_some s ≡ true → now.names ≡ old.names → GoesBy old.network made now.network → take i es ≡ events_of made → i < length es → WroteAndHolds (events_text trace old.names 1 made) held a b → AreNamed (get_or es i d) (length old.names) → PlaysNext trace now new n (get_or es i d) held holds b c s → (last : Stream) → Wrote holds c last → PlaysAll trace old new es a last s
+pub stops_here : (trace : Bool) (old now new : NetworkHistory) (es : List Event) (i n : ℕ) (d : Event) (made : List Made) (held holds : List ℕ) (a b c : Stream) (s : Option StuckEvent) → is_some s ≡ true → now.names ≡ old.names → GoesBy old.history.now made now.history.now → take i es ≡ events_of made → i < length es → WroteAndHolds (events_text trace old.names 1 made) held a b → AreNamed (get_or es i d) (length old.names) → PlaysNext trace now new n (get_or es i d) held holds b c s → (last : Stream) → Wrote holds c last → PlaysAll trace old new es a last s
 stops_here trace old now new es i n d made held holds a b c None some names goes taken inside wrote named h last sent = let f : false ≡ true = some in cc
 stops_here trace old now new es i n d made held holds a b c (Some s) some names goes taken inside wrote named (stuck, same, kept, still) last sent =
-    let network : new.network ≡ now.network = ap (λ (v : Course). v.network) same in
+    let network : new.history.now ≡ now.history.now = ap (λ (v : NetworkHistory). v.history.now) same in
     let rest : Wrote held b last = subst (λ l. Wrote l b last) kept (subst (λ (o : Stream). Wrote holds o last) still sent) in
     record {
       stuck = Some (get_or es i d, stuck.why);
       text = events_text trace old.names 1 made;
       plays = record {
         made = made;
-        goes = subst (GoesBy old.network made) (sym network) goes;
+        goes = subst (GoesBy old.history.now made) (sym network) goes;
         ends = (drop (i + 1) es, split_here es i made d inside taken, subst (λ N. IsStuckIn N (get_or es i d) stuck.why) (sym network) stuck.stuck);
         shown = refl;
       };
       tells = (stuck.is, named);
-      names = ap (λ (v : Course). v.names) same ∙ names;
+      names = ap (λ (v : NetworkHistory). v.names) same ∙ names;
       written = held_whole (events_text trace old.names 1 made) held a b last wrote rest;
     }
 
 -- what is held and written stays at a stuck event
-pub stuck_holds : (trace : Bool) (now new : Course) (n : ℕ) (e : Event) (text held holds : List ℕ) (a b c : Stream) (s : Option StuckEvent) → is_some s ≡ true → WroteAndHolds text held a b → PlaysNext trace now new n e held holds b c s → WroteAndHolds text holds a c
+pub stuck_holds : (trace : Bool) (now new : NetworkHistory) (n : ℕ) (e : Event) (text held holds : List ℕ) (a b c : Stream) (s : Option StuckEvent) → is_some s ≡ true → WroteAndHolds text held a b → PlaysNext trace now new n e held holds b c s → WroteAndHolds text holds a c
 stuck_holds trace now new n e text held holds a b c None some wrote h = let f : false ≡ true = some in cc
 stuck_holds trace now new n e text held holds a b c (Some s) some wrote (stuck, same, kept, still) =
     subst (λ l. WroteAndHolds text l a c) (sym kept) (subst (λ (o : Stream). WroteAndHolds text held a o) (sym still) wrote)
 
 -- the event at the place was made, after all before it
-pub record GoesOn (trace : Bool) (old new : Course) (es : List Event) (i : ℕ) (holds : List ℕ) (a c : Stream) : Type 0 where
+pub record GoesOn (trace : Bool) (old new : NetworkHistory) (es : List Event) (i : ℕ) (holds : List ℕ) (a c : Stream) : Type 0 where
   pub made : List Made
-  pub goes : GoesBy old.network made new.network
+  pub goes : GoesBy old.history.now made new.history.now
   pub taken : take (i + 1) es ≡ events_of made
   pub wrote : WroteAndHolds (events_text trace old.names 1 made) holds a c
   pub names : new.names ≡ old.names
 
-pub goes_here : (trace : Bool) (old now new : Course) (es : List Event) (i n : ℕ) (d : Event) (made : List Made) (held holds : List ℕ) (a b c : Stream) (s : Option StuckEvent) → is_some s ≡ false → now.names ≡ old.names → n ≡ i + 1 → GoesBy old.network made now.network → take i es ≡ events_of made → i < length es → WroteAndHolds (events_text trace old.names 1 made) held a b → PlaysNext trace now new n (get_or es i d) held holds b c s → GoesOn trace old new es i holds a c
+pub goes_here : (trace : Bool) (old now new : NetworkHistory) (es : List Event) (i n : ℕ) (d : Event) (made : List Made) (held holds : List ℕ) (a b c : Stream) (s : Option StuckEvent) → is_some s ≡ false → now.names ≡ old.names → n ≡ i + 1 → GoesBy old.history.now made now.history.now → take i es ≡ events_of made → i < length es → WroteAndHolds (events_text trace old.names 1 made) held a b → PlaysNext trace now new n (get_or es i d) held holds b c s → GoesOn trace old new es i holds a c
 goes_here trace old now new es i n d made held holds a b c (Some s) none names number goes taken inside wrote h = let f : true ≡ false = none in cc
 goes_here trace old now new es i n d made held holds a b c None none names number goes taken inside wrote (rows, to, appended) =
     let e = get_or es i d in
@@ -194,14 +194,14 @@ goes_here trace old now new es i n d made held holds a b c None none names numbe
     let whole = holds_more (events_text trace old.names 1 made) (event_text trace old.names n e rows.rows) held holds a b c wrote block in
     record {
       made = made ++ m ∷ [];
-      goes = goes_on old.network made now.network e rows.rows new.network goes to.step;
+      goes = goes_on old.history.now made now.history.now e rows.rows new.history.now goes to.step;
       taken = take_more es i d inside ∙ (ap (λ l. l ++ e ∷ []) taken ∙ sym (events_of-append made m));
       wrote = subst (λ t. WroteAndHolds t holds a c) (sym (shown_more trace old.names made e rows.rows n (omega (arith, number, count)))) whole;
       names = to.names ∙ names;
     }
 
 -- all events were made, and what is held is sent
-pub ends_here : (trace : Bool) (old now : Course) (es : List Event) (i : ℕ) (made : List Made) (held : List ℕ) (a b : Stream) → length es ≡ i → now.names ≡ old.names → GoesBy old.network made now.network → take i es ≡ events_of made → WroteAndHolds (events_text trace old.names 1 made) held a b → (last : Stream) → Wrote held b last → PlaysAll trace old now es a last None
+pub ends_here : (trace : Bool) (old now : NetworkHistory) (es : List Event) (i : ℕ) (made : List Made) (held : List ℕ) (a b : Stream) → length es ≡ i → now.names ≡ old.names → GoesBy old.history.now made now.history.now → take i es ≡ events_of made → WroteAndHolds (events_text trace old.names 1 made) held a b → (last : Stream) → Wrote held b last → PlaysAll trace old now es a last None
 ends_here trace old now es i made held a b all names goes taken wrote last sent =
     let whole : es ≡ events_of made = sym (take-length es) ∙ (ap (λ k. take k es) all ∙ taken) in
     record {

@@ -12,7 +12,7 @@ use Rattle.jc_io.specs.Streams.{ConsumesUpTo, IsPrefixUpTo}
 use Rattle.jc_parser.specs.declared.fault.ScenarioFault.{ScenarioFault}
 use Rattle.jc_parser.specs.declared.fault.ScenarioFault.TheVariants.{Memory as NoMemoryRead}
 use Rattle.jc_scenario.specs.WellFormed.{Scenario}
-use Rattle.jc_network.specs.NetworkHistory.{Course}
+use Rattle.jc_network.specs.NetworkHistory.{NetworkHistory}
 use Rattle.jc_network.specs.Given.{IsStart, IsStarted}
 use Rattle.jc_session.specs.Written.{Stream, WrotePart, Written, WrittenInPart}
 use Rattle.jc_session.proofs.WrittenLemmas.{wrote_none}
@@ -55,9 +55,9 @@ next_begun trace names first now es i n made held text a b c d goes taken inside
     )
 
 -- the events that a network began at the start are those of its scenario
-pub begins_from : (trace : Bool) (s : Scenario) (first : Course) (schedule wanted : List Event) (text : List ℕ) → first.names ≡ s.names → schedule ≡ wanted → Begins trace first.names first.network schedule text → Begins trace s.names first.network wanted text
+pub begins_from : (trace : Bool) (s : Scenario) (first : NetworkHistory) (schedule wanted : List Event) (text : List ℕ) → first.names ≡ s.names → schedule ≡ wanted → Begins trace first.names first.history.now schedule text → Begins trace s.names first.history.now wanted text
 begins_from trace s first schedule wanted text names events h =
-    subst (λ (ns : List (List ℕ)). Begins trace ns first.network wanted text) names (subst (λ (es : List Event). Begins trace first.names first.network es text) events h)
+    subst (λ (ns : List (List ℕ)). Begins trace ns first.history.now wanted text) names (subst (λ (es : List Event). Begins trace first.names first.history.now es text) events h)
 
 -- whole texts of what is played from the start, and not all; or nothing
 abbrev pub Unended : Bool → Scenario → List Event → (List State → List ℕ) → List ℕ → Type 0
@@ -69,9 +69,9 @@ module _ (trace : Bool) (s : Scenario) (wanted : List Event) (lines : List State
   unstarted a b same = ([], inl refl, wrote_none a b same)
 
   -- and while events are made
-  pub events_stand : (first : Course) (schedule : List Event) (a b : Stream) → IsStarted s first → schedule ≡ wanted → Written (Begins trace first.names first.network schedule) a b → Written (Unended trace s wanted lines) a b
+  pub events_stand : (first : NetworkHistory) (schedule : List Event) (a b : Stream) → IsStarted s first → schedule ≡ wanted → Written (Begins trace first.names first.history.now schedule) a b → Written (Unended trace s wanted lines) a b
   events_stand first schedule a b from same h =
-      (h.0, inr (first.network, from.start, blocks (begins_from trace s first schedule wanted h.0 from.names same h.1)), h.2)
+      (h.0, inr (first.history.now, from.start, blocks (begins_from trace s first schedule wanted h.0 from.names same h.1)), h.2)
 
 -- ---- views of bytes
 

@@ -5,7 +5,7 @@ use Rattle.jc_rules.specs.Refused.{Cause}
 use Rattle.jc_rules.specs.State.{State}
 use Rattle.jc_scenario.specs.WellFormed.{Scenario}
 use Rattle.jc_network.specs.declared.fault.Stuck.{Stuck as StuckEvent}
-use Rattle.jc_network.specs.NetworkHistory.{Course}
+use Rattle.jc_network.specs.NetworkHistory.{NetworkHistory}
 use Rattle.jc_network.specs.Given.{IsStarted}
 use Rattle.jc_network.specs.Steps.{stuck_for}
 use Rattle.jc_dump.specs.Lines.{stuck_text}
@@ -39,34 +39,34 @@ tells_some names (Some r) None s e t = absurd t
 tells_some names (Some r) (Some x) s e t = (x, refl)
 
 -- What was executed of a schedule, and the lines of the replicas after it, where one text is missing.
-module _ (trace : Bool) (s : Scenario) (wanted : List Event) (lines_text : List (List ℕ) → List State → List ℕ) (first last : Course) (schedule : List Event) (a b : Stream) (answer : Option StuckEvent) (from : IsStarted s first) (events : schedule ≡ wanted) (h : PlaysAll trace first last schedule a b answer) where
+module _ (trace : Bool) (s : Scenario) (wanted : List Event) (lines_text : List (List ℕ) → List State → List ℕ) (first last : NetworkHistory) (schedule : List Event) (a b : Stream) (answer : Option StuckEvent) (from : IsStarted s first) (events : schedule ≡ wanted) (h : PlaysAll trace first last schedule a b answer) where
   abbrev lines : List State → List ℕ
   lines = lines_text s.names
 
   names : last.names ≡ s.names
   names = h.names ∙ from.names
 
-  plays : Plays trace s.names first.network wanted last.network h.stuck h.text
+  plays : Plays trace s.names first.history.now wanted last.history.now h.stuck h.text
   plays =
-      let there = subst (λ (es : List Event). Plays trace first.names first.network es last.network h.stuck h.text) events h.plays in
-      subst (λ (ns : List (List ℕ)). Plays trace ns first.network wanted last.network h.stuck h.text) from.names there
+      let there = subst (λ (es : List Event). Plays trace first.names first.history.now es last.history.now h.stuck h.text) events h.plays in
+      subst (λ (ns : List (List ℕ)). Plays trace ns first.history.now wanted last.history.now h.stuck h.text) from.names there
 
   -- the lines of some replicas are there
-  pub replicas_stand : (c : Stream) → ((n : ℕ) × (n < length last.network.states) × Wrote (lines_text last.names (take n last.network.states)) b c) → Written (Unended trace s wanted lines) a c
+  pub replicas_stand : (c : Stream) → ((n : ℕ) × (n < length last.history.now.states) × Wrote (lines_text last.names (take n last.history.now.states)) b c) → Written (Unended trace s wanted lines) a c
   replicas_stand c (n, inside, wrote) =
-      let own = subst (λ (ns : List (List ℕ)). Wrote (lines_text ns (take n last.network.states)) b c) names wrote in
-      (h.text ++ lines (take n last.network.states), inr (first.network, from.start, first_lines last.network h.stuck n plays inside), wrote_both a b c h.text (lines (take n last.network.states)) h.written own)
+      let own = subst (λ (ns : List (List ℕ)). Wrote (lines_text ns (take n last.history.now.states)) b c) names wrote in
+      (h.text ++ lines (take n last.history.now.states), inr (first.history.now, from.start, first_lines last.history.now h.stuck n plays inside), wrote_both a b c h.text (lines (take n last.history.now.states)) h.written own)
 
   -- those of all, but not the line of the stuck event
-  pub all_stand : (c : Stream) (r : StuckEvent) → answer ≡ Some r → Wrote (lines_text last.names last.network.states) b c → Written (Unended trace s wanted lines) a c
+  pub all_stand : (c : Stream) (r : StuckEvent) → answer ≡ Some r → Wrote (lines_text last.names last.history.now.states) b c → Written (Unended trace s wanted lines) a c
   all_stand c r some wrote =
       let x = tells_some first.names answer h.stuck r some h.tells in
-      let own = subst (λ (ns : List (List ℕ)). Wrote (lines_text ns last.network.states) b c) names wrote in
-      (h.text ++ lines last.network.states, inr (first.network, from.start, all_lines last.network x.0 (subst (λ (o : Option Stuck). Plays trace s.names first.network wanted last.network o h.text) x.1 plays)), wrote_both a b c h.text (lines last.network.states) h.written own)
+      let own = subst (λ (ns : List (List ℕ)). Wrote (lines_text ns last.history.now.states) b c) names wrote in
+      (h.text ++ lines last.history.now.states, inr (first.history.now, from.start, all_lines last.history.now x.0 (subst (λ (o : Option Stuck). Plays trace s.names first.history.now wanted last.history.now o h.text) x.1 plays)), wrote_both a b c h.text (lines last.history.now.states) h.written own)
 
-module _ (trace : Bool) (s : Scenario) (first last : Course) (schedule : List Event) (a b : Stream) (answer : Option StuckEvent) (from : IsStarted s first) (events : schedule ≡ s.schedule) (h : PlaysAll trace first last schedule a b answer) where
+module _ (trace : Bool) (s : Scenario) (first last : NetworkHistory) (schedule : List Event) (a b : Stream) (answer : Option StuckEvent) (from : IsStarted s first) (events : schedule ≡ s.schedule) (h : PlaysAll trace first last schedule a b answer) where
   abbrev dumps : List ℕ
-  dumps = dumps_text last.names last.network.states
+  dumps = dumps_text last.names last.history.now.states
 
   abbrev shown : List ℕ
   shown = h.text ++ dumps ++ stuck_line last.names h.stuck
@@ -108,5 +108,5 @@ module _ (trace : Bool) (s : Scenario) (first last : Course) (schedule : List Ev
       (shown, inr (status_of h.stuck, inl whole), subst (λ t. WrotePart (h.text ++ dumps ++ t) a d) is.0 (part_after a c d (h.text ++ dumps) line (wrote_both a b c h.text dumps h.written dumped) part))
 
 -- a block was begun
-pub playing : (trace : Bool) (s : Scenario) (first : Course) (schedule : List Event) (a b : Stream) → IsStarted s first → schedule ≡ s.schedule → WrittenInPart (Begins trace first.names first.network schedule) a b → WrittenInPart (IsRunDue trace s) a b
-playing trace s first schedule a b from same h = (h.0, inl (first.network, from.start, begins_from trace s first schedule s.schedule h.0 from.names same h.1), h.2)
+pub playing : (trace : Bool) (s : Scenario) (first : NetworkHistory) (schedule : List Event) (a b : Stream) → IsStarted s first → schedule ≡ s.schedule → WrittenInPart (Begins trace first.names first.history.now schedule) a b → WrittenInPart (IsRunDue trace s) a b
+playing trace s first schedule a b from same h = (h.0, inl (first.history.now, from.start, begins_from trace s first schedule s.schedule h.0 from.names same h.1), h.2)

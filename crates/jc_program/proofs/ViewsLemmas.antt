@@ -4,7 +4,7 @@ use Rattle.jc_rules.specs.declared.operation.Event.{Event}
 use Rattle.jc_rules.specs.Refused.{Cause}
 use Rattle.jc_scenario.specs.WellFormed.{Scenario}
 use Rattle.jc_network.specs.declared.fault.Stuck.{Stuck as StuckEvent}
-use Rattle.jc_network.specs.NetworkHistory.{Course}
+use Rattle.jc_network.specs.NetworkHistory.{NetworkHistory}
 use Rattle.jc_network.specs.Given.{IsStarted}
 use Rattle.jc_network.specs.Steps.{stuck_for}
 use Rattle.jc_dump.specs.Lines.{stuck_text}
@@ -32,25 +32,25 @@ no_part names network schedule a b (text, begins, ((n, inside, told), failed)) =
     omega (arith, inside, size)
 
 -- what was played of a scenario from its start, with the documents and the stuck line, is its view
-viewed : (n : ℕ) (s : Scenario) (first last : Course) (schedule : List Event) (a b : Stream) (answer : Option StuckEvent) → IsStarted s first → schedule ≡ take n s.schedule → (h : PlaysAll false first last schedule a b answer) → (shown : List ℕ) → shown ≡ h.text ++ views_text last.names last.network.states ++ stuck_line last.names h.stuck → ViewedThrough n s shown (status_of h.stuck)
+viewed : (n : ℕ) (s : Scenario) (first last : NetworkHistory) (schedule : List Event) (a b : Stream) (answer : Option StuckEvent) → IsStarted s first → schedule ≡ take n s.schedule → (h : PlaysAll false first last schedule a b answer) → (shown : List ℕ) → shown ≡ h.text ++ views_text last.names last.history.now.states ++ stuck_line last.names h.stuck → ViewedThrough n s shown (status_of h.stuck)
 viewed n s first last schedule a b answer from events h shown is =
     let names : last.names ≡ s.names = h.names ∙ from.names in
     let none : h.text ≡ [] = h.plays.shown ∙ no_blocks first.names 1 h.plays.made in
-    let plays : Plays false first.names first.network schedule last.network h.stuck [] = subst (Plays false first.names first.network schedule last.network h.stuck) none h.plays in
-    let there = subst (λ (es : List Event). Plays false first.names first.network es last.network h.stuck []) events plays in
+    let plays : Plays false first.names first.history.now schedule last.history.now h.stuck [] = subst (Plays false first.names first.history.now schedule last.history.now h.stuck) none h.plays in
+    let there = subst (λ (es : List Event). Plays false first.names first.history.now es last.history.now h.stuck []) events plays in
     record {
-      start = first.network;
+      start = first.history.now;
       is_start = from.start;
-      last = last.network;
+      last = last.history.now;
       stuck = h.stuck;
-      plays = subst (λ (ns : List (List ℕ)). Plays false ns first.network (take n s.schedule) last.network h.stuck []) from.names there;
-      written = is ∙ (ap (λ t. t ++ views_text last.names last.network.states ++ stuck_line last.names h.stuck) none ∙ ap (λ ns. views_text ns last.network.states ++ stuck_line ns h.stuck) names);
+      plays = subst (λ (ns : List (List ℕ)). Plays false ns first.history.now (take n s.schedule) last.history.now h.stuck []) from.names there;
+      written = is ∙ (ap (λ t. t ++ views_text last.names last.history.now.states ++ stuck_line last.names h.stuck) none ∙ ap (λ ns. views_text ns last.history.now.states ++ stuck_line ns h.stuck) names);
       ends = refl;
     }
 
-module _ (n : ℕ) (s : Scenario) (first last : Course) (schedule : List Event) (a b : Stream) (answer : Option StuckEvent) (from : IsStarted s first) (events : schedule ≡ take n s.schedule) (h : PlaysAll false first last schedule a b answer) where
+module _ (n : ℕ) (s : Scenario) (first last : NetworkHistory) (schedule : List Event) (a b : Stream) (answer : Option StuckEvent) (from : IsStarted s first) (events : schedule ≡ take n s.schedule) (h : PlaysAll false first last schedule a b answer) where
   abbrev views : List ℕ
-  views = views_text last.names last.network.states
+  views = views_text last.names last.history.now.states
 
   abbrev shown : List ℕ
   shown = h.text ++ views ++ stuck_line last.names h.stuck

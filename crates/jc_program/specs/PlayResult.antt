@@ -4,7 +4,7 @@ use Rattle.jc_rules.specs.declared.operation.Event.{Event}
 use Rattle.jc_rules.specs.Trace.{Rows}
 use Rattle.jc_printer.specs.Canon.{AreNamed}
 use Rattle.jc_network.specs.declared.fault.Stuck.{Stuck as StuckEvent}
-use Rattle.jc_network.specs.NetworkHistory.{Course, StepsTo}
+use Rattle.jc_network.specs.NetworkHistory.{NetworkHistory, StepsTo}
 use Rattle.jc_network.specs.Steps.{IsStuckFor, stuck_for}
 use Rattle.jc_session.specs.Written.{Stream, Wrote}
 use Rattle.jc_program.specs.Texts.{event_text}
@@ -20,12 +20,13 @@ WrittenAndHeld IsText held a b = (text : List ℕ) × IsText text × WroteAndHol
 
 -- The event was executed, and its text follows what was held; or it is stuck, and nothing changed.
 abbrev pub PlaysNext
-    : Bool → Course → Course → ℕ → Event → List ℕ → List ℕ → Stream → Stream → Option StuckEvent → Type 0
+    : Bool → NetworkHistory → NetworkHistory → ℕ → Event → List ℕ → List ℕ → Stream → Stream → Option StuckEvent
+    → Type 0
 PlaysNext trace old new n event held holds a b None =
     (rows : Rows) × StepsTo old event new rows
     × WroteAndHolds (held ++ event_text trace old.names n event rows.rows) holds a b
 PlaysNext trace old new n event held holds a b (Some s) =
-    IsStuckFor old.network event s × (new ≡ old) × (holds ≡ held) × (b ≡ a)
+    IsStuckFor old.history.now event s × (new ≡ old) × (holds ≡ held) × (b ≡ a)
 
 -- the stuck event, its cause, and that its replicas have names
 abbrev pub Tells : List (List ℕ) → Option StuckEvent → Option Stuck → Type 0
@@ -35,11 +36,11 @@ Tells names _ _ = ⊥
 
 -- The schedule was executed to its end or its first stuck event, and the text of its events was written.
 pub record PlaysAll
-    (trace : Bool) (old new : Course) (schedule : List Event)
+    (trace : Bool) (old new : NetworkHistory) (schedule : List Event)
     (a b : Stream) (answer : Option StuckEvent) : Type 0 where
   pub stuck : Option Stuck
   pub text : List ℕ
-  pub plays : Plays trace old.names old.network schedule new.network stuck text
+  pub plays : Plays trace old.names old.history.now schedule new.history.now stuck text
   pub tells : Tells old.names answer stuck
   pub names : new.names ≡ old.names
   pub written : Wrote text a b

@@ -79,13 +79,13 @@ fn journal_next<K: Sink>(
     trace: bool,
     out: &mut K,
 ) -> Result<bool, RunFault>
-    requires room { length net.old.earlier < MAX_EVENTS }
+    requires room { length net.old.history.earlier < MAX_EVENTS }
     requires named { AreNamed numbered.now.event (length net.old.names) }
     ensures ok { IfOk result
         (JournalsNext trace net.old net.new numbered.now (sink K.Sink out.old) (sink K.Sink out.new)) }
     ensures memory { IsErrOf result RunFault.Memory → out.new ≡ out.old }
     ensures write { IsErrOf result RunFault.Write
-        → WrittenInPart (IsNextLine trace net.old.names net.old.network numbered.now)
+        → WrittenInPart (IsNextLine trace net.old.names net.old.history.now numbered.now)
         (sink K.Sink out.old) (sink K.Sink out.new) }
 {
     let before = Before::of(alloc, net, &numbered.event)?;
@@ -113,16 +113,16 @@ fn journal_events<K: Sink>(
     trace: bool,
     out: &mut K,
 ) -> Result<bool, RunFault>
-    requires new { net.old.earlier ≡ [] }
+    requires new { net.old.history.earlier ≡ [] }
     requires short { length events.now ≤ MAX_EVENTS }
     requires named { All (λ e. AreNamed e (length net.old.names)) events.now }
     ensures ok { IfOk result
         (JournalsAll trace given net.old net.new events.now (sink K.Sink out.old) (sink K.Sink out.new)) }
     ensures memory { IsErrOf result RunFault.Memory
-        → Written (JournalBegins trace given net.old.names net.old.network events.now)
+        → Written (JournalBegins trace given net.old.names net.old.history.now events.now)
         (sink K.Sink out.old) (sink K.Sink out.new) }
     ensures write { IsErrOf result RunFault.Write
-        → WrittenInPart (AreLinesDue trace given net.old.names net.old.network events.now)
+        → WrittenInPart (AreLinesDue trace given net.old.names net.old.history.now events.now)
         (sink K.Sink out.old) (sink K.Sink out.new) }
 {
     let mut number = 0u64;

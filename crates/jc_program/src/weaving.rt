@@ -34,11 +34,11 @@ use std::alloc::{AllocError, Global};
 fn woven_texts(alloc: Global, scenario: Scenario, woven: Woven) -> Result<Recording, AllocError>
     requires formed { IsWellFormedScenario (scenario_view scenario) }
     requires woven { (seed : ℕ) × (limit : ℕ) × (limit ≤ MAX_EVENTS)
-        × IsWoven (scenario_view scenario) seed limit woven.schedule.items woven.net.network woven.ends.items }
+        × IsWoven (scenario_view scenario) seed limit woven.schedule.items woven.net.history.now woven.ends.items }
     requires names { woven.net.names ≡ (scenario_view scenario).names }
     requires made { woven.made.items ≡ counts_in woven.schedule.items (scenario_view scenario).names }
     ensures { IfOk result (λ r. (seed limit : ℕ)
-        → IsWoven (scenario_view scenario) seed limit woven.schedule.items woven.net.network woven.ends.items
+        → IsWoven (scenario_view scenario) seed limit woven.schedule.items woven.net.history.now woven.ends.items
         → IsWeaving (scenario_view scenario) seed limit r) }
 {
     let Woven {

@@ -15,11 +15,11 @@ use Rattle.jc_tree.specs.Tree.{Tree}
 use Rattle.jc_replica.specs.declared.record.Record.{Record}
 use Rattle.jc_replica.specs.declared.record.Change.TheVariants as C
 use Rattle.jc_replica.specs.ReadyToStep.{IsReadyToStep}
-use Rattle.jc_replica.specs.ReplicaHistory.{Past, no_rows}
+use Rattle.jc_replica.specs.ReplicaHistory.{ReplicaHistory, no_rows}
 use Rattle.jc_replica.specs.Answers.{Occurs}
 use Rattle.jc_vectors.specs.StoredStates.{RepresentsState}
 use Rattle.jc_replica.specs.Refines.{HasOwnFor, IsRead, LeadsReplica}
-use Rattle.jc_replica.specs.Undo.{Held, held_of, undone_once, state_of, states, past_of}
+use Rattle.jc_replica.specs.Undo.{Held, held_of, undone_once, state_of, states, replica_history_of}
 use Rattle.jc_replica.specs.Invariant.{IsReplica}
 use Rattle.jc_replica.proofs.ScriptLemmas.{drop-more, one_less}
 use Rattle.jc_replica.proofs.RefinesLemmas.{leads_sent, leads_done}
@@ -37,9 +37,9 @@ pub ready_now : {script : List Cmd} {t : Tree} {rs : List Record} {h : Held} →
 ready_now {script} {t} {rs} {h} k = all_last IsReadyToStep (states script (timeline t) rs h) (state_of script h t.now) k.ready
 
 -- the step that a call has made, by what was seen before it
-pub occurs : {script : List Cmd} {t : Tree} {rs : List Record} {h : Held} → IsReplica script t rs h → (number : ℕ) (p : Past) → past_of number script t rs h ≡ p → (event : ℕ → Event) (read : List Op) (u : Tree) (ss : List Record) (h2 : Held) (rows : Rows) → Leading number (event number) read (state_of script h t.now) (state_of script h2 u.now) rows → states script (timeline u) ss h2 ≡ states script (timeline t) rs h ++ state_of script h t.now ∷ [] → Occurs (event p.number) read p (past_of number script u ss h2) rows
+pub occurs : {script : List Cmd} {t : Tree} {rs : List Record} {h : Held} → IsReplica script t rs h → (number : ℕ) (p : ReplicaHistory) → replica_history_of number script t rs h ≡ p → (event : ℕ → Event) (read : List Op) (u : Tree) (ss : List Record) (h2 : Held) (rows : Rows) → Leading number (event number) read (state_of script h t.now) (state_of script h2 u.now) rows → states script (timeline u) ss h2 ≡ states script (timeline t) rs h ++ state_of script h t.now ∷ [] → Occurs (event p.number) read p (replica_history_of number script u ss h2) rows
 occurs {script} k number p v event read u ss h2 rows d e =
-    subst (λ (x : Past). Occurs (event x.number) read x (past_of number script u ss h2) rows) v (record { leads = d; earlier = e; number = refl })
+    subst (λ (x : ReplicaHistory). Occurs (event x.number) read x (replica_history_of number script u ss h2) rows) v (record { leads = d; earlier = e; number = refl })
 
 -- offering
 pub sent_ready : (script : List Cmd) (h h2 : Held) (c : Context) → IsReadyToStep (state_of script h c) → h2 ≡ held_of h.done true h.vars h.ops h.queue (length h.queue) h.recv → IsReadyToStep (state_of script h2 c)

@@ -38,7 +38,7 @@ use Rattle.jc_replica.specs.Answers.{RefusedFor, fault_cause_of, IsEventRefused}
 use Rattle.jc_replica.specs.Invariant.{CanBack, IsReplica}
 use Rattle.jc_replica.specs.NextCommand.{opened}
 use Rattle.jc_replica.specs.Operations.{IsHanded}
-use Rattle.jc_replica.specs.ReplicaHistory.{Past, no_rows}
+use Rattle.jc_replica.specs.ReplicaHistory.{ReplicaHistory, no_rows}
 use Rattle.jc_replica.specs.ReadyToStep.{IsReadyToStep}
 use Rattle.jc_replica.specs.Refines.{LeadsReplica}
 use Rattle.jc_replica.specs.MayApply.{TakesOp}
@@ -232,10 +232,10 @@ pub some_each : (x : Option Cause) (P Q : Cause → Type 0) → ((why : Cause) �
 some_each None P Q f h = tt
 some_each (Some why) P Q f h = f why h
 
-pub refused_all : (old : Past) (i : Id) (k : Op) (c : Context) (fault : ReplicaFault) → c ≡ old.now.tree → TakesOp old.now i k → IfSome (fault_cause_of fault) (λ why. (deps : List Id) → Refused (Operate c (with_deps deps k)) why) → IsEventRefused (E.Apply old.number i) [] old fault
+pub refused_all : (old : ReplicaHistory) (i : Id) (k : Op) (c : Context) (fault : ReplicaFault) → c ≡ old.history.now.tree → TakesOp old.history.now i k → IfSome (fault_cause_of fault) (λ why. (deps : List Id) → Refused (Operate c (with_deps deps k)) why) → IsEventRefused (E.Apply old.number i) [] old fault
 refused_all old i k c fault e t h =
     some_each (fault_cause_of fault) (λ why. (deps : List Id) → Refused (Operate c (with_deps deps k)) why) (RefusedFor (E.Apply old.number i) [] old)
-    (λ why r set os A stands read. refused_taken set old.number A old.now stands i k os why t (subst (λ (x : Context). (deps : List Id) → Refused (Operate x (with_deps deps k)) why) e r)) h
+    (λ why r set os A stands read. refused_taken set old.number A old.history.now stands i k os why t (subst (λ (x : Context). (deps : List Id) → Refused (Operate x (with_deps deps k)) why) e r)) h
 
 -- what isn't found
 pub none_found : {X : Type 0} (o : Option (Bor X)) → ((x : Bor X) → o ≡ Some x → ⊥) → option_copied o ≡ None

@@ -23,9 +23,9 @@ use Rattle.jc_replica.specs.declared.record.Record.{Record}
 use Rattle.jc_replica.specs.Answers.{Occurs}
 use Rattle.jc_replica.specs.Invariant.{CanBack, IsInBounds, IsReplica}
 use Rattle.jc_replica.specs.NextCommand.{MakesOp}
-use Rattle.jc_replica.specs.ReplicaHistory.{Past, no_rows}
+use Rattle.jc_replica.specs.ReplicaHistory.{ReplicaHistory, no_rows}
 use Rattle.jc_replica.specs.ReadyToStep.{IsReadyToStep}
-use Rattle.jc_replica.specs.Undo.{Held, held_of, undone_once, state_of, past_of}
+use Rattle.jc_replica.specs.Undo.{Held, held_of, undone_once, state_of, replica_history_of}
 use Rattle.jc_replica.proofs.InvariantAddLemmas.{not_there, counters_after, greatest_after, is_greatest, still_linked}
 use Rattle.jc_replica.proofs.AnswersLemmas.{Leading, ready_now, occurs}
 use Rattle.jc_replica.proofs.NextCommandSeenLemmas.{leads_made}
@@ -121,7 +121,7 @@ module _ {script : List Cmd} {t : Tree} {rs : List Record} {h : Held} (k : IsRep
     pub made_kept_replica : IsReplica script d ss h2
     made_kept_replica = made_step.kept
 
-    pub made_occurs : (p : Past) → past_of number script t rs h ≡ p → (v w : Rows) → Derives (Operate t.now o) (ToContext d.now) u v → w ≡ at_depth 0 v → Occurs (E.Exec p.number) [] p (past_of number script d ss h2) w
+    pub made_occurs : (p : ReplicaHistory) → replica_history_of number script t rs h ≡ p → (v w : Rows) → Derives (Operate t.now o) (ToContext d.now) u v → w ≡ at_depth 0 v → Occurs (E.Exec p.number) [] p (replica_history_of number script d ss h2) w
     made_occurs p pe v w de we =
         let leading : Leading number (E.Exec number) [] (state_of script h t.now) (state_of script (made_held h o) d.now) (at_depth 0 v) = makes_event number script h t.now d.now o u v ready new k.bounds.sent m de in
         occurs k number p pe E.Exec [] d ss h2 w

@@ -21,10 +21,10 @@ use Rattle.jc_replica.specs.declared.record.Record.{Record}
 use Rattle.jc_replica.specs.Answers.{RefusedFor, Occurs}
 use Rattle.jc_replica.specs.Invariant.{IsReplica, CanBack}
 use Rattle.jc_replica.specs.Operations.{AreInOrder, IsHanded, AreHanded}
-use Rattle.jc_replica.specs.ReplicaHistory.{Past, no_rows}
+use Rattle.jc_replica.specs.ReplicaHistory.{ReplicaHistory, no_rows}
 use Rattle.jc_replica.specs.Received.{AreKeptOf, IsUnited, HasReceived}
 use Rattle.jc_replica.specs.Refines.{IsRead, LeadsReplica}
-use Rattle.jc_replica.specs.Undo.{Held, held_of, undone_once, past_of}
+use Rattle.jc_replica.specs.Undo.{Held, held_of, undone_once, replica_history_of}
 use Rattle.jc_replica.proofs.AnswersLemmas.{ready_now}
 use Rattle.jc_replica.proofs.RefinesLemmas.{left_seen}
 use Rattle.jc_replica.proofs.UndoStepsLemmas.{Stepped, stepped}
@@ -85,16 +85,16 @@ leads_taken set p q i A K stands os read new k rest rows of l found united re =
     }
 
 -- the events, by what was received
-pub receives : (q : ℕ) (read : List Op) (old new : Past) (rest : List Cmd) (rows : Rows) → HasReceived read old new → old.now.left ≡ Yield ∷ rest → rows ≡ pushed no_rows R.Recv → Occurs (E.Recv old.number q) read old new rows
+pub receives : (q : ℕ) (read : List Op) (old new : ReplicaHistory) (rest : List Cmd) (rows : Rows) → HasReceived read old new → old.history.now.left ≡ Yield ∷ rest → rows ≡ pushed no_rows R.Recv → Occurs (E.Recv old.number q) read old new rows
 receives q read old new rest rows h l re = record {
-  leads = λ set os A stands own of. subst (λ (S : State). LeadsReplica set (E.Recv old.number q) old.number os A S rows) (sym h.now) (leads_received set old.number q A old.now stands os read new.now.recv rest rows of l h.united re);
+  leads = λ set os A stands own of. subst (λ (S : State). LeadsReplica set (E.Recv old.number q) old.number os A S rows) (sym h.now) (leads_received set old.number q A old.history.now stands os read new.history.now.recv rest rows of l h.united re);
   earlier = h.earlier;
   number = h.number;
 }
 
-pub takes : (q : ℕ) (i : Id) (read : List Op) (k : Op) (old new : Past) (rest : List Cmd) (rows : Rows) → HasReceived (k ∷ []) old new → op_of i read ≡ Some k → old.now.left ≡ Yield ∷ rest → rows ≡ pushed no_rows R.RecvOne → Occurs (E.Take old.number q i) read old new rows
+pub takes : (q : ℕ) (i : Id) (read : List Op) (k : Op) (old new : ReplicaHistory) (rest : List Cmd) (rows : Rows) → HasReceived (k ∷ []) old new → op_of i read ≡ Some k → old.history.now.left ≡ Yield ∷ rest → rows ≡ pushed no_rows R.RecvOne → Occurs (E.Take old.number q i) read old new rows
 takes q i read k old new rest rows h found l re = record {
-  leads = λ set os A stands own of. subst (λ (S : State). LeadsReplica set (E.Take old.number q i) old.number os A S rows) (sym h.now) (leads_taken set old.number q i A old.now stands os read new.now.recv k rest rows of l found h.united re);
+  leads = λ set os A stands own of. subst (λ (S : State). LeadsReplica set (E.Take old.number q i) old.number os A S rows) (sym h.now) (leads_taken set old.number q i A old.history.now stands os read new.history.now.recv k rest rows of l found h.united re);
   earlier = h.earlier;
   number = h.number;
 }
@@ -104,9 +104,9 @@ pub one_handed : (i : Id) (os : List Op) (k : Op) → op_of i os ≡ Some k → 
 one_handed i os k found h = (found_in IsHanded i os k h found, tt)
 
 -- why one isn't taken in
-pub refused_take : (now : Past) (q : ℕ) (i : Id) (read : List Op) (rest : List Cmd) → now.now.left ≡ Yield ∷ rest → op_of i read ≡ None → RefusedFor (E.Take now.number q i) read now (because F.NotReceived)
+pub refused_take : (now : ReplicaHistory) (q : ℕ) (i : Id) (read : List Op) (rest : List Cmd) → now.history.now.left ≡ Yield ∷ rest → op_of i read ≡ None → RefusedFor (E.Take now.number q i) read now (because F.NotReceived)
 refused_take now q i read rest l none = λ set os A stands of.
-    not_offered (left_seen set A now.now stands ∙ l) (kept_absent i os (ap (op_of i) (sym of.is) ∙ none))
+    not_offered (left_seen set A now.history.now stands ∙ l) (kept_absent i os (ap (op_of i) (sym of.is) ∙ none))
 
 -- what is handed, or else one's own
 pub offered_now : (o : Option (Bor (List Op))) (own : Bor (List Op)) → (unwrap_or o own).now ≡ unwrap_or (option_copied o) own.now
@@ -122,9 +122,9 @@ abbrev pub received_held : Held → List Op → Held
 received_held h new = held_of h.done true h.vars h.ops h.queue h.sent new
 
 -- what was received, by what was seen before it
-pub has_received : {script : List Cmd} {t : Tree} {rs : List Record} {h : Held} (number : ℕ) (p : Past) → past_of number script t rs h ≡ p → (read new : List Op) (ss : List Record) → IsUnited h.recv read new → Stepped script t t rs ss h (received_held h new) → HasReceived read p (past_of number script t ss (received_held h new))
+pub has_received : {script : List Cmd} {t : Tree} {rs : List Record} {h : Held} (number : ℕ) (p : ReplicaHistory) → replica_history_of number script t rs h ≡ p → (read new : List Op) (ss : List Record) → IsUnited h.recv read new → Stepped script t t rs ss h (received_held h new) → HasReceived read p (replica_history_of number script t ss (received_held h new))
 has_received {script} {t} {rs} {h} number p v read new ss united s =
-    subst (λ (x : Past). HasReceived read x (past_of number script t ss (received_held h new))) v
+    subst (λ (x : ReplicaHistory). HasReceived read x (replica_history_of number script t ss (received_held h new))) v
     (record { united = united; now = refl; earlier = s.earlier; number = refl })
 
 pub received_step : {script : List Cmd} {t : Tree} {rs : List Record} {h : Held} → IsReplica script t rs h → (new : List Op) (ss : List Record) (r : Record) → ss ≡ rs ++ r ∷ [] → r.mark.changes ≡ length t.earlier → undone_once r.change (received_held h new) ≡ h → CanBack r.change (received_held h new) → AreInOrder new → AreHanded new → Stepped script t t rs ss h (received_held h new)

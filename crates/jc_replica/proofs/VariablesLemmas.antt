@@ -20,9 +20,9 @@ use Rattle.jc_replica.specs.Answers.{Occurs}
 use Rattle.jc_replica.specs.Variables.{IsBound}
 use Rattle.jc_replica.specs.Invariant.{IsInBounds, IsReplica}
 use Rattle.jc_replica.specs.NextCommand.{Binds}
-use Rattle.jc_replica.specs.ReplicaHistory.{Past, no_rows}
+use Rattle.jc_replica.specs.ReplicaHistory.{ReplicaHistory, no_rows}
 use Rattle.jc_replica.specs.ReadyToStep.{IsReadyToStep}
-use Rattle.jc_replica.specs.Undo.{Held, held_of, undone_once, state_of, past_of, was_bound}
+use Rattle.jc_replica.specs.Undo.{Held, held_of, undone_once, state_of, replica_history_of, was_bound}
 use Rattle.jc_replica.proofs.VariablesSeenLemmas.{leads_bound}
 use Rattle.jc_replica.proofs.AnswersLemmas.{Leading, ready_now, occurs}
 use Rattle.jc_replica.proofs.ScriptLemmas.{drop-more, one_less, one_more_fits}
@@ -75,7 +75,7 @@ module _ {script : List Cmd} {t : Tree} {rs : List Record} {h : Held} (k : IsRep
   pub bound_kept_replica : IsReplica script t ss h2
   bound_kept_replica = bound_step.kept
 
-  pub bound_occurs : (p : Past) → past_of number script t rs h ≡ p → (w : Rows) → w ≡ at_depth 0 u → Occurs (E.Exec p.number) [] p (past_of number script t ss h2) w
+  pub bound_occurs : (p : ReplicaHistory) → replica_history_of number script t rs h ≡ p → (w : Rows) → w ≡ at_depth 0 u → Occurs (E.Exec p.number) [] p (replica_history_of number script t ss h2) w
   bound_occurs p pe w we =
       let leading = binds_event script h vars x b at before is number t.now u m in
       occurs k number p pe E.Exec [] t ss h2 w

@@ -13,17 +13,18 @@ use Rattle.jc_apply.specs.declared.apply.ApplyFault.{ApplyFault}
 use Rattle.jc_apply.specs.declared.apply.ApplyFault.TheVariants as A
 use Rattle.jc_replica.specs.declared.fault.ReplicaFault.{ReplicaFault}
 use Rattle.jc_replica.specs.declared.fault.ReplicaFault.TheVariants as E
-use Rattle.jc_replica.specs.ReplicaHistory.{Past, replica_history}
+use Rattle.jc_rules.specs.History.{timeline}
+use Rattle.jc_replica.specs.ReplicaHistory.{ReplicaHistory}
 use Rattle.jc_vectors.specs.StoredStates.{RepresentsState}
 use Rattle.jc_replica.specs.Refines.{HasOwnFor, IsRead, LeadsReplica}
 
 -- One step: in each sound set the event leads by the table from the state that the old stored state represents to the
 -- one that the new stored state represents, with these rules. The old stored state is kept.
-pub record Occurs (event : Event) (read : List Op) (old new : Past) (rows : Rows) : Type 0 where
+pub record Occurs (event : Event) (read : List Op) (old new : ReplicaHistory) (rows : Rows) : Type 0 where
   pub leads : (set os : List Op) (A : State)
-      → RepresentsState set A old.now → HasOwnFor event set old.number A → IsRead set os read
-      → LeadsReplica set event old.number os A new.now rows
-  pub earlier : new.earlier ≡ replica_history old
+      → RepresentsState set A old.history.now → HasOwnFor event set old.number A → IsRead set os read
+      → LeadsReplica set event old.number os A new.history.now rows
+  pub earlier : new.history.earlier ≡ timeline old.history
   pub number : new.number ≡ old.number
 
 -- the cause in the table, none for want of memory
@@ -56,17 +57,17 @@ apply_cause A.NotInList = Some (because F.NotInList)
 apply_cause A.Memory = None
 
 -- In each sound set the state that is represented refuses the event for this cause.
-abbrev pub RefusedFor : Event → List Op → Past → Cause → Type 0
+abbrev pub RefusedFor : Event → List Op → ReplicaHistory → Cause → Type 0
 RefusedFor event read old why =
     (set os : List Op) (A : State)
-    → RepresentsState set A old.now → IsRead set os read
+    → RepresentsState set A old.history.now → IsRead set os read
     → Refused (Occur A event os) why
 
 -- the event is refused for the fault's cause, unless memory was refused
-abbrev pub IsEventRefused : Event → List Op → Past → ReplicaFault → Type 0
+abbrev pub IsEventRefused : Event → List Op → ReplicaHistory → ReplicaFault → Type 0
 IsEventRefused event read old fault = IfSome (fault_cause_of fault) (λ why. RefusedFor event read old why)
 
 -- A call makes its event, or it is refused; then all is as it was.
-abbrev pub AnswersEvent : Event → List Op → Past → Past → Result Rows ReplicaFault → Type 0
+abbrev pub AnswersEvent : Event → List Op → ReplicaHistory → ReplicaHistory → Result Rows ReplicaFault → Type 0
 AnswersEvent event read old new (Ok rows) = Occurs event read old new rows
 AnswersEvent event read old new (Err fault) = (new ≡ old) × IsEventRefused event read old fault

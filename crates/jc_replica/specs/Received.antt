@@ -9,7 +9,8 @@ use Rattle.jc_rules.specs.Sound.{IsSound}
 use Rattle.jc_rules.specs.Table.{op_of, with_op, both}
 use Rattle.jc_vectors.specs.StoredStates.{stored_op}
 use Rattle.jc_replica.specs.Operations.{identifiers, AreInOrder, AreOfOne}
-use Rattle.jc_replica.specs.ReplicaHistory.{Past, replica_history}
+use Rattle.jc_rules.specs.History.{timeline}
+use Rattle.jc_replica.specs.ReplicaHistory.{ReplicaHistory}
 
 -- the operation with the identifier is there
 pub record IsOpAt (i : Id) (os : List Op) (n : ℕ) : Type 0 where
@@ -41,10 +42,10 @@ IsUnited old read new =
     (set : List Op) → IsSound set → AreKeptOf set old → AreKeptOf set read → AreOfOne read → new ≡ both old read
 
 -- these were received: one step adds them to what was received before
-pub record HasReceived (read : List Op) (old new : Past) : Type 0 where
-  pub united : IsUnited old.now.recv read new.now.recv
-  pub now : new.now ≡ record old.now { acted = true; recv = new.now.recv }
-  pub earlier : new.earlier ≡ replica_history old
+pub record HasReceived (read : List Op) (old new : ReplicaHistory) : Type 0 where
+  pub united : IsUnited old.history.now.recv read new.history.now.recv
+  pub now : new.history.now ≡ record old.history.now { acted = true; recv = new.history.now.recv }
+  pub earlier : new.history.earlier ≡ timeline old.history
   pub number : new.number ≡ old.number
 
 -- No operation of the replica is missing up to the counter: the operation that has it is there, and so are all of the

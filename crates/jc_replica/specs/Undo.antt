@@ -17,7 +17,7 @@ use Rattle.jc_cursor.specs.Bounds.{bound_of}
 use Rattle.jc_replica.specs.declared.record.Change.{Change}
 use Rattle.jc_replica.specs.declared.record.Change.TheVariants as C
 use Rattle.jc_replica.specs.declared.record.Record.{Record}
-use Rattle.jc_replica.specs.ReplicaHistory.{Past}
+use Rattle.jc_replica.specs.ReplicaHistory.{ReplicaHistory}
 
 -- What a replica holds beside its script and its document: the number of commands that have ended, whether a yield
 -- event was made, the variables, the identifiers applied, the operations made and how many of them are offered, and
@@ -88,6 +88,9 @@ states script contents [] h = []
 states script contents (r ∷ rs) h =
     state_of script (steps_undone (r ∷ rs) h) (content_at contents r.mark.changes) ∷ states script contents rs h
 
-abbrev pub past_of : ℕ → List Cmd → Tree → List Record → Held → Past
-past_of number script t steps h =
-    record { number = number; now = state_of script h t.now; earlier = states script (timeline t) steps h }
+abbrev pub replica_history_of : ℕ → List Cmd → Tree → List Record → Held → ReplicaHistory
+replica_history_of number script t steps h =
+    record {
+      number = number;
+      history = record { now = state_of script h t.now; earlier = states script (timeline t) steps h };
+    }

@@ -16,7 +16,7 @@ impl<S: TreeStore> Replica<S> {
     /// The received operation with the identifier. A yield comes next, and all that the operation depends on was
     /// applied, but not the operation itself.
     pub(crate) fn takes(&self, id: Id) -> Result<&Op, ReplicaFault>
-        ensures ok { IfOk result (λ op. TakesOp self.now.now id op.now) }
+        ensures ok { IfOk result (λ op. TakesOp self.now.history.now id op.now) }
         ensures err { IfErr result (λ f. IsEventRefused (E.Apply self.now.number id) [] self.now f) }
     {
         self.at_yield()?;

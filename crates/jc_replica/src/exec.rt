@@ -96,8 +96,8 @@ impl<S: TreeStore> Replica<S> {
     /// Whether the next command binds a variable; else it makes an operation. Where there is none, or
     /// it is `yield`, the fault.
     pub(crate) fn binds_next(&self) -> Result<bool, ReplicaFault>
-        ensures binds { IfOk result (λ b. IsTrue b → BindsNext self.now.now.left) }
-        ensures makes { IfOk result (λ b. IsFalse b → MakesNext self.now.now.left) }
+        ensures binds { IfOk result (λ b. IsTrue b → BindsNext self.now.history.now.left) }
+        ensures makes { IfOk result (λ b. IsFalse b → MakesNext self.now.history.now.left) }
         ensures err { IfErr result (λ f. IsEventRefused (E.Exec self.now.number) [] self.now f) }
     {
         if self.done == self.script.len() {
@@ -112,8 +112,8 @@ impl<S: TreeStore> Replica<S> {
 
     /// The variable that the next command binds, and what it is bound to.
     pub(crate) fn bound_next(&self, trace: &mut Trace) -> Result<(Text, Bound), ReplicaFault>
-        requires { BindsNext self.now.now.left }
-        ensures ok { IfOk result (λ var. Binds self.now.now var.0 (bound_of var.1) trace.old trace.new) }
+        requires { BindsNext self.now.history.now.left }
+        ensures ok { IfOk result (λ var. Binds self.now.history.now var.0 (bound_of var.1) trace.old trace.new) }
         ensures err { IfErr result (λ f. IsEventRefused (E.Exec self.now.number) [] self.now f) }
     {
         let Cmd::Let(name, expr) = &self.script[self.done] else {
@@ -128,7 +128,7 @@ impl<S: TreeStore> Replica<S> {
 
     /// Runs the next command, which binds a variable.
     fn bind(&mut self) -> Result<Trace, ReplicaFault>
-        requires { BindsNext self.old.now.left }
+        requires { BindsNext self.old.history.now.left }
         ensures { AnswersEvent (E.Exec self.old.number) [] self.old self.new result }
     {
         let mut trace = Trace::new(self.alloc);
@@ -145,8 +145,8 @@ impl<S: TreeStore> Replica<S> {
 
     /// The operation that the next command makes.
     pub(crate) fn make_op(&self, trace: &mut Trace) -> Result<Op, ReplicaFault>
-        requires { MakesNext self.now.now.left }
-        ensures ok { IfOk result (λ op. MakesOp self.now.now self.now.number op trace.old trace.new) }
+        requires { MakesNext self.now.history.now.left }
+        ensures ok { IfOk result (λ op. MakesOp self.now.history.now self.now.number op trace.old trace.new) }
         ensures err { IfErr result (λ f. IsEventRefused (E.Exec self.now.number) [] self.now f) }
     {
         let command = &self.script[self.done];
@@ -178,7 +178,7 @@ impl<S: TreeStore> Replica<S> {
 
     /// Runs the next command, which makes an operation.
     fn make(&mut self) -> Result<Trace, ReplicaFault>
-        requires { MakesNext self.old.now.left }
+        requires { MakesNext self.old.history.now.left }
         ensures { AnswersEvent (E.Exec self.old.number) [] self.old self.new result }
     {
         let mut trace = Trace::new(self.alloc);

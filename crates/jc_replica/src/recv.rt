@@ -35,8 +35,9 @@ impl<S: TreeStore> Replica<S> {
 
     /// Receives what the replica itself offers, as `recv` does.
     pub fn recv_own(&mut self) -> Result<Trace, ReplicaFault>
-        requires { AreHanded self.old.now.send }
-        ensures { AnswersEvent (E.Recv self.old.number self.old.number) self.old.now.send self.old self.new result }
+        requires { AreHanded self.old.history.now.send }
+        ensures { AnswersEvent (E.Recv self.old.number self.old.number) self.old.history.now.send
+            self.old self.new result }
     {
         self.at_yield()?;
         Ok(self.receive(Rule::Recv, None)?)
@@ -63,8 +64,9 @@ impl<S: TreeStore> Replica<S> {
 
     /// Receives one operation of what the replica itself offers, as `recv_one` does.
     pub fn recv_one_own(&mut self, id: Id) -> Result<Trace, ReplicaFault>
-        requires { AreHanded self.old.now.send }
-        ensures { AnswersEvent (E.Take self.old.number self.old.number id) self.old.now.send self.old self.new result }
+        requires { AreHanded self.old.history.now.send }
+        ensures { AnswersEvent (E.Take self.old.number self.old.number id) self.old.history.now.send
+            self.old self.new result }
     {
         self.at_yield()?;
         let Some(op) = find(self.sent(), id) else {
@@ -78,10 +80,10 @@ impl<S: TreeStore> Replica<S> {
     /// After a refusal all is as it was.
     fn receive(&mut self, rule: Rule, offered: Option<&[Op]>) -> Result<Trace, AllocError>
         requires order { IfSome offered (λ ops. AreInOrder ops.now) }
-        requires handed { AreHanded (unwrap_or (option_copied offered) self.old.now.send) }
+        requires handed { AreHanded (unwrap_or (option_copied offered) self.old.history.now.send) }
         ensures trace { IfOk result (λ trace. trace ≡ pushed no_rows rule) }
         ensures received { OnOk result
-            (HasReceived (unwrap_or (option_copied offered.entry) self.old.now.send) self.old self.new) }
+            (HasReceived (unwrap_or (option_copied offered.entry) self.old.history.now.send) self.old self.new) }
         ensures err { OnErr result (self.new ≡ self.old) }
     {
         let mut trace = Trace::new(self.alloc);

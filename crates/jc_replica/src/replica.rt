@@ -1,6 +1,7 @@
 //! A replica's type: its state, and an undo record for each step. The other files have its events.
 
 ghost use Rattle.std.specs.Prelude.{◌≡◌, ◌≤◌, [], length, map};
+ghost use Rattle.jc_rules.specs.History.{begun};
 ghost use Rattle.jc_rules.specs.declared.limits.TheConstants.{MAX_COMMANDS};
 ghost use Rattle.jc_rules.specs.Context.{empty};
 ghost use Rattle.jc_rules.specs.State.{start};
@@ -44,15 +45,15 @@ impl<S: TreeStore> Model for Replica<S> {
     ghost use Rattle.std.specs.Prelude.{map};
     ghost use Rattle.jc_syntax.specs.Trees.{cmd_of};
     ghost use Rattle.jc_cursor.specs.Bounds.{vars_of};
-    ghost use Rattle.jc_replica.specs.ReplicaHistory.{Past, past_code};
-    ghost use Rattle.jc_replica.specs.Undo.{past_of, held_of};
+    ghost use Rattle.jc_replica.specs.ReplicaHistory.{ReplicaHistory, replica_history_code};
+    ghost use Rattle.jc_replica.specs.Undo.{replica_history_of, held_of};
     ghost use Rattle.jc_replica.specs.Invariant.{IsReplica};
 
-    ghost Value = { Past };
+    ghost Value = { ReplicaHistory };
 
-    ghost coded = { past_code };
+    ghost coded = { replica_history_code };
 
-    ghost view = { λ a. past_of a.number (map cmd_of a.script.items) (S.tree a.store) a.steps.items
+    ghost view = { λ a. replica_history_of a.number (map cmd_of a.script.items) (S.tree a.store) a.steps.items
         (held_of a.done a.acted (vars_of a.vars.items) a.ops a.queue.items a.sent a.recv) };
 
     ghost invariant = { λ a. IsReplica (map cmd_of a.script.items) (S.tree a.store) a.steps.items
@@ -63,8 +64,8 @@ impl<S: TreeStore> Replica<S> {
     /// The replica at its start.
     pub fn new(alloc: Global, number: u16, script: Vec<Cmd>, store: S) -> Self
         requires short { length script.items ≤ MAX_COMMANDS }
-        requires empty { S.tree store ≡ record { now = empty; earlier = [] } }
-        ensures { result ≡ record { number = number; now = start (map cmd_of script.items); earlier = [] } }
+        requires empty { S.tree store ≡ begun empty }
+        ensures { result ≡ record { number = number; history = begun (start (map cmd_of script.items)) } }
     {
         Replica {
             number,
@@ -91,35 +92,35 @@ impl<S: TreeStore> Replica<S> {
 
     /// The commands left.
     pub fn left(&self) -> &[Cmd]
-        ensures { map cmd_of result.now ≡ self.now.now.left }
+        ensures { map cmd_of result.now ≡ self.now.history.now.left }
     {
         &self.script[self.done..]
     }
 
     /// Whether an event of the yield was made.
     pub fn acted(&self) -> bool
-        ensures { result ≡ self.now.now.acted }
+        ensures { result ≡ self.now.history.now.acted }
     {
         self.acted
     }
 
     /// The variables and what they are bound to, by name.
     pub fn vars(&self) -> &[(Text, Bound)]
-        ensures { vars_of result.now ≡ self.now.now.vars }
+        ensures { vars_of result.now ≡ self.now.history.now.vars }
     {
         self.vars.as_slice()
     }
 
     /// The identifiers of the operations applied.
     pub fn ops(&self) -> &IdSet
-        ensures { result.now ≡ self.now.now.ops }
+        ensures { result.now ≡ self.now.history.now.ops }
     {
         &self.ops
     }
 
     /// The operations made, by identifier.
     pub fn queue(&self) -> &[Op]
-        ensures queue { result.now ≡ self.now.now.queue }
+        ensures queue { result.now ≡ self.now.history.now.queue }
         ensures order { AreInOrder result.now }
     {
         self.queue.as_slice()
@@ -127,7 +128,7 @@ impl<S: TreeStore> Replica<S> {
 
     /// The operations offered, by identifier. They are a prefix of those made.
     pub fn sent(&self) -> &[Op]
-        ensures sent { result.now ≡ self.now.now.send }
+        ensures sent { result.now ≡ self.now.history.now.send }
         ensures order { AreInOrder result.now }
     {
         &self.queue[..self.sent]
@@ -135,7 +136,7 @@ impl<S: TreeStore> Replica<S> {
 
     /// The operations received, by identifier.
     pub fn received(&self) -> &[Op]
-        ensures received { result.now ≡ self.now.now.recv }
+        ensures received { result.now ≡ self.now.history.now.recv }
         ensures order { AreInOrder result.now }
     {
         self.recv.as_slice()
@@ -143,7 +144,7 @@ impl<S: TreeStore> Replica<S> {
 
     /// The store with the document.
     pub fn tree(&self) -> &S
-        ensures { (S.tree result.now).now ≡ self.now.now.tree }
+        ensures { (S.tree result.now).now ≡ self.now.history.now.tree }
     {
         &self.store
     }

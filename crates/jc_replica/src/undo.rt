@@ -1,7 +1,7 @@
 //! The way back: a replica's last step is taken back by its undo record, or no step can be any more.
 
 ghost use Rattle.std.specs.Prelude.{◌≡◌, ◌-◌, [], length, take, IsTrue, IsFalse};
-ghost use Rattle.jc_replica.specs.ReplicaHistory.{replica_history};
+ghost use Rattle.jc_rules.specs.History.{timeline, begun};
 
 use crate::record::{Change, Record};
 use crate::replica::Replica;
@@ -20,8 +20,8 @@ fn drop_last(queue: &mut Vec<Op>)
 impl<S: TreeStore> Replica<S> {
     /// Takes the last step back, and returns whether there was one. It takes no memory.
     pub fn undo(&mut self) -> bool
-        ensures undone { IsTrue result → replica_history self.new ≡ self.old.earlier }
-        ensures none { IsFalse result → (self.new ≡ self.old) × (self.old.earlier ≡ []) }
+        ensures undone { IsTrue result → timeline self.new.history ≡ self.old.history.earlier }
+        ensures none { IsFalse result → (self.new ≡ self.old) × (self.old.history.earlier ≡ []) }
         ensures number { self.new.number ≡ self.old.number }
     {
         let Some(Record { mark, change }) = self.steps.pop() else {
@@ -58,9 +58,10 @@ impl<S: TreeStore> Replica<S> {
         }
         true
     }
+
     /// Begins at the state now: no step that was made can be taken back any more. It takes no memory.
     pub fn begin(&mut self)
-        ensures { self.new ≡ record self.old { earlier = [] } }
+        ensures { self.new ≡ record self.old { history = begun self.old.history.now } }
     {
         self.steps.clear();
         self.store.forget_marks();

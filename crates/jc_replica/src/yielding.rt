@@ -29,7 +29,7 @@ pub fn is_yield(command: &Cmd) -> bool
 impl<S: TreeStore> Replica<S> {
     /// Ok where the next command is `yield`; else the fault for which each event of a yield is refused.
     pub(crate) fn at_yield(&self) -> Result<(), ReplicaFault>
-        ensures ok { IfOk result (λ _. (rest : List AnyCmd) × (self.now.now.left ≡ Yield ∷ rest)) }
+        ensures ok { IfOk result (λ _. (rest : List AnyCmd) × (self.now.history.now.left ≡ Yield ∷ rest)) }
         ensures err { IfErr result (λ f. (event : AnyEvent) → (read : List AnyOp)
             → IsYieldEvent event → IsEventRefused event read self.now f) }
     {

@@ -19,7 +19,7 @@ use Rattle.jc_rules.proofs.IdsLemmas.{same_id-self, same_id-true}
 use Rattle.jc_rules.proofs.RepresentationLemmas.{looked_up, counters_tell, subset_both}
 use Rattle.jc_vectors.specs.StoredStates.{stored_op, stored_state, AreOf}
 use Rattle.jc_vectors.proofs.ApplyStandsLemmas.{deps_closed}
-use Rattle.jc_replica.specs.ReplicaHistory.{Past}
+use Rattle.jc_replica.specs.ReplicaHistory.{ReplicaHistory}
 use Rattle.jc_network.specs.Laws.{starts, ops_held}
 use Rattle.jc_network.specs.Steps.{HasReplica}
 use Rattle.jc_network.specs.RunInvariant.{IsWell}
@@ -110,8 +110,8 @@ module _ (N : List State) (w : IsWell N) (p : ℕ) (A : State) (there : slice_ge
   kept_chosen n q phase (c ∷ rest) = ap (λ y. Some (cond (is_yield c) y (E.Exec q, P.Start))) (kept_at_yield n q phase)
 
 -- the choice of the stored state is that of the network
-pub chosen_of_kept : (N : List State) (p : ℕ) (past : Past) (phase : Phase) → IsFromStart N → HasReplica N p past → chosen_by (length N) past.number past.now phase past.now.left ≡ choice N p phase
-chosen_of_kept N p past phase run has =
+pub chosen_of_kept : (N : List State) (p : ℕ) (replica : ReplicaHistory) (phase : Phase) → IsFromStart N → HasReplica N p replica → chosen_by (length N) replica.number replica.history.now phase replica.history.now.left ≡ choice N p phase
+chosen_of_kept N p replica phase run has =
     let well : IsWell N = after_well (starts run.0) run.1.0 N (start_well run.0) run.1.1 in
     (λ n. chosen_by (length N) (has.number n) (has.kept n) phase (has.kept n).left)
     ∙ (kept_chosen N well p has.at has.there (length N) p phase has.at.left

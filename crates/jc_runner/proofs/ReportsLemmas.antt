@@ -193,7 +193,7 @@ reported_at : (bench : Bench) (limit : ℕ) (r : Report) (ws : List Worked)
     → All (λ e. replica_of e < length (bench_start bench).scripts) r.schedule.items → IsReport (bench_start bench) limit r
 reported_at bench limit r ws well kept same long worked made ends told makers =
     let s : Scenario = bench_start bench in
-    let legal : IsLegal r.schedule.items s r.net.network = subst (λ t. IsLegal r.schedule.items t r.net.network) same kept.legal in
+    let legal : IsLegal r.schedule.items s r.net.history.now = subst (λ t. IsLegal r.schedule.items t r.net.history.now) same kept.legal in
     let first = some_of ws in
     let mades : (k : ℕ) → k < length s.scripts → get_or r.made.items k 0 ≡ length (own_events r.schedule.items k) = λ k low.
     let d = first (omega (arith, long, low)) in
@@ -203,7 +203,7 @@ reported_at bench limit r ws well kept same long worked made ends told makers =
     record {
       start = same;
       legal = legal;
-      well_formed = well_formed_with (scenario_view r.start) r.schedule.items r.net.network (subst IsWellFormedScenario (sym same) well) kept.legal kept.small;
+      well_formed = well_formed_with (scenario_view r.start) r.schedule.items r.net.history.now (subst IsWellFormedScenario (sym same) well) kept.legal kept.small;
       named = kept.named ∙ ap (λ (t : Scenario). t.names) same;
       small = kept.small;
       each_made = ap length made ∙ (length-map ws (λ w. w.made) ∙ long);
@@ -219,8 +219,8 @@ reported_at bench limit r ws well kept same long worked made ends told makers =
             chosen = still_chosen s p (pass_seen (get_or ws p d).pass) r.schedule.items (pass_mine (get_or ws p d).pass) t.0 w.own owned w.chosen;
             end = λ e is.
                 let at : (get_or ws p d).end ≡ e = sym (get_or-map (λ (x : Worked). x.end) ws p d d.end (omega (arith, long, low))) ∙ (ap (λ l. get_or l p d.end) (sym ends) ∙ get_or_from_slice_get r.ends.items p e d.end is) in
-                subst (HasEnd s p limit r.schedule.items r.net.network) at
-                (has_end s p limit (pass_seen (get_or ws p d).pass) (pass_mine (get_or ws p d).pass) r.schedule.items r.net.network (get_or ws p d).end well low w.ends w.own t.0 owned legal kept.small);
+                subst (HasEnd s p limit r.schedule.items r.net.history.now) at
+                (has_end s p limit (pass_seen (get_or ws p d).pass) (pass_mine (get_or ws p d).pass) r.schedule.items r.net.history.now (get_or ws p d).end well low w.ends w.own t.0 owned legal kept.small);
           };
     }
 

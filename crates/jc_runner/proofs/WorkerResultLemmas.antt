@@ -8,7 +8,7 @@ use Rattle.jc_rules.specs.Step.{Network, replica_of}
 use Rattle.jc_lock.specs.Knowledge.{own}
 use Rattle.jc_scenario.specs.WellFormed.{Scenario}
 use Rattle.jc_network.specs.declared.fault.Stuck.{Stuck}
-use Rattle.jc_network.specs.NetworkHistory.{Course}
+use Rattle.jc_network.specs.NetworkHistory.{NetworkHistory}
 use Rattle.jc_runner.specs.declared.phase.Phase.{Phase}
 use Rattle.std.proofs.lemmas.Option.{same_Some}
 use Rattle.jc_runner.specs.Recording.{Recording, recording, IsRecorded}
@@ -130,6 +130,6 @@ pub same_start : (r : Recording) (s : Scenario) (o : Option Scenario) → o ≡ 
 same_start r s o a b = same_Some r.start s (sym a ∙ b)
 
 -- the value in a turn is legal from the bench's start
-pub in_hand : (s : Scenario) (net : Course) (items : List Event) (start : Scenario) (r : Recording) → recording net items start ≡ r → IsRecorded net items start → r.start ≡ s → IsLegal r.schedule s (net.network)
+pub in_hand : (s : Scenario) (net : NetworkHistory) (items : List Event) (start : Scenario) (r : Recording) → recording net items start ≡ r → IsRecorded net items start → r.start ≡ s → IsLegal r.schedule s (net.history.now)
 in_hand s net items start r whole kept same =
-    subst (λ h. IsLegal h s (net.network)) (ap (λ x. x.schedule) whole) (subst (λ t. IsLegal items t (net.network)) (ap (λ x. x.start) whole ∙ same) kept.legal)
+    subst (λ h. IsLegal h s (net.history.now)) (ap (λ x. x.schedule) whole) (subst (λ t. IsLegal items t (net.history.now)) (ap (λ x. x.start) whole ∙ same) kept.legal)

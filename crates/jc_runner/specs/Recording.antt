@@ -8,13 +8,13 @@ use Rattle.jc_rules.specs.declared.version.Version.{Version}
 use Rattle.jc_rules.specs.contracts.version.Version.{the_row as version_row}
 use Rattle.jc_rules.specs.Syntax.{Cmd}
 use Rattle.jc_replica.specs.Codes.{cmd_code}
-use Rattle.jc_network.specs.NetworkHistory.{Course, course_code}
+use Rattle.jc_network.specs.NetworkHistory.{NetworkHistory, network_history_code}
 use Rattle.jc_scenario.specs.WellFormed.{Scenario}
 use Rattle.jc_runner.specs.Legal.{IsLegal}
 
 -- a network, the events that were made, and the scenario from whose start they were made
 pub record Recording : Type 0 where
-  pub net : Course
+  pub net : NetworkHistory
   pub schedule : List Event
   pub start : Scenario
 
@@ -30,18 +30,18 @@ scenario_code =
 
 abbrev pub recording_code : Coded Recording
 recording_code =
-    code_by (Course × (List Event × Scenario))
-    (coded× course_code (coded× (coded_list event_row.coded) scenario_code))
+    code_by (NetworkHistory × (List Event × Scenario))
+    (coded× network_history_code (coded× (coded_list event_row.coded) scenario_code))
     (λ r. (r.net, (r.schedule, r.start)))
     (λ t. record { net = t.0; schedule = t.1.0; start = t.1.1 })
     (λ _. refl)
 
-abbrev pub recording : Course → List Event → Scenario → Recording
+abbrev pub recording : NetworkHistory → List Event → Scenario → Recording
 recording net schedule start = record { net = net; schedule = schedule; start = start }
 
 -- The events lead from the start to the network, which counts them, and there aren't too many.
-pub record IsRecorded (net : Course) (schedule : List Event) (start : Scenario) : Type 0 where
-  pub legal : IsLegal schedule start net.network
+pub record IsRecorded (net : NetworkHistory) (schedule : List Event) (start : Scenario) : Type 0 where
+  pub legal : IsLegal schedule start net.history.now
   pub named : net.names ≡ start.names
-  pub counted : length net.earlier ≡ length schedule
+  pub counted : length net.history.earlier ≡ length schedule
   pub small : length schedule ≤ MAX_EVENTS

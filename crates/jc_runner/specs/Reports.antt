@@ -59,13 +59,13 @@ HasEnd s p limit schedule network N.NoMemory =
 pub record HasWorked (s : Scenario) (limit : ℕ) (r : Report) (p : ℕ) : Type 0 where
   pub made : slice_index r.made.items p ≡ length (own_events r.schedule.items p)
   pub chosen : AllChosen s p r.schedule.items
-  pub end : (d : End) → slice_get r.ends.items p ≡ Some d → HasEnd s p limit r.schedule.items r.net.network d
+  pub end : (d : End) → slice_get r.ends.items p ≡ Some d → HasEnd s p limit r.schedule.items r.net.history.now d
 
 -- The schedule leads from the scenario's start to the network, the scenario may have it in place of its own, and what
 -- the report says of each replica is true.
 pub record IsReport (s : Scenario) (limit : ℕ) (r : Report) : Type 0 where
   pub start : scenario_view r.start ≡ s
-  pub legal : IsLegal r.schedule.items s r.net.network
+  pub legal : IsLegal r.schedule.items s r.net.history.now
   pub well_formed : IsWellFormedScenario (with_schedule (scenario_view r.start) r.schedule.items)
   pub named : r.net.names ≡ s.names
   pub small : length r.schedule.items ≤ MAX_EVENTS

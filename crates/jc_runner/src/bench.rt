@@ -181,7 +181,7 @@ impl Bench {
     pub fn close(self, passes: Vec<Pass>) -> Result<Recorded, CloseRefused>
         requires { All (IsPassAt self) passes.items }
         ensures when { IsOk result ↔ EachOnce (bench_passes self) (map pass_number passes.items) }
-        ensures legal { IfOk result (λ r. IsLegal r.schedule (bench_start self) r.net.network) }
+        ensures legal { IfOk result (λ r. IsLegal r.schedule (bench_start self) r.net.history.now) }
         ensures origin { IfOk result (λ r. r.start ≡ bench_start self) }
         ensures seen { IfOk result (λ r. All (λ p. IsPrefix (pass_seen p) r.schedule) passes.items) }
         ensures mine { IfOk result (λ r.

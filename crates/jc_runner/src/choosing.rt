@@ -37,7 +37,7 @@ fn first_ready_of(ops: &IdSet, received: &[Op]) -> Option<Id>
 /// Chooses to apply the first operation that is ready, or else to end the yield.
 fn apply_or_done<S: TreeStore>(replica: &Replica<S>) -> (Event, Phase)
     ensures { result
-        ≡ apply_or_end replica.now.number (first_ready replica.now.now.ops replica.now.now.recv) }
+        ≡ apply_or_end replica.now.number (first_ready replica.now.history.now.ops replica.now.history.now.recv) }
 {
     let p = replica.number();
     match first_ready_of(replica.ops(), replica.received()) {
@@ -48,7 +48,7 @@ fn apply_or_done<S: TreeStore>(replica: &Replica<S>) -> (Event, Phase)
 
 /// Chooses the replica's next event at a yield; `replicas` is the number of replicas.
 fn in_yield<S: TreeStore>(replica: &Replica<S>, replicas: u16, phase: Phase) -> (Event, Phase)
-    ensures { result ≡ at_yield replicas replica.now.number replica.now.now phase }
+    ensures { result ≡ at_yield replicas replica.now.number replica.now.history.now phase }
 {
     let p = replica.number();
     match phase {
@@ -85,7 +85,8 @@ fn chosen_of<S: TreeStore>(
     replicas: u16,
     phase: Phase,
 ) -> Option<(Event, Phase)>
-    ensures { result ≡ chosen_by replicas replica.now.number replica.now.now phase replica.now.now.left }
+    ensures { result
+        ≡ chosen_by replicas replica.now.number replica.now.history.now phase replica.now.history.now.left }
 {
     if yields(replica.left().first()?) {
         Some(in_yield(replica, replicas, phase))
@@ -101,7 +102,7 @@ fn chosen_of<S: TreeStore>(
 /// then applies the operations that are ready, each time the least, and is done. The phase is how far it is in this; it
 /// is `Start` at first.
 pub fn choose(net: &Net, p: u16, phase: Phase) -> Option<(Event, Phase)>
-    ensures { result ≡ choice net.now.network.states p phase }
+    ensures { result ≡ choice net.now.history.now.states p phase }
 {
     // For its contract: events led to the network from a start, so the stored counters decide what is applied.
     net.steps();

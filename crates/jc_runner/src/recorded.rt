@@ -74,13 +74,13 @@ impl Recorded {
     pub(crate) fn add(&mut self, event: &Event) -> Result<Trace, StepFault>
         ensures start { self.new.start ≡ self.old.start }
         ensures step { IfOk result (λ trace.
-            StepIn self.old.net.network event.now self.new.net.network trace.rows) }
+            StepIn self.old.net.history.now event.now self.new.net.history.now trace.rows) }
         ensures made { OnOk result (self.new.schedule ≡ self.old.schedule ++ event.now ∷ []) }
         ensures same { OnErr result (self.new ≡ self.old) }
         ensures full { IsErrOf result Fault.Full ↔ (length self.old.schedule ≡ MAX_EVENTS) }
         ensures memory { IsErrOf result Fault.Memory → length self.old.schedule < MAX_EVENTS }
         ensures stuck { (s : AnyStuck) → IsErrOf result (Fault.Stuck s)
-            → IsStuckFor self.old.net.network event.now s }
+            → IsStuckFor self.old.net.history.now event.now s }
         ensures room { (s : AnyStuck) → IsErrOf result (Fault.Stuck s) → length self.old.schedule < MAX_EVENTS }
     {
         let Recorded {

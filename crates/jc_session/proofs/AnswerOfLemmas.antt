@@ -13,7 +13,7 @@ use Rattle.jc_rules.specs.Refused.{Cause}
 use Rattle.jc_rules.specs.State.{State, start}
 use Rattle.jc_printer.specs.Canon.{AreNamed}
 use Rattle.jc_network.specs.declared.fault.Stuck.{Stuck}
-use Rattle.jc_network.specs.NetworkHistory.{Course}
+use Rattle.jc_network.specs.NetworkHistory.{NetworkHistory}
 use Rattle.jc_network.specs.Enabled.{AreEnabled, candidates}
 use Rattle.jc_network.specs.Steps.{stuck_for}
 use Rattle.jc_network.proofs.AfterLemmas.{after_version}
@@ -91,22 +91,22 @@ at_end_of : (d e : Seen) (n m : ℕ) (text : List ℕ) → IsMoved d e n → m �
 at_end_of d e n m text moves is h = h ∙ ap at_line (is ∙ moves.position)
 
 -- what is known of the event that stopped a move
-abbrev pub TellsStuck : ℕ → Course → Stuck → List ℕ → Type 0
+abbrev pub TellsStuck : ℕ → NetworkHistory → Stuck → List ℕ → Type 0
 TellsStuck m net s text = (why : Cause) (event : Event) → s ≡ stuck_for why event → text ≡ at_line m ++ stuck_text net.names why event
 
-stuck_at : (d e : Seen) (n m : ℕ) (net : Course) (s : Stuck) (why : Cause) (event : Event) (text : List ℕ) → IsMoved d e n → m ≡ length e.traces → net ≡ e.net → s ≡ stuck_for why event → TellsStuck m net s text → text ≡ at_line n ++ stuck_text d.net.names why event
+stuck_at : (d e : Seen) (n m : ℕ) (net : NetworkHistory) (s : Stuck) (why : Cause) (event : Event) (text : List ℕ) → IsMoved d e n → m ≡ length e.traces → net ≡ e.net → s ≡ stuck_for why event → TellsStuck m net s text → text ≡ at_line n ++ stuck_text d.net.names why event
 stuck_at d e n m net s why event text moves at same is told =
     let number : m ≡ n = at ∙ moves.position in
-    let names : net.names ≡ d.net.names = ap (λ (c : Course). c.names) same ∙ moves.names in
+    let names : net.names ≡ d.net.names = ap (λ (c : NetworkHistory). c.names) same ∙ moves.names in
     told why event is ∙ (λ i. at_line (number i) ++ stuck_text (names i) why event)
 
 -- a move that stopped before a stuck event
 abbrev pub Halted : Seen → Seen → ℕ → Stuck → Type 0
 Halted d e to s = (n : ℕ) × MoveStopsAt d e to n × IsToldAt (start_of d) d.schedule n s
 
-pub halted_named : (d e : Seen) (to : ℕ) (net : Course) (s : Stuck) → AllNamed d → net ≡ e.net → Halted d e to s → IsNamedStuck net.names s
+pub halted_named : (d e : Seen) (to : ℕ) (net : NetworkHistory) (s : Stuck) → AllNamed d → net ≡ e.net → Halted d e to s → IsNamedStuck net.names s
 halted_named d e to net s all same (n, stops, told) =
-    let names : d.net.names ≡ net.names = sym (ap (λ (c : Course). c.names) same ∙ stops.moved.names) in
+    let names : d.net.names ≡ net.names = sym (ap (λ (c : NetworkHistory). c.names) same ∙ stops.moved.names) in
     record {
       why = told.why;
       event = told.event;
@@ -120,7 +120,7 @@ reply_step d e n m text trail le moves at h =
     (same_text (origin_in d) (session_of d) (moved_to (session_of d) (length d.traces + n)) (Q.step n) (at_line (length d.traces + n)) text (at_end_of d e (length d.traces + n) m text moves at h)
     (A.steps le (arrived d e (length d.traces + n) trail moves)))
 
-pub reply_step_stuck : (d e : Seen) (n m : ℕ) (net : Course) (s : Stuck) (text : List ℕ) → length d.traces + n ≤ length d.schedule → Halted d e (length d.traces + n) s → m ≡ length e.traces → net ≡ e.net → TellsStuck m net s text → GivesAnswer d (Q.step n) e text
+pub reply_step_stuck : (d e : Seen) (n m : ℕ) (net : NetworkHistory) (s : Stuck) (text : List ℕ) → length d.traces + n ≤ length d.schedule → Halted d e (length d.traces + n) s → m ≡ length e.traces → net ≡ e.net → TellsStuck m net s text → GivesAnswer d (Q.step n) e text
 reply_step_stuck d e n m net s text le halted at same told =
     let st = stopped d e (length d.traces + n) s halted in
     gives_moved d e st.position (Q.step n) text st.moved
@@ -132,7 +132,7 @@ reply_goto d e n m text trail le moves at h =
     gives_moved d e n (Q.goto n) text moves
     (same_text (origin_in d) (session_of d) (moved_to (session_of d) n) (Q.goto n) (at_line n) text (at_end_of d e n m text moves at h) (A.goes_to le (arrived d e n trail moves)))
 
-pub reply_goto_stuck : (d e : Seen) (n m : ℕ) (net : Course) (s : Stuck) (text : List ℕ) → n ≤ length d.schedule → Halted d e n s → m ≡ length e.traces → net ≡ e.net → TellsStuck m net s text → GivesAnswer d (Q.goto n) e text
+pub reply_goto_stuck : (d e : Seen) (n m : ℕ) (net : NetworkHistory) (s : Stuck) (text : List ℕ) → n ≤ length d.schedule → Halted d e n s → m ≡ length e.traces → net ≡ e.net → TellsStuck m net s text → GivesAnswer d (Q.goto n) e text
 reply_goto_stuck d e n m net s text le halted at same told =
     let st = stopped d e n s halted in
     gives_moved d e st.position (Q.goto n) text st.moved
@@ -161,7 +161,7 @@ step_past d e n fault text is exactly h due =
 pub step_halted : (d e : Seen) (to : ℕ) (fault : StepFault) (s : Stuck) → fault ≡ SF.Stuck s → IsStepFault d e to fault → Halted d e to s
 step_halted d e to fault s is h = subst (λ (f : StepFault). IsStepFault d e to f) is h
 
-pub step_stuck : (d e : Seen) (n m : ℕ) (net : Course) (fault : StepFault) (s : Stuck) (text : List ℕ) → fault ≡ SF.Stuck s → ((◌≡◌ {A = Result (Unit {0}) StepFault} (Err fault) (Err SF.AtEnd)) ↔ (length d.schedule < length d.traces + n)) → IsStepFault d e (length d.traces + n) fault → m ≡ length e.traces → net ≡ e.net → TellsStuck m net s text → GivesAnswer d (Q.step n) e text
+pub step_stuck : (d e : Seen) (n m : ℕ) (net : NetworkHistory) (fault : StepFault) (s : Stuck) (text : List ℕ) → fault ≡ SF.Stuck s → ((◌≡◌ {A = Result (Unit {0}) StepFault} (Err fault) (Err SF.AtEnd)) ↔ (length d.schedule < length d.traces + n)) → IsStepFault d e (length d.traces + n) fault → m ≡ length e.traces → net ≡ e.net → TellsStuck m net s text → GivesAnswer d (Q.step n) e text
 step_stuck d e n m net fault s text is exactly h at same told =
     reply_step_stuck d e n m net s text (err_not_past {T = Unit {0}} (length d.schedule) (length d.traces + n) fault SF.AtEnd (λ o. let x : SF.Stuck s ≡ SF.AtEnd = sym is ∙ o in cc) exactly) (step_halted d e (length d.traces + n) fault s is h) at same told
 
@@ -173,7 +173,7 @@ goto_past d e n fault text is exactly h due =
 pub goto_halted : (d e : Seen) (to : ℕ) (fault : GotoFault) (s : Stuck) → fault ≡ GF.Stuck s → IsGotoFault d e to fault → Halted d e to s
 goto_halted d e to fault s is h = subst (λ (f : GotoFault). IsGotoFault d e to f) is h
 
-pub goto_stuck : (d e : Seen) (n m : ℕ) (net : Course) (fault : GotoFault) (s : Stuck) (text : List ℕ) → fault ≡ GF.Stuck s → ((◌≡◌ {A = Result (Unit {0}) GotoFault} (Err fault) (Err GF.PastSchedule)) ↔ (length d.schedule < n)) → IsGotoFault d e n fault → m ≡ length e.traces → net ≡ e.net → TellsStuck m net s text → GivesAnswer d (Q.goto n) e text
+pub goto_stuck : (d e : Seen) (n m : ℕ) (net : NetworkHistory) (fault : GotoFault) (s : Stuck) (text : List ℕ) → fault ≡ GF.Stuck s → ((◌≡◌ {A = Result (Unit {0}) GotoFault} (Err fault) (Err GF.PastSchedule)) ↔ (length d.schedule < n)) → IsGotoFault d e n fault → m ≡ length e.traces → net ≡ e.net → TellsStuck m net s text → GivesAnswer d (Q.goto n) e text
 goto_stuck d e n m net fault s text is exactly h at same told =
     reply_goto_stuck d e n m net s text (err_not_past {T = Unit {0}} (length d.schedule) n fault GF.PastSchedule (λ o. let x : GF.Stuck s ≡ GF.PastSchedule = sym is ∙ o in cc) exactly) (goto_halted d e n fault s is h) at same told
 
@@ -185,7 +185,7 @@ run_past d e fault text is exactly h due =
     (same_text (origin_in d) (session_of d) (session_of d) Q.run (refusal_line F.AtEnd) text due (A.runs_past (exactly.0 (ap Err is))))
 
 -- the text of a run's end
-abbrev pub TellsEnd : ℕ → Course → RunEnd → List ℕ → Type 0
+abbrev pub TellsEnd : ℕ → NetworkHistory → RunEnd → List ℕ → Type 0
 TellsEnd m net (E.Break k) text = text ≡ at_line m ++ (codes "break " ++ decimal k ++ codes "\n")
 TellsEnd m net (E.Stuck s) text = TellsStuck m net s text
 TellsEnd m net E.End text = text ≡ at_line m ++ codes "end\n"
@@ -200,7 +200,7 @@ before_end d e end trail other r =
     by_order (inl lt) = lt
     by_order (inr le) = let there = r.runs.forward in let within = r.runs.is_at.within in absurd (other (omega (arith, le, there, within)))
 
-ran_is : (d e : Seen) (end : RunEnd) (m : ℕ) (net : Course) (text : List ℕ) → m ≡ length e.traces → net ≡ e.net → (r : RunMoves d e end) → TellsEnd m net end text → text ≡ ran_text d.net.names r.position r.outcome
+ran_is : (d e : Seen) (end : RunEnd) (m : ℕ) (net : NetworkHistory) (text : List ℕ) → m ≡ length e.traces → net ≡ e.net → (r : RunMoves d e end) → TellsEnd m net end text → text ≡ ran_text d.net.names r.position r.outcome
 ran_is d e (E.Break k) m net text at same r h =
     let is = r.is_end in
     let number : m ≡ r.position = at ∙ r.moved.position in
@@ -220,17 +220,17 @@ run_is d e end end_is is r = subst (λ (x : RunEnd). RunMoves d e x) is r
 pub not_at_end : (d : Seen) (end : RunEnd) → ((◌≡◌ {A = Result RunEnd RunFault} (Ok end) (Err RF.AtEnd)) ↔ (length d.traces ≡ length d.schedule)) → length d.traces ≡ length d.schedule → ⊥
 not_at_end d end exactly h = let e : ◌≡◌ {A = Result RunEnd RunFault} (Ok end) (Err RF.AtEnd) = exactly.1 h in cc
 
-pub reply_run : (d e : Seen) (end : RunEnd) (m : ℕ) (net : Course) (text : List ℕ) → IsDebugger e → (length d.traces ≡ length d.schedule → ⊥) → RunMoves d e end → m ≡ length e.traces → net ≡ e.net → TellsEnd m net end text → GivesAnswer d Q.run e text
+pub reply_run : (d e : Seen) (end : RunEnd) (m : ℕ) (net : NetworkHistory) (text : List ℕ) → IsDebugger e → (length d.traces ≡ length d.schedule → ⊥) → RunMoves d e end → m ≡ length e.traces → net ≡ e.net → TellsEnd m net end text → GivesAnswer d Q.run e text
 reply_run d e end m net text trail other r at same h =
     gives_moved d e r.position Q.run text r.moved
     (same_text (origin_in d) (session_of d) (moved_to (session_of d) r.position) Q.run (ran_text d.net.names r.position r.outcome) text (ran_is d e end m net text at same r h)
     (A.runs (before_end d e end trail other r) r.runs))
 
 -- the event before which a run stopped
-pub ran_named : (d e : Seen) (net : Course) (s : Stuck) → AllNamed d → net ≡ e.net → RunMoves d e (E.Stuck s) → IsNamedStuck net.names s
+pub ran_named : (d e : Seen) (net : NetworkHistory) (s : Stuck) → AllNamed d → net ≡ e.net → RunMoves d e (E.Stuck s) → IsNamedStuck net.names s
 ran_named d e net s all same r =
     let is = r.is_end in
-    let names : d.net.names ≡ net.names = sym (ap (λ (c : Course). c.names) same ∙ r.moved.names) in
+    let names : d.net.names ≡ net.names = sym (ap (λ (c : NetworkHistory). c.names) same ∙ r.moved.names) in
     record { why = is.0; event = is.1; is = is.2; named = subst (λ (ns : List (List ℕ)). AreNamed is.1 (length ns)) names (stuck_event r.outcome is.0 is.1 is.3 r.runs.at) }
   where
     stuck_event : (outcome : RunOutcome) (why : Cause) (event : Event) → outcome ≡ sticks event why → RunEndsAt (start_of d) (session_of d) r.position outcome → AreNamed event (length d.net.names)
@@ -249,7 +249,7 @@ reply_act d e rest text event m spelled trail a at h =
     record {
       replies = subst (λ (X : Session). Replies (origin_in d) (session_of d) (Q.act rest) X text) (sym a.session)
           (same_text (origin_in d) (session_of d) (acted (session_of d) event) (Q.act rest) (at_line (length d.traces + 1)) text due
-          (A.acts event spelled (A.made d.net.network e.net.network a.rows (omega (arith, position, within, short)) a.is_at a.step)));
+          (A.acts event spelled (A.made d.net.history.now e.net.history.now a.rows (omega (arith, position, within, short)) a.is_at a.step)));
       origin = λ i. record { names = a.names i; start = a.start i };
     }
 
@@ -270,35 +270,35 @@ act_not_full d fault s is exactly h =
     let y : AF.Stuck s ≡ AF.TooManyEvents = sym is ∙ x in
     cc
 
-pub acted_named : (d e : Seen) (event : Event) (net : Course) (s : Stuck) → AreNamed event (length d.net.names) → e ≡ d → net ≡ e.net → IsStuckHere d event s → IsNamedStuck net.names s
+pub acted_named : (d e : Seen) (event : Event) (net : NetworkHistory) (s : Stuck) → AreNamed event (length d.net.names) → e ≡ d → net ≡ e.net → IsStuckHere d event s → IsNamedStuck net.names s
 acted_named d e event net s named same net_is here =
-    let names : d.net.names ≡ net.names = sym (ap (λ (c : Course). c.names) net_is ∙ ap (λ (v : Seen). v.net.names) same) in
+    let names : d.net.names ≡ net.names = sym (ap (λ (c : NetworkHistory). c.names) net_is ∙ ap (λ (v : Seen). v.net.names) same) in
     record { why = here.stuck.why; event = event; is = here.stuck.is; named = subst (λ (ns : List (List ℕ)). AreNamed event (length ns)) names named }
 
 -- the version of the network at the position is that of the first
-same_version : (d : Seen) (net : Course) (version : Version) → version ≡ net.network.version → IsNetworkAt (start_of d) d.schedule (length d.traces) net.network → version ≡ (start_of d).version
-same_version d net version is at = is ∙ after_version (start_of d) (take (length d.traces) d.schedule) net.network at.after
+same_version : (d : Seen) (net : NetworkHistory) (version : Version) → version ≡ net.history.now.version → IsNetworkAt (start_of d) d.schedule (length d.traces) net.history.now → version ≡ (start_of d).version
+same_version d net version is at = is ∙ after_version (start_of d) (take (length d.traces) d.schedule) net.history.now at.after
 
-pub spelled_in : (d : Seen) (net : Course) (version : Version) (names : List (List ℕ)) (rest : List ℕ) (event : Event) → version ≡ net.network.version → IsNetworkAt (start_of d) d.schedule (length d.traces) net.network → net ≡ d.net → names ≡ net.names → IsEventText version names rest event → IsEventText (start_of d).version d.net.names rest event
+pub spelled_in : (d : Seen) (net : NetworkHistory) (version : Version) (names : List (List ℕ)) (rest : List ℕ) (event : Event) → version ≡ net.history.now.version → IsNetworkAt (start_of d) d.schedule (length d.traces) net.history.now → net ≡ d.net → names ≡ net.names → IsEventText version names rest event → IsEventText (start_of d).version d.net.names rest event
 spelled_in d net version names rest event of at same is h =
     subst (λ (v : Version). IsEventText v d.net.names rest event) (same_version d net version of at)
-    (subst (λ (ns : List (List ℕ)). IsEventText version ns rest event) (is ∙ ap (λ (c : Course). c.names) same) h)
+    (subst (λ (ns : List (List ℕ)). IsEventText version ns rest event) (is ∙ ap (λ (c : NetworkHistory). c.names) same) h)
 
-pub reply_misspelled : (d : Seen) (net : Course) (version : Version) (names : List (List ℕ)) (rest text : List ℕ) → version ≡ net.network.version → IsNetworkAt (start_of d) d.schedule (length d.traces) net.network → net ≡ d.net → names ≡ net.names → A.IsMisspelled version names rest text → GivesAnswer d (Q.act rest) d text
+pub reply_misspelled : (d : Seen) (net : NetworkHistory) (version : Version) (names : List (List ℕ)) (rest text : List ℕ) → version ≡ net.history.now.version → IsNetworkAt (start_of d) d.schedule (length d.traces) net.history.now → net ≡ d.net → names ≡ net.names → A.IsMisspelled version names rest text → GivesAnswer d (Q.act rest) d text
 reply_misspelled d net version names rest text of at same is h =
-    let named = subst (λ (ns : List (List ℕ)). A.IsMisspelled version ns rest text) (is ∙ ap (λ (c : Course). c.names) same) h in
+    let named = subst (λ (ns : List (List ℕ)). A.IsMisspelled version ns rest text) (is ∙ ap (λ (c : NetworkHistory). c.names) same) h in
     record { replies = A.acts_misspelled (subst (λ (v : Version). A.IsMisspelled v d.net.names rest text) (same_version d net version of at) named); origin = refl }
 
-pub reply_act_stuck : (d e : Seen) (rest text : List ℕ) (event : Event) (m : ℕ) (net : Course) (s : Stuck) → IsEventText (start_of d).version d.net.names rest event → IsDebugger e → (length d.traces ≡ 100000 → ⊥) → e ≡ d → IsStuckHere d event s → m ≡ length e.traces → net ≡ e.net → TellsStuck m net s text → GivesAnswer d (Q.act rest) e text
+pub reply_act_stuck : (d e : Seen) (rest text : List ℕ) (event : Event) (m : ℕ) (net : NetworkHistory) (s : Stuck) → IsEventText (start_of d).version d.net.names rest event → IsDebugger e → (length d.traces ≡ 100000 → ⊥) → e ≡ d → IsStuckHere d event s → m ≡ length e.traces → net ≡ e.net → TellsStuck m net s text → GivesAnswer d (Q.act rest) e text
 reply_act_stuck d e rest text event m net s spelled trail other same here at net_is told =
     let why = here.stuck.why in
     let number : m ≡ length d.traces = at ∙ ap (λ (v : Seen). length v.traces) same in
-    let names : net.names ≡ d.net.names = ap (λ (c : Course). c.names) net_is ∙ ap (λ (v : Seen). v.net.names) same in
+    let names : net.names ≡ d.net.names = ap (λ (c : NetworkHistory). c.names) net_is ∙ ap (λ (v : Seen). v.net.names) same in
     let due : text ≡ at_line (length d.traces) ++ stuck_text d.net.names why event = told why event here.stuck.is ∙ (λ i. at_line (number i) ++ stuck_text (names i) why event) in
     let trail_before : IsDebugger d = subst IsDebugger same trail in
     gives_same d e (Q.act rest) text same
     (same_text (origin_in d) (session_of d) (session_of d) (Q.act rest) (at_line (length d.traces) ++ stuck_text d.net.names why event) text due
-    (A.acts event spelled (A.stuck why d.net.network (less trail_before) here.is_at here.stuck.stuck)))
+    (A.acts event spelled (A.stuck why d.net.history.now (less trail_before) here.is_at here.stuck.stuck)))
   where
     less : IsDebugger d → length d.traces < 100000
     less h = by_order (cases_lt (length d.traces) 100000) h.within h.short
@@ -325,10 +325,10 @@ reply_set d e b (Err B.NoSuchReplica) text is other h = absurd (other refl)
 pub reply_break_at : (d e : Seen) (n : ℕ) (r : Result ℕ BreakFault) (text : List ℕ) → IsSet d e (Kind.Position n) r → r ≢ Err B.NoSuchReplica → text ≡ set_text r → GivesAnswer d (Q.break_at n) e text
 reply_break_at d e n r text set other h = let s = reply_set d e (Kind.Position n) r text set other h in record { replies = A.breaks_at s.0; origin = s.1 }
 
-pub known_here : (d : Seen) (net : Course) (version : Version) (rule : Rule) → version ≡ net.network.version → IsNetworkAt (start_of d) d.schedule (length d.traces) net.network → Knows rule version → Knows rule (start_of d).version
+pub known_here : (d : Seen) (net : NetworkHistory) (version : Version) (rule : Rule) → version ≡ net.history.now.version → IsNetworkAt (start_of d) d.schedule (length d.traces) net.history.now → Knows rule version → Knows rule (start_of d).version
 known_here d net version rule is at known = subst (Knows rule) (same_version d net version is at) known
 
-pub unknown_here : (d : Seen) (net : Course) (version : Version) (name : List ℕ) → version ≡ net.network.version → IsNetworkAt (start_of d) d.schedule (length d.traces) net.network → ((rule : Rule) → Knows rule version → rule_name rule ≢ name) → (rule : Rule) → Knows rule (start_of d).version → rule_name rule ≢ name
+pub unknown_here : (d : Seen) (net : NetworkHistory) (version : Version) (name : List ℕ) → version ≡ net.history.now.version → IsNetworkAt (start_of d) d.schedule (length d.traces) net.history.now → ((rule : Rule) → Knows rule version → rule_name rule ≢ name) → (rule : Rule) → Knows rule (start_of d).version → rule_name rule ≢ name
 unknown_here d net version name is at none rule known = none rule (subst (Knows rule) (sym (same_version d net version is at)) known)
 
 pub reply_break_rule : (d e : Seen) (rule : Rule) (name : List ℕ) (r : Result ℕ BreakFault) (text : List ℕ) → Knows rule (start_of d).version → rule_name rule ≡ name → IsSet d e (Kind.Rule rule) r → r ≢ Err B.NoSuchReplica → text ≡ set_text r → GivesAnswer d (Q.break_rule name) e text
@@ -352,35 +352,35 @@ reply_unbreak d e k text c h =
 
 -- ---- what is shown
 
-pub reply_state : (d : Seen) (net : Course) (text : List ℕ) → net ≡ d.net → IsNetworkAt (start_of d) d.schedule (length d.traces) net.network → text ≡ dumps_text net.names net.network.states → GivesAnswer d Q.state d text
+pub reply_state : (d : Seen) (net : NetworkHistory) (text : List ℕ) → net ≡ d.net → IsNetworkAt (start_of d) d.schedule (length d.traces) net.history.now → text ≡ dumps_text net.names net.history.now.states → GivesAnswer d Q.state d text
 reply_state d net text same is h =
-    let due : text ≡ dumps_text d.net.names net.network.states = h ∙ ap (λ (c : Course). dumps_text c.names net.network.states) same in
-    gives_same d d Q.state text refl (same_text (origin_in d) (session_of d) (session_of d) Q.state (dumps_text d.net.names net.network.states) text due (A.states net.network is))
+    let due : text ≡ dumps_text d.net.names net.history.now.states = h ∙ ap (λ (c : NetworkHistory). dumps_text c.names net.history.now.states) same in
+    gives_same d d Q.state text refl (same_text (origin_in d) (session_of d) (session_of d) Q.state (dumps_text d.net.names net.history.now.states) text due (A.states net.history.now is))
 
-pub reply_state_of : (d : Seen) (net : Course) (names : List (List ℕ)) (name : List ℕ) (p : ℕ) (text : List ℕ) → net ≡ d.net → names ≡ net.names → IsNetworkAt (start_of d) d.schedule (length d.traces) net.network → length net.network.states ≡ length net.names → IsNamed names name p
-    → ((C : State) → slice_get net.network.states p ≡ Some C → text ≡ dump_line net.names (name_at net.names p) C) → GivesAnswer d (Q.state_of name) d text
+pub reply_state_of : (d : Seen) (net : NetworkHistory) (names : List (List ℕ)) (name : List ℕ) (p : ℕ) (text : List ℕ) → net ≡ d.net → names ≡ net.names → IsNetworkAt (start_of d) d.schedule (length d.traces) net.history.now → length net.history.now.states ≡ length net.names → IsNamed names name p
+    → ((C : State) → slice_get net.history.now.states p ≡ Some C → text ≡ dump_line net.names (name_at net.names p) C) → GivesAnswer d (Q.state_of name) d text
 reply_state_of d net names name p text same is is_at each named h =
     let here : IsNamed net.names name p = subst (λ (ns : List (List ℕ)). IsNamed ns name p) is named in
-    let within : p < length net.network.states = subst (λ (n : ℕ). p < n) (sym each) (slice_get_within net.names p name here) in
-    let C = get_or net.network.states p (start []) in
-    let there = slice_get-get_or net.network.states p (start []) within in
+    let within : p < length net.history.now.states = subst (λ (n : ℕ). p < n) (sym each) (slice_get_within net.names p name here) in
+    let C = get_or net.history.now.states p (start []) in
+    let there = slice_get-get_or net.history.now.states p (start []) within in
     let called : name_at net.names p ≡ name = ap (λ o. unwrap_or o []) here in
-    let known : net.names ≡ d.net.names = ap (λ (c : Course). c.names) same in
+    let known : net.names ≡ d.net.names = ap (λ (c : NetworkHistory). c.names) same in
     let due : text ≡ dump_line d.net.names name C = h C there ∙ (λ i. dump_line (known i) (called i) C) in
     gives_same d d (Q.state_of name) text refl
     (same_text (origin_in d) (session_of d) (session_of d) (Q.state_of name) (dump_line d.net.names name C) text due
-    (A.state_of net.network p C is_at (subst (λ (ns : List (List ℕ)). IsNamed ns name p) known here) there))
+    (A.state_of net.history.now p C is_at (subst (λ (ns : List (List ℕ)). IsNamed ns name p) known here) there))
 
 -- no replica has the name, in the debugger's list of them
-pub strange_in : (d : Seen) (net : Course) (names : List (List ℕ)) (name : List ℕ) → net ≡ d.net → names ≡ net.names → (Contains names name → ⊥) → Contains d.net.names name → ⊥
-strange_in d net names name same is none = subst (λ (ns : List (List ℕ)). Contains ns name → ⊥) (is ∙ ap (λ (c : Course). c.names) same) none
+pub strange_in : (d : Seen) (net : NetworkHistory) (names : List (List ℕ)) (name : List ℕ) → net ≡ d.net → names ≡ net.names → (Contains names name → ⊥) → Contains d.net.names name → ⊥
+strange_in d net names name same is none = subst (λ (ns : List (List ℕ)). Contains ns name → ⊥) (is ∙ ap (λ (c : NetworkHistory). c.names) same) none
 
-pub named_in : (d : Seen) (net : Course) (names : List (List ℕ)) (name : List ℕ) (p : ℕ) → net ≡ d.net → names ≡ net.names → IsNamed names name p → IsNamed d.net.names name p
-named_in d net names name p same is named = subst (λ (ns : List (List ℕ)). IsNamed ns name p) (is ∙ ap (λ (c : Course). c.names) same) named
+pub named_in : (d : Seen) (net : NetworkHistory) (names : List (List ℕ)) (name : List ℕ) (p : ℕ) → net ≡ d.net → names ≡ net.names → IsNamed names name p → IsNamed d.net.names name p
+named_in d net names name p same is named = subst (λ (ns : List (List ℕ)). IsNamed ns name p) (is ∙ ap (λ (c : NetworkHistory). c.names) same) named
 
-pub reply_trace : (d : Seen) (t : List (Rule × ℕ)) (net : Course) (names : List (List ℕ)) (n : ℕ) (event : Event) (text : List ℕ) → net ≡ d.net → names ≡ net.names → n ≡ length d.traces → (h : IsTraceOf d t) → event ≡ h.event → text ≡ block_text names n event t → GivesAnswer d Q.trace d text
+pub reply_trace : (d : Seen) (t : List (Rule × ℕ)) (net : NetworkHistory) (names : List (List ℕ)) (n : ℕ) (event : Event) (text : List ℕ) → net ≡ d.net → names ≡ net.names → n ≡ length d.traces → (h : IsTraceOf d t) → event ≡ h.event → text ≡ block_text names n event t → GivesAnswer d Q.trace d text
 reply_trace d t net names n event text same is at h event_is due =
-    let known : names ≡ d.net.names = is ∙ ap (λ (c : Course). c.names) same in
+    let known : names ≡ d.net.names = is ∙ ap (λ (c : NetworkHistory). c.names) same in
     let number : n ≡ h.before + 1 = at ∙ h.position in
     let all : text ≡ block_text d.net.names (h.before + 1) h.event t = due ∙ (λ i. block_text (known i) (number i) (event_is i) t) in
     gives_same d d Q.trace text refl (same_text (origin_in d) (session_of d) (session_of d) Q.trace (block_text d.net.names (h.before + 1) h.event t) text all (A.traces h.position h.makes))
@@ -402,24 +402,24 @@ place_within d t h es n same at =
 pub some_made : (d : Seen) (t : List (Rule × ℕ)) → IsTraceOf d t → (n : ℕ) → n ≡ length d.traces → 1 ≤ n
 some_made d t h n at = let position = h.position in omega (arith, position, at)
 
-pub trace_named : (d : Seen) (t : List (Rule × ℕ)) (h : IsTraceOf d t) (net : Course) (names : List (List ℕ)) (event : Event) → AllNamed d → net ≡ d.net → names ≡ net.names → event ≡ h.event → AreNamed event (length names)
+pub trace_named : (d : Seen) (t : List (Rule × ℕ)) (h : IsTraceOf d t) (net : NetworkHistory) (names : List (List ℕ)) (event : Event) → AllNamed d → net ≡ d.net → names ≡ net.names → event ≡ h.event → AreNamed event (length names)
 trace_named d t h net names event all same is event_is =
-    let known : d.net.names ≡ names = sym (is ∙ ap (λ (c : Course). c.names) same) in
+    let known : d.net.names ≡ names = sym (is ∙ ap (λ (c : NetworkHistory). c.names) same) in
     let named = of_all (λ x. AreNamed x (length d.net.names)) d.schedule h.before h.event all h.makes.is in
     subst (λ (x : Event). AreNamed x (length names)) (sym event_is) (subst (λ (ns : List (List ℕ)). AreNamed h.event (length ns)) known named)
 
 pub reply_start : (d : Seen) (text : List ℕ) → length d.traces ≡ 0 → text ≡ codes "start\n" → GivesAnswer d Q.trace d text
 reply_start d text none h = gives_same d d Q.trace text refl (same_text (origin_in d) (session_of d) (session_of d) Q.trace (codes "start\n") text h (A.at_start none))
 
-pub reply_enabled : (d : Seen) (net : Course) (names : List (List ℕ)) (events : List Event) (lines text : List ℕ) → net ≡ d.net → names ≡ net.names → IsNetworkAt (start_of d) d.schedule (length d.traces) net.network → AreEnabled net.network (candidates net.network) events → lines ≡ event_lines names events → text ≡ or_none_text lines → GivesAnswer d Q.enabled d text
+pub reply_enabled : (d : Seen) (net : NetworkHistory) (names : List (List ℕ)) (events : List Event) (lines text : List ℕ) → net ≡ d.net → names ≡ net.names → IsNetworkAt (start_of d) d.schedule (length d.traces) net.history.now → AreEnabled net.history.now (candidates net.history.now) events → lines ≡ event_lines names events → text ≡ or_none_text lines → GivesAnswer d Q.enabled d text
 reply_enabled d net names events lines text same is is_at enabled all h =
-    let known : names ≡ d.net.names = is ∙ ap (λ (c : Course). c.names) same in
+    let known : names ≡ d.net.names = is ∙ ap (λ (c : NetworkHistory). c.names) same in
     let due : text ≡ or_none_text (event_lines d.net.names events) = h ∙ ap or_none_text (all ∙ ap (λ ns. event_lines ns events) known) in
-    gives_same d d Q.enabled text refl (same_text (origin_in d) (session_of d) (session_of d) Q.enabled (or_none_text (event_lines d.net.names events)) text due (A.enables net.network events is_at enabled))
+    gives_same d d Q.enabled text refl (same_text (origin_in d) (session_of d) (session_of d) Q.enabled (or_none_text (event_lines d.net.names events)) text due (A.enables net.history.now events is_at enabled))
 
-pub reply_schedule : (d : Seen) (net : Course) (names : List (List ℕ)) (events : List Event) (lines text : List ℕ) → net ≡ d.net → names ≡ net.names → events ≡ d.schedule → lines ≡ numbered_lines names 1 events → text ≡ or_none_text lines → GivesAnswer d Q.schedule d text
+pub reply_schedule : (d : Seen) (net : NetworkHistory) (names : List (List ℕ)) (events : List Event) (lines text : List ℕ) → net ≡ d.net → names ≡ net.names → events ≡ d.schedule → lines ≡ numbered_lines names 1 events → text ≡ or_none_text lines → GivesAnswer d Q.schedule d text
 reply_schedule d net names events lines text same is listed all h =
-    let known : names ≡ d.net.names = is ∙ ap (λ (c : Course). c.names) same in
+    let known : names ≡ d.net.names = is ∙ ap (λ (c : NetworkHistory). c.names) same in
     let due : text ≡ or_none_text (numbered_lines d.net.names 1 d.schedule) = h ∙ ap or_none_text (all ∙ (λ i. numbered_lines (known i) 1 (listed i))) in
     gives_same d d Q.schedule text refl (same_text (origin_in d) (session_of d) (session_of d) Q.schedule (or_none_text (numbered_lines d.net.names 1 d.schedule)) text due A.lists)
 
@@ -430,11 +430,11 @@ found_text C D (SameOps true) (ops, tree, is) = A.same_tree ops tree
 found_text C D (SameOps false) (ops, tree, is) = let no : false ≡ true = is in absurd (cc)
 found_text C D DifferentOps ops = A.different_ops ops
 
-pub reply_compare : (d : Seen) (net : Course) (names : List (List ℕ)) (name other : List ℕ) (p q : ℕ) (found : Comparison) (text : List ℕ) → net ≡ d.net → names ≡ net.names → IsNetworkAt (start_of d) d.schedule (length d.traces) net.network → IsNamed names name p → IsNamed names other q → IsComparison net.network.states p q found → text ≡ compared_line found → GivesAnswer d (Q.compare name other) d text
+pub reply_compare : (d : Seen) (net : NetworkHistory) (names : List (List ℕ)) (name other : List ℕ) (p q : ℕ) (found : Comparison) (text : List ℕ) → net ≡ d.net → names ≡ net.names → IsNetworkAt (start_of d) d.schedule (length d.traces) net.history.now → IsNamed names name p → IsNamed names other q → IsComparison net.history.now.states p q found → text ≡ compared_line found → GivesAnswer d (Q.compare name other) d text
 reply_compare d net names name other p q found text same is is_at one two c h =
     gives_same d d (Q.compare name other) text refl
     (same_text (origin_in d) (session_of d) (session_of d) (Q.compare name other) (compared_line found) text h
-    (A.compares net.network p q c.one c.other is_at (named_in d net names name p same is one) (named_in d net names other q same is two) c.one_there c.other_there (found_text c.one c.other found c.found)))
+    (A.compares net.history.now p q c.one c.other is_at (named_in d net names name p same is one) (named_in d net names other q same is two) c.one_there c.other_there (found_text c.one c.other found c.found)))
 
 -- ---- refusals
 

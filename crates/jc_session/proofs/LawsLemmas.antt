@@ -18,7 +18,7 @@ use Rattle.jc_dump.specs.Lines.{stuck_text}
 use Rattle.jc_dump.specs.Texts.{block_text, dumps_text, given_text}
 use Rattle.jc_debug.specs.declared.breaks.Break.{Break}
 use Rattle.jc_debug.specs.declared.breaks.Break.TheVariants as Kind
-use Rattle.jc_debug.specs.DebuggerState.{Session, IsNetworkAt, MakesEvent, StuckEvent, GoesTo, RunOutcome, Runs, moved_to, with_break, begun}
+use Rattle.jc_debug.specs.DebuggerState.{Session, IsNetworkAt, MakesEvent, StuckEvent, GoesTo, RunOutcome, Runs, moved_to, with_break, new_session}
 use Rattle.jc_debug.proofs.BreaksLemmas.{one_makes}
 use Rattle.jc_debug.proofs.LawsLemmas.{one_network, one_goes, one_least, one_run}
 use Rattle.jc_scenario.specs.Laws.{OneScenario, OneFault, ScenarioOrFault, ScenariosAreWellFormed}
@@ -299,11 +299,11 @@ started_or_stuck starts s r start at event why same is g =
     (starts.led_or_stuck r.scripts (before_given r) r.given ([], refl)).1 start at event why (subst (λ (x : Scenario). IsStart x start) same is) g
 
 -- the talk of one scenario goes on from its one start
-same_talk : (starts : StartLaws) (s r : Scenario) (start other : Network) (l t : List ℕ) (end : End) → s ≡ r → IsStart s start → IsStart r other → Talks (origin_of s start) (begun s.schedule) l t end → Talks (origin_of r other) (begun r.schedule) l t end
+same_talk : (starts : StartLaws) (s r : Scenario) (start other : Network) (l t : List ℕ) (end : End) → s ≡ r → IsStart s start → IsStart r other → Talks (origin_of s start) (new_session s.schedule) l t end → Talks (origin_of r other) (new_session r.schedule) l t end
 same_talk starts s r start other l t end same is it a =
     let one : start ≡ other = starts.one_start r start other (subst (λ (x : Scenario). IsStart x start) same is) it in
-    subst (λ (N : Network). Talks (origin_of r N) (begun r.schedule) l t end) one
-    (subst (λ (x : Scenario). Talks (origin_of x start) (begun x.schedule) l t end) same a)
+    subst (λ (N : Network). Talks (origin_of r N) (new_session r.schedule) l t end) one
+    (subst (λ (x : Scenario). Talks (origin_of x start) (new_session x.schedule) l t end) same a)
 
 pub one_session : EventLaws → StartLaws → OneScenario → OneFault → ScenarioOrFault → ScenariosAreWellFormed → OneSession
 one_session laws starts one_scenario one_fault never_both formed b l t u end other (refused fault is line) (refused due it more) =
@@ -320,5 +320,5 @@ one_session laws starts one_scenario one_fault never_both formed b l t u end oth
 one_session laws starts one_scenario one_fault never_both formed b l t u end other (talks s start is begins a) (H.stuck r at event why it g) =
     absurd (started_or_stuck starts s r start at event why (one_scenario b s r is it) begins g)
 one_session laws starts one_scenario one_fault never_both formed b l t u end other (talks s start is begins a) (talks r from it begins_too c) =
-    one_ending laws (origin_of r from) (begun r.schedule) l t u end other (formed b r it).rising
+    one_ending laws (origin_of r from) (new_session r.schedule) l t u end other (formed b r it).rising
     (same_talk starts s r start from l t end (one_scenario b s r is it) begins begins_too a) c

@@ -13,7 +13,7 @@ use Rattle.jc_network.specs.Given.{before_given, IsStarted, IsGivenFault}
 use Rattle.jc_network.specs.Steps.{stuck_for}
 use Rattle.jc_dump.specs.Lines.{IsNamedStuck}
 use Rattle.jc_dump.specs.Texts.{given_text}
-use Rattle.jc_debug.specs.DebuggerState.{Session, begun}
+use Rattle.jc_debug.specs.DebuggerState.{Session, new_session}
 use Rattle.jc_debug.specs.Invariant.{Seen, start_of}
 use Rattle.jc_debug.proofs.RepliesLemmas.{begun_at}
 use Rattle.jc_session.specs.Answers.{Origin, origin_of, IsFaultLine}
@@ -85,21 +85,21 @@ failed_handed {T} {U} f (Err e) a b h kind memory write =
 
 -- ---- from the start
 
-pub on_scenario : (Says : Origin → Session → Type 0) (b : List ℕ) (s : Scenario) (d : Seen) (A : Session) → IsScenario b s → IsStarted s d.net → A ≡ begun s.schedule → Says (origin_in d) A → OnScenario b Says
+pub on_scenario : (Says : Origin → Session → Type 0) (b : List ℕ) (s : Scenario) (d : Seen) (A : Session) → IsScenario b s → IsStarted s d.net → A ≡ new_session s.schedule → Says (origin_in d) A → OnScenario b Says
 on_scenario Says b s d A is net at h =
     (s, start_of d, is, begun_at d s net, subst (λ (B : Session). Says (origin_of s (start_of d)) B) at (subst (λ (P : Origin). Says P A) (origin_is d s net) h))
 
-shown : (b : List ℕ) (s : Scenario) (d : Seen) (A : Session) (l : List ℕ) (end : End) (o p : Stream) → IsScenario b s → IsStarted s d.net → A ≡ begun s.schedule → AnsweredAll (origin_in d) A l end o p → ShowsAll b l end o p
+shown : (b : List ℕ) (s : Scenario) (d : Seen) (A : Session) (l : List ℕ) (end : End) (o p : Stream) → IsScenario b s → IsStarted s d.net → A ≡ new_session s.schedule → AnsweredAll (origin_in d) A l end o p → ShowsAll b l end o p
 shown b s d A l end o p is net at h =
     let on = subst (λ (B : Session). Talks (origin_of s (start_of d)) B l h.0 end) at (subst (λ (P : Origin). Talks P A l h.0 end) (origin_is d s net) h.1) in
     (h.0, talks s (start_of d) is (begun_at d s net) on, h.2)
 
-pub shown_by : (b : List ℕ) (s : Scenario) (d : Seen) (A : Session) (first : Option (List ℕ)) (end : End) (o p : Stream) → IsScenario b s → IsStarted s d.net → A ≡ begun s.schedule → OfLines first (λ l. AnsweredAll (origin_in d) A l end o p) → OfLines first (λ l. ShowsAll b l end o p)
+pub shown_by : (b : List ℕ) (s : Scenario) (d : Seen) (A : Session) (first : Option (List ℕ)) (end : End) (o p : Stream) → IsScenario b s → IsStarted s d.net → A ≡ new_session s.schedule → OfLines first (λ l. AnsweredAll (origin_in d) A l end o p) → OfLines first (λ l. ShowsAll b l end o p)
 shown_by b s d A None end o p is net at h = (h.0, shown b s d A h.0 end o p is net at h.1)
 shown_by b s d A (Some l) end o p is net at h = shown b s d A l end o p is net at h
 
 -- past a limit
-pub shown_past : (b : List ℕ) (s : Scenario) (d : Seen) (A : Session) (first left : Option (List ℕ)) (end : End) (o p : Stream) → IsScenario b s → IsStarted s d.net → A ≡ begun s.schedule
+pub shown_past : (b : List ℕ) (s : Scenario) (d : Seen) (A : Session) (first left : Option (List ℕ)) (end : End) (o p : Stream) → IsScenario b s → IsStarted s d.net → A ≡ new_session s.schedule
     → OfLinesLeft first left (λ l now_left. AnsweredAll (origin_in d) A l end o p × IsPast l now_left) → OfLinesLeft first left (λ l now_left. ShowsAll b l end o p × IsPast l now_left)
 shown_past b s d A None left end o p is net at h = (h.0, h.1, (shown b s d A h.0 end o p is net at h.2.0, h.2.1))
 shown_past b s d A (Some l) left end o p is net at h = (shown b s d A l end o p is net at h.0, h.1)

@@ -4,7 +4,7 @@ use Rattle.jc_rules.specs.declared.refusal.Refusal.TheVariants as F
 use Rattle.jc_rules.specs.Step.{Network}
 use Rattle.jc_network.specs.Given.{before_given, IsStart, LedOrStuck}
 use Rattle.jc_dump.specs.Texts.{given_text}
-use Rattle.jc_debug.specs.DebuggerState.{Session, begun}
+use Rattle.jc_debug.specs.DebuggerState.{Session, new_session}
 use Rattle.jc_scenario.specs.Laws.{ScenarioElseFault, ScenariosAreWellFormed}
 use Rattle.jc_scenario.specs.WellFormed.{Scenario, IsWellFormedScenario}
 use Rattle.jc_session.specs.Answers as N
@@ -81,13 +81,13 @@ module _ (laws : ReplyLaws) (s : Scenario) (start : Network) (begins : IsStart s
       ]
 
   -- at the start of the schedule
-  good_start : IsGood start (begun s.schedule)
+  good_start : IsGood start (new_session s.schedule)
   good_start = record { short = formed.short; network = start; is_at = record { within = omega arith; after = refl } }
 
-  some_talk : (bytes : List ℕ) → (text : List ℕ) × (end : End) × Talks (origin_of s start) (begun s.schedule) bytes text end
+  some_talk : (bytes : List ℕ) → (text : List ℕ) × (end : End) × Talks (origin_of s start) (new_session s.schedule) bytes text end
   some_talk bytes =
       let (due, due_end, are_due) = some_within 67108864 1000000 bytes in
-      let t = talked due due_end (begun s.schedule) good_start in
+      let t = talked due due_end (new_session s.schedule) good_start in
       (t.text, t.end, record { due = due; due_end = due_end; are_due = are_due; lines = t.lines; ends = t.ends; last = t.last; answers = t.answers })
 
 pub session_has_a_text : ReplyLaws → ScenarioElseFault → ScenariosAreWellFormed → LedOrStuck → SessionHasAText

@@ -11,7 +11,7 @@ use Rattle.jc_scenario.specs.WellFormed.{Scenario, IsScenario}
 use Rattle.jc_scenario.specs.Faults.{IsFault}
 use Rattle.jc_network.specs.Given.{before_given, IsStart, IsGivenStuck}
 use Rattle.jc_dump.specs.Texts.{given_text}
-use Rattle.jc_debug.specs.DebuggerState.{Session, begun}
+use Rattle.jc_debug.specs.DebuggerState.{Session, new_session}
 use Rattle.jc_session.specs.Lines.{Line, Lacks, with_line_ends, whole_line, last_line}
 use Rattle.jc_session.specs.Answers.{Origin, origin_of, IsFaultLine, LineAnswer}
 use Rattle.jc_session.specs.SessionText.{AnswersLines, Talks, End, ShowsSession}
@@ -146,4 +146,4 @@ OnScenario b Says =
     (s : Scenario) × (start : Network)
     × IsScenario b s
     × IsStart s start
-    × Says (origin_of s start) (begun s.schedule)
+    × Says (origin_of s start) (new_session s.schedule)

@@ -9,7 +9,7 @@ use Rattle.jc_scenario.specs.WellFormed.{Scenario, IsScenario}
 use Rattle.jc_scenario.specs.Faults.{IsFault}
 use Rattle.jc_network.specs.Given.{before_given, IsStart, IsGivenStuck}
 use Rattle.jc_dump.specs.Texts.{given_text}
-use Rattle.jc_debug.specs.DebuggerState.{Session, begun}
+use Rattle.jc_debug.specs.DebuggerState.{Session, new_session}
 use Rattle.jc_session.specs.Lines.{Line, AreLines, whole_line, last_line}
 use Rattle.jc_session.specs.Requests.{asks, quit, meaning}
 use Rattle.jc_session.specs.Answers.{Origin, origin_of, IsFaultLine, LineAnswer}
@@ -79,5 +79,5 @@ pub data ShowsSession (b l : List ℕ) : List ℕ → End → Type 0 where
   talks : {text : List ℕ} {end : End} (s : Scenario) (start : Network)
       → IsScenario b s
       → IsStart s start
-      → Talks (origin_of s start) (begun s.schedule) l text end
+      → Talks (origin_of s start) (new_session s.schedule) l text end
       → ShowsSession b l text end

@@ -8,7 +8,7 @@ ghost use Rattle.jc_rules.specs.Refused.{Cause};
 ghost use Rattle.jc_network.specs.Steps.{stuck_for};
 ghost use Rattle.jc_dump.specs.Lines.{IsNamedStuck};
 ghost use Rattle.jc_dump.specs.Texts.{given_text};
-ghost use Rattle.jc_debug.specs.DebuggerState.{begun};
+ghost use Rattle.jc_debug.specs.DebuggerState.{new_session};
 ghost use Rattle.jc_debug.specs.Invariant.{session_of};
 ghost use Rattle.jc_session.specs.Answers.{origin_of, IsFaultLine};
 ghost use Rattle.jc_session.specs.AnswerOf.{origin_in, AllNamed};

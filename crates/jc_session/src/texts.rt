@@ -157,7 +157,7 @@ pub fn or_none(alloc: Global, text: String) -> Result<String, AllocError>
 
 /// The dump line of each replica of the network.
 pub fn dump_lines(alloc: Global, net: &Net) -> Result<String, AllocError>
-    ensures { IfOk result (λ text. string_bytes text ≡ dumps_text net.now.names net.now.network.states) }
+    ensures { IfOk result (λ text. string_bytes text ≡ dumps_text net.now.names net.now.history.now.states) }
 {
     let mut text = String::new(alloc);
     let count = net.names().len() as u16;

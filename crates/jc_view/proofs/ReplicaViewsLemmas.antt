@@ -8,7 +8,7 @@ use Rattle.jc_rules.specs.ReplicaNames.{name_at}
 use Rattle.jc_rules.specs.WellFormed.{IsChained}
 use Rattle.jc_rules.specs.State.{State}
 use Rattle.jc_vectors.specs.StoredStates.{stored_state}
-use Rattle.jc_replica.specs.ReplicaHistory.{Past}
+use Rattle.jc_replica.specs.ReplicaHistory.{ReplicaHistory}
 use Rattle.jc_network.specs.Steps.{HasReplica}
 use Rattle.jc_network.specs.Invariant.{IsFromStart}
 use Rattle.jc_network.proofs.RunInvariantStartLemmas.{start_well}
@@ -18,18 +18,18 @@ use Rattle.jc_view.specs.Visible.{document, goes_by, line_json, view_line}
 use Rattle.jc_view.proofs.AppliedPathsLemmas.{goes_kept}
 
 -- the tree that a replica keeps is that of its state
-pub tree_is : (network : List State) (p : ℕ) (past : Past) (A : State) (t : Context) → HasReplica network p past → slice_get network p ≡ Some A → t ≡ past.now.tree → t ≡ A.tree
-tree_is network p past A t has there e = e ∙ ap (λ (S : State). S.tree) has.kept ∙ ap (λ (S : State). S.tree) (same_Some has.at A (sym has.there ∙ there))
+pub tree_is : (network : List State) (p : ℕ) (replica : ReplicaHistory) (A : State) (t : Context) → HasReplica network p replica → slice_get network p ≡ Some A → t ≡ replica.history.now.tree → t ≡ A.tree
+tree_is network p replica A t has there e = e ∙ ap (λ (S : State). S.tree) has.kept ∙ ap (λ (S : State). S.tree) (same_Some has.at A (sym has.there ∙ there))
 
-pub chained_of : (network : List State) (p : ℕ) (past : Past) (t : Context) → IsFromStart network → HasReplica network p past → t ≡ past.now.tree → IsChained t
-chained_of network p past t r has e =
+pub chained_of : (network : List State) (p : ℕ) (replica : ReplicaHistory) (t : Context) → IsFromStart network → HasReplica network p replica → t ≡ replica.history.now.tree → IsChained t
+chained_of network p replica t r has e =
     let chained : IsChained has.at.tree = are_chained r.0 r.1.0 network (start_well r.0) r.1.1 p has.at has.there in
-    subst IsChained (sym (tree_is network p past has.at t has has.there e)) chained
+    subst IsChained (sym (tree_is network p replica has.at t has has.there e)) chained
 
 -- what is shown of a replica's state is shown of what it stands for
-pub same_view : (names : List (List ℕ)) (name : List ℕ) (network : List State) (p : ℕ) (past : Past) (A : State) → IsFromStart network → HasReplica network p past → slice_get network p ≡ Some A → view_line names name past.now ≡ view_line names name A
+pub same_view : (names : List (List ℕ)) (name : List ℕ) (network : List State) (p : ℕ) (replica : ReplicaHistory) (A : State) → IsFromStart network → HasReplica network p replica → slice_get network p ≡ Some A → view_line names name replica.history.now ≡ view_line names name A
 unfolding view_line
-same_view names name network p past A r has there =
+same_view names name network p replica A r has there =
     let same : has.at ≡ A = same_Some has.at A (sym has.there ∙ there) in
     let goes : goes_by (stored_state has.at) ≡ goes_by has.at = goes_kept network (run_well network r) p has.at has.there in
     ap (λ (S : State). view_line names name S) has.kept

@@ -25,7 +25,7 @@ fn find(ops: &[Op], id: Id) -> Option<&Op>
 
 /// The operation with the identifier, if the replica has applied it.
 fn applied<S: TreeStore>(replica: &Replica<S>, id: Id) -> Option<&Op>
-    ensures { option_copied result ≡ applied_op replica.now.now id }
+    ensures { option_copied result ≡ applied_op replica.now.history.now id }
 {
     if !replica.ops().contains(id) {
         return None;
@@ -88,7 +88,7 @@ fn passes(op: &Op, path: &[Tagged], at: &[Tagged], tagged: &Tagged) -> bool
 
 /// Whether the operation with the identifier goes through the tagged key at the place, or makes it.
 fn goes<S: TreeStore>(replica: &Replica<S>, id: Id, at: &[Tagged], tagged: &Tagged) -> bool
-    ensures { result ≡ goes_by replica.now.now id at.now tagged.now }
+    ensures { result ≡ goes_by replica.now.history.now id at.now tagged.now }
 {
     match applied(replica, id) {
         Some(op) => passes(op, op.cursor.path.as_slice(), at, tagged),
@@ -104,7 +104,7 @@ pub(crate) fn is_alive<S: TreeStore>(
     at: &[Tagged],
     tagged: &Tagged,
 ) -> bool
-    ensures { result ≡ some_goes (goes_by replica.now.now) at.now tagged.now ids.now }
+    ensures { result ≡ some_goes (goes_by replica.now.history.now) at.now tagged.now ids.now }
 {
     for id in ids {
         if goes(replica, *id, at, tagged) {

@@ -60,7 +60,7 @@ fn values_at<'a, S: TreeStore>(store: &'a S, at: &[Tagged], key: &Key) -> &'a [(
 fn is_shown<S: TreeStore>(replica: &Replica<S>, store: &S, at: &[Tagged], tagged: &Tagged) -> bool
     requires { HasPlace at.now (S.tree store.now) }
     ensures { result ≡
-        shows_at (goes_by replica.now.now) at.now tagged.now (here at.now (S.tree store.now)) }
+        shows_at (goes_by replica.now.history.now) at.now tagged.now (here at.now (S.tree store.now)) }
 {
     if !store.has(at, tagged) {
         return false;
@@ -80,9 +80,9 @@ fn parts_at<S: TreeStore>(
 ) -> Result<(bool, bool), AllocError>
     requires { HasPlace at.now (S.tree store.now) }
     ensures map { IfOk result (λ parts.
-        parts.0 ≡ shows_at (goes_by replica.now.now) at.now (MapT key.now) (here at.now (S.tree store.now))) }
+        parts.0 ≡ shows_at (goes_by replica.now.history.now) at.now (MapT key.now) (here at.now (S.tree store.now))) }
     ensures list { IfOk result (λ parts.
-        parts.1 ≡ shows_at (goes_by replica.now.now) at.now (ListT key.now) (here at.now (S.tree store.now))) }
+        parts.1 ≡ shows_at (goes_by replica.now.history.now) at.now (ListT key.now) (here at.now (S.tree store.now))) }
 {
     let map = is_shown(replica, store, at, &Tagged::MapT(key.copy()?));
     let list = is_shown(replica, store, at, &Tagged::ListT(key.copy()?));
@@ -173,7 +173,7 @@ fn write_child<S: TreeStore>(
     requires node { HasContext tagged }
     requires some { is_some (content tagged (here at.old.items (S.tree store.now))) ≡ true }
     ensures written { OnOk result (Gains out.old out.new
-        (json_tokens (child_json names.now (goes_by replica.now.now) at.old.items tagged
+        (json_tokens (child_json names.now (goes_by replica.now.history.now) at.old.items tagged
         (here at.old.items (S.tree store.now))))) }
     ensures place { OnOk result (at.new.items ≡ at.old.items) }
 {
@@ -207,7 +207,7 @@ fn write_part<S: TreeStore>(
     requires node { HasContext tagged }
     requires some { shown ≡ true → is_some (content tagged (here at.old.items (S.tree store.now))) ≡ true }
     ensures written { OnOk result (Gains out.old out.new
-        (part_tokens name.now shown (child_json names.now (goes_by replica.now.now) at.old.items tagged
+        (part_tokens name.now shown (child_json names.now (goes_by replica.now.history.now) at.old.items tagged
         (here at.old.items (S.tree store.now))))) }
     ensures place { OnOk result (at.new.items ≡ at.old.items) }
 {
@@ -237,9 +237,9 @@ fn write_every<S: TreeStore>(
     requires list { list ≡ true → is_some (content (ListT key.now) (here at.old.items (S.tree store.now))) ≡ true }
     ensures written { OnOk result (Gains out.old out.new (json_tokens (object (member (codes "!conflict")
         (parts_json names.now (or_no_value (find key_cmp key.now (registers (here at.old.items (S.tree store.now)))))
-        (if_so map (child_json names.now (goes_by replica.now.now) at.old.items (MapT key.now)
+        (if_so map (child_json names.now (goes_by replica.now.history.now) at.old.items (MapT key.now)
         (here at.old.items (S.tree store.now))))
-        (if_so list (child_json names.now (goes_by replica.now.now) at.old.items (ListT key.now)
+        (if_so list (child_json names.now (goes_by replica.now.history.now) at.old.items (ListT key.now)
         (here at.old.items (S.tree store.now)))))
         no_members)))) }
     ensures place { OnOk result (at.new.items ≡ at.old.items) }
@@ -288,7 +288,7 @@ fn write_place<S: TreeStore>(
     requires there { HasPlace at.old.items (S.tree store.now) }
     requires chained { IsChained (S.tree store.now).now }
     ensures written { OnOk result (Gains out.old out.new
-        (json_tokens (parts_shown_at names.now (goes_by replica.now.now) at.old.items
+        (json_tokens (parts_shown_at names.now (goes_by replica.now.history.now) at.old.items
         (here at.old.items (S.tree store.now)) key.now))) }
     ensures place { OnOk result (at.new.items ≡ at.old.items) }
 {
@@ -332,7 +332,7 @@ fn write_member<S: TreeStore>(
     requires there { HasPlace at.old.items (S.tree store.now) }
     requires chained { IsChained (S.tree store.now).now }
     ensures written { OnOk result (Gains out.old out.new
-        (member_shown (parts_shown_at names.now (goes_by replica.now.now) at.old.items
+        (member_shown (parts_shown_at names.now (goes_by replica.now.history.now) at.old.items
         (here at.old.items (S.tree store.now))) key.now
         (here at.old.items (S.tree store.now)))) }
     ensures place { OnOk result (at.new.items ≡ at.old.items) }
@@ -360,7 +360,7 @@ fn write_item<S: TreeStore>(
     requires there { HasPlace at.old.items (S.tree store.now) }
     requires chained { IsChained (S.tree store.now).now }
     ensures written { OnOk result (Gains out.old out.new
-        (item_of (parts_shown_at names.now (goes_by replica.now.now) at.old.items
+        (item_of (parts_shown_at names.now (goes_by replica.now.history.now) at.old.items
         (here at.old.items (S.tree store.now))) key.now
         (here at.old.items (S.tree store.now)))) }
     ensures place { OnOk result (at.new.items ≡ at.old.items) }
@@ -384,7 +384,7 @@ fn write_map<S: TreeStore>(
     requires there { HasPlace at.old.items (S.tree store.now) }
     requires chained { IsChained (S.tree store.now).now }
     ensures written { OnOk result (Gains out.old out.new
-        (json_tokens (map_json names.now (goes_by replica.now.now) at.old.items
+        (json_tokens (map_json names.now (goes_by replica.now.history.now) at.old.items
         (here at.old.items (S.tree store.now))))) }
     ensures place { OnOk result (at.new.items ≡ at.old.items) }
 {
@@ -410,7 +410,7 @@ fn write_list<S: TreeStore>(
     requires there { HasPlace at.old.items (S.tree store.now) }
     requires chained { IsChained (S.tree store.now).now }
     ensures written { OnOk result (Gains out.old out.new
-        (json_tokens (list_json names.now (goes_by replica.now.now) at.old.items
+        (json_tokens (list_json names.now (goes_by replica.now.history.now) at.old.items
         (here at.old.items (S.tree store.now))))) }
     ensures place { OnOk result (at.new.items ≡ at.old.items) }
 {
@@ -434,7 +434,7 @@ fn write_document<S: TreeStore>(
     requires { IsChained (S.tree store.now).now }
     ensures { OnOk result (Gains out.old out.new
         (part_tokens (codes "doc") (is_some (find key_cmp Doc (present (presences (S.tree store.now).now))))
-        (parts_shown_at names.now (goes_by replica.now.now) [] (S.tree store.now).now Doc))) }
+        (parts_shown_at names.now (goes_by replica.now.history.now) [] (S.tree store.now).now Doc))) }
 {
     let mut at = Vec::new(alloc);
     if is_present(store, at.as_slice(), &Key::Doc) {
@@ -452,8 +452,8 @@ pub fn view_line<S: TreeStore>(
     name: &str,
     replica: &Replica<S>,
 ) -> Result<Vec<u8>, AllocError>
-    requires { IsChained replica.now.now.tree }
-    ensures { IfOk result (λ line. line.items ≡ view_line names.now name.now replica.now.now) }
+    requires { IsChained replica.now.history.now.tree }
+    ensures { IfOk result (λ line. line.items ≡ view_line names.now name.now replica.now.history.now) }
 {
     let mut out = Writer::new(Vec::new(alloc));
     out.begin_object()?;

@@ -15,9 +15,9 @@ use std::alloc::Global;
 /// where there is none, and else for want of memory alone.
 pub fn view_replica(alloc: Global, net: &Net, p: u16) -> Result<Vec<u8>, CompareFault>
     ensures view { IfOk result (λ line.
-        (A : State) → slice_get net.now.network.states p ≡ Some A
+        (A : State) → slice_get net.now.history.now.states p ≡ Some A
         → line.items ≡ view_line net.now.names (name_at net.now.names p) A) }
-    ensures missing { IsErrOf result E.NoSuchReplica ↔ length net.now.network.states ≤ p }
+    ensures missing { IsErrOf result E.NoSuchReplica ↔ length net.now.history.now.states ≤ p }
 {
     // For its contract: events have led to the network from a start, so lists are chained.
     let _steps = net.steps();

@@ -7,7 +7,7 @@ use Rattle.jc_rules.specs.declared.rule.Rule.{Rule}
 use Rattle.jc_rules.specs.Step.{Network, StepIn, AfterIn}
 use Rattle.jc_network.specs.declared.fault.Stuck.{Stuck}
 use Rattle.jc_network.specs.Given.{IsStarted}
-use Rattle.jc_network.specs.NetworkHistory.{Course}
+use Rattle.jc_network.specs.NetworkHistory.{NetworkHistory}
 use Rattle.jc_network.specs.Steps.{IsStuckFor}
 use Rattle.jc_scenario.specs.WellFormed.{Scenario}
 use Rattle.jc_runner.specs.declared.phase.Phase.{Phase}
@@ -52,15 +52,15 @@ after_turn s seed limit K M es fs ss us b t = record {
 }
 
 -- before all turns
-pub after_none : (s : Scenario) (net : Course) (seed limit : ℕ) (phases : List Phase) (live : List ℕ) (g : Lcg) → IsStarted s net → phases ≡ all_start net.names → live ≡ numbers_from 0 net.names → g ≡ seeded seed → IsLoomAfter s seed limit (loom net.network phases live g limit) [] []
+pub after_none : (s : Scenario) (net : NetworkHistory) (seed limit : ℕ) (phases : List Phase) (live : List ℕ) (g : Lcg) → IsStarted s net → phases ≡ all_start net.names → live ≡ numbers_from 0 net.names → g ≡ seeded seed → IsLoomAfter s seed limit (loom net.history.now phases live g limit) [] []
 after_none s net seed limit phases live g is are numbers seeds =
     let first : all_start s.names ≡ phases = ap all_start (sym is.names) ∙ sym are in
     let all : numbers_from 0 s.names ≡ live = ap (numbers_from 0) (sym is.names) ∙ sym numbers in
     record {
-      start = net.network;
+      start = net.history.now;
       is_start = is.start;
       turns = [];
-      weaves = λ i. loom net.network (first i) (all i) (sym seeds i) limit;
+      weaves = λ i. loom net.history.now (first i) (all i) (sym seeds i) limit;
       events = refl;
       stuck = refl;
     }

@@ -44,7 +44,7 @@ pub(crate) fn phase_at(phases: &[Phase], p: u16) -> Phase
 
 /// Returns whether the replica has sent at a yield that is its last command.
 fn is_waiting(net: &Net, phases: &[Phase], p: u16) -> bool
-    ensures { result ≡ is_waiting net.now.network.states phases.now p }
+    ensures { result ≡ is_waiting net.now.history.now.states phases.now p }
 {
     match net.replica(p) {
         Some(replica) => is_last_yield(replica.left()) && has_sent(phase_at(phases, p)),
@@ -59,7 +59,7 @@ fn eager_of(
     phases: &[Phase],
     live: &[u16],
 ) -> Result<Vec<u16>, AllocError>
-    ensures { IfOk result (λ ps. ps.items ≡ eager_of net.now.network.states phases.now live.now) }
+    ensures { IfOk result (λ ps. ps.items ≡ eager_of net.now.history.now.states phases.now live.now) }
 {
     let mut some = Vec::new(alloc);
     let mut rest = live;
@@ -91,7 +91,7 @@ pub(crate) fn draw(
     rng: &mut Pcg32,
 ) -> Result<u16, AllocError>
     requires { live.now ≢ [] }
-    ensures drawn { IfOk result (λ p. p ≡ drawn_of (pool net.now.network.states phases.now live.now) rng.old) }
+    ensures drawn { IfOk result (λ p. p ≡ drawn_of (pool net.now.history.now.states phases.now live.now) rng.old) }
     ensures moved { IfOk result (λ p. rng.new ≡ (pcg32 rng.old).1) }
 {
     let some = eager_of(alloc, net, phases, live)?;

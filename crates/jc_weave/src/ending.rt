@@ -46,7 +46,7 @@ pub(crate) fn counts_of(
 
 /// How a replica ended that didn't get stuck.
 fn end_of_state(net: &Net, p: u16) -> End
-    ensures { result ≡ end_of_state (slice_get net.now.network.states p) }
+    ensures { result ≡ end_of_state (slice_get net.now.history.now.states p) }
 {
     match net.replica(p) {
         Some(replica) => {
@@ -62,7 +62,7 @@ fn end_of_state(net: &Net, p: u16) -> End
 
 /// How the replica ended: the stuck event among these that is its own says so, or what is left to it.
 fn end_of(net: &Net, stucks: &[Stuck], p: u16) -> Result<End, AllocError>
-    ensures { IfOk result (λ end. end ≡ end_in stucks.now net.now.network.states p) }
+    ensures { IfOk result (λ end. end ≡ end_in stucks.now net.now.history.now.states p) }
 {
     let mut rest = stucks;
     while let Some((stuck, others)) = rest.split_first() {
@@ -81,7 +81,7 @@ pub(crate) fn ends_of(
     stucks: &[Stuck],
     numbers: &[u16],
 ) -> Result<Vec<End>, AllocError>
-    ensures { IfOk result (λ ends. ends.items ≡ map (end_in stucks.now net.now.network.states) numbers.now) }
+    ensures { IfOk result (λ ends. ends.items ≡ map (end_in stucks.now net.now.history.now.states) numbers.now) }
 {
     let mut ends = Vec::new(alloc);
     let mut rest = numbers;

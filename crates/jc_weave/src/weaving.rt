@@ -84,12 +84,13 @@ fn set_phase(phases: &mut Vec<Phase>, p: u16, next: Phase)
 /// Makes the event, and returns whether it was made. Where it is stuck, this is added to the stuck events, and the
 /// network is unchanged.
 fn step_or_stick(net: &mut Net, event: &Event, stucks: &mut Vec<Stuck>) -> Result<bool, AllocError>
-    requires { length net.old.earlier < MAX_EVENTS }
+    requires { length net.old.history.earlier < MAX_EVENTS }
     ensures made { IfOk result (λ b. b ≡ true
         → ((rows : Rows) × StepsTo net.old event.now net.new rows) × (stucks.new ≡ stucks.old)) }
     ensures stuck { IfOk result (λ b. b ≡ false
         → (net.new ≡ net.old)
-        × (s : AnyStuck) × IsStuckFor net.old.network event.now s × (stucks.new.items ≡ stucks.old.items ++ s ∷ [])) }
+        × (s : AnyStuck) × IsStuckFor net.old.history.now event.now s
+        × (stucks.new.items ≡ stucks.old.items ++ s ∷ [])) }
 {
     match net.step(event) {
         Ok(_trace) => Ok(true),
@@ -120,13 +121,14 @@ impl Loom {
     fn turn(&mut self, alloc: Global) -> Result<(), AllocError>
         requires room { 0 < self.old.left }
         requires some { self.old.live.items ≢ [] }
-        requires counted { length self.old.net.earlier + self.old.left ≤ MAX_EVENTS }
+        requires counted { length self.old.net.history.earlier + self.old.left ≤ MAX_EVENTS }
         ensures turn { OnOk result (IsOneTurnMore
-            (loom self.old.net.network self.old.phases.items self.old.live.items self.old.rng self.old.left)
-            (loom self.new.net.network self.new.phases.items self.new.live.items self.new.rng self.new.left)
+            (loom self.old.net.history.now self.old.phases.items self.old.live.items self.old.rng self.old.left)
+            (loom self.new.net.history.now self.new.phases.items self.new.live.items self.new.rng self.new.left)
             self.old.schedule.items self.new.schedule.items self.old.stucks.items self.new.stucks.items) }
         ensures counted { OnOk result
-            (length self.new.net.earlier + self.new.left ≡ length self.old.net.earlier + self.old.left) }
+            (length self.new.net.history.earlier + self.new.left
+            ≡ length self.old.net.history.earlier + self.old.left) }
         ensures listed { OnOk result
             (length self.new.schedule.items + self.new.left ≡ length self.old.schedule.items + self.old.left) }
         ensures names { OnOk result (self.new.net.names ≡ self.old.net.names) }
@@ -174,7 +176,7 @@ impl Loom {
         ensures schedule { IfOk result (λ w. w.schedule ≡ self.schedule) }
         ensures made { IfOk result (λ w. w.made.items ≡ counts_in self.schedule.items self.net.names) }
         ensures ends { IfOk result (λ w. w.ends.items
-            ≡ ends_in self.stucks.items self.net.network.states self.net.names) }
+            ≡ ends_in self.stucks.items self.net.history.now.states self.net.names) }
     {
         let numbers = numbers_of(alloc, self.net.names())?;
         let made = counts_of(alloc, &self.schedule, &numbers)?;
@@ -203,11 +205,11 @@ pub struct Woven {
 
 /// Weaves from a network at a scenario's start.
 fn weave_from(alloc: Global, net: Net, seed: u64, limit: u64) -> Result<Woven, AllocError>
-    requires new { net.earlier ≡ [] }
+    requires new { net.history.earlier ≡ [] }
     requires limit { limit ≤ MAX_EVENTS }
     ensures woven { IfOk result (λ w. (s : AnyScenario)
         → IsStarted s net
-        → IsWoven s seed limit w.schedule.items w.net.network w.ends.items) }
+        → IsWoven s seed limit w.schedule.items w.net.history.now w.ends.items) }
     ensures names { IfOk result (λ w. w.net.names ≡ net.names) }
     ensures made { IfOk result (λ w. w.made.items ≡ counts_in w.schedule.items net.names) }
 {
@@ -240,7 +242,7 @@ pub fn weave(alloc: Global, scenario: &Scenario, seed: u64, limit: u64) -> Resul
     requires scenario { IsWellFormedScenario (scenario_view scenario.now) }
     requires limit { limit ≤ MAX_EVENTS }
     ensures woven { IfOk result (λ w.
-        IsWoven (scenario_view scenario.now) seed limit w.schedule.items w.net.network w.ends.items) }
+        IsWoven (scenario_view scenario.now) seed limit w.schedule.items w.net.history.now w.ends.items) }
     ensures names { IfOk result (λ w. w.net.names ≡ (scenario_view scenario.now).names) }
     ensures made { IfOk result (λ w. w.made.items ≡ counts_in w.schedule.items (scenario_view scenario.now).names) }
     ensures given { (at : ℕ) (s : AnyStuck) → IsErrOf result (GivenFault at s)

@@ -6,5 +6,5 @@ use Rattle.jc_dump.proofs.replica.dump_replica.Goals as goal
 
 pub returns-clause-dump : goal.returns-clause-dump
 returns-clause-dump c = λ A there.
-    let kept = of_replica c.args.net.now.network.states c.args.p c.in-Some.replica.now A c.in-Some.ensures.some there in
+    let kept = of_replica c.args.net.now.history.now.states c.args.p c.in-Some.replica.now A c.in-Some.ensures.some there in
     c.in_ok-line_of.ensures A kept (c.as_slice.ensures.value ∙ c.in_ok-applied.ensures.applied A there) ∙ ap (λ ns. dump_line ns (name_at ns c.args.p) A) c.names.ensures.names

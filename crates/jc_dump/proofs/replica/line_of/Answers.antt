@@ -8,7 +8,7 @@ pub returns : goal.returns
 returns c = IfOk-weaker c.dump_line_of.result _ _
     (λ line shown A kept applied.
     shown A
-    (parts_kept A c.args.replica.now.now _ _ c.left.result.now c.args.applied.now c.queue.result.now c.received.result.now c.sent.result.now kept
+    (parts_kept A c.args.replica.now.history.now _ _ c.left.result.now c.args.applied.now c.queue.result.now c.received.result.now c.sent.result.now kept
     c.acted.ensures refl c.left.ensures
     refl applied
     (c.as_slice.ensures.value ∙ c.in_ok-queue.ensures) c.queue.ensures.queue

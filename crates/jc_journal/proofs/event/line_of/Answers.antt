@@ -6,7 +6,7 @@ use Rattle.jc_journal.proofs.event.line_of.Goals as goal
 pub returns : goal.returns
 returns c =
     let s = c.args.numbered.now in
-    let es = noted_members c.args.names.now s.given s.number s.event (rows_of c.args.rules) c.args.before.now c.args.replica.now.now in
+    let es = noted_members c.args.names.now s.given s.number s.event (rows_of c.args.rules) c.args.before.now c.args.replica.now.history.now in
     IfOk-weaker c.end_line.result _ _
     (λ line e. line_is c.in_ok-out.out c.write_members.new.out es line.items c.in_ok-out.ensures.before c.in_ok-out.ensures.tokens c.in_ok-write_members.ensures e)
     c.end_line.ensures

@@ -8,4 +8,4 @@ use Rattle.jc_journal.proofs.stuck.made_missing.Given as goal
 abbrev pub invariant-loop-p : goal.invariant-loop-p
 invariant-loop-p l =
     AreRising l.ids.items
-    × ((k : Id) → has_id k l.ids.items ≡ has_id k (made_ids (take l.p l.net.network.states)) && (has_id k l.deps && not (has_id k l.applied)))
+    × ((k : Id) → has_id k l.ids.items ≡ has_id k (made_ids (take l.p l.net.history.now.states)) && (has_id k l.deps && not (has_id k l.applied)))

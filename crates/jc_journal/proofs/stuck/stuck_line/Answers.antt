@@ -8,7 +8,7 @@ use Rattle.jc_journal.proofs.stuck.stuck_line.Goals as goal
 
 pub returns : goal.returns
 returns c =
-    let N = c.args.net.now.network.states in
+    let N = c.args.net.now.history.now.states in
     let names = c.args.net.now.names in
     let es = told_members names c.args.given c.args.number N c.args.stuck.now in
     IfOk-weaker c.end_line.result _ _

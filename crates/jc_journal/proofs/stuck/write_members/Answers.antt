@@ -12,7 +12,7 @@ use Rattle.jc_journal.proofs.stuck.write_members.Goals as goal
 
 pub returns : goal.returns
 returns c =
-    let N = c.args.net.now.network.states in
+    let N = c.args.net.now.history.now.states in
     let names = c.args.net.now.names in
     let ns = c.names-names.result.now in
     let s = c.args.stuck.now in

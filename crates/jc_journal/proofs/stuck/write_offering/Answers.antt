@@ -9,7 +9,7 @@ use Rattle.jc_journal.proofs.stuck.write_offering.Goals as goal
 
 pub loop-p-preserved : goal.loop-p-preserved
 loop-p-preserved c =
-    let N = c.args.net.now.network.states in
+    let N = c.args.net.now.history.now.states in
     let names = c.args.net.now.names in
     let p = c.loop-p.p in
     let n = ap length c.names.ensures.names in

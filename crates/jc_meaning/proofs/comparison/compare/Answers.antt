@@ -6,7 +6,7 @@ use Rattle.jc_meaning.proofs.comparison.compare.Goals as goal
 
 pub returns-clause-compared : goal.returns-clause-compared
 returns-clause-compared c =
-    let N = c.args.net.now.network.states in
+    let N = c.args.net.now.history.now.states in
     let L = c.in-Some.left.now in
     let R = c.in-Some-replica.right.now in
     let r = c.steps-steps.ensures.reached in
@@ -18,7 +18,7 @@ returns-clause-compared c =
 
 pub returns-clause-missing : goal.returns-clause-missing
 returns-clause-missing c =
-    let N = c.args.net.now.network.states in
+    let N = c.args.net.now.history.now.states in
     let L = c.in-Some.left.now in
     let R = c.in-Some-replica.right.now in
     let r = c.steps-steps.ensures.reached in

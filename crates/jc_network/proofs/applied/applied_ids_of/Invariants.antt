@@ -7,7 +7,7 @@ use Rattle.jc_network.proofs.applied.applied_ids_of.Given as goal
 
 abbrev pub invariant-loop-op : goal.invariant-loop-op
 invariant-loop-op g l = record {
-  found : identifiers (applied_ops l.replica.now) ≡ l.ids.items ++ identifiers (filter (λ o. has_id o.id l.replica.now.ops) (both l.made l.received));
+  found : identifiers (applied_ops l.replica.history.now) ≡ l.ids.items ++ identifiers (filter (λ o. has_id o.id l.replica.history.now.ops) (both l.made l.received));
   made : AreInOrder l.made;
   received : AreInOrder l.received;
 }

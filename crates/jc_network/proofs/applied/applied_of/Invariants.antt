@@ -7,7 +7,7 @@ use Rattle.jc_network.proofs.applied.applied_of.Given as goal
 
 abbrev pub invariant-loop-op : goal.invariant-loop-op
 invariant-loop-op g l = record {
-  found : applied_ops l.replica.now ≡ l.applied.items ++ filter (λ o. has_id o.id l.replica.now.ops) (both l.own l.others);
+  found : applied_ops l.replica.history.now ≡ l.applied.items ++ filter (λ o. has_id o.id l.replica.history.now.ops) (both l.own l.others);
   own : AreInOrder l.own;
   others : AreInOrder l.others;
 }

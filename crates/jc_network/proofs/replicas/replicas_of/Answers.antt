@@ -5,7 +5,7 @@ use Rattle.std.proofs.lemmas.List.{length-map, map-append}
 use Rattle.std.proofs.lemmas.Option.{slice_get-map, slice_get-get_or}
 use Rattle.jc_syntax.specs.Trees.{cmd_of}
 use Rattle.jc_scenario.specs.Views.{scripts_view}
-use Rattle.jc_network.specs.Start.{pasts_from}
+use Rattle.jc_network.specs.Start.{replicas_from}
 use Rattle.jc_network.proofs.StartLemmas.{all_at, next_replica}
 use Rattle.jc_network.proofs.replicas.replicas_of.Goals as goal
 
@@ -43,5 +43,5 @@ loop-script-preserved c =
     let viewed : scripts_view (before ++ script ∷ []) ≡ scripts_view before ++ map cmd_of script.items ∷ [] = map-append (λ s. map cmd_of s.items) before (script ∷ []) in
     record {
       counted = omega (arith, counted, length-append before (script ∷ []));
-      made = next_replica (scripts_view before) c.loop-script.number (map cmd_of script.items) replicas c.push.new.self.items (counted ∙ sym many) c.loop-script.invariant.made (c.in_ok-push.ensures.items ∙ ap (λ r. replicas ++ r ∷ []) c.new-in-loop-script.ensures) ∙ ap (pasts_from 0) (sym viewed);
+      made = next_replica (scripts_view before) c.loop-script.number (map cmd_of script.items) replicas c.push.new.self.items (counted ∙ sym many) c.loop-script.invariant.made (c.in_ok-push.ensures.items ∙ ap (λ r. replicas ++ r ∷ []) c.new-in-loop-script.ensures) ∙ ap (replicas_from 0) (sym viewed);
     }

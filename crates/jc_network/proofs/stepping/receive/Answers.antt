@@ -17,8 +17,8 @@ returns-then-to-from c =
     let same : c.args.p ≡ c.args.q = sym is ∙ (c.if-to-from.true ∙ c.from-from.ensures) in
     let sender : slice_get xs c.args.q ≡ Some a = subst (λ n. slice_get xs n ≡ Some a) same there in
     let number : a.number ≡ c.args.p = c.requires.numbered c.args.p a there in
-    let answers = subst (λ n. AnswersEvent (receiving_event n c.args.id a.number) a.now.send a c.read_own.new.replica c.read_own.result) (number ∙ same) c.read_own.ensures in
-    received xs _ c.args.p c.args.q c.args.id a c.read_own.new.replica a a.now.send c.read_own.result there sender refl (ap (λ n. slice_set xs n c.read_own.new.replica) is) number answers
+    let answers = subst (λ n. AnswersEvent (receiving_event n c.args.id a.number) a.history.now.send a c.read_own.new.replica c.read_own.result) (number ∙ same) c.read_own.ensures in
+    received xs _ c.args.p c.args.q c.args.id a c.read_own.new.replica a a.history.now.send c.read_own.result there sender refl (ap (λ n. slice_set xs n c.read_own.new.replica) is) number answers
 
 -- ---- from a later one
 

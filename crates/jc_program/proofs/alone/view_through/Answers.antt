@@ -61,7 +61,7 @@ returns-in_err-line-in-Some-clause-memory g c = λ _.
 -- of a block
 pub returns-in_err-stuck-clause-write : goal.returns-in_err-stuck-clause-write
 returns-in_err-stuck-clause-write g c = λ k.
-    absurd (no_part c.begin.new.self.names c.begin.new.self.network c.first_events-schedule.result.now (sink g.K.Sink c.args.out.now) (sink g.K.Sink c.play.new.out) (c.in_err-stuck.ensures.write (handed _ _ _ c.from_residual-in_err-stuck.ensures.1 k)))
+    absurd (no_part c.begin.new.self.names c.begin.new.self.history.now c.first_events-schedule.result.now (sink g.K.Sink c.args.out.now) (sink g.K.Sink c.play.new.out) (c.in_err-stuck.ensures.write (handed _ _ _ c.from_residual-in_err-stuck.ensures.1 k)))
 
 -- of a line of a replica
 pub returns-in_err-send_views-clause-write : goal.returns-in_err-send_views-clause-write

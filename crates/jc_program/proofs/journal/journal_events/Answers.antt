@@ -1,6 +1,6 @@
 use Rattle.std.proofs.Common.{◌≡◌, ◌+◌, ◌<◌, length, ◌∙◌, ap, arith}
 use Rattle.jc_rules.specs.declared.operation.Event.TheVariants.{Exec}
-use Rattle.jc_network.specs.NetworkHistory.{Course}
+use Rattle.jc_network.specs.NetworkHistory.{NetworkHistory}
 use Rattle.jc_session.specs.Written.{sink}
 use Rattle.jc_session.proofs.SentLemmas.{handed}
 use Rattle.jc_program.proofs.JournalResultLemmas.{numbered_at, line_here, line_stops, line_begun, lines_begin, lines_end, lines_stand}
@@ -23,8 +23,8 @@ loop-event-preserved g c =
     let on = line_here c.args.trace c.args.given c.args.net.now c.loop-event.net c.journal_next.new.net es i (Exec 0) _ (sink g.K.Sink c.args.out.now) (sink g.K.Sink c.loop-event.out) (sink g.K.Sink c.journal_next.new.out) c.loop-event.invariant.goes (numbered_at c.args.given es i (c.loop-event.number + 1) (Exec 0) inside number) c.in_ok-is_stuck.is_stuck c.if-is_stuck.false c.in_ok-is_stuck.ensures.ok in
     record {
       counted = number;
-      names = ap (λ (k : Course). k.names) c.begin.ensures ∙ on.names;
-      steps = ap (λ (k : Course). k.earlier) c.begin.ensures;
+      names = ap (λ (k : NetworkHistory). k.names) c.begin.ensures ∙ on.names;
+      steps = ap (λ (k : NetworkHistory). k.history.earlier) c.begin.ensures;
       goes = lines_begin c.args.trace c.args.given c.args.net.now c.journal_next.new.net es (i + 1) (sink g.K.Sink c.args.out.now) (sink g.K.Sink c.journal_next.new.out) on c.begin.new.self c.begin.ensures;
     }
 

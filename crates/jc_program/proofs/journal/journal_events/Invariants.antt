@@ -8,6 +8,6 @@ abbrev pub invariant-loop-event : goal.invariant-loop-event
 invariant-loop-event g l = record {
   counted : l.number ≡ l.event-index;
   names : l.net.names ≡ l.initial.net.names;
-  steps : l.net.earlier ≡ [];
+  steps : l.net.history.earlier ≡ [];
   goes : LinesGoOn l.fn.trace l.fn.given l.initial.net l.net l.events l.event-index (sink g.K.Sink l.initial.out) (sink g.K.Sink l.out);
 }

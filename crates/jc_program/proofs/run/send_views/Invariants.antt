@@ -6,5 +6,5 @@ use Rattle.jc_program.proofs.run.send_views.Given as goal
 -- the lines of the replicas below p were written
 abbrev pub invariant-loop-p : goal.invariant-loop-p
 invariant-loop-p g l = record {
-  written : Wrote (views_text l.net.names (take l.p l.net.network.states)) (sink g.K.Sink l.initial.out) (sink g.K.Sink l.out);
+  written : Wrote (views_text l.net.names (take l.p l.net.history.now.states)) (sink g.K.Sink l.initial.out) (sink g.K.Sink l.out);
 }

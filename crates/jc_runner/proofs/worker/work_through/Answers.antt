@@ -38,7 +38,7 @@ returns-in-None-choose-clause-worked g c =
     let s = bench_start c.args.bench.now in
     let p = c.number-p.result in
     let history = (turn_value c.in-Ok.turn).schedule in
-    let network = c.recorded.inside.net.network in
+    let network = c.recorded.inside.net.history.now in
     let same = same_start (turn_value c.in-Ok.turn) s (pass_origin c.loop.pass) ok.origin.1 inv.origin in
     let legal : IsLegal history s network = in_hand s c.recorded.inside.net c.recorded.inside.schedule.items (scenario_view c.recorded.inside.start) (turn_value c.in-Ok.turn) (c.recorded.view_is ∙ c.value-recorded.ensures) c.recorded.invariant same in
     let owned : own_events history p ≡ pass_mine c.loop.pass = ap (own_events history) (sym inv.number) ∙ ok.mine.1 in
@@ -53,7 +53,7 @@ returns-in-None-choose-clause-worked g c =
 pub make-back-requires-clause-number : goal.make-back-requires-clause-number
 make-back-requires-clause-number g c =
     let inv = c.loop.invariant in
-    let is : choice c.recorded.inside.net.network.states c.number-p.result c.loop.phase ≡ Some (c.in-Some-choose.chosen.0, c.in-Some-choose.chosen.1) = sym c.choose.ensures ∙ c.in-Some-choose.is in
+    let is : choice c.recorded.inside.net.history.now.states c.number-p.result c.loop.phase ≡ Some (c.in-Some-choose.chosen.0, c.in-Some-choose.chosen.1) = sym c.choose.ensures ∙ c.in-Some-choose.is in
     (choice_is _ _ _ _ _ is).0 ∙ (sym inv.number ∙ sym c.in-Ok.ensures.number.0)
 
 pub loop-preserved : goal.loop-preserved
@@ -63,7 +63,7 @@ loop-preserved g c =
     let s = bench_start c.args.bench.now in
     let p = c.number-p.result in
     let history = (turn_value c.in-Ok.turn).schedule in
-    let network = c.recorded.inside.net.network in
+    let network = c.recorded.inside.net.history.now in
     let same = same_start (turn_value c.in-Ok.turn) s (pass_origin c.loop.pass) ok.origin.1 inv.origin in
     let legal : IsLegal history s network = in_hand s c.recorded.inside.net c.recorded.inside.schedule.items (scenario_view c.recorded.inside.start) (turn_value c.in-Ok.turn) (c.recorded.view_is ∙ c.value-recorded.ensures) c.recorded.invariant same in
     let owned : own_events history p ≡ pass_mine c.loop.pass = ap (own_events history) (sym inv.number) ∙ ok.mine.1 in
@@ -96,7 +96,7 @@ returns-in-Some-end_of-clause-worked g c =
     let s = bench_start c.args.bench.now in
     let p = c.number-p.result in
     let history = (turn_value c.in-Ok.turn).schedule in
-    let network = c.recorded.inside.net.network in
+    let network = c.recorded.inside.net.history.now in
     let same = same_start (turn_value c.in-Ok.turn) s (pass_origin c.loop.pass) ok.origin.1 inv.origin in
     let legal : IsLegal history s network = in_hand s c.recorded.inside.net c.recorded.inside.schedule.items (scenario_view c.recorded.inside.start) (turn_value c.in-Ok.turn) (c.recorded.view_is ∙ c.value-recorded.ensures) c.recorded.invariant same in
     let owned : own_events history p ≡ pass_mine c.loop.pass = ap (own_events history) (sym inv.number) ∙ ok.mine.1 in

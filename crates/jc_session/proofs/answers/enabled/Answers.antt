@@ -10,9 +10,9 @@ use Rattle.jc_session.proofs.answers.enabled.Goals as goal
 
 pub event_lines-requires : goal.event_lines-requires
 event_lines-requires c =
-    let size : length c.names.result.now ≡ length c.net-net.result.now.network.states = ap length c.names.ensures.names ∙ sym c.names.ensures.each in
+    let size : length c.names.result.now ≡ length c.net-net.result.now.history.now.states = ap length c.names.ensures.names ∙ sym c.names.ensures.each in
     subst (λ (es : List Event). All (λ e. AreNamed e (length c.names.result.now)) es) (sym c.deref.ensures.value)
-    (enabled_named c.net-net.result.now.network c.in_ok-events.events.items (length c.names.result.now) size c.steps.ensures.reached c.in_ok-events.ensures)
+    (enabled_named c.net-net.result.now.history.now c.in_ok-events.events.items (length c.names.result.now) size c.steps.ensures.reached c.in_ok-events.ensures)
 
 pub returns : goal.returns
 returns c =

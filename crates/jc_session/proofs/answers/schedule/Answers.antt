@@ -3,13 +3,13 @@ use Rattle.std.proofs.lemmas.Result.{IfOk-weaker}
 use Rattle.std.specs.List.{All}
 use Rattle.jc_rules.specs.declared.operation.Event.{Event}
 use Rattle.jc_printer.specs.Canon.{AreNamed}
-use Rattle.jc_network.specs.NetworkHistory.{Course}
+use Rattle.jc_network.specs.NetworkHistory.{NetworkHistory}
 use Rattle.jc_session.proofs.AnswerOfLemmas.{reply_schedule}
 use Rattle.jc_session.proofs.answers.schedule.Goals as goal
 
 pub numbered_lines-requires : goal.numbered_lines-requires
 numbered_lines-requires c =
-    let names = sym (c.names.ensures.names ∙ ap (λ (x : Course). x.names) c.net.ensures.net) in
+    let names = sym (c.names.ensures.names ∙ ap (λ (x : NetworkHistory). x.names) c.net.ensures.net) in
     subst (λ (es : List Event). All (λ e. AreNamed e (length c.names.result.now)) es) (sym c.schedule.ensures)
     (subst (λ (ns : List (List ℕ)). All (λ e. AreNamed e (length ns)) c.args.debugger.now.schedule) names c.requires)
 

@@ -7,5 +7,5 @@ loop-p-preserved c =
     let n = ap length c.names.ensures.names in
     let each = c.names.ensures.each in
     let few = c.names.ensures.few in
-    let lt : c.loop-p.p < length c.args.net.now.network.states = omega (arith, n, each, few, c.loop-p-test.true) in
-    c.in_ok-push_str.ensures.bytes ∙ ap (λ t. t ++ c.as_str.result.now) c.loop-p.invariant ∙ sym (dumps_more c.args.net.now.names c.args.net.now.network.states c.loop-p.p c.as_str.result.now lt (λ A there. c.as_str.ensures.value ∙ c.in-Ok.ensures.dump A there))
+    let lt : c.loop-p.p < length c.args.net.now.history.now.states = omega (arith, n, each, few, c.loop-p-test.true) in
+    c.in_ok-push_str.ensures.bytes ∙ ap (λ t. t ++ c.as_str.result.now) c.loop-p.invariant ∙ sym (dumps_more c.args.net.now.names c.args.net.now.history.now.states c.loop-p.p c.as_str.result.now lt (λ A there. c.as_str.ensures.value ∙ c.in-Ok.ensures.dump A there))

@@ -4,4 +4,4 @@ use Rattle.jc_session.proofs.texts.dump_lines.Given as goal
 
 -- the dumps of the replicas below p
 abbrev pub invariant-loop-p : goal.invariant-loop-p
-invariant-loop-p l = string_bytes l.text ≡ dumps_text l.net.names (take l.p l.net.network.states)
+invariant-loop-p l = string_bytes l.text ≡ dumps_text l.net.names (take l.p l.net.history.now.states)

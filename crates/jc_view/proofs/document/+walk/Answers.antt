@@ -60,7 +60,7 @@ write_child-returns-clause-written g t c =
     let tree = g.S.TreeStore.tree c.args.store.now in
     let at = c.args.at.now.items in
     let names = c.args.names.now in
-    let goes = goes_by c.args.replica.now.now in
+    let goes = goes_by c.args.replica.now.history.now in
     let tagged = c.args.tagged in
     let x : StandsBelow at tagged tree = stands_below at tagged tree c.requires.there c.requires.node c.requires.some in
     let pushed : c.push.new.self.items ≡ at ++ tagged ∷ [] = search rules in
@@ -82,7 +82,7 @@ write_every-returns-clause-written g t c =
     let tree = g.S.TreeStore.tree c.args.store.now in
     let at = c.args.at.now.items in
     let names = c.args.names.now in
-    let goes = goes_by c.args.replica.now.now in
+    let goes = goes_by c.args.replica.now.history.now in
     let d = here at tree in
     let k = c.args.key.now in
     let r = or_no_value (find key_cmp k (registers d)) in
@@ -110,7 +110,7 @@ write_every-returns-clause-written g t c =
 pub write_list-loop-id-init : goal.write_list-loop-id-init
 write_list-loop-id-init g t c =
     let d = here c.args.at.now.items (g.S.TreeStore.tree c.args.store.now) in
-    (refl, along_begins (parts_shown_at c.args.names.now (goes_by c.args.replica.now.now) c.args.at.now.items d) d _ _ refl)
+    (refl, along_begins (parts_shown_at c.args.names.now (goes_by c.args.replica.now.history.now) c.args.at.now.items d) d _ _ refl)
 
 pub write_list-loop-id-smaller : goal.write_list-loop-id-smaller
 write_list-loop-id-smaller g t c =
@@ -129,11 +129,11 @@ write_list-loop-id-preserved g t c =
     let d = here at tree in
     let k = c.loop-id.key in
     let id = c.in-Some.id in
-    let show = parts_shown_at c.args.names.now (goes_by c.args.replica.now.now) at d in
+    let show = parts_shown_at c.args.names.now (goes_by c.args.replica.now.history.now) at d in
     let e = c.as_slice.ensures.value ∙ c.loop-id.invariant.0 in
     let n : next k d ≡ Some (To id) = subst (λ (s : List Tagged). next k (here s tree) ≡ Some (To id)) e (c.element_after.ensures.some id c.in-Some.is) in
     let gains : Gains c.loop-id.out c.write_item.new.out (item_of show (K.Elem id) d) =
-    subst (λ (s : List Tagged). Gains c.loop-id.out c.write_item.new.out (item_of (parts_shown_at c.args.names.now (goes_by c.args.replica.now.now) s (here s tree)) (K.Elem id) (here s tree))) c.loop-id.invariant.0 c.in_ok-write_item.ensures.written in (
+    subst (λ (s : List Tagged). Gains c.loop-id.out c.write_item.new.out (item_of (parts_shown_at c.args.names.now (goes_by c.args.replica.now.history.now) s (here s tree)) (K.Elem id) (here s tree))) c.loop-id.invariant.0 c.in_ok-write_item.ensures.written in (
       c.in_ok-write_item.ensures.place ∙ c.loop-id.invariant.0,
       along_on show d k (K.Elem id) id _ _ _ (λ f. list_here at k (To id) tree c.requires.there f c.requires.chained) n refl gains c.loop-id.invariant.1,
     )
@@ -143,7 +143,7 @@ write_list-returns-clause-written g t c =
     let tree = g.S.TreeStore.tree c.args.store.now in
     let at = c.args.at.now.items in
     let names = c.args.names.now in
-    let goes = goes_by c.args.replica.now.now in
+    let goes = goes_by c.args.replica.now.history.now in
     let d = here at tree in
     let k = c.loop-id.key in
     let e = c.as_slice.ensures.value ∙ c.loop-id.invariant.0 in
@@ -157,7 +157,7 @@ write_list-returns-clause-written g t c =
 pub write_map-loop-key-init : goal.write_map-loop-key-init
 write_map-loop-key-init g t c =
     let d = here c.args.at.now.items (g.S.TreeStore.tree c.args.store.now) in
-    (refl, map_begins (parts_shown_at c.args.names.now (goes_by c.args.replica.now.now) c.args.at.now.items d) d _)
+    (refl, map_begins (parts_shown_at c.args.names.now (goes_by c.args.replica.now.history.now) c.args.at.now.items d) d _)
 
 pub write_map-loop-key-smaller : goal.write_map-loop-key-smaller
 write_map-loop-key-smaller g t c =
@@ -175,7 +175,7 @@ write_map-loop-key-preserved g t c =
     let at = c.args.at.now.items in
     let d = here at tree in
     let names = c.args.names.now in
-    let goes = goes_by c.args.replica.now.now in
+    let goes = goes_by c.args.replica.now.history.now in
     let last = option_copied c.loop-key.last in
     let key = c.in-Some.key.now in
     let e = c.as_slice.ensures.value ∙ c.loop-key.invariant.0 in
@@ -192,7 +192,7 @@ write_map-returns-clause-written g t c =
     let tree = g.S.TreeStore.tree c.args.store.now in
     let at = c.args.at.now.items in
     let names = c.args.names.now in
-    let goes = goes_by c.args.replica.now.now in
+    let goes = goes_by c.args.replica.now.history.now in
     let d = here at tree in
     let last = option_copied c.loop-key.last in
     let e = c.as_slice.ensures.value ∙ c.loop-key.invariant.0 in
@@ -209,7 +209,7 @@ write_member-returns-in_ok-write_place-clause-written g t c =
     let tree = g.S.TreeStore.tree c.args.store.now in
     let at = c.args.at.now.items in
     let d = here at tree in
-    let show = parts_shown_at c.args.names.now (goes_by c.args.replica.now.now) at d in
+    let show = parts_shown_at c.args.names.now (goes_by c.args.replica.now.history.now) at d in
     let s : List ℕ = c.in-Name.name in
     let kept : IsWellFormedContext d = kept_at at tree.now c.requires.there (g.met.S.TreeStore.kept c.args.store.now) in
     let is : c.args.key.now ≡ K.Name s = search rules in
@@ -225,7 +225,7 @@ write_member-returns-else-is_present-clause-written g t c =
     let tree = g.S.TreeStore.tree c.args.store.now in
     let at = c.args.at.now.items in
     let d = here at tree in
-    let show = parts_shown_at c.args.names.now (goes_by c.args.replica.now.now) at d in
+    let show = parts_shown_at c.args.names.now (goes_by c.args.replica.now.history.now) at d in
     let s : List ℕ = c.in-Name.name in
     let kept : IsWellFormedContext d = kept_at at tree.now c.requires.there (g.met.S.TreeStore.kept c.args.store.now) in
     let is : c.args.key.now ≡ K.Name s = search rules in
@@ -238,7 +238,7 @@ write_place-returns-in-Value-clause-written g t c =
     let tree = g.S.TreeStore.tree c.args.store.now in
     let at = c.args.at.now.items in
     let names = c.args.names.now in
-    let goes = goes_by c.args.replica.now.now in
+    let goes = goes_by c.args.replica.now.history.now in
     let d = here at tree in
     let k = c.args.key.now in
     let r = or_no_value (find key_cmp k (registers d)) in
@@ -263,7 +263,7 @@ write_place-returns-in_ok-copy-in-Map-clause-written g t c =
     let tree = g.S.TreeStore.tree c.args.store.now in
     let at = c.args.at.now.items in
     let names = c.args.names.now in
-    let goes = goes_by c.args.replica.now.now in
+    let goes = goes_by c.args.replica.now.history.now in
     let d = here at tree in
     let k = c.args.key.now in
     let r = or_no_value (find key_cmp k (registers d)) in
@@ -291,7 +291,7 @@ write_place-returns-in_ok-copy-in-List-clause-written g t c =
     let tree = g.S.TreeStore.tree c.args.store.now in
     let at = c.args.at.now.items in
     let names = c.args.names.now in
-    let goes = goes_by c.args.replica.now.now in
+    let goes = goes_by c.args.replica.now.history.now in
     let d = here at tree in
     let k = c.args.key.now in
     let r = or_no_value (find key_cmp k (registers d)) in
@@ -319,7 +319,7 @@ write_place-returns-in-Every-clause-written g t c =
     let tree = g.S.TreeStore.tree c.args.store.now in
     let at = c.args.at.now.items in
     let names = c.args.names.now in
-    let goes = goes_by c.args.replica.now.now in
+    let goes = goes_by c.args.replica.now.history.now in
     let d = here at tree in
     let k = c.args.key.now in
     let r = or_no_value (find key_cmp k (registers d)) in

@@ -42,8 +42,8 @@ abbrev pub invariant-write_map-loop-key : goal.invariant-write_map-loop-key
 invariant-write_map-loop-key g l =
     let c = here l.initial.at.items (g.S.TreeStore.tree l.store) in
     (l.at.items ≡ l.initial.at.items)
-    × Wrote l.initial.out l.out (members_front (parts_shown_at l.names (goes_by l.replica.now) l.initial.at.items c) (present (keys_above (option_copied l.last) (presences c))))
-    (members_front (parts_shown_at l.names (goes_by l.replica.now) l.initial.at.items c) (present (presences c)))
+    × Wrote l.initial.out l.out (members_front (parts_shown_at l.names (goes_by l.replica.history.now) l.initial.at.items c) (present (keys_above (option_copied l.last) (presences c))))
+    (members_front (parts_shown_at l.names (goes_by l.replica.history.now) l.initial.at.items c) (present (presences c)))
 
 abbrev pub decreases-write_map-loop-key : goal.decreases-write_map-loop-key
 decreases-write_map-loop-key g l = length (filter (λ k. is_after (option_copied l.last) k) (keys_of (presences (here l.initial.at.items (g.S.TreeStore.tree l.store)))))
@@ -52,7 +52,7 @@ decreases-write_map-loop-key g l = length (filter (λ k. is_after (option_copied
 abbrev pub invariant-write_list-loop-id : goal.invariant-write_list-loop-id
 invariant-write_list-loop-id g l =
     let c = here l.initial.at.items (g.S.TreeStore.tree l.store) in
-    (l.at.items ≡ l.initial.at.items) × Along (parts_shown_at l.names (goes_by l.replica.now) l.initial.at.items c) c l.key l.initial.out l.out
+    (l.at.items ≡ l.initial.at.items) × Along (parts_shown_at l.names (goes_by l.replica.history.now) l.initial.at.items c) c l.key l.initial.out l.out
 
 abbrev pub decreases-write_list-loop-id : goal.decreases-write_list-loop-id
 decreases-write_list-loop-id g l =

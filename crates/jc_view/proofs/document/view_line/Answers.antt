@@ -19,8 +19,8 @@ write_document-requires g c = subst IsChained (sym c.tree.ensures) c.requires
 pub returns : goal.returns
 unfolding view_line
 returns g c =
-    let d = c.args.replica.now.now.tree in
-    let goes = goes_by c.args.replica.now.now in
+    let d = c.args.replica.now.history.now.tree in
+    let goes = goes_by c.args.replica.now.history.now in
     let names = c.args.names.now in
     let name = c.args.name.now in
     let a = c.new-out.result in
@@ -31,8 +31,8 @@ returns g c =
     let g4 : Gains c.key.new.self c.string.new.self (T.string name ∷ []) = gains_one _ _ _ _ _ c.in_ok-string.was c.string.ensures in
     let g5 : Gains c.string.new.self c.end_object.new.self (T.end_object ∷ []) = gains_one _ _ _ _ _ c.in_ok-end_object.was c.end_object.ensures in
     let all = gains_then _ _ _ _ _ (gains_then _ _ _ _ _ (gains_then _ _ _ _ _ (gains_then _ _ _ _ _ g1 g2) g3) g4) g5 in
-    let all_is : Gains a c.end_object.new.self (json_tokens (view_json names name c.args.replica.now.now)) = subst (Gains a c.end_object.new.self) (sym (view_is names name goes d)) all in
-    let line : c.into_inner-line.result.items ≡ print (json_tokens (view_json names name c.args.replica.now.now)) =
+    let all_is : Gains a c.end_object.new.self (json_tokens (view_json names name c.args.replica.now.history.now)) = subst (Gains a c.end_object.new.self) (sym (view_is names name goes d)) all in
+    let line : c.into_inner-line.result.items ≡ print (json_tokens (view_json names name c.args.replica.now.history.now)) =
     printed a c.end_object.new.self _ _ (c.new-out.ensures.before ∙ c.new.ensures.items) c.new-out.ensures.tokens all_is c.into_inner-line.ensures.items in
     let pushed : c.push.new.self.items ≡ c.into_inner-line.result.items ++ 10 ∷ [] = search rules in
     pushed ∙ ap (λ (x : List ℕ). x ++ 10 ∷ []) line

@@ -18,4 +18,4 @@ returns-clause-woven c =
     let L = c.loop-loom.loom in
     let inv = c.loop-loom.invariant in
     let over : (L.left ≡ 0) ⊎ (L.live.items ≡ []) = elim c.loop-loom-test.branch [ then-loop-loom-test+else-not-is_empty w ↦ inr (nil_of L.live.items (search (rules, w.if-not-is_empty.ensures, w.is_empty.ensures))) | else-loop-loom-test w ↦ inl (search rules) ] in
-    of_three _ _ _ _ c.woven.result c.woven.ensures.net c.woven.ensures.schedule c.woven.ensures.ends (λ w net schedule ends s is. is_woven s c.args.seed c.args.limit _ _ _ _ _ _ (inv.after s is) over (ap (λ v. v.items) schedule) (ap (λ n. n.network) net) (ends ∙ ap (ends_in L.stucks.items L.net.network.states) (inv.names ∙ is.names)))
+    of_three _ _ _ _ c.woven.result c.woven.ensures.net c.woven.ensures.schedule c.woven.ensures.ends (λ w net schedule ends s is. is_woven s c.args.seed c.args.limit _ _ _ _ _ _ (inv.after s is) over (ap (λ v. v.items) schedule) (ap (λ n. n.history.now) net) (ends ∙ ap (ends_in L.stucks.items L.net.history.now.states) (inv.names ∙ is.names)))

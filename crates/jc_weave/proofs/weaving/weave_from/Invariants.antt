@@ -6,8 +6,8 @@ use Rattle.jc_weave.proofs.weaving.weave_from.Given as goal
 
 abbrev pub invariant-loop-loom : goal.invariant-loop-loom
 invariant-loop-loom l = record {
-  after : (s : Scenario) → IsStarted s l.fn.net → IsLoomAfter s l.seed l.limit (loom l.loom.net.network l.loom.phases.items l.loom.live.items l.loom.rng l.loom.left) l.loom.schedule.items l.loom.stucks.items;
-  counted : length l.loom.net.earlier + l.loom.left ≡ l.limit;
+  after : (s : Scenario) → IsStarted s l.fn.net → IsLoomAfter s l.seed l.limit (loom l.loom.net.history.now l.loom.phases.items l.loom.live.items l.loom.rng l.loom.left) l.loom.schedule.items l.loom.stucks.items;
+  counted : length l.loom.net.history.earlier + l.loom.left ≡ l.limit;
   listed : length l.loom.schedule.items + l.loom.left ≡ l.limit;
   names : l.loom.net.names ≡ l.fn.net.names;
 }

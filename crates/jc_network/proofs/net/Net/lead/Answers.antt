@@ -1,6 +1,6 @@
 use Rattle.std.proofs.Common.{◌+◌, refl, sym, ◌∙◌, ap, Err, arith}
 use Rattle.jc_network.specs.declared.fault.StepFault.TheVariants as E
-use Rattle.jc_network.specs.NetworkHistory.{Course}
+use Rattle.jc_network.specs.NetworkHistory.{NetworkHistory}
 use Rattle.jc_network.proofs.GivenHistoryLemmas.{led_none, led_more, led_short, led_all, lead_fails}
 use Rattle.jc_network.proofs.net.Net.lead.Goals as goal
 
@@ -34,7 +34,7 @@ pub returns-clause-names : goal.returns-clause-names
 returns-clause-names c = c.loop-event.invariant.1.names
 
 pub returns-in-Err-Stuck-clause-names : goal.returns-in-Err-Stuck-clause-names
-returns-in-Err-Stuck-clause-names c = ap (λ (v : Course). v.names) c.in-Err-Stuck.ensures.kept ∙ c.loop-event.invariant.1.names
+returns-in-Err-Stuck-clause-names c = ap (λ (v : NetworkHistory). v.names) c.in-Err-Stuck.ensures.kept ∙ c.loop-event.invariant.1.names
 
 pub returns-in-Err-Memory-clause-names : goal.returns-in-Err-Memory-clause-names
-returns-in-Err-Memory-clause-names c = ap (λ (v : Course). v.names) c.in-Err-Memory.ensures.kept ∙ c.loop-event.invariant.1.names
+returns-in-Err-Memory-clause-names c = ap (λ (v : NetworkHistory). v.names) c.in-Err-Memory.ensures.kept ∙ c.loop-event.invariant.1.names

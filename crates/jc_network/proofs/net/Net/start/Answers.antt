@@ -3,7 +3,7 @@ use Rattle.jc_rules.specs.declared.version.Version.{Version}
 use Rattle.jc_rules.specs.Syntax.{Cmd}
 use Rattle.jc_scenario.specs.Views.{scenario_view, scripts_view}
 use Rattle.jc_network.specs.declared.fault.StartFault.TheVariants as S
-use Rattle.jc_network.specs.NetworkHistory.{Course, of_version}
+use Rattle.jc_network.specs.NetworkHistory.{NetworkHistory, of_version}
 use Rattle.jc_network.specs.Laws.{starts}
 use Rattle.jc_network.specs.Given.{AreParts, IsBeforeGiven}
 use Rattle.jc_network.proofs.GivenHistoryLemmas.{has_parts, has_started, has_stuck}
@@ -11,7 +11,7 @@ use Rattle.jc_network.proofs.StepsLemmas.{at_err}
 use Rattle.jc_network.proofs.net.Net.start.Goals as goal
 
 -- what begins with copies begins with what they are copies of
-of_copies : (version : Version) (names copies : List (List ℕ)) (scripts copied : List (List Cmd)) (c : Course) → copies ≡ names → copied ≡ scripts → IsBeforeGiven version copies copied c → IsBeforeGiven version names scripts c
+of_copies : (version : Version) (names copies : List (List ℕ)) (scripts copied : List (List Cmd)) (c : NetworkHistory) → copies ≡ names → copied ≡ scripts → IsBeforeGiven version copies copied c → IsBeforeGiven version names scripts c
 of_copies version names copies scripts copied c same alike h = record {
   called = h.called ∙ same;
   network = h.network ∙ ap (λ ss. of_version version (starts ss)) alike;

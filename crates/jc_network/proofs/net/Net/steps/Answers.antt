@@ -1,5 +1,5 @@
 use Rattle.std.proofs.Common.{length, reverse, ap, subst, arith}
-use Rattle.jc_network.specs.NetworkHistory.{Course}
+use Rattle.jc_network.specs.NetworkHistory.{NetworkHistory}
 use Rattle.jc_network.specs.Invariant.{IsFromStart, HasBegun}
 use Rattle.jc_network.proofs.InvariantLemmas.{as_many, now_reached, has_begun}
 use Rattle.jc_network.proofs.net.Net.steps.Goals as goal
@@ -8,14 +8,14 @@ pub returns-clause-steps : goal.returns-clause-steps
 returns-clause-steps c =
     let n = c.self.inside.whose.ok.0 in
     let many = as_many c.self.inside.version c.self.inside.whose.items c.self.inside.replicas.items in
-    let seen = ap (λ (v : Course). length v.earlier) c.self.view_is in
+    let seen = ap (λ (v : NetworkHistory). length v.history.earlier) c.self.view_is in
     let l = c.len.ensures in
     omega (arith, n, many, seen, l)
 
 pub returns-clause-reached : goal.returns-clause-reached
 returns-clause-reached c =
     let reached = now_reached c.self.inside.version (length c.self.inside.names.items) (reverse c.self.inside.whose.items) c.self.inside.replicas.items c.self.invariant in
-    subst (λ (v : Course). IsFromStart v.network.states) c.self.view_is (c.self.invariant.scripts, reached)
+    subst (λ (v : NetworkHistory). IsFromStart v.history.now.states) c.self.view_is (c.self.invariant.scripts, reached)
 
 pub returns-clause-begun : goal.returns-clause-begun
 returns-clause-begun c =

@@ -1,5 +1,5 @@
 use Rattle.std.proofs.Common.{◌≡◌, ◌<◌, [], ◌∷◌, ◌++◌, length, reverse, map, option_to_list, slice_get, slice_set, Some, sym, ◌∙◌, ap, subst, arith}
-use Rattle.jc_network.specs.NetworkHistory.{Course, network_of, earlier_of, of_version}
+use Rattle.jc_network.specs.NetworkHistory.{NetworkHistory, network_of, earlier_of, of_version}
 use Rattle.jc_network.proofs.InvariantLemmas.{can_index, goes_back, undone_by, versions_before}
 use Rattle.jc_network.proofs.HalvesLemmas.{index_get}
 use Rattle.jc_network.proofs.net.Net.undo.Goals as goal
@@ -33,7 +33,7 @@ returns-in-Some-clause-undone c = λ _.
     let s = undone_by c.self.inside.version count items i c.index_mut.result.now c.undo.new.self c.self.inside.whose.items c.pop.new.self.items more c.self.invariant there c.undo.ensures.number c.undo.result c.undo.ensures.undone c.undo.ensures.none in
     let new = slice_set items i c.undo.new.self in
     let v = c.self.inside.version in
-    subst (λ (d : Course). d.earlier ≡ map (of_version v) (earlier_of (reverse c.pop.new.self.items) new) ++ of_version v (network_of new) ∷ []) c.self.view_is (versions_before v count items new c.self.inside.whose.items c.pop.new.self.items s)
+    subst (λ (d : NetworkHistory). d.history.earlier ≡ map (of_version v) (earlier_of (reverse c.pop.new.self.items) new) ++ of_version v (network_of new) ∷ []) c.self.view_is (versions_before v count items new c.self.inside.whose.items c.pop.new.self.items s)
 
 -- there was one
 pub returns-in-Some-clause-none : goal.returns-in-Some-clause-none

@@ -4,7 +4,7 @@ use Rattle.jc_rules.specs.Syntax.{LetIn}
 use Rattle.jc_syntax.specs.Trees.{cmd_of, expr_of}
 use Rattle.jc_cursor.specs.Bounds.{vars_of}
 use Rattle.jc_cursor.specs.Evaluates.{IsEvalRefused, eval_cause_of}
-use Rattle.jc_replica.specs.ReplicaHistory.{Past}
+use Rattle.jc_replica.specs.ReplicaHistory.{ReplicaHistory}
 use Rattle.jc_replica.proofs.VariablesSeenLemmas.{only_let, same_let, binds, refused_let}
 use Rattle.jc_replica.proofs.AnswersLemmas.{ready_now}
 use Rattle.jc_replica.proofs.NextCommandSeenLemmas.{evaluated_in, refused_in}
@@ -16,7 +16,7 @@ pub unreachable-requires : goal.unreachable-requires
 unreachable-requires g c =
     let i = c.self.inside in
     let is : c.index.result.now ≡ get_or i.script.items i.done c.index.result.now = search rules in
-    let next = is_next i.script.items i.done c.index.result.now (LetIn c.requires.name c.requires.expr) c.requires.rest (ap (λ (p : Past). p.now.left) c.self.view_is ∙ c.requires.next) is in
+    let next = is_next i.script.items i.done c.index.result.now (LetIn c.requires.name c.requires.expr) c.requires.rest (ap (λ (p : ReplicaHistory). p.history.now.left) c.self.view_is ∙ c.requires.next) is in
     only_let c.index.result.now c.requires.name c.requires.expr next c.in_default.not-Let
 
 pub eval-requires : goal.eval-requires
@@ -26,22 +26,22 @@ pub returns-in_err-bound-clause-err : goal.returns-in_err-bound-clause-err
 returns-in_err-bound-clause-err g c =
     let i = c.self.inside in
     let is : c.index.result.now ≡ get_or i.script.items i.done c.index.result.now = search rules in
-    let next = is_next i.script.items i.done c.index.result.now (LetIn c.requires.name c.requires.expr) c.requires.rest (ap (λ (p : Past). p.now.left) c.self.view_is ∙ c.requires.next) is in
+    let next = is_next i.script.items i.done c.index.result.now (LetIn c.requires.name c.requires.expr) c.requires.rest (ap (λ (p : ReplicaHistory). p.history.now.left) c.self.view_is ∙ c.requires.next) is in
     let same = same_let c.in-Let.name c.requires.name (expr_of c.in-Let.expr) c.requires.expr (ap cmd_of (sym c.in-Let.is) ∙ next) in
     let all : c.as_slice.result.now ≡ i.vars.items = search rules in
-    let vars = ap (λ vs. vars_of vs) all ∙ ap (λ (p : Past). p.now.vars) c.self.view_is in
-    let tree = ap (λ (p : Past). p.now.tree) c.self.view_is in
+    let vars = ap (λ vs. vars_of vs) all ∙ ap (λ (p : ReplicaHistory). p.history.now.vars) c.self.view_is in
+    let tree = ap (λ (p : ReplicaHistory). p.history.now.tree) c.self.view_is in
     handed_up (E.Exec c.args.self.now.number) [] c.args.self.now c.from_residual-in_err-bound.result (eval_cause_of c.in_err-bound.field-0.0) (λ why. IsEvalRefused (g.S.TreeStore.tree i.store).now (vars_of c.as_slice.result.now) (expr_of c.in-Let.expr) why) c.from_residual-in_err-bound.ensures.1
-    (λ why r. λ set os A stands of. refused_let set c.args.self.now.number A c.args.self.now.now stands os c.requires why (refused_in tree vars same.1 r))
+    (λ why r. λ set os A stands of. refused_let set c.args.self.now.number A c.args.self.now.history.now stands os c.requires why (refused_in tree vars same.1 r))
     c.in_err-bound.ensures.refused
 
 pub returns-clause-ok : goal.returns-clause-ok
 returns-clause-ok g c =
     let i = c.self.inside in
     let is : c.index.result.now ≡ get_or i.script.items i.done c.index.result.now = search rules in
-    let next = is_next i.script.items i.done c.index.result.now (LetIn c.requires.name c.requires.expr) c.requires.rest (ap (λ (p : Past). p.now.left) c.self.view_is ∙ c.requires.next) is in
+    let next = is_next i.script.items i.done c.index.result.now (LetIn c.requires.name c.requires.expr) c.requires.rest (ap (λ (p : ReplicaHistory). p.history.now.left) c.self.view_is ∙ c.requires.next) is in
     let same = same_let c.in-Let.name c.requires.name (expr_of c.in-Let.expr) c.requires.expr (ap cmd_of (sym c.in-Let.is) ∙ next) in
     let all : c.as_slice.result.now ≡ i.vars.items = search rules in
-    let vars = ap (λ vs. vars_of vs) all ∙ ap (λ (p : Past). p.now.vars) c.self.view_is in
-    let tree = ap (λ (p : Past). p.now.tree) c.self.view_is in
-    binds c.args.self.now.now c.requires _ _ _ _ _ _ (c.in_ok-copy.ensures ∙ same.0) c.in_ok-open.ensures.ok c.in_ok-open-2.ensures.ok (evaluated_in tree vars same.1 c.in_ok-bound.ensures.ok)
+    let vars = ap (λ vs. vars_of vs) all ∙ ap (λ (p : ReplicaHistory). p.history.now.vars) c.self.view_is in
+    let tree = ap (λ (p : ReplicaHistory). p.history.now.tree) c.self.view_is in
+    binds c.args.self.now.history.now c.requires _ _ _ _ _ _ (c.in_ok-copy.ensures ∙ same.0) c.in_ok-open.ensures.ok c.in_ok-open-2.ensures.ok (evaluated_in tree vars same.1 c.in_ok-bound.ensures.ok)

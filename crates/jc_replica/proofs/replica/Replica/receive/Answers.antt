@@ -4,7 +4,7 @@ use Rattle.jc_cursor.specs.Bounds.{vars_of}
 use Rattle.jc_replica.specs.declared.record.Record.{Record}
 use Rattle.jc_replica.specs.declared.record.Change.TheVariants as C
 use Rattle.jc_replica.specs.Operations.{AreInOrder, AreHanded}
-use Rattle.jc_replica.specs.ReplicaHistory.{Past}
+use Rattle.jc_replica.specs.ReplicaHistory.{ReplicaHistory}
 use Rattle.jc_replica.specs.Received.{IsUnited}
 use Rattle.jc_replica.specs.Undo.{Held, held_of, undone_once}
 use Rattle.jc_replica.proofs.AnswersLemmas.{ready_now}
@@ -28,8 +28,8 @@ invariant_of-self-2 g c =
     let r : Record = record { mark = c.mark-mark.result; change = C.Received c.in_ok-came.came i.acted } in
     let one : c.push-2.new.self.items ≡ i.steps.items ++ r ∷ [] = search rules in
     let all : c.deref.result.now ≡ i.queue.items = search rules in
-    let off : take i.sent c.deref.result.now ≡ c.args.self.now.now.send = ap (take i.sent) all ∙ ap (λ (p : Past). p.now.send) c.self.view_is in
-    let read : c.unwrap_or-ops.result.now ≡ unwrap_or (option_copied c.args.offered) c.args.self.now.now.send = ap (λ (b : Bor (List Op)). b.now) c.unwrap_or-ops.ensures ∙ offered_now c.args.offered _ ∙ ap (unwrap_or (option_copied c.args.offered)) off in
+    let off : take i.sent c.deref.result.now ≡ c.args.self.now.history.now.send = ap (take i.sent) all ∙ ap (λ (p : ReplicaHistory). p.history.now.send) c.self.view_is in
+    let read : c.unwrap_or-ops.result.now ≡ unwrap_or (option_copied c.args.offered) c.args.self.now.history.now.send = ap (λ (b : Bor (List Op)). b.now) c.unwrap_or-ops.ensures ∙ offered_now c.args.offered _ ∙ ap (unwrap_or (option_copied c.args.offered)) off in
     let done = c.in_ok-came.ensures in
     let back_is : undone_once r.change (received_held h c.unite.new.self) ≡ h = ap (λ (x : List Op). held_of h.done h.acted h.vars h.ops h.queue h.sent x) done.back in
     (received_step c.self.invariant c.unite.new.self c.push-2.new.self.items r one c.mark-mark.ensures back_is tt done.order (done.handed (ready_now c.self.invariant).handed (subst AreHanded (sym read) c.requires.handed))).kept
@@ -42,10 +42,10 @@ returns-clause-received g c =
     let r : Record = record { mark = c.mark-mark.result; change = C.Received c.in_ok-came.came i.acted } in
     let one : c.push-2.new.self.items ≡ i.steps.items ++ r ∷ [] = search rules in
     let all : c.deref.result.now ≡ i.queue.items = search rules in
-    let off : take i.sent c.deref.result.now ≡ c.args.self.now.now.send = ap (take i.sent) all ∙ ap (λ (p : Past). p.now.send) c.self.view_is in
-    let read : c.unwrap_or-ops.result.now ≡ unwrap_or (option_copied c.args.offered) c.args.self.now.now.send = ap (λ (b : Bor (List Op)). b.now) c.unwrap_or-ops.ensures ∙ offered_now c.args.offered _ ∙ ap (unwrap_or (option_copied c.args.offered)) off in
+    let off : take i.sent c.deref.result.now ≡ c.args.self.now.history.now.send = ap (take i.sent) all ∙ ap (λ (p : ReplicaHistory). p.history.now.send) c.self.view_is in
+    let read : c.unwrap_or-ops.result.now ≡ unwrap_or (option_copied c.args.offered) c.args.self.now.history.now.send = ap (λ (b : Bor (List Op)). b.now) c.unwrap_or-ops.ensures ∙ offered_now c.args.offered _ ∙ ap (unwrap_or (option_copied c.args.offered)) off in
     let done = c.in_ok-came.ensures in
     let back_is : undone_once r.change (received_held h c.unite.new.self) ≡ h = ap (λ (x : List Op). held_of h.done h.acted h.vars h.ops h.queue h.sent x) done.back in
     let s = received_step c.self.invariant c.unite.new.self c.push-2.new.self.items r one c.mark-mark.ensures back_is tt done.order (done.handed (ready_now c.self.invariant).handed (subst AreHanded (sym read) c.requires.handed)) in
-    let united : IsUnited h.recv (unwrap_or (option_copied c.args.offered) c.args.self.now.now.send) c.unite.new.self = subst (λ (xs : List Op). IsUnited h.recv xs c.unite.new.self) read done.ok in
+    let united : IsUnited h.recv (unwrap_or (option_copied c.args.offered) c.args.self.now.history.now.send) c.unite.new.self = subst (λ (xs : List Op). IsUnited h.recv xs c.unite.new.self) read done.ok in
     has_received i.number _ c.self.view_is _ c.unite.new.self c.push-2.new.self.items united s

@@ -7,7 +7,7 @@ use Rattle.jc_cursor.specs.Bounds.{vars_of}
 use Rattle.jc_replica.specs.declared.record.Record.{Record}
 use Rattle.jc_replica.specs.declared.record.Change.TheVariants as C
 use Rattle.jc_replica.specs.Undo.{Held, held_of}
-use Rattle.jc_replica.specs.ReplicaHistory.{Past, no_rows}
+use Rattle.jc_replica.specs.ReplicaHistory.{ReplicaHistory, no_rows}
 use Rattle.jc_replica.proofs.UndoStepsLemmas.{stepped}
 use Rattle.jc_replica.proofs.AnswersLemmas.{ready_now, sent_ready, sends, occurs}
 use Rattle.jc_replica.proofs.replica.Replica.send.Goals as goal
@@ -34,7 +34,7 @@ returns g c =
     let h2 : Held = held_of i.done true (vars_of i.vars.items) i.ops i.queue.items c.len-self-inside.result i.recv in
     let r : Record = record { mark = c.mark.result; change = C.Sent i.sent i.acted } in
     let ready = ready_now c.self.invariant in
-    let left = ap (λ (p : Past). p.now.left) c.self.view_is ∙ c.in_ok-at_yield.ensures.ok.1 in
+    let left = ap (λ (p : ReplicaHistory). p.history.now.left) c.self.view_is ∙ c.in_ok-at_yield.ensures.ok.1 in
     let len : c.len-self-inside.result ≡ length i.queue.items = search rules in
     let sent : h2 ≡ held_of h.done true h.vars h.ops h.queue (length h.queue) h.recv = ap (λ (n : ℕ). held_of h.done true h.vars h.ops h.queue n h.recv) len in
     let one : c.push-2.new.self.items ≡ i.steps.items ++ r ∷ [] = search rules in

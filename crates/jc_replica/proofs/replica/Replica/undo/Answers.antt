@@ -3,7 +3,7 @@ use Rattle.jc_rules.specs.VersionVectors.{truncated}
 use Rattle.jc_cursor.specs.Bounds.{vars_of}
 use Rattle.jc_replica.specs.declared.record.Change.{Change}
 use Rattle.jc_replica.specs.declared.record.Change.TheVariants as C
-use Rattle.jc_replica.specs.ReplicaHistory.{Past}
+use Rattle.jc_replica.specs.ReplicaHistory.{ReplicaHistory}
 use Rattle.jc_replica.specs.Undo.{Held, held_of, undone_once, unbound, was_bound, without_ops}
 use Rattle.jc_replica.proofs.UndoStepsLemmas.{mark_there}
 use Rattle.jc_replica.proofs.UndoLemmas.{unstep, can_back_as, in_memory}
@@ -59,7 +59,7 @@ returns-in-Bound-clause-undone g c = λ yes.
     let vars : vars_of c.unbind_var.new.vars.items ≡ unbound c.in-Bound.place (was_bound c.in-Bound.before) (vars_of i.vars.items) = c.unbind_var.ensures in
     let restored : undone_once c.in-Some.field-0.change h ≡ h0 = ap (λ (x : Change). undone_once x h) is ∙ (λ j. held_of (sym done j) i.acted (sym vars j) i.ops i.queue.items i.sent i.recv) in
     let s = unstep c.self.invariant (g.S.TreeStore.tree c.undo_to.new.self) c.pop.new.self.items c.in-Some.field-0 h0 c.in-Some.ensures.items c.undo_to.ensures restored in
-    s.history ∙ ap (λ (p : Past). p.earlier) c.self.view_is
+    s.history ∙ ap (λ (p : ReplicaHistory). p.history.earlier) c.self.view_is
 
 pub invariant_of-self-in-Made : goal.invariant_of-self-in-Made
 invariant_of-self-in-Made g c =
@@ -85,7 +85,7 @@ returns-in-Made-clause-undone g c = λ yes.
     let queue : c.drop_last.new.queue.items ≡ take (length i.queue.items - 1) i.queue.items = c.drop_last.ensures in
     let restored : undone_once c.in-Some.field-0.change h ≡ h0 = ap (λ (x : Change). undone_once x h) is ∙ (λ j. held_of (sym done j) i.acted (vars_of i.vars.items) (sym ops j) (sym queue j) i.sent i.recv) in
     let s = unstep c.self.invariant (g.S.TreeStore.tree c.undo_to.new.self) c.pop.new.self.items c.in-Some.field-0 h0 c.in-Some.ensures.items c.undo_to.ensures restored in
-    s.history ∙ ap (λ (p : Past). p.earlier) c.self.view_is
+    s.history ∙ ap (λ (p : ReplicaHistory). p.history.earlier) c.self.view_is
 
 pub invariant_of-self-in-Sent : goal.invariant_of-self-in-Sent
 invariant_of-self-in-Sent g c =
@@ -105,7 +105,7 @@ returns-in-Sent-clause-undone g c = λ yes.
     let is : c.in-Some.field-0.change ≡ C.Sent c.in-Sent.sent c.in-Sent.acted = search rules in
     let restored : undone_once c.in-Some.field-0.change h ≡ h0 = ap (λ (x : Change). undone_once x h) is in
     let s = unstep c.self.invariant (g.S.TreeStore.tree c.undo_to.new.self) c.pop.new.self.items c.in-Some.field-0 h0 c.in-Some.ensures.items c.undo_to.ensures restored in
-    s.history ∙ ap (λ (p : Past). p.earlier) c.self.view_is
+    s.history ∙ ap (λ (p : ReplicaHistory). p.history.earlier) c.self.view_is
 
 pub invariant_of-self-in-Received : goal.invariant_of-self-in-Received
 invariant_of-self-in-Received g c =
@@ -127,7 +127,7 @@ returns-in-Received-clause-undone g c = λ yes.
     let recv : c.withdraw-in-Received.new.self ≡ without_ops c.in-Received.came.items i.recv = search rules in
     let restored : undone_once c.in-Some.field-0.change h ≡ h0 = ap (λ (x : Change). undone_once x h) is ∙ (λ j. held_of i.done c.in-Received.acted (vars_of i.vars.items) i.ops i.queue.items i.sent (sym recv j)) in
     let s = unstep c.self.invariant (g.S.TreeStore.tree c.undo_to.new.self) c.pop.new.self.items c.in-Some.field-0 h0 c.in-Some.ensures.items c.undo_to.ensures restored in
-    s.history ∙ ap (λ (p : Past). p.earlier) c.self.view_is
+    s.history ∙ ap (λ (p : ReplicaHistory). p.history.earlier) c.self.view_is
 
 pub invariant_of-self-in-Applied : goal.invariant_of-self-in-Applied
 invariant_of-self-in-Applied g c =
@@ -149,7 +149,7 @@ returns-in-Applied-clause-undone g c = λ yes.
     let ops : c.withdraw-in-Applied.new.self ≡ truncated c.in-Applied.id.replica c.in-Applied.before i.ops = c.withdraw-in-Applied.ensures.exact in
     let restored : undone_once c.in-Some.field-0.change h ≡ h0 = ap (λ (x : Change). undone_once x h) is ∙ (λ j. held_of i.done c.in-Applied.acted (vars_of i.vars.items) (sym ops j) i.queue.items i.sent i.recv) in
     let s = unstep c.self.invariant (g.S.TreeStore.tree c.undo_to.new.self) c.pop.new.self.items c.in-Some.field-0 h0 c.in-Some.ensures.items c.undo_to.ensures restored in
-    s.history ∙ ap (λ (p : Past). p.earlier) c.self.view_is
+    s.history ∙ ap (λ (p : ReplicaHistory). p.history.earlier) c.self.view_is
 
 pub invariant_of-self-in-Ended : goal.invariant_of-self-in-Ended
 invariant_of-self-in-Ended g c =
@@ -171,4 +171,4 @@ returns-in-Ended-clause-undone g c = λ yes.
     let done : c.saturating_sub-ended.result ≡ i.done - 1 = search rules in
     let restored : undone_once c.in-Some.field-0.change h ≡ h0 = ap (λ (x : Change). undone_once x h) is ∙ (λ j. held_of (sym done j) true (vars_of i.vars.items) i.ops i.queue.items i.sent i.recv) in
     let s = unstep c.self.invariant (g.S.TreeStore.tree c.undo_to.new.self) c.pop.new.self.items c.in-Some.field-0 h0 c.in-Some.ensures.items c.undo_to.ensures restored in
-    s.history ∙ ap (λ (p : Past). p.earlier) c.self.view_is
+    s.history ∙ ap (λ (p : ReplicaHistory). p.history.earlier) c.self.view_is
