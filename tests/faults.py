@@ -63,8 +63,8 @@ ROWS = [
     # The quotes keep the word out of the case's own name: a case that the word selects would run itself again and again.
     ("./test no-such-''word", 2, "test: no case has no-such-word in its name"),
     ("./test --nothing", 2, "test: "),
-    ("bench/run nothing", 2, "bench: nothing is no case"),
-    ("bench/run flat", 2, "bench: flat is no case"),
+    ("dev/bench nothing", 2, "bench: nothing is no case"),
+    ("dev/bench flat", 2, "bench: flat is no case"),
     # Files and streams that can't be read.
     ("tools/lanes no-such-file", 4, "lanes: read failed: no-such-file: "),
     ("tools/lanes examples", 4, "lanes: read failed: examples: "),

@@ -1,4 +1,4 @@
-"""The scripts that call rt, tried with a command rt that is none: the launcher, ./more-edits and .ci/run."""
+"""The scripts that call rt, tried with a command rt that is none: the launcher, dev/more-edits and .ci/run."""
 
 import os
 import subprocess
@@ -91,11 +91,11 @@ def goes_on(_):
         ([], 1, 1, "", ["jc_a", "jc_c"]),
         (["jc_c"], 1, 0, "refused: jc_c\n", ["jc_a", "jc_c"]),
     ]
-    with folder_of({"rt": REFUSING, "crates.txt": "", "HANDLES": "", **files}) as folder:
-        place(os.path.join(folder, "more-edits"), stored("more-edits"))
+    script = {"dev/more-edits": stored("dev/more-edits")}
+    with folder_of({"rt": REFUSING, "crates.txt": "", "HANDLES": "", **script, **files}) as folder:
         for words, edits, status, output, recorded in steps:
-            told = called(folder, ["./more-edits", *words], EDITS=str(edits))
-            lines = stored(os.path.join(folder, "more-edits.txt")).splitlines()
+            told = called(folder, ["dev/more-edits", *words], EDITS=str(edits))
+            lines = stored(os.path.join(folder, "dev", "more-edits.txt")).splitlines()
             expect(told.returncode == status and told.stdout.decode() == output, f"{words}: {told}")
             expect([line.split()[0] for line in lines] == recorded, f"{words}: {lines}")
             expect(status == 0 or told.stderr.rstrip().endswith(b"jc_b"), f"{words}: {told}")
@@ -103,18 +103,18 @@ def goes_on(_):
 
 def gate_case(edits, gate, tests, status, output, why):
     """The gate ends as ./test does, or as rt ci where this failed, and tells the processor time of rt ci at its end. It
-    runs neither where ./more-edits --check fails."""
+    runs neither where dev/more-edits --check fails."""
 
     def tried(_):
         ending = f"#!/bin/sh\necho {tests} failed\nexit {tests}\n"
         check = f'#!/bin/sh\n[ "$*" = --check ]\n{"echo stale >&2; exit 1" if edits else ""}\n'
-        with folder_of({"rt": REFUSING, "test": ending, "more-edits": check, ".ci/run": ""}) as folder:
+        with folder_of({"rt": REFUSING, "test": ending, "dev/more-edits": check, ".ci/run": ""}) as folder:
             place(os.path.join(folder, ".ci", "run"), stored(".ci/run"))
             told = called(folder, [".ci/run"], GATE=str(gate))
         expect(told.returncode == status and told.stdout.decode() == output, f"{told}")
         expect_same(told.stderr.decode(), why)
 
-    return f"gate: ./more-edits --check ends with {edits}, rt ci with {gate}, ./test with {tests}", tried
+    return f"gate: dev/more-edits --check ends with {edits}, rt ci with {gate}, ./test with {tests}", tried
 
 
 def scripts():
