@@ -13,6 +13,8 @@ mod debugging;
 #[cfg(test)]
 mod due;
 #[cfg(test)]
+mod halting;
+#[cfg(test)]
 mod memory;
 #[cfg(test)]
 mod networks;
