@@ -1,5 +1,5 @@
 -- About Parts: the keys by their texts make the same members as the keys in their own order.
-use Rattle.std.proofs.Common.{◌≡◌, ◌⊎◌, inl, inr, ℕ, zero, suc, ◌+◌, ◌<◌, List, [], ◌∷◌, ◌++◌, map, length, slice_index_or, Option, Some, None, Contains, String, Global, Bor, nat_cmp, string_cmp, string_bytes, refl, sym, ap, ◌∙◌, subst, arith}
+use Rattle.std.proofs.Common.{◌≡◌, ℕ, ◌+◌, ◌<◌, List, [], ◌∷◌, ◌++◌, map, Option, Some, None, Contains, String, Global, Bor, nat_cmp, string_cmp, string_bytes, refl, sym, ap, ◌∙◌, subst, arith}
 use Rattle.std.specs.List.{AllByRecursion}
 use Rattle.std.specs.List.Sorted.{IsStrictlySortedBy}
 use Rattle.std.specs.Map.{keys_of as map_keys}
@@ -14,11 +14,10 @@ use Rattle.std.proofs.lemmas.Map.Keys.{sorted_head, sorted_tail}
 use Rattle.serde_json.specs.Data.{Data, Members}
 use Rattle.jc_rules.specs.declared.key.Key.{Key}
 use Rattle.jc_rules.specs.Order.{key_cmp, name_cmp}
-use Rattle.jc_rules.specs.Entries.{IsRising, keys_of, find}
+use Rattle.jc_rules.specs.Entries.{IsRising, find}
 use Rattle.jc_rules.specs.Context.{Context}
 use Rattle.jc_rules.specs.WellFormed.{IsWellFormedContext}
-use Rattle.jc_rules.proofs.OrderLemmas.{keys_total, exact_keys, names_total, exact_names}
-use Rattle.jc_rules.proofs.RisingLemmas.{less_greater}
+use Rattle.jc_rules.proofs.OrderLemmas.{names_total, exact_names}
 use Rattle.jc_tree.specs.declared.store.Hint.{Hint}
 use Rattle.jc_tree.specs.Tree.{all_keys}
 use Rattle.jc_tree.specs.Walks.{entry_of, entries_at}
