@@ -25,6 +25,8 @@ mod scenarios;
 #[cfg(test)]
 mod sessions;
 #[cfg(test)]
+mod sharing;
+#[cfg(test)]
 mod steps;
 #[cfg(test)]
 mod stores;

@@ -20,7 +20,7 @@ use Rattle.jc_rules.specs.WellFormed.{IsWellFormedContext}
 use Rattle.jc_tree.specs.Tree.{here, is_after, least_after}
 use Rattle.jc_tree.specs.Nested.{nested}
 use Rattle.jc_tree.proofs.WalksLemmas.{IsNext, next_is, none_is}
-use Rattle.jc_apply.proofs.InsertLemmas.{list_here}
+use Rattle.jc_tree.proofs.ChainedBelowLemmas.{list_here}
 use Rattle.jc_cursor.proofs.ElementsLemmas.{nearer}
 use Rattle.jc_json.proofs.PartsPlacesLemmas.{kept_at}
 use Rattle.jc_tree.proofs.WellFormedLemmas.{presences_rise}

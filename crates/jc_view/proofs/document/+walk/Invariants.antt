@@ -6,7 +6,7 @@ use Rattle.jc_rules.specs.Entries.{keys_of}
 use Rattle.jc_tree.specs.Tree.{here, is_after}
 use Rattle.jc_tree.specs.Nested.{nested}
 use Rattle.jc_tree.specs.Walks.{keys_above}
-use Rattle.jc_clear.proofs.ClearListLemmas.{steps}
+use Rattle.jc_tree.proofs.ChainedLeadsLemmas.{steps}
 use Rattle.jc_view.specs.Visible.{goes_by, present}
 use Rattle.jc_view.specs.Parts.{parts_shown_at, members_front, items_front}
 use Rattle.jc_view.proofs.TokensLemmas.{Wrote}

@@ -12,7 +12,7 @@ use Rattle.jc_replica.specs.ReplicaHistory.{ReplicaHistory, no_rows}
 use Rattle.jc_replica.specs.Undo.{Held, held_of, state_of, replica_history_of}
 use Rattle.jc_replica.proofs.AnswersLemmas.{ready_now, occurs}
 use Rattle.jc_replica.proofs.MayApplyLemmas.{takes_again, fresh, above_own, taken_step, taken_leads, refused_all}
-use Rattle.jc_replica.proofs.replica.Replica.apply.Goals as goal
+use Rattle.jc_replica.proofs.replica.Replica.apply_taken.Goals as goal
 
 pub apply_to-requires-clause-fresh : goal.apply_to-requires-clause-fresh
 apply_to-requires-clause-fresh g c =
@@ -21,7 +21,7 @@ apply_to-requires-clause-fresh g c =
     let script = map cmd_of i.script.items in
     let h : Held = held_of i.done i.acted (vars_of i.vars.items) i.ops i.queue.items i.sent i.recv in
     let found : op_of c.args.id i.recv ≡ Some c.in-Some.op.now = sym c.find.ensures ∙ ap option_copied c.in-Some.is in
-    let takes = takes_again _ (state_of script h t.now) c.args.id _ c.in-Some.op.now c.in_ok-takes.ensures.ok (ap (λ (p : ReplicaHistory). p.history.now) (sym c.self.view_is)) found in
+    let takes = takes_again _ (state_of script h t.now) c.args.id _ c.in-Some.op.now c.requires.1 (ap (λ (p : ReplicaHistory). p.history.now) (sym c.self.view_is)) found in
     fresh script h t.now c.args.id c.in-Some.op.now (ready_now c.self.invariant) takes
 
 pub apply_to-requires-clause-counters : goal.apply_to-requires-clause-counters
@@ -34,7 +34,7 @@ apply_to-requires-clause-above g c =
     let script = map cmd_of i.script.items in
     let h : Held = held_of i.done i.acted (vars_of i.vars.items) i.ops i.queue.items i.sent i.recv in
     let found : op_of c.args.id i.recv ≡ Some c.in-Some.op.now = sym c.find.ensures ∙ ap option_copied c.in-Some.is in
-    let takes = takes_again _ (state_of script h t.now) c.args.id _ c.in-Some.op.now c.in_ok-takes.ensures.ok (ap (λ (p : ReplicaHistory). p.history.now) (sym c.self.view_is)) found in
+    let takes = takes_again _ (state_of script h t.now) c.args.id _ c.in-Some.op.now c.requires.1 (ap (λ (p : ReplicaHistory). p.history.now) (sym c.self.view_is)) found in
     above_own script h t.now c.args.id c.in-Some.op.now (ready_now c.self.invariant) takes
 
 pub returns-in_err-apply_to : goal.returns-in_err-apply_to
@@ -42,7 +42,7 @@ returns-in_err-apply_to g c =
     let i = c.self.inside in
     let script = map cmd_of i.script.items in
     let found : op_of c.args.id i.recv ≡ Some c.in-Some.op.now = sym c.find.ensures ∙ ap option_copied c.in-Some.is in
-    let takes = takes_again _ c.args.self.now.history.now c.args.id _ c.in-Some.op.now c.in_ok-takes.ensures.ok refl (ap (λ (p : ReplicaHistory). op_of c.args.id p.history.now.recv) (sym c.self.view_is) ∙ found) in
+    let takes = takes_again _ c.args.self.now.history.now c.args.id _ c.in-Some.op.now c.requires.1 refl (ap (λ (p : ReplicaHistory). op_of c.args.id p.history.now.recv) (sym c.self.view_is) ∙ found) in
     let p = err_from_is_err_and c.from_residual-in_err-apply_to.result c.from_residual-in_err-apply_to.ensures.1 in
     let tree = c.in_err-apply_to.ensures.err_store in
     let ops = c.in_err-apply_to.ensures.err_ops in
@@ -58,7 +58,7 @@ invariant_of-self-2 g c =
     let script = map cmd_of i.script.items in
     let h : Held = held_of i.done i.acted (vars_of i.vars.items) i.ops i.queue.items i.sent i.recv in
     let found : op_of c.args.id i.recv ≡ Some c.in-Some.op.now = sym c.find.ensures ∙ ap option_copied c.in-Some.is in
-    let takes = takes_again _ (state_of script h t.now) c.args.id _ c.in-Some.op.now c.in_ok-takes.ensures.ok (ap (λ (p : ReplicaHistory). p.history.now) (sym c.self.view_is)) found in
+    let takes = takes_again _ (state_of script h t.now) c.args.id _ c.in-Some.op.now c.requires.1 (ap (λ (p : ReplicaHistory). p.history.now) (sym c.self.view_is)) found in
     let one : c.push.new.self.items ≡ i.steps.items ++ record { mark = c.mark-mark.result; change = C.Applied c.args.id c.greatest_of-before.result i.acted } ∷ [] = search rules in
     let done = c.in_ok-apply_to.ensures in
     (taken_step c.self.invariant c.args.id c.in-Some.op.now takes c.apply_to.new.ops done.ops u c.push.new.self.items c.mark-mark.result c.greatest_of-before.result done.later one c.mark-mark.ensures c.greatest_of-before.ensures.exact done.chained done.unlinked).kept
@@ -71,7 +71,7 @@ returns g c =
     let script = map cmd_of i.script.items in
     let h : Held = held_of i.done i.acted (vars_of i.vars.items) i.ops i.queue.items i.sent i.recv in
     let found : op_of c.args.id i.recv ≡ Some c.in-Some.op.now = sym c.find.ensures ∙ ap option_copied c.in-Some.is in
-    let takes = takes_again _ (state_of script h t.now) c.args.id _ c.in-Some.op.now c.in_ok-takes.ensures.ok (ap (λ (p : ReplicaHistory). p.history.now) (sym c.self.view_is)) found in
+    let takes = takes_again _ (state_of script h t.now) c.args.id _ c.in-Some.op.now c.requires.1 (ap (λ (p : ReplicaHistory). p.history.now) (sym c.self.view_is)) found in
     let one : c.push.new.self.items ≡ i.steps.items ++ record { mark = c.mark-mark.result; change = C.Applied c.args.id c.greatest_of-before.result i.acted } ∷ [] = search rules in
     let done = c.in_ok-apply_to.ensures in
     let s = taken_step c.self.invariant c.args.id c.in-Some.op.now takes c.apply_to.new.ops done.ops u c.push.new.self.items c.mark-mark.result c.greatest_of-before.result done.later one c.mark-mark.ensures c.greatest_of-before.ensures.exact done.chained done.unlinked in
