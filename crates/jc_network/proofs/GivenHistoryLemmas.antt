@@ -135,7 +135,7 @@ undone_none c = record { counted = omega arith; from = refl; names = refl }
 
 pub undone_more : (first old new : NetworkHistory) (i : ℕ) (was : Bool) → i < length first.history.earlier → HasUndone first old i → (IsTrue was → old.history.earlier ≡ timeline new.history) → new.names ≡ old.names → (IsFalse was → (new ≡ old) × (old.history.earlier ≡ [])) → HasUndone first new (i + 1)
 undone_more first old new i true l h back names none =
-    let earlier : old.history.earlier ≡ timeline new.history = back tt in
+    let earlier : old.history.earlier ≡ timeline new.history = back refl in
     let more : length old.history.earlier ≡ length new.history.earlier + 1 = ap length earlier ∙ length_end new.history.earlier new.history.now in
     let c = h.counted in
     record {
@@ -144,7 +144,7 @@ undone_more first old new i true l h back names none =
       names = names ∙ h.names;
     }
 undone_more first old new i false l h back names none =
-    let empty : length old.history.earlier ≡ 0 = ap length (none tt).1 in
+    let empty : length old.history.earlier ≡ 0 = ap length (none refl).1 in
     let c = h.counted in
     absurd (omega (arith, l, empty, c))
 
@@ -167,6 +167,11 @@ led_back first now last given i e h is =
     let empty = sym e in
     let names = h.names in
     is ∙ (λ j. record { names = names j; history = record { now = state j; earlier = empty j } })
+
+-- where the next event was refused, too
+pub refused_back : (first now same last : NetworkHistory) (given : List Event) (i : ℕ) → first.history.earlier ≡ [] → HaveLed first now given i → same ≡ now → last ≡ record same { history = begun (first_of same.history) } → last ≡ first
+refused_back first now same last given i e h kept is =
+    led_back first now last given i e h (is ∙ ap (λ (c : NetworkHistory). record c { history = begun (first_of c.history) }) kept)
 
 -- a network whose steps so far aren't counted is kept all the same
 pub uncounted : (version : Version) (count : ℕ) (whose : List ℕ) (ps : List ReplicaHistory) → IsNet version count whose ps → IsNet version count [] ps

@@ -114,15 +114,18 @@ impl Net {
         let mut at = 0u64;
         for event in given {
             at += 1;
-            let Err(fault) = self.step(event) else {
-                continue;
-            };
-            self.undo_all();
-            return Err(match fault {
-                StepFault::Full => unreachable!(),
-                StepFault::Stuck(stuck) => StartFault::Given { at, stuck },
-                StepFault::Memory => StartFault::Memory,
-            });
+            match self.step(event) {
+                Ok(_trace) => {}
+                Err(StepFault::Full) => unreachable!(),
+                Err(StepFault::Stuck(stuck)) => {
+                    self.undo_all();
+                    return Err(StartFault::Given { at, stuck });
+                }
+                Err(StepFault::Memory) => {
+                    self.undo_all();
+                    return Err(StartFault::Memory);
+                }
+            }
         }
         Ok(())
     }
