@@ -93,9 +93,12 @@ def taken(words, number):
 
 
 def number_in(word, most):
-    if not re.fullmatch("[0-9]{1,20}", word) or int(word) > most:
+    """The number that the word is: digits, as many zeros first as one likes, and before them a plus or none."""
+    # No limit has 21 digits, and Python reads no number of some thousands.
+    digits = word.removeprefix("+").lstrip("0")[:21] or "0"
+    if not re.fullmatch(r"\+?[0-9]+", word) or int(digits) > most:
         raise BadWords(f"{word} is no number from 0 to {most}")
-    return int(word)
+    return int(digits)
 
 
 def order_of(words):

@@ -50,7 +50,7 @@ ROWS = [
     ("kit/check --only nothing true", 2, "check: the kit has no scenario nothing"),
     ("kit/check --except nothing true", 2, "check: the kit has no scenario nothing"),
     ("kit/check ./no-such-command", 2, "check: ./no-such-command: "),
-    ("kit/check docs/TESTING.md", 2, "check: docs/TESTING.md: "),
+    ("kit/check docs/ENGINES.md", 2, "check: docs/ENGINES.md: "),
     ("kit/check ''", 2, "check: "),
     ("kit/differs <" + KIT_FIRST, 2, "differs: the following arguments are required: COMMAND"),
     ("kit/differs ./no-such-command <" + KIT_FIRST, 2, "differs: ./no-such-command: "),

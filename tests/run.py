@@ -18,6 +18,7 @@ sys.argv[0] = os.path.join(ROOT, "test")
 
 import command_line
 import definition
+import floors
 import processes
 import streams
 from blocks import bare_blocks, commands_of, long_paragraphs
@@ -92,6 +93,7 @@ def readme_case(crate):
 def pages():
     yield from map(page_case, documents())
     yield from map(readme_case, sorted(glob.glob("crates/*")))
+    yield "pages: the crates of docs/WORKING.md", floors.are_shown
 
 
 def told_case(name, words, path, write=False):
