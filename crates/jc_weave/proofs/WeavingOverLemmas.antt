@@ -33,15 +33,18 @@ after_leaving L = loom L.network L.phases (without_replica (drawn_replica L) L.l
 leaves : (L : Loom) → LeavesLoom L (after_leaving L)
 leaves L = record { network = refl; phases = refl; live = refl; generator = refl; left = refl }
 
+abbrev EndsWithin : List (List Cmd) → ℕ → Type 0
+EndsWithin scripts n = (M : Loom) → IsReached scripts M.network.states → M.left + length M.live ≤ n → IsOverAfter M
+
 turns_end : (scripts : List (List Cmd)) (n : ℕ) (L : Loom) → IsReached scripts L.network.states → L.left + length L.live ≤ n → IsOverAfter L
 turns_end scripts zero L r few = over_now L (inl (omega (arith, few)))
-turns_end scripts (suc n) L r few = by_left L.left refl L.live refl
+turns_end scripts (suc n) L r few = by_left (λ M. turns_end scripts n M) L.left refl L.live refl
   where
     fewer_live : L.live ≢ [] → L.left + length (without_replica (drawn_replica L) L.live) ≤ n
     fewer_live some = omega (arith, few, fewer L.network.states L.phases L.live L.generator (drawn_replica L) some refl)
 
-    by_step : (e : Event) (next : Phase) (k : ℕ) → L.left ≡ suc k → L.live ≢ [] → drawn_choice L ≡ Some (e, next) → StepsOrStuckIn L.network e → IsOverAfter L
-    by_step e next k room some is (inl (N, rows, step)) =
+    by_step : EndsWithin scripts n → (e : Event) (next : Phase) (k : ℕ) → L.left ≡ suc k → L.live ≢ [] → drawn_choice L ≡ Some (e, next) → StepsOrStuckIn L.network e → IsOverAfter L
+    by_step rest e next k room some is (inl (N, rows, step)) =
         let M : Loom = loom N (slice_set L.phases (drawn_replica L) next) L.live (pcg32 L.generator).1 k in
         over_after L M (makes e) (record {
           room = omega (arith, room);
@@ -56,24 +59,24 @@ turns_end scripts (suc n) L r few = by_left L.left refl L.live refl
             generator = refl;
             left = omega (arith, room);
           };
-        }) (turns_end scripts n M (reached_more scripts L.network N e rows r step) (omega (arith, few, room)))
-    by_step e next k room some is (inr (why, stuck)) =
+        }) (rest M (reached_more scripts L.network N e rows r step) (omega (arith, few, room)))
+    by_step rest e next k room some is (inr (why, stuck)) =
         over_after L (after_leaving L) (gets_stuck e why) (record {
           room = omega (arith, room);
           some = some;
           does = (record { next = next; is_chosen = is; is_stuck = stuck }, leaves L);
-        }) (turns_end scripts n (after_leaving L) r (fewer_live some))
+        }) (rest (after_leaving L) r (fewer_live some))
 
-    by_choice : (k : ℕ) → L.left ≡ suc k → L.live ≢ [] → (o : Option (Event × Phase)) → drawn_choice L ≡ o → IsOverAfter L
-    by_choice k room some None is =
-        over_after L (after_leaving L) (finishes (drawn_replica L)) (record { room = omega (arith, room); some = some; does = (refl, is, leaves L) }) (turns_end scripts n (after_leaving L) r (fewer_live some))
-    by_choice k room some (Some (e, next)) is = by_step e next k room some is (step_or_stuck_in scripts L.network e r)
+    by_choice : EndsWithin scripts n → (k : ℕ) → L.left ≡ suc k → L.live ≢ [] → (o : Option (Event × Phase)) → drawn_choice L ≡ o → IsOverAfter L
+    by_choice rest k room some None is =
+        over_after L (after_leaving L) (finishes (drawn_replica L)) (record { room = omega (arith, room); some = some; does = (refl, is, leaves L) }) (rest (after_leaving L) r (fewer_live some))
+    by_choice rest k room some (Some (e, next)) is = by_step rest e next k room some is (step_or_stuck_in scripts L.network e r)
 
-    by_left : (left : ℕ) → L.left ≡ left → (live : List ℕ) → L.live ≡ live → IsOverAfter L
-    by_left zero none live are = over_now L (inl none)
-    by_left (suc k) room [] are = over_now L (inr are)
-    by_left (suc k) room (p ∷ ps) are =
-        by_choice k room (λ none. let no : p ∷ ps ≡ [] = sym are ∙ none in cc) (drawn_choice L) refl
+    by_left : EndsWithin scripts n → (left : ℕ) → L.left ≡ left → (live : List ℕ) → L.live ≡ live → IsOverAfter L
+    by_left rest zero none live are = over_now L (inl none)
+    by_left rest (suc k) room [] are = over_now L (inr are)
+    by_left rest (suc k) room (p ∷ ps) are =
+        by_choice rest k room (λ none. let no : p ∷ ps ≡ [] = sym are ∙ none in cc) (drawn_choice L) refl
 
 pub each_seed_weaves : EachSeedWeaves
 each_seed_weaves s start seed limit is =
