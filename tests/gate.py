@@ -7,7 +7,7 @@ import re
 import shutil
 import subprocess
 
-from cases import expect, expect_same, folder_of, place, stored
+from cases import BUILT, IN_TEST, expect, expect_same, folder_of, lack_of_built, place, stored
 
 # A command rt for which an edit comes to what its file has, and a crate isn't proved in which there is a file `unproved`.
 TRYING = """#!/bin/sh
@@ -286,6 +286,65 @@ def gate_case(edits, gate, tests, status, output, why):
     return f"gate: dev/more-edits --check ends with {edits}, rt ci with {gate}, ./test --built with {tests}", tried
 
 
+# A small program: a crate of it, and one of tests.
+PARTS = {"crates.txt": "jc_low: jc_low_more thiserror\njc_low_more:\njc_app: jc_low\n# tests\njc_low_tests: jc_low\n",
+         **{f"crates/{name}/{part}": "" for name in ("jc_low", "jc_low_more", "jc_app", "jc_low_tests")
+            for part in ("src/lib.rt", "src/tests.rt", "specs/Lib.antt", "proofs/lib/Lib.antt")}}
+# What is newer than the program, and whether that is told of it.
+NEWER = (
+    ("crates.txt", True), ("crates/jc_app/src/lib.rt", True), ("crates/jc_low/src/lib.rt", True), ("crates/jc_low/src", True),
+    ("crates/jc_low_more/specs/Lib.antt", True), ("crates/jc_low/proofs/lib/Lib.antt", True),
+    ("crates/jc_low_more/proofs", True), ("crates/jc_app/src/tests.rt", False), ("crates/jc_low_tests/src/lib.rt", False),
+)
+
+
+@contextlib.contextmanager
+def program():
+    """A folder with a small program, as it was built of its parts, and with all else that is here."""
+    with folder_of({}) as folder:
+        for path, text in PARTS.items():
+            write(folder, path, text)
+        os.makedirs(os.path.join(folder, os.path.dirname(BUILT)))
+        place(os.path.join(folder, BUILT), "#!/bin/sh\n")
+        for at, folders, files in os.walk(folder):
+            for name in folders + files:
+                os.utime(os.path.join(at, name), (1000, 1000))
+        os.utime(os.path.join(folder, BUILT), (2000, 2000))
+        for name in os.listdir():
+            if name not in (".git", "crates", "crates.txt"):
+                os.symlink(os.path.abspath(name), os.path.join(folder, name))
+        shutil.copy("test", os.path.join(folder, "own-test"))
+        yield folder
+
+
+def newer_case(path, is_told):
+    """The program is no longer as new as what it is made of where this is newer; tests are no part of it."""
+
+    def tried(_):
+        with program() as folder:
+            expect_same(lack_of_built(folder), "")
+            os.utime(os.path.join(folder, path), (3000, 3000))
+            expect_same(lack_of_built(folder), f"{path} is newer than {BUILT}" if is_told else "")
+
+    return f"gate: {path} is newer than the program", tried
+
+
+def is_built_case(change, lack):
+    """./test --built fails at once where the program isn't there, or is old, and goes on where it is as new as its parts."""
+
+    def tried(_):
+        with program() as folder:
+            change(folder)
+            told = called(folder, ["./own-test", "--built", "no-such-word"], **{IN_TEST: "yes"})
+        if lack:
+            expect_same(told.stdout.decode(), f"FAILED test: {lack}\n0 passed, 1 failed\n")
+        else:
+            expect(b"no case has no-such-word" in told.stderr, f"{told}")
+        expect(told.returncode == (1 if lack else 2), f"{told}")
+
+    return f"gate: ./test --built where {lack or 'the program is as new as its parts'}", tried
+
+
 def gate():
     yield from map(hole_case, HOLES)
     yield "more-edits: only what has no verdict is tried", takes_steps
@@ -295,6 +354,11 @@ def gate():
     yield "more-edits: a crate that isn't proved as it stands", is_proved_first
     yield "more-edits: without rt", needs_rt
     yield "more-edits: the old form of the record", takes_old_form
+    for row in NEWER:
+        yield newer_case(*row)
+    yield is_built_case(lambda folder: None, "")
+    yield is_built_case(lambda folder: os.remove(f"{folder}/{BUILT}"), f"{BUILT} isn't there")
+    yield is_built_case(lambda folder: os.utime(f"{folder}/crates.txt"), f"crates.txt is newer than {BUILT}")
     took = "gate: rt ci took 0.0 processor minutes\n"
     yield gate_case(0, 0, 0, 0, "--built: 0 failed\n", took)
     yield gate_case(0, 0, 1, 1, "--built: 1 failed\n", took)

@@ -1,5 +1,6 @@
 """What needs no proof, tried at once. ./test starts it."""
 
+import collections
 import concurrent.futures
 import glob
 import json
@@ -12,7 +13,7 @@ import sys
 import tempfile
 
 ROOT = os.path.dirname(os.path.dirname(os.path.abspath(__file__)))
-sys.path += [os.path.join(ROOT, "tools"), os.path.join(ROOT, "oracle")]
+sys.path += [os.path.join(ROOT, folder) for folder in ("tools", "oracle", "dev")]
 # What is wrong is told by the name of the script that starts this.
 sys.argv[0] = os.path.join(ROOT, "test")
 
@@ -35,10 +36,10 @@ HEADINGS = ("## What the layer above sees", "## Only tested")
 ABOUT = """\
 Runs what needs no proof: blocks of the documents, examples, tools, scripts, the kit for other engines, and the rules in
 Python. It proves nothing; the gate, rt ci, does that. The last line is `N passed, M failed`, and the status is 1 where
-one failed."""
+one failed. What needs the built program, or a command that isn't there, is skipped, and counted on the line before."""
 WORDS = """\
-With words, what has one of them in its name: examples, README, docs, pages, tools, faults, launcher, more-edits, gate,
-process, arguments, editors, kit, oracle, or a part of a file's name or of a command."""
+With words, what has one of them in its name: examples, README, docs, pages, tools, faults, launcher, edits, more-edits,
+gate, process, arguments, editors, kit, oracle, or a part of a file's name or of a command."""
 
 
 def block_case(command):
@@ -301,7 +302,7 @@ def editors():
     yield "oracle: a session in a terminal", has_prompt
 
 
-PASSED, FAILED, NOT_TRIED = "passed", "failed", "not tried"
+PASSED, FAILED, SKIPPED = "passed", "failed", "skipped"
 
 
 def result_of(case, programs):
@@ -310,7 +311,7 @@ def result_of(case, programs):
     try:
         tried(programs)
     except NotTried as lack:
-        return NOT_TRIED, f"not tried: {name} needs {lack}"
+        return SKIPPED, f"skipped: {name} needs {lack}"
     except Wrong as wrong:
         return FAILED, f"FAILED {name}\n  " + str(wrong).rstrip().replace("\n", "\n  ")
     except Exception as fault:  # of the test itself; the others are tried all the same
@@ -342,7 +343,12 @@ def main():
     parser.add_argument("words", metavar="WORD", nargs="*", help="only what has one of these words in its name")
     parser.add_argument("--write", action="store_true",
                         help="write what the tools print of each example to tests/expected, to be read before it is kept")
+    parser.add_argument("--built", action="store_true",
+                        help="fail where the built program isn't there, or what it is made of is newer")
     asked, programs = parser.parse_args(), Programs()
+    if asked.built and not programs.is_built:
+        print(f"FAILED test: {programs.lack}\n0 passed, 1 failed")
+        return 1
     cases = [*examples(asked.write), *blocks(), *pages(), *tools(asked.write), *faults(), *scripts(), *process(), *arguments(),
              *editors(), *kit()]
     cases = chosen_of(cases, asked.words)
@@ -350,7 +356,7 @@ def main():
         streams.stop("a test runs no tests")
     print("test: nothing is proved here; the gate, rt ci, does that")
     if not programs.is_built:
-        print("test: the built program isn't there, or its sources are newer; what is tried is the rules in Python")
+        print(f"test: {programs.lack}; what is tried is the rules in Python")
     with concurrent.futures.ThreadPoolExecutor(AT_ONCE) as pool:
         results = list(pool.map(lambda case: result_of(case, programs), cases))
     if not asked.words or "oracle" in asked.words:
@@ -358,7 +364,9 @@ def main():
     for _, line in results:
         if line:
             print(line)
-    counts = {kind: sum(result[0] == kind for result in results) for kind in (PASSED, FAILED)}
+    counts = collections.Counter(kind for kind, _ in results)
+    if counts[SKIPPED]:
+        print(f"{counts[SKIPPED]} skipped, for what they need isn't here")
     print(f"{counts[PASSED]} passed, {counts[FAILED]} failed")
     return 1 if counts[FAILED] else 0
 
