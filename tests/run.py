@@ -23,6 +23,7 @@ import processes
 import streams
 from blocks import bare_blocks, commands_of, long_paragraphs
 from cases import IN_PYTHON, IN_TEST, NotTried, Programs, Wrong, expect, expect_same, run, stored
+from edits import edits
 from faults import faults
 from grammar import EVENTS, RESERVED
 from kit import kit
@@ -349,7 +350,7 @@ def main():
     if asked.built and not programs.is_built:
         print(f"FAILED test: {programs.lack}\n0 passed, 1 failed")
         return 1
-    cases = [*examples(asked.write), *blocks(), *pages(), *tools(asked.write), *faults(), *scripts(), *process(), *arguments(),
+    cases = [*examples(asked.write), *blocks(), *pages(), *tools(asked.write), *faults(), *scripts(), *edits(), *process(), *arguments(),
              *editors(), *kit()]
     cases = chosen_of(cases, asked.words)
     if IN_TEST in os.environ:
