@@ -10,6 +10,8 @@ from crates import below, crates_of
 # Where `rt ci` and `rt run` leave the program.
 BUILT = os.path.join("crates", "jc_app", "out", "jc_app")
 IN_PYTHON = os.path.join("oracle", "jsoncrdt")
+# How the line begins by which the rules in Python say what they are.
+UNPROVED = "oracle/jsoncrdt: these are the rules in Python"
 # Stands in the environment of what a test runs. There ./test runs no tests, which else might go on without end.
 IN_TEST = "JSONCRDT_IN_TEST"
 
@@ -62,6 +64,12 @@ def run(words, program, text="", shell=False, path=None):
     if path:
         environment["PATH"] = f"{path}:{environment['PATH']}"
     return subprocess.run(words, input=text.encode(), capture_output=True, shell=shell, env=environment, check=False)
+
+
+def told_errors(ended):
+    """What a command told on standard error, but for the line by which the rules in Python say what they are."""
+    lines = ended.stderr.decode(errors="replace").splitlines(keepends=True)
+    return "".join(line for line in lines if not line.startswith(UNPROVED))
 
 
 def place(path, text):

@@ -21,8 +21,8 @@ import command_line
 import definition
 import processes
 import streams
-from blocks import bare_blocks, commands_of, long_paragraphs
-from cases import IN_PYTHON, IN_TEST, NotTried, Programs, Wrong, expect, expect_same, run, stored
+from blocks import ROWS, bare_blocks, commands_of, long_paragraphs, row_case
+from cases import IN_PYTHON, IN_TEST, NotTried, Programs, Wrong, expect, expect_same, run, stored, told_errors
 from edits import edits
 from faults import faults
 from grammar import EVENTS, RESERVED
@@ -51,8 +51,9 @@ def block_case(command):
             raise NotTried("the built program")
         program = programs.of(command.text)
         text = re.sub(r"(?<!\S)\./jsoncrdt\b", program, command.text)
-        output = run(text, program, command.input, shell=True).stdout.decode(errors="replace")
-        expect(command.is_shown_by(output), f"{command.text}\ntells\n{output}")
+        ended = run(text, program, command.input, shell=True)
+        fault = command.fault(ended.returncode, ended.stdout.decode(errors="replace"), told_errors(ended))
+        expect(not fault, fault)
 
     return command.place, tried
 
@@ -92,20 +93,25 @@ def readme_case(crate):
 
 
 def pages():
+    for row in ROWS:
+        yield row_case(*row)
     yield from map(page_case, documents())
     yield from map(readme_case, sorted(glob.glob("crates/*")))
 
 
-def told_case(name, words, path, write=False):
-    """The command tells what is stored under the path."""
+def told_case(name, words, path, end=(0, ""), write=False):
+    """The command tells what is stored under the path, and ends with this status and what fits this on standard error."""
 
     def tried(programs):
         program = programs.of(" ".join(words))
-        told = run([program if word == "./jsoncrdt" else word for word in words], program).stdout.decode()
+        ended = run([program if word == "./jsoncrdt" else word for word in words], program)
+        told = ended.stdout.decode()
         if write:
             with open(path, "w", encoding="utf-8") as file:
                 file.write(told)
         expect_same(told, stored(path))
+        is_right = ended.returncode == end[0] and re.fullmatch(end[1], told_errors(ended))
+        expect(is_right, f"it ended with {ended.returncode}: {told_errors(ended)}")
 
     return name, tried
 
@@ -124,11 +130,15 @@ def pictures(file):
 def examples(write):
     for file in sorted(glob.glob("examples/**/*.jsoncrdt", recursive=True)):
         base = file.removesuffix(".jsoncrdt")
-        yield told_case(f"examples: run {file}", ["./jsoncrdt", "run", file], base + ".run")
+        # An example with a stuck event ends so, and a graph says which it is.
+        stuck = re.search(r"^stuck .*\n", stored(base + ".run"), re.MULTILINE)
+        status = 3 if stuck else 0
+        yield told_case(f"examples: run {file}", ["./jsoncrdt", "run", file], base + ".run", (status, ""))
         yield told_case(f"examples: print {file}", ["./jsoncrdt", "print", file], file)
         for kind, words in pictures(file):
             path = os.path.join(EXPECTED, f"{os.path.basename(base)}.{kind}")
-            yield told_case(f"examples: {' '.join(words)}", words, path, write)
+            errors = f"tree: {re.escape(stuck[0])}" if stuck and kind.endswith("dot") else ""
+            yield told_case(f"examples: {' '.join(words)}", words, path, (status, errors), write)
 
 
 # Examples that are made smaller, each as long as this is found in what a command tells of it.
@@ -140,9 +150,11 @@ SHRUNK = (
 
 def tools(write):
     for name, command, looked_for in SHRUNK:
+        file = f"examples/{name}.jsoncrdt"
         agrees = f"\"$JSONCRDT\" {command} - 2>/dev/null | grep -q '{looked_for}'"
-        yield told_case(f"tools: shrink {name}", ["tools/shrink", f"examples/{name}.jsoncrdt", "sh", "-c", agrees],
-                        os.path.join(EXPECTED, f"{name}.shrunk"), write)
+        errors = rf"\d+ commands and events of {len(re.findall('^  ', stored(file), re.MULTILINE))}, \d+ tries\n"
+        yield told_case(f"tools: shrink {name}", ["tools/shrink", file, "sh", "-c", agrees],
+                        os.path.join(EXPECTED, f"{name}.shrunk"), (0, errors), write)
 
 
 def process_case(row):
