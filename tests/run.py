@@ -27,6 +27,7 @@ from edits import edits
 from faults import faults
 from grammar import EVENTS, RESERVED
 from kit import kit
+from read_back import pictures_read_back
 from scripts import scripts
 
 EXPECTED = os.path.join("tests", "expected")
@@ -362,7 +363,7 @@ def main():
     if asked.built and not programs.is_built:
         print(f"FAILED test: {programs.lack}\n0 passed, 1 failed")
         return 1
-    cases = [*examples(asked.write), *blocks(), *pages(), *tools(asked.write), *faults(), *scripts(), *edits(), *process(), *arguments(),
+    cases = [*examples(asked.write), *blocks(), *pages(), *tools(asked.write), *pictures_read_back(), *faults(), *scripts(), *edits(), *process(), *arguments(),
              *editors(), *kit()]
     cases = chosen_of(cases, asked.words)
     if IN_TEST in os.environ:
