@@ -1,9 +1,9 @@
 """The blocks of a document that show commands with what they write and how they end.
 
 A block is indented by four blanks. In it a line that begins with `$ ` is a command; the lines behind it, up to the next
-command or the block's end, are what it writes on both streams: those of standard output, and before or behind all of them
-those of standard error. Lines there that begin with `> ` are its standard input. A line `..` stands for any lines that
-were left out. A command without any of these is shown and not run.
+command or the block's end, are what it writes on both streams: those of standard output, and before or behind all of
+them those of standard error. Lines there that begin with `> ` are its standard input. A line `..` stands for any lines
+that were left out. A command without any of these is shown and not run.
 
 A command ends with 0, or as its last line says (ENDS), if it is one of the repository and no session. What else it ends
 with is shown by a command `echo $?` behind it.
@@ -35,8 +35,8 @@ def in_lines(text):
 
 
 class Command:
-    """A command of a block: the document and the line it stands in, its text, its input, the lines that it writes, and its
-    status where a command behind it shows that."""
+    """A command of a block: the document and the line it stands in, its text, its input, the lines that it writes, and
+    the command behind it that shows its status, if there is one."""
 
     def __init__(self, place, text):
         self.place, self.text, self.typed, self.output, self.shown_status = place, text, [], [], None
@@ -68,7 +68,8 @@ class Command:
         """Whether what it wrote is what the block shows."""
         pattern = "".join(r"(?:.*\n)*?" if line == ".." else re.escape(line) + "\n" for line in self.output)
         output, errors = in_lines(output), in_lines(errors)
-        return any(re.fullmatch(pattern, "".join(line + "\n" for line in lines)) for lines in (output + errors, errors + output))
+        texts = ("".join(line + "\n" for line in lines) for lines in (output + errors, errors + output))
+        return any(re.fullmatch(pattern, text) for text in texts)
 
     def fault(self, status, output, errors):
         """How what it came to differs from what the block shows, or nothing."""
@@ -168,6 +169,7 @@ def row_case(block, ended, wrong):
         [command] = all_commands(lines, "block")
         expect(command.is_run, "it isn't run")
         fault = command.fault(*ended)
-        expect({"text": "\ntells\n" in fault, "status": "\nends with " in fault, "": not fault}[wrong], f"{fault or 'no fault'}")
+        found = "text" if "\ntells\n" in fault else "status" if fault else ""
+        expect(found == wrong, fault or "no fault")
 
     return f"pages: a block {block!r} of {ended}", tried

@@ -25,8 +25,8 @@ class Wrong(Exception):
 
 
 def made_of(root="."):
-    """The files and folders that the built program is made and proved of. A file that was taken away, or put in place of
-    another, makes its folder newer. Tests are no part of it."""
+    """The files and folders that the built program is made and proved of. A file that was taken away, or put in place
+    of another, makes its folder newer. Tests are no part of it."""
     yield "crates.txt"
     crates = crates_of(stored(os.path.join(root, "crates.txt")))
     for name in [*below(crates, "jc_app"), "jc_app"]:

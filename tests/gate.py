@@ -1,15 +1,17 @@
-"""The gate: dev/more-edits with a command rt that is none, each hole through which its check could be passed, .ci/run, and
-whether the edits of the crates can be applied."""
+"""The gate: dev/more-edits with a command rt that is none, each hole through which its check could be passed, .ci/run,
+and ./test --built."""
 
+import calendar
 import contextlib
 import os
 import re
 import shutil
 import subprocess
+import time
 
 from cases import BUILT, IN_TEST, expect, expect_same, folder_of, lack_of_built, place, stored
 
-# A command rt for which an edit comes to what its file has, and a crate isn't proved in which there is a file `unproved`.
+# A command rt for which an edit comes to what its file has, and a crate isn't proved that has a file `unproved`.
 TRYING = """#!/bin/sh
 case $1 in
     version) echo "${KIT:-kit one}" ;;
@@ -21,6 +23,7 @@ case $1 in
             shift
         fi
         ended=0
+        echo "rt: $1: ${KNOWN:-0} of its 2 must-fail edits were tried by an earlier run on this machine"
         for edit in crates/"$1"/must-fail/*.edit; do
             told=$(cat "$edit")
             echo "rt: must-fail $1/${edit##*/}: $told"
@@ -42,8 +45,10 @@ FILES = {
     "crates/jc_b/must-fail/of_the_gate.edit": NOT_REFUSED,
 }
 RECORD = "dev/more-edits.txt"
-# A run that tries the edits of these crates tells so of each edit.
-TRIED = {name: "".join(f"rt: must-fail {name}/{edit}.edit: {REFUSED}" for edit in ("one", "two")) for name in NAMES}
+# What a run that tries the edits of a crate tells.
+KNOWN = "rt: {}: 0 of its 2 must-fail edits were tried by an earlier run on this machine\n"
+TRIED = {name: KNOWN.format(name) + "".join(f"rt: must-fail {name}/{edit}.edit: {REFUSED}" for edit in ("one", "two"))
+         for name in NAMES}
 
 
 def called(folder, words, **variables):
@@ -122,7 +127,8 @@ NO_RUN = "no run wrote what is recorded of it"
 # What is changed when all edits were tried, and what the check then tells of which crate.
 HOLES = {
     "a source": (append("crates/jc_b/src/lib.rt"), {"jc_b": "its sources changed", "jc_c": BELOW}),
-    "a definition": (append("crates/jc_a/specs/Lib.antt"), {"jc_a": "its definitions changed", "jc_b": BELOW, "jc_c": BELOW}),
+    "a definition": (append("crates/jc_a/specs/Lib.antt"),
+                     {"jc_a": "its definitions changed", "jc_b": BELOW, "jc_c": BELOW}),
     "a file of definitions more": (lambda folder: write(folder, "crates/jc_b/specs/New.antt", ""),
                                    {"jc_b": "its definitions changed", "jc_c": BELOW}),
     "a proof": (append("crates/jc_b/proofs/Lib.antt"), {"jc_b": "its proofs changed"}),
@@ -132,11 +138,12 @@ HOLES = {
     "an edit less": (moved, {"jc_b": "one is recorded and isn't there"}),
     "no folder of edits": (lambda folder: shutil.rmtree(f"{folder}/crates/jc_b/more-edits"),
                            {"jc_b": "it is recorded, and has no edits any more"}),
-    "crates.txt": (lambda folder: replace(folder, "crates.txt", "^jc_b: jc_a thiserror$", "jc_b may_wait=1: jc_a thiserror"),
+    "crates.txt": (lambda folder: replace(folder, "crates.txt", "^jc_b: ", "jc_b may_wait=1: "),
                    {name: "crates.txt changed, of it or of a crate below" for name in ("jc_b", "jc_c")}),
     "a crate that crates.txt hasn't": (lambda folder: replace(folder, "crates.txt", "^jc_c: jc_b\n", ""),
                                        {"jc_c": "crates.txt hasn't this crate"}),
-    "another kit": (lambda folder: replace(folder, "rt", "kit one", "kit two"), {name: "the kit is another" for name in NAMES}),
+    "another kit": (lambda folder: replace(folder, "rt", "kit one", "kit two"),
+                    {name: "the kit is another" for name in NAMES}),
     "a sum by hand": (line_by_hand, {"jc_b": NO_RUN, "jc_c": BELOW}),
     "a verdict by hand": (verdict_by_hand, {"jc_b": NO_RUN}),
     "a line less": (lambda folder: replace(folder, RECORD, "^jc_b edit two .*\n", ""), {"jc_b": NO_RUN}),
@@ -167,16 +174,23 @@ def hole_case(what):
     return f"more-edits: --check and {what}", tried
 
 
+def moved_back(folder):
+    shutil.move(f"{folder}/crates/jc_b/must-fail/one.edit", f"{folder}/crates/jc_b/more-edits")
+
+
+def one_becomes(text):
+    return lambda folder: write(folder, "crates/jc_b/more-edits/one.edit", text)
+
+
 # Steps in one folder: what is changed first, the words, the status, and what is tried.
-ONE = "rt: must-fail jc_b/one.edit: "
+ONE = KNOWN.format("jc_b") + "rt: must-fail jc_b/one.edit: "
 STEPS = (
     ("nothing is tried again", None, [], 0, ""),
     ("one edit went", moved, [], 0, ""),
-    ("one is back", lambda folder: shutil.move(f"{folder}/crates/jc_b/must-fail/one.edit", f"{folder}/crates/jc_b/more-edits"),
-     [], 0, ONE + REFUSED),
-    ("one isn't refused", lambda folder: write(folder, "crates/jc_b/more-edits/one.edit", NOT_REFUSED), [], 1, ONE + NOT_REFUSED),
+    ("one is back", moved_back, [], 0, ONE + REFUSED),
+    ("one isn't refused", one_becomes(NOT_REFUSED), [], 1, ONE + NOT_REFUSED),
     ("it isn't tried again", None, [], 1, ""),
-    ("it is refused", lambda folder: write(folder, "crates/jc_b/more-edits/one.edit", REFUSED), [], 0, ONE + REFUSED),
+    ("it is refused", one_becomes(REFUSED), [], 0, ONE + REFUSED),
     ("all of one crate", None, ["--anew", "jc_c"], 0, "anew\n" + TRIED["jc_c"]),
     ("a definition below", append("crates/jc_a/specs/Lib.antt"), [], 0, "".join(TRIED.values())),
     ("a crate by its name", append("crates/jc_b/src/lib.rt"), ["jc_b"], 0, TRIED["jc_b"]),
@@ -199,7 +213,7 @@ def takes_steps(_):
 
 
 def goes_on(_):
-    """Where a crate's edits aren't all refused those of the others are tried all the same, and the last line names it."""
+    """Where one edit isn't refused those of other crates are tried all the same, and the last line names its crate."""
     with crates() as folder:
         write(folder, "crates/jc_a/more-edits/one.edit", NOT_REFUSED)
         output = "".join(TRIED.values()).replace(REFUSED, NOT_REFUSED, 1)
@@ -238,9 +252,22 @@ def is_proved_first(_):
         write(folder, "crates/jc_b/unproved", "")
         status, output, told = more_edits(folder)
         expect(status == 1 and "jc_b" not in output and "jc_b isn't proved as it stands" in told, f"{output}{told}")
-        expect_end(folder, ["--check"], 1, "", told_of({"jc_b": "one wasn't tried as it is; two wasn't tried as it is"}))
+        expect_end(folder, ["--check"], 1, "", told_of({"jc_b": "its edits weren't tried"}))
         os.remove(f"{folder}/crates/jc_b/unproved")
         expect_end(folder, [], 0, TRIED["jc_b"])
+
+
+def has_times(_):
+    """Of each edit it is recorded when a run told what came of it, and how many edits that run tried."""
+    with crates() as folder:
+        for known, tried in (("0", "2"), ("1", "1")):
+            began = time.time() - 60
+            called(folder, ["dev/more-edits", "--anew"], KNOWN=known)
+            text = read(folder, RECORD)
+            lines = re.findall(r"^jc_b edit \w+ [0-9a-f]{32} refused (\S+Z) \d+s/(\d+)$", text, re.MULTILINE)
+            expect([count for _, count in lines] == [tried, tried], text)
+            told = [calendar.timegm(time.strptime(when, "%Y-%m-%dT%H:%MZ")) for when, _ in lines]
+            expect(all(began <= each <= time.time() for each in told), f"{lines}")
 
 
 def needs_rt(_):
@@ -257,7 +284,7 @@ LC_ALL=C sort | xargs sha256sum | sha256sum | cut -d ' ' -f 1"""
 
 
 def takes_old_form(_):
-    """A crate that is recorded in the old form passes while its own files are as they were, and a run records it anew."""
+    """A crate that is recorded in the old form passes while its own files are as they were; a run records it anew."""
     with crates() as folder:
         sums = {name: called(folder, ["sh", "-c", OLD, "sh", name]).stdout.decode() for name in NAMES}
         write(folder, RECORD, "".join(f"{name} {sums[name]}" for name in NAMES))
@@ -271,8 +298,8 @@ def takes_old_form(_):
 
 
 def gate_case(edits, gate, tests, status, output, why):
-    """The gate ends as ./test --built does, or as rt ci where this failed, and tells the processor time of rt ci at its end.
-    It runs neither where dev/more-edits --check fails."""
+    """The gate ends as ./test --built does, or as rt ci where this failed, and tells the processor time of rt ci at its
+    end. It runs neither where dev/more-edits --check fails."""
 
     def tried(_):
         ending = f'#!/bin/sh\necho "$*: {tests} failed"\nexit {tests}\n'
@@ -292,9 +319,15 @@ PARTS = {"crates.txt": "jc_low: jc_low_more thiserror\njc_low_more:\njc_app: jc_
             for part in ("src/lib.rt", "src/tests.rt", "specs/Lib.antt", "proofs/lib/Lib.antt")}}
 # What is newer than the program, and whether that is told of it.
 NEWER = (
-    ("crates.txt", True), ("crates/jc_app/src/lib.rt", True), ("crates/jc_low/src/lib.rt", True), ("crates/jc_low/src", True),
-    ("crates/jc_low_more/specs/Lib.antt", True), ("crates/jc_low/proofs/lib/Lib.antt", True),
-    ("crates/jc_low_more/proofs", True), ("crates/jc_app/src/tests.rt", False), ("crates/jc_low_tests/src/lib.rt", False),
+    ("crates.txt", True),
+    ("crates/jc_app/src/lib.rt", True),
+    ("crates/jc_low/src/lib.rt", True),
+    ("crates/jc_low/src", True),
+    ("crates/jc_low_more/specs/Lib.antt", True),
+    ("crates/jc_low/proofs/lib/Lib.antt", True),
+    ("crates/jc_low_more/proofs", True),
+    ("crates/jc_app/src/tests.rt", False),
+    ("crates/jc_low_tests/src/lib.rt", False),
 )
 
 
@@ -330,7 +363,7 @@ def newer_case(path, is_told):
 
 
 def is_built_case(change, lack):
-    """./test --built fails at once where the program isn't there, or is old, and goes on where it is as new as its parts."""
+    """./test --built fails at once where the program isn't there or is old, and goes on where it is new enough."""
 
     def tried(_):
         with program() as folder:
@@ -352,6 +385,7 @@ def gate():
     for row in WORDS:
         yield word_case(*row)
     yield "more-edits: a crate that isn't proved as it stands", is_proved_first
+    yield "more-edits: times", has_times
     yield "more-edits: without rt", needs_rt
     yield "more-edits: the old form of the record", takes_old_form
     for row in NEWER:

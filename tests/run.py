@@ -21,6 +21,7 @@ import command_line
 import definition
 import processes
 import streams
+from architecture import architecture
 from blocks import ROWS, bare_blocks, commands_of, long_paragraphs, row_case
 from cases import IN_PYTHON, IN_TEST, NotTried, Programs, Wrong, expect, expect_same, run, stored, told_errors
 from edits import edits
@@ -101,7 +102,8 @@ def pages():
 
 
 def told_case(name, words, path, end=(0, ""), write=False):
-    """The command tells what is stored under the path, and ends with this status and what fits this on standard error."""
+    """The command tells what is stored under the path, and ends with this status and with what fits this pattern on
+    standard error."""
 
     def tried(programs):
         program = programs.of(" ".join(words))
@@ -363,8 +365,8 @@ def main():
     if asked.built and not programs.is_built:
         print(f"FAILED test: {programs.lack}\n0 passed, 1 failed")
         return 1
-    cases = [*examples(asked.write), *blocks(), *pages(), *tools(asked.write), *pictures_read_back(), *faults(), *scripts(), *edits(), *process(), *arguments(),
-             *editors(), *kit()]
+    cases = [*examples(asked.write), *blocks(), *pages(), *tools(asked.write), *pictures_read_back(), *faults(), *scripts(),
+             *edits(), *architecture(), *process(), *arguments(), *editors(), *kit()]
     cases = chosen_of(cases, asked.words)
     if IN_TEST in os.environ:
         streams.stop("a test runs no tests")
