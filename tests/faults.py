@@ -1,7 +1,7 @@
 """Commands that end with a fault: wrong arguments, files that can't be read, streams that fail, a program that is none. Each
 is told in one line on standard error, with the status that the program has for it."""
 
-from cases import expect, folder_of, run
+from cases import expect, folder_of, run, told_errors
 
 FIRST = "examples/first.jsoncrdt"
 ONE = "--only first-assignment "
@@ -121,7 +121,6 @@ WRITING = [
 ]
 HELPED = ("tools/lanes", "tools/tree", "tools/shrink", "tools/make-completions", "oracle/compare", "oracle/selftest",
           "oracle/adapter", "kit/check", "kit/differs", "kit/make", "kit/table", "examples/engine/compare", "./test")
-UNPROVED = "oracle/jsoncrdt: these are the rules in Python"
 # A command rt that tells that it was called, so that nothing here can build.
 NO_RT = "#!/bin/sh\necho rt was called >&2\nexit 1\n"
 
@@ -130,8 +129,7 @@ def ended(line, programs):
     """The status of a line of a shell, its output, and the lines that it tells but for that of the rules in Python."""
     with folder_of({"rt": NO_RT}) as folder:
         told = run(line, programs.program, shell=True, path=folder)
-    lines = told.stderr.decode(errors="replace").splitlines()
-    return told.returncode, told.stdout.decode(), [text for text in lines if not text.startswith(UNPROVED)]
+    return told.returncode, told.stdout.decode(), told_errors(told).splitlines()
 
 
 def fault_case(line, status, told):
