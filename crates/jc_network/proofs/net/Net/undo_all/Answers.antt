@@ -1,4 +1,4 @@
-use Rattle.std.proofs.Common.{arith, sym}
+use Rattle.std.proofs.Common.{arith}
 use Rattle.jc_network.proofs.GivenHistoryLemmas.{undone_none, undone_more, undone_all}
 use Rattle.jc_network.proofs.net.Net.undo_all.Goals as goal
 
