@@ -281,7 +281,26 @@ def example_case(file):
     return f"pictures: of {file}", tried
 
 
-# A picture of an example, and a text in it with what is put in its place: then it shows something else.
+def moved(root):
+    """a label is in the lane beside"""
+    texts = list(root.iter(TEXT))
+    texts[2].set("x", max((text.get("x") for text in texts), key=float))
+
+
+def lacking(root):
+    """a label is taken away"""
+    above, text = next((above, text) for above in root.iter() for text in above if (text.text or "").startswith("7 "))
+    above.remove(text)
+
+
+def swapped(root):
+    """two labels are the other way round"""
+    one, other = [text for text in root.iter(TEXT) if re.match("[78] ", text.text)]
+    one.text, other.text = "8" + other.text[1:], "7" + one.text[1:]
+
+
+# Pictures of which something is changed, so that they show something else: the example, the picture, and a function on
+# its elements, or a text in it with what is put in its place.
 BROKEN = (
     ("one-value", "one-value.p.dot", r'\"B\"', r'\"C\"'),
     ("one-value", "one-value.p.dot", r"2@p  \"B\"\n", ""),
@@ -299,64 +318,40 @@ BROKEN = (
     ("one-value", "one-value.svg", ">1 1@p", ">2 1@p"),
     ("one-value", "one-value.svg", ">13 applies 2@q", ">13 applies 2@p"),
     ("one-value", "one-value.svg", ">13 applies 2@q", ">13 applies 2@q 1@p"),
-    ("one-value", "one-value.svg", r'key&quot;) := &quot;C&quot;', r'key&quot;) := &quot;B&quot;'),
+    ("one-value", "one-value.svg", "key&quot;) := &quot;C&quot;", "key&quot;) := &quot;B&quot;"),
+    ("one-value", "one-value.svg", moved),
+    ("one-value", "one-value.svg", lacking),
+    ("one-value", "one-value.svg", swapped),
 )
 
 
-def broken_case(name, picture, old, new):
+def broken(text, old, new=None):
+    """The text of a picture of which something is changed."""
+    if new is None:
+        root = ElementTree.fromstring(text)
+        old(root)
+        return ElementTree.tostring(root, encoding="unicode")
+    expect(old in text, f"it hasn't {old}")
+    return text.replace(old, new, 1)
+
+
+def broken_case(name, picture, *change):
     """A picture that shows something else is told."""
 
     def tried(programs):
-        text = stored(os.path.join(EXPECTED, picture))
-        expect(old in text, f"{picture} hasn't {old}")
+        text = broken(stored(os.path.join(EXPECTED, picture)), *change)
         found = dict(read_back(f"examples/{name}.jsoncrdt", programs))
         try:
-            found[picture](text.replace(old, new, 1))
-        except Wrong:
-            return
-        raise Wrong(f"nothing is told of {picture} where {old} is {new}")
-
-    return f"pictures: {picture} with {new} for {old} is wrong", tried
-
-
-def lane_case(move):
-    """A label that is moved, or taken away, is told."""
-
-    def tried(programs):
-        root = ElementTree.fromstring(stored(os.path.join(EXPECTED, "one-value.svg")))
-        move(root)
-        found = dict(read_back("examples/one-value.jsoncrdt", programs))
-        try:
-            found["one-value.svg"](ElementTree.tostring(root, encoding="unicode"))
+            found[picture](text)
         except Wrong:
             return
         raise Wrong("nothing is told of it")
 
-    return f"pictures: one-value.svg, {move.__doc__}", tried
-
-
-def moved(root):
-    """a label in the lane beside"""
-    texts = list(root.iter(TEXT))
-    texts[2].set("x", max((text.get("x") for text in texts), key=float))
-
-
-def lacking(root):
-    """a label less"""
-    for above in root.iter():
-        for text in list(above):
-            if text.tag == TEXT and text.text.startswith("7 "):
-                above.remove(text)
-
-
-def swapped(root):
-    """two labels the other way round"""
-    one, other = [text for text in root.iter(TEXT) if re.match("[78] ", text.text)]
-    one.text, other.text = "8" + other.text[1:], "7" + one.text[1:]
+    what = f"{change[1]} for {change[0]}" if change[1:] else change[0].__doc__
+    return f"pictures: {picture} with a fault, {what}", tried
 
 
 def pictures_read_back():
     yield from map(example_case, sorted(glob.glob("examples/**/*.jsoncrdt", recursive=True)))
     for row in BROKEN:
         yield broken_case(*row)
-    yield from map(lane_case, (moved, lacking, swapped))
