@@ -1,0 +1,489 @@
+"""The front end of tools/debug: a table of commands over the lines of the program's session.
+
+What the session answers is shown as it is; what is said besides is indented below it. A line that begins with no command
+of the table goes to the session, as the lines of the table do that are its own.
+"""
+
+import collections
+import itertools
+import re
+import textwrap
+
+from asking import EVENT
+from layout import WIDTH, laid_out, read_json, shortened, traced
+from lines import RULES, is_rule
+from positions import positions_of
+from predicates import KINDS, NoPredicate, predicate_of
+from rows import Row
+from sentences import sentence_of
+
+MOST_SHOWN, AROUND = 10, 5
+RAW = "--raw"
+REFUSED = re.compile(r"refused (\d+) (\w+)(?: at (\d+))?\n")
+STUCK = re.compile(r"stuck (\d+) (\w+) .*?(" + EVENT.pattern + r")\n")
+BREAK = re.compile(r"break (\d+)\n")
+
+# A line: its text, with the whole word of its command; the text behind that, and its words.
+Line = collections.namedtuple("Line", "text rest words")
+
+
+class Stopped(Exception):
+    """Ctrl-C was pressed."""
+
+
+class Wrong(Exception):
+    """Why a line of the front end can't be answered."""
+
+
+class Debugger:
+    """A session. `write` takes texts, and `pressed` is true when Ctrl-C was."""
+
+    def __init__(self, conversation, scenario, write, pressed=lambda: False):
+        self.conversation, self.scenario, self.write, self.pressed = conversation, scenario, write, pressed
+        self.names = list(scenario.scripts)
+        self.positions = positions_of(scenario, scenario.events)
+        self.breakpoints, self.last_move, self.enabled_at = {}, None, (None, [])
+
+    @property
+    def position(self):
+        return self.conversation.position
+
+    # ---- lines
+
+    def prompt(self):
+        return f"({self.position}/{self.conversation.length}) "
+
+    def offers(self, before, beginning):
+        """What Tab offers for a word that is begun, behind the text that stands before it."""
+        words = before.split()
+        found = commands_of(words[0]) if words else []
+        offered = found[0].offers(self, words[1:]) if len(found) == 1 else [] if words else COMMANDS
+        return [f"{word} " for word in offered if word.startswith(beginning)]
+
+    def is_over(self, text):
+        """Answers a line, and says whether it ended the session."""
+        text = text if text.strip() else self.last_move or ""
+        word, rest = re.fullmatch(r"[ \t]*([^ \t\r]*)[ \t]*(.*)", text, re.DOTALL).groups()
+        if not word:
+            return False
+        found = commands_of(word)
+        if not found:
+            self.pass_on(text)
+        elif len(found) > 1:
+            self.add(f"{word} begins {' and '.join(command.name for command in found)}")
+        else:
+            return self.does(found[0], text.strip() if word == found[0].name else f"{found[0].name} {rest}".strip(), rest)
+        return False
+
+    def does(self, command, text, rest):
+        if command.moves:
+            self.last_move = text
+        try:
+            return command.does(self, Line(text, rest.strip(), rest.split())) is OVER
+        except Wrong as wrong:
+            self.add(str(wrong), *command.forms)
+        except NoPredicate as wrong:
+            self.add(str(wrong))
+        except Stopped:
+            self.add(f"stopped, still at {self.position}")
+        return False
+
+    def add(self, *texts):
+        """Says something besides what the session answered."""
+        for text in texts:
+            for line in text.split("\n"):
+                self.write(f"  {line}\n")
+
+    def pass_on(self, text, command=None):
+        """Sends a line to the session, shows the answer, and gives it."""
+        answer = self.conversation.ask(text)
+        self.show(answer, text, command)
+        return answer
+
+    def show(self, answer, text, command):
+        """Shows an answer as it is, and says what its lines mean."""
+        self.write("".join(answer))
+        for line in answer:
+            if refused := REFUSED.fullmatch(line):
+                self.explain(refused, text, command)
+            elif stuck := STUCK.fullmatch(line):
+                self.explain_stuck(stuck)
+            elif hit := BREAK.fullmatch(line):
+                self.add(self.breakpoints[int(hit[1])])
+
+    # ---- what is said of a refusal
+
+    def say_sentence(self, number):
+        self.add(*textwrap.wrap(sentence_of(number), WIDTH - 2))
+
+    def explain(self, refused, text, command):
+        """Says where a text is wrong, and what the refusal means."""
+        number, offset = int(refused[1]), refused[3]
+        if offset is not None:
+            event = re.sub(r"\A[ \t]*act[ \t]*", "", text)
+            self.add(event, re.sub(r"[^\t]", " ", event[:int(offset)]) + "^")
+        self.say_sentence(number)
+        if refused[2] == "UnknownReplica":
+            self.add(f"The replicas are {', '.join(self.names)}.")
+        elif refused[2] == "BadLine":
+            self.add(*(command.forms if command else ["help lists the commands"]))
+
+    def explain_stuck(self, stuck):
+        """Says what the cause of a stuck event means, and what is missing."""
+        self.say_sentence(int(stuck[1]))
+        line = self.positions.tried(self.position, stuck[3])
+        if "missing" in line:
+            self.add(f"missing: {' '.join(line['missing'])}")
+        elif "offered" in line:
+            self.add(f"offered by: {' '.join(line['offered']) or 'none'}")
+
+    # ---- events
+
+    def parts(self, number):
+        """The text of an event of the schedule, and what it does, where the schedule comes to it."""
+        line, event = self.positions.line(number), self.positions.events[number - 1]
+        if not line or line["kind"] == "done" and "stuck" not in line:
+            return event, ""
+        row = Row(line)
+        if row.is_stuck:
+            return event, row.text.removeprefix(event).strip()
+        command = f"  {self.positions.journal.commands[row.operation]}" if row.kind == "apply" else ""
+        return event, row.text + command
+
+    def show_events(self, first):
+        """Shows the events from this one on that led to the position, or the last few of them."""
+        last = self.position
+        if not last:
+            self.add("the start")
+            return
+        if last - first >= MOST_SHOWN:
+            self.add("..")
+            first = last - MOST_SHOWN + 1
+        for number in range(first, last + 1):
+            self.add(shortened(f"{number} {'  '.join(self.parts(number))}".rstrip()))
+
+    def refresh(self, event):
+        """Takes over the schedule that `act` has cut off and gone on with."""
+        events = self.positions.events[:self.position - 1] + [event]
+        self.positions = positions_of(self.scenario, events)
+
+    def enabled(self):
+        """The events that can be executed at the position, asked once for each."""
+        key = self.position, self.positions
+        if self.enabled_at[0] != key:
+            answer = self.conversation.ask("enabled")
+            self.enabled_at = key, [line.rstrip("\n") for line in answer if line != "none\n"]
+        return self.enabled_at[1]
+
+    # ---- positions at which something holds
+
+    def unless_stopped(self, holds):
+        def asked(what):
+            if self.pressed():
+                raise Stopped
+            return holds(what)
+
+        return asked
+
+    def look(self, looks_at, position):
+        """What a predicate looks at, at a position; none at the start of an event."""
+        if looks_at == "stuck":
+            return self.positions.is_stuck(position + 1)
+        return self.positions.rules(position) if looks_at == "rules" else self.positions.line(position)["event"]
+
+    def next_with(self, predicate):
+        holds, position = self.unless_stopped(predicate.holds), self.position
+        if predicate.looks_at == "documents":
+            return self.positions.next_with(position, holds)
+        while self.positions.is_made(position := position + 1):
+            if holds(self.look(predicate.looks_at, position)):
+                return position
+        return None
+
+    def last_with(self, predicate):
+        holds = self.unless_stopped(predicate.holds)
+        if predicate.looks_at == "documents":
+            return self.positions.last_with(self.position, holds)
+        least = 0 if predicate.looks_at == "stuck" else 1
+        earlier = range(self.position - 1, least - 1, -1)
+        return next((position for position in earlier if holds(self.look(predicate.looks_at, position))), None)
+
+
+# ---- commands. Each is given the session and the line.
+
+OVER = object()
+
+
+def pass_on(debugger, line):
+    debugger.pass_on(line.text, COMMANDS[line.text.split()[0]])
+
+
+def move(debugger, line):
+    """A line that goes somewhere: the event that led there is shown, of `step` each that was made."""
+    before, command = debugger.position, line.text.split()[0]
+    pass_on(debugger, line)
+    after = debugger.position
+    if after != before:
+        debugger.show_events(before + 1 if command == "step" and after > before else after)
+
+
+def back(debugger, line):
+    if line.words[:1] == ["until"]:
+        back_until(debugger, line.rest.removeprefix("until").strip())
+    else:
+        move(debugger, line)
+
+
+def go_to(debugger, position):
+    """Goes to a position that was looked for, or to the stuck event behind it."""
+    move(debugger, Line(f"goto {position}", str(position), [str(position)]))
+
+
+def until(debugger, line):
+    predicate = predicate_of(line.rest, debugger.names)
+    found = debugger.next_with(predicate)
+    if found is None:
+        debugger.add(f"at no later position, still at {debugger.position}")
+    else:
+        is_stuck = predicate.looks_at == "stuck" and debugger.positions.is_stuck(found + 1)
+        go_to(debugger, found + is_stuck)
+
+
+def back_until(debugger, text):
+    if text == "break":
+        found = last_breakpoint(debugger)
+    else:
+        found = debugger.last_with(predicate_of(text, debugger.names))
+    if found is None:
+        debugger.add(f"at no earlier position, still at {debugger.position}")
+    else:
+        go_to(debugger, found)
+
+
+def last_breakpoint(debugger):
+    """The position before this one at which a run from the start would stop last, or none."""
+    here, found = debugger.position, None
+    debugger.conversation.ask("goto 0")
+    while debugger.position < here:
+        debugger.conversation.ask("run")
+        if debugger.position < here:
+            found = debugger.position
+    debugger.conversation.ask(f"goto {here}")
+    return found
+
+
+def act(debugger, line):
+    before = debugger.position
+    answer = debugger.pass_on(line.text, COMMANDS["act"])
+    if debugger.position > before and answer:
+        event = debugger.conversation.ask("trace")[0].split(maxsplit=2)[2].rstrip("\n")
+        debugger.refresh(event)
+        debugger.show_events(debugger.position)
+
+
+def set_breakpoint(debugger, line):
+    """Sets one; without words lists them. The name of a rule may be written in small letters."""
+    if not line.words:
+        list_breakpoints(debugger, line)
+        return
+    what = " ".join(line.words)
+    if line.words[0] == "rule":
+        what = "rule " + " ".join(line.words[1:]).upper()
+    answer = debugger.pass_on(f"break {what}", COMMANDS["break"])
+    for line in answer:
+        if done := re.fullmatch(r"set (\d+)\n", line):
+            debugger.breakpoints[int(done[1])] = what
+
+
+def clear_breakpoint(debugger, line):
+    for answered in debugger.pass_on(line.text, COMMANDS["unbreak"]):
+        if done := re.fullmatch(r"cleared (\d+)\n", answered):
+            debugger.add(debugger.breakpoints.pop(int(done[1])))
+
+
+def list_breakpoints(debugger, _line):
+    debugger.add(*(f"{number} {what}" for number, what in sorted(debugger.breakpoints.items())) or ["none"])
+
+
+def without_raw(line):
+    """The line for the session, and whether it asks for the bytes."""
+    return " ".join(word for word in line.text.split() if word != RAW), RAW in line.words
+
+
+def trace(debugger, line):
+    text, is_raw = without_raw(line)
+    answer = debugger.conversation.ask(text)
+    if is_raw or not answer[0].startswith("event "):
+        debugger.show(answer, text, COMMANDS["trace"])
+    else:
+        rows = traced(row.rstrip("\n") for row in answer[1:])
+        debugger.write(answer[0] + "".join(f"{row}\n" for row in rows))
+
+
+def state(debugger, line):
+    text, is_raw = without_raw(line)
+    answer = debugger.conversation.ask(text)
+    if is_raw or not answer[0].startswith("{"):
+        debugger.show(answer, text, COMMANDS["state"])
+    else:
+        rows = (row for state in answer for row in laid_out(read_json(state)))
+        debugger.write("".join(f"{row}\n" for row in rows))
+
+
+def view(debugger, line):
+    names = [word for word in line.words if word != RAW]
+    for name in names:
+        if name not in debugger.names:
+            raise Wrong(f"no replica {name}; there are {', '.join(debugger.names)}")
+    for name, shown in zip(debugger.names, debugger.positions.views(debugger.position)):
+        if name not in (names or debugger.names):
+            continue
+        value = read_json(shown)
+        rows = laid_out(value["doc"], f"{name}  ") if "doc" in value else [f"{name}  no document"]
+        debugger.write(f"{shown}\n" if RAW in line.words else "".join(f"{row}\n" for row in rows))
+
+
+def list_events(debugger, line):
+    """The events around the position, or around another one; the one that led to the position is marked."""
+    if len(line.words) > 1 or not all(word.isascii() and word.isdigit() for word in line.words):
+        raise Wrong("list goes with one number, or none")
+    here, length = debugger.position, debugger.conversation.length
+    middle = min(int(line.words[0]), length) if line.words else here
+    numbers = range(max(0, middle - AROUND), min(length, middle + AROUND) + 1)
+    rows = [(number, *(debugger.parts(number) if number else ("the start", ""))) for number in numbers]
+    wide, long = len(str(numbers[-1])), max(len(event) for _, event, _ in rows)
+    for number, event, what in rows:
+        mark = ">" if number == here else " "
+        debugger.write(shortened(f"{mark} {number:{wide}} {event:{long}}  {what}".rstrip()) + "\n")
+
+
+def help_of(debugger, line):
+    if not line.words:
+        debugger.write("".join(f"{row}\n" for row in table()))
+        return
+    found = commands_of(line.words[0])
+    if len(found) != 1:
+        raise Wrong(f"no command {line.words[0]}; help lists them")
+    command = found[0]
+    shorts = f" (also {', '.join(command.shorts)})" if command.shorts else ""
+    debugger.add(*command.forms, *textwrap.wrap(command.about + shorts, WIDTH - 2), *command.more())
+
+
+def over(debugger, line):
+    if not line.words:
+        return OVER
+    return pass_on(debugger, line)
+
+
+# ---- what Tab offers behind a command: the words that may come next, or the rest of the line
+
+
+def offer_names(debugger, _words):
+    return debugger.names
+
+
+def offer_shown(debugger, _words):
+    return [*debugger.names, RAW]
+
+
+def offer_rules(debugger):
+    return [rule for rule in RULES if is_rule(rule, debugger.scenario.version)]
+
+
+def offer_breaks(debugger, words):
+    if not words:
+        return ["at", "rule", "replica"]
+    return {"rule": offer_rules(debugger), "replica": debugger.names}.get(words[0], []) if len(words) == 1 else []
+
+
+def offer_predicates(debugger, words):
+    words = words[1:] if words[:1] == ["not"] else words
+    if not words:
+        return [*KINDS, "not", *debugger.names]
+    if words[0] in debugger.names and len(words) == 1:
+        return [name for name, kind in KINDS.items() if kind.is_of_one]
+    return offer_rules(debugger) if words == ["rule"] else []
+
+
+def offer_back(debugger, words):
+    return offer_predicates(debugger, words[1:]) + ["break"] * (words == ["until"]) if words else ["until"]
+
+
+def offer_events(debugger, words):
+    before = "".join(f"{word} " for word in words)
+    return [event.removeprefix(before) for event in debugger.enabled() if event.startswith(before)]
+
+
+def offer_numbers(debugger, _words):
+    return [str(number) for number in debugger.breakpoints]
+
+
+def offer_commands(_debugger, _words):
+    return list(COMMANDS)
+
+
+def nothing(_debugger, _words):
+    return []
+
+
+# ---- the table
+
+# A command: what does it, what it is for, its forms, its short names, whether Enter repeats it, what Tab offers behind it,
+# and more lines for its help.
+Command = collections.namedtuple("Command", "name does about forms shorts moves offers more",
+                                 defaults=((), False, nothing, lambda: ()))
+
+
+def predicates():
+    """The predicates, in lines of help."""
+    for name, kind in KINDS.items():
+        yield f"{'[NAME] ' if kind.is_of_one else ''}{name} {kind.operand}".ljust(22) + kind.about
+    yield "not PREDICATE".ljust(22) + "it doesn't hold"
+    yield "With NAME it is asked of this replica's document alone."
+
+
+COMMANDS = {command.name: command for command in (
+    Command("step", move, "executes the next N events, or one", ["step [N]"], ("s",), True),
+    Command("back", back, "takes the last N events back, or one; or goes back to where something held, or to where `run` "
+            "would have stopped last", ["back [N]", "back until PREDICATE", "back until break"], ("b",), True, offer_back,
+            predicates),
+    Command("goto", move, "goes to the position after N events", ["goto N"], ("g",), True),
+    Command("run", move, "goes on to a breakpoint, a stuck event or the end", ["run"], ("r",), True),
+    Command("until", until, "goes on to the next position at which something holds", ["until PREDICATE"], ("u",), True,
+            offer_predicates, predicates),
+    Command("break", set_breakpoint, "sets a breakpoint at a position, for a rule, or for a replica",
+            ["break at N", "break rule RULE", "break replica NAME"], ("br",), False, offer_breaks),
+    Command("unbreak", clear_breakpoint, "clears a breakpoint", ["unbreak K"], (), False, offer_numbers),
+    Command("breaks", list_breakpoints, "lists the breakpoints", ["breaks"]),
+    Command("list", list_events, "shows the events around the position, or around event N", ["list [N]"], ("l",)),
+    Command("view", view, "shows the documents as an application sees them", ["view [NAME] [--raw]"], ("v",), False,
+            offer_shown),
+    Command("state", state, "shows the whole state of each replica, or of one", ["state [NAME] [--raw]"], (), False,
+            offer_shown),
+    Command("trace", trace, "shows the rules of the event that led here, each below the one that uses it",
+            ["trace [--raw]"], ("t",), False, lambda _debugger, _words: [RAW]),
+    Command("enabled", pass_on, "lists the events that could be executed here", ["enabled"], ("e",)),
+    Command("act", act, "executes this event, and cuts off the rest of the schedule, for good", ["act EVENT"], ("a",), False,
+            offer_events),
+    Command("compare", pass_on, "says whether two replicas have applied the same operations", ["compare NAME NAME"], ("c",),
+            False, offer_names),
+    Command("schedule", pass_on, "lists the events of the schedule", ["schedule"]),
+    Command("where", pass_on, "says the position, and how many events there are", ["where"], ("w",)),
+    Command("help", help_of, "lists the commands, or says more of one", ["help [COMMAND]"], ("h", "?"), False, offer_commands),
+    Command("quit", over, "ends the session, as Ctrl-D does", ["quit"], ("q",)),
+)}
+
+
+def commands_of(word):
+    """The commands that a word may mean: the one of that name or short name, or those that it begins."""
+    exact = [command for command in COMMANDS.values() if word == command.name or word in command.shorts]
+    return exact or [command for command in COMMANDS.values() if command.name.startswith(word)]
+
+
+def table():
+    """The commands, in lines of help."""
+    for command in COMMANDS.values():
+        abouts = textwrap.wrap(command.about, WIDTH - 30)
+        for form, short, about in itertools.zip_longest(command.forms, [", ".join(command.shorts)], abouts, fillvalue=""):
+            yield f"{short:6}{form:24}{about}".rstrip()
+    yield "An unambiguous beginning is enough for a command. Enter alone repeats the last that moved."
