@@ -50,6 +50,14 @@ def told(words, text=""):
     return output, ended.returncode
 
 
+DOCUMENT = '{"doc":'
+
+
+def document_of(line):
+    """The JSON text of the document in a line of a view, or none."""
+    return line[len(DOCUMENT):line.rindex(',"name":')] if line.startswith(DOCUMENT) else None
+
+
 def text_of(file):
     """The text of the file, or of standard input for -."""
     try:

@@ -10,7 +10,7 @@ import itertools
 import json
 import os
 
-from asking import IN_PYTHON, program, told
+from asking import IN_PYTHON, document_of, program, told
 from grammar import read
 from program import command_line
 from rules import change, start
@@ -19,12 +19,6 @@ from view import line_of
 
 FEWEST_EVENTS = 1000
 MOST_VIEWS = 1000
-DOCUMENT = '{"doc":'
-
-
-def document_of(line):
-    """The JSON text of the document in a line of a view, or none."""
-    return line[len(DOCUMENT):line.rindex(',"name":')] if line.startswith(DOCUMENT) else None
 
 
 class Journal:

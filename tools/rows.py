@@ -12,6 +12,10 @@ class Row:
         self.is_stuck = "stuck" in line
         self.text = self.stuck(line) if self.is_stuck else getattr(self, self.kind)(line)
 
+    def cell(self, name):
+        """What stands in the lane of a replica: the text in its own."""
+        return self.text if name == self.replica else ""
+
     def stuck(self, line):
         cause = ["stuck", str(line["stuck"]), line["cause"], *([line["key"]] if "key" in line else [])]
         return f"{line['event']}  {' '.join(cause)}"
