@@ -25,6 +25,7 @@ from cases import IN_PYTHON, IN_TEST, NotTried, Programs, Wrong, expect, expect_
 from faults import faults
 from grammar import EVENTS, RESERVED
 from kit import kit
+from lanes import lanes
 from scripts import scripts
 
 EXPECTED = os.path.join("tests", "expected")
@@ -111,6 +112,7 @@ def told_case(name, words, path, write=False):
 def pictures(file):
     """What is printed of an example: the name of the stored file, and the words of the command."""
     yield "lanes", ["tools/lanes", file]
+    yield "brief", ["tools/lanes", "--brief", "--view", file]
     yield "mermaid", ["tools/lanes", "--mermaid", file]
     yield "svg", ["tools/lanes", "--svg", file]
     for name in re.findall(r"^replica (\w+)", stored(file), re.MULTILINE):
@@ -343,8 +345,8 @@ def main():
     parser.add_argument("--write", action="store_true",
                         help="write what the tools print of each example to tests/expected, to be read before it is kept")
     asked, programs = parser.parse_args(), Programs()
-    cases = [*examples(asked.write), *blocks(), *pages(), *tools(asked.write), *faults(), *scripts(), *process(), *arguments(),
-             *editors(), *kit()]
+    cases = [*examples(asked.write), *blocks(), *pages(), *tools(asked.write), *lanes(), *faults(), *scripts(), *process(),
+             *arguments(), *editors(), *kit()]
     cases = chosen_of(cases, asked.words)
     if IN_TEST in os.environ:
         streams.stop("a test runs no tests")
