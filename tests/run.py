@@ -4,7 +4,6 @@ import concurrent.futures
 import glob
 import json
 import os
-import pty
 import re
 import shutil
 import subprocess
@@ -27,6 +26,7 @@ from grammar import EVENTS, RESERVED
 from kit import kit
 from lanes import lanes
 from scripts import scripts
+from terminal import terminal
 
 EXPECTED = os.path.join("tests", "expected")
 DOCUMENTS = ("README.md", "docs/*.md", "examples/*.md", "editors/*.md", "kit/*.md", "crates/*/README.md")
@@ -39,7 +39,7 @@ Python. It proves nothing; the gate, rt ci, does that. The last line is `N passe
 one failed."""
 WORDS = """\
 With words, what has one of them in its name: examples, README, docs, pages, tools, faults, launcher, more-edits, gate,
-process, arguments, editors, kit, oracle, or a part of a file's name or of a command."""
+process, arguments, editors, debug, kit, oracle, or a part of a file's name or of a command."""
 
 
 def block_case(command):
@@ -175,30 +175,6 @@ def process():
     yield "process: quit while the input stays open", quits_at_once
 
 
-def in_terminal(words, typed):
-    """What a command shows in a terminal in which these lines are typed."""
-    ours, theirs = pty.openpty()
-    with subprocess.Popen(words, stdin=theirs, stdout=theirs, stderr=theirs, close_fds=True) as process:
-        os.close(theirs)
-        os.write(ours, typed.encode())
-        shown = b""
-        try:
-            while part := os.read(ours, 4096):
-                shown += part
-        except OSError:  # the end of a terminal's output
-            pass
-        os.close(ours)
-    return shown.decode(), process.returncode
-
-
-def has_prompt(_):
-    """A session by hand has a prompt with the position, help, and documents."""
-    shown, status = in_terminal([IN_PYTHON, "debug", "examples/first.jsoncrdt"], "help\nstep\nview\nnext\nquit\n")
-    looked_for = ["(0/1) ", "(1/1) ", "cut off the rest", '{"doc":{"a":1},"name":"a"}', "no such line"]
-    lacking = [text for text in looked_for if text not in shown]
-    expect(not lacking and status == 0, f"status {status}, without {lacking}:\n{shown}")
-
-
 def patterns_of(grammar):
     """All regular expressions of a grammar for editors."""
     if isinstance(grammar, list):
@@ -300,7 +276,6 @@ def editors():
     yield "editors: tools/command_line.py and the sources of the program", is_defined
     yield "editors: tools/command_line.py and --help", names_commands
     yield "editors: editors/jsoncrdt.tmLanguage.json", colours_words
-    yield "oracle: a session in a terminal", has_prompt
 
 
 PASSED, FAILED, NOT_TRIED = "passed", "failed", "not tried"
@@ -346,7 +321,7 @@ def main():
                         help="write what the tools print of each example to tests/expected, to be read before it is kept")
     asked, programs = parser.parse_args(), Programs()
     cases = [*examples(asked.write), *blocks(), *pages(), *tools(asked.write), *lanes(), *faults(), *scripts(), *process(),
-             *arguments(), *editors(), *kit()]
+             *arguments(), *editors(), *terminal(), *kit()]
     cases = chosen_of(cases, asked.words)
     if IN_TEST in os.environ:
         streams.stop("a test runs no tests")

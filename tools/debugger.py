@@ -475,9 +475,12 @@ COMMANDS = {command.name: command for command in (
 
 
 def commands_of(word):
-    """The commands that a word may mean: the one of that name or short name, or those that it begins."""
+    """The commands that a word may mean: the one of that name or short name, or those that it begins. Of `break` and
+    `breaks` it is the first."""
     exact = [command for command in COMMANDS.values() if word == command.name or word in command.shorts]
-    return exact or [command for command in COMMANDS.values() if command.name.startswith(word)]
+    begun = [command for command in COMMANDS.values() if command.name.startswith(word)]
+    first = [command for command in begun if all(other.name.startswith(command.name) for other in begun)]
+    return exact or first or begun
 
 
 def table():

@@ -1,0 +1,362 @@
+"""The front end of the debugger, tools/debug: typed in a terminal, and read from a pipe."""
+
+import fcntl
+import io
+import itertools
+import json
+import os
+import pty
+import random
+import re
+import select
+import struct
+import subprocess
+import sys
+import tempfile
+import termios
+import time
+
+from cases import IN_PYTHON, expect, expect_same, folder_of, run, stored
+
+from asking import Scenario
+from layout import laid_out, read_json, runs_of
+from positions import InPython, Positions
+from predicates import KINDS, predicate_of
+from program import command_line
+from sentences import sentence_of
+from texts import REFUSALS
+
+TO_DO, FIRST, STUCK, ANSWER = (f"examples/{name}.jsoncrdt" for name in ("to-do", "first", "out-of-order", "answer-first"))
+SECONDS = 60
+CTRL_C, CTRL_D, UP, CLEAR_LINE = "\x03", "\x04", "\x1b[A", "\x15"
+# Takes the terminal that is its standard input, so that Ctrl-C there is a signal, and goes on as the command.
+STARTER = "import fcntl, os, sys, termios; fcntl.ioctl(0, termios.TIOCSCTTY, 0); os.execvp(sys.argv[1], sys.argv[1:])"
+# A program that waits before each view.
+SLOW = """#!/bin/sh
+[ "$1" != view ] || sleep 0.3
+exec "{oracle}" "$@"
+"""
+# A program that ends while a line is answered.
+DYING = """#!/bin/sh
+[ "$1" = debug ] || exec "{oracle}" "$@"
+while read -r line; do
+    case $line in
+        where) echo "at 0 of 1" ;;
+        step) {end} ;;
+    esac
+done
+"""
+
+
+class Terminal:
+    """A command in a terminal of 200 columns."""
+
+    def __init__(self, words, folder, **variables):
+        self.ours, theirs = pty.openpty()
+        fcntl.ioctl(theirs, termios.TIOCSWINSZ, struct.pack("HHHH", 50, 200, 0, 0))
+        environment = {**os.environ, "XDG_STATE_HOME": folder, "TERM": "dumb", "INPUTRC": os.devnull, **variables}
+        self.process = subprocess.Popen([sys.executable, "-c", STARTER, *words], stdin=theirs, stdout=theirs, stderr=theirs,
+                                        env=environment, start_new_session=True)
+        os.close(theirs)
+        self.shown = ""
+
+    def __enter__(self):
+        return self
+
+    def __exit__(self, *_):
+        self.process.kill()
+        self.process.wait()
+        os.close(self.ours)
+
+    def type(self, text):
+        os.write(self.ours, text.encode())
+
+    def read_to(self, text):
+        """Reads until the text is shown, and gives what was shown up to its end."""
+        end = time.monotonic() + SECONDS
+        while text not in self.shown:
+            expect(select.select([self.ours], [], [], max(0, end - time.monotonic()))[0], f"{text!r} isn't in {self.shown!r}")
+            try:
+                part = os.read(self.ours, 4096).decode(errors="replace")
+            except OSError:  # the end of a terminal's output
+                part = ""
+            expect(part, f"{text!r} isn't in {self.shown!r}, and the command has ended")
+            self.shown += part.replace("\r", "")
+        before, found, self.shown = self.shown.partition(text)
+        return before + found
+
+    def status(self):
+        return self.process.wait(SECONDS)
+
+
+def debugger(folder, program=IN_PYTHON, file=TO_DO):
+    return Terminal(["tools/debug", file], folder, JSONCRDT=os.path.abspath(program))
+
+
+# What is typed, and up to where it is then read; what must have been shown, beside this.
+TYPED = [
+    ("s\n", "(1/20) ", "1 p.exec  1@p  doc.get(\"todo\") := []"),
+    ("\n", "(2/20) ", "2 p.exec"),
+    ("step 3\n", "(5/20) ", "5 p.send"),
+    ("\n", "(8/20) ", "8 q.apply(1, p)  applies 1@p  doc.get(\"todo\") := []"),
+    ("b\n", "(7/20) ", "7 q.recv(p)  gets from p"),
+    ("g 12\n", "(12/20) ", "12 q.done"),
+    ("brea rule clear-reg\n", "(12/20) ", "set 1"),
+    ("break replica q\n", "(12/20) ", "set 2"),
+    ("breaks\n", "(12/20) ", "1 rule CLEAR-REG\n  2 replica q"),
+    ("r\n", "(13/20) ", "break 1\n  rule CLEAR-REG\n  13 p.exec"),
+    ("\n", "(14/20) ", "break 1"),
+    ("unbreak 2\n", "(14/20) ", "cleared 2\n  replica q"),
+    ("back until break\n", "(13/20) ", "13 p.exec"),
+    ("until q lacks title\n", "(20/20) ", "20 q.apply(5, p)"),
+    ("back until diverge\n", "(19/20) ", "19 p.apply(5, q)"),
+    ("\n", "(18/20) ", "18 q.recv(p)"),
+    ("u event *.apply(5, q)\n", "(19/20) ", "at 19"),
+    ("u conflict\n", "(19/20) ", "at no later position, still at 19"),
+    ("b until shows nothing\n", "(19/20) ", "at no earlier position, still at 19"),
+    ("view\n", "(19/20) ", "p  {\"todo\": [{\"done\": true}]}\nq  "),
+    ("l\n", "(19/20) ", "> 19 p.apply(5, q)  applies 5@q"),
+    ("next\n", "(19/20) ", "refused 58 BadLine\n  There is no such line."),
+    ("step x\n", "(19/20) ", "refused 58 BadLine\n  There is no such line.\n  step [N]"),
+    ("st\n", "(19/20) ", "st begins step and state"),
+    ("step 2\n", "(19/20) ", "refused 51 AtEnd\n  There are fewer events left"),
+    ("act p.exit\n", "(19/20) ", "refused 7 Unexpected at 2\n  p.exit\n    ^"),
+    ("act q.apply(5, q)\n", "(19/20) ", "stuck 34 NotReceived q.apply(5, q)\n  The operation isn't among those received"),
+    ("act p.recv(q)\n", "(20/20) ", "20 p.recv(q)  gets from q: nothing new"),
+    ("help until\n", "(20/20) ", "shows TEXT"),
+]
+
+
+def answers_what_is_typed(_):
+    with tempfile.TemporaryDirectory() as folder, debugger(folder) as terminal:
+        terminal.read_to("(0/20) ")
+        for typed, end, wanted in TYPED:
+            terminal.type(typed)
+            shown = terminal.read_to(end).split("\n", 1)[-1]
+            expect(wanted in shown, f"{typed!r} shows {shown!r}, and not {wanted!r}")
+        terminal.type(CTRL_D)
+        expect(terminal.status() == 0, "it doesn't end with 0")
+
+
+# What is begun, before Tab is pressed twice, and what must be offered, or be in the line.
+TABS = [
+    ("un", ["unbreak", "until"]),
+    ("break", ["break", "breaks"]),
+    ("break ", ["at", "rule", "replica"]),
+    ("break rule CLEAR-LIST", ["CLEAR-LIST1", "CLEAR-LIST2", "CLEAR-LIST3"]),
+    ("state ", ["p", "q", "--raw"]),
+    ("unbreak ", ["unbreak 1"]),
+    ("until ", [*KINDS, "not"]),
+    ("u q sho", ["u q shows"]),
+    ("back until rule RE", ["RECV"]),
+    ("help wh", ["help where"]),
+    ("act ", ["q.exec", "p.send", "p.recv(p)", "p.recv(q)"]),
+    ("act p.s", ["act p.send"]),
+]
+
+
+def completes(_):
+    with tempfile.TemporaryDirectory() as folder, debugger(folder) as terminal:
+        terminal.read_to("(0/20) ")
+        terminal.type("g 13\nbreak at 3\n")
+        terminal.read_to("set 1")
+        terminal.read_to("(13/20) ")
+        for begun, offered in TABS:
+            terminal.type(begun + "\t\t" + CLEAR_LINE + "no\n")
+            shown = terminal.read_to("help lists the commands\n")
+            lacking = [word for word in offered if not re.search(rf"(?<!\S){re.escape(word)}(?!\S)", shown)]
+            expect(not lacking, f"{begun!r} offers {shown!r}, and not {lacking}")
+            terminal.read_to("(13/20) ")
+
+
+def is_interrupted(_):
+    """Ctrl-C ends a search and keeps the session; at the prompt it drops the line."""
+    with tempfile.TemporaryDirectory() as folder, folder_of({"slow": SLOW.format(oracle=os.path.abspath(IN_PYTHON))}) as bin:
+        with debugger(folder, os.path.join(bin, "slow")) as terminal:
+            terminal.read_to("(0/20) ")
+            terminal.type("until shows nothing\n")
+            time.sleep(0.5)
+            terminal.type(CTRL_C)
+            terminal.read_to("stopped, still at 0")
+            terminal.read_to("(0/20) ")
+            terminal.type("step 5" + CTRL_C)
+            terminal.read_to("(0/20) ")
+            terminal.type("s\n")
+            terminal.read_to("(1/20) ")
+            terminal.type("quit\n")
+            expect(terminal.status() == 0, "it doesn't end with 0")
+
+
+def keeps_history(_):
+    """A line of one session is there in the next."""
+    with tempfile.TemporaryDirectory() as folder:
+        with debugger(folder) as terminal:
+            terminal.read_to("(0/20) ")
+            terminal.type("goto 7\n")
+            terminal.read_to("(7/20) ")
+            terminal.type("q\n")
+            expect(terminal.status() == 0, "it doesn't end with 0")
+        with debugger(folder) as terminal:
+            terminal.read_to("(0/20) ")
+            terminal.type(UP + UP + "\n")
+            terminal.read_to("(7/20) ")
+
+
+def has_no_home(_):
+    """Where the history can't be kept there is none, and the session goes on."""
+    with debugger("/dev/null/no") as terminal:
+        terminal.read_to("(0/20) ")
+        terminal.type("s\n")
+        terminal.read_to("(1/20) ")
+        terminal.type(CTRL_D)
+        expect(terminal.status() == 0, "it doesn't end with 0")
+
+
+def is_that_of_the_rules(_):
+    """In a terminal the session of the rules in Python is this one."""
+    with tempfile.TemporaryDirectory() as folder, Terminal([IN_PYTHON, "debug", FIRST], folder) as terminal:
+        terminal.read_to("nothing of this is proved")
+        terminal.read_to("(0/1) ")
+        terminal.type("s\nv\n")
+        terminal.read_to("a  {\"a\": 1}")
+        terminal.read_to("(1/1) ")
+        terminal.type(CTRL_D)
+        expect(terminal.status() == 0, "it doesn't end with 0")
+
+
+# ---- lines of a pipe
+
+
+def piped(programs, file, lines, words=("tools/debug",)):
+    return run([*words, file], programs.program, "".join(f"{line}\n" for line in lines))
+
+
+def some_lines(file, seed):
+    """Lines of a session on the file, some of them refused."""
+    chosen, scenario = random.Random(seed), Scenario(stored(file))
+    names, count = list(scenario.scripts), len(scenario.events)
+    kinds = [
+        lambda: "step", lambda: f"step {chosen.randrange(4)}", lambda: "back", lambda: f"goto {chosen.randrange(count + 2)}",
+        lambda: "run", lambda: f"break at {chosen.randrange(count)}", lambda: "break rule EXEC", lambda: "breakx",
+        lambda: f"break replica {chosen.choice([*names, 'no'])}", lambda: f"unbreak {chosen.randrange(1, 4)}",
+        lambda: "enabled", lambda: f"act {chosen.choice(scenario.events)}", lambda: f"act {names[0]}.exec;",
+        lambda: f"compare {chosen.choice(names)} {chosen.choice(names)}", lambda: "schedule", lambda: " where ", lambda: "step 01",
+        lambda: "trace", lambda: "state", lambda: f"state {chosen.choice([*names, 'no'])}", lambda: "quit now", lambda: "\u00e9",
+    ]
+    return [chosen.choice(kinds)() for _ in range(80)]
+
+
+def answers_as_the_program(file):
+    """What isn't indented is the program's own answer, of the same lines."""
+
+    def tried(programs):
+        for seed in range(2):
+            lines = some_lines(file, seed)
+            raw = [f"{line} --raw" if line.split()[0] in ("state", "trace") else line for line in lines]
+            wanted = piped(programs, file, lines, [programs.program, "debug"]).stdout.decode()
+            told = piped(programs, file, raw)
+            expect(told.returncode == 0 and wanted.count("\n") > 80, f"{told}")
+            expect_same("".join(re.findall(r"^(?!  ).*\n", told.stdout.decode(), re.MULTILINE)), wanted)
+
+    return f"debug: {file} as the program", tried
+
+
+def is_laid_out(programs):
+    """A state in many lines is that of the bytes, and a trace has the rules and the depths."""
+    lines = [line for n in (0, 7, 19) for line in (f"goto {n}", "state --raw", "state", "trace --raw", "trace")]
+    shown = piped(programs, TO_DO, lines).stdout.decode()
+    for part in re.split(r"^at .*\n", shown, flags=re.MULTILINE)[1:]:
+        raw, rest = re.fullmatch(r"(?:  .*\n)*((?:\{\".*\n)+)((?:.*\n)*)", part).groups()
+        state, traces = re.fullmatch(r"((?:.*\n)*\}\n)((?:.*\n)*)", rest).groups()
+        texts = re.findall(r"^\{$.*?^\}$|^\{.*\}$", state, re.MULTILINE | re.DOTALL)
+        expect([json.loads(text) for text in texts] == [json.loads(line) for line in raw.splitlines()], state)
+        expect(max(map(len, state.splitlines())) <= 100, state)
+        if traces != "start\nstart\n":
+            _, rows, again = re.split(r"^event .*\n", traces, flags=re.MULTILINE)
+            expect_same(re.sub(r" {2,}(\d+)  +", r"\1 ", again), rows)
+
+
+def layout_holds(_):
+    """Runs of a rule in a trace are one row; a number keeps its text."""
+    expect(runs_of(["0 A", "1 B", "2 B", "3 B", "2 B", "4 C"]) == [(0, 0, "A"), (1, 3, "B"), (2, 2, "B"), (4, 4, "C")], "runs")
+    text = '{"a": 1.50, "b": [-0, 1e400, "' + "x" * 90 + '"], "c": "\\u0001\u00e9", "d": {}}'
+    rows = list(laid_out(read_json(text)))
+    expect(len(rows) > 5 and "".join(row.strip() + " " * row.endswith(",") for row in rows) == text, "\n".join(rows))
+
+
+# ---- predicates
+
+
+def brute(file, predicate):
+    """The positions at which the predicate of documents holds, by a view for each."""
+    scenario = Scenario(stored(file))
+    for position in itertools.count():
+        out = io.BytesIO()
+        status = command_line(["view", "--at", str(position), "-"], io.BytesIO(stored(file).encode()), out, io.StringIO())
+        if status or position > len(scenario.events):
+            return
+        lines = [json.loads(line) for line in out.getvalue().decode().splitlines()]
+        shown = {line["name"]: json.dumps(line["doc"], separators=(",", ":")) if "doc" in line else None for line in lines}
+        if predicate.holds(shown):
+            yield position
+
+
+ASKED = [(TO_DO, "conflict"), (TO_DO, "diverge"), (TO_DO, "not diverge"), (TO_DO, "shows title"), (TO_DO, "lacks title"),
+         (TO_DO, "q lacks title"), (TO_DO, 'shows "done":true'), (ANSWER, "r shows now"), (ANSWER, "not r shows now"),
+         ("examples/one-value.jsoncrdt", "conflict"), ("examples/one-value.jsoncrdt", "p conflict"), (STUCK, "diverge")]
+
+
+def found_case(file, text):
+    """From each position the nearest ones that way and this, by calls and in this process."""
+
+    def tried(_):
+        scenario = Scenario(stored(file))
+        predicate = predicate_of(text, list(scenario.scripts))
+        wanted, last = list(brute(file, predicate)), len(scenario.events) - (file == STUCK)
+        expect(wanted or text == "conflict", "it holds nowhere")
+        for kind in (InPython, Positions):
+            positions = kind(scenario, scenario.events)
+            for here in range(0, last + 1, 1 if kind == InPython else 6):
+                found = positions.next_with(here, predicate.holds), positions.last_with(here, predicate.holds)
+                due = min((n for n in wanted if n > here), default=None), max((n for n in wanted if n < here), default=None)
+                expect(found == due, f"{kind.__name__} finds {found} from {here}, and not {due}")
+
+    return f"debug: {text} in {file}", tried
+
+
+def sentences_are_there(_):
+    """Each refusal that a session or an event has, has its sentence."""
+    lacking = [number for number in REFUSALS if number not in (37, 39) and not re.fullmatch(r".{10,}\.", sentence_of(number))]
+    expect(not lacking, f"no sentence for {lacking}")
+    expect_same(sentence_of(50), "There are fewer events to take back.")
+
+
+def dying_case(end, sentence, status):
+    """The program's end is one sentence."""
+
+    def tried(_):
+        with folder_of({"dying": DYING.format(oracle=os.path.abspath(IN_PYTHON), end=end)}) as folder:
+            told = run(["tools/debug", FIRST], os.path.join(folder, "dying"), "where\nstep\nwhere\n")
+        own = [line for line in told.stderr.decode().splitlines() if not line.startswith("oracle/")]
+        expect(told.returncode == status and told.stdout == b"at 0 of 1\n", f"{told}")
+        expect(len(own) == 1 and own[0].endswith(f"{sentence}, and the session with it"), f"{told}")
+
+    return f"debug: a program that ends by {end}", tried
+
+
+def terminal():
+    yield "debug: what is typed in a terminal", answers_what_is_typed
+    yield "debug: Tab", completes
+    yield "debug: Ctrl-C", is_interrupted
+    yield "debug: the history", keeps_history
+    yield "debug: a history that can't be kept", has_no_home
+    yield "debug: oracle/jsoncrdt debug in a terminal", is_that_of_the_rules
+    for file in (TO_DO, ANSWER, STUCK, FIRST):
+        yield answers_as_the_program(file)
+    yield "debug: states and traces in many lines", is_laid_out
+    yield "debug: layout", layout_holds
+    yield from itertools.starmap(found_case, ASKED)
+    yield "debug: sentences", sentences_are_there
+    yield dying_case("kill -9 $$", "was killed by SIGKILL", 4)
+    yield dying_case("exit 5", "ended with 5", 5)
+    yield dying_case("exit 0", "ended with 0", 4)
