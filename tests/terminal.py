@@ -19,6 +19,7 @@ import time
 from cases import IN_PYTHON, expect, expect_same, folder_of, run, stored
 
 from asking import Scenario
+from debugger import COMMANDS
 from layout import laid_out, read_json, runs_of
 from positions import InPython, Positions
 from predicates import KINDS, predicate_of
@@ -115,7 +116,7 @@ TYPED = [
     ("u conflict\n", "(19/20) ", "at no later position, still at 19"),
     ("b until shows nothing\n", "(19/20) ", "at no earlier position, still at 19"),
     ("view\n", "(19/20) ", "p  {\"todo\": [{\"done\": true}]}\nq  "),
-    ("l\n", "(19/20) ", "> 19 p.apply(5, q)  applies 5@q"),
+    ("l\n", "(19/20) ", "-> 19 p.apply(5, q)  applies 5@q"),
     ("next\n", "(19/20) ", "refused 58 BadLine\n  There is no such line."),
     ("step x\n", "(19/20) ", "refused 58 BadLine\n  There is no such line.\n  step [N]"),
     ("st\n", "(19/20) ", "st begins step and state"),
@@ -331,6 +332,17 @@ def sentences_are_there(_):
     expect_same(sentence_of(50), "There are fewer events to take back.")
 
 
+def page_has_commands(_):
+    """The page of the debugger has each command with its short names, and each predicate."""
+    page = stored("docs/DEBUGGER.md")
+    for command in COMMANDS.values():
+        shorts = itertools.chain([", ".join(f"`{short}`" for short in command.shorts)], itertools.repeat(""))
+        for short, (form, about) in zip(shorts, command.forms.items()):
+            expect(f"| `{form}` | {short} | {about} |\n" in page, f"no row for {form}")
+    lacking = [name for name in KINDS if not re.search(rf"^\| `{name}\b", page, re.MULTILINE)]
+    expect(not lacking, f"no row for {lacking}")
+
+
 def dying_case(end, sentence, status):
     """The program's end is one sentence."""
 
@@ -357,6 +369,7 @@ def terminal():
     yield "debug: layout", layout_holds
     yield from itertools.starmap(found_case, ASKED)
     yield "debug: sentences", sentences_are_there
+    yield "debug: commands in docs/DEBUGGER.md", page_has_commands
     yield dying_case("kill -9 $$", "was killed by SIGKILL", 4)
     yield dying_case("exit 5", "ended with 5", 5)
     yield dying_case("exit 0", "ended with 0", 4)

@@ -38,7 +38,7 @@ class Conversation:
 
     def ask(self, text):
         """The lines that answer a line. Where the program ends it raises Ended."""
-        is_where = text.strip(" \t\r") == WHERE
+        is_where = text.removesuffix("\r").strip(" \t") == WHERE
         sent = WHERE if is_where else f"{text}\n{WHERE}"
         try:
             self.process.stdin.write(f"{sent}\n".encode(errors="surrogateescape"))

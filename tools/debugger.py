@@ -62,17 +62,17 @@ class Debugger:
 
     def is_over(self, text):
         """Answers a line, and says whether it ended the session."""
-        text = text if text.strip() else self.last_move or ""
-        word, rest = re.fullmatch(r"[ \t]*([^ \t\r]*)[ \t]*(.*)", text, re.DOTALL).groups()
+        text = text.removesuffix("\r").strip(" \t") or self.last_move or ""
+        word, rest = re.fullmatch(r"([^ \t]*)[ \t]*(.*)", text, re.DOTALL).groups()
         if not word:
             return False
         found = commands_of(word)
         if not found:
             self.pass_on(text)
         elif len(found) > 1:
-            self.add(f"{word} begins {' and '.join(command.name for command in found)}")
+            self.add(begun_by(word, found))
         else:
-            return self.does(found[0], text.strip() if word == found[0].name else f"{found[0].name} {rest}".strip(), rest)
+            return self.does(found[0], text if word == found[0].name else f"{found[0].name} {rest}".strip(), rest)
         return False
 
     def does(self, command, text, rest):
@@ -209,6 +209,11 @@ class Debugger:
         return next((position for position in earlier if holds(self.look(predicate.looks_at, position))), None)
 
 
+def begun_by(word, commands):
+    """The sentence for a word that is the beginning of more commands than one."""
+    return f"{word} begins {' and '.join(command.name for command in commands)}"
+
+
 # ---- commands. Each is given the session and the line.
 
 OVER = object()
@@ -286,13 +291,10 @@ def set_breakpoint(debugger, line):
     if not line.words:
         list_breakpoints(debugger, line)
         return
-    what = " ".join(line.words)
-    if line.words[0] == "rule":
-        what = "rule " + " ".join(line.words[1:]).upper()
-    answer = debugger.pass_on(f"break {what}", COMMANDS["break"])
-    for line in answer:
-        if done := re.fullmatch(r"set (\d+)\n", line):
-            debugger.breakpoints[int(done[1])] = what
+    text = re.sub(r"(?<=\brule)([ \t]+)(\S+)$", lambda rule: rule[0].upper(), line.text)
+    for answered in debugger.pass_on(text, COMMANDS["break"]):
+        if done := re.fullmatch(r"set (\d+)\n", answered):
+            debugger.breakpoints[int(done[1])] = " ".join(text.split()[1:])
 
 
 def clear_breakpoint(debugger, line):
@@ -307,7 +309,9 @@ def list_breakpoints(debugger, _line):
 
 def without_raw(line):
     """The line for the session, and whether it asks for the bytes."""
-    return " ".join(word for word in line.text.split() if word != RAW), RAW in line.words
+    if RAW not in line.words:
+        return line.text, False
+    return " ".join(word for word in line.text.split() if word != RAW), True
 
 
 def trace(debugger, line):
@@ -353,7 +357,7 @@ def list_events(debugger, line):
     rows = [(number, *(debugger.parts(number) if number else ("the start", ""))) for number in numbers]
     wide, long = len(str(numbers[-1])), max(len(event) for _, event, _ in rows)
     for number, event, what in rows:
-        mark = ">" if number == here else " "
+        mark = "->" if number == here else "  "
         debugger.write(shortened(f"{mark} {number:{wide}} {event:{long}}  {what}".rstrip()) + "\n")
 
 
@@ -361,12 +365,12 @@ def help_of(debugger, line):
     if not line.words:
         debugger.write("".join(f"{row}\n" for row in table()))
         return
-    found = commands_of(line.words[0])
+    word, found = line.words[0], commands_of(line.words[0])
     if len(found) != 1:
-        raise Wrong(f"no command {line.words[0]}; help lists them")
+        raise Wrong(begun_by(word, found) if found else f"no command is {word}; help lists them")
     command = found[0]
-    shorts = f" (also {', '.join(command.shorts)})" if command.shorts else ""
-    debugger.add(*command.forms, *textwrap.wrap(command.about + shorts, WIDTH - 2), *command.more())
+    debugger.add(*(f"{form:24}{about}" for form, about in command.forms.items()))
+    debugger.add(*[f"in short: {', '.join(command.shorts)}"] * bool(command.shorts), *command.more())
 
 
 def over(debugger, line):
@@ -428,11 +432,6 @@ def nothing(_debugger, _words):
 
 # ---- the table
 
-# A command: what does it, what it is for, its forms, its short names, whether Enter repeats it, what Tab offers behind it,
-# and more lines for its help.
-Command = collections.namedtuple("Command", "name does about forms shorts moves offers more",
-                                 defaults=((), False, nothing, lambda: ()))
-
 
 def predicates():
     """The predicates, in lines of help."""
@@ -442,35 +441,45 @@ def predicates():
     yield "With NAME it is asked of this replica's document alone."
 
 
+# A command: its name and what does it; its forms, each with what it is for; its short names; whether Enter repeats it;
+# what Tab offers behind it; more lines for its help.
+Command = collections.namedtuple("Command", "name does forms shorts moves offers more",
+                                 defaults=((), False, nothing, lambda: ()))
+
 COMMANDS = {command.name: command for command in (
-    Command("step", move, "executes the next N events, or one", ["step [N]"], ("s",), True),
-    Command("back", back, "takes the last N events back, or one; or goes back to where something held, or to where `run` "
-            "would have stopped last", ["back [N]", "back until PREDICATE", "back until break"], ("b",), True, offer_back,
-            predicates),
-    Command("goto", move, "goes to the position after N events", ["goto N"], ("g",), True),
-    Command("run", move, "goes on to a breakpoint, a stuck event or the end", ["run"], ("r",), True),
-    Command("until", until, "goes on to the next position at which something holds", ["until PREDICATE"], ("u",), True,
+    Command("step", move, {"step [N]": "executes the next event, or the next N"}, ("s",), True),
+    Command("back", back, {
+        "back [N]": "takes the last event back, or the last N",
+        "back until PREDICATE": "goes back to the nearest position at which it holds",
+        "back until break": "goes back to where `run` would have stopped last",
+    }, ("b",), True, offer_back, predicates),
+    Command("goto", move, {"goto N": "goes to the position after N events; 0 is the start"}, ("g",), True),
+    Command("run", move, {"run": "goes on to a breakpoint, a stuck event or the end"}, ("r",), True),
+    Command("until", until, {"until PREDICATE": "goes on to the nearest position at which it holds"}, ("u",), True,
             offer_predicates, predicates),
-    Command("break", set_breakpoint, "sets a breakpoint at a position, for a rule, or for a replica",
-            ["break at N", "break rule RULE", "break replica NAME"], ("br",), False, offer_breaks),
-    Command("unbreak", clear_breakpoint, "clears a breakpoint", ["unbreak K"], (), False, offer_numbers),
-    Command("breaks", list_breakpoints, "lists the breakpoints", ["breaks"]),
-    Command("list", list_events, "shows the events around the position, or around event N", ["list [N]"], ("l",)),
-    Command("view", view, "shows the documents as an application sees them", ["view [NAME] [--raw]"], ("v",), False,
+    Command("break", set_breakpoint, {
+        "break at N": "makes `run` stop at position N",
+        "break rule RULE": "makes `run` stop behind each event that used the rule",
+        "break replica NAME": "makes `run` stop behind each event of the replica",
+    }, ("br",), False, offer_breaks),
+    Command("unbreak", clear_breakpoint, {"unbreak K": "clears a breakpoint"}, (), False, offer_numbers),
+    Command("breaks", list_breakpoints, {"breaks": "lists the breakpoints"}),
+    Command("list", list_events, {"list [N]": "shows the events around the position, or around event N"}, ("l",)),
+    Command("view", view, {"view [NAME] [--raw]": "shows the documents as an application sees them"}, ("v",), False,
             offer_shown),
-    Command("state", state, "shows the whole state of each replica, or of one", ["state [NAME] [--raw]"], (), False,
+    Command("state", state, {"state [NAME] [--raw]": "shows the whole state of each replica, or of one"}, (), False,
             offer_shown),
-    Command("trace", trace, "shows the rules of the event that led here, each below the one that uses it",
-            ["trace [--raw]"], ("t",), False, lambda _debugger, _words: [RAW]),
-    Command("enabled", pass_on, "lists the events that could be executed here", ["enabled"], ("e",)),
-    Command("act", act, "executes this event, and cuts off the rest of the schedule, for good", ["act EVENT"], ("a",), False,
+    Command("trace", trace, {"trace [--raw]": "shows the rules of the event that led here"}, ("t",), False,
+            lambda _debugger, _words: [RAW]),
+    Command("enabled", pass_on, {"enabled": "lists the events that could be executed here"}, ("e",)),
+    Command("act", act, {"act EVENT": "executes this event, and cuts off the rest of the schedule, for good"}, ("a",), False,
             offer_events),
-    Command("compare", pass_on, "says whether two replicas have applied the same operations", ["compare NAME NAME"], ("c",),
+    Command("compare", pass_on, {"compare NAME NAME": "says whether two replicas have applied the same operations"}, ("c",),
             False, offer_names),
-    Command("schedule", pass_on, "lists the events of the schedule", ["schedule"]),
-    Command("where", pass_on, "says the position, and how many events there are", ["where"], ("w",)),
-    Command("help", help_of, "lists the commands, or says more of one", ["help [COMMAND]"], ("h", "?"), False, offer_commands),
-    Command("quit", over, "ends the session, as Ctrl-D does", ["quit"], ("q",)),
+    Command("schedule", pass_on, {"schedule": "lists the events of the schedule"}),
+    Command("where", pass_on, {"where": "says the position, and how many events there are"}, ("w",)),
+    Command("help", help_of, {"help [COMMAND]": "lists the commands, or says more of one"}, ("h", "?"), False, offer_commands),
+    Command("quit", over, {"quit": "ends the session, as Ctrl-D does"}, ("q",)),
 )}
 
 
@@ -486,7 +495,7 @@ def commands_of(word):
 def table():
     """The commands, in lines of help."""
     for command in COMMANDS.values():
-        abouts = textwrap.wrap(command.about, WIDTH - 30)
-        for form, short, about in itertools.zip_longest(command.forms, [", ".join(command.shorts)], abouts, fillvalue=""):
-            yield f"{short:6}{form:24}{about}".rstrip()
+        shorts = itertools.chain([", ".join(command.shorts)], itertools.repeat(""))
+        for short, (form, about) in zip(shorts, command.forms.items()):
+            yield f"{short:6}{form:24}{about}"
     yield "An unambiguous beginning is enough for a command. Enter alone repeats the last that moved."

@@ -9,8 +9,9 @@ from asking import READ_OR_WRITE_FAILED, reason_of, stop
 
 try:
     import readline
-except ImportError:  # some Pythons are built without it: then there is no history and no Tab
-    readline = None
+    NO_READLINE = ""
+except ImportError:  # some Pythons are built without it
+    readline, NO_READLINE = None, "there is no history and no Tab: this Python has no module readline\n"
 
 MOST_KEPT = 1000
 
