@@ -78,7 +78,51 @@ def are_made(_):
             expect(size <= MOST_BYTES, f"{name} has {size} bytes")
 
 
+# A past of seven operations, of which q has one; exchanges that bring nothing; a take of what is there already. Row 4 is
+# the first that brings something.
+BRIEF = """jsoncrdt 2
+replica p { """ + "".join(f"doc.get(\"{name}\") := 1; " for name in "abcdefg") + """yield; doc.get("a") := 2; yield }
+replica q { yield; yield }
+given { """ + "p.exec; " * 7 + """p.send; q.take(p, 1, p); q.apply(1, p); p.done }
+schedule { q.send; q.take(p, 1, p); p.exec; p.send; p.send; q.recv(q); q.recv(p); q.done; p.exec }
+"""
+BRIEF_TOLD = """\
+      p                          | q
+      given: 7 operations        | given: 1@p
+      ---------------------------+------------------------------------------------
+   3  8@p  doc.get("a") := 2     |
+   4  offers 8@p                 |
+   7                             | gets from p: 2@p 3@p 4@p 5@p 6@p 7@p 8@p
+   9  p.exec  stuck 31 AtYield   |
+      ---------------------------+------------------------------------------------
+      {"a":2,"b":1,"c":1,"d":1,"e":1,"f":1,"g":1}  | {"a":1}
+"""
+MERMAID_TOLD = """\
+sequenceDiagram
+  participant r0 as p
+  participant r1 as q
+  Note over r0: given: 7 operations
+  Note over r1: given: 1@p
+  Note over r0,r1: the schedule begins
+  Note over r0: 3  8@p  doc.get("a") := 2
+  Note over r0: 4  offers 8@p
+  r0-->>r1: 7  gets from p: 2@p 3@p 4@p 5@p 6@p 7@p 8@p
+  Note over r0: 9  p.exec  stuck 31 AtYield
+"""
+
+
+def is_brief(programs):
+    """What brings nothing is left out, and what is given is one row; the last row has the documents."""
+    told = run(["tools/lanes", "--brief", "--view", "-"], programs.program, BRIEF)
+    expect(told.returncode == 3, f"{told}")
+    for got, want in zip(told.stdout.decode().splitlines(), BRIEF_TOLD.splitlines(), strict=True):
+        # How wide the columns are is the widest cell's affair.
+        expect_same(re.sub(r"--+", "--", re.sub(r" +\|", " |", got)), re.sub(r"--+", "--", re.sub(r" +\|", " |", want)))
+    expect_same(run(["tools/lanes", "--brief", "--mermaid", "-"], programs.program, BRIEF).stdout.decode(), MERMAID_TOLD)
+
+
 def lanes():
+    yield "tools: lanes --brief", is_brief
     yield "pages: docs/pictures", are_made
     yield "tools: what a line of a picture meets", meets_what_it_should
     for file in sorted(glob.glob("examples/**/*.jsoncrdt", recursive=True)):

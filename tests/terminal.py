@@ -34,7 +34,7 @@ CTRL_C, CTRL_D, UP, CLEAR_LINE = "\x03", "\x04", "\x1b[A", "\x15"
 STARTER = "import fcntl, os, sys, termios; fcntl.ioctl(0, termios.TIOCSCTTY, 0); os.execvp(sys.argv[1], sys.argv[1:])"
 # A program that waits before each view.
 SLOW = """#!/bin/sh
-[ "$1" != view ] || sleep 0.3
+[ "$1" != view ] || {{ : >"$0.begun"; sleep 0.3; }}
 exec "{oracle}" "$@"
 """
 # A program that ends while a line is answered.
@@ -98,7 +98,7 @@ def debugger(folder, program=IN_PYTHON, file=TO_DO):
 TYPED = [
     ("s\n", "(1/20) ", "1 p.exec  1@p  doc.get(\"todo\") := []"),
     ("\n", "(2/20) ", "2 p.exec"),
-    ("step 3\n", "(5/20) ", "5 p.send"),
+    ("step 3\n", "(5/20) ", "at 5\n  3 p.exec  3@p  doc.get(\"todo\").idx(1).get(\"title\") := \"buy milk\"\n  4 p.exec"),
     ("\n", "(8/20) ", "8 q.apply(1, p)  applies 1@p  doc.get(\"todo\") := []"),
     ("b\n", "(7/20) ", "7 q.recv(p)  gets from p"),
     ("g 12\n", "(12/20) ", "12 q.done"),
@@ -170,15 +170,26 @@ def completes(_):
             terminal.read_to("(13/20) ")
 
 
+def wait_for(path):
+    end = time.monotonic() + SECONDS
+    while not os.path.exists(path):
+        expect(time.monotonic() < end, f"there is no {path}")
+        time.sleep(0.05)
+
+
 def is_interrupted(_):
     """Ctrl-C ends a search and keeps the session; at the prompt it drops the line."""
     with tempfile.TemporaryDirectory() as folder, folder_of({"slow": SLOW.format(oracle=os.path.abspath(IN_PYTHON))}) as bin:
         with debugger(folder, os.path.join(bin, "slow")) as terminal:
             terminal.read_to("(0/20) ")
             terminal.type("until shows nothing\n")
-            time.sleep(0.5)
+            wait_for(os.path.join(bin, "slow.begun"))
             terminal.type(CTRL_C)
             terminal.read_to("stopped, still at 0")
+            terminal.read_to("(0/20) ")
+            terminal.type("until p shows todo\n")
+            terminal.read_to("(1/20) ")
+            terminal.type("goto 0\n")
             terminal.read_to("(0/20) ")
             terminal.type("step 5" + CTRL_C)
             terminal.read_to("(0/20) ")
@@ -325,6 +336,77 @@ def found_case(file, text):
     return f"debug: {text} in {file}", tried
 
 
+# A predicate, what it looks at, and whether it holds there.
+HOLDS = [
+    ("shows x", {"p": '{"a":"x"}', "q": '{"a":"x"}'}, True),
+    ("shows x", {"p": '{"a":"x"}', "q": '{"a":"y"}'}, False),
+    ("shows x", {"p": '{"a":"x"}', "q": None}, False),
+    ("lacks x", {"p": '{"a":"x"}', "q": '{"a":"y"}'}, True),
+    ("lacks x", {"p": '{"a":"x"}', "q": '{"a":"x"}'}, False),
+    ("p lacks x", {"p": '{"a":"x"}', "q": '{"a":"y"}'}, False),
+    ("q lacks x", {"p": '{"a":"x"}', "q": None}, True),
+    ('shows "a":"x y"', {"p": '{"a":"x y"}', "q": '{"a":"x y"}'}, True),
+    ("conflict", {"p": '{"a":[{"!conflict":{"values":[]}}]}', "q": None}, True),
+    ("q conflict", {"p": '{"!conflict":{}}', "q": "{}"}, False),
+    ("conflict", {"p": '{"!!conflict":1,"b":"!conflict","x\\"!conflict":2}', "q": '"\\"!conflict\\":"'}, False),
+    ("diverge", {"p": "1", "q": None}, True),
+    ("diverge", {"p": "1", "q": "1"}, False),
+    ("not diverge", {"p": "1", "q": "1"}, True),
+    ("not not diverge", {"p": "1", "q": "1"}, False),
+    ("event q.apply(5,p)", "q.apply(5, p)", True),
+    ("event *.apply(5, *)", "q.apply(5, p)", True),
+    ("event q.apply", "q.apply(5, p)", False),
+    ("rule clear-*", ["EXEC", "CLEAR-REG"], True),
+    ("rule CLEAR", ["EXEC", "CLEAR-REG"], False),
+    ("stuck", True, True),
+    ("not stuck", True, False),
+]
+LOOKS_AT = {dict: "documents", str: "event", list: "rules", bool: "stuck"}
+
+
+def holds_case(text, what, wanted):
+    def tried(_):
+        predicate = predicate_of(text, ["p", "q"])
+        expect(predicate.looks_at == LOOKS_AT[type(what)], f"it looks at {predicate.looks_at}")
+        expect(predicate.holds(what) == wanted, f"{text} of {what}")
+
+    return f"debug: {text} of {json.dumps(what)}", tried
+
+
+# What is read from a pipe, and what is told beside the program's own answers.
+PIPED = [
+    (STUCK, ["until stuck"], "at 13\nstuck 36 DepsMissing r.apply(2, q)\n  An operation depends on all that its maker had applied "
+     "when it made it, and these have to be\n  applied before.\n  missing: 1@p\n  13 r.apply(1, q)  applies 1@q  "
+     "doc.get(\"author\") := \"Ada\"\n"),
+    (STUCK, ["goto 13", "until not stuck"], "at 13\n  13 r.apply(1, q)  applies 1@q  doc.get(\"author\") := \"Ada\"\n"
+     "  at no later position, still at 13\n"),
+    (STUCK, ["goto 12", "act r.apply(9, q)"], "at 12\n  12 r.recv(q)  gets from q: 1@q 2@q\nat 12\nstuck 34 NotReceived "
+     "r.apply(9, q)\n  The operation isn't among those received; or, of a `take`, the other replica doesn't offer it.\n"
+     "  offered by: none\n"),
+    (FIRST, ["until", "until what", "until shows", "until diverge x", "back until"], "  a predicate is missing; there are "
+     "shows, lacks, conflict, diverge, stuck, event, rule, and `not` before any of these\n  what is no predicate; there are shows, "
+     "lacks, conflict, diverge, stuck, event, rule, and `not` before any of these\n  shows needs TEXT\n  nothing stands behind "
+     "diverge\n  a predicate is missing; there are shows, lacks, conflict, diverge, stuck, event, rule, and `not` before any of "
+     "these\n"),
+    (FIRST, ["", "step\r", "back 1", "\t", "view"], "at 1\n  1 a.exec  1@a  doc.get(\"a\") := 1\nat 0\n  the start\n"
+     "refused 50 AtStart\n  There are fewer events to take back.\na  no document\n"),
+    (FIRST, ["list 0", "s", "list 9", "list x", "view b", "help st", "help no"], "-> 0 the start\n   1 a.exec     1@a  "
+     "doc.get(\"a\") := 1\nat 1\n  1 a.exec  1@a  doc.get(\"a\") := 1\n   0 the start\n-> 1 a.exec     1@a  "
+     "doc.get(\"a\") := 1\n  list goes with one number, or none\n  list [N]\n  no replica b; there are a\n"
+     "  view [NAME] [--raw]\n  st begins step and state\n  help [COMMAND]\n  no command is no; help lists them\n"
+     "  help [COMMAND]\n"),
+]
+
+
+def piped_case(file, lines, wanted):
+    def tried(programs):
+        told = piped(programs, file, lines)
+        expect(told.returncode == 0, f"{told}")
+        expect_same(told.stdout.decode(), wanted)
+
+    return f"debug: {', '.join(map(repr, lines))} of {file}", tried
+
+
 def sentences_are_there(_):
     """Each refusal that a session or an event has, has its sentence."""
     lacking = [number for number in REFUSALS if number not in (37, 39) and not re.fullmatch(r".{10,}\.", sentence_of(number))]
@@ -368,6 +450,8 @@ def terminal():
     yield "debug: states and traces in many lines", is_laid_out
     yield "debug: layout", layout_holds
     yield from itertools.starmap(found_case, ASKED)
+    yield from itertools.starmap(holds_case, HOLDS)
+    yield from itertools.starmap(piped_case, PIPED)
     yield "debug: sentences", sentences_are_there
     yield "debug: commands in docs/DEBUGGER.md", page_has_commands
     yield dying_case("kill -9 $$", "was killed by SIGKILL", 4)

@@ -89,7 +89,8 @@ def predicate_of(text, names):
         word, operand = first, rest
     kind, operand = KINDS.get(word), operand.strip()
     if not kind:
-        raise NoPredicate(f"{word or 'nothing'} is no predicate; there are {', '.join(KINDS)}, and not before any of these")
+        fault = f"{word} is no predicate" if word else "a predicate is missing"
+        raise NoPredicate(f"{fault}; there are {', '.join(KINDS)}, and `not` before any of these")
     if bool(kind.operand) != bool(operand):
         raise NoPredicate(f"{word} needs {kind.operand}" if kind.operand else f"nothing stands behind {word}")
     holds = kind.asks(operand)
