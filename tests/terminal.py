@@ -19,7 +19,7 @@ import time
 from cases import IN_PYTHON, expect, expect_same, folder_of, run, stored
 
 from asking import Scenario
-from debugger import COMMANDS
+from commands import COMMANDS
 from layout import laid_out, read_json, runs_of
 from positions import InPython, Positions
 from predicates import KINDS, predicate_of
@@ -390,6 +390,8 @@ PIPED = [
      "these\n"),
     (FIRST, ["", "step\r", "back 1", "\t", "view"], "at 1\n  1 a.exec  1@a  doc.get(\"a\") := 1\nat 0\n  the start\n"
      "refused 50 AtStart\n  There are fewer events to take back.\na  no document\n"),
+    (FIRST, ["breaks", "br", "back until break", "break at 1", "unbreak 1", "breaks"], "  none\n  none\n  at no earlier position, "
+     "still at 0\nset 1\ncleared 1\n  at 1\n  none\n"),
     (FIRST, ["list 0", "s", "list 9", "list x", "view b", "help st", "help no"], "-> 0 the start\n   1 a.exec     1@a  "
      "doc.get(\"a\") := 1\nat 1\n  1 a.exec  1@a  doc.get(\"a\") := 1\n   0 the start\n-> 1 a.exec     1@a  "
      "doc.get(\"a\") := 1\n  list goes with one number, or none\n  list [N]\n  no replica b; there are a\n"
