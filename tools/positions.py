@@ -91,7 +91,8 @@ class Positions:
 
     def backwards(self, position):
         """The position before, and each before it whose documents are others than those behind, the nearest first."""
-        return (number for number in range(position - 1, -1, -1) if number == position - 1 or "op" in self.line(number + 1))
+        nearest = position - 1
+        return (number for number in range(nearest, -1, -1) if number == nearest or "op" in self.line(number + 1))
 
     def next_with(self, position, holds):
         """The nearest position behind this one whose documents are as is asked, or none."""
@@ -111,7 +112,7 @@ class Positions:
 
 
 class InPython(Positions):
-    """By the rules in Python: a network that goes forwards alone, and the lines of its view, each until it is changed."""
+    """By the rules in Python: a network that goes forwards alone, and the lines of its view, each till it changes."""
 
     def __init__(self, scenario, events):
         super().__init__(scenario, events)

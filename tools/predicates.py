@@ -1,4 +1,4 @@
-"""What may hold at a position of a run, or of how a run ended, by its name: `shows milk`, `p lacks milk`, `not diverge`.
+"""What may hold at a position of a run, or of how a run ended: `shows milk`, `p lacks milk`, `not diverge`.
 
 A tool reads a predicate by `predicate_of`, and asks its `holds` about what `looks_at` says:
 
@@ -38,8 +38,12 @@ def lacks(text):
 
 
 def conflict(_):
-    # A text without the name has no such member. It may have the name within a string.
-    return lambda documents: any(CONFLICT in shown and has_conflict(json.loads(shown)) for shown in documents.values() if shown)
+    def asked(documents):
+        # A text without the name has no such member. It may have the name within a string.
+        named = [shown for shown in documents.values() if shown and CONFLICT in shown]
+        return any(has_conflict(json.loads(shown)) for shown in named)
+
+    return asked
 
 
 def diverge(_):

@@ -2,8 +2,8 @@
 
 
 class Row:
-    """An event: its number, whether it is given, its replica, its kind, the replica that it receives from, what it brought,
-    the operation that it is about, and what it does, in words."""
+    """An event: its number, whether it is given, its replica, its kind, the replica that it receives from, what it
+    brought, the operation that it is about, and what it does, in words."""
 
     def __init__(self, line):
         self.number, self.is_given = line["number"], "given" in line

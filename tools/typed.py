@@ -48,7 +48,7 @@ class Interrupts:
 
 
 class Typed:
-    """Lines that are typed: `prompt` gives what stands before one, `offers` what Tab offers behind the words of a line."""
+    """Lines that are typed: `prompt` gives what stands before one, `offers` what Tab offers behind a line's words."""
 
     def __init__(self, prompt, offers):
         self.prompt, self.offers, self.offered, self.kept = prompt, offers, [], 0
@@ -72,7 +72,7 @@ class Typed:
         self.kept = readline.get_current_history_length()
 
     def keep_line(self):
-        """Keeps a line as soon as it is typed. Where the file can't be written there is no history of later sessions."""
+        """Keeps a line as soon as it is typed. Where the file can't be written, later sessions have no history."""
         if not readline or readline.get_current_history_length() == self.kept:
             return
         self.kept = readline.get_current_history_length()
