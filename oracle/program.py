@@ -35,8 +35,8 @@ The program by the same rules, written once more in Python. Nothing of it is pro
                         each replica chooses its events as its thread does, up to the limit (10,000);
                         yields between commands make schedules that end differently
   debug FILE            the debugger: steps forwards and backwards by lines of standard input (`act`
-                        cuts off the rest of the schedule for good); in a terminal it has a prompt
-                        and a history, and `help` lists the lines
+                        cuts off the rest of the schedule for good); in a terminal it is tools/debug,
+                        which has a prompt, a history and Tab, and `help` lists the lines
 
 A scenario of version 2 begins with `jsoncrdt 2`, and may have a block `given { .. }` of events before its
 schedule, which are made before event 1.
@@ -202,7 +202,7 @@ def text_of(file, source):
         raise NotRead(f"{file}: {reason_of(error)}") from error
 
 
-def done(order, source, out, err, by_hand):
+def done(order, source, out, err):
     """Does what the order says, and gives the status."""
     scenario, fault = read(text_of(order.file, source))
     if fault:
@@ -223,16 +223,13 @@ def done(order, source, out, err, by_hand):
     except GivenStuck as given:
         out.write(texts.given_stuck(given))
         return 3
-    return by_hand(session) if by_hand else debug(session, () if order.file == "-" else source, out, err)
+    return debug(session, () if order.file == "-" else source, out, err)
 
 
-def command_line(words, source, out, err, by_hand=None):
-    """Does what the words ask for, and gives the status. Source and out are files of bytes, err is one of text.
-
-    A session is given to by_hand, where that is there, instead of having its lines from the source.
-    """
+def command_line(words, source, out, err):
+    """Does what the words ask for, and gives the status. Source and out are files of bytes, err is one of text."""
     try:
-        return done(order_of(words), source, out, err, by_hand)
+        return done(order_of(words), source, out, err)
     except BadWords as fault:
         err.write(f"oracle/jsoncrdt: {fault}\n{USAGE}\n")
         return 2

@@ -5,7 +5,6 @@ import concurrent.futures
 import glob
 import json
 import os
-import pty
 import re
 import shutil
 import subprocess
@@ -29,8 +28,10 @@ from edits import edits
 from faults import faults
 from grammar import EVENTS, RESERVED
 from kit import kit
+from lanes import lanes
 from read_back import pictures_read_back
 from scripts import scripts
+from terminal import terminal
 
 EXPECTED = os.path.join("tests", "expected")
 DOCUMENTS = ("README.md", "docs/*.md", "examples/*.md", "editors/*.md", "kit/*.md", "crates/*/README.md")
@@ -43,7 +44,7 @@ Python. It proves nothing; the gate, rt ci, does that. The last line is `N passe
 one failed. What needs the built program, or a command that isn't there, is skipped, and counted on the line before."""
 WORDS = """\
 With words, what has one of them in its name: examples, README, docs, pages, tools, faults, launcher, edits, more-edits,
-gate, process, arguments, editors, kit, oracle, or a part of a file's name or of a command."""
+gate, process, arguments, editors, debug, kit, oracle, or a part of a file's name or of a command."""
 
 
 def block_case(command):
@@ -124,6 +125,7 @@ def told_case(name, words, path, end=(0, ""), write=False):
 def pictures(file):
     """What is printed of an example: the name of the stored file, and the words of the command."""
     yield "lanes", ["tools/lanes", file]
+    yield "brief", ["tools/lanes", "--brief", "--view", file]
     yield "mermaid", ["tools/lanes", "--mermaid", file]
     yield "svg", ["tools/lanes", "--svg", file]
     for name in re.findall(r"^replica (\w+)", stored(file), re.MULTILINE):
@@ -190,30 +192,6 @@ def quits_at_once(programs):
 def process():
     yield from map(process_case, processes.ROWS)
     yield "process: quit while the input stays open", quits_at_once
-
-
-def in_terminal(words, typed):
-    """What a command shows in a terminal in which these lines are typed."""
-    ours, theirs = pty.openpty()
-    with subprocess.Popen(words, stdin=theirs, stdout=theirs, stderr=theirs, close_fds=True) as process:
-        os.close(theirs)
-        os.write(ours, typed.encode())
-        shown = b""
-        try:
-            while part := os.read(ours, 4096):
-                shown += part
-        except OSError:  # the end of a terminal's output
-            pass
-        os.close(ours)
-    return shown.decode(), process.returncode
-
-
-def has_prompt(_):
-    """A session by hand has a prompt with the position, help, and documents."""
-    shown, status = in_terminal([IN_PYTHON, "debug", "examples/first.jsoncrdt"], "help\nstep\nview\nnext\nquit\n")
-    looked_for = ["(0/1) ", "(1/1) ", "cut off the rest", '{"doc":{"a":1},"name":"a"}', "no such line"]
-    lacking = [text for text in looked_for if text not in shown]
-    expect(not lacking and status == 0, f"status {status}, without {lacking}:\n{shown}")
 
 
 def patterns_of(grammar):
@@ -317,7 +295,6 @@ def editors():
     yield "editors: tools/command_line.py and the sources of the program", is_defined
     yield "editors: tools/command_line.py and --help", names_commands
     yield "editors: editors/jsoncrdt.tmLanguage.json", colours_words
-    yield "oracle: a session in a terminal", has_prompt
 
 
 PASSED, FAILED, SKIPPED = "passed", "failed", "skipped"
@@ -367,8 +344,8 @@ def main():
     if asked.built and not programs.is_built:
         print(f"FAILED test: {programs.lack}\n0 passed, 1 failed")
         return 1
-    cases = [*examples(asked.write), *blocks(), *pages(), *tools(asked.write), *pictures_read_back(), *faults(), *scripts(),
-             *edits(), *architecture(), *process(), *arguments(), *editors(), *kit()]
+    cases = [*examples(asked.write), *blocks(), *pages(), *tools(asked.write), *pictures_read_back(), *lanes(), *faults(),
+             *scripts(), *edits(), *architecture(), *process(), *arguments(), *editors(), *terminal(), *kit()]
     cases = chosen_of(cases, asked.words)
     if IN_TEST in os.environ:
         streams.stop("a test runs no tests")
