@@ -24,6 +24,7 @@ from blocks import bare_blocks, commands_of, long_paragraphs
 from cases import IN_PYTHON, IN_TEST, NotTried, Programs, Wrong, expect, expect_same, run, stored
 from faults import faults
 from grammar import EVENTS, RESERVED
+from journals import journals
 from kit import kit
 from scripts import scripts
 
@@ -345,6 +346,7 @@ def main():
     asked, programs = parser.parse_args(), Programs()
     cases = [*examples(asked.write), *blocks(), *pages(), *tools(asked.write), *faults(), *scripts(), *process(), *arguments(),
              *editors(), *kit()]
+    cases += journals()
     cases = chosen_of(cases, asked.words)
     if IN_TEST in os.environ:
         streams.stop("a test runs no tests")

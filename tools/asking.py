@@ -16,7 +16,7 @@ BUILT = os.path.join(ROOT, "crates", "jc_app", "out", "jc_app")
 IN_PYTHON = os.path.join(ROOT, "oracle", "jsoncrdt")
 sys.path.append(os.path.join(ROOT, "oracle"))
 
-from streams import READ_OR_WRITE_FAILED, Parser, number_from, reason_of, run, say, stop
+from streams import READ_OR_WRITE_FAILED, Parser, number_from, reason_of, run, stop
 
 
 def program():
@@ -25,29 +25,19 @@ def program():
     return BUILT if os.access(BUILT, os.X_OK) else IN_PYTHON
 
 
-def told(words, text="", of=None):
-    """What the program, or another one, writes on its output, and its status. Where it can't read, write or be found, the
-    tool ends."""
-    path = of or program()
+def told(words, text=""):
+    """What the program writes on its output, and its status. Where it can't read, write or be found, the tool ends."""
     try:
-        ended = subprocess.run([path, *words], input=text.encode(), capture_output=True, check=False)
+        ended = subprocess.run([program(), *words], input=text.encode(), capture_output=True, check=False)
     except OSError as error:
-        stop(f"{path}: {reason_of(error)}")
+        stop(f"{program()}: {reason_of(error)}")
     if ended.returncode not in (0, 1, 3):
         last = ended.stderr.decode(errors="replace").strip().split("\n")[-1]
-        stop(last or f"{path} ended with {ended.returncode}", ended.returncode if ended.returncode > 0 else 2)
+        stop(last or f"{program()} ended with {ended.returncode}", ended.returncode if ended.returncode > 0 else 2)
     output = ended.stdout.decode(errors="replace")
     if ended.returncode == 1 and not output.startswith("refused "):
-        stop(f"{path} isn't jsoncrdt: it ended with 1 and told no refusal")
+        stop(f"{program()} isn't jsoncrdt: it ended with 1 and told no refusal")
     return output, ended.returncode
-
-
-def journal_with_effects(text):
-    """The lines of a scenario's journal, each with what its event changed.
-
-    Effects come from the rules in Python until the program has them. Then the last argument here goes.
-    """
-    return told(["journal", "--effects", "-"], text, IN_PYTHON)[0].split("\n")[:-1]
 
 
 def text_of(file):

@@ -1,16 +1,18 @@
 """What events changed at which places of a document, by the effects in the journal of a scenario. tools/why and tools/fate
-are made of this; a debugger can use it, too.
+are made of this, and it has what a debugger needs that goes on until a place changes.
 
 A place is the tuple of the keys that lead to it, as they are written in effects: ("doc", '"items"', "3@ann", '"text"').
 Its text has `/` between them.
 """
 
+import io
 import json
 import re
 from collections import namedtuple
 
-from asking import journal_with_effects
+import asking  # which says where the modules below are
 from grammar import read, read_expression
+from program import command_line
 from rules import Network, Stuck, change, cursor_of
 from texts import REFUSALS, Texts, string
 
@@ -28,13 +30,25 @@ class NoPlace(Exception):
 # ---- the journal
 
 
-class Journal:
-    """What happened in a scenario (of asking.py): the lines of the events that were made, given ones first, that of the
-    stuck one, if one is, and for each operation the line of the event that made it."""
+def journal_with_effects(text):
+    """The text of a scenario's journal, with what each event changed.
 
-    def __init__(self, scenario):
-        self.names, self.parsed = list(scenario.scripts), read(scenario.text.encode())[0]
-        self.lines = [json.loads(line) for line in journal_with_effects(scenario.text)]
+    Effects come from the rules in Python until the program has them. Then this is
+    `asking.told(["journal", "--effects", "-"], text)[0]`.
+    """
+    out = io.BytesIO()
+    command_line(["journal", "--effects", "-"], io.BytesIO(text.encode()), out, io.StringIO())
+    return out.getvalue().decode()
+
+
+class Journal:
+    """What happened in the scenario of a text, which isn't refused: the lines of the events that were made, given ones
+    first, that of the stuck one, if one is, and for each operation the line of the event that made it."""
+
+    def __init__(self, text):
+        self.parsed = read(text.encode())[0]
+        self.names = [name.decode() for name in self.parsed.names]
+        self.lines = [json.loads(line) for line in journal_with_effects(text).split("\n")[:-1]]
         self.stuck = self.lines.pop() if self.lines and "stuck" in self.lines[-1] else None
         self.made = {line["op"]["id"]: line for line in self.lines if line["kind"] == "exec" and "op" in line}
 

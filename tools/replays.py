@@ -95,7 +95,7 @@ def line_of(number, text):
     return Line(number, "given" in told, told["replica"], is_made, logged(told["op"], is_made)), names, False
 
 
-class Journal:
+class Log:
     """What is read of a journal: the lines that make or apply an operation, the names of the replicas in their order, and
     the number of the line of a stuck event, or none."""
 
@@ -247,10 +247,10 @@ class Replay:
                 self.leave(p, False)
 
 
-def follow(journal, bound):
-    """The replay of a journal, as far as there is one, and why it ends before the journal does."""
-    replay, why = Replay(journal.names, bound), None
-    for line in journal.lines:
+def follow(log, bound):
+    """The replay of a log, as far as there is one, and why it ends before the log does."""
+    replay, why = Replay(log.names, bound), None
+    for line in log.lines:
         try:
             replay.follow(line)
         except NoWay as reason:
@@ -263,10 +263,10 @@ def follow(journal, bound):
     return replay, why
 
 
-def replayed(journal):
+def replayed(log):
     """The same with all bound that has to be."""
-    replay, why = follow(journal, frozenset())
-    return follow(journal, frozenset(replay.lacking)) if replay.lacking else (replay, why)
+    replay, why = follow(log, frozenset())
+    return follow(log, frozenset(replay.lacking)) if replay.lacking else (replay, why)
 
 
 def text_of(replay):
