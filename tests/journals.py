@@ -22,7 +22,7 @@ from grammar import read
 from judging import by_rules
 from replays import Log, replayed, text_of
 from texts import Texts, string
-from weaving import Maker
+from weaving import Maker, Writer, woven
 
 RANDOM = range(40)
 
@@ -118,6 +118,16 @@ WRONG = [
 ]
 
 
+class Keeper(Writer):
+    """Writes scripts in which replicas keep elements in variables, delete elements, and go on by the variables."""
+
+    def command(self):
+        of, number = self.random.choice, self.random.choice([1, 1, 2, 3])
+        element, kept = ("idx", ("get", ("doc",), b"a"), number), ("variable", of([b"x", b"y"]))
+        return of([("let", kept[1], element), ("let", kept[1], element), ("delete", element), ("delete", kept),
+                   ("insert", kept, self.value()), ("assign", ("get", kept, b"b"), self.value()), ("assign", kept, self.value())])
+
+
 def scenarios():
     return sorted([*glob.glob("examples/**/*.jsoncrdt", recursive=True), *glob.glob("kit/*/scenario.jsoncrdt")])
 
@@ -127,9 +137,10 @@ def text_at(example):
     return example if example.startswith("jsoncrdt") else stored(f"examples/{example}.jsoncrdt")
 
 
-def random_text(seed):
-    made = Maker(seed).scenario()
-    return Texts(made.names).scenario(made)
+def random_texts():
+    """Random scenarios, of which some name elements by variables. Where scripts come to no end there is none."""
+    found = [Maker(seed).scenario() for seed in RANDOM] + [woven(2 * seed, seed, Keeper) for seed in RANDOM]
+    return [Texts(made.names).scenario(made).decode() for made in found if made]
 
 
 def journal_of(text, *options):
@@ -153,10 +164,10 @@ def worked_case(example, number, effects):
 def is_difference(_):
     """Effects are the difference of dumped trees, of examples, of the kit, and of random scenarios."""
     count = 0
-    for text in [*(stored(path).encode() for path in scenarios()), *map(random_text, RANDOM)]:
-        told = by_rules(["journal", "--effects"], text)[0]
-        expect_same(told.decode(), with_effects(by_rules(["journal"], text)[0], read(text)[0]).decode())
-        count += told.count(b'"effects":')
+    for text in [*map(stored, scenarios()), *random_texts()]:
+        told = journal_of(text, "--effects")
+        expect_same(told, with_effects(journal_of(text), read(text.encode())[0]).decode())
+        count += told.count('"effects":')
     expect(count > 2000, f"{count} effects are few")
 
 
@@ -439,7 +450,7 @@ def visible(journal, name):
 def is_view(_):
     """What a fate tells to be visible is what `view` shows: each value, and of maps and lists those that are there."""
     count = 0
-    for text in [*map(stored, scenarios()), *(random_text(seed).decode() for seed in RANDOM)]:
+    for text in [*map(stored, scenarios()), *random_texts()]:
         views, dumps = ([json.loads(line) for line in by_rules([command], text.encode())[0].decode().split("\n") if line[:1] == "{"]
                         for command in ("view", "run"))
         for view, dump in zip(views, dumps, strict=True):
@@ -546,10 +557,10 @@ def operations(journal):
 
 def is_replayed(_):
     """The scenario of a journal has a journal with the same operations; so it is with identifiers of another engine."""
-    count = 0
-    for text in [*map(stored, scenarios()), *(random_text(seed).decode() for seed in RANDOM)]:
+    count = bound = 0
+    for text in [*map(stored, scenarios()), *random_texts()]:
         journal = journal_of(text)
-        if "op" not in journal:
+        if not operations(journal):
             continue
         replay, why = replayed(Log(journal))
         expect(not why, f"{text}\n{why}")
@@ -557,8 +568,8 @@ def is_replayed(_):
         expect(operations(journal_of(made)) == operations(journal), f"{text}\nbecomes\n{made}")
         foreign = re.sub(r"\b(\d+)@(\w+)", r"the \1. of \2", re.sub(r'"deps":{.*?},', "", journal))
         expect_same(text_of(replayed(Log(foreign))[0])[0], made)
-        count += len(operations(journal))
-    expect(count > 2000, f"{count} operations are few")
+        count, bound = count + len(operations(journal)), bound + bool(replay.bound)
+    expect(count > 2000 and bound > 10, f"{count} operations are few, or {bound} journals with elements that are bound")
 
 
 def is_foreign(_):
