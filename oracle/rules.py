@@ -282,6 +282,18 @@ def element(tree, path, index, depth, trace):
     return key
 
 
+def index_of(tree, path, key):
+    """The index that leads to a key of the list at the path, by the rules above; none where the key isn't counted."""
+    context, _ = below(tree, path, "IDX2", 0, [])
+    index, here = 0, HEAD
+    while here != key:
+        here = context.links.get(here, TAIL)
+        if here is TAIL:
+            raise Stuck(26)
+        index += bool(context.presences.get(here))
+    return index if key == HEAD or context.presences.get(key) else None
+
+
 def names_in(context):
     """The names with a presence set that isn't empty."""
     return tuple(sorted(key[1] for key, found in context.presences.items() if key[0] == 2 and found))

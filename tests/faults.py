@@ -137,7 +137,6 @@ WRITING = [
 ASKING = ("tools/lanes", "tools/tree", "tools/shrink", "tools/debug", "examples/engine/compare")
 HELPED = ("tools/make-completions", "oracle/compare", "oracle/selftest", "oracle/adapter", "kit/check", "kit/differs",
           "kit/make", "kit/table", "./test")
-UNPROVED = "oracle/jsoncrdt: these are the rules in Python"
 # A command rt that tells that it was called, so that nothing here can build.
 NO_RT = "#!/bin/sh\necho rt was called >&2\nexit 1\n"
 

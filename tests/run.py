@@ -27,6 +27,7 @@ from cases import IN_PYTHON, IN_TEST, NotTried, Programs, Wrong, expect, expect_
 from edits import edits
 from faults import faults
 from grammar import EVENTS, RESERVED
+from journals import journals
 from kit import kit
 from lanes import lanes
 from read_back import pictures_read_back
@@ -345,7 +346,8 @@ def main():
         print(f"FAILED test: {programs.lack}\n0 passed, 1 failed")
         return 1
     cases = [*examples(asked.write), *blocks(), *pages(), *tools(asked.write), *pictures_read_back(), *lanes(), *faults(),
-             *scripts(), *edits(), *architecture(), *process(), *arguments(), *editors(), *terminal(), *kit()]
+             *scripts(), *edits(), *architecture(), *process(), *arguments(), *editors(), *terminal(), *kit(),
+             *journals()]
     cases = chosen_of(cases, asked.words)
     if IN_TEST in os.environ:
         streams.stop("a test runs no tests")
