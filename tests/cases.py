@@ -1,10 +1,11 @@
 """What all tests have in common. A case is a name and what is called with the programs; it raises Wrong or NotTried."""
 
 import contextlib
-import glob
 import os
 import subprocess
 import tempfile
+
+from proving import is_built
 
 BUILT = os.path.join("crates", "jc_app", "out", "jc_app")
 IN_PYTHON = os.path.join("oracle", "jsoncrdt")
@@ -18,16 +19,6 @@ class NotTried(Exception):
 
 class Wrong(Exception):
     """A case that failed, and what was told."""
-
-
-def sources():
-    found = glob.glob("crates/*/src/**/*.rt", recursive=True) + ["crates.txt"]
-    return [file for file in found if "_tests/" not in file and "/src/tests" not in file]
-
-
-def is_built():
-    """Whether the built program is there and no source is newer."""
-    return os.access(BUILT, os.X_OK) and all(os.path.getmtime(BUILT) >= os.path.getmtime(f) for f in sources())
 
 
 class Programs:

@@ -48,7 +48,7 @@ def block_case(command):
         if "jsoncrdt threads" in command.text and not programs.is_built:
             raise NotTried("the built program")
         program = programs.of(command.text)
-        text = re.sub(r"(?<!\S)\./jsoncrdt\b", program, command.text)
+        text = re.sub(r"(?<!\S)\./jsoncrdt\b(?! --explain)", program, command.text)
         output = run(text, program, command.input, shell=True).stdout.decode(errors="replace")
         expect(command.is_shown_by(output), f"{command.text}\ntells\n{output}")
 
