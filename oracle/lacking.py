@@ -89,7 +89,8 @@ class Lack:
         path = self.way()[0]
         path = next(path[:end] for end in range(1, len(path) + 1) if lacks(self.replica.tree, path[:end]))
         kind = "list" if self.stuck.key[0] == LIST else "map"
-        text = f"`{self.name}` has no {kind} at the key {self.texts.key(self.stuck.key[1]).decode()}"
+        what = {2: "the key ", 3: "the element "}.get(self.stuck.key[1][0], "")
+        text = f"`{self.name}` has no {kind} at {what}{self.texts.key(self.stuck.key[1]).decode()}"
         found = {i for other in self.network for i, operation in other.queue.items()
                  if i not in self.replica.applied and goes_through(operation, path[:-1], path[-1])}
         return text + (f"; {self.identifiers(found)} makes it there, and isn't applied" if found else "")

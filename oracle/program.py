@@ -20,10 +20,11 @@ from weave import LARGEST_SEED, weave, woven
 VERSION = "jsoncrdt 2.0.0\n"
 USAGE = "usage: oracle/jsoncrdt check|print|run|view|journal|weave|debug FILE    (help says more)"
 HELP = """\
-usage: oracle/jsoncrdt COMMAND FILE      (FILE - is standard input; no arguments are run --trace -)
+usage: oracle/jsoncrdt [--explain] COMMAND FILE   (FILE - is standard input; no arguments are run --trace -)
        oracle/jsoncrdt help | --version
 
-The program by the same rules, written once more in Python. Nothing of it is proved.
+The program by the same rules, written once more in Python. Nothing of it is proved. After --explain, and in a terminal,
+it says besides why a text is refused or an event stuck.
 
   check FILE            is this text a scenario? prints how many replicas, commands and events it has
   print FILE            prints the scenario in its canonical text

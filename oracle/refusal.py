@@ -10,7 +10,7 @@ import difflib
 import re
 import unicodedata
 
-from grammar import END, NAME, NUMBER, NUMBER_RUN, SIGN, STRING, Fault, Reader, token
+from grammar import END, NAME, NAME_RUN, NUMBER, NUMBER_RUN, SIGN, STRING, Fault, Reader, token
 from hints import HINTS
 from sentences import SENTENCES
 from texts import REFUSALS
@@ -21,7 +21,7 @@ KINDS = {NAME: "a name", NUMBER: "a number", STRING: "a string", END: "the end o
          REPLICA: "the name of a replica", VARIABLE: "a variable"}
 UNSEEN = {"\n": "a line break", "\r": "a carriage return", "\t": "a tab", "\ufeff": "a byte order mark"}
 AT_END = "the end of the text"
-LOOKS = re.compile(NUMBER_RUN.pattern + rb'|"[^\n]{0,200}|\\u[0-9A-Fa-f]{0,4}|\\[^\n]?')
+LOOKS = re.compile(NUMBER_RUN.pattern + b"|" + NAME_RUN.pattern + rb'|"[^\n]{0,200}|\\u[0-9A-Fa-f]{0,4}|\\[^\n]?')
 BLANKS = b" \t\r\n"
 MOST_SHOWN, WIDEST, MOST_NAMES = 40, 100, 10
 # The faults for which it matters how the sentence begins.
@@ -150,7 +150,7 @@ def quoted(spelling):
 
 
 def spelling_at(text, offset):
-    """The token at the offset, or as much as looks like one: what is like a number or an escape, a character, a byte."""
+    """The token at the offset, or what looks like one: a number, a name, a string, an escape; or a character, a byte."""
     try:
         return text[offset:token(text, offset)[1]]
     except Fault:

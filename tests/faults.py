@@ -31,6 +31,9 @@ ROWS = [
     ("tools/shrink " + FIRST + " ./no-such-command", 2, "shrink: ./no-such-command: "),
     ("tools/shrink test true", 1, "shrink: refused "),
     ("tools/make-completions now", 2, "make-completions: "),
+    ("tools/prove now", 2, "prove: "),
+    ("oracle/explain view", 2, "explain: view needs one FILE"),
+    ("oracle/explain view no-such-file", 4, "explain: read failed: no-such-file: "),
     ("oracle/compare x", 2, "compare: argument COUNT"),
     ("oracle/compare -1", 2, "compare: argument COUNT"),
     ("oracle/compare 1 x", 2, "compare: argument FIRST"),
@@ -119,7 +122,7 @@ WRITING = [
     ("kit/table", "table: write failed: "),
     ("./test --help", "test: write failed: "),
 ]
-HELPED = ("tools/lanes", "tools/tree", "tools/shrink", "tools/make-completions", "oracle/compare", "oracle/selftest",
+HELPED = ("tools/lanes", "tools/tree", "tools/shrink", "tools/make-completions", "tools/prove", "oracle/compare", "oracle/selftest",
           "oracle/adapter", "kit/check", "kit/differs", "kit/make", "kit/table", "examples/engine/compare", "./test")
 UNPROVED = "oracle/jsoncrdt: these are the rules in Python"
 # A command rt that tells that it was called, so that nothing here can build.

@@ -25,6 +25,8 @@ from cases import IN_PYTHON, IN_TEST, NotTried, Programs, Wrong, expect, expect_
 from faults import faults
 from grammar import EVENTS, RESERVED
 from kit import kit
+from launching import launching
+from messages import messages
 from scripts import scripts
 
 EXPECTED = os.path.join("tests", "expected")
@@ -37,8 +39,8 @@ Runs what needs no proof: blocks of the documents, examples, tools, scripts, the
 Python. It proves nothing; the gate, rt ci, does that. The last line is `N passed, M failed`, and the status is 1 where
 one failed."""
 WORDS = """\
-With words, what has one of them in its name: examples, README, docs, pages, tools, faults, launcher, more-edits, gate,
-process, arguments, editors, kit, oracle, or a part of a file's name or of a command."""
+With words, what has one of them in its name: examples, README, docs, pages, tools, faults, launcher, messages, more-edits,
+gate, process, arguments, editors, kit, oracle, or a part of a file's name or of a command."""
 
 
 def block_case(command):
@@ -291,7 +293,9 @@ def editors():
     yield ends_well(["bash", "-n", "completions/jsoncrdt.bash"])
     yield ends_well(["groff", "-man", "-ww", "-z", "completions/jsoncrdt.1"])
     yield completed_case(["jsoncrdt", "r"], "run")
-    yield completed_case(["jsoncrdt", "-"], "-h --help -V --version")
+    yield completed_case(["jsoncrdt", "-"], "-h --help -V --version --explain --unproved --prove")
+    yield completed_case(["jsoncrdt", "--explain", "r"], "run")
+    yield completed_case(["jsoncrdt", "--unproved", "--explain", "view", "-"], "--at -h --help")
     yield completed_case(["jsoncrdt", "view", "-"], "--at -h --help")
     yield completed_case(["jsoncrdt", "journal", "-"], "--trace -h --help")
     yield completed_case(["jsoncrdt", "run", "examples/tw"], "examples/two-lists.jsoncrdt examples/two-types.jsoncrdt")
@@ -343,7 +347,7 @@ def main():
     parser.add_argument("--write", action="store_true",
                         help="write what the tools print of each example to tests/expected, to be read before it is kept")
     asked, programs = parser.parse_args(), Programs()
-    cases = [*examples(asked.write), *blocks(), *pages(), *tools(asked.write), *faults(), *scripts(), *process(), *arguments(),
+    cases = [*examples(asked.write), *blocks(), *pages(), *tools(asked.write), *faults(), *scripts(), *launching(), *messages(), *process(), *arguments(),
              *editors(), *kit()]
     cases = chosen_of(cases, asked.words)
     if IN_TEST in os.environ:

@@ -208,9 +208,10 @@ def make_room(crate, crates):
 
 def end_all_in(folder):
     """Ends each process that works below the folder: what a command of rt started and left."""
+    there = os.path.join(os.path.realpath(folder), "")
     for number in filter(str.isdigit, os.listdir("/proc")):
         try:
-            if os.readlink(f"/proc/{number}/cwd").startswith(folder + os.sep):
+            if os.path.join(os.readlink(f"/proc/{number}/cwd"), "").startswith(there):
                 os.kill(int(number), signal.SIGKILL)
         except OSError:
             pass  # it has ended, or is another's
@@ -281,7 +282,8 @@ class Screen:
     def show(self, line):
         """Shows how far it is: on a terminal at once, else where nothing was said for a minute."""
         if self.is_terminal:
-            sys.stderr.write("\r\x1b[K" + line[:os.get_terminal_size(2).columns - 1])
+            wide = os.get_terminal_size(2).columns or 80
+            sys.stderr.write("\r\x1b[K" + line[:wide - 1])
         elif time.monotonic() - self.last >= QUIET:
             self.say(line)
 
