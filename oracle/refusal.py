@@ -77,7 +77,7 @@ class Asking(Reader):
         return super().named()
 
     def expression(self, in_command):
-        self.want(b"doc", VARIABLE)
+        self.want(VARIABLE)
         return super().expression(in_command)
 
     def command(self):

@@ -411,6 +411,7 @@ def prove():
     run = Run(crates)
     for number in SIGNALS:
         signal.signal(number, lambda number, _: setattr(run, "signal", number))
+    run.screen.say(f"proving {len(crates)} crates by {run.processors} processors; Ctrl-C ends it, and the next run goes on from there")
     try:
         copy_sources(crates)
         run.libraries()
