@@ -24,7 +24,7 @@ from layout import laid_out, read_json, runs_of
 from positions import InPython, Positions
 from predicates import KINDS, predicate_of
 from program import command_line
-from sentences import sentence_of
+from sentences import SENTENCES
 from texts import REFUSALS
 
 TO_DO, FIRST = "examples/to-do.jsoncrdt", "examples/first.jsoncrdt"
@@ -463,9 +463,9 @@ def piped_case(file, lines, wanted):
 def sentences_are_there(_):
     """Each refusal that a session or an event has, has its sentence."""
     numbers = [number for number in REFUSALS if number not in (37, 39)]
-    lacking = [number for number in numbers if not re.fullmatch(r".{10,}\.", sentence_of(number))]
+    lacking = [number for number in numbers if not re.fullmatch(r".{10,}\.", SENTENCES.get(number, ""))]
     expect(not lacking, f"no sentence for {lacking}")
-    expect_same(sentence_of(50), "There are fewer events to take back.")
+    expect_same(SENTENCES[50], "There are fewer events to take back: `where` shows the position, and `goto 0` goes to the start.")
 
 
 def page_has_commands(_):
