@@ -137,7 +137,8 @@ WRITING = [
     ("./test --help", "test: write failed: "),
 ]
 # Those that ask the program which the variable JSONCRDT names, and the others.
-ASKING = ("tools/lanes", "tools/tree", "tools/shrink", "tools/debug", "examples/engine/compare")
+ASKING = ("tools/lanes", "tools/tree", "tools/shrink", "tools/debug", "tools/why", "tools/fate", "tools/replay",
+          "examples/engine/compare")
 HELPED = ("tools/make-completions", "tools/prove", "oracle/compare", "oracle/selftest", "oracle/adapter", "kit/check",
           "kit/differs", "kit/make", "kit/table", "./test")
 # A command rt that tells that it was called, so that nothing here can build.
