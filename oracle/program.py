@@ -196,7 +196,7 @@ def answer(session, line):
 
 
 def debug(session, lines, out, err, told=None):
-    """Answers the lines, each with what `told` says besides of it, its number and its answer, where there is such a call."""
+    """Answers the lines; `told`, where it is there, says more of a line by its number, itself and its answer."""
     for number, line in enumerate(lines_of(lines), 1):
         if line is None:
             err.write("too many lines\n")
@@ -265,8 +265,8 @@ def reason(order, text):
 def command_line(words, source, out, err, by_hand=None, explains=False):
     """Does what the words ask for, and gives the status. Source and out are files of bytes, err is one of text.
 
-    A session is given to by_hand, where that is there, instead of having its lines from the source. Where it explains, it
-    says on err why something is refused.
+    A session is given to by_hand, where that is there, instead of having its lines from the source. Where it explains,
+    it says on err why something is refused.
     """
     try:
         order = order_of(words)

@@ -39,8 +39,8 @@ Runs what needs no proof: blocks of the documents, examples, tools, scripts, the
 Python. It proves nothing; the gate, rt ci, does that. The last line is `N passed, M failed`, and the status is 1 where
 one failed."""
 WORDS = """\
-With words, what has one of them in its name: examples, README, docs, pages, tools, faults, launcher, messages, more-edits,
-gate, process, arguments, editors, kit, oracle, or a part of a file's name or of a command."""
+With words, what has one of them in its name: examples, README, docs, pages, tools, faults, launcher, messages,
+more-edits, gate, process, arguments, editors, kit, oracle, or a part of a file's name or of a command."""
 
 
 def block_case(command):
@@ -347,8 +347,8 @@ def main():
     parser.add_argument("--write", action="store_true",
                         help="write what the tools print of each example to tests/expected, to be read before it is kept")
     asked, programs = parser.parse_args(), Programs()
-    cases = [*examples(asked.write), *blocks(), *pages(), *tools(asked.write), *faults(), *scripts(), *launching(), *messages(), *process(), *arguments(),
-             *editors(), *kit()]
+    cases = [*examples(asked.write), *blocks(), *pages(), *tools(asked.write), *faults(), *scripts(), *launching(),
+             *messages(), *process(), *arguments(), *editors(), *kit()]
     cases = chosen_of(cases, asked.words)
     if IN_TEST in os.environ:
         streams.stop("a test runs no tests")
