@@ -3,7 +3,9 @@
 _jsoncrdt() {
     local word=${COMP_WORDS[COMP_CWORD]} before=${COMP_WORDS[COMP_CWORD - 1]} options= at=1
     COMPREPLY=()
-    while [[ $at -lt $COMP_CWORD && ${COMP_WORDS[at]} == @(--explain|--unproved) ]]; do at=$((at + 1)); done
+    while [[ $at -lt $COMP_CWORD && ${COMP_WORDS[at]} == @(--explain|--unproved) ]]; do
+        at=$((at + 1))
+    done
     if [ "$COMP_CWORD" -eq "$at" ]; then
         COMPREPLY=($(compgen -W 'check print run view journal debug threads weave help -h --help -V --version --explain --unproved --prove' -- "$word"))
         return

@@ -1,5 +1,5 @@
-"""What a reader is told besides of a refusal, on standard error: FILE:LINE:COLUMN, what is there, the line with a caret,
-the sentence of docs/ERRORS.md, and what is missing. It is said where --explain asks for it, or to a terminal."""
+"""What a reader is told besides of a refusal, on standard error: FILE:LINE:COLUMN, what is there, the line with a
+caret, the sentence of docs/ERRORS.md, and what is missing. It is said where --explain asks for it, or to a terminal."""
 
 import re
 from functools import partial
@@ -61,8 +61,9 @@ class Places:
     def of_stuck(self, lack, lines):
         """Why an event is stuck; `lines` gives the lines of where it is, for a message and notes."""
         told = lines(*told_of(lack))
-        executes = lack.event[0] == "exec" and lack.replica.left
-        return told + self.next_command(lack.replica, f"this is the next command of `{lack.name}`") if executes else told
+        if lack.event[0] == "exec" and lack.replica.left:
+            told += self.next_command(lack.replica, f"this is the next command of `{lack.name}`")
+        return told
 
     def of_given(self, given):
         before = start(self.scenario._replace(given=self.scenario.given[:given.number - 1]))

@@ -11,6 +11,9 @@ NO_PARTS = "a value has no parts: "
 IN_MAP = NO_PARTS + "assign `{}`, and its entries afterwards"
 IN_LIST = NO_PARTS + "assign `[]`, and insert its elements afterwards"
 NAMES = "a name has letters, digits and `_`, and doesn't begin with a digit"
+ALONE = "an expression alone is no command: `:=`, `.insertAfter(..)` or `.delete` is missing"
+COMMAND = "a command is an assignment by `:=`, an `.insertAfter(..)`, a `.delete`, a `let` or a `yield`"
+COLON = "an assignment is `:=`; a value has no parts, so a map is assigned as `{}` and its entries afterwards"
 NO_COMMENTS = "there are no comments: leave it out"
 FORMS = {"recv": "`p.recv(q)`, from the replica `q`", "apply": "`p.apply(2, q)`, of `2@q`",
          "take": "`p.take(q, 2, r)`, from `q`, of `2@r`"}
@@ -31,8 +34,8 @@ HINTS = (
     ((7,), ANY, r"\[$", (b"]",), IN_LIST),
     ((7,), r"None|nil|undefined|NULL", r"", (b"null",), "nothing is `null`"),
     ((7,), NAME, r"", (b"null",), 'a string is between `"`: `"FOUND"`'),
-    ((7,), r"[;}]", r"", (b":=",), "an expression alone is no command: `:=`, `.insertAfter(..)` or `.delete` is missing"),
-    ((7,), ANY, r"", (b":=",), "a command is an assignment by `:=`, an `.insertAfter(..)`, a `.delete`, a `let` or a `yield`"),
+    ((7,), r"[;}]", r"", (b":=",), ALONE),
+    ((7,), ANY, r"", (b":=",), COMMAND),
     # Events.
     ((7,), ANY, r"\brecv\s*\([^)]*$", (), "an event is as " + FORMS["recv"]),
     ((7,), ANY, r"\bapply\s*\([^)]*$", (), "an event is as " + FORMS["apply"]),
@@ -54,8 +57,7 @@ HINTS = (
     ((14,), r"replica", r"^$", (), "the first line, `jsoncrdt 1`, is missing"),
     ((16,), r"given|schedule", r"", (), "a replica with a script comes before it: `replica p { yield }`"),
     # Tokens.
-    ((1,), r":", r"[\"}\]\w)]$", (), "an assignment is `:=`; a value has no parts, so a map is assigned as `{}` and its entries "
-     "afterwards"),
+    ((1,), r":", r"[\"}\]\w)]$", (), COLON),
     ((1,), r"['\u2018\u2019\u201c\u201d`]", r"", (), 'a string is between `"`'),
     ((1,), r"[#/*-]", r"", (), NO_COMMENTS),
     ((1,), r"@", r"\d$", (), "an operation `2@q` is written `2, q`"),

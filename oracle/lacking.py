@@ -1,5 +1,5 @@
-"""What an event that is stuck lacks, as far as the state in which it was tried shows it: which variable, which operations,
-what is at the place. A text for a reader; nothing else rests on it."""
+"""What an event that is stuck lacks, as far as the state in which it was tried shows it: which variable, which
+operations, what is at the place. A text for a reader; nothing else rests on it."""
 
 from refusal import close_to
 from rules import LIST, MAP, REGISTER, Stuck, below, cursor_of, evaluate
@@ -74,8 +74,8 @@ class Lack:
     def of_22(self):
         variable, bound = [*parts_of(self.broken())][-1][1].decode(), sorted(self.replica.variables)
         near = close_to(variable, [*bound, b"doc"])
-        others = ", ".join(f"`{name.decode()}`" for name in bound)
-        return f"`{self.name}` has no variable `{variable}`; " + (f"is it `{near}`?" if near else f"bound: {others or 'none'}")
+        others = f"bound: {', '.join(f'`{name.decode()}`' for name in bound) or 'none'}"
+        return f"`{self.name}` has no variable `{variable}`; " + (f"is it `{near}`?" if near else others)
 
     def of_23(self):
         return f"{self.shown(self.broken()[1])} is the head of a list"
@@ -135,8 +135,8 @@ class Lack:
 
     def of_36(self):
         identifier = self.event[-1]
-        missing = self.replica.received[identifier].deps - self.replica.applied
-        return f"`{self.name}` hasn't applied {self.identifiers(missing)}, on which {self.identifiers([identifier])} depends"
+        missing = self.identifiers(self.replica.received[identifier].deps - self.replica.applied)
+        return f"`{self.name}` hasn't applied {missing}, on which {self.identifiers([identifier])} depends"
 
     def text(self):
         """What is missing, or an empty text where the sentence of the refusal says it all."""

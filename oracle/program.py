@@ -202,7 +202,7 @@ def answer(session, line):
 
 
 def debug(session, lines, out, err, told=None):
-    """Answers the lines, each with what `told` says besides of it, its number and its answer, where there is such a call."""
+    """Answers the lines; `told`, where it is there, says more of a line by its number, itself and its answer."""
     for number, line in enumerate(lines_of(lines), 1):
         if line is None:
             err.write("too many lines\n")
@@ -272,8 +272,8 @@ def reason(order, text):
 def command_line(words, source, out, err, explains=False, explains_lines=False):
     """Does what the words ask for, and gives the status. Source and out are files of bytes, err is one of text.
 
-    Where it explains, it says on err why a text is refused or an event stuck, and also, where that is asked for, why a line
-    of a session is.
+    Where it explains, it says on err why a text is refused or an event stuck, and also, where that is asked for, why a
+    line of a session is.
     """
     try:
         order = order_of(words)

@@ -1,5 +1,5 @@
-"""The launcher on trees of its own: without the built program, with one, with one that is too old; and tools/prove with a
-command rt that is none."""
+"""The launcher on trees of its own: without the built program, with one, with one that is too old; and tools/prove with
+a command rt that is none."""
 
 import contextlib
 import fcntl
@@ -13,19 +13,20 @@ import tempfile
 import time
 
 from blocks import commands_of
-from cases import UNPROVED, expect, expect_same, place, told_errors
+from cases import UNPROVED, expect, expect_same, place, stored, told_errors
+from proving import OLDEST_KIT
 
 FIRST, STUCK = os.path.abspath("examples/first.jsoncrdt"), os.path.abspath("examples/stuck.jsoncrdt")
 README = "README.md"
-# How long an answer may take, and how long what is waited for; on a busy machine, how many times what it takes to do nothing.
+# How long an answer may take, and what is waited for; on a busy machine, how many times what it takes to do nothing.
 MOST_SECONDS, PATIENCE, BUSY = 10, 120, 20
 NOT_BUILT, STALE = "the program isn't built", "sources are newer than the built program"
 CRATES = "jc_io:\njc_rules: jc_io  # two\njc_app: jc_io jc_rules\n"
 # A program that does as the rules in Python do, and one that tells its own process.
 BY_RULES = '#!/bin/sh\nJSONCRDT_SAYS=program exec "$(dirname "$0")/../../../oracle/jsoncrdt" "$@"\n'
 TELLING = "#!/bin/sh\necho $$\n"
-# A command rt, told by variables: its kit, and a crate of which the check hangs, fails, or is killed once. It notes which
-# crates it checked, and fails where a library below isn't there.
+# A command rt, told by variables: its kit, and a crate of which the check hangs, fails, or is killed once. It notes
+# which crates it checked, and fails where a library below isn't there.
 RT = r"""#!/bin/sh
 name=$(basename "$PWD")
 case $1 in
@@ -58,13 +59,13 @@ esac
 
 @contextlib.contextmanager
 def tree(program=None, files=(), age=0):
-    """A copy of the repository as far as the launcher uses it, with crates of its own, this text as the built program, and
-    files besides; the program is so many seconds older than they are."""
+    """A copy of the repository as far as the launcher uses it, with crates of its own, this text as the built program,
+    and files besides; the program is so many seconds older than they are."""
+    sources = {f"crates/{name}/src/lib.rt": "" for name in ("jc_io", "jc_rules", "jc_app")}
+    built = {"crates/jc_app/out/jc_app": program} if program else {}
     with tempfile.TemporaryDirectory() as folder:
         subprocess.run(["cp", "-r", "jsoncrdt", "oracle", "tools", "examples", folder], check=True)
-        texts = {"crates.txt": CRATES, "rt": RT, **{f"crates/{name}/src/lib.rt": "" for name in ("jc_io", "jc_rules", "jc_app")}}
-        texts |= {"crates/jc_app/out/jc_app": program} if program else {}
-        for name, text in {**texts, **dict(files)}.items():
+        for name, text in {"crates.txt": CRATES, "rt": RT, **sources, **built, **dict(files)}.items():
             os.makedirs(os.path.dirname(os.path.join(folder, name)), exist_ok=True)
             place(os.path.join(folder, name), text)
         if program:
@@ -73,16 +74,20 @@ def tree(program=None, files=(), age=0):
         yield folder
 
 
-def called(folder, *words, text="", path=None, **variables):
+def environment_of(folder, variables):
+    return {**os.environ, "PATH": f"{folder}:{os.environ['PATH']}", "NOTES": f"{folder}/notes", **variables}
+
+
+def called(folder, *words, text="", **variables):
     """How the launcher ends there."""
-    environment = {**os.environ, "PATH": path or f"{folder}:{os.environ['PATH']}", "NOTES": f"{folder}/notes", **variables}
-    return subprocess.run(["/bin/sh", f"{folder}/jsoncrdt", *words], input=text.encode(), capture_output=True, check=False,
-                          env=environment)
+    return subprocess.run(["/bin/sh", f"{folder}/jsoncrdt", *words], input=text.encode(), capture_output=True,
+                          check=False, env=environment_of(folder, variables))
 
 
 def has(told, status, output=None, *said):
-    lacking = [part for part in said if part not in told.stderr.decode()]
-    expect(told.returncode == status and not lacking, f"status {told.returncode}, without {lacking}:\n{told.stderr.decode()}")
+    got, shown = told.returncode, told.stderr.decode()
+    lacking = [part for part in said if part not in shown]
+    expect(got == status and not lacking, f"status {got}, without {lacking}:\n{shown}")
     if output is not None:
         expect_same(told.stdout.decode(), output)
 
@@ -99,7 +104,7 @@ def answers_by_rules(_):
             expect(told.stderr.count(b"\n") == 1, f"{told}")
             has(called(folder, "run", "no-such-file"), 4, "", "read failed: no-such-file: No such file")
             has(called(folder, "check", "-", text="x"), 1, "refused 14 NoHeader at 0\n")
-            has(called(folder, "--explain", "check", "-", text="x"), 1, "refused 14 NoHeader at 0\n", "input:1:1: found `x`")
+            has(called(folder, "--explain", "check", "-", text="x"), 1, "refused 14 NoHeader at 0\n", "1:1: found `x`")
             has(called(folder, "threads", FIRST), 127, "", "threads needs the proved program", "--prove", "weave")
             has(called(folder, "threads", "--help"), 0)
             expect(not os.path.exists(f"{folder}/notes"), "rt was called")
@@ -108,13 +113,14 @@ def answers_by_rules(_):
 def needs_python(_):
     with tree() as folder, tempfile.TemporaryDirectory() as nothing:
         for words in (["view", FIRST], ["--prove"]):
-            has(called(folder, *words, path=nothing), 127, "", "python3, which isn't on the path")
+            has(called(folder, *words, PATH=nothing), 127, "", "python3, which isn't on the path")
 
 
 def becomes_program(_):
     """The launcher becomes the built program: no process stands between."""
-    with tree(TELLING) as folder, subprocess.Popen([f"{folder}/jsoncrdt", "run", FIRST], stdout=subprocess.PIPE) as process:
-        expect_same(process.stdout.read().decode(), f"{process.pid}\n")
+    with tree(TELLING) as folder:
+        with subprocess.Popen([f"{folder}/jsoncrdt", "run", FIRST], stdout=subprocess.PIPE) as process:
+            expect_same(process.stdout.read().decode(), f"{process.pid}\n")
 
 
 def explains_program(_):
@@ -139,8 +145,8 @@ def explains_program(_):
 def in_terminal(words, folder, **variables):
     """A command of which both outputs are a terminal, and what reads what it shows, up to a text or to its end."""
     ours, theirs = pty.openpty()
-    environment = {**os.environ, "PATH": f"{folder}:{os.environ['PATH']}", "NOTES": f"{folder}/notes", **variables}
-    with subprocess.Popen(words, stdin=subprocess.DEVNULL, stdout=theirs, stderr=theirs, env=environment) as process:
+    with subprocess.Popen(words, stdin=subprocess.DEVNULL, stdout=theirs, stderr=theirs,
+                          env=environment_of(folder, variables)) as process:
         os.close(theirs)
         shown, deadline = b"", time.monotonic() + PATIENCE
 
@@ -165,7 +171,8 @@ def explains_in_terminal(_):
     for program in (None, BY_RULES):
         with tree(program) as folder, in_terminal([f"{folder}/jsoncrdt", "view", STUCK], folder) as (process, up_to):
             shown = up_to()
-            expect(process.wait(PATIENCE) == 3 and "stuck 26 PastEnd q.exec\n" + f"{STUCK}:26:3: `q.exec` is stuck\n" in shown, shown)
+            is_told = f"stuck 26 PastEnd q.exec\n{STUCK}:26:3: `q.exec` is stuck\n" in shown
+            expect(process.wait(PATIENCE) == 3 and is_told, shown)
 
 
 def unproved_explains(_):
@@ -175,7 +182,8 @@ def unproved_explains(_):
             told = called(folder, *words, "check", "-", text="x")
             has(told, 1, "", "three limits:\njsoncrdt: - the program is built", "\njsoncrdt: - it runs a minute",
                 "\njsoncrdt: - it reads no terminal\n", "standard input:1:1: found `x`")
-        expect("found" not in called(folder, "--unproved", "check", "-", text="x").stderr.decode(), "it was explained unasked")
+        plain = called(folder, "--unproved", "check", "-", text="x")
+        expect("found" not in plain.stderr.decode(), "it was explained unasked")
 
 
 def unproved_ends(_):
@@ -215,7 +223,7 @@ def proves(_):
         has(told, 0, program + "\n", "jc_io: 3 functions proved in", "jc_rules: 3 functions proved in",
             "jc_io: rt: another copy of the repository is building this library; waiting for it",
             "proved and built: 3 crates, 8 functions, in ")
-        expect_same(open(f"{folder}/notes", encoding="utf-8").read(), "jc_io\njc_rules\n")
+        expect_same(stored(f"{folder}/notes"), "jc_io\njc_rules\n")
         expect(os.listdir(f"{folder}/crates/jc_app/out") == ["jc_app"], "rooms are left")
         has(called(folder, "run", FIRST), 0, "proved\n")
         has(called(folder, "--prove"), 0, program + "\n", "the program is built, and nothing that it is made of is newer")
@@ -230,7 +238,7 @@ def shows_what_failed(_):
         has(told, 127, "", "fn jc_rules::g: not proved", "the program wasn't built: jc_rules isn't proved")
         expect("jc_rules::f" not in told.stderr.decode(), f"{told}")
         has(called(folder, "--prove"), 0, None, "jc_io: proved before", "jc_rules: 3 functions proved")
-        expect_same(open(f"{folder}/notes", encoding="utf-8").read(), "jc_io\njc_rules\njc_rules\n")
+        expect_same(stored(f"{folder}/notes"), "jc_io\njc_rules\njc_rules\n")
 
 
 def tries_again(_):
@@ -252,8 +260,8 @@ def is_held(folder):
 
 
 def interrupted(number):
-    """A signal ends all that --prove began, and leaves what was proved and nothing else. Up to there others are kept out,
-    and a line of the terminal says how far it is."""
+    """A signal ends all that --prove began, and leaves what was proved and nothing else. Up to there others are kept
+    out, and a line of the terminal says how far it is."""
 
     def tried(_):
         with tree() as folder:
@@ -265,8 +273,9 @@ def interrupted(number):
                 shown = up_to()
                 expect(process.wait(PATIENCE) == 128 + number and "the next run goes on from there" in shown, shown)
             expect(not working_in(folder), f"{working_in(folder)} go on")
-            kept = [os.path.exists(f"{folder}/crates/{name}") for name in ("jc_io/out/rlib/stamp", "jc_rules/out/incremental")]
-            expect(all(kept) and not os.listdir(f"{folder}/crates/jc_app/out"), f"{kept}")
+            names = ("jc_io/out/rlib/stamp", "jc_rules/out/incremental")
+            lost = [name for name in names if not os.path.exists(f"{folder}/crates/{name}")]
+            expect(not lost and not os.listdir(f"{folder}/crates/jc_app/out"), f"{lost}")
             has(called(folder, "--prove"), 0, None, "jc_io: proved before")
 
     return f"launcher: --prove and {signal.Signals(number).name}", tried
@@ -277,7 +286,7 @@ def is_locked(_):
     with tree() as folder:
         held = os.open(f"{folder}/crates/jc_rules", os.O_RDONLY)
         fcntl.flock(held, fcntl.LOCK_EX)
-        has(called(folder, "--prove"), 127, "", "another build works in this copy of the repository (crates/jc_rules is locked)")
+        has(called(folder, "--prove"), 127, "", "another build works in this copy", "(crates/jc_rules is locked)")
         os.close(held)
 
 
@@ -295,9 +304,8 @@ def lack_case(change, variables, said):
     def tried(_):
         with tree() as folder:
             if change:
-                with open(f"{folder}/tools/prove", encoding="utf-8") as file:
-                    text = file.read().replace("from proving import", f"import proving\n{change}\nfrom proving import")
-                place(f"{folder}/tools/prove", text)
+                text = stored(f"{folder}/tools/prove")
+                place(f"{folder}/tools/prove", text.replace("from proving", f"import proving\n{change}\nfrom proving"))
             has(called(folder, "--prove", **variables), 127, "", said)
             expect(not os.path.exists(f"{folder}/notes"), "a crate was checked")
 
@@ -308,14 +316,13 @@ def needs_rt(_):
     with tree() as folder:
         os.remove(f"{folder}/rt")
         path = ":".join(part for part in os.environ["PATH"].split(":") if not os.access(f"{part}/rt", os.X_OK))
-        has(called(folder, "--prove", path=path), 127, "", "the Rattle kit, whose command rt isn't on the path")
+        has(called(folder, "--prove", PATH=path), 127, "", "the Rattle kit, whose command rt isn't on the path")
 
 
 def readme_names_kit(_):
     """README.md names the kit that tools/proving.py asks for."""
-    from proving import OLDEST_KIT
-    with open(README, encoding="utf-8") as file:
-        expect("".join(map(str, OLDEST_KIT)) in file.read(), f"{README} doesn't name the kit {OLDEST_KIT}")
+    kit = "".join(map(str, OLDEST_KIT))
+    expect(f"{kit} or later" in stored(README), f"{README} doesn't say {kit} or later")
 
 
 # ---- the first minute
@@ -329,8 +336,8 @@ def seconds_of(line, folder, text=""):
 
 
 def quick_case(command):
-    """Without the built program a command of README.md answers within ten seconds, or, on a busy machine, within twenty times
-    what an empty Python takes."""
+    """Without the built program a command of README.md answers within ten seconds, or, on a busy machine, within twenty
+    times what an empty Python takes."""
 
     def tried(_):
         with tree() as folder:

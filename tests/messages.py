@@ -1,4 +1,4 @@
-"""What is said of a refusal, on standard error: fifty usual mistakes in texts, schedules, sessions and command lines, each
+"""What is said of a refusal, on standard error: usual mistakes in texts, schedules, sessions and command lines, each
 with words that name its place and its cure. What could be there is compared with the grammar, by trying it."""
 
 import io
@@ -39,19 +39,21 @@ TEXTS = [
     ("jsoncrdt 1 replica a { doc.delete() }", ["1:34: found `(`, expected `;` or `}`", "no brackets behind it"]),
     ("jsoncrdt 1 replica a { # note\n }", ["1:24: found `#`", "there are no comments: leave it out"]),
     # What is left out or misspelt.
-    ("jsoncrdt 1 replica a {\n  doc := 1\n  doc := 2\n}", ["3:3: found `doc`, expected `;` or `}`", "a `;` is missing before it"]),
+    ("jsoncrdt 1 replica a {\n  doc := 1\n  doc := 2\n}",
+     ["3:3: found `doc`, expected `;` or `}`", "a `;` is missing before it"]),
     ("jsoncrdt 1 replica a {\n  yield\n", ["2:8: found the end of the text, expected `;` or `}`",
                                              "the `{` of line 1, column 22 isn't closed"]),
     ("jsoncrdt 1 replica a { yield } }", ["1:32: found `}`", "a `}` too many"]),
     ("jsoncrdt 1 replica a { yeild; }", ["1:29: found `;`, expected `.` or `:=`", "is it `yield`?"]),
     ("jsoncrdt 1 replica a { doc }", ["1:28: found `}`", "an expression alone is no command"]),
     ('jsoncrdt 1 replica a { doc.insert("x") }', ["1:28: found `insert`", "is it `insertAfter`?"]),
-    ("jsoncrdt 1 replica a {} shedule {}", ["1:25: found `shedule`, expected `replica`, `schedule` or the end of the text",
-                                            "is it `schedule`?"]),
+    ("jsoncrdt 1 replica a {} shedule {}",
+     ["1:25: found `shedule`, expected `replica`, `schedule` or the end of the text", "is it `schedule`?"]),
     ("jsoncrdt 1 replica a { yield } schedule { a.exe }",
      ["1:45: found `exe`, expected `exec`, `send`, `done`, `recv` or `apply`", "is it `exec`?"]),
     ("jsoncrdt 1 replica a { yield } schedule a.send", ["1:41: found `a`, expected `{`", "between `{` and `}`"]),
-    ("jsoncrdt 1 replica alice {} schedule { alic.exec }", ["1:40: found `alic`", "18 UnknownReplica", "is it `alice`?"]),
+    ("jsoncrdt 1 replica alice {} schedule { alic.exec }",
+     ["1:40: found `alic`", "18 UnknownReplica", "is it `alice`?"]),
     ('jsoncrdt 1 replica a { doc := "x }', ['1:31: found `"x }`', 'put the closing `"`']),
     # Numbers and names.
     ("jsoncrdt 1 replica a { doc.idx(-1).delete }", ["1:32: found `-1`, expected digits", "elements count from 1"]),
@@ -67,10 +69,12 @@ TEXTS = [
     (f"jsoncrdt 1 replica a {{{'yield;' * 65_537}}}", ["1:393239: found `yield`", "part it between replicas"]),
     (f"jsoncrdt 1 replica a {{ doc{'.keys' * 257} }}", ["1:1307: found `.`", "bind a prefix of it by `let`"]),
     (f"jsoncrdt 1 {' '.join(f'replica r{n} {{}}' for n in range(65))}", ["found `r64`", "leave this one out"]),
-    (f"jsoncrdt 1 replica a {{}} schedule {{{'a.send;' * 100_001}}}", ["1:700035: found `a`", "part them into scenarios"]),
+    (f"jsoncrdt 1 replica a {{}} schedule {{{'a.send;' * 100_001}}}",
+     ["1:700035: found `a`", "part them into scenarios"]),
     # Events.
     ("jsoncrdt 1 replica a { a.exec }", ["1:26: found `exec`", "events are in the schedule"]),
-    ("jsoncrdt 1 replica a { yield } schedule { a.apply(a, 1) }", ["1:51: found `a`, expected digits", "`p.apply(2, q)`"]),
+    ("jsoncrdt 1 replica a { yield } schedule { a.apply(a, 1) }",
+     ["1:51: found `a`, expected digits", "`p.apply(2, q)`"]),
     ("jsoncrdt 1 replica a { yield } schedule { a.apply(1@a) }", ["1:52: found `@`", "`2@q` is written `2, q`"]),
     ("jsoncrdt 1 replica a { yield } schedule { a.take(a, 1, a) }", ["1:45: found `take`", "begin with `jsoncrdt 2`"]),
     ("jsoncrdt 1 replica a { yield } given { a.send }", ["1:32: found `given`", "begin with `jsoncrdt 2`"]),
@@ -107,8 +111,8 @@ EVENTS = [
      ['`a` has plain values at `doc.get("a")`', "27 NoMap"]),
     ('jsoncrdt 1 replica a { doc.get("m") := {}; let v = doc.get("m").values } schedule { a.exec; a.exec }',
      ['`a` has a map at `doc.get("m")`', "28 NoRegister"]),
-    (f"jsoncrdt 1 replica a {{ let x = doc{DEEP}; let y = x{DEEP}; y.idx(0) := 1 }} schedule {{ a.exec; a.exec; a.exec }}",
-     ["29 TooDeep", "more than 512 maps and lists deep"]),
+    (f"jsoncrdt 1 replica a {{ let x = doc{DEEP}; let y = x{DEEP}; y.idx(0) := 1 }} "
+     "schedule { a.exec; a.exec; a.exec }", ["29 TooDeep", "more than 512 maps and lists deep"]),
     ("jsoncrdt 1 replica a { yield } schedule { a.exec }",
      ["1:43: `a.exec` is stuck", "31 AtYield", "1:24: this is the next command of `a`", "`done` ends it"]),
     ("jsoncrdt 1 replica a { yield } schedule { a.done }", ["33 NotActed", "put one before `done`"]),
@@ -146,7 +150,7 @@ LINES = [
     (["act p.exe"], ["standard input:1:7: found `exe`, expected `exec`,", "is it `exec`?"]),
     (["act r.exec"], ["standard input:1:5: found `r`", "the replicas are `p`, `q`"]),
     (["act p.send"], ["standard input:1:5: `p.send` is stuck", "the next command of `p` is `doc.get(\"l\") := []`"]),
-    (["goto 13"], [f"{STUCK}:26:3: `q.exec` is stuck", "has 1 element at `q`", f"{STUCK}:11:3: this is the next command"]),
+    (["goto 13"], [f"{STUCK}:26:3: `q.exec` is stuck", "has 1 element at `q`", f"{STUCK}:11:3: this is the next"]),
 ]
 
 # Words of a command line, the status, and what is said.
@@ -171,8 +175,9 @@ def told_case(name, words, text, status, wanted):
     def tried(_):
         given = text if isinstance(text, bytes) else text.encode()
         told = subprocess.run([IN_PYTHON, *words], input=given, capture_output=True, check=False)
-        lacking = [part for part in wanted if part not in told.stderr.decode()]
-        expect(told.returncode == status and not lacking, f"status {told.returncode}, without {lacking}:\n{told.stderr.decode()}")
+        said, got = told.stderr.decode(), told.returncode
+        lacking = [part for part in wanted if part not in said]
+        expect(got == status and not lacking, f"status {got}, without {lacking}:\n{said}")
 
     return name, tried
 
@@ -190,7 +195,7 @@ def mistakes():
 
 
 def each_number(_):
-    """The rows above meet each refusal that there is a sentence for, but for too many lines, which has a line of its own."""
+    """The rows meet each refusal that there is a sentence for, but for too many lines, which has a line of its own."""
     rows = [(["check", "-"], text) for text, _ in TEXTS] + [(["run", "-"], text) for text, _ in EVENTS]
     rows += [(["debug", STUCK], "".join(line + "\n" for line in lines)) for lines, _ in LINES]
     told = io.StringIO()
@@ -210,21 +215,22 @@ def is_quiet(_):
 
 def same_output(_):
     """--explain changes nothing of standard output."""
-    for words, typed in ((["run", STUCK], b""), (["journal", STUCK], b""), (["weave", STUCK], b""), (["check", "-"], b"x"),
-                         (["debug", STUCK], b"next\nstep\n")):
-        plain, explained_too = (subprocess.run([IN_PYTHON, *option, *words], input=typed, capture_output=True, check=False)
-                                for option in ([], ["--explain"]))
-        expect(plain.stdout == explained_too.stdout and plain.returncode == explained_too.returncode, f"{explained_too}")
-        expect(len(explained_too.stderr) > len(plain.stderr), f"{explained_too}")
+    for words, typed in ((["run", STUCK], b""), (["journal", STUCK], b""), (["weave", STUCK], b""),
+                         (["check", "-"], b"x"), (["debug", STUCK], b"next\nstep\n")):
+        plain, more = (subprocess.run([IN_PYTHON, *option, *words], input=typed, capture_output=True, check=False)
+                       for option in ([], ["--explain"]))
+        expect(plain.stdout == more.stdout and plain.returncode == more.returncode, f"{more}")
+        expect(len(more.stderr) > len(plain.stderr), f"{more}")
 
 
 # ---- what could be there
 
-LANGUAGE = b"""let doc yield get idx keys values insertAfter delete true false null replica given schedule exec send done
-    recv apply take . ( ) { } [ ] , ; := =""".split()
+LANGUAGE = b"""let doc yield get idx keys values insertAfter delete true false null replica given schedule exec send
+    done recv apply take . ( ) { } [ ] , ; := =""".split()
 # Tokens of each kind, and the kinds of which one has to be asked for where it fits.
 SPELT = {b"zz": {NAME, REPLICA, VARIABLE}, b"1.5": {NUMBER}, b"7": {NUMBER, DIGITS}, b'"s"': {STRING}, b"": {END}}
-ALL_FORMS = b"""jsoncrdt 2 replica p { let x = doc.get("a").idx(1); x := {}; doc.keys.values.insertAfter([]); x.delete; yield }
+ALL_FORMS = b"""jsoncrdt 2
+replica p { let x = doc.get("a").idx(1); x := {}; doc.keys.values.insertAfter([]); x.delete; yield }
 given { p.exec } schedule { p.recv(p); p.take(p, 1, p); p.apply(1, p); p.done }"""
 
 

@@ -15,8 +15,8 @@ HELP = Option("--help", "-h", about="Print help")
 VERSION = Option("--version", "-V", about="Print version")
 HELP_COMMAND = "help", "Print the help of the program, or of a command"
 # Words of the launcher, before a command; --prove is alone.
-EXPLAIN = Option("--explain", about="Tell besides, on standard error, why a text is refused or an event stuck, as is told in "
-                 "a terminal")
+EXPLAIN = Option("--explain", about="Tell besides, on standard error, why a text is refused or an event stuck, as is "
+                 "told in a terminal")
 UNPROVED = Option("--unproved", about="Build the program without its proofs, and run it, once")
 PROVE = Option("--prove", about="Prove and build the program, and print its path")
 COMMANDS = [
@@ -69,5 +69,6 @@ STATUSES = [
     (3, "an event was stuck, since no rule allows it; a line says why"),
     (4, "a read or a write failed, or a session had too many lines"),
     (5, "there was no memory, or a thread could not be made"),
-    (127, "the program could not be built, or is needed for threads and not built, or there is no python3 in its place"),
+    (127, "the program could not be built, or is needed for threads and not built, or there is no python3 in its "
+          "place"),
 ]

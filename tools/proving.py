@@ -1,10 +1,10 @@
 """Proves and builds the program, with every processor.
 
-`rt` lets one command at a time work in a copy of the repository: each locks the crates below its own. So each library is
-built in a room, a folder with the sources of its crate and of those below it, and with their libraries; when it is done
-its out/ goes to its place. As many are built at once as there are processors and memory, those with the longest chain of
-crates above them first, and a processor that nothing else needs goes to one of them. What is proved stays in out/, so a
-run that was interrupted goes on where it was. At the end `rt run` proves and links the program itself.
+`rt` lets one command at a time work in a copy of the repository: each locks the crates below its own. So each library
+is built in a room, a folder with the sources of its crate and of those below it, and with their libraries; when it is
+done its out/ goes to its place. As many are built at once as there are processors and memory, those with the longest
+chain of crates above them first, and a processor that nothing else needs goes to one of them. What is proved stays in
+out/, so a run that was interrupted goes on where it was. At the end `rt run` proves and links the program itself.
 """
 
 import collections
@@ -100,7 +100,8 @@ def needs_kit():
     kit = re.match(r"rattle-kit-(\d+)([a-z]*)", told.stdout.decode(errors="replace"))
     oldest = "".join(map(str, OLDEST_KIT))
     if not kit:
-        raise NotBuilt(f"the command rt on the path, {shutil.which('rt')}, isn't that of the Rattle kit {oldest} or later")
+        raise NotBuilt(f"the command rt on the path, {shutil.which('rt')}, isn't that of the Rattle kit {oldest} or "
+                       "later")
     if (int(kit[1]), kit[2]) < OLDEST_KIT:
         raise NotBuilt(f"rt is of the Rattle kit {kit[1]}{kit[2]}, and the proofs need {oldest} or later")
 
@@ -109,13 +110,13 @@ def needs_room(crates):
     """Memory for one check at least, and the disk for what isn't proved yet."""
     memory, disk = free_memory(), free_disk()
     if memory < LEAST_MEMORY:
-        raise NotBuilt(f"{memory / GIGABYTE:.1f} GB of memory are free, and a check takes up to {MEMORY / GIGABYTE:.0f}: end "
-                       "other programs before")
+        raise NotBuilt(f"{memory / GIGABYTE:.1f} GB of memory are free, and a check takes up to "
+                       f"{MEMORY / GIGABYTE:.0f}: end other programs before")
     unproved = sum(not os.path.exists(folder_of(name, "out", "rlib", "stamp")) for name in crates)
     needed = DISK * unproved
     if disk < needed:
-        raise NotBuilt(f"the disk has {disk / GIGABYTE:.1f} GB free, and the proofs take up to {needed / GIGABYTE:.1f}: make "
-                       "room, as by rm -rf crates/*/out in copies of the repository that are done with")
+        raise NotBuilt(f"the disk has {disk / GIGABYTE:.1f} GB free, and the proofs take up to "
+                       f"{needed / GIGABYTE:.1f}: make room, as by rm -rf crates/*/out in copies of the repository that are done with")
 
 
 def locked(crates):
@@ -126,8 +127,8 @@ def locked(crates):
         try:
             fcntl.flock(held[-1], fcntl.LOCK_EX | fcntl.LOCK_NB)
         except BlockingIOError:
-            raise NotBuilt(f"another build works in this copy of the repository (crates/{name} is locked): wait for its end, "
-                           "or end it") from None
+            raise NotBuilt(f"another build works in this copy of the repository (crates/{name} is locked): wait for "
+                           "its end, or end it") from None
         except OSError:
             pass  # a file system without locks
     return held
@@ -172,7 +173,8 @@ def make_room(crate, crates):
     for name in [*crate.below, crate.name]:
         shutil.copytree(os.path.join(ROOMS, "sources", name), os.path.join(room, "crates", name), copy_function=link)
     for name in crate.below:
-        shutil.copytree(folder_of(name, "out", "rlib"), os.path.join(room, "crates", name, "out", "rlib"), copy_function=link)
+        library = os.path.join(room, "crates", name, "out", "rlib")
+        shutil.copytree(folder_of(name, "out", "rlib"), library, copy_function=link)
     with open(os.path.join(room, "crates.txt"), "w", encoding="utf-8") as file:
         file.writelines(f"{crates[name].line}\n" for name in [*crate.below, crate.name])
     there = os.path.join(room, "crates", crate.name)
@@ -290,7 +292,7 @@ class Run:
         return sorted(found, key=lambda name: -self.behind[name])
 
     def start(self):
-        """Begins what there are processors and memory for. A crate whose check was killed runs with nothing beside it."""
+        """Begins what there are processors and memory for. A crate whose check was killed is alone the next time."""
         ready = self.ready()
         for at, name in enumerate(ready):
             idle = self.processors - sum(run.jobs for run in self.running.values())
@@ -385,7 +387,8 @@ def prove():
     run = Run(crates)
     for number in SIGNALS:
         signal.signal(number, lambda number, _: setattr(run, "signal", number))
-    run.screen.say(f"proving {len(crates)} crates by {run.processors} processors; Ctrl-C ends it, and the next run goes on from there")
+    run.screen.say(f"proving {len(crates)} crates by {run.processors} processors; Ctrl-C ends it, and the next run "
+                   "goes on from there")
     try:
         copy_sources(crates)
         run.libraries()
