@@ -110,7 +110,7 @@ def number_in(word, most):
 
 def tip(word, command=None):
     """What may be meant by a word that is no command, or by one that is no option of the command."""
-    known = {**{flag: " and ".join(of) for flag, of in FLAGS.items()}, **{option: of[0] for option, of in OPTIONS.items()}}
+    known = {flag: " and ".join(of) for flag, of in FLAGS.items()} | {option: of[0] for option, of in OPTIONS.items()}
     option = word.partition("=")[0]
     if command is None:
         near = close_to(word, [name.encode() for name in COMMANDS])

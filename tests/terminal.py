@@ -120,7 +120,8 @@ TYPED = [
     ("view\n", "(19/20) ", "p  {\"todo\": [{\"done\": true}]}\nq  "),
     ("l\n", "(19/20) ", "-> 19 p.apply(5, q)  applies 5@q"),
     ("next\n", "(19/20) ", "refused 58 BadLine\n  There is no such line: "),
-    ("step x\n", "(19/20) ", "refused 58 BadLine\n  There is no such line: `debug --help` lists those that there are.\n  step [N]"),
+    ("step x\n", "(19/20) ", "refused 58 BadLine\n  There is no such line: `debug --help` lists those that there are.\n"
+     "  step [N]"),
     ("st\n", "(19/20) ", "st begins step and state"),
     ("step 2\n", "(19/20) ", "refused 51 AtEnd\n  There are fewer events left"),
     ("act p.exit\n", "(19/20) ", "refused 7 Unexpected at 2\n  p.exit\n    ^"),

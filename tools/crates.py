@@ -1,4 +1,4 @@
-"""The crates of the repository, as crates.txt lists them, and whether the program that is built is as new as they are."""
+"""The crates of the repository, as crates.txt lists them, and whether the built program is as new as they are."""
 
 import collections
 import os
