@@ -226,7 +226,7 @@ def proves(_):
         expect_same(stored(f"{folder}/notes"), "jc_io\njc_rules\n")
         expect(os.listdir(f"{folder}/crates/jc_app/out") == ["jc_app"], "rooms are left")
         has(called(folder, "run", FIRST), 0, "proved\n")
-        has(called(folder, "--prove"), 0, program + "\n", "the program is built, and nothing that it is made of is new")
+        has(called(folder, "--prove"), 0, program + "\n", "nothing that it is made of is newer")
         has(called(folder, "--prove", "run"), 2, "", "--prove stands alone")
         has(called(folder, "--explain", "--prove"), 2, "", "--prove stands alone")
 
