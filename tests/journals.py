@@ -16,7 +16,7 @@ sys.path.append(os.path.join(ROOT, "kit"))
 
 from changes import Journal
 from difference import with_effects
-from faults import fault_case, help_case
+from faults import fault_case
 from fates import fates
 from grammar import read
 from judging import by_rules
@@ -692,4 +692,3 @@ def journals():
     for line, told in WRITING:
         yield fault_case(line + " >/dev/full", 4, told)
         yield fault_case(line + " >&-", 4, told)
-    yield from map(help_case, ("tools/why", "tools/fate", "tools/replay"))

@@ -24,7 +24,7 @@ from layout import laid_out, read_json, runs_of
 from positions import InPython, Positions
 from predicates import KINDS, predicate_of
 from program import command_line
-from sentences import sentence_of
+from sentences import SENTENCES
 from texts import REFUSALS
 
 TO_DO, FIRST = "examples/to-do.jsoncrdt", "examples/first.jsoncrdt"
@@ -119,12 +119,13 @@ TYPED = [
     ("b until shows nothing\n", "(19/20) ", "at no earlier position, still at 19"),
     ("view\n", "(19/20) ", "p  {\"todo\": [{\"done\": true}]}\nq  "),
     ("l\n", "(19/20) ", "-> 19 p.apply(5, q)  applies 5@q"),
-    ("next\n", "(19/20) ", "refused 58 BadLine\n  There is no such line."),
-    ("step x\n", "(19/20) ", "refused 58 BadLine\n  There is no such line.\n  step [N]"),
+    ("next\n", "(19/20) ", "refused 58 BadLine\n  There is no such line: "),
+    ("step x\n", "(19/20) ", "refused 58 BadLine\n  There is no such line: `debug --help` lists those that there are.\n"
+     "  step [N]"),
     ("st\n", "(19/20) ", "st begins step and state"),
     ("step 2\n", "(19/20) ", "refused 51 AtEnd\n  There are fewer events left"),
     ("act p.exit\n", "(19/20) ", "refused 7 Unexpected at 2\n  p.exit\n    ^"),
-    ("act q.apply(5, q)\n", "(19/20) ", "stuck 34 NotReceived q.apply(5, q)\n  The operation isn't among those"),
+    ("act q.apply(5, q)\n", "(19/20) ", "stuck 34 NotReceived q.apply(5, q)\n  The operation isn't there"),
     ("act p.recv(q)\n", "(20/20) ", "20 p.recv(q)  gets from q: nothing new"),
     ("help until\n", "(20/20) ", "shows TEXT"),
 ]
@@ -389,8 +390,7 @@ PIPED = [
     (STUCK, ["until stuck"], """\
 at 13
 stuck 36 DepsMissing r.apply(2, q)
-  An operation depends on all that its maker had applied when it made it, and these have to be
-  applied before.
+  An operation is applied after all that its maker had applied when it made it: apply these before.
   missing: 1@p
   13 r.apply(1, q)  applies 1@q  doc.get("author") := "Ada"
 """),
@@ -404,7 +404,8 @@ at 12
   12 r.recv(q)  gets from q: 1@q 2@q
 at 12
 stuck 34 NotReceived r.apply(9, q)
-  The operation isn't among those received; or, of a `take`, the other replica doesn't offer it.
+  The operation isn't there to be applied or taken: its maker has to `send` it, and this replica to
+  `recv` or `take` it, before.
   offered by: none
 """),
     (FIRST, ["until", "until what", "until shows", "until diverge x", "back until"], f"""\
@@ -420,7 +421,7 @@ at 1
 at 0
   the start
 refused 50 AtStart
-  There are fewer events to take back.
+  There are fewer events to take back: `where` shows the position, and `goto 0` goes to the start.
 a  no document
 """),
     (FIRST, ["breaks", "br", "back until break", "break at 1", "unbreak 1", "breaks"], """\
@@ -463,9 +464,8 @@ def piped_case(file, lines, wanted):
 def sentences_are_there(_):
     """Each refusal that a session or an event has, has its sentence."""
     numbers = [number for number in REFUSALS if number not in (37, 39)]
-    lacking = [number for number in numbers if not re.fullmatch(r".{10,}\.", sentence_of(number))]
+    lacking = [number for number in numbers if not re.fullmatch(r".{10,}\.", SENTENCES.get(number, ""))]
     expect(not lacking, f"no sentence for {lacking}")
-    expect_same(sentence_of(50), "There are fewer events to take back.")
 
 
 def page_has_commands(_):
