@@ -29,7 +29,7 @@ from texts import REFUSALS
 
 TO_DO, FIRST = "examples/to-do.jsoncrdt", "examples/first.jsoncrdt"
 STUCK, ANSWER = "examples/out-of-order.jsoncrdt", "examples/answer-first.jsoncrdt"
-SECONDS = 60
+SECONDS = 120
 CTRL_C, CTRL_D, UP, CLEAR_LINE = "\x03", "\x04", "\x1b[A", "\x15"
 # Takes the terminal that is its standard input, so that Ctrl-C there is a signal, and goes on as the command.
 STARTER = "import fcntl, os, sys, termios; fcntl.ioctl(0, termios.TIOCSCTTY, 0); os.execvp(sys.argv[1], sys.argv[1:])"
