@@ -20,7 +20,7 @@ from cases import IN_PYTHON, expect, expect_same, folder_of, run, stored
 
 from asking import Scenario
 from commands import COMMANDS
-from layout import laid_out, read_json, runs_of
+from layout import WIDTH, laid_out, read_json, runs_of
 from positions import InPython, Positions
 from predicates import KINDS, predicate_of
 from program import command_line
@@ -29,7 +29,7 @@ from texts import REFUSALS
 
 TO_DO, FIRST = "examples/to-do.jsoncrdt", "examples/first.jsoncrdt"
 STUCK, ANSWER = "examples/out-of-order.jsoncrdt", "examples/answer-first.jsoncrdt"
-SECONDS = 60
+SECONDS = 120
 CTRL_C, CTRL_D, UP, CLEAR_LINE = "\x03", "\x04", "\x1b[A", "\x15"
 # Takes the terminal that is its standard input, so that Ctrl-C there is a signal, and goes on as the command.
 STARTER = "import fcntl, os, sys, termios; fcntl.ioctl(0, termios.TIOCSCTTY, 0); os.execvp(sys.argv[1], sys.argv[1:])"
@@ -290,7 +290,7 @@ def is_laid_out(programs):
         state, traces = re.fullmatch(r"((?:.*\n)*\}\n)((?:.*\n)*)", rest).groups()
         texts = re.findall(r"^\{$.*?^\}$|^\{.*\}$", state, re.MULTILINE | re.DOTALL)
         expect([json.loads(text) for text in texts] == [json.loads(line) for line in raw.splitlines()], state)
-        expect(max(map(len, state.splitlines())) <= 100, state)
+        expect(max(map(len, state.splitlines())) <= WIDTH, state)
         if traces != "start\nstart\n":
             _, rows, again = re.split(r"^event .*\n", traces, flags=re.MULTILINE)
             expect_same(re.sub(r" {2,}(\d+)  +", r"\1 ", again), rows)
@@ -390,7 +390,12 @@ PIPED = [
     (STUCK, ["until stuck"], """\
 at 13
 stuck 36 DepsMissing r.apply(2, q)
+<<<<<<< HEAD
   An operation is applied after all that its maker had applied when it made it: apply these before.
+=======
+  An operation depends on all that its maker had applied when it made it, and
+  these have to be applied before.
+>>>>>>> 43ff5acdd27c36f6564173aa7a18a8575a9e56e6
   missing: 1@p
   13 r.apply(1, q)  applies 1@q  doc.get("author") := "Ada"
 """),
@@ -404,8 +409,13 @@ at 12
   12 r.recv(q)  gets from q: 1@q 2@q
 at 12
 stuck 34 NotReceived r.apply(9, q)
+<<<<<<< HEAD
   The operation isn't there to be applied or taken: its maker has to `send` it, and this replica to
   `recv` or `take` it, before.
+=======
+  The operation isn't among those received; or, of a `take`, the other replica
+  doesn't offer it.
+>>>>>>> 43ff5acdd27c36f6564173aa7a18a8575a9e56e6
   offered by: none
 """),
     (FIRST, ["until", "until what", "until shows", "until diverge x", "back until"], f"""\
@@ -508,6 +518,6 @@ def terminal():
     yield from itertools.starmap(piped_case, PIPED)
     yield "debug: sentences", sentences_are_there
     yield "debug: commands in docs/DEBUGGER.md", page_has_commands
-    yield dying_case("kill -9 $$", "was killed by SIGKILL", 4)
+    yield dying_case("kill -9 $$", "was killed by signal 9", 4)
     yield dying_case("exit 5", "ended with 5", 5)
     yield dying_case("exit 0", "ended with 0", 4)
