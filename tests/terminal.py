@@ -390,12 +390,8 @@ PIPED = [
     (STUCK, ["until stuck"], """\
 at 13
 stuck 36 DepsMissing r.apply(2, q)
-<<<<<<< HEAD
-  An operation is applied after all that its maker had applied when it made it: apply these before.
-=======
-  An operation depends on all that its maker had applied when it made it, and
-  these have to be applied before.
->>>>>>> 43ff5acdd27c36f6564173aa7a18a8575a9e56e6
+  An operation is applied after all that its maker had applied when it made it:
+  apply these before.
   missing: 1@p
   13 r.apply(1, q)  applies 1@q  doc.get("author") := "Ada"
 """),
@@ -409,13 +405,8 @@ at 12
   12 r.recv(q)  gets from q: 1@q 2@q
 at 12
 stuck 34 NotReceived r.apply(9, q)
-<<<<<<< HEAD
-  The operation isn't there to be applied or taken: its maker has to `send` it, and this replica to
-  `recv` or `take` it, before.
-=======
-  The operation isn't among those received; or, of a `take`, the other replica
-  doesn't offer it.
->>>>>>> 43ff5acdd27c36f6564173aa7a18a8575a9e56e6
+  The operation isn't there to be applied or taken: its maker has to `send` it,
+  and this replica to `recv` or `take` it, before.
   offered by: none
 """),
     (FIRST, ["until", "until what", "until shows", "until diverge x", "back until"], f"""\
@@ -431,7 +422,8 @@ at 1
 at 0
   the start
 refused 50 AtStart
-  There are fewer events to take back: `where` shows the position, and `goto 0` goes to the start.
+  There are fewer events to take back: `where` shows the position, and `goto 0`
+  goes to the start.
 a  no document
 """),
     (FIRST, ["breaks", "br", "back until break", "break at 1", "unbreak 1", "breaks"], """\
