@@ -123,7 +123,8 @@ WRITING = [
     ("./test --help", "test: write failed: "),
 ]
 HELPED = ("tools/lanes", "tools/tree", "tools/shrink", "tools/make-completions", "tools/prove", "oracle/compare",
-          "oracle/selftest", "oracle/adapter", "kit/check", "kit/differs", "kit/make", "kit/table", "examples/engine/compare", "./test")
+          "oracle/selftest", "oracle/adapter", "kit/check", "kit/differs", "kit/make", "kit/table",
+          "examples/engine/compare", "./test")
 UNPROVED = "oracle/jsoncrdt: these are the rules in Python"
 # A command rt that tells that it was called, so that nothing here can build.
 NO_RT = "#!/bin/sh\necho rt was called >&2\nexit 1\n"
