@@ -25,8 +25,8 @@ CRATES = "jc_io:\njc_rules: jc_io  # two\njc_app: jc_io jc_rules\n"
 # A program that does as the rules in Python do, and one that tells its own process.
 BY_RULES = '#!/bin/sh\nJSONCRDT_SAYS=program exec "$(dirname "$0")/../../../oracle/jsoncrdt" "$@"\n'
 TELLING = "#!/bin/sh\necho $$\n"
-# A command rt, told by variables: its kit, and a crate of which the check hangs, fails, or is killed once. It notes
-# which crates it checked, and fails where a library below isn't there.
+# A command rt, told by variables: its kit, a crate of which the check hangs, fails, or is killed once, and whether it
+# takes what other copies built. It notes which crates it checked, and fails where a library below isn't there.
 RT = r"""#!/bin/sh
 name=$(basename "$PWD")
 case $1 in
@@ -35,6 +35,12 @@ case $1 in
         [ -f src/lib.rt ] && [ -f ../../crates.txt ] || { echo "no sources"; exit 1; }
         [ "$name" = jc_io ] || [ -f ../jc_io/out/rlib/stamp ] || { echo "no library below"; exit 1; }
         [ -f out/rlib/stamp ] && exit 0
+        if [ -d ../jc_app ]; then
+            mkdir out
+            if [ "${SHARES-yes}" = yes ]; then cp -r ../jc_app/out/rooms/$name/crates/$name/out/* out; exit 0; fi
+            echo "rt: chose --jobs 1 for $name"
+            exec sleep 600
+        fi
         echo "$name" >>"$NOTES"
         mkdir -p out/incremental
         if [ "$name" = "${HANGS-}" ]; then echo "so far: 1 of 9 functions checked"; sleep 600; fi
@@ -231,6 +237,13 @@ def proves(_):
         has(called(folder, "--explain", "--prove"), 2, "", "--prove stands alone")
 
 
+def moves_libraries(_):
+    """Where rt doesn't take what other copies built, it isn't let prove a library a second time."""
+    with tree() as folder:
+        has(called(folder, "--prove", SHARES="no"), 0, None, "proved and built: 3 crates, 8 functions, in ")
+        expect_same(stored(f"{folder}/notes"), "jc_io\njc_rules\n")
+
+
 def shows_what_failed(_):
     """Where a crate isn't proved rt's lines are shown but for what it proved, and the next run goes on there."""
     with tree() as folder:
@@ -268,7 +281,7 @@ def interrupted(number):
             with in_terminal([f"{folder}/jsoncrdt", "--prove"], folder, HANGS="jc_rules") as (process, up_to):
                 shown = re.split(r"[\r\n]", up_to(b"jc_rules (1 of 9)"))[-1]
                 expect(re.search(r"1 of 3 crates, 3 functions, \d+ s; now jc_rules \(1 of 9\)", shown), shown)
-                expect(is_held(f"{folder}/crates/jc_io"), "another build isn't kept out")
+                expect(is_held(f"{folder}/crates/jc_app"), "another build isn't kept out")
                 process.send_signal(number)
                 shown = up_to()
                 expect(process.wait(PATIENCE) == 128 + number and "the next run goes on from there" in shown, shown)
@@ -287,6 +300,7 @@ def is_locked(_):
         held = os.open(f"{folder}/crates/jc_rules", os.O_RDONLY)
         fcntl.flock(held, fcntl.LOCK_EX)
         has(called(folder, "--prove"), 127, "", "another build works in this copy", "(crates/jc_rules is locked)")
+        expect(not os.path.exists(f"{folder}/notes"), "a crate was checked")
         os.close(held)
 
 
@@ -360,6 +374,7 @@ def launching():
     yield "launcher: --unproved and --explain", unproved_explains
     yield "launcher: --unproved at TERM", unproved_ends
     yield "launcher: --prove", proves
+    yield "launcher: --prove by an rt that shares nothing", moves_libraries
     yield "launcher: --prove where a crate isn't proved", shows_what_failed
     yield "launcher: --prove where a check is killed", tries_again
     yield interrupted(signal.SIGTERM)

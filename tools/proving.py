@@ -1,10 +1,11 @@
 """Proves and builds the program, with every processor.
 
 `rt` lets one command at a time work in a copy of the repository: each locks the crates below its own. So each library
-is built in a room, a folder with the sources of its crate and of those below it, and with their libraries; when it is
-done its out/ goes to its place. As many are built at once as there are processors and memory, those with the longest
-chain of crates above them first, and a processor that nothing else needs goes to one of them. What is proved stays in
-out/, so a run that was interrupted goes on where it was. At the end `rt run` proves and links the program itself.
+is built in a room, a folder with the sources of its crate and of those below it, and with their libraries. When it is
+done `rt lib` in its own place takes it from there, as from any other copy, and lets other copies know of it. As many
+are built at once as there are processors and memory, those with the longest chain of crates above them first, and a
+processor that nothing else needs goes to one of them. What is proved stays in out/, so a run that was interrupted goes
+on where it was. At the end `rt run` proves and links the program itself.
 """
 
 import collections
@@ -72,6 +73,11 @@ def own_crates():
     return {name: Crate(name, crates[name].line, below(crates, name), weight_of(name)) for name in of_program(crates)}
 
 
+def is_proved(name):
+    """Whether a library of the crate is there. It may be one of older sources."""
+    return os.path.exists(folder_of(name, "out", "rlib", "stamp"))
+
+
 # ---- what has to be there
 
 
@@ -112,25 +118,22 @@ def needs_room(crates):
     if memory < LEAST_MEMORY:
         raise NotBuilt(f"{memory / GIGABYTE:.1f} GB of memory are free, and a check takes up to "
                        f"{MEMORY / GIGABYTE:.0f}: end other programs before")
-    unproved = sum(not os.path.exists(folder_of(name, "out", "rlib", "stamp")) for name in crates)
-    needed = DISK * unproved
+    needed = DISK * sum(not is_proved(name) for name in crates)
     if disk < needed:
         raise NotBuilt(f"the disk has {disk / GIGABYTE:.1f} GB free, and the proofs take up to "
                        f"{needed / GIGABYTE:.1f}: make room, as by rm -rf crates/*/out in copies of the repository that are done with")
 
 
-def locked(crates):
-    """Keeps others out of the crates' folders, as each command of rt does, until what it gives is closed."""
-    held = []
-    for name in sorted(crates):
-        held.append(os.open(folder_of(name), os.O_RDONLY))
-        try:
-            fcntl.flock(held[-1], fcntl.LOCK_EX | fcntl.LOCK_NB)
-        except BlockingIOError:
-            raise NotBuilt(f"another build works in this copy of the repository (crates/{name} is locked): wait for "
-                           "its end, or end it") from None
-        except OSError:
-            pass  # a file system without locks
+def locked(name):
+    """Keeps others out of the crate's folder, as each command of rt does, until what it gives is closed."""
+    held = os.open(folder_of(name), os.O_RDONLY)
+    try:
+        fcntl.flock(held, fcntl.LOCK_EX | fcntl.LOCK_NB)
+    except BlockingIOError:
+        raise NotBuilt(f"another build works in this copy of the repository (crates/{name} is locked): wait for its "
+                       "end, or end it") from None
+    except OSError:
+        pass  # a file system without locks
     return held
 
 
@@ -145,9 +148,10 @@ def link(source, target):
 
 
 def give_back(name):
-    """Puts what is in the room of the crate into its out/, and removes the room."""
+    """Removes the room of the crate; what is in it becomes the crate's out/, where no library was taken from there."""
     lent, own = os.path.join(ROOMS, name, "crates", name, "out"), folder_of(name, "out")
-    if os.path.isdir(lent) and not os.path.exists(own):
+    if os.path.isdir(lent) and not is_proved(name):
+        shutil.rmtree(own, ignore_errors=True)
         shutil.move(lent, own)
     shutil.rmtree(os.path.join(ROOMS, name), ignore_errors=True)
 
@@ -306,18 +310,35 @@ class Run:
             there = make_room(self.crates[name], self.crates)
             self.running[name] = Command(name, ["lib", "--jobs", str(jobs)], there, jobs)
 
+    def told_by(self, run):
+        """The new lines of a command; that it waits, or what it lacks, is said."""
+        lines = run.new_lines()
+        for line in lines:
+            if re.match(r"rt: .*(waiting|killed|disk)", line):
+                self.screen.say(f"{run.name}: {line}")
+        return lines
+
     def look(self):
-        """Tells what the commands say, and takes in those that have ended."""
+        """Takes in the commands that have ended."""
         for name, run in list(self.running.items()):
             ended = run.process.poll()
-            for line in run.new_lines():
-                if re.match(r"rt: .*(waiting|killed|disk)", line):
-                    self.screen.say(f"{name}: {line}")
+            self.told_by(run)
             if ended is not None:
                 self.end(name, run, ended)
 
+    def take(self, name):
+        """Has rt take the library from its room. Where it would prove it again instead, it is ended."""
+        run = self.running[name] = Command(name, ["lib"], folder_of(name), 1)
+        while run.process.poll() is None:
+            self.wait()
+            if any(line.startswith("rt: chose") for line in self.told_by(run)):
+                run.end()
+        del self.running[name]
+
     def end(self, name, run, status):
         del self.running[name]
+        if status == 0:
+            self.take(name)
         give_back(name)
         if status in KILLED and name not in self.alone:
             self.alone.add(name)
@@ -327,7 +348,7 @@ class Run:
             raise NotBuilt(f"memory was wanting for the check of {name}, with nothing beside it")
         elif status:
             self.fail(name, run)
-        elif not os.path.exists(folder_of(name, "out", "rlib", "stamp")):
+        elif not is_proved(name):
             self.left.clear()
             self.screen.say("this kit keeps its libraries elsewhere: rt run goes on, with one crate after another")
         else:
@@ -361,8 +382,8 @@ class Run:
         run = self.running[PROGRAM_CRATE] = Command(PROGRAM_CRATE, ["run"], folder_of(PROGRAM_CRATE), self.processors)
         while run.process.poll() is None:
             self.wait()
-            run.new_lines()
-        run.new_lines()
+            self.told_by(run)
+        self.told_by(run)
         del self.running[PROGRAM_CRATE]
         if REFUSED not in run.lines or not os.access(BUILT, os.X_OK):
             self.fail(PROGRAM_CRATE, run)
@@ -381,7 +402,9 @@ def prove():
     """Proves and builds, and gives the program's path."""
     crates = own_crates()
     needs_kit()
-    held = locked(crates)
+    for name in crates:
+        os.close(locked(name))
+    held = locked(PROGRAM_CRATE)
     clear_rooms(crates)
     needs_room(crates)
     run = Run(crates)
@@ -393,8 +416,7 @@ def prove():
         copy_sources(crates)
         run.libraries()
         clear_rooms(crates)
-        for each in held:
-            os.close(each)  # rt locks them itself
+        os.close(held)  # rt locks it itself
         run.program()
     finally:
         run.stop()
