@@ -5,6 +5,8 @@ import collections
 # A crate: its name, the heading that its line stands under, what it may do, the libraries that it uses, of the
 # repository and of the kit, and its line.
 Crate = collections.namedtuple("Crate", "name heading may uses line")
+# The heading of the crates that are for tests.
+TESTS = "tests"
 
 
 def crates_of(text):
