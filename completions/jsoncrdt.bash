@@ -1,13 +1,16 @@
 # Completion of jsoncrdt for bash; made by tools/make-completions from tools/command_line.py.
 # In ~/.bashrc:  . /path/to/completions/jsoncrdt.bash
 _jsoncrdt() {
-    local word=${COMP_WORDS[COMP_CWORD]} before=${COMP_WORDS[COMP_CWORD - 1]} options=
+    local word=${COMP_WORDS[COMP_CWORD]} before=${COMP_WORDS[COMP_CWORD - 1]} options= at=1
     COMPREPLY=()
-    if [ "$COMP_CWORD" -eq 1 ]; then
-        COMPREPLY=($(compgen -W 'check print run view journal debug threads weave help -h --help -V --version' -- "$word"))
+    while [[ $at -lt $COMP_CWORD && ${COMP_WORDS[at]} == @(--explain|--unproved) ]]; do
+        at=$((at + 1))
+    done
+    if [ "$COMP_CWORD" -eq "$at" ]; then
+        COMPREPLY=($(compgen -W 'check print run view journal debug threads weave help -h --help -V --version --explain --unproved --prove' -- "$word"))
         return
     fi
-    case ${COMP_WORDS[1]} in
+    case ${COMP_WORDS[at]} in
         help) COMPREPLY=($(compgen -W 'check print run view journal debug threads weave' -- "$word")); return ;;
         check) options='-h --help' ;;
         print) options='-h --help' ;;

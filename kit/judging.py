@@ -256,13 +256,14 @@ def effects_fault(journal, status, ended):
     except NoJson as error:
         return f"a line isn't JSON: {error}"
     for pair in zip(want, got):
-        due, written = (line["effects"] for line in pair)
-        at = difference(due, written)
+        effects = [line["effects"] for line in pair]
+        at = difference(*effects)
         if at:
-            due, written = (json.dumps(each, ensure_ascii=False, separators=(",", ":"), default=str) for each in (due, written))
+            due, written = (json.dumps(of, ensure_ascii=False, separators=(",", ":"), default=str) for of in effects)
             event = f"{'given ' if 'given' in pair[0] else ''}event {pair[0]['number']} {pair[0]['event']}"
             return f"the effects of {event} differ at {at}\n    the rules give  {due}\n    the adapter     {written}"
-    return None if len(want) == len(got) else f"{len(want)} events have effects, and it wrote {len(got)} lines with some"
+    same = len(want) == len(got)
+    return None if same else f"{len(want)} events have effects, and it wrote {len(got)} lines with some"
 
 
 def told_of(text, is_journal):

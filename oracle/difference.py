@@ -39,8 +39,8 @@ def by_key(context):
 
 
 def own(old, new, order):
-    """What differs of one key's own entries. Where nothing does, that is an empty list. Sets that are empty and sets that
-    are missing are the same."""
+    """What differs of one key's own entries. Where nothing does, that is an empty list. A set that is missing is as an
+    empty one."""
     was, now = ({*entries.get("pres", ())} for entries in (old, new))
     values, others = (entries.get("regT", {}) for entries in (old, new))
     links = [entries.get("next") for entries in (old, new)]
@@ -69,7 +69,8 @@ def difference(before, after, order):
         was, now = old.get(key, {}), new.get(key, {})
         found = own(was, now, order)
         for kind in NEW:
-            found[TAGS[kind]] = difference(was.get(kind, NEW[kind]), now.get(kind, NEW[kind]), order) if kind in now else []
+            inside = [entries.get(kind, NEW[kind]) for entries in (was, now)]
+            found[TAGS[kind]] = difference(*inside, order) if kind in now else []
         found = {member: content for member, content in found.items() if content != []}
         if found:
             places.append(dict(sorted({"key": key, **found}.items())))

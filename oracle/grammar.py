@@ -10,7 +10,7 @@ import re
 
 RESERVED = {b"let", b"doc", b"yield", b"get", b"idx", b"keys", b"values", b"insertAfter", b"delete", b"true", b"false",
             b"null"}
-SELECTORS = {b"get", b"idx", b"keys", b"values"}
+SELECTORS = (b"get", b"idx", b"keys", b"values")
 EVENTS = (b"exec", b"send", b"done", b"recv", b"apply")
 NAME, NUMBER, STRING, SIGN, END = "name", "number", "string", "sign", "end"
 MOST_SELECTORS = 256

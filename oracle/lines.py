@@ -14,6 +14,10 @@ CLEAR-MAP1 CLEAR-MAP2 CLEAR-MAP3 CLEAR-LIST1 CLEAR-LIST2 CLEAR-LIST3
 """.split()
 OF_VERSION_TWO = ("RECV-ONE",)
 ALONE = ("run", "trace", "enabled", "schedule", "where", "quit")
+# How each line is written, by its first word.
+FORMS = {"step": "step [N]", "back": "back [N]", "goto": "goto N", "act": "act EVENT", "state": "state [NAME]",
+         "break": "break at N, break rule RULE or break replica NAME", "unbreak": "unbreak K",
+         "compare": "compare NAME NAME", **{word: word for word in ALONE}}
 NUMBER = re.compile(rb"0|[1-9][0-9]{0,9}")
 BAD = refused(58)
 UNKNOWN = refused(18)
@@ -46,9 +50,13 @@ def named(word, rest, names):
     return (word,) + (tuple(names.index(name) for name in rest) or (None,)), b""
 
 
+def event_text(line):
+    """The text of the event of `act`: the rest of the line behind the word and its blanks."""
+    return re.sub(rb"\A[ \t]*act[ \t]*", b"", line)
+
+
 def event_of(line, names, version):
-    """The event of `act`: the rest of the line behind the word and its blanks."""
-    event, fault = read_event(re.sub(rb"\A[ \t]*act[ \t]*", b"", line), names, version)
+    event, fault = read_event(event_text(line), names, version)
     return (("act", event), b"") if event else (None, refused(fault[1], fault[0]))
 
 

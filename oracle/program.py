@@ -2,25 +2,29 @@
 
 import collections
 import itertools
+import os
 import re
 
+import explaining
 from grammar import read
 from journal import write_journal
 from lines import read_line
+from refusal import close_to
 from rules import GivenStuck, Stuck, change, start
 from session import Session
 from streams import reason_of
 from texts import Texts, counts_of, refused
 from view import line_of
-from weave import LARGEST_SEED, weave
+from weave import LARGEST_SEED, weave, woven
 
 VERSION = "jsoncrdt 2.0.0\n"
 USAGE = "usage: oracle/jsoncrdt check|print|run|view|journal|weave|debug FILE    (help says more)"
 HELP = """\
-usage: oracle/jsoncrdt COMMAND FILE      (FILE - is standard input; no arguments are run --trace -)
+usage: oracle/jsoncrdt [--explain] COMMAND FILE   (FILE - is standard input; no arguments are run --trace -)
        oracle/jsoncrdt help | --version
 
-The program by the same rules, written once more in Python. Nothing of it is proved.
+The program by the same rules, written once more in Python. Nothing of it is proved. After --explain, and in a terminal,
+it says besides why a text is refused or an event stuck.
 
   check FILE            is this text a scenario? prints how many replicas, commands and events it has
   print FILE            prints the scenario in its canonical text
@@ -104,6 +108,21 @@ def number_in(word, most):
     return int(digits)
 
 
+def tip(word, command=None):
+    """What may be meant by a word that is no command, or by one that is no option of the command."""
+    known = {flag: " and ".join(of) for flag, of in FLAGS.items()} | {option: of[0] for option, of in OPTIONS.items()}
+    option = word.partition("=")[0]
+    if command is None:
+        near = close_to(word, [name.encode() for name in COMMANDS])
+        if near or word.startswith("-"):
+            return f"; is it {near}?" if near else "; options are behind the command"
+        return "; a command is before the FILE, as in run FILE" if os.path.exists(word) else ""
+    if option in ("--explain", "--unproved"):
+        return f"; {option} is before the command"
+    near = close_to(option, [name.encode() for name in known])
+    return f"; {option} is an option of {known[option]}" if option in known else f"; is it {near}?" if near else ""
+
+
 def order_of(words):
     """What the words ask for."""
     if not words:
@@ -111,9 +130,9 @@ def order_of(words):
     words = meant(words)
     command, files, flags, numbers, number = words[0], [], set(), {}, 1
     if command == "threads":
-        raise BadWords("threads is a command of the proved program alone")
+        raise BadWords("threads is a command of the proved program alone; weave draws a schedule here")
     if command not in COMMANDS:
-        raise BadWords(f"there is no command {command}")
+        raise BadWords(f"there is no command {command}{tip(command)}")
     options = True
     while number < len(words):
         word = words[number]
@@ -127,11 +146,11 @@ def order_of(words):
             numbers[option] = number_in(value if equals else taken(words, number), OPTIONS[option][1])
             number += not equals
         elif options and word.startswith("-") and word != "-":
-            raise BadWords(f"{command} has no option {word}, or has it already")
+            raise BadWords(f"{command} has no option {word}, or has it already{tip(word, command)}")
         else:
             files.append(word)
     if len(files) != 1:
-        raise BadWords(f"{command} needs one FILE")
+        raise BadWords(f"{command} needs one FILE, and {len(files)} are given; - is standard input")
     return Order(command, files[0], flags, {option: of[2] for option, of in OPTIONS.items()} | numbers)
 
 
@@ -182,8 +201,9 @@ def answer(session, line):
     return session.answer(asked) if asked else refusal
 
 
-def debug(session, lines, out, err):
-    for line in lines_of(lines):
+def debug(session, lines, out, err, told=None):
+    """Answers the lines; `told`, where it is there, says more of a line by its number, itself and its answer."""
+    for number, line in enumerate(lines_of(lines), 1):
         if line is None:
             err.write("too many lines\n")
             return 4
@@ -192,6 +212,8 @@ def debug(session, lines, out, err):
             break
         out.write(text)
         out.flush()
+        if told:
+            err.write(told(number, line, text))
     return 0
 
 
@@ -205,9 +227,9 @@ def text_of(file, source):
         raise NotRead(f"{file}: {reason_of(error)}") from error
 
 
-def done(order, source, out, err):
-    """Does what the order says, and gives the status."""
-    scenario, fault = read(text_of(order.file, source))
+def done(order, text, source, out, err, explains_lines):
+    """Does what the order says of the text, and gives the status."""
+    scenario, fault = read(text)
     if fault:
         out.write(refused(fault[1], fault[0]))
         return 1
@@ -226,13 +248,41 @@ def done(order, source, out, err):
     except GivenStuck as given:
         out.write(texts.given_stuck(given))
         return 3
-    return debug(session, () if order.file == "-" else source, out, err)
+    told = explaining.Lines(order.file, text, session).told if explains_lines else None
+    return debug(session, () if order.file == "-" else source, out, err, told)
 
 
-def command_line(words, source, out, err):
-    """Does what the words ask for, and gives the status. Source and out are files of bytes, err is one of text."""
+def reason(order, text):
+    """Why the text is refused, or an event stuck in what the order asks of it, which is done once more."""
+    scenario, fault = read(text)
+    if fault:
+        return explaining.of_text(order.file, text, fault)
+    places = explaining.Places(order.file, text)
     try:
-        return done(order_of(words), source, out, err)
+        if order.command == "weave":
+            loom = woven(scenario, order.numbers["--seed"], order.numbers["--limit"])
+            ends = [loom.left[p] for p in sorted(loom.left)]
+            return "".join(places.of_chosen(loom.network, *end) for end in ends if end[0])
+        network, count, stuck = made(scenario, scenario.schedule[:order.numbers.get("--at")])
+    except GivenStuck as given:
+        return places.of_given(given)
+    return places.of_scheduled(network, count, stuck) if stuck else ""
+
+
+def command_line(words, source, out, err, explains=False, explains_lines=False):
+    """Does what the words ask for, and gives the status. Source and out are files of bytes, err is one of text.
+
+    Where it explains, it says on err why a text is refused or an event stuck, and also, where that is asked for, why a
+    line of a session is.
+    """
+    try:
+        order = order_of(words)
+        text = text_of(order.file, source)
+        status = done(order, text, source, out, err, explains_lines)
+        if explains and status in (1, 3):
+            out.flush()
+            err.write(reason(order, text))
+        return status
     except BadWords as fault:
         err.write(f"oracle/jsoncrdt: {fault}\n{USAGE}\n")
         return 2

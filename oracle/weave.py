@@ -67,11 +67,17 @@ class Loom:
         return True
 
 
-def weave(scenario, texts, seed, limit, out, err):
-    """Writes the scenario with the schedule, and how each replica ended, and gives the status."""
+def woven(scenario, seed, limit):
+    """The loom at its end."""
     loom = Loom(scenario, seed)
     while len(loom.schedule) < limit and loom.turn():
         pass
+    return loom
+
+
+def weave(scenario, texts, seed, limit, out, err):
+    """Writes the scenario with the schedule, and how each replica ended, and gives the status."""
+    loom = woven(scenario, seed, limit)
     out.write(texts.scenario(scenario._replace(schedule=loom.schedule)))
     is_stuck = False
     for p, replica in enumerate(loom.network):

@@ -15,7 +15,8 @@ import shlex
 from cases import expect
 
 # The statuses that are said by a last line.
-ENDS = ((r"refused \d+ \w+ at \d+", 1), (r"stuck \d+ \w+ .+", 3), (r"\d+ passed, [1-9]\d* failed", 1))
+ENDS = ((r"refused \d+ \w+ at \d+", 1), (r"stuck \d+ \w+ .+", 3), (r"\d+ passed, [1-9]\d* failed", 1),
+        (r"\d+ scenarios, [1-9]\d* differ, .+", 1))
 STATUS = "echo $?"
 
 
@@ -154,6 +155,8 @@ ROWS = (
     ("$ ./jsoncrdt debug a\n> act a.jump\nrefused 7 Unexpected at 2", (1, "refused 7 Unexpected at 2\n", ""), "status"),
     ("$ kit/check true\n1 passed, 2 failed", (1, "1 passed, 2 failed\n", ""), ""),
     ("$ kit/check true\n3 passed, 0 failed", (1, "3 passed, 0 failed\n", ""), "status"),
+    ("$ a/compare\n6 scenarios, 1 differ, first", (1, "6 scenarios, 1 differ, first\n", ""), ""),
+    ("$ a/compare\n6 scenarios, 0 differ", (1, "6 scenarios, 0 differ\n", ""), "status"),
     ("$ ./jsoncrdt jump\nno command\n$ echo $?\n2", (2, "", "no command\n"), ""),
     ("$ ./jsoncrdt jump\nno command\n$ echo $?\n2", (0, "", "no command\n"), "status"),
     ("$ ./jsoncrdt jump 2>/dev/null\n$ echo $?\n2", (2, "", ""), ""),

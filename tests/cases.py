@@ -5,13 +5,12 @@ import os
 import subprocess
 import tempfile
 
-from crates import below, crates_of
+from crates import BUILT, lack_of_built
 
-# Where `rt ci` and `rt run` leave the program.
-BUILT = os.path.join("crates", "jc_app", "out", "jc_app")
 IN_PYTHON = os.path.join("oracle", "jsoncrdt")
-# How the line begins by which the rules in Python say what they are.
-UNPROVED = "oracle/jsoncrdt: these are the rules in Python"
+# How the line begins by which the launcher says who answers in place of the program, and that of the rules in Python.
+UNPROVED = "jsoncrdt: the rules in Python answer, unproved: "
+IN_PYTHON_SAYS = "oracle/jsoncrdt: these are the rules in Python"
 # Stands in the environment of what a test runs. There ./test runs no tests, which else might go on without end.
 IN_TEST = "JSONCRDT_IN_TEST"
 
@@ -24,32 +23,11 @@ class Wrong(Exception):
     """A case that failed, and what was told."""
 
 
-def made_of(root="."):
-    """The files and folders that the built program is made and proved of. A file that was taken away, or put in place
-    of another, makes its folder newer. Tests are no part of it."""
-    yield "crates.txt"
-    crates = crates_of(stored(os.path.join(root, "crates.txt")))
-    for name in [*below(crates, "jc_app"), "jc_app"]:
-        for part in ("src", "specs", "proofs"):
-            for at, _, files in os.walk(os.path.join(root, "crates", name, part)):
-                at = os.path.relpath(at, root)
-                yield from [at, *(os.path.join(at, file) for file in files if not file.startswith("tests"))]
-
-
-def lack_of_built(root="."):
-    """Why the built program can't be tried, or nothing: it isn't there, or a file that it is made of is newer."""
-    built = os.path.join(root, BUILT)
-    if not os.access(built, os.X_OK):
-        return f"{BUILT} isn't there"
-    newer = (path for path in made_of(root) if os.path.getmtime(os.path.join(root, path)) > os.path.getmtime(built))
-    return next((f"{path} is newer than {BUILT}" for path in newer), "")
-
-
 class Programs:
     """The program that is tried, and the rules in Python for a command that it hasn't."""
 
     def __init__(self):
-        self.lack = lack_of_built()
+        self.lack = lack_of_built(os.curdir)
         self.is_built = not self.lack
         self.program = BUILT if self.is_built else IN_PYTHON
         self.has_view = not self.is_built or run([BUILT, "view", "--help"], BUILT).returncode == 0
@@ -67,9 +45,9 @@ def run(words, program, text="", shell=False, path=None):
 
 
 def told_errors(ended):
-    """What a command told on standard error, but for the line by which the rules in Python say what they are."""
+    """What a command told on standard error, but for the line that says that the rules in Python answer."""
     lines = ended.stderr.decode(errors="replace").splitlines(keepends=True)
-    return "".join(line for line in lines if not line.startswith(UNPROVED))
+    return "".join(line for line in lines if not line.startswith((UNPROVED, IN_PYTHON_SAYS)))
 
 
 def place(path, text):

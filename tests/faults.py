@@ -37,6 +37,9 @@ ROWS = [
     ("tools/shrink " + FIRST + " ./no-such-command", 2, "shrink: ./no-such-command: "),
     ("tools/shrink test true", 1, "shrink: refused "),
     ("tools/make-completions now", 2, "make-completions: "),
+    ("tools/prove now", 2, "prove: "),
+    ("oracle/explain view", 2, "explain: view needs one FILE"),
+    ("oracle/explain view no-such-file", 4, "explain: read failed: no-such-file: "),
     ("oracle/compare x", 2, "compare: argument COUNT"),
     ("oracle/compare -1", 2, "compare: argument COUNT"),
     ("oracle/compare 1 x", 2, "compare: argument FIRST"),
@@ -134,9 +137,10 @@ WRITING = [
     ("./test --help", "test: write failed: "),
 ]
 # Those that ask the program which the variable JSONCRDT names, and the others.
-ASKING = ("tools/lanes", "tools/tree", "tools/shrink", "tools/debug", "examples/engine/compare")
-HELPED = ("tools/make-completions", "oracle/compare", "oracle/selftest", "oracle/adapter", "kit/check", "kit/differs",
-          "kit/make", "kit/table", "./test")
+ASKING = ("tools/lanes", "tools/tree", "tools/shrink", "tools/debug", "tools/why", "tools/fate", "tools/replay",
+          "examples/engine/compare")
+HELPED = ("tools/make-completions", "tools/prove", "oracle/compare", "oracle/selftest", "oracle/adapter", "kit/check",
+          "kit/differs", "kit/make", "kit/table", "./test")
 # A command rt that tells that it was called, so that nothing here can build.
 NO_RT = "#!/bin/sh\necho rt was called >&2\nexit 1\n"
 

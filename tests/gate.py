@@ -9,7 +9,8 @@ import shutil
 import subprocess
 import time
 
-from cases import BUILT, IN_TEST, expect, expect_same, folder_of, lack_of_built, place, stored
+from cases import IN_TEST, expect, expect_same, folder_of, place, stored
+from crates import BUILT, lack_of_built
 
 # A command rt for which an edit comes to what its file has, and a crate isn't proved that has a file `unproved`.
 TRYING = """#!/bin/sh
@@ -74,7 +75,7 @@ def expect_end(folder, words, status, output="", told=""):
 def crates():
     """A folder with three crates, each on the one before, that have edits, and with the script."""
     with folder_of({"rt": TRYING, "dev/more-edits": stored("dev/more-edits")}) as folder:
-        for path in ("dev/crates.py", "oracle/streams.py"):
+        for path in ("tools/crates.py", "oracle/streams.py"):
             write(folder, path, stored(path))
         for path, text in FILES.items():
             write(folder, path, text)

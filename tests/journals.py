@@ -16,7 +16,7 @@ sys.path.append(os.path.join(ROOT, "kit"))
 
 from changes import Journal
 from difference import with_effects
-from faults import fault_case, help_case
+from faults import fault_case
 from fates import fates
 from grammar import read
 from judging import by_rules
@@ -40,43 +40,50 @@ TEN = alone([f'doc.get("m").get("{name}") := {n}' for n, name in enumerate("abcd
 HEADS = alone(["doc := []", 'doc.idx(0) := "h"', 'doc.idx(0).insertAfter({})', 'doc.idx(1).get("a\\"\\u0001") := []'])
 # Elements that are put between two, and behind greater ones.
 BETWEEN = """jsoncrdt 1
-replica p { doc.get("l") := []; let l = doc.get("l"); l.idx(0).insertAfter("a"); yield; l.idx(1).insertAfter("p1"); yield }
+replica p {
+  doc.get("l") := []; let l = doc.get("l"); l.idx(0).insertAfter("a"); yield; l.idx(1).insertAfter("p1"); yield
+}
 replica q { yield; let l = doc.get("l"); l.idx(1).insertAfter("q1"); l.idx(1).insertAfter("q2"); yield }
-schedule { p.exec; p.exec; p.exec; p.send; p.done; q.recv(p); q.apply(1, p); q.apply(2, p); q.done; p.exec; q.exec; q.exec;
-  q.exec; q.send; p.recv(q); p.apply(3, q); p.apply(4, q); p.send; q.recv(p); q.apply(3, p) }"""
+schedule {
+  p.exec; p.exec; p.exec; p.send; p.done; q.recv(p); q.apply(1, p); q.apply(2, p); q.done; p.exec; q.exec; q.exec;
+  q.exec; q.send; p.recv(q); p.apply(3, q); p.apply(4, q); p.send; q.recv(p); q.apply(3, p)
+}"""
 CONFLICT = """jsoncrdt 2 replica p { doc := 1; yield; doc := 3 } replica q { doc := 2; yield }
 given { q.exec; q.send; p.exec; p.send } schedule { p.recv(q); p.apply(1, q); p.done; p.exec }"""
 
-# An example or a scenario, the number of an event (less than 0: of a given one), and its effects, worked out by the rules.
+# An example or a scenario, the number of an event (less than 0: of a given one), and its effects, worked out by hand.
 WORKED = [
     # The value that both knew goes, that of the other replica stays.
     ("one-value", 7, '[{"gained":["2@p"],"key":"doc","map":[{"gained":["2@p"],"key":"\\"key\\"","taken":[["1@p","A"]],'
      '"written":[["2@p","B"]]}]}]'),
-    ("one-value", 13, '[{"gained":["2@q"],"key":"doc","map":[{"gained":["2@q"],"key":"\\"key\\"","written":[["2@q","C"]]}]}]'),
+    ("one-value", 13, '[{"gained":["2@q"],"key":"doc","map":[{"gained":["2@q"],"key":"\\"key\\"",'
+     '"written":[["2@q","C"]]}]}]'),
     # What the maker of {} didn't know, red, isn't among the places.
-    ("emptied-map", 16, '[{"gained":["3@q"],"key":"doc","map":[{"gained":["3@q"],"key":"\\"colors\\"","lost":["1@p","2@p"],'
-     '"map":[{"key":"\\"blue\\"","lost":["2@p"],"shown":false,"taken":[["2@p","#0000ff"]]}]}]}]'),
+    ("emptied-map", 16, '[{"gained":["3@q"],"key":"doc","map":[{"gained":["3@q"],"key":"\\"colors\\"",'
+     '"lost":["1@p","2@p"],"map":[{"key":"\\"blue\\"","lost":["2@p"],"shown":false,"taken":[["2@p","#0000ff"]]}]}]}]'),
     # An element that was deleted is there again; then what the delete knew goes, and the element stays.
-    ("to-do", 19, '[{"gained":["5@q"],"key":"doc","map":[{"gained":["5@q"],"key":"\\"todo\\"","list":[{"gained":["5@q"],'
-     '"key":"2@p","map":[{"gained":["5@q"],"key":"\\"done\\"","shown":true,"written":[["5@q",true]]}],"shown":true}]}]}]'),
+    ("to-do", 19, '[{"gained":["5@q"],"key":"doc","map":[{"gained":["5@q"],"key":"\\"todo\\"","list":['
+     '{"gained":["5@q"],"key":"2@p","map":[{"gained":["5@q"],"key":"\\"done\\"","shown":true,'
+     '"written":[["5@q",true]]}],"shown":true}]}]}]'),
     ("to-do", 20, '[{"key":"doc","map":[{"key":"\\"todo\\"","list":[{"key":"2@p","lost":["2@p","3@p","4@p"],"map":['
-     '{"key":"\\"done\\"","lost":["4@p"]},{"key":"\\"title\\"","lost":["3@p"],"shown":false,"taken":[["3@p","buy milk"]]}]}'
-     ']}]}]'),
+     '{"key":"\\"done\\"","lost":["4@p"]},{"key":"\\"title\\"","lost":["3@p"],"shown":false,'
+     '"taken":[["3@p","buy milk"]]}]}]}]}]'),
     # A new list: its head isn't told. The first element: the link of the head is.
-    (BETWEEN, 1, '[{"gained":["1@p"],"key":"doc","made":["map"],"map":[{"gained":["1@p"],"key":"\\"l\\"","made":["list"],'
-     '"shown":true}],"shown":true}]'),
-    (BETWEEN, 3, '[{"gained":["2@p"],"key":"doc","map":[{"gained":["2@p"],"key":"\\"l\\"","list":[{"key":"head","next":["tail",'
-     '"2@p"]},{"gained":["2@p"],"key":"2@p","made":["register"],"next":[null,"tail"],"shown":true,"written":[["2@p","a"]]}]}'
-     ']}]'),
+    (BETWEEN, 1, '[{"gained":["1@p"],"key":"doc","made":["map"],"map":[{"gained":["1@p"],"key":"\\"l\\"",'
+     '"made":["list"],"shown":true}],"shown":true}]'),
+    (BETWEEN, 3, '[{"gained":["2@p"],"key":"doc","map":[{"gained":["2@p"],"key":"\\"l\\"","list":[{"key":"head",'
+     '"next":["tail","2@p"]},{"gained":["2@p"],"key":"2@p","made":["register"],"next":[null,"tail"],"shown":true,'
+     '"written":[["2@p","a"]]}]}]}]'),
     # Between two elements, and behind two that are greater.
-    (BETWEEN, 13, '[{"gained":["4@q"],"key":"doc","map":[{"gained":["4@q"],"key":"\\"l\\"","list":[{"key":"2@p","next":["3@q",'
-     '"4@q"]},{"gained":["4@q"],"key":"4@q","made":["register"],"next":[null,"3@q"],"shown":true,"written":[["4@q","q2"]]}]'
-     '}]}]'),
-    (BETWEEN, 20, '[{"gained":["3@p"],"key":"doc","map":[{"gained":["3@p"],"key":"\\"l\\"","list":[{"gained":["3@p"],"key":'
-     '"3@p","made":["register"],"next":[null,"tail"],"shown":true,"written":[["3@p","p1"]]},{"key":"3@q","next":["tail",'
-     '"3@p"]}]}]}]'),
+    (BETWEEN, 13, '[{"gained":["4@q"],"key":"doc","map":[{"gained":["4@q"],"key":"\\"l\\"","list":[{"key":"2@p",'
+     '"next":["3@q","4@q"]},{"gained":["4@q"],"key":"4@q","made":["register"],"next":[null,"3@q"],"shown":true,'
+     '"written":[["4@q","q2"]]}]}]}]'),
+    (BETWEEN, 20, '[{"gained":["3@p"],"key":"doc","map":[{"gained":["3@p"],"key":"\\"l\\"","list":[{"gained":["3@p"],'
+     '"key":"3@p","made":["register"],"next":[null,"tail"],"shown":true,"written":[["3@p","p1"]]},{"key":"3@q",'
+     '"next":["tail","3@p"]}]}]}]'),
     # Ten names, and ten identifiers by their counters.
-    (TEN, 11, '[{"key":"doc","map":[{"key":"\\"m\\"","lost":[' + ",".join(f'"{n}@p"' for n in range(1, 11)) + '],"map":['
+    (TEN, 11, '[{"key":"doc","map":[{"key":"\\"m\\"",'
+     '"lost":["1@p","2@p","3@p","4@p","5@p","6@p","7@p","8@p","9@p","10@p"],"map":['
      + ",".join(f'{{"key":"\\"{name}\\"","lost":["{n}@p"],"shown":false,"taken":[["{n}@p",{{"n":"{n}"}}]]}}'
                 for n, name in enumerate("abcdefghij", 1)) + '],"shown":false}]}]'),
     # A delete of what never was makes the maps on its way; the same again finds nothing to change.
@@ -90,14 +97,15 @@ WORKED = [
     # The head of a list, an element that is a map, a name with escapes.
     (HEADS, 2, '[{"gained":["2@p"],"key":"doc","list":[{"gained":["2@p"],"key":"head","made":["register"],"shown":true,'
      '"written":[["2@p","h"]]}]}]'),
-    (HEADS, 3, '[{"gained":["3@p"],"key":"doc","list":[{"key":"head","next":["tail","3@p"]},{"gained":["3@p"],"key":"3@p",'
-     '"made":["map"],"next":[null,"tail"],"shown":true}]}]'),
+    (HEADS, 3, '[{"gained":["3@p"],"key":"doc","list":[{"key":"head","next":["tail","3@p"]},{"gained":["3@p"],'
+     '"key":"3@p","made":["map"],"next":[null,"tail"],"shown":true}]}]'),
     (HEADS, 4, '[{"gained":["4@p"],"key":"doc","list":[{"gained":["4@p"],"key":"3@p","map":[{"gained":["4@p"],"key":'
      '"\\"a\\\\\\"\\\\u0001\\"","made":["list"],"shown":true}]}]}]'),
     # A given event; two values that go at once.
     (CONFLICT, -3, '[{"gained":["1@p"],"key":"doc","made":["register"],"shown":true,"written":[["1@p",{"n":"1"}]]}]'),
     (CONFLICT, 2, '[{"gained":["1@q"],"key":"doc","written":[["1@q",{"n":"2"}]]}]'),
-    (CONFLICT, 4, '[{"gained":["2@p"],"key":"doc","taken":[["1@p",{"n":"1"}],["1@q",{"n":"2"}]],"written":[["2@p",{"n":"3"}]]}]'),
+    (CONFLICT, 4, '[{"gained":["2@p"],"key":"doc","taken":[["1@p",{"n":"1"}],["1@q",{"n":"2"}]],'
+     '"written":[["2@p",{"n":"3"}]]}]'),
 ]
 
 # Wrong bodies: what is wrong, the file in oracle/, a text that stands there once, and what comes in its place.
@@ -125,7 +133,8 @@ class Keeper(Writer):
         of, number = self.random.choice, self.random.choice([1, 1, 2, 3])
         element, kept = ("idx", ("get", ("doc",), b"a"), number), ("variable", of([b"x", b"y"]))
         return of([("let", kept[1], element), ("let", kept[1], element), ("delete", element), ("delete", kept),
-                   ("insert", kept, self.value()), ("assign", ("get", kept, b"b"), self.value()), ("assign", kept, self.value())])
+                   ("insert", kept, self.value()), ("assign", ("get", kept, b"b"), self.value()),
+                   ("assign", kept, self.value())])
 
 
 def scenarios():
@@ -212,9 +221,10 @@ replica ben { yield; doc.get("items").idx(1).delete; yield; }
 replica cat { yield; doc.get("items").idx(1).get("done") := true; yield; }
 given { ann.exec; ann.exec; ann.exec; ann.send; ann.done; }
 schedule {
-  ann.exec; ann.send; cat.recv(ann); cat.apply(1, ann); cat.apply(2, ann); cat.apply(3, ann); cat.apply(4, ann); cat.done;
-  cat.exec; cat.send; ben.recv(ann); ben.apply(1, ann); ben.apply(2, ann); ben.apply(3, ann); ben.apply(4, ann); ben.done;
-  ben.exec; ben.send; cat.recv(ben); cat.apply(5, ben); ann.recv(cat); ann.apply(5, cat); ann.recv(ben);
+  ann.exec; ann.send; cat.recv(ann); cat.apply(1, ann); cat.apply(2, ann); cat.apply(3, ann); cat.apply(4, ann);
+  cat.done; cat.exec; cat.send; ben.recv(ann); ben.apply(1, ann); ben.apply(2, ann); ben.apply(3, ann);
+  ben.apply(4, ann); ben.done; ben.exec; ben.send; cat.recv(ben); cat.apply(5, ben); ann.recv(cat); ann.apply(5, cat);
+  ann.recv(ben);
 }
 """
 TEXT, MARK = 'doc.get("items").idx(1).get("text")', 'doc.get("items").idx(1).get("done")'
@@ -236,12 +246,14 @@ cat: doc/"items"/2@ann/"text"
 "number":17,"place":"doc/\"items\"/2@ann/\"text\"","replica":"ben"}
 
 {"by":{"command":"doc.get(\"items\").idx(1).get(\"text\") := \"oat milk\"","event":"ann.exec","id":"4@ann","number":1,
-"replica":"ann"},"effect":{"gained":["4@ann"],"key":"\"text\"","taken":[["3@ann","milk"]],"written":[["4@ann","oat milk"]]},
-"event":"ben.apply(4, ann)","number":15,"place":"doc/\"items\"/2@ann/\"text\"","replica":"ben"}
+"replica":"ann"},"effect":{"gained":["4@ann"],"key":"\"text\"","taken":[["3@ann","milk"]],
+"written":[["4@ann","oat milk"]]},"event":"ben.apply(4, ann)","number":15,
+"place":"doc/\"items\"/2@ann/\"text\"","replica":"ben"}
 
 {"by":{"command":"doc.get(\"items\").idx(1).get(\"text\") := \"milk\"","event":"ann.exec","given":true,"id":"3@ann",
 "number":3,"replica":"ann"},"effect":{"gained":["3@ann"],"key":"\"text\"","made":["register"],"shown":true,
-"written":[["3@ann","milk"]]},"event":"ben.apply(3, ann)","number":14,"place":"doc/\"items\"/2@ann/\"text\"","replica":"ben"}
+"written":[["3@ann","milk"]]},"event":"ben.apply(3, ann)","number":14,"place":"doc/\"items\"/2@ann/\"text\"",
+"replica":"ben"}
 """),
     # Each replica for itself.
     (LOST, [MARK], """\
@@ -281,6 +293,58 @@ q: doc/"l"
   event 7 q.apply(1, p), 1@p, which event 1 p.exec made: doc.get("l") := []
     doc/"l" is made a list, appears
 """),
+    # What is lost without a value, and nothing comes for it.
+    ("to-do", ['doc/"todo"/2@p', "--replica", "q"], """\
+q: doc/"todo"/2@p
+  event 20 q.apply(5, p), 5@p, which event 13 p.exec made: doc.get("todo").idx(1).delete
+    doc/"todo"/2@p is no longer kept by 2@p 3@p 4@p
+    doc/"todo"/2@p/"done" is no longer kept by 4@p
+    doc/"todo"/2@p/"title" loses 3@p "buy milk", vanishes
+  event 14 q.exec, 5@q: doc.get("todo").idx(1).get("done") := true
+    doc/"todo"/2@p/"done" loses 4@p false, gets 5@q true
+  event 11 q.apply(4, p), 4@p, which event 4 p.exec made: doc.get("todo").idx(1).get("done") := false
+    doc/"todo"/2@p/"done" gets 4@p false, appears
+  event 10 q.apply(3, p), 3@p, which event 3 p.exec made: doc.get("todo").idx(1).get("title") := "buy milk"
+    doc/"todo"/2@p/"title" gets 3@p "buy milk", appears
+  event 9 q.apply(2, p), 2@p, which event 2 p.exec made: doc.get("todo").idx(0).insertAfter({})
+    doc/"todo"/2@p is made a map, is put last, appears
+"""),
+    # What has a word of its own isn't said twice: a value that is gone, and the operation that kept the place for it.
+    (DELETES, ["doc"], """\
+p: doc
+  event 6 p.exec, 6@p: doc.delete
+    doc loses 5@p 6, vanishes
+  event 5 p.exec, 5@p: doc := 6
+    doc gets 5@p 6
+  event 4 p.exec, 4@p: doc := {}
+    doc loses 3@p 5
+  event 3 p.exec, 3@p: doc := 5
+    doc gets 3@p 5, appears
+  event 1 p.exec, 1@p: doc.get("x").get("y").delete
+    doc is made a map
+    doc/"x" is made a map
+"""),
+    # An empty map over one that was emptied; then one over another that its maker didn't know.
+    (alone(['doc.get("m") := {}', 'doc.get("m").get("x") := 1', 'doc.get("m").get("x").delete', 'doc.get("m") := {}']),
+     ['doc.get("m")'], """\
+p: doc/"m"
+  event 4 p.exec, 4@p: doc.get("m") := {}
+    doc/"m" is kept by 4@p, and no longer by 1@p 2@p
+  event 3 p.exec, 3@p: doc.get("m").get("x").delete
+    doc/"m"/"x" loses 2@p 1, vanishes
+  event 2 p.exec, 2@p: doc.get("m").get("x") := 1
+    doc/"m"/"x" gets 2@p 1, appears
+  event 1 p.exec, 1@p: doc.get("m") := {}
+    doc/"m" is made a map, appears
+"""),
+    ("jsoncrdt 1 replica p {doc := {}; yield} replica q {doc := {}; yield} "
+     "schedule {p.exec; q.exec; q.send; p.recv(q); p.apply(1, q)}", ["doc", "--replica", "p"], """\
+p: doc
+  event 5 p.apply(1, q), 1@q, which event 2 q.exec made: doc := {}
+    doc is kept by 1@q, too
+  event 1 p.exec, 1@p: doc := {}
+    doc is made a map, appears
+"""),
     ("emptied-map", ['doc/"colors"', "--replica", "q"], """\
 q: doc/"colors"
   event 18 q.apply(3, p), 3@p, which event 9 p.exec made: doc.get("colors").get("red") := "#ff0000"
@@ -288,7 +352,7 @@ q: doc/"colors"
   event 11 q.exec, 4@q: doc.get("colors").get("green") := "#00ff00"
     doc/"colors"/"green" gets 4@q "#00ff00", appears
   event 10 q.exec, 3@q: doc.get("colors") := {}
-    doc/"colors" is no longer kept by 1@p 2@p
+    doc/"colors" is kept by 3@q, and no longer by 1@p 2@p
     doc/"colors"/"blue" loses 2@p "#0000ff", vanishes
   event 7 q.apply(2, p), 2@p, which event 2 p.exec made: doc.get("colors").get("blue") := "#0000ff"
     doc/"colors"/"blue" gets 2@p "#0000ff", appears
@@ -377,9 +441,11 @@ FATES = [
 
 
 def lines_of(text):
-    """A text of lines, as it is written here: of JSON each line is broken at places that no blank has, a blank line behind
-    it."""
-    return "".join(line.replace("\n", "") + "\n" for line in text.strip("\n").split("\n\n")) if text[0] == "\n" else text
+    """A text that a tool tells, as it is written here. Where an empty line is first it has lines of JSON, each broken
+    into some, with an empty line between two."""
+    if text[0] != "\n":
+        return text
+    return "".join(line.replace("\n", "") + "\n" for line in text.strip("\n").split("\n\n"))
 
 
 def tool_case(tool, example, words, status, told):
@@ -398,7 +464,8 @@ def answers_at_once(_):
     with tempfile.NamedTemporaryFile("w", encoding="utf-8") as file:
         file.write(LOST)
         file.flush()
-        with subprocess.Popen(["tools/why", file.name, TEXT], stdout=subprocess.DEVNULL, stderr=subprocess.DEVNULL) as process:
+        words, nowhere = ["tools/why", file.name, TEXT], subprocess.DEVNULL
+        with subprocess.Popen(words, stdout=nowhere, stderr=nowhere) as process:
             _, status, usage = os.wait4(process.pid, 0)
             process.returncode = os.waitstatus_to_exitcode(status)
     seconds = usage.ru_utime + usage.ru_stime
@@ -422,8 +489,8 @@ def elements(context):
 
 
 def shown(content, context, place):
-    """What a document shows at a place and below it, each as its place with the identifier of a value, or with map or list.
-    The identifiers are those of the dump, in which the context is."""
+    """What a document shows at a place and below it: each thing with its place, a value by its identifier, which the
+    context of the dump has, a map or a list by this word."""
     key, parts = place[-1], parts_of(content)
     if "values" in parts:
         yield from ((place, identifier) for identifier in context[f"regT({key})"])
@@ -451,20 +518,20 @@ def is_view(_):
     """What a fate tells to be visible is what `view` shows: each value, and of maps and lists those that are there."""
     count = 0
     for text in [*map(stored, scenarios()), *random_texts()]:
-        views, dumps = ([json.loads(line) for line in by_rules([command], text.encode())[0].decode().split("\n") if line[:1] == "{"]
-                        for command in ("view", "run"))
+        told = [by_rules([command], text.encode())[0].decode().split("\n") for command in ("view", "run")]
+        views, dumps = ([json.loads(line) for line in lines if line[:1] == "{"] for lines in told)
         for view, dump in zip(views, dumps, strict=True):
-            told = {*visible(Journal(text), view["name"])}
+            got = {*visible(Journal(text), view["name"])}
             want = {*shown(view["doc"], dump["tree"], ("doc",))} if "doc" in view else set()
             values = {each for each in want if each[1] not in ("map", "list")}
-            expect(values <= told <= want, f"{text}\n{view['name']}: {sorted(told ^ want)}")
-            count += len(told)
+            expect(values <= got <= want, f"{text}\n{view['name']}: {sorted(got ^ want)}")
+            count += len(got)
     expect(count > 1000, f"{count} visible things are few")
 
 
 # ---- replay
 
-# A log of an engine that has identifiers of its own: an element is named by its maker's replica after it was deleted there.
+# A log of an engine that has identifiers of its own. An element is named by b where it is deleted already.
 FOREIGN = r"""
 {"kind":"exec","replica":"a","op":{"id":"list 1","cursor":["mapT(doc)","\"l\""],"mutation":"assign","value":[]}}
 {"kind":"note","replica":"a","text":"left aside"}
@@ -540,11 +607,12 @@ NOT_REPLAYED = [
     ([line("a", "1@a", ["doc"]), applied("b", "1@a"), applied("b", "1@a")], 3, "before line 3: 35 AlreadyApplied"),
     ([line("a", "1@a", ["doc"]), applied("a", "1@a")], 3, "before line 2: 35 AlreadyApplied"),
     ([line("a", "1@a", ["doc"]), line("a", "2@a", ["doc"]), applied("b", "2@a")], 3, "before line 3: 36 DepsMissing"),
-    ([line("a", "1@a", ["doc"], deps={"b": 1})], 3, "before line 1: 1@a depends on {'b': 1}, and a has applied {}"),
+    ([line("a", "1@a", ["doc"], deps={"b": 1})], 3, "before line 1: 1@a depends on {'b': 1}, and a applied {}"),
     ([line("a", "1@a", ["doc"], mutation="insert")], 3, "before line 1: 20 NotInList"),
     ([line("a", "1@a", ELEMENT)], 3, "before line 1: there is no element 2@a"),
     ([line("a", "1@a", HEAD)], 3, "before line 1: 25 NoSuchNode"),
-    ([line("a", "1@a", ["doc"], value=[]), line("a", "2@a", ["doc"]), line("a", "3@a", ELEMENT)], 3, "before line 3: 26 PastEnd"),
+    ([line("a", "1@a", ["doc"], value=[]), line("a", "2@a", ["doc"]), line("a", "3@a", ELEMENT)], 3,
+     "before line 3: 26 PastEnd"),
     (['{"kind":"exec","replica":"a","stuck":30}'], 3, "the scenario ends before line 1, which is stuck"),
 ]
 
@@ -598,7 +666,8 @@ EFFECTS = "oracle/jsoncrdt journal --effects - 2>/dev/null"
 JUDGED = [
     ("both-append", EFFECTS, ""),
     ("both-append", EFFECTS + """ | sed 's/"command".*"effects"/"effects"/; s/^{"event".*//'""", ""),
-    ("both-append", EFFECTS + """ | sed 's/"shown":true,//'""", "the effects of event 2 ann.exec differ at /0/map/0/list/1/shown\n"),
+    ("both-append", EFFECTS + """ | sed 's/"shown":true,//'""",
+     "the effects of event 2 ann.exec differ at /0/map/0/list/1/shown\n"),
     ("both-append", EFFECTS + """ | sed 's/,{"key":"3@ben","next":[^}]*}//'""",
      "the effects of event 16 ben.apply(3, ann) differ at /0/map/0/list/1\n"),
     ("answer-before-question", EFFECTS + " | sed 's/written/taken/'", "the effects of given event "),
@@ -619,7 +688,8 @@ ROWS = [
     ("tools/why " + FIRST + " doc --at 2", 2, "why: the schedule has 1 events"),
     ("tools/why " + FIRST + " doc --at x", 2, "why: argument --at: "),
     ("tools/why " + FIRST + " 'doc/'", 2, "why: doc/ is neither a place nor an expression: 1 BadByte at 3"),
-    ("tools/why " + FIRST + " 'doc.get(1)'", 2, "why: doc.get(1) is neither a place nor an expression: 7 Unexpected at 8"),
+    ("tools/why " + FIRST + " 'doc.get(1)'", 2,
+     "why: doc.get(1) is neither a place nor an expression: 7 Unexpected at 8"),
     ("tools/why " + FIRST + " 'doc.keys'", 2, "why: doc.keys is no place at a: 24 NotACursor"),
     ("tools/why " + FIRST + " 'x.get(\"a\")'", 2, "why: x.get(\"a\") is no place at a: 22 UnboundVariable"),
     ("tools/why " + FIRST + " 'doc.idx(1)'", 2, "why: doc.idx(1) is no place at a: 25 NoSuchNode listT(doc)"),
@@ -629,18 +699,21 @@ ROWS = [
     ("tools/why " + FIRST + " 'doc/\"b\"'", 2, "why: no event changed doc/\"b\""),
     ("tools/why examples/stuck.jsoncrdt doc >/dev/null", 3, "why: event 13 q.exec is stuck: 26 PastEnd"),
     (GIVEN_STUCK + "tools/why - doc >/dev/null", 3, "why: given event 2 a.exec is stuck: 30 NoCommand"),
-    (GIVEN_STUCK + "tools/why - 'doc/\"a\"'", 3, "why: no event changed doc/\"a\"; given event 2 a.exec is stuck: 30 NoCommand"),
+    (GIVEN_STUCK + "tools/why - 'doc/\"a\"'", 3,
+     "why: no event changed doc/\"a\"; given event 2 a.exec is stuck: 30 NoCommand"),
     ("tools/fate", 2, "fate: the following arguments are required: FILE"),
     ("tools/fate no-such-file", 4, "fate: read failed: no-such-file: "),
     ("tools/fate test", 1, "fate: refused "),
     ("tools/fate " + FIRST + " 2@a", 2, "fate: no operation 2@a was made"),
     ("tools/fate examples/stuck.jsoncrdt >/dev/null", 3, "fate: event 13 q.exec is stuck: 26 PastEnd"),
-    (GIVEN_STUCK + "tools/fate - 2@a", 3, "fate: no operation 2@a was made; given event 2 a.exec is stuck: 30 NoCommand"),
+    (GIVEN_STUCK + "tools/fate - 2@a", 3,
+     "fate: no operation 2@a was made; given event 2 a.exec is stuck: 30 NoCommand"),
     ("tools/replay", 2, "replay: the following arguments are required: JOURNAL"),
     ("tools/replay no-such-file", 4, "replay: read failed: no-such-file: "),
     ("oracle/jsoncrdt journal " + FIRST + " 2>/dev/null | tools/replay - --ids /no/such/file >/dev/null", 4,
      "replay: write failed: /no/such/file: "),
-    ("oracle/compare --effects --program /bin/true 1", 2, "compare: argument --program: not allowed with argument --effects"),
+    ("oracle/compare --effects --program /bin/true 1", 2,
+     "compare: argument --program: not allowed with argument --effects"),
     ("kit/check --effects --dumps true", 2, "check: argument --dumps: not allowed with argument --effects"),
     ("kit/check --ops --dumps true", 2, "check: argument --ops: not allowed with argument --dumps"),
 ]
@@ -692,4 +765,3 @@ def journals():
     for line, told in WRITING:
         yield fault_case(line + " >/dev/full", 4, told)
         yield fault_case(line + " >&-", 4, told)
-    yield from map(help_case, ("tools/why", "tools/fate", "tools/replay"))

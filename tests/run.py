@@ -12,7 +12,7 @@ import sys
 import tempfile
 
 ROOT = os.path.dirname(os.path.dirname(os.path.abspath(__file__)))
-sys.path += [os.path.join(ROOT, folder) for folder in ("tools", "oracle", "dev")]
+sys.path += [os.path.join(ROOT, folder) for folder in ("tools", "oracle")]
 # What is wrong is told by the name of the script that starts this.
 sys.argv[0] = os.path.join(ROOT, "test")
 
@@ -30,6 +30,8 @@ from grammar import EVENTS, RESERVED
 from journals import journals
 from kit import kit
 from lanes import lanes
+from launching import launching
+from messages import messages
 from read_back import pictures_read_back
 from scripts import scripts
 from terminal import terminal
@@ -44,9 +46,9 @@ Runs what needs no proof: blocks of the documents, examples, tools, scripts, the
 Python. It proves nothing; the gate, rt ci, does that. The last line is `N passed, M failed`, and the status is 1 where
 one failed. What needs the built program, or a command that isn't there, is skipped, and counted on the line before."""
 WORDS = """\
-With words, what has one of them in its name: examples, README, docs, pages, tools, pictures, faults, launcher, edits,
-more-edits, gate, architecture, process, arguments, editors, debug, kit, oracle, or a part of a file's name or of a
-command."""
+With words, what has one of them in its name: examples, README, docs, pages, tools, pictures, faults, launcher, messages,
+edits, more-edits, gate, architecture, process, arguments, editors, debug, kit, oracle, or a part of a file's name or of
+a command."""
 
 
 def block_case(command):
@@ -56,7 +58,7 @@ def block_case(command):
         if "jsoncrdt threads" in command.text and not programs.is_built:
             raise NotTried("the built program")
         program = programs.of(command.text)
-        text = re.sub(r"(?<!\S)\./jsoncrdt\b", program, command.text)
+        text = re.sub(r"(?<!\S)\./jsoncrdt\b(?! --explain)", program, command.text)
         ended = run(text, program, command.input, shell=True)
         fault = command.fault(ended.returncode, ended.stdout.decode(errors="replace"), told_errors(ended))
         expect(not fault, fault)
@@ -290,7 +292,9 @@ def editors():
     yield ends_well(["bash", "-n", "completions/jsoncrdt.bash"])
     yield ends_well(["groff", "-man", "-ww", "-z", "completions/jsoncrdt.1"])
     yield completed_case(["jsoncrdt", "r"], "run")
-    yield completed_case(["jsoncrdt", "-"], "-h --help -V --version")
+    yield completed_case(["jsoncrdt", "-"], "-h --help -V --version --explain --unproved --prove")
+    yield completed_case(["jsoncrdt", "--explain", "r"], "run")
+    yield completed_case(["jsoncrdt", "--unproved", "--explain", "view", "-"], "--at -h --help")
     yield completed_case(["jsoncrdt", "view", "-"], "--at -h --help")
     yield completed_case(["jsoncrdt", "journal", "-"], "--trace -h --help")
     yield completed_case(["jsoncrdt", "run", "examples/tw"], "examples/two-lists.jsoncrdt examples/two-types.jsoncrdt")
@@ -347,8 +351,8 @@ def main():
         print(f"FAILED test: {programs.lack}\n0 passed, 1 failed")
         return 1
     cases = [*examples(asked.write), *blocks(), *pages(), *tools(asked.write), *pictures_read_back(), *lanes(), *faults(),
-             *scripts(), *edits(), *architecture(), *process(), *arguments(), *editors(), *terminal(), *kit(),
-             *journals()]
+             *scripts(), *edits(), *architecture(), *launching(), *messages(), *process(), *arguments(), *editors(),
+             *terminal(), *kit(), *journals()]
     cases = chosen_of(cases, asked.words)
     if IN_TEST in os.environ:
         streams.stop("a test runs no tests")

@@ -20,16 +20,16 @@ from cases import IN_PYTHON, expect, expect_same, folder_of, run, stored
 
 from asking import Scenario
 from commands import COMMANDS
-from layout import laid_out, read_json, runs_of
+from layout import WIDTH, laid_out, read_json, runs_of
 from positions import InPython, Positions
 from predicates import KINDS, predicate_of
 from program import command_line
-from sentences import sentence_of
+from sentences import SENTENCES
 from texts import REFUSALS
 
 TO_DO, FIRST = "examples/to-do.jsoncrdt", "examples/first.jsoncrdt"
 STUCK, ANSWER = "examples/out-of-order.jsoncrdt", "examples/answer-first.jsoncrdt"
-SECONDS = 60
+SECONDS = 120
 CTRL_C, CTRL_D, UP, CLEAR_LINE = "\x03", "\x04", "\x1b[A", "\x15"
 # Takes the terminal that is its standard input, so that Ctrl-C there is a signal, and goes on as the command.
 STARTER = "import fcntl, os, sys, termios; fcntl.ioctl(0, termios.TIOCSCTTY, 0); os.execvp(sys.argv[1], sys.argv[1:])"
@@ -119,12 +119,13 @@ TYPED = [
     ("b until shows nothing\n", "(19/20) ", "at no earlier position, still at 19"),
     ("view\n", "(19/20) ", "p  {\"todo\": [{\"done\": true}]}\nq  "),
     ("l\n", "(19/20) ", "-> 19 p.apply(5, q)  applies 5@q"),
-    ("next\n", "(19/20) ", "refused 58 BadLine\n  There is no such line."),
-    ("step x\n", "(19/20) ", "refused 58 BadLine\n  There is no such line.\n  step [N]"),
+    ("next\n", "(19/20) ", "refused 58 BadLine\n  There is no such line: "),
+    ("step x\n", "(19/20) ", "refused 58 BadLine\n  There is no such line: `debug --help` lists those that there are.\n"
+     "  step [N]"),
     ("st\n", "(19/20) ", "st begins step and state"),
     ("step 2\n", "(19/20) ", "refused 51 AtEnd\n  There are fewer events left"),
     ("act p.exit\n", "(19/20) ", "refused 7 Unexpected at 2\n  p.exit\n    ^"),
-    ("act q.apply(5, q)\n", "(19/20) ", "stuck 34 NotReceived q.apply(5, q)\n  The operation isn't among those"),
+    ("act q.apply(5, q)\n", "(19/20) ", "stuck 34 NotReceived q.apply(5, q)\n  The operation isn't there"),
     ("act p.recv(q)\n", "(20/20) ", "20 p.recv(q)  gets from q: nothing new"),
     ("help until\n", "(20/20) ", "shows TEXT"),
 ]
@@ -289,7 +290,7 @@ def is_laid_out(programs):
         state, traces = re.fullmatch(r"((?:.*\n)*\}\n)((?:.*\n)*)", rest).groups()
         texts = re.findall(r"^\{$.*?^\}$|^\{.*\}$", state, re.MULTILINE | re.DOTALL)
         expect([json.loads(text) for text in texts] == [json.loads(line) for line in raw.splitlines()], state)
-        expect(max(map(len, state.splitlines())) <= 100, state)
+        expect(max(map(len, state.splitlines())) <= WIDTH, state)
         if traces != "start\nstart\n":
             _, rows, again = re.split(r"^event .*\n", traces, flags=re.MULTILINE)
             expect_same(re.sub(r" {2,}(\d+)  +", r"\1 ", again), rows)
@@ -389,8 +390,8 @@ PIPED = [
     (STUCK, ["until stuck"], """\
 at 13
 stuck 36 DepsMissing r.apply(2, q)
-  An operation depends on all that its maker had applied when it made it, and these have to be
-  applied before.
+  An operation is applied after all that its maker had applied when it made it:
+  apply these before.
   missing: 1@p
   13 r.apply(1, q)  applies 1@q  doc.get("author") := "Ada"
 """),
@@ -404,7 +405,8 @@ at 12
   12 r.recv(q)  gets from q: 1@q 2@q
 at 12
 stuck 34 NotReceived r.apply(9, q)
-  The operation isn't among those received; or, of a `take`, the other replica doesn't offer it.
+  The operation isn't there to be applied or taken: its maker has to `send` it,
+  and this replica to `recv` or `take` it, before.
   offered by: none
 """),
     (FIRST, ["until", "until what", "until shows", "until diverge x", "back until"], f"""\
@@ -420,7 +422,8 @@ at 1
 at 0
   the start
 refused 50 AtStart
-  There are fewer events to take back.
+  There are fewer events to take back: `where` shows the position, and `goto 0`
+  goes to the start.
 a  no document
 """),
     (FIRST, ["breaks", "br", "back until break", "break at 1", "unbreak 1", "breaks"], """\
@@ -463,9 +466,8 @@ def piped_case(file, lines, wanted):
 def sentences_are_there(_):
     """Each refusal that a session or an event has, has its sentence."""
     numbers = [number for number in REFUSALS if number not in (37, 39)]
-    lacking = [number for number in numbers if not re.fullmatch(r".{10,}\.", sentence_of(number))]
+    lacking = [number for number in numbers if not re.fullmatch(r".{10,}\.", SENTENCES.get(number, ""))]
     expect(not lacking, f"no sentence for {lacking}")
-    expect_same(sentence_of(50), "There are fewer events to take back.")
 
 
 def page_has_commands(_):
@@ -508,6 +510,6 @@ def terminal():
     yield from itertools.starmap(piped_case, PIPED)
     yield "debug: sentences", sentences_are_there
     yield "debug: commands in docs/DEBUGGER.md", page_has_commands
-    yield dying_case("kill -9 $$", "was killed by SIGKILL", 4)
+    yield dying_case("kill -9 $$", "was killed by signal 9", 4)
     yield dying_case("exit 5", "ended with 5", 5)
     yield dying_case("exit 0", "ended with 0", 4)

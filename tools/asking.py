@@ -8,8 +8,10 @@ import sys
 import tempfile
 import textwrap
 
+import crates
+
 ROOT = os.path.dirname(os.path.dirname(os.path.abspath(__file__)))
-BUILT = os.path.join(ROOT, "crates", "jc_app", "out", "jc_app")
+BUILT = os.path.join(ROOT, crates.BUILT)
 IN_PYTHON = os.path.join(ROOT, "oracle", "jsoncrdt")
 sys.path.append(os.path.join(ROOT, "oracle"))
 

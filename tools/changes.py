@@ -1,5 +1,5 @@
-"""What events changed at which places of a document, by the effects in the journal of a scenario. tools/why and tools/fate
-are made of this, and it has what a debugger needs that goes on until a place changes.
+"""What events changed at which places of a document, by the effects in the journal of a scenario. tools/why and
+tools/fate are made of this, and it has what a debugger needs that goes on until a place changes.
 
 A place is the tuple of the keys that lead to it, as they are written in effects: ("doc", '"items"', "3@ann", '"text"').
 Its text has `/` between them.
@@ -53,8 +53,8 @@ class Journal:
         self.made = {line["op"]["id"]: line for line in self.lines if line["kind"] == "exec" and "op" in line}
 
     def place(self, text, name, position=None):
-        """The place that a text leads to: a place, or an expression. That is evaluated at the replica, after so many events
-        of the schedule or after all."""
+        """The place that a text leads to: a place, or an expression. That is evaluated at the replica, after so many
+        events of the schedule or after all."""
         try:
             return read_place(text) if PLACE.fullmatch(text) else self.evaluated(text.encode(), name, position)
         except UnicodeEncodeError as error:
@@ -63,13 +63,15 @@ class Journal:
     def evaluated(self, text, name, position):
         expression, fault = read_expression(text)
         if fault:
-            raise NoPlace(f"{text.decode()} is neither a place nor an expression: {fault[1]} {REFUSALS[fault[1]]} at {fault[0]}")
+            why = f"{fault[1]} {REFUSALS[fault[1]]} at {fault[0]}"
+            raise NoPlace(f"{text.decode()} is neither a place nor an expression: {why}")
         texts = Texts(self.parsed.names)
         try:
             path, last = cursor_of(self.network(position)[self.names.index(name)], expression, 0, [])
         except Stuck as stuck:
             key = f" {texts.tagged(stuck.key).decode()}" if stuck.key else ""
-            raise NoPlace(f"{text.decode()} is no place at {name}: {stuck.number} {REFUSALS[stuck.number]}{key}") from stuck
+            why = f"{stuck.number} {REFUSALS[stuck.number]}{key}"
+            raise NoPlace(f"{text.decode()} is no place at {name}: {why}") from stuck
         return tuple(texts.key(key).decode() for key in (*(key for _, key in path), last))
 
     def network(self, position):
@@ -169,10 +171,12 @@ def clauses(effect):
     if "shown" in effect:
         return said + ["appears" if effect["shown"] else "vanishes"]
     taken = [i for i, _ in effect.get("taken", ())]
-    lost = [i for i in effect.get("lost", ()) if i not in taken]
-    said += [f"is no longer kept by {' '.join(lost)}"] if lost else []
-    is_whole = not said and "map" not in effect and "list" not in effect
-    return [f"is kept by {' '.join(effect['gained'])}, too"] if is_whole and "gained" in effect else said
+    lost = " ".join(i for i in effect.get("lost", ()) if i not in taken)
+    gained = " ".join(effect.get("gained", ()))
+    if lost:
+        return said + [f"is kept by {gained}, and no longer by {lost}" if gained else f"is no longer kept by {lost}"]
+    is_all = not said and "map" not in effect and "list" not in effect
+    return [f"is kept by {gained}, too"] if gained and is_all else said
 
 
 def sentences(change):

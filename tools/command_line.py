@@ -1,7 +1,7 @@
 """The command line of `jsoncrdt` as a table, from which tools/make-completions makes the completions and the man page.
 
 ./test compares it with the program's own definition, in crates/jc_cli. What a command does besides (`more`), the
-command help and status 127 stand here alone.
+command help, the words of the launcher and status 127 stand here alone.
 """
 
 from collections import namedtuple
@@ -14,6 +14,11 @@ ABOUT = ("A command machine and time-travelling debugger for the JSON CRDT of Kl
 HELP = Option("--help", "-h", about="Print help")
 VERSION = Option("--version", "-V", about="Print version")
 HELP_COMMAND = "help", "Print the help of the program, or of a command"
+# Words of the launcher, before a command; --prove is alone.
+EXPLAIN = Option("--explain", about="Tell besides, on standard error, why a text is refused or an event stuck, as is "
+                 "told in a terminal")
+UNPROVED = Option("--unproved", about="Build the program without its proofs, and run it, once")
+PROVE = Option("--prove", about="Prove and build the program, and print its path")
 COMMANDS = [
     Command("check", [],
             "Tell whether a text is a scenario, and how many replicas, commands and events it has",
@@ -64,5 +69,6 @@ STATUSES = [
     (3, "an event was stuck, since no rule allows it; a line says why"),
     (4, "a read or a write failed, or a session had too many lines"),
     (5, "there was no memory, or a thread could not be made"),
-    (127, "the launcher could not build the program"),
+    (127, "the program could not be built, or is needed for threads and not built, or there is no python3 in its "
+          "place"),
 ]

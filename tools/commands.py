@@ -265,21 +265,21 @@ COMMANDS = {command.name: command for command in (
     Command("step", move, {"step [N]": "executes the next event, or the next N"}, ("s",), True),
     Command("back", back, {
         "back [N]": "takes the last event back, or the last N",
-        "back until PREDICATE": "goes back to the nearest position at which it holds",
+        "back until PREDICATE": "goes back to the nearest position where it holds",
         "back until break": "goes back to where `run` would have stopped last",
     }, ("b",), True, offer_back, predicates),
-    Command("goto", move, {"goto N": "goes to the position after N events; 0 is the start"}, ("g",), True),
+    Command("goto", move, {"goto N": "goes to the position after N events"}, ("g",), True),
     Command("run", move, {"run": "goes on to a breakpoint, a stuck event or the end"}, ("r",), True),
-    Command("until", until, {"until PREDICATE": "goes on to the nearest position at which it holds"}, ("u",), True,
+    Command("until", until, {"until PREDICATE": "goes on to the nearest position where it holds"}, ("u",), True,
             offer_predicates, predicates),
     Command("break", set_breakpoint, {
         "break at N": "makes `run` stop at position N",
-        "break rule RULE": "makes `run` stop behind each event that used the rule",
-        "break replica NAME": "makes `run` stop behind each event of the replica",
+        "break rule RULE": "makes `run` stop behind each event that used it",
+        "break replica NAME": "makes `run` stop behind each event of it",
     }, ("br",), False, offer_breaks),
     Command("unbreak", clear_breakpoint, {"unbreak K": "clears a breakpoint"}, (), False, offer_numbers),
     Command("breaks", list_breakpoints, {"breaks": "lists the breakpoints"}),
-    Command("list", list_events, {"list [N]": "shows the events around the position, or around event N"}, ("l",)),
+    Command("list", list_events, {"list [N]": "shows the events around here, or around event N"}, ("l",)),
     Command("view", view, {"view [NAME] [--raw]": "shows the documents as an application sees them"}, ("v",), False,
             offer_shown),
     Command("state", state, {"state [NAME] [--raw]": "shows the whole state of each replica, or of one"}, (), False,
@@ -287,9 +287,9 @@ COMMANDS = {command.name: command for command in (
     Command("trace", trace, {"trace [--raw]": "shows the rules of the event that led here"}, ("t",), False,
             lambda _debugger, _words: [RAW]),
     Command("enabled", pass_on, {"enabled": "lists the events that could be executed here"}, ("e",)),
-    Command("act", act, {"act EVENT": "executes this event, and cuts off the rest of the schedule, for good"}, ("a",),
+    Command("act", act, {"act EVENT": "executes this event; cuts the rest off for good"}, ("a",),
             False, offer_events),
-    Command("compare", pass_on, {"compare NAME NAME": "says whether two replicas have applied the same operations"},
+    Command("compare", pass_on, {"compare NAME NAME": "says whether both have applied the same operations"},
             ("c",), False, offer_names),
     Command("schedule", pass_on, {"schedule": "lists the events of the schedule"}),
     Command("where", pass_on, {"where": "says the position, and how many events there are"}, ("w",)),
@@ -314,4 +314,4 @@ def table():
         shorts = itertools.chain([", ".join(command.shorts)], itertools.repeat(""))
         for short, (form, about) in zip(shorts, command.forms.items()):
             yield f"{short:6}{form:24}{about}"
-    yield "An unambiguous beginning is enough for a command. Enter alone repeats the last that moved."
+    yield "An unambiguous beginning is enough. Enter alone repeats the last that moved."

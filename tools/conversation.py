@@ -1,7 +1,6 @@
 """A session of the program's `debug`, to which lines are sent one by one."""
 
 import re
-import signal
 import subprocess
 
 from asking import program, reason_of, stop
@@ -21,7 +20,7 @@ class Ended(Exception):
     def __str__(self):
         if self.status >= 0:
             return f"{program()} ended with {self.status}"
-        return f"{program()} was killed by {signal.Signals(-self.status).name}"
+        return f"{program()} was killed by signal {-self.status}"
 
 
 class Conversation:

@@ -13,7 +13,7 @@ from layout import WIDTH, shortened
 from positions import positions_of
 from predicates import NoPredicate
 from rows import Row
-from sentences import sentence_of
+from sentences import SENTENCES
 
 MOST_SHOWN = 10
 REFUSED = re.compile(r"refused (\d+) (\w+)(?: at (\d+))?\n")
@@ -101,7 +101,7 @@ class Debugger:
     # ---- what is said of a refusal
 
     def say_sentence(self, number):
-        self.add(*textwrap.wrap(sentence_of(number), WIDTH - 2))
+        self.add(*textwrap.wrap(SENTENCES.get(number, ""), WIDTH - 2))
 
     def explain(self, refused, text, command):
         """Says where a text is wrong, and what the refusal means."""

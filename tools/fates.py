@@ -25,8 +25,8 @@ def order(identifier):
 
 
 class Way:
-    """The way of an operation: the keys of its place, and for each the part of it that the operation goes on into, a map or
-    a list. The last part is what it puts at its place, a map, a list or one of the values; a delete puts nothing there."""
+    """The way of an operation: the keys of its place, and for each the part of it that it goes on into, a map
+    or a list. The last part is what it puts at its place, a map, a list or one of its values; a delete puts none."""
 
     def __init__(self, operation):
         *path, last = operation["cursor"]
@@ -42,8 +42,8 @@ class Way:
 
 
 class State:
-    """What a replica has at the end: what it received and applied, and of each place the operations in its presence set and
-    those in its register, with the lines at which others went from there."""
+    """What a replica has at the end: what it received and applied, and of each place the operations in its presence set
+    and those in its register, with the lines at which others went from there."""
 
     def __init__(self, journal, ways, name):
         self.journal, self.ways = journal, ways
@@ -107,14 +107,15 @@ class State:
         if identifier not in self.received:
             return {"fate": "not received"}
         deps = self.journal.made[identifier]["op"]["deps"]
-        missing = [i for i in self.journal.made if order(i)[0] <= deps.get(i.split("@")[1], 0) and i not in self.applied]
-        return {"fate": "received", "waits": sorted(missing, key=order)}
+        known = [i for i in self.journal.made if order(i)[0] <= deps.get(i.split("@")[1], 0)]
+        return {"fate": "received", "waits": sorted({*known} - self.applied.keys(), key=order)}
 
     def fate_after(self, identifier, place, line):
         """The fate where the event of this line took away what the operation had put at its place."""
         kept = self.present[place] if self.lost.get((place, identifier)) is line and self.is_shown(place) else ()
         fate = "deleted" if line["op"]["mutation"] == "delete" else "overwritten"
-        return {"fate": fate, "by": line["op"]["id"], **which(line), **({"kept": sorted(kept, key=order)} if kept else {})}
+        found = {"fate": fate, "by": line["op"]["id"], **which(line)}
+        return {**found, "kept": sorted(kept, key=order)} if kept else found
 
     @staticmethod
     def taken_at(line):
@@ -141,7 +142,8 @@ def words_of(fate, journal):
     if kind == "received":
         return "received, waits for " + " ".join(fate["waits"]) if fate["waits"] else "received, can be applied"
     if kind == "applied":
-        return "applied, took away " + " ".join(fate["took"]) if fate["took"] else "applied, there was nothing to take away"
+        took = "took away " + " ".join(fate["took"]) if fate["took"] else "there was nothing to take away"
+        return f"applied, {took}"
     if kind == "visible":
         return "visible" + (", in conflict with " + " ".join(fate["conflict"]) if "conflict" in fate else "")
     if kind == "hidden":

@@ -3,7 +3,8 @@
 import json
 import re
 
-WIDTH = 100
+WIDTH = 80
+LONGEST_EVENT = 100
 DEEPEST_INDENT = 20
 
 
@@ -16,8 +17,9 @@ def read_json(text):
     return json.loads(text, parse_int=Number, parse_float=Number)
 
 
-def shortened(text, width=WIDTH):
-    return text if len(text) <= width else text[:width - 2] + ".."
+def shortened(text):
+    """The line of an event, which may have a long command."""
+    return text if len(text) <= LONGEST_EVENT else text[:LONGEST_EVENT - 2] + ".."
 
 
 def string(text):

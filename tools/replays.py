@@ -1,9 +1,9 @@
 """The scenario of a journal: operations with identifiers, cursors and dependencies, as an engine may log them, become
 commands, in which an element has the index that it has for the maker of the operation.
 
-The events lead a network by the rules along, so each index is the one that the rules give there. An element that its maker
-doesn't show has none; it is bound to a variable where it comes to that replica. So two goes are made: the first finds
-which elements these are, since a network can make an operation by its cursor, too.
+The events lead a network by the rules along, so each index is the one that the rules give there. An element that its
+maker doesn't show has none; it is bound to a variable where it comes to that replica. So two goes are made: the first
+finds which elements these are, since a network can make an operation by its cursor, too.
 """
 
 import json
@@ -22,8 +22,8 @@ MUTATIONS = ("assign", "insert", "delete")
 NAME_KIND = name_key(b"")[0]
 
 # What is read of a line: its number, whether its event is given, the replica, whether the operation is made there or
-# applied, and the operation. Of one that is applied only the identifier is needed. In a path and as the last key an element
-# is the text of its identifier; the other keys are those of rules.py.
+# applied, and the operation. Of one that is applied only the identifier is needed. In a path and as the last key an
+# element is the text of its identifier; the other keys are those of rules.py.
 Line = namedtuple("Line", "number is_given replica is_made operation")
 Logged = namedtuple("Logged", "identifier deps path last mutation", defaults=(None, None, None, None))
 
@@ -66,7 +66,7 @@ def value_of(value):
 
 
 def cursor_in(texts):
-    """The path and the last key of a cursor. It begins at the document; in a map there are names, in a list are elements."""
+    """The path and the last key of a cursor. It begins at the document; a map has names, a list elements and a head."""
     path, last = tuple(map(tagged_of, texts[:-1])), key_of(texts[-1])
     keys = [*(key for _, key in path), last]
     fits = [(key[0] == NAME_KIND) == (tag == MAP) for (tag, _), key in zip(path, keys[1:])]
@@ -96,8 +96,8 @@ def line_of(number, text):
 
 
 class Log:
-    """What is read of a journal: the lines that make or apply an operation, the names of the replicas in their order, and
-    the number of the line of a stuck event, or none."""
+    """What is read of a journal: the lines that make or apply an operation, the names of the replicas in their order,
+    and the number of the line of a stuck event, or none."""
 
     def __init__(self, text):
         self.lines, self.stuck, names = [], None, set()
@@ -121,8 +121,8 @@ class Log:
 
 
 class Replay:
-    """The scripts and events so far, and the network to which they lead. `bound` are the elements that are to be bound, as
-    (replica, identifier), and `lacking` those that should have been."""
+    """The scripts and events so far, and the network to which they lead. `bound` are the elements that are to be bound,
+    each as a replica and a key, and `lacking` those that should have been."""
 
     def __init__(self, names, bound):
         self.names, self.bound, self.lacking = names, bound, set()
@@ -220,7 +220,7 @@ class Replay:
         if logged.identifier in self.identifiers:
             raise NoWay(f"{logged.identifier} is made already")
         if logged.deps is not None and None not in self.vectors[p] and logged.deps != self.vectors[p]:
-            raise NoWay(f"{logged.identifier} depends on {logged.deps}, and {line.replica} has applied {self.vectors[p]}")
+            raise NoWay(f"{logged.identifier} depends on {logged.deps}, and {line.replica} applied {self.vectors[p]}")
         path, last = tuple((tag, self.key(key)) for tag, key in logged.path), self.key(logged.last)
         expression = self.expression(p, path, last, line.is_given)
         if expression is None:
@@ -230,7 +230,7 @@ class Replay:
         self.identifiers[logged.identifier] = max(replica.queue)
 
     def arrived(self, p, line):
-        """Counts an operation to what the replica has applied, and binds the element that it inserted, where that is due."""
+        """Counts an operation to what the replica has applied, and binds the element of an insert where that is due."""
         identifier = self.identifiers[line.operation.identifier]
         matched = IDENTIFIER.fullmatch(line.operation.identifier)
         counter, name = matched.groups() if matched else (0, None)
