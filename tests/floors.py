@@ -3,25 +3,20 @@
 import re
 
 from cases import expect_same, stored
+from crates import TESTS, below, crates_of
 
 DOCUMENT = "docs/WORKING.md"
 
 
 def libraries():
-    """Each library of crates.txt, with the libraries that it uses."""
-    lines = re.findall(r"^(jc_\w+)[^:\n]*:(.*)$", stored("crates.txt").split("# tests")[0], re.MULTILINE)
-    return {name: [used for used in words.split() if used.startswith("jc_")] for name, words in lines}
+    """The crates that aren't for tests."""
+    return {name: crate for name, crate in crates_of(stored("crates.txt")).items() if crate.heading != TESTS}
 
 
-def below(name, uses):
-    """All libraries that this one stands on."""
-    return {other for used in uses[name] for other in (used, *below(used, uses))}
-
-
-def arrows(uses):
+def arrows(crates):
     """From each library to those that use it, without the arrows that follow from others."""
-    return {(used, name) for name, all_used in uses.items() for used in all_used
-            if not any(used in below(other, uses) for other in all_used)}
+    return {(used, name) for name, crate in crates.items() for used in crate.uses
+            if used in crates and not any(used in below(crates, other) for other in crate.uses if other in crates)}
 
 
 def drawn():
@@ -40,6 +35,6 @@ def lines_of(pairs):
 
 
 def are_shown(_):
-    uses = libraries()
-    expect_same("\n".join(sorted(listed())), "\n".join(sorted(uses)))
-    expect_same(lines_of(drawn()), lines_of(arrows(uses)))
+    crates = libraries()
+    expect_same("\n".join(sorted(listed())), "\n".join(sorted(crates)))
+    expect_same(lines_of(drawn()), lines_of(arrows(crates)))

@@ -15,7 +15,7 @@ from crates import BUILT, lack_of_built
 # A command rt for which an edit comes to what its file has, and a crate isn't proved that has a file `unproved`.
 TRYING = """#!/bin/sh
 case $1 in
-    version) echo "${KIT:-kit one}" ;;
+    version) cat "${0%/*}/kit" ;;
     check) [ ! -e unproved ] ;;
     must-fail)
         shift
@@ -40,6 +40,7 @@ NAMES = ("jc_a", "jc_b", "jc_c")
 FILES = {
     "crates.txt": "# low\njc_a:\n# high\njc_b: jc_a thiserror\njc_c: jc_b\n",
     "HANDLES": "Handles allowed: none.\n",
+    "kit": "kit one\n",
     **{f"crates/{name}/{part}": f"{name} {part}\n"
        for name in NAMES for part in ("src/lib.rt", "specs/Lib.antt", "proofs/Lib.antt")},
     **{f"crates/{name}/more-edits/{edit}.edit": REFUSED for name in NAMES for edit in ("one", "two")},
@@ -143,8 +144,7 @@ HOLES = {
                    {name: "crates.txt changed, of it or of a crate below" for name in ("jc_b", "jc_c")}),
     "a crate that crates.txt hasn't": (lambda folder: replace(folder, "crates.txt", "^jc_c: jc_b\n", ""),
                                        {"jc_c": "crates.txt hasn't this crate"}),
-    "another kit": (lambda folder: replace(folder, "rt", "kit one", "kit two"),
-                    {name: "the kit is another" for name in NAMES}),
+    "another kit": (append("kit"), {name: "the kit is another" for name in NAMES}),
     "a sum by hand": (line_by_hand, {"jc_b": NO_RUN, "jc_c": BELOW}),
     "a verdict by hand": (verdict_by_hand, {"jc_b": NO_RUN}),
     "a line less": (lambda folder: replace(folder, RECORD, "^jc_b edit two .*\n", ""), {"jc_b": NO_RUN}),
@@ -347,7 +347,7 @@ def program():
         for name in os.listdir():
             if name not in (".git", "crates", "crates.txt"):
                 os.symlink(os.path.abspath(name), os.path.join(folder, name))
-        shutil.copy("test", os.path.join(folder, "own-test"))
+        place(os.path.join(folder, "own-test"), stored("test"))
         yield folder
 
 

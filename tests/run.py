@@ -12,7 +12,7 @@ import sys
 import tempfile
 
 ROOT = os.path.dirname(os.path.dirname(os.path.abspath(__file__)))
-sys.path += [os.path.join(ROOT, folder) for folder in ("tools", "oracle", "dev")]
+sys.path += [os.path.join(ROOT, folder) for folder in ("tools", "oracle")]
 # What is wrong is told by the name of the script that starts this.
 sys.argv[0] = os.path.join(ROOT, "test")
 
@@ -46,8 +46,9 @@ Runs what needs no proof: blocks of the documents, examples, tools, scripts, the
 Python. It proves nothing; the gate, rt ci, does that. The last line is `N passed, M failed`, and the status is 1 where
 one failed. What needs the built program, or a command that isn't there, is skipped, and counted on the line before."""
 WORDS = """\
-With words, what has one of them in its name: examples, README, docs, pages, tools, faults, launcher, messages, edits,
-more-edits, gate, process, arguments, editors, debug, kit, oracle, or a part of a file's name or of a command."""
+With words, what has one of them in its name: examples, README, docs, pages, tools, pictures, faults, launcher, messages,
+edits, more-edits, gate, architecture, process, arguments, editors, debug, kit, oracle, or a part of a file's name or of
+a command."""
 
 
 def block_case(command):

@@ -10,6 +10,8 @@ BUILT = os.path.join("crates", PROGRAM_CRATE, "out", PROGRAM_CRATE)
 # A crate: its name, the heading that its line stands under, what it may do, the libraries that it uses, of the
 # repository and of the kit, and its line.
 Crate = collections.namedtuple("Crate", "name heading may uses line")
+# The heading of the crates that are for tests.
+TESTS = "tests"
 
 
 def crates_of(text):
