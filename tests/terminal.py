@@ -128,6 +128,8 @@ TYPED = [
     ("act q.apply(5, q)\n", "(19/20) ", "stuck 34 NotReceived q.apply(5, q)\n  The operation isn't there"),
     ("act p.recv(q)\n", "(20/20) ", "20 p.recv(q)  gets from q: nothing new"),
     ("help until\n", "(20/20) ", "shows TEXT"),
+    ("why q doc.get(\"todo\").idx(1).get(\"title\")\n", "(20/20) ", "q: doc/\"todo\"/2@p/\"title\"\n  event 10 "),
+    ("b until q changes doc/\"todo\"/2@p/\"title\"\n", "(10/20) ", "10 q.apply(3, p)"),
 ]
 
 
@@ -153,7 +155,9 @@ TABS = [
     ("until ", [*KINDS, "not"]),
     ("u q sho", ["u q shows"]),
     ("back until rule RE", ["RECV"]),
-    ("help wh", ["help where"]),
+    ("help whe", ["help where"]),
+    ("why ", ["p", "q"]),
+    ("fate ", ["1@p", "5@p", "5@q"]),
     ("act ", ["q.exec", "p.send", "p.recv(p)", "p.recv(q)"]),
     ("act p.s", ["act p.send"]),
 ]
@@ -384,8 +388,10 @@ def holds_case(text, what, wanted):
     return f"debug: {text} of {json.dumps(what)}", tried
 
 
+TITLE, IN_TITLE = 'doc.get("todo").idx(1).get("title")', 'doc/"todo"/2@p/"title"'
 # What is read from a pipe, and what is told beside the program's own answers.
-PREDICATES = "there are shows, lacks, conflict, diverge, stuck, event, rule, and `not` before any of these"
+PREDICATES = ("there are shows, lacks, conflict, diverge, stuck, event, rule, changes, and `not` before any of "
+              "these")
 PIPED = [
     (STUCK, ["until stuck"], """\
 at 13
@@ -425,6 +431,85 @@ refused 50 AtStart
   There are fewer events to take back: `where` shows the position, and `goto 0`
   goes to the start.
 a  no document
+"""),
+    # What changed the title: events 3 and 13 at p, 10 and 20 at q. At 13 the item has no index at p, and at q it has.
+    (TO_DO, [f"until changes {TITLE}", "goto 3", f"until changes {TITLE}", "until q changes " + IN_TITLE,
+             f"back until changes {IN_TITLE}", f"back until p changes {IN_TITLE}", "goto 13", f"until changes {TITLE}",
+             f"until changes {TITLE}", "until p changes doc/", "until changes", "goto 3", f"until q changes {TITLE}",
+             "goto 0", f"until changes {TITLE}.keys"],
+     """\
+  doc.get("todo").idx(1).get("title") is no place at p: 25 NoSuchNode mapT(doc)
+at 3
+  3 p.exec  3@p  doc.get("todo").idx(1).get("title") := "buy milk"
+at 13
+  13 p.exec  5@p  doc.get("todo").idx(1).delete
+at 20
+  20 q.apply(5, p)  applies 5@p  doc.get("todo").idx(1).delete
+at 13
+  13 p.exec  5@p  doc.get("todo").idx(1).delete
+at 3
+  3 p.exec  3@p  doc.get("todo").idx(1).get("title") := "buy milk"
+at 13
+  13 p.exec  5@p  doc.get("todo").idx(1).delete
+at 20
+  20 q.apply(5, p)  applies 5@p  doc.get("todo").idx(1).delete
+  at no later position, still at 20
+  doc/ is neither a place nor an expression: 1 BadByte at 3
+  changes needs PLACE
+at 3
+  3 p.exec  3@p  doc.get("todo").idx(1).get("title") := "buy milk"
+  doc.get("todo").idx(1).get("title") is no place at q: 25 NoSuchNode mapT(doc)
+at 0
+  the start
+  doc.get("todo").idx(1).get("title").keys is no place at p: 25 NoSuchNode mapT(doc)
+"""),
+    (TO_DO, ["goto 13", f"why p {IN_TITLE}", f"why {TITLE}", "fate 2@p", "fate 5@q", "fate 3@p 4@p", "why", "why p"],
+     """\
+at 13
+  13 p.exec  5@p  doc.get("todo").idx(1).delete
+p: doc/"todo"/2@p/"title"
+  event 13 p.exec, 5@p: doc.get("todo").idx(1).delete
+    doc/"todo"/2@p/"title" loses 3@p "buy milk", vanishes
+  event 3 p.exec, 3@p: doc.get("todo").idx(1).get("title") := "buy milk"
+    doc/"todo"/2@p/"title" gets 3@p "buy milk", appears
+p: doc.get("todo").idx(1).get("title") is no place at p: 26 PastEnd
+q: doc/"todo"/2@p/"title"
+  event 10 q.apply(3, p), 3@p, which event 3 p.exec made: doc.get("todo").idx(1).get("title") := "buy milk"
+    doc/"todo"/2@p/"title" gets 3@p "buy milk", appears
+2@p, event 2 p.exec: doc.get("todo").idx(0).insertAfter({})
+  p: deleted by 5@p (doc.get("todo").idx(1).delete) at event 13 p.exec
+  q: visible
+  no operation 5@q was made up to here
+  fate [OPERATION]
+  fate goes with one operation, or none
+  fate [OPERATION]
+  a place is missing
+  why [NAME] PLACE
+  p is no place at p: 22 UnboundVariable
+"""),
+    (ANSWER, ["why r doc", "fate", "goto 4", "why r doc", "fate 2@q"], """\
+r: doc
+  no event changed it
+1@p, given event 1 p.exec: doc.get("question") := "when"
+  p: visible
+  q: visible
+  r: not received
+2@q, given event 7 q.exec: doc.get("answer") := "now"
+  p: not received
+  q: visible
+  r: not received
+at 4
+  4 r.apply(2, q)  applies 2@q  doc.get("answer") := "now"
+r: doc
+  event 4 r.apply(2, q), 2@q, which given event 7 q.exec made: doc.get("answer") := "now"
+    doc/"answer" gets 2@q "now", appears
+  event 3 r.apply(1, p), 1@p, which given event 1 p.exec made: doc.get("question") := "when"
+    doc is made a map, appears
+    doc/"question" gets 1@p "when", appears
+2@q, given event 7 q.exec: doc.get("answer") := "now"
+  p: not received
+  q: visible
+  r: visible
 """),
     (FIRST, ["breaks", "br", "back until break", "break at 1", "unbreak 1", "breaks"], """\
   none

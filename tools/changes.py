@@ -1,5 +1,5 @@
-"""What events changed at which places of a document, by the effects in the journal of a scenario. tools/why and
-tools/fate are made of this, and it has what a debugger needs that goes on until a place changes.
+"""What events changed at which places of a document, by the effects in the journal of a scenario. tools/why, tools/fate
+and the front end of the debugger are made of this.
 
 A place is the tuple of the keys that lead to it, as they are written in effects: ("doc", '"items"', "3@ann", '"text"').
 Its text has `/` between them.
@@ -51,27 +51,29 @@ class Journal:
         self.lines = [json.loads(line) for line in journal_with_effects(text).split("\n")[:-1]]
         self.stuck = self.lines.pop() if self.lines and "stuck" in self.lines[-1] else None
         self.made = {line["op"]["id"]: line for line in self.lines if line["kind"] == "exec" and "op" in line}
+        self.scheduled = [line for line in self.lines if "given" not in line]
+        self.found = {}
 
-    def place(self, text, name, position=None):
-        """The place that a text leads to: a place, or an expression. That is evaluated at the replica, after so many
-        events of the schedule or after all."""
-        try:
-            return read_place(text) if PLACE.fullmatch(text) else self.evaluated(text.encode(), name, position)
-        except UnicodeEncodeError as error:
-            raise NoPlace(f"{text!a} isn't UTF-8") from error
+    def places(self, text, position=None):
+        """The place that a text leads to at each replica, after so many events of the schedule or after all, or why it
+        leads to none there."""
+        if (text, position) not in self.found:
+            if PLACE.fullmatch(text):
+                found = dict.fromkeys(self.names, place_of(text))
+            else:
+                expression, network = expression_of(text), self.network(position)
+                found = {name: self.evaluated(text, expression, each) for name, each in zip(self.names, network)}
+            self.found[text, position] = found
+        return self.found[text, position]
 
-    def evaluated(self, text, name, position):
-        expression, fault = read_expression(text)
-        if fault:
-            why = f"{fault[1]} {REFUSALS[fault[1]]} at {fault[0]}"
-            raise NoPlace(f"{text.decode()} is neither a place nor an expression: {why}")
+    def evaluated(self, text, expression, replica):
         texts = Texts(self.parsed.names)
         try:
-            path, last = cursor_of(self.network(position)[self.names.index(name)], expression, 0, [])
+            path, last = cursor_of(replica, expression, 0, [])
         except Stuck as stuck:
             key = f" {texts.tagged(stuck.key).decode()}" if stuck.key else ""
             why = f"{stuck.number} {REFUSALS[stuck.number]}{key}"
-            raise NoPlace(f"{text.decode()} is no place at {name}: {why}") from stuck
+            return NoPlace(f"{text} is no place at {self.names[replica.number]}: {why}")
         return tuple(texts.key(key).decode() for key in (*(key for _, key in path), last))
 
     def network(self, position):
@@ -82,25 +84,53 @@ class Journal:
             change(network, event, [])
         return network
 
-    def changes(self, place, name):
-        """What changed at the place, or below it, at the replica, the newest first."""
-        for line in reversed(self.lines):
+    def changes(self, place, name, position=None):
+        """What changed at a place, or below it, at a replica, up to a position of the schedule; the newest is first. At
+        what is no place nothing did."""
+        lines = self.lines if position is None else self.lines[:len(self.lines) - len(self.scheduled) + position]
+        for line in () if isinstance(place, NoPlace) else reversed(lines):
             found = effect_at(line.get("effects", ()), place) if line["replica"] == name else None
             if found:
                 yield Change(line, place, found)
 
-    def numbers(self, place, name):
-        """The numbers of the events of the schedule that changed the place, or something below it, at the replica."""
-        return sorted(change.line["number"] for change in self.changes(place, name) if "given" not in change.line)
+    def is_changed(self, number, name, place):
+        """Whether an event of the schedule changed a place, or something below it, at a replica."""
+        line = self.scheduled[number - 1]
+        is_there = line["replica"] == name and not isinstance(place, NoPlace)
+        return is_there and effect_at(line.get("effects", ()), place) is not None
 
 
-def read_place(text):
-    """The place that is written so; names may be spelt in any way of JSON."""
+def place_of(text):
+    """The place that is written so. A name may be spelt in any way of JSON."""
     try:
         return tuple(string(json.loads(key).encode()).decode() if key[0] == '"' else key
                      for key in re.findall(f"doc|{KEY}", text))
     except ValueError as error:
-        raise NoPlace(f"{text} has a name that is no string of JSON") from error
+        raise NoPlace(f"{text!a} has a name that is no string of JSON") from error
+
+
+def expression_of(text):
+    try:
+        expression, fault = read_expression(text.encode())
+    except UnicodeEncodeError as error:
+        raise NoPlace(f"{text!a} isn't UTF-8") from error
+    if fault:
+        raise NoPlace(f"{text} is neither a place nor an expression: {fault[1]} {REFUSALS[fault[1]]} at {fault[0]}")
+    return expression
+
+
+def check(text):
+    """Raises NoPlace where no replica has a place for the text, whatever it has."""
+    (place_of if PLACE.fullmatch(text) else expression_of)(text)
+
+
+def places_at(journal, text, names, position):
+    """The place that a text leads to at each of these replicas, or why there is none. Where there is none at any, the
+    first cause is raised."""
+    places = {name: journal.places(text, position)[name] for name in names}
+    if all(isinstance(place, NoPlace) for place in places.values()):
+        raise next(iter(places.values()))
+    return places
 
 
 def branch(key):
@@ -185,3 +215,15 @@ def sentences(change):
         said = clauses(effect)
         if said:
             yield f"{text_of_place(place)} {', '.join(said)}"
+
+
+def in_words(journal, name, place, changes):
+    """The changes of a place at a replica in lines, or why there is no place."""
+    yield f"{name}: {place if isinstance(place, NoPlace) else text_of_place(place)}"
+    for change in changes:
+        made = journal.made[change.line["op"]["id"]]
+        where = "" if made is change.line else f", which {text_of_event(made)} made"
+        yield f"  {text_of_event(change.line)}, {change.line['op']['id']}{where}: {made['command']}"
+        yield from (f"    {sentence}" for sentence in sentences(change))
+    if not changes and not isinstance(place, NoPlace):
+        yield "  no event changed it"

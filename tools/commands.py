@@ -7,6 +7,8 @@ import collections
 import itertools
 import re
 
+import changes
+import fates
 from layout import laid_out, read_json, shortened, traced
 from lines import RULES, is_rule
 from predicates import KINDS, predicate_of
@@ -162,6 +164,30 @@ def view(debugger, line):
         debugger.write(f"{shown}\n" if RAW in line.words else "".join(f"{row}\n" for row in rows))
 
 
+def why(debugger, line):
+    """What changed a place up to here, at each replica or at one, which then comes first."""
+    first, _, rest = line.rest.partition(" ")
+    names, text = ([first], rest.strip()) if first in debugger.names and rest.strip() else (debugger.names, line.rest)
+    if not text:
+        raise Wrong("a place is missing")
+    journal, here = debugger.positions.effects, debugger.position
+    for name, place in changes.places_at(journal, text, names, here).items():
+        rows = changes.in_words(journal, name, place, list(journal.changes(place, name, here)))
+        debugger.write("".join(f"{row}\n" for row in rows))
+
+
+def fate(debugger, line):
+    """What became up to here of each operation, or of one."""
+    journal = changes.Journal(debugger.scenario.scheduled(debugger.positions.events[:debugger.position]))
+    if len(line.words) > 1:
+        raise Wrong("fate goes with one operation, or none")
+    if line.words and line.words[0] not in journal.made:
+        raise Wrong(f"no operation {line.words[0]} was made up to here")
+    for identifier, _, found in fates.fates(journal):
+        if not line.words or identifier == line.words[0]:
+            debugger.write("".join(f"{row}\n" for row in fates.in_words(journal, identifier, found)))
+
+
 def list_events(debugger, line):
     """The events around the position, or around another one; the one that led to the position is marked."""
     if len(line.words) > 1 or not all(word.isascii() and word.isdigit() for word in line.words):
@@ -228,6 +254,10 @@ def offer_back(debugger, words):
     return offer_predicates(debugger, words[1:]) + ["break"] * (words == ["until"]) if words else ["until"]
 
 
+def offer_operations(debugger, words):
+    return [] if words else list(debugger.positions.effects.made)
+
+
 def offer_events(debugger, words):
     before = "".join(f"{word} " for word in words)
     return [event.removeprefix(before) for event in debugger.enabled() if event.startswith(before)]
@@ -286,6 +316,10 @@ COMMANDS = {command.name: command for command in (
             offer_shown),
     Command("trace", trace, {"trace [--raw]": "shows the rules of the event that led here"}, ("t",), False,
             lambda _debugger, _words: [RAW]),
+    Command("why", why, {"why [NAME] PLACE": "shows which events up to here changed a place, the newest first"}, (),
+            False, offer_names, lambda: ['PLACE is an expression, or keys as in doc/"items"/3@ann/"text".']),
+    Command("fate", fate, {"fate [OPERATION]": "shows what became of each operation up to here, or of one as 2@p"},
+            ("f",), False, offer_operations),
     Command("enabled", pass_on, {"enabled": "lists the events that could be executed here"}, ("e",)),
     Command("act", act, {"act EVENT": "executes this event; cuts the rest off for good"}, ("a",),
             False, offer_events),

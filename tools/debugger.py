@@ -8,6 +8,7 @@ import re
 import textwrap
 
 from asking import EVENT
+from changes import NoPlace
 from commands import COMMANDS, OVER, Line, Stopped, Wrong, begun_by, commands_of
 from layout import WIDTH, shortened
 from positions import positions_of
@@ -69,7 +70,7 @@ class Debugger:
             return command.does(self, Line(text, rest.strip(), rest.split())) is OVER
         except Wrong as wrong:
             self.add(str(wrong), *command.forms)
-        except NoPredicate as wrong:
+        except (NoPlace, NoPredicate) as wrong:
             self.add(str(wrong))
         except Stopped:
             self.add(f"stopped, still at {self.position}")
@@ -174,6 +175,8 @@ class Debugger:
 
     def look(self, looks_at, position):
         """What a predicate looks at, at a position; there is an event behind the start alone."""
+        if looks_at == "places":
+            return dict.fromkeys(self.names, (self.positions.effects, position, self.position))
         if looks_at == "stuck":
             return self.positions.is_stuck(position + 1)
         return self.positions.rules(position) if looks_at == "rules" else self.positions.line(position)["event"]

@@ -136,8 +136,15 @@ def fates(journal):
 # ---- in words
 
 
+def in_words(journal, identifier, found):
+    """The fates of an operation in lines."""
+    made = journal.made[identifier]
+    yield f"{identifier}, {text_of_event(made)}: {made['command']}"
+    for name, fate in found.items():
+        yield f"  {name}: {words_of(fate, journal)}"
+
+
 def words_of(fate, journal):
-    """A fate as a sentence."""
     kind = fate["fate"]
     if kind == "received":
         return "received, waits for " + " ".join(fate["waits"]) if fate["waits"] else "received, can be applied"

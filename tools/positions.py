@@ -5,11 +5,13 @@ Python they are asked in this process, which gives the same lines sooner.
 """
 
 import concurrent.futures
+import functools
 import io
 import itertools
 import json
 import os
 
+import changes
 from asking import IN_PYTHON, document_of, program, told
 from grammar import read
 from program import command_line
@@ -63,6 +65,11 @@ class Positions:
     def rules(self, number):
         """The names of the rules of an event that is made."""
         return [rule for _, rule in self.traced.line(number)["rules"]]
+
+    @functools.cached_property
+    def effects(self):
+        """The journal with what each event changed, of the whole schedule."""
+        return changes.Journal(self.scenario.scheduled(self.events))
 
     def tried(self, position, event):
         """The journal's line of an event at a position to which the schedule comes, be it the next or another one."""

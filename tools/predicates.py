@@ -4,12 +4,16 @@ A tool reads a predicate by `predicate_of`, and asks its `holds` about what `loo
 
 - `documents`: a dictionary from the replicas' names to the JSON texts of their documents, or to none;
 - `event`: the canonical text of the event that led there; `rules`: the names of the rules that it used;
-- `stuck`: whether the next event, or that of a replica, is stuck.
+- `stuck`: whether the next event, or that of a replica, is stuck;
+- `places`: a dictionary from the replicas' names to the journal with effects, the number of the event, and the position
+  at which the text of a place is read.
 """
 
 import collections
 import fnmatch
 import json
+
+from changes import NoPlace, check, places_at
 
 CONFLICT = "!conflict"
 
@@ -63,6 +67,20 @@ def rule(pattern):
     return lambda rules: bool(fnmatch.filter(rules, pattern.upper()))
 
 
+def changes(text):
+    try:
+        check(text)
+    except NoPlace as why:
+        raise NoPredicate(str(why)) from why
+
+    def asked(replicas):
+        journal, number, position = next(iter(replicas.values()))
+        places = places_at(journal, text, list(replicas), position)
+        return any(journal.is_changed(number, name, place) for name, place in places.items())
+
+    return asked
+
+
 # What stands behind the name, what is looked at, whether it can be asked of one replica, what it means, and what makes
 # of the text behind the name the question.
 Kind = collections.namedtuple("Kind", "operand looks_at is_of_one about asks")
@@ -74,11 +92,12 @@ KINDS = {
     "stuck": Kind("", "stuck", False, "the next event is stuck", stuck),
     "event": Kind("GLOB", "event", False, "the event is one of these, as q.apply* or *.recv(p)", event),
     "rule": Kind("GLOB", "rules", False, "the event used such a rule, as CLEAR-*", rule),
+    "changes": Kind("PLACE", "places", True, "the event changed the place, or something below it", changes),
 }
 
 
 def of_one(name, holds):
-    return lambda documents: holds({name: documents[name]})
+    return lambda what: holds({name: what[name]})
 
 
 def predicate_of(text, names):
