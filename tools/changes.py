@@ -106,7 +106,7 @@ def place_of(text):
         return tuple(string(json.loads(key).encode()).decode() if key[0] == '"' else key
                      for key in re.findall(f"doc|{KEY}", text))
     except ValueError as error:
-        raise NoPlace(f"{text!a} has a name that is no string of JSON") from error
+        raise NoPlace(f"{text} has a name that is no string of JSON") from error
 
 
 def expression_of(text):
