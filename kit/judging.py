@@ -240,6 +240,31 @@ def dump_fault(dump, status, ended):
     return f"line {number} differs\n    the rules give  {text_of(want)}\n    the adapter     {text_of(got)}"
 
 
+def effects_in(lines):
+    """The lines of a journal that have effects; others are left aside."""
+    values = (value_of(line) for line in lines if line.strip())
+    return [value for value in values if isinstance(value, dict) and "effects" in value]
+
+
+def effects_fault(journal, status, ended):
+    """What is wrong with the effects that an adapter wrote, or none. The journal has those of the rules."""
+    if ended.fault or ended.status not in (0, status):
+        return (ended.fault or how(ended.status)) + last_words(ended)
+    want = effects_in(journal.splitlines())
+    try:
+        got = effects_in(lines_of(ended.output, ended.status == STUCK))
+    except NoJson as error:
+        return f"a line isn't JSON: {error}"
+    for pair in zip(want, got):
+        due, written = (line["effects"] for line in pair)
+        at = difference(due, written)
+        if at:
+            due, written = (json.dumps(each, ensure_ascii=False, separators=(",", ":"), default=str) for each in (due, written))
+            event = f"{'given ' if 'given' in pair[0] else ''}event {pair[0]['number']} {pair[0]['event']}"
+            return f"the effects of {event} differ at {at}\n    the rules give  {due}\n    the adapter     {written}"
+    return None if len(want) == len(got) else f"{len(want)} events have effects, and it wrote {len(got)} lines with some"
+
+
 def told_of(text, is_journal):
     """What an adapter is given for a scenario, the text itself or its journal, and what `view` tells of it with the
     status. A replica that the journal doesn't name isn't asked for."""

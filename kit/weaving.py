@@ -151,9 +151,9 @@ class Writer(Maker):
         return Scenario(self.version, self.names, self.scripts, self.given, [])
 
 
-def woven(number, seed):
+def woven(number, seed, writer=Writer):
     """The scenario of the scripts with this number, with the schedule of the seed; none where a replica is stuck."""
-    scenario = Writer(number).scenario()
+    scenario = writer(number).scenario()
     loom = Loom(scenario, seed)
     while len(loom.schedule) < MOST_EVENTS and loom.turn():
         pass

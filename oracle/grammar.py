@@ -350,18 +350,30 @@ def read(text):
     return Scenario(reader.version, names, [scripts[name] for name in names], given, schedule), None
 
 
-def read_event(text, names, version):
-    """The event of these replicas that the text is, or its fault; the other is none."""
+def read_part(text, version, read_it):
+    """The reader of a text that is a part of a scenario by itself, what was read, and the fault. One of the last two is
+    none; so is the reader where the text has no tokens."""
     try:
         reader = Reader(text, version)
     except Fault as fault:
-        return None, fault.at
+        return None, None, fault.at
 
     def whole():
-        made = reader.event()
+        made = read_it(reader)
         reader.end()
         return made
 
-    made, fault = sentence(reader, whole)
+    return reader, *sentence(reader, whole)
+
+
+def read_event(text, names, version):
+    """The event of these replicas that the text is, or its fault; the other is none."""
+    reader, made, fault = read_part(text, version, Reader.event)
     fault = fault or unknown(reader, names)
     return (None, fault) if fault else (resolved(made, names), None)
+
+
+def read_expression(text):
+    """The expression that the text is, or its fault; the other is none."""
+    _, made, fault = read_part(text, None, lambda reader: reader.expression(in_command=False)[0])
+    return (None, fault) if fault else (made, None)

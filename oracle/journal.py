@@ -6,13 +6,15 @@ Members stand by their names, texts are those of dumps. Each object has `event`,
 `exec` has `command`, and where it made an operation `op`; `apply` has `op`. `recv` and `take` have `from`, the sender;
 they and `send` have `new`, the identifiers that came to `send` or `recv` by the event. An operation has `id`, `cursor`,
 `mutation`, `value` where it doesn't delete, and `deps` as a version vector: each replica's greatest counter among the
-operations that it depends on. `rules` are the rules of the event with their depths, where they are asked for.
+operations that it depends on. Where they are asked for, `effects` beside an `op` are the places that the event changed
+(effects.py), and `rules` the rules of the event with their depths.
 
 An event that is stuck has `stuck` and `cause`, the refusal's number and name; for 25 `key`, the tagged key that is
 missing; for 34 `offered`, the replicas that send the operation; for 36 `missing`, the operations that it depends on
 and that the replica has not applied.
 """
 
+from effects import Effects
 from rules import Network, Stuck, change
 from texts import REFUSALS, array, object_of, string
 
@@ -20,8 +22,9 @@ EMPTY = {"map": b"{}", "list": b"[]"}
 
 
 class Journal:
-    def __init__(self, texts, traced):
+    def __init__(self, texts, traced, with_effects):
         self.texts, self.traced = texts, traced
+        self.effects = Effects(texts) if with_effects else None
 
     def vector(self, identifiers):
         """The version vector of a set of identifiers."""
@@ -53,17 +56,23 @@ class Journal:
         return {**members, b"given": b"true"} if given else members
 
     def what(self, event, before, replica):
-        """What the event ran, applied, sent or received; `before` is what the replica had of it."""
+        """What the event ran, made, applied, sent or received; `before` is what the replica had of it."""
         if event[0] == "exec":
-            made = [self.operation(replica.queue[i]) for i in replica.queue.keys() - before]
-            return {b"command": string(self.texts.command(before.command)), **{b"op": text for text in made}}
+            made = [replica.queue[i] for i in replica.queue.keys() - before]
+            command = {b"command": string(self.texts.command(before.command))}
+            return {**command, **self.changed(replica, made[0])} if made else command
         if event[0] == "apply":
-            return {b"op": self.operation(replica.received[event[2]])}
+            return self.changed(replica, replica.received[event[2]])
         if event[0] == "done":
             return {}
         came = (replica.sent if event[0] == "send" else replica.received).keys() - before
         sender = {b"from": string(self.texts.names[event[2]])} if event[0] != "send" else {}
         return {b"new": self.texts.identifiers(came), **sender}
+
+    def changed(self, replica, operation):
+        """The operation that the replica has just made or applied, and what it changed there."""
+        members = {b"op": self.operation(operation)}
+        return {**members, b"effects": self.effects.of(replica, operation)} if self.effects else members
 
     def made(self, number, event, before, replica, trace, given):
         """The line of an event that was made."""
@@ -98,9 +107,10 @@ class Before(frozenset):
         return before
 
 
-def write_journal(scenario, texts, traced, out):
-    """Writes the journal, and gives the status."""
-    journal, network = Journal(texts, traced), Network(scenario.version, scenario.scripts)
+def write_journal(scenario, texts, flags, out):
+    """Writes the journal, with what the flags of the command line ask for, and gives the status."""
+    journal = Journal(texts, "--trace" in flags, "--effects" in flags)
+    network = Network(scenario.version, scenario.scripts)
     for given, events in ((True, scenario.given), (False, scenario.schedule)):
         for number, event in enumerate(events, 1):
             before, trace = Before(event, network[event[1]]), []

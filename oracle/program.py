@@ -27,16 +27,17 @@ The program by the same rules, written once more in Python. Nothing of it is pro
   run [--trace] FILE    executes the schedule and prints each replica's state, as a line of JSON;
                         with --trace the rules that each event used come first (this may be long)
   view [--at N] FILE    prints each replica's document as an application sees it, after N events
-  journal [--trace] FILE
+  journal [--trace] [--effects] FILE
                         prints a line of JSON for each event, with its operation in full, and for the
-                        one that is stuck with why
+                        one that is stuck with why; with --effects what each changed at which places
+                        (here only: the proved program has no --effects yet)
   weave [--seed N] [--limit N] FILE
                         prints the scenario with a schedule drawn from the seed (0 unless it is said):
                         each replica chooses its events as its thread does, up to the limit (10,000);
                         yields between commands make schedules that end differently
   debug FILE            the debugger: steps forwards and backwards by lines of standard input (`act`
-                        cuts off the rest of the schedule for good); in a terminal it has a prompt
-                        and a history, and `help` lists the lines
+                        cuts off the rest of the schedule for good); in a terminal it is tools/debug,
+                        which has a prompt, a history and Tab, and `help` lists the lines
 
 A scenario of version 2 begins with `jsoncrdt 2`, and may have a block `given { .. }` of events before its
 schedule, which are made before event 1.
@@ -49,6 +50,8 @@ Not here: `threads`, which runs each replica in a thread of its own. The proved 
 COMMANDS = ("check", "print", "run", "view", "journal", "weave", "debug")
 MOST_LINES, MOST_OF_LINES, MOST_EVENTS = 1_000_000, 67_108_864, 100_000
 
+# The options without a value, and their commands.
+FLAGS = {"--trace": ("run", "journal"), "--effects": ("journal",)}
 # The options with a value, their commands, the greatest value and what it is where it isn't said.
 OPTIONS = {
     "--at": ("view", MOST_EVENTS, MOST_EVENTS),
@@ -56,7 +59,7 @@ OPTIONS = {
     "--limit": ("weave", MOST_EVENTS, 10_000),
 }
 
-Order = collections.namedtuple("Order", "command file traced numbers")
+Order = collections.namedtuple("Order", "command file flags numbers")
 
 
 class BadWords(Exception):
@@ -93,17 +96,20 @@ def taken(words, number):
 
 
 def number_in(word, most):
-    if not re.fullmatch("[0-9]{1,20}", word) or int(word) > most:
+    """The number that the word is: digits, as many zeros first as one likes, and before them a plus or none."""
+    # No limit has 21 digits, and Python reads no number of some thousands.
+    digits = word.removeprefix("+").lstrip("0")[:21] or "0"
+    if not re.fullmatch(r"\+?[0-9]+", word) or int(digits) > most:
         raise BadWords(f"{word} is no number from 0 to {most}")
-    return int(word)
+    return int(digits)
 
 
 def order_of(words):
     """What the words ask for."""
     if not words:
-        return Order("run", "-", True, {})
+        return Order("run", "-", {"--trace"}, {})
     words = meant(words)
-    command, files, traced, numbers, number = words[0], [], False, {}, 1
+    command, files, flags, numbers, number = words[0], [], set(), {}, 1
     if command == "threads":
         raise BadWords("threads is a command of the proved program alone")
     if command not in COMMANDS:
@@ -115,8 +121,8 @@ def order_of(words):
         option, equals, value = word.partition("=")
         if options and word == "--":
             options = False
-        elif options and word == "--trace" and command in ("run", "journal") and not traced:
-            traced = True
+        elif options and command in FLAGS.get(word, ()) and word not in flags:
+            flags.add(word)
         elif options and OPTIONS.get(option, ("",))[0] == command and option not in numbers:
             numbers[option] = number_in(value if equals else taken(words, number), OPTIONS[option][1])
             number += not equals
@@ -126,7 +132,7 @@ def order_of(words):
             files.append(word)
     if len(files) != 1:
         raise BadWords(f"{command} needs one FILE")
-    return Order(command, files[0], traced, {option: of[2] for option, of in OPTIONS.items()} | numbers)
+    return Order(command, files[0], flags, {option: of[2] for option, of in OPTIONS.items()} | numbers)
 
 
 def made(scenario, events, texts=None, out=None):
@@ -146,7 +152,7 @@ def made(scenario, events, texts=None, out=None):
 def show(order, scenario, out):
     """Executes the schedule, and shows states or documents."""
     texts, events = Texts(scenario.names), scenario.schedule[:order.numbers.get("--at")]
-    network, count, stuck = made(scenario, events, texts, out if order.traced else None)
+    network, count, stuck = made(scenario, events, texts, out if "--trace" in order.flags else None)
     for replica in network:
         out.write(line_of(texts, replica) if order.command == "view" else texts.dump(replica))
     if stuck:
@@ -199,7 +205,7 @@ def text_of(file, source):
         raise NotRead(f"{file}: {reason_of(error)}") from error
 
 
-def done(order, source, out, err, by_hand):
+def done(order, source, out, err):
     """Does what the order says, and gives the status."""
     scenario, fault = read(text_of(order.file, source))
     if fault:
@@ -210,7 +216,7 @@ def done(order, source, out, err, by_hand):
         out.write(counts_of(scenario) if order.command == "check" else texts.scenario(scenario))
         return 0
     if order.command == "journal":
-        return write_journal(scenario, texts, order.traced, out)
+        return write_journal(scenario, texts, order.flags, out)
     try:
         if order.command == "weave":
             return weave(scenario, texts, order.numbers["--seed"], order.numbers["--limit"], out, err)
@@ -220,16 +226,13 @@ def done(order, source, out, err, by_hand):
     except GivenStuck as given:
         out.write(texts.given_stuck(given))
         return 3
-    return by_hand(session) if by_hand else debug(session, () if order.file == "-" else source, out, err)
+    return debug(session, () if order.file == "-" else source, out, err)
 
 
-def command_line(words, source, out, err, by_hand=None):
-    """Does what the words ask for, and gives the status. Source and out are files of bytes, err is one of text.
-
-    A session is given to by_hand, where that is there, instead of having its lines from the source.
-    """
+def command_line(words, source, out, err):
+    """Does what the words ask for, and gives the status. Source and out are files of bytes, err is one of text."""
     try:
-        return done(order_of(words), source, out, err, by_hand)
+        return done(order_of(words), source, out, err)
     except BadWords as fault:
         err.write(f"oracle/jsoncrdt: {fault}\n{USAGE}\n")
         return 2

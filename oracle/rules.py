@@ -1,7 +1,7 @@
 """The rules of docs/RULES.md once more, to compare the program with.
 
 It was written from the rules alone and shares nothing with the program: contexts are dictionaries, sets are sets of
-identifiers, and an event is made on a copy of the network. Each function that makes or asks something appends the rules
+identifiers, and an event is made on a copy of its replica. Each function that makes or asks something appends the rules
 that it uses to a trace, each with its depth, and raises Stuck where a numbered condition fails.
 
 A key is a tuple that sorts as keys do: DOC, HEAD, (2, name), (3, identifier). An identifier is (counter, replica), a
@@ -61,14 +61,27 @@ class Context:
     def keys(self):
         return set().union(*self.entries.values())
 
+    def __deepcopy__(self, memo):
+        copied = Context()
+        for tag in (MAP, LIST):
+            copied.entries[tag] = {key: copy.deepcopy(content, memo) for key, content in self.entries[tag].items()}
+        copied.entries[REGISTER] = {key: dict(values) for key, values in self.entries[REGISTER].items()}
+        copied.presences, copied.links = dict(self.presences), dict(self.links)
+        return copied
+
 
 class Operation:
+    """An operation, which nothing changes: copies of replicas share it."""
+
     def __init__(self, identifier, deps, path, last, mutation):
         self.identifier = identifier
         self.deps = deps
         self.path = path
         self.last = last
         self.mutation = mutation
+
+    def __deepcopy__(self, _memo):
+        return self
 
 
 class Replica:
@@ -84,6 +97,13 @@ class Replica:
         self.queue = {}
         self.sent = {}
         self.received = {}
+
+    def __deepcopy__(self, memo):
+        copied = copy.copy(self)
+        copied.left, copied.variables, copied.applied = list(self.left), dict(self.variables), set(self.applied)
+        copied.queue, copied.sent, copied.received = dict(self.queue), dict(self.sent), dict(self.received)
+        copied.tree = copy.deepcopy(self.tree, memo)
+        return copied
 
 
 class Network(list):
@@ -262,6 +282,18 @@ def element(tree, path, index, depth, trace):
     return key
 
 
+def index_of(tree, path, key):
+    """The index that leads to a key of the list at the path, by the rules above; none where the key isn't counted."""
+    context, _ = below(tree, path, "IDX2", 0, [])
+    index, here = 0, HEAD
+    while here != key:
+        here = context.links.get(here, TAIL)
+        if here is TAIL:
+            raise Stuck(26)
+        index += bool(context.presences.get(here))
+    return index if key == HEAD or context.presences.get(key) else None
+
+
 def names_in(context):
     """The names with a presence set that isn't empty."""
     return tuple(sorted(key[1] for key, found in context.presences.items() if key[0] == 2 and found))
@@ -389,8 +421,10 @@ def change(network, event, trace):
 
 
 def step(network, event):
-    """The network after the event, and its trace."""
-    after, trace = copy.deepcopy(network), []
+    """The network after the event, and its trace. An event changes the state of its own replica alone."""
+    after, trace = copy.copy(network), []
+    if event[1] < len(network):
+        after[event[1]] = copy.deepcopy(network[event[1]])
     change(after, event, trace)
     return after, trace
 

@@ -74,6 +74,14 @@ class Texts:
     def identifiers(self, identifiers):
         return array(string(self.identifier(i)) for i in sorted(identifiers))
 
+    def pairs(self, pairs):
+        """Identifiers, each with the value that is under it."""
+        return array(array([string(self.identifier(i)), self.value(value)]) for i, value in sorted(pairs))
+
+    def following(self, key):
+        """What follows a key in a list: an identifier, or `tail`."""
+        return b"tail" if key is TAIL else self.key(key)
+
     def context(self, context):
         members = []
         for tag in (MAP, LIST):
@@ -84,18 +92,17 @@ class Texts:
         for key, identifiers in context.presences.items():
             members.append((b"pres(%s)" % self.key(key), self.identifiers(identifiers)))
         for key, following in context.links.items():
-            text = b"tail" if following is TAIL else self.key(following)
-            members.append((b"next(%s)" % self.key(key), string(text)))
+            members.append((b"next(%s)" % self.key(key), string(self.following(following))))
         return object_of(members)
 
     def bound(self, bound):
-        if bound[0] == "cursor":
-            parts = [string(text) for text in [*map(self.tagged, bound[1]), self.key(bound[2])]]
+        if bound[0] == "values":
+            shown = self.pairs(bound[1])
         elif bound[0] == "keys":
-            parts = map(string, bound[1])
+            shown = array(map(string, bound[1]))
         else:
-            parts = [array([string(self.identifier(i)), self.value(value)]) for i, value in bound[1]]
-        return object_of([(bound[0].encode(), array(parts))])
+            shown = array(string(text) for text in [*map(self.tagged, bound[1]), self.key(bound[2])])
+        return object_of([(bound[0].encode(), shown)])
 
     def dump(self, replica):
         members = {

@@ -1,13 +1,17 @@
 """What all tests have in common. A case is a name and what is called with the programs; it raises Wrong or NotTried."""
 
 import contextlib
-import glob
 import os
 import subprocess
 import tempfile
 
+from crates import below, crates_of
+
+# Where `rt ci` and `rt run` leave the program.
 BUILT = os.path.join("crates", "jc_app", "out", "jc_app")
 IN_PYTHON = os.path.join("oracle", "jsoncrdt")
+# How the line begins by which the rules in Python say what they are.
+UNPROVED = "oracle/jsoncrdt: these are the rules in Python"
 # Stands in the environment of what a test runs. There ./test runs no tests, which else might go on without end.
 IN_TEST = "JSONCRDT_IN_TEST"
 
@@ -20,21 +24,33 @@ class Wrong(Exception):
     """A case that failed, and what was told."""
 
 
-def sources():
-    found = glob.glob("crates/*/src/**/*.rt", recursive=True) + ["crates.txt"]
-    return [file for file in found if "_tests/" not in file and "/src/tests" not in file]
+def made_of(root="."):
+    """The files and folders that the built program is made and proved of. A file that was taken away, or put in place
+    of another, makes its folder newer. Tests are no part of it."""
+    yield "crates.txt"
+    crates = crates_of(stored(os.path.join(root, "crates.txt")))
+    for name in [*below(crates, "jc_app"), "jc_app"]:
+        for part in ("src", "specs", "proofs"):
+            for at, _, files in os.walk(os.path.join(root, "crates", name, part)):
+                at = os.path.relpath(at, root)
+                yield from [at, *(os.path.join(at, file) for file in files if not file.startswith("tests"))]
 
 
-def is_built():
-    """Whether the built program is there and no source is newer."""
-    return os.access(BUILT, os.X_OK) and all(os.path.getmtime(BUILT) >= os.path.getmtime(f) for f in sources())
+def lack_of_built(root="."):
+    """Why the built program can't be tried, or nothing: it isn't there, or a file that it is made of is newer."""
+    built = os.path.join(root, BUILT)
+    if not os.access(built, os.X_OK):
+        return f"{BUILT} isn't there"
+    newer = (path for path in made_of(root) if os.path.getmtime(os.path.join(root, path)) > os.path.getmtime(built))
+    return next((f"{path} is newer than {BUILT}" for path in newer), "")
 
 
 class Programs:
     """The program that is tried, and the rules in Python for a command that it hasn't."""
 
     def __init__(self):
-        self.is_built = is_built()
+        self.lack = lack_of_built()
+        self.is_built = not self.lack
         self.program = BUILT if self.is_built else IN_PYTHON
         self.has_view = not self.is_built or run([BUILT, "view", "--help"], BUILT).returncode == 0
 
@@ -48,6 +64,12 @@ def run(words, program, text="", shell=False, path=None):
     if path:
         environment["PATH"] = f"{path}:{environment['PATH']}"
     return subprocess.run(words, input=text.encode(), capture_output=True, shell=shell, env=environment, check=False)
+
+
+def told_errors(ended):
+    """What a command told on standard error, but for the line by which the rules in Python say what they are."""
+    lines = ended.stderr.decode(errors="replace").splitlines(keepends=True)
+    return "".join(line for line in lines if not line.startswith(UNPROVED))
 
 
 def place(path, text):

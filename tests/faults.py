@@ -1,7 +1,7 @@
 """Commands that end with a fault: wrong arguments, files that can't be read, streams that fail, a program that is none. Each
 is told in one line on standard error, with the status that the program has for it."""
 
-from cases import expect, folder_of, run
+from cases import expect, folder_of, run, told_errors
 
 FIRST = "examples/first.jsoncrdt"
 ONE = "--only first-assignment "
@@ -26,6 +26,12 @@ ROWS = [
     ("echo 'jsoncrdt 2 replica a {} given {a.exec}' | tools/tree --deleted - a", 3,
      "tree: refused 44 GivenStuck at 1 stuck 30 "),
     ("echo 'jsoncrdt 2 replica a {} given {a.exec}' | tools/lanes - >/dev/null", 3, ""),
+    ("echo 'jsoncrdt 2 replica a {} given {a.exec}' | tools/lanes --brief --view - >/dev/null", 3, ""),
+    ("tools/debug", 2, "debug: the following arguments are required: FILE"),
+    ("tools/debug -", 2, "debug: standard input has the lines"),
+    ("tools/debug test >/dev/null", 1, ""),
+    ("[ \"$(tools/debug test)\" = 'refused 1 BadByte at 0' ]", 0, ""),
+    ("echo 'jsoncrdt 2 replica a {} given {a.exec}' | tools/debug /dev/stdin >/dev/null", 3, ""),
     ("tools/shrink " + FIRST, 2, "shrink: "),
     ("tools/shrink " + FIRST + " false", 2, "shrink: COMMAND doesn't end with 0"),
     ("tools/shrink " + FIRST + " ./no-such-command", 2, "shrink: ./no-such-command: "),
@@ -50,7 +56,7 @@ ROWS = [
     ("kit/check --only nothing true", 2, "check: the kit has no scenario nothing"),
     ("kit/check --except nothing true", 2, "check: the kit has no scenario nothing"),
     ("kit/check ./no-such-command", 2, "check: ./no-such-command: "),
-    ("kit/check docs/TESTING.md", 2, "check: docs/TESTING.md: "),
+    ("kit/check docs/ENGINES.md", 2, "check: docs/ENGINES.md: "),
     ("kit/check ''", 2, "check: "),
     ("kit/differs <" + KIT_FIRST, 2, "differs: the following arguments are required: COMMAND"),
     ("kit/differs ./no-such-command <" + KIT_FIRST, 2, "differs: ./no-such-command: "),
@@ -70,6 +76,9 @@ ROWS = [
     ("tools/lanes examples", 4, "lanes: read failed: examples: "),
     ("tools/lanes - <&-", 4, "lanes: read failed: -: "),
     ("tools/tree - a <&-", 4, "tree: read failed: -: "),
+    ("tools/debug no-such-file", 4, "debug: read failed: no-such-file: "),
+    ("tools/debug examples", 4, "debug: read failed: examples: "),
+    ("tools/debug " + FIRST + " <&-", 4, "debug: read failed: standard input: "),
     ("tools/shrink - true <&-", 4, "shrink: read failed: -: "),
     ("oracle/adapter <&-", 4, "adapter: read failed: -: "),
     ("kit/differs true <&-", 4, "differs: read failed: -: "),
@@ -88,6 +97,9 @@ ROWS = [
     ("JSONCRDT=/bin/false tools/lanes " + FIRST, 2, "lanes: /bin/false isn't jsoncrdt"),
     ("JSONCRDT=/bin/true tools/tree " + FIRST + " a", 2, "tree: /bin/true isn't jsoncrdt"),
     ("JSONCRDT=/no/such tools/shrink " + FIRST + " true", 2, "shrink: /no/such: "),
+    ("JSONCRDT=/bin/false tools/debug " + FIRST, 2, "debug: /bin/false isn't jsoncrdt: "),
+    ("JSONCRDT=/bin/true tools/debug " + FIRST, 2, "debug: /bin/true isn't jsoncrdt: "),
+    ("JSONCRDT=/no/such tools/debug " + FIRST, 2, "debug: /no/such: "),
     ("JSONCRDT=/bin/true examples/engine/compare 1", 2, "compare: /bin/true isn't jsoncrdt"),
     # No fault: an adapter needs no standard input of kit/check.
     ("kit/check " + ONE + "oracle/adapter <&- >/dev/null", 0, ""),
@@ -103,6 +115,8 @@ WRITING = [
     ("tools/lanes --help", "lanes: write failed: "),
     ("tools/tree " + FIRST + " a", "tree: write failed: "),
     ("tools/shrink " + FIRST + " true", "shrink: write failed: "),
+    ("echo step | tools/debug " + FIRST, "debug: write failed: "),
+    ("tools/debug --help", "debug: write failed: "),
     ("tools/make-completions --help", "make-completions: write failed: "),
     ("oracle/jsoncrdt --help", "write failed"),
     ("oracle/jsoncrdt help run", "write failed"),
@@ -119,9 +133,10 @@ WRITING = [
     ("kit/table", "table: write failed: "),
     ("./test --help", "test: write failed: "),
 ]
-HELPED = ("tools/lanes", "tools/tree", "tools/shrink", "tools/make-completions", "oracle/compare", "oracle/selftest",
-          "oracle/adapter", "kit/check", "kit/differs", "kit/make", "kit/table", "examples/engine/compare", "./test")
-UNPROVED = "oracle/jsoncrdt: these are the rules in Python"
+# Those that ask the program which the variable JSONCRDT names, and the others.
+ASKING = ("tools/lanes", "tools/tree", "tools/shrink", "tools/debug", "examples/engine/compare")
+HELPED = ("tools/make-completions", "oracle/compare", "oracle/selftest", "oracle/adapter", "kit/check", "kit/differs",
+          "kit/make", "kit/table", "./test")
 # A command rt that tells that it was called, so that nothing here can build.
 NO_RT = "#!/bin/sh\necho rt was called >&2\nexit 1\n"
 
@@ -130,8 +145,7 @@ def ended(line, programs):
     """The status of a line of a shell, its output, and the lines that it tells but for that of the rules in Python."""
     with folder_of({"rt": NO_RT}) as folder:
         told = run(line, programs.program, shell=True, path=folder)
-    lines = told.stderr.decode(errors="replace").splitlines()
-    return told.returncode, told.stdout.decode(), [text for text in lines if not text.startswith(UNPROVED)]
+    return told.returncode, told.stdout.decode(), told_errors(told).splitlines()
 
 
 def fault_case(line, status, told):
@@ -147,6 +161,7 @@ def help_case(command):
     def tried(programs):
         got, output, lines = ended(command + " --help", programs)
         expect(got == 0 and not lines and output.startswith("usage: "), "\n".join([f"status {got}", output, *lines]))
+        expect(("JSONCRDT" in output) == (command in ASKING), output)
 
     return f"faults: {command} --help", tried
 
@@ -157,4 +172,4 @@ def faults():
     for line, told in WRITING:
         yield fault_case(line + " >/dev/full", 4, told)
         yield fault_case(line + " >&-", 4, told)
-    yield from map(help_case, HELPED)
+    yield from map(help_case, ASKING + HELPED)

@@ -238,11 +238,11 @@ def is_made(programs):
 
 def is_documented(_):
     """The documents have the faults, where each is seen, and how long an adapter may take."""
-    document, readme = stored("docs/CONFORMANCE.md"), stored("kit/README.md")
+    document, readme = stored("docs/ENGINES.md"), stored("kit/README.md")
     expect({*BROKEN} == {*FAULTS}, "not each fault has its scenarios")
     for fault, names in BROKEN.items():
         row = f"| `{fault}` | {FAULTS[fault]} | {', '.join(names)} |\n"
-        expect(row in document, f"docs/CONFORMANCE.md lacks the row\n{row}")
+        expect(row in document, f"docs/ENGINES.md lacks the row\n{row}")
     seconds = re.search(r"^SECONDS, MOST_BYTES = (\d+), ", stored("kit/judging.py"), re.MULTILINE)[1]
     expect(f"within {seconds} seconds" in readme, f"kit/README.md doesn't say that an adapter has {seconds} seconds")
     expect(f"it didn't end within {seconds} seconds" in str(JUDGED), "no adapter is tried that doesn't end")

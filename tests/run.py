@@ -1,10 +1,10 @@
 """What needs no proof, tried at once. ./test starts it."""
 
+import collections
 import concurrent.futures
 import glob
 import json
 import os
-import pty
 import re
 import shutil
 import subprocess
@@ -12,20 +12,27 @@ import sys
 import tempfile
 
 ROOT = os.path.dirname(os.path.dirname(os.path.abspath(__file__)))
-sys.path += [os.path.join(ROOT, "tools"), os.path.join(ROOT, "oracle")]
+sys.path += [os.path.join(ROOT, folder) for folder in ("tools", "oracle", "dev")]
 # What is wrong is told by the name of the script that starts this.
 sys.argv[0] = os.path.join(ROOT, "test")
 
 import command_line
 import definition
+import floors
 import processes
 import streams
-from blocks import bare_blocks, commands_of, long_paragraphs
-from cases import IN_PYTHON, IN_TEST, NotTried, Programs, Wrong, expect, expect_same, run, stored
+from architecture import architecture
+from blocks import ROWS, bare_blocks, commands_of, long_paragraphs, row_case
+from cases import IN_PYTHON, IN_TEST, NotTried, Programs, Wrong, expect, expect_same, run, stored, told_errors
+from edits import edits
 from faults import faults
 from grammar import EVENTS, RESERVED
+from journals import journals
 from kit import kit
+from lanes import lanes
+from read_back import pictures_read_back
 from scripts import scripts
+from terminal import terminal
 
 EXPECTED = os.path.join("tests", "expected")
 DOCUMENTS = ("README.md", "docs/*.md", "examples/*.md", "editors/*.md", "kit/*.md", "crates/*/README.md")
@@ -35,10 +42,10 @@ HEADINGS = ("## What the layer above sees", "## Only tested")
 ABOUT = """\
 Runs what needs no proof: blocks of the documents, examples, tools, scripts, the kit for other engines, and the rules in
 Python. It proves nothing; the gate, rt ci, does that. The last line is `N passed, M failed`, and the status is 1 where
-one failed."""
+one failed. What needs the built program, or a command that isn't there, is skipped, and counted on the line before."""
 WORDS = """\
-With words, what has one of them in its name: examples, README, docs, pages, tools, faults, launcher, more-edits, gate,
-process, arguments, editors, kit, oracle, or a part of a file's name or of a command."""
+With words, what has one of them in its name: examples, README, docs, pages, tools, faults, launcher, edits, more-edits,
+gate, process, arguments, editors, debug, kit, oracle, or a part of a file's name or of a command."""
 
 
 def block_case(command):
@@ -49,8 +56,9 @@ def block_case(command):
             raise NotTried("the built program")
         program = programs.of(command.text)
         text = re.sub(r"(?<!\S)\./jsoncrdt\b", program, command.text)
-        output = run(text, program, command.input, shell=True).stdout.decode(errors="replace")
-        expect(command.is_shown_by(output), f"{command.text}\ntells\n{output}")
+        ended = run(text, program, command.input, shell=True)
+        fault = command.fault(ended.returncode, ended.stdout.decode(errors="replace"), told_errors(ended))
+        expect(not fault, fault)
 
     return command.place, tried
 
@@ -90,20 +98,27 @@ def readme_case(crate):
 
 
 def pages():
+    for row in ROWS:
+        yield row_case(*row)
     yield from map(page_case, documents())
     yield from map(readme_case, sorted(glob.glob("crates/*")))
+    yield "pages: the crates of docs/WORKING.md", floors.are_shown
 
 
-def told_case(name, words, path, write=False):
-    """The command tells what is stored under the path."""
+def told_case(name, words, path, end=(0, ""), write=False):
+    """The command tells what is stored under the path, and ends with this status and with what fits this pattern on
+    standard error."""
 
     def tried(programs):
         program = programs.of(" ".join(words))
-        told = run([program if word == "./jsoncrdt" else word for word in words], program).stdout.decode()
+        ended = run([program if word == "./jsoncrdt" else word for word in words], program)
+        told = ended.stdout.decode()
         if write:
             with open(path, "w", encoding="utf-8") as file:
                 file.write(told)
         expect_same(told, stored(path))
+        is_right = ended.returncode == end[0] and re.fullmatch(end[1], told_errors(ended))
+        expect(is_right, f"it ended with {ended.returncode}: {told_errors(ended)}")
 
     return name, tried
 
@@ -111,6 +126,7 @@ def told_case(name, words, path, write=False):
 def pictures(file):
     """What is printed of an example: the name of the stored file, and the words of the command."""
     yield "lanes", ["tools/lanes", file]
+    yield "brief", ["tools/lanes", "--brief", "--view", file]
     yield "mermaid", ["tools/lanes", "--mermaid", file]
     yield "svg", ["tools/lanes", "--svg", file]
     for name in re.findall(r"^replica (\w+)", stored(file), re.MULTILINE):
@@ -122,11 +138,15 @@ def pictures(file):
 def examples(write):
     for file in sorted(glob.glob("examples/**/*.jsoncrdt", recursive=True)):
         base = file.removesuffix(".jsoncrdt")
-        yield told_case(f"examples: run {file}", ["./jsoncrdt", "run", file], base + ".run")
+        # An example with a stuck event ends so, and a graph says which it is.
+        stuck = re.search(r"^stuck .*\n", stored(base + ".run"), re.MULTILINE)
+        status = 3 if stuck else 0
+        yield told_case(f"examples: run {file}", ["./jsoncrdt", "run", file], base + ".run", (status, ""))
         yield told_case(f"examples: print {file}", ["./jsoncrdt", "print", file], file)
         for kind, words in pictures(file):
             path = os.path.join(EXPECTED, f"{os.path.basename(base)}.{kind}")
-            yield told_case(f"examples: {' '.join(words)}", words, path, write)
+            errors = f"tree: {re.escape(stuck[0])}" if stuck and kind.endswith("dot") else ""
+            yield told_case(f"examples: {' '.join(words)}", words, path, (status, errors), write)
 
 
 # Examples that are made smaller, each as long as this is found in what a command tells of it.
@@ -138,9 +158,11 @@ SHRUNK = (
 
 def tools(write):
     for name, command, looked_for in SHRUNK:
+        file = f"examples/{name}.jsoncrdt"
         agrees = f"\"$JSONCRDT\" {command} - 2>/dev/null | grep -q '{looked_for}'"
-        yield told_case(f"tools: shrink {name}", ["tools/shrink", f"examples/{name}.jsoncrdt", "sh", "-c", agrees],
-                        os.path.join(EXPECTED, f"{name}.shrunk"), write)
+        errors = rf"\d+ commands and events of {len(re.findall('^  ', stored(file), re.MULTILINE))}, \d+ tries\n"
+        yield told_case(f"tools: shrink {name}", ["tools/shrink", file, "sh", "-c", agrees],
+                        os.path.join(EXPECTED, f"{name}.shrunk"), (0, errors), write)
 
 
 def process_case(row):
@@ -171,30 +193,6 @@ def quits_at_once(programs):
 def process():
     yield from map(process_case, processes.ROWS)
     yield "process: quit while the input stays open", quits_at_once
-
-
-def in_terminal(words, typed):
-    """What a command shows in a terminal in which these lines are typed."""
-    ours, theirs = pty.openpty()
-    with subprocess.Popen(words, stdin=theirs, stdout=theirs, stderr=theirs, close_fds=True) as process:
-        os.close(theirs)
-        os.write(ours, typed.encode())
-        shown = b""
-        try:
-            while part := os.read(ours, 4096):
-                shown += part
-        except OSError:  # the end of a terminal's output
-            pass
-        os.close(ours)
-    return shown.decode(), process.returncode
-
-
-def has_prompt(_):
-    """A session by hand has a prompt with the position, help, and documents."""
-    shown, status = in_terminal([IN_PYTHON, "debug", "examples/first.jsoncrdt"], "help\nstep\nview\nnext\nquit\n")
-    looked_for = ["(0/1) ", "(1/1) ", "cut off the rest", '{"doc":{"a":1},"name":"a"}', "no such line"]
-    lacking = [text for text in looked_for if text not in shown]
-    expect(not lacking and status == 0, f"status {status}, without {lacking}:\n{shown}")
 
 
 def patterns_of(grammar):
@@ -298,10 +296,9 @@ def editors():
     yield "editors: tools/command_line.py and the sources of the program", is_defined
     yield "editors: tools/command_line.py and --help", names_commands
     yield "editors: editors/jsoncrdt.tmLanguage.json", colours_words
-    yield "oracle: a session in a terminal", has_prompt
 
 
-PASSED, FAILED, NOT_TRIED = "passed", "failed", "not tried"
+PASSED, FAILED, SKIPPED = "passed", "failed", "skipped"
 
 
 def result_of(case, programs):
@@ -310,7 +307,7 @@ def result_of(case, programs):
     try:
         tried(programs)
     except NotTried as lack:
-        return NOT_TRIED, f"not tried: {name} needs {lack}"
+        return SKIPPED, f"skipped: {name} needs {lack}"
     except Wrong as wrong:
         return FAILED, f"FAILED {name}\n  " + str(wrong).rstrip().replace("\n", "\n  ")
     except Exception as fault:  # of the test itself; the others are tried all the same
@@ -342,15 +339,21 @@ def main():
     parser.add_argument("words", metavar="WORD", nargs="*", help="only what has one of these words in its name")
     parser.add_argument("--write", action="store_true",
                         help="write what the tools print of each example to tests/expected, to be read before it is kept")
+    parser.add_argument("--built", action="store_true",
+                        help="fail where the built program isn't there, or what it is made of is newer")
     asked, programs = parser.parse_args(), Programs()
-    cases = [*examples(asked.write), *blocks(), *pages(), *tools(asked.write), *faults(), *scripts(), *process(), *arguments(),
-             *editors(), *kit()]
+    if asked.built and not programs.is_built:
+        print(f"FAILED test: {programs.lack}\n0 passed, 1 failed")
+        return 1
+    cases = [*examples(asked.write), *blocks(), *pages(), *tools(asked.write), *pictures_read_back(), *lanes(), *faults(),
+             *scripts(), *edits(), *architecture(), *process(), *arguments(), *editors(), *terminal(), *kit(),
+             *journals()]
     cases = chosen_of(cases, asked.words)
     if IN_TEST in os.environ:
         streams.stop("a test runs no tests")
     print("test: nothing is proved here; the gate, rt ci, does that")
     if not programs.is_built:
-        print("test: the built program isn't there, or its sources are newer; what is tried is the rules in Python")
+        print(f"test: {programs.lack}; what is tried is the rules in Python")
     with concurrent.futures.ThreadPoolExecutor(AT_ONCE) as pool:
         results = list(pool.map(lambda case: result_of(case, programs), cases))
     if not asked.words or "oracle" in asked.words:
@@ -358,7 +361,9 @@ def main():
     for _, line in results:
         if line:
             print(line)
-    counts = {kind: sum(result[0] == kind for result in results) for kind in (PASSED, FAILED)}
+    counts = collections.Counter(kind for kind, _ in results)
+    if counts[SKIPPED]:
+        print(f"{counts[SKIPPED]} skipped, for what they need isn't here")
     print(f"{counts[PASSED]} passed, {counts[FAILED]} failed")
     return 1 if counts[FAILED] else 0
 

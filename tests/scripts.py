@@ -1,9 +1,10 @@
-"""The scripts that call rt, tried with a command rt that is none: the launcher, dev/more-edits and .ci/run."""
+"""The scripts that call rt, tried with a command rt that is none: the launcher, and those of the gate."""
 
 import os
 import subprocess
 
-from cases import expect, expect_same, folder_of, place, stored
+from cases import expect, folder_of
+from gate import gate
 
 # A command rt for the launcher, which only tells its arguments, the files of a folder of cases, and its input.
 TELLING = """#!/bin/sh
@@ -20,14 +21,6 @@ ENDING = """#!/bin/sh
 echo shown
 echo told >&2
 exit %d
-"""
-# One for which the edits of the crate jc_b end as it is told, and the gate too.
-REFUSING = """#!/bin/sh
-case "$1 ${2-}" in
-    "must-fail jc_b") exit "$EDITS" ;;
-    must-fail*) echo "refused: $2" ;;
-    *) exit "${GATE:-0}" ;;
-esac
 """
 
 
@@ -72,56 +65,6 @@ def launcher():
         yield status_case(status)
 
 
-def called(folder, words, **variables):
-    """How a script ends that stands in the folder, where the command rt is too."""
-    environment = {**os.environ, **variables, "PATH": f"{folder}:{os.environ['PATH']}"}
-    return subprocess.run(words, cwd=folder, capture_output=True, check=False, env=environment)
-
-
-def goes_on(_):
-    """Where an edit of one crate isn't refused, those of the others are tried all the same, and it isn't recorded."""
-    names = ["jc_a", "jc_b", "jc_c"]
-    files = {f"crates/{name}/more-edits/one.edit": name for name in names}
-    # What is tried, how the edits of jc_b end, the status, what rt says, and which crates have their checksums after it.
-    steps = [
-        ([], 0, 0, "refused: jc_a\nrefused: jc_c\n", names),
-        (["--check"], 0, 0, "", names),
-        (names, 1, 1, "refused: jc_a\nrefused: jc_c\n", ["jc_a", "jc_c"]),
-        (["--check"], 1, 1, "", ["jc_a", "jc_c"]),
-        ([], 1, 1, "", ["jc_a", "jc_c"]),
-        (["jc_c"], 1, 0, "refused: jc_c\n", ["jc_a", "jc_c"]),
-    ]
-    script = {"dev/more-edits": stored("dev/more-edits")}
-    with folder_of({"rt": REFUSING, "crates.txt": "", "HANDLES": "", **script, **files}) as folder:
-        for words, edits, status, output, recorded in steps:
-            told = called(folder, ["dev/more-edits", *words], EDITS=str(edits))
-            lines = stored(os.path.join(folder, "dev", "more-edits.txt")).splitlines()
-            expect(told.returncode == status and told.stdout.decode() == output, f"{words}: {told}")
-            expect([line.split()[0] for line in lines] == recorded, f"{words}: {lines}")
-            expect(status == 0 or told.stderr.rstrip().endswith(b"jc_b"), f"{words}: {told}")
-
-
-def gate_case(edits, gate, tests, status, output, why):
-    """The gate ends as ./test does, or as rt ci where this failed, and tells the processor time of rt ci at its end. It
-    runs neither where dev/more-edits --check fails."""
-
-    def tried(_):
-        ending = f"#!/bin/sh\necho {tests} failed\nexit {tests}\n"
-        check = f'#!/bin/sh\n[ "$*" = --check ]\n{"echo stale >&2; exit 1" if edits else ""}\n'
-        with folder_of({"rt": REFUSING, "test": ending, "dev/more-edits": check, ".ci/run": ""}) as folder:
-            place(os.path.join(folder, ".ci", "run"), stored(".ci/run"))
-            told = called(folder, [".ci/run"], GATE=str(gate))
-        expect(told.returncode == status and told.stdout.decode() == output, f"{told}")
-        expect_same(told.stderr.decode(), why)
-
-    return f"gate: dev/more-edits --check ends with {edits}, rt ci with {gate}, ./test with {tests}", tried
-
-
 def scripts():
     yield from launcher()
-    yield "more-edits: goes on behind a crate that fails", goes_on
-    took = "gate: rt ci took 0.0 processor minutes\n"
-    yield gate_case(0, 0, 0, 0, "0 failed\n", took)
-    yield gate_case(0, 0, 1, 1, "1 failed\n", took)
-    yield gate_case(0, 3, 0, 3, "", took)
-    yield gate_case(1, 0, 0, 1, "", "stale\n")
+    yield from gate()

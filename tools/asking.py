@@ -1,8 +1,4 @@
-"""What the tools here have in common: how they ask the program, and how they read its texts.
-
-The program is that which the variable JSONCRDT of the environment names; else the built one, where it is built; else
-the command line over the rules in Python, which gives the same texts.
-"""
+"""What the tools here have in common: which program they ask and how, and how they read its texts."""
 
 import collections
 import os
@@ -10,13 +6,25 @@ import re
 import subprocess
 import sys
 import tempfile
+import textwrap
 
 ROOT = os.path.dirname(os.path.dirname(os.path.abspath(__file__)))
 BUILT = os.path.join(ROOT, "crates", "jc_app", "out", "jc_app")
 IN_PYTHON = os.path.join(ROOT, "oracle", "jsoncrdt")
 sys.path.append(os.path.join(ROOT, "oracle"))
 
-from streams import READ_OR_WRITE_FAILED, Parser, number_from, reason_of, run, stop
+import streams
+from streams import READ_OR_WRITE_FAILED, number_from, reason_of, run, stop
+
+ASKED = ("The program that is asked is the one that the variable JSONCRDT of the environment names; else the built "
+         "one, where it is built; else the rules in Python, oracle/jsoncrdt, which give the same texts.")
+
+
+class Parser(streams.Parser):
+    """The command line of a tool that asks the program: its help says which."""
+
+    def format_help(self):
+        return f"{super().format_help()}\n{textwrap.fill(ASKED, 78)}\n"
 
 
 def program():
@@ -28,7 +36,9 @@ def program():
 def told(words, text=""):
     """What the program writes on its output, and its status. Where it can't read, write or be found, the tool ends."""
     try:
-        ended = subprocess.run([program(), *words], input=text.encode(), capture_output=True, check=False)
+        # It is out of reach of Ctrl-C, which ends a tool with what it started, or is the tool's own affair.
+        ended = subprocess.run([program(), *words], input=text.encode(), capture_output=True, check=False,
+                               start_new_session=True)
     except OSError as error:
         stop(f"{program()}: {reason_of(error)}")
     if ended.returncode not in (0, 1, 3):
@@ -38,6 +48,14 @@ def told(words, text=""):
     if ended.returncode == 1 and not output.startswith("refused "):
         stop(f"{program()} isn't jsoncrdt: it ended with 1 and told no refusal")
     return output, ended.returncode
+
+
+DOCUMENT = '{"doc":'
+
+
+def document_of(line):
+    """The JSON text of the document in a line of a view, or none."""
+    return line[len(DOCUMENT):line.rindex(',"name":')] if line.startswith(DOCUMENT) else None
 
 
 def text_of(file):
@@ -73,6 +91,11 @@ class Scenario:
                 block = self.given if line == "given {" else self.events
             elif line.startswith("  "):
                 block.append(line[2:-1])
+
+    def scheduled(self, events):
+        """The canonical text with this schedule."""
+        before = self.text.rpartition("\nschedule {\n")[0]
+        return "".join([before, "\nschedule {\n", *(f"  {event};\n" for event in events), "}\n"])
 
 
 EVENT = re.compile(r"(\w+)\.(exec|send|done|recv|take|apply)(?:\((?:([A-Za-z_]\w*), )?(?:(\d+), )?(\w+)\))?")

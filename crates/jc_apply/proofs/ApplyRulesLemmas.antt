@@ -13,7 +13,7 @@ use Rattle.jc_rules.specs.declared.value.Value.{Value}
 use Rattle.jc_rules.specs.Order.{key_cmp, id_cmp}
 use Rattle.jc_rules.specs.Entries.{find, put}
 use Rattle.jc_rules.specs.Ids.{with_id}
-use Rattle.jc_rules.specs.Context.{Context, Content, Node, Values, Register, IsPrimitive, registers, maps, lists, values_of, content, with_content, new_content, presence, with_presence, key_of_tagged, empty, empty_list}
+use Rattle.jc_rules.specs.Context.{Context, Content, Node, Values, Register, IsPrimitive, registers, values_of, content, with_content, new_content, presence, with_presence, key_of_tagged, empty, empty_list}
 use Rattle.jc_rules.specs.ContextsAt.{with_node_at, node_in}
 use Rattle.jc_rules.specs.Derivation.{Question, Presence, AddId, Child, Clear, ClearElem, Operate, ToIds, ToContent, ToContext, Cleared}
 use Rattle.jc_rules.specs.Derives.{Derives}
@@ -28,9 +28,9 @@ use Rattle.jc_tree.specs.CanGoBack.{TreeCanGoBack}
 use Rattle.jc_tree.proofs.CanGoBackLemmas.{nothing, tree_changed}
 use Rattle.jc_clear.specs.Clears.{Clears}
 use Rattle.jc_tree.proofs.PlacesLemmas.{then_here, then_place, then_now}
+use Rattle.jc_tree.proofs.PathLemmas.{found_context}
 use Rattle.jc_apply.specs.Fits.{content_or_new, empty_of}
 use Rattle.jc_apply.specs.AppliesAlong.{AddsId, IsAdded, TellsAdded, LeadsTo, Enters, AssignsEmpty}
-use Rattle.jc_clear.proofs.ClearRulesLemmas.{found_node}
 
 -- a register that is there or not, by the rule that says so
 pub register_there : (c : Context) (k : Key) → true ≡ is_some (find key_cmp k (registers c)) → Follows R.ChildGet (Child c (RegT k)) (ToContent (Values (or_no_entries (find key_cmp k (registers c))))) []
@@ -139,11 +139,6 @@ deleted at o a b ids t p u w is pe x we =
       derives = one_premise R.Delete _ _ _ _ t u dx (x.after, ids, refl, is, refl, refl);
       now = x.now;
     })
-
-pub found_context : (k : Tagged) (c : Context) → HasContext k → is_some (content k c) ≡ true → (d : Context) × (content k c ≡ Some (Node d))
-found_context (MapT k) c h s = found_node (find key_cmp k (maps c)) s
-found_context (ListT k) c h s = found_node (find key_cmp k (lists c)) s
-found_context (RegT k) c h s = absurd h
 
 child_is : (k : Tagged) (x : Option Content) (d : Context) → content_or_new k x ≡ Node d → node_in (Some (content_or_new k x)) ≡ Some d
 child_is k x d e = rw e refl

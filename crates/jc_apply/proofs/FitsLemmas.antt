@@ -17,11 +17,10 @@ use Rattle.jc_rules.specs.State.{State}
 use Rattle.jc_rules.specs.Syntax.{Expr}
 use Rattle.jc_rules.specs.Derivation.{Question, Operate}
 use Rattle.jc_rules.specs.Refused.{Cause, Refused, first_expr, in_first, not_a_cursor, operate_below, not_in_list, insert_later}
-use Rattle.jc_clear.specs.Bare.{AreChainedBelow}
-use Rattle.jc_clear.proofs.BareLemmas.{map_below, list_below, below-chained, below-list}
-use Rattle.jc_clear.proofs.ClearListLemmas.{leads_from, leads_on, leads_next}
+use Rattle.jc_tree.specs.ChainedBelow.{AreChainedBelow}
+use Rattle.jc_tree.proofs.ChainedBelowLemmas.{map_below, list_below, below-chained, below-list, no_links}
+use Rattle.jc_tree.proofs.ChainedLeadsLemmas.{leads_from, leads_on, leads_next}
 use Rattle.jc_apply.specs.Fits.{Fits, FitsHere, InChild, content_or_new, child_context}
-use Rattle.jc_apply.proofs.InsertLemmas.{no_links}
 use Rattle.jc_apply.proofs.FitsAnsweredLemmas.{child_is}
 use Rattle.jc_rules.proofs.ContextLemmas.{no_node}
 

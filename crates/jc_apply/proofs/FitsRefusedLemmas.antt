@@ -50,7 +50,7 @@ child_answered t c = go (content t c) refl
     go None e = record { derivation = derive (new_rule t) (gives (Child c t) (ToContent (new_content t))) none; holds = (new_follows t c e, tt); concludes = refl }
     go (Some x) e = record { derivation = derive R.ChildGet (gives (Child c t) (ToContent x)) none; holds = ((x, e, refl, refl), tt); concludes = refl }
 
-child_node : (t : Tagged) (c : Context) → HasContext t → (d : Context) × (content_or_new t (content t c) ≡ Node d)
+pub child_node : (t : Tagged) (c : Context) → HasContext t → (d : Context) × (content_or_new t (content t c) ≡ Node d)
 child_node (MapT k) c h = go (find key_cmp k (maps c))
   where
     go : (o : Option Context) → (d : Context) × (content_or_new (MapT k) (node_of o) ≡ Node d)

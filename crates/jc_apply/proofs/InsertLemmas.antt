@@ -1,5 +1,5 @@
 -- About AppliesAlong: going past elements with greater identifiers, and linking a new one.
-use Rattle.std.proofs.Common.{◌≡◌, ◌≢◌, ◌<◌, ◌≤◌, List, [], ◌∷◌, length, Option, Some, None, refl, ◌∙◌, ap, subst, arith}
+use Rattle.std.proofs.Common.{◌≡◌, ◌≢◌, ◌<◌, ◌≤◌, List, [], ◌∷◌, length, Some, None, refl, ◌∙◌, ap, subst, arith}
 use Rattle.std.specs.declared.cmp.Ordering.{Ordering}
 use Rattle.std.specs.declared.cmp.Ordering.TheVariants.{Less, Equal, Greater}
 use Rattle.jc_rules.specs.declared.id.Id.{Id}
@@ -8,7 +8,6 @@ use Rattle.jc_rules.specs.declared.key.Key.TheVariants.{Elem}
 use Rattle.jc_rules.specs.declared.key.Next.{Next}
 use Rattle.jc_rules.specs.declared.key.Next.TheVariants.{Tail, Elem as To}
 use Rattle.jc_rules.specs.declared.key.Tagged.{Tagged}
-use Rattle.jc_rules.specs.declared.key.Tagged.TheVariants.{MapT, ListT, RegT}
 use Rattle.jc_rules.specs.declared.operation.Mutation.TheVariants.{Assign, Insert}
 use Rattle.jc_rules.specs.declared.operation.Op.{Op}
 use Rattle.jc_rules.specs.declared.rule.Rule.TheVariants as R
@@ -16,25 +15,22 @@ use Rattle.jc_rules.specs.declared.value.Value.{Value}
 use Rattle.jc_rules.specs.Order.{id_cmp}
 use Rattle.jc_rules.specs.Entries.{find}
 use Rattle.jc_rules.specs.Order.{key_cmp}
-use Rattle.jc_rules.specs.Context.{Context, context, Content, Node, Values, registers, content, links, next, with_next}
-use Rattle.jc_rules.specs.ContextsAt.{node_at, with_node_at}
+use Rattle.jc_rules.specs.Context.{Context, links, next, with_next}
+use Rattle.jc_rules.specs.ContextsAt.{with_node_at}
 use Rattle.jc_rules.specs.Derivation.{Operate, ToContext}
 use Rattle.jc_rules.specs.Derives.{Derives}
 use Rattle.jc_rules.specs.WellFormed.{IsChained, IsChainedList}
 use Rattle.jc_rules.specs.Trace.{Rows, IsLonger, pushed, one_deeper, at_depth}
 use Rattle.jc_rules.specs.Table.{moved, IsBefore}
 use Rattle.jc_rules.proofs.OrderLemmas.{exact_ids}
-use Rattle.jc_rules.proofs.ContextsAtLemmas.{there}
 use Rattle.jc_rules.proofs.DerivesLemmas.{one_premise, same_rows, longer_still}
 use Rattle.jc_tree.specs.Tree.{Tree, HasPlace, here, IsChanged}
 use Rattle.jc_tree.proofs.ChainedLemmas.{chained_linked}
-use Rattle.jc_clear.proofs.BareLemmas.{map_below, list_below, below-chained, below-list}
-use Rattle.jc_clear.proofs.ClearListLemmas.{Leads as LeadsOn, leads_from, leads_next, leads_on, steps}
+use Rattle.jc_tree.proofs.ChainedLeadsLemmas.{Leads as LeadsOn, leads_from, leads_next, leads_on, steps}
 use Rattle.jc_tree.proofs.PlacesLemmas.{then_here, then_place, then_now}
 use Rattle.jc_apply.specs.Fits.{IsUnlinked}
 use Rattle.jc_apply.specs.AppliesAlong.{LeadsTo, LinksNone, LinksOnly, Passes}
 use Rattle.jc_apply.proofs.UnlinkedLemmas.{unlinked_here, unlinked_now, unlinked-linked, no_next}
-use Rattle.jc_rules.proofs.ContextLemmas.{no_node}
 
 -- what the loop keeps: its place is on the chain, and what is derived there is derived for the operation
 pub record Passing (o : Op) (c : Context) (k : Key) (n : Next) (t u : Rows) : Type 0 where
@@ -43,30 +39,6 @@ pub record Passing (o : Op) (c : Context) (k : Key) (n : Next) (t u : Rows) : Ty
   pub deeper : t.depth ≤ u.depth
   pub longer : IsLonger t u
   pub rest : (d : Context) (v : Rows) → Derives (Operate c (moved o [] k o.mutation)) (ToContext d) u v → Derives (Operate c (moved o [] o.cursor.last o.mutation)) (ToContext d) t (at_depth t.depth v)
-
-pub no_links : (k : Key) (n : Next) (c : Context) → IsChained c → next k c ≡ Some n → ⊥
-no_links k n (context m l r p ns) h e = let f : None ≡ Some n = rw h.0 at e in cc
-
--- a place where a key is linked is a list
-list_node : (ks : List Tagged) (k : Key) (n : Next) (c d : Context) → node_at ks c ≡ Some d → next k d ≡ Some n → (IsChained c → IsChainedList d) × (IsChainedList c → IsChainedList d)
-list_node [] k n c d e f =
-    let same : c ≡ d = cc in
-    (λ h. absurd (no_links k n d (subst IsChained same h) f), λ h. subst IsChainedList same h)
-list_node (t ∷ ts) k n c d e f = go t (content t c) refl (λ x g. list_node ts k n x d g f) e
-  where
-    go : (j : Tagged) (o : Option Content) → content j c ≡ o → ((x : Context) → node_at ts x ≡ Some d → (IsChained x → IsChainedList d) × (IsChainedList x → IsChainedList d)) → node_at (j ∷ ts) c ≡ Some d → (IsChained c → IsChainedList d) × (IsChainedList c → IsChainedList d)
-    go j None p ih g = let no : None ≡ Some d = rw p at g in cc
-    go j (Some (Values r)) p ih g = let no : None ≡ Some d = rw p at g in cc
-    go (MapT i) (Some (Node x)) p ih g =
-        let one_deeper = ih x (rw p at g) in
-        (λ h. one_deeper.0 (map_below i c x p (below-chained c h)), λ h. one_deeper.0 (map_below i c x p (below-list c h)))
-    go (ListT i) (Some (Node x)) p ih g =
-        let one_deeper = ih x (rw p at g) in
-        (λ h. one_deeper.1 (list_below i c x p (below-chained c h)), λ h. one_deeper.1 (list_below i c x p (below-list c h)))
-    go (RegT i) (Some (Node x)) p ih g = no_node (find key_cmp i (registers c)) x p
-
-pub list_here : (at : List Tagged) (k : Key) (n : Next) (a : Tree) → HasPlace at a → next k (here at a) ≡ Some n → IsChained a.now → IsChainedList (here at a)
-list_here at k n a p e h = (list_node at k n a.now (here at a) (there at a.now p) e).0 h
 
 pub first_pass : (o : Op) (c : Context) (k : Key) (n : Next) (t : Rows) → IsChainedList c → k ≡ o.cursor.last → next k c ≡ Some n → Passing o c k n t t
 first_pass o c k n t h e f =

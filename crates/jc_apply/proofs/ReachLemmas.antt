@@ -20,6 +20,7 @@ use Rattle.jc_rules.specs.Paths.{HasContext, IsPath}
 use Rattle.jc_rules.proofs.ContextsAtLemmas.{there}
 use Rattle.jc_rules.proofs.RisingLemmas.{all_at}
 use Rattle.jc_tree.proofs.PlacesLemmas.{some_content}
+use Rattle.jc_apply.proofs.FitsRefusedLemmas.{child_node}
 use Rattle.jc_apply.specs.Fits.{Fits, FitsHere, InChild, content_or_new, child_context, made_under}
 use Rattle.jc_rules.proofs.BoolLemmas.{none_of, no_truth}
 
@@ -216,13 +217,10 @@ insert_new c path ts n before k m v o r same all within w was is parent tells =
     let fit = insert_fits c (made_under o) path ts k m v same (reached_new c path n before all within w was ∙ ap (λ (x : Option Tagged). Some (made_under x)) (sym parent)) is in
     (λ e. fit.0 (tells.0 e), λ f. tells.1 (fit.1 f))
 
--- what isn't an insert
-pub other_fits : (c : Context) (path ts : List Tagged) (n : ℕ) (before : Bool) (k : Key) (m : Mutation) → path ≡ ts → length path ≤ n → n ≤ length path → Walked c path n before → ((v : Value) → m ≢ Insert v) → Fits c ts k m
-other_fits c path ts n before k m same all within w h = go before w refl
-  where
-    at_end : (d : Context) → reached path c ≡ Some d → Fits c ts k m
-    at_end d e = (fits-reached ts c d k m (ap (λ (ps : List Tagged). reached ps c) (sym same) ∙ e)).1 (fits_all m d k h)
-
-    go : (b : Bool) → Walked c path n b → b ≡ before → Fits c ts k m
-    go true u e = at_end _ (reached_place c path n true all u refl)
-    go false u e = at_end _ (reached_new c path n false all within u refl)
+-- what isn't an insert fits on each path
+pub other_fits : (path : List Tagged) (c : Context) (k : Key) (m : Mutation) → AllByRecursion HasContext path → ((v : Value) → m ≢ Insert v) → Fits c path k m
+other_fits [] c k m all h = fits_all m c k h
+other_fits (t ∷ ts) c k m all h =
+    let child = child_node t c all.0 in
+    let is : child_context t c ≡ Some child.0 = ap (λ (x : Content). node_in (Some x)) child.1 in
+    subst (λ (o : Option Context). InChild o (λ d. Fits d ts k m)) (sym is) (other_fits ts child.0 k m all.1 h)

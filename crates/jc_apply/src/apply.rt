@@ -1,17 +1,20 @@
 //! Applying an operation to a document: replicas do it with operations that they make or receive.
 
-ghost use Rattle.std.specs.Prelude.{◌≡◌, ◌≢◌, ◌≤◌, ◌↔◌, [], List, IsErrOf, IfOk, OnOk, OnErr, length, take, drop};
+ghost use Rattle.std.specs.Prelude.{◌≡◌, ◌≢◌, ◌≤◌, ◌↔◌, [], List, Some, IsErrOf, IfOk, OnOk, OnErr, length, take, drop};
 ghost use Rattle.jc_rules.specs.declared.id.Id.{Id as AnyId};
+ghost use Rattle.jc_rules.specs.declared.operation.Op.{Op as AnyOp};
 ghost use Rattle.jc_rules.specs.declared.refusal.Refusal.TheVariants.{NotInList as PlaceNotInList};
 ghost use Rattle.jc_rules.specs.Derivation.{Operate, ToContext};
 ghost use Rattle.jc_rules.specs.Derives.{Derives};
 ghost use Rattle.jc_rules.specs.Refused.{Refused, because};
 ghost use Rattle.jc_rules.specs.WellFormed.{IsChained};
-ghost use Rattle.jc_rules.specs.Table.{moved};
+ghost use Rattle.jc_rules.specs.Representation.{Represents};
+ghost use Rattle.jc_rules.specs.Table.{moved, op_of};
 ghost use Rattle.jc_rules.specs.History.{IsLater};
 ghost use Rattle.jc_tree.specs.Tree.{HasPlace, here};
 ghost use Rattle.jc_tree.specs.CanGoBack.{TreeCanGoBack};
-ghost use Rattle.jc_vectors.specs.OperationIds.{with_deps};
+ghost use Rattle.jc_vectors.specs.KnownIds.{KnowsOnly};
+ghost use Rattle.jc_vectors.specs.OperationIds.{ids_of_ops, with_deps};
 ghost use Rattle.jc_apply.specs.Fits.{Fits, IsUnlinked};
 ghost use Rattle.jc_apply.specs.AppliesAlong.{AddsId, LeadsTo, LinksNone, LinksOnly};
 
@@ -158,9 +161,9 @@ fn operate<S: TreeStore>(
 ///
 /// An operation is refused with `NotInList` exactly where it doesn't fit; all else that is refused is
 /// memory. After a refusal store and trace are as they were. That no derivation applies an operation
-/// that is refused so is the law `refused_has_none` of jc_rules. That the same rules apply the
-/// operation with the dependencies that its counters represent is the law `operate_stands` of
-/// jc_vectors.
+/// that is refused so is the law `refused_has_none` of jc_rules. In each sound set of operations that
+/// has the operation's identifier and all of the document, the same rules apply the operation with the
+/// dependencies that its version vector represents.
 pub fn apply_op<S: TreeStore>(
     alloc: Global,
     store: &mut S,
@@ -171,6 +174,12 @@ pub fn apply_op<S: TreeStore>(
     requires fresh { IsUnlinked op.now.id (S.tree store.old).now }
     ensures ok { OnOk result (Derives (Operate (S.tree store.old).now op.now)
         (ToContext (S.tree store.new).now) trace.old trace.new) }
+    ensures stands { OnOk result ((set : List AnyOp) (deps : List AnyId) (own : AnyOp)
+        → Represents set deps op.now.deps → op_of op.now.id set ≡ Some own
+        → KnowsOnly (ids_of_ops set) (S.tree store.old).now
+        → Derives (Operate (S.tree store.old).now (with_deps deps op.now))
+        (ToContext (S.tree store.new).now) trace.old trace.new
+        × KnowsOnly (ids_of_ops set) (S.tree store.new).now) }
     ensures fits { Fits (S.tree store.old).now op.now.cursor.path op.now.cursor.last op.now.mutation
         ↔ (IsErrOf result ApplyFault.NotInList → ⊥) }
     ensures refused { IsErrOf result ApplyFault.NotInList

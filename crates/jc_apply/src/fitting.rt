@@ -34,15 +34,15 @@ pub fn fits<S: TreeStore>(store: &S, cursor: &Cursor, mutation: &Mutation) -> bo
         → EachOp cursor.now mutation.now (λ o. (why : Cause) → Refused (Operate (S.tree store.now).now o) why → ⊥) }
 {
     let path = cursor.path.as_slice();
+    let Mutation::Insert(_) = mutation else {
+        return true;
+    };
     let mut place = Some(store.root());
     for (depth, key) in path.iter().enumerate() {
         if let Some(parent) = place {
             place = store.below(parent, &path[..depth], key);
         }
     }
-    let Mutation::Insert(_) = mutation else {
-        return true;
-    };
     match place {
         Some(place) => {
             let step = store.step_by(place, path, &cursor.last, Hint { number: 0 });

@@ -11,11 +11,12 @@ use Rattle.jc_rules.specs.Context.{Context, context, Children, children, no_chil
 use Rattle.jc_rules.specs.ContextsAt.{node_at, at_node}
 use Rattle.jc_rules.specs.WellFormed.{IsChained, AreChained, AreLists, IsChainedList}
 use Rattle.jc_rules.proofs.OrderLemmas.{keys_total, exact_keys}
-use Rattle.jc_rules.proofs.EntriesLemmas.{same-eq, value-found}
+use Rattle.jc_rules.proofs.EntriesLemmas.{same-eq}
 use Rattle.jc_rules.proofs.ContextsAtLemmas.{node_found, children_listed}
 use Rattle.jc_tree.specs.Nested.{nested, nested_in}
-use Rattle.jc_tree.proofs.ChainedLemmas.{each_chained, each_list, chain-same}
-use Rattle.jc_clear.specs.Bare.{bare, bare_in, emptied, AreChainedBelow}
+use Rattle.jc_tree.proofs.ChainedLemmas.{chain-same}
+use Rattle.jc_tree.specs.ChainedBelow.{AreChainedBelow}
+use Rattle.jc_clear.specs.Bare.{bare, bare_in, emptied}
 use Rattle.jc_rules.proofs.ContextLemmas.{no_node}
 
 links_bare : (c : Context) → links (bare c) ≡ links c
@@ -94,24 +95,6 @@ pub below-same : (c d : Context) → bare c ≡ bare d → AreChainedBelow c →
 below-same c d e h =
     let b : AreChainedBelow (bare d) = rw e at (below-bare c).0 h in
     (below-bare d).1 b
-
-pub below-chained : (c : Context) → IsChained c → AreChainedBelow c
-below-chained (context m l r p n) h = (h.1, h.2)
-
-pub below-list : (c : Context) → IsChainedList c → AreChainedBelow c
-below-list (context m l r p n) h = (h.1, h.2)
-
--- a map or a list one key further down
-pub map_below : (k : Key) (c d : Context) → content (MapT k) c ≡ Some (Node d) → AreChainedBelow c → IsChained d
-map_below k (context m l r p n) d e h = value-found keys_total exact_keys IsChained k d (listed m) (each_chained m h.0) (node_found _ d e)
-
-pub list_below : (k : Key) (c d : Context) → content (ListT k) c ≡ Some (Node d) → AreChainedBelow c → IsChainedList d
-list_below k (context m l r p n) d e h = value-found keys_total exact_keys IsChainedList k d (listed l) (each_list l h.1) (node_found _ d e)
-
-pub child_below : (t : Tagged) (c d : Context) → content t c ≡ Some (Node d) → AreChainedBelow c → AreChainedBelow d
-child_below (MapT k) c d e h = below-chained d (map_below k c d e h)
-child_below (ListT k) c d e h = below-list d (list_below k c d e h)
-child_below (RegT k) c d e h = no_node (find key_cmp k (registers c)) d e
 
 nested_found : (k : Key) (cs : Children) (d : Context) → find key_cmp k (listed cs) ≡ Some d → suc (nested d) ≤ nested_in cs
 nested_found k no_child d h = cc

@@ -1,5 +1,5 @@
 -- About Clears: the rules of clearing at one place.
-use Rattle.std.proofs.Common.{◌≡◌, suc, ◌≤◌, List, [], ◌∷◌, ◌++◌, Option, Some, None, is_some, true, refl, sym, ◌∙◌, ap, subst}
+use Rattle.std.proofs.Common.{◌≡◌, suc, ◌≤◌, List, [], ◌∷◌, ◌++◌, Some, None, is_some, true, refl, sym, ◌∙◌, ap, subst}
 use Rattle.jc_rules.specs.declared.id.Id.{Id}
 use Rattle.jc_rules.specs.declared.key.Key.{Key}
 use Rattle.jc_rules.specs.declared.key.Key.TheVariants.{Head}
@@ -10,7 +10,7 @@ use Rattle.jc_rules.specs.declared.rule.Rule.TheVariants as R
 use Rattle.jc_rules.specs.Order.{key_cmp}
 use Rattle.jc_rules.specs.Entries.{find, keys_of}
 use Rattle.jc_rules.specs.Ids.{AreRising, union, without}
-use Rattle.jc_rules.specs.Context.{Context, Node, Values, Register, registers, maps, lists, node_of, values_of, content, with_content, presence, with_presence}
+use Rattle.jc_rules.specs.Context.{Context, Node, Values, Register, registers, maps, lists, values_of, content, with_content, presence, with_presence}
 use Rattle.jc_rules.specs.ContextsAt.{node_at, with_node_at}
 use Rattle.jc_rules.specs.WellFormed.{IsWellFormedRegister, IsChainedList}
 use Rattle.jc_rules.specs.Derivation.{Question, gives, Clear, ClearAny, ClearElem, ClearMap, ClearList, Presence, ToIds, Cleared}
@@ -22,9 +22,12 @@ use Rattle.jc_rules.proofs.ContextsAtLemmas.{there, with_node-same, node-below, 
 use Rattle.jc_rules.proofs.DerivesLemmas.{by_axiom, one_premise, two_premises, three_premises}
 use Rattle.jc_tree.specs.Nested.{nested}
 use Rattle.jc_tree.specs.Tree.{Tree, HasPlace, here, IsChanged}
-use Rattle.jc_clear.specs.Bare.{bare, AreChainedBelow}
+use Rattle.jc_tree.specs.ChainedBelow.{AreChainedBelow}
+use Rattle.jc_clear.specs.Bare.{bare}
 use Rattle.jc_clear.specs.Clears.{Clears}
-use Rattle.jc_clear.proofs.BareLemmas.{bare-presence, bare-register, bare-with, map_below, list_below, below-chained, nested_below, below-same, nested-same}
+use Rattle.jc_clear.proofs.BareLemmas.{bare-presence, bare-register, bare-with, nested_below, below-same, nested-same}
+use Rattle.jc_tree.proofs.ChainedBelowLemmas.{map_below, list_below, below-chained}
+use Rattle.jc_tree.proofs.PathLemmas.{found_node}
 use Rattle.jc_tree.proofs.PlacesLemmas.{then_here, then_place, then_now, some_place}
 
 pub presence_there : (c : Context) (k : Key) (s ids : List Id) (t u : Rows) → presence k c ≡ Some s → ids ≡ s → u ≡ pushed t R.Presence1 → Derives (Presence c k) (ToIds ids) t u
@@ -92,10 +95,6 @@ clear_any at p q deps k a b d e s1 s2 s3 s t o t1 t2 t3 u h oe x pe y1 qe z1 is 
       same = z.same ∙ ap bare hd ∙ y.same ∙ ap bare hb ∙ x.same;
       rises = union-rises s1 (union s2 s3);
     })
-
-pub found_node : (x : Option Context) → is_some (node_of x) ≡ true → (d : Context) × (node_of x ≡ Some (Node d))
-found_node None h = cc
-found_node (Some d) h = (d, refl)
 
 -- the place one key further down
 down_node : (at : List Tagged) (k : Tagged) (d : Context) (a : Tree) → HasPlace at a → content k (here at a) ≡ Some (Node d) → node_at (at ++ k ∷ []) a.now ≡ Some d

@@ -10,8 +10,10 @@ use Rattle.jc_tree.specs.Tree.{Tree, HasPlace, here}
 use Rattle.jc_rules.specs.Derivation.{Question}
 use Rattle.jc_rules.specs.Trace.{Rows}
 use Rattle.jc_clear.specs.Clears.{Clears}
-use Rattle.jc_clear.specs.Bare.{bare, AreChainedBelow}
-use Rattle.jc_clear.proofs.BareLemmas.{below-chained, child_below, bare-with, chained-same, still_there}
+use Rattle.jc_tree.specs.ChainedBelow.{AreChainedBelow}
+use Rattle.jc_clear.specs.Bare.{bare}
+use Rattle.jc_tree.proofs.ChainedBelowLemmas.{below-chained, child_below}
+use Rattle.jc_clear.proofs.BareLemmas.{bare-with, chained-same, still_there}
 
 -- what is chained below the content is chained below a place
 chained_node : (ks : List Tagged) (c d : Context) → node_at ks c ≡ Some d → AreChainedBelow c → AreChainedBelow d

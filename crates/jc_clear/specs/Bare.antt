@@ -2,7 +2,6 @@
 use Rattle.std.specs.Prelude.{List, [], map}
 use Rattle.jc_rules.specs.declared.key.Key.{Key}
 use Rattle.jc_rules.specs.Context.{Context, context, Children, no_child, child, Register}
-use Rattle.jc_rules.specs.WellFormed.{AreChained, AreLists}
 
 -- the keys of registers, with no values
 abbrev pub emptied : List (Key × Register) → List (Key × Register)
@@ -16,7 +15,3 @@ abbrev mutual
   pub bare_in : Children → Children
   bare_in no_child = no_child
   bare_in (child k c cs) = child k (bare c) (bare_in cs)
-
--- the lists below the context are chained, whatever the context itself is
-abbrev pub AreChainedBelow : Context → Type 0
-AreChainedBelow (context m l r p n) = AreChained m × AreLists l

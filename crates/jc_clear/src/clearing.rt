@@ -1,14 +1,19 @@
 //! Clearing what is under a key, at every depth: assignments and deletions of jc_apply begin with it.
 //! Recursion follows paths; keys of maps and elements of lists are walked by loops.
 
-ghost use Rattle.std.specs.Prelude.{◌≡◌, [], Some, IfOk, OnOk, OnErr};
+ghost use Rattle.std.specs.Prelude.{◌≡◌, [], List, Some, IfOk, OnOk, OnErr};
+ghost use Rattle.jc_rules.specs.declared.id.Id.{Id as AnyId};
 ghost use Rattle.jc_rules.specs.declared.key.Key.TheVariants.{Head};
 ghost use Rattle.jc_rules.specs.declared.key.Tagged.TheVariants.{MapT, ListT};
+ghost use Rattle.jc_rules.specs.declared.operation.Op.{Op as AnyOp};
 ghost use Rattle.jc_rules.specs.Derivation.{Clear, ClearAny, ClearElem, ClearList, ClearMap};
+ghost use Rattle.jc_rules.specs.Representation.{Represents};
 ghost use Rattle.jc_rules.specs.WellFormed.{IsChained, IsChainedList};
+ghost use Rattle.jc_vectors.specs.KnownIds.{KnowsOnly};
+ghost use Rattle.jc_vectors.specs.OperationIds.{ids_of_ops};
 ghost use Rattle.jc_tree.specs.CanGoBack.{TreeCanGoBack};
+ghost use Rattle.jc_tree.specs.ChainedBelow.{AreChainedBelow};
 ghost use Rattle.jc_tree.specs.Tree.{HasPlace, NamesStay, here};
-ghost use Rattle.jc_clear.specs.Bare.{AreChainedBelow};
 ghost use Rattle.jc_clear.specs.Clears.{Clears};
 
 use crate::registers::{clear_register, presence_of};
@@ -274,8 +279,9 @@ fn tagged_in<S: TreeStore>(
 /// Returns the identifiers that are left in what was cleared, rising.
 ///
 /// The rules are added to the trace at its depth. Tagged keys, links and names of places stay as they
-/// are. That the same rules clear alike by the causally closed set that `deps` represents is the law
-/// `clear_stands` of jc_vectors. Only memory can be refused; store and trace are then as they were.
+/// are. In each sound set of operations that has all identifiers of the document, the same rules clear
+/// alike by the causally closed set that `deps` represents. Only memory can be refused; store and trace
+/// are then as they were.
 pub fn clear<S: TreeStore>(
     alloc: Global,
     store: &mut S,
@@ -288,6 +294,11 @@ pub fn clear<S: TreeStore>(
     requires chained { IsChained (S.tree store.old).now }
     ensures ok { IfOk result (λ ids. Clears (λ c. Clear c deps.now key.now)
         at.now (S.tree store.old) (S.tree store.new) ids.items trace.old trace.new) }
+    ensures stands { IfOk result (λ ids. (set : List AnyOp) (members : List AnyId)
+        → Represents set members deps.now → KnowsOnly (ids_of_ops set) (S.tree store.old).now
+        → Clears (λ c. Clear c members key.now)
+        at.now (S.tree store.old) (S.tree store.new) ids.items trace.old trace.new
+        × KnowsOnly (ids_of_ops set) (S.tree store.new).now) }
     ensures names_stay { OnOk result (NamesStay (S.names store.old) (S.names store.new)) }
     ensures err_store { OnErr result (S.tree store.new ≡ S.tree store.old) }
     ensures err_trace { OnErr result (trace.new ≡ trace.old) }
@@ -336,9 +347,9 @@ pub fn clear_at<S: TreeStore>(
 /// empty. Returns that set, rising.
 ///
 /// The rules are added to the trace at its depth. Tagged keys, links and names of places stay as they
-/// are. That the same rules clear alike by the causally closed set that `deps` represents is the law
-/// `clear_elem_stands` of jc_vectors. Only memory can be refused; store and trace are then as they
-/// were.
+/// are. In each sound set of operations that has all identifiers of the document, the same rules clear
+/// alike by the causally closed set that `deps` represents. Only memory can be refused; store and trace
+/// are then as they were.
 pub fn clear_elem<S: TreeStore>(
     alloc: Global,
     store: &mut S,
@@ -351,6 +362,11 @@ pub fn clear_elem<S: TreeStore>(
     requires chained { IsChained (S.tree store.old).now }
     ensures ok { IfOk result (λ ids. Clears (λ c. ClearElem c deps.now key.now)
         at.now (S.tree store.old) (S.tree store.new) ids.items trace.old trace.new) }
+    ensures stands { IfOk result (λ ids. (set : List AnyOp) (members : List AnyId)
+        → Represents set members deps.now → KnowsOnly (ids_of_ops set) (S.tree store.old).now
+        → Clears (λ c. ClearElem c members key.now)
+        at.now (S.tree store.old) (S.tree store.new) ids.items trace.old trace.new
+        × KnowsOnly (ids_of_ops set) (S.tree store.new).now) }
     ensures names_stay { OnOk result (NamesStay (S.names store.old) (S.names store.new)) }
     ensures err_store { OnErr result (S.tree store.new ≡ S.tree store.old) }
     ensures err_trace { OnErr result (trace.new ≡ trace.old) }

@@ -15,7 +15,7 @@ use Rattle.jc_rules.specs.Table.{cursor, IsEmptyIds}
 use Rattle.jc_rules.specs.Trace.{Rows, pushed, one_deeper, at_depth}
 use Rattle.jc_rules.proofs.DerivesLemmas.{by_axiom, one_premise}
 use Rattle.jc_tree.specs.Tree.{or_no_entries, has_ids}
-use Rattle.jc_clear.proofs.ClearListLemmas.{leads_from, leads_on, steps}
+use Rattle.jc_tree.proofs.ChainedLeadsLemmas.{leads_from, leads_on, steps}
 use Rattle.jc_cursor.specs.WayDown.{IsGrown}
 use Rattle.jc_cursor.proofs.TraceGrowsLemmas.{not_grown, grown_below}
 

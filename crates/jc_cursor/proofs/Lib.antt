@@ -1,3 +1,4 @@
+pub mod BoundsLemmas
 pub mod TraceGrowsLemmas
 pub mod WayDownLemmas
 pub mod ElementsLemmas

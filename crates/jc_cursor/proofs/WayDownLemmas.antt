@@ -21,7 +21,7 @@ use Rattle.jc_cursor.specs.WayDown.{IsGrown, Descends, Refuses, LeadsDown, Refus
 use Rattle.jc_cursor.proofs.TraceGrowsLemmas.{not_grown, grown_below}
 use Rattle.jc_rules.proofs.BoolLemmas.{none_of}
 use Rattle.jc_tree.proofs.PlacesLemmas.{some_content}
-use Rattle.jc_apply.proofs.ApplyRulesLemmas.{found_context}
+use Rattle.jc_tree.proofs.PathLemmas.{found_context}
 
 -- what the loop down a path keeps: what is derived or refused where it has come is so for the whole
 pub record Down (r : Rule) (path : List Tagged) (n : ℕ) (c : Context) (t u : Rows) : Type 0 where

@@ -3,7 +3,7 @@
 ghost use Rattle.std.specs.Prelude.{◌≡◌, ◌↔◌, IsTrue, IfOk, IfErr, option_copied};
 ghost use Rattle.jc_rules.specs.State.{ACursor};
 ghost use Rattle.jc_rules.specs.Refused.{IsCursor};
-ghost use Rattle.jc_cursor.specs.Bounds.{bound_of, FoundAs};
+ghost use Rattle.jc_cursor.specs.Bounds.{bound_of, AreSortedByName, FoundAs};
 
 use jc_rules::{Cursor, Names, Pairs, Text};
 use std::alloc::AllocError;
@@ -32,8 +32,8 @@ impl Bound {
     }
 }
 
-/// What the variable is bound to.
-pub fn bound_to<'a>(vars: &'a [(Text, Bound)], name: &Text) -> Option<&'a Bound>
+/// What the variable is bound to: the first of its name, found by a walk.
+fn bound_first<'a>(vars: &'a [(Text, Bound)], name: &Text) -> Option<&'a Bound>
     ensures { FoundAs name.now vars.now (option_copied result) }
 {
     for (bound_name, bound) in vars {
@@ -42,4 +42,27 @@ pub fn bound_to<'a>(vars: &'a [(Text, Bound)], name: &Text) -> Option<&'a Bound>
         }
     }
     None
+}
+
+/// What the variable is bound to, found by halving.
+fn bound_between<'a>(vars: &'a [(Text, Bound)], name: &Text) -> Option<&'a Bound>
+    requires { AreSortedByName vars.now }
+    ensures { FoundAs name.now vars.now (option_copied result) }
+{
+    match vars.binary_search_by(|var| var.0.cmp(name)) {
+        Ok(place) => Some(&vars[place].1),
+        Err(_) => None,
+    }
+}
+
+/// What the variable is bound to. `sorted` says that the names are known to rise.
+pub fn bound_to<'a>(vars: &'a [(Text, Bound)], sorted: bool, name: &Text) -> Option<&'a Bound>
+    requires { IsTrue sorted → AreSortedByName vars.now }
+    ensures { FoundAs name.now vars.now (option_copied result) }
+{
+    if sorted {
+        bound_between(vars, name)
+    } else {
+        bound_first(vars, name)
+    }
 }

@@ -1,12 +1,12 @@
 //! Evaluating expressions, and why one is refused: replicas do it for the commands of scripts.
 
-ghost use Rattle.std.specs.Prelude.{◌≡◌, IfOk, IfErr, IfSome, OnErr};
+ghost use Rattle.std.specs.Prelude.{◌≡◌, IsTrue, IfOk, IfErr, IfSome, OnErr};
 ghost use Rattle.jc_rules.specs.Context.{Context as AnyContext};
 ghost use Rattle.jc_rules.specs.WellFormed.{IsChained};
 ghost use Rattle.jc_rules.specs.Syntax.{Variable};
 ghost use Rattle.jc_syntax.specs.Trees.{expr_of};
 ghost use Rattle.jc_cursor.specs.declared.evaluating.EvalFault.TheVariants.{Memory as NoMemory};
-ghost use Rattle.jc_cursor.specs.Bounds.{bound_of, vars_of};
+ghost use Rattle.jc_cursor.specs.Bounds.{AreSortedByName, bound_of, vars_of};
 ghost use Rattle.jc_cursor.specs.Evaluates.{Evaluates, IsEvalRefused, eval_cause_of, rule_of};
 ghost use Rattle.jc_cursor.specs.WayDown.{IsGrown};
 
@@ -81,8 +81,15 @@ fn rule_of(expr: &Expr) -> Rule
     }
 }
 
-/// Evaluates a variable. After a refusal its rule may have been added to the trace.
-fn variable(vars: &[(Text, Bound)], name: &Text, trace: &mut Trace) -> Result<Bound, EvalFault>
+/// Evaluates a variable. After a refusal its rule may have been added to the trace. `sorted` says that the names
+/// are known to rise.
+fn variable(
+    vars: &[(Text, Bound)],
+    sorted: bool,
+    name: &Text,
+    trace: &mut Trace,
+) -> Result<Bound, EvalFault>
+    requires { IsTrue sorted → AreSortedByName vars.now }
     ensures ok { IfOk result (λ b.
         (c : AnyContext) → Evaluates c (vars_of vars.now) (Variable name.now) (bound_of b) trace.old trace.new) }
     ensures refused { IfErr result (λ f.
@@ -90,22 +97,25 @@ fn variable(vars: &[(Text, Bound)], name: &Text, trace: &mut Trace) -> Result<Bo
         (c : AnyContext) → IsEvalRefused c (vars_of vars.now) (Variable name.now) why)) }
     ensures grown { IsGrown trace.old trace.new }
 {
-    let Some(bound) = bound_to(vars, name) else {
+    let Some(bound) = bound_to(vars, sorted, name) else {
         return Err(EvalFault::UnboundVariable);
     };
     trace.push(Rule::Var)?;
     Ok(bound.copy()?)
 }
 
-/// Evaluates the expression. After a refusal rules may have been added to the trace.
+/// Evaluates the expression. After a refusal rules may have been added to the trace. `sorted` says that the names of
+/// the variables are known to rise.
 fn evaluate<S: TreeStore>(
     alloc: Global,
     store: &S,
     vars: &[(Text, Bound)],
+    sorted: bool,
     expr: &Expr,
     trace: &mut Trace,
 ) -> Result<Bound, EvalFault>
-    requires { IsChained (S.tree store.now).now }
+    requires chained { IsChained (S.tree store.now).now }
+    requires sorted { IsTrue sorted → AreSortedByName vars.now }
     ensures ok { IfOk result (λ b.
         Evaluates (S.tree store.now).now (vars_of vars.now) (expr_of expr.now) (bound_of b) trace.old trace.new) }
     ensures refused { IfErr result (λ f.
@@ -121,11 +131,11 @@ fn evaluate<S: TreeStore>(
                 last: Key::Doc,
             }))
         }
-        Expr::Var(name) => variable(vars, name, trace),
+        Expr::Var(name) => variable(vars, sorted, name, trace),
         Expr::Get(from, _) | Expr::Idx(from, _) | Expr::Keys(from) | Expr::Values(from) => {
             let depth = trace.depth();
             trace.open(rule_of(expr))?;
-            let Bound::Cursor(cursor) = evaluate(alloc, store, vars, from, trace)? else {
+            let Bound::Cursor(cursor) = evaluate(alloc, store, vars, sorted, from, trace)? else {
                 return Err(EvalFault::NotACursor);
             };
             let bound = select(alloc, store, cursor, expr, trace)?;
@@ -156,7 +166,32 @@ pub fn eval<S: TreeStore>(
     ensures err_trace { OnErr result (trace.new ≡ trace.old) }
 {
     let start = trace.mark();
-    let outcome = evaluate(alloc, store, vars, expr, trace);
+    let outcome = evaluate(alloc, store, vars, false, expr, trace);
+    if outcome.is_err() {
+        trace.cut(start);
+    }
+    outcome
+}
+
+/// As [`eval`], where the variables are sorted by name: each is found by halving, and not by a walk.
+pub fn eval_sorted<S: TreeStore>(
+    alloc: Global,
+    store: &S,
+    vars: &[(Text, Bound)],
+    expr: &Expr,
+    trace: &mut Trace,
+) -> Result<Bound, EvalFault>
+    requires chained { IsChained (S.tree store.now).now }
+    requires sorted { AreSortedByName vars.now }
+    ensures ok { IfOk result (λ b.
+        Evaluates (S.tree store.now).now (vars_of vars.now) (expr_of expr.now) (bound_of b) trace.old trace.new) }
+    ensures refused { IfErr result (λ f.
+        IfSome (eval_cause_of f) (λ why.
+        IsEvalRefused (S.tree store.now).now (vars_of vars.now) (expr_of expr.now) why)) }
+    ensures err_trace { OnErr result (trace.new ≡ trace.old) }
+{
+    let start = trace.mark();
+    let outcome = evaluate(alloc, store, vars, true, expr, trace);
     if outcome.is_err() {
         trace.cut(start);
     }

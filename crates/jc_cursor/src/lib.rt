@@ -7,4 +7,4 @@ mod select;
 mod walk;
 
 pub use bound::Bound;
-pub use evaluating::{EvalFault, eval};
+pub use evaluating::{EvalFault, eval, eval_sorted};

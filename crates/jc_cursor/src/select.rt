@@ -18,6 +18,7 @@ ghost use Rattle.jc_rules.specs.Table.{cursor as cursor_at, name_in_presence, na
 ghost use Rattle.jc_rules.specs.Trace.{Rows, at_depth};
 ghost use Rattle.jc_syntax.specs.Trees.{expr_of};
 ghost use Rattle.jc_tree.specs.Tree.{HasPlace, here};
+ghost use Rattle.jc_tree.specs.Walks.{entry_of};
 ghost use Rattle.jc_rules.specs.Paths.{HasContext};
 ghost use Rattle.jc_cursor.specs.Bounds.{bound_of};
 ghost use Rattle.jc_cursor.specs.Evaluates.{Selects, RefusedAfter, IsSelection, eval_cause_of};
@@ -29,7 +30,7 @@ use crate::walk::{element_at, go_down, is_present};
 use jc_rules::limits::MAX_PATH;
 use jc_rules::{Cursor, Key, Names, Pairs, Path, Rule, Tagged, Text, Trace};
 use jc_syntax::Expr;
-use jc_tree::{Place, TreeStore};
+use jc_tree::{Hint, Place, TreeStore};
 use std::alloc::{AllocError, Global};
 
 /// The path with one key more.
@@ -137,51 +138,44 @@ fn place_below(alloc: Global, at: &[Tagged], key: Tagged) -> Result<Vec<Tagged>,
 /// Appends the key's name, if it is a name and its presence set has an identifier.
 fn push_name<S: TreeStore>(
     store: &S,
+    place: Place,
     at: &[Tagged],
     key: &Key,
+    hint: Hint,
     names: &mut Vec<Text>,
 ) -> Result<(), AllocError>
-    requires { HasPlace at.now (S.tree store.now) }
-    ensures { OnOk result
-        ((ids : List AnyId) → presence_set key.now (here at.now (S.tree store.now)) ≡ Some ids
-        → names.new.items ≡ names.old.items ++ filter_map name_in_presence ((key.now, ids) ∷ [])) }
+    requires there { HasPlace at.now (S.tree store.now) }
+    requires named { S.names store.now place at.now }
+    ensures { OnOk result (names.new.items ≡ names.old.items
+        ++ filter_map name_in_presence (entry_of key.now (presence_set key.now (here at.now (S.tree store.now))))) }
 {
     if let Key::Name(name) = key
-        && is_present(store, at, key)
+        && is_present(store, place, at, key, hint)
     {
         names.push(name.copy()?)?;
     }
     Ok(())
 }
 
-/// The names in the map at the place whose presence sets have an identifier.
-fn names_at<S: TreeStore>(alloc: Global, store: &S, at: &[Tagged]) -> Result<Names, AllocError>
-    requires { HasPlace at.now (S.tree store.now) }
+/// The names in the map at the place whose presence sets have an identifier. `place` is the store's
+/// name for the place.
+fn names_at<S: TreeStore>(
+    alloc: Global,
+    store: &S,
+    place: Place,
+    at: &[Tagged],
+) -> Result<Names, AllocError>
+    requires there { HasPlace at.now (S.tree store.now) }
+    requires named { S.names store.now place at.now }
     ensures { IfOk result (λ names. names ≡ names_in (here at.now (S.tree store.now))) }
 {
     // Each name has such a set, so the list doesn't grow.
     let mut names = Vec::with_capacity(alloc, store.count_present(at))?;
-    let mut last = None;
-    while let Some(key) = store.presence_after(at, last) {
-        push_name(store, at, key, &mut names)?;
-        last = Some(key);
+    let keys = store.keys_at(alloc, place, at)?;
+    for lent in keys.as_slice() {
+        push_name(store, place, at, lent.0, lent.1, &mut names)?;
     }
     Ok(Names::new(names))
-}
-
-/// Whether a map is under the key in the context at the place, whose name is `place`.
-fn has_map<S: TreeStore>(
-    store: &S,
-    place: Place,
-    at: &[Tagged],
-    key: &Key,
-) -> Result<bool, AllocError>
-    requires there { HasPlace at.now (S.tree store.now) }
-    requires named { S.names store.now place at.now }
-    ensures { IfOk result (λ b. b ≡ is_some (content (MapT key.now) (here at.now (S.tree store.now)))) }
-{
-    let map = Tagged::MapT(key.copy()?);
-    Ok(store.below(place, at, &map).is_some())
 }
 
 /// The names in the map at the cursor.
@@ -200,12 +194,13 @@ fn names_below<S: TreeStore>(
 {
     let at = cursor.path.as_slice();
     let place = go_down(store, at, Rule::Keys3, trace)?;
-    if !has_map(store, place, at, &cursor.last)? {
+    let key = Tagged::MapT(cursor.last.copy()?);
+    let Some(map) = store.below(place, at, &key) else {
         return Err(EvalFault::NoMap);
-    }
+    };
     trace.push(Rule::Keys2)?;
-    let map = place_below(alloc, at, Tagged::MapT(cursor.last.copy()?))?;
-    Ok(names_at(alloc, store, map.as_slice())?)
+    let path = place_below(alloc, at, key)?;
+    Ok(names_at(alloc, store, map, path.as_slice())?)
 }
 
 /// The values of the register at the cursor.

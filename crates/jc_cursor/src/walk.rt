@@ -49,13 +49,21 @@ pub fn go_down<S: TreeStore>(
     Ok(place)
 }
 
-/// Whether the key's presence set has an identifier.
-pub fn is_present<S: TreeStore>(store: &S, at: &[Tagged], key: &Key) -> bool
-    requires { HasPlace at.now (S.tree store.now) }
+/// Whether the key's presence set has an identifier. `place` is the store's name for the place, `hint` is
+/// where to look first for the key.
+pub fn is_present<S: TreeStore>(
+    store: &S,
+    place: Place,
+    at: &[Tagged],
+    key: &Key,
+    hint: Hint,
+) -> bool
+    requires there { HasPlace at.now (S.tree store.now) }
+    requires named { S.names store.now place at.now }
     ensures present { IsTrue result → IsEmptyIds (presence_set key.now (here at.now (S.tree store.now))) → ⊥ }
     ensures absent { IsFalse result → IsEmptyIds (presence_set key.now (here at.now (S.tree store.now))) }
 {
-    match store.presence(at, key) {
+    match store.presence_by(place, at, key, hint) {
         Some(ids) => !ids.is_empty(),
         None => false,
     }

@@ -17,11 +17,11 @@ use Rattle.jc_rules.specs.Context.{Context}
 use Rattle.jc_rules.proofs.OrderLemmas.{names_total, exact_names}
 use Rattle.jc_rules.proofs.RisingLemmas.{less_greater, greater_less}
 use Rattle.jc_tree.specs.declared.store.Place.{Place}
-use Rattle.jc_tree.specs.Walks.{entry_of}
+use Rattle.jc_tree.specs.Walks.{entry_of, entries_at}
 use Rattle.jc_json.specs.declared.tree.Kind.{Kind}
 use Rattle.jc_json.specs.declared.tree.Member.{Member}
 use Rattle.jc_json.specs.Json.{closed_text, put_all}
-use Rattle.jc_json.specs.Parts.{LentText, Texts, word_of, member_of, entries_at, keys_in, shown_in, HasTexts, part_data, IsPartAt, name_of, members_data, ArePartsAt, with_last, AreMembersOfKind}
+use Rattle.jc_json.specs.Parts.{LentText, Texts, word_of, member_of, keys_in, shown_in, HasTexts, part_data, IsPartAt, name_of, members_data, ArePartsAt, with_last, AreMembersOfKind}
 use Rattle.jc_json.proofs.PartsListsLemmas.{put_equal, put_greater}
 use Rattle.jc_json.proofs.PartsTextsLemmas.{text_cmp, under}
 

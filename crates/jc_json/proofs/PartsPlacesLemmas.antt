@@ -14,20 +14,13 @@ use Rattle.jc_tree.specs.Tree.{all_keys}
 use Rattle.jc_tree.specs.Nested.{nested, nested_in}
 use Rattle.jc_tree.proofs.WellFormedLemmas.{kept-node, presences_rise}
 use Rattle.jc_tree.proofs.PlacesLemmas.{some_place}
+use Rattle.jc_tree.proofs.WalksEntriesLemmas.{all-left, all-right}
 use Rattle.jc_json.specs.declared.tree.Branch.{Branch}
 use Rattle.jc_json.specs.declared.tree.Branch.TheVariants as B
 use Rattle.jc_json.specs.declared.tree.Kind.{Kind}
 use Rattle.jc_json.specs.declared.tree.Kind.TheVariants as K
 use Rattle.jc_json.specs.Json.{next_text, ids_data, register_data, context_data}
 use Rattle.jc_json.specs.Parts.{tag_of, children_in, with_data, shown_in}
-
-all-left : (P : Key → Type 0) (js ks : List Key) → AllByRecursion P (js ++ ks) → AllByRecursion P js
-all-left P [] ks a = tt
-all-left P (j ∷ js) ks a = (a.0, all-left P js ks a.1)
-
-all-right : (P : Key → Type 0) (js ks : List Key) → AllByRecursion P (js ++ ks) → AllByRecursion P ks
-all-right P [] ks a = a
-all-right P (j ∷ js) ks a = all-right P js ks a.1
 
 -- the child at a key is smaller
 found_smaller : (k : Key) (d : Context) (cs : Children) → find key_cmp k (listed cs) ≡ Some d → nested d < nested_in cs

@@ -16,7 +16,7 @@ use Rattle.jc_rules.specs.Entries.{find}
 use Rattle.jc_rules.specs.ContextsAt.{or_empty}
 use Rattle.jc_tree.specs.declared.store.Hint.{Hint}
 use Rattle.jc_tree.specs.declared.store.Place.{Place}
-use Rattle.jc_tree.specs.Walks.{entry_of}
+use Rattle.jc_tree.specs.Walks.{entries_at}
 use Rattle.jc_json.specs.declared.tree.Branch.{Branch}
 use Rattle.jc_json.specs.declared.tree.Branch.TheVariants as B
 use Rattle.jc_json.specs.declared.tree.Kind.{Kind}
@@ -57,11 +57,6 @@ shown_in names K.Register c = with_data (register_data names) (registers c)
 -- the member of an entry
 abbrev pub member_of : List (List ℕ) → List ℕ → Key × Data → List ℕ × Data
 member_of names word e = (word ++ closed_text names e.0, e.1)
-
--- the entries of these keys, key after key
-abbrev pub entries_at : {X : Type 0} → List Key → List (Key × X) → List (Key × X)
-entries_at [] es = []
-entries_at (k ∷ ks) es = entry_of k (find key_cmp k es) ++ entries_at ks es
 
 -- ---- the keys by their texts
 

@@ -6,7 +6,7 @@ ghost use Rattle.serde_json.specs.Events.{SendsValue};
 ghost use Rattle.serde_json.specs.View.{view};
 ghost use Rattle.jc_json.specs.Json.{ids_data, value_data, register_data};
 
-use crate::texts::id_text;
+use crate::texts::{id_text, push_id};
 use crate::values::register_value;
 use jc_rules::{Id, Text, Value};
 use serde::{Serialize, Serializer};
@@ -106,8 +106,10 @@ pub fn send_ids<W: Serializer>(
     ensures { OnOk result (SendsValue (ids_data names.now ids.now) (W.written out.old) (W.written out.new)) }
 {
     out.begin_seq(Some(ids.len()))?;
+    let mut text = String::new(alloc);
     for id in ids {
-        let text = granted(id_text(alloc, names, *id), out)?;
+        text.clear();
+        granted(push_id(&mut text, names, *id), out)?;
         out.str(text.as_str())?;
     }
     out.end_seq()

@@ -1,8 +1,9 @@
 //! The texts of identifiers and keys, for JSON, dumps and views.
 
-ghost use Rattle.std.specs.Prelude.{◌≡◌, IfOk, string_bytes};
+ghost use Rattle.std.specs.Prelude.{◌≡◌, ◌++◌, IfOk, OnOk, string_bytes};
 ghost use Rattle.jc_json.specs.Json.{id_text, key_text, closed_text, entry_text, tagged_text, next_text};
 
+use itoa::Buffer;
 use jc_rules::{Id, Key, Next, Tagged, Text, name_at};
 use serde_json::Value as Json;
 use std::alloc::{AllocError, Global};
@@ -11,9 +12,19 @@ use std::alloc::{AllocError, Global};
 pub fn id_text(alloc: Global, names: &[Text], id: Id) -> Result<String, AllocError>
     ensures { IfOk result (λ s. string_bytes s ≡ id_text names.now id) }
 {
-    let counter = id.counter;
-    let name = name_at(names, id.replica);
-    format!(in alloc; "{counter}@{name}")
+    let mut text = String::new(alloc);
+    push_id(&mut text, names, id)?;
+    Ok(text)
+}
+
+/// Appends the text of an identifier. After a refusal a part of it may be there.
+pub(crate) fn push_id(text: &mut String, names: &[Text], id: Id) -> Result<(), AllocError>
+    ensures { OnOk result (string_bytes text.new ≡ string_bytes text.old ++ id_text names.now id) }
+{
+    let mut buffer = Buffer::new();
+    text.push_str(buffer.format(id.counter))?;
+    text.push_str("@")?;
+    text.push_str(name_at(names, id.replica))
 }
 
 /// The text of a key: `doc`, `head`, a name as a JSON string, or an identifier's text.

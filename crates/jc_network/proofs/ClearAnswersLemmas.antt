@@ -20,9 +20,11 @@ use Rattle.jc_rules.specs.Refused.{IsAnswered}
 use Rattle.jc_rules.proofs.OrderLemmas.{keys_total, exact_keys}
 use Rattle.jc_rules.proofs.EntriesLemmas.{same-self}
 use Rattle.jc_tree.specs.Nested.{nested}
-use Rattle.jc_clear.specs.Bare.{bare, AreChainedBelow}
-use Rattle.jc_clear.proofs.BareLemmas.{links-same, keys-same, nested-same, below-same, list_below, child_below, nested_below, bare-with, bare-register, bare-presence}
-use Rattle.jc_clear.proofs.ClearListLemmas.{leads_head}
+use Rattle.jc_tree.specs.ChainedBelow.{AreChainedBelow}
+use Rattle.jc_clear.specs.Bare.{bare}
+use Rattle.jc_tree.proofs.ChainedBelowLemmas.{list_below, child_below}
+use Rattle.jc_clear.proofs.BareLemmas.{links-same, keys-same, nested-same, below-same, nested_below, bare-with, bare-register, bare-presence}
+use Rattle.jc_tree.proofs.ChainedLeadsLemmas.{leads_head}
 use Rattle.jc_rules.proofs.ContextLemmas.{no_node}
 use Rattle.jc_rules.proofs.BoolLemmas.{or_right}
 

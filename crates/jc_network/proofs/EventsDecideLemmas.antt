@@ -32,8 +32,8 @@ use Rattle.jc_rules.specs.Derivation.{Question, Occur, Run, Evaluate, SelectInde
 use Rattle.jc_rules.specs.Table.{cursor, moved, IsEmptyIds, names_in, op_of}
 use Rattle.jc_rules.specs.Refused.{Cause, because, no_node, IsAnswered, IsYieldEvent, first_expr, WantsCursor, Refused, no_command, at_yield, in_command, no_yield, not_at_yield, not_acted, not_received, not_offered, already_applied, deps_missing, in_first, not_a_cursor, in_making, in_made, in_applied, unbound, get_on_head, get_too_deep, index_too_deep, in_index, in_keys, in_values, index_no_node, keys_no_node, values_no_node, index_below, keys_below, values_below, past_end, in_counted, in_passed, no_map, no_register, operate_below, not_in_list, IsStuck, no_replica, no_sender, refused}
 use Rattle.jc_rules.proofs.IdsLemmas.{same_id-self, same_id-true}
-use Rattle.jc_clear.proofs.BareLemmas.{map_below, list_below}
-use Rattle.jc_clear.proofs.ClearListLemmas.{leads_from}
+use Rattle.jc_tree.proofs.ChainedBelowLemmas.{map_below, list_below}
+use Rattle.jc_tree.proofs.ChainedLeadsLemmas.{leads_from}
 use Rattle.jc_apply.specs.Fits.{child_context, InChild}
 use Rattle.jc_rules.specs.ContextsAt.{node_in}
 use Rattle.jc_network.specs.LinksEverywhere.{Reach}

@@ -1,5 +1,5 @@
 -- Lemmas about Given: given events lead from one network to another, and aren't passed on the way back.
-use Rattle.std.proofs.Common.{◌≡◌, ℕ, ◌+◌, ◌<◌, ◌≤◌, Result, Err, Some, zero, suc, map, slice_get, drop, set, List, [], ◌∷◌, ◌++◌, length, take, get_or, refl, sym, ◌∙◌, ap, subst, arith}
+use Rattle.std.proofs.Common.{◌≡◌, ℕ, ◌+◌, ◌<◌, ◌≤◌, Result, Err, Some, Bool, true, false, IsTrue, IsFalse, zero, suc, map, slice_get, unwrap_or, drop, set, List, [], ◌∷◌, ◌++◌, length, take, get_or, refl, sym, ◌∙◌, ap, subst, arith}
 use Rattle.std.proofs.lemmas.Grind.{common_steps}
 use Rattle.std.proofs.lemmas.List.{take_more, take_all, length-map}
 use Rattle.std.proofs.lemmas.Option.{slice_get-get_or}
@@ -9,7 +9,8 @@ use Rattle.jc_rules.specs.State.{State, start}
 use Rattle.jc_rules.specs.Step.{Network, AfterIn}
 use Rattle.jc_rules.specs.Trace.{Rows}
 use Rattle.jc_rules.proofs.VersionLemmas.{after_states}
-use Rattle.jc_rules.specs.History.{begun}
+use Rattle.jc_rules.specs.History.{timeline, begun, first_of}
+use Rattle.jc_rules.proofs.HistoryLemmas.{first_step}
 use Rattle.jc_replica.specs.ReplicaHistory.{ReplicaHistory}
 use Rattle.jc_scenario.specs.WellFormed.{Scenario, IsWellFormedScenario}
 use Rattle.jc_network.specs.declared.fault.StartFault.{StartFault}
@@ -64,14 +65,19 @@ start_each s network h =
 
 -- ---- one given event after another
 
+-- what there was before all steps, where none was made
+first_now : (c : NetworkHistory) → c.history.earlier ≡ [] → first_of c.history ≡ c.history.now
+first_now c e = ap (λ (l : List Network). unwrap_or (slice_get (l ++ c.history.now ∷ []) 0) c.history.now) e
+
 -- The first i of the given events have led from the one to the other, which has counted them.
 pub record HaveLed (first now : NetworkHistory) (given : List Event) (i : ℕ) : Type 0 where
   pub after : AfterIn first.history.now (take i given) now.history.now
   pub counted : length now.history.earlier ≡ i
+  pub from : first_of now.history ≡ first.history.now
   pub names : now.names ≡ first.names
 
 pub led_none : (first : NetworkHistory) (given : List Event) → first.history.earlier ≡ [] → HaveLed first first given 0
-led_none first given e = record { after = refl; counted = ap length e; names = refl }
+led_none first given e = record { after = refl; counted = ap length e; from = first_now first e; names = refl }
 
 pub led_more : (first old new : NetworkHistory) (given : List Event) (i : ℕ) (d : Event) (rows : Rows) → i < length given → HaveLed first old given i → StepsTo old (get_or given i d) new rows → HaveLed first new given (i + 1)
 led_more first old new given i d rows l h s =
@@ -82,6 +88,7 @@ led_more first old new given i d rows l h s =
     record {
       after = subst (λ (es : List Event). AfterIn first.history.now es new.history.now) (sym front) (after_one_more first.history.now (take i given) old.history.now event new.history.now rows.rows h.after s.step);
       counted = omega (arith, more, c);
+      from = first_step old.history new.history s.earlier ∙ h.from;
       names = s.names ∙ h.names;
     }
 
@@ -114,6 +121,57 @@ lead_fails first now given i n d r t l c h told is at s e =
     let same : t ≡ s = cc in
     let number : at ≡ i + 1 = sym place ∙ ap (λ (k : ℕ). k + 1) c in
     led_stuck first now given i d at s l h number (subst (IsStuckFor now.history.now (get_or given i d)) same (told t is))
+
+-- ---- the way back from there
+
+-- i steps were taken back
+pub record HasUndone (first now : NetworkHistory) (i : ℕ) : Type 0 where
+  pub counted : length now.history.earlier + i ≡ length first.history.earlier
+  pub from : first_of now.history ≡ first_of first.history
+  pub names : now.names ≡ first.names
+
+pub undone_none : (c : NetworkHistory) → HasUndone c c 0
+undone_none c = record { counted = omega arith; from = refl; names = refl }
+
+pub undone_more : (first old new : NetworkHistory) (i : ℕ) (was : Bool) → i < length first.history.earlier → HasUndone first old i → (IsTrue was → old.history.earlier ≡ timeline new.history) → new.names ≡ old.names → (IsFalse was → (new ≡ old) × (old.history.earlier ≡ [])) → HasUndone first new (i + 1)
+undone_more first old new i true l h back names none =
+    let earlier : old.history.earlier ≡ timeline new.history = back refl in
+    let more : length old.history.earlier ≡ length new.history.earlier + 1 = ap length earlier ∙ length_end new.history.earlier new.history.now in
+    let c = h.counted in
+    record {
+      counted = omega (arith, more, c);
+      from = sym (first_step new.history old.history earlier) ∙ h.from;
+      names = names ∙ h.names;
+    }
+undone_more first old new i false l h back names none =
+    let empty : length old.history.earlier ≡ 0 = ap length (none refl).1 in
+    let c = h.counted in
+    absurd (omega (arith, l, empty, c))
+
+none_left : {X : Type 0} (xs : List X) → length xs ≡ 0 → xs ≡ []
+none_left [] e = refl
+none_left (x ∷ xs) e = absurd (omega (arith, e))
+
+pub undone_all : (first now : NetworkHistory) (i : ℕ) → length first.history.earlier ≡ i → HasUndone first now i → now ≡ record first { history = begun (first_of first.history) }
+undone_all first now i n h =
+    let c = h.counted in
+    let empty : now.history.earlier ≡ [] = none_left now.history.earlier (omega (arith, c, n)) in
+    let state : now.history.now ≡ first_of first.history = sym (first_now now empty) ∙ h.from in
+    let names = h.names in
+    λ j. record { names = names j; history = record { now = state j; earlier = empty j } }
+
+-- all steps taken back, the network is what it was before the given events
+pub led_back : (first now last : NetworkHistory) (given : List Event) (i : ℕ) → first.history.earlier ≡ [] → HaveLed first now given i → last ≡ record now { history = begun (first_of now.history) } → last ≡ first
+led_back first now last given i e h is =
+    let state = h.from in
+    let empty = sym e in
+    let names = h.names in
+    is ∙ (λ j. record { names = names j; history = record { now = state j; earlier = empty j } })
+
+-- where the next event was refused, too
+pub refused_back : (first now same last : NetworkHistory) (given : List Event) (i : ℕ) → first.history.earlier ≡ [] → HaveLed first now given i → same ≡ now → last ≡ record same { history = begun (first_of same.history) } → last ≡ first
+refused_back first now same last given i e h kept is =
+    led_back first now last given i e h (is ∙ ap (λ (c : NetworkHistory). record c { history = begun (first_of c.history) }) kept)
 
 -- a network whose steps so far aren't counted is kept all the same
 pub uncounted : (version : Version) (count : ℕ) (whose : List ℕ) (ps : List ReplicaHistory) → IsNet version count whose ps → IsNet version count [] ps

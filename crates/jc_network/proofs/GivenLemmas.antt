@@ -30,7 +30,12 @@ given_later N M e rows es at event why step g = record {
   stuck = g.stuck;
 }
 
-reached_more : (scripts : List (List Cmd)) (N M : Network) (e : Event) (rows : List (Rule × ℕ)) → IsReached scripts N.states → StepIn N e M rows → IsReached scripts M.states
+-- an event has a step from a network that is reached, or is stuck there
+pub step_or_stuck_in : (scripts : List (List Cmd)) (N : Network) (e : Event) → IsReached scripts N.states → StepsOrStuckIn N e
+step_or_stuck_in scripts N e r =
+    decided_in N (step_decided N.states (after_well (starts scripts) r.0 N.states (start_well scripts) r.1) (are_chained scripts r.0 N.states (start_well scripts) r.1)) e
+
+pub reached_more : (scripts : List (List Cmd)) (N M : Network) (e : Event) (rows : List (Rule × ℕ)) → IsReached scripts N.states → StepIn N e M rows → IsReached scripts M.states
 reached_more scripts N M e rows r s = (r.0 ++ e ∷ [], go (starts scripts) r.0 r.1)
   where
     go : (L : List State) (es : List Event) → After L es N.states → After L (es ++ e ∷ []) M.states
@@ -40,7 +45,7 @@ reached_more scripts N M e rows r s = (r.0 ++ e ∷ [], go (starts scripts) r.0 
 led_or_one_stuck : (scripts : List (List Cmd)) (N : Network) (given : List Event) → IsReached scripts N.states → LedOrOneStuck N given
 led_or_one_stuck scripts N [] r = inl (N, refl)
 led_or_one_stuck scripts N (e ∷ es) r =
-    go (decided_in N (step_decided N.states (after_well (starts scripts) r.0 N.states (start_well scripts) r.1) (are_chained scripts r.0 N.states (start_well scripts) r.1)) e) (λ M rows s. led_or_one_stuck scripts M es (reached_more scripts N M e rows r s))
+    go (step_or_stuck_in scripts N e r) (λ M rows s. led_or_one_stuck scripts M es (reached_more scripts N M e rows r s))
   where
     more : (M : Network) (rows : List (Rule × ℕ)) → StepIn N e M rows → LedOrOneStuck M es → LedOrOneStuck N (e ∷ es)
     more M rows s (inl (K, a)) = inl (K, (M, rows, s, a))

@@ -31,9 +31,9 @@ use Rattle.jc_rules.specs.Derivation.{Occur, Operate, Child, AddId, ToContext, T
 use Rattle.jc_rules.specs.Table.{op_of, moved, IsBefore}
 use Rattle.jc_rules.specs.Refused.{IsAnswered}
 use Rattle.jc_rules.proofs.OrderLemmas.{exact_ids}
-use Rattle.jc_clear.specs.Bare.{AreChainedBelow}
-use Rattle.jc_clear.proofs.BareLemmas.{map_below, list_below, below-chained, below-list}
-use Rattle.jc_clear.proofs.ClearListLemmas.{leads_from}
+use Rattle.jc_tree.specs.ChainedBelow.{AreChainedBelow}
+use Rattle.jc_tree.proofs.ChainedBelowLemmas.{map_below, list_below, below-chained, below-list}
+use Rattle.jc_tree.proofs.ChainedLeadsLemmas.{leads_from}
 use Rattle.jc_network.specs.LinksEverywhere.{Reach}
 use Rattle.jc_apply.specs.Fits.{content_or_new, child_context, InChild}
 use Rattle.jc_rules.specs.ContextsAt.{node_in}

@@ -82,6 +82,21 @@ pub enum StartFault {
     Memory,
 }
 
+impl StartFault {
+    /// A copy.
+    pub fn copy(&self) -> Result<Self, AllocError>
+        ensures { IfOk result (λ fault. fault ≡ self.now) }
+    {
+        match self {
+            StartFault::Given { at, stuck } => Ok(StartFault::Given {
+                at: *at,
+                stuck: stuck.copy()?,
+            }),
+            StartFault::Memory => Ok(StartFault::Memory),
+        }
+    }
+}
+
 impl From<AllocError> for StartFault {
     ghost use Rattle.jc_network.specs.declared.fault.StartFault.TheVariants.{Memory as NoMemory};
 

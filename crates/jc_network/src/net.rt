@@ -9,7 +9,7 @@ ghost use Rattle.jc_network.specs.declared.fault.StartFault.TheVariants as S;
 ghost use Rattle.jc_network.specs.declared.fault.StepFault.TheVariants as E;
 ghost use Rattle.jc_network.specs.declared.fault.Stuck.{Stuck as AnyStuck};
 ghost use Rattle.jc_network.specs.Applied.{IsApplied, AreAppliedIds};
-ghost use Rattle.jc_rules.specs.History.{timeline, begun};
+ghost use Rattle.jc_rules.specs.History.{timeline, begun, first_of};
 ghost use Rattle.jc_network.specs.NetworkHistory.{StepsTo};
 ghost use Rattle.jc_network.specs.Enabled.{AreEnabled, candidates};
 ghost use Rattle.jc_network.specs.Given.{before_given, AreParts, IsBeforeGiven, IsStarted, IsGivenFault};
@@ -100,9 +100,8 @@ impl Net {
 
     /// Makes the given events, before which no step was made. They are steps until `begin`.
     ///
-    /// It is refused with `Given` for the first given event that is stuck, with its number, from 1. After a refusal the
-    /// network may have made the events before that one, or before the one for which there was no memory; `undo` takes
-    /// them back.
+    /// It is refused with `Given` for the first given event that is stuck, with its number, from 1. After a refusal all
+    /// is as it was.
     pub fn lead(&mut self, given: &[Event]) -> Result<(), StartFault>
         requires new { self.old.history.earlier ≡ [] }
         requires short { length given.now ≤ MAX_EVENTS }
@@ -110,6 +109,7 @@ impl Net {
         ensures names { self.new.names ≡ self.old.names }
         ensures stuck { (at : ℕ) (s : AnyStuck) → IsErrOf result (S.Given at s)
             → IsGivenFault self.old.history.now given.now at s }
+        ensures kept { OnErr result (self.new ≡ self.old) }
     {
         let mut at = 0u64;
         for event in given {
@@ -117,8 +117,14 @@ impl Net {
             match self.step(event) {
                 Ok(_trace) => {}
                 Err(StepFault::Full) => unreachable!(),
-                Err(StepFault::Stuck(stuck)) => return Err(StartFault::Given { at, stuck }),
-                Err(StepFault::Memory) => return Err(StartFault::Memory),
+                Err(StepFault::Stuck(stuck)) => {
+                    self.undo_all();
+                    return Err(StartFault::Given { at, stuck });
+                }
+                Err(StepFault::Memory) => {
+                    self.undo_all();
+                    return Err(StartFault::Memory);
+                }
             }
         }
         Ok(())
@@ -220,6 +226,15 @@ impl Net {
         let trace = make(self.version, self.replicas.as_mut_slice(), event)?;
         self.whose.push(event.replica()).unwrap();
         Ok(trace)
+    }
+
+    /// Takes all steps back.
+    fn undo_all(&mut self)
+        ensures { self.new ≡ record self.old { history = begun (first_of self.old.history) } }
+    {
+        for _taken in 0..self.steps() {
+            let _ = self.undo();
+        }
     }
 
     /// Takes the last step back, and returns whether there was one. It takes no memory.

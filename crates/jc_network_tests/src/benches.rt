@@ -10,7 +10,7 @@ ghost use Rattle.jc_runner.specs.Benches.{IsPassAt, IsPassFor, IsNewAt};
 use crate::nets::{DELETION, STUCK_GIVEN, holds, scene};
 use jc_rules::Event;
 use jc_rules::limits::MAX_THREAD_EVENTS;
-use jc_runner::{Bench, BenchFault, CloseRefused, Pass, Recorded, StepAnswer};
+use jc_runner::{Bench, BenchFault, Pass, Recorded, StepAnswer, UnclosedBench};
 use jc_scenario::Scenario;
 use std::alloc::Global;
 use std::process::Abort;
@@ -136,7 +136,7 @@ fn closed(rt: &impl Abort, alloc: Global, bench: Bench, a: Pass, b: Pass) -> Rec
 {
     let mut one = Vec::new(alloc);
     one.push(a).ok().expect(rt, "memory");
-    let CloseRefused { bench, mut passes } = match bench.close(one) {
+    let UnclosedBench { bench, mut passes } = match bench.close(one) {
         Ok(_) => panic!(rt; "closed without a pass"),
         Err(refused) => refused,
     };

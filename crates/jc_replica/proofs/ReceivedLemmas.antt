@@ -1,5 +1,5 @@
 -- Lemmas about Received: up to which counter a sender's operations are complete.
-use Rattle.std.proofs.Common.{◌≡◌, ℕ, zero, suc, ◌-◌, length-drop, ◌≤◌, ◌<◌, List, [], ◌∷◌, ◌++◌, length, take, drop, remove, slice_get, filter, Some, None, Result, Ok, Err, Bool, true, false, not, ◌||◌, eqb, leb, eqb-true, eq-eqb, leb-true, le-leb, max, ◌⊎◌, inl, inr, refl, sym, ◌∙◌, ap, subst, arith}
+use Rattle.std.proofs.Common.{◌≡◌, ℕ, zero, suc, ◌-◌, length-drop, ◌≤◌, ◌<◌, List, [], ◌∷◌, ◌++◌, length, take, drop, remove, slice_get, get_or, unwrap_or, filter, Option, Some, None, Result, Ok, Err, Bool, true, false, not, ◌||◌, eqb, leb, eqb-true, eq-eqb, leb-true, le-leb, max, ◌⊎◌, inl, inr, refl, sym, ◌∙◌, ap, subst, arith}
 use Rattle.std.proofs.Math.Nat.{eq-or-lt_of_le}
 use Rattle.std.proofs.lemmas.Bool.{cases_lt}
 use Rattle.std.proofs.lemmas.Option.{slice_get_past}
@@ -19,9 +19,9 @@ use Rattle.jc_rules.proofs.WithdrawLemmas.{in_filter, filter_in, filter-rises}
 use Rattle.jc_rules.proofs.RepresentationLemmas.{looked_up, counts}
 use Rattle.jc_vectors.specs.StoredStates.{stored_op}
 use Rattle.jc_replica.specs.Operations.{identifiers, AreInOrder, AreOwn}
-use Rattle.jc_replica.specs.Received.{IsOpAt, IsOpPlace, AreKeptOf, AreAmong, IsContiguousTo, none, more, IsKeptList, is_new}
+use Rattle.jc_replica.specs.Received.{IsOpAt, IsOpPlace, AreKeptOf, AreAmong, HasEach, IsContiguousTo, none, more, IsKeptList, is_new}
 use Rattle.jc_replica.specs.Undo.{without_ops}
-use Rattle.jc_replica.proofs.ReceivedUnionLemmas.{taken_out, filter-in_order, filter_all, drop-in_order, all_filter, all_drop, found_all, there_found, found_both, both-there, both-append, both-new, both-in_order, there_both}
+use Rattle.jc_replica.proofs.ReceivedUnionLemmas.{taken_out, filter-in_order, filter_all, drop-in_order, all_filter, all_drop, found_all, there_found, not_there_absent, found_both, both-there, both-append, both-new, both-in_order, there_both}
 use Rattle.jc_rules.proofs.BoolLemmas.{no_truth, or_right, same_tests}
 
 pub found_in : (P : Op → Type 0) (i : Id) (os : List Op) (o : Op) → AllByRecursion P os → op_of i os ≡ Some o → P o
@@ -392,19 +392,42 @@ module _ (os ps : List Op) (n : ℕ) (fresh : List Op) (is : fresh ≡ filter (i
   pub united_with : (set : List Op) (q last : ℕ) → AreInOrder os → IsSound set → AreKeptOf set os → AreKeptOf set ps → AreOwn q ps → AllByRecursion (λ p. p.id.counter ≤ last) (take n ps) → IsContiguousTo q os last → both os fresh ≡ both os ps
   united_with set q last order sound kept of own low whole = ap (both os) is ∙ united set q last n os ps order sound kept of own low whole
 
-pub united_kept : (os fresh : List Op) (s new : List Id) (q last counter : ℕ) → IsKeptList os s → AreInOrder fresh → AllByRecursion (λ p. is_new os p ≡ true) fresh → last ≡ greatest_of q s → ((xs : List Op) → AreAmong fresh xs → IsContiguousTo q xs last → IsContiguousTo q xs counter) → new ≡ union (ids_up_to q counter) s → IsKeptList (both os fresh) new
+pub united_kept : (os fresh : List Op) (s new : List Id) (q last counter : ℕ) → IsKeptList os s → AreInOrder fresh → AllByRecursion (λ p. is_new os p ≡ true) fresh → last ≡ greatest_of q s → ((xs : List Op) → HasEach os xs → AreAmong fresh xs → IsContiguousTo q xs last → IsContiguousTo q xs counter) → new ≡ union (ids_up_to q counter) s → IsKeptList (both os fresh) new
 united_kept os fresh s new q last counter k order fn le w ne =
     let still = λ (r : ℕ). whole_on r os (both os fresh) (λ i o. found_both i os fresh o k.order) (k.missing r) in
     record {
       order = both-in_order os fresh k.order;
       filled = inserted_filled (record { counter = counter; replica = q }) s new k.filled ne;
-      missing = inserted_whole q counter s new (both os fresh) k.filled ne still (w (both os fresh) (found_all os fresh k.order order fn) (subst (IsContiguousTo q (both os fresh)) (sym le) (still q)));
+      missing = inserted_whole q counter s new (both os fresh) k.filled ne still (w (both os fresh) (λ i o. found_both i os fresh o k.order) (found_all os fresh k.order order fn) (subst (IsContiguousTo q (both os fresh)) (sym le) (still q)));
     }
 
-pub none_came : (fresh : List Op) (came : List Id) → came ≡ identifiers fresh → length came ≡ 0 → fresh ≡ []
-none_came [] came e z = refl
-none_came (p ∷ fresh) [] e z = cc
-none_came (p ∷ fresh) (i ∷ came) e z = absurd (omega arith)
+-- what a test lets pass has what all such have
+passing : (P : Op → Type 0) (f : Op → Bool) (ps : List Op) (n : ℕ) (p : Op) → n < length ps → p ≡ get_or ps n p → f p ≡ true → AllByRecursion P (filter f ps) → P p
+passing P f [] n p l is t a = absurd (omega arith)
+passing P f (q ∷ ps) zero p l is t a =
+    let here : f q ≡ true = ap f (sym is) ∙ t in
+    let b : AllByRecursion P (q ∷ filter f ps) = rw here at a in
+    subst P (sym is) b.0
+passing P f (q ∷ ps) (suc n) p l is t a = go (f q) refl (λ b. passing P f ps n p (omega arith) is t b)
+  where
+    go : (b : Bool) → f q ≡ b → (AllByRecursion P (filter f ps) → P p) → P p
+    go true e later = let b : AllByRecursion P (q ∷ filter f ps) = rw e at a in later b.1
+    go false e later = let b : AllByRecursion P (filter f ps) = rw e at a in later b
+
+-- an offered operation, as it was received before or as it comes in now, is in the list that has both
+pub among_either : (os ps all : List Op) (n : ℕ) (p o : Op) → n < length ps → p ≡ get_or ps n p → o ≡ unwrap_or (op_of p.id os) p → HasEach os all → AreAmong (filter (is_new os) ps) all → op_of o.id all ≡ Some o
+among_either os ps all n p o l is e each among = go (op_of p.id os) refl
+  where
+    go : (f : Option Op) → op_of p.id os ≡ f → op_of o.id all ≡ Some o
+    go (Some r) f =
+        let same : o ≡ r = e ∙ ap (λ (x : Option Op). unwrap_or x p) f in
+        let own : r.id ≡ p.id = (looked_up p.id os r f).0 in
+        let there : op_of r.id all ≡ Some r = ap (λ (i : Id). op_of i all) own ∙ each p.id r f in
+        subst (λ (x : Op). op_of x.id all ≡ Some x) (sym same) there
+    go None f =
+        let same : o ≡ p = e ∙ ap (λ (x : Option Op). unwrap_or x p) f in
+        let new : is_new os p ≡ true = ap not (not_there_absent p.id os f) in
+        subst (λ (x : Op). op_of x.id all ≡ Some x) (sym same) (passing (λ x. op_of x.id all ≡ Some x) (is_new os) ps n p l is new among)
 
 -- where a search found no place
 pub place_absent : (i : Id) (os : List Op) (r : Result ℕ ℕ) → IsOpPlace i os r → ((n : ℕ) → r ≡ Ok n → ⊥) → op_of i os ≡ None

@@ -1,5 +1,7 @@
 -- Lemmas about Variables: a variable is bound, and the binding is taken back.
-use Rattle.std.proofs.Common.{◌≡◌, ℕ, zero, suc, ◌≤◌, ◌<◌, List, [], ◌∷◌, length, get_or, slice_get, slice_set, insert, remove, Some, None, Bool, true, false, nat_eq, eq-eqb, refl, sym, ◌∙◌, ap, subst, arith}
+use Rattle.std.proofs.Common.{◌≡◌, ◌⊎◌, inl, inr, ℕ, zero, suc, ◌≤◌, ◌<◌, List, [], ◌∷◌, length, get_or, slice_get, slice_set, insert, remove, Some, None, Result, Ok, Err, Bool, true, false, nat_eq, eq-eqb, refl, sym, ◌∙◌, ap, subst, arith}
+use Rattle.std.specs.List.{AllByRecursion}
+use Rattle.std.specs.Cmp.{tied_itself}
 use Rattle.std.specs.Cmp.Lexicographic.{pointwise}
 use Rattle.std.specs.declared.cmp.Ordering.{Ordering}
 use Rattle.std.specs.declared.cmp.Ordering.TheVariants.{Less, Equal, Greater}
@@ -11,7 +13,8 @@ use Rattle.jc_rules.proofs.EntriesLemmas.{same-self, none-below}
 use Rattle.jc_rules.proofs.OrderLemmas.{names_total, exact_names}
 use Rattle.jc_rules.proofs.RisingLemmas.{less_greater, greater_less}
 use Rattle.jc_cursor.specs.declared.bound.Bound.{Bound as BoundInMemory}
-use Rattle.jc_cursor.specs.Bounds.{bound_of, vars_of}
+use Rattle.jc_cursor.specs.Bounds.{bound_of, vars_of, AreSortedByName}
+use Rattle.jc_tree.specs.Sorted.{IsEntryPlace, IsEntryAt, EntryBelongsAt}
 use Rattle.jc_replica.specs.Variables.{IsBound, first_from}
 use Rattle.jc_replica.specs.Undo.{unbound}
 
@@ -26,6 +29,35 @@ first_within x (v ∷ vs) = go (name_cmp v.0 x) refl (first_within x vs)
     go Less e ih = rw e (omega (arith, ih))
     go Equal e ih = rw e (omega arith)
     go Greater e ih = rw e (omega arith)
+
+-- where a search finds the variable, or where it belongs
+there_in_memory : (x : List ℕ) (vs : List (List ℕ × BoundInMemory)) (i : ℕ) → AreSortedByName vs → IsEntryAt x vs i → i ≡ first_from x (vars_of vs)
+there_in_memory x [] i h s = let v = s.value in let none : slice_get {X = List ℕ × BoundInMemory} [] i ≡ Some (x, v) = s.entry in cc
+there_in_memory x (v ∷ vs) zero h s =
+    let b = s.value in
+    let is : v ≡ (x, b) = cc (s.entry) in
+    let same : v.0 ≡ x = ap (λ (w : List ℕ × BoundInMemory). w.0) is in
+    rw (same, tied_itself names_total x) refl
+there_in_memory x (v ∷ vs) (suc i) h s =
+    let b = s.value in
+    let there : slice_get vs i ≡ Some (x, b) = s.entry in
+    let low : name_cmp v.0 x ≡ Less = below_first x vs i v.0 b h.0 there in
+    rw low (ap suc (there_in_memory x vs i h.1 (record { value = b; entry = there })))
+  where
+    below_first : (y : List ℕ) (ws : List (List ℕ × BoundInMemory)) (n : ℕ) (z : List ℕ) (b : BoundInMemory) → AllByRecursion (λ j. name_cmp z j ≡ Less) (keys_of (vars_of ws)) → slice_get ws n ≡ Some (y, b) → name_cmp z y ≡ Less
+    below_first y [] n z b a g = cc
+    below_first y (w ∷ ws) zero z b a g = let same : w ≡ (y, b) = cc in rw (← ap (λ (u : List ℕ × BoundInMemory). u.0) same) a.0
+    below_first y (w ∷ ws) (suc n) z b a g = below_first y ws n z b a.1 g
+
+belongs_in_memory : (x : List ℕ) (vs : List (List ℕ × BoundInMemory)) (i : ℕ) → EntryBelongsAt name_cmp x vs i → i ≡ first_from x (vars_of vs)
+belongs_in_memory x [] zero b = refl
+belongs_in_memory x [] (suc i) b = absurd (omega (arith, b.within))
+belongs_in_memory x (v ∷ vs) zero b = rw (less_greater names_total x v.0 b.greater.0) refl
+belongs_in_memory x (v ∷ vs) (suc i) b = rw b.lesser.0 (ap suc (belongs_in_memory x vs i (record { within = omega (arith, b.within); lesser = b.lesser.1; greater = b.greater })))
+
+pub place_in_memory : (x : List ℕ) (vs : List (List ℕ × BoundInMemory)) (r : Result ℕ ℕ) (i : ℕ) → AreSortedByName vs → IsEntryPlace name_cmp x vs r → (r ≡ Ok i) ⊎ (r ≡ Err i) → i ≡ first_from x (vars_of vs)
+place_in_memory x vs r i h p (inl e) = there_in_memory x vs i h (subst (λ (s : Result ℕ ℕ). IsEntryPlace name_cmp x vs s) e p)
+place_in_memory x vs r i h p (inr e) = belongs_in_memory x vs i (subst (λ (s : Result ℕ ℕ). IsEntryPlace name_cmp x vs s) e p)
 
 -- where the variable stands
 find_there : (x : List ℕ) (vs : Vars) (e : List ℕ × Bound) → slice_get vs (first_from x vs) ≡ Some e → e.0 ≡ x → find name_cmp x vs ≡ Some e.1

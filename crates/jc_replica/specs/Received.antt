@@ -62,6 +62,10 @@ pub data IsContiguousTo (q : ℕ) (os : List Op) : ℕ → Type 0 where
 abbrev pub AreAmong : List Op → List Op → Type 0
 AreAmong ps os = AllByRecursion (λ p. op_of p.id os ≡ Some p) ps
 
+-- what is found in the first list is found in the other
+abbrev pub HasEach : List Op → List Op → Type 0
+HasEach ps os = (i : Id) (o : Op) → op_of i ps ≡ Some o → op_of i os ≡ Some o
+
 -- the list is sorted by identifier, and no operation of a replica is missing up to the replica's counter
 pub record IsKeptList (os : List Op) (whole : List Id) : Type 0 where
   pub order : AreInOrder os

@@ -1,7 +1,8 @@
 //! The event `apply` of a replica: it applies an operation that was received.
 
-ghost use Rattle.std.specs.Prelude.{◌≡◌, [], IfOk, IfErr};
+ghost use Rattle.std.specs.Prelude.{◌≡◌, [], IfOk, IfErr, OnOk};
 ghost use Rattle.jc_rules.specs.declared.operation.Event.TheVariants as E;
+ghost use Rattle.jc_rules.specs.declared.operation.Op.{Op as AnyOp};
 ghost use Rattle.jc_replica.specs.Answers.{AnswersEvent, IsEventRefused};
 ghost use Rattle.jc_replica.specs.MayApply.{TakesOp};
 
@@ -32,15 +33,20 @@ impl<S: TreeStore> Replica<S> {
         Ok(op)
     }
 
-    /// Applies the received operation with the identifier, and returns the trace of the event.
-    ///
-    /// It is refused, in this order, with `NoCommand` or `NotAtYield` where no yield comes next, `NotReceived`,
-    /// `AlreadyApplied`, `DepsMissing` where it depends on an operation that isn't applied, and `NotInList`. After a
-    /// refusal all is as it was.
-    pub fn apply(&mut self, id: Id) -> Result<Trace, ReplicaFault>
-        ensures { AnswersEvent (E.Apply self.old.number id) [] self.old self.new result }
+    /// Refuses an identifier for which `takes` returns no operation.
+    fn may_take(&self, id: Id) -> Result<(), ReplicaFault>
+        ensures ok { OnOk result ((op : AnyOp) × TakesOp self.now.history.now id op) }
+        ensures err { IfErr result (λ f. IsEventRefused (E.Apply self.now.number id) [] self.now f) }
     {
         self.takes(id)?;
+        Ok(())
+    }
+
+    /// Applies an operation that `takes` returns.
+    fn apply_taken(&mut self, id: Id) -> Result<Trace, ReplicaFault>
+        requires { (op : AnyOp) × TakesOp self.old.history.now id op }
+        ensures { AnswersEvent (E.Apply self.old.number id) [] self.old self.new result }
+    {
         let Some(op) = self.recv.find(id) else {
             unreachable!();
         };
@@ -56,5 +62,17 @@ impl<S: TreeStore> Replica<S> {
         let change = Change::Applied { id, before, acted };
         self.steps.push(Record { mark, change }).unwrap();
         Ok(trace)
+    }
+
+    /// Applies the received operation with the identifier, and returns the trace of the event.
+    ///
+    /// It is refused, in this order, with `NoCommand` or `NotAtYield` where no yield comes next, `NotReceived`,
+    /// `AlreadyApplied`, `DepsMissing` where it depends on an operation that isn't applied, and `NotInList`. After a
+    /// refusal all is as it was.
+    pub fn apply(&mut self, id: Id) -> Result<Trace, ReplicaFault>
+        ensures { AnswersEvent (E.Apply self.old.number id) [] self.old self.new result }
+    {
+        self.may_take(id)?;
+        self.apply_taken(id)
     }
 }

@@ -13,7 +13,7 @@ use crate::record::{Change, Record};
 use crate::replica::Replica;
 use crate::vars::bind_var;
 use crate::yielding::is_yield;
-use jc_cursor::{Bound, eval};
+use jc_cursor::{Bound, eval_sorted};
 use jc_rules::{Cursor, Id, Mutation, Op, Rule, Text, Trace};
 use jc_syntax::{Cmd, Expr};
 use jc_tree::TreeStore;
@@ -122,7 +122,7 @@ impl<S: TreeStore> Replica<S> {
         trace.open(Rule::Exec)?;
         trace.open(Rule::Let)?;
         let copy = name.copy()?;
-        let bound = eval(self.alloc, &self.store, self.vars.as_slice(), expr, trace)?;
+        let bound = eval_sorted(self.alloc, &self.store, self.vars.as_slice(), expr, trace)?;
         Ok((copy, bound))
     }
 
@@ -152,7 +152,7 @@ impl<S: TreeStore> Replica<S> {
         let command = &self.script[self.done];
         trace.open(Rule::Exec)?;
         trace.open(rule_of(command))?;
-        let bound = eval(
+        let bound = eval_sorted(
             self.alloc,
             &self.store,
             self.vars.as_slice(),

@@ -1,13 +1,13 @@
 //! The operations that a replica received, and how far those of each sender are complete.
 
-ghost use Rattle.std.specs.Prelude.{◌≡◌, ◌≤◌, ◌+◌, ◌∷◌, ℕ, List, [], Some, true, IfOk, OnOk, OnErr, option_copied, vec_len, vec_capacity, length, take, filter};
+ghost use Rattle.std.specs.Prelude.{◌≡◌, ◌≤◌, ◌+◌, ◌∷◌, ℕ, List, [], Some, true, IfOk, OnOk, OnErr, option_copied, vec_len, vec_capacity, length, take, filter, unwrap_or};
 ghost use Rattle.std.specs.List.{AllByRecursion};
 ghost use Rattle.jc_rules.specs.declared.operation.Op.{Op as AnyOp};
 ghost use Rattle.jc_rules.specs.VersionVectors.{covered, greatest_of};
 ghost use Rattle.jc_rules.specs.Table.{op_of, both};
 ghost use Rattle.jc_replica.specs.Operations.{identifiers, AreInOrder, AreHanded, AreOwn, AreOfOne};
 ghost use Rattle.jc_replica.specs.Undo.{without_ops};
-ghost use Rattle.jc_replica.specs.Received.{IsOpPlace, IsUnited, IsContiguousTo, AreAmong, is_new};
+ghost use Rattle.jc_replica.specs.Received.{IsOpPlace, IsUnited, IsContiguousTo, AreAmong, HasEach, is_new};
 
 use jc_rules::{Id, IdSet, Op};
 use std::alloc::{AllocError, Global};
@@ -99,14 +99,28 @@ fn ids_of(alloc: Global, ops: &[Op]) -> Result<Vec<Id>, AllocError>
     Ok(ids)
 }
 
-/// The counter up to which no operation of the replica is missing once these are in the list, where none was
-/// missing up to `from`: an operation depends on all that its replica made before it.
-fn whole_to(ops: &[Op], replica: u16, from: u64) -> u64
-    ensures { (os : List AnyOp) → AreAmong ops.now os
+/// The operation of the list with the identifier of this one, or else this one.
+fn received_or<'a>(ops: &'a [Op], op: &'a Op) -> &'a Op
+    requires { AreInOrder ops.now }
+    ensures { result.now ≡ unwrap_or (op_of op.now.id ops.now) op.now }
+{
+    match find(ops, op.id) {
+        Some(received) => received,
+        None => op,
+    }
+}
+
+/// The counter up to which no operation of the replica is missing once the new ones of these are in the list,
+/// where none was missing up to `from`: an operation depends on all that its replica made before it. What the
+/// list has already counts too, so that a gap that closes late is closed.
+fn whole_to(ops: &[Op], read: &[Op], replica: u16, from: u64) -> u64
+    requires { AreInOrder ops.now }
+    ensures { (os : List AnyOp) → HasEach ops.now os → AreAmong (filter (is_new ops.now) read.now) os
         → IsContiguousTo replica os from → IsContiguousTo replica os result }
 {
     let mut last = from;
-    for op in ops {
+    for offered in read {
+        let op = received_or(ops, offered);
         if op.id.replica != replica
             || op.id.counter <= last
             || op.deps.greatest_of(replica) != last
@@ -197,11 +211,8 @@ impl Received {
         let start = up_to(offered, last);
         let fresh = new_ones(alloc, self.ops.as_slice(), &offered[start..])?;
         let came = ids_of(alloc, fresh.as_slice())?;
-        if came.is_empty() {
-            return Ok(came);
-        }
         self.ops.reserve(fresh.len())?;
-        let counter = whole_to(fresh.as_slice(), sender, last);
+        let counter = whole_to(self.ops.as_slice(), &offered[start..], sender, last);
         self.contiguous.insert(Id {
             counter,
             replica: sender,

@@ -1,9 +1,7 @@
 //! The variables of a replica, sorted by name: they are bound by commands, and unbound by `undo`.
 
 ghost use Rattle.std.specs.Prelude.{◌≡◌, ◌<◌, length, IfOk, OnErr};
-ghost use Rattle.jc_rules.specs.Entries.{IsRising, keys_of};
-ghost use Rattle.jc_rules.specs.Order.{name_cmp};
-ghost use Rattle.jc_cursor.specs.Bounds.{bound_of, vars_of};
+ghost use Rattle.jc_cursor.specs.Bounds.{bound_of, vars_of, AreSortedByName};
 ghost use Rattle.jc_replica.specs.Undo.{unbound, was_bound};
 ghost use Rattle.jc_replica.specs.Variables.{IsBound, first_from};
 
@@ -14,13 +12,12 @@ use std::mem;
 
 /// The number of variables whose names are less than this one.
 fn place_of(vars: &[(Text, Bound)], name: &Text) -> usize
+    requires { AreSortedByName vars.now }
     ensures { result ≡ first_from name.now (vars_of vars.now) }
 {
-    let mut place = 0;
-    while place < vars.len() && vars[place].0.cmp(name).is_lt() {
-        place += 1;
+    match vars.binary_search_by(|var| var.0.cmp(name)) {
+        Ok(place) | Err(place) => place,
     }
-    place
 }
 
 /// Binds the variable. It returns the variable's place and what it was bound to. After a refusal all
@@ -31,7 +28,7 @@ pub fn bind_var(
     name: Text,
     bound: Bound,
 ) -> Result<(usize, Option<Box<Bound>>), AllocError>
-    requires { IsRising name_cmp (keys_of (vars_of vars.old.items)) }
+    requires { AreSortedByName vars.old.items }
     ensures ok { IfOk result (λ was. IsBound name (bound_of bound) was.0 (was_bound was.1)
         (vars_of vars.old.items) (vars_of vars.new.items)) }
     ensures err { OnErr result (vars.new.items ≡ vars.old.items) }

@@ -5,7 +5,7 @@ use jc_network::{Net, StartFault, StepFault, Stuck};
 use jc_rules::limits::MAX_THREAD_EVENTS;
 use jc_rules::{Event, Trace};
 use jc_scenario::Scenario;
-use std::alloc::Global;
+use std::alloc::{AllocError, Global};
 use std::sync::Wait;
 
 /// The right of one replica to step at a bench.
@@ -28,9 +28,27 @@ pub enum BenchFault {
     Memory,
 }
 
+impl BenchFault {
+    ghost use Rattle.std.specs.Prelude.{◌≡◌, IfOk};
+
+    /// A copy.
+    pub fn copy(&self) -> Result<Self, AllocError>
+        ensures { IfOk result (λ fault. fault ≡ self.now) }
+    {
+        match self {
+            BenchFault::LimitTooLarge => Ok(BenchFault::LimitTooLarge),
+            BenchFault::Given { at, stuck } => Ok(BenchFault::Given {
+                at: *at,
+                stuck: stuck.copy()?,
+            }),
+            BenchFault::Memory => Ok(BenchFault::Memory),
+        }
+    }
+}
+
 /// 43: the passes aren't those of `open`, each once. Bench and passes come back unchanged.
 #[derive(Drop)]
-pub struct CloseRefused {
+pub struct UnclosedBench {
     pub bench: Bench,
     pub passes: Vec<Pass>,
 }
@@ -178,7 +196,7 @@ impl Bench {
     ///
     /// 43 exactly where the numbers of the passes aren't those of `open`, each once. Then bench and passes come back
     /// unchanged.
-    pub fn close(self, passes: Vec<Pass>) -> Result<Recorded, CloseRefused>
+    pub fn close(self, passes: Vec<Pass>) -> Result<Recorded, UnclosedBench>
         requires { All (IsPassAt self) passes.items }
         ensures when { IsOk result ↔ EachOnce (bench_passes self) (map pass_number passes.items) }
         ensures legal { IfOk result (λ r. IsLegal r.schedule (bench_start self) r.net.history.now) }
@@ -195,7 +213,7 @@ impl Bench {
                 let _ = &recorded.schedule;
                 Ok(recorded)
             }
-            Err(jc_lock::CloseRefused { lock, passes }) => Err(CloseRefused {
+            Err(jc_lock::CloseRefused { lock, passes }) => Err(UnclosedBench {
                 bench: Bench { lock },
                 passes,
             }),

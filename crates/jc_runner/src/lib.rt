@@ -21,7 +21,7 @@ mod run;
 mod starting;
 mod worker;
 
-pub use bench::{Bench, BenchFault, CloseRefused, Pass, StepAnswer};
+pub use bench::{Bench, BenchFault, Pass, StepAnswer, UnclosedBench};
 pub use choosing::{choose, yields};
 pub use phase::Phase;
 pub use recorded::Recorded;

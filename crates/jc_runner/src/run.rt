@@ -34,6 +34,24 @@ pub enum RunFault {
     NoThread(SpawnRefused),
 }
 
+impl RunFault {
+    /// A copy.
+    pub fn copy(&self) -> Result<Self, AllocError>
+        ensures { IfOk result (λ fault. fault ≡ self.now) }
+    {
+        match self {
+            RunFault::GateCount => Ok(RunFault::GateCount),
+            RunFault::LimitTooLarge => Ok(RunFault::LimitTooLarge),
+            RunFault::Given { at, stuck } => Ok(RunFault::Given {
+                at: *at,
+                stuck: stuck.copy()?,
+            }),
+            RunFault::Memory => Ok(RunFault::Memory),
+            RunFault::NoThread(refused) => Ok(RunFault::NoThread(*refused)),
+        }
+    }
+}
+
 impl From<AllocError> for RunFault {
     ghost from_gives = { λ _ fault. fault ≡ WantOfMemory };
 

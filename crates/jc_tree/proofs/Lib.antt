@@ -2,6 +2,7 @@ pub mod SortedLemmas
 pub mod NodeLemmas
 pub mod WalksLeastLemmas
 pub mod WalksLemmas
+pub mod WalksEntriesLemmas
 pub mod WellFormedLemmas
 pub mod ChainedLemmas
 pub mod TreeLemmas
@@ -12,6 +13,8 @@ pub mod RegistersLemmas
 pub mod UndoLemmas
 pub mod PresencesLemmas
 pub mod PathLemmas
+pub mod ChainedBelowLemmas
+pub mod ChainedLeadsLemmas
 pub mod ArenaNumbersLemmas
 pub mod SortedMapLemmas
 pub mod ArenaChangesLemmas

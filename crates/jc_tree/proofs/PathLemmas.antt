@@ -9,6 +9,7 @@ use Rattle.jc_rules.specs.Order.{key_cmp}
 use Rattle.jc_rules.specs.Entries.{find}
 use Rattle.jc_rules.specs.Context.{Context, Content, Node, Values, Register, node_of, values_of, content, maps, lists, registers}
 use Rattle.jc_rules.specs.ContextsAt.{at_node, node_in, node_at, context_at}
+use Rattle.jc_rules.specs.Paths.{HasContext}
 use Rattle.jc_rules.proofs.ContextsAtLemmas.{there}
 use Rattle.jc_tree.proofs.TreeLemmas.{node-further}
 
@@ -71,3 +72,13 @@ module _ (at : List Tagged) (i : ℕ) (t : Tagged) (c : Context) (h : i < length
       go (MapT k) n f = some (find key_cmp k (maps (context_at (take i at) c))) f
       go (ListT k) n f = some (find key_cmp k (lists (context_at (take i at) c))) f
       go (RegT k) n f = absurd (n k refl)
+
+-- a map or a list that is there is a context
+pub found_node : (x : Option Context) → is_some (node_of x) ≡ true → (d : Context) × (node_of x ≡ Some (Node d))
+found_node None h = cc
+found_node (Some d) h = (d, refl)
+
+pub found_context : (k : Tagged) (c : Context) → HasContext k → is_some (content k c) ≡ true → (d : Context) × (content k c ≡ Some (Node d))
+found_context (MapT k) c h s = found_node (find key_cmp k (maps c)) s
+found_context (ListT k) c h s = found_node (find key_cmp k (lists c)) s
+found_context (RegT k) c h s = absurd h

@@ -7,6 +7,7 @@ pub mod Change
 pub mod Undo
 pub mod Single
 pub mod Laws
+pub mod ChainedBelow
 pub mod CanGoBack
 pub mod Arena
 pub mod SmallFormers

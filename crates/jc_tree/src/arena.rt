@@ -122,8 +122,7 @@ impl ArenaTree {
             (tree_of_arena self.new.nodes.items self.new.undos.items)) }
         ensures was { IfOk result (λ was.
             was ≡ was_there (former_of_flat change (flat_at self.old.nodes.items node))) }
-        ensures numbers { OnOk result ((at : List AnyTagged) →
-            walk self.new.nodes.items 0 at ≡ walk self.old.nodes.items 0 at) }
+        ensures numbers { (at : List AnyTagged) → walk self.new.nodes.items 0 at ≡ walk self.old.nodes.items 0 at }
         ensures err { OnErr result (tree_of_arena self.new.nodes.items self.new.undos.items
             ≡ tree_of_arena self.old.nodes.items self.old.undos.items) }
     {
@@ -146,8 +145,7 @@ impl ArenaTree {
             (changed_by change (context_at at.now (content_of_arena self.old.nodes.items)))
             (tree_of_arena self.old.nodes.items self.old.undos.items)
             (tree_of_arena self.new.nodes.items self.new.undos.items)) }
-        ensures numbers { OnOk result ((q : List AnyTagged) →
-            walk self.new.nodes.items 0 q ≡ walk self.old.nodes.items 0 q) }
+        ensures numbers { (q : List AnyTagged) → walk self.new.nodes.items 0 q ≡ walk self.old.nodes.items 0 q }
         ensures err { OnErr result (tree_of_arena self.new.nodes.items self.new.undos.items
             ≡ tree_of_arena self.old.nodes.items self.old.undos.items) }
     {

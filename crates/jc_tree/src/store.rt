@@ -51,7 +51,7 @@ pub struct Step {
 /// A document's tree, with the contents that it had before each change since `forget_marks` was last
 /// called. A place is the path of a context that is there. Each changing call changes the named
 /// entry and no other. Only memory can be refused; the content and the earlier ones are then as they
-/// were.
+/// were. Names of places stay, also after a refusal.
 pub trait TreeStore {
     /// The content now and the earlier ones.
     ghost tree: { Self → Tree };
@@ -71,7 +71,7 @@ pub trait TreeStore {
         ensures ok { OnOk result (IsChanged at.now
             (with_content key.now (new_content key.now) (here at.now (tree self.old)))
             (tree self.old) (tree self.new)) }
-        ensures names_stay { OnOk result (NamesStay (names self.old) (names self.new)) }
+        ensures names_stay { NamesStay (names self.old) (names self.new) }
         ensures err { OnErr result (tree self.new ≡ tree self.old) };
 
     /// The presence set of the key, rising.
@@ -86,7 +86,7 @@ pub trait TreeStore {
         ensures ok { OnOk result (IsChanged at.now
             (with_presence key.now ids.now (here at.now (tree self.old)))
             (tree self.old) (tree self.new)) }
-        ensures names_stay { OnOk result (NamesStay (names self.old) (names self.new)) }
+        ensures names_stay { NamesStay (names self.old) (names self.new) }
         ensures err { OnErr result (tree self.new ≡ tree self.old) };
 
     /// Adds the identifier to the key's presence set, a new one where there is none. Returns whether
@@ -98,7 +98,7 @@ pub trait TreeStore {
             (here at.now (tree self.old)))
             (tree self.old) (tree self.new)) }
         ensures was { IfOk result (λ was. was ≡ is_some (presence key.now (here at.now (tree self.old)))) }
-        ensures names_stay { OnOk result (NamesStay (names self.old) (names self.new)) }
+        ensures names_stay { NamesStay (names self.old) (names self.new) }
         ensures err { OnErr result (tree self.new ≡ tree self.old) };
 
     /// What follows the key in a list.
@@ -112,7 +112,7 @@ pub trait TreeStore {
         ensures ok { OnOk result (IsChanged at.now
             (with_next key.now next (here at.now (tree self.old)))
             (tree self.old) (tree self.new)) }
-        ensures names_stay { OnOk result (NamesStay (names self.old) (names self.new)) }
+        ensures names_stay { NamesStay (names self.old) (names self.new) }
         ensures err { OnErr result (tree self.new ≡ tree self.old) };
 
     /// The values of the key's register, rising by identifier.
@@ -132,7 +132,7 @@ pub trait TreeStore {
         ensures ok { OnOk result (IsChanged at.now
             (with_content (RegT key.now) (Values pairs.items) (here at.now (tree self.old)))
             (tree self.old) (tree self.new)) }
-        ensures names_stay { OnOk result (NamesStay (names self.old) (names self.new)) }
+        ensures names_stay { NamesStay (names self.old) (names self.new) }
         ensures err { OnErr result (tree self.new ≡ tree self.old) };
 
     /// Puts the value under the identifier into the key's register, a new one where there is
@@ -153,7 +153,7 @@ pub trait TreeStore {
             (tree self.old) (tree self.new)) }
         ensures was { IfOk result (λ was.
             was ≡ is_some (find key_cmp key.now (registers (here at.now (tree self.old))))) }
-        ensures names_stay { OnOk result (NamesStay (names self.old) (names self.new)) }
+        ensures names_stay { NamesStay (names self.old) (names self.new) }
         ensures err { OnErr result (tree self.new ≡ tree self.old) };
 
     /// The least key with a map, a list or a register, above the given one.
@@ -201,7 +201,7 @@ pub trait TreeStore {
             (with_content key.now (new_content key.now) (here at.now (tree self.old)))
             (tree self.old) (tree self.new)) }
         ensures named { IfOk result (λ child. names self.new child (at.now ++ key.now ∷ [])) }
-        ensures names_stay { OnOk result (NamesStay (names self.old) (names self.new)) }
+        ensures names_stay { NamesStay (names self.old) (names self.new) }
         ensures err { OnErr result (tree self.new ≡ tree self.old) };
 
     /// As `add_presence`, for a place whose name is known.
@@ -219,7 +219,7 @@ pub trait TreeStore {
             (here at.now (tree self.old)))
             (tree self.old) (tree self.new)) }
         ensures was { IfOk result (λ was. was ≡ is_some (presence key.now (here at.now (tree self.old)))) }
-        ensures names_stay { OnOk result (NamesStay (names self.old) (names self.new)) }
+        ensures names_stay { NamesStay (names self.old) (names self.new) }
         ensures err { OnErr result (tree self.new ≡ tree self.old) };
 
     /// One step of a walk along a list: what follows the key in the context at the place, whether the
@@ -244,7 +244,7 @@ pub trait TreeStore {
         ensures ok { OnOk result (IsChanged at.now
             (with_next key.now next (here at.now (tree self.old)))
             (tree self.old) (tree self.new)) }
-        ensures names_stay { OnOk result (NamesStay (names self.old) (names self.new)) }
+        ensures names_stay { NamesStay (names self.old) (names self.new) }
         ensures err { OnErr result (tree self.new ≡ tree self.old) };
 
     /// As `register`, for a place whose name is known.
@@ -267,7 +267,7 @@ pub trait TreeStore {
         ensures ok { OnOk result (IsChanged at.now
             (with_content (RegT key.now) (Values pairs.items) (here at.now (tree self.old)))
             (tree self.old) (tree self.new)) }
-        ensures names_stay { OnOk result (NamesStay (names self.old) (names self.new)) }
+        ensures names_stay { NamesStay (names self.old) (names self.new) }
         ensures err { OnErr result (tree self.new ≡ tree self.old) };
 
     /// As `put_value`, for a place whose name is known.
@@ -289,7 +289,7 @@ pub trait TreeStore {
             (tree self.old) (tree self.new)) }
         ensures was { IfOk result (λ was.
             was ≡ is_some (find key_cmp key.now (registers (here at.now (tree self.old))))) }
-        ensures names_stay { OnOk result (NamesStay (names self.old) (names self.new)) }
+        ensures names_stay { NamesStay (names self.old) (names self.new) }
         ensures err { OnErr result (tree self.new ≡ tree self.old) };
 
     /// The keys of the context at the place, rising, each with a hint for it. Each key under which

@@ -1,5 +1,5 @@
 -- About Laws: a map or a list in which something is present is alive.
-use Rattle.std.proofs.Common.{◌≡◌, List, [], ◌∷◌, ◌++◌, Bool, true, false, not, cond, ◌||◌, ◌&&◌, Option, Some, None, Contains, ◌⊎◌, refl, sym, ◌∙◌, ap, subst}
+use Rattle.std.proofs.Common.{◌≡◌, List, [], ◌∷◌, ◌++◌, Bool, true, false, not, ◌||◌, ◌&&◌, Option, Some, None, Contains, refl, sym, ◌∙◌, ap, subst}
 use Rattle.jc_rules.specs.declared.id.Id.{Id}
 use Rattle.jc_rules.specs.declared.key.Key.{Key}
 use Rattle.jc_rules.specs.declared.key.Tagged.{Tagged}
@@ -19,9 +19,6 @@ use Rattle.jc_rules.proofs.BoolLemmas.{first_true, second_true, both_true}
 use Rattle.jc_tree.proofs.WellFormedLemmas.{presences_rise}
 use Rattle.jc_network.specs.Applied.{applied_ops}
 use Rattle.jc_network.specs.Laws.{IsReached}
-use Rattle.jc_network.specs.RunInvariant.{IsReplicaAt, IsWell}
-use Rattle.jc_network.proofs.AppliedLemmas.{applied_is}
-use Rattle.jc_network.proofs.MembersLemmas.{op_in}
 use Rattle.jc_network.proofs.RunInvariantStartLemmas.{at_member}
 use Rattle.jc_meaning.specs.Effects.{same_tagged, is_at_or_above, is_delete, target, touches, value_in, passed, goes_through}
 use Rattle.jc_meaning.specs.Seen.{seen, ids_at}
@@ -31,7 +28,7 @@ use Rattle.jc_meaning.proofs.DroppedLemmas.{kept_seen}
 use Rattle.jc_meaning.proofs.MeaningForcesLemmas.{present_above}
 use Rattle.jc_meaning.proofs.RunsLemmas.{trees_meant, kept_tree}
 use Rattle.jc_meaning.proofs.TagsLemmas.{tags_eq, tags_self}
-use Rattle.jc_view.specs.Visible.{GoesThrough, some_goes, is_alive, applied_op, goes_by, present}
+use Rattle.jc_view.specs.Visible.{GoesThrough, some_goes, is_alive, goes_by, present}
 use Rattle.jc_view.proofs.AppliedPathsLemmas.{applied_found}
 use Rattle.jc_view.proofs.PresentLemmas.{alive_by}
 

@@ -14,7 +14,7 @@ use Rattle.jc_rules.specs.Order.{key_cmp}
 use Rattle.jc_rules.specs.Entries.{find}
 use Rattle.jc_rules.specs.Context.{Context, presences, links, next}
 use Rattle.jc_rules.specs.WellFormed.{IsChainedList}
-use Rattle.jc_clear.proofs.ClearListLemmas.{steps}
+use Rattle.jc_tree.proofs.ChainedLeadsLemmas.{steps}
 use Rattle.jc_cursor.proofs.ElementsLemmas.{nearer}
 use Rattle.jc_view.specs.Visible.{present, followed, elements_after, visible_items_at}
 use Rattle.jc_view.specs.Parts.{Gains, items_front, item_of}

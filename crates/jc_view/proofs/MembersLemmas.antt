@@ -1,5 +1,5 @@
 -- About Visible and Parts: the members of a map, written one after another; what is shown at a key; the line.
-use Rattle.std.proofs.Common.{◌≡◌, ◌≢◌, ℕ, List, [], ◌∷◌, ◌++◌, Bool, true, false, cond, Option, Some, None, is_some, filter, length, append_assoc, refl, sym, ◌∙◌, ap, subst, codes}
+use Rattle.std.proofs.Common.{◌≡◌, ◌≢◌, ℕ, List, [], ◌∷◌, ◌++◌, Bool, true, false, cond, Option, Some, None, is_some, length, append_assoc, refl, sym, ◌∙◌, ap, subst, codes}
 use Rattle.std.specs.List.{AllByRecursion}
 use Rattle.json.specs.Json.{Json, Members, no_members, member, object}
 use Rattle.json.specs.Print.{print}
@@ -19,17 +19,15 @@ use Rattle.jc_rules.specs.declared.key.Tagged.TheVariants.{MapT, ListT, RegT}
 use Rattle.jc_rules.specs.Paths.{HasContext}
 use Rattle.jc_rules.specs.ContextsAt.{node_in, or_empty}
 use Rattle.jc_rules.specs.Context.{Context, context, presences, links, content, Register}
-use Rattle.jc_rules.specs.WellFormed.{is_some_id}
 use Rattle.jc_tree.specs.Tree.{is_after}
 use Rattle.jc_tree.specs.Walks.{keys_above, entry_of}
 use Rattle.jc_tree.proofs.WalksLemmas.{above-none, none_above, step}
-use Rattle.jc_view.specs.declared.document.Form.{Form as AnyForm}
 use Rattle.jc_view.specs.declared.document.Form.TheVariants as F
 use Rattle.jc_view.specs.Visible.{GoesThrough, present, marked, members_at, elements_after, with_part, with_values, parts_json, one_of, map_json, list_json, document, line_json}
 use Rattle.jc_view.specs.Parts.{Gains, parts_shown_at, child_json, is_list, form_of, members_front, member_shown, items_front, part_tokens, values_tokens, first_tokens, if_so}
 use Rattle.jc_view.proofs.PresentLemmas.{present_by}
 use Rattle.jc_view.proofs.ElementsLemmas.{items_tokens_are}
-use Rattle.jc_view.proofs.TokensLemmas.{Wrote, wrote_begins, wrote_more}
+use Rattle.jc_view.proofs.TokensLemmas.{Wrote, wrote_begins}
 
 pub members_tokens_are : (show : Key → Json) (p : List (Key × List Id)) → members_tokens (members_at show p) ≡ members_front show p ++ T.end_object ∷ []
 members_tokens_are show [] = refl

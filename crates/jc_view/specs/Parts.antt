@@ -1,5 +1,5 @@
 -- The tokens that each private function of `document`, `values` and `alive` writes or tests, as parts of `Visible`.
-use Rattle.std.specs.Prelude.{◌≡◌, ℕ, List, [], ◌∷◌, ◌++◌, length, codes, Bool, true, false, not, cond, ◌||◌, ◌&&◌, Option, Some, None, is_some, ⊤}
+use Rattle.std.specs.Prelude.{◌≡◌, ℕ, List, [], ◌∷◌, ◌++◌, codes, Bool, true, false, cond, ◌&&◌, Option, Some, None, is_some}
 use Rattle.json.specs.Json
 use Rattle.json.specs.Json.{Json, null, Items, Members}
 use Rattle.json.specs.Token.{Token}
@@ -8,7 +8,7 @@ use Rattle.json.specs.Tree.{json_tokens}
 use Rattle.json.specs.Written.{Written}
 use Rattle.jc_rules.specs.declared.id.Id.{Id}
 use Rattle.jc_rules.specs.declared.key.Key.{Key}
-use Rattle.jc_rules.specs.declared.key.Key.TheVariants.{Head, Name, Elem}
+use Rattle.jc_rules.specs.declared.key.Key.TheVariants.{Name, Elem}
 use Rattle.jc_rules.specs.declared.key.Tagged.{Tagged}
 use Rattle.jc_rules.specs.declared.key.Tagged.TheVariants.{MapT, ListT, RegT}
 use Rattle.jc_rules.specs.declared.value.Value.{Value}

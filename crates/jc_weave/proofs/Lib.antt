@@ -4,3 +4,4 @@ pub mod WeavingLemmas
 pub mod WeavingChosenLemmas
 pub mod WeavingStuckLemmas
 mod WeavingEndsLemmas
+mod WeavingOverLemmas

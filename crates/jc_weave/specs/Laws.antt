@@ -2,6 +2,7 @@
 use Rattle.std.specs.Prelude.{◌≡◌, ℕ, List, Some, length, slice_get}
 use Rattle.jc_rules.specs.declared.operation.Event.{Event}
 use Rattle.jc_rules.specs.Step.{Network}
+use Rattle.jc_network.specs.Given.{IsStart}
 use Rattle.jc_scenario.specs.WellFormed.{Scenario, IsWellFormedScenario}
 use Rattle.jc_runner.specs.declared.worker.End.{End}
 use Rattle.jc_runner.specs.declared.worker.End.TheVariants.{LimitReached}
@@ -40,3 +41,11 @@ LimitsAreMet =
     → (p : ℕ)
     → slice_get ends p ≡ Some LimitReached
     → length schedule ≡ limit
+
+-- From the start of a scenario each seed and limit give a schedule.
+abbrev pub EachSeedWeaves : Type 0
+EachSeedWeaves =
+    (s : Scenario) (start : Network) (seed limit : ℕ)
+    → IsStart s start
+    → (schedule : List Event) × (network : Network) × (ends : List End)
+    × IsWoven s seed limit schedule network ends

@@ -1,10 +1,15 @@
 //! Laws of woven schedules. Each function does nothing: its contract is the law.
 
-ghost use Rattle.jc_weave.specs.Laws.{OneSchedule, SchedulesLead, EachIsChosen, LimitsAreMet};
+ghost use Rattle.jc_weave.specs.Laws.{OneSchedule, EachSeedWeaves, SchedulesLead, EachIsChosen, LimitsAreMet};
 
 /// A scenario, a seed and a limit have one schedule at most.
 pub fn one_schedule()
     ensures { OneSchedule }
+{}
+
+/// From the start of a scenario each seed and limit give a schedule.
+pub fn each_seed_weaves()
+    ensures { EachSeedWeaves }
 {}
 
 /// A woven schedule leads from the scenario's start to the network.

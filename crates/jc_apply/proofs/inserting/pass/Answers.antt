@@ -1,7 +1,8 @@
 use Rattle.std.proofs.Common.{refl}
 use Rattle.jc_tree.specs.Tree.{here}
 use Rattle.jc_apply.proofs.UnlinkedLemmas.{unlinked_here, no_next}
-use Rattle.jc_apply.proofs.InsertLemmas.{first_pass, next_pass, last_pass, passes_on, list_here}
+use Rattle.jc_tree.proofs.ChainedBelowLemmas.{list_here}
+use Rattle.jc_apply.proofs.InsertLemmas.{first_pass, next_pass, last_pass, passes_on}
 use Rattle.jc_apply.proofs.inserting.pass.Goals as goal
 
 pub loop-id-init : goal.loop-id-init

@@ -1,7 +1,7 @@
 use Rattle.std.proofs.Common.{Some, length}
 use Rattle.jc_rules.specs.Context.{links}
 use Rattle.jc_tree.specs.Tree.{here}
-use Rattle.jc_clear.proofs.ClearListLemmas.{steps}
+use Rattle.jc_tree.proofs.ChainedLeadsLemmas.{steps}
 use Rattle.jc_apply.proofs.InsertLemmas.{Passing}
 use Rattle.jc_apply.proofs.inserting.pass.Given as goal
 

@@ -8,7 +8,7 @@ use Rattle.jc_rules.specs.Table.{after}
 use Rattle.jc_rules.specs.Trace.{Rows, at_depth}
 use Rattle.jc_tree.specs.Tree.{here, least_after}
 use Rattle.jc_tree.proofs.PlacesLemmas.{some_content}
-use Rattle.jc_clear.proofs.BareLemmas.{below-list}
+use Rattle.jc_tree.proofs.ChainedBelowLemmas.{below-list}
 use Rattle.jc_tree.proofs.CanGoBackLemmas.{nothing, then, rule_opened, rule_added, rows_added, tree_changed, depth_changed}
 use Rattle.jc_clear.proofs.ClearListLemmas.{first_along, after_along, along_finds, along_on, last_along}
 use Rattle.jc_clear.proofs.ClearMapLemmas.{first_through, after_through, through_on, last_through}

@@ -3,7 +3,8 @@ use Rattle.jc_rules.specs.Context.{links}
 use Rattle.jc_tree.specs.Tree.{NamesStay, here}
 use Rattle.jc_tree.specs.Nested.{nested}
 use Rattle.jc_tree.specs.CanGoBack.{TreeCanGoBack}
-use Rattle.jc_clear.proofs.ClearListLemmas.{Along, steps}
+use Rattle.jc_tree.proofs.ChainedLeadsLemmas.{steps}
+use Rattle.jc_clear.proofs.ClearListLemmas.{Along}
 use Rattle.jc_clear.proofs.ClearMapLemmas.{Through, left_after}
 use Rattle.jc_clear.proofs.clearing.+clearing.Given as goal
 

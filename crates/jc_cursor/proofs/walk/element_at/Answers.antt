@@ -1,7 +1,7 @@
 use Rattle.std.proofs.Common.{refl, sym, ◌∙◌, arith}
 use Rattle.jc_rules.specs.declared.key.Key.TheVariants.{Head}
 use Rattle.jc_tree.specs.Tree.{here}
-use Rattle.jc_apply.proofs.InsertLemmas.{list_here}
+use Rattle.jc_tree.proofs.ChainedBelowLemmas.{list_here}
 use Rattle.jc_cursor.proofs.ElementsLemmas.{has_one, has_none, along_begins, nearer, along_counted, along_passed, along_past_end, along_ends}
 use Rattle.jc_cursor.proofs.walk.element_at.Goals as goal
 

@@ -1,6 +1,6 @@
-use Rattle.std.proofs.Common.{◌≡◌, map, get_or, Some, string_bytes, refl, sym, ◌∙◌, subst, arith}
+use Rattle.std.proofs.Common.{◌≡◌, ◌++◌, map, get_or, Some, refl, sym, ap, ◌∙◌, subst, arith}
 use Rattle.std.proofs.lemmas.List.{length-map}
-use Rattle.std.proofs.lemmas.Result.{IfOk-at_ok, on_ok_weaker}
+use Rattle.std.proofs.lemmas.Result.{on_ok_weaker}
 use Rattle.serde.specs.Event.{Logs, seq_begins}
 use Rattle.serde_json.specs.Data.{string}
 use Rattle.serde_json.specs.View.{items_of}
@@ -15,7 +15,8 @@ loop-id-preserved g c =
     let ids = c.args.ids.now in
     let zero : Id = record { counter = 0; replica = 0 } in
     let id = get_or ids c.loop-id.id-index zero in
-    let text : c.as_str.result.now ≡ id_text names id = c.as_str.ensures.value ∙ IfOk-at_ok (λ s. string_bytes s ≡ id_text names id) c.in_ok-text.ensures c.id_text.ensures in
+    let made = rw c.in_ok-granted.ensures at c.push_id.ensures in
+    let text : c.as_str.result.now ≡ id_text names id = c.as_str.ensures.value ∙ made ∙ ap (λ bs. bs ++ id_text names id) c.clear.ensures.bytes in
     let sent : Logs (g.W.Serializer.written c.loop-id.out) (g.W.Serializer.written c.str.new.self) (Rattle.serde.specs.Event.text (id_text names id)) = subst (λ t. Logs (g.W.Serializer.written c.loop-id.out) (g.W.Serializer.written c.str.new.self) (Rattle.serde.specs.Event.text t)) text c.in_ok-str.ensures in
     next_item (λ is. items_of (map string (map (λ i. id_text names i) is))) ids c.loop-id.id-index _ _ (λ i. string (id_text names i)) id zero _ (λ x xs. refl) (omega arith) refl sent c.loop-id.invariant
 

@@ -1,13 +1,10 @@
-use Rattle.std.proofs.Common.{Some, ◌≡◌, sym, ◌∙◌, subst}
-use Rattle.jc_rules.specs.declared.operation.Op.{Op}
+use Rattle.std.proofs.Common.{Some, ◌≡◌, sym, ◌∙◌}
 use Rattle.jc_rules.specs.Table.{op_of}
-use Rattle.jc_rules.proofs.RisingLemmas.{all_at}
-use Rattle.jc_replica.proofs.ReceivedLemmas.{whole_more}
+use Rattle.jc_replica.proofs.ReceivedLemmas.{whole_more, among_either}
 use Rattle.jc_replica.proofs.received.whole_to.Goals as goal
 
-pub loop-op-preserved : goal.loop-op-preserved
-loop-op-preserved c = λ os among start.
-    let o = c.op-item.result in
-    let q = c.args.replica in
-    let there : op_of o.id os ≡ Some o = subst (λ (x : Op). op_of x.id os ≡ Some x) (sym c.op-item.is) (all_at (λ x. op_of x.id os ≡ Some x) c.args.ops.now among c.loop-op.op-index o c.loop-op-test.true) in
-    whole_more q c.loop-op.last o os c.if-op-replica.false there (sym c.greatest_of.ensures.exact ∙ c.if-greatest_of-last.false) c.if-op-last.false (c.loop-op.invariant os among start)
+pub loop-offered-preserved : goal.loop-offered-preserved
+loop-offered-preserved c = λ os each among start.
+    let o = c.received_or-op.result.now in
+    let there : op_of o.id os ≡ Some o = among_either c.args.ops.now c.args.read.now os c.loop-offered.offered-index c.offered-item.result o c.loop-offered-test.true c.offered-item.is c.received_or-op.ensures each among in
+    whole_more c.args.replica c.loop-offered.last o os c.if-op-replica.false there (sym c.greatest_of.ensures.exact ∙ c.if-greatest_of-last.false) c.if-op-last.false (c.loop-offered.invariant os each among start)

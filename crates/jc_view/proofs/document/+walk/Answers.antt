@@ -1,7 +1,6 @@
-use Rattle.std.proofs.Common.{rules, ℕ, ◌≡◌, ◌≢◌, ◌<◌, List, [], ◌∷◌, ◌++◌, Bool, true, false, is_some, Some, None, option_copied, length, codes, refl, arith, ap, sym, ◌∙◌, subst}
+use Rattle.std.proofs.Common.{rules, ℕ, ◌≡◌, ◌≢◌, ◌<◌, List, [], ◌∷◌, ◌++◌, Bool, true, false, is_some, Some, option_copied, codes, refl, arith, ap, sym, ◌∙◌, subst}
 use Rattle.std.specs.List.{AllByRecursion}
-use Rattle.std.proofs.lemmas.Result.{IfOk-at_ok, on_ok_weaker}
-use Rattle.std.specs.declared.cmp.Ordering.TheVariants.{Greater}
+use Rattle.std.proofs.lemmas.Result.{on_ok_weaker}
 use Rattle.json.specs.Json.{object, member, no_members}
 use Rattle.json.specs.Token.{Token}
 use Rattle.json.specs.Token as T
@@ -15,20 +14,20 @@ use Rattle.jc_rules.specs.declared.key.Tagged.{Tagged}
 use Rattle.jc_rules.specs.declared.key.Tagged.TheVariants.{MapT, ListT}
 use Rattle.jc_rules.specs.Order.{key_cmp}
 use Rattle.jc_rules.specs.Entries.{keys_of, find}
-use Rattle.jc_rules.specs.Context.{content, presences, links, registers, next, Register}
+use Rattle.jc_rules.specs.Context.{presences, registers, next, Register}
 use Rattle.jc_rules.specs.WellFormed.{IsWellFormedContext}
 use Rattle.jc_tree.specs.Tree.{here, is_after, least_after}
 use Rattle.jc_tree.specs.Nested.{nested}
 use Rattle.jc_tree.proofs.WalksLemmas.{IsNext, next_is, none_is}
-use Rattle.jc_apply.proofs.InsertLemmas.{list_here}
+use Rattle.jc_tree.proofs.ChainedBelowLemmas.{list_here}
 use Rattle.jc_cursor.proofs.ElementsLemmas.{nearer}
 use Rattle.jc_json.proofs.PartsPlacesLemmas.{kept_at}
 use Rattle.jc_tree.proofs.WellFormedLemmas.{presences_rise}
 use Rattle.jc_meaning.proofs.ComparedContextsLemmas.{StandsBelow, stands_below}
 use Rattle.jc_view.specs.declared.document.Form.TheVariants as F
 use Rattle.jc_view.specs.Visible.{goes_by, or_no_value, present, marked, map_json, list_json, parts_json}
-use Rattle.jc_view.specs.Parts.{Gains, parts_shown_at, child_json, member_shown, item_of, members_front, shows_at, form_of, first_tokens, part_tokens, values_tokens, if_so}
-use Rattle.jc_view.proofs.TokensLemmas.{Wrote, gains_nothing, gains_one, gains_then, wrote_more, wrote_end, gains_between}
+use Rattle.jc_view.specs.Parts.{Gains, parts_shown_at, child_json, member_shown, item_of, shows_at, form_of, first_tokens, part_tokens, values_tokens, if_so}
+use Rattle.jc_view.proofs.TokensLemmas.{gains_nothing, gains_one, gains_then, wrote_more, wrote_end, gains_between}
 use Rattle.jc_view.proofs.ElementsLemmas.{along_begins, along_on, along_ends}
 use Rattle.jc_view.proofs.MembersLemmas.{map_begins, rest_is, map_ends, member_by, every_is, value_place, map_place, list_place, every_place, map_is, list_is, list_child, map_child}
 use Rattle.jc_view.proofs.PresentLemmas.{place_is}

@@ -1,14 +1,12 @@
-use Rattle.std.proofs.Common.{◌≡◌, ℕ, ◌+◌, ◌*◌, ◌≤◌, ◌++◌, ◌∷◌, [], length, filter, option_copied, Some}
-use Rattle.json.specs.Token as T
-use Rattle.jc_rules.specs.declared.key.Tagged.{Tagged}
+use Rattle.std.proofs.Common.{◌≡◌, ◌+◌, ◌*◌, length, filter, option_copied, Some}
 use Rattle.jc_rules.specs.Context.{presences, links}
 use Rattle.jc_rules.specs.Entries.{keys_of}
 use Rattle.jc_tree.specs.Tree.{here, is_after}
 use Rattle.jc_tree.specs.Nested.{nested}
 use Rattle.jc_tree.specs.Walks.{keys_above}
-use Rattle.jc_clear.proofs.ClearListLemmas.{steps}
+use Rattle.jc_tree.proofs.ChainedLeadsLemmas.{steps}
 use Rattle.jc_view.specs.Visible.{goes_by, present}
-use Rattle.jc_view.specs.Parts.{parts_shown_at, members_front, items_front}
+use Rattle.jc_view.specs.Parts.{parts_shown_at, members_front}
 use Rattle.jc_view.proofs.TokensLemmas.{Wrote}
 use Rattle.jc_view.proofs.ElementsLemmas.{Along}
 use Rattle.jc_view.proofs.document.+walk.Given as goal

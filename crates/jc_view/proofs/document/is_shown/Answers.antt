@@ -1,4 +1,4 @@
-use Rattle.std.proofs.Common.{rules, ◌≡◌, ◌&&◌, true, false, is_some, refl, sym, ◌∙◌, ap, Some, None}
+use Rattle.std.proofs.Common.{rules, ◌≡◌, ◌&&◌, true, is_some, sym, ◌∙◌, ap, Some, None}
 use Rattle.jc_rules.specs.Context.{content, presences}
 use Rattle.jc_rules.specs.WellFormed.{IsWellFormedContext}
 use Rattle.jc_tree.specs.Tree.{here}

@@ -1,4 +1,4 @@
-use Rattle.std.proofs.Common.{ℕ, List, [], length, reverse, map, sym, ◌∙◌, ap, subst}
+use Rattle.std.proofs.Common.{ℕ, List, length, reverse, map, sym, ◌∙◌, ap, subst}
 use Rattle.jc_rules.specs.History.{begun}
 use Rattle.jc_replica.specs.ReplicaHistory.{ReplicaHistory}
 use Rattle.jc_network.specs.NetworkHistory.{NetworkHistory, begin_now, network_history_of}

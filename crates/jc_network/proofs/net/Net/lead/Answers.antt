@@ -1,7 +1,7 @@
 use Rattle.std.proofs.Common.{◌+◌, refl, sym, ◌∙◌, ap, Err, arith}
 use Rattle.jc_network.specs.declared.fault.StepFault.TheVariants as E
 use Rattle.jc_network.specs.NetworkHistory.{NetworkHistory}
-use Rattle.jc_network.proofs.GivenHistoryLemmas.{led_none, led_more, led_short, led_all, lead_fails}
+use Rattle.jc_network.proofs.GivenHistoryLemmas.{led_none, led_more, led_short, led_all, lead_fails, refused_back}
 use Rattle.jc_network.proofs.net.Net.lead.Goals as goal
 
 pub loop-event-init : goal.loop-event-init
@@ -33,8 +33,22 @@ returns-clause-led c = led_all c.args.self.now c.loop-event.self c.args.given.no
 pub returns-clause-names : goal.returns-clause-names
 returns-clause-names c = c.loop-event.invariant.1.names
 
+-- ---- after a refusal all is as it was
+
+pub returns-in-Err-Stuck-clause-kept : goal.returns-in-Err-Stuck-clause-kept
+returns-in-Err-Stuck-clause-kept c =
+    refused_back c.args.self.now c.loop-event.self c.step.new.self c.undo_all.new.self c.args.given.now c.loop-event.event-index c.requires.new c.loop-event.invariant.1 c.in-Err-Stuck.ensures.kept c.undo_all.ensures
+
+pub returns-in-Err-Memory-clause-kept : goal.returns-in-Err-Memory-clause-kept
+returns-in-Err-Memory-clause-kept c =
+    refused_back c.args.self.now c.loop-event.self c.step.new.self c.undo_all-in-Err-Memory.new.self c.args.given.now c.loop-event.event-index c.requires.new c.loop-event.invariant.1 c.in-Err-Memory.ensures.kept c.undo_all-in-Err-Memory.ensures
+
 pub returns-in-Err-Stuck-clause-names : goal.returns-in-Err-Stuck-clause-names
-returns-in-Err-Stuck-clause-names c = ap (λ (v : NetworkHistory). v.names) c.in-Err-Stuck.ensures.kept ∙ c.loop-event.invariant.1.names
+returns-in-Err-Stuck-clause-names c =
+    ap (λ (v : NetworkHistory). v.names)
+    (refused_back c.args.self.now c.loop-event.self c.step.new.self c.undo_all.new.self c.args.given.now c.loop-event.event-index c.requires.new c.loop-event.invariant.1 c.in-Err-Stuck.ensures.kept c.undo_all.ensures)
 
 pub returns-in-Err-Memory-clause-names : goal.returns-in-Err-Memory-clause-names
-returns-in-Err-Memory-clause-names c = ap (λ (v : NetworkHistory). v.names) c.in-Err-Memory.ensures.kept ∙ c.loop-event.invariant.1.names
+returns-in-Err-Memory-clause-names c =
+    ap (λ (v : NetworkHistory). v.names)
+    (refused_back c.args.self.now c.loop-event.self c.step.new.self c.undo_all-in-Err-Memory.new.self c.args.given.now c.loop-event.event-index c.requires.new c.loop-event.invariant.1 c.in-Err-Memory.ensures.kept c.undo_all-in-Err-Memory.ensures)

@@ -1,40 +1,16 @@
-use Rattle.std.proofs.Common.{◌≡◌, List, [], length, filter, drop, true, sym, ap, subst, ◌∙◌, arith}
-use Rattle.std.proofs.lemmas.Grind.{common_steps}
+use Rattle.std.proofs.Common.{◌≡◌, ◌-◌, List, length, filter, take, drop, true, sym, ap, subst, ◌∙◌}
 use Rattle.std.specs.List.{AllByRecursion}
-use Rattle.jc_rules.specs.declared.id.Id.{Id}
 use Rattle.jc_rules.specs.declared.operation.Op.{Op}
 use Rattle.jc_rules.specs.Table.{both}
 use Rattle.jc_replica.specs.Operations.{identifiers, AreInOrder, IsHanded, AreHanded}
-use Rattle.jc_replica.specs.Received.{is_new, AreAmong, AreKeptOf, IsContiguousTo, IsKeptList}
+use Rattle.jc_replica.specs.Received.{is_new, AreAmong, HasEach, AreKeptOf, IsContiguousTo, IsKeptList}
 use Rattle.jc_replica.specs.Undo.{without_ops}
 use Rattle.jc_replica.proofs.ReceivedUnionLemmas.{both-in_order, all_both, taken_out}
-use Rattle.jc_replica.proofs.ReceivedLemmas.{rest_is, fresh_new, fresh_order, fresh_all, united_with, united_kept, none_came}
+use Rattle.jc_replica.proofs.ReceivedLemmas.{rest_is, fresh_new, fresh_order, fresh_all, united_with, united_kept}
 use Rattle.jc_replica.proofs.received.Received.unite.Goals as goal
 
-pub returns-then-is_empty-clause-ok : goal.returns-then-is_empty-clause-ok
-returns-then-is_empty-clause-ok c =
-    let os = c.self.inside.ops.items in
-    let offered = c.args.offered.now in
-    let start = c.up_to-start.result in
-    let fresh = c.in_ok-fresh.fresh.items in
-    let is : fresh ≡ filter (is_new os) (drop start offered) = c.in_ok-fresh.ensures ∙ (λ n. filter (is_new (c.as_slice.ensures.value n)) (rest_is start offered n)) in
-    let came : c.in_ok-came.came.items ≡ identifiers fresh = c.in_ok-came.ensures ∙ ap identifiers c.as_slice-2.ensures.value in
-    let zero : length c.in_ok-came.came.items ≡ 0 = grind (arith, common_steps) in
-    let none : fresh ≡ [] = none_came fresh c.in_ok-came.came.items came zero in
-    λ set sound kept of one. sym c.self.view_is ∙ ap (both os) (sym none) ∙ united_with os offered start fresh is set c.sender_of-sender.result c.greatest_of-last.result c.self.invariant.order sound (subst (AreKeptOf set) (sym c.self.view_is) kept) of (c.sender_of-sender.ensures one) c.up_to-start.ensures.low (subst (IsContiguousTo c.sender_of-sender.result os) (sym c.greatest_of-last.ensures.exact) (c.self.invariant.missing c.sender_of-sender.result)) ∙ ap (λ (x : List Op). both x offered) c.self.view_is
-
-pub returns-then-is_empty-clause-back : goal.returns-then-is_empty-clause-back
-returns-then-is_empty-clause-back c =
-    let os = c.self.inside.ops.items in
-    let offered = c.args.offered.now in
-    let start = c.up_to-start.result in
-    let fresh = c.in_ok-fresh.fresh.items in
-    let is : fresh ≡ filter (is_new os) (drop start offered) = c.in_ok-fresh.ensures ∙ (λ n. filter (is_new (c.as_slice.ensures.value n)) (rest_is start offered n)) in
-    let came : c.in_ok-came.came.items ≡ identifiers fresh = c.in_ok-came.ensures ∙ ap identifiers c.as_slice-2.ensures.value in
-    let zero : length c.in_ok-came.came.items ≡ 0 = grind (arith, common_steps) in
-    let none : fresh ≡ [] = none_came fresh c.in_ok-came.came.items came zero in
-    let empty : c.in_ok-came.came.items ≡ [] = came ∙ ap identifiers none in
-    ap (λ (x : List Id). without_ops x c.args.self.now) empty ∙ taken_out c.args.self.now [] tt
+pub whole_to-counter-requires : goal.whole_to-counter-requires
+whole_to-counter-requires c = subst AreInOrder (sym (c.as_slice-3.ensures.value ∙ c.in_ok-reserve.ensures.items)) c.self.invariant.order
 
 pub bring_in-requires-clause-rises : goal.bring_in-requires-clause-rises
 bring_in-requires-clause-rises c =
@@ -62,7 +38,9 @@ invariant_of-self-2 c =
     let fresh = c.in_ok-fresh.fresh.items in
     let is : fresh ≡ filter (is_new os) (drop start offered) = c.in_ok-fresh.ensures ∙ (λ n. filter (is_new (c.as_slice.ensures.value n)) (rest_is start offered n)) in
     let now : c.bring_in.new.ops.items ≡ both os fresh = c.bring_in.ensures ∙ ap (λ (x : List Op). both x fresh) c.in_ok-reserve.ensures.items in
-    let tells : (xs : List Op) → AreAmong fresh xs → IsContiguousTo c.sender_of-sender.result xs c.greatest_of-last.result → IsContiguousTo c.sender_of-sender.result xs c.whole_to-counter.result = λ xs among. c.whole_to-counter.ensures xs (subst (λ (x : List Op). AreAmong x xs) (sym c.as_slice-3.ensures.value) among) in
+    let here : c.as_slice-3.result.now ≡ os = c.as_slice-3.ensures.value ∙ c.in_ok-reserve.ensures.items in
+    let new : filter (is_new c.as_slice-3.result.now) (take (length offered - start) (drop start offered)) ≡ fresh = (λ n. filter (is_new (here n)) (rest_is start offered n)) ∙ sym is in
+    let tells : (xs : List Op) → HasEach os xs → AreAmong fresh xs → IsContiguousTo c.sender_of-sender.result xs c.greatest_of-last.result → IsContiguousTo c.sender_of-sender.result xs c.whole_to-counter.result = λ xs each among. c.whole_to-counter.ensures xs (subst (λ (x : List Op). HasEach x xs) (sym here) each) (subst (λ (x : List Op). AreAmong x xs) (sym new) among) in
     subst (λ (x : List Op). IsKeptList x c.insert.new.self) (sym now) (united_kept os fresh c.self.inside.contiguous c.insert.new.self c.sender_of-sender.result c.greatest_of-last.result c.whole_to-counter.result c.self.invariant (fresh_order os offered start fresh is c.requires) (fresh_new os offered start fresh is) c.greatest_of-last.ensures.exact tells c.in_ok-insert.ensures.exact)
 
 pub returns-clause-ok : goal.returns-clause-ok

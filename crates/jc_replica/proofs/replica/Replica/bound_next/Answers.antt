@@ -19,8 +19,13 @@ unreachable-requires g c =
     let next = is_next i.script.items i.done c.index.result.now (LetIn c.requires.name c.requires.expr) c.requires.rest (ap (λ (p : ReplicaHistory). p.history.now.left) c.self.view_is ∙ c.requires.next) is in
     only_let c.index.result.now c.requires.name c.requires.expr next c.in_default.not-Let
 
-pub eval-requires : goal.eval-requires
-eval-requires g c = (ready_now c.self.invariant).chained
+pub eval_sorted-requires-clause-chained : goal.eval_sorted-requires-clause-chained
+eval_sorted-requires-clause-chained g c = (ready_now c.self.invariant).chained
+
+pub eval_sorted-requires-clause-sorted : goal.eval_sorted-requires-clause-sorted
+eval_sorted-requires-clause-sorted g c =
+    let all : c.as_slice.result.now ≡ c.self.inside.vars.items = search rules in
+    rw all (ready_now c.self.invariant).named
 
 pub returns-in_err-bound-clause-err : goal.returns-in_err-bound-clause-err
 returns-in_err-bound-clause-err g c =

@@ -21,8 +21,13 @@ place_of-requires g c =
     let next = is_next i.script.items i.done c.index-command.result.now c.requires.command c.requires.rest (ap (λ (p : ReplicaHistory). p.history.now.left) c.self.view_is ∙ c.requires.next) is in
     subst IsMaking (sym next) c.requires.makes
 
-pub eval-requires : goal.eval-requires
-eval-requires g c = (ready_now c.self.invariant).chained
+pub eval_sorted-requires-clause-chained : goal.eval_sorted-requires-clause-chained
+eval_sorted-requires-clause-chained g c = (ready_now c.self.invariant).chained
+
+pub eval_sorted-requires-clause-sorted : goal.eval_sorted-requires-clause-sorted
+eval_sorted-requires-clause-sorted g c =
+    let all : c.as_slice.result.now ≡ c.self.inside.vars.items = search rules in
+    rw all (ready_now c.self.invariant).named
 
 pub returns-in_err-bound-clause-err : goal.returns-in_err-bound-clause-err
 returns-in_err-bound-clause-err g c =
@@ -67,8 +72,8 @@ returns-clause-ok g c =
     let tree = ap (λ (p : ReplicaHistory). p.history.now.tree) c.self.view_is in
     let expr = c.place_of.ensures ∙ ap expr_by next in
     let ev = evaluated_in tree vars expr c.in_ok-bound.ensures.ok in
-    let cursor = subst (λ b. Evaluates K.tree K.vars (expr_by c.requires.command) (bound_of b) c.open-2.new.self c.eval.new.trace) c.in-Cursor.is ev in
-    let shared = subst (λ k. Evaluates K.tree K.vars (expr_by c.requires.command) (bound_of (B.Cursor k)) c.open-2.new.self c.eval.new.trace) (sym c.in_ok-cursor.ensures) cursor in
+    let cursor = subst (λ b. Evaluates K.tree K.vars (expr_by c.requires.command) (bound_of b) c.open-2.new.self c.eval_sorted.new.trace) c.in-Cursor.is ev in
+    let shared = subst (λ k. Evaluates K.tree K.vars (expr_by c.requires.command) (bound_of (B.Cursor k)) c.open-2.new.self c.eval_sorted.new.trace) (sym c.in_ok-cursor.ensures) cursor in
     let ops = ap (λ (p : ReplicaHistory). p.history.now.ops) c.self.view_is in
     let number = ap (λ (p : ReplicaHistory). p.number) c.self.view_is in
     makes K c.args.self.now.number i.number c.requires c.in_ok-cursor.cursor c.in_ok-mutation_of.field-0 c.greatest.result c.in_ok-copy.field-0 c.rule_of.result _ _ _ _ _ _

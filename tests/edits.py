@@ -1,0 +1,106 @@
+"""Whether the edits that the checker must refuse can be applied, those of the gate and the others. rt ci only notes one
+that can't be: it shows nothing. Whether what it makes compiles is seen where it is tried, and not here."""
+
+import glob
+import os
+import re
+import tempfile
+
+from cases import Wrong, expect, stored
+
+NAME = re.compile(r"[A-Za-z0-9_-][A-Za-z0-9_.-]*\.edit")
+FOLDERS = ("must-fail", "more-edits")
+
+
+def edited(text, folder):
+    """The files of a crate that an edit changes, with their texts then. Each pair of lines applies to what those before
+    it made."""
+    before, after, path, old = {}, {}, None, None
+    for line in filter(None, text.split("\n")):
+        kind, _, rest = line.partition(" ")
+        follows = {"file:": old is None, "old:": path and old is None, "new:": old is not None}
+        expect(follows.get(kind), f"`{line}` stands where it can't")
+        if kind == "file:":
+            path = rest
+            expect(re.fullmatch(r"src/[\w/]+\.rt", path), f"{path} is no file of sources")
+            expect(os.path.isfile(os.path.join(folder, path)), f"there is no file {path}")
+            before.setdefault(path, stored(os.path.join(folder, path)))
+            after.setdefault(path, before[path])
+        elif kind == "old:":
+            old = rest
+            expect(after[path].count(old) == 1, f"{old} is in {path} {after[path].count(old)} times")
+        else:
+            after[path], old = after[path].replace(old, rest), None
+    expect(old is None and after != before, "it changes nothing")
+    return after
+
+
+def edits_case(crate):
+    """Each edit of a crate can be applied, and none makes what another one makes."""
+
+    def tried(_):
+        made = {}
+        for path in sorted(path for folder in FOLDERS for path in glob.glob(os.path.join(crate, folder, "*"))):
+            expect(NAME.fullmatch(os.path.basename(path)), f"{path} has no name of an edit")
+            try:
+                one = edited(stored(path), crate)
+            except Wrong as fault:
+                raise Wrong(f"{path}: {fault}") from fault
+            twin = made.setdefault(str(one), path)
+            expect(twin == path, f"{path} makes what {twin} makes")
+
+    return f"edits: of {crate}", tried
+
+
+FILES = {"lib.rt": "let a = 1;\nlet b = 1;\n", "more.rt": "c\n"}
+# An edit of these files, and what is wrong with it, or nothing.
+ROWS = (
+    ("file: src/lib.rt\nold: a = 1\nnew: a = 2\n", ""),
+    ("file: src/lib.rt\nold: let b = 1;\nnew:\n", ""),
+    ("file: src/lib.rt\nold: a = 1\nnew: a = b\n\nold: a = b\nnew: a = 3\n", ""),
+    ("file: src/lib.rt\nold: a = 1\nnew: a = 2\nfile: src/more.rt\nold: c\nnew: d\n", ""),
+    ("file: src/lib.rt\nold: = 1\nnew: = 2\n", "= 1 is in src/lib.rt 2 times"),
+    ("file: src/lib.rt\nold: a = 2\nnew: a = 3\n", "a = 2 is in src/lib.rt 0 times"),
+    ("file: src/lib.rt\nold: a = 1\nnew: a = 1\n", "it changes nothing"),
+    ("file: src/lib.rt\nold: a = 1\nnew: a = 2\nold: a = 1\nnew: a = 3\n", "a = 1 is in src/lib.rt 0 times"),
+    ("file: src/no.rt\nold: a = 1\nnew: a = 2\n", "there is no file src/no.rt"),
+    ("file: specs/Lib.antt\nold: a\nnew: b\n", "specs/Lib.antt is no file of sources"),
+    ("file: ../lib.rt\nold: a\nnew: b\n", "../lib.rt is no file of sources"),
+    ("file: src/lib.rt\n", "it changes nothing"),
+    ("file: src/lib.rt\nold: a = 1\n", "it changes nothing"),
+    ("file: src/lib.rt\nold: a = 1\nold: b = 1\nnew: a = 2\n", "`old: b = 1` stands where it can't"),
+    ("file: src/lib.rt\nnew: a = 2\nold: a = 1\n", "`new: a = 2` stands where it can't"),
+    ("file: src/lib.rt\nold: a = 1\nnews: a = 2\n", "`news: a = 2` stands where it can't"),
+    ("file: src/lib.rt\nold: a = 1\nfile: src/lib.rt\n", "`file: src/lib.rt` stands where it can't"),
+    ("old: a = 1\nnew: a = 2\n", "`old: a = 1` stands where it can't"),
+    ("", "it changes nothing"),
+)
+
+
+def fault_case(text, fault):
+    def tried(_):
+        with tempfile.TemporaryDirectory() as folder:
+            os.mkdir(os.path.join(folder, "src"))
+            for name, content in FILES.items():
+                with open(os.path.join(folder, "src", name), "w", encoding="utf-8") as file:
+                    file.write(content)
+            try:
+                edited(text, folder)
+                told = ""
+            except Wrong as wrong:
+                told = str(wrong)
+        expect(fault in told and bool(fault) == bool(told), told)
+
+    return f"edits: {text!r}" + (f" is refused: {fault}" if fault else " applies"), tried
+
+
+def has_edits(_):
+    for folder in FOLDERS:
+        expect(glob.glob(f"crates/*/{folder}/*.edit"), f"no crate has any in {folder}")
+
+
+def edits():
+    yield "edits: there are some", has_edits
+    yield from map(edits_case, sorted(glob.glob("crates/*")))
+    for row in ROWS:
+        yield fault_case(*row)

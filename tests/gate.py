@@ -1,0 +1,400 @@
+"""The gate: dev/more-edits with a command rt that is none, each hole through which its check could be passed, .ci/run,
+and ./test --built."""
+
+import calendar
+import contextlib
+import os
+import re
+import shutil
+import subprocess
+import time
+
+from cases import BUILT, IN_TEST, expect, expect_same, folder_of, lack_of_built, place, stored
+
+# A command rt for which an edit comes to what its file has, and a crate isn't proved that has a file `unproved`.
+TRYING = """#!/bin/sh
+case $1 in
+    version) echo "${KIT:-kit one}" ;;
+    check) [ ! -e unproved ] ;;
+    must-fail)
+        shift
+        if [ "$1" = --anew ]; then
+            echo anew
+            shift
+        fi
+        ended=0
+        echo "rt: $1: ${KNOWN:-0} of its 2 must-fail edits were tried by an earlier run on this machine"
+        for edit in crates/"$1"/must-fail/*.edit; do
+            told=$(cat "$edit")
+            echo "rt: must-fail $1/${edit##*/}: $told"
+            case $told in refused*) ;; *) ended=1 ;; esac
+        done
+        exit "$ended"
+        ;;
+    *) exit "${GATE:-0}" ;;
+esac
+"""
+REFUSED, NOT_REFUSED = "refused, as it must be: why\n", "NOT REFUSED: the crate is still proved\n"
+NAMES = ("jc_a", "jc_b", "jc_c")
+FILES = {
+    "crates.txt": "# low\njc_a:\n# high\njc_b: jc_a thiserror\njc_c: jc_b\n",
+    "HANDLES": "Handles allowed: none.\n",
+    **{f"crates/{name}/{part}": f"{name} {part}\n"
+       for name in NAMES for part in ("src/lib.rt", "specs/Lib.antt", "proofs/Lib.antt")},
+    **{f"crates/{name}/more-edits/{edit}.edit": REFUSED for name in NAMES for edit in ("one", "two")},
+    "crates/jc_b/must-fail/of_the_gate.edit": NOT_REFUSED,
+}
+RECORD = "dev/more-edits.txt"
+# What a run that tries the edits of a crate tells.
+KNOWN = "rt: {}: 0 of its 2 must-fail edits were tried by an earlier run on this machine\n"
+TRIED = {name: KNOWN.format(name) + "".join(f"rt: must-fail {name}/{edit}.edit: {REFUSED}" for edit in ("one", "two"))
+         for name in NAMES}
+
+
+def called(folder, words, **variables):
+    """How a script ends that stands in the folder, where the command rt is too."""
+    environment = {**os.environ, **variables, "PATH": f"{folder}:{os.environ['PATH']}"}
+    return subprocess.run(words, cwd=folder, capture_output=True, check=False, env=environment)
+
+
+def more_edits(folder, *words):
+    """So of dev/more-edits: its status, and what it tells on both streams."""
+    told = called(folder, ["dev/more-edits", *words])
+    return told.returncode, told.stdout.decode(), told.stderr.decode()
+
+
+def expect_end(folder, words, status, output="", told=""):
+    """dev/more-edits ends so, and tells this on its streams."""
+    ended = more_edits(folder, *words)
+    expect(ended == (status, output, told), f"{words} ended with {ended[0]}, and told\n{ended[1]}{ended[2]}")
+
+
+@contextlib.contextmanager
+def crates():
+    """A folder with three crates, each on the one before, that have edits, and with the script."""
+    with folder_of({"rt": TRYING, "dev/more-edits": stored("dev/more-edits")}) as folder:
+        for path in ("dev/crates.py", "oracle/streams.py"):
+            write(folder, path, stored(path))
+        for path, text in FILES.items():
+            write(folder, path, text)
+        yield folder
+
+
+def write(folder, path, text):
+    os.makedirs(os.path.dirname(os.path.join(folder, path)), exist_ok=True)
+    with open(os.path.join(folder, path), "w", encoding="utf-8") as file:
+        file.write(text)
+
+
+def read(folder, path):
+    return stored(os.path.join(folder, path))
+
+
+def replace(folder, path, pattern, text):
+    """Puts the text in place of what stands there once for the pattern."""
+    changed, count = re.subn(pattern, text, read(folder, path), flags=re.MULTILINE)
+    expect(count == 1, f"{path} has {pattern} {count} times")
+    write(folder, path, changed)
+
+
+def append(path):
+    return lambda folder: write(folder, path, read(folder, path) + "more\n")
+
+
+def line_by_hand(folder):
+    """A changed file, and the line that the script has for it, by hand."""
+    before = read(folder, RECORD)
+    append("crates/jc_b/src/lib.rt")(folder)
+    more_edits(folder)
+    line = re.search("^jc_b sources .*$", read(folder, RECORD), re.MULTILINE)[0]
+    write(folder, RECORD, before)
+    replace(folder, RECORD, "^jc_b sources .*$", line)
+
+
+def verdict_by_hand(folder):
+    write(folder, "crates/jc_b/more-edits/one.edit", NOT_REFUSED)
+    more_edits(folder)
+    replace(folder, RECORD, "^(jc_b edit one .*) not-refused ", r"\1 refused ")
+
+
+def moved(folder):
+    """Edits go to the gate's own."""
+    shutil.move(f"{folder}/crates/jc_b/more-edits/one.edit", f"{folder}/crates/jc_b/must-fail")
+
+
+BELOW, OWN = "sources or definitions below it changed", "run dev/more-edits {}, and mend what it doesn't find refused"
+NO_RUN = "no run wrote what is recorded of it"
+# What is changed when all edits were tried, and what the check then tells of which crate.
+HOLES = {
+    "a source": (append("crates/jc_b/src/lib.rt"), {"jc_b": "its sources changed", "jc_c": BELOW}),
+    "a definition": (append("crates/jc_a/specs/Lib.antt"),
+                     {"jc_a": "its definitions changed", "jc_b": BELOW, "jc_c": BELOW}),
+    "a file of definitions more": (lambda folder: write(folder, "crates/jc_b/specs/New.antt", ""),
+                                   {"jc_b": "its definitions changed", "jc_c": BELOW}),
+    "a proof": (append("crates/jc_b/proofs/Lib.antt"), {"jc_b": "its proofs changed"}),
+    "an edit": (append("crates/jc_b/more-edits/two.edit"), {"jc_b": "two wasn't tried as it is"}),
+    "an edit more": (lambda folder: write(folder, "crates/jc_b/more-edits/three.edit", REFUSED),
+                     {"jc_b": "three wasn't tried as it is"}),
+    "an edit less": (moved, {"jc_b": "one is recorded and isn't there"}),
+    "no folder of edits": (lambda folder: shutil.rmtree(f"{folder}/crates/jc_b/more-edits"),
+                           {"jc_b": "it is recorded, and has no edits any more"}),
+    "crates.txt": (lambda folder: replace(folder, "crates.txt", "^jc_b: ", "jc_b may_wait=1: "),
+                   {name: "crates.txt changed, of it or of a crate below" for name in ("jc_b", "jc_c")}),
+    "a crate that crates.txt hasn't": (lambda folder: replace(folder, "crates.txt", "^jc_c: jc_b\n", ""),
+                                       {"jc_c": "crates.txt hasn't this crate"}),
+    "another kit": (lambda folder: replace(folder, "rt", "kit one", "kit two"),
+                    {name: "the kit is another" for name in NAMES}),
+    "a sum by hand": (line_by_hand, {"jc_b": NO_RUN, "jc_c": BELOW}),
+    "a verdict by hand": (verdict_by_hand, {"jc_b": NO_RUN}),
+    "a line less": (lambda folder: replace(folder, RECORD, "^jc_b edit two .*\n", ""), {"jc_b": NO_RUN}),
+    "no sum of the lines": (lambda folder: replace(folder, RECORD, "^jc_b tried .*\n", ""), {"jc_b": NO_RUN}),
+    "a line more": (lambda folder: write(folder, RECORD, read(folder, RECORD) + "jc_b said so\n"), {"jc_b": NO_RUN}),
+    "a crate less": (lambda folder: replace(folder, RECORD, "^(jc_b .*\n)+", ""), {"jc_b": "its edits weren't tried"}),
+    "no record": (lambda folder: os.remove(f"{folder}/{RECORD}"), {name: "its edits weren't tried" for name in NAMES}),
+}
+
+
+def told_of(wrong):
+    """What the check tells of these crates."""
+    lines = [f"more-edits: {name}: {why}\n" for name, why in sorted(wrong.items())]
+    return "".join([*lines, f"more-edits: {OWN.format(' '.join(sorted(wrong)))}\n"])
+
+
+def hole_case(what):
+    """When all edits were tried the check passes, and fails where this is changed, of these crates alone."""
+    change, wrong = HOLES[what]
+
+    def tried(_):
+        with crates() as folder:
+            expect_end(folder, [], 0, "".join(TRIED.values()))
+            expect_end(folder, ["--check"], 0)
+            change(folder)
+            expect_end(folder, ["--check"], 1, "", told_of(wrong))
+
+    return f"more-edits: --check and {what}", tried
+
+
+def moved_back(folder):
+    shutil.move(f"{folder}/crates/jc_b/must-fail/one.edit", f"{folder}/crates/jc_b/more-edits")
+
+
+def one_becomes(text):
+    return lambda folder: write(folder, "crates/jc_b/more-edits/one.edit", text)
+
+
+# Steps in one folder: what is changed first, the words, the status, and what is tried.
+ONE = KNOWN.format("jc_b") + "rt: must-fail jc_b/one.edit: "
+STEPS = (
+    ("nothing is tried again", None, [], 0, ""),
+    ("one edit went", moved, [], 0, ""),
+    ("one is back", moved_back, [], 0, ONE + REFUSED),
+    ("one isn't refused", one_becomes(NOT_REFUSED), [], 1, ONE + NOT_REFUSED),
+    ("it isn't tried again", None, [], 1, ""),
+    ("it is refused", one_becomes(REFUSED), [], 0, ONE + REFUSED),
+    ("all of one crate", None, ["--anew", "jc_c"], 0, "anew\n" + TRIED["jc_c"]),
+    ("a definition below", append("crates/jc_a/specs/Lib.antt"), [], 0, "".join(TRIED.values())),
+    ("a crate by its name", append("crates/jc_b/src/lib.rt"), ["jc_b"], 0, TRIED["jc_b"]),
+    ("and the one above", None, [], 0, TRIED["jc_c"]),
+    ("edits of a crate went", lambda folder: shutil.rmtree(f"{folder}/crates/jc_c/more-edits"), [], 0, ""),
+)
+
+
+def takes_steps(_):
+    """Only edits are tried that have no verdict on what there is, and the check passes when they are refused."""
+    with crates() as folder:
+        expect(more_edits(folder)[0] == 0, "the first run failed")
+        for what, change, words, status, output in STEPS:
+            if change:
+                change(folder)
+            ended = more_edits(folder, *words)
+            expect(ended[:2] == (status, output), f"{what}: {ended}")
+            ended = more_edits(folder, "--check", *(word for word in words if word in NAMES))
+            expect(ended[0] == status, f"{what}: {ended}")
+
+
+def goes_on(_):
+    """Where one edit isn't refused those of other crates are tried all the same, and the last line names its crate."""
+    with crates() as folder:
+        write(folder, "crates/jc_a/more-edits/one.edit", NOT_REFUSED)
+        output = "".join(TRIED.values()).replace(REFUSED, NOT_REFUSED, 1)
+        expect_end(folder, [], 1, output, "more-edits: jc_a: one is recorded as not-refused\n"
+                                          "more-edits: an edit wasn't refused, or couldn't be tried, in: jc_a\n")
+
+
+# What rt tells of an edit, and how the check tells it, or nothing where that is a refusal.
+WORDS = (
+    ("refused, as it must be\n", ""),
+    ("refused, as it must be (only by a limit of the prover, which gave no verdict): why\n", ""),
+    ("refused, as it must be (only because a proof file names what the edit took away, so this says little): why\n",
+     "one is recorded as names-gone"),
+    (NOT_REFUSED, "one is recorded as not-refused"),
+    ("BAD EDIT: it did not reach the prover; the first lines of what it said:\nsrc/lib.rt:91:17: error\n",
+     "one is recorded as bad"),
+    ("NOT TRIED: its check was killed\n", "one wasn't tried as it is"),
+    ("refused, as nobody has told before\n", "one wasn't tried as it is"),
+    ("as nobody has told before\n", "one wasn't tried as it is"),
+)
+
+
+def word_case(told, fault):
+    def tried(_):
+        with crates() as folder:
+            write(folder, "crates/jc_b/more-edits/one.edit", told)
+            more_edits(folder)
+            expect_end(folder, ["--check"], int(bool(fault)), "", told_of({"jc_b": fault}) if fault else "")
+
+    return f"more-edits: an edit is {told.splitlines()[0]}", tried
+
+
+def is_proved_first(_):
+    """Of a crate that isn't proved as it stands no edit is tried, and none is recorded."""
+    with crates() as folder:
+        write(folder, "crates/jc_b/unproved", "")
+        status, output, told = more_edits(folder)
+        expect(status == 1 and "jc_b" not in output and "jc_b isn't proved as it stands" in told, f"{output}{told}")
+        expect_end(folder, ["--check"], 1, "", told_of({"jc_b": "its edits weren't tried"}))
+        os.remove(f"{folder}/crates/jc_b/unproved")
+        expect_end(folder, [], 0, TRIED["jc_b"])
+
+
+def has_times(_):
+    """Of each edit it is recorded when a run told what came of it, and how many edits that run tried."""
+    with crates() as folder:
+        for known, tried in (("0", "2"), ("1", "1")):
+            began = time.time() - 60
+            called(folder, ["dev/more-edits", "--anew"], KNOWN=known)
+            text = read(folder, RECORD)
+            lines = re.findall(r"^jc_b edit \w+ [0-9a-f]{32} refused (\S+Z) \d+s/(\d+)$", text, re.MULTILINE)
+            expect([count for _, count in lines] == [tried, tried], text)
+            told = [calendar.timegm(time.strptime(when, "%Y-%m-%dT%H:%MZ")) for when, _ in lines]
+            expect(all(began <= each <= time.time() for each in told), f"{lines}")
+
+
+def needs_rt(_):
+    with crates() as folder:
+        os.remove(f"{folder}/rt")
+        told = subprocess.run(["dev/more-edits", "--check"], cwd=folder, capture_output=True, check=False,
+                              env={**os.environ, "PATH": "/usr/bin:/bin"})
+        expect(told.returncode == 127 and b"rt isn't on the path" in told.stderr, f"{told}")
+
+
+# What the script before this one wrote of a crate: a sum of its own files.
+OLD = """for part in src specs proofs more-edits; do find "crates/$1/$part" -type f -print; done |
+LC_ALL=C sort | xargs sha256sum | sha256sum | cut -d ' ' -f 1"""
+
+
+def takes_old_form(_):
+    """A crate that is recorded in the old form passes while its own files are as they were; a run records it anew."""
+    with crates() as folder:
+        sums = {name: called(folder, ["sh", "-c", OLD, "sh", name]).stdout.decode() for name in NAMES}
+        write(folder, RECORD, "".join(f"{name} {sums[name]}" for name in NAMES))
+        expect_end(folder, ["--check"], 0, "more-edits: 3 crates are recorded in the old form\n")
+        append("crates/jc_b/src/lib.rt")(folder)
+        expect_end(folder, ["--check"], 1, "", told_of({"jc_b": NO_RUN}))
+        expect_end(folder, ["jc_b"], 0, TRIED["jc_b"])
+        expect_end(folder, ["--check"], 0, "more-edits: 2 crates are recorded in the old form\n")
+        shutil.rmtree(f"{folder}/crates/jc_c/more-edits")
+        expect_end(folder, ["--check"], 1, "", told_of({"jc_c": HOLES["no folder of edits"][1]["jc_b"]}))
+
+
+def gate_case(edits, gate, tests, status, output, why):
+    """The gate ends as ./test --built does, or as rt ci where this failed, and tells the processor time of rt ci at its
+    end. It runs neither where dev/more-edits --check fails."""
+
+    def tried(_):
+        ending = f'#!/bin/sh\necho "$*: {tests} failed"\nexit {tests}\n'
+        check = f'#!/bin/sh\n[ "$*" = --check ]\n{"echo stale >&2; exit 1" if edits else ""}\n'
+        with folder_of({"rt": TRYING, "test": ending, "dev/more-edits": check, ".ci/run": ""}) as folder:
+            place(os.path.join(folder, ".ci", "run"), stored(".ci/run"))
+            told = called(folder, [".ci/run"], GATE=str(gate))
+        expect(told.returncode == status and told.stdout.decode() == output, f"{told}")
+        expect_same(told.stderr.decode(), why)
+
+    return f"gate: dev/more-edits --check ends with {edits}, rt ci with {gate}, ./test --built with {tests}", tried
+
+
+# A small program: a crate of it, and one of tests.
+PARTS = {"crates.txt": "jc_low: jc_low_more thiserror\njc_low_more:\njc_app: jc_low\n# tests\njc_low_tests: jc_low\n",
+         **{f"crates/{name}/{part}": "" for name in ("jc_low", "jc_low_more", "jc_app", "jc_low_tests")
+            for part in ("src/lib.rt", "src/tests.rt", "specs/Lib.antt", "proofs/lib/Lib.antt")}}
+# What is newer than the program, and whether that is told of it.
+NEWER = (
+    ("crates.txt", True),
+    ("crates/jc_app/src/lib.rt", True),
+    ("crates/jc_low/src/lib.rt", True),
+    ("crates/jc_low/src", True),
+    ("crates/jc_low_more/specs/Lib.antt", True),
+    ("crates/jc_low/proofs/lib/Lib.antt", True),
+    ("crates/jc_low_more/proofs", True),
+    ("crates/jc_app/src/tests.rt", False),
+    ("crates/jc_low_tests/src/lib.rt", False),
+)
+
+
+@contextlib.contextmanager
+def program():
+    """A folder with a small program, as it was built of its parts, and with all else that is here."""
+    with folder_of({}) as folder:
+        for path, text in PARTS.items():
+            write(folder, path, text)
+        os.makedirs(os.path.join(folder, os.path.dirname(BUILT)))
+        place(os.path.join(folder, BUILT), "#!/bin/sh\n")
+        for at, folders, files in os.walk(folder):
+            for name in folders + files:
+                os.utime(os.path.join(at, name), (1000, 1000))
+        os.utime(os.path.join(folder, BUILT), (2000, 2000))
+        for name in os.listdir():
+            if name not in (".git", "crates", "crates.txt"):
+                os.symlink(os.path.abspath(name), os.path.join(folder, name))
+        shutil.copy("test", os.path.join(folder, "own-test"))
+        yield folder
+
+
+def newer_case(path, is_told):
+    """The program is no longer as new as what it is made of where this is newer; tests are no part of it."""
+
+    def tried(_):
+        with program() as folder:
+            expect_same(lack_of_built(folder), "")
+            os.utime(os.path.join(folder, path), (3000, 3000))
+            expect_same(lack_of_built(folder), f"{path} is newer than {BUILT}" if is_told else "")
+
+    return f"gate: {path} is newer than the program", tried
+
+
+def is_built_case(change, lack):
+    """./test --built fails at once where the program isn't there or is old, and goes on where it is new enough."""
+
+    def tried(_):
+        with program() as folder:
+            change(folder)
+            told = called(folder, ["./own-test", "--built", "no-such-word"], **{IN_TEST: "yes"})
+        if lack:
+            expect_same(told.stdout.decode(), f"FAILED test: {lack}\n0 passed, 1 failed\n")
+        else:
+            expect(b"no case has no-such-word" in told.stderr, f"{told}")
+        expect(told.returncode == (1 if lack else 2), f"{told}")
+
+    return f"gate: ./test --built where {lack or 'the program is as new as its parts'}", tried
+
+
+def gate():
+    yield from map(hole_case, HOLES)
+    yield "more-edits: only what has no verdict is tried", takes_steps
+    yield "more-edits: goes on behind a crate that fails", goes_on
+    for row in WORDS:
+        yield word_case(*row)
+    yield "more-edits: a crate that isn't proved as it stands", is_proved_first
+    yield "more-edits: times", has_times
+    yield "more-edits: without rt", needs_rt
+    yield "more-edits: the old form of the record", takes_old_form
+    for row in NEWER:
+        yield newer_case(*row)
+    yield is_built_case(lambda folder: None, "")
+    yield is_built_case(lambda folder: os.remove(f"{folder}/{BUILT}"), f"{BUILT} isn't there")
+    yield is_built_case(lambda folder: os.utime(f"{folder}/crates.txt"), f"crates.txt is newer than {BUILT}")
+    took = "gate: rt ci took 0.0 processor minutes\n"
+    yield gate_case(0, 0, 0, 0, "--built: 0 failed\n", took)
+    yield gate_case(0, 0, 1, 1, "--built: 1 failed\n", took)
+    yield gate_case(0, 3, 0, 3, "", took)
+    yield gate_case(1, 0, 0, 1, "", "stale\n")

@@ -1,0 +1,156 @@
+"""What there is at the positions of a schedule: the journal's line of each event, its rules, and the documents.
+
+The program is asked by its commands `journal` and `view`, for as many events as are needed. Where it is the rules in
+Python they are asked in this process, which gives the same lines sooner.
+"""
+
+import concurrent.futures
+import io
+import itertools
+import json
+import os
+
+from asking import IN_PYTHON, document_of, program, told
+from grammar import read
+from program import command_line
+from rules import change, start
+from texts import Texts
+from view import line_of
+
+FEWEST_EVENTS = 1000
+MOST_VIEWS = 1000
+
+
+class Journal:
+    """The lines of a journal, as far as they were asked for, and the commands that made the operations in it."""
+
+    def __init__(self, tell, scenario, events, words):
+        self.tell, self.scenario, self.events, self.words = tell, scenario, events, words
+        self.lines, self.commands, self.asked = [], {}, -1
+
+    def line(self, number):
+        """The line of an event, the first that is stuck too; none of one that isn't reached."""
+        if min(number, len(self.events)) > self.asked:
+            self.asked = min(len(self.events), max(2 * number, FEWEST_EVENTS))
+            printed = self.tell([*self.words, "-"], self.scenario.scheduled(self.events[:self.asked]))
+            lines = [json.loads(line) for line in printed.split("\n")[:-1]]
+            made = [line for line in lines if line["kind"] == "exec" and "op" in line]
+            self.commands = {line["op"]["id"]: line["command"] for line in made}
+            self.lines = [line for line in lines if "given" not in line]
+        return self.lines[number - 1] if 0 < number <= len(self.lines) else None
+
+
+class Positions:
+    def __init__(self, scenario, events):
+        self.scenario, self.events, self.views_at = scenario, events, {}
+        self.journal = Journal(self.tell, scenario, events, ["journal"])
+        self.traced = Journal(self.tell, scenario, events, ["journal", "--trace"])
+
+    def tell(self, words, text):
+        return told(words, text)[0]
+
+    def line(self, number):
+        return self.journal.line(number)
+
+    def is_made(self, number):
+        """Whether the schedule comes to the event, and it isn't stuck."""
+        line = self.line(number)
+        return line is not None and "stuck" not in line
+
+    def is_stuck(self, number):
+        return "stuck" in (self.line(number) or ())
+
+    def rules(self, number):
+        """The names of the rules of an event that is made."""
+        return [rule for _, rule in self.traced.line(number)["rules"]]
+
+    def tried(self, position, event):
+        """The journal's line of an event at a position to which the schedule comes, be it the next or another one."""
+        journal = Journal(self.tell, self.scenario, [*self.events[:position], event], ["journal"])
+        return journal.line(position + 1)
+
+    def views(self, position):
+        """The lines of the view at a position to which the schedule comes."""
+        if len(self.views_at) > MOST_VIEWS:
+            self.views_at.clear()
+        if position not in self.views_at:
+            printed = self.tell(["view", "-"], self.scenario.scheduled(self.events[:position]))
+            self.views_at[position] = printed.split("\n")[:-1]
+        return self.views_at[position]
+
+    def documents(self, position):
+        """The JSON text of each replica's document, or none, by its name."""
+        return dict(zip(self.scenario.scripts, map(document_of, self.views(position))))
+
+    # Documents are those of the operations that were applied, so an event without one leaves them as they are.
+
+    def forwards(self, position):
+        """The next position, and each behind it whose documents are others than those before."""
+        made = itertools.takewhile(self.is_made, itertools.count(position + 1))
+        return (number for number in made if number == position + 1 or "op" in self.line(number))
+
+    def backwards(self, position):
+        """The position before, and each before it whose documents are others than those behind, the nearest first."""
+        nearest = position - 1
+        return (number for number in range(nearest, -1, -1) if number == nearest or "op" in self.line(number + 1))
+
+    def next_with(self, position, holds):
+        """The nearest position behind this one whose documents are as is asked, or none."""
+        return self.first_of(self.forwards(position), holds)
+
+    def last_with(self, position, holds):
+        """The nearest before it."""
+        return self.first_of(self.backwards(position), holds)
+
+    def first_of(self, positions, holds):
+        with concurrent.futures.ThreadPoolExecutor(os.cpu_count()) as pool:
+            while some := list(itertools.islice(positions, os.cpu_count())):
+                for position, documents in zip(some, pool.map(self.documents, some)):
+                    if holds(documents):
+                        return position
+        return None
+
+
+class InPython(Positions):
+    """By the rules in Python: a network that goes forwards alone, and the lines of its view, each till it changes."""
+
+    def __init__(self, scenario, events):
+        super().__init__(scenario, events)
+        self.parsed, _ = read(scenario.scheduled(events).encode())
+        self.texts = Texts(self.parsed.names)
+        self.restart()
+
+    def restart(self):
+        self.position, self.network = 0, start(self.parsed)
+        self.lines = [None] * len(self.network)
+
+    def tell(self, words, text):
+        out = io.BytesIO()
+        command_line(words, io.BytesIO(text.encode()), out, io.StringIO())
+        return out.getvalue().decode()
+
+    def views(self, position):
+        if position < self.position:
+            self.restart()
+        for event in self.parsed.schedule[self.position:position]:
+            change(self.network, event, [])
+            self.lines[event[1]] = None
+        self.position = position
+        for number, line in enumerate(self.lines):
+            self.lines[number] = line or line_of(self.texts, self.network[number]).decode().rstrip("\n")
+        return list(self.lines)
+
+    def first_of(self, positions, holds):
+        return next((position for position in positions if holds(self.documents(position))), None)
+
+    def last_with(self, position, holds):
+        found = None
+        for earlier in reversed(list(self.backwards(position))):
+            found = earlier if holds(self.documents(earlier)) else found
+        return found
+
+
+def positions_of(scenario, events):
+    """The positions of the scenario with this schedule, by the program that there is."""
+    is_in_python = os.path.exists(program()) and os.path.samefile(program(), IN_PYTHON)
+    return (InPython if is_in_python else Positions)(scenario, events)
