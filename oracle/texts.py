@@ -1,5 +1,7 @@
 """The texts of docs/FORMATS.md: scenarios in their canonical form, events, traces, dump lines, stuck lines."""
 
+import re
+
 from rules import DOC, HEAD, LIST, MAP, REGISTER, TAIL
 
 REFUSALS = {
@@ -13,14 +15,17 @@ REFUSALS = {
     53: "NoSuchBreak", 54: "TooManyBreaks", 58: "BadLine",
 }
 
+ESCAPED = re.compile(rb'["\\\x00-\x1f]')
 ESCAPES = {0x22: b'\\"', 0x5C: b"\\\\", 8: b"\\b", 9: b"\\t", 10: b"\\n", 12: b"\\f", 13: b"\\r"}
 
 
-def string(text):
-    def escaped(byte):
-        return ESCAPES.get(byte) or (b"\\u00%02x" % byte if byte < 0x20 else bytes([byte]))
+def escape(found):
+    byte = found[0][0]
+    return ESCAPES.get(byte) or b"\\u00%02x" % byte
 
-    return b'"' + b"".join(map(escaped, text)) + b'"'
+
+def string(text):
+    return b'"' + ESCAPED.sub(escape, text) + b'"'
 
 
 def array(texts):
