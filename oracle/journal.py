@@ -107,17 +107,24 @@ class Before(frozenset):
         return before
 
 
-def write_journal(scenario, texts, flags, out):
-    """Writes the journal, with what the flags of the command line ask for, and gives the status."""
-    journal = Journal(texts, "--trace" in flags, "--effects" in flags)
-    network = Network(scenario.version, scenario.scripts)
+def executed(scenario, network, journal):
+    """Makes each event in the network, and gives its line and its replica; of the one that is stuck the line alone."""
     for given, events in ((True, scenario.given), (False, scenario.schedule)):
         for number, event in enumerate(events, 1):
             before, trace = Before(event, network[event[1]]), []
             try:
                 change(network, event, trace)
             except Stuck as stuck:
-                out.write(journal.stuck(number, event, network, stuck, given))
-                return 3
-            out.write(journal.made(number, event, before, network[event[1]], trace, given))
+                yield journal.stuck(number, event, network, stuck, given), None
+                return
+            yield journal.made(number, event, before, network[event[1]], trace, given), network[event[1]]
+
+
+def write_journal(scenario, texts, flags, out):
+    """Writes the journal, with what the flags of the command line ask for, and gives the status."""
+    journal = Journal(texts, "--trace" in flags, "--effects" in flags)
+    for line, replica in executed(scenario, Network(scenario.version, scenario.scripts), journal):
+        out.write(line)
+        if replica is None:
+            return 3
     return 0

@@ -26,6 +26,17 @@ ROWS = [
     ("echo 'jsoncrdt 2 replica a {} given {a.exec}' | tools/tree --deleted - a", 3,
      "tree: refused 44 GivenStuck at 1 stuck 30 "),
     ("echo 'jsoncrdt 2 replica a {} given {a.exec}' | tools/lanes - >/dev/null", 3, ""),
+    ("tools/page", 2, "page: one FILE is needed, or --diff with two"),
+    ("tools/page --diff " + FIRST, 2, "page: argument --diff: expected 2 arguments"),
+    ("tools/page --diff " + FIRST + " examples/to-do.jsoncrdt", 2, "the script of a differs"),
+    ("tools/page test", 1, "page: refused 1 BadByte at 0: A byte begins no token."),
+    ("tools/page --from 2 " + FIRST, 2, "page: argument --from: the schedule has the positions 0 to 1"),
+    ("tools/page --from now " + FIRST, 2, "page: argument --from: now is no position"),
+    ("tools/page --most 0 " + FIRST, 2, "page: argument --most: 0 is no number from 1 on"),
+    ("tools/page --most 5 examples/to-do.jsoncrdt >/dev/null", 0, "page: the page ends at position 5 of 20: --from 5 "),
+    ("tools/page --from 13 examples/stuck.jsoncrdt", 3, "ends at position 12, where q.exec is stuck"),
+    ("tools/page examples/stuck.jsoncrdt >/dev/null", 3, ""),
+    ("echo 'jsoncrdt 2 replica a {} given {a.exec}' | tools/page - >/dev/null", 3, ""),
     ("echo 'jsoncrdt 2 replica a {} given {a.exec}' | tools/lanes --brief --view - >/dev/null", 3, ""),
     ("tools/debug", 2, "debug: the following arguments are required: FILE"),
     ("tools/debug -", 2, "debug: standard input has the lines"),
@@ -78,6 +89,8 @@ ROWS = [
     ("tools/lanes no-such-file", 4, "lanes: read failed: no-such-file: "),
     ("tools/lanes examples", 4, "lanes: read failed: examples: "),
     ("tools/lanes - <&-", 4, "lanes: read failed: -: "),
+    ("tools/page no-such-file", 4, "page: read failed: no-such-file: "),
+    ("tools/page - <&-", 4, "page: read failed: -: "),
     ("tools/tree - a <&-", 4, "tree: read failed: -: "),
     ("tools/debug no-such-file", 4, "debug: read failed: no-such-file: "),
     ("tools/debug examples", 4, "debug: read failed: examples: "),
@@ -104,6 +117,8 @@ ROWS = [
     ("JSONCRDT=/bin/true tools/debug " + FIRST, 2, "debug: /bin/true isn't jsoncrdt: "),
     ("JSONCRDT=/no/such tools/debug " + FIRST, 2, "debug: /no/such: "),
     ("JSONCRDT=/bin/true examples/engine/compare 1", 2, "compare: /bin/true isn't jsoncrdt"),
+    ("JSONCRDT=/bin/false tools/page " + FIRST, 2, "page: /bin/false isn't jsoncrdt"),
+    ("JSONCRDT=/bin/true tools/page " + FIRST, 2, "page: /bin/true isn't jsoncrdt"),
     # No fault: an adapter needs no standard input of kit/check.
     ("kit/check " + ONE + "oracle/adapter <&- >/dev/null", 0, ""),
     # No fault: 500 maps in one another, and a letter that the terminal hasn't.
@@ -117,6 +132,7 @@ WRITING = [
     ("tools/lanes " + FIRST, "lanes: write failed: "),
     ("tools/lanes --help", "lanes: write failed: "),
     ("tools/tree " + FIRST + " a", "tree: write failed: "),
+    ("tools/page " + FIRST, "page: write failed: "),
     ("tools/shrink " + FIRST + " true", "shrink: write failed: "),
     ("echo step | tools/debug " + FIRST, "debug: write failed: "),
     ("tools/debug --help", "debug: write failed: "),
@@ -137,8 +153,8 @@ WRITING = [
     ("./test --help", "test: write failed: "),
 ]
 # Those that ask the program which the variable JSONCRDT names, and the others.
-ASKING = ("tools/lanes", "tools/tree", "tools/shrink", "tools/debug", "tools/why", "tools/fate", "tools/replay",
-          "examples/engine/compare")
+ASKING = ("tools/lanes", "tools/tree", "tools/page", "tools/shrink", "tools/debug", "tools/why", "tools/fate",
+          "tools/replay", "examples/engine/compare")
 HELPED = ("tools/make-completions", "tools/prove", "oracle/compare", "oracle/selftest", "oracle/adapter", "kit/check",
           "kit/differs", "kit/make", "kit/table", "./test")
 # A command rt that tells that it was called, so that nothing here can build.

@@ -33,6 +33,7 @@ from lanes import lanes
 from launching import launching
 from messages import messages
 from read_back import pictures_read_back
+from run_pages import run_pages
 from scripts import scripts
 from terminal import terminal
 
@@ -352,7 +353,7 @@ def main():
         return 1
     cases = [*examples(asked.write), *blocks(), *pages(), *tools(asked.write), *pictures_read_back(), *lanes(), *faults(),
              *scripts(), *edits(), *architecture(), *launching(), *messages(), *process(), *arguments(), *editors(),
-             *terminal(), *kit(), *journals()]
+             *terminal(), *kit(), *journals(), *run_pages()]
     cases = chosen_of(cases, asked.words)
     if IN_TEST in os.environ:
         streams.stop("a test runs no tests")

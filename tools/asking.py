@@ -35,6 +35,11 @@ def program():
     return BUILT if os.access(BUILT, os.X_OK) else IN_PYTHON
 
 
+def is_in_python():
+    """Whether the program is the rules in Python, which a tool can ask in its own process."""
+    return os.path.exists(program()) and os.path.samefile(program(), IN_PYTHON)
+
+
 def told(words, text=""):
     """What the program writes on its output, and its status. Where it can't read, write or be found, the tool ends."""
     try:

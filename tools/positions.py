@@ -12,7 +12,7 @@ import json
 import os
 
 import changes
-from asking import IN_PYTHON, document_of, program, told
+from asking import document_of, is_in_python, program, told
 from grammar import read
 from program import command_line
 from rules import change, start
@@ -159,5 +159,4 @@ class InPython(Positions):
 
 def positions_of(scenario, events):
     """The positions of the scenario with this schedule, by the program that there is."""
-    is_in_python = os.path.exists(program()) and os.path.samefile(program(), IN_PYTHON)
-    return (InPython if is_in_python else Positions)(scenario, events)
+    return (InPython if is_in_python() else Positions)(scenario, events)
