@@ -17,7 +17,7 @@ from kit import NAMES
 from lines import RULES
 from page_data import MOST_RULES
 from runs import shown_in
-from sentences import sentence_of
+from sentences import SENTENCES
 
 EXPECTED = os.path.join("tests", "expected")
 DEBIAN_PYTHON = "/usr/bin/python3"
@@ -207,7 +207,7 @@ def has_words(_):
         is_short = re.fullmatch(r"[A-Z`].{10,120}\.", text["words"])
         expect(is_short and f"In words: {text['words']}\n" in stored("docs/RULES.md"), f"{rule} hasn't one line of words")
         expect(text["form"][0].startswith("Question: "), f"behind the words of {rule} there is no question")
-    lacking = sorted(number for number in OF_EVENTS if not sentence_of(number))
+    lacking = sorted(number for number in OF_EVENTS if number not in SENTENCES)
     expect(not lacking, f"docs/ERRORS.md has no sentence for {lacking}")
 
 
