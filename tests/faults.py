@@ -29,7 +29,7 @@ ROWS = [
     ("tools/page", 2, "page: one FILE is needed, or --diff with two"),
     ("tools/page --diff " + FIRST, 2, "page: argument --diff: expected 2 arguments"),
     ("tools/page --diff " + FIRST + " examples/to-do.jsoncrdt", 2, "the script of a differs"),
-    ("tools/page test", 1, "page: refused 1 BadByte at 0: A byte begins no token."),
+    ("tools/page test", 1, "page: refused 1 BadByte at 0: A byte begins no token:"),
     ("tools/page --from 2 " + FIRST, 2, "page: argument --from: the schedule has the positions 0 to 1"),
     ("tools/page --from now " + FIRST, 2, "page: argument --from: now is no position"),
     ("tools/page --most 0 " + FIRST, 2, "page: argument --most: 0 is no number from 1 on"),
