@@ -255,7 +255,10 @@ def has_both(programs):
 
 
 def is_seen(programs):
-    """The page's script, in a browser: tests/in_browser says what is looked at."""
+    """The page's script, in a browser: tests/in_browser says what is looked at. It takes a minute of an idle machine, so it
+    is tried where it is asked for."""
+    if "JSONCRDT_BROWSER" not in os.environ:
+        raise NotTried("the variable JSONCRDT_BROWSER")
     is_there = os.access(DEBIAN_PYTHON, os.X_OK) and run([DEBIAN_PYTHON, "-c", "import selenium"], "").returncode == 0
     if not (is_there and shutil.which("chromium") and shutil.which("chromedriver")):
         raise NotTried(NEEDED)
