@@ -3,6 +3,7 @@
 import collections
 import os
 import re
+import signal
 import subprocess
 import sys
 import tempfile
@@ -48,6 +49,8 @@ def told(words, text=""):
                                start_new_session=True)
     except OSError as error:
         stop(f"{program()}: {reason_of(error)}")
+    if ended.returncode == -signal.SIGINT:  # it came before the program was out of its reach
+        raise KeyboardInterrupt
     if ended.returncode not in (0, 1, 3):
         last = ended.stderr.decode(errors="replace").strip().split("\n")[-1]
         stop(last or f"{program()} ended with {ended.returncode}", ended.returncode if ended.returncode > 0 else 2)
