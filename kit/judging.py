@@ -3,9 +3,13 @@
 import collections
 import contextlib
 import decimal
+import fnmatch
+import functools
+import hashlib
 import io
 import json
 import os
+import re
 import selectors
 import signal
 import subprocess
@@ -14,16 +18,32 @@ import tempfile
 import time
 
 HERE = os.path.dirname(os.path.abspath(__file__))
-sys.path.append(os.path.join(os.path.dirname(HERE), "oracle"))
+sys.path.insert(0, os.path.join(os.path.dirname(HERE), "python"))
 
-from program import command_line
-from streams import READ_OR_WRITE_FAILED, reason_of, stop
+from classes import class_of
+from jsoncrdt.oracle.program import command_line
+from jsoncrdt.oracle.streams import READ_OR_WRITE_FAILED, reason_of, stop
 
 STUCK = 3
 SECONDS, MOST_BYTES = 10, 1 << 26
 # No document of a scenario is as deep as this, in frames of Python.
 MOST_FRAMES = 10_000
 NOTHING = object()
+
+# A line of standard error that names an error, as Python, Node, Rust, Go and Java write it.
+NAMES_ERROR = re.compile(r"(?:uncaught |exception in thread \S+ |thread .* )?[\w.$]*(?:error|exception|panic|fatal)",
+                         re.IGNORECASE)
+
+HEADING = re.compile(r"^### (\d+) ", re.MULTILINE)
+# An adapter that gives no answer for this one, either, can't start.
+SIMPLEST = b"""jsoncrdt 1
+replica ann {
+  doc.get("title") := "Trip";
+}
+schedule {
+  ann.exec;
+}
+"""
 
 Ended = collections.namedtuple("Ended", "status output errors fault")
 
@@ -36,13 +56,17 @@ def names():
     return sorted(name for name in os.listdir(HERE) if os.path.exists(os.path.join(HERE, name, "about")))
 
 
-def chosen(only, but=()):
-    """The names that are asked for, or all but some."""
+def fits(name, patterns):
+    return any(fnmatch.fnmatchcase(name, pattern) for pattern in patterns)
+
+
+def chosen(only, but=None):
+    """The names that one of the patterns fits, or all but some."""
     there = names()
-    for word in [*(only or ()), *(but or ())]:
-        if word not in there:
-            stop(f"the kit has no scenario {word}")
-    return [name for name in there if (not only or name in only) and name not in (but or ())]
+    for pattern in [*(only or ()), *(but or ())]:
+        if not fnmatch.filter(there, pattern):
+            stop(f"the kit has no scenario {pattern}")
+    return [name for name in there if (not only or fits(name, only)) and not fits(name, but or ())]
 
 
 def path_of(name, file):
@@ -62,6 +86,48 @@ def by_rules(words, text):
     out = io.BytesIO()
     status = command_line([*words, "-"], io.BytesIO(text), out, io.StringIO())
     return out.getvalue(), status
+
+
+def refusals_of_events():
+    """The numbers that docs/ERRORS.md has for events, the given ones too."""
+    with open(os.path.join(HERE, os.pardir, "docs", "ERRORS.md"), encoding="utf-8") as file:
+        parts = re.split(r"^## ", file.read(), flags=re.MULTILINE)
+    return [int(n) for part in parts if part.startswith(("An event", "A given event")) for n in HEADING.findall(part)]
+
+
+# ---- what is made anew
+
+# What the rules in Python make of a scenario where it is needed, and isn't kept: the words that print it. A trace ends
+# with the dump.
+MADE = {"dump": ["run"], "trace": ["run", "--trace"]}
+SUMS = os.path.join(HERE, "sums")
+
+
+def sum_of(trace):
+    """What `sums` has of a trace, by which it is known again."""
+    return hashlib.sha256(trace).hexdigest()[:32]
+
+
+@functools.cache
+def sums():
+    """The sums of the traces by the names of the scenarios. Where there is no file there are none."""
+    try:
+        with open(SUMS, encoding="utf-8") as file:
+            return dict(line.split() for line in file)
+    except FileNotFoundError:
+        return {}
+    except OSError as error:
+        stop(f"read failed: {SUMS}: {reason_of(error)}", READ_OR_WRITE_FAILED)
+
+
+def made(name, kind):
+    """The dump or the trace of a scenario by the rules in Python. Where that is another one than `sums` knows, or it
+    knows none, nothing can be compared with it."""
+    text = stored(name, "scenario.jsoncrdt")
+    found = {each: by_rules(words, text)[0] for each, words in MADE.items()}
+    if sums().get(name) != sum_of(found["trace"]) or not found["trace"].endswith(found["dump"]):
+        stop(f"{name}: the rules in Python make another trace than kit/sums has (kit/make --check says more)", 1)
+    return found[kind]
 
 
 # ---- how an adapter is run
@@ -175,6 +241,10 @@ def lines_of(output, is_stuck):
     return [line for line in lines if line.strip() and not line.startswith(own)]
 
 
+def line_names(lines):
+    return [json.loads(line)["name"] for line in lines]
+
+
 def text_of(line):
     return line.decode(errors="backslashreplace")
 
@@ -207,32 +277,53 @@ def how(status):
     return f"it was ended by signal {-status}" if status < 0 else f"it ended with status {status}"
 
 
-def last_words(ended):
-    """The last line of standard error, where there is one."""
-    lines = ended.errors.decode(errors="backslashreplace").strip().split("\n")
-    return f": {lines[-1]}" if lines[-1] else ""
+def telling_words(ended):
+    """The line of standard error that tells most, where there is one: the first that names an error, else the last."""
+    lines = [line.strip() for line in ended.errors.decode(errors="backslashreplace").split("\n") if line.strip()]
+    found = [line for line in lines if NAMES_ERROR.match(line)] or lines[-1:]
+    return f": {found[0]}" if found else ""
+
+
+def is_dead(ended):
+    """Whether the adapter died or was ended, and gave no answer."""
+    return bool(ended.fault) or ended.status not in (0, STUCK)
+
+
+def why_dead(ended):
+    return (ended.fault or how(ended.status)) + telling_words(ended)
 
 
 def view_fault(view, status, ended):
     """What is wrong with the documents that an adapter wrote, or none."""
-    if ended.fault:
-        return ended.fault + last_words(ended)
+    if is_dead(ended):
+        return why_dead(ended)
     is_stuck = status == STUCK
     want, got = lines_of(view, is_stuck), lines_of(ended.output, ended.status == STUCK)
-    if ended.status not in (0, STUCK):
-        return how(ended.status) + last_words(ended)
     if ended.status == STUCK and not is_stuck:
-        return f"{how(STUCK)}, and no event is stuck{last_words(ended)}"
+        return f"{how(STUCK)}, and no event is stuck{telling_words(ended)}"
     # A scenario whose given event is stuck has no documents to compare.
     if ended.status == STUCK and not (want and got):
         return None
     return lines_fault(want, got)
 
 
+def class_of_fault(view, status, ended):
+    """The class of what is wrong with the documents that an adapter wrote, where something is."""
+    if is_dead(ended):
+        return "crash"
+    want, got = lines_of(view, status == STUCK), lines_of(ended.output, ended.status == STUCK)
+    if ended.status == STUCK and status != STUCK or status == STUCK and not want:
+        return "status"
+    try:
+        return class_of(list(map(value_of, want)), list(map(value_of, got)))
+    except NoJson:
+        return "crash"
+
+
 def dump_fault(dump, status, ended):
     """What is wrong with the states that an adapter wrote, byte for byte, or none."""
     if ended.fault or ended.status != status:
-        return (ended.fault or how(ended.status)) + last_words(ended)
+        return why_dead(ended)
     if ended.output == dump:
         return None
     pairs = zip(dump.split(b"\n") + [b"(end)"], ended.output.split(b"\n") + [b"(end)"])
@@ -249,7 +340,7 @@ def effects_in(lines):
 def effects_fault(journal, status, ended):
     """What is wrong with the effects that an adapter wrote, or none. The journal has those of the rules."""
     if ended.fault or ended.status not in (0, status):
-        return (ended.fault or how(ended.status)) + last_words(ended)
+        return why_dead(ended)
     want = effects_in(journal.splitlines())
     try:
         got = effects_in(lines_of(ended.output, ended.status == STUCK))
@@ -277,3 +368,10 @@ def told_of(text, is_journal):
         lines = view.splitlines(keepends=True)
         view = b"".join(line for line in lines if line[:1] != b"{" or json.loads(line)["name"] in named)
     return given, view, status
+
+
+@functools.cache
+def why_no_start(words, is_journal):
+    """Why the adapter can't start, or none: it gives no answer for the simplest scenario, either."""
+    ended = run_adapter(words, told_of(SIMPLEST, is_journal)[0])
+    return why_dead(ended) if is_dead(ended) else None

@@ -18,10 +18,11 @@ from judging import HERE, by_rules
 
 sys.path.append(os.path.join(os.path.dirname(HERE), "tools"))
 
-from grammar import Scenario, read
-from rules import Stuck, change, execute, start
-from texts import Texts
-from weave import Loom, words
+from jsoncrdt.oracle.editors import of_scenario
+from jsoncrdt.oracle.grammar import Scenario, read
+from jsoncrdt.oracle.rules import Stuck, change, execute, start
+from jsoncrdt.oracle.texts import Texts
+from jsoncrdt.oracle.weave import Loom, words
 
 
 def loaded(path):
@@ -35,7 +36,6 @@ def loaded(path):
 
 Maker = loaded("oracle/compare").Maker
 shrink = loaded("tools/shrink")
-of_scenario = loaded("oracle/adapter").of_scenario
 
 NAMES = [b"desk", b"phone", b"tablet"]
 # What stands in a scenario for the names, strings and variables of oracle/compare.

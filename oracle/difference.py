@@ -4,8 +4,8 @@ beside it."""
 
 import json
 
-from rules import Network, Stuck, change
-from texts import Texts
+from .rules import Network, Stuck, change
+from .texts import Texts
 
 # What a dumped context calls the contents of a key, and the words for them, in the order of `made`.
 TAGS = {"mapT": "map", "listT": "list", "regT": "register"}

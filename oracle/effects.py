@@ -6,8 +6,8 @@ operation went: at the keys of its path, at its target, below that where it clea
 element behind which it put its own. oracle/compare tries that both give the same.
 """
 
-from rules import LIST, MAP, REGISTER, Context, element_key, new_content, operate
-from texts import array, object_of, string
+from .rules import LIST, MAP, REGISTER, Context, element_key, new_content, operate
+from .texts import array, object_of, string
 
 # The tags with their words, in the order of `made`.
 WORDS = {MAP: b"map", LIST: b"list", REGISTER: b"register"}

@@ -4,12 +4,12 @@ caret, the sentence of docs/ERRORS.md, and what is missing. It is said where --e
 import re
 from functools import partial
 
-from grammar import read
-from lacking import Lack
-from lines import FORMS, MOST_OF_LINE, RULES, event_text, read_line, without_end
-from refusal import Asking, close_to, explained, listed, near_name, place_of, sentence_of
-from rules import Stuck, start, step
-from texts import Texts
+from .grammar import read
+from .lacking import Lack
+from .lines import FORMS, MOST_OF_LINE, RULES, event_text, read_line, without_end
+from .refusal import Asking, close_to, event_of, explained, listed, near_name, place_of, sentence_of
+from .rules import Stuck, start, step
+from .texts import Texts
 
 INPUT = "standard input"
 # Words of other debuggers, and those that are meant.
@@ -118,7 +118,7 @@ class Lines:
     def of_event(self, number, line, offset, refusal):
         """Why the event of `act` is refused, with an offset in its own text."""
         text = event_text(line)
-        told = explained(text, offset, refusal, (self.session.version, self.session.texts.names))
+        told = explained(text, offset, refusal, event_of(self.session.version, self.session.texts.names))
         there = min(len(line) - len(text) + offset, len(line))
         return self.lines(number, line, there, told.message, told.sentence, told.hint and f"hint: {told.hint}")
 

@@ -14,9 +14,9 @@ missing; for 34 `offered`, the replicas that send the operation; for 36 `missing
 and that the replica has not applied.
 """
 
-from effects import Effects
-from rules import Network, Stuck, change
-from texts import REFUSALS, array, object_of, string
+from .effects import Effects
+from .rules import Network, Stuck, change
+from .texts import REFUSALS, array, object_of, string
 
 EMPTY = {"map": b"{}", "list": b"[]"}
 

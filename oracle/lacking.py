@@ -1,9 +1,9 @@
 """What an event that is stuck lacks, as far as the state in which it was tried shows it: which variable, which
 operations, what is at the place. A text for a reader; nothing else rests on it."""
 
-from refusal import close_to
-from rules import LIST, MAP, REGISTER, Stuck, below, cursor_of, evaluate
-from view import goes_through
+from .refusal import close_to
+from .rules import LIST, MAP, REGISTER, Stuck, below, cursor_of, evaluate
+from .view import goes_through
 
 GIVEN = {"keys": "names", "values": "values"}
 CONTENTS = {MAP: "a map", LIST: "a list", REGISTER: "plain values"}

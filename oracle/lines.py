@@ -2,8 +2,8 @@
 
 import re
 
-from grammar import read_event
-from texts import refused
+from .grammar import read_event
+from .texts import refused
 
 MOST_OF_LINE = 4096
 RULES = """

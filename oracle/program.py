@@ -5,17 +5,17 @@ import itertools
 import os
 import re
 
-import explaining
-from grammar import read
-from journal import write_journal
-from lines import read_line
-from refusal import close_to
-from rules import GivenStuck, Stuck, change, start
-from session import Session
-from streams import reason_of
-from texts import Texts, counts_of, refused
-from view import line_of
-from weave import LARGEST_SEED, weave, woven
+from . import explaining
+from .grammar import read
+from .journal import write_journal
+from .lines import read_line
+from .refusal import close_to
+from .rules import GivenStuck, Stuck, change, start
+from .session import Session
+from .streams import reason_of
+from .texts import Texts, counts_of, refused
+from .view import line_of
+from .weave import LARGEST_SEED, weave, woven
 
 VERSION = "jsoncrdt 2.0.0\n"
 USAGE = "usage: oracle/jsoncrdt check|print|run|view|journal|weave|debug FILE    (help says more)"

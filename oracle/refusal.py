@@ -10,10 +10,10 @@ import difflib
 import re
 import unicodedata
 
-from grammar import END, NAME, NAME_RUN, NUMBER, NUMBER_RUN, SIGN, STRING, Fault, Reader, token
-from hints import HINTS
-from sentences import SENTENCES
-from texts import REFUSALS
+from .grammar import END, NAME, NAME_RUN, NUMBER, NUMBER_RUN, SIGN, STRING, Fault, Reader, token
+from .hints import HINTS
+from .sentences import SENTENCES
+from .texts import REFUSALS
 
 # Two names and a number that the grammar tells apart by where they are.
 REPLICA, VARIABLE, DIGITS = "replica", "variable", "digits"
@@ -88,25 +88,50 @@ class Asking(Reader):
         self.event_places.append(self.place)
         return super().event()
 
-    def whole_event(self):
-        self.event()
-        self.end()
-
-    def stopped(self):
-        """Reads up to where it stops: a scenario, or an event where the version is known before."""
+    def stopped(self, read_it):
+        """Reads up to where it stops."""
         try:
-            (self.whole_event if self.version else self.scenario)()
+            read_it(self)
+            self.end()
         except Fault:
             pass
         return self
 
 
-def reader_of(text, version=None):
-    """What the text asked of a reader, or none where it has no tokens. An event is a text by itself, of a version."""
+# What a text is: how it is read, of which version, and by which names of replicas where it says neither itself.
+Kind = collections.namedtuple("Kind", "read_it version names")
+SCENARIO = Kind(lambda reader: reader.scenario(), None, ())
+COMMAND = Kind(lambda reader: reader.command(), None, ())
+
+
+def event_of(version, names):
+    """The kind of text that an event is by itself."""
+    return Kind(lambda reader: reader.event(), version, names)
+
+
+def reader_of(text, kind):
+    """What the text asked of a reader, or none where it has no tokens."""
     try:
-        return Asking(text, version).stopped()
+        return Asking(text, kind.version).stopped(kind.read_it)
     except Fault:
         return None
+
+
+def wanted_behind(text, part):
+    """What could come behind the beginning of a part of a scenario, `Asking.command` or `Asking.event`, up to which
+    nothing is wrong; nothing behind what is no such beginning."""
+    try:
+        text.decode()
+        reader = Asking(text, 2)
+    except (Fault, UnicodeDecodeError):
+        return []
+    try:
+        part(reader)
+        reader.end()
+    except Fault:
+        pass
+    is_at_end = reader.tokens[reader.next][0] == END and reader.asked_at == reader.next
+    return [each for each in reader.wanted if each != END] if is_at_end else []
 
 
 # ---- places
@@ -256,12 +281,10 @@ def hint_of(text, offset, number, reader, names=()):
 # ---- all together
 
 
-def explained(text, offset, number, of_event=(None, ())):
-    """What is said of a text that is refused for this number at the offset. For the text of an event alone the version
-    and the names of the replicas are given."""
-    version, names = of_event
-    reader = reader_of(text, version) if number in OF_SENTENCES else None
+def explained(text, offset, number, kind=SCENARIO):
+    """What is said of a text of this kind that is refused for this number at the offset."""
+    reader = reader_of(text, kind) if number in OF_SENTENCES else None
     expected = reader.wanted if reader and number in (7, 8) else []
     message = f"found {found_at(text, offset)}" + (f", expected {listed(expected)}" if expected else "")
-    hint = hint_of(text, offset, number, reader, names)
+    hint = hint_of(text, offset, number, reader, kind.names)
     return Explanation(place_of(text, offset), message, expected, sentence_of(number), hint)

@@ -2,7 +2,7 @@
 
 import json
 
-from engine import HEAD, Operation, Refused, Replica
+from .engine import HEAD, Operation, Refused, Replica
 
 
 class NoJournal(Exception):

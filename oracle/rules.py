@@ -420,6 +420,19 @@ def change(network, event, trace):
     replica.acted = True
 
 
+def attempt(network, event):
+    """Makes the event in the network itself. Where it is stuck the network stays as it was, and why is given."""
+    before = network[event[1]]
+    if event[0] == "exec":
+        network[event[1]] = copy.deepcopy(before)
+    try:
+        change(network, event, [])
+    except Stuck as stuck:
+        network[event[1]] = before
+        return stuck
+    return None
+
+
 def step(network, event):
     """The network after the event, and its trace. An event changes the state of its own replica alone."""
     after, trace = copy.copy(network), []
@@ -456,6 +469,12 @@ def is_enabled(network, event):
         return False
 
 
+def due(replica):
+    """The least operation that the replica received and can apply, or none."""
+    waiting = (operation for i, operation in replica.received.items() if i not in replica.applied)
+    return min((operation.identifier for operation in waiting if operation.deps <= replica.applied), default=None)
+
+
 def chosen(network, p, last):
     """The event that the thread of a replica makes next, by its own last event, or none."""
     replica = network[p]
@@ -470,9 +489,8 @@ def chosen(network, p, last):
         others = [q for q in ahead if q != p]
         if others:
             return ("recv", p, others[0])
-    waiting = [operation for i, operation in replica.received.items() if i not in replica.applied]
-    due = [operation.identifier for operation in waiting if operation.deps <= replica.applied]
-    return ("apply", p, min(due)) if due else ("done", p)
+    following = due(replica)
+    return ("apply", p, following) if following else ("done", p)
 
 
 def without_empty_sets(content):

@@ -1,7 +1,7 @@
 """A session of the debugger: the answers to lines, which are given as tuples of their words."""
 
-from rules import Stuck, candidates, is_enabled, start, step, without_empty_sets
-from texts import Texts, refused
+from .rules import Stuck, candidates, is_enabled, start, step, without_empty_sets
+from .texts import Texts, refused
 
 MOST_BREAKPOINTS = 256
 MOST_STEPS = 100_000

@@ -26,6 +26,14 @@ class Errors:
         """Each write is flushed."""
 
 
+class Stop(SystemExit):
+    """The end of a command, which was told in one line. What serves a client tells it there, and goes on."""
+
+    def __init__(self, message, status):
+        super().__init__(status)
+        self.message = message
+
+
 class Parser(argparse.ArgumentParser):
     """Wrong arguments are told in one line, and help that can't be written is a write that failed."""
 
@@ -55,7 +63,7 @@ def say(message):
 def stop(message, status=WRONG_ARGUMENTS):
     """Ends the command with one line on standard error."""
     say(message)
-    sys.exit(status)
+    raise Stop(message, status)
 
 
 def reason_of(error):

@@ -2,7 +2,7 @@
 
 import re
 
-from rules import DOC, HEAD, LIST, MAP, REGISTER, TAIL
+from .rules import DOC, HEAD, LIST, MAP, REGISTER, TAIL
 
 REFUSALS = {
     1: "BadByte", 2: "OpenString", 3: "BadEscape", 4: "LoneSurrogate", 5: "BadNumber", 6: "TextTooLong",

@@ -6,8 +6,8 @@ the key's presence set goes on there into the map or the list, or makes it. One 
 shown all, under the name `!conflict`; a name that begins with `!` has one `!` more, so that no document looks so.
 """
 
-from rules import DOC, HEAD, LIST, MAP, REGISTER, TAIL, element_key
-from texts import array, string
+from .rules import DOC, HEAD, LIST, MAP, REGISTER, TAIL, element_key
+from .texts import array, string
 
 EMPTY = {"map": MAP, "list": LIST}
 

@@ -7,9 +7,7 @@ waits. It ends where nobody is left, or at the limit of events. So what anybody 
 that wait receive, and one `yield` at the end of each script is enough for all that finish to hear everything.
 """
 
-import copy
-
-from rules import Stuck, change, chosen, start
+from .rules import attempt, chosen, start
 
 LARGEST_SEED = (1 << 64) - 1
 MULTIPLIER, STREAM = 6364136223846793005, 54
@@ -39,18 +37,12 @@ class Loom:
         self.schedule, self.last, self.left = [], {}, {}
 
     def made(self, event):
-        """Makes the event, where it isn't stuck: then it leaves the network as it was."""
-        before = self.network[event[1]]
-        if event[0] == "exec":
-            self.network[event[1]] = copy.deepcopy(before)
-        try:
-            change(self.network, event, [])
-        except Stuck as stuck:
-            self.network[event[1]] = before
-            return stuck
-        self.schedule.append(event)
-        self.last[event[1]] = event
-        return None
+        """Makes the event, where it isn't stuck; else why is given."""
+        stuck = attempt(self.network, event)
+        if not stuck:
+            self.schedule.append(event)
+            self.last[event[1]] = event
+        return stuck
 
     def turn(self):
         """One turn of a replica that is drawn; false where nobody is left."""

@@ -10,7 +10,7 @@ import re
 
 from cases import expect, stored
 from crates import TESTS, below, crates_of
-from lines import RULES
+from jsoncrdt.oracle.lines import RULES
 
 # Where bytes come from and go to: the sources and sinks of jc_io, and what std has for them.
 OUTSIDE = re.compile(r"\bjc_io\b|\b(?:Sink|Source|ToWrite|FromRead)\b|\bstd::(?:io|fs|net|os|process|env)\b"

@@ -7,6 +7,7 @@ import re
 import tempfile
 
 from cases import Wrong, expect, stored
+from floors import libraries
 
 NAME = re.compile(r"[A-Za-z0-9_-][A-Za-z0-9_.-]*\.edit")
 FOLDERS = ("must-fail", "more-edits")
@@ -99,8 +100,21 @@ def has_edits(_):
         expect(glob.glob(f"crates/*/{folder}/*.edit"), f"no crate has any in {folder}")
 
 
+def gate_case(crate):
+    """The gate tries an edit of the library. One of laws alone has no bodies."""
+
+    def tried(_):
+        sources = glob.glob(f"crates/{crate}/src/**/*.rt", recursive=True)
+        expect(sources, f"{crate} has no sources")
+        is_of_laws = all(re.fullmatch(r"(?:lib|\w*laws)\.rt", os.path.basename(path)) for path in sources)
+        expect(is_of_laws or glob.glob(f"crates/{crate}/must-fail/*.edit"), f"{crate} has no edit in the gate")
+
+    return f"edits: the gate tries one of {crate}", tried
+
+
 def edits():
     yield "edits: there are some", has_edits
+    yield from map(gate_case, libraries())
     yield from map(edits_case, sorted(glob.glob("crates/*")))
     for row in ROWS:
         yield fault_case(*row)

@@ -85,6 +85,8 @@ ROWS = [
     ("./test --nothing", 2, "test: "),
     ("dev/bench nothing", 2, "bench: nothing is no case"),
     ("dev/bench flat", 2, "bench: flat is no case"),
+    ("dev/rows --help >/dev/null", 0, ""),
+    ("dev/rows now", 2, "rows: it takes no arguments"),
     # Files and streams that can't be read.
     ("tools/lanes no-such-file", 4, "lanes: read failed: no-such-file: "),
     ("tools/lanes examples", 4, "lanes: read failed: examples: "),
@@ -119,6 +121,7 @@ ROWS = [
     ("JSONCRDT=/bin/true examples/engine/compare 1", 2, "compare: /bin/true isn't jsoncrdt"),
     ("JSONCRDT=/bin/false tools/page " + FIRST, 2, "page: /bin/false isn't jsoncrdt"),
     ("JSONCRDT=/bin/true tools/page " + FIRST, 2, "page: /bin/true isn't jsoncrdt"),
+    ("JSONCRDT=/bin/true tools/explore " + FIRST, 2, "explore: /bin/true isn't jsoncrdt"),
     # No fault: an adapter needs no standard input of kit/check.
     ("kit/check " + ONE + "oracle/adapter <&- >/dev/null", 0, ""),
     # No fault: 500 maps in one another, and a letter that the terminal hasn't.
@@ -133,6 +136,7 @@ WRITING = [
     ("tools/lanes --help", "lanes: write failed: "),
     ("tools/tree " + FIRST + " a", "tree: write failed: "),
     ("tools/page " + FIRST, "page: write failed: "),
+    ("tools/explore --seeds 1 " + FIRST, "explore: write failed: "),
     ("tools/shrink " + FIRST + " true", "shrink: write failed: "),
     ("echo step | tools/debug " + FIRST, "debug: write failed: "),
     ("tools/debug --help", "debug: write failed: "),
@@ -154,9 +158,9 @@ WRITING = [
 ]
 # Those that ask the program which the variable JSONCRDT names, and the others.
 ASKING = ("tools/lanes", "tools/tree", "tools/page", "tools/shrink", "tools/debug", "tools/why", "tools/fate",
-          "tools/replay", "examples/engine/compare")
+          "tools/replay", "tools/explore", "examples/engine/compare")
 HELPED = ("tools/make-completions", "tools/prove", "oracle/compare", "oracle/selftest", "oracle/adapter", "kit/check",
-          "kit/differs", "kit/make", "kit/table", "./test")
+          "kit/differs", "kit/make", "kit/table", "kit/campaign", "./test")
 # A command rt that tells that it was called, so that nothing here can build.
 NO_RT = "#!/bin/sh\necho rt was called >&2\nexit 1\n"
 

@@ -11,6 +11,7 @@ import time
 
 from cases import IN_TEST, expect, expect_same, folder_of, place, stored
 from crates import BUILT, lack_of_built
+from statements import statements_of
 
 # A command rt for which an edit comes to what its file has, and a crate isn't proved that has a file `unproved`.
 TRYING = """#!/bin/sh
@@ -37,12 +38,21 @@ esac
 """
 REFUSED, NOT_REFUSED = "refused, as it must be: why\n", "NOT REFUSED: the crate is still proved\n"
 NAMES = ("jc_a", "jc_b", "jc_c")
+# Folders of git's, of what is built, and of npm's.
+NOT_OURS = {".git", "out", "build", "node_modules"}
+# The source of each of them.
+SOURCE = """pub fn one() -> u8
+    ensures { result ≡ 1 }
+{
+    1
+}
+"""
 FILES = {
     "crates.txt": "# low\njc_a:\n# high\njc_b: jc_a thiserror\njc_c: jc_b\n",
     "HANDLES": "Handles allowed: none.\n",
     "kit": "kit one\n",
-    **{f"crates/{name}/{part}": f"{name} {part}\n"
-       for name in NAMES for part in ("src/lib.rt", "specs/Lib.antt", "proofs/Lib.antt")},
+    **{f"crates/{name}/src/lib.rt": SOURCE for name in NAMES},
+    **{f"crates/{name}/{part}": f"{name} {part}\n" for name in NAMES for part in ("specs/Lib.antt", "proofs/Lib.antt")},
     **{f"crates/{name}/more-edits/{edit}.edit": REFUSED for name in NAMES for edit in ("one", "two")},
     "crates/jc_b/must-fail/of_the_gate.edit": NOT_REFUSED,
 }
@@ -75,7 +85,9 @@ def expect_end(folder, words, status, output="", told=""):
 def crates():
     """A folder with three crates, each on the one before, that have edits, and with the script."""
     with folder_of({"rt": TRYING, "dev/more-edits": stored("dev/more-edits")}) as folder:
-        for path in ("tools/crates.py", "oracle/streams.py"):
+        for path in ("dev/statements.py", "tools/crates.py", "python/jsoncrdt/__init__.py",
+                     "python/jsoncrdt/choosing.py", "python/jsoncrdt/oracle/__init__.py",
+                     "python/jsoncrdt/oracle/streams.py"):
             write(folder, path, stored(path))
         for path, text in FILES.items():
             write(folder, path, text)
@@ -124,11 +136,17 @@ def moved(folder):
     shutil.move(f"{folder}/crates/jc_b/more-edits/one.edit", f"{folder}/crates/jc_b/must-fail")
 
 
-BELOW, OWN = "sources or definitions below it changed", "run dev/more-edits {}, and mend what it doesn't find refused"
+BELOW = "statements or definitions below it changed"
+OWN = "run dev/more-edits {}, and mend what it doesn't find refused"
 NO_RUN = "no run wrote what is recorded of it"
 # What is changed when all edits were tried, and what the check then tells of which crate.
 HOLES = {
     "a source": (append("crates/jc_b/src/lib.rt"), {"jc_b": "its sources changed", "jc_c": BELOW}),
+    "a body": (lambda folder: replace(folder, "crates/jc_b/src/lib.rt", "^    1$", "    2"),
+               {"jc_b": "its sources changed"}),
+    "a clause": (lambda folder: replace(folder, "crates/jc_b/src/lib.rt", "≡ 1", "≡ 2"),
+                 {"jc_b": "its sources changed", "jc_c": BELOW}),
+    "a test below": (lambda folder: write(folder, "crates/jc_b/src/tests.rt", SOURCE), {"jc_b": "its sources changed"}),
     "a definition": (append("crates/jc_a/specs/Lib.antt"),
                      {"jc_a": "its definitions changed", "jc_b": BELOW, "jc_c": BELOW}),
     "a file of definitions more": (lambda folder: write(folder, "crates/jc_b/specs/New.antt", ""),
@@ -153,6 +171,25 @@ HOLES = {
     "a crate less": (lambda folder: replace(folder, RECORD, "^(jc_b .*\n)+", ""), {"jc_b": "its edits weren't tried"}),
     "no record": (lambda folder: os.remove(f"{folder}/{RECORD}"), {name: "its edits weren't tried" for name in NAMES}),
 }
+
+
+# Sources, and what they state.
+STATED = (
+    (SOURCE, "pub fn one() -> u8\n    ensures { result ≡ 1 }\n{\n\n"),
+    ("fn two(a: u8) {\n    three(a);\n\n    four();\n}\n\nfn five();\n", "fn two(a: u8) {\n\n\nfn five();\n"),
+    ("/// It is\nconst A: u8 = 1;\n// why\nuse b;\n", "const A: u8 = 1;\nuse b;\n"),
+    ("impl A {\n    pub(crate) fn b(\n        c: u8,\n    ) -> u8\n        ensures {\n            d\n        }\n    {\n"
+     "        if c {\n        }\n    }\n\n    fn e() {\n        1\n    }\n}\n",
+     "impl A {\n    pub(crate) fn b(\n        c: u8,\n    ) -> u8\n        ensures {\n            d\n        }\n    {\n"
+     "\n\n    fn e() {\n\n}\n"),
+    ("pub trait A {\n    fn b() {\n        1\n    }\n}\nfn c() {\n    1\n}\n",
+     "pub trait A {\n    fn b() {\n        1\n    }\n}\nfn c() {\n\n"),
+    ("fn a() -> u8 {\n1\n}\n", "fn a() -> u8 {\n1\n}\n"),
+)
+
+
+def statement_case(source, stated):
+    return f"more-edits: statements of {source!r}", lambda _: expect_same(statements_of(source), stated)
 
 
 def told_of(wrong):
@@ -314,6 +351,15 @@ def gate_case(edits, gate, tests, status, output, why):
     return f"gate: dev/more-edits --check ends with {edits}, rt ci with {gate}, ./test --built with {tests}", tried
 
 
+def has_no_links(_):
+    """`rt ci` takes no links, so none is here."""
+    found = set()
+    for at, folders, files in os.walk("."):
+        folders[:] = [name for name in folders if name not in NOT_OURS or os.path.islink(os.path.join(at, name))]
+        found |= {os.path.join(at, name) for name in folders + files if os.path.islink(os.path.join(at, name))}
+    expect(os.path.exists("crates.txt") and not found, f"{found}")
+
+
 # A small program: a crate of it, and one of tests.
 PARTS = {"crates.txt": "jc_low: jc_low_more thiserror\njc_low_more:\njc_app: jc_low\n# tests\njc_low_tests: jc_low\n",
          **{f"crates/{name}/{part}": "" for name in ("jc_low", "jc_low_more", "jc_app", "jc_low_tests")
@@ -381,6 +427,8 @@ def is_built_case(change, lack):
 
 def gate():
     yield from map(hole_case, HOLES)
+    for row in STATED:
+        yield statement_case(*row)
     yield "more-edits: only what has no verdict is tried", takes_steps
     yield "more-edits: goes on behind a crate that fails", goes_on
     for row in WORDS:
@@ -399,3 +447,4 @@ def gate():
     yield gate_case(0, 0, 1, 1, "--built: 1 failed\n", took)
     yield gate_case(0, 3, 0, 3, "", took)
     yield gate_case(1, 0, 0, 1, "", "stale\n")
+    yield "gate: no link", has_no_links

@@ -15,13 +15,13 @@ ROOT = os.path.dirname(os.path.dirname(os.path.abspath(__file__)))
 sys.path.append(os.path.join(ROOT, "kit"))
 
 from changes import Journal
-from difference import with_effects
 from faults import fault_case
 from fates import fates
-from grammar import read
+from jsoncrdt.oracle.difference import with_effects
+from jsoncrdt.oracle.grammar import read
+from jsoncrdt.oracle.texts import Texts, string
 from judging import by_rules
 from replays import Log, replayed, text_of
-from texts import Texts, string
 from weaving import Maker, Writer, woven
 
 RANDOM = range(40)
@@ -196,6 +196,7 @@ def wrong_case(what, file, right, wrong):
         text = stored(os.path.join("oracle", file))
         expect(text.count(right) == 1, f"{right} stands in oracle/{file} {text.count(right)} times")
         with tempfile.TemporaryDirectory() as folder:
+            shutil.copytree("python", os.path.join(folder, "python"))
             copied = shutil.copytree("oracle", os.path.join(folder, "oracle"))
             with open(os.path.join(copied, file), "w", encoding="utf-8") as changed:
                 changed.write(text.replace(right, wrong))

@@ -44,7 +44,10 @@ case $1 in
         echo "$name" >>"$NOTES"
         mkdir -p out/incremental
         if [ "$name" = "${HANGS-}" ]; then echo "so far: 1 of 9 functions checked"; sleep 600; fi
-        if [ "$name" = "${FAILS-}" ]; then echo "fn $name::f: proved"; echo "fn $name::g: not proved"; exit 1; fi
+        if [ "$name" = "${FAILS-}" ]; then echo "fn $name::f: proved"; echo "fn $name::g: not proved"
+            for i in 1 2 3 4 5 6 7; do for j in 1 2 3 4 5 6 7; do echo "library std: modules loaded=8 checked=0"; done; done
+            exit 1
+        fi
         if [ "$name" = "${KILLED-}" ] && [ ! -e "$NOTES.killed" ]; then : >"$NOTES.killed"; kill -9 $$; fi
         mkdir -p out/rlib
         echo "rt: another copy of the repository is building this library; waiting for it"
@@ -70,7 +73,7 @@ def tree(program=None, files=(), age=0):
     sources = {f"crates/{name}/src/lib.rt": "" for name in ("jc_io", "jc_rules", "jc_app")}
     built = {"crates/jc_app/out/jc_app": program} if program else {}
     with tempfile.TemporaryDirectory() as folder:
-        subprocess.run(["cp", "-r", "jsoncrdt", "oracle", "tools", "examples", folder], check=True)
+        subprocess.run(["cp", "-r", "jsoncrdt", "oracle", "python", "tools", "examples", folder], check=True)
         for name, text in {"crates.txt": CRATES, "rt": RT, **sources, **built, **dict(files)}.items():
             os.makedirs(os.path.dirname(os.path.join(folder, name)), exist_ok=True)
             place(os.path.join(folder, name), text)
@@ -249,7 +252,7 @@ def shows_what_failed(_):
     with tree() as folder:
         told = called(folder, "--prove", FAILS="jc_rules")
         has(told, 127, "", "fn jc_rules::g: not proved", "the program wasn't built: jc_rules isn't proved")
-        expect("jc_rules::f" not in told.stderr.decode(), f"{told}")
+        expect(not re.search("jc_rules::f|library std", told.stderr.decode()), f"{told}")
         has(called(folder, "--prove"), 0, None, "jc_io: proved before", "jc_rules: 3 functions proved")
         expect_same(stored(f"{folder}/notes"), "jc_io\njc_rules\njc_rules\n")
 

@@ -7,11 +7,11 @@ import re
 import subprocess
 
 from cases import IN_PYTHON, expect, stored
-from grammar import END, NAME, NUMBER, RESERVED, STRING, read, tokens
-from program import command_line
-from refusal import DIGITS, REPLICA, VARIABLE, explained
-from sentences import SENTENCES
-from texts import REFUSALS
+from jsoncrdt.oracle.grammar import END, NAME, NUMBER, RESERVED, STRING, read, tokens
+from jsoncrdt.oracle.program import command_line
+from jsoncrdt.oracle.refusal import DIGITS, REPLICA, VARIABLE, explained
+from jsoncrdt.oracle.sentences import SENTENCES
+from jsoncrdt.oracle.texts import REFUSALS
 
 ERRORS = os.path.join("docs", "ERRORS.md")
 DEEP = '.get("a")' * 256

@@ -12,7 +12,7 @@ import sys
 import tempfile
 
 ROOT = os.path.dirname(os.path.dirname(os.path.abspath(__file__)))
-sys.path += [os.path.join(ROOT, folder) for folder in ("tools", "oracle")]
+sys.path[1:1] = [os.path.join(ROOT, folder) for folder in ("tools", "python", "dev")]
 # What is wrong is told by the name of the script that starts this.
 sys.argv[0] = os.path.join(ROOT, "test")
 
@@ -20,25 +20,32 @@ import command_line
 import definition
 import floors
 import processes
-import streams
+from jsoncrdt.oracle import streams
 from architecture import architecture
 from blocks import ROWS, bare_blocks, commands_of, long_paragraphs, row_case
+from campaigns import campaigns
 from cases import IN_PYTHON, IN_TEST, NotTried, Programs, Wrong, expect, expect_same, run, stored, told_errors
 from edits import edits
+from exploring import exploring
 from faults import faults
-from grammar import EVENTS, RESERVED
+from jsoncrdt.oracle.grammar import EVENTS, RESERVED
 from journals import journals
 from kit import kit
+from kit_options import has_yjs, kit_options
 from lanes import lanes
 from launching import launching
 from messages import messages
+from package import package
 from read_back import pictures_read_back
 from run_pages import run_pages
 from scripts import scripts
+from server_parts import server_parts
+from servers import servers
 from terminal import terminal
 
 EXPECTED = os.path.join("tests", "expected")
-DOCUMENTS = ("README.md", "docs/*.md", "examples/*.md", "editors/*.md", "kit/*.md", "crates/*/README.md")
+DOCUMENTS = ("README.md", "docs/*.md", "examples/*.md", "editors/*.md", "editors/*/*.md", "kit/*.md",
+             "crates/*/README.md")
 AT_ONCE = 4
 MOST_OF_README, MOST_OF_PARAGRAPH = 150, 12
 HEADINGS = ("## What the layer above sees", "## Only tested")
@@ -47,15 +54,17 @@ Runs what needs no proof: blocks of the documents, examples, tools, scripts, the
 Python. It proves nothing; the gate, rt ci, does that. The last line is `N passed, M failed`, and the status is 1 where
 one failed. What needs the built program, or a command that isn't there, is skipped, and counted on the line before."""
 WORDS = """\
-With words, what has one of them in its name: examples, README, docs, pages, tools, pictures, faults, launcher, messages,
-edits, more-edits, gate, architecture, process, arguments, editors, debug, kit, oracle, or a part of a file's name or of
-a command."""
+With words, what has one of them in its name: examples, README, docs, pages, tools, pictures, faults, launcher,
+messages, edits, more-edits, gate, architecture, process, arguments, editors, debug, kit, package, oracle, or a part of a
+file's name or of a command."""
 
 
 def block_case(command):
     def tried(programs):
         if re.search(r"\bjq\b", command.text) and not shutil.which("jq"):
             raise NotTried("jq")
+        if "yjs-adapter" in command.text and not has_yjs():
+            raise NotTried("node with yjs")
         if "jsoncrdt threads" in command.text and not programs.is_built:
             raise NotTried("the built program")
         program = programs.of(command.text)
@@ -281,7 +290,7 @@ def arguments():
 
 
 def colours_words(_):
-    grammar = json.loads(stored("editors/jsoncrdt.tmLanguage.json"))
+    grammar = json.loads(stored("editors/vscode/jsoncrdt.tmLanguage.json"))
     text = "\n".join(re.compile(pattern).pattern for pattern in patterns_of(grammar)).replace("\\b", " ")
     looked_for = sorted(RESERVED | {*EVENTS, b"take", b"given", b"schedule", b"replica", b"jsoncrdt"})
     words = [word.decode() for word in looked_for if not re.search(rf"\b{word.decode()}\b", text)]
@@ -301,7 +310,7 @@ def editors():
     yield completed_case(["jsoncrdt", "run", "examples/tw"], "examples/two-lists.jsoncrdt examples/two-types.jsoncrdt")
     yield "editors: tools/command_line.py and the sources of the program", is_defined
     yield "editors: tools/command_line.py and --help", names_commands
-    yield "editors: editors/jsoncrdt.tmLanguage.json", colours_words
+    yield "editors: editors/vscode/jsoncrdt.tmLanguage.json", colours_words
 
 
 PASSED, FAILED, SKIPPED = "passed", "failed", "skipped"
@@ -351,9 +360,10 @@ def main():
     if asked.built and not programs.is_built:
         print(f"FAILED test: {programs.lack}\n0 passed, 1 failed")
         return 1
-    cases = [*examples(asked.write), *blocks(), *pages(), *tools(asked.write), *pictures_read_back(), *lanes(), *faults(),
-             *scripts(), *edits(), *architecture(), *launching(), *messages(), *process(), *arguments(), *editors(),
-             *terminal(), *kit(), *journals(), *run_pages()]
+    cases = [*examples(asked.write), *blocks(), *pages(), *tools(asked.write), *pictures_read_back(), *lanes(),
+             *faults(), *scripts(), *edits(), *architecture(), *launching(), *messages(), *process(), *arguments(),
+             *editors(), *terminal(), *kit(), *kit_options(), *exploring(), *campaigns(), *journals(), *run_pages(),
+             *package(), *server_parts(), *servers()]
     cases = chosen_of(cases, asked.words)
     if IN_TEST in os.environ:
         streams.stop("a test runs no tests")

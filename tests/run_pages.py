@@ -1,7 +1,9 @@
-"""Pages of runs: what tools/page puts into a page is unpacked again and compared with what `run`, `view` and `journal`
-tell. What the page's script makes of it is tried in a browser, by tests/in_browser, where one is installed."""
+"""Pages of runs: what tools/page puts into a page is unpacked again, and its events lead from state to state as `run`
+and `debug` tell. What the page's script makes of it is tried in a browser, by tests/in_browser, where one is
+installed."""
 
 import base64
+import functools
 import glob
 import hashlib
 import html
@@ -13,13 +15,11 @@ import tempfile
 
 import sections
 from cases import IN_PYTHON, NotTried, expect, expect_same, folder_of, run, stored, told_errors
-from kit import NAMES
-from lines import RULES
+from kit import NAMES, dump_of
+from jsoncrdt.oracle.lines import RULES
 from page_data import MOST_RULES
-from runs import shown_in
-from sentences import SENTENCES
+from jsoncrdt.oracle.sentences import SENTENCES
 
-EXPECTED = os.path.join("tests", "expected")
 DEBIAN_PYTHON = "/usr/bin/python3"
 NEEDED = "chromium, chromium-driver and python3-selenium of Debian"
 # The refusals that a stuck event can have.
@@ -42,19 +42,64 @@ schedule {
 ODD_FILE = "</title><b>&\"'\udcff.jsoncrdt"
 
 
-def changed(value, change):
-    """The value to which a change leads (tools/page_data.py has its form)."""
-    kind, *what = change
-    if kind == 0:
-        return what[0]
-    if kind == 1:
-        gone = what[1] if len(what) > 1 else ()
-        return {name: item for name, item in value.items() if name not in gone} | \
-            {name: changed(value.get(name), inside) for name, inside in what[0].items()}
-    if kind == 2:
-        place, count, items = what
-        return value[:place] + items + value[place + count:]
-    return value[:what[0]] + [changed(value[what[0]], what[1])] + value[what[0] + 1:]
+PARTS = {"map": "mapT", "list": "listT", "register": "regT"}
+
+
+def enter(context, effects):
+    """Makes in a dumped context what the effects tell. Presence sets that are empty are left out."""
+    for effect in effects:
+        key = effect["key"]
+        for word in effect.get("made", ()):
+            context[f"{PARTS[word]}({key})"] = {"next(head)": "tail"} if word == "list" else {}
+        present = {*context.pop(f"pres({key})", ()), *effect.get("gained", ())} - {*effect.get("lost", ())}
+        if present:
+            context[f"pres({key})"] = sorted(present, key=order)
+        for identifier, _ in effect.get("taken", ()):
+            del context[f"regT({key})"][identifier]
+        for identifier, value in effect.get("written", ()):
+            context[f"regT({key})"][identifier] = value
+        if "next" in effect:
+            context[f"next({key})"] = effect["next"][1]
+        for word in ("map", "list"):
+            enter(context.get(f"{PARTS[word]}({key})"), effect.get(word, ()))
+
+
+def without_empty(context):
+    """A dumped context without presence sets that are empty, which effects don't tell from those that aren't there."""
+    return {name: without_empty(content) if name.startswith(("mapT(", "listT(")) else content
+            for name, content in context.items() if content != [] or not name.startswith("pres(")}
+
+
+class State:
+    """The state of a replica, from that with which a page begins on, by the page's events."""
+
+    def __init__(self, first, name):
+        self.first, self.name, self.tree = first, name, {}
+        self.sets = {word: [*first[word]] for word in ("ops", "recv", "send")}
+        self.left, self.acted, self.vars = first["left"], first["acted"], {**first["vars"]}
+        enter(self.tree, first["effects"])
+
+    def add(self, event):
+        kind, new = event["k"], event.get("n", [])
+        self.sets["send" if kind == "send" else "recv"] += new
+        self.sets["ops"] += [event["o"]] if "o" in event else []
+        self.left -= kind in ("exec", "done")
+        self.acted = self.acted if kind == "exec" else kind != "done"
+        self.vars |= event.get("v", {})
+        enter(self.tree, event.get("x", ()))
+
+    def dump(self):
+        """A dump, and its text, which no later event changes."""
+        sets = {word: sorted(ids, key=order) for word, ids in self.sets.items()}
+        queue = [made for made in sets["ops"] if made.endswith(f"@{self.name}")]
+        state = {**sets, "queue": queue, "acted": self.acted, "left": self.left, "name": self.name, "vars": self.vars,
+                 "tree": self.tree}
+        return json.dumps(state, sort_keys=True)
+
+
+def order(identifier):
+    counter, name = identifier.split("@")
+    return int(counter), name
 
 
 class Page:
@@ -72,15 +117,15 @@ class Page:
         return self.data["runs"][0]
 
     def positions(self):
-        """The states and the documents of all replicas at each position."""
-        states, documents = list(self.one["states"]), list(self.one["documents"])
-        yield list(states), list(documents)
+        """The states of all replicas at each position, as texts."""
+        states = [State(first, name) for first, name in zip(self.one["states"], self.data["names"])]
+        dumps = [state.dump() for state in states]
+        yield dumps
         for event in self.one["events"]:
-            if "s" in event:
-                states[event["r"]] = changed(states[event["r"]], event["s"])
-            if event.get("d"):
-                documents[event["r"]] = changed(documents[event["r"]], event["d"])
-            yield list(states), list(documents)
+            states[event["r"]].add(event)
+            dumps = [*dumps]
+            dumps[event["r"]] = states[event["r"]].dump()
+            yield dumps
 
     def lines(self):
         """The lines of the journal, without the events' numbers."""
@@ -97,7 +142,7 @@ class Page:
             if "n" in event:
                 line["new"] = event["n"]
             if "o" in event:
-                line["op"] = operations[event["o"]]
+                line |= {"op": operations[event["o"]], "effects": event["x"]}
             yield line
         if self.one["stuck"]:
             yield {name: member for name, member in self.one["stuck"].items() if name not in ("r", "number")}
@@ -116,14 +161,15 @@ def lines_of(text):
     return [line for line in text.split("\n") if line.startswith("{")]
 
 
-def same_documents(documents, views, where):
-    told = [shown_in(line) for line in lines_of(views)]
-    texts = [json.dumps(each)[:500] for each in (documents, told)]
-    expect(documents == told, f"{where}: the page has\n{texts[0]}\nand view\n{texts[1]}")
+def same_states(states, dumps, where):
+    told = [json.loads(line) for line in lines_of(dumps)]
+    wanted = [{**state, "tree": without_empty(state["tree"])} for state in told]
+    wrong = [pair for pair in zip(map(json.loads, states), wanted) if pair[0] != pair[1]]
+    expect(len(states) == len(wanted) and not wrong, f"{where}: the page has another state: {str(wrong)[:900]}")
 
 
 def same_journal(page, journal, file):
-    """The events are those of the journal, with their operations and rules; so is the one that is stuck."""
+    """The events are those of the journal, with their operations, rules and effects; so is the one that is stuck."""
     told = [json.loads(line) for line in lines_of(journal)]
     for line in told:
         del line["number"]
@@ -136,46 +182,46 @@ def same_journal(page, journal, file):
     expect(is_same, f"{file}: {len(made)} lines, journal has {len(told)}: {str(wrong)[:500]}")
 
 
-def page_case(file, dumps, views, has_journal):
-    """The page's data in the middle and at the end are what the program tells there."""
+def page_case(file, dumps, has_journal):
+    """The page's data at the end are what `run` tells, and in the middle what a session does. `dumps` gives the last
+    states."""
 
     def tried(programs):
         page = Page(programs, [file], status=(0, 3))
         positions, given = list(page.positions()), page.one["given"]
         if has_journal:
-            journal = run([programs.program, "journal", "--trace", file], programs.program).stdout.decode()
-            same_journal(page, journal, file)
-        if stored(dumps).startswith("refused 44 "):
+            words = [IN_PYTHON, "journal", "--trace", "--effects", file]
+            same_journal(page, run(words, IN_PYTHON).stdout.decode(), file)
+        if dumps().startswith("refused 44 "):
             expect(page.one["stuck"] and len(positions) <= given, f"{file}: no given event is stuck in the page")
             return
-        states, documents = positions[-1]
-        expect(states == list(map(json.loads, lines_of(stored(dumps)))), f"{file}: states differ")
-        same_documents(documents, stored(views), file)
+        same_states(positions[-1], dumps(), file)
         middle = (len(positions) + given) // 2
-        told = run([programs.program, "view", "--at", str(middle - given), file], programs.program).stdout.decode()
-        same_documents(positions[middle][1], told, f"{file} at {middle - given}")
+        told = run([programs.program, "debug", file], programs.program, f"goto {middle - given}\nstate\n")
+        same_states(positions[middle], told.stdout.decode(), f"{file} at {middle - given}")
 
     return f"tools/page: {file}", tried
 
 
 def pages_of_all():
     for file in sorted(glob.glob("examples/**/*.jsoncrdt", recursive=True)):
-        base = file.removesuffix(".jsoncrdt")
-        yield page_case(file, f"{base}.run", os.path.join(EXPECTED, f"{os.path.basename(base)}.view"), True)
+        yield page_case(file, functools.partial(stored, f"{file.removesuffix('.jsoncrdt')}.run"), True)
     for number, name in enumerate(NAMES):
-        yield page_case(f"kit/{name}/scenario.jsoncrdt", f"kit/{name}/dump", f"kit/{name}/view", number % 4 == 0)
+        yield page_case(f"kit/{name}/scenario.jsoncrdt", functools.partial(dump_of, name), number % 4 == 0)
 
 
 def is_odd(programs):
     """Names, keys and values stay what they are, and nothing of them is part of the page's own text."""
     page = Page(programs, ["-"], ODD)
-    states, documents = list(page.positions())[-1]
+    states = [json.loads(text) for text in list(page.positions())[-1]]
     expect([state["name"] for state in states] == ["__proto__", "n" * 255], "the names of the replicas")
-    one, other = ({name: inside["v"][0][1] for name, inside in document["m"]} for document in documents)
-    wanted = {"!conflict": {"n": "1e400"}, "10": {"n": "1.50"}, "2": {"n": "-0"},
-              "__proto__": '</script><!--<b id="x">&amp;', "constructor": "\0\U0001f600\u2028"}
-    expect(one == wanted and [*one] == [*wanted], f"{one}")
-    expect([*other] == ["__proto__", "\uffff", "\U0001f600"], f"{other}")
+    one, other = (state["tree"]["mapT(doc)"] for state in states)
+    values = {json.loads(name[5:-1]): [*value.values()] for name, value in one.items() if name.startswith("regT(")}
+    wanted = {"!conflict": [{"n": "1e400"}], "10": [{"n": "1.50"}], "2": [{"n": "-0"}],
+              "__proto__": ['</script><!--<b id="x">&amp;'], "constructor": ["\0\U0001f600\u2028"]}
+    expect(values == wanted, f"{values}")
+    expect({'regT("\U0001f600")', 'regT("\uffff")'} < {*other}, f"{other}")
+    expect(states[1]["vars"] == {"__proto__": {"keys": ["__proto__", "\uffff", "\U0001f600"]}}, states[1]["vars"])
     expect(page.text.count("</script>") == 2 and page.text.count("<!--") == 0, "a text ends the script")
 
 
@@ -205,22 +251,22 @@ def has_words(_):
     expect(not lacking and set(words) == set(RULES), f"docs/RULES.md has no line of words for {lacking}")
     for rule, text in words.items():
         is_short = re.fullmatch(r"[A-Z`].{10,120}\.", text["words"])
-        expect(is_short and f"In words: {text['words']}\n" in stored("docs/RULES.md"), f"{rule} hasn't one line of words")
+        is_line = f"In words: {text['words']}\n" in stored("docs/RULES.md")
+        expect(is_short and is_line, f"{rule} hasn't one line of words")
         expect(text["form"][0].startswith("Question: "), f"behind the words of {rule} there is no question")
     lacking = sorted(number for number in OF_EVENTS if number not in SENTENCES)
     expect(not lacking, f"docs/ERRORS.md has no sentence for {lacking}")
 
 
-def told_by_commands(programs):
-    """A page by a program that is asked by its commands has what one by the rules in Python has."""
-    with folder_of({"asked": f'#!/bin/sh\nexec "{os.path.abspath(IN_PYTHON)}" "$@"\n'}) as folder:
-        for file in ("examples/to-do.jsoncrdt", "examples/stuck.jsoncrdt", "examples/answer-first.jsoncrdt"):
-            for words in ([], ["--from", "2"]):
-                pages = [Page(programs, [file, *words], program=program, status=(0, 3)).data
-                         for program in (IN_PYTHON, os.path.join(folder, "asked"))]
-                by, earlier = [page.pop("by") for page in pages], [page["runs"][0].pop("earlier") for page in pages]
-                expect(pages[0] == pages[1] and by[0] != by[1], f"{file} {words}: the pages differ")
-                expect(not earlier[1], f"{file} {words}: what was taken before the page begins is told")
+def asks_once(programs):
+    """A page needs each command of the program once, whatever its events are, and says which program that was."""
+    asked = f'#!/bin/sh\necho "$1" >>"${{0%/*}}/asked.txt"\nexec "{os.path.abspath(IN_PYTHON)}" "$@"\n'
+    for file in ("examples/to-do.jsoncrdt", "examples/stuck.jsoncrdt", "kit/names-without-deleted/scenario.jsoncrdt"):
+        with folder_of({"program": asked}) as folder:
+            program = os.path.join(folder, "program")
+            page = Page(programs, [file], program=program, status=(0, 3))
+            expect_same(stored(os.path.join(folder, "asked.txt")), "check\nprint\njournal\ndebug\n")
+        expect(page.data["by"].startswith("program; what events changed, by the rules in Python"), page.data["by"])
 
 
 def has_window(programs):
@@ -255,8 +301,8 @@ def has_both(programs):
 
 
 def is_seen(programs):
-    """The page's script, in a browser: tests/in_browser says what is looked at. It takes a minute of an idle machine, so it
-    is tried where it is asked for."""
+    """The page's script, in a browser: tests/in_browser says what is looked at. It takes a minute of an idle machine,
+    so it is tried where it is asked for."""
     if "JSONCRDT_BROWSER" not in os.environ:
         raise NotTried("the variable JSONCRDT_BROWSER")
     is_there = os.access(DEBIAN_PYTHON, os.X_OK) and run([DEBIAN_PYTHON, "-c", "import selenium"], "").returncode == 0
@@ -271,7 +317,7 @@ def run_pages():
     yield "tools/page: odd names and values", is_odd
     yield "tools/page: the policy in the file", has_strict_policy
     yield "tools/page: a sentence for each rule and refusal", has_words
-    yield "tools/page: by the commands of a program", told_by_commands
+    yield "tools/page: which commands it asks", asks_once
     yield "tools/page: --from and --most", has_window
     yield "tools/page: --diff", has_both
     yield "tools/page: tests/in_browser", is_seen

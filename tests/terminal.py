@@ -23,9 +23,9 @@ from commands import COMMANDS
 from layout import WIDTH, laid_out, read_json, runs_of
 from positions import InPython, Positions
 from predicates import KINDS, predicate_of
-from program import command_line
-from sentences import SENTENCES
-from texts import REFUSALS
+from jsoncrdt.oracle.program import command_line
+from jsoncrdt.oracle.sentences import SENTENCES
+from jsoncrdt.oracle.texts import REFUSALS
 
 TO_DO, FIRST = "examples/to-do.jsoncrdt", "examples/first.jsoncrdt"
 STUCK, ANSWER = "examples/out-of-order.jsoncrdt", "examples/answer-first.jsoncrdt"

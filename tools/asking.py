@@ -9,18 +9,17 @@ import sys
 import tempfile
 import textwrap
 
-import crates
-
 ROOT = os.path.dirname(os.path.dirname(os.path.abspath(__file__)))
-BUILT = os.path.join(ROOT, crates.BUILT)
-IN_PYTHON = os.path.join(ROOT, "oracle", "jsoncrdt")
-sys.path.append(os.path.join(ROOT, "oracle"))
+sys.path.insert(0, os.path.join(ROOT, "python"))
 
-import streams
-from streams import READ_OR_WRITE_FAILED, number_from, reason_of, run, stop
+from jsoncrdt import choosing
+from jsoncrdt.choosing import IN_PYTHON
+from jsoncrdt.oracle import streams
+from jsoncrdt.oracle.streams import READ_OR_WRITE_FAILED, number_from, reason_of, run, stop
 
+BUILT = os.path.join(ROOT, choosing.BUILT)
 ASKED = ("The program that is asked is the one that the variable JSONCRDT of the environment names; else the built "
-         "one, where it is built; else the rules in Python, oracle/jsoncrdt, which give the same texts.")
+         "one, where no source is newer; else the rules in Python, oracle/jsoncrdt, which give the same texts.")
 
 
 class Parser(streams.Parser):
@@ -31,33 +30,64 @@ class Parser(streams.Parser):
 
 
 def program():
-    if os.environ.get("JSONCRDT"):
-        return os.environ["JSONCRDT"]
-    return BUILT if os.access(BUILT, os.X_OK) else IN_PYTHON
+    return choosing.program() or IN_PYTHON
 
 
 def is_in_python():
     """Whether the program is the rules in Python, which a tool can ask in its own process."""
-    return os.path.exists(program()) and os.path.samefile(program(), IN_PYTHON)
+    return choosing.program() is None
 
 
-def told(words, text=""):
-    """What the program writes on its output, and its status. Where it can't read, write or be found, the tool ends."""
+def started(words):
+    """The program's process with these words, its streams as pipes. It is out of reach of Ctrl-C, which ends a tool
+    with what it started, or is the tool's own affair."""
     try:
-        # It is out of reach of Ctrl-C, which ends a tool with what it started, or is the tool's own affair.
-        ended = subprocess.run([program(), *words], input=text.encode(), capture_output=True, check=False,
-                               start_new_session=True)
+        return subprocess.Popen([program(), *words], stdin=subprocess.PIPE, stdout=subprocess.PIPE,
+                                stderr=subprocess.PIPE, start_new_session=True)
     except OSError as error:
-        stop(f"{program()}: {reason_of(error)}")
+        return stop(f"{program()}: {reason_of(error)}")
+
+
+def ended_by(process, content):
+    """The process when it has ended, with all that it wrote. This is its input."""
+    with process:
+        try:
+            output, errors = process.communicate(content)
+        except BaseException:
+            process.kill()
+            raise
+    return subprocess.CompletedProcess(process.args, process.returncode, output, errors)
+
+
+def streams_of(ended):
+    """What a process that has ended wrote on its output and on standard error, and its status. Where it couldn't read,
+    or is no jsoncrdt, the tool ends."""
     if ended.returncode == -signal.SIGINT:  # it came before the program was out of its reach
         raise KeyboardInterrupt
     if ended.returncode not in (0, 1, 3):
         last = ended.stderr.decode(errors="replace").strip().split("\n")[-1]
         stop(last or f"{program()} ended with {ended.returncode}", ended.returncode if ended.returncode > 0 else 2)
-    output = ended.stdout.decode(errors="replace")
+    output, errors = (stream.decode(errors="replace") for stream in (ended.stdout, ended.stderr))
     if ended.returncode == 1 and not output.startswith("refused "):
         stop(f"{program()} isn't jsoncrdt: it ended with 1 and told no refusal")
-    return output, ended.returncode
+    return output, errors, ended.returncode
+
+
+def answer_of(ended):
+    """What a process that has ended wrote on its output, and its status."""
+    output, _, status = streams_of(ended)
+    return output, status
+
+
+def answered(words, text=""):
+    """What the program writes on its output and on standard error, and its status. Where it can't read, write or be
+    found, the tool ends."""
+    return streams_of(ended_by(started(words), text.encode()))
+
+
+def told(words, text=""):
+    """What the program writes on its output, and its status."""
+    return answer_of(ended_by(started(words), text.encode()))
 
 
 DOCUMENT = '{"doc":'
@@ -68,15 +98,21 @@ def document_of(line):
     return line[len(DOCUMENT):line.rindex(',"name":')] if line.startswith(DOCUMENT) else None
 
 
+def bytes_of(file):
+    """The bytes of the file, or of standard input for -."""
+    try:
+        if file == "-":
+            return sys.stdin.buffer.read()
+        with open(file, "rb") as opened:
+            return opened.read()
+    except OSError as error:
+        return stop(f"read failed: {file}: {reason_of(error)}", READ_OR_WRITE_FAILED)
+
+
 def text_of(file):
     """The text of the file, or of standard input for -."""
     try:
-        if file == "-":
-            return sys.stdin.buffer.read().decode()
-        with open(file, "rb") as opened:
-            return opened.read().decode()
-    except OSError as error:
-        stop(f"read failed: {file}: {reason_of(error)}", READ_OR_WRITE_FAILED)
+        return bytes_of(file).decode()
     except UnicodeDecodeError as error:
         stop(f"{file}: refused 13 NotUtf8 at {error.start}", 1)
 

@@ -11,10 +11,10 @@ import re
 from collections import namedtuple
 
 import asking  # which says where the modules below are
-from grammar import read, read_expression
-from program import command_line
-from rules import Network, Stuck, change, cursor_of
-from texts import REFUSALS, Texts, string
+from jsoncrdt.oracle.grammar import read, read_expression
+from jsoncrdt.oracle.program import command_line
+from jsoncrdt.oracle.rules import Network, Stuck, change, cursor_of
+from jsoncrdt.oracle.texts import REFUSALS, Texts, string
 
 KEY = r'(?:"(?:[^"\\]|\\.)*"|head|\d+@[A-Za-z_][0-9A-Za-z_]*)'
 PLACE = re.compile(f"doc(?:/{KEY})*")

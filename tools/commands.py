@@ -10,7 +10,7 @@ import re
 import changes
 import fates
 from layout import laid_out, read_json, shortened, traced
-from lines import RULES, is_rule
+from jsoncrdt.oracle.lines import RULES, is_rule
 from predicates import KINDS, predicate_of
 
 AROUND = 5

@@ -1,7 +1,9 @@
 """A session of the program's `debug`, to which lines are sent one by one."""
 
+import os
 import re
 import subprocess
+import tempfile
 
 from asking import program, reason_of, stop
 
@@ -66,3 +68,15 @@ class Conversation:
             self.process.kill()
             self.process.wait()
         self.process.stdout.close()
+
+
+def begun(file, content):
+    """A session on the scenario of a file, of which this is the content. Where there is none, Ended has what the
+    program said. What can be read once alone, as a pipe, is read by the program from a copy."""
+    with tempfile.NamedTemporaryFile() as copy:
+        copy.write(content)
+        copy.flush()
+        named = os.path.join(os.curdir, file) if file.startswith("-") else file
+        conversation = Conversation(named if os.path.isfile(file) else copy.name)
+        conversation.ask(WHERE)
+    return conversation

@@ -3,9 +3,10 @@
 import collections
 import os
 
-# The crate of the program, and where `rt ci` and `rt run` leave the program.
+from jsoncrdt.choosing import BUILT
+
+# The crate of the program.
 PROGRAM_CRATE = "jc_app"
-BUILT = os.path.join("crates", PROGRAM_CRATE, "out", PROGRAM_CRATE)
 
 # A crate: its name, the heading that its line stands under, what it may do, the libraries that it uses, of the
 # repository and of the kit, and its line.

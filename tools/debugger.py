@@ -14,7 +14,7 @@ from layout import WIDTH, shortened
 from positions import positions_of
 from predicates import NoPredicate
 from rows import Row
-from sentences import SENTENCES
+from jsoncrdt.oracle.sentences import SENTENCES
 
 MOST_SHOWN = 10
 REFUSED = re.compile(r"refused (\d+) (\w+)(?: at (\d+))?\n")

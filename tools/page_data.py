@@ -1,28 +1,12 @@
-"""What a page of a run holds, packed for the page's script. All of it is what the program tells; nothing is reckoned by
-the rules here.
-
-What differs between two values of JSON is itself one: [0, VALUE] puts the value there; [1, {NAME: CHANGE}, [NAME]]
-changes members and takes members out; [2, PLACE, COUNT, [ITEM]] puts items in place of so many; [3, PLACE, CHANGE]
-changes an item.
-"""
+"""What a page of a run holds, packed for the page's script (page_parts/model.js). All of it is what the program tells;
+nothing is reckoned by the rules here."""
 
 import itertools
 
+from changes import all_effects
+from jsoncrdt.oracle.difference import Order, difference
+
 MOST_RULES = 2000
-
-
-def change_of(old, new):
-    """What leads from one value to the other, or none where they are equal."""
-    if old == new:
-        return None
-    if isinstance(old, dict) and isinstance(new, dict):
-        changed = {name: change_of(old[name], item) if name in old else [0, item] for name, item in new.items()}
-        changed = {name: change for name, change in changed.items() if change}
-        gone = [name for name in old if name not in new]
-        return [1, changed, gone] if gone else [1, changed]
-    if isinstance(old, list) and isinstance(new, list):
-        return change_of_list(old, new)
-    return [0, new]
 
 
 def count_same(pairs):
@@ -30,47 +14,9 @@ def count_same(pairs):
     return sum(1 for _ in itertools.takewhile(lambda pair: pair[0] == pair[1], pairs))
 
 
-def change_of_list(old, new):
-    start = count_same(zip(old, new))
-    end = count_same(zip(reversed(old[start:]), reversed(new[start:])))
-    old, new = old[start:len(old) - end], new[start:len(new) - end]
-    if len(old) == len(new) == 1 and isinstance(old[0], (dict, list)) and type(old[0]) is type(new[0]):
-        return [3, start, change_of(old[0], new[0])]
-    return [2, start, len(old), new]
-
-
-def places(effects, path=()):
-    """Each place of an event's effects with its cursor, the places in a map or a list behind that of their key."""
-    for effect in effects:
-        yield (*path, effect["key"]), effect
-        for tag, word in (("mapT", "map"), ("listT", "list")):
-            yield from places(effect.get(word, ()), (*path, f"{tag}({effect['key']})"))
-
-
-def target_of(operation):
-    """The cursor of the place that an operation is about. An insert is about the element that it makes."""
-    *path, last = operation["cursor"]
-    return (*path, operation["id"] if operation["mutation"] == "insert" else last)
-
-
-def taken_by(effects, targets):
-    """What an event took away: the operations whose value went and whose place is theirs still, those that have nothing
-    at their place any more, and others that were taken out of a presence set above it alone. None where it took nothing.
-    """
-    values, holders, others = {}, {}, {}
-    for place, effect in places(effects):
-        for made in effect.get("lost", ()):
-            (holders if targets[made] == place else others)[made] = True
-        for made, _ in effect.get("taken", ()):
-            values[made] = True
-    found = [[made for made in values if made not in holders], [*holders],
-             [made for made in others if made not in holders and made not in values]]
-    return found if any(found) else None
-
-
 class Rules:
     """The rules and the traces that events have, each trace once, with numbers for both. A trace is three numbers for
-    each run of one rule that goes down in equal steps: the rule, the step from the depth before, and how many there are.
+    each run of one rule that goes down in equal steps: the rule, the step from the depth before, and how many they are.
     """
 
     def __init__(self):
@@ -91,58 +37,76 @@ class Rules:
         return self.traces.setdefault(self.packed(rules), len(self.traces))
 
 
+def takes_away(effects):
+    """Whether something was taken out of a presence set or a register."""
+    return any("lost" in effect or "taken" in effect for top in effects for _, effect in all_effects(top, ()))
+
+
 class Recording:
-    """The events of a run as a page has them, the operations that they made, and what was taken away before them."""
+    """The events of a run as a page has them, the operations that they made, and the events before them that took
+    something away.
+
+    An event has the number of its replica `r`, its kind `k`, its text `e` and the number of its trace `t`; where it has
+    them, its command `c`, the sender `f`, the new identifiers `n`, the operation `o`, the effects `x`, what it bound
+    `v`, and how many `more` rules it used than are in its trace.
+    """
 
     def __init__(self, run, names, rules):
-        self.rules, self.number, self.targets = rules, {name: number for number, name in enumerate(names)}, {}
+        self.rules, self.number = rules, {name: number for number, name in enumerate(names)}
         self.operations, self.earlier, self.events, self.stuck = [], [], [], None
         self.done = dict.fromkeys(names, 0)
-        self.states = dict(zip(names, run.states))
-        self.documents = dict(zip(names, run.documents))
+        self.variables = {state["name"]: state["vars"] for state in run.states}
+        order = Order(names)
+        self.states = [self.packed_state(state, order) for state in run.states]
         for line in run.before:
             self.add_earlier(line)
-        for line, state, document in run.steps():
-            self.add(line, state, document)
+        for index, line in enumerate(run.lines):
+            self.add(line, run.bound.get(index))
+
+    @staticmethod
+    def packed_state(state, order):
+        """The state where the page begins; its tree as the effects that lead there from an empty one."""
+        packed = {name: state[name] for name in ("acted", "left", "ops", "recv", "send", "vars")}
+        return {**packed, "effects": difference({}, state["tree"], order)}
 
     def keep(self, line):
-        """Keeps the operation that the event made, and gives what the event took away."""
+        """Keeps the operation that the event made, and that its command is done."""
         operation = line.get("op")
         if operation and line["kind"] == "exec":
             self.operations.append({**operation, "command": self.done[line["replica"]], "number": line["number"]})
-            self.targets[operation["id"]] = target_of(operation)
         self.done[line["replica"]] += line["kind"] in ("exec", "done")
-        return taken_by(line.get("effects", ()), self.targets)
 
     def add_earlier(self, line):
-        taken = self.keep(line)
-        if taken:
-            self.earlier.append([self.number[line["replica"]], line["op"]["id"], *taken])
+        self.keep(line)
+        if takes_away(line.get("effects", ())):
+            self.earlier.append([self.number[line["replica"]], line["op"]["id"], line["effects"]])
 
-    def add(self, line, state, document):
+    def add(self, line, state):
+        name = line["replica"]
         if "stuck" in line:
-            self.stuck = {**line, "r": self.number[line["replica"]]}
+            self.stuck = {**line, "r": self.number[name]}
             return
-        name, event = line["replica"], {"r": self.number[line["replica"]], "k": line["kind"], "e": line["event"]}
-        old, self.states[name] = self.states[name], state
-        event["c"] = self.done[name] if "command" in line else None
-        event["x"] = self.keep(line)
-        if "op" in line:
-            event["o"] = line["op"]["id"]
-            event["d"] = change_of(self.documents[name], document)
-            self.documents[name] = document
-        event |= {"f": self.number.get(line.get("from")), "n": line.get("new"), "s": change_of(old, state)}
-        event |= {"t": self.rules.number(line["rules"]), "more": max(0, len(line["rules"]) - MOST_RULES) or None}
+        event = {"r": self.number[name], "k": line["kind"], "e": line["event"]}
+        event |= {"c": self.done[name] if "command" in line else None, "f": self.number.get(line.get("from"))}
+        event |= {"n": line.get("new"), "o": line["op"]["id"] if "op" in line else None, "x": line.get("effects")}
+        event |= {"v": self.new_variables(state) if state else None, "t": self.rules.number(line["rules"])}
+        event["more"] = max(0, len(line["rules"]) - MOST_RULES) or None
+        self.keep(line)
         self.events.append({name: member for name, member in event.items() if member is not None})
+
+    def new_variables(self, state):
+        """What the event bound, as in the state behind it."""
+        old, self.variables[state["name"]] = self.variables[state["name"]], state["vars"]
+        return {name: bound for name, bound in state["vars"].items() if old.get(name) != bound}
 
 
 def data_of(run, scenario, first, label, rules):
-    """The data of a run from its position `first` on, as page_parts/model.js reads them."""
+    """The data of a run from its position `first` on."""
     recording = Recording(run, list(scenario.scripts), rules)
     made = first + len(recording.events) + (recording.stuck is not None)
-    return {"label": label, "given": len(scenario.given), "first": first, "states": run.states,
-            "documents": run.documents, "events": recording.events, "operations": recording.operations,
-            "earlier": recording.earlier, "stuck": recording.stuck, "done": recording.done,
+    return {"label": label, "given": len(scenario.given), "first": first, "states": recording.states,
+            "events": recording.events, "operations": recording.operations, "earlier": recording.earlier,
+            "stuck": recording.stuck, "done": recording.done,
             "more": len(scenario.given) + len(scenario.events) - made}
 
 

@@ -13,11 +13,11 @@ import os
 
 import changes
 from asking import document_of, is_in_python, program, told
-from grammar import read
-from program import command_line
-from rules import change, start
-from texts import Texts
-from view import line_of
+from jsoncrdt.oracle.grammar import read
+from jsoncrdt.oracle.program import command_line
+from jsoncrdt.oracle.rules import change, start
+from jsoncrdt.oracle.texts import Texts
+from jsoncrdt.oracle.view import line_of
 
 FEWEST_EVENTS = 1000
 MOST_VIEWS = 1000
@@ -136,13 +136,18 @@ class InPython(Positions):
         command_line(words, io.BytesIO(text.encode()), out, io.StringIO())
         return out.getvalue().decode()
 
-    def views(self, position):
+    def go_to(self, position):
+        """Goes to a position to which the schedule comes, and gives the network there, which is good until the next."""
         if position < self.position:
             self.restart()
         for event in self.parsed.schedule[self.position:position]:
             change(self.network, event, [])
             self.lines[event[1]] = None
         self.position = position
+        return self.network
+
+    def views(self, position):
+        self.go_to(position)
         for number, line in enumerate(self.lines):
             self.lines[number] = line or line_of(self.texts, self.network[number]).decode().rstrip("\n")
         return list(self.lines)

@@ -21,7 +21,7 @@ import time
 
 from asking import BUILT, ROOT
 from crates import PROGRAM_CRATE, below, crates_at, of_program
-from streams import say
+from jsoncrdt.oracle.streams import say
 
 PARTS = ("src", "specs", "proofs")
 OLDEST_KIT = (13, "b")
@@ -359,9 +359,10 @@ class Run:
                             else f"{name}: proved before, here or in another copy")
 
     def fail(self, name, run):
-        """Shows what rt said, but for what it proved."""
+        """Shows what rt said, but for what it proved and what it loaded."""
         self.screen.close()
-        shown = [line for line in run.lines if not line.endswith(": proved")]
+        dull = ": proved$|^(?:library|statements) .*: modules loaded="
+        shown = [line for line in run.lines if not re.search(dull, line)]
         sys.stderr.write("".join(f"{line}\n" for line in shown[-40:]))
         raise NotBuilt(f"{name} isn't proved; what rt said is above")
 

@@ -10,10 +10,10 @@ import json
 import re
 from collections import namedtuple
 
-from grammar import JSON_NUMBER, MOST_REPLICAS, MOST_SELECTORS, NAME_RUN, RESERVED, Scenario, read
-from rules import (DOC, HEAD, LIST, MAP, Network, Stuck, change, cursor_of, element_key, index_of, make_operation,
+from jsoncrdt.oracle.grammar import JSON_NUMBER, MOST_REPLICAS, MOST_SELECTORS, NAME_RUN, RESERVED, Scenario, read
+from jsoncrdt.oracle.rules import (DOC, HEAD, LIST, MAP, Network, Stuck, change, cursor_of, element_key, index_of, make_operation,
                    name_key)
-from texts import REFUSALS, Texts
+from jsoncrdt.oracle.texts import REFUSALS, Texts
 
 TAGGED = re.compile(r"(mapT|listT)\((.*)\)", re.DOTALL)
 IDENTIFIER = re.compile(r"(\d+)@(.*)", re.ASCII)

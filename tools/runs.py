@@ -1,48 +1,21 @@
-"""The run of a scenario, event by event: the line of the journal with rules and effects, and the state and the document
-of the event's replica behind it.
+"""The run of a scenario, event by event: the lines of its journal, with rules and effects, and the states of the
+replicas where it begins. From these the effects lead to the tree at each position, forwards and back, so no other one
+is asked for.
 
-The rules in Python are executed once, in this process. Another program is asked by its commands: by `journal` and by
-`debug` once each, and by `view`, which tells of one position, as often as a replica changes its document once more.
-
-Given events stand in front of those of the schedule, so that one numbering goes through both and their positions can be
-told too. A run has lines alone of the events before its first position, and states and documents from there on.
+The program is asked by `journal` and by `debug`, once each. Given events stand in front of those of the schedule, so
+that one numbering goes through both and their positions can be told too.
 """
 
-import concurrent.futures
-import itertools
 import json
+import os
+from collections import namedtuple
 
-from asking import document_of, is_in_python, program, session, told
-from difference import Order, difference
-from grammar import read
-from journal import Journal, executed
-from layout import Number, read_json
-from rules import Network
-from texts import Texts
-from view import line_of
+from asking import is_in_python, program, session, told
+from changes import journal_with_effects
 
-MOST_CALLS = 4
-
-
-def shown_at(content):
-    """What a view shows at a key, its parts told apart: `v` the values, each with its operation where the view has it,
-    `m` the map, as pairs of a name and what is there, `l` the list."""
-    parts = content.get("!conflict", {"map": content}) if isinstance(content, dict) else \
-        {"list": content} if isinstance(content, list) else {"values": [[None, content]]}
-    found = {}
-    if "values" in parts:
-        found["v"] = [[made, {"n": value} if isinstance(value, Number) else value] for made, value in parts["values"]]
-    if "map" in parts:
-        found["m"] = [[name.removeprefix("!"), shown_at(inside)] for name, inside in parts["map"].items()]
-    if "list" in parts:
-        found["l"] = [shown_at(inside) for inside in parts["list"]]
-    return found
-
-
-def shown_in(line):
-    """The document in a line of a view, its parts told apart; empty where there is none."""
-    text = document_of(line)
-    return shown_at(read_json(text)) if text else {}
+# The lines of the events before a position and of those behind it, and the state of each replica there; and for each
+# event behind it that bound a variable, by its index, its replica's state then.
+Run = namedtuple("Run", "before lines states bound")
 
 
 def one_schedule(scenario, count):
@@ -54,91 +27,42 @@ def one_schedule(scenario, count):
     return "\n".join([*lines, "schedule {", *(f"  {event};" for event in events), "}", ""])
 
 
-class ByRules:
-    """A run by the rules in Python."""
-
-    def __init__(self, scenario, first, count):
-        parsed, _ = read(one_schedule(scenario, count).encode())
-        self.texts, network = Texts(parsed.names), Network(parsed.version, parsed.scripts)
-        self.events = executed(parsed, network, Journal(self.texts, True, True))
-        self.before = [json.loads(line) for line, _ in itertools.islice(self.events, first)]
-        self.states = [self.state(replica) for replica in network]
-        self.documents = [self.document(replica) for replica in network]
-
-    def state(self, replica):
-        return json.loads(self.texts.dump(replica))
-
-    def document(self, replica):
-        return shown_in(line_of(self.texts, replica).decode())
-
-    def steps(self):
-        for text, replica in self.events:
-            line = json.loads(text)
-            document = self.document(replica) if replica and "op" in line else None
-            yield line, replica and self.state(replica), document
+def lines_of(text):
+    """The lines of JSON in a text, which are those that begin with a brace."""
+    return [json.loads(line) for line in text.split("\n") if line.startswith("{")]
 
 
-class ByCommands:
-    """A run by a program that is asked by its commands. It doesn't tell effects: those of the events behind the first
-    position are the difference of the states before and behind each, by which they are defined."""
-
-    def __init__(self, scenario, first, count):
-        self.text, self.names = one_schedule(scenario, count), list(scenario.scripts)
-        journal, _ = told(["journal", "--trace", "-"], self.text)
-        lines = [json.loads(line) for line in journal.split("\n")[:-1]]
-        self.first, self.before, self.lines = first, lines[:first], lines[first:]
-        self.dumps = self.dumped()
-        self.states = list(itertools.islice(self.dumps, len(self.names)))
-        self.documents = list(self.viewed(first).values())
-
-    def dumped(self):
-        """The state of each replica at first, and that of each event's replica behind it."""
-        asked = [f"goto {self.first}", "state"]
-        for line in self.lines:
-            asked += ["step", f"state {line['replica']}"]
-        return (json.loads(answer) for answer in session(self.text, asked).split("\n") if answer.startswith("{"))
-
-    def viewed(self, position):
-        """The document of each replica at a position, by its name."""
-        lines = told(["view", "--at", str(position), "-"], self.text)[0].split("\n")
-        return {name: shown_in(line) for name, line in zip(self.names, lines)}
-
-    def last_views(self):
-        """The positions at which a view is asked for, and whose documents it tells: for each replica the event that
-        changed its document last. A view tells all, so one is due only where a replica changes its document again."""
-        due = {}
-        for position, line in enumerate(self.lines, self.first):
-            if "op" in line:
-                if line["replica"] in due:
-                    yield position, due
-                    due = {}
-                due[line["replica"]] = position
-        yield self.first + len(self.lines), due
-
-    def changed(self):
-        """The document behind each event that changed one, by the event's place."""
-        with concurrent.futures.ThreadPoolExecutor(MOST_CALLS) as pool:
-            asked = [(pool.submit(self.viewed, position), due) for position, due in self.last_views()]
-            return {place: views.result()[name] for views, due in asked for name, place in due.items()}
-
-    def steps(self):
-        documents, states, order = self.changed(), dict(zip(self.names, self.states)), Order(self.names)
-        for place, line in enumerate(self.lines, self.first):
-            if "stuck" in line:
-                yield line, None, None
-                return
-            name, state = line["replica"], next(self.dumps)
-            if "op" in line:
-                line["effects"] = difference(states[name]["tree"], state["tree"], order)
-            states[name] = state
-            yield line, state, documents.get(place)
+def journal_of(text):
+    """The lines of the journal. The program tells no effects yet: those are told by the rules in Python."""
+    lines = lines_of(told(["journal", "--trace", "-"], text)[0])
+    for line, other in zip(lines, lines_of(journal_with_effects(text))):
+        if "op" in line:
+            line["effects"] = other["effects"]
+    return lines
 
 
-def told_by():
-    """Who tells of runs, in words."""
-    return "the rules in Python, of which nothing is proved" if is_in_python() else program()
+def binds(line):
+    """Whether the event's command bound a variable: it made no operation."""
+    return line["kind"] == "exec" and "stuck" not in line and "op" not in line
 
 
 def run_of(scenario, first, count):
-    """The run of the scenario's first events, so many with the given ones, told from the position `first` on."""
-    return (ByRules if is_in_python() else ByCommands)(scenario, first, count)
+    """The run of so many first events of the scenario, given ones too, told from the position `first` on. Where an
+    event before that is stuck there are no states."""
+    text = one_schedule(scenario, count)
+    journal = journal_of(text)
+    before, lines = journal[:first], journal[first:]
+    if before and "stuck" in before[-1]:
+        return Run(before, lines, [], {})
+    binding = [index for index, line in enumerate(lines) if binds(line)]
+    asked = [f"goto {first}", "state"]
+    for index in binding:
+        asked += [f"goto {first + index + 1}", f"state {lines[index]['replica']}"]
+    states, replicas = lines_of(session(text, asked)), len(scenario.scripts)
+    return Run(before, lines, states[:replicas], dict(zip(binding, states[replicas:])))
+
+
+def told_by():
+    """Who tells of runs, in words. A page may be sent to somebody, so where the program is isn't said."""
+    in_python = "the rules in Python, of which nothing is proved"
+    return in_python if is_in_python() else f"{os.path.basename(program())}; what events changed, by {in_python}"

@@ -1,13 +1,13 @@
 // What is chosen, and the cards of documents: one for each set of replicas that have applied the same operations.
 
-const MOST_OPEN = 6, FEW_OPERATIONS = 24;
+const MOST_OPEN = 6, FEW_OPERATIONS = 24, MOST_BRIEF = 300;
 
 const isDiff = runs.length > 1, SIDES = ["A", "B"];
 const { first, given } = runs[0];
 const last = Math.max(...runs.map(run => run.last));
 
-// The position, the run whose details are shown, an operation that is kept in sight, the tab, the replica whose state is
-// shown where that isn't the event's, and the documents that are open where they are many.
+// The position, the run whose details are shown, an operation that is kept in sight, the tab, the replica whose state
+// is shown where that isn't the event's, and the documents that are open where they are many.
 const chosen = { at: last, side: 0, operation: undefined, tab: "event", replica: undefined, open: new Set() };
 
 const theRun = () => runs[chosen.side];
@@ -23,8 +23,7 @@ function summed(run, count, all, isOne) {
 
 /** The replicas whose documents in the two runs differ, each run being at a position. */
 function differing(replicas, [one, other], [at, there]) {
-  const textOn = (run, r, position) => textOfDocument(run.documentAt(r, position));
-  return replicas.filter(r => textOn(one, r, at) !== textOn(other, r, there));
+  return replicas.filter(r => one.documentAt(r, at) !== other.documentAt(r, there));
 }
 
 /** Whether the replicas have the same document in the other run. */
@@ -36,7 +35,7 @@ function beside(run, group, at) {
 }
 
 function headOfCard(run, group, r, at) {
-  const count = new Set(group.map(each => textOfDocument(run.documentAt(each, at)))).size;
+  const count = new Set(group.map(each => run.documentAt(each, at))).size;
   const show = () => {
     Object.assign(chosen, { side: run.side, replica: r });
     pickTab("state");
@@ -50,11 +49,10 @@ function headOfCard(run, group, r, at) {
 
 /** The document of an open card, and the operations that lost something in it. */
 function openDocument(run, r, at, all) {
-  const lost = run.lostAt(r, at), event = run.eventAt(positionOn(run)), hasChanged = event?.r === r && event.o;
-  const before = hasChanged ? wholeDocument(run, r, at - 1) : undefined;
-  const isLost = each => each.lossAt(r, at);
+  const lost = run.lostAt(r, at), isLost = each => each.lossAt(r, at);
+  const event = run.isStuck(positionOn(run)) ? undefined : run.ownEventAt(r, at);
   return [lost > 0 && h("div", { class: "note" }, "deleted or overwritten: ", summed(run, lost, all, isLost)),
-    h("div", { class: "doc" }, shownDocument(wholeDocument(run, r, at), before))];
+    h("div", { class: "doc" }, shownDocument(wholeDocument(run, r, at, event)))];
 }
 
 function closedDocument(run, r, at, key) {
@@ -63,7 +61,7 @@ function closedDocument(run, r, at, key) {
     drawDocuments();
   };
   return h("div", { class: "brief" }, h("button", { class: "more", type: "button", onclick: open }, "show"), " ",
-    inLine(run.documentAt(r, at)));
+    run.documentAt(r, at).slice(0, MOST_BRIEF) || "nothing yet");
 }
 
 function card(run, group, at, isFirst) {
@@ -85,7 +83,7 @@ function drawDocuments() {
     const position = positionOn(run), at = run.made(position), actor = run.actorAt(position);
     const groups = run.groupsAt(at).sort((one, other) => other.includes(actor) - one.includes(actor));
     documentHeads[run.side].textContent = `Documents at ${run.nameOf(at)}`;
-    documentBodies[run.side].replaceChildren(...groups.map((group, place) =>
-      card(run, group, at, place === 0 || groups.length <= MOST_OPEN)));
+    documentBodies[run.side].replaceChildren(...groups.map((group, index) =>
+      card(run, group, at, index === 0 || groups.length <= MOST_OPEN)));
   }
 }

@@ -17,8 +17,8 @@ function shownMutation({ mutation, value, cursor }) {
 /** All that there is to say of an operation. */
 function operationPanel(run, each, at, isPinned) {
   const isConcurrent = other => other !== each && !each.knows(other) && !other.knows(each);
-  const deps = Object.entries(each.deps).map(([name, counter], place) =>
-    [place > 0 && ", ", `${name}'s up to `, chip(`${counter}@${name}`)]);
+  const deps = Object.entries(each.deps).map(([name, counter], index) =>
+    [index > 0 && ", ", `${name}'s up to `, chip(`${counter}@${name}`)]);
   const close = h("button", { class: "close", type: "button", "aria-label": "Close", onclick: () => choose() }, "✕");
   return h("section", { class: "panel operation", "data-operation": each.id },
     h("h3", {}, "Operation ", chip(each.id), isPinned && close),
@@ -38,7 +38,8 @@ function sentenceOf(run, event) {
     case "exec": return [name, " executes ", h("code", {}, run.commandOf(event)),
       event.o ? [", which makes ", chip(event.o), " and applies it here."] : "."];
     case "send": return [name, " offers ", brought, isNew && " to all that receive from it", "."];
-    case "recv": return [name, " receives from ", who(event.f), ": ", brought, isNew && ". None of it is applied yet", "."];
+    case "recv": return [name, " receives from ", who(event.f), ": ", brought,
+      isNew && ". None of it is applied yet", "."];
     case "take": return [name, " takes from ", who(event.f), ": ", brought, isNew && ". It isn't applied yet", "."];
     case "apply": return [name, " applies ", chip(event.o), ", which ", who(each.maker), " made at ",
       goTo(run, each.made + 1), "."];
@@ -46,19 +47,21 @@ function sentenceOf(run, event) {
   }
 }
 
-/** What the event took away at its replica: of some operations the value, of others all that they had put. */
-function takenBy(event) {
-  const [values, holders] = (event.x ?? [[], []]).map(ids => ids.toSorted(byIdentifier));
-  return h("dl", { class: "facts taken" }, values.length > 0 && fact("overwrites", false, chips(values, 6)),
-    holders.length > 0 && fact("takes away", false, chips(holders, 6)));
+/** What the event that led to this position took away: of some operations the value alone, of others all that they had
+ * put. */
+function takenBy(run, r, at) {
+  const taken = run.inOrder.filter(({ losses }) => losses.get(r)?.index === at - 1);
+  const idsOf = isHolder => taken.filter(({ losses }) => losses.get(r).isHolder === isHolder).map(({ id }) => id);
+  const row = (label, ids) => ids.length > 0 && fact(label, false, chips(ids.sort(byIdentifier), 6));
+  return h("dl", { class: "facts taken" }, row("overwrites", idsOf(false)), row("takes away", idsOf(true)));
 }
 
 /** The rules of an event in runs: one rule that goes down in equal steps is one row where there are many. */
 function rulesOf(event) {
   const packed = data.traces[event.t], rows = [];
   let depth = 0, count = event.more ?? 0;
-  for (let place = 0; place < packed.length; place += 3) {
-    const [number, step, times] = packed.slice(place, place + 3), rule = data.rules[number];
+  for (let index = 0; index < packed.length; index += 3) {
+    const [number, step, times] = packed.slice(index, index + 3), rule = data.rules[number];
     if (times > FEW_TIMES) rows.push({ rule, depth: depth + step, times, step });
     else for (let turn = 1; turn <= times; turn++) rows.push({ rule, depth: depth + step * turn, times: 1 });
     depth += step * times;
@@ -69,7 +72,8 @@ function rulesOf(event) {
 
 function shownRule({ rule, depth, times, step }) {
   const often = times > 1 && h("span", { class: "times" }, `× ${times}${step ? ", each a level deeper" : ""}`);
-  const far = depth > MOST_STEPS && h("span", { class: "times" }, `${depth}`), style = { "--depth": Math.min(depth, MOST_STEPS) };
+  const far = depth > MOST_STEPS && h("span", { class: "times" }, `${depth}`);
+  const style = { "--depth": Math.min(depth, MOST_STEPS) };
   return h("div", { class: "rule", role: "listitem", "aria-level": depth + 1, style }, far,
     h("button", { type: "button", "data-rule": rule }, rule), often,
     h("span", { class: "words" }, prose(data.texts[rule].words)));
@@ -78,9 +82,10 @@ function shownRule({ rule, depth, times, step }) {
 function rulesTree(event) {
   const { rows, count } = rulesOf(event), list = h("div", { class: "tree", role: "list" });
   const draw = most => {
-    const more = h("button", { class: "more", type: "button", onclick: () => draw(Infinity) }, `show ${rows.length - most} more`);
+    const drawAll = () => draw(Infinity), others = rows.length - most;
+    const more = h("button", { class: "more", type: "button", onclick: drawAll }, `show ${others} more`);
     const left = h("p", { class: "none" }, `${event.more} more rules aren't in this page; journal --trace has them`);
-    list.replaceChildren(...rows.slice(0, most).map(shownRule), ...rows.length > most ? [more] : event.more ? [left] : []);
+    list.replaceChildren(...shownOf([rows.slice(0, most).map(shownRule), others > 0 ? more : event.more && left]));
   };
   draw(MOST_RULES);
   return [h("h3", { class: "part" }, "Rules", h("span", {}, countOf(count, "rule"))), list];
@@ -111,7 +116,7 @@ function eventTab(run, at) {
   }
   const isGiven = run.first + at <= run.given;
   parts.push(h("p", { class: "sentence" }, isGiven && h("span", { class: "none" }, "given: "), sentenceOf(run, event)));
-  parts.push(takenBy(event));
+  parts.push(takenBy(run, event.r, at));
   if (event.o && event.o !== chosen.operation) parts.push(operationPanel(run, run.operations.get(event.o), at, false));
   return [parts, rulesTree(event)];
 }

@@ -1,91 +1,63 @@
-// Documents: what a view shows, joined with the operations and elements that the state has at the same places, compared
-// with what was there before, and drawn.
+// Documents, as `view` shows them: what is at each place of a replica's tree, with the operations for which it is
+// there, and what the last event changed there.
 
 const MOST_NODES = 1500, MOST_DEPTH = 40, LONG_LIST = 400, AROUND = 40, FEWEST_LETTERS = 3, FLAT = 50;
 
-/** The elements of a list's context that are shown, in the list's order. */
-function elementsOf(context) {
-  const ids = [];
-  for (let at = get(context, "next(head)"); at && at !== "tail"; at = get(context, `next(${at})`)) {
-    if (get(context, `pres(${at})`)?.length) ids.push(at);
-  }
+/** Whether something is seen that is there now or was there before: at the time `now`, at the time `before`, or at
+ * `both`, where what is there at one of them alone has a mark. */
+function seen(time, isNow, was) {
+  if (time !== "both") return (time === "now" ? isNow : was) ? { time } : undefined;
+  if (isNow && was) return { time };
+  if (isNow) return { time: "now", mark: "fresh" };
+  return was ? { time: "before", mark: "gone" } : undefined;
+}
+
+/** The operations that were present before the effect. */
+function presentBefore({ present }, { gained = [], lost = [] }) {
+  const ids = new Set([...present, ...lost]);
+  for (const id of gained) ids.delete(id);
   return ids;
 }
 
-/** What is at a key, as the view has it: its values with their operations, its map and its list with the keys of what is
- * in them. */
-function joined(content, context, key) {
-  const node = {};
-  if (content.v) {
-    const ids = Object.keys(get(context, `regT(${key})`) ?? {});
-    node.values = content.v.map(([id, value]) => ({ id: id ?? (ids.length === 1 ? ids[0] : undefined), value }));
-  }
-  if (content.m) {
-    const inside = get(context, `mapT(${key})`);
-    node.map = content.m.map(([name, each]) => ({ id: name, node: joined(each, inside, JSON.stringify(name)) }));
-  }
-  if (content.l) {
-    const inside = get(context, `listT(${key})`), ids = elementsOf(inside);
-    node.list = content.l.map((each, place) => ({ id: ids[place], node: joined(each, inside, ids[place]) }));
-  }
-  return node;
+/** The values at a place, by their operations; those that are gone first. */
+function valuesAt({ register = new Map() }, { taken = [], written = [] }, time) {
+  const fresh = new Set(written.map(([id]) => id));
+  const gone = taken.map(([id, value]) => ({ id, value, ...seen(time, false, true) }));
+  const now = [...register].sort(([one], [other]) => byIdentifier(one, other))
+    .map(([id, value]) => ({ id, value, ...seen(time, true, !fresh.has(id)) }));
+  return [...gone, ...now].filter(value => value.time);
 }
 
-const wholeDocument = (run, r, at) => joined(run.documentAt(r, at), run.stateAt(r, at).tree, "doc");
-
-// What was before and what is now, in one: what is new has the mark `fresh`, what was taken away the mark `gone`.
-
-function byCodePoints(one, other) {
-  const [first, second] = [[...one], [...other]];
-  const place = first.findIndex((letter, number) => letter !== second[number]);
-  if (place < 0 || place >= second.length) return first.length - second.length;
-  return first[place].codePointAt(0) - second[place].codePointAt(0);
+/** The parts that are in a map or a list. Those that are gone stand where they were. */
+function partsOf(run, context, effects, isMap, depth, time) {
+  const effectOf = new Map(effects.map(effect => [effect.key, effect]));
+  return (isMap ? namesOf(context) : elementsOf(context)).flatMap(({ id, key }) => {
+    const place = context.get(key), effect = effectOf.get(key) ?? {}, isNow = place.present.size > 0;
+    const found = seen(time, isNow, effect.shown === undefined ? isNow : !effect.shown);
+    return found ? [{ id, mark: found.mark, node: nodeOf(run, place, effect, depth, found.time) }] : [];
+  });
 }
 
-const withMark = (part, mark) => ({ ...part, mark });
-
-/** The parts of a map or a list, each with its mark. Those that are gone stand where they were. */
-function merged(before, now, isMap) {
-  if (!before || !now) return (now ?? before).map(part => withMark(part, now ? "fresh" : "gone"));
-  const had = new Map(before.map(part => [part.id, part])), has = new Set(now.map(part => part.id));
-  const shown = part => had.has(part.id) ? { ...part, node: compared(had.get(part.id).node, part.node) }
-    : withMark(part, "fresh");
-  if (isMap) {
-    const gone = before.filter(part => !has.has(part.id)).map(part => withMark(part, "gone"));
-    return [...gone, ...now.map(shown)].sort((a, b) => byCodePoints(a.id, b.id));
-  }
-  const parts = [];
-  let place = 0;
-  const passGone = () => {
-    for (; place < before.length && !has.has(before[place].id); place++) parts.push(withMark(before[place], "gone"));
-  };
-  for (const part of now) {
-    passGone();
-    if (had.has(part.id)) place++;
-    parts.push(shown(part));
-  }
-  passGone();
-  return parts;
-}
-
-/** Values of a register with their marks, those that are gone first. A value is known by its operation and its text. */
-function mergedValues(before = [], now = []) {
-  const nameOf = ({ id, value }) => `${id} ${JSON.stringify(value)}`;
-  const had = new Set(before.map(nameOf)), has = new Set(now.map(nameOf));
-  return [...before.filter(value => !has.has(nameOf(value))).map(value => withMark(value, "gone")),
-    ...now.map(value => had.has(nameOf(value)) ? value : withMark(value, "fresh"))];
-}
-
-function compared(before, now) {
-  if (!before || before === now) return now;
-  const node = {};
-  if (before.values || now.values) node.values = mergedValues(before.values, now.values);
+/** What is at a place, so deep in the document: its values, and its map and its list where an operation that is present
+ * there goes on into them, or has put them. The effect is what the event that is looked at changed there. */
+function nodeOf(run, place, effect, depth, time) {
+  const partsBy = ids => new Set([...ids].map(id => run.operations.get(id).parts[depth]));
+  const now = partsBy(place.present), was = partsBy(presentBefore(place, effect));
+  const values = valuesAt(place, effect, time), node = values.length ? { values } : {};
   for (const part of ["map", "list"]) {
-    if (!before[part] && !now[part]) continue;
-    node[part] = merged(before[part], now[part], part === "map");
-    if (!before[part] || !now[part]) node[`${part}Mark`] = now[part] ? "fresh" : "gone";
+    const found = seen(time, now.has(part), was.has(part));
+    if (!found) continue;
+    node[part] = partsOf(run, place[part], effect[part] ?? [], part === "map", depth + 1, found.time);
+    node[`${part}Mark`] = found.mark;
   }
   return node;
+}
+
+/** The document of a replica. With the event that led to this position, what it made is marked as `fresh`, and what it
+ * took away stands there with the mark `gone`. */
+function wholeDocument(run, r, at, event) {
+  const place = run.treeAt(r, at).get("doc"), [effect] = event?.x ?? [];
+  return place ? nodeOf(run, place, effect ?? {}, 0, effect ? "both" : "now") : {};
 }
 
 // What is drawn.
@@ -134,10 +106,10 @@ function shownValue({ id, value }, text = textOf(value)) {
 /** Letters, one after the other, as they would be read. */
 function shownLetters(parts) {
   const out = [];
-  for (let place = 0; place < parts.length;) {
-    const { mark } = parts[place], start = place;
-    while (place < parts.length && parts[place].mark === mark) place++;
-    out.push(marked(mark, parts.slice(start, place).map(({ node }) => {
+  for (let index = 0; index < parts.length;) {
+    const { mark } = parts[index], start = index;
+    while (index < parts.length && parts[index].mark === mark) index++;
+    out.push(marked(mark, parts.slice(start, index).map(({ node }) => {
       const [value] = node.values;
       return shownValue(value, value.value < " " ? textOf(value.value).slice(1, -1) : value.value);
     })));
@@ -152,26 +124,26 @@ function hasMark({ mark, node }) {
   return [node?.values, node?.map, node?.list].some(inside => inside?.some(hasMark));
 }
 
-/** The places of a long list or map that are drawn: its beginning, its end, and what is near a mark. */
+/** The indexes of what is drawn of a long list or map: its beginning, its end, and what is near a mark. */
 function nearMarks(parts) {
   const near = new Set(), end = parts.length - 1;
-  const add = place => {
-    for (let each = Math.max(0, place - AROUND); each <= Math.min(end, place + AROUND); each++) near.add(each);
+  const add = index => {
+    for (let each = Math.max(0, index - AROUND); each <= Math.min(end, index + AROUND); each++) near.add(each);
   };
   add(0);
   add(end);
-  for (const [place, part] of parts.entries()) if (hasMark(part)) add(place);
+  for (const [index, part] of parts.entries()) if (hasMark(part)) add(index);
   return near;
 }
 
 /** The parts as they are drawn: one by one, runs of letters as a text, and of a long list what is near a mark. */
 function itemsOf(parts, isMap) {
   const near = parts.length > LONG_LIST ? nearMarks(parts) : undefined, items = [];
-  const kindAt = place => near && !near.has(place) ? "skipped" : !isMap && isLetter(parts[place]) ? "letters" : "part";
-  for (let place = 0; place < parts.length;) {
-    const start = place, kind = kindAt(start);
-    do place++; while (place < parts.length && kindAt(place) === kind);
-    const run = parts.slice(start, place);
+  const kindAt = index => near && !near.has(index) ? "skipped" : !isMap && isLetter(parts[index]) ? "letters" : "part";
+  for (let index = 0; index < parts.length;) {
+    const start = index, kind = kindAt(start);
+    do index++; while (index < parts.length && kindAt(index) === kind);
+    const run = parts.slice(start, index);
     if (kind === "skipped") items.push({ skipped: run.length });
     else if (kind === "letters" && run.length >= FEWEST_LETTERS) items.push({ letters: run });
     else items.push(...run.map(part => ({ part })));
@@ -196,12 +168,12 @@ function shownParts(parts, isMap, depth) {
   if (!parts.length) return open + close;
   if (depth >= MOST_DEPTH) return [open, h("span", { class: "none" }, " … deeper "), close];
   const flat = isFlat(parts, isMap), items = itemsOf(parts, isMap), rows = [];
-  for (const [place, item] of items.entries()) {
+  for (const [index, item] of items.entries()) {
     if (budget.left <= 0) {
-      rows.push(h(flat ? "span" : "div", { class: "none" }, ` … ${items.length - place} more`));
+      rows.push(h(flat ? "span" : "div", { class: "none" }, ` … ${items.length - index} more`));
       break;
     }
-    const out = shownItem(item, isMap, depth), comma = place + 1 < items.length && ",";
+    const out = shownItem(item, isMap, depth), comma = index + 1 < items.length && ",";
     rows.push(flat ? [out, comma && ", "] : h("div", {}, out, comma));
   }
   return flat ? [open, rows, close] : [open, h("div", { class: "in" }, rows), close];
@@ -212,45 +184,31 @@ function shown(node, depth = 0) {
   const kinds = (node.values ?? []).map(value => ({ mark: value.mark, made: value.id, out: shownValue(value) }));
   for (const part of ["map", "list"]) {
     if (!node[part]) continue;
-    // Where all of it is new or gone, its parts need no marks of their own.
-    const mark = node[`${part}Mark`], parts = mark ? node[part].map(each => withMark(each)) : node[part];
-    kinds.push({ mark, name: part, out: shownParts(parts, part === "map", depth) });
+    kinds.push({ mark: node[`${part}Mark`], name: part, out: shownParts(node[part], part === "map", depth) });
   }
   const count = countNow(node);
-  if (count <= 1) return kinds.map(({ mark, out }, place) => [place > 0 && " ", marked(mark, out)]);
+  if (count <= 1) return kinds.map(({ mark, out }, index) => [index > 0 && " ", marked(mark, out)]);
   return h("span", { class: "conflict" }, h("span", { class: "label" }, `conflict: ${count} alternatives`),
     kinds.map(({ mark, name, made, out }) => h("div", {}, made ? chip(made) : h("span", { class: "key" }, name),
       h("span", {}, marked(mark, out)))));
 }
 
-function shownDocument(now, before) {
+function shownDocument(node) {
   budget.left = MOST_NODES;
-  const node = compared(before, now), isEmpty = !node.values && !node.map && !node.list;
-  return isEmpty ? h("div", { class: "none" }, "nothing yet") : h("div", { class: "json" }, shown(node));
+  const isNothing = !node.values && !node.map && !node.list;
+  return isNothing ? h("div", { class: "none" }, "nothing yet") : h("div", { class: "json" }, shown(node));
 }
 
-const inForm = ({ v, m, l }) => [v ?? 0, m?.map(([name, each]) => [name, inForm(each)]) ?? 0, l?.map(inForm) ?? 0];
-
-const textsOfDocuments = new WeakMap();
-
-/** A text that two documents share where they are the same. */
-function textOfDocument(content) {
-  if (!textsOfDocuments.has(content)) textsOfDocuments.set(content, JSON.stringify(inForm(content)));
-  return textsOfDocuments.get(content);
-}
-
-/** The beginning of a document, in a line. */
-function inLine({ v, m, l }, most = 200) {
-  const list = (each, open, close, inside) => {
-    let text = open;
-    for (const [place, one] of each.entries()) {
-      if (text.length > most) return `${text}…`;
-      text += (place ? ", " : "") + inside(one);
-    }
-    return text + close;
-  };
-  const parts = (v ?? []).map(([, value]) => textOf(value));
-  if (m) parts.push(list(m, "{", "}", ([name, each]) => `${JSON.stringify(name)}: ${inLine(each, most)}`));
-  if (l) parts.push(list(l, "[", "]", each => inLine(each, most)));
-  return parts.length > 1 ? `⟨${parts.join(" | ")}⟩` : parts[0] ?? "nothing yet";
+/** The text of a document in which nothing has a mark, as `view` writes it. */
+function textOfDocument({ values = [], map, list }) {
+  const nameOf = ({ id }) => JSON.stringify(id.startsWith("!") ? `!${id}` : id);
+  const parts = [
+    list && ["list", `[${list.map(({ node }) => textOfDocument(node)).join(",")}]`],
+    map && ["map", `{${map.map(part => `${nameOf(part)}:${textOfDocument(part.node)}`).join(",")}}`],
+  ].filter(Boolean);
+  if (values.length + parts.length === 1) return parts.length ? parts[0][1] : textOf(values[0].value);
+  if (!values.length && !parts.length) return "";
+  const pairs = values.map(({ id, value }) => `["${id}",${textOf(value)}]`);
+  if (values.length) parts.push(["values", `[${pairs.join(",")}]`]);
+  return `{"!conflict":{${parts.map(([name, text]) => `"${name}":${text}`).join(",")}}}`;
 }

@@ -27,7 +27,7 @@ const h = (tag, attributes, ...children) => fill(document.createElement(tag), at
 const s = (tag, attributes, ...children) => fill(document.createElementNS(SVG, tag), attributes, children);
 
 /** A text of docs/, which has code between backquotes. */
-const prose = text => text.split("`").map((part, place) => place % 2 ? h("code", {}, part) : part);
+const prose = text => text.split("`").map((part, index) => index % 2 ? h("code", {}, part) : part);
 
 const countOf = (number, word) => `${number} ${word}${number === 1 ? "" : "s"}`;
 
@@ -78,5 +78,5 @@ function chips(ids, most = 8, fresh = undefined) {
 /** The first ones as words, and how many more there are. */
 function some(ids, most = 4) {
   const more = ids.length > most ? [` and ${ids.length - most} more`] : [];
-  return [...ids.slice(0, most).flatMap((id, place) => [place ? " " : "", { op: id }]), ...more];
+  return [...ids.slice(0, most).flatMap((id, index) => [index ? " " : "", { op: id }]), ...more];
 }

@@ -1,26 +1,20 @@
 // What became of an operation at a replica, as tools/fate says it at the end. Which event took away what it had put is
-// what the events' effects tell, and that it is there what the replica's state says of its place.
-
-/** What an operation puts at the place of another one, or goes on into there, by its cursor: a value, a map, a list. */
-function partAt(each, { path }) {
-  if (each.path.length > path.length) return each.path[path.length].startsWith("mapT(") ? "map" : "list";
-  return each.isPlain ? "value" : Array.isArray(each.value) ? "list" : "map";
-}
+// what the effects tell, and so is what is at its place.
 
 function fateOf(run, each, r, at) {
   if (each.made >= at) return { fate: "not made" };
   if (!each.isApplied(r, at)) return each.isReceived(r, at) ? fateReceived(run, each, r, at) : { fate: "not received" };
   if (each.mutation === "delete") return { fate: "applied", took: each.took.get(r) ?? [] };
-  const context = each.path.reduce((inside, tagged) => get(inside, tagged), run.stateAt(r, at).tree);
-  const present = get(context, `pres(${each.target})`) ?? [], values = get(context, `regT(${each.target})`) ?? {};
-  const isThere = each.isPlain ? Object.hasOwn(values, each.id) : present.includes(each.id);
-  if (!isThere) return fateTaken(run, each.lossAt(r, at), present);
-  if ([...each.path.map(keyIn), each.target].includes("head")) return { fate: "hidden" };
-  const own = partAt(each, each), conflict = present.filter(id => {
-    const part = partAt(run.operations.get(id), each);
-    return id !== each.id && (part === "value" ? Object.hasOwn(values, id) : part !== own);
+  const place = placeOf(run.treeAt(r, at), each), loss = each.lossAt(r, at);
+  const isHead = each.keys.includes("head");
+  if (loss) return fateTaken(run, loss, isHead ? [] : [...place.present]);
+  if (isHead) return { fate: "hidden" };
+  const depth = each.keys.length - 1, own = each.parts.at(-1);
+  const conflict = [...place.present].filter(id => {
+    const part = run.operations.get(id).parts[depth];
+    return id !== each.id && (part === "value" ? place.register.has(id) : part !== own);
   });
-  return conflict.length ? { fate: "visible", conflict } : { fate: "visible" };
+  return conflict.length ? { fate: "visible", conflict: conflict.sort(byIdentifier) } : { fate: "visible" };
 }
 
 function fateReceived(run, each, r, at) {
@@ -28,12 +22,12 @@ function fateReceived(run, each, r, at) {
   return { fate: "received", waits };
 }
 
-/** The fate where an event took away what the operation had put at its place. The page may begin behind that event. */
-function fateTaken(run, loss, present) {
-  if (!loss) return { fate: "gone" };
-  const fate = run.operations.get(loss.by).mutation === "delete" ? "deleted" : "overwritten";
-  const kept = loss.isHolder && present.length ? { kept: present } : {};
-  return { fate, by: loss.by, at: loss.place + 1, ...kept };
+/** The fate where an event took away what the operation had put at its place, at which these are present now. The page
+ * may begin behind that event. */
+function fateTaken(run, { by, index, isHolder }, present) {
+  const fate = run.operations.get(by).mutation === "delete" ? "deleted" : "overwritten";
+  const kept = isHolder && present.length ? { kept: present.sort(byIdentifier) } : {};
+  return { fate, by, at: index + 1, ...kept };
 }
 
 /** The words of a fate, in which operations are chips. */
@@ -44,7 +38,6 @@ function wordsOf(run, { fate, by, at, took, conflict, kept, waits }) {
     case "hidden": return ["kept, and no document shows it"];
     case "applied": return listed("applied, took away ", took, "applied, there was nothing to take away");
     case "received": return listed("received, waits for ", waits, "received, can be applied");
-    case "gone": return ["deleted or overwritten before this page begins"];
     case "not received": return ["not received"];
     case "not made": return ["not made yet"];
     default: return [`${fate} by `, { op: by }, at > 0 ? ` at ${run.calledAt(at)}` : " before this page begins",
@@ -54,7 +47,7 @@ function wordsOf(run, { fate, by, at, took, conflict, kept, waits }) {
 
 // The colour of a fate's sign, and the order in which they are told.
 const SIGNS = {
-  visible: "there", hidden: "partly", applied: "there", overwritten: "gone", deleted: "gone", gone: "gone",
+  visible: "there", hidden: "partly", applied: "there", overwritten: "gone", deleted: "gone",
   received: "away", "not received": "away", "not made": "away",
 };
 const ORDER_OF_SIGNS = ["there", "partly", "gone", "away"];

@@ -8,7 +8,8 @@ const yOf = row => row * ROW + ROW / 2;
 
 /** The sign of an event, by its kind. */
 function shape(kind, x, y, scale, attributes) {
-  const at = (dx, dy) => `${x + dx * scale},${y + dy * scale}`, withClass = word => ({ class: `${attributes.class} ${word}` });
+  const at = (dx, dy) => `${x + dx * scale},${y + dy * scale}`;
+  const withClass = word => ({ class: `${attributes.class} ${word}` });
   const circle = (r, more) => s("circle", { cx: x, cy: y, r: r * scale, ...attributes, ...more });
   const polygon = (points, more) =>
     s("polygon", { points: points.map(point => at(...point)).join(" "), ...attributes, ...more });
@@ -55,9 +56,9 @@ function rowsOf(run) {
     if (at > 0 && at === begin) rows.push({ kind: "mark", text: "position 0, the schedule begins" });
     if (at === parting) rows.push({ kind: "mark", text: "the schedules part here" });
   };
-  for (const place of run.events.keys()) {
-    mark(place);
-    rows.push({ kind: "event", at: place + 1 });
+  for (const index of run.events.keys()) {
+    mark(index);
+    rows.push({ kind: "event", at: index + 1 });
   }
   mark(run.end);
   if (run.stuck) rows.push({ kind: "stuck", at: run.last });
@@ -109,9 +110,9 @@ class Lanes {
     return this.width < 13 ? .62 : this.width < 20 ? .8 : 1;
   }
 
-  /** The row of an event by its place; that of the start for what was before. */
-  rowOf(place) {
-    return this.rowAt.get(place + 1);
+  /** The row of an event by its index; that of the start for what was before. */
+  rowOf(index) {
+    return this.rowAt.get(index + 1);
   }
 
   /** Reckons how wide the columns are, and writes their names. */
@@ -204,8 +205,8 @@ class Lanes {
 
   way({ each, r, made, received, applied }, at, strong) {
     const x = this.x(r), y = yOf(this.rowOf(received)), colour = colours[each.maker], side = each.maker < r ? -1 : 1;
-    const path = (place, d, more = "") =>
-      s("path", { class: `way${more}${strong}${place >= at ? " later" : ""}`, colour, d });
+    const path = (index, d, more = "") =>
+      s("path", { class: `way${more}${strong}${index >= at ? " later" : ""}`, colour, d });
     const parts = [path(received, curve(this.x(each.maker), yOf(this.rowOf(made)), x, y))];
     if (applied !== undefined) {
       const end = yOf(this.rowOf(applied)), out = x + side * Math.min(this.width * .42, 13);

@@ -49,7 +49,8 @@ const LEGEND = {
 
 function legend(run) {
   const isThere = kind => kind === "stuck" ? run.stuck : kind !== "take" || run.events.some(({ k }) => k === "take");
-  const sign = kind => s("svg", { viewBox: "-7 -7 14 14" }, shape(kind, 0, 0, 1, { class: "shape", colour: "var(--muted)" }));
+  const sign = kind => s("svg", { viewBox: "-7 -7 14 14" },
+    shape(kind, 0, 0, 1, { class: "shape", colour: "var(--muted)" }));
   return h("div", { class: "legend", "aria-hidden": "true" },
     Object.keys(LEGEND).filter(isThere).map(kind => h("span", {}, sign(kind), LEGEND[kind])));
 }
@@ -84,10 +85,11 @@ const linkTo = (at, text) => h("button", { type: "button", onclick: () => go(at)
 /** How the run ends, in a sentence. */
 function verdict(run) {
   const groups = run.groupsAt(run.end), end = run.more ? `at ${run.nameOf(run.end)}` : "at the end";
-  if (run.stuck) return verdictOf("bad", linkTo(last, `stuck at ${run.calledAt(run.last)}: ${run.stuck.stuck} ${run.stuck.cause}`));
+  const { stuck } = run, where = run.calledAt(run.last);
+  if (stuck) return verdictOf("bad", linkTo(last, `stuck at ${where}: ${stuck.stuck} ${stuck.cause}`));
   if (names.length === 1) return verdictOf("open", "one replica");
   if (groups.length > 1) return verdictOf("open", `${end} there are ${groups.length} different sets of operations`);
-  const isSame = new Set(names.map((_, r) => textOfDocument(run.documentAt(r, run.end)))).size === 1;
+  const isSame = new Set(names.map((_, r) => run.documentAt(r, run.end))).size === 1;
   return isSame ? verdictOf("", `${end} all have the same operations, and the same document`)
     : verdictOf("bad", `${end} all have the same operations, but not the same document`);
 }
@@ -111,11 +113,12 @@ const HELP = [
   ...isDiff ? [[["a", "b"], "details of the first, of the second schedule"]] : [],
   [["Esc"], "lets go of an operation"],
 ];
-const shownKey = (key, place) => [place > 0 && " ", h("kbd", {}, key)];
+const shownKey = (key, index) => [index > 0 && " ", h("kbd", {}, key)];
 
 const help = h("dialog", { "aria-label": "Help" }, h("h2", {}, "Keys"),
   h("dl", {}, HELP.map(([keys, text]) => [h("dt", {}, keys.map(shownKey)), h("dd", {}, text)])),
-  h("p", {}, "What became of an operation: put the pointer on it, or go to it by the tab key. A click keeps it in sight."),
+  h("p", {}, "What became of an operation: put the pointer on it, or go to it by the tab key. ",
+    "A click keeps it in sight."),
   h("p", {}, "Elements of one letter each are written one behind the other, on a ground of their own."),
   h("p", {}, `Told by ${data.by}.`),
   h("form", { method: "dialog" }, h("button", {}, "Close")));
@@ -135,7 +138,8 @@ function play(stop = false) {
 }
 
 function drawPosition() {
-  const run = theRun(), at = positionOn(run), isStuck = run.isStuck(at), name = isStuck ? run.numberOf(at) : run.nameOf(at);
+  const run = theRun(), at = positionOn(run), isStuck = run.isStuck(at);
+  const name = isStuck ? run.numberOf(at) : run.nameOf(at);
   const total = run.first + run.last + run.more - given, event = run.eventAt(at);
   const said = isStuck ? `stuck: ${run.stuck.stuck} ${run.stuck.cause}` : event ? event.e : "start";
   slider.value = chosen.at;
@@ -178,7 +182,8 @@ let writing;
 function keepAddress() {
   clearTimeout(writing);
   writing = setTimeout(() => {
-    const words = [`at=${first + chosen.at - given}`, chosen.side && "side=B", chosen.operation && `op=${chosen.operation}`];
+    const words = [`at=${first + chosen.at - given}`, chosen.side && "side=B"];
+    if (chosen.operation) words.push(`op=${chosen.operation}`);
     const text = `#${words.filter(Boolean).join("&")}`;
     if (location.hash !== text) history.replaceState(null, "", text);
   }, 150);
@@ -201,7 +206,7 @@ function letGo() {
 /** What each key does, where the focus is on this element. */
 function keysOf(target) {
   const run = theRun(), own = run.own[run.actorAt(positionOn(run)) ?? 0];
-  const before = own.findLast(place => place + 1 < chosen.at), behind = own.find(place => place + 1 > chosen.at);
+  const before = own.findLast(index => index + 1 < chosen.at), behind = own.find(index => index + 1 > chosen.at);
   const step = count => () => go(chosen.at + count);
   return {
     ArrowLeft: step(-1), ArrowRight: step(1), PageUp: step(-10), PageDown: step(10),

@@ -1,70 +1,63 @@
-// The state of a replica: its document with what is deleted, with the presence set of each key and the links of lists,
-// its operations, and its script. What the last event added is marked.
+// The state of a replica: its tree, which has what is deleted, too, with the presence set of each key and the links of
+// lists; its operations; and its script. What the last event added is marked.
 
-/** The identifiers of a list that weren't there before. */
-const freshIn = (ids, before) => new Set(!before || before === ids ? [] : ids.filter(id => !before.includes(id)));
-
-function shownPresence(context, before, key) {
-  const ids = get(context, `pres(${key})`);
-  if (!ids) return h("span", { class: "tag" }, " no presence set");
-  if (!ids.length) return h("span", { class: "tag" }, " empty presence set: it isn't shown");
-  const fresh = before && freshIn(ids, get(before, `pres(${key})`) ?? []);
-  return [h("span", { class: "tag" }, " present by "), chips(ids, 5, fresh)];
+function shownPresence({ present }, { gained = [] }) {
+  if (!present.size) return h("span", { class: "tag" }, " present by none: it isn't shown");
+  return [h("span", { class: "tag" }, " present by "), chips([...present].sort(byIdentifier), 5, new Set(gained))];
 }
 
-function shownRegister(register, before) {
-  const pairs = Object.entries(register);
+function shownRegister(register, written) {
+  const fresh = new Set(written.map(([id]) => id)), pairs = [...register];
   if (!pairs.length) return h("div", { class: "in" }, h("span", { class: "tag" }, "register, empty"));
-  const isFresh = id => before && !Object.hasOwn(before, id);
-  return h("div", { class: "in" }, pairs.map(([id, value]) =>
-    h("div", { class: isFresh(id) ? "reg fresh" : "reg" }, chip(id), textOf(value))));
+  return h("div", { class: "in" }, pairs.sort(([one], [other]) => byIdentifier(one, other)).map(([id, value]) =>
+    h("div", { class: fresh.has(id) ? "reg fresh" : "reg" }, chip(id), textOf(value))));
 }
 
-/** What is at a key of a context, all of it; `before` is the context before the last event, where that is asked. */
-function stateAtKey(context, before, key, label, depth = 0) {
+/** All that is at a key. The effect is what the last event changed there. */
+function stateOfPlace(place, effect, label, depth = 0) {
   budget.left--;
-  const [register, map, list] = ["regT", "mapT", "listT"].map(tag => get(context, `${tag}(${key})`));
-  const [hadRegister, hadMap, hadList] = ["regT", "mapT", "listT"].map(tag => get(before, `${tag}(${key})`));
-  const isHeld = (get(context, `pres(${key})`) ?? []).length > 0, parts = [];
-  if (register) parts.push(shownRegister(register, before && (hadRegister ?? {})));
-  if (depth >= MOST_DEPTH && (map || list)) parts.push(h("span", { class: "none" }, " … deeper"));
+  const parts = [];
+  if (place.register) parts.push(shownRegister(place.register, effect.written ?? []));
+  if (depth >= MOST_DEPTH && (place.map || place.list)) parts.push(h("span", { class: "none" }, " … deeper"));
   else {
-    if (map) parts.push(stateOfMap(map, before && (hadMap ?? {}), depth + 1));
-    if (list) parts.push(stateOfList(list, before && (hadList ?? {}), depth + 1));
+    if (place.map) parts.push(stateOfMap(place.map, effect.map ?? [], depth + 1));
+    if (place.list) parts.push(stateOfList(place.list, effect.list ?? [], depth + 1));
   }
-  return h("div", { class: isHeld ? "entry" : "entry dead" }, h("span", { class: "name" }, label),
-    shownPresence(context, before, key), budget.left > 0 ? parts : h("span", { class: "none" }, " …"));
+  return h("div", { class: place.present.size ? "entry" : "entry dead" }, h("span", { class: "name" }, label),
+    shownPresence(place, effect), budget.left > 0 ? parts : h("span", { class: "none" }, " …"));
 }
 
-const CONTENT = /^(mapT|listT|regT)\(/;
+const effectAt = (effects, key) => effects.find(effect => effect.key === key) ?? {};
 
-function stateOfMap(context, before, depth) {
-  const keys = [...new Set(Object.keys(context).filter(entry => CONTENT.test(entry)).map(keyIn))].sort(byCodePoints);
-  return h("div", { class: "in" }, h("div", { class: "tag" }, keys.length ? "map" : "map, without entries"),
-    keys.map(key => stateAtKey(context, before, key, key, depth)));
+function stateOfMap(map, effects, depth) {
+  const places = namesOf(map);
+  return h("div", { class: "in" }, h("div", { class: "tag" }, places.length ? "map" : "map, without entries"),
+    places.map(({ key }) => stateOfPlace(map.get(key), effectAt(effects, key), key, depth)));
 }
 
-function stateOfList(context, before, depth) {
-  const rows = [h("div", { class: "tag" }, "list")];
-  const isOfHead = entry => !entry.startsWith("next(") && keyIn(entry) === "head";
-  if (Object.keys(context).some(isOfHead)) rows.push(stateAtKey(context, before, "head", "head", depth));
-  for (let key = get(context, "next(head)"); key && key !== "tail"; key = get(context, `next(${key})`)) {
+function stateOfList(list, effects, depth) {
+  const rows = [h("div", { class: "tag" }, "list")], head = list.get("head");
+  if (head.present.size || head.register || head.map || head.list) {
+    rows.push(stateOfPlace(head, effectAt(effects, "head"), "head", depth));
+  }
+  for (const { key } of elementsOf(list)) {
     if (budget.left <= 0) {
       rows.push(h("div", { class: "none" }, "…"));
       break;
     }
-    const isNew = before && get(before, `next(${key})`) === undefined;
+    const effect = effectAt(effects, key), isNew = effect.next?.[0] === null;
     const label = [h("span", { class: "tag" }, "→ "), chip(key)];
-    rows.push(h("div", { class: isNew && "fresh" }, stateAtKey(context, before, key, label, depth)));
+    rows.push(h("div", { class: isNew && "fresh" }, stateOfPlace(list.get(key), effect, label, depth)));
   }
   if (rows.length === 1) rows.push(h("div", { class: "tag" }, "without elements"));
   return h("div", { class: "in" }, rows);
 }
 
-function stateOfTree(tree, before) {
+function stateOfTree(root, effects) {
   budget.left = MOST_NODES;
-  if (!Object.keys(tree).length) return h("p", { class: "none" }, "no document yet");
-  return h("div", { class: "ctx" }, stateAtKey(tree, before, "doc", "doc"));
+  const place = root.get("doc");
+  if (!place) return h("p", { class: "none" }, "no document yet");
+  return h("div", { class: "ctx" }, stateOfPlace(place, effects[0] ?? {}, "doc"));
 }
 
 /** The key texts of a cursor as they are gone through. */
@@ -79,25 +72,49 @@ function shownBinding({ cursor, keys, values }) {
 
 const fact = (label, isFresh, ...shown) => [h("dt", {}, label), h("dd", { class: isFresh && "fresh" }, shown)];
 
-const OPERATIONS_OF_STATE = {
-  ops: "applied (ops)", queue: "made (queue)", send: "offered (send)", recv: "received (recv)",
-};
+/** The sets of operations in a state: the name, whether an operation is in it, and which an event brought into it. */
+const SETS = [
+  ["applied (ops)", (each, r, at) => each.isApplied(r, at), ({ o }) => o ? [o] : []],
+  ["made (queue)", (each, r, at) => each.maker === r && each.made < at, ({ k, o }) => k === "exec" && o ? [o] : []],
+  ["offered (send)", (each, r, at) => each.maker === r && each.offered < at, ({ k, n }) => k === "send" ? n : []],
+  ["received (recv)", (each, r, at) => each.isReceived(r, at), ({ k, n = [] }) => k === "send" ? [] : n],
+];
+
+const setsAt = (run, r, at) => SETS.map(([, isIn]) =>
+  run.inOrder.filter(each => isIn(each, r, at)).map(({ id }) => id).sort(byIdentifier));
+
+/** The variables of a replica, each with what it is bound to. */
+function variablesAt(run, r, at) {
+  const bound = run.own[r].filter(index => index < at).map(index => run.events[index].v ?? {});
+  return new Map([run.told.states[r].vars, ...bound].flatMap(Object.entries));
+}
+
+/** Whether the replica did anything since its last yield ended. */
+function hasActed(run, r, at) {
+  const last = run.own[r].findLast(index => index < at && run.events[index].k !== "exec");
+  return last === undefined ? run.told.states[r].acted : run.events[last].k !== "done";
+}
+
+function shownScript(run, r, at, { k, v }) {
+  const left = run.leftAt(r, at), hasRun = k === "exec" || k === "done";
+  return h("dl", { class: "facts" },
+    fact("commands left", hasRun, `${left} of ${data.scripts[r].count}`),
+    left > 0 && fact("next command", false, h("code", {}, run.nextCommand(r, at) ?? "…")),
+    fact("acted", false, hasActed(run, r, at) ? "yes, so its yield can end" : "no"),
+    [...variablesAt(run, r, at)].map(([name, binding]) =>
+      fact(h("code", {}, name), Object.hasOwn(v ?? {}, name), shownBinding(binding))));
+}
 
 /** All of the state at a position. */
 function shownState(run, r, at) {
-  const state = run.stateAt(r, at), before = run.eventAt(at)?.r === r ? run.stateAt(r, at - 1) : undefined;
-  const isFresh = name => before && JSON.stringify(before[name]) !== JSON.stringify(state[name]);
+  const event = run.ownEventAt(r, at) ?? {};
   return [
-    h("h3", { class: "part" }, "Document, with what is deleted"), stateOfTree(state.tree, before?.tree),
+    h("h3", { class: "part" }, "Document, with what is deleted"), stateOfTree(run.treeAt(r, at), event.x ?? []),
     h("h3", { class: "part" }, "Operations"),
-    h("dl", { class: "facts" }, Object.entries(OPERATIONS_OF_STATE).map(([name, label]) =>
-      fact(label, false, chips(state[name], 8, freshIn(state[name], before?.[name]))))),
-    h("h3", { class: "part" }, "Script"),
-    h("dl", { class: "facts" },
-      fact("commands left", isFresh("left"), `${state.left} of ${data.scripts[r].count}`),
-      state.left > 0 && fact("next command", false, h("code", {}, run.nextCommand(r, at) ?? "…")),
-      fact("acted", isFresh("acted"), state.acted ? "yes, so its yield can end" : "no"),
-      Object.entries(state.vars).map(([name, binding]) =>
-        fact(h("code", {}, name), isFresh("vars"), shownBinding(binding)))),
+    h("dl", { class: "facts" }, setsAt(run, r, at).map((ids, index) => {
+      const [label, , brought] = SETS[index];
+      return fact(label, false, chips(ids, 8, new Set(brought(event))));
+    })),
+    h("h3", { class: "part" }, "Script"), shownScript(run, r, at, event),
   ];
 }
