@@ -25,6 +25,7 @@ case $1 in
             shift
         fi
         ended=0
+        [ ! -e "${0%/*}/noting" ] || . "${0%/*}/noting"
         echo "rt: $1: ${KNOWN:-0} of its 2 must-fail edits were tried by an earlier run on this machine"
         for edit in crates/"$1"/must-fail/*.edit; do
             told=$(cat "$edit")
@@ -57,6 +58,7 @@ FILES = {
     "crates/jc_b/must-fail/of_the_gate.edit": NOT_REFUSED,
 }
 RECORD = "dev/more-edits.txt"
+PROGRESS = r"^more-edits: (\w+): (\d+) edits tried in \d+ s; (\d+) are left, and (\d+) of other crates\n"
 # What a run that tries the edits of a crate tells.
 KNOWN = "rt: {}: 0 of its 2 must-fail edits were tried by an earlier run on this machine\n"
 TRIED = {name: KNOWN.format(name) + "".join(f"rt: must-fail {name}/{edit}.edit: {REFUSED}" for edit in ("one", "two"))
@@ -76,8 +78,9 @@ def more_edits(folder, *words):
 
 
 def expect_end(folder, words, status, output="", told=""):
-    """dev/more-edits ends so, and tells this on its streams."""
+    """dev/more-edits ends so, and tells this on its streams, beside how far it is."""
     ended = more_edits(folder, *words)
+    ended = *ended[:2], re.sub(PROGRESS, "", ended[2], flags=re.MULTILINE)
     expect(ended == (status, output, told), f"{words} ended with {ended[0]}, and told\n{ended[1]}{ended[2]}")
 
 
@@ -86,8 +89,7 @@ def crates():
     """A folder with three crates, each on the one before, that have edits, and with the script."""
     with folder_of({"rt": TRYING, "dev/more-edits": stored("dev/more-edits")}) as folder:
         for path in ("dev/statements.py", "tools/crates.py", "python/jsoncrdt/__init__.py",
-                     "python/jsoncrdt/choosing.py", "python/jsoncrdt/oracle/__init__.py",
-                     "python/jsoncrdt/oracle/streams.py"):
+                     "python/jsoncrdt/choosing.py", "oracle/__init__.py", "oracle/streams.py"):
             write(folder, path, stored(path))
         for path, text in FILES.items():
             write(folder, path, text)
@@ -308,6 +310,80 @@ def has_times(_):
             expect(all(began <= each <= time.time() for each in told), f"{lines}")
 
 
+# Notes which edits are tried together, for how many processors, how many such runs there are then, and what is built in
+# the copy. Two wait for each other.
+NOTING = """at=${0%/*}
+mkdir "$at/under_way/$$"
+for second in 1 2 3 4 5 6 7 8 9 10; do
+    [ "$(ls "$at/under_way" | wc -l)" -lt "$TOGETHER" ] || break
+    sleep 1
+done
+echo "$1 ${RT_JOBS:-any} $(ls "$at/under_way" | wc -l)" $(cd "crates/$1/must-fail" && ls) >>"$at/noted"
+(cd crates && find */out -type f | sort) >"$at/built"
+sleep 0.2
+rmdir "$at/under_way/$$"
+"""
+BUILT_PARTS = {f"crates/{name}/out/{part}": "" for name in NAMES for part in (
+    f"{name}", f"rlib/{name}.rlib/format", "incremental/one/some.oantt", "incremental/one/judged")}
+
+
+def noted(folder, words, together):
+    """What is noted of the portions that these words lead to, and how far the script told to be."""
+    for name in ("noted", "under_way"):
+        shutil.rmtree(f"{folder}/{name}", ignore_errors=True)
+    write(folder, "noted", "")
+    os.mkdir(f"{folder}/under_way")
+    ended = called(folder, ["dev/more-edits", *words], TOGETHER=str(together), TMPDIR=f"{folder}/room")
+    expect(ended.returncode == 0, f"{ended}")
+    lines = [line.replace(".edit", "").split() for line in read(folder, "noted").splitlines()]
+    return lines, re.findall(PROGRESS, ended.stderr.decode(), re.MULTILINE)
+
+
+def has_portions(_):
+    """Edits are tried in portions, of 8 at most, so many at once as it was asked for, each in a copy that goes."""
+    with crates() as folder:
+        for path, text in {**BUILT_PARTS, "noting": NOTING, "room/kept": ""}.items():
+            write(folder, path, text)
+        for number in range(17):
+            write(folder, f"crates/jc_b/more-edits/edit{number:02}.edit", REFUSED)
+        lines, told = noted(folder, ["jc_b"], 1)
+        expect_same([line[:3] for line in lines], [["jc_b", "any", "1"]] * 3)
+        expect_same([len(line[3:]) for line in lines], [7, 6, 6])
+        expect_same(sorted(edit for line in lines for edit in line[3:]),
+                    sorted(["one", "two", *(f"edit{number:02}" for number in range(17))]))
+        expect_same(told, [("jc_b", "7", "12", "0"), ("jc_b", "6", "6", "0"), ("jc_b", "6", "0", "0")])
+        expect_same(read(folder, "built").split(), [
+            "jc_a/out/rlib/jc_a.rlib/format", "jc_b/out/incremental/one/judged", "jc_b/out/incremental/one/some.oantt"])
+        lines, told = noted(folder, ["--jobs", "2", "jc_a", "jc_c"], 2)
+        expect_same(sorted(line[0] for line in lines), ["jc_a", "jc_a", "jc_c", "jc_c"])
+        expect_same([len(line[3:]) for line in lines], [1] * 4)
+        expect({line[1] for line in lines} == {"1"} and max(line[2] for line in lines) == "2", f"{lines}")
+        expect_end(folder, ["--check"], 0)
+        for _ in range(100):
+            if os.listdir(f"{folder}/room") == ["kept"]:
+                break
+            time.sleep(0.1)
+        expect_same(os.listdir(f"{folder}/room"), ["kept"])
+
+
+# Interrupts the script where one is tried.
+INTERRUPTING = """case $(ls "crates/$1/must-fail") in *one*) kill -INT "$PPID"; exec sleep 10 ;; esac
+"""
+
+
+def keeps_portions(_):
+    """An interrupted run has recorded what came of the portions that ended, and the next one tries the others."""
+    with crates() as folder:
+        write(folder, "noting", INTERRUPTING)
+        for number in range(7):
+            write(folder, f"crates/jc_b/more-edits/a{number}.edit", REFUSED)
+        expect_same(more_edits(folder, "jc_b")[0], 130)
+        os.remove(f"{folder}/noting")
+        status, output, _ = more_edits(folder, "jc_b")
+        expect_same((status, re.findall(r"jc_b/(\w+)\.edit", output)), (0, ["a1", "a3", "a5", "one"]))
+        expect_end(folder, ["--check", "jc_b"], 0)
+
+
 def needs_rt(_):
     with crates() as folder:
         os.remove(f"{folder}/rt")
@@ -435,6 +511,8 @@ def gate():
         yield word_case(*row)
     yield "more-edits: a crate that isn't proved as it stands", is_proved_first
     yield "more-edits: times", has_times
+    yield "more-edits: portions", has_portions
+    yield "more-edits: an interruption", keeps_portions
     yield "more-edits: without rt", needs_rt
     yield "more-edits: the old form of the record", takes_old_form
     for row in NEWER:
