@@ -228,23 +228,23 @@ class Tree:
         sums = {sum_of(path, file.head) for path, file in heads}
         names = frozenset().union(*(file.scope.mentioned(file.head)[0] for _, file in heads))
         for (path, item), (_, _, new) in zip(functions, pairs):
-            file = self.files(name)[path]
-            names |= file.scope.mentioned(new)[0]
-            for each in self.proved_together(file, item):
+            names |= self.files(name)[path].scope.mentioned(new)[0]
+            for at, each in self.proved_together(name, path, item):
                 sums.add(each.whole)
                 names |= each.all_mentions.union(each.names, *each.owners or ())
-            for proof in self.proofs(name, path, item):
-                sums.add(sum_of(proof, self.texts(name)[proof]))
-                names |= self.mentioned_in(name, proof)
+                for proof in self.proofs(name, at, each):
+                    sums.add(sum_of(proof, self.texts(name)[proof]))
+                    names |= self.mentioned_in(name, proof)
         key = sum_of("reached", self.sum_of_all(name), *sorted(names))
         return {"own": sum_of(*sorted(sums)),
                 "reached": self.kept.of(key, lambda: sum_of(*self.stated(name).reached_from(names)))}
 
-    @staticmethod
-    def proved_together(file, item):
-        """The function, and those of its cycle."""
-        return [each for each in file.items
-                if each is item or each.place and item.place[2] and each.place[2] == item.place[2]]
+    def proved_together(self, name, path, item):
+        """The function and those that have its cycle's name, each with its file."""
+        yield path, item
+        if cycle := item.place[2]:
+            yield from ((at, each) for at, file in self.files(name).items() for each in file.items
+                        if each is not item and each.place and each.place[2] == cycle)
 
     def sum_of_edit(self, name, edit):
         parts = self.parts(name, edit)

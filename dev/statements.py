@@ -206,7 +206,7 @@ class Source(Reader):
         elif kind in ("use", "ghost use"):
             self.pass_on(block)
         elif kind == "mod" and "{" not in block:
-            pass
+            self.head += [block] if block.lstrip().startswith("#[") else []
         elif kind == "fn":
             self.take_function(block, name)
         elif kind == "impl":

@@ -327,6 +327,16 @@ pub fn near() -> u8
 {
     2
 }
+
+#[cycle(round)]
+fn ping() -> u8 {
+    pong()
+}
+
+#[cycle(round)]
+fn pong() -> u8 {
+    ping()
+}
 """
 REACHING = {
     "crates/jc_a/src/lib.rt": LOWEST,
@@ -339,15 +349,17 @@ REACHING = {
     "crates/jc_c/proofs/top/Answers.antt": "use Rattle.jc_a.proofs.Lemmas.{lem}\n\nreturns : goal.returns\n"
                                            "returns c = lem\n",
     "crates/jc_c/proofs/near/Answers.antt": "returns : goal.returns\nreturns c = refl\n",
+    "crates/jc_c/proofs/+round/Answers.antt": "returns : goal.returns\nreturns c = refl\n",
     **{f"crates/jc_c/more-edits/{name}.edit": f"{REFUSED}file: src/lib.rt\n{pairs}" for name, pairs in {
         "both": "old:     pair.first()\nnew:     3\nfile: src/lib.rt\nold:     2\nnew:     4\n",
         "line": "old: u8 = 3\nnew: u8 = 4\n",
         "near": "old:     2\nnew:     3\n",
+        "ping": "old:     pong()\nnew:     5\n",
         "top": "old:     pair.first()\nnew:     2\n"}.items()},
 }
 A, C = "crates/jc_a/src/lib.rt", "crates/jc_c/src/lib.rt"
 DEFINITIONS, PROOFS = "crates/jc_a/specs/Ones.antt", "crates/jc_a/proofs/Lemmas.antt"
-EACH = ["both", "line", "near", "top"]
+EACH = ["both", "line", "near", "ping", "top"]
 OF_TOP = ["both", "line", "top"]
 # What is changed, where, and which edits then want trying. One changes a line outside of functions: it stands on all of
 # its crate and on all statements below.
@@ -379,6 +391,9 @@ REACHED = {
     "what an import leads to": (C, "jc_b::middle", "jc_b::other::middle", OF_TOP),
     "the function's contract": (C, "≡ 1", "≡ 2", OF_TOP),
     "the function's body": (C, "^    let pair", "    let one = 1;\n    let pair", OF_TOP),
+    "the body of a function of its cycle": (C, r"^    ping\(\)", "    let one = 1;\n    ping()", ["line", "ping"]),
+    "the proof of its cycle": ("crates/jc_c/proofs/+round/Answers.antt", "= refl", "= (refl)", ["line", "ping"]),
+    "an attribute of a module": (C, r"\A", "#[tactic(auto)]\nmod more;\n", EACH),
     "another function's body": (C, "^    2$", "    let one = 1;\n    2", ["both", "line", "near"]),
     "an attribute of all functions": (C, r"\A", "#![tactic(auto)]\n", EACH),
     "the function's proof": ("crates/jc_c/proofs/top/Answers.antt", "= lem", "= (lem)", OF_TOP),
@@ -411,7 +426,7 @@ def reached_case(what):
                 write(folder, path, text)
             else:
                 replace(folder, path, pattern, text)
-            wrong = {"jc_c": wanting(*edits, of=4)} if edits else {}
+            wrong = {"jc_c": wanting(*edits, of=5)} if edits else {}
             expect_end(folder, ["--check"], int(bool(edits)), "", told_of(wrong) if edits else "")
 
     return f"more-edits: --check and {what}", tried
