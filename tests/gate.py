@@ -193,11 +193,16 @@ unfolding one
 lem-one n = n
 
 abbrev two : N
-two = 2 -- it is
+two = 2
 
 module _ (n : N) where
+  -- why
   pub three : N
   three = n
+
+module Named where
+  pub four : N
+  four = 4
 
 mutual
   pub data Tree : Type where
@@ -229,12 +234,48 @@ STATED = (
 DEFINED = (
     (True, [(["lem-one"], "pub lem-one : (n : N)\n  → one n\n"), (["two"], "abbrev two : N\ntwo = 2\n"),
             (["three"], "module _ (n : N) where\n  pub three : N\n"),
+            (["Named"], "module Named where\n  pub four : N\n  four = 4\n"),
             (["Tree", "leaf"], "mutual\n  pub data Tree : Type where\n    leaf : Tree\nmore\n")]),
     (False, [(["lem-one"], "pub lem-one : (n : N)\n  → one n\nunfolding one\nlem-one n = n\n"),
              (["two"], "abbrev two : N\ntwo = 2\n"),
              (["three"], "module _ (n : N) where\n  pub three : N\n  three = n\n"),
-             (["Tree", "leaf"], "mutual\n  pub data Tree : Type where\n    leaf : Tree\nmore\n")]),
+             (["Named"], "module Named where\n  pub four : N\n  four = 4\n"),
+            (["Tree", "leaf"], "mutual\n  pub data Tree : Type where\n    leaf : Tree\nmore\n")]),
 )
+
+
+# A source with these imports, texts of it, and the names of items that they mention.
+IMPORTS = """use jc_a::deep::{Pair, far as near_by};
+ghost use Rattle.jc_a.specs.Ones.{is_one, ◌⊑◌};
+ghost use Rattle.jc_a.specs.declared.deep.Pair.TheVariants as P;
+ghost use Rattle.jc_a.specs.Twos as twos;
+
+fn own() {
+    1
+}
+"""
+MENTIONED = (
+    ("near_by(x)", "far near_by"),
+    ("own() + other()", "own"),
+    ("pair.first.second().third", "second"),
+    ("pair.first::<u8>()", "first"),
+    ("Pair::<u8>::new(1)", "Pair new"),
+    ("<Pair as Show>::show", "Pair show"),
+    ("Pair::new, jc_a::deep::far", "Pair new far jc_a"),
+    ("a..pair.len()", "len"),
+    ("is_one result.now", "Rattle.jc_a.specs.Ones Rattle.jc_a.specs.Ones.is_one"),
+    ("a ⊑ b", "Rattle.jc_a.specs.Ones Rattle.jc_a.specs.Ones.◌⊑◌"),
+    ("P.Left", "Left Pair TheVariants"),
+    ("twos.four", "Rattle.jc_a.specs.Twos Rattle.jc_a.specs.Twos.four"),
+    ("Rattle.jc_b.proofs.Some.lem x", "Rattle.jc_b.proofs.Some Rattle.jc_b.proofs.Some.lem"),
+    ("#[tactic(auto, using(crate::proofs::Some::lem))]",
+     "Some lem crate Rattle.jc_b.proofs.Some Rattle.jc_b.proofs.Some.lem"),
+)
+
+
+def mentioned_case(text, names):
+    scope = Source("jc_b/src/lib.rt", IMPORTS).read().scope
+    return f"more-edits: names in {text}", lambda _: expect_same(scope.mentioned(text)[0] - {"◌"}, {*names.split()})
 
 
 def stated(reader):
@@ -790,6 +831,8 @@ def gate():
     yield from map(hole_case, HOLES)
     for row in STATED:
         yield source_case(*row)
+    for row in MENTIONED:
+        yield mentioned_case(*row)
     for row in DEFINED:
         yield theory_case(*row)
     yield from map(reached_case, REACHED)
