@@ -34,7 +34,8 @@ KIND = re.compile(r"^(?:pub(?:\([a-z]+\))? )?(ghost use|use|mod|struct|enum|trai
 # An import, which may stand inside an impl or a function, and whether others have it too.
 IMPORT = re.compile(r"^ *(pub(?:\([a-z]+\))? )?(?:ghost )?use ([^;]*);", re.MULTILINE)
 # A name or a path, with the sign before it where it goes on from what isn't one, and that of a call behind it.
-PATH = re.compile(r"(::|(?<!\.)\.)?((?:[^\W\d]|◌)[\w'◌]*(?:-[\w'◌]+)*(?:(?:\.|::)[\w'◌]+(?:-[\w'◌]+)*)*)(?=(\(|::<)?)")
+PATH = re.compile(r"(::|(?<!\.)\.)?((?:[^\W\d]|◌)[\w'◌]*(?:-[\w'◌]+)*"
+                  r"(?:(?:\.|::)[\w'◌]+(?:-[\w'◌]+)*)*)(?=(\(|::<)?)")
 # What a declaration of a definition, of a lemma or of another module begins with, and its name.
 DECLARES = re.compile(r"((?:(?:pub|abbrev|unfoldable|data|record|ruleset|mutual|axiom|pattern|use|mod|module|"
                       r"infix[lr]?)(?: |$))*)([^\s(){}\[\],:]*)", re.MULTILINE)

@@ -13,7 +13,7 @@ import time
 from cases import IN_TEST, expect, expect_same, folder_of, place, stored
 from crates import BUILT, lack_of_built
 from dependencies import Kept, Tree
-from statements import Source, Theory
+from statements import Source, Theory, sum_of
 
 # A command rt for which an edit comes to what its file has beside its pairs of lines. A crate isn't proved that has a
 # file `unproved`.
@@ -131,6 +131,13 @@ def line_by_hand(folder):
     replace(folder, RECORD, "^jc_b edit one .*$", line)
 
 
+def short_by_hand(folder):
+    """Of what an edit stands on only the first sum is left, with the right sum of the crate's lines."""
+    replace(folder, RECORD, r"^(jc_b edit one \w{12})\S+", r"\1")
+    lines = re.findall("^jc_b edit .*$", read(folder, RECORD), re.MULTILINE)
+    replace(folder, RECORD, "^jc_b tried .*$", f"jc_b tried {sum_of('more-edits', *lines)}")
+
+
 def verdict_by_hand(folder):
     write(folder, "crates/jc_b/more-edits/one.edit", NOT_REFUSED)
     more_edits(folder)
@@ -173,6 +180,7 @@ HOLES = {
                                        {"jc_c": "crates.txt hasn't this crate"}),
     "another kit": (append("kit"), {name: BOTH for name in NAMES}),
     "a sum by hand": (line_by_hand, {"jc_b": NO_RUN, "jc_c": BOTH}),
+    "a shorter line by hand": (short_by_hand, {"jc_b": wanting("one")}),
     "a verdict by hand": (verdict_by_hand, {"jc_b": NO_RUN}),
     "a line less": (lambda folder: replace(folder, RECORD, "^jc_b edit two .*\n", ""), {"jc_b": NO_RUN}),
     "no sum of the lines": (lambda folder: replace(folder, RECORD, "^jc_b tried .*\n", ""), {"jc_b": NO_RUN}),
@@ -699,7 +707,12 @@ def has_portions(_):
         expect_same(told, [("jc_b", "7", "12", "0"), ("jc_b", "6", "6", "0"), ("jc_b", "6", "0", "0")])
         expect_same(read(folder, "built").split(), [
             "jc_a/out/rlib/jc_a.rlib/format", "jc_b/out/incremental/one/judged", "jc_b/out/incremental/one/some.oantt"])
-        lines, told = noted(folder, ["--jobs", "2", "jc_a", "jc_c"], 2)
+        append("crates/jc_b/src/lib.rt")(folder)
+        many = f"19 of its 19 edits want trying: {', '.join(f'edit{number:02}' for number in range(8))}, and 11 more"
+        expect_end(folder, ["--check", "jc_b"], 1, "", told_of({"jc_b": many}))
+        lines, _ = noted(folder, ["--anew", "jc_b"], 1)
+        expect_same([len(line[3:]) for line in lines], [19])
+        lines, _ = noted(folder, ["--jobs", "2", "jc_a", "jc_c"], 2)
         expect_same(sorted(line[0] for line in lines), ["jc_a", "jc_a", "jc_c", "jc_c"])
         expect_same([len(line[3:]) for line in lines], [1] * 4)
         expect({line[1] for line in lines} == {"1"} and max(line[2] for line in lines) == "2", f"{lines}")
