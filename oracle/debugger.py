@@ -13,10 +13,9 @@ MOST_BREAKPOINTS = 256
 MOST_STEPS = 100_000
 MOST_COPIES, SHORTEST_WAY = 12, 64
 
-# Where a request led: why the next event was stuck, with that event; the breakpoint that was met; whether it came to the
-# end of the schedule, or back to its start.
+# How a move ended: at an event that is stuck, or at a breakpoint, with that, or at the schedule's end or its start.
 Move = collections.namedtuple("Move", "stuck hit is_end is_start", defaults=(None, None, False, False))
-# A failed event: its cause, the event, and its number in the schedule.
+# An event that is stuck: why, the event, and its number in the schedule.
 Failed = collections.namedtuple("Failed", "cause event number")
 
 

@@ -132,6 +132,10 @@ class Served(Debugger):
         """What answers a request that goes somewhere."""
         return lambda *rest: self.moved(getattr(self, word)(*rest))
 
+    def key_of(self, stuck):
+        """The text of the key that is missing, where one is."""
+        return stuck.key and string(self.texts.tagged(stuck.key))
+
     def line_of_stuck(self, failed, network):
         journal = Journal(self.texts, traced=False)
         return journal.stuck(failed.number, failed.event, network, failed.cause, False).rstrip(b"\n")
@@ -288,9 +292,11 @@ class Served(Debugger):
         stuck, event = loom.left.get(p, (None, None))
         how = b"stuck" if stuck else b"limit" if replica.left else b"finished"
         made = number(sum(event[1] == p for event in loom.schedule))
-        more = {"cause": string(REFUSALS[stuck.number].encode()), "event": string(self.texts.event(event)),
-                "key": stuck.key and string(self.texts.tagged(stuck.key)), "stuck": number(stuck.number)} if stuck else {}
-        return object_with(end=string(how), made=made, name=string(self.texts.names[p]), **more)
+        ended = {"end": string(how), "made": made, "name": string(self.texts.names[p])}
+        if not stuck:
+            return object_with(**ended)
+        return object_with(**ended, cause=string(REFUSALS[stuck.number].encode()), stuck=number(stuck.number),
+                           event=string(self.texts.event(event)), key=self.key_of(stuck))
 
 
 class Unreached(Exception):
@@ -350,7 +356,7 @@ class Subject:
         except Unreached as unreached:
             return self.served.unreached(unreached.failed)
         except Stuck as stuck:
-            return refused(stuck.number, key=stuck.key and string(self.texts.tagged(stuck.key)))
+            return refused(stuck.number, key=self.served.key_of(stuck))
 
     def without_start(self, word, *rest):
         """What is answered where a given event is stuck."""
