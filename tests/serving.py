@@ -55,19 +55,21 @@ def answers_about(text, requests_of_it):
 GIVEN = """jsoncrdt 2 replica a { doc.get("a") := 1; doc.get("a") := 2; yield } replica b { yield }
 given { a.exec; a.exec; a.send } schedule { b.take(a, 2, a); b.apply(2, a) }"""
 FIRST_GIVEN = ('{"command":"doc.get(\\"a\\") := 1",%s"event":"a.exec","given":true,"kind":"exec","number":1,'
-               '"op":{"cursor":["mapT(doc)","\\"a\\""],"deps":{},"id":"1@a","mutation":"assign","value":{"n":"1"}},"replica":"a"}')
+               '"op":{"cursor":["mapT(doc)","\\"a\\""],"deps":{},"id":"1@a","mutation":"assign","value":{"n":"1"}},'
+               '"replica":"a"}')
 FIRST_EFFECTS = ('"effects":[{"gained":["1@a"],"key":"doc","made":["map"],"map":[{"gained":["1@a"],'
                  '"key":"\\"a\\"","made":["register"],"shown":true,"written":[["1@a",{"n":"1"}]]}],"shown":true}],')
 SECOND_GIVEN = ('{"command":"doc.get(\\"a\\") := 2","event":"a.exec","given":true,"kind":"exec","number":2,'
-                '"op":{"cursor":["mapT(doc)","\\"a\\""],"deps":{"a":1},"id":"2@a","mutation":"assign","value":{"n":"2"}},'
-                '"replica":"a"}')
+                '"op":{"cursor":["mapT(doc)","\\"a\\""],"deps":{"a":1},"id":"2@a","mutation":"assign",'
+                '"value":{"n":"2"}},"replica":"a"}')
 SENT = '{"event":"a.send","given":true,"kind":"send","new":["1@a","2@a"],"number":3,"replica":"a"}'
 TAKEN = '{"event":"b.take(a, 2, a)","from":"a","kind":"take","new":["2@a"],"number":1,"replica":"b"}'
 MISSING = ('{"cause":"DepsMissing","event":"b.apply(2, a)","kind":"apply","missing":["1@a"],"number":2,"replica":"b",'
            '"stuck":36}')
 BEFORE_MISSING = '{"at":1,"event":"b.take(a, 2, a)","stuck":' + MISSING + "}"
 GIVEN_TEXT = ('"jsoncrdt 2\\nreplica a {\\n  doc.get(\\"a\\") := 1;\\n  doc.get(\\"a\\") := 2;\\n  yield;\\n}\\n'
-              'replica b {\\n  yield;\\n}\\ngiven {\\n  a.exec;\\n  a.exec;\\n  a.send;\\n}\\nschedule {\\n  %s;\\n}\\n"')
+              'replica b {\\n  yield;\\n}\\ngiven {\\n  a.exec;\\n  a.exec;\\n  a.send;\\n}\\n'
+              'schedule {\\n  %s;\\n}\\n"')
 
 BELOW = """jsoncrdt 1
 replica p { doc.get("m") := {}; doc.get("m").get("x") := 1; doc.get("n") := 2; let m = doc.get("m"); m.get("x").delete }
@@ -266,8 +268,8 @@ TEXTS = [
 # What is no request, whatever there is.
 NO_REQUESTS = ["", " \t", "jump", "scenario", "scenario x", "scenario 01", "scenario 1 2", "scenario -1", "view a b",
                "brief", "brief a b", "event 3", "event --effects --trace", "event --trace --trace", "event --at",
-               "event --at +1", "event --at -0", "view --at x", "view a --at 1", "goto -1", "goto ends", "goto", "back runs",
-               "run back",
+               "event --at +1", "event --at -0", "view --at x", "view a --at 1", "goto -1", "goto ends", "goto",
+               "back runs", "run back",
                "breaks 1", "break", "break op", "break op 1", "break op 1@", "break op 01@a", "break op 1@a b",
                "break place", "break spot a", "eval", "eval --at 1", "journal", "journal 0", "journal 0 1 2",
                "journal --effects --trace 0 1", "print x", "places x", "weave", "weave 1", "weave -1 1", "weave 01 1",
