@@ -6,7 +6,7 @@ import copy
 import json
 
 from .effects import Since, effect_at
-from .rules import GivenStuck, Network, Stuck, candidates, change, evaluate, is_enabled, without_empty_sets
+from .rules import Network, Stuck, candidates, change, evaluate, is_enabled, without_empty_sets
 from .texts import Texts
 
 MOST_BREAKPOINTS = 256
@@ -15,8 +15,8 @@ MOST_COPIES, SHORTEST_WAY = 12, 64
 
 # How a move ended: at an event that is stuck, or at a breakpoint, with that, or at the schedule's end or its start.
 Move = collections.namedtuple("Move", "stuck hit is_end is_start", defaults=(None, None, False, False))
-# An event that is stuck: why, the event, and its number in the schedule.
-Failed = collections.namedtuple("Failed", "cause event number")
+# An event that is stuck: why, the event, and the position to which it would lead.
+Failed = collections.namedtuple("Failed", "cause event position")
 
 
 class Refusal(Exception):
@@ -91,16 +91,15 @@ class Runner:
 
 
 class Debugger:
-    """A scenario whose given events aren't stuck. They are made before position 0, and never taken back."""
+    """A scenario whose given events are made before position 0, and never taken back. Where one of them is stuck,
+    `failed` is that one, and there is no position 0: only what was before it can be looked at."""
 
     def __init__(self, scenario):
         self.scenario, self.texts, self.version = scenario, Texts(scenario.names), scenario.version
         self.given, self.events = len(scenario.given), scenario.given + scenario.schedule
         self.copies, self.breakpoints, self.reached = Copies(scenario), {}, 0
         self.here, self.aside = (Runner(self.events, self.copies) for _ in range(2))
-        failed = self.reach(self.here, 0)
-        if failed:
-            raise GivenStuck(self.here.count + 1, failed.event, failed.cause)
+        self.failed = self.reach(self.here, 0)
 
     @property
     def position(self):
@@ -123,6 +122,10 @@ class Debugger:
         count = self.given + position
         return self.events[count - 1] if count else None
 
+    def number_at(self, position):
+        """The number of the event that leads to a position, and whether it is given."""
+        return (position, False) if position > 0 else (self.given + position, True)
+
     def reach(self, runner, position):
         """Brings a runner to a position, or to the first event before that is stuck, which is given."""
         count = self.given + position
@@ -138,7 +141,7 @@ class Debugger:
         event = self.events[runner.count]
         stuck = runner.attempt(event)
         if stuck:
-            return Failed(stuck, event, runner.count - self.given + 1)
+            return Failed(stuck, event, runner.count + 1 - self.given)
         self.copies.keep(runner.count, runner.network)
         self.reached = max(self.reached, runner.count)
         return None

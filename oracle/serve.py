@@ -8,16 +8,18 @@ import copy
 from .debugger import Debugger, Failed, Refusal
 from .effects import Since
 from .grammar import MOST_BYTES, NAME_RUN, NUMBER_RUN, Reader, read, string_end
-from .journal import Before, Journal, lines_of, numbered
+from .journal import Before, Journal, lines_of
 from .lines import BAD
 from .requests import AnyName, Input, NotRead, TooMany, read_request
-from .rules import GivenStuck, Network, Stuck, step
-from .texts import REFUSALS, Texts, array, object_of, string
+from .rules import Stuck, step
+from .texts import REFUSALS, array, object_of, string
 from .view import line_of
 from .weave import woven
 
 CONTINUATION = bytes(range(0x80, 0xC0))
 GIVEN_STUCK, AT_START, PAST_SCHEDULE, READ_FAILED = 44, 50, 52, 4
+# Requests that may be asked at another position; it comes first.
+LOOKS = ("view", "state", "brief", "eval", "event")
 # Refusals at whose offset a token begins, or a number that is none; and that where an escape does, of six bytes.
 AT_TOKEN, AT_ESCAPE, LENGTH_OF_ESCAPE = {5, 6, 7, *range(9, 13), *range(14, 20)}, 4, 6
 TRUE = b"true"
@@ -122,11 +124,26 @@ class Placing(Reader):
 
 
 class Served(Debugger):
-    """A scenario whose given events aren't stuck, and the answers to requests about it."""
+    """A scenario, and the answers to requests about it. Where a given event is stuck, `refusal` answers all of them but
+    those for which it doesn't matter."""
+
+    def __init__(self, scenario):
+        super().__init__(scenario)
+        self.refusal = self.failed and refused(GIVEN_STUCK, stuck=self.line_of_stuck(self.failed, self.network))
 
     def answer(self, asked):
         word, *rest = asked
-        return getattr(self, f"on_{word}", self.moves(word))(*rest)
+        is_elsewhere = word in LOOKS and rest[0] is not None
+        if self.failed and word not in ("print", "journal") and not is_elsewhere:
+            return self.refusal
+        try:
+            return getattr(self, f"on_{word}", self.moves(word))(*rest)
+        except Refusal as refusal:
+            return refused(refusal.number)
+        except Unreached as unreached:
+            return self.refusal or self.unreached(unreached.failed)
+        except Stuck as stuck:
+            return refused(stuck.number, key=self.key_of(stuck))
 
     def moves(self, word):
         """What answers a request that goes somewhere."""
@@ -137,8 +154,9 @@ class Served(Debugger):
         return stuck.key and string(self.texts.tagged(stuck.key))
 
     def line_of_stuck(self, failed, network):
+        which, is_given = self.number_at(failed.position)
         journal = Journal(self.texts, traced=False)
-        return journal.stuck(failed.number, failed.event, network, failed.cause, False).rstrip(b"\n")
+        return journal.stuck(which, failed.event, network, failed.cause, is_given).rstrip(b"\n")
 
     def there(self, position, **more):
         """A position, with the event that leads to it."""
@@ -200,7 +218,7 @@ class Served(Debugger):
 
     def unreached(self, failed):
         """What is answered at a position that isn't reached, since this event is stuck before."""
-        return self.there(failed.number - 1, stuck=self.line_of_stuck(failed, self.aside.network))
+        return self.there(failed.position - 1, stuck=self.line_of_stuck(failed, self.aside.network))
 
     def each(self, shows, position, p):
         """What shows a replica at a position, or a list for all."""
@@ -238,8 +256,8 @@ class Served(Debugger):
 
     def numbered(self, position):
         """The number of a position's event, the event, and whether it is given."""
-        event = self.event_at(position)
-        return (position, event, False) if position > 0 else (self.given + position, event, True)
+        which, is_given = self.number_at(position)
+        return which, self.event_at(position), is_given
 
     def on_event(self, position, flags):
         position = self.position if position is None else self.checked(position)
@@ -308,67 +326,36 @@ class Unreached(Exception):
 
 
 class Subject:
-    """A text, and what is served of it."""
+    """A text, and what is served of it: answers, or where it is refused that alone."""
 
     def __init__(self, text):
         self.text, self.served, self.refusal = text, None, None
-        self.scenario, fault = read(text)
+        scenario, fault = read(text)
         if fault:
             self.refusal = refused_text(fault[1], fault[0], text)
-            return
-        self.texts = Texts(self.scenario.names)
-        try:
-            self.served = Served(self.scenario)
-        except GivenStuck:
-            self.refusal = refused(GIVEN_STUCK, stuck=self.whole_journal(set())[-1])
+        else:
+            self.served = Served(scenario)
+            self.refusal = self.served.refusal
 
     def counts(self):
-        scenario = self.scenario
-        return self.refusal or object_with(
-            commands=number(sum(map(len, scenario.scripts))), events=number(len(scenario.schedule)),
-            given=number(len(scenario.given)), replicas=number(len(scenario.names)))
-
-    def whole_journal(self, flags):
-        network = Network(self.scenario.version, self.scenario.scripts)
-        return [line.rstrip(b"\n") for line, _ in lines_of(numbered(self.scenario), network, self.texts, flags)]
+        """The answer to the request that brought the text."""
+        if self.refusal:
+            return self.refusal
+        scenario = self.served.scenario
+        return object_with(commands=number(sum(map(len, scenario.scripts))), events=number(len(scenario.schedule)),
+                           given=number(len(scenario.given)), replicas=number(len(scenario.names)))
 
     def read(self, line):
         """What a line asks."""
-        if not self.scenario:
+        if not self.served:
             return read_request(line, AnyName(), 2)
-        return read_request(line, self.scenario.names, self.scenario.version)
+        return read_request(line, self.served.texts.names, self.served.version)
 
     def answer(self, asked):
         """The answer to a request that was read."""
-        if asked == ("places",) and self.scenario:
-            return places_of(self.text)
-        if self.served:
-            return self.answered(asked)
-        if self.scenario and asked[0] in ("print", "journal"):
-            return self.without_start(*asked)
-        return self.refusal
-
-    def answered(self, asked):
-        try:
-            return self.served.answer(asked)
-        except Refusal as refusal:
-            return refused(refusal.number)
-        except Unreached as unreached:
-            return self.served.unreached(unreached.failed)
-        except Stuck as stuck:
-            return refused(stuck.number, key=self.served.key_of(stuck))
-
-    def without_start(self, word, *rest):
-        """What is answered where a given event is stuck."""
-        if word == "print":
-            return string(self.texts.scenario(self.scenario))
-        flags, first, last = rest
-        least, most = -len(self.scenario.given), len(self.scenario.schedule)
-        outside = [position for position in (first, last) if not least <= position <= most]
-        if outside:
-            return refused(AT_START if outside[0] < least else PAST_SCHEDULE)
-        lines = enumerate(self.whole_journal(flags), least + 1)
-        return array(line for position, line in lines if first < position <= last)
+        if not self.served:
+            return self.refusal
+        return places_of(self.text) if asked == ("places",) else self.served.answer(asked)
 
     def refuse(self, refusal):
         """The answer to a line that is refused as it is read."""

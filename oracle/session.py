@@ -1,6 +1,7 @@
 """A session of the debugger: the answers to lines, which are given as tuples of their words."""
 
 from .debugger import Debugger, Refusal
+from .rules import GivenStuck
 from .texts import refused
 
 # Lines that are refused or have no answer, whatever was done before, in a session with no replica `nobody`.
@@ -22,7 +23,13 @@ FIXED = {
 
 
 class Session(Debugger):
-    """What a debugger answers, as lines."""
+    """What a debugger answers, as lines. Where a given event is stuck GivenStuck is raised."""
+
+    def __init__(self, scenario):
+        super().__init__(scenario)
+        if self.failed:
+            number, _ = self.number_at(self.failed.position)
+            raise GivenStuck(number, self.failed.event, self.failed.cause)
 
     def at(self):
         return b"at %d\n" % self.position

@@ -209,6 +209,16 @@ WORKED = [
         ("places", '[{"end":28,"items":[[22,27]],"kind":"replica","name":"a","start":11},'
          '{"end":59,"items":[[36,42],[44,50],[52,58]],"kind":"given","start":29},'
          '{"end":77,"items":[[70,76]],"kind":"schedule","start":60}]'),
+        ("view --at -2", '[{"name":"a"}]'),
+        ("brief --at -2 a",
+         '{"acted":true,"left":1,"name":"a","ops":[],"queue":[],"recv":[],"send":[],"vars":{}}'),
+        ("event --at -3", '{"start":true}'),
+        ("event --at -2", STUCK_SENT),
+        ("event --at -1", GIVEN_STUCK),
+        ("eval --at -2 a doc", '{"cursor":["doc"]}'),
+        ("eval --at -1 a doc", GIVEN_STUCK),
+        ("state --at 0 a", GIVEN_STUCK),
+        ("state --at 2 a", refused(52, "PastSchedule")),
         ("journal -3 1", f"[{STUCK_SENT},{STUCK_LINE}]"),
         ("journal -2 0", f"[{STUCK_LINE}]"),
         ("journal -1 1", "[]"),
@@ -455,10 +465,10 @@ def meets_the_same(_):
     for number, path in enumerate(SCENARIOS):
         text, chance = stored(path), random.Random(SEED + number)
         subject = Subject(text.encode())
-        if not subject.served:
+        if subject.refusal:
             continue
         ask = lambda line: json.loads(subject.answer(subject.read(line.encode())))
-        names = [name.decode() for name in subject.scenario.names]
+        names = [name.decode() for name in subject.served.texts.names]
         lines = [line for line in random_lines(chance, names, ["p.exec"], 200) if line.startswith("break")]
         known = [line for line in lines if line.split()[-1] not in ("NONE", "nobody")][:4]
         for line in [*known, f"break place {names[0]} doc", f"break op 2@{names[-1]}"]:
@@ -484,7 +494,7 @@ def is_one_journal(_):
         text = stored(path)
         given, length = (len(part) for part in (read(text.encode())[0].given, read(text.encode())[0].schedule))
         subject = Subject(text.encode())
-        if not subject.served:
+        if subject.refusal:
             continue
         ask = lambda line: subject.answer(subject.read(line.encode())).decode()
         flags = "--trace --effects"
@@ -525,7 +535,7 @@ def evaluates_alone(_):
 
 WRONG = [
     ("answers of the scenario before", "serve.py", "subject = Subject(requests.text(asked[1]))",
-     "subject = subject if subject.scenario else Subject(requests.text(asked[1]))"),
+     "subject = subject if subject.served else Subject(requests.text(asked[1]))"),
     ("answers two lines", "serve.py", "            yield subject.counts()\n",
      "            yield subject.counts()\n            yield subject.counts()\n"),
     ("makes an event to evaluate", "serve.py", "        return self.texts.bound(self.evaluated(",
@@ -533,8 +543,8 @@ WRONG = [
     ("misses what changes below alone", "effects.py", "    if not found or len(place) == 1:\n",
      "    if found and len(place) == 1 and found.keys() <= {'key', 'map', 'list', 'gained'}:\n        return None\n"
      "    if not found or len(place) == 1:\n"),
-    ("is one off behind given events", "serve.py", "(self.given + position, event, True)",
-     "(self.given + position + 1, event, True)"),
+    ("is one off behind given events", "serve.py", "return which, self.event_at(position), is_given",
+     "return which + is_given, self.event_at(position), is_given"),
     ("takes a given event for the schedule's", "debugger.py", "        count = self.given + position\n        return",
      "        count = position\n        return"),
     ("goes below 0", "debugger.py", "        if count > self.position:\n", "        if count > self.here.count:\n"),
@@ -542,8 +552,8 @@ WRONG = [
      "found = (position, hit) if hit and not found[1] else found"),
     ("meets what was taken for another place", "debugger.py", "return event[1] == what[0] and self.changes",
      "return self.changes"),
-    ("keeps breakpoints", "serve.py", "self.served = Served(self.scenario)",
-     "self.served = Served(self.scenario)\n            self.served.breakpoints = vars(Subject.__init__)"),
+    ("keeps breakpoints", "serve.py", "self.served = Served(scenario)",
+     "self.served = Served(scenario)\n            self.served.breakpoints = vars(Subject.__init__)"),
 ]
 
 

@@ -1,6 +1,7 @@
 """What the tools here have in common: which program they ask and how, and how they read its texts."""
 
 import collections
+import functools
 import os
 import re
 import signal
@@ -12,10 +13,10 @@ import textwrap
 ROOT = os.path.dirname(os.path.dirname(os.path.abspath(__file__)))
 sys.path.insert(0, os.path.join(ROOT, "python"))
 
-from jsoncrdt import choosing
+from jsoncrdt import choosing, serving
 from jsoncrdt.choosing import IN_PYTHON
 from jsoncrdt.oracle import streams
-from jsoncrdt.oracle.streams import READ_OR_WRITE_FAILED, number_from, reason_of, run, stop
+from jsoncrdt.oracle.streams import READ_OR_WRITE_FAILED, number_from, reason_of, run, say, stop
 
 BUILT = os.path.join(ROOT, choosing.BUILT)
 ASKED = ("The program that is asked is the one that the variable JSONCRDT of the environment names; else the built "
@@ -90,6 +91,52 @@ def told(words, text=""):
     return answer_of(ended_by(started(words), text.encode()))
 
 
+def line_of(refusal):
+    """The line that tells a refusal of `serve`."""
+    at = f" at {refusal['offset']}" if "offset" in refusal else ""
+    return f"refused {refusal['number']} {refusal['name']}{at}"
+
+
+class Asked:
+    """The program, asked through its `serve`, or the rules in Python here. Where it gives no answer, or a refusal that the
+    tool can't go on with, the tool ends."""
+
+    def __init__(self, answering):
+        self.answering = answering
+
+    def refusal(self, text):
+        """Brings a scenario, and gives the line that refuses it, if one does. A given event may be stuck."""
+        refusal = self.whole(self.answering.bring, text.encode()).get("refused")
+        return line_of(refusal) if refusal and "stuck" not in refusal else None
+
+    def bring(self, text):
+        """Brings a scenario. Where it is refused the tool ends."""
+        refusal = self.refusal(text)
+        if refusal:
+            stop(refusal, 1)
+
+    def ask(self, request):
+        answer = self.whole(self.answering.ask, request)
+        if isinstance(answer, dict) and "refused" in answer:
+            stop(line_of(answer["refused"]), 1)
+        return answer
+
+    def whole(self, ask, what):
+        try:
+            return ask(what)
+        except serving.Lost as lost:
+            return stop(f"{lost}, and gave no answer", READ_OR_WRITE_FAILED)
+        except ValueError:
+            return stop(f"{program()} isn't jsoncrdt: it answered no JSON")
+
+
+@functools.cache
+def asked():
+    """What answers requests of `serve`; none where the program hasn't the command yet."""
+    answering = serving.answering(choosing.program(), say)
+    return answering and Asked(answering)
+
+
 DOCUMENT = '{"doc":'
 
 
@@ -117,14 +164,29 @@ def text_of(file):
         stop(f"{file}: refused 13 NotUtf8 at {error.start}", 1)
 
 
+def refusal_of(text):
+    """The line that refuses a text, or none."""
+    if asked():
+        return asked().refusal(text)
+    line, status = told(["check", "-"], text)
+    return line.strip() if status else None
+
+
+def printed_of(text):
+    """The canonical text. Where the text is refused the tool ends."""
+    if asked():
+        asked().bring(text)
+        return asked().ask("print")
+    printed, status = told(["print", "-"], text)
+    return stop(printed, status) if status else printed
+
+
 class Scenario:
     """The canonical text of a scenario: its version, the commands of each replica, the given events and those of the
     schedule, as they are written there."""
 
     def __init__(self, text):
-        printed, status = told(["print", "-"], text)
-        if status:
-            stop(printed, status)
+        printed = printed_of(text)
         header = re.match(r"jsoncrdt ([12])\n", printed)
         if not header:
             stop(f"{program()} isn't jsoncrdt: it printed no scenario")
