@@ -138,7 +138,7 @@ def shown(word, rest, names):
 
 def journal_of(rest):
     found, rest = taken_options(rest, (TRACE, EFFECTS))
-    if len(rest) != 2 or not all(map(POSITION.fullmatch, rest)):
+    if len(rest) not in (0, 2) or not all(map(POSITION.fullmatch, rest)):
         raise Refusal(BAD)
     return ("journal", flags_of(found), *map(int, rest))
 

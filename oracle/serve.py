@@ -129,7 +129,14 @@ class Served(Debugger):
 
     def __init__(self, scenario):
         super().__init__(scenario)
-        self.refusal = self.failed and refused(GIVEN_STUCK, stuck=self.line_of_stuck(self.failed, self.network))
+        self.stuck = self.failed and self.line_of_stuck(self.failed, self.network)
+        self.refusal = self.stuck and refused(GIVEN_STUCK, stuck=self.stuck)
+
+    def counts(self):
+        """How much there is of the scenario, and the given event that is stuck."""
+        scenario = self.scenario
+        return object_with(commands=number(sum(map(len, scenario.scripts))), events=number(len(scenario.schedule)),
+                           given=number(len(scenario.given)), replicas=number(len(scenario.names)), stuck=self.stuck)
 
     def answer(self, asked):
         word, *rest = asked
@@ -286,7 +293,9 @@ class Served(Debugger):
         event = self.texts.event(self.event_at(self.position))
         return object_with(event=string(event), number=number(self.position), rules=rules)
 
-    def on_journal(self, flags, first, last):
+    def on_journal(self, flags, first=None, last=None):
+        if first is None:
+            first, last = -self.given, self.length
         first, last = self.checked(first), self.checked(last)
         try:
             network = copy.deepcopy(self.network_at(first))
@@ -339,11 +348,7 @@ class Subject:
 
     def counts(self):
         """The answer to the request that brought the text."""
-        if self.refusal:
-            return self.refusal
-        scenario = self.served.scenario
-        return object_with(commands=number(sum(map(len, scenario.scripts))), events=number(len(scenario.schedule)),
-                           given=number(len(scenario.given)), replicas=number(len(scenario.names)))
+        return self.served.counts() if self.served else self.refusal
 
     def read(self, line):
         """What a line asks."""

@@ -112,6 +112,7 @@ WORKED = [
         ("event --at 2", BEFORE_MISSING),
         ("journal -1 1", f"[{SENT},{TAKEN}]"),
         ("journal -3 2", f'[{FIRST_GIVEN % ""},{SECOND_GIVEN},{SENT},{TAKEN},{MISSING}]'),
+        ("journal", f'[{FIRST_GIVEN % ""},{SECOND_GIVEN},{SENT},{TAKEN},{MISSING}]'),
         ("journal --effects -3 -2", f"[{FIRST_GIVEN % FIRST_EFFECTS}]"),
         ("journal 2 2", "[]"),
         ("journal 1 -1", "[]"),
@@ -197,7 +198,7 @@ WORKED = [
          '"start":152}]'),
     ]),
     # No scenario from a stuck given event on, but a text and a journal.
-    (STUCK_GIVEN, GIVEN_STUCK, [
+    (STUCK_GIVEN, '{"commands":1,"events":1,"given":3,"replicas":1,"stuck":' + STUCK_LINE + "}", [
         ("where", GIVEN_STUCK),
         ("view", GIVEN_STUCK),
         ("state z", GIVEN_STUCK),
@@ -219,6 +220,7 @@ WORKED = [
         ("eval --at -1 a doc", GIVEN_STUCK),
         ("state --at 0 a", GIVEN_STUCK),
         ("state --at 2 a", refused(52, "PastSchedule")),
+        ("journal", f"[{STUCK_SENT},{STUCK_LINE}]"),
         ("journal -3 1", f"[{STUCK_SENT},{STUCK_LINE}]"),
         ("journal -2 0", f"[{STUCK_LINE}]"),
         ("journal -1 1", "[]"),
@@ -281,7 +283,7 @@ NO_REQUESTS = ["", " \t", "jump", "scenario", "scenario x", "scenario 01", "scen
                "event --at +1", "event --at -0", "view --at x", "view a --at 1", "goto -1", "goto ends", "goto",
                "back runs", "run back",
                "breaks 1", "break", "break op", "break op 1", "break op 1@", "break op 01@a", "break op 1@a b",
-               "break place", "break spot a", "eval", "eval --at 1", "journal", "journal 0", "journal 0 1 2",
+               "break place", "break spot a", "eval", "eval --at 1", "journal 0", "journal 0 1 2",
                "journal --effects --trace 0 1", "print x", "places x", "weave", "weave 1", "weave -1 1", "weave 01 1",
                "weave 18446744073709551616 1", "weave 0 100001", "view\0", "vi\0ew", "view é", "quit now", " " * 4097,
                "view" + " " * 4093, "x" * 100_000]
@@ -361,10 +363,9 @@ def lines_case(path):
     def tried(_):
         text = stored(path)
         given, positions = positions_of(text)
-        length = len(read(text.encode())[0].schedule)
-        journal, first = ["journal", "--trace", "--effects"], f"-{given}" if given else "0"
+        length, journal = len(read(text.encode())[0].schedule), ["journal", "--trace", "--effects"]
         whole, plain, printed, woven = answers_about(text, [
-            f"{' '.join(journal)} {first} {length}", f"journal {first} {length}", "print", "weave 5 100"])
+            " ".join(journal), f"journal {f'-{given}' if given else 0} {length}", "print", "weave 5 100"])
         expect_same(whole, in_list(told(journal, text)[0]))
         expect_same(plain, in_list(told(["journal"], text)[0]))
         expect(json.loads(printed) == told(["print"], text)[0], f"print: {printed}")

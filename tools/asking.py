@@ -17,6 +17,7 @@ from jsoncrdt import choosing, serving
 from jsoncrdt.choosing import IN_PYTHON
 from jsoncrdt.oracle import streams
 from jsoncrdt.oracle.streams import READ_OR_WRITE_FAILED, number_from, reason_of, run, say, stop
+from jsoncrdt.serving import line_of_refusal
 
 BUILT = os.path.join(ROOT, choosing.BUILT)
 ASKED = ("The program that is asked is the one that the variable JSONCRDT of the environment names; else the built "
@@ -91,12 +92,6 @@ def told(words, text=""):
     return answer_of(ended_by(started(words), text.encode()))
 
 
-def line_of(refusal):
-    """The line that tells a refusal of `serve`."""
-    at = f" at {refusal['offset']}" if "offset" in refusal else ""
-    return f"refused {refusal['number']} {refusal['name']}{at}"
-
-
 class Asked:
     """The program, asked through its `serve`, or the rules in Python here. Where it gives no answer, or a refusal that the
     tool can't go on with, the tool ends."""
@@ -107,7 +102,7 @@ class Asked:
     def refusal(self, text):
         """Brings a scenario, and gives the line that refuses it, if one does. A given event may be stuck."""
         refusal = self.whole(self.answering.bring, text.encode()).get("refused")
-        return line_of(refusal) if refusal and "stuck" not in refusal else None
+        return refusal and line_of_refusal(refusal)
 
     def bring(self, text):
         """Brings a scenario. Where it is refused the tool ends."""
@@ -118,7 +113,7 @@ class Asked:
     def ask(self, request):
         answer = self.whole(self.answering.ask, request)
         if isinstance(answer, dict) and "refused" in answer:
-            stop(line_of(answer["refused"]), 1)
+            stop(line_of_refusal(answer["refused"]), 1)
         return answer
 
     def whole(self, ask, what):

@@ -39,6 +39,12 @@ def line_of(request):
     return " ".join(request.splitlines()).encode()
 
 
+def line_of_refusal(refusal):
+    """The line by which other commands tell a refusal."""
+    at = f" at {refusal['offset']}" if "offset" in refusal else ""
+    return f"refused {refusal['number']} {refusal['name']}{at}"
+
+
 @functools.cache
 def has_serve(path):
     """Whether a program has the command. It is asked once."""
