@@ -93,7 +93,7 @@ class Conversation:
         if "refused" in self.counts:
             return Told(line_of_refusal(self.counts["refused"]) + "\n", "", REFUSED)
         if command == "check":
-            return Told("", "", 0, [self.counts])
+            return Told("", "", 0, [{name: count for name, count in self.counts.items() if name != "stuck"}])
         if command == "journal":
             rows = self.ask(" ".join(words))
             return Told("", "", STUCK if rows and "stuck" in rows[-1] else 0, rows)

@@ -109,6 +109,8 @@ class Process(Answering):
         with self.lock:
             if self.owner != os.getpid():
                 self.process = None  # it answers the process from which this one was forked
+            elif self.process and text is not None and self.process.poll() is not None:
+                self.lose(self.ended())
             if not self.process:
                 if text is None:
                     raise Lost(f"{self.path} has no scenario any more")
