@@ -78,21 +78,25 @@ class Session(Debugger):
 
     def line(self, line):
         """The line as it is written."""
-        word, rest = line[0], line[1:]
-        names = self.texts.names
-        text = word.encode()
-        if word in ("step", "back") and rest[0] == 1:
-            return text
-        if word in ("step", "back", "goto", "unbreak"):
-            return text + b" %d" % rest[0]
-        if word == "act":
-            return text + b"  " + self.texts.event(rest[0])
-        if word == "break":
-            kind, what = rest[0]
-            shown = {"at": lambda: b"%d" % what, "rule": lambda: what.encode(), "replica": lambda: names[what]}[kind]()
-            return text + b" " + kind.encode() + b" " + shown
-        if word == "state":
-            return text if rest[0] is None else text + b" " + names[rest[0]]
-        if word == "compare":
-            return text + b" %s\t%s" % (names[rest[0]], names[rest[1]])
-        return rest[0] if word == "fixed" else text
+        return written(self.texts, line)
+
+
+def written(texts, line):
+    """The line of a session, of its tuple of words."""
+    word, rest = line[0], line[1:]
+    names, text = texts.names, word.encode()
+    if word in ("step", "back") and rest[0] == 1:
+        return text
+    if word in ("step", "back", "goto", "unbreak"):
+        return text + b" %d" % rest[0]
+    if word == "act":
+        return text + b"  " + texts.event(rest[0])
+    if word == "break":
+        kind, what = rest[0]
+        shown = {"at": lambda: b"%d" % what, "rule": lambda: what.encode(), "replica": lambda: names[what]}[kind]()
+        return text + b" " + kind.encode() + b" " + shown
+    if word == "state":
+        return text if rest[0] is None else text + b" " + names[rest[0]]
+    if word == "compare":
+        return text + b" %s\t%s" % (names[rest[0]], names[rest[1]])
+    return rest[0] if word == "fixed" else text
