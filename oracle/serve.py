@@ -22,7 +22,7 @@ GIVEN_STUCK, AT_START, PAST_SCHEDULE, READ_FAILED = 44, 50, 52, 4
 LOOKS = ("view", "state", "brief", "eval", "event")
 # Refusals at whose offset a token begins, or a number that is none; and that where an escape does, of six bytes.
 AT_TOKEN, AT_ESCAPE, LENGTH_OF_ESCAPE = {5, 6, 7, *range(9, 13), *range(14, 20)}, 4, 6
-TRUE = b"true"
+TRUE, QUIT = b"true", ("quit",)
 
 
 def number(value):
@@ -358,6 +358,8 @@ class Subject:
 
     def answer(self, asked):
         """The answer to a request that was read."""
+        if asked == QUIT:
+            return object_with(quit=TRUE)
         if not self.served:
             return self.refusal
         return places_of(self.text) if asked == ("places",) else self.served.answer(asked)
@@ -383,11 +385,10 @@ def answers(source):
         if asked[0] == "scenario":
             subject = Subject(requests.text(asked[1]))
             yield subject.counts()
-        elif asked == ("quit",):
-            yield object_with(quit=TRUE)
-            return
         else:
             yield subject.answer(asked)
+        if asked == QUIT:
+            return
 
 
 def serve(source, out, err):
