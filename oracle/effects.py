@@ -36,13 +36,17 @@ def target_keys(new, operation):
     return sorted([key, own])
 
 
+def branch(key):
+    """What a key, by its text, is in: a name is in a map, an element or the head in a list."""
+    return "map" if key[0] == '"' else "list"
+
+
 def effect_at(effects, place):
     """What stands in the effects for a place, a list of key texts; none where nothing changed there and below."""
     found = next((effect for effect in effects if effect["key"] == place[0]), None)
     if not found or len(place) == 1:
         return found
-    # A name is in a map, an element or the head in a list.
-    return effect_at(found.get("map" if place[1][0] == '"' else "list", ()), place[1:])
+    return effect_at(found.get(branch(place[1]), ()), place[1:])
 
 
 class Since:

@@ -35,6 +35,7 @@ CTRL_C, CTRL_D, UP, CLEAR_LINE = "\x03", "\x04", "\x1b[A", "\x15"
 STARTER = "import fcntl, os, sys, termios; fcntl.ioctl(0, termios.TIOCSCTTY, 0); os.execvp(sys.argv[1], sys.argv[1:])"
 # A program that waits before each view.
 SLOW = """#!/bin/sh
+[ "$1" = serve ] && exit 2
 [ "$1" != view ] || {{ : >"$0.begun"; sleep 0.3; }}
 exec "{oracle}" "$@"
 """

@@ -2,6 +2,7 @@
 
 import collections
 import functools
+import json
 import os
 import re
 import signal
@@ -9,6 +10,7 @@ import subprocess
 import sys
 import tempfile
 import textwrap
+import threading
 
 ROOT = os.path.dirname(os.path.dirname(os.path.abspath(__file__)))
 sys.path.insert(0, os.path.join(ROOT, "python"))
@@ -93,25 +95,33 @@ def told(words, text=""):
 
 
 class Asked:
-    """The program, asked through its `serve`, or the rules in Python here. Where it gives no answer, or a refusal that the
-    tool can't go on with, the tool ends."""
+    """The program, asked through its `serve`, or the rules in Python here: requests that show something of a scenario,
+    and change nothing. Where there is no answer, or a refusal that the tool can't go on with, the tool ends."""
 
     def __init__(self, answering):
-        self.answering = answering
+        self.answering, self.brought, self.lock = answering, None, threading.RLock()
 
     def refusal(self, text):
         """Brings a scenario, and gives the line that refuses it, if one does. A given event may be stuck."""
+        if text == self.brought:
+            return None
+        self.brought = None
         refusal = self.whole(self.answering.bring, text.encode()).get("refused")
+        self.brought = None if refusal else text
         return refusal and line_of_refusal(refusal)
 
-    def bring(self, text):
-        """Brings a scenario. Where it is refused the tool ends."""
-        refusal = self.refusal(text)
-        if refusal:
-            stop(refusal, 1)
+    def about(self, text, request):
+        """The answer to a request about a scenario."""
+        return self.answer(text, request, self.answering.ask)
 
-    def ask(self, request):
-        answer = self.whole(self.answering.ask, request)
+    def line_about(self, text, request):
+        """The same as it is written."""
+        return self.answer(text, request, lambda asked: self.answering.answer(asked.encode()).decode())
+
+    def answer(self, text, request, ask):
+        with self.lock:
+            refusal = self.refusal(text)
+            answer = stop(refusal, 1) if refusal else self.whole(ask, request)
         if isinstance(answer, dict) and "refused" in answer:
             stop(line_of_refusal(answer["refused"]), 1)
         return answer
@@ -120,6 +130,7 @@ class Asked:
         try:
             return ask(what)
         except serving.Lost as lost:
+            self.brought = None
             return stop(f"{lost}, and gave no answer", READ_OR_WRITE_FAILED)
         except ValueError:
             return stop(f"{program()} isn't jsoncrdt: it answered no JSON")
@@ -167,11 +178,17 @@ def refusal_of(text):
     return line.strip() if status else None
 
 
+def journal_of(text, *flags):
+    """The lines of the journal as values, with what the flags ask for, which the program must have."""
+    if asked():
+        return asked().about(text, " ".join(["journal", *flags]))
+    return [json.loads(line) for line in told(["journal", *flags, "-"], text)[0].split("\n")[:-1]]
+
+
 def printed_of(text):
     """The canonical text. Where the text is refused the tool ends."""
     if asked():
-        asked().bring(text)
-        return asked().ask("print")
+        return asked().about(text, "print")
     printed, status = told(["print", "-"], text)
     return stop(printed, status) if status else printed
 

@@ -7,6 +7,7 @@ program is asked through its `serve`. As long as it has none it is asked by `jou
 scenario in which given events stand in front of those of the schedule.
 """
 
+import functools
 import json
 import os
 from collections import namedtuple
@@ -36,7 +37,7 @@ def lines_of(text):
 def journal_of(text):
     """The lines of the journal. The program tells no effects yet: those are told by the rules in Python."""
     lines = lines_of(told(["journal", "--trace", "-"], text)[0])
-    for line, other in zip(lines, lines_of(journal_with_effects(text))):
+    for line, other in zip(lines, journal_with_effects(text)):
         if "op" in line:
             line["effects"] = other["effects"]
     return lines
@@ -55,23 +56,19 @@ def bindings(lines):
 def run_of(scenario, first, count):
     """The run of so many first events of the scenario, given ones too, told from the position `first` on. Where an
     event before that is stuck there are no states."""
-    ask = asked()
-    return run_served(ask, scenario, first, count) if ask else run_by_commands(scenario, first, count)
+    return (run_served if asked() else run_by_commands)(scenario, first, count)
 
 
-def run_served(ask, scenario, first, count):
-    ask.bring(scenario.text)
-    given = len(scenario.given)
-    journal = ask.ask(f"journal --trace --effects {-given} {min(count - given, len(scenario.events))}")
+def run_served(scenario, first, count):
+    given, ask = len(scenario.given), functools.partial(asked().about, scenario.text)
+    journal = ask(f"journal --trace --effects {-given} {min(count - given, len(scenario.events))}")
     for line in journal:
         line["number"] += 0 if line.pop("given", False) else given
     before, lines = journal[:first], journal[first:]
     if before and "stuck" in before[-1]:
         return Run(before, lines, [], {})
-    states = ask.ask(f"state --at {first - given}")
-    bound = {index: ask.ask(f"brief --at {first + index + 1 - given} {lines[index]['replica']}")
-             for index in bindings(lines)}
-    return Run(before, lines, states, bound)
+    bound = {index: ask(f"brief --at {first + index + 1 - given} {lines[index]['replica']}") for index in bindings(lines)}
+    return Run(before, lines, ask(f"state --at {first - given}"), bound)
 
 
 def run_by_commands(scenario, first, count):
@@ -91,4 +88,7 @@ def run_by_commands(scenario, first, count):
 def told_by():
     """Who tells of runs, in words. A page may be sent to somebody, so where the program is isn't said."""
     in_python = "the rules in Python, of which nothing is proved"
-    return in_python if is_in_python() else f"{os.path.basename(program())}; what events changed, by {in_python}"
+    if is_in_python():
+        return in_python
+    name = os.path.basename(program())
+    return name if asked() else f"{name}; what events changed, by {in_python}"
