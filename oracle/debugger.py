@@ -42,11 +42,14 @@ class Copies:
             self.copies = {count: kept for count, kept in self.copies.items() if count % self.distance == 0}
 
     def last(self, count):
-        """The last one that is kept up to a count, and its own count."""
-        found = max((kept for kept in self.copies if kept <= count), default=0)
-        if not found:
-            return 0, Network(self.scenario.version, self.scenario.scripts)
-        return found, copy.deepcopy(self.copies[found])
+        """The count of the last one that is kept up to a count."""
+        return max((kept for kept in self.copies if kept <= count), default=0)
+
+    def network(self, count):
+        """A network like the one that is kept at a count; at 0 there is always one."""
+        if not count:
+            return Network(self.scenario.version, self.scenario.scripts)
+        return copy.deepcopy(self.copies[count])
 
     def cut(self, count):
         self.copies = {kept: network for kept, network in self.copies.items() if kept <= count}
@@ -61,13 +64,14 @@ class Runner:
         self.restart(0)
 
     def restart(self, count):
-        self.count, self.network = self.copies.last(count)
-        self.trace = []
+        """Goes to the last copy before where so many events are made."""
+        self.count = self.copies.last(count - 1)
+        self.network, self.trace = self.copies.network(self.count), []
 
     def go(self, count):
         """Goes to where so many events are made, which can be."""
-        if count < self.count or count - SHORTEST_WAY > self.count:
-            self.restart(max(count - 1, 0))
+        if count < self.count or self.copies.last(count - 1) > self.count:
+            self.restart(count)
         while self.count < count:
             self.made(self.events[self.count])
             self.copies.keep(self.count, self.network)
@@ -84,7 +88,7 @@ class Runner:
             self.made(event)
         except Stuck as stuck:
             count = self.count
-            self.restart(max(count - 1, 0))
+            self.restart(count)
             self.go(count)
             return stuck
         return None

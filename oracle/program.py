@@ -11,6 +11,7 @@ from .grammar import read
 from .journal import write_journal
 from .lines import read_line
 from .refusal import close_to
+from .requests import Input
 from .rules import GivenStuck, Stuck, change, start
 from .serve import serve
 from .session import Session
@@ -291,7 +292,7 @@ def command_line(words, source, out, err, explains=False, explains_lines=False):
     try:
         order = order_of(words)
         if order.command == SERVE:
-            return serve(source, out, err)
+            return serve(Input(source), out, err)
         text = text_of(order.file, source)
         status = done(order, text, source, out, err, explains_lines)
         if explains and status in (1, 3):

@@ -44,8 +44,9 @@ class NotRead(Exception):
 class Input:
     """Standard input, by lines and texts, up to its bounds."""
 
-    def __init__(self, source):
+    def __init__(self, source, most_requests=MOST_REQUESTS, most_bytes=MOST_BYTES):
         self.source, self.count, self.size = source, 0, 0
+        self.most_requests, self.most_bytes = most_requests, most_bytes
 
     def read(self, read, most):
         try:
@@ -53,7 +54,7 @@ class Input:
         except OSError as error:
             raise NotRead(reason_of(error)) from error
         self.size += len(piece)
-        if self.size > MOST_BYTES:
+        if self.size > self.most_bytes:
             raise TooMany
         return piece
 
@@ -63,7 +64,7 @@ class Input:
         while len(piece) > LONGEST_LINE and not piece.endswith(b"\n"):
             piece = self.read(self.source.readline, PIECE)
         self.count += bool(line)
-        if self.count > MOST_REQUESTS:
+        if self.count > self.most_requests:
             raise TooMany
         return line or None
 

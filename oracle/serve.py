@@ -10,7 +10,7 @@ from .effects import Since
 from .grammar import MOST_BYTES, NAME_RUN, NUMBER_RUN, Reader, read, string_end
 from .journal import Before, Journal, lines_of
 from .lines import BAD
-from .requests import AnyName, Input, NotRead, TooMany, read_request
+from .requests import AnyName, NotRead, TooMany, read_request
 from .rules import Stuck, step
 from .texts import REFUSALS, array, object_of, string
 from .view import line_of
@@ -373,9 +373,9 @@ class Subject:
         return refused_text(refusal.number, refusal.place, refusal.text)
 
 
-def answers(source):
-    """The answers to the requests of a source, to its end or to `quit`."""
-    requests, subject = Input(source), Subject(b"")
+def answers(requests):
+    """The answers to all requests, or to those up to `quit`."""
+    subject = Subject(b"")
     while (line := requests.line()) is not None:
         try:
             asked = subject.read(line)
@@ -391,10 +391,10 @@ def answers(source):
             return
 
 
-def serve(source, out, err):
+def serve(requests, out, err):
     """Answers requests, each before the next is read, and gives the status."""
     try:
-        for answer in answers(source):
+        for answer in answers(requests):
             out.write(answer + b"\n")
             out.flush()
     except NotRead as fault:

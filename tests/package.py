@@ -8,7 +8,6 @@ import subprocess
 import sys
 import tempfile
 from decimal import Decimal
-from unittest import mock
 
 from cases import IN_PYTHON, NotTried, expect, expect_same, folder_of, stored
 from jsoncrdt import ABSENT, Conflict, Identifier, NoAnswer, Place, Program, Refused, Rules, Scenario, Stuck, doc
@@ -364,12 +363,12 @@ def effects_are_of_the_rules(_):
 
 
 # A program that has no serve yet.
-OLDER = '#!/bin/sh\n[ "$1" = serve ] && exit 2\nexec "$ORACLE" "$@"\n'
+OLDER = f'#!/bin/sh\n[ "$1" = serve ] && exit 2\nexec "{os.path.abspath(IN_PYTHON)}" "$@"\n'
 
 
 def asks_call_by_call(_):
     """A program without serve is started for each call, and gives the same."""
-    with folder_of({"older": OLDER}) as folder, mock.patch.dict(os.environ, ORACLE=os.path.abspath(IN_PYTHON)):
+    with folder_of({"older": OLDER}) as folder:
         older, served = Program(os.path.join(folder, "older")), Program(os.path.abspath(IN_PYTHON))
         expect((older.has_effects, served.has_effects) == (False, True), "which program has serve")
         for name in (KIT[3], "refused-44-given", "refused-25-no-list"):
@@ -404,7 +403,8 @@ def loses_no_time(_):
     """A process that doesn't answer, or answers no line, is given up after a time, and so is one that reads nothing."""
     with folder_of({"hanging": HANGING, "dying": HANGING.replace("exec sleep 60", "printf half; exit 7")}) as folder:
         for name, text, why in (("hanging", b"x", "gives no answer in 1 seconds"),
-                                ("hanging", b"x" * 4_000_000, "reads nothing for 1 seconds"), ("dying", b"x", "ended with 7")):
+                                ("hanging", b"x" * 4_000_000, "reads nothing for 1 seconds"),
+                                ("dying", b"x", "ended with 7")):
             process = Process(os.path.join(folder, name), seconds=1)
             try:
                 process.bring(text)
@@ -567,7 +567,8 @@ def package():
     yield kit_case("the built program", KIT, None)
     for tried in (texts_come_back, refusals_are_typed, parts_are_refused, stuck_ones_are_typed, scenarios_are_written,
                   stuck_calls_change_nothing, ends_are_typed, effects_are_typed, effects_are_of_the_rules,
-                  asks_call_by_call, asks_one_process, loses_no_time, answers_are_lacking, is_installed, is_imported_at_once):
+                  asks_call_by_call, asks_one_process, loses_no_time, answers_are_lacking, is_installed,
+                  is_imported_at_once):
         yield f"package: {tried.__name__.replace('_', ' ')}", tried
     yield machine_case("the built program", BY_RULES, 0, None, "")
     yield machine_case("no program that isn't built", None, 0, None, "the program isn't built")

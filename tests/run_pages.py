@@ -12,7 +12,6 @@ import os
 import re
 import shutil
 import tempfile
-from unittest import mock
 
 import sections
 from cases import IN_PYTHON, NotTried, expect, expect_same, folder_of, run, stored, told_errors
@@ -246,14 +245,14 @@ def has_strict_policy(programs):
 
 
 # A program that has serve, and one that hasn't yet.
-PROGRAMS = {"served": '#!/bin/sh\nexec "$ORACLE" "$@"\n',
-            "older": '#!/bin/sh\n[ "$1" = serve ] && exit 2\nexec "$ORACLE" "$@"\n'}
+ASKING = f'exec "{os.path.abspath(IN_PYTHON)}" "$@"\n'
+PROGRAMS = {"served": f"#!/bin/sh\n{ASKING}", "older": f'#!/bin/sh\n[ "$1" = serve ] && exit 2\n{ASKING}'}
 GIVEN_STUCK = "jsoncrdt 2 replica a {doc := 1; yield} given {a.exec; a.send; a.exec} schedule {a.done}"
 
 
 def is_one_page(_):
     """Whoever is asked, through serve or by other commands, the page is the same, but for who that is."""
-    with folder_of(PROGRAMS) as folder, mock.patch.dict(os.environ, ORACLE=os.path.abspath(IN_PYTHON)):
+    with folder_of(PROGRAMS) as folder:
         for words, text in ((["examples/insert-behind-deleted.jsoncrdt"], ""), (["--from", "-3", "-"], GIVEN_STUCK),
                             (["examples/bindings.jsoncrdt", "--from", "2", "--most", "5"], ""), (["-"], GIVEN_STUCK)):
             pages = [Page(None, words, text, program, (0, 3)) for program in
@@ -279,8 +278,8 @@ def has_words(_):
 
 
 def asks_once(programs):
-    """A page needs one process of the program's serve behind the one that finds out whether it has it; else each command
-    once. Whatever its events are, it says which program that was."""
+    """A page needs one process of the program's serve, behind the one that finds out whether it has it, or else each
+    command once, whatever its events are. It says which program that was."""
     serves = '[ "$1" = serve ] && exit 2\n'
     asked = f'#!/bin/sh\necho "$1" >>"${{0%%/*}}/asked.txt"\n%sexec "{os.path.abspath(IN_PYTHON)}" "$@"\n'
     for file in ("examples/to-do.jsoncrdt", "examples/stuck.jsoncrdt", "kit/names-without-deleted/scenario.jsoncrdt"):

@@ -1,6 +1,7 @@
 """The command `serve`: answers worked out by hand, the laws that bind it to the other commands and to a session, and
 what comes of input that is none."""
 
+import contextlib
 import glob
 import io
 import json
@@ -16,10 +17,12 @@ import time
 from unittest import mock
 
 from cases import IN_PYTHON, IN_TEST, expect, expect_same, place, run, stored
-from jsoncrdt.oracle import requests
+from jsoncrdt.oracle import debugger, requests
+from jsoncrdt.oracle.debugger import Refusal
 from jsoncrdt.oracle.grammar import read
-from jsoncrdt.oracle.program import command_line
-from jsoncrdt.oracle.serve import Subject, answers
+from jsoncrdt.oracle.program import command_line, made
+from jsoncrdt.oracle.requests import Input
+from jsoncrdt.oracle.serve import Served, Subject, answers, serve
 from jsoncrdt.oracle.texts import Texts
 
 SEED, PATIENCE, FEW_SECONDS = 20261128, 120, 20
@@ -42,7 +45,7 @@ def asked(text, requests_of_it=()):
 
 def served(source):
     """The answers to these bytes, in this process."""
-    return [answer.decode() for answer in answers(io.BytesIO(source))]
+    return [answer.decode() for answer in answers(Input(io.BytesIO(source)))]
 
 
 def answers_about(text, requests_of_it):
@@ -514,6 +517,28 @@ def is_one_journal(_):
             expect(position <= 0 or views == ask("view"), f"{path} at {position}: {views}")
 
 
+def goes_anywhere(_):
+    """The states are those that the events lead to, wherever one came from, with many copies on the way and with few."""
+    for number, path in enumerate(SCENARIOS):
+        scenario, chance = read(stored(path).encode())[0], random.Random(SEED + number)
+        with mock.patch.multiple(debugger, SHORTEST_WAY=chance.choice((1, 2, 5)), MOST_COPIES=chance.choice((2, 4))):
+            served = Served(scenario)
+            if served.failed:
+                continue
+            for _ in range(25):
+                move = chance.choice((served.step, served.back, served.goto))
+                with contextlib.suppress(Refusal):
+                    move(chance.randint(0, served.length))
+                if chance.random() < 0.1:
+                    served.act(chance.choice(served.enabled() or [("done", 0)]))
+                at = chance.randint(-served.given, served.position)
+                for position, shown in ((None, served.position), (at, at)):
+                    events = served.events[:served.given + shown]
+                    network, _, stuck = made(scenario._replace(given=[]), events)
+                    want = b"[" + b",".join(served.texts.dump(replica).rstrip(b"\n") for replica in network) + b"]"
+                    expect(not stuck and served.on_state(position, None) == want, f"{path} at {shown}")
+
+
 def evaluates_alone(_):
     """An evaluation, and each other request that shows something, changes nothing."""
     looks = ["where", "state", "schedule", "print", "breaks", "event --trace --effects", "trace"]
@@ -665,13 +690,13 @@ def fails_to_read(_):
 
 def is_bounded(_):
     """It always ends: behind so many requests, and so many bytes."""
+    expect((requests.MOST_REQUESTS, requests.MOST_BYTES) == (4_294_967_296, 1_099_511_627_776), "the bounds")
     for bound, most, source, count, status in (
-            ("MOST_REQUESTS", 3, b"jump\n" * 3, 3, 0), ("MOST_REQUESTS", 3, b"jump\n" * 4, 3, 4),
-            ("MOST_BYTES", 10, b"jump\njump\n", 2, 0), ("MOST_BYTES", 10, b"jump\njump\nj", 2, 4),
-            ("MOST_BYTES", 12, b"scenario 1\na", 1, 0), ("MOST_BYTES", 11, b"scenario 1\na", 0, 4)):
+            ("most_requests", 3, b"jump\n" * 3, 3, 0), ("most_requests", 3, b"jump\n" * 4, 3, 4),
+            ("most_bytes", 10, b"jump\njump\n", 2, 0), ("most_bytes", 10, b"jump\njump\nj", 2, 4),
+            ("most_bytes", 12, b"scenario 1\na", 1, 0), ("most_bytes", 11, b"scenario 1\na", 0, 4)):
         out, err = io.BytesIO(), io.StringIO()
-        with mock.patch.object(requests, bound, most):
-            got = command_line(["serve"], io.BytesIO(source), out, err)
+        got = serve(Input(io.BytesIO(source), **{bound: most}), out, err)
         expect(out.getvalue().count(b"\n") == count, f"{bound} {source}: {out.getvalue()}")
         expect((got, err.getvalue()) == (status, "too many lines\n" if status else ""), f"{bound} {source}: {got}")
 
@@ -722,6 +747,7 @@ def serving():
     yield "serve: as a session", is_as_session
     yield "serve: runs forwards and back", meets_the_same
     yield "serve: events at their positions", is_one_journal
+    yield "serve: states wherever one comes from", goes_anywhere
     yield "serve: what shows something changes nothing", evaluates_alone
     for row in WRONG:
         yield wrong_case(*row)

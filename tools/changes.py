@@ -32,7 +32,7 @@ class NoPlace(Exception):
 
 
 def journal_with_effects(text):
-    """The lines of a scenario's journal, with what each event changed. A program that has no `serve` yet has no effects:
+    """The lines of a scenario's journal, with what each event changed. A program that has no `serve` has no effects, so
     then they come from the rules in Python."""
     if asking.asked():
         return asking.asked().about(text, "journal --effects")

@@ -67,8 +67,9 @@ def run_served(scenario, first, count):
     before, lines = journal[:first], journal[first:]
     if before and "stuck" in before[-1]:
         return Run(before, lines, [], {})
-    bound = {index: ask(f"brief --at {first + index + 1 - given} {lines[index]['replica']}") for index in bindings(lines)}
-    return Run(before, lines, ask(f"state --at {first - given}"), bound)
+    start = first - given
+    bound = {index: ask(f"brief --at {start + index + 1} {lines[index]['replica']}") for index in bindings(lines)}
+    return Run(before, lines, ask(f"state --at {start}"), bound)
 
 
 def run_by_commands(scenario, first, count):

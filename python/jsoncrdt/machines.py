@@ -1,6 +1,6 @@
-"""What executes scenarios: a program, or the rules in Python here. Both answer the words of a command line about the text
-of a scenario (`tell`), and all else here is made of that. A program is asked through one process of its `serve`; one that
-has none yet is started for each call.
+"""What executes scenarios: a program, or the rules in Python here. Both answer the words of a command line about the
+text of a scenario (`tell`), and all else here is made of that. A program is asked through one process of its `serve`;
+one that has none yet is started for each call.
 
 Each function takes a scenario or its text, and `by`, the machine that is asked. A text that is no scenario is raised as
 Refused, an event that no rule allows as Stuck."""
@@ -23,8 +23,8 @@ LONGEST_CALL = 600  # seconds
 
 
 class Told(NamedTuple):
-    """What a call wrote on both streams, and its status; of one through `serve` the values of its lines of JSON, which it
-    wrote then no text for, and what the journal tells of the event that is stuck."""
+    """What a call wrote on both streams, and its status. Of one through `serve` no text but the values of its lines of
+    JSON, and what the journal tells of the event that is stuck."""
 
     output: str
     errors: str

@@ -1,4 +1,4 @@
-"""What answers requests of `serve` (docs/PROGRAMS.md): a process that is kept, or the rules in Python in this process."""
+"""What answers requests of `serve` (docs/PROGRAMS.md): a process that is kept, or the rules in Python in this one."""
 
 import functools
 import json
@@ -49,7 +49,8 @@ def line_of_refusal(refusal):
 def has_serve(path):
     """Whether a program has the command. It is asked once."""
     try:
-        ended = subprocess.run([path, "serve"], input=b"quit\n", capture_output=True, check=False, timeout=LONGEST_PROBE)
+        ended = subprocess.run([path, "serve"], input=b"quit\n", capture_output=True, check=False,
+                               timeout=LONGEST_PROBE)
     except (OSError, subprocess.TimeoutExpired):
         return False
     return ended.returncode == 0 and ended.stdout == b'{"quit":true}\n'
