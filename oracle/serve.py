@@ -366,7 +366,7 @@ class Subject:
 
     def refuse(self, refusal):
         """The answer to a line that is refused as it is read."""
-        if refusal.number != BAD and self.refusal:
+        if refusal.number != BAD and not self.served:
             return self.refusal
         if refusal.place is None:
             return refused(refusal.number)

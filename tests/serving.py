@@ -204,8 +204,11 @@ WORKED = [
     (STUCK_GIVEN, '{"commands":1,"events":1,"given":3,"replicas":1,"stuck":' + STUCK_LINE + "}", [
         ("where", GIVEN_STUCK),
         ("view", GIVEN_STUCK),
-        ("state z", GIVEN_STUCK),
-        ("eval a ..", GIVEN_STUCK),
+        ("state a", GIVEN_STUCK),
+        ("eval a doc", GIVEN_STUCK),
+        ("goto 9", GIVEN_STUCK),
+        ("state z", refused(18, "UnknownReplica")),
+        ("eval a ..", refused_text(7, "Unexpected", 0, 1, 1, 1)),
         ("weave 0 1", GIVEN_STUCK),
         ("jump", BAD),
         ("print", '"jsoncrdt 2\\nreplica a {\\n  yield;\\n}\\ngiven {\\n  a.send;\\n  a.exec;\\n  a.done;\\n}\\n'
