@@ -16,7 +16,7 @@ import tempfile
 import time
 from unittest import mock
 
-from cases import IN_PYTHON, IN_TEST, expect, expect_same, place, run, stored
+from cases import IN_PYTHON, IN_TEST, expect, expect_same, folder_of, place, run, stored
 from jsoncrdt.oracle import debugger, requests
 from jsoncrdt.oracle.debugger import Refusal
 from jsoncrdt.oracle.grammar import read
@@ -739,6 +739,22 @@ def launched(_):
         expect(bool(said) == bool(ended.stderr), f"{ended}")
 
 
+TYPED = ("until conflict\nview\nlist\nfate\nback until event q.exec\nuntil changes doc\ngoto 12\nview --raw\n"
+         "back until diverge\n")
+
+
+def debugs_alike(_):
+    """tools/debug says the same of a program that has serve, of one that hasn't it, and of the rules in Python here."""
+    begin, end = "#!/bin/sh\n", f'exec "{os.path.abspath(IN_PYTHON)}" "$@"\n'
+    with folder_of({"served": begin + end, "older": f'{begin}[ "$1" = serve ] && exit 2\n{end}'}) as folder:
+        for path in ("examples/one-value.jsoncrdt", "examples/stuck.jsoncrdt", "examples/answer-first.jsoncrdt"):
+            ended = [run(["tools/debug", path], program, TYPED) for program in
+                     (IN_PYTHON, os.path.join(folder, "served"), os.path.join(folder, "older"))]
+            told_of_each = [(one.returncode, one.stdout.decode()) for one in ended]
+            expect(told_of_each[0][0] == 0 and told_of_each[0][1].count("\n") > 10, f"{told_of_each[0]}")
+            expect(told_of_each[0] == told_of_each[1] == told_of_each[2], f"{path}: {told_of_each}")
+
+
 def serving():
     for row in WORKED:
         yield worked_case(*row)
@@ -762,3 +778,4 @@ def serving():
     yield "serve: bounds", is_bounded
     yield "serve: at a terminal", at_terminal
     yield "serve: the launcher", launched
+    yield "serve: tools/debug through it", debugs_alike
