@@ -6,7 +6,7 @@ operation went: at the keys of its path, at its target, below that where it clea
 element behind which it put its own. oracle/compare tries that both give the same.
 """
 
-from .rules import LIST, MAP, REGISTER, Context, element_key, new_content, operate
+from .rules import LIST, MAP, REGISTER, element_key, new_content, operate
 from .texts import array, object_of, string
 
 # The tags with their words, in the order of `made`.
@@ -36,20 +36,28 @@ def target_keys(new, operation):
     return sorted([key, own])
 
 
-class Effects:
-    """Tells the effects of operations, each right after its replica made or applied it. It keeps for each replica the
-    tree before that, which makes the operation when its effects are told."""
+def branch(key):
+    """What a key, by its text, is in: a name is in a map, an element or the head in a list."""
+    return "map" if key[0] == '"' else "list"
 
-    def __init__(self, texts):
-        self.texts = texts
-        self.before = [Context() for _ in texts.names]
+
+def effect_at(effects, place):
+    """What stands in the effects for a place, a list of key texts; none where nothing changed there and below."""
+    found = next((effect for effect in effects if effect["key"] == place[0]), None)
+    if not found or len(place) == 1:
+        return found
+    return effect_at(found.get(branch(place[1]), ()), place[1:])
+
+
+class Since:
+    """Tells the effects of an operation, where the network before it is there."""
+
+    def __init__(self, texts, network):
+        self.texts, self.network = texts, network
 
     def of(self, replica, operation):
         """The text of what the operation changed at the replica."""
-        old = self.before[replica.number]
-        text = self.on_path(old, replica.tree, operation.path, operation)
-        operate(old, operation.path, operation, 0, [])
-        return text
+        return self.on_path(self.network[replica.number].tree, replica.tree, operation.path, operation)
 
     def on_path(self, old, new, path, operation):
         """What differs in a context on the operation's way, of which this path is left."""
@@ -102,3 +110,13 @@ class Effects:
     def link(self, context, key):
         """The text of what follows the key in a list, null where it isn't linked."""
         return string(self.texts.following(context.links[key])) if key in context.links else b"null"
+
+
+class Effects(Since):
+    """Tells the effects of operations, each right after its replica made or applied it. The network before is one of
+    its own, in whose trees an operation is made when its effects are told."""
+
+    def of(self, replica, operation):
+        text = super().of(replica, operation)
+        operate(self.network[replica.number].tree, operation.path, operation, 0, [])
+        return text

@@ -124,7 +124,7 @@ class Lines:
 
     def of_stuck(self, number, line):
         session, places = self.session, self.places
-        asked = read_line(line, session.texts.names, session.version)[0]
+        asked = read_line(line, session.texts.names, session.version)
         index, is_act = session.position, asked[0] == "act"
         event = asked[1] if is_act else session.schedule[index]
         lack = Lack(session.network, event, stuck_by(session.network, event), session.texts)

@@ -25,6 +25,10 @@ NUMBER_RUN = re.compile(rb"[0-9-][0-9A-Za-z_+.-]*")
 NAME_RUN = re.compile(rb"[A-Za-z_][0-9A-Za-z_]*")
 UNICODE = re.compile(rb"\\u([0-9A-Fa-f]{4})")
 LONGEST = {NAME: 255, NUMBER: 65_535, STRING: 65_535}
+# Most tokens, with the blanks before them, at once: a name, a string without escapes, digits, a sign. `token` has all.
+PLAIN = re.compile(rb"[ \t\r\n]*(?:([A-Za-z_][0-9A-Za-z_]{0,254}(?![0-9A-Za-z_]))" rb'|("[^"\\\x00-\x1f]{0,65535}")'
+                   rb"|((?:0|[1-9][0-9]{0,9})(?![0-9A-Za-z_+.-]))" rb"|(:=|[.(){}\[\],;=]))")
+PLAIN_KINDS = (None, NAME, STRING, NUMBER, SIGN)
 
 
 class Fault(Exception):
@@ -88,6 +92,10 @@ def token(text, at):
 def tokens(text):
     found, at = [], 0
     while at < len(text):
+        if plain := PLAIN.match(text, at):
+            group, at = plain.lastindex, plain.end()
+            found.append((PLAIN_KINDS[group], plain[group], plain.start(group)))
+            continue
         if text[at] in b" \t\r\n":
             at += 1
             continue

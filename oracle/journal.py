@@ -14,6 +14,8 @@ missing; for 34 `offered`, the replicas that send the operation; for 36 `missing
 and that the replica has not applied.
 """
 
+import copy
+
 from .effects import Effects
 from .rules import Network, Stuck, change
 from .texts import REFUSALS, array, object_of, string
@@ -22,9 +24,10 @@ EMPTY = {"map": b"{}", "list": b"[]"}
 
 
 class Journal:
-    def __init__(self, texts, traced, with_effects):
-        self.texts, self.traced = texts, traced
-        self.effects = Effects(texts) if with_effects else None
+    """Writes lines. `effects`, where they are asked for, tells what an operation changed (effects.py)."""
+
+    def __init__(self, texts, traced, effects=None):
+        self.texts, self.traced, self.effects = texts, traced, effects
 
     def vector(self, identifiers):
         """The version vector of a set of identifiers."""
@@ -107,23 +110,36 @@ class Before(frozenset):
         return before
 
 
-def executed(scenario, network, journal):
-    """Makes each event in the network, and gives its line and its replica; of the one that is stuck the line alone."""
-    for given, events in ((True, scenario.given), (False, scenario.schedule)):
-        for number, event in enumerate(events, 1):
-            before, trace = Before(event, network[event[1]]), []
-            try:
-                change(network, event, trace)
-            except Stuck as stuck:
-                yield journal.stuck(number, event, network, stuck, given), None
-                return
-            yield journal.made(number, event, before, network[event[1]], trace, given), network[event[1]]
+def numbered(scenario):
+    """The events with their numbers, and whether each is given."""
+    yield from ((number, event, True) for number, event in enumerate(scenario.given, 1))
+    yield from ((number, event, False) for number, event in enumerate(scenario.schedule, 1))
+
+
+def executed(events, network, journal):
+    """Makes each of the numbered events in the network, and gives its line and its replica; of the one that is stuck
+    the line alone."""
+    for number, event, given in events:
+        before, trace = Before(event, network[event[1]]), []
+        try:
+            change(network, event, trace)
+        except Stuck as stuck:
+            yield journal.stuck(number, event, network, stuck, given), None
+            return
+        yield journal.made(number, event, before, network[event[1]], trace, given), network[event[1]]
+
+
+def lines_of(events, network, texts, flags):
+    """The lines of numbered events, which are made in the network, with what the flags of the command line ask for, and
+    the replica of each; of the one that is stuck the line alone."""
+    effects = Effects(texts, copy.deepcopy(network)) if "--effects" in flags else None
+    yield from executed(events, network, Journal(texts, "--trace" in flags, effects))
 
 
 def write_journal(scenario, texts, flags, out):
-    """Writes the journal, with what the flags of the command line ask for, and gives the status."""
-    journal = Journal(texts, "--trace" in flags, "--effects" in flags)
-    for line, replica in executed(scenario, Network(scenario.version, scenario.scripts), journal):
+    """Writes the journal, and gives the status."""
+    network = Network(scenario.version, scenario.scripts)
+    for line, replica in lines_of(numbered(scenario), network, texts, flags):
         out.write(line)
         if replica is None:
             return 3

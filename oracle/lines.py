@@ -2,8 +2,8 @@
 
 import re
 
+from .debugger import Refusal
 from .grammar import read_event
-from .texts import refused
 
 MOST_OF_LINE = 4096
 RULES = """
@@ -19,8 +19,7 @@ FORMS = {"step": "step [N]", "back": "back [N]", "goto": "goto N", "act": "act E
          "break": "break at N, break rule RULE or break replica NAME", "unbreak": "unbreak K",
          "compare": "compare NAME NAME", **{word: word for word in ALONE}}
 NUMBER = re.compile(rb"0|[1-9][0-9]{0,9}")
-BAD = refused(58)
-UNKNOWN = refused(18)
+BAD, UNKNOWN = 58, 18
 
 
 def without_end(line):
@@ -33,21 +32,26 @@ def is_rule(name, version):
     return name in RULES and (version == 2 or name not in OF_VERSION_TWO)
 
 
+def number_of(name, names):
+    """The number of the replica with this name."""
+    if name not in names:
+        raise Refusal(UNKNOWN)
+    return names.index(name)
+
+
 def breakpoint_of(kind, what, names, version):
     if kind == "at" and NUMBER.fullmatch(what):
-        return ("break", ("at", int(what))), b""
+        return ("break", ("at", int(what)))
     if kind == "rule" and is_rule(what.decode(), version):
-        return ("break", ("rule", what.decode())), b""
+        return ("break", ("rule", what.decode()))
     if kind == "replica":
-        return (("break", ("replica", names.index(what))), b"") if what in names else (None, UNKNOWN)
-    return None, BAD
+        return ("break", ("replica", number_of(what, names)))
+    raise Refusal(BAD)
 
 
 def named(word, rest, names):
     """A line that names replicas: state with one or none, compare with two."""
-    if any(name not in names for name in rest):
-        return None, UNKNOWN
-    return (word,) + (tuple(names.index(name) for name in rest) or (None,)), b""
+    return (word, *([number_of(name, names) for name in rest] or [None]))
 
 
 def event_text(line):
@@ -55,31 +59,37 @@ def event_text(line):
     return re.sub(rb"\A[ \t]*act[ \t]*", b"", line)
 
 
-def event_of(line, names, version):
-    event, fault = read_event(event_text(line), names, version)
-    return (("act", event), b"") if event else (None, refused(fault[1], fault[0]))
+def event_of(text, names, version):
+    event, fault = read_event(text, names, version)
+    if fault:
+        raise Refusal(fault[1], fault[0], text)
+    return ("act", event)
+
+
+def words_of(line):
+    """The words of a line without its end. One that is too long, or has a byte beyond ASCII, is refused."""
+    if len(line) - line.endswith(b"\n") > MOST_OF_LINE or not line.isascii():
+        raise Refusal(BAD)
+    return [word for word in re.split(rb"[ \t]+", without_end(line)) if word]
 
 
 def read_line(line, names, version):
-    """What a line asks in a session of a scenario of this version, which is none where it has no word or is refused, and
-    the text that refuses it."""
-    if len(line) - line.endswith(b"\n") > MOST_OF_LINE or any(byte >= 0x80 for byte in line):
-        return None, BAD
-    line = without_end(line)
-    words = [word for word in re.split(rb"[ \t]+", line) if word]
+    """What a line asks in a session of a scenario of this version: a tuple, or none where it has no word. Where it is
+    refused Refusal is raised."""
+    words = words_of(line)
     if not words:
-        return None, b""
+        return None
     word, rest = words[0].decode(), words[1:]
     if word == "act":
-        return event_of(line, names, version)
+        return event_of(event_text(without_end(line)), names, version)
     if word in ALONE and not rest:
-        return (word,), b""
+        return (word,)
     if word in ("step", "back") and not rest:
-        return (word, 1), b""
+        return (word, 1)
     if word in ("step", "back", "goto", "unbreak") and len(rest) == 1 and NUMBER.fullmatch(rest[0]):
-        return (word, int(rest[0])), b""
+        return (word, int(rest[0]))
     if word == "state" and len(rest) <= 1 or word == "compare" and len(rest) == 2:
         return named(word, rest, names)
     if word == "break" and len(rest) == 2:
         return breakpoint_of(rest[0].decode(), rest[1], names, version)
-    return None, BAD
+    raise Refusal(BAD)

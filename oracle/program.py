@@ -6,11 +6,14 @@ import os
 import re
 
 from . import explaining
+from .debugger import Refusal
 from .grammar import read
 from .journal import write_journal
 from .lines import read_line
 from .refusal import close_to
+from .requests import Input
 from .rules import GivenStuck, Stuck, change, start
+from .serve import serve
 from .session import Session
 from .streams import reason_of
 from .texts import Texts, counts_of, refused
@@ -18,7 +21,7 @@ from .view import line_of
 from .weave import LARGEST_SEED, weave, woven
 
 VERSION = "jsoncrdt 2.0.0\n"
-USAGE = "usage: oracle/jsoncrdt check|print|run|view|journal|weave|debug FILE    (help says more)"
+USAGE = "usage: oracle/jsoncrdt check|print|run|view|journal|weave|debug FILE, or serve    (help says more)"
 HELP = """\
 usage: oracle/jsoncrdt [--explain] COMMAND FILE   (FILE - is standard input; no arguments are run --trace -)
        oracle/jsoncrdt help | --version
@@ -42,6 +45,9 @@ it says besides why a text is refused or an event stuck.
   debug FILE            the debugger: steps forwards and backwards by lines of standard input (`act`
                         cuts off the rest of the schedule for good); in a terminal it is tools/debug,
                         which has a prompt, a history and Tab, and `help` lists the lines
+  serve                 for programs: answers requests of standard input, a line each, by a line of JSON; a
+                        request can be a scenario, so one process answers for many (docs/PROGRAMS.md; here
+                        only: the proved program has no serve yet)
 
 A scenario of version 2 begins with `jsoncrdt 2`, and may have a block `given { .. }` of events before its
 schedule, which are made before event 1.
@@ -51,7 +57,8 @@ Statuses: 0 done; 1 the text was refused; 2 wrong arguments; 3 an event is stuck
 
 Not here: `threads`, which runs each replica in a thread of its own. The proved program has it.
 """
-COMMANDS = ("check", "print", "run", "view", "journal", "weave", "debug")
+SERVE = "serve"
+COMMANDS = ("check", "print", "run", "view", "journal", "weave", "debug", SERVE)
 MOST_LINES, MOST_OF_LINES, MOST_EVENTS = 1_000_000, 67_108_864, 100_000
 
 # The options without a value, and their commands.
@@ -149,6 +156,10 @@ def order_of(words):
             raise BadWords(f"{command} has no option {word}, or has it already{tip(word, command)}")
         else:
             files.append(word)
+    if command == SERVE:
+        if files:
+            raise BadWords(f"{SERVE} has no FILE: a scenario is a request to it")
+        return Order(command, None, flags, numbers)
     if len(files) != 1:
         raise BadWords(f"{command} needs one FILE, and {len(files)} are given; - is standard input")
     return Order(command, files[0], flags, {option: of[2] for option, of in OPTIONS.items()} | numbers)
@@ -195,10 +206,13 @@ def lines_of(source):
 
 def answer(session, line):
     """The answer to a line, or none where it ends the session."""
-    asked, refusal = read_line(line, session.texts.names, session.version)
+    try:
+        asked = read_line(line, session.texts.names, session.version)
+    except Refusal as refusal:
+        return refused(refusal.number, refusal.place)
     if asked == ("quit",):
         return None
-    return session.answer(asked) if asked else refusal
+    return session.answer(asked) if asked else b""
 
 
 def debug(session, lines, out, err, told=None):
@@ -277,6 +291,8 @@ def command_line(words, source, out, err, explains=False, explains_lines=False):
     """
     try:
         order = order_of(words)
+        if order.command == SERVE:
+            return serve(Input(source), out, err)
         text = text_of(order.file, source)
         status = done(order, text, source, out, err, explains_lines)
         if explains and status in (1, 3):

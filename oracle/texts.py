@@ -95,17 +95,21 @@ class Texts:
             members.append((b"next(%s)" % self.key(key), string(self.following(following))))
         return object_of(members)
 
+    def cursor(self, bound):
+        return array(string(text) for text in [*map(self.tagged, bound[1]), self.key(bound[2])])
+
     def bound(self, bound):
         if bound[0] == "values":
             shown = self.pairs(bound[1])
         elif bound[0] == "keys":
             shown = array(map(string, bound[1]))
         else:
-            shown = array(string(text) for text in [*map(self.tagged, bound[1]), self.key(bound[2])])
+            shown = self.cursor(bound)
         return object_of([(bound[0].encode(), shown)])
 
-    def dump(self, replica):
-        members = {
+    def members(self, replica):
+        """The members of a dump, but for the tree."""
+        return {
             b"acted": b"true" if replica.acted else b"false",
             b"left": b"%d" % len(replica.left),
             b"name": string(self.names[replica.number]),
@@ -113,10 +117,15 @@ class Texts:
             b"queue": self.identifiers(replica.queue),
             b"recv": self.identifiers(replica.received),
             b"send": self.identifiers(replica.sent),
-            b"tree": self.context(replica.tree),
             b"vars": object_of([(name, self.bound(bound)) for name, bound in replica.variables.items()]),
         }
-        return object_of(members.items()) + b"\n"
+
+    def brief(self, replica):
+        """The dump without the tree, and without its end."""
+        return object_of(self.members(replica).items())
+
+    def dump(self, replica):
+        return object_of({**self.members(replica), b"tree": self.context(replica.tree)}.items()) + b"\n"
 
     # ---- events
 

@@ -9,10 +9,12 @@ import sys
 import tempfile
 from decimal import Decimal
 
-from cases import IN_PYTHON, NotTried, expect, expect_same, stored
+from cases import IN_PYTHON, NotTried, expect, expect_same, folder_of, stored
 from jsoncrdt import ABSENT, Conflict, Identifier, NoAnswer, Place, Program, Refused, Rules, Scenario, Stuck, doc
-from jsoncrdt import check, journal, run, view
+from jsoncrdt import check, journal, run, view, weave
+from jsoncrdt.machines import served_by
 from jsoncrdt.oracle.engine import FAULTS
+from jsoncrdt.serving import Lost, Process
 from judging import made
 from launching import BY_RULES, tree
 
@@ -360,6 +362,64 @@ def effects_are_of_the_rules(_):
     expect(ended.stdout == b"1\n" and b"unproved: effects come from them alone" in ended.stderr, f"{ended}")
 
 
+# A program that has no serve yet.
+OLDER = f'#!/bin/sh\n[ "$1" = serve ] && exit 2\nexec "{os.path.abspath(IN_PYTHON)}" "$@"\n'
+
+
+def asks_call_by_call(_):
+    """A program without serve is started for each call, and gives the same."""
+    with folder_of({"older": OLDER}) as folder:
+        older, served = Program(os.path.join(folder, "older")), Program(os.path.abspath(IN_PYTHON))
+        expect((older.has_effects, served.has_effects) == (False, True), "which program has serve")
+        for name in (KIT[3], "refused-44-given", "refused-25-no-list"):
+            expect_kit(name, older)
+            text = kit_file(name, "scenario.jsoncrdt")
+            for ask in (check, functools.partial(weave, seed=7), functools.partial(weave, limit=3),
+                        functools.partial(view, at=1), functools.partial(view, at=90_000)):
+                got = [told(functools.partial(ask, text, by=machine)) for machine in (RULES, served, older)]
+                shown = [(found, vars(stuck) if stuck else None) for found, stuck in got]
+                expect(shown[0] == shown[1] == shown[2], f"{name}: {shown}")
+
+
+def asks_one_process(_):
+    """A program with serve is started once, and anew where it has ended."""
+    text = kit_file(KIT[0], "scenario.jsoncrdt")
+    # A path of its own, so that no other test asks the same process.
+    machine = Program(os.path.join(os.path.abspath("oracle"), os.curdir, "jsoncrdt"))
+    found, process = view(text, by=machine), served_by(machine.path)
+    first = process.process.pid
+    expect(view(text, by=Program(machine.path)) == found and process.process.pid == first, "it was started twice")
+    process.process.kill()
+    process.process.wait()
+    expect(view(text, by=machine) == found and process.process.pid != first, "it wasn't started anew")
+    expect(journal(text, effects=True, by=machine) == journal(text, effects=True, by=RULES), "effects")
+
+
+HANGING = ('#!/bin/sh\nread line\n[ "$line" = quit ] && { echo \'{"quit":true}\'; exit; }\n'
+           'case $1 in serve) exec sleep 60 ;; esac\n')
+
+
+def loses_no_time(_):
+    """A process that doesn't answer, or answers no line, is given up after a time, and so is one that reads nothing."""
+    with folder_of({"hanging": HANGING, "dying": HANGING.replace("exec sleep 60", "printf half; exit 7")}) as folder:
+        for name, text, why in (("hanging", b"x", "gives no answer in 1 seconds"),
+                                ("hanging", b"x" * 4_000_000, "reads nothing for 1 seconds"),
+                                ("dying", b"x", "ended with 7")):
+            process = Process(os.path.join(folder, name), seconds=1)
+            try:
+                process.bring(text)
+            except Lost as lost:
+                expect(why in str(lost) and process.process is None, f"{lost}")
+            else:
+                expect(False, f"{name} has answered")
+            try:
+                process.ask("where")
+            except Lost as lost:
+                expect("has no scenario any more" in str(lost), f"{lost}")
+            else:
+                expect(False, "an answer about no scenario")
+
+
 def answers_are_lacking(_):
     """What is no jsoncrdt gives no answer."""
     for path in ("/no/such", "/bin/false", "/bin/true"):
@@ -503,11 +563,12 @@ def example_knows_faults(_):
 
 def package():
     yield kit_case("the rules in Python", KIT, RULES)
-    yield kit_case("a process for each call", KIT[::24], Program(os.path.abspath(IN_PYTHON)))
+    yield kit_case("a process of serve", KIT[::8], Program(os.path.abspath(IN_PYTHON)))
     yield kit_case("the built program", KIT, None)
     for tried in (texts_come_back, refusals_are_typed, parts_are_refused, stuck_ones_are_typed, scenarios_are_written,
                   stuck_calls_change_nothing, ends_are_typed, effects_are_typed, effects_are_of_the_rules,
-                  answers_are_lacking, is_installed, is_imported_at_once):
+                  asks_call_by_call, asks_one_process, loses_no_time, answers_are_lacking, is_installed,
+                  is_imported_at_once):
         yield f"package: {tried.__name__.replace('_', ' ')}", tried
     yield machine_case("the built program", BY_RULES, 0, None, "")
     yield machine_case("no program that isn't built", None, 0, None, "the program isn't built")

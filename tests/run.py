@@ -41,6 +41,7 @@ from run_pages import run_pages
 from scripts import scripts
 from server_parts import server_parts
 from servers import servers
+from serving import serving
 from terminal import terminal
 
 EXPECTED = os.path.join("tests", "expected")
@@ -55,8 +56,8 @@ Python. It proves nothing; the gate, rt ci, does that. The last line is `N passe
 one failed. What needs the built program, or a command that isn't there, is skipped, and counted on the line before."""
 WORDS = """\
 With words, what has one of them in its name: examples, README, docs, pages, tools, pictures, faults, launcher,
-messages, edits, more-edits, gate, architecture, process, arguments, editors, debug, kit, package, oracle, or a part of a
-file's name or of a command."""
+messages, edits, more-edits, gate, architecture, process, arguments, editors, debug, kit, package, serve, oracle, or a
+part of a file's name or of a command."""
 
 
 def block_case(command):
@@ -363,7 +364,7 @@ def main():
     cases = [*examples(asked.write), *blocks(), *pages(), *tools(asked.write), *pictures_read_back(), *lanes(),
              *faults(), *scripts(), *edits(), *architecture(), *launching(), *messages(), *process(), *arguments(),
              *editors(), *terminal(), *kit(), *kit_options(), *exploring(), *campaigns(), *journals(), *run_pages(),
-             *package(), *server_parts(), *servers()]
+             *package(), *serving(), *server_parts(), *servers()]
     cases = chosen_of(cases, asked.words)
     if IN_TEST in os.environ:
         streams.stop("a test runs no tests")

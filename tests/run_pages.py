@@ -244,6 +244,25 @@ def has_strict_policy(programs):
     expect(addresses == {"http://www.w3.org/2000/svg"}, f"the page has the addresses {addresses}")
 
 
+# A program that has serve, and one that hasn't yet.
+ASKING = f'exec "{os.path.abspath(IN_PYTHON)}" "$@"\n'
+PROGRAMS = {"served": f"#!/bin/sh\n{ASKING}", "older": f'#!/bin/sh\n[ "$1" = serve ] && exit 2\n{ASKING}'}
+GIVEN_STUCK = "jsoncrdt 2 replica a {doc := 1; yield} given {a.exec; a.send; a.exec} schedule {a.done}"
+
+
+def is_one_page(_):
+    """Whoever is asked, through serve or by other commands, the page is the same, but for who that is."""
+    with folder_of(PROGRAMS) as folder:
+        for words, text in ((["examples/insert-behind-deleted.jsoncrdt"], ""), (["--from", "-3", "-"], GIVEN_STUCK),
+                            (["examples/bindings.jsoncrdt", "--from", "2", "--most", "5"], ""), (["-"], GIVEN_STUCK)):
+            pages = [Page(None, words, text, program, (0, 3)) for program in
+                     (IN_PYTHON, *(os.path.join(folder, name) for name in PROGRAMS))]
+            by = [page.data.pop("by") for page in pages]
+            in_python = "the rules in Python, of which nothing is proved"
+            expect(by == [in_python, "served", f"older; what events changed, by {in_python}"], f"{by}")
+            expect(pages[0].data == pages[1].data == pages[2].data, f"{words}: the pages differ")
+
+
 def has_words(_):
     """Each rule has a line of words in docs/RULES.md and then its question, and each refusal of an event a sentence."""
     words = sections.rules()
@@ -259,14 +278,16 @@ def has_words(_):
 
 
 def asks_once(programs):
-    """A page needs each command of the program once, whatever its events are, and says which program that was."""
-    asked = f'#!/bin/sh\necho "$1" >>"${{0%/*}}/asked.txt"\nexec "{os.path.abspath(IN_PYTHON)}" "$@"\n'
+    """A page needs one process of the program's serve, behind the one that finds out whether it has it, or else each
+    command once, whatever its events are. It says which program that was."""
+    serves = '[ "$1" = serve ] && exit 2\n'
+    asked = f'#!/bin/sh\necho "$1" >>"${{0%%/*}}/asked.txt"\n%sexec "{os.path.abspath(IN_PYTHON)}" "$@"\n'
     for file in ("examples/to-do.jsoncrdt", "examples/stuck.jsoncrdt", "kit/names-without-deleted/scenario.jsoncrdt"):
-        with folder_of({"program": asked}) as folder:
-            program = os.path.join(folder, "program")
-            page = Page(programs, [file], program=program, status=(0, 3))
-            expect_same(stored(os.path.join(folder, "asked.txt")), "check\nprint\njournal\ndebug\n")
-        expect(page.data["by"].startswith("program; what events changed, by the rules in Python"), page.data["by"])
+        for before, words in ((serves, "serve\ncheck\nprint\njournal\ndebug\n"), ("", "serve\nserve\n")):
+            with folder_of({"program": asked % before}) as folder:
+                page = Page(programs, [file], program=os.path.join(folder, "program"), status=(0, 3))
+                expect_same(stored(os.path.join(folder, "asked.txt")), words)
+            expect(page.data["by"].startswith("program"), page.data["by"])
 
 
 def has_window(programs):
@@ -318,6 +339,7 @@ def run_pages():
     yield "tools/page: the policy in the file", has_strict_policy
     yield "tools/page: a sentence for each rule and refusal", has_words
     yield "tools/page: which commands it asks", asks_once
+    yield "tools/page: the same, whoever is asked", is_one_page
     yield "tools/page: --from and --most", has_window
     yield "tools/page: --diff", has_both
     yield "tools/page: tests/in_browser", is_seen

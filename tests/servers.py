@@ -162,6 +162,7 @@ def talking(programs, tool="lsp", **variables):
 
 # A program that never ends a journal, nor a run of a session, and says which process it is.
 ENDLESS = """#!/bin/sh
+[ "$1" = serve ] && exit 2
 echo $$ >"{folder}/pid"
 case $1 in
     journal) exec sleep 1000 ;;
@@ -302,6 +303,7 @@ def debuggee_ends(programs):
 
 # A program that waits before each view, and says that it does.
 SLOW = """#!/bin/sh
+[ "$1" = serve ] && exit 2
 [ "$1" != view ] || {{ : >"{folder}/begun"; sleep 0.5; }}
 exec "{oracle}" "$@"
 """

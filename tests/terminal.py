@@ -33,8 +33,9 @@ SECONDS = 120
 CTRL_C, CTRL_D, UP, CLEAR_LINE = "\x03", "\x04", "\x1b[A", "\x15"
 # Takes the terminal that is its standard input, so that Ctrl-C there is a signal, and goes on as the command.
 STARTER = "import fcntl, os, sys, termios; fcntl.ioctl(0, termios.TIOCSCTTY, 0); os.execvp(sys.argv[1], sys.argv[1:])"
-# A program that waits before each view.
+# A program that waits before each view, and has no serve yet.
 SLOW = """#!/bin/sh
+[ "$1" = serve ] && exit 2
 [ "$1" != view ] || {{ : >"$0.begun"; sleep 0.3; }}
 exec "{oracle}" "$@"
 """

@@ -1,6 +1,8 @@
 """What the tools here have in common: which program they ask and how, and how they read its texts."""
 
 import collections
+import functools
+import json
 import os
 import re
 import signal
@@ -8,14 +10,16 @@ import subprocess
 import sys
 import tempfile
 import textwrap
+import threading
 
 ROOT = os.path.dirname(os.path.dirname(os.path.abspath(__file__)))
 sys.path.insert(0, os.path.join(ROOT, "python"))
 
-from jsoncrdt import choosing
+from jsoncrdt import choosing, serving
 from jsoncrdt.choosing import IN_PYTHON
 from jsoncrdt.oracle import streams
-from jsoncrdt.oracle.streams import READ_OR_WRITE_FAILED, number_from, reason_of, run, stop
+from jsoncrdt.oracle.streams import READ_OR_WRITE_FAILED, number_from, reason_of, run, say, stop
+from jsoncrdt.serving import line_of_refusal
 
 BUILT = os.path.join(ROOT, choosing.BUILT)
 ASKED = ("The program that is asked is the one that the variable JSONCRDT of the environment names; else the built "
@@ -90,6 +94,55 @@ def told(words, text=""):
     return answer_of(ended_by(started(words), text.encode()))
 
 
+class Asked:
+    """The program, asked through its `serve`, or the rules in Python here: requests that show something of a scenario,
+    and change nothing. Where there is no answer, or a refusal that the tool can't go on with, the tool ends."""
+
+    def __init__(self, answering):
+        self.answering, self.brought, self.lock = answering, None, threading.RLock()
+
+    def refusal(self, text):
+        """Brings a scenario, and gives the line that refuses it, if one does. A given event may be stuck."""
+        if text == self.brought:
+            return None
+        self.brought = None
+        refusal = self.whole(self.answering.bring, text.encode()).get("refused")
+        self.brought = None if refusal else text
+        return refusal and line_of_refusal(refusal)
+
+    def about(self, text, request):
+        """The answer to a request about a scenario."""
+        return self.answer(text, request, self.answering.ask)
+
+    def line_about(self, text, request):
+        """The same as it is written."""
+        return self.answer(text, request, lambda asked: self.answering.answer(asked.encode()).decode())
+
+    def answer(self, text, request, ask):
+        with self.lock:
+            refusal = self.refusal(text)
+            answer = stop(refusal, 1) if refusal else self.whole(ask, request)
+        if isinstance(answer, dict) and "refused" in answer:
+            stop(line_of_refusal(answer["refused"]), 1)
+        return answer
+
+    def whole(self, ask, what):
+        try:
+            return ask(what)
+        except serving.Lost as lost:
+            self.brought = None
+            return stop(f"{lost}, and gave no answer", READ_OR_WRITE_FAILED)
+        except ValueError:
+            return stop(f"{program()} isn't jsoncrdt: it answered no JSON")
+
+
+@functools.cache
+def asked():
+    """What answers requests of `serve`; none where the program hasn't the command yet."""
+    answering = serving.answering(choosing.program(), say)
+    return answering and Asked(answering)
+
+
 DOCUMENT = '{"doc":'
 
 
@@ -117,14 +170,35 @@ def text_of(file):
         stop(f"{file}: refused 13 NotUtf8 at {error.start}", 1)
 
 
+def refusal_of(text):
+    """The line that refuses a text, or none."""
+    if asked():
+        return asked().refusal(text)
+    line, status = told(["check", "-"], text)
+    return line.strip() if status else None
+
+
+def journal_of(text, *flags):
+    """The lines of the journal as values, with what the flags ask for, which the program must have."""
+    if asked():
+        return asked().about(text, " ".join(["journal", *flags]))
+    return [json.loads(line) for line in told(["journal", *flags, "-"], text)[0].split("\n")[:-1]]
+
+
+def printed_of(text):
+    """The canonical text. Where the text is refused the tool ends."""
+    if asked():
+        return asked().about(text, "print")
+    printed, status = told(["print", "-"], text)
+    return stop(printed, status) if status else printed
+
+
 class Scenario:
     """The canonical text of a scenario: its version, the commands of each replica, the given events and those of the
     schedule, as they are written there."""
 
     def __init__(self, text):
-        printed, status = told(["print", "-"], text)
-        if status:
-            stop(printed, status)
+        printed = printed_of(text)
         header = re.match(r"jsoncrdt ([12])\n", printed)
         if not header:
             stop(f"{program()} isn't jsoncrdt: it printed no scenario")

@@ -11,6 +11,7 @@ import re
 from collections import namedtuple
 
 import asking  # which says where the modules below are
+from jsoncrdt.oracle.effects import effect_at
 from jsoncrdt.oracle.grammar import read, read_expression
 from jsoncrdt.oracle.program import command_line
 from jsoncrdt.oracle.rules import Network, Stuck, change, cursor_of
@@ -31,14 +32,13 @@ class NoPlace(Exception):
 
 
 def journal_with_effects(text):
-    """The text of a scenario's journal, with what each event changed.
-
-    Effects come from the rules in Python until the program has them. Then this is
-    `asking.told(["journal", "--effects", "-"], text)[0]`.
-    """
+    """The lines of a scenario's journal, with what each event changed. A program that has no `serve` has no effects, so
+    then they come from the rules in Python."""
+    if asking.asked():
+        return asking.asked().about(text, "journal --effects")
     out = io.BytesIO()
     command_line(["journal", "--effects", "-"], io.BytesIO(text.encode()), out, io.StringIO())
-    return out.getvalue().decode()
+    return [json.loads(line) for line in out.getvalue().decode().split("\n")[:-1]]
 
 
 class Journal:
@@ -48,7 +48,7 @@ class Journal:
     def __init__(self, text):
         self.parsed = read(text.encode())[0]
         self.names = [name.decode() for name in self.parsed.names]
-        self.lines = [json.loads(line) for line in journal_with_effects(text).split("\n")[:-1]]
+        self.lines = journal_with_effects(text)
         self.stuck = self.lines.pop() if self.lines and "stuck" in self.lines[-1] else None
         self.made = {line["op"]["id"]: line for line in self.lines if line["kind"] == "exec" and "op" in line}
         self.scheduled = [line for line in self.lines if "given" not in line]
@@ -131,19 +131,6 @@ def places_at(journal, text, names, position):
     if all(isinstance(place, NoPlace) for place in places.values()):
         raise next(iter(places.values()))
     return places
-
-
-def branch(key):
-    """What a key is in: a name is in a map, an element or the head in a list."""
-    return "map" if key[0] == '"' else "list"
-
-
-def effect_at(effects, place):
-    """What stands in the effects for the place; none where nothing changed there and below."""
-    found = next((effect for effect in effects if effect["key"] == place[0]), None)
-    if not found or len(place) == 1:
-        return found
-    return effect_at(found.get(branch(place[1]), ()), place[1:])
 
 
 def all_effects(effect, place):

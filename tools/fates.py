@@ -13,7 +13,8 @@ deleted       a delete did. In both, `kept` has those for which the place stays 
 
 from collections import defaultdict
 
-from changes import all_effects, branch, text_of_event, which
+from changes import all_effects, text_of_event, which
+from jsoncrdt.oracle.effects import branch
 
 GOES_ON = {"mapT": "map", "listT": "list"}
 

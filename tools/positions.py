@@ -1,20 +1,17 @@
 """What there is at the positions of a schedule: the journal's line of each event, its rules, and the documents.
 
-The program is asked by its commands `journal` and `view`, for as many events as are needed. Where it is the rules in
-Python they are asked in this process, which gives the same lines sooner.
+The program is asked through its `serve`, or as long as it has none by its commands `journal` and `view`, for as many
+events as are needed. Where it is the rules in Python their network is at hand here, for documents one after the other.
 """
 
 import concurrent.futures
 import functools
-import io
 import itertools
-import json
 import os
 
 import changes
-from asking import document_of, is_in_python, program, told
+from asking import asked, document_of, is_in_python, journal_of, told
 from jsoncrdt.oracle.grammar import read
-from jsoncrdt.oracle.program import command_line
 from jsoncrdt.oracle.rules import change, start
 from jsoncrdt.oracle.texts import Texts
 from jsoncrdt.oracle.view import line_of
@@ -26,30 +23,33 @@ MOST_VIEWS = 1000
 class Journal:
     """The lines of a journal, as far as they were asked for, and the commands that made the operations in it."""
 
-    def __init__(self, tell, scenario, events, words):
-        self.tell, self.scenario, self.events, self.words = tell, scenario, events, words
+    def __init__(self, scenario, events, *flags):
+        self.scenario, self.events, self.flags = scenario, events, flags
         self.lines, self.commands, self.asked = [], {}, -1
 
     def line(self, number):
         """The line of an event, the first that is stuck too; none of one that isn't reached."""
         if min(number, len(self.events)) > self.asked:
             self.asked = min(len(self.events), max(2 * number, FEWEST_EVENTS))
-            printed = self.tell([*self.words, "-"], self.scenario.scheduled(self.events[:self.asked]))
-            lines = [json.loads(line) for line in printed.split("\n")[:-1]]
+            lines = journal_of(self.scenario.scheduled(self.events[:self.asked]), *self.flags)
             made = [line for line in lines if line["kind"] == "exec" and "op" in line]
             self.commands = {line["op"]["id"]: line["command"] for line in made}
             self.lines = [line for line in lines if "given" not in line]
         return self.lines[number - 1] if 0 < number <= len(self.lines) else None
 
 
+def views_of(scenario, events, position):
+    """The lines of the view at a position of the scenario with these events."""
+    if not asked():
+        return told(["view", "-"], scenario.scheduled(events[:position]))[0].split("\n")[:-1]
+    text = scenario.scheduled(events)
+    return [asked().line_about(text, f"view --at {position} {name}") for name in scenario.scripts]
+
+
 class Positions:
     def __init__(self, scenario, events):
         self.scenario, self.events, self.views_at = scenario, events, {}
-        self.journal = Journal(self.tell, scenario, events, ["journal"])
-        self.traced = Journal(self.tell, scenario, events, ["journal", "--trace"])
-
-    def tell(self, words, text):
-        return told(words, text)[0]
+        self.journal, self.traced = Journal(scenario, events), Journal(scenario, events, "--trace")
 
     def line(self, number):
         return self.journal.line(number)
@@ -73,16 +73,14 @@ class Positions:
 
     def tried(self, position, event):
         """The journal's line of an event at a position to which the schedule comes, be it the next or another one."""
-        journal = Journal(self.tell, self.scenario, [*self.events[:position], event], ["journal"])
-        return journal.line(position + 1)
+        return Journal(self.scenario, [*self.events[:position], event]).line(position + 1)
 
     def views(self, position):
         """The lines of the view at a position to which the schedule comes."""
         if len(self.views_at) > MOST_VIEWS:
             self.views_at.clear()
         if position not in self.views_at:
-            printed = self.tell(["view", "-"], self.scenario.scheduled(self.events[:position]))
-            self.views_at[position] = printed.split("\n")[:-1]
+            self.views_at[position] = views_of(self.scenario, self.events, position)
         return self.views_at[position]
 
     def documents(self, position):
@@ -130,11 +128,6 @@ class InPython(Positions):
     def restart(self):
         self.position, self.network = 0, start(self.parsed)
         self.lines = [None] * len(self.network)
-
-    def tell(self, words, text):
-        out = io.BytesIO()
-        command_line(words, io.BytesIO(text.encode()), out, io.StringIO())
-        return out.getvalue().decode()
 
     def go_to(self, position):
         """Goes to a position to which the schedule comes, and gives the network there, which is good until the next."""

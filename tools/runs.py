@@ -2,15 +2,17 @@
 replicas where it begins. From these the effects lead to the tree at each position, forwards and back, so no other one
 is asked for.
 
-The program is asked by `journal` and by `debug`, once each. Given events stand in front of those of the schedule, so
-that one numbering goes through both and their positions can be told too.
+One numbering goes through given events and those of the schedule, so positions of the former can be told too. The
+program is asked through its `serve`. As long as it has none it is asked by `journal` and by `debug`, once each, for a
+scenario in which given events stand in front of those of the schedule.
 """
 
+import functools
 import json
 import os
 from collections import namedtuple
 
-from asking import is_in_python, program, session, told
+from asking import asked, is_in_python, program, session, told
 from changes import journal_with_effects
 
 # The lines of the events before a position and of those behind it, and the state of each replica there; and for each
@@ -35,7 +37,7 @@ def lines_of(text):
 def journal_of(text):
     """The lines of the journal. The program tells no effects yet: those are told by the rules in Python."""
     lines = lines_of(told(["journal", "--trace", "-"], text)[0])
-    for line, other in zip(lines, lines_of(journal_with_effects(text))):
+    for line, other in zip(lines, journal_with_effects(text)):
         if "op" in line:
             line["effects"] = other["effects"]
     return lines
@@ -46,23 +48,48 @@ def binds(line):
     return line["kind"] == "exec" and "stuck" not in line and "op" not in line
 
 
+def bindings(lines):
+    """The indices of the events that bound a variable."""
+    return [index for index, line in enumerate(lines) if binds(line)]
+
+
 def run_of(scenario, first, count):
     """The run of so many first events of the scenario, given ones too, told from the position `first` on. Where an
     event before that is stuck there are no states."""
+    return (run_served if asked() else run_by_commands)(scenario, first, count)
+
+
+def run_served(scenario, first, count):
+    given, ask = len(scenario.given), functools.partial(asked().about, scenario.text)
+    journal = ask(f"journal --trace --effects {-given} {min(count - given, len(scenario.events))}")
+    for line in journal:
+        line["number"] += 0 if line.pop("given", False) else given
+    before, lines = journal[:first], journal[first:]
+    if before and "stuck" in before[-1]:
+        return Run(before, lines, [], {})
+    start = first - given
+    bound = {index: ask(f"brief --at {start + index + 1} {lines[index]['replica']}") for index in bindings(lines)}
+    return Run(before, lines, ask(f"state --at {start}"), bound)
+
+
+def run_by_commands(scenario, first, count):
     text = one_schedule(scenario, count)
     journal = journal_of(text)
     before, lines = journal[:first], journal[first:]
     if before and "stuck" in before[-1]:
         return Run(before, lines, [], {})
-    binding = [index for index, line in enumerate(lines) if binds(line)]
-    asked = [f"goto {first}", "state"]
+    binding = bindings(lines)
+    asked_lines = [f"goto {first}", "state"]
     for index in binding:
-        asked += [f"goto {first + index + 1}", f"state {lines[index]['replica']}"]
-    states, replicas = lines_of(session(text, asked)), len(scenario.scripts)
+        asked_lines += [f"goto {first + index + 1}", f"state {lines[index]['replica']}"]
+    states, replicas = lines_of(session(text, asked_lines)), len(scenario.scripts)
     return Run(before, lines, states[:replicas], dict(zip(binding, states[replicas:])))
 
 
 def told_by():
     """Who tells of runs, in words. A page may be sent to somebody, so where the program is isn't said."""
     in_python = "the rules in Python, of which nothing is proved"
-    return in_python if is_in_python() else f"{os.path.basename(program())}; what events changed, by {in_python}"
+    if is_in_python():
+        return in_python
+    name = os.path.basename(program())
+    return name if asked() else f"{name}; what events changed, by {in_python}"

@@ -189,8 +189,12 @@ def document(value):
 
 def documents(lines: Iterable[str]):
     """The documents in lines of a view, by the names of their replicas."""
-    told = map(json.loads, lines)
-    return {line["name"]: document(line["doc"]) if "doc" in line else ABSENT for line in told}
+    return documents_of(map(json.loads, lines))
+
+
+def documents_of(rows):
+    """The documents in the values of these lines."""
+    return {line["name"]: document(line["doc"]) if "doc" in line else ABSENT for line in rows}
 
 
 def plain(value):
@@ -198,10 +202,10 @@ def plain(value):
     return json.loads(value["n"]) if isinstance(value, dict) and value.keys() == {"n"} else value
 
 
-def states(lines: Iterable[str]):
-    """The states in dump lines, by the names of their replicas."""
+def states(rows):
+    """The states in the values of dump lines, by the names of their replicas."""
     found = {}
-    for line in map(json.loads, lines):
+    for line in rows:
         sets = (identifiers(line[member]) for member in ("ops", "queue", "send", "recv"))
         found[line["name"]] = State(line["name"], line["acted"], line["left"], *sets, line["tree"], line["vars"])
     return found
@@ -239,10 +243,13 @@ def counts(line):
 END = re.compile(r"(\w+) made (\d+) (?:(finished|limit)|(stuck) (\d+) (\w+) (?:.* )?(\S+))")
 
 
-def ends(lines):
-    """How replicas ended, by their names, of the lines that `weave` tells of that."""
-    found = {}
-    for name, made, how, stuck, *refusal in (told.groups() for told in map(END.fullmatch, lines) if told):
-        number, cause, at = refusal
-        found[name] = End(int(made), how or stuck, number and int(number), cause, at)
-    return found
+def ends(told):
+    """How replicas ended, by their names, of the lines that `weave` tells of that, or of what `serve` does."""
+    return dict(end_of(each) for each in told if isinstance(each, dict) or END.fullmatch(each))
+
+
+def end_of(told):
+    if isinstance(told, dict):
+        return told["name"], End(told["made"], told["end"], told.get("stuck"), told.get("cause"), told.get("event"))
+    name, made, how, stuck, number, cause, at = END.fullmatch(told).groups()
+    return name, End(int(made), how or stuck, number and int(number), cause, at)

@@ -147,7 +147,7 @@ class Scenario:
         return self.network()[self._number(name)]
 
     def _stuck(self, position, event, network, stuck, given):
-        journal = Journal(Texts(self.parsed.names), traced=False, with_effects=False)
+        journal = Journal(Texts(self.parsed.names), traced=False)
         return Stuck(json.loads(journal.stuck(position, event, network, stuck, given)))
 
     # ---- writing alone
